@@ -10,7 +10,7 @@ use Rattle.std.proofs.lemmas.Option.{same_Some}
 use Rattle.std.proofs.lemmas.Map.Keys.{IsDistinct-cons}
 use Rattle.std.proofs.lemmas.Map.Made.{IsDistinct-keys_filter}
 use Rattle.lru.specs.LruCache.{LruCache, lru_cache, promoted, put_entries}
-use Rattle.lfs_model.specs.layers.Cache.{cache_limit, cached_bytes, cache_with_block, cache_without_block}
+use Rattle.lfs_model.specs.layers.Cache.{cache_limit, cached_bytes, cache_with, cache_without}
 use Rattle.lfs_blocks.specs.CacheView.{HasAtMostEight, cached_view}
 
 module _ {V : Type 0} (b : ℕ) where
@@ -112,11 +112,11 @@ cached_bytes-shown (e ∷ es) b = go (nat_eq b e.0) (cached_bytes-shown es b)
     go true next = refl
     go false next = next
 
-pub shown-rest : (es : List (ℕ × Vec ℕ Global)) (b : ℕ) → cached_view (rest b es) ≡ cache_without_block (cached_view es) b
+pub shown-rest : (es : List (ℕ × Vec ℕ Global)) (b : ℕ) → cached_view (rest b es) ≡ cache_without (cached_view es) b
 shown-rest [] b = refl
 shown-rest (e ∷ es) b = go (not (nat_eq b e.0)) (shown-rest es b)
   where
-    go : (t : Bool) → cached_view (rest b es) ≡ cache_without_block (cached_view es) b → cached_view (cond t (e ∷ rest b es) (rest b es)) ≡ cond t ((e.0, e.1.items) ∷ cache_without_block (cached_view es) b) (cache_without_block (cached_view es) b)
+    go : (t : Bool) → cached_view (rest b es) ≡ cache_without (cached_view es) b → cached_view (cond t (e ∷ rest b es) (rest b es)) ≡ cond t ((e.0, e.1.items) ∷ cache_without (cached_view es) b) (cache_without (cached_view es) b)
     go true next = ap (λ r. (e.0, e.1.items) ∷ r) next
     go false next = next
 
@@ -170,12 +170,12 @@ module _ (recent : LruCache ℕ (Vec ℕ Global)) (b : ℕ) (cache : HasAtMostEi
           (IsDistinct-keys_filter nat_eq (λ e. not (nat_eq b e.0)) recent.entries cache.distinct));
     }
 
-    shown-found : (other : List ℕ) → cached_view (promoted (nat_eq b) recent.entries) ≡ cache_with_block (cached_view recent.entries) b (unwrap_or (cached_bytes (cached_view recent.entries) b) other)
+    shown-found : (other : List ℕ) → cached_view (promoted (nat_eq b) recent.entries) ≡ cache_with (cached_view recent.entries) b (unwrap_or (cached_bytes (cached_view recent.entries) b) other)
     shown-found other =
         ap cached_view promoted-found
         ∙ sym (take_all cache_limit (cached_view ((b, v) ∷ rest b recent.entries)) (omega (arith, few-found, length-shown ((b, v) ∷ rest b recent.entries))))
         ∙ ap (λ r. take cache_limit ((b, v.items) ∷ r)) (shown-rest recent.entries b)
-        ∙ ap (λ o. cache_with_block (cached_view recent.entries) b (unwrap_or o other)) (sym (cached_bytes-shown recent.entries b ∙ ap (option_map (λ w. w.items)) has))
+        ∙ ap (λ o. cache_with (cached_view recent.entries) b (unwrap_or o other)) (sym (cached_bytes-shown recent.entries b ∙ ap (option_map (λ w. w.items)) has))
 
   -- one that isn't
   module _ (none : lookup (nat_eq b) recent.entries ≡ None) where
@@ -195,7 +195,7 @@ module _ (recent : LruCache ℕ (Vec ℕ Global)) (b : ℕ) (cache : HasAtMostEi
           (IsAbsent-take b 7 recent.entries (IsAbsent-lookup b recent.entries none)) (distinct-take 7 recent.entries cache.distinct));
     }
 
-    shown-new : (v : Vec ℕ Global) → cached_view (put_entries nat_eq recent b v) ≡ cache_with_block (cached_view recent.entries) b v.items
+    shown-new : (v : Vec ℕ Global) → cached_view (put_entries nat_eq recent b v) ≡ cache_with (cached_view recent.entries) b v.items
     shown-new v =
         ap cached_view (put_entries-none v)
         ∙ ap (λ r. (b, v.items) ∷ r) (sym (take-map (λ (e : ℕ × Vec ℕ Global). (e.0, e.1.items)) 7 recent.entries))
@@ -211,7 +211,7 @@ module _ (recent : LruCache ℕ (Vec ℕ Global)) (b : ℕ) (cache : HasAtMostEi
       go false is = rw (promoted-none (not_found (lookup (nat_eq b) recent.entries) is)) cache
 
   pub shown-promoted : (r : Bool) → r ≡ is_some (lookup (nat_eq b) recent.entries)
-      → OnTrue r ((other : List ℕ) → cached_view (promoted (nat_eq b) recent.entries) ≡ cache_with_block (cached_view recent.entries) b (unwrap_or (cached_bytes (cached_view recent.entries) b) other))
+      → OnTrue r ((other : List ℕ) → cached_view (promoted (nat_eq b) recent.entries) ≡ cache_with (cached_view recent.entries) b (unwrap_or (cached_bytes (cached_view recent.entries) b) other))
   shown-promoted true is = let there = found (lookup (nat_eq b) recent.entries) (sym is) in shown-found there.0 there.1
   shown-promoted false is = tt
 
@@ -227,7 +227,7 @@ module _ (recent : LruCache ℕ (Vec ℕ Global)) (b : ℕ) (cache : HasAtMostEi
     pub IsCache-put : HasAtMostEight (lru_cache (put_entries nat_eq recent b v) recent.cap)
     IsCache-put = HasAtMostEight-new lookup-none v
 
-    pub shown-put : cached_view (put_entries nat_eq recent b v) ≡ cache_with_block (cached_view recent.entries) b v.items
+    pub shown-put : cached_view (put_entries nat_eq recent b v) ≡ cache_with (cached_view recent.entries) b v.items
     shown-put = shown-new lookup-none v
 
 pub few-shown : (recent : LruCache ℕ (Vec ℕ Global)) → HasAtMostEight recent → length (cached_view recent.entries) ≤ cache_limit

@@ -13,7 +13,7 @@ read_block_event block_size blocks block failed = call_event (Read block 0 block
 
 -- A fill of a cached block makes no call of the device, and takes no memory. A fill of another block takes one read, unless
 -- there is no memory for its bytes.
-pub record ReadsBlockUnlessCached {D : Type 0} (g : Ghosts D) (was : Option (List ℕ)) (b : ℕ) (old new : D) (result : Result (Unit {0}) Error) : Type 0 where
+pub record ReadsUnlessCached {D : Type 0} (g : Ghosts D) (was : Option (List ℕ)) (b : ℕ) (old new : D) (result : Result (Unit {0}) Error) : Type 0 where
   pub cached_log : IsSome was → IsOk result
   pub no_call : IsSome was → new ≡ old
   pub read : was ≡ None → OnOk result (g.history new ≡ read_block_event (g.geometry old).block_size (g.blocks old) b false ∷ g.history old)
@@ -22,6 +22,6 @@ pub record ReadsBlockUnlessCached {D : Type 0} (g : Ghosts D) (was : Option (Lis
       ⊎ (g.history new ≡ read_block_event (g.geometry old).block_size (g.blocks old) b false ∷ g.history old)
 
 -- One read of the device at most, and no call where the block was cached.
-pub record ReadsOnceUnlessCached {D : Type 0} (g : Ghosts D) (was : Option (List ℕ)) (old new : D) : Type 0 where
+pub record ReadsOnceUncached {D : Type 0} (g : Ghosts D) (was : Option (List ℕ)) (old new : D) : Type 0 where
   pub no_call : IsSome was → new ≡ old
   pub few : read_count (g.history new) ≤ read_count (g.history old) + 1

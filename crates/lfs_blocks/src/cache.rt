@@ -1,10 +1,10 @@
 ghost use Rattle.std.specs.Prelude.{◌≡◌, ◌⊎◌, ◌<◌, ◌≤◌, ◌+◌, ℕ, List, [], is_some, length, slice_range, unwrap_or, IfErr, IfOk, IfSome, None, OnErr, OnOk, option_copied, option_map};
 ghost use Rattle.std.specs.Bool.{OnFalse, OnTrue};
 ghost use Rattle.lfs_model.specs.format.Blocks.{block_bytes};
-ghost use Rattle.lfs_model.specs.layers.Cache.{cache_limit, cached_bytes, cache_with_block, cache_without_block};
-ghost use Rattle.lfs_device.specs.DeviceCalls.{OnlyReadsOrIo, OnlyReadsOrNoMemory, ReadsOnly, ReportsFaults};
+ghost use Rattle.lfs_model.specs.layers.Cache.{cache_limit, cached_bytes, cache_with, cache_without};
+ghost use Rattle.lfs_device.specs.DeviceCalls.{ReadsOrIo, ReadsOrNoMemory, ReadsOnly, ReportsFaults};
 ghost use Rattle.lfs_model.specs.session.History.{read_count};
-ghost use Rattle.lfs_blocks.specs.BlockReads.{ReadsBlockUnlessCached, ReadsOnceUnlessCached};
+ghost use Rattle.lfs_blocks.specs.BlockReads.{ReadsUnlessCached, ReadsOnceUncached};
 
 use lfs_device::{BlockDevice, Error, read_block};
 use lru::LruCache;
@@ -57,11 +57,11 @@ impl Cache {
     pub fn fill<D: BlockDevice>(&mut self, device: &mut D, block: u32) -> Result<(), Error>
         requires { block < (D.geometry device.old).block_count }
         ensures filled { OnOk result (self.new
-            ≡ cache_with_block self.old block (unwrap_or (cached_bytes self.old block) (block_bytes (D.blocks device.old) block))) }
+            ≡ cache_with self.old block (unwrap_or (cached_bytes self.old block) (block_bytes (D.blocks device.old) block))) }
         ensures err { OnErr result (self.new ≡ self.old) }
         ensures few { length self.new ≤ cache_limit }
-        ensures calls { ReadsBlockUnlessCached D.BlockDevice (cached_bytes self.old block) block device.old device.new result }
-        ensures reading { OnlyReadsOrNoMemory D.BlockDevice device.old device.new result }
+        ensures calls { ReadsUnlessCached D.BlockDevice (cached_bytes self.old block) block device.old device.new result }
+        ensures reading { ReadsOrNoMemory D.BlockDevice device.old device.new result }
     {
         if self.promote(block) {
             return Ok(());
@@ -88,9 +88,9 @@ impl Cache {
         requires inside { (block < (D.geometry device.old).block_count) × (offset + length buf.old ≤ (D.geometry device.old).block_size) }
         requires current { IfSome (cached_bytes self.old block) (λ bytes. bytes ≡ block_bytes (D.blocks device.old) block) }
         ensures bytes { OnOk result (buf.new ≡ slice_range (block_bytes (D.blocks device.old) block) offset (offset + length buf.old)) }
-        ensures cached { (self.new ≡ self.old) ⊎ (self.new ≡ cache_with_block self.old block (block_bytes (D.blocks device.old) block)) }
-        ensures few { ReadsOnceUnlessCached D.BlockDevice (cached_bytes self.old block) device.old device.new }
-        ensures reading { OnlyReadsOrIo D.BlockDevice device.old device.new result }
+        ensures cached { (self.new ≡ self.old) ⊎ (self.new ≡ cache_with self.old block (block_bytes (D.blocks device.old) block)) }
+        ensures few { ReadsOnceUncached D.BlockDevice (cached_bytes self.old block) device.old device.new }
+        ensures reading { ReadsOrIo D.BlockDevice device.old device.new result }
     {
         if let Some(bytes) = self.lend(block) {
             copy_range(bytes, offset, buf);
@@ -124,7 +124,7 @@ impl Cache {
     /// The call takes no memory and makes no call of the device.
     pub fn take(&mut self, block: u32) -> Option<Vec<u8>>
         ensures bytes { option_map (λ bytes. bytes.items) result ≡ cached_bytes self.old block }
-        ensures others { self.new ≡ cache_without_block self.old block }
+        ensures others { self.new ≡ cache_without self.old block }
     {
         self.recent.pop(&block)
     }
@@ -132,7 +132,7 @@ impl Cache {
     /// Takes a block out of the cache and drops its bytes. Nothing changes where the block isn't at
     /// hand. The call takes no memory and makes no call of the device.
     pub fn forget(&mut self, block: u32)
-        ensures { self.new ≡ cache_without_block self.old block }
+        ensures { self.new ≡ cache_without self.old block }
     {
         self.take(block);
     }
@@ -148,7 +148,7 @@ impl Cache {
     // Makes a cached block the most recent one. Returns whether the block is cached.
     fn promote(&mut self, block: u32) -> bool
         ensures cached_log { result ≡ is_some (cached_bytes self.old block) }
-        ensures first { OnTrue result ((other : List ℕ) → self.new ≡ cache_with_block self.old block (unwrap_or (cached_bytes self.old block) other)) }
+        ensures first { OnTrue result ((other : List ℕ) → self.new ≡ cache_with self.old block (unwrap_or (cached_bytes self.old block) other)) }
         ensures same { OnFalse result (self.new ≡ self.old) }
         ensures few { length self.new ≤ cache_limit }
     {
@@ -159,7 +159,7 @@ impl Cache {
     // where there were eight.
     fn add_uncached_block(&mut self, block: u32, bytes: Vec<u8>) -> Result<(), Error>
         requires { cached_bytes self.old block ≡ None }
-        ensures first { OnOk result (self.new ≡ cache_with_block self.old block bytes.items) }
+        ensures first { OnOk result (self.new ≡ cache_with self.old block bytes.items) }
         ensures err { OnErr result (self.new ≡ self.old) }
         ensures few { length self.new ≤ cache_limit }
         ensures error { IfErr result (λ e. e ≡ Error.NoMemory) }
@@ -171,7 +171,7 @@ impl Cache {
     // Adds a block that isn't cached as the most recent one, where memory for that is granted.
     fn keep_if_granted(&mut self, block: u32, bytes: Vec<u8>)
         requires { cached_bytes self.old block ≡ None }
-        ensures { (self.new ≡ self.old) ⊎ (self.new ≡ cache_with_block self.old block bytes.items) }
+        ensures { (self.new ≡ self.old) ⊎ (self.new ≡ cache_with self.old block bytes.items) }
     {
         match self.add_uncached_block(block, bytes) {
             Ok(()) => {}

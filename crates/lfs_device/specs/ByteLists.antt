@@ -1,7 +1,7 @@
 -- A part of a list of bytes consists of bytes.
 use Rattle.std.proofs.Common.{ℕ, zero, suc, List, [], ◌∷◌, take, drop, arith}
 use Rattle.lfs_model.specs.format.Blocks.{cut}
-use Rattle.lfs_device.specs.Bytes.{ElementsAreBytes, HoldBytes}
+use Rattle.lfs_device.specs.Bytes.{ElementsAreBytes, AreByteBlocks}
 
 none : ElementsAreBytes []
 none i = omega arith
@@ -18,7 +18,7 @@ AreBytes-drop (suc n) [] are = none
 AreBytes-drop (suc n) (x ∷ xs) are = AreBytes-drop n xs (λ j. are (suc j))
 
 -- the blocks of a list of bytes
-pub HasBytes-cut : (size count : ℕ) (bytes : List ℕ) → ElementsAreBytes bytes → HoldBytes (cut size count bytes)
+pub HasBytes-cut : (size count : ℕ) (bytes : List ℕ) → ElementsAreBytes bytes → AreByteBlocks (cut size count bytes)
 HasBytes-cut size zero bytes are b i = none i
 HasBytes-cut size (suc count) bytes are zero i = AreBytes-take size bytes are i
 HasBytes-cut size (suc count) bytes are (suc b) i = HasBytes-cut size count (drop size bytes) (AreBytes-drop size bytes are) b i

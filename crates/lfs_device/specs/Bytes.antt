@@ -6,5 +6,5 @@ abbrev pub ElementsAreBytes : List ℕ → Type 0
 ElementsAreBytes bytes = (i : ℕ) → slice_index bytes i < 256
 
 -- each block holds bytes
-abbrev pub HoldBytes : Blocks → Type 0
-HoldBytes blocks = (b i : ℕ) → slice_index (block_bytes blocks b) i < 256
+abbrev pub AreByteBlocks : Blocks → Type 0
+AreByteBlocks blocks = (b i : ℕ) → slice_index (block_bytes blocks b) i < 256

@@ -15,7 +15,7 @@ PassesCall g call failed old new = g.history new ≡ call_event call (g.blocks o
 abbrev pub AddsNoFault : {D : Type 0} → Ghosts D → D → D → Type 0
 AddsNoFault g old new = fault_count (g.history new) ≡ fault_count (g.history old)
 
--- Of a program the first bytes are stored (`stored_bytes` gives them). Another call does nothing.
+-- Of a program the first bytes are stored (`programmed_part` gives them). Another call does nothing.
 abbrev pub LeavesUnlessProgram : {D : Type 0} → Ghosts D → DeviceCall → D → D → Type 0
 LeavesUnlessProgram g (Program b off bytes) old new = Unit {0}
 LeavesUnlessProgram g (Read b off len) old new = new ≡ old
@@ -36,7 +36,7 @@ pub record IfDone {D X : Type 0} (g : Ghosts D) (due : Option FaultExtent) (old 
   pub whole : due ≡ Some Whole → AddsNoFault g old new → Fact
 
 -- the bytes of a program that are stored
-abbrev pub stored_bytes : FaultExtent → List ℕ → List ℕ
-stored_bytes Nothing bytes = []
-stored_bytes (FirstBytes k) bytes = take k bytes
-stored_bytes Whole bytes = bytes
+abbrev pub programmed_part : FaultExtent → List ℕ → List ℕ
+programmed_part Nothing bytes = []
+programmed_part (FirstBytes k) bytes = take k bytes
+programmed_part Whole bytes = bytes

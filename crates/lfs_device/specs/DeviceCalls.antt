@@ -16,14 +16,14 @@ pub record ReadsOnly {D : Type 0} (g : Ghosts D) (old new : D) : Type 0 where
 
 -- No block but this one changes, and bytes of other blocks that were unprogrammed still are. A loss of power during the call
 -- leaves each other block as it was.
-pub record ChangesOnlyThisBlock {D : Type 0} (g : Ghosts D) (b : ℕ) (old new : D) : Type 0 where
+pub record ChangesOneBlock {D : Type 0} (g : Ghosts D) (b : ℕ) (old new : D) : Type 0 where
   pub others : SameExcept b (g.blocks old) (g.blocks new)
   pub elsewhere : StayUnprogrammed (b ∷ []) (g.history old) (g.history new)
   pub geometry : g.geometry new ≡ g.geometry old
   pub at_worst : HoldsAtLosses LossLeavesAtWorst (g.history old) (g.history new) (SameExcept b (g.blocks old))
 
 -- the same of several blocks
-pub record ChangesOnlyTheseBlocks {D : Type 0} (g : Ghosts D) (bs : List ℕ) (old new : D) : Type 0 where
+pub record ChangesTheseBlocks {D : Type 0} (g : Ghosts D) (bs : List ℕ) (old new : D) : Type 0 where
   pub others : SameExceptThese bs (g.blocks old) (g.blocks new)
   pub elsewhere : StayUnprogrammed bs (g.history old) (g.history new)
   pub geometry : g.geometry new ≡ g.geometry old
@@ -35,24 +35,24 @@ pub record ReportsFaults {D X : Type 0} (g : Ghosts D) (old new : D) (result : R
   pub no_fault : (IsErrOf result Io → ⊥) → fault_count (g.history new) ≡ fault_count (g.history old)
 
 -- `Io` comes with a fault of the device, success without one, and no other error comes.
-pub record ReportsNoErrorButIo {D X : Type 0} (g : Ghosts D) (old new : D) (result : Result X Error) : Type 0 where
+pub record ReportsOnlyIo {D X : Type 0} (g : Ghosts D) (old new : D) (result : Result X Error) : Type 0 where
   pub faults : ReportsFaults g old new result
   pub errors : IfErr result (λ e. e ≡ Io)
 
 -- the same of a call that takes memory: `NoMemory` comes without a fault
-pub record ReportsIoOrNoMemory {D X : Type 0} (g : Ghosts D) (old new : D) (result : Result X Error) : Type 0 where
+pub record ReportsIoNoMemory {D X : Type 0} (g : Ghosts D) (old new : D) (result : Result X Error) : Type 0 where
   pub faults : ReportsFaults g old new result
   pub errors : IfErr result (λ e. (e ≡ Io) ⊎ (e ≡ NoMemory))
 
 -- The device was only read, and the only error is `Io`.
-pub record OnlyReadsOrIo {D X : Type 0} (g : Ghosts D) (old new : D) (result : Result X Error) : Type 0 where
+pub record ReadsOrIo {D X : Type 0} (g : Ghosts D) (old new : D) (result : Result X Error) : Type 0 where
   pub device : ReadsOnly g old new
-  pub reports : ReportsNoErrorButIo g old new result
+  pub reports : ReportsOnlyIo g old new result
 
 -- the same, and `NoMemory` may come too
-pub record OnlyReadsOrNoMemory {D X : Type 0} (g : Ghosts D) (old new : D) (result : Result X Error) : Type 0 where
+pub record ReadsOrNoMemory {D X : Type 0} (g : Ghosts D) (old new : D) (result : Result X Error) : Type 0 where
   pub device : ReadsOnly g old new
-  pub reports : ReportsIoOrNoMemory g old new result
+  pub reports : ReportsIoNoMemory g old new result
 
 -- There is one read, which fails where the result is `Io`. There is none where memory wasn't granted.
 pub record ReadsOnce {D X : Type 0} (g : Ghosts D) (b off len : ℕ) (old new : D) (result : Result X Error) : Type 0 where

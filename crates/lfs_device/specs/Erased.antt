@@ -15,11 +15,11 @@ erased_bytes (Fill byte) block = replicate (length block) byte
 erased_bytes Keep block = block
 
 -- so many bytes from an offset on, after an erase
-abbrev pub erased_device : Erased → List ℕ → ℕ → ℕ → List ℕ
-erased_device (Fill byte) bytes at len = overwritten_at bytes at (replicate len byte)
-erased_device Keep bytes at len = bytes
+abbrev pub erased_range : Erased → List ℕ → ℕ → ℕ → List ℕ
+erased_range (Fill byte) bytes at len = overwritten_at bytes at (replicate len byte)
+erased_range Keep bytes at len = bytes
 
 -- all blocks, after an erase of one of them
-abbrev pub erased_blocks : Erased → ℕ → Blocks → ℕ → Blocks
-erased_blocks (Fill byte) size blocks b = programmed blocks b 0 (replicate size byte)
-erased_blocks Keep size blocks b = blocks
+abbrev pub blocks_after_erase : Erased → ℕ → Blocks → ℕ → Blocks
+blocks_after_erase (Fill byte) size blocks b = programmed blocks b 0 (replicate size byte)
+blocks_after_erase Keep size blocks b = blocks

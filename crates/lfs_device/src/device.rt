@@ -4,7 +4,7 @@ ghost use Rattle.lfs_model.specs.session.History.{CallEvent, call_event, LeftByL
 ghost use Rattle.lfs_model.specs.session.History.DeviceCall.{Read, Program, Erase};
 ghost use Rattle.lfs_model.specs.crash.Conformance.{CallsConform};
 ghost use Rattle.lfs_device.specs.declared.geometry.Geometry.{Geometry};
-ghost use Rattle.lfs_device.specs.Bytes.{HoldBytes};
+ghost use Rattle.lfs_device.specs.Bytes.{AreByteBlocks};
 ghost use Rattle.lfs_device.specs.BlockCalls.{AsksIfBlank, CanProgram, IsWithinBlock, Programs};
 
 use crate::{Error, Geometry};
@@ -89,7 +89,7 @@ pub trait BlockDevice {
     ghost shape: { (d : Self) → HasBlockSizes (geometry d).block_size (geometry d).block_count (blocks d) };
 
     /// A block holds bytes: numbers below 256.
-    ghost bytes: { (d : Self) → HoldBytes (blocks d) };
+    ghost bytes: { (d : Self) → AreByteBlocks (blocks d) };
 
     /// The newest call, if there was one, left the blocks as they are.
     ghost newest: { (d : Self) → LeftByLatest (history d) (blocks d) };

@@ -7,7 +7,7 @@ ghost use Rattle.lfs_model.specs.crash.Premises.{MeetsPremises};
 ghost use Rattle.lfs_device.specs.BlockCalls.{CanProgram, IsWithinBlock, Programs};
 ghost use Rattle.lfs_device.specs.Fault.{call_count, extent_if_due, failing_extent, have_due_failed, is_partial, unplanned_faults};
 ghost use Rattle.lfs_device.specs.DevicePremises.{DevicesMeetPremises};
-ghost use Rattle.lfs_device.specs.CallsBelow.{AddsNoFault, PassesCallOrFails, stored_bytes};
+ghost use Rattle.lfs_device.specs.CallsBelow.{AddsNoFault, PassesCallOrFails, programmed_part};
 
 use crate::partial::{erase_as_planned, program_as_planned, read_as_planned};
 use crate::{BlockDevice, Error, Geometry, Trace};
@@ -206,7 +206,7 @@ impl<D: BlockDevice> FaultDevice<D> {
 }
 
 impl<D: BlockDevice> BlockDevice for FaultDevice<D> {
-    ghost use Rattle.lfs_device.specs.FaultDevice.{AddsCallToHistory, inner_device, planned_fault, inner_blocks, fault_history};
+    ghost use Rattle.lfs_device.specs.FaultDevice.{AddsCall, inner_device, planned_fault, inner_blocks, fault_history};
 
     ghost geometry = { λ d. D.geometry d.inner };
 
@@ -235,7 +235,7 @@ impl<D: BlockDevice> BlockDevice for FaultDevice<D> {
             → buf.new ≡ slice_range (block_bytes (inner_blocks self.old) block) off (off + length buf.old) }
         ensures bytes { OnOk result (buf.new ≡ slice_range (block_bytes (inner_blocks self.old) block) off (off + length buf.old)) }
         ensures same { inner_blocks self.new ≡ inner_blocks self.old }
-        ensures noted { AddsCallToHistory (Read block off (length buf.old)) self.old self.new result }
+        ensures noted { AddsCall (Read block off (length buf.old)) self.old self.new result }
     {
         let counts = matches!(self.fault.which, CountedCalls::Any | CountedCalls::Read);
         let due = self.next_fault_extent(counts);
@@ -252,9 +252,9 @@ impl<D: BlockDevice> BlockDevice for FaultDevice<D> {
             (Program block off bytes.now) (is_err result) (inner_device self.old) (inner_device self.new) }
         ensures stored { IfSome (extent_if_due (planned_fault self.old) (Program block off bytes.now) (fault_history self.old))
             (λ extent. AddsNoFault ⟦<D as BlockDevice>⟧ (inner_device self.old) (inner_device self.new)
-            → inner_blocks self.new ≡ programmed (inner_blocks self.old) block off (stored_bytes extent bytes.now)) }
+            → inner_blocks self.new ≡ programmed (inner_blocks self.old) block off (programmed_part extent bytes.now)) }
         ensures programs { Programs block off bytes.now (inner_blocks self.old) (inner_blocks self.new) result }
-        ensures noted { AddsCallToHistory (Program block off bytes.now) self.old self.new result }
+        ensures noted { AddsCall (Program block off bytes.now) self.old self.new result }
     {
         let counts = matches!(self.fault.which, CountedCalls::Any | CountedCalls::Program);
         let due = self.next_fault_extent(counts);
@@ -270,7 +270,7 @@ impl<D: BlockDevice> BlockDevice for FaultDevice<D> {
         ensures carried { PassesCallOrFails ⟦<D as BlockDevice>⟧ (extent_if_due (planned_fault self.old) (Erase block) (fault_history self.old))
             (Erase block) (is_err result) (inner_device self.old) (inner_device self.new) }
         ensures others { SameExcept block (inner_blocks self.old) (inner_blocks self.new) }
-        ensures noted { AddsCallToHistory (Erase block) self.old self.new result }
+        ensures noted { AddsCall (Erase block) self.old self.new result }
     {
         let counts = matches!(self.fault.which, CountedCalls::Any | CountedCalls::Erase);
         let due = self.next_fault_extent(counts);

@@ -4,8 +4,8 @@ ghost use Rattle.lfs_model.specs.session.History.{fault_count};
 ghost use Rattle.lfs_model.specs.session.History.DeviceCall.{Read, Program, Erase};
 ghost use Rattle.lfs_device.specs.DeviceCalls.{ReadsOnly};
 ghost use Rattle.lfs_device.specs.BlockCalls.{CanProgram, IsWithinBlock};
-ghost use Rattle.lfs_device.specs.CallsBelow.{AddsNoFault, IfDone, PassesCallOrFails, stored_bytes};
-ghost use Rattle.lfs_device.specs.Partial.{ChangesOnlyErasedBlock, ChangesOnlyPartOfBlock, IsUnprogrammedPage};
+ghost use Rattle.lfs_device.specs.CallsBelow.{AddsNoFault, IfDone, PassesCallOrFails, programmed_part};
+ghost use Rattle.lfs_device.specs.Partial.{ChangesOnlyErasedBlock, ChangesOnlyPart, IsUnprogrammedPage};
 
 use crate::fault::FaultExtent;
 use crate::{BlockDevice, Error};
@@ -46,9 +46,9 @@ pub(crate) fn program_as_planned<D: BlockDevice>(
     requires can { CanProgram (D.geometry device.old) (D.history device.old) block off (length bytes.now) }
     ensures carried { PassesCallOrFails ⟦<D as BlockDevice>⟧ due (Program block off bytes.now) (is_err result) device.old device.new }
     ensures stored { IfSome due (λ extent. AddsNoFault ⟦<D as BlockDevice>⟧ device.old device.new
-        → D.blocks device.new ≡ programmed (D.blocks device.old) block off (stored_bytes extent bytes.now)) }
+        → D.blocks device.new ≡ programmed (D.blocks device.old) block off (programmed_part extent bytes.now)) }
     ensures ok { OnOk result (D.blocks device.new ≡ programmed (D.blocks device.old) block off bytes.now) }
-    ensures part { ChangesOnlyPartOfBlock D.BlockDevice block off (off + length bytes.now) device.old device.new }
+    ensures part { ChangesOnlyPart D.BlockDevice block off (off + length bytes.now) device.old device.new }
     ensures error { IfErr result (λ e. e ≡ Error.Io) }
 {
     match due {
@@ -97,7 +97,7 @@ pub(crate) fn program_first_bytes<D: BlockDevice>(
 ) -> Result<(), Error>
     requires can { CanProgram (D.geometry device.old) (D.history device.old) block off (length bytes.now) }
     ensures ok { OnOk result (D.blocks device.new ≡ programmed (D.blocks device.old) block off (take k bytes.now)) }
-    ensures part { ChangesOnlyPartOfBlock D.BlockDevice block off (off + length bytes.now) device.old device.new }
+    ensures part { ChangesOnlyPart D.BlockDevice block off (off + length bytes.now) device.old device.new }
     ensures err { OnErr result (fault_count (D.history device.old) < fault_count (D.history device.new)) }
 {
     let stored = (k as usize).min(bytes.len());
@@ -120,7 +120,7 @@ fn program_page_part<D: BlockDevice>(
     requires in_page { length bytes.now ≤ (D.geometry device.old).page }
     requires page { IsUnprogrammedPage (D.geometry device.old) (D.history device.old) block off }
     ensures ok { OnOk result (D.blocks device.new ≡ programmed (D.blocks device.old) block off bytes.now) }
-    ensures part { ChangesOnlyPartOfBlock D.BlockDevice block off (off + (D.geometry device.old).page) device.old device.new }
+    ensures part { ChangesOnlyPart D.BlockDevice block off (off + (D.geometry device.old).page) device.old device.new }
     ensures err { OnErr result (fault_count (D.history device.old) < fault_count (D.history device.new)) }
 {
     let mut buffer = [0u8; 512];

@@ -6,7 +6,7 @@ ghost use Rattle.lfs_model.specs.crash.Conformance.{CallsConform};
 ghost use Rattle.lfs_model.specs.crash.Premises.{MeetsPremises};
 ghost use Rattle.lfs_device.specs.Bytes.{ElementsAreBytes};
 ghost use Rattle.lfs_device.specs.DevicePremises.{DevicesMeetPremises};
-ghost use Rattle.lfs_device.specs.Erased.{FillIsByte, erased_bytes, erased_device};
+ghost use Rattle.lfs_device.specs.Erased.{FillIsByte, erased_bytes, erased_range};
 
 use crate::{BlockDevice, Error, Geometry, Trace};
 use std::alloc::Global;
@@ -38,7 +38,7 @@ pub struct RamDevice {
 }
 
 impl RamDevice {
-    ghost use Rattle.lfs_device.specs.RamDevice.{ram_geometry, ram_bytes, ram_blocks, erase_effect, ram_history};
+    ghost use Rattle.lfs_device.specs.RamDevice.{ram_geometry, ram_bytes, ram_blocks, erase_setting, ram_history};
 
     /// Makes a device that holds 0xff in every byte. An erase fills a block with 0xff. Every byte
     /// counts as programmed.
@@ -47,7 +47,7 @@ impl RamDevice {
     pub fn blank(alloc: Global, geometry: Geometry) -> Result<RamDevice, Error>
         ensures geometry { IfOk result (λ d. ram_geometry d ≡ geometry) }
         ensures bytes { IfOk result (λ d. ram_bytes d ≡ replicate (geometry.block_size * geometry.block_count) 255) }
-        ensures erased { IfOk result (λ d. erase_effect d ≡ Erased.Fill 255) }
+        ensures erased { IfOk result (λ d. erase_setting d ≡ Erased.Fill 255) }
         ensures no_call { IfOk result (λ d. ram_history d ≡ []) }
         ensures err { OnErr result (result ≡ Err Error.NoMemory) }
     {
@@ -68,7 +68,7 @@ impl RamDevice {
     /// Errors: `Invalid` exactly where the number of bytes isn't that of the geometry.
     pub fn from_bytes(geometry: Geometry, bytes: Vec<u8>) -> Result<RamDevice, Error>
         ensures made { MatchResult result
-            (λ d. (ram_geometry d ≡ geometry) × (ram_bytes d ≡ bytes.items) × (erase_effect d ≡ Erased.Fill 255))
+            (λ d. (ram_geometry d ≡ geometry) × (ram_bytes d ≡ bytes.items) × (erase_setting d ≡ Erased.Fill 255))
             (λ e. (e ≡ Error.Invalid) × (¬ (length bytes.items ≡ geometry.block_size * geometry.block_count))) }
         ensures no_call { IfOk result (λ d. ram_history d ≡ []) }
     {
@@ -88,7 +88,7 @@ impl RamDevice {
     pub fn erased_as(self, erased: Erased) -> RamDevice
         ensures geometry { ram_geometry result ≡ ram_geometry self }
         ensures bytes { ram_bytes result ≡ ram_bytes self }
-        ensures erased { erase_effect result ≡ erased }
+        ensures erased { erase_setting result ≡ erased }
         ensures history { ram_history result ≡ ram_history self }
     {
         let RamDevice {
@@ -112,7 +112,7 @@ impl RamDevice {
     pub fn with_blank_checks(self) -> RamDevice
         ensures geometry { ram_geometry result ≡ ram_geometry self }
         ensures bytes { ram_bytes result ≡ ram_bytes self }
-        ensures erased { erase_effect result ≡ erase_effect self }
+        ensures erased { erase_setting result ≡ erase_setting self }
         ensures history { ram_history result ≡ ram_history self }
     {
         let RamDevice {
@@ -175,7 +175,7 @@ fn overwrite_device_bytes(all: &mut Vec<u8>, at: usize, bytes: &[u8])
 // Fills the bytes from an offset on with what an erase leaves.
 fn fill_erased(all: &mut Vec<u8>, at: usize, len: usize, erased: Erased)
     requires { at + len ≤ length all.old.items }
-    ensures erased { all.new.items ≡ erased_device erased all.old.items at len }
+    ensures erased { all.new.items ≡ erased_range erased all.old.items at len }
     ensures are_bytes { ElementsAreBytes all.old.items → ElementsAreBytes all.new.items }
     ensures by_byte { FillIsByte erased }
 {
@@ -189,7 +189,7 @@ impl BlockDevice for RamDevice {
     ghost use Rattle.lfs_model.proofs.Cuts.{HasBlockSizes-cut};
     ghost use Rattle.lfs_device.specs.ByteLists.{HasBytes-cut};
     ghost use Rattle.lfs_device.specs.BlockCalls.{CanProgram, IsWithinBlock};
-    ghost use Rattle.lfs_device.specs.RamDevice.{KeepsSettings, ram_geometry, ram_bytes, ram_blocks, erase_effect, ram_history};
+    ghost use Rattle.lfs_device.specs.RamDevice.{KeepsSettings, ram_geometry, ram_bytes, ram_blocks, erase_setting, ram_history};
 
     ghost geometry = { ram_geometry };
 
@@ -241,7 +241,7 @@ impl BlockDevice for RamDevice {
     fn erase(&mut self, block: u32) -> Result<(), Error>
         requires { block < (ram_geometry self.old).block_count }
         ensures ok { IsOk result }
-        ensures bytes { block_bytes (ram_blocks self.new) block ≡ erased_bytes (erase_effect self.old) (block_bytes (ram_blocks self.old) block) }
+        ensures bytes { block_bytes (ram_blocks self.new) block ≡ erased_bytes (erase_setting self.old) (block_bytes (ram_blocks self.old) block) }
         ensures others { SameExcept block (ram_blocks self.old) (ram_blocks self.new) }
         ensures settings { KeepsSettings self.old self.new }
         ensures history { ram_history self.new ≡ call_event (Erase block) (ram_blocks self.old) (ram_blocks self.new) false ∷ ram_history self.old }

@@ -1,9 +1,6 @@
 -- Steps back through a list, each by the highest pointer that does not overshoot, are few.
 use Rattle.std.proofs.Common.{ℕ, zero, suc, ◌≡◌, ◌+◌, ◌*◌, ◌-◌, ◌<◌, ◌≤◌, ◌^◌, min, ⊎_elim, sym, ap, subst, ◌∙◌, arith}
-use Rattle.std.proofs.Math.Nat.{mul_assoc, add-mul}
-use Rattle.std.proofs.lemmas.Nat.{pow-add}
-use Rattle.std.proofs.lemmas.Bool.{cases_lt}
-use Rattle.std.specs.Int.{w32, trailing_zeros}
+use Rattle.lfs_file.proofs.Common.{mul_assoc, add-mul, pow-add, cases_lt, w32, trailing_zeros}
 use lib.Pow.{pow_mono}
 use Rattle.lfs_file.proofs.TrailingZeros.{zeros32-multiple, zeros32-more, zeros-le, power-le, twice, factor-pos}
 

@@ -1,15 +1,14 @@
 -- What calls of a device one after the other say of it.
 use Rattle.std.proofs.Common.{ℕ, ◌≡◌, ◌≢◌, Bool, List, [], ◌∷◌, Result, Ok, Err, inl, inr, refl, sym, subst, ◌∙◌, arith}
 use Rattle.std.specs.Prelude.{All}
-use Rattle.lfs_file.specs.FileCalls.{OnlyReadsOrCorrupt}
-use Rattle.lfs_device.specs.DeviceCalls.{ReadsOnly, ChangesOnlyThisBlock, ChangesOnlyTheseBlocks, ReportsFaults}
+use Rattle.lfs_file.specs.FileCalls.{ReadsOrCorrupt}
+use Rattle.lfs_file.proofs.Common.{ReadsOnly, ChangesTheseBlocks, ReportsFaults, SameExcept, call_event, fault_count, Read, began, goes_on, goes_on_by, AllCallsSince-weaker, OnlyReadsSince-trans, StayUnprogrammed-trans, SameExcept-refl, SameExcept-trans, SameExceptThese-refl}
+use Rattle.lfs_device.specs.DeviceCalls.{ChangesOneBlock}
 use Rattle.lfs_device.specs.declared.device.BlockDevice.{Ghosts}
 use Rattle.lfs_device.specs.declared.error.Error.{Error}
-use Rattle.lfs_model.specs.format.Blocks.{SameExcept}
-use Rattle.lfs_model.specs.session.History.{call_event, fault_count}
-use Rattle.lfs_model.specs.session.History.DeviceCall.{Read, Program, Erase}
-use Rattle.lfs_model.proofs.Histories.{began, goes_on, goes_on_by, AllCallsSince-weaker, OnlyReadsSince-trans, StayUnprogrammed-erase, StayUnprogrammed-program, StayUnprogrammed-read_count, StayUnprogrammed-refl, StayUnprogrammed-trans}
-use Rattle.lfs_model.proofs.Overwrites.{SameExcept-refl, SameExcept-trans, SameExceptThese-one, SameExceptThese-refl}
+use Rattle.lfs_model.specs.session.History.DeviceCall.{Program, Erase}
+use Rattle.lfs_model.proofs.Histories.{StayUnprogrammed-erase, StayUnprogrammed-program, StayUnprogrammed-read_count, StayUnprogrammed-refl}
+use Rattle.lfs_model.proofs.Overwrites.{SameExceptThese-one}
 use Rattle.lfs_file.proofs.Pushing.{stays_one}
 use Rattle.lfs_file.proofs.Readings.{reads_stop}
 
@@ -28,7 +27,7 @@ module _ {D : Type 0} (g : Ghosts D) where
       → g.blocks new ≡ g.blocks old → g.geometry new ≡ g.geometry old → ReadsOnly g old new
   read_once called same geometry = record { same = same; geometry = geometry; reads = goes_on began called (record { reads = refl; before = refl; after = same }) }
 
-  pub only_read : {old new : D} (b : ℕ) → ReadsOnly g old new → ChangesOnlyThisBlock g b old new
+  pub only_read : {old new : D} (b : ℕ) → ReadsOnly g old new → ChangesOneBlock g b old new
   only_read {old} b read = record {
     others = subst (SameExcept b (g.blocks old)) (sym read.same) (SameExcept-refl b (g.blocks old));
     elsewhere = StayUnprogrammed-read_count (b ∷ []) read.reads;
@@ -37,7 +36,7 @@ module _ {D : Type 0} (g : Ghosts D) where
   }
 
   pub erase_once : {old new : D} {block : ℕ} {failed : Bool} → g.history new ≡ call_event (Erase block) (g.blocks old) (g.blocks new) failed ∷ g.history old
-      → SameExcept block (g.blocks old) (g.blocks new) → g.geometry new ≡ g.geometry old → ChangesOnlyThisBlock g block old new
+      → SameExcept block (g.blocks old) (g.blocks new) → g.geometry new ≡ g.geometry old → ChangesOneBlock g block old new
   erase_once called others geometry = record {
     others = others;
     elsewhere = StayUnprogrammed-erase called;
@@ -46,7 +45,7 @@ module _ {D : Type 0} (g : Ghosts D) where
   }
 
   pub program_once : {old new : D} {block off : ℕ} {bytes : List ℕ} {failed : Bool} → g.history new ≡ call_event (Program block off bytes) (g.blocks old) (g.blocks new) failed ∷ g.history old
-      → SameExcept block (g.blocks old) (g.blocks new) → g.geometry new ≡ g.geometry old → ChangesOnlyThisBlock g block old new
+      → SameExcept block (g.blocks old) (g.blocks new) → g.geometry new ≡ g.geometry old → ChangesOneBlock g block old new
   program_once called others geometry = record {
     others = others;
     elsewhere = StayUnprogrammed-program called;
@@ -54,7 +53,7 @@ module _ {D : Type 0} (g : Ghosts D) where
     at_worst = goes_on began called (λ left stop. stop);
   }
 
-  pub changes_on : {old mid new : D} {b : ℕ} → ChangesOnlyThisBlock g b old mid → ChangesOnlyThisBlock g b mid new → ChangesOnlyThisBlock g b old new
+  pub changes_on : {old mid new : D} {b : ℕ} → ChangesOneBlock g b old mid → ChangesOneBlock g b mid new → ChangesOneBlock g b old new
   changes_on first second = record {
     others = SameExcept-trans first.others second.others;
     elsewhere = StayUnprogrammed-trans first.elsewhere second.elsewhere;
@@ -62,7 +61,7 @@ module _ {D : Type 0} (g : Ghosts D) where
     at_worst = goes_on_by first.at_worst (AllCallsSince-weaker (λ e from left stop. SameExcept-trans first.others (from left stop)) second.at_worst);
   }
 
-  pub changes_none : (bs : List ℕ) (d : D) → ChangesOnlyTheseBlocks g bs d d
+  pub changes_none : (bs : List ℕ) (d : D) → ChangesTheseBlocks g bs d d
   changes_none bs d = record {
     others = SameExceptThese-refl bs (g.blocks d);
     elsewhere = StayUnprogrammed-refl bs (g.history d);
@@ -71,7 +70,7 @@ module _ {D : Type 0} (g : Ghosts D) where
   }
 
   -- one of the blocks changes
-  pub changes_one : {old mid new : D} {bs : List ℕ} {block : ℕ} → ((other : ℕ) → All (λ b. b ≢ other) bs → block ≢ other) → ChangesOnlyTheseBlocks g bs old mid → ChangesOnlyThisBlock g block mid new → ChangesOnlyTheseBlocks g bs old new
+  pub changes_one : {old mid new : D} {bs : List ℕ} {block : ℕ} → ((other : ℕ) → All (λ b. b ≢ other) bs → block ≢ other) → ChangesTheseBlocks g bs old mid → ChangesOneBlock g block mid new → ChangesTheseBlocks g bs old new
   changes_one {bs = bs} {block = block} among first second = record {
     others = SameExceptThese-one bs block _ _ _ among first.others second.others;
     elsewhere = stays_one bs block _ _ _ among first.elsewhere second.elsewhere;
@@ -108,21 +107,21 @@ module _ {D : Type 0} (g : Ghosts D) where
       back {f} is = let same : e ≡ f = cc in subst (λ z. ◌≡◌ {A = Result Y Error} (Err e) (Err z)) same refl
 
   -- after reads without a fault a list is read
-  pub list_on : {X : Type 0} {old mid new : D} {result : Result X Error} → ReadsOnly g old mid → fault_count (g.history mid) ≡ fault_count (g.history old) → OnlyReadsOrCorrupt g mid new result → OnlyReadsOrCorrupt g old new result
+  pub list_on : {X : Type 0} {old mid new : D} {result : Result X Error} → ReadsOnly g old mid → fault_count (g.history mid) ≡ fault_count (g.history old) → ReadsOrCorrupt g mid new result → ReadsOrCorrupt g old new result
   list_on read none reported = record { device = read_on read reported.device; faults = reported_on none reported.faults; errors = reported.errors }
 
   -- the same error of a reading with another result
-  pub list_as : {X Y : Type 0} {old new : D} {e : Error} → OnlyReadsOrCorrupt {X = X} g old new (Err e) → OnlyReadsOrCorrupt {X = Y} g old new (Err e)
+  pub list_as : {X Y : Type 0} {old new : D} {e : Error} → ReadsOrCorrupt {X = X} g old new (Err e) → ReadsOrCorrupt {X = Y} g old new (Err e)
   list_as reported = record { device = reported.device; faults = reported_as reported.faults; errors = reported.errors }
 
   -- a part of a list wasn't read
-  pub list_io : {X Y : Type 0} {old new : D} {e : Error} → ReadsOnly g old new → ReportsFaults {X = X} g old new (Err e) → e ≡ Error.Io → OnlyReadsOrCorrupt {X = Y} g old new (Err e)
+  pub list_io : {X Y : Type 0} {old new : D} {e : Error} → ReadsOnly g old new → ReportsFaults {X = X} g old new (Err e) → e ≡ Error.Io → ReadsOrCorrupt {X = Y} g old new (Err e)
   list_io read reported is = record { device = read; faults = reported_as reported; errors = inl is }
 
   -- a list was read and isn't right
-  pub list_corrupt : {X : Type 0} {old new : D} → ReadsOnly g old new → fault_count (g.history new) ≡ fault_count (g.history old) → OnlyReadsOrCorrupt {X = X} g old new (Err Error.Corrupt)
+  pub list_corrupt : {X : Type 0} {old new : D} → ReadsOnly g old new → fault_count (g.history new) ≡ fault_count (g.history old) → ReadsOrCorrupt {X = X} g old new (Err Error.Corrupt)
   list_corrupt read none = record { device = read; faults = reported_corrupt none; errors = inr refl }
 
   -- a list was read
-  pub list_ok : {X : Type 0} {old new : D} {x : X} → ReadsOnly g old new → fault_count (g.history new) ≡ fault_count (g.history old) → OnlyReadsOrCorrupt g old new (Ok x)
+  pub list_ok : {X : Type 0} {old new : D} {x : X} → ReadsOnly g old new → fault_count (g.history new) ≡ fault_count (g.history old) → ReadsOrCorrupt g old new (Ok x)
   list_ok read none = record { device = read; faults = record { fault = λ is. absurd (cc); no_fault = λ other. none }; errors = tt }

@@ -1,10 +1,6 @@
 -- The blocks of a list, from the head back.
 use Rattle.std.proofs.Common.{ℕ, zero, suc, ◌≡◌, ◌+◌, ◌*◌, ◌-◌, ◌<◌, ◌≤◌, ◌^◌, List, [], ◌∷◌, ◌++◌, length, slice_index, refl, sym, ap, ◌∙◌, arith, add-one, ⊎_elim}
-use Rattle.std.proofs.lemmas.Bool.{cases_lt}
-use Rattle.std.specs.Int.{w32, trailing_zeros}
-use Rattle.std.proofs.lemmas.List.{get_or_at, get_or_append_left}
-use Rattle.lfs_model.specs.format.Blocks.{Blocks, block_bytes}
-use Rattle.lfs_model.specs.format.SkipLists.{word_at, pointer_count, blocks_to_head, AreListBlocks}
+use Rattle.lfs_file.proofs.Common.{cases_lt, w32, trailing_zeros, get_or_at, get_or_append_left, Blocks, block_bytes, word_at, pointer_count, blocks_to_head, AreListBlocks}
 pub use Rattle.lfs_model.proofs.Files.{length_back}
 pub use Rattle.lfs_model.proofs.ListSizes.{head_of_back}
 

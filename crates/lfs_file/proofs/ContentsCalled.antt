@@ -1,18 +1,11 @@
 -- What calls of a device one behind the other say of its faults and of what they leave alone.
 use Rattle.std.proofs.Common.{ℕ, ◌≡◌, Bool, List, ◌∷◌, Result, Ok, Err, refl, sym, subst, ◌∙◌, arith}
-use Rattle.lfs_device.specs.DeviceCalls.{ChangesOnlyTheseBlocks, ReadsOnly, ReportsFaults, ReportsIoOrNoMemory}
+use Rattle.lfs_file.proofs.Common.{ChangesTheseBlocks, ReadsOnly, ReportsFaults, Blocks, BlockStates, call_event, fault_count, Read, LossLeavesAtWorst-read, HoldsAtLosses-read_count, OnlyReadsSince-trans, began, goes_on, GrowingList, unwritten_block, IsTakenWritten, HasBlocksTaken, KeepsTakenBytes, KeepsTakenBlocks, CallKeepsUsed, KeepsUsedBlocks, KeepsUsedBytes}
+use Rattle.lfs_device.specs.DeviceCalls.{ReportsIoNoMemory}
 use Rattle.lfs_device.specs.declared.device.BlockDevice.{Ghosts}
 use Rattle.lfs_device.specs.declared.error.Error.{Error}
-use Rattle.lfs_model.specs.format.Blocks.{Blocks}
-use Rattle.lfs_model.specs.layers.BlockSets.{BlockStates}
-use Rattle.lfs_model.specs.session.History.{call_event, fault_count}
-use Rattle.lfs_model.specs.session.History.DeviceCall.{Read}
-use Rattle.lfs_model.proofs.Histories.{LossLeavesAtWorst-read, HoldsAtLosses-read_count, OnlyReadsSince-trans, began, goes_on, is_unprogrammed_byte-read_count}
-use Rattle.lfs_file.specs.Growing.{GrowingList, unwritten_block}
-use Rattle.lfs_file.specs.BlocksApart.{IsTakenWritten, HasBlocksTaken, KeepsTakenBytes}
+use Rattle.lfs_model.proofs.Histories.{is_unprogrammed_byte-read_count}
 use Rattle.lfs_file.specs.Outcomes.{WritesUnusedBlocks}
-use Rattle.lfs_file.specs.ContentsCalls.{CallKeepsTakenBlocksExceptUnwritten, CallKeepsUsedBytes}
-use Rattle.lfs_file.specs.Hand.{KeepsUsedBlocks, KeepsUsedBytes}
 use Rattle.lfs_file.proofs.Growth.{Spares-refl, Spares-trans, TakenStayUnprogrammed-trans, stops_trans}
 use Rattle.lfs_file.proofs.Spared.{KeepsUsedBlocks-refl, KeepsUsedBlocks-trans, KeepsUsedBytes-refl, KeepsUsedBytes-trans, UsedStayUnprogrammed-trans, pages_end, spares_end, stops_end, to_used, to_used_pages, to_used_stops, used_stops_trans}
 
@@ -59,7 +52,7 @@ module _ {D : Type 0} (g : Ghosts D) where
 
   -- ---- blocks that stand apart
 
-  pub apart_reads : {old new : D} (map : BlockStates) (pending : List ℕ) → ReadsOnly g old new → CallKeepsTakenBlocksExceptUnwritten g map pending old new
+  pub apart_reads : {old new : D} (map : BlockStates) (pending : List ℕ) → ReadsOnly g old new → KeepsTakenBlocks g map pending old new
   apart_reads {old} {new} map pending only = record {
     spared = subst (KeepsTakenBytes map pending (g.blocks old)) (sym only.same) (Spares-refl map pending (g.blocks old));
     pages = record { stays = λ k i apart was. is_unprogrammed_byte-read_count k i only.reads ∙ was };
@@ -68,7 +61,7 @@ module _ {D : Type 0} (g : Ghosts D) where
   }
 
   -- the list's last block is written
-  pub apart_end : {old new : D} {pending : List ℕ} (map : BlockStates) → ChangesOnlyTheseBlocks g pending old new → CallKeepsTakenBlocksExceptUnwritten g map pending old new
+  pub apart_end : {old new : D} {pending : List ℕ} (map : BlockStates) → ChangesTheseBlocks g pending old new → KeepsTakenBlocks g map pending old new
   apart_end {old} {new} {pending} map changes = record {
     spared = spares_end map pending (g.blocks old) (g.blocks new) changes.others;
     pages = pages_end map pending (g.history old) (g.history new) changes.elsewhere;
@@ -76,8 +69,8 @@ module _ {D : Type 0} (g : Ghosts D) where
     at_worst = stops_end map pending (g.blocks old) (g.history old) (g.history new) changes.at_worst;
   }
 
-  pub apart_on : {map later : BlockStates} {pending then : List ℕ} {old mid new : D} → ((k : ℕ) → IsTakenWritten map pending k → IsTakenWritten later then k) → CallKeepsTakenBlocksExceptUnwritten g map pending old mid → CallKeepsTakenBlocksExceptUnwritten g later then mid new
-      → CallKeepsTakenBlocksExceptUnwritten g map pending old new
+  pub apart_on : {map later : BlockStates} {pending then : List ℕ} {old mid new : D} → ((k : ℕ) → IsTakenWritten map pending k → IsTakenWritten later then k) → KeepsTakenBlocks g map pending old mid → KeepsTakenBlocks g later then mid new
+      → KeepsTakenBlocks g map pending old new
   apart_on {map} {later} {pending} {then} {old} {mid} {new} apart first second = record {
     spared = Spares-trans map later pending then (g.blocks old) (g.blocks mid) (g.blocks new) apart first.spared second.spared;
     pages = TakenStayUnprogrammed-trans map later pending then (g.history old) (g.history mid) (g.history new) apart first.pages second.pages;
@@ -85,12 +78,12 @@ module _ {D : Type 0} (g : Ghosts D) where
     at_worst = stops_trans map later pending then (g.blocks old) (g.blocks mid) (g.history old) (g.history mid) (g.history new) apart first.at_worst first.spared second.at_worst;
   }
 
-  pub apart_read : {map : BlockStates} {pending : List ℕ} {old mid new : D} → CallKeepsTakenBlocksExceptUnwritten g map pending old mid → ReadsOnly g mid new → CallKeepsTakenBlocksExceptUnwritten g map pending old new
+  pub apart_read : {map : BlockStates} {pending : List ℕ} {old mid new : D} → KeepsTakenBlocks g map pending old mid → ReadsOnly g mid new → KeepsTakenBlocks g map pending old new
   apart_read {map} {pending} first only = apart_on (λ k apart. apart) first (apart_reads map pending only)
 
   -- ---- used blocks
 
-  pub used_reads : {old new : D} (map : BlockStates) → ReadsOnly g old new → CallKeepsUsedBytes g map old new
+  pub used_reads : {old new : D} (map : BlockStates) → ReadsOnly g old new → CallKeepsUsed g map old new
   used_reads {old} {new} map only = record {
     spared = subst (KeepsUsedBytes map (g.blocks old)) (sym only.same) (KeepsUsedBytes-refl map (g.blocks old));
     pages = record { stays = λ k i used was. is_unprogrammed_byte-read_count k i only.reads ∙ was };
@@ -98,7 +91,7 @@ module _ {D : Type 0} (g : Ghosts D) where
     at_worst = HoldsAtLosses-read_count LossLeavesAtWorst-read only.reads (KeepsUsedBytes-refl map (g.blocks old));
   }
 
-  pub used_on : {map later : BlockStates} {old mid new : D} → KeepsUsedBlocks map later → CallKeepsUsedBytes g map old mid → CallKeepsUsedBytes g later mid new → CallKeepsUsedBytes g map old new
+  pub used_on : {map later : BlockStates} {old mid new : D} → KeepsUsedBlocks map later → CallKeepsUsed g map old mid → CallKeepsUsed g later mid new → CallKeepsUsed g map old new
   used_on {map} {later} {old} {mid} {new} keeps first second = record {
     spared = KeepsUsedBytes-trans map later (g.blocks old) (g.blocks mid) (g.blocks new) keeps first.spared second.spared;
     pages = UsedStayUnprogrammed-trans map later (g.history old) (g.history mid) (g.history new) keeps first.pages second.pages;
@@ -106,11 +99,11 @@ module _ {D : Type 0} (g : Ghosts D) where
     at_worst = used_stops_trans map later (g.blocks old) (g.blocks mid) (g.history old) (g.history mid) (g.history new) keeps first.at_worst first.spared second.at_worst;
   }
 
-  pub used_read : {map : BlockStates} {old mid new : D} → CallKeepsUsedBytes g map old mid → ReadsOnly g mid new → CallKeepsUsedBytes g map old new
+  pub used_read : {map : BlockStates} {old mid new : D} → CallKeepsUsed g map old mid → ReadsOnly g mid new → CallKeepsUsed g map old new
   used_read {map} first only = used_on (record { count = refl; used = refl; stays = λ b used. used }) first (used_reads map only)
 
   -- used blocks stand apart
-  pub used_of : {map : BlockStates} {d : Blocks} {old new : D} (list : GrowingList) → HasBlocksTaken map d list → CallKeepsTakenBlocksExceptUnwritten g map (unwritten_block list) old new → CallKeepsUsedBytes g map old new
+  pub used_of : {map : BlockStates} {d : Blocks} {old new : D} (list : GrowingList) → HasBlocksTaken map d list → KeepsTakenBlocks g map (unwritten_block list) old new → CallKeepsUsed g map old new
   used_of {map} {d} {old} {new} list marked leaves = record {
     spared = to_used map d list marked (g.blocks old) (g.blocks new) leaves.spared;
     pages = to_used_pages map d list marked (g.history old) (g.history new) leaves.pages;
@@ -121,7 +114,7 @@ module _ {D : Type 0} (g : Ghosts D) where
   -- ---- maps and errors too
 
   -- a call succeeds without a fault
-  pub writes_well : {X : Type 0} {map later : BlockStates} {old new : D} {x : X} → KeepsUsedBlocks map later → CallKeepsUsedBytes g map old new → fault_count (g.history new) ≡ fault_count (g.history old) → WritesUnusedBlocks g map later old new (Ok x)
+  pub writes_well : {X : Type 0} {map later : BlockStates} {old new : D} {x : X} → KeepsUsedBlocks map later → CallKeepsUsed g map old new → fault_count (g.history new) ≡ fault_count (g.history old) → WritesUnusedBlocks g map later old new (Ok x)
   writes_well keeps device none = record {
     map = keeps;
     device = device;
@@ -129,7 +122,7 @@ module _ {D : Type 0} (g : Ghosts D) where
   }
 
   -- and one behind it fails
-  pub writes_fail : {X Y Z : Type 0} {map between later : BlockStates} {old mid new : D} {x : X} {e : Error} → WritesUnusedBlocks g map between old mid (Ok x) → KeepsUsedBlocks between later → CallKeepsUsedBytes g between mid new → ReportsIoOrNoMemory {X = Y} g mid new (Err e)
+  pub writes_fail : {X Y Z : Type 0} {map between later : BlockStates} {old mid new : D} {x : X} {e : Error} → WritesUnusedBlocks g map between old mid (Ok x) → KeepsUsedBlocks between later → CallKeepsUsed g between mid new → ReportsIoNoMemory {X = Y} g mid new (Err e)
       → WritesUnusedBlocks {X = Z} g map later old new (Err e)
   writes_fail first keeps device reports = record {
     map = KeepsUsedBlocks-trans first.map keeps;
@@ -138,7 +131,7 @@ module _ {D : Type 0} (g : Ghosts D) where
   }
 
   -- or succeeds
-  pub writes_on : {X Y Z : Type 0} {map between later : BlockStates} {old mid new : D} {x : X} {y : Y} {z : Z} → WritesUnusedBlocks g map between old mid (Ok x) → KeepsUsedBlocks between later → CallKeepsUsedBytes g between mid new → ReportsIoOrNoMemory g mid new (Ok y) → WritesUnusedBlocks g map later old new (Ok z)
+  pub writes_on : {X Y Z : Type 0} {map between later : BlockStates} {old mid new : D} {x : X} {y : Y} {z : Z} → WritesUnusedBlocks g map between old mid (Ok x) → KeepsUsedBlocks between later → CallKeepsUsed g between mid new → ReportsIoNoMemory g mid new (Ok y) → WritesUnusedBlocks g map later old new (Ok z)
   writes_on first keeps device reports = writes_well (KeepsUsedBlocks-trans first.map keeps) (used_on first.map first.device device) (quiet reports.faults ∙ quiet first.reports.faults)
 
   -- the same of a call with another result
@@ -153,5 +146,5 @@ module _ {D : Type 0} (g : Ghosts D) where
   writes_none map d = writes_well (KeepsUsedBlocks-refl map) (used_reads map (not_read d)) refl
 
   -- a call that only reads
-  pub writes_of_reads : {X : Type 0} {map later : BlockStates} {old new : D} {result : Result X Error} → KeepsUsedBlocks map later → ReadsOnly g old new → ReportsIoOrNoMemory g old new result → WritesUnusedBlocks g map later old new result
+  pub writes_of_reads : {X : Type 0} {map later : BlockStates} {old new : D} {result : Result X Error} → KeepsUsedBlocks map later → ReadsOnly g old new → ReportsIoNoMemory g old new result → WritesUnusedBlocks g map later old new result
   writes_of_reads {map = map} keeps only reports = record { map = keeps; device = used_reads map only; reports = reports }

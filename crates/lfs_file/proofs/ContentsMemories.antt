@@ -1,33 +1,22 @@
 -- Contents in memory that are written, also where they move to a list.
 use Rattle.std.proofs.Common.{ℕ, ◌≢◌, ap₂, refl, subst, inl, ◌≡◌, ◌+◌, ◌-◌, ◌≤◌, ⊎_elim, Bool, true, false, [], if◌then◌else◌, List, ◌++◌, length, take, drop, max, min, replicate, sym, ap, ◌∙◌, arith, length-append, append_assoc}
-use Rattle.std.proofs.lemmas.Bool.{cases_lt}
-use Rattle.std.proofs.lemmas.List.{append-nil, take_all, drop_all, length-replicate, length-take-le, replicate-append-replicate, take_at, take-append-le, take-take}
+use Rattle.lfs_file.proofs.Common.{cases_lt, append-nil, take_all, drop_all, length-replicate, length-take-le, replicate-append-replicate, take_at, take-append-le, take-take, written_contents, zero_padded, take-add, Blocks, BlockStates, IsFree, IsInFlight, AreListBlocks, IsSkipList, blocks_to_head, block_count_for, bytes_before_block, list_bytes, GrowingList, IsOnDisk, IsAllBuffered, IsRestAt, growing_bytes, lacks_last_block, blocks_data, kept_blocks, unwritten_rest_block, unwritten_block, growing_size_with, growing_size, IsListOrEmpty, blocks_of_list, buffered_bytes, IsUnfinishedTo, in_flight_limit, block_count_for-more}
 use Rattle.lfs_model.specs.format.Blocks.{overwritten_at as in_block}
-use Rattle.lfs_model.specs.session.Writers.{written_contents, padded_with_zeros}
 use Rattle.lfs_device.specs.declared.geometry.Geometry.{Geometry}
-use Rattle.std.proofs.Math.Seq.{take-add}
 use Rattle.std.specs.Prelude.{All, Contains, slice_range}
-use Rattle.lfs_model.specs.format.Blocks.{Blocks}
-use Rattle.lfs_model.specs.layers.BlockSets.{BlockStates, IsFree, IsInFlight}
-use Rattle.lfs_model.specs.format.SkipLists.{AreListBlocks, IsSkipList, blocks_to_head, block_count_for, bytes_before_block, list_bytes}
-use Rattle.lfs_file.specs.Growing.{GrowingList, IsOnDisk, IsAllBuffered, LastBytesAreAt, growing_bytes, lacks_last_block, blocks_data, kept_blocks, unwritten_after_full, unwritten_block, growing_size_with, growing_size}
 use Rattle.lfs_file.specs.declared.rest.RestLocation.{RestLocation}
 use Rattle.lfs_file.specs.declared.rest.RestLocation.TheVariants.{Closed, Shared, Handed, Held}
-use Rattle.lfs_file.specs.Bases.{IsListOrEmpty, list_blocks_from}
-use Rattle.lfs_file.specs.Contents.{IsInMemory, buffered_bytes}
+use Rattle.lfs_file.specs.Contents.{IsInMemory}
 use Rattle.lfs_file.proofs.Copies.{base_list, none_behind}
-use Rattle.lfs_file.specs.HandWrites.{IsUnfinishedTo}
 use Rattle.lfs_file.proofs.Ends.{none_chain}
-use Rattle.lfs_file.specs.BaseRoom.{in_flight_limit}
 use Rattle.lfs_file.specs.declared.stored_list.StoredList.{StoredList}
-use Rattle.lfs_model.proofs.ListSizes.{block_count_for-more}
 use Rattle.lfs_file.proofs.Flights.{zeros_not, as_block, at_end}
 
-long_zeros : (n : ℕ) (old : List ℕ) → length (padded_with_zeros n old) ≡ max n (length old)
+long_zeros : (n : ℕ) (old : List ℕ) → length (zero_padded n old) ≡ max n (length old)
 long_zeros n old = omega (arith, length-append old (replicate (n - length old) 0), length-replicate {A = ℕ} (n - length old) 0)
 
 -- more zeros behind a place
-front_zeros : (at size : ℕ) (old : List ℕ) → at ≤ size → take at (padded_with_zeros size old) ≡ take at (padded_with_zeros at old)
+front_zeros : (at size : ℕ) (old : List ℕ) → at ≤ size → take at (zero_padded size old) ≡ take at (zero_padded at old)
 front_zeros at size old le = ⊎_elim
     (λ less.
     take-append-le at old (replicate (size - length old) 0) (omega arith) ∙ sym (ap (take at) (zeros_not old at (omega arith))))
@@ -35,22 +24,22 @@ front_zeros at size old le = ⊎_elim
     let gap : ℕ = at - length old in
     let more : ℕ = size - at in
     let sum : size - length old ≡ gap + more = omega arith in
-    let split : padded_with_zeros size old ≡ padded_with_zeros at old ++ replicate more 0 =
+    let split : zero_padded size old ≡ zero_padded at old ++ replicate more 0 =
     ap (λ n. old ++ replicate n 0) sum ∙ ap (λ (l : List ℕ). old ++ l) (sym (replicate-append-replicate gap more 0)) ∙ sym (append_assoc old (replicate gap 0) (replicate more 0)) in
-    ap (take at) split ∙ take_at (padded_with_zeros at old) (replicate more 0) at (omega (arith, long_zeros at old))
-    ∙ sym (take_all at (padded_with_zeros at old) (omega (arith, long_zeros at old))))
+    ap (take at) split ∙ take_at (zero_padded at old) (replicate more 0) at (omega (arith, long_zeros at old))
+    ∙ sym (take_all at (zero_padded at old) (omega (arith, long_zeros at old))))
     (cases_lt at (length old))
 
 -- bytes over contents that were filled up to hold them
-pub filled : (old now new bytes : List ℕ) (at size : ℕ) → size ≡ max (length old) (at + length bytes) → now ≡ take size (padded_with_zeros size old) → new ≡ in_block now at bytes → new ≡ written_contents old at bytes
+pub filled : (old now new bytes : List ℕ) (at size : ℕ) → size ≡ max (length old) (at + length bytes) → now ≡ take size (zero_padded size old) → new ≡ in_block now at bytes → new ≡ written_contents old at bytes
 filled old now new bytes at size is grown wrote =
-    let all : List ℕ = padded_with_zeros size old in
+    let all : List ℕ = zero_padded size old in
     let whole : now ≡ all = grown ∙ take_all size all (omega (arith, long_zeros size old)) in
     wrote ∙ ap (λ (l : List ℕ). in_block l at bytes) whole ∙ ⊎_elim
     (λ past.
     let front = front_zeros at size old (omega arith) in
     ap (λ (l : List ℕ). l ++ bytes ++ drop (at + length bytes) all) front
-    ∙ ap (λ (l : List ℕ). take at (padded_with_zeros at old) ++ bytes ++ l) (drop_all (at + length bytes) all (omega (arith, long_zeros size old)) ∙ sym (drop_all (at + length bytes) old (omega arith))))
+    ∙ ap (λ (l : List ℕ). take at (zero_padded at old) ++ bytes ++ l) (drop_all (at + length bytes) all (omega (arith, long_zeros size old)) ∙ sym (drop_all (at + length bytes) old (omega arith))))
     (λ within.
     ap (λ (l : List ℕ). in_block l at bytes) (zeros_not old size (omega arith)) ∙ sym (as_block old at bytes (omega arith)))
     (cases_lt (length old) (at + length bytes))
@@ -79,16 +68,16 @@ no_base_fits geometry now s used was all was_all size most same none le is count
     omega arith
 
 -- zeros behind the end
-pub lengthened : (old zeroed new : List ℕ) (len at size : ℕ) → length old ≡ len → len ≤ size → zeroed ≡ old → at ≡ len → new ≡ written_contents zeroed at (replicate (size - len) 0) → new ≡ take size (padded_with_zeros size old)
+pub lengthened : (old zeroed new : List ℕ) (len at size : ℕ) → length old ≡ len → len ≤ size → zeroed ≡ old → at ≡ len → new ≡ written_contents zeroed at (replicate (size - len) 0) → new ≡ take size (zero_padded size old)
 lengthened old zeroed new len at size is le same here wrote =
     let gap : List ℕ = replicate (size - len) 0 in
-    let end : List ℕ = padded_with_zeros size old in
+    let end : List ℕ = zero_padded size old in
     let sum : len ≡ length old = sym is in
     wrote ∙ ap (λ (l : List ℕ). written_contents l at gap) same ∙ ap (λ n. written_contents old n gap) here ∙ at_end old gap len (omega arith) ∙ ap (λ (l : List ℕ). l ++ gap) (zeros_not old len (omega arith))
     ∙ ap (λ n. old ++ replicate (size - n) 0) sum ∙ sym (take_all size end (omega (arith, long_zeros size old)))
 
 -- the first bytes, where there are as many
-pub shortened_bytes : (old : List ℕ) (size : ℕ) → size ≤ length old → take size old ≡ take size (padded_with_zeros size old)
+pub shortened_bytes : (old : List ℕ) (size : ℕ) → size ≤ length old → take size old ≡ take size (zero_padded size old)
 shortened_bytes old size le = sym (ap (take size) (zeros_not old size le))
 
 -- bytes that stand in memory alone are as many as the list has
@@ -111,13 +100,13 @@ bytes_on d e geometry now head size same is = ap (λ x. list_bytes x now.block_s
 
 -- ---- bytes in memory as the beginning of a list
 
-never : (t : RestLocation) → (full : ℕ) → lacks_last_block t ≡ true → full ≡ 0 → (disk : Blocks) (head : ℕ) (rest : List ℕ) → LastBytesAreAt disk full head rest t
+never : (t : RestLocation) → (full : ℕ) → lacks_last_block t ≡ true → full ≡ 0 → (disk : Blocks) (head : ℕ) (rest : List ℕ) → IsRestAt disk full head rest t
 never Closed full held none disk head rest = absurd (cc)
 never (Shared b) full held none disk head rest = absurd (cc)
 never (Handed b) full held none disk head rest = absurd (cc)
 never Held full held none disk head rest = none
 
-pending_held : (t : RestLocation) → lacks_last_block t ≡ true → unwritten_after_full t ≡ []
+pending_held : (t : RestLocation) → lacks_last_block t ≡ true → unwritten_rest_block t ≡ []
 pending_held Closed held = absurd (cc)
 pending_held (Shared b) held = absurd (cc)
 pending_held (Handed b) held = absurd (cc)
@@ -165,7 +154,7 @@ begins_none map d now e quiet =
           apart = λ k x l. absurd (omega (arith, l));
           few = omega arith;
           front = refl;
-          behind = subst (All (λ b. All (λ c. c ≢ b) (list_blocks_from d block_size 0 0))) (sym none) (λ k x l. absurd (omega (arith, l)));
+          behind = subst (All (λ b. All (λ c. c ≢ b) (blocks_of_list d block_size 0 0))) (sym none) (λ k x l. absurd (omega (arith, l)));
           taken = λ b has used. absurd (omega (arith, (subst (λ (l : List ℕ). Contains l b) none has).1));
           flying = λ b is. absurd (quiet.idle.none b is);
         };

@@ -1,36 +1,28 @@
 -- A finished list that is cut.
 use Rattle.std.proofs.Common.{ℕ, ◌≡◌, ◌≢◌, inl, inr, ⊎_elim, get_or, List, [], take, drop, sym, ◌∙◌, subst, arith, length-drop}
 use Rattle.std.specs.Prelude.{All, Contains}
-use Rattle.std.proofs.lemmas.List.{take-take, length-take}
-use Rattle.std.proofs.lemmas.List.Elements.{All-contains, All-contains_itself, All-take}
-use Rattle.lfs_model.specs.format.Blocks.{Blocks, SameExceptThese}
-use Rattle.lfs_model.specs.layers.BlockSets.{BlockStates, IsFree, IsInFlight}
-use Rattle.lfs_model.specs.format.SkipLists.{IsSkipList}
-use Rattle.lfs_file.specs.BlocksApart.{IsTakenWritten}
-use Rattle.lfs_file.specs.Bases.{IsListOrEmpty, list_blocks_from}
-use Rattle.lfs_file.specs.Hand.{FinishedListOnDisk}
-use Rattle.lfs_file.specs.Releases.{ReleasesInFlight}
+use Rattle.lfs_file.proofs.Common.{take-take, length-take, All-contains, All-contains_itself, All-take, Blocks, SameExceptThese, BlockStates, IsFree, IsInFlight, IsSkipList, IsTakenWritten, IsListOrEmpty, blocks_of_list, IsFinishedList, ReleasesInFlight}
 use Rattle.lfs_file.specs.declared.stored_list.StoredList.{StoredList}
 use Rattle.lfs_file.proofs.Bases.{blocks_stay, list_stays}
 use Rattle.lfs_file.proofs.Ends.{base_distinct, gone_of, still_apart, still_flying}
 use Rattle.lfs_file.proofs.Spared.{spares_end}
 use Rattle.lfs_file.proofs.Takings.{member}
 
-module _ (map : BlockStates) (d f : Blocks) (block_size : ℕ) (stored : StoredList) (pending : List ℕ) (is : FinishedListOnDisk map d block_size stored) (none : pending ≡ []) (same : SameExceptThese pending d f) where
+module _ (map : BlockStates) (d f : Blocks) (block_size : ℕ) (stored : StoredList) (pending : List ℕ) (is : IsFinishedList map d block_size stored) (none : pending ≡ []) (same : SameExceptThese pending d f) where
   abbrev bb : List ℕ
-  bb = list_blocks_from d block_size stored.head stored.size
+  bb = blocks_of_list d block_size stored.head stored.size
 
-  apart : All (IsTakenWritten map pending) (list_blocks_from d block_size stored.head stored.size)
-  apart k x l = (is.marked k x l, subst (All (λ p. p ≢ get_or (list_blocks_from d block_size stored.head stored.size) k x)) (sym none) (λ i y m. absurd (omega (arith, m))))
+  apart : All (IsTakenWritten map pending) (blocks_of_list d block_size stored.head stored.size)
+  apart k x l = (is.marked k x l, subst (All (λ p. p ≢ get_or (blocks_of_list d block_size stored.head stored.size) k x)) (sym none) (λ i y m. absurd (omega (arith, m))))
 
-  stay : list_blocks_from f block_size stored.head stored.size ≡ list_blocks_from d block_size stored.head stored.size
+  stay : blocks_of_list f block_size stored.head stored.size ≡ blocks_of_list d block_size stored.head stored.size
   stay = blocks_stay map pending d f block_size stored.head stored.size (spares_end map pending d f same) apart
 
   pub base_stays : IsListOrEmpty f block_size stored.head stored.size
   base_stays = ⊎_elim (λ zero. inl zero) (λ list. inr (list_stays map pending d f block_size stored.head stored.size (spares_end map pending d f same) apart list)) is.base
 
-  pub cuts : (later : BlockStates) (n head keep : ℕ) → IsSkipList f block_size head keep → list_blocks_from f block_size head keep ≡ take n bb → ReleasesInFlight map later (gone_of stored.in_flight n (list_blocks_from f block_size stored.head stored.size))
-      → FinishedListOnDisk later f block_size (record { head = head; size = keep; in_flight = stored.in_flight })
+  pub cuts : (later : BlockStates) (n head keep : ℕ) → IsSkipList f block_size head keep → blocks_of_list f block_size head keep ≡ take n bb → ReleasesInFlight map later (gone_of stored.in_flight n (blocks_of_list f block_size stored.head stored.size))
+      → IsFinishedList later f block_size (record { head = head; size = keep; in_flight = stored.in_flight })
   cuts later n head keep list blocks released =
       let out : ReleasesInFlight map later (gone_of stored.in_flight n bb) = subst (λ (l : List ℕ). ReleasesInFlight map later (gone_of stored.in_flight n l)) stay released in
       let front : take n (take n bb) ≡ take n bb = take-take n n bb (omega arith) in

@@ -2,18 +2,9 @@
 use Rattle.std.proofs.Common.{ℕ, ◌≡◌, ◌≢◌, ◌⊎◌, inl, inr, ⊎_elim, Bool, true, false, if◌then◌else◌, nat_eq, get_or, List, [], take, drop, Some, refl, sym, ap, ◌∙◌, subst, arith}
 use Rattle.std.specs.Prelude.{All, Contains}
 use Rattle.std.specs.List.{IsDistinct}
-use Rattle.std.proofs.lemmas.List.{take-append-drop}
-use Rattle.std.proofs.lemmas.List.Elements.{All-contains, All-contains_itself, All-drop, Contains-append_cases}
+use Rattle.lfs_file.proofs.Common.{take-append-drop, All-contains, All-contains_itself, Contains-append_cases, Blocks, SameExceptThese, BlockStates, IsFree, IsInFlight, Free, Used, block_count_for, AreListBlocks, IsSkipList, GrowingList, growing_blocks, kept_blocks, unwritten_block, IsListOrEmpty, blocks_of_list, CanEndOver, IsFinishedList, KeepsUsedBlocks, ReleasesInFlight, ChangesOnlyFree}
+use Rattle.std.proofs.lemmas.List.Elements.{All-drop}
 use Rattle.lfs_device.specs.declared.geometry.Geometry.{Geometry}
-use Rattle.lfs_model.specs.format.Blocks.{Blocks, SameExceptThese}
-use Rattle.lfs_model.specs.layers.BlockSets.{BlockStates, IsFree, IsInFlight}
-use Rattle.lfs_model.specs.layers.BlockSets.BlockState.{Free, Used}
-use Rattle.lfs_model.specs.format.SkipLists.{block_count_for, AreListBlocks, IsSkipList}
-use Rattle.lfs_file.specs.Growing.{GrowingList, growing_blocks, kept_blocks, unwritten_block}
-use Rattle.lfs_file.specs.Bases.{IsListOrEmpty, list_blocks_from}
-use Rattle.lfs_file.specs.Hand.{CanEndOver, FinishedListOnDisk, KeepsUsedBlocks}
-use Rattle.lfs_file.specs.Releases.{ReleasesInFlight}
-use Rattle.lfs_file.specs.TakenBlocks.{ChangesOnlyFree}
 use Rattle.lfs_file.specs.declared.stored_list.StoredList.{StoredList}
 use Rattle.lfs_file.proofs.Bases.{blocks_stay, list_stays}
 use Rattle.lfs_file.proofs.Hands.{Contains-drop, Contains-take, distinct_parts}
@@ -28,8 +19,8 @@ pub none_distinct : IsDistinct nat_eq []
 unfolding IsDistinct
 none_distinct = tt
 
-pub base_distinct : (d : Blocks) (block_size head size : ℕ) → IsListOrEmpty d block_size head size → IsDistinct nat_eq (list_blocks_from d block_size head size)
-base_distinct d block_size head size (inl none) = subst (λ n. IsDistinct nat_eq (list_blocks_from d block_size head n)) (sym none) none_distinct
+pub base_distinct : (d : Blocks) (block_size head size : ℕ) → IsListOrEmpty d block_size head size → IsDistinct nat_eq (blocks_of_list d block_size head size)
+base_distinct d block_size head size (inl none) = subst (λ n. IsDistinct nat_eq (blocks_of_list d block_size head n)) (sym none) none_distinct
 base_distinct d block_size head size (inr list) = list.blocks.distinct
 
 -- a new list's blocks stay in flight
@@ -55,42 +46,42 @@ still_flying map later shared kept bb b in_flight front released was is = ⊎_el
     (member (gone_of in_flight shared bb) b)
 
 module _ (map later : BlockStates) (e f : Blocks) (block_size : ℕ) (h : GrowingList) (base : StoredList) (shared head size : ℕ) (hand : CanEndOver map e block_size h base shared) (others : SameExceptThese (unwritten_block h) e f)
-    (list : IsSkipList f block_size head size) (blocks : list_blocks_from f block_size head size ≡ growing_blocks e h) (released : ReleasesInFlight map later (gone_of base.in_flight shared (list_blocks_from f block_size base.head base.size))) where
+    (list : IsSkipList f block_size head size) (blocks : blocks_of_list f block_size head size ≡ growing_blocks e h) (released : ReleasesInFlight map later (gone_of base.in_flight shared (blocks_of_list f block_size base.head base.size))) where
   bb : List ℕ
-  bb = list_blocks_from e block_size base.head base.size
+  bb = blocks_of_list e block_size base.head base.size
 
-  stay : list_blocks_from f block_size base.head base.size ≡ list_blocks_from e block_size base.head base.size
+  stay : blocks_of_list f block_size base.head base.size ≡ blocks_of_list e block_size base.head base.size
   stay = blocks_stay map (unwritten_block h) e f block_size base.head base.size (spares_end map (unwritten_block h) e f others) hand.begun.apart
 
-  out : ReleasesInFlight map later (gone_of base.in_flight shared (list_blocks_from e block_size base.head base.size))
+  out : ReleasesInFlight map later (gone_of base.in_flight shared (blocks_of_list e block_size base.head base.size))
   out = subst (λ (l : List ℕ). ReleasesInFlight map later (gone_of base.in_flight shared l)) stay released
 
-  kept_is : list_blocks_from f block_size head size ≡ kept_blocks e h
+  kept_is : blocks_of_list f block_size head size ≡ kept_blocks e h
   kept_is = blocks ∙ hand.own
 
-  pub ends : FinishedListOnDisk later f block_size (record { head = head; size = size; in_flight = true })
+  pub ends : IsFinishedList later f block_size (record { head = head; size = size; in_flight = true })
   ends = record {
     base = inr list;
     count = released.count ∙ hand.begun.marked.count ∙ sym others.count;
     marked = subst (All (λ b. ¬ (IsFree later b))) (sym kept_is) (λ k x l free.
-        hand.begun.marked.kept k x l (sym (out.others (get_or (kept_blocks e h) k x) (still_apart shared (kept_blocks e h) (list_blocks_from e block_size base.head base.size) (get_or (kept_blocks e h) k x) base.in_flight
+        hand.begun.marked.kept k x l (sym (out.others (get_or (kept_blocks e h) k x) (still_apart shared (kept_blocks e h) (blocks_of_list e block_size base.head base.size) (get_or (kept_blocks e h) k x) base.in_flight
         (base_distinct e block_size base.head base.size hand.begun.list) hand.begun.front hand.begun.behind (All-contains_itself (kept_blocks e h) k x l))) ∙ free));
     flying = λ b is. (
       refl,
       subst (λ (l : List ℕ). Contains l b) (sym kept_is)
-          (still_flying map later shared (kept_blocks e h) (list_blocks_from e block_size base.head base.size) b base.in_flight hand.begun.front out (hand.begun.flying b) is),
+          (still_flying map later shared (kept_blocks e h) (blocks_of_list e block_size base.head base.size) b base.in_flight hand.begun.front out (hand.begun.flying b) is),
     );
   }
 
 -- under other names of the geometry
 pub ends_by : (map later : BlockStates) (e f : Blocks) (geometry now device : Geometry) (h : GrowingList) (base : StoredList) (shared head size : ℕ) → now ≡ geometry → device ≡ geometry → CanEndOver map e geometry.block_size h base shared
-    → SameExceptThese (unwritten_block h) e f → IsSkipList f now.block_size head size → list_blocks_from f now.block_size head size ≡ growing_blocks e h
-    → ReleasesInFlight map later (gone_of base.in_flight shared (list_blocks_from f device.block_size base.head base.size)) → FinishedListOnDisk later f geometry.block_size (record { head = head; size = size; in_flight = true })
+    → SameExceptThese (unwritten_block h) e f → IsSkipList f now.block_size head size → blocks_of_list f now.block_size head size ≡ growing_blocks e h
+    → ReleasesInFlight map later (gone_of base.in_flight shared (blocks_of_list f device.block_size base.head base.size)) → IsFinishedList later f geometry.block_size (record { head = head; size = size; in_flight = true })
 ends_by map later e f geometry now device h base shared head size same also hand others list blocks released =
     ends map later e f geometry.block_size h base shared head size hand others
     (subst (λ (k : Geometry). IsSkipList f k.block_size head size) same list)
-    (subst (λ (k : Geometry). list_blocks_from f k.block_size head size ≡ growing_blocks e h) same blocks)
-    (subst (λ (k : Geometry). ReleasesInFlight map later (gone_of base.in_flight shared (list_blocks_from f k.block_size base.head base.size))) also released)
+    (subst (λ (k : Geometry). blocks_of_list f k.block_size head size ≡ growing_blocks e h) same blocks)
+    (subst (λ (k : Geometry). ReleasesInFlight map later (gone_of base.in_flight shared (blocks_of_list f k.block_size base.head base.size))) also released)
 
 -- the same blocks are used
 pub used_kept : (a b c : BlockStates) (bs : List ℕ) → ChangesOnlyFree a b → ReleasesInFlight b c bs → KeepsUsedBlocks a c

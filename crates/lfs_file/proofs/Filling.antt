@@ -2,13 +2,8 @@
 use Rattle.std.proofs.Common.{ℕ, zero, suc, get_or, subst, ◌^◌, ◌≡◌, ◌≢◌, ◌+◌, ◌*◌, ◌-◌, ◌<◌, ◌≤◌, List, [], ◌∷◌, ◌++◌, length, take, drop, refl, sym, ap, ◌∙◌, arith, append_assoc, length-append, length-drop}
 use Rattle.std.specs.Prelude.{All}
 use Rattle.std.specs.List.{IsDistinct}
-use Rattle.std.proofs.lemmas.List.{append-nil, take_at, take_all, take-take, drop-append-le, drop-take, length-take-le}
-use Rattle.std.proofs.Math.Seq.{take-append-add}
-use Rattle.lfs_model.specs.format.Blocks.{Blocks, HasBlockSizes, SameExcept, block_bytes, overwritten_at}
-use Rattle.lfs_model.specs.format.SkipLists.{pointer_count, block_capacity, bytes_before_block, blocks_to_head, block_count_for, AreListBlocks, block_data}
-use Rattle.lfs_model.proofs.Files.{data_same}
-use Rattle.lfs_file.specs.Finished.{IsListOf}
-use Rattle.lfs_file.specs.Growing.{blocks_data, LastBytesUnwritten, LastBytesShared}
+use Rattle.lfs_file.proofs.Common.{append-nil, take_at, take_all, take-take, drop-append-le, drop-take, length-take-le, take-append-add, Blocks, HasBlockSizes, SameExcept, block_bytes, overwritten_at, pointer_count, block_capacity, bytes_before_block, blocks_to_head, block_count_for, AreListBlocks, block_data, data_same, IsListOf, blocks_data, IsRestShared}
+use Rattle.lfs_file.specs.Growing.{IsRestUnwritten}
 use Rattle.lfs_file.proofs.Chains.{length_back}
 use Rattle.lfs_file.proofs.Grown.{same_apart}
 use Rattle.lfs_file.proofs.Joined.{joined-append, length-joined}
@@ -123,14 +118,14 @@ closed_end d block_size count full head size rest large shape chain none low hig
       blocks = end.blocks ∙ sym (append-nil (blocks_to_head d full head));
     }
 
-pub shared_end : (d : Blocks) (block_size count full head block size : ℕ) (rest : List ℕ) → 1024 ≤ block_size → HasBlockSizes block_size count d → AreListBlocks d full head → LastBytesShared d full head rest block
+pub shared_end : (d : Blocks) (block_size count full head block size : ℕ) (rest : List ℕ) → 1024 ≤ block_size → HasBlockSizes block_size count d → AreListBlocks d full head → IsRestShared d full head rest block
     → length rest ≤ block_capacity block_size full → size < 2 ^ 31 → size ≡ bytes_before_block block_size full + length rest
     → IsListOf d block_size block size (blocks_data d (blocks_to_head d full head) ++ rest) (blocks_to_head d full head ++ block ∷ [])
 shared_end d block_size count full head block size rest large shape chain shared short high is =
     let end = end_open d d block_size count full head block size rest large shape chain shared.chain (joined_back d full head block shared.back) shared.begins shared.some short high is in
     record { list = end.list; bytes = end.bytes; blocks = end.blocks ∙ shared.back }
 
-pub handed_end : (d e : Blocks) (block_size count full head block size : ℕ) (rest : List ℕ) → 1024 ≤ block_size → HasBlockSizes block_size count d → AreListBlocks d full head → LastBytesUnwritten d full head rest block
+pub handed_end : (d e : Blocks) (block_size count full head block size : ℕ) (rest : List ℕ) → 1024 ≤ block_size → HasBlockSizes block_size count d → AreListBlocks d full head → IsRestUnwritten d full head rest block
     → AreListBlocks e (full + 1) block → blocks_to_head e (full + 1) block ≡ blocks_to_head d full head ++ block ∷ [] → SameExcept block d e → take (length rest) (block_data e (full, block)) ≡ rest
     → length rest ≤ block_capacity block_size full → size < 2 ^ 31 → size ≡ bytes_before_block block_size full + length rest
     → IsListOf e block_size block size (blocks_data d (blocks_to_head d full head) ++ rest) (blocks_to_head d full head ++ block ∷ [])

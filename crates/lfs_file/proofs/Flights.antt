@@ -1,26 +1,14 @@
 -- How many blocks are in flight, and what a write makes of the contents.
 use Rattle.std.proofs.Common.{ℕ, ◌≡◌, ◌≢◌, ◌+◌, ◌*◌, ◌-◌, ◌≤◌, inl, inr, ⊎_elim, Bool, true, false, if◌then◌else◌, List, [], ◌++◌, length, take, drop, max, min, replicate, refl, sym, ap, ◌∙◌, subst, arith, length-append, length-drop}
 use Rattle.std.specs.Prelude.{Contains}
-use Rattle.std.proofs.Math.Seq.{drop-append-add}
-use Rattle.std.proofs.lemmas.Bool.{cases_eq, cases_lt}
-use Rattle.std.proofs.lemmas.List.Elements.{Contains-append_left, Contains-append_right}
-use Rattle.std.proofs.lemmas.List.{append-nil, take_all, drop_all, length-replicate, length-take, length-take-le, replicate-append-replicate, take_at, drop-drop}
-use Rattle.lfs_model.specs.format.Blocks.{Blocks, HasBlockSizes}
+use Rattle.lfs_file.proofs.Common.{drop-append-add, cases_eq, cases_lt, Contains-append_left, Contains-append_right, append-nil, take_all, drop_all, length-replicate, length-take, length-take-le, replicate-append-replicate, take_at, drop-drop, Blocks, HasBlockSizes, BlockStates, in_flight_count, written_contents, zero_padded, blocks_to_head, block_count_for, list_bytes, GrowingList, IsOnDisk, growing_bytes, blocks_data, kept_blocks, unwritten_block, growing_size_with, KeepsTakenBytes, IsListOrEmpty, blocks_of_list, SharesFirstBlocks, IsFinishedList, stored_list_bytes, in_flight_limit, length_back, block_count_for-more}
 use Rattle.lfs_model.specs.format.Blocks.{overwritten_at as in_block}
 use Rattle.lfs_model.proofs.Overwrites.{overwritten_next, overwritten_none}
-use Rattle.lfs_model.specs.layers.BlockSets.{BlockStates, in_flight_count}
-use Rattle.lfs_model.specs.session.Writers.{written_contents, padded_with_zeros}
 use Rattle.lfs_device.specs.declared.geometry.Geometry.{Geometry}
-use Rattle.lfs_model.specs.format.SkipLists.{blocks_to_head, block_count_for, list_bytes}
-use Rattle.lfs_file.specs.Growing.{GrowingList, IsOnDisk, growing_bytes, blocks_data, kept_blocks, unwritten_block, growing_size_with}
-use Rattle.lfs_file.specs.BlocksApart.{KeepsTakenBytes}
-use Rattle.lfs_file.specs.Bases.{IsListOrEmpty, list_blocks_from}
-use Rattle.lfs_file.specs.Hand.{SharesFirstBlocks, FinishedListOnDisk, bytes_over_base, stored_list_bytes}
-use Rattle.lfs_file.specs.BaseRoom.{in_flight_limit}
+use Rattle.lfs_file.specs.Hand.{bytes_over_base}
 use Rattle.lfs_file.specs.declared.stored_list.StoredList.{StoredList}
 use Rattle.lfs_model.proofs.BlockCounts.{few_flying}
-use Rattle.lfs_model.proofs.Files.{length_back}
-use Rattle.lfs_model.proofs.ListSizes.{block_count_for-more, length-back_data, length-list_bytes}
+use Rattle.lfs_model.proofs.ListSizes.{length-back_data, length-list_bytes}
 use Rattle.lfs_file.proofs.Bases.{bytes_stay}
 
 -- ---- contents
@@ -39,8 +27,8 @@ pub written_on : (content base bytes : List ℕ) (end : ℕ) → length content 
 written_on content base bytes end is =
     let old : List ℕ = content ++ drop end base in
     let long : end ≤ length old = omega (arith, length-append content (drop end base)) in
-    let zeros : padded_with_zeros end old ≡ old = ap (λ n. old ++ replicate n 0) (let z : end - length old ≡ 0 = omega arith in z) ∙ append-nil old in
-    let front : take end (padded_with_zeros end old) ≡ content = ap (take end) zeros ∙ take_at content (drop end base) end is in
+    let zeros : zero_padded end old ≡ old = ap (λ n. old ++ replicate n 0) (let z : end - length old ≡ 0 = omega arith in z) ∙ append-nil old in
+    let front : take end (zero_padded end old) ≡ content = ap (take end) zeros ∙ take_at content (drop end base) end is in
     let behind : drop (end + length bytes) old ≡ drop (end + length bytes) base =
     ap (λ n. drop (n + length bytes) old) (sym is) ∙ drop-append-add content (drop end base) (length bytes) ∙ drop-drop (length bytes) end base in
     sym (ap (λ (l : List ℕ). l ++ bytes ++ drop (end + length bytes) old) front ∙ ap (λ (l : List ℕ). content ++ bytes ++ l) behind)
@@ -54,20 +42,20 @@ in_lent : (t : Bool) (bs : List ℕ) (b : ℕ) → t ≡ true → Contains bs b 
 unfolding lent
 in_lent t bs b is has = subst (λ (v : Bool). Contains (lent v bs) b) (sym is) has
 
-length-lent : (d : Blocks) (block_size : ℕ) (s : StoredList) (t : Bool) → length (lent t (list_blocks_from d block_size s.head s.size)) ≡ (if t then block_count_for block_size s.size else 0)
+length-lent : (d : Blocks) (block_size : ℕ) (s : StoredList) (t : Bool) → length (lent t (blocks_of_list d block_size s.head s.size)) ≡ (if t then block_count_for block_size s.size else 0)
 unfolding lent
 length-lent d block_size s true = length_back d (block_count_for block_size s.size) s.head
 length-lent d block_size s false = refl
 
-pub stored_flying : (map : BlockStates) (d : Blocks) (block_size : ℕ) (s : StoredList) → FinishedListOnDisk map d block_size s → in_flight_count map ≤ in_flight_limit block_size s
+pub stored_flying : (map : BlockStates) (d : Blocks) (block_size : ℕ) (s : StoredList) → IsFinishedList map d block_size s → in_flight_count map ≤ in_flight_limit block_size s
 stored_flying map d block_size s stored =
-    let bb : List ℕ = list_blocks_from d block_size s.head s.size in
+    let bb : List ℕ = blocks_of_list d block_size s.head s.size in
     let few = few_flying (lent s.in_flight bb) map (λ b is. in_lent s.in_flight bb b (stored.flying b is).0 (stored.flying b is).1) in
     omega (arith, few, length-lent d block_size s s.in_flight)
 
 pub begun_flying : (map : BlockStates) (d : Blocks) (block_size : ℕ) (g : GrowingList) (base : StoredList) (shared : ℕ) → SharesFirstBlocks map d block_size g base shared → in_flight_count map ≤ length (kept_blocks d g) + in_flight_limit block_size base
 begun_flying map d block_size g base shared begun =
-    let bb : List ℕ = list_blocks_from d block_size base.head base.size in
+    let bb : List ℕ = blocks_of_list d block_size base.head base.size in
     let few = few_flying (kept_blocks d g ++ lent base.in_flight bb) map (λ b is. ⊎_elim
     (λ has. Contains-append_left (kept_blocks d g) (lent base.in_flight bb) b has)
     (λ both. Contains-append_right (kept_blocks d g) (lent base.in_flight bb) b (in_lent base.in_flight bb b both.0 both.1))
@@ -109,7 +97,7 @@ two_fit geometry now s used all most end size same is low high room =
 
 -- ---- writes one behind the other
 
-pub zeros_not : (old : List ℕ) (at : ℕ) → at ≤ length old → padded_with_zeros at old ≡ old
+pub zeros_not : (old : List ℕ) (at : ℕ) → at ≤ length old → zero_padded at old ≡ old
 zeros_not old at le = ap (λ n. old ++ replicate n 0) (let z : at - length old ≡ 0 = omega arith in z) ∙ append-nil old
 
 pub as_block : (old : List ℕ) (at : ℕ) (bytes : List ℕ) → at ≤ length old → written_contents old at bytes ≡ in_block old at bytes
@@ -156,7 +144,7 @@ part_fits geometry now s t used was all was_all size end same base le is count r
 
 -- a base has as many bytes as its size says
 pub length-base : (d : Blocks) (block_size count head size : ℕ) → 1024 ≤ block_size → HasBlockSizes block_size count d → IsListOrEmpty d block_size head size → length (list_bytes d block_size head size) ≡ size
-length-base d block_size count head size large shape (inl none) = omega (arith, length-take size (blocks_data d (list_blocks_from d block_size head size)))
+length-base d block_size count head size large shape (inl none) = omega (arith, length-take size (blocks_data d (blocks_of_list d block_size head size)))
 length-base d block_size count head size large shape (inr list) = length-list_bytes d block_size count head size large shape list
 
 -- the contents are as long as the longer of both
@@ -171,9 +159,9 @@ length-hand d block_size count g base large shape growing based =
     )
 
 -- bytes at the end or behind it
-pub at_end : (old bytes : List ℕ) (place : ℕ) → length old ≤ place → written_contents old place bytes ≡ padded_with_zeros place old ++ bytes
+pub at_end : (old bytes : List ℕ) (place : ℕ) → length old ≤ place → written_contents old place bytes ≡ zero_padded place old ++ bytes
 at_end old bytes place le =
-    let zeros : List ℕ = padded_with_zeros place old in
+    let zeros : List ℕ = zero_padded place old in
     let long : length zeros ≡ place = omega (arith, length-append old (replicate (place - length old) 0), length-replicate {A = ℕ} (place - length old) 0) in
     ap (λ (l : List ℕ). l ++ bytes ++ drop (place + length bytes) old) (take_all place zeros (omega arith))
     ∙ ap (λ (l : List ℕ). zeros ++ bytes ++ l) (drop_all (place + length bytes) old (omega arith))

@@ -1,28 +1,25 @@
 -- Each call of a writer leaves its contents where its form says, and its held number has room for their blocks.
 use Rattle.std.proofs.Common.{ℕ, ◌≡◌, ◌≢◌, ◌+◌, ◌*◌, ◌-◌, ◌<◌, ◌≤◌, ⊎_elim, Bool, true, false, not, if◌then◌else◌, max, min, List, ◌∷◌, ◌++◌, length, take, drop, replicate, Option, Some, None, is_some, refl, sym, ap, ◌∙◌, subst, arith, length-append, length-drop}
 use Rattle.std.specs.Prelude.{nat_le, nat_lt, ◌==◌, ◌||◌}
-use Rattle.std.proofs.lemmas.Bool.{or_left, or_right, eqb-true, eqb-false, leb-true, leb-false, ltb-true, ltb-false, ne_eqb, eq-eqb, cases_eq, lt-leb, le-leb}
-use Rattle.std.proofs.lemmas.List.{length-take, length-replicate}
+use Rattle.lfs_file.proofs.Common.{eqb-true, eqb-false, ltb-true, ne_eqb, eq-eqb, cases_eq, lt-leb, le-leb, length-take, length-replicate, inline_limit, block_count_for, FileWriter, reserved_for_writer, written_writer, truncated_writer, written_contents, write_position, zero_padded, ContentsForm, InMemory, Finished, InHand, form_size, form_after_inner, shortened_form, written_form, truncated_form, IsWriterForm, block_count_for-more}
+use Rattle.std.proofs.lemmas.Bool.{or_left, or_right, leb-true, leb-false, ltb-false}
 use Rattle.lfs_model.specs.declared.limits.Profile.{Profile}
-use Rattle.lfs_model.specs.format.Disk.{inline_limit}
-use Rattle.lfs_model.specs.format.SkipLists.{block_count_for}
-use Rattle.lfs_model.specs.session.Session.{FileWriter, list_blocks_of, reserved_for_writer}
-use Rattle.lfs_model.specs.session.Writers.{written_writer, truncated_writer, synced_writer, opened_writer, written_contents, turns_writer, write_position, padded_with_zeros}
+use Rattle.lfs_model.specs.session.Session.{list_blocks_of}
+use Rattle.lfs_model.specs.session.Writers.{synced_writer, opened_writer, turns_writer}
 use Rattle.lfs_model.specs.session.Operations.{FlagsOfOpen}
 use Rattle.lfs_model.specs.tree.Tree.{Path}
-use Rattle.lfs_file.specs.Form.{StorageForm, InMemory, Finished, InHand, form_size, form_in_flight, form_after_inner, shortened_form, written_form, truncated_form, synced_form, FitsWriterForm}
-use Rattle.lfs_model.proofs.ListSizes.{block_count_for-more}
+use Rattle.lfs_file.specs.Form.{form_in_flight, synced_form}
 
-length-zeros_to : (n : ℕ) (bytes : List ℕ) → length (padded_with_zeros n bytes) ≡ max n (length bytes)
+length-zeros_to : (n : ℕ) (bytes : List ℕ) → length (zero_padded n bytes) ≡ max n (length bytes)
 length-zeros_to n bytes = omega (arith, length-append bytes (replicate (n - length bytes) 0), length-replicate {A = ℕ} (n - length bytes) 0)
 
 pub length-written : (old : List ℕ) (at : ℕ) (bytes : List ℕ) → length (written_contents old at bytes) ≡ max (length old) (at + length bytes)
 length-written old at bytes =
-    let front : length (take at (padded_with_zeros at old)) ≡ at = omega (arith, length-take at (padded_with_zeros at old), length-zeros_to at old) in
-    omega (arith, front, length-append (take at (padded_with_zeros at old) ++ bytes) (drop (at + length bytes) old), length-append (take at (padded_with_zeros at old)) bytes, length-drop (at + length bytes) old)
+    let front : length (take at (zero_padded at old)) ≡ at = omega (arith, length-take at (zero_padded at old), length-zeros_to at old) in
+    omega (arith, front, length-append (take at (zero_padded at old) ++ bytes) (drop (at + length bytes) old), length-append (take at (zero_padded at old)) bytes, length-drop (at + length bytes) old)
 
 -- one form or another
-either : (profile : Profile) (block_size : ℕ) (t : Bool) (a b : StorageForm) (w : FileWriter) → (t ≡ true → FitsWriterForm profile block_size a w) → (t ≡ false → FitsWriterForm profile block_size b w) → FitsWriterForm profile block_size (if t then a else b) w
+either : (profile : Profile) (block_size : ℕ) (t : Bool) (a b : ContentsForm) (w : FileWriter) → (t ≡ true → IsWriterForm profile block_size a w) → (t ≡ false → IsWriterForm profile block_size b w) → IsWriterForm profile block_size (if t then a else b) w
 either profile block_size true a b w first second = first refl
 either profile block_size false a b w first second = second refl
 
@@ -38,7 +35,7 @@ turned_or : (t : Bool) (P : Type 0) → (t ≡ true → P) → (t ≡ false → 
 turned_or true P first second = first refl
 turned_or false P first second = second refl
 
-kept_grown : (profile : Profile) (block_size : ℕ) (w v : FileWriter) (begin stop : ℕ) → Grew w v begin stop → inline_limit profile block_size < length v.contents → begin ≤ stop → (form : StorageForm) → FitsWriterForm profile block_size form w → FitsWriterForm profile block_size (form_after_inner begin stop form) v
+kept_grown : (profile : Profile) (block_size : ℕ) (w v : FileWriter) (begin stop : ℕ) → Grew w v begin stop → inline_limit profile block_size < length v.contents → begin ≤ stop → (form : ContentsForm) → IsWriterForm profile block_size form w → IsWriterForm profile block_size (form_after_inner begin stop form) v
 kept_grown profile block_size w v begin stop grew large le (InMemory size) kept =
     let few : size ≤ inline_limit profile block_size = kept.fits in
     let is : size ≡ length w.contents = kept.size in
@@ -92,7 +89,7 @@ kept_grown profile block_size w v begin stop grew large le (InHand end base flyi
     })
 
 kept_shortened : (profile : Profile) (block_size : ℕ) (w v : FileWriter) (size : ℕ) → v.dirty ≡ true → (w.turned ≡ true → v.turned ≡ true) → ((end : ℕ) → w.last_end ≡ Some end → v.turned ≡ true) → length v.contents ≡ size → inline_limit profile block_size < size → size ≤ length w.contents
-    → (form : StorageForm) → FitsWriterForm profile block_size form w → FitsWriterForm profile block_size (shortened_form size form) v
+    → (form : ContentsForm) → IsWriterForm profile block_size form w → IsWriterForm profile block_size (shortened_form size form) v
 kept_shortened profile block_size w v size dirty stays turns_writer long large le (InMemory old) kept =
     let few : old ≤ inline_limit profile block_size = kept.fits in
     let is : old ≡ length w.contents = kept.size in
@@ -115,8 +112,8 @@ kept_shortened profile block_size w v size dirty stays turns_writer long large l
 turned_on : (turned : Bool) (last_end : Option ℕ) (begin end : ℕ) → last_end ≡ Some end → end ≢ begin → (turned || turns_writer last_end begin) ≡ true
 turned_on turned last_end begin end at ne = or_right turned (turns_writer last_end begin) (let e : turns_writer (Some end) begin ≡ true = ap not (ne_eqb begin end (λ e. ne (sym e))) in ap (λ l. turns_writer l begin) at ∙ e)
 
-pub kept_written : (profile : Profile) (block_size : ℕ) (form : StorageForm) (w : FileWriter) (byte : ℕ) (bytes : List ℕ) → FitsWriterForm profile block_size form w
-    → FitsWriterForm profile block_size (written_form (inline_limit profile block_size) (write_position w) (length (byte ∷ bytes)) form) (written_writer w (byte ∷ bytes))
+pub kept_written : (profile : Profile) (block_size : ℕ) (form : ContentsForm) (w : FileWriter) (byte : ℕ) (bytes : List ℕ) → IsWriterForm profile block_size form w
+    → IsWriterForm profile block_size (written_form (inline_limit profile block_size) (write_position w) (length (byte ∷ bytes)) form) (written_writer w (byte ∷ bytes))
 kept_written profile block_size form w byte bytes kept =
     let place : ℕ = write_position w in
     let size : ℕ = form_size form in
@@ -140,26 +137,26 @@ kept_written profile block_size form w byte bytes kept =
 
 abbrev resized_to : ℕ → FileWriter → FileWriter
 resized_to size w = record w {
-  contents = take size (padded_with_zeros size w.contents);
+  contents = take size (zero_padded size w.contents);
   dirty = true;
   turned = w.turned || is_some w.last_end;
   last_end = if nat_lt (length w.contents) size then Some size else w.last_end;
 }
 
-module _ (profile : Profile) (block_size : ℕ) (form : StorageForm) (w : FileWriter) (size : ℕ) (kept : FitsWriterForm profile block_size form w) (ne : size ≢ length w.contents) where
+module _ (profile : Profile) (block_size : ℕ) (form : ContentsForm) (w : FileWriter) (size : ℕ) (kept : IsWriterForm profile block_size form w) (ne : size ≢ length w.contents) where
   abbrev resized : FileWriter
   resized = resized_to size w
 
   long : length resized.contents ≡ size
-  long = omega (arith, length-take size (padded_with_zeros size w.contents), length-zeros_to size w.contents)
+  long = omega (arith, length-take size (zero_padded size w.contents), length-zeros_to size w.contents)
 
   some_turned : (end : ℕ) → w.last_end ≡ Some end → resized.turned ≡ true
   some_turned end at = or_right w.turned (is_some w.last_end) (ap is_some at)
 
-  abbrev other : StorageForm
+  abbrev other : ContentsForm
   other = if nat_lt (form_size form) size then form_after_inner (form_size form) size form else shortened_form size form
 
-  kept_other : inline_limit profile block_size < size → FitsWriterForm profile block_size other resized
+  kept_other : inline_limit profile block_size < size → IsWriterForm profile block_size other resized
   kept_other large =
       let is : form_size form ≡ length w.contents = kept.size in
       let now = long in
@@ -179,26 +176,26 @@ module _ (profile : Profile) (block_size : ℕ) (form : StorageForm) (w : FileWr
       let less : size ≤ form_size form = ltb-false (form_size form) size shorter in
       kept_shortened profile block_size w resized size refl (λ t. or_left w.turned (is_some w.last_end) t) some_turned now large (omega arith) form kept)
 
-  kept_resized : FitsWriterForm profile block_size (if nat_le size (inline_limit profile block_size) then InMemory size else other) resized
+  kept_resized : IsWriterForm profile block_size (if nat_le size (inline_limit profile block_size) then InMemory size else other) resized
   kept_resized = either profile block_size (nat_le size (inline_limit profile block_size)) (InMemory size) other resized
       (λ fits. record { size = sym long; fits = leb-true size (inline_limit profile block_size) fits })
       (λ exceeds. kept_other (leb-false size (inline_limit profile block_size) exceeds))
 
-  kept_truncated_ne : FitsWriterForm profile block_size (truncated_form (inline_limit profile block_size) size form) (truncated_writer w size)
+  kept_truncated_ne : IsWriterForm profile block_size (truncated_form (inline_limit profile block_size) size form) (truncated_writer w size)
   kept_truncated_ne =
       let is : form_size form ≡ length w.contents = kept.size in
       let first : truncated_form (inline_limit profile block_size) size form ≡ (if nat_le size (inline_limit profile block_size) then InMemory size else other) =
       ap (λ (t : Bool). if t then form else (if nat_le size (inline_limit profile block_size) then InMemory size else other)) (ne_eqb size (form_size form) (λ e. ne (e ∙ is))) in
       let second : truncated_writer w size ≡ resized = ap (λ (t : Bool). if t then w else resized) (ne_eqb size (length w.contents) ne) in
-      subst (λ (f : StorageForm). FitsWriterForm profile block_size f (truncated_writer w size)) (sym first) (subst (λ (v : FileWriter). FitsWriterForm profile block_size (if nat_le size (inline_limit profile block_size) then InMemory size else other) v) (sym second) kept_resized)
+      subst (λ (f : ContentsForm). IsWriterForm profile block_size f (truncated_writer w size)) (sym first) (subst (λ (v : FileWriter). IsWriterForm profile block_size (if nat_le size (inline_limit profile block_size) then InMemory size else other) v) (sym second) kept_resized)
 
-pub kept_truncated : (profile : Profile) (block_size : ℕ) (form : StorageForm) (w : FileWriter) (size : ℕ) → FitsWriterForm profile block_size form w → FitsWriterForm profile block_size (truncated_form (inline_limit profile block_size) size form) (truncated_writer w size)
+pub kept_truncated : (profile : Profile) (block_size : ℕ) (form : ContentsForm) (w : FileWriter) (size : ℕ) → IsWriterForm profile block_size form w → IsWriterForm profile block_size (truncated_form (inline_limit profile block_size) size form) (truncated_writer w size)
 kept_truncated profile block_size form w size kept = ⊎_elim
     (λ e.
     let first : truncated_form (inline_limit profile block_size) size form ≡ form =
     ap (λ (t : Bool). if t then form else (if nat_le size (inline_limit profile block_size) then InMemory size else (if nat_lt (form_size form) size then form_after_inner (form_size form) size form else shortened_form size form))) (eq-eqb size (form_size form) (e ∙ sym kept.size)) in
     let second : truncated_writer w size ≡ w = ap (λ (t : Bool). if t then w else resized_to size w) (eq-eqb size (length w.contents) e) in
-    subst (λ (f : StorageForm). FitsWriterForm profile block_size f (truncated_writer w size)) (sym first) (subst (λ (v : FileWriter). FitsWriterForm profile block_size form v) (sym second) kept))
+    subst (λ (f : ContentsForm). IsWriterForm profile block_size f (truncated_writer w size)) (sym first) (subst (λ (v : FileWriter). IsWriterForm profile block_size form v) (sym second) kept))
     (λ ne. kept_truncated_ne profile block_size form w size kept ne)
     (cases_eq size (length w.contents))
 
@@ -209,7 +206,7 @@ contents_synced w = go w.dirty
     go true = refl
     go false = refl
 
-pub kept_synced : (profile : Profile) (block_size : ℕ) (form : StorageForm) (w : FileWriter) → FitsWriterForm profile block_size form w → FitsWriterForm profile block_size (synced_form form) (synced_writer w)
+pub kept_synced : (profile : Profile) (block_size : ℕ) (form : ContentsForm) (w : FileWriter) → IsWriterForm profile block_size form w → IsWriterForm profile block_size (synced_form form) (synced_writer w)
 kept_synced profile block_size (InMemory size) w kept = record { size = kept.size ∙ ap length (sym (contents_synced w)); fits = kept.fits }
 kept_synced profile block_size (Finished size flying) w kept = record {
   size = kept.size ∙ ap length (sym (contents_synced w));
@@ -222,10 +219,10 @@ kept_synced profile block_size (InHand end base flying) w kept = record {
 
 -- a writer that was opened on contents in its entry, or truncated, has them in memory
 pub kept_opened_inline : (profile : Profile) (block_size : ℕ) (path : Path) (flags : FlagsOfOpen) (bytes : List ℕ) → length (opened_writer path flags bytes).contents ≤ inline_limit profile block_size
-    → FitsWriterForm profile block_size (InMemory (length (opened_writer path flags bytes).contents)) (opened_writer path flags bytes)
+    → IsWriterForm profile block_size (InMemory (length (opened_writer path flags bytes).contents)) (opened_writer path flags bytes)
 kept_opened_inline profile block_size path flags bytes few = record { size = refl; fits = few }
 
-pub kept_opened_list : (profile : Profile) (block_size : ℕ) (path : Path) (flags : FlagsOfOpen) (bytes : List ℕ) → FitsWriterForm profile block_size (Finished (length (opened_writer path flags bytes).contents) false) (opened_writer path flags bytes)
+pub kept_opened_list : (profile : Profile) (block_size : ℕ) (path : Path) (flags : FlagsOfOpen) (bytes : List ℕ) → IsWriterForm profile block_size (Finished (length (opened_writer path flags bytes).contents) false) (opened_writer path flags bytes)
 kept_opened_list profile block_size path flags bytes = record {
   size = refl;
   fits = record { dirty = λ e. absurd (cc); large = λ e. absurd (cc); turned = λ e. absurd (cc) };
@@ -249,7 +246,7 @@ held_once profile block_size w dirty large = turned_or w.turned (2 + block_count
     (λ t. let e : reserved_for_writer profile block_size w ≡ 2 + 1 * block_count_for block_size (length w.contents) = held_dirty profile block_size w dirty large ∙ ap (λ (t : Bool). 2 + (if t then 2 else 1) * block_count_for block_size (length w.contents)) t in omega arith)
 
 -- The blocks in flight, and two more while the writer is dirty, are no more than it holds.
-pub held_covers : (profile : Profile) (block_size : ℕ) (form : StorageForm) (w : FileWriter) → FitsWriterForm profile block_size form w → form_in_flight block_size form ≤ reserved_for_writer profile block_size w - 2
+pub held_covers : (profile : Profile) (block_size : ℕ) (form : ContentsForm) (w : FileWriter) → IsWriterForm profile block_size form w → form_in_flight block_size form ≤ reserved_for_writer profile block_size w - 2
 held_covers profile block_size (InMemory size) w kept = omega arith
 held_covers profile block_size (Finished size true) w kept =
     let is : size ≡ length w.contents = kept.size in
@@ -273,7 +270,7 @@ held_covers profile block_size (InHand end base false) w kept =
     omega arith
 
 -- room for what a writer holds is room for going on, or for a list over the base
-pub room_grown : (profile : Profile) (block_size end base : ℕ) (flying : Bool) (v : FileWriter) (used all : ℕ) → FitsWriterForm profile block_size (InHand end base flying) v → used + reserved_for_writer profile block_size v ≤ all
+pub room_grown : (profile : Profile) (block_size end base : ℕ) (flying : Bool) (v : FileWriter) (used all : ℕ) → IsWriterForm profile block_size (InHand end base flying) v → used + reserved_for_writer profile block_size v ≤ all
     → used + block_count_for block_size end + (if flying then block_count_for block_size base else 0) ≤ all
 room_grown profile block_size end base flying v used all kept room =
     let covers = held_covers profile block_size (InHand end base flying) v kept in
@@ -283,7 +280,7 @@ room_grown profile block_size end base flying v used all kept room =
     omega arith
 
 -- for a list that ends and another one over it
-pub room_turned : (profile : Profile) (block_size end base : ℕ) (v : FileWriter) (used all : ℕ) → FitsWriterForm profile block_size (InHand end base true) v → used + reserved_for_writer profile block_size v ≤ all
+pub room_turned : (profile : Profile) (block_size end base : ℕ) (v : FileWriter) (used all : ℕ) → IsWriterForm profile block_size (InHand end base true) v → used + reserved_for_writer profile block_size v ≤ all
     → used + 2 * block_count_for block_size (max base end) ≤ all
 room_turned profile block_size end base v used all kept room =
     let is : max end base ≡ length v.contents = kept.size in
@@ -293,7 +290,7 @@ room_turned profile block_size end base v used all kept room =
     omega arith
 
 -- for ending a list as it is
-pub room_ended : (profile : Profile) (block_size end base : ℕ) (flying : Bool) (w : FileWriter) (used all : ℕ) → FitsWriterForm profile block_size (InHand end base flying) w → used + reserved_for_writer profile block_size w ≤ all
+pub room_ended : (profile : Profile) (block_size end base : ℕ) (flying : Bool) (w : FileWriter) (used all : ℕ) → IsWriterForm profile block_size (InHand end base flying) w → used + reserved_for_writer profile block_size w ≤ all
     → used + (if flying then block_count_for block_size base else 0) + block_count_for block_size base ≤ all
 room_ended profile block_size end base true w used all kept room =
     let is : max end base ≡ length w.contents = kept.size in
@@ -310,11 +307,11 @@ room_ended profile block_size end base false w used all kept room =
 
 -- ---- which form a write leaves
 
-pub written_few : (limit place count : ℕ) (form : StorageForm) → max (form_size form) (place + count) ≤ limit → written_form limit place count form ≡ InMemory (max (form_size form) (place + count))
+pub written_few : (limit place count : ℕ) (form : ContentsForm) → max (form_size form) (place + count) ≤ limit → written_form limit place count form ≡ InMemory (max (form_size form) (place + count))
 written_few limit place count form few =
     ap (λ (t : Bool). if t then InMemory (max (form_size form) (place + count)) else form_after_inner (min place (form_size form)) (place + count) form) (le-leb (max (form_size form) (place + count)) limit few)
 
-pub written_many : (limit place count : ℕ) (form : StorageForm) → limit < max (form_size form) (place + count) → written_form limit place count form ≡ form_after_inner (min place (form_size form)) (place + count) form
+pub written_many : (limit place count : ℕ) (form : ContentsForm) → limit < max (form_size form) (place + count) → written_form limit place count form ≡ form_after_inner (min place (form_size form)) (place + count) form
 written_many limit place count form many =
     ap (λ (t : Bool). if t then InMemory (max (form_size form) (place + count)) else form_after_inner (min place (form_size form)) (place + count) form) (lt-leb (max (form_size form) (place + count)) limit many)
 

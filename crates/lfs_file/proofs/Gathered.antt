@@ -1,13 +1,8 @@
 -- A file's bytes gathered from its blocks, the last part first.
 use Rattle.std.proofs.Common.{ℕ, suc, ◌≡◌, ◌+◌, ◌*◌, ◌-◌, ◌<◌, ◌≤◌, ◌^◌, min, List, ◌++◌, length, take, drop, slice_index, slice_range, sym, ap, subst, ◌∙◌, arith, append_assoc, length-drop}
-use Rattle.std.proofs.lemmas.List.{drop_at, drop-drop, length-take-le}
-use Rattle.std.proofs.lemmas.Slice.{drop-put_mid}
-use Rattle.std.proofs.Math.Seq.{take-add}
-use Rattle.lfs_model.specs.format.Blocks.{Blocks, HasBlockSizes, block_bytes}
-use Rattle.lfs_model.specs.format.SkipLists.{word_at, pointer_count, bytes_before_block, blocks_to_head, block_count_for, IsSkipList, IsBytePlace, list_bytes}
+use Rattle.lfs_file.proofs.Common.{drop_at, drop-drop, length-take-le, drop-put_mid, take-add, Blocks, HasBlockSizes, block_bytes, word_at, pointer_count, bytes_before_block, blocks_to_head, block_count_for, IsSkipList, IsBytePlace, list_bytes, part_of_bytes}
 use Rattle.lfs_file.proofs.Sizes.{placed, place_before, place-lt, pointer_count-le}
 use Rattle.lfs_file.proofs.Chains.{in_range_at}
-use Rattle.lfs_model.proofs.ListParts.{part_of_bytes}
 
 slices_joined : (xs : List ℕ) (a b c : ℕ) → a ≤ b → b ≤ c → slice_range xs a b ++ slice_range xs b c ≡ slice_range xs a c
 slices_joined xs a b c ab bc =

@@ -1,8 +1,7 @@
 -- A list under the geometry of a device.
 use Rattle.std.proofs.Common.{ℕ, ◌≡◌, ◌≤◌, ◌+◌, ◌-◌, sym, ap, subst, ◌∙◌, arith}
 use Rattle.lfs_device.specs.declared.geometry.Geometry.{Geometry}
-use Rattle.lfs_model.specs.format.Blocks.{Blocks, HasBlockSizes}
-use Rattle.lfs_model.specs.format.SkipLists.{AreListBlocks, IsSkipList, block_count_for}
+use Rattle.lfs_file.proofs.Common.{Blocks, HasBlockSizes, AreListBlocks, IsSkipList, block_count_for}
 use Rattle.lfs_file.proofs.Sizes.{blocks_for-last}
 
 -- the last index and one more is the number of blocks

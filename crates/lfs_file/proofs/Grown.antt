@@ -2,14 +2,7 @@
 use Rattle.std.proofs.Common.{ℕ, zero, suc, ◌≡◌, ◌≢◌, ◌+◌, ◌*◌, ◌-◌, ◌<◌, ◌^◌, ⊎_elim, nat_eq, get_or, List, [], ◌∷◌, ◌++◌, length, slice_index, refl, sym, ap, subst, ◌∙◌, arith, add-one, length-append}
 use Rattle.std.specs.Prelude.{All}
 use Rattle.std.specs.List.{IsDistinct}
-use Rattle.std.proofs.Math.Nat.{one-le-pow}
-use Rattle.std.proofs.lemmas.Bool.{cases_lt, ne_eqb, eqb-false}
-use Rattle.std.proofs.lemmas.List.{get_or_at, get_or_append_left}
-use Rattle.std.proofs.lemmas.List.Elements.{recursion_from_All}
-use Rattle.std.proofs.lemmas.Map.Keys.{IsDistinct-from_apart, apart_from_distinct}
-use Rattle.lfs_model.specs.format.Blocks.{Blocks, SameExcept, block_bytes}
-use Rattle.lfs_model.specs.format.SkipLists.{word_at, pointer_count, blocks_to_head, AreListBlocks}
-use Rattle.lfs_model.proofs.Files.{Same, back_same}
+use Rattle.lfs_file.proofs.Common.{one-le-pow, cases_lt, ne_eqb, eqb-false, get_or_at, get_or_append_left, recursion_from_All, IsDistinct-from_apart, apart_from_distinct, Blocks, SameExcept, block_bytes, word_at, pointer_count, blocks_to_head, AreListBlocks, Same, back_same}
 use Rattle.lfs_file.proofs.Chains.{length_back, head_of_back, pointer_count-pos}
 
 -- blocks apart from one that changes are the same

@@ -1,18 +1,7 @@
 -- Growth in steps.
 use Rattle.std.proofs.Common.{ℕ, ◌≡◌, ◌+◌, ◌⊎◌, inl, inr, ⊎_elim, get_or, List, ◌++◌, length, take, drop, Option, Some, None, refl, sym, ap, ◌∙◌, subst, arith, append_assoc, length-drop}
 use Rattle.std.specs.Prelude.{All, Contains}
-use Rattle.std.specs.List.{slice_get}
-use Rattle.std.proofs.lemmas.List.{take_all, take_at, take-append-drop}
-use Rattle.std.proofs.Math.Seq.{drop-append-add}
-use Rattle.std.proofs.lemmas.List.Elements.{All-append, Contains-append_left}
-use Rattle.lfs_model.specs.format.Blocks.{Blocks}
-use Rattle.lfs_model.specs.layers.BlockSets.{BlockState, BlockStates, IsFree, IsInFlight}
-use Rattle.lfs_model.specs.layers.BlockSets.BlockState.{Free, InFlight, Used}
-use Rattle.lfs_model.specs.session.History.{CallEvent, LossLeavesAtWorst, HoldsAtLosses}
-use Rattle.lfs_model.proofs.Histories.{goes_on_by, AllCallsSince-weaker}
-use Rattle.lfs_file.specs.Growing.{GrowingList, kept_blocks}
-use Rattle.lfs_file.specs.BlocksApart.{GrowsInFree, IsTakenWritten, KeepsTakenBytes, TakenStayUnprogrammed}
-use Rattle.lfs_file.specs.TakenBlocks.{ChangesOnlyFree}
+use Rattle.lfs_file.proofs.Common.{slice_get, take_all, take_at, take-append-drop, drop-append-add, All-append, Contains-append_left, Blocks, BlockState, BlockStates, IsFree, IsInFlight, Free, InFlight, Used, CallEvent, LossLeavesAtWorst, HoldsAtLosses, goes_on_by, AllCallsSince-weaker, GrowingList, kept_blocks, GrowsInFree, IsTakenWritten, KeepsTakenBytes, TakenStayUnprogrammed, ChangesOnlyFree}
 
 -- whether a block is free
 pub cases_free : (sets : BlockStates) (b : ℕ) → IsFree sets b ⊎ (¬ (IsFree sets b))

@@ -1,15 +1,8 @@
 -- A list in hand that has grown, over its base.
 use Rattle.std.proofs.Common.{ℕ, ◌≡◌, ◌+◌, ◌++◌, List, length, sym, subst}
 use Rattle.lfs_device.specs.declared.geometry.Geometry.{Geometry}
-use Rattle.lfs_model.specs.format.Blocks.{Blocks}
-use Rattle.lfs_model.specs.layers.BlockSets.{BlockStates}
-use Rattle.lfs_model.specs.session.Writers.{written_contents}
-use Rattle.lfs_file.specs.Growing.{growing_bytes, unwritten_block, GrowingList, growing_size}
-use Rattle.lfs_file.specs.BlocksApart.{KeepsTakenBytes}
+use Rattle.lfs_file.proofs.Common.{Blocks, BlockStates, written_contents, growing_bytes, unwritten_block, GrowingList, growing_size, KeepsTakenBytes, SharesFirstBlocks, CanEndOver, ChangesOnlyFree, unfinished_bytes}
 use Rattle.lfs_file.specs.Extensions.{IsExtended}
-use Rattle.lfs_file.specs.Hand.{SharesFirstBlocks, CanEndOver}
-use Rattle.lfs_file.specs.TakenBlocks.{ChangesOnlyFree}
-use Rattle.lfs_file.specs.HandWrites.{unfinished_bytes}
 use Rattle.lfs_file.specs.declared.stored_list.StoredList.{StoredList}
 use Rattle.lfs_file.proofs.Copies.{counted}
 use Rattle.lfs_file.proofs.Flights.{wrote}

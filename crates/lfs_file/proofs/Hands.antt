@@ -2,29 +2,15 @@
 use Rattle.std.proofs.Common.{ℕ, false, ◌≡◌, ◌≢◌, ◌+◌, ◌≤◌, inl, inr, ⊎_elim, nat_eq, get_or, List, [], ◌++◌, length, take, drop, Some, refl, sym, ap, ◌∙◌, subst, arith, length-drop}
 use Rattle.std.specs.Prelude.{All, Contains}
 use Rattle.std.specs.List.{IsDistinct}
-use Rattle.std.proofs.lemmas.Bool.{eqb-false}
-use Rattle.std.proofs.lemmas.List.{take-take, take-append-le, drop-append-le, take-append-drop, length-take, length-take-le, get_or-take, get_or-drop}
+use Rattle.lfs_file.proofs.Common.{eqb-false, take-take, take-append-le, drop-append-le, take-append-drop, length-take, length-take-le, get_or-take, get_or-drop, All-append, All-contains, All-take, Contains-append_left, Contains-append_cases, apart_from_distinct, Blocks, BlockStates, IsFree, Free, Used, block_count_for, GrowingList, IsOnDisk, growing_blocks, rest_lacks_block, kept_blocks, unwritten_block, growing_size_with, unwritten_rest_block, GrowsInFree, IsTakenWritten, HasBlocksTaken, KeepsTakenBytes, blocks_of_list, SharesFirstBlocks, CanEndOver, IsFinishedList, ChangesOnlyFree, length_back}
 use Rattle.std.proofs.lemmas.Grind.{get_or_default_zero}
-use Rattle.std.proofs.lemmas.List.Elements.{All-append, All-contains, All-take, Contains-append_left, Contains-append_cases}
-use Rattle.std.proofs.lemmas.Map.Keys.{apart_from_distinct}
-use Rattle.lfs_model.specs.format.Blocks.{Blocks}
-use Rattle.lfs_model.specs.layers.BlockSets.{BlockStates, IsFree}
-use Rattle.lfs_model.specs.layers.BlockSets.BlockState.{Free, Used}
-use Rattle.lfs_model.specs.format.SkipLists.{block_count_for}
-use Rattle.lfs_file.specs.Growing.{GrowingList, IsOnDisk, growing_blocks, rest_lacks_block, kept_blocks, unwritten_block, growing_size_with}
-use Rattle.lfs_file.specs.Growing.{unwritten_after_full}
 use Rattle.lfs_file.specs.declared.rest.RestLocation.{RestLocation}
 use Rattle.lfs_file.specs.declared.rest.RestLocation.TheVariants.{Closed, Shared, Handed, Held}
-use Rattle.lfs_file.specs.BlocksApart.{GrowsInFree, IsTakenWritten, HasBlocksTaken, KeepsTakenBytes}
-use Rattle.lfs_file.specs.Bases.{list_blocks_from}
-use Rattle.lfs_file.specs.Hand.{SharesFirstBlocks, CanEndOver, FinishedListOnDisk}
-use Rattle.lfs_file.specs.TakenBlocks.{ChangesOnlyFree}
 use Rattle.lfs_file.specs.declared.stored_list.StoredList.{StoredList}
 use Rattle.lfs_file.proofs.Bases.{blocks_stay, list_stays}
 use Rattle.lfs_file.proofs.Growth.{in_longer, split}
 use Rattle.lfs_file.proofs.Spared.{keeps_used}
 use Rattle.lfs_file.proofs.Used.{used_back}
-use Rattle.lfs_model.proofs.Files.{length_back}
 use Rattle.lfs_file.proofs.Pushed.{length-kept}
 
 -- ---- lists
@@ -52,8 +38,8 @@ distinct_parts n xs b distinct (i, lt, is) k x l same =
 pub hand_grows : (map later : BlockStates) (d e : Blocks) (block_size : ℕ) (g h : GrowingList) (base : StoredList) (shared : ℕ) → SharesFirstBlocks map d block_size g base shared → KeepsTakenBytes map (unwritten_block g) d e → ChangesOnlyFree map later
     → GrowsInFree map d g later e h → IsOnDisk e h → HasBlocksTaken later e h → growing_blocks e h ≡ kept_blocks e h → length (kept_blocks e h) ≡ block_count_for block_size (growing_size_with block_size h) → rest_lacks_block h ≡ false → CanEndOver later e block_size h base shared
 hand_grows map later d e block_size g h base shared begun spared keeps grown growing marked own many listed =
-    let bb : List ℕ = list_blocks_from d block_size base.head base.size in
-    let stay : list_blocks_from e block_size base.head base.size ≡ bb = blocks_stay map (unwritten_block g) d e block_size base.head base.size spared begun.apart in
+    let bb : List ℕ = blocks_of_list d block_size base.head base.size in
+    let stay : blocks_of_list e block_size base.head base.size ≡ bb = blocks_stay map (unwritten_block g) d e block_size base.head base.size spared begun.apart in
     let x : List ℕ = kept_blocks d g in
     let y : List ℕ = kept_blocks e h in
     let all : y ≡ x ++ drop (length x) y = split x y grown.front in
@@ -90,10 +76,10 @@ hand_grows map later d e block_size g h base shared begun spared keeps grown gro
 
 -- ---- the beginning
 
-pub begins : (map : BlockStates) (d : Blocks) (block_size : ℕ) (g : GrowingList) (base : StoredList) (full : ℕ) → FinishedListOnDisk map d block_size base → IsOnDisk d g → unwritten_block g ≡ []
-    → kept_blocks d g ≡ take full (list_blocks_from d block_size base.head base.size) → g.full ≡ full → SharesFirstBlocks map d block_size g base full
+pub begins : (map : BlockStates) (d : Blocks) (block_size : ℕ) (g : GrowingList) (base : StoredList) (full : ℕ) → IsFinishedList map d block_size base → IsOnDisk d g → unwritten_block g ≡ []
+    → kept_blocks d g ≡ take full (blocks_of_list d block_size base.head base.size) → g.full ≡ full → SharesFirstBlocks map d block_size g base full
 begins map d block_size g base full stored growing none kept is =
-    let bb : List ℕ = list_blocks_from d block_size base.head base.size in
+    let bb : List ℕ = blocks_of_list d block_size base.head base.size in
     let long = length_back d (block_count_for block_size base.size) base.head in
     let many = length-kept d g in
     let empty = ap length none in
@@ -115,7 +101,7 @@ begins map d block_size g base full stored growing none kept is =
       flying = λ b flying. inr (stored.flying b flying);
     }
 
-pub pending_none : (t : RestLocation) → length (unwritten_after_full t) ≡ 0 → unwritten_after_full t ≡ []
+pub pending_none : (t : RestLocation) → length (unwritten_rest_block t) ≡ 0 → unwritten_rest_block t ≡ []
 pending_none Closed e = refl
 pending_none (Shared b) e = refl
 pending_none (Handed b) e = absurd (omega (arith, e))

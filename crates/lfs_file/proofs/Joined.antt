@@ -1,12 +1,8 @@
 -- The bytes of blocks, one after the other.
 use Rattle.std.proofs.Common.{ℕ, zero, suc, ◌≡◌, ◌+◌, ◌*◌, ◌<◌, ◌≤◌, List, [], ◌∷◌, ◌++◌, length, take, slice_index, sym, ap, ◌∙◌, arith, add-one, append_assoc, length-append, length-drop, flat_map}
-use Rattle.std.specs.List.{enumerate_from}
-use Rattle.std.proofs.lemmas.List.{take_more}
-use Rattle.lfs_model.specs.format.Blocks.{Blocks, block_bytes}
-use Rattle.lfs_model.specs.format.SkipLists.{pointer_count, block_capacity, bytes_before_block, blocks_to_head, block_data}
+use Rattle.lfs_file.proofs.Common.{enumerate_from, take_more, Blocks, block_bytes, pointer_count, block_capacity, bytes_before_block, blocks_to_head, block_data, AllSized}
 use Rattle.lfs_file.proofs.Sizes.{pointer_count-le}
 use Rattle.lfs_file.proofs.Chains.{length_back, back-pointer0}
-use Rattle.lfs_model.proofs.ListSizes.{AllSized}
 
 -- from a block of that index on
 abbrev pub joined_from : Blocks → ℕ → List ℕ → List ℕ

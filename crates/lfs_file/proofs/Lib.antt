@@ -47,3 +47,4 @@ pub mod Walked
 pub mod Ways
 pub mod Within
 pub mod Words
+pub mod Common

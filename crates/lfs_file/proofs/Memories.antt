@@ -1,10 +1,6 @@
 -- Bytes in memory: over those that a buffer begins with.
 use Rattle.std.proofs.Common.{ℕ, ◌≡◌, ◌+◌, ◌*◌, ◌-◌, ◌≤◌, ◌<◌, max, List, ◌++◌, length, take, drop, replicate, refl, sym, ap, ap₂, ⊎_elim, ◌∙◌, arith, length-append}
-use Rattle.std.proofs.lemmas.Bool.{cases_lt}
-use Rattle.std.proofs.lemmas.List.{append-nil, take_at, drop_all, drop-take, take-append-le, take-append-drop, take-take, length-replicate, length-take-le}
-use Rattle.std.proofs.Math.Seq.{take-append-add}
-use Rattle.lfs_model.specs.format.Blocks.{overwritten_at}
-use Rattle.lfs_model.specs.format.SkipLists.{pointer_count}
+use Rattle.lfs_file.proofs.Common.{cases_lt, append-nil, take_at, drop_all, drop-take, take-append-le, take-append-drop, take-take, length-replicate, length-take-le, take-append-add, overwritten_at, pointer_count}
 use Rattle.lfs_model.specs.session.Writers.{written_contents as with_bytes}
 
 -- after no full block the rest stands where the buffer begins

@@ -1,11 +1,7 @@
 -- Bytes of a file that are all in one block of its list.
 use Rattle.std.proofs.Common.{ℕ, ◌≡◌, ◌*◌, ◌+◌, ◌-◌, ◌<◌, ◌≤◌, ◌^◌, List, min, take, drop, slice_index, slice_range, sym, ap, subst, ◌∙◌, arith}
-use Rattle.lfs_model.specs.format.Blocks.{Blocks, HasBlockSizes, block_bytes}
-use Rattle.lfs_model.specs.session.History.{CallEvent, read_count}
-use Rattle.lfs_model.specs.format.SkipLists.{IsBytePlace, IsSkipList, bytes_before_block, list_bytes, block_count_for, blocks_to_head, pointer_count}
-use Rattle.lfs_model.proofs.ListParts.{part_of_bytes}
+use Rattle.lfs_file.proofs.Common.{Blocks, HasBlockSizes, block_bytes, CallEvent, read_count, IsBytePlace, IsSkipList, bytes_before_block, list_bytes, block_count_for, blocks_to_head, pointer_count, part_of_bytes, AreKnownBlocks, IsKnownIndex, ReadsKnownList, index_row}
 use Rattle.lfs_file.specs.declared.known.KnownBlocks.{KnownBlocks}
-use Rattle.lfs_file.specs.Known.{AreKnownBlocks, IsKnownIndex, ReadsKnownList, index_row}
 use Rattle.lfs_file.proofs.Chains.{length_back}
 use Rattle.lfs_file.proofs.Sizes.{place-le, place-lt, place_unique, pointer_count-le}
 

@@ -1,10 +1,7 @@
 -- Blocks that aren't among those of a list.
 use Rattle.std.proofs.Common.{ℕ, ◌∙◌, ⊎_elim, List, ◌++◌, take, drop, subst}
 use Rattle.std.specs.Prelude.{Contains}
-use Rattle.std.proofs.lemmas.List.{take-append-drop}
-use Rattle.std.proofs.lemmas.List.Elements.{Contains-append_left, Contains-append_right}
-use Rattle.lfs_model.specs.layers.BlockSets.{BlockState, BlockStates}
-use Rattle.lfs_file.specs.SettledMaps.{KeepsOtherStates, PutsInState}
+use Rattle.lfs_file.proofs.Common.{take-append-drop, Contains-append_left, Contains-append_right, BlockState, BlockStates, KeepsOtherStates, PutsInState}
 use Rattle.lfs_file.proofs.Takings.{member}
 
 pub puts_others : {state : BlockState} {old new : BlockStates} {bs : List ℕ} → PutsInState state old new bs → KeepsOtherStates old new bs

@@ -1,16 +1,9 @@
 -- Which blocks of lists are used.
 use Rattle.std.proofs.Common.{ℕ, ◌≡◌, ⊎_elim, true, List, [], ◌++◌, refl, sym, ap, ◌∙◌, subst}
 use Rattle.std.specs.Prelude.{Contains}
-use Rattle.std.proofs.lemmas.List.Elements.{Contains-append_cases, Contains-append_right}
-use Rattle.lfs_model.specs.format.Blocks.{Blocks}
-use Rattle.lfs_model.specs.layers.BlockSets.{BlockStates}
-use Rattle.lfs_file.specs.Hand.{SharesFirstBlocks, CanEndOver, KeepsUsedBlocks}
+use Rattle.lfs_file.proofs.Common.{Contains-append_cases, Contains-append_right, Blocks, BlockStates, SharesFirstBlocks, CanEndOver, KeepsUsedBlocks, GrowingList, kept_blocks, unwritten_block, KeepsTakenBytes, blocks_of_list, AreUsedAmong, KeepsStoredBlocks, contents_blocks, stored_blocks, CanEndUnfinished}
 use Rattle.lfs_device.specs.declared.geometry.Geometry.{Geometry}
-use Rattle.lfs_file.specs.Growing.{GrowingList, kept_blocks, unwritten_block}
-use Rattle.lfs_file.specs.BlocksApart.{KeepsTakenBytes}
-use Rattle.lfs_file.specs.Bases.{list_blocks_from}
-use Rattle.lfs_file.specs.BlockOwners.{AreOwn, AreFromBase, KeepsStoredBlocks, contents_blocks, stored_blocks}
-use Rattle.lfs_file.specs.HandWrites.{HasUnfinishedBytes}
+use Rattle.lfs_file.specs.BlockOwners.{AreFromBase}
 use Rattle.lfs_file.specs.declared.contents.WriterContents.TheVariants.{InHand}
 use Rattle.lfs_file.specs.declared.writes.PendingList.{PendingList}
 use Rattle.lfs_file.specs.declared.stored_list.StoredList.{StoredList}
@@ -25,19 +18,19 @@ list_same block_size d s = record { same = refl; blocks = refl }
 pub list_on : {block_size : ℕ} {d e f : Blocks} {s t u : StoredList} → KeepsStoredBlocks block_size d s e t → KeepsStoredBlocks block_size e t f u → KeepsStoredBlocks block_size d s f u
 list_on first second = record { same = second.same ∙ first.same; blocks = second.blocks ∙ first.blocks }
 
-pub owned_all : (map : BlockStates) (bs : List ℕ) → AreOwn map bs bs
+pub owned_all : (map : BlockStates) (bs : List ℕ) → AreUsedAmong map bs bs
 owned_all map bs = record { each = λ b has used. has }
 
-pub owned_on : {map later : BlockStates} {xs ys zs : List ℕ} → KeepsUsedBlocks map later → AreOwn map xs ys → AreOwn later ys zs → AreOwn later xs zs
+pub owned_on : {map later : BlockStates} {xs ys zs : List ℕ} → KeepsUsedBlocks map later → AreUsedAmong map xs ys → AreUsedAmong later ys zs → AreUsedAmong later xs zs
 owned_on keeps first second = record { each = λ b has used. first.each b (second.each b has used) (used_back keeps b used) }
 
-pub owned_is : (map : BlockStates) {xs ys : List ℕ} → ys ≡ xs → AreOwn map xs ys
+pub owned_is : (map : BlockStates) {xs ys : List ℕ} → ys ≡ xs → AreUsedAmong map xs ys
 owned_is map {xs} {ys} same = record { each = λ b has used. subst (λ (l : List ℕ). Contains l b) same has }
 
-pub owned_both : {map : BlockStates} {xs ys zs : List ℕ} → AreOwn map xs ys → AreOwn map xs zs → AreOwn map xs (ys ++ zs)
+pub owned_both : {map : BlockStates} {xs ys zs : List ℕ} → AreUsedAmong map xs ys → AreUsedAmong map xs zs → AreUsedAmong map xs (ys ++ zs)
 owned_both {ys = ys} {zs = zs} first second = record { each = λ b has used. ⊎_elim (λ l. first.each b l used) (λ r. second.each b r used) (Contains-append_cases ys zs b has) }
 
-pub owned_right : {map : BlockStates} (xs : List ℕ) {ys zs : List ℕ} → AreOwn map ys zs → AreOwn map (xs ++ ys) zs
+pub owned_right : {map : BlockStates} (xs : List ℕ) {ys zs : List ℕ} → AreUsedAmong map ys zs → AreUsedAmong map (xs ++ ys) zs
 owned_right xs {ys} first = record { each = λ b has used. Contains-append_right xs ys b (first.each b has used) }
 
 -- a base stays in its blocks while a list is written over it
@@ -56,14 +49,14 @@ list_from geometry now d x f s t u same at is keeps =
     (subst (λ (y : Blocks). KeepsStoredBlocks now.block_size y s f u) at
     (subst (λ (v : StoredList). KeepsStoredBlocks now.block_size x v f u) is keeps))
 
-pub owned_kept : (map later : BlockStates) (geometry now : Geometry) (e f : Blocks) (t u : StoredList) (own : List ℕ) → now ≡ geometry → KeepsUsedBlocks map later → AreOwn map own (stored_blocks e geometry.block_size t) → KeepsStoredBlocks now.block_size e t f u
-    → AreOwn later own (stored_blocks f geometry.block_size u)
+pub owned_kept : (map later : BlockStates) (geometry now : Geometry) (e f : Blocks) (t u : StoredList) (own : List ℕ) → now ≡ geometry → KeepsUsedBlocks map later → AreUsedAmong map own (stored_blocks e geometry.block_size t) → KeepsStoredBlocks now.block_size e t f u
+    → AreUsedAmong later own (stored_blocks f geometry.block_size u)
 owned_kept map later geometry now e f t u own same keeps first list =
     owned_on keeps first (owned_is later (subst (λ (k : Geometry). KeepsStoredBlocks k.block_size e t f u) same list).blocks)
 
 -- a list that ended over a base
 pub ends_over : (map later : BlockStates) (d e f : Blocks) (geometry now : Geometry) (h : GrowingList) (base : StoredList) (shared : ℕ) (s : StoredList) → now ≡ geometry → CanEndOver map e geometry.block_size h base shared → KeepsUsedBlocks map later
-    → list_blocks_from e geometry.block_size base.head base.size ≡ list_blocks_from d geometry.block_size base.head base.size → list_blocks_from f geometry.block_size s.head s.size ≡ kept_blocks e h → s.in_flight ≡ true
+    → blocks_of_list e geometry.block_size base.head base.size ≡ blocks_of_list d geometry.block_size base.head base.size → blocks_of_list f geometry.block_size s.head s.size ≡ kept_blocks e h → s.in_flight ≡ true
     → AreFromBase later now.block_size d base f s
 ends_over map later d e f geometry now h base shared s same hand keeps stay list flying =
     subst (λ (k : Geometry). AreFromBase later k.block_size d base f s) (sym same)
@@ -73,10 +66,10 @@ ends_over map later d e f geometry now h base shared s same hand keeps stay list
     })
 
 -- the used blocks of a list in hand are its base's
-pub hand_owned : (map : BlockStates) (d : Blocks) (now : Geometry) (h : PendingList) (own : List ℕ) → HasUnfinishedBytes map d now h → AreOwn map own (stored_blocks d now.block_size h.base) → AreOwn map own (contents_blocks d now.block_size (InHand h))
+pub hand_owned : (map : BlockStates) (d : Blocks) (now : Geometry) (h : PendingList) (own : List ℕ) → CanEndUnfinished map d now h → AreUsedAmong map own (stored_blocks d now.block_size h.base) → AreUsedAmong map own (contents_blocks d now.block_size (InHand h))
 hand_owned map d now h own going base = owned_both
-    (record { each = λ b has used. base.each b (subst (λ (k : Geometry). Contains (list_blocks_from d k.block_size h.base.head h.base.size) b) (sym going.geometry) (going.list.begun.taken b has used)) used })
+    (record { each = λ b has used. base.each b (subst (λ (k : Geometry). Contains (blocks_of_list d k.block_size h.base.head h.base.size) b) (sym going.geometry) (going.list.begun.taken b has used)) used })
     base
 
 pub none_in : (d : Blocks) (block_size : ℕ) (s : StoredList) → s.size ≡ 0 → stored_blocks d block_size s ≡ []
-none_in d block_size s is = ap (λ k. list_blocks_from d block_size s.head k) is
+none_in d block_size s is = ap (λ k. blocks_of_list d block_size s.head k) is

@@ -1,15 +1,8 @@
 -- Blocks to which later ones have pointers, by the rows in which they are known.
 use Rattle.std.proofs.Common.{ℕ, zero, suc, ◌≡◌, ◌≢◌, ◌≤◌, ◌<◌, ◌+◌, ◌-◌, ◌^◌, ⊎_elim, replicate, slice_index, add-one, refl, sym, ap, subst, arith}
-use Rattle.std.proofs.lemmas.Bool.{cases_lt}
-use Rattle.std.proofs.lemmas.List.{get_or-replicate}
-use Rattle.std.proofs.Math.Nat.{pow-suc, one-le-pow}
-use Rattle.std.proofs.Math.Pow.{pow_mono}
-use Rattle.std.proofs.lemmas.Nat.{mul-le}
-use Rattle.std.proofs.lemmas.Nat.Bits.{bit_at-trailing_zeros}
+use Rattle.lfs_file.proofs.Common.{cases_lt, get_or-replicate, pow-suc, one-le-pow, pow_mono, mul-le, bit_at-trailing_zeros, w32, trailing_zeros, pointer_count, ArePointersKnown, OnlyBelowKnown, ArePointedKnown, IsKnownIndex, index_row}
 use Rattle.std.specs.Int.Count.{trailing_of_zero}
-use Rattle.std.specs.Int.{w32, trailing_zeros}
-use Rattle.lfs_model.specs.format.SkipLists.{pointer_count}
-use Rattle.lfs_file.specs.Known.{ArePointersKnown, OnlyBelowKnown, ArePointedKnown, IsKnownIndex, no_known_blocks, index_row}
+use Rattle.lfs_file.specs.Known.{no_known_blocks}
 use Rattle.lfs_file.specs.declared.known.KnownBlocks.{KnownBlocks}
 use Rattle.lfs_file.proofs.Chains.{pointer_count-pos}
 use Rattle.lfs_file.proofs.TrailingZeros.{factor-pos, multiple_of_power, zeros32-back, zeros32-between}

@@ -1,22 +1,8 @@
 -- A list that grows by blocks that were taken for it.
 use Rattle.std.proofs.Common.{ℕ, ◌≡◌, ◌≢◌, ◌+◌, inl, inr, ⊎_elim, get_or, List, ◌++◌, length, take, drop, Some, refl, sym, ap, ◌∙◌, subst, arith, length-append}
 use Rattle.std.specs.Prelude.{All, Contains}
-use Rattle.std.proofs.lemmas.List.{take_at}
-use Rattle.std.proofs.Math.Seq.{drop-append-add}
-use Rattle.std.proofs.lemmas.List.Elements.{All-append, Contains-append_right}
-use Rattle.lfs_model.specs.format.Blocks.{Blocks, SameExceptThese}
-use Rattle.lfs_model.specs.layers.BlockSets.{BlockStates, IsFree, IsInFlight, in_flight_count}
-use Rattle.lfs_model.specs.layers.BlockSets.BlockState.{Free, InFlight}
-use Rattle.lfs_model.specs.session.History.{CallEvent, LossLeavesAtWorst, HoldsAtLosses, StayUnprogrammed}
-use Rattle.lfs_model.specs.format.SkipLists.{blocks_to_head}
-use Rattle.lfs_model.proofs.Histories.{AllCallsSince-weaker}
-use Rattle.lfs_model.proofs.Files.{length_back}
-use Rattle.lfs_device.specs.DeviceCalls.{ChangesOnlyTheseBlocks}
+use Rattle.lfs_file.proofs.Common.{take_at, drop-append-add, All-append, Contains-append_right, Blocks, SameExceptThese, BlockStates, IsFree, IsInFlight, in_flight_count, Free, InFlight, CallEvent, LossLeavesAtWorst, HoldsAtLosses, StayUnprogrammed, blocks_to_head, AllCallsSince-weaker, length_back, ChangesTheseBlocks, KeepsTakenBlocks, GrowingList, kept_blocks, unwritten_block, GrowsInFree, IsTakenWritten, HasBlocksTaken, KeepsTakenBytes, TakenStayUnprogrammed, TakesFreeBlocks}
 use Rattle.lfs_device.specs.declared.device.BlockDevice.{Ghosts}
-use Rattle.lfs_file.specs.ContentsCalls.{CallKeepsTakenBlocksExceptUnwritten}
-use Rattle.lfs_file.specs.Growing.{GrowingList, kept_blocks, unwritten_block}
-use Rattle.lfs_file.specs.BlocksApart.{GrowsInFree, IsTakenWritten, HasBlocksTaken, KeepsTakenBytes, TakenStayUnprogrammed}
-use Rattle.lfs_file.specs.TakenBlocks.{TakesFreeBlocks}
 use Rattle.lfs_file.proofs.Growth.{cases_in_flight}
 use Rattle.lfs_file.proofs.Takings.{came, others_stay}
 
@@ -75,7 +61,7 @@ module _ (map later : BlockStates) (d e : Blocks) (g h : GrowingList) (blocks : 
   }
 
 -- what a push leaves alone
-pub leaves_apart : {D : Type 0} (g : Ghosts D) (map later : BlockStates) (pending blocks : List ℕ) {old new : D} → TakesFreeBlocks map later blocks → ChangesOnlyTheseBlocks g (pending ++ blocks) old new → CallKeepsTakenBlocksExceptUnwritten g map pending old new
+pub leaves_apart : {D : Type 0} (g : Ghosts D) (map later : BlockStates) (pending blocks : List ℕ) {old new : D} → TakesFreeBlocks map later blocks → ChangesTheseBlocks g (pending ++ blocks) old new → KeepsTakenBlocks g map pending old new
 leaves_apart g map later pending blocks {old} {new} takes changes = record {
   spared = spares_by map later pending blocks (g.blocks old) (g.blocks new) takes changes.others;
   pages = pages_by map later pending blocks (g.history old) (g.history new) takes changes.elsewhere;

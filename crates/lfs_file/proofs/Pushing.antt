@@ -2,17 +2,11 @@
 use Rattle.std.proofs.Common.{ℕ, false, suc, ◌≡◌, ◌≢◌, ◌+◌, ◌-◌, ◌<◌, ◌≤◌, ⊎_elim, nat_eq, get_or, List, [], ◌∷◌, ◌++◌, length, take, slice_index, refl, sym, ap, subst, ◌∙◌, arith, append_assoc, length-append}
 use Rattle.std.specs.Prelude.{All}
 use Rattle.std.specs.List.{IsDistinct}
-use Rattle.std.proofs.lemmas.Bool.{cases_lt, eqb-false}
-use Rattle.std.proofs.lemmas.List.{append-nil, get_or_append_left, get_or-append-add, get_or-take, length-take-le, take_more, get_or_default}
-use Rattle.std.proofs.lemmas.List.Elements.{All-cons, All-nil}
-use Rattle.std.proofs.lemmas.Map.Keys.{apart_from_distinct}
-use Rattle.lfs_model.specs.format.Blocks.{Blocks}
-use Rattle.lfs_model.specs.session.History.{CallEvent, StayUnprogrammed}
-use Rattle.lfs_model.proofs.Histories.{StayUnprogrammed-trans, StayUnprogrammed-wider}
-use Rattle.lfs_model.specs.format.SkipLists.{block_capacity, blocks_to_head, block_count_for}
+use Rattle.lfs_file.proofs.Common.{cases_lt, eqb-false, append-nil, get_or_append_left, get_or-take, length-take-le, take_more, get_or_default, All-cons, All-nil, apart_from_distinct, Blocks, CallEvent, StayUnprogrammed, StayUnprogrammed-trans, block_capacity, blocks_to_head, block_count_for, GrowingList, unwritten_rest_block, rest_block, rest_lacks_block, lacks_last_block, unwritten_block, kept_blocks, growing_blocks, growing_size_with, block_for_next, IsRestAt, IsOnDisk}
+use Rattle.std.proofs.lemmas.List.{get_or-append-add}
+use Rattle.lfs_model.proofs.Histories.{StayUnprogrammed-wider}
 use Rattle.lfs_file.specs.declared.rest.RestLocation.{RestLocation}
 use Rattle.lfs_file.specs.declared.rest.RestLocation.TheVariants.{Closed, Shared, Handed, Held}
-use Rattle.lfs_file.specs.Growing.{GrowingList, unwritten_after_full, rest_block, rest_lacks_block, lacks_last_block, unwritten_block, kept_blocks, growing_blocks, growing_size_with, block_for_next, LastBytesAreAt, IsOnDisk}
 use Rattle.lfs_file.proofs.Sizes.{block_count_for-above, block_count_for-within}
 use Rattle.lfs_file.proofs.Chains.{length_back}
 
@@ -27,8 +21,8 @@ among_handed pending blocks used lt other apart is =
     apart (length pending + used) 0 (omega (arith, length-append pending blocks)) (get_or-append-add pending blocks used 0 ∙ is)
 
 -- the block that takes the next bytes is among them
-pub next_among : (t : RestLocation) (handed pending blocks : List ℕ) (used : ℕ) → handed ≡ pending ++ blocks → (unwritten_after_full t ≡ [] → used < length blocks)
-    → ((other : ℕ) → All (λ b. b ≢ other) handed → All (λ b. b ≢ other) (unwritten_after_full t)) → (other : ℕ) → All (λ b. b ≢ other) handed → (block_for_next t blocks used).0 ≢ other
+pub next_among : (t : RestLocation) (handed pending blocks : List ℕ) (used : ℕ) → handed ≡ pending ++ blocks → (unwritten_rest_block t ≡ [] → used < length blocks)
+    → ((other : ℕ) → All (λ b. b ≢ other) handed → All (λ b. b ≢ other) (unwritten_rest_block t)) → (other : ℕ) → All (λ b. b ≢ other) handed → (block_for_next t blocks used).0 ≢ other
 next_among Closed handed pending blocks used is some among other apart = among_handed pending blocks used (some refl) other (subst (All (λ b. b ≢ other)) is apart)
 next_among (Shared b) handed pending blocks used is some among other apart = among_handed pending blocks used (some refl) other (subst (All (λ b. b ≢ other)) is apart)
 next_among (Handed b) handed pending blocks used is some among other apart = among other apart 0 0 (omega arith)
@@ -50,8 +44,8 @@ apart_before back front blocks used lt is distinct apart k x l e =
     eqb-false (get_or blocks i x) (get_or blocks used x) (apart_from_distinct nat_eq blocks i used x distinct (omega arith) lt) (sym there ∙ e ∙ get_or_default blocks used 0 x lt))
     (cases_lt k (length front))
 
-pub next_apart : (d : Blocks) (full head : ℕ) (rest : List ℕ) (t : RestLocation) (front blocks : List ℕ) (used : ℕ) → LastBytesAreAt d full head rest t → (unwritten_after_full t ≡ [] → used < length blocks)
-    → blocks_to_head d full head ++ unwritten_after_full t ≡ front ++ take used blocks → IsDistinct nat_eq blocks → All (λ b. All (λ c. c ≢ b) front) blocks → All (λ c. c ≢ (block_for_next t blocks used).0) (blocks_to_head d full head)
+pub next_apart : (d : Blocks) (full head : ℕ) (rest : List ℕ) (t : RestLocation) (front blocks : List ℕ) (used : ℕ) → IsRestAt d full head rest t → (unwritten_rest_block t ≡ [] → used < length blocks)
+    → blocks_to_head d full head ++ unwritten_rest_block t ≡ front ++ take used blocks → IsDistinct nat_eq blocks → All (λ b. All (λ c. c ≢ b) front) blocks → All (λ c. c ≢ (block_for_next t blocks used).0) (blocks_to_head d full head)
 next_apart d full head rest Closed front blocks used stand some is distinct apart = apart_before (blocks_to_head d full head) front blocks used (some refl) (sym (append-nil (blocks_to_head d full head)) ∙ is) distinct apart
 next_apart d full head rest (Shared b) front blocks used stand some is distinct apart =
     apart_before (blocks_to_head d full head) front blocks used (some refl) (sym (append-nil (blocks_to_head d full head)) ∙ is) distinct apart
@@ -60,14 +54,14 @@ next_apart d full head rest Held front blocks used stand some is distinct apart 
     apart_before (blocks_to_head d full head) front blocks used (some refl) (sym (append-nil (blocks_to_head d full head)) ∙ is) distinct apart
 
 -- and it is on the device
-pub next_inside : (d : Blocks) (full head : ℕ) (rest : List ℕ) (t : RestLocation) (blocks : List ℕ) (used n : ℕ) → length d ≡ n → LastBytesAreAt d full head rest t → (unwritten_after_full t ≡ [] → used < length blocks) → All (λ b. b < n) blocks
+pub next_inside : (d : Blocks) (full head : ℕ) (rest : List ℕ) (t : RestLocation) (blocks : List ℕ) (used n : ℕ) → length d ≡ n → IsRestAt d full head rest t → (unwritten_rest_block t ≡ [] → used < length blocks) → All (λ b. b < n) blocks
     → (block_for_next t blocks used).0 < n
 next_inside d full head rest Closed blocks used n count stand some inside = inside used 0 (some refl)
 next_inside d full head rest (Shared b) blocks used n count stand some inside = inside used 0 (some refl)
 next_inside d full head rest (Handed b) blocks used n count stand some inside = omega (arith, stand.in_range, count)
 next_inside d full head rest Held blocks used n count stand some inside = inside used 0 (some refl)
 
-pub next_some : (t : RestLocation) (blocks : List ℕ) (used : ℕ) → (unwritten_after_full t ≡ [] → used < length blocks) → used ≤ length blocks → (block_for_next t blocks used).1 ≤ length blocks
+pub next_some : (t : RestLocation) (blocks : List ℕ) (used : ℕ) → (unwritten_rest_block t ≡ [] → used < length blocks) → used ≤ length blocks → (block_for_next t blocks used).1 ≤ length blocks
 next_some Closed blocks used some le = let lt = some refl in omega arith
 next_some (Shared b) blocks used some le = let lt = some refl in omega arith
 next_some (Handed b) blocks used some le = le
@@ -79,7 +73,7 @@ one_used back front blocks used lt is =
     ∙ append_assoc front (take used blocks) (slice_index blocks used ∷ [])
     ∙ ap (λ (l : List ℕ). front ++ l) (sym (take_more blocks used 0 lt))
 
-pub next_kept : (t : RestLocation) (back front blocks : List ℕ) (used : ℕ) → (unwritten_after_full t ≡ [] → used < length blocks) → back ++ unwritten_after_full t ≡ front ++ take used blocks
+pub next_kept : (t : RestLocation) (back front blocks : List ℕ) (used : ℕ) → (unwritten_rest_block t ≡ [] → used < length blocks) → back ++ unwritten_rest_block t ≡ front ++ take used blocks
     → back ++ (block_for_next t blocks used).0 ∷ [] ≡ front ++ take (block_for_next t blocks used).1 blocks
 next_kept Closed back front blocks used some is = one_used back front blocks used (some refl) is
 next_kept (Shared b) back front blocks used some is = one_used back front blocks used (some refl) is
@@ -116,8 +110,8 @@ size_fits : (d : Blocks) (block_size : ℕ) (g : GrowingList) → 1024 ≤ block
     → block_count_for block_size (growing_size_with block_size g) ≤ g.full + length (unwritten_block g)
 size_fits d block_size g large held short own listed = go g.stand held.stand listed own
   where
-    go : (t : RestLocation) → LastBytesAreAt d g.full g.head g.rest t → lacks_last_block t ≡ false → blocks_to_head d g.full g.head ++ rest_block t ≡ blocks_to_head d g.full g.head ++ unwritten_after_full t
-        → block_count_for block_size (growing_size_with block_size g) ≤ g.full + length (unwritten_after_full t)
+    go : (t : RestLocation) → IsRestAt d g.full g.head g.rest t → lacks_last_block t ≡ false → blocks_to_head d g.full g.head ++ rest_block t ≡ blocks_to_head d g.full g.head ++ unwritten_rest_block t
+        → block_count_for block_size (growing_size_with block_size g) ≤ g.full + length (unwritten_rest_block t)
     go Closed none out e = let w = block_count_for-within block_size (growing_size_with block_size g) g.full large (omega (arith, ap length none)) in omega arith
     go (Shared b) shared out e =
         absurd (omega (arith, ap length e, length-append (blocks_to_head d g.full g.head) (b ∷ []), length-append (blocks_to_head d g.full g.head) []))

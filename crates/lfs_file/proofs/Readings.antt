@@ -1,10 +1,7 @@
 -- Reads after reads.
 use Rattle.std.proofs.Common.{◌≡◌, ℕ, List, refl, sym, subst}
-use Rattle.lfs_model.specs.format.Blocks.{Blocks, SameExcept}
-use Rattle.lfs_model.specs.session.History.{CallEvent, OnlyReadsSince, LossLeavesAtWorst, HoldsAtLosses}
-use Rattle.lfs_model.proofs.Histories.{HoldsAtLosses-read_count, LossLeavesAtWorst-read}
-use Rattle.lfs_model.proofs.Overwrites.{SameExcept-refl}
-use Rattle.lfs_model.proofs.Histories.{goes_on_by, AllCallsSince-weaker}
+use Rattle.lfs_file.proofs.Common.{Blocks, SameExcept, CallEvent, LossLeavesAtWorst, HoldsAtLosses, HoldsAtLosses-read_count, LossLeavesAtWorst-read, SameExcept-refl, goes_on_by, AllCallsSince-weaker}
+use Rattle.lfs_model.specs.session.History.{OnlyReadsSince}
 
 pub reads_on : (disk same : Blocks) (old mid new : List CallEvent) → same ≡ disk → OnlyReadsSince disk old mid → OnlyReadsSince same mid new → OnlyReadsSince disk old new
 reads_on disk same old mid new e first second = goes_on_by first (subst (λ d. OnlyReadsSince d mid new) e second)

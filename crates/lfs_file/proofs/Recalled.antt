@@ -1,10 +1,8 @@
 -- Reads that go on from a block that was found.
 use Rattle.std.proofs.Common.{ℕ, ◌≡◌, ◌+◌, ◌*◌, ◌-◌, ◌<◌, ◌≤◌, ◌^◌, min, List, Result, Ok, Err, subst, arith}
 use Rattle.std.specs.Prelude.{OnOk}
-use Rattle.lfs_model.specs.format.Blocks.{Blocks}
-use Rattle.lfs_model.specs.format.SkipLists.{IsBytePlace, block_count_for, blocks_to_head}
-use Rattle.lfs_model.specs.session.History.{CallEvent, read_count}
-use Rattle.lfs_file.specs.Known.{AreKnownBlocks, FindsFew, IsKnownIndex, ReadsFewPointers, ReadsKnownList}
+use Rattle.lfs_file.proofs.Common.{Blocks, IsBytePlace, block_count_for, blocks_to_head, CallEvent, read_count, AreKnownBlocks, IsKnownIndex, ReadsKnownList}
+use Rattle.lfs_file.specs.Known.{FindsFew, ReadsFewPointers}
 use Rattle.lfs_file.specs.declared.known.KnownBlocks.{KnownBlocks}
 
 -- a block was found, and so many reads came after

@@ -1,18 +1,7 @@
 -- What it means that blocks are taken out of flight.
 use Rattle.std.proofs.Common.{ℕ, zero, suc, ◌≡◌, ◌≢◌, ◌+◌, ◌-◌, ◌<◌, ◌≤◌, ⊎_elim, cond, get_or, set, List, [], ◌∷◌, length, drop, Some, slice_index, refl, sym, ap, ◌∙◌, subst, arith, add-one, drop-cons}
-use Rattle.std.specs.List.{slice_get}
-use Rattle.std.proofs.lemmas.Bool.{cases_eq}
-use Rattle.std.proofs.lemmas.List.{length-set}
-use Rattle.std.proofs.lemmas.List.Elements.{All-cons}
+use Rattle.lfs_file.proofs.Common.{slice_get, cases_eq, length-set, All-cons, slice_get-get_or, Blocks, block_bytes, BlockState, BlockStates, IsInFlight, IsUsedBlock, is_used, used_count, Free, InFlight, Used, AreListBlocks, blocks_to_head, word_at, slice_get-set_same, slice_get-set_other, ReleasesInFlight, length_back}
 use Rattle.std.proofs.lemmas.List.Sums.{sum_by-set}
-use Rattle.std.proofs.lemmas.Option.{slice_get-get_or}
-use Rattle.lfs_model.specs.format.Blocks.{Blocks, block_bytes}
-use Rattle.lfs_model.specs.layers.BlockSets.{BlockState, BlockStates, IsInFlight, IsUsedBlock, is_used, used_count}
-use Rattle.lfs_model.specs.layers.BlockSets.BlockState.{Free, InFlight, Used}
-use Rattle.lfs_model.specs.format.SkipLists.{AreListBlocks, blocks_to_head, word_at}
-use Rattle.lfs_model.proofs.BlockSets.{slice_get-set_same, slice_get-set_other}
-use Rattle.lfs_file.specs.Releases.{ReleasesInFlight}
-use Rattle.lfs_model.proofs.Files.{length_back}
 
 pub releases_none : (sets : BlockStates) → ReleasesInFlight sets sets []
 releases_none sets = record { count = refl; used = refl; stays = λ b is. is; gone = λ k x l. absurd (omega (arith, l)); others = λ b apart. refl }

@@ -1,13 +1,8 @@
 -- The bytes of an extender that do not fill a block.
 use Rattle.std.proofs.Common.{Global, Vec, ℕ, ◌≡◌, ◌<◌, ◌+◌, ◌-◌, ◌*◌, ◌^◌, length, drop, sym, subst, arith, length-drop}
-use Rattle.std.proofs.lemmas.List.{length-take-le}
-use Rattle.lfs_model.specs.format.SkipLists.{pointer_count}
+use Rattle.lfs_file.proofs.Common.{length-take-le, pointer_count, IsExtender, growing_view, AreConsistent, OnlyBelowKnown, GrowingList, IsRestShort, growing_size}
 use Rattle.lfs_file.specs.declared.block.FullBlocks.{FullBlocks}
 use Rattle.lfs_file.specs.declared.extender.ExtenderState.{ExtenderState}
-use Rattle.lfs_file.specs.Fields.{IsExtender, growing_view}
-use Rattle.lfs_file.specs.Filled.{AreConsistent}
-use Rattle.lfs_file.specs.Known.{OnlyBelowKnown}
-use Rattle.lfs_file.specs.Growing.{GrowingList, LastBytesShort, growing_size}
 
 -- how many there are
 pub rest_long : (e : ExtenderState) → IsExtender e → length (growing_view e).rest + 4 * pointer_count e.front.count ≡ e.filled
@@ -30,7 +25,7 @@ after_write e buffer front has size same below = record {
 
 -- they do not fill a block, and the size counts them
 pub record IsCounted (g : GrowingList) (size : ℕ) : Type 0 where
-  pub short : LastBytesShort g.geometry.block_size g
+  pub short : IsRestShort g.geometry.block_size g
   pub sum : size ≡ growing_size g
   pub fits : size < 2 ^ 31
 

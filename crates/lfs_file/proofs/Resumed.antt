@@ -2,20 +2,12 @@
 use Rattle.std.proofs.Common.{ℕ, zero, suc, ◌≡◌, ◌+◌, ◌*◌, ◌-◌, ◌<◌, ◌≤◌, ◌^◌, nat_eq, false, get_or, List, [], ◌∷◌, ◌++◌, length, take, drop, slice_index, refl, sym, ap, subst, ◌∙◌, arith, add-one, length-drop}
 use Rattle.std.specs.Prelude.{All}
 use Rattle.std.specs.List.{IsDistinct}
-use Rattle.std.proofs.Math.Nat.{one-le-pow}
-use Rattle.std.proofs.Math.Seq.{take-append-add}
-use Rattle.std.proofs.lemmas.List.{append-nil, take_at, take_more, drop_more, take-take, take-append-le, take-append-drop, get_or-take, length-take-le}
-use Rattle.std.proofs.lemmas.Map.Keys.{IsDistinct-from_apart, apart_from_distinct}
-use Rattle.lfs_model.specs.format.Blocks.{Blocks, HasBlockSizes, block_bytes}
-use Rattle.lfs_model.specs.format.SkipLists.{word_at, pointer_count, bytes_before_block, blocks_to_head, block_count_for, AreListBlocks, IsSkipList, IsBytePlace, block_data, list_bytes}
-use Rattle.lfs_file.specs.Finished.{IsListOf}
-use Rattle.lfs_file.specs.Growing.{blocks_data, LastBytesShared}
+use Rattle.lfs_file.proofs.Common.{one-le-pow, take-append-add, append-nil, take_at, take_more, drop_more, take-take, take-append-le, take-append-drop, get_or-take, length-take-le, IsDistinct-from_apart, apart_from_distinct, Blocks, HasBlockSizes, block_bytes, word_at, pointer_count, bytes_before_block, blocks_to_head, block_count_for, AreListBlocks, IsSkipList, IsBytePlace, block_data, list_bytes, IsListOf, blocks_data, IsRestShared, AllSized}
 use Rattle.lfs_file.proofs.Sizes.{pointer_count-le, block_count_for-place, place-lt}
 use Rattle.lfs_file.proofs.Chains.{length_back, back-pointer0}
 use Rattle.lfs_file.proofs.Filling.{none_chain}
 use Rattle.lfs_file.proofs.Pointed.{pointed_some}
 use Rattle.lfs_file.proofs.Joined.{joined_from, joined-append, length-joined, back_prefix}
-use Rattle.lfs_model.proofs.ListSizes.{AllSized}
 
 -- a list of blocks that is a chain's
 record IsChainOf (d : Blocks) (n : ℕ) (bs : List ℕ) : Type 0 where
@@ -177,7 +169,7 @@ module _ (d : Blocks) (block_size count head size keep i off block : ℕ) (large
           let size_is = length-take-le (off + 1 - p) (drop p (block_bytes d block)) (omega (arith, length-drop p (block_bytes d block), block_long)) in
           (ap length rest_is ∙ size_is, omega arith, omega arith)
 
-      pub open_shared : LastBytesShared d i before rest block
+      pub open_shared : IsRestShared d i before rest block
       open_shared = record {
         some = (let l = rest_long in omega arith);
         chain = front_chain;

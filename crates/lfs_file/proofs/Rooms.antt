@@ -1,23 +1,18 @@
 -- What a writer holds is room for its next write, for a truncation, and for ending its list.
 use Rattle.std.proofs.Common.{ℕ, ◌≡◌, ◌+◌, ◌*◌, ◌<◌, ◌≤◌, ⊎_elim, Bool, true, false, if◌then◌else◌, max, min, List, ◌∷◌, length, sym, ap, subst, arith}
 use Rattle.std.specs.Prelude.{◌==◌}
-use Rattle.std.proofs.lemmas.Bool.{cases_lt}
+use Rattle.lfs_file.proofs.Common.{cases_lt, inline_limit, block_count_for, FileWriter, reserved_for_writer, truncated_writer, written_writer, write_position, ContentsForm, InMemory, Finished, InHand, form_size, form_after_inner, IsWriterForm, truncation_room, write_room}
 use Rattle.lfs_model.specs.declared.limits.Profile.{Profile}
-use Rattle.lfs_model.specs.format.Disk.{inline_limit}
-use Rattle.lfs_model.specs.format.SkipLists.{block_count_for}
-use Rattle.lfs_model.specs.session.Session.{FileWriter, reserved_for_writer}
-use Rattle.lfs_model.specs.session.Writers.{truncated_writer, written_writer, write_position}
-use Rattle.lfs_file.specs.Form.{StorageForm, InMemory, Finished, InHand, form_size, form_after_inner, FitsWriterForm}
-use Rattle.lfs_file.specs.Contents.{FormFitsInlineLimit, NeedsTruncateRoom, finish_room, truncation_room, write_room}
+use Rattle.lfs_file.specs.Contents.{FormFitsInline, NeedsTruncateRoom, finish_room}
 use Rattle.lfs_file.proofs.Forms.{kept_truncated, kept_written, room_ended, room_grown, room_turned, written_many}
 use Rattle.lfs_file.proofs.Truncations.{longer_room, room_shorter, truncated_longer}
 
-pub kept_large : (profile : Profile) (block_size : ℕ) (form : StorageForm) (w : FileWriter) → FitsWriterForm profile block_size form w → FormFitsInlineLimit (inline_limit profile block_size) form
+pub kept_large : (profile : Profile) (block_size : ℕ) (form : ContentsForm) (w : FileWriter) → IsWriterForm profile block_size form w → FormFitsInline (inline_limit profile block_size) form
 kept_large profile block_size (InMemory size) w kept = kept.fits
 kept_large profile block_size (Finished size flying) w kept = kept.fits.large
 kept_large profile block_size (InHand stop base flying) w kept = kept.fits.large
 
-pub kept_moved : (profile : Profile) (block_size place : ℕ) (form : StorageForm) (w : FileWriter) → FitsWriterForm profile block_size form w → FitsWriterForm profile block_size form (record w { position = place })
+pub kept_moved : (profile : Profile) (block_size place : ℕ) (form : ContentsForm) (w : FileWriter) → IsWriterForm profile block_size form w → IsWriterForm profile block_size form (record w { position = place })
 kept_moved profile block_size place (InMemory size) w kept = record { size = kept.size; fits = kept.fits }
 kept_moved profile block_size place (Finished size flying) w kept = record {
   size = kept.size;
@@ -28,28 +23,28 @@ kept_moved profile block_size place (InHand stop base flying) w kept = record {
   fits = record { dirty = kept.fits.dirty; large = kept.fits.large; turned = kept.fits.turned; at_end = kept.fits.at_end };
 }
 
-either_room : (profile : Profile) (t : Bool) (block_size stop end base : ℕ) (flying : Bool) (v : FileWriter) (used all : ℕ) → FitsWriterForm profile block_size (if t then InHand stop base flying else InHand stop (max end base) true) v → used + reserved_for_writer profile block_size v ≤ all
+either_room : (profile : Profile) (t : Bool) (block_size stop end base : ℕ) (flying : Bool) (v : FileWriter) (used all : ℕ) → IsWriterForm profile block_size (if t then InHand stop base flying else InHand stop (max end base) true) v → used + reserved_for_writer profile block_size v ≤ all
     → used + (if t then block_count_for block_size stop + (if flying then block_count_for block_size base else 0) else 2 * block_count_for block_size (max (max end base) stop)) ≤ all
 either_room profile true block_size stop end base flying v used all kept room = let e = room_grown profile block_size stop base flying v used all kept room in omega arith
 either_room profile false block_size stop end base flying v used all kept room = room_turned profile block_size stop (max end base) v used all kept room
 
-grown_room : (profile : Profile) (block_size place count : ℕ) (form : StorageForm) (v : FileWriter) (used all : ℕ) → FitsWriterForm profile block_size (form_after_inner (min place (form_size form)) (place + count) form) v → used + reserved_for_writer profile block_size v ≤ all → used + write_room block_size place count form ≤ all
+grown_room : (profile : Profile) (block_size place count : ℕ) (form : ContentsForm) (v : FileWriter) (used all : ℕ) → IsWriterForm profile block_size (form_after_inner (min place (form_size form)) (place + count) form) v → used + reserved_for_writer profile block_size v ≤ all → used + write_room block_size place count form ≤ all
 grown_room profile block_size place count (InMemory size) v used all kept room = let e = room_grown profile block_size (place + count) 0 false v used all kept room in omega arith
 grown_room profile block_size place count (Finished size flying) v used all kept room = let e = room_grown profile block_size (place + count) size flying v used all kept room in omega arith
 grown_room profile block_size place count (InHand end base flying) v used all kept room = either_room profile (end == min place (max end base)) block_size (place + count) end base flying v used all kept room
 
-pub room_to_write : (profile : Profile) (block_size : ℕ) (form : StorageForm) (w : FileWriter) (byte : ℕ) (bytes : List ℕ) (used all : ℕ) → FitsWriterForm profile block_size form w → used + reserved_for_writer profile block_size (written_writer w (byte ∷ bytes)) ≤ all
+pub room_to_write : (profile : Profile) (block_size : ℕ) (form : ContentsForm) (w : FileWriter) (byte : ℕ) (bytes : List ℕ) (used all : ℕ) → IsWriterForm profile block_size form w → used + reserved_for_writer profile block_size (written_writer w (byte ∷ bytes)) ≤ all
     → inline_limit profile block_size < max (form_size form) (write_position w + length (byte ∷ bytes)) → used + write_room block_size (write_position w) (length (byte ∷ bytes)) form ≤ all
 room_to_write profile block_size form w byte bytes used all kept room many =
     grown_room profile block_size (write_position w) (length (byte ∷ bytes)) form (written_writer w (byte ∷ bytes)) used all
-    (subst (λ (f : StorageForm). FitsWriterForm profile block_size f (written_writer w (byte ∷ bytes))) (written_many (inline_limit profile block_size) (write_position w) (length (byte ∷ bytes)) form many) (kept_written profile block_size form w byte bytes kept)) room
+    (subst (λ (f : ContentsForm). IsWriterForm profile block_size f (written_writer w (byte ∷ bytes))) (written_many (inline_limit profile block_size) (write_position w) (length (byte ∷ bytes)) form many) (kept_written profile block_size form w byte bytes kept)) room
 
-pub room_to_end : (profile : Profile) (block_size : ℕ) (form : StorageForm) (w : FileWriter) (used all : ℕ) → FitsWriterForm profile block_size form w → used + reserved_for_writer profile block_size w ≤ all → used + finish_room block_size form ≤ all
+pub room_to_end : (profile : Profile) (block_size : ℕ) (form : ContentsForm) (w : FileWriter) (used all : ℕ) → IsWriterForm profile block_size form w → used + reserved_for_writer profile block_size w ≤ all → used + finish_room block_size form ≤ all
 room_to_end profile block_size (InMemory size) w used all kept room = omega arith
 room_to_end profile block_size (Finished size flying) w used all kept room = omega arith
 room_to_end profile block_size (InHand end base flying) w used all kept room = let e = room_ended profile block_size end base flying w used all kept room in omega arith
 
-longer_hand_room : (profile : Profile) (t : Bool) (block_size size end base : ℕ) (flying : Bool) (v : FileWriter) (used all : ℕ) → max end base < size → FitsWriterForm profile block_size (if t then InHand size base flying else InHand size (max end base) true) v → used + reserved_for_writer profile block_size v ≤ all
+longer_hand_room : (profile : Profile) (t : Bool) (block_size size end base : ℕ) (flying : Bool) (v : FileWriter) (used all : ℕ) → max end base < size → IsWriterForm profile block_size (if t then InHand size base flying else InHand size (max end base) true) v → used + reserved_for_writer profile block_size v ≤ all
     → used + (if t then block_count_for block_size size + (if flying then block_count_for block_size base else 0) else 2 * block_count_for block_size size) ≤ all
 longer_hand_room profile true block_size size end base flying v used all more kept room = let e = room_grown profile block_size size base flying v used all kept room in omega arith
 longer_hand_room profile false block_size size end base flying v used all more kept room =
@@ -58,17 +53,17 @@ longer_hand_room profile false block_size size end base flying v used all more k
     omega arith
 
 -- what a writer holds before and after is room for a truncation
-pub room_to_truncate : (profile : Profile) (block_size : ℕ) (form : StorageForm) (w : FileWriter) (size used all : ℕ) → FitsWriterForm profile block_size form w → used + reserved_for_writer profile block_size w ≤ all → used + reserved_for_writer profile block_size (truncated_writer w size) ≤ all
+pub room_to_truncate : (profile : Profile) (block_size : ℕ) (form : ContentsForm) (w : FileWriter) (size used all : ℕ) → IsWriterForm profile block_size form w → used + reserved_for_writer profile block_size w ≤ all → used + reserved_for_writer profile block_size (truncated_writer w size) ≤ all
     → NeedsTruncateRoom (inline_limit profile block_size) size form → used + truncation_room block_size size form ≤ all
 room_to_truncate profile block_size (InMemory old) w size used all kept before after needs =
     let few : old ≤ inline_limit profile block_size = kept.fits in
     let is = truncated_longer (inline_limit profile block_size) size (InMemory old) (omega arith) needs in
-    let new = subst (λ (f : StorageForm). FitsWriterForm profile block_size f (truncated_writer w size)) (sym is) (kept_truncated profile block_size (InMemory old) w size kept) in
+    let new = subst (λ (f : ContentsForm). IsWriterForm profile block_size f (truncated_writer w size)) (sym is) (kept_truncated profile block_size (InMemory old) w size kept) in
     let e = room_grown profile block_size size 0 false (truncated_writer w size) used all new after in
     omega arith
 room_to_truncate profile block_size (Finished old flying) w size used all kept before after needs =
     let is = truncated_longer (inline_limit profile block_size) size (Finished old flying) needs.1 needs.0 in
-    let new = subst (λ (f : StorageForm). FitsWriterForm profile block_size f (truncated_writer w size)) (sym is) (kept_truncated profile block_size (Finished old flying) w size kept) in
+    let new = subst (λ (f : ContentsForm). IsWriterForm profile block_size f (truncated_writer w size)) (sym is) (kept_truncated profile block_size (Finished old flying) w size kept) in
     let e = room_grown profile block_size size old flying (truncated_writer w size) used all new after in
     omega arith
 room_to_truncate profile block_size (InHand end base flying) w size used all kept before after needs =
@@ -76,7 +71,7 @@ room_to_truncate profile block_size (InHand end base flying) w size used all kep
     ⊎_elim
     (λ longer.
     let is = truncated_longer (inline_limit profile block_size) size (InHand end base flying) longer (omega arith) in
-    let new = subst (λ (f : StorageForm). FitsWriterForm profile block_size f (truncated_writer w size)) (sym is) (kept_truncated profile block_size (InHand end base flying) w size kept) in
+    let new = subst (λ (f : ContentsForm). IsWriterForm profile block_size f (truncated_writer w size)) (sym is) (kept_truncated profile block_size (InHand end base flying) w size kept) in
     let e = longer_hand_room profile (end == max end base) block_size size end base flying (truncated_writer w size) used all longer new after in
     let room = longer_room block_size size end base flying longer in
     omega arith)

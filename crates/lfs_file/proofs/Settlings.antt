@@ -1,18 +1,7 @@
 -- Blocks of a list that take another state, one after another.
 use Rattle.std.proofs.Common.{ℕ, suc, ◌≡◌, ◌≢◌, ◌+◌, ◌-◌, ◌<◌, ◌⊎◌, inl, inr, ⊎_elim, get_or, set, List, [], ◌∷◌, length, drop, Some, Result, Err, slice_index, refl, sym, ap, ◌∙◌, subst, arith}
-use Rattle.std.specs.List.{slice_get}
-use Rattle.std.proofs.lemmas.Bool.{cases_eq}
-use Rattle.std.proofs.lemmas.List.{length-set}
-use Rattle.std.proofs.lemmas.Option.{slice_get-get_or}
-use Rattle.std.proofs.lemmas.List.Elements.{All-cons, All-contains}
+use Rattle.lfs_file.proofs.Common.{slice_get, cases_eq, length-set, slice_get-get_or, All-cons, All-contains, Blocks, BlockState, BlockStates, IsUsedBlock, Free, InFlight, Used, blocks_to_head, slice_get-set_same, slice_get-set_other, head_of_back, SettlesList, PutsInState}
 use Rattle.lfs_device.specs.declared.error.Error.{Error}
-use Rattle.lfs_model.specs.format.Blocks.{Blocks}
-use Rattle.lfs_model.specs.layers.BlockSets.{BlockState, BlockStates, IsUsedBlock}
-use Rattle.lfs_model.specs.layers.BlockSets.BlockState.{Free, InFlight, Used}
-use Rattle.lfs_model.specs.format.SkipLists.{blocks_to_head}
-use Rattle.lfs_model.proofs.BlockSets.{slice_get-set_same, slice_get-set_other}
-use Rattle.lfs_model.proofs.ListSizes.{head_of_back}
-use Rattle.lfs_file.specs.SettledMaps.{SettlesList, PutsInState}
 use Rattle.lfs_file.proofs.Releasings.{drop_here}
 
 -- the head is the last block

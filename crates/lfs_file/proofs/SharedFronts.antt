@@ -1,19 +1,12 @@
 -- What two lists of blocks share.
 use Rattle.std.proofs.Common.{ℕ, zero, suc, ◌≡◌, ◌≢◌, ◌+◌, ◌-◌, ◌<◌, ◌≤◌, nat_eq, ⊎_elim, get_or, List, [], ◌∷◌, ◌++◌, take, drop, Some, slice_index, refl, sym, ap, ◌∙◌, subst, arith, length-drop}
 use Rattle.std.specs.Prelude.{All, Contains}
-use Rattle.std.specs.List.{IsDistinct, slice_get}
-use Rattle.std.proofs.lemmas.Bool.{cases_lt}
-use Rattle.std.proofs.lemmas.List.{get_or-take, take-append-drop, take_more}
-use Rattle.std.proofs.lemmas.List.Elements.{All-contains, Contains-append_cases, Contains-append_left, Contains-get_or}
-use Rattle.lfs_model.specs.format.Blocks.{Blocks, block_bytes}
-use Rattle.lfs_model.specs.layers.BlockSets.{BlockStates, IsUsedBlock}
-use Rattle.lfs_model.specs.layers.BlockSets.BlockState.{Free, Used}
-use Rattle.lfs_model.specs.format.SkipLists.{AreListBlocks, blocks_to_head, word_at}
-use Rattle.lfs_model.proofs.BlockSets.{number_count-Contains}
-use Rattle.lfs_model.proofs.Counts.{number_count, count_append, once_from_distinct}
-use Rattle.lfs_model.proofs.Files.{length_back}
-use Rattle.lfs_file.specs.SettledMaps.{SettlesList, PutsInState, AreSharedUsed}
-use Rattle.lfs_file.specs.SharedBlocks.{IsSharedCount, unshared_count}
+use Rattle.lfs_file.proofs.Common.{slice_get, cases_lt, get_or-take, take-append-drop, take_more, All-contains, Contains-append_cases, Contains-append_left, Blocks, block_bytes, BlockStates, IsUsedBlock, Free, Used, AreListBlocks, blocks_to_head, word_at, number_occurrences-Contains, number_occurrences, length_back, SettlesList, PutsInState, IsSharedCount}
+use Rattle.std.specs.List.{IsDistinct}
+use Rattle.std.proofs.lemmas.List.Elements.{Contains-get_or}
+use Rattle.lfs_model.proofs.Counts.{count_append, once_from_distinct}
+use Rattle.lfs_file.specs.SettledMaps.{AreSharedUsed}
+use Rattle.lfs_file.specs.SharedBlocks.{unshared_count}
 use Rattle.lfs_file.proofs.Others.{Contains-behind}
 use Rattle.lfs_file.proofs.Releasings.{before_in}
 use Rattle.lfs_file.proofs.Takings.{member}
@@ -103,10 +96,10 @@ not_behind : (n : ℕ) (xs : List ℕ) (b : ℕ) → IsDistinct nat_eq xs → Co
 not_behind n xs b distinct front =
     ⊎_elim
     (λ behind.
-    let one = number_count-Contains (take n xs) b front in
-    let two = number_count-Contains (drop n xs) b behind in
+    let one = number_occurrences-Contains (take n xs) b front in
+    let two = number_occurrences-Contains (drop n xs) b behind in
     let sum = count_append b (take n xs) (drop n xs) in
-    let all = ap (number_count b) (take-append-drop n xs) in
+    let all = ap (number_occurrences b) (take-append-drop n xs) in
     let once = once_from_distinct xs distinct b in
     absurd (omega arith))
     (λ away. away) (member (drop n xs) b)

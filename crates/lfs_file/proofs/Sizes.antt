@@ -1,15 +1,14 @@
 -- How many bytes the blocks of a list hold, by the number of ones of an index.
 use Rattle.std.proofs.Common.{ℕ, zero, suc, ◌≡◌, ◌+◌, ◌*◌, ◌-◌, ◌/◌, ◌%◌, ◌<◌, ◌≤◌, ◌^◌, refl, sym, ap, ap₂, subst, ◌∙◌, arith}
 use Rattle.std.proofs.Common.{⊎_elim, add-one, if◌then◌else◌, ◌==◌, false}
-use Rattle.std.proofs.lemmas.Bool.Decides.{nat_tests}
+use Rattle.lfs_file.proofs.Common.{nat_tests, mul-le, cases_lt, pointer_count, block_capacity, bytes_before_block, IsBytePlace, block_count_for}
 use Rattle.std.proofs.Math.Nat.{mul-suc, div-add-mod}
-use Rattle.std.proofs.lemmas.Nat.{mul-le, mod_below}
-use Rattle.std.proofs.lemmas.Bool.{cases_lt}
+use Rattle.std.proofs.lemmas.Nat.{mod_below}
 use lib.Count.{ones, ones_step, ones-le, count_trailing_zeros, trailing_le}
 pub use Rattle.lfs_model.proofs.ListSizes.{block_capacity-pos, pointer_count-le}
 pub use Rattle.lfs_model.proofs.ListParts.{bytes_before_block-more, place-lt, place-mono}
 use Rattle.lfs_file.proofs.TrailingZeros.{zeros_even, zeros_odd}
-use Rattle.lfs_model.specs.format.SkipLists.{pointer_count, block_capacity, bytes_before_block, IsBytePlace, blocks_from_index, block_count_for}
+use Rattle.lfs_model.specs.format.SkipLists.{blocks_from_index}
 
 -- ---- the ones of a number and of the next one differ by its zeros behind
 

@@ -1,15 +1,7 @@
 -- Used blocks, which stand apart from each list in hand.
 use Rattle.std.proofs.Common.{ℕ, ◌≡◌, List, Some, refl, sym, ◌∙◌, subst}
-use Rattle.lfs_model.specs.format.Blocks.{Blocks, SameExceptThese}
-use Rattle.lfs_model.specs.layers.BlockSets.{BlockStates, IsInFlight, IsUsedBlock}
-use Rattle.lfs_model.specs.layers.BlockSets.BlockState.{Free, InFlight, Used}
-use Rattle.lfs_model.specs.session.History.{CallEvent, LossLeavesAtWorst, HoldsAtLosses, StayUnprogrammed}
-use Rattle.lfs_model.proofs.Histories.{AllCallsSince-weaker, goes_on_by}
-use Rattle.lfs_file.specs.Growing.{GrowingList, unwritten_block}
-use Rattle.lfs_file.specs.BlocksApart.{IsTakenWritten, HasBlocksTaken, KeepsTakenBytes, TakenStayUnprogrammed}
-use Rattle.lfs_file.specs.Hand.{KeepsUsedBlocks, KeepsUsedBytes, UsedStayUnprogrammed}
-use Rattle.lfs_file.specs.Releases.{ReleasesInFlight}
-use Rattle.lfs_file.specs.TakenBlocks.{ChangesOnlyFree}
+use Rattle.lfs_file.proofs.Common.{Blocks, SameExceptThese, BlockStates, IsInFlight, IsUsedBlock, Free, InFlight, Used, CallEvent, LossLeavesAtWorst, HoldsAtLosses, StayUnprogrammed, AllCallsSince-weaker, goes_on_by, GrowingList, unwritten_block, IsTakenWritten, HasBlocksTaken, KeepsTakenBytes, TakenStayUnprogrammed, KeepsUsedBlocks, KeepsUsedBytes, ReleasesInFlight, ChangesOnlyFree}
+use Rattle.lfs_file.specs.Hand.{UsedStayUnprogrammed}
 
 module _ (map : BlockStates) (at : Blocks) (g : GrowingList) (marked : HasBlocksTaken map at g) where
   used_apart : (b : ℕ) → IsUsedBlock map b → IsTakenWritten map (unwritten_block g) b

@@ -1,25 +1,20 @@
 -- What a list that grows shows on a disk, and on one where the same bytes are in its blocks.
 use Rattle.std.proofs.Common.{ℕ, true, ◌≡◌, ◌≢◌, ◌+◌, ◌*◌, ◌-◌, ◌<◌, List, [], ◌∷◌, ◌++◌, length, take, drop, refl, sym, ap, ap₂, subst, ◌∙◌, arith, length-append}
 use Rattle.std.specs.Prelude.{All}
-use Rattle.std.proofs.lemmas.List.Elements.{recursion_from_All}
+use Rattle.lfs_file.proofs.Common.{recursion_from_All, Same, back_same, data_same, Blocks, HasBlockSizes, block_bytes, AreListBlocks, bytes_before_block, blocks_to_head, pointer_count, ListHasBytes, HasBufferedBytes, GrowingList, IsOnDisk, IsAllBuffered, IsRestAt, IsRestShort, growing_blocks, growing_bytes, lacks_last_block, blocks_data, kept_blocks, rest_block, unwritten_rest_block, growing_size_with, AreKnownBlocks}
 use Rattle.lfs_device.specs.declared.geometry.Geometry.{Geometry}
 use Rattle.lfs_model.proofs.Counts.{each_left, each_right}
-use Rattle.lfs_model.proofs.Files.{Same, back_same, chain_same, data_same}
-use Rattle.lfs_model.specs.format.Blocks.{Blocks, HasBlockSizes, block_bytes}
-use Rattle.lfs_model.specs.format.SkipLists.{AreListBlocks, bytes_before_block, blocks_to_head, pointer_count}
+use Rattle.lfs_model.proofs.Files.{chain_same}
 use Rattle.lfs_file.specs.declared.rest.RestLocation.{RestLocation}
 use Rattle.lfs_file.specs.declared.rest.RestLocation.TheVariants.{Closed, Shared, Handed, Held}
-use Rattle.lfs_file.specs.Extended.{ListHasBytes}
-use Rattle.lfs_file.specs.Extending.{IsBufferOf}
-use Rattle.lfs_file.specs.Growing.{GrowingList, IsOnDisk, IsAllBuffered, LastBytesAreAt, LastBytesShort, SameListLater, growing_blocks, growing_bytes, lacks_last_block, blocks_data, kept_blocks, rest_block, unwritten_after_full, growing_size_with}
-use Rattle.lfs_file.specs.Known.{AreKnownBlocks}
+use Rattle.lfs_file.specs.Growing.{SameListLater}
 use Rattle.lfs_file.proofs.Filling.{length-full, none_chain}
 
 module _ (d later : Blocks) (count : length later ≡ length d) where
   abbrev IsSame : ℕ → Type 0
   IsSame b = block_bytes later b ≡ block_bytes d b
 
-  rest_same : (full head : ℕ) (rest : List ℕ) (t : RestLocation) → Same d later (blocks_to_head d full head ++ rest_block t) → LastBytesAreAt d full head rest t → LastBytesAreAt later full head rest t
+  rest_same : (full head : ℕ) (rest : List ℕ) (t : RestLocation) → Same d later (blocks_to_head d full head ++ rest_block t) → IsRestAt d full head rest t → IsRestAt later full head rest t
   rest_same full head rest Closed same is = is
   rest_same full head rest (Shared b) same is =
       let all : Same d later (blocks_to_head d (full + 1) b) = subst (Same d later) (sym is.back) same in
@@ -47,13 +42,13 @@ module _ (d later : Blocks) (count : length later ≡ length d) where
       record {
         growing = record { chain = chain_same d later g.full g.head count front is.chain; known = subst (λ (l : List ℕ). AreKnownBlocks l g.known) (sym back) is.known; stand = rest_same g.full g.head g.rest g.stand each is.stand };
         content = ap (λ (l : List ℕ). l ++ g.rest) (ap (blocks_data later) back ∙ data_same d later 0 (blocks_to_head d g.full g.head) front);
-        kept = ap (λ (l : List ℕ). l ++ unwritten_after_full g.stand) back;
+        kept = ap (λ (l : List ℕ). l ++ unwritten_rest_block g.stand) back;
         blocks = ap (λ (l : List ℕ). l ++ rest_block g.stand) back;
       }
 
 -- what a list shows, from what doesn't follow
 pub is_grown : (divided : Geometry) (d : Blocks) (e : GrowingList) (bytes : List ℕ) (size count : ℕ) (own all : List ℕ) → HasBlockSizes divided.block_size count d → e.geometry ≡ divided
-    → LastBytesShort e.geometry.block_size e → IsOnDisk d e → growing_bytes d e ≡ bytes → growing_size_with divided.block_size e ≡ size → kept_blocks d e ≡ own → growing_blocks d e ≡ all
+    → IsRestShort e.geometry.block_size e → IsOnDisk d e → growing_bytes d e ≡ bytes → growing_size_with divided.block_size e ≡ size → kept_blocks d e ≡ own → growing_blocks d e ≡ all
     → ListHasBytes divided d e bytes size own all
 is_grown divided d e bytes size count own all shape geometry short growing content sum kept blocks =
     let full = length-full d divided.block_size count e.full e.head divided.valid.no_smaller shape growing.chain in
@@ -76,7 +71,7 @@ stands_held (Shared b) is = absurd (cc)
 stands_held (Handed b) is = absurd (cc)
 stands_held Held is = refl
 
-module _ (divided : Geometry) (e : GrowingList) (bytes : List ℕ) (size : ℕ) (geometry : e.geometry ≡ divided) (none : e.full ≡ 0) (short : LastBytesShort e.geometry.block_size e) (rest : e.rest ≡ bytes) (long : length bytes ≡ size) where
+module _ (divided : Geometry) (e : GrowingList) (bytes : List ℕ) (size : ℕ) (geometry : e.geometry ≡ divided) (none : e.full ≡ 0) (short : IsRestShort e.geometry.block_size e) (rest : e.rest ≡ bytes) (long : length bytes ≡ size) where
   nothing : (d : Blocks) → blocks_to_head d e.full e.head ≡ []
   nothing d = ap (λ k. blocks_to_head d k e.head) none
 
@@ -102,18 +97,18 @@ module _ (divided : Geometry) (e : GrowingList) (bytes : List ℕ) (size : ℕ) 
   pub grown_held : e.stand ≡ Held → (d : Blocks) → ListHasBytes divided d e bytes size [] []
   grown_held is d =
       alone d
-      (record { chain = chained d; known = none_known d; stand = subst (LastBytesAreAt d e.full e.head e.rest) (sym is) none })
-      (ap₂ (λ (x y : List ℕ). x ++ y) (nothing d) (ap unwritten_after_full is))
+      (record { chain = chained d; known = none_known d; stand = subst (IsRestAt d e.full e.head e.rest) (sym is) none })
+      (ap₂ (λ (x y : List ℕ). x ++ y) (nothing d) (ap unwritten_rest_block is))
       (ap₂ (λ (x y : List ℕ). x ++ y) (nothing d) (ap rest_block is))
 
   pub grown_closed : e.stand ≡ Closed → bytes ≡ [] → (d : Blocks) → ListHasBytes divided d e bytes size [] []
   grown_closed is empty d =
       alone d
-      (record { chain = chained d; known = none_known d; stand = subst (LastBytesAreAt d e.full e.head e.rest) (sym is) (rest ∙ empty) })
-      (ap₂ (λ (x y : List ℕ). x ++ y) (nothing d) (ap unwritten_after_full is))
+      (record { chain = chained d; known = none_known d; stand = subst (IsRestAt d e.full e.head e.rest) (sym is) (rest ∙ empty) })
+      (ap₂ (λ (x y : List ℕ). x ++ y) (nothing d) (ap unwritten_rest_block is))
       (ap₂ (λ (x y : List ℕ). x ++ y) (nothing d) (ap rest_block is))
 
-pub is_holding : (divided : Geometry) (e : GrowingList) (bytes : List ℕ) → e.geometry ≡ divided → LastBytesShort e.geometry.block_size e → e.rest ≡ bytes → IsAllBuffered e → IsBufferOf divided e bytes
+pub is_holding : (divided : Geometry) (e : GrowingList) (bytes : List ℕ) → e.geometry ≡ divided → IsRestShort e.geometry.block_size e → e.rest ≡ bytes → IsAllBuffered e → HasBufferedBytes divided e bytes
 is_holding divided e bytes geometry short rest held = record {
   held = held;
   rest = rest;

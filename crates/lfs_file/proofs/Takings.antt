@@ -1,16 +1,9 @@
 -- What it means that blocks are taken from a map.
 use Rattle.std.proofs.Common.{ℕ, ◌≡◌, ◌≢◌, ◌+◌, ◌<◌, ◌⊎◌, inl, inr, ⊎_elim, nat_eq, get_or, set, List, [], ◌∷◌, ◌++◌, length, Some, refl, sym, ap, ◌∙◌, subst, arith, length-append}
 use Rattle.std.specs.Prelude.{All, Contains}
-use Rattle.std.specs.List.{IsDistinct, slice_get}
-use Rattle.std.proofs.lemmas.Bool.{cases_eq, cases_lt, ne_eqb, eqb-false}
-use Rattle.std.proofs.lemmas.List.{length-set, get_or_at, get_or_append_left}
-use Rattle.std.proofs.lemmas.List.Elements.{All-append, All-cons}
-use Rattle.std.proofs.lemmas.Map.Keys.{IsDistinct-from_apart, apart_from_distinct}
-use Rattle.std.proofs.lemmas.Option.{slice_get_within}
-use Rattle.lfs_model.specs.layers.BlockSets.{BlockStates, IsFree, IsInFlight, in_flight_count, used_count}
-use Rattle.lfs_model.specs.layers.BlockSets.BlockState.{Free, InFlight}
-use Rattle.lfs_model.proofs.BlockSets.{Contains-head, Contains-tail, slice_get-set_same, slice_get-set_other, counts_from_none_free}
-use Rattle.lfs_file.specs.TakenBlocks.{ChangesOnlyFree, TakesFreeBlocks}
+use Rattle.lfs_file.proofs.Common.{slice_get, cases_eq, cases_lt, ne_eqb, eqb-false, length-set, get_or_at, get_or_append_left, All-append, All-cons, IsDistinct-from_apart, apart_from_distinct, slice_get_within, BlockStates, IsFree, IsInFlight, in_flight_count, used_count, Free, InFlight, slice_get-set_same, slice_get-set_other, ChangesOnlyFree, TakesFreeBlocks}
+use Rattle.std.specs.List.{IsDistinct}
+use Rattle.lfs_model.proofs.BlockSets.{Contains-head, Contains-tail, counts_from_none_free}
 
 -- a block is one of them, or apart from each
 pub member : (bs : List ℕ) (b : ℕ) → Contains bs b ⊎ All (λ x. x ≢ b) bs

@@ -1,9 +1,6 @@
 -- The zeros after a number, by the powers of two that divide it.
 use Rattle.std.proofs.Common.{ℕ, zero, suc, ◌≡◌, ◌+◌, ◌*◌, ◌-◌, ◌/◌, ◌%◌, ◌<◌, ◌≤◌, ◌^◌, ⊎_elim, refl, sym, ap, ap₂, subst, ◌∙◌, arith}
-use Rattle.std.proofs.lemmas.Bool.{cases_lt}
-use Rattle.std.proofs.Math.Nat.{mul_assoc, add-mul, pow-suc, one-le-pow}
-use Rattle.std.proofs.lemmas.Nat.{mul-le, pow-add}
-use Rattle.std.specs.Int.{w32, trailing_zeros}
+use Rattle.lfs_file.proofs.Common.{cases_lt, mul_assoc, add-mul, pow-suc, one-le-pow, mul-le, pow-add, w32, trailing_zeros}
 use lib.Count.{count_trailing_zeros, under}
 
 pub zeros_even : (k n p : ℕ) → n % 2 ≡ 0 → n / 2 ≡ p → count_trailing_zeros (suc k) n ≡ suc (count_trailing_zeros k p)

@@ -1,53 +1,49 @@
 -- What a truncation makes of the contents, and which form it leaves.
 use Rattle.std.proofs.Common.{ℕ, ◌≡◌, ◌≢◌, ◌+◌, ◌*◌, ◌-◌, ◌<◌, ◌≤◌, ⊎_elim, Bool, true, false, if◌then◌else◌, max, min, List, [], length, take, replicate, sym, ap, ◌∙◌, arith}
 use Rattle.std.specs.Prelude.{nat_le, nat_lt, ◌==◌}
-use Rattle.std.proofs.lemmas.Bool.{cases_eq, cases_lt, eq-eqb, ne_eqb, le-leb, lt-leb, lt-ltb, le-ltb}
-use Rattle.std.proofs.lemmas.List.{append-nil, length-replicate, length-take-le, take_all}
+use Rattle.lfs_file.proofs.Common.{cases_eq, cases_lt, eq-eqb, ne_eqb, le-leb, lt-leb, append-nil, length-replicate, length-take-le, take_all, block_count_for, written_contents, zero_padded, truncation_room, ContentsForm, InMemory, Finished, InHand, form_size, form_after_inner, shortened_form, truncated_form}
+use Rattle.std.proofs.lemmas.Bool.{lt-ltb, le-ltb}
 use Rattle.std.proofs.Common.{length-append}
-use Rattle.lfs_model.specs.format.SkipLists.{block_count_for}
-use Rattle.lfs_model.specs.session.Writers.{written_contents, padded_with_zeros}
-use Rattle.lfs_file.specs.Contents.{truncation_room}
-use Rattle.lfs_file.specs.Form.{StorageForm, InMemory, Finished, InHand, form_size, form_after_inner, shortened_form, truncated_form}
 use Rattle.lfs_file.proofs.Flights.{at_end, zeros_not}
 use Rattle.lfs_file.proofs.ContentsMemories.{shortened_bytes}
 
 -- ---- bytes
 
-filled_to : (size : ℕ) (old : List ℕ) → length (padded_with_zeros size old) ≡ max size (length old)
+filled_to : (size : ℕ) (old : List ℕ) → length (zero_padded size old) ≡ max size (length old)
 filled_to size old = omega (arith, length-append old (replicate (size - length old) 0), length-replicate {A = ℕ} (size - length old) 0)
 
-pub length-resized : (size : ℕ) (old : List ℕ) → length (take size (padded_with_zeros size old)) ≡ size
-length-resized size old = length-take-le size (padded_with_zeros size old) (omega (arith, filled_to size old))
+pub length-resized : (size : ℕ) (old : List ℕ) → length (take size (zero_padded size old)) ≡ size
+length-resized size old = length-take-le size (zero_padded size old) (omega (arith, filled_to size old))
 
 -- the first bytes, and zeros up to the size
-pub resized : (old : List ℕ) (keep size : ℕ) → keep ≡ min (length old) size → written_contents (take keep old) size [] ≡ take size (padded_with_zeros size old)
+pub resized : (old : List ℕ) (keep size : ℕ) → keep ≡ min (length old) size → written_contents (take keep old) size [] ≡ take size (zero_padded size old)
 resized old keep size is =
     let cut : List ℕ = take keep old in
     let long : length cut ≡ keep = length-take-le keep old (omega arith) in
-    let front : written_contents cut size [] ≡ padded_with_zeros size cut = at_end cut [] size (omega arith) ∙ append-nil (padded_with_zeros size cut) in
+    let front : written_contents cut size [] ≡ zero_padded size cut = at_end cut [] size (omega arith) ∙ append-nil (zero_padded size cut) in
     front ∙ ⊎_elim
     (λ less.
-    ap (padded_with_zeros size) (take_all keep old (omega arith)) ∙ sym (take_all size (padded_with_zeros size old) (omega (arith, filled_to size old))))
+    ap (zero_padded size) (take_all keep old (omega arith)) ∙ sym (take_all size (zero_padded size old) (omega (arith, filled_to size old))))
     (λ ge.
     let e : keep ≡ size = omega arith in
     zeros_not cut size (omega arith) ∙ ap (λ k. take k old) e ∙ shortened_bytes old size ge)
     (cases_lt (length old) size)
 
 -- all of them
-pub resized_none : (old : List ℕ) (size : ℕ) → size ≡ length old → old ≡ take size (padded_with_zeros size old)
+pub resized_none : (old : List ℕ) (size : ℕ) → size ≡ length old → old ≡ take size (zero_padded size old)
 resized_none old size is = sym (take_all size old (omega arith)) ∙ shortened_bytes old size (omega arith)
 
 -- ---- forms
 
-pub truncated_same : (limit size : ℕ) (form : StorageForm) → size ≡ form_size form → form ≡ truncated_form limit size form
+pub truncated_same : (limit size : ℕ) (form : ContentsForm) → size ≡ form_size form → form ≡ truncated_form limit size form
 truncated_same limit size form is =
     sym (ap (λ (t : Bool). if t then form else (if nat_le size limit then InMemory size else (if nat_lt (form_size form) size then form_after_inner (form_size form) size form else shortened_form size form))) (eq-eqb size (form_size form) is))
 
-truncated_other : (limit size : ℕ) (form : StorageForm) → size ≢ form_size form → truncated_form limit size form ≡ (if nat_le size limit then InMemory size else (if nat_lt (form_size form) size then form_after_inner (form_size form) size form else shortened_form size form))
+truncated_other : (limit size : ℕ) (form : ContentsForm) → size ≢ form_size form → truncated_form limit size form ≡ (if nat_le size limit then InMemory size else (if nat_lt (form_size form) size then form_after_inner (form_size form) size form else shortened_form size form))
 truncated_other limit size form ne =
     ap (λ (t : Bool). if t then form else (if nat_le size limit then InMemory size else (if nat_lt (form_size form) size then form_after_inner (form_size form) size form else shortened_form size form))) (ne_eqb size (form_size form) ne)
 
-pub truncated_few : (limit size : ℕ) (form : StorageForm) → size ≢ form_size form → size ≤ limit → InMemory size ≡ truncated_form limit size form
+pub truncated_few : (limit size : ℕ) (form : ContentsForm) → size ≢ form_size form → size ≤ limit → InMemory size ≡ truncated_form limit size form
 truncated_few limit size form ne few =
     sym (truncated_other limit size form ne ∙ ap (λ (t : Bool). if t then InMemory size else (if nat_lt (form_size form) size then form_after_inner (form_size form) size form else shortened_form size form)) (le-leb size limit few))
 
@@ -57,15 +53,15 @@ truncated_held limit size old few = ⊎_elim
     (λ ne. truncated_few limit size (InMemory old) ne few)
     (cases_eq size old)
 
-truncated_many : (limit size : ℕ) (form : StorageForm) → size ≢ form_size form → limit < size → truncated_form limit size form ≡ (if nat_lt (form_size form) size then form_after_inner (form_size form) size form else shortened_form size form)
+truncated_many : (limit size : ℕ) (form : ContentsForm) → size ≢ form_size form → limit < size → truncated_form limit size form ≡ (if nat_lt (form_size form) size then form_after_inner (form_size form) size form else shortened_form size form)
 truncated_many limit size form ne many =
     truncated_other limit size form ne ∙ ap (λ (t : Bool). if t then InMemory size else (if nat_lt (form_size form) size then form_after_inner (form_size form) size form else shortened_form size form)) (lt-leb size limit many)
 
-pub truncated_longer : (limit size : ℕ) (form : StorageForm) → form_size form < size → limit < size → form_after_inner (form_size form) size form ≡ truncated_form limit size form
+pub truncated_longer : (limit size : ℕ) (form : ContentsForm) → form_size form < size → limit < size → form_after_inner (form_size form) size form ≡ truncated_form limit size form
 truncated_longer limit size form more many =
     sym (truncated_many limit size form (omega arith) many ∙ ap (λ (t : Bool). if t then form_after_inner (form_size form) size form else shortened_form size form) (lt-ltb (form_size form) size more))
 
-pub truncated_cut : (limit size : ℕ) (form : StorageForm) → size < form_size form → limit < size → shortened_form size form ≡ truncated_form limit size form
+pub truncated_cut : (limit size : ℕ) (form : ContentsForm) → size < form_size form → limit < size → shortened_form size form ≡ truncated_form limit size form
 truncated_cut limit size form less many =
     sym (truncated_many limit size form (omega arith) many ∙ ap (λ (t : Bool). if t then form_after_inner (form_size form) size form else shortened_form size form) (le-ltb (form_size form) size (omega arith)))
 

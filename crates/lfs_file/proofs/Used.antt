@@ -2,9 +2,7 @@
 use Rattle.std.proofs.Common.{ℕ, zero, suc, ◌≡◌, ◌≤◌, cond, [], ◌∷◌, length, Some, refl, sym, ap, subst, arith}
 use Rattle.std.proofs.lemmas.List.Sums.{sum_by-cons}
 use Rattle.std.proofs.lemmas.Option.{same_Some}
-use Rattle.lfs_model.specs.layers.BlockSets.{BlockState, BlockStates, IsUsedBlock, is_used, used_count}
-use Rattle.lfs_model.specs.layers.BlockSets.BlockState.{Free, InFlight, Used}
-use Rattle.lfs_file.specs.Hand.{KeepsUsedBlocks}
+use Rattle.lfs_file.proofs.Common.{BlockState, BlockStates, IsUsedBlock, is_used, used_count, Free, InFlight, Used, KeepsUsedBlocks}
 
 -- ---- as many blocks are used, so they are the same ones
 

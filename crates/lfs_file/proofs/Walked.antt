@@ -1,24 +1,15 @@
 -- Blocks that a walk from the head back has checked are a list's.
 use Rattle.std.proofs.Common.{ℕ, zero, suc, ◌≡◌, ◌≢◌, ◌+◌, ◌*◌, ◌-◌, ◌<◌, ◌≤◌, ◌^◌, ⊎_elim, nat_eq, false, List, [], ◌∷◌, ◌++◌, length, drop, slice_index, sym, ap, subst, ◌∙◌, arith, eqb-true}
 use Rattle.std.specs.List.{IsDistinct}
-use Rattle.std.proofs.Math.Nat.{mul_assoc, add-mul, one-le-pow}
-use Rattle.std.proofs.lemmas.Nat.{mul-le, pow-add}
+use Rattle.lfs_file.proofs.Common.{mul_assoc, add-mul, one-le-pow, mul-le, pow-add, FoldsTo, get_or_default, drop_more, nat_tests, cases_lt, IsDistinct-from_apart, apart_from_distinct, Blocks, block_bytes, word_at, pointer_count, blocks_to_head, AreListBlocks, LaterPointersName, ArePointersCopied, w32, trailing_zeros}
 use Rattle.std.proofs.Common.{get_or}
 use Rattle.std.proofs.Common.{reverse}
-use Rattle.std.specs.List.{FoldsTo}
 use Rattle.std.proofs.lemmas.Fn.{FoldsTo-push}
-use Rattle.std.proofs.lemmas.List.{get_or_default, drop_more, reverse-append}
-use Rattle.std.proofs.lemmas.Bool.Decides.{nat_tests}
-use Rattle.std.proofs.lemmas.Bool.{cases_lt}
+use Rattle.std.proofs.lemmas.List.{reverse-append}
 use Rattle.std.proofs.lemmas.List.Folds.{Any-from_list_any}
 use Rattle.std.proofs.lemmas.Map.Steps.{length-le_from_distinct_below}
-use Rattle.std.proofs.lemmas.Map.Keys.{IsDistinct-from_apart, apart_from_distinct}
-use Rattle.lfs_model.specs.format.Blocks.{Blocks, block_bytes}
-use Rattle.lfs_model.specs.format.SkipLists.{word_at, pointer_count, blocks_to_head, AreListBlocks}
-use Rattle.lfs_file.specs.Right.{LaterPointersName, ArePointersCopied}
 use Rattle.lfs_file.proofs.Back.{power_below}
 use lib.Count.{count_trailing_zeros}
-use Rattle.std.specs.Int.{w32, trailing_zeros}
 use Rattle.lfs_file.proofs.TrailingZeros.{zeros32-multiple, zeros-le, factor-pos}
 use Rattle.lfs_file.proofs.Chains.{length_back, pointer_count-pos, back-pointer0}
 

@@ -1,15 +1,9 @@
 -- The way from a list's last block to its first one, as it is noted and as it is counted.
 use Rattle.std.proofs.Common.{ℕ, zero, suc, ◌≡◌, ◌+◌, ◌*◌, ◌-◌, ◌<◌, ◌≤◌, ◌^◌, ⊎_elim, nat_lt, true, false, List, ◌++◌, length, take, drop, slice_index, slice_set, refl, sym, ap, subst, ◌∙◌, arith}
-use Rattle.std.proofs.Math.Nat.{pow-suc}
-use Rattle.std.proofs.lemmas.Bool.{cases_lt}
-use Rattle.std.proofs.lemmas.Bool.Decides.{nat_tests}
-use Rattle.std.proofs.lemmas.List.{drop_at, drop-drop, get_or-set_same, get_or-set_other, length-take-le}
+use Rattle.lfs_file.proofs.Common.{pow-suc, cases_lt, nat_tests, drop_at, drop-drop, length-take-le, w32, from_le_bytes, trailing_zeros, Blocks, block_bytes, AreListBlocks, blocks_to_head, word_at, HasNotedPointers, IsIndexVisited, HasNotedWalk, visit_count}
+use Rattle.std.proofs.lemmas.List.{get_or-set_same, get_or-set_other}
 use lib.Pow.{pow_mono}
-use Rattle.std.specs.Int.{w32, from_le_bytes, trailing_zeros}
-use Rattle.lfs_model.specs.format.Blocks.{Blocks, block_bytes}
-use Rattle.lfs_model.specs.format.SkipLists.{AreListBlocks, blocks_to_head, word_at}
 use Rattle.lfs_file.specs.declared.way.WalkedBlocks.{WalkedBlocks}
-use Rattle.lfs_file.specs.Way.{HasNotedPointers, IsIndexVisited, HasNotedWalk, visit_count}
 use Rattle.lfs_file.proofs.Walked.{between_none, power_small}
 use Rattle.lfs_file.proofs.Words.{word_at-written}
 use Rattle.lfs_file.proofs.TrailingZeros.{zeros32-more}

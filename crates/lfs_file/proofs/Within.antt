@@ -1,18 +1,8 @@
 -- Bytes that are written in memory, in the block that waits for them.
 use Rattle.std.proofs.Common.{ℕ, suc, ◌≡◌, ◌+◌, ◌<◌, true, List, ◌++◌, length, drop, refl, sym, ap, ◌∙◌, subst, arith, length-append, append_assoc}
-use Rattle.std.proofs.lemmas.Bool.{and_parts, ltb-true}
+use Rattle.lfs_file.proofs.Common.{and_parts, ltb-true, Blocks, HasBlockSizes, BlockStates, block_capacity, block_count_for, blocks_to_head, written_contents, block_count_for-more, IsRestAt, growing_bytes, blocks_data, growing_size, unwritten_rest_block, unwritten_block, AreUsedAmong, contents_blocks, HaveForm, contents_form, written_form, stored_list_bytes, CanEndUnfinished, unfinished_bytes, unfinished_length}
 use Rattle.lfs_device.specs.declared.geometry.Geometry.{Geometry}
-use Rattle.lfs_model.specs.format.Blocks.{Blocks, HasBlockSizes}
-use Rattle.lfs_model.specs.layers.BlockSets.{BlockStates}
-use Rattle.lfs_model.specs.format.SkipLists.{block_capacity, block_count_for, blocks_to_head}
-use Rattle.lfs_model.specs.session.Writers.{written_contents}
-use Rattle.lfs_model.proofs.ListSizes.{block_count_for-more}
-use Rattle.lfs_file.specs.Growing.{LastBytesAreAt, growing_bytes, blocks_data, fit_unwritten, growing_size, unwritten_after_full, unwritten_block}
-use Rattle.lfs_file.specs.BlockOwners.{AreOwn, contents_blocks}
-use Rattle.lfs_file.specs.Contents.{HaveForm, contents_form}
-use Rattle.lfs_file.specs.Form.{written_form}
-use Rattle.lfs_file.specs.Hand.{stored_list_bytes}
-use Rattle.lfs_file.specs.HandWrites.{HasUnfinishedBytes, unfinished_bytes, unfinished_length}
+use Rattle.lfs_file.specs.Growing.{fits_unwritten_block}
 use Rattle.lfs_file.specs.declared.contents.WriterContents.TheVariants.{InHand}
 use Rattle.lfs_file.specs.declared.rest.RestLocation.{RestLocation}
 use Rattle.lfs_file.specs.declared.rest.RestLocation.TheVariants.{Closed, Shared, Handed, Held}
@@ -23,13 +13,13 @@ use Rattle.lfs_file.proofs.Pushed.{length-kept}
 use Rattle.lfs_file.proofs.Sizes.{block_count_for-within}
 
 -- the block that waits is one, and more bytes can wait for it
-one_waits : (t : RestLocation) → 0 < length (unwritten_after_full t) → length (unwritten_after_full t) ≡ 1
+one_waits : (t : RestLocation) → 0 < length (unwritten_rest_block t) → length (unwritten_rest_block t) ≡ 1
 one_waits Closed none = absurd (omega arith)
 one_waits (Shared b) none = absurd (omega arith)
 one_waits (Handed b) some = refl
 one_waits Held none = absurd (omega arith)
 
-waits_on : (d : Blocks) (full head : ℕ) (rest bytes : List ℕ) (t : RestLocation) → 0 < length (unwritten_after_full t) → LastBytesAreAt d full head rest t → LastBytesAreAt d full head (rest ++ bytes) t
+waits_on : (d : Blocks) (full head : ℕ) (rest bytes : List ℕ) (t : RestLocation) → 0 < length (unwritten_rest_block t) → IsRestAt d full head rest t → IsRestAt d full head (rest ++ bytes) t
 waits_on d full head rest bytes Closed none stand = absurd (omega arith)
 waits_on d full head rest bytes (Shared b) none stand = absurd (omega arith)
 waits_on d full head rest bytes (Handed b) some stand = record { some = omega (arith, length-append rest bytes, stand.some); in_range = stand.in_range; apart = stand.apart }
@@ -39,7 +29,7 @@ waits_on d full head rest bytes Held none stand = absurd (omega arith)
 abbrev pub longer_hand : PendingList → List ℕ → PendingList
 longer_hand hand bytes = record hand { list = record hand.list { rest = hand.list.rest ++ bytes } }
 
-module _ (map : BlockStates) (d : Blocks) (now : Geometry) (hand : PendingList) (bytes : List ℕ) (going : HasUnfinishedBytes map d now hand) (fits : fit_unwritten hand.list (length bytes) ≡ true) where
+module _ (map : BlockStates) (d : Blocks) (now : Geometry) (hand : PendingList) (bytes : List ℕ) (going : CanEndUnfinished map d now hand) (fits : fits_unwritten_block hand.list (length bytes) ≡ true) where
   waits : 0 < length (unwritten_block hand.list)
   waits = ltb-true _ _ (and_parts _ _ fits).0
 
@@ -61,7 +51,7 @@ module _ (map : BlockStates) (d : Blocks) (now : Geometry) (hand : PendingList) 
       let more = block_count_for-more hand.list.geometry.block_size (growing_size hand.list) (growing_size (longer_hand hand bytes).list) (omega arith) in
       omega arith
 
-  pub going_on : HasUnfinishedBytes map d now (longer_hand hand bytes)
+  pub going_on : CanEndUnfinished map d now (longer_hand hand bytes)
   going_on =
       let begun = going.list.begun in
       record {
@@ -102,5 +92,5 @@ module _ (map : BlockStates) (d : Blocks) (now : Geometry) (hand : PendingList) 
     form = written_hand limit place (length bytes) (growing_size hand.list) hand.base.size hand.base.in_flight _ _ _ large (let sum = size_longer in omega arith) (λ e. (refl, refl)) (λ ne. absurd (ne (omega arith)));
   }
 
-  pub owned_within : AreOwn map (contents_blocks d now.block_size (InHand hand)) (contents_blocks d now.block_size (InHand (longer_hand hand bytes)))
+  pub owned_within : AreUsedAmong map (contents_blocks d now.block_size (InHand hand)) (contents_blocks d now.block_size (InHand (longer_hand hand bytes)))
   owned_within = record { each = λ b has used. has }

@@ -1,14 +1,12 @@
 -- Words in a block's bytes.
 use Rattle.std.proofs.Common.{ℕ, ◌≡◌, ◌+◌, ◌-◌, ◌≤◌, ◌<◌, ◌^◌, ◌++◌, List, length, take, drop, refl, sym, ap, ◌∙◌, arith}
-use Rattle.std.specs.Int.{w32, from_le_bytes}
+use Rattle.lfs_file.proofs.Common.{w32, from_le_bytes, drop_at, drop-drop, drop-take, length-take-le, take-append-le, drop-append-le, take-append-drop, take-take, Blocks, block_bytes, overwritten_at, drop-put_mid, word_at}
 use Rattle.std.proofs.Common.{length-drop}
-use Rattle.std.proofs.lemmas.List.{drop_at, drop-drop, drop-take, length-take-le, take-append-le, drop-append-le, take-append-drop, take-take}
 use Rattle.lfs_model.proofs.Overwrites.{block_bytes-set}
-use Rattle.lfs_model.specs.format.Blocks.{Blocks, block_bytes, overwritten_at, programmed}
-use Rattle.std.proofs.lemmas.Slice.{drop-put_mid, between_is}
+use Rattle.lfs_model.specs.format.Blocks.{programmed}
+use Rattle.std.proofs.lemmas.Slice.{between_is}
 use Rattle.std.proofs.lemmas.Nat.{from_le_bytes-to_le_bytes_4}
 use Rattle.byteorder.specs.Endian.{little_bytes}
-use Rattle.lfs_model.specs.format.SkipLists.{word_at}
 
 -- bytes with a word over four of them
 abbrev pub with_word : List ℕ → ℕ → ℕ → List ℕ

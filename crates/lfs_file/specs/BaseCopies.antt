@@ -4,7 +4,7 @@ use Rattle.lfs_device.specs.declared.geometry.Geometry.{Geometry}
 use Rattle.lfs_model.specs.format.Blocks.{Blocks, block_bytes}
 use Rattle.lfs_model.specs.layers.BlockSets.{BlockStates, in_flight_count, used_count}
 use Rattle.lfs_model.specs.format.SkipLists.{block_count_for}
-use Rattle.lfs_file.specs.Bases.{IsListApart}
+use Rattle.lfs_file.specs.Bases.{IsBaseApart}
 use Rattle.lfs_file.specs.BlocksApart.{HasBlocksTaken}
 use Rattle.lfs_file.specs.Extensions.{CanEndAlone}
 use Rattle.lfs_file.specs.Growing.{GrowingList, IsOnDisk, kept_blocks, unwritten_block}
@@ -16,7 +16,7 @@ pub record CanAppendBase (map : BlockStates) (disk : Blocks) (now : Geometry) (l
   pub geometry : now ≡ list.geometry
   pub marked : HasBlocksTaken map disk list
   pub own : CanEndAlone disk list
-  pub apart : IsListApart map (unwritten_block list) disk list.geometry.block_size base.head base.size
+  pub apart : IsBaseApart map (unwritten_block list) disk list.geometry.block_size base.head base.size
   pub room : used_count map + in_flight_count map + block_count_for list.geometry.block_size base.size ≤ length map + length (kept_blocks disk list)
 
 -- The buffer begins with so many bytes of the block, at least one, from an offset on: all of them, or `most`.

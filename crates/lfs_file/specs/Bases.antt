@@ -9,10 +9,10 @@ abbrev pub IsListOrEmpty : Blocks → ℕ → ℕ → ℕ → Type 0
 IsListOrEmpty disk block_size head size = (size ≡ 0) ⊎ IsSkipList disk block_size head size
 
 -- the blocks of a list by its head and its size
-abbrev pub list_blocks_from : Blocks → ℕ → ℕ → ℕ → List ℕ
-list_blocks_from disk block_size head size = blocks_to_head disk (block_count_for block_size size) head
+abbrev pub blocks_of_list : Blocks → ℕ → ℕ → ℕ → List ℕ
+blocks_of_list disk block_size head size = blocks_to_head disk (block_count_for block_size size) head
 
 -- the base is apart from the blocks that the list in hand writes
-pub record IsListApart (map : BlockStates) (pending : List ℕ) (disk : Blocks) (block_size head size : ℕ) : Type 0 where
+pub record IsBaseApart (map : BlockStates) (pending : List ℕ) (disk : Blocks) (block_size head size : ℕ) : Type 0 where
   pub base : IsListOrEmpty disk block_size head size
-  pub apart : All (IsTakenWritten map pending) (list_blocks_from disk block_size head size)
+  pub apart : All (IsTakenWritten map pending) (blocks_of_list disk block_size head size)

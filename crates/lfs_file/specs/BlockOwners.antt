@@ -3,17 +3,17 @@ use Rattle.std.specs.Prelude.{ℕ, ◌≡◌, ◌++◌, true, Contains, List, []
 use Rattle.lfs_model.specs.format.Blocks.{Blocks}
 use Rattle.lfs_model.specs.layers.BlockSets.{BlockStates, IsUsedBlock}
 use Rattle.lfs_file.specs.Growing.{kept_blocks}
-use Rattle.lfs_file.specs.Bases.{list_blocks_from}
+use Rattle.lfs_file.specs.Bases.{blocks_of_list}
 use Rattle.lfs_file.specs.declared.contents.WriterContents.{WriterContents}
 use Rattle.lfs_file.specs.declared.contents.WriterContents.TheVariants.{InMemory, Finished, InHand}
 use Rattle.lfs_file.specs.declared.stored_list.StoredList.{StoredList}
 
 -- of these blocks the used ones are among those: the others are in flight, where none is free
-pub record AreOwn (map : BlockStates) (own bs : List ℕ) : Type 0 where
+pub record AreUsedAmong (map : BlockStates) (own bs : List ℕ) : Type 0 where
   pub each : (b : ℕ) → Contains bs b → IsUsedBlock map b → Contains own b
 
 abbrev pub stored_blocks : Blocks → ℕ → StoredList → List ℕ
-stored_blocks disk block_size s = list_blocks_from disk block_size s.head s.size
+stored_blocks disk block_size s = blocks_of_list disk block_size s.head s.size
 
 -- the blocks of the contents' lists
 abbrev pub contents_blocks : Blocks → ℕ → WriterContents → List ℕ
@@ -29,7 +29,7 @@ pub record KeepsStoredBlocks (block_size : ℕ) (old : Blocks) (was : StoredList
 -- the list is in flight, and its used blocks are those of the one that it was written over
 pub record AreFromBase (map : BlockStates) (block_size : ℕ) (old : Blocks) (base : StoredList) (new : Blocks) (now : StoredList) : Type 0 where
   pub flying : now.in_flight ≡ true
-  pub owned : AreOwn map (stored_blocks old block_size base) (stored_blocks new block_size now)
+  pub owned : AreUsedAmong map (stored_blocks old block_size base) (stored_blocks new block_size now)
 
 -- the first blocks of a list, in flight where that one is
 pub record IsFrontOf (block_size : ℕ) (old : Blocks) (was : StoredList) (new : Blocks) (now : StoredList) : Type 0 where

@@ -10,9 +10,9 @@ use Rattle.lfs_file.specs.declared.way.WalkedBlocks.{WalkedBlocks}
 use Rattle.lfs_file.specs.declared.writes.PendingList.{PendingList}
 use Rattle.lfs_file.specs.BaseRoom.{in_flight_limit}
 use Rattle.lfs_file.specs.BlocksApart.{HasBlocksTaken}
-use Rattle.lfs_file.specs.Extending.{IsDeviceBlockOutsideFullBlocksOfList}
+use Rattle.lfs_file.specs.Extending.{CanFollowBlocks}
 use Rattle.lfs_file.specs.Growing.{GrowingList, IsOnDisk, growing_size, kept_blocks}
-use Rattle.lfs_file.specs.HandWrites.{UnfinishedListOnDisk, unfinished_length}
+use Rattle.lfs_file.specs.HandWrites.{IsUnfinishedList, unfinished_length}
 use Rattle.lfs_file.specs.Known.{AreKnownBlocks}
 use Rattle.lfs_file.specs.Way.{HasNotedPointers}
 
@@ -54,7 +54,7 @@ pub record CanPutPointers (disk : Blocks) (front : FullBlocks) (len : ℕ) : Typ
 
 -- The next block of a list can be written from a buffer as long as a block: whole pages, with room for the pointers.
 pub record CanWriteBlock {D : Type 0} (g : Ghosts D) (dev : D) (front : FullBlocks) (b end len : ℕ) : Type 0 where
-  pub follows : IsDeviceBlockOutsideFullBlocksOfList g dev front.count front.head b
+  pub follows : CanFollowBlocks g dev front.count front.head b
   pub known : AreKnownBlocks (blocks_to_head (g.blocks dev) front.count front.head) front.known
   pub size : len ≡ (g.geometry dev).block_size
   pub large : 1024 ≤ len
@@ -64,13 +64,13 @@ pub record CanWriteBlock {D : Type 0} (g : Ghosts D) (dev : D) (front : FullBloc
 
 -- the last bytes of a list can be written into the next block
 pub record CanWriteLastBlock {D : Type 0} (g : Ghosts D) (dev : D) (list : GrowingList) (b : ℕ) : Type 0 where
-  pub follows : IsDeviceBlockOutsideFullBlocksOfList g dev list.full list.head b
+  pub follows : CanFollowBlocks g dev list.full list.head b
   pub known : AreKnownBlocks (blocks_to_head (g.blocks dev) list.full list.head) list.known
   pub geometry : g.geometry dev ≡ list.geometry
 
 -- the next block of a list can be filled with the first of so many bytes
 pub record CanFillBlock {D : Type 0} (g : Ghosts D) (dev : D) (list : GrowingList) (b count : ℕ) : Type 0 where
-  pub follows : IsDeviceBlockOutsideFullBlocksOfList g dev list.full list.head b
+  pub follows : CanFollowBlocks g dev list.full list.head b
   pub known : AreKnownBlocks (blocks_to_head (g.blocks dev) list.full list.head) list.known
   pub geometry : g.geometry dev ≡ list.geometry
   pub some : 1 ≤ count
@@ -87,20 +87,20 @@ pub record CanExtendList (map : BlockStates) (disk : Blocks) (now : Geometry) (l
 
 -- so many zeros can be written at the end of a list in hand
 pub record CanWriteZeros (map : BlockStates) (disk : Blocks) (now : Geometry) (hand : PendingList) (count : ℕ) : Type 0 where
-  pub begun : UnfinishedListOnDisk map disk now hand
+  pub begun : IsUnfinishedList map disk now hand
   pub small : growing_size hand.list + count < 2 ^ 31
   pub room : used_count map + block_count_for now.block_size (growing_size hand.list + count) + in_flight_limit now.block_size hand.base ≤ length map
 
 -- so many bytes can be written at its end
 pub record CanAppendToUnfinished (map : BlockStates) (disk : Blocks) (now : Geometry) (hand : PendingList) (count : ℕ) : Type 0 where
-  pub begun : UnfinishedListOnDisk map disk now hand
+  pub begun : IsUnfinishedList map disk now hand
   pub some : 1 ≤ count
   pub small : growing_size hand.list + count < 2 ^ 31
   pub room : used_count map + block_count_for now.block_size (growing_size hand.list + count) + in_flight_limit now.block_size hand.base ≤ length map
 
 -- so many bytes can be written at a place, which is at its end or behind all contents
 pub record CanFillAndWrite (map : BlockStates) (disk : Blocks) (now : Geometry) (hand : PendingList) (place count : ℕ) : Type 0 where
-  pub begun : UnfinishedListOnDisk map disk now hand
+  pub begun : IsUnfinishedList map disk now hand
   pub at : growing_size hand.list ≡ min place (unfinished_length hand)
   pub some : 1 ≤ count
   pub small : place + count < 2 ^ 31

@@ -6,9 +6,9 @@ use Rattle.lfs_model.specs.format.SkipLists.{block_count_for}
 use Rattle.lfs_device.specs.declared.geometry.Geometry.{Geometry}
 use Rattle.lfs_file.specs.Growing.{IsAllBuffered, GrowingList, growing_size}
 use Rattle.lfs_file.specs.Form as form
-use Rattle.lfs_file.specs.Form.{StorageForm, form_size}
-use Rattle.lfs_file.specs.Hand.{FinishedListOnDisk, stored_list_bytes}
-use Rattle.lfs_file.specs.HandWrites.{HasUnfinishedBytes, unfinished_bytes}
+use Rattle.lfs_file.specs.Form.{ContentsForm, form_size}
+use Rattle.lfs_file.specs.Hand.{IsFinishedList, stored_list_bytes}
+use Rattle.lfs_file.specs.HandWrites.{CanEndUnfinished, unfinished_bytes}
 use Rattle.lfs_file.specs.declared.contents.WriterContents.{WriterContents}
 use Rattle.lfs_file.specs.declared.contents.WriterContents.TheVariants.{InMemory, Finished, InHand}
 
@@ -16,7 +16,7 @@ use Rattle.lfs_file.specs.declared.contents.WriterContents.TheVariants.{InMemory
 abbrev pub buffered_bytes : GrowingList → List ℕ
 buffered_bytes list = list.rest
 
-abbrev pub contents_form : WriterContents → StorageForm
+abbrev pub contents_form : WriterContents → ContentsForm
 contents_form (InMemory list) = form.InMemory (length (buffered_bytes list))
 contents_form (Finished stored) = form.Finished stored.size stored.in_flight
 contents_form (InHand hand) = form.InHand (growing_size hand.list) hand.base.size hand.base.in_flight
@@ -43,23 +43,23 @@ pub record IsInMemory (map : BlockStates) (disk : Blocks) (now : Geometry) (list
 
 abbrev pub AreSoundContents : BlockStates → Blocks → Geometry → WriterContents → Type 0
 AreSoundContents map disk now (InMemory list) = IsInMemory map disk now list
-AreSoundContents map disk now (Finished stored) = FinishedListOnDisk map disk now.block_size stored
-AreSoundContents map disk now (InHand hand) = HasUnfinishedBytes map disk now hand
+AreSoundContents map disk now (Finished stored) = IsFinishedList map disk now.block_size stored
+AreSoundContents map disk now (InHand hand) = CanEndUnfinished map disk now hand
 
 -- the contents are in that form, with these bytes
-pub record HaveForm (map : BlockStates) (disk : Blocks) (now : Geometry) (contents : WriterContents) (bytes : List ℕ) (shape : StorageForm) : Type 0 where
+pub record HaveForm (map : BlockStates) (disk : Blocks) (now : Geometry) (contents : WriterContents) (bytes : List ℕ) (shape : ContentsForm) : Type 0 where
   pub stands : AreSoundContents map disk now contents
   pub has : contents_bytes disk now.block_size contents ≡ bytes
   pub form : contents_form contents ≡ shape
 
 -- only contents past the limit have blocks in flight
-abbrev pub FormFitsInlineLimit : ℕ → StorageForm → Type 0
-FormFitsInlineLimit limit (form.InMemory size) = size ≤ limit
-FormFitsInlineLimit limit (form.Finished size flying) = flying ≡ true → limit < size
-FormFitsInlineLimit limit (form.InHand stop base flying) = limit < max stop base
+abbrev pub FormFitsInline : ℕ → ContentsForm → Type 0
+FormFitsInline limit (form.InMemory size) = size ≤ limit
+FormFitsInline limit (form.Finished size flying) = flying ≡ true → limit < size
+FormFitsInline limit (form.InHand stop base flying) = limit < max stop base
 
 -- how many blocks in flight a write past the limit may take
-abbrev pub write_room : ℕ → ℕ → ℕ → StorageForm → ℕ
+abbrev pub write_room : ℕ → ℕ → ℕ → ContentsForm → ℕ
 write_room block_size place count (form.InMemory size) = block_count_for block_size (place + count)
 write_room block_size place count (form.Finished size flying) = block_count_for block_size (place + count) + (if flying then block_count_for block_size size else 0)
 write_room block_size place count (form.InHand stop base flying) =
@@ -67,18 +67,18 @@ write_room block_size place count (form.InHand stop base flying) =
     else 2 * block_count_for block_size (max (max stop base) (place + count))
 
 -- the form after the list in hand is ended, and the room that this takes
-abbrev pub form_after_finish : StorageForm → StorageForm
+abbrev pub form_after_finish : ContentsForm → ContentsForm
 form_after_finish (form.InMemory size) = form.InMemory size
 form_after_finish (form.Finished size flying) = form.Finished size flying
 form_after_finish (form.InHand stop base flying) = form.Finished (max stop base) true
 
-abbrev pub finish_room : ℕ → StorageForm → ℕ
+abbrev pub finish_room : ℕ → ContentsForm → ℕ
 finish_room block_size (form.InMemory size) = 0
 finish_room block_size (form.Finished size flying) = 0
 finish_room block_size (form.InHand stop base flying) = (if flying then block_count_for block_size base else 0) + block_count_for block_size base
 
 -- and a truncation to a size: contents in hand are ended where they are cut
-abbrev pub truncation_room : ℕ → ℕ → StorageForm → ℕ
+abbrev pub truncation_room : ℕ → ℕ → ContentsForm → ℕ
 truncation_room block_size size (form.InMemory old) = block_count_for block_size size
 truncation_room block_size size (form.Finished old flying) = block_count_for block_size size + (if flying then block_count_for block_size old else 0)
 truncation_room block_size size (form.InHand stop base flying) =
@@ -87,23 +87,23 @@ truncation_room block_size size (form.InHand stop base flying) =
     else (if flying then block_count_for block_size base else 0) + block_count_for block_size base
 
 -- a truncation to a size takes blocks: it fills a list up, or ends the one in hand
-abbrev pub NeedsTruncateRoom : ℕ → ℕ → StorageForm → Type 0
+abbrev pub NeedsTruncateRoom : ℕ → ℕ → ContentsForm → Type 0
 NeedsTruncateRoom limit size (form.InMemory old) = limit < size
 NeedsTruncateRoom limit size (form.Finished old flying) = (limit < size) × (old < size)
 NeedsTruncateRoom limit size (form.InHand stop base flying) = size ≢ max stop base
 
 -- So many bytes, at least one, may be written at a place. Past the limit there is room for the blocks that the form of the
 -- contents takes.
-pub record HasWriteRoom (map : BlockStates) (block_size : ℕ) (shape : StorageForm) (limit place count : ℕ) : Type 0 where
-  pub large : FormFitsInlineLimit limit shape
+pub record HasWriteRoom (map : BlockStates) (block_size : ℕ) (shape : ContentsForm) (limit place count : ℕ) : Type 0 where
+  pub large : FormFitsInline limit shape
   pub short : limit < block_size
   pub some : 1 ≤ count
   pub small : place + count < 2 ^ 31
   pub room : limit < max (form_size shape) (place + count) → used_count map + write_room block_size place count shape ≤ length map
 
 -- The contents may be cut or filled up to a size. Where the size changes there is room for the blocks that the form takes.
-pub record HasTruncationRoom (map : BlockStates) (block_size : ℕ) (shape : StorageForm) (limit size : ℕ) : Type 0 where
-  pub large : FormFitsInlineLimit limit shape
+pub record HasTruncationRoom (map : BlockStates) (block_size : ℕ) (shape : ContentsForm) (limit size : ℕ) : Type 0 where
+  pub large : FormFitsInline limit shape
   pub short : limit < block_size
   pub small : size < 2 ^ 31
   pub room : NeedsTruncateRoom limit size shape → used_count map + truncation_room block_size size shape ≤ length map

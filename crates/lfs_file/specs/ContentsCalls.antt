@@ -9,14 +9,14 @@ use Rattle.lfs_file.specs.Hand.{KeepsUsedBytes, UsedStayUnprogrammed}
 
 -- No block that is apart changes, and its bytes that were unprogrammed still are. A loss of power during the call leaves it as it
 -- was.
-pub record CallKeepsTakenBlocksExceptUnwritten {D : Type 0} (g : Ghosts D) (map : BlockStates) (pending : List ℕ) (old new : D) : Type 0 where
+pub record KeepsTakenBlocks {D : Type 0} (g : Ghosts D) (map : BlockStates) (pending : List ℕ) (old new : D) : Type 0 where
   pub spared : KeepsTakenBytes map pending (g.blocks old) (g.blocks new)
   pub pages : TakenStayUnprogrammed map pending (g.history old) (g.history new)
   pub geometry : g.geometry new ≡ g.geometry old
   pub at_worst : HoldsAtLosses LossLeavesAtWorst (g.history old) (g.history new) (KeepsTakenBytes map pending (g.blocks old))
 
 -- the same of the used blocks
-pub record CallKeepsUsedBytes {D : Type 0} (g : Ghosts D) (map : BlockStates) (old new : D) : Type 0 where
+pub record CallKeepsUsed {D : Type 0} (g : Ghosts D) (map : BlockStates) (old new : D) : Type 0 where
   pub spared : KeepsUsedBytes map (g.blocks old) (g.blocks new)
   pub pages : UsedStayUnprogrammed map (g.history old) (g.history new)
   pub geometry : g.geometry new ≡ g.geometry old

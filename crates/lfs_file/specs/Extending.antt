@@ -31,25 +31,25 @@ pub record IsResumedList (disk : Blocks) (divided : Geometry) (head size keep : 
   pub known : 1 ≤ length list.rest → ArePointersKnown list.full list.known
 
 -- all its bytes are these, in memory and in no block
-pub record IsBufferOf (divided : Geometry) (list : GrowingList) (bytes : List ℕ) : Type 0 where
+pub record HasBufferedBytes (divided : Geometry) (list : GrowingList) (bytes : List ℕ) : Type 0 where
   pub held : IsAllBuffered list
   pub rest : list.rest ≡ bytes
   pub holds : (disk : Blocks) → ListHasBytes divided disk list bytes (length bytes) [] []
 
 -- the device holds a list as it was left
-pub record IsGrowingListOnDevice {D : Type 0} (g : Ghosts D) (dev : D) (list : GrowingList) : Type 0 where
+pub record HasGrowingList {D : Type 0} (g : Ghosts D) (dev : D) (list : GrowingList) : Type 0 where
   pub growing : IsOnDisk (g.blocks dev) list
   pub geometry : g.geometry dev ≡ list.geometry
 
 -- a block of the device can follow the full ones of a list, and is none of them
-pub record IsDeviceBlockOutsideFullBlocksOfList {D : Type 0} (g : Ghosts D) (dev : D) (full head block : ℕ) : Type 0 where
+pub record CanFollowBlocks {D : Type 0} (g : Ghosts D) (dev : D) (full head block : ℕ) : Type 0 where
   pub chain : AreListBlocks (g.blocks dev) full head
   pub in_device : block < (g.geometry dev).block_count
   pub apart : All (λ c. c ≢ block) (blocks_to_head (g.blocks dev) full head)
 
 -- These bytes, at least one, can be appended in these blocks: as many as they need, different ones of the device and none of the list's.
-pub record CanPushBytesToList {D : Type 0} (g : Ghosts D) (dev : D) (list : GrowingList) (bytes blocks : List ℕ) : Type 0 where
-  pub stands : IsGrowingListOnDevice g dev list
+pub record CanPushBytes {D : Type 0} (g : Ghosts D) (dev : D) (list : GrowingList) (bytes blocks : List ℕ) : Type 0 where
+  pub stands : HasGrowingList g dev list
   pub some : 1 ≤ length bytes
   pub room : growing_size list + length bytes < 2 ^ 31
   pub count : length blocks ≡ appended_count list (length bytes)
@@ -64,7 +64,7 @@ pub record HasPushedBytes (disk : Blocks) (list : GrowingList) (bytes blocks : L
   pub waits : HasUnwrittenAmong (unwritten_block list ++ blocks) longer
 
 -- a list has a byte, and its bytes don't all stand in memory for no block
-pub record CanFinishGrowingList {D : Type 0} (g : Ghosts D) (dev : D) (list : GrowingList) : Type 0 where
-  pub stands : IsGrowingListOnDevice g dev list
+pub record CanFinishList {D : Type 0} (g : Ghosts D) (dev : D) (list : GrowingList) : Type 0 where
+  pub stands : HasGrowingList g dev list
   pub some : 1 ≤ growing_size list
   pub listed : rest_lacks_block list ≡ false

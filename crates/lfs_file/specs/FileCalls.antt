@@ -7,7 +7,7 @@ use Rattle.lfs_device.specs.declared.error.Error.TheVariants.{Corrupt, Io}
 
 -- The device was only read. `Io` comes with a fault of the device, and any other result without one. The only other error is
 -- `Corrupt`.
-pub record OnlyReadsOrCorrupt {D X : Type 0} (g : Ghosts D) (old new : D) (result : Result X Error) : Type 0 where
+pub record ReadsOrCorrupt {D X : Type 0} (g : Ghosts D) (old new : D) (result : Result X Error) : Type 0 where
   pub device : ReadsOnly g old new
   pub faults : ReportsFaults g old new result
   pub errors : IfErr result (λ e. (e ≡ Io) ⊎ (e ≡ Corrupt))

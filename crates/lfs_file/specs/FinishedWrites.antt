@@ -4,12 +4,12 @@ use Rattle.lfs_model.specs.format.Blocks.{Blocks}
 use Rattle.lfs_model.specs.layers.BlockSets.{BlockStates, used_count}
 use Rattle.lfs_model.specs.format.SkipLists.{block_count_for}
 use Rattle.lfs_file.specs.BaseRoom.{in_flight_limit}
-use Rattle.lfs_file.specs.Hand.{FinishedListOnDisk}
+use Rattle.lfs_file.specs.Hand.{IsFinishedList}
 use Rattle.lfs_file.specs.declared.stored_list.StoredList.{StoredList}
 
 -- So many bytes, at least one, may be written at a place over a finished list: beside it there is room for a list up to their end.
-pub record CanWriteOverFinished (map : BlockStates) (disk : Blocks) (block_size : ℕ) (list : StoredList) (place count : ℕ) : Type 0 where
-  pub stored : FinishedListOnDisk map disk block_size list
+pub record CanOverwriteFinished (map : BlockStates) (disk : Blocks) (block_size : ℕ) (list : StoredList) (place count : ℕ) : Type 0 where
+  pub stored : IsFinishedList map disk block_size list
   pub some : 1 ≤ count
   pub small : place + count < 2 ^ 31
   pub room : used_count map + block_count_for block_size (place + count) + in_flight_limit block_size list ≤ length map

@@ -21,11 +21,11 @@ pub record GrowingList : Type 0 where
   pub stand : RestLocation
 
 -- the block that was handed in for the rest and isn't written yet
-abbrev pub unwritten_after_full : RestLocation → List ℕ
-unwritten_after_full Closed = []
-unwritten_after_full (Shared b) = []
-unwritten_after_full (Handed b) = b ∷ []
-unwritten_after_full Held = []
+abbrev pub unwritten_rest_block : RestLocation → List ℕ
+unwritten_rest_block Closed = []
+unwritten_rest_block (Shared b) = []
+unwritten_rest_block (Handed b) = b ∷ []
+unwritten_rest_block Held = []
 
 -- the block that has the rest, or will have it
 abbrev pub rest_block : RestLocation → List ℕ
@@ -45,7 +45,7 @@ abbrev pub rest_lacks_block : GrowingList → Bool
 rest_lacks_block g = lacks_last_block g.stand
 
 abbrev pub unwritten_block : GrowingList → List ℕ
-unwritten_block g = unwritten_after_full g.stand
+unwritten_block g = unwritten_rest_block g.stand
 
 -- the blocks that stay the list's when it grows: full ones, and the pending one
 abbrev pub kept_blocks : Blocks → GrowingList → List ℕ
@@ -70,41 +70,41 @@ abbrev pub growing_size : GrowingList → ℕ
 growing_size g = growing_size_with g.geometry.block_size g
 
 -- the rest does not fill a block, so that no other blocks are full
-abbrev pub LastBytesShort : ℕ → GrowingList → Type 0
-LastBytesShort block_size g = length g.rest < block_capacity block_size g.full
+abbrev pub IsRestShort : ℕ → GrowingList → Type 0
+IsRestShort block_size g = length g.rest < block_capacity block_size g.full
 
 -- how many blocks the list needs for so many bytes more
 abbrev pub appended_count : GrowingList → ℕ → ℕ
 appended_count g n = block_count_for g.geometry.block_size (growing_size g + n) - (g.full + length (unwritten_block g))
 
 -- a block waits for bytes, and is not full after so many more
-abbrev pub fit_unwritten : GrowingList → ℕ → Bool
-fit_unwritten g n = nat_lt 0 (length (unwritten_block g)) && nat_lt (length g.rest + n) (block_capacity g.geometry.block_size g.full)
+abbrev pub fits_unwritten_block : GrowingList → ℕ → Bool
+fits_unwritten_block g n = nat_lt 0 (length (unwritten_block g)) && nat_lt (length g.rest + n) (block_capacity g.geometry.block_size g.full)
 
 -- the rest is in a block that was handed in for it
-pub record LastBytesUnwritten (disk : Blocks) (full head : ℕ) (rest : List ℕ) (b : ℕ) : Type 0 where
+pub record IsRestUnwritten (disk : Blocks) (full head : ℕ) (rest : List ℕ) (b : ℕ) : Type 0 where
   pub some : 1 ≤ length rest
   pub in_range : b < length disk
   pub apart : All (λ c. c ≢ b) (blocks_to_head disk full head)
 
 -- the rest is the beginning of a block that follows the full ones
-pub record LastBytesShared (disk : Blocks) (full head : ℕ) (rest : List ℕ) (b : ℕ) : Type 0 where
+pub record IsRestShared (disk : Blocks) (full head : ℕ) (rest : List ℕ) (b : ℕ) : Type 0 where
   pub some : 1 ≤ length rest
   pub chain : AreListBlocks disk (full + 1) b
   pub back : blocks_to_head disk (full + 1) b ≡ blocks_to_head disk full head ++ b ∷ []
   pub begins : take (length rest) (drop (4 * pointer_count full) (block_bytes disk b)) ≡ rest
 
-abbrev pub LastBytesAreAt : Blocks → ℕ → ℕ → List ℕ → RestLocation → Type 0
-LastBytesAreAt disk full head rest Closed = rest ≡ []
-LastBytesAreAt disk full head rest (Shared b) = LastBytesShared disk full head rest b
-LastBytesAreAt disk full head rest (Handed b) = LastBytesUnwritten disk full head rest b
-LastBytesAreAt disk full head rest Held = full ≡ 0
+abbrev pub IsRestAt : Blocks → ℕ → ℕ → List ℕ → RestLocation → Type 0
+IsRestAt disk full head rest Closed = rest ≡ []
+IsRestAt disk full head rest (Shared b) = IsRestShared disk full head rest b
+IsRestAt disk full head rest (Handed b) = IsRestUnwritten disk full head rest b
+IsRestAt disk full head rest Held = full ≡ 0
 
 -- the disk holds the list's full blocks as they are
 pub record IsOnDisk (disk : Blocks) (g : GrowingList) : Type 0 where
   pub chain : AreListBlocks disk g.full g.head
   pub known : AreKnownBlocks (blocks_to_head disk g.full g.head) g.known
-  pub stand : LastBytesAreAt disk g.full g.head g.rest g.stand
+  pub stand : IsRestAt disk g.full g.head g.rest g.stand
 
 -- the block that takes the next bytes, and how many of the blocks that were handed in are used then
 abbrev pub block_for_next : RestLocation → List ℕ → ℕ → ℕ × ℕ

@@ -6,15 +6,15 @@ use Rattle.lfs_model.specs.session.History.{CallEvent, is_unprogrammed_byte}
 use Rattle.lfs_model.specs.format.SkipLists.{block_count_for, list_bytes}
 use Rattle.lfs_file.specs.Growing.{GrowingList, IsOnDisk, growing_blocks, growing_bytes, rest_lacks_block, kept_blocks, unwritten_block, growing_size_with}
 use Rattle.lfs_file.specs.BlocksApart.{IsTakenWritten, HasBlocksTaken}
-use Rattle.lfs_file.specs.Bases.{IsListOrEmpty, list_blocks_from}
+use Rattle.lfs_file.specs.Bases.{IsListOrEmpty, blocks_of_list}
 use Rattle.lfs_file.specs.declared.stored_list.StoredList.{StoredList}
 
 -- A finished list has all contents. Where it is in flight, some of its blocks may be, and no other blocks are.
-pub record FinishedListOnDisk (map : BlockStates) (disk : Blocks) (block_size : ℕ) (s : StoredList) : Type 0 where
+pub record IsFinishedList (map : BlockStates) (disk : Blocks) (block_size : ℕ) (s : StoredList) : Type 0 where
   pub base : IsListOrEmpty disk block_size s.head s.size
   pub count : length map ≡ length disk
-  pub marked : All (λ b. ¬ (IsFree map b)) (list_blocks_from disk block_size s.head s.size)
-  pub flying : (b : ℕ) → IsInFlight map b → (s.in_flight ≡ true) × Contains (list_blocks_from disk block_size s.head s.size) b
+  pub marked : All (λ b. ¬ (IsFree map b)) (blocks_of_list disk block_size s.head s.size)
+  pub flying : (b : ℕ) → IsInFlight map b → (s.in_flight ≡ true) × Contains (blocks_of_list disk block_size s.head s.size) b
 
 -- A list in hand has the first bytes, its base the others. Both share the first blocks; the other blocks in hand are none of the
 -- base's, and not used. No other block is in flight.
@@ -22,12 +22,12 @@ pub record SharesFirstBlocks (map : BlockStates) (disk : Blocks) (block_size : �
   pub growing : IsOnDisk disk g
   pub marked : HasBlocksTaken map disk g
   pub list : IsListOrEmpty disk block_size base.head base.size
-  pub apart : All (IsTakenWritten map (unwritten_block g)) (list_blocks_from disk block_size base.head base.size)
+  pub apart : All (IsTakenWritten map (unwritten_block g)) (blocks_of_list disk block_size base.head base.size)
   pub few : shared ≤ block_count_for block_size base.size
-  pub front : take shared (kept_blocks disk g) ≡ take shared (list_blocks_from disk block_size base.head base.size)
-  pub behind : All (λ b. All (λ c. c ≢ b) (list_blocks_from disk block_size base.head base.size)) (drop shared (kept_blocks disk g))
-  pub taken : (b : ℕ) → Contains (kept_blocks disk g) b → IsUsedBlock map b → Contains (list_blocks_from disk block_size base.head base.size) b
-  pub flying : (b : ℕ) → IsInFlight map b → Contains (kept_blocks disk g) b ⊎ ((base.in_flight ≡ true) × Contains (list_blocks_from disk block_size base.head base.size) b)
+  pub front : take shared (kept_blocks disk g) ≡ take shared (blocks_of_list disk block_size base.head base.size)
+  pub behind : All (λ b. All (λ c. c ≢ b) (blocks_of_list disk block_size base.head base.size)) (drop shared (kept_blocks disk g))
+  pub taken : (b : ℕ) → Contains (kept_blocks disk g) b → IsUsedBlock map b → Contains (blocks_of_list disk block_size base.head base.size) b
+  pub flying : (b : ℕ) → IsInFlight map b → Contains (kept_blocks disk g) b ⊎ ((base.in_flight ≡ true) × Contains (blocks_of_list disk block_size base.head base.size) b)
 
 -- All blocks of the list are its own, as many as its bytes need, and it can be ended.
 pub record CanEndOver (map : BlockStates) (disk : Blocks) (block_size : ℕ) (g : GrowingList) (base : StoredList) (shared : ℕ) : Type 0 where

@@ -4,8 +4,8 @@ use Rattle.lfs_device.specs.declared.geometry.Geometry.{Geometry}
 use Rattle.lfs_model.specs.format.Blocks.{Blocks}
 use Rattle.lfs_model.specs.layers.BlockSets.{BlockStates}
 use Rattle.lfs_file.specs.Growing.{growing_size}
-use Rattle.lfs_file.specs.Hand.{SharesFirstBlocks, CanEndOver, FinishedListOnDisk, bytes_over_base, stored_list_bytes}
-use Rattle.lfs_file.specs.BlockOwners.{AreOwn, stored_blocks}
+use Rattle.lfs_file.specs.Hand.{SharesFirstBlocks, CanEndOver, IsFinishedList, bytes_over_base, stored_list_bytes}
+use Rattle.lfs_file.specs.BlockOwners.{AreUsedAmong, stored_blocks}
 use Rattle.lfs_file.specs.declared.stored_list.StoredList.{StoredList}
 use Rattle.lfs_file.specs.declared.writes.PendingList.{PendingList}
 
@@ -18,25 +18,25 @@ abbrev pub unfinished_bytes : Blocks → PendingList → List ℕ
 unfinished_bytes disk hand = bytes_over_base disk hand.list.geometry.block_size hand.list hand.base
 
 -- a list that is begun, of this device
-pub record UnfinishedListOnDisk (map : BlockStates) (disk : Blocks) (now : Geometry) (hand : PendingList) : Type 0 where
+pub record IsUnfinishedList (map : BlockStates) (disk : Blocks) (now : Geometry) (hand : PendingList) : Type 0 where
   pub geometry : now ≡ hand.list.geometry
   pub begun : SharesFirstBlocks map disk hand.list.geometry.block_size hand.list hand.base hand.shared
 
 -- a list in hand that has bytes, of this device
-pub record HasUnfinishedBytes (map : BlockStates) (disk : Blocks) (now : Geometry) (hand : PendingList) : Type 0 where
+pub record CanEndUnfinished (map : BlockStates) (disk : Blocks) (now : Geometry) (hand : PendingList) : Type 0 where
   pub geometry : now ≡ hand.list.geometry
   pub list : CanEndOver map disk hand.list.geometry.block_size hand.list hand.base hand.shared
   pub some : 1 ≤ growing_size hand.list
 
 -- the list is begun, ends there, and the contents are these
 pub record IsUnfinishedTo (map : BlockStates) (disk : Blocks) (now : Geometry) (hand : PendingList) (place : ℕ) (contents : List ℕ) : Type 0 where
-  pub begun : UnfinishedListOnDisk map disk now hand
+  pub begun : IsUnfinishedList map disk now hand
   pub size : growing_size hand.list ≡ place
   pub bytes : unfinished_bytes disk hand ≡ contents
 
 -- the list has bytes, ends there, and the contents are these
 pub record IsWrittenTo (map : BlockStates) (disk : Blocks) (now : Geometry) (hand : PendingList) (place : ℕ) (contents : List ℕ) : Type 0 where
-  pub going : HasUnfinishedBytes map disk now hand
+  pub going : CanEndUnfinished map disk now hand
   pub size : growing_size hand.list ≡ place
   pub bytes : unfinished_bytes disk hand ≡ contents
 
@@ -49,15 +49,15 @@ pub record KeepsOrReplacesBase (old : PendingList) (place : ℕ) (new : PendingL
 -- and the used blocks of the base are those of the base before
 pub record TakesOldBase (map : BlockStates) (block_size : ℕ) (disk : Blocks) (old : PendingList) (place : ℕ) (later : Blocks) (new : PendingList) : Type 0 where
   pub over : KeepsOrReplacesBase old place new
-  pub owned : AreOwn map (stored_blocks disk block_size old.base) (stored_blocks later block_size new.base)
+  pub owned : AreUsedAmong map (stored_blocks disk block_size old.base) (stored_blocks later block_size new.base)
 
 -- a finished list of so many bytes, these ones
 pub record IsFinishedOf (map : BlockStates) (disk : Blocks) (now : Geometry) (s : StoredList) (length : ℕ) (contents : List ℕ) : Type 0 where
-  pub stored : FinishedListOnDisk map disk now.block_size s
+  pub stored : IsFinishedList map disk now.block_size s
   pub count : s.size ≡ length
   pub bytes : stored_list_bytes disk now.block_size s ≡ contents
 
 -- so many zeros were written at its end
 pub record EndsInZeros (map : BlockStates) (disk : Blocks) (now : Geometry) (hand : PendingList) (count place : ℕ) (contents : List ℕ) : Type 0 where
   pub at : IsUnfinishedTo map disk now hand place contents
-  pub going : 1 ≤ count → HasUnfinishedBytes map disk now hand
+  pub going : 1 ≤ count → CanEndUnfinished map disk now hand

@@ -1,6 +1,6 @@
 ghost use Rattle.std.specs.Prelude.{[], ◌∷◌, ◌≡◌, ◌≤◌, ◌<◌, ◌+◌, ◌-◌, ◌*◌, ◌^◌, ◌++◌, ℕ, List, length, take, drop, OnOk, slice_index};
 ghost use Rattle.byteorder.specs.Endian.{little_bytes};
-ghost use Rattle.lfs_device.specs.DeviceCalls.{ChangesOnlyThisBlock, ReadsOnly, ReportsNoErrorButIo};
+ghost use Rattle.lfs_device.specs.DeviceCalls.{ChangesOneBlock, ReadsOnly, ReportsOnlyIo};
 ghost use Rattle.lfs_file.specs.Front.{KeepsFullBlocks, ReadsUnknownPointers};
 ghost use Rattle.lfs_file.specs.Known.{ArePointersKnown, OnlyBelowKnown, AreKnownBlocks, ArePointedKnown};
 ghost use Rattle.lfs_model.specs.format.SkipLists.{blocks_to_head, pointer_count, word_at};
@@ -93,7 +93,7 @@ fn write_pointers<D: BlockDevice>(
     ensures front { KeepsFullBlocks (blocks_to_head (D.blocks dev.old) front.old.count front.old.head) front.old front.new }
     ensures few { OnOk result (ReadsUnknownPointers front.old front.new (D.history dev.old) (D.history dev.new)) }
     ensures device { ReadsOnly D.BlockDevice dev.old dev.new }
-    ensures io { ReportsNoErrorButIo D.BlockDevice dev.old dev.new result }
+    ensures io { ReportsOnlyIo D.BlockDevice dev.old dev.new result }
 {
     let index = front.count;
     if index == 0 {
@@ -122,8 +122,8 @@ pub(crate) fn write_block<D: BlockDevice>(
         (end - 4 * pointer_count front.old.count) (take (end - 4 * pointer_count front.old.count) (drop (4 * pointer_count front.old.count) buf.old))) }
     ensures front { KeepsFullBlocks (blocks_to_head (D.blocks dev.old) front.old.count front.old.head) front.old front.new }
     ensures calls { OnOk result (WritesOneBlock front.old front.new (D.history dev.old) (D.history dev.new)) }
-    ensures device { ChangesOnlyThisBlock D.BlockDevice block dev.old dev.new }
-    ensures io { ReportsNoErrorButIo D.BlockDevice dev.old dev.new result }
+    ensures device { ChangesOneBlock D.BlockDevice block dev.old dev.new }
+    ensures io { ReportsOnlyIo D.BlockDevice dev.old dev.new result }
 {
     write_pointers(dev, front, buf)?;
     dev.erase(block)?;

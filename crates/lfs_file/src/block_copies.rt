@@ -1,11 +1,11 @@
 // Copies of the bytes of a base that follow those in hand.
 
 ghost use Rattle.std.specs.Prelude.{◌≡◌, ◌≤◌, ◌<◌, ◌+◌, ◌-◌, length, max, drop, IfOk, OnOk};
-ghost use Rattle.lfs_device.specs.DeviceCalls.{OnlyReadsOrIo, ReadsOnly, ReportsIoOrNoMemory};
+ghost use Rattle.lfs_device.specs.DeviceCalls.{ReadsOrIo, ReadsOnly, ReportsIoNoMemory};
 ghost use Rattle.lfs_model.specs.session.History.{read_count};
 ghost use Rattle.lfs_model.specs.format.SkipLists.{AreListBlocks, blocks_to_head};
 ghost use Rattle.lfs_file.specs.BaseCopies.{CanAppendBase, HasBlockBytes};
-ghost use Rattle.lfs_file.specs.Outcomes.{WritesFreeAndPending};
+ghost use Rattle.lfs_file.specs.Outcomes.{WritesFreeOrUnwritten};
 ghost use Rattle.lfs_file.specs.Extensions.{IsExtended};
 ghost use Rattle.lfs_file.specs.Growing.{unwritten_block, growing_size};
 ghost use Rattle.lfs_file.specs.Hand.{bytes_over_base};
@@ -33,7 +33,7 @@ pub(crate) fn append_base_rest<D: BlockDevice>(
     requires { CanAppendBase map.old (D.blocks dev.old) (D.geometry dev.old) list.old base }
     ensures extended { OnOk result (IsExtended map.old (D.blocks dev.old) list.old (bytes_over_base (D.blocks dev.old) list.old.geometry.block_size list.old base)
         (max (growing_size list.old) base.size) map.new (D.blocks dev.new) list.new) }
-    ensures writing { WritesFreeAndPending D.BlockDevice map.old map.new (unwritten_block list.old) dev.old dev.new result }
+    ensures writing { WritesFreeOrUnwritten D.BlockDevice map.old map.new (unwritten_block list.old) dev.old dev.new result }
 {
     if list.size() >= base.size {
         return Ok(());
@@ -58,7 +58,7 @@ fn append_by_block<D: BlockDevice>(
     requires chunk { length chunk.old ≡ list.old.geometry.block_size }
     ensures extended { OnOk result (IsExtended map.old (D.blocks dev.old) list.old (bytes_over_base (D.blocks dev.old) list.old.geometry.block_size list.old base)
         (max (growing_size list.old) base.size) map.new (D.blocks dev.new) list.new) }
-    ensures writing { WritesFreeAndPending D.BlockDevice map.old map.new (unwritten_block list.old) dev.old dev.new result }
+    ensures writing { WritesFreeOrUnwritten D.BlockDevice map.old map.new (unwritten_block list.old) dev.old dev.new result }
 {
     let block_size = dev.geometry().block_size;
     let (from, _) = place(block_size, list.size());
@@ -91,7 +91,7 @@ fn blocks_from_index<D: BlockDevice>(
     requires within { from ≤ count }
     ensures blocks { IfOk result (λ v. v.items ≡ drop from (blocks_to_head (D.blocks dev.old) count head)) }
     ensures device { ReadsOnly D.BlockDevice dev.old dev.new }
-    ensures reports { ReportsIoOrNoMemory D.BlockDevice dev.old dev.new result }
+    ensures reports { ReportsIoNoMemory D.BlockDevice dev.old dev.new result }
     // The list is walked once: one read for each of them.
     ensures few { OnOk result (read_count (D.history dev.new) ≤ read_count (D.history dev.old) + (count - from)) }
 {
@@ -118,7 +118,7 @@ fn read_from_block<D: BlockDevice>(
     requires some { 1 ≤ most }
     requires room { length buf.old ≡ (D.geometry dev.old).block_size }
     ensures read { IfOk result (HasBlockBytes (D.blocks dev.old) (D.geometry dev.old).block_size block off most buf.new) }
-    ensures reading { OnlyReadsOrIo D.BlockDevice dev.old dev.new result }
+    ensures reading { ReadsOrIo D.BlockDevice dev.old dev.new result }
     ensures few { read_count (D.history dev.new) ≡ read_count (D.history dev.old) + 1 }
 {
     let count = (buf.len() - off as usize).min(most as usize);

@@ -2,11 +2,11 @@
 
 ghost use Rattle.std.specs.Prelude.{ℕ, IfOk};
 ghost use Rattle.lfs_model.specs.layers.BlockSets.{IsInFlight};
-ghost use Rattle.lfs_device.specs.DeviceCalls.{ReportsIoOrNoMemory};
-ghost use Rattle.lfs_file.specs.ContentsCalls.{CallKeepsUsedBytes};
+ghost use Rattle.lfs_device.specs.DeviceCalls.{ReportsIoNoMemory};
+ghost use Rattle.lfs_file.specs.ContentsCalls.{CallKeepsUsed};
 ghost use Rattle.lfs_file.specs.Contents.{CanFinishContents, HaveForm, contents_bytes, form_after_finish, contents_form};
 ghost use Rattle.lfs_file.specs.Hand.{KeepsUsedBlocks};
-ghost use Rattle.lfs_file.specs.BlockOwners.{AreOwn, contents_blocks};
+ghost use Rattle.lfs_file.specs.BlockOwners.{AreUsedAmong, contents_blocks};
 
 use crate::contents::WriterContents;
 use crate::list_ends::end_unfinished_list;
@@ -31,10 +31,10 @@ pub fn finish_contents<D: BlockDevice>(
     requires { CanFinishContents map.old (D.blocks dev.old) (D.geometry dev.old) contents }
     ensures finished { IfOk result (λ c. HaveForm map.new (D.blocks dev.new) (D.geometry dev.old) c
         (contents_bytes (D.blocks dev.old) (D.geometry dev.old).block_size contents) (form_after_finish (contents_form contents))) }
-    ensures owned { IfOk result (λ c. AreOwn map.new (contents_blocks (D.blocks dev.old) (D.geometry dev.old).block_size contents) (contents_blocks (D.blocks dev.new) (D.geometry dev.old).block_size c)) }
+    ensures owned { IfOk result (λ c. AreUsedAmong map.new (contents_blocks (D.blocks dev.old) (D.geometry dev.old).block_size contents) (contents_blocks (D.blocks dev.new) (D.geometry dev.old).block_size c)) }
     ensures map { KeepsUsedBlocks map.old map.new }
-    ensures device { CallKeepsUsedBytes D.BlockDevice map.old dev.old dev.new }
-    ensures reports { ReportsIoOrNoMemory D.BlockDevice dev.old dev.new result }
+    ensures device { CallKeepsUsed D.BlockDevice map.old dev.old dev.new }
+    ensures reports { ReportsIoNoMemory D.BlockDevice dev.old dev.new result }
 {
     match contents {
         WriterContents::InMemory(list) => Ok(WriterContents::InMemory(list)),

@@ -4,15 +4,15 @@ ghost use Rattle.std.specs.Prelude.{◌≡◌, ◌<◌, ◌+◌, length, IfOk, I
 ghost use Rattle.lfs_model.specs.format.Blocks.{Blocks};
 ghost use Rattle.lfs_model.specs.layers.BlockSets.{BlockStates};
 ghost use Rattle.lfs_model.specs.session.Writers.{written_contents};
-ghost use Rattle.lfs_device.specs.DeviceCalls.{ReportsIoOrNoMemory};
-ghost use Rattle.lfs_file.specs.ContentsCalls.{CallKeepsUsedBytes};
+ghost use Rattle.lfs_device.specs.DeviceCalls.{ReportsIoNoMemory};
+ghost use Rattle.lfs_file.specs.ContentsCalls.{CallKeepsUsed};
 ghost use Rattle.lfs_file.specs.Contents.{CanWriteContents, HaveForm, NoneInFlight, contents_bytes, contents_form, buffered_bytes};
-ghost use Rattle.lfs_file.specs.FinishedWrites.{CanWriteOverFinished};
+ghost use Rattle.lfs_file.specs.FinishedWrites.{CanOverwriteFinished};
 ghost use Rattle.lfs_file.specs.Form as form;
 ghost use Rattle.lfs_file.specs.Form.{written_form};
 ghost use Rattle.lfs_file.specs.Hand.{KeepsUsedBlocks, stored_list_bytes};
 ghost use Rattle.lfs_file.specs.HandWrites.{IsWrittenTo, unfinished_bytes};
-ghost use Rattle.lfs_file.specs.BlockOwners.{AreOwn, KeepsStoredBlocks, contents_blocks};
+ghost use Rattle.lfs_file.specs.BlockOwners.{AreUsedAmong, KeepsStoredBlocks, contents_blocks};
 
 use crate::Extender;
 use crate::list_starts::begin_over_finished;
@@ -68,10 +68,10 @@ fn write_in_memory<D: BlockDevice>(
     requires { CanWriteContents map.old (D.blocks dev.old) (D.geometry dev.old) (WriterContents.InMemory list) limit place (length bytes.now) }
     ensures written { IfOk result (λ c. HaveForm map.new (D.blocks dev.new) (D.geometry dev.old) c
         (written_contents (buffered_bytes list) place bytes.now) (written_form limit place (length bytes.now) (form.InMemory (length (buffered_bytes list))))) }
-    ensures owned { IfOk result (λ c. AreOwn map.new (contents_blocks (D.blocks dev.old) (D.geometry dev.old).block_size (WriterContents.InMemory list)) (contents_blocks (D.blocks dev.new) (D.geometry dev.old).block_size c)) }
+    ensures owned { IfOk result (λ c. AreUsedAmong map.new (contents_blocks (D.blocks dev.old) (D.geometry dev.old).block_size (WriterContents.InMemory list)) (contents_blocks (D.blocks dev.new) (D.geometry dev.old).block_size c)) }
     ensures map { KeepsUsedBlocks map.old map.new }
-    ensures device { CallKeepsUsedBytes D.BlockDevice map.old dev.old dev.new }
-    ensures reports { ReportsIoOrNoMemory D.BlockDevice dev.old dev.new result }
+    ensures device { CallKeepsUsed D.BlockDevice map.old dev.old dev.new }
+    ensures reports { ReportsIoNoMemory D.BlockDevice dev.old dev.new result }
 {
     let size = list.size().max(place + bytes.len() as u32);
     if size <= limit {
@@ -92,13 +92,13 @@ fn begin_with_bytes<D: BlockDevice>(
     place: u32,
     bytes: &[u8],
 ) -> Result<PendingList, Error>
-    requires { CanWriteOverFinished map.old (D.blocks dev.old) (D.geometry dev.old).block_size stored place (length bytes.now) }
+    requires { CanOverwriteFinished map.old (D.blocks dev.old) (D.geometry dev.old).block_size stored place (length bytes.now) }
     ensures written { IfOk result (λ h. IsWrittenTo map.new (D.blocks dev.new) (D.geometry dev.old) h (place + length bytes.now)
         (written_contents (stored_list_bytes (D.blocks dev.old) (D.geometry dev.old).block_size stored) place bytes.now)) }
     ensures base { IfOk result (λ h. KeepsStoredBlocks (D.geometry dev.old).block_size (D.blocks dev.old) stored (D.blocks dev.new) h.base) }
     ensures map { KeepsUsedBlocks map.old map.new }
-    ensures device { CallKeepsUsedBytes D.BlockDevice map.old dev.old dev.new }
-    ensures reports { ReportsIoOrNoMemory D.BlockDevice dev.old dev.new result }
+    ensures device { CallKeepsUsed D.BlockDevice map.old dev.old dev.new }
+    ensures reports { ReportsIoNoMemory D.BlockDevice dev.old dev.new result }
 {
     let begun = begin_over_finished(alloc, dev, stored, place.min(stored.size))?;
     let mut hand = begun;
@@ -119,10 +119,10 @@ fn write_over_finished<D: BlockDevice>(
     requires { CanWriteContents map.old (D.blocks dev.old) (D.geometry dev.old) (WriterContents.Finished stored) limit place (length bytes.now) }
     ensures written { IfOk result (λ c. HaveForm map.new (D.blocks dev.new) (D.geometry dev.old) c
         (written_contents (stored_list_bytes (D.blocks dev.old) (D.geometry dev.old).block_size stored) place bytes.now) (written_form limit place (length bytes.now) (form.Finished stored.size stored.in_flight))) }
-    ensures owned { IfOk result (λ c. AreOwn map.new (contents_blocks (D.blocks dev.old) (D.geometry dev.old).block_size (WriterContents.Finished stored)) (contents_blocks (D.blocks dev.new) (D.geometry dev.old).block_size c)) }
+    ensures owned { IfOk result (λ c. AreUsedAmong map.new (contents_blocks (D.blocks dev.old) (D.geometry dev.old).block_size (WriterContents.Finished stored)) (contents_blocks (D.blocks dev.new) (D.geometry dev.old).block_size c)) }
     ensures map { KeepsUsedBlocks map.old map.new }
-    ensures device { CallKeepsUsedBytes D.BlockDevice map.old dev.old dev.new }
-    ensures reports { ReportsIoOrNoMemory D.BlockDevice dev.old dev.new result }
+    ensures device { CallKeepsUsed D.BlockDevice map.old dev.old dev.new }
+    ensures reports { ReportsIoNoMemory D.BlockDevice dev.old dev.new result }
 {
     let size = stored.size.max(place + bytes.len() as u32);
     if size <= limit {
@@ -147,10 +147,10 @@ fn write_to_unfinished<D: BlockDevice>(
     requires { CanWriteContents map.old (D.blocks dev.old) (D.geometry dev.old) (WriterContents.InHand hand) limit place (length bytes.now) }
     ensures written { IfOk result (λ c. HaveForm map.new (D.blocks dev.new) (D.geometry dev.old) c
         (written_contents (unfinished_bytes (D.blocks dev.old) hand) place bytes.now) (written_form limit place (length bytes.now) (contents_form (WriterContents.InHand hand)))) }
-    ensures owned { IfOk result (λ c. AreOwn map.new (contents_blocks (D.blocks dev.old) (D.geometry dev.old).block_size (WriterContents.InHand hand)) (contents_blocks (D.blocks dev.new) (D.geometry dev.old).block_size c)) }
+    ensures owned { IfOk result (λ c. AreUsedAmong map.new (contents_blocks (D.blocks dev.old) (D.geometry dev.old).block_size (WriterContents.InHand hand)) (contents_blocks (D.blocks dev.new) (D.geometry dev.old).block_size c)) }
     ensures map { KeepsUsedBlocks map.old map.new }
-    ensures device { CallKeepsUsedBytes D.BlockDevice map.old dev.old dev.new }
-    ensures reports { ReportsIoOrNoMemory D.BlockDevice dev.old dev.new result }
+    ensures device { CallKeepsUsed D.BlockDevice map.old dev.old dev.new }
+    ensures reports { ReportsIoNoMemory D.BlockDevice dev.old dev.new result }
 {
     let mut hand = hand;
     if write_within_block(&mut hand, place, bytes) {
@@ -179,10 +179,10 @@ pub fn write_contents<D: BlockDevice>(
     requires { CanWriteContents map.old (D.blocks dev.old) (D.geometry dev.old) contents limit place (length bytes.now) }
     ensures written { IfOk result (λ c. HaveForm map.new (D.blocks dev.new) (D.geometry dev.old) c
         (written_contents (contents_bytes (D.blocks dev.old) (D.geometry dev.old).block_size contents) place bytes.now) (written_form limit place (length bytes.now) (contents_form contents))) }
-    ensures owned { IfOk result (λ c. AreOwn map.new (contents_blocks (D.blocks dev.old) (D.geometry dev.old).block_size contents) (contents_blocks (D.blocks dev.new) (D.geometry dev.old).block_size c)) }
+    ensures owned { IfOk result (λ c. AreUsedAmong map.new (contents_blocks (D.blocks dev.old) (D.geometry dev.old).block_size contents) (contents_blocks (D.blocks dev.new) (D.geometry dev.old).block_size c)) }
     ensures map { KeepsUsedBlocks map.old map.new }
-    ensures device { CallKeepsUsedBytes D.BlockDevice map.old dev.old dev.new }
-    ensures reports { ReportsIoOrNoMemory D.BlockDevice dev.old dev.new result }
+    ensures device { CallKeepsUsed D.BlockDevice map.old dev.old dev.new }
+    ensures reports { ReportsIoNoMemory D.BlockDevice dev.old dev.new result }
 {
     match contents {
         WriterContents::InMemory(list) => write_in_memory(

@@ -1,12 +1,12 @@
 ghost use Rattle.std.specs.Prelude.{◌≡◌, ◌≤◌, ◌<◌, ◌+◌, ◌-◌, ◌*◌, ◌^◌, ◌++◌, ◌∷◌, [], length, take, replicate, OnOk, IfOk, IfErr};
 ghost use Rattle.std.specs.Bool.{OnFalse, OnTrue};
-ghost use Rattle.lfs_device.specs.DeviceCalls.{ChangesOnlyTheseBlocks, ChangesOnlyThisBlock, ReadsOnly, ReportsIoOrNoMemory, ReportsNoErrorButIo};
+ghost use Rattle.lfs_device.specs.DeviceCalls.{ChangesTheseBlocks, ChangesOneBlock, ReadsOnly, ReportsIoNoMemory, ReportsOnlyIo};
 ghost use Rattle.lfs_file.specs.Counts.{WritesOnce};
-ghost use Rattle.lfs_file.specs.Extending.{CanFinishGrowingList, CanPushBytesToList, CanResumeList, IsBufferOf, HasPushedBytes, IsResumedList, IsEmptyList};
+ghost use Rattle.lfs_file.specs.Extending.{CanFinishList, CanPushBytes, CanResumeList, HasBufferedBytes, HasPushedBytes, IsResumedList, IsEmptyList};
 ghost use Rattle.lfs_file.specs.FewReads.{FillsFew, ResumesFew, WritesLastFew};
 ghost use Rattle.lfs_file.specs.Fields.{IsExtender, growing_view};
 ghost use Rattle.lfs_file.specs.Finished.{IsListOf};
-ghost use Rattle.lfs_file.specs.Growing.{IsAllBuffered, HasUnwrittenAmong, growing_blocks, fit_unwritten, growing_bytes, growing_size, appended_count, block_for_next, unwritten_block};
+ghost use Rattle.lfs_file.specs.Growing.{IsAllBuffered, HasUnwrittenAmong, growing_blocks, fits_unwritten_block, growing_bytes, growing_size, appended_count, block_for_next, unwritten_block};
 ghost use Rattle.lfs_model.specs.format.Blocks.{overwritten_at};
 ghost use Rattle.lfs_model.specs.session.Writers.{written_contents as with_bytes};
 ghost use Rattle.lfs_model.specs.format.SkipLists.{block_count_for};
@@ -120,7 +120,7 @@ impl Extender {
         ensures resumed { IfOk result (IsResumedList (D.blocks dev.old) (D.geometry dev.old) head size keep) }
         ensures device { ReadsOnly D.BlockDevice dev.old dev.new }
         ensures few { OnOk result (ResumesFew (D.geometry dev.old).block_size size keep (D.history dev.old) (D.history dev.new)) }
-        ensures reports { ReportsIoOrNoMemory D.BlockDevice dev.old dev.new result }
+        ensures reports { ReportsIoNoMemory D.BlockDevice dev.old dev.new result }
     {
         let geometry = dev.geometry();
         let block_size = geometry.block_size;
@@ -157,7 +157,7 @@ impl Extender {
     /// The caller's condition is that there are fewer bytes than a block has.
     pub fn replace_buffered(&mut self, bytes: &[u8])
         requires { length bytes.now < self.old.geometry.block_size }
-        ensures { IsBufferOf self.old.geometry self.new bytes.now }
+        ensures { HasBufferedBytes self.old.geometry self.new bytes.now }
     {
         let state = &mut *self.state;
         overwrite_buffer_bytes(&mut state.buffer, 0, bytes);
@@ -183,7 +183,7 @@ impl Extender {
     pub fn write_buffered_at(&mut self, at: u32, bytes: &[u8])
         requires held { IsAllBuffered self.old }
         requires room { at + length bytes.now < self.old.geometry.block_size }
-        ensures { IsBufferOf self.old.geometry self.new (with_bytes self.old.rest at bytes.now) }
+        ensures { HasBufferedBytes self.old.geometry self.new (with_bytes self.old.rest at bytes.now) }
     {
         let state = &mut *self.state;
         let from = state.filled.max(at);
@@ -199,7 +199,7 @@ impl Extender {
     pub fn truncate_buffered(&mut self, len: u32)
         requires held { IsAllBuffered self.old }
         requires within { len ≤ length self.old.rest }
-        ensures { IsBufferOf self.old.geometry self.new (take len self.old.rest) }
+        ensures { HasBufferedBytes self.old.geometry self.new (take len self.old.rest) }
     {
         let state = &mut *self.state;
         state.filled = len;
@@ -249,7 +249,7 @@ impl Extender {
     /// The caller's condition is that the whole list then has at most 2,147,483,647 bytes.
     pub(crate) fn push_within_block(&mut self, bytes: &[u8]) -> bool
         requires { growing_size self.old + length bytes.now < 2 ^ 31 }
-        ensures fits { result ≡ fit_unwritten self.old (length bytes.now) }
+        ensures fits { result ≡ fits_unwritten_block self.old (length bytes.now) }
         ensures pushed { OnTrue result (self.new ≡ record self.old { rest = self.old.rest ++ bytes.now }) }
         ensures same { OnFalse result (self.new ≡ self.old) }
     {
@@ -290,8 +290,8 @@ impl Extender {
         ensures filled { IfOk result (λ n. HasFilledBlock (D.blocks dev.old) (D.blocks dev.new) self.old self.new block n bytes.now) }
         ensures calls { OnOk result (FillsOneBlock self.old self.new (D.history dev.old) (D.history dev.new)) }
         ensures waits { OnOk result (HasUnwrittenAmong (block ∷ []) self.new) }
-        ensures device { ChangesOnlyThisBlock D.BlockDevice block dev.old dev.new }
-        ensures io { ReportsNoErrorButIo D.BlockDevice dev.old dev.new result }
+        ensures device { ChangesOneBlock D.BlockDevice block dev.old dev.new }
+        ensures io { ReportsOnlyIo D.BlockDevice dev.old dev.new result }
     {
         let state = &mut *self.state;
         let block_size = state.geometry.block_size;
@@ -328,13 +328,13 @@ impl Extender {
         bytes: &[u8],
         blocks: &[u32],
     ) -> Result<(), Error>
-        requires { CanPushBytesToList D.BlockDevice dev.old self.old bytes.now blocks.now }
+        requires { CanPushBytes D.BlockDevice dev.old self.old bytes.now blocks.now }
         ensures pushed { OnOk result (HasPushedBytes (D.blocks dev.old) self.old bytes.now blocks.now (D.blocks dev.new) self.new) }
         // A block that fills is erased once and programmed once.
         ensures writes { OnOk result (WritesOnce self.old.full self.new.full (D.history dev.old) (D.history dev.new)) }
         ensures few { OnOk result (FillsFew self.old self.new (D.history dev.old) (D.history dev.new)) }
-        ensures device { ChangesOnlyTheseBlocks D.BlockDevice (unwritten_block self.old ++ blocks.now) dev.old dev.new }
-        ensures io { ReportsNoErrorButIo D.BlockDevice dev.old dev.new result }
+        ensures device { ChangesTheseBlocks D.BlockDevice (unwritten_block self.old ++ blocks.now) dev.old dev.new }
+        ensures io { ReportsOnlyIo D.BlockDevice dev.old dev.new result }
     {
         let mut done = 0;
         let mut used = 0;
@@ -352,8 +352,8 @@ impl Extender {
         ensures block { OnOk result (IsAppendedWith (D.blocks dev.old) (D.blocks dev.new) self.old.full self.old.head block (length self.old.rest) self.old.rest) }
         ensures writes { OnOk result (WritesOnce 0 1 (D.history dev.old) (D.history dev.new)) }
         ensures few { OnOk result (WritesLastFew self.old (D.history dev.old) (D.history dev.new)) }
-        ensures device { ChangesOnlyThisBlock D.BlockDevice block dev.old dev.new }
-        ensures io { ReportsNoErrorButIo D.BlockDevice dev.old dev.new result }
+        ensures device { ChangesOneBlock D.BlockDevice block dev.old dev.new }
+        ensures io { ReportsOnlyIo D.BlockDevice dev.old dev.new result }
     {
         let state = &mut *self.state;
         let end = state.filled.next_multiple_of(state.geometry.page);
@@ -372,12 +372,12 @@ impl Extender {
     ///
     /// Errors: `Io` where the device failed.
     pub fn finish<D: BlockDevice>(mut self, dev: &mut D) -> Result<(u32, u32), Error>
-        requires { CanFinishGrowingList D.BlockDevice dev.old self }
+        requires { CanFinishList D.BlockDevice dev.old self }
         ensures finished { IfOk result (λ r. IsListOf (D.blocks dev.new) self.geometry.block_size r.0 r.1 (growing_bytes (D.blocks dev.old) self) (growing_blocks (D.blocks dev.old) self)) }
         ensures size { IfOk result (λ r. r.1 ≡ growing_size self) }
         ensures calls { FinishCalls self (D.blocks dev.old) (D.blocks dev.new) (D.history dev.old) (D.history dev.new) result }
-        ensures device { ChangesOnlyTheseBlocks D.BlockDevice (unwritten_block self) dev.old dev.new }
-        ensures io { ReportsNoErrorButIo D.BlockDevice dev.old dev.new result }
+        ensures device { ChangesTheseBlocks D.BlockDevice (unwritten_block self) dev.old dev.new }
+        ensures io { ReportsOnlyIo D.BlockDevice dev.old dev.new result }
     {
         let state = &*self.state;
         let head = state.front.head;

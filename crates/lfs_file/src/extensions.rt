@@ -1,9 +1,9 @@
 // Extensions of lists in hand, in blocks of the map.
 
 ghost use Rattle.std.specs.Prelude.{◌<◌, ◌+◌, ◌++◌, length, OnOk};
-ghost use Rattle.lfs_device.specs.DeviceCalls.{ReportsIoOrNoMemory};
+ghost use Rattle.lfs_device.specs.DeviceCalls.{ReportsIoNoMemory};
 ghost use Rattle.lfs_file.specs.Growing.{unwritten_block, growing_bytes, growing_size};
-ghost use Rattle.lfs_file.specs.ContentsCalls.{CallKeepsTakenBlocksExceptUnwritten};
+ghost use Rattle.lfs_file.specs.ContentsCalls.{KeepsTakenBlocks};
 ghost use Rattle.lfs_file.specs.Extensions.{IsExtended};
 ghost use Rattle.lfs_file.specs.TakenBlocks.{ChangesOnlyFree};
 ghost use Rattle.lfs_file.specs.CallPremises.{CanExtendList};
@@ -33,8 +33,8 @@ pub(crate) fn extend_list<D: BlockDevice>(
         (growing_bytes (D.blocks dev.old) list.old ++ bytes.now) (growing_size list.old + length bytes.now) map.new (D.blocks dev.new) list.new) }
     // No block that was used or in flight changes, except the list's pending one.
     ensures map { ChangesOnlyFree map.old map.new }
-    ensures device { CallKeepsTakenBlocksExceptUnwritten D.BlockDevice map.old (unwritten_block list.old) dev.old dev.new }
-    ensures reports { ReportsIoOrNoMemory D.BlockDevice dev.old dev.new result }
+    ensures device { KeepsTakenBlocks D.BlockDevice map.old (unwritten_block list.old) dev.old dev.new }
+    ensures reports { ReportsIoNoMemory D.BlockDevice dev.old dev.new result }
 {
     let count = list.needed(bytes.len() as u32);
     let blocks = take_blocks(alloc, map, count)?;

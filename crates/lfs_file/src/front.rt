@@ -1,5 +1,5 @@
 ghost use Rattle.std.specs.Prelude.{◌≤◌, ◌<◌, ◌+◌, ◌*◌, ◌^◌, ℕ, take, OnOk, IfOk, IsErrOf};
-ghost use Rattle.lfs_file.specs.FileCalls.{OnlyReadsOrCorrupt};
+ghost use Rattle.lfs_file.specs.FileCalls.{ReadsOrCorrupt};
 ghost use Rattle.lfs_file.specs.Finished.{IsListOf};
 ghost use Rattle.lfs_model.specs.session.History.{read_count};
 ghost use Rattle.lfs_model.specs.format.SkipLists.{IsSkipList, blocks_to_head, block_count_for, list_bytes};
@@ -29,7 +29,7 @@ pub fn head_of_front<D: BlockDevice>(
         (take (block_count_for (D.geometry dev.old).block_size keep) (blocks_to_head (D.blocks dev.old) (block_count_for (D.geometry dev.old).block_size size) head))) }
     ensures in_range { IfOk result (λ h. h < (D.geometry dev.old).block_count) }
     ensures corrupt { IsErrOf result Error.Corrupt → ¬ IsSkipList (D.blocks dev.old) (D.geometry dev.old).block_size head size }
-    ensures reading { OnlyReadsOrCorrupt D.BlockDevice dev.old dev.new result }
+    ensures reading { ReadsOrCorrupt D.BlockDevice dev.old dev.new result }
     // The number of steps to that block is at most the logarithm of the list's length.
     ensures few { (m : ℕ) → block_count_for (D.geometry dev.old).block_size size ≤ 2 ^ m → OnOk result (read_count (D.history dev.new) ≤ read_count (D.history dev.old) + 2 * m) }
 {

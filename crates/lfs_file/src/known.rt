@@ -4,7 +4,7 @@ ghost use Rattle.std.specs.Prelude.{◌≡◌, ◌≢◌, ◌≤◌, ◌<◌, �
 ghost use Rattle.lfs_model.specs.format.Blocks.{block_bytes};
 ghost use Rattle.lfs_model.specs.session.History.{CallEvent, read_count};
 ghost use Rattle.lfs_model.specs.format.SkipLists.{AreListBlocks, IsSkipList, blocks_to_head, block_count_for, list_bytes, word_at};
-ghost use Rattle.lfs_file.specs.FileCalls.{OnlyReadsOrCorrupt};
+ghost use Rattle.lfs_file.specs.FileCalls.{ReadsOrCorrupt};
 ghost use Rattle.lfs_file.specs.Known.{OnlyBelowKnown, AreKnownBlocks, FindsFew, IsKnownIndex, ReadsKnownList, no_known_blocks, index_row as row_seen};
 ghost use Rattle.lfs_file.specs.CallPremises.{HasBlockBefore, IsPointerTo};
 ghost use Rattle.lfs_file.specs.BlockCalls.{FindsKnownBlock, ReadsUnlessKnown};
@@ -95,7 +95,7 @@ impl KnownBlocks {
         ensures found { FindsKnownBlock (D.blocks dev.old) last head index self.old self.new result }
         ensures in_range { IfOk result (λ b. b < (D.geometry dev.old).block_count) }
         ensures corrupt { IsErrOf result Error.Corrupt → AreListBlocks (D.blocks dev.old) (last + 1) head → ¬ AreKnownBlocks (blocks_to_head (D.blocks dev.old) (last + 1) head) self.old }
-        ensures reading { OnlyReadsOrCorrupt D.BlockDevice dev.old dev.new result }
+        ensures reading { ReadsOrCorrupt D.BlockDevice dev.old dev.new result }
         ensures few { OnOk result (FindsFew self.old last index self.new (D.history dev.old) (D.history dev.new)) }
     {
         let (mut at, mut block) = self.nearest_block(head, last, index);
@@ -125,7 +125,7 @@ impl KnownBlocks {
         ensures found { (all : List ℕ) → AreKnownBlocks all self.old → index < length all → word_at (block_bytes (D.blocks dev.old) block) (4 * k) ≡ slice_index all index → IfOk result (λ b. b ≡ slice_index all index) × AreKnownBlocks all self.new }
         ensures below { (count : ℕ) → index < count → OnlyBelowKnown count self.old → OnlyBelowKnown count self.new }
         ensures corrupt { IsErrOf result Error.Corrupt → (D.geometry dev.old).block_count ≤ block }
-        ensures reading { OnlyReadsOrCorrupt D.BlockDevice dev.old dev.new result }
+        ensures reading { ReadsOrCorrupt D.BlockDevice dev.old dev.new result }
         ensures calls { ReadsUnlessKnown self.old self.new index (D.history dev.old) (D.history dev.new) }
     {
         let row = index_row(index);
@@ -149,7 +149,7 @@ impl KnownBlocks {
         ensures found { (all : List ℕ) → AreKnownBlocks all self.now → index < length all → word_at (block_bytes (D.blocks dev.old) block) 0 ≡ slice_index all (index - 1) → IfOk result (λ b. b ≡ slice_index all (index - 1)) }
         ensures in_range { IfOk result (λ b. b < (D.geometry dev.old).block_count) }
         ensures corrupt { (all : List ℕ) → IsErrOf result Error.Corrupt → AreKnownBlocks all self.now → index < length all → word_at (block_bytes (D.blocks dev.old) block) 0 ≡ slice_index all (index - 1) → (D.geometry dev.old).block_count ≤ slice_index all (index - 1) }
-        ensures reading { OnlyReadsOrCorrupt D.BlockDevice dev.old dev.new result }
+        ensures reading { ReadsOrCorrupt D.BlockDevice dev.old dev.new result }
         ensures few { read_count (D.history dev.new) ≤ read_count (D.history dev.old) + 1 }
     {
         let row = index_row(index - 1);
@@ -219,7 +219,7 @@ impl KnownBlocks {
         ensures corrupt { IsErrOf result Error.Corrupt → IsSkipList (D.blocks dev.old) (D.geometry dev.old).block_size head size → ¬ AreKnownBlocks (blocks_to_head (D.blocks dev.old) (block_count_for (D.geometry dev.old).block_size size) head) self.old }
         ensures known { IsSkipList (D.blocks dev.old) (D.geometry dev.old).block_size head size → AreKnownBlocks (blocks_to_head (D.blocks dev.old) (block_count_for (D.geometry dev.old).block_size size) head) self.old
             → AreKnownBlocks (blocks_to_head (D.blocks dev.old) (block_count_for (D.geometry dev.old).block_size size) head) self.new }
-        ensures reading { OnlyReadsOrCorrupt D.BlockDevice dev.old dev.new result }
+        ensures reading { ReadsOrCorrupt D.BlockDevice dev.old dev.new result }
         ensures few { OnOk result (ReadsKnownList (D.geometry dev.old).block_size size pos (length buf.old) self.old self.new (D.history dev.old) (D.history dev.new)) }
     {
         let block_size = dev.geometry().block_size;

@@ -1,8 +1,8 @@
 // Cuts of finished lists.
 
 ghost use Rattle.std.specs.Prelude.{◌≤◌, take, IfOk};
-ghost use Rattle.lfs_device.specs.DeviceCalls.{OnlyReadsOrIo};
-ghost use Rattle.lfs_file.specs.Hand.{FinishedListOnDisk, KeepsUsedBlocks, stored_list_bytes};
+ghost use Rattle.lfs_device.specs.DeviceCalls.{ReadsOrIo};
+ghost use Rattle.lfs_file.specs.Hand.{IsFinishedList, KeepsUsedBlocks, stored_list_bytes};
 ghost use Rattle.lfs_file.specs.HandWrites.{IsFinishedOf};
 ghost use Rattle.lfs_file.specs.BlockOwners.{IsFrontOf};
 
@@ -25,12 +25,12 @@ pub(crate) fn shorten_stored_list<D: BlockDevice>(
     stored: StoredList,
     keep: u32,
 ) -> Result<StoredList, Error>
-    requires stored { FinishedListOnDisk map.old (D.blocks dev.old) (D.geometry dev.old).block_size stored }
+    requires stored { IsFinishedList map.old (D.blocks dev.old) (D.geometry dev.old).block_size stored }
     requires length { (1 ≤ keep) × (keep ≤ stored.size) }
     ensures cut { IfOk result (λ s. IsFinishedOf map.new (D.blocks dev.new) (D.geometry dev.old) s keep (take keep (stored_list_bytes (D.blocks dev.old) (D.geometry dev.old).block_size stored))) }
     ensures front { IfOk result (IsFrontOf (D.geometry dev.old).block_size (D.blocks dev.old) stored (D.blocks dev.new)) }
     ensures map { KeepsUsedBlocks map.old map.new }
-    ensures reading { OnlyReadsOrIo D.BlockDevice dev.old dev.new result }
+    ensures reading { ReadsOrIo D.BlockDevice dev.old dev.new result }
 {
     let head = head_of_front(dev, stored.head, stored.size, keep)?;
     let count = blocks_for(dev.geometry().block_size, keep);

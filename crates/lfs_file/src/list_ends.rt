@@ -3,13 +3,13 @@
 ghost use Rattle.std.specs.Prelude.{◌≡◌, ◌≤◌, ◌+◌, if◌then◌else◌, [], drop, length, true, OnOk, IfOk};
 ghost use Rattle.lfs_model.specs.layers.BlockSets.{used_count};
 ghost use Rattle.lfs_model.specs.format.SkipLists.{block_count_for};
-ghost use Rattle.lfs_device.specs.DeviceCalls.{OnlyReadsOrIo};
+ghost use Rattle.lfs_device.specs.DeviceCalls.{ReadsOrIo};
 ghost use Rattle.lfs_file.specs.Outcomes.{WritesUnusedBlocks};
-ghost use Rattle.lfs_file.specs.Bases.{IsListOrEmpty, list_blocks_from};
+ghost use Rattle.lfs_file.specs.Bases.{IsListOrEmpty, blocks_of_list};
 ghost use Rattle.lfs_file.specs.Hand.{KeepsUsedBlocks};
 ghost use Rattle.lfs_file.specs.Releases.{ReleasesInFlight};
 ghost use Rattle.lfs_file.specs.BaseRoom.{in_flight_limit};
-ghost use Rattle.lfs_file.specs.HandWrites.{IsFinishedOf, HasUnfinishedBytes, unfinished_bytes, unfinished_length};
+ghost use Rattle.lfs_file.specs.HandWrites.{IsFinishedOf, CanEndUnfinished, unfinished_bytes, unfinished_length};
 ghost use Rattle.lfs_file.specs.BlockOwners.{AreFromBase};
 
 use crate::block_copies::append_base_rest;
@@ -31,9 +31,9 @@ pub(crate) fn release_base_from<D: BlockDevice>(
     requires base { IsListOrEmpty (D.blocks dev.old) (D.geometry dev.old).block_size base.head base.size }
     requires map { length map.old ≡ length (D.blocks dev.old) }
     requires within { shared ≤ block_count_for (D.geometry dev.old).block_size base.size }
-    ensures released { OnOk result (ReleasesInFlight map.old map.new (if base.in_flight then drop shared (list_blocks_from (D.blocks dev.old) (D.geometry dev.old).block_size base.head base.size) else [])) }
+    ensures released { OnOk result (ReleasesInFlight map.old map.new (if base.in_flight then drop shared (blocks_of_list (D.blocks dev.old) (D.geometry dev.old).block_size base.head base.size) else [])) }
     ensures map { KeepsUsedBlocks map.old map.new }
-    ensures reading { OnlyReadsOrIo D.BlockDevice dev.old dev.new result }
+    ensures reading { ReadsOrIo D.BlockDevice dev.old dev.new result }
 {
     if !base.in_flight {
         return Ok(());
@@ -57,7 +57,7 @@ pub(crate) fn end_unfinished_list<D: BlockDevice>(
     map: &mut BlockMap,
     hand: PendingList,
 ) -> Result<StoredList, Error>
-    requires going { HasUnfinishedBytes map.old (D.blocks dev.old) (D.geometry dev.old) hand }
+    requires going { CanEndUnfinished map.old (D.blocks dev.old) (D.geometry dev.old) hand }
     requires room { used_count map.old + in_flight_limit (D.geometry dev.old).block_size hand.base + block_count_for (D.geometry dev.old).block_size hand.base.size ≤ length map.old }
     ensures ended { IfOk result (λ s. IsFinishedOf map.new (D.blocks dev.new) (D.geometry dev.old) s (unfinished_length hand) (unfinished_bytes (D.blocks dev.old) hand)) }
     ensures own { IfOk result (AreFromBase map.new (D.geometry dev.old).block_size (D.blocks dev.old) hand.base (D.blocks dev.new)) }

@@ -1,10 +1,10 @@
 // Lists that are begun over finished ones.
 
 ghost use Rattle.std.specs.Prelude.{◌≡◌, ◌≤◌, IfOk};
-ghost use Rattle.lfs_device.specs.DeviceCalls.{ReadsOnly, ReportsIoOrNoMemory};
+ghost use Rattle.lfs_device.specs.DeviceCalls.{ReadsOnly, ReportsIoNoMemory};
 ghost use Rattle.lfs_model.specs.layers.BlockSets.{BlockStates};
 ghost use Rattle.lfs_file.specs.Bases.{IsListOrEmpty};
-ghost use Rattle.lfs_file.specs.Hand.{FinishedListOnDisk, stored_list_bytes};
+ghost use Rattle.lfs_file.specs.Hand.{IsFinishedList, stored_list_bytes};
 ghost use Rattle.lfs_file.specs.HandWrites.{IsUnfinishedTo};
 
 use crate::Extender;
@@ -26,11 +26,11 @@ pub(crate) fn begin_over_finished<D: BlockDevice>(
 ) -> Result<PendingList, Error>
     requires base { IsListOrEmpty (D.blocks dev.old) (D.geometry dev.old).block_size base.head base.size }
     requires within { keep ≤ base.size }
-    ensures begun { IfOk result (λ h. (map : BlockStates) → FinishedListOnDisk map (D.blocks dev.old) (D.geometry dev.old).block_size base
+    ensures begun { IfOk result (λ h. (map : BlockStates) → IsFinishedList map (D.blocks dev.old) (D.geometry dev.old).block_size base
         → IsUnfinishedTo map (D.blocks dev.old) (D.geometry dev.old) h keep (stored_list_bytes (D.blocks dev.old) (D.geometry dev.old).block_size base)) }
     ensures base { IfOk result (λ h. h.base ≡ base) }
     ensures device { ReadsOnly D.BlockDevice dev.old dev.new }
-    ensures reports { ReportsIoOrNoMemory D.BlockDevice dev.old dev.new result }
+    ensures reports { ReportsIoNoMemory D.BlockDevice dev.old dev.new result }
 {
     if keep == 0 {
         let list = Extender::start_empty(alloc, dev.geometry())?;

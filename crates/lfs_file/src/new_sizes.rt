@@ -2,17 +2,17 @@
 
 ghost use Rattle.std.specs.Prelude.{◌≡◌, ◌≤◌, ◌<◌, ◌+◌, ◌^◌, length, take, true, false, IfOk};
 ghost use Rattle.lfs_model.specs.layers.BlockSets.{used_count};
-ghost use Rattle.lfs_model.specs.session.Writers.{padded_with_zeros};
-ghost use Rattle.lfs_device.specs.DeviceCalls.{OnlyReadsOrNoMemory, ReportsIoOrNoMemory};
+ghost use Rattle.lfs_model.specs.session.Writers.{zero_padded};
+ghost use Rattle.lfs_device.specs.DeviceCalls.{ReadsOrNoMemory, ReportsIoNoMemory};
 ghost use Rattle.lfs_file.specs.Outcomes.{WritesUnusedBlocks};
-ghost use Rattle.lfs_file.specs.ContentsCalls.{CallKeepsUsedBytes};
+ghost use Rattle.lfs_file.specs.ContentsCalls.{CallKeepsUsed};
 ghost use Rattle.lfs_file.specs.Contents.{CanTruncateContents, HaveForm, IsInMemory, contents_bytes, contents_form, buffered_bytes, truncation_room};
 ghost use Rattle.lfs_file.specs.Form as form;
 ghost use Rattle.lfs_file.specs.Form.{truncated_form};
-ghost use Rattle.lfs_file.specs.Hand.{FinishedListOnDisk, KeepsUsedBlocks, stored_list_bytes};
+ghost use Rattle.lfs_file.specs.Hand.{IsFinishedList, KeepsUsedBlocks, stored_list_bytes};
 ghost use Rattle.lfs_file.specs.BaseRoom.{HasLongerRoom, in_flight_limit};
-ghost use Rattle.lfs_file.specs.HandWrites.{IsWrittenTo, HasUnfinishedBytes, TakesOldBase, unfinished_bytes, unfinished_length};
-ghost use Rattle.lfs_file.specs.BlockOwners.{AreOwn, KeepsStoredBlocks, contents_blocks};
+ghost use Rattle.lfs_file.specs.HandWrites.{IsWrittenTo, CanEndUnfinished, TakesOldBase, unfinished_bytes, unfinished_length};
+ghost use Rattle.lfs_file.specs.BlockOwners.{AreUsedAmong, KeepsStoredBlocks, contents_blocks};
 
 use crate::Extender;
 use crate::completion::release_in_flight;
@@ -39,7 +39,7 @@ fn fill_memory_contents<D: BlockDevice>(
 ) -> Result<PendingList, Error>
     requires quiet { IsInMemory map.old (D.blocks dev.old) (D.geometry dev.old) list }
     requires room { HasLongerRoom map.old (D.geometry dev.old).block_size (length (buffered_bytes list)) size 0 }
-    ensures filled { IfOk result (λ h. IsWrittenTo map.new (D.blocks dev.new) (D.geometry dev.old) h size (take size (padded_with_zeros size (buffered_bytes list)))) }
+    ensures filled { IfOk result (λ h. IsWrittenTo map.new (D.blocks dev.new) (D.geometry dev.old) h size (take size (zero_padded size (buffered_bytes list)))) }
     ensures base { IfOk result (λ h. (h.base.size ≡ 0) × (h.base.in_flight ≡ false)) }
     ensures writing { WritesUnusedBlocks D.BlockDevice map.old map.new dev.old dev.new result }
 {
@@ -60,8 +60,8 @@ fn truncate_in_memory<D: BlockDevice>(
 ) -> Result<WriterContents, Error>
     requires { CanTruncateContents map.old (D.blocks dev.old) (D.geometry dev.old) (WriterContents.InMemory list) limit size }
     ensures truncated { IfOk result (λ c. HaveForm map.new (D.blocks dev.new) (D.geometry dev.old) c
-        (take size (padded_with_zeros size (buffered_bytes list))) (truncated_form limit size (form.InMemory (length (buffered_bytes list))))) }
-    ensures owned { IfOk result (λ c. AreOwn map.new (contents_blocks (D.blocks dev.old) (D.geometry dev.old).block_size (WriterContents.InMemory list)) (contents_blocks (D.blocks dev.new) (D.geometry dev.old).block_size c)) }
+        (take size (zero_padded size (buffered_bytes list))) (truncated_form limit size (form.InMemory (length (buffered_bytes list))))) }
+    ensures owned { IfOk result (λ c. AreUsedAmong map.new (contents_blocks (D.blocks dev.old) (D.geometry dev.old).block_size (WriterContents.InMemory list)) (contents_blocks (D.blocks dev.new) (D.geometry dev.old).block_size c)) }
     ensures writing { WritesUnusedBlocks D.BlockDevice map.old map.new dev.old dev.new result }
 {
     if size > limit {
@@ -83,12 +83,12 @@ fn shorten_to_memory<D: BlockDevice>(
     stored: StoredList,
     size: u32,
 ) -> Result<Extender, Error>
-    requires stored { FinishedListOnDisk map.old (D.blocks dev.old) (D.geometry dev.old).block_size stored }
+    requires stored { IsFinishedList map.old (D.blocks dev.old) (D.geometry dev.old).block_size stored }
     requires short { size < (D.geometry dev.old).block_size }
     ensures quiet { IfOk result (IsInMemory map.new (D.blocks dev.new) (D.geometry dev.old)) }
-    ensures bytes { IfOk result (λ list. buffered_bytes list ≡ take size (padded_with_zeros size (stored_list_bytes (D.blocks dev.old) (D.geometry dev.old).block_size stored))) }
+    ensures bytes { IfOk result (λ list. buffered_bytes list ≡ take size (zero_padded size (stored_list_bytes (D.blocks dev.old) (D.geometry dev.old).block_size stored))) }
     ensures map { KeepsUsedBlocks map.old map.new }
-    ensures reading { OnlyReadsOrNoMemory D.BlockDevice dev.old dev.new result }
+    ensures reading { ReadsOrNoMemory D.BlockDevice dev.old dev.new result }
 {
     let mut list = load_first_bytes(alloc, dev, stored, stored.size.min(size))?;
     list.write_buffered_at(size, &[]);
@@ -104,10 +104,10 @@ fn fill_finished<D: BlockDevice>(
     stored: StoredList,
     size: u32,
 ) -> Result<PendingList, Error>
-    requires stored { FinishedListOnDisk map.old (D.blocks dev.old) (D.geometry dev.old).block_size stored }
+    requires stored { IsFinishedList map.old (D.blocks dev.old) (D.geometry dev.old).block_size stored }
     requires room { HasLongerRoom map.old (D.geometry dev.old).block_size stored.size size (in_flight_limit (D.geometry dev.old).block_size stored) }
     ensures filled { IfOk result (λ h. IsWrittenTo map.new (D.blocks dev.new) (D.geometry dev.old) h size
-        (take size (padded_with_zeros size (stored_list_bytes (D.blocks dev.old) (D.geometry dev.old).block_size stored)))) }
+        (take size (zero_padded size (stored_list_bytes (D.blocks dev.old) (D.geometry dev.old).block_size stored)))) }
     ensures base { IfOk result (λ h. KeepsStoredBlocks (D.geometry dev.old).block_size (D.blocks dev.old) stored (D.blocks dev.new) h.base) }
     ensures writing { WritesUnusedBlocks D.BlockDevice map.old map.new dev.old dev.new result }
 {
@@ -128,8 +128,8 @@ fn truncate_finished_list<D: BlockDevice>(
 ) -> Result<WriterContents, Error>
     requires { CanTruncateContents map.old (D.blocks dev.old) (D.geometry dev.old) (WriterContents.Finished stored) limit size }
     ensures truncated { IfOk result (λ c. HaveForm map.new (D.blocks dev.new) (D.geometry dev.old) c
-        (take size (padded_with_zeros size (stored_list_bytes (D.blocks dev.old) (D.geometry dev.old).block_size stored))) (truncated_form limit size (form.Finished stored.size stored.in_flight))) }
-    ensures owned { IfOk result (λ c. AreOwn map.new (contents_blocks (D.blocks dev.old) (D.geometry dev.old).block_size (WriterContents.Finished stored)) (contents_blocks (D.blocks dev.new) (D.geometry dev.old).block_size c)) }
+        (take size (zero_padded size (stored_list_bytes (D.blocks dev.old) (D.geometry dev.old).block_size stored))) (truncated_form limit size (form.Finished stored.size stored.in_flight))) }
+    ensures owned { IfOk result (λ c. AreUsedAmong map.new (contents_blocks (D.blocks dev.old) (D.geometry dev.old).block_size (WriterContents.Finished stored)) (contents_blocks (D.blocks dev.new) (D.geometry dev.old).block_size c)) }
     ensures writing { WritesUnusedBlocks D.BlockDevice map.old map.new dev.old dev.new result }
 {
     if size == stored.size {
@@ -155,11 +155,11 @@ fn lengthen_unfinished_list<D: BlockDevice>(
     hand: PendingList,
     size: u32,
 ) -> Result<PendingList, Error>
-    requires going { HasUnfinishedBytes map.old (D.blocks dev.old) (D.geometry dev.old) hand }
+    requires going { CanEndUnfinished map.old (D.blocks dev.old) (D.geometry dev.old) hand }
     requires longer { (unfinished_length hand < size) × (size < 2 ^ 31) }
     requires room { used_count map.old + truncation_room (D.geometry dev.old).block_size size (contents_form (WriterContents.InHand hand)) ≤ length map.old }
     ensures lengthened { IfOk result (λ h. IsWrittenTo map.new (D.blocks dev.new) (D.geometry dev.old) h size
-        (take size (padded_with_zeros size (unfinished_bytes (D.blocks dev.old) hand)))) }
+        (take size (zero_padded size (unfinished_bytes (D.blocks dev.old) hand)))) }
     ensures over { IfOk result (TakesOldBase map.new (D.geometry dev.old).block_size (D.blocks dev.old) hand (unfinished_length hand) (D.blocks dev.new)) }
     ensures writing { WritesUnusedBlocks D.BlockDevice map.old map.new dev.old dev.new result }
 {
@@ -182,8 +182,8 @@ fn shorten_unfinished_list<D: BlockDevice>(
     requires can { CanTruncateContents map.old (D.blocks dev.old) (D.geometry dev.old) (WriterContents.InHand hand) limit size }
     requires shorter { size < unfinished_length hand }
     ensures truncated { IfOk result (λ c. HaveForm map.new (D.blocks dev.new) (D.geometry dev.old) c
-        (take size (padded_with_zeros size (unfinished_bytes (D.blocks dev.old) hand))) (truncated_form limit size (form.Finished (unfinished_length hand) true))) }
-    ensures owned { IfOk result (λ c. AreOwn map.new (contents_blocks (D.blocks dev.old) (D.geometry dev.old).block_size (WriterContents.InHand hand)) (contents_blocks (D.blocks dev.new) (D.geometry dev.old).block_size c)) }
+        (take size (zero_padded size (unfinished_bytes (D.blocks dev.old) hand))) (truncated_form limit size (form.Finished (unfinished_length hand) true))) }
+    ensures owned { IfOk result (λ c. AreUsedAmong map.new (contents_blocks (D.blocks dev.old) (D.geometry dev.old).block_size (WriterContents.InHand hand)) (contents_blocks (D.blocks dev.new) (D.geometry dev.old).block_size c)) }
     ensures writing { WritesUnusedBlocks D.BlockDevice map.old map.new dev.old dev.new result }
 {
     let stored = end_unfinished_list(alloc, dev, map, hand)?;
@@ -202,8 +202,8 @@ fn truncate_unfinished_list<D: BlockDevice>(
 ) -> Result<WriterContents, Error>
     requires { CanTruncateContents map.old (D.blocks dev.old) (D.geometry dev.old) (WriterContents.InHand hand) limit size }
     ensures truncated { IfOk result (λ c. HaveForm map.new (D.blocks dev.new) (D.geometry dev.old) c
-        (take size (padded_with_zeros size (unfinished_bytes (D.blocks dev.old) hand))) (truncated_form limit size (contents_form (WriterContents.InHand hand)))) }
-    ensures owned { IfOk result (λ c. AreOwn map.new (contents_blocks (D.blocks dev.old) (D.geometry dev.old).block_size (WriterContents.InHand hand)) (contents_blocks (D.blocks dev.new) (D.geometry dev.old).block_size c)) }
+        (take size (zero_padded size (unfinished_bytes (D.blocks dev.old) hand))) (truncated_form limit size (contents_form (WriterContents.InHand hand)))) }
+    ensures owned { IfOk result (λ c. AreUsedAmong map.new (contents_blocks (D.blocks dev.old) (D.geometry dev.old).block_size (WriterContents.InHand hand)) (contents_blocks (D.blocks dev.new) (D.geometry dev.old).block_size c)) }
     ensures writing { WritesUnusedBlocks D.BlockDevice map.old map.new dev.old dev.new result }
 {
     let length = hand.list.size().max(hand.base.size);
@@ -235,11 +235,11 @@ pub fn truncate_contents<D: BlockDevice>(
 ) -> Result<WriterContents, Error>
     requires { CanTruncateContents map.old (D.blocks dev.old) (D.geometry dev.old) contents limit size }
     ensures truncated { IfOk result (λ c. HaveForm map.new (D.blocks dev.new) (D.geometry dev.old) c
-        (take size (padded_with_zeros size (contents_bytes (D.blocks dev.old) (D.geometry dev.old).block_size contents))) (truncated_form limit size (contents_form contents))) }
-    ensures owned { IfOk result (λ c. AreOwn map.new (contents_blocks (D.blocks dev.old) (D.geometry dev.old).block_size contents) (contents_blocks (D.blocks dev.new) (D.geometry dev.old).block_size c)) }
+        (take size (zero_padded size (contents_bytes (D.blocks dev.old) (D.geometry dev.old).block_size contents))) (truncated_form limit size (contents_form contents))) }
+    ensures owned { IfOk result (λ c. AreUsedAmong map.new (contents_blocks (D.blocks dev.old) (D.geometry dev.old).block_size contents) (contents_blocks (D.blocks dev.new) (D.geometry dev.old).block_size c)) }
     ensures map { KeepsUsedBlocks map.old map.new }
-    ensures device { CallKeepsUsedBytes D.BlockDevice map.old dev.old dev.new }
-    ensures reports { ReportsIoOrNoMemory D.BlockDevice dev.old dev.new result }
+    ensures device { CallKeepsUsed D.BlockDevice map.old dev.old dev.new }
+    ensures reports { ReportsIoNoMemory D.BlockDevice dev.old dev.new result }
 {
     match contents {
         WriterContents::InMemory(list) => truncate_in_memory(alloc, dev, map, list, limit, size),

@@ -9,7 +9,7 @@ ghost use Rattle.lfs_file.specs.Contents.{write_room};
 ghost use Rattle.lfs_file.specs.Form as form;
 ghost use Rattle.lfs_file.specs.Growing.{growing_size};
 ghost use Rattle.lfs_file.specs.BaseRoom.{in_flight_limit};
-ghost use Rattle.lfs_file.specs.HandWrites.{IsWrittenTo, IsUnfinishedTo, HasUnfinishedBytes, TakesOldBase, unfinished_bytes, unfinished_length};
+ghost use Rattle.lfs_file.specs.HandWrites.{IsWrittenTo, IsUnfinishedTo, CanEndUnfinished, TakesOldBase, unfinished_bytes, unfinished_length};
 
 use crate::list_ends::end_unfinished_list;
 use crate::list_starts::begin_over_finished;
@@ -32,7 +32,7 @@ pub(crate) fn restart_list_at<D: BlockDevice>(
     hand: PendingList,
     place: u32,
 ) -> Result<PendingList, Error>
-    requires going { HasUnfinishedBytes map.old (D.blocks dev.old) (D.geometry dev.old) hand }
+    requires going { CanEndUnfinished map.old (D.blocks dev.old) (D.geometry dev.old) hand }
     requires within { place ≤ unfinished_length hand }
     requires room { growing_size hand.list ≢ place →
         used_count map.old + in_flight_limit (D.geometry dev.old).block_size hand.base + block_count_for (D.geometry dev.old).block_size hand.base.size ≤ length map.old }
@@ -63,7 +63,7 @@ pub(crate) fn write_at_position<D: BlockDevice>(
     place: u32,
     bytes: &[u8],
 ) -> Result<PendingList, Error>
-    requires going { HasUnfinishedBytes map.old (D.blocks dev.old) (D.geometry dev.old) hand }
+    requires going { CanEndUnfinished map.old (D.blocks dev.old) (D.geometry dev.old) hand }
     requires bytes { (1 ≤ length bytes.now) × (place + length bytes.now < 2 ^ 31) }
     requires room { used_count map.old + write_room (D.geometry dev.old).block_size place (length bytes.now) (form.InHand (growing_size hand.list) hand.base.size hand.base.in_flight) ≤ length map.old }
     ensures written { IfOk result (λ h. IsWrittenTo map.new (D.blocks dev.new) (D.geometry dev.old) h (place + length bytes.now)

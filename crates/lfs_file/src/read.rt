@@ -1,8 +1,8 @@
 ghost use Rattle.std.specs.Prelude.{◌≡◌, ◌≤◌, ◌<◌, ◌+◌, ◌*◌, ◌^◌, ℕ, ◌-◌, ◌++◌, min, length, take, drop, OnOk, IfOk, IsErrOf, slice_index, slice_range};
 ghost use Rattle.lfs_model.specs.format.Blocks.{block_bytes};
-ghost use Rattle.lfs_device.specs.DeviceCalls.{OnlyReadsOrIo};
+ghost use Rattle.lfs_device.specs.DeviceCalls.{ReadsOrIo};
 ghost use Rattle.lfs_model.specs.session.History.{read_count};
-ghost use Rattle.lfs_file.specs.FileCalls.{OnlyReadsOrCorrupt};
+ghost use Rattle.lfs_file.specs.FileCalls.{ReadsOrCorrupt};
 ghost use Rattle.lfs_file.specs.Known.{WalksFew};
 ghost use Rattle.lfs_model.specs.format.SkipLists.{AreListBlocks, IsSkipList, IsBytePlace, blocks_to_head, block_count_for, list_bytes, pointer_count, word_at};
 
@@ -20,7 +20,7 @@ pub(crate) fn read_block_pointer<D: BlockDevice>(
     ensures word { IfOk result (λ word. word ≡ word_at (block_bytes (D.blocks dev.old) block) (4 * k)) }
     ensures in_range { OnOk result (block < (D.geometry dev.old).block_count) }
     ensures corrupt { IsErrOf result Error.Corrupt → (D.geometry dev.old).block_count ≤ block }
-    ensures reading { OnlyReadsOrCorrupt D.BlockDevice dev.old dev.new result }
+    ensures reading { ReadsOrCorrupt D.BlockDevice dev.old dev.new result }
     ensures few { read_count (D.history dev.new) ≤ read_count (D.history dev.old) + 1 }
 {
     if block >= dev.geometry().block_count {
@@ -42,7 +42,7 @@ pub(crate) fn find_block_at<D: BlockDevice>(
     ensures found { AreListBlocks (D.blocks dev.old) (last + 1) head → IfOk result (λ b. b ≡ slice_index (blocks_to_head (D.blocks dev.old) (last + 1) head) index) }
     ensures in_range { IfOk result (λ b. b < (D.geometry dev.old).block_count) }
     ensures corrupt { IsErrOf result Error.Corrupt → ¬ AreListBlocks (D.blocks dev.old) (last + 1) head }
-    ensures reading { OnlyReadsOrCorrupt D.BlockDevice dev.old dev.new result }
+    ensures reading { ReadsOrCorrupt D.BlockDevice dev.old dev.new result }
     ensures few { OnOk result (WalksFew last index (D.history dev.old) (D.history dev.new)) }
 {
     KnownBlocks::new().find_block(dev, head, last, index)
@@ -55,7 +55,7 @@ pub(crate) fn read_block_before<D: BlockDevice>(dev: &mut D, block: u32) -> Resu
     ensures word { IfOk result (λ word. word ≡ word_at (block_bytes (D.blocks dev.old) block) 0) }
     ensures in_range { IfOk result (λ b. b < (D.geometry dev.old).block_count) }
     ensures corrupt { IsErrOf result Error.Corrupt → (D.geometry dev.old).block_count ≤ word_at (block_bytes (D.blocks dev.old) block) 0 }
-    ensures reading { OnlyReadsOrCorrupt D.BlockDevice dev.old dev.new result }
+    ensures reading { ReadsOrCorrupt D.BlockDevice dev.old dev.new result }
     ensures few { read_count (D.history dev.new) ≤ read_count (D.history dev.old) + 1 }
 {
     let word = read_block_pointer(dev, block, 0)?;
@@ -75,7 +75,7 @@ pub fn head_before_block<D: BlockDevice>(dev: &mut D, block: u32, count: u32) ->
     ensures word { IfOk result (λ word. 0 < count → word ≡ word_at (block_bytes (D.blocks dev.old) block) 0) }
     ensures in_range { IfOk result (λ b. b < (D.geometry dev.old).block_count) }
     ensures corrupt { IsErrOf result Error.Corrupt → (0 < count) × ((D.geometry dev.old).block_count ≤ word_at (block_bytes (D.blocks dev.old) block) 0) }
-    ensures reading { OnlyReadsOrCorrupt D.BlockDevice dev.old dev.new result }
+    ensures reading { ReadsOrCorrupt D.BlockDevice dev.old dev.new result }
     ensures few { read_count (D.history dev.new) ≤ read_count (D.history dev.old) + 1 }
 {
     if count == 0 {
@@ -109,7 +109,7 @@ pub(crate) fn read_into_range<D: BlockDevice>(
     requires in_block { off + len ≤ (D.geometry dev.old).block_size }
     requires in_buffer { start + len ≤ length buf.old }
     ensures bytes { OnOk result (buf.new ≡ take start buf.old ++ (take len (drop off (block_bytes (D.blocks dev.old) block)) ++ drop (start + len) buf.old)) }
-    ensures reading { OnlyReadsOrIo D.BlockDevice dev.old dev.new result }
+    ensures reading { ReadsOrIo D.BlockDevice dev.old dev.new result }
     ensures few { read_count (D.history dev.new) ≡ read_count (D.history dev.old) + 1 }
 {
     dev.read(block, off, &mut buf[start..start + len as usize])?;
@@ -136,7 +136,7 @@ pub fn read_at<D: BlockDevice>(
     ensures bytes { IsSkipList (D.blocks dev.old) (D.geometry dev.old).block_size head size →
         IfOk result (λ n. take n buf.new ≡ slice_range (list_bytes (D.blocks dev.old) (D.geometry dev.old).block_size head size) pos (pos + n)) }
     ensures corrupt { IsErrOf result Error.Corrupt → ¬ IsSkipList (D.blocks dev.old) (D.geometry dev.old).block_size head size }
-    ensures reading { OnlyReadsOrCorrupt D.BlockDevice dev.old dev.new result }
+    ensures reading { ReadsOrCorrupt D.BlockDevice dev.old dev.new result }
     // The number of steps to the last block is at most the logarithm of the list's length. Each
     // block takes two reads.
     ensures few { (m first last off end : ℕ) → block_count_for (D.geometry dev.old).block_size size ≤ 2 ^ m

@@ -2,7 +2,7 @@ ghost use Rattle.std.specs.Prelude.{◌≡◌, ◌≤◌, ◌<◌, ◌+◌, ◌*
 ghost use Rattle.std.specs.List.{FoldsTo};
 ghost use Rattle.lfs_model.specs.format.Blocks.{block_bytes};
 ghost use Rattle.lfs_model.specs.format.SkipLists.{IsSkipList, blocks_to_head, block_count_for, word_at};
-ghost use Rattle.lfs_file.specs.FileCalls.{OnlyReadsOrCorrupt};
+ghost use Rattle.lfs_file.specs.FileCalls.{ReadsOrCorrupt};
 ghost use Rattle.lfs_file.specs.Right.{LaterPointersName, ArePointersCopied};
 ghost use Rattle.lfs_file.specs.Way.{ReadsUnlessNoted};
 ghost use Rattle.lfs_file.specs.CallPremises.{CanCheckBlock};
@@ -46,7 +46,7 @@ fn check_and_step<D: BlockDevice>(
     ensures word { IfOk result (λ word. word ≡ word_at (block_bytes (D.blocks dev.old) block) 0) }
     ensures noted { OnOk result (ArePointersCopied (D.blocks dev.old) block index words.old words.new) }
     ensures checks { ChecksBlock (D.geometry dev.old).block_count block last index words.old result }
-    ensures reading { OnlyReadsOrCorrupt D.BlockDevice dev.old dev.new result }
+    ensures reading { ReadsOrCorrupt D.BlockDevice dev.old dev.new result }
     ensures reads { ReadsUnlessNoted way.now last index block (D.history dev.old) (D.history dev.new) }
 {
     if block >= dev.geometry().block_count || !named_by_later(words, block, index, last) {
@@ -80,7 +80,7 @@ pub fn walk<D: BlockDevice, F: FnMut(u32)>(
     ensures visited { OnOk result (FoldsTo (λ p x q. F.step p x tt q) visit.old
         (reverse (blocks_to_head (D.blocks dev.old) (block_count_for (D.geometry dev.old).block_size size) head)) visit.new) }
     ensures callable { F.IsAlwaysCallable visit.new }
-    ensures reading { OnlyReadsOrCorrupt D.BlockDevice dev.old dev.new result }
+    ensures reading { ReadsOrCorrupt D.BlockDevice dev.old dev.new result }
 {
     let geometry = dev.geometry();
     if size == 0 || size > 0x7fff_ffff {

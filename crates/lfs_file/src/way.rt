@@ -4,7 +4,7 @@ ghost use Rattle.std.specs.Prelude.{◌≡◌, ◌≤◌, ◌<◌, ◌+◌, ◌*
 ghost use Rattle.lfs_device.specs.DeviceCalls.{ReadsOnly, ReportsFaults};
 ghost use Rattle.lfs_model.specs.session.History.{read_count};
 ghost use Rattle.lfs_model.specs.format.SkipLists.{AreListBlocks, blocks_to_head, word_at};
-ghost use Rattle.lfs_file.specs.FileCalls.{OnlyReadsOrCorrupt};
+ghost use Rattle.lfs_file.specs.FileCalls.{ReadsOrCorrupt};
 ghost use Rattle.lfs_file.specs.Right.{ArePointersCopied};
 ghost use Rattle.lfs_file.specs.Way.{IsIndexVisited, HasNotedWalk, ReadsUnlessNoted, visit_count};
 ghost use Rattle.lfs_file.specs.CallPremises.{CanCopyPointers};
@@ -61,7 +61,7 @@ pub(crate) fn find_first_block<D: BlockDevice>(
     ensures in_range { IfOk result (λ b. b < (D.geometry dev.old).block_count) }
     ensures corrupt { IsErrOf result Error.Corrupt → ¬ AreListBlocks (D.blocks dev.old) (last + 1) head }
     ensures noted { OnOk result (HasNotedWalk (D.blocks dev.old) head last 0 way.new) }
-    ensures reading { OnlyReadsOrCorrupt D.BlockDevice dev.old dev.new result }
+    ensures reading { ReadsOrCorrupt D.BlockDevice dev.old dev.new result }
     ensures few { OnOk result (read_count (D.history dev.new) ≤ read_count (D.history dev.old) + visit_count last last) }
 {
     let count = dev.geometry().block_count;

@@ -3,9 +3,9 @@
 ghost use Rattle.std.specs.Prelude.{◌≡◌, ◌<◌, ◌+◌, ◌++◌, ◌^◌, ◌&&◌, ◌==◌, length, OnOk};
 ghost use Rattle.std.specs.Bool.{OnFalse, OnTrue};
 ghost use Rattle.lfs_model.specs.session.Writers.{written_contents};
-ghost use Rattle.lfs_device.specs.DeviceCalls.{ReportsIoOrNoMemory};
-ghost use Rattle.lfs_file.specs.Growing.{fit_unwritten, growing_size};
-ghost use Rattle.lfs_file.specs.ContentsCalls.{CallKeepsUsedBytes};
+ghost use Rattle.lfs_device.specs.DeviceCalls.{ReportsIoNoMemory};
+ghost use Rattle.lfs_file.specs.Growing.{fits_unwritten_block, growing_size};
+ghost use Rattle.lfs_file.specs.ContentsCalls.{CallKeepsUsed};
 ghost use Rattle.lfs_file.specs.Hand.{KeepsUsedBlocks};
 ghost use Rattle.lfs_file.specs.HandWrites.{IsWrittenTo, unfinished_bytes};
 ghost use Rattle.lfs_file.specs.BlockOwners.{KeepsStoredBlocks};
@@ -35,7 +35,7 @@ pub struct PendingList {
 /// The caller's condition is that the bytes end before 2,147,483,648.
 pub(crate) fn write_within_block(hand: &mut PendingList, place: u32, bytes: &[u8]) -> bool
     requires { place + length bytes.now < 2 ^ 31 }
-    ensures fits { result ≡ ((growing_size hand.old.list == place) && fit_unwritten hand.old.list (length bytes.now)) }
+    ensures fits { result ≡ ((growing_size hand.old.list == place) && fits_unwritten_block hand.old.list (length bytes.now)) }
     ensures written { OnTrue result (hand.new ≡ record hand.old { list = record hand.old.list { rest = hand.old.list.rest ++ bytes.now } }) }
     ensures same { OnFalse result (hand.new ≡ hand.old) }
 {
@@ -60,8 +60,8 @@ pub(crate) fn append_to_unfinished<D: BlockDevice>(
         (written_contents (unfinished_bytes (D.blocks dev.old) hand.old) (growing_size hand.old.list) bytes.now)) }
     ensures base { KeepsStoredBlocks (D.geometry dev.old).block_size (D.blocks dev.old) hand.old.base (D.blocks dev.new) hand.new.base }
     ensures map { KeepsUsedBlocks map.old map.new }
-    ensures device { CallKeepsUsedBytes D.BlockDevice map.old dev.old dev.new }
-    ensures reports { ReportsIoOrNoMemory D.BlockDevice dev.old dev.new result }
+    ensures device { CallKeepsUsed D.BlockDevice map.old dev.old dev.new }
+    ensures reports { ReportsIoNoMemory D.BlockDevice dev.old dev.new result }
 {
     extend_list(alloc, dev, map, &mut hand.list, bytes)?;
     Ok(())
@@ -87,8 +87,8 @@ pub(crate) fn fill_and_write<D: BlockDevice>(
         (written_contents (unfinished_bytes (D.blocks dev.old) hand.old) place bytes.now)) }
     ensures base { KeepsStoredBlocks (D.geometry dev.old).block_size (D.blocks dev.old) hand.old.base (D.blocks dev.new) hand.new.base }
     ensures map { KeepsUsedBlocks map.old map.new }
-    ensures device { CallKeepsUsedBytes D.BlockDevice map.old dev.old dev.new }
-    ensures reports { ReportsIoOrNoMemory D.BlockDevice dev.old dev.new result }
+    ensures device { CallKeepsUsed D.BlockDevice map.old dev.old dev.new }
+    ensures reports { ReportsIoNoMemory D.BlockDevice dev.old dev.new result }
 {
     let gap = place - hand.list.size();
     write_zeros(alloc, dev, map, hand, gap)?;

@@ -2,9 +2,9 @@
 
 ghost use Rattle.std.specs.Prelude.{◌<◌, ◌+◌, replicate, OnOk};
 ghost use Rattle.lfs_model.specs.session.Writers.{written_contents};
-ghost use Rattle.lfs_device.specs.DeviceCalls.{ReportsIoOrNoMemory};
+ghost use Rattle.lfs_device.specs.DeviceCalls.{ReportsIoNoMemory};
 ghost use Rattle.lfs_file.specs.Growing.{growing_size};
-ghost use Rattle.lfs_file.specs.ContentsCalls.{CallKeepsUsedBytes};
+ghost use Rattle.lfs_file.specs.ContentsCalls.{CallKeepsUsed};
 ghost use Rattle.lfs_file.specs.Hand.{KeepsUsedBlocks};
 ghost use Rattle.lfs_file.specs.HandWrites.{EndsInZeros, unfinished_bytes};
 ghost use Rattle.lfs_file.specs.BlockOwners.{KeepsStoredBlocks};
@@ -33,8 +33,8 @@ pub(crate) fn write_zeros<D: BlockDevice>(
         (written_contents (unfinished_bytes (D.blocks dev.old) hand.old) (growing_size hand.old.list) (replicate count 0))) }
     ensures base { KeepsStoredBlocks (D.geometry dev.old).block_size (D.blocks dev.old) hand.old.base (D.blocks dev.new) hand.new.base }
     ensures map { KeepsUsedBlocks map.old map.new }
-    ensures device { CallKeepsUsedBytes D.BlockDevice map.old dev.old dev.new }
-    ensures reports { ReportsIoOrNoMemory D.BlockDevice dev.old dev.new result }
+    ensures device { CallKeepsUsed D.BlockDevice map.old dev.old dev.new }
+    ensures reports { ReportsIoNoMemory D.BlockDevice dev.old dev.new result }
 {
     let mut done = 0;
     'zeroing: while done < count {

@@ -1,9 +1,9 @@
 ghost use Rattle.std.specs.Prelude.{◌<◌};
-ghost use Rattle.lfs_device.specs.Bytes.{HoldBytes};
+ghost use Rattle.lfs_device.specs.Bytes.{AreByteBlocks};
 
 use lfs_device::BlockDevice;
 
 /// Whatever a device is, it holds bytes.
 pub fn lemma_device_bytes<D: BlockDevice>(_device: &D)
-    ensures { HoldBytes (D.blocks _device.now) }
+    ensures { AreByteBlocks (D.blocks _device.now) }
 {}

@@ -1,5 +1,5 @@
 ghost use Rattle.std.specs.Prelude.{◌≡◌, ◌⊎◌, ◌+◌, ◌/◌, ◌<◌, IfErr, OnOk, IsErrOf, slice_set};
-ghost use Rattle.lfs_device.specs.DeviceCalls.{ChangesOnlyThisBlock, ReportsFaults};
+ghost use Rattle.lfs_device.specs.DeviceCalls.{ChangesOneBlock, ReportsFaults};
 ghost use Rattle.lfs_model.specs.format.Blocks.{block_bytes};
 ghost use Rattle.lfs_model.specs.session.History.{erase_count, program_count};
 
@@ -20,7 +20,7 @@ pub fn copy_block<D: BlockDevice>(
     requires from { from < (D.geometry device.old).block_count }
     requires to { to < (D.geometry device.old).block_count }
     ensures copied { OnOk result (D.blocks device.new ≡ slice_set (D.blocks device.old) to (block_bytes (D.blocks device.old) from)) }
-    ensures device { ChangesOnlyThisBlock D.BlockDevice to device.old device.new }
+    ensures device { ChangesOneBlock D.BlockDevice to device.old device.new }
     ensures erases { OnOk result (erase_count (D.history device.new) ≡ erase_count (D.history device.old) + 1) }
     ensures programs { OnOk result (program_count (D.history device.new)
         ≡ program_count (D.history device.old) + (D.geometry device.old).block_size / (D.geometry device.old).page) }

@@ -2,25 +2,9 @@
 use Rattle.std.proofs.Common.{◌≡◌, Bool, true, false, Some, None, Result, Err, sym, ap, subst, ◌∙◌}
 use Rattle.std.specs.Prelude.{OnOk, OnErr, IfErr, is_err}
 use Rattle.lfs_device.specs.declared.error.Error.{Error}
-use Rattle.lfs_model.specs.crash.Frame.{answers_itself, is_look_up, needs_no_resource}
-use Rattle.lfs_model.specs.session.Effects.{operation_effect}
+use Rattle.lfs_fs.proofs.Common.{answers_itself, is_look_up, needs_no_resource, operation_effect, Operation, Reply, SurvivesInCalls, SurvivesPowerLoss, HealthyHasDiskTree, opens_existing, writes_or_truncates, needs_no_call, is_read_only, renames_itself, OpenFilesByNumber, is_remount, Tree, is_refusal, error_refusal, OnlyReadsTree, IsFailedTree, IsApplied, HasErrorCause, LeavesOthersAlone, TreeState, SurvivesStops, tree_summary, RuntimeFiles, files_view, StepsOrFails, FailsChecks, SessionView, IsReady, session_view, view_with_files, system_state, refusal_by_checks, viewed_session, reply_from, StayReady, MeetsRules, IsCall, SparesOthers, HasSessionInvariant, LeftConforming}
 use Rattle.lfs_model.specs.session.Operations as ops
-use Rattle.lfs_model.specs.session.Operations.{Operation, Reply}
-use Rattle.lfs_model.specs.crash.PowerLoss.{SurvivesInCalls, SurvivesPowerLoss}
-use Rattle.lfs_model.specs.session.Run.{HealthyHasDiskTree, opens_existing, writes_or_truncates, needs_no_call, is_read_only, renames_itself}
-use Rattle.lfs_model.specs.session.Session.{OpenFilesByNumber}
-use Rattle.lfs_model.specs.session.State.{is_remount}
-use Rattle.lfs_model.specs.tree.Tree.{Tree}
-use Rattle.lfs_lookup.specs.RefusalErrors.{is_refusal, error_refusal}
-use Rattle.lfs_tree.specs.TreeState.{OnlyReadsTree, IsFailedTree, IsApplied, HasErrorCause, LeavesOthersAlone, TreeState, SurvivesStops, tree_summary}
-use Rattle.lfs_fs.specs.FileView.{RuntimeFiles, files_view}
-use Rattle.lfs_fs.specs.SessionView.{StepsOrFails, EndsChecks, SessionView, IsReady, view_of_session, view_of_files, system_state, refusal_by_checks, viewed_session}
-use Rattle.lfs_fs.specs.Replies.{reply_from}
-use Rattle.lfs_fs.specs.OpenFilesStay.{StayReady}
 use Rattle.lfs_fs.proofs.Answered.{asked_by_checks, done_answers, ended_call, ended_kept, files_asked, not_failed, sound_by, with_files}
-use Rattle.lfs_fs.specs.CallEnds.{MeetsRules}
-use Rattle.lfs_fs.specs.CallEffects.{IsCall, SparesOthers}
-use Rattle.lfs_fs.specs.DeviceLaws.{HasInvariant, LeftConforming}
 use Rattle.lfs_fs.proofs.Ending.{broken_ends, carried_ends, ended_ends, unread_ends}
 use Rattle.lfs_fs.proofs.SavedSteps.{saving_fails}
 use Rattle.lfs_fs.proofs.Sparing.{asks_not, done_others, ok_others, untouched_others}
@@ -44,7 +28,7 @@ unasked_call now op r new kept looks survives_loss alone ends answers = record {
 }
 
 -- the disk is as it was
-pub still_call : (t : TreeState) (fs : RuntimeFiles) (now : SessionView) (op : Operation) (r : Result Reply Error) (new : SessionView) → view_of_session t fs ≡ now → (t.failed ≡ false → IsReady t fs) → answers_itself op ≡ false → is_look_up op ≡ false → new.tree.disk ≡ t.disk →
+pub still_call : (t : TreeState) (fs : RuntimeFiles) (now : SessionView) (op : Operation) (r : Result Reply Error) (new : SessionView) → session_view t fs ≡ now → (t.failed ≡ false → IsReady t fs) → answers_itself op ≡ false → is_look_up op ≡ false → new.tree.disk ≡ t.disk →
     MeetsRules now op r new → StepsOrFails now op r new → SurvivesInCalls (system_state now) op (system_state new) → IsCall now op r new
 still_call t fs now op r new is ready kept looks same ends answers survives =
     let stays : new.tree.disk ≡ now.tree.disk = same ∙ ap (λ (h : SessionView). h.tree.disk) is in
@@ -52,7 +36,7 @@ still_call t fs now op r new is ready kept looks same ends answers survives =
     unasked_call now op r new kept looks (untouched_survives_loss (system_state now) op (system_state new) agrees stays survives) (λ e. untouched_others (system_state now) op (system_state new) stays) ends answers
 
 -- the disk may have changed
-pub changed_call : {A : Type 0} (t : TreeState) (fs : RuntimeFiles) (now : SessionView) (op : Operation) (reply : A → Reply) (r : Result A Error) (new : SessionView) → view_of_session t fs ≡ now → HasInvariant t fs → LeftConforming new.tree → is_remount op ≡ false → answers_itself op ≡ false → is_look_up op ≡ false →
+pub changed_call : {A : Type 0} (t : TreeState) (fs : RuntimeFiles) (now : SessionView) (op : Operation) (reply : A → Reply) (r : Result A Error) (new : SessionView) → session_view t fs ≡ now → HasSessionInvariant t fs → LeftConforming new.tree → is_remount op ≡ false → answers_itself op ≡ false → is_look_up op ≡ false →
     OnOk r (SparesOthers (system_state now) op (system_state new)) → MeetsRules now op (reply_from reply r) new → StepsOrFails now op (reply_from reply r) new → SurvivesInCalls (system_state now) op (system_state new) → IsCall now op (reply_from reply r) new
 changed_call t fs now op reply r new is between reported other kept looks alone ends answers survives =
     unasked_call now op (reply_from reply r) new kept looks (call_survives_loss t fs now op (reply_from reply r) new is between reported other answers survives) (λ e. ok_others now op reply r new answers alone e) ends answers
@@ -63,53 +47,53 @@ failed_others now op new r is = subst (λ z. OnOk z (SparesOthers (system_state 
 
 -- ---- a check ends it
 
-disk_of_ended : (h : SessionView) (op : Operation) (e : Error) (tree : TreeState) → EndsChecks (is_refusal e) h op e tree → tree.disk ≡ h.tree.disk
+disk_of_ended : (h : SessionView) (op : Operation) (e : Error) (tree : TreeState) → FailsChecks (is_refusal e) h op e tree → tree.disk ≡ h.tree.disk
 disk_of_ended h op e tree k = go (is_refusal e) k
   where
-    go : (b : Bool) → EndsChecks b h op e tree → tree.disk ≡ h.tree.disk
+    go : (b : Bool) → FailsChecks b h op e tree → tree.disk ≡ h.tree.disk
     go true k = ap (λ (s : TreeState). s.disk) k.0.same
     go false k = k.0.disk
 
-pub ended_as_call : {B : Type 0} (t : TreeState) (fs : RuntimeFiles) (now : SessionView) (op : Operation) (reply : B → Reply) (e : Error) (tree : TreeState) (r : Result B Error) → view_of_session t fs ≡ now → (t.failed ≡ false → IsReady t fs) → is_remount op ≡ false → answers_itself op ≡ false → is_look_up op ≡ false →
-    needs_no_resource (viewed_session (view_of_session t fs)) op ≡ false → EndsChecks (is_refusal e) (view_of_session t fs) op e tree → r ≡ Err e → IsCall now op (reply_from reply r) (view_of_session tree fs)
+pub ended_as_call : {B : Type 0} (t : TreeState) (fs : RuntimeFiles) (now : SessionView) (op : Operation) (reply : B → Reply) (e : Error) (tree : TreeState) (r : Result B Error) → session_view t fs ≡ now → (t.failed ≡ false → IsReady t fs) → is_remount op ≡ false → answers_itself op ≡ false → is_look_up op ≡ false →
+    needs_no_resource (viewed_session (session_view t fs)) op ≡ false → FailsChecks (is_refusal e) (session_view t fs) op e tree → r ≡ Err e → IsCall now op (reply_from reply r) (session_view tree fs)
 ended_as_call t fs now op reply e tree r is ready other kept looks takes h given =
-    still_call t fs now op (reply_from reply r) (view_of_session tree fs) is ready kept looks (disk_of_ended (view_of_session t fs) op e tree h)
+    still_call t fs now op (reply_from reply r) (session_view tree fs) is ready kept looks (disk_of_ended (session_view t fs) op e tree h)
     (ended_ends t fs now op reply e tree r is takes h given)
-    (files_asked now op (reply_from reply r) t tree fs (asked_by_checks {A = Unit {0}} t fs op (λ u. Unit {0}) (Err e) tree h) (ended_call (view_of_session t fs) now op reply e tree r is (sound_by t fs ready) other h given))
-    (only_read (view_of_session t fs) now op tree is (sound_by t fs ready) (reads_of_ended (view_of_session t fs) op e tree h))
+    (files_asked now op (reply_from reply r) t tree fs (asked_by_checks {A = Unit {0}} t fs op (λ u. Unit {0}) (Err e) tree h) (ended_call (session_view t fs) now op reply e tree r is (sound_by t fs ready) other h given))
+    (only_read (session_view t fs) now op tree is (sound_by t fs ready) (reads_of_ended (session_view t fs) op e tree h))
 
 -- one without a read
-pub unread_call : {B : Type 0} (t : TreeState) (fs : RuntimeFiles) (now : SessionView) (op : Operation) (reply : B → Reply) (e : Error) (r : Result B Error) → view_of_session t fs ≡ now → (t.failed ≡ false → IsReady t fs) → is_remount op ≡ false → answers_itself op ≡ false → is_look_up op ≡ false →
-    (is_refusal e ≡ true) × (refusal_by_checks (view_of_session t fs) op ≡ Some (error_refusal e)) → r ≡ Err e → IsCall now op (reply_from reply r) now
+pub unread_call : {B : Type 0} (t : TreeState) (fs : RuntimeFiles) (now : SessionView) (op : Operation) (reply : B → Reply) (e : Error) (r : Result B Error) → session_view t fs ≡ now → (t.failed ≡ false → IsReady t fs) → is_remount op ≡ false → answers_itself op ≡ false → is_look_up op ≡ false →
+    (is_refusal e ≡ true) × (refusal_by_checks (session_view t fs) op ≡ Some (error_refusal e)) → r ≡ Err e → IsCall now op (reply_from reply r) now
 unread_call t fs now op reply e r is ready other kept looks h given =
     still_call t fs now op (reply_from reply r) now is ready kept looks (ap (λ (h : SessionView). h.tree.disk) (sym is))
-    (unread_ends (view_of_session t fs) now op reply e r is h given)
-    (ended_kept (view_of_session t fs) now op reply e r is (sound_by t fs ready) other h given)
-    (kept_call (view_of_session t fs) now op is (sound_by t fs ready))
+    (unread_ends (session_view t fs) now op reply e r is h given)
+    (ended_kept (session_view t fs) now op reply e r is (sound_by t fs ready) other h given)
+    (kept_call (session_view t fs) now op is (sound_by t fs ready))
 
 -- ---- a call of the tree ends it
 
 -- the tree carries the operation out behind reads, or its call fails
-pub done_call : (C K : Type 0) (t mid new : TreeState) (fs : RuntimeFiles) (now : SessionView) (op : Operation) (r : Result (Unit {0}) Error) (after : Tree) → view_of_session t fs ≡ now → HasInvariant t fs → OnlyReadsTree t mid → refusal_by_checks (view_of_session t fs) op ≡ None →
-    is_remount op ≡ false → is_read_only (viewed_session (view_of_session t fs)) op ≡ false → writes_or_truncates op ≡ false → opens_existing (viewed_session (view_of_session t fs)) op ≡ false → needs_no_call (viewed_session (view_of_session t fs)) op ≡ false →
-    (operation_effect (tree_summary t) (viewed_session (view_of_session t fs)) op).0 ≡ ops.Done → (operation_effect (tree_summary t) (viewed_session (view_of_session t fs)) op).1.files ≡ files_view t fs → answers_itself op ≡ false → is_look_up op ≡ false → needs_no_resource (viewed_session (view_of_session t fs)) op ≡ false →
+pub done_call : (C K : Type 0) (t mid new : TreeState) (fs : RuntimeFiles) (now : SessionView) (op : Operation) (r : Result (Unit {0}) Error) (after : Tree) → session_view t fs ≡ now → HasSessionInvariant t fs → OnlyReadsTree t mid → refusal_by_checks (session_view t fs) op ≡ None →
+    is_remount op ≡ false → is_read_only (viewed_session (session_view t fs)) op ≡ false → writes_or_truncates op ≡ false → opens_existing (viewed_session (session_view t fs)) op ≡ false → needs_no_call (viewed_session (session_view t fs)) op ≡ false →
+    (operation_effect (tree_summary t) (viewed_session (session_view t fs)) op).0 ≡ ops.Done → (operation_effect (tree_summary t) (viewed_session (session_view t fs)) op).1.files ≡ files_view t fs → answers_itself op ≡ false → is_look_up op ≡ false → needs_no_resource (viewed_session (session_view t fs)) op ≡ false →
     renames_itself op ≡ false → t.writable ≡ true → (new.failed ≡ false → StayReady t new fs) → LeftConforming new → OnOk r C → (C → IsApplied mid op new) → OnOk r K → (K → LeavesOthersAlone mid op new) → OnErr r (IsFailedTree mid new) → IfErr r (HasErrorCause mid new) →
-    SurvivesStops mid new after → after ≡ (operation_effect (tree_summary t) (viewed_session (view_of_session t fs)) op).1.tree → IsCall now op (reply_from (λ u. ops.Done) r) (view_of_session new fs)
+    SurvivesStops mid new after → after ≡ (operation_effect (tree_summary t) (viewed_session (session_view t fs)) op).1.tree → IsCall now op (reply_from (λ u. ops.Done) r) (session_view new fs)
 done_call C K t mid new fs now op r after is between asked e other asks fill creates silent done files kept looks takes itself writable left reported c carried k rest broken errors survives makes =
-    changed_call t fs now op (λ u. ops.Done) r (view_of_session new fs) is between reported other kept looks
+    changed_call t fs now op (λ u. ops.Done) r (session_view new fs) is between reported other kept looks
     (done_others C K t mid new fs now op r is between.ready asked c carried k rest)
-    (carried_ends (view_of_session t fs) now op (λ u. ops.Done) mid new (files_view new fs) r is e takes asked c (λ x. (carried x).no_fault) errors)
+    (carried_ends (session_view t fs) now op (λ u. ops.Done) mid new (files_view new fs) r is e takes asked c (λ x. (carried x).no_fault) errors)
     (with_files now op (reply_from (λ u. ops.Done) r) new (files_view t fs) (files_view new fs) (λ works. (left works).same)
-    (done_answers C (view_of_session t fs) now op mid new r is (sound_by t fs between.ready) asked e other asks fill creates silent done files itself writable c carried broken errors))
-    (asked_changed (view_of_session t fs) now op mid new after is (sound_by t fs between.ready) e asked (called_by op mid new r c carried broken) survives makes)
+    (done_answers C (session_view t fs) now op mid new r is (sound_by t fs between.ready) asked e other asks fill creates silent done files itself writable c carried broken errors))
+    (asked_changed (session_view t fs) now op mid new after is (sound_by t fs between.ready) e asked (called_by op mid new r c carried broken) survives makes)
 
 -- what was written can't be brought to the device
-pub saving_call : {B : Type 0} (t new : TreeState) (fs : RuntimeFiles) (files : OpenFilesByNumber) (now : SessionView) (op : Operation) (reply : B → Reply) (e : Error) (r : Result B Error) (after : Tree) → view_of_session t fs ≡ now → HasInvariant t fs → refusal_by_checks (view_of_session t fs) op ≡ None →
-    is_remount op ≡ false → is_read_only (viewed_session (view_of_session t fs)) op ≡ false → renames_itself op ≡ false → answers_itself op ≡ false → is_look_up op ≡ false → needs_no_resource (viewed_session (view_of_session t fs)) op ≡ false → t.writable ≡ true →
-    LeftConforming new → IsFailedTree t new → HasErrorCause t new e → r ≡ Err e → SurvivesStops t new after → after ≡ (operation_effect (tree_summary t) (viewed_session (view_of_session t fs)) op).1.tree → IsCall now op (reply_from reply r) (view_of_files new files)
+pub saving_call : {B : Type 0} (t new : TreeState) (fs : RuntimeFiles) (files : OpenFilesByNumber) (now : SessionView) (op : Operation) (reply : B → Reply) (e : Error) (r : Result B Error) (after : Tree) → session_view t fs ≡ now → HasSessionInvariant t fs → refusal_by_checks (session_view t fs) op ≡ None →
+    is_remount op ≡ false → is_read_only (viewed_session (session_view t fs)) op ≡ false → renames_itself op ≡ false → answers_itself op ≡ false → is_look_up op ≡ false → needs_no_resource (viewed_session (session_view t fs)) op ≡ false → t.writable ≡ true →
+    LeftConforming new → IsFailedTree t new → HasErrorCause t new e → r ≡ Err e → SurvivesStops t new after → after ≡ (operation_effect (tree_summary t) (viewed_session (session_view t fs)) op).1.tree → IsCall now op (reply_from reply r) (view_with_files new files)
 saving_call t new fs files now op reply e r after is between accepted other asks itself kept looks takes writable reported broken error given survives makes =
-    changed_call t fs now op reply r (view_of_files new files) is between reported other kept looks
-    (failed_others now op (view_of_files new files) r given)
-    (broken_ends (view_of_session t fs) now op reply e r (view_of_files new files) is accepted takes error.errors given)
-    (saving_fails t new fs files now op reply e r is accepted other asks itself (between.ready (not_failed (view_of_session t fs) op accepted)).sound writable broken error given)
-    (tree_changed (view_of_session t fs) now op new after is (sound_by t fs between.ready) accepted survives makes)
+    changed_call t fs now op reply r (view_with_files new files) is between reported other kept looks
+    (failed_others now op (view_with_files new files) r given)
+    (broken_ends (session_view t fs) now op reply e r (view_with_files new files) is accepted takes error.errors given)
+    (saving_fails t new fs files now op reply e r is accepted other asks itself (between.ready (not_failed (session_view t fs) op accepted)).sound writable broken error given)
+    (tree_changed (session_view t fs) now op new after is (sound_by t fs between.ready) accepted survives makes)

@@ -1,7 +1,8 @@
 -- A device that has had a call.
 use Rattle.std.proofs.Common.{◌≡◌, ◌<◌, List, [], ◌∷◌, ◌++◌, sym, ap, ◌∙◌, arith}
 use Rattle.std.specs.Prelude.{◌≢◌}
-use Rattle.lfs_model.specs.session.History.{CallEvent, erase_count, read_count}
+use Rattle.lfs_fs.proofs.Common.{CallEvent, read_count}
+use Rattle.lfs_model.specs.session.History.{erase_count}
 
 -- calls only come to those before
 pub still_called : (old new calls : List CallEvent) → new ≡ calls ++ old → old ≢ [] → new ≢ []

@@ -1,26 +1,9 @@
 -- From what a look-up found to an operation's checks.
 use Rattle.std.proofs.Common.{ℕ, ◌≡◌, ◌+◌, ◌≤◌, Bool, true, false, not, List, [], ◌∷◌, Option, Some, None, Result, Ok, Err, length, nat_lt, nat_le, ◌&&◌, ◌||◌, unwrap_or, is_some, is_none, refl, sym, ap, ap₂, subst, ◌∙◌, arith}
 use Rattle.std.specs.Prelude.{if◌then◌else◌}
-use Rattle.std.specs.List.{list_any}
-use Rattle.std.specs.Option.{option_or}
-use Rattle.std.proofs.lemmas.Bool.Decides.{nat_tests}
-use Rattle.lfs_model.specs.format.Disk.{block_count, name_max_of}
-use Rattle.lfs_model.specs.tree.Tree.{Path}
-use Rattle.lfs_model.specs.session.TreeEdits.{is_file, last_name, same_path}
+use Rattle.lfs_fs.proofs.Common.{list_any, option_or, nat_tests, block_count, name_max_of, Path, is_file, last_name, same_path, Operation, Refusal, FlagsOfOpen, parse_path, DiskSummary, are_allowed, has_long_name, parents_refusal, all_readers, all_writers, first_refusal, refuse_if, exceeds_charge, lacks_free, reserved_for_writers, path_or_root, operation_refusal, node_file_size, refusal_error, error_refusal, value_unless_refused, TreeState, shown_tree, tree_summary, OnlyReadsTree, FailedByReading, HasErrorCause, CanMakeDirectory, in_flight_count, IsStorageAt, IsFoundNode, is_absent, is_directory_node, is_file_node, node_size_if_file, SessionView, viewed_session, IsReadableFile, refusal_by_checks, PassesEarlyChecks, FailsChecks, IsChecksResult}
 use Rattle.lfs_model.specs.session.Operations as ops
-use Rattle.lfs_model.specs.session.Operations.{Operation, Refusal, FlagsOfOpen, parse_path}
-use Rattle.lfs_model.specs.session.Session.{DiskSummary, are_allowed, has_long_name, parents_refusal, all_readers, all_writers, first_refusal, refuse_if, is_over_charge, lacks_free, reserved_for_writers}
-use Rattle.lfs_model.specs.session.Refusals.{path_or_root, operation_refusal}
-use Rattle.lfs_model.specs.session.Effects.{node_file_size}
 use Rattle.lfs_device.specs.declared.error.Error.{Error}
-use Rattle.lfs_lookup.specs.RefusalErrors.{refusal_error, error_refusal}
-use Rattle.lfs_fs.specs.Replies.{value_unless}
-use Rattle.lfs_tree.specs.TreeState.{TreeState, tree_view, tree_summary, OnlyReadsTree, FailedByReading, HasErrorCause}
-use Rattle.lfs_tree.specs.Permissions.{CanMakeDirectory}
-use Rattle.lfs_model.specs.layers.BlockSets.{in_flight_count}
-use Rattle.lfs_lookup.specs.FileContents.{IsStorageAt}
-use Rattle.lfs_lookup.specs.Finds.{IsFoundNode, is_absent, is_directory_node, is_file_node, node_size_if_file}
-use Rattle.lfs_fs.specs.SessionView.{SessionView, viewed_session, IsReadableWith, refusal_by_checks, PassesChecks, EndsChecks, IsChecksResult}
 use Rattle.lfs_lookup.specs.declared.file_contents.FileContents.{FileContents}
 use Rattle.lfs_lookup.specs.declared.found_entries.FoundNode.{FoundNode}
 use Rattle.lfs_lookup.specs.declared.found_entries.Node.{Node}
@@ -31,18 +14,18 @@ use Rattle.lfs_fs.proofs.Late.{mkdir_late, reader_late, stat_late}
 
 -- a call failed on the way
 pub lookup_failed : {A : Type 0} (h : SessionView) (op : Operation) (P : A → Type 0) (e : Error) (tree : TreeState) (r : Result A Error) → false ≡ h.tree.failed → FailedByReading h.tree tree → HasErrorCause h.tree tree e →
-    PassesChecks h op → r ≡ Err e → IsChecksResult h op P r tree
+    PassesEarlyChecks h op → r ≡ Err e → IsChecksResult h op P r tree
 lookup_failed h op P e tree r works broken error late is =
     subst (λ z. IsChecksResult h op P z tree) (sym is)
-    (subst (λ b. EndsChecks b h op e tree) (sym (no_refusal_io e error.errors)) (broken, sym works, error, late))
+    (subst (λ b. FailsChecks b h op e tree) (sym (no_refusal_io e error.errors)) (broken, sym works, error, late))
 
 -- the last checks decide
-pub decided : {A : Type 0} (h : SessionView) (op : Operation) (P : A → Type 0) (x : A) (first : Option Refusal) (tree : TreeState) (r : Result A Error) → OnlyReadsTree h.tree tree → PassesChecks h op → refusal_by_checks h op ≡ first → (first ≡ None → P x) →
-    r ≡ value_unless first x → IsChecksResult h op P r tree
+pub decided : {A : Type 0} (h : SessionView) (op : Operation) (P : A → Type 0) (x : A) (first : Option Refusal) (tree : TreeState) (r : Result A Error) → OnlyReadsTree h.tree tree → PassesEarlyChecks h op → refusal_by_checks h op ≡ first → (first ≡ None → P x) →
+    r ≡ value_unless_refused first x → IsChecksResult h op P r tree
 decided h op P x None tree r asked late e p is = subst (λ z. IsChecksResult h op P z tree) (sym is) (asked, e, p refl)
 decided h op P x (Some refusal) tree r asked late e p is =
     subst (λ z. IsChecksResult h op P z tree) (sym is)
-    (subst (λ b. EndsChecks b h op (refusal_error refusal) tree) (sym (error_refuses refusal)) (asked, reported, λ once. absurd (let k = sym (late _ reported) ∙ once in cc)))
+    (subst (λ b. FailsChecks b h op (refusal_error refusal) tree) (sym (error_refuses refusal)) (asked, reported, λ once. absurd (let k = sym (late _ reported) ∙ once in cc)))
   where
     reported : refusal_by_checks h op ≡ Some (error_refusal (refusal_error refusal))
     reported = e ∙ ap (λ z. Some z) (sym (refusal_again refusal))
@@ -57,34 +40,34 @@ pub there : {A : Type 0} → (o : Option A) → is_some o ≡ not (is_none o)
 there None = refl
 there (Some x) = refl
 
-stat_refused : (h : SessionView) (bytes : List ℕ) (p : Path) (found : FoundNode) → h.tree.failed ≡ false → parse_path bytes ≡ Some p → IsFoundNode (tree_view h.tree) p found →
+stat_refused : (h : SessionView) (bytes : List ℕ) (p : Path) (found : FoundNode) → h.tree.failed ≡ false → parse_path bytes ≡ Some p → IsFoundNode (shown_tree h.tree) p found →
     refusal_by_checks h (ops.Stat bytes) ≡ first_refusal (found.fault ∷ refuse_if (is_absent found.node) ops.NoEnt ∷ [])
 stat_refused h bytes p found works is f = rw (works, is, f.parents, f.nothing) refl
 
-size_found : (h : SessionView) (bytes : List ℕ) (p : Path) (found : FoundNode) → parse_path bytes ≡ Some p → IsFoundNode (tree_view h.tree) p found → node_file_size (tree_view h.tree (path_or_root bytes)) ≡ node_size_if_file found.node
-size_found h bytes p found is f = ap (λ z. node_file_size (tree_view h.tree (unwrap_or z []))) is ∙ f.sizes
+size_found : (h : SessionView) (bytes : List ℕ) (p : Path) (found : FoundNode) → parse_path bytes ≡ Some p → IsFoundNode (shown_tree h.tree) p found → node_file_size (shown_tree h.tree (path_or_root bytes)) ≡ node_size_if_file found.node
+size_found h bytes p found is f = ap (λ z. node_file_size (shown_tree h.tree (unwrap_or z []))) is ∙ f.sizes
 
 pub stat_checked : {A : Type 0} (view : A → Option ℕ) (h : SessionView) (bytes : List ℕ) (p : Path) (found : FoundNode) (tree : TreeState) (absent : Bool) (a : Option Refusal) (x : A) (r : Result A Error) →
-    false ≡ h.tree.failed → Some p ≡ parse_path bytes → OnlyReadsTree h.tree tree → IsFoundNode (tree_view h.tree) p found →
-    absent ≡ is_absent found.node → a ≡ refuse_if absent ops.NoEnt → view x ≡ node_size_if_file found.node → r ≡ value_unless (first_refusal (found.fault ∷ a ∷ [])) x →
-    IsChecksResult h (ops.Stat bytes) (λ z. node_file_size (tree_view h.tree (path_or_root bytes)) ≡ view z) r tree
+    false ≡ h.tree.failed → Some p ≡ parse_path bytes → OnlyReadsTree h.tree tree → IsFoundNode (shown_tree h.tree) p found →
+    absent ≡ is_absent found.node → a ≡ refuse_if absent ops.NoEnt → view x ≡ node_size_if_file found.node → r ≡ value_unless_refused (first_refusal (found.fault ∷ a ∷ [])) x →
+    IsChecksResult h (ops.Stat bytes) (λ z. node_file_size (shown_tree h.tree (path_or_root bytes)) ≡ view z) r tree
 stat_checked view h bytes p found tree absent a x r works is asked f absent_is a_is size_is r_is =
-    decided h (ops.Stat bytes) (λ z. node_file_size (tree_view h.tree (path_or_root bytes)) ≡ view z) x _ tree r asked (stat_late h bytes p works is)
+    decided h (ops.Stat bytes) (λ z. node_file_size (shown_tree h.tree (path_or_root bytes)) ≡ view z) x _ tree r asked (stat_late h bytes p works is)
     (stat_refused h bytes p found (sym works) (sym is) f ∙ ap (λ z. first_refusal (found.fault ∷ z ∷ [])) (sym (a_is ∙ ap (λ b. refuse_if b ops.NoEnt) absent_is)))
     (λ none. size_found h bytes p found (sym is) f ∙ sym size_is) r_is
 
-mkdir_refused : (h : SessionView) (bytes : List ℕ) (p : Path) (found : FoundNode) → h.tree.failed ≡ false → h.tree.writable ≡ true → parse_path bytes ≡ Some p → IsFoundNode (tree_view h.tree) p found →
+mkdir_refused : (h : SessionView) (bytes : List ℕ) (p : Path) (found : FoundNode) → h.tree.failed ≡ false → h.tree.writable ≡ true → parse_path bytes ≡ Some p → IsFoundNode (shown_tree h.tree) p found →
     refusal_by_checks h (ops.Mkdir bytes) ≡ first_refusal (found.fault ∷ refuse_if (has_long_name (tree_summary h.tree) p) ops.NameTooLong ∷ refuse_if (not (is_absent found.node)) ops.Exist
-    ∷ refuse_if (is_over_charge (tree_summary h.tree) (last_name p) []) ops.EntryFull ∷ refuse_if (lacks_free (tree_summary h.tree) h.files 4) ops.NoSpace ∷ [])
-mkdir_refused h bytes p found works writable is f = rw (works, writable, is, f.parents, there (tree_view h.tree p), f.nothing) refl
+    ∷ refuse_if (exceeds_charge (tree_summary h.tree) (last_name p) []) ops.EntryFull ∷ refuse_if (lacks_free (tree_summary h.tree) h.files 4) ops.NoSpace ∷ [])
+mkdir_refused h bytes p found works writable is f = rw (works, writable, is, f.parents, there (shown_tree h.tree p), f.nothing) refl
 
 pub mkdir_checked : (h : SessionView) (bytes : List ℕ) (p : Path) (found : FoundNode) (tree : TreeState) (len other : ℕ) (long absent over lack : Bool) (a b d e : Option Refusal) (r : Result Path Error) →
-    false ≡ h.tree.failed → true ≡ h.tree.writable → Some p ≡ parse_path bytes → OnlyReadsTree h.tree tree → IsFoundNode (tree_view h.tree) p found →
+    false ≡ h.tree.failed → true ≡ h.tree.writable → Some p ≡ parse_path bytes → OnlyReadsTree h.tree tree → IsFoundNode (shown_tree h.tree) p found →
     len ≡ length (last_name p) → long ≡ nat_lt (name_max_of tree.disk.profile) len → a ≡ refuse_if long ops.NameTooLong →
     absent ≡ is_absent found.node → b ≡ refuse_if (not absent) ops.Exist →
-    other ≡ length (last_name p) → ((name : List ℕ) → length name ≡ other → over ≡ is_over_charge (tree_summary tree) name []) → d ≡ refuse_if over ops.EntryFull →
+    other ≡ length (last_name p) → ((name : List ℕ) → length name ≡ other → over ≡ exceeds_charge (tree_summary tree) name []) → d ≡ refuse_if over ops.EntryFull →
     lack ≡ lacks_free (tree_summary tree) h.files 4 → e ≡ refuse_if lack ops.NoSpace →
-    r ≡ value_unless (first_refusal (found.fault ∷ a ∷ b ∷ d ∷ e ∷ [])) p → IsChecksResult h (ops.Mkdir bytes) (λ path. path ≡ path_or_root bytes) r tree
+    r ≡ value_unless_refused (first_refusal (found.fault ∷ a ∷ b ∷ d ∷ e ∷ [])) p → IsChecksResult h (ops.Mkdir bytes) (λ path. path ≡ path_or_root bytes) r tree
 mkdir_checked h bytes p found tree len other long absent over lack a b d e r works writable is asked f len_is long_is a_is absent_is b_is other_is over_is d_is lack_is e_is r_is =
     decided h (ops.Mkdir bytes) (λ path. path ≡ path_or_root bytes) p _ tree r asked (mkdir_late h bytes p works writable is)
     (mkdir_refused h bytes p found (sym works) (sym writable) (sym is) f ∙ ap first_refusal (sym lists))
@@ -94,9 +77,9 @@ mkdir_checked h bytes p found tree len other long absent over lack a b d e r wor
     same = ap tree_summary asked.same
 
     lists : (found.fault ∷ a ∷ b ∷ d ∷ e ∷ []) ≡ (found.fault ∷ refuse_if (has_long_name (tree_summary h.tree) p) ops.NameTooLong ∷ refuse_if (not (is_absent found.node)) ops.Exist
-        ∷ refuse_if (is_over_charge (tree_summary h.tree) (last_name p) []) ops.EntryFull ∷ refuse_if (lacks_free (tree_summary h.tree) h.files 4) ops.NoSpace ∷ [])
+        ∷ refuse_if (exceeds_charge (tree_summary h.tree) (last_name p) []) ops.EntryFull ∷ refuse_if (lacks_free (tree_summary h.tree) h.files 4) ops.NoSpace ∷ [])
     lists = both refl (both (when ops.NameTooLong a_is (long_is ∙ ap₂ (λ (around : DiskSummary) n. nat_lt (name_max_of around.profile) n) same len_is)) (both (when ops.Exist b_is (ap not absent_is))
-        (both (when ops.EntryFull d_is (over_is (last_name p) (sym other_is) ∙ ap (λ around. is_over_charge around (last_name p) []) same))
+        (both (when ops.EntryFull d_is (over_is (last_name p) (sym other_is) ∙ ap (λ around. exceeds_charge around (last_name p) []) same))
         (both (when ops.NoSpace e_is (lack_is ∙ ap (λ around. lacks_free around h.files 4) same)) refl))))
 
 -- ---- what no check refuses
@@ -125,10 +108,10 @@ pub mkdir_space : (h : SessionView) (bytes : List ℕ) → refusal_by_checks h (
 mkdir_space h bytes e =
     let a = neither (refuse_if (not h.tree.writable) ops.ReadOnly) _ (not_refused h (ops.Mkdir bytes) e) in
     let b = neither (refuse_if (is_none (parse_path bytes)) ops.Invalid) _ a.1 in
-    let c = neither (parents_refusal (tree_view h.tree) [] (path_or_root bytes)) _ b.1 in
+    let c = neither (parents_refusal (shown_tree h.tree) [] (path_or_root bytes)) _ b.1 in
     let d = neither (refuse_if (has_long_name (tree_summary h.tree) (path_or_root bytes)) ops.NameTooLong) _ c.1 in
-    let i = neither (refuse_if (is_some (tree_view h.tree (path_or_root bytes))) ops.Exist) _ d.1 in
-    let j = neither (refuse_if (is_over_charge (tree_summary h.tree) (last_name (path_or_root bytes)) []) ops.EntryFull) _ i.1 in
+    let i = neither (refuse_if (is_some (shown_tree h.tree (path_or_root bytes))) ops.Exist) _ d.1 in
+    let j = neither (refuse_if (exceeds_charge (tree_summary h.tree) (last_name (path_or_root bytes)) []) ops.EntryFull) _ i.1 in
     let k = neither (refuse_if (lacks_free (tree_summary h.tree) h.files 4) ops.NoSpace) None j.1 in
     unrefused (lacks_free (tree_summary h.tree) h.files 4) ops.NoSpace k.0
 
@@ -174,25 +157,25 @@ no_writing f = go f.unknown f.write f.read f.create f.exclusive f.truncate f.app
 abbrev is_busy : SessionView → Path → Bool
 is_busy h p = list_any (λ w. same_path p w.path) (all_writers h.files) || nat_le 16 (length (all_readers h.files))
 
-open_refused : (h : SessionView) (bytes : List ℕ) (p : Path) (flags : FlagsOfOpen) (found : FoundNode) → h.tree.failed ≡ false → parse_path bytes ≡ Some p → flags.write ≡ false → are_allowed flags ≡ true → IsFoundNode (tree_view h.tree) p found →
+open_refused : (h : SessionView) (bytes : List ℕ) (p : Path) (flags : FlagsOfOpen) (found : FoundNode) → h.tree.failed ≡ false → parse_path bytes ≡ Some p → flags.write ≡ false → are_allowed flags ≡ true → IsFoundNode (shown_tree h.tree) p found →
     refusal_by_checks h (ops.Open bytes flags) ≡ first_refusal (found.fault ∷ refuse_if (is_absent found.node) ops.NoEnt ∷ refuse_if (is_directory_node found.node) ops.IsDir ∷ refuse_if (is_busy h p) ops.Busy ∷ [])
-open_refused h bytes p flags found works is write allowed f = go (is_none (tree_view h.tree p)) refl
+open_refused h bytes p flags found works is write allowed f = go (is_none (shown_tree h.tree p)) refl
   where
     plain : (flags.create ≡ false) × (flags.exclusive ≡ false) × (flags.truncate ≡ false)
     plain = no_writing flags write allowed
 
-    go : (b : Bool) → is_none (tree_view h.tree p) ≡ b →
+    go : (b : Bool) → is_none (shown_tree h.tree p) ≡ b →
         refusal_by_checks h (ops.Open bytes flags) ≡ first_refusal (found.fault ∷ refuse_if (is_absent found.node) ops.NoEnt ∷ refuse_if (is_directory_node found.node) ops.IsDir ∷ refuse_if (is_busy h p) ops.Busy ∷ [])
     go true e = rw (works, allowed, write, is, f.parents, e, sym f.nothing ∙ e, plain.0) refl
-    go false e = rw (works, allowed, write, is, f.parents, e, sym f.nothing ∙ e, there (tree_view h.tree p) ∙ ap not e, plain.1, plain.2, f.directories) refl
+    go false e = rw (works, allowed, write, is, f.parents, e, sym f.nothing ∙ e, there (shown_tree h.tree p) ∙ ap not e, plain.1, plain.2, f.directories) refl
 
 pub open_checked : (h : SessionView) (bytes : List ℕ) (p : Path) (flags : FlagsOfOpen) (found : FoundNode) (tree : TreeState) (absent directory busy : Bool) (a b d : Option Refusal) (x : FileContents) (r : Result FileContents Error) →
-    (is_file (tree_view h.tree p) ≡ true → IsStorageAt h.tree.pairs p x) → false ≡ h.tree.failed → Some p ≡ parse_path bytes → flags.write ≡ false → true ≡ are_allowed flags → OnlyReadsTree h.tree tree → IsFoundNode (tree_view h.tree) p found →
+    (is_file (shown_tree h.tree p) ≡ true → IsStorageAt h.tree.pairs p x) → false ≡ h.tree.failed → Some p ≡ parse_path bytes → flags.write ≡ false → true ≡ are_allowed flags → OnlyReadsTree h.tree tree → IsFoundNode (shown_tree h.tree) p found →
     absent ≡ is_absent found.node → a ≡ refuse_if absent ops.NoEnt → directory ≡ is_directory_node found.node → b ≡ refuse_if directory ops.IsDir → busy ≡ is_busy h p → d ≡ refuse_if busy ops.Busy →
-    r ≡ value_unless (first_refusal (found.fault ∷ a ∷ b ∷ d ∷ [])) x →
-    IsChecksResult h (ops.Open bytes flags) (IsReadableWith h.tree h.files bytes) r tree
+    r ≡ value_unless_refused (first_refusal (found.fault ∷ a ∷ b ∷ d ∷ [])) x →
+    IsChecksResult h (ops.Open bytes flags) (IsReadableFile h.tree h.files bytes) r tree
 open_checked h bytes p flags found tree absent directory busy a b d x r has works is write allowed asked f absent_is a_is directory_is b_is busy_is d_is r_is =
-    decided h (ops.Open bytes flags) (IsReadableWith h.tree h.files bytes) x _ tree r asked (reader_late h bytes p flags works is write allowed)
+    decided h (ops.Open bytes flags) (IsReadableFile h.tree h.files bytes) x _ tree r asked (reader_late h bytes p flags works is write allowed)
     (open_refused h bytes p flags found (sym works) (sym is) write (sym allowed) f ∙ ap first_refusal (sym lists))
     readable r_is
   where
@@ -212,7 +195,7 @@ open_checked h bytes p flags found tree absent directory busy a b d x r has work
     is_a_file (node.File size) e k = refl
     is_a_file node.Directory e k = absurd (cc)
 
-    readable : first_refusal (found.fault ∷ a ∷ b ∷ d ∷ []) ≡ None → IsReadableWith h.tree h.files bytes x
+    readable : first_refusal (found.fault ∷ a ∷ b ∷ d ∷ []) ≡ None → IsReadableFile h.tree h.files bytes x
     readable none =
         let k = neither found.fault (first_refusal (a ∷ b ∷ d ∷ [])) none in
         let l = neither a (first_refusal (b ∷ d ∷ [])) k.1 in
@@ -225,7 +208,7 @@ open_checked h bytes p flags found tree absent directory busy a b d x r has work
         record {
           readable = record {
             given = ap is_some (sym is);
-            there = ap (λ q. is_none (tree_view h.tree q)) (sym path) ∙ f.nothing ∙ there;
+            there = ap (λ q. is_none (shown_tree h.tree q)) (sym path) ∙ f.nothing ∙ there;
             few = second (list_any (λ w. same_path p w.path) (all_writers h.files)) (nat_le 16 (length (all_readers h.files))) free;
             apart = ap (λ q. list_any (λ w. same_path q w.path) (all_writers h.files)) (sym path) ∙ first (list_any (λ w. same_path p w.path) (all_writers h.files)) (nat_le 16 (length (all_readers h.files))) free;
           };

@@ -2,17 +2,10 @@
 use Rattle.std.proofs.Common.{◌≡◌, false, List, [], ◌∷◌, ◌++◌, Result, refl, sym, ap, subst, ◌∙◌}
 use Rattle.lfs_device.specs.declared.device.BlockDevice.{Ghosts}
 use Rattle.lfs_device.specs.declared.error.Error.{Error}
-use Rattle.lfs_model.specs.format.Blocks.{Blocks}
-use Rattle.lfs_model.specs.format.Disk.{Disk}
-use Rattle.lfs_model.specs.session.History.{CallEvent, AllCalls, LeftByLatest, IsRead, OnlyReadsSince, call_reads}
+use Rattle.lfs_fs.proofs.Common.{Blocks, Disk, CallEvent, AllCalls, LeftByLatest, IsRead, OnlyReadsSince, call_reads, Operation, OnlyReadsTree, TreeState, RuntimeFiles, IsChecksResult, session_view, HasSessionInvariant, LeftConforming}
 use Rattle.lfs_model.specs.crash.Conformance.{CallsConform, ConformsTo}
-use Rattle.lfs_model.specs.session.Operations.{Operation}
 use Rattle.lfs_model.proofs.Conformance.{conforms_next}
-use Rattle.lfs_tree.specs.TreeState.{OnlyReadsTree, TreeState}
-use Rattle.lfs_fs.specs.FileView.{RuntimeFiles}
-use Rattle.lfs_fs.specs.SessionView.{IsChecksResult, view_of_session}
 use Rattle.lfs_fs.proofs.Answered.{asked_by_checks, checked_ready}
-use Rattle.lfs_fs.specs.DeviceLaws.{HasInvariant, LeftConforming}
 
 -- of the device that is lent
 pub laws_met : {D : Type 0} (g : Ghosts D) (device : D) (t : TreeState) → g.blocks device ≡ t.disk.blocks → g.history device ≡ t.history → LeftByLatest (g.history device) (g.blocks device) → CallsConform (g.history device) → LeftConforming t
@@ -54,7 +47,7 @@ pub reported_asked : (t new : TreeState) → (t.failed ≡ false → LeftConform
 reported_asked t new reported asked works = reported_later t new (reported (sym (ap (λ (s : TreeState). s.failed) asked.same) ∙ works)) asked.reads (ap (λ (s : TreeState). s.disk) asked.same)
 
 -- behind checks
-pub between_checked : {A : Type 0} (t : TreeState) (files : RuntimeFiles) (op : Operation) (P : A → Type 0) (r : Result A Error) (tree : TreeState) → HasInvariant t files → IsChecksResult (view_of_session t files) op P r tree → HasInvariant tree files
+pub between_checked : {A : Type 0} (t : TreeState) (files : RuntimeFiles) (op : Operation) (P : A → Type 0) (r : Result A Error) (tree : TreeState) → HasSessionInvariant t files → IsChecksResult (session_view t files) op P r tree → HasSessionInvariant tree files
 between_checked t files op P r tree between h = record {
   ready = checked_ready t files op P r tree between.ready h;
   reported = λ works. reported_asked t tree between.reported (asked_by_checks t files op P r tree h works) works;

@@ -1,21 +1,10 @@
 -- How each of a session's calls ends.
 use Rattle.std.proofs.Common.{◌≡◌, Bool, true, false, cond, Some, None, Result, Ok, Err, refl, sym, ap, subst, ◌∙◌}
 use Rattle.std.specs.Prelude.{◌⊎◌, OnOk, IfErr, is_err}
-use Rattle.std.proofs.lemmas.Option.{same_Some}
+use Rattle.lfs_fs.proofs.Common.{same_Some, fault_count, Failed, Operation, Refusal, Reply, operation_refusal, OpenFilesByNumber, is_refusal, error_refusal, OnlyReadsTree, HasErrorCause, HasMountCause, IsRemountedTree, TreeState, tree_summary, is_early_refusal, needs_no_resource, MeetsRules, RuntimeFiles, IsChecksResult, PassesEarlyChecks, FailsChecks, SessionView, session_view, view_with_files, refusal_by_checks, viewed_session, reply_from}
 use Rattle.lfs_device.specs.declared.error.Error.{Error}
 use Rattle.lfs_device.specs.declared.error.Error.TheVariants.{Io, NoMemory}
-use Rattle.lfs_model.specs.session.History.{fault_count}
 use Rattle.lfs_model.specs.session.Operations as ops
-use Rattle.lfs_model.specs.session.Operations.{Failed, Operation, Refusal, Reply}
-use Rattle.lfs_model.specs.session.Refusals.{operation_refusal}
-use Rattle.lfs_model.specs.session.Session.{OpenFilesByNumber}
-use Rattle.lfs_lookup.specs.RefusalErrors.{is_refusal, error_refusal}
-use Rattle.lfs_tree.specs.TreeState.{OnlyReadsTree, HasErrorCause, IsCausedError, IsRemountedTree, TreeState, tree_summary}
-use Rattle.lfs_model.specs.crash.Frame.{is_early_refusal, needs_no_resource}
-use Rattle.lfs_fs.specs.CallEnds.{MeetsRules}
-use Rattle.lfs_fs.specs.FileView.{RuntimeFiles}
-use Rattle.lfs_fs.specs.SessionView.{IsChecksResult, PassesChecks, EndsChecks, SessionView, view_of_session, view_of_files, refusal_by_checks, viewed_session}
-use Rattle.lfs_fs.specs.Replies.{reply_from}
 use Rattle.lfs_fs.proofs.Answered.{no_refusal_io, not_failed}
 use Rattle.lfs_fs.proofs.Remounting.{no_refusal}
 use Rattle.lfs_fs.proofs.Stopping.{session_at}
@@ -25,12 +14,12 @@ failed_first : (h : SessionView) (op : Operation) (r : Refusal) → refusal_by_c
 failed_first h op r e f = sym (same_Some Failed r (sym (ap (λ b. cond b (Some Failed) (operation_refusal (tree_summary h.tree) (viewed_session h) op)) f) ∙ e))
 
 -- no check refuses it
-unrefused_late : (old : SessionView) (op : Operation) → refusal_by_checks old op ≡ None → PassesChecks old op
+unrefused_late : (old : SessionView) (op : Operation) → refusal_by_checks old op ≡ None → PassesEarlyChecks old op
 unrefused_late old op e r f = absurd (let k : None ≡ Some r = sym e ∙ f in cc)
 
 -- ---- the session worked
 
-at_work : (old now : SessionView) (op : Operation) (r : Result Reply Error) (new : SessionView) → old ≡ now → old.tree.failed ≡ false → PassesChecks old op → (is_err r ≡ false → fault_count new.tree.history ≡ fault_count old.tree.history) →
+at_work : (old now : SessionView) (op : Operation) (r : Result Reply Error) (new : SessionView) → old ≡ now → old.tree.failed ≡ false → PassesEarlyChecks old op → (is_err r ≡ false → fault_count new.tree.history ≡ fault_count old.tree.history) →
     (needs_no_resource (viewed_session old) op ≡ true → is_err r ≡ false) → MeetsRules now op r new
 at_work old now op r new same works late calm quiet = subst (λ z. MeetsRules z op r new) same (record {
   failed = λ f other. absurd (let k = sym works ∙ f in cc);
@@ -44,7 +33,7 @@ pub answer_ends : (old now : SessionView) (op : Operation) (reply : Reply) (new 
 answer_ends old now op reply new same e calm = at_work old now op (Ok reply) new same (not_failed old op e) (unrefused_late old op e) (λ k. calm) (λ k. refl)
 
 -- an error takes the reply's place
-error_late : (old now : SessionView) (op : Operation) (e : Error) (new : SessionView) → old ≡ now → old.tree.failed ≡ false → PassesChecks old op → needs_no_resource (viewed_session old) op ≡ false → MeetsRules now op (Err e) new
+error_late : (old now : SessionView) (op : Operation) (e : Error) (new : SessionView) → old ≡ now → old.tree.failed ≡ false → PassesEarlyChecks old op → needs_no_resource (viewed_session old) op ≡ false → MeetsRules now op (Err e) new
 error_late old now op e new same works late takes = at_work old now op (Err e) new same works late (λ k. absurd (cc)) (λ k. absurd (let l = sym takes ∙ k in cc))
 
 pub error_ends : (old now : SessionView) (op : Operation) (e : Error) (new : SessionView) → old ≡ now → refusal_by_checks old op ≡ None → needs_no_resource (viewed_session old) op ≡ false → MeetsRules now op (Err e) new
@@ -69,9 +58,9 @@ no_refusals old new (Err e) errors = no_refusal_io e errors.errors
 
 -- behind reads, a call of the tree came last
 pub carried_ends : {A K : Type 0} (old now : SessionView) (op : Operation) (reply : A → Reply) (mid new : TreeState) (files : OpenFilesByNumber) (r : Result A Error) → old ≡ now → refusal_by_checks old op ≡ None → needs_no_resource (viewed_session old) op ≡ false → OnlyReadsTree old.tree mid →
-    OnOk r K → (K → fault_count new.history ≡ fault_count mid.history) → IfErr r (HasErrorCause mid new) → MeetsRules now op (reply_from reply r) (view_of_files new files)
+    OnOk r K → (K → fault_count new.history ≡ fault_count mid.history) → IfErr r (HasErrorCause mid new) → MeetsRules now op (reply_from reply r) (view_with_files new files)
 carried_ends {A} {K} old now op reply mid new files r same e takes asked done calm errors =
-    result_ends old now op reply r (view_of_files new files) same e takes (go r done) (no_refusals mid new r errors)
+    result_ends old now op reply r (view_with_files new files) same e takes (go r done) (no_refusals mid new r errors)
   where
     go : (r : Result A Error) → OnOk r K → OnOk r (fault_count new.history ≡ fault_count old.tree.history)
     go (Ok x) k = calm k ∙ asked.no_fault
@@ -109,24 +98,24 @@ refused_ends old now op refusal same e = refusal_ends old now op refusal now sam
 pub kept_ends : (old now : SessionView) (op : Operation) (reply : Reply) → old ≡ now → refusal_by_checks old op ≡ None → MeetsRules now op (Ok reply) now
 kept_ends old now op reply same e = answer_ends old now op reply now same e (ap (λ (h : SessionView). fault_count h.tree.history) (sym same))
 
-checks_end : (t : TreeState) (fs : RuntimeFiles) (now : SessionView) (op : Operation) (e : Error) (tree : TreeState) → view_of_session t fs ≡ now → needs_no_resource (viewed_session (view_of_session t fs)) op ≡ false → EndsChecks (is_refusal e) (view_of_session t fs) op e tree →
-    MeetsRules now op (cond (is_refusal e) (Ok (ops.Refused (error_refusal e))) (Err e)) (view_of_session tree fs)
+checks_end : (t : TreeState) (fs : RuntimeFiles) (now : SessionView) (op : Operation) (e : Error) (tree : TreeState) → session_view t fs ≡ now → needs_no_resource (viewed_session (session_view t fs)) op ≡ false → FailsChecks (is_refusal e) (session_view t fs) op e tree →
+    MeetsRules now op (cond (is_refusal e) (Ok (ops.Refused (error_refusal e))) (Err e)) (session_view tree fs)
 checks_end t fs now op e tree same takes h = go (is_refusal e) h
   where
-    go : (b : Bool) → EndsChecks b (view_of_session t fs) op e tree → MeetsRules now op (cond b (Ok (ops.Refused (error_refusal e))) (Err e)) (view_of_session tree fs)
-    go true k = refusal_ends (view_of_session t fs) now op (error_refusal e) (view_of_session tree fs) same k.1 k.0.no_fault (λ once. ap (λ z. view_of_session z fs) (k.2 once))
-    go false k = error_late (view_of_session t fs) now op e (view_of_session tree fs) same k.1 k.3 takes
+    go : (b : Bool) → FailsChecks b (session_view t fs) op e tree → MeetsRules now op (cond b (Ok (ops.Refused (error_refusal e))) (Err e)) (session_view tree fs)
+    go true k = refusal_ends (session_view t fs) now op (error_refusal e) (session_view tree fs) same k.1 k.0.no_fault (λ once. ap (λ z. session_view z fs) (k.2 once))
+    go false k = error_late (session_view t fs) now op e (session_view tree fs) same k.1 k.3 takes
 
 -- checks by reads
-pub checked_ends : {A : Type 0} (t : TreeState) (fs : RuntimeFiles) (now : SessionView) (op : Operation) (reply : A → Reply) (P : A → Type 0) (r : Result A Error) (tree : TreeState) → view_of_session t fs ≡ now → needs_no_resource (viewed_session (view_of_session t fs)) op ≡ false →
-    IsChecksResult (view_of_session t fs) op P r tree → MeetsRules now op (reply_from reply r) (view_of_session tree fs)
-checked_ends t fs now op reply P (Ok x) tree same takes h = answer_ends (view_of_session t fs) now op (reply x) (view_of_session tree fs) same h.1 h.0.no_fault
+pub checked_ends : {A : Type 0} (t : TreeState) (fs : RuntimeFiles) (now : SessionView) (op : Operation) (reply : A → Reply) (P : A → Type 0) (r : Result A Error) (tree : TreeState) → session_view t fs ≡ now → needs_no_resource (viewed_session (session_view t fs)) op ≡ false →
+    IsChecksResult (session_view t fs) op P r tree → MeetsRules now op (reply_from reply r) (session_view tree fs)
+checked_ends t fs now op reply P (Ok x) tree same takes h = answer_ends (session_view t fs) now op (reply x) (session_view tree fs) same h.1 h.0.no_fault
 checked_ends t fs now op reply P (Err e) tree same takes h = checks_end t fs now op e tree same takes h
 
 -- the same of a call that gives the error on
-pub ended_ends : {A : Type 0} (t : TreeState) (fs : RuntimeFiles) (now : SessionView) (op : Operation) (reply : A → Reply) (e : Error) (tree : TreeState) (r : Result A Error) → view_of_session t fs ≡ now → needs_no_resource (viewed_session (view_of_session t fs)) op ≡ false →
-    EndsChecks (is_refusal e) (view_of_session t fs) op e tree → r ≡ Err e → MeetsRules now op (reply_from reply r) (view_of_session tree fs)
-ended_ends t fs now op reply e tree r same takes h is = subst (λ z. MeetsRules now op (reply_from reply z) (view_of_session tree fs)) (sym is) (checks_end t fs now op e tree same takes h)
+pub ended_ends : {A : Type 0} (t : TreeState) (fs : RuntimeFiles) (now : SessionView) (op : Operation) (reply : A → Reply) (e : Error) (tree : TreeState) (r : Result A Error) → session_view t fs ≡ now → needs_no_resource (viewed_session (session_view t fs)) op ≡ false →
+    FailsChecks (is_refusal e) (session_view t fs) op e tree → r ≡ Err e → MeetsRules now op (reply_from reply r) (session_view tree fs)
+ended_ends t fs now op reply e tree r same takes h is = subst (λ z. MeetsRules now op (reply_from reply z) (session_view tree fs)) (sym is) (checks_end t fs now op e tree same takes h)
 
 -- of checks without a read
 pub unread_ends : {A : Type 0} (old now : SessionView) (op : Operation) (reply : A → Reply) (e : Error) (r : Result A Error) → old ≡ now → (is_refusal e ≡ true) × (refusal_by_checks old op ≡ Some (error_refusal e)) → r ≡ Err e →
@@ -137,13 +126,13 @@ unread_ends old now op reply e r same h is =
 
 -- ---- a remount
 
-pub remount_refuses_not : {A : Type 0} (old new : TreeState) (r : Result A Error) → IfErr r (IsCausedError old new) → IfErr r (λ e. is_refusal e ≡ false)
+pub remount_refuses_not : {A : Type 0} (old new : TreeState) (r : Result A Error) → IfErr r (HasMountCause old new) → IfErr r (λ e. is_refusal e ≡ false)
 remount_refuses_not old new (Ok x) errors = tt
 remount_refuses_not old new (Err e) errors = no_refusal e errors.errors
 
 pub remount_ends : (old now : SessionView) (new : TreeState) (files : OpenFilesByNumber) (r : Result (Unit {0}) Error) → old ≡ now → OnOk r (IsRemountedTree old.tree new) → IfErr r (λ e. is_refusal e ≡ false) →
-    MeetsRules now ops.Remount (reply_from (λ u. ops.Done) r) (view_of_files new files)
-remount_ends old now new files r same mounted errors = subst (λ z. MeetsRules z ops.Remount (reply_from (λ u. ops.Done) r) (view_of_files new files)) same (record {
+    MeetsRules now ops.Remount (reply_from (λ u. ops.Done) r) (view_with_files new files)
+remount_ends old now new files r same mounted errors = subst (λ z. MeetsRules z ops.Remount (reply_from (λ u. ops.Done) r) (view_with_files new files)) same (record {
   failed = λ f other. absurd (cc);
   no_fault = calm r mounted errors;
   answered = λ s at e. absurd (cc);

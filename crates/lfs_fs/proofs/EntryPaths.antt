@@ -1,9 +1,6 @@
 -- Bytes that are the path of an entry, and bytes that are not.
 use Rattle.std.proofs.Common.{ℕ, ◌≡◌, true, false, cond, List, [], ◌∷◌, Option, Some, None, refl, sym, ap, ◌∙◌}
-use Rattle.lfs_model.specs.session.Operations.{parse_path}
-use Rattle.lfs_model.specs.session.Refusals.{is_unusable, is_root_path}
-use Rattle.lfs_model.specs.tree.Tree.{Path}
-use Rattle.lfs_fs.specs.EntryPaths.{entry_path}
+use Rattle.lfs_fs.proofs.Common.{parse_path, is_unusable, is_root_path, Path, entry_path}
 
 bad_if_none : (o : Option Path) → None ≡ cond (is_unusable o) None o → is_unusable o ≡ true
 bad_if_none None e = refl

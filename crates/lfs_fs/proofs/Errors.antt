@@ -3,8 +3,8 @@ use Rattle.std.proofs.Common.{◌≡◌, true, Result, Ok, Err, refl, sym, ap, �
 use Rattle.std.specs.Result.{IsErrAnd}
 use Rattle.lfs_device.specs.declared.error.Error.{Error}
 use Rattle.lfs_model.specs.session.Operations as ops
-use Rattle.lfs_model.specs.session.Operations.{Refusal}
-use Rattle.lfs_lookup.specs.RefusalErrors.{error_survives_refusal, refusal_error, is_refusal, error_refusal}
+use Rattle.lfs_fs.proofs.Common.{Refusal, refusal_error, is_refusal, error_refusal}
+use Rattle.lfs_lookup.specs.RefusalErrors.{error_survives_refusal}
 
 pub error_refuses : (r : Refusal) → is_refusal (refusal_error r) ≡ true
 error_refuses ops.NoEnt = refl

@@ -3,15 +3,8 @@ use Rattle.std.proofs.Common.{inl, inr, ℕ, ◌≡◌, ◌+◌, ◌<◌, Bool, 
 use Rattle.std.specs.Prelude.{◌⊎◌}
 use Rattle.lfs_device.specs.declared.error.Error.{Error}
 use Rattle.lfs_device.specs.declared.error.Error.TheVariants.{Io, NoMemory}
-use Rattle.lfs_model.specs.format.Blocks.{Blocks}
-use Rattle.lfs_model.specs.format.Disk.{SameGeometry}
-use Rattle.lfs_model.specs.session.History.{CallEvent, DeviceCall, Read, Program, Erase, Blank, AllCalls, IsRead, call_reads, call_programs, call_erases, fault_count}
-use Rattle.lfs_model.specs.session.Operations.{Operation}
-use Rattle.lfs_model.specs.session.Session.{OpenFilesByNumber, Session}
-use Rattle.lfs_model.specs.session.State.{SessionHealth, HasFailed, Healthy, is_remount}
-use Rattle.lfs_model.specs.session.Run.{SystemState, WriteNothing, is_read_only, renames_itself}
-use Rattle.lfs_tree.specs.TreeState.{TreeState, IsSoundState, OnlyReadsTree, IsFailedTree, FailedByReading, HasErrorCause}
-use Rattle.lfs_fs.specs.SessionView.{SessionView, view_of_files, viewed_session, system_state, SessionFails}
+use Rattle.lfs_fs.proofs.Common.{Blocks, SameGeometry, CallEvent, AllCalls, IsRead, call_reads, fault_count, Operation, OpenFilesByNumber, Session, SessionHealth, HasFailed, Healthy, is_remount, SystemState, WriteNothing, is_read_only, renames_itself, TreeState, IsSoundState, OnlyReadsTree, IsFailedTree, FailedByReading, HasErrorCause, SessionView, view_with_files, viewed_session, system_state, SessionFails}
+use Rattle.lfs_model.specs.session.History.{DeviceCall, Read, Program, Erase, Blank, call_programs, call_erases}
 
 -- ---- calls
 
@@ -69,10 +62,10 @@ widened e (inr h) = inr (inl h)
 
 -- a call failed that only reads, and with it any operation
 pub asking_fails : (e : Error) (old : SessionView) (op : Operation) (tree : TreeState) (files : OpenFilesByNumber) → old.tree.failed ≡ false → FailedByReading old.tree tree → HasErrorCause old.tree tree e →
-    SessionFails e (system_state old) op (system_state (view_of_files tree files))
+    SessionFails e (system_state old) op (system_state (view_with_files tree files))
 asking_fails e old op tree files works broken error = record {
   fails = record {
-    failed = ap (λ (m : SystemState). m.state) (failed_system (view_of_files tree files) broken.failed);
+    failed = ap (λ (m : SystemState). m.state) (failed_system (view_with_files tree files) broken.failed);
     geometry = subst (λ d. SameGeometry old.tree.disk d) (sym broken.disk) (record { block_size = refl; page = refl; order = refl; profile = refl; count = refl });
     calls = broken.reads.events;
     called = broken.reads.extends;
@@ -92,10 +85,10 @@ asking_fails e old op tree files works broken error = record {
 
 -- a call failed that changes the disk, which may be written
 pub broken_fails : (e : Error) (old : SessionView) (op : Operation) (mid new : TreeState) (files : OpenFilesByNumber) → old.tree.failed ≡ false → is_remount op ≡ false → is_read_only (viewed_session old) op ≡ false →
-    renames_itself op ≡ false → IsSoundState old.tree → old.tree.writable ≡ true → OnlyReadsTree old.tree mid → IsFailedTree mid new → HasErrorCause mid new e → SessionFails e (system_state old) op (system_state (view_of_files new files))
+    renames_itself op ≡ false → IsSoundState old.tree → old.tree.writable ≡ true → OnlyReadsTree old.tree mid → IsFailedTree mid new → HasErrorCause mid new e → SessionFails e (system_state old) op (system_state (view_with_files new files))
 broken_fails e old op mid new files works other asks itself sound writable asked broken error = record {
   fails = record {
-    failed = ap (λ (m : SystemState). m.state) (failed_system (view_of_files new files) broken.failed);
+    failed = ap (λ (m : SystemState). m.state) (failed_system (view_with_files new files) broken.failed);
     geometry = subst (λ (t : TreeState). SameGeometry t.disk new.disk) asked.same broken.geometry;
     calls = broken.calls ++ asked.reads.events;
     called = broken.called ∙ ap (λ z. broken.calls ++ z) asked.reads.extends ∙ sym (append_assoc broken.calls asked.reads.events old.tree.history);
@@ -122,11 +115,11 @@ memory_broken old mid asked = record {
 }
 
 pub memory_fails : (old : SessionView) (op : Operation) (mid : TreeState) (files : OpenFilesByNumber) → old.tree.failed ≡ false → OnlyReadsTree old.tree mid →
-    SessionFails NoMemory (system_state old) op (system_state (view_of_files (record mid { failed = true }) files))
+    SessionFails NoMemory (system_state old) op (system_state (view_with_files (record mid { failed = true }) files))
 memory_fails old op mid files works asked = asking_fails NoMemory old op (record mid { failed = true }) files works (memory_broken old.tree mid asked) (memory_error old.tree mid asked)
 
 -- the same before any call, whether or not the session had failed
-pub memory_fails_at_once : (old : SessionView) (op : Operation) → SessionFails NoMemory (system_state old) op (system_state (view_of_files (record old.tree { failed = true }) old.files))
+pub memory_fails_at_once : (old : SessionView) (op : Operation) → SessionFails NoMemory (system_state old) op (system_state (view_with_files (record old.tree { failed = true }) old.files))
 memory_fails_at_once old op = record {
   fails = record {
     failed = refl;

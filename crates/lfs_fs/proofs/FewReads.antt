@@ -1,13 +1,7 @@
 -- How many reads a look-up takes, by the calls that came.
 use Rattle.std.proofs.Common.{ℕ, ◌≡◌, ◌≤◌, ◌+◌, List, [], ◌∷◌, ◌++◌, Option, Some, unwrap_or, ap, arith}
 use Rattle.std.specs.Prelude.{sum_by}
-use Rattle.lfs_model.specs.crash.Frame.{BoundsReads, pair_count_at}
-use Rattle.lfs_model.specs.session.History.{CallEvent, read_count}
-use Rattle.lfs_model.specs.session.Operations.{Operation, parse_path}
-use Rattle.lfs_model.specs.session.Refusals.{path_or_root}
-use Rattle.lfs_model.specs.tree.Tree.{Path}
-use Rattle.lfs_tree.specs.TreeState.{TreeState}
-use Rattle.lfs_fs.specs.LookUps.{ReadsSearched}
+use Rattle.lfs_fs.proofs.Common.{ReadsEachOnce, pair_count_at, CallEvent, read_count, Operation, parse_path, path_or_root, Path, TreeState, ReadsSearched}
 
 -- a bound by the path of bytes
 pub few_given : (old new : TreeState) (f : Path → List Path) (bytes : List ℕ) (p : Path) → Some p ≡ parse_path bytes → read_count new.history ≤ read_count old.history + sum_by (pair_count_at old.pairs) (f p)
@@ -21,7 +15,7 @@ reads_over [] older = omega arith
 reads_over (e ∷ calls) older = let k = reads_over calls older in omega (arith, k)
 
 -- by the calls that came
-pub reads_few : (old new : TreeState) (op : Operation) → ReadsSearched old op new → (calls : List CallEvent) → new.history ≡ calls ++ old.history → BoundsReads old.pairs op calls
+pub reads_few : (old new : TreeState) (op : Operation) → ReadsSearched old op new → (calls : List CallEvent) → new.history ≡ calls ++ old.history → ReadsEachOnce old.pairs op calls
 reads_few old new op few calls is looks =
     let e = ap read_count is in
     let k = reads_over calls old.history in

@@ -1,15 +1,11 @@
 -- What a session says of an open file is so of the file.
 use Rattle.std.proofs.Common.{ℕ, ◌≡◌, ◌∙◌, true, false, zero, suc, length, [], ◌∷◌, Option, Some, None, inl, inr, refl, sym, ap, subst}
-use Rattle.std.specs.List.{AllByRecursion}
-use Rattle.std.specs.Option.{option_map}
+use Rattle.lfs_fs.proofs.Common.{AllByRecursion, option_map, same_Some, TreeState, file_position, RuntimeFiles, open_file_at, file_view, reader_if_any, unsaved_or_tree, writer_if_any, writers_among, IsWriterReady, SessionView, session_view}
 use Rattle.std.specs.Prelude.{Err, Ok}
-use Rattle.std.proofs.lemmas.Option.{same_Some}
 use Rattle.lfs_device.specs.declared.error.Error.TheVariants.{BadFile, Failed}
 use Rattle.lfs_model.specs.session.Session as session
-use Rattle.lfs_tree.specs.TreeState.{TreeState}
-use Rattle.lfs_fs.specs.FileAnswers.{FileAnswersOf, file_position}
-use Rattle.lfs_fs.specs.FileView.{RuntimeFiles, open_file_at, file_view, kept_position, reader_if_any, unsaved_or_tree, writer_if_any, writers_among}
-use Rattle.lfs_fs.specs.SessionView.{IsWriterReady, SessionView, view_of_session}
+use Rattle.lfs_fs.specs.FileAnswers.{FileAnswersOf}
+use Rattle.lfs_fs.specs.FileView.{kept_position}
 use Rattle.lfs_fs.specs.declared.files.OpenFile.{OpenFile}
 use Rattle.lfs_fs.specs.declared.files.OpenFile.TheVariants as file
 use Rattle.lfs_fs.specs.declared.files.Reader.{Reader}
@@ -46,18 +42,18 @@ writer_sized t (Some (file.Writing q) ∷ fs) (suc fd) w e h = writer_sized t fs
 
 -- ---- the answers
 
-pub answers_failed : (number : SessionView → session.OpenFile → ℕ) (t : TreeState) (fs : RuntimeFiles) (now : SessionView) (fd : ℕ) → view_of_session t fs ≡ now → true ≡ t.failed → FileAnswersOf number now fd (Err Failed)
+pub answers_failed : (number : SessionView → session.OpenFile → ℕ) (t : TreeState) (fs : RuntimeFiles) (now : SessionView) (fd : ℕ) → session_view t fs ≡ now → true ≡ t.failed → FileAnswersOf number now fd (Err Failed)
 answers_failed number t fs now fd seen failed = subst (λ (h : SessionView). FileAnswersOf number h fd (Err Failed)) seen (inl (sym failed, refl))
 
-pub answers_none : (number : SessionView → session.OpenFile → ℕ) (t : TreeState) (fs : RuntimeFiles) (now : SessionView) (fd : ℕ) → view_of_session t fs ≡ now → false ≡ t.failed → open_file_at fs fd ≡ None → FileAnswersOf number now fd (Err BadFile)
+pub answers_none : (number : SessionView → session.OpenFile → ℕ) (t : TreeState) (fs : RuntimeFiles) (now : SessionView) (fd : ℕ) → session_view t fs ≡ now → false ≡ t.failed → open_file_at fs fd ≡ None → FileAnswersOf number now fd (Err BadFile)
 answers_none number t fs now fd seen works none =
     subst (λ (h : SessionView). FileAnswersOf number h fd (Err BadFile)) seen (inr (sym works, (file_is t fs fd ∙ ap (option_map (file_view t)) none), refl))
 
-pub answers_some : (number : SessionView → session.OpenFile → ℕ) (t : TreeState) (fs : RuntimeFiles) (now : SessionView) (fd n : ℕ) (o : OpenFile) → view_of_session t fs ≡ now → false ≡ t.failed → open_file_at fs fd ≡ Some o
-    → number (view_of_session t fs) (file_view t o) ≡ n → FileAnswersOf number now fd (Ok n)
+pub answers_some : (number : SessionView → session.OpenFile → ℕ) (t : TreeState) (fs : RuntimeFiles) (now : SessionView) (fd n : ℕ) (o : OpenFile) → session_view t fs ≡ now → false ≡ t.failed → open_file_at fs fd ≡ Some o
+    → number (session_view t fs) (file_view t o) ≡ n → FileAnswersOf number now fd (Ok n)
 answers_some number t fs now fd n o seen works some is =
     subst (λ (h : SessionView). FileAnswersOf number h fd (Ok n)) seen
-    (sym works, ap (option_map (number (view_of_session t fs))) (file_is t fs fd ∙ ap (option_map (file_view t)) some) ∙ ap Some is)
+    (sym works, ap (option_map (number (session_view t fs))) (file_is t fs fd ∙ ap (option_map (file_view t)) some) ∙ ap Some is)
 
 -- a position that was found, if there is a file
 pub position_found : (o : Option OpenFile) (n : ℕ) → Some n ≡ option_map kept_position o → (f : OpenFile) × ((o ≡ Some f) × (kept_position f ≡ n))

@@ -1,19 +1,13 @@
 -- Files beside a path at which nothing has names.
 use Rattle.std.proofs.Common.{ℕ, ◌≡◌, ◌||◌, ◌++◌, ◌∙◌, Bool, true, false, cond, List, [], ◌∷◌, length, map, Option, Some, None, is_some, refl, sym, ap, arith, append-nil}
-use Rattle.std.specs.Option.{option_and_then, option_map}
+use Rattle.lfs_fs.proofs.Common.{option_map, is_file, directory_names, without_prefix, same_path, Slot, Struct, Inline, Ctz, Branch, Path, struct_node, struct_list_bytes, all_entries, path_itself, AllByRecursion, has_file, TreeState, shown_tree, RuntimeFiles, files_view, readers_among}
+use Rattle.std.specs.Option.{option_and_then}
 use Rattle.lfs_model.proofs.Orders.{length_in_order}
 use Rattle.lfs_model.specs.declared.order.NameOrder.TheVariants.{ShorterFirst}
-use Rattle.lfs_model.specs.session.TreeEdits.{is_file, directory_names, without_prefix, same_path}
-use Rattle.lfs_model.specs.format.Slots.{Slot, Struct, Inline, Ctz, Branch}
-use Rattle.lfs_model.specs.tree.Tree.{EntryMap, Path, branch_address, struct_node, root_slot, slot_at_path, beneath_slot}
+use Rattle.lfs_model.specs.tree.Tree.{EntryMap, branch_address, root_slot, slot_at_path, beneath_slot}
 use Rattle.lfs_model.specs.format.Thread.{root_address}
-use Rattle.lfs_model.specs.tree.Shown.{struct_list_bytes, all_entries}
-use Rattle.lfs_model.proofs.Paths.{path_itself, rest_from}
+use Rattle.lfs_model.proofs.Paths.{rest_from}
 use Rattle.lfs_model.proofs.Walks.{IsLeaf, leaf_walk, walk_append}
-use Rattle.std.specs.List.{AllByRecursion}
-use Rattle.lfs_model.specs.session.Session.{has_file}
-use Rattle.lfs_tree.specs.TreeState.{TreeState, tree_view}
-use Rattle.lfs_fs.specs.FileView.{RuntimeFiles, files_view, readers_among}
 use Rattle.lfs_fs.specs.declared.files.OpenFile.TheVariants as file
 
 -- ---- nothing is beneath what has no names
@@ -55,11 +49,11 @@ none_there None e = refl
 none_there (Some x) e = absurd (cc)
 
 -- a file that is there isn't beneath the path
-pub beside : (t : TreeState) (q x : Path) → length (directory_names (tree_view t q)) ≡ 0 → is_file (tree_view t x) ≡ true → same_path q x ≡ false → without_prefix q x ≡ None
+pub beside : (t : TreeState) (q x : Path) → length (directory_names (shown_tree t q)) ≡ 0 → is_file (shown_tree t x) ≡ true → same_path q x ≡ false → without_prefix q x ≡ None
 beside t q x bare there apart = go (without_prefix q x) refl
   where
     go : (o : Option Path) → without_prefix q x ≡ o → o ≡ None
     go None e = refl
     go (Some []) e = absurd (let k = sym apart ∙ ap (same_path q) (rest_from q x [] e ∙ append-nil q) ∙ path_itself q in cc)
     go (Some (m ∷ r)) e =
-        absurd (let k = sym there ∙ ap (λ y. is_file (tree_view t y)) (rest_from q x (m ∷ r) e) ∙ ap is_file (bare_beneath (struct_list_bytes t.disk) (all_entries t.pairs) (root_slot (root_address t.pairs)) q m r bare) in cc)
+        absurd (let k = sym there ∙ ap (λ y. is_file (shown_tree t y)) (rest_from q x (m ∷ r) e) ∙ ap is_file (bare_beneath (struct_list_bytes t.disk) (all_entries t.pairs) (root_slot (root_address t.pairs)) q m r bare) in cc)

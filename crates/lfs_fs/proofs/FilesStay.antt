@@ -1,26 +1,13 @@
 -- The open files stay while the tree changes beside them.
 use Rattle.std.proofs.Common.{ℕ, ◌≡◌, ◌+◌, ◌-◌, ◌≤◌, ◌⊎◌, ◌∙◌, inl, inr, Bool, true, false, List, [], ◌∷◌, length, Option, Some, None, is_none, is_some, refl, sym, ap, ap₂, subst, arith}
 use Rattle.std.specs.Prelude.{◌||◌, if◌then◌else◌, sum_by}
-use Rattle.std.specs.List.{AllByRecursion, list_any}
-use Rattle.lfs_model.specs.session.TreeEdits.{file_bytes, is_file}
-use Rattle.lfs_model.specs.layers.BlockSets.{IsInFlight, in_flight_count}
+use Rattle.lfs_fs.proofs.Common.{AllByRecursion, list_any, file_bytes, is_file, IsInFlight, in_flight_count, block_count, inline_limit, Operation, Reading, Writing, reserved_for_writers, reserved_for_writer, Path, few_flying, in_flight-freed, AreTreeContents, InlineWithinLimit, writer_contents_bytes, IsApplied, IsSoundState, TreeState, tree_summary, shown_tree, contents_form, ContentsForm, IsWriterForm, RuntimeFiles, unsaved_or_tree, change_end, files_view, has_unsaved, reserved_by_writers, reserved_by, reserved_for, reader_view, readers_among, is_unsaved_turned, writer_view, writers_among, writers_paths, AreUnsavedContents, IsReady, AreUnsavedIfAny, IsWriterReady, takes_away, StayReady, KeepsWriters, ConcernsNoFile}
 use Rattle.lfs_model.specs.declared.limits.Profile.{Profile}
-use Rattle.lfs_model.specs.format.Disk.{block_count, inline_limit}
-use Rattle.lfs_model.specs.session.Operations.{Operation}
 use Rattle.lfs_model.specs.session.Session as session
-use Rattle.lfs_model.specs.session.Session.{Reading, Writing, reserved_for_writers, reserved_for_writer}
-use Rattle.lfs_model.specs.tree.Tree.{Path}
-use Rattle.lfs_model.proofs.BlockCounts.{few_flying, in_flight-freed}
-use Rattle.lfs_tree.specs.OpenContents.{OverTreeFile, InlineUpToLimit, writer_contents_bytes, kept_thread}
-use Rattle.lfs_tree.specs.TreeState.{IsApplied, IsSoundState, TreeState, tree_summary, tree_view}
-use Rattle.lfs_file.specs.Contents.{contents_form}
-use Rattle.lfs_file.specs.Form.{StorageForm, FitsWriterForm, form_in_flight}
+use Rattle.lfs_tree.specs.OpenContents.{kept_thread}
+use Rattle.lfs_file.specs.Form.{form_in_flight}
 use Rattle.lfs_file.specs.declared.contents.WriterContents.{WriterContents}
-use Rattle.lfs_fs.specs.FileView.{RuntimeFiles, unsaved_or_tree, change_end, files_view, has_unsaved, reserved_by_writers, reserved_by, reserved_for, reader_view, readers_among, is_unsaved_nonsequential, writer_view, writers_among, writers_paths}
-use Rattle.lfs_fs.specs.SessionView.{AreUnsaved, IsReady, AreUnsavedOrNone, IsWriterReady}
-use Rattle.lfs_model.specs.layers.Keeping.{takes_away}
-use Rattle.lfs_tree.specs.KeptFiles.{operation_blocks}
-use Rattle.lfs_fs.specs.OpenFilesStay.{StayReady, KeepsWriters, ConcernsNoFile}
+use Rattle.lfs_tree.specs.KeptFiles.{operation_room}
 use Rattle.lfs_fs.specs.declared.files.OpenFile.TheVariants as file
 use Rattle.lfs_fs.specs.declared.files.UnsavedContents.{UnsavedContents}
 use Rattle.lfs_fs.specs.declared.files.Writer.{Writer}
@@ -42,43 +29,43 @@ the_first a b c n h = omega arith
 
 -- ---- a writer
 
-module _ (over : (old new : TreeState) (op : Operation) (path : Path) (c : WriterContents) → OverTreeFile old path c → IsSoundState old → IsApplied old op new → takes_away op path ≡ false → OverTreeFile new path c)
-    (bytes : (old new : TreeState) (op : Operation) (path : Path) (c : WriterContents) → OverTreeFile old path c → IsSoundState old → IsApplied old op new → takes_away op path ≡ false → writer_contents_bytes (kept_thread new) c ≡ writer_contents_bytes (kept_thread old) c)
-    (few : (old new : TreeState) (op : Operation) → IsSoundState old → old.writable ≡ true → IsApplied old op new → length (tree_summary new).used ≤ length (tree_summary old).used + operation_blocks op)
+module _ (over : (old new : TreeState) (op : Operation) (path : Path) (c : WriterContents) → AreTreeContents old path c → IsSoundState old → IsApplied old op new → takes_away op path ≡ false → AreTreeContents new path c)
+    (bytes : (old new : TreeState) (op : Operation) (path : Path) (c : WriterContents) → AreTreeContents old path c → IsSoundState old → IsApplied old op new → takes_away op path ≡ false → writer_contents_bytes (kept_thread new) c ≡ writer_contents_bytes (kept_thread old) c)
+    (few : (old new : TreeState) (op : Operation) → IsSoundState old → old.writable ≡ true → IsApplied old op new → length (tree_summary new).used ≤ length (tree_summary old).used + operation_room op)
     (old new : TreeState) (op : Operation) (sound : IsSoundState old) (carried : IsApplied old op new) where
-  same_bytes : (w : Writer) (u : Option UnsavedContents) → AreUnsavedOrNone old w u → takes_away op w.path ≡ false → file_bytes (tree_view new w.path) ≡ file_bytes (tree_view old w.path) → unsaved_or_tree new w.path u ≡ unsaved_or_tree old w.path u
+  same_bytes : (w : Writer) (u : Option UnsavedContents) → AreUnsavedIfAny old w u → takes_away op w.path ≡ false → file_bytes (shown_tree new w.path) ≡ file_bytes (shown_tree old w.path) → unsaved_or_tree new w.path u ≡ unsaved_or_tree old w.path u
   same_bytes w None h off stays = stays
   same_bytes w (Some u) h off stays = bytes old new op w.path u.contents h.over sound carried off
 
-  same_writer : (w : Writer) → IsWriterReady old w → takes_away op w.path ≡ false → file_bytes (tree_view new w.path) ≡ file_bytes (tree_view old w.path) → writer_view new w ≡ writer_view old w
+  same_writer : (w : Writer) → IsWriterReady old w → takes_away op w.path ≡ false → file_bytes (shown_tree new w.path) ≡ file_bytes (shown_tree old w.path) → writer_view new w ≡ writer_view old w
   same_writer w h off stays = ap make (same_bytes w w.unsaved h.changed off stays)
     where
       make : List ℕ → session.FileWriter
-      make xs = record { path = w.path; contents = xs; position = w.position; append = w.appends; dirty = is_some w.unsaved; turned = is_unsaved_nonsequential w.unsaved; last_end = change_end w.unsaved }
+      make xs = record { path = w.path; contents = xs; position = w.position; append = w.appends; dirty = is_some w.unsaved; turned = is_unsaved_turned w.unsaved; last_end = change_end w.unsaved }
 
   abbrev HasRoom : Writer → Type 0
-  HasRoom w = (operation_blocks op ≡ 0) ⊎ (length (tree_summary old).used + reserved_by old.disk.profile old.disk.block_size w + operation_blocks op ≤ block_count old.disk)
+  HasRoom w = (operation_room op ≡ 0) ⊎ (length (tree_summary old).used + reserved_by old.disk.profile old.disk.block_size w + operation_room op ≤ block_count old.disk)
 
-  still_fits : (w : Writer) (u : UnsavedContents) → old.writable ≡ true → w.unsaved ≡ Some u → AreUnsaved old w u → HasRoom w → length (tree_summary new).used + reserved_for new.disk.profile new.disk.block_size u.has_turned w.size ≤ block_count new.disk
+  still_fits : (w : Writer) (u : UnsavedContents) → old.writable ≡ true → w.unsaved ≡ Some u → AreUnsavedContents old w u → HasRoom w → length (tree_summary new).used + reserved_for new.disk.profile new.disk.block_size u.has_turned w.size ≤ block_count new.disk
   still_fits w u writable is c room =
       subst (λ n. length (tree_summary new).used + reserved_for new.disk.profile n u.has_turned w.size ≤ block_count new.disk) (sym carried.geometry.block_size)
       (subst (λ k. length (tree_summary new).used + reserved_for k old.disk.block_size u.has_turned w.size ≤ block_count new.disk) (sym carried.geometry.profile) (go room))
     where
       go : HasRoom w → length (tree_summary new).used + reserved_for old.disk.profile old.disk.block_size u.has_turned w.size ≤ block_count new.disk
-      go (inl none) = room_still _ (length (tree_summary old).used) (operation_blocks op) _ _ (block_count old.disk) (few old new op sound writable carried) none c.room carried.geometry.count
-      go (inr r) = room_enough _ (length (tree_summary old).used) (operation_blocks op) _ _ (block_count old.disk) (few old new op sound writable carried)
-          (subst (λ n. length (tree_summary old).used + n + operation_blocks op ≤ block_count old.disk) (ap (λ o. if is_none o then 0 else reserved_for old.disk.profile old.disk.block_size (is_unsaved_nonsequential o) w.size) is) r) carried.geometry.count
+      go (inl none) = room_still _ (length (tree_summary old).used) (operation_room op) _ _ (block_count old.disk) (few old new op sound writable carried) none c.room carried.geometry.count
+      go (inr r) = room_enough _ (length (tree_summary old).used) (operation_room op) _ _ (block_count old.disk) (few old new op sound writable carried)
+          (subst (λ n. length (tree_summary old).used + n + operation_room op ≤ block_count old.disk) (ap (λ o. if is_none o then 0 else reserved_for old.disk.profile old.disk.block_size (is_unsaved_turned o) w.size) is) r) carried.geometry.count
 
-  still_changed : (w : Writer) (u : UnsavedContents) → IsWriterReady old w → w.unsaved ≡ Some u → takes_away op w.path ≡ false → file_bytes (tree_view new w.path) ≡ file_bytes (tree_view old w.path) → AreUnsaved old w u → HasRoom w → AreUnsaved new w u
+  still_changed : (w : Writer) (u : UnsavedContents) → IsWriterReady old w → w.unsaved ≡ Some u → takes_away op w.path ≡ false → file_bytes (shown_tree new w.path) ≡ file_bytes (shown_tree old w.path) → AreUnsavedContents old w u → HasRoom w → AreUnsavedContents new w u
   still_changed w u h is off stays c room = record {
     over = over old new op w.path u.contents c.over sound carried off;
-    kept = subst (λ n. FitsWriterForm new.disk.profile n (contents_form u.contents) (writer_view new w)) (sym carried.geometry.block_size)
-        (subst (λ k. FitsWriterForm k old.disk.block_size (contents_form u.contents) (writer_view new w)) (sym carried.geometry.profile) (subst (FitsWriterForm old.disk.profile old.disk.block_size (contents_form u.contents)) (sym (same_writer w h off stays)) c.kept));
-    form = subst (λ n. InlineUpToLimit n (contents_form u.contents)) (ap₂ inline_limit (sym carried.geometry.profile) (sym carried.geometry.block_size)) c.form;
+    kept = subst (λ n. IsWriterForm new.disk.profile n (contents_form u.contents) (writer_view new w)) (sym carried.geometry.block_size)
+        (subst (λ k. IsWriterForm k old.disk.block_size (contents_form u.contents) (writer_view new w)) (sym carried.geometry.profile) (subst (IsWriterForm old.disk.profile old.disk.block_size (contents_form u.contents)) (sym (same_writer w h off stays)) c.kept));
+    form = subst (λ n. InlineWithinLimit n (contents_form u.contents)) (ap₂ inline_limit (sym carried.geometry.profile) (sym carried.geometry.block_size)) c.form;
     room = still_fits w u h.writable is c room;
   }
 
-  still_written : (w : Writer) → IsWriterReady old w → takes_away op w.path ≡ false → (is_file (tree_view new w.path) ≡ true) × (file_bytes (tree_view new w.path) ≡ file_bytes (tree_view old w.path)) → HasRoom w → IsWriterReady new w
+  still_written : (w : Writer) → IsWriterReady old w → takes_away op w.path ≡ false → (is_file (shown_tree new w.path) ≡ true) × (file_bytes (shown_tree new w.path) ≡ file_bytes (shown_tree old w.path)) → HasRoom w → IsWriterReady new w
   still_written w h off keeps room = record {
     writable = carried.writable;
     settled = carried.recovered.gstate;
@@ -87,18 +74,18 @@ module _ (over : (old new : TreeState) (op : Operation) (path : Path) (c : Write
     changed = go w.unsaved refl h.changed;
   }
     where
-      go : (u : Option UnsavedContents) → w.unsaved ≡ u → AreUnsavedOrNone old w u → AreUnsavedOrNone new w u
+      go : (u : Option UnsavedContents) → w.unsaved ≡ u → AreUnsavedIfAny old w u → AreUnsavedIfAny new w u
       go None is c = tt
       go (Some u) is c = still_changed w u h is off keeps.1 c room
 
   -- ---- all files
 
   still_all : (ws : List Writer) → length ws ≤ 1 → AllByRecursion (IsWriterReady old) ws → AllByRecursion (λ w. takes_away op w.path ≡ false) ws → KeepsWriters old new ws →
-      (operation_blocks op ≡ 0) ⊎ (length (tree_summary old).used + sum_by (reserved_by old.disk.profile old.disk.block_size) ws + operation_blocks op ≤ block_count old.disk) → AllByRecursion (IsWriterReady new) ws
+      (operation_room op ≡ 0) ⊎ (length (tree_summary old).used + sum_by (reserved_by old.disk.profile old.disk.block_size) ws + operation_room op ≤ block_count old.disk) → AllByRecursion (IsWriterReady new) ws
   still_all [] one h off keeps room = tt
   still_all (w ∷ []) one h off keeps room = (still_written w h.0 off.0 keeps.0 (go room), tt)
     where
-      go : (operation_blocks op ≡ 0) ⊎ (length (tree_summary old).used + sum_by (reserved_by old.disk.profile old.disk.block_size) (w ∷ []) + operation_blocks op ≤ block_count old.disk) → HasRoom w
+      go : (operation_room op ≡ 0) ⊎ (length (tree_summary old).used + sum_by (reserved_by old.disk.profile old.disk.block_size) (w ∷ []) + operation_room op ≤ block_count old.disk) → HasRoom w
       go (inl none) = inl none
       go (inr r) = inr (the_first _ _ _ _ r)
   still_all (w ∷ v ∷ ws) one h off keeps room = absurd (omega (arith, one))
@@ -126,19 +113,19 @@ module _ (over : (old new : TreeState) (op : Operation) (path : Path) (c : Write
       never : has_unsaved files ≡ false → (b : ℕ) → IsInFlight old.map b → ⊥
       never saved b h = let k = in_flight-freed old.map b h in let none = ready.idle saved in absurd (omega (arith, k, none))
 
-      by_size : (operation_blocks op ≡ 0) ⊎ (length (tree_summary old).used + reserved_for_writers old.disk.profile old.disk.block_size (files_view old files) + operation_blocks op ≤ block_count old.disk) →
-          (operation_blocks op ≡ 0) ⊎ (length (tree_summary old).used + reserved_by_writers old.disk.profile old.disk.block_size files + operation_blocks op ≤ block_count old.disk)
+      by_size : (operation_room op ≡ 0) ⊎ (length (tree_summary old).used + reserved_for_writers old.disk.profile old.disk.block_size (files_view old files) + operation_room op ≤ block_count old.disk) →
+          (operation_room op ≡ 0) ⊎ (length (tree_summary old).used + reserved_by_writers old.disk.profile old.disk.block_size files + operation_room op ≤ block_count old.disk)
       by_size (inl none) = inl none
-      by_size (inr r) = inr (subst (λ n. length (tree_summary old).used + n + operation_blocks op ≤ block_count old.disk) (sym (held_is old.disk.profile old.disk.block_size old files ready)) r)
+      by_size (inr r) = inr (subst (λ n. length (tree_summary old).used + n + operation_room op ≤ block_count old.disk) (sym (held_is old.disk.profile old.disk.block_size old files ready)) r)
 
 -- ---- blocks in flight
 
 fewer : (flying form reserved_for_writers by all : ℕ) → flying ≤ form → form ≤ reserved_for_writers - 2 → by ≡ reserved_for_writers → all ≡ 0 + by → flying ≤ all
 fewer flying form reserved_for_writers by all a b c d = omega arith
 
-module _ (flying : (t : TreeState) (path : Path) (c : WriterContents) → OverTreeFile t path c → in_flight_count t.map ≤ form_in_flight t.disk.block_size (contents_form c))
-    (covers : (profile : Profile) (block_size : ℕ) (form : StorageForm) (w : session.FileWriter) → FitsWriterForm profile block_size form w → form_in_flight block_size form ≤ reserved_for_writer profile block_size w - 2) (t : TreeState) where
-  of_writer : (w : Writer) (u : Option UnsavedContents) → w.unsaved ≡ u → IsWriterReady t w → AreUnsavedOrNone t w u → (is_some u || false) ≡ true → in_flight_count t.map ≤ sum_by (reserved_by t.disk.profile t.disk.block_size) (w ∷ [])
+module _ (flying : (t : TreeState) (path : Path) (c : WriterContents) → AreTreeContents t path c → in_flight_count t.map ≤ form_in_flight t.disk.block_size (contents_form c))
+    (covers : (profile : Profile) (block_size : ℕ) (form : ContentsForm) (w : session.FileWriter) → IsWriterForm profile block_size form w → form_in_flight block_size form ≤ reserved_for_writer profile block_size w - 2) (t : TreeState) where
+  of_writer : (w : Writer) (u : Option UnsavedContents) → w.unsaved ≡ u → IsWriterReady t w → AreUnsavedIfAny t w u → (is_some u || false) ≡ true → in_flight_count t.map ≤ sum_by (reserved_by t.disk.profile t.disk.block_size) (w ∷ [])
   of_writer w None is h c e = absurd (cc)
   of_writer w (Some u) is h c e =
       fewer _ _ _ _ _ (flying t w.path u.contents c.over) (covers t.disk.profile t.disk.block_size (contents_form u.contents) (writer_view t w) c.kept) (held_one t.disk.profile t.disk.block_size t w h.size) refl

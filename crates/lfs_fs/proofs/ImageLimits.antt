@@ -3,53 +3,39 @@ use Rattle.std.proofs.Common.{ℕ, ◌≡◌, ◌<◌, ◌∙◌, inl, inr, Bool
 use Rattle.std.specs.Prelude.{All, IfErr, IfOk, OnOk, nat_eq}
 use Rattle.std.specs.List.{IsDistinct}
 use Rattle.std.proofs.lemmas.List.Elements.{All-weaker}
-use Rattle.lfs_device.specs.DeviceDisk.{profiled_disk}
-use Rattle.lfs_model.specs.format.Disk.{ordered_disk, Disk, block_count}
+use Rattle.lfs_fs.proofs.Common.{profiled_disk, ordered_disk, Disk, block_count, OnlyReadsSince-trans, one_thread, content_at, CallEvent, OnlyReadsSince, fault_count, IsMounted, OpenFilesByNumber, SessionHealth, all_unmoved_slots, struct_blocks, used_blocks, Slot, Struct, Inline, Ctz, Branch, Pair, pairs_blocks, IsAccepted, disk_of_device, TreeState, OnlyReadsTree, RuntimeFiles, files_view, HasSessionInvariant, LeftConforming, ReturnsUnchangedDevice, SessionView, session_view, view_with_files, system_state}
 use Rattle.lfs_device.specs.declared.device.BlockDevice.{Ghosts}
 use Rattle.lfs_device.specs.declared.error.Error.{Error}
 use Rattle.lfs_device.specs.declared.error.Error.TheVariants.{Corrupt}
-use Rattle.lfs_model.proofs.Histories.{OnlyReadsSince-trans}
-use Rattle.lfs_model.proofs.Uniqueness.{one_thread}
-use Rattle.lfs_model.specs.format.Content.{content_at}
 use Rattle.lfs_model.specs.format.EntryTypes.{SuperblockFields, superblock_fields}
-use Rattle.lfs_model.specs.session.History.{CallEvent, OnlyReadsSince, fault_count}
 use Rattle.lfs_model.specs.tree.Profile.{are_usable, with_limits, image_fields}
-use Rattle.lfs_model.specs.crash.RepeatedPowerLoss.{IsMounted}
-use Rattle.lfs_model.specs.session.Session.{OpenFilesByNumber}
-use Rattle.lfs_model.specs.session.State.{SessionHealth}
-use Rattle.lfs_model.specs.tree.Shown.{all_slots_not_moved, struct_blocks, used_blocks}
-use Rattle.lfs_model.specs.format.Slots.{Slot, Struct, Inline, Ctz, Branch}
-use Rattle.lfs_model.specs.format.Thread.{Pair, blocks_of_pairs}
-use Rattle.lfs_model.specs.tree.View.{IsAccepted, IsWellFormedCtz, BeginsWithSuperblock, accepts_version, chain_pairs}
+use Rattle.lfs_model.specs.tree.View.{IsFormedList, BeginsWithSuperblock, accepts_version, chain_pairs}
 use Rattle.lfs_model.specs.declared.limits.Profile.{Profile}
 use Rattle.lfs_model.specs.declared.order.NameOrder.{NameOrder}
 use Rattle.lfs_model.specs.declared.order.NameOrder.TheVariants.{LongerFirst, ShorterFirst}
-use Rattle.lfs_thread.specs.Kept.{disk_of_device}
-use Rattle.lfs_tree.specs.TreeState.{TreeState, OnlyReadsTreeOrFails, OnlyReadsTree}
-use Rattle.lfs_fs.specs.FileView.{RuntimeFiles, files_view}
-use Rattle.lfs_fs.specs.DeviceLaws.{HasInvariant, LeftConforming}
-use Rattle.lfs_fs.specs.ImageLimits.{FailedByRead, BeginsLimited, ReturnsUnchangedDeviceByAnyProfile, WasSessionRead}
-use Rattle.lfs_fs.specs.SessionView.{BeginsByMount, SessionView, view_of_session, view_of_files, system_state}
+use Rattle.lfs_tree.specs.TreeState.{ReadsTreeOrFails}
+use Rattle.lfs_fs.specs.ImageLimits.{FailedByRead, BeginsLimited, OnlyReadsSession}
+use Rattle.lfs_fs.specs.SessionView.{BeginsByMount}
 use Rattle.lfs_fs.proofs.Answered.{asked_ready}
 
 -- ---- a session that is only read
 
-was_read : (t new : TreeState) (files : RuntimeFiles) (now : SessionView) → view_of_session t files ≡ now → false ≡ t.failed → OnlyReadsTree t new → WasSessionRead now (view_of_session new files)
+was_read : (t new : TreeState) (files : RuntimeFiles) (now : SessionView) → session_view t files ≡ now → false ≡ t.failed → OnlyReadsTree t new → OnlyReadsSession now (session_view new files)
 was_read t new files now is works asked =
-    subst (λ h. WasSessionRead h (view_of_session new files)) is (record { works = sym works; tree = asked; files = ap (λ z. files_view z files) asked.same })
+    subst (λ h. OnlyReadsSession h (session_view new files)) is (record { works = sym works; tree = asked; files = ap (λ z. files_view z files) asked.same })
 
-pub read_if_ok : {A : Type 0} (t new : TreeState) (files : RuntimeFiles) (now : SessionView) (r : Result A Error) → view_of_session t files ≡ now → false ≡ t.failed → OnOk r (OnlyReadsTree t new) → OnOk r (WasSessionRead now (view_of_session new files))
+pub read_if_ok : {A : Type 0} (t new : TreeState) (files : RuntimeFiles) (now : SessionView) (r : Result A Error) → session_view t files ≡ now → false ≡ t.failed → OnOk r (OnlyReadsTree t new) → OnOk r (OnlyReadsSession now (session_view new files))
 read_if_ok t new files now (Ok x) is works asked = was_read t new files now is works asked
 read_if_ok t new files now (Err e) is works asked = tt
 
-pub ready_if_read : {A : Type 0} (t new : TreeState) (files : RuntimeFiles) (r : Result A Error) → HasInvariant t files → OnlyReadsTreeOrFails t r new → LeftConforming new → HasInvariant new files
+pub ready_if_read : {A : Type 0} (t new : TreeState) (files : RuntimeFiles) (r : Result A Error) → HasSessionInvariant t files → ReadsTreeOrFails t r new → LeftConforming new → HasSessionInvariant new files
 ready_if_read t new files (Ok x) between reads left = record { ready = asked_ready t new files between.ready reads.asked; reported = λ works. left }
 ready_if_read t new files (Err e) between reads left = record { ready = λ works. absurd (let k = sym reads.broken.failed ∙ works in cc); reported = λ works. left }
 
 -- ---- one image, by two profiles of the same versions
 
 module _ (disk : Disk) (from to : Profile) (same : from.versions ≡ to.versions) where
-  is_list : (s : Struct) → IsWellFormedCtz (profiled_disk from disk) s → IsWellFormedCtz (profiled_disk to disk) s
+  is_list : (s : Struct) → IsFormedList (profiled_disk from disk) s → IsFormedList (profiled_disk to disk) s
   is_list (Inline bytes) ok = ok
   is_list (Ctz head size) ok = ok
   is_list (Branch at) ok = ok
@@ -60,7 +46,7 @@ module _ (disk : Disk) (from to : Profile) (same : from.versions ≡ to.versions
   files (Branch at) = refl
 
   used : (ps : List Pair) → used_blocks (profiled_disk from disk) ps ≡ used_blocks (profiled_disk to disk) ps
-  used ps = ap (λ (f : Struct → List ℕ). blocks_of_pairs ps ++ flat_map (λ (s : Slot). f s.struct) (all_slots_not_moved ps)) (λ i s. files s i)
+  used ps = ap (λ (f : Struct → List ℕ). pairs_blocks ps ++ flat_map (λ (s : Slot). f s.struct) (all_unmoved_slots ps)) (λ i s. files s i)
 
   pub accepted_by : (ps : List Pair) → IsAccepted (profiled_disk from disk) ps → IsAccepted (profiled_disk to disk) ps
   accepted_by ps ok =
@@ -83,7 +69,7 @@ module _ (disk : Disk) (from to : Profile) (same : from.versions ≡ to.versions
         once = ok.once;
         reached = ok.reached;
         move = ok.move;
-        lists = All-weaker (λ (s : Slot). IsWellFormedCtz (profiled_disk from disk) s.struct) (λ (s : Slot). IsWellFormedCtz (profiled_disk to disk) s.struct) (λ s. is_list s.struct) (all_slots_not_moved ps) ok.lists;
+        lists = All-weaker (λ (s : Slot). IsFormedList (profiled_disk from disk) s.struct) (λ (s : Slot). IsFormedList (profiled_disk to disk) s.struct) (λ s. is_list s.struct) (all_unmoved_slots ps) ok.lists;
         owned_once = subst (IsDistinct nat_eq) (used ps) ok.owned_once;
       }
 
@@ -116,7 +102,7 @@ same_pairs disk order other from to ps qs one two = one_thread (content_at disk)
 
 -- ---- a mounted session that was only read since then
 
-begun_read : (disk : Disk) (history : List CallEvent) (s new : SessionView) → BeginsByMount disk history s → WasSessionRead s new → BeginsByMount disk history new
+begun_read : (disk : Disk) (history : List CallEvent) (s new : SessionView) → BeginsByMount disk history s → OnlyReadsSession s new → BeginsByMount disk history new
 begun_read disk history s new begun read = record {
   works = ap (λ (t : TreeState). t.failed) read.tree.same ∙ begun.works;
   disk_is = ap (λ (t : TreeState). t.disk) read.tree.same ∙ begun.disk_is;
@@ -126,7 +112,7 @@ begun_read disk history s new begun read = record {
   no_files = read.files ∙ begun.no_files;
 }
 
-just_read : (disk : Disk) (s new : SessionView) → IsMounted disk (system_state s) → WasSessionRead s new → IsMounted disk (system_state new)
+just_read : (disk : Disk) (s new : SessionView) → IsMounted disk (system_state s) → OnlyReadsSession s new → IsMounted disk (system_state new)
 just_read disk s new just read = record {
   on = ap (λ (t : TreeState). t.disk) read.tree.same ∙ just.on;
   tree = just.tree;
@@ -135,7 +121,7 @@ just_read disk s new just read = record {
 }
   where
     state_of : TreeState → OpenFilesByNumber → SessionHealth
-    state_of t files = (system_state (view_of_files t files)).state
+    state_of t files = (system_state (view_with_files t files)).state
 
 -- ---- a mount by limits
 
@@ -155,7 +141,7 @@ module _ {D : Type 0} (g : Ghosts D) (device : D) (profile : Profile) (s read : 
 
   -- ---- where the image has the profile's limits
 
-  module _ (only : WasSessionRead s read) where
+  module _ (only : OnlyReadsSession s read) where
     is_below : below s.tree.disk.order profile ≡ below read.tree.disk.order read.tree.disk.profile
     is_below = ap₂ below (sym (ap (λ (t : TreeState). t.disk.order) only.tree.same)) (sym (ap (λ (t : TreeState). t.disk.profile) only.tree.same ∙ its_profile))
 
@@ -183,7 +169,7 @@ module _ {D : Type 0} (g : Ghosts D) (device : D) (profile : Profile) (s read : 
   read_on : read.tree.disk ≡ s.tree.disk → OnlyReadsSince s.tree.disk.blocks s.tree.history read.tree.history → OnlyReadsSince (g.blocks device) (g.history device) read.tree.history
   read_on same reads = OnlyReadsSince-trans begun.reads reads (ap (λ (d : Disk). d.blocks) begun.disk_is)
 
-  pub given_back : (kept : Profile) (inner back : D) → back ≡ inner → ordered_disk read.tree.disk.order (profiled_disk kept (disk_of_device g inner)) ≡ read.tree.disk → g.history inner ≡ read.tree.history → WasSessionRead s read → OnlyReadsDevice g device back
+  pub given_back : (kept : Profile) (inner back : D) → back ≡ inner → ordered_disk read.tree.disk.order (profiled_disk kept (disk_of_device g inner)) ≡ read.tree.disk → g.history inner ≡ read.tree.history → OnlyReadsSession s read → OnlyReadsDevice g device back
   given_back kept inner back is disk history only =
       let same = ap (λ (t : TreeState). t.disk) only.tree.same in
       subst (OnlyReadsDevice g device) (sym is) (record {
@@ -194,10 +180,10 @@ module _ {D : Type 0} (g : Ghosts D) (device : D) (profile : Profile) (s read : 
 
   -- where its superblock isn't read
   pub failing_back : (kept : Profile) (inner back : D) (e : Error) → back ≡ inner → ordered_disk read.tree.disk.order (profiled_disk kept (disk_of_device g inner)) ≡ read.tree.disk → g.history inner ≡ read.tree.history → FailedByRead s read e →
-      ReturnsUnchangedDeviceByAnyProfile g device back e
+      ReturnsUnchangedDevice g device back e
   failing_back kept inner back e is disk history (inl failed) = absurd (let k = sym failed.0 ∙ begun.works in cc)
   failing_back kept inner back e is disk history (inr (works, broken, error)) =
-      subst (λ d. ReturnsUnchangedDeviceByAnyProfile g device d e) (sym is) (record {
+      subst (λ d. ReturnsUnchangedDevice g device d e) (sym is) (record {
         disk = same_below kept inner disk broken.disk;
         reads = subst (OnlyReadsSince (g.blocks device) (g.history device)) (sym history) (read_on broken.disk broken.reads);
         fault = λ io. subst (λ n. n < fault_count (g.history inner)) begun.no_fault (subst (λ h. fault_count s.tree.history < fault_count h) (sym history) (error.fault io));
@@ -258,7 +244,7 @@ module _ {D : Type 0} (g : Ghosts D) (device : D) (profile : Profile) (s read : 
         corrupt is order ps (subst (λ d. IsAccepted d ps) (sym (again.disk order limits))
         (accepted_by (ordered_disk order (disk_of_device g device)) profile limits (sym (ap (λ (k : Profile). k.versions) limits_is ∙ same_versions fields profile)) ps ok))
 
-    back_again : (end : D) (e : Error) → ReturnsUnchangedDeviceByAnyProfile g back end e → ReturnsUnchangedDeviceByAnyProfile g device end e
+    back_again : (end : D) (e : Error) → ReturnsUnchangedDevice g back end e → ReturnsUnchangedDevice g device end e
     back_again end e given = record {
       disk = λ order k. given.disk order k ∙ again.disk order k;
       reads = OnlyReadsSince-trans again.reads given.reads (ap (λ (d : Disk). d.blocks) (again.disk LongerFirst limits));
@@ -266,6 +252,6 @@ module _ {D : Type 0} (g : Ghosts D) (device : D) (profile : Profile) (s read : 
       no_fault = λ other. given.no_fault other ∙ again.no_fault;
     }
 
-    pub back_if_err : {A : Type 0} (r : Result A (D × Error)) → IfErr r (λ e. ReturnsUnchangedDeviceByAnyProfile g back e.0 e.1) → IfErr r (λ e. ReturnsUnchangedDeviceByAnyProfile g device e.0 e.1)
+    pub back_if_err : {A : Type 0} (r : Result A (D × Error)) → IfErr r (λ e. ReturnsUnchangedDevice g back e.0 e.1) → IfErr r (λ e. ReturnsUnchangedDevice g device e.0 e.1)
     back_if_err (Ok x) given = tt
     back_if_err (Err e) given = back_again e.0 e.1 given

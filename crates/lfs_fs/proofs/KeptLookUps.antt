@@ -1,22 +1,12 @@
 -- Look-ups in directories that are cached, and a stat that has just brought them there.
 use Rattle.std.proofs.Common.{ℕ, ◌≡◌, List, [], ◌∷◌, Option, Some, None, Result, Ok, Err, unwrap_or, refl, sym, ap, subst, arith}
 use Rattle.std.specs.Prelude.{Contains, OnOk}
-use Rattle.std.proofs.lemmas.List.Elements.{All-contains, All-from_recursion, recursion_from_All}
+use Rattle.lfs_fs.proofs.Common.{All-from_recursion, pair_count_at, searched_directories, read_count, Operation, Refusal, parse_path, path_or_root, first_refusal, Pair, Path, each_weaker, AreFewSmall, HasCachedDirectories, TreeState, AddsNoReads, NothingIfCached, value_unless_refused}
+use Rattle.std.proofs.lemmas.List.Elements.{All-contains, recursion_from_All}
 use Rattle.lfs_device.specs.declared.error.Error.{Error}
 use Rattle.lfs_model.specs.layers.Cache.{cache_limit}
-use Rattle.lfs_model.specs.crash.Frame.{SearchesAgain, pair_count_at, searched_directories}
-use Rattle.lfs_model.specs.session.History.{read_count}
-use Rattle.lfs_model.specs.session.Operations.{Operation, Refusal, parse_path}
-use Rattle.lfs_model.specs.session.Refusals.{path_or_root}
-use Rattle.lfs_model.specs.session.Session.{first_refusal}
-use Rattle.lfs_model.specs.format.Thread.{Pair}
-use Rattle.lfs_model.specs.tree.Tree.{Path}
-use Rattle.lfs_model.proofs.Counts.{each_weaker}
-use Rattle.lfs_lookup.specs.CachedPairs.{AreLastUsed, AreFewSmall, pairs_at}
-use Rattle.lfs_tree.specs.TreeReads.{HasCachedDirectories}
-use Rattle.lfs_tree.specs.TreeState.{TreeState}
-use Rattle.lfs_fs.specs.LookUps.{AddsNoReads, NothingIfCached}
-use Rattle.lfs_fs.specs.Replies.{value_unless}
+use Rattle.lfs_model.specs.crash.Frame.{SearchesAgain}
+use Rattle.lfs_lookup.specs.CachedPairs.{AreLastUsed, pairs_at}
 use Rattle.lfs_fs.proofs.FewReads.{reads_over}
 
 -- ---- by the path of bytes
@@ -30,11 +20,11 @@ none_given old new f bytes p is h = subst (λ q. HasCachedDirectories old (f q) 
 
 -- what is found at the path passes the checks only where no parent refuses it
 pub hand_given : {A : Type 0} (old new : TreeState) (f : Path → List Path) (bytes : List ℕ) (p : Path) (fault : Option Refusal) (others : List (Option Refusal)) (x : A) (r : Result A Error) → Some p ≡ parse_path bytes
-    → r ≡ value_unless (first_refusal (fault ∷ others)) x → (AreFewSmall old.pairs (f p) → fault ≡ None → HasCachedDirectories new (f p)) → AreFewSmall old.pairs (f (path_or_root bytes)) → OnOk r (HasCachedDirectories new (f (path_or_root bytes)))
+    → r ≡ value_unless_refused (first_refusal (fault ∷ others)) x → (AreFewSmall old.pairs (f p) → fault ≡ None → HasCachedDirectories new (f p)) → AreFewSmall old.pairs (f (path_or_root bytes)) → OnOk r (HasCachedDirectories new (f (path_or_root bytes)))
 hand_given {A = A} old new f bytes p fault others x r is passes h small =
     go fault passes (subst (λ q. AreFewSmall old.pairs (f q) → fault ≡ None → HasCachedDirectories new (f q)) (given bytes p is) h small)
   where
-    go : (o : Option Refusal) → r ≡ value_unless (first_refusal (o ∷ others)) x → (o ≡ None → HasCachedDirectories new (f (path_or_root bytes))) → OnOk r (HasCachedDirectories new (f (path_or_root bytes)))
+    go : (o : Option Refusal) → r ≡ value_unless_refused (first_refusal (o ∷ others)) x → (o ≡ None → HasCachedDirectories new (f (path_or_root bytes))) → OnOk r (HasCachedDirectories new (f (path_or_root bytes)))
     go (Some refusal) e k = subst (λ (z : Result A Error). OnOk z (HasCachedDirectories new (f (path_or_root bytes)))) (sym e) tt
     go None e k = any r (k refl)
       where

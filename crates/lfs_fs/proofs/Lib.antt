@@ -52,3 +52,4 @@ pub mod Called
 pub mod WritersInPlace
 pub mod ImageLimits
 mod FileAnswers
+pub mod Common

@@ -1,31 +1,12 @@
 -- Open files, as they are kept and as the definitions have them.
 use Rattle.std.proofs.Common.{ℕ, zero, suc, fold, unwrap_or, ◌≡◌, ◌+◌, ◌<◌, ◌≤◌, ◌||◌, Bool, true, false, cond, not, List, [], ◌∷◌, ◌++◌, length, map, set, Option, Some, None, is_some, is_none, nat_le, nat_lt, refl, sym, ap, ap₂, subst, ◌∙◌, arith}
 use Rattle.std.specs.Prelude.{slice_get, sum_by}
-use Rattle.std.specs.List.{AllByRecursion, list_any}
-use Rattle.std.specs.Option.{option_flatten, option_map}
-use Rattle.std.proofs.lemmas.Bool.{lt-ltb, ltb-true}
-use Rattle.std.proofs.lemmas.Option.{same_Some}
+use Rattle.lfs_fs.proofs.Common.{AllByRecursion, list_any, option_flatten, option_map, lt-ltb, ltb-true, same_Some, inline_limit, contents_form, FormFitsWriter, ContentsForm, IsWriterForm, nat_tests, map-set, map-append, same_path, Path, has_file, Reading, file_numbered, free_number_of, reserved_for_writers, reserved_for_writer, files_with_file, file_reader, all_readers, all_writers, path_or_root, file_at_position, parse_path, block_count, lacks_free, TreeState, OnlyReadsTree, tree_summary, RuntimeFiles, prepended, selected_files, unsaved_or_tree, open_file_at, file_view, files_view, lowest_free, has_unsaved, is_open_where, is_unsaved_one, reserved_by_writers, reserved_by, reserved_for, file_with_known, file_with_position, runtime_files_with, reader_if_any, reader_view, readers_among, is_unsaved_turned, writer_if_any, writer_view, writers_among, writers_paths, HasKnownBlocks, IsCurrentReader, IsReady, AreUnsavedIfAny, IsWriterReady}
 use Rattle.lfs_model.specs.declared.limits.Profile.{Profile}
-use Rattle.lfs_model.specs.format.Disk.{inline_limit}
-use Rattle.lfs_file.specs.Contents.{contents_form}
 use Rattle.lfs_file.specs.Form as form
-use Rattle.lfs_file.specs.Form.{FormFitsWriter, StorageForm, FitsWriterForm}
-use Rattle.std.proofs.lemmas.Bool.Decides.{nat_tests}
-use Rattle.std.proofs.lemmas.List.{map-set, map-append}
 use Rattle.std.proofs.lemmas.Option.{slice_get-map}
-use Rattle.lfs_model.specs.session.TreeEdits.{same_path}
-use Rattle.lfs_model.specs.tree.Tree.{Path}
 use Rattle.lfs_model.specs.session.Session as session
-use Rattle.lfs_model.specs.session.Session.{has_file, Reading, file_numbered, free_number_of, reserved_for_writers, reserved_for_writer, files_with_file, file_reader, all_readers, all_writers}
-use Rattle.lfs_model.specs.session.Refusals.{path_or_root}
-use Rattle.lfs_model.specs.session.Effects.{file_at_position}
-use Rattle.lfs_model.specs.session.Operations.{parse_path}
-use Rattle.lfs_model.specs.format.Disk.{block_count}
-use Rattle.lfs_model.specs.session.Session.{lacks_free}
-use Rattle.lfs_tree.specs.TreeState.{TreeState, OnlyReadsTree, tree_summary}
 use Rattle.lfs_file.specs.declared.known.KnownBlocks.{KnownBlocks}
-use Rattle.lfs_fs.specs.FileView.{RuntimeFiles, prepended, selected_files, unsaved_or_tree, open_file_at, file_view, files_view, lowest_free, has_unsaved, is_open_where, is_unsaved_one, reserved_by_writers, reserved_by, reserved_for, file_with_known, file_with_position, runtime_files_with, reader_if_any, reader_view, readers_among, is_unsaved_nonsequential, writer_if_any, writer_view, writers_among, writers_paths}
-use Rattle.lfs_fs.specs.SessionView.{HasKnownBlocks, IsCurrentReader, IsReady, AreUnsavedOrNone, IsWriterReady}
 use Rattle.lfs_fs.specs.declared.files.OpenFile.{OpenFile}
 use Rattle.lfs_fs.specs.declared.files.OpenFile.TheVariants as file
 use Rattle.lfs_fs.specs.declared.files.Reader.{Reader}
@@ -95,9 +76,9 @@ busy t fs p = ap₂ (λ b n. b || nat_le 16 n) (sym (ap (list_any (λ w. same_pa
 -- ---- space
 
 pub held_one : (profile : Profile) (block_size : ℕ) (t : TreeState) (w : Writer) → length (unsaved_or_tree t w.path w.unsaved) ≡ w.size → reserved_by profile block_size w ≡ reserved_for_writer profile block_size (writer_view t w)
-held_one profile block_size t w e = sizes w.unsaved w.size ∙ ap (λ n. cond (not (is_some w.unsaved)) 0 (reserved_for profile block_size (is_unsaved_nonsequential w.unsaved) n)) (sym e)
+held_one profile block_size t w e = sizes w.unsaved w.size ∙ ap (λ n. cond (not (is_some w.unsaved)) 0 (reserved_for profile block_size (is_unsaved_turned w.unsaved) n)) (sym e)
   where
-    sizes : (u : Option UnsavedContents) (n : ℕ) → cond (is_none u) 0 (reserved_for profile block_size (is_unsaved_nonsequential u) n) ≡ cond (not (is_some u)) 0 (reserved_for profile block_size (is_unsaved_nonsequential u) n)
+    sizes : (u : Option UnsavedContents) (n : ℕ) → cond (is_none u) 0 (reserved_for profile block_size (is_unsaved_turned u) n) ≡ cond (not (is_some u)) 0 (reserved_for profile block_size (is_unsaved_turned u) n)
     sizes None n = refl
     sizes (Some u) n = refl
 
@@ -190,15 +171,15 @@ writers_put fs r = go (nat_lt (lowest_free fs) (length fs)) refl
     go true e = rw e (set_free fs)
     go false e = rw e (behind fs)
 
-kept_moved : (profile : Profile) (block_size place : ℕ) (shape : StorageForm) (w : session.FileWriter) → FitsWriterForm profile block_size shape w → FitsWriterForm profile block_size shape (record w { position = place })
+kept_moved : (profile : Profile) (block_size place : ℕ) (shape : ContentsForm) (w : session.FileWriter) → IsWriterForm profile block_size shape w → IsWriterForm profile block_size shape (record w { position = place })
 kept_moved profile block_size place shape w h = record { size = h.size; fits = fits shape h.fits }
   where
-    fits : (f : StorageForm) → FormFitsWriter (inline_limit profile block_size) f w → FormFitsWriter (inline_limit profile block_size) f (record w { position = place })
+    fits : (f : ContentsForm) → FormFitsWriter (inline_limit profile block_size) f w → FormFitsWriter (inline_limit profile block_size) f (record w { position = place })
     fits (form.InMemory size) h = h
     fits (form.Finished size flying) h = record { dirty = h.dirty; large = h.large; turned = h.turned }
     fits (form.InHand stop base flying) h = record { dirty = h.dirty; large = h.large; turned = h.turned; at_end = h.at_end }
 
-unsaved_moved_in : (t : TreeState) (w : Writer) (place : ℕ) (u : Option UnsavedContents) → AreUnsavedOrNone t w u → AreUnsavedOrNone t (record w { position = place }) u
+unsaved_moved_in : (t : TreeState) (w : Writer) (place : ℕ) (u : Option UnsavedContents) → AreUnsavedIfAny t w u → AreUnsavedIfAny t (record w { position = place }) u
 unsaved_moved_in t w place None h = tt
 unsaved_moved_in t w place (Some u) h = record { over = h.over; kept = kept_moved t.disk.profile t.disk.block_size place (contents_form u.contents) (writer_view t w) h.kept; form = h.form; room = h.room }
 

@@ -1,25 +1,9 @@
 -- What the readers among open files keep.
 use Rattle.std.proofs.Common.{ℕ, zero, suc, ◌≡◌, ◌||◌, ◌∙◌, Bool, true, false, cond, List, [], ◌∷◌, ◌++◌, length, map, set, nat_lt, unwrap_or, Option, Some, None, refl, sym, ap, subst}
-use Rattle.std.specs.List.{AllByRecursion, list_any}
-use Rattle.std.specs.Option.{option_map}
-use Rattle.std.proofs.lemmas.Option.{same_Some}
-use Rattle.lfs_model.specs.format.Disk.{Disk}
-use Rattle.lfs_model.specs.layers.Keeping.{takes_away}
-use Rattle.lfs_model.specs.session.Operations.{Operation}
-use Rattle.lfs_model.specs.tree.Shown.{struct_list_bytes, all_entries, tree_on_disk}
-use Rattle.lfs_model.specs.session.SlotEdits.{slot_of}
-use Rattle.lfs_model.specs.format.Slots.{Attributes, Slot}
-use Rattle.lfs_model.specs.format.Thread.{Pair}
-use Rattle.lfs_model.specs.tree.Tree.{Path, struct_node}
-use Rattle.lfs_model.specs.session.TreeEdits.{is_file, same_path}
-use Rattle.lfs_model.proofs.Paths.{path_from_same, path_itself}
-use Rattle.lfs_lookup.specs.FileContents.{IsStorageAt, AreContentsAt, contents_struct}
+use Rattle.lfs_fs.proofs.Common.{AllByRecursion, list_any, option_map, same_Some, Disk, takes_away, Operation, struct_list_bytes, all_entries, disk_tree, slot_of, Attributes, Slot, Pair, Path, struct_node, is_file, same_path, path_from_same, path_itself, IsStorageAt, contents_struct, KeepsOtherFiles, IsApplied, TreeState, kept_thread, shown_tree, RuntimeFiles, prepended, open_file_at, file_with_position, runtime_files_with, reader_if_any, readers_among, writers_among, writers_paths, AreCurrentReaders, IsCurrentReader}
+use Rattle.lfs_lookup.specs.FileContents.{AreContentsAt}
 use Rattle.lfs_lookup.specs.declared.file_contents.FileContents.{FileContents}
 use Rattle.lfs_lookup.specs.declared.file_contents.FileContents.TheVariants as contents
-use Rattle.lfs_tree.specs.KeptFiles.{KeepsOtherFiles}
-use Rattle.lfs_tree.specs.TreeState.{IsApplied, TreeState, kept_thread, tree_view}
-use Rattle.lfs_fs.specs.FileView.{RuntimeFiles, prepended, open_file_at, file_with_position, runtime_files_with, reader_if_any, readers_among, writers_among, writers_paths}
-use Rattle.lfs_fs.specs.SessionView.{AreCurrentReaders, IsCurrentReader}
 use Rattle.lfs_fs.specs.declared.files.OpenFile.{OpenFile}
 use Rattle.lfs_fs.specs.declared.files.OpenFile.TheVariants as file
 use Rattle.lfs_fs.specs.declared.files.Reader.{Reader}
@@ -28,7 +12,7 @@ use Rattle.lfs_fs.specs.declared.files.Writer.{Writer}
 -- ---- contents
 
 -- a file is where contents are
-pub contents_are_file : (disk : Disk) (ps : List Pair) (path : Path) (c : FileContents) → IsStorageAt ps path c → is_file (tree_on_disk disk ps path) ≡ true
+pub contents_are_file : (disk : Disk) (ps : List Pair) (path : Path) (c : FileContents) → IsStorageAt ps path c → is_file (disk_tree disk ps path) ≡ true
 contents_are_file disk ps path c h = go (slot_of ps path) h.struct
   where
     kind : (attributes : Attributes) (d : FileContents) → is_file (Some (struct_node (struct_list_bytes disk) (all_entries ps) attributes (contents_struct d))) ≡ true
@@ -40,7 +24,7 @@ contents_are_file disk ps path c h = go (slot_of ps path) h.struct
     go (Some u) e = subst (λ s. is_file (Some (struct_node (struct_list_bytes disk) (all_entries ps) u.attributes s)) ≡ true) (sym (same_Some u.struct (contents_struct c) e)) (kind u.attributes c)
 
 -- contents that are found are those of the file there
-pub found_contents : (t : TreeState) (path : Path) (o : Option FileContents) (x none : FileContents) → AreContentsAt (kept_thread t) path o → x ≡ unwrap_or o none → is_file (tree_view t path) ≡ true → IsStorageAt t.pairs path x
+pub found_contents : (t : TreeState) (path : Path) (o : Option FileContents) (x none : FileContents) → AreContentsAt (kept_thread t) path o → x ≡ unwrap_or o none → is_file (shown_tree t path) ≡ true → IsStorageAt t.pairs path x
 found_contents t path None x none found is there = absurd (let k = sym found ∙ there in cc)
 found_contents t path (Some c) x none found is there = subst (IsStorageAt t.pairs path) (sym is) found
 
@@ -176,7 +160,7 @@ other_way p q e = go (same_path q p) refl
     go true k = absurd (let l = sym e ∙ ap (λ z. same_path z q) (sym (path_from_same q p k)) ∙ path_itself q in cc)
 
 -- where the contents of a writer are stored at a path
-pub read_stored : (disk : Disk) (old new : List Pair) (path : Path) (written later : List Path) (rs : List Reader) → KeepsOtherFiles (tree_on_disk disk old) old path new → ((p : Path) → list_any (same_path p) written ≡ false → (same_path p path ≡ false) × (list_any (same_path p) later ≡ false))
+pub read_stored : (disk : Disk) (old new : List Pair) (path : Path) (written later : List Path) (rs : List Reader) → KeepsOtherFiles (disk_tree disk old) old path new → ((p : Path) → list_any (same_path p) written ≡ false → (same_path p path ≡ false) × (list_any (same_path p) later ≡ false))
     → AllByRecursion (IsCurrentReader old written) rs → AllByRecursion (IsCurrentReader new later) rs
 read_stored disk old new path written later rs keeps apart h =
     all_weaker (IsCurrentReader old written) (IsCurrentReader new later) (λ r k.
@@ -204,7 +188,7 @@ read_rewritten ps qs fs fd w v was now path same h =
 
 -- its contents were stored, and there is another entry in its place
 pub read_saved : (disk : Disk) (old new : List Pair) (fs : RuntimeFiles) (fd : ℕ) (entry : Option OpenFile) (path : Path) (later : List Path) → reader_if_any entry ≡ None → writers_paths fs ≡ path ∷ [] → writers_paths (set fs fd entry) ≡ later
-    → KeepsOtherFiles (tree_on_disk disk old) old path new → ((p : Path) → same_path p path ≡ false → list_any (same_path p) later ≡ false) → AreCurrentReaders old fs → AreCurrentReaders new (set fs fd entry)
+    → KeepsOtherFiles (disk_tree disk old) old path new → ((p : Path) → same_path p path ≡ false → list_any (same_path p) later ≡ false) → AreCurrentReaders old fs → AreCurrentReaders new (set fs fd entry)
 read_saved disk old new fs fd entry path later none was now keeps apart h =
     subst (λ written. AllByRecursion (IsCurrentReader new written) (readers_among (set fs fd entry))) (sym now)
     (all_set (IsCurrentReader new later) fs fd entry (subst (λ o. AllByRecursion (IsCurrentReader new later) (prepended o [])) (sym none) tt)

@@ -1,36 +1,11 @@
 -- A file that is opened for writing.
 use Rattle.std.proofs.Common.{append_assoc, ℕ, zero, suc, ◌≡◌, ◌∙◌, ◌+◌, ◌<◌, ◌≤◌, ◌||◌, ◌&&◌, Bool, true, false, not, nat_le, nat_lt, List, [], ◌∷◌, ◌++◌, length, map, set, Option, Some, None, Result, Ok, Err, refl, sym, ap, ap₂, subst, arith}
 use Rattle.std.specs.Prelude.{if◌then◌else◌, is_none, is_some}
-use Rattle.std.specs.List.{AllByRecursion, list_any}
-use Rattle.std.proofs.lemmas.Bool.{lt-ltb, ltb-true}
-use Rattle.std.proofs.lemmas.Bool.Decides.{nat_tests}
+use Rattle.lfs_fs.proofs.Common.{AllByRecursion, list_any, lt-ltb, ltb-true, nat_tests, tree_creating, file_bytes, is_directory, last_name, same_path, in_flight_count, block_count, CachedBlocks, CallEvent, FlagsOfOpen, parse_path, IsStep, OpenFilesByNumber, Session, Reading, Writing, free_number_of, reserved_for_writers, has_long_name, has_file, exceeds_charge, lacks_free, overfills_disk, parents_refusal, files_with_file, all_readers, all_writers, opened_writer, Healthy, path_or_root, operation_effect, node_file_size, DirectoryNode, FileNode, Node, Path, recovered_from, completed_step, CanCreateFile, error_refusal, OnlyReadsTree, IsFailedTree, IsApplied, HasErrorCause, IsSoundState, TreeState, tree_summary, shown_tree, CanOpenWriter, IsOpenedWriter, RuntimeFiles, open_file_at, files_view, lowest_free, has_unsaved, runtime_files_with, readers_among, writer_if_any, writer_view, writers_among, StepsOrFails, AreCurrentReaders, HasKnownBlocks, SessionView, IsReady, IsWriterReady, session_view, view_with_files, system_state, refusal_by_checks, viewed_session, reply_from, KeepsWriters}
 use Rattle.lfs_device.specs.declared.error.Error.{Error}
 use Rattle.lfs_device.specs.declared.error.Error.TheVariants.{NoMemory}
-use Rattle.lfs_model.specs.session.TreeEdits.{tree_creating, file_bytes, is_directory, last_name, same_path}
-use Rattle.lfs_model.specs.layers.BlockSets.{in_flight_count}
-use Rattle.lfs_model.specs.format.Disk.{block_count}
-use Rattle.lfs_model.specs.layers.Cache.{CachedBlocks}
-use Rattle.lfs_model.specs.session.History.{CallEvent}
 use Rattle.lfs_model.specs.session.Operations as ops
-use Rattle.lfs_model.specs.session.Operations.{FlagsOfOpen, parse_path}
-use Rattle.lfs_model.specs.session.Run.{IsStep}
 use Rattle.lfs_model.specs.session.Session as session
-use Rattle.lfs_model.specs.session.Session.{OpenFilesByNumber, Session, Reading, Writing, free_number_of, reserved_for_writers, has_long_name, has_file, is_over_charge, lacks_free, overfills_disk, parents_refusal, files_with_file, all_readers, all_writers}
-use Rattle.lfs_model.specs.session.Writers.{opened_writer}
-use Rattle.lfs_model.specs.session.State.{Healthy}
-use Rattle.lfs_model.specs.session.Refusals.{path_or_root}
-use Rattle.lfs_model.specs.session.Effects.{operation_effect, node_file_size}
-use Rattle.lfs_model.specs.tree.Tree.{DirectoryNode, FileNode, Node, Path}
-use Rattle.lfs_model.proofs.Committed.{recovered_from}
-use Rattle.lfs_model.proofs.StepsMade.{completed_step}
-use Rattle.lfs_tree.specs.Permissions.{CanCreateFile}
-use Rattle.lfs_lookup.specs.RefusalErrors.{error_refusal}
-use Rattle.lfs_tree.specs.TreeState.{OnlyReadsTree, IsFailedTree, IsApplied, HasErrorCause, IsSoundState, TreeState, tree_summary, tree_view}
-use Rattle.lfs_fs.specs.WriterChanges.{CanOpenWriter, IsOpenedWriter}
-use Rattle.lfs_fs.specs.FileView.{RuntimeFiles, open_file_at, files_view, lowest_free, has_unsaved, runtime_files_with, readers_among, writer_if_any, writer_view, writers_among}
-use Rattle.lfs_fs.specs.SessionView.{StepsOrFails, AreCurrentReaders, HasKnownBlocks, SessionView, IsReady, IsWriterReady, view_of_session, view_of_files, system_state, refusal_by_checks, viewed_session}
-use Rattle.lfs_fs.specs.Replies.{reply_from}
-use Rattle.lfs_fs.specs.OpenFilesStay.{KeepsWriters}
 use Rattle.lfs_fs.specs.declared.files.OpenFile.{OpenFile}
 use Rattle.lfs_fs.specs.declared.files.OpenFile.TheVariants as file
 use Rattle.lfs_fs.specs.declared.files.Writer.{Writer}
@@ -50,15 +25,15 @@ pub record IsPassed (h : SessionView) (bytes : List ℕ) (p : Path) (flags : Fla
   pub works : h.tree.failed ≡ false
   pub writable : h.tree.writable ≡ true
   pub given : is_some (parse_path bytes) ≡ true
-  pub parents : parents_refusal (tree_view h.tree) [] p ≡ None
-  pub name : (is_none (tree_view h.tree p) && flags.create && has_long_name (tree_summary h.tree) p) ≡ false
-  pub creates : (is_none (tree_view h.tree p) && not flags.create) ≡ false
-  pub directory : is_directory (tree_view h.tree p) ≡ false
+  pub parents : parents_refusal (shown_tree h.tree) [] p ≡ None
+  pub name : (is_none (shown_tree h.tree p) && flags.create && has_long_name (tree_summary h.tree) p) ≡ false
+  pub creates : (is_none (shown_tree h.tree p) && not flags.create) ≡ false
+  pub directory : is_directory (shown_tree h.tree p) ≡ false
   pub few : nat_lt 0 (length (all_writers h.files)) ≡ false
   pub closed : has_file (same_path p) h.files ≡ false
-  pub fits : (is_none (tree_view h.tree p) && is_over_charge (tree_summary h.tree) (last_name p) []) ≡ false
-  pub room : (is_none (tree_view h.tree p) && lacks_free (tree_summary h.tree) h.files 2) ≡ false
-  pub anew : (flags.truncate && overfills_disk (tree_summary h.tree) (opened_writer p flags (file_bytes (tree_view h.tree p)))) ≡ false
+  pub fits : (is_none (shown_tree h.tree p) && exceeds_charge (tree_summary h.tree) (last_name p) []) ≡ false
+  pub room : (is_none (shown_tree h.tree p) && lacks_free (tree_summary h.tree) h.files 2) ≡ false
+  pub anew : (flags.truncate && overfills_disk (tree_summary h.tree) (opened_writer p flags (file_bytes (shown_tree h.tree p)))) ≡ false
 
 both_false : (a b : Bool) → (a || b) ≡ false → (a ≡ false) × (b ≡ false)
 both_false true b e = absurd (cc)
@@ -100,8 +75,8 @@ not_less n m e = grind (arith, nat_tests)
 room_left : (n m k f l : ℕ) → f ≡ 0 → nat_lt n (m + k + l) ≡ false → m + f + l ≤ n
 room_left n m k f l none e = grind (arith, nat_tests)
 
-room_anew : (h : SessionView) (p : Path) (flags : FlagsOfOpen) (size : ℕ) → node_file_size (tree_view h.tree p) ≡ Some size →
-    (flags.truncate && overfills_disk (tree_summary h.tree) (opened_writer p flags (file_bytes (tree_view h.tree p)))) ≡ false → flags.truncate ≡ true → 1 ≤ size → length (tree_summary h.tree).used + 2 ≤ block_count h.tree.disk
+room_anew : (h : SessionView) (p : Path) (flags : FlagsOfOpen) (size : ℕ) → node_file_size (shown_tree h.tree p) ≡ Some size →
+    (flags.truncate && overfills_disk (tree_summary h.tree) (opened_writer p flags (file_bytes (shown_tree h.tree p)))) ≡ false → flags.truncate ≡ true → 1 ≤ size → length (tree_summary h.tree).used + 2 ≤ block_count h.tree.disk
 room_anew h p flags size sizes fits truncates some =
     not_less (block_count h.tree.disk) (length (tree_summary h.tree).used + 2)
     (sym (ap₂ (λ t s. t && nat_lt (block_count h.tree.disk) (length (tree_summary h.tree).used + (if s then 2 else 0))) truncates (lt-ltb 0 size (omega (arith, some))))
@@ -111,15 +86,15 @@ nothing_left : {A : Type 0} (xs : List A) → length xs ≤ 0 → xs ≡ []
 nothing_left [] h = refl
 nothing_left (x ∷ xs) h = absurd (omega (arith, h))
 
-pub no_writer : (t : TreeState) (fs : RuntimeFiles) (bytes : List ℕ) (flags : FlagsOfOpen) → flags.write ≡ true → refusal_by_checks (view_of_session t fs) (ops.Open bytes flags) ≡ None → writers_among fs ≡ []
+pub no_writer : (t : TreeState) (fs : RuntimeFiles) (bytes : List ℕ) (flags : FlagsOfOpen) → flags.write ≡ true → refusal_by_checks (session_view t fs) (ops.Open bytes flags) ≡ None → writers_among fs ≡ []
 no_writer t fs bytes flags write e =
-    nothing_left (writers_among fs) (not_less 0 (length (writers_among fs)) (ap (nat_lt 0) (sym (writer_count t fs)) ∙ (open_passed (view_of_session t fs) bytes flags write e).few))
+    nothing_left (writers_among fs) (not_less 0 (length (writers_among fs)) (ap (nat_lt 0) (sym (writer_count t fs)) ∙ (open_passed (session_view t fs) bytes flags write e).few))
 
 none_saved : (fs : RuntimeFiles) → writers_among fs ≡ [] → has_unsaved fs ≡ false
 none_saved fs none = ap (list_any (λ w. is_some w.unsaved)) none
 
-pub can_begin : (t mid : TreeState) (fs : RuntimeFiles) (bytes : List ℕ) (flags : FlagsOfOpen) (p : Path) (size : ℕ) → (t.failed ≡ false → IsReady t fs) → OnlyReadsTree t mid → refusal_by_checks (view_of_session t fs) (ops.Open bytes flags) ≡ None →
-    flags.write ≡ true → p ≡ path_or_root bytes → node_file_size (tree_view t p) ≡ Some size → CanOpenWriter mid p size flags.truncate
+pub can_begin : (t mid : TreeState) (fs : RuntimeFiles) (bytes : List ℕ) (flags : FlagsOfOpen) (p : Path) (size : ℕ) → (t.failed ≡ false → IsReady t fs) → OnlyReadsTree t mid → refusal_by_checks (session_view t fs) (ops.Open bytes flags) ≡ None →
+    flags.write ≡ true → p ≡ path_or_root bytes → node_file_size (shown_tree t p) ≡ Some size → CanOpenWriter mid p size flags.truncate
 can_begin t mid fs bytes flags p size ready asked e write is sizes =
     subst (λ z. CanOpenWriter z p size flags.truncate) (sym asked.same)
     (subst (λ q. CanOpenWriter (record t { history = mid.history; cache = mid.cache }) q size flags.truncate) (sym is) (record {
@@ -128,25 +103,25 @@ can_begin t mid fs bytes flags p size ready asked e write is sizes =
       sound = record { accepted = now.sound.accepted; fits = now.sound.fits; is_kept = now.sound.is_kept; used = now.sound.used; size = now.sound.size };
       idle = now.idle (none_saved fs (no_writer t fs bytes flags write e));
       there = sized;
-      room = room_anew (view_of_session t fs) (path_or_root bytes) flags size sized passed.anew;
+      room = room_anew (session_view t fs) (path_or_root bytes) flags size sized passed.anew;
     }))
   where
-    passed : IsPassed (view_of_session t fs) bytes (path_or_root bytes) flags
-    passed = open_passed (view_of_session t fs) bytes flags write e
+    passed : IsPassed (session_view t fs) bytes (path_or_root bytes) flags
+    passed = open_passed (session_view t fs) bytes flags write e
 
     now : IsReady t fs
     now = ready passed.works
 
-    sized : node_file_size (tree_view t (path_or_root bytes)) ≡ Some size
-    sized = sym (ap (λ q. node_file_size (tree_view t q)) is) ∙ sizes
+    sized : node_file_size (shown_tree t (path_or_root bytes)) ≡ Some size
+    sized = sym (ap (λ q. node_file_size (shown_tree t q)) is) ∙ sizes
 
 no_node : (n : Option Node) → node_file_size n ≡ None → is_directory n ≡ false → n ≡ None
 no_node None e d = refl
 no_node (Some (FileNode attributes bytes)) e d = absurd (cc)
 no_node (Some (DirectoryNode attributes names)) e d = absurd (cc)
 
-pub can_create : (t mid : TreeState) (fs : RuntimeFiles) (bytes : List ℕ) (flags : FlagsOfOpen) (p : Path) → (t.failed ≡ false → IsReady t fs) → OnlyReadsTree t mid → refusal_by_checks (view_of_session t fs) (ops.Open bytes flags) ≡ None →
-    flags.write ≡ true → p ≡ path_or_root bytes → node_file_size (tree_view t p) ≡ None → CanCreateFile mid p
+pub can_create : (t mid : TreeState) (fs : RuntimeFiles) (bytes : List ℕ) (flags : FlagsOfOpen) (p : Path) → (t.failed ≡ false → IsReady t fs) → OnlyReadsTree t mid → refusal_by_checks (session_view t fs) (ops.Open bytes flags) ≡ None →
+    flags.write ≡ true → p ≡ path_or_root bytes → node_file_size (shown_tree t p) ≡ None → CanCreateFile mid p
 can_create t mid fs bytes flags p ready asked e write is sizes =
     subst (λ z. CanCreateFile z p) (sym asked.same)
     (subst (λ q. CanCreateFile (record t { history = mid.history; cache = mid.cache }) q) (sym is) (record {
@@ -155,18 +130,18 @@ can_create t mid fs bytes flags p ready asked e write is sizes =
       parents = passed.parents;
       name = sym (ap₂ (λ x c. x && c && has_long_name (tree_summary t) (path_or_root bytes)) absent creates) ∙ passed.name;
       nothing = ap is_some none;
-      fits = sym (ap (λ x. x && is_over_charge (tree_summary t) (last_name (path_or_root bytes)) []) absent) ∙ passed.fits;
+      fits = sym (ap (λ x. x && exceeds_charge (tree_summary t) (last_name (path_or_root bytes)) []) absent) ∙ passed.fits;
       room = room_left (block_count t.disk) (length (tree_summary t).used) (reserved_for_writers t.disk.profile t.disk.block_size (files_view t fs)) (in_flight_count t.map) 2 ((ready passed.works).idle (none_saved fs (no_writer t fs bytes flags write e)))
           (sym (ap (λ x. x && lacks_free (tree_summary t) (files_view t fs) 2) absent) ∙ passed.room);
     }))
   where
-    passed : IsPassed (view_of_session t fs) bytes (path_or_root bytes) flags
-    passed = open_passed (view_of_session t fs) bytes flags write e
+    passed : IsPassed (session_view t fs) bytes (path_or_root bytes) flags
+    passed = open_passed (session_view t fs) bytes flags write e
 
-    none : tree_view t (path_or_root bytes) ≡ None
-    none = no_node (tree_view t (path_or_root bytes)) (sym (ap (λ q. node_file_size (tree_view t q)) is) ∙ sizes) passed.directory
+    none : shown_tree t (path_or_root bytes) ≡ None
+    none = no_node (shown_tree t (path_or_root bytes)) (sym (ap (λ q. node_file_size (shown_tree t q)) is) ∙ sizes) passed.directory
 
-    absent : is_none (tree_view t (path_or_root bytes)) ≡ true
+    absent : is_none (shown_tree t (path_or_root bytes)) ≡ true
     absent = ap is_none none
 
     creates : flags.create ≡ true
@@ -260,9 +235,9 @@ keeps_none t s fs none = subst (λ ws. KeepsWriters t s ws) (sym none) tt
 pub record IsOpenedBy (t : TreeState) (fs : RuntimeFiles) (bytes : List ℕ) (flags : FlagsOfOpen) (new : TreeState) (w : Writer) : Type 0 where
   pub ready : IsReady new fs
   pub unread : AllByRecursion (λ r. same_path (path_or_root bytes) r.path ≡ false) (readers_among fs)
-  pub begun : IsOpenedWriter new (opened_writer (path_or_root bytes) flags (file_bytes (tree_view t (path_or_root bytes)))) w
-  pub turn : (files : OpenFilesByNumber) → (operation_effect (tree_summary t) (viewed_session (view_of_session t fs)) (ops.Open bytes flags)).1.files ≡ files →
-      IsStep (system_state (view_of_session t fs)) (ops.Open bytes flags) (operation_effect (tree_summary t) (viewed_session (view_of_session t fs)) (ops.Open bytes flags)).0 (system_state (view_of_files new files))
+  pub begun : IsOpenedWriter new (opened_writer (path_or_root bytes) flags (file_bytes (shown_tree t (path_or_root bytes)))) w
+  pub turn : (files : OpenFilesByNumber) → (operation_effect (tree_summary t) (viewed_session (session_view t fs)) (ops.Open bytes flags)).1.files ≡ files →
+      IsStep (system_state (session_view t fs)) (ops.Open bytes flags) (operation_effect (tree_summary t) (viewed_session (session_view t fs)) (ops.Open bytes flags)).0 (system_state (view_with_files new files))
 
 later : TreeState → List CallEvent → CachedBlocks → TreeState
 later t events cache = record t { history = events ++ t.history; cache = cache }
@@ -273,9 +248,9 @@ asked_later old new asked = asked.same ∙ ap (λ history. record old { history 
 
 -- a file that is there, once the image is recovered
 there_turn : (old : SessionView) (bytes : List ℕ) (flags : FlagsOfOpen) (mid new : TreeState) (files : OpenFilesByNumber) (n : Node) → (old.tree.failed ≡ false → IsSoundState old.tree) → OnlyReadsTree old.tree mid →
-    refusal_by_checks old (ops.Open bytes flags) ≡ None → flags.write ≡ true → tree_view old.tree (path_or_root bytes) ≡ Some n → IsApplied mid ops.Recover new →
+    refusal_by_checks old (ops.Open bytes flags) ≡ None → flags.write ≡ true → shown_tree old.tree (path_or_root bytes) ≡ Some n → IsApplied mid ops.Recover new →
     (operation_effect (tree_summary old.tree) (viewed_session old) (ops.Open bytes flags)).1.files ≡ files →
-    IsStep (system_state old) (ops.Open bytes flags) (operation_effect (tree_summary old.tree) (viewed_session old) (ops.Open bytes flags)).0 (system_state (view_of_files new files))
+    IsStep (system_state old) (ops.Open bytes flags) (operation_effect (tree_summary old.tree) (viewed_session old) (ops.Open bytes flags)).0 (system_state (view_with_files new files))
 unfolding later
 there_turn old bytes flags mid new files n sound asked e write node carried opened =
     let op = ops.Open bytes flags in
@@ -283,12 +258,12 @@ there_turn old bytes flags mid new files n sound asked e write node carried open
     let good = sound works in
     let events = asked.reads.events in
     let c = subst (λ t. IsApplied t ops.Recover new) (asked_later old.tree mid asked) carried in
-    let kept : tree_view old.tree ≡ (if is_none (tree_view old.tree (path_or_root bytes)) then tree_creating (path_or_root bytes) (FileNode [] []) (tree_view old.tree) else tree_view old.tree) =
-    sym (ap (λ o. if is_none o then tree_creating (path_or_root bytes) (FileNode [] []) (tree_view old.tree) else tree_view old.tree) node) in
-    let is : record { tree = tree_view new; files = files } ≡ (operation_effect (tree_summary old.tree) (viewed_session old) op).1 = ap₂ (λ t f. record { tree = t; files = f }) (c.shows (tree_summary old.tree) old.files ∙ kept) (sym opened) in
-    let to = healthy_system (view_of_files new files) c.works
+    let kept : shown_tree old.tree ≡ (if is_none (shown_tree old.tree (path_or_root bytes)) then tree_creating (path_or_root bytes) (FileNode [] []) (shown_tree old.tree) else shown_tree old.tree) =
+    sym (ap (λ o. if is_none o then tree_creating (path_or_root bytes) (FileNode [] []) (shown_tree old.tree) else shown_tree old.tree) node) in
+    let is : record { tree = shown_tree new; files = files } ≡ (operation_effect (tree_summary old.tree) (viewed_session old) op).1 = ap₂ (λ t f. record { tree = t; files = f }) (c.shows (tree_summary old.tree) old.files ∙ kept) (sym opened) in
+    let to = healthy_system (view_with_files new files) c.works
     ∙ ap₂ (λ (calls : List CallEvent) (s : Session). record { disk = new.disk; calls = calls; state = Healthy s }) (c.called ∙ sym (append_assoc c.calls events old.tree.history)) is in
-    subst (λ m. IsStep m op (operation_effect (tree_summary old.tree) (viewed_session old) op).0 (system_state (view_of_files new files))) (sym (healthy_system old works))
+    subst (λ m. IsStep m op (operation_effect (tree_summary old.tree) (viewed_session old) op).0 (system_state (view_with_files new files))) (sym (healthy_system old works))
     (subst (λ m. IsStep (record { disk = old.tree.disk; calls = old.tree.history; state = Healthy (viewed_session old) }) op (operation_effect (tree_summary old.tree) (viewed_session old) op).0 m) (sym to)
     (completed_step old.tree.disk old.tree.pairs (viewed_session old) (tree_summary old.tree) op new.disk new.pairs (c.calls ++ events) old.tree.history (is_over old.tree old.files good) (not_refused old op e)
     (record {
@@ -314,32 +289,32 @@ file_node None size e = absurd (cc)
 file_node (Some m) size e = (m, refl)
 
 pub opened_there : (t mid new : TreeState) (fs : RuntimeFiles) (bytes : List ℕ) (flags : FlagsOfOpen) (w : Writer) (p : Path) (size : ℕ) → (t.failed ≡ false → IsReady t fs) → OnlyReadsTree t mid →
-    refusal_by_checks (view_of_session t fs) (ops.Open bytes flags) ≡ None → flags.write ≡ true → p ≡ path_or_root bytes → node_file_size (tree_view t p) ≡ Some size →
-    IsApplied mid ops.Recover new → IsOpenedWriter new (opened_writer p flags (file_bytes (tree_view mid p))) w → IsOpenedBy t fs bytes flags new w
+    refusal_by_checks (session_view t fs) (ops.Open bytes flags) ≡ None → flags.write ≡ true → p ≡ path_or_root bytes → node_file_size (shown_tree t p) ≡ Some size →
+    IsApplied mid ops.Recover new → IsOpenedWriter new (opened_writer p flags (file_bytes (shown_tree mid p))) w → IsOpenedBy t fs bytes flags new w
 opened_there t mid new fs bytes flags w p size ready asked e write is sizes carried begun =
-    let passed = open_passed (view_of_session t fs) bytes flags write e in
-    let node = file_node (tree_view t (path_or_root bytes)) size (sym (ap (λ q. node_file_size (tree_view t q)) is) ∙ sizes) in
+    let passed = open_passed (session_view t fs) bytes flags write e in
+    let node = file_node (shown_tree t (path_or_root bytes)) size (sym (ap (λ q. node_file_size (shown_tree t q)) is) ∙ sizes) in
     let none = no_writer t fs bytes flags write e in
     record {
       unread = no_reader_at t fs (same_path (path_or_root bytes)) passed.closed;
       ready = carried_ready mid new fs ops.Recover (λ p. refl) (ready_later t mid fs (ready passed.works) asked) (none_saved fs none) (keeps_none mid new fs none) carried;
-      begun = subst (λ (z : TreeState). IsOpenedWriter new (opened_writer (path_or_root bytes) flags (file_bytes (tree_view z (path_or_root bytes)))) w) asked.same
-          (subst (λ q. IsOpenedWriter new (opened_writer q flags (file_bytes (tree_view mid q))) w) is begun);
-      turn = λ files opened. there_turn (view_of_session t fs) bytes flags mid new files node.0 (sound_by t fs ready) asked e write node.1 carried opened;
+      begun = subst (λ (z : TreeState). IsOpenedWriter new (opened_writer (path_or_root bytes) flags (file_bytes (shown_tree z (path_or_root bytes)))) w) asked.same
+          (subst (λ q. IsOpenedWriter new (opened_writer q flags (file_bytes (shown_tree mid q))) w) is begun);
+      turn = λ files opened. there_turn (session_view t fs) bytes flags mid new files node.0 (sound_by t fs ready) asked e write node.1 carried opened;
     }
 
 pub opened_new : (t mid new : TreeState) (fs : RuntimeFiles) (bytes : List ℕ) (flags : FlagsOfOpen) (w : Writer) (p : Path) → (t.failed ≡ false → IsReady t fs) → OnlyReadsTree t mid →
-    refusal_by_checks (view_of_session t fs) (ops.Open bytes flags) ≡ None → flags.write ≡ true → p ≡ path_or_root bytes → node_file_size (tree_view t p) ≡ None →
+    refusal_by_checks (session_view t fs) (ops.Open bytes flags) ≡ None → flags.write ≡ true → p ≡ path_or_root bytes → node_file_size (shown_tree t p) ≡ None →
     IsApplied mid (ops.Open bytes flags) new → IsOpenedWriter new (opened_writer p flags []) w → IsOpenedBy t fs bytes flags new w
 opened_new t mid new fs bytes flags w p ready asked e write is sizes carried begun =
-    let passed = open_passed (view_of_session t fs) bytes flags write e in
-    let node : tree_view t (path_or_root bytes) ≡ None = no_node (tree_view t (path_or_root bytes)) (sym (ap (λ q. node_file_size (tree_view t q)) is) ∙ sizes) passed.directory in
+    let passed = open_passed (session_view t fs) bytes flags write e in
+    let node : shown_tree t (path_or_root bytes) ≡ None = no_node (shown_tree t (path_or_root bytes)) (sym (ap (λ q. node_file_size (shown_tree t q)) is) ∙ sizes) passed.directory in
     let none = no_writer t fs bytes flags write e in
     record {
       unread = no_reader_at t fs (same_path (path_or_root bytes)) passed.closed;
       ready = carried_ready mid new fs (ops.Open bytes flags) (λ p. refl) (ready_later t mid fs (ready passed.works) asked) (none_saved fs none) (keeps_none mid new fs none) carried;
       begun = subst (λ n. IsOpenedWriter new (opened_writer (path_or_root bytes) flags (file_bytes n)) w) (sym node) (subst (λ q. IsOpenedWriter new (opened_writer q flags []) w) is begun);
-      turn = λ files opened. carried_answer (view_of_session t fs) (ops.Open bytes flags) mid new files (sound_by t fs ready) asked e carried refl (ap not write) refl (ap is_some node) refl opened;
+      turn = λ files opened. carried_answer (session_view t fs) (ops.Open bytes flags) mid new files (sound_by t fs ready) asked e carried refl (ap not write) refl (ap is_some node) refl opened;
     }
 
 -- ---- answers
@@ -352,31 +327,31 @@ writer_ready t new fs gs bytes flags w opened none alone is =
     (subst (AreCurrentReaders new.pairs) (sym is) (read_opened new.pairs fs (lowest_free fs) w (ap (map (λ x. x.path)) alone) (subst (λ p. AllByRecursion (λ r. same_path p r.path ≡ false) (readers_among fs)) path opened.unread) opened.ready.read))
     (subst (λ xs. AllByRecursion (HasKnownBlocks new.disk) (readers_among xs)) (sym is) (known_opened new.disk fs (lowest_free fs) w opened.ready.known))
 
-pub writer_opened : (t new : TreeState) (fs gs : RuntimeFiles) (now : SessionView) (bytes : List ℕ) (flags : FlagsOfOpen) (w : Writer) (n : ℕ) → view_of_session t fs ≡ now → IsOpenedBy t fs bytes flags new w → flags.write ≡ true → writers_among fs ≡ [] →
-    n ≡ lowest_free fs → gs ≡ runtime_files_with fs (lowest_free fs) (Some (file.Writing w)) → StepsOrFails now (ops.Open bytes flags) (Ok (ops.Opened n)) (view_of_session new gs)
+pub writer_opened : (t new : TreeState) (fs gs : RuntimeFiles) (now : SessionView) (bytes : List ℕ) (flags : FlagsOfOpen) (w : Writer) (n : ℕ) → session_view t fs ≡ now → IsOpenedBy t fs bytes flags new w → flags.write ≡ true → writers_among fs ≡ [] →
+    n ≡ lowest_free fs → gs ≡ runtime_files_with fs (lowest_free fs) (Some (file.Writing w)) → StepsOrFails now (ops.Open bytes flags) (Ok (ops.Opened n)) (session_view new gs)
 writer_opened t new fs gs now bytes flags w n same opened write none number is =
-    subst (λ z. StepsOrFails z (ops.Open bytes flags) (Ok (ops.Opened n)) (view_of_session new gs)) same
-    (subst (λ m. IsStep (system_state (view_of_session t fs)) (ops.Open bytes flags) (ops.Opened m) (system_state (view_of_session new gs))) (sym (number ∙ free_is t fs))
+    subst (λ z. StepsOrFails z (ops.Open bytes flags) (Ok (ops.Opened n)) (session_view new gs)) same
+    (subst (λ m. IsStep (system_state (session_view t fs)) (ops.Open bytes flags) (ops.Opened m) (system_state (session_view new gs))) (sym (number ∙ free_is t fs))
     (opened.turn (files_view new gs) (sym brought)))
   where
-    brought : files_view new gs ≡ files_with_file (files_view t fs) (free_number_of (files_view t fs)) (Some (if flags.write then Writing (opened_writer (path_or_root bytes) flags (file_bytes (tree_view t (path_or_root bytes)))) else Reading (record { path = path_or_root bytes; position = 0 })))
+    brought : files_view new gs ≡ files_with_file (files_view t fs) (free_number_of (files_view t fs)) (Some (if flags.write then Writing (opened_writer (path_or_root bytes) flags (file_bytes (shown_tree t (path_or_root bytes)))) else Reading (record { path = path_or_root bytes; position = 0 })))
     brought = ap (files_view new) is ∙ put_is new fs (lowest_free fs) (Some (file.Writing w))
         ∙ ap₂ (λ files m. files_with_file files m (Some (Writing (writer_view new w)))) (sym (kept_files t new fs (none_saved fs none) (keeps_none t new fs none))) (free_is t fs)
         ∙ ap (λ x. files_with_file (files_view t fs) (free_number_of (files_view t fs)) (Some (Writing x))) opened.begun.seen
-        ∙ ap (λ b. files_with_file (files_view t fs) (free_number_of (files_view t fs)) (Some (if b then Writing (opened_writer (path_or_root bytes) flags (file_bytes (tree_view t (path_or_root bytes)))) else Reading (record { path = path_or_root bytes; position = 0 })))) (sym write)
+        ∙ ap (λ b. files_with_file (files_view t fs) (free_number_of (files_view t fs)) (Some (if b then Writing (opened_writer (path_or_root bytes) flags (file_bytes (shown_tree t (path_or_root bytes)))) else Reading (record { path = path_or_root bytes; position = 0 })))) (sym write)
 
-pub writer_breaks : (t mid new : TreeState) (fs gs : RuntimeFiles) (now : SessionView) (bytes : List ℕ) (flags : FlagsOfOpen) (e : Error) (r : Result ℕ Error) → view_of_session t fs ≡ now → OnlyReadsTree t mid → refusal_by_checks (view_of_session t fs) (ops.Open bytes flags) ≡ None →
-    IsSoundState t → flags.write ≡ true → IsFailedTree mid new → HasErrorCause mid new e → r ≡ Err e → StepsOrFails now (ops.Open bytes flags) (reply_from ops.Opened r) (view_of_session new gs)
+pub writer_breaks : (t mid new : TreeState) (fs gs : RuntimeFiles) (now : SessionView) (bytes : List ℕ) (flags : FlagsOfOpen) (e : Error) (r : Result ℕ Error) → session_view t fs ≡ now → OnlyReadsTree t mid → refusal_by_checks (session_view t fs) (ops.Open bytes flags) ≡ None →
+    IsSoundState t → flags.write ≡ true → IsFailedTree mid new → HasErrorCause mid new e → r ≡ Err e → StepsOrFails now (ops.Open bytes flags) (reply_from ops.Opened r) (session_view new gs)
 writer_breaks t mid new fs gs now bytes flags e r same asked passed sound write broken error is =
-    subst (λ z. StepsOrFails z (ops.Open bytes flags) (reply_from ops.Opened r) (view_of_session new gs)) same
-    (subst (λ z. StepsOrFails (view_of_session t fs) (ops.Open bytes flags) (reply_from ops.Opened z) (view_of_session new gs)) (sym is)
-    (error_answers (view_of_session t fs) (ops.Open bytes flags) e (view_of_session new gs) (ops.Refused (error_refusal e)) error.errors
-    (broken_fails e (view_of_session t fs) (ops.Open bytes flags) mid new (files_view new gs) (not_failed (view_of_session t fs) (ops.Open bytes flags) passed) refl (ap not write) refl sound (open_passed (view_of_session t fs) bytes flags write passed).writable asked broken error)))
+    subst (λ z. StepsOrFails z (ops.Open bytes flags) (reply_from ops.Opened r) (session_view new gs)) same
+    (subst (λ z. StepsOrFails (session_view t fs) (ops.Open bytes flags) (reply_from ops.Opened z) (session_view new gs)) (sym is)
+    (error_answers (session_view t fs) (ops.Open bytes flags) e (session_view new gs) (ops.Refused (error_refusal e)) error.errors
+    (broken_fails e (session_view t fs) (ops.Open bytes flags) mid new (files_view new gs) (not_failed (session_view t fs) (ops.Open bytes flags) passed) refl (ap not write) refl sound (open_passed (session_view t fs) bytes flags write passed).writable asked broken error)))
 
 -- no memory is found for it
-pub writer_lacks_memory : (t mid left : TreeState) (fs gs : RuntimeFiles) (now : SessionView) (bytes : List ℕ) (flags : FlagsOfOpen) → view_of_session t fs ≡ now → OnlyReadsTree t mid → refusal_by_checks (view_of_session t fs) (ops.Open bytes flags) ≡ None →
-    left ≡ record mid { failed = true } → StepsOrFails now (ops.Open bytes flags) (Err NoMemory) (view_of_session left gs)
+pub writer_lacks_memory : (t mid left : TreeState) (fs gs : RuntimeFiles) (now : SessionView) (bytes : List ℕ) (flags : FlagsOfOpen) → session_view t fs ≡ now → OnlyReadsTree t mid → refusal_by_checks (session_view t fs) (ops.Open bytes flags) ≡ None →
+    left ≡ record mid { failed = true } → StepsOrFails now (ops.Open bytes flags) (Err NoMemory) (session_view left gs)
 writer_lacks_memory t mid left fs gs now bytes flags same asked passed is =
-    subst (λ z. StepsOrFails z (ops.Open bytes flags) (Err NoMemory) (view_of_session left gs)) same
-    (subst (λ z. StepsOrFails (view_of_session t fs) (ops.Open bytes flags) (Err NoMemory) (view_of_session z gs)) (sym is)
-    (memory_fails (view_of_session t fs) (ops.Open bytes flags) mid (files_view (record mid { failed = true }) gs) (not_failed (view_of_session t fs) (ops.Open bytes flags) passed) asked))
+    subst (λ z. StepsOrFails z (ops.Open bytes flags) (Err NoMemory) (session_view left gs)) same
+    (subst (λ z. StepsOrFails (session_view t fs) (ops.Open bytes flags) (Err NoMemory) (session_view z gs)) (sym is)
+    (memory_fails (session_view t fs) (ops.Open bytes flags) mid (files_view (record mid { failed = true }) gs) (not_failed (session_view t fs) (ops.Open bytes flags) passed) asked))

@@ -1,16 +1,12 @@
 -- Whether a path lies beneath another, by their bytes.
 use Rattle.std.proofs.Common.{ℕ, ◌≤◌, nat_eq, take, subst, length-append, ◌<◌, nat_lt, ◌≡◌, ◌==◌, ◌&&◌, ◌++◌, Bool, true, false, not, cond, if◌then◌else◌, List, [], ◌∷◌, length, drop, get_or, Option, Some, None, is_some, unwrap_or, eqb-true, refl, sym, ap, ap₂, ◌∙◌, arith}
-use Rattle.std.specs.List.{slice_split, list_all, onto_first}
+use Rattle.lfs_fs.proofs.Common.{slice_split, list_all, onto_first, lt-ltb, ltb-true, ltb-false, without_prefix, is_component, same_name, slash_byte, parse_path, path_or_root, is_unusable, Path, Names, alike, unlike, names}
 use Rattle.std.specs.Cmp.Lexicographic.{pointwise}
 use Rattle.std.proofs.lemmas.Slice.Eq.{starts_is}
-use Rattle.std.proofs.lemmas.Bool.{and_parts, lt-ltb, ltb-true, ltb-false}
+use Rattle.std.proofs.lemmas.Bool.{and_parts}
 use Rattle.std.proofs.lemmas.Bool.Decides.{Decides-eqb}
-use Rattle.lfs_model.specs.session.TreeEdits.{without_prefix}
-use Rattle.lfs_model.specs.format.Names.{Name, is_component, same_name, slash_byte}
-use Rattle.lfs_model.specs.session.Operations.{parse_path}
-use Rattle.lfs_model.specs.session.Refusals.{path_or_root, is_unusable}
-use Rattle.lfs_model.specs.tree.Tree.{Path}
-use Rattle.lfs_model.proofs.Paths.{Names, alike, unlike, names, same_itself, unlike_test}
+use Rattle.lfs_model.specs.format.Names.{Name}
+use Rattle.lfs_model.proofs.Paths.{same_itself, unlike_test}
 use Rattle.lfs_fs.specs.RenamePaths.{is_path_prefix}
 
 same_number : (n : ℕ) → (n == n) ≡ true

@@ -2,21 +2,9 @@
 use Rattle.std.proofs.Common.{◌≡◌, ◌<◌, ◌≤◌, Bool, not, nat_le, arith, true, false, cond, ℕ, Option, Some, None, Result, Ok, Err, refl, sym, ap, subst, ◌∙◌}
 use Rattle.std.specs.Prelude.{IfErr}
 use Rattle.lfs_device.specs.declared.error.Error.{Error}
-use Rattle.lfs_model.specs.session.History.{fault_count}
+use Rattle.lfs_fs.proofs.Common.{fault_count, Operation, Reply, Failed, operation_refusal, operation_effect, le-leb, refuse_if, is_remount, IsStep, is_query, OnlyReadsSince-trans, not_remount, error_refusal, TreeState, IsSoundState, tree_summary, OnlyReadsTree, FailedByReading, HasErrorCause, SessionView, viewed_session, system_state, refusal_by_checks, StepsOrFails}
 use Rattle.lfs_model.specs.session.Operations as ops
-use Rattle.lfs_model.specs.session.Operations.{Operation, Reply, Failed}
-use Rattle.lfs_model.specs.session.Refusals.{operation_refusal}
-use Rattle.lfs_model.specs.session.Effects.{operation_effect}
-use Rattle.std.proofs.lemmas.Bool.{le-leb, leb-true}
-use Rattle.lfs_model.specs.session.Session.{refuse_if}
-use Rattle.lfs_model.specs.session.State.{is_remount}
-use Rattle.lfs_model.specs.session.Run.{IsStep}
-use Rattle.lfs_model.specs.session.Headline.{is_query}
-use Rattle.lfs_model.proofs.Histories.{OnlyReadsSince-trans}
-use Rattle.lfs_model.proofs.SessionSteps.{not_remount}
-use Rattle.lfs_lookup.specs.RefusalErrors.{error_refusal}
-use Rattle.lfs_tree.specs.TreeState.{TreeState, IsSoundState, tree_summary, OnlyReadsTree, FailedByReading, HasErrorCause}
-use Rattle.lfs_fs.specs.SessionView.{SessionView, viewed_session, system_state, refusal_by_checks, StepsOrFails}
+use Rattle.std.proofs.lemmas.Bool.{leb-true}
 use Rattle.lfs_fs.proofs.Answered.{refused_answer, asked_answer, nothing_asked, question_only_asks, question_keeps, question_recovers_nothing, question_lays_nothing}
 
 -- ---- without a call

@@ -1,23 +1,9 @@
 -- A session's read of an open file: what it comes to.
 use Rattle.std.proofs.Common.{ℕ, ◌≡◌, ◌∙◌, ◌+◌, true, false, List, drop, length, set, take, Some, is_some, Result, Ok, Err, refl, sym, ap, subst}
-use Rattle.std.specs.Option.{option_map}
-use Rattle.lfs_file.specs.Known.{AreKnownBlocks}
+use Rattle.lfs_fs.proofs.Common.{option_map, AreKnownBlocks, contents_struct, error_refusal, file_at_position, Reply, file_numbered, files_with_file, struct_blocks, file_bytes, HasErrorCause, FailedByReading, TreeState, OnlyReadsTree, shown_tree, IsCall, HasSessionInvariant, RuntimeFiles, open_file_at, file_with_known, file_with_position, files_view, writers_paths, reader_if_any, reader_view, reply_from, HasKnownBlocks, IsCurrentReader, IsReady, SessionView, refusal_by_checks, session_view}
 use Rattle.lfs_file.specs.declared.known.KnownBlocks.{KnownBlocks}
 use Rattle.lfs_device.specs.declared.error.Error.{Error}
-use Rattle.lfs_lookup.specs.FileContents.{contents_struct}
-use Rattle.lfs_lookup.specs.RefusalErrors.{error_refusal}
-use Rattle.lfs_model.specs.session.Effects.{file_at_position}
 use Rattle.lfs_model.specs.session.Operations as ops
-use Rattle.lfs_model.specs.session.Operations.{Reply}
-use Rattle.lfs_model.specs.session.Session.{file_numbered, files_with_file}
-use Rattle.lfs_model.specs.tree.Shown.{struct_blocks}
-use Rattle.lfs_model.specs.session.TreeEdits.{file_bytes}
-use Rattle.lfs_tree.specs.TreeState.{HasErrorCause, FailedByReading, TreeState, OnlyReadsTree, tree_view}
-use Rattle.lfs_fs.specs.CallEffects.{IsCall}
-use Rattle.lfs_fs.specs.DeviceLaws.{HasInvariant}
-use Rattle.lfs_fs.specs.FileView.{RuntimeFiles, open_file_at, file_with_known, file_with_position, files_view, writers_paths, reader_if_any, reader_view}
-use Rattle.lfs_fs.specs.Replies.{reply_from}
-use Rattle.lfs_fs.specs.SessionView.{HasKnownBlocks, IsCurrentReader, IsReady, SessionView, refusal_by_checks, view_of_session}
 use Rattle.lfs_fs.specs.declared.files.Reader.{Reader}
 use Rattle.lfs_fs.proofs.Answered.{asked_ready, files_asked, sound_by}
 use Rattle.lfs_fs.proofs.DeviceLaws.{reported_asked}
@@ -41,19 +27,19 @@ module _ (t : TreeState) (fs : RuntimeFiles) (fd : ℕ) (r : Reader) (ready : t.
 
 -- ---- it is refused, or fails
 
-module _ (t : TreeState) (fs : RuntimeFiles) (now : SessionView) (fd count : ℕ) (same : view_of_session t fs ≡ now) (ready : t.failed ≡ false → IsReady t fs) where
-  pub refused_read : (e : Error) → refusal_by_checks (view_of_session t fs) (ops.Read fd count) ≡ Some (error_refusal e) → IsCall now (ops.Read fd count) (Ok (ops.Refused (error_refusal e))) now
+module _ (t : TreeState) (fs : RuntimeFiles) (now : SessionView) (fd count : ℕ) (same : session_view t fs ≡ now) (ready : t.failed ≡ false → IsReady t fs) where
+  pub refused_read : (e : Error) → refusal_by_checks (session_view t fs) (ops.Read fd count) ≡ Some (error_refusal e) → IsCall now (ops.Read fd count) (Ok (ops.Refused (error_refusal e))) now
   refused_read e is =
-      kept_asking t fs now (ops.Read fd count) _ same ready (λ s. refl) refl (refused_ends (view_of_session t fs) now (ops.Read fd count) (error_refusal e) same is)
-      (refused_kept (view_of_session t fs) now (ops.Read fd count) e same (sound_by t fs ready) refl is)
+      kept_asking t fs now (ops.Read fd count) _ same ready (λ s. refl) refl (refused_ends (session_view t fs) now (ops.Read fd count) (error_refusal e) same is)
+      (refused_kept (session_view t fs) now (ops.Read fd count) e same (sound_by t fs ready) refl is)
 
   pub broken_read : {B : Type 0} (reply : B → Reply) (r : Reader) (e : Error) (tree : TreeState) (result : Result B Error) → false ≡ t.failed → Some r ≡ reader_if_any (open_file_at fs fd) → FailedByReading t tree → HasErrorCause t tree e → result ≡ Err e
-      → IsCall now (ops.Read fd count) (reply_from reply result) (view_of_session tree fs)
+      → IsCall now (ops.Read fd count) (reply_from reply result) (session_view tree fs)
   broken_read reply r e tree result works there broken error is =
       asking_call t fs now (ops.Read fd count) _ _ same ready (λ s. refl) (λ k. absurd (cc)) (asks_not _ _ _ _ refl)
-      (broken_ends (view_of_session t fs) now (ops.Read fd count) reply e result _ same (a_reader (view_of_session t fs) fd count (reader_view r) works (some_reader t fs fd r there)) refl error.errors is)
-      (files_asked now (ops.Read fd count) (reply_from reply result) t tree fs (λ f. absurd (let k = sym broken.failed ∙ f in cc)) (read_fails (view_of_session t fs) now (ops.Read fd count) reply e tree result same works broken error is))
-      (only_read (view_of_session t fs) now (ops.Read fd count) tree same (sound_by t fs ready) broken.reads)
+      (broken_ends (session_view t fs) now (ops.Read fd count) reply e result _ same (a_reader (session_view t fs) fd count (reader_view r) works (some_reader t fs fd r there)) refl error.errors is)
+      (files_asked now (ops.Read fd count) (reply_from reply result) t tree fs (λ f. absurd (let k = sym broken.failed ∙ f in cc)) (read_fails (session_view t fs) now (ops.Read fd count) reply e tree result same works broken error is))
+      (only_read (session_view t fs) now (ops.Read fd count) tree same (sound_by t fs ready) broken.reads)
 
 -- ---- it is done
 
@@ -63,7 +49,7 @@ module _ (t tree : TreeState) (fs noted moved : RuntimeFiles) (fd position : ℕ
   still_there = subst (λ gs. is_some (open_file_at gs fd) ≡ true) (sym notes) (there_noted known fs fd (reader_there (open_file_at fs fd) r there))
 
   -- what the session is then
-  pub read_invariant : HasInvariant t fs → AreKnownBlocks (struct_blocks t.disk (contents_struct r.contents)) known → HasInvariant tree moved
+  pub read_invariant : HasSessionInvariant t fs → AreKnownBlocks (struct_blocks t.disk (contents_struct r.contents)) known → HasSessionInvariant tree moved
   read_invariant held list = record {
     ready = moved_ready tree noted moved fd position (ready_noted known tree fs noted fd r there (known_later t tree r known asked list) notes (asked_ready t tree fs ready asked)) moves;
     reported = reported_asked t tree held.reported asked;
@@ -75,10 +61,10 @@ module _ (t tree : TreeState) (fs noted moved : RuntimeFiles) (fd position : ℕ
       ∙ ap (λ v. files_with_file v fd (option_map (file_at_position position) (file_numbered v fd)))
       (ap (files_view tree) notes ∙ view_noted known tree fs fd ∙ ap (λ z. files_view z fs) asked.same)
 
-  pub done_read : (now : SessionView) (count : ℕ) (bytes : List ℕ) → view_of_session t fs ≡ now → bytes ≡ take count (drop r.position (file_bytes (tree_view t r.path))) → position ≡ r.position + length bytes
-      → IsCall now (ops.Read fd count) (Ok (ops.Bytes bytes)) (view_of_session tree moved)
+  pub done_read : (now : SessionView) (count : ℕ) (bytes : List ℕ) → session_view t fs ≡ now → bytes ≡ take count (drop r.position (file_bytes (shown_tree t r.path))) → position ≡ r.position + length bytes
+      → IsCall now (ops.Read fd count) (Ok (ops.Bytes bytes)) (session_view tree moved)
   done_read now count bytes same are at =
       asking_call t fs now (ops.Read fd count) _ _ same ready (λ s. refl) (λ k. absurd (cc)) (asks_not _ _ _ _ refl)
-      (answer_ends (view_of_session t fs) now (ops.Read fd count) (ops.Bytes bytes) _ same (a_reader (view_of_session t fs) fd count (reader_view r) works (some_reader t fs fd r there)) asked.no_fault)
-      (read_answers (view_of_session t fs) now fd count (reader_view r) tree (files_view tree moved) bytes position same (sound_by t fs ready) works asked (some_reader t fs fd r there) are at files_then)
-      (only_read (view_of_session t fs) now (ops.Read fd count) tree same (sound_by t fs ready) asked.reads)
+      (answer_ends (session_view t fs) now (ops.Read fd count) (ops.Bytes bytes) _ same (a_reader (session_view t fs) fd count (reader_view r) works (some_reader t fs fd r there)) asked.no_fault)
+      (read_answers (session_view t fs) now fd count (reader_view r) tree (files_view tree moved) bytes position same (sound_by t fs ready) works asked (some_reader t fs fd r there) are at files_then)
+      (only_read (session_view t fs) now (ops.Read fd count) tree same (sound_by t fs ready) asked.reads)

@@ -1,31 +1,16 @@
 -- What an open reader gives.
 use Rattle.std.proofs.Common.{ℕ, ◌≡◌, ◌≤◌, ◌+◌, ◌-◌, ◌++◌, min, true, false, List, length, take, drop, Option, Some, None, is_none, Result, Ok, Err, refl, sym, ap, ap₂, subst, ◌∙◌, arith}
-use Rattle.std.specs.Option.{option_map}
-use Rattle.lfs_model.specs.session.TreeEdits.{file_bytes, is_file}
+use Rattle.lfs_fs.proofs.Common.{option_map, file_bytes, is_file, Operation, Reply, OpenFilesByNumber, Reading, Writing, file_numbered, files_with_file, file_reader, refuse_if, file_at_position, node_file_size, Node, FileNode, DirectoryNode, length-take, take_all, same_Some, IsStorageAt, contents_struct, CallEvent, read_count, struct_at, block_count_for, Ctz, Inline, Struct, RuntimeFiles, open_file_at, files_view, reader_if_any, reader_view, ReadsFew, TreeState, IsSoundState, shown_tree, OnlyReadsTree, SessionView, session_view, view_with_files, viewed_session, refusal_by_checks, StepsOrFails, error_refusal, FailedByReading, HasErrorCause, reply_from}
 use Rattle.lfs_model.specs.session.Operations as ops
-use Rattle.lfs_model.specs.session.Operations.{Operation, Reply}
-use Rattle.lfs_model.specs.session.Session.{OpenFilesByNumber, OpenFile, FileReader, Reading, Writing, file_numbered, files_with_file, file_reader, refuse_if}
-use Rattle.lfs_model.specs.session.Effects.{file_at_position, read_effect, node_file_size}
-use Rattle.lfs_model.specs.tree.Tree.{Node, FileNode, DirectoryNode}
-use Rattle.std.proofs.lemmas.List.{length-drop, length-take, take_all, take_at, take_min}
-use Rattle.std.proofs.lemmas.Option.{same_Some}
+use Rattle.lfs_model.specs.session.Session.{OpenFile, FileReader}
+use Rattle.lfs_model.specs.session.Effects.{read_effect}
+use Rattle.std.proofs.lemmas.List.{length-drop, take_at, take_min}
 use Rattle.lfs_file.specs.Known.{ReadsFewPointers, ReadsKnownList}
 use Rattle.lfs_file.specs.declared.known.KnownBlocks.{KnownBlocks}
-use Rattle.lfs_lookup.specs.FileContents.{IsStorageAt, contents_struct}
-use Rattle.lfs_model.specs.session.History.{CallEvent, read_count}
-use Rattle.lfs_model.specs.layers.Keeping.{struct_at}
-use Rattle.lfs_model.specs.format.SkipLists.{IsBytePlace, block_count_for}
-use Rattle.lfs_model.specs.format.Slots.{Ctz, Inline, Struct}
-use Rattle.lfs_fs.specs.FileView.{RuntimeFiles, open_file_at, files_view, reader_if_any, reader_view}
-use Rattle.lfs_fs.specs.ReaderReads.{ReadsFew}
+use Rattle.lfs_model.specs.format.SkipLists.{IsBytePlace}
 use Rattle.lfs_fs.specs.declared.files.Reader.{Reader}
 use Rattle.lfs_fs.proofs.OpenFiles.{some_reader}
-use Rattle.lfs_tree.specs.TreeState.{TreeState, IsSoundState, tree_view, OnlyReadsTree}
-use Rattle.lfs_fs.specs.SessionView.{SessionView, view_of_session, view_of_files, viewed_session, refusal_by_checks, StepsOrFails}
 use Rattle.lfs_device.specs.declared.error.Error.{Error}
-use Rattle.lfs_lookup.specs.RefusalErrors.{error_refusal}
-use Rattle.lfs_tree.specs.TreeState.{FailedByReading, HasErrorCause}
-use Rattle.lfs_fs.specs.Replies.{reply_from}
 use Rattle.lfs_fs.proofs.Failing.{asking_fails}
 use Rattle.lfs_fs.proofs.Answered.{error_answers, files_answers}
 use Rattle.lfs_fs.proofs.Questions.{works_by}
@@ -46,14 +31,14 @@ pub a_reader : (h : SessionView) (fd count : ℕ) (r : FileReader) → false ≡
 a_reader h fd count r works e = works_by h (ops.Read fd count) None works (ap (λ z. refuse_if (is_none z) ops.BadFile) (sym e))
 
 pub read_answers : (old now : SessionView) (fd count : ℕ) (r : FileReader) (tree : TreeState) (files : OpenFilesByNumber) (bytes : List ℕ) (position : ℕ) → old ≡ now → (old.tree.failed ≡ false → IsSoundState old.tree) → false ≡ old.tree.failed → OnlyReadsTree old.tree tree →
-    Some r ≡ file_reader (file_numbered old.files fd) → bytes ≡ take count (drop r.position (file_bytes (tree_view old.tree r.path))) → position ≡ r.position + length bytes →
-    files ≡ files_with_file old.files fd (option_map (file_at_position position) (file_numbered old.files fd)) → StepsOrFails now (ops.Read fd count) (Ok (ops.Bytes bytes)) (view_of_files tree files)
+    Some r ≡ file_reader (file_numbered old.files fd) → bytes ≡ take count (drop r.position (file_bytes (shown_tree old.tree r.path))) → position ≡ r.position + length bytes →
+    files ≡ files_with_file old.files fd (option_map (file_at_position position) (file_numbered old.files fd)) → StepsOrFails now (ops.Read fd count) (Ok (ops.Bytes bytes)) (view_with_files tree files)
 read_answers old now fd count r tree files bytes position same ready works asked is bytes_are at files_are =
     files_answers old now (ops.Read fd count) tree files (ops.Bytes bytes) same ready asked (a_reader old fd count r works is) refl refl refl refl refl
-    (ap (read_effect (viewed_session old) fd count) (sym is) ∙ ap₂ (λ b f. (ops.Bytes b, record { tree = tree_view old.tree; files = f })) (sym bytes_are) moved)
+    (ap (read_effect (viewed_session old) fd count) (sym is) ∙ ap₂ (λ b f. (ops.Bytes b, record { tree = shown_tree old.tree; files = f })) (sym bytes_are) moved)
   where
     given : List ℕ
-    given = take count (drop r.position (file_bytes (tree_view old.tree r.path)))
+    given = take count (drop r.position (file_bytes (shown_tree old.tree r.path)))
 
     moved : files_with_file old.files fd (Some (Reading (record r { position = r.position + length given }))) ≡ files
     moved = ap (λ n. files_with_file old.files fd (Some (Reading (record r { position = n })))) (ap (λ b. r.position + length b) (sym bytes_are) ∙ sym at)
@@ -88,11 +73,11 @@ is_there n size e = (file_there n size e).0
 
 -- a call failed on the way
 pub read_fails : {B : Type 0} (old now : SessionView) (op : Operation) (reply : B → Reply) (e : Error) (tree : TreeState) (r : Result B Error) → old ≡ now → false ≡ old.tree.failed → FailedByReading old.tree tree → HasErrorCause old.tree tree e → r ≡ Err e →
-    StepsOrFails now op (reply_from reply r) (view_of_files tree old.files)
+    StepsOrFails now op (reply_from reply r) (view_with_files tree old.files)
 read_fails old now op reply e tree r same works broken error is =
-    subst (λ z. StepsOrFails z op (reply_from reply r) (view_of_files tree old.files)) same
-    (subst (λ z. StepsOrFails old op (reply_from reply z) (view_of_files tree old.files)) (sym is)
-    (error_answers old op e (view_of_files tree old.files) (ops.Refused (error_refusal e)) error.errors (asking_fails e old op tree old.files (sym works) broken error)))
+    subst (λ z. StepsOrFails z op (reply_from reply r) (view_with_files tree old.files)) same
+    (subst (λ z. StepsOrFails old op (reply_from reply z) (view_with_files tree old.files)) (sym is)
+    (error_answers old op e (view_with_files tree old.files) (ops.Refused (error_refusal e)) error.errors (asking_fails e old op tree old.files (sym works) broken error)))
 
 -- ---- how often it reads
 
@@ -107,7 +92,7 @@ known_read block_size size position count room known later old new is h first la
 pub few_reads : (t new : TreeState) (fs : RuntimeFiles) (files : OpenFilesByNumber) (fd count : ℕ) (r : Reader) (known later : KnownBlocks) → Some r ≡ reader_if_any (open_file_at fs fd) → IsStorageAt t.pairs r.path r.contents
     → ((own : List ℕ) → contents_struct r.contents ≡ Inline own → new.history ≡ t.history)
     → ((head size : ℕ) → contents_struct r.contents ≡ Ctz head size → ReadsKnownList t.disk.block_size size r.position count known later t.history new.history)
-    → ReadsFew (view_of_session t fs) fd count (view_of_files new files)
+    → ReadsFew (session_view t fs) fd count (view_with_files new files)
 few_reads t new fs files fd count r known later there kept none few = record {
   inline = λ q own at is. ap read_count (none own (stored q (Inline own) at is));
   list = λ q head size m first last off end at is le from to.

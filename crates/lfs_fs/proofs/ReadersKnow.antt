@@ -1,25 +1,10 @@
 -- The blocks that open readers know.
 use Rattle.std.proofs.Common.{ℕ, zero, suc, ◌≡◌, ◌≤◌, ◌∙◌, true, false, List, [], ◌∷◌, length, map, replicate, set, slice_index, Option, Some, None, is_some, refl, sym, ap, subst, arith}
-use Rattle.std.specs.List.{AllByRecursion, list_any}
-use Rattle.std.specs.Option.{option_map}
+use Rattle.lfs_fs.proofs.Common.{AllByRecursion, list_any, option_map, same_Some, AreKnownBlocks, no_known_blocks, Disk, takes_away, struct_at, Operation, struct_blocks, slot_of, Slot, Struct, Path, is_file, same_path, contents_struct, KeepsOtherFiles, IsApplied, TreeState, OnlyReadsTree, kept_thread, shown_tree, RuntimeFiles, open_file_at, file_with_known, file_with_position, file_view, files_view, runtime_files_with, reader_if_any, writers_paths, readers_among, writers_among, HasKnownBlocks, IsCurrentReader, IsReady, IsWriterReady}
 use Rattle.std.proofs.lemmas.List.{get_or-replicate}
-use Rattle.std.proofs.lemmas.Option.{same_Some}
-use Rattle.lfs_file.specs.Known.{AreKnownBlocks, no_known_blocks}
 use Rattle.lfs_file.specs.declared.known.KnownBlocks.{KnownBlocks}
-use Rattle.lfs_model.specs.format.Disk.{Disk}
-use Rattle.lfs_model.specs.layers.Keeping.{takes_away, struct_at}
-use Rattle.lfs_model.specs.session.Operations.{Operation}
-use Rattle.lfs_model.specs.tree.Shown.{struct_blocks}
-use Rattle.lfs_model.specs.session.SlotEdits.{slot_of}
-use Rattle.lfs_model.specs.format.Slots.{Slot, Struct}
-use Rattle.lfs_model.specs.tree.Tree.{Path}
-use Rattle.lfs_model.specs.session.TreeEdits.{is_file, same_path}
-use Rattle.lfs_lookup.specs.FileContents.{contents_struct}
 use Rattle.lfs_lookup.specs.declared.file_contents.FileContents.{FileContents}
-use Rattle.lfs_tree.specs.KeptFiles.{KeepsOtherFiles, list_blocks_at, slot_list_blocks}
-use Rattle.lfs_tree.specs.TreeState.{IsApplied, TreeState, OnlyReadsTree, kept_thread, tree_view}
-use Rattle.lfs_fs.specs.FileView.{RuntimeFiles, open_file_at, file_with_known, file_with_position, file_view, files_view, runtime_files_with, reader_if_any, writers_paths, readers_among, writers_among}
-use Rattle.lfs_fs.specs.SessionView.{HasKnownBlocks, IsCurrentReader, IsReady, IsWriterReady}
+use Rattle.lfs_tree.specs.KeptFiles.{list_blocks_at, slot_blocks}
 use Rattle.lfs_fs.specs.declared.files.OpenFile.TheVariants as file
 use Rattle.lfs_fs.specs.declared.files.Reader.{Reader}
 use Rattle.lfs_fs.specs.declared.files.Writer.{Writer}
@@ -54,7 +39,7 @@ module _ (disk : Disk) (fs : RuntimeFiles) (fd : ℕ) where
 blocks_at_path : (t : TreeState) (path : Path) (s : Struct) → struct_at t.pairs path ≡ Some s → list_blocks_at (kept_thread t) path ≡ struct_blocks t.disk s
 blocks_at_path t path s e = go (slot_of t.pairs path) e
   where
-    go : (o : Option Slot) → option_map (λ (u : Slot). u.struct) o ≡ Some s → slot_list_blocks t.disk o ≡ struct_blocks t.disk s
+    go : (o : Option Slot) → option_map (λ (u : Slot). u.struct) o ≡ Some s → slot_blocks t.disk o ≡ struct_blocks t.disk s
     go None e = absurd (cc)
     go (Some u) e = ap (struct_blocks t.disk) (same_Some u.struct s e)
 
@@ -81,8 +66,8 @@ module _ (old new : TreeState) where
       (still_known r read.0.contents.struct (ap (λ ps. struct_at ps r.path) same) (lists r.path) h.0, known_beside written rs same lists read.1 h.1)
 
   -- where the contents of a writer are stored
-  pub known_stored : (path : Path) (rs : List Reader) → KeepsOtherFiles (tree_view old) old.pairs path new.pairs
-      → ((q : Path) → is_file (tree_view old q) ≡ true → same_path path q ≡ false → list_blocks_at (kept_thread new) q ≡ list_blocks_at (kept_thread old) q)
+  pub known_stored : (path : Path) (rs : List Reader) → KeepsOtherFiles (shown_tree old) old.pairs path new.pairs
+      → ((q : Path) → is_file (shown_tree old q) ≡ true → same_path path q ≡ false → list_blocks_at (kept_thread new) q ≡ list_blocks_at (kept_thread old) q)
       → AllByRecursion (IsCurrentReader old.pairs (path ∷ [])) rs → AllByRecursion (HasKnownBlocks old.disk) rs → AllByRecursion (HasKnownBlocks new.disk) rs
   known_stored path [] others lists read h = tt
   known_stored path (r ∷ rs) others lists read h =

@@ -3,28 +3,14 @@ use Rattle.std.proofs.Common.{arith, ◌≡◌, inl, inr, true, false, cond, set
 use Rattle.std.specs.Prelude.{◌⊎◌, OnOk, OnErr, IfErr}
 use Rattle.lfs_device.specs.declared.error.Error.{Error}
 use Rattle.lfs_device.specs.declared.error.Error.TheVariants.{Io, NoMemory, Corrupt}
-use Rattle.lfs_model.specs.format.Disk.{Disk, SameGeometry, ordered_disk}
-use Rattle.lfs_model.specs.session.History.{CallEvent}
+use Rattle.lfs_fs.proofs.Common.{Disk, SameGeometry, ordered_disk, CallEvent, OpenFilesByNumber, Healthy, mounted_session, tree_stored, file_with_bytes, tree_with_change, option_map, Tree, IsAccepted, disk_tree, SystemState, IsStep, WriteNothing, is_dirty, is_refusal, error_refusal, TreeState, shown_tree, tree_summary, kept_thread, FailedByReading, HasMountCause, IsMountedTree, IsRemountedTree, IsSoundState, reply_from, RuntimeFiles, unsaved_or_tree, open_file_at, is_unsaved_one, file_view, files_view, SessionView, IsReady, session_view, view_with_files, system_state, refusal_by_checks, SessionFails, StepsOrFails}
 use Rattle.lfs_model.specs.session.Operations as ops
-use Rattle.lfs_model.specs.session.Session.{OpenFilesByNumber}
-use Rattle.lfs_model.specs.session.State.{Healthy, mounted_session}
-use Rattle.lfs_model.specs.session.Effects.{tree_stored, file_with_bytes}
-use Rattle.lfs_model.specs.session.TreeEdits.{tree_with_change}
 use Rattle.std.specs.List.{IsDistinct}
-use Rattle.std.specs.Option.{option_map}
-use Rattle.lfs_model.specs.tree.Tree.{Tree}
-use Rattle.lfs_model.specs.tree.View.{IsAccepted}
-use Rattle.lfs_model.specs.tree.Shown.{tree_on_disk}
-use Rattle.lfs_model.specs.session.Run.{SystemState, IsStep, ShowsTree, WriteNothing, is_dirty}
+use Rattle.lfs_model.specs.session.Run.{ShowsTree}
 use Rattle.lfs_model.proofs.StepsMade.{remounted_step}
-use Rattle.lfs_lookup.specs.RefusalErrors.{is_refusal, error_refusal}
-use Rattle.lfs_tree.specs.TreeState.{TreeState, tree_view, tree_summary, kept_thread, FailedByReading, IsCausedError, IsMountedTree, IsRemountedTree, IsSoundState}
-use Rattle.lfs_fs.specs.Replies.{reply_from}
-use Rattle.lfs_fs.specs.FileView.{RuntimeFiles, unsaved_or_tree, open_file_at, is_unsaved_one, file_view, files_view}
 use Rattle.lfs_fs.specs.declared.files.OpenFile as kept
 use Rattle.lfs_fs.specs.declared.files.OpenFile.TheVariants as file
 use Rattle.lfs_fs.specs.declared.files.UnsavedContents.{UnsavedContents}
-use Rattle.lfs_fs.specs.SessionView.{SessionView, IsReady, view_of_session, view_of_files, system_state, refusal_by_checks, SessionFails, StepsOrFails}
 use Rattle.lfs_fs.proofs.OpenFiles.{file_is, is_saved, ready_closed, saved_is, set_is}
 use Rattle.lfs_fs.proofs.Failing.{reads_write_nothing, failed_system, healthy_system}
 use Rattle.lfs_fs.proofs.Answered.{is_over, kept_answer, sound_by}
@@ -50,17 +36,17 @@ not_dirty t (Some (file.Reading r)) e = refl
 not_dirty t (Some (file.Writing w)) e = not_some w.unsaved e
 
 -- no call is made
-pub closed : (t : TreeState) (fs : RuntimeFiles) (now : SessionView) (fd : ℕ) → view_of_session t fs ≡ now → (t.failed ≡ false → IsReady t fs) → refusal_by_checks (view_of_session t fs) (ops.Close fd) ≡ None → is_some (open_file_at fs fd) ≡ true → is_saved (open_file_at fs fd) ≡ true →
-    StepsOrFails now (ops.Close fd) (Ok ops.Done) (view_of_session t (set fs fd None))
+pub closed : (t : TreeState) (fs : RuntimeFiles) (now : SessionView) (fd : ℕ) → session_view t fs ≡ now → (t.failed ≡ false → IsReady t fs) → refusal_by_checks (session_view t fs) (ops.Close fd) ≡ None → is_some (open_file_at fs fd) ≡ true → is_saved (open_file_at fs fd) ≡ true →
+    StepsOrFails now (ops.Close fd) (Ok ops.Done) (session_view t (set fs fd None))
 closed t fs now fd same ready e there nothing =
-    kept_answer (view_of_session t fs) now (ops.Close fd) (files_view t (set fs fd None)) ops.Done same (sound_by t fs ready) e refl refl
+    kept_answer (session_view t fs) now (ops.Close fd) (files_view t (set fs fd None)) ops.Done same (sound_by t fs ready) e refl refl
     (ap is_dirty (file_is t fs fd) ∙ not_dirty t (open_file_at fs fd) nothing)
-    (ap₂ (λ t f. (ops.Done, record { tree = t; files = f })) (ap (λ f. tree_stored f (tree_view t)) (file_is t fs fd) ∙ no_tree_change t (open_file_at fs fd) (tree_view t) nothing) (sym (set_is t fs fd None there)))
+    (ap₂ (λ t f. (ops.Done, record { tree = t; files = f })) (ap (λ f. tree_stored f (shown_tree t)) (file_is t fs fd) ∙ no_tree_change t (open_file_at fs fd) (shown_tree t) nothing) (sym (set_is t fs fd None there)))
 
-pub closed_answers : (t : TreeState) (fs gs : RuntimeFiles) (now : SessionView) (fd : ℕ) → view_of_session t fs ≡ now → (t.failed ≡ false → IsReady t fs) → refusal_by_checks (view_of_session t fs) (ops.Close fd) ≡ None → is_some (open_file_at fs fd) ≡ true →
-    false ≡ is_unsaved_one (open_file_at fs fd) → gs ≡ set fs fd None → StepsOrFails now (ops.Close fd) (Ok ops.Done) (view_of_session t gs)
+pub closed_answers : (t : TreeState) (fs gs : RuntimeFiles) (now : SessionView) (fd : ℕ) → session_view t fs ≡ now → (t.failed ≡ false → IsReady t fs) → refusal_by_checks (session_view t fs) (ops.Close fd) ≡ None → is_some (open_file_at fs fd) ≡ true →
+    false ≡ is_unsaved_one (open_file_at fs fd) → gs ≡ set fs fd None → StepsOrFails now (ops.Close fd) (Ok ops.Done) (session_view t gs)
 closed_answers t fs gs now fd same ready e there saved is =
-    subst (λ z. StepsOrFails now (ops.Close fd) (Ok ops.Done) (view_of_session t z)) (sym is) (closed t fs now fd same ready e there (saved_is (open_file_at fs fd) (sym saved)))
+    subst (λ z. StepsOrFails now (ops.Close fd) (Ok ops.Done) (session_view t z)) (sym is) (closed t fs now fd same ready e there (saved_is (open_file_at fs fd) (sym saved)))
 
 pub closed_ready : (t : TreeState) (fs gs : RuntimeFiles) (fd : ℕ) → false ≡ is_unsaved_one (open_file_at fs fd) → (t.failed ≡ false → IsReady t fs) → gs ≡ set fs fd None → t.failed ≡ false → IsReady t gs
 closed_ready t fs gs fd saved ready is works = subst (IsReady t) (sym is) (ready_closed t fs fd (saved_is (open_file_at fs fd) (sym saved)) (ready works))
@@ -72,10 +58,10 @@ no_refusal e (inl h) = ap is_refusal h
 no_refusal e (inr (inl h)) = ap is_refusal h
 no_refusal e (inr (inr h)) = ap is_refusal h.0
 
-remount_fails : (e : Error) (old : SessionView) (new : TreeState) (files : OpenFilesByNumber) → FailedByReading old.tree new → IsCausedError old.tree new e → SessionFails e (system_state old) ops.Remount (system_state (view_of_files new files))
+remount_fails : (e : Error) (old : SessionView) (new : TreeState) (files : OpenFilesByNumber) → FailedByReading old.tree new → HasMountCause old.tree new e → SessionFails e (system_state old) ops.Remount (system_state (view_with_files new files))
 remount_fails e old new files broken error = record {
   fails = record {
-    failed = ap (λ (m : SystemState). m.state) (failed_system (view_of_files new files) broken.failed);
+    failed = ap (λ (m : SystemState). m.state) (failed_system (view_with_files new files) broken.failed);
     geometry = subst (λ d. SameGeometry old.tree.disk d) (sym broken.disk) (record { block_size = refl; page = refl; order = refl; profile = refl; count = refl });
     calls = broken.reads.events;
     called = broken.reads.extends;
@@ -98,7 +84,7 @@ remount_fails e old new files broken error = record {
     widened (inr (inl h)) = inr (inl h)
     widened (inr (inr h)) = inr (inr (h.0, refl, h.1))
 
-remount_steps : (old : SessionView) (new : TreeState) → (old.tree.failed ≡ false → IsSoundState old.tree) → IsRemountedTree old.tree new → IsStep (system_state old) ops.Remount ops.Done (system_state (view_of_files new []))
+remount_steps : (old : SessionView) (new : TreeState) → (old.tree.failed ≡ false → IsSoundState old.tree) → IsRemountedTree old.tree new → IsStep (system_state old) ops.Remount ops.Done (system_state (view_with_files new []))
 remount_steps old new sound r =
     subst (λ z. IsStep (system_state old) ops.Remount ops.Done z) (sym to)
     (remounted_step old.tree.disk new.disk.order new.pairs (tree_summary old.tree) (system_state old).state m.reads.events old.tree.history
@@ -109,18 +95,18 @@ remount_steps old new sound r =
     m : IsMountedTree (ordered_disk new.disk.order old.tree.disk) old.tree.history new
     m = r.mounted
 
-    to : system_state (view_of_files new []) ≡ record { disk = ordered_disk new.disk.order old.tree.disk; calls = m.reads.events ++ old.tree.history; state = Healthy (mounted_session (tree_on_disk old.tree.disk new.pairs)) }
-    to = healthy_system (view_of_files new []) m.works
-        ∙ ap₂ (λ (d : Disk) (h : List CallEvent). record { disk = d; calls = h; state = Healthy (mounted_session (tree_on_disk d new.pairs)) }) m.disk_is m.reads.extends
+    to : system_state (view_with_files new []) ≡ record { disk = ordered_disk new.disk.order old.tree.disk; calls = m.reads.events ++ old.tree.history; state = Healthy (mounted_session (disk_tree old.tree.disk new.pairs)) }
+    to = healthy_system (view_with_files new []) m.works
+        ∙ ap₂ (λ (d : Disk) (h : List CallEvent). record { disk = d; calls = h; state = Healthy (mounted_session (disk_tree d new.pairs)) }) m.disk_is m.reads.extends
 
 pub remount_answers : (old now : SessionView) (new : TreeState) (files : RuntimeFiles) (r : Result (Unit {0}) Error) → old ≡ now → (old.tree.failed ≡ false → IsSoundState old.tree) → files ≡ [] → OnOk r (IsRemountedTree old.tree new) → OnErr r (FailedByReading old.tree new) →
-    IfErr r (IsCausedError old.tree new) → StepsOrFails now ops.Remount (reply_from (λ u. ops.Done) r) (view_of_session new files)
+    IfErr r (HasMountCause old.tree new) → StepsOrFails now ops.Remount (reply_from (λ u. ops.Done) r) (session_view new files)
 remount_answers old now new files (Ok u) same sound none ok broken errors =
-    subst (λ z. IsStep (system_state z) ops.Remount ops.Done (system_state (view_of_session new files))) same
-    (subst (λ f. IsStep (system_state old) ops.Remount ops.Done (system_state (view_of_session new f))) (sym none) (remount_steps old new sound ok))
+    subst (λ z. IsStep (system_state z) ops.Remount ops.Done (system_state (session_view new files))) same
+    (subst (λ f. IsStep (system_state old) ops.Remount ops.Done (system_state (session_view new f))) (sym none) (remount_steps old new sound ok))
 remount_answers old now new files (Err e) same sound none ok broken errors =
-    subst (λ z. StepsOrFails z ops.Remount (cond (is_refusal e) (Ok (ops.Refused (error_refusal e))) (Err e)) (view_of_session new files)) same
-    (subst (λ b. StepsOrFails old ops.Remount (cond b (Ok (ops.Refused (error_refusal e))) (Err e)) (view_of_session new files)) (sym (no_refusal e errors.errors)) (remount_fails e old new (files_view new files) broken errors))
+    subst (λ z. StepsOrFails z ops.Remount (cond (is_refusal e) (Ok (ops.Refused (error_refusal e))) (Err e)) (session_view new files)) same
+    (subst (λ b. StepsOrFails old ops.Remount (cond b (Ok (ops.Refused (error_refusal e))) (Err e)) (session_view new files)) (sym (no_refusal e errors.errors)) (remount_fails e old new (files_view new files) broken errors))
 
 pub mounted_ready : (disk : Disk) (history : List CallEvent) (new : TreeState) → IsMountedTree disk history new → IsReady new []
 mounted_ready disk history new m = record { sound = m.sound; called = has_called history new.history m.called; one = omega arith; idle = λ e. m.none_in_flight; written = tt; read = tt; known = tt }

@@ -1,29 +1,16 @@
 -- Operations in turn, by a loop.
-use Rattle.std.specs.List.{AllByRecursion}
+use Rattle.lfs_fs.proofs.Common.{AllByRecursion, take_all, map-append, fault_count, read_count, Operation, SurvivesPowerLoss, IsStep, SystemState, Session, Healthy, Pair, ReadsOnceAlways, IsAccepted, SessionFails, SessionView, system_state, HasRefusalError, op_view, reply_view, IsCall, AreFewSmall, HasCachedDirectories, pair_count_at, searched_directories}
 use Rattle.std.specs.Prelude.{sum_by}
 use Rattle.std.proofs.Common.{Ok, ℕ, ◌≡◌, ◌+◌, ◌<◌, ◌≤◌, Bool, false, cond, List, [], ◌∷◌, ◌++◌, Option, None, Some, length, take, drop, map, get_or, refl, sym, ap, subst, ◌∙◌, drop-cons, add-one, true, arith}
-use Rattle.std.proofs.lemmas.List.{append_cancel_right, take_more, take_all, map-append, take-append-drop}
+use Rattle.std.proofs.lemmas.List.{append_cancel_right, take_more, take-append-drop}
 use Rattle.lfs_device.specs.declared.error.Error.{Error}
-use Rattle.lfs_model.specs.session.History.{fault_count, read_count}
 use Rattle.lfs_model.specs.session.Operations as ops
-use Rattle.lfs_model.specs.session.Operations.{Operation}
 use Rattle.lfs_model.specs.crash.Performed.{AreSafeSteps}
-use Rattle.lfs_model.specs.crash.PowerLoss.{SurvivesPowerLoss}
-use Rattle.lfs_model.specs.session.Run.{IsStep, SystemState}
-use Rattle.lfs_model.specs.session.Session.{Session}
-use Rattle.lfs_model.specs.session.State.{Healthy}
-use Rattle.lfs_model.specs.format.Thread.{Pair}
-use Rattle.lfs_model.specs.crash.ReadBounds.{BoundsAlways, IsLocal, ReadsNothing, unless_refusal}
-use Rattle.lfs_model.specs.tree.View.{IsAccepted}
+use Rattle.lfs_model.specs.crash.ReadBounds.{IsLocal, ReadsNothing, accepted_operation}
 use Rattle.lfs_model.proofs.Performing.{last_accepted, last_further, performed_further}
-use Rattle.lfs_fs.specs.SessionView.{SessionFails, SessionView, EndsRun, system_state}
-use Rattle.lfs_fs.specs.OpView.{RefusesOnly, op_view, reply_view}
-use Rattle.lfs_fs.specs.CallEffects.{IsCall}
+use Rattle.lfs_fs.specs.SessionView.{FailsRun}
 use Rattle.lfs_fs.proofs.KeptLookUps.{kept_hand, kept_small}
-use Rattle.lfs_lookup.specs.CachedPairs.{AreFewSmall}
-use Rattle.lfs_tree.specs.TreeReads.{HasCachedDirectories}
 use Rattle.lfs_model.specs.session.Run as model
-use Rattle.lfs_model.specs.crash.Frame.{pair_count_at, searched_directories}
 use Rattle.lfs_fs.specs.declared.run.Op.{Op}
 use Rattle.lfs_fs.specs.declared.run.Reply.{Reply}
 
@@ -52,7 +39,7 @@ call_within_read_bounds before old op reply new warm call turn = record {
     go None w s at ps a = tt
     go (Some b) w s at ps a = λ k. call.asks.none k.again (kept_hand ps b op k old.tree (w k.path k.stat s at ps a (kept_small ps b op k))) turn.calls turn.called
 
-warm_behind : (old : SessionView) (op : Operation) (reply : ops.Reply) (new : SessionView) → IsCall old op (Ok reply) new → IsWarm (unless_refusal op reply) new
+warm_behind : (old : SessionView) (op : Operation) (reply : ops.Reply) (new : SessionView) → IsCall old op (Ok reply) new → IsWarm (accepted_operation op reply) new
 warm_behind old op reply new call = go (model.is_refusal reply) refl
   where
     go : (b : Bool) → model.is_refusal reply ≡ b → IsWarm (cond b None (Some op)) new
@@ -94,15 +81,15 @@ pub run_ended : (ops : List Op) (i : ℕ) (replies : List Reply) (a : SystemStat
 run_ended ops i replies a b h done = subst (λ xs. HaveRun a (map op_view xs) (map reply_view replies) b) (take_all i ops h) done
 
 -- each refusal is named
-pub named_further : (replies new : List Reply) (reply : Reply) → AllByRecursion RefusesOnly replies → RefusesOnly reply → new ≡ replies ++ reply ∷ [] → AllByRecursion RefusesOnly new
-named_further replies new reply done one is = subst (AllByRecursion RefusesOnly) (sym is) (go replies done)
+pub named_further : (replies new : List Reply) (reply : Reply) → AllByRecursion HasRefusalError replies → HasRefusalError reply → new ≡ replies ++ reply ∷ [] → AllByRecursion HasRefusalError new
+named_further replies new reply done one is = subst (AllByRecursion HasRefusalError) (sym is) (go replies done)
   where
-    go : (rs : List Reply) → AllByRecursion RefusesOnly rs → AllByRecursion RefusesOnly (rs ++ reply ∷ [])
+    go : (rs : List Reply) → AllByRecursion HasRefusalError rs → AllByRecursion HasRefusalError (rs ++ reply ∷ [])
     go [] h = (one, tt)
     go (r ∷ rs) h = (h.0, go rs h.1)
 
 -- without a call nothing was read
-pub silent_few : (from : SystemState) (op : Operation) (to : SystemState) → to.calls ≡ from.calls → BoundsAlways from op to
+pub silent_few : (from : SystemState) (op : Operation) (to : SystemState) → to.calls ≡ from.calls → ReadsOnceAlways from op to
 silent_few from op to same s at ps a calls is looks =
     let none = append_cancel_right calls [] from.calls (sym is ∙ same) in
     subst (λ z. read_count z ≤ sum_by (pair_count_at ps) (searched_directories op)) (sym none) (zero_least _)
@@ -111,8 +98,8 @@ silent_few from op to same s at ps a calls is looks =
     zero_least n = omega arith
 
 -- the session fails in the next one
-pub run_cut : (e : Error) (ops : List Op) (i : ℕ) (d : Op) (replies : List Reply) (a : SystemState) (b : SessionView) (c : SystemState) → i < length ops → HaveRun a (map op_view (take i ops)) (map reply_view replies) b → BoundsAlways (system_state b) (op_view (get_or ops i d)) c →
-    SessionFails e (system_state b) (op_view (get_or ops i d)) c → SurvivesPowerLoss (system_state b) (op_view (get_or ops i d)) c → EndsRun e a (map op_view ops) c
+pub run_cut : (e : Error) (ops : List Op) (i : ℕ) (d : Op) (replies : List Reply) (a : SystemState) (b : SessionView) (c : SystemState) → i < length ops → HaveRun a (map op_view (take i ops)) (map reply_view replies) b → ReadsOnceAlways (system_state b) (op_view (get_or ops i d)) c →
+    SessionFails e (system_state b) (op_view (get_or ops i d)) c → SurvivesPowerLoss (system_state b) (op_view (get_or ops i d)) c → FailsRun e a (map op_view ops) c
 run_cut e ops i d replies a b c lt run few fails survives_loss = record {
   ended = record {
     done = map op_view (take i ops);

@@ -1,15 +1,8 @@
 -- Two paths are the same where their bytes are.
 use Rattle.std.proofs.Common.{ℕ, ◌≡◌, ◌==◌, Bool, true, false, not, cond, List, [], ◌∷◌, length, Option, Some, None, is_some, unwrap_or, refl, sym, ap, ◌∙◌, arith}
-use Rattle.std.specs.List.{slice_split, list_all, join_with_byte, onto_first}
-use Rattle.std.proofs.lemmas.Option.{same_Some}
-use Rattle.std.proofs.lemmas.Bool.{eqb-true, lt-ltb}
+use Rattle.lfs_fs.proofs.Common.{slice_split, list_all, onto_first, same_Some, eqb-true, lt-ltb, is_component, same_name, slash_byte, same_path, parse_path, path_or_root, Path, Names, alike, unlike, names, path_itself, path_from_same}
+use Rattle.std.specs.List.{join_with_byte}
 use Rattle.std.proofs.lemmas.List.Splits.{join_with_byte-slice_split}
-use Rattle.lfs_model.specs.format.Names.{is_component, same_name, slash_byte}
-use Rattle.lfs_model.specs.session.TreeEdits.{same_path}
-use Rattle.lfs_model.specs.session.Operations.{parse_path}
-use Rattle.lfs_model.specs.session.Refusals.{path_or_root}
-use Rattle.lfs_model.specs.tree.Tree.{Path}
-use Rattle.lfs_model.proofs.Paths.{Names, alike, unlike, names, path_itself, path_from_same}
 
 -- the bytes of a path
 spelling : Path → List ℕ

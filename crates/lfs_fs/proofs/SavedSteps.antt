@@ -1,31 +1,13 @@
 -- The turns of a sync and of a close.
 use Rattle.std.proofs.Common.{arith, ◌≡◌, ◌<◌, ◌≤◌, ◌||◌, map, true, false, cond, not, set, List, [], ◌∷◌, ◌++◌, length, Option, Some, None, is_some, nat_lt, Result, Ok, Err, ℕ, suc, zero, refl, sym, ap, ap₂, subst, ◌∙◌}
-use Rattle.std.specs.List.{AllByRecursion, list_any}
-use Rattle.std.specs.Option.{option_flatten, option_map}
-use Rattle.std.proofs.lemmas.List.{length-map, length-set, map-set, set-set}
+use Rattle.lfs_fs.proofs.Common.{AllByRecursion, list_any, option_flatten, option_map, map-set, tree_with_change, same_path, CallEvent, IsLayoutRecovered, Operation, IsStep, opens_existing, writes_or_truncates, is_dirty, needs_no_call, is_read_only, renames_itself, OpenFilesByNumber, Session, DiskSummary, Reading, Writing, file_numbered, files_with_file, file_reader, synced_writer, Healthy, is_remount, tree_stored, operation_effect, file_with_bytes, Path, completed_step, StoresBytesAt, error_refusal, TreeState, IsFailedTree, HasErrorCause, IsSoundState, tree_summary, shown_tree, CanSaveWriter, IsSavedWriter, RuntimeFiles, unsaved_or_tree, open_file_at, file_view, files_view, is_unsaved_one, readers_among, writer_view, writers_among, StepsOrFails, AreCurrentReaders, HasKnownBlocks, IsCurrentReader, SessionView, IsReady, IsWriterReady, session_view, view_with_files, system_state, refusal_by_checks, viewed_session, reply_from, KeepsWriters}
+use Rattle.std.proofs.lemmas.List.{length-map, length-set, set-set}
 use Rattle.lfs_device.specs.declared.error.Error.{Error}
-use Rattle.lfs_model.specs.session.TreeEdits.{tree_with_change, same_path}
-use Rattle.lfs_model.specs.session.History.{CallEvent}
-use Rattle.lfs_model.specs.session.Layout.{IsLayoutRecovered}
 use Rattle.lfs_model.specs.session.Operations as ops
-use Rattle.lfs_model.specs.session.Operations.{Operation}
-use Rattle.lfs_model.specs.session.Run.{IsStep, opens_existing, writes_or_truncates, is_dirty, is_recover, needs_no_call, is_read_only, renames_itself}
+use Rattle.lfs_model.specs.session.Run.{is_recover}
 use Rattle.lfs_model.specs.session.Session as session
-use Rattle.lfs_model.specs.session.Session.{OpenFilesByNumber, Session, DiskSummary, Reading, Writing, file_numbered, files_with_file, file_reader}
-use Rattle.lfs_model.specs.session.Writers.{synced_writer}
-use Rattle.lfs_model.specs.session.State.{Healthy, is_remount}
-use Rattle.lfs_model.specs.session.Effects.{file_after_sync, tree_stored, operation_effect, file_with_bytes}
-use Rattle.lfs_model.specs.tree.Tree.{Path}
+use Rattle.lfs_model.specs.session.Effects.{file_after_sync}
 use Rattle.lfs_model.proofs.BlockSets.{slice_get-set_same}
-use Rattle.lfs_model.proofs.StepsMade.{completed_step}
-use Rattle.lfs_tree.specs.OpenContents.{StoresBytesAt}
-use Rattle.lfs_lookup.specs.RefusalErrors.{error_refusal}
-use Rattle.lfs_tree.specs.TreeState.{TreeState, IsFailedTree, HasErrorCause, IsSoundState, tree_summary, tree_view}
-use Rattle.lfs_fs.specs.WriterChanges.{CanSaveWriter, IsSavedWriter}
-use Rattle.lfs_fs.specs.FileView.{RuntimeFiles, unsaved_or_tree, open_file_at, file_view, files_view, is_unsaved_one, readers_among, writer_view, writers_among}
-use Rattle.lfs_fs.specs.SessionView.{StepsOrFails, AreCurrentReaders, HasKnownBlocks, IsCurrentReader, SessionView, IsReady, IsWriterReady, view_of_session, view_of_files, system_state, refusal_by_checks, viewed_session}
-use Rattle.lfs_fs.specs.Replies.{reply_from}
-use Rattle.lfs_fs.specs.OpenFilesStay.{KeepsWriters}
 use Rattle.lfs_fs.specs.declared.files.OpenFile.{OpenFile}
 use Rattle.lfs_fs.specs.declared.files.OpenFile.TheVariants as file
 use Rattle.lfs_fs.specs.declared.files.Writer.{Writer}
@@ -89,18 +71,18 @@ back_is t s fs fd w v is o =
 
 -- ---- the turn
 
-stored_step : (t new : TreeState) (fs : RuntimeFiles) (files : OpenFilesByNumber) (op : Operation) (path : Path) (bytes : List ℕ) → IsSoundState t → t.failed ≡ false → refusal_by_checks (view_of_session t fs) op ≡ None → StoresBytesAt t path bytes new →
-    is_remount op ≡ false → is_read_only (viewed_session (view_of_session t fs)) op ≡ false → writes_or_truncates op ≡ false → opens_existing (viewed_session (view_of_session t fs)) op ≡ false → needs_no_call (viewed_session (view_of_session t fs)) op ≡ false →
+stored_step : (t new : TreeState) (fs : RuntimeFiles) (files : OpenFilesByNumber) (op : Operation) (path : Path) (bytes : List ℕ) → IsSoundState t → t.failed ≡ false → refusal_by_checks (session_view t fs) op ≡ None → StoresBytesAt t path bytes new →
+    is_remount op ≡ false → is_read_only (viewed_session (session_view t fs)) op ≡ false → writes_or_truncates op ≡ false → opens_existing (viewed_session (session_view t fs)) op ≡ false → needs_no_call (viewed_session (session_view t fs)) op ≡ false →
     renames_itself op ≡ false → is_recover op ≡ false →
-    ((around : DiskSummary) → tree_view new ≡ (operation_effect around (viewed_session (view_of_session t fs)) op).1.tree) → IsLayoutRecovered t.disk t.pairs (viewed_session (view_of_session t fs)) op new.disk new.pairs →
-    (operation_effect (tree_summary t) (viewed_session (view_of_session t fs)) op).1.files ≡ files →
-    IsStep (system_state (view_of_session t fs)) op (operation_effect (tree_summary t) (viewed_session (view_of_session t fs)) op).0 (system_state (view_of_files new files))
+    ((around : DiskSummary) → shown_tree new ≡ (operation_effect around (viewed_session (session_view t fs)) op).1.tree) → IsLayoutRecovered t.disk t.pairs (viewed_session (session_view t fs)) op new.disk new.pairs →
+    (operation_effect (tree_summary t) (viewed_session (session_view t fs)) op).1.files ≡ files →
+    IsStep (system_state (session_view t fs)) op (operation_effect (tree_summary t) (viewed_session (session_view t fs)) op).0 (system_state (view_with_files new files))
 stored_step t new fs files op path bytes sound works e stored other asks fill creates silent itself left shows arranged opened =
-    let old = view_of_session t fs in
-    let is : record { tree = tree_view new; files = files } ≡ (operation_effect (tree_summary t) (viewed_session old) op).1 = ap₂ (λ t f. record { tree = t; files = f }) (shows (tree_summary t)) (sym opened) in
-    let to = healthy_system (view_of_files new files) stored.works
+    let old = session_view t fs in
+    let is : record { tree = shown_tree new; files = files } ≡ (operation_effect (tree_summary t) (viewed_session old) op).1 = ap₂ (λ t f. record { tree = t; files = f }) (shows (tree_summary t)) (sym opened) in
+    let to = healthy_system (view_with_files new files) stored.works
     ∙ ap₂ (λ (calls : List CallEvent) (s : Session). record { disk = new.disk; calls = calls; state = Healthy s }) stored.called is in
-    subst (λ m. IsStep m op (operation_effect (tree_summary t) (viewed_session old) op).0 (system_state (view_of_files new files))) (sym (healthy_system old works))
+    subst (λ m. IsStep m op (operation_effect (tree_summary t) (viewed_session old) op).0 (system_state (view_with_files new files))) (sym (healthy_system old works))
     (subst (λ m. IsStep (record { disk = t.disk; calls = t.history; state = Healthy (viewed_session old) }) op (operation_effect (tree_summary t) (viewed_session old) op).0 m) (sym to)
     (completed_step t.disk t.pairs (viewed_session old) (tree_summary t) op new.disk new.pairs stored.calls t.history (is_over t (files_view t fs) sound) (not_refused old op e)
     (record {
@@ -119,11 +101,11 @@ file_at : (t : TreeState) (fs : RuntimeFiles) (fd : ℕ) (w : Writer) → Some (
 file_at t fs fd w is = file_is t fs fd ∙ ap (option_map (file_view t)) (sym is)
 
 committed_is : (t new : TreeState) (fs : RuntimeFiles) (fd : ℕ) (w : Writer) → Some (file.Writing w) ≡ open_file_at fs fd → is_some w.unsaved ≡ true → StoresBytesAt t w.path (unsaved_or_tree t w.path w.unsaved) new →
-    tree_view new ≡ tree_stored (file_numbered (files_view t fs) fd) (tree_view t)
+    shown_tree new ≡ tree_stored (file_numbered (files_view t fs) fd) (shown_tree t)
 committed_is t new fs fd w is dirty stored =
     stored.shows
-    ∙ sym (ap (λ f. tree_stored f (tree_view t)) (file_at t fs fd w is)
-    ∙ ap (λ b. cond b (tree_with_change w.path (file_with_bytes (unsaved_or_tree t w.path w.unsaved)) (tree_view t)) (tree_view t)) dirty)
+    ∙ sym (ap (λ f. tree_stored f (shown_tree t)) (file_at t fs fd w is)
+    ∙ ap (λ b. cond b (tree_with_change w.path (file_with_bytes (unsaved_or_tree t w.path w.unsaved)) (shown_tree t)) (shown_tree t)) dirty)
 
 pub dirty_at : (t : TreeState) (fs : RuntimeFiles) (fd : ℕ) (w : Writer) → Some (file.Writing w) ≡ open_file_at fs fd → is_some w.unsaved ≡ true → not (is_dirty (file_numbered (files_view t fs) fd)) ≡ false
 dirty_at t fs fd w is dirty = ap (λ f. not (is_dirty f)) (file_at t fs fd w is) ∙ ap not dirty
@@ -134,39 +116,39 @@ writer_at t fs fd w is dirty = (file_at t fs fd w is, (dirty, (refl, refl)))
 
 -- ---- a sync
 
-sync_step : (t new : TreeState) (fs : RuntimeFiles) (fd : ℕ) (w v : Writer) → IsReady t fs → refusal_by_checks (view_of_session t fs) (ops.Sync fd) ≡ None → Some (file.Writing w) ≡ open_file_at fs fd → is_some w.unsaved ≡ true →
+sync_step : (t new : TreeState) (fs : RuntimeFiles) (fd : ℕ) (w v : Writer) → IsReady t fs → refusal_by_checks (session_view t fs) (ops.Sync fd) ≡ None → Some (file.Writing w) ≡ open_file_at fs fd → is_some w.unsaved ≡ true →
     StoresBytesAt t w.path (unsaved_or_tree t w.path w.unsaved) new → IsSavedWriter new (synced_writer (writer_view t w)) v →
-    IsStep (system_state (view_of_session t fs)) (ops.Sync fd) ops.Done (system_state (view_of_session new (set (set fs fd None) fd (Some (file.Writing v)))))
+    IsStep (system_state (session_view t fs)) (ops.Sync fd) ops.Done (system_state (session_view new (set (set fs fd None) fd (Some (file.Writing v)))))
 sync_step t new fs fd w v ready e is dirty stored saved =
-    stored_step t new fs (files_view new (set (set fs fd None) fd (Some (file.Writing v)))) (ops.Sync fd) w.path (unsaved_or_tree t w.path w.unsaved) ready.sound (not_failed (view_of_session t fs) (ops.Sync fd) e) e stored
+    stored_step t new fs (files_view new (set (set fs fd None) fd (Some (file.Writing v)))) (ops.Sync fd) w.path (unsaved_or_tree t w.path w.unsaved) ready.sound (not_failed (session_view t fs) (ops.Sync fd) e) e stored
     refl refl refl refl (dirty_at t fs fd w is dirty) refl refl (λ around. committed_is t new fs fd w is dirty stored) (stored.synced (files_view t fs) fd (writer_view t w) (writer_at t fs fd w is dirty))
     (ap (λ f. files_with_file (files_view t fs) fd (file_after_sync f)) (file_at t fs fd w is)
     ∙ ap (λ x. files_with_file (files_view t fs) fd (Some (Writing x))) (sym saved.seen)
     ∙ sym (back_is t new fs fd w v is (only fs fd w (sym is) ready.one)))
 
-pub sync_answers : (t new : TreeState) (fs mid gs : RuntimeFiles) (now : SessionView) (fd : ℕ) (w v : Writer) → view_of_session t fs ≡ now → (t.failed ≡ false → IsReady t fs) → refusal_by_checks (view_of_session t fs) (ops.Sync fd) ≡ None →
+pub sync_answers : (t new : TreeState) (fs mid gs : RuntimeFiles) (now : SessionView) (fd : ℕ) (w v : Writer) → session_view t fs ≡ now → (t.failed ≡ false → IsReady t fs) → refusal_by_checks (session_view t fs) (ops.Sync fd) ≡ None →
     is_unsaved_one (open_file_at fs fd) ≡ true → Some (file.Writing w) ≡ open_file_at fs fd → StoresBytesAt t w.path (unsaved_or_tree t w.path w.unsaved) new → IsSavedWriter new (synced_writer (writer_view t w)) v →
-    mid ≡ set fs fd None → gs ≡ set mid fd (Some (file.Writing v)) → StepsOrFails now (ops.Sync fd) (Ok ops.Done) (view_of_session new gs)
+    mid ≡ set fs fd None → gs ≡ set mid fd (Some (file.Writing v)) → StepsOrFails now (ops.Sync fd) (Ok ops.Done) (session_view new gs)
 sync_answers t new fs mid gs now fd w v same ready e unsaved is stored saved left back =
-    subst (λ z. IsStep (system_state z) (ops.Sync fd) ops.Done (system_state (view_of_session new gs))) same
-    (subst (λ z. IsStep (system_state (view_of_session t fs)) (ops.Sync fd) ops.Done (system_state (view_of_session new z))) (sym (back ∙ ap (λ z. set z fd (Some (file.Writing v))) left))
-    (sync_step t new fs fd w v (ready (not_failed (view_of_session t fs) (ops.Sync fd) e)) e is (unsaved_writer (open_file_at fs fd) w unsaved is) stored saved))
+    subst (λ z. IsStep (system_state z) (ops.Sync fd) ops.Done (system_state (session_view new gs))) same
+    (subst (λ z. IsStep (system_state (session_view t fs)) (ops.Sync fd) ops.Done (system_state (session_view new z))) (sym (back ∙ ap (λ z. set z fd (Some (file.Writing v))) left))
+    (sync_step t new fs fd w v (ready (not_failed (session_view t fs) (ops.Sync fd) e)) e is (unsaved_writer (open_file_at fs fd) w unsaved is) stored saved))
 
 sync_writers : (t : TreeState) (fs mid gs : RuntimeFiles) (fd : ℕ) (w v : Writer) → IsReady t fs → Some (file.Writing w) ≡ open_file_at fs fd → mid ≡ set fs fd None → gs ≡ set mid fd (Some (file.Writing v)) → writers_among gs ≡ v ∷ []
 sync_writers t fs mid gs fd w v ready is left back =
     ap (λ xs. writers_among xs) (back ∙ ap (λ z. set z fd (Some (file.Writing v))) left ∙ set-set fs fd None (Some (file.Writing v))) ∙ (only fs fd w (sym is) ready.one).with_other v
 
-pub sync_ready : (t new : TreeState) (fs mid gs : RuntimeFiles) (fd : ℕ) (w v : Writer) (bytes : List ℕ) → (t.failed ≡ false → IsReady t fs) → refusal_by_checks (view_of_session t fs) (ops.Sync fd) ≡ None →
+pub sync_ready : (t new : TreeState) (fs mid gs : RuntimeFiles) (fd : ℕ) (w v : Writer) (bytes : List ℕ) → (t.failed ≡ false → IsReady t fs) → refusal_by_checks (session_view t fs) (ops.Sync fd) ≡ None →
     Some (file.Writing w) ≡ open_file_at fs fd → StoresBytesAt t w.path bytes new → IsSavedWriter new (synced_writer (writer_view t w)) v → mid ≡ set fs fd None → gs ≡ set mid fd (Some (file.Writing v)) → IsReady new gs
 sync_ready t new fs mid gs fd w v bytes ready e is stored saved left back =
-    let was = ready (not_failed (view_of_session t fs) (ops.Sync fd) e) in
+    let was = ready (not_failed (session_view t fs) (ops.Sync fd) e) in
     let are = sync_writers t fs mid gs fd w v was is left back in
     let o = only fs fd w (sym is) was.one in
     let path : v.path ≡ w.path = ap (λ (z : session.FileWriter). z.path) saved.seen ∙ sync_path (writer_view t w) in
     let put : gs ≡ set fs fd (Some (file.Writing v)) = back ∙ ap (λ z. set z fd (Some (file.Writing v))) left ∙ set-set fs fd None (Some (file.Writing v)) in
     record {
       sound = stored.sound;
-      called = still_called t.history new.history stored.calls stored.called (ready (not_failed (view_of_session t fs) (ops.Sync fd) e)).called;
+      called = still_called t.history new.history stored.calls stored.called (ready (not_failed (session_view t fs) (ops.Sync fd) e)).called;
       one = subst (λ ws. length ws ≤ 1) (sym are) (omega arith);
       idle = λ h. stored.none_in_flight;
       written = subst (AllByRecursion (IsWriterReady new)) (sym are) (saved.written, tt);
@@ -185,13 +167,13 @@ put_same (Some x ∷ gs) zero h = refl
 put_same (g ∷ gs) (suc n) h = ap (λ z. g ∷ z) (put_same gs n h)
 
 -- nothing is to be saved
-pub sync_idle : (t : TreeState) (fs : RuntimeFiles) (now : SessionView) (fd : ℕ) → view_of_session t fs ≡ now → (t.failed ≡ false → IsReady t fs) → refusal_by_checks (view_of_session t fs) (ops.Sync fd) ≡ None → is_some (open_file_at fs fd) ≡ true →
+pub sync_idle : (t : TreeState) (fs : RuntimeFiles) (now : SessionView) (fd : ℕ) → session_view t fs ≡ now → (t.failed ≡ false → IsReady t fs) → refusal_by_checks (session_view t fs) (ops.Sync fd) ≡ None → is_some (open_file_at fs fd) ≡ true →
     is_unsaved_one (open_file_at fs fd) ≡ false → StepsOrFails now (ops.Sync fd) (Ok ops.Done) now
 sync_idle t fs now fd same ready e there saved =
     subst (λ z. StepsOrFails now (ops.Sync fd) (Ok ops.Done) z) same
-    (kept_answer (view_of_session t fs) now (ops.Sync fd) (files_view t fs) ops.Done same (sound_by t fs ready) e refl refl
+    (kept_answer (session_view t fs) now (ops.Sync fd) (files_view t fs) ops.Done same (sound_by t fs ready) e refl refl
     (ap is_dirty (file_is t fs fd) ∙ not_dirty t (open_file_at fs fd) nothing)
-    (ap₂ (λ t f. (ops.Done, record { tree = t; files = f })) (ap (λ f. tree_stored f (tree_view t)) (file_is t fs fd) ∙ no_tree_change t (open_file_at fs fd) (tree_view t) nothing) files))
+    (ap₂ (λ t f. (ops.Done, record { tree = t; files = f })) (ap (λ f. tree_stored f (shown_tree t)) (file_is t fs fd) ∙ no_tree_change t (open_file_at fs fd) (shown_tree t) nothing) files))
   where
     nothing : is_saved (open_file_at fs fd) ≡ true
     nothing = saved_is (open_file_at fs fd) saved
@@ -209,30 +191,30 @@ sync_idle t fs now fd same ready e there saved =
 
 -- ---- a close
 
-close_step : (t new : TreeState) (fs : RuntimeFiles) (fd : ℕ) (w : Writer) → IsReady t fs → refusal_by_checks (view_of_session t fs) (ops.Close fd) ≡ None → Some (file.Writing w) ≡ open_file_at fs fd → is_some w.unsaved ≡ true →
-    StoresBytesAt t w.path (unsaved_or_tree t w.path w.unsaved) new → IsStep (system_state (view_of_session t fs)) (ops.Close fd) ops.Done (system_state (view_of_session new (set fs fd None)))
+close_step : (t new : TreeState) (fs : RuntimeFiles) (fd : ℕ) (w : Writer) → IsReady t fs → refusal_by_checks (session_view t fs) (ops.Close fd) ≡ None → Some (file.Writing w) ≡ open_file_at fs fd → is_some w.unsaved ≡ true →
+    StoresBytesAt t w.path (unsaved_or_tree t w.path w.unsaved) new → IsStep (system_state (session_view t fs)) (ops.Close fd) ops.Done (system_state (session_view new (set fs fd None)))
 close_step t new fs fd w ready e is dirty stored =
-    stored_step t new fs (files_view new (set fs fd None)) (ops.Close fd) w.path (unsaved_or_tree t w.path w.unsaved) ready.sound (not_failed (view_of_session t fs) (ops.Close fd) e) e stored
+    stored_step t new fs (files_view new (set fs fd None)) (ops.Close fd) w.path (unsaved_or_tree t w.path w.unsaved) ready.sound (not_failed (session_view t fs) (ops.Close fd) e) e stored
     refl (ap (λ f. is_some (file_reader f)) (file_at t fs fd w is)) refl refl (dirty_at t fs fd w is dirty) refl refl (λ around. committed_is t new fs fd w is dirty stored)
     (stored.closed (files_view t fs) fd (writer_view t w) (writer_at t fs fd w is dirty))
     (sym (left_is t new fs fd w is (only fs fd w (sym is) ready.one)))
 
-pub close_answers : (t new : TreeState) (fs gs : RuntimeFiles) (now : SessionView) (fd : ℕ) (w : Writer) → view_of_session t fs ≡ now → (t.failed ≡ false → IsReady t fs) → refusal_by_checks (view_of_session t fs) (ops.Close fd) ≡ None →
-    is_unsaved_one (open_file_at fs fd) ≡ true → Some (file.Writing w) ≡ open_file_at fs fd → StoresBytesAt t w.path (unsaved_or_tree t w.path w.unsaved) new → gs ≡ set fs fd None → StepsOrFails now (ops.Close fd) (Ok ops.Done) (view_of_session new gs)
+pub close_answers : (t new : TreeState) (fs gs : RuntimeFiles) (now : SessionView) (fd : ℕ) (w : Writer) → session_view t fs ≡ now → (t.failed ≡ false → IsReady t fs) → refusal_by_checks (session_view t fs) (ops.Close fd) ≡ None →
+    is_unsaved_one (open_file_at fs fd) ≡ true → Some (file.Writing w) ≡ open_file_at fs fd → StoresBytesAt t w.path (unsaved_or_tree t w.path w.unsaved) new → gs ≡ set fs fd None → StepsOrFails now (ops.Close fd) (Ok ops.Done) (session_view new gs)
 close_answers t new fs gs now fd w same ready e unsaved is stored left =
-    subst (λ z. IsStep (system_state z) (ops.Close fd) ops.Done (system_state (view_of_session new gs))) same
-    (subst (λ z. IsStep (system_state (view_of_session t fs)) (ops.Close fd) ops.Done (system_state (view_of_session new z))) (sym left)
-    (close_step t new fs fd w (ready (not_failed (view_of_session t fs) (ops.Close fd) e)) e is (unsaved_writer (open_file_at fs fd) w unsaved is) stored))
+    subst (λ z. IsStep (system_state z) (ops.Close fd) ops.Done (system_state (session_view new gs))) same
+    (subst (λ z. IsStep (system_state (session_view t fs)) (ops.Close fd) ops.Done (system_state (session_view new z))) (sym left)
+    (close_step t new fs fd w (ready (not_failed (session_view t fs) (ops.Close fd) e)) e is (unsaved_writer (open_file_at fs fd) w unsaved is) stored))
 
-pub close_ready : (t new : TreeState) (fs gs : RuntimeFiles) (fd : ℕ) (w : Writer) (bytes : List ℕ) → (t.failed ≡ false → IsReady t fs) → refusal_by_checks (view_of_session t fs) (ops.Close fd) ≡ None →
+pub close_ready : (t new : TreeState) (fs gs : RuntimeFiles) (fd : ℕ) (w : Writer) (bytes : List ℕ) → (t.failed ≡ false → IsReady t fs) → refusal_by_checks (session_view t fs) (ops.Close fd) ≡ None →
     Some (file.Writing w) ≡ open_file_at fs fd → StoresBytesAt t w.path bytes new → gs ≡ set fs fd None → IsReady new gs
 close_ready t new fs gs fd w bytes ready e is stored left =
-    let was = ready (not_failed (view_of_session t fs) (ops.Close fd) e) in
+    let was = ready (not_failed (session_view t fs) (ops.Close fd) e) in
     let o = only fs fd w (sym is) was.one in
     let are : writers_among gs ≡ [] = ap (λ xs. writers_among xs) left ∙ o.without in
     record {
       sound = stored.sound;
-      called = still_called t.history new.history stored.calls stored.called (ready (not_failed (view_of_session t fs) (ops.Close fd) e)).called;
+      called = still_called t.history new.history stored.calls stored.called (ready (not_failed (session_view t fs) (ops.Close fd) e)).called;
       one = subst (λ ws. length ws ≤ 1) (sym are) (omega arith);
       idle = λ h. stored.none_in_flight;
       written = subst (AllByRecursion (IsWriterReady new)) (sym are) tt;
@@ -244,13 +226,13 @@ close_ready t new fs gs fd w bytes ready e is stored left =
 
 -- ---- a call fails
 
-pub saving_fails : {B : Type 0} (t new : TreeState) (fs : RuntimeFiles) (files : OpenFilesByNumber) (now : SessionView) (op : Operation) (reply : B → ops.Reply) (e : Error) (r : Result B Error) → view_of_session t fs ≡ now → refusal_by_checks (view_of_session t fs) op ≡ None →
-    is_remount op ≡ false → is_read_only (viewed_session (view_of_session t fs)) op ≡ false → renames_itself op ≡ false → IsSoundState t → t.writable ≡ true → IsFailedTree t new → HasErrorCause t new e → r ≡ Err e → StepsOrFails now op (reply_from reply r) (view_of_files new files)
+pub saving_fails : {B : Type 0} (t new : TreeState) (fs : RuntimeFiles) (files : OpenFilesByNumber) (now : SessionView) (op : Operation) (reply : B → ops.Reply) (e : Error) (r : Result B Error) → session_view t fs ≡ now → refusal_by_checks (session_view t fs) op ≡ None →
+    is_remount op ≡ false → is_read_only (viewed_session (session_view t fs)) op ≡ false → renames_itself op ≡ false → IsSoundState t → t.writable ≡ true → IsFailedTree t new → HasErrorCause t new e → r ≡ Err e → StepsOrFails now op (reply_from reply r) (view_with_files new files)
 saving_fails t new fs files now op reply e r same accepted other asks itself sound writable broken error is =
-    subst (λ z. StepsOrFails z op (reply_from reply r) (view_of_files new files)) same
-    (subst (λ z. StepsOrFails (view_of_session t fs) op (reply_from reply z) (view_of_files new files)) (sym is)
-    (error_answers (view_of_session t fs) op e (view_of_files new files) (ops.Refused (error_refusal e)) error.errors
-    (broken_fails e (view_of_session t fs) op t new files (not_failed (view_of_session t fs) op accepted) other asks itself sound writable (nothing_asked t) broken error)))
+    subst (λ z. StepsOrFails z op (reply_from reply r) (view_with_files new files)) same
+    (subst (λ z. StepsOrFails (session_view t fs) op (reply_from reply z) (view_with_files new files)) (sym is)
+    (error_answers (session_view t fs) op e (view_with_files new files) (ops.Refused (error_refusal e)) error.errors
+    (broken_fails e (session_view t fs) op t new files (not_failed (session_view t fs) op accepted) other asks itself sound writable (nothing_asked t) broken error)))
 
-pub close_asks : (t : TreeState) (fs : RuntimeFiles) (fd : ℕ) (w : Writer) → Some (file.Writing w) ≡ open_file_at fs fd → is_read_only (viewed_session (view_of_session t fs)) (ops.Close fd) ≡ false
+pub close_asks : (t : TreeState) (fs : RuntimeFiles) (fd : ℕ) (w : Writer) → Some (file.Writing w) ≡ open_file_at fs fd → is_read_only (viewed_session (session_view t fs)) (ops.Close fd) ≡ false
 close_asks t fs fd w is = ap (λ f. is_some (file_reader f)) (file_at t fs fd w is)

@@ -1,45 +1,20 @@
 -- What a session's calls leave alone.
 use Rattle.std.proofs.Common.{ℕ, ◌≡◌, Bool, true, false, cond, List, [], Some, Result, Ok, Err, refl, sym, ap, subst, ◌∙◌}
 use Rattle.std.specs.Prelude.{All, OnOk, is_err}
-use Rattle.std.proofs.lemmas.List.Elements.{All-from_recursion}
+use Rattle.lfs_fs.proofs.Common.{All-from_recursion, content_at, LeavesOthers, ReadsEachOnce, answers_itself, is_look_up, searched_directories, Disk, ordered_disk, disk_block, block_count, CallEvent, Operation, Reply, HasEither, SurvivesInCalls, SurvivesPowerLoss, operation_result, HealthyHasDiskTree, IsStep, SystemState, is_read_only, Session, file_numbered, all_unmoved_slots, struct_blocks, Slot, zero_gstate, Healthy, is_remount, Pair, pairs_gstate, IsAccepted, recovered_from, one_thread, StoresBytesAt, KeepsImage, is_refusal, error_refusal, OnlyReadsTree, IsApplied, IsSoundState, LeavesOthersAlone, TreeState, option_map, RuntimeFiles, open_file_at, file_view, files_view, MeetsRules, StepsOrFails, SessionView, IsReady, session_view, view_with_files, system_state, viewed_session, ReadsSearched, AddsNoReads, NothingIfCached, reply_from, ReadsOnceAlways, IsCall, SparesOthers, AreFewSmall, HasCachedDirectories}
 use Rattle.lfs_device.specs.declared.error.Error.{Error}
 use Rattle.lfs_model.specs.declared.order.NameOrder.{NameOrder}
-use Rattle.lfs_model.specs.format.Content.{content_at}
-use Rattle.lfs_model.specs.crash.Frame.{LeavesOthers, BoundsReads, answers_itself, is_look_up, paths_of_file, changed_paths, searched_directories}
-use Rattle.lfs_model.specs.format.Disk.{Disk, ordered_disk, disk_block, block_count}
-use Rattle.lfs_model.specs.session.History.{CallEvent}
+use Rattle.lfs_model.specs.crash.Frame.{paths_of_file, changed_paths}
 use Rattle.lfs_model.specs.session.Operations as ops
-use Rattle.lfs_model.specs.session.Operations.{Operation, Reply}
-use Rattle.lfs_model.specs.crash.PowerLoss.{HasEither, SurvivesInCalls, SurvivesPowerLoss}
-use Rattle.lfs_model.specs.session.Effects.{operation_result}
 use Rattle.lfs_model.specs.session.Run as model
-use Rattle.lfs_model.specs.session.Run.{HealthyHasDiskTree, IsEffect, IsStep, SystemState, is_read_only}
-use Rattle.lfs_model.specs.session.Session.{Session, file_numbered}
-use Rattle.lfs_model.specs.tree.Shown.{all_slots_not_moved, struct_blocks}
-use Rattle.lfs_model.specs.format.Slots.{Slot, zero_gstate}
-use Rattle.lfs_model.specs.session.State.{Healthy, is_remount}
-use Rattle.lfs_model.specs.format.Thread.{Pair, pairs_gstate}
-use Rattle.lfs_model.specs.tree.View.{IsAccepted}
-use Rattle.lfs_model.proofs.Committed.{recovered_from}
+use Rattle.lfs_model.specs.session.Run.{IsEffect}
 use Rattle.lfs_model.proofs.Counts.{each_always}
-use Rattle.lfs_model.proofs.Uniqueness.{one_thread}
 use Rattle.lfs_model.proofs.Surviving.{session_step_survives_loss}
-use Rattle.lfs_tree.specs.OpenContents.{StoresBytesAt, KeepsImage}
-use Rattle.lfs_lookup.specs.RefusalErrors.{is_refusal, error_refusal}
-use Rattle.lfs_tree.specs.TreeState.{OnlyReadsTree, IsApplied, IsSoundState, LeavesOthersAlone, TreeState}
-use Rattle.std.specs.Option.{option_map}
-use Rattle.lfs_fs.specs.FileView.{RuntimeFiles, open_file_at, file_view, files_view}
 use Rattle.lfs_fs.specs.declared.files.OpenFile.TheVariants as file
 use Rattle.lfs_fs.specs.declared.files.Writer.{Writer}
-use Rattle.lfs_fs.specs.CallEnds.{MeetsRules}
-use Rattle.lfs_fs.specs.SessionView.{StepsOrFails, SessionView, IsReady, view_of_session, view_of_files, system_state, viewed_session}
-use Rattle.lfs_fs.specs.LookUps.{ReadsSearched, AddsNoReads, CachesSearched, NothingIfCached}
-use Rattle.lfs_fs.specs.Replies.{reply_from}
-use Rattle.lfs_model.specs.crash.ReadBounds.{BoundsAlways}
-use Rattle.lfs_fs.specs.CallEffects.{IsCall, StatCaches, SparesOthers}
+use Rattle.lfs_fs.specs.LookUps.{CachesSearched}
+use Rattle.lfs_fs.specs.CallEffects.{StatCaches}
 use Rattle.lfs_fs.proofs.KeptLookUps.{reads_none}
-use Rattle.lfs_lookup.specs.CachedPairs.{AreFewSmall}
-use Rattle.lfs_tree.specs.TreeReads.{HasCachedDirectories}
 use Rattle.lfs_fs.proofs.FewReads.{reads_few}
 use Rattle.lfs_fs.proofs.OpenFiles.{file_is}
 use Rattle.lfs_fs.proofs.Stopping.{kept_call, session_at, works_at}
@@ -51,9 +26,9 @@ use Rattle.lfs_fs.proofs.Surviving.{ready_agrees, stood_before}
 -- also where a remount found its names in another order
 same_alone : (disk new : Disk) (order : NameOrder) (ps qs : List Pair) (s : Session) (op : Operation) → new ≡ ordered_disk order disk → LeavesOthers disk ps s op new qs
 same_alone disk new order ps qs s op e = subst (λ z. LeavesOthers disk ps s op z qs) (sym e) (record {
-  files = All-from_recursion (λ t. All (λ b. disk_block disk b ≡ disk_block disk b) (struct_blocks disk t.struct)) (all_slots_not_moved ps)
+  files = All-from_recursion (λ t. All (λ b. disk_block disk b ≡ disk_block disk b) (struct_blocks disk t.struct)) (all_unmoved_slots ps)
       (each_always (λ (t : Slot). All (λ b. disk_block disk b ≡ disk_block disk b) (struct_blocks disk t.struct))
-      (λ t. All-from_recursion (λ b. disk_block disk b ≡ disk_block disk b) (struct_blocks disk t.struct) (each_always (λ b. disk_block disk b ≡ disk_block disk b) (λ b. refl) (struct_blocks disk t.struct))) (all_slots_not_moved ps));
+      (λ t. All-from_recursion (λ b. disk_block disk b ≡ disk_block disk b) (struct_blocks disk t.struct) (each_always (λ b. disk_block disk b ≡ disk_block disk b) (λ b. refl) (struct_blocks disk t.struct))) (all_unmoved_slots ps));
   pairs = λ p a b n. (refl, refl);
 })
 
@@ -87,53 +62,53 @@ recovered_others old r new answers = turned_others old ops.Recover (λ u. ops.Do
 
 -- ---- where the tree tells it
 
-others_from : (t new : TreeState) (fs : RuntimeFiles) (now : SessionView) (op : Operation) → view_of_session t fs ≡ now → (t.failed ≡ false → IsReady t fs) → IsSoundState new →
-    (IsSoundState t → pairs_gstate t.pairs ≡ zero_gstate → LeavesOthers t.disk t.pairs (viewed_session (view_of_session t fs)) op new.disk new.pairs) → SparesOthers (system_state now) op (system_state (view_of_files new []))
-others_from t new fs now op same ready after alone = subst (λ (z : SessionView). SparesOthers (system_state z) op (system_state (view_of_files new []))) same here
+others_from : (t new : TreeState) (fs : RuntimeFiles) (now : SessionView) (op : Operation) → session_view t fs ≡ now → (t.failed ≡ false → IsReady t fs) → IsSoundState new →
+    (IsSoundState t → pairs_gstate t.pairs ≡ zero_gstate → LeavesOthers t.disk t.pairs (viewed_session (session_view t fs)) op new.disk new.pairs) → SparesOthers (system_state now) op (system_state (view_with_files new []))
+others_from t new fs now op same ready after alone = subst (λ (z : SessionView). SparesOthers (system_state z) op (system_state (view_with_files new []))) same here
   where
-    here : SparesOthers (system_state (view_of_session t fs)) op (system_state (view_of_files new []))
+    here : SparesOthers (system_state (session_view t fs)) op (system_state (view_with_files new []))
     here s at ps qs a b none =
-        let sound = (ready (works_at (view_of_session t fs) s at)).sound in
+        let sound = (ready (works_at (session_view t fs) s at)).sound in
         let p = one_thread (content_at t.disk) (block_count t.disk) t.pairs ps sound.accepted.thread a.thread in
         let q = one_thread (content_at new.disk) (block_count new.disk) new.pairs qs after.accepted.thread b.thread in
-        subst (λ z. LeavesOthers t.disk ps z op new.disk qs) (session_at (view_of_session t fs) s at)
-        (subst (λ z. LeavesOthers t.disk z (viewed_session (view_of_session t fs)) op new.disk qs) p
-        (subst (λ z. LeavesOthers t.disk t.pairs (viewed_session (view_of_session t fs)) op new.disk z) q (alone sound (subst (λ z. pairs_gstate z ≡ zero_gstate) (sym p) none))))
+        subst (λ z. LeavesOthers t.disk ps z op new.disk qs) (session_at (session_view t fs) s at)
+        (subst (λ z. LeavesOthers t.disk z (viewed_session (session_view t fs)) op new.disk qs) p
+        (subst (λ z. LeavesOthers t.disk t.pairs (viewed_session (session_view t fs)) op new.disk z) q (alone sound (subst (λ z. pairs_gstate z ≡ zero_gstate) (sym p) none))))
 
 -- an operation of the tree behind reads
-pub rest_others : (t mid new : TreeState) (fs : RuntimeFiles) (now : SessionView) (op : Operation) → view_of_session t fs ≡ now → (t.failed ≡ false → IsReady t fs) → OnlyReadsTree t mid → IsSoundState new → LeavesOthersAlone mid op new → SparesOthers (system_state now) op (system_state (view_of_files new []))
-rest_others t mid new fs now op same ready asked after rest = others_from t new fs now op same ready after (λ sound none. subst (λ (z : TreeState). LeavesOthersAlone z op new) asked.same rest none (view_of_session t fs).files)
+pub rest_others : (t mid new : TreeState) (fs : RuntimeFiles) (now : SessionView) (op : Operation) → session_view t fs ≡ now → (t.failed ≡ false → IsReady t fs) → OnlyReadsTree t mid → IsSoundState new → LeavesOthersAlone mid op new → SparesOthers (system_state now) op (system_state (view_with_files new []))
+rest_others t mid new fs now op same ready asked after rest = others_from t new fs now op same ready after (λ sound none. subst (λ (z : TreeState). LeavesOthersAlone z op new) asked.same rest none (session_view t fs).files)
 
 -- the same, where it was carried out
-pub done_others : (C K : Type 0) (t mid new : TreeState) (fs : RuntimeFiles) (now : SessionView) (op : Operation) (r : Result (Unit {0}) Error) → view_of_session t fs ≡ now → (t.failed ≡ false → IsReady t fs) → OnlyReadsTree t mid → OnOk r C → (C → IsApplied mid op new) →
-    OnOk r K → (K → LeavesOthersAlone mid op new) → OnOk r (SparesOthers (system_state now) op (system_state (view_of_files new [])))
+pub done_others : (C K : Type 0) (t mid new : TreeState) (fs : RuntimeFiles) (now : SessionView) (op : Operation) (r : Result (Unit {0}) Error) → session_view t fs ≡ now → (t.failed ≡ false → IsReady t fs) → OnlyReadsTree t mid → OnOk r C → (C → IsApplied mid op new) →
+    OnOk r K → (K → LeavesOthersAlone mid op new) → OnOk r (SparesOthers (system_state now) op (system_state (view_with_files new [])))
 done_others C K t mid new fs now op (Ok u) same ready asked c carried k rest = rest_others t mid new fs now op same ready asked (carried c).sound (rest k)
 done_others C K t mid new fs now op (Err e) same ready asked c carried k rest = tt
 
 -- a recovery alone
-pub begun_others : (t mid new : TreeState) (fs : RuntimeFiles) (now : SessionView) (op : Operation) → view_of_session t fs ≡ now → (t.failed ≡ false → IsReady t fs) → OnlyReadsTree t mid → IsApplied mid ops.Recover new → SparesOthers (system_state now) op (system_state (view_of_files new []))
+pub begun_others : (t mid new : TreeState) (fs : RuntimeFiles) (now : SessionView) (op : Operation) → session_view t fs ≡ now → (t.failed ≡ false → IsReady t fs) → OnlyReadsTree t mid → IsApplied mid ops.Recover new → SparesOthers (system_state now) op (system_state (view_with_files new []))
 begun_others t mid new fs now op same ready asked carried =
-    others_from t new fs now op same ready carried.sound (λ sound none. same_alone t.disk new.disk t.disk.order t.pairs new.pairs (viewed_session (view_of_session t fs)) op
+    others_from t new fs now op same ready carried.sound (λ sound none. same_alone t.disk new.disk t.disk.order t.pairs new.pairs (viewed_session (session_view t fs)) op
     ((subst (λ (z : TreeState). IsApplied z ops.Recover new) asked.same carried).nothing_left refl (recovered_from t.disk t.pairs sound.accepted none)).0)
 
 -- the contents of a writer come into the tree
-pub stored_others : (t new : TreeState) (fs : RuntimeFiles) (now : SessionView) (op : Operation) (fd : ℕ) (w : Writer) (bytes : List ℕ) → view_of_session t fs ≡ now → (t.failed ≡ false → IsReady t fs) → Some (file.Writing w) ≡ open_file_at fs fd →
-    ((s : Session) → changed_paths s op ≡ paths_of_file (file_numbered s.files fd)) → StoresBytesAt t w.path bytes new → SparesOthers (system_state now) op (system_state (view_of_files new []))
+pub stored_others : (t new : TreeState) (fs : RuntimeFiles) (now : SessionView) (op : Operation) (fd : ℕ) (w : Writer) (bytes : List ℕ) → session_view t fs ≡ now → (t.failed ≡ false → IsReady t fs) → Some (file.Writing w) ≡ open_file_at fs fd →
+    ((s : Session) → changed_paths s op ≡ paths_of_file (file_numbered s.files fd)) → StoresBytesAt t w.path bytes new → SparesOthers (system_state now) op (system_state (view_with_files new []))
 stored_others t new fs now op fd w bytes same ready is about stored =
     others_from t new fs now op same ready stored.sound
-    (λ sound none. stored.alone (files_view t fs) op (about (viewed_session (view_of_session t fs)) ∙ ap paths_of_file (file_is t fs fd ∙ ap (option_map (file_view t)) (sym is))))
+    (λ sound none. stored.alone (files_view t fs) op (about (viewed_session (session_view t fs)) ∙ ap paths_of_file (file_is t fs fd ∙ ap (option_map (file_view t)) (sym is))))
 
 -- contents are written beside the image
-pub beside_others : (t new : TreeState) (fs : RuntimeFiles) (now : SessionView) (op : Operation) → view_of_session t fs ≡ now → (t.failed ≡ false → IsReady t fs) → KeepsImage t new → SparesOthers (system_state now) op (system_state (view_of_files new []))
+pub beside_others : (t new : TreeState) (fs : RuntimeFiles) (now : SessionView) (op : Operation) → session_view t fs ≡ now → (t.failed ≡ false → IsReady t fs) → KeepsImage t new → SparesOthers (system_state now) op (system_state (view_with_files new []))
 beside_others t new fs now op same ready beside =
-    others_from t new fs now op same ready beside.sound (λ sound none. written_alone t.disk new.disk t.pairs beside.stay new.pairs (viewed_session (view_of_session t fs)) op)
+    others_from t new fs now op same ready beside.sound (λ sound none. written_alone t.disk new.disk t.pairs beside.stay new.pairs (viewed_session (session_view t fs)) op)
 
 -- ---- calls
 
-pub few_asked : (t new : TreeState) (fs : RuntimeFiles) (op : Operation) → (t.failed ≡ false → IsSoundState t) → (is_look_up op ≡ true → ReadsSearched t op new) → BoundsAlways (system_state (view_of_session t fs)) op (system_state (view_of_files new []))
+pub few_asked : (t new : TreeState) (fs : RuntimeFiles) (op : Operation) → (t.failed ≡ false → IsSoundState t) → (is_look_up op ≡ true → ReadsSearched t op new) → ReadsOnceAlways (system_state (session_view t fs)) op (system_state (view_with_files new []))
 few_asked t new fs op sound few s at ps a calls is looks =
-    let p = one_thread (content_at t.disk) (block_count t.disk) t.pairs ps (sound (works_at (view_of_session t fs) s at)).accepted.thread a.thread in
-    subst (λ z. BoundsReads z op calls) p (λ l. reads_few t new op (few l) calls is l) looks
+    let p = one_thread (content_at t.disk) (block_count t.disk) t.pairs ps (sound (works_at (session_view t fs) s at)).accepted.thread a.thread in
+    subst (λ z. ReadsEachOnce z op calls) p (λ l. reads_few t new op (few l) calls is l) looks
 
 -- an error leaves the disk as it was, too
 asking_stands : (old : SessionView) (op : Operation) (r : Result Reply Error) (new : SessionView) → HealthyHasDiskTree old.tree.disk (system_state old).state → ((s : Session) → is_read_only s op ≡ true) → StepsOrFails old op r new → SurvivesInCalls (system_state old) op (system_state new) →
@@ -194,7 +169,7 @@ asks_not t op r new silent = record {
 }
 
 -- a call that asks only
-pub asking_call : (t : TreeState) (fs : RuntimeFiles) (now : SessionView) (op : Operation) (r : Result Reply Error) (new : SessionView) → view_of_session t fs ≡ now → (t.failed ≡ false → IsReady t fs) → ((s : Session) → is_read_only s op ≡ true) →
+pub asking_call : (t : TreeState) (fs : RuntimeFiles) (now : SessionView) (op : Operation) (r : Result Reply Error) (new : SessionView) → session_view t fs ≡ now → (t.failed ≡ false → IsReady t fs) → ((s : Session) → is_read_only s op ≡ true) →
     (answers_itself op ≡ true → new ≡ now) → AsksBy t op r new → MeetsRules now op r new → StepsOrFails now op r new → SurvivesInCalls (system_state now) op (system_state new) → IsCall now op r new
 asking_call t fs now op r new same ready asks kept by ends answers survives = record {
   answers = answers;
@@ -203,16 +178,16 @@ asking_call t fs now op r new same ready asks kept by ends answers survives = re
   alone = λ e. asking_others now op r new asks answers e;
   asks = record {
     asked = kept;
-    few = subst (λ (z : SessionView). BoundsAlways (system_state z) op (system_state new)) same (few_asked t new.tree fs op (λ w. (ready w).sound) by.few);
+    few = subst (λ (z : SessionView). ReadsOnceAlways (system_state z) op (system_state new)) same (few_asked t new.tree fs op (λ w. (ready w).sound) by.few);
     none = λ l. subst (λ (z : SessionView). NothingIfCached z.tree op new.tree) same (reads_none t new.tree op (by.none l));
     hand = by.hand;
   };
 }
 
 -- the same where no call is made
-pub kept_asking : (t : TreeState) (fs : RuntimeFiles) (now : SessionView) (op : Operation) (r : Result Reply Error) → view_of_session t fs ≡ now → (t.failed ≡ false → IsReady t fs) → ((s : Session) → is_read_only s op ≡ true) → is_look_up op ≡ false → MeetsRules now op r now → StepsOrFails now op r now → IsCall now op r now
+pub kept_asking : (t : TreeState) (fs : RuntimeFiles) (now : SessionView) (op : Operation) (r : Result Reply Error) → session_view t fs ≡ now → (t.failed ≡ false → IsReady t fs) → ((s : Session) → is_read_only s op ≡ true) → is_look_up op ≡ false → MeetsRules now op r now → StepsOrFails now op r now → IsCall now op r now
 kept_asking t fs now op r same ready asks silent ends answers =
-    asking_call t fs now op r now same ready asks (λ k. refl) (asks_not t op r now silent) ends answers (kept_call (view_of_session t fs) now op same (λ w. (ready w).sound))
+    asking_call t fs now op r now same ready asks (λ k. refl) (asks_not t op r now silent) ends answers (kept_call (session_view t fs) now op same (λ w. (ready w).sound))
 
 -- the same of an operation by another name
 pub performed_call : (old new : SessionView) (op : Operation) (o : Operation) (r q : Result Reply Error) → o ≡ op → q ≡ r → IsCall old op r new → IsCall old o q new

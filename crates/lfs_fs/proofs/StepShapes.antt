@@ -1,10 +1,7 @@
 -- What steps of a session keep of the disk: its shape, and without a remount the order of its names.
 use Rattle.std.proofs.Common.{◌≡◌, Bool, true, false, cond, List, [], ◌∷◌, refl, sym, ap, subst, ◌∙◌}
-use Rattle.lfs_model.specs.format.Disk.{Disk, SameGeometry, ordered_disk}
-use Rattle.lfs_model.specs.session.Operations.{Operation, Reply}
-use Rattle.lfs_model.specs.session.Run.{AreSteps, SystemState}
-use Rattle.lfs_model.specs.session.State.{is_remount}
-use Rattle.lfs_model.proofs.Counts.{Each}
+use Rattle.lfs_fs.proofs.Common.{Disk, SameGeometry, ordered_disk, Operation, Reply, SystemState, is_remount, Each}
+use Rattle.lfs_model.specs.session.Run.{AreSteps}
 
 shape_by : (b : Bool) (disk new : Disk) → SameGeometry (cond b (ordered_disk new.order disk) disk) new → SameGeometry (ordered_disk new.order disk) new
 shape_by true disk new g = g

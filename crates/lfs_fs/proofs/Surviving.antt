@@ -1,41 +1,29 @@
 -- Runs whose operations survive stops.
 use Rattle.std.proofs.Common.{Result, Ok, Err, ◌≡◌, ◌≢◌, Bool, true, false, cond, List, [], refl, sym, ap, subst, ◌∙◌}
 use Rattle.lfs_device.specs.declared.error.Error.{Error}
-use Rattle.lfs_model.specs.crash.PowerLoss.{IsHealthySession, HasEither, SurvivesInCalls, SurvivesPowerLoss}
-use Rattle.lfs_model.specs.format.Disk.{SameGeometry, ordered_disk}
-use Rattle.lfs_model.specs.session.Effects.{operation_result}
-use Rattle.lfs_model.specs.session.History.{LeftByLatest}
+use Rattle.lfs_fs.proofs.Common.{HasEither, SurvivesInCalls, SurvivesPowerLoss, SameGeometry, ordered_disk, operation_result, LeftByLatest, Operation, Session, DiskSummary, is_remount, disk_tree, Pair, HealthyHasDiskTree, SystemState, StepsOrFails, SessionView, IsReady, session_view, system_state, HasSessionInvariant, LeftConforming, RuntimeFiles, TreeState}
+use Rattle.lfs_model.specs.crash.PowerLoss.{IsHealthySession}
 use Rattle.lfs_model.specs.session.Operations as ops
-use Rattle.lfs_model.specs.session.Operations.{Operation}
-use Rattle.lfs_model.specs.session.Session.{Session, DiskSummary}
-use Rattle.lfs_model.specs.session.State.{is_remount}
-use Rattle.lfs_model.specs.tree.Shown.{tree_on_disk}
-use Rattle.lfs_model.specs.format.Thread.{Pair}
-use Rattle.lfs_model.specs.session.Run.{HealthyHasDiskTree, SystemState}
 use Rattle.lfs_model.proofs.AfterStops.{left_before}
 use Rattle.lfs_model.proofs.Kept.{one_tree}
 use Rattle.lfs_model.proofs.Standing.{device_survives_loss, one_device}
-use Rattle.lfs_fs.specs.SessionView.{StepsOrFails, SessionView, IsReady, view_of_session, system_state}
-use Rattle.lfs_fs.specs.DeviceLaws.{HasInvariant, LeftConforming}
-use Rattle.lfs_fs.specs.FileView.{RuntimeFiles}
-use Rattle.lfs_tree.specs.TreeState.{TreeState}
 use Rattle.lfs_fs.proofs.Failing.{failed_system, healthy_system}
 use Rattle.lfs_fs.proofs.Stopping.{same_blocks, works_at}
 
 -- the session has the tree of its disk
-pub ready_agrees : (t : TreeState) (files : RuntimeFiles) → (t.failed ≡ false → IsReady t files) → HealthyHasDiskTree (system_state (view_of_session t files)).disk (system_state (view_of_session t files)).state
+pub ready_agrees : (t : TreeState) (files : RuntimeFiles) → (t.failed ≡ false → IsReady t files) → HealthyHasDiskTree (system_state (session_view t files)).disk (system_state (session_view t files)).state
 ready_agrees t files ready = go t.failed refl
   where
-    go : (b : Bool) → t.failed ≡ b → HealthyHasDiskTree t.disk (system_state (view_of_session t files)).state
-    go true e = subst (λ (m : SystemState). HealthyHasDiskTree t.disk m.state) (sym (failed_system (view_of_session t files) e)) tt
-    go false e = subst (λ (m : SystemState). HealthyHasDiskTree t.disk m.state) (sym (healthy_system (view_of_session t files) e)) (t.pairs, ((ready e).sound.accepted, refl))
+    go : (b : Bool) → t.failed ≡ b → HealthyHasDiskTree t.disk (system_state (session_view t files)).state
+    go true e = subst (λ (m : SystemState). HealthyHasDiskTree t.disk m.state) (sym (failed_system (session_view t files) e)) tt
+    go false e = subst (λ (m : SystemState). HealthyHasDiskTree t.disk m.state) (sym (healthy_system (session_view t files) e)) (t.pairs, ((ready e).sound.accepted, refl))
 
 -- ---- a call that fails, or that leaves the disk as it was
 
 pub stood_before : (from : SystemState) (op : Operation) → HealthyHasDiskTree from.disk from.state → (s : Session) (ps : List Pair) (around : DiskSummary) → IsHealthySession from s ps around → HasEither from.disk s.tree (operation_result around s op).1.tree
 stood_before from op agrees s ps around work =
     left_before from.disk ps s.tree (operation_result around s op).1.tree work.accepted work.writable
-    (one_tree from.disk (tree_on_disk from.disk ps) s.tree (ps, (work.accepted, refl)) (subst (HealthyHasDiskTree from.disk) work.healthy agrees))
+    (one_tree from.disk (disk_tree from.disk ps) s.tree (ps, (work.accepted, refl)) (subst (HealthyHasDiskTree from.disk) work.healthy agrees))
 
 -- what stands is what stood
 pub untouched_survives_loss : (from : SystemState) (op : Operation) (to : SystemState) → HealthyHasDiskTree from.disk from.state → to.disk ≡ from.disk → SurvivesInCalls from op to → SurvivesPowerLoss from op to
@@ -50,7 +38,7 @@ same_shape old op (Ok reply) new other turn = subst (λ b. SameGeometry (cond b 
 same_shape old op (Err e) new other fails = fails.fails.geometry
 
 -- What stands is what the newest call left.
-pub call_survives_loss : (t : TreeState) (fs : RuntimeFiles) (now : SessionView) (op : Operation) (r : Result ops.Reply Error) (new : SessionView) → view_of_session t fs ≡ now → HasInvariant t fs → LeftConforming new.tree → is_remount op ≡ false → StepsOrFails now op r new → SurvivesInCalls (system_state now) op (system_state new) →
+pub call_survives_loss : (t : TreeState) (fs : RuntimeFiles) (now : SessionView) (op : Operation) (r : Result ops.Reply Error) (new : SessionView) → session_view t fs ≡ now → HasSessionInvariant t fs → LeftConforming new.tree → is_remount op ≡ false → StepsOrFails now op r new → SurvivesInCalls (system_state now) op (system_state new) →
     SurvivesPowerLoss (system_state now) op (system_state new)
 call_survives_loss t fs now op r new is between reported other answers survives = go now.tree.failed refl
   where

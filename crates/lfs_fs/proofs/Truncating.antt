@@ -1,29 +1,10 @@
 -- A truncation of an open writer, and its turn.
 use Rattle.std.proofs.Common.{ℕ, zero, suc, ◌≡◌, ◌==◌, ◌<◌, ◌&&◌, ◌||◌, ◌++◌, Bool, true, false, not, cond, List, [], ◌∷◌, length, length-set, set, nat_lt, Option, Some, None, Ok, is_some, refl, sym, ap, ap₂, subst, ◌∙◌, arith}
 use Rattle.std.specs.Prelude.{◌==◌}
-use Rattle.std.specs.List.{AllByRecursion, list_any}
-use Rattle.std.specs.Option.{option_map}
-use Rattle.std.proofs.lemmas.Bool.{eq-eqb, lt-ltb, ltb-false}
-use Rattle.std.proofs.lemmas.List.{map-set}
-use Rattle.lfs_model.specs.format.Disk.{file_max_of}
+use Rattle.lfs_fs.proofs.Common.{AllByRecursion, list_any, option_map, eq-eqb, lt-ltb, ltb-false, map-set, file_max_of, Operation, needs_no_resource, IsStep, Session, DiskSummary, Writing, file_numbered, first_refusal, overfills_disk, files_with_file, refuse_if, file_writer, truncated_writer, Healthy, operation_effect, Tree, DiskView, recovered_from, filled_step, KeepsImage, TreeState, tree_summary, shown_tree, CanTruncateBy, IsChangedWriter, RuntimeFiles, unsaved_or_tree, open_file_at, file_view, files_view, writers_paths, reader_view, readers_among, writer_if_any, writer_view, writers_among, StepsOrFails, SessionView, IsReady, IsWriterReady, session_view, system_state, refusal_by_checks, viewed_session}
 use Rattle.lfs_model.specs.session.Operations as ops
-use Rattle.lfs_model.specs.session.Operations.{Operation}
-use Rattle.lfs_model.specs.crash.Frame.{needs_no_resource}
-use Rattle.lfs_model.specs.session.Run.{IsStep, has_size}
+use Rattle.lfs_model.specs.session.Run.{has_size}
 use Rattle.lfs_model.specs.session.Session as session
-use Rattle.lfs_model.specs.session.Session.{Session, DiskSummary, Writing, file_numbered, first_refusal, overfills_disk, files_with_file, refuse_if, file_writer}
-use Rattle.lfs_model.specs.session.Writers.{truncated_writer}
-use Rattle.lfs_model.specs.session.State.{Healthy}
-use Rattle.lfs_model.specs.session.Effects.{operation_effect}
-use Rattle.lfs_model.specs.tree.Tree.{Tree}
-use Rattle.lfs_model.specs.tree.View.{DiskView}
-use Rattle.lfs_model.proofs.Committed.{recovered_from}
-use Rattle.lfs_model.proofs.StepsMade.{filled_step}
-use Rattle.lfs_tree.specs.OpenContents.{KeepsImage}
-use Rattle.lfs_tree.specs.TreeState.{TreeState, tree_summary, tree_view}
-use Rattle.lfs_fs.specs.WriterChanges.{CanTruncateBy, IsChangedWriter}
-use Rattle.lfs_fs.specs.FileView.{RuntimeFiles, unsaved_or_tree, open_file_at, file_view, files_view, writers_paths, reader_view, readers_among, writer_if_any, writer_view, writers_among}
-use Rattle.lfs_fs.specs.SessionView.{StepsOrFails, SessionView, IsReady, IsWriterReady, view_of_session, system_state, refusal_by_checks, viewed_session}
 use Rattle.lfs_fs.specs.declared.files.OpenFile.{OpenFile}
 use Rattle.lfs_fs.specs.declared.files.OpenFile.TheVariants as file
 use Rattle.lfs_fs.specs.declared.files.Writer.{Writer}
@@ -38,17 +19,17 @@ use Rattle.lfs_fs.proofs.ReadersKnow.{known_beside, known_written}
 
 -- ---- what no check refuses
 
-module _ (t : TreeState) (fs : RuntimeFiles) (fd size : ℕ) (w : Writer) (e : open_file_at fs fd ≡ Some (file.Writing w)) (accepted : refusal_by_checks (view_of_session t fs) (ops.Truncate fd size) ≡ None) where
+module _ (t : TreeState) (fs : RuntimeFiles) (fd size : ℕ) (w : Writer) (e : open_file_at fs fd ≡ Some (file.Writing w)) (accepted : refusal_by_checks (session_view t fs) (ops.Truncate fd size) ≡ None) where
   pub is_writer : Some w ≡ writer_if_any (open_file_at fs fd)
   is_writer = sym (ap writer_if_any e)
 
   pub works_now : t.failed ≡ false
-  works_now = not_failed (view_of_session t fs) (ops.Truncate fd size) accepted
+  works_now = not_failed (session_view t fs) (ops.Truncate fd size) accepted
 
   seen_there : file_writer (file_numbered (files_view t fs) fd) ≡ Some (writer_view t w)
   seen_there = the_writer t fs fd (Some w) is_writer
 
-  checks_are : refusal_by_checks (view_of_session t fs) (ops.Truncate fd size)
+  checks_are : refusal_by_checks (session_view t fs) (ops.Truncate fd size)
       ≡ first_refusal (refuse_if (nat_lt (file_max_of t.disk.profile) size) ops.TooBig ∷ refuse_if (not (size == length (unsaved_or_tree t w.path w.unsaved)) && overfills_disk (tree_summary t) (truncated_writer (writer_view t w) size)) ops.NoSpace ∷ [])
   checks_are = rw (works_now, seen_there) refl
 
@@ -91,15 +72,15 @@ set_same (f ∷ fs) (suc fd) x e = ap (λ z. f ∷ z) (set_same fs fd x e)
 unchanged : (v : session.FileWriter) (size : ℕ) → (size == length v.contents) ≡ true → truncated_writer v size ≡ v
 unchanged v size e = rw e refl
 
-pub same_size : (t : TreeState) (fs : RuntimeFiles) (fd size : ℕ) (now : SessionView) (w : Writer) → view_of_session t fs ≡ now → (t.failed ≡ false → IsReady t fs) → refusal_by_checks (view_of_session t fs) (ops.Truncate fd size) ≡ None → open_file_at fs fd ≡ Some (file.Writing w) →
+pub same_size : (t : TreeState) (fs : RuntimeFiles) (fd size : ℕ) (now : SessionView) (w : Writer) → session_view t fs ≡ now → (t.failed ≡ false → IsReady t fs) → refusal_by_checks (session_view t fs) (ops.Truncate fd size) ≡ None → open_file_at fs fd ≡ Some (file.Writing w) →
     (size == w.size) ≡ true → StepsOrFails now (ops.Truncate fd size) (Ok ops.Done) now
 same_size t fs fd size now w same ready accepted e is =
     subst (λ z. StepsOrFails now (ops.Truncate fd size) (Ok ops.Done) z) same
-    (kept_answer (view_of_session t fs) now (ops.Truncate fd size) (files_view t fs) ops.Done same (sound_by t fs ready) accepted refl refl refl
-    (ap (λ f. (ops.Done, record { tree = tree_view t; files = f })) stays))
+    (kept_answer (session_view t fs) now (ops.Truncate fd size) (files_view t fs) ops.Done same (sound_by t fs ready) accepted refl refl refl
+    (ap (λ f. (ops.Done, record { tree = shown_tree t; files = f })) stays))
   where
     long : (size == length (unsaved_or_tree t w.path w.unsaved)) ≡ true
-    long = ap (λ n. size == n) (written_at t fs fd w (ready (not_failed (view_of_session t fs) (ops.Truncate fd size) accepted)).written (sym (ap writer_if_any e))).size ∙ is
+    long = ap (λ n. size == n) (written_at t fs fd w (ready (not_failed (session_view t fs) (ops.Truncate fd size) accepted)).written (sym (ap writer_if_any e))).size ∙ is
 
     stays : files_with_file (files_view t fs) fd (option_map (λ v. Writing (truncated_writer v size)) (file_writer (file_numbered (files_view t fs) fd))) ≡ files_view t fs
     stays =
@@ -142,16 +123,16 @@ inside_put t fs fd x e = ap (λ b. cond b (set (files_view t fs) fd (Some x)) (f
         mapped (f ∷ fs) = ap suc (mapped fs)
 
 -- another size is to be made
-pub other_needed : (t : TreeState) (fs : RuntimeFiles) (fd size : ℕ) (w : Writer) → open_file_at fs fd ≡ Some (file.Writing w) → IsWriterReady t w → (size == w.size) ≡ false → needs_no_resource (viewed_session (view_of_session t fs)) (ops.Truncate fd size) ≡ false
+pub other_needed : (t : TreeState) (fs : RuntimeFiles) (fd size : ℕ) (w : Writer) → open_file_at fs fd ≡ Some (file.Writing w) → IsWriterReady t w → (size == w.size) ≡ false → needs_no_resource (viewed_session (session_view t fs)) (ops.Truncate fd size) ≡ false
 other_needed t fs fd size w e written other = ap (λ o. has_size o size) (the_writer t fs fd (Some w) (sym (ap writer_if_any e))) ∙ ap (λ n. size == n) written.size ∙ other
 
-pub other_size : (t new : TreeState) (fs : RuntimeFiles) (fd size : ℕ) (now : SessionView) (w v : Writer) → view_of_session t fs ≡ now → (t.failed ≡ false → IsReady t fs) → refusal_by_checks (view_of_session t fs) (ops.Truncate fd size) ≡ None → open_file_at fs fd ≡ Some (file.Writing w) → (size == w.size) ≡ false →
-    IsChangedWriter new (truncated_writer (writer_view t w) size) v → KeepsImage t new → IsStep (system_state now) (ops.Truncate fd size) ops.Done (system_state (view_of_session new (set fs fd (Some (file.Writing v)))))
+pub other_size : (t new : TreeState) (fs : RuntimeFiles) (fd size : ℕ) (now : SessionView) (w v : Writer) → session_view t fs ≡ now → (t.failed ≡ false → IsReady t fs) → refusal_by_checks (session_view t fs) (ops.Truncate fd size) ≡ None → open_file_at fs fd ≡ Some (file.Writing w) → (size == w.size) ≡ false →
+    IsChangedWriter new (truncated_writer (writer_view t w) size) v → KeepsImage t new → IsStep (system_state now) (ops.Truncate fd size) ops.Done (system_state (session_view new (set fs fd (Some (file.Writing v)))))
 other_size t new fs fd size now w v same ready accepted e other made b =
-    subst (λ z. IsStep (system_state z) op ops.Done (system_state (view_of_session new later))) same
-    (subst (λ m. IsStep m op ops.Done (system_state (view_of_session new later))) (sym (healthy_system (view_of_session t fs) works))
-    (subst (λ m. IsStep (record { disk = t.disk; calls = t.history; state = Healthy (viewed_session (view_of_session t fs)) }) op ops.Done m) (sym to)
-    (filled_step t.disk t.pairs (viewed_session (view_of_session t fs)) (tree_summary t) op new.disk new.pairs b.calls t.history (is_over t (files_view t fs) (ready works).sound) (not_refused (view_of_session t fs) op accepted) refl (other_needed t fs fd size w e (written_at t fs fd w (ready works).written (sym (ap writer_if_any e))) other) b.geometry
+    subst (λ z. IsStep (system_state z) op ops.Done (system_state (session_view new later))) same
+    (subst (λ m. IsStep m op ops.Done (system_state (session_view new later))) (sym (healthy_system (session_view t fs) works))
+    (subst (λ m. IsStep (record { disk = t.disk; calls = t.history; state = Healthy (viewed_session (session_view t fs)) }) op ops.Done m) (sym to)
+    (filled_step t.disk t.pairs (viewed_session (session_view t fs)) (tree_summary t) op new.disk new.pairs b.calls t.history (is_over t (files_view t fs) (ready works).sound) (not_refused (session_view t fs) op accepted) refl (other_needed t fs fd size w e (written_at t fs fd w (ready works).written (sym (ap writer_if_any e))) other) b.geometry
     b.sound.accepted b.pairs (ap₂ (λ (z : Tree) (a : DiskSummary). let k : DiskView = record { tree = z; gstate = a.gstate; used = a.used } in k) b.shows b.around) (recovered_from new.disk new.pairs b.sound.accepted made.written.settled)
     (λ h. b.sound.fits made.written.writable))))
   where
@@ -162,7 +143,7 @@ other_size t new fs fd size now w v same ready accepted e other made b =
     later = set fs fd (Some (file.Writing v))
 
     works : t.failed ≡ false
-    works = not_failed (view_of_session t fs) op accepted
+    works = not_failed (session_view t fs) op accepted
 
     files : files_view new later ≡ files_with_file (files_view t fs) fd (option_map (λ u. Writing (truncated_writer u size)) (file_writer (file_numbered (files_view t fs) fd)))
     files =
@@ -170,8 +151,8 @@ other_size t new fs fd size now w v same ready accepted e other made b =
         ∙ sym (inside_put t fs fd (Writing (truncated_writer (writer_view t w) size)) (ap is_some e))
         ∙ sym (ap (λ o. files_with_file (files_view t fs) fd (option_map (λ u. Writing (truncated_writer u size)) o)) (the_writer t fs fd (Some w) (sym (ap writer_if_any e))))
 
-    to : system_state (view_of_session new later) ≡ record { disk = new.disk; calls = b.calls ++ t.history; state = Healthy (operation_effect (tree_summary t) (viewed_session (view_of_session t fs)) op).1 }
-    to = healthy_system (view_of_session new later) b.works ∙ ap₂ (λ calls (s : Session). record { disk = new.disk; calls = calls; state = Healthy s }) b.called (ap₂ (λ z f. record { tree = z; files = f }) b.shows files)
+    to : system_state (session_view new later) ≡ record { disk = new.disk; calls = b.calls ++ t.history; state = Healthy (operation_effect (tree_summary t) (viewed_session (session_view t fs)) op).1 }
+    to = healthy_system (session_view new later) b.works ∙ ap₂ (λ calls (s : Session). record { disk = new.disk; calls = calls; state = Healthy s }) b.called (ap₂ (λ z f. record { tree = z; files = f }) b.shows files)
 
 -- what the session keeps
 pub ready_with : (t new : TreeState) (fs : RuntimeFiles) (fd : ℕ) (w v : Writer) (is : session.FileWriter) → IsOnly fs fd w → IsChangedWriter new is v → KeepsImage t new → is.path ≡ w.path → IsReady t fs → IsReady new (set fs fd (Some (file.Writing v)))

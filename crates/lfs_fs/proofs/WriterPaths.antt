@@ -1,7 +1,7 @@
 -- A writer keeps its path.
 use Rattle.std.proofs.Common.{ℕ, ◌≡◌, Bool, true, false, cond, List, [], ◌∷◌, refl}
 use Rattle.lfs_model.specs.session.Session.{FileWriter}
-use Rattle.lfs_model.specs.session.Writers.{synced_writer, truncated_writer, written_writer}
+use Rattle.lfs_fs.proofs.Common.{synced_writer, truncated_writer, written_writer}
 
 either_path : (b : Bool) (w v u : FileWriter) → w.path ≡ u.path → v.path ≡ u.path → (cond b w v).path ≡ u.path
 either_path true w v u e f = e

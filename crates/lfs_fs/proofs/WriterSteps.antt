@@ -1,13 +1,7 @@
 -- Where slots stand once a file is opened for writing that is there.
 use Rattle.std.proofs.Common.{ℕ, ◌≡◌, List, Some}
-use Rattle.lfs_model.specs.format.Disk.{Disk}
-use Rattle.lfs_model.specs.session.Layout.{IsLayoutRecovered}
+use Rattle.lfs_fs.proofs.Common.{Disk, IsLayoutRecovered, FlagsOfOpen, Session, path_or_root, Pair, Node}
 use Rattle.lfs_model.specs.session.Operations as ops
-use Rattle.lfs_model.specs.session.Operations.{FlagsOfOpen}
-use Rattle.lfs_model.specs.session.Session.{Session}
-use Rattle.lfs_model.specs.session.Refusals.{path_or_root}
-use Rattle.lfs_model.specs.format.Thread.{Pair}
-use Rattle.lfs_model.specs.tree.Tree.{Node}
 
 -- they stand where a recovery leaves them
 pub there_arranged : (disk new : Disk) (ps qs : List Pair) (s : Session) (bytes : List ℕ) (flags : FlagsOfOpen) (n : Node) → s.tree (path_or_root bytes) ≡ Some n → IsLayoutRecovered disk ps s ops.Recover new qs →

@@ -1,17 +1,14 @@
 -- A writer that is changed where it is among the open files.
 use Rattle.std.proofs.Common.{ℕ, zero, suc, ◌≡◌, ◌≤◌, List, [], ◌∷◌, length, Option, Some, sym, ap, subst, ◌∙◌, arith, slice_index_or}
 use Rattle.std.specs.Prelude.{slice_set}
-use Rattle.std.proofs.lemmas.Option.{same_Some}
-use Rattle.lfs_fs.specs.FileView.{RuntimeFiles, unsaved_or_tree, open_file_at, writer_if_any}
-use Rattle.lfs_fs.specs.WriterChanges.{CanChangeWriter, HasFileUnder, ChangesOnlyWriter, IsUnsavedForm}
+use Rattle.lfs_fs.proofs.Common.{same_Some, RuntimeFiles, unsaved_or_tree, open_file_at, writer_if_any, CanChangeWriter, IsUnsavedForm, TreeState, contents_form}
+use Rattle.lfs_fs.specs.WriterChanges.{HasFileUnder, ChangesWriterAt}
 use Rattle.lfs_fs.specs.declared.files.OpenFile.{OpenFile}
 use Rattle.lfs_fs.specs.declared.files.OpenFile.TheVariants as file
 use Rattle.lfs_fs.specs.declared.files.UnsavedContents.{UnsavedContents}
 use Rattle.lfs_fs.specs.declared.files.Writer.{Writer}
 use Rattle.lfs_fs.proofs.OpenFiles.{one_of}
 use Rattle.lfs_fs.proofs.Writing.{changed_in}
-use Rattle.lfs_tree.specs.TreeState.{TreeState}
-use Rattle.lfs_file.specs.Contents.{contents_form}
 use Rattle.lfs_file.specs.declared.contents.WriterContents.{WriterContents}
 
 entry_at : (fs : RuntimeFiles) (fd : ℕ) (x : OpenFile) (other : Option OpenFile) → open_file_at fs fd ≡ Some x → slice_index_or fs fd other ≡ Some x
@@ -24,7 +21,7 @@ pub same_writer : (fs : RuntimeFiles) (fd : ℕ) (v w : Writer) (entry : Option 
 same_writer fs fd v w entry x at is written e =
     same_Some v w (ap writer_if_any (sym (ap Some written) ∙ sym is ∙ at ∙ entry_at fs fd (file.Writing w) entry e))
 
-pub same_files_before : {P : Writer → Type 0} (fs gs : RuntimeFiles) (fd : ℕ) (later : RuntimeFiles) → fs ≡ gs → ChangesOnlyWriter fs fd P later → ChangesOnlyWriter gs fd P later
+pub same_files_before : {P : Writer → Type 0} (fs gs : RuntimeFiles) (fd : ℕ) (later : RuntimeFiles) → fs ≡ gs → ChangesWriterAt fs fd P later → ChangesWriterAt gs fd P later
 same_files_before fs gs fd later e h = record { writer = h.writer; only = h.only ∙ ap (λ xs. slice_set xs fd (Some (file.Writing h.writer))) e; holds = h.holds }
 
 -- one writer takes the place of another

@@ -2,45 +2,34 @@
 use Rattle.std.proofs.Common.{ℕ, ◌*◌, ◌≡◌, ◌+◌, ◌-◌, ◌<◌, ◌≤◌, inl, inr, Bool, true, false, cond, max, min, List, [], ◌∷◌, ◌++◌, length, take, drop, replicate, Option, Some, None, Result, Ok, Err, is_some, refl, sym, ap, ap₂, subst, ◌∙◌, arith, length-append, length-drop, append_assoc}
 use Rattle.lfs_device.specs.declared.error.Error.{Error}
 use Rattle.std.specs.Prelude.{OnErr, ◌||◌, ◌==◌, nat_le, nat_lt, if◌then◌else◌}
-use Rattle.std.proofs.lemmas.Bool.{eqb-true, leb-false, ne_eqb}
-use Rattle.std.proofs.lemmas.List.{length-take, length-replicate}
-use Rattle.lfs_model.specs.session.TreeEdits.{file_bytes, tree_with_change, is_file}
-use Rattle.lfs_model.specs.session.Effects.{file_with_bytes}
-use Rattle.lfs_model.proofs.Paths.{path_itself}
-use Rattle.std.specs.Option.{option_map}
+use Rattle.lfs_fs.proofs.Common.{eqb-true, ne_eqb, length-take, file_bytes, tree_with_change, is_file, file_with_bytes, path_itself, option_map, SameGeometry, block_count, inline_limit, synced_writer, truncated_writer, written_writer, written_contents, turns_writer, write_position, zero_padded, reserved_for_writer, zero_gstate, pairs_gstate, Node, FileNode, DirectoryNode, Path, Tree, StoresBytesAt, AreTreeContents, InlineWithinLimit, KeepsImage, writer_contents_bytes, TreeState, OnlyReadsTree, IsFailedTree, tree_summary, shown_tree, contents_form, FormFitsWriter, ContentsForm, IsWriterForm, CanChangeWriter, CanSaveWriter, IsSavedWriter, CanTruncateBy, CanWriteBy, IsUnsavedForm, IsChangedWriter, unsaved_or_tree, change_end, reserved_by, reserved_for, is_unsaved_turned, writer_view, AreUnsavedContents, AreUnsavedIfAny, IsWriterReady}
+use Rattle.std.proofs.lemmas.Bool.{leb-false}
+use Rattle.std.proofs.lemmas.List.{length-replicate}
 use Rattle.lfs_model.specs.declared.limits.Profile.{Profile}
-use Rattle.lfs_model.specs.format.Disk.{SameGeometry, block_count, inline_limit}
 use Rattle.lfs_model.specs.session.Session as session
-use Rattle.lfs_model.specs.session.Writers.{synced_writer, truncated_writer, written_writer, written_contents, turns_writer, write_position, padded_with_zeros}
-use Rattle.lfs_model.specs.session.Session.{list_blocks_of, reserved_for_writer}
-use Rattle.lfs_model.specs.format.Slots.{zero_gstate}
-use Rattle.lfs_model.specs.format.Thread.{pairs_gstate}
-use Rattle.lfs_model.specs.tree.Tree.{Node, FileNode, DirectoryNode, Path, Tree}
-use Rattle.lfs_tree.specs.OpenContents.{CanStoreAt, StoresBytesAt, CanTruncateWriterContents, CanWriteWriterContents, OverTreeFile, InlineUpToLimit, KeepsImage, writer_contents_bytes, kept_thread}
-use Rattle.lfs_tree.specs.TreeState.{TreeState, OnlyReadsTree, IsFailedTree, tree_summary, tree_view}
-use Rattle.lfs_file.specs.Contents.{FormFitsInlineLimit, finish_room, NeedsTruncateRoom, contents_form, truncation_room, write_room}
+use Rattle.lfs_model.specs.session.Session.{list_blocks_of}
+use Rattle.lfs_tree.specs.OpenContents.{CanStoreContents, CanTruncateIn, CanWriteIn, kept_thread}
+use Rattle.lfs_file.specs.Contents.{FormFitsInline, finish_room, NeedsTruncateRoom, truncation_room, write_room}
 use Rattle.lfs_file.specs.Form as shape_of
-use Rattle.lfs_file.specs.Form.{FormFitsWriter, StorageForm, FitsWriterForm, form_size, form_after_inner, shortened_form, truncated_form, written_form}
+use Rattle.lfs_file.specs.Form.{form_size, form_after_inner, shortened_form, truncated_form, written_form}
 use Rattle.lfs_file.specs.declared.contents.WriterContents.{WriterContents}
-use Rattle.lfs_fs.specs.WriterChanges.{CanChangeWriter, CanSaveWriter, IsSavedWriter, CanTruncateBy, CanWriteBy, HasWriterRoom, IsUnsavedForm, IsChangedWriter}
-use Rattle.lfs_fs.specs.FileView.{unsaved_or_tree, change_end, reserved_by, reserved_for, is_unsaved_nonsequential, writer_view}
-use Rattle.lfs_fs.specs.SessionView.{AreUnsaved, AreUnsavedOrNone, IsWriterReady}
+use Rattle.lfs_fs.specs.WriterChanges.{HasWriterRoom}
 use Rattle.lfs_fs.specs.declared.files.UnsavedContents.{UnsavedContents}
 use Rattle.lfs_fs.specs.declared.files.Writer.{Writer}
 use Rattle.lfs_fs.proofs.OpenFiles.{held_one}
 
 -- ---- sizes
 
-length-zeros_to : (n : ℕ) (bytes : List ℕ) → length (padded_with_zeros n bytes) ≡ max n (length bytes)
+length-zeros_to : (n : ℕ) (bytes : List ℕ) → length (zero_padded n bytes) ≡ max n (length bytes)
 length-zeros_to n bytes = omega (arith, length-append bytes (replicate (n - length bytes) 0), length-replicate {A = ℕ} (n - length bytes) 0)
 
 pub length-written : (old : List ℕ) (at : ℕ) (bytes : List ℕ) → length (written_contents old at bytes) ≡ max (length old) (at + length bytes)
 length-written old at bytes =
-    let front : length (take at (padded_with_zeros at old)) ≡ at = omega (arith, length-take at (padded_with_zeros at old), length-zeros_to at old) in
-    omega (arith, front, length-append (take at (padded_with_zeros at old) ++ bytes) (drop (at + length bytes) old), length-append (take at (padded_with_zeros at old)) bytes, length-drop (at + length bytes) old)
+    let front : length (take at (zero_padded at old)) ≡ at = omega (arith, length-take at (zero_padded at old), length-zeros_to at old) in
+    omega (arith, front, length-append (take at (zero_padded at old) ++ bytes) (drop (at + length bytes) old), length-append (take at (zero_padded at old)) bytes, length-drop (at + length bytes) old)
 
-pub length-cut : (old : List ℕ) (size : ℕ) → length (take size (padded_with_zeros size old)) ≡ size
-length-cut old size = omega (arith, length-take size (padded_with_zeros size old), length-zeros_to size old)
+pub length-cut : (old : List ℕ) (size : ℕ) → length (take size (zero_padded size old)) ≡ size
+length-cut old size = omega (arith, length-take size (zero_padded size old), length-zeros_to size old)
 
 -- ---- what a call makes of a writer
 
@@ -55,7 +44,7 @@ after_write_is w [] some = absurd (omega (arith, some))
 after_write_is w (b ∷ bytes) some = refl
 
 pub after_truncate_is : (w : session.FileWriter) (size : ℕ) → (size == length w.contents) ≡ false → truncated_writer w size ≡ record w {
-  contents = take size (padded_with_zeros size w.contents);
+  contents = take size (zero_padded size w.contents);
   dirty = true;
   turned = w.turned || is_some w.last_end;
   last_end = if nat_lt (length w.contents) size then Some size else w.last_end;
@@ -67,17 +56,17 @@ place_is t w place opened e = e ∙ ap (λ n. if w.appends then n else w.positio
 
 -- ---- forms
 
-abbrev is_finished : StorageForm → Bool
+abbrev is_finished : ContentsForm → Bool
 is_finished (shape_of.InMemory size) = false
 is_finished (shape_of.Finished size flying) = true
 is_finished (shape_of.InHand stop base flying) = false
 
-settle_of : (limit : ℕ) (f : StorageForm) (v : session.FileWriter) → is_finished f ≡ false → FormFitsWriter limit f v → InlineUpToLimit limit f
+settle_of : (limit : ℕ) (f : ContentsForm) (v : session.FileWriter) → is_finished f ≡ false → FormFitsWriter limit f v → InlineWithinLimit limit f
 settle_of limit (shape_of.InMemory size) v e h = h
 settle_of limit (shape_of.Finished size flying) v e h = absurd (cc)
 settle_of limit (shape_of.InHand stop base flying) v e h = h.large
 
-unfinished_grown : (begin stop : ℕ) (f : StorageForm) → is_finished (form_after_inner begin stop f) ≡ false
+unfinished_grown : (begin stop : ℕ) (f : ContentsForm) → is_finished (form_after_inner begin stop f) ≡ false
 unfinished_grown begin stop (shape_of.InMemory size) = refl
 unfinished_grown begin stop (shape_of.Finished size flying) = refl
 unfinished_grown begin stop (shape_of.InHand end base flying) = go (end == begin)
@@ -86,31 +75,31 @@ unfinished_grown begin stop (shape_of.InHand end base flying) = go (end == begin
     go true = refl
     go false = refl
 
-pub settle_written : (limit place count : ℕ) (f : StorageForm) (v : session.FileWriter) → FormFitsWriter limit (written_form limit place count f) v → InlineUpToLimit limit (written_form limit place count f)
+pub settle_written : (limit place count : ℕ) (f : ContentsForm) (v : session.FileWriter) → FormFitsWriter limit (written_form limit place count f) v → InlineWithinLimit limit (written_form limit place count f)
 settle_written limit place count f v h = settle_of limit (written_form limit place count f) v (go (nat_le (max (form_size f) (place + count)) limit)) h
   where
     go : (b : Bool) → is_finished (cond b (shape_of.InMemory (max (form_size f) (place + count))) (form_after_inner (min place (form_size f)) (place + count) f)) ≡ false
     go true = refl
     go false = unfinished_grown (min place (form_size f)) (place + count) f
 
-pub settle_truncated : (limit size : ℕ) (f : StorageForm) (v : session.FileWriter) → (size ≡ form_size f → ⊥) → FormFitsWriter limit (truncated_form limit size f) v → InlineUpToLimit limit (truncated_form limit size f)
+pub settle_truncated : (limit size : ℕ) (f : ContentsForm) (v : session.FileWriter) → (size ≡ form_size f → ⊥) → FormFitsWriter limit (truncated_form limit size f) v → InlineWithinLimit limit (truncated_form limit size f)
 settle_truncated limit size f v other h = first (size == form_size f) refl
   where
-    short : (f : StorageForm) → (nat_le size limit) ≡ false → FormFitsWriter limit (shortened_form size f) v → InlineUpToLimit limit (shortened_form size f)
+    short : (f : ContentsForm) → (nat_le size limit) ≡ false → FormFitsWriter limit (shortened_form size f) v → InlineWithinLimit limit (shortened_form size f)
     short (shape_of.InMemory old) e h = h
     short (shape_of.Finished old flying) e h = leb-false size limit e
     short (shape_of.InHand stop base flying) e h = leb-false size limit e
 
-    third : (b : Bool) → nat_le size limit ≡ false → FormFitsWriter limit (cond b (form_after_inner (form_size f) size f) (shortened_form size f)) v → InlineUpToLimit limit (cond b (form_after_inner (form_size f) size f) (shortened_form size f))
+    third : (b : Bool) → nat_le size limit ≡ false → FormFitsWriter limit (cond b (form_after_inner (form_size f) size f) (shortened_form size f)) v → InlineWithinLimit limit (cond b (form_after_inner (form_size f) size f) (shortened_form size f))
     third true e h = settle_of limit (form_after_inner (form_size f) size f) v (unfinished_grown (form_size f) size f) h
     third false e h = short f e h
 
     second : (b : Bool) → nat_le size limit ≡ b → FormFitsWriter limit (cond b (shape_of.InMemory size) (cond (nat_lt (form_size f) size) (form_after_inner (form_size f) size f) (shortened_form size f))) v →
-        InlineUpToLimit limit (cond b (shape_of.InMemory size) (cond (nat_lt (form_size f) size) (form_after_inner (form_size f) size f) (shortened_form size f)))
+        InlineWithinLimit limit (cond b (shape_of.InMemory size) (cond (nat_lt (form_size f) size) (form_after_inner (form_size f) size f) (shortened_form size f)))
     second true e h = h
     second false e h = third (nat_lt (form_size f) size) e h
 
-    first : (b : Bool) → (size == form_size f) ≡ b → InlineUpToLimit limit (truncated_form limit size f)
+    first : (b : Bool) → (size == form_size f) ≡ b → InlineWithinLimit limit (truncated_form limit size f)
     first true e = absurd (other (eqb-true size (form_size f) e))
     first false e = rw e (second (nat_le size limit) refl (rwd h))
       where
@@ -119,19 +108,19 @@ settle_truncated limit size f v other h = first (size == form_size f) refl
 
 -- ---- the contents before
 
-pub changed_in : (t : TreeState) (w : Writer) (u : UnsavedContents) → AreUnsavedOrNone t w w.unsaved → w.unsaved ≡ Some u → AreUnsaved t w u
-changed_in t w u h e = subst (AreUnsavedOrNone t w) e h
+pub changed_in : (t : TreeState) (w : Writer) (u : UnsavedContents) → AreUnsavedIfAny t w w.unsaved → w.unsaved ≡ Some u → AreUnsavedContents t w u
+changed_in t w u h e = subst (AreUnsavedIfAny t w) e h
 
-pub kept_by_form : (t : TreeState) (w : Writer) (shape : StorageForm) → IsWriterReady t w → IsUnsavedForm t.disk.profile t.disk.block_size w.unsaved (length (unsaved_or_tree t w.path w.unsaved)) shape → FitsWriterForm t.disk.profile t.disk.block_size shape (writer_view t w)
+pub kept_by_form : (t : TreeState) (w : Writer) (shape : ContentsForm) → IsWriterReady t w → IsUnsavedForm t.disk.profile t.disk.block_size w.unsaved (length (unsaved_or_tree t w.path w.unsaved)) shape → IsWriterForm t.disk.profile t.disk.block_size shape (writer_view t w)
 kept_by_form t w shape opened h = go w.unsaved refl h
   where
-    go : (u : Option UnsavedContents) → w.unsaved ≡ u → IsUnsavedForm t.disk.profile t.disk.block_size u (length (unsaved_or_tree t w.path w.unsaved)) shape → FitsWriterForm t.disk.profile t.disk.block_size shape (writer_view t w)
-    go None e (inl k) = subst (λ f. FitsWriterForm t.disk.profile t.disk.block_size f (writer_view t w)) (sym k.0) (record { size = refl; fits = k.1 })
-    go None e (inr k) = subst (λ f. FitsWriterForm t.disk.profile t.disk.block_size f (writer_view t w)) (sym k) (record {
+    go : (u : Option UnsavedContents) → w.unsaved ≡ u → IsUnsavedForm t.disk.profile t.disk.block_size u (length (unsaved_or_tree t w.path w.unsaved)) shape → IsWriterForm t.disk.profile t.disk.block_size shape (writer_view t w)
+    go None e (inl k) = subst (λ f. IsWriterForm t.disk.profile t.disk.block_size f (writer_view t w)) (sym k.0) (record { size = refl; fits = k.1 })
+    go None e (inr k) = subst (λ f. IsWriterForm t.disk.profile t.disk.block_size f (writer_view t w)) (sym k) (record {
       size = refl;
       fits = record { dirty = λ z. absurd (cc); large = λ z. absurd (cc); turned = λ z. absurd (cc) };
     })
-    go (Some u) e k = subst (λ f. FitsWriterForm t.disk.profile t.disk.block_size f (writer_view t w)) (sym k) (changed_in t w u opened.changed e).kept
+    go (Some u) e k = subst (λ f. IsWriterForm t.disk.profile t.disk.block_size f (writer_view t w)) (sym k) (changed_in t w u opened.changed e).kept
 
 -- ---- the writer after
 
@@ -168,8 +157,8 @@ broken_after old mid new (Ok x) asked b = tt
 broken_after old mid new (Err e) asked b = broken_later old mid new asked b
 
 pub as_writer : (old new : TreeState) (path : Path) (position size : ℕ) (appends turned : Bool) (end : Option ℕ) (c : WriterContents) (v : session.FileWriter) → KeepsImage old new → old.writable ≡ true →
-    pairs_gstate old.pairs ≡ zero_gstate → is_file (tree_view old path) ≡ true → length (writer_contents_bytes (kept_thread new) c) ≡ size → OverTreeFile new path c → FitsWriterForm old.disk.profile old.disk.block_size (contents_form c) v →
-    InlineUpToLimit (inline_limit old.disk.profile old.disk.block_size) (contents_form c) → HasWriterRoom old v →
+    pairs_gstate old.pairs ≡ zero_gstate → is_file (shown_tree old path) ≡ true → length (writer_contents_bytes (kept_thread new) c) ≡ size → AreTreeContents new path c → IsWriterForm old.disk.profile old.disk.block_size (contents_form c) v →
+    InlineWithinLimit (inline_limit old.disk.profile old.disk.block_size) (contents_form c) → HasWriterRoom old v →
     writer_view new (record { path = path; position = position; size = size; appends = appends; unsaved = Some (record { contents = c; has_turned = turned; last_end = end }) }) ≡ v →
     IsChangedWriter new v (record { path = path; position = position; size = size; appends = appends; unsaved = Some (record { contents = c; has_turned = turned; last_end = end }) })
 as_writer old new path position size appends turned end c v b writable settled there long over kept settle room seen = record {
@@ -181,8 +170,8 @@ as_writer old new path position size appends turned end c v b writable settled t
     size = long;
     changed = record {
       over = over;
-      kept = subst (λ z. FitsWriterForm new.disk.profile new.disk.block_size (contents_form c) z) (sym seen) (subst (λ a. FitsWriterForm a.profile a.block_size (contents_form c) v) (sym b.around) kept);
-      form = subst (λ a. InlineUpToLimit (inline_limit a.profile a.block_size) (contents_form c)) (sym b.around) settle;
+      kept = subst (λ z. IsWriterForm new.disk.profile new.disk.block_size (contents_form c) z) (sym seen) (subst (λ a. IsWriterForm a.profile a.block_size (contents_form c) v) (sym b.around) kept);
+      form = subst (λ a. InlineWithinLimit (inline_limit a.profile a.block_size) (contents_form c)) (sym b.around) settle;
       room = subst (λ a. length a.used + reserved_for a.profile a.block_size turned size ≤ a.block_count) (sym b.around)
           (subst (λ n. length (tree_summary old).used + n ≤ block_count old.disk) (ap (reserved_for_writer old.disk.profile old.disk.block_size) (sym seen) ∙ sym (held_one old.disk.profile old.disk.block_size new w long)) room);
     };
@@ -195,9 +184,9 @@ as_writer old new path position size appends turned end c v b writable settled t
 
 -- the one that wrote bytes
 pub wrote : (old new : TreeState) (w : Writer) (bytes : List ℕ) (place end size : ℕ) (turned : Bool) (c : WriterContents) → KeepsImage old new → IsWriterReady old w → 1 ≤ length bytes → HasWriterRoom old (written_writer (writer_view old w) bytes) →
-    place ≡ write_position (writer_view old w) → end ≡ place + length bytes → size ≡ max w.size end → turned ≡ (is_unsaved_nonsequential w.unsaved || turns_writer (change_end w.unsaved) (min place w.size)) →
-    OverTreeFile new w.path c → writer_contents_bytes (kept_thread new) c ≡ written_contents (unsaved_or_tree old w.path w.unsaved) place bytes → FitsWriterForm old.disk.profile old.disk.block_size (contents_form c) (written_writer (writer_view old w) bytes) →
-    InlineUpToLimit (inline_limit old.disk.profile old.disk.block_size) (contents_form c) →
+    place ≡ write_position (writer_view old w) → end ≡ place + length bytes → size ≡ max w.size end → turned ≡ (is_unsaved_turned w.unsaved || turns_writer (change_end w.unsaved) (min place w.size)) →
+    AreTreeContents new w.path c → writer_contents_bytes (kept_thread new) c ≡ written_contents (unsaved_or_tree old w.path w.unsaved) place bytes → IsWriterForm old.disk.profile old.disk.block_size (contents_form c) (written_writer (writer_view old w) bytes) →
+    InlineWithinLimit (inline_limit old.disk.profile old.disk.block_size) (contents_form c) →
     IsChangedWriter new (written_writer (writer_view old w) bytes) (record { path = w.path; position = end; size = size; appends = w.appends; unsaved = Some (record { contents = c; has_turned = turned; last_end = Some end }) })
 wrote old new w bytes place end size turned c b opened some room at stop long turns_is over are kept settle =
     as_writer old new w.path end size w.appends turned (Some end) c (written_writer (writer_view old w) bytes) b opened.writable opened.settled opened.there
@@ -215,14 +204,14 @@ wrote old new w bytes place end size turned c b opened some room at stop long tu
         ap (λ xs. make xs end turned) (are ∙ ap (λ p. written_contents (unsaved_or_tree old w.path w.unsaved) p bytes) at)
         ∙ ap (λ e. make (written_contents (unsaved_or_tree old w.path w.unsaved) place' bytes) e turned) (stop ∙ ap (λ p. p + length bytes) at)
         ∙ ap (λ z. make (written_contents (unsaved_or_tree old w.path w.unsaved) place' bytes) (place' + length bytes) z)
-        (turns_is ∙ ap₂ (λ p n. is_unsaved_nonsequential w.unsaved || turns_writer (change_end w.unsaved) (min p n)) at (sym opened.size))
+        (turns_is ∙ ap₂ (λ p n. is_unsaved_turned w.unsaved || turns_writer (change_end w.unsaved) (min p n)) at (sym opened.size))
         ∙ sym (after_write_is (writer_view old w) bytes some)
 
 -- the one whose contents have another size
 pub cut : (old new : TreeState) (w : Writer) (size : ℕ) (turned : Bool) (end : Option ℕ) (c : WriterContents) → KeepsImage old new → IsWriterReady old w → (size == length (unsaved_or_tree old w.path w.unsaved)) ≡ false →
-    HasWriterRoom old (truncated_writer (writer_view old w) size) → turned ≡ (is_unsaved_nonsequential w.unsaved || is_some (change_end w.unsaved)) → end ≡ (if nat_lt w.size size then Some size else change_end w.unsaved) →
-    OverTreeFile new w.path c → writer_contents_bytes (kept_thread new) c ≡ take size (padded_with_zeros size (unsaved_or_tree old w.path w.unsaved)) → FitsWriterForm old.disk.profile old.disk.block_size (contents_form c) (truncated_writer (writer_view old w) size) →
-    InlineUpToLimit (inline_limit old.disk.profile old.disk.block_size) (contents_form c) →
+    HasWriterRoom old (truncated_writer (writer_view old w) size) → turned ≡ (is_unsaved_turned w.unsaved || is_some (change_end w.unsaved)) → end ≡ (if nat_lt w.size size then Some size else change_end w.unsaved) →
+    AreTreeContents new w.path c → writer_contents_bytes (kept_thread new) c ≡ take size (zero_padded size (unsaved_or_tree old w.path w.unsaved)) → IsWriterForm old.disk.profile old.disk.block_size (contents_form c) (truncated_writer (writer_view old w) size) →
+    InlineWithinLimit (inline_limit old.disk.profile old.disk.block_size) (contents_form c) →
     IsChangedWriter new (truncated_writer (writer_view old w) size) (record { path = w.path; position = w.position; size = size; appends = w.appends; unsaved = Some (record { contents = c; has_turned = turned; last_end = end }) })
 cut old new w size turned end c b opened other room turns_is end_is over are kept settle =
     as_writer old new w.path w.position size w.appends turned end c (truncated_writer (writer_view old w) size) b opened.writable opened.settled opened.there
@@ -235,48 +224,48 @@ cut old new w size turned end c b opened other room turns_is end_is over are kep
     seen : make (writer_contents_bytes (kept_thread new) c) turned end ≡ truncated_writer (writer_view old w) size
     seen =
         ap (λ xs. make xs turned end) are
-        ∙ ap (λ t. make (take size (padded_with_zeros size (unsaved_or_tree old w.path w.unsaved))) t end) turns_is
-        ∙ ap (λ e. make (take size (padded_with_zeros size (unsaved_or_tree old w.path w.unsaved))) (is_unsaved_nonsequential w.unsaved || is_some (change_end w.unsaved)) e)
+        ∙ ap (λ t. make (take size (zero_padded size (unsaved_or_tree old w.path w.unsaved))) t end) turns_is
+        ∙ ap (λ e. make (take size (zero_padded size (unsaved_or_tree old w.path w.unsaved))) (is_unsaved_turned w.unsaved || is_some (change_end w.unsaved)) e)
         (end_is ∙ ap (λ n. if nat_lt n size then Some size else change_end w.unsaved) (sym opened.size))
         ∙ sym (after_truncate_is (writer_view old w) size other)
 
 -- ---- room, and what the laws of forms give
 
 abbrev pub LargeLaw : Type 0
-LargeLaw = (profile : Profile) (block_size : ℕ) (shape : StorageForm) (w : session.FileWriter) → FitsWriterForm profile block_size shape w → FormFitsInlineLimit (inline_limit profile block_size) shape
+LargeLaw = (profile : Profile) (block_size : ℕ) (shape : ContentsForm) (w : session.FileWriter) → IsWriterForm profile block_size shape w → FormFitsInline (inline_limit profile block_size) shape
 
 abbrev pub WriteLaw : Type 0
-WriteLaw = (profile : Profile) (block_size : ℕ) (shape : StorageForm) (w : session.FileWriter) (byte : ℕ) (bytes : List ℕ) (used all : ℕ) → FitsWriterForm profile block_size shape w → used + reserved_for_writer profile block_size (written_writer w (byte ∷ bytes)) ≤ all →
+WriteLaw = (profile : Profile) (block_size : ℕ) (shape : ContentsForm) (w : session.FileWriter) (byte : ℕ) (bytes : List ℕ) (used all : ℕ) → IsWriterForm profile block_size shape w → used + reserved_for_writer profile block_size (written_writer w (byte ∷ bytes)) ≤ all →
     inline_limit profile block_size < max (form_size shape) (write_position w + length (byte ∷ bytes)) → used + write_room block_size (write_position w) (length (byte ∷ bytes)) shape ≤ all
 
 abbrev pub WrittenLaw : Type 0
-WrittenLaw = (profile : Profile) (block_size : ℕ) (shape : StorageForm) (w : session.FileWriter) (byte : ℕ) (bytes : List ℕ) → FitsWriterForm profile block_size shape w →
-    FitsWriterForm profile block_size (written_form (inline_limit profile block_size) (write_position w) (length (byte ∷ bytes)) shape) (written_writer w (byte ∷ bytes))
+WrittenLaw = (profile : Profile) (block_size : ℕ) (shape : ContentsForm) (w : session.FileWriter) (byte : ℕ) (bytes : List ℕ) → IsWriterForm profile block_size shape w →
+    IsWriterForm profile block_size (written_form (inline_limit profile block_size) (write_position w) (length (byte ∷ bytes)) shape) (written_writer w (byte ∷ bytes))
 
 abbrev pub TruncateLaw : Type 0
-TruncateLaw = (profile : Profile) (block_size : ℕ) (shape : StorageForm) (w : session.FileWriter) (size used all : ℕ) → FitsWriterForm profile block_size shape w → used + reserved_for_writer profile block_size w ≤ all → used + reserved_for_writer profile block_size (truncated_writer w size) ≤ all →
+TruncateLaw = (profile : Profile) (block_size : ℕ) (shape : ContentsForm) (w : session.FileWriter) (size used all : ℕ) → IsWriterForm profile block_size shape w → used + reserved_for_writer profile block_size w ≤ all → used + reserved_for_writer profile block_size (truncated_writer w size) ≤ all →
     NeedsTruncateRoom (inline_limit profile block_size) size shape → used + truncation_room block_size size shape ≤ all
 
 abbrev pub TruncatedLaw : Type 0
-TruncatedLaw = (profile : Profile) (block_size : ℕ) (shape : StorageForm) (w : session.FileWriter) (size : ℕ) → FitsWriterForm profile block_size shape w → FitsWriterForm profile block_size (truncated_form (inline_limit profile block_size) size shape) (truncated_writer w size)
+TruncatedLaw = (profile : Profile) (block_size : ℕ) (shape : ContentsForm) (w : session.FileWriter) (size : ℕ) → IsWriterForm profile block_size shape w → IsWriterForm profile block_size (truncated_form (inline_limit profile block_size) size shape) (truncated_writer w size)
 
-room_to_write : WriteLaw → (profile : Profile) (block_size : ℕ) (shape : StorageForm) (w : session.FileWriter) (bytes : List ℕ) (used all : ℕ) → 1 ≤ length bytes → FitsWriterForm profile block_size shape w → used + reserved_for_writer profile block_size (written_writer w bytes) ≤ all →
+room_to_write : WriteLaw → (profile : Profile) (block_size : ℕ) (shape : ContentsForm) (w : session.FileWriter) (bytes : List ℕ) (used all : ℕ) → 1 ≤ length bytes → IsWriterForm profile block_size shape w → used + reserved_for_writer profile block_size (written_writer w bytes) ≤ all →
     inline_limit profile block_size < max (form_size shape) (write_position w + length bytes) → used + write_room block_size (write_position w) (length bytes) shape ≤ all
 room_to_write law profile block_size shape w [] used all some kept room large = absurd (omega (arith, some))
 room_to_write law profile block_size shape w (b ∷ bytes) used all some kept room large = law profile block_size shape w b bytes used all kept room large
 
-kept_written : WrittenLaw → (profile : Profile) (block_size : ℕ) (shape : StorageForm) (w : session.FileWriter) (bytes : List ℕ) → 1 ≤ length bytes → FitsWriterForm profile block_size shape w →
-    FitsWriterForm profile block_size (written_form (inline_limit profile block_size) (write_position w) (length bytes) shape) (written_writer w bytes)
+kept_written : WrittenLaw → (profile : Profile) (block_size : ℕ) (shape : ContentsForm) (w : session.FileWriter) (bytes : List ℕ) → 1 ≤ length bytes → IsWriterForm profile block_size shape w →
+    IsWriterForm profile block_size (written_form (inline_limit profile block_size) (write_position w) (length bytes) shape) (written_writer w bytes)
 kept_written law profile block_size shape w [] some kept = absurd (omega (arith, some))
 kept_written law profile block_size shape w (b ∷ bytes) some kept = law profile block_size shape w b bytes kept
 
-pub can_write : (old mid : TreeState) (w : Writer) (bytes : List ℕ) (place : ℕ) (c : WriterContents) (path : Path) → CanWriteBy old w bytes → OnlyReadsTree old mid → place ≡ (if w.appends then w.size else w.position) → OverTreeFile mid path c → path ≡ w.path →
-    IsUnsavedForm old.disk.profile old.disk.block_size w.unsaved (length (unsaved_or_tree old path w.unsaved)) (contents_form c) → LargeLaw → WriteLaw → CanWriteWriterContents mid c place (length bytes)
+pub can_write : (old mid : TreeState) (w : Writer) (bytes : List ℕ) (place : ℕ) (c : WriterContents) (path : Path) → CanWriteBy old w bytes → OnlyReadsTree old mid → place ≡ (if w.appends then w.size else w.position) → AreTreeContents mid path c → path ≡ w.path →
+    IsUnsavedForm old.disk.profile old.disk.block_size w.unsaved (length (unsaved_or_tree old path w.unsaved)) (contents_form c) → LargeLaw → WriteLaw → CanWriteIn mid c place (length bytes)
 can_write old mid w bytes place c path can asked at over same shape large write =
-    subst (λ t. CanWriteWriterContents t c place (length bytes)) (sym asked.same)
-    (subst (λ p. CanWriteWriterContents (record old { history = mid.history; cache = mid.cache }) c p (length bytes)) (sym is) (record {
+    subst (λ t. CanWriteIn t c place (length bytes)) (sym asked.same)
+    (subst (λ p. CanWriteIn (record old { history = mid.history; cache = mid.cache }) c p (length bytes)) (sym is) (record {
       works = can.can.works;
-      stands = (subst (λ t. OverTreeFile t path c) asked.same over).stands;
+      stands = (subst (λ t. AreTreeContents t path c) asked.same over).stands;
       large = large old.disk.profile old.disk.block_size (contents_form c) (writer_view old w) kept;
       some = can.some;
       small = can.small;
@@ -286,37 +275,37 @@ can_write old mid w bytes place c path can asked at over same shape large write 
     is : place ≡ write_position (writer_view old w)
     is = place_is old w place can.can.written at
 
-    kept : FitsWriterForm old.disk.profile old.disk.block_size (contents_form c) (writer_view old w)
+    kept : IsWriterForm old.disk.profile old.disk.block_size (contents_form c) (writer_view old w)
     kept = kept_by_form old w (contents_form c) can.can.written (subst (λ p. IsUnsavedForm old.disk.profile old.disk.block_size w.unsaved (length (unsaved_or_tree old p w.unsaved)) (contents_form c)) same shape)
 
 pub has_written : (old mid new : TreeState) (w : Writer) (bytes : List ℕ) (place begin size : ℕ) (turned : Bool) (c d : WriterContents) (path : Path) → CanWriteBy old w bytes → OnlyReadsTree old mid →
-    place ≡ (if w.appends then w.size else w.position) → OverTreeFile mid path c → path ≡ w.path → IsUnsavedForm old.disk.profile old.disk.block_size w.unsaved (length (unsaved_or_tree old path w.unsaved)) (contents_form c) →
-    writer_contents_bytes (kept_thread mid) c ≡ unsaved_or_tree old path w.unsaved → WrittenLaw → KeepsImage mid new → ((p : Path) → OverTreeFile mid p c → OverTreeFile new p d) →
+    place ≡ (if w.appends then w.size else w.position) → AreTreeContents mid path c → path ≡ w.path → IsUnsavedForm old.disk.profile old.disk.block_size w.unsaved (length (unsaved_or_tree old path w.unsaved)) (contents_form c) →
+    writer_contents_bytes (kept_thread mid) c ≡ unsaved_or_tree old path w.unsaved → WrittenLaw → KeepsImage mid new → ((p : Path) → AreTreeContents mid p c → AreTreeContents new p d) →
     writer_contents_bytes (kept_thread new) d ≡ written_contents (writer_contents_bytes (kept_thread mid) c) place bytes → contents_form d ≡ written_form (inline_limit mid.disk.profile mid.disk.block_size) place (length bytes) (contents_form c) →
-    begin ≡ min place w.size → turned ≡ (is_unsaved_nonsequential w.unsaved || turns_writer (change_end w.unsaved) begin) → size ≡ max w.size (place + length bytes) →
+    begin ≡ min place w.size → turned ≡ (is_unsaved_turned w.unsaved || turns_writer (change_end w.unsaved) begin) → size ≡ max w.size (place + length bytes) →
     IsChangedWriter new (written_writer (writer_view old w) bytes) (record { path = w.path; position = place + length bytes; size = size; appends = w.appends; unsaved = Some (record { contents = d; has_turned = turned; last_end = Some (place + length bytes) }) })
 has_written old mid new w bytes place begin size turned c d path can asked at over same shape had law beside overs wrote_is form_is begin_is turned_is size_is =
     wrote old new w bytes place (place + length bytes) size turned d (beside_later old mid new asked beside) can.can.written can.some can.room is refl size_is
-    (turned_is ∙ ap (λ b. is_unsaved_nonsequential w.unsaved || turns_writer (change_end w.unsaved) b) begin_is)
-    (subst (λ p. OverTreeFile new p d) same (overs path over))
+    (turned_is ∙ ap (λ b. is_unsaved_turned w.unsaved || turns_writer (change_end w.unsaved) b) begin_is)
+    (subst (λ p. AreTreeContents new p d) same (overs path over))
     (wrote_is ∙ ap (λ xs. written_contents xs place bytes) (had ∙ ap (λ p. unsaved_or_tree old p w.unsaved) same))
-    kept (subst (InlineUpToLimit (inline_limit old.disk.profile old.disk.block_size)) (sym form_at)
+    kept (subst (InlineWithinLimit (inline_limit old.disk.profile old.disk.block_size)) (sym form_at)
     (settle_written (inline_limit old.disk.profile old.disk.block_size) (write_position (writer_view old w)) (length bytes) (contents_form c) (written_writer (writer_view old w) bytes) written_kept.fits))
   where
     is : place ≡ write_position (writer_view old w)
     is = place_is old w place can.can.written at
 
-    before_kept : FitsWriterForm old.disk.profile old.disk.block_size (contents_form c) (writer_view old w)
+    before_kept : IsWriterForm old.disk.profile old.disk.block_size (contents_form c) (writer_view old w)
     before_kept = kept_by_form old w (contents_form c) can.can.written (subst (λ p. IsUnsavedForm old.disk.profile old.disk.block_size w.unsaved (length (unsaved_or_tree old p w.unsaved)) (contents_form c)) same shape)
 
-    written_kept : FitsWriterForm old.disk.profile old.disk.block_size (written_form (inline_limit old.disk.profile old.disk.block_size) (write_position (writer_view old w)) (length bytes) (contents_form c)) (written_writer (writer_view old w) bytes)
+    written_kept : IsWriterForm old.disk.profile old.disk.block_size (written_form (inline_limit old.disk.profile old.disk.block_size) (write_position (writer_view old w)) (length bytes) (contents_form c)) (written_writer (writer_view old w) bytes)
     written_kept = kept_written law old.disk.profile old.disk.block_size (contents_form c) (writer_view old w) bytes can.some before_kept
 
     form_at : contents_form d ≡ written_form (inline_limit old.disk.profile old.disk.block_size) (write_position (writer_view old w)) (length bytes) (contents_form c)
     form_at = form_is ∙ ap₂ (λ n p. written_form n p (length bytes) (contents_form c)) (ap (λ (t : TreeState). inline_limit t.disk.profile t.disk.block_size) asked.same) is
 
-    kept : FitsWriterForm old.disk.profile old.disk.block_size (contents_form d) (written_writer (writer_view old w) bytes)
-    kept = subst (λ f. FitsWriterForm old.disk.profile old.disk.block_size f (written_writer (writer_view old w) bytes)) (sym form_at) written_kept
+    kept : IsWriterForm old.disk.profile old.disk.block_size (contents_form d) (written_writer (writer_view old w) bytes)
+    kept = subst (λ f. IsWriterForm old.disk.profile old.disk.block_size f (written_writer (writer_view old w) bytes)) (sym form_at) written_kept
 
 -- what the writer holds, there is room for
 held_room : (t : TreeState) (w : Writer) → CanChangeWriter t w → length (tree_summary t).used ≤ block_count t.disk → length (tree_summary t).used + reserved_for_writer t.disk.profile t.disk.block_size (writer_view t w) ≤ block_count t.disk
@@ -326,40 +315,40 @@ held_room t w can few = subst (λ n. length (tree_summary t).used + n ≤ block_
     go None e = rw e (omega (arith, few))
     go (Some u) e = rw e (changed_in t w u can.written.changed e).room
 
-pub can_truncate : (old mid : TreeState) (w : Writer) (size : ℕ) (c : WriterContents) (path : Path) → CanTruncateBy old w size → OnlyReadsTree old mid → OverTreeFile mid path c → path ≡ w.path →
-    IsUnsavedForm old.disk.profile old.disk.block_size w.unsaved (length (unsaved_or_tree old path w.unsaved)) (contents_form c) → LargeLaw → TruncateLaw → CanTruncateWriterContents mid c size
+pub can_truncate : (old mid : TreeState) (w : Writer) (size : ℕ) (c : WriterContents) (path : Path) → CanTruncateBy old w size → OnlyReadsTree old mid → AreTreeContents mid path c → path ≡ w.path →
+    IsUnsavedForm old.disk.profile old.disk.block_size w.unsaved (length (unsaved_or_tree old path w.unsaved)) (contents_form c) → LargeLaw → TruncateLaw → CanTruncateIn mid c size
 can_truncate old mid w size c path can asked over same shape large truncate =
-    subst (λ t. CanTruncateWriterContents t c size) (sym asked.same) (record {
+    subst (λ t. CanTruncateIn t c size) (sym asked.same) (record {
       works = can.can.works;
-      stands = (subst (λ t. OverTreeFile t path c) asked.same over).stands;
+      stands = (subst (λ t. AreTreeContents t path c) asked.same over).stands;
       large = large old.disk.profile old.disk.block_size (contents_form c) (writer_view old w) kept;
       small = can.small;
       room = truncate old.disk.profile old.disk.block_size (contents_form c) (writer_view old w) size (length (tree_summary old).used) (block_count old.disk) kept
           (held_room old w can.can (let r = can.room in omega (arith, r))) can.room;
     })
   where
-    kept : FitsWriterForm old.disk.profile old.disk.block_size (contents_form c) (writer_view old w)
+    kept : IsWriterForm old.disk.profile old.disk.block_size (contents_form c) (writer_view old w)
     kept = kept_by_form old w (contents_form c) can.can.written (subst (λ p. IsUnsavedForm old.disk.profile old.disk.block_size w.unsaved (length (unsaved_or_tree old p w.unsaved)) (contents_form c)) same shape)
 
 pub has_truncated : (old mid new : TreeState) (w : Writer) (size : ℕ) (turned : Bool) (end : Option ℕ) (c d : WriterContents) (path : Path) → CanTruncateBy old w size → OnlyReadsTree old mid →
-    OverTreeFile mid path c → path ≡ w.path → IsUnsavedForm old.disk.profile old.disk.block_size w.unsaved (length (unsaved_or_tree old path w.unsaved)) (contents_form c) →
-    writer_contents_bytes (kept_thread mid) c ≡ unsaved_or_tree old path w.unsaved → TruncatedLaw → KeepsImage mid new → ((p : Path) → OverTreeFile mid p c → OverTreeFile new p d) →
-    writer_contents_bytes (kept_thread new) d ≡ take size (padded_with_zeros size (writer_contents_bytes (kept_thread mid) c)) → contents_form d ≡ truncated_form (inline_limit mid.disk.profile mid.disk.block_size) size (contents_form c) →
-    turned ≡ (is_unsaved_nonsequential w.unsaved || is_some (change_end w.unsaved)) → end ≡ (if nat_lt w.size size then Some size else change_end w.unsaved) →
+    AreTreeContents mid path c → path ≡ w.path → IsUnsavedForm old.disk.profile old.disk.block_size w.unsaved (length (unsaved_or_tree old path w.unsaved)) (contents_form c) →
+    writer_contents_bytes (kept_thread mid) c ≡ unsaved_or_tree old path w.unsaved → TruncatedLaw → KeepsImage mid new → ((p : Path) → AreTreeContents mid p c → AreTreeContents new p d) →
+    writer_contents_bytes (kept_thread new) d ≡ take size (zero_padded size (writer_contents_bytes (kept_thread mid) c)) → contents_form d ≡ truncated_form (inline_limit mid.disk.profile mid.disk.block_size) size (contents_form c) →
+    turned ≡ (is_unsaved_turned w.unsaved || is_some (change_end w.unsaved)) → end ≡ (if nat_lt w.size size then Some size else change_end w.unsaved) →
     IsChangedWriter new (truncated_writer (writer_view old w) size) (record { path = w.path; position = w.position; size = size; appends = w.appends; unsaved = Some (record { contents = d; has_turned = turned; last_end = end }) })
 has_truncated old mid new w size turned end c d path can asked over same shape had law beside overs cut_is form_is turned_is end_is =
     cut old new w size turned end d (beside_later old mid new asked beside) can.can.written
     (ne_eqb size (length (unsaved_or_tree old w.path w.unsaved)) (λ e. can.other (e ∙ can.can.written.size))) can.room turned_is end_is
-    (subst (λ p. OverTreeFile new p d) same (overs path over))
-    (cut_is ∙ ap (λ xs. take size (padded_with_zeros size xs)) (had ∙ ap (λ p. unsaved_or_tree old p w.unsaved) same))
-    (subst (λ f. FitsWriterForm old.disk.profile old.disk.block_size f (truncated_writer (writer_view old w) size)) (sym form_at) truncated_kept)
-    (subst (InlineUpToLimit (inline_limit old.disk.profile old.disk.block_size)) (sym form_at)
+    (subst (λ p. AreTreeContents new p d) same (overs path over))
+    (cut_is ∙ ap (λ xs. take size (zero_padded size xs)) (had ∙ ap (λ p. unsaved_or_tree old p w.unsaved) same))
+    (subst (λ f. IsWriterForm old.disk.profile old.disk.block_size f (truncated_writer (writer_view old w) size)) (sym form_at) truncated_kept)
+    (subst (InlineWithinLimit (inline_limit old.disk.profile old.disk.block_size)) (sym form_at)
     (settle_truncated (inline_limit old.disk.profile old.disk.block_size) size (contents_form c) (truncated_writer (writer_view old w) size) (λ e. can.other (e ∙ before_kept.size ∙ can.can.written.size)) truncated_kept.fits))
   where
-    before_kept : FitsWriterForm old.disk.profile old.disk.block_size (contents_form c) (writer_view old w)
+    before_kept : IsWriterForm old.disk.profile old.disk.block_size (contents_form c) (writer_view old w)
     before_kept = kept_by_form old w (contents_form c) can.can.written (subst (λ p. IsUnsavedForm old.disk.profile old.disk.block_size w.unsaved (length (unsaved_or_tree old p w.unsaved)) (contents_form c)) same shape)
 
-    truncated_kept : FitsWriterForm old.disk.profile old.disk.block_size (truncated_form (inline_limit old.disk.profile old.disk.block_size) size (contents_form c)) (truncated_writer (writer_view old w) size)
+    truncated_kept : IsWriterForm old.disk.profile old.disk.block_size (truncated_form (inline_limit old.disk.profile old.disk.block_size) size (contents_form c)) (truncated_writer (writer_view old w) size)
     truncated_kept = law old.disk.profile old.disk.block_size (contents_form c) (writer_view old w) size before_kept
 
     form_at : contents_form d ≡ truncated_form (inline_limit old.disk.profile old.disk.block_size) size (contents_form c)
@@ -368,15 +357,15 @@ has_truncated old mid new w size turned end c d path can asked over same shape h
 -- ---- saving
 
 abbrev pub EndLaw : Type 0
-EndLaw = (profile : Profile) (block_size : ℕ) (shape : StorageForm) (w : session.FileWriter) (used all : ℕ) → FitsWriterForm profile block_size shape w → used + reserved_for_writer profile block_size w ≤ all → used + finish_room block_size shape ≤ all
+EndLaw = (profile : Profile) (block_size : ℕ) (shape : ContentsForm) (w : session.FileWriter) (used all : ℕ) → IsWriterForm profile block_size shape w → used + reserved_for_writer profile block_size w ≤ all → used + finish_room block_size shape ≤ all
 
 room_to_store : (used all blocks : ℕ) (turned : Bool) → used + (2 + cond turned 2 1 * blocks) ≤ all → used + blocks + 2 ≤ all
 room_to_store used all blocks true h = omega (arith, h)
 room_to_store used all blocks false h = omega (arith, h)
 
-pub can_store : (t : TreeState) (w : Writer) (u : UnsavedContents) (path : Path) → CanSaveWriter t w → w.unsaved ≡ Some u → path ≡ w.path → EndLaw → CanStoreAt t path u.contents
+pub can_store : (t : TreeState) (w : Writer) (u : UnsavedContents) (path : Path) → CanSaveWriter t w → w.unsaved ≡ Some u → path ≡ w.path → EndLaw → CanStoreContents t path u.contents
 can_store t w u path can is same law =
-    subst (λ p. CanStoreAt t p u.contents) (sym same) (record {
+    subst (λ p. CanStoreContents t p u.contents) (sym same) (record {
       works = can.works;
       writable = can.written.writable;
       settled = can.written.settled;
@@ -388,7 +377,7 @@ can_store t w u path can is same law =
           (room_to_store (length (tree_summary t).used) (block_count t.disk) (list_blocks_of t.disk.profile t.disk.block_size w.size) u.has_turned changed.room);
     })
   where
-    changed : AreUnsaved t w u
+    changed : AreUnsavedContents t w u
     changed = changed_in t w u can.written.changed is
 
     long : length (writer_contents_bytes (kept_thread t) u.contents) ≡ w.size
@@ -419,9 +408,9 @@ has_saved t new w u path can is same stored = record {
     saved : List ℕ → session.FileWriter
     saved xs = record { path = w.path; contents = xs; position = w.position; append = w.appends; dirty = false; turned = false; last_end = None }
 
-    at : tree_view new w.path ≡ option_map (file_with_bytes (writer_contents_bytes (kept_thread t) u.contents)) (tree_view t w.path)
-    at = ap (λ (z : Tree). z w.path) (stored.shows ∙ ap (λ p. tree_with_change p (file_with_bytes (writer_contents_bytes (kept_thread t) u.contents)) (tree_view t)) same)
-        ∙ ap (λ b. cond b (option_map (file_with_bytes (writer_contents_bytes (kept_thread t) u.contents)) (tree_view t w.path)) (tree_view t w.path)) (path_itself w.path)
+    at : shown_tree new w.path ≡ option_map (file_with_bytes (writer_contents_bytes (kept_thread t) u.contents)) (shown_tree t w.path)
+    at = ap (λ (z : Tree). z w.path) (stored.shows ∙ ap (λ p. tree_with_change p (file_with_bytes (writer_contents_bytes (kept_thread t) u.contents)) (shown_tree t)) same)
+        ∙ ap (λ b. cond b (option_map (file_with_bytes (writer_contents_bytes (kept_thread t) u.contents)) (shown_tree t w.path)) (shown_tree t w.path)) (path_itself w.path)
 
-    node : (is_file (tree_view new w.path) ≡ true) × (file_bytes (tree_view new w.path) ≡ writer_contents_bytes (kept_thread t) u.contents)
-    node = rw at (stored_node (tree_view t w.path) (writer_contents_bytes (kept_thread t) u.contents) can.written.there)
+    node : (is_file (shown_tree new w.path) ≡ true) × (file_bytes (shown_tree new w.path) ≡ writer_contents_bytes (kept_thread t) u.contents)
+    node = rw at (stored_node (shown_tree t w.path) (writer_contents_bytes (kept_thread t) u.contents) can.written.there)

@@ -1,27 +1,8 @@
 -- A write of an open writer, and its turn.
 use Rattle.std.proofs.Common.{ℕ, ◌≡◌, ◌==◌, ◌+◌, ◌<◌, ◌^◌, ◌&&◌, ◌||◌, ◌++◌, Bool, true, false, List, [], ◌∷◌, length, set, nat_lt, Some, None, Ok, is_some, refl, sym, ap, ap₂, subst, ◌∙◌, arith}
 use Rattle.std.specs.Prelude.{◌==◌}
-use Rattle.std.specs.List.{list_any}
-use Rattle.std.specs.Option.{option_map}
-use Rattle.std.proofs.lemmas.Bool.{eqb-true, ltb-false}
-use Rattle.lfs_model.specs.format.Disk.{file_max_of}
+use Rattle.lfs_fs.proofs.Common.{list_any, option_map, eqb-true, ltb-false, file_max_of, Operation, needs_no_resource, IsStep, needs_no_call, Session, DiskSummary, Writing, file_numbered, first_refusal, overfills_disk, files_with_file, refuse_if, file_writer, written_writer, write_position, Healthy, operation_effect, Tree, DiskView, recovered_from, filled_step, KeepsImage, TreeState, tree_summary, shown_tree, CanWriteBy, IsChangedWriter, RuntimeFiles, open_file_at, files_view, writer_if_any, writer_view, StepsOrFails, SessionView, IsReady, session_view, system_state, refusal_by_checks, viewed_session}
 use Rattle.lfs_model.specs.session.Operations as ops
-use Rattle.lfs_model.specs.session.Operations.{Operation}
-use Rattle.lfs_model.specs.crash.Frame.{needs_no_resource}
-use Rattle.lfs_model.specs.session.Run.{IsStep, needs_no_call}
-use Rattle.lfs_model.specs.session.Session.{Session, DiskSummary, Writing, file_numbered, first_refusal, overfills_disk, files_with_file, refuse_if, file_writer}
-use Rattle.lfs_model.specs.session.Writers.{written_writer, write_position}
-use Rattle.lfs_model.specs.session.State.{Healthy}
-use Rattle.lfs_model.specs.session.Effects.{operation_effect}
-use Rattle.lfs_model.specs.tree.Tree.{Tree}
-use Rattle.lfs_model.specs.tree.View.{DiskView}
-use Rattle.lfs_model.proofs.Committed.{recovered_from}
-use Rattle.lfs_model.proofs.StepsMade.{filled_step}
-use Rattle.lfs_tree.specs.OpenContents.{KeepsImage}
-use Rattle.lfs_tree.specs.TreeState.{TreeState, tree_summary, tree_view}
-use Rattle.lfs_fs.specs.WriterChanges.{CanWriteBy, IsChangedWriter}
-use Rattle.lfs_fs.specs.FileView.{RuntimeFiles, open_file_at, files_view, writer_if_any, writer_view}
-use Rattle.lfs_fs.specs.SessionView.{StepsOrFails, SessionView, IsReady, view_of_session, system_state, refusal_by_checks, viewed_session}
 use Rattle.lfs_fs.specs.declared.files.OpenFile.TheVariants as file
 use Rattle.lfs_fs.specs.declared.files.Writer.{Writer}
 use Rattle.lfs_fs.proofs.Answered.{is_over, kept_answer, not_failed, not_refused, sound_by}
@@ -33,9 +14,9 @@ use Rattle.lfs_fs.proofs.WriterChecks.{some_bytes, the_writer, written_at}
 
 -- ---- what no check refuses
 
-module _ (t : TreeState) (fs : RuntimeFiles) (fd : ℕ) (bytes : List ℕ) (w : Writer) (e : open_file_at fs fd ≡ Some (file.Writing w)) (accepted : refusal_by_checks (view_of_session t fs) (ops.Write fd bytes) ≡ None) where
+module _ (t : TreeState) (fs : RuntimeFiles) (fd : ℕ) (bytes : List ℕ) (w : Writer) (e : open_file_at fs fd ≡ Some (file.Writing w)) (accepted : refusal_by_checks (session_view t fs) (ops.Write fd bytes) ≡ None) where
   works_now : t.failed ≡ false
-  works_now = not_failed (view_of_session t fs) (ops.Write fd bytes) accepted
+  works_now = not_failed (session_view t fs) (ops.Write fd bytes) accepted
 
   is_writer : Some w ≡ writer_if_any (open_file_at fs fd)
   is_writer = sym (ap writer_if_any e)
@@ -43,7 +24,7 @@ module _ (t : TreeState) (fs : RuntimeFiles) (fd : ℕ) (bytes : List ℕ) (w : 
   seen_there : file_writer (file_numbered (files_view t fs) fd) ≡ Some (writer_view t w)
   seen_there = the_writer t fs fd (Some w) is_writer
 
-  checks_are : refusal_by_checks (view_of_session t fs) (ops.Write fd bytes)
+  checks_are : refusal_by_checks (session_view t fs) (ops.Write fd bytes)
       ≡ first_refusal (refuse_if (nat_lt 0 (length bytes) && nat_lt (file_max_of t.disk.profile) (write_position (writer_view t w) + length bytes)) ops.TooBig ∷ refuse_if (nat_lt 0 (length bytes) && overfills_disk (tree_summary t) (written_writer (writer_view t w) bytes)) ops.NoSpace ∷ [])
   checks_are = rw (works_now, seen_there) refl
 
@@ -87,23 +68,23 @@ no_items : (bytes : List ℕ) → (length bytes == 0) ≡ true → bytes ≡ []
 no_items [] e = refl
 no_items (b ∷ bytes) e = absurd (let k = eqb-true (length (b ∷ bytes)) 0 e in omega (arith, k))
 
-empty_put : (t : TreeState) (fs : RuntimeFiles) (fd : ℕ) (now : SessionView) (w : Writer) → view_of_session t fs ≡ now → (t.failed ≡ false → IsReady t fs) → refusal_by_checks (view_of_session t fs) (ops.Write fd []) ≡ None → open_file_at fs fd ≡ Some (file.Writing w) → StepsOrFails now (ops.Write fd []) (Ok (ops.Count 0)) now
+empty_put : (t : TreeState) (fs : RuntimeFiles) (fd : ℕ) (now : SessionView) (w : Writer) → session_view t fs ≡ now → (t.failed ≡ false → IsReady t fs) → refusal_by_checks (session_view t fs) (ops.Write fd []) ≡ None → open_file_at fs fd ≡ Some (file.Writing w) → StepsOrFails now (ops.Write fd []) (Ok (ops.Count 0)) now
 empty_put t fs fd now w same invariant accepted e =
     subst (λ z. StepsOrFails now (ops.Write fd []) (Ok (ops.Count 0)) z) same
-    (kept_answer (view_of_session t fs) now (ops.Write fd []) (files_view t fs) (ops.Count 0) same (sound_by t fs invariant) accepted refl refl refl
-    (ap (λ f. (ops.Count 0, record { tree = tree_view t; files = f })) stays))
+    (kept_answer (session_view t fs) now (ops.Write fd []) (files_view t fs) (ops.Count 0) same (sound_by t fs invariant) accepted refl refl refl
+    (ap (λ f. (ops.Count 0, record { tree = shown_tree t; files = f })) stays))
   where
     stays : files_with_file (files_view t fs) fd (option_map (λ v. Writing (written_writer v [])) (file_writer (file_numbered (files_view t fs) fd))) ≡ files_view t fs
     stays =
         ap (λ o. files_with_file (files_view t fs) fd (option_map (λ v. Writing (written_writer v [])) o)) (the_writer t fs fd (Some w) (sym (ap writer_if_any e)))
         ∙ sym (set_is t fs fd (Some (file.Writing w)) (ap is_some e)) ∙ ap (files_view t) (set_same fs fd (file.Writing w) e)
 
-pub nothing_put : (t : TreeState) (fs : RuntimeFiles) (fd : ℕ) (bytes : List ℕ) (now : SessionView) (w : Writer) → view_of_session t fs ≡ now → (t.failed ≡ false → IsReady t fs) → refusal_by_checks (view_of_session t fs) (ops.Write fd bytes) ≡ None → open_file_at fs fd ≡ Some (file.Writing w) →
+pub nothing_put : (t : TreeState) (fs : RuntimeFiles) (fd : ℕ) (bytes : List ℕ) (now : SessionView) (w : Writer) → session_view t fs ≡ now → (t.failed ≡ false → IsReady t fs) → refusal_by_checks (session_view t fs) (ops.Write fd bytes) ≡ None → open_file_at fs fd ≡ Some (file.Writing w) →
     (length bytes == 0) ≡ true → StepsOrFails now (ops.Write fd bytes) (Ok (ops.Count 0)) now
 nothing_put t fs fd bytes now w same invariant accepted e none =
     let nothing = no_items bytes none in
     subst (λ xs. StepsOrFails now (ops.Write fd xs) (Ok (ops.Count 0)) now) (sym nothing)
-    (empty_put t fs fd now w same invariant (subst (λ xs. refusal_by_checks (view_of_session t fs) (ops.Write fd xs) ≡ None) nothing accepted) e)
+    (empty_put t fs fd now w same invariant (subst (λ xs. refusal_by_checks (session_view t fs) (ops.Write fd xs) ≡ None) nothing accepted) e)
 
 -- ---- some bytes
 
@@ -111,16 +92,16 @@ some_needed : (s : Session) (fd : ℕ) (bytes : List ℕ) → (length bytes == 0
 some_needed s fd [] e = absurd (cc)
 some_needed s fd (b ∷ bytes) e = refl
 
-pub some_taken : (t : TreeState) (fs : RuntimeFiles) (fd : ℕ) (bytes : List ℕ) → (length bytes == 0) ≡ false → needs_no_resource (viewed_session (view_of_session t fs)) (ops.Write fd bytes) ≡ false
-some_taken t fs fd bytes some = some_needed (viewed_session (view_of_session t fs)) fd bytes some
+pub some_taken : (t : TreeState) (fs : RuntimeFiles) (fd : ℕ) (bytes : List ℕ) → (length bytes == 0) ≡ false → needs_no_resource (viewed_session (session_view t fs)) (ops.Write fd bytes) ≡ false
+some_taken t fs fd bytes some = some_needed (viewed_session (session_view t fs)) fd bytes some
 
-pub some_put : (t new : TreeState) (fs : RuntimeFiles) (fd : ℕ) (bytes : List ℕ) (now : SessionView) (w v : Writer) → view_of_session t fs ≡ now → (t.failed ≡ false → IsReady t fs) → refusal_by_checks (view_of_session t fs) (ops.Write fd bytes) ≡ None → open_file_at fs fd ≡ Some (file.Writing w) → (length bytes == 0) ≡ false →
-    IsChangedWriter new (written_writer (writer_view t w) bytes) v → KeepsImage t new → IsStep (system_state now) (ops.Write fd bytes) (ops.Count (length bytes)) (system_state (view_of_session new (set fs fd (Some (file.Writing v)))))
+pub some_put : (t new : TreeState) (fs : RuntimeFiles) (fd : ℕ) (bytes : List ℕ) (now : SessionView) (w v : Writer) → session_view t fs ≡ now → (t.failed ≡ false → IsReady t fs) → refusal_by_checks (session_view t fs) (ops.Write fd bytes) ≡ None → open_file_at fs fd ≡ Some (file.Writing w) → (length bytes == 0) ≡ false →
+    IsChangedWriter new (written_writer (writer_view t w) bytes) v → KeepsImage t new → IsStep (system_state now) (ops.Write fd bytes) (ops.Count (length bytes)) (system_state (session_view new (set fs fd (Some (file.Writing v)))))
 some_put t new fs fd bytes now w v same invariant accepted e some made b =
-    subst (λ z. IsStep (system_state z) op (ops.Count (length bytes)) (system_state (view_of_session new later))) same
-    (subst (λ m. IsStep m op (ops.Count (length bytes)) (system_state (view_of_session new later))) (sym (healthy_system (view_of_session t fs) works))
-    (subst (λ m. IsStep (record { disk = t.disk; calls = t.history; state = Healthy (viewed_session (view_of_session t fs)) }) op (ops.Count (length bytes)) m) (sym to)
-    (filled_step t.disk t.pairs (viewed_session (view_of_session t fs)) (tree_summary t) op new.disk new.pairs b.calls t.history (is_over t (files_view t fs) (invariant works).sound) (not_refused (view_of_session t fs) op accepted) refl (some_needed (viewed_session (view_of_session t fs)) fd bytes some) b.geometry
+    subst (λ z. IsStep (system_state z) op (ops.Count (length bytes)) (system_state (session_view new later))) same
+    (subst (λ m. IsStep m op (ops.Count (length bytes)) (system_state (session_view new later))) (sym (healthy_system (session_view t fs) works))
+    (subst (λ m. IsStep (record { disk = t.disk; calls = t.history; state = Healthy (viewed_session (session_view t fs)) }) op (ops.Count (length bytes)) m) (sym to)
+    (filled_step t.disk t.pairs (viewed_session (session_view t fs)) (tree_summary t) op new.disk new.pairs b.calls t.history (is_over t (files_view t fs) (invariant works).sound) (not_refused (session_view t fs) op accepted) refl (some_needed (viewed_session (session_view t fs)) fd bytes some) b.geometry
     b.sound.accepted b.pairs (ap₂ (λ (z : Tree) (a : DiskSummary). let k : DiskView = record { tree = z; gstate = a.gstate; used = a.used } in k) b.shows b.around) (recovered_from new.disk new.pairs b.sound.accepted made.written.settled)
     (λ h. b.sound.fits made.written.writable))))
   where
@@ -131,7 +112,7 @@ some_put t new fs fd bytes now w v same invariant accepted e some made b =
     later = set fs fd (Some (file.Writing v))
 
     works : t.failed ≡ false
-    works = not_failed (view_of_session t fs) op accepted
+    works = not_failed (session_view t fs) op accepted
 
     files : files_view new later ≡ files_with_file (files_view t fs) fd (option_map (λ u. Writing (written_writer u bytes)) (file_writer (file_numbered (files_view t fs) fd)))
     files =
@@ -139,5 +120,5 @@ some_put t new fs fd bytes now w v same invariant accepted e some made b =
         ∙ sym (inside_put t fs fd (Writing (written_writer (writer_view t w) bytes)) (ap is_some e))
         ∙ sym (ap (λ o. files_with_file (files_view t fs) fd (option_map (λ u. Writing (written_writer u bytes)) o)) (the_writer t fs fd (Some w) (sym (ap writer_if_any e))))
 
-    to : system_state (view_of_session new later) ≡ record { disk = new.disk; calls = b.calls ++ t.history; state = Healthy (operation_effect (tree_summary t) (viewed_session (view_of_session t fs)) op).1 }
-    to = healthy_system (view_of_session new later) b.works ∙ ap₂ (λ calls (s : Session). record { disk = new.disk; calls = calls; state = Healthy s }) b.called (ap₂ (λ z f. record { tree = z; files = f }) b.shows files)
+    to : system_state (session_view new later) ≡ record { disk = new.disk; calls = b.calls ++ t.history; state = Healthy (operation_effect (tree_summary t) (viewed_session (session_view t fs)) op).1 }
+    to = healthy_system (session_view new later) b.works ∙ ap₂ (λ calls (s : Session). record { disk = new.disk; calls = calls; state = Healthy s }) b.called (ap₂ (λ z f. record { tree = z; files = f }) b.shows files)

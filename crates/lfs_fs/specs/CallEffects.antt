@@ -11,7 +11,7 @@ use Rattle.lfs_model.specs.session.Session.{Session}
 use Rattle.lfs_model.specs.format.Slots.{zero_gstate}
 use Rattle.lfs_model.specs.session.State.{Healthy}
 use Rattle.lfs_model.specs.format.Thread.{Pair, pairs_gstate}
-use Rattle.lfs_model.specs.crash.ReadBounds.{BoundsAlways}
+use Rattle.lfs_model.specs.crash.ReadBounds.{ReadsOnceAlways}
 use Rattle.lfs_model.specs.tree.View.{IsAccepted}
 use Rattle.lfs_lookup.specs.CachedPairs.{AreFewSmall}
 use Rattle.lfs_tree.specs.TreeReads.{HasCachedDirectories}
@@ -32,7 +32,7 @@ StatCaches op r new = (path : List ℕ) (reply : Reply) → op ≡ ops.Stat path
 -- How often a call reads: never where the session has the reply, seldom in a look-up.
 pub record BoundsCallReads (old : SessionView) (op : Operation) (r : Result Reply Error) (new : SessionView) : Type 0 where
   pub asked : answers_itself op ≡ true → new ≡ old
-  pub few : BoundsAlways (system_state old) op (system_state new)
+  pub few : ReadsOnceAlways (system_state old) op (system_state new)
   pub none : is_look_up op ≡ true → NothingIfCached old.tree op new.tree
   pub hand : StatCaches op r new
 

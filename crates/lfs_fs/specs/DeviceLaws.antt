@@ -12,6 +12,6 @@ pub record LeftConforming (t : TreeState) : Type 0 where
   pub conforms : CallsConform t.history
 
 -- What a session that works keeps between its calls: it is ready for the next one, and its device meets the laws of its calls.
-pub record HasInvariant (t : TreeState) (files : RuntimeFiles) : Type 0 where
+pub record HasSessionInvariant (t : TreeState) (files : RuntimeFiles) : Type 0 where
   pub ready : t.failed ≡ false → IsReady t files
   pub reported : t.failed ≡ false → LeftConforming t

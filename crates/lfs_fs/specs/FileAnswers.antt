@@ -5,7 +5,7 @@ use Rattle.lfs_device.specs.declared.error.Error.{Error}
 use Rattle.lfs_device.specs.declared.error.Error.TheVariants.{BadFile, Failed}
 use Rattle.lfs_model.specs.session.Session.{OpenFile, Reading, Writing, file_numbered}
 use Rattle.lfs_model.specs.session.TreeEdits.{file_bytes}
-use Rattle.lfs_tree.specs.TreeState.{tree_view}
+use Rattle.lfs_tree.specs.TreeState.{shown_tree}
 use Rattle.lfs_fs.specs.SessionView.{SessionView}
 
 abbrev pub file_position : SessionView → OpenFile → ℕ
@@ -14,7 +14,7 @@ file_position h (Writing w) = w.position
 
 -- the size of a file in bytes, with what its writer hasn't synced
 abbrev pub file_size : SessionView → OpenFile → ℕ
-file_size h (Reading r) = length (file_bytes (tree_view h.tree r.path))
+file_size h (Reading r) = length (file_bytes (shown_tree h.tree r.path))
 file_size h (Writing w) = length w.contents
 
 -- The number that the open file has, by such a definition; or the session has failed, or no file is open there.

@@ -9,7 +9,7 @@ use Rattle.lfs_model.specs.session.Session.{list_blocks_of}
 use Rattle.lfs_file.specs.declared.known.KnownBlocks.{KnownBlocks}
 use Rattle.lfs_model.specs.format.Disk.{Disk}
 use Rattle.lfs_model.specs.tree.Tree.{Path, Tree}
-use Rattle.lfs_tree.specs.TreeState.{TreeState, tree_view}
+use Rattle.lfs_tree.specs.TreeState.{TreeState, shown_tree}
 use Rattle.lfs_file.specs.Contents.{contents_bytes}
 use Rattle.lfs_fs.specs.declared.files.Reader.{Reader}
 use Rattle.lfs_fs.specs.declared.files.Writer.{Writer}
@@ -26,9 +26,9 @@ RuntimeFiles = List (Option OpenFile)
 abbrev pub reader_view : Reader → session.FileReader
 reader_view r = record { path = r.path; position = r.position }
 
-abbrev pub is_unsaved_nonsequential : Option UnsavedContents → Bool
-is_unsaved_nonsequential None = false
-is_unsaved_nonsequential (Some u) = u.has_turned
+abbrev pub is_unsaved_turned : Option UnsavedContents → Bool
+is_unsaved_turned None = false
+is_unsaved_turned (Some u) = u.has_turned
 
 abbrev pub change_end : Option UnsavedContents → Option ℕ
 change_end None = None
@@ -46,7 +46,7 @@ writer_over_tree disk tree w = record {
   position = w.position;
   append = w.appends;
   dirty = is_some w.unsaved;
-  turned = is_unsaved_nonsequential w.unsaved;
+  turned = is_unsaved_turned w.unsaved;
   last_end = change_end w.unsaved;
 }
 
@@ -55,16 +55,16 @@ file_over_tree disk tree (file.Reading r) = session.Reading (reader_view r)
 file_over_tree disk tree (file.Writing w) = session.Writing (writer_over_tree disk tree w)
 
 abbrev pub unsaved_or_tree : TreeState → Path → Option UnsavedContents → List ℕ
-unsaved_or_tree t path unsaved = writer_bytes t.disk (tree_view t) path unsaved
+unsaved_or_tree t path unsaved = writer_bytes t.disk (shown_tree t) path unsaved
 
 abbrev pub writer_view : TreeState → Writer → session.FileWriter
-writer_view t w = writer_over_tree t.disk (tree_view t) w
+writer_view t w = writer_over_tree t.disk (shown_tree t) w
 
 abbrev pub file_view : TreeState → OpenFile → session.OpenFile
-file_view t f = file_over_tree t.disk (tree_view t) f
+file_view t f = file_over_tree t.disk (shown_tree t) f
 
 abbrev pub files_view : TreeState → RuntimeFiles → session.OpenFilesByNumber
-files_view t files = map (option_map (file_over_tree t.disk (tree_view t))) files
+files_view t files = map (option_map (file_over_tree t.disk (shown_tree t))) files
 
 -- ---- as they are kept
 
@@ -124,7 +124,7 @@ reserved_for profile block_size turned size = 2 + (if turned then 2 else 1) * li
 
 -- how many blocks are held for a writer, by its size
 abbrev pub reserved_by : Profile → ℕ → Writer → ℕ
-reserved_by profile block_size w = if is_none w.unsaved then 0 else reserved_for profile block_size (is_unsaved_nonsequential w.unsaved) w.size
+reserved_by profile block_size w = if is_none w.unsaved then 0 else reserved_for profile block_size (is_unsaved_turned w.unsaved) w.size
 
 abbrev pub reserved_by_writers : Profile → ℕ → RuntimeFiles → ℕ
 reserved_by_writers profile block_size files = sum_by (reserved_by profile block_size) (writers_among files)

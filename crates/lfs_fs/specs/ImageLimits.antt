@@ -17,7 +17,7 @@ use Rattle.lfs_fs.specs.SessionView.{BeginsByMount, SessionView}
 -- ---- a session that is only read
 
 -- A session that works was only read, by calls that didn't fail. Nothing has changed but the cached blocks.
-pub record WasSessionRead (old new : SessionView) : Type 0 where
+pub record OnlyReadsSession (old new : SessionView) : Type 0 where
   pub works : old.tree.failed ≡ false
   pub tree : OnlyReadsTree old.tree new.tree
   pub files : new.files ≡ old.files
@@ -37,7 +37,7 @@ pub record BeginsLimited (disk : Disk) (history : List CallEvent) (profile : Pro
 
 -- The device comes back with an error. It was only read, and by each order of names and each profile it is the same disk. `Io`
 -- comes with a fault of the device, and any other error with none.
-pub record ReturnsUnchangedDeviceByAnyProfile {D : Type 0} (g : Ghosts D) (old back : D) (error : Error) : Type 0 where
+pub record ReturnsUnchangedDevice {D : Type 0} (g : Ghosts D) (old back : D) (error : Error) : Type 0 where
   pub disk : (order : NameOrder) (profile : Profile) → ordered_disk order (profiled_disk profile (disk_of_device g back)) ≡ ordered_disk order (profiled_disk profile (disk_of_device g old))
   pub reads : OnlyReadsSince (g.blocks old) (g.history old) (g.history back)
   pub fault : error ≡ Io → fault_count (g.history old) < fault_count (g.history back)

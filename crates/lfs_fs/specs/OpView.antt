@@ -46,9 +46,9 @@ reply_view (reply.Yes is) = ops.Yes is
 reply_view (reply.Refused error) = ops.Refused (error_refusal error)
 
 -- a reply that refuses names an error that is a refusal
-abbrev pub RefusesOnly : Reply → Type 0
-RefusesOnly (reply.Refused error) = is_refusal error ≡ true
-RefusesOnly _ = Unit {0}
+abbrev pub HasRefusalError : Reply → Type 0
+HasRefusalError (reply.Refused error) = is_refusal error ≡ true
+HasRefusalError _ = Unit {0}
 
 -- the reply, or the error in its place
 abbrev pub result_view : Result Reply Error → Result ops.Reply Error

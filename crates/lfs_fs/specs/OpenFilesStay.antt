@@ -5,22 +5,22 @@ use Rattle.lfs_model.specs.session.TreeEdits.{file_bytes, is_file}
 use Rattle.lfs_model.specs.format.Disk.{block_count}
 use Rattle.lfs_model.specs.session.Operations.{Operation}
 use Rattle.lfs_model.specs.session.Session.{reserved_for_writers}
-use Rattle.lfs_tree.specs.TreeState.{IsApplied, TreeState, tree_summary, tree_view}
+use Rattle.lfs_tree.specs.TreeState.{IsApplied, TreeState, tree_summary, shown_tree}
 use Rattle.lfs_fs.specs.FileView.{RuntimeFiles, files_view, readers_among, writers_among}
 use Rattle.lfs_fs.specs.SessionView.{IsReady}
 use Rattle.lfs_model.specs.layers.Keeping.{takes_away}
-use Rattle.lfs_tree.specs.KeptFiles.{operation_blocks}
+use Rattle.lfs_tree.specs.KeptFiles.{operation_room}
 use Rattle.lfs_fs.specs.declared.files.Writer.{Writer}
 
 -- the operation is about no open file, and there is room for the blocks that it takes
 pub record ConcernsNoFile (t : TreeState) (op : Operation) (files : RuntimeFiles) : Type 0 where
   pub apart : AllByRecursion (λ w. takes_away op w.path ≡ false) (writers_among files)
   pub unread : AllByRecursion (λ r. takes_away op r.path ≡ false) (readers_among files)
-  pub room : (operation_blocks op ≡ 0) ⊎ (length (tree_summary t).used + reserved_for_writers t.disk.profile t.disk.block_size (files_view t files) + operation_blocks op ≤ block_count t.disk)
+  pub room : (operation_room op ≡ 0) ⊎ (length (tree_summary t).used + reserved_for_writers t.disk.profile t.disk.block_size (files_view t files) + operation_room op ≤ block_count t.disk)
 
 -- the files of the writers are there as before
 abbrev pub KeepsWriters : TreeState → TreeState → List Writer → Type 0
-KeepsWriters old new ws = AllByRecursion (λ w. (is_file (tree_view new w.path) ≡ true) × (file_bytes (tree_view new w.path) ≡ file_bytes (tree_view old w.path))) ws
+KeepsWriters old new ws = AllByRecursion (λ w. (is_file (shown_tree new w.path) ≡ true) × (file_bytes (shown_tree new w.path) ≡ file_bytes (shown_tree old w.path))) ws
 
 -- the open files are as before, and ready
 pub record StayReady (old new : TreeState) (files : RuntimeFiles) : Type 0 where

@@ -1,7 +1,7 @@
 -- The two paths of a rename.
 use Rattle.std.specs.Prelude.{ℕ, ◌≡◌, ◌==◌, ◌&&◌, ◌||◌, Bool, true, false, List, [], ◌∷◌, IfSome, IsSome, Some, is_some}
 use Rattle.lfs_device.specs.declared.error.Error.{Error}
-use Rattle.lfs_model.specs.session.TreeEdits.{is_path_beneath, without_prefix, same_path}
+use Rattle.lfs_model.specs.session.TreeEdits.{is_beneath, without_prefix, same_path}
 use Rattle.lfs_model.specs.format.Names.{slash_byte}
 use Rattle.lfs_model.specs.session.Operations.{Operation}
 use Rattle.lfs_model.specs.session.Refusals.{path_or_root}
@@ -13,7 +13,7 @@ use Rattle.lfs_tree.specs.RenameFindings.{AreRenameResults}
 use Rattle.lfs_tree.specs.TreeState.{TreeState, kept_thread}
 use Rattle.lfs_fs.specs.EntryPaths.{entry_path}
 use Rattle.lfs_fs.specs.FileView.{RuntimeFiles}
-use Rattle.lfs_fs.specs.SessionView.{refusal_by_checks, view_of_session}
+use Rattle.lfs_fs.specs.SessionView.{refusal_by_checks, session_view}
 use Rattle.lfs_fs.specs.declared.rename_checks.RenamePaths.{RenamePaths}
 use Rattle.lfs_fs.specs.declared.rename_checks.PermittedRename.{PermittedRename}
 
@@ -25,8 +25,8 @@ is_path_prefix (a ∷ xs) [] = false
 is_path_prefix (a ∷ xs) (b ∷ ys) = (a == b) && is_path_prefix xs ys
 
 -- an open file at that path prevents a rename from the one path to the other
-abbrev pub open_prevents_rename : Path → Path → Path → Bool
-open_prevents_rename from to p = is_some (without_prefix from p) || same_path to p
+abbrev pub prevents_rename : Path → Path → Path → Bool
+prevents_rename from to p = is_some (without_prefix from p) || same_path to p
 
 -- A rename that passes the checks that need no look-up. The tree works and may be written. Both paths are entries', and the new
 -- one isn't beneath the old one.
@@ -35,12 +35,12 @@ pub record PassesRename (t : TreeState) (old new : List ℕ) (paths : RenamePath
   pub writable : t.writable ≡ true
   pub from : entry_path old ≡ Some paths.from
   pub to : entry_path new ≡ Some paths.to
-  pub apart : is_path_beneath (path_or_root old) (path_or_root new) ≡ false
+  pub apart : is_beneath (path_or_root old) (path_or_root new) ≡ false
   pub same : paths.is_same ≡ same_path (path_or_root old) (path_or_root new)
 
 -- the error is the operation's refusal, whatever files are open
 abbrev pub IsRefusedAnyway : TreeState → Operation → Error → Type 0
-IsRefusedAnyway t op e = (files : RuntimeFiles) → (is_refusal e ≡ true) × (refusal_by_checks (view_of_session t files) op ≡ Some (error_refusal e))
+IsRefusedAnyway t op e = (files : RuntimeFiles) → (is_refusal e ≡ true) × (refusal_by_checks (session_view t files) op ≡ Some (error_refusal e))
 
 -- the paths of these bytes, whether they are the same, and where they lead to, if nothing is to recover
 pub record IsPermitted (t : TreeState) (old new : List ℕ) (r : PermittedRename) : Type 0 where

@@ -21,9 +21,9 @@ use Rattle.lfs_model.specs.session.State.{HasFailed, Healthy, is_remount}
 use Rattle.lfs_model.specs.session.Refusals.{path_or_root, operation_refusal}
 use Rattle.lfs_model.specs.session.Effects.{node_file_size}
 use Rattle.lfs_tree.specs.CreationPaths.{IsCreationResult}
-use Rattle.lfs_tree.specs.OpenContents.{OverTreeFile, InlineUpToLimit}
+use Rattle.lfs_tree.specs.OpenContents.{AreTreeContents, InlineWithinLimit}
 use Rattle.lfs_file.specs.Contents.{contents_form}
-use Rattle.lfs_file.specs.Form.{FitsWriterForm}
+use Rattle.lfs_file.specs.Form.{IsWriterForm}
 use Rattle.lfs_fs.specs.declared.checks.WritableFile.{WritableFile}
 use Rattle.lfs_fs.specs.declared.files.UnsavedContents.{UnsavedContents}
 use Rattle.lfs_model.specs.session.TreeEdits.{is_file, same_path}
@@ -35,38 +35,38 @@ use Rattle.lfs_model.specs.tree.Shown.{struct_blocks}
 use Rattle.lfs_lookup.specs.FileContents.{IsStorageAt, contents_struct}
 use Rattle.lfs_lookup.specs.RefusalErrors.{is_refusal, error_refusal}
 use Rattle.lfs_lookup.specs.declared.file_contents.FileContents.{FileContents}
-use Rattle.lfs_tree.specs.TreeState.{TreeState, kept_thread, tree_view, tree_summary, IsSoundState, OnlyReadsTree, FailedByReading, HasErrorCause}
+use Rattle.lfs_tree.specs.TreeState.{TreeState, kept_thread, shown_tree, tree_summary, IsSoundState, OnlyReadsTree, FailedByReading, HasErrorCause}
 
 -- The tree and the open files.
 pub record SessionView : Type 0 where
   pub tree : TreeState
   pub files : OpenFilesByNumber
 
-abbrev pub view_of_files : TreeState → OpenFilesByNumber → SessionView
-view_of_files tree files = record { tree = tree; files = files }
+abbrev pub view_with_files : TreeState → OpenFilesByNumber → SessionView
+view_with_files tree files = record { tree = tree; files = files }
 
-abbrev pub view_of_session : TreeState → RuntimeFiles → SessionView
-view_of_session tree files = view_of_files tree (files_view tree files)
+abbrev pub session_view : TreeState → RuntimeFiles → SessionView
+session_view tree files = view_with_files tree (files_view tree files)
 
 -- Changed contents are those of the file's writer, in a form that fits the writer. They can be saved, and there is room for the
 -- blocks that the writer holds.
-pub record AreUnsaved (t : TreeState) (w : Writer) (u : UnsavedContents) : Type 0 where
-  pub over : OverTreeFile t w.path u.contents
-  pub kept : FitsWriterForm t.disk.profile t.disk.block_size (contents_form u.contents) (writer_view t w)
-  pub form : InlineUpToLimit (inline_limit t.disk.profile t.disk.block_size) (contents_form u.contents)
+pub record AreUnsavedContents (t : TreeState) (w : Writer) (u : UnsavedContents) : Type 0 where
+  pub over : AreTreeContents t w.path u.contents
+  pub kept : IsWriterForm t.disk.profile t.disk.block_size (contents_form u.contents) (writer_view t w)
+  pub form : InlineWithinLimit (inline_limit t.disk.profile t.disk.block_size) (contents_form u.contents)
   pub room : length (tree_summary t).used + reserved_for t.disk.profile t.disk.block_size u.has_turned w.size ≤ block_count t.disk
 
-abbrev pub AreUnsavedOrNone : TreeState → Writer → Option UnsavedContents → Type 0
-AreUnsavedOrNone t w None = Unit {0}
-AreUnsavedOrNone t w (Some u) = AreUnsaved t w u
+abbrev pub AreUnsavedIfAny : TreeState → Writer → Option UnsavedContents → Type 0
+AreUnsavedIfAny t w None = Unit {0}
+AreUnsavedIfAny t w (Some u) = AreUnsavedContents t w u
 
 -- The image under a file that is open for writing has nothing to recover, and the file is in the tree.
 pub record IsWriterReady (t : TreeState) (w : Writer) : Type 0 where
   pub writable : t.writable ≡ true
   pub settled : pairs_gstate t.pairs ≡ zero_gstate
-  pub there : is_file (tree_view t w.path) ≡ true
+  pub there : is_file (shown_tree t w.path) ≡ true
   pub size : length (unsaved_or_tree t w.path w.unsaved) ≡ w.size
-  pub changed : AreUnsavedOrNone t w w.unsaved
+  pub changed : AreUnsavedIfAny t w w.unsaved
 
 -- A reader's contents are those of the entry at its path, and no writer is at that path.
 pub record IsCurrentReader (ps : List Pair) (written : List Path) (r : Reader) : Type 0 where
@@ -93,7 +93,7 @@ pub record IsReady (t : TreeState) (files : RuntimeFiles) : Type 0 where
   pub known : AllByRecursion (HasKnownBlocks t.disk) (readers_among files)
 
 abbrev pub viewed_session : SessionView → Session
-viewed_session h = record { tree = tree_view h.tree; files = h.files }
+viewed_session h = record { tree = shown_tree h.tree; files = h.files }
 
 abbrev pub system_state : SessionView → SystemState
 system_state h = record {
@@ -111,9 +111,9 @@ pub record SessionFails (e : Error) (from : SystemState) (op : Operation) (to : 
   pub no_fault : e ≢ Io → fault_count to.calls ≡ fault_count from.calls
 
 -- an operation that ends in an error: a refusal, or the session failed by it
-abbrev pub EndsOperation : Bool → Error → SystemState → Operation → SystemState → Type 0
-EndsOperation true e from op to = IsStep from op (ops.Refused (error_refusal e)) to
-EndsOperation false e from op to = SessionFails e from op to
+abbrev pub EndsInError : Bool → Error → SystemState → Operation → SystemState → Type 0
+EndsInError true e from op to = IsStep from op (ops.Refused (error_refusal e)) to
+EndsInError false e from op to = SessionFails e from op to
 
 -- The call is a session step with that reply. Where an error takes the reply's place, the session has failed by it.
 abbrev pub StepsOrFails : SessionView → Operation → Result Reply Error → SessionView → Type 0
@@ -121,7 +121,7 @@ StepsOrFails old op (Ok reply) new = IsStep (system_state old) op reply (system_
 StepsOrFails old op (Err e) new = SessionFails e (system_state old) op (system_state new)
 
 -- Some operations were performed, without a fault of the device; in the next one the session failed by that error.
-pub record EndsRun (e : Error) (from : SystemState) (operations : List Operation) (to : SystemState) : Type 0 where
+pub record FailsRun (e : Error) (from : SystemState) (operations : List Operation) (to : SystemState) : Type 0 where
   pub ended : FailsDuringRun from operations to
   pub no_fault : fault_count ended.at.calls ≡ fault_count from.calls
   pub by : SessionFails e ended.at ended.next to
@@ -131,18 +131,18 @@ abbrev pub refusal_by_checks : SessionView → Operation → Option Refusal
 refusal_by_checks h op = if h.tree.failed then Some Failed else operation_refusal (tree_summary h.tree) (viewed_session h) op
 
 -- no check refuses the operation, of those that make no call
-abbrev pub PassesChecks : SessionView → Operation → Type 0
-PassesChecks h op = (r : Refusal) → refusal_by_checks h op ≡ Some r → is_early_refusal op r ≡ false
+abbrev pub PassesEarlyChecks : SessionView → Operation → Type 0
+PassesEarlyChecks h op = (r : Refusal) → refusal_by_checks h op ≡ Some r → is_early_refusal op r ≡ false
 
 -- what the checks leave where they end in that error: a refusal, or a call that failed
-abbrev pub EndsChecks : Bool → SessionView → Operation → Error → TreeState → Type 0
-EndsChecks true h op e tree = OnlyReadsTree h.tree tree × (refusal_by_checks h op ≡ Some (error_refusal e)) × (is_early_refusal op (error_refusal e) ≡ true → tree ≡ h.tree)
-EndsChecks false h op e tree = FailedByReading h.tree tree × (h.tree.failed ≡ false) × HasErrorCause h.tree tree e × PassesChecks h op
+abbrev pub FailsChecks : Bool → SessionView → Operation → Error → TreeState → Type 0
+FailsChecks true h op e tree = OnlyReadsTree h.tree tree × (refusal_by_checks h op ≡ Some (error_refusal e)) × (is_early_refusal op (error_refusal e) ≡ true → tree ≡ h.tree)
+FailsChecks false h op e tree = FailedByReading h.tree tree × (h.tree.failed ≡ false) × HasErrorCause h.tree tree e × PassesEarlyChecks h op
 
 -- An operation's checks by reads alone. The operation passes, and then the value has P; or it is refused; or a read failed.
 abbrev pub IsChecksResult : {A : Type 0} → SessionView → Operation → (A → Type 0) → Result A Error → TreeState → Type 0
 IsChecksResult h op P (Ok a) tree = OnlyReadsTree h.tree tree × (refusal_by_checks h op ≡ None) × P a
-IsChecksResult h op P (Err e) tree = EndsChecks (is_refusal e) h op e tree
+IsChecksResult h op P (Err e) tree = FailsChecks (is_refusal e) h op e tree
 
 -- The same of checks that read nothing.
 abbrev pub IsUnreadResult : {A : Type 0} → SessionView → Operation → (A → Type 0) → Result A Error → Type 0
@@ -150,19 +150,19 @@ IsUnreadResult h op P (Ok a) = (refusal_by_checks h op ≡ None) × P a
 IsUnreadResult h op P (Err e) = (is_refusal e ≡ true) × (refusal_by_checks h op ≡ Some (error_refusal e))
 
 -- a path that may be opened for reading
-pub record IsReadable (t : Tree) (files : OpenFilesByNumber) (bytes : List ℕ) : Type 0 where
+pub record CanOpenReader (t : Tree) (files : OpenFilesByNumber) (bytes : List ℕ) : Type 0 where
   pub given : is_some (parse_path bytes) ≡ true
   pub there : is_none (t (path_or_root bytes)) ≡ false
   pub few : nat_le 16 (length (all_readers files)) ≡ false
   pub apart : list_any (λ w. same_path (path_or_root bytes) w.path) (all_writers files) ≡ false
 
 -- the same, with the contents of its file
-pub record IsReadableWith (t : TreeState) (files : OpenFilesByNumber) (bytes : List ℕ) (kept : FileContents) : Type 0 where
-  pub readable : IsReadable (tree_view t) files bytes
+pub record IsReadableFile (t : TreeState) (files : OpenFilesByNumber) (bytes : List ℕ) (kept : FileContents) : Type 0 where
+  pub readable : CanOpenReader (shown_tree t) files bytes
   pub contents : IsStorageAt t.pairs (path_or_root bytes) kept
 
 -- a file that may be opened for writing, and where its path leads to, if nothing is to recover
-pub record IsWritableFile (t : Tree) (now : TreeState) (bytes : List ℕ) (found : WritableFile) : Type 0 where
+pub record IsFoundWritable (t : Tree) (now : TreeState) (bytes : List ℕ) (found : WritableFile) : Type 0 where
   pub path : found.path ≡ path_or_root bytes
   pub size : node_file_size (t found.path) ≡ found.size
   pub target : IfSome found.target (IsCreationResult (kept_thread now) found.path)

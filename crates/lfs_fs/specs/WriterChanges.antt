@@ -9,10 +9,10 @@ use Rattle.lfs_model.specs.session.Writers.{truncated_writer, written_writer, wr
 use Rattle.lfs_model.specs.session.Session.{reserved_for_writer}
 use Rattle.lfs_model.specs.session.Effects.{node_file_size}
 use Rattle.lfs_model.specs.tree.Tree.{Path}
-use Rattle.lfs_tree.specs.OpenContents.{IsOpenedForm, OverTreeFile}
-use Rattle.lfs_tree.specs.TreeState.{IsSoundState, TreeState, tree_summary, tree_view}
+use Rattle.lfs_tree.specs.OpenContents.{IsOpenedForm, AreTreeContents}
+use Rattle.lfs_tree.specs.TreeState.{IsSoundState, TreeState, tree_summary, shown_tree}
 use Rattle.lfs_file.specs.Contents.{contents_form}
-use Rattle.lfs_file.specs.Form.{StorageForm}
+use Rattle.lfs_file.specs.Form.{ContentsForm}
 use Rattle.lfs_fs.specs.FileView.{RuntimeFiles, writer_view}
 use Rattle.lfs_fs.specs.SessionView.{IsWriterReady}
 use Rattle.lfs_fs.specs.declared.files.OpenFile.TheVariants as file
@@ -23,12 +23,12 @@ use Rattle.lfs_fs.specs.declared.files.Writer.{Writer}
 pub record HasFileUnder (t : TreeState) (path : Path) (unsaved : Option UnsavedContents) : Type 0 where
   pub works : t.failed ≡ false
   pub writable : t.writable ≡ true
-  pub file : is_file (tree_view t path) ≡ true
+  pub file : is_file (shown_tree t path) ≡ true
   pub idle : is_some unsaved ≡ false → in_flight_count t.map ≡ 0
-  pub over : (u : UnsavedContents) → unsaved ≡ Some u → OverTreeFile t path u.contents
+  pub over : (u : UnsavedContents) → unsaved ≡ Some u → AreTreeContents t path u.contents
 
 -- the form of such contents
-abbrev pub IsUnsavedForm : Profile → ℕ → Option UnsavedContents → ℕ → StorageForm → Type 0
+abbrev pub IsUnsavedForm : Profile → ℕ → Option UnsavedContents → ℕ → ContentsForm → Type 0
 IsUnsavedForm profile block_size None size shape = IsOpenedForm profile block_size size shape
 IsUnsavedForm profile block_size (Some u) size shape = shape ≡ contents_form u.contents
 
@@ -61,7 +61,7 @@ pub record IsChangedWriter (t : TreeState) (is : session.FileWriter) (w : Writer
   pub changed : is_some w.unsaved ≡ true
 
 -- Under that number is a writer of which this holds, and nothing else changed among the open files.
-pub record ChangesOnlyWriter (files : RuntimeFiles) (fd : ℕ) (Holds : Writer → Type 0) (later : RuntimeFiles) : Type 0 where
+pub record ChangesWriterAt (files : RuntimeFiles) (fd : ℕ) (Holds : Writer → Type 0) (later : RuntimeFiles) : Type 0 where
   pub writer : Writer
   pub only : later ≡ slice_set files fd (Some (file.Writing writer))
   pub holds : Holds writer
@@ -84,7 +84,7 @@ pub record CanOpenWriter (t : TreeState) (path : Path) (size : ℕ) (truncates :
   pub writable : t.writable ≡ true
   pub sound : IsSoundState t
   pub idle : in_flight_count t.map ≡ 0
-  pub there : node_file_size (tree_view t path) ≡ Some size
+  pub there : node_file_size (shown_tree t path) ≡ Some size
   -- there is room for two blocks, where something is to be written anew
   pub room : truncates ≡ true → 1 ≤ size → length (tree_summary t).used + 2 ≤ block_count t.disk
 

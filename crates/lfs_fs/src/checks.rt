@@ -2,7 +2,7 @@
 
 ghost use Rattle.std.specs.Prelude.{if◌then◌else◌, nat_lt, ◌+◌, ◌≡◌, ◌<◌, ◌^◌, ℕ, List, [], length, map, true, false, is_some, unwrap_or};
 ghost use Rattle.lfs_model.specs.session.Operations as ops;
-ghost use Rattle.lfs_model.specs.session.Session.{is_over_charge};
+ghost use Rattle.lfs_model.specs.session.Session.{exceeds_charge};
 ghost use Rattle.lfs_model.specs.format.Disk.{block_count, attr_max_of, file_max_of, name_max_of};
 ghost use Rattle.lfs_fs.specs.FileView.{open_file_at, files_view, reserved_by_writers, reserved_for, writer_if_any};
 ghost use Rattle.lfs_model.specs.session.Refusals.{path_or_root};
@@ -11,10 +11,10 @@ ghost use Rattle.lfs_fs.specs.FlagsView.{flags_view};
 ghost use Rattle.lfs_model.specs.session.TreeEdits.{node_attributes_of};
 ghost use Rattle.lfs_model.specs.format.Content.{attribute_bytes};
 ghost use Rattle.lfs_fs.specs.EntryPaths.{entry_path};
-ghost use Rattle.lfs_fs.specs.SessionView.{IsChecksResult, IsUnreadResult, IsWritableFile, IsReadableWith, IsReady, view_of_session};
+ghost use Rattle.lfs_fs.specs.SessionView.{IsChecksResult, IsUnreadResult, IsFoundWritable, IsReadableFile, IsReady, session_view};
 ghost use Rattle.lfs_fs.specs.LookUps.{ReadsSearched, AddsNoReads, CachesSearched};
 ghost use Rattle.lfs_lookup.specs.Finds.{listed_item_view, stat_view};
-ghost use Rattle.lfs_tree.specs.TreeState.{tree_summary, tree_view};
+ghost use Rattle.lfs_tree.specs.TreeState.{tree_summary, shown_tree};
 ghost use Rattle.lfs_model.specs.format.Slots.{Attributes, attributes_size};
 ghost use Rattle.lfs_fs.specs.Replacements.{IncludesReplaced, replaced_size};
 
@@ -30,7 +30,7 @@ use std::alloc::Global;
 // Returns whether a new entry with a name of that length takes too much of its pair.
 fn new_entry_overflows<D: BlockDevice>(tree: &Tree<D>, name_len: usize) -> bool
     requires { name_len < 2 ^ 63 }
-    ensures { (name : List ℕ) → length name ≡ name_len → result ≡ is_over_charge (tree_summary tree.now) name [] }
+    ensures { (name : List ℕ) → length name ≡ name_len → result ≡ exceeds_charge (tree_summary tree.now) name [] }
 {
     entry_overflows(tree, name_len, 0)
 }
@@ -43,7 +43,7 @@ pub(crate) fn entry_overflows<D: BlockDevice>(
     attributes_len: usize,
 ) -> bool
     requires { name_len < 2 ^ 63 }
-    ensures { (name : List ℕ) (attributes : Attributes) → length name ≡ name_len → attributes_size attributes ≡ attributes_len → result ≡ is_over_charge (tree_summary tree.now) name attributes }
+    ensures { (name : List ℕ) (attributes : Attributes) → length name ≡ name_len → attributes_size attributes ≡ attributes_len → result ≡ exceeds_charge (tree_summary tree.now) name attributes }
 {
     let geometry = tree.geometry();
     let entry = 4 + name_len as u64 + (4 + u64::from(geometry.struct_limit()));
@@ -90,7 +90,7 @@ pub fn check_and_stat<D: BlockDevice>(
     files: &Files,
     bytes: &[u8],
 ) -> Result<Stat, Error>
-    ensures checks { IsChecksResult (view_of_session tree.old files.now) (ops.Stat bytes.now) (λ stat. node_file_size (tree_view tree.old (path_or_root bytes.now)) ≡ stat_view stat) result tree.new }
+    ensures checks { IsChecksResult (session_view tree.old files.now) (ops.Stat bytes.now) (λ stat. node_file_size (shown_tree tree.old (path_or_root bytes.now)) ≡ stat_view stat) result tree.new }
     ensures few { ReadsSearched tree.old (ops.Stat bytes.now) tree.new }
     ensures kept { AddsNoReads tree.old (ops.Stat bytes.now) tree.new }
     ensures hand { CachesSearched tree.old (ops.Stat bytes.now) result tree.new }
@@ -117,7 +117,7 @@ pub fn check_mkdir<'a, D: BlockDevice>(
     bytes: &'a [u8],
 ) -> Result<Path<'a>, Error>
     requires { tree.old.failed ≡ false → IsReady tree.old files.now }
-    ensures { IsChecksResult (view_of_session tree.old files.now) (ops.Mkdir bytes.now) (λ path. path ≡ path_or_root bytes.now) result tree.new }
+    ensures { IsChecksResult (session_view tree.old files.now) (ops.Mkdir bytes.now) (λ path. path ≡ path_or_root bytes.now) result tree.new }
 {
     if tree.has_failed() {
         return Err(Error::Failed);
@@ -146,7 +146,7 @@ pub fn check_seek<D: BlockDevice>(
     fd: u32,
     position: u32,
 ) -> Result<(), Error>
-    ensures { IsUnreadResult (view_of_session tree.now files.now) (ops.Seek fd position) (λ _. is_some (open_file_at files.now fd) ≡ true) result }
+    ensures { IsUnreadResult (session_view tree.now files.now) (ops.Seek fd position) (λ _. is_some (open_file_at files.now fd) ≡ true) result }
 {
     if tree.has_failed() {
         return Err(Error::Failed);
@@ -169,7 +169,7 @@ pub fn check_open_reader<D: BlockDevice>(
     flags: OpenFlags,
 ) -> Result<FileContents, Error>
     requires { (flags_view flags).write ≡ false }
-    ensures { IsChecksResult (view_of_session tree.old files.now) (ops.Open bytes.now (flags_view flags)) (IsReadableWith tree.old (files_view tree.old files.now) bytes.now) result tree.new }
+    ensures { IsChecksResult (session_view tree.old files.now) (ops.Open bytes.now (flags_view flags)) (IsReadableFile tree.old (files_view tree.old files.now) bytes.now) result tree.new }
 {
     if tree.has_failed() {
         return Err(Error::Failed);
@@ -221,7 +221,7 @@ pub fn check_open_writer<'a, D: BlockDevice>(
 ) -> Result<WritableFile<'a>, Error>
     requires write { (flags_view flags).write ≡ true }
     requires ready { tree.old.failed ≡ false → IsReady tree.old files.now }
-    ensures { IsChecksResult (view_of_session tree.old files.now) (ops.Open bytes.now (flags_view flags)) (IsWritableFile (tree_view tree.old) tree.new bytes.now) result tree.new }
+    ensures { IsChecksResult (session_view tree.old files.now) (ops.Open bytes.now (flags_view flags)) (IsFoundWritable (shown_tree tree.old) tree.new bytes.now) result tree.new }
 {
     if tree.has_failed() {
         return Err(Error::Failed);
@@ -293,7 +293,7 @@ pub fn check_and_list<D: BlockDevice>(
     files: &Files,
     bytes: &[u8],
 ) -> Result<Vec<ListItem>, Error>
-    ensures checks { IsChecksResult (view_of_session tree.old files.now) (ops.ListAll bytes.now) (λ items. items_at (tree_view tree.old) (path_or_root bytes.now) ≡ map listed_item_view items.items) result tree.new }
+    ensures checks { IsChecksResult (session_view tree.old files.now) (ops.ListAll bytes.now) (λ items. items_at (shown_tree tree.old) (path_or_root bytes.now) ≡ map listed_item_view items.items) result tree.new }
     ensures few { ReadsSearched tree.old (ops.ListAll bytes.now) tree.new }
     ensures kept { AddsNoReads tree.old (ops.ListAll bytes.now) tree.new }
 {
@@ -321,7 +321,7 @@ pub fn check_get_attr<D: BlockDevice>(
     bytes: &[u8],
     kind: u8,
 ) -> Result<Vec<u8>, Error>
-    ensures checks { IsChecksResult (view_of_session tree.old files.now) (ops.GetAttr bytes.now kind) (λ v. unwrap_or (attribute_bytes kind (node_attributes_of (tree_view tree.old (path_or_root bytes.now)))) [] ≡ v.items) result tree.new }
+    ensures checks { IsChecksResult (session_view tree.old files.now) (ops.GetAttr bytes.now kind) (λ v. unwrap_or (attribute_bytes kind (node_attributes_of (shown_tree tree.old (path_or_root bytes.now)))) [] ≡ v.items) result tree.new }
     ensures few { ReadsSearched tree.old (ops.GetAttr bytes.now kind) tree.new }
     ensures kept { AddsNoReads tree.old (ops.GetAttr bytes.now kind) tree.new }
 {
@@ -348,7 +348,7 @@ pub fn check_remove_attr<'a, D: BlockDevice>(
     bytes: &'a [u8],
     kind: u8,
 ) -> Result<Path<'a>, Error>
-    ensures { IsChecksResult (view_of_session tree.old files.now) (ops.RemoveAttr bytes.now kind) (λ path. path ≡ path_or_root bytes.now) result tree.new }
+    ensures { IsChecksResult (session_view tree.old files.now) (ops.RemoveAttr bytes.now kind) (λ path. path ≡ path_or_root bytes.now) result tree.new }
 {
     if tree.has_failed() {
         return Err(Error::Failed);
@@ -376,7 +376,7 @@ pub fn check_remove<'a, D: BlockDevice>(
     files: &Files,
     bytes: &'a [u8],
 ) -> Result<Path<'a>, Error>
-    ensures { IsChecksResult (view_of_session tree.old files.now) (ops.Remove bytes.now) (λ path. path ≡ path_or_root bytes.now) result tree.new }
+    ensures { IsChecksResult (session_view tree.old files.now) (ops.Remove bytes.now) (λ path. path ≡ path_or_root bytes.now) result tree.new }
 {
     if tree.has_failed() {
         return Err(Error::Failed);
@@ -419,7 +419,7 @@ pub fn check_set_attr<'a, D: BlockDevice>(
     value: &[u8],
 ) -> Result<Path<'a>, Error>
     requires { tree.old.failed ≡ false → IsReady tree.old files.now }
-    ensures { IsChecksResult (view_of_session tree.old files.now) (ops.SetAttr bytes.now kind value.now) (λ path. path ≡ path_or_root bytes.now) result tree.new }
+    ensures { IsChecksResult (session_view tree.old files.now) (ops.SetAttr bytes.now kind value.now) (λ path. path ≡ path_or_root bytes.now) result tree.new }
 {
     if tree.has_failed() {
         return Err(Error::Failed);
@@ -464,7 +464,7 @@ pub fn check_write<D: BlockDevice>(
     bytes: &[u8],
 ) -> Result<(), Error>
     requires { tree.now.failed ≡ false → IsReady tree.now files.now }
-    ensures { IsUnreadResult (view_of_session tree.now files.now) (ops.Write fd bytes.now) (λ _. is_some (writer_if_any (open_file_at files.now fd)) ≡ true) result }
+    ensures { IsUnreadResult (session_view tree.now files.now) (ops.Write fd bytes.now) (λ _. is_some (writer_if_any (open_file_at files.now fd)) ≡ true) result }
 {
     if tree.has_failed() {
         return Err(Error::Failed);
@@ -494,7 +494,7 @@ pub fn check_truncate<D: BlockDevice>(
     size: u32,
 ) -> Result<(), Error>
     requires { tree.now.failed ≡ false → IsReady tree.now files.now }
-    ensures { IsUnreadResult (view_of_session tree.now files.now) (ops.Truncate fd size) (λ _. is_some (writer_if_any (open_file_at files.now fd)) ≡ true) result }
+    ensures { IsUnreadResult (session_view tree.now files.now) (ops.Truncate fd size) (λ _. is_some (writer_if_any (open_file_at files.now fd)) ≡ true) result }
 {
     if tree.has_failed() {
         return Err(Error::Failed);
@@ -513,7 +513,7 @@ pub fn check_truncate<D: BlockDevice>(
 
 /// Checks whether a file is open under the number.
 pub fn check_open<D: BlockDevice>(tree: &Tree<D>, files: &Files, fd: u32) -> Result<(), Error>
-    ensures { IsUnreadResult (view_of_session tree.now files.now) (ops.Close fd) (λ _. is_some (open_file_at files.now fd) ≡ true) result }
+    ensures { IsUnreadResult (session_view tree.now files.now) (ops.Close fd) (λ _. is_some (open_file_at files.now fd) ≡ true) result }
 {
     if tree.has_failed() {
         return Err(Error::Failed);
@@ -526,7 +526,7 @@ pub fn check_open<D: BlockDevice>(tree: &Tree<D>, files: &Files, fd: u32) -> Res
 
 /// Checks whether a file is open under the number, for a sync.
 pub fn check_sync_file<D: BlockDevice>(tree: &Tree<D>, files: &Files, fd: u32) -> Result<(), Error>
-    ensures { IsUnreadResult (view_of_session tree.now files.now) (ops.Sync fd) (λ _. is_some (open_file_at files.now fd) ≡ true) result }
+    ensures { IsUnreadResult (session_view tree.now files.now) (ops.Sync fd) (λ _. is_some (open_file_at files.now fd) ≡ true) result }
 {
     if tree.has_failed() {
         return Err(Error::Failed);

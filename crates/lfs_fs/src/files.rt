@@ -9,12 +9,12 @@ ghost use Rattle.lfs_model.specs.session.Session.{has_file};
 ghost use Rattle.lfs_model.specs.session.Writers.{turns_writer, written_writer};
 ghost use Rattle.lfs_model.specs.session.Refusals.{path_or_root, is_unusable};
 ghost use Rattle.lfs_file.specs.Known.{no_known_blocks};
-ghost use Rattle.lfs_fs.specs.RenamePaths.{open_prevents_rename};
+ghost use Rattle.lfs_fs.specs.RenamePaths.{prevents_rename};
 ghost use Rattle.lfs_tree.specs.OpenContents.{KeepsImage};
-ghost use Rattle.lfs_tree.specs.TreeState.{HasErrorCause, IsFailedTree, IsSoundState, SurvivesStops, TreeState, tree_view};
-ghost use Rattle.lfs_fs.specs.WriterChanges.{CanWriteBy, ChangesOnlyWriter, IsChangedWriter};
+ghost use Rattle.lfs_tree.specs.TreeState.{HasErrorCause, IsFailedTree, IsSoundState, SurvivesStops, TreeState, shown_tree};
+ghost use Rattle.lfs_fs.specs.WriterChanges.{CanWriteBy, ChangesWriterAt, IsChangedWriter};
 ghost use Rattle.lfs_fs.specs.declared.files.Writer.{Writer as WriterSeen};
-ghost use Rattle.lfs_fs.specs.FileView.{change_end, open_file_at, files_view, is_open_where, is_unsaved_one, lowest_free, reserved_by_writers, reserved_by, reserved_for, file_with_known, file_with_position, runtime_files_with, reader_if_any, readers_among, is_unsaved_nonsequential, writer_if_any, writer_view, writers_among, kept_position};
+ghost use Rattle.lfs_fs.specs.FileView.{change_end, open_file_at, files_view, is_open_where, is_unsaved_one, lowest_free, reserved_by_writers, reserved_by, reserved_for, file_with_known, file_with_position, runtime_files_with, reader_if_any, readers_among, is_unsaved_turned, writer_if_any, writer_view, writers_among, kept_position};
 
 use crate::owned_path::OwnedPath;
 use crate::writers::write_by_writer;
@@ -83,7 +83,7 @@ impl Writer {
 
     /// Returns whether the writer is nonsequential after a change that begins there.
     pub fn turns_by_change(&self, begin: u32) -> bool
-        ensures { result ≡ (is_unsaved_nonsequential self.now.unsaved || turns_writer (change_end self.now.unsaved) begin) }
+        ensures { result ≡ (is_unsaved_turned self.now.unsaved || turns_writer (change_end self.now.unsaved) begin) }
     {
         match &self.unsaved {
             Some(unsaved) => unsaved.has_turned || leaves_last_end(unsaved.last_end, begin),
@@ -93,7 +93,7 @@ impl Writer {
 
     /// Returns whether the writer is nonsequential after its contents get another size.
     pub fn turns_by_resize(&self) -> bool
-        ensures { result ≡ (is_unsaved_nonsequential self.now.unsaved || is_some (change_end self.now.unsaved)) }
+        ensures { result ≡ (is_unsaved_turned self.now.unsaved || is_some (change_end self.now.unsaved)) }
     {
         match &self.unsaved {
             Some(unsaved) => unsaved.has_turned || unsaved.last_end.is_some(),
@@ -302,11 +302,11 @@ impl Files {
         bytes: &[u8],
     ) -> Result<(), Error>
         requires { (w : WriterSeen) × (open_file_at self.old fd ≡ Some (OpenFile.Writing w)) × CanWriteBy tree.old w bytes.now }
-        ensures written { (w : WriterSeen) → open_file_at self.old fd ≡ Some (OpenFile.Writing w) → ChangesOnlyWriter self.old fd (λ v. OnOk result (IsChangedWriter tree.new (written_writer (writer_view tree.old w) bytes.now) v)) self.new }
+        ensures written { (w : WriterSeen) → open_file_at self.old fd ≡ Some (OpenFile.Writing w) → ChangesWriterAt self.old fd (λ v. OnOk result (IsChangedWriter tree.new (written_writer (writer_view tree.old w) bytes.now) v)) self.new }
         ensures beside { OnOk result (KeepsImage tree.old tree.new) }
         ensures broken { OnErr result (IsFailedTree tree.old tree.new) }
         ensures errors { IfErr result (HasErrorCause tree.old tree.new) }
-        ensures survives { IsSoundState tree.old → SurvivesStops tree.old tree.new (tree_view tree.old) }
+        ensures survives { IsSoundState tree.old → SurvivesStops tree.old tree.new (shown_tree tree.old) }
     {
         write_in_table(alloc, tree, &mut self.entries, fd as usize, bytes)
     }
@@ -353,7 +353,7 @@ impl Files {
     pub(crate) fn prevents_rename_of(&self, from: &[u8], to: &[u8]) -> bool
         requires entry { is_unusable (parse_path from.now) ≡ false }
         requires given { is_some (parse_path to.now) ≡ true }
-        ensures { (t : TreeState) → result ≡ has_file (open_prevents_rename (path_or_root from.now) (path_or_root to.now)) (files_view t self.now) }
+        ensures { (t : TreeState) → result ≡ has_file (prevents_rename (path_or_root from.now) (path_or_root to.now)) (files_view t self.now) }
     {
         files_prevent_rename(&self.entries, from, to)
     }
@@ -422,12 +422,12 @@ fn write_in_table<D: BlockDevice>(
     bytes: &[u8],
 ) -> Result<(), Error>
     requires { (w : WriterSeen) × (open_file_at entries.old.items index ≡ Some (OpenFile.Writing w)) × CanWriteBy tree.old w bytes.now }
-    ensures written { (w : WriterSeen) → open_file_at entries.old.items index ≡ Some (OpenFile.Writing w) → ChangesOnlyWriter entries.old.items index (λ v. OnOk result (IsChangedWriter tree.new (written_writer (writer_view tree.old w) bytes.now) v)) entries.new.items }
+    ensures written { (w : WriterSeen) → open_file_at entries.old.items index ≡ Some (OpenFile.Writing w) → ChangesWriterAt entries.old.items index (λ v. OnOk result (IsChangedWriter tree.new (written_writer (writer_view tree.old w) bytes.now) v)) entries.new.items }
     ensures len { vec_len entries.new ≡ vec_len entries.old }
     ensures beside { OnOk result (KeepsImage tree.old tree.new) }
     ensures broken { OnErr result (IsFailedTree tree.old tree.new) }
     ensures errors { IfErr result (HasErrorCause tree.old tree.new) }
-    ensures survives { IsSoundState tree.old → SurvivesStops tree.old tree.new (tree_view tree.old) }
+    ensures survives { IsSoundState tree.old → SurvivesStops tree.old tree.new (shown_tree tree.old) }
 {
     match &mut entries[index] {
         Some(OpenFile::Writing(writer)) => write_by_writer(alloc, tree, writer, bytes),
@@ -617,7 +617,7 @@ fn set_table_entry(
 fn files_prevent_rename(entries: &[Option<OpenFile>], from: &[u8], to: &[u8]) -> bool
     requires entry { is_unusable (parse_path from.now) ≡ false }
     requires given { is_some (parse_path to.now) ≡ true }
-    ensures { result ≡ list_any (is_open_where (open_prevents_rename (path_or_root from.now) (path_or_root to.now))) entries.now }
+    ensures { result ≡ list_any (is_open_where (prevents_rename (path_or_root from.now) (path_or_root to.now))) entries.now }
 {
     for entry in entries {
         if file_prevents_rename(entry, from, to) {
@@ -630,7 +630,7 @@ fn files_prevent_rename(entries: &[Option<OpenFile>], from: &[u8], to: &[u8]) ->
 fn file_prevents_rename(entry: &Option<OpenFile>, from: &[u8], to: &[u8]) -> bool
     requires entry { is_unusable (parse_path from.now) ≡ false }
     requires given { is_some (parse_path to.now) ≡ true }
-    ensures { result ≡ is_open_where (open_prevents_rename (path_or_root from.now) (path_or_root to.now)) entry.now }
+    ensures { result ≡ is_open_where (prevents_rename (path_or_root from.now) (path_or_root to.now)) entry.now }
 {
     match entry {
         Some(OpenFile::Reading(reader)) => reader.path.is_within(from) || reader.path.has_bytes(to),

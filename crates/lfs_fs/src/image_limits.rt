@@ -9,7 +9,7 @@ ghost use Rattle.lfs_model.specs.tree.View.{IsAccepted};
 ghost use Rattle.lfs_model.specs.declared.order.NameOrder.{NameOrder};
 ghost use Rattle.lfs_model.specs.declared.order.NameOrder.TheVariants.{LongerFirst, ShorterFirst};
 ghost use Rattle.lfs_thread.specs.Kept.{disk_of_device};
-ghost use Rattle.lfs_fs.specs.ImageLimits.{BeginsLimited, ReturnsUnchangedDeviceByAnyProfile};
+ghost use Rattle.lfs_fs.specs.ImageLimits.{BeginsLimited, ReturnsUnchangedDevice};
 ghost use Rattle.lfs_fs.specs.SessionView.{BeginsByMount, system_state};
 
 use crate::session::{Session, mount};
@@ -36,7 +36,7 @@ fn mount_with_profile<D: BlockDevice>(
     ensures longer { IfOk result (λ s. s.tree.disk.order ≡ ShorterFirst → (ps : List Pair) → ¬ IsAccepted (ordered_disk LongerFirst (profiled_disk profile (disk_of_device D.BlockDevice device))) ps) }
     ensures corrupt { IfErr result (λ e. e.1 ≡ Error.Corrupt → (order : NameOrder) (ps : List Pair) → ¬ IsAccepted (ordered_disk order (profiled_disk profile (disk_of_device D.BlockDevice device))) ps) }
     ensures errors { IfErr result (λ e. (e.1 ≡ Error.Io) ⊎ (e.1 ≡ Error.Corrupt) ⊎ (e.1 ≡ Error.NoMemory)) }
-    ensures back { IfErr result (λ e. ReturnsUnchangedDeviceByAnyProfile D.BlockDevice device e.0 e.1) }
+    ensures back { IfErr result (λ e. ReturnsUnchangedDevice D.BlockDevice device e.0 e.1) }
 {
     match mount(alloc, Profiled::new(device, profile)) {
         Ok(session) => Ok(session),
@@ -66,7 +66,7 @@ pub fn mount_with_limits<D: BlockDevice>(
     ensures longer { IfOk result (λ s. s.tree.disk.order ≡ ShorterFirst → (ps : List Pair) → ¬ IsAccepted (ordered_disk LongerFirst (profiled_disk s.tree.disk.profile (disk_of_device D.BlockDevice device))) ps) }
     ensures corrupt { IfErr result (λ e. e.1 ≡ Error.Corrupt → (order : NameOrder) (ps : List Pair) → ¬ IsAccepted (ordered_disk order (profiled_disk profile (disk_of_device D.BlockDevice device))) ps) }
     ensures errors { IfErr result (λ e. (e.1 ≡ Error.Io) ⊎ (e.1 ≡ Error.Corrupt) ⊎ (e.1 ≡ Error.NoMemory)) }
-    ensures back { IfErr result (λ e. ReturnsUnchangedDeviceByAnyProfile D.BlockDevice device e.0 e.1) }
+    ensures back { IfErr result (λ e. ReturnsUnchangedDevice D.BlockDevice device e.0 e.1) }
 {
     let mut session = mount_with_profile(alloc, device, profile)?;
     match session.superblock(alloc) {

@@ -1,15 +1,15 @@
 // The paths and the checks of a rename.
 
 ghost use Rattle.std.specs.Prelude.{◌≡◌, ◌&&◌, IfErr, IfOk, false, is_some, not, true};
-ghost use Rattle.lfs_model.specs.session.TreeEdits.{is_path_beneath, without_prefix, same_path};
+ghost use Rattle.lfs_model.specs.session.TreeEdits.{is_beneath, without_prefix, same_path};
 ghost use Rattle.lfs_model.specs.session.Operations as ops;
 ghost use Rattle.lfs_model.specs.session.Operations.{parse_path};
 ghost use Rattle.lfs_model.specs.session.Refusals.{path_or_root, is_unusable};
 ghost use Rattle.lfs_model.specs.session.Session.{refuse_if};
 ghost use Rattle.lfs_lookup.specs.RefusalErrors.{is_refusal, error_refusal};
 ghost use Rattle.lfs_tree.specs.RenameFindings.{AreRenameFindings};
-ghost use Rattle.lfs_tree.specs.TreeState.{tree_view};
-ghost use Rattle.lfs_fs.specs.SessionView.{IsChecksResult, IsReady, refusal_by_checks, view_of_session};
+ghost use Rattle.lfs_tree.specs.TreeState.{shown_tree};
+ghost use Rattle.lfs_fs.specs.SessionView.{IsChecksResult, IsReady, refusal_by_checks, session_view};
 ghost use Rattle.lfs_fs.specs.RenamePaths.{IsRefusedAnyway, IsPermitted, PassesRename, is_path_prefix};
 
 use crate::check_order::{are_both_true, find_first_refusal, value_or_refusal};
@@ -54,7 +54,7 @@ fn is_same_path(bytes: &[u8], other: &[u8]) -> bool
 fn is_strictly_beneath(bytes: &[u8], other: &[u8]) -> bool
     requires entry { is_unusable (parse_path bytes.now) ≡ false }
     requires given { is_some (parse_path other.now) ≡ true }
-    ensures { result ≡ is_path_beneath (path_or_root bytes.now) (path_or_root other.now) }
+    ensures { result ≡ is_beneath (path_or_root bytes.now) (path_or_root other.now) }
 {
     at_or_beneath(bytes, other) && !is_same_path(bytes, other)
 }
@@ -126,8 +126,8 @@ fn rename_refusal_of<D: BlockDevice>(
 ) -> Option<Refusal>
     requires ready { IsReady tree.now files.now }
     requires passes { PassesRename tree.now old.now new.now paths.now }
-    requires found { AreRenameFindings (tree_view tree.now) paths.now.from paths.now.to found.now }
-    ensures { result ≡ refusal_by_checks (view_of_session tree.now files.now) (ops.Rename old.now new.now) }
+    requires found { AreRenameFindings (shown_tree tree.now) paths.now.from paths.now.to found.now }
+    ensures { result ≡ refusal_by_checks (session_view tree.now files.now) (ops.Rename old.now new.now) }
 {
     let is_same = paths.is_same;
     let entry = found.entry.node;
@@ -160,7 +160,7 @@ pub fn check_rename<'a, D: BlockDevice>(
     new: &'a [u8],
 ) -> Result<PermittedRename<'a>, Error>
     requires { tree.old.failed ≡ false → IsReady tree.old files.now }
-    ensures { IsChecksResult (view_of_session tree.old files.now) (ops.Rename old.now new.now) (IsPermitted tree.new old.now new.now) result tree.new }
+    ensures { IsChecksResult (session_view tree.old files.now) (ops.Rename old.now new.now) (IsPermitted tree.new old.now new.now) result tree.new }
 {
     let paths = check_rename_paths(tree, old, new)?;
     let found = tree.look_up_rename(alloc, &paths.from, &paths.to)?;

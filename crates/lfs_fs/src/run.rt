@@ -6,7 +6,7 @@ ghost use Rattle.lfs_lookup.specs.Finds.{listed_item_view, stat_view};
 ghost use Rattle.lfs_lookup.specs.RefusalErrors.{is_refusal};
 ghost use Rattle.lfs_fs.specs.GstateView.{returned_gstate_reply};
 ghost use Rattle.lfs_fs.specs.Replies.{reply_from};
-ghost use Rattle.lfs_fs.specs.OpView.{RefusesOnly, result_view};
+ghost use Rattle.lfs_fs.specs.OpView.{HasRefusalError, result_view};
 
 use crate::files::Fd;
 use crate::flags::OpenFlags;
@@ -93,7 +93,7 @@ fn is_refusal(error: Error) -> bool
 
 fn refused_reply(error: Error) -> Result<Reply, Error>
     ensures seen { result_view result ≡ reply_from (λ r. r) (Err error) }
-    ensures named { IfOk result RefusesOnly }
+    ensures named { IfOk result HasRefusalError }
 {
     if is_refusal(error) {
         Ok(Reply::Refused(error))
@@ -104,7 +104,7 @@ fn refused_reply(error: Error) -> Result<Reply, Error>
 
 pub(crate) fn reply_of_unit(answer: Result<(), Error>) -> Result<Reply, Error>
     ensures seen { result_view result ≡ reply_from (λ _. operations.Done) answer }
-    ensures named { IfOk result RefusesOnly }
+    ensures named { IfOk result HasRefusalError }
 {
     match answer {
         Ok(()) => Ok(Reply::Done),
@@ -114,7 +114,7 @@ pub(crate) fn reply_of_unit(answer: Result<(), Error>) -> Result<Reply, Error>
 
 pub(crate) fn reply_of_fd(answer: Result<Fd, Error>) -> Result<Reply, Error>
     ensures seen { result_view result ≡ reply_from operations.Opened answer }
-    ensures named { IfOk result RefusesOnly }
+    ensures named { IfOk result HasRefusalError }
 {
     match answer {
         Ok(fd) => Ok(Reply::Fd(fd)),
@@ -124,7 +124,7 @@ pub(crate) fn reply_of_fd(answer: Result<Fd, Error>) -> Result<Reply, Error>
 
 pub(crate) fn reply_of_bytes(answer: Result<Vec<u8>, Error>) -> Result<Reply, Error>
     ensures seen { result_view result ≡ reply_from (λ v. operations.Bytes v.items) answer }
-    ensures named { IfOk result RefusesOnly }
+    ensures named { IfOk result HasRefusalError }
 {
     match answer {
         Ok(bytes) => Ok(Reply::Bytes(bytes)),
@@ -134,7 +134,7 @@ pub(crate) fn reply_of_bytes(answer: Result<Vec<u8>, Error>) -> Result<Reply, Er
 
 pub(crate) fn reply_of_count(answer: Result<u32, Error>) -> Result<Reply, Error>
     ensures seen { result_view result ≡ reply_from operations.Count answer }
-    ensures named { IfOk result RefusesOnly }
+    ensures named { IfOk result HasRefusalError }
 {
     match answer {
         Ok(count) => Ok(Reply::Count(count)),
@@ -144,7 +144,7 @@ pub(crate) fn reply_of_count(answer: Result<u32, Error>) -> Result<Reply, Error>
 
 pub(crate) fn reply_of_items(answer: Result<Vec<Item>, Error>) -> Result<Reply, Error>
     ensures seen { result_view result ≡ reply_from (λ items. operations.Items (map listed_item_view items.items)) answer }
-    ensures named { IfOk result RefusesOnly }
+    ensures named { IfOk result HasRefusalError }
 {
     match answer {
         Ok(items) => Ok(Reply::Items(items)),
@@ -154,7 +154,7 @@ pub(crate) fn reply_of_items(answer: Result<Vec<Item>, Error>) -> Result<Reply, 
 
 pub(crate) fn reply_of_stat(answer: Result<Stat, Error>) -> Result<Reply, Error>
     ensures seen { result_view result ≡ reply_from (λ stat. operations.StatIs (stat_view stat)) answer }
-    ensures named { IfOk result RefusesOnly }
+    ensures named { IfOk result HasRefusalError }
 {
     match answer {
         Ok(stat) => Ok(Reply::Stat(stat)),
@@ -164,7 +164,7 @@ pub(crate) fn reply_of_stat(answer: Result<Stat, Error>) -> Result<Reply, Error>
 
 pub(crate) fn reply_of_gstate(answer: Result<Gstate, Error>) -> Result<Reply, Error>
     ensures seen { result_view result ≡ reply_from returned_gstate_reply answer }
-    ensures named { IfOk result RefusesOnly }
+    ensures named { IfOk result HasRefusalError }
 {
     match answer {
         Ok(gstate) => Ok(Reply::Gstate(gstate)),
@@ -174,7 +174,7 @@ pub(crate) fn reply_of_gstate(answer: Result<Gstate, Error>) -> Result<Reply, Er
 
 pub(crate) fn reply_of_bool(answer: Result<bool, Error>) -> Result<Reply, Error>
     ensures seen { result_view result ≡ reply_from operations.Yes answer }
-    ensures named { IfOk result RefusesOnly }
+    ensures named { IfOk result HasRefusalError }
 {
     match answer {
         Ok(yes) => Ok(Reply::Yes(yes)),

@@ -15,20 +15,20 @@ ghost use Rattle.lfs_model.specs.crash.RepeatedPowerLoss.{IsMounted, MeetsRunPre
 ghost use Rattle.lfs_model.specs.crash.PowerLoss.{SurvivesPowerLoss};
 ghost use Rattle.lfs_model.specs.declared.order.NameOrder.{NameOrder};
 ghost use Rattle.lfs_model.specs.declared.order.NameOrder.TheVariants.{LongerFirst, ShorterFirst};
-ghost use Rattle.lfs_thread.specs.ThreadDevice.{GivesDeviceBackOnlyReadWithError};
+ghost use Rattle.lfs_thread.specs.ThreadDevice.{GivesDeviceBack};
 ghost use Rattle.lfs_thread.specs.Kept.{disk_of_device, kept_in_order};
 ghost use Rattle.lfs_model.specs.format.Thread.{anchor_address};
 ghost use Rattle.lfs_model.specs.tree.View.{IsAccepted};
 ghost use Rattle.lfs_lookup.specs.Finds.{listed_item_view, stat_view};
 ghost use Rattle.lfs_lookup.specs.RefusalErrors.{is_refusal};
 ghost use Rattle.lfs_tag.specs.FieldsView.{superblock_view};
-ghost use Rattle.lfs_tree.specs.Formats.{FailedFormatSparesOtherBlocks, IsFormatted, WritesFirstTwo};
+ghost use Rattle.lfs_tree.specs.Formats.{IsFormatError, IsFormatted, WritesFirstTwo};
 ghost use Rattle.lfs_tree.specs.TreeState.{kept_thread};
 ghost use Rattle.lfs_fs.specs.GstateView.{returned_gstate_reply};
-ghost use Rattle.lfs_fs.specs.ImageLimits.{FailedByRead, WasSessionRead};
-ghost use Rattle.lfs_fs.specs.SessionView.{BeginsByMount, EndsRun, system_state};
+ghost use Rattle.lfs_fs.specs.ImageLimits.{FailedByRead, OnlyReadsSession};
+ghost use Rattle.lfs_fs.specs.SessionView.{BeginsByMount, FailsRun, system_state};
 ghost use Rattle.lfs_fs.specs.FlagsView.{flags_view};
-ghost use Rattle.lfs_fs.specs.OpView.{RefusesOnly, op_view, result_view, reply_view};
+ghost use Rattle.lfs_fs.specs.OpView.{HasRefusalError, op_view, result_view, reply_view};
 ghost use Rattle.lfs_fs.specs.CallEffects.{IsCall};
 ghost use Rattle.lfs_fs.specs.ReaderReads.{ReadsFew};
 ghost use Rattle.lfs_fs.specs.FileAnswers.{FileAnswersOf, file_position, file_size};
@@ -80,14 +80,14 @@ pub struct Session<D: BlockDevice> {
 }
 
 impl<D: BlockDevice> Model for Session<D> {
-    ghost use Rattle.lfs_fs.specs.SessionView.{SessionView, view_of_session};
-    ghost use Rattle.lfs_fs.specs.DeviceLaws.{HasInvariant};
+    ghost use Rattle.lfs_fs.specs.SessionView.{SessionView, session_view};
+    ghost use Rattle.lfs_fs.specs.DeviceLaws.{HasSessionInvariant};
 
     ghost Value = { SessionView };
 
-    ghost view = { λ s. view_of_session s.tree s.files };
+    ghost view = { λ s. session_view s.tree s.files };
 
-    ghost invariant = { λ s. HasInvariant s.tree s.files };
+    ghost invariant = { λ s. HasSessionInvariant s.tree s.files };
 }
 
 impl<D: BlockDevice> Session<D> {
@@ -625,7 +625,7 @@ impl<D: BlockDevice> Session<D> {
     /// session has failed.
     pub fn superblock(&mut self, alloc: Global) -> Result<Superblock, Error>
         ensures is { IfOk result (λ f. image_fields self.old.tree.pairs ≡ Some (superblock_view f)) }
-        ensures read { OnOk result (WasSessionRead self.old self.new) }
+        ensures read { OnOk result (OnlyReadsSession self.old self.new) }
         ensures failed { IfErr result (FailedByRead self.old self.new) }
         ensures few { read_count self.new.tree.history ≤ read_count self.old.tree.history + 1 }
     {
@@ -640,7 +640,7 @@ impl<D: BlockDevice> Session<D> {
     // Performs one operation. A refusal is a reply; after an error the session has failed.
     fn perform(&mut self, alloc: Global, op: Op<'_>) -> Result<Reply, Error>
         ensures call { IsCall self.old (op_view op.entry) (result_view result) self.new }
-        ensures named { IfOk result RefusesOnly }
+        ensures named { IfOk result HasRefusalError }
     {
         match op {
             Op::Open(path, flags) => reply_of_fd(self.open(alloc, path, flags)),
@@ -683,12 +683,12 @@ impl<D: BlockDevice> Session<D> {
     /// the session has failed.
     pub fn run(&mut self, alloc: Global, ops: &[Op<'_>]) -> Result<Vec<Reply>, Error>
         ensures performed { IfOk result (λ replies. AreSafeSteps None (system_state self.old) (map op_view ops.now) (map reply_view replies.items) (system_state self.new)) }
-        ensures named { IfOk result (λ replies. All RefusesOnly replies.items) }
+        ensures named { IfOk result (λ replies. All HasRefusalError replies.items) }
         ensures no_fault { OnOk result (fault_count self.new.tree.history ≡ fault_count self.old.tree.history) }
         ensures headline { IfOk result (λ replies. (from : SystemState) (done : List Operation) (answers : List Answer) → HasDiskTree from → AreSteps from done answers (system_state self.old)
             → SessionMatchesDisk from (done ++ map op_view ops.now) (answers ++ map reply_view replies.items) (system_state self.new)) }
         ensures survives { MeetsRunPremises (system_state self.old) (system_state self.new) → CrashSafe (system_state self.old) (map op_view ops.now) (system_state self.new) }
-        ensures ended { IfErr result (λ e. EndsRun e (system_state self.old) (map op_view ops.now) (system_state self.new)) }
+        ensures ended { IfErr result (λ e. FailsRun e (system_state self.old) (map op_view ops.now) (system_state self.new)) }
     {
         let mut replies = Vec::new(alloc);
         for op in ops {
@@ -722,7 +722,7 @@ pub fn mount<D: BlockDevice>(alloc: Global, device: D) -> Result<Session<D>, (D,
     ensures longer { IfOk result (λ s. s.tree.disk.order ≡ ShorterFirst → (ps : List Pair) → ¬ IsAccepted (ordered_disk LongerFirst (disk_of_device D.BlockDevice device)) ps) }
     ensures corrupt { IfErr result (λ e. e.1 ≡ Error.Corrupt → (order : NameOrder) (ps : List Pair) → ¬ IsAccepted (ordered_disk order (disk_of_device D.BlockDevice device)) ps) }
     ensures errors { IfErr result (λ e. (e.1 ≡ Error.Io) ⊎ (e.1 ≡ Error.Corrupt) ⊎ (e.1 ≡ Error.NoMemory)) }
-    ensures back { IfErr result (λ e. GivesDeviceBackOnlyReadWithError D.BlockDevice device e.0 e.1) }
+    ensures back { IfErr result (λ e. GivesDeviceBack D.BlockDevice device e.0 e.1) }
 {
     match Tree::mount(alloc, device) {
         Ok(tree) => {
@@ -747,7 +747,7 @@ pub fn format<D: BlockDevice>(alloc: Global, device: D) -> Result<Session<D>, (D
     ensures state { IfOk result (λ s. (system_state s).state ≡ Healthy (mounted_session empty_tree)) }
     ensures geometry { IfOk result (λ s. SameGeometry (ordered_disk LongerFirst (disk_of_device D.BlockDevice device)) s.tree.disk) }
     ensures calls { IfOk result (λ s. WritesFirstTwo (kept_in_order D.BlockDevice LongerFirst device [] []) (kept_thread s.tree)) }
-    ensures back { IfErr result (λ e. FailedFormatSparesOtherBlocks D.BlockDevice (address_blocks anchor_address) device e.0 e.1) }
+    ensures back { IfErr result (λ e. IsFormatError D.BlockDevice (address_blocks anchor_address) device e.0 e.1) }
 {
     format_ordered(alloc, device, NameOrder::LongerFirst)
 }
@@ -769,7 +769,7 @@ pub fn format_ordered<D: BlockDevice>(
     ensures state { IfOk result (λ s. (system_state s).state ≡ Healthy (mounted_session empty_tree)) }
     ensures geometry { IfOk result (λ s. SameGeometry (ordered_disk order (disk_of_device D.BlockDevice device)) s.tree.disk) }
     ensures calls { IfOk result (λ s. WritesFirstTwo (kept_in_order D.BlockDevice order device [] []) (kept_thread s.tree)) }
-    ensures back { IfErr result (λ e. FailedFormatSparesOtherBlocks D.BlockDevice (address_blocks anchor_address) device e.0 e.1) }
+    ensures back { IfErr result (λ e. IsFormatError D.BlockDevice (address_blocks anchor_address) device e.0 e.1) }
 {
     match Tree::format(alloc, device, order) {
         Ok(tree) => {

@@ -2,8 +2,8 @@
 
 ghost use Rattle.std.specs.Prelude.{ℕ, List, [], true, ◌≡◌, length, IfErr, IfOk, IfSome, IsSome, OnErr, OnOk};
 ghost use Rattle.lfs_model.specs.session.Writers.{opened_writer, synced_writer, truncated_writer, written_writer};
-ghost use Rattle.lfs_tree.specs.OpenContents.{OverTreeFile, StoresBytesAt, KeepsImage, writer_contents_bytes, kept_thread};
-ghost use Rattle.lfs_tree.specs.TreeState.{tree_view, OnlyReadsTree, IsFailedTree, IsApplied, FailedByReading, HasErrorCause, IsSoundState, LeavesOthersAlone, SurvivesStops};
+ghost use Rattle.lfs_tree.specs.OpenContents.{AreTreeContents, StoresBytesAt, KeepsImage, writer_contents_bytes, kept_thread};
+ghost use Rattle.lfs_tree.specs.TreeState.{shown_tree, OnlyReadsTree, IsFailedTree, IsApplied, FailedByReading, HasErrorCause, IsSoundState, LeavesOthersAlone, SurvivesStops};
 ghost use Rattle.lfs_file.specs.Contents.{contents_form};
 ghost use Rattle.lfs_fs.specs.WriterChanges.{CanOpenWriter, IsOpenedWriter, CanSaveWriter, CanTruncateBy, CanWriteBy, HasFileUnder, IsUnsavedForm, IsSavedWriter, IsChangedWriter};
 ghost use Rattle.lfs_fs.specs.FileView.{unsaved_or_tree, writer_view};
@@ -40,7 +40,7 @@ fn contents_of_writer<D: BlockDevice>(
     requires file { HasFileUnder tree.old path.now unsaved }
     requires size { length (unsaved_or_tree tree.old path.now unsaved) ≡ size }
     ensures asked { OnOk result (OnlyReadsTree tree.old tree.new) }
-    ensures over { IfOk result (OverTreeFile tree.new path.now) }
+    ensures over { IfOk result (AreTreeContents tree.new path.now) }
     ensures bytes { IfOk result (λ c. writer_contents_bytes (kept_thread tree.new) c ≡ unsaved_or_tree tree.old path.now unsaved) }
     ensures form { IfOk result (λ c. IsUnsavedForm tree.old.disk.profile tree.old.disk.block_size unsaved (length (unsaved_or_tree tree.old path.now unsaved)) (contents_form c)) }
     ensures broken { OnErr result (FailedByReading tree.old tree.new) }
@@ -65,7 +65,7 @@ pub(crate) fn write_by_writer<D: BlockDevice>(
     ensures beside { OnOk result (KeepsImage tree.old tree.new) }
     ensures broken { OnErr result (IsFailedTree tree.old tree.new) }
     ensures errors { IfErr result (HasErrorCause tree.old tree.new) }
-    ensures survives { IsSoundState tree.old → SurvivesStops tree.old tree.new (tree_view tree.old) }
+    ensures survives { IsSoundState tree.old → SurvivesStops tree.old tree.new (shown_tree tree.old) }
 {
     lemma_forms_fit();
     lemma_reserve_suffices();
@@ -97,7 +97,7 @@ pub(crate) fn writer_after_truncating<D: BlockDevice>(
     ensures beside { OnOk result (KeepsImage tree.old tree.new) }
     ensures broken { OnErr result (IsFailedTree tree.old tree.new) }
     ensures errors { IfErr result (HasErrorCause tree.old tree.new) }
-    ensures survives { IsSoundState tree.old → SurvivesStops tree.old tree.new (tree_view tree.old) }
+    ensures survives { IsSoundState tree.old → SurvivesStops tree.old tree.new (shown_tree tree.old) }
 {
     lemma_forms_fit();
     lemma_reserve_suffices();
@@ -136,7 +136,7 @@ pub(crate) fn writer_after_saving<D: BlockDevice>(
     ensures saved { IfOk result (IsSavedWriter tree.new (synced_writer (writer_view tree.old writer))) }
     ensures broken { OnErr result (IsFailedTree tree.old tree.new) }
     ensures errors { IfErr result (HasErrorCause tree.old tree.new) }
-    ensures survives { SurvivesStops tree.old tree.new (tree_with_change writer.path (file_with_bytes (unsaved_or_tree tree.old writer.path writer.unsaved)) (tree_view tree.old)) }
+    ensures survives { SurvivesStops tree.old tree.new (tree_with_change writer.path (file_with_bytes (unsaved_or_tree tree.old writer.path writer.unsaved)) (shown_tree tree.old)) }
 {
     lemma_reserve_suffices();
     let Writer {
@@ -169,10 +169,10 @@ pub(crate) fn existing_file_writer<D: BlockDevice>(
 ) -> Result<Writer, Error>
     requires { CanOpenWriter tree.old path size (flags_view flags).truncate }
     ensures recovered { OnOk result (IsApplied tree.old ops.Recover tree.new) }
-    ensures begun { IfOk result (IsOpenedWriter tree.new (opened_writer path (flags_view flags) (file_bytes (tree_view tree.old path)))) }
+    ensures begun { IfOk result (IsOpenedWriter tree.new (opened_writer path (flags_view flags) (file_bytes (shown_tree tree.old path)))) }
     ensures broken { OnErr result (IsFailedTree tree.old tree.new) }
     ensures errors { IfErr result (HasErrorCause tree.old tree.new) }
-    ensures survives { SurvivesStops tree.old tree.new (tree_view tree.old) }
+    ensures survives { SurvivesStops tree.old tree.new (shown_tree tree.old) }
 {
     lemma_few_blocks();
     lemma_contents_stay();
@@ -217,7 +217,7 @@ pub(crate) fn create_and_open<D: BlockDevice>(
     ensures begun { IfOk result (IsOpenedWriter tree.new (opened_writer path (flags_view flags) [])) }
     ensures broken { OnErr result (IsFailedTree tree.old tree.new) }
     ensures errors { IfErr result (HasErrorCause tree.old tree.new) }
-    ensures survives { SurvivesStops tree.old tree.new (tree_creating path (FileNode [] []) (tree_view tree.old)) }
+    ensures survives { SurvivesStops tree.old tree.new (tree_creating path (FileNode [] []) (shown_tree tree.old)) }
 {
     tree.create(alloc, &path.lend(), known)?;
     Ok(Writer {

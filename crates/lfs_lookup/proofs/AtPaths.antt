@@ -1,46 +1,27 @@
 -- What stands at a path, by what a look-up finds.
 use Rattle.std.proofs.Common.{ℕ, ◌≡◌, ◌≤◌, ◌∙◌, Bool, true, false, cond, List, [], ◌∷◌, ◌++◌, length, Option, Some, None, refl, sym, ap, subst, append_assoc}
 use Rattle.std.specs.Prelude.{is_none}
-use Rattle.std.specs.Option.{option_and_then, option_map, option_or}
-use Rattle.std.proofs.lemmas.Option.{same_Some}
+use Rattle.lfs_lookup.proofs.Common.{option_and_then, option_map, option_or, same_Some, sorted_names, is_file, Disk, ordered_disk, Name, directory_refusal, parents_refusal, slot_of, Attributes, Slot, Struct, Inline, Ctz, Branch, node_file_size, Pair, root_address, Path, Tree, branch_address, entry_named, names_at, struct_node, root_slot, slot_at_path, IsAccepted, IsFormedList, LeadsTo, all_unmoved_slots, struct_list_bytes, all_entries, disk_tree, KeptThread, disk_of_device, walk_append, IsStorage, IsFoundNode, IsHiddenResult, recursion_from_All, same_name, Each}
 use Rattle.lfs_model.specs.declared.order.NameOrder.{NameOrder}
-use Rattle.lfs_model.specs.format.Names.{sorted_names}
 use Rattle.lfs_model.specs.declared.order.NameOrder.TheVariants.{ShorterFirst}
-use Rattle.lfs_model.specs.session.TreeEdits.{is_directory, is_file}
-use Rattle.lfs_model.specs.format.Disk.{Disk, ordered_disk}
-use Rattle.lfs_model.specs.format.Names.{Name}
+use Rattle.lfs_model.specs.session.TreeEdits.{is_directory}
 use Rattle.lfs_model.specs.session.Operations as ops
-use Rattle.lfs_model.specs.session.Session.{directory_refusal, parents_refusal}
-use Rattle.lfs_model.specs.session.SlotEdits.{slot_of}
-use Rattle.lfs_model.specs.format.Slots.{Attributes, Slot, Struct, Inline, Ctz, Branch}
-use Rattle.lfs_model.specs.session.Effects.{node_file_size}
-use Rattle.lfs_model.specs.format.Thread.{Pair, root_address}
-use Rattle.lfs_model.specs.tree.Tree.{Path, Tree, Node, FileNode, DirectoryNode, branch_address, entry_named, names_at, struct_node, root_slot, slot_at_path}
-use Rattle.lfs_model.specs.tree.View.{IsAccepted, IsWellFormedCtz}
-use Rattle.lfs_model.specs.tree.Shown.{LeadsTo, all_slots_not_moved, struct_list_bytes, all_entries, tree_on_disk}
-use Rattle.lfs_thread.specs.Kept.{KeptThread, disk_of_device}
+use Rattle.lfs_model.specs.tree.Tree.{Node, FileNode, DirectoryNode}
 use Rattle.lfs_device.specs.declared.device.BlockDevice.{Ghosts}
 use Rattle.lfs_model.specs.format.Blocks.{HasBlockSizes}
 use Rattle.lfs_model.proofs.ListSizes.{length-list_bytes}
-use Rattle.lfs_model.proofs.Walks.{walk_append}
 use Rattle.lfs_lookup.specs.AtPath.{storage_size}
-use Rattle.lfs_lookup.specs.Entry.{IsStorage}
 use Rattle.lfs_lookup.specs.declared.entry.FileStorage.{FileStorage}
 use Rattle.lfs_lookup.specs.declared.entry.FileStorage.TheVariants as contents
-use Rattle.lfs_lookup.specs.Finds.{IsFoundNode}
-use Rattle.lfs_lookup.specs.LookupPaths.{IsHiddenResult}
 use Rattle.lfs_lookup.specs.declared.found_entries.FoundNode.{FoundNode}
 use Rattle.lfs_lookup.specs.declared.paths.VisiblePathLookup.TheVariants as shown
 use Rattle.lfs_lookup.specs.declared.search.SlotPosition.{SlotPosition}
 use Rattle.lfs_lookup.specs.declared.found_entries.Node.TheVariants as node
-use Rattle.std.proofs.lemmas.List.Elements.{recursion_from_All}
-use Rattle.lfs_model.specs.format.Names.{same_name}
-use Rattle.lfs_model.proofs.Counts.{Each}
 use Rattle.lfs_lookup.proofs.Visits.{each_entry}
 
 -- a list has as many bytes as its size says
 abbrev pub SizedLists : Disk → Type 0
-SizedLists disk = (head size : ℕ) → IsWellFormedCtz disk (Ctz head size) → length (struct_list_bytes disk head size) ≡ size
+SizedLists disk = (head size : ℕ) → IsFormedList disk (Ctz head size) → length (struct_list_bytes disk head size) ≡ size
 
 pub sized_on : {D : Type 0} (g : Ghosts D) (d : D) (disk : Disk) (n : ℕ) {order : NameOrder} → ordered_disk order (disk_of_device g d) ≡ disk → 1024 ≤ (g.geometry d).block_size → HasBlockSizes (g.geometry d).block_size n (g.blocks d) → SizedLists disk
 sized_on g d disk n e large shape =
@@ -77,7 +58,7 @@ module _ (disk : Disk) (ps : List Pair) where
   node_shown o = option_map (λ (f : Slot). struct_node (struct_list_bytes disk) (all_entries ps) f.attributes f.struct) o
 
   -- nothing stands beneath what isn't a directory
-  none_below : (p : Path) (n : Name) (q : Path) (r : ops.Refusal) → directory_refusal (tree_on_disk disk ps p) ≡ Some r → slot_of ps (p ++ n ∷ q) ≡ None
+  none_below : (p : Path) (n : Name) (q : Path) (r : ops.Refusal) → directory_refusal (disk_tree disk ps p) ≡ Some r → slot_of ps (p ++ n ∷ q) ≡ None
   none_below p n q r h = walk_append (all_entries ps) (root_slot (root_address ps)) p (n ∷ q) ∙ go (slot_of ps p) h
     where
       by_struct : (a : Attributes) (s : Struct) → directory_refusal (Some (struct_node (struct_list_bytes disk) (all_entries ps) a s)) ≡ Some r → (x : Slot) → x.struct ≡ s → slot_at_path (all_entries ps) x (n ∷ q) ≡ None
@@ -89,25 +70,25 @@ module _ (disk : Disk) (ps : List Pair) where
       go None k = refl
       go (Some x) k = by_struct x.attributes x.struct k x refl
 
-  pub refused_none : (path above : Path) (r : ops.Refusal) → parents_refusal (tree_on_disk disk ps) above path ≡ Some r → slot_of ps (above ++ path) ≡ None
+  pub refused_none : (path above : Path) (r : ops.Refusal) → parents_refusal (disk_tree disk ps) above path ≡ Some r → slot_of ps (above ++ path) ≡ None
   refused_none [] above r h = absurd (cc)
   refused_none (n ∷ []) above r h = absurd (cc)
-  refused_none (n ∷ m ∷ rest) above r h = subst (λ z. slot_of ps z ≡ None) (append_assoc above (n ∷ []) (m ∷ rest)) (go (directory_refusal (tree_on_disk disk ps (above ++ n ∷ []))) refl (refused_none (m ∷ rest) (above ++ n ∷ []) r) h)
+  refused_none (n ∷ m ∷ rest) above r h = subst (λ z. slot_of ps z ≡ None) (append_assoc above (n ∷ []) (m ∷ rest)) (go (directory_refusal (disk_tree disk ps (above ++ n ∷ []))) refl (refused_none (m ∷ rest) (above ++ n ∷ []) r) h)
     where
-      go : (o : Option ops.Refusal) → directory_refusal (tree_on_disk disk ps (above ++ n ∷ [])) ≡ o
-          → (parents_refusal (tree_on_disk disk ps) (above ++ n ∷ []) (m ∷ rest) ≡ Some r → slot_of ps ((above ++ n ∷ []) ++ m ∷ rest) ≡ None) → option_or o (parents_refusal (tree_on_disk disk ps) (above ++ n ∷ []) (m ∷ rest)) ≡ Some r
+      go : (o : Option ops.Refusal) → directory_refusal (disk_tree disk ps (above ++ n ∷ [])) ≡ o
+          → (parents_refusal (disk_tree disk ps) (above ++ n ∷ []) (m ∷ rest) ≡ Some r → slot_of ps ((above ++ n ∷ []) ++ m ∷ rest) ≡ None) → option_or o (parents_refusal (disk_tree disk ps) (above ++ n ∷ []) (m ∷ rest)) ≡ Some r
           → slot_of ps ((above ++ n ∷ []) ++ m ∷ rest) ≡ None
       go (Some x) e later k = none_below (above ++ n ∷ []) m rest x e
       go None e later k = later k
 
-  pub nothing_at : (path : Path) → slot_of ps path ≡ None → tree_on_disk disk ps path ≡ None
+  pub nothing_at : (path : Path) → slot_of ps path ≡ None → disk_tree disk ps path ≡ None
   nothing_at path e = ap node_shown e
 
   -- ---- a directory
 
   pub record IsDirectoryAt (path : Path) (at : ℕ × ℕ) : Type 0 where
     pub attributes : Attributes
-    pub is : tree_on_disk disk ps path ≡ Some (DirectoryNode attributes (sorted_names ShorterFirst (names_at (all_entries ps) at)))
+    pub is : disk_tree disk ps path ≡ Some (DirectoryNode attributes (sorted_names ShorterFirst (names_at (all_entries ps) at)))
 
   pub directory_at_path : (path : Path) (at : ℕ × ℕ) → LeadsTo ps path at → IsDirectoryAt path at
   directory_at_path path at leads = go (slot_of ps path) refl leads
@@ -126,12 +107,12 @@ module _ (disk : Disk) (ps : List Pair) where
 
   -- ---- a file
 
-  pub finds_shown : (path : Path) (x : Slot) (contents : FileStorage) → IsAccepted disk ps → IsWellFormedCtz disk x.struct → slot_of ps path ≡ Some x → IsStorage contents x.struct → parents_refusal (tree_on_disk disk ps) [] path ≡ None
-      → SizedLists disk → IsFoundNode (tree_on_disk disk ps) path (record { fault = None; node = node.File (storage_size contents) })
+  pub finds_shown : (path : Path) (x : Slot) (contents : FileStorage) → IsAccepted disk ps → IsFormedList disk x.struct → slot_of ps path ≡ Some x → IsStorage contents x.struct → parents_refusal (disk_tree disk ps) [] path ≡ None
+      → SizedLists disk → IsFoundNode (disk_tree disk ps) path (record { fault = None; node = node.File (storage_size contents) })
   finds_shown path x (contents.Inline len) ok list e k h sized =
-      finds_file (tree_on_disk disk ps) path x.attributes k.0 len (ap node_shown e ∙ ap (λ (z : Struct). Some (struct_node (struct_list_bytes disk) (all_entries ps) x.attributes z)) k.1.0) h k.1.1.0
+      finds_file (disk_tree disk ps) path x.attributes k.0 len (ap node_shown e ∙ ap (λ (z : Struct). Some (struct_node (struct_list_bytes disk) (all_entries ps) x.attributes z)) k.1.0) h k.1.1.0
   finds_shown path x (contents.List head size) ok list e k h sized =
-      finds_file (tree_on_disk disk ps) path x.attributes (struct_list_bytes disk head size) size (ap node_shown e ∙ ap (λ (z : Struct). Some (struct_node (struct_list_bytes disk) (all_entries ps) x.attributes z)) k) h (sized head size (subst (IsWellFormedCtz disk) k list))
+      finds_file (disk_tree disk ps) path x.attributes (struct_list_bytes disk head size) size (ap node_shown e ∙ ap (λ (z : Struct). Some (struct_node (struct_list_bytes disk) (all_entries ps) x.attributes z)) k) h (sized head size (subst (IsFormedList disk) k list))
 
 pub each_found : (Q : Slot → Type 0) (n : Name) (xs : List Slot) (u : Slot) → Each Q xs → entry_named n xs ≡ Some u → Q u
 each_found Q n [] u h e = absurd (cc)
@@ -143,10 +124,10 @@ each_found Q n (x ∷ xs) u h e = go (same_name n x.name) (each_found Q n xs u h
 
 -- a file's list is well formed
 pub list_at_path : (disk : Disk) (ps : List Pair) (above : Path) (name : Name) (to : ℕ × ℕ) (u : Slot) → IsAccepted disk ps → LeadsTo ps above to → slot_of ps (above ++ name ∷ []) ≡ Some u
-    → IsWellFormedCtz disk u.struct
+    → IsFormedList disk u.struct
 list_at_path disk ps above name to u ok leads e =
-    each_found (λ s. IsWellFormedCtz disk s.struct) name (all_entries ps to) u
-    (each_entry (λ s. IsWellFormedCtz disk s.struct) disk ps above to ok leads (recursion_from_All (λ (s : Slot). IsWellFormedCtz disk s.struct) (all_slots_not_moved ps) ok.lists))
+    each_found (λ s. IsFormedList disk s.struct) name (all_entries ps to) u
+    (each_entry (λ s. IsFormedList disk s.struct) disk ps above to ok leads (recursion_from_All (λ (s : Slot). IsFormedList disk s.struct) (all_unmoved_slots ps) ok.lists))
     (go (slot_of ps above) leads (sym (walk_append (all_entries ps) (root_slot (root_address ps)) above (name ∷ [])) ∙ e))
   where
     found : (o : Option Slot) → option_and_then (λ c. let r : Option Slot = Some c in r) o ≡ Some u → o ≡ Some u
@@ -165,12 +146,12 @@ list_at_path disk ps above name to u ok leads e =
 -- ---- by what is shown
 
 module _ (t : KeptThread) (path : Path) (ok : IsAccepted t.disk t.pairs) where
-  pub refused_at : (r : ops.Refusal) (f : FoundNode) → parents_refusal (tree_on_disk t.disk t.pairs) [] path ≡ Some r → f ≡ record { fault = Some r; node = node.Nothing } → IsFoundNode (tree_on_disk t.disk t.pairs) path f
-  refused_at r f h k = subst (λ z. IsFoundNode (tree_on_disk t.disk t.pairs) path z) (sym k) (finds_nothing (tree_on_disk t.disk t.pairs) path (Some r) (nothing_at t.disk t.pairs path (refused_none t.disk t.pairs path [] r h)) h)
+  pub refused_at : (r : ops.Refusal) (f : FoundNode) → parents_refusal (disk_tree t.disk t.pairs) [] path ≡ Some r → f ≡ record { fault = Some r; node = node.Nothing } → IsFoundNode (disk_tree t.disk t.pairs) path f
+  refused_at r f h k = subst (λ z. IsFoundNode (disk_tree t.disk t.pairs) path z) (sym k) (finds_nothing (disk_tree t.disk t.pairs) path (Some r) (nothing_at t.disk t.pairs path (refused_none t.disk t.pairs path [] r h)) h)
 
   pub file_at : (moved : Option SlotPosition) (spot : SlotPosition) (contents : FileStorage) (f : FoundNode) → IsHiddenResult t moved path (shown.File spot contents) → SizedLists t.disk → f ≡ record { fault = None; node = node.File (storage_size contents) }
-      → IsFoundNode (tree_on_disk t.disk t.pairs) path f
+      → IsFoundNode (disk_tree t.disk t.pairs) path f
   file_at moved spot contents f (h, (s, k)) sized e =
-      subst (λ z. IsFoundNode (tree_on_disk t.disk t.pairs) path z) (sym e)
+      subst (λ z. IsFoundNode (disk_tree t.disk t.pairs) path z) (sym e)
       (finds_shown t.disk t.pairs path s.stands.stands.slot contents ok
       (list_at_path t.disk t.pairs s.above s.name s.on.at s.stands.stands.slot ok s.on.leads (sym (ap (slot_of t.pairs) s.is) ∙ s.slot)) s.slot k h sized)

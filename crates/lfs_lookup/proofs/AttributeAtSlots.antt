@@ -1,27 +1,11 @@
 -- What a slot says of its attributes.
 use Rattle.std.proofs.Common.{ℕ, zero, suc, ◌≡◌, ◌+◌, ◌/◌, ◌%◌, ◌^◌, ◌<◌, ◌≤◌, ◌==◌, ◌∙◌, Bool, true, false, cond, List, [], ◌∷◌, length, slice_get, slice_index_or, Option, Some, None, Result, Ok, Err, Vec, Global, Bor, refl, sym, ap, ap₂, subst, arith}
 use Rattle.std.specs.Prelude.{IfOk, IfSome, IsSome, find}
-use Rattle.std.specs.Option.{option_and_then, option_copied, option_map}
-use Rattle.std.proofs.lemmas.Option.{same_Some}
+use Rattle.lfs_lookup.proofs.Common.{option_and_then, option_copied, option_map, same_Some, node_attributes_of, RawSlot, attribute_bytes, complete_slot, kind_of_type, slot_of_id, read_struct, Disk, AttributesInOrder, IsFormedSlot, AreWellFormed, slot_bytes, part_bytes, Attributes, Slot, Struct, Inline, Ctz, Branch, slot_of, Pair, Path, struct_node, struct_list_bytes, all_entries, disk_tree, KeptThread, ThreadView, cached_log, empty_anchor, IsResult, AreAttributesAt, IsFoundCached, IsUnmoved}
 use Rattle.lfs_device.specs.declared.error.Error.{Error}
-use Rattle.lfs_model.specs.session.TreeEdits.{node_attributes_of}
-use Rattle.lfs_model.specs.format.Content.{RawSlot, attribute_bytes, complete_slot, kind_of_type, slot_of_id, read_struct}
-use Rattle.lfs_model.specs.format.Disk.{Disk}
-use Rattle.lfs_model.specs.layers.LoggedContent.{AttributesInOrder, IsSlotWellFormed, AreWellFormed}
-use Rattle.lfs_model.specs.layers.Lookup.{slot_bytes, bytes_of_type}
 use Rattle.lfs_model.specs.session.Operations as ops
-use Rattle.lfs_model.specs.format.Slots.{Attributes, Slot, Struct, Inline, Ctz, Branch}
-use Rattle.lfs_model.specs.session.SlotEdits.{slot_of}
-use Rattle.lfs_model.specs.format.Thread.{Pair}
-use Rattle.lfs_model.specs.tree.Tree.{Path, struct_node}
-use Rattle.lfs_model.specs.tree.Shown.{struct_list_bytes, all_entries, tree_on_disk}
-use Rattle.lfs_thread.specs.Kept.{KeptThread, ThreadView}
-use Rattle.lfs_thread.specs.CachedLog.{cached_log}
-use Rattle.lfs_thread.specs.ThreadSteps.{empty_anchor}
-use Rattle.lfs_lookup.specs.AtPath.{IsResult}
-use Rattle.lfs_lookup.specs.AttributeAt.{AreAttributesAt, IsFoundCached, IsAttribute, AttributeFits, lookup_spot}
+use Rattle.lfs_lookup.specs.AttributeAt.{IsAttribute, AttributeFits, lookup_spot}
 use Rattle.lfs_lookup.specs.BytesAt.{IsSpotSlot}
-use Rattle.lfs_lookup.specs.LookupPaths.{IsUnmoved}
 use Rattle.lfs_lookup.specs.declared.found_entries.FoundAttribute.{FoundAttribute}
 use Rattle.lfs_lookup.specs.declared.paths.VisiblePathLookup.{VisiblePathLookup}
 use Rattle.lfs_lookup.specs.declared.paths.VisiblePathLookup.TheVariants as shown
@@ -35,7 +19,7 @@ attribute_kind : (s : RawSlot) (kind : ℕ) → kind < 2 ^ 8 → slot_bytes (0x3
 attribute_kind s kind l =
     let d : (0x300 + kind) / 2 ^ 8 ≡ 3 = omega (arith, l) in
     let m : (0x300 + kind) % 2 ^ 8 ≡ kind = omega (arith, l) in
-    ap₂ (λ d m. cond (d == 0) (bytes_of_type (0x300 + kind) s.name) (cond (d == 2) (bytes_of_type (0x300 + kind) s.struct) (cond (d == 3) (attribute_bytes m s.attributes) None))) d m
+    ap₂ (λ d m. cond (d == 0) (part_bytes (0x300 + kind) s.name) (cond (d == 2) (part_bytes (0x300 + kind) s.struct) (cond (d == 3) (attribute_bytes m s.attributes) None))) d m
 
 pub same_attributes : (s : RawSlot) (t : Slot) → complete_slot s ≡ Some t → s.attributes ≡ t.attributes
 same_attributes s t e = go s.name s.struct e
@@ -49,7 +33,7 @@ same_attributes s t e = go s.name s.struct e
 pub attribute_if_slot : (s : RawSlot) (t : Slot) (kind : ℕ) → kind < 2 ^ 8 → complete_slot s ≡ Some t → slot_bytes (0x300 + kind) s ≡ attribute_bytes kind t.attributes
 attribute_if_slot s t kind l e = attribute_kind s kind l ∙ ap (attribute_bytes kind) (same_attributes s t e)
 
-pub parts_of_id : (raw : List RawSlot) (id : ℕ) → AreWellFormed raw → IsSlotWellFormed (slot_of_id raw id)
+pub parts_of_id : (raw : List RawSlot) (id : ℕ) → AreWellFormed raw → IsFormedSlot (slot_of_id raw id)
 parts_of_id [] zero h = record { name = tt; struct = tt; attributes = tt }
 parts_of_id [] (suc id) h = record { name = tt; struct = tt; attributes = tt }
 parts_of_id (s ∷ raw) zero h = h.0
@@ -91,7 +75,7 @@ node_attributes disk ps x (Inline bytes) = refl
 node_attributes disk ps x (Ctz head size) = refl
 node_attributes disk ps x (Branch to) = refl
 
-attributes_at : (disk : Disk) (ps : List Pair) (path : Path) (x : Slot) → slot_of ps path ≡ Some x → x.attributes ≡ node_attributes_of (tree_on_disk disk ps path)
+attributes_at : (disk : Disk) (ps : List Pair) (path : Path) (x : Slot) → slot_of ps path ≡ Some x → x.attributes ≡ node_attributes_of (disk_tree disk ps path)
 attributes_at disk ps path x e =
     sym (node_attributes disk ps x x.struct) ∙ ap (λ (o : Option Slot). node_attributes_of (option_map (λ (f : Slot). struct_node (struct_list_bytes disk) (all_entries ps) f.attributes f.struct) o)) (sym e)
 
@@ -100,7 +84,7 @@ pub record IsSlotFor (t : KeptThread) (path : Path) (slot : SlotPosition) : Type
   pub held : Slot
   pub below : slot.pair < length t.pairs
   pub there : IsSpotSlot t slot held
-  pub attributes : held.attributes ≡ node_attributes_of (tree_on_disk t.disk t.pairs path)
+  pub attributes : held.attributes ≡ node_attributes_of (disk_tree t.disk t.pairs path)
 
 pub slot_for : (t : KeptThread) (path : Path) (x : VisiblePathLookup) (slot : SlotPosition) → IsResult t path x → lookup_spot x ≡ Some slot → IsSlotFor t path slot
 slot_for t path x slot shows e =
@@ -112,8 +96,8 @@ slot_for t path x slot shows e =
       attributes = attributes_at t.disk t.pairs path s.stands.stands.slot s.slot;
     }
 
-pub no_slot : (t : KeptThread) (path : Path) (x : VisiblePathLookup) → IsResult t path x → lookup_spot x ≡ None → node_attributes_of (tree_on_disk t.disk t.pairs path) ≡ []
-no_slot t path shown.Root s e = ap (λ p. node_attributes_of (tree_on_disk t.disk t.pairs p)) s.shows
+pub no_slot : (t : KeptThread) (path : Path) (x : VisiblePathLookup) → IsResult t path x → lookup_spot x ≡ None → node_attributes_of (disk_tree t.disk t.pairs path) ≡ []
+no_slot t path shown.Root s e = ap (λ p. node_attributes_of (disk_tree t.disk t.pairs p)) s.shows
 no_slot t path (shown.Directory at first) s e = absurd (cc)
 no_slot t path (shown.File at contents) s e = absurd (cc)
 no_slot t path shown.Nothing s e = ap node_attributes_of (nothing_at t.disk t.pairs path s.shows.1)
@@ -121,7 +105,7 @@ no_slot t path shown.ParentIsFile s e = ap node_attributes_of (nothing_at t.disk
 no_slot t path shown.ParentIsMissing s e = ap node_attributes_of (nothing_at t.disk t.pairs path (refused_none t.disk t.pairs path [] ops.NoEnt s.shows))
 
 -- the attributes of what is shown at a path are those of its slot
-pub are_held : (t : KeptThread) (path : Path) (x : VisiblePathLookup) (slot : Option SlotPosition) → IsResult t path x → slot ≡ lookup_spot x → AreAttributesAt t slot (node_attributes_of (tree_on_disk t.disk t.pairs path))
+pub are_held : (t : KeptThread) (path : Path) (x : VisiblePathLookup) (slot : Option SlotPosition) → IsResult t path x → slot ≡ lookup_spot x → AreAttributesAt t slot (node_attributes_of (disk_tree t.disk t.pairs path))
 are_held t path x None s e = no_slot t path x s (sym e)
 are_held t path x (Some spot) s e = let f = slot_for t path x spot s (sym e) in (f.held, (f.there, f.attributes))
 

@@ -1,15 +1,11 @@
 -- How many bytes attributes take, and how many where one is put.
 use Rattle.std.proofs.Common.{Fits, w64, ℕ, zero, suc, drop, map, get_or, ◌≡◌, ◌+◌, ◌-◌, ◌*◌, ◌<◌, ◌≤◌, ◌==◌, Bool, true, false, cond, List, [], ◌∷◌, length, None, Some, nat_lt, refl, sym, ap, arith, eqb-true}
 use Rattle.std.specs.Prelude.{find}
-use Rattle.std.specs.Option.{option_map, option_map_or}
+use Rattle.lfs_lookup.proofs.Common.{option_map, option_map_or, sum_by-cons, attribute_bytes, AttributesInOrder, Attributes, attributes_size, attribute_view, IsAttributesSize}
 use Rattle.std.proofs.lemmas.Bool.{eqb-false, ltb-true}
-use Rattle.std.proofs.lemmas.List.Sums.{sum_by-cons}
-use Rattle.lfs_model.specs.format.Content.{attribute_bytes, attributes_with}
-use Rattle.lfs_model.specs.layers.LoggedContent.{AttributesInOrder}
-use Rattle.lfs_model.specs.format.Slots.{Attributes, attributes_size}
-use Rattle.lfs_tag.specs.ContentView.{attribute_view}
+use Rattle.lfs_model.specs.format.Content.{attributes_with}
 use Rattle.lfs_tag.specs.declared.content.Attribute.{Attribute}
-use Rattle.lfs_lookup.specs.AttributeAt.{IsAttributesSize, PutChangesSize}
+use Rattle.lfs_lookup.specs.AttributeAt.{PutChangesSize}
 
 -- there are at most 256, each of at most 1,022 bytes
 pub size_bound : (low : ℕ) (xs : Attributes) → low ≤ 256 → AttributesInOrder low xs → attributes_size xs ≤ (256 - low) * 1026

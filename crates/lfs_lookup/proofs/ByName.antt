@@ -1,24 +1,22 @@
 -- Entries in the order of their names: the slots that they show, and the tree's names.
 use Rattle.std.proofs.Common.{ℕ, zero, suc, ◌≡◌, ◌<◌, ◌+◌, ◌∙◌, Bool, true, false, cond, List, [], ◌∷◌, length, map, refl, sym, ap, ap₂, subst, arith, get_or, set}
 use Rattle.std.specs.List.{swap}
-use Rattle.std.specs.List.Sorted.{IsPermutation, IsSortedBy}
+use Rattle.lfs_lookup.proofs.Common.{IsPermutation, length-map, recursion_from_All, Name, name_cmp, is_less, sorted_names, Slot, Each, AreShorterFirst, NamedStruct, directory_item_view, directory_items_view, named_struct}
+use Rattle.std.specs.List.Sorted.{IsSortedBy}
 use Rattle.std.specs.Cmp.Lexicographic.{slice_cmp}
 use Rattle.std.specs.Ordering.{is_lt, nat_cmp}
 use Rattle.std.specs.declared.cmp.Ordering.{Ordering}
 use Rattle.std.specs.declared.cmp.Ordering.TheVariants.{Less, Equal, Greater}
 use Rattle.std.proofs.Math.ListN.{get_or-map as map_read}
-use Rattle.std.proofs.lemmas.List.{get_or-map, length-map, map-set}
+use Rattle.std.proofs.lemmas.List.{get_or-map, map-set}
 use Rattle.std.proofs.lemmas.List.Edits.{swap_is}
 use Rattle.std.proofs.lemmas.List.Sorted.{All-permutation, IsPermutation-keeps, IsPermutation-map, IsPermutation-refl, IsPermutation-swap, IsPermutation-trans, length_permutation}
-use Rattle.std.proofs.lemmas.List.Elements.{All-from_recursion, recursion_from_All}
+use Rattle.std.proofs.lemmas.List.Elements.{All-from_recursion}
 use Rattle.lfs_model.specs.declared.order.NameOrder.{NameOrder}
 use Rattle.lfs_model.specs.declared.order.NameOrder.TheVariants.{ShorterFirst}
-use Rattle.lfs_model.specs.format.Names.{Name, name_cmp, is_less, insert_name, sorted_names}
-use Rattle.lfs_model.specs.format.Slots.{Slot}
-use Rattle.lfs_model.proofs.Counts.{Each}
+use Rattle.lfs_model.specs.format.Names.{insert_name}
 use Rattle.lfs_model.proofs.Orders.{Stand, below, same, above, stand, put_both}
-use Rattle.lfs_lookup.specs.ByName.{AreShorterFirst, precedes_shorter}
-use Rattle.lfs_lookup.specs.Items.{NamedStruct, directory_item_view, directory_items_view, named_struct}
+use Rattle.lfs_lookup.specs.ByName.{precedes_shorter}
 use Rattle.lfs_lookup.specs.declared.items.NameAndOwnedStruct.{NameAndOwnedStruct}
 
 -- one of some

@@ -1,36 +1,15 @@
 -- What a file's slot says of its bytes.
 use Rattle.std.proofs.Common.{ℕ, zero, suc, ◌≡◌, ◌+◌, ◌^◌, ◌<◌, ◌==◌, ◌∙◌, Bool, true, false, cond, List, [], ◌∷◌, ◌++◌, length, length-append, take, Option, Some, None, refl, sym, ap, ap₂, subst, slice_get, get_or, arith, append_assoc}
 use Rattle.std.specs.List.{enumerate_from, flat_map}
-use Rattle.std.specs.Option.{option_and_then, option_map}
-use Rattle.std.proofs.lemmas.List.{length-take}
-use Rattle.std.proofs.lemmas.Option.{same_Some}
-use Rattle.lfs_model.specs.session.TreeEdits.{file_bytes, is_file}
-use Rattle.lfs_model.specs.format.Content.{RawSlot, complete_slot, complete_slots, kind_of_type, slot_of_id, read_struct}
-use Rattle.lfs_model.specs.format.EntryTypes.{inline_type, directory_type, read_address}
-use Rattle.lfs_model.specs.format.Disk.{Disk, inline_limit}
-use Rattle.lfs_model.specs.session.InDirectory.{IsPairOfDirectory, IsPlaceOf}
+use Rattle.lfs_lookup.proofs.Common.{option_and_then, option_map, length-take, same_Some, is_file, RawSlot, complete_slot, complete_slots, kind_of_type, slot_of_id, read_struct, inline_type, directory_type, read_address, Disk, IsDirectoryPair, IsPlaceOf, slot_bytes, part_bytes, Name, Slot, Struct, Inline, Ctz, Branch, slot_of, Pair, Path, struct_node, recursion_from_All, Each, each_right, IsWritableSlot, IsWritable, IsAccepted, IsFormedList, struct_list_bytes, all_entries, disk_tree, complete_parts, KeptThread, empty_anchor, IsResult, spot_and_storage, IsStorage, IsUnmoved}
+use Rattle.lfs_model.specs.session.TreeEdits.{file_bytes}
+use Rattle.lfs_model.specs.format.Disk.{inline_limit}
 use Rattle.lfs_model.specs.format.SkipLists.{block_data, blocks_to_head, block_count_for}
-use Rattle.lfs_model.specs.layers.Lookup.{slot_bytes, bytes_of_type}
-use Rattle.lfs_model.specs.format.Names.{Name}
-use Rattle.lfs_model.specs.format.Slots.{Slot, Struct, Inline, Ctz, Branch}
-use Rattle.lfs_model.specs.session.SlotEdits.{slot_of}
-use Rattle.lfs_model.specs.format.Thread.{Pair}
-use Rattle.lfs_model.specs.tree.Tree.{Path, struct_node}
 use Rattle.lfs_model.specs.session.Operations as ops
 use Rattle.std.specs.Prelude.{All}
-use Rattle.std.proofs.lemmas.List.Elements.{recursion_from_All}
-use Rattle.lfs_model.proofs.Counts.{Each, each_right}
-use Rattle.lfs_model.specs.tree.Profile.{IsWritableSlot, InlineBytesFit, IsWritable}
-use Rattle.lfs_model.specs.tree.View.{IsAccepted, IsWellFormedCtz}
-use Rattle.lfs_model.specs.tree.Shown.{struct_list_bytes, all_entries, tree_on_disk}
-use Rattle.lfs_model.proofs.Completed.{complete_parts}
-use Rattle.lfs_thread.specs.Kept.{KeptThread}
-use Rattle.lfs_thread.specs.ThreadSteps.{empty_anchor}
-use Rattle.lfs_lookup.specs.AtPath.{IsResult}
-use Rattle.lfs_lookup.specs.BytesAt.{IsFileAt, spot_and_storage}
-use Rattle.lfs_lookup.specs.Entry.{IsStorage}
+use Rattle.lfs_model.specs.tree.Profile.{InlineBytesFit}
+use Rattle.lfs_lookup.specs.BytesAt.{IsFileAt}
 use Rattle.lfs_lookup.specs.FileBytes.{struct_file_bytes}
-use Rattle.lfs_lookup.specs.LookupPaths.{IsUnmoved}
 use Rattle.lfs_lookup.specs.declared.entry.FileStorage.{FileStorage}
 use Rattle.lfs_lookup.specs.declared.entry.FileStorage.TheVariants as contents
 use Rattle.lfs_lookup.specs.declared.paths.VisiblePathLookup.{VisiblePathLookup}
@@ -62,7 +41,7 @@ inline_held s t bytes e h = go s.name s.struct e
     by_type held to head size false false k = absurd (cc)
 
     go : (n p : Option (ℕ × List ℕ)) →
-        option_and_then (λ name. option_map (λ struct. record { kind = kind_of_type name.0; name = name.1; struct = read_struct struct.0 struct.1; attributes = s.attributes }) p) n ≡ Some t → bytes_of_type inline_type p ≡ Some bytes
+        option_and_then (λ name. option_map (λ struct. record { kind = kind_of_type name.0; name = name.1; struct = read_struct struct.0 struct.1; attributes = s.attributes }) p) n ≡ Some t → part_bytes inline_type p ≡ Some bytes
     go None p k = absurd (cc)
     go (Some n) None k = absurd (cc)
     go (Some n) (Some p) k =
@@ -79,14 +58,14 @@ slot_behind : (left : List Slot) (s : Slot) (right : List Slot) → slice_get (l
 slot_behind [] s right = refl
 slot_behind (x ∷ left) s right = slot_behind left s right
 
-pub behind_below : (ps : List Pair) (first index : ℕ) (pair : Pair) (rest : List Pair) → IsPairOfDirectory ps first index pair rest → index < length ps
+pub behind_below : (ps : List Pair) (first index : ℕ) (pair : Pair) (rest : List Pair) → IsDirectoryPair ps first index pair rest → index < length ps
 behind_below ps first index pair rest b =
     let l = ap length b.parts ∙ length-append b.front (b.left ++ pair ∷ rest) in
     let m = length-append b.left (pair ∷ rest) in
     let n = b.number in
     omega (arith, l, m, n)
 
-pub pair_is : (ps : List Pair) (first index : ℕ) (pair : Pair) (rest : List Pair) (d : Pair) → IsPairOfDirectory ps first index pair rest → get_or ps index d ≡ pair
+pub pair_is : (ps : List Pair) (first index : ℕ) (pair : Pair) (rest : List Pair) (d : Pair) → IsDirectoryPair ps first index pair rest → get_or ps index d ≡ pair
 pair_is ps first index pair rest d b =
     let n : length (b.front ++ b.left) ≡ index = length-append b.front b.left ∙ b.number in
     ap₂ (λ qs i. get_or qs i d) (b.parts ∙ sym (append_assoc b.front b.left (pair ∷ rest))) (sym n) ∙ pair_behind (b.front ++ b.left) pair rest d
@@ -112,15 +91,15 @@ node_bytes disk ps x (Inline bytes) = refl
 node_bytes disk ps x (Ctz head size) = refl
 node_bytes disk ps x (Branch to) = refl
 
-pub bytes_of_slot : (disk : Disk) (ps : List Pair) (path : Path) (x : Slot) → slot_of ps path ≡ Some x → struct_file_bytes disk x.struct ≡ file_bytes (tree_on_disk disk ps path)
+pub bytes_of_slot : (disk : Disk) (ps : List Pair) (path : Path) (x : Slot) → slot_of ps path ≡ Some x → struct_file_bytes disk x.struct ≡ file_bytes (disk_tree disk ps path)
 bytes_of_slot disk ps path x e =
     sym (node_bytes disk ps x x.struct) ∙ ap (λ (o : Option Slot). file_bytes (option_map (λ (f : Slot). struct_node (struct_list_bytes disk) (all_entries ps) f.attributes f.struct) o)) (sym e)
 
 -- a file has less than 2^31 bytes
-pub few_shown : (disk : Disk) (contents : FileStorage) (s : Struct) → IsStorage contents s → IsWellFormedCtz disk s → length (struct_file_bytes disk s) < 2 ^ 31
+pub few_shown : (disk : Disk) (contents : FileStorage) (s : Struct) → IsStorage contents s → IsFormedList disk s → length (struct_file_bytes disk s) < 2 ^ 31
 few_shown disk (contents.Inline len) s k list = let l = ap (λ z. length (struct_file_bytes disk z)) k.1.0 in let m = k.1.1.0 in let n = k.1.1.1 in omega (arith, l, m, n)
 few_shown disk (contents.List head size) s k list =
-    let l = subst (IsWellFormedCtz disk) k list in
+    let l = subst (IsFormedList disk) k list in
     let e = ap (λ z. length (struct_file_bytes disk z)) k in
     let h = l.size_high in
     let n = length-take size (flat_map (block_data disk.blocks) (enumerate_from 0 (blocks_to_head disk.blocks (block_count_for disk.block_size size) head))) in
@@ -140,8 +119,8 @@ is_file_of shown.ParentIsMissing slot contents e = absurd (cc)
 
 -- no file is there where none is found
 module _ (t : KeptThread) (path : Path) where
-  pub not_file : (x : VisiblePathLookup) → IsResult t path x → spot_and_storage x ≡ None → is_file (tree_on_disk t.disk t.pairs path) ≡ false
-  not_file shown.Root s e = ap (λ p. is_file (tree_on_disk t.disk t.pairs p)) s.shows
+  pub not_file : (x : VisiblePathLookup) → IsResult t path x → spot_and_storage x ≡ None → is_file (disk_tree t.disk t.pairs path) ≡ false
+  not_file shown.Root s e = ap (λ p. is_file (disk_tree t.disk t.pairs p)) s.shows
   not_file (shown.Directory slot first) s e = ap is_file (directory_at_path t.disk t.pairs path s.shows.1.1.at s.shows.1.1.leads).is
   not_file (shown.File slot contents) s e = absurd (cc)
   not_file shown.Nothing s e = ap is_file (nothing_at t.disk t.pairs path s.shows.1)
@@ -162,7 +141,7 @@ inline_within disk ps first name index id s fits =
 pub record IsFileOf (t : KeptThread) (path : Path) (slot : SlotPosition) (contents : FileStorage) : Type 0 where
   pub held : Slot
   pub file : IsFileAt t slot contents held
-  pub bytes : struct_file_bytes t.disk held.struct ≡ file_bytes (tree_on_disk t.disk t.pairs path)
+  pub bytes : struct_file_bytes t.disk held.struct ≡ file_bytes (disk_tree t.disk t.pairs path)
   pub few : length (struct_file_bytes t.disk held.struct) < 2 ^ 31
   pub at : slot_of t.pairs path ≡ Some held
   pub inline : IsWritable t.disk t.pairs → InlineBytesFit (inline_limit t.disk.profile t.disk.block_size) held.struct
@@ -187,5 +166,5 @@ file_since a b slot contents held pairs disk h = record {
   below = subst (λ (ps : List Pair). slot.pair < length ps) (sym pairs) h.below;
   there = subst (λ (ps : List Pair). slice_get (get_or ps slot.pair empty_anchor).content.slots slot.id ≡ Some held) (sym pairs) h.there;
   shows = h.shows;
-  list = subst (λ (d : Disk). IsWellFormedCtz d held.struct) (sym disk) h.list;
+  list = subst (λ (d : Disk). IsFormedList d held.struct) (sym disk) h.list;
 }

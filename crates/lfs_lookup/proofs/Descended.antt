@@ -1,27 +1,10 @@
 -- Down a path, a directory at a time.
 use Rattle.std.proofs.Common.{subst₂, ℕ, zero, suc, ◌≡◌, ◌<◌, ◌≤◌, ◌+◌, List, [], ◌∷◌, ◌++◌, length, map, take, drop, Option, Some, None, Result, Ok, Err, refl, sym, ap, ap₂, subst, ◌∙◌, arith, append_assoc, append-nil, slice_get, slice_index_or}
 use Rattle.std.specs.Prelude.{sum_by, IfOk}
-use Rattle.std.specs.Option.{option_and_then, option_map, option_or}
-use Rattle.std.proofs.lemmas.List.{map-append}
-use Rattle.std.proofs.lemmas.List.Sums.{sum_by-append, sum_by-cons}
+use Rattle.lfs_lookup.proofs.Common.{option_and_then, option_map, option_or, map-append, sum_by-append, sum_by-cons, Disk, pair_count_at, ancestor_paths, read_count, joined_count, Name, directory_refusal, parents_refusal, slot_of, Slot, Struct, Inline, Ctz, Branch, pairs_gstate, Path, Tree, branch_address, struct_node, IsAccepted, LeadsTo, struct_list_bytes, all_entries, disk_tree, KeptThread, OnlyReadsThread, LeadsToPair, ParentReached, IsNodeAt, HidesMovedSlot, IsHiddenResult, HidesFrom, run_length_is}
 use Rattle.lfs_device.specs.declared.error.Error.{Error}
-use Rattle.lfs_model.specs.format.Disk.{Disk}
-use Rattle.lfs_model.specs.crash.Frame.{pair_count_at, ancestor_paths}
-use Rattle.lfs_model.specs.session.History.{read_count}
-use Rattle.lfs_model.specs.session.InDirectory.{joined_count}
-use Rattle.lfs_model.specs.format.Names.{Name}
 use Rattle.lfs_model.specs.session.Operations.{Refusal}
-use Rattle.lfs_model.specs.session.Session.{directory_refusal, parents_refusal}
-use Rattle.lfs_model.specs.session.SlotEdits.{slot_of}
-use Rattle.lfs_model.specs.format.Slots.{Slot, Struct, Inline, Ctz, Branch}
-use Rattle.lfs_model.specs.format.Thread.{pairs_gstate}
-use Rattle.lfs_model.specs.tree.Tree.{Path, Tree, branch_address, struct_node}
-use Rattle.lfs_model.specs.tree.View.{IsAccepted}
-use Rattle.lfs_model.specs.tree.Shown.{LeadsTo, struct_list_bytes, all_entries, tree_on_disk}
-use Rattle.lfs_thread.specs.Kept.{KeptThread}
-use Rattle.lfs_thread.specs.ThreadSteps.{OnlyReadsThread}
-use Rattle.lfs_lookup.specs.LookupPaths.{LeadsToPair, ParentReached, IsNodeAt, HidesMovedSlot, IsBelowRoot, IsNamedEntry, LeadsToResult, IsHiddenResult}
-use Rattle.lfs_lookup.specs.NameSearch.{HidesFrom}
+use Rattle.lfs_lookup.specs.LookupPaths.{IsVisibleEntry, IsNamedEntry, LeadsToResult}
 use Rattle.lfs_lookup.specs.declared.search.SlotPosition.{SlotPosition}
 use Rattle.lfs_lookup.specs.declared.paths.VisiblePathLookup.{VisiblePathLookup}
 use Rattle.lfs_lookup.specs.declared.paths.VisiblePathLookup.TheVariants as shown
@@ -29,7 +12,6 @@ use Rattle.lfs_lookup.specs.declared.paths.PathLookup.{PathLookup}
 use Rattle.lfs_lookup.specs.declared.paths.PathLookup.TheVariants as found
 use Rattle.lfs_lookup.specs.declared.paths.Parent.{Parent}
 use Rattle.lfs_lookup.specs.declared.paths.Parent.TheVariants as parent
-use Rattle.lfs_model.proofs.Searches.{run_length_is}
 
 -- ---- lists
 
@@ -85,7 +67,7 @@ fault_step t above n [] name = refl
 fault_step t above n (r ∷ rest) name = refl
 
 -- a directory refuses nothing
-pub directory_is : (t : KeptThread) (path : Path) (at : ℕ × ℕ) → LeadsTo t.pairs path at → directory_refusal (tree_on_disk t.disk t.pairs path) ≡ None
+pub directory_is : (t : KeptThread) (path : Path) (at : ℕ × ℕ) → LeadsTo t.pairs path at → directory_refusal (disk_tree t.disk t.pairs path) ≡ None
 directory_is t path at leads = go (slot_of t.pairs path) leads
   where
     by_struct : (f : Slot) (s : Struct) → branch_address s ≡ Some at → directory_refusal (Some (struct_node (struct_list_bytes t.disk) (all_entries t.pairs) f.attributes s)) ≡ None
@@ -102,16 +84,16 @@ directory_is t path at leads = go (slot_of t.pairs path) leads
 -- the first i components of the path are directories, and the last of them begins with the pair of that number
 pub record HasDescended (t now : KeptThread) (path : Path) (i first : ℕ) : Type 0 where
   pub begins : LeadsToPair t.pairs (take i path) first
-  pub still : (name : Name) → parents_refusal (tree_on_disk t.disk t.pairs) [] (path ++ name ∷ []) ≡ parents_refusal (tree_on_disk t.disk t.pairs) (take i path) (drop i path ++ name ∷ [])
+  pub still : (name : Name) → parents_refusal (disk_tree t.disk t.pairs) [] (path ++ name ∷ []) ≡ parents_refusal (disk_tree t.disk t.pairs) (take i path) (drop i path ++ name ∷ [])
   pub few : read_count now.history ≤ read_count t.history + sum_by (pair_count_at t.pairs) (ancestor_paths (take i path))
 
 module _ (t now next : KeptThread) (path : Path) (i first : ℕ) (n : Name) (d : HasDescended t now path i first) (at : slice_get path i ≡ Some n) where
-  pub refused_by : (name : Name) → parents_refusal (tree_on_disk t.disk t.pairs) [] (path ++ name ∷ [])
-      ≡ option_or (directory_refusal (tree_on_disk t.disk t.pairs (take i path ++ n ∷ []))) (parents_refusal (tree_on_disk t.disk t.pairs) (take i path ++ n ∷ []) (drop (i + 1) path ++ name ∷ []))
-  refused_by name = d.still name ∙ ap (λ z. parents_refusal (tree_on_disk t.disk t.pairs) (take i path) (z ++ name ∷ [])) (drop_on path i n at) ∙ fault_step (tree_on_disk t.disk t.pairs) (take i path) n (drop (i + 1) path) name
+  pub refused_by : (name : Name) → parents_refusal (disk_tree t.disk t.pairs) [] (path ++ name ∷ [])
+      ≡ option_or (directory_refusal (disk_tree t.disk t.pairs (take i path ++ n ∷ []))) (parents_refusal (disk_tree t.disk t.pairs) (take i path ++ n ∷ []) (drop (i + 1) path ++ name ∷ []))
+  refused_by name = d.still name ∙ ap (λ z. parents_refusal (disk_tree t.disk t.pairs) (take i path) (z ++ name ∷ [])) (drop_on path i n at) ∙ fault_step (disk_tree t.disk t.pairs) (take i path) n (drop (i + 1) path) name
 
-  pub stops_at : (refusal : Refusal) → directory_refusal (tree_on_disk t.disk t.pairs (take i path ++ n ∷ [])) ≡ Some refusal → (name : Name) → parents_refusal (tree_on_disk t.disk t.pairs) [] (path ++ name ∷ []) ≡ Some refusal
-  stops_at refusal e name = refused_by name ∙ ap (λ o. option_or o (parents_refusal (tree_on_disk t.disk t.pairs) (take i path ++ n ∷ []) (drop (i + 1) path ++ name ∷ []))) e
+  pub stops_at : (refusal : Refusal) → directory_refusal (disk_tree t.disk t.pairs (take i path ++ n ∷ [])) ≡ Some refusal → (name : Name) → parents_refusal (disk_tree t.disk t.pairs) [] (path ++ name ∷ []) ≡ Some refusal
+  stops_at refusal e name = refused_by name ∙ ap (λ o. option_or o (parents_refusal (disk_tree t.disk t.pairs) (take i path ++ n ∷ []) (drop (i + 1) path ++ name ∷ []))) e
 
   module _ (more : read_count next.history ≤ read_count now.history + pair_count_at t.pairs (take i path)) where
     few_on : read_count next.history ≤ read_count t.history + sum_by (pair_count_at t.pairs) (ancestor_paths (take (i + 1) path))
@@ -131,13 +113,13 @@ module _ (t now next : KeptThread) (path : Path) (i first : ℕ) (n : Name) (d :
     pub descends_on : (further : ℕ) → LeadsToPair t.pairs (take i path ++ n ∷ []) further → HasDescended t next path (i + 1) further
     descends_on further on = record {
       begins = subst (λ p. LeadsToPair t.pairs p further) (sym (take_on path i n at)) on;
-      still = λ name. refused_by name ∙ ap₂ (λ o p. option_or o (parents_refusal (tree_on_disk t.disk t.pairs) p (drop (i + 1) path ++ name ∷ []))) (directory_is t (take i path ++ n ∷ []) on.at on.leads) (sym (take_on path i n at));
+      still = λ name. refused_by name ∙ ap₂ (λ o p. option_or o (parents_refusal (disk_tree t.disk t.pairs) p (drop (i + 1) path ++ name ∷ []))) (directory_is t (take i path ++ n ∷ []) on.at on.leads) (sym (take_on path i n at));
       few = few_on;
     }
 
 pub has_descended : (t now : KeptThread) (path : Path) (i first : ℕ) → HasDescended t now path i first → length path ≤ i → ParentReached t path (parent.Directory first)
 has_descended t now path i first d l = record {
-  fault = λ name. d.still name ∙ ap (λ z. parents_refusal (tree_on_disk t.disk t.pairs) (take i path) (z ++ name ∷ [])) (drop_whole i path l);
+  fault = λ name. d.still name ∙ ap (λ z. parents_refusal (disk_tree t.disk t.pairs) (take i path) (z ++ name ∷ [])) (drop_whole i path l);
   begins = subst (λ p. LeadsToPair t.pairs p first) (take_whole i path l) d.begins;
 }
 
@@ -159,8 +141,8 @@ begins_same a b r path first on = subst (λ ps. LeadsToPair ps path first) (sym 
 
 pub enters_same : (a b : KeptThread) → OnlyReadsThread a b → (path : Path) (p : Parent) → IsNodeAt b path p → IsNodeAt a path p
 enters_same a b r path (parent.Directory first) e = subst (λ ps. LeadsToPair ps path first) r.pairs e
-enters_same a b r path parent.File e = ap₂ (λ d ps. directory_refusal (tree_on_disk d ps path)) (sym r.disk) (sym r.pairs) ∙ e
-enters_same a b r path parent.Nothing e = ap₂ (λ d ps. directory_refusal (tree_on_disk d ps path)) (sym r.disk) (sym r.pairs) ∙ e
+enters_same a b r path parent.File e = ap₂ (λ d ps. directory_refusal (disk_tree d ps path)) (sym r.disk) (sym r.pairs) ∙ e
+enters_same a b r path parent.Nothing e = ap₂ (λ d ps. directory_refusal (disk_tree d ps path)) (sym r.disk) (sym r.pairs) ∙ e
 
 pub few_same : (a b : KeptThread) → IsAccepted a.disk a.pairs → OnlyReadsThread a b → (path : Path) (first : ℕ) → LeadsToPair a.pairs path first → joined_count (drop first b.pairs) ≡ pair_count_at a.pairs path
 few_same a b ok r path first on = ap (λ ps. joined_count (drop first ps)) r.pairs ∙ run_length_is a.disk a.pairs path on.at first ok on.leads on.begins
@@ -174,28 +156,28 @@ pub sum_is : (f : Path → ℕ) (path above : Path) (n : Name) → path ≡ abov
 sum_is f path above n e = ap (λ p. sum_by f (ancestor_paths p)) e ∙ sum_on f above n
 
 module _ (t : KeptThread) (path above : Path) (n : Name) (is : path ≡ above ++ n ∷ []) where
-  pub leads_there : (found : PathLookup) → parents_refusal (tree_on_disk t.disk t.pairs) [] (above ++ n ∷ []) ≡ None → IsNamedEntry t.disk.order t.pairs above n found → LeadsToResult t path found
-  leads_there (found.Directory parent slot first) e there = record { parents = ap (parents_refusal (tree_on_disk t.disk t.pairs) []) is ∙ e; there = record { above = above; name = n; is = is; there = there } }
-  leads_there (found.File parent slot contents) e there = record { parents = ap (parents_refusal (tree_on_disk t.disk t.pairs) []) is ∙ e; there = record { above = above; name = n; is = is; there = there } }
-  leads_there (found.Nothing parent place) e there = record { parents = ap (parents_refusal (tree_on_disk t.disk t.pairs) []) is ∙ e; there = record { above = above; name = n; is = is; there = there } }
+  pub leads_there : (found : PathLookup) → parents_refusal (disk_tree t.disk t.pairs) [] (above ++ n ∷ []) ≡ None → IsNamedEntry t.disk.order t.pairs above n found → LeadsToResult t path found
+  leads_there (found.Directory parent slot first) e there = record { parents = ap (parents_refusal (disk_tree t.disk t.pairs) []) is ∙ e; there = record { above = above; name = n; is = is; there = there } }
+  leads_there (found.File parent slot contents) e there = record { parents = ap (parents_refusal (disk_tree t.disk t.pairs) []) is ∙ e; there = record { above = above; name = n; is = is; there = there } }
+  leads_there (found.Nothing parent place) e there = record { parents = ap (parents_refusal (disk_tree t.disk t.pairs) []) is ∙ e; there = record { above = above; name = n; is = is; there = there } }
   leads_there found.Root e there = absurd there
   leads_there found.ParentIsFile e there = absurd there
   leads_there found.ParentIsMissing e there = absurd there
 
   pub leads_past_file : ParentReached t above parent.File → LeadsToResult t path found.ParentIsFile
-  leads_past_file d = record { parents = ap (parents_refusal (tree_on_disk t.disk t.pairs) []) is ∙ d.fault n; there = tt }
+  leads_past_file d = record { parents = ap (parents_refusal (disk_tree t.disk t.pairs) []) is ∙ d.fault n; there = tt }
 
   pub leads_past_nothing : ParentReached t above parent.Nothing → LeadsToResult t path found.ParentIsMissing
-  leads_past_nothing d = record { parents = ap (parents_refusal (tree_on_disk t.disk t.pairs) []) is ∙ d.fault n; there = tt }
+  leads_past_nothing d = record { parents = ap (parents_refusal (disk_tree t.disk t.pairs) []) is ∙ d.fault n; there = tt }
 
 pub looked_in : (t next : KeptThread) → OnlyReadsThread t next → (above : Path) (n : Name) (first : ℕ) (result : Result PathLookup Error) → LeadsToPair t.pairs above first
     → IfOk result (λ found. (above : Path) → LeadsToPair next.pairs above first → IsNamedEntry next.disk.order next.pairs above n found) → (path : Path) → path ≡ above ++ n ∷ []
-    → parents_refusal (tree_on_disk t.disk t.pairs) [] (above ++ n ∷ []) ≡ None → IfOk result (LeadsToResult t path)
+    → parents_refusal (disk_tree t.disk t.pairs) [] (above ++ n ∷ []) ≡ None → IfOk result (LeadsToResult t path)
 looked_in t next r above n first (Err e) on answer path is fault = tt
 looked_in t next r above n first (Ok found) on answer path is fault =
     leads_there t path above n is found fault (subst₂ (λ (d : Disk) ps. IsNamedEntry d.order ps above n found) r.disk r.pairs (answer above (begins_same t next r above first on)))
 
-shows_there : (t : KeptThread) (moved : Option SlotPosition) (path : Path) (s : VisiblePathLookup) → parents_refusal (tree_on_disk t.disk t.pairs) [] path ≡ None → IsBelowRoot t.pairs moved path s → IsHiddenResult t moved path s
+shows_there : (t : KeptThread) (moved : Option SlotPosition) (path : Path) (s : VisiblePathLookup) → parents_refusal (disk_tree t.disk t.pairs) [] path ≡ None → IsVisibleEntry t.pairs moved path s → IsHiddenResult t moved path s
 shows_there t moved path (shown.Directory spot first) e there = (e, there)
 shows_there t moved path (shown.File spot contents) e there = (e, there)
 shows_there t moved path shown.Nothing e there = (e, there)
@@ -204,11 +186,11 @@ shows_there t moved path shown.ParentIsFile e there = absurd there
 shows_there t moved path shown.ParentIsMissing e there = absurd there
 
 pub showed_in : (t next : KeptThread) (moved : Option SlotPosition) → OnlyReadsThread t next → (above : Path) (n : Name) (first : ℕ) (result : Result VisiblePathLookup Error) → LeadsToPair t.pairs above first
-    → IfOk result (λ s. (above : Path) → LeadsToPair next.pairs above first → IsBelowRoot next.pairs moved (above ++ n ∷ []) s) → (path : Path) → path ≡ above ++ n ∷ []
-    → parents_refusal (tree_on_disk t.disk t.pairs) [] (above ++ n ∷ []) ≡ None → IfOk result (IsHiddenResult t moved path)
+    → IfOk result (λ s. (above : Path) → LeadsToPair next.pairs above first → IsVisibleEntry next.pairs moved (above ++ n ∷ []) s) → (path : Path) → path ≡ above ++ n ∷ []
+    → parents_refusal (disk_tree t.disk t.pairs) [] (above ++ n ∷ []) ≡ None → IfOk result (IsHiddenResult t moved path)
 showed_in t next moved r above n first (Err e) on answer path is fault = tt
 showed_in t next moved r above n first (Ok s) on answer path is fault =
-    subst (λ p. IsHiddenResult t moved p s) (sym is) (shows_there t moved (above ++ n ∷ []) s fault (subst (λ ps. IsBelowRoot ps moved (above ++ n ∷ []) s) r.pairs (answer above (begins_same t next r above first on))))
+    subst (λ p. IsHiddenResult t moved p s) (sym is) (shows_there t moved (above ++ n ∷ []) s fault (subst (λ ps. IsVisibleEntry ps moved (above ++ n ∷ []) s) r.pairs (answer above (begins_same t next r above first on))))
 
 pub hiding_same : (a b : KeptThread) (moved : Option SlotPosition) → OnlyReadsThread a b → HidesMovedSlot a moved → HidesMovedSlot b moved
 hiding_same a b moved r h = record {

@@ -2,24 +2,8 @@
 use Rattle.std.proofs.Common.{ℕ, zero, suc, ◌≡◌, ◌<◌, ◌≤◌, ◌+◌, ◌∙◌, Bool, true, false, cond, List, [], ◌∷◌, ◌++◌, length, map, flat_map, take, drop, get_or, slice_get, Option, Some, None, refl, sym, ap, ap₂, subst, arith, append_assoc, nat_eq}
 use Rattle.std.specs.Prelude.{IfNone, IfSome, IsSome}
 use Rattle.std.specs.List.{IsDistinct}
-use Rattle.std.proofs.lemmas.List.{map-append}
-use Rattle.std.proofs.Math.Seq.{drop-append_seam}
-use Rattle.std.proofs.lemmas.Option.{same_Some, slice_get_within}
-use Rattle.lfs_model.specs.crash.Frame.{directory_pairs}
-use Rattle.lfs_model.specs.format.Disk.{Disk}
-use Rattle.lfs_model.specs.format.Slots.{Gstate, same_pair}
-use Rattle.lfs_model.specs.format.Thread.{Pair, blocks_of_pairs, pair_directories, pairs_from_root, directory_slots, pairs_gstate, is_hard_tail, pair_count_before_root, unmoved_entries}
-use Rattle.lfs_model.specs.tree.Tree.{Path}
-use Rattle.lfs_model.specs.tree.View.{IsAccepted}
-use Rattle.lfs_model.specs.tree.Shown.{LeadsTo, all_entries}
-use Rattle.lfs_model.specs.session.InDirectory.{IsPairAt, joined_count}
-use Rattle.lfs_model.proofs.Counts.{Each}
-use Rattle.lfs_model.proofs.Pairs.{pair_back, pair_on}
-use Rattle.lfs_model.proofs.Listings.{Apart, IsRun, distinct_apart, distinct_right, entries_own, listing, run_directories}
-use Rattle.lfs_model.proofs.Searches.{pairs_at, same_number}
-use Rattle.lfs_model.proofs.Found.{HasDirectory, chain_of_thread, led_directory}
-use Rattle.lfs_lookup.specs.Items.{NamedStruct, named_struct}
-use Rattle.lfs_lookup.specs.Listed.{joined_pairs, joined_count_from, joined_pairs_from, pair_entries_from}
+use Rattle.lfs_lookup.proofs.Common.{map-append, drop-append_seam, same_Some, slice_get_within, directory_pairs, Disk, Gstate, same_pair, Pair, pairs_blocks, pair_directories, pairs_from_root, directory_slots, pairs_gstate, is_hard_tail, count_before_root, unmoved_entries, Path, IsAccepted, LeadsTo, all_entries, IsPairAt, joined_count, Each, pair_back, pair_on, Apart, IsRun, distinct_apart, distinct_right, entries_own, listing, run_directories, same_number, HasDirectory, chain_of_thread, led_directory, NamedStruct, named_struct, joined_pairs, joined_count_from, joined_pairs_from, pair_entries_from}
+use Rattle.lfs_model.proofs.Searches.{pairs_at}
 
 -- ---- along the hard tails
 
@@ -132,10 +116,10 @@ cut_at disk ps P a ok leads =
     let d = led_directory disk ps P a ok leads in
     let c = chain_of_thread ps in
     record {
-      chain = take (pair_count_before_root ps) ps;
+      chain = take (count_before_root ps) ps;
       directory = d;
       first_is = c.0;
-      is = c.0 ∙ ap (λ z. take (pair_count_before_root ps) ps ++ z) d.is ∙ sym (append_assoc (take (pair_count_before_root ps) ps) d.before (d.first ∷ d.run ++ d.after));
+      is = c.0 ∙ ap (λ z. take (count_before_root ps) ps ++ z) d.is ∙ sym (append_assoc (take (count_before_root ps) ps) d.before (d.first ∷ d.run ++ d.after));
     }
 
 -- the directory begins with a pair of the thread
@@ -185,7 +169,7 @@ own_run disk ps P a n ok leads b =
     directories_are = ap (pair_directories g) d.is ∙ run_directories g d.before d.first d.run d.after d.ends d.is_run
 
     apart : Apart (pair_directories g d.before ++ listing d.first.at (flat_map (unmoved_entries g) (d.first ∷ d.run)) ∷ pair_directories g d.after)
-    apart = subst Apart directories_are (distinct_apart g (pairs_from_root ps) (distinct_right c.chain (pairs_from_root ps) (subst (λ z. IsDistinct nat_eq (blocks_of_pairs z)) c.first_is ok.thread.distinct)))
+    apart = subst Apart directories_are (distinct_apart g (pairs_from_root ps) (distinct_right c.chain (pairs_from_root ps) (subst (λ z. IsDistinct nat_eq (pairs_blocks z)) c.first_is ok.thread.distinct)))
 
 pub own_shapes : (disk : Disk) (ps : List Pair) (P : Path) (a : ℕ × ℕ) (n : ℕ) → IsAccepted disk ps → LeadsTo ps P a → IsPairAt ps a n →
     pair_entries_from ps (Some n) ≡ map named_struct (all_entries ps a)

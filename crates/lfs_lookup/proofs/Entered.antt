@@ -1,35 +1,20 @@
 -- From a directory on a path to what one of its names leads to.
 use Rattle.std.proofs.Common.{refl, ℕ, ◌≡◌, ◌+◌, false, List, [], ◌∷◌, ◌++◌, drop, Option, Some, None, sym, ap, subst, ◌∙◌, arith, rules}
 use Rattle.std.specs.Prelude.{IfNone, IsSome}
-use Rattle.std.specs.List.{AllByRecursion}
-use Rattle.std.specs.Option.{option_and_then, option_map}
-use Rattle.lfs_model.specs.session.InDirectory.{BelongsAt, AreEntryPairs, IsPlaceOf}
-use Rattle.lfs_model.specs.format.Names.{Name}
-use Rattle.lfs_model.specs.session.Operations.{NoEnt, NotDir}
-use Rattle.lfs_model.specs.session.Session.{directory_refusal}
-use Rattle.lfs_model.specs.session.SlotEdits.{slot_of}
-use Rattle.lfs_model.specs.format.Slots.{Slot, Branch, same_pair, zero_gstate}
-use Rattle.lfs_model.specs.format.Thread.{Pair, pairs_from_root}
-use Rattle.lfs_model.specs.tree.Tree.{Path, branch_address, struct_node}
-use Rattle.lfs_model.specs.tree.View.{IsAccepted}
-use Rattle.lfs_model.specs.tree.Shown.{LeadsTo, struct_list_bytes, all_entries, tree_on_disk}
+use Rattle.lfs_lookup.proofs.Common.{AllByRecursion, option_and_then, option_map, BelongsAt, HaveNoSuperblock, IsPlaceOf, Name, NoEnt, NotDir, directory_refusal, slot_of, Slot, Branch, same_pair, Pair, pairs_from_root, Path, branch_address, struct_node, IsAccepted, LeadsTo, struct_list_bytes, all_entries, disk_tree, each_right, chain_of_thread, led_directory, begins_directory, plain_behind, KeptThread, IsStorage, LeadsToPair, HidesMovedSlot, HidesFrom, IsAbsent, IsNameAt}
+use Rattle.lfs_model.specs.format.Slots.{zero_gstate}
 use Rattle.lfs_model.proofs.Committed.{no_move_from}
-use Rattle.lfs_model.proofs.Counts.{each_right}
-use Rattle.lfs_model.proofs.Found.{chain_of_thread, led_directory}
 use Rattle.lfs_model.proofs.Indexes.{nothing_there}
-use Rattle.lfs_model.proofs.Searches.{begins_directory, place_of_belongs, plain_behind, slot_of_stands}
-use Rattle.lfs_thread.specs.Kept.{KeptThread}
-use Rattle.lfs_lookup.specs.Entry.{IsStorage}
+use Rattle.lfs_model.proofs.Searches.{place_of_belongs, slot_of_stands}
 use Rattle.lfs_lookup.specs.declared.entry.FileStorage.{FileStorage}
 use Rattle.lfs_lookup.specs.declared.entry.FileStorage.TheVariants as contents
-use Rattle.lfs_lookup.specs.LookupPaths.{LeadsToPair, HidesMovedSlot, IsSettled}
-use Rattle.lfs_lookup.specs.NameSearch.{HidesFrom, IsAbsent, IsNameAt}
+use Rattle.lfs_lookup.specs.LookupPaths.{IsAcceptedRecovered}
 use Rattle.lfs_lookup.specs.declared.entry.FileOrDirectory.{FileOrDirectory}
 use Rattle.lfs_lookup.specs.declared.search.SlotPosition.{SlotPosition}
 use Rattle.lfs_lookup.proofs.ShownSlots.{shown_is, absent_is_shown}
 
-module _ (t : KeptThread) (ok : IsSettled t) (path : Path) (first : ℕ) (on : LeadsToPair t.pairs path first) where
-  pub plain_on : AreEntryPairs (drop (first + 1) t.pairs)
+module _ (t : KeptThread) (ok : IsAcceptedRecovered t) (path : Path) (first : ℕ) (on : LeadsToPair t.pairs path first) where
+  pub plain_on : HaveNoSuperblock (drop (first + 1) t.pairs)
   plain_on =
       let i = begins_directory t.disk t.pairs path on.at first ok.accepted on.leads on.begins in
       plain_behind t.disk t.pairs first ok.accepted (let n = i.number in omega (arith, n))
@@ -68,14 +53,14 @@ module _ (t : KeptThread) (path : Path) (slot : Slot) (is : slot_of t.pairs path
   pub leads_by : (to : ℕ × ℕ) → slot.struct ≡ Branch to → LeadsTo t.pairs path to
   leads_by to e = ap (option_and_then (λ (f : Slot). branch_address f.struct)) is ∙ ap branch_address e
 
-  node_by : tree_on_disk t.disk t.pairs path ≡ Some (struct_node (struct_list_bytes t.disk) (all_entries t.pairs) slot.attributes slot.struct)
+  node_by : disk_tree t.disk t.pairs path ≡ Some (struct_node (struct_list_bytes t.disk) (all_entries t.pairs) slot.attributes slot.struct)
   node_by = ap (option_map (λ (f : Slot). struct_node (struct_list_bytes t.disk) (all_entries t.pairs) f.attributes f.struct)) is
 
-  pub file_by : (contents : FileStorage) → IsStorage contents slot.struct → directory_refusal (tree_on_disk t.disk t.pairs path) ≡ Some NotDir
+  pub file_by : (contents : FileStorage) → IsStorage contents slot.struct → directory_refusal (disk_tree t.disk t.pairs path) ≡ Some NotDir
   file_by (contents.Inline len) shows = ap directory_refusal (node_by ∙ ap (λ z. Some (struct_node (struct_list_bytes t.disk) (all_entries t.pairs) slot.attributes z)) shows.1.0)
   file_by (contents.List head size) shows = ap directory_refusal (node_by ∙ ap (λ z. Some (struct_node (struct_list_bytes t.disk) (all_entries t.pairs) slot.attributes z)) shows)
 
-pub nothing_by : (t : KeptThread) (path : Path) → slot_of t.pairs path ≡ None → directory_refusal (tree_on_disk t.disk t.pairs path) ≡ Some NoEnt
+pub nothing_by : (t : KeptThread) (path : Path) → slot_of t.pairs path ≡ None → directory_refusal (disk_tree t.disk t.pairs path) ≡ Some NoEnt
 nothing_by t path is = ap directory_refusal (ap (option_map (λ (f : Slot). struct_node (struct_list_bytes t.disk) (all_entries t.pairs) f.attributes f.struct)) is)
 
 -- ---- where a slot counts as deleted
@@ -93,5 +78,5 @@ hides_none : (index : ℕ) (ps : List Pair) → HidesFrom zero_gstate None index
 hides_none index [] = tt
 hides_none index (p ∷ ps) = (refl, hides_none (index + 1) ps)
 
-pub hiding_none : (t : KeptThread) → IsSettled t → HidesMovedSlot t None
+pub hiding_none : (t : KeptThread) → IsAcceptedRecovered t → HidesMovedSlot t None
 hiding_none t ok = record { accepted = ok.accepted; hides = subst (λ g. HidesFrom g None 0 t.pairs) (sym ok.settled) (hides_none 0 t.pairs) }

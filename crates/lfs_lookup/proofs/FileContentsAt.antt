@@ -1,16 +1,7 @@
 -- The contents of the file at a path.
 use Rattle.std.proofs.Common.{ℕ, ◌≡◌, ◌∙◌, ◌<◌, ◌^◌, List, length, take, drop, Some, sym, ap, subst, arith}
-use Rattle.std.specs.Option.{option_map}
-use Rattle.lfs_model.specs.session.SlotEdits.{slot_of}
-use Rattle.lfs_model.specs.format.Slots.{Slot}
-use Rattle.std.proofs.lemmas.List.{take_all}
-use Rattle.lfs_model.specs.format.Thread.{Pair}
-use Rattle.lfs_model.specs.tree.Tree.{Path}
+use Rattle.lfs_lookup.proofs.Common.{option_map, slot_of, Slot, take_all, Pair, Path, ThreadView, cached_log, IsFoundCached, spot_and_storage}
 use Rattle.std.specs.Prelude.{IsSome}
-use Rattle.lfs_thread.specs.Kept.{ThreadView}
-use Rattle.lfs_thread.specs.CachedLog.{cached_log}
-use Rattle.lfs_lookup.specs.AttributeAt.{IsFoundCached}
-use Rattle.lfs_lookup.specs.BytesAt.{spot_and_storage}
 use Rattle.lfs_lookup.specs.FileContents.{IsStorageAt, AreStructContents}
 use Rattle.lfs_lookup.specs.declared.entry.FileStorage.{FileStorage}
 use Rattle.lfs_lookup.specs.declared.paths.VisiblePathLookup.{VisiblePathLookup}

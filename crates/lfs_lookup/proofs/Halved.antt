@@ -1,20 +1,9 @@
 -- A search by halves among the pairs of a directory: what is known of the pairs before and behind those that are left.
 use Rattle.std.proofs.Common.{ℕ, zero, suc, ◌≡◌, ◌≢◌, ◌⊎◌, inl, inr, ◌+◌, ◌-◌, ◌<◌, ◌≤◌, Bool, true, false, cond, not, List, [], ◌∷◌, ◌++◌, length, take, drop, refl, sym, ap, ap₂, subst, ◌∙◌, arith, append_assoc, append-nil, length-append, get_or, Less}
-use Rattle.std.specs.List.{AllByRecursion}
-use Rattle.std.proofs.lemmas.List.{get_or_append_left, get_or-drop, length-take, take-append-drop}
-use Rattle.std.proofs.lemmas.List.Concat.{flat_map-append}
-use Rattle.std.proofs.lemmas.List.Elements.{filter-append}
-use Rattle.std.proofs.Math.Seq.{drop-append_seam}
+use Rattle.lfs_lookup.proofs.Common.{AllByRecursion, get_or-drop, length-take, take-append-drop, flat_map-append, filter-append, drop-append_seam, BelongsAt, FirstIsGreater, HaveNoSuperblock, HasHardTail, BelongsAtId, AreJoined, IsPlaceOf, HasName, entry_slots, last_joins, joined_count, all_slots, Name, name_cmp, Slot, is_superblock, Pair, is_hard_tail, starts_superblock, each_left, each_right, IsStructEntry, EndsWithoutTail, joined_pairs}
+use Rattle.std.proofs.lemmas.List.{get_or_append_left}
 use Rattle.lfs_model.specs.declared.order.NameOrder.{NameOrder}
-use Rattle.lfs_model.specs.session.InDirectory.{BelongsAt, FirstIsGreater, AreEntryPairs, HasHardTail, BelongsAtId, AreJoined, IsPlaceOf, HasName, entry_slots, last_joins, joined_count, all_slots}
-use Rattle.lfs_model.specs.format.Names.{Name, name_cmp}
-use Rattle.lfs_model.specs.format.Slots.{Slot, is_superblock}
-use Rattle.lfs_model.specs.format.Thread.{Pair, is_hard_tail, starts_superblock}
-use Rattle.lfs_model.proofs.Counts.{each_left, each_right}
-use Rattle.lfs_lookup.specs.Entry.{IsStructEntry}
 use Rattle.lfs_lookup.specs.declared.entry.FileOrDirectory.{FileOrDirectory}
-use Rattle.lfs_lookup.specs.Halves.{EndsWithoutTail}
-use Rattle.lfs_lookup.specs.Listed.{joined_pairs}
 use Rattle.lfs_lookup.proofs.Directories.{run_hard_on, run_on as run_here_on}
 use Rattle.lfs_lookup.proofs.Walked.{at_index, run_some}
 
@@ -121,11 +110,11 @@ abbrev IsPlain : Pair → Type 0
 IsPlain p = AllByRecursion (λ s. is_superblock s ≡ false) p.content.slots
 
 -- a pair behind the directory's first one has no superblock
-plain_at : (ps : List Pair) (first : ℕ) (x : Pair) (left : List Pair) (q : Pair) (behind : List Pair) → AreEntryPairs (drop (first + 1) ps) → joined_pairs (drop first ps) ≡ x ∷ (left ++ q ∷ behind) → IsPlain q
+plain_at : (ps : List Pair) (first : ℕ) (x : Pair) (left : List Pair) (q : Pair) (behind : List Pair) → HaveNoSuperblock (drop (first + 1) ps) → joined_pairs (drop first ps) ≡ x ∷ (left ++ q ∷ behind) → IsPlain q
 plain_at ps first x left q behind plain e =
     let part = run_part (drop first ps) in
     let is = drop_more first ps x ((left ++ q ∷ behind) ++ part.0) (part.1 ∙ ap (λ z. z ++ part.0) e) in
-    (each_right IsPlain left (q ∷ behind) (each_left IsPlain (left ++ q ∷ behind) part.0 (subst AreEntryPairs is plain))).0
+    (each_right IsPlain left (q ∷ behind) (each_left IsPlain (left ++ q ∷ behind) part.0 (subst HaveNoSuperblock is plain))).0
 
 -- slots without a superblock that aren't none have an entry
 some_entries : (left right : List Slot) → AllByRecursion (λ s. is_superblock s ≡ false) (left ++ right) → 0 < length left → entry_slots left ≢ []
@@ -135,7 +124,7 @@ some_entries (s ∷ left) right plain l e =
     absurd (cc)
 
 -- the pair is the directory's first, or these slots of it have an entry
-not_before_here : (ps : List Pair) (first index : ℕ) (q : Pair) (a : IsAt (joined_pairs (drop first ps)) first index q) → AreEntryPairs (drop (first + 1) ps) → (left right : List Slot) → q.content.slots ≡ left ++ right
+not_before_here : (ps : List Pair) (first index : ℕ) (q : Pair) (a : IsAt (joined_pairs (drop first ps)) first index q) → HaveNoSuperblock (drop (first + 1) ps) → (left right : List Slot) → q.content.slots ≡ left ++ right
     → (index ≡ first) ⊎ (0 < length left) → (a.before ≡ []) ⊎ (entry_slots left ≢ [])
 not_before_here ps first index q a plain left right held why = go a.before a.parts a.number why
   where
@@ -222,7 +211,7 @@ module _ (by : NameOrder) (ps : List Pair) (first : ℕ) (name : Name) (index : 
   )
 
   -- all its names are less
-  pub passes : (plain : AreEntryPairs (drop (first + 1) ps)) (id : ℕ) → BelongsAtId by q.content.slots name id → (index ≡ first) ⊎ (0 < id) → length q.content.slots ≤ id → HasLess by run first name index id (index + 1)
+  pub passes : (plain : HaveNoSuperblock (drop (first + 1) ps)) (id : ℕ) → BelongsAtId by q.content.slots name id → (index ≡ first) ⊎ (0 < id) → length q.content.slots ≤ id → HasLess by run first name index id (index + 1)
   passes plain id pl why all =
       let none = nothing_behind q.content.slots pl.left pl.right pl.held (let n = pl.number in omega arith) in
       let is : q.content.slots ≡ pl.left = pl.held ∙ ap (λ z. pl.left ++ z) none ∙ append-nil pl.left in
@@ -272,7 +261,7 @@ module _ (by : NameOrder) (ps : List Pair) (first : ℕ) (name : Name) (index : 
       go (inr b) = subst (λ z. FirstIsGreater by name (entry_slots z)) (sym is) b
 
   -- the name belongs here, before one of its slots
-  pub belongs_inside : (below : first < length ps) (plain : AreEntryPairs (drop (first + 1) ps)) (id : ℕ) → BelongsAtId by q.content.slots name id → (index ≡ first) ⊎ (0 < id) → id < length q.content.slots → BelongsAt by ps first name index id
+  pub belongs_inside : (below : first < length ps) (plain : HaveNoSuperblock (drop (first + 1) ps)) (id : ℕ) → BelongsAtId by q.content.slots name id → (index ≡ first) ⊎ (0 < id) → id < length q.content.slots → BelongsAt by ps first name index id
   belongs_inside below plain id pl why some = record {
     pair = q;
     later = [];

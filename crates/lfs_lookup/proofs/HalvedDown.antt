@@ -1,36 +1,26 @@
 -- How often look-ups by halves read, down the directories of a path.
 use Rattle.std.proofs.Common.{ℕ, ◌≡◌, ◌+◌, ◌≤◌, [], ◌∷◌, ◌++◌, length, take, drop, slice_get, Some, sym, ap, subst, ◌∙◌, arith}
 use Rattle.std.specs.Prelude.{sum_by}
-use Rattle.std.proofs.lemmas.List.{take-append-drop}
-use Rattle.lfs_model.specs.crash.Frame.{ancestor_paths}
-use Rattle.lfs_model.specs.session.History.{read_count}
-use Rattle.lfs_model.specs.format.Names.{Name}
-use Rattle.lfs_model.specs.tree.Tree.{Path}
-use Rattle.lfs_model.specs.tree.View.{IsAccepted}
-use Rattle.lfs_model.proofs.Counts.{each_left, each_right}
-use Rattle.lfs_thread.specs.Kept.{ThreadView}
-use Rattle.lfs_thread.specs.ThreadSteps.{OnlyReadsThread}
-use Rattle.lfs_lookup.specs.CachedPairs.{pairs_at}
-use Rattle.lfs_lookup.specs.Halves.{HasSlotPerPair, HasSlotsOnPaths, ReadsBinarySearches, ReadsBinarySearch, all_halvings, pairs_halvings}
-use Rattle.lfs_lookup.specs.LookupPaths.{LeadsToPair}
+use Rattle.lfs_lookup.proofs.Common.{take-append-drop, ancestor_paths, read_count, Name, Path, IsAccepted, each_left, each_right, ThreadView, OnlyReadsThread, pairs_at, HaveSlots, PathsHaveSlots, ReadsBinarySearches, halving_count, pairs_halvings, LeadsToPair}
+use Rattle.lfs_lookup.specs.Halves.{ReadsBinarySearch}
 use Rattle.lfs_lookup.proofs.Descended.{few_same, parents_on, sum_is, sum_more, sum_on, take_on, take_whole}
 use Rattle.lfs_lookup.proofs.LoadedDown.{parent_at, run_same}
 
 -- one directory more
 one_more : (old now new : ThreadView) (path : Path) (first : ℕ) → IsAccepted old.kept.disk old.kept.pairs → OnlyReadsThread old.kept now.kept → LeadsToPair old.kept.pairs path first
-    → HasSlotPerPair (pairs_at old.kept.pairs path) → ReadsBinarySearch now new first → read_count new.kept.history ≤ read_count now.kept.history + pairs_halvings old.kept.pairs path
+    → HaveSlots (pairs_at old.kept.pairs path) → ReadsBinarySearch now new first → read_count new.kept.history ≤ read_count now.kept.history + pairs_halvings old.kept.pairs path
 one_more old now new path first ok only on slots by =
-    let k = by (subst HasSlotPerPair (sym (run_same old.kept now.kept path first ok only on)) slots) in
-    let e = ap all_halvings (few_same old.kept now.kept ok only path first on) in
+    let k = by (subst HaveSlots (sym (run_same old.kept now.kept path first ok only on)) slots) in
+    let e = ap halving_count (few_same old.kept now.kept ok only path first on) in
     omega (arith, k, e)
 
 module _ (old now new : ThreadView) (path : Path) (i first : ℕ) (n : Name) (ok : IsAccepted old.kept.disk old.kept.pairs) (only : OnlyReadsThread old.kept now.kept) (on : LeadsToPair old.kept.pairs (take i path) first)
-    (at : slice_get path i ≡ Some n) (slots : HasSlotsOnPaths old.kept.pairs (ancestor_paths path))
+    (at : slice_get path i ≡ Some n) (slots : PathsHaveSlots old.kept.pairs (ancestor_paths path))
     (before : read_count now.kept.history ≤ read_count old.kept.history + sum_by (pairs_halvings old.kept.pairs) (ancestor_paths (take i path))) (by : ReadsBinarySearch now new first) where
   pub halved_step : read_count new.kept.history ≤ read_count old.kept.history + sum_by (pairs_halvings old.kept.pairs) (ancestor_paths (take (i + 1) path))
   halved_step =
       let f = pairs_halvings old.kept.pairs in
-      let k = one_more old now new (take i path) first ok only on (parent_at (λ p. HasSlotPerPair (pairs_at old.kept.pairs p)) path i n at slots) by in
+      let k = one_more old now new (take i path) first ok only on (parent_at (λ p. HaveSlots (pairs_at old.kept.pairs p)) path i n at slots) by in
       let sum : sum_by (pairs_halvings old.kept.pairs) (ancestor_paths (take (i + 1) path)) ≡ sum_by (pairs_halvings old.kept.pairs) (ancestor_paths (take i path)) + pairs_halvings old.kept.pairs (take i path) =
       ap (λ p. sum_by (pairs_halvings old.kept.pairs) (ancestor_paths p)) (take_on path i n at) ∙ sum_on (pairs_halvings old.kept.pairs) (take i path) n in
       omega (arith, k, sum, before)
@@ -51,19 +41,19 @@ halved_end old now path i l k =
 -- ---- the last name of a path
 
 module _ (old mid : ThreadView) (path above : Path) (name : Name) (is : path ≡ above ++ name ∷ []) (by : ReadsBinarySearches old mid (ancestor_paths above)) where
-  both_slots : HasSlotsOnPaths old.kept.pairs (ancestor_paths path) → HasSlotsOnPaths old.kept.pairs (ancestor_paths above ++ above ∷ [])
-  both_slots slots = subst (HasSlotsOnPaths old.kept.pairs) (ap ancestor_paths is ∙ parents_on above name) slots
+  both_slots : PathsHaveSlots old.kept.pairs (ancestor_paths path) → PathsHaveSlots old.kept.pairs (ancestor_paths above ++ above ∷ [])
+  both_slots slots = subst (PathsHaveSlots old.kept.pairs) (ap ancestor_paths is ∙ parents_on above name) slots
 
   pub halved_short : ReadsBinarySearches old mid (ancestor_paths path)
   halved_short slots =
-      let k = by (each_left (λ p. HasSlotPerPair (pairs_at old.kept.pairs p)) (ancestor_paths above) (above ∷ []) (both_slots slots)) in
+      let k = by (each_left (λ p. HaveSlots (pairs_at old.kept.pairs p)) (ancestor_paths above) (above ∷ []) (both_slots slots)) in
       let s = sum_is (pairs_halvings old.kept.pairs) path above name is in
       omega (arith, k, s)
 
   pub halved_last : (new : ThreadView) (first : ℕ) → IsAccepted old.kept.disk old.kept.pairs → OnlyReadsThread old.kept mid.kept → LeadsToPair old.kept.pairs above first → ReadsBinarySearch mid new first → ReadsBinarySearches old new (ancestor_paths path)
   halved_last new first ok only on last slots =
-      let k = by (each_left (λ p. HasSlotPerPair (pairs_at old.kept.pairs p)) (ancestor_paths above) (above ∷ []) (both_slots slots)) in
-      let here = (each_right (λ p. HasSlotPerPair (pairs_at old.kept.pairs p)) (ancestor_paths above) (above ∷ []) (both_slots slots)).0 in
+      let k = by (each_left (λ p. HaveSlots (pairs_at old.kept.pairs p)) (ancestor_paths above) (above ∷ []) (both_slots slots)) in
+      let here = (each_right (λ p. HaveSlots (pairs_at old.kept.pairs p)) (ancestor_paths above) (above ∷ []) (both_slots slots)).0 in
       let m = one_more old mid new above first ok only on here last in
       let s = sum_is (pairs_halvings old.kept.pairs) path above name is in
       omega (arith, k, m, s)

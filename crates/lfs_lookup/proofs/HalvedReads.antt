@@ -1,15 +1,10 @@
 -- How often a search by halves reads, and what it leaves in the cache.
 use Rattle.std.proofs.Common.{ℕ, zero, suc, ◌≡◌, ◌+◌, ◌-◌, ◌*◌, ◌/◌, ◌^◌, ◌<◌, ◌≤◌, List, [], ◌∷◌, ◌++◌, length, Result, Ok, refl, sym, ap, subst, ◌∙◌, arith, length-append}
 use Rattle.std.specs.Prelude.{OnOk}
-use Rattle.std.specs.List.{AllByRecursion}
+use Rattle.lfs_lookup.proofs.Common.{AllByRecursion, Pair, each_right, active_block_at, ThreadView, ArePairsCached, KeepsCachedPairs, IsMovedFirst, HaveSlots, halving_count}
 use Rattle.std.proofs.Math.Nat.{mul-div-le, lt-div-mul-add, pow-succ'}
 use Rattle.lfs_device.specs.declared.error.Error.{Error}
-use Rattle.lfs_model.specs.format.Thread.{Pair}
-use Rattle.lfs_model.proofs.Counts.{each_right}
-use Rattle.lfs_pair.specs.Pair.{active_block_at}
-use Rattle.lfs_thread.specs.Kept.{ThreadView}
-use Rattle.lfs_lookup.specs.CachedPairs.{ArePairsCached, ReadsNothingAndKeepsPairsWhereAllCached, IsMovedToFront}
-use Rattle.lfs_lookup.specs.Halves.{HasSlotPerPair, halvings_within, all_halvings}
+use Rattle.lfs_lookup.specs.Halves.{halvings_within}
 use Rattle.lfs_lookup.proofs.Halved.{IsAt}
 use Rattle.lfs_lookup.proofs.RecentBlocks.{HasBrought, HasKept, Passes, kept_none, loads_to_here, on_ok}
 
@@ -34,7 +29,7 @@ halved_power (suc steps) (suc n) l =
     let p = ap (λ (e : ℕ). 2 ^ e) one in
     omega (arith, h.1, k, t, p)
 
-pub power_of_halvings : (n : ℕ) → n < 2 ^ all_halvings n
+pub power_of_halvings : (n : ℕ) → n < 2 ^ halving_count n
 power_of_halvings n = halved_power n n (omega arith)
 
 -- So many pairs are left, and they can be halved so often that the reads until then and these are no more than allowed.
@@ -43,8 +38,8 @@ pub record HasHalved (allowed before now size : ℕ) : Type 0 where
   pub fits : size < 2 ^ left
   pub spent : now + left ≤ before + allowed
 
-pub halved_none : (before n : ℕ) → HasHalved (all_halvings n) before before n
-halved_none before n = record { left = all_halvings n; fits = power_of_halvings n; spent = omega arith }
+pub halved_none : (before n : ℕ) → HasHalved (halving_count n) before before n
+halved_none before n = record { left = halving_count n; fits = power_of_halvings n; spent = omega arith }
 
 pub halved_on : (allowed before now later size half : ℕ) → HasHalved allowed before now size → 0 < size → half ≤ size / 2 → later ≤ now + 1 → HasHalved allowed before later half
 halved_on allowed before now later size half h some small once = go h.left h.fits h.spent
@@ -76,15 +71,15 @@ pub middle_below : (low high : ℕ) → low < high → low + (high - low) / 2 < 
 middle_below low high l = let h = halves_of (high - low) in omega (arith, h.0)
 
 -- a pair of a directory whose pairs all have slots
-pub has_slot : (run : List Pair) (first index : ℕ) (q : Pair) → IsAt run first index q → HasSlotPerPair run → 0 < length q.content.slots
-has_slot run first index q a slots = (each_right (λ (p : Pair). 0 < length p.content.slots) a.before (q ∷ a.behind) (subst HasSlotPerPair a.parts slots)).0
+pub has_slot : (run : List Pair) (first index : ℕ) (q : Pair) → IsAt run first index q → HaveSlots run → 0 < length q.content.slots
+has_slot run first index q a slots = (each_right (λ (p : Pair). 0 < length p.content.slots) a.before (q ∷ a.behind) (subst HaveSlots a.parts slots)).0
 
 -- ---- what is cached
 
 -- A directory of one pair is still to be looked at, or its pair is loaded.
 pub data IsLone (run : List Pair) (first low high : ℕ) (old now : ThreadView) : Type 0 where
   waits : low ≡ first → first < high → now.cache ≡ old.cache → IsLone run first low high old now
-  done : high ≤ low → AllByRecursion (λ p. IsMovedToFront (active_block_at old.kept.disk p.at) old.cache now.cache) run → IsLone run first low high old now
+  done : high ≤ low → AllByRecursion (λ p. IsMovedFirst (active_block_at old.kept.disk p.at) old.cache now.cache) run → IsLone run first low high old now
 
 pub record HasLoaded (run : List Pair) (first low high : ℕ) (old now : ThreadView) : Type 0 where
   pub kept : HasKept run run old now
@@ -94,7 +89,7 @@ pub loaded_nothing : (run : List Pair) (first high : ℕ) (old : ThreadView) →
 loaded_nothing run first high old some = record { kept = kept_none run old; lone = λ e. waits refl some refl }
 
 module _ {X : Type 0} (run : List Pair) (first low high index : ℕ) (q : Pair) (old now new : ThreadView) (r : Result X Error) (a : IsAt run first index q) (h : HasLoaded run first low high old now) (some : low < high)
-    (b : ReadsNothingAndKeepsPairsWhereAllCached (q ∷ []) now new r) where
+    (b : KeepsCachedPairs (q ∷ []) now new r) where
   -- it is one of them, and where there is one alone it is still to be loaded
   brought_to : HasBrought run (q ∷ []) old now
   brought_to = record {
@@ -123,7 +118,7 @@ module _ {X : Type 0} (run : List Pair) (first low high index : ℕ) (q : Pair) 
           a.parts ∙ ap (λ z. z ++ q ∷ a.behind) before ∙ ap (λ z. q ∷ z) behind
 
   -- the search ends here
-  pub loads_here : {Y : Type 0} (s : Result Y Error) → Passes r s → ReadsNothingAndKeepsPairsWhereAllCached run old new s
+  pub loads_here : {Y : Type 0} (s : Result Y Error) → Passes r s → KeepsCachedPairs run old new s
   loads_here s pass = loads_to_here run (q ∷ []) [] q old now new r brought_to refl b s pass
 
   -- or goes on
@@ -144,7 +139,7 @@ loaded_past run first low high old now h some later = record { kept = h.kept; lo
     go (done l k) = absurd (omega arith)
 
 -- it ends where none is left
-pub loads_all : {X : Type 0} (run : List Pair) (first low high : ℕ) (old now : ThreadView) (s : Result X Error) (x : X) → s ≡ Ok x → HasLoaded run first low high old now → high ≤ low → ReadsNothingAndKeepsPairsWhereAllCached run old now s
+pub loads_all : {X : Type 0} (run : List Pair) (first low high : ℕ) (old now : ThreadView) (s : Result X Error) (x : X) → s ≡ Ok x → HasLoaded run first low high old now → high ≤ low → KeepsCachedPairs run old now s
 loads_all {X = X} run first low high old now s x is h none = record {
   none = h.kept.none;
   stay = λ there. back _ (h.kept.stay there);
@@ -154,6 +149,6 @@ loads_all {X = X} run first low high old now s x is h none = record {
     back : (P : Type 0) → P → OnOk s P
     back P p = subst (λ (z : Result X Error). OnOk z P) (sym is) p
 
-    go : IsLone run first low high old now → AllByRecursion (λ p. IsMovedToFront (active_block_at old.kept.disk p.at) old.cache now.cache) run
+    go : IsLone run first low high old now → AllByRecursion (λ p. IsMovedFirst (active_block_at old.kept.disk p.at) old.cache now.cache) run
     go (waits e f k) = absurd (omega arith)
     go (done l k) = k

@@ -1,14 +1,7 @@
 -- Which slot counts as deleted, by the number of its pair.
 use Rattle.std.proofs.Common.{ℕ, zero, suc, ◌≡◌, ◌+◌, ◌==◌, ◌&&◌, Bool, true, false, cond, List, [], ◌∷◌, Option, Some, None, refl, sym, ap, ap₂, subst, ◌∙◌, arith, slice_get, nat_eq}
-use Rattle.std.specs.List.{AllByRecursion, IsDistinct}
-use Rattle.std.proofs.lemmas.Option.{same_Some}
-use Rattle.std.proofs.lemmas.Bool.{ne_eqb, false_from_ne_true}
-use Rattle.lfs_model.specs.session.InDirectory.{IsPairAt}
-use Rattle.lfs_model.specs.format.Slots.{Gstate, same_pair}
-use Rattle.lfs_model.specs.format.Thread.{Pair, blocks_of_pairs, moved_id}
-use Rattle.lfs_model.proofs.Pairs.{pair_back, pair_on}
-use Rattle.lfs_model.proofs.Searches.{same_number}
-use Rattle.lfs_lookup.specs.NameSearch.{HidesFrom, skipped_id}
+use Rattle.lfs_lookup.proofs.Common.{AllByRecursion, same_Some, ne_eqb, false_from_ne_true, IsPairAt, Gstate, same_pair, Pair, pairs_blocks, moved_id, pair_back, pair_on, same_number, HidesFrom, skipped_id}
+use Rattle.std.specs.List.{IsDistinct}
 use Rattle.lfs_lookup.specs.declared.search.SlotPosition.{SlotPosition}
 use Rattle.lfs_lookup.proofs.NamedSlots.{same_id}
 
@@ -37,7 +30,7 @@ hides_nowhere g ps h = hides_from g None 0 ps (λ k p at.
     let other : same_pair g.pair p.at ≡ false = false_from_ne_true (same_pair g.pair p.at) (λ s. absurd (let b = pair_back g.pair p.at s in cc)) in
     sym (ap (λ b. cond b (Some g.id) None) (both_false (g.kind == 0x4ff) (same_pair g.pair p.at) other)))
 
-pub hides_there : (g : Gstate) (ps : List Pair) (spot : SlotPosition) → (g.kind == 0x4ff) ≡ true → spot.id ≡ g.id → IsDistinct nat_eq (blocks_of_pairs ps) → IsPairAt ps g.pair spot.pair → HidesFrom g (Some spot) 0 ps
+pub hides_there : (g : Gstate) (ps : List Pair) (spot : SlotPosition) → (g.kind == 0x4ff) ≡ true → spot.id ≡ g.id → IsDistinct nat_eq (pairs_blocks ps) → IsPairAt ps g.pair spot.pair → HidesFrom g (Some spot) 0 ps
 hides_there g ps spot kind id distinct begins = hides_from g (Some spot) 0 ps (λ k p at. (let e : 0 + k ≡ k = omega arith in ap (skipped_id (Some spot)) e) ∙ go k p at (same_pair g.pair p.at) refl)
   where
     set : (p : Pair) (b : Bool) → same_pair g.pair p.at ≡ b → moved_id g p ≡ cond b (Some g.id) None

@@ -1,26 +1,11 @@
 -- A directory whose names rise: a name that belongs at a place in it is nowhere in it. In an accepted image names rise.
 use Rattle.std.proofs.Common.{ℕ, zero, suc, ◌≡◌, ◌≢◌, ◌⊎◌, inl, inr, ◌+◌, ◌==◌, ◌&&◌, Bool, true, false, cond, not, List, [], ◌∷◌, ◌++◌, filter, flat_map, take, drop, remove, slice_get, Option, Some, None, refl, sym, ap, ap₂, subst, ◌∙◌, arith, append_assoc, Less}
-use Rattle.std.specs.List.{AllByRecursion}
-use Rattle.std.proofs.lemmas.List.{take-append-drop}
-use Rattle.std.proofs.lemmas.List.Concat.{flat_map-append}
-use Rattle.std.proofs.lemmas.List.Elements.{filter-append}
-use Rattle.std.proofs.lemmas.Option.{same_Some}
-use Rattle.std.proofs.Math.Seq.{drop-append_seam}
+use Rattle.lfs_lookup.proofs.Common.{AllByRecursion, take-append-drop, flat_map-append, filter-append, same_Some, drop-append_seam, FirstIsGreater, BelongsAt, HasHardTail, AreJoined, entry_slots, last_joins, all_slots, Name, name_cmp, Gstate, Slot, is_superblock, same_pair, Pair, pairs_gstate, is_hard_tail, unmoved_entries, moved_id, Path, Each, each_append, each_left, each_right, each_weaker, begins_directory, plain_behind, KeptThread, joined_pairs, LeadsToPair, HidesMovedSlot, HidesFrom, IsAbsent, IsNameAt, FindsInDirectory, skipped_id}
 use Rattle.lfs_model.specs.declared.order.NameOrder.{NameOrder}
-use Rattle.lfs_model.specs.session.InDirectory.{FirstIsGreater, BelongsAt, HasHardTail, AreJoined, entry_slots, last_joins, all_slots}
-use Rattle.lfs_model.specs.format.Names.{Name, name_cmp}
-use Rattle.lfs_model.specs.format.Slots.{Gstate, Slot, is_superblock, same_pair}
-use Rattle.lfs_model.specs.format.Thread.{Pair, pairs_gstate, is_hard_tail, unmoved_entries, moved_id}
-use Rattle.lfs_model.specs.tree.Tree.{Path}
-use Rattle.lfs_model.proofs.Counts.{Each, each_append, each_left, each_right, each_weaker}
 use Rattle.lfs_model.proofs.Indexes.{greater_behind, less_before, rise_right}
 use Rattle.lfs_model.proofs.Names.{Rise}
 use Rattle.lfs_model.proofs.Orders.{less_differs}
-use Rattle.lfs_model.proofs.Searches.{begins_directory, plain_behind}
-use Rattle.lfs_thread.specs.Kept.{KeptThread}
-use Rattle.lfs_lookup.specs.Listed.{joined_pairs}
-use Rattle.lfs_lookup.specs.LookupPaths.{LeadsToPair, HidesMovedSlot}
-use Rattle.lfs_lookup.specs.NameSearch.{HidesFrom, IsAbsent, AreOrdered, IsNameAt, FindsInDirectory, skipped_id}
+use Rattle.lfs_lookup.specs.NameSearch.{AreOrdered}
 use Rattle.lfs_lookup.specs.declared.entry.FileOrDirectory.{FileOrDirectory}
 use Rattle.lfs_lookup.specs.declared.search.NamePositionInDirectory.TheVariants.{Found, Place}
 use Rattle.lfs_lookup.specs.declared.search.SlotPosition.{SlotPosition}

@@ -1,21 +1,18 @@
 -- What the slots of a log show.
 use Rattle.std.proofs.Common.{ℕ, zero, suc, ◌≡◌, ◌<◌, ◌≤◌, ◌∙◌, Bool, true, false, cond, not, List, [], ◌∷◌, ◌++◌, length, map, filter, get_or, remove, Option, Some, None, refl, sym, ap, ap₂, subst, arith}
-use Rattle.std.proofs.lemmas.Option.{same_Some}
-use Rattle.lfs_model.specs.format.Slots.{Slot, is_superblock}
-use Rattle.lfs_model.specs.format.Content.{RawSlot, complete_slots}
-use Rattle.lfs_model.specs.layers.LoggedContent.{IsSlotWellFormed, AreWellFormed}
-use Rattle.lfs_model.proofs.Completed.{complete_parts, complete_remove}
-use Rattle.lfs_lookup.specs.Items.{NamedStruct, optional_entry_list, named_struct, entries_without_moved, raw_entries, entry_unless, slots_except}
+use Rattle.lfs_lookup.proofs.Common.{same_Some, Slot, is_superblock, RawSlot, complete_slots, IsFormedSlot, AreWellFormed, complete_parts, NamedStruct, named_struct, raw_entries, slots_except}
+use Rattle.lfs_model.proofs.Completed.{complete_remove}
+use Rattle.lfs_lookup.specs.Items.{optional_entry_list, entries_without_moved, entry_unless_superblock}
 
 -- ---- parts
 
-parts_of : {X : Type 0} (f : X → RawSlot) (xs : List X) (i : ℕ) (d : X) → AreWellFormed (map f xs) → i < length xs → IsSlotWellFormed (f (get_or xs i d))
+parts_of : {X : Type 0} (f : X → RawSlot) (xs : List X) (i : ℕ) (d : X) → AreWellFormed (map f xs) → i < length xs → IsFormedSlot (f (get_or xs i d))
 parts_of f [] i d h l = absurd (omega arith)
 parts_of f (x ∷ xs) zero d h l = h.0
 parts_of f (x ∷ xs) (suc i) d h l = parts_of f xs i d h.1 (omega arith)
 
-pub parts_at : {X : Type 0} (f : X → RawSlot) (xs : List X) (i : ℕ) (x : X) → AreWellFormed (map f xs) → i < length xs → x ≡ get_or xs i x → IsSlotWellFormed (f x)
-parts_at f xs i x h l at = subst (λ z. IsSlotWellFormed (f z)) (sym at) (parts_of f xs i x h l)
+pub parts_at : {X : Type 0} (f : X → RawSlot) (xs : List X) (i : ℕ) (x : X) → AreWellFormed (map f xs) → i < length xs → x ≡ get_or xs i x → IsFormedSlot (f x)
+parts_at f xs i x h l at = subst (λ z. IsFormedSlot (f z)) (sym at) (parts_of f xs i x h l)
 
 parts_remove : (xs : List RawSlot) (id : ℕ) → AreWellFormed xs → AreWellFormed (remove xs id)
 parts_remove [] zero h = tt
@@ -41,7 +38,7 @@ complete_without (Some id) xs us h = complete_remove xs us id h
 
 -- ---- complete slots show their entries
 
-shown_first : (s : Slot) (slots : List Slot) → optional_entry_list (entry_unless s) ++ map named_struct (filter (λ t. not (is_superblock t)) slots) ≡ map named_struct (filter (λ t. not (is_superblock t)) (s ∷ slots))
+shown_first : (s : Slot) (slots : List Slot) → optional_entry_list (entry_unless_superblock s) ++ map named_struct (filter (λ t. not (is_superblock t)) slots) ≡ map named_struct (filter (λ t. not (is_superblock t)) (s ∷ slots))
 shown_first s slots = go (is_superblock s) refl
   where
     go : (b : Bool) → is_superblock s ≡ b →
@@ -59,7 +56,7 @@ shown_complete (x ∷ xs) all h =
   where
     option_shown : Option Slot → Option NamedStruct
     option_shown None = None
-    option_shown (Some s) = entry_unless s
+    option_shown (Some s) = entry_unless_superblock s
 
 pub shown_shapes : (moved : Option ℕ) (raw : List RawSlot) (all : List Slot) → complete_slots raw ≡ Some all → raw_entries (slots_except moved raw) ≡ entries_without_moved moved all
 shown_shapes moved raw all h = shown_complete (slots_except moved raw) (slots_except moved all) (complete_without moved raw all h)

@@ -2,11 +2,9 @@
 use Rattle.std.proofs.Common.{ℕ, ◌≡◌, ◌+◌, ◌==◌, ◌≤◌, ◌<◌, Bool, true, false, not, if◌then◌else◌, List, [], ◌∷◌, length, nat_lt, Option, Some, None, is_some, unwrap_or, refl, sym, ap, ◌∙◌, arith}
 use Rattle.std.specs.List.{list_all, onto_first, slice_split}
 use Rattle.std.proofs.lemmas.Bool.{lt-ltb}
-use Rattle.lfs_model.specs.session.TreeEdits.{last_name}
-use Rattle.lfs_model.specs.format.Names.{Name, is_component, slash_byte}
+use Rattle.lfs_lookup.proofs.Common.{last_name, Name, is_component, slash_byte, is_root_path, length_after_slash}
 use Rattle.lfs_model.specs.session.Operations.{parse_path}
-use Rattle.lfs_model.specs.session.Refusals.{path_or_root, is_root_path}
-use Rattle.lfs_lookup.specs.NameLengths.{length_after}
+use Rattle.lfs_model.specs.session.Refusals.{path_or_root}
 
 abbrev parts_of : List ℕ → List Name
 parts_of bytes = slice_split (λ c. c == slash_byte) bytes
@@ -48,12 +46,12 @@ last_step : (n b : ℕ) (bytes : List ℕ) (c : Bool) → last_len n (if c then 
 last_step n b bytes true = last_behind n bytes ∙ sym (last_none (parts_of bytes))
 last_step n b bytes false = last_onto n b (parts_of bytes)
 
-behind_is : (n : ℕ) (bytes : List ℕ) → length_after n bytes ≡ last_len n (parts_of bytes)
+behind_is : (n : ℕ) (bytes : List ℕ) → length_after_slash n bytes ≡ last_len n (parts_of bytes)
 behind_is n [] = omega arith
 behind_is n (b ∷ bytes) = behind_is (if b == slash_byte then 0 else n + 1) bytes ∙ sym (last_step n b bytes (b == slash_byte))
 
 -- for the bytes of a path
-pub last_name_len : (bytes : List ℕ) → is_some (parse_path bytes) ≡ true → length_after 0 bytes ≡ length (last_name (path_or_root bytes))
+pub last_name_len : (bytes : List ℕ) → is_some (parse_path bytes) ≡ true → length_after_slash 0 bytes ≡ length (last_name (path_or_root bytes))
 last_name_len [] h = absurd (cc)
 last_name_len (b ∷ bytes) h = first (b == slash_byte) refl h
   where
@@ -61,11 +59,11 @@ last_name_len (b ∷ bytes) h = first (b == slash_byte) refl h
     whole rest = if nat_lt 0 (length rest) then (if list_all is_component (parts_of rest) then Some (parts_of rest) else None) else Some []
 
     cut : (rest : List ℕ) (c : Bool) → list_all is_component (parts_of rest) ≡ c → is_some (if c then Some (parts_of rest) else None) ≡ true
-        → length_after 0 rest ≡ length (last_name (unwrap_or (if c then Some (parts_of rest) else None) []))
+        → length_after_slash 0 rest ≡ length (last_name (unwrap_or (if c then Some (parts_of rest) else None) []))
     cut rest true e k = behind_is 0 rest ∙ last_none (parts_of rest)
     cut rest false e k = absurd (cc)
 
-    rest_of : (rest : List ℕ) → is_some (whole rest) ≡ true → length_after 0 rest ≡ length (last_name (unwrap_or (whole rest) []))
+    rest_of : (rest : List ℕ) → is_some (whole rest) ≡ true → length_after_slash 0 rest ≡ length (last_name (unwrap_or (whole rest) []))
     rest_of [] k = refl
     rest_of (x ∷ xs) k = go (nat_lt 0 (length (x ∷ xs))) refl k
       where
@@ -73,12 +71,12 @@ last_name_len (b ∷ bytes) h = first (b == slash_byte) refl h
         shown = if list_all is_component (parts_of (x ∷ xs)) then Some (parts_of (x ∷ xs)) else None
 
         go : (d : Bool) → nat_lt 0 (length (x ∷ xs)) ≡ d → is_some (if d then shown else Some []) ≡ true
-            → length_after 0 (x ∷ xs) ≡ length (last_name (unwrap_or (if d then shown else Some []) []))
+            → length_after_slash 0 (x ∷ xs) ≡ length (last_name (unwrap_or (if d then shown else Some []) []))
         go true e k = cut (x ∷ xs) (list_all is_component (parts_of (x ∷ xs))) refl k
         go false e k = absurd (let t = sym (lt-ltb 0 (length (x ∷ xs)) (omega arith)) ∙ e in cc)
 
     first : (c : Bool) → (b == slash_byte) ≡ c → is_some (if not c then None else whole bytes) ≡ true
-        → length_after (if c then 0 else 0 + 1) bytes ≡ length (last_name (unwrap_or (if not c then None else whole bytes) []))
+        → length_after_slash (if c then 0 else 0 + 1) bytes ≡ length (last_name (unwrap_or (if not c then None else whole bytes) []))
     first true e k = rest_of bytes k
     first false e k = absurd (cc)
 

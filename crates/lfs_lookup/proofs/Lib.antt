@@ -33,3 +33,4 @@ mod Halved
 mod HalvedReads
 mod InOrder
 mod HalvedDown
+pub mod Common

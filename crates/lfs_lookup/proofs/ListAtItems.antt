@@ -1,27 +1,11 @@
 -- What a list says of the entries of a directory is what the tree says.
 use Rattle.std.proofs.Common.{ℕ, suc, slice_get, ◌≡◌, ◌∙◌, List, [], ◌∷◌, ◌++◌, map, Some, option_map, refl, sym, ap, ap₂, subst}
-use Rattle.std.proofs.lemmas.List.Elements.{recursion_from_All}
-use Rattle.lfs_device.specs.Bytes.{HoldBytes}
+use Rattle.lfs_lookup.proofs.Common.{recursion_from_All, AreByteBlocks, directory_names, Disk, ordered_disk, slot_of, Slot, Struct, Inline, Ctz, Branch, items_at, node_file_size, Pair, Path, struct_node, IsAccepted, IsFormedList, LeadsTo, all_unmoved_slots, struct_list_bytes, all_entries, disk_tree, Each, slot_there, KeptThread, disk_of_device, AreShorterFirst, NamedStruct, named_struct, AreInLimits, IsInLimits, listed_item, pair_entries_from, LeadsToPair}
 use Rattle.lfs_device.specs.declared.device.BlockDevice.{Ghosts}
-use Rattle.lfs_model.specs.session.TreeEdits.{directory_names}
 use Rattle.lfs_model.specs.declared.order.NameOrder.{NameOrder}
-use Rattle.lfs_model.specs.format.Disk.{Disk, ordered_disk}
 use Rattle.lfs_model.specs.session.Operations as ops
-use Rattle.lfs_model.specs.session.SlotEdits.{slot_of}
-use Rattle.lfs_model.specs.format.Slots.{Slot, Struct, Inline, Ctz, Branch}
-use Rattle.lfs_model.specs.session.Effects.{items_at, node_file_size}
-use Rattle.lfs_model.specs.format.Thread.{Pair}
-use Rattle.lfs_model.specs.tree.Tree.{Path, struct_node}
-use Rattle.lfs_model.specs.tree.View.{IsAccepted, IsWellFormedCtz}
-use Rattle.lfs_model.specs.tree.Shown.{LeadsTo, all_slots_not_moved, struct_list_bytes, all_entries, tree_on_disk}
-use Rattle.lfs_model.proofs.Counts.{Each, each_both}
-use Rattle.lfs_model.proofs.OneCommit.{slot_there}
-use Rattle.lfs_thread.specs.Kept.{KeptThread, disk_of_device}
-use Rattle.lfs_lookup.specs.ByName.{AreShorterFirst}
-use Rattle.lfs_lookup.specs.Items.{NamedStruct, named_struct}
-use Rattle.lfs_lookup.specs.ListAt.{AreInLimits, IsInLimits, listed_item, listed_struct_size}
-use Rattle.lfs_lookup.specs.Listed.{pair_entries_from}
-use Rattle.lfs_lookup.specs.LookupPaths.{LeadsToPair}
+use Rattle.lfs_model.proofs.Counts.{each_both}
+use Rattle.lfs_lookup.specs.ListAt.{listed_struct_size}
 use Rattle.lfs_lookup.proofs.AtPaths.{SizedLists, directory_at_path}
 use Rattle.lfs_lookup.proofs.ByName.{AreRows, each_row, rows_by_name}
 use Rattle.lfs_lookup.proofs.Directories.{own_shapes}
@@ -36,28 +20,28 @@ each_got P (x ∷ xs) h = (h 0 x refl, each_got P xs (λ k y e. h (suc k) y e))
 
 module _ (disk : Disk) (ps : List Pair) (path : Path) where
   abbrev IsSized : Slot → Type 0
-  IsSized s = node_file_size (tree_on_disk disk ps (path ++ s.name ∷ [])) ≡ listed_struct_size s.struct
+  IsSized s = node_file_size (disk_tree disk ps (path ++ s.name ∷ [])) ≡ listed_struct_size s.struct
 
-  sized : (s : Slot) → SizedLists disk → slot_of ps (path ++ s.name ∷ []) ≡ Some s → IsWellFormedCtz disk s.struct → IsSized s
+  sized : (s : Slot) → SizedLists disk → slot_of ps (path ++ s.name ∷ []) ≡ Some s → IsFormedList disk s.struct → IsSized s
   sized s lists e list = ap (λ o. node_file_size (option_map (λ (f : Slot). struct_node (struct_list_bytes disk) (all_entries ps) f.attributes f.struct) o)) e ∙ go s.struct list
     where
-      go : (z : Struct) → IsWellFormedCtz disk z → node_file_size (Some (struct_node (struct_list_bytes disk) (all_entries ps) s.attributes z)) ≡ listed_struct_size z
+      go : (z : Struct) → IsFormedList disk z → node_file_size (Some (struct_node (struct_list_bytes disk) (all_entries ps) s.attributes z)) ≡ listed_struct_size z
       go (Inline bytes) l = refl
       go (Ctz head size) l = ap Some (lists head size l)
       go (Branch to) l = refl
 
-  rows : (slots : List Slot) → Each IsSized slots → map (λ name. let item : ops.ListedEntry = record { name = name; size = node_file_size (tree_on_disk disk ps (path ++ name ∷ [])) } in item) (map (λ (s : Slot). s.name) slots) ≡ map listed_item (map named_struct slots)
+  rows : (slots : List Slot) → Each IsSized slots → map (λ name. let item : ops.ListedEntry = record { name = name; size = node_file_size (disk_tree disk ps (path ++ name ∷ [])) } in item) (map (λ (s : Slot). s.name) slots) ≡ map listed_item (map named_struct slots)
   rows [] h = refl
   rows (s ∷ slots) h = ap₂ (λ z zs. let item : ops.ListedEntry = record { name = s.name; size = z } in item ∷ zs) h.0 (rows slots h.1)
 
-  pub items_listed : (at : ℕ × ℕ) (slots : List Slot) → IsAccepted disk ps → LeadsTo ps path at → SizedLists disk → AreRows (all_entries ps at) slots → map listed_item (map named_struct slots) ≡ items_at (tree_on_disk disk ps) path
+  pub items_listed : (at : ℕ × ℕ) (slots : List Slot) → IsAccepted disk ps → LeadsTo ps path at → SizedLists disk → AreRows (all_entries ps at) slots → map listed_item (map named_struct slots) ≡ items_at (disk_tree disk ps) path
   items_listed at slots ok leads lists r =
       let d = directory_at_path disk ps path at leads in
-      sym (ap (λ o. map (λ name. let item : ops.ListedEntry = record { name = name; size = node_file_size (tree_on_disk disk ps (path ++ name ∷ [])) } in item) (directory_names o)) d.is
-      ∙ ap (map (λ name. let item : ops.ListedEntry = record { name = name; size = node_file_size (tree_on_disk disk ps (path ++ name ∷ [])) } in item)) (sym r.names)
-      ∙ rows slots (each_row IsSized (all_entries ps at) slots r (each_both (λ s. slot_of ps (path ++ s.name ∷ []) ≡ Some s) (λ s. IsWellFormedCtz disk s.struct) IsSized (λ s e l. sized s lists e l) (all_entries ps at)
+      sym (ap (λ o. map (λ name. let item : ops.ListedEntry = record { name = name; size = node_file_size (disk_tree disk ps (path ++ name ∷ [])) } in item) (directory_names o)) d.is
+      ∙ ap (map (λ name. let item : ops.ListedEntry = record { name = name; size = node_file_size (disk_tree disk ps (path ++ name ∷ [])) } in item)) (sym r.names)
+      ∙ rows slots (each_row IsSized (all_entries ps at) slots r (each_both (λ s. slot_of ps (path ++ s.name ∷ []) ≡ Some s) (λ s. IsFormedList disk s.struct) IsSized (λ s e l. sized s lists e l) (all_entries ps at)
       (each_got (λ s. slot_of ps (path ++ s.name ∷ []) ≡ Some s) (all_entries ps at) (λ k u g. slot_there disk ps path at k u ok leads g))
-      (each_entry (λ s. IsWellFormedCtz disk s.struct) disk ps path at ok leads (recursion_from_All (λ (s : Slot). IsWellFormedCtz disk s.struct) (all_slots_not_moved ps) ok.lists)))))
+      (each_entry (λ s. IsFormedList disk s.struct) disk ps path at ok leads (recursion_from_All (λ (s : Slot). IsFormedList disk s.struct) (all_unmoved_slots ps) ok.lists)))))
 
 -- ---- of a thread
 
@@ -77,14 +61,14 @@ module _ (t : KeptThread) (path : Path) (ok : IsAccepted t.disk t.pairs) (now : 
       let own = are ∙ ap (λ ps. pair_entries_from ps (Some first)) same ∙ own_shapes t.disk t.pairs path on.at first ok on.leads on.begins in
       rows_by_name (all_entries t.pairs on.at) shapes (subst (λ (z : List NamedStruct). AreShorterFirst z shapes) own by_name)
 
-  pub short_there : HoldBytes t.disk.blocks → AreInLimits shapes
+  pub short_there : AreByteBlocks t.disk.blocks → AreInLimits shapes
   short_there bytes =
       let (slots, (r, is)) = slots_there in
       subst AreInLimits (sym is)
       (short_each slots (each_row (λ s. IsInLimits (named_struct s)) (all_entries t.pairs on.at) slots r (each_short (all_entries t.pairs on.at) (short_entries t.disk t.pairs path on.at bytes ok on.leads))))
 
-  pub listed_there : (listed : List ops.ListedEntry) → SizedLists t.disk → listed ≡ map listed_item shapes → listed ≡ items_at (tree_on_disk t.disk t.pairs) path
+  pub listed_there : (listed : List ops.ListedEntry) → SizedLists t.disk → listed ≡ map listed_item shapes → listed ≡ items_at (disk_tree t.disk t.pairs) path
   listed_there listed lists e = let (slots, (r, is)) = slots_there in e ∙ ap (map listed_item) is ∙ items_listed t.disk t.pairs path on.at slots ok on.leads lists r
 
-pub bytes_on : {D : Type 0} (g : Ghosts D) (d : D) (disk : Disk) {order : NameOrder} → ordered_disk order (disk_of_device g d) ≡ disk → HoldBytes (g.blocks d) → HoldBytes disk.blocks
-bytes_on g d disk e h = subst (λ (z : Disk). HoldBytes z.blocks) e h
+pub bytes_on : {D : Type 0} (g : Ghosts D) (d : D) (disk : Disk) {order : NameOrder} → ordered_disk order (disk_of_device g d) ≡ disk → AreByteBlocks (g.blocks d) → AreByteBlocks disk.blocks
+bytes_on g d disk e h = subst (λ (z : Disk). AreByteBlocks z.blocks) e h

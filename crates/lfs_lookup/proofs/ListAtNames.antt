@@ -1,18 +1,10 @@
 -- Names of entries are short.
 use Rattle.std.proofs.Common.{ℕ, zero, suc, ◌≡◌, ◌≤◌, ◌+◌, ◌==◌, ◌&&◌, Bool, true, false, cond, not, List, [], ◌∷◌, filter, length, take, drop, refl}
 use Rattle.std.specs.Prelude.{All, nat_le}
-use Rattle.std.specs.List.{remove}
+use Rattle.lfs_lookup.proofs.Common.{remove, recursion_from_All, Disk, is_component, Gstate, Slot, is_superblock, same_pair, Pair, pairs_gstate, count_before_root, slots_not_moved, unmoved_entries, Path, IsAccepted, IsTreeEntry, BeginsWithSuperblock, LeadsTo, all_entries, Each, each_weaker}
 use Rattle.std.proofs.lemmas.Bool.{leb-true}
-use Rattle.std.proofs.lemmas.List.Elements.{recursion_from_All}
 use Rattle.lfs_model.specs.declared.limits.AcceptedVersions.{AcceptedVersions}
-use Rattle.lfs_model.specs.format.Disk.{Disk}
-use Rattle.lfs_model.specs.format.Names.{is_component, name_limit}
-use Rattle.lfs_model.specs.format.Slots.{Gstate, Slot, is_superblock, same_pair}
-use Rattle.lfs_model.specs.format.Thread.{Pair, pairs_gstate, pair_count_before_root, slots_not_moved, unmoved_entries}
-use Rattle.lfs_model.specs.tree.Tree.{Path}
-use Rattle.lfs_model.specs.tree.View.{IsAccepted, IsTreeEntry, BeginsWithSuperblock}
-use Rattle.lfs_model.specs.tree.Shown.{LeadsTo, all_entries}
-use Rattle.lfs_model.proofs.Counts.{Each, each_weaker}
+use Rattle.lfs_model.specs.format.Names.{name_limit}
 use Rattle.lfs_lookup.proofs.Visits.{each_visible}
 
 abbrev pub name_fits : Slot → Type 0
@@ -45,7 +37,7 @@ each_parted P (suc n) (p ∷ ps) h k = (h.0, each_parted P n ps h.1 k)
 
 pairs_fit : (disk : Disk) (ps : List Pair) → IsAccepted disk ps → Each (λ p. Each may_fit p.content.slots) ps
 pairs_fit disk ps ok =
-    let n = pair_count_before_root ps + 1 in
+    let n = count_before_root ps + 1 in
     let s = ok.superblock in
     each_parted (λ p. Each may_fit p.content.slots) n ps
     (each_weaker (λ (p : Pair). BeginsWithSuperblock disk.profile.versions s.0 p.content.slots) (λ (p : Pair). Each may_fit p.content.slots) (λ p h. headed_fit disk.profile.versions s.0 p.content.slots h) (take n ps)

@@ -1,24 +1,10 @@
 -- Contents that stand in an entry are short.
 use Rattle.std.proofs.Common.{ℕ, zero, suc, ◌≡◌, ◌<◌, ◌==◌, ◌&&◌, Bool, true, false, cond, not, List, [], ◌∷◌, length, map, Option, Some, None, option_and_then, option_map, refl, sym, subst}
-use Rattle.std.specs.List.{remove}
-use Rattle.std.proofs.lemmas.Option.{same_Some}
-use Rattle.std.proofs.lemmas.List.Elements.{recursion_from_All}
-use Rattle.lfs_model.specs.format.Content.{RawContent, RawSlot, complete_slot, complete_slots, complete_content, content_after, content_at, has_commit, current_of_two, current_block, is_later, kind_of_type, empty_raw_content, read_struct}
-use Rattle.lfs_model.specs.format.EntryTypes.{directory_type, inline_type, read_address}
-use Rattle.lfs_model.specs.format.Disk.{Disk, disk_block}
+use Rattle.lfs_lookup.proofs.Common.{remove, same_Some, recursion_from_All, RawContent, RawSlot, complete_slot, complete_slots, complete_content, kind_of_type, read_struct, directory_type, inline_type, read_address, Disk, disk_block, IsFormedSlot, AreWellFormed, AllowsIfSome, Gstate, Slot, Inline, Ctz, Branch, same_pair, Pair, pairs_gstate, slots_not_moved, Path, IsAccepted, LeadsTo, all_entries, complete_parts, completed_parts, Each, each_joined, each_weaker, logged, AreByteBlocks, named_struct, AreInLimits, IsInLimits}
+use Rattle.lfs_model.specs.format.Content.{content_after, content_at, has_commit, current_of_two, current_block, is_later, empty_raw_content}
 use Rattle.lfs_model.specs.format.Log.{block_entries, block_revision}
-use Rattle.lfs_model.specs.layers.LoggedContent.{IsSlotWellFormed, AreWellFormed, AllowsIfSome}
-use Rattle.lfs_model.specs.format.Slots.{Gstate, Slot, Inline, Ctz, Branch, same_pair}
-use Rattle.lfs_model.specs.format.Thread.{Pair, pairs_gstate, slots_not_moved}
-use Rattle.lfs_model.specs.tree.Tree.{Path}
-use Rattle.lfs_model.specs.tree.View.{IsAccepted}
-use Rattle.lfs_model.specs.tree.Shown.{LeadsTo, all_entries}
-use Rattle.lfs_model.proofs.Completed.{complete_parts, completed_parts}
-use Rattle.lfs_model.proofs.Counts.{Each, each_joined, each_weaker}
-use Rattle.lfs_model.proofs.Logged.{logged}
-use Rattle.lfs_device.specs.Bytes.{ElementsAreBytes, HoldBytes}
-use Rattle.lfs_lookup.specs.Items.{named_struct}
-use Rattle.lfs_lookup.specs.ListAt.{AreInLimits, StructFitsTag, IsInLimits}
+use Rattle.lfs_device.specs.Bytes.{ElementsAreBytes}
+use Rattle.lfs_lookup.specs.ListAt.{StructFitsTag}
 use Rattle.lfs_lookup.proofs.ListAtNames.{name_fits, fitting_names}
 use Rattle.lfs_lookup.proofs.Visits.{each_both, each_entry}
 
@@ -35,7 +21,7 @@ short_of false false bytes to head size l = tt
 short_typed : (kind : ℕ) (bytes : List ℕ) → length bytes < 0x3ff → StructFitsTag (read_struct kind bytes)
 short_typed kind bytes l = short_of (kind == inline_type) (kind == directory_type) bytes (read_address bytes) _ _ l
 
-short_complete : (s : RawSlot) (t : Slot) → IsSlotWellFormed s → complete_slot s ≡ Some t → short_slot t
+short_complete : (s : RawSlot) (t : Slot) → IsFormedSlot s → complete_slot s ≡ Some t → short_slot t
 short_complete s t h e = go s.name s.struct h.struct e
   where
     go : (n p : Option (ℕ × List ℕ)) → AllowsIfSome 2 p
@@ -63,7 +49,7 @@ bytes_of_holder a b block h k e = go (has_commit a) (has_commit b) (is_later (bl
     go true true false f = subst ElementsAreBytes (same_Some a block f) h
     go true true true f = subst ElementsAreBytes (same_Some b block f) k
 
-short_pair : (disk : Disk) (p : Pair) → HoldBytes disk.blocks → content_at disk p.at ≡ Some p.content → Each short_slot p.content.slots
+short_pair : (disk : Disk) (p : Pair) → AreByteBlocks disk.blocks → content_at disk p.at ≡ Some p.content → Each short_slot p.content.slots
 short_pair disk p bytes e = go (current_block disk p.at) refl e
   where
     by_raw : (block : List ℕ) (o : Option RawContent) → ElementsAreBytes block → content_after empty_raw_content (block_entries block) ≡ o → option_and_then complete_content o ≡ Some p.content → Each short_slot p.content.slots
@@ -94,7 +80,7 @@ short_shapes : (slots : List Slot) → Each (λ s. IsInLimits (named_struct s)) 
 short_shapes [] h = tt
 short_shapes (s ∷ slots) h = (h.0, short_shapes slots h.1)
 
-pub short_entries : (disk : Disk) (ps : List Pair) (path : Path) (at : ℕ × ℕ) → HoldBytes disk.blocks → IsAccepted disk ps → LeadsTo ps path at → AreInLimits (map named_struct (all_entries ps at))
+pub short_entries : (disk : Disk) (ps : List Pair) (path : Path) (at : ℕ × ℕ) → AreByteBlocks disk.blocks → IsAccepted disk ps → LeadsTo ps path at → AreInLimits (map named_struct (all_entries ps at))
 short_entries disk ps path at bytes ok leads =
     let pairs : Each (λ p. Each short_slot (slots_not_moved (pairs_gstate ps) p)) ps =
     each_weaker (λ p. content_at disk p.at ≡ Some p.content) (λ p. Each short_slot (slots_not_moved (pairs_gstate ps) p)) (λ p e. short_unmoved (pairs_gstate ps) p (short_pair disk p bytes e)) ps

@@ -1,26 +1,10 @@
 -- The directories of a path, as their pairs are brought in turn.
 use Rattle.std.proofs.Common.{ℕ, zero, suc, ◌≡◌, ◌<◌, ◌≤◌, ◌+◌, List, [], ◌∷◌, ◌++◌, length, map, take, drop, slice_get, Option, Some, None, Result, Ok, Err, refl, sym, ap, subst, ◌∙◌, arith, length-append}
 use Rattle.std.specs.Prelude.{IfOk}
-use Rattle.std.specs.List.{AllByRecursion}
-use Rattle.std.specs.Option.{option_map_or}
-use Rattle.std.proofs.lemmas.List.{length-map}
+use Rattle.lfs_lookup.proofs.Common.{AllByRecursion, option_map_or, length-map, CachedBlocks, cache_limit, directory_pairs, pair_count_at, ancestor_paths, Disk, read_count, Name, all_entries, Pair, root_address, Path, IsAccepted, each_append, each_left, each_right, each_weaker, active_block_at, KeptThread, ThreadView, OnlyReadsThread, ArePairsCached, KeepsCachedPairs, IsMovedFirst, IsLastUsed, StayCached, pairs_at, joined_pairs, joined_pairs_from, LeadsToPair}
 use Rattle.lfs_device.specs.declared.error.Error.{Error}
-use Rattle.lfs_model.specs.layers.Cache.{CachedBlocks, cache_limit}
-use Rattle.lfs_model.specs.crash.Frame.{directory_pairs, pair_count_at, ancestor_paths}
-use Rattle.lfs_model.specs.format.Disk.{Disk}
-use Rattle.lfs_model.specs.session.History.{read_count}
-use Rattle.lfs_model.specs.format.Names.{Name}
-use Rattle.lfs_model.specs.tree.Shown.{all_entries}
-use Rattle.lfs_model.specs.format.Thread.{Pair, root_address}
-use Rattle.lfs_model.specs.tree.Tree.{Path, address_at_path}
-use Rattle.lfs_model.specs.tree.View.{IsAccepted}
-use Rattle.lfs_model.proofs.Counts.{each_append, each_left, each_right, each_weaker}
-use Rattle.lfs_pair.specs.Pair.{active_block_at}
-use Rattle.lfs_thread.specs.Kept.{KeptThread, ThreadView}
-use Rattle.lfs_thread.specs.ThreadSteps.{OnlyReadsThread}
-use Rattle.lfs_lookup.specs.CachedPairs.{ArePairsCached, AreDirectoriesCached, AreLastUsed, AreAllLastUsed, AreFewSmall, ReadsNothingAndKeepsPairsWhereAllCached, ReadsNothingAndKeepsDirectoriesWhereAllCached, IsMovedToFront, IsLastUsed, StayCached, pairs_at}
-use Rattle.lfs_lookup.specs.Listed.{joined_pairs, joined_pairs_from}
-use Rattle.lfs_lookup.specs.LookupPaths.{LeadsToPair}
+use Rattle.lfs_model.specs.tree.Tree.{address_at_path}
+use Rattle.lfs_lookup.specs.CachedPairs.{AreDirectoriesCached, AreLastUsed, AreDirectoriesRecent, AreFewSmall, KeepsCachedDirectories}
 use Rattle.lfs_lookup.proofs.Descended.{parents_on, take_on, take_whole}
 use Rattle.lfs_lookup.proofs.Directories.{own_pairs}
 use Rattle.lfs_lookup.proofs.RecentBlocks.{Passes, after, wider}
@@ -69,20 +53,20 @@ module _ (disk : Disk) (ps : List Pair) (q : Path) (run : List Pair) (is : run �
       subst (ArePairsCached now) (sym is) (subst (λ d. AreLastUsed cache_limit d now.cache (pairs_at ps q)) (sym same)
       (each_weaker (λ (p : Pair). IsLastUsed cache_limit cache (active_block_at disk p.at)) (λ (p : Pair). IsLastUsed cache_limit now.cache (active_block_at disk p.at)) (λ p k. stay (active_block_at disk p.at) k) (pairs_at ps q) there))
 
-  module _ {X : Type 0} (new : ThreadView) (x : X) (b : ReadsNothingAndKeepsPairsWhereAllCached run now new (Ok x)) (n : ℕ) (few : n < cache_limit) (small : pair_count_at ps q ≡ 1) where
+  module _ {X : Type 0} (new : ThreadView) (x : X) (b : KeepsCachedPairs run now new (Ok x)) (n : ℕ) (few : n < cache_limit) (small : pair_count_at ps q ≡ 1) where
     one_is : length run ≡ 1
     one_is = ap length is ∙ length-pairs_on ps q ∙ small
 
-    last_of : (qs : List Pair) → length qs ≡ 1 → AllByRecursion (λ p. IsMovedToFront (active_block_at now.kept.disk p.at) now.cache new.cache) qs → AreLastUsed (suc n) now.kept.disk new.cache qs
+    last_of : (qs : List Pair) → length qs ≡ 1 → AllByRecursion (λ p. IsMovedFirst (active_block_at now.kept.disk p.at) now.cache new.cache) qs → AreLastUsed (suc n) now.kept.disk new.cache qs
     last_of [] e h = absurd (omega (arith, e))
     last_of (p ∷ []) e h = (wider 1 (suc n) _ new.cache (omega arith) h.0.first, tt)
     last_of (p ∷ (r ∷ qs)) e h = absurd (omega (arith, e))
 
-    further_of : (qs : List Pair) → length qs ≡ 1 → AllByRecursion (λ p. IsMovedToFront (active_block_at now.kept.disk p.at) now.cache new.cache) qs → (c : ℕ) → IsLastUsed n now.cache c → IsLastUsed (suc n) new.cache c
+    further_of : (qs : List Pair) → length qs ≡ 1 → AllByRecursion (λ p. IsMovedFirst (active_block_at now.kept.disk p.at) now.cache new.cache) qs → (c : ℕ) → IsLastUsed n now.cache c → IsLastUsed (suc n) new.cache c
     further_of [] e h = absurd (omega (arith, e))
     further_of (p ∷ qs) e h = λ c k. h.0.others n c few k
 
-    pub recent_more : (qs : List Path) → AreAllLastUsed n disk now.cache ps qs → AreAllLastUsed (suc n) disk new.cache ps (qs ++ q ∷ [])
+    pub recent_more : (qs : List Path) → AreDirectoriesRecent n disk now.cache ps qs → AreDirectoriesRecent (suc n) disk new.cache ps (qs ++ q ∷ [])
     recent_more qs h = each_append (λ (p : Path). AreLastUsed (suc n) disk new.cache (pairs_at ps p)) qs (q ∷ [])
         (each_weaker (λ (p : Path). AreLastUsed n disk now.cache (pairs_at ps p)) (λ (p : Path). AreLastUsed (suc n) disk new.cache (pairs_at ps p))
         (λ p k. each_weaker (λ (r : Pair). IsLastUsed n now.cache (active_block_at disk r.at)) (λ (r : Pair). IsLastUsed (suc n) new.cache (active_block_at disk r.at))
@@ -96,7 +80,7 @@ pub record HasSearched (path : Path) (i : ℕ) (old now : ThreadView) : Type 0 w
   pub disk : now.kept.disk ≡ old.kept.disk
   pub none : AreDirectoriesCached old (ancestor_paths path) → read_count now.kept.history ≡ read_count old.kept.history
   pub stay : AreDirectoriesCached old (ancestor_paths path) → StayCached old.cache now.cache
-  pub recent : AreFewSmall old.kept.pairs (ancestor_paths path) → AreAllLastUsed i old.kept.disk now.cache old.kept.pairs (ancestor_paths (take i path))
+  pub recent : AreFewSmall old.kept.pairs (ancestor_paths path) → AreDirectoriesRecent i old.kept.disk now.cache old.kept.pairs (ancestor_paths (take i path))
 
 -- what isn't all the way brings no more than that
 abbrev pub StopsShort : {Y : Type 0} → (Y → Type 0) → Result Y Error → Type 1
@@ -111,14 +95,14 @@ module _ (old now : ThreadView) (path : Path) (i : ℕ) (name : Name) (at : slic
   there_now there = on_hand old.kept.disk old.kept.pairs (take i path) run is now h.disk old.cache
       (parent_at (λ p. AreLastUsed cache_limit old.kept.disk old.cache (pairs_at old.kept.pairs p)) path i name at there) (h.stay there)
 
-  pub searched_to_here : {X Y : Type 0} (r : Result X Error) (s : Result Y Error) (through : Y → Type 0) → ReadsNothingAndKeepsPairsWhereAllCached run now new r → Passes r s → StopsShort through s → ReadsNothingAndKeepsDirectoriesWhereAllCached through (ancestor_paths path) old new s
+  pub searched_to_here : {X Y : Type 0} (r : Result X Error) (s : Result Y Error) (through : Y → Type 0) → KeepsCachedPairs run now new r → Passes r s → StopsShort through s → KeepsCachedDirectories through (ancestor_paths path) old new s
   searched_to_here r s through b pass short = record {
     none = λ there. b.none (there_now there) ∙ h.none there;
     stay = λ there. pass _ (after r (λ st x k. st x (h.stay there x k)) (b.stay (there_now there)));
     recent = λ small. short _;
   }
 
-  pub searched_on : {X : Type 0} (x : X) → ReadsNothingAndKeepsPairsWhereAllCached run now new (Ok x) → new.kept.disk ≡ now.kept.disk → i < length path → HasSearched path (i + 1) old new
+  pub searched_on : {X : Type 0} (x : X) → KeepsCachedPairs run now new (Ok x) → new.kept.disk ≡ now.kept.disk → i < length path → HasSearched path (i + 1) old new
   searched_on x b same within = record {
     disk = same ∙ h.disk;
     none = λ there. b.none (there_now there) ∙ h.none there;
@@ -127,20 +111,20 @@ module _ (old now : ThreadView) (path : Path) (i : ℕ) (name : Name) (at : slic
         let l = length-ancestor_paths path in
         let f = small.few in
         let next : suc i ≡ i + 1 = omega arith in
-        subst (λ n. AreAllLastUsed n old.kept.disk new.cache old.kept.pairs (ancestor_paths (take (i + 1) path))) next
-        (subst (AreAllLastUsed (suc i) old.kept.disk new.cache old.kept.pairs) (sym (ap ancestor_paths (take_on path i name at) ∙ parents_on (take i path) name))
+        subst (λ n. AreDirectoriesRecent n old.kept.disk new.cache old.kept.pairs (ancestor_paths (take (i + 1) path))) next
+        (subst (AreDirectoriesRecent (suc i) old.kept.disk new.cache old.kept.pairs) (sym (ap ancestor_paths (take_on path i name at) ∙ parents_on (take i path) name))
         (recent_more old.kept.disk old.kept.pairs (take i path) run is now h.disk new x b i (omega (arith, l, f, within)) (parent_at (λ p. pair_count_at old.kept.pairs p ≡ 1) path i name at small.small) (ancestor_paths (take i path)) (h.recent small)))
         );
   }
 
-pub searched_all : {Y : Type 0} (old now : ThreadView) (path : Path) (i : ℕ) (y : Y) (through : Y → Type 0) → HasSearched path i old now → length path ≤ i → i ≤ length path → ReadsNothingAndKeepsDirectoriesWhereAllCached through (ancestor_paths path) old now (Ok y)
+pub searched_all : {Y : Type 0} (old now : ThreadView) (path : Path) (i : ℕ) (y : Y) (through : Y → Type 0) → HasSearched path i old now → length path ≤ i → i ≤ length path → KeepsCachedDirectories through (ancestor_paths path) old now (Ok y)
 searched_all old now path i y through h past within = record {
   none = h.none;
   stay = h.stay;
   recent = λ small all. (
       let l = length-ancestor_paths path in
       let e : i ≡ length (ancestor_paths path) = omega (arith, l, past, within) in
-      subst (λ n. AreAllLastUsed n old.kept.disk now.cache old.kept.pairs (ancestor_paths path)) e (subst (λ p. AreAllLastUsed i old.kept.disk now.cache old.kept.pairs (ancestor_paths p)) (take_whole i path past) (h.recent small))
+      subst (λ n. AreDirectoriesRecent n old.kept.disk now.cache old.kept.pairs (ancestor_paths path)) e (subst (λ p. AreDirectoriesRecent i old.kept.disk now.cache old.kept.pairs (ancestor_paths p)) (take_whole i path past) (h.recent small))
       );
 }
 
@@ -148,14 +132,14 @@ searched_all old now path i y through h past within = record {
 
 -- the way ends before the last directory
 pub down_short : {X Y : Type 0} (enters : X → Type 0) (through : Y → Type 0) (old new : ThreadView) (path above : Path) (name : Name) (r : Result X Error) (s : Result Y Error) → path ≡ above ++ name ∷ [] → Passes r s → StopsShort through s
-    → ReadsNothingAndKeepsDirectoriesWhereAllCached enters (ancestor_paths above) old new r → ReadsNothingAndKeepsDirectoriesWhereAllCached through (ancestor_paths path) old new s
+    → KeepsCachedDirectories enters (ancestor_paths above) old new r → KeepsCachedDirectories through (ancestor_paths path) old new s
 down_short enters through old new path above name r s is pass short b = record { none = λ there. b.none (upper there); stay = λ there. pass _ (b.stay (upper there)); recent = λ small. short _ }
   where
     upper : AreDirectoriesCached old (ancestor_paths path) → AreDirectoriesCached old (ancestor_paths above)
     upper there = each_left (λ p. AreLastUsed cache_limit old.kept.disk old.cache (pairs_at old.kept.pairs p)) (ancestor_paths above) (above ∷ []) (subst (AreDirectoriesCached old) (ap ancestor_paths is ∙ parents_on above name) there)
 
 pub down_last : {X Y : Type 0} (enters : X → Type 0) (through : Y → Type 0) (old mid new : ThreadView) (path above : Path) (name : Name) (x : X) (s : Result Y Error) (run : List Pair) → path ≡ above ++ name ∷ []
-    → ReadsNothingAndKeepsDirectoriesWhereAllCached enters (ancestor_paths above) old mid (Ok x) → enters x → mid.kept.disk ≡ old.kept.disk → run ≡ pairs_at old.kept.pairs above → ReadsNothingAndKeepsPairsWhereAllCached run mid new s → ReadsNothingAndKeepsDirectoriesWhereAllCached through (ancestor_paths path) old new s
+    → KeepsCachedDirectories enters (ancestor_paths above) old mid (Ok x) → enters x → mid.kept.disk ≡ old.kept.disk → run ≡ pairs_at old.kept.pairs above → KeepsCachedPairs run mid new s → KeepsCachedDirectories through (ancestor_paths path) old new s
 down_last {Y = Y} enters through old mid new path above name x s run is a all same are b = record {
   none = λ there. (let p = parted there in b.none (on_hand old.kept.disk old.kept.pairs above run are mid same old.cache p.1 (a.stay p.0)) ∙ a.none p.0);
   stay = λ there. (let p = parted there in after s (λ st c k. st c (a.stay p.0 c k)) (b.stay (on_hand old.kept.disk old.kept.pairs above run are mid same old.cache p.1 (a.stay p.0))));
@@ -171,7 +155,7 @@ down_last {Y = Y} enters through old mid new path above name x s run is a all sa
         let P : Path → Type 0 = λ p. AreLastUsed cache_limit old.kept.disk old.cache (pairs_at old.kept.pairs p) in
         (each_left P (ancestor_paths above) (above ∷ []) k, (each_right P (ancestor_paths above) (above ∷ []) k).0)
 
-    ended : AreFewSmall old.kept.pairs (ancestor_paths path) → (s : Result Y Error) → ReadsNothingAndKeepsPairsWhereAllCached run mid new s → IfOk s (λ y. through y → AreAllLastUsed (length (ancestor_paths path)) old.kept.disk new.cache old.kept.pairs (ancestor_paths path))
+    ended : AreFewSmall old.kept.pairs (ancestor_paths path) → (s : Result Y Error) → KeepsCachedPairs run mid new s → IfOk s (λ y. through y → AreDirectoriesRecent (length (ancestor_paths path)) old.kept.disk new.cache old.kept.pairs (ancestor_paths path))
     ended small (Err e) b = tt
     ended small (Ok y) b = λ ends.
         let n = ap length parents_are ∙ length-append (ancestor_paths above) (above ∷ []) in
@@ -180,8 +164,8 @@ down_last {Y = Y} enters through old mid new path above name x s run is a all sa
         let Q : Path → Type 0 = λ p. pair_count_at old.kept.pairs p ≡ 1 in
         let first = a.recent (record { few = omega (arith, n, f); small = each_left Q (ancestor_paths above) (above ∷ []) k }) all in
         let e : suc (length (ancestor_paths above)) ≡ length (ancestor_paths path) = omega (arith, n) in
-        subst (λ m. AreAllLastUsed m old.kept.disk new.cache old.kept.pairs (ancestor_paths path)) e
-        (subst (AreAllLastUsed (suc (length (ancestor_paths above))) old.kept.disk new.cache old.kept.pairs) (sym parents_are)
+        subst (λ m. AreDirectoriesRecent m old.kept.disk new.cache old.kept.pairs (ancestor_paths path)) e
+        (subst (AreDirectoriesRecent (suc (length (ancestor_paths above))) old.kept.disk new.cache old.kept.pairs) (sym parents_are)
         (recent_more old.kept.disk old.kept.pairs above run are mid same new y b (length (ancestor_paths above)) (omega (arith, n, f)) (each_right Q (ancestor_paths above) (above ∷ []) k).0 (ancestor_paths above) first))
 
 -- ---- a directory's own pairs
@@ -198,11 +182,11 @@ first_on_hand old mid path ok r (Some first) at stay there =
 
 -- ---- at the end
 
-pub hand_after : {X : Type 0} (a b : ThreadView) (through : X → Type 0) (paths : List Path) (r : Result X Error) → ReadsNothingAndKeepsDirectoriesWhereAllCached through paths a b r → OnlyReadsThread a.kept b.kept → AreFewSmall a.kept.pairs paths
-    → IfOk r (λ x. through x → AreAllLastUsed cache_limit b.kept.disk b.cache b.kept.pairs paths)
+pub hand_after : {X : Type 0} (a b : ThreadView) (through : X → Type 0) (paths : List Path) (r : Result X Error) → KeepsCachedDirectories through paths a b r → OnlyReadsThread a.kept b.kept → AreFewSmall a.kept.pairs paths
+    → IfOk r (λ x. through x → AreDirectoriesRecent cache_limit b.kept.disk b.cache b.kept.pairs paths)
 hand_after a b through paths (Err e) d only small = tt
 hand_after a b through paths (Ok x) d only small = λ ends.
-    subst (λ ps. AreAllLastUsed cache_limit b.kept.disk b.cache ps paths) (sym only.pairs) (subst (λ disk. AreAllLastUsed cache_limit disk b.cache a.kept.pairs paths) (sym only.disk)
+    subst (λ ps. AreDirectoriesRecent cache_limit b.kept.disk b.cache ps paths) (sym only.pairs) (subst (λ disk. AreDirectoriesRecent cache_limit disk b.cache a.kept.pairs paths) (sym only.disk)
     (each_weaker (λ (p : Path). AreLastUsed (length paths) a.kept.disk b.cache (pairs_at a.kept.pairs p)) (λ (p : Path). AreLastUsed cache_limit a.kept.disk b.cache (pairs_at a.kept.pairs p))
     (λ p k. each_weaker (λ (q : Pair). IsLastUsed (length paths) b.cache (active_block_at a.kept.disk q.at)) (λ (q : Pair). IsLastUsed cache_limit b.cache (active_block_at a.kept.disk q.at))
     (λ q z. wider (length paths) cache_limit _ b.cache small.few z) (pairs_at a.kept.pairs p) k) paths (d.recent small ends)))

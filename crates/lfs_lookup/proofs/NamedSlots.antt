@@ -1,32 +1,22 @@
 -- What a search among the slots of a log says of the slots of its content.
 use Rattle.std.proofs.Common.{ℕ, zero, suc, ◌≡◌, ◌⊎◌, inl, inr, ◌<◌, ◌==◌, ◌&&◌, Bool, true, false, cond, not, List, [], ◌∷◌, ◌++◌, length, length-append, rules, Option, Some, None, T, refl, sym, ap, ap₂, slice_get, subst, ◌∙◌, arith, eqb-true, Ordering, Less, Equal, Greater}
 use Rattle.std.specs.Prelude.{IsSome}
-use Rattle.std.specs.Option.{option_and_then, option_map, option_map_or}
-use Rattle.std.specs.List.{AllByRecursion}
+use Rattle.lfs_lookup.proofs.Common.{option_and_then, option_map, option_map_or, AllByRecursion, ne_eqb, same_Some, Name, name_cmp, same_name, is_less, Slot, PairContent, is_superblock, names_superblock, RawSlot, RawContent, complete_content, complete_slot, complete_slots, slot_of_id, kind_of_type, read_struct, starts_superblock, IsAllowedPart, AllowsIfSome, IsFormedSlot, AreWellFormed, IsWellFormed, complete_parts, completed_parts, entry_slots, HasName, FirstIsGreater, BelongsAtId, IsAbsentExcept}
 use Rattle.std.specs.Ordering.{ordering_reverse}
 use Rattle.std.proofs.Math.Dec.{eqb_refl}
-use Rattle.std.proofs.lemmas.Bool.{ne_eqb}
-use Rattle.std.proofs.lemmas.Option.{same_Some}
 use Rattle.lfs_model.proofs.Orders.{name_order, same_by}
 use Rattle.lfs_model.specs.declared.order.NameOrder.{NameOrder}
-use Rattle.lfs_model.specs.format.Names.{Name, name_cmp, same_name, is_equal, is_less}
-use Rattle.lfs_model.specs.format.Slots.{Slot, PairContent, is_superblock, names_superblock}
-use Rattle.lfs_model.specs.format.Content.{RawSlot, RawContent, complete_content, complete_slot, complete_slots, slot_of_id, kind_of_type, read_struct}
+use Rattle.lfs_model.specs.format.Names.{is_equal}
 use Rattle.lfs_model.specs.format.EntryTypes.{file_name_type, directory_name_type, superblock_name_type}
-use Rattle.lfs_model.specs.format.Thread.{starts_superblock}
-use Rattle.lfs_model.specs.layers.LoggedContent.{IsAllowed, AllowsIfSome, IsSlotWellFormed, AreWellFormed, IsWellFormed}
 use Rattle.lfs_model.specs.layers.Lookup.{entry_name, passes_name_test, comes_after, IsLeastId, IsNewId}
-use Rattle.lfs_model.proofs.Completed.{complete_parts, completed_parts}
 use Rattle.lfs_model.proofs.Paths.{name_from_same, same_itself}
 use Rattle.lfs_model.proofs.FirstEntries.{superblock_type}
-use Rattle.lfs_model.specs.session.InDirectory.{entry_slots, HasName, FirstIsGreater, BelongsAtId}
-use Rattle.lfs_lookup.specs.NameSearch.{IsAbsentExcept}
 use Rattle.lfs_tag.specs.ContentView.{data_view}
 use Rattle.lfs_tag.specs.declared.content.NameOrStruct.{NameOrStruct}
 
 -- ---- one slot
 
-pub entry_is : (s : RawSlot) (t : Slot) → IsSlotWellFormed s → complete_slot s ≡ Some t → entry_name s ≡ cond (is_superblock t) None (Some t.name)
+pub entry_is : (s : RawSlot) (t : Slot) → IsFormedSlot s → complete_slot s ≡ Some t → entry_name s ≡ cond (is_superblock t) None (Some t.name)
 entry_is s t h e = go s.name s.struct h.name e
   where
     go : (n p : Option (ℕ × List ℕ)) → AllowsIfSome 0 n →
@@ -59,7 +49,7 @@ and_true : (b : Bool) → (b && true) ≡ b
 and_true true = refl
 and_true false = refl
 
-named_first : (passes : Name → Bool) (s : RawSlot) (rest : List RawSlot) (t : Slot) → IsSlotWellFormed s → complete_slot s ≡ Some t → passes_name_test passes None (s ∷ rest) 0 ≡ passing passes t
+named_first : (passes : Name → Bool) (s : RawSlot) (rest : List RawSlot) (t : Slot) → IsFormedSlot s → complete_slot s ≡ Some t → passes_name_test passes None (s ∷ rest) 0 ≡ passing passes t
 named_first passes s rest t h e = and_true (option_map_or passes (entry_name s) false) ∙ ap (λ o. option_map_or passes o false) (entry_is s t h e) ∙ go (is_superblock t)
   where
     go : (b : Bool) → option_map_or passes (cond b None (Some t.name)) false ≡ cond b false (passes t.name)
@@ -161,10 +151,10 @@ belongs {by} name (s ∷ raw) slots (suc id) h e p =
 pub record IsReadAt (raw : List RawSlot) (id : ℕ) (t : Slot) : Type 0 where
   pub part : ℕ × List ℕ
   pub is : (slot_of_id raw id).struct ≡ Some part
-  pub is_part : IsAllowed 2 part
+  pub is_part : IsAllowedPart 2 part
   pub struct : t.struct ≡ read_struct part.0 part.1
 
-read_first : (s : RawSlot) (raw : List RawSlot) (t : Slot) → IsSlotWellFormed s → complete_slot s ≡ Some t → IsReadAt (s ∷ raw) 0 t
+read_first : (s : RawSlot) (raw : List RawSlot) (t : Slot) → IsFormedSlot s → complete_slot s ≡ Some t → IsReadAt (s ∷ raw) 0 t
 read_first s raw t h e = go s.name s.struct refl h.struct e
   where
     go : (n p : Option (ℕ × List ℕ)) → s.struct ≡ p → AllowsIfSome 2 p

@@ -1,15 +1,11 @@
 -- The addresses of a thread's pairs, by which their numbers are found.
 use Rattle.std.proofs.Common.{ℕ, zero, suc, ◌≡◌, ◌+◌, ◌<◌, ◌≤◌, ◌∙◌, true, false, true≢false, List, [], ◌∷◌, ◌++◌, length, take, get_or, Option, Some, None, nat_eq, slice_get, option_map, refl, sym, ap, subst, arith}
 use Rattle.std.specs.Prelude.{IfNone, IsSome}
-use Rattle.std.specs.List.{AllByRecursion, IsDistinct}
+use Rattle.lfs_lookup.proofs.Common.{AllByRecursion, same_Some, IsPairAt, same_pair, Pair, pairs_blocks, SameAddressAt, blocks_of_addresses, pairs_addresses}
+use Rattle.std.specs.List.{IsDistinct}
 use Rattle.std.proofs.lemmas.List.{take_more}
-use Rattle.std.proofs.lemmas.Option.{same_Some, slice_get-map}
-use Rattle.lfs_model.specs.session.InDirectory.{IsPairAt}
-use Rattle.lfs_model.specs.format.Slots.{same_pair}
-use Rattle.lfs_model.specs.format.Thread.{Pair, blocks_of_pairs}
-use Rattle.lfs_model.proofs.Counts.{number_count, distinct_from_once, once_from_distinct}
-use Rattle.lfs_thread.specs.PairPlaces.{SameAddressAt, blocks_of_addresses}
-use Rattle.lfs_lookup.specs.TreeWalk.{pairs_addresses}
+use Rattle.std.proofs.lemmas.Option.{slice_get-map}
+use Rattle.lfs_model.proofs.Counts.{number_occurrences, distinct_from_once, once_from_distinct}
 
 -- ---- no two pairs have a block in common
 
@@ -20,15 +16,15 @@ addresses_append (x ∷ xs) ys = ap (λ zs. x.at ∷ zs) (addresses_append xs ys
 pub next_added : (ps : List Pair) (index : ℕ) (d : Pair) → index < length ps → pairs_addresses (take index ps) ++ (get_or ps index d).at ∷ [] ≡ pairs_addresses (take (index + 1) ps)
 next_added ps index d below = sym (ap pairs_addresses (take_more ps index d below) ∙ addresses_append (take index ps) (get_or ps index d ∷ []))
 
-first_count : (b n : ℕ) (ps : List Pair) → number_count b (blocks_of_addresses (pairs_addresses (take n ps))) ≤ number_count b (blocks_of_pairs ps)
+first_count : (b n : ℕ) (ps : List Pair) → number_occurrences b (blocks_of_addresses (pairs_addresses (take n ps))) ≤ number_occurrences b (pairs_blocks ps)
 first_count b zero ps = omega arith
 first_count b (suc n) [] = omega arith
 first_count b (suc n) (p ∷ ps) = let rest = first_count b n ps in omega arith
 
-pub next_apart : (ps : List Pair) (index : ℕ) (d : Pair) → index < length ps → IsDistinct nat_eq (blocks_of_pairs ps) → IsDistinct nat_eq (blocks_of_addresses (pairs_addresses (take index ps) ++ (get_or ps index d).at ∷ []))
+pub next_apart : (ps : List Pair) (index : ℕ) (d : Pair) → index < length ps → IsDistinct nat_eq (pairs_blocks ps) → IsDistinct nat_eq (blocks_of_addresses (pairs_addresses (take index ps) ++ (get_or ps index d).at ∷ []))
 next_apart ps index d below distinct =
     subst (λ xs. IsDistinct nat_eq (blocks_of_addresses xs)) (sym (next_added ps index d below))
-    (distinct_from_once (blocks_of_addresses (pairs_addresses (take (index + 1) ps))) (λ b. let o = once_from_distinct (blocks_of_pairs ps) distinct b in let n = first_count b (index + 1) ps in omega arith))
+    (distinct_from_once (blocks_of_addresses (pairs_addresses (take (index + 1) ps))) (λ b. let o = once_from_distinct (pairs_blocks ps) distinct b in let n = first_count b (index + 1) ps in omega arith))
 
 -- ---- the place of an address is the number of its pair
 

@@ -1,25 +1,21 @@
 -- From the pairs one by one to the writing profile.
 use Rattle.std.proofs.Common.{ℕ, zero, suc, ◌≡◌, ◌≢◌, ◌<◌, ◌≤◌, ◌+◌, ◌-◌, ◌∙◌, ◌&&◌, ◌⊎◌, inl, inr, Bool, true, false, List, [], ◌∷◌, length, take, drop, refl, sym, ap, subst, lt-ltb, ltb→lt, T, arith}
 use Rattle.std.specs.Prelude.{All, MatchOption, None, Option, nat_lt, map, slice_get, slice_index_or, Some}
-use Rattle.std.proofs.lemmas.List.{get_or-drop, get_or-take, get_or_default, length-drop, length-map, length-take}
-use Rattle.std.proofs.lemmas.Option.{get_or_from_slice_get, slice_get-get_or, slice_get_within}
-use Rattle.lfs_model.specs.format.Content.{RawSlot, complete_slot, complete_slots}
+use Rattle.lfs_lookup.proofs.Common.{get_or-drop, get_or-take, length-map, length-take, slice_get-get_or, slice_get_within, RawSlot, complete_slot, complete_slots, Disk, BreaksProfile, FitsInPair, Inline, PairContent, Slot, is_superblock, names_superblock, array_address, Pair, is_hard_tail, count_before_root, IsWritableSlot, IsWritable, BeginsWithSuperblock, IsAccepted, IsTreeEntry, complete_length, complete_parts, empty_anchor, BreaksPair, IsWritablePair, HasSuperblockStruct}
+use Rattle.std.proofs.lemmas.List.{get_or_default, length-drop}
+use Rattle.std.proofs.lemmas.Option.{get_or_from_slice_get}
 use Rattle.lfs_device.specs.declared.geometry.Geometry.{Geometry}
 use Rattle.lfs_model.specs.declared.limits.AcceptedVersions.{AcceptedVersions}
 use Rattle.lfs_model.specs.declared.limits.Profile.{Profile}
-use Rattle.lfs_model.specs.format.Disk.{Disk}
-use Rattle.lfs_model.specs.layers.ProfileBreaches.{BreaksProfile, IsBreachIfAny, IsSmallEnough, IsEmptyPairAt, IsTooLarge}
-use Rattle.lfs_model.specs.format.Slots.{Directory, File, FitsInPair, Inline, SlotKind, PairContent, Slot, Superblock, is_superblock, names_superblock, array_address}
-use Rattle.lfs_model.specs.format.Thread.{Pair, is_hard_tail, pair_count_before_root}
-use Rattle.lfs_model.specs.tree.Profile.{IsWritableSlot, HasNoEmpties, IsWritable}
-use Rattle.lfs_model.specs.tree.View.{BeginsWithSuperblock, IsAccepted, IsTreeEntry, HasKind}
+use Rattle.lfs_model.specs.layers.ProfileBreaches.{IsBreachIfAny, IsSmallEnough, IsEmptyPairAt, IsTooLarge}
+use Rattle.lfs_model.specs.format.Slots.{Directory, File, SlotKind, Superblock}
+use Rattle.lfs_model.specs.tree.Profile.{HasNoEmpties}
+use Rattle.lfs_model.specs.tree.View.{HasKind}
 use Rattle.lfs_model.specs.layers.Violations.{IsSlotAt}
 use Rattle.lfs_model.specs.declared.breaches.ProfileBreach.{ProfileBreach}
 use Rattle.lfs_model.specs.declared.breaches.ProfileBreach.TheVariants as breach
-use Rattle.lfs_model.proofs.Completed.{complete_length, complete_parts}
-use Rattle.lfs_thread.specs.Beside.{HasGeometryOf}
-use Rattle.lfs_thread.specs.ThreadSteps.{empty_anchor}
-use Rattle.lfs_lookup.specs.ProfileChecks.{BreaksPair, ChargeFits, IsPairBreach, IsWritablePair, HasLongStruct, follows_tail_at}
+use Rattle.lfs_thread.specs.Beside.{HasGeometry}
+use Rattle.lfs_lookup.specs.ProfileChecks.{ChargeFits, IsPairBreach, follows_tail_at}
 
 abbrev flag_at : Bool → List Pair → ℕ → Bool
 flag_at b xs zero = b
@@ -67,11 +63,11 @@ filled_from root ps h (suc k) l e =
 abbrev pub EachFits : Disk → ℕ → List Pair → ℕ → Type 0
 EachFits disk root ps n = (i : ℕ) → i < n → IsWritablePair disk.profile disk.block_size disk.page (follows_tail_at root ps i) (slice_index_or ps i empty_anchor).content
 
-pub writable_from : (disk : Disk) (ps : List Pair) → EachFits disk (pair_count_before_root ps) ps (length ps) → IsWritable disk ps
+pub writable_from : (disk : Disk) (ps : List Pair) → EachFits disk (count_before_root ps) ps (length ps) → IsWritable disk ps
 writable_from disk ps h = record {
   pairs = λ i d l. subst (λ (p : Pair). FitsInPair disk.block_size disk.page p.content) (get_or_default ps i empty_anchor d l) (h i l).pair;
   slots = λ i d l. subst (λ (p : Pair). All (IsWritableSlot disk.profile disk.block_size disk.page) p.content.slots) (get_or_default ps i empty_anchor d l) (h i l).slots;
-  no_empty_pair = have_from false (drop (pair_count_before_root ps) ps) (filled_from (pair_count_before_root ps) ps (λ i l. (h i l).filled));
+  no_empty_pair = have_from false (drop (count_before_root ps) ps) (filled_from (count_before_root ps) ps (λ i l. (h i l).filled));
 }
 
 -- ---- superblocks have 24 bytes
@@ -85,7 +81,7 @@ below_or_not (suc a) (suc b) = go (below_or_not a b)
     go (inl l) = inl (omega (arith, l))
     go (inr l) = inr (omega (arith, l))
 
-shaped_entry : (s : Slot) → IsTreeEntry s → HasLongStruct s
+shaped_entry : (s : Slot) → IsTreeEntry s → HasSuperblockStruct s
 shaped_entry s e k = go s.kind k e.struct
   where
     go : (kind : SlotKind) → names_superblock kind ≡ true → HasKind kind s.struct → (bytes : List ℕ) × ((s.struct ≡ Inline bytes) × (length bytes ≡ 24))
@@ -93,26 +89,26 @@ shaped_entry s e k = go s.kind k e.struct
     go Directory k e = absurd (cc)
     go Superblock k e = absurd e
 
-shaped_headed : (versions : AcceptedVersions) (bytes : List ℕ) (slots : List Slot) → length bytes ≡ 24 → BeginsWithSuperblock versions bytes slots → All HasLongStruct slots
+shaped_headed : (versions : AcceptedVersions) (bytes : List ℕ) (slots : List Slot) → length bytes ≡ 24 → BeginsWithSuperblock versions bytes slots → All HasSuperblockStruct slots
 shaped_headed versions bytes [] n h i d l = absurd (omega (arith, l))
 shaped_headed versions bytes (s ∷ slots) n h zero d l = λ k. (h.1.0, (h.1.1.0, h.1.1.1.len ∙ n))
 shaped_headed versions bytes (s ∷ slots) n h (suc i) d l = shaped_entry (slice_index_or slots i d) (h.2 i d (omega (arith, l)))
 
-pub shaped_all : (disk : Disk) (ps : List Pair) (i : ℕ) → IsAccepted disk ps → i < length ps → All HasLongStruct (slice_index_or ps i empty_anchor).content.slots
-shaped_all disk ps i ok l = go (below_or_not i (pair_count_before_root ps + 1))
+pub shaped_all : (disk : Disk) (ps : List Pair) (i : ℕ) → IsAccepted disk ps → i < length ps → All HasSuperblockStruct (slice_index_or ps i empty_anchor).content.slots
+shaped_all disk ps i ok l = go (below_or_not i (count_before_root ps + 1))
   where
-    go : (i < pair_count_before_root ps + 1) ⊎ (pair_count_before_root ps + 1 ≤ i) → All HasLongStruct (slice_index_or ps i empty_anchor).content.slots
+    go : (i < count_before_root ps + 1) ⊎ (count_before_root ps + 1 ≤ i) → All HasSuperblockStruct (slice_index_or ps i empty_anchor).content.slots
     go (inl a) =
-        let n = length-take (pair_count_before_root ps + 1) ps in
+        let n = length-take (count_before_root ps + 1) ps in
         let s = ok.superblock in
-        subst (λ (p : Pair). All HasLongStruct p.content.slots) (get_or-take (pair_count_before_root ps + 1) ps i empty_anchor a)
-        (shaped_headed disk.profile.versions s.0 (slice_index_or (take (pair_count_before_root ps + 1) ps) i empty_anchor).content.slots s.1.0.len (s.1.1 i empty_anchor (omega (arith, n, l, a))))
+        subst (λ (p : Pair). All HasSuperblockStruct p.content.slots) (get_or-take (count_before_root ps + 1) ps i empty_anchor a)
+        (shaped_headed disk.profile.versions s.0 (slice_index_or (take (count_before_root ps + 1) ps) i empty_anchor).content.slots s.1.0.len (s.1.1 i empty_anchor (omega (arith, n, l, a))))
     go (inr a) =
-        let n = length-drop (pair_count_before_root ps + 1) ps in
-        let k = i - (pair_count_before_root ps + 1) in
-        let at : pair_count_before_root ps + 1 + k ≡ i = omega (arith, a) in
-        subst (λ (p : Pair). All HasLongStruct p.content.slots) (get_or-drop (pair_count_before_root ps + 1) ps k empty_anchor ∙ ap (λ j. slice_index_or ps j empty_anchor) at)
-        (λ j d m. shaped_entry (slice_index_or (slice_index_or (drop (pair_count_before_root ps + 1) ps) k empty_anchor).content.slots j d) (ok.slots k empty_anchor (omega (arith, n, l, a)) j d m))
+        let n = length-drop (count_before_root ps + 1) ps in
+        let k = i - (count_before_root ps + 1) in
+        let at : count_before_root ps + 1 + k ≡ i = omega (arith, a) in
+        subst (λ (p : Pair). All HasSuperblockStruct p.content.slots) (get_or-drop (count_before_root ps + 1) ps k empty_anchor ∙ ap (λ j. slice_index_or ps j empty_anchor) at)
+        (λ j d m. shaped_entry (slice_index_or (slice_index_or (drop (count_before_root ps + 1) ps) k empty_anchor).content.slots j d) (ok.slots k empty_anchor (omega (arith, n, l, a)) j d m))
 
 -- ---- the slots of a log, one by one
 
@@ -180,7 +176,7 @@ charged : (profile : Profile) (block_size page : ℕ) (c : PairContent) (id : �
 charged profile block_size page c id s there entry large small =
     large (subst (λ (t : Slot). is_superblock t ≡ false → ChargeFits profile block_size page t) (get_or_from_slice_get c.slots id s s there) (small.entries id s (slice_get_within c.slots id s there)) entry)
 
-empty_pair : (root : ℕ) (ps : List Pair) (i : ℕ) (at : ℕ × ℕ) → root ≡ pair_count_before_root ps → i < length ps → at ≡ (slice_index_or ps i empty_anchor).at → follows_tail_at root ps i ≡ true
+empty_pair : (root : ℕ) (ps : List Pair) (i : ℕ) (at : ℕ × ℕ) → root ≡ count_before_root ps → i < length ps → at ≡ (slice_index_or ps i empty_anchor).at → follows_tail_at root ps i ≡ true
     → (slice_index_or ps i empty_anchor).content.slots ≡ [] → IsEmptyPairAt ps at
 empty_pair root ps i at is l same follows empty =
     let a = left (nat_lt root i) (is_hard_tail (slice_index_or ps (i - 1) empty_anchor).content.tail) follows in
@@ -218,7 +214,7 @@ large_pair disk ps i at l same large = record {
   large = large;
 }
 
-breaks_image : (disk : Disk) (root : ℕ) (ps : List Pair) (i : ℕ) (b : ProfileBreach) → root ≡ pair_count_before_root ps → i < length ps
+breaks_image : (disk : Disk) (root : ℕ) (ps : List Pair) (i : ℕ) (b : ProfileBreach) → root ≡ count_before_root ps → i < length ps
     → BreaksPair disk.profile disk.block_size disk.page (follows_tail_at root ps i) (slice_index_or ps i empty_anchor) b → BreaksProfile disk ps b
 breaks_image disk root ps i (breach.OtherLimits pair slot limit) is l (inl h) = (h.1.0, (slot_of_pair ps i (array_address pair) slot h.0 h.1.0 l h.1.1.1.0 h.1.1.1.1 h.1.1.0, h.1.1.1.2))
 breaks_image disk root ps i (breach.OtherLimits pair slot limit) is l (inr h) = absurd h
@@ -231,7 +227,7 @@ breaks_image disk root ps i (breach.TooLarge pair) is l (inl h) =
 breaks_image disk root ps i (breach.TooLarge pair) is l (inr h) = large_pair disk ps i (array_address pair) l h.0 (λ small. h.1 small.pair)
 
 -- what a pair of the thread as it was read breaks, in the words of the thread before
-pub as_before : (disk : Disk) (root : ℕ) (qs ps : List Pair) (i : ℕ) (geometry : Geometry) (follows : Bool) → HasGeometryOf geometry disk → qs ≡ ps → follows ≡ follows_tail_at root qs i →
+pub as_before : (disk : Disk) (root : ℕ) (qs ps : List Pair) (i : ℕ) (geometry : Geometry) (follows : Bool) → HasGeometry geometry disk → qs ≡ ps → follows ≡ follows_tail_at root qs i →
     (b : Option ProfileBreach) → IsPairBreach geometry.profile geometry.block_size geometry.page follows (slice_index_or qs i empty_anchor) b
     → IsPairBreach disk.profile disk.block_size disk.page (follows_tail_at root ps i) (slice_index_or ps i empty_anchor) b
 as_before disk root qs ps i geometry follows divided g h b k =
@@ -242,7 +238,7 @@ as_before disk root qs ps i geometry follows divided g h b k =
     (subst (λ (v : Profile). IsPairBreach v geometry.block_size geometry.page follows (slice_index_or qs i empty_anchor) b) divided.profile k))))
 
 -- one more pair
-pub pair_on : (disk : Disk) (root : ℕ) (ps : List Pair) (i : ℕ) (first next r : Option ProfileBreach) → root ≡ pair_count_before_root ps → i < length ps → (r ≡ None → (first ≡ None) × (next ≡ None)) → (r ≡ first) ⊎ (r ≡ next)
+pub pair_on : (disk : Disk) (root : ℕ) (ps : List Pair) (i : ℕ) (first next r : Option ProfileBreach) → root ≡ count_before_root ps → i < length ps → (r ≡ None → (first ≡ None) × (next ≡ None)) → (r ≡ first) ⊎ (r ≡ next)
     → MatchOption first (EachFits disk root ps i) (BreaksProfile disk ps) → IsPairBreach disk.profile disk.block_size disk.page (follows_tail_at root ps i) (slice_index_or ps i empty_anchor) next
     → MatchOption r (EachFits disk root ps (i + 1)) (BreaksProfile disk ps)
 pair_on disk root ps i first next r is l none either so_far here =

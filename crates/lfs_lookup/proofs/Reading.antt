@@ -3,10 +3,7 @@ use Rattle.std.proofs.Common.{◌≡◌, ◌⊎◌, inr, false, Result, Ok, Err,
 use Rattle.std.specs.Prelude.{IfErr}
 use Rattle.lfs_device.specs.declared.error.Error.{Error}
 use Rattle.lfs_device.specs.declared.error.Error.TheVariants.{Io, NoMemory}
-use Rattle.lfs_model.specs.session.History.{fault_count}
-use Rattle.lfs_thread.specs.Kept.{ThreadView}
-use Rattle.lfs_thread.specs.ThreadSteps.{OnlyReadsThread}
-use Rattle.lfs_lookup.specs.LookupReading.{OnlyReadsThreadAndReportsErrors}
+use Rattle.lfs_lookup.proofs.Common.{fault_count, ThreadView, OnlyReadsThread, ReadsOrReports}
 use Rattle.lfs_lookup.proofs.ReadOnly.{only_itself, only_read}
 
 -- calls that answered
@@ -15,7 +12,7 @@ pub record HasRead (old new : ThreadView) : Type 0 where
   pub works : new.failed ≡ false
   pub same : fault_count new.kept.history ≡ fault_count old.kept.history
 
-pub answered : {X : Type 0} (a b : ThreadView) (r : Result X Error) (x : X) → r ≡ Ok x → OnlyReadsThreadAndReportsErrors a b r → HasRead a b
+pub answered : {X : Type 0} (a b : ThreadView) (r : Result X Error) (x : X) → r ≡ Ok x → ReadsOrReports a b r → HasRead a b
 answered a b r x e h = record { only = h.only; works = h.works; same = h.reported.no_fault (λ k. let z = sym e ∙ k in absurd (cc)) }
 
 pub has_read_nothing : (a : ThreadView) → a.failed ≡ false → HasRead a a
@@ -24,7 +21,7 @@ has_read_nothing a works = record { only = only_itself a.kept; works = works; sa
 pub both : (a b c : ThreadView) → HasRead a b → HasRead b c → HasRead a c
 both a b c r s = record { only = only_read a.kept b.kept c.kept r.only s.only; works = s.works; same = s.same ∙ r.same }
 
-pub further : {X : Type 0} (a b c : ThreadView) (r : Result X Error) → HasRead a b → OnlyReadsThreadAndReportsErrors b c r → OnlyReadsThreadAndReportsErrors a c r
+pub further : {X : Type 0} (a b c : ThreadView) (r : Result X Error) → HasRead a b → ReadsOrReports b c r → ReadsOrReports a c r
 further a b c r h s =
     let same = h.same in
     record {
@@ -38,7 +35,7 @@ further a b c r h s =
       };
     }
 
-pub answers : {X : Type 0} (a b : ThreadView) (r : Result X Error) (x : X) → r ≡ Ok x → HasRead a b → OnlyReadsThreadAndReportsErrors a b r
+pub answers : {X : Type 0} (a b : ThreadView) (r : Result X Error) (x : X) → r ≡ Ok x → HasRead a b → ReadsOrReports a b r
 answers {X = X} a b r x e h = record {
   only = h.only;
   works = h.works;
@@ -50,7 +47,7 @@ answers {X = X} a b r x e h = record {
   };
 }
 
-pub lacks_memory : {X : Type 0} (a b : ThreadView) (r : Result X Error) → r ≡ Err NoMemory → HasRead a b → OnlyReadsThreadAndReportsErrors a b r
+pub lacks_memory : {X : Type 0} (a b : ThreadView) (r : Result X Error) → r ≡ Err NoMemory → HasRead a b → ReadsOrReports a b r
 lacks_memory {X = X} a b r e h = record {
   only = h.only;
   works = h.works;
@@ -66,7 +63,7 @@ pub same_error : (X : Type 0) (e f : Error) → (let r : Result X Error = Err e 
 same_error X e f h = cc
 
 -- an error is passed on
-pub passed : {X Y : Type 0} (a b : ThreadView) (r : Result X Error) (s : Result Y Error) (e f : Error) → r ≡ Err e → s ≡ Err f → f ≡ e → OnlyReadsThreadAndReportsErrors a b r → OnlyReadsThreadAndReportsErrors a b s
+pub passed : {X Y : Type 0} (a b : ThreadView) (r : Result X Error) (s : Result Y Error) (e f : Error) → r ≡ Err e → s ≡ Err f → f ≡ e → ReadsOrReports a b r → ReadsOrReports a b s
 passed {X = X} {Y = Y} a b r s e f is now same h = record {
   only = h.only;
   works = h.works;

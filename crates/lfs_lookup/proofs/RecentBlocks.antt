@@ -1,18 +1,11 @@
 -- The blocks that were used last, as one more is brought.
 use Rattle.std.proofs.Common.{ℕ, zero, suc, ◌≡◌, ◌<◌, ◌≤◌, Bool, true, false, cond, not, nat_eq, List, [], ◌∷◌, length, take, Option, Some, None, Result, Ok, Err, refl, sym, ap, subst, ◌∙◌, arith, eqb-true, is_some}
 use Rattle.std.specs.Prelude.{IsSome, OnOk}
-use Rattle.std.specs.List.{AllByRecursion}
+use Rattle.lfs_lookup.proofs.Common.{AllByRecursion, CachedBlocks, cache_limit, disk_block, read_count, Pair, active_block_at, KeptThread, ThreadView, cached_log, thread_pair, ArePairsCached, KeepsCachedPairs, IsMovedFirst, IsLastUsed, StayCached}
 use Rattle.std.proofs.lemmas.List.{take-take}
 use Rattle.lfs_device.specs.declared.error.Error.{Error}
-use Rattle.lfs_model.specs.layers.Cache.{CachedBlocks, cache_limit, cached_bytes, cache_with_block, cache_without_block}
-use Rattle.lfs_model.specs.format.Disk.{disk_block}
-use Rattle.lfs_model.specs.session.History.{read_count}
-use Rattle.lfs_model.specs.format.Thread.{Pair}
-use Rattle.lfs_pair.specs.Pair.{active_block_at}
-use Rattle.lfs_thread.specs.Kept.{KeptThread, ThreadView}
-use Rattle.lfs_thread.specs.CachedLog.{cached_log, loaded_cache as loaded_in}
-use Rattle.lfs_thread.specs.ThreadSteps.{thread_pair_at}
-use Rattle.lfs_lookup.specs.CachedPairs.{ArePairsCached, ReadsNothingAndKeepsPairsWhereAllCached, IsMovedToFront, IsLastUsed, StayCached}
+use Rattle.lfs_model.specs.layers.Cache.{cached_bytes, cache_with, cache_without}
+use Rattle.lfs_thread.specs.CachedLog.{loaded_cache as loaded_in}
 
 same : (b : ℕ) → nat_eq b b ≡ true
 same b = search arith
@@ -57,53 +50,53 @@ module _ (b c : ℕ) (other : nat_eq c b ≡ false) where
   not_here k is = ap (λ z. nat_eq c z) (sym (eqb-true b k is)) ∙ other
 
   -- another block goes
-  past : (n : ℕ) (cache : CachedBlocks) → IsLastUsed n cache c → IsLastUsed n (cache_without_block cache b) c
+  past : (n : ℕ) (cache : CachedBlocks) → IsLastUsed n cache c → IsLastUsed n (cache_without cache b) c
   past zero cache h = absurd (in_none c h)
   past (suc n) [] h = absurd (in_none c h)
   past (suc n) (e ∷ es) h = go (nat_eq b e.0) refl (past n es)
     where
-      behind : (t : Bool) → (IsLastUsed n es c → IsLastUsed n (cache_without_block es b) c) → IsSome (cond t (Some e.1) (cached_bytes (take n es) c)) → IsSome (cond t (Some e.1) (cached_bytes (take n (cache_without_block es b)) c))
+      behind : (t : Bool) → (IsLastUsed n es c → IsLastUsed n (cache_without es b) c) → IsSome (cond t (Some e.1) (cached_bytes (take n es) c)) → IsSome (cond t (Some e.1) (cached_bytes (take n (cache_without es b)) c))
       behind true next k = refl
       behind false next k = next k
 
-      go : (t : Bool) → nat_eq b e.0 ≡ t → (IsLastUsed n es c → IsLastUsed n (cache_without_block es b) c) → IsLastUsed (suc n) (cond (not t) (e ∷ cache_without_block es b) (cache_without_block es b)) c
-      go true is next = wider n (suc n) c (cache_without_block es b) (omega arith) (next (elsewhere (nat_eq c e.0) e.1 (cached_bytes (take n es) c) (not_here e.0 is) h))
+      go : (t : Bool) → nat_eq b e.0 ≡ t → (IsLastUsed n es c → IsLastUsed n (cache_without es b) c) → IsLastUsed (suc n) (cond (not t) (e ∷ cache_without es b) (cache_without es b)) c
+      go true is next = wider n (suc n) c (cache_without es b) (omega arith) (next (elsewhere (nat_eq c e.0) e.1 (cached_bytes (take n es) c) (not_here e.0 is) h))
       go false is next = behind (nat_eq c e.0) next h
 
   -- where the one that goes is as recent, there is one fewer
-  closer : (cache : CachedBlocks) (n : ℕ) → IsLastUsed (suc n) cache b → IsLastUsed (suc n) cache c → IsLastUsed n (cache_without_block cache b) c
+  closer : (cache : CachedBlocks) (n : ℕ) → IsLastUsed (suc n) cache b → IsLastUsed (suc n) cache c → IsLastUsed n (cache_without cache b) c
   closer [] n g h = absurd (in_none c h)
   closer (e ∷ es) n g h = go (nat_eq b e.0) refl (closer es) g
     where
-      deeper : (n : ℕ) → ((m : ℕ) → IsLastUsed (suc m) es b → IsLastUsed (suc m) es c → IsLastUsed m (cache_without_block es b) c) → IsLastUsed n es b → IsLastUsed (suc n) (e ∷ es) c → IsLastUsed n (e ∷ cache_without_block es b) c
+      deeper : (n : ℕ) → ((m : ℕ) → IsLastUsed (suc m) es b → IsLastUsed (suc m) es c → IsLastUsed m (cache_without es b) c) → IsLastUsed n es b → IsLastUsed (suc n) (e ∷ es) c → IsLastUsed n (e ∷ cache_without es b) c
       deeper zero next k h = absurd (in_none b k)
       deeper (suc n) next k h = by (nat_eq c e.0) h
         where
-          by : (t : Bool) → IsSome (cond t (Some e.1) (cached_bytes (take (suc n) es) c)) → IsSome (cond t (Some e.1) (cached_bytes (take n (cache_without_block es b)) c))
+          by : (t : Bool) → IsSome (cond t (Some e.1) (cached_bytes (take (suc n) es) c)) → IsSome (cond t (Some e.1) (cached_bytes (take n (cache_without es b)) c))
           by true z = refl
           by false z = next n k z
 
-      go : (t : Bool) → nat_eq b e.0 ≡ t → ((m : ℕ) → IsLastUsed (suc m) es b → IsLastUsed (suc m) es c → IsLastUsed m (cache_without_block es b) c) → IsSome (cond t (Some e.1) (cached_bytes (take n es) b))
-          → IsLastUsed n (cond (not t) (e ∷ cache_without_block es b) (cache_without_block es b)) c
+      go : (t : Bool) → nat_eq b e.0 ≡ t → ((m : ℕ) → IsLastUsed (suc m) es b → IsLastUsed (suc m) es c → IsLastUsed m (cache_without es b) c) → IsSome (cond t (Some e.1) (cached_bytes (take n es) b))
+          → IsLastUsed n (cond (not t) (e ∷ cache_without es b) (cache_without es b)) c
       go true is next k = past n es (elsewhere (nat_eq c e.0) e.1 (cached_bytes (take n es) c) (not_here e.0 is) h)
       go false is next k = deeper n next k h
 
 module _ (cache : CachedBlocks) (b : ℕ) (bytes : List ℕ) where
   -- those in front of the others
-  front : (n c : ℕ) → n < cache_limit → (nat_eq c b ≡ false → IsLastUsed n (cache_without_block cache b) c) → IsLastUsed (suc n) (cache_with_block cache b bytes) c
+  front : (n c : ℕ) → n < cache_limit → (nat_eq c b ≡ false → IsLastUsed n (cache_without cache b) c) → IsLastUsed (suc n) (cache_with cache b bytes) c
   front n c few h = go (nat_eq c b) refl
     where
-      go : (t : Bool) → nat_eq c b ≡ t → IsSome (cond t (Some bytes) (cached_bytes (take n (take 7 (cache_without_block cache b))) c))
+      go : (t : Bool) → nat_eq c b ≡ t → IsSome (cond t (Some bytes) (cached_bytes (take n (take 7 (cache_without cache b))) c))
       go true is = refl
-      go false is = subst (λ es. IsSome (cached_bytes es c)) (sym (take-take n 7 (cache_without_block cache b) (omega (arith, few)))) (h is)
+      go false is = subst (λ es. IsSome (cached_bytes es c)) (sym (take-take n 7 (cache_without cache b) (omega (arith, few)))) (h is)
 
-  pub brought : IsMovedToFront b cache (cache_with_block cache b bytes)
+  pub brought : IsMovedFirst b cache (cache_with cache b bytes)
   brought = record {
     first = here (nat_eq b b) bytes None (same b);
     others = λ n c few h. front n c few (λ other. past b c other n cache h);
   }
 
-  pub stay_loaded : IsLastUsed cache_limit cache b → StayCached cache (cache_with_block cache b bytes)
+  pub stay_loaded : IsLastUsed cache_limit cache b → StayCached cache (cache_with cache b bytes)
   stay_loaded there c h = front 7 c (omega arith) (λ other. closer b c other cache 7 there h)
 
 -- ---- along the pairs of a directory
@@ -129,20 +122,20 @@ Passes r s = (P : Type 0) → OnOk r P → OnOk s P
 pub passes_none : {X Y : Type 0} (r : Result X Error) (s : Result Y Error) (e : Error) → s ≡ Err e → Passes r s
 passes_none r s e is = λ P p. on_err s e P is
 
-pub along_as : {X Y : Type 0} (ps : List Pair) (old new : ThreadView) (r : Result X Error) (s : Result Y Error) → Passes r s → ReadsNothingAndKeepsPairsWhereAllCached ps old new r → ReadsNothingAndKeepsPairsWhereAllCached ps old new s
+pub along_as : {X Y : Type 0} (ps : List Pair) (old new : ThreadView) (r : Result X Error) (s : Result Y Error) → Passes r s → KeepsCachedPairs ps old new r → KeepsCachedPairs ps old new s
 along_as ps old new r s pass b = record { none = b.none; stay = λ there. pass _ (b.stay there); one = λ e. pass _ (b.one e) }
 
 -- a pair is brought without a call where it is cached
 pub loads_one : {X : Type 0} (old new : ThreadView) (index : ℕ) (s : Result X Error) → (IsSome (cached_log old index) → new.kept ≡ old.kept)
-    → OnOk s (new.cache ≡ loaded_in old index) → ReadsNothingAndKeepsPairsWhereAllCached (thread_pair_at old.kept index ∷ []) old new s
+    → OnOk s (new.cache ≡ loaded_in old index) → KeepsCachedPairs (thread_pair old.kept index ∷ []) old new s
 loads_one old new index s no_call was = record {
   none = λ there. ap (λ (t : KeptThread). read_count t.history) (no_call (is_cached cache_limit b old.cache there.0));
   stay = λ there. after s (λ e. subst (StayCached old.cache) (sym e) (stay_loaded old.cache b (disk_block old.kept.disk b) there.0)) was;
-  one = λ e. after s (λ e. (subst (IsMovedToFront b old.cache) (sym e) (brought old.cache b (disk_block old.kept.disk b)), tt)) was;
+  one = λ e. after s (λ e. (subst (IsMovedFirst b old.cache) (sym e) (brought old.cache b (disk_block old.kept.disk b)), tt)) was;
 }
   where
     b : ℕ
-    b = active_block_at old.kept.disk (thread_pair_at old.kept index).at
+    b = active_block_at old.kept.disk (thread_pair old.kept index).at
 
 -- The pairs of a run up to the rest were brought: where all are cached nothing was read.
 pub record HasKept (run rest : List Pair) (old now : ThreadView) : Type 0 where
@@ -163,7 +156,7 @@ pub loaded_none : (run : List Pair) (old : ThreadView) → HasBrought run run ol
 loaded_none run old = record { kept = kept_none run old; begun = λ e. (refl, refl) }
 
 module _ {X : Type 0} (run rest more : List Pair) (p : Pair) (old now new : ThreadView) (r : Result X Error) (h : HasKept run rest old now) (is : rest ≡ p ∷ more)
-    (b : ReadsNothingAndKeepsPairsWhereAllCached (p ∷ []) now new r) where
+    (b : KeepsCachedPairs (p ∷ []) now new r) where
   here_is_cached : ArePairsCached old run → ArePairsCached now (p ∷ [])
   here_is_cached there =
       let k = subst (ArePairsCached old) is (h.left there) in
@@ -184,16 +177,16 @@ module _ {X : Type 0} (run rest more : List Pair) (p : Pair) (old now new : Thre
   }
 
 module _ {X : Type 0} (run rest more : List Pair) (p : Pair) (old now new : ThreadView) (r : Result X Error) (h : HasBrought run rest old now) (is : rest ≡ p ∷ more)
-    (b : ReadsNothingAndKeepsPairsWhereAllCached (p ∷ []) now new r) where
+    (b : KeepsCachedPairs (p ∷ []) now new r) where
   -- the walk ends here
-  pub loads_to_here : {Y : Type 0} (s : Result Y Error) → Passes r s → ReadsNothingAndKeepsPairsWhereAllCached run old new s
+  pub loads_to_here : {Y : Type 0} (s : Result Y Error) → Passes r s → KeepsCachedPairs run old new s
   loads_to_here s pass = record {
     none = none_on run rest more p old now new r h.kept is b;
     stay = λ there. pass _ (stay_on run rest more p old now new r h.kept is b there);
     one = λ e. let g = h.begun e in let are = sym g.1 ∙ is in let one = ap length are in
-        pass _ (subst (λ qs. OnOk r (AllByRecursion (λ q. IsMovedToFront (active_block_at old.kept.disk q.at) old.cache new.cache) qs)) (sym (are ∙ ap (λ qs. p ∷ qs) (no_more more (omega (arith, one, e)))))
-        (subst (λ c. OnOk r (AllByRecursion (λ q. IsMovedToFront (active_block_at old.kept.disk q.at) c new.cache) (p ∷ []))) g.0
-        (subst (λ d. OnOk r (AllByRecursion (λ q. IsMovedToFront (active_block_at d q.at) now.cache new.cache) (p ∷ []))) h.kept.disk (b.one refl))));
+        pass _ (subst (λ qs. OnOk r (AllByRecursion (λ q. IsMovedFirst (active_block_at old.kept.disk q.at) old.cache new.cache) qs)) (sym (are ∙ ap (λ qs. p ∷ qs) (no_more more (omega (arith, one, e)))))
+        (subst (λ c. OnOk r (AllByRecursion (λ q. IsMovedFirst (active_block_at old.kept.disk q.at) c new.cache) (p ∷ []))) g.0
+        (subst (λ d. OnOk r (AllByRecursion (λ q. IsMovedFirst (active_block_at d q.at) now.cache new.cache) (p ∷ []))) h.kept.disk (b.one refl))));
   }
     where
       no_more : (qs : List Pair) → length qs ≡ 0 → qs ≡ []

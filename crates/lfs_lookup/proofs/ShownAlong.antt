@@ -1,10 +1,6 @@
 -- A search along all pairs of a directory, where a slot may be passed over.
 use Rattle.std.proofs.Common.{ℕ, zero, suc, ◌≡◌, ◌<◌, ◌+◌, false, List, [], ◌∷◌, ◌++◌, length, drop, Option, refl, sym, ap, subst, ◌∙◌, arith, append_assoc, length-append, get_or}
-use Rattle.lfs_model.specs.session.InDirectory.{IsPairOfDirectory, HasHardTail}
-use Rattle.lfs_model.specs.format.Names.{Name}
-use Rattle.lfs_model.specs.format.Thread.{Pair, is_hard_tail}
-use Rattle.lfs_model.proofs.Counts.{each_append}
-use Rattle.lfs_lookup.specs.NameSearch.{IsAbsent, IsAbsentExcept, IsNameAt, HasNameUnskipped, skipped_id}
+use Rattle.lfs_lookup.proofs.Common.{IsDirectoryPair, HasHardTail, Name, Pair, is_hard_tail, each_append, IsAbsent, IsAbsentExcept, IsNameAt, HasNameUnskipped, skipped_id}
 use Rattle.lfs_lookup.specs.declared.entry.FileOrDirectory.{FileOrDirectory}
 use Rattle.lfs_lookup.specs.declared.search.SlotPosition.{SlotPosition}
 use Rattle.lfs_lookup.proofs.Walked.{at_index, begun_here}
@@ -12,7 +8,7 @@ use Rattle.lfs_lookup.proofs.Walked.{at_index, begun_here}
 -- the pair of that number is one of the directory's
 pub record IsReached (ps : List Pair) (first index : ℕ) (q : Pair) : Type 0 where
   pub rest : List Pair
-  pub behind : IsPairOfDirectory ps first index q rest
+  pub behind : IsDirectoryPair ps first index q rest
 
 pub reached_first : (ps : List Pair) (first : ℕ) (d : Pair) → first < length ps → IsReached ps first first (get_or ps first d)
 reached_first ps first d below = let a = at_index ps first d below in record { rest = a.rest; behind = begun_here ps first first (get_or ps first d) a refl }
@@ -24,7 +20,7 @@ get_behind (x ∷ xs) y ys d = get_behind xs y ys d
 pub reached_next : (ps : List Pair) (first index : ℕ) (q d : Pair) → IsReached ps first index q → HasHardTail q → index + 1 < length ps → IsReached ps first (index + 1) (get_or ps (index + 1) d)
 reached_next ps first index q d r hard below = go r.rest r.behind
   where
-    go : (rest : List Pair) → IsPairOfDirectory ps first index q rest → IsReached ps first (index + 1) (get_or ps (index + 1) d)
+    go : (rest : List Pair) → IsDirectoryPair ps first index q rest → IsReached ps first (index + 1) (get_or ps (index + 1) d)
     go [] b = absurd (
         let l = ap length b.parts in
         let m = length-append b.front (b.left ++ q ∷ []) in

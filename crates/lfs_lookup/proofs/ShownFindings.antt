@@ -1,38 +1,13 @@
 -- What a look-up says of what is shown at a path.
 use Rattle.std.proofs.Common.{ℕ, ◌≡◌, ◌<◌, ◌≤◌, ◌+◌, ◌∙◌, Bool, nat_lt, List, [], ◌∷◌, ◌++◌, length, drop, map, Option, Some, None, Ok, Err, option_map, sym, ap, subst, arith}
 use Rattle.std.specs.Prelude.{IfOk, IfSome, Result, sum_by}
-use Rattle.std.proofs.lemmas.List.{length-map}
-use Rattle.std.proofs.lemmas.List.Sums.{sum_by-append, sum_by-cons}
-use Rattle.lfs_device.specs.Bytes.{HoldBytes}
+use Rattle.lfs_lookup.proofs.Common.{length-map, sum_by-append, sum_by-cons, AreByteBlocks, sorted_names, pair_count_at, ancestor_paths, items_at, node_file_size, joined_count, Name, parents_refusal, slot_of, Gstate, Slot, Struct, Pair, pairs_gstate, count_before_root, Path, names_at, struct_node, directory_names, IsAccepted, struct_list_bytes, all_entries, disk_tree, run_length_is, KeptThread, IsResult, IsStorage, IsFoundNode, IsPermutation, AreShorterFirst, NamedStruct, named_struct, AreInLimits, listed_item, joined_count_from, pair_entries_from, LeadsToPair, IsHiddenResult, HidesFrom}
 use Rattle.lfs_device.specs.declared.error.Error.{Error}
 use Rattle.lfs_model.proofs.Orders.{length_in_order}
-use Rattle.lfs_model.specs.format.Names.{sorted_names}
 use Rattle.lfs_model.specs.declared.order.NameOrder.TheVariants.{ShorterFirst}
-use Rattle.lfs_model.specs.crash.Frame.{pair_count_at, ancestor_paths}
-use Rattle.lfs_model.specs.session.Effects.{items_at, node_file_size}
-use Rattle.lfs_model.specs.session.InDirectory.{joined_count}
-use Rattle.lfs_model.specs.format.Names.{Name}
 use Rattle.lfs_model.specs.session.Operations as ops
-use Rattle.lfs_model.specs.session.Session.{parents_refusal}
-use Rattle.lfs_model.specs.session.SlotEdits.{slot_of}
-use Rattle.lfs_model.specs.format.Slots.{Gstate, Slot, Struct}
-use Rattle.lfs_model.specs.format.Thread.{Pair, pairs_gstate, pair_count_before_root}
-use Rattle.lfs_model.specs.tree.Tree.{Path, names_at, struct_node}
-use Rattle.lfs_model.specs.session.TreeEdits.{directory_names}
-use Rattle.lfs_model.specs.tree.View.{IsAccepted}
-use Rattle.lfs_model.specs.tree.Shown.{struct_list_bytes, all_entries, tree_on_disk}
-use Rattle.lfs_model.proofs.Searches.{run_length_is}
-use Rattle.lfs_thread.specs.Kept.{KeptThread}
-use Rattle.lfs_lookup.specs.AtPath.{FoundInlineFits, IsResult, node_or_refusal, found_pair, has_entries_from}
-use Rattle.lfs_lookup.specs.Entry.{IsStorage}
-use Rattle.lfs_lookup.specs.Finds.{IsFoundNode, has_entry_beneath}
-use Rattle.std.specs.List.Sorted.{IsPermutation}
-use Rattle.lfs_lookup.specs.ByName.{AreShorterFirst}
-use Rattle.lfs_lookup.specs.Items.{NamedStruct, named_struct}
-use Rattle.lfs_lookup.specs.ListAt.{AreInLimits, listed_item}
-use Rattle.lfs_lookup.specs.Listed.{joined_count_from, pair_entries_from}
-use Rattle.lfs_lookup.specs.LookupPaths.{LeadsToPair, IsHiddenResult}
-use Rattle.lfs_lookup.specs.NameSearch.{HidesFrom}
+use Rattle.lfs_lookup.specs.AtPath.{FoundInlineFits, node_or_refusal, found_pair, has_entries_from}
+use Rattle.lfs_lookup.specs.Finds.{has_entry_beneath}
 use Rattle.lfs_lookup.specs.declared.entry.FileStorage.{FileStorage}
 use Rattle.lfs_lookup.specs.declared.entry.FileStorage.TheVariants as contents
 use Rattle.lfs_lookup.specs.declared.found_entries.FoundNode.{FoundNode}
@@ -49,7 +24,7 @@ use Rattle.lfs_lookup.proofs.RootPairs.{root_leads}
 -- the directory at a path begins with that pair; where there is none, nothing stands beneath the path
 abbrev pub IsFirstAt : KeptThread → Path → Option ℕ → Type 0
 IsFirstAt t path (Some first) = LeadsToPair t.pairs path first
-IsFirstAt t path None = directory_names (tree_on_disk t.disk t.pairs path) ≡ []
+IsFirstAt t path None = directory_names (disk_tree t.disk t.pairs path) ≡ []
 
 -- the directories above a path, and its own
 pub few_own : (f : Path → ℕ) (path : Path) → sum_by f (ancestor_paths path ++ path ∷ []) ≡ sum_by f (ancestor_paths path) + f path
@@ -77,24 +52,24 @@ in_entry t path shown.ParentIsMissing h = tt
 module _ (t : KeptThread) (path : Path) (ok : IsAccepted t.disk t.pairs) where
   -- ---- what is found
 
-  found_begun : (first : ℕ) (f : FoundNode) → LeadsToPair t.pairs path first → parents_refusal (tree_on_disk t.disk t.pairs) [] path ≡ None → f ≡ record { fault = None; node = node.Directory } → IsFoundNode (tree_on_disk t.disk t.pairs) path f
+  found_begun : (first : ℕ) (f : FoundNode) → LeadsToPair t.pairs path first → parents_refusal (disk_tree t.disk t.pairs) [] path ≡ None → f ≡ record { fault = None; node = node.Directory } → IsFoundNode (disk_tree t.disk t.pairs) path f
   found_begun first f on h k =
       let d = directory_at_path t.disk t.pairs path on.at on.leads in
-      subst (λ z. IsFoundNode (tree_on_disk t.disk t.pairs) path z) (sym k) (finds_directory (tree_on_disk t.disk t.pairs) path d.attributes (sorted_names ShorterFirst (names_at (all_entries t.pairs) on.at)) d.is h)
+      subst (λ z. IsFoundNode (disk_tree t.disk t.pairs) path z) (sym k) (finds_directory (disk_tree t.disk t.pairs) path d.attributes (sorted_names ShorterFirst (names_at (all_entries t.pairs) on.at)) d.is h)
 
-  pub found_shown : (root : ℕ) (s : VisiblePathLookup) (f : FoundNode) → root ≡ pair_count_before_root t.pairs → SizedLists t.disk → IsResult t path s → f ≡ node_or_refusal s → IsFoundNode (tree_on_disk t.disk t.pairs) path f
+  pub found_shown : (root : ℕ) (s : VisiblePathLookup) (f : FoundNode) → root ≡ count_before_root t.pairs → SizedLists t.disk → IsResult t path s → f ≡ node_or_refusal s → IsFoundNode (disk_tree t.disk t.pairs) path f
   found_shown root shown.Root f r sized s k =
-      found_begun root f (subst (λ (p : Path). LeadsToPair t.pairs p root) (sym s.shows) (root_leads t.disk t.pairs root ok r)) (ap (parents_refusal (tree_on_disk t.disk t.pairs) []) s.shows) k
+      found_begun root f (subst (λ (p : Path). LeadsToPair t.pairs p root) (sym s.shows) (root_leads t.disk t.pairs root ok r)) (ap (parents_refusal (disk_tree t.disk t.pairs) []) s.shows) k
   found_shown root (shown.Directory spot first) f r sized s k = found_begun first f s.shows.1.1 s.shows.0 k
   found_shown root (shown.File spot contents) f r sized s k = file_at t path ok s.moved spot contents f s.shows sized k
   found_shown root shown.Nothing f r sized s k =
-      subst (λ z. IsFoundNode (tree_on_disk t.disk t.pairs) path z) (sym k) (finds_nothing (tree_on_disk t.disk t.pairs) path None (nothing_at t.disk t.pairs path s.shows.1) s.shows.0)
+      subst (λ z. IsFoundNode (disk_tree t.disk t.pairs) path z) (sym k) (finds_nothing (disk_tree t.disk t.pairs) path None (nothing_at t.disk t.pairs path s.shows.1) s.shows.0)
   found_shown root shown.ParentIsFile f r sized s k = refused_at t path ok ops.NotDir f s.shows k
   found_shown root shown.ParentIsMissing f r sized s k = refused_at t path ok ops.NoEnt f s.shows k
 
   -- ---- the first pair of a directory
 
-  nameless : (x : Slot) (c : FileStorage) → slot_of t.pairs path ≡ Some x → IsStorage c x.struct → directory_names (tree_on_disk t.disk t.pairs path) ≡ []
+  nameless : (x : Slot) (c : FileStorage) → slot_of t.pairs path ≡ Some x → IsStorage c x.struct → directory_names (disk_tree t.disk t.pairs path) ≡ []
   nameless x (contents.Inline len) e k =
       ap (λ o. directory_names (option_map (λ (f : Slot). struct_node (struct_list_bytes t.disk) (all_entries t.pairs) f.attributes f.struct) o)) e
       ∙ ap (λ (z : Struct). directory_names (Some (struct_node (struct_list_bytes t.disk) (all_entries t.pairs) x.attributes z))) k.1.0
@@ -102,7 +77,7 @@ module _ (t : KeptThread) (path : Path) (ok : IsAccepted t.disk t.pairs) where
       ap (λ o. directory_names (option_map (λ (f : Slot). struct_node (struct_list_bytes t.disk) (all_entries t.pairs) f.attributes f.struct) o)) e
       ∙ ap (λ (z : Struct). directory_names (Some (struct_node (struct_list_bytes t.disk) (all_entries t.pairs) x.attributes z))) k
 
-  first_is : (root : ℕ) (s : VisiblePathLookup) → root ≡ pair_count_before_root t.pairs → IsResult t path s → IsFirstAt t path (found_pair root s)
+  first_is : (root : ℕ) (s : VisiblePathLookup) → root ≡ count_before_root t.pairs → IsResult t path s → IsFirstAt t path (found_pair root s)
   first_is root shown.Root r s = subst (λ (p : Path). LeadsToPair t.pairs p root) (sym s.shows) (root_leads t.disk t.pairs root ok r)
   first_is root (shown.Directory spot first) r s = s.shows.1.1
   first_is root (shown.File spot contents) r s = let (h, (at, k)) = s.shows in nameless at.stands.stands.slot contents at.slot k
@@ -110,7 +85,7 @@ module _ (t : KeptThread) (path : Path) (ok : IsAccepted t.disk t.pairs) where
   first_is root shown.ParentIsFile r s = ap directory_names (nothing_at t.disk t.pairs path (refused_none t.disk t.pairs path [] ops.NotDir s.shows))
   first_is root shown.ParentIsMissing r s = ap directory_names (nothing_at t.disk t.pairs path (refused_none t.disk t.pairs path [] ops.NoEnt s.shows))
 
-  pub first_at : (root : ℕ) (s : VisiblePathLookup) (from : Option ℕ) → root ≡ pair_count_before_root t.pairs → IsResult t path s → from ≡ found_pair root s → IsFirstAt t path from
+  pub first_at : (root : ℕ) (s : VisiblePathLookup) (from : Option ℕ) → root ≡ count_before_root t.pairs → IsResult t path s → from ≡ found_pair root s → IsFirstAt t path from
   first_at root s from r h e = subst (IsFirstAt t path) (sym e) (first_is root s r h)
 
   pub first_within : (now : List Pair) (from : Option ℕ) → now ≡ t.pairs → IsFirstAt t path from → IfSome from (λ first. first < length now)
@@ -126,7 +101,7 @@ module _ (t : KeptThread) (path : Path) (ok : IsAccepted t.disk t.pairs) where
 
   -- ---- what stands there
 
-  pub has_beneath : (now : List Pair) (from : Option ℕ) (has : Bool) → now ≡ t.pairs → IsFirstAt t path from → has ≡ has_entries_from now from → has ≡ has_entry_beneath (tree_on_disk t.disk t.pairs) path
+  pub has_beneath : (now : List Pair) (from : Option ℕ) (has : Bool) → now ≡ t.pairs → IsFirstAt t path from → has ≡ has_entries_from now from → has ≡ has_entry_beneath (disk_tree t.disk t.pairs) path
   has_beneath now None has e h k = k ∙ ap (λ (z : List Name). nat_lt 0 (length z)) (sym h)
   has_beneath now (Some first) has e on k =
       let d = directory_at_path t.disk t.pairs path on.at on.leads in
@@ -138,13 +113,13 @@ module _ (t : KeptThread) (path : Path) (ok : IsAccepted t.disk t.pairs) where
   none_by_name found shapes are by_name = nothing_moved shapes (subst (λ (z : List NamedStruct). IsPermutation z shapes) are by_name.permutation)
 
   pub short_from : (now : List Pair) (from : Option ℕ) (found shapes : List NamedStruct) → now ≡ t.pairs → IsFirstAt t path from → found ≡ pair_entries_from now from → AreShorterFirst found shapes
-      → HoldBytes t.disk.blocks → AreInLimits shapes
+      → AreByteBlocks t.disk.blocks → AreInLimits shapes
   short_from now None found shapes e h are by_name bytes = subst AreInLimits (sym (none_by_name found shapes are by_name)) tt
   short_from now (Some first) found shapes e on are by_name bytes = short_there t path ok now first found shapes e on are by_name bytes
 
   pub listed_from : (now : List Pair) (from : Option ℕ) (found shapes : List NamedStruct) (listed : List ops.ListedEntry) → now ≡ t.pairs → IsFirstAt t path from → found ≡ pair_entries_from now from
-      → AreShorterFirst found shapes → SizedLists t.disk → listed ≡ map listed_item shapes → listed ≡ items_at (tree_on_disk t.disk t.pairs) path
+      → AreShorterFirst found shapes → SizedLists t.disk → listed ≡ map listed_item shapes → listed ≡ items_at (disk_tree t.disk t.pairs) path
   listed_from now None found shapes listed e h are by_name lists k =
       k ∙ ap (map listed_item) (none_by_name found shapes are by_name)
-      ∙ sym (ap (map (λ name. let item : ops.ListedEntry = record { name = name; size = node_file_size (tree_on_disk t.disk t.pairs (path ++ name ∷ [])) } in item)) h)
+      ∙ sym (ap (map (λ name. let item : ops.ListedEntry = record { name = name; size = node_file_size (disk_tree t.disk t.pairs (path ++ name ∷ [])) } in item)) h)
   listed_from now (Some first) found shapes listed e on are by_name lists k = listed_there t path ok now first found shapes e on are by_name listed lists k

@@ -1,28 +1,13 @@
 -- What a search that passes over a moved slot says of an accepted image.
 use Rattle.std.proofs.Common.{ℕ, zero, suc, ◌≡◌, ◌+◌, ◌==◌, ◌&&◌, Bool, true, false, cond, not, List, [], ◌∷◌, ◌++◌, length, drop, Option, Some, None, refl, sym, ap, ap₂, subst, ◌∙◌, arith, append_assoc, length-append, slice_get, filter, flat_map, remove, take, nat_eq}
 use Rattle.std.specs.List.{IsDistinct}
-use Rattle.std.specs.Option.{option_and_then}
-use Rattle.std.proofs.lemmas.Option.{same_Some}
-use Rattle.lfs_model.specs.format.Disk.{Disk}
-use Rattle.lfs_model.specs.session.InDirectory.{IsPairAt, IsPairOfDirectory}
-use Rattle.lfs_model.specs.format.Names.{Name}
-use Rattle.lfs_model.specs.session.SlotEdits.{slot_of}
-use Rattle.lfs_model.specs.format.Slots.{Slot, Gstate, is_superblock, same_pair}
-use Rattle.lfs_model.specs.format.Thread.{Pair, pairs_gstate, unmoved_entries, blocks_of_pairs, pair_directories, pairs_from_root, directory_slots, root_address, pair_count_before_root, moved_id}
-use Rattle.lfs_model.specs.tree.Tree.{Path, entry_named, root_slot}
-use Rattle.lfs_model.specs.tree.View.{IsAccepted}
-use Rattle.lfs_model.specs.tree.Shown.{LeadsTo, all_entries}
-use Rattle.lfs_model.proofs.Counts.{Each, each_append}
-use Rattle.lfs_model.proofs.Listings.{listing, IsRun, run_directories, Apart, distinct_apart, distinct_right, entries_own}
-use Rattle.lfs_model.proofs.OneCommit.{slot_there}
+use Rattle.lfs_lookup.proofs.Common.{option_and_then, same_Some, Disk, IsPairAt, IsDirectoryPair, Name, slot_of, Slot, Gstate, is_superblock, same_pair, Pair, pairs_gstate, unmoved_entries, pairs_blocks, pair_directories, pairs_from_root, directory_slots, root_address, count_before_root, moved_id, Path, entry_named, root_slot, IsAccepted, LeadsTo, all_entries, Each, each_append, listing, IsRun, run_directories, Apart, distinct_apart, distinct_right, entries_own, slot_there, begins_directory, HasDirectory, chain_of_thread, HidesFrom, IsAbsent, IsAbsentExcept, IsNameAt, skipped_id}
 use Rattle.lfs_model.proofs.Paths.{unlike_test}
 use Rattle.lfs_model.proofs.Searches as searches
-use Rattle.lfs_model.proofs.Searches.{IsDirectory, begins_directory}
-use Rattle.lfs_model.proofs.Found.{HasDirectory, chain_of_thread}
+use Rattle.lfs_model.proofs.Searches.{IsDirectory}
 use Rattle.lfs_model.proofs.Sites.{Site, dirs_at, thread_at, IsSite, begin_of, shown_at, site_directories}
 use Rattle.lfs_model.proofs.Superblocks.{pairs_behind}
 use Rattle.lfs_model.proofs.Walks.{walk_below}
-use Rattle.lfs_lookup.specs.NameSearch.{HidesFrom, IsAbsent, IsAbsentExcept, IsNameAt, skipped_id}
 use Rattle.lfs_lookup.specs.declared.entry.FileOrDirectory.{FileOrDirectory}
 use Rattle.lfs_lookup.specs.declared.search.SlotPosition.{SlotPosition}
 
@@ -152,7 +137,7 @@ shown_is disk ps path a moved first name spot entry ok hides leads begins s =
     u : Slot
     u = s.stands.stands.slot
 
-    b : IsPairOfDirectory ps first spot.pair s.stands.pair s.stands.rest
+    b : IsDirectoryPair ps first spot.pair s.stands.pair s.stands.rest
     b = s.stands.place
 
     w : Site
@@ -206,29 +191,29 @@ absent_is_shown disk ps path a moved first name ok hides leads begins absent = w
     g = pairs_gstate ps
 
     chain : List Pair
-    chain = take (pair_count_before_root ps) ps
+    chain = take (count_before_root ps) ps
 
-    whole : ps ≡ (take (pair_count_before_root ps) ps ++ d.before) ++ (d.first ∷ (d.run ++ d.after))
-    whole = (chain_of_thread ps).0 ∙ ap (λ z. take (pair_count_before_root ps) ps ++ z) d.is ∙ sym (append_assoc (take (pair_count_before_root ps) ps) d.before (d.first ∷ (d.run ++ d.after)))
+    whole : ps ≡ (take (count_before_root ps) ps ++ d.before) ++ (d.first ∷ (d.run ++ d.after))
+    whole = (chain_of_thread ps).0 ∙ ap (λ z. take (count_before_root ps) ps ++ z) d.is ∙ sym (append_assoc (take (count_before_root ps) ps) d.before (d.first ∷ (d.run ++ d.after)))
 
-    count : length (take (pair_count_before_root ps) ps ++ d.before) ≡ first
+    count : length (take (count_before_root ps) ps ++ d.before) ≡ first
     count =
-        let many : length (take (pair_count_before_root ps) ps) ≡ pair_count_before_root ps = sym (ap pair_count_before_root (chain_of_thread ps).0 ∙ (chain_of_thread ps).1) in
+        let many : length (take (count_before_root ps) ps) ≡ count_before_root ps = sym (ap count_before_root (chain_of_thread ps).0 ∙ (chain_of_thread ps).1) in
         let n = begun.number in
-        omega (arith, n, length-append (take (pair_count_before_root ps) ps) d.before, many)
+        omega (arith, n, length-append (take (count_before_root ps) ps) d.before, many)
 
     behind : drop first ps ≡ d.first ∷ (d.run ++ d.after)
-    behind = ap (drop first) whole ∙ drop_to (take (pair_count_before_root ps) ps ++ d.before) (d.first ∷ (d.run ++ d.after)) first (sym count)
+    behind = ap (drop first) whole ∙ drop_to (take (count_before_root ps) ps ++ d.before) (d.first ∷ (d.run ++ d.after)) first (sym count)
 
     hidden : HidesFrom (pairs_gstate ps) moved first (d.first ∷ (d.run ++ d.after))
-    hidden = subst (λ (i : ℕ). HidesFrom (pairs_gstate ps) moved i (d.first ∷ (d.run ++ d.after))) (let c = count in let k : 0 + length (take (pair_count_before_root ps) ps ++ d.before) ≡ first = omega (arith, c) in k)
-        (hides_behind (pairs_gstate ps) moved 0 (take (pair_count_before_root ps) ps ++ d.before) (d.first ∷ (d.run ++ d.after)) (subst (HidesFrom (pairs_gstate ps) moved 0) whole hides))
+    hidden = subst (λ (i : ℕ). HidesFrom (pairs_gstate ps) moved i (d.first ∷ (d.run ++ d.after))) (let c = count in let k : 0 + length (take (count_before_root ps) ps ++ d.before) ≡ first = omega (arith, c) in k)
+        (hides_behind (pairs_gstate ps) moved 0 (take (count_before_root ps) ps ++ d.before) (d.first ∷ (d.run ++ d.after)) (subst (HidesFrom (pairs_gstate ps) moved 0) whole hides))
 
     dirs : pair_directories (pairs_gstate ps) (pairs_from_root ps) ≡ pair_directories (pairs_gstate ps) d.before ++ listing d.first.at (flat_map (unmoved_entries (pairs_gstate ps)) (d.first ∷ d.run)) ∷ pair_directories (pairs_gstate ps) d.after
     dirs = ap (pair_directories (pairs_gstate ps)) d.is ∙ run_directories (pairs_gstate ps) d.before d.first d.run d.after d.ends d.is_run
 
     apart : Apart (pair_directories (pairs_gstate ps) (pairs_from_root ps))
-    apart = distinct_apart (pairs_gstate ps) (pairs_from_root ps) (distinct_right (take (pair_count_before_root ps) ps) (pairs_from_root ps) (subst (λ z. IsDistinct nat_eq (blocks_of_pairs z)) (chain_of_thread ps).0 ok.thread.distinct))
+    apart = distinct_apart (pairs_gstate ps) (pairs_from_root ps) (distinct_right (take (count_before_root ps) ps) (pairs_from_root ps) (subst (λ z. IsDistinct nat_eq (pairs_blocks z)) (chain_of_thread ps).0 ok.thread.distinct))
 
     shows : all_entries ps a ≡ flat_map (unmoved_entries (pairs_gstate ps)) (d.first ∷ d.run)
     shows = ap (λ ds. directory_slots ds a) dirs

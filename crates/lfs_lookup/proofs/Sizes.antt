@@ -1,26 +1,12 @@
 -- The walk ends: there are no more levels of directories than pairs, so what stands beneath a directory can be counted.
 use Rattle.std.proofs.Common.{ℕ, zero, suc, ◌≡◌, ◌<◌, ◌≤◌, ◌+◌, ◌∙◌, true, false, nat_eq, eqb-true, List, [], ◌∷◌, ◌++◌, length, map, reverse, Option, Some, None, option_and_then, refl, sym, ap, ap₂, subst, arith, length-append, ⊎_elim}
 use Rattle.std.specs.List.{IsDistinct, list_any, sum_by}
-use Rattle.std.proofs.lemmas.Bool.{or_cases, false_from_ne_true}
-use Rattle.std.proofs.lemmas.List.{append-nil, reverse-append}
+use Rattle.lfs_lookup.proofs.Common.{false_from_ne_true, append-nil, reverse-append, sum_by-cons, same_Some, Disk, Name, Slot, Struct, Inline, Ctz, Branch, same_pair, Pair, root_address, Path, EntryMap, branch_address, entry_named, root_slot, slot_at_path, IsPairAt, slot_of, IsAccepted, LeadsTo, all_entries, Each, each_weaker, pair_back, pair_on, walk_append, PushesEntriesBelow, PathStruct}
+use Rattle.std.proofs.lemmas.Bool.{or_cases}
 use Rattle.std.proofs.lemmas.List.Sorted.{sum_by-IsPermutation}
-use Rattle.std.proofs.lemmas.List.Sums.{sum_by-cons}
 use Rattle.std.proofs.lemmas.Map.Steps.{length-le_from_distinct_below}
-use Rattle.std.proofs.lemmas.Option.{same_Some}
-use Rattle.lfs_model.specs.format.Disk.{Disk}
-use Rattle.lfs_model.specs.format.Names.{Name}
-use Rattle.lfs_model.specs.format.Slots.{Slot, Struct, Inline, Ctz, Branch, same_pair}
-use Rattle.lfs_model.specs.format.Thread.{Pair, root_address}
-use Rattle.lfs_model.specs.tree.Tree.{Path, EntryMap, branch_address, address_from_slot, entry_named, root_slot, slot_at_path}
-use Rattle.lfs_model.specs.session.InDirectory.{IsPairAt}
-use Rattle.lfs_model.specs.session.SlotEdits.{slot_of}
-use Rattle.lfs_model.specs.tree.View.{IsAccepted}
-use Rattle.lfs_model.specs.tree.Shown.{LeadsTo, all_entries}
-use Rattle.lfs_model.proofs.Counts.{Each, each_weaker}
-use Rattle.lfs_model.proofs.Pairs.{pair_back, pair_on}
+use Rattle.lfs_model.specs.tree.Tree.{address_from_slot}
 use Rattle.lfs_model.proofs.Paths.{append_step}
-use Rattle.lfs_model.proofs.Walks.{walk_append}
-use Rattle.lfs_lookup.specs.TreeWalk.{AreBelowPushed, PathStruct}
 use Rattle.lfs_lookup.proofs.ByName.{AreRows}
 use Rattle.lfs_lookup.proofs.Directories.{begins_with, within}
 use Rattle.lfs_lookup.proofs.Visits.{IsNext, IsVisit, Visit, below, child, children, children_visited, each_both, leads_to, place_at, pushed_children}
@@ -180,13 +166,13 @@ load_children levels E path [] = refl
 load_children levels E path (s ∷ slots) = ap (λ n. size_within levels E s.struct + n) (load_children levels E path slots)
 
 -- Less is left after a visit: what stands beneath, without the one that was visited.
-pub less_left : (disk : Disk) (ps : List Pair) (done rest new : List PathStruct) (next : PathStruct) → IsAccepted disk ps → IsNext disk ps done next rest → AreBelowPushed ps next rest new →
+pub less_left : (disk : Disk) (ps : List Pair) (done rest new : List PathStruct) (next : PathStruct) → IsAccepted disk ps → IsNext disk ps done next rest → PushesEntriesBelow ps next rest new →
     load_list_into_memory (length ps) (all_entries ps) new < load_list_into_memory (length ps) (all_entries ps) (rest ++ next ∷ [])
 less_left disk ps done rest new next ok n pushed =
     let E = all_entries ps in
     let L = length ps in
     let slots = below E n.visit.slot.struct in
-    let r = pushed_children disk ps n.visit rest new ok n.is_visit.leads (subst (λ p. AreBelowPushed ps p rest new) n.is pushed) in
+    let r = pushed_children disk ps n.visit rest new ok n.is_visit.leads (subst (λ p. PushesEntriesBelow ps p rest new) n.is pushed) in
     let now = map place_at (map (child n.visit.path) r.0) in
     let a : load_list_into_memory L E new ≡ load_list_into_memory L E now + load_list_into_memory L E (reverse rest) = sym (load_reverse L E new) ∙ ap (load_list_into_memory L E) r.1.1 ∙ load_append L E now (reverse rest) in
     let b : load_list_into_memory L E (reverse rest) ≡ load_list_into_memory L E rest = load_reverse L E rest in

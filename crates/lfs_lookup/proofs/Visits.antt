@@ -1,27 +1,12 @@
 -- The walk of a tree, by what is still to be visited.
 use Rattle.std.proofs.Common.{ℕ, zero, suc, ◌≡◌, ◌∙◌, Bool, true, false, cond, not, List, [], ◌∷◌, ◌++◌, map, drop, reverse, slice_get, Some, option_and_then, option_map, refl, sym, ap, ap₂, subst, append_assoc}
-use Rattle.std.proofs.lemmas.List.{append-nil, map-append, reverse-append, reverse-reverse}
-use Rattle.std.proofs.lemmas.List.Concat.{flat_map-append}
-use Rattle.std.proofs.lemmas.List.Elements.{recursion_from_All}
-use Rattle.lfs_model.specs.format.Names.{sorted_names}
+use Rattle.lfs_lookup.proofs.Common.{append-nil, map-append, reverse-append, flat_map-append, recursion_from_All, sorted_names, Disk, Name, slash_byte, Slot, Struct, Inline, Ctz, Branch, is_superblock, Pair, pairs_gstate, is_hard_tail, root_address, slots_not_moved, unmoved_entries, Path, EntryMap, branch_address, struct_node, root_slot, directory_names, slot_of, IsAccepted, IsFormedList, LeadsTo, all_unmoved_slots, struct_list_bytes, all_entries, disk_tree, Each, each_append, each_joined, each_weaker, slot_there, AreShorterFirst, NamedStruct, named_struct, joined_pairs, pair_entries_from, PushesEntriesBelow, ArePushed, HasFirstIfDirectory, PathStruct, walked_entries}
+use Rattle.std.proofs.lemmas.List.{reverse-reverse}
 use Rattle.lfs_model.specs.declared.order.NameOrder.TheVariants.{ShorterFirst}
-use Rattle.lfs_model.specs.format.Disk.{Disk}
-use Rattle.lfs_model.specs.format.Names.{Name, slash_byte}
-use Rattle.lfs_model.specs.format.Slots.{Slot, Struct, Inline, Ctz, Branch, is_superblock}
-use Rattle.lfs_model.specs.format.Thread.{Pair, pairs_gstate, is_hard_tail, root_address, slots_not_moved, unmoved_entries}
-use Rattle.lfs_model.specs.tree.Tree.{Path, EntryMap, branch_address, struct_node, root_slot}
-use Rattle.lfs_model.specs.session.TreeEdits.{directory_names}
 use Rattle.lfs_model.specs.session.Operations.{path_bytes}
 use Rattle.lfs_model.specs.layers.Listing.{PathNode, IsDepthFirst, IsWalk, entry_paths}
-use Rattle.lfs_model.specs.session.SlotEdits.{slot_of}
-use Rattle.lfs_model.specs.tree.View.{IsAccepted, IsWellFormedCtz}
-use Rattle.lfs_model.specs.tree.Shown.{LeadsTo, all_slots_not_moved, struct_list_bytes, all_entries, tree_on_disk}
-use Rattle.lfs_model.proofs.Counts.{Each, each_append, each_filter, each_joined, each_pieces, each_weaker}
-use Rattle.lfs_model.proofs.OneCommit.{slot_there}
-use Rattle.lfs_lookup.specs.ByName.{AreShorterFirst}
-use Rattle.lfs_lookup.specs.Items.{NamedStruct, named_struct}
-use Rattle.lfs_lookup.specs.Listed.{joined_pairs, pair_entries_from}
-use Rattle.lfs_lookup.specs.TreeWalk.{AreTreeItems, AreBelowPushed, ArePushed, HasFirstIfDirectory, AreWalkItems, PathStruct, IsTreeItem, IsStructNode, walked_entries}
+use Rattle.lfs_model.proofs.Counts.{each_filter, each_pieces}
+use Rattle.lfs_lookup.specs.TreeWalk.{AreTreeItems, AreWalkItems, IsTreeItem, IsStructNode}
 use Rattle.lfs_lookup.proofs.ByName.{AreRows, each_row, names_in, no_rows, rows_by_name}
 use Rattle.lfs_lookup.proofs.Directories.{begins_with, own_run, own_shapes}
 
@@ -36,7 +21,7 @@ place_at v = record { path = path_bytes v.path; struct = v.slot.struct }
 -- the path leads there, and a file's list is well formed
 pub record IsVisit (disk : Disk) (ps : List Pair) (v : Visit) : Type 0 where
   pub leads : slot_of ps v.path ≡ Some v.slot
-  pub list : IsWellFormedCtz disk v.slot.struct
+  pub list : IsFormedList disk v.slot.struct
 
 abbrev pub child : Path → Slot → Visit
 child path s = record { path = path ++ s.name ∷ []; slot = s }
@@ -74,19 +59,19 @@ children_paths P [] = refl
 children_paths P (s ∷ slots) = ap (λ z. (P ++ s.name ∷ []) ∷ z) (children_paths P slots)
 
 pub paths_below : (disk : Disk) (ps : List Pair) (v : Visit) (rows : List Slot) → slot_of ps v.path ≡ Some v.slot → AreRows (below (all_entries ps) v.slot.struct) rows
-    → entry_paths (tree_on_disk disk ps) v.path ≡ paths_of (map (child v.path) rows)
+    → entry_paths (disk_tree disk ps) v.path ≡ paths_of (map (child v.path) rows)
 paths_below disk ps v rows e r =
     ap (λ o. map (λ name. v.path ++ name ∷ []) (directory_names (option_map (λ found. struct_node (struct_list_bytes disk) (all_entries ps) found.attributes found.struct) o))) e
     ∙ ap (map (λ name. v.path ++ name ∷ [])) (names_below disk (all_entries ps) v.slot rows r)
     ∙ children_paths v.path rows
 
-pub node_at : (disk : Disk) (ps : List Pair) (v : Visit) → slot_of ps v.path ≡ Some v.slot → tree_on_disk disk ps v.path ≡ Some (entry_in disk ps v).node
+pub node_at : (disk : Disk) (ps : List Pair) (v : Visit) → slot_of ps v.path ≡ Some v.slot → disk_tree disk ps v.path ≡ Some (entry_in disk ps v).node
 node_at disk ps v e = ap (option_map (λ found. struct_node (struct_list_bytes disk) (all_entries ps) found.attributes found.struct)) e
 
-shows_node : (disk : Disk) (E : EntryMap) (s : Slot) → IsWellFormedCtz disk s.struct → IsStructNode disk s.struct (struct_node (struct_list_bytes disk) E s.attributes s.struct)
+shows_node : (disk : Disk) (E : EntryMap) (s : Slot) → IsFormedList disk s.struct → IsStructNode disk s.struct (struct_node (struct_list_bytes disk) E s.attributes s.struct)
 shows_node disk E s list = go s.struct list
   where
-    go : (t : Struct) → IsWellFormedCtz disk t → IsStructNode disk t (struct_node (struct_list_bytes disk) E s.attributes t)
+    go : (t : Struct) → IsFormedList disk t → IsStructNode disk t (struct_node (struct_list_bytes disk) E s.attributes t)
     go (Inline bytes) l = (s.attributes, refl)
     go (Ctz head size) l = (s.attributes, (refl, l))
     go (Branch to) l = (s.attributes, (sorted_names ShorterFirst (map (λ t. t.name) (E to)), refl))
@@ -124,7 +109,7 @@ each_visible Q disk ps P a ok leads pieces =
     (each_joined Q (unmoved_entries (pairs_gstate ps)) (joined_pairs (drop n.0 ps)) (each_run (λ p. Each Q (unmoved_entries (pairs_gstate ps) p)) (drop n.0 ps) (each_drop (λ p. Each Q (unmoved_entries (pairs_gstate ps) p)) n.0 ps pieces)))
 
 -- what holds of each slot of the pairs does, too
-pub each_entry : (Q : Slot → Type 0) (disk : Disk) (ps : List Pair) (P : Path) (a : ℕ × ℕ) → IsAccepted disk ps → LeadsTo ps P a → Each Q (all_slots_not_moved ps) → Each Q (all_entries ps a)
+pub each_entry : (Q : Slot → Type 0) (disk : Disk) (ps : List Pair) (P : Path) (a : ℕ × ℕ) → IsAccepted disk ps → LeadsTo ps P a → Each Q (all_unmoved_slots ps) → Each Q (all_entries ps a)
 each_entry Q disk ps P a ok leads h =
     each_visible Q disk ps P a ok leads
     (each_weaker (λ p. Each Q (slots_not_moved (pairs_gstate ps) p)) (λ p. Each Q (unmoved_entries (pairs_gstate ps) p)) (λ p k. each_filter Q (λ s. not (is_superblock s)) (slots_not_moved (pairs_gstate ps) p) k) ps
@@ -150,9 +135,9 @@ slots_visited disk ps v ok e = go v.slot.struct refl
     go (Ctz head size) f = tt
     go (Branch to) f =
         let leads = leads_to ps v.path v.slot to e f in
-        each_both (λ s. slot_of ps (v.path ++ s.name ∷ []) ≡ Some s) (λ s. IsWellFormedCtz disk s.struct) (λ s. IsVisit disk ps (child v.path s)) (all_entries ps to) (λ s x y. record { leads = x; list = y })
+        each_both (λ s. slot_of ps (v.path ++ s.name ∷ []) ≡ Some s) (λ s. IsFormedList disk s.struct) (λ s. IsVisit disk ps (child v.path s)) (all_entries ps to) (λ s x y. record { leads = x; list = y })
         (each_got (λ s. slot_of ps (v.path ++ s.name ∷ []) ≡ Some s) (all_entries ps to) (λ k u g. slot_there disk ps v.path to k u ok leads g))
-        (each_entry (λ s. IsWellFormedCtz disk s.struct) disk ps v.path to ok leads (recursion_from_All (λ (s : Slot). IsWellFormedCtz disk s.struct) (all_slots_not_moved ps) ok.lists))
+        (each_entry (λ s. IsFormedList disk s.struct) disk ps v.path to ok leads (recursion_from_All (λ (s : Slot). IsFormedList disk s.struct) (all_unmoved_slots ps) ok.lists))
 
 pub children_visited : (disk : Disk) (ps : List Pair) (v : Visit) → IsAccepted disk ps → slot_of ps v.path ≡ Some v.slot → Each (IsVisit disk ps) (children ps v)
 children_visited disk ps v ok e = each_child (IsVisit disk ps) v.path (below (all_entries ps) v.slot.struct) (slots_visited disk ps v ok e)
@@ -185,11 +170,11 @@ pushed_from ps path first slots old new own k =
       (r.1.0, ap reverse k.1.1 ∙ reverse-append old (reverse (walked_entries (path_bytes path) shapes)) ∙ ap (λ z. z ++ reverse old) (reverse-reverse (walked_entries (path_bytes path) shapes) ∙ are)),
     )
 
-pub pushed_children : (disk : Disk) (ps : List Pair) (v : Visit) (old new : List PathStruct) → IsAccepted disk ps → slot_of ps v.path ≡ Some v.slot → AreBelowPushed ps (place_at v) old new →
+pub pushed_children : (disk : Disk) (ps : List Pair) (v : Visit) (old new : List PathStruct) → IsAccepted disk ps → slot_of ps v.path ≡ Some v.slot → PushesEntriesBelow ps (place_at v) old new →
     IsPushed v.path (below (all_entries ps) v.slot.struct) old new
 pushed_children disk ps v old new ok e h = go v.slot.struct refl h
   where
-    go : (t : Struct) → v.slot.struct ≡ t → AreBelowPushed ps (record { path = path_bytes v.path; struct = t }) old new → IsPushed v.path (below (all_entries ps) t) old new
+    go : (t : Struct) → v.slot.struct ≡ t → PushesEntriesBelow ps (record { path = path_bytes v.path; struct = t }) old new → IsPushed v.path (below (all_entries ps) t) old new
     go (Inline bytes) f k = ([], (no_rows, ap reverse k))
     go (Ctz head size) f k = ([], (no_rows, ap reverse k))
     go (Branch to) f k = pushed_from ps v.path k.0 (all_entries ps to) old new (own_shapes disk ps v.path to k.0 ok (leads_to ps v.path v.slot to e f) k.1.0) k.1.1
@@ -203,7 +188,7 @@ pub record IsUnderWay (disk : Disk) (ps : List Pair) (done pending : List PathSt
   pub each : Each (IsVisit disk ps) visits
   pub entries : List PathNode
   pub shown : AreTreeItems disk done entries
-  pub goes_on : (es : List PathNode) → IsDepthFirst (tree_on_disk disk ps) (paths_of visits) es → IsWalk (tree_on_disk disk ps) (entries ++ es)
+  pub goes_on : (es : List PathNode) → IsDepthFirst (disk_tree disk ps) (paths_of visits) es → IsWalk (disk_tree disk ps) (entries ++ es)
 
 -- one of them is taken
 pub record IsNext (disk : Disk) (ps : List Pair) (done : List PathStruct) (next : PathStruct) (pending : List PathStruct) : Type 0 where
@@ -215,7 +200,7 @@ pub record IsNext (disk : Disk) (ps : List Pair) (done : List PathStruct) (next 
   pub each : Each (IsVisit disk ps) visits
   pub entries : List PathNode
   pub shown : AreTreeItems disk done entries
-  pub goes_on : (es : List PathNode) → IsDepthFirst (tree_on_disk disk ps) (visit.path ∷ paths_of visits) es → IsWalk (tree_on_disk disk ps) (entries ++ es)
+  pub goes_on : (es : List PathNode) → IsDepthFirst (disk_tree disk ps) (visit.path ∷ paths_of visits) es → IsWalk (disk_tree disk ps) (entries ++ es)
 
 pub begun : (disk : Disk) (ps : List Pair) (first : ℕ) (pending : List PathStruct) → IsAccepted disk ps → pair_entries_from ps (Some first) ≡ map named_struct (all_entries ps (root_address ps)) → ArePushed ps [] first [] pending
     → IsUnderWay disk ps [] pending
@@ -228,7 +213,7 @@ begun disk ps first pending ok own h =
       each = rows_visited disk ps v r.0 ok refl r.1.0;
       entries = [];
       shown = tt;
-      goes_on = λ es w. subst (λ z. IsDepthFirst (tree_on_disk disk ps) z es) (sym (paths_below disk ps v r.0 refl r.1.0)) w;
+      goes_on = λ es w. subst (λ z. IsDepthFirst (disk_tree disk ps) z es) (sym (paths_below disk ps v r.0 refl r.1.0)) w;
     }
 
 pub took : (disk : Disk) (ps : List Pair) (done old new : List PathStruct) (next : PathStruct) → old ≡ new ++ next ∷ [] → IsUnderWay disk ps done old → IsNext disk ps done next new
@@ -250,7 +235,7 @@ took disk ps done old new next e u = go u.visits refl
           each = (subst (Each (IsVisit disk ps)) f u.each).1;
           entries = u.entries;
           shown = u.shown;
-          goes_on = λ es w. u.goes_on es (subst (λ z. IsDepthFirst (tree_on_disk disk ps) (paths_of z) es) (sym f) w);
+          goes_on = λ es w. u.goes_on es (subst (λ z. IsDepthFirst (disk_tree disk ps) (paths_of z) es) (sym f) w);
         }
       where
         first_of : (x y : PathStruct) (xs ys : List PathStruct) → x ∷ xs ≡ y ∷ ys → x ≡ y
@@ -265,9 +250,9 @@ shown_more disk [] (e ∷ es) place entry h s = absurd h
 shown_more disk (p ∷ ps) [] place entry h s = absurd h
 shown_more disk (p ∷ ps) (e ∷ es) place entry h s = (h.0, shown_more disk ps es place entry h.1 s)
 
-pub moved_on : (disk : Disk) (ps : List Pair) (done old new : List PathStruct) (next : PathStruct) → IsAccepted disk ps → IsNext disk ps done next old → AreBelowPushed ps next old new → IsUnderWay disk ps (done ++ next ∷ []) new
+pub moved_on : (disk : Disk) (ps : List Pair) (done old new : List PathStruct) (next : PathStruct) → IsAccepted disk ps → IsNext disk ps done next old → PushesEntriesBelow ps next old new → IsUnderWay disk ps (done ++ next ∷ []) new
 moved_on disk ps done old new next ok n pushed =
-    let r = pushed_children disk ps n.visit old new ok n.is_visit.leads (subst (λ p. AreBelowPushed ps p old new) n.is pushed) in
+    let r = pushed_children disk ps n.visit old new ok n.is_visit.leads (subst (λ p. PushesEntriesBelow ps p old new) n.is pushed) in
     let now = map (child n.visit.path) r.0 in
     record {
       visits = now ++ n.visits;
@@ -276,11 +261,11 @@ moved_on disk ps done old new next ok n pushed =
       entries = n.entries ++ entry_in disk ps n.visit ∷ [];
       shown = shown_more disk done n.entries next (entry_in disk ps n.visit) n.shown (subst (λ p. IsTreeItem disk p (entry_in disk ps n.visit)) (sym n.is) (visit_shows disk ps n.visit n.is_visit));
       goes_on = λ es w.
-          subst (IsWalk (tree_on_disk disk ps)) (sym (append_assoc n.entries (entry_in disk ps n.visit ∷ []) es))
+          subst (IsWalk (disk_tree disk ps)) (sym (append_assoc n.entries (entry_in disk ps n.visit ∷ []) es))
           (n.goes_on (entry_in disk ps n.visit ∷ es) (
             refl,
             node_at disk ps n.visit n.is_visit.leads,
-            subst (λ z. IsDepthFirst (tree_on_disk disk ps) z es) (map-append (λ (v : Visit). v.path) now n.visits ∙ ap (λ z. z ++ paths_of n.visits) (sym (paths_below disk ps n.visit r.0 n.is_visit.leads r.1.0))) w,
+            subst (λ z. IsDepthFirst (disk_tree disk ps) z es) (map-append (λ (v : Visit). v.path) now n.visits ∙ ap (λ z. z ++ paths_of n.visits) (sym (paths_below disk ps n.visit r.0 n.is_visit.leads r.1.0))) w,
           ));
     }
 
@@ -291,7 +276,7 @@ ended disk ps done pending e u = go u.visits refl
     none = sym u.are ∙ ap reverse e
 
     go : (vs : List Visit) → u.visits ≡ vs → AreWalkItems disk ps done
-    go [] f = (u.entries ++ [], (u.goes_on [] (subst (λ z. IsDepthFirst (tree_on_disk disk ps) (paths_of z) []) (sym f) tt), subst (AreTreeItems disk done) (sym (append-nil u.entries)) u.shown))
+    go [] f = (u.entries ++ [], (u.goes_on [] (subst (λ z. IsDepthFirst (disk_tree disk ps) (paths_of z) []) (sym f) tt), subst (AreTreeItems disk done) (sym (append-nil u.entries)) u.shown))
     go (v ∷ vs) f = absurd (let k = sym none ∙ ap (map place_at) f in cc)
 
 -- the next one's directory is in the thread

@@ -1,8 +1,6 @@
 -- Steps along the pairs of a directory.
 use Rattle.std.proofs.Common.{ℕ, zero, suc, ◌≡◌, ◌+◌, ◌<◌, ◌≤◌, Bool, true, false, cond, List, [], ◌∷◌, ◌++◌, length, drop, Option, Some, None, refl, sym, ap, ◌∙◌, arith, get_or}
-use Rattle.std.proofs.lemmas.Option.{same_Some}
-use Rattle.lfs_model.specs.format.Thread.{Pair, is_hard_tail}
-use Rattle.lfs_model.specs.session.InDirectory.{joined_count, IsPairOfDirectory}
+use Rattle.lfs_lookup.proofs.Common.{same_Some, Pair, is_hard_tail, joined_count, IsDirectoryPair}
 
 -- the pair at an index
 pub record At (ps : List Pair) (index : ℕ) (q : Pair) : Type 0 where
@@ -18,7 +16,7 @@ at_index (p ∷ ps) (suc index) d h =
     let r = at_index ps index d (omega arith) in
     record { front = p ∷ r.front; rest = r.rest; parts = ap (λ z. p ∷ z) r.parts; begins = ap suc r.begins }
 
-pub begun_here : (ps : List Pair) (first index : ℕ) (q : Pair) (a : At ps index q) → index ≡ first → IsPairOfDirectory ps first index q a.rest
+pub begun_here : (ps : List Pair) (first index : ℕ) (q : Pair) (a : At ps index q) → index ≡ first → IsDirectoryPair ps first index q a.rest
 begun_here ps first index q a e = record { front = a.front; left = []; parts = a.parts; begins = a.begins ∙ e; number = (let b = a.begins in omega arith); joined = tt }
 
 -- ---- reads

@@ -1,9 +1,9 @@
 -- The slot at a spot, and the contents of a file's slot.
 use Rattle.std.specs.Prelude.{◌≡◌, ◌<◌, Option, length, slice_get, Some, None}
 use Rattle.lfs_model.specs.format.Slots.{Slot}
-use Rattle.lfs_model.specs.tree.View.{IsWellFormedCtz}
+use Rattle.lfs_model.specs.tree.View.{IsFormedList}
 use Rattle.lfs_thread.specs.Kept.{KeptThread}
-use Rattle.lfs_thread.specs.ThreadSteps.{thread_pair_at}
+use Rattle.lfs_thread.specs.ThreadSteps.{thread_pair}
 use Rattle.lfs_lookup.specs.Entry.{IsStorage}
 use Rattle.lfs_lookup.specs.declared.entry.FileStorage.{FileStorage}
 use Rattle.lfs_lookup.specs.declared.paths.VisiblePathLookup.{VisiblePathLookup}
@@ -11,14 +11,14 @@ use Rattle.lfs_lookup.specs.declared.paths.VisiblePathLookup.TheVariants.{File}
 use Rattle.lfs_lookup.specs.declared.search.SlotPosition.{SlotPosition}
 
 abbrev pub IsSpotSlot : KeptThread → SlotPosition → Slot → Type 0
-IsSpotSlot t spot slot = slice_get (thread_pair_at t spot.pair).content.slots spot.id ≡ Some slot
+IsSpotSlot t spot slot = slice_get (thread_pair t spot.pair).content.slots spot.id ≡ Some slot
 
 -- the slot at the spot is a file's with these contents, whose list is well formed
 pub record IsFileAt (t : KeptThread) (spot : SlotPosition) (contents : FileStorage) (slot : Slot) : Type 0 where
   pub below : spot.pair < length t.pairs
   pub there : IsSpotSlot t spot slot
   pub shows : IsStorage contents slot.struct
-  pub list : IsWellFormedCtz t.disk slot.struct
+  pub list : IsFormedList t.disk slot.struct
 
 -- the slot of a file, and where its bytes are
 abbrev pub spot_and_storage : VisiblePathLookup → Option (SlotPosition × FileStorage)

@@ -31,15 +31,15 @@ StayCached old new = (b : ℕ) → IsLastUsed cache_limit old b → IsLastUsed c
 -- ---- along the pairs of a directory
 
 -- the block was used last, and each block that was used before is one place further back
-pub record IsMovedToFront (b : ℕ) (old new : CachedBlocks) : Type 0 where
+pub record IsMovedFirst (b : ℕ) (old new : CachedBlocks) : Type 0 where
   pub first : IsLastUsed 1 new b
   pub others : (n c : ℕ) → n < cache_limit → IsLastUsed n old c → IsLastUsed (suc n) new c
 
 -- Where all these pairs are cached no block is read, and pairs that were cached still are. One pair alone is loaded.
-pub record ReadsNothingAndKeepsPairsWhereAllCached {X : Type 0} (ps : List Pair) (old new : ThreadView) (result : Result X Error) : Type 0 where
+pub record KeepsCachedPairs {X : Type 0} (ps : List Pair) (old new : ThreadView) (result : Result X Error) : Type 0 where
   pub none : ArePairsCached old ps → read_count new.kept.history ≡ read_count old.kept.history
   pub stay : ArePairsCached old ps → OnOk result (StayCached old.cache new.cache)
-  pub one : length ps ≡ 1 → OnOk result (AllByRecursion (λ p. IsMovedToFront (active_block_at old.kept.disk p.at) old.cache new.cache) ps)
+  pub one : length ps ≡ 1 → OnOk result (AllByRecursion (λ p. IsMovedFirst (active_block_at old.kept.disk p.at) old.cache new.cache) ps)
 
 -- ---- down the directories of a path
 
@@ -48,11 +48,11 @@ abbrev pub pairs_at : List Pair → Path → List Pair
 pairs_at ps path = option_map_or (directory_pairs ps) (address_at_path (all_entries ps) (root_address ps) path) []
 
 -- the pairs of the directories at these paths are among the n that were used last
-abbrev pub AreAllLastUsed : ℕ → Disk → CachedBlocks → List Pair → List Path → Type 0
-AreAllLastUsed n disk cache ps paths = AllByRecursion (λ p. AreLastUsed n disk cache (pairs_at ps p)) paths
+abbrev pub AreDirectoriesRecent : ℕ → Disk → CachedBlocks → List Pair → List Path → Type 0
+AreDirectoriesRecent n disk cache ps paths = AllByRecursion (λ p. AreLastUsed n disk cache (pairs_at ps p)) paths
 
 abbrev pub AreDirectoriesCached : ThreadView → List Path → Type 0
-AreDirectoriesCached t paths = AreAllLastUsed cache_limit t.kept.disk t.cache t.kept.pairs paths
+AreDirectoriesCached t paths = AreDirectoriesRecent cache_limit t.kept.disk t.cache t.kept.pairs paths
 
 -- at most eight directories of one pair each
 pub record AreFewSmall (ps : List Pair) (paths : List Path) : Type 0 where
@@ -61,7 +61,7 @@ pub record AreFewSmall (ps : List Pair) (paths : List Path) : Type 0 where
 
 -- Where all pairs of these directories are cached no block is read, and pairs that were cached still are. Small directories are
 -- the last that were used, where the way led through all of them.
-pub record ReadsNothingAndKeepsDirectoriesWhereAllCached {X : Type 0} (through : X → Type 0) (paths : List Path) (old new : ThreadView) (result : Result X Error) : Type 0 where
+pub record KeepsCachedDirectories {X : Type 0} (through : X → Type 0) (paths : List Path) (old new : ThreadView) (result : Result X Error) : Type 0 where
   pub none : AreDirectoriesCached old paths → read_count new.kept.history ≡ read_count old.kept.history
   pub stay : AreDirectoriesCached old paths → OnOk result (StayCached old.cache new.cache)
-  pub recent : AreFewSmall old.kept.pairs paths → IfOk result (λ x. through x → AreAllLastUsed (length paths) old.kept.disk new.cache old.kept.pairs paths)
+  pub recent : AreFewSmall old.kept.pairs paths → IfOk result (λ x. through x → AreDirectoriesRecent (length paths) old.kept.disk new.cache old.kept.pairs paths)

@@ -1,7 +1,7 @@
 -- The contents of a file, by its entry.
 use Rattle.std.specs.Prelude.{◌≡◌, ◌<◌, false, List, Option, Some, None, length}
 use Rattle.lfs_model.specs.layers.Keeping.{struct_at}
-use Rattle.lfs_model.specs.tree.Shown.{tree_on_disk}
+use Rattle.lfs_model.specs.tree.Shown.{disk_tree}
 use Rattle.lfs_model.specs.format.Slots.{Struct, Inline, Ctz}
 use Rattle.lfs_model.specs.format.Thread.{Pair}
 use Rattle.lfs_model.specs.tree.Tree.{Path}
@@ -32,5 +32,5 @@ pub record IsStorageAt (ps : List Pair) (path : Path) (contents : FileContents) 
 
 -- the contents of the file at the path, or none where no file is
 abbrev pub AreContentsAt : KeptThread → Path → Option FileContents → Type 0
-AreContentsAt t path None = is_file (tree_on_disk t.disk t.pairs path) ≡ false
+AreContentsAt t path None = is_file (disk_tree t.disk t.pairs path) ≡ false
 AreContentsAt t path (Some contents) = IsStorageAt t.pairs path contents

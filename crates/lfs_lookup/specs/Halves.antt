@@ -17,20 +17,20 @@ halvings_within (suc steps) zero = 0
 halvings_within (suc steps) (suc n) = 1 + halvings_within steps (suc n / 2)
 
 -- How often n is halved, rounded down, until nothing is left: 0 of 0, else 1 + log2 n, rounded down.
-abbrev pub all_halvings : ℕ → ℕ
-all_halvings n = halvings_within n n
+abbrev pub halving_count : ℕ → ℕ
+halving_count n = halvings_within n n
 
 -- each of these pairs has a slot
-abbrev pub HasSlotPerPair : List Pair → Type 0
-HasSlotPerPair ps = AllByRecursion (λ p. 0 < length p.content.slots) ps
+abbrev pub HaveSlots : List Pair → Type 0
+HaveSlots ps = AllByRecursion (λ p. 0 < length p.content.slots) ps
 
 -- each pair of the directories at these paths has a slot
-abbrev pub HasSlotsOnPaths : List Pair → List Path → Type 0
-HasSlotsOnPaths ps paths = AllByRecursion (λ p. HasSlotPerPair (pairs_at ps p)) paths
+abbrev pub PathsHaveSlots : List Pair → List Path → Type 0
+PathsHaveSlots ps paths = AllByRecursion (λ p. HaveSlots (pairs_at ps p)) paths
 
 -- how often the pairs of the directory at a path can be halved
 abbrev pub pairs_halvings : List Pair → Path → ℕ
-pairs_halvings ps path = all_halvings (pair_count_at ps path)
+pairs_halvings ps path = halving_count (pair_count_at ps path)
 
 -- the last of these pairs, if there is one, has no hard tail
 abbrev pub EndsWithoutTail : List Pair → Type 0
@@ -39,8 +39,8 @@ EndsWithoutTail (p ∷ ps) = last_joins p ps ≡ false
 
 -- Where each pair of the directories at these paths has a slot, the reads are at most the sum of their halvings.
 abbrev pub ReadsBinarySearches : ThreadView → ThreadView → List Path → Type 0
-ReadsBinarySearches old new paths = HasSlotsOnPaths old.kept.pairs paths → read_count new.kept.history ≤ read_count old.kept.history + sum_by (pairs_halvings old.kept.pairs) paths
+ReadsBinarySearches old new paths = PathsHaveSlots old.kept.pairs paths → read_count new.kept.history ≤ read_count old.kept.history + sum_by (pairs_halvings old.kept.pairs) paths
 
 -- Where each pair of the directory that begins with the pair of number `first` has a slot, the reads are at most its halvings.
 abbrev pub ReadsBinarySearch : ThreadView → ThreadView → ℕ → Type 0
-ReadsBinarySearch old new first = HasSlotPerPair (joined_pairs (drop first old.kept.pairs)) → read_count new.kept.history ≤ read_count old.kept.history + all_halvings (joined_count (drop first old.kept.pairs))
+ReadsBinarySearch old new first = HaveSlots (joined_pairs (drop first old.kept.pairs)) → read_count new.kept.history ≤ read_count old.kept.history + halving_count (joined_count (drop first old.kept.pairs))

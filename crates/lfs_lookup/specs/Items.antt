@@ -30,12 +30,12 @@ abbrev pub directory_items_view : List NameAndOwnedStruct → List NamedStruct
 directory_items_view items = map directory_item_view items
 
 -- the entry of a slot, if it isn't the superblock's
-abbrev pub entry_unless : Slot → Option NamedStruct
-entry_unless s = if is_superblock s then None else Some (named_struct s)
+abbrev pub entry_unless_superblock : Slot → Option NamedStruct
+entry_unless_superblock s = if is_superblock s then None else Some (named_struct s)
 
 -- the entry of a log's slot, if it has a name and a struct
 abbrev pub raw_entry : RawSlot → Option NamedStruct
-raw_entry s = option_and_then entry_unless (complete_slot s)
+raw_entry s = option_and_then entry_unless_superblock (complete_slot s)
 
 abbrev pub optional_entry_list : Option NamedStruct → List NamedStruct
 optional_entry_list None = []

@@ -10,7 +10,7 @@ use Rattle.lfs_model.specs.format.Slots.{zero_gstate}
 use Rattle.lfs_model.specs.format.Thread.{Pair, pairs_gstate}
 use Rattle.lfs_model.specs.tree.Tree.{Path}
 use Rattle.lfs_model.specs.tree.View.{IsAccepted}
-use Rattle.lfs_model.specs.tree.Shown.{LeadsTo, tree_on_disk}
+use Rattle.lfs_model.specs.tree.Shown.{LeadsTo, disk_tree}
 use Rattle.lfs_thread.specs.Kept.{KeptThread}
 use Rattle.lfs_lookup.specs.Entry.{IsStorage}
 use Rattle.lfs_lookup.specs.NameSearch.{HidesFrom, skipped_id}
@@ -23,7 +23,7 @@ use Rattle.lfs_lookup.specs.declared.paths.Parent.{Parent}
 use Rattle.lfs_lookup.specs.declared.paths.Parent.TheVariants as parent
 
 -- the image is accepted, and has nothing to recover
-pub record IsSettled (t : KeptThread) : Type 0 where
+pub record IsAcceptedRecovered (t : KeptThread) : Type 0 where
   pub accepted : IsAccepted t.disk t.pairs
   pub settled : pairs_gstate t.pairs ≡ zero_gstate
 
@@ -41,8 +41,8 @@ pub record LeadsToPair (ps : List Pair) (path : Path) (first : ℕ) : Type 0 whe
 -- the entry at a path, where a directory is wanted
 abbrev pub IsNodeAt : KeptThread → Path → Parent → Type 0
 IsNodeAt t path (parent.Directory first) = LeadsToPair t.pairs path first
-IsNodeAt t path parent.File = directory_refusal (tree_on_disk t.disk t.pairs path) ≡ Some NotDir
-IsNodeAt t path parent.Nothing = directory_refusal (tree_on_disk t.disk t.pairs path) ≡ Some NoEnt
+IsNodeAt t path parent.File = directory_refusal (disk_tree t.disk t.pairs path) ≡ Some NotDir
+IsNodeAt t path parent.Nothing = directory_refusal (disk_tree t.disk t.pairs path) ≡ Some NoEnt
 
 -- the refusal of a path for the component before its last
 abbrev pub parent_refusal : Parent → Option Refusal
@@ -57,7 +57,7 @@ IfParent parent.Nothing P = Unit {0}
 
 -- what the directories of a path lead to
 pub record ParentReached (t : KeptThread) (path : Path) (parent : Parent) : Type 0 where
-  pub fault : (name : Name) → parents_refusal (tree_on_disk t.disk t.pairs) [] (path ++ name ∷ []) ≡ parent_refusal parent
+  pub fault : (name : Name) → parents_refusal (disk_tree t.disk t.pairs) [] (path ++ name ∷ []) ≡ parent_refusal parent
   pub begins : IfParent parent (LeadsToPair t.pairs path)
 
 -- ---- what is found
@@ -105,7 +105,7 @@ IsFoundOrRefused t path there = IsLastEntry t.disk.order t.pairs path there
 
 -- what a path leads to
 pub record LeadsToResult (t : KeptThread) (path : Path) (found : PathLookup) : Type 0 where
-  pub parents : parents_refusal (tree_on_disk t.disk t.pairs) [] path ≡ lookup_refusal found
+  pub parents : parents_refusal (disk_tree t.disk t.pairs) [] path ≡ lookup_refusal found
   pub there : IsFoundOrRefused t path found
 
 -- ---- what is found where a slot counts as deleted
@@ -123,17 +123,17 @@ pub record IsUnmoved (ps : List Pair) (moved : Option SlotPosition) (path : Path
   pub slot : slot_of ps path ≡ Some stands.stands.slot
 
 -- the entry at a path below the root
-abbrev pub IsBelowRoot : List Pair → Option SlotPosition → Path → VisiblePathLookup → Type 0
-IsBelowRoot ps moved path (shown.Directory spot first) = IsUnmoved ps moved path spot × LeadsToPair ps path first
-IsBelowRoot ps moved path (shown.File spot contents) = (s : IsUnmoved ps moved path spot) × IsStorage contents s.stands.stands.slot.struct
-IsBelowRoot ps moved path shown.Nothing = slot_of ps path ≡ None
-IsBelowRoot ps moved path shown.Root = ⊥
-IsBelowRoot ps moved path shown.ParentIsFile = ⊥
-IsBelowRoot ps moved path shown.ParentIsMissing = ⊥
+abbrev pub IsVisibleEntry : List Pair → Option SlotPosition → Path → VisiblePathLookup → Type 0
+IsVisibleEntry ps moved path (shown.Directory spot first) = IsUnmoved ps moved path spot × LeadsToPair ps path first
+IsVisibleEntry ps moved path (shown.File spot contents) = (s : IsUnmoved ps moved path spot) × IsStorage contents s.stands.stands.slot.struct
+IsVisibleEntry ps moved path shown.Nothing = slot_of ps path ≡ None
+IsVisibleEntry ps moved path shown.Root = ⊥
+IsVisibleEntry ps moved path shown.ParentIsFile = ⊥
+IsVisibleEntry ps moved path shown.ParentIsMissing = ⊥
 
 -- what a path leads to; a parent refuses it, or not
 abbrev pub IsHiddenResult : KeptThread → Option SlotPosition → Path → VisiblePathLookup → Type 0
 IsHiddenResult t moved path shown.Root = path ≡ []
-IsHiddenResult t moved path shown.ParentIsFile = parents_refusal (tree_on_disk t.disk t.pairs) [] path ≡ Some NotDir
-IsHiddenResult t moved path shown.ParentIsMissing = parents_refusal (tree_on_disk t.disk t.pairs) [] path ≡ Some NoEnt
-IsHiddenResult t moved path there = (parents_refusal (tree_on_disk t.disk t.pairs) [] path ≡ None) × IsBelowRoot t.pairs moved path there
+IsHiddenResult t moved path shown.ParentIsFile = parents_refusal (disk_tree t.disk t.pairs) [] path ≡ Some NotDir
+IsHiddenResult t moved path shown.ParentIsMissing = parents_refusal (disk_tree t.disk t.pairs) [] path ≡ Some NoEnt
+IsHiddenResult t moved path there = (parents_refusal (disk_tree t.disk t.pairs) [] path ≡ None) × IsVisibleEntry t.pairs moved path there

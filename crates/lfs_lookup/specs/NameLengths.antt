@@ -3,6 +3,6 @@ use Rattle.std.specs.Prelude.{ℕ, ◌+◌, ◌==◌, if◌then◌else◌, List,
 use Rattle.lfs_model.specs.format.Names.{slash_byte}
 
 -- how many bytes come after the last slash, where so many came before
-abbrev pub length_after : ℕ → List ℕ → ℕ
-length_after n [] = n
-length_after n (b ∷ bytes) = length_after (if b == slash_byte then 0 else n + 1) bytes
+abbrev pub length_after_slash : ℕ → List ℕ → ℕ
+length_after_slash n [] = n
+length_after_slash n (b ∷ bytes) = length_after_slash (if b == slash_byte then 0 else n + 1) bytes

@@ -5,7 +5,7 @@ use Rattle.lfs_model.specs.declared.order.NameOrder.{NameOrder}
 use Rattle.lfs_model.specs.format.Names.{Name, name_cmp}
 use Rattle.lfs_model.specs.format.Slots.{Slot, PairContent, Gstate, is_superblock}
 use Rattle.lfs_model.specs.format.Thread.{Pair, is_hard_tail, moved_id}
-use Rattle.lfs_model.specs.session.InDirectory.{HasName, BelongsAtId, IsPlaceOf, BelongsAt, AreEntryPairs, entry_slots, all_slots}
+use Rattle.lfs_model.specs.session.InDirectory.{HasName, BelongsAtId, IsPlaceOf, BelongsAt, HaveNoSuperblock, entry_slots, all_slots}
 use Rattle.lfs_thread.specs.CachedLog.{IsContentLog, cached_log}
 use Rattle.lfs_thread.specs.Kept.{ThreadView}
 use Rattle.lfs_lookup.specs.declared.entry.FileOrDirectory.{FileOrDirectory}
@@ -54,7 +54,7 @@ CachesFoundPair t (Place spot) = Unit {0}
 -- The names in the directory that begins with the pair of number `first` rise, and only this pair may have a superblock.
 pub record AreOrdered (order : NameOrder) (ps : List Pair) (first : ℕ) : Type 0 where
   pub rise : AllPairs (λ a b. name_cmp order a b ≡ Less) (map (λ s. s.name) (entry_slots (all_slots (joined_pairs (drop first ps)))))
-  pub plain : AreEntryPairs (drop (first + 1) ps)
+  pub plain : HaveNoSuperblock (drop (first + 1) ps)
 
 -- ---- where a slot counts as deleted
 

@@ -14,12 +14,12 @@ use Rattle.lfs_thread.specs.ThreadSteps.{empty_anchor}
 -- ---- slots
 
 -- a superblock's slot has a struct of 24 bytes, as in each accepted image
-abbrev pub HasLongStruct : Slot → Type 0
-HasLongStruct s = is_superblock s ≡ true → (bytes : List ℕ) × ((s.struct ≡ Inline bytes) × (length bytes ≡ 24))
+abbrev pub HasSuperblockStruct : Slot → Type 0
+HasSuperblockStruct s = is_superblock s ≡ true → (bytes : List ℕ) × ((s.struct ≡ Inline bytes) × (length bytes ≡ 24))
 
 -- these fields have the limits with which the profile writes
-abbrev pub HasPairLimits : Profile → SuperblockFields → Type 0
-HasPairLimits profile fields = (fields.name_max ≡ name_max_of profile) × (fields.file_max ≡ file_max_of profile) × (fields.attr_max ≡ attr_max_of profile)
+abbrev pub HasProfileLimits : Profile → SuperblockFields → Type 0
+HasProfileLimits profile fields = (fields.name_max ≡ name_max_of profile) × (fields.file_max ≡ file_max_of profile) × (fields.attr_max ≡ attr_max_of profile)
 
 abbrev pub ChargeFits : Profile → ℕ → ℕ → Slot → Type 0
 ChargeFits profile block_size page s = entry_charge profile block_size s.name s.attributes ≤ charge_limit block_size page

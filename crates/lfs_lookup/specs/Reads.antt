@@ -8,27 +8,27 @@ use Rattle.lfs_model.specs.format.Slots.{zero_gstate}
 use Rattle.lfs_model.specs.format.Thread.{pairs_gstate}
 use Rattle.lfs_model.specs.tree.Tree.{Path}
 use Rattle.lfs_thread.specs.Kept.{ThreadView}
-use Rattle.lfs_lookup.specs.CachedPairs.{AreDirectoriesCached, ReadsNothingAndKeepsDirectoriesWhereAllCached, ReadsNothingAndKeepsPairsWhereAllCached}
+use Rattle.lfs_lookup.specs.CachedPairs.{AreDirectoriesCached, KeepsCachedDirectories, KeepsCachedPairs}
 use Rattle.lfs_lookup.specs.Halves.{ReadsBinarySearch, ReadsBinarySearches}
 use Rattle.lfs_lookup.specs.Listed.{joined_pairs}
 use Rattle.lfs_lookup.specs.declared.search.SlotPosition.{SlotPosition}
 
 -- The search reads each pair of the directory that begins with the pair of number `first` at most once, and none where all are
 -- cached. Where no slot is moved it goes by halves.
-pub record ReadsFewPairsOfDirectory {X : Type 0} (moved : Option SlotPosition) (first : ℕ) (old new : ThreadView) (result : Result X Error) : Type 0 where
+pub record ReadsDirectoryOnce {X : Type 0} (moved : Option SlotPosition) (first : ℕ) (old new : ThreadView) (result : Result X Error) : Type 0 where
   pub few : read_count new.kept.history ≤ read_count old.kept.history + joined_count (drop first old.kept.pairs)
   pub halves : moved ≡ None → ReadsBinarySearch old new first
-  pub loads : ReadsNothingAndKeepsPairsWhereAllCached (joined_pairs (drop first old.kept.pairs)) old new result
+  pub loads : KeepsCachedPairs (joined_pairs (drop first old.kept.pairs)) old new result
 
 -- The search reads each pair of the directories at these paths at most once, and none where all are cached. Where it is settled
 -- that no slot is moved it goes by halves.
-pub record ReadsFewPairsOnPaths {X : Type 0} (settled : Type 0) (through : X → Type 0) (paths : List Path) (old new : ThreadView) (result : Result X Error) : Type 0 where
+pub record ReadsDirectoriesOnce {X : Type 0} (settled : Type 0) (through : X → Type 0) (paths : List Path) (old new : ThreadView) (result : Result X Error) : Type 0 where
   pub few : read_count new.kept.history ≤ read_count old.kept.history + sum_by (pair_count_at old.kept.pairs) paths
   pub halves : settled → ReadsBinarySearches old new paths
-  pub loads : ReadsNothingAndKeepsDirectoriesWhereAllCached through paths old new result
+  pub loads : KeepsCachedDirectories through paths old new result
 
 -- The same of a search that says nothing of what it leaves cached. Where nothing is to be recovered it goes by halves.
-pub record ReadsFewUncachedPairs (paths : List Path) (old new : ThreadView) : Type 0 where
+pub record ReadsPathsOnce (paths : List Path) (old new : ThreadView) : Type 0 where
   pub few : read_count new.kept.history ≤ read_count old.kept.history + sum_by (pair_count_at old.kept.pairs) paths
   pub halves : pairs_gstate old.kept.pairs ≡ zero_gstate → ReadsBinarySearches old new paths
   pub kept : AreDirectoriesCached old paths → read_count new.kept.history ≡ read_count old.kept.history

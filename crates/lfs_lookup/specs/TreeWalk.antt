@@ -9,7 +9,7 @@ use Rattle.lfs_model.specs.tree.Tree.{Node, FileNode, DirectoryNode}
 use Rattle.lfs_model.specs.session.Operations.{path_bytes}
 use Rattle.lfs_model.specs.layers.Listing.{PathNode, IsWalk}
 use Rattle.lfs_model.specs.session.InDirectory.{IsPairAt}
-use Rattle.lfs_model.specs.tree.Shown.{struct_list_bytes, tree_on_disk}
+use Rattle.lfs_model.specs.tree.Shown.{struct_list_bytes, disk_tree}
 use Rattle.lfs_lookup.specs.declared.walks.TreeItem.{TreeItem}
 use Rattle.lfs_lookup.specs.ByName.{AreShorterFirst}
 use Rattle.lfs_lookup.specs.Items.{NamedStruct, owned_view}
@@ -56,8 +56,8 @@ PushesIfDirectory ps path (Branch to) old new = (first : ℕ) × (IsPairAt ps to
 PushesIfDirectory ps path (Inline bytes) old new = new ≡ old
 PushesIfDirectory ps path (Ctz head size) old new = new ≡ old
 
-abbrev pub AreBelowPushed : List Pair → PathStruct → List PathStruct → List PathStruct → Type 0
-AreBelowPushed ps place old new = PushesIfDirectory ps place.path place.struct old new
+abbrev pub PushesEntriesBelow : List Pair → PathStruct → List PathStruct → List PathStruct → Type 0
+PushesEntriesBelow ps place old new = PushesIfDirectory ps place.path place.struct old new
 
 -- ---- the walk
 
@@ -79,4 +79,4 @@ AreTreeItems disk (p ∷ ps) (e ∷ es) = IsTreeItem disk p e × AreTreeItems di
 
 -- these places are those of the walk of the tree, in order
 abbrev pub AreWalkItems : Disk → List Pair → List PathStruct → Type 0
-AreWalkItems disk ps places = (entries : List PathNode) × (IsWalk (tree_on_disk disk ps) entries × AreTreeItems disk places entries)
+AreWalkItems disk ps places = (entries : List PathNode) × (IsWalk (disk_tree disk ps) entries × AreTreeItems disk places entries)

@@ -6,14 +6,14 @@ ghost use Rattle.lfs_model.specs.format.Content.{slot_of_id};
 ghost use Rattle.lfs_model.specs.crash.Frame.{ancestor_paths};
 ghost use Rattle.lfs_model.specs.layers.LoggedContent.{AttributesInOrder, AreWellFormed};
 ghost use Rattle.lfs_model.specs.format.Slots.{PairContent as ModelContent, Slot as ModelSlot, attributes_size};
-ghost use Rattle.lfs_model.specs.tree.Shown.{tree_on_disk};
+ghost use Rattle.lfs_model.specs.tree.Shown.{disk_tree};
 ghost use Rattle.lfs_tag.specs.ContentView.{attribute_view, slot_view};
 ghost use Rattle.lfs_thread.specs.CachedLog.{IsContentLog, cached_log};
 ghost use Rattle.lfs_lookup.specs.AttributeAt.{IsAttributesSize};
 ghost use Rattle.lfs_lookup.specs.BytesAt.{IsSpotSlot};
-ghost use Rattle.lfs_lookup.specs.LookupReading.{OnlyReadsThreadAndReportsErrors};
+ghost use Rattle.lfs_lookup.specs.LookupReading.{ReadsOrReports};
 ghost use Rattle.lfs_lookup.specs.NameSearch.{HasCompleteLog};
-ghost use Rattle.lfs_lookup.specs.Reads.{ReadsFewUncachedPairs};
+ghost use Rattle.lfs_lookup.specs.Reads.{ReadsPathsOnce};
 ghost use Rattle.lfs_lookup.specs.Searchable.{CanSearchFromRoot};
 
 use crate::attributes::spot_if_found;
@@ -69,7 +69,7 @@ fn attributes_size_in<D: BlockDevice>(
     requires cached_log { IsSome (cached_log thread.old slot.pair) }
     ensures is { (held : ModelSlot) → IsSpotSlot thread.old.kept slot held → IfOk result (IsAttributesSize held.attributes) }
     ensures no_call { thread.new.kept ≡ thread.old.kept }
-    ensures reading { OnlyReadsThreadAndReportsErrors thread.old thread.new result }
+    ensures reading { ReadsOrReports thread.old thread.new result }
 {
     thread.load_pair(slot.pair)?;
     size_in_log(alloc, &thread.lend(slot.pair).unwrap(), slot.id)
@@ -90,9 +90,9 @@ pub fn attributes_size_at<D: BlockDevice>(
     path: &Path<'_>,
 ) -> Result<usize, Error>
     requires { CanSearchFromRoot thread.old root }
-    ensures is { IfOk result (IsAttributesSize (node_attributes_of (tree_on_disk thread.old.kept.disk thread.old.kept.pairs path.now))) }
-    ensures reads { ReadsFewUncachedPairs (ancestor_paths path.now) thread.old thread.new }
-    ensures reading { OnlyReadsThreadAndReportsErrors thread.old thread.new result }
+    ensures is { IfOk result (IsAttributesSize (node_attributes_of (disk_tree thread.old.kept.disk thread.old.kept.pairs path.now))) }
+    ensures reads { ReadsPathsOnce (ancestor_paths path.now) thread.old thread.new }
+    ensures reading { ReadsOrReports thread.old thread.new result }
 {
     let shown = look_up_path(alloc, thread, root, path)?;
     let Some(slot) = spot_if_found(shown) else {

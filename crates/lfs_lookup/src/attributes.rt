@@ -6,15 +6,15 @@ ghost use Rattle.lfs_model.specs.session.TreeEdits.{node_attributes_of};
 ghost use Rattle.lfs_model.specs.format.Content.{attribute_bytes};
 ghost use Rattle.lfs_model.specs.crash.Frame.{ancestor_paths};
 ghost use Rattle.lfs_model.specs.format.Slots.{Attributes, PairContent as ModelContent, Slot};
-ghost use Rattle.lfs_model.specs.tree.Shown.{tree_on_disk};
+ghost use Rattle.lfs_model.specs.tree.Shown.{disk_tree};
 ghost use Rattle.lfs_thread.specs.CachedLog.{IsContentLog, cached_log};
 ghost use Rattle.lfs_lookup.specs.AttributeAt.{AreAttributesAt, IsAttribute, AttributeFits, lookup_spot};
 ghost use Rattle.lfs_lookup.specs.BytesAt.{IsSpotSlot};
 ghost use Rattle.lfs_lookup.specs.Finds.{IsFoundNode};
-ghost use Rattle.lfs_lookup.specs.LookupReading.{OnlyReadsThreadAndReportsErrors};
+ghost use Rattle.lfs_lookup.specs.LookupReading.{ReadsOrReports};
 ghost use Rattle.lfs_lookup.specs.NameSearch.{HasCompleteLog};
-ghost use Rattle.lfs_lookup.specs.Reads.{ReadsFewUncachedPairs};
-ghost use Rattle.lfs_lookup.specs.Searchable.{CanReadPair, CanReadCachedSlot, CanSearchFromRoot};
+ghost use Rattle.lfs_lookup.specs.Reads.{ReadsPathsOnce};
+ghost use Rattle.lfs_lookup.specs.Searchable.{CanReadPair, CanReadCached, CanSearchFromRoot};
 
 use crate::by_path::{found_node, look_up_path};
 use crate::found_entries::FoundAttribute;
@@ -78,7 +78,7 @@ fn attribute_of_slot<D: BlockDevice>(
     ensures short { IfOk result AttributeFits }
     ensures is { (held : Slot) → IsSpotSlot thread.old.kept slot held → IfOk result (IsAttribute kind held.attributes) }
     ensures no_call { thread.new.kept ≡ thread.old.kept }
-    ensures reading { OnlyReadsThreadAndReportsErrors thread.old thread.new result }
+    ensures reading { ReadsOrReports thread.old thread.new result }
 {
     thread.load_pair(slot.pair)?;
     attribute_from_log(alloc, &thread.lend(slot.pair).unwrap(), kind, slot.id)
@@ -102,11 +102,11 @@ fn attribute_if_slot<D: BlockDevice>(
     slot: Option<SlotPosition>,
     kind: u8,
 ) -> Result<Option<Vec<u8>>, Error>
-    requires { CanReadCachedSlot thread.old slot }
+    requires { CanReadCached thread.old slot }
     ensures short { IfOk result AttributeFits }
     ensures is { (attributes : Attributes) → AreAttributesAt thread.old.kept slot attributes → IfOk result (IsAttribute kind attributes) }
     ensures no_call { thread.new.kept ≡ thread.old.kept }
-    ensures reading { OnlyReadsThreadAndReportsErrors thread.old thread.new result }
+    ensures reading { ReadsOrReports thread.old thread.new result }
 {
     match slot {
         Some(slot) => attribute_of_slot(alloc, thread, slot, kind),
@@ -129,11 +129,11 @@ pub fn find_attribute<D: BlockDevice>(
     kind: u8,
 ) -> Result<FoundAttribute, Error>
     requires { CanSearchFromRoot thread.old root }
-    ensures found { IfOk result (λ found. IsFoundNode (tree_on_disk thread.old.kept.disk thread.old.kept.pairs) path.now found.finding) }
+    ensures found { IfOk result (λ found. IsFoundNode (disk_tree thread.old.kept.disk thread.old.kept.pairs) path.now found.finding) }
     ensures short { IfOk result (λ found. AttributeFits found.bytes) }
-    ensures is { IfOk result (λ found. IsAttribute kind (node_attributes_of (tree_on_disk thread.old.kept.disk thread.old.kept.pairs path.now)) found.bytes) }
-    ensures reads { ReadsFewUncachedPairs (ancestor_paths path.now) thread.old thread.new }
-    ensures reading { OnlyReadsThreadAndReportsErrors thread.old thread.new result }
+    ensures is { IfOk result (λ found. IsAttribute kind (node_attributes_of (disk_tree thread.old.kept.disk thread.old.kept.pairs path.now)) found.bytes) }
+    ensures reads { ReadsPathsOnce (ancestor_paths path.now) thread.old thread.new }
+    ensures reading { ReadsOrReports thread.old thread.new result }
 {
     let shown = look_up_path(alloc, thread, root, path)?;
     let bytes = attribute_if_slot(alloc, thread, spot_if_found(shown), kind)?;

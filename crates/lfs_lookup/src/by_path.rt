@@ -5,13 +5,13 @@ ghost use Rattle.lfs_model.specs.crash.Frame.{pair_count_at, ancestor_paths};
 ghost use Rattle.lfs_model.specs.session.History.{read_count};
 ghost use Rattle.lfs_model.specs.format.Slots.{zero_gstate};
 ghost use Rattle.lfs_model.specs.format.Thread.{pairs_gstate};
-ghost use Rattle.lfs_model.specs.tree.Shown.{tree_on_disk};
+ghost use Rattle.lfs_model.specs.tree.Shown.{disk_tree};
 ghost use Rattle.lfs_lookup.specs.AtPath.{InlineFitsTag, FoundInlineFits, ParentsAllowLookup, IsResult, node_or_refusal, found_pair, storage_size};
 ghost use Rattle.lfs_lookup.specs.AttributeAt.{IsFoundCached};
 ghost use Rattle.lfs_lookup.specs.Finds.{IsFoundNode, has_entry_beneath};
 ghost use Rattle.lfs_lookup.specs.declared.found_entries.Node.TheVariants.{Directory, File, Nothing};
-ghost use Rattle.lfs_lookup.specs.LookupReading.{OnlyReadsThreadAndReportsErrors};
-ghost use Rattle.lfs_lookup.specs.Reads.{ReadsFewPairsOnPaths};
+ghost use Rattle.lfs_lookup.specs.LookupReading.{ReadsOrReports};
+ghost use Rattle.lfs_lookup.specs.Reads.{ReadsDirectoriesOnce};
 ghost use Rattle.lfs_lookup.specs.Searchable.{CanSearchFromRoot};
 
 use crate::directory::has_entries;
@@ -42,8 +42,8 @@ pub fn look_up_path<D: BlockDevice>(
     requires { CanSearchFromRoot thread.old root }
     ensures shown { IfOk result (IsResult thread.old.kept path.now) }
     ensures cached_log { IfOk result (IsFoundCached thread.new) }
-    ensures reads { ReadsFewPairsOnPaths (pairs_gstate thread.old.kept.pairs ≡ zero_gstate) ParentsAllowLookup (ancestor_paths path.now) thread.old thread.new result }
-    ensures reading { OnlyReadsThreadAndReportsErrors thread.old thread.new result }
+    ensures reads { ReadsDirectoriesOnce (pairs_gstate thread.old.kept.pairs ≡ zero_gstate) ParentsAllowLookup (ancestor_paths path.now) thread.old thread.new result }
+    ensures reading { ReadsOrReports thread.old thread.new result }
 {
     let names = path.names(alloc)?;
     let state = thread.state();
@@ -136,9 +136,9 @@ pub fn find_node<D: BlockDevice>(
     path: &Path<'_>,
 ) -> Result<FoundNode, Error>
     requires { CanSearchFromRoot thread.old root }
-    ensures found { IfOk result (IsFoundNode (tree_on_disk thread.old.kept.disk thread.old.kept.pairs) path.now) }
-    ensures reads { ReadsFewPairsOnPaths (pairs_gstate thread.old.kept.pairs ≡ zero_gstate) (λ found. found.fault ≡ None) (ancestor_paths path.now) thread.old thread.new result }
-    ensures reading { OnlyReadsThreadAndReportsErrors thread.old thread.new result }
+    ensures found { IfOk result (IsFoundNode (disk_tree thread.old.kept.disk thread.old.kept.pairs) path.now) }
+    ensures reads { ReadsDirectoriesOnce (pairs_gstate thread.old.kept.pairs ≡ zero_gstate) (λ found. found.fault ≡ None) (ancestor_paths path.now) thread.old thread.new result }
+    ensures reading { ReadsOrReports thread.old thread.new result }
 {
     let shown = look_up_path(alloc, thread, root, path)?;
     // By the sizes of its blocks a list has as many bytes as its entry says.
@@ -159,10 +159,10 @@ pub fn path_has_entries<D: BlockDevice>(
     path: &Path<'_>,
 ) -> Result<NodeAndEmptiness, Error>
     requires { CanSearchFromRoot thread.old root }
-    ensures found { IfOk result (λ inside. IsFoundNode (tree_on_disk thread.old.kept.disk thread.old.kept.pairs) path.now inside.finding) }
-    ensures has { IfOk result (λ inside. inside.has_entries ≡ has_entry_beneath (tree_on_disk thread.old.kept.disk thread.old.kept.pairs) path.now) }
+    ensures found { IfOk result (λ inside. IsFoundNode (disk_tree thread.old.kept.disk thread.old.kept.pairs) path.now inside.finding) }
+    ensures has { IfOk result (λ inside. inside.has_entries ≡ has_entry_beneath (disk_tree thread.old.kept.disk thread.old.kept.pairs) path.now) }
     ensures few { read_count thread.new.kept.history ≤ read_count thread.old.kept.history + sum_by (pair_count_at thread.old.kept.pairs) (ancestor_paths path.now ++ path.now ∷ []) }
-    ensures reading { OnlyReadsThreadAndReportsErrors thread.old thread.new result }
+    ensures reading { ReadsOrReports thread.old thread.new result }
 {
     let shown = look_up_path(alloc, thread, root, path)?;
     let has_entries = has_entries(alloc, thread, first_pair_found(root, shown))?;

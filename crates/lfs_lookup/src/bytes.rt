@@ -6,7 +6,7 @@ ghost use Rattle.lfs_model.specs.session.History.{read_count};
 ghost use Rattle.lfs_model.specs.format.Slots.{PairContent as ModelContent, Inline, Slot};
 ghost use Rattle.lfs_thread.specs.CachedLog.{IsContentLog, cached_log};
 ghost use Rattle.lfs_lookup.specs.BytesAt.{IsSpotSlot, spot_and_storage};
-ghost use Rattle.lfs_lookup.specs.LookupReading.{OnlyReadsThreadAndReportsErrors};
+ghost use Rattle.lfs_lookup.specs.LookupReading.{ReadsOrReports};
 
 use crate::by_path::look_up_path;
 use crate::entry::FileStorage;
@@ -74,7 +74,7 @@ pub fn read_inline_at<D: BlockDevice>(
     ensures bytes { (held : Slot) (bytes : List ℕ) → IsSpotSlot thread.old.kept slot held → held.struct ≡ Inline bytes → IfOk result (λ v. v.items ≡ take count (drop position bytes)) }
     ensures no_call { IsSome (cached_log thread.old slot.pair) → thread.new.kept ≡ thread.old.kept }
     ensures few { read_count thread.new.kept.history ≤ read_count thread.old.kept.history + 1 }
-    ensures reading { OnlyReadsThreadAndReportsErrors thread.old thread.new result }
+    ensures reading { ReadsOrReports thread.old thread.new result }
 {
     thread.load_pair(slot.pair)?;
     copy_inline_bytes(

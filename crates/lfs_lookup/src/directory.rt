@@ -5,12 +5,12 @@ ghost use Rattle.lfs_model.specs.format.Slots.{array_address};
 ghost use Rattle.lfs_model.specs.format.Thread.{pairs_gstate, unmoved_entries};
 ghost use Rattle.lfs_model.specs.session.History.{read_count};
 ghost use Rattle.lfs_tag.specs.FieldsView.{move_view};
-ghost use Rattle.lfs_thread.specs.ThreadSteps.{thread_pair_at};
-ghost use Rattle.lfs_lookup.specs.CachedPairs.{ArePairsCached, ReadsNothingAndKeepsPairsWhereAllCached};
+ghost use Rattle.lfs_thread.specs.ThreadSteps.{thread_pair};
+ghost use Rattle.lfs_lookup.specs.CachedPairs.{ArePairsCached, KeepsCachedPairs};
 ghost use Rattle.lfs_lookup.specs.AtPath.{has_entries_from};
 ghost use Rattle.lfs_lookup.specs.Items.{directory_items_view, named_struct};
 ghost use Rattle.lfs_lookup.specs.Listed.{AreDirectoryEntries, joined_pairs, joined_count_from, moved_slot_id, joined_pairs_from, pair_entries_from};
-ghost use Rattle.lfs_lookup.specs.LookupReading.{OnlyReadsThreadAndReportsErrors};
+ghost use Rattle.lfs_lookup.specs.LookupReading.{ReadsOrReports};
 ghost use Rattle.lfs_lookup.specs.Searchable.{CanReadPair};
 
 use crate::items::{NameAndOwnedStruct, items_in_log};
@@ -42,10 +42,10 @@ fn pair_items<D: BlockDevice>(
 ) -> Result<Vec<NameAndOwnedStruct>, Error>
     requires can { CanReadPair thread.old index }
     requires state { move_view state.now ≡ pairs_gstate thread.old.kept.pairs }
-    ensures items { IfOk result (λ items. directory_items_view items.items ≡ map named_struct (unmoved_entries (pairs_gstate thread.old.kept.pairs) (thread_pair_at thread.old.kept index))) }
+    ensures items { IfOk result (λ items. directory_items_view items.items ≡ map named_struct (unmoved_entries (pairs_gstate thread.old.kept.pairs) (thread_pair thread.old.kept index))) }
     ensures few { read_count thread.new.kept.history ≤ read_count thread.old.kept.history + 1 }
-    ensures loads { ReadsNothingAndKeepsPairsWhereAllCached (thread_pair_at thread.old.kept index ∷ []) thread.old thread.new result }
-    ensures reading { OnlyReadsThreadAndReportsErrors thread.old thread.new result }
+    ensures loads { KeepsCachedPairs (thread_pair thread.old.kept index ∷ []) thread.old thread.new result }
+    ensures reading { ReadsOrReports thread.old thread.new result }
 {
     thread.load_pair(index)?;
     let moved = moved_id_in(state, thread.blocks_of_pair(index));
@@ -64,9 +64,9 @@ pub fn unmoved_pair_items<D: BlockDevice>(
 ) -> Result<Vec<NameAndOwnedStruct>, Error>
     requires works { thread.old.failed ≡ false }
     requires below { index < length thread.old.kept.pairs }
-    ensures items { IfOk result (λ items. directory_items_view items.items ≡ map named_struct (unmoved_entries (pairs_gstate thread.old.kept.pairs) (thread_pair_at thread.old.kept index))) }
+    ensures items { IfOk result (λ items. directory_items_view items.items ≡ map named_struct (unmoved_entries (pairs_gstate thread.old.kept.pairs) (thread_pair thread.old.kept index))) }
     ensures few { read_count thread.new.kept.history ≤ read_count thread.old.kept.history + 1 }
-    ensures reading { OnlyReadsThreadAndReportsErrors thread.old thread.new result }
+    ensures reading { ReadsOrReports thread.old thread.new result }
 {
     let state = thread.state();
     pair_items(alloc, thread, &state, index)
@@ -88,7 +88,7 @@ pub fn directory_items<D: BlockDevice>(
     ensures items { IfOk result (λ items. directory_items_view items.items ≡ pair_entries_from thread.old.kept.pairs (Some first)) }
     ensures few { read_count thread.new.kept.history ≤ read_count thread.old.kept.history + joined_count_from thread.old.kept.pairs (Some first) }
     ensures kept { ArePairsCached thread.old (joined_pairs (drop first thread.old.kept.pairs)) → read_count thread.new.kept.history ≡ read_count thread.old.kept.history }
-    ensures reading { OnlyReadsThreadAndReportsErrors thread.old thread.new result }
+    ensures reading { ReadsOrReports thread.old thread.new result }
 {
     let mut items = Vec::new(alloc);
     let mut pair = Some(first);
@@ -116,7 +116,7 @@ pub fn directory_pair_entries<D: BlockDevice>(
     ensures entries { IfOk result (λ items. AreDirectoryEntries thread.old.kept.disk thread.old.kept.pairs first (directory_items_view items.items)) }
     ensures few { read_count thread.new.kept.history ≤ read_count thread.old.kept.history + joined_count_from thread.old.kept.pairs (Some first) }
     ensures kept { ArePairsCached thread.old (joined_pairs (drop first thread.old.kept.pairs)) → read_count thread.new.kept.history ≡ read_count thread.old.kept.history }
-    ensures reading { OnlyReadsThreadAndReportsErrors thread.old thread.new result }
+    ensures reading { ReadsOrReports thread.old thread.new result }
 {
     let state = thread.state();
     let items = directory_items(alloc, thread, &state, first)?;
@@ -134,7 +134,7 @@ pub(crate) fn items_if_directory<D: BlockDevice>(
     ensures items { IfOk result (λ items. directory_items_view items.items ≡ pair_entries_from thread.old.kept.pairs from) }
     ensures few { read_count thread.new.kept.history ≤ read_count thread.old.kept.history + joined_count_from thread.old.kept.pairs from }
     ensures kept { ArePairsCached thread.old (joined_pairs_from thread.old.kept.pairs from) → read_count thread.new.kept.history ≡ read_count thread.old.kept.history }
-    ensures reading { OnlyReadsThreadAndReportsErrors thread.old thread.new result }
+    ensures reading { ReadsOrReports thread.old thread.new result }
 {
     match from {
         Some(first) => directory_pair_entries(alloc, thread, first),
@@ -155,7 +155,7 @@ pub fn has_entries<D: BlockDevice>(
     requires below { IfSome from (λ first. first < length thread.old.kept.pairs) }
     ensures has { IfOk result (λ has. has ≡ has_entries_from thread.old.kept.pairs from) }
     ensures few { read_count thread.new.kept.history ≤ read_count thread.old.kept.history + joined_count_from thread.old.kept.pairs from }
-    ensures reading { OnlyReadsThreadAndReportsErrors thread.old thread.new result }
+    ensures reading { ReadsOrReports thread.old thread.new result }
 {
     let mut pair = from;
     while let Some(index) = pair {

@@ -1,10 +1,10 @@
 // The bytes of a file.
 
 ghost use Rattle.std.specs.Prelude.{◌≡◌, IfOk, false, length};
-ghost use Rattle.lfs_model.specs.tree.View.{IsWellFormedCtz};
+ghost use Rattle.lfs_model.specs.tree.View.{IsFormedList};
 ghost use Rattle.lfs_lookup.specs.FileBytes.{struct_file_bytes};
 ghost use Rattle.lfs_lookup.specs.Items.{owned_view};
-ghost use Rattle.lfs_lookup.specs.LookupReading.{OnlyReadsThreadAndReportsErrors};
+ghost use Rattle.lfs_lookup.specs.LookupReading.{ReadsOrReports};
 
 use crate::items::OwnedStruct;
 use lfs_device::{BlockDevice, Error};
@@ -29,9 +29,9 @@ pub fn read_struct_bytes<D: BlockDevice>(
     structure: &OwnedStruct,
 ) -> Result<Vec<u8>, Error>
     requires works { thread.old.failed ≡ false }
-    requires list { IsWellFormedCtz thread.old.kept.disk (owned_view structure.now) }
+    requires list { IsFormedList thread.old.kept.disk (owned_view structure.now) }
     ensures bytes { IfOk result (λ bytes. bytes.items ≡ struct_file_bytes thread.old.kept.disk (owned_view structure.now)) }
-    ensures reading { OnlyReadsThreadAndReportsErrors thread.old thread.new result }
+    ensures reading { ReadsOrReports thread.old thread.new result }
 {
     match structure {
         OwnedStruct::Inline(bytes) => Ok(Vec::from_slice(alloc, bytes)?),

@@ -2,14 +2,14 @@
 
 ghost use Rattle.std.specs.Prelude.{◌≡◌, ◌<◌, IfOk, IsSome, List, false};
 ghost use Rattle.lfs_model.specs.crash.Frame.{ancestor_paths};
-ghost use Rattle.lfs_model.specs.tree.Shown.{tree_on_disk};
+ghost use Rattle.lfs_model.specs.tree.Shown.{disk_tree};
 ghost use Rattle.lfs_model.specs.format.Slots.{Inline, Slot};
 ghost use Rattle.lfs_thread.specs.CachedLog.{cached_log};
 ghost use Rattle.lfs_lookup.specs.BytesAt.{IsFileAt};
 ghost use Rattle.lfs_lookup.specs.FileContents.{AreStructContents, AreContentsAt};
 ghost use Rattle.lfs_lookup.specs.Finds.{IsFoundNode};
-ghost use Rattle.lfs_lookup.specs.LookupReading.{OnlyReadsThreadAndReportsErrors};
-ghost use Rattle.lfs_lookup.specs.Reads.{ReadsFewUncachedPairs};
+ghost use Rattle.lfs_lookup.specs.LookupReading.{ReadsOrReports};
+ghost use Rattle.lfs_lookup.specs.Reads.{ReadsPathsOnce};
 ghost use Rattle.lfs_lookup.specs.Searchable.{CanSearchFromRoot};
 
 use crate::by_path::{found_node, look_up_path};
@@ -51,7 +51,7 @@ fn contents_of_slot<D: BlockDevice>(
     requires file { (held : Slot) × IsFileAt thread.old.kept slot contents held }
     ensures is { (held : Slot) → IsFileAt thread.old.kept slot contents held → IfOk result (AreStructContents held.struct) }
     ensures no_call { thread.new.kept ≡ thread.old.kept }
-    ensures reading { OnlyReadsThreadAndReportsErrors thread.old thread.new result }
+    ensures reading { ReadsOrReports thread.old thread.new result }
 {
     match contents {
         FileStorage::Inline { len } => {
@@ -75,10 +75,10 @@ pub fn find_file_contents<D: BlockDevice>(
     path: &Path<'_>,
 ) -> Result<FoundFile, Error>
     requires { CanSearchFromRoot thread.old root }
-    ensures found { IfOk result (λ found. IsFoundNode (tree_on_disk thread.old.kept.disk thread.old.kept.pairs) path.now found.finding) }
+    ensures found { IfOk result (λ found. IsFoundNode (disk_tree thread.old.kept.disk thread.old.kept.pairs) path.now found.finding) }
     ensures contents { IfOk result (λ found. AreContentsAt thread.old.kept path.now found.contents) }
-    ensures reads { ReadsFewUncachedPairs (ancestor_paths path.now) thread.old thread.new }
-    ensures reading { OnlyReadsThreadAndReportsErrors thread.old thread.new result }
+    ensures reads { ReadsPathsOnce (ancestor_paths path.now) thread.old thread.new }
+    ensures reading { ReadsOrReports thread.old thread.new result }
 {
     let shown = look_up_path(alloc, thread, root, path)?;
     // By the sizes of its blocks a list has as many bytes as its entry says.

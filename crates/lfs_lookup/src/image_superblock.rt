@@ -4,10 +4,10 @@ ghost use Rattle.std.specs.Prelude.{◌≡◌, ◌≤◌, ◌+◌, IfOk, Some, f
 ghost use Rattle.lfs_model.specs.format.EntryTypes.{superblock_fields};
 ghost use Rattle.lfs_model.specs.session.History.{read_count};
 ghost use Rattle.lfs_model.specs.tree.Profile.{image_fields};
-ghost use Rattle.lfs_model.specs.format.Thread.{pair_count_before_root};
+ghost use Rattle.lfs_model.specs.format.Thread.{count_before_root};
 ghost use Rattle.lfs_model.specs.tree.View.{IsAccepted};
 ghost use Rattle.lfs_tag.specs.FieldsView.{superblock_view};
-ghost use Rattle.lfs_lookup.specs.LookupReading.{OnlyReadsThreadAndReportsErrors};
+ghost use Rattle.lfs_lookup.specs.LookupReading.{ReadsOrReports};
 
 use crate::bytes::read_inline_at;
 use crate::search::SlotPosition;
@@ -40,10 +40,10 @@ pub fn superblock<D: BlockDevice>(
 ) -> Result<Superblock, Error>
     requires works { thread.old.failed ≡ false }
     requires accepted { IsAccepted thread.old.kept.disk thread.old.kept.pairs }
-    requires root { root ≡ pair_count_before_root thread.old.kept.pairs }
+    requires root { root ≡ count_before_root thread.old.kept.pairs }
     ensures is { IfOk result (λ f. image_fields thread.old.kept.pairs ≡ Some (superblock_view f)) }
     ensures few { read_count thread.new.kept.history ≤ read_count thread.old.kept.history + 1 }
-    ensures reading { OnlyReadsThreadAndReportsErrors thread.old thread.new result }
+    ensures reading { ReadsOrReports thread.old thread.new result }
 {
     let slot = SlotPosition { pair: root, id: 0 };
     let bytes = read_inline_at(alloc, thread, slot, 0, 24)?;

@@ -4,7 +4,7 @@ ghost use Rattle.std.specs.Prelude.{◌≡◌, ◌++◌, IfOk, IfErr, OnOk, map}
 ghost use Rattle.std.specs.Option.{option_map};
 ghost use Rattle.lfs_model.specs.format.Slots.{PairContent as ModelContent};
 ghost use Rattle.lfs_model.specs.format.Content.{read_struct};
-ghost use Rattle.lfs_model.specs.layers.LoggedContent.{IsSlotWellFormed, AreWellFormed, IsAllowed};
+ghost use Rattle.lfs_model.specs.layers.LoggedContent.{IsFormedSlot, AreWellFormed, IsAllowedPart};
 ghost use Rattle.lfs_thread.specs.CachedLog.{IsContentLog};
 ghost use Rattle.lfs_tag.specs.ContentView.{data_view, slot_view};
 ghost use Rattle.lfs_lookup.specs.ByName.{AreShorterFirst};
@@ -37,7 +37,7 @@ pub struct NameAndOwnedStruct {
 
 /// Returns the struct of a slot's part, with a copy of a file's bytes.
 pub fn owned_struct(alloc: Global, part: &NameOrStruct<'_>) -> Result<OwnedStruct, AllocError>
-    requires { IsAllowed 2 (data_view part.now) }
+    requires { IsAllowedPart 2 (data_view part.now) }
     ensures { IfOk result (λ s. owned_view s ≡ read_struct part.now.kind part.now.bytes.now) }
 {
     match Struct::of(part).unwrap() {
@@ -53,7 +53,7 @@ pub fn owned_struct(alloc: Global, part: &NameOrStruct<'_>) -> Result<OwnedStruc
 // Returns the entry of a slot. Returns None for the superblock's slot, and for a slot without a
 // name or a struct.
 fn item_of_slot(alloc: Global, slot: &Slot<'_>) -> Result<Option<NameAndOwnedStruct>, AllocError>
-    requires { IsSlotWellFormed (slot_view slot.now) }
+    requires { IsFormedSlot (slot_view slot.now) }
     ensures { IfOk result (λ item. option_map directory_item_view item ≡ raw_entry (slot_view slot.now)) }
 {
     let (Some(name), Some(part)) = (slot.name, slot.structure) else {
@@ -73,7 +73,7 @@ fn push_slot_item(
     items: &mut Vec<NameAndOwnedStruct>,
     slot: &Slot<'_>,
 ) -> Result<(), AllocError>
-    requires { IsSlotWellFormed (slot_view slot.now) }
+    requires { IsFormedSlot (slot_view slot.now) }
     ensures { OnOk result (directory_items_view items.new.items ≡ directory_items_view items.old.items ++ optional_entry_list (raw_entry (slot_view slot.now))) }
 {
     if let Some(item) = item_of_slot(alloc, slot)? {

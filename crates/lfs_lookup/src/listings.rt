@@ -4,12 +4,12 @@ ghost use Rattle.std.specs.Prelude.{◌≡◌, ◌≤◌, ◌+◌, ◌++◌, ◌
 ghost use Rattle.lfs_model.specs.crash.Frame.{pair_count_at, ancestor_paths};
 ghost use Rattle.lfs_model.specs.session.History.{read_count};
 ghost use Rattle.lfs_model.specs.session.Effects.{items_at};
-ghost use Rattle.lfs_model.specs.tree.Shown.{tree_on_disk};
+ghost use Rattle.lfs_model.specs.tree.Shown.{disk_tree};
 ghost use Rattle.lfs_lookup.specs.CachedPairs.{AreDirectoriesCached};
 ghost use Rattle.lfs_lookup.specs.Finds.{IsFoundNode, listed_item_view};
 ghost use Rattle.lfs_lookup.specs.Items.{directory_item_view, directory_items_view, owned_view};
 ghost use Rattle.lfs_lookup.specs.ListAt.{AreInLimits, StructFitsTag, IsInLimits, listed_item, listed_struct_size};
-ghost use Rattle.lfs_lookup.specs.LookupReading.{OnlyReadsThreadAndReportsErrors};
+ghost use Rattle.lfs_lookup.specs.LookupReading.{ReadsOrReports};
 ghost use Rattle.lfs_lookup.specs.Searchable.{CanSearchFromRoot};
 
 use crate::by_path::{first_pair_found, found_node, look_up_path};
@@ -78,11 +78,11 @@ pub fn list_directory<D: BlockDevice>(
     path: &Path<'_>,
 ) -> Result<Listing, Error>
     requires { CanSearchFromRoot thread.old root }
-    ensures found { IfOk result (λ listing. IsFoundNode (tree_on_disk thread.old.kept.disk thread.old.kept.pairs) path.now listing.finding) }
-    ensures items { IfOk result (λ listing. map listed_item_view listing.items.items ≡ items_at (tree_on_disk thread.old.kept.disk thread.old.kept.pairs) path.now) }
+    ensures found { IfOk result (λ listing. IsFoundNode (disk_tree thread.old.kept.disk thread.old.kept.pairs) path.now listing.finding) }
+    ensures items { IfOk result (λ listing. map listed_item_view listing.items.items ≡ items_at (disk_tree thread.old.kept.disk thread.old.kept.pairs) path.now) }
     ensures few { read_count thread.new.kept.history ≤ read_count thread.old.kept.history + sum_by (pair_count_at thread.old.kept.pairs) (ancestor_paths path.now ++ path.now ∷ []) }
     ensures kept { AreDirectoriesCached thread.old (ancestor_paths path.now ++ path.now ∷ []) → read_count thread.new.kept.history ≡ read_count thread.old.kept.history }
-    ensures reading { OnlyReadsThreadAndReportsErrors thread.old thread.new result }
+    ensures reading { ReadsOrReports thread.old thread.new result }
 {
     let shown = look_up_path(alloc, thread, root, path)?;
     let mut items = items_if_directory(alloc, thread, first_pair_found(root, shown))?;

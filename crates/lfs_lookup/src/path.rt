@@ -6,7 +6,7 @@ ghost use Rattle.lfs_model.specs.session.TreeEdits.{last_name};
 ghost use Rattle.lfs_model.specs.format.Names.{is_component, slash_byte};
 ghost use Rattle.lfs_model.specs.session.Operations.{parse_path};
 ghost use Rattle.lfs_model.specs.session.Refusals.{path_or_root, is_root_path};
-ghost use Rattle.lfs_lookup.specs.NameLengths.{length_after};
+ghost use Rattle.lfs_lookup.specs.NameLengths.{length_after_slash};
 
 use lfs_tag::is_valid_component;
 use std::alloc::{AllocError, Global};
@@ -39,7 +39,7 @@ fn split_at_slashes<'a>(alloc: Global, bytes: &'a [u8]) -> Result<Vec<&'a [u8]>,
 
 // Returns how many bytes come after the last slash.
 fn last_name_length(bytes: &[u8]) -> usize
-    ensures len { result ≡ length_after 0 bytes.now }
+    ensures len { result ≡ length_after_slash 0 bytes.now }
     ensures bound { result ≤ length bytes.now }
 {
     let mut len = 0;

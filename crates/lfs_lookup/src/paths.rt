@@ -11,10 +11,10 @@ ghost use Rattle.lfs_tag.specs.FieldsView.{move_view};
 ghost use Rattle.lfs_lookup.specs.AtPath.{ParentsAllowLookup};
 ghost use Rattle.lfs_lookup.specs.AttributeAt.{IsFoundCached};
 ghost use Rattle.lfs_lookup.specs.Halves.{ReadsBinarySearches, ReadsBinarySearch};
-ghost use Rattle.lfs_lookup.specs.LookupReading.{OnlyReadsThreadAndReportsErrors};
+ghost use Rattle.lfs_lookup.specs.LookupReading.{ReadsOrReports};
 ghost use Rattle.lfs_lookup.specs.NameSearch.{HidesFrom};
-ghost use Rattle.lfs_lookup.specs.LookupPaths.{LeadsToPair, ParentReached, IsNodeAt, IsBelowRoot, IsNamedEntry, LeadsToResult, IsHiddenResult, parent_refusal};
-ghost use Rattle.lfs_lookup.specs.Reads.{ReadsFewPairsOfDirectory, ReadsFewPairsOnPaths};
+ghost use Rattle.lfs_lookup.specs.LookupPaths.{LeadsToPair, ParentReached, IsNodeAt, IsVisibleEntry, IsNamedEntry, LeadsToResult, IsHiddenResult, parent_refusal};
+ghost use Rattle.lfs_lookup.specs.Reads.{ReadsDirectoryOnce, ReadsDirectoriesOnce};
 ghost use Rattle.lfs_lookup.specs.Searchable.{CanSearchRecovered, CanSearchHidden};
 
 use crate::entry::{FileOrDirectory, FileStorage};
@@ -117,8 +117,8 @@ fn find_subdirectory<D: BlockDevice>(
     requires can { CanSearchHidden thread.old moved }
     requires reached { (path : Path) × LeadsToPair thread.old.kept.pairs path first }
     ensures answer { IfOk result (λ parent. (path : Path) → LeadsToPair thread.old.kept.pairs path first → IsNodeAt thread.old.kept (path ++ name.now ∷ []) parent) }
-    ensures reads { ReadsFewPairsOfDirectory moved first thread.old thread.new result }
-    ensures reading { OnlyReadsThreadAndReportsErrors thread.old thread.new result }
+    ensures reads { ReadsDirectoryOnce moved first thread.old thread.new result }
+    ensures reading { ReadsOrReports thread.old thread.new result }
 {
     match find_unhidden(thread, first, name, moved)? {
         Some((_, FileOrDirectory::Directory(at))) => {
@@ -144,8 +144,8 @@ pub(crate) fn find_directory<D: BlockDevice>(
     requires can { CanSearchHidden thread.old moved }
     requires root { LeadsToPair thread.old.kept.pairs [] root }
     ensures answer { IfOk result (ParentReached thread.old.kept (map (λ name. name.now) path.now)) }
-    ensures reads { ReadsFewPairsOnPaths (moved ≡ None) (λ parent. parent_refusal parent ≡ None) (ancestor_paths (map (λ name. name.now) path.now)) thread.old thread.new result }
-    ensures reading { OnlyReadsThreadAndReportsErrors thread.old thread.new result }
+    ensures reads { ReadsDirectoriesOnce (moved ≡ None) (λ parent. parent_refusal parent ≡ None) (ancestor_paths (map (λ name. name.now) path.now)) thread.old thread.new result }
+    ensures reading { ReadsOrReports thread.old thread.new result }
 {
     let mut first = root;
     for name in path {
@@ -169,7 +169,7 @@ fn search_directory<D: BlockDevice>(
     ensures answer { IfOk result (λ found. (above : Path) → LeadsToPair thread.old.kept.pairs above parent → IsNamedEntry thread.old.kept.disk.order thread.old.kept.pairs above name.now found) }
     ensures few { read_count thread.new.kept.history ≤ read_count thread.old.kept.history + joined_count (drop parent thread.old.kept.pairs) }
     ensures halves { ReadsBinarySearch thread.old thread.new parent }
-    ensures reading { OnlyReadsThreadAndReportsErrors thread.old thread.new result }
+    ensures reading { ReadsOrReports thread.old thread.new result }
 {
     match find_name(thread, parent, name)? {
         NamePositionInDirectory::Found(slot, FileOrDirectory::Directory(at)) => {
@@ -207,7 +207,7 @@ pub fn look_up<D: BlockDevice>(
     ensures answer { IfOk result (LeadsToResult thread.old.kept (map (λ name. name.now) path.now)) }
     ensures few { read_count thread.new.kept.history ≤ read_count thread.old.kept.history + sum_by (pair_count_at thread.old.kept.pairs) (ancestor_paths (map (λ name. name.now) path.now)) }
     ensures halves { ReadsBinarySearches thread.old thread.new (ancestor_paths (map (λ name. name.now) path.now)) }
-    ensures reading { OnlyReadsThreadAndReportsErrors thread.old thread.new result }
+    ensures reading { ReadsOrReports thread.old thread.new result }
 {
     let Some((name, above)) = path.split_last() else {
         return Ok(PathLookup::Root);
@@ -228,10 +228,10 @@ fn look_up_name<D: BlockDevice>(
 ) -> Result<VisiblePathLookup, Error>
     requires can { CanSearchHidden thread.old moved }
     requires reached { (above : Path) × LeadsToPair thread.old.kept.pairs above parent }
-    ensures answer { IfOk result (λ shown. (above : Path) → LeadsToPair thread.old.kept.pairs above parent → IsBelowRoot thread.old.kept.pairs moved (above ++ name.now ∷ []) shown) }
+    ensures answer { IfOk result (λ shown. (above : Path) → LeadsToPair thread.old.kept.pairs above parent → IsVisibleEntry thread.old.kept.pairs moved (above ++ name.now ∷ []) shown) }
     ensures cached_log { IfOk result (IsFoundCached thread.new) }
-    ensures reads { ReadsFewPairsOfDirectory moved parent thread.old thread.new result }
-    ensures reading { OnlyReadsThreadAndReportsErrors thread.old thread.new result }
+    ensures reads { ReadsDirectoryOnce moved parent thread.old thread.new result }
+    ensures reading { ReadsOrReports thread.old thread.new result }
 {
     match find_unhidden(thread, parent, name, moved)? {
         Some((slot, FileOrDirectory::Directory(at))) => {
@@ -261,8 +261,8 @@ pub(crate) fn look_up_unmoved<D: BlockDevice>(
     requires root { LeadsToPair thread.old.kept.pairs [] root }
     ensures answer { IfOk result (IsHiddenResult thread.old.kept moved (map (λ name. name.now) path.now)) }
     ensures cached_log { IfOk result (IsFoundCached thread.new) }
-    ensures reads { ReadsFewPairsOnPaths (moved ≡ None) ParentsAllowLookup (ancestor_paths (map (λ name. name.now) path.now)) thread.old thread.new result }
-    ensures reading { OnlyReadsThreadAndReportsErrors thread.old thread.new result }
+    ensures reads { ReadsDirectoriesOnce (moved ≡ None) ParentsAllowLookup (ancestor_paths (map (λ name. name.now) path.now)) thread.old thread.new result }
+    ensures reading { ReadsOrReports thread.old thread.new result }
 {
     let Some((name, above)) = path.split_last() else {
         return Ok(VisiblePathLookup::Root);

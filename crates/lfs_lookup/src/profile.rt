@@ -5,7 +5,7 @@ ghost use Rattle.lfs_model.specs.format.Content.{complete_slot, complete_slots, 
 ghost use Rattle.lfs_model.specs.format.EntryTypes.{superblock_fields};
 ghost use Rattle.lfs_model.specs.format.Disk.{inline_limit};
 ghost use Rattle.lfs_model.specs.format.Slots.{PairContent as ModelContent, Inline, Slot as ModelSlot, is_superblock, array_address};
-ghost use Rattle.lfs_model.specs.format.Thread.{pair_count_before_root};
+ghost use Rattle.lfs_model.specs.format.Thread.{count_before_root};
 ghost use Rattle.lfs_model.specs.tree.Profile.{InlineBytesFit};
 ghost use Rattle.lfs_model.specs.layers.ProfileBreaches.{IsBreachIfAny, IsOtherLimit};
 ghost use Rattle.lfs_model.specs.tree.View.{IsAccepted};
@@ -14,9 +14,9 @@ ghost use Rattle.lfs_model.specs.declared.breaches.ProfileBreach.TheVariants.{Em
 ghost use Rattle.lfs_tag.specs.ContentView.{attribute_view, content_view, slot_view};
 ghost use Rattle.lfs_tag.specs.FieldsView.{superblock_view};
 ghost use Rattle.lfs_thread.specs.CachedLog.{IsContentLog};
-ghost use Rattle.lfs_thread.specs.ThreadSteps.{thread_pair_at};
-ghost use Rattle.lfs_lookup.specs.ProfileChecks.{IsSlotsBreach, ChargeFits, IsPairBreach, IsSlotBreach, HasPairLimits, HasLongStruct, follows_tail_at};
-ghost use Rattle.lfs_lookup.specs.LookupReading.{OnlyReadsThreadAndReportsErrors};
+ghost use Rattle.lfs_thread.specs.ThreadSteps.{thread_pair};
+ghost use Rattle.lfs_lookup.specs.ProfileChecks.{IsSlotsBreach, ChargeFits, IsPairBreach, IsSlotBreach, HasProfileLimits, HasSuperblockStruct, follows_tail_at};
+ghost use Rattle.lfs_lookup.specs.LookupReading.{ReadsOrReports};
 
 use lfs_device::{BlockDevice, Error, Geometry};
 use lfs_model::{OtherLimit, ProfileBreach};
@@ -65,7 +65,7 @@ fn breach_to_tell(
 // Returns the first limit of a superblock that isn't the profile's.
 fn other_limit(geometry: &Geometry, fields: &Superblock) -> Option<OtherLimit>
     ensures found { IfSome result (IsOtherLimit geometry.now.profile (superblock_view fields.now)) }
-    ensures none { result ≡ None → HasPairLimits geometry.now.profile (superblock_view fields.now) }
+    ensures none { result ≡ None → HasProfileLimits geometry.now.profile (superblock_view fields.now) }
 {
     if fields.name_max != geometry.name_max() {
         return Some(OtherLimit::Name(fields.name_max));
@@ -83,7 +83,7 @@ fn other_limit(geometry: &Geometry, fields: &Superblock) -> Option<OtherLimit>
 fn other_limit_of(geometry: &Geometry, structure: &NameOrStruct<'_>) -> Option<OtherLimit>
     requires { length structure.now.bytes.now ≡ 24 }
     ensures found { IfSome result (IsOtherLimit geometry.now.profile (superblock_fields structure.now.bytes.now)) }
-    ensures none { result ≡ None → HasPairLimits geometry.now.profile (superblock_fields structure.now.bytes.now) }
+    ensures none { result ≡ None → HasProfileLimits geometry.now.profile (superblock_fields structure.now.bytes.now) }
 {
     match <&[u8; 24]>::try_from(structure.bytes) {
         Ok(bytes) => other_limit(geometry, &superblock_of(bytes)),
@@ -148,8 +148,8 @@ fn breach_of_entry(
 
 // Returns what of the writing profile a slot breaks.
 fn breach_of_slot(geometry: &Geometry, place: SlotPlace, slot: &Slot<'_>) -> Option<ProfileBreach>
-    requires { (s : ModelSlot) × ((complete_slot (slot_view slot.now) ≡ Some s) × HasLongStruct s) }
-    ensures { (s : ModelSlot) → complete_slot (slot_view slot.now) ≡ Some s → HasLongStruct s → IsSlotBreach geometry.now.profile geometry.now.block_size geometry.now.page (array_address place.pair) place.slot s result }
+    requires { (s : ModelSlot) × ((complete_slot (slot_view slot.now) ≡ Some s) × HasSuperblockStruct s) }
+    ensures { (s : ModelSlot) → complete_slot (slot_view slot.now) ≡ Some s → HasSuperblockStruct s → IsSlotBreach geometry.now.profile geometry.now.block_size geometry.now.page (array_address place.pair) place.slot s result }
 {
     let (Some(name), Some(structure)) = (slot.name, slot.structure) else {
         return None;
@@ -162,8 +162,8 @@ fn breach_of_slot(geometry: &Geometry, place: SlotPlace, slot: &Slot<'_>) -> Opt
 
 // Returns what of the writing profile the slots of the pair at that address break.
 fn breach_of_slots(geometry: &Geometry, pair: [u32; 2], slots: &[Slot<'_>]) -> Option<ProfileBreach>
-    requires { (all : List ModelSlot) × ((complete_slots (map slot_view slots.now) ≡ Some all) × All HasLongStruct all) }
-    ensures { (all : List ModelSlot) → complete_slots (map slot_view slots.now) ≡ Some all → All HasLongStruct all → IsSlotsBreach geometry.now.profile geometry.now.block_size geometry.now.page (array_address pair) all result }
+    requires { (all : List ModelSlot) × ((complete_slots (map slot_view slots.now) ≡ Some all) × All HasSuperblockStruct all) }
+    ensures { (all : List ModelSlot) → complete_slots (map slot_view slots.now) ≡ Some all → All HasSuperblockStruct all → IsSlotsBreach geometry.now.profile geometry.now.block_size geometry.now.page (array_address pair) all result }
 {
     let mut found = None;
     for (id, slot) in slots.iter().enumerate() {
@@ -210,8 +210,8 @@ fn breach_of_log(
     log: &Log<'_>,
     follows: bool,
 ) -> Result<Option<ProfileBreach>, Error>
-    requires { (content : ModelContent) × (IsContentLog log.now content × All HasLongStruct content.slots) }
-    ensures is { (content : ModelContent) → IsContentLog log.now content → All HasLongStruct content.slots → IfOk result (IsPairBreach geometry.now.profile geometry.now.block_size geometry.now.page follows (record { at = array_address pair; content = content })) }
+    requires { (content : ModelContent) × (IsContentLog log.now content × All HasSuperblockStruct content.slots) }
+    ensures is { (content : ModelContent) → IsContentLog log.now content → All HasSuperblockStruct content.slots → IfOk result (IsPairBreach geometry.now.profile geometry.now.block_size geometry.now.page follows (record { at = array_address pair; content = content })) }
     ensures errors { IfErr result (λ e. e ≡ Error.NoMemory) }
 {
     let content = Content::read(alloc, log)?;
@@ -231,9 +231,9 @@ fn breach_at<D: BlockDevice>(
 ) -> Result<Option<ProfileBreach>, Error>
     requires works { thread.old.failed ≡ false }
     requires below { index < length thread.old.kept.pairs }
-    requires shaped { All HasLongStruct (thread_pair_at thread.old.kept index).content.slots }
-    ensures is { IfOk result (IsPairBreach geometry.now.profile geometry.now.block_size geometry.now.page follows (thread_pair_at thread.old.kept index)) }
-    ensures reading { OnlyReadsThreadAndReportsErrors thread.old thread.new result }
+    requires shaped { All HasSuperblockStruct (thread_pair thread.old.kept index).content.slots }
+    ensures is { IfOk result (IsPairBreach geometry.now.profile geometry.now.block_size geometry.now.page follows (thread_pair thread.old.kept index)) }
+    ensures reading { ReadsOrReports thread.old thread.new result }
 {
     thread.load_pair(index)?;
     let pair = thread.blocks_of_pair(index);
@@ -271,9 +271,9 @@ pub fn find_profile_breach<D: BlockDevice>(
 ) -> Result<Option<ProfileBreach>, Error>
     requires works { thread.old.failed ≡ false }
     requires accepted { IsAccepted thread.old.kept.disk thread.old.kept.pairs }
-    requires root { root ≡ pair_count_before_root thread.old.kept.pairs }
+    requires root { root ≡ count_before_root thread.old.kept.pairs }
     ensures is { IfOk result (IsBreachIfAny thread.old.kept.disk thread.old.kept.pairs) }
-    ensures reading { OnlyReadsThreadAndReportsErrors thread.old thread.new result }
+    ensures reading { ReadsOrReports thread.old thread.new result }
 {
     let geometry = thread.geometry();
     let mut found = None;

@@ -3,12 +3,12 @@
 ghost use Rattle.std.specs.Prelude.{◌≡◌, ◌≤◌, ◌+◌, ◌<◌, false, length, IfErr, IfOk, IfSome};
 ghost use Rattle.lfs_model.specs.session.History.{read_count};
 ghost use Rattle.lfs_model.specs.format.Slots.{PairContent as ModelContent};
-ghost use Rattle.lfs_model.specs.format.Thread.{starts_superblock, pair_count_before_root};
+ghost use Rattle.lfs_model.specs.format.Thread.{starts_superblock, count_before_root};
 ghost use Rattle.lfs_model.specs.tree.View.{IsAccepted};
 ghost use Rattle.lfs_thread.specs.CachedLog.{IsContentLog};
-ghost use Rattle.lfs_thread.specs.ThreadSteps.{thread_pair_at};
-ghost use Rattle.lfs_lookup.specs.LookupReading.{OnlyReadsThreadAndReportsErrors};
-ghost use Rattle.lfs_lookup.specs.Root.{IsInChain, IsChainPair, next_pair};
+ghost use Rattle.lfs_thread.specs.ThreadSteps.{thread_pair};
+ghost use Rattle.lfs_lookup.specs.LookupReading.{ReadsOrReports};
+ghost use Rattle.lfs_lookup.specs.Root.{IsInChain, IsChainNext, next_pair};
 
 use lfs_device::{BlockDevice, Error};
 use lfs_tag::{Content, Log};
@@ -36,9 +36,9 @@ fn begins_with_superblock<D: BlockDevice>(
 ) -> Result<bool, Error>
     requires works { thread.old.failed ≡ false }
     requires below { index < length thread.old.kept.pairs }
-    ensures is { IfOk result (λ b. b ≡ starts_superblock (thread_pair_at thread.old.kept index).content.slots) }
+    ensures is { IfOk result (λ b. b ≡ starts_superblock (thread_pair thread.old.kept index).content.slots) }
     ensures few { read_count thread.new.kept.history ≤ read_count thread.old.kept.history + 1 }
-    ensures reading { OnlyReadsThreadAndReportsErrors thread.old thread.new result }
+    ensures reading { ReadsOrReports thread.old thread.new result }
 {
     thread.load_pair(index)?;
     starts_superblock(alloc, &thread.lend(index).unwrap())
@@ -81,9 +81,9 @@ fn next_superblock_pair<D: BlockDevice>(
 ) -> Result<Option<usize>, Error>
     requires works { thread.old.failed ≡ false }
     requires chained { IsInChain thread.old.kept superblock }
-    ensures next { IfOk result (λ next. IsChainPair thread.old.kept superblock next) }
+    ensures next { IfOk result (λ next. IsChainNext thread.old.kept superblock next) }
     ensures few { read_count thread.new.kept.history ≤ read_count thread.old.kept.history + 1 }
-    ensures reading { OnlyReadsThreadAndReportsErrors thread.old thread.new result }
+    ensures reading { ReadsOrReports thread.old thread.new result }
 {
     for index in superblock..thread.len() {
         let Some(next) = next_in_chain(thread, index) else {
@@ -110,9 +110,9 @@ fn next_superblock_pair<D: BlockDevice>(
 pub fn find_root<D: BlockDevice>(alloc: Global, thread: &mut Thread<D>) -> Result<usize, Error>
     requires works { thread.old.failed ≡ false }
     requires accepted { IsAccepted thread.old.kept.disk thread.old.kept.pairs }
-    ensures root { IfOk result (λ root. root ≡ pair_count_before_root thread.old.kept.pairs) }
+    ensures root { IfOk result (λ root. root ≡ count_before_root thread.old.kept.pairs) }
     ensures few { IfOk result (λ root. read_count thread.new.kept.history ≤ read_count thread.old.kept.history + root + 1) }
-    ensures reading { OnlyReadsThreadAndReportsErrors thread.old thread.new result }
+    ensures reading { ReadsOrReports thread.old thread.new result }
 {
     let mut root = first_superblock_pair(thread);
     while let Some(next) = next_superblock_pair(alloc, thread, root)? {

@@ -2,16 +2,16 @@
 
 ghost use Rattle.std.specs.Prelude.{◌≡◌, ◌<◌, ◌≤◌, ◌+◌, ◌-◌, ◌/◌, ◌∷◌, [], false, length, drop, IfOk, IfSome, IsSome, OnOk};
 ghost use Rattle.lfs_model.specs.session.History.{read_count};
-ghost use Rattle.lfs_model.specs.session.InDirectory.{AreEntryPairs, joined_count};
+ghost use Rattle.lfs_model.specs.session.InDirectory.{HaveNoSuperblock, joined_count};
 ghost use Rattle.lfs_model.specs.format.Slots.{PairContent};
 ghost use Rattle.lfs_thread.specs.CachedLog.{IsContentLog, cached_log};
-ghost use Rattle.lfs_thread.specs.ThreadSteps.{thread_pair_at};
-ghost use Rattle.lfs_lookup.specs.CachedPairs.{ReadsNothingAndKeepsPairsWhereAllCached};
+ghost use Rattle.lfs_thread.specs.ThreadSteps.{thread_pair};
+ghost use Rattle.lfs_lookup.specs.CachedPairs.{KeepsCachedPairs};
 ghost use Rattle.lfs_lookup.specs.Listed.{joined_pairs};
-ghost use Rattle.lfs_lookup.specs.LookupReading.{OnlyReadsThreadAndReportsErrors};
+ghost use Rattle.lfs_lookup.specs.LookupReading.{ReadsOrReports};
 ghost use Rattle.lfs_lookup.specs.Halves.{EndsWithoutTail};
 ghost use Rattle.lfs_lookup.specs.NameSearch.{FindsInDirectory, FindsInPair, FindsUnhidden, HasCompleteLog, AreOrdered, CachesFoundPair, skipped_id};
-ghost use Rattle.lfs_lookup.specs.Reads.{ReadsFewPairsOfDirectory};
+ghost use Rattle.lfs_lookup.specs.Reads.{ReadsDirectoryOnce};
 ghost use Rattle.lfs_lookup.specs.Searchable.{CanReadPair};
 
 use crate::entry::{FileOrDirectory, entry_of_struct};
@@ -70,11 +70,11 @@ fn find_in_pair<D: BlockDevice>(
     skip: Option<u16>,
 ) -> Result<NamePositionInPair, Error>
     requires { CanReadPair thread.old pair }
-    ensures answer { IfOk result (FindsInPair thread.old.kept.disk.order skip (thread_pair_at thread.old.kept pair).content.slots name.now) }
+    ensures answer { IfOk result (FindsInPair thread.old.kept.disk.order skip (thread_pair thread.old.kept pair).content.slots name.now) }
     ensures cached_log { OnOk result (IsSome (cached_log thread.new pair)) }
     ensures few { read_count thread.new.kept.history ≤ read_count thread.old.kept.history + 1 }
-    ensures loads { ReadsNothingAndKeepsPairsWhereAllCached (thread_pair_at thread.old.kept pair ∷ []) thread.old thread.new result }
-    ensures reading { OnlyReadsThreadAndReportsErrors thread.old thread.new result }
+    ensures loads { KeepsCachedPairs (thread_pair thread.old.kept pair ∷ []) thread.old thread.new result }
+    ensures reading { ReadsOrReports thread.old thread.new result }
 {
     thread.load_pair(pair)?;
     let order = thread.order();
@@ -107,8 +107,8 @@ fn middle_pair_number<D: BlockDevice>(thread: &Thread<D>, low: usize, high: usiz
     requires some { low < high }
     requires below { high ≤ length thread.now.kept.pairs }
     ensures within { (low ≤ result) × (result < high) }
-    ensures middle { 0 < length (thread_pair_at thread.now.kept (low + (high - low) / 2)).content.slots → result ≡ low + (high - low) / 2 }
-    ensures low { length (thread_pair_at thread.now.kept result).content.slots ≡ 0 → result ≡ low }
+    ensures middle { 0 < length (thread_pair thread.now.kept (low + (high - low) / 2)).content.slots → result ≡ low + (high - low) / 2 }
+    ensures low { length (thread_pair thread.now.kept result).content.slots ≡ 0 → result ≡ low }
 {
     let middle = low + (high - low) / 2;
     if thread.slot_count(middle) > 0 {
@@ -132,11 +132,11 @@ pub(crate) fn find_name<D: BlockDevice>(
     name: &[u8],
 ) -> Result<NamePositionInDirectory, Error>
     requires can { CanReadPair thread.old first }
-    requires entries { AreEntryPairs (drop (first + 1) thread.old.kept.pairs) }
+    requires entries { HaveNoSuperblock (drop (first + 1) thread.old.kept.pairs) }
     ensures answer { IfOk result (FindsInDirectory thread.old.kept.disk.order thread.old.kept.pairs first name.now) }
     ensures cached_log { IfOk result (CachesFoundPair thread.new) }
-    ensures reads { ReadsFewPairsOfDirectory None first thread.old thread.new result }
-    ensures reading { OnlyReadsThreadAndReportsErrors thread.old thread.new result }
+    ensures reads { ReadsDirectoryOnce None first thread.old thread.new result }
+    ensures reading { ReadsOrReports thread.old thread.new result }
 {
     let mut low = first;
     let mut high = directory_end(thread, first);
@@ -183,8 +183,8 @@ fn find_along_tails<D: BlockDevice>(
     ensures answer { IfOk result (FindsUnhidden thread.old.kept.pairs moved first name.now) }
     ensures cached_log { IfOk result (λ found. IfSome found (λ f. IsSome (cached_log thread.new f.0.pair))) }
     ensures few { read_count thread.new.kept.history ≤ read_count thread.old.kept.history + joined_count (drop first thread.old.kept.pairs) }
-    ensures loads { ReadsNothingAndKeepsPairsWhereAllCached (joined_pairs (drop first thread.old.kept.pairs)) thread.old thread.new result }
-    ensures reading { OnlyReadsThreadAndReportsErrors thread.old thread.new result }
+    ensures loads { KeepsCachedPairs (joined_pairs (drop first thread.old.kept.pairs)) thread.old thread.new result }
+    ensures reading { ReadsOrReports thread.old thread.new result }
 {
     let mut pair = first;
     loop {
@@ -225,8 +225,8 @@ pub fn find_unhidden<D: BlockDevice>(
     requires in_order { moved ≡ None → AreOrdered thread.old.kept.disk.order thread.old.kept.pairs first }
     ensures answer { IfOk result (FindsUnhidden thread.old.kept.pairs moved first name.now) }
     ensures cached_log { IfOk result (λ found. IfSome found (λ f. IsSome (cached_log thread.new f.0.pair))) }
-    ensures reads { ReadsFewPairsOfDirectory moved first thread.old thread.new result }
-    ensures reading { OnlyReadsThreadAndReportsErrors thread.old thread.new result }
+    ensures reads { ReadsDirectoryOnce moved first thread.old thread.new result }
+    ensures reading { ReadsOrReports thread.old thread.new result }
 {
     match moved {
         Some(_) => find_along_tails(thread, first, name, moved),

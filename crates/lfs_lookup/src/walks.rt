@@ -5,8 +5,8 @@ ghost use Rattle.lfs_model.specs.format.Thread.{pairs_gstate};
 ghost use Rattle.lfs_model.specs.tree.View.{IsAccepted};
 ghost use Rattle.lfs_tag.specs.FieldsView.{move_view};
 ghost use Rattle.lfs_lookup.specs.Items.{directory_item_view, directory_items_view, owned_view};
-ghost use Rattle.lfs_lookup.specs.LookupReading.{OnlyReadsThreadAndReportsErrors};
-ghost use Rattle.lfs_lookup.specs.TreeWalk.{AreBelowPushed, ArePushed, HasFirstIfDirectory, AreWalkItems, pairs_addresses, walked_entry, tree_item_view, tree_items_view, walked_entries};
+ghost use Rattle.lfs_lookup.specs.LookupReading.{ReadsOrReports};
+ghost use Rattle.lfs_lookup.specs.TreeWalk.{PushesEntriesBelow, ArePushed, HasFirstIfDirectory, AreWalkItems, pairs_addresses, walked_entry, tree_item_view, tree_items_view, walked_entries};
 
 use crate::addresses::thread_addresses;
 use crate::directory::directory_items;
@@ -72,7 +72,7 @@ fn push_directory_items<D: BlockDevice>(
     requires below { first < length thread.old.kept.pairs }
     requires state { move_view state.now ≡ pairs_gstate thread.old.kept.pairs }
     ensures pushed { OnOk result (ArePushed thread.old.kept.pairs path.now first (tree_items_view pending.old.items) (tree_items_view pending.new.items)) }
-    ensures reading { OnlyReadsThreadAndReportsErrors thread.old thread.new result }
+    ensures reading { ReadsOrReports thread.old thread.new result }
 {
     let mut items = directory_items(alloc, thread, state, first)?;
     sort_shorter_first(&mut items);
@@ -93,8 +93,8 @@ fn push_below_entry<D: BlockDevice>(
     requires all { addresses.now ≡ pairs_addresses thread.old.kept.pairs }
     requires begins { HasFirstIfDirectory thread.old.kept.pairs (owned_view found.now.structure) }
     requires state { move_view state.now ≡ pairs_gstate thread.old.kept.pairs }
-    ensures pushed { OnOk result (AreBelowPushed thread.old.kept.pairs (tree_item_view found.now) (tree_items_view pending.old.items) (tree_items_view pending.new.items)) }
-    ensures reading { OnlyReadsThreadAndReportsErrors thread.old thread.new result }
+    ensures pushed { OnOk result (PushesEntriesBelow thread.old.kept.pairs (tree_item_view found.now) (tree_items_view pending.old.items) (tree_items_view pending.new.items)) }
+    ensures reading { ReadsOrReports thread.old thread.new result }
 {
     if let OwnedStruct::Branch(to) = found.structure {
         let first = addresses.find(to).unwrap() as usize;
@@ -115,7 +115,7 @@ pub fn walk_tree<D: BlockDevice>(
     requires works { thread.old.failed ≡ false }
     requires accepted { IsAccepted thread.old.kept.disk thread.old.kept.pairs }
     ensures walked { IfOk result (λ found. AreWalkItems thread.old.kept.disk thread.old.kept.pairs (tree_items_view found.items)) }
-    ensures reading { OnlyReadsThreadAndReportsErrors thread.old thread.new result }
+    ensures reading { ReadsOrReports thread.old thread.new result }
 {
     let state = thread.state();
     let addresses = thread_addresses(alloc, thread)?;

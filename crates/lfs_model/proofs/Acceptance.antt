@@ -1,26 +1,15 @@
 -- An image is accepted where tests say so, which compute on a literal image.
 use Rattle.std.proofs.Common.{ℕ, ◌≡◌, ◌<◌, inl, inr, Bool, true, false, not, ◌&&◌, ◌||◌, ◌==◌, nat_eq, List, [], ◌∷◌, Option, Some, None, refl, ap, AllPairs, arith, option_and_then, length, eqb-true, ltb-true, ◌⊎◌, ap₂, drop}
 use Rattle.std.specs.Prelude.{All, Any, nat_lt, slice_get, codes}
-use Rattle.std.specs.List.{AllByRecursion, list_all, list_any, IsDistinct}
-use Rattle.std.specs.Option.{option_map_or}
+use Rattle.lfs_model.proofs.Common.{AllByRecursion, list_all, option_map_or, and_parts, and_from, or_cases, All-from_recursion, All-head, All-tail, Disk, block_count, Name, name_cmp, same_name, is_less, is_valid_name, Slot, SlotKind, File, Directory, Superblock, Struct, Inline, Ctz, Branch, Gstate, same_pair, is_superblock, content_at, current_block, Pair, anchor_address, AreLinked, pairs_blocks, pairs_from_root, first_address, from_first_slots, pairs_gstate, root_address, starts_superblock, Path, root_slot, branch_address, slot_at_path, address_at_path, names_at, accepts_version, first_slot_name, first_pair_slots, IsAccepted, BeginsWith, IsSuperblock, BeginsWithSuperblock, SameExceptVersion, IsTreeEntry, HasKind, IsFormedList, HasValidMove, IsThreadEntry, IsEntry, superblock_entry, chain_pairs, after_chain, LeadsTo, IsReachedBySome, all_directories, all_entries, all_unmoved_slots, used_blocks, same_path}
+use Rattle.std.specs.List.{list_any, IsDistinct}
 use Rattle.std.specs.declared.cmp.Ordering.{Ordering}
 use Rattle.std.specs.declared.cmp.Ordering.TheVariants.{Less, Equal, Greater}
-use Rattle.std.proofs.lemmas.Bool.{and_parts, and_from, or_cases}
-use Rattle.std.proofs.lemmas.List.Elements.{All-from_recursion, All-head, All-tail}
 use Rattle.std.proofs.lemmas.List.Folds.{Any-from_list_any}
 use Rattle.std.proofs.lemmas.List.Kept.{AllPairs-cons}
 use Rattle.byteorder.specs.Endian.{little_number}
 use Rattle.lfs_model.specs.declared.order.NameOrder.{NameOrder}
-use Rattle.lfs_model.specs.format.Disk.{Disk, block_count}
-use Rattle.lfs_model.specs.format.Names.{Name, name_cmp, same_name, is_less, is_valid_name}
 use Rattle.lfs_model.specs.declared.limits.AcceptedVersions.{AcceptedVersions}
-use Rattle.lfs_model.specs.format.Slots.{Slot, SlotKind, File, Directory, Superblock, Struct, Inline, Ctz, Branch, Gstate, same_pair, is_superblock}
-use Rattle.lfs_model.specs.format.Content.{content_at, current_block}
-use Rattle.lfs_model.specs.format.Thread.{Pair, anchor_address, AreLinked, blocks_of_pairs, pairs_from_root, first_address, from_first_slots, pairs_gstate, root_address, starts_superblock}
-use Rattle.lfs_model.specs.tree.Tree.{Path, root_slot, branch_address, slot_at_path, address_at_path, names_at}
-use Rattle.lfs_model.specs.tree.View.{accepts_version, first_slot_name, first_slots, IsAccepted, BeginsWith, IsSuperblock, BeginsWithSuperblock, SameStructExceptVersion, IsTreeEntry, HasKind, IsWellFormedCtz, HasValidMove, IsThreadEntry, IsEntry, superblock_entry, chain_pairs, after_chain}
-use Rattle.lfs_model.specs.tree.Shown.{LeadsTo, IsReachedBySome, all_directories, all_entries, all_slots_not_moved, used_blocks}
-use Rattle.lfs_model.specs.session.TreeEdits.{same_path}
 use Rattle.lfs_model.proofs.Paths.{name_from_same, path_from_same}
 use Rattle.lfs_model.proofs.Outlines.{Outline, outline, is_outlined, outlined, found_in, found_holds}
 
@@ -111,7 +100,7 @@ is_inline versions bytes (Inline held) = length held == length bytes && (accepts
 is_inline versions bytes (Ctz head size) = false
 is_inline versions bytes (Branch to) = false
 
-inline_from : (versions : AcceptedVersions) (bytes : List ℕ) (s : Struct) → is_inline versions bytes s ≡ true → (own : List ℕ) × ((s ≡ Inline own) × SameStructExceptVersion versions bytes own)
+inline_from : (versions : AcceptedVersions) (bytes : List ℕ) (s : Struct) → is_inline versions bytes s ≡ true → (own : List ℕ) × ((s ≡ Inline own) × SameExceptVersion versions bytes own)
 inline_from versions bytes (Inline held) e =
     let one = and_parts (length held == length bytes) (accepts_version versions (little_number 4 held) && same_name (drop 4 held) (drop 4 bytes)) e in
     let two = and_parts (accepts_version versions (little_number 4 held)) (same_name (drop 4 held) (drop 4 bytes)) one.1 in
@@ -232,8 +221,8 @@ struct_from disk bytes e =
 -- the tests of pairs whose superblock has that struct, where no path has more than k names
 abbrev pub tests : Disk → List Pair → List ℕ → ℕ → List Bool
 tests disk ps bytes k =
-    list_all (λ b. nat_lt b (block_count disk)) (blocks_of_pairs ps)
-    ∷ are_apart (blocks_of_pairs ps)
+    list_all (λ b. nat_lt b (block_count disk)) (pairs_blocks ps)
+    ∷ are_apart (pairs_blocks ps)
     ∷ is_struct disk bytes
     ∷ list_all (λ p. has_superblock disk.profile.versions bytes p.content.slots) (chain_pairs ps)
     ∷ list_all (λ p. list_all is_entry p.content.slots) (after_chain ps)
@@ -244,7 +233,7 @@ tests disk ps bytes k =
     ∷ ((pairs_gstate ps).sync || list_all (λ d. list_any (λ f. leads_to ps d.at f.0) (outline_in k ps)) (all_directories ps))
     ∷ is_move ps (pairs_gstate ps)
     ∷ are_apart (used_blocks disk ps)
-    ∷ starts_superblock (first_slots (pairs_from_root ps))
+    ∷ starts_superblock (first_pair_slots (pairs_from_root ps))
     ∷ []
 
 -- these pairs are on the disk, and the tests pass
@@ -253,7 +242,7 @@ pub record IsImage (disk : Disk) (ps : List Pair) (bytes : List ℕ) (k : ℕ) :
   pub contents : AllByRecursion (λ p. content_at disk p.at ≡ Some p.content) ps
   pub first : BeginsWith (current_block disk (first_address (from_first_slots ps))) superblock_entry
   pub named : first_slot_name (from_first_slots ps) ≡ Some (codes "littlefs")
-  pub lists : AllByRecursion (λ s. IsWellFormedCtz disk s.struct) (all_slots_not_moved ps)
+  pub lists : AllByRecursion (λ s. IsFormedList disk s.struct) (all_unmoved_slots ps)
   pub pass : list_all (λ b. b) (tests disk ps bytes k) ≡ true
 
 pub image_is_outlined : (disk : Disk) (ps : List Pair) (bytes : List ℕ) (k : ℕ) → IsImage disk ps bytes k → is_outlined k (all_entries ps) (root_slot (root_address ps)) ≡ true
@@ -267,8 +256,8 @@ image_is_accepted disk ps bytes k h =
       thread = record {
         links = h.links;
         contents = All-from_recursion (λ p. content_at disk p.at ≡ Some p.content) ps h.contents;
-        in_range = all_from (λ b. nat_lt b (block_count disk)) (λ b. b < block_count disk) (λ b. ltb-true b (block_count disk)) (blocks_of_pairs ps) t.0;
-        distinct = distinct_from (blocks_of_pairs ps) t.1.0;
+        in_range = all_from (λ b. nat_lt b (block_count disk)) (λ b. b < block_count disk) (λ b. ltb-true b (block_count disk)) (pairs_blocks ps) t.0;
+        distinct = distinct_from (pairs_blocks ps) t.1.0;
       };
       first = h.first;
       named = h.named;
@@ -280,7 +269,7 @@ image_is_accepted disk ps bytes k h =
       once = λ path other at to l m same. one path other at to same (led k ps whole (λ other to. not (same_pair at to) || same_path path other) (led k ps whole (is_once (outline_in k ps)) t.1.1.1.1.1.1.1.1.0 path at l) other to m);
       reached = λ clear. let here = rw clear at t.1.1.1.1.1.1.1.1.1.0 in all_from (λ d. list_any (λ f. leads_to ps d.at f.0) (outline_in k ps)) (λ d. IsReachedBySome ps d.at) (λ d. reached_from ps d.at (outline_in k ps)) (all_directories ps) here;
       move = move_from ps (pairs_gstate ps) t.1.1.1.1.1.1.1.1.1.1.0;
-      lists = All-from_recursion (λ s. IsWellFormedCtz disk s.struct) (all_slots_not_moved ps) h.lists;
+      lists = All-from_recursion (λ s. IsFormedList disk s.struct) (all_unmoved_slots ps) h.lists;
       owned_once = distinct_from (used_blocks disk ps) t.1.1.1.1.1.1.1.1.1.1.1.0;
     }
   where

@@ -1,10 +1,7 @@
 -- What a log comes to after one commit more.
 use Rattle.std.proofs.Common.{ℕ, ◌≡◌, ◌==◌, true, List, [], ◌∷◌, ◌++◌, Some, flat_map, refl, ap, ◌∙◌, eq-eqb}
-use Rattle.std.proofs.lemmas.List.{append-nil}
-use Rattle.std.proofs.lemmas.List.Concat.{flat_map-append}
-use Rattle.lfs_model.specs.format.Tag.{abstract_type}
-use Rattle.lfs_model.specs.format.Log.{LogEntry, chain_of, block_entries}
-use Rattle.lfs_model.specs.format.Content.{RawContent, content_after, empty_raw_content}
+use Rattle.lfs_model.proofs.Common.{append-nil, flat_map-append, abstract_type, LogEntry, block_entries, RawContent, content_after, empty_raw_content}
+use Rattle.lfs_model.specs.format.Log.{chain_of}
 use Rattle.lfs_model.proofs.WrittenAnew.{then}
 
 -- a checksum changes nothing

@@ -1,22 +1,8 @@
 -- A question to a session on a fresh disk.
 use Rattle.std.proofs.Common.{◌≡◌, true, List, [], ◌∷◌, None, refl, subst, ap, arith}
 use Rattle.std.specs.Prelude.{codes}
-use Rattle.lfs_model.specs.format.Disk.{block_count, default_profile}
-use Rattle.lfs_model.specs.format.Content.{content_at}
-use Rattle.lfs_model.specs.format.Slots.{zero_gstate}
-use Rattle.lfs_model.specs.format.Thread.{Pair}
-use Rattle.lfs_model.specs.tree.View.{IsAccepted}
-use Rattle.lfs_model.specs.tree.Profile.{IsWritable}
-use Rattle.lfs_model.specs.tree.Fresh.{fresh_pair, empty_tree}
-use Rattle.lfs_model.specs.session.History.{read_count}
-use Rattle.lfs_model.specs.session.State.{Healthy, mounted_session}
-use Rattle.lfs_model.specs.crash.Performed.{IsSafeStep}
+use Rattle.lfs_model.proofs.Common.{block_count, default_profile, content_at, zero_gstate, Pair, IsAccepted, IsWritable, fresh_pair, empty_tree, read_count, Healthy, mounted_session, IsSafeStep, Session, DiskSummary, IsRecovered, IsStep, IsEffect, small_image, fresh_state}
 use Rattle.lfs_model.specs.session.Operations as ops
-use Rattle.lfs_model.specs.session.Session.{Session, DiskSummary}
-use Rattle.lfs_model.specs.session.Recovery.{IsRecovered}
-use Rattle.lfs_model.specs.session.Run.{IsStep, IsEffect}
-use Rattle.lfs_model.specs.examples.Images.{small_image}
-use Rattle.lfs_model.specs.examples.Runs.{fresh_state}
 use Rattle.lfs_model.proofs.Uniqueness.{one_thread}
 use Rattle.lfs_model.proofs.Fresh.{accepted, writable}
 use Rattle.lfs_model.proofs.Example.{fresh}

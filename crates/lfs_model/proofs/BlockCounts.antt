@@ -1,10 +1,7 @@
 -- How many blocks are in each set, when some change their state, and where all are among some.
 use Rattle.std.proofs.Common.{ℕ, ◌≡◌, ◌+◌, ◌≤◌, ◌⊎◌, inl, inr, ⊎_elim, Bool, cond, set, List, [], ◌∷◌, length, Some, Option, None, sym, ap, ◌∙◌, subst, arith}
-use Rattle.std.specs.List.{Contains, count_by, slice_get}
-use Rattle.std.proofs.lemmas.Bool.{cases_eq}
-use Rattle.std.proofs.lemmas.Option.{slice_get_within, same_Some}
-use Rattle.lfs_model.specs.layers.BlockSets.{BlockState, BlockStates, IsFree, IsInFlight, IsUsedBlock, state_in_flight, is_used, in_flight_count, used_count}
-use Rattle.lfs_model.specs.layers.BlockSets.BlockState.{Free, InFlight, Used}
+use Rattle.lfs_model.proofs.Common.{Contains, count_by, slice_get, cases_eq, slice_get_within, same_Some, BlockState, BlockStates, IsFree, state_in_flight, is_used, in_flight_count, used_count, Free, InFlight, Used}
+use Rattle.lfs_model.specs.layers.BlockSets.{IsInFlight, IsUsedBlock}
 use Rattle.lfs_model.proofs.BlockSets.{Contains-cons, slice_get-set_same, slice_get-set_other, count_by-set, count_by-none, IsTestOf, used_test, in_flight_test}
 
 -- ---- one block's state changed

@@ -1,22 +1,9 @@
 -- An image breaks a rule, by tests that compute on a literal image.
 use Rattle.std.proofs.Common.{ℕ, ◌≡◌, ◌<◌, true, false, not, List, Some, refl, sym, ap, ◌∙◌, ltb-true, true≢false}
 use Rattle.std.specs.Prelude.{AllPairs, nat_lt}
-use Rattle.std.specs.List.{AllByRecursion, list_all}
+use Rattle.lfs_model.proofs.Common.{AllByRecursion, list_all, All-from_recursion, list_any-from_Any, content_at, Disk, block_count, Name, name_cmp, IsReachedBySome, all_directories, all_entries, Inline, Slot, same_pair, AreLinked, BeginsAt, IsThread, Pair, anchor_address, pairs_blocks, pairs_gstate, root_address, Path, root_slot, same_path, HasStruct, HasValidMove, IsTreeEntry, IsFormedList, accepts_version, AreFirstPairs, IsDiskSuperblock, LeadsByTails, superblock_fields}
 use Rattle.std.specs.declared.cmp.Ordering.TheVariants.{Less}
-use Rattle.std.proofs.lemmas.List.Elements.{All-from_recursion}
-use Rattle.std.proofs.lemmas.List.Folds.{list_any-from_Any}
-use Rattle.lfs_model.specs.format.Content.{content_at}
-use Rattle.lfs_model.specs.format.Disk.{Disk, block_count}
-use Rattle.lfs_model.specs.format.Names.{Name, name_cmp}
-use Rattle.lfs_model.specs.tree.Shown.{IsReachedBySome, all_directories, all_entries}
-use Rattle.lfs_model.specs.format.Slots.{Inline, Slot, same_pair}
-use Rattle.lfs_model.specs.format.Thread.{AreLinked, BeginsAt, IsThread, Pair, anchor_address, blocks_of_pairs, pairs_gstate, root_address}
-use Rattle.lfs_model.specs.tree.Tree.{Path, root_slot}
-use Rattle.lfs_model.specs.session.TreeEdits.{same_path}
-use Rattle.lfs_model.specs.tree.View.{HasStruct, HasValidMove, IsTreeEntry, IsWellFormedCtz, accepts_version}
-use Rattle.lfs_model.specs.layers.Violations.{BeginsThread, IsDiskSuperblock, LeadsByTails}
 use Rattle.lfs_model.specs.declared.limits.AcceptedVersions.{AcceptedVersions}
-use Rattle.lfs_model.specs.format.EntryTypes.{superblock_fields}
 use Rattle.lfs_model.specs.declared.order.NameOrder.{NameOrder}
 use Rattle.lfs_model.proofs.Acceptance.{all_from, are_apart, begins, distinct_from, is_entry, is_inline, is_move, is_struct, led, on_branches, outline_in, rise}
 use Rattle.lfs_model.proofs.Outlines.{is_outlined}
@@ -26,17 +13,17 @@ use Rattle.lfs_model.proofs.Refusals.{ctz_to, entry_to, inline_to, is_list_if_ct
 -- ---- the thread
 
 -- these pairs come first in the thread
-pub begins_with : (disk : Disk) (ps : List Pair) (next : ℕ × ℕ) → LeadsByTails (Some anchor_address) ps (Some next) → AllByRecursion (λ p. content_at disk p.at ≡ Some p.content) ps → BeginsThread disk ps next
+pub begins_with : (disk : Disk) (ps : List Pair) (next : ℕ × ℕ) → LeadsByTails (Some anchor_address) ps (Some next) → AllByRecursion (λ p. content_at disk p.at ≡ Some p.content) ps → AreFirstPairs disk ps next
 begins_with disk ps next links contents = record { links = links; contents = All-from_recursion (λ p. content_at disk p.at ≡ Some p.content) ps contents }
 
 -- these pairs are the thread
 pub is_thread : (disk : Disk) (ps : List Pair) → AreLinked (Some anchor_address) ps → AllByRecursion (λ p. content_at disk p.at ≡ Some p.content) ps
-    → list_all (λ b. nat_lt b (block_count disk)) (blocks_of_pairs ps) ≡ true → are_apart (blocks_of_pairs ps) ≡ true → IsThread (content_at disk) (block_count disk) ps
+    → list_all (λ b. nat_lt b (block_count disk)) (pairs_blocks ps) ≡ true → are_apart (pairs_blocks ps) ≡ true → IsThread (content_at disk) (block_count disk) ps
 is_thread disk ps links contents within apart = record {
   links = links;
   contents = All-from_recursion (λ p. content_at disk p.at ≡ Some p.content) ps contents;
-  in_range = all_from (λ b. nat_lt b (block_count disk)) (λ b. b < block_count disk) (λ b. ltb-true b (block_count disk)) (blocks_of_pairs ps) within;
-  distinct = distinct_from (blocks_of_pairs ps) apart;
+  in_range = all_from (λ b. nat_lt b (block_count disk)) (λ b. b < block_count disk) (λ b. ltb-true b (block_count disk)) (pairs_blocks ps) within;
+  distinct = distinct_from (pairs_blocks ps) apart;
 }
 
 -- ---- what fails
@@ -70,5 +57,5 @@ no_path_leads ps k first whole none (path, at, (leads, same)) = true≢false (sy
 pub no_valid_move : (ps : List Pair) → is_move ps (pairs_gstate ps) ≡ false → ¬ HasValidMove ps (pairs_gstate ps)
 no_valid_move ps fails h = true≢false (sym (move_to ps (pairs_gstate ps) h) ∙ fails)
 
-pub no_list : (disk : Disk) (s : Slot) → is_list_if_ctz disk s.struct ≡ false → ¬ IsWellFormedCtz disk s.struct
+pub no_list : (disk : Disk) (s : Slot) → is_list_if_ctz disk s.struct ≡ false → ¬ IsFormedList disk s.struct
 no_list disk s fails h = true≢false (sym (ctz_to disk s.struct h) ∙ fails)

@@ -2,25 +2,16 @@
 use Rattle.std.proofs.Common.{ℕ, zero, suc, ◌≡◌, ◌≢◌, ◌+◌, ◌<◌, ◌≤◌, ◌⊎◌, ◌&&◌, ◌==◌, ◌∙◌, inl, inr, Bool, true, false, cond, List, [], ◌∷◌, ◌++◌, Contains, length, take, drop, remove, get_or, nat_eq, option_map, Option, Some, None, refl, sym, ap, subst, true≢false, arith}
 use Rattle.std.specs.Prelude.{All, codes, slice_get}
 use Rattle.std.specs.List.{IsDistinct}
-use Rattle.std.proofs.lemmas.Bool.{cases_lt}
-use Rattle.std.proofs.lemmas.List.{drop-drop}
-use Rattle.std.proofs.lemmas.List.Concat.{flat_map-append}
-use Rattle.std.proofs.lemmas.List.Elements.{All-contains, All-head, All-tail, Contains-append_right, recursion_from_All}
+use Rattle.lfs_model.proofs.Common.{cases_lt, drop-drop, flat_map-append, All-contains, All-head, All-tail, recursion_from_All, get_or_from_slice_get, none-some, same_Some, slice_get_within, content_at, current_block, Disk, block_count, ordered_disk, read_address, IsReachedBySome, all_unmoved_slots, all_directories, Gstate, Inline, PairContent, Slot, set_move_kind, is_superblock, array_address, same_pair, AreLinked, IsThread, Pair, ThreadDirectory, anchor_address, pairs_blocks, pairs_gstate, has_slots, tail_target, count_before_root, from_first_slots, slots_not_moved, starts_superblock, BeginsWith, BeginsWithSuperblock, HasStruct, IsAccepted, IsTreeEntry, SameExceptVersion, IsFormedList, IsSuperblock, first_pair_slots, first_slot_name, superblock_entry, AreFirstPairs, IsDiskSuperblock, LeadsByTails}
+use Rattle.std.proofs.lemmas.List.Elements.{Contains-append_right}
 use Rattle.std.proofs.lemmas.Map.Keys.{IsDistinct-tail}
-use Rattle.std.proofs.lemmas.Option.{get_or_from_slice_get, none-some, same_Some, slice_get_within}
-use Rattle.lfs_model.specs.format.Content.{content_at, current_block}
-use Rattle.lfs_model.specs.format.Disk.{Disk, block_count, ordered_disk}
-use Rattle.lfs_model.specs.format.EntryTypes.{read_address}
-use Rattle.lfs_model.specs.tree.Shown.{IsReachedBySome, all_slots_not_moved, all_directories}
-use Rattle.lfs_model.specs.format.Slots.{Gstate, Inline, PairContent, Slot, set_move_kind, is_superblock, array_address, same_pair}
-use Rattle.lfs_model.specs.format.Thread.{AreLinked, IsThread, Pair, ThreadDirectory, anchor_address, blocks_of_pairs, pairs_gstate, has_slots, moved_id, tail_address_of, pair_count_before_root, from_first_slots, slots_not_moved, starts_superblock}
-use Rattle.lfs_model.specs.tree.View.{BeginsWith, BeginsWithSuperblock, HasStruct, IsAccepted, IsTreeEntry, SameStructExceptVersion, IsWellFormedCtz, IsSuperblock, first_slots, first_slot_name, superblock_entry}
-use Rattle.lfs_model.specs.layers.Violations.{BeginsThread, Breaks, BreaksPairs, BreaksThread, HasBlock, NamesFall, HasFirstSlot, BranchIsLoose, IsInTwoPairs, IsUsedTwice, IsNamed, NeverReached, IsNoEntryAt, IsOtherSuperblock, IsInRange, IsReachedTwice, IsDiskSuperblock, IsUnmovedAt, LeadsByTails}
+use Rattle.lfs_model.specs.format.Thread.{moved_id}
+use Rattle.lfs_model.specs.layers.Violations.{Breaks, BreaksPairs, BreaksThread, HasBlock, NamesFall, HasFirstSlot, BranchIsLoose, IsInTwoPairs, IsUsedTwice, IsNamed, NeverReached, IsNoEntryAt, IsOtherSuperblock, IsInRange, IsReachedTwice, IsUnmovedAt}
 use Rattle.lfs_model.specs.declared.limits.AcceptedVersions.{AcceptedVersions}
 use Rattle.lfs_model.specs.declared.order.NameOrder.{NameOrder}
 use Rattle.lfs_model.specs.declared.violations.Violation.{Violation}
 use Rattle.lfs_model.specs.declared.violations.Violation.TheVariants as violation
-use Rattle.lfs_model.proofs.BlockSets.{not_behind, number_count-Contains}
+use Rattle.lfs_model.proofs.BlockSets.{not_behind, number_occurrences-Contains}
 use Rattle.lfs_model.proofs.Counts.{Each, count_append, each_pieces, once_from_distinct}
 use Rattle.lfs_model.proofs.Listings.{distinct_right}
 use Rattle.lfs_model.proofs.Pairs.{pair_back, pair_on}
@@ -44,8 +35,8 @@ pair_behind disk from at (p ∷ ps) (q ∷ qs) l m a b =
     let P : Pair → Type 0 = λ p. content_at disk p.at ≡ Some p.content in
     let here : p.at ≡ q.at = same_Some p.at q.at (sym l.0 ∙ m.0) in
     let content : p.content ≡ q.content = same_Some p.content q.content (sym (All-head P p ps a) ∙ ap (content_at disk) here ∙ All-head P q qs b) in
-    let next : AreLinked (tail_address_of p.content.tail) qs = rw content m.1 in
-    let behind = pair_behind disk (tail_address_of p.content.tail) at ps qs l.1 next (All-tail P p ps a) (All-tail P q qs b) in
+    let next : AreLinked (tail_target p.content.tail) qs = rw content m.1 in
+    let behind = pair_behind disk (tail_target p.content.tail) at ps qs l.1 next (All-tail P p ps a) (All-tail P q qs b) in
     record {
       pair = behind.pair;
       rest = behind.rest;
@@ -53,24 +44,24 @@ pair_behind disk from at (p ∷ ps) (q ∷ qs) l m a b =
       there = behind.there;
     }
 
-block_here : (p : Pair) (ps : List Pair) (block : ℕ) → HasBlock p.at block → Contains (blocks_of_pairs (p ∷ ps)) block
+block_here : (p : Pair) (ps : List Pair) (block : ℕ) → HasBlock p.at block → Contains (pairs_blocks (p ∷ ps)) block
 block_here p ps block (inl is) = (0, omega arith, is)
 block_here p ps block (inr is) = (1, omega arith, is)
 
-joined_blocks : (ps : List Pair) (p : Pair) (rest : List Pair) → blocks_of_pairs (ps ++ p ∷ rest) ≡ blocks_of_pairs ps ++ blocks_of_pairs (p ∷ rest)
+joined_blocks : (ps : List Pair) (p : Pair) (rest : List Pair) → pairs_blocks (ps ++ p ∷ rest) ≡ pairs_blocks ps ++ pairs_blocks (p ∷ rest)
 joined_blocks ps p rest = flat_map-append (λ (s : Pair). s.at.0 ∷ s.at.1 ∷ []) ps (p ∷ rest)
 
 -- a number in both lists is there twice
 not_in_both : (xs ys : List ℕ) (b : ℕ) → IsDistinct nat_eq (xs ++ ys) → Contains xs b → Contains ys b → ⊥
-not_in_both xs ys b distinct left right = omega (arith, once_from_distinct (xs ++ ys) distinct b, count_append b xs ys, number_count-Contains xs b left, number_count-Contains ys b right)
+not_in_both xs ys b distinct left right = omega (arith, once_from_distinct (xs ++ ys) distinct b, count_append b xs ys, number_occurrences-Contains xs b left, number_occurrences-Contains ys b right)
 
 -- what a whole thread has wherever it can be followed to
 module _ (disk : Disk) (qs : List Pair) (thread : IsThread (content_at disk) (block_count disk) qs) where
-  pair_after : (ps : List Pair) (at : ℕ × ℕ) → BeginsThread disk ps at → HasPairBehind ps qs at
+  pair_after : (ps : List Pair) (at : ℕ × ℕ) → AreFirstPairs disk ps at → HasPairBehind ps qs at
   pair_after ps at begins = pair_behind disk (Some anchor_address) at ps qs begins.links thread.links begins.contents thread.contents
 
-  distinct_blocks : (ps : List Pair) (at : ℕ × ℕ) (behind : HasPairBehind ps qs at) → IsDistinct nat_eq (blocks_of_pairs (ps ++ behind.pair ∷ behind.rest))
-  distinct_blocks ps at behind = subst (λ xs. IsDistinct nat_eq (blocks_of_pairs xs)) behind.are thread.distinct
+  distinct_blocks : (ps : List Pair) (at : ℕ × ℕ) (behind : HasPairBehind ps qs at) → IsDistinct nat_eq (pairs_blocks (ps ++ behind.pair ∷ behind.rest))
+  distinct_blocks ps at behind = subst (λ xs. IsDistinct nat_eq (pairs_blocks xs)) behind.are thread.distinct
 
   content_there : (at : ℕ × ℕ) → IsNamed disk at → (content : PairContent) × (content_at disk at ≡ Some content)
   content_there at (ps, begins) =
@@ -83,8 +74,8 @@ module _ (disk : Disk) (qs : List Pair) (thread : IsThread (content_at disk) (bl
   block_in_range at block (ps, begins) has =
       let behind = pair_after ps at begins in
       let here = block_here behind.pair behind.rest block (subst (λ x. HasBlock x block) (sym behind.there) has) in
-      let whole = Contains-append_right (blocks_of_pairs ps) (blocks_of_pairs (behind.pair ∷ behind.rest)) block here in
-      All-contains (λ b. b < block_count disk) (blocks_of_pairs qs) block thread.in_range (subst (λ bs. Contains bs block) (sym (ap blocks_of_pairs behind.are ∙ joined_blocks ps behind.pair behind.rest)) whole)
+      let whole = Contains-append_right (pairs_blocks ps) (pairs_blocks (behind.pair ∷ behind.rest)) block here in
+      All-contains (λ b. b < block_count disk) (pairs_blocks qs) block thread.in_range (subst (λ bs. Contains bs block) (sym (ap pairs_blocks behind.are ∙ joined_blocks ps behind.pair behind.rest)) whole)
 
   pub named_in_range : (at : ℕ × ℕ) → IsNamed disk at → IsInRange disk at
   named_in_range at named = (block_in_range at at.0 named (inl refl), block_in_range at at.1 named (inr refl))
@@ -93,7 +84,7 @@ module _ (disk : Disk) (qs : List Pair) (thread : IsThread (content_at disk) (bl
   named_has_two_blocks at (ps, begins) same =
       let behind = pair_after ps at begins in
       let p = behind.pair in
-      not_behind p.at.0 (p.at.1 ∷ blocks_of_pairs behind.rest) (distinct_right ps (p ∷ behind.rest) (distinct_blocks ps at behind))
+      not_behind p.at.0 (p.at.1 ∷ pairs_blocks behind.rest) (distinct_right ps (p ∷ behind.rest) (distinct_blocks ps at behind))
       (0, omega arith, ap (λ x. x.1) behind.there ∙ sym same ∙ ap (λ x. x.0) (sym behind.there))
 
   pub named_has_content : (at : ℕ × ℕ) → IsNamed disk at → content_at disk at ≢ None
@@ -102,7 +93,7 @@ module _ (disk : Disk) (qs : List Pair) (thread : IsThread (content_at disk) (bl
   pub no_block_in_two_pairs : (at : ℕ × ℕ) (block : ℕ) → IsInTwoPairs disk at block → ⊥
   no_block_in_two_pairs at block two =
       let behind = pair_after two.before at two.begins in
-      not_in_both (blocks_of_pairs two.before) (blocks_of_pairs (behind.pair ∷ behind.rest)) block
+      not_in_both (pairs_blocks two.before) (pairs_blocks (behind.pair ∷ behind.rest)) block
       (subst (IsDistinct nat_eq) (joined_blocks two.before behind.pair behind.rest) (distinct_blocks two.before at behind))
       two.earlier
       (block_here behind.pair behind.rest block (subst (λ x. HasBlock x block) (sym behind.there) two.own))
@@ -119,7 +110,7 @@ thread_breaks_none disk _ h ps thread = absurd h
 pub thread_breaks_in_order : (order : NameOrder) (disk : Disk) (v : Violation) → BreaksThread disk v → BreaksThread (ordered_disk order disk) v
 thread_breaks_in_order order disk v h = go v h
   where
-    begins : (ps : List Pair) (at : ℕ × ℕ) → BeginsThread disk ps at → BeginsThread (ordered_disk order disk) ps at
+    begins : (ps : List Pair) (at : ℕ × ℕ) → AreFirstPairs disk ps at → AreFirstPairs (ordered_disk order disk) ps at
     begins ps at b = record { links = b.links; contents = b.contents }
 
     named : (at : ℕ × ℕ) → IsNamed disk at → IsNamed (ordered_disk order disk) at
@@ -166,7 +157,7 @@ not_twice (x ∷ xs) (suc i) (suc j) b l one other h = not_twice xs i j b (omega
 -- ---- the superblock
 
 -- a struct that is the same but for an accepted version is the disk's, too
-other_struct : (disk : Disk) (bytes own : List ℕ) → IsSuperblock disk bytes → SameStructExceptVersion disk.profile.versions bytes own → IsSuperblock disk own
+other_struct : (disk : Disk) (bytes own : List ℕ) → IsSuperblock disk bytes → SameExceptVersion disk.profile.versions bytes own → IsSuperblock disk own
 other_struct disk bytes own is same = record {
   len = same.len ∙ is.len;
   version = same.version;
@@ -190,7 +181,7 @@ bare [] none starts = cc
 bare (s ∷ slots) none starts = cc
 
 -- where pair n begins with a superblock, the first pair that has a slot is one of the pairs up to it
-slot_of_first : (P : Slot → Type 0) (ps : List Pair) (n m : ℕ) (s : Slot) → starts_superblock (first_slots (drop n ps)) ≡ true → n < m
+slot_of_first : (P : Slot → Type 0) (ps : List Pair) (n m : ℕ) (s : Slot) → starts_superblock (first_pair_slots (drop n ps)) ≡ true → n < m
     → All (λ (p : Pair). (t : Slot) → slice_get p.content.slots 0 ≡ Some t → P t) (take m ps) → HasFirstSlot ps s → P s
 slot_of_first P [] zero m s starts l all first = absurd (cc)
 slot_of_first P [] (suc n) m s starts l all first = absurd (cc)
@@ -200,38 +191,38 @@ slot_of_first P (p ∷ ps) n (suc m) s starts l all first = go (λ k. slot_of_fi
     Q : Pair → Type 0
     Q q = (t : Slot) → slice_get q.content.slots 0 ≡ Some t → P t
 
-    go : ((k : ℕ) → starts_superblock (first_slots (drop k ps)) ≡ true → k < m → All Q (take m ps) → HasFirstSlot ps s → P s)
-        → (n : ℕ) (b : Bool) → has_slots p.content.slots ≡ b → starts_superblock (first_slots (drop n (p ∷ ps))) ≡ true → n < suc m
-        → slice_get (first_slots (cond b (p ∷ ps) (from_first_slots ps))) 0 ≡ Some s → P s
+    go : ((k : ℕ) → starts_superblock (first_pair_slots (drop k ps)) ≡ true → k < m → All Q (take m ps) → HasFirstSlot ps s → P s)
+        → (n : ℕ) (b : Bool) → has_slots p.content.slots ≡ b → starts_superblock (first_pair_slots (drop n (p ∷ ps))) ≡ true → n < suc m
+        → slice_get (first_pair_slots (cond b (p ∷ ps) (from_first_slots ps))) 0 ≡ Some s → P s
     go later n true e k l first = All-head Q p (take m ps) all s first
     go later zero false e k l first = absurd (bare p.content.slots e k)
     go later (suc n) false e k l first = later n k (omega (arith, l)) (All-tail Q p (take m ps) all) first
 
-name_of_first : (qs : List Pair) (s : Slot) → slice_get (first_slots qs) 0 ≡ Some s → first_slot_name qs ≡ Some s.name
+name_of_first : (qs : List Pair) (s : Slot) → slice_get (first_pair_slots qs) 0 ≡ Some s → first_slot_name qs ≡ Some s.name
 name_of_first [] s first = absurd (cc)
 name_of_first (q ∷ qs) s first = ap (option_map (λ (t : Slot). t.name)) first
 
 -- ---- the slots of an accepted image
 
 module _ (disk : Disk) (ps : List Pair) (ok : IsAccepted disk ps) where
-  chain_pair : (index : ℕ) (p : Pair) → slice_get ps index ≡ Some p → index ≤ pair_count_before_root ps → BeginsWithSuperblock disk.profile.versions ok.superblock.0 p.content.slots
+  chain_pair : (index : ℕ) (p : Pair) → slice_get ps index ≡ Some p → index ≤ count_before_root ps → BeginsWithSuperblock disk.profile.versions ok.superblock.0 p.content.slots
   chain_pair index p there l =
-      holds_in_take (λ (q : Pair). BeginsWithSuperblock disk.profile.versions ok.superblock.0 q.content.slots) ps (pair_count_before_root ps + 1) index p ok.superblock.1.1 there (omega (arith, l))
+      holds_in_take (λ (q : Pair). BeginsWithSuperblock disk.profile.versions ok.superblock.0 q.content.slots) ps (count_before_root ps + 1) index p ok.superblock.1.1 there (omega (arith, l))
 
-  accepted_entry : (index : ℕ) (p : Pair) (id : ℕ) (s : Slot) → slice_get ps index ≡ Some p → slice_get p.content.slots id ≡ Some s → (pair_count_before_root ps < index) ⊎ (0 < id) → IsTreeEntry s
-  accepted_entry index p id s there slot required = go (cases_lt (pair_count_before_root ps) index) required
+  accepted_entry : (index : ℕ) (p : Pair) (id : ℕ) (s : Slot) → slice_get ps index ≡ Some p → slice_get p.content.slots id ≡ Some s → (count_before_root ps < index) ⊎ (0 < id) → IsTreeEntry s
+  accepted_entry index p id s there slot required = go (cases_lt (count_before_root ps) index) required
     where
-      go : (pair_count_before_root ps < index) ⊎ (index ≤ pair_count_before_root ps) → (pair_count_before_root ps < index) ⊎ (0 < id) → IsTreeEntry s
+      go : (count_before_root ps < index) ⊎ (index ≤ count_before_root ps) → (count_before_root ps < index) ⊎ (0 < id) → IsTreeEntry s
       go (inl behind) either =
-          let entries = holds_in_drop (λ (q : Pair). All IsTreeEntry q.content.slots) ps (pair_count_before_root ps + 1) index p ok.slots there (omega (arith, behind)) in
+          let entries = holds_in_drop (λ (q : Pair). All IsTreeEntry q.content.slots) ps (count_before_root ps + 1) index p ok.slots there (omega (arith, behind)) in
           holds_at IsTreeEntry p.content.slots id s entries slot
       go (inr within) (inl behind) = absurd (omega (arith, within, behind))
       go (inr within) (inr later) = entry_behind disk.profile.versions ok.superblock.0 p.content.slots id s (chain_pair index p there within) slot later
 
   first_superblock : (s : Slot) → HasFirstSlot ps s → (is_superblock s ≡ true) × HasStruct disk.profile.versions ok.superblock.0 s
   first_superblock s first =
-      slot_of_first (λ t. (is_superblock t ≡ true) × HasStruct disk.profile.versions ok.superblock.0 t) ps (pair_count_before_root ps) (pair_count_before_root ps + 1) s ok.root (omega arith)
-      (λ k d l t e. first_of_chain disk.profile.versions ok.superblock.0 (get_or (take (pair_count_before_root ps + 1) ps) k d).content.slots t (ok.superblock.1.1 k d l) e)
+      slot_of_first (λ t. (is_superblock t ≡ true) × HasStruct disk.profile.versions ok.superblock.0 t) ps (count_before_root ps) (count_before_root ps + 1) s ok.root (omega arith)
+      (λ k d l t e. first_of_chain disk.profile.versions ok.superblock.0 (get_or (take (count_before_root ps + 1) ps) k d).content.slots t (ok.superblock.1.1 k d l) e)
       first
 
   -- slot 0 of the first pair that has a slot
@@ -318,16 +309,16 @@ stays_there g p id s there = go (g.kind == set_move_kind && same_pair g.pair p.a
     go false stays = there
 
 -- what holds of all slots that no set move names, holds of each of them
-pub unmoved_slot_has : (P : Slot → Type 0) (ps : List Pair) (at : ℕ × ℕ) (id : ℕ) (s : Slot) → All P (all_slots_not_moved ps) → IsUnmovedAt ps at id s → P s
+pub unmoved_slot_has : (P : Slot → Type 0) (ps : List Pair) (at : ℕ × ℕ) (id : ℕ) (s : Slot) → All P (all_unmoved_slots ps) → IsUnmovedAt ps at id s → P s
 unmoved_slot_has P ps at id s all h =
     let g : Gstate = pairs_gstate ps in
     let p : Pair = h.is.pair in
     each_at P (slots_not_moved g p) (index_in_pair g p id) s (stays_there g p id s h.is.slot h.stays)
     (each_at (λ (q : Pair). Each P (slots_not_moved g q)) ps h.is.index p h.is.there
-    (each_pieces P (slots_not_moved g) ps (recursion_from_All P (all_slots_not_moved ps) all)))
+    (each_pieces P (slots_not_moved g) ps (recursion_from_All P (all_unmoved_slots ps) all)))
 
-no_wrong_list : (disk : Disk) (ps : List Pair) (at : ℕ × ℕ) (id : ℕ) (s : Slot) → IsAccepted disk ps → IsUnmovedAt ps at id s → IsWellFormedCtz disk s.struct
-no_wrong_list disk ps at id s ok h = unmoved_slot_has (λ (t : Slot). IsWellFormedCtz disk t.struct) ps at id s ok.lists h
+no_wrong_list : (disk : Disk) (ps : List Pair) (at : ℕ × ℕ) (id : ℕ) (s : Slot) → IsAccepted disk ps → IsUnmovedAt ps at id s → IsFormedList disk s.struct
+no_wrong_list disk ps at id s ok h = unmoved_slot_has (λ (t : Slot). IsFormedList disk t.struct) ps at id s ok.lists h
 
 -- ---- all of them
 

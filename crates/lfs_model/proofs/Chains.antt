@@ -1,12 +1,9 @@
 -- The chain of a block, step by step.
 use Rattle.std.proofs.Common.{◌≡◌, ℕ, zero, suc, ◌+◌, ◌-◌, ◌^◌, ◌<◌, ◌≤◌, Bool, true, false, ◌||◌, cond, ltb, leb, List, [], ◌∷◌, length, take, drop, Option, Some, None, refl, sym, ap, subst, ◌∙◌, arith}
-use Rattle.std.specs.Option.{option_map, option_and_then}
-use Rattle.std.proofs.lemmas.Bool.{ltb-false}
-use Rattle.std.proofs.lemmas.Bool.Decides.{nat_tests}
+use Rattle.lfs_model.proofs.Common.{option_map, option_and_then, ltb-false, nat_tests, length-take, length-drop, tag_data_size, LogEntry, entry_end, is_checksum_entry, CommitSequence, with_entry, commit_at, IsCommit, AreAdjacent}
 use Rattle.std.proofs.lemmas.Option.{cond_some}
-use Rattle.std.proofs.lemmas.List.{length-take, length-drop}
-use Rattle.lfs_model.specs.format.Tag.{tag_data_size, tag_before_next}
-use Rattle.lfs_model.specs.format.Log.{LogEntry, tag_at, entry_at, entry_end, is_checksum_entry, closes, Commit, CommitSequence, with_entry, with_commit, commit_within, commit_at, or_empty, chain_within, longest_sequence, IsCommit, AreAdjacent}
+use Rattle.lfs_model.specs.format.Tag.{tag_before_next}
+use Rattle.lfs_model.specs.format.Log.{tag_at, entry_at, closes, Commit, with_commit, commit_within, or_empty, chain_within, longest_sequence}
 
 -- where a commit ends, and what its last tag carries
 abbrev pub stop : Commit → ℕ × ℕ

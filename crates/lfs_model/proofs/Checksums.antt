@@ -1,13 +1,10 @@
 -- The checksum is the remainder, and the only one.
 use Rattle.std.proofs.Common.{◌≡◌, ℕ, zero, suc, ◌+◌, ◌*◌, ◌/◌, ◌%◌, ◌^◌, ◌<◌, ◌≤◌, Bool, true, false, cond, eqb, List, [], ◌∷◌, ◌++◌, length, get_or, refl, sym, ap, ◌∙◌, arith, inl, inr, add-one, length-append, lit<, drop, drop-cons}
 use Rattle.std.proofs.Math.Nat.{pow-suc, mul_assoc, mul_comm}
-use Rattle.std.specs.Int.Bits.{bit_xor, xor_assoc, xor_self, xor_zero_l, xor_zero_r, xor_shifted}
-use Rattle.std.specs.List.{flat_map}
-use Rattle.std.proofs.lemmas.Bool.{cases_lt}
-use Rattle.std.proofs.lemmas.Bool.Decides.{nat_tests}
-use Rattle.std.proofs.lemmas.Nat.{xor_comm, xor_lt, xor_block, xor_shr, xor_mod, pow-add, pow_pos, same_from_place, mul-add-lt}
+use Rattle.lfs_model.proofs.Common.{xor_assoc, xor_self, flat_map, cases_lt, nat_tests, xor_comm, All-head, All-tail}
+use Rattle.std.specs.Int.Bits.{bit_xor, xor_zero_l, xor_zero_r, xor_shifted}
+use Rattle.std.proofs.lemmas.Nat.{xor_lt, xor_block, xor_shr, xor_mod, pow-add, pow_pos, same_from_place, mul-add-lt}
 use Rattle.std.specs.Prelude.{All}
-use Rattle.std.proofs.lemmas.List.Elements.{All-head, All-tail}
 use Rattle.lfs_model.specs.format.Crc.{generator_polynomial, low_bits, polynomial, times_generator, IsRemainder, message_polynomial, IsCrcFrom, crc_after_bit, next_bits, crc_of}
 
 -- ---- sums

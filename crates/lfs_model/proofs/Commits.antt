@@ -1,9 +1,8 @@
 -- A block has a commit exactly where its chain ends past its beginning.
 use Rattle.std.proofs.Common.{ℕ, ◌≡◌, ◌+◌, ◌-◌, ◌<◌, ◌≤◌, List, [], ◌∷◌, length, refl, sym, ◌∙◌, arith}
 use Rattle.std.specs.Prelude.{nat_lt}
-use Rattle.std.proofs.lemmas.Bool.{lt-ltb, le-ltb}
-use Rattle.lfs_model.specs.format.Log.{LogEntry, AreAdjacent, chain_of}
-use Rattle.lfs_model.specs.format.Content.{has_commit}
+use Rattle.lfs_model.proofs.Common.{lt-ltb, le-ltb, LogEntry, AreAdjacent, has_commit}
+use Rattle.lfs_model.specs.format.Log.{chain_of}
 use Rattle.lfs_model.proofs.Chains.{chain_sound, commit_space}
 
 -- what a chain's end shows of its commits

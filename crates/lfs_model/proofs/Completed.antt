@@ -1,19 +1,9 @@
 -- Slots with a name and a struct, when one comes, goes or changes; and the bytes that they take.
 use Rattle.std.proofs.Common.{ℕ, zero, suc, ◌≡◌, ◌+◌, ◌/◌, ◌^◌, ◌<◌, ◌≤◌, ◌==◌, ◌&&◌, Bool, true, false, cond, List, [], ◌∷◌, ◌++◌, length, take, drop, Option, Some, None, refl, sym, ap, ap₂, subst, ◌∙◌, arith, eqb-true}
 use Rattle.std.specs.Prelude.{slice_set, sum_by}
-use Rattle.std.specs.List.{insert, remove}
-use Rattle.std.specs.Option.{option_and_then, option_map}
-use Rattle.std.proofs.lemmas.Option.{same_Some}
-use Rattle.std.proofs.lemmas.Bool.{ne_eqb}
-use Rattle.std.proofs.lemmas.List.Sums.{sum_by-cons}
+use Rattle.lfs_model.proofs.Common.{insert, remove, option_and_then, option_map, same_Some, ne_eqb, sum_by-cons, make_tag, tag_type, tag_length, abstract_type, pair_capacity, slots_limit, Slot, Inline, Ctz, Branch, struct_len, attributes_size, slot_size, PairContent, FitsInPair, RawSlot, RawContent, complete_slot, complete_slots, complete_content, kind_of_type, read_struct, read_address, is_known_tag, is_attribute_removal, allows_any_length, requires_eight_bytes, requires_no_bytes, move_type, create_tag_type, delete_tag_type, inline_type, directory_type, file_name_type, directory_name_type, slot_size_raw, raw_slots_size, data_size, RawContentFits, IsAllowedPart, AllowsIfSome, IsFormedSlot, AreWellFormed, IsWellFormed}
 use Rattle.byteorder.specs.Endian.{little_number}
-use Rattle.lfs_model.specs.format.Tag.{make_tag, tag_type, tag_length, abstract_type}
-use Rattle.lfs_model.specs.format.Disk.{pair_capacity, slots_limit}
-use Rattle.lfs_model.specs.format.Slots.{Slot, Inline, Ctz, Branch, struct_len, attributes_size, slot_size, slots_size, PairContent, FitsInPair}
-use Rattle.lfs_model.specs.format.Content.{RawSlot, RawContent, complete_slot, complete_slots, complete_content, kind_of_type, read_struct}
-use Rattle.lfs_model.specs.format.EntryTypes.{read_address, is_known_tag, is_attribute_removal, allows_any_length, requires_eight_bytes, requires_no_bytes, move_type, create_tag_type, delete_tag_type, inline_type, directory_type, file_name_type, directory_name_type}
-use Rattle.lfs_model.specs.layers.WrittenContent.{slot_size_raw, raw_slots_size, data_size, RawContentFits}
-use Rattle.lfs_model.specs.layers.LoggedContent.{IsAllowed, AllowsIfSome, IsSlotWellFormed, AreWellFormed, IsWellFormed}
+use Rattle.lfs_model.specs.format.Slots.{slots_size}
 use Rattle.lfs_model.proofs.WrittenAnew.{tag_type-make_tag, tag_length-make_tag}
 
 -- ---- lists of slots
@@ -91,7 +81,7 @@ eight tag h a b c d = go (requires_eight_bytes tag) (tag_length tag == 8) refl (
     go true false f g = absurd (cc)
     go false l f g = absurd (cc)
 
-pub struct_length : (type : ℕ) (bytes : List ℕ) → IsAllowed 2 (type, bytes) → struct_len (read_struct type bytes) ≡ length bytes
+pub struct_length : (type : ℕ) (bytes : List ℕ) → IsAllowedPart 2 (type, bytes) → struct_len (read_struct type bytes) ≡ length bytes
 struct_length type bytes h = go (type == inline_type) (type == directory_type) refl
   where
     of_class : type / 2 ^ 8 ≡ 2
@@ -117,7 +107,7 @@ struct_length type bytes h = go (type == inline_type) (type == directory_type) r
     go false true e = sym (fixed e)
     go false false e = sym (fixed e)
 
-pub slot_size_is : (s : RawSlot) (t : Slot) → IsSlotWellFormed s → complete_slot s ≡ Some t → slot_size t ≡ slot_size_raw s
+pub slot_size_is : (s : RawSlot) (t : Slot) → IsFormedSlot s → complete_slot s ≡ Some t → slot_size t ≡ slot_size_raw s
 slot_size_is s t h e = go s.name s.struct h.struct e
   where
     go : (n p : Option (ℕ × List ℕ)) → AllowsIfSome 2 p →

@@ -1,14 +1,8 @@
 -- Calls that conform: one more, and what they left, which is among what a stop in them may leave.
 use Rattle.std.proofs.Common.{◌≡◌, ℕ, Bool, false, List, [], ◌∷◌, length, inl, inr, refl, sym, ap, subst, ◌∙◌, arith}
 use Rattle.std.specs.Prelude.{Contains}
-use Rattle.std.proofs.lemmas.Bool.{cases_lt}
-use Rattle.std.proofs.lemmas.List.{get_or_past}
-use Rattle.std.proofs.lemmas.List.Elements.{All-same, All-cons, All-contains}
-use Rattle.lfs_model.specs.format.Blocks.{Blocks, SameExcept, block_bytes, programmed}
-use Rattle.lfs_model.specs.format.Log.{block_log}
-use Rattle.lfs_model.specs.session.History.{DeviceCall, Read, Program, Erase, Blank, CallEvent, call_event}
-use Rattle.lfs_model.specs.crash.Conformance.{ConformsTo, CallsConform}
-use Rattle.lfs_model.specs.crash.Stops.{LeftByLoss, may_stop_leave, MayProgramLeave, ErasesCleanly, erases_cleanly}
+use Rattle.lfs_model.proofs.Common.{cases_lt, get_or_past, All-cons, All-contains, Blocks, SameExcept, block_bytes, programmed, block_log, DeviceCall, Read, Program, Erase, Blank, CallEvent, call_event, ConformsTo, CallsConform, LeftByLoss, may_stop_leave, MayProgramLeave, ErasesCleanly, erases_cleanly}
+use Rattle.std.proofs.lemmas.List.Elements.{All-same}
 use Rattle.lfs_model.proofs.Overwrites.{block_bytes-programmed}
 
 -- ---- one call more

@@ -2,9 +2,9 @@
 use Rattle.std.proofs.Common.{◌≡◌, ℕ, zero, suc, ◌+◌, ◌-◌, ◌*◌, ◌<◌, ◌≤◌, List, ◌∷◌, ◌++◌, length, take, drop, refl, sym, ◌∙◌, ap, arith, length-drop, length-append, append_assoc}
 use Rattle.std.specs.Prelude.{slice_range}
 use Rattle.std.proofs.Math.Nat.{mul-le-mul_left}
-use Rattle.std.proofs.Math.Seq.{take-append-add, drop-append-add}
-use Rattle.std.proofs.lemmas.List.{take-take, drop-drop, drop-take, take-append-le, drop-append-le, length-take-le}
-use Rattle.lfs_model.specs.format.Blocks.{HasBlockSizes, block_bytes, overwritten_at, programmed, cut}
+use Rattle.lfs_model.proofs.Common.{drop-append-add, take-take, drop-drop, drop-take, take-append-le, drop-append-le, length-take-le, HasBlockSizes, block_bytes, overwritten_at, programmed}
+use Rattle.std.proofs.Math.Seq.{take-append-add}
+use Rattle.lfs_model.specs.format.Blocks.{cut}
 
 pub length-cut : (size count : ℕ) (bytes : List ℕ) → length (cut size count bytes) ≡ count
 length-cut size zero bytes = refl

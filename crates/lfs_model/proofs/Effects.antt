@@ -1,20 +1,7 @@
 -- What each change does to the slots, the tail and the move state of a pair.
 use Rattle.std.proofs.Common.{ℕ, ◌≡◌, ◌+◌, ◌-◌, ◌/◌, ◌%◌, ◌^◌, ◌<◌, ◌≤◌, ◌==◌, ◌&&◌, Bool, true, false, cond, not, List, [], ◌∷◌, ◌++◌, length, take, drop, Some, None, refl, sym, ap, ◌∙◌, arith, replicate, eq-eqb}
 use Rattle.std.specs.Prelude.{slice_set, nat_le, is_some}
-use Rattle.std.specs.List.{insert, remove, list_all}
-use Rattle.std.specs.Option.{option_and_then, option_map}
-use Rattle.std.proofs.lemmas.Bool.{ne_eqb, le-leb, lt-ltb, and_from, or_right}
-use Rattle.std.proofs.lemmas.List.{append-nil, length-take-le}
-use Rattle.std.proofs.lemmas.List.Edits.{length-insert}
-use Rattle.std.proofs.Math.Seq.{set-append_seam, get_or-append_seam}
-use Rattle.lfs_model.specs.format.Tag.{make_tag, tag_type, tag_id, tag_length, abstract_type}
-use Rattle.lfs_model.specs.format.Log.{LogEntry}
-use Rattle.lfs_model.specs.format.Slots.{Gstate}
-use Rattle.lfs_model.specs.format.Content.{RawSlot, RawContent, content_after_one, content_after, slots_after, changed_at, slots_padded_to, empty_slot, slot_of_id, attributes_with, attributes_without}
-use Rattle.lfs_model.specs.format.EntryTypes.{is_known_tag, allows_any_length, requires_eight_bytes, requires_no_bytes, move_type, has_needed_id, is_attribute_removal, no_id, create_tag_type, delete_tag_type, tail_to_pair}
-use Rattle.lfs_model.specs.layers.WrittenContent.{log_entry_of, lowest_type}
-use Rattle.lfs_model.specs.layers.LoggedContent.{IsAllowed, AreWords, MoveStateFits}
-use Rattle.lfs_model.specs.layers.Changes.{PairChange, Create, Delete, PutStruct, PutAttribute, RemoveAttribute, PutTail, PutMove, change_entries, entries_of_changes, is_storable, changed_content_of}
+use Rattle.lfs_model.proofs.Common.{insert, remove, list_all, option_and_then, option_map, ne_eqb, le-leb, lt-ltb, and_from, or_right, append-nil, length-take-le, length-insert, set-append_seam, get_or-append_seam, make_tag, tag_type, tag_id, tag_length, abstract_type, LogEntry, Gstate, RawSlot, RawContent, content_after_one, content_after, slots_after, changed_at, padded_slots, empty_slot, slot_of_id, attributes_with, attributes_without, is_known_tag, allows_any_length, requires_eight_bytes, requires_no_bytes, move_type, has_needed_id, is_attribute_removal, no_id, create_tag_type, delete_tag_type, tail_to_pair, log_entry, first_attribute_type, IsAllowedPart, AreWords, MoveStateFits, PairChange, Create, Delete, PutStruct, PutAttribute, RemoveAttribute, PutTail, PutMove, change_entries, entries_of_changes, is_storable, changed_content_of}
 use Rattle.lfs_model.proofs.WrittenAnew.{tag_type-make_tag, tag_id-make_tag, tag_length-make_tag, then, read_address-address_bytes, read_gstate-bytes_of_move_state}
 
 -- ---- one after the other
@@ -51,7 +38,7 @@ one_entry : (c d : RawContent) (e : LogEntry) → content_after_one c e ≡ Some
 one_entry c d e h = ap (option_and_then (λ x. Some x)) h
 
 -- the part is in the table under any id
-in_table_at : (class : ℕ) (part : ℕ × List ℕ) (id : ℕ) → class < 5 → id < 2 ^ 10 → IsAllowed class part → is_known_tag (make_tag part.0 id (length part.1)) ≡ true
+in_table_at : (class : ℕ) (part : ℕ × List ℕ) (id : ℕ) → class < 5 → id < 2 ^ 10 → IsAllowedPart class part → is_known_tag (make_tag part.0 id (length part.1)) ≡ true
 in_table_at class part id c i h =
     let of : part.0 / 2 ^ 8 ≡ class = h.of_class in
     let short : length part.1 < 0x3ff = h.short in
@@ -64,8 +51,8 @@ in_table_at class part id c i h =
 pub deletes : (c : RawContent) (id : ℕ) → id < 0x3ff → id < length c.slots → Does (Delete id) c (record c { slots = remove c.slots id })
 deletes c id small there = record {
   storable = lt-ltb id no_id small;
-  makes = one_entry c (record c { slots = remove c.slots id }) (log_entry_of delete_tag_type id [])
-      (by_slots c (log_entry_of delete_tag_type id []) (omega arith) in_table (omega arith) ∙ ap (option_map (λ slots. record c { slots = slots })) after);
+  makes = one_entry c (record c { slots = remove c.slots id }) (log_entry delete_tag_type id [])
+      (by_slots c (log_entry delete_tag_type id []) (omega arith) in_table (omega arith) ∙ ap (option_map (λ slots. record c { slots = slots })) after);
 }
   where
     kind : tag_type (make_tag delete_tag_type id 0) ≡ delete_tag_type
@@ -80,7 +67,7 @@ deletes c id small there = record {
     in_table : is_known_tag (make_tag delete_tag_type id 0) ≡ true
     in_table = rw (kind, len) refl
 
-    after : slots_after c.slots (log_entry_of delete_tag_type id []) ≡ Some (remove c.slots id)
+    after : slots_after c.slots (log_entry delete_tag_type id []) ≡ Some (remove c.slots id)
     after = rw (kind, at, lt-ltb id (length c.slots) there) refl
 
 -- ---- structs and attributes
@@ -91,12 +78,12 @@ IsNamed slots id = is_some (slot_of_id slots id).name ≡ true
 abbrev pub with_struct : ℕ × List ℕ → RawSlot → RawSlot
 with_struct part s = record s { struct = Some part }
 
-pub puts_struct : (c : RawContent) (id kind : ℕ) (bytes : List ℕ) → id < 0x3ff → IsNamed c.slots id → IsAllowed 2 (kind, bytes)
+pub puts_struct : (c : RawContent) (id kind : ℕ) (bytes : List ℕ) → id < 0x3ff → IsNamed c.slots id → IsAllowedPart 2 (kind, bytes)
     → Does (PutStruct id kind bytes) c (record c { slots = changed_at (with_struct (kind, bytes)) c.slots id })
 puts_struct c id type bytes small named part = record {
   storable = and_from _ _ (lt-ltb id no_id small) (and_from _ _ (and_from _ _ (le-leb 0x200 type (omega arith)) (lt-ltb type 0x300 (omega arith))) (le-leb (length bytes) 1022 (omega arith)));
-  makes = one_entry c (record c { slots = changed_at (with_struct (type, bytes)) c.slots id }) (log_entry_of type id bytes)
-      (by_slots c (log_entry_of type id bytes) (omega arith) (in_table_at 2 (type, bytes) id (omega arith) (omega arith) part) (omega arith)
+  makes = one_entry c (record c { slots = changed_at (with_struct (type, bytes)) c.slots id }) (log_entry type id bytes)
+      (by_slots c (log_entry type id bytes) (omega arith) (in_table_at 2 (type, bytes) id (omega arith) (omega arith) part) (omega arith)
       ∙ ap (option_map (λ slots. record c { slots = slots })) after);
 }
   where
@@ -112,7 +99,7 @@ puts_struct c id type bytes small named part = record {
     at : tag_id (make_tag type id (length bytes)) ≡ id
     at = tag_id-make_tag type id (length bytes) (omega arith) (omega arith)
 
-    after : slots_after c.slots (log_entry_of type id bytes) ≡ Some (changed_at (with_struct (type, bytes)) c.slots id)
+    after : slots_after c.slots (log_entry type id bytes) ≡ Some (changed_at (with_struct (type, bytes)) c.slots id)
     after =
         let not_name : type / 2 ^ 8 == 0 ≡ false = ne_eqb (type / 2 ^ 8) 0 (λ h. omega arith) in
         let not_create : type == create_tag_type ≡ false = ne_eqb type create_tag_type (λ h. omega arith) in
@@ -121,21 +108,21 @@ puts_struct c id type bytes small named part = record {
         rw (kind, at) (rw (not_name, not_create, not_delete, is_struct, named) refl)
 
 -- an entry of an attribute's type
-attribute_after : (slots : List RawSlot) (e : LogEntry) (id attribute : ℕ) → attribute < 0x100 → tag_type e.tag ≡ lowest_type + attribute → tag_id e.tag ≡ id → IsNamed slots id
+attribute_after : (slots : List RawSlot) (e : LogEntry) (id attribute : ℕ) → attribute < 0x100 → tag_type e.tag ≡ first_attribute_type + attribute → tag_id e.tag ≡ id → IsNamed slots id
     → slots_after slots e ≡ Some (changed_at (λ s. record s { attributes = cond (is_attribute_removal e.tag) (attributes_without attribute s.attributes) (attributes_with attribute e.bytes s.attributes) }) slots id)
 attribute_after slots e id attribute small kind at named =
-    let not_name : (lowest_type + attribute) / 2 ^ 8 == 0 ≡ false = ne_eqb ((lowest_type + attribute) / 2 ^ 8) 0 (λ h. omega arith) in
-    let not_create : lowest_type + attribute == create_tag_type ≡ false = ne_eqb (lowest_type + attribute) create_tag_type (λ h. omega arith) in
-    let not_delete : lowest_type + attribute == delete_tag_type ≡ false = ne_eqb (lowest_type + attribute) delete_tag_type (λ h. omega arith) in
-    let not_struct : (lowest_type + attribute) / 2 ^ 8 == 2 ≡ false = ne_eqb ((lowest_type + attribute) / 2 ^ 8) 2 (λ h. omega arith) in
-    let chunk : (lowest_type + attribute) % 2 ^ 8 ≡ attribute = omega arith in
+    let not_name : (first_attribute_type + attribute) / 2 ^ 8 == 0 ≡ false = ne_eqb ((first_attribute_type + attribute) / 2 ^ 8) 0 (λ h. omega arith) in
+    let not_create : first_attribute_type + attribute == create_tag_type ≡ false = ne_eqb (first_attribute_type + attribute) create_tag_type (λ h. omega arith) in
+    let not_delete : first_attribute_type + attribute == delete_tag_type ≡ false = ne_eqb (first_attribute_type + attribute) delete_tag_type (λ h. omega arith) in
+    let not_struct : (first_attribute_type + attribute) / 2 ^ 8 == 2 ≡ false = ne_eqb ((first_attribute_type + attribute) / 2 ^ 8) 2 (λ h. omega arith) in
+    let chunk : (first_attribute_type + attribute) % 2 ^ 8 ≡ attribute = omega arith in
     rw (kind, at) (rw (not_name, not_create, not_delete, not_struct, chunk, named) refl)
 
-attribute_in_table : (tag attribute : ℕ) → attribute < 0x100 → tag_type tag ≡ lowest_type + attribute → is_known_tag tag ≡ true
+attribute_in_table : (tag attribute : ℕ) → attribute < 0x100 → tag_type tag ≡ first_attribute_type + attribute → is_known_tag tag ≡ true
 attribute_in_table tag attribute small kind = go (is_attribute_removal tag)
   where
-    third : (lowest_type + attribute) / 2 ^ 8 == 3 ≡ true
-    third = eq-eqb ((lowest_type + attribute) / 2 ^ 8) 3 (omega arith)
+    third : (first_attribute_type + attribute) / 2 ^ 8 == 3 ≡ true
+    third = eq-eqb ((first_attribute_type + attribute) / 2 ^ 8) 3 (omega arith)
 
     go : (b : Bool) → cond b (abstract_type tag == 3) (cond (allows_any_length tag) true (cond (requires_eight_bytes tag) (tag_length tag == 8) (cond (requires_no_bytes tag) (tag_length tag == 0) (tag_type tag == move_type && tag_length tag == 12)))) ≡ true
     go true = rw (kind, third) refl
@@ -148,10 +135,10 @@ abbrev pub with_attribute_removed : ℕ → RawSlot → RawSlot
 with_attribute_removed attribute s = record s { attributes = attributes_without attribute s.attributes }
 
 abbrev put_entry : ℕ → ℕ → List ℕ → LogEntry
-put_entry id attribute bytes = log_entry_of (lowest_type + attribute) id bytes
+put_entry id attribute bytes = log_entry (first_attribute_type + attribute) id bytes
 
 abbrev remove_entry : ℕ → ℕ → LogEntry
-remove_entry id attribute = record { tag = make_tag (lowest_type + attribute) id 0x3ff; bytes = [] }
+remove_entry id attribute = record { tag = make_tag (first_attribute_type + attribute) id 0x3ff; bytes = [] }
 
 pub puts_attribute : (c : RawContent) (id attribute : ℕ) (bytes : List ℕ) → id < 0x3ff → attribute < 0x100 → length bytes < 0x3ff → IsNamed c.slots id
     → Does (PutAttribute id attribute bytes) c (record c { slots = changed_at (with_attribute_put attribute bytes) c.slots id })
@@ -163,14 +150,14 @@ puts_attribute c id attribute bytes small low short named = record {
       ∙ ap (λ b. Some (changed_at (λ s. record s { attributes = cond b (attributes_without attribute s.attributes) (attributes_with attribute bytes s.attributes) }) c.slots id)) stays));
 }
   where
-    kind : tag_type (make_tag (lowest_type + attribute) id (length bytes)) ≡ lowest_type + attribute
-    kind = tag_type-make_tag (lowest_type + attribute) id (length bytes) (omega arith) (omega arith) (omega arith)
+    kind : tag_type (make_tag (first_attribute_type + attribute) id (length bytes)) ≡ first_attribute_type + attribute
+    kind = tag_type-make_tag (first_attribute_type + attribute) id (length bytes) (omega arith) (omega arith) (omega arith)
 
-    at : tag_id (make_tag (lowest_type + attribute) id (length bytes)) ≡ id
-    at = tag_id-make_tag (lowest_type + attribute) id (length bytes) (omega arith) (omega arith)
+    at : tag_id (make_tag (first_attribute_type + attribute) id (length bytes)) ≡ id
+    at = tag_id-make_tag (first_attribute_type + attribute) id (length bytes) (omega arith) (omega arith)
 
-    stays : is_attribute_removal (make_tag (lowest_type + attribute) id (length bytes)) ≡ false
-    stays = ne_eqb (tag_length (make_tag (lowest_type + attribute) id (length bytes))) 0x3ff (λ h. omega arith)
+    stays : is_attribute_removal (make_tag (first_attribute_type + attribute) id (length bytes)) ≡ false
+    stays = ne_eqb (tag_length (make_tag (first_attribute_type + attribute) id (length bytes))) 0x3ff (λ h. omega arith)
 
 pub removes_attribute : (c : RawContent) (id attribute : ℕ) → id < 0x3ff → attribute < 0x100 → IsNamed c.slots id
     → Does (RemoveAttribute id attribute) c (record c { slots = changed_at (with_attribute_removed attribute) c.slots id })
@@ -182,14 +169,14 @@ removes_attribute c id attribute small low named = record {
       ∙ ap (λ b. Some (changed_at (λ s. record s { attributes = cond b (attributes_without attribute s.attributes) (attributes_with attribute [] s.attributes) }) c.slots id)) goes));
 }
   where
-    kind : tag_type (make_tag (lowest_type + attribute) id 0x3ff) ≡ lowest_type + attribute
-    kind = tag_type-make_tag (lowest_type + attribute) id 0x3ff (omega arith) (omega arith) (omega arith)
+    kind : tag_type (make_tag (first_attribute_type + attribute) id 0x3ff) ≡ first_attribute_type + attribute
+    kind = tag_type-make_tag (first_attribute_type + attribute) id 0x3ff (omega arith) (omega arith) (omega arith)
 
-    at : tag_id (make_tag (lowest_type + attribute) id 0x3ff) ≡ id
-    at = tag_id-make_tag (lowest_type + attribute) id 0x3ff (omega arith) (omega arith)
+    at : tag_id (make_tag (first_attribute_type + attribute) id 0x3ff) ≡ id
+    at = tag_id-make_tag (first_attribute_type + attribute) id 0x3ff (omega arith) (omega arith)
 
-    goes : is_attribute_removal (make_tag (lowest_type + attribute) id 0x3ff) ≡ true
-    goes = eq-eqb (tag_length (make_tag (lowest_type + attribute) id 0x3ff)) 0x3ff (tag_length-make_tag (lowest_type + attribute) id 0x3ff (omega arith))
+    goes : is_attribute_removal (make_tag (first_attribute_type + attribute) id 0x3ff) ≡ true
+    goes = eq-eqb (tag_length (make_tag (first_attribute_type + attribute) id 0x3ff)) 0x3ff (tag_length-make_tag (first_attribute_type + attribute) id 0x3ff (omega arith))
 
 -- ---- create
 
@@ -209,20 +196,20 @@ pub changed_inserted : (f : RawSlot → RawSlot) (slots : List RawSlot) (id : �
 changed_inserted f slots id s fits = ap (λ t. slice_set (insert slots id s) id (f t)) (inserted_at slots id s fits) ∙ put_inserted slots id s (f s) fits
 
 -- slots that reach past an id stay
-long_enough : (slots : List RawSlot) (id : ℕ) → id < length slots → slots_padded_to slots id ≡ slots
+long_enough : (slots : List RawSlot) (id : ℕ) → id < length slots → padded_slots slots id ≡ slots
 long_enough slots id there =
     let none : id + 1 - length slots ≡ 0 = omega arith in
     ap (λ n. slots ++ replicate n empty_slot) none ∙ append-nil slots
 
-pub creates : (c : RawContent) (id type : ℕ) (name : List ℕ) → id < 0x3ff → id ≤ length c.slots → IsAllowed 0 (type, name)
+pub creates : (c : RawContent) (id type : ℕ) (name : List ℕ) → id < 0x3ff → id ≤ length c.slots → IsAllowedPart 0 (type, name)
     → Does (Create id type name) c (record c { slots = insert c.slots id (slot_named (type, name)) })
 creates c id type name small fits part = record {
   storable = and_from _ _ (lt-ltb id no_id small) (and_from _ _ (lt-ltb type 0x100 (omega arith)) (le-leb (length name) 1022 (omega arith)));
-  makes = then c (record c { slots = insert c.slots id empty_slot }) (log_entry_of create_tag_type id [] ∷ []) (log_entry_of type id name ∷ []) _
-      (one_entry c (record c { slots = insert c.slots id empty_slot }) (log_entry_of create_tag_type id [])
-      (by_slots c (log_entry_of create_tag_type id []) (omega arith) create_in_table (omega arith) ∙ ap (option_map (λ slots. record c { slots = slots })) create_after))
-      (one_entry (record c { slots = insert c.slots id empty_slot }) (record c { slots = insert c.slots id (slot_named (type, name)) }) (log_entry_of type id name)
-      (by_slots (record c { slots = insert c.slots id empty_slot }) (log_entry_of type id name) (omega arith) (in_table_at 0 (type, name) id (omega arith) (omega arith) part) (omega arith)
+  makes = then c (record c { slots = insert c.slots id empty_slot }) (log_entry create_tag_type id [] ∷ []) (log_entry type id name ∷ []) _
+      (one_entry c (record c { slots = insert c.slots id empty_slot }) (log_entry create_tag_type id [])
+      (by_slots c (log_entry create_tag_type id []) (omega arith) create_in_table (omega arith) ∙ ap (option_map (λ slots. record c { slots = slots })) create_after))
+      (one_entry (record c { slots = insert c.slots id empty_slot }) (record c { slots = insert c.slots id (slot_named (type, name)) }) (log_entry type id name)
+      (by_slots (record c { slots = insert c.slots id empty_slot }) (log_entry type id name) (omega arith) (in_table_at 0 (type, name) id (omega arith) (omega arith) part) (omega arith)
       ∙ ap (option_map (λ slots. record c { slots = slots })) name_after));
 }
   where
@@ -244,7 +231,7 @@ creates c id type name small fits part = record {
     create_in_table : is_known_tag (make_tag create_tag_type id 0) ≡ true
     create_in_table = rw (create_kind, create_len) refl
 
-    create_after : slots_after c.slots (log_entry_of create_tag_type id []) ≡ Some (insert c.slots id empty_slot)
+    create_after : slots_after c.slots (log_entry create_tag_type id []) ≡ Some (insert c.slots id empty_slot)
     create_after = rw (create_kind, create_at, le-leb id (length c.slots) fits) refl
 
     kind : tag_type (make_tag type id (length name)) ≡ type
@@ -256,7 +243,7 @@ creates c id type name small fits part = record {
     longer : length (insert c.slots id empty_slot) ≡ length c.slots + 1
     longer = length-insert c.slots id empty_slot fits
 
-    name_after : slots_after (insert c.slots id empty_slot) (log_entry_of type id name) ≡ Some (insert c.slots id (slot_named (type, name)))
+    name_after : slots_after (insert c.slots id empty_slot) (log_entry type id name) ≡ Some (insert c.slots id (slot_named (type, name)))
     name_after =
         let is_name : type / 2 ^ 8 == 0 ≡ true = eq-eqb (type / 2 ^ 8) 0 of_class in
         rw (kind, at) (rw is_name (ap (λ slots. Some (changed_at (λ s. record s { name = Some (type, name) }) slots id)) (long_enough (insert c.slots id empty_slot) id (omega (arith, longer)))
@@ -267,7 +254,7 @@ abbrev pub slot_with : ℕ × List ℕ → ℕ × List ℕ → RawSlot
 slot_with name part = record { name = Some name; struct = Some part; attributes = [] }
 
 pub creates_with_struct : (c : RawContent) (id type : ℕ) (name : List ℕ) (kind : ℕ) (bytes : List ℕ) (changes : List PairChange) (e : RawContent) →
-    id < 0x3ff → id ≤ length c.slots → IsAllowed 0 (type, name) → IsAllowed 2 (kind, bytes) →
+    id < 0x3ff → id ≤ length c.slots → IsAllowedPart 0 (type, name) → IsAllowedPart 2 (kind, bytes) →
     changed_content_of (record c { slots = insert c.slots id (slot_with (type, name) (kind, bytes)) }) changes ≡ Some e →
     changed_content_of c (Create id type name ∷ PutStruct id kind bytes ∷ changes) ≡ Some e
 creates_with_struct c id type name kind bytes changes e small fits is_name is_struct others =

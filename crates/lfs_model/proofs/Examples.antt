@@ -1,15 +1,8 @@
 -- What images show, from what computes.
 use Rattle.std.proofs.Common.{ℕ, ◌≡◌, Bool, true, false, List, [], ◌∷◌, Option, Some, refl, sym, ap, ◌∙◌, option_map, cond, map}
 use Rattle.std.specs.Prelude.{find}
-use Rattle.lfs_model.specs.format.Disk.{Disk, default_profile}
-use Rattle.lfs_model.specs.format.Slots.{Slot, File, Directory, Inline, Ctz, Branch, Tail, Gstate}
-use Rattle.lfs_model.specs.format.Thread.{Pair, pairs_gstate, root_address}
-use Rattle.lfs_model.specs.tree.Tree.{Path, Node, root_slot, struct_node}
-use Rattle.lfs_model.specs.tree.View.{HasDiskView, disk_view}
-use Rattle.lfs_model.specs.tree.Shown.{all_entries, struct_list_bytes, tree_on_disk, used_blocks}
-use Rattle.lfs_model.specs.session.TreeEdits.{same_path}
-use Rattle.lfs_model.specs.tree.Fresh.{superblock_slot}
-use Rattle.lfs_model.specs.examples.Images.{tree_of_nodes, nodes_view}
+use Rattle.lfs_model.proofs.Common.{Disk, default_profile, Slot, File, Directory, Inline, Ctz, Branch, Tail, Gstate, Pair, pairs_gstate, root_address, Path, Node, root_slot, struct_node, HasDiskView, disk_view, all_entries, struct_list_bytes, disk_tree, used_blocks, same_path, superblock_slot, tree_of_nodes}
+use Rattle.lfs_model.specs.examples.Images.{nodes_view}
 use Rattle.lfs_model.proofs.Outlines.{Outline, found_in, outlined}
 use Rattle.lfs_model.proofs.Acceptance.{IsImage, image_is_accepted, image_is_outlined, outline_in}
 
@@ -29,11 +22,11 @@ found_nodes node (x ∷ xs) path = go (same_path path x.0) (found_nodes node xs 
 pub image_shows : (disk : Disk) (ps : List Pair) (bytes : List ℕ) (k : ℕ) → IsImage disk ps bytes k →
     (nodes : List (Path × Node)) (gstate : Gstate) (used : List ℕ) → nodes_in disk ps k ≡ nodes → pairs_gstate ps ≡ gstate → used_blocks disk ps ≡ used → HasDiskView disk (nodes_view nodes gstate used)
 image_shows disk ps bytes k h nodes gstate used nodes_are gstate_is used_are =
-    let tree : tree_on_disk disk ps ≡ tree_of_nodes nodes = (λ i path. tree_at path i) ∙ ap tree_of_nodes nodes_are in
+    let tree : disk_tree disk ps ≡ tree_of_nodes nodes = (λ i path. tree_at path i) ∙ ap tree_of_nodes nodes_are in
     let view : disk_view disk ps ≡ nodes_view nodes gstate used = λ i. record { tree = tree i; gstate = gstate_is i; used = used_are i } in
     (ps, (image_is_accepted disk ps bytes k h, sym view))
   where
-    tree_at : (path : Path) → tree_on_disk disk ps path ≡ tree_of_nodes (nodes_in disk ps k) path
+    tree_at : (path : Path) → disk_tree disk ps path ≡ tree_of_nodes (nodes_in disk ps k) path
     tree_at path =
         ap (option_map (λ s. struct_node (struct_list_bytes disk) (all_entries ps) s.attributes s.struct)) (sym (outlined k (all_entries ps) (root_slot (root_address ps)) (image_is_outlined disk ps bytes k h) path))
         ∙ sym (found_nodes (λ s. struct_node (struct_list_bytes disk) (all_entries ps) s.attributes s.struct) (outline_in k ps) path)

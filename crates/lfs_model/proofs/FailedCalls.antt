@@ -1,10 +1,7 @@
 -- After a failed call the device holds what a stop leaves.
 use Rattle.std.proofs.Common.{◌≡◌, ◌<◌, List, [], ◌∷◌, ◌++◌, sym, ap, subst, arith}
-use Rattle.lfs_model.specs.format.Blocks.{Blocks}
-use Rattle.lfs_model.specs.session.History.{CallEvent, AllCalls, HoldsAtLosses, fault_count}
-use Rattle.lfs_model.specs.crash.Stops.{LeftByLoss}
-use Rattle.lfs_model.specs.crash.PowerLoss.{FailsLikeLoss}
-use Rattle.lfs_model.specs.crash.FailedCalls.{FailLikeLossSince, LeftByLatestLoss, LeftByFailure}
+use Rattle.lfs_model.proofs.Common.{Blocks, CallEvent, AllCalls, HoldsAtLosses, fault_count, LeftByLoss, FailsLikeLoss, FailLikeLossSince}
+use Rattle.lfs_model.specs.crash.FailedCalls.{LeftByLatestLoss, LeftByFailure}
 
 -- Where a call failed since, and the device holds what a stop in its newest call may leave, that is one of the disks which
 -- a stop leaves.

@@ -1,16 +1,8 @@
 -- A file's list on a disk where its blocks are the same.
 use Rattle.std.proofs.Common.{ℕ, zero, suc, ◌≡◌, ◌+◌, ◌*◌, ◌-◌, ◌<◌, ◌^◌, List, [], ◌∷◌, ◌++◌, length, drop, take, refl, sym, ap, ap₂, subst, ◌∙◌, arith, flat_map, length-append}
 use Rattle.std.specs.Prelude.{All, slice_index}
-use Rattle.std.specs.List.{enumerate_from}
-use Rattle.std.proofs.lemmas.List.Elements.{All-from_recursion}
-use Rattle.lfs_model.specs.format.Blocks.{Blocks, block_bytes}
-use Rattle.lfs_model.specs.format.Disk.{Disk, SameGeometry}
-use Rattle.lfs_model.specs.format.Slots.{Struct, Inline, Ctz, Branch}
-use Rattle.lfs_model.specs.format.SkipLists.{word_at, pointer_count, block_count_for, blocks_to_head, AreListBlocks, IsSkipList, block_data, list_bytes}
-use Rattle.lfs_model.specs.tree.Shown.{struct_list_bytes, struct_blocks}
-use Rattle.lfs_model.specs.tree.View.{IsWellFormedCtz}
+use Rattle.lfs_model.proofs.Common.{enumerate_from, All-from_recursion, Blocks, block_bytes, Disk, SameGeometry, Struct, Inline, Ctz, Branch, word_at, pointer_count, block_count_for, blocks_to_head, AreListBlocks, IsSkipList, block_data, list_bytes, struct_list_bytes, struct_blocks, IsFormedList, SameFileBlocks}
 use Rattle.lfs_model.proofs.Counts.{Each, each_left, each_right}
-use Rattle.lfs_model.specs.layers.Steps.{SameFileBlocks}
 pub use Rattle.lfs_model.specs.layers.Steps.{SameFileBlocks}
 
 abbrev pub Same : Blocks → Blocks → List ℕ → Type 0
@@ -68,7 +60,7 @@ file_blocks_same disk new (Branch to) g h = refl
 file_blocks_same disk new (Ctz head size) g h =
     ap (λ b. blocks_to_head new.blocks (block_count_for b size) head) g.block_size ∙ back_same disk.blocks new.blocks (block_count_for disk.block_size size) head h
 
-pub is_list_same : (disk new : Disk) (s : Struct) → SameGeometry disk new → SameFileBlocks disk new s → IsWellFormedCtz disk s → IsWellFormedCtz new s
+pub is_list_same : (disk new : Disk) (s : Struct) → SameGeometry disk new → SameFileBlocks disk new s → IsFormedList disk s → IsFormedList new s
 is_list_same disk new (Inline bytes) g h ok = tt
 is_list_same disk new (Branch to) g h ok = tt
 is_list_same disk new (Ctz head size) g h ok =

@@ -1,23 +1,8 @@
 -- A session on a fresh disk, for examples: its disk's pairs, and what a loss of power leaves before the first call.
 use Rattle.std.proofs.Common.{ℕ, ◌≡◌, ◌<◌, inl, true, List, [], ◌∷◌, Some, refl, sym, ap, ◌∙◌, arith}
 use Rattle.std.specs.Prelude.{All, slice_index}
-use Rattle.lfs_model.specs.format.Disk.{Disk, ordered_disk, disk_block, block_count, default_profile}
+use Rattle.lfs_model.proofs.Common.{Disk, ordered_disk, disk_block, block_count, default_profile, content_at, zero_gstate, Pair, AreLinked, anchor_address, pairs_blocks, Tree, IsAccepted, IsWritableDisk, disk_tree, fresh_pair, empty_tree, Operation, Session, DiskSummary, IsSummary, SessionHealth, HasFailed, Healthy, mounted_session, operation_result, HasEither, IsHealthySession, SurvivesPowerLoss, small_image, two_commit_image, fresh_state, blockless_disk}
 use Rattle.lfs_model.specs.declared.order.NameOrder.{NameOrder}
-use Rattle.lfs_model.specs.format.Content.{content_at}
-use Rattle.lfs_model.specs.format.Slots.{zero_gstate}
-use Rattle.lfs_model.specs.format.Thread.{Pair, AreLinked, anchor_address, blocks_of_pairs}
-use Rattle.lfs_model.specs.tree.Tree.{Tree}
-use Rattle.lfs_model.specs.tree.View.{IsAccepted}
-use Rattle.lfs_model.specs.tree.Profile.{IsWritableDisk}
-use Rattle.lfs_model.specs.tree.Shown.{tree_on_disk}
-use Rattle.lfs_model.specs.tree.Fresh.{fresh_pair, empty_tree}
-use Rattle.lfs_model.specs.session.Operations.{Operation}
-use Rattle.lfs_model.specs.session.Session.{Session, DiskSummary}
-use Rattle.lfs_model.specs.session.State.{IsSummary, SessionHealth, HasFailed, Healthy, mounted_session}
-use Rattle.lfs_model.specs.session.Effects.{operation_result}
-use Rattle.lfs_model.specs.crash.PowerLoss.{HasEither, IsHealthySession, SurvivesPowerLoss}
-use Rattle.lfs_model.specs.examples.Images.{small_image, two_commit_image}
-use Rattle.lfs_model.specs.examples.Runs.{fresh_state, empty_disk}
 use Rattle.lfs_model.proofs.Uniqueness.{one_thread}
 use Rattle.lfs_model.proofs.Fresh.{accepted, writable, shows}
 use Rattle.lfs_model.proofs.Example.{fresh}
@@ -32,10 +17,10 @@ pub in_profile : IsWritableDisk small_image
 in_profile = (pairs, (are_accepted, writable small_image fresh))
 
 -- the tree of any accepted thread of it, in either order of names
-pub tree_in_order : (order : NameOrder) (ps : List Pair) → IsAccepted (ordered_disk order small_image) ps → tree_on_disk small_image ps ≡ empty_tree
-tree_in_order order ps ok = ap (tree_on_disk small_image) (one_thread (content_at small_image) (block_count small_image) ps pairs ok.thread are_accepted.thread) ∙ shows small_image
+pub tree_in_order : (order : NameOrder) (ps : List Pair) → IsAccepted (ordered_disk order small_image) ps → disk_tree small_image ps ≡ empty_tree
+tree_in_order order ps ok = ap (disk_tree small_image) (one_thread (content_at small_image) (block_count small_image) ps pairs ok.thread are_accepted.thread) ∙ shows small_image
 
-pub tree_is_empty : (ps : List Pair) → IsAccepted small_image ps → tree_on_disk small_image ps ≡ empty_tree
+pub tree_is_empty : (ps : List Pair) → IsAccepted small_image ps → disk_tree small_image ps ≡ empty_tree
 tree_is_empty ps ok = tree_in_order small_image.order ps ok
 
 abbrev pub around : DiskSummary
@@ -51,15 +36,15 @@ pub still_there : (before after : Tree) → before ≡ empty_tree → HasEither 
 still_there before after e = record { pairs = pairs; accepted = are_accepted; writable = writable small_image fresh; tree = inl (shows small_image ∙ sym e) }
 
 -- a disk without blocks has no thread
-pub none_in_order : (order : NameOrder) (ps : List Pair) → IsAccepted (ordered_disk order empty_disk) ps → ⊥
+pub none_in_order : (order : NameOrder) (ps : List Pair) → IsAccepted (ordered_disk order blockless_disk) ps → ⊥
 none_in_order order ps ok = go ps ok.thread.links ok.thread.in_range
   where
-    go : (ps : List Pair) → AreLinked (Some anchor_address) ps → All (λ b. b < 0) (blocks_of_pairs ps) → ⊥
+    go : (ps : List Pair) → AreLinked (Some anchor_address) ps → All (λ b. b < 0) (pairs_blocks ps) → ⊥
     go [] l r = absurd (cc)
     go (p ∷ ps) l r = let k = r 0 0 (omega arith) in absurd (omega arith)
 
-pub none_accepted : (ps : List Pair) → IsAccepted empty_disk ps → ⊥
-none_accepted ps ok = none_in_order empty_disk.order ps ok
+pub none_accepted : (ps : List Pair) → IsAccepted blockless_disk ps → ⊥
+none_accepted ps ok = none_in_order blockless_disk.order ps ok
 
 pub differ : small_image ≡ two_commit_image → ⊥
 differ e = apart (slice_index (disk_block small_image 0) 128) (slice_index (disk_block two_commit_image 0) 128) refl refl (ap (λ (d : Disk). slice_index (disk_block d 0) 128) e)

@@ -1,17 +1,11 @@
 -- Slots of which one is no larger than half of a pair, and whose others fit a pair, can be cut into two parts that fit.
 use Rattle.std.proofs.Common.{ℕ, zero, suc, ◌≡◌, ◌+◌, ◌*◌, ◌<◌, ◌≤◌, ⊎_elim, List, [], ◌∷◌, ◌++◌, length, take, drop, Some, refl, sym, ap, subst, ◌∙◌, arith, length-append, sum_by, append_assoc}
-use Rattle.std.specs.List.{insert}
-use Rattle.std.proofs.lemmas.Bool.{cases_lt}
-use Rattle.std.proofs.lemmas.List.{take_at, drop_at, take-append-drop}
-use Rattle.std.proofs.lemmas.List.Sums.{sum_by-cons, sum_by-append, sum_by-take-drop}
+use Rattle.lfs_model.proofs.Common.{insert, cases_lt, take_at, drop_at, take-append-drop, sum_by-cons, sum_by-append, pair_capacity, slots_limit, Slot, Struct, Inline, Ctz, Branch, slot_size, struct_len, attributes_size, PairContent, FitsInPair, RawSlot, RawContent, complete_content, complete_slot, complete_slots, slot_size_raw, RawContentFits, IsFormedSlot, AreWellFormed, IsWellFormed, InlineBytesFit}
+use Rattle.std.proofs.lemmas.List.Sums.{sum_by-take-drop}
 use Rattle.lfs_model.specs.declared.limits.Profile.{Profile}
-use Rattle.lfs_model.specs.format.Disk.{pair_capacity, charge_limit, inline_limit, slots_limit, longest_struct}
-use Rattle.lfs_model.specs.format.Slots.{Slot, Struct, Inline, Ctz, Branch, slot_size, struct_len, attributes_size, PairContent, FitsInPair}
-use Rattle.lfs_model.specs.format.Content.{RawSlot, RawContent, complete_content, complete_slot, complete_slots}
-use Rattle.lfs_model.specs.layers.WrittenContent.{slot_size_raw, RawContentFits}
-use Rattle.lfs_model.specs.layers.LoggedContent.{IsSlotWellFormed, AreWellFormed, IsWellFormed}
+use Rattle.lfs_model.specs.format.Disk.{charge_limit, inline_limit, longest_struct}
 use Rattle.lfs_model.specs.layers.Cut.{SlotsFitPair, IsFittingSplit, CanSplit}
-use Rattle.lfs_model.specs.tree.Profile.{IsWritableEntry, InlineBytesFit}
+use Rattle.lfs_model.specs.tree.Profile.{IsWritableEntry}
 use Rattle.lfs_model.proofs.Completed.{complete_parts, completed_parts, complete_cons, complete_length, slot_size_is, slots_size_is, fits_pair}
 
 -- ---- slots of any log
@@ -105,7 +99,7 @@ record AreRaw (xs : List RawSlot) (front : List Slot) (s : Slot) (back : List Sl
   pub here_is : complete_slot here ≡ Some s
   pub back_is : complete_slots behind ≡ Some back
   pub front_parts : AreWellFormed before
-  pub here_parts : IsSlotWellFormed here
+  pub here_parts : IsFormedSlot here
   pub back_parts : AreWellFormed behind
 
 are_raw : (xs : List RawSlot) (front : List Slot) (s : Slot) (back : List Slot) → AreWellFormed xs → complete_slots xs ≡ Some (front ++ s ∷ back) → AreRaw xs front s back

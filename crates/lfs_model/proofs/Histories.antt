@@ -1,11 +1,8 @@
 -- What follows from the history of a device, for those who call it.
 use Rattle.std.proofs.Common.{◌≡◌, ◌≢◌, ◌≤◌, ℕ, ◌+◌, Bool, true, false, not, ◌&&◌, if◌then◌else◌, nat_le, nat_lt, ◌==◌, length, arith, List, [], ◌∷◌, ◌++◌, refl, sym, ◌∙◌, ap, subst, append_assoc}
 use Rattle.std.specs.Prelude.{All}
-use Rattle.std.proofs.lemmas.Bool.Decides.{nat_tests}
-use Rattle.std.proofs.lemmas.List.{append_cancel_right}
-use Rattle.lfs_model.specs.format.Blocks.{Blocks}
-use Rattle.lfs_model.specs.crash.Stops.{LeftByLoss, may_stop_leave}
-use Rattle.lfs_model.specs.session.History.{DeviceCall, CallEvent, call_event, Read, Program, Erase, Blank, call_reads, may_leave, read_count, program_count, erase_count, call_blanks, blank_count, fault_count, is_unprogrammed_byte, unprogrammed_after, AreUnprogrammed, StayUnprogrammed, AllCalls, AllCallsSince, IsRead, OnlyReadsSince, LossLeavesAtWorst, HoldsAtLosses}
+use Rattle.lfs_model.proofs.Common.{nat_tests, append_cancel_right, Blocks, LeftByLoss, may_stop_leave, DeviceCall, CallEvent, call_event, Read, Program, Erase, Blank, read_count, program_count, fault_count, is_unprogrammed_byte, AllCalls, AllCallsSince, IsRead, LossLeavesAtWorst, HoldsAtLosses}
+use Rattle.lfs_model.specs.session.History.{call_reads, may_leave, erase_count, call_blanks, blank_count, unprogrammed_after, AreUnprogrammed, StayUnprogrammed, OnlyReadsSince}
 
 -- Calls that all have P: none yet, one more, those of another stretch, and what P implies.
 

@@ -1,13 +1,11 @@
 -- An image that breaks a rule of the writing profile may not be written.
 use Rattle.std.proofs.Common.{ℕ, zero, suc, ◌≡◌, ◌≢◌, ◌+◌, ◌≤◌, ◌∙◌, Bool, true, false, List, [], ◌∷◌, Some, drop, sym, ap, subst, arith}
 use Rattle.std.specs.Prelude.{All, slice_get}
-use Rattle.std.proofs.lemmas.Option.{get_or_from_slice_get, none-some, same_Some, slice_get_within}
-use Rattle.lfs_model.specs.format.Disk.{Disk, attr_max_of, file_max_of, name_max_of}
-use Rattle.lfs_model.specs.format.EntryTypes.{SuperblockFields, superblock_fields}
-use Rattle.lfs_model.specs.tree.Profile.{HasNoEmpties, HasLimits, IsWritableSlot, IsWritable}
-use Rattle.lfs_model.specs.layers.ProfileBreaches.{BreaksProfile, IsSmallEnough, IsOtherLimit, HasOtherLimit}
-use Rattle.lfs_model.specs.format.Slots.{FitsInPair, Slot, array_address}
-use Rattle.lfs_model.specs.format.Thread.{Pair, is_hard_tail, pair_count_before_root}
+use Rattle.lfs_model.proofs.Common.{get_or_from_slice_get, none-some, same_Some, slice_get_within, Disk, superblock_fields, HasNoEmpties, IsWritableSlot, IsWritable, IsSmallEnough, FitsInPair, Slot, array_address, Pair, is_hard_tail, count_before_root}
+use Rattle.lfs_model.specs.format.Disk.{attr_max_of, file_max_of, name_max_of}
+use Rattle.lfs_model.specs.format.EntryTypes.{SuperblockFields}
+use Rattle.lfs_model.specs.tree.Profile.{HasLimits}
+use Rattle.lfs_model.specs.layers.ProfileBreaches.{BreaksProfile, IsOtherLimit, HasOtherLimit}
 use Rattle.lfs_model.specs.layers.Violations.{IsSlotAt}
 use Rattle.lfs_model.specs.declared.breaches.OtherLimit.{OtherLimit}
 use Rattle.lfs_model.specs.declared.breaches.OtherLimit.TheVariants as limit
@@ -61,5 +59,5 @@ writable_breaks_none disk ps (breach.OtherLimits pair slot limit) writable (s, (
 writable_breaks_none disk ps (breach.LongInline pair slot) writable (s, (is, (entry, long))) = long ((slot_fits disk ps writable (array_address pair) slot s is).1 entry).inline
 writable_breaks_none disk ps (breach.EmptyPair pair) writable e =
     let next : e.index + 1 ≡ suc e.index = omega arith in
-    filled_behind (pair_count_before_root ps) ps e.index e.before e.pair writable.no_empty_pair e.root e.first (ap (slice_get ps) (sym next) ∙ e.next) e.hard e.empty
+    filled_behind (count_before_root ps) ps e.index e.before e.pair writable.no_empty_pair e.root e.first (ap (slice_get ps) (sym next) ∙ e.next) e.hard e.empty
 writable_breaks_none disk ps (breach.TooLarge pair) writable e = e.large (small disk ps writable e.index e.pair e.there)

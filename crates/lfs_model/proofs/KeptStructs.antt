@@ -1,20 +1,9 @@
 -- Files that an operation isn't about keep their structs.
 use Rattle.std.proofs.Common.{ℕ, ◌≡◌, Bool, true, false, ◌||◌, List, [], Option, Some, None, refl, sym, ap, ◌∙◌}
 use Rattle.std.specs.Prelude.{is_some}
-use Rattle.std.specs.Option.{option_map}
-use Rattle.lfs_model.specs.format.Disk.{Disk}
-use Rattle.lfs_model.specs.format.Slots.{Slot, Struct, Inline, Ctz, Branch, Attributes}
-use Rattle.lfs_model.specs.format.Thread.{Pair}
-use Rattle.lfs_model.specs.tree.Tree.{Path, Node, Tree, branch_address, struct_node}
-use Rattle.lfs_model.specs.tree.Shown.{struct_list_bytes, all_entries, tree_on_disk}
-use Rattle.lfs_model.specs.session.TreeEdits.{same_path, without_prefix, is_file, tree_creating, tree_removing, tree_renaming, tree_with_change}
+use Rattle.lfs_model.proofs.Common.{option_map, Disk, Slot, Struct, Inline, Ctz, Branch, Attributes, Pair, Path, Node, Tree, branch_address, struct_node, struct_list_bytes, all_entries, disk_tree, same_path, without_prefix, is_file, tree_creating, tree_removing, tree_renaming, tree_with_change, Operation, Session, Writing, FileWriter, file_numbered, path_or_root, file_with_bytes, slot_of, is_open_at, may_store_at, struct_at, KeepsStructs}
 use Rattle.lfs_model.specs.session.Operations as ops
-use Rattle.lfs_model.specs.session.Operations.{Operation}
-use Rattle.lfs_model.specs.session.Session.{Session, Writing, FileWriter, file_numbered}
-use Rattle.lfs_model.specs.session.Refusals.{path_or_root}
-use Rattle.lfs_model.specs.session.Effects.{file_with_bytes}
-use Rattle.lfs_model.specs.session.SlotEdits.{slot_of}
-use Rattle.lfs_model.specs.layers.Keeping.{takes_away, is_open_at, may_store_at, struct_at, KeepsStructs}
+use Rattle.lfs_model.specs.layers.Keeping.{takes_away}
 use Rattle.lfs_model.proofs.Paths.{Paths, path_alike, path_unlike, paths}
 use Rattle.lfs_model.proofs.Trees.{not_before}
 use Rattle.lfs_model.proofs.Laws.{PathAddresses}
@@ -26,7 +15,7 @@ abbrev pub LeavesFiles : Tree → Session → Operation → (Tree → Tree) → 
 LeavesFiles t s op change = (q : Path) → is_file (t q) ≡ true → takes_away op q ≡ false → may_store_at s op q ≡ false → KeepsFileBytes change q
 
 -- where a tree shows a file there is a file's slot
-pub struct_stays : (disk : Disk) (ps qs : List Pair) (q : Path) → is_file (tree_on_disk disk ps q) ≡ true → KeepsStruct (slot_of ps q) (slot_of qs q) → struct_at qs q ≡ struct_at ps q
+pub struct_stays : (disk : Disk) (ps qs : List Pair) (q : Path) → is_file (disk_tree disk ps q) ≡ true → KeepsStruct (slot_of ps q) (slot_of qs q) → struct_at qs q ≡ struct_at ps q
 struct_stays disk ps qs q file stays = go (slot_of ps q) refl file
   where
     none : (attributes : Attributes) (t : Struct) → is_file (Some (struct_node (struct_list_bytes disk) (all_entries ps) attributes t)) ≡ true → branch_address t ≡ None
@@ -41,7 +30,7 @@ struct_stays disk ps qs q file stays = go (slot_of ps q) refl file
         ap (option_map (λ (z : Slot). z.struct)) k.1.0 ∙ ap Some k.1.1 ∙ sym (ap (option_map (λ (z : Slot). z.struct)) e)
 
 pub structs_left : (disk : Disk) (ps : List Pair) (new : Disk) (qs : List Pair) (change : Tree → Tree) (walk : PathAddresses → PathAddresses) (s : Session) (op : Operation) →
-    IsChangedImage disk ps new qs change walk → LeavesFiles (tree_on_disk disk ps) s op change → KeepsStructs disk ps s op qs
+    IsChangedImage disk ps new qs change walk → LeavesFiles (disk_tree disk ps) s op change → KeepsStructs disk ps s op qs
 structs_left disk ps new qs change walk s op follows leaves q file off elsewhere = struct_stays disk ps qs q file (follows.stays q (leaves q file off elsewhere))
 
 -- ---- the operations

@@ -2,22 +2,16 @@
 use Rattle.std.proofs.Common.{ℕ, ◌≡◌, ◌==◌, true, List, [], ◌∷◌, ◌++◌, refl, ap, subst, flat_map}
 use Rattle.std.specs.Prelude.{nat_eq}
 use Rattle.std.specs.List.{IsDistinct}
-use Rattle.std.proofs.lemmas.Bool.{or_left}
+use Rattle.lfs_model.proofs.Common.{or_left, Disk, superblock_fields, Slot, Struct, Inline, Ctz, Branch, Pair, pairs_blocks, IsAccepted, IsFormedList, BeginsWithSuperblock, accepts_version, chain_pairs, all_unmoved_slots, struct_blocks, used_blocks}
 use Rattle.std.proofs.lemmas.List.Elements.{All-weaker}
 use Rattle.lfs_model.specs.declared.limits.AcceptedVersions.{AcceptedVersions}
 use Rattle.lfs_model.specs.declared.limits.AcceptedVersions.TheVariants.{OnlyTwoZero, AlsoTwoOne}
-use Rattle.lfs_model.specs.format.Disk.{Disk}
-use Rattle.lfs_model.specs.format.EntryTypes.{superblock_fields}
-use Rattle.lfs_model.specs.format.Slots.{Slot, Struct, Inline, Ctz, Branch}
-use Rattle.lfs_model.specs.format.Thread.{Pair, blocks_of_pairs}
-use Rattle.lfs_model.specs.tree.View.{IsAccepted, IsWellFormedCtz, BeginsWithSuperblock, accepts_version, chain_pairs}
-use Rattle.lfs_model.specs.tree.Shown.{all_slots_not_moved, struct_blocks, used_blocks}
 use Rattle.lfs_model.specs.examples.Images.{disk_with_versions}
 
 -- ---- the same disk, with other versions
 
 module _ (disk : Disk) (from to : AcceptedVersions) where
-  is_list : (s : Struct) → IsWellFormedCtz (disk_with_versions from disk) s → IsWellFormedCtz (disk_with_versions to disk) s
+  is_list : (s : Struct) → IsFormedList (disk_with_versions from disk) s → IsFormedList (disk_with_versions to disk) s
   is_list (Inline bytes) ok = ok
   is_list (Ctz head size) ok = ok
   is_list (Branch at) ok = ok
@@ -28,7 +22,7 @@ module _ (disk : Disk) (from to : AcceptedVersions) where
   files (Branch at) = refl
 
   used : (ps : List Pair) → used_blocks (disk_with_versions from disk) ps ≡ used_blocks (disk_with_versions to disk) ps
-  used ps = ap (λ (f : Struct → List ℕ). blocks_of_pairs ps ++ flat_map (λ (s : Slot). f s.struct) (all_slots_not_moved ps)) (λ i s. files s i)
+  used ps = ap (λ (f : Struct → List ℕ). pairs_blocks ps ++ flat_map (λ (s : Slot). f s.struct) (all_unmoved_slots ps)) (λ i s. files s i)
 
   chain_as : (bytes : List ℕ) → ((version : ℕ) → accepts_version from version ≡ true → accepts_version to version ≡ true) → (slots : List Slot) → BeginsWithSuperblock from bytes slots → BeginsWithSuperblock to bytes slots
   chain_as bytes more [] has = tt
@@ -59,7 +53,7 @@ module _ (disk : Disk) (from to : AcceptedVersions) where
         once = ok.once;
         reached = ok.reached;
         move = ok.move;
-        lists = All-weaker (λ (s : Slot). IsWellFormedCtz (disk_with_versions from disk) s.struct) (λ (s : Slot). IsWellFormedCtz (disk_with_versions to disk) s.struct) (λ s. is_list s.struct) (all_slots_not_moved ps) ok.lists;
+        lists = All-weaker (λ (s : Slot). IsFormedList (disk_with_versions from disk) s.struct) (λ (s : Slot). IsFormedList (disk_with_versions to disk) s.struct) (λ s. is_list s.struct) (all_unmoved_slots ps) ok.lists;
         owned_once = subst (IsDistinct nat_eq) (used ps) ok.owned_once;
       }
 

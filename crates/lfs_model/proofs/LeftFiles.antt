@@ -1,15 +1,10 @@
 -- Changes of a tree that leave a file's bytes, and slots of files that stay.
 use Rattle.std.proofs.Common.{ℕ, suc, ◌≡◌, Bool, true, false, cond, List, [], ◌∷◌, ◌++◌, length, Option, Some, None, refl, sym, ap, ◌∙◌, option_map, append-nil, arith}
-use Rattle.std.proofs.lemmas.List.{append_cancel_right}
-use Rattle.lfs_model.specs.format.Names.{Name}
-use Rattle.lfs_model.specs.format.Slots.{Slot, Struct, Inline, Ctz, Branch, Attributes}
-use Rattle.lfs_model.specs.tree.Tree.{Path, EntryMap, Node, FileNode, Tree, branch_address, root_slot, slot_at_path, struct_node, beneath_root}
-use Rattle.lfs_model.specs.session.TreeEdits.{same_path, without_prefix, tree_with_change, node_with_names, names_with, names_without, with_attributes, node_attributes_of, tree_creating, tree_removing, tree_renaming, tree_with_subtree, parent_path, last_name}
-use Rattle.lfs_model.specs.session.Effects.{file_with_bytes}
+use Rattle.lfs_model.proofs.Common.{append_cancel_right, Name, Slot, Struct, Inline, Ctz, Branch, Attributes, Path, EntryMap, Node, FileNode, Tree, branch_address, root_slot, slot_at_path, struct_node, beneath_root, same_path, without_prefix, tree_with_change, node_with_names, names_with, names_without, with_attributes, node_attributes_of, tree_creating, tree_removing, tree_renaming, tree_with_subtree, parent_path, last_name, file_with_bytes, KeepsStruct}
 use Rattle.lfs_model.proofs.Paths.{path_itself, rest_itself}
 use Rattle.lfs_model.proofs.Edits.{planted_off, planted_on, not_same}
 use Rattle.lfs_model.proofs.Trees.{set_off, change_off, change_on, renamed_is}
-use Rattle.lfs_model.specs.layers.Steps.{KeepsFileBytes, KeepsStruct}
+use Rattle.lfs_model.specs.layers.Steps.{KeepsFileBytes}
 pub use Rattle.lfs_model.specs.layers.Steps.{KeepsFileBytes, KeepsStruct}
 
 -- ---- changes of a tree

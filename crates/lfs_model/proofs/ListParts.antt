@@ -1,10 +1,7 @@
 -- The bytes of a list: which block each is in, and what a part of a block has.
 use Rattle.std.proofs.Common.{ℕ, zero, suc, ◌≡◌, ◌+◌, ◌*◌, ◌-◌, ◌<◌, ◌≤◌, ⊎_elim, List, [], ◌∷◌, ◌++◌, length, take, drop, slice_index, slice_range, sym, ap, subst, ◌∙◌, arith, add-one, length-drop, flat_map}
-use Rattle.std.proofs.lemmas.Bool.{cases_lt}
-use Rattle.std.proofs.lemmas.List.{take-append-le, drop-append-le, drop_at, drop-drop, take-take, drop-take}
-use Rattle.std.specs.List.{enumerate_from}
-use Rattle.lfs_model.specs.format.Blocks.{Blocks, HasBlockSizes, block_bytes}
-use Rattle.lfs_model.specs.format.SkipLists.{AreListBlocks, IsBytePlace, blocks_to_head, block_count_for, bytes_before_block, list_bytes, block_capacity, block_data, pointer_count}
+use Rattle.lfs_model.proofs.Common.{cases_lt, take-append-le, drop-append-le, drop_at, drop-drop, take-take, drop-take, enumerate_from, Blocks, HasBlockSizes, block_bytes, AreListBlocks, blocks_to_head, block_count_for, bytes_before_block, list_bytes, block_capacity, block_data, pointer_count}
+use Rattle.lfs_model.specs.format.SkipLists.{IsBytePlace}
 use Rattle.lfs_model.proofs.Files.{length_back}
 use Rattle.lfs_model.proofs.ListSizes.{AllSized, block_count_for-enough, pointer_count-le}
 

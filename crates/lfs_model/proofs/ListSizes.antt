@@ -1,12 +1,10 @@
 -- How many blocks a list has, and how many bytes.
 use Rattle.std.proofs.Common.{ℕ, zero, suc, ◌≡◌, ◌+◌, ◌*◌, ◌-◌, ◌<◌, ◌≤◌, Bool, if◌then◌else◌, get_or, List, [], ◌∷◌, length, refl, ap, ◌∙◌, arith, add-one, flat_map, length-append, length-drop}
 use Rattle.std.specs.Prelude.{All, slice_index}
-use Rattle.std.specs.List.{enumerate_from}
-use Rattle.std.proofs.lemmas.Bool.{ne_eqb}
-use Rattle.std.proofs.lemmas.List.{get_or_at, length-take-le}
+use Rattle.lfs_model.proofs.Common.{enumerate_from, ne_eqb, length-take-le, Blocks, HasBlockSizes, block_bytes, word_at, pointer_count, block_capacity, bytes_before_block, block_count_for, blocks_to_head, IsSkipList, block_data, list_bytes}
+use Rattle.std.proofs.lemmas.List.{get_or_at}
 use lib.Count.{trailing_le}
-use Rattle.lfs_model.specs.format.Blocks.{Blocks, HasBlockSizes, block_bytes}
-use Rattle.lfs_model.specs.format.SkipLists.{word_at, pointer_count, block_capacity, bytes_before_block, blocks_from_index, block_count_for, blocks_to_head, IsSkipList, block_data, list_bytes}
+use Rattle.lfs_model.specs.format.SkipLists.{blocks_from_index}
 use Rattle.lfs_model.proofs.Files.{length_back}
 
 -- ---- blocks

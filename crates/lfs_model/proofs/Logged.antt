@@ -1,20 +1,16 @@
 -- What a log comes to can be written again.
 use Rattle.std.proofs.Common.{ℕ, zero, suc, ◌≡◌, ◌≢◌, ◌+◌, ◌-◌, ◌^◌, ◌<◌, ◌≤◌, ◌==◌, ◌&&◌, Bool, true, false, cond, not, List, [], ◌∷◌, ◌++◌, length, take, drop, flat_map, inl, inr, Option, Some, None, refl, sym, ap, subst, ◌∙◌, arith, replicate, eqb-true, get_or-drop}
-use Rattle.std.proofs.lemmas.List.{length-take, get_or-take, get_or_past}
+use Rattle.lfs_model.proofs.Common.{length-take, get_or_past, insert, remove, option_and_then, option_map, same_Some, cases_lt, ne_eqb, ltb-false, ltb-true, make_tag, tag_type, tag_id, tag_length, abstract_type, tag_chunk, tag_data_size, LogEntry, entry_end, IsCommit, AreAdjacent, block_entries, Attributes, RawSlot, RawContent, content_after_one, content_after, slots_after, changed_at, padded_slots, empty_slot, slot_of_id, attributes_with, attributes_without, empty_raw_content, is_known_tag, has_needed_id, is_attribute_removal, create_tag_type, delete_tag_type, read_address, read_gstate, hard_tail_type, IsAllowedPart, AttributesInOrder, IsFormedSlot, AreWellFormed, IsWellFormed, HasLength, HaveLengths, AreWords, IsAllowedTail, MoveStateFits}
+use Rattle.std.proofs.lemmas.List.{get_or-take}
 use Rattle.std.specs.Prelude.{slice_set, slice_index, nat_lt, nat_le, is_some}
-use Rattle.std.specs.List.{insert, remove}
-use Rattle.std.specs.Option.{option_and_then, option_map}
-use Rattle.std.proofs.lemmas.Option.{same_Some}
-use Rattle.std.proofs.lemmas.Bool.{cases_lt, ne_eqb, eqb-false, ltb-false, ltb-true}
+use Rattle.std.proofs.lemmas.Bool.{eqb-false}
 use Rattle.byteorder.specs.Endian.{little_number}
-use Rattle.lfs_model.specs.format.Tag.{make_tag, tag_type, tag_id, tag_length, abstract_type, tag_chunk, tag_data_size}
-use Rattle.lfs_model.specs.format.Log.{LogEntry, entry_at, entry_end, IsCommit, AreAdjacent, chain_of, block_entries}
-use Rattle.lfs_model.specs.format.Slots.{Attributes}
-use Rattle.lfs_model.specs.format.Content.{RawSlot, RawContent, content_after_one, content_after, slots_after, changed_at, slots_padded_to, empty_slot, slot_of_id, attributes_with, attributes_without, attributes_after, empty_raw_content, type_and_bytes}
-use Rattle.lfs_model.specs.format.EntryTypes.{is_known_tag, has_needed_id, is_attribute_removal, create_tag_type, delete_tag_type, read_address, entry_tail, read_gstate, hard_tail_type}
+use Rattle.lfs_model.specs.format.Log.{entry_at, chain_of}
+use Rattle.lfs_model.specs.format.Content.{attributes_after, type_and_bytes}
+use Rattle.lfs_model.specs.format.EntryTypes.{entry_tail}
 use Rattle.lfs_model.proofs.Chains.{lies, chain_sound}
 use Rattle.lfs_model.proofs.WrittenAnew.{tag_type-make_tag, tag_length-make_tag}
-use Rattle.lfs_model.specs.layers.LoggedContent.{IsAllowed, AttributesInOrder, IsSlotWellFormed, AreWellFormed, IsWellFormed, HasLength, HaveLengths, AreWords, IsAllowedTail, MoveStateFits, is_null}
+use Rattle.lfs_model.specs.layers.LoggedContent.{is_null}
 
 -- ---- attributes
 
@@ -45,20 +41,20 @@ without_ascends low type (a ∷ rest) h = go (a.0 == type) (without_ascends (a.0
 
 -- ---- slots
 
-set_parts : (slots : List RawSlot) (i : ℕ) (s : RawSlot) → AreWellFormed slots → IsSlotWellFormed s → AreWellFormed (slice_set slots i s)
+set_parts : (slots : List RawSlot) (i : ℕ) (s : RawSlot) → AreWellFormed slots → IsFormedSlot s → AreWellFormed (slice_set slots i s)
 set_parts [] i s h p = tt
 set_parts (t ∷ slots) zero s h p = (p, h.1)
 set_parts (t ∷ slots) (suc i) s h p = (h.0, set_parts slots i s h.1 p)
 
-parts_of_empty : IsSlotWellFormed empty_slot
+parts_of_empty : IsFormedSlot empty_slot
 parts_of_empty = record { name = tt; struct = tt; attributes = tt }
 
-parts_at : (slots : List RawSlot) (i : ℕ) → AreWellFormed slots → IsSlotWellFormed (slot_of_id slots i)
+parts_at : (slots : List RawSlot) (i : ℕ) → AreWellFormed slots → IsFormedSlot (slot_of_id slots i)
 parts_at [] i h = parts_of_empty
 parts_at (t ∷ slots) zero h = h.0
 parts_at (t ∷ slots) (suc i) h = parts_at slots i h.1
 
-insert_parts : (slots : List RawSlot) (i : ℕ) (s : RawSlot) → AreWellFormed slots → IsSlotWellFormed s → AreWellFormed (insert slots i s)
+insert_parts : (slots : List RawSlot) (i : ℕ) (s : RawSlot) → AreWellFormed slots → IsFormedSlot s → AreWellFormed (insert slots i s)
 insert_parts slots zero s h p = (p, h)
 insert_parts [] (suc i) s h p = (p, tt)
 insert_parts (t ∷ slots) (suc i) s h p = (h.0, insert_parts slots i s h.1 p)
@@ -74,7 +70,7 @@ longer_parts [] zero h = tt
 longer_parts [] (suc n) h = (parts_of_empty, longer_parts [] n tt)
 longer_parts (t ∷ slots) n h = (h.0, longer_parts slots n h.1)
 
-changed_parts : (f : RawSlot → RawSlot) (slots : List RawSlot) (i : ℕ) → AreWellFormed slots → ((s : RawSlot) → IsSlotWellFormed s → IsSlotWellFormed (f s)) → AreWellFormed (changed_at f slots i)
+changed_parts : (f : RawSlot → RawSlot) (slots : List RawSlot) (i : ℕ) → AreWellFormed slots → ((s : RawSlot) → IsFormedSlot s → IsFormedSlot (f s)) → AreWellFormed (changed_at f slots i)
 changed_parts f slots i h g = set_parts slots i (f (slot_of_id slots i)) h (g (slot_of_id slots i) (parts_at slots i h))
 
 -- ---- an entry
@@ -95,10 +91,10 @@ stored_short e h = go (is_attribute_removal e.tag) refl
         omega arith
 
 -- a name or a struct is a part
-part_of : (e : LogEntry) (class : ℕ) → HasLength e → class ≢ 3 → abstract_type e.tag ≡ class → is_known_tag e.tag ≡ true → IsAllowed class (tag_type e.tag, e.bytes)
+part_of : (e : LogEntry) (class : ℕ) → HasLength e → class ≢ 3 → abstract_type e.tag ≡ class → is_known_tag e.tag ≡ true → IsAllowedPart class (tag_type e.tag, e.bytes)
 part_of e class h n c t = go (is_attribute_removal e.tag) refl
   where
-    go : (b : Bool) → is_attribute_removal e.tag ≡ b → IsAllowed class (tag_type e.tag, e.bytes)
+    go : (b : Bool) → is_attribute_removal e.tag ≡ b → IsAllowedPart class (tag_type e.tag, e.bytes)
     go true r =
         let other : abstract_type e.tag == 3 ≡ false = ne_eqb (abstract_type e.tag) 3 (λ k. n (sym c ∙ k)) in
         absurd (let no : is_known_tag e.tag ≡ false = rw (r, other) refl in cc)
@@ -134,7 +130,7 @@ slots_parts slots e new h stored t is =
     one_of (abstract_type e.tag == 0) (tag_type e.tag == create_tag_type) (tag_type e.tag == delete_tag_type) (nat_le (tag_id e.tag) (length slots)) (nat_lt (tag_id e.tag) (length slots))
     (not (is_some (slot_of_id slots (tag_id e.tag)).name)) (abstract_type e.tag == 2)
     _ _ _ _ _ new
-    (λ k. changed_parts (λ s. record s { name = type_and_bytes e }) (slots_padded_to slots (tag_id e.tag)) (tag_id e.tag) (longer_parts slots (tag_id e.tag + 1 - length slots) h)
+    (λ k. changed_parts (λ s. record s { name = type_and_bytes e }) (padded_slots slots (tag_id e.tag)) (tag_id e.tag) (longer_parts slots (tag_id e.tag + 1 - length slots) h)
     (λ s p. record { name = part_of e 0 stored (λ z. omega arith) (eqb-true (abstract_type e.tag) 0 k) t; struct = p.struct; attributes = p.attributes }))
     (insert_parts slots (tag_id e.tag) empty_slot h parts_of_empty)
     (remove_parts slots (tag_id e.tag) h)

@@ -1,25 +1,13 @@
 -- A directory is made by the steps themselves: one commit to the last pair of its parent, and one to the pair where the name belongs.
 use Rattle.std.proofs.Common.{ℕ, ◌≡◌, true, List, [], ◌∷◌, ◌++◌, refl, sym, ap, subst, ◌∙◌, append_assoc, append-nil, subst₂}
-use Rattle.lfs_model.specs.format.Disk.{Disk}
-use Rattle.lfs_model.specs.format.Names.{Name}
-use Rattle.lfs_model.specs.format.Slots.{Slot, zero_gstate, same_pair, FitsInPair}
-use Rattle.lfs_model.specs.format.Thread.{Pair, first_address, pairs_gstate, pair_count_before_root}
-use Rattle.lfs_model.specs.tree.Tree.{Path, DirectoryNode}
-use Rattle.lfs_model.specs.tree.View.{IsAccepted}
-use Rattle.lfs_model.specs.tree.Profile.{IsWritable}
-use Rattle.lfs_model.specs.tree.Shown.{LeadsTo, all_entries, tree_on_disk}
-use Rattle.lfs_model.specs.session.TreeEdits.{tree_creating}
+use Rattle.lfs_model.proofs.Common.{Disk, Name, Slot, zero_gstate, same_pair, FitsInPair, Pair, first_address, pairs_gstate, count_before_root, Path, DirectoryNode, IsAccepted, IsWritable, LeadsTo, all_entries, disk_tree, tree_creating, Session, path_or_root, pair_with_slots, directory_slot, FitsPair}
 use Rattle.lfs_model.specs.session.Operations as ops
-use Rattle.lfs_model.specs.session.Session.{Session}
-use Rattle.lfs_model.specs.session.Refusals.{path_or_root}
-use Rattle.lfs_model.specs.session.SlotEdits.{pair_with_slots, directory_slot}
-use Rattle.lfs_model.specs.session.Layout.{FitsPair}
 use Rattle.lfs_model.proofs.Names.{IsPlace}
 use Rattle.lfs_model.proofs.Sites.{Site, thread_at, begin_of}
 use Rattle.lfs_model.proofs.Moves.{IsStep, place_at}
 use Rattle.lfs_model.proofs.Beside.{last_site, IsStepBeside, threaded}
 use Rattle.lfs_model.proofs.Alike.{SameSlots, alike_itself, alike_append}
-use Rattle.lfs_model.proofs.Committed.{IsCompletion, recovered_from}
+use Rattle.lfs_model.proofs.Committed.{CompletesOperation, recovered_from}
 use Rattle.lfs_model.proofs.MadeDirectory.{Cut, IsMkdir, mkdir_completed, none_there}
 use Rattle.lfs_model.proofs.Changes.{IsChangedImage}
 use Rattle.lfs_model.proofs.Became.{Became}
@@ -100,7 +88,7 @@ module _ (disk middle new : Disk) (chain before front mid after : List Pair) (x 
   made2 : IsMkdir disk new (thread_at (record { chain = chain; before = before; left = front; right = mid ++ y ∷ []; after = f ∷ after }) (q ∷ more)) chain (before ++ front) (mid ++ x ∷ after) p q more
       (chain ++ ((before ++ front) ++ ((q ∷ more) ++ (mid ++ y ∷ [])))) after f l r P name
   made2 = record {
-    is_chain = ap pair_count_before_root (sym were) ∙ step.site.chain;
+    is_chain = ap count_before_root (sym were) ∙ step.site.chain;
     accepted = subst (IsAccepted disk) were step.accepted;
     writable = subst (IsWritable disk) were put.writable;
     settled = ap pairs_gstate (sym were) ∙ settled;
@@ -108,7 +96,7 @@ module _ (disk middle new : Disk) (chain before front mid after : List Pair) (x 
     walk = both.walk_on;
     follows = subst (λ z. IsChangedImage disk z new (thread_at (record { chain = chain; before = before; left = front; right = mid ++ y ∷ []; after = f ∷ after }) (q ∷ more)) (tree_creating (P ++ name ∷ []) (DirectoryNode [] [])) both.walk_on) were both.end;
     still_writable = second;
-    absent = ap (λ z. tree_on_disk disk z (P ++ name ∷ [])) (sym were) ∙ sym (ap (λ t. t (P ++ name ∷ [])) both.between.shows)
+    absent = ap (λ z. disk_tree disk z (P ++ name ∷ [])) (sym were) ∙ sym (ap (λ t. t (P ++ name ∷ [])) both.between.shows)
         ∙ none_there middle (thread_at there (p ∷ [])) P a (place_at there l) name leads2 place;
     was = put2.was;
     at = step2.shape.at;
@@ -131,8 +119,8 @@ module _ (disk middle new : Disk) (chain before front mid after : List Pair) (x 
       became_cut (g ∷ []) h = ((λ k. h.2 (resized (pair_with_slots (l ++ directory_slot name f.at ∷ r) p) k)), sized q h.3, sized g h.4)
       became_cut (g ∷ i ∷ more) h = absurd h
 
-  pub mkdir_in_two_completed : (s : Session) (path : List ℕ) → s.tree ≡ tree_on_disk disk (thread_at (last_site chain before (front ++ p ∷ mid) after) (x ∷ [])) → path_or_root path ≡ P ++ name ∷ []
-      → IsCompletion disk (thread_at (last_site chain before (front ++ p ∷ mid) after) (x ∷ [])) s (ops.Mkdir path) new (thread_at (record { chain = chain; before = before; left = front; right = mid ++ y ∷ []; after = f ∷ after }) (q ∷ more))
+  pub mkdir_in_two_completed : (s : Session) (path : List ℕ) → s.tree ≡ disk_tree disk (thread_at (last_site chain before (front ++ p ∷ mid) after) (x ∷ [])) → path_or_root path ≡ P ++ name ∷ []
+      → CompletesOperation disk (thread_at (last_site chain before (front ++ p ∷ mid) after) (x ∷ [])) s (ops.Mkdir path) new (thread_at (record { chain = chain; before = before; left = front; right = mid ++ y ∷ []; after = f ∷ after }) (q ∷ more))
   mkdir_in_two_completed s path tree is =
-      subst (λ z. IsCompletion disk z s (ops.Mkdir path) new (thread_at (record { chain = chain; before = before; left = front; right = mid ++ y ∷ []; after = f ∷ after }) (q ∷ more))) (sym were)
-      (mkdir_completed disk new rs chain (before ++ front) (mid ++ x ∷ after) p q more (chain ++ ((before ++ front) ++ ((q ∷ more) ++ (mid ++ y ∷ [])))) after f l r P name made2 s path (tree ∙ ap (tree_on_disk disk) were) is)
+      subst (λ z. CompletesOperation disk z s (ops.Mkdir path) new (thread_at (record { chain = chain; before = before; left = front; right = mid ++ y ∷ []; after = f ∷ after }) (q ∷ more))) (sym were)
+      (mkdir_completed disk new rs chain (before ++ front) (mid ++ x ∷ after) p q more (chain ++ ((before ++ front) ++ ((q ∷ more) ++ (mid ++ y ∷ [])))) after f l r P name made2 s path (tree ∙ ap (disk_tree disk) were) is)

@@ -1,8 +1,6 @@
 -- A disk has one view.
 use Rattle.std.proofs.Common.{◌≡◌, sym, ap, ◌∙◌}
-use Rattle.lfs_model.specs.format.Disk.{Disk, block_count}
-use Rattle.lfs_model.specs.format.Content.{content_at}
-use Rattle.lfs_model.specs.tree.View.{DiskView, disk_view, HasDiskView}
+use Rattle.lfs_model.proofs.Common.{Disk, block_count, content_at, DiskView, disk_view, HasDiskView}
 use Rattle.lfs_model.proofs.Uniqueness.{one_thread}
 
 pub one_view : (disk : Disk) (v w : DiskView) → HasDiskView disk v → HasDiskView disk w → v ≡ w

@@ -2,31 +2,16 @@
 use Rattle.std.proofs.Common.{◌≡◌, true, [], ◌∷◌, ◌++◌, Some, None, refl, sym, arith}
 use Rattle.std.specs.Prelude.{codes, nat_eq}
 use Rattle.std.specs.List.{IsDistinct}
-use Rattle.std.proofs.lemmas.List.Elements.{All-from_recursion}
-use Rattle.lfs_model.specs.format.Disk.{default_profile}
+use Rattle.lfs_model.proofs.Common.{All-from_recursion, default_profile, content_at, current_block, Slot, zero_gstate, Pair, anchor_address, BeginsWith, superblock_entry, used_blocks, IsFreshDisk, fresh_pair, superblock_slot, file_slot, Session, DiskSummary, mounted_session, empty_tree, operation_effect, IsStep, creating_flags, large_image, large_fresh_state, state_after_open}
 use Rattle.lfs_model.specs.format.Crc.{crc_of, next_bits}
 use Rattle.lfs_model.specs.format.Log.{chain_of, chain_within, commit_within, entry_at, closes}
-use Rattle.lfs_model.specs.format.Content.{content_at, current_block}
-use Rattle.lfs_model.specs.format.Slots.{Slot, zero_gstate}
-use Rattle.lfs_model.specs.format.Thread.{Pair, anchor_address}
-use Rattle.lfs_model.specs.tree.View.{BeginsWith, superblock_entry}
-use Rattle.lfs_model.specs.tree.Shown.{used_blocks}
-use Rattle.lfs_model.specs.tree.Fresh.{IsFreshDisk, fresh_pair, superblock_slot}
-use Rattle.lfs_model.specs.session.SlotEdits.{file_slot}
 use Rattle.lfs_model.specs.session.Operations as ops
-use Rattle.lfs_model.specs.session.Session.{Session, DiskSummary}
-use Rattle.lfs_model.specs.session.State.{mounted_session}
-use Rattle.lfs_model.specs.tree.Fresh.{empty_tree}
-use Rattle.lfs_model.specs.session.Effects.{operation_effect}
-use Rattle.lfs_model.specs.session.Run.{IsStep}
-use Rattle.lfs_model.specs.examples.Sessions.{creating_flags}
-use Rattle.lfs_model.specs.examples.Images.{large_image}
-use Rattle.lfs_model.specs.examples.Runs.{large_fresh_state, large_image_with, state_after_open}
+use Rattle.lfs_model.specs.examples.Runs.{image_after_open}
 use Rattle.lfs_model.proofs.Files.{SameFileBlocks}
 use Rattle.lfs_model.proofs.Sites.{Site}
 use Rattle.lfs_model.proofs.Fresh.{accepted, shows, writable}
 use Rattle.lfs_model.proofs.OnePair.{one_more_fits}
-use Rattle.lfs_model.proofs.Committed.{IsCommit, IsCompletion}
+use Rattle.lfs_model.proofs.Committed.{IsCommit, CompletesOperation}
 use Rattle.lfs_model.proofs.OneCommit.{create_completed}
 use Rattle.lfs_model.proofs.Arranged.{finished_settled}
 use Rattle.lfs_model.proofs.StepsMade.{IsOver, IsProper, completed_step, idle_step}
@@ -60,11 +45,11 @@ fresh = record {
   first = refl;
 }
 
-holds : content_at large_image_with anchor_address ≡ Some next.content
+holds : content_at image_after_open anchor_address ≡ Some next.content
 unfolding chain_of chain_within commit_within entry_at closes crc_of next_bits
 holds = refl
 
-begins : BeginsWith (current_block large_image_with anchor_address) superblock_entry
+begins : BeginsWith (current_block image_after_open anchor_address) superblock_entry
 unfolding chain_of chain_within commit_within entry_at closes crc_of next_bits
 begins = refl
 
@@ -72,7 +57,7 @@ distinct : IsDistinct nat_eq (([] ++ []) ++ used_blocks large_image (pair ∷ []
 unfolding IsDistinct
 distinct = ((refl, tt), (tt, tt))
 
-pub commit : IsCommit large_image large_image_with site pair next [] [] (superblock ∷ []) [] (file ∷ []) []
+pub commit : IsCommit large_image image_after_open site pair next [] [] (superblock ∷ []) [] (file ∷ []) []
 commit = record {
   accepted = accepted large_image fresh;
   writable = writable large_image fresh;
@@ -81,9 +66,9 @@ commit = record {
   site = record { chain = refl; ends = tt; run = refl };
   device = record {
     geometry = record { block_size = refl; page = refl; order = refl; profile = refl; count = refl };
-    contents = All-from_recursion (λ r. content_at large_image_with r.at ≡ Some r.content) (next ∷ []) (holds, tt);
+    contents = All-from_recursion (λ r. content_at image_after_open r.at ≡ Some r.content) (next ∷ []) (holds, tt);
     first = begins;
-    files = All-from_recursion (λ s. SameFileBlocks large_image large_image_with s.struct) (superblock ∷ []) (tt, tt);
+    files = All-from_recursion (λ s. SameFileBlocks large_image image_after_open s.struct) (superblock ∷ []) (tt, tt);
   };
   free = record { distinct = distinct; in_range = λ k d l. absurd (omega arith) };
   at = refl;
@@ -94,8 +79,8 @@ commit = record {
   fit = (((λ e. absurd (cc)), (λ e. record { charge = omega arith; inline = omega arith })), tt);
 }
 
-pub completed : IsCompletion large_image (pair ∷ []) (mounted_session empty_tree) op large_image_with (next ∷ [])
-completed = create_completed large_image large_image_with site pair next [] (superblock ∷ []) [] (codes "b") commit [] anchor_address refl refl
+pub completed : CompletesOperation large_image (pair ∷ []) (mounted_session empty_tree) op image_after_open (next ∷ [])
+completed = create_completed large_image image_after_open site pair next [] (superblock ∷ []) [] (codes "b") commit [] anchor_address refl refl
     (record { within = omega arith; below = λ j d l. absurd (omega arith); above = λ j d l m. absurd (omega arith) })
     (mounted_session empty_tree) (codes "/b") creating_flags (sym (shows large_image)) refl refl
 
@@ -106,7 +91,7 @@ over = record {
   tree = sym (shows large_image);
 }
 
-proper : IsProper large_image (pair ∷ []) (mounted_session empty_tree) op state_after_open.calls large_image_with
+proper : IsProper large_image (pair ∷ []) (mounted_session empty_tree) op state_after_open.calls image_after_open
 proper = record {
   geometry = record { block_size = refl; page = refl; order = refl; profile = refl; count = refl };
   other = refl;
@@ -119,15 +104,15 @@ proper = record {
 }
 
 pub turn : IsStep large_fresh_state op (ops.Opened 0) state_after_open
-turn = completed_step large_image (pair ∷ []) (mounted_session empty_tree) around op large_image_with (next ∷ []) state_after_open.calls [] over refl proper
-    (finished_settled large_image (pair ∷ []) (mounted_session empty_tree) op large_image_with (next ∷ []) commit.accepted commit.writable refl completed)
+turn = completed_step large_image (pair ∷ []) (mounted_session empty_tree) around op image_after_open (next ∷ []) state_after_open.calls [] over refl proper
+    (finished_settled large_image (pair ∷ []) (mounted_session empty_tree) op image_after_open (next ∷ []) commit.accepted commit.writable refl completed)
 
 -- ---- the open file is clean, so a sync finds nothing to do
 
 abbrev pub opened : Session
 opened = (operation_effect around (mounted_session empty_tree) op).1
 
-pub opened_over : IsOver large_image_with (next ∷ []) opened around
+pub opened_over : IsOver image_after_open (next ∷ []) opened around
 opened_over = record {
   accepted = completed.accepted;
   surrounds = record { profile = refl; block_size = refl; page = refl; block_count = refl; used = refl; gstate = refl; writable = ((λ e. completed.writable), λ w. refl) };
@@ -135,4 +120,4 @@ opened_over = record {
 }
 
 pub sync_step : IsStep state_after_open (ops.Sync 0) ops.Done state_after_open
-sync_step = idle_step large_image_with (next ∷ []) opened around (ops.Sync 0) [] state_after_open.calls opened_over refl refl refl refl refl (refl, refl) (λ e. refl)
+sync_step = idle_step image_after_open (next ∷ []) opened around (ops.Sync 0) [] state_after_open.calls opened_over refl refl refl refl refl (refl, refl) (λ e. refl)

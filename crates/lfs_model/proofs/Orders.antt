@@ -1,12 +1,12 @@
 -- The orders of names are total, and names put in order.
 use Rattle.std.proofs.Common.{ℕ, zero, suc, ◌≡◌, ◌⊎◌, inl, inr, Bool, true, false, not, cond, List, [], ◌∷◌, length, refl, sym, ap, ap₂, subst, ◌∙◌, nat_cmp, Ordering, Less, Equal, Greater, Contains, arith, insert}
-use Rattle.std.specs.Ordering.{ordering_reverse, ordering_then}
-use Rattle.std.proofs.lemmas.Cmp.{ranked, nat_list_cmp_total, nat_cmp_total, tied_itself}
+use Rattle.lfs_model.proofs.Common.{ordering_then, ranked, nat_list_cmp_total, tied_itself, Name, name_cmp, same_name, is_equal, is_less, sorted_names, names_without}
+use Rattle.std.specs.Ordering.{ordering_reverse}
+use Rattle.std.proofs.lemmas.Cmp.{nat_cmp_total}
 use Rattle.std.specs.Cmp.{IsTotalOrder}
 use Rattle.lfs_model.specs.declared.order.NameOrder.{NameOrder}
 use Rattle.lfs_model.specs.declared.order.NameOrder.TheVariants.{ShorterFirst, LongerFirst}
-use Rattle.lfs_model.specs.format.Names.{Name, cmp_longer_first, name_cmp, same_name, is_equal, is_less, insert_name, sorted_names}
-use Rattle.lfs_model.specs.session.TreeEdits.{names_without}
+use Rattle.lfs_model.specs.format.Names.{cmp_longer_first, insert_name}
 use Rattle.lfs_model.proofs.Paths.{name_from_equal, same_itself, unlike_test}
 
 -- ---- the order that has the longer one first

@@ -1,15 +1,9 @@
 -- All slots that paths lead to, in a list, where no path is longer than a number of names.
 use Rattle.std.proofs.Common.{ℕ, zero, suc, ◌≡◌, Bool, true, false, not, ◌&&◌, cond, List, [], ◌∷◌, ◌++◌, map, Option, Some, None, refl, sym, ap, ◌∙◌, option_and_then, option_map}
 use Rattle.std.specs.Prelude.{find}
-use Rattle.std.specs.List.{AllByRecursion, flat_map, list_all}
-use Rattle.std.specs.Option.{option_or, option_map_or}
-use Rattle.std.proofs.lemmas.Bool.{and_parts}
-use Rattle.std.proofs.lemmas.Option.{same_Some}
+use Rattle.lfs_model.proofs.Common.{AllByRecursion, flat_map, list_all, option_map_or, and_parts, same_Some, Name, same_name, Slot, Path, EntryMap, entry_named, branch_address, child_slot, slot_at_path, same_path}
+use Rattle.std.specs.Option.{option_or}
 use Rattle.std.proofs.lemmas.List.Folds.{find-append}
-use Rattle.lfs_model.specs.format.Names.{Name, same_name}
-use Rattle.lfs_model.specs.format.Slots.{Slot}
-use Rattle.lfs_model.specs.tree.Tree.{Path, EntryMap, entry_named, branch_address, child_slot, slot_at_path}
-use Rattle.lfs_model.specs.session.TreeEdits.{same_path}
 use Rattle.lfs_model.proofs.Paths.{name_from_same, path_from_same}
 
 -- paths with what they lead to

@@ -1,10 +1,9 @@
 -- Bytes written over others, and blocks that differ in one.
 use Rattle.std.specs.Prelude.{All}
 use Rattle.std.proofs.Common.{◌≡◌, ◌≢◌, ℕ, ◌+◌, ◌-◌, ◌<◌, ◌≤◌, List, [], ◌++◌, length, take, drop, slice_set, slice_range, inl, inr, refl, sym, ◌∙◌, ap, arith, append_assoc, length-append, length-drop}
-use Rattle.std.proofs.Math.Seq.{drop-append-add}
-use Rattle.std.proofs.lemmas.List.{append-nil, take_at, take-take, drop-take, drop_all, take_all, take-append-drop, drop-append-le, drop-drop, length-take-le, length-set, get_or-set_other, get_or-set_same, ext_get_or, set-get_or}
-use Rattle.std.proofs.lemmas.Bool.{cases_eq}
-use Rattle.lfs_model.specs.format.Blocks.{Blocks, block_bytes, overwritten_at, programmed, SameExcept, SameExceptThese, SameOutside}
+use Rattle.lfs_model.proofs.Common.{drop-append-add, append-nil, take_at, take-take, drop-take, take-append-drop, drop-append-le, drop-drop, length-take-le, length-set, get_or-set_other, get_or-set_same, cases_eq, Blocks, block_bytes, overwritten_at, programmed, SameExcept, SameExceptThese}
+use Rattle.std.proofs.lemmas.List.{drop_all, take_all, ext_get_or, set-get_or}
+use Rattle.lfs_model.specs.format.Blocks.{SameOutside}
 
 -- Bytes of one block.
 

@@ -3,9 +3,7 @@ use Rattle.std.proofs.Common.{ℕ, zero, suc, ◌≡◌, true, cond, List, [], �
 use Rattle.std.specs.Prelude.{Contains, is_some}
 use Rattle.lfs_model.proofs.Orders.{contains_in_order, contains_back}
 use Rattle.lfs_model.specs.declared.order.NameOrder.TheVariants.{ShorterFirst}
-use Rattle.lfs_model.specs.format.Names.{sorted_names, Name}
-use Rattle.lfs_model.specs.format.Slots.{Slot, Struct, Inline, Ctz, Branch, Attributes}
-use Rattle.lfs_model.specs.tree.Tree.{Path, Node, DirectoryNode, EntryMap, entry_named, branch_address, slot_at_path, struct_node, names_at, beneath_slot}
+use Rattle.lfs_model.proofs.Common.{sorted_names, Name, Slot, Struct, Inline, Ctz, Branch, Attributes, Path, Node, DirectoryNode, EntryMap, entry_named, branch_address, slot_at_path, struct_node, names_at, beneath_slot}
 use Rattle.lfs_model.proofs.Paths.{Names, alike, unlike, names}
 use Rattle.lfs_model.proofs.Walks.{walk_append}
 

@@ -1,23 +1,19 @@
 -- Operations that a session performs, in order.
 use Rattle.std.proofs.Common.{◌≡◌, List, [], ◌∷◌, ◌++◌, Option, refl, sym, subst}
-use Rattle.lfs_model.specs.session.History.{CallEvent, AllCalls, AllCallsSince}
-use Rattle.lfs_model.specs.session.Operations.{Operation, Reply}
-use Rattle.lfs_model.specs.session.Run.{SystemState, AreSteps}
-use Rattle.lfs_model.specs.crash.ReadBounds.{unless_refusal}
-use Rattle.lfs_model.specs.crash.Performed.{IsSafeStep, AreSafeSteps}
+use Rattle.lfs_model.proofs.Common.{CallEvent, AllCalls, AllCallsSince, Operation, Reply, SystemState, AreSteps, accepted_operation, IsSafeStep, AreSafeSteps}
 use Rattle.lfs_model.proofs.Histories.{began, goes_on_by}
 
 pub performed_turns : (before : Option Operation) (operations : List Operation) (replies : List Reply) (from to : SystemState) → AreSafeSteps before from operations replies to → AreSteps from operations replies to
 performed_turns before [] [] from to h = h
 performed_turns before [] (reply ∷ replies) from to h = absurd h
 performed_turns before (op ∷ operations) [] from to h = absurd h
-performed_turns before (op ∷ operations) (reply ∷ replies) from to (next, (one, rest)) = (next, (one.turn, performed_turns (unless_refusal op reply) operations replies next to rest))
+performed_turns before (op ∷ operations) (reply ∷ replies) from to (next, (one, rest)) = (next, (one.turn, performed_turns (accepted_operation op reply) operations replies next to rest))
 
 -- ---- one more
 
 -- the newest operation, if it was accepted
 abbrev pub last_accepted : Option Operation → List Operation → List Reply → Option Operation
-last_accepted before (op ∷ operations) (reply ∷ replies) = last_accepted (unless_refusal op reply) operations replies
+last_accepted before (op ∷ operations) (reply ∷ replies) = last_accepted (accepted_operation op reply) operations replies
 last_accepted before _ _ = before
 
 pub performed_further : (before : Option Operation) (operations : List Operation) (op : Operation) (replies : List Reply) (reply : Reply) (a b c : SystemState) → AreSafeSteps before a operations replies b →
@@ -25,15 +21,15 @@ pub performed_further : (before : Option Operation) (operations : List Operation
 performed_further before [] op [] reply a b c h one = subst (λ m. AreSafeSteps before m (op ∷ []) (reply ∷ []) c) (sym h) (c, (one, refl))
 performed_further before [] op (r ∷ replies) reply a b c h one = absurd h
 performed_further before (o ∷ operations) op [] reply a b c h one = absurd h
-performed_further before (o ∷ operations) op (r ∷ replies) reply a b c (next, (first, rest)) one = (next, (first, performed_further (unless_refusal o r) operations op replies reply next b c rest one))
+performed_further before (o ∷ operations) op (r ∷ replies) reply a b c (next, (first, rest)) one = (next, (first, performed_further (accepted_operation o r) operations op replies reply next b c rest one))
 
 -- the newest one comes last
 pub last_further : (before : Option Operation) (operations : List Operation) (op : Operation) (replies : List Reply) (reply : Reply) (a b : SystemState) → AreSafeSteps before a operations replies b →
-    last_accepted before (operations ++ op ∷ []) (replies ++ reply ∷ []) ≡ unless_refusal op reply
+    last_accepted before (operations ++ op ∷ []) (replies ++ reply ∷ []) ≡ accepted_operation op reply
 last_further before [] op [] reply a b h = refl
 last_further before [] op (r ∷ replies) reply a b h = absurd h
 last_further before (o ∷ operations) op [] reply a b h = absurd h
-last_further before (o ∷ operations) op (r ∷ replies) reply a b (next, (first, rest)) = last_further (unless_refusal o r) operations op replies reply next b rest
+last_further before (o ∷ operations) op (r ∷ replies) reply a b (next, (first, rest)) = last_further (accepted_operation o r) operations op replies reply next b rest
 
 -- ---- the calls between
 
@@ -52,4 +48,4 @@ performed_since before [] [] from to h = subst (λ (m : SystemState). AllCallsSi
 performed_since before [] (reply ∷ replies) from to h = absurd h
 performed_since before (op ∷ operations) [] from to h = absurd h
 performed_since before (op ∷ operations) (reply ∷ replies) from to (next, (one, rest)) =
-    goes_on_by (calls_since from.calls next.calls one.turn.calls one.turn.called) (performed_since (unless_refusal op reply) operations replies next to rest)
+    goes_on_by (calls_since from.calls next.calls one.turn.calls one.turn.called) (performed_since (accepted_operation op reply) operations replies next to rest)

@@ -2,13 +2,7 @@
 -- slot, the one that gains it, and the one of the directory that goes.
 use Rattle.std.proofs.Common.{ℕ, ◌≡◌, ◌≢◌, ◌⊎◌, inl, inr, Bool, true, false, cond, List, [], ◌∷◌, ◌++◌, length, map, Option, Some, None, refl, sym, ap, subst, ◌∙◌, flat_map}
 use Rattle.std.specs.Prelude.{Any, is_some}
-use Rattle.std.proofs.lemmas.Option.{same_Some}
-use Rattle.lfs_model.specs.format.Disk.{Disk}
-use Rattle.lfs_model.specs.format.Slots.{Slot, same_pair}
-use Rattle.lfs_model.specs.format.Thread.{Pair, is_hard_tail}
-use Rattle.lfs_model.specs.tree.Profile.{HasNoEmpties}
-use Rattle.lfs_model.specs.session.SlotEdits.{pair_with_slots}
-use Rattle.lfs_model.specs.session.Layout.{FitsPair, directory_address, continued_address}
+use Rattle.lfs_model.proofs.Common.{same_Some, Disk, Slot, same_pair, Pair, is_hard_tail, HasNoEmpties, pair_with_slots, FitsPair, directory_address, continued_address}
 use Rattle.lfs_model.proofs.Counts.{Each, each_left, each_right}
 use Rattle.lfs_model.proofs.Sites.{any_from}
 use Rattle.lfs_model.proofs.Splices.{all_slots}

@@ -1,11 +1,6 @@
 -- What is supposed of a device's calls: one call more, and the calls since some older history.
 use Rattle.std.proofs.Common.{◌≡◌, Bool, true, false, List, [], ◌∷◌, ◌++◌, sym, subst, refl}
-use Rattle.std.proofs.lemmas.List.Elements.{All-head}
-use Rattle.lfs_model.specs.format.Blocks.{Blocks}
-use Rattle.lfs_model.specs.session.History.{DeviceCall, Read, Program, Erase, Blank, CallEvent, call_event, AllCalls, AllCallsSince}
-use Rattle.lfs_model.specs.crash.Conformance.{ConformsTo, CallsConform}
-use Rattle.lfs_model.specs.crash.Stops.{may_stop_leave, erases_cleanly}
-use Rattle.lfs_model.specs.crash.Premises.{MeetsPremises}
+use Rattle.lfs_model.proofs.Common.{All-head, Blocks, DeviceCall, Read, Program, Erase, Blank, CallEvent, call_event, AllCalls, AllCallsSince, ConformsTo, CallsConform, may_stop_leave, erases_cleanly, MeetsPremises}
 use Rattle.lfs_model.proofs.Conformance.{conforming_stops}
 use Rattle.lfs_model.proofs.Stopped.{stops_before}
 

@@ -1,15 +1,8 @@
 -- A recovery, pair by pair in the thread's order: a pair whose directory a path leads to is kept, any other is dropped. It may drop any number.
 use Rattle.std.proofs.Common.{ℕ, ◌≡◌, ◌≢◌, inl, true, List, [], ◌∷◌, ◌++◌, length, take, Option, None, refl, sym, ap, subst, ◌∙◌, append_assoc, append-nil, subst₂}
 use Rattle.std.specs.Prelude.{is_some}
-use Rattle.lfs_model.specs.format.Disk.{Disk}
-use Rattle.lfs_model.specs.format.Slots.{zero_gstate}
-use Rattle.lfs_model.specs.format.Thread.{Pair, pairs_gstate, slots_not_moved, pair_count_before_root, pairs_from_root}
-use Rattle.lfs_model.specs.tree.View.{IsAccepted}
-use Rattle.lfs_model.specs.tree.Shown.{IsReachedBySome, tree_on_disk}
-use Rattle.lfs_model.specs.tree.Profile.{IsWritable}
+use Rattle.lfs_model.proofs.Common.{Disk, zero_gstate, Pair, pairs_gstate, slots_not_moved, count_before_root, pairs_from_root, IsAccepted, IsReachedBySome, disk_tree, IsWritable, Session, directory_address, continued_address}
 use Rattle.lfs_model.specs.session.Operations as ops
-use Rattle.lfs_model.specs.session.Session.{Session}
-use Rattle.lfs_model.specs.session.Layout.{directory_address, continued_address}
 use Rattle.lfs_model.proofs.Changes.{follows_itself}
 use Rattle.lfs_model.proofs.LeftFiles.{ends_same}
 use Rattle.lfs_model.proofs.Counts.{Each}
@@ -19,7 +12,7 @@ use Rattle.lfs_model.proofs.Found.{chain_of_thread}
 use Rattle.lfs_model.proofs.Laws.{PathAddresses}
 use Rattle.lfs_model.proofs.Layouts.{singles, joined_parts, joined_singles, joined_append, onward_all}
 use Rattle.lfs_model.proofs.Alike.{SameSlots, alike_itself, alike_append}
-use Rattle.lfs_model.proofs.Committed.{IsCompletion}
+use Rattle.lfs_model.proofs.Committed.{CompletesOperation}
 use Rattle.lfs_model.proofs.RecoveredImage.{Fates, recover_completed}
 use Rattle.lfs_model.proofs.StepsTaken.{IsWritableChange, taken_then}
 use Rattle.lfs_model.proofs.Unthreaded.{IsUnthreaded, IsReady, unthread}
@@ -81,7 +74,7 @@ module _ (disk : Disk) (ps : List Pair) (now : Disk) (chain seen : List Pair) (p
       → (is_some (onward_all None seen) ≡ true → slots_not_moved (pairs_gstate ps) p ≢ []) → IsRecovering disk ps now chain (seen ++ p ∷ []) todo (parts ++ (x ∷ []) ∷ []) waits (kept ++ x ∷ [])
   recovery_keeps x r reached some = record {
     are = r.are ∙ seen_more chain seen p todo;
-    was_chain = ap pair_count_before_root (sym (seen_more chain seen p todo)) ∙ r.was_chain;
+    was_chain = ap count_before_root (sym (seen_more chain seen p todo)) ∙ r.was_chain;
     plain = r.plain;
     fates = fates_append ps None seen (p ∷ []) parts ((x ∷ []) ∷ []) r.fates ((r.wait.0.0, r.wait.0.1, reached, some), tt);
     alike = subst (λ z. SameSlots z (kept ++ x ∷ [])) (sym (joined_append parts ((x ∷ []) ∷ []))) (alike_append (joined_parts parts) (x ∷ []) kept (x ∷ []) r.alike (alike_itself (x ∷ [])));
@@ -100,7 +93,7 @@ module _ (disk : Disk) (ps : List Pair) (now : Disk) (chain seen : List Pair) (p
       let there : front ++ q ∷ joined_parts waits ≡ (front ++ q ∷ []) ++ joined_parts waits = sym (append_assoc front (q ∷ []) (joined_parts waits)) in
       record {
         are = r.are ∙ seen_more chain seen p todo;
-        was_chain = ap pair_count_before_root (sym (seen_more chain seen p todo)) ∙ r.was_chain;
+        was_chain = ap count_before_root (sym (seen_more chain seen p todo)) ∙ r.was_chain;
         plain = r.plain;
         fates = fates_append ps None seen (p ∷ []) parts ([] ∷ []) r.fates (inl unreached, tt);
         alike = subst (λ z. SameSlots z (front ++ q ∷ [])) (sym (joined_append parts ([] ∷ []) ∙ append-nil (joined_parts parts)))
@@ -118,14 +111,14 @@ nothing_done disk ps ok fits = record { follows = follows_itself disk ps ok; wri
 
 -- where no move is set, all pairs wait as they are
 pub recovery_begins : (disk : Disk) (ps : List Pair) → IsAccepted disk ps → IsWritable disk ps → HasNoMove (pairs_gstate ps)
-    → IsRecovering disk ps disk (take (pair_count_before_root ps) ps) [] (pairs_from_root ps) [] (singles (pairs_from_root ps)) []
+    → IsRecovering disk ps disk (take (count_before_root ps) ps) [] (pairs_from_root ps) [] (singles (pairs_from_root ps)) []
 recovery_begins disk ps ok fits none =
     let e = chain_of_thread ps in
-    let same : ps ≡ take (pair_count_before_root ps) ps ++ joined_parts (singles (pairs_from_root ps)) = e.0 ∙ ap (λ z. take (pair_count_before_root ps) ps ++ z) (sym (joined_singles (pairs_from_root ps))) in
+    let same : ps ≡ take (count_before_root ps) ps ++ joined_parts (singles (pairs_from_root ps)) = e.0 ∙ ap (λ z. take (count_before_root ps) ps ++ z) (sym (joined_singles (pairs_from_root ps))) in
     record {
       are = e.0;
       was_chain = e.1;
-      plain = all_plain (take (pair_count_before_root ps) ps);
+      plain = all_plain (take (count_before_root ps) ps);
       fates = tt;
       alike = tt;
       wait = all_wait None (pairs_from_root ps);
@@ -134,7 +127,7 @@ recovery_begins disk ps ok fits none =
         accepted = subst (IsAccepted disk) same ok;
         writable = subst (IsWritable disk) same fits;
         no_move = subst (λ z. HasNoMove (pairs_gstate z)) same none;
-        is_chain = ap pair_count_before_root (sym same) ∙ ap pair_count_before_root e.0 ∙ e.1;
+        is_chain = ap count_before_root (sym same) ∙ ap count_before_root e.0 ∙ e.1;
       };
     }
   where
@@ -149,11 +142,11 @@ recovery_begins disk ps ok fits none =
 -- All pairs were seen. A last commit may have changed a delta of the global state, which now is none.
 pub recovery_ends : (disk : Disk) (ps : List Pair) (now : Disk) (chain seen : List Pair) (parts : List (List Pair)) (kept : List Pair) (new : Disk) (rs : List Pair) (walk : PathAddresses → PathAddresses) (s : Session)
     → IsRecovering disk ps now chain seen [] parts [] kept → IsWritable disk ps → IsWritableChange now (chain ++ (kept ++ [])) new rs (λ t. t) walk → SameSlots (chain ++ kept) rs → pairs_gstate rs ≡ zero_gstate
-    → s.tree ≡ tree_on_disk disk ps → IsCompletion disk ps s ops.Recover new rs
+    → s.tree ≡ disk_tree disk ps → CompletesOperation disk ps s ops.Recover new rs
 recovery_ends disk ps now chain seen parts kept new rs walk s r fits last alike settled tree =
     let t = taken_then disk now new ps (chain ++ (kept ++ [])) rs (λ t. t) (λ t. t) (λ d. d) walk (ends_same (λ t. t)) r.taken last in
     let are : ps ≡ chain ++ seen = r.are ∙ ap (λ z. chain ++ z) (append-nil seen) in
-    let count : pair_count_before_root ps ≡ length chain = ap pair_count_before_root r.are ∙ r.was_chain in
+    let count : count_before_root ps ≡ length chain = ap count_before_root r.are ∙ r.was_chain in
     recover_completed disk ps new rs (singles chain ++ parts) s (λ d. walk d) fits t.follows t.writable settled
     (subst₂ (λ n z. Fates ps n None z (singles chain ++ parts)) (sym count) (sym are) (fates_behind ps chain seen parts r.plain r.fates))
     (alike_through (joined_parts (singles chain ++ parts)) (chain ++ kept) rs

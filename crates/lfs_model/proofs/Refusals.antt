@@ -1,26 +1,12 @@
 -- An image is refused where a rule fails, by tests that compute on a literal image.
 use Rattle.std.proofs.Common.{ℕ, suc, ◌≡◌, ◌<◌, inl, inr, Bool, true, false, not, ◌&&◌, ◌==◌, nat_eq, List, [], ◌∷◌, ◌++◌, Option, Some, None, refl, sym, ap, subst, ◌∙◌, AllPairs, arith, length, drop, eq-eqb, lt-ltb, get_or}
 use Rattle.std.specs.Prelude.{All, slice_get, nat_lt}
-use Rattle.std.specs.List.{AllByRecursion, list_all, IsDistinct}
+use Rattle.lfs_model.proofs.Common.{AllByRecursion, list_all, and_from, or_left, or_right, same_Some, slice_get_within, get_or_from_slice_get, All-from_recursion, All-head, All-tail, list_any-from_Any, drop-drop, Disk, block_count, disk_block, Name, name_cmp, is_less, is_valid_name, same_name, PairContent, Slot, SlotKind, File, Directory, Superblock, Struct, Inline, Ctz, Branch, Gstate, same_pair, content_at, has_commit, Pair, anchor_address, AreLinked, tail_target, pairs_blocks, pairs_from_root, starts_superblock, pairs_gstate, root_address, ThreadDirectory, Path, root_slot, names_at, same_path, IsAccepted, first_pair_slots, HasValidMove, IsThreadEntry, IsEntry, IsTreeEntry, HasKind, BeginsWithSuperblock, SameExceptVersion, IsSuperblock, chain_pairs, after_chain, IsFormedList, IsWritable, IsWritableSlot, LeadsTo, IsReachedBySome, all_directories, all_entries, used_blocks, all_unmoved_slots}
+use Rattle.std.specs.List.{IsDistinct}
 use Rattle.std.specs.declared.cmp.Ordering.TheVariants.{Less}
-use Rattle.std.proofs.lemmas.Bool.{and_from, or_left, or_right}
-use Rattle.std.proofs.lemmas.Option.{same_Some, slice_get_within, get_or_from_slice_get}
-use Rattle.std.proofs.lemmas.List.Elements.{All-from_recursion, All-head, All-tail}
-use Rattle.std.proofs.lemmas.List.Folds.{list_any-from_Any}
 use Rattle.byteorder.specs.Endian.{little_number}
-use Rattle.std.proofs.lemmas.List.{drop-drop}
 use Rattle.lfs_model.specs.declared.order.NameOrder.{NameOrder}
-use Rattle.lfs_model.specs.format.Disk.{Disk, block_count, disk_block}
-use Rattle.lfs_model.specs.format.Names.{Name, name_cmp, is_less, is_valid_name, same_name}
 use Rattle.lfs_model.specs.declared.limits.AcceptedVersions.{AcceptedVersions}
-use Rattle.lfs_model.specs.format.Slots.{PairContent, Slot, SlotKind, File, Directory, Superblock, Struct, Inline, Ctz, Branch, Gstate, same_pair}
-use Rattle.lfs_model.specs.format.Content.{content_at, has_commit}
-use Rattle.lfs_model.specs.format.Thread.{Pair, anchor_address, AreLinked, tail_address_of, blocks_of_pairs, pairs_from_root, starts_superblock, pairs_gstate, root_address, ThreadDirectory}
-use Rattle.lfs_model.specs.tree.Tree.{Path, root_slot, names_at}
-use Rattle.lfs_model.specs.session.TreeEdits.{same_path}
-use Rattle.lfs_model.specs.tree.View.{IsAccepted, first_slots, HasValidMove, IsThreadEntry, IsEntry, IsTreeEntry, HasKind, BeginsWithSuperblock, SameStructExceptVersion, IsSuperblock, chain_pairs, after_chain, IsWellFormedCtz}
-use Rattle.lfs_model.specs.tree.Profile.{IsWritable, IsWritableSlot}
-use Rattle.lfs_model.specs.tree.Shown.{LeadsTo, IsReachedBySome, all_directories, all_entries, used_blocks, all_slots_not_moved}
 use Rattle.lfs_model.specs.examples.Images.{IsNotAccepted, IsNotWritable}
 use Rattle.lfs_model.proofs.Acceptance.{are_apart, apart_from, all_to, rise, begins, led, on_branches, outline_in, is_move, names_slot, is_other, is_entry, has_struct_of_its_kind, is_inline, has_superblock, is_struct}
 use Rattle.lfs_model.proofs.Outlines.{is_outlined}
@@ -34,7 +20,7 @@ use Rattle.lfs_model.proofs.Uniqueness.{one_way}
 record Begun (disk : Disk) (at : Option (ℕ × ℕ)) (ps : List Pair) (c : PairContent) (here : ℕ × ℕ) : Type 0 where
   rest : List Pair
   is : ps ≡ record { at = here; content = c } ∷ rest
-  links : AreLinked (tail_address_of c.tail) rest
+  links : AreLinked (tail_target c.tail) rest
   contents : All (λ p. content_at disk p.at ≡ Some p.content) rest
 
 begun : (disk : Disk) (ps : List Pair) (c : PairContent) (here : ℕ × ℕ) → AreLinked (Some here) ps → All (λ p. content_at disk p.at ≡ Some p.content) ps → content_at disk here ≡ Some c → Begun disk (Some here) ps c here
@@ -61,21 +47,21 @@ pub no_commit : (disk : Disk) → has_commit (disk_block disk 0) ≡ false → h
 no_commit disk first second = no_first disk (rw (first, second) refl)
 
 -- the second pair holds nothing
-pub no_second : (disk : Disk) (c : PairContent) (to : ℕ × ℕ) → content_at disk anchor_address ≡ Some c → tail_address_of c.tail ≡ Some to → content_at disk to ≡ None → IsNotAccepted disk
+pub no_second : (disk : Disk) (c : PairContent) (to : ℕ × ℕ) → content_at disk anchor_address ≡ Some c → tail_target c.tail ≡ Some to → content_at disk to ≡ None → IsNotAccepted disk
 no_second disk c to first next none ps a =
     let b = begun disk ps c anchor_address a.thread.links a.thread.contents first in
     none_stands disk b.rest to (rw (← next) b.links) b.contents none
 
 -- the second pair has a block of the first, or one block twice
-pub no_distinct : (disk : Disk) (c d : PairContent) (to : ℕ × ℕ) → content_at disk anchor_address ≡ Some c → tail_address_of c.tail ≡ Some to → content_at disk to ≡ Some d →
+pub no_distinct : (disk : Disk) (c d : PairContent) (to : ℕ × ℕ) → content_at disk anchor_address ≡ Some c → tail_target c.tail ≡ Some to → content_at disk to ≡ Some d →
     are_apart (0 ∷ 1 ∷ to.0 ∷ to.1 ∷ []) ≡ false → IsNotAccepted disk
 unfolding IsDistinct
 no_distinct disk c d to first next second twice ps a =
     let b = begun disk ps c anchor_address a.thread.links a.thread.contents first in
     let e = begun disk b.rest d to (rw (← next) b.links) b.contents second in
     let is : ps ≡ record { at = anchor_address; content = c } ∷ record { at = to; content = d } ∷ e.rest = b.is ∙ ap (λ (xs : List Pair). record { at = anchor_address; content = c } ∷ xs) e.is in
-    let distinct : IsDistinct nat_eq (0 ∷ 1 ∷ to.0 ∷ to.1 ∷ blocks_of_pairs e.rest) = subst (λ xs. IsDistinct nat_eq (blocks_of_pairs xs)) is a.thread.distinct in
-    let apart : are_apart (0 ∷ 1 ∷ to.0 ∷ to.1 ∷ []) ≡ true = apart_from (0 ∷ 1 ∷ to.0 ∷ to.1 ∷ []) (front (0 ∷ 1 ∷ to.0 ∷ to.1 ∷ []) (blocks_of_pairs e.rest) distinct) in
+    let distinct : IsDistinct nat_eq (0 ∷ 1 ∷ to.0 ∷ to.1 ∷ pairs_blocks e.rest) = subst (λ xs. IsDistinct nat_eq (pairs_blocks xs)) is a.thread.distinct in
+    let apart : are_apart (0 ∷ 1 ∷ to.0 ∷ to.1 ∷ []) ≡ true = apart_from (0 ∷ 1 ∷ to.0 ∷ to.1 ∷ []) (front (0 ∷ 1 ∷ to.0 ∷ to.1 ∷ []) (pairs_blocks e.rest) distinct) in
     absurd (cc)
   where
     left : (x : ℕ) (xs ys : List ℕ) → AllByRecursion (λ y. nat_eq x y ≡ false) (xs ++ ys) → AllByRecursion (λ y. nat_eq x y ≡ false) xs
@@ -102,8 +88,8 @@ rise_to by (n ∷ ns) h =
     (rise_to by ns (λ i j d l m. h (suc i) (suc j) d (omega arith) (omega arith)))
 
 -- a block isn't there
-pub fails_range : (disk : Disk) (ps : List Pair) → list_all (λ b. nat_lt b (block_count disk)) (blocks_of_pairs ps) ≡ false → IsAccepted disk ps → ⊥
-fails_range disk ps fails a = let e = all_to (λ b. nat_lt b (block_count disk)) (λ b. b < block_count disk) (λ b. lt-ltb b (block_count disk)) (blocks_of_pairs ps) a.thread.in_range in cc
+pub fails_range : (disk : Disk) (ps : List Pair) → list_all (λ b. nat_lt b (block_count disk)) (pairs_blocks ps) ≡ false → IsAccepted disk ps → ⊥
+fails_range disk ps fails a = let e = all_to (λ b. nat_lt b (block_count disk)) (λ b. b < block_count disk) (λ b. lt-ltb b (block_count disk)) (pairs_blocks ps) a.thread.in_range in cc
 
 -- the names of a directory don't rise
 pub fails_order : (disk : Disk) (ps : List Pair) (path : Path) (at : ℕ × ℕ) → LeadsTo ps path at → rise disk.order (names_at (all_entries ps) at) ≡ false → IsAccepted disk ps → ⊥
@@ -173,15 +159,15 @@ pub fails_slots : (disk : Disk) (ps : List Pair) → list_all (λ p. list_all is
 fails_slots disk ps fails a = let e = all_to (λ p. list_all is_entry p.content.slots) (λ p. All IsTreeEntry p.content.slots) (λ p. all_to is_entry IsTreeEntry entry_to p.content.slots) (after_chain ps) a.slots in cc
 
 -- the root directory doesn't begin with a superblock
-pub fails_root : (disk : Disk) (ps : List Pair) → starts_superblock (first_slots (pairs_from_root ps)) ≡ false → IsAccepted disk ps → ⊥
+pub fails_root : (disk : Disk) (ps : List Pair) → starts_superblock (first_pair_slots (pairs_from_root ps)) ≡ false → IsAccepted disk ps → ⊥
 fails_root disk ps fails a = let e = sym a.root ∙ fails in cc
 
 same_to : (xs ys : List ℕ) → xs ≡ ys → same_name xs ys ≡ true
 same_to xs ys e = ap (same_name xs) (sym e) ∙ same_itself xs
 
 -- bytes that are the same as the superblock's but for an accepted version
-module _ (versions : AcceptedVersions) (held bytes : List ℕ) (same : SameStructExceptVersion versions held bytes) where
-  pub inline_to : (s : Struct) (own : List ℕ) → s ≡ Inline own → SameStructExceptVersion versions held own → is_inline versions bytes s ≡ true
+module _ (versions : AcceptedVersions) (held bytes : List ℕ) (same : SameExceptVersion versions held bytes) where
+  pub inline_to : (s : Struct) (own : List ℕ) → s ≡ Inline own → SameExceptVersion versions held own → is_inline versions bytes s ≡ true
   inline_to s own e h =
       ap (is_inline versions bytes) e
       ∙ and_from _ _ (eq-eqb (length own) (length bytes) (h.len ∙ sym same.len)) (and_from _ _ h.version (same_to (drop 4 own) (drop 4 bytes) (h.rest ∙ sym same.rest)))
@@ -190,7 +176,7 @@ module _ (versions : AcceptedVersions) (held bytes : List ℕ) (same : SameStruc
   superblock_to [] h = refl
   superblock_to (s ∷ slots) h = and_from _ _ h.0 (and_from _ _ (inline_to s.struct h.1.0 h.1.1.0 h.1.1.1) (all_to is_entry IsTreeEntry entry_to slots h.2))
 
-pub struct_to : (disk : Disk) (held bytes : List ℕ) → IsSuperblock disk held → SameStructExceptVersion disk.profile.versions held bytes → is_struct disk bytes ≡ true
+pub struct_to : (disk : Disk) (held bytes : List ℕ) → IsSuperblock disk held → SameExceptVersion disk.profile.versions held bytes → is_struct disk bytes ≡ true
 struct_to disk held bytes h same =
     let size : little_number 4 (drop 4 bytes) ≡ disk.block_size = ap (little_number 4) same.rest ∙ h.block_size in
     let count : little_number 4 (drop 8 bytes) ≡ block_count disk =
@@ -200,7 +186,7 @@ struct_to disk held bytes h same =
 
 -- the superblock's bytes aren't those of the disk, or not those of each of its pairs
 pub fails_superblock : (disk : Disk) (ps : List Pair) (p : Pair) (rest : List Pair) (bytes : List ℕ) → chain_pairs ps ≡ p ∷ rest →
-    ((held : List ℕ) → BeginsWithSuperblock disk.profile.versions held p.content.slots → (own : List ℕ) × ((Inline bytes ≡ Inline own) × SameStructExceptVersion disk.profile.versions held own)) →
+    ((held : List ℕ) → BeginsWithSuperblock disk.profile.versions held p.content.slots → (own : List ℕ) × ((Inline bytes ≡ Inline own) × SameExceptVersion disk.profile.versions held own)) →
     (is_struct disk bytes && list_all (λ q. has_superblock disk.profile.versions bytes q.content.slots) (chain_pairs ps)) ≡ false → IsAccepted disk ps → ⊥
 fails_superblock disk ps p rest bytes are first fails a =
     let held = a.superblock.0 in
@@ -209,7 +195,7 @@ fails_superblock disk ps p rest bytes are first fails a =
     let here : BeginsWithSuperblock V held p.content.slots = All-head (λ q. BeginsWithSuperblock V held q.content.slots) p rest (subst (All (λ q. BeginsWithSuperblock V held q.content.slots)) are each) in
     let f = first held here in
     let is : bytes ≡ f.0 = let e = f.1.0 in cc in
-    let same : SameStructExceptVersion V held bytes = subst (SameStructExceptVersion V held) (sym is) f.1.1 in
+    let same : SameExceptVersion V held bytes = subst (SameExceptVersion V held) (sym is) f.1.1 in
     let struct = struct_to disk held bytes a.superblock.1.0 same in
     let pairs = all_to (λ q. has_superblock V bytes q.content.slots) (λ q. BeginsWithSuperblock V held q.content.slots) (λ q. superblock_to V held bytes same q.content.slots) (chain_pairs ps) each in
     let pass : (is_struct disk bytes && list_all (λ q. has_superblock V bytes q.content.slots) (chain_pairs ps)) ≡ true = and_from (is_struct disk bytes) (list_all (λ q. has_superblock V bytes q.content.slots) (chain_pairs ps)) struct pairs in
@@ -220,14 +206,14 @@ is_list_if_ctz disk (Ctz head size) = is_list disk.blocks disk.block_size head s
 is_list_if_ctz disk (Inline bytes) = true
 is_list_if_ctz disk (Branch to) = true
 
-pub ctz_to : (disk : Disk) (s : Struct) → IsWellFormedCtz disk s → is_list_if_ctz disk s ≡ true
+pub ctz_to : (disk : Disk) (s : Struct) → IsFormedList disk s → is_list_if_ctz disk s ≡ true
 ctz_to disk (Ctz head size) h = list_to disk.blocks disk.block_size head size h
 ctz_to disk (Inline bytes) h = refl
 ctz_to disk (Branch to) h = refl
 
 -- a file's list isn't well formed
-pub fails_lists : (disk : Disk) (ps : List Pair) → list_all (λ s. is_list_if_ctz disk s.struct) (all_slots_not_moved ps) ≡ false → IsAccepted disk ps → ⊥
-fails_lists disk ps fails a = let e = all_to (λ s. is_list_if_ctz disk s.struct) (λ s. IsWellFormedCtz disk s.struct) (λ s. ctz_to disk s.struct) (all_slots_not_moved ps) a.lists in cc
+pub fails_lists : (disk : Disk) (ps : List Pair) → list_all (λ s. is_list_if_ctz disk s.struct) (all_unmoved_slots ps) ≡ false → IsAccepted disk ps → ⊥
+fails_lists disk ps fails a = let e = all_to (λ s. is_list_if_ctz disk s.struct) (λ s. IsFormedList disk s.struct) (λ s. ctz_to disk s.struct) (all_unmoved_slots ps) a.lists in cc
 
 -- ---- images that may not be written
 

@@ -1,13 +1,7 @@
 -- A pair that a hard tail names is at two other blocks, for the step that moves a worn pair: nothing else changes.
 use Rattle.std.proofs.Common.{◌≡◌, ◌<◌, ◌≤◌, true, false, List, [], ◌∷◌, ◌++◌, length, Some, refl, sym, ap, ap₂, subst, ◌∙◌, arith, append_assoc, append-nil, length-append}
 use Rattle.std.specs.Prelude.{All}
-use Rattle.std.proofs.lemmas.List.Elements.{recursion_from_All}
-use Rattle.lfs_model.specs.format.Disk.{Disk}
-use Rattle.lfs_model.specs.format.Slots.{Slot, PairContent, zero_gstate, FitsInPair, gstate_xor}
-use Rattle.lfs_model.specs.format.Thread.{Pair, address_blocks, is_hard_tail, pairs_gstate, starts_superblock, pair_count_before_root}
-use Rattle.lfs_model.specs.tree.View.{IsAccepted}
-use Rattle.lfs_model.specs.tree.Profile.{IsWritableSlot, HasNoEmpties, IsWritable}
-use Rattle.lfs_model.specs.layers.Steps.{ends_joined, IsWritableChange}
+use Rattle.lfs_model.proofs.Common.{recursion_from_All, Disk, Slot, PairContent, zero_gstate, FitsInPair, gstate_xor, Pair, address_blocks, is_hard_tail, pairs_gstate, starts_superblock, count_before_root, IsAccepted, IsWritableSlot, HasNoEmpties, IsWritable, ends_joined, IsWritableChange}
 use Rattle.lfs_model.proofs.Counts.{Each, each_right}
 use Rattle.lfs_model.proofs.Global.{HasNoMove, gstate_cons, gstate_kept, gstate_right}
 use Rattle.lfs_model.proofs.Listings.{IsRun}
@@ -96,7 +90,7 @@ relocate disk new chain front p x q y back r c = record { taken = taken; ready =
     few : length (chain ++ front) < length (chain ++ (front ++ p ∷ x ∷ back))
     few = omega (arith, length-append chain front, length-append chain (front ++ p ∷ x ∷ back), length-append front (p ∷ x ∷ back))
 
-    behind : pair_count_before_root (chain ++ (front ++ p ∷ x ∷ back)) ≤ length (chain ++ front)
+    behind : count_before_root (chain ++ (front ++ p ∷ x ∷ back)) ≤ length (chain ++ front)
     behind = let e = r.is_chain in omega (arith, e, length-append chain front)
 
     at : HasSite (chain ++ (front ++ p ∷ x ∷ back)) (length (chain ++ front))
@@ -129,11 +123,11 @@ relocate disk new chain front p x q y back r c = record { taken = taken; ready =
 
     -- as many superblock's pairs
     chain_length : length at.site.chain ≡ length chain
-    chain_length = sym at.is_site.chain ∙ ap pair_count_before_root (sym at.is) ∙ r.is_chain
+    chain_length = sym at.is_site.chain ∙ ap count_before_root (sym at.is) ∙ r.is_chain
 
     site : IsSite w (p ∷ x ∷ [])
     site = record {
-      chain = ap pair_count_before_root (sym old_is) ∙ r.is_chain ∙ sym chain_length;
+      chain = ap count_before_root (sym old_is) ∙ r.is_chain ∙ sym chain_length;
       ends = at.is_site.ends;
       run = subst (λ (z : Pair). IsRun (at.site.left ++ z ∷ x ∷ on.others)) same.pair (subst (λ (z : Pair). IsRun (at.site.left ++ at.pair ∷ z ∷ on.others)) next.0
           (subst (λ (z : List Pair). IsRun (at.site.left ++ at.pair ∷ z)) on.is at.is_site.run));
@@ -195,7 +189,7 @@ relocate disk new chain front p x q y back r c = record { taken = taken; ready =
       accepted = taken.follows.accepted;
       writable = taken.writable;
       no_move = subst (λ z. HasNoMove (pairs_gstate z)) (sym new_is) step.still_none;
-      is_chain = ap pair_count_before_root new_is
+      is_chain = ap count_before_root new_is
           ∙ chain_now disk new w.chain (w.before ++ w.left) p (x ∷ []) q (y ∷ []) (w.right ++ w.after) (address_blocks y.at ++ []) site.chain step.accepted
           (splice_change disk new w.chain (w.before ++ w.left) p (x ∷ []) q (y ∷ []) (w.right ++ w.after) (address_blocks y.at) [] (all_slots (p ∷ x ∷ [])) [] [] [] step.accepted step.no_move step.still_none step.device step.free
           step.shape.at (step.shape.links (w.right ++ w.after)) step.shape.front step.shape.blocks step.was step.is step.splice)

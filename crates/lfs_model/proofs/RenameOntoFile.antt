@@ -1,23 +1,14 @@
 -- A rename within one pair onto a file, from its commit alone; the file is after the old slot or before it.
 use Rattle.std.proofs.Common.{ℕ, ◌≡◌, true, false, not, List, [], ◌∷◌, ◌++◌, length, Some, None, refl, sym, ap, ◌∙◌, append_assoc, slice_get, remove, set}
-use Rattle.std.proofs.lemmas.List.Elements.{filter-append}
-use Rattle.std.proofs.Math.Seq.{set-append_seam}
-use Rattle.lfs_model.specs.format.Disk.{Disk}
-use Rattle.lfs_model.specs.format.Slots.{Slot, is_superblock, same_pair}
-use Rattle.lfs_model.specs.format.Thread.{Pair, blocks_of_pairs}
-use Rattle.lfs_model.specs.tree.Tree.{Path, branch_address}
-use Rattle.lfs_model.specs.tree.Shown.{LeadsTo, all_entries, tree_on_disk}
+use Rattle.lfs_model.proofs.Common.{filter-append, set-append_seam, Disk, Slot, is_superblock, same_pair, Pair, pairs_blocks, Path, branch_address, LeadsTo, all_entries, disk_tree, Session, path_or_root, entry_slots}
 use Rattle.lfs_model.specs.session.Operations as ops
-use Rattle.lfs_model.specs.session.Session.{Session}
-use Rattle.lfs_model.specs.session.Refusals.{path_or_root}
-use Rattle.lfs_model.specs.session.InDirectory.{entry_slots}
 use Rattle.lfs_model.proofs.Paths.{last_is}
 use Rattle.lfs_model.proofs.Sites.{Site, thread_at, begin_of}
 use Rattle.lfs_model.proofs.Moves.{place_at, shown_before, shown_behind, entry_only, get_here, remove_here}
 use Rattle.lfs_model.proofs.Renames.{entry_moves_onto}
 use Rattle.lfs_model.proofs.OneCommit.{slot_there}
 use Rattle.lfs_model.proofs.Indexes.{site_shows}
-use Rattle.lfs_model.proofs.Committed.{IsCompletion, IsCommit, commit_step, recovered_from, no_move_from}
+use Rattle.lfs_model.proofs.Committed.{CompletesOperation, IsCommit, commit_step, recovered_from, no_move_from}
 use Rattle.lfs_model.proofs.RenamedWithin.{within_completed}
 use Rattle.lfs_model.proofs.RenameSteps.{sibling_apart}
 
@@ -33,7 +24,7 @@ module _ (disk new : Disk) (w : Site) (p q : Pair) (more : List Pair) (l : List 
     (c : IsCommit disk new w p q more [] l (u ∷ (passed ++ target ∷ [])) (passed ++ record u { name = target.name } ∷ []) r) (other : is_superblock u ≡ false) (entry : is_superblock target ≡ false) (file : branch_address target.struct ≡ None)
     (differs : target.name ≡ u.name → ⊥)
     (P : Path) (a : ℕ × ℕ) (leads : LeadsTo (thread_at w (p ∷ [])) P a) (same : same_pair (begin_of w (p ∷ [])) a ≡ true)
-    (s : Session) (old_bytes new_bytes : List ℕ) (tree : s.tree ≡ tree_on_disk disk (thread_at w (p ∷ []))) (old_is : path_or_root old_bytes ≡ P ++ u.name ∷ []) (new_is : path_or_root new_bytes ≡ P ++ target.name ∷ []) where
+    (s : Session) (old_bytes new_bytes : List ℕ) (tree : s.tree ≡ disk_tree disk (thread_at w (p ∷ []))) (old_is : path_or_root old_bytes ≡ P ++ u.name ∷ []) (new_is : path_or_root new_bytes ≡ P ++ target.name ∷ []) where
   abbrev moved : Slot
   moved = record u { name = target.name }
 
@@ -67,13 +58,13 @@ module _ (disk new : Disk) (w : Site) (p q : Pair) (more : List Pair) (l : List 
   at_target = ap (λ z. slice_get z (length (shown_before w l ++ u ∷ entry_slots passed))) (shows ∙ sym (append_assoc (shown_before w l) (u ∷ entry_slots passed) (target ∷ shown_behind w r)))
       ∙ get_here (shown_before w l ++ u ∷ entry_slots passed) (shown_behind w r) target
 
-  pub onto_file_behind_completed : IsCompletion disk (thread_at w (p ∷ [])) s (ops.Rename old_bytes new_bytes) new (thread_at w (q ∷ more))
+  pub onto_file_behind_completed : CompletesOperation disk (thread_at w (p ∷ [])) s (ops.Rename old_bytes new_bytes) new (thread_at w (q ∷ more))
   onto_file_behind_completed = within_completed disk new w p q more l (u ∷ (passed ++ target ∷ [])) (passed ++ moved ∷ []) r c l u (passed ++ target ∷ r) (l ++ passed) (Some target) r target.name
       (c.was ∙ ap (λ z. l ++ u ∷ z) (append_assoc passed (target ∷ []) r)) (sym (append_assoc l passed (target ∷ r))) (ap (λ z. l ++ z) (append_assoc passed (moved ∷ []) r) ∙ sym (append_assoc l passed (moved ∷ r)))
       s old_bytes new_bytes (P ++ u.name ∷ []) (P ++ target.name ∷ []) tree old_is new_is (last_is P target.name)
       (slot_there disk (thread_at w (p ∷ [])) P a (place_at w l) u c.accepted leads at_old)
       (slot_there disk (thread_at w (p ∷ [])) P a (length (shown_before w l ++ u ∷ entry_slots passed)) target c.accepted leads at_target) file
-      _ (entry_moves_onto disk new w p [] q more (blocks_of_pairs more) [] l (u ∷ (passed ++ target ∷ [])) (passed ++ moved ∷ []) r (commit_step disk new w p q more [] l (u ∷ (passed ++ target ∷ [])) (passed ++ moved ∷ []) r c)
+      _ (entry_moves_onto disk new w p [] q more (pairs_blocks more) [] l (u ∷ (passed ++ target ∷ [])) (passed ++ moved ∷ []) r (commit_step disk new w p q more [] l (u ∷ (passed ++ target ∷ [])) (passed ++ moved ∷ []) r c)
       P a leads same (place_at w l) u at_old number target there shown_moved (sibling_apart P u.name target.name differs) (λ e. (file, (recovered_from disk (thread_at w (p ∷ [])) c.accepted c.settled).reached)))
 
 -- the file is before it
@@ -81,7 +72,7 @@ module _ (disk new : Disk) (w : Site) (p q : Pair) (more : List Pair) (l : List 
     (c : IsCommit disk new w p q more [] l (target ∷ (passed ++ u ∷ [])) (record u { name = target.name } ∷ passed) r) (other : is_superblock u ≡ false) (entry : is_superblock target ≡ false) (file : branch_address target.struct ≡ None)
     (differs : target.name ≡ u.name → ⊥)
     (P : Path) (a : ℕ × ℕ) (leads : LeadsTo (thread_at w (p ∷ [])) P a) (same : same_pair (begin_of w (p ∷ [])) a ≡ true)
-    (s : Session) (old_bytes new_bytes : List ℕ) (tree : s.tree ≡ tree_on_disk disk (thread_at w (p ∷ []))) (old_is : path_or_root old_bytes ≡ P ++ u.name ∷ []) (new_is : path_or_root new_bytes ≡ P ++ target.name ∷ []) where
+    (s : Session) (old_bytes new_bytes : List ℕ) (tree : s.tree ≡ disk_tree disk (thread_at w (p ∷ []))) (old_is : path_or_root old_bytes ≡ P ++ u.name ∷ []) (new_is : path_or_root new_bytes ≡ P ++ target.name ∷ []) where
   abbrev moved2 : Slot
   moved2 = record u { name = target.name }
 
@@ -114,11 +105,11 @@ module _ (disk new : Disk) (w : Site) (p q : Pair) (more : List Pair) (l : List 
   at_target2 = ap (λ z. slice_get z (place_at w l)) (shows2 ∙ append_assoc (shown_before w l) (target ∷ entry_slots passed) (u ∷ shown_behind w r))
       ∙ get_here (shown_before w l) (entry_slots passed ++ u ∷ shown_behind w r) target
 
-  pub onto_file_ahead_completed : IsCompletion disk (thread_at w (p ∷ [])) s (ops.Rename old_bytes new_bytes) new (thread_at w (q ∷ more))
+  pub onto_file_ahead_completed : CompletesOperation disk (thread_at w (p ∷ [])) s (ops.Rename old_bytes new_bytes) new (thread_at w (q ∷ more))
   onto_file_ahead_completed = within_completed disk new w p q more l (target ∷ (passed ++ u ∷ [])) (moved2 ∷ passed) r c (l ++ target ∷ passed) u r l (Some target) (passed ++ r) target.name
       (c.was ∙ ap (λ z. l ++ target ∷ z) (append_assoc passed (u ∷ []) r) ∙ sym (append_assoc l (target ∷ passed) (u ∷ r))) (append_assoc l (target ∷ passed) r) refl
       s old_bytes new_bytes (P ++ u.name ∷ []) (P ++ target.name ∷ []) tree old_is new_is (last_is P target.name)
       (slot_there disk (thread_at w (p ∷ [])) P a old_number u c.accepted leads at_old2)
       (slot_there disk (thread_at w (p ∷ [])) P a (place_at w l) target c.accepted leads at_target2) file
-      _ (entry_moves_onto disk new w p [] q more (blocks_of_pairs more) [] l (target ∷ (passed ++ u ∷ [])) (moved2 ∷ passed) r (commit_step disk new w p q more [] l (target ∷ (passed ++ u ∷ [])) (moved2 ∷ passed) r c)
+      _ (entry_moves_onto disk new w p [] q more (pairs_blocks more) [] l (target ∷ (passed ++ u ∷ [])) (moved2 ∷ passed) r (commit_step disk new w p q more [] l (target ∷ (passed ++ u ∷ [])) (moved2 ∷ passed) r c)
       P a leads same old_number u at_old2 (place_at w l) target there2 shown_moved2 (sibling_apart P u.name target.name differs) (λ e. (file, (recovered_from disk (thread_at w (p ∷ [])) c.accepted c.settled).reached)))

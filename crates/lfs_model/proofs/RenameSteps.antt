@@ -1,22 +1,10 @@
 -- A rename within one pair, from its commit alone: to a name that is new, which is after the old slot or before it.
 use Rattle.std.proofs.Common.{ℕ, zero, suc, ◌≡◌, ◌<◌, ◌≤◌, ⊎_elim, true, false, not, List, [], ◌∷◌, ◌++◌, length, Some, None, refl, sym, ap, subst, ◌∙◌, arith, append_assoc, length-append, get_or, slice_get, remove}
-use Rattle.std.specs.List.{insert}
+use Rattle.lfs_model.proofs.Common.{insert, cases_lt, filter-append, Disk, Name, name_cmp, Slot, is_superblock, same_pair, Pair, pairs_blocks, Path, LeadsTo, all_entries, disk_tree, tree_renaming, without_prefix, Session, path_or_root, entry_slots, all_slots}
 use Rattle.std.specs.declared.cmp.Ordering.TheVariants.{Less}
-use Rattle.std.proofs.lemmas.Bool.{cases_lt}
-use Rattle.std.proofs.lemmas.List.Elements.{filter-append}
 use Rattle.lfs_model.proofs.Orders.{less_differs}
 use Rattle.lfs_model.specs.declared.order.NameOrder.{NameOrder}
-use Rattle.lfs_model.specs.format.Disk.{Disk}
-use Rattle.lfs_model.specs.format.Names.{Name, name_cmp}
-use Rattle.lfs_model.specs.format.Slots.{Slot, is_superblock, same_pair}
-use Rattle.lfs_model.specs.format.Thread.{Pair, blocks_of_pairs}
-use Rattle.lfs_model.specs.tree.Tree.{Path}
-use Rattle.lfs_model.specs.tree.Shown.{LeadsTo, all_entries, tree_on_disk}
-use Rattle.lfs_model.specs.session.TreeEdits.{tree_renaming, without_prefix}
 use Rattle.lfs_model.specs.session.Operations as ops
-use Rattle.lfs_model.specs.session.Session.{Session}
-use Rattle.lfs_model.specs.session.Refusals.{path_or_root}
-use Rattle.lfs_model.specs.session.InDirectory.{entry_slots, all_slots}
 use Rattle.lfs_model.proofs.Edits.{not_after}
 use Rattle.lfs_model.proofs.Paths.{last_is}
 use Rattle.lfs_model.proofs.Names.{IsPlace}
@@ -26,7 +14,7 @@ use Rattle.lfs_model.proofs.Changes.{IsChangedImage}
 use Rattle.lfs_model.proofs.Renames.{entry_moves, renamed_addresses}
 use Rattle.lfs_model.proofs.OneCommit.{slot_there}
 use Rattle.lfs_model.proofs.Indexes.{site_shows, nothing_there}
-use Rattle.lfs_model.proofs.Committed.{IsCompletion, IsCommit, commit_step, recovered_from, no_move_from}
+use Rattle.lfs_model.proofs.Committed.{CompletesOperation, IsCommit, commit_step, recovered_from, no_move_from}
 use Rattle.lfs_model.proofs.RenamedWithin.{within_completed}
 
 -- ---- names and places
@@ -141,11 +129,11 @@ module _ (disk new : Disk) (w : Site) (p q : Pair) (more : List Pair) (l : List 
   differs = behind_differs ahead u rest number name (omega (arith, length-append (shown_before w l) (entry_slots passed))) place_there
 
   pub behind_follows : IsChangedImage disk (thread_at w (p ∷ [])) new (thread_at w (q ∷ more)) (tree_renaming (P ++ u.name ∷ []) (P ++ name ∷ [])) (renamed_addresses (P ++ u.name ∷ []) (P ++ name ∷ []))
-  behind_follows = entry_moves disk new w p [] q more (blocks_of_pairs more) [] l (u ∷ passed) (passed ++ moved ∷ []) r (commit_step disk new w p q more [] l (u ∷ passed) (passed ++ moved ∷ []) r c)
+  behind_follows = entry_moves disk new w p [] q more (pairs_blocks more) [] l (u ∷ passed) (passed ++ moved ∷ []) r (commit_step disk new w p q more [] l (u ∷ passed) (passed ++ moved ∷ []) r c)
       P a leads same (place_at w l) u at_old name number shown_moved (sibling_apart P u.name name differs) new_place (λ e. (recovered_from disk (thread_at w (p ∷ [])) c.accepted c.settled).reached)
 
-  pub renamed_behind_completed : (s : Session) (old_bytes new_bytes : List ℕ) → s.tree ≡ tree_on_disk disk (thread_at w (p ∷ [])) → path_or_root old_bytes ≡ P ++ u.name ∷ [] → path_or_root new_bytes ≡ P ++ name ∷ []
-      → IsCompletion disk (thread_at w (p ∷ [])) s (ops.Rename old_bytes new_bytes) new (thread_at w (q ∷ more))
+  pub renamed_behind_completed : (s : Session) (old_bytes new_bytes : List ℕ) → s.tree ≡ disk_tree disk (thread_at w (p ∷ [])) → path_or_root old_bytes ≡ P ++ u.name ∷ [] → path_or_root new_bytes ≡ P ++ name ∷ []
+      → CompletesOperation disk (thread_at w (p ∷ [])) s (ops.Rename old_bytes new_bytes) new (thread_at w (q ∷ more))
   renamed_behind_completed s old_bytes new_bytes tree old_is new_is = within_completed disk new w p q more l (u ∷ passed) (passed ++ moved ∷ []) r c l u (passed ++ r) (l ++ passed) None r name
       c.was (sym (append_assoc l passed r)) (ap (λ z. l ++ z) (append_assoc passed (moved ∷ []) r) ∙ sym (append_assoc l passed (moved ∷ r)))
       s old_bytes new_bytes (P ++ u.name ∷ []) (P ++ name ∷ []) tree old_is new_is (last_is P name)
@@ -195,12 +183,12 @@ module _ (disk new : Disk) (w : Site) (p q : Pair) (more : List Pair) (l : List 
       ∙ ap (λ z. insert z (place_at w l) moved2) (sym (append_assoc (shown_before w l) (entry_slots passed) (shown_behind w r)) ∙ sym left_over2)
 
   pub ahead_follows : IsChangedImage disk (thread_at w (p ∷ [])) new (thread_at w (q ∷ more)) (tree_renaming (P ++ u.name ∷ []) (P ++ name ∷ [])) (renamed_addresses (P ++ u.name ∷ []) (P ++ name ∷ []))
-  ahead_follows = entry_moves disk new w p [] q more (blocks_of_pairs more) [] l (passed ++ u ∷ []) (moved2 ∷ passed) r (commit_step disk new w p q more [] l (passed ++ u ∷ []) (moved2 ∷ passed) r c)
+  ahead_follows = entry_moves disk new w p [] q more (pairs_blocks more) [] l (passed ++ u ∷ []) (moved2 ∷ passed) r (commit_step disk new w p q more [] l (passed ++ u ∷ []) (moved2 ∷ passed) r c)
       P a leads same old_number u at_old2 name (place_at w l) shown_moved2 (sibling_apart P u.name name (ahead_differs ahead2 u (shown_behind w r) (place_at w l) name few place_there2)) new_place2
       (λ e. (recovered_from disk (thread_at w (p ∷ [])) c.accepted c.settled).reached)
 
-  pub renamed_ahead_completed : (s : Session) (old_bytes new_bytes : List ℕ) → s.tree ≡ tree_on_disk disk (thread_at w (p ∷ [])) → path_or_root old_bytes ≡ P ++ u.name ∷ [] → path_or_root new_bytes ≡ P ++ name ∷ []
-      → IsCompletion disk (thread_at w (p ∷ [])) s (ops.Rename old_bytes new_bytes) new (thread_at w (q ∷ more))
+  pub renamed_ahead_completed : (s : Session) (old_bytes new_bytes : List ℕ) → s.tree ≡ disk_tree disk (thread_at w (p ∷ [])) → path_or_root old_bytes ≡ P ++ u.name ∷ [] → path_or_root new_bytes ≡ P ++ name ∷ []
+      → CompletesOperation disk (thread_at w (p ∷ [])) s (ops.Rename old_bytes new_bytes) new (thread_at w (q ∷ more))
   renamed_ahead_completed s old_bytes new_bytes tree old_is new_is = within_completed disk new w p q more l (passed ++ u ∷ []) (moved2 ∷ passed) r c (l ++ passed) u r l None (passed ++ r) name
       (c.was ∙ ap (λ z. l ++ z) (append_assoc passed (u ∷ []) r) ∙ sym (append_assoc l passed (u ∷ r))) (append_assoc l passed r) refl
       s old_bytes new_bytes (P ++ u.name ∷ []) (P ++ name ∷ []) tree old_is new_is (last_is P name)

@@ -1,22 +1,8 @@
 -- A rename within one pair onto an empty directory: one commit puts the slot under the name, the next drops the directory's pair.
 use Rattle.std.proofs.Common.{ℕ, ◌≡◌, ◌⊎◌, inl, inr, Bool, true, false, cond, List, [], ◌∷◌, ◌++◌, Option, Some, None, refl, sym, ap, ap₂, subst, ◌∙◌, append_assoc, append-nil}
 use Rattle.std.specs.Prelude.{Any}
-use Rattle.std.proofs.lemmas.List.Elements.{recursion_from_All}
-use Rattle.std.proofs.lemmas.Option.{same_Some}
-use Rattle.lfs_model.specs.format.Disk.{Disk}
-use Rattle.lfs_model.specs.format.Slots.{Slot, Struct, Inline, Ctz, Branch, zero_gstate, same_pair}
-use Rattle.lfs_model.specs.format.Thread.{Pair, pairs_gstate, is_hard_tail, pair_count_before_root, pairs_from_root, ThreadDirectory}
-use Rattle.lfs_model.specs.tree.Tree.{Path, branch_address}
-use Rattle.lfs_model.specs.tree.View.{IsAccepted}
-use Rattle.lfs_model.specs.tree.Shown.{IsReachedBySome, all_directories, tree_on_disk}
-use Rattle.lfs_model.specs.tree.Profile.{IsWritable}
-use Rattle.lfs_model.specs.format.Names.{Name}
-use Rattle.lfs_model.specs.session.TreeEdits.{last_name, tree_renaming, without_prefix, same_path}
+use Rattle.lfs_model.proofs.Common.{recursion_from_All, same_Some, Disk, Slot, Struct, Inline, Ctz, Branch, zero_gstate, same_pair, Pair, pairs_gstate, is_hard_tail, count_before_root, pairs_from_root, ThreadDirectory, Path, branch_address, IsAccepted, IsReachedBySome, all_directories, disk_tree, IsWritable, Name, last_name, tree_renaming, without_prefix, same_path, Session, path_or_root, pair_with_slots, slot_of, ReplacesSlots, RemovesSlot, IsDirectoryGone, slot_addresses, removed_addresses, directory_address, continued_address, IsLayout}
 use Rattle.lfs_model.specs.session.Operations as ops
-use Rattle.lfs_model.specs.session.Session.{Session}
-use Rattle.lfs_model.specs.session.Refusals.{path_or_root}
-use Rattle.lfs_model.specs.session.SlotEdits.{pair_with_slots, slot_of, ReplacesSlots, RemovesSlot}
-use Rattle.lfs_model.specs.session.Layout.{IsDirectoryGone, slot_addresses, removed_addresses, directory_address, continued_address, IsLayout}
 use Rattle.lfs_model.proofs.Counts.{Each, each_append, each_left, each_right, each_weaker}
 use Rattle.lfs_model.proofs.Superblocks.{IsChain, pairs_behind}
 use Rattle.lfs_model.proofs.Laws.{PathAddresses}
@@ -24,7 +10,7 @@ use Rattle.lfs_model.proofs.Changes.{IsChangedImage}
 use Rattle.lfs_model.proofs.Sites.{any_from}
 use Rattle.lfs_model.proofs.Layouts.{onward_all, NoneGoes, none_goes_left, none_goes_right, none_where, rest_all}
 use Rattle.lfs_model.proofs.KeptStructs.{structs_left, renaming_leaves}
-use Rattle.lfs_model.proofs.Committed.{IsCompletion, recovered_from, nothing_moved}
+use Rattle.lfs_model.proofs.Committed.{CompletesOperation, recovered_from, nothing_moved}
 use Rattle.lfs_model.proofs.Alike.{SameSlots, stood_alike, Stood, stand_apart}
 use Rattle.lfs_model.proofs.TwoPlaces.{two, splice_old}
 use Rattle.lfs_model.proofs.Splices.{all_slots}
@@ -68,7 +54,7 @@ pub record IsRenameWithinOnto (disk new : Disk) (rs : List Pair) (b : Bool) (cha
 module _ (disk new : Disk) (rs : List Pair) (b : Bool) (chain front mid back : List Pair) (p o q : Pair) (more : List Pair)
     (lo : List Slot) (u : Slot) (ro l : List Slot) (target : Slot) (r : List Slot) (d : ℕ × ℕ) (old_path new_path : Path) (name : Name)
     (c : IsRenameWithinOnto disk new rs b chain front mid back p o q more lo u ro l target r d old_path new_path name)
-    (s : Session) (old_bytes new_bytes : List ℕ) (tree : s.tree ≡ tree_on_disk disk (chain ++ two b front (p ∷ []) mid (o ∷ []) back))
+    (s : Session) (old_bytes new_bytes : List ℕ) (tree : s.tree ≡ disk_tree disk (chain ++ two b front (p ∷ []) mid (o ∷ []) back))
     (old_is : path_or_root old_bytes ≡ old_path) (new_is : path_or_root new_bytes ≡ new_path) where
   abbrev ps : List Pair
   ps = chain ++ two b front (p ∷ []) mid (o ∷ []) back
@@ -132,7 +118,7 @@ module _ (disk new : Disk) (rs : List Pair) (b : Bool) (chain front mid back : L
   )
 
   abbrev Holds : Bool → Type 0
-  Holds t = Stood disk Goes_ (pair_count_before_root (chain ++ two t front (p ∷ []) mid (o ∷ []) back)) None (chain ++ two t front (pair_with_slots (l ++ record u { name = name } ∷ r) p ∷ []) mid (o ∷ []) back) (chain ++ two t front (q ∷ more) mid [] back)
+  Holds t = Stood disk Goes_ (count_before_root (chain ++ two t front (p ∷ []) mid (o ∷ []) back)) None (chain ++ two t front (pair_with_slots (l ++ record u { name = name } ∷ r) p ∷ []) mid (o ∷ []) back) (chain ++ two t front (q ∷ more) mid [] back)
 
   stood_by : (t : Bool) → IsChain chain (two t front (p ∷ []) mid (o ∷ []) back) → IsWritable disk (chain ++ two t front (p ∷ []) mid (o ∷ []) back) →
       NoneGoes (λ x. IsReachedBySome ps x → ⊥) None (two t front (p ∷ []) mid (o ∷ []) back) → Each (λ x. same_pair x.at d ≡ false) (two t front (p ∷ []) mid [] back) →
@@ -145,7 +131,7 @@ module _ (disk new : Disk) (rs : List Pair) (b : Bool) (chain front mid back : L
       (each_append (λ (x : Pair). same_pair x.at d ≡ false) front (p ∷ mid) a.0 (a.1.0, m.0)) m.1 in
       let behind = none_goes_right Goes_ None front (p ∷ mid) n.0 in
       let start : onward_all (onward_all (onward_all None front) (p ∷ [])) mid ≡ None = sym (onward_append None front (p ∷ mid)) ∙ begins in
-      subst (Stood disk Goes_ (pair_count_before_root (chain ++ two true front (p ∷ []) mid (o ∷ []) back)) None (chain ++ two true front (pair_with_slots (l ++ record u { name = name } ∷ r) p ∷ []) mid (o ∷ []) back))
+      subst (Stood disk Goes_ (count_before_root (chain ++ two true front (p ∷ []) mid (o ∷ []) back)) None (chain ++ two true front (pair_with_slots (l ++ record u { name = name } ∷ r) p ∷ []) mid (o ∷ []) back))
       (ap (λ x. chain ++ (front ++ (x ++ (mid ++ back)))) (append-nil (q ∷ more)))
       (stand_apart disk Goes_ chain front (p ∷ []) (pair_with_slots (l ++ record u { name = name } ∷ r) p ∷ []) mid (o ∷ []) (o ∷ []) back ((q ∷ more) ∷ []) ([] ∷ []) is_chain ok
       (none_goes_left Goes_ None front (p ∷ mid) n.0) behind.1 (subst (λ z. NoneGoes Goes_ z back) (sym (ends_there (onward_all (onward_all (onward_all None front) (p ∷ [])) mid))) n.1)
@@ -157,7 +143,7 @@ module _ (disk new : Disk) (rs : List Pair) (b : Bool) (chain front mid back : L
       let n = none_around front (mid ++ (p ∷ [] ++ back)) reached a.0 a.1 in
       let start = ends_there (onward_all None front) in
       let second = none_goes_right Goes_ None mid (p ∷ back) n.1 in
-      subst (Stood disk Goes_ (pair_count_before_root (chain ++ two false front (p ∷ []) mid (o ∷ []) back)) None (chain ++ two false front (pair_with_slots (l ++ record u { name = name } ∷ r) p ∷ []) mid (o ∷ []) back))
+      subst (Stood disk Goes_ (count_before_root (chain ++ two false front (p ∷ []) mid (o ∷ []) back)) None (chain ++ two false front (pair_with_slots (l ++ record u { name = name } ∷ r) p ∷ []) mid (o ∷ []) back))
       (ap (λ x. chain ++ (front ++ (mid ++ (x ++ back)))) (append-nil (q ∷ more)))
       (stand_apart disk Goes_ chain front (o ∷ []) (o ∷ []) mid (p ∷ []) (pair_with_slots (l ++ record u { name = name } ∷ r) p ∷ []) back ([] ∷ []) ((q ∷ more) ∷ []) is_chain ok
       n.0 (subst (λ z. NoneGoes Goes_ z mid) (sym start) (none_goes_left Goes_ None mid (p ∷ back) n.1))
@@ -166,10 +152,10 @@ module _ (disk new : Disk) (rs : List Pair) (b : Bool) (chain front mid back : L
       (λ h. (inl (subst (λ z. Goes_ (directory_address z o)) (sym begins) goes_there), tt))
       (λ h. (became_stands disk _ _ p (pair_with_slots (l ++ record u { name = name } ∷ r) p) q more c.at c.is c.became (subst (λ z. NoneGoes Goes_ (onward_all z mid) (p ∷ [])) (sym start) (second.0, tt)).0 (λ e. some_filled l r (record u { name = name })), tt)))
 
-  stood : Stood disk Goes_ (pair_count_before_root ps) None drafts rs
+  stood : Stood disk Goes_ (count_before_root ps) None drafts rs
   stood =
       let t = stood_by b c.is_chain c.writable all_reached c.apart c.begins in
-      stood_alike disk Goes_ (pair_count_before_root ps) None drafts t.parts rs t.stand (subst (λ z. SameSlots z rs) (sym t.joined) c.alike)
+      stood_alike disk Goes_ (count_before_root ps) None drafts t.parts rs t.stand (subst (λ z. SameSlots z rs) (sym t.joined) c.alike)
 
   pub within_onto_laid_out : IsLayout disk ps s op new rs
   within_onto_laid_out = record {
@@ -198,12 +184,12 @@ module _ (disk new : Disk) (rs : List Pair) (b : Bool) (chain front mid back : L
     is = sym (append-nil rs);
   }
 
-  pub within_onto_completed : IsCompletion disk ps s op new rs
+  pub within_onto_completed : CompletesOperation disk ps s op new rs
   within_onto_completed = record {
     accepted = c.follows.accepted;
     writable = c.still_writable;
     recovered = recovered_from new rs c.follows.accepted c.still;
-    tree = λ around. c.follows.shows ∙ sym (ap (λ z. tree_renaming (path_or_root old_bytes) (path_or_root new_bytes) z) tree ∙ ap₂ (λ x y. tree_renaming x y (tree_on_disk disk ps)) old_is new_is);
+    tree = λ around. c.follows.shows ∙ sym (ap (λ z. tree_renaming (path_or_root old_bytes) (path_or_root new_bytes) z) tree ∙ ap₂ (λ x y. tree_renaming x y (disk_tree disk ps)) old_is new_is);
     laid_out = within_onto_laid_out;
-    structs = structs_left disk ps new rs (tree_renaming old_path new_path) c.walk s op c.follows (renaming_leaves (tree_on_disk disk ps) s old_bytes new_bytes old_path new_path old_is new_is);
+    structs = structs_left disk ps new rs (tree_renaming old_path new_path) c.walk s op c.follows (renaming_leaves (disk_tree disk ps) s old_bytes new_bytes old_path new_path old_is new_is);
   }

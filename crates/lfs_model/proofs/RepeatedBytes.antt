@@ -2,13 +2,11 @@
 -- it is invalid, since it is decoded with the same bytes.
 use Rattle.std.proofs.Common.{ℕ, zero, suc, ◌≡◌, ◌-◌, ◌^◌, ◌<◌, ◌≤◌, ◌==◌, ◌||◌, ◌&&◌, not, Bool, true, false, List, replicate, Some, None, refl, sym, ap, ◌∙◌, arith, bit_xor}
 use Rattle.std.specs.Prelude.{nat_le}
-use Rattle.std.specs.Option.{option_map}
-use Rattle.std.proofs.lemmas.Bool.{and_parts}
-use Rattle.std.proofs.lemmas.Bool.Decides.{nat_tests}
+use Rattle.lfs_model.proofs.Common.{option_map, and_parts, nat_tests, tag_type, LogEntry, CommitSequence, with_entry, entry_end, is_checksum_entry, commit_at}
 use Rattle.std.proofs.lemmas.List.{drop-replicate, length-replicate}
 use Rattle.byteorder.specs.Endian.{big_number}
-use Rattle.lfs_model.specs.format.Tag.{tag_type, is_commit_end}
-use Rattle.lfs_model.specs.format.Log.{LogEntry, CommitSequence, with_entry, entry_at, entry_end, is_checksum_entry, closes, commit_at, chain_of, committed_log, block_revision}
+use Rattle.lfs_model.specs.format.Tag.{is_commit_end}
+use Rattle.lfs_model.specs.format.Log.{entry_at, closes, chain_of, committed_log, block_revision}
 use Rattle.lfs_model.specs.crash.Stops.{HasNoLog}
 use Rattle.lfs_model.proofs.Chains.{lies, commit_none, commit_refused, commit_on, chain_none}
 use Rattle.lfs_model.proofs.Skips.{all_below, below_from}

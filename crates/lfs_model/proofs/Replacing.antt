@@ -1,14 +1,7 @@
 -- A rename onto an empty directory: no path leads to that one any more, and every other directory is still reached. So its pair may go.
 use Rattle.std.proofs.Common.{ℕ, ◌≡◌, ◌⊎◌, inl, inr, true, false, List, [], ◌∷◌, ◌++◌, Option, Some, None, sym, ap, subst, ◌∙◌, append-nil}
 use Rattle.std.specs.Prelude.{All}
-use Rattle.std.proofs.lemmas.List.Elements.{All-from_recursion, recursion_from_All}
-use Rattle.std.proofs.lemmas.Option.{same_Some}
-use Rattle.lfs_model.specs.format.Disk.{Disk}
-use Rattle.lfs_model.specs.format.Slots.{same_pair}
-use Rattle.lfs_model.specs.format.Thread.{Pair, ThreadDirectory, is_hard_tail, root_address}
-use Rattle.lfs_model.specs.tree.Tree.{Path, address_at_path}
-use Rattle.lfs_model.specs.session.TreeEdits.{without_prefix, tree_with_subtree, tree_renaming}
-use Rattle.lfs_model.specs.tree.Shown.{IsReachedBySome, all_directories, all_entries}
+use Rattle.lfs_model.proofs.Common.{All-from_recursion, recursion_from_All, same_Some, Disk, same_pair, Pair, ThreadDirectory, is_hard_tail, root_address, Path, address_at_path, without_prefix, tree_with_subtree, tree_renaming, IsReachedBySome, all_directories, all_entries}
 use Rattle.lfs_model.proofs.LeftFiles.{ends_same}
 use Rattle.lfs_model.proofs.Paths.{IsBelowOrAside, beyond, aside, rest, rest_itself}
 use Rattle.lfs_model.proofs.Pairs.{pair_back, pair_on}

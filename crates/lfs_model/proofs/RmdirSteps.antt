@@ -1,15 +1,6 @@
 -- An empty directory is removed by the steps themselves: its entry goes with the sync bit set, and then its pair goes from the thread.
 use Rattle.std.proofs.Common.{ℕ, ◌≡◌, ◌⊎◌, inl, inr, true, false, List, [], ◌∷◌, ◌++◌, Some, None, sym, ap, subst}
-use Rattle.std.proofs.lemmas.List.Elements.{All-from_recursion, recursion_from_All}
-use Rattle.lfs_model.specs.format.Disk.{Disk}
-use Rattle.lfs_model.specs.format.Slots.{Slot, Branch, zero_gstate, is_superblock, same_pair}
-use Rattle.lfs_model.specs.format.Thread.{Pair, ThreadDirectory, pairs_gstate, is_hard_tail}
-use Rattle.lfs_model.specs.tree.Tree.{Path}
-use Rattle.lfs_model.specs.tree.View.{IsAccepted}
-use Rattle.lfs_model.specs.tree.Shown.{IsReachedBySome, LeadsTo, all_directories, all_entries}
-use Rattle.lfs_model.specs.tree.Profile.{IsWritable}
-use Rattle.lfs_model.specs.session.TreeEdits.{tree_removing, tree_with_subtree}
-use Rattle.lfs_model.specs.session.SlotEdits.{slot_of}
+use Rattle.lfs_model.proofs.Common.{All-from_recursion, recursion_from_All, Disk, Slot, Branch, zero_gstate, is_superblock, same_pair, Pair, ThreadDirectory, pairs_gstate, is_hard_tail, Path, IsAccepted, IsReachedBySome, LeadsTo, all_directories, all_entries, IsWritable, tree_removing, tree_with_subtree, slot_of}
 use Rattle.lfs_model.proofs.LeftFiles.{ends_same}
 use Rattle.lfs_model.proofs.Counts.{each_weaker}
 use Rattle.lfs_model.proofs.Pairs.{pair_back, pair_on}

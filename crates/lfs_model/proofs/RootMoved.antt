@@ -1,24 +1,10 @@
 -- The root directory begins at another pair, for the step that moves a worn one: the image shows the same tree.
 use Rattle.std.proofs.Common.{ℕ, ◌≡◌, inl, inr, ◌+◌, ◌<◌, ◌≤◌, Bool, true, false, cond, not, nat_eq, ◌&&◌, List, [], ◌∷◌, ◌++◌, length, Some, refl, sym, ap, ap₂, subst, ◌∙◌, arith, filter, option_and_then, AllPairs, Less}
 use Rattle.std.specs.Prelude.{All}
-use Rattle.std.specs.Option.{option_map}
+use Rattle.lfs_model.proofs.Common.{option_map, false_from_ne_true, and_parts, All-from_recursion, recursion_from_All, flat_map-append, Disk, SameGeometry, block_count, Name, name_cmp, superblock_fields, Slot, Inline, Ctz, Branch, Gstate, is_superblock, same_pair, content_at, current_block, Pair, anchor_address, AreLinked, from_first_slots, is_hard_tail, has_no_entry, may_continue, has_superblock, count_before_root, IsThread, pairs_blocks, pairs_gstate, pairs_from_root, root_address, first_address, slots_not_moved, unmoved_entries, ThreadDirectory, directories_with_pair, pair_directories, directory_slots, BeginsAt, Path, EntryMap, entry_named, branch_address, slot_at_path, root_slot, address_at_path, names_at, struct_node, beneath_slot, beneath_root, all_directories, all_entries, LeadsTo, IsReachedBySome, struct_list_bytes, struct_blocks, disk_tree, all_unmoved_slots, used_blocks, accepts_version, IsSuperblock, BeginsWith, superblock_entry, IsSuperblockFirst, SuperblockFirstIfAny, HasStruct, BeginsWithSuperblock, first_slot_name, chain_pairs, IsFormedList, IsAccepted, slot_of, number_occurrences, AnyByRecursion, KeepsStruct}
 use Rattle.std.specs.List.{IsDistinct}
-use Rattle.std.proofs.lemmas.Bool.{false_from_ne_true, and_parts}
-use Rattle.std.proofs.lemmas.List.Elements.{All-from_recursion, recursion_from_All}
-use Rattle.std.proofs.lemmas.List.Concat.{flat_map-append}
 use Rattle.lfs_model.specs.declared.limits.AcceptedVersions.{AcceptedVersions}
 use Rattle.lfs_model.specs.declared.limits.Profile.{Profile}
-use Rattle.lfs_model.specs.format.Disk.{Disk, SameGeometry, block_count}
-use Rattle.lfs_model.specs.format.Names.{Name, name_cmp}
-use Rattle.lfs_model.specs.format.EntryTypes.{superblock_fields}
-use Rattle.lfs_model.specs.format.Slots.{Slot, Inline, Ctz, Branch, Gstate, is_superblock, same_pair}
-use Rattle.lfs_model.specs.format.Content.{content_at, current_block}
-use Rattle.lfs_model.specs.format.Thread.{Pair, anchor_address, AreLinked, from_first_slots, is_hard_tail, has_no_entry, may_continue, has_superblock, pair_count_before_root, IsThread, blocks_of_pairs, pairs_gstate, pairs_from_root, root_address, first_address, slots_not_moved, unmoved_entries, ThreadDirectory, directories_with_pair, pair_directories, directory_slots, BeginsAt}
-use Rattle.lfs_model.specs.tree.Tree.{Path, EntryMap, entry_named, branch_address, slot_at_path, root_slot, address_at_path, names_at, struct_node, beneath_slot, beneath_root}
-use Rattle.lfs_model.specs.tree.Shown.{all_directories, all_entries, LeadsTo, IsReachedBySome, struct_list_bytes, struct_blocks, tree_on_disk, all_slots_not_moved, used_blocks}
-use Rattle.lfs_model.specs.tree.View.{accepts_version, IsSuperblock, BeginsWith, superblock_entry, IsSuperblockFirst, SuperblockFirstIfAny, HasStruct, BeginsWithSuperblock, first_slot_name, chain_pairs, IsWellFormedCtz, IsAccepted}
-use Rattle.lfs_model.specs.session.SlotEdits.{slot_of}
-use Rattle.lfs_model.specs.layers.Steps.{number_count, HoldsOfSome, KeepsStruct}
 use Rattle.lfs_model.proofs.Counts.{Each, each_append, each_right, each_both, each_pieces, each_counted, each_from_counted, count_append, once_from_distinct, distinct_from_once}
 use Rattle.lfs_model.proofs.Global.{HasNoMove, unmoved_all}
 use Rattle.lfs_model.proofs.Files.{SameFileBlocks, is_list_same, contents_same}
@@ -37,7 +23,7 @@ pub chain_bare : (chain dirs : List Pair) → IsChain chain dirs → Each (λ q.
 chain_bare [] dirs h = tt
 chain_bare (c ∷ chain) dirs h = go (has_superblock (chain ++ dirs) && may_continue c) refl h (chain_bare chain dirs)
   where
-    go : (t : Bool) → (has_superblock (chain ++ dirs) && may_continue c) ≡ t → cond t (1 + pair_count_before_root (chain ++ dirs)) 0 ≡ length (c ∷ chain) →
+    go : (t : Bool) → (has_superblock (chain ++ dirs) && may_continue c) ≡ t → cond t (1 + count_before_root (chain ++ dirs)) 0 ≡ length (c ∷ chain) →
         (IsChain chain dirs → Each (λ q. has_no_entry q.content.slots ≡ true) chain) → Each (λ q. has_no_entry q.content.slots ≡ true) (c ∷ chain)
     go true e k next = ((and_parts (has_no_entry c.content.slots) (is_hard_tail c.content.tail) (and_parts (has_superblock (chain ++ dirs)) (may_continue c) e).1).0, next (omega arith))
     go false e k next = absurd (omega arith)
@@ -58,9 +44,9 @@ inline_none : (disk : Disk) (slots : List Slot) → Each IsInline slots → file
 inline_none disk [] h = refl
 inline_none disk (u ∷ slots) h = ap₂ (λ x y. x ++ y) (ap (struct_blocks disk) h.0.1) (inline_none disk slots h.1)
 
-inline_formed : (disk : Disk) (slots : List Slot) → Each IsInline slots → Each (λ u. IsWellFormedCtz disk u.struct) slots
+inline_formed : (disk : Disk) (slots : List Slot) → Each IsInline slots → Each (λ u. IsFormedList disk u.struct) slots
 inline_formed disk [] h = tt
-inline_formed disk (u ∷ slots) h = (subst (IsWellFormedCtz disk) (sym h.0.1) tt, inline_formed disk slots h.1)
+inline_formed disk (u ∷ slots) h = (subst (IsFormedList disk) (sym h.0.1) tt, inline_formed disk slots h.1)
 
 -- ---- the first directory, and the others
 
@@ -80,13 +66,13 @@ first_of at true slots (d ∷ ds) = refl
 first_of at false slots (d ∷ ds) = refl
 
 -- none of these directories begins at an address
-not_among : (a x : ℕ × ℕ) (ds : List ThreadDirectory) → Each (λ d. same_pair a d.at ≡ false) ds → HoldsOfSome (λ d. same_pair d.at x ≡ true) ds → same_pair a x ≡ true → ⊥
+not_among : (a x : ℕ × ℕ) (ds : List ThreadDirectory) → Each (λ d. same_pair a d.at ≡ false) ds → AnyByRecursion (λ d. same_pair d.at x ≡ true) ds → same_pair a x ≡ true → ⊥
 not_among a x [] h k e = k
 not_among a x (d ∷ ds) h (inl k) e = let z = pair_on a x d.at e (pair_back d.at x k) in absurd (let y = sym z ∙ h.0 in cc)
 not_among a x (d ∷ ds) h (inr k) e = not_among a x ds h.1 k e
 
-pub pairs_count : (b : ℕ) (xs ys : List Pair) → number_count b (blocks_of_pairs (xs ++ ys)) ≡ number_count b (blocks_of_pairs xs) + number_count b (blocks_of_pairs ys)
-pairs_count b xs ys = ap (number_count b) (flat_map-append (λ (p : Pair). p.at.0 ∷ p.at.1 ∷ []) xs ys) ∙ count_append b (blocks_of_pairs xs) (blocks_of_pairs ys)
+pub pairs_count : (b : ℕ) (xs ys : List Pair) → number_occurrences b (pairs_blocks (xs ++ ys)) ≡ number_occurrences b (pairs_blocks xs) + number_occurrences b (pairs_blocks ys)
+pairs_count b xs ys = ap (number_occurrences b) (flat_map-append (λ (p : Pair). p.at.0 ∷ p.at.1 ∷ []) xs ys) ∙ count_append b (pairs_blocks xs) (pairs_blocks ys)
 
 -- ---- the change
 
@@ -96,7 +82,7 @@ pub record IsRootMoved (disk new : Disk) (chain : List Pair) (r : Pair) (now : L
   pub geometry : SameGeometry disk new
   pub contents : All (λ p. content_at new p.at ≡ Some p.content) (now ++ s ∷ rest)
   pub first : BeginsWith (current_block new (first_address (from_first_slots (now ++ s ∷ rest)))) superblock_entry
-  pub files : All (λ u. SameFileBlocks disk new u.struct) (all_slots_not_moved (chain ++ r ∷ rest))
+  pub files : All (λ u. SameFileBlocks disk new u.struct) (all_unmoved_slots (chain ++ r ∷ rest))
   pub links : AreLinked (Some anchor_address) (now ++ s ∷ rest)
   pub slots : s.content.slots ≡ r.content.slots
   pub tail : s.content.tail ≡ r.content.tail
@@ -106,13 +92,13 @@ pub record IsRootMoved (disk new : Disk) (chain : List Pair) (r : Pair) (now : L
   pub marked : (m : Mark) → Each (λ q. SuperblockFirstIfAny (HasMark m) q.content.slots) chain → IsSuperblockFirst (HasMark m) r.content.slots → Each (λ q. SuperblockFirstIfAny (HasMark m) q.content.slots) now
   pub named : first_slot_name (from_first_slots (now ++ s ∷ rest)) ≡ first_slot_name (from_first_slots (chain ++ r ∷ rest))
   -- blocks
-  pub blocks : (b : ℕ) → number_count b (blocks_of_pairs (now ++ s ∷ [])) ≤ number_count b extra + number_count b (blocks_of_pairs (chain ++ r ∷ []))
+  pub blocks : (b : ℕ) → number_occurrences b (pairs_blocks (now ++ s ∷ [])) ≤ number_occurrences b extra + number_occurrences b (pairs_blocks (chain ++ r ∷ []))
   pub free : AreFree disk (chain ++ r ∷ rest) extra []
 
 -- The new image is accepted, and shows the same tree. Each file has its struct, and the global state is the same.
 pub record IsSameImage (disk : Disk) (ps : List Pair) (new : Disk) (qs : List Pair) : Type 0 where
   pub accepted : IsAccepted new qs
-  pub shows : tree_on_disk new qs ≡ tree_on_disk disk ps
+  pub shows : disk_tree new qs ≡ disk_tree disk ps
   pub stays : (path : Path) → KeepsStruct (slot_of ps path) (slot_of qs path)
   pub gstate : pairs_gstate qs ≡ pairs_gstate ps
 
@@ -165,35 +151,35 @@ module _ (disk new : Disk) (chain : List Pair) (r : Pair) (now : List Pair) (s :
   abbrev left_slots : List Slot
   left_slots = r.content.slots ++ all_slots rest
 
-  all_now : all_slots_not_moved qs ≡ all_slots now ++ left_slots
+  all_now : all_unmoved_slots qs ≡ all_slots now ++ left_slots
   all_now = unmoved_in h none_now qs ∙ flat_map-append (λ (p : Pair). p.content.slots) now (s ∷ rest) ∙ ap (λ z. all_slots now ++ (z ++ all_slots rest)) c.slots
 
-  all_were : all_slots_not_moved ps ≡ all_slots chain ++ left_slots
+  all_were : all_unmoved_slots ps ≡ all_slots chain ++ left_slots
   all_were = unmoved_in g none ps ∙ flat_map-append (λ (p : Pair). p.content.slots) chain (r ∷ rest)
 
-  left_of : (P : Slot → Type 0) → All P (all_slots_not_moved ps) → Each P left_slots
-  left_of P k = each_right P (all_slots chain) left_slots (subst (Each P) all_were (recursion_from_All P (all_slots_not_moved ps) k))
+  left_of : (P : Slot → Type 0) → All P (all_unmoved_slots ps) → Each P left_slots
+  left_of P k = each_right P (all_slots chain) left_slots (subst (Each P) all_were (recursion_from_All P (all_unmoved_slots ps) k))
 
   same : SameFiles disk new left_slots
   same = left_of (λ u. SameFileBlocks disk new u.struct) c.files
 
-  lists_now : All (λ u. IsWellFormedCtz new u.struct) (all_slots_not_moved qs)
-  lists_now = subst (All (λ u. IsWellFormedCtz new u.struct)) (sym all_now) (All-from_recursion (λ u. IsWellFormedCtz new u.struct) (all_slots now ++ left_slots)
-      (each_append (λ u. IsWellFormedCtz new u.struct) (all_slots now) left_slots (inline_formed new (all_slots now) inline_now)
-      (each_both (λ u. SameFileBlocks disk new u.struct) (λ u. IsWellFormedCtz disk u.struct) (λ u. IsWellFormedCtz new u.struct) (λ u. is_list_same disk new u.struct c.geometry) left_slots same
-      (left_of (λ u. IsWellFormedCtz disk u.struct) ok.lists))))
+  lists_now : All (λ u. IsFormedList new u.struct) (all_unmoved_slots qs)
+  lists_now = subst (All (λ u. IsFormedList new u.struct)) (sym all_now) (All-from_recursion (λ u. IsFormedList new u.struct) (all_slots now ++ left_slots)
+      (each_append (λ u. IsFormedList new u.struct) (all_slots now) left_slots (inline_formed new (all_slots now) inline_now)
+      (each_both (λ u. SameFileBlocks disk new u.struct) (λ u. IsFormedList disk u.struct) (λ u. IsFormedList new u.struct) (λ u. is_list_same disk new u.struct c.geometry) left_slots same
+      (left_of (λ u. IsFormedList disk u.struct) ok.lists))))
 
-  pair_blocks : (b : ℕ) → number_count b (blocks_of_pairs qs) ≤ number_count b extra + number_count b (blocks_of_pairs ps)
+  pair_blocks : (b : ℕ) → number_occurrences b (pairs_blocks qs) ≤ number_occurrences b extra + number_occurrences b (pairs_blocks ps)
   pair_blocks b = omega (arith, c.blocks b, pairs_count b now (s ∷ rest), pairs_count b (s ∷ []) rest, pairs_count b now (s ∷ []), pairs_count b chain (r ∷ rest), pairs_count b (r ∷ []) rest, pairs_count b chain (r ∷ []))
 
-  file_count : (b : ℕ) → number_count b (file_blocks new (all_slots_not_moved qs)) ≤ number_count b (file_blocks disk (all_slots_not_moved ps))
+  file_count : (b : ℕ) → number_occurrences b (file_blocks new (all_unmoved_slots qs)) ≤ number_occurrences b (file_blocks disk (all_unmoved_slots ps))
   file_count b =
-      let a1 = ap (λ z. number_count b (file_blocks new z)) all_now in
-      let a2 = ap (λ z. number_count b (file_blocks disk z)) all_were in
+      let a1 = ap (λ z. number_occurrences b (file_blocks new z)) all_now in
+      let a2 = ap (λ z. number_occurrences b (file_blocks disk z)) all_were in
       let b1 = count_files b new (all_slots now) left_slots in
       let b2 = count_files b disk (all_slots chain) left_slots in
-      let c1 = ap (number_count b) (inline_none new (all_slots now) inline_now) in
-      let c2 = ap (number_count b) (slots_files disk new left_slots c.geometry same) in
+      let c1 = ap (number_occurrences b) (inline_none new (all_slots now) inline_now) in
+      let c2 = ap (number_occurrences b) (slots_files disk new left_slots c.geometry same) in
       omega arith
 
   owned_now : IsDistinct nat_eq (used_blocks new qs)
@@ -201,8 +187,8 @@ module _ (disk new : Disk) (chain : List Pair) (r : Pair) (now : List Pair) (s :
       let a = once_from_distinct ((extra ++ []) ++ used_blocks disk ps) c.free.distinct b in
       let a1 = count_append b (extra ++ []) (used_blocks disk ps) in
       let a2 = count_append b extra [] in
-      let a3 = count_append b (blocks_of_pairs ps) (file_blocks disk (all_slots_not_moved ps)) in
-      let a4 = count_append b (blocks_of_pairs qs) (file_blocks new (all_slots_not_moved qs)) in
+      let a3 = count_append b (pairs_blocks ps) (file_blocks disk (all_unmoved_slots ps)) in
+      let a4 = count_append b (pairs_blocks qs) (file_blocks new (all_unmoved_slots qs)) in
       let k = pair_blocks b in
       let l = file_count b in
       omega arith)
@@ -211,13 +197,13 @@ module _ (disk new : Disk) (chain : List Pair) (r : Pair) (now : List Pair) (s :
   thread_now = record {
     links = c.links;
     contents = c.contents;
-    in_range = subst (λ n. All (λ b. b < n) (blocks_of_pairs qs)) (sym c.geometry.count) (All-from_recursion (λ b. b < block_count disk) (blocks_of_pairs qs)
-        (each_from_counted (λ b. b < block_count disk) (blocks_of_pairs qs) (λ b m. each_counted (λ b. b < block_count disk) (extra ++ blocks_of_pairs ps)
-        (each_append (λ b. b < block_count disk) extra (blocks_of_pairs ps) (recursion_from_All (λ (b : ℕ). b < block_count disk) extra c.free.in_range) (recursion_from_All (λ (b : ℕ). b < block_count disk) (blocks_of_pairs ps) ok.thread.in_range)) b
-        (let e = pair_blocks b in let f = count_append b extra (blocks_of_pairs ps) in omega arith))));
-    distinct = distinct_from_once (blocks_of_pairs qs) (λ b.
+    in_range = subst (λ n. All (λ b. b < n) (pairs_blocks qs)) (sym c.geometry.count) (All-from_recursion (λ b. b < block_count disk) (pairs_blocks qs)
+        (each_from_counted (λ b. b < block_count disk) (pairs_blocks qs) (λ b m. each_counted (λ b. b < block_count disk) (extra ++ pairs_blocks ps)
+        (each_append (λ b. b < block_count disk) extra (pairs_blocks ps) (recursion_from_All (λ (b : ℕ). b < block_count disk) extra c.free.in_range) (recursion_from_All (λ (b : ℕ). b < block_count disk) (pairs_blocks ps) ok.thread.in_range)) b
+        (let e = pair_blocks b in let f = count_append b extra (pairs_blocks ps) in omega arith))));
+    distinct = distinct_from_once (pairs_blocks qs) (λ b.
         let k = once_from_distinct (used_blocks new qs) owned_now b in
-        let l = count_append b (blocks_of_pairs qs) (file_blocks new (all_slots_not_moved qs)) in omega arith);
+        let l = count_append b (pairs_blocks qs) (file_blocks new (all_unmoved_slots qs)) in omega arith);
   }
 
   -- ---- directories
@@ -272,10 +258,10 @@ module _ (disk new : Disk) (chain : List Pair) (r : Pair) (now : List Pair) (s :
   not_root : (n : Name) (q : Path) (x : ℕ × ℕ) → address_at_path E r.at (n ∷ q) ≡ Some x → same_pair r.at x ≡ false
   not_root n q x l = false_from_ne_true (same_pair r.at x) (λ t. let e : [] ≡ n ∷ q = ok.once [] (n ∷ q) r.at x (led [] r.at refl) (led (n ∷ q) x l) t in absurd (cc))
 
-  among_others : (n : Name) (q : Path) (x : ℕ × ℕ) → address_at_path E r.at (n ∷ q) ≡ Some x → HoldsOfSome (λ d. same_pair d.at x ≡ true) ds
+  among_others : (n : Name) (q : Path) (x : ℕ × ℕ) → address_at_path E r.at (n ∷ q) ≡ Some x → AnyByRecursion (λ d. same_pair d.at x ≡ true) ds
   among_others n q x l = go (among_from (λ (d : ThreadDirectory). same_pair d.at x ≡ true) (listing r.at S ∷ ds) (subst (λ z. BeginsAt z x) were (ok.branches (n ∷ q) x (led (n ∷ q) x l))))
     where
-      go : HoldsOfSome (λ d. same_pair d.at x ≡ true) (listing r.at S ∷ ds) → HoldsOfSome (λ d. same_pair d.at x ≡ true) ds
+      go : AnyByRecursion (λ d. same_pair d.at x ≡ true) (listing r.at S ∷ ds) → AnyByRecursion (λ d. same_pair d.at x ≡ true) ds
       go (inl a) = absurd (let k = sym a ∙ not_root n q x l in cc)
       go (inr a) = a
 
@@ -311,14 +297,14 @@ module _ (disk new : Disk) (chain : List Pair) (r : Pair) (now : List Pair) (s :
       listed = listed_hold (λ v. SameFileBlocks disk new v.struct) g (pairs_from_root ps)
           (subst (Each (λ q. SameFiles disk new (slots_not_moved g q))) (sym (pairs_behind chain (r ∷ rest) was_chain))
           (each_right (λ q. SameFiles disk new (slots_not_moved g q)) chain (r ∷ rest)
-          (each_pieces (λ v. SameFileBlocks disk new v.struct) (slots_not_moved g) ps (recursion_from_All (λ (v : Slot). SameFileBlocks disk new v.struct) (all_slots_not_moved ps) c.files))))
+          (each_pieces (λ v. SameFileBlocks disk new v.struct) (slots_not_moved g) ps (recursion_from_All (λ (v : Slot). SameFileBlocks disk new v.struct) (all_unmoved_slots ps) c.files))))
 
   shows_same : (path : Path) → beneath_slot (struct_list_bytes new) F (root_slot s.at) path ≡ beneath_slot (struct_list_bytes new) E (root_slot r.at) path
   shows_same [] = ap (λ z. Some (struct_node (struct_list_bytes new) (λ y. z) [] (Branch s.at))) root_shows
   shows_same (n ∷ q) = ap (option_map (λ u. struct_node (struct_list_bytes new) F u.attributes u.struct)) (slot_same n q)
       ∙ nodes_same (struct_list_bytes new) E F (slot_at_path E (root_slot r.at) (n ∷ q)) (λ x l. agrees n q x l)
 
-  tree_same : tree_on_disk new qs ≡ tree_on_disk disk ps
+  tree_same : disk_tree new qs ≡ disk_tree disk ps
   tree_same = ap (beneath_root (struct_list_bytes new) F) root_is
       ∙ (λ i path. (shows_same path ∙ contents_agree (struct_list_bytes disk) (struct_list_bytes new) E (root_slot r.at) same_contents path) i)
       ∙ ap (beneath_root (struct_list_bytes disk) E) (sym root_was)
@@ -335,7 +321,7 @@ module _ (disk new : Disk) (chain : List Pair) (r : Pair) (now : List Pair) (s :
   branches_now : (path : Path) (x : ℕ × ℕ) → LeadsTo qs path x → BeginsAt (all_directories qs) x
   branches_now path x l = subst (λ z. BeginsAt z x) (sym are) (any_from (λ (d : ThreadDirectory). same_pair d.at x ≡ true) (listing s.at S ∷ ds) (go path l))
     where
-      go : (path : Path) → LeadsTo qs path x → HoldsOfSome (λ d. same_pair d.at x ≡ true) (listing s.at S ∷ ds)
+      go : (path : Path) → LeadsTo qs path x → AnyByRecursion (λ d. same_pair d.at x ≡ true) (listing s.at S ∷ ds)
       go [] l = inl (subst (λ z. same_pair s.at z ≡ true) (new_root x l) (pair_itself s.at))
       go (n ∷ q) l = inr (among_others n q x (old_lead n q x l))
 

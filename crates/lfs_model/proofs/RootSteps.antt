@@ -2,20 +2,9 @@
 -- the superblock's, or leaves the superblock's pair.
 use Rattle.std.proofs.Common.{ℕ, ◌≡◌, ◌+◌, ◌≤◌, true, false, cond, ◌&&◌, List, [], ◌∷◌, ◌++◌, length, take, drop, slice_get, zero, suc, ◌<◌, ◌-◌, take-append-drop, length-take, length-drop, option_map, Some, refl, sym, ap, ap₂, subst, ◌∙◌, arith, append_assoc, length-append}
 use Rattle.std.specs.Prelude.{All, sum_by}
-use Rattle.std.proofs.lemmas.Bool.{and_from}
-use Rattle.std.proofs.Math.Seq.{drop-append-add}
-use Rattle.std.proofs.lemmas.List.Sums.{sum_by-cons}
-use Rattle.std.proofs.lemmas.List.Elements.{All-from_recursion, recursion_from_All}
+use Rattle.lfs_model.proofs.Common.{and_from, drop-append-add, sum_by-cons, All-from_recursion, recursion_from_All, Disk, SameGeometry, pair_capacity, slots_limit, Slot, PairContent, slot_size, FitsInPair, content_at, current_block, Pair, pairs_blocks, anchor_address, AreLinked, address_blocks, from_first_slots, first_address, has_slots, is_hard_tail, starts_superblock, starts_or_later, has_no_entry, may_continue, has_superblock, count_before_root, pairs_gstate, pairs_from_root, BeginsWith, superblock_entry, IsSuperblockFirst, SuperblockFirstIfAny, HasStruct, IsTreeEntry, first_slot_name, first_pair_slots, IsAccepted, IsWritableSlot, HasNoEmpties, IsWritable, SameFileBlocks, struct_blocks, all_unmoved_slots}
 use Rattle.lfs_model.specs.declared.limits.Profile.{Profile}
-use Rattle.lfs_model.specs.format.Disk.{Disk, SameGeometry, pair_capacity, slots_limit}
-use Rattle.lfs_model.specs.format.Slots.{Slot, PairContent, slot_size, FitsInPair}
-use Rattle.lfs_model.specs.format.Content.{content_at, current_block}
-use Rattle.lfs_model.specs.format.Thread.{Pair, blocks_of_pairs, anchor_address, AreLinked, address_blocks, from_first_slots, first_address, has_slots, is_hard_tail, starts_superblock, starts_or, has_no_entry, may_continue, has_superblock, pair_count_before_root, pairs_gstate, pairs_from_root}
-use Rattle.lfs_model.specs.tree.View.{BeginsWith, superblock_entry, IsSuperblockFirst, SuperblockFirstIfAny, HasStruct, IsTreeEntry, first_slot_name, first_slots, IsAccepted}
-use Rattle.lfs_model.specs.tree.Profile.{IsWritableSlot, HasNoEmpties, IsWritable}
-use Rattle.lfs_model.specs.layers.Steps.{SameFileBlocks}
-use Rattle.lfs_model.specs.tree.Shown.{struct_blocks, all_slots_not_moved}
-use Rattle.lfs_model.proofs.Counts.{number_count, Each}
+use Rattle.lfs_model.proofs.Counts.{number_occurrences, Each}
 use Rattle.lfs_model.proofs.Global.{HasNoMove}
 use Rattle.lfs_model.proofs.Superblocks.{Mark, StructMark, HasMark, IsChain, pairs_behind, hold_from_rules, meets_starting, starts, from_held}
 use Rattle.lfs_model.proofs.Changes.{links_changed}
@@ -76,9 +65,9 @@ superblock_alike : (ps qs : List Pair) → SameOutlines ps qs → has_superblock
 superblock_alike [] [] h = refl
 superblock_alike [] (q ∷ qs) h = absurd h
 superblock_alike (p ∷ ps) [] h = absurd h
-superblock_alike (p ∷ ps) (q ∷ qs) h = ap₂ (λ slots b. starts_or slots b) h.0 (ap₂ (λ x y. x && y) h.1 (superblock_alike ps qs h.2))
+superblock_alike (p ∷ ps) (q ∷ qs) h = ap₂ (λ slots b. starts_or_later slots b) h.0 (ap₂ (λ x y. x && y) h.1 (superblock_alike ps qs h.2))
 
-count_alike : (ps qs : List Pair) → SameOutlines ps qs → pair_count_before_root qs ≡ pair_count_before_root ps
+count_alike : (ps qs : List Pair) → SameOutlines ps qs → count_before_root qs ≡ count_before_root ps
 count_alike [] [] h = refl
 count_alike [] (q ∷ qs) h = absurd h
 count_alike (p ∷ ps) [] h = absurd h
@@ -129,7 +118,7 @@ record AreParted (old qs : List Pair) : Type 0 where
   was : old ≡ chain ++ r ∷ rest
   is : qs ≡ now ++ s ∷ rest
   alike : length now ≡ length chain
-  number : pair_count_before_root old ≡ length chain
+  number : count_before_root old ≡ length chain
   slots : s.content.slots ≡ r.content.slots
   tail : s.content.tail ≡ r.content.tail
 
@@ -139,12 +128,12 @@ record HasPair (ps : List Pair) : Type 0 where
   others : List Pair
   is : ps ≡ first ∷ others
 
-has_pair : (ps : List Pair) → starts_superblock (first_slots ps) ≡ true → HasPair ps
+has_pair : (ps : List Pair) → starts_superblock (first_pair_slots ps) ≡ true → HasPair ps
 has_pair [] e = absurd (cc)
 has_pair (p ∷ ps) e = record { first = p; others = ps; is = refl }
 
 module _ (disk new : Disk) (front : List Pair) (p x q y : Pair) (back : List Pair) (ok : IsAccepted disk (front ++ p ∷ x ∷ back)) (fits : IsWritable disk (front ++ p ∷ x ∷ back))
-    (none : HasNoMove (pairs_gstate (front ++ p ∷ x ∷ back))) (many : length front < pair_count_before_root (front ++ p ∷ x ∷ back)) (c : IsRelocated disk new front p x q y back)
+    (none : HasNoMove (pairs_gstate (front ++ p ∷ x ∷ back))) (many : length front < count_before_root (front ++ p ∷ x ∷ back)) (c : IsRelocated disk new front p x q y back)
     (first : BeginsWith (current_block new (first_address (from_first_slots (front ++ q ∷ y ∷ back)))) superblock_entry) where
   abbrev old : List Pair
   old = front ++ p ∷ x ∷ back
@@ -160,9 +149,9 @@ module _ (disk new : Disk) (front : List Pair) (p x q y : Pair) (back : List Pai
       (c.slots, hard_same, (ap (λ (z : PairContent). z.slots) c.same, ap (λ (z : PairContent). is_hard_tail z.tail) c.same, outlines_itself back))
 
   parted : AreParted old qs
-  parted = go (pair_count_before_root old - (length front + 1)) (omega arith)
+  parted = go (count_before_root old - (length front + 1)) (omega arith)
     where
-      go : (k : ℕ) → pair_count_before_root old ≡ length front + (1 + k) → AreParted old qs
+      go : (k : ℕ) → count_before_root old ≡ length front + (1 + k) → AreParted old qs
       go zero e = record {
         chain = front ++ p ∷ [];
         r = x;
@@ -177,9 +166,9 @@ module _ (disk new : Disk) (front : List Pair) (p x q y : Pair) (back : List Pai
         tail = ap (λ (z : PairContent). z.tail) c.same;
       }
       go (suc j) e =
-          let count : pair_count_before_root old ≡ length front + suc (suc j) = omega (arith, e) in
+          let count : count_before_root old ≡ length front + suc (suc j) = omega (arith, e) in
           let there : pairs_from_root old ≡ drop j back = ap (λ n. drop n old) count ∙ drop-append-add front (p ∷ x ∷ back) (suc (suc j)) in
-          let more = has_pair (drop j back) (ap (λ z. starts_superblock (first_slots z)) (sym there) ∙ ok.root) in
+          let more = has_pair (drop j back) (ap (λ z. starts_superblock (first_pair_slots z)) (sym there) ∙ ok.root) in
           let all : back ≡ take j back ++ more.first ∷ more.others = sym (take-append-drop j back) ∙ ap (λ z. take j back ++ z) more.is in
           record {
             chain = front ++ p ∷ x ∷ take j back;
@@ -202,7 +191,7 @@ module _ (disk new : Disk) (front : List Pair) (p x q y : Pair) (back : List Pai
   outlines_chain = outlines_front parted.chain parted.now (parted.r ∷ parted.rest) (parted.s ∷ parted.rest) parted.alike outlines_parted
 
   was_chain : IsChain parted.chain (parted.r ∷ parted.rest)
-  was_chain = ap pair_count_before_root (sym parted.was) ∙ parted.number
+  was_chain = ap count_before_root (sym parted.was) ∙ parted.number
 
   is_chain : IsChain parted.now (parted.s ∷ parted.rest)
   is_chain = count_alike (parted.chain ++ parted.r ∷ parted.rest) (parted.now ++ parted.s ∷ parted.rest) outlines_parted ∙ was_chain ∙ sym parted.alike
@@ -210,18 +199,18 @@ module _ (disk new : Disk) (front : List Pair) (p x q y : Pair) (back : List Pai
   shape : IsShape p (x ∷ []) q (y ∷ []) (y.at.0 ∷ y.at.1 ∷ [])
   shape = move_shape p x q y c.at c.tail (ap (λ (z : PairContent). z.tail) c.same) (λ e. ap starts_superblock c.slots ∙ e)
 
-  blocks_old : (b : ℕ) → number_count b (blocks_of_pairs old) ≡ number_count b (blocks_of_pairs (parted.chain ++ parted.r ∷ [])) + number_count b (blocks_of_pairs parted.rest)
-  blocks_old b = omega (arith, ap (λ z. number_count b (blocks_of_pairs z)) parted.was, pairs_count b parted.chain (parted.r ∷ parted.rest), pairs_count b (parted.r ∷ []) parted.rest, pairs_count b parted.chain (parted.r ∷ []))
+  blocks_old : (b : ℕ) → number_occurrences b (pairs_blocks old) ≡ number_occurrences b (pairs_blocks (parted.chain ++ parted.r ∷ [])) + number_occurrences b (pairs_blocks parted.rest)
+  blocks_old b = omega (arith, ap (λ z. number_occurrences b (pairs_blocks z)) parted.was, pairs_count b parted.chain (parted.r ∷ parted.rest), pairs_count b (parted.r ∷ []) parted.rest, pairs_count b parted.chain (parted.r ∷ []))
 
-  blocks_new : (b : ℕ) → number_count b (blocks_of_pairs qs) ≡ number_count b (blocks_of_pairs (parted.now ++ parted.s ∷ [])) + number_count b (blocks_of_pairs parted.rest)
-  blocks_new b = omega (arith, ap (λ z. number_count b (blocks_of_pairs z)) parted.is, pairs_count b parted.now (parted.s ∷ parted.rest), pairs_count b (parted.s ∷ []) parted.rest, pairs_count b parted.now (parted.s ∷ []))
+  blocks_new : (b : ℕ) → number_occurrences b (pairs_blocks qs) ≡ number_occurrences b (pairs_blocks (parted.now ++ parted.s ∷ [])) + number_occurrences b (pairs_blocks parted.rest)
+  blocks_new b = omega (arith, ap (λ z. number_occurrences b (pairs_blocks z)) parted.is, pairs_count b parted.now (parted.s ∷ parted.rest), pairs_count b (parted.s ∷ []) parted.rest, pairs_count b parted.now (parted.s ∷ []))
 
   moved : IsRootMoved disk new parted.chain parted.r parted.now parted.s parted.rest (address_blocks y.at)
   moved = record {
     geometry = c.device.geometry;
     contents = subst (All (λ r. content_at new r.at ≡ Some r.content)) parted.is c.device.contents;
     first = subst (λ z. BeginsWith (current_block new (first_address (from_first_slots z))) superblock_entry) parted.is first;
-    files = subst (λ z. All (λ u. SameFileBlocks disk new u.struct) (all_slots_not_moved z)) parted.was c.device.files;
+    files = subst (λ z. All (λ u. SameFileBlocks disk new u.struct) (all_unmoved_slots z)) parted.was c.device.files;
     links = subst (AreLinked (Some anchor_address)) parted.is (links_changed front (p ∷ x ∷ back) (q ∷ y ∷ back) (shape.links back) (Some anchor_address) ok.thread.links);
     slots = parted.slots;
     tail = parted.tail;
@@ -270,7 +259,7 @@ take_each P [] h = tt
 take_each P (s ∷ slots) h = (h.0, tt)
 
 module _ (disk new : Disk) (x q y : Pair) (back : List Pair) (ok : IsAccepted disk (x ∷ back)) (fits : IsWritable disk (x ∷ back))
-    (none : HasNoMove (pairs_gstate (x ∷ back))) (number : pair_count_before_root (x ∷ back) ≡ 0) (c : IsUnloaded disk new [] x q y back (take 1 x.content.slots)) where
+    (none : HasNoMove (pairs_gstate (x ∷ back))) (number : count_before_root (x ∷ back) ≡ 0) (c : IsUnloaded disk new [] x q y back (take 1 x.content.slots)) where
   abbrev bytes : List ℕ
   bytes = ok.superblock.0
 
@@ -301,7 +290,7 @@ module _ (disk new : Disk) (x q y : Pair) (back : List Pair) (ok : IsAccepted di
   split : IsShape x [] q (y ∷ []) (y.at.0 ∷ y.at.1 ∷ [])
   split = split_shape x q y c.at c.tail c.last (λ e. starts q.content.slots (StructMark disk.profile.versions bytes) (kept_marked (StructMark disk.profile.versions bytes) held))
 
-  behind_root : pair_count_before_root (y ∷ back) ≡ 0
+  behind_root : count_before_root (y ∷ back) ≡ 0
   behind_root = count_alike (x ∷ back) (y ∷ back) (c.slots, ap is_hard_tail c.last, outlines_itself back) ∙ number
 
   expanded_chain : IsChain (q ∷ []) (y ∷ back)

@@ -1,8 +1,6 @@
 -- A fresh disk is what a loss of power may leave.
 use Rattle.std.proofs.Common.{subst}
-use Rattle.lfs_model.specs.tree.Fresh.{empty_tree}
-use Rattle.lfs_model.specs.crash.RepeatedPowerLoss.{KeepsTree}
-use Rattle.lfs_model.specs.examples.Images.{small_image}
+use Rattle.lfs_model.proofs.Common.{empty_tree, KeepsTree, small_image}
 use Rattle.lfs_model.proofs.Example.{fresh}
 use Rattle.lfs_model.proofs.Fresh.{shows, writable}
 use Rattle.lfs_model.proofs.FreshSession.{pairs, are_accepted}

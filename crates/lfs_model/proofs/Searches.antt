@@ -3,20 +3,9 @@ use Rattle.std.proofs.Common.{ℕ, zero, suc, ◌≡◌, ◌≢◌, ◌⊎◌, i
 use Rattle.std.specs.Prelude.{All}
 use Rattle.std.specs.List.{IsDistinct}
 use Rattle.std.proofs.Common.{nat_eq}
-use Rattle.std.proofs.lemmas.List.Elements.{filter-append, recursion_from_All}
-use Rattle.std.proofs.lemmas.List.Concat.{flat_map-append}
-use Rattle.std.proofs.lemmas.Option.{same_Some}
-use Rattle.std.proofs.lemmas.Bool.{false_from_ne_true}
-use Rattle.lfs_model.specs.format.Disk.{Disk}
-use Rattle.lfs_model.specs.format.Names.{Name, name_cmp}
-use Rattle.lfs_model.specs.format.Slots.{Slot, is_superblock, same_pair}
-use Rattle.lfs_model.specs.format.Thread.{Pair, is_hard_tail, blocks_of_pairs, pairs_gstate, pair_count_before_root, pairs_from_root}
-use Rattle.lfs_model.specs.tree.Tree.{Path}
-use Rattle.lfs_model.specs.tree.View.{IsAccepted, IsTreeEntry}
-use Rattle.lfs_model.specs.tree.Shown.{LeadsTo, all_entries}
-use Rattle.lfs_model.specs.session.SlotEdits.{slot_of}
-use Rattle.lfs_model.specs.crash.Frame.{tail_pairs, directory_pairs, pair_count_at}
-use Rattle.lfs_model.specs.session.InDirectory.{entry_slots, all_slots, FirstIsGreater, AreEntryPairs, HasHardTail, joined_count, AreJoined, last_joins, IsPairOfDirectory, IsPairAt, IsPlaceOf, BelongsAt}
+use Rattle.lfs_model.proofs.Common.{filter-append, recursion_from_All, flat_map-append, same_Some, false_from_ne_true, Disk, Name, name_cmp, Slot, is_superblock, same_pair, Pair, is_hard_tail, pairs_blocks, pairs_gstate, count_before_root, pairs_from_root, Path, IsAccepted, IsTreeEntry, LeadsTo, all_entries, slot_of, pair_count_at, entry_slots, all_slots}
+use Rattle.lfs_model.specs.crash.Frame.{tail_pairs, directory_pairs}
+use Rattle.lfs_model.specs.session.InDirectory.{FirstIsGreater, HaveNoSuperblock, HasHardTail, joined_count, AreJoined, last_joins, IsDirectoryPair, IsPairAt, IsPlaceOf, BelongsAt}
 use Rattle.lfs_model.proofs.Counts.{Each, each_append, each_right, each_weaker}
 use Rattle.lfs_model.proofs.Global.{HasNoMove}
 use Rattle.lfs_model.proofs.Pairs.{pair_back, pair_on}
@@ -39,7 +28,7 @@ each_at P (x ∷ xs) (suc i) p h e = each_at P xs i p h.1 e
 not_again : (x : Pair) (xs : List Pair) (j : ℕ) (p q : Pair) → Each (λ r. same_pair x.at r.at ≡ false) xs → x ≡ p → slice_get xs j ≡ Some q → same_pair p.at q.at ≡ true → ⊥
 not_again x xs j p q h e f s = absurd (let k = each_at (λ r. same_pair x.at r.at ≡ false) xs j q h f in let m = ap (λ (y : Pair). same_pair y.at q.at) e in cc)
 
-pub same_number : (xs : List Pair) (i j : ℕ) (p q : Pair) → IsDistinct nat_eq (blocks_of_pairs xs) → slice_get xs i ≡ Some p → slice_get xs j ≡ Some q → same_pair p.at q.at ≡ true → i ≡ j
+pub same_number : (xs : List Pair) (i j : ℕ) (p q : Pair) → IsDistinct nat_eq (pairs_blocks xs) → slice_get xs i ≡ Some p → slice_get xs j ≡ Some q → same_pair p.at q.at ≡ true → i ≡ j
 unfolding IsDistinct
 same_number [] i j p q h e f s = absurd (cc)
 same_number (x ∷ xs) zero zero p q h e f s = refl
@@ -54,7 +43,7 @@ get_behind (x ∷ xs) p ys = get_behind xs p ys
 -- the pair at a directory's address is the directory's first
 pub record IsDirectory (ps : List Pair) (a : ℕ × ℕ) (first : ℕ) : Type 0 where
   pub directory : HasDirectory (pairs_from_root ps) a
-  pub number : first ≡ pair_count_before_root ps + length directory.before
+  pub number : first ≡ count_before_root ps + length directory.before
 
 pub begins_directory : (disk : Disk) (ps : List Pair) (P : Path) (a : ℕ × ℕ) (first : ℕ) → IsAccepted disk ps → LeadsTo ps P a → IsPairAt ps a first → IsDirectory ps a first
 begins_directory disk ps P a first ok leads b = record { directory = d; number = number }
@@ -63,24 +52,24 @@ begins_directory disk ps P a first ok leads b = record { directory = d; number =
     d = led_directory disk ps P a ok leads
 
     chain : List Pair
-    chain = take (pair_count_before_root ps) ps
+    chain = take (count_before_root ps) ps
 
-    chain_length : length (take (pair_count_before_root ps) ps) ≡ pair_count_before_root ps
-    chain_length = let e = chain_of_thread ps in sym (ap pair_count_before_root e.0 ∙ e.1)
+    chain_length : length (take (count_before_root ps) ps) ≡ count_before_root ps
+    chain_length = let e = chain_of_thread ps in sym (ap count_before_root e.0 ∙ e.1)
 
-    whole : ps ≡ (take (pair_count_before_root ps) ps ++ d.before) ++ (d.first ∷ (d.run ++ d.after))
-    whole = (chain_of_thread ps).0 ∙ ap (λ z. take (pair_count_before_root ps) ps ++ z) d.is ∙ sym (append_assoc (take (pair_count_before_root ps) ps) d.before (d.first ∷ (d.run ++ d.after)))
+    whole : ps ≡ (take (count_before_root ps) ps ++ d.before) ++ (d.first ∷ (d.run ++ d.after))
+    whole = (chain_of_thread ps).0 ∙ ap (λ z. take (count_before_root ps) ps ++ z) d.is ∙ sym (append_assoc (take (count_before_root ps) ps) d.before (d.first ∷ (d.run ++ d.after)))
 
-    there : slice_get ps (length (take (pair_count_before_root ps) ps ++ d.before)) ≡ Some d.first
-    there = ap (λ z. slice_get z (length (take (pair_count_before_root ps) ps ++ d.before))) whole ∙ get_behind (take (pair_count_before_root ps) ps ++ d.before) d.first (d.run ++ d.after)
+    there : slice_get ps (length (take (count_before_root ps) ps ++ d.before)) ≡ Some d.first
+    there = ap (λ z. slice_get z (length (take (count_before_root ps) ps ++ d.before))) whole ∙ get_behind (take (count_before_root ps) ps ++ d.before) d.first (d.run ++ d.after)
 
-    number : first ≡ pair_count_before_root ps + length d.before
+    number : first ≡ count_before_root ps + length d.before
     number =
-        let e = same_number ps first (length (take (pair_count_before_root ps) ps ++ d.before)) b.pair d.first ok.thread.distinct b.there there (pair_on b.pair.at a d.first.at b.same (pair_back d.first.at a d.at)) in
-        omega (arith, e, length-append (take (pair_count_before_root ps) ps) d.before, chain_length)
+        let e = same_number ps first (length (take (count_before_root ps) ps ++ d.before)) b.pair d.first ok.thread.distinct b.there there (pair_on b.pair.at a d.first.at b.same (pair_back d.first.at a d.at)) in
+        omega (arith, e, length-append (take (count_before_root ps) ps) d.before, chain_length)
 
 -- the pairs in front aren't at that address
-pub avoids_front : (xs : List Pair) (p : Pair) (ys : List Pair) (a : ℕ × ℕ) → IsDistinct nat_eq (blocks_of_pairs (xs ++ p ∷ ys)) → same_pair p.at a ≡ true → Each (λ x. same_pair x.at a ≡ false) xs
+pub avoids_front : (xs : List Pair) (p : Pair) (ys : List Pair) (a : ℕ × ℕ) → IsDistinct nat_eq (pairs_blocks (xs ++ p ∷ ys)) → same_pair p.at a ≡ true → Each (λ x. same_pair x.at a ≡ false) xs
 unfolding IsDistinct
 avoids_front [] p ys a h s = tt
 avoids_front (x ∷ xs) p ys a h s = (
@@ -89,7 +78,7 @@ avoids_front (x ∷ xs) p ys a h s = (
 )
 
 -- nor are those after
-pub avoids_behind : (xs : List Pair) (p : Pair) (ys : List Pair) (a : ℕ × ℕ) → IsDistinct nat_eq (blocks_of_pairs (xs ++ p ∷ ys)) → same_pair p.at a ≡ true → Each (λ x. same_pair x.at a ≡ false) ys
+pub avoids_behind : (xs : List Pair) (p : Pair) (ys : List Pair) (a : ℕ × ℕ) → IsDistinct nat_eq (pairs_blocks (xs ++ p ∷ ys)) → same_pair p.at a ≡ true → Each (λ x. same_pair x.at a ≡ false) ys
 unfolding IsDistinct
 avoids_behind [] p ys a h s = each_weaker (λ (x : Pair). same_pair p.at x.at ≡ false) (λ (x : Pair). same_pair x.at a ≡ false)
     (λ x e. false_from_ne_true (same_pair x.at a) (λ t. let k = pair_on p.at a x.at s (pair_back x.at a t) in absurd (cc))) ys (blocks_avoid p.at ys h.0.1)
@@ -111,11 +100,11 @@ length_run p (q ∷ run) after h = ap (λ b. cond b (1 + joined_count (q ∷ (ru
 -- the pairs of a directory that a path leads to, and how many they are
 pub pairs_at : (disk : Disk) (ps : List Pair) (P : Path) (a : ℕ × ℕ) (ok : IsAccepted disk ps) → LeadsTo ps P a → (d : HasDirectory (pairs_from_root ps) a) → directory_pairs ps a ≡ d.first ∷ d.run
 pairs_at disk ps P a ok leads d =
-    let whole : ps ≡ (take (pair_count_before_root ps) ps ++ d.before) ++ (d.first ∷ (d.run ++ d.after))
-    = (chain_of_thread ps).0 ∙ ap (λ z. take (pair_count_before_root ps) ps ++ z) d.is ∙ sym (append_assoc (take (pair_count_before_root ps) ps) d.before (d.first ∷ (d.run ++ d.after))) in
+    let whole : ps ≡ (take (count_before_root ps) ps ++ d.before) ++ (d.first ∷ (d.run ++ d.after))
+    = (chain_of_thread ps).0 ∙ ap (λ z. take (count_before_root ps) ps ++ z) d.is ∙ sym (append_assoc (take (count_before_root ps) ps) d.before (d.first ∷ (d.run ++ d.after))) in
     ap (λ z. directory_pairs z a) whole
-    ∙ pairs_past (take (pair_count_before_root ps) ps ++ d.before) (d.first ∷ (d.run ++ d.after)) a
-    (avoids_front (take (pair_count_before_root ps) ps ++ d.before) d.first (d.run ++ d.after) a (subst (λ z. IsDistinct nat_eq (blocks_of_pairs z)) whole ok.thread.distinct) d.at)
+    ∙ pairs_past (take (count_before_root ps) ps ++ d.before) (d.first ∷ (d.run ++ d.after)) a
+    (avoids_front (take (count_before_root ps) ps ++ d.before) d.first (d.run ++ d.after) a (subst (λ z. IsDistinct nat_eq (pairs_blocks z)) whole ok.thread.distinct) d.at)
     ∙ ap (λ b. cond b (tail_pairs d.first (d.run ++ d.after)) (directory_pairs (d.run ++ d.after) a)) d.at
     ∙ run_is d.first d.run d.after d.is_run
 
@@ -132,13 +121,13 @@ run_length_is disk ps P a first ok leads b =
     let i = begins_directory disk ps P a first ok leads b in
     let d = i.directory in
     let e = chain_of_thread ps in
-    let front : List Pair = take (pair_count_before_root ps) ps ++ d.before in
-    let whole : ps ≡ (take (pair_count_before_root ps) ps ++ d.before) ++ (d.first ∷ (d.run ++ d.after))
-    = e.0 ∙ ap (λ z. take (pair_count_before_root ps) ps ++ z) d.is ∙ sym (append_assoc (take (pair_count_before_root ps) ps) d.before (d.first ∷ (d.run ++ d.after))) in
-    let many : length (take (pair_count_before_root ps) ps) ≡ pair_count_before_root ps = sym (ap pair_count_before_root e.0 ∙ e.1) in
-    let at_first : first ≡ length (take (pair_count_before_root ps) ps ++ d.before) = omega (arith, i.number, length-append (take (pair_count_before_root ps) ps) d.before, many) in
+    let front : List Pair = take (count_before_root ps) ps ++ d.before in
+    let whole : ps ≡ (take (count_before_root ps) ps ++ d.before) ++ (d.first ∷ (d.run ++ d.after))
+    = e.0 ∙ ap (λ z. take (count_before_root ps) ps ++ z) d.is ∙ sym (append_assoc (take (count_before_root ps) ps) d.before (d.first ∷ (d.run ++ d.after))) in
+    let many : length (take (count_before_root ps) ps) ≡ count_before_root ps = sym (ap count_before_root e.0 ∙ e.1) in
+    let at_first : first ≡ length (take (count_before_root ps) ps ++ d.before) = omega (arith, i.number, length-append (take (count_before_root ps) ps) d.before, many) in
     ap (λ z. joined_count (drop first z)) whole
-    ∙ ap joined_count (drop_behind (take (pair_count_before_root ps) ps ++ d.before) (d.first ∷ (d.run ++ d.after)) first at_first)
+    ∙ ap joined_count (drop_behind (take (count_before_root ps) ps ++ d.before) (d.first ∷ (d.run ++ d.after)) first at_first)
     ∙ length_run d.first d.run d.after d.is_run
     ∙ sym (ap (count_at ps) leads ∙ ap length (pairs_at disk ps P a ok leads d))
 
@@ -185,10 +174,10 @@ goes pair (y ∷ ys) (q ∷ later) rest after is runs e =
 
 -- ---- the site
 
-module _ (disk : Disk) (ps : List Pair) (P : Path) (a : ℕ × ℕ) (ok : IsAccepted disk ps) (leads : LeadsTo ps P a) (first index : ℕ) (pair : Pair) (rest : List Pair) (b : IsPairOfDirectory ps first index pair rest)
+module _ (disk : Disk) (ps : List Pair) (P : Path) (a : ℕ × ℕ) (ok : IsAccepted disk ps) (leads : LeadsTo ps P a) (first index : ℕ) (pair : Pair) (rest : List Pair) (b : IsDirectoryPair ps first index pair rest)
     (begins : IsPairAt ps a first) where
   abbrev chain : List Pair
-  chain = take (pair_count_before_root ps) ps
+  chain = take (count_before_root ps) ps
 
   pub begun : IsDirectory ps a first
   begun = begins_directory disk ps P a first ok leads begins
@@ -196,8 +185,8 @@ module _ (disk : Disk) (ps : List Pair) (P : Path) (a : ℕ × ℕ) (ok : IsAcce
   abbrev d : HasDirectory (pairs_from_root ps) a
   d = begun.directory
 
-  chain_length : length chain ≡ pair_count_before_root ps
-  chain_length = let e = chain_of_thread ps in sym (ap pair_count_before_root e.0 ∙ e.1)
+  chain_length : length chain ≡ count_before_root ps
+  chain_length = let e = chain_of_thread ps in sym (ap count_before_root e.0 ∙ e.1)
 
   first_is : first ≡ length chain + length d.before
   first_is = begun.number ∙ ap (λ (n : ℕ). n + length d.before) (sym chain_length)
@@ -339,8 +328,8 @@ each_dropped P (suc m) (suc n) [] l h = tt
 each_dropped P (suc m) (suc n) (p ∷ ps) l h = each_dropped P m n ps (omega arith) h
 
 -- after the first pair of a directory
-pub plain_behind : (disk : Disk) (ps : List Pair) (first : ℕ) → IsAccepted disk ps → pair_count_before_root ps ≤ first → AreEntryPairs (drop (first + 1) ps)
+pub plain_behind : (disk : Disk) (ps : List Pair) (first : ℕ) → IsAccepted disk ps → count_before_root ps ≤ first → HaveNoSuperblock (drop (first + 1) ps)
 plain_behind disk ps first ok low =
     each_weaker (λ (p : Pair). All IsTreeEntry p.content.slots) (λ (p : Pair). Each (λ s. is_superblock s ≡ false) p.content.slots)
     (λ p h. each_weaker IsTreeEntry (λ s. is_superblock s ≡ false) entry_is_other p.content.slots (recursion_from_All IsTreeEntry p.content.slots h)) (drop (first + 1) ps)
-    (each_dropped (λ (p : Pair). All IsTreeEntry p.content.slots) (pair_count_before_root ps + 1) (first + 1) ps (omega arith) (recursion_from_All (λ (p : Pair). All IsTreeEntry p.content.slots) (drop (pair_count_before_root ps + 1) ps) ok.slots))
+    (each_dropped (λ (p : Pair). All IsTreeEntry p.content.slots) (count_before_root ps + 1) (first + 1) ps (omega arith) (recursion_from_All (λ (p : Pair). All IsTreeEntry p.content.slots) (drop (count_before_root ps + 1) ps) ok.slots))

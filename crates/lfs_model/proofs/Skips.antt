@@ -1,10 +1,7 @@
 -- A skip list is well formed where tests say so, which compute on literal blocks.
 use Rattle.std.proofs.Common.{ℕ, zero, suc, ◌≡◌, ◌<◌, ◌*◌, ◌-◌, ◌^◌, ◌==◌, Bool, true, ◌&&◌, List, length, refl, arith, inl, inr, eqb-true, ltb-true, leb-true, eq-eqb, lt-ltb, le-leb}
 use Rattle.std.specs.Prelude.{slice_index, nat_lt, nat_le}
-use Rattle.std.specs.List.{list_all}
-use Rattle.std.proofs.lemmas.Bool.{and_parts, and_from, cases_lt}
-use Rattle.lfs_model.specs.format.Blocks.{Blocks, block_bytes}
-use Rattle.lfs_model.specs.format.SkipLists.{word_at, pointer_count, block_count_for, blocks_to_head, IsSkipList}
+use Rattle.lfs_model.proofs.Common.{list_all, and_parts, and_from, cases_lt, Blocks, block_bytes, word_at, pointer_count, block_count_for, blocks_to_head, IsSkipList}
 use Rattle.lfs_model.proofs.Acceptance.{all_from, all_to, are_apart, distinct_from, apart_from}
 
 -- the test passes below a number

@@ -1,13 +1,12 @@
 -- A path's bytes are read back as the path.
 use Rattle.std.proofs.Common.{ℕ, ◌≡◌, ◌≤◌, ◌==◌, ◌||◌, Bool, true, false, not, cond, [], ◌∷◌, ◌++◌, length, Some, None, refl, ap, ◌∙◌, arith, nat_le, nat_lt, length-append}
 use Rattle.std.specs.Prelude.{All}
-use Rattle.std.specs.List.{slice_split, list_all}
-use Rattle.std.proofs.lemmas.Bool.{and_parts, not-true, or_parts, lt-ltb, leb-true}
-use Rattle.std.proofs.lemmas.List.{append-nil}
+use Rattle.lfs_model.proofs.Common.{list_all, and_parts, lt-ltb, leb-true, append-nil, Name, is_component, Path}
+use Rattle.std.specs.List.{slice_split}
+use Rattle.std.proofs.lemmas.Bool.{not-true, or_parts}
 use Rattle.std.proofs.lemmas.List.Sums.{AllPass-from_list_all}
 use Rattle.std.proofs.lemmas.List.Splits.{slice_split_none, slice_split_at}
-use Rattle.lfs_model.specs.format.Names.{Name, is_component, slash_byte}
-use Rattle.lfs_model.specs.tree.Tree.{Path}
+use Rattle.lfs_model.specs.format.Names.{slash_byte}
 use Rattle.lfs_model.specs.session.Operations.{parse_path, path_bytes}
 
 abbrev is_slash : ℕ → Bool

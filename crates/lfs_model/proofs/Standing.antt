@@ -1,22 +1,7 @@
 -- What is on a device's disk after its last call, also after one that failed.
 use Rattle.std.proofs.Common.{◌≡◌, ◌≢◌, Bool, true, false, List, [], ◌∷◌, ◌++◌, refl, sym, ap, subst, ◌∙◌}
-use Rattle.std.proofs.lemmas.List.{append_cancel_right}
-use Rattle.std.proofs.lemmas.List.Elements.{All-head}
-use Rattle.lfs_model.specs.format.Blocks.{Blocks}
-use Rattle.lfs_model.specs.format.Disk.{Disk}
-use Rattle.lfs_model.specs.session.History.{CallEvent, AllCalls, AllCallsSince, LeftByLatest, HoldsAtLosses}
-use Rattle.lfs_model.specs.crash.Conformance.{ConformsTo, CallsConform}
-use Rattle.lfs_model.specs.crash.Stops.{LeftByLoss, ErasesCleanly}
-use Rattle.lfs_model.specs.crash.FailedCalls.{FailLikeLossSince}
-use Rattle.lfs_model.specs.session.Operations.{Operation}
-use Rattle.lfs_model.specs.crash.PowerLoss.{FailsLikeLoss, IsHealthySession, HasEither, SurvivesInCalls, SurvivesPowerLoss, with_blocks}
-use Rattle.lfs_model.specs.session.Run.{HealthyHasDiskTree, SystemState}
-use Rattle.lfs_model.specs.session.Session.{Session, DiskSummary}
-use Rattle.lfs_model.specs.session.Effects.{operation_result}
-use Rattle.lfs_model.specs.tree.Shown.{tree_on_disk}
+use Rattle.lfs_model.proofs.Common.{append_cancel_right, All-head, Blocks, Disk, CallEvent, AllCalls, AllCallsSince, LeftByLatest, HoldsAtLosses, ConformsTo, CallsConform, LeftByLoss, ErasesCleanly, FailLikeLossSince, Operation, FailsLikeLoss, IsHealthySession, HasEither, SurvivesInCalls, SurvivesPowerLoss, with_blocks, HealthyHasDiskTree, SystemState, Session, DiskSummary, operation_result, disk_tree, Pair, Tree}
 use Rattle.lfs_model.specs.crash.Standing.{AreConforming}
-use Rattle.lfs_model.specs.format.Thread.{Pair}
-use Rattle.lfs_model.specs.tree.Tree.{Tree}
 use Rattle.lfs_model.proofs.AfterStops.{left_before}
 use Rattle.lfs_model.proofs.Kept.{one_tree}
 use Rattle.lfs_model.proofs.Conformance.{conforming_stops}
@@ -80,7 +65,7 @@ device_survives_loss from to op agrees device survives = record { stops = surviv
         → AllCallsSince ErasesCleanly from.calls to.calls → AllCallsSince FailsLikeLoss from.calls to.calls → HasEither to.disk s.tree (operation_result around s op).1.tree
     behind s ps around work cleanly fails =
         let after : Tree = (operation_result around s op).1.tree in
-        let tree = one_tree from.disk (tree_on_disk from.disk ps) s.tree (ps, (work.accepted, refl)) (subst (HealthyHasDiskTree from.disk) work.healthy agrees) in
+        let tree = one_tree from.disk (disk_tree from.disk ps) s.tree (ps, (work.accepted, refl)) (subst (HealthyHasDiskTree from.disk) work.healthy agrees) in
         let here = left_before from.disk ps s.tree after work.accepted work.writable tree in
         subst (λ (disk : Disk). HasEither disk s.tree after) (sym device.same)
         (stands {P = λ blocks. HasEither (with_blocks blocks from.disk) s.tree after} to.disk.blocks

@@ -1,13 +1,8 @@
 -- What a disk has at an address, and a file's list, where none of their blocks changed.
 use Rattle.std.specs.Prelude.{All}
 use Rattle.std.proofs.Common.{ℕ, ◌≡◌, ◌≢◌, List, get_or, ap, ap₂}
-use Rattle.std.specs.Option.{option_and_then}
-use Rattle.std.proofs.lemmas.List.Elements.{recursion_from_All}
-use Rattle.lfs_model.specs.format.Blocks.{Blocks, SameExceptThese, block_bytes}
-use Rattle.lfs_model.specs.format.Disk.{Disk, disk_block}
-use Rattle.lfs_model.specs.format.Log.{block_entries}
-use Rattle.lfs_model.specs.format.Content.{current_of_two, current_block, raw_content, content_after, empty_raw_content}
-use Rattle.lfs_model.specs.format.SkipLists.{block_count_for, blocks_to_head, IsSkipList, list_bytes}
+use Rattle.lfs_model.proofs.Common.{option_and_then, recursion_from_All, Blocks, SameExceptThese, block_bytes, Disk, disk_block, block_entries, current_of_two, current_block, content_after, empty_raw_content, block_count_for, blocks_to_head, IsSkipList, list_bytes}
+use Rattle.lfs_model.specs.format.Content.{raw_content}
 use Rattle.lfs_model.proofs.Files.{Same, list_same, bytes_same}
 
 -- ---- at an address

@@ -1,23 +1,12 @@
 -- From what an operation does to the disk to its step in a run.
 use Rattle.std.proofs.Common.{◌≡◌, true, false, cond, List, [], ◌++◌, Option, Some, None, refl, sym, ap, subst, ◌∙◌}
-use Rattle.lfs_model.specs.format.Disk.{Disk, SameGeometry, block_count, ordered_disk}
+use Rattle.lfs_model.proofs.Common.{Disk, SameGeometry, block_count, ordered_disk, content_at, zero_gstate, Pair, pairs_gstate, IsAccepted, DiskView, HasDiskView, disk_view, disk_tree, IsWritable, CallEvent, Operation, Reply, Refusal, Session, DiskSummary, FileReader, file_reader, file_numbered, operation_refusal, operation_effect, read_effect, unless_refused, IsSummary, SessionHealth, HasFailed, Healthy, is_remount, remount_result, other_result, mounted_session, IsRecovered, is_refusal, IsEffect, IsStep}
 use Rattle.lfs_model.specs.declared.order.NameOrder.{NameOrder}
 use Rattle.lfs_model.specs.declared.order.NameOrder.TheVariants.{LongerFirst, ShorterFirst}
-use Rattle.lfs_model.specs.format.Content.{content_at}
-use Rattle.lfs_model.specs.format.Slots.{zero_gstate}
-use Rattle.lfs_model.specs.format.Thread.{Pair, pairs_gstate}
-use Rattle.lfs_model.specs.tree.View.{IsAccepted, DiskView, HasDiskView, disk_view}
-use Rattle.lfs_model.specs.tree.Shown.{tree_on_disk}
-use Rattle.lfs_model.specs.tree.Profile.{IsWritable}
-use Rattle.lfs_model.specs.session.History.{CallEvent}
 use Rattle.lfs_model.specs.session.Operations as ops
-use Rattle.lfs_model.specs.session.Operations.{Operation, Reply, Refusal, Failed}
-use Rattle.lfs_model.specs.session.Session.{Session, DiskSummary, FileReader, file_reader, file_numbered}
-use Rattle.lfs_model.specs.session.Refusals.{operation_refusal}
-use Rattle.lfs_model.specs.session.Effects.{operation_effect, read_effect, unless_refused}
-use Rattle.lfs_model.specs.session.State.{IsSummary, SessionHealth, HasFailed, Healthy, is_remount, remount_result, reply_else, mounted_session}
-use Rattle.lfs_model.specs.session.Recovery.{IsRecovered, recovers_first}
-use Rattle.lfs_model.specs.session.Run.{IsReply, is_refusal, is_read_only, opens_existing, writes_or_truncates, needs_no_call, renames_itself, is_recover, edits_slots, WriteNothing, IsUntouched, disk_read_by, IsEffect, IsStep}
+use Rattle.lfs_model.specs.session.Operations.{Failed}
+use Rattle.lfs_model.specs.session.Recovery.{recovers_first}
+use Rattle.lfs_model.specs.session.Run.{IsReply, is_read_only, opens_existing, writes_or_truncates, needs_no_call, renames_itself, is_recover, edits_slots, WriteNothing, IsUntouched, disk_read_by}
 use Rattle.lfs_model.proofs.Uniqueness.{one_thread}
 use Rattle.lfs_model.proofs.OtherOrder.{same_pairs, writable_in_order}
 use Rattle.lfs_model.proofs.Arranged.{IsFinished}
@@ -34,7 +23,7 @@ same_session s t e = ap or_else e
 pub record IsOver (disk : Disk) (ps : List Pair) (s : Session) (around : DiskSummary) : Type 0 where
   pub accepted : IsAccepted disk ps
   pub surrounds : IsSummary disk ps around
-  pub tree : s.tree ≡ tree_on_disk disk ps
+  pub tree : s.tree ≡ disk_tree disk ps
 
 answered_by : (disk : Disk) (order : NameOrder) (ps : List Pair) (s : Session) (around : DiskSummary) (op : Operation) (reply : Reply) (after : Session) → IsOver disk ps s around → is_remount op ≡ false →
     unless_refused (operation_refusal around s op) s (operation_effect around s op) ≡ (reply, after) → IsReply disk order (Healthy s) op reply (Healthy after)
@@ -43,7 +32,7 @@ answered_by disk order ps s around op reply after over other e = record {
   shown = None;
   surrounds = λ t f. (ps, (over.accepted, over.surrounds));
   shows = λ f. absurd (let k = sym other ∙ f in cc);
-  answers = ap (λ b. cond b (remount_result None) (reply_else around (Healthy s) op)) other ∙ ap (λ z. (Some z.0, Healthy z.1)) e;
+  answers = ap (λ b. cond b (remount_result None) (other_result around (Healthy s) op)) other ∙ ap (λ z. (Some z.0, Healthy z.1)) e;
 }
 
 -- a remount alone finds another order of names
@@ -244,7 +233,7 @@ failed_step disk around op old other = record {
     shown = None;
     surrounds = λ s e. absurd (cc);
     shows = λ f. absurd (let k = sym other ∙ f in cc);
-    answers = ap (λ b. cond b (remount_result None) (reply_else around HasFailed op)) other;
+    answers = ap (λ b. cond b (remount_result None) (other_result around HasFailed op)) other;
   };
   agrees = tt;
   geometry = same_geometry op disk disk other (record { block_size = refl; page = refl; order = refl; profile = refl; count = refl });
@@ -259,11 +248,11 @@ failed_step disk around op old other = record {
 -- What surrounds a session that worked is asked for, and not used.
 pub remounted_step : (disk : Disk) (order : NameOrder) (ps : List Pair) (around : DiskSummary) (state : SessionHealth) (calls old : List CallEvent) → ((s : Session) → state ≡ Healthy s → (xs : List Pair) × (IsAccepted disk xs × IsSummary disk xs around)) →
     IsAccepted (ordered_disk order disk) ps → (order ≡ ShorterFirst → (qs : List Pair) → IsAccepted (ordered_disk LongerFirst disk) qs → ⊥) → WriteNothing calls →
-    IsStep (record { disk = disk; calls = old; state = state }) ops.Remount ops.Done (record { disk = ordered_disk order disk; calls = calls ++ old; state = Healthy (mounted_session (tree_on_disk disk ps)) })
+    IsStep (record { disk = disk; calls = old; state = state }) ops.Remount ops.Done (record { disk = ordered_disk order disk; calls = calls ++ old; state = Healthy (mounted_session (disk_tree disk ps)) })
 remounted_step disk order ps around state calls old surrounds ok longer writes = record {
   answered = record {
     around = around;
-    shown = Some (tree_on_disk disk ps);
+    shown = Some (disk_tree disk ps);
     surrounds = surrounds;
     shows = λ f. (ps, (ok, refl));
     answers = refl;

@@ -1,16 +1,7 @@
 -- A step of an operation leads to an accepted disk in the writing profile, with the tree from before the operation or the one from after it.
 use Rattle.std.proofs.Common.{ℕ, ◌≡◌, ◌≢◌, inl, Bool, true, false, List, [], ◌∷◌, ◌++◌, Option, Some, None, arith, sym, subst, ◌∙◌, append-nil}
 use Rattle.std.specs.Prelude.{All}
-use Rattle.std.proofs.lemmas.List.Elements.{All-from_recursion, recursion_from_All}
-use Rattle.lfs_model.specs.format.Disk.{Disk}
-use Rattle.lfs_model.specs.format.Slots.{Slot, Tail, same_pair, FitsInPair}
-use Rattle.lfs_model.specs.format.Thread.{Pair, is_hard_tail}
-use Rattle.lfs_model.specs.tree.Tree.{Path, Tree}
-use Rattle.lfs_model.specs.tree.Profile.{IsWritable, IsWritableSlot, HasNoEmpties}
-use Rattle.lfs_model.specs.tree.Shown.{LeadsTo, tree_on_disk}
-use Rattle.lfs_model.specs.session.SlotEdits.{pair_with_slots}
-use Rattle.lfs_model.specs.session.Layout.{FitsPair}
-use Rattle.lfs_model.specs.crash.PowerLoss.{HasEither}
+use Rattle.lfs_model.proofs.Common.{All-from_recursion, recursion_from_All, Disk, Slot, Tail, same_pair, FitsInPair, Pair, is_hard_tail, Path, Tree, IsWritable, IsWritableSlot, HasNoEmpties, LeadsTo, disk_tree, pair_with_slots, FitsPair, HasEither, IsWritableChange}
 use Rattle.lfs_model.proofs.Counts.{Each, each_append, each_left, each_right, each_pieces}
 use Rattle.lfs_model.proofs.Laws.{PathAddresses}
 use Rattle.lfs_model.proofs.Changes.{IsChangedImage}
@@ -28,7 +19,6 @@ use Rattle.lfs_model.proofs.Writable.{ends_joined}
 use Rattle.lfs_model.proofs.LeftFiles.{Parts}
 use Rattle.lfs_model.proofs.MadeDirectory.{Cut, follows_then}
 use Rattle.lfs_model.proofs.Profiles.{step_writable, drop_writable, beside_writable, set_writable, end_writable}
-use Rattle.lfs_model.specs.layers.Steps.{IsWritableChange}
 pub use Rattle.lfs_model.specs.layers.Steps.{IsWritableChange}
 
 -- ---- what a step comes to
@@ -38,7 +28,7 @@ pub taken_then : (a b c : Disk) (ps qs rs : List Pair) (f g : Tree → Tree) (v 
 taken_then a b c ps qs rs f g v w parts first second = record { follows = follows_then a b c ps qs rs f g v w parts first.follows second.follows; writable = second.writable }
 
 -- the tree is still the one from before, or already the one from after it
-pub taken_before : (disk : Disk) (ps : List Pair) (new : Disk) (qs : List Pair) (walk : PathAddresses → PathAddresses) (after : Tree) → IsWritableChange disk ps new qs (λ t. t) walk → HasEither new (tree_on_disk disk ps) after
+pub taken_before : (disk : Disk) (ps : List Pair) (new : Disk) (qs : List Pair) (walk : PathAddresses → PathAddresses) (after : Tree) → IsWritableChange disk ps new qs (λ t. t) walk → HasEither new (disk_tree disk ps) after
 taken_before disk ps new qs walk after step = record { pairs = qs; accepted = step.follows.accepted; writable = step.writable; tree = inl step.follows.shows }
 
 -- ---- the profile of a pair that changes

@@ -1,11 +1,7 @@
 -- What a stop leaves: the disk before the call always, and what a whole call makes.
 use Rattle.std.specs.Prelude.{ℕ, ◌≡◌, ◌+◌, ◌≤◌, ◌<◌, take, drop}
 use Rattle.std.proofs.Common.{List, [], ◌++◌, length, inl, inr, refl, ap, ◌∙◌, arith, length-append}
-use Rattle.std.proofs.lemmas.List.{length-set, length-take-le, length-drop, get_or-set_same, get_or-set_other}
-use Rattle.lfs_model.specs.format.Blocks.{Blocks, block_bytes, overwritten_at, programmed, SameExcept}
-use Rattle.lfs_model.specs.format.Log.{block_log}
-use Rattle.lfs_model.specs.session.History.{DeviceCall, Read, Program, Erase, Blank}
-use Rattle.lfs_model.specs.crash.Stops.{may_stop_leave}
+use Rattle.lfs_model.proofs.Common.{length-set, length-take-le, length-drop, get_or-set_same, get_or-set_other, Blocks, block_bytes, overwritten_at, programmed, SameExcept, block_log, DeviceCall, Read, Program, Erase, Blank, may_stop_leave}
 
 same_but_nothing : (b : ℕ) (blocks : Blocks) → SameExcept b blocks blocks
 same_but_nothing b blocks = record { count = refl; size = refl; others = λ other d. refl }

@@ -1,19 +1,14 @@
 -- The entries of changes can be stored, so what they make of a content can be written again.
 use Rattle.std.proofs.Common.{ℕ, zero, suc, ◌≡◌, ◌+◌, ◌/◌, ◌%◌, ◌<◌, ◌≤◌, ◌==◌, ◌&&◌, Bool, true, false, cond, List, [], ◌∷◌, length, Some, None, refl, sym, ap, ◌∙◌, arith}
 use Rattle.std.specs.Prelude.{slice_index, nat_le, nat_lt}
-use Rattle.std.specs.List.{list_all}
-use Rattle.std.proofs.lemmas.Bool.{and_parts, ne_eqb, leb-true, ltb-true}
-use Rattle.lfs_model.specs.format.Tag.{make_tag, abstract_type, tag_length}
-use Rattle.lfs_model.specs.format.Content.{RawContent, content_after}
-use Rattle.lfs_model.specs.format.EntryTypes.{is_attribute_removal, no_id, create_tag_type, delete_tag_type, move_type}
-use Rattle.lfs_model.specs.layers.WrittenContent.{log_entry_of, lowest_type, address_bytes, bytes_of_move_state, tail_type, tail_or_null}
-use Rattle.lfs_model.specs.layers.LoggedContent.{HasLength, HaveLengths, IsWellFormed}
-use Rattle.lfs_model.specs.layers.Changes.{PairChange, Create, Delete, PutStruct, PutAttribute, RemoveAttribute, PutTail, PutMove, change_entries, entries_of_changes, is_storable, is_name_type, is_struct_type, fits_in_tag, changed_content_of}
+use Rattle.lfs_model.proofs.Common.{list_all, and_parts, ne_eqb, leb-true, ltb-true, make_tag, abstract_type, tag_length, RawContent, content_after, is_attribute_removal, no_id, create_tag_type, delete_tag_type, move_type, log_entry, first_attribute_type, address_bytes, bytes_of_move_state, HasLength, HaveLengths, IsWellFormed, PairChange, Create, Delete, PutStruct, PutAttribute, RemoveAttribute, PutTail, PutMove, change_entries, entries_of_changes, is_storable, changed_content_of}
+use Rattle.lfs_model.specs.layers.WrittenContent.{tail_type, tail_or_null}
+use Rattle.lfs_model.specs.layers.Changes.{is_name_type, is_struct_type, fits_in_tag}
 use Rattle.lfs_model.proofs.WrittenAnew.{tag_length-make_tag}
 use Rattle.lfs_model.proofs.Logged.{stored_append, logged_after_all}
 
 -- an entry with at most 1,022 bytes
-stored_data : (type id : ℕ) (bytes : List ℕ) → length bytes ≤ 1022 → (6 ≤ abstract_type (make_tag type id (length bytes)) → (i : ℕ) → slice_index bytes i < 256) → HasLength (log_entry_of type id bytes)
+stored_data : (type id : ℕ) (bytes : List ℕ) → length bytes ≤ 1022 → (6 ≤ abstract_type (make_tag type id (length bytes)) → (i : ℕ) → slice_index bytes i < 256) → HasLength (log_entry type id bytes)
 stored_data type id bytes short small =
     let len : tag_length (make_tag type id (length bytes)) ≡ length bytes = tag_length-make_tag type id (length bytes) (omega arith) in
     let stays : is_attribute_removal (make_tag type id (length bytes)) ≡ false = ne_eqb (tag_length (make_tag type id (length bytes))) 0x3ff (λ h. omega arith) in
@@ -36,7 +31,7 @@ pair_small : (pair : ℕ × ℕ) → EachSmall (address_bytes pair)
 pair_small pair = eight [] tt pair.0 (pair.0 / 256) (pair.0 / 65536) (pair.0 / 16777216) pair.1 (pair.1 / 256) (pair.1 / 65536) (pair.1 / 16777216)
 
 -- entries of names, structs and attributes are of a lower class
-stored_low : (type id : ℕ) (bytes : List ℕ) → type < 0x600 → id < 0x3ff → length bytes ≤ 1022 → HasLength (log_entry_of type id bytes)
+stored_low : (type id : ℕ) (bytes : List ℕ) → type < 0x600 → id < 0x3ff → length bytes ≤ 1022 → HasLength (log_entry type id bytes)
 stored_low type id bytes t i n = stored_data type id bytes n (λ k. absurd (omega arith))
 
 stored_change : (c : PairChange) → is_storable c ≡ true → HaveLengths (change_entries c)
@@ -58,12 +53,12 @@ stored_change (PutAttribute id attribute bytes) s =
     let a = and_parts (nat_lt id no_id) (nat_lt attribute 0x100 && fits_in_tag bytes) s in
     let b = and_parts (nat_lt attribute 0x100) (fits_in_tag bytes) a.1 in
     let below : attribute < 0x100 = ltb-true attribute 0x100 b.0 in
-    (stored_low (lowest_type + attribute) id bytes (omega arith) (ltb-true id no_id a.0) (leb-true (length bytes) 1022 b.1), tt)
+    (stored_low (first_attribute_type + attribute) id bytes (omega arith) (ltb-true id no_id a.0) (leb-true (length bytes) 1022 b.1), tt)
 stored_change (RemoveAttribute id attribute) s =
     let a = and_parts (nat_lt id no_id) (nat_lt attribute 0x100) s in
     let i : id < 0x3ff = ltb-true id no_id a.0 in
     let below : attribute < 0x100 = ltb-true attribute 0x100 a.1 in
-    let len : tag_length (make_tag (lowest_type + attribute) id 0x3ff) ≡ 0x3ff = tag_length-make_tag (lowest_type + attribute) id 0x3ff (omega arith) in (
+    let len : tag_length (make_tag (first_attribute_type + attribute) id 0x3ff) ≡ 0x3ff = tag_length-make_tag (first_attribute_type + attribute) id 0x3ff (omega arith) in (
       record {
         size = sym (ap (λ l. cond (l == 0x3ff) 0 l) len);
         bytes = λ k. absurd (omega arith);

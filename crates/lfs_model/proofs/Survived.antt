@@ -1,37 +1,16 @@
 -- What a loss of power in a run leaves, and what a mount and a recovery make of it. So it is for any number of them.
 use Rattle.std.proofs.Common.{◌≡◌, ◌⊎◌, inl, inr, ℕ, Bool, true, false, cond, not, List, [], ◌∷◌, ◌++◌, Option, Some, None, refl, sym, ap, ap₂, subst, ◌∙◌, append_assoc}
 use Rattle.std.specs.Prelude.{All, Any}
-use Rattle.std.proofs.lemmas.List.Elements.{recursion_from_All}
+use Rattle.lfs_model.proofs.Common.{recursion_from_All, same_Some, append_cancel_right, Blocks, Disk, SameGeometry, block_count, ordered_disk, content_at, Pair, pairs_gstate, Tree, IsAccepted, IsWritable, IsWritableDisk, disk_tree, used_blocks, Operation, Reply, Session, DiskSummary, refuse_if, operation_result, unless_refused, SessionHealth, Healthy, is_remount, other_result, mounted_session, IsRecovered, SystemState, ShowsTree, HealthyHasDiskTree, is_refusal, IsStep, HasDiskTree, LeftByLoss, ErasesCleanly, HasEither, with_blocks, IsHealthySession, SurvivesPowerLoss, IsSafeStep, AreSafeSteps, IsRun, IsMounted, KeepsTree, LossAfterRun, SurvivesLoss, CallEvent, AllCalls, AllCallsSince, HoldsAtLosses, accepted_operation}
 use Rattle.lfs_model.proofs.Counts.{Each, each_left}
-use Rattle.std.proofs.lemmas.Option.{same_Some}
-use Rattle.std.proofs.lemmas.List.{append_cancel_right}
-use Rattle.lfs_model.specs.format.Blocks.{Blocks}
-use Rattle.lfs_model.specs.format.Disk.{Disk, SameGeometry, block_count, ordered_disk}
 use Rattle.lfs_model.specs.declared.order.NameOrder.{NameOrder}
 use Rattle.lfs_model.specs.declared.limits.Profile.{Profile}
-use Rattle.lfs_model.specs.format.Content.{content_at}
-use Rattle.lfs_model.specs.format.Thread.{Pair, pairs_gstate}
-use Rattle.lfs_model.specs.tree.Tree.{Tree}
-use Rattle.lfs_model.specs.tree.View.{IsAccepted}
-use Rattle.lfs_model.specs.tree.Profile.{IsWritable, IsWritableDisk}
-use Rattle.lfs_model.specs.tree.Shown.{tree_on_disk, used_blocks}
 use Rattle.lfs_model.specs.session.Operations as ops
-use Rattle.lfs_model.specs.session.Operations.{Operation, Reply, ReadOnly}
-use Rattle.lfs_model.specs.session.Session.{Session, DiskSummary, refuse_if}
-use Rattle.lfs_model.specs.session.Effects.{operation_result, unless_refused}
-use Rattle.lfs_model.specs.session.State.{SessionHealth, Healthy, is_remount, reply_else, mounted_session}
-use Rattle.lfs_model.specs.session.Recovery.{IsRecovered}
-use Rattle.lfs_model.specs.session.Run.{SystemState, ShowsTree, HealthyHasDiskTree, is_refusal, IsStep}
-use Rattle.lfs_model.specs.session.Headline.{HasDiskTree}
-use Rattle.lfs_model.specs.crash.Stops.{LeftByLoss, ErasesCleanly}
-use Rattle.lfs_model.specs.crash.PowerLoss.{HasEither, with_blocks, IsHealthySession, SurvivesPowerLoss}
-use Rattle.lfs_model.specs.crash.Performed.{IsSafeStep, AreSafeSteps, IsRun}
-use Rattle.lfs_model.specs.crash.RepeatedPowerLoss.{IsMounted, SameBytes, RecoversTree, KeepsTree, LeftInCall, LeftBetween, LossInOperation, LossAfterRun, LossInOperations, SurvivesLoss, LeftByLosses, SurvivesEach, MeetsRunPremises, CrashSafe}
-use Rattle.lfs_model.specs.session.History.{CallEvent, AllCalls, AllCallsSince, HoldsAtLosses}
-use Rattle.lfs_model.specs.crash.ReadBounds.{unless_refusal}
+use Rattle.lfs_model.specs.session.Operations.{ReadOnly}
+use Rattle.lfs_model.specs.crash.RepeatedPowerLoss.{SameBytes, RecoversTree, LeftInCall, LeftBetween, LossInOperation, LossInOperations, LeftByLosses, SurvivesEach, MeetsRunPremises, CrashSafe}
 use Rattle.lfs_model.proofs.AfterStops.{left_before}
 use Rattle.lfs_model.proofs.Histories.{began, goes_on_by, AllCallsSince-until, AllCallsSince-behind}
-use Rattle.lfs_model.proofs.Sites.{HoldsOfSome, among_from, any_from, among_parts}
+use Rattle.lfs_model.proofs.Sites.{AnyByRecursion, among_from, any_from, among_parts}
 use Rattle.lfs_model.proofs.Uniqueness.{one_thread}
 use Rattle.lfs_model.proofs.SessionSteps.{IsHealthy, true_from, session_step_is_healthy}
 use Rattle.lfs_model.proofs.Kept.{mount_begins, one_tree, turn_keeps, profile_stays}
@@ -45,21 +24,21 @@ pub record IsRecoveredFrom (disk : Disk) (ps : List Pair) (reply : Reply) (new :
   pub accepted : IsAccepted new pairs
   pub writable : IsWritable new pairs
   pub recovered : IsRecovered pairs
-  pub tree : tree_on_disk new pairs ≡ tree_on_disk disk ps
+  pub tree : disk_tree new pairs ≡ disk_tree disk ps
 
 -- the session that a mount of the disk begins, and a recover in it
-pub recover_keeps : (from to : SystemState) (reply : Reply) (ps : List Pair) → IsAccepted from.disk ps → IsWritable from.disk ps → from.state ≡ Healthy (mounted_session (tree_on_disk from.disk ps)) →
+pub recover_keeps : (from to : SystemState) (reply : Reply) (ps : List Pair) → IsAccepted from.disk ps → IsWritable from.disk ps → from.state ≡ Healthy (mounted_session (disk_tree from.disk ps)) →
     IsStep from ops.Recover reply to → IsRecoveredFrom from.disk ps reply to.disk
 recover_keeps from to reply ps ok fits state turn =
     let a = turn.answered in
-    let s = a.surrounds (mounted_session (tree_on_disk from.disk ps)) state in
+    let s = a.surrounds (mounted_session (disk_tree from.disk ps)) state in
     let same = one_thread (content_at from.disk) (block_count from.disk) ps s.0 ok.thread s.1.0.thread in
     let writes = s.1.1.writable.1 (subst (IsWritable from.disk) same fits) in
-    let answer = sym (ap (λ state. reply_else a.around state ops.Recover) state) ∙ a.answers in
+    let answer = sym (ap (λ state. other_result a.around state ops.Recover) state) ∙ a.answers in
     let e = allowed a.around writes ∙ answer in
     let done : reply ≡ ops.Done = sym (same_Some ops.Done reply (ap (λ (z : Option Reply × SessionHealth). z.0) e)) in
     let shown = subst (HealthyHasDiskTree to.disk) (sym (ap (λ (z : Option Reply × SessionHealth). z.1) e)) turn.agrees in
-    let carried = turn.effect_on_disk (ap is_refusal done) (mounted_session (tree_on_disk from.disk ps)) state ps shown.0 ok shown.1.0 in
+    let carried = turn.effect_on_disk (ap is_refusal done) (mounted_session (disk_tree from.disk ps)) state ps shown.0 ok shown.1.0 in
     record {
       done = done;
       pairs = shown.0;
@@ -70,10 +49,10 @@ recover_keeps from to reply ps ok fits state turn =
     }
   where
     allowed : (around : DiskSummary) → around.writable ≡ true →
-        (Some ops.Done, Healthy (mounted_session (tree_on_disk from.disk ps))) ≡ reply_else around (Healthy (mounted_session (tree_on_disk from.disk ps))) ops.Recover
+        (Some ops.Done, Healthy (mounted_session (disk_tree from.disk ps))) ≡ other_result around (Healthy (mounted_session (disk_tree from.disk ps))) ops.Recover
     allowed around e = ap (λ b. (
-      Some (unless_refused (refuse_if (not b) ReadOnly) (mounted_session (tree_on_disk from.disk ps)) (ops.Done, mounted_session (tree_on_disk from.disk ps))).0,
-      Healthy (unless_refused (refuse_if (not b) ReadOnly) (mounted_session (tree_on_disk from.disk ps)) (ops.Done, mounted_session (tree_on_disk from.disk ps))).1,
+      Some (unless_refused (refuse_if (not b) ReadOnly) (mounted_session (disk_tree from.disk ps)) (ops.Done, mounted_session (disk_tree from.disk ps))).0,
+      Healthy (unless_refused (refuse_if (not b) ReadOnly) (mounted_session (disk_tree from.disk ps)) (ops.Done, mounted_session (disk_tree from.disk ps))).1,
     )) (sym e)
 
 -- ---- a mount, in either order of names
@@ -88,28 +67,28 @@ same_thread disk other ps qs same a b = one_thread (content_at disk) (block_coun
 record IsFound (disk : Disk) (ps : List Pair) (begin : SystemState) : Type 0 where
   accepted : IsAccepted begin.disk ps
   writable : IsWritable begin.disk ps
-  tree : tree_on_disk begin.disk ps ≡ tree_on_disk disk ps
-  state : begin.state ≡ Healthy (mounted_session (tree_on_disk disk ps))
+  tree : disk_tree begin.disk ps ≡ disk_tree disk ps
+  state : begin.state ≡ Healthy (mounted_session (disk_tree disk ps))
 
 found : (disk other : Disk) (ps : List Pair) (begin : SystemState) → IsAccepted disk ps → IsWritable disk ps → SameBytes disk other → IsMounted other begin → IsFound disk ps begin
 found disk other ps begin ok fits same m =
     let s = m.shows in
     let pairs = same_thread disk other ps s.0 same ok s.1.0 in
     let is = m.on ∙ same in
-    let tree : tree_on_disk other ps ≡ tree_on_disk disk ps = ap (λ d. tree_on_disk d ps) same in
+    let tree : disk_tree other ps ≡ disk_tree disk ps = ap (λ d. disk_tree d ps) same in
     record {
       accepted = subst (λ d. IsAccepted d ps) (sym m.on) (subst (IsAccepted other) (sym pairs) s.1.0);
       writable = subst (λ d. IsWritable d ps) (sym m.on) (writable_too disk other ps same fits);
-      tree = ap (λ d. tree_on_disk d ps) is;
-      state = m.healthy ∙ ap (λ t. Healthy (mounted_session t)) (s.1.1 ∙ ap (tree_on_disk other) (sym pairs) ∙ tree);
+      tree = ap (λ d. disk_tree d ps) is;
+      state = m.healthy ∙ ap (λ t. Healthy (mounted_session t)) (s.1.1 ∙ ap (disk_tree other) (sym pairs) ∙ tree);
     }
 
-restored : (disk : Disk) (ps : List Pair) (begin to : SystemState) (reply : Reply) → IsFound disk ps begin → IsStep begin ops.Recover reply to → RecoversTree (tree_on_disk disk ps) reply to.disk
+restored : (disk : Disk) (ps : List Pair) (begin to : SystemState) (reply : Reply) → IsFound disk ps begin → IsStep begin ops.Recover reply to → RecoversTree (disk_tree disk ps) reply to.disk
 restored disk ps begin to reply f turn =
     let r = recover_keeps begin to reply ps f.accepted f.writable (f.state ∙ ap (λ t. Healthy (mounted_session t)) (sym f.tree)) turn in
     record { done = r.done; pairs = r.pairs; accepted = r.accepted; writable = r.writable; recovered = r.recovered; kept = r.tree ∙ f.tree }
 
-pub safe_with : (disk : Disk) (ps : List Pair) → IsAccepted disk ps → IsWritable disk ps → KeepsTree (tree_on_disk disk ps) disk
+pub safe_with : (disk : Disk) (ps : List Pair) → IsAccepted disk ps → IsWritable disk ps → KeepsTree (disk_tree disk ps) disk
 safe_with disk ps ok fits = record {
   pairs = ps;
   accepted = ok;
@@ -127,7 +106,7 @@ shows_tree at s agrees healthy = subst (HealthyHasDiskTree at.disk) (sym agrees.
 
 stays : (at : SystemState) (s : Session) (ps : List Pair) (around : DiskSummary) (after : Tree) → HasDiskTree at → IsHealthySession at s ps around → HasEither at.disk s.tree after
 stays at s ps around after agrees work = left_before at.disk ps s.tree after work.accepted work.writable
-    (one_tree at.disk (tree_on_disk at.disk ps) s.tree (ps, (work.accepted, refl)) (shows_tree at s agrees work.healthy))
+    (one_tree at.disk (disk_tree at.disk ps) s.tree (ps, (work.accepted, refl)) (shows_tree at s agrees work.healthy))
 
 abbrev around_of : Disk → List Pair → DiskSummary
 around_of disk ps = record { writable = true; profile = disk.profile; block_size = disk.block_size; page = disk.page; block_count = block_count disk; used = used_blocks disk ps; gstate = pairs_gstate ps }
@@ -145,7 +124,7 @@ stopped_has : (P : Blocks → Type 0) (old new : List CallEvent) (blocks : Block
 stopped_has P old new blocks all since =
     among all.events (all.each) (among_from (λ e. LeftByLoss e blocks) all.events (subst (λ es. Any (λ e. LeftByLoss e blocks) es) (append_cancel_right since.events all.events old (sym since.extends ∙ all.extends)) since.stopped))
   where
-    among : (events : List CallEvent) → AllCalls (λ e. (disk : Blocks) → LeftByLoss e disk → P disk) events → HoldsOfSome (λ e. LeftByLoss e blocks) events → P blocks
+    among : (events : List CallEvent) → AllCalls (λ e. (disk : Blocks) → LeftByLoss e disk → P disk) events → AnyByRecursion (λ e. LeftByLoss e blocks) events → P blocks
     among [] h k = absurd k
     among (e ∷ events) h (inl k) = h.0 blocks k
     among (e ∷ events) h (inr k) = among events h.1 k
@@ -182,7 +161,7 @@ in_one NoRemount from next op left agrees profile survives_loss cleanly stop =
     record {
       order = left.order;
       stays = λ none. refl;
-      tree = tree_on_disk left k.pairs;
+      tree = disk_tree left k.pairs;
       cut = record { stop = stop; session = agrees.session; pairs = profile.0; around = around_of from.disk profile.0; work = work; either = k.tree };
       safe = safe_with left k.pairs k.accepted k.writable;
     }
@@ -195,7 +174,7 @@ at_end NoRemount at left agrees profile stop =
     record {
       order = left.order;
       stays = λ none. refl;
-      tree = tree_on_disk left k.pairs;
+      tree = disk_tree left k.pairs;
       cut = record { stays = here stop; session = agrees.session; healthy = agrees.healthy; is = either_is k.tree };
       safe = safe_with left k.pairs k.accepted k.writable;
     }
@@ -218,13 +197,13 @@ abbrev IsEither : (from next to : SystemState) (blocks : Blocks) → Type 0
 IsEither from next to blocks = LeftInCall from.calls next.calls blocks ⊎ LeftInCall next.calls to.calls blocks
 
 either_part : (from next to : SystemState) (blocks : Blocks) {P Q : CallEvent → Type 0} → AllCallsSince P from.calls next.calls → AllCallsSince Q next.calls to.calls → LeftInCall from.calls to.calls blocks → IsEither from next to blocks
-either_part from next to blocks first second since = go (among_parts (λ e. LeftByLoss e blocks) second.events first.events (subst (HoldsOfSome (λ e. LeftByLoss e blocks)) same (among_from (λ e. LeftByLoss e blocks) since.events since.stopped)))
+either_part from next to blocks first second since = go (among_parts (λ e. LeftByLoss e blocks) second.events first.events (subst (AnyByRecursion (λ e. LeftByLoss e blocks)) same (among_from (λ e. LeftByLoss e blocks) since.events since.stopped)))
   where
     same : since.events ≡ second.events ++ first.events
     same = append_cancel_right since.events (second.events ++ first.events) from.calls
         (sym since.extends ∙ second.extends ∙ ap (λ (l : List CallEvent). second.events ++ l) first.extends ∙ sym (append_assoc second.events first.events from.calls))
 
-    go : HoldsOfSome (λ e. LeftByLoss e blocks) second.events ⊎ HoldsOfSome (λ e. LeftByLoss e blocks) first.events → IsEither from next to blocks
+    go : AnyByRecursion (λ e. LeftByLoss e blocks) second.events ⊎ AnyByRecursion (λ e. LeftByLoss e blocks) first.events → IsEither from next to blocks
     go (inl k) = inr (record { events = second.events; extends = second.extends; stopped = any_from (λ e. LeftByLoss e blocks) second.events k })
     go (inr k) = inl (record { events = first.events; extends = first.extends; stopped = any_from (λ e. LeftByLoss e blocks) first.events k })
 
@@ -308,9 +287,9 @@ run_survived before [] [] AtEnd from at to left h tail last may stop = last (sub
 run_survived before [] (reply ∷ replies) AtEnd from at to left h tail last may stop = absurd h
 run_survived before (op ∷ operations) [] AtEnd from at to left h tail last may stop = absurd h
 run_survived before (op ∷ operations) (reply ∷ replies) AtEnd from at to left (next, (one, rest)) tail last may stop =
-    further before op reply (λ disk tree. LossInOperations (unless_refusal op reply) next operations replies at rest disk tree (AtEnd disk tree)) (NoRemountAmong operations) from next to left one
-    (goes_on_by (performed_since (unless_refusal op reply) operations replies next at rest) tail)
-    (λ may left stop. run_survived (unless_refusal op reply) operations replies AtEnd next at to left rest tail last may stop) may stop
+    further before op reply (λ disk tree. LossInOperations (accepted_operation op reply) next operations replies at rest disk tree (AtEnd disk tree)) (NoRemountAmong operations) from next to left one
+    (goes_on_by (performed_since (accepted_operation op reply) operations replies next at rest) tail)
+    (λ may left stop. run_survived (accepted_operation op reply) operations replies AtEnd next at to left rest tail last may stop) may stop
 
 once_survived : (from : SystemState) (operations : List Operation) (to : SystemState) (left : Disk) (run : IsRun from operations to) → MeetsRunPremises from to → LeftBetween from to left → SurvivesLoss from operations to run left
 once_survived from operations to left (inl (replies, h)) may stop =

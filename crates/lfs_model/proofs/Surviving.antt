@@ -1,20 +1,8 @@
 -- Session steps that survive stops survive them.
 use Rattle.std.proofs.Common.{ℕ, ◌≡◌, Bool, true, false, cond, List, Option, Some, refl, sym, ap, ap₂, subst, ◌∙◌}
 use Rattle.lfs_model.specs.declared.limits.Profile.{Profile}
-use Rattle.lfs_model.specs.format.Content.{content_at}
-use Rattle.lfs_model.specs.format.Disk.{Disk, block_count, ordered_disk}
-use Rattle.lfs_model.specs.session.Operations.{Operation, Reply}
-use Rattle.lfs_model.specs.crash.PowerLoss.{IsHealthySession, HasEither, SurvivesInCalls, SurvivesPowerLoss}
-use Rattle.lfs_model.specs.session.Run.{HealthyHasDiskTree, ShowsTree, IsStep, SystemState, is_refusal}
-use Rattle.lfs_model.specs.session.Session.{Session, DiskSummary}
-use Rattle.lfs_model.specs.format.Slots.{Gstate}
-use Rattle.lfs_model.specs.session.State.{Healthy, SessionHealth, IsSummary, reply_else, is_remount, remount_result}
-use Rattle.lfs_model.specs.session.Effects.{operation_result}
-use Rattle.lfs_model.specs.format.Thread.{Pair}
-use Rattle.lfs_model.specs.tree.View.{IsAccepted}
-use Rattle.lfs_model.specs.tree.Shown.{tree_on_disk}
+use Rattle.lfs_model.proofs.Common.{content_at, Disk, block_count, ordered_disk, Operation, Reply, IsHealthySession, HasEither, SurvivesInCalls, SurvivesPowerLoss, HealthyHasDiskTree, ShowsTree, IsStep, SystemState, is_refusal, Session, DiskSummary, Gstate, Healthy, SessionHealth, IsSummary, other_result, is_remount, remount_result, operation_result, Pair, IsAccepted, disk_tree, IsWritable}
 use Rattle.lfs_model.proofs.AfterStops.{left_after, left_before}
-use Rattle.lfs_model.specs.tree.Profile.{IsWritable}
 use Rattle.lfs_model.proofs.Kept.{one_tree}
 use Rattle.lfs_model.proofs.OtherOrder.{same_pairs, same_tree, writable_in_order}
 use Rattle.lfs_model.proofs.SessionSteps.{IsHealthy, session_step_is_healthy, true_from}
@@ -51,7 +39,7 @@ session_step_survives_loss from op reply to agrees turn survives = record { stop
         untouched : to.disk ≡ from.disk → HasEither to.disk s.tree (operation_result around s op).1.tree
         untouched e = subst (λ d. HasEither d s.tree (operation_result around s op).1.tree) (sym e)
             (left_before from.disk ps s.tree (operation_result around s op).1.tree work.accepted work.writable
-            (one_tree from.disk (tree_on_disk from.disk ps) s.tree (ps, (work.accepted, refl)) (subst (HealthyHasDiskTree from.disk) work.healthy agrees)))
+            (one_tree from.disk (disk_tree from.disk ps) s.tree (ps, (work.accepted, refl)) (subst (HealthyHasDiskTree from.disk) work.healthy agrees)))
 
         -- by a remount, in the order that it found
         read_anew : to.disk ≡ ordered_disk to.disk.order from.disk → HasEither to.disk s.tree (operation_result around s op).1.tree
@@ -62,7 +50,7 @@ session_step_survives_loss from op reply to agrees turn survives = record { stop
             subst (λ d. HasEither d s.tree (operation_result around s op).1.tree) (sym e)
             (left_before (ordered_disk to.disk.order from.disk) shown.0 s.tree (operation_result around s op).1.tree shown.1.0
             (writable_in_order to.disk.order from.disk shown.0 (subst (IsWritable from.disk) pairs work.writable))
-            (same_tree to.disk.order from.disk (tree_on_disk from.disk shown.0) s.tree (shown.0, (shown.1.0, refl)) (subst (HealthyHasDiskTree from.disk) work.healthy agrees)))
+            (same_tree to.disk.order from.disk (disk_tree from.disk shown.0) s.tree (shown.0, (shown.1.0, refl)) (subst (HealthyHasDiskTree from.disk) work.healthy agrees)))
 
         done : is_remount op ≡ false → is_refusal reply ≡ false → HasEither to.disk s.tree (operation_result around s op).1.tree
         done other accepted =
@@ -71,7 +59,7 @@ session_step_survives_loss from op reply to agrees turn survives = record { stop
             let same = same_surroundings from.disk about.0 ps a.around around about.1.0 work.accepted about.1.1 work.surrounds in
             let state : Healthy (operation_result around s op).1 ≡ to.state =
             ap (λ (z : Option Reply × SessionHealth). z.1)
-            (sym (ap (λ z. reply_else z (Healthy s) op) same) ∙ sym (ap (λ z. reply_else a.around z op) work.healthy) ∙ sym (ap (λ b. cond b (remount_result a.shown) (reply_else a.around from.state op)) other) ∙ a.answers) in
+            (sym (ap (λ z. other_result z (Healthy s) op) same) ∙ sym (ap (λ z. other_result a.around z op) work.healthy) ∙ sym (ap (λ b. cond b (remount_result a.shown) (other_result a.around from.state op)) other) ∙ a.answers) in
             let shown = subst (HealthyHasDiskTree to.disk) (sym state) turn.agrees in
             left_after to.disk shown.0 s.tree (operation_result around s op).1.tree shown.1.0
             ((turn.effect_on_disk accepted s work.healthy ps shown.0 work.accepted shown.1.0).profile work.writable) (sym shown.1.1)

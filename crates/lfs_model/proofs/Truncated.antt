@@ -1,12 +1,7 @@
 -- What a ghost field says of a device's calls, as a truncated fact, is so: each case of it is decided.
 use Rattle.std.proofs.Common.{ℕ, ◌≡◌, ◌==◌, ◌⊎◌, inl, inr, Bool, true, false, List, [], ◌∷◌, Option, Some, None, refl, ap, ◌∙◌, eqb-true, eq-eqb}
 use Rattle.std.proofs.Math.Logic.{∥∥₁_map, ∥∥₁_elim}
-use Rattle.lfs_model.specs.format.Blocks.{Blocks, SameExcept, block_bytes, overwritten_at}
-use Rattle.lfs_model.specs.format.Log.{LogEntry, BlockLog, block_log}
-use Rattle.lfs_model.specs.session.History.{DeviceCall, Read, Program, Erase, Blank, CallEvent, AllCalls}
-use Rattle.lfs_model.specs.crash.Stops.{MayEraseLeave, MayProgramLeave, may_stop_leave, ErasesCleanly, erases_cleanly}
-use Rattle.lfs_model.specs.crash.PowerLoss.{FailsLikeLoss}
-use Rattle.lfs_model.specs.crash.Premises.{MeetsPremises}
+use Rattle.lfs_model.proofs.Common.{Blocks, SameExcept, block_bytes, overwritten_at, LogEntry, BlockLog, block_log, DeviceCall, Read, Program, Erase, Blank, CallEvent, AllCalls, MayEraseLeave, MayProgramLeave, may_stop_leave, ErasesCleanly, erases_cleanly, FailsLikeLoss, MeetsPremises}
 
 abbrev Decided : Type 0 → Type 0
 Decided A = A ⊎ (A → ⊥)

@@ -1,16 +1,8 @@
 -- A disk that has the same thread and files is accepted too, and shows the same tree. What the first pair has.
 use Rattle.std.proofs.Common.{ℕ, ◌≡◌, ◌<◌, true, List, [], ◌∷◌, ◌++◌, Some, refl, sym, ap, subst, ◌∙◌, arith}
 use Rattle.std.specs.Prelude.{slice_get, codes}
-use Rattle.std.specs.Option.{option_map}
-use Rattle.std.proofs.lemmas.List.Elements.{All-from_recursion, recursion_from_All}
-use Rattle.std.proofs.lemmas.List.Concat.{flat_map-append}
-use Rattle.lfs_model.specs.format.Disk.{Disk, block_count}
-use Rattle.lfs_model.specs.format.Slots.{Slot}
-use Rattle.lfs_model.specs.format.Thread.{Pair, blocks_of_pairs, from_first_slots, pairs_gstate, starts_superblock, slots_not_moved}
-use Rattle.lfs_model.specs.tree.View.{IsWellFormedCtz, IsAccepted, first_slot_name}
-use Rattle.lfs_model.specs.tree.Shown.{all_slots_not_moved, used_blocks}
-use Rattle.lfs_model.proofs.Counts.{Each, each_always, each_both, each_right, number_count}
-use Rattle.lfs_model.specs.session.SlotEdits.{slot_of}
+use Rattle.lfs_model.proofs.Common.{option_map, All-from_recursion, recursion_from_All, flat_map-append, Disk, block_count, Slot, Pair, pairs_blocks, from_first_slots, pairs_gstate, starts_superblock, slots_not_moved, IsFormedList, IsAccepted, first_slot_name, all_unmoved_slots, used_blocks, slot_of}
+use Rattle.lfs_model.proofs.Counts.{Each, each_always, each_both, each_right, number_occurrences}
 use Rattle.lfs_model.proofs.LeftFiles.{stays_same}
 use Rattle.lfs_model.proofs.Changes.{IsChangedImage, SameFiles, rearranged_follows, owned_same}
 use Rattle.lfs_model.proofs.Files.{SameFileBlocks, is_list_same}
@@ -51,17 +43,17 @@ module _ (disk new : Disk) (chain : List Pair) (p : Pair) (rest : List Pair) (is
   abbrev same_pairs : List Pair
   same_pairs = chain ++ p ∷ rest
 
-  files_same : SameFiles disk new (all_slots_not_moved same_pairs)
-  files_same = recursion_from_All (λ (s : Slot). SameFileBlocks disk new s.struct) (all_slots_not_moved same_pairs) device_same.files
+  files_same : SameFiles disk new (all_unmoved_slots same_pairs)
+  files_same = recursion_from_All (λ (s : Slot). SameFileBlocks disk new s.struct) (all_unmoved_slots same_pairs) device_same.files
 
   owns_same : used_blocks new same_pairs ≡ used_blocks disk same_pairs
   owns_same = owned_same disk new (pairs_gstate same_pairs) (pairs_gstate same_pairs) same_pairs device_same.geometry
       (each_always (λ r. slots_not_moved (pairs_gstate same_pairs) r ≡ slots_not_moved (pairs_gstate same_pairs) r) (λ r. refl) same_pairs) files_same
 
-  in_range_here : Each (λ b. b < block_count disk) (blocks_of_pairs (p ∷ []))
+  in_range_here : Each (λ b. b < block_count disk) (pairs_blocks (p ∷ []))
   in_range_here =
-      let e = recursion_from_All (λ (b : ℕ). b < block_count disk) (blocks_of_pairs same_pairs) ok.thread.in_range in
-      let k = each_right (λ b. b < block_count disk) (blocks_of_pairs chain) (blocks_of_pairs (p ∷ rest)) (subst (Each (λ b. b < block_count disk)) (flat_map-append (λ (s : Pair). s.at.0 ∷ s.at.1 ∷ []) chain (p ∷ rest)) e) in
+      let e = recursion_from_All (λ (b : ℕ). b < block_count disk) (pairs_blocks same_pairs) ok.thread.in_range in
+      let k = each_right (λ b. b < block_count disk) (pairs_blocks chain) (pairs_blocks (p ∷ rest)) (subst (Each (λ b. b < block_count disk)) (flat_map-append (λ (s : Pair). s.at.0 ∷ s.at.1 ∷ []) chain (p ∷ rest)) e) in
       (k.0, (k.1.0, tt))
 
   pub same_follows : IsChangedImage disk same_pairs new same_pairs (λ t. t) (λ d. d)
@@ -75,12 +67,12 @@ module _ (disk new : Disk) (chain : List Pair) (p : Pair) (rest : List Pair) (is
         links = λ from h. h;
         slots = λ m root h. h;
         move = ok.move;
-        in_range = All-from_recursion (λ b. b < block_count disk) (blocks_of_pairs (p ∷ [])) in_range_here;
-        blocks = λ b. let e = ap (number_count b) owns_same in omega arith;
+        in_range = All-from_recursion (λ b. b < block_count disk) (pairs_blocks (p ∷ [])) in_range_here;
+        blocks = λ b. let e = ap (number_occurrences b) owns_same in omega arith;
         free = ok.owned_once;
-        lists = All-from_recursion (λ s. IsWellFormedCtz new s.struct) (all_slots_not_moved same_pairs)
-            (each_both (λ s. SameFileBlocks disk new s.struct) (λ s. IsWellFormedCtz disk s.struct) (λ s. IsWellFormedCtz new s.struct) (λ s. is_list_same disk new s.struct device_same.geometry) (all_slots_not_moved same_pairs)
-            files_same (recursion_from_All (λ (s : Slot). IsWellFormedCtz disk s.struct) (all_slots_not_moved same_pairs) ok.lists));
+        lists = All-from_recursion (λ s. IsFormedList new s.struct) (all_unmoved_slots same_pairs)
+            (each_both (λ s. SameFileBlocks disk new s.struct) (λ s. IsFormedList disk s.struct) (λ s. IsFormedList new s.struct) (λ s. is_list_same disk new s.struct device_same.geometry) (all_unmoved_slots same_pairs)
+            files_same (recursion_from_All (λ (s : Slot). IsFormedList disk s.struct) (all_unmoved_slots same_pairs) ok.lists));
       })
       (λ t. t) (λ d. d) (record {
         shows = refl;

@@ -1,10 +1,7 @@
 -- A disk has one thread.
 use Rattle.std.proofs.Common.{ℕ, ◌≡◌, List, [], ◌∷◌, Option, Some, None, refl, sym, ap, ◌∙◌}
 use Rattle.std.specs.Prelude.{All}
-use Rattle.std.proofs.lemmas.List.Elements.{All-head, All-tail}
-use Rattle.std.proofs.lemmas.Option.{same_Some}
-use Rattle.lfs_model.specs.format.Slots.{PairContent}
-use Rattle.lfs_model.specs.format.Thread.{Pair, AreLinked, tail_address_of, anchor_address, IsThread}
+use Rattle.lfs_model.proofs.Common.{All-head, All-tail, same_Some, PairContent, Pair, AreLinked, tail_target, anchor_address, IsThread}
 
 same_pairs : (p q : Pair) → p.at ≡ q.at → p.content ≡ q.content → p ≡ q
 same_pairs p q at content = ap (λ (x : ℕ × ℕ). record { at = x; content = p.content }) at ∙ ap (λ (x : PairContent). record { at = q.at; content = x }) content
@@ -19,8 +16,8 @@ one_way content_of at (p ∷ ps) (q ∷ qs) l m a b =
     let here : p.at ≡ q.at = same_Some p.at q.at (sym l.0 ∙ m.0) in
     let content : p.content ≡ q.content = same_Some p.content q.content (sym (All-head P p ps a) ∙ ap content_of here ∙ All-head P q qs b) in
     let pair : p ≡ q = same_pairs p q here content in
-    let next : AreLinked (tail_address_of p.content.tail) qs = rw content m.1 in
-    let rest : ps ≡ qs = one_way content_of (tail_address_of p.content.tail) ps qs l.1 next (All-tail P p ps a) (All-tail P q qs b) in
+    let next : AreLinked (tail_target p.content.tail) qs = rw content m.1 in
+    let rest : ps ≡ qs = one_way content_of (tail_target p.content.tail) ps qs l.1 next (All-tail P p ps a) (All-tail P q qs b) in
     ap (λ (x : Pair). x ∷ ps) pair ∙ ap (λ (xs : List Pair). q ∷ xs) rest
 
 pub one_thread : (content_of : ℕ × ℕ → Option PairContent) (block_count : ℕ) (ps qs : List Pair) → IsThread content_of block_count ps → IsThread content_of block_count qs → ps ≡ qs

@@ -1,13 +1,7 @@
 -- A directory's first pair that isn't the root's gives all its slots to a pair behind it, for the step that moves a worn pair.
 use Rattle.std.proofs.Common.{◌≡◌, ◌≢◌, ◌<◌, ◌≤◌, false, List, [], ◌∷◌, ◌++◌, length, drop, refl, sym, ap, ap₂, subst, ◌∙◌, arith, append_assoc, append-nil, length-append, drop_at}
 use Rattle.std.specs.Prelude.{All, sum_by}
-use Rattle.std.proofs.lemmas.List.Elements.{All-from_recursion}
-use Rattle.lfs_model.specs.format.Disk.{Disk, pair_capacity, slots_limit}
-use Rattle.lfs_model.specs.format.Slots.{Slot, slot_size}
-use Rattle.lfs_model.specs.format.Thread.{Pair, address_blocks, is_hard_tail, starts_superblock, pairs_gstate, pair_count_before_root}
-use Rattle.lfs_model.specs.tree.View.{IsTreeEntry, IsAccepted}
-use Rattle.lfs_model.specs.tree.Profile.{IsWritableSlot, HasNoEmpties, IsWritable}
-use Rattle.lfs_model.specs.layers.Steps.{ends_joined, IsWritableChange}
+use Rattle.lfs_model.proofs.Common.{All-from_recursion, Disk, pair_capacity, slots_limit, Slot, slot_size, Pair, address_blocks, is_hard_tail, starts_superblock, pairs_gstate, count_before_root, IsTreeEntry, IsAccepted, IsWritableSlot, HasNoEmpties, IsWritable, ends_joined, IsWritableChange}
 use Rattle.lfs_model.proofs.Counts.{Each, each_right}
 use Rattle.lfs_model.proofs.Global.{HasNoMove}
 use Rattle.lfs_model.proofs.Superblocks.{StructMark, hold_each, hold_from_rules, starts_not}
@@ -29,7 +23,7 @@ unload disk new chain f front x q y back r c soft some = record { taken = taken;
     few : length (chain ++ f ∷ front) < length (chain ++ (f ∷ front ++ x ∷ back))
     few = omega (arith, length-append chain (f ∷ front), length-append chain (f ∷ front ++ x ∷ back), length-append (f ∷ front) (x ∷ back))
 
-    behind : pair_count_before_root (chain ++ (f ∷ front ++ x ∷ back)) ≤ length (chain ++ f ∷ front)
+    behind : count_before_root (chain ++ (f ∷ front ++ x ∷ back)) ≤ length (chain ++ f ∷ front)
     behind = let e = r.is_chain in omega (arith, e, length-append chain (f ∷ front))
 
     at : HasSite (chain ++ (f ∷ front ++ x ∷ back)) (length (chain ++ f ∷ front))
@@ -51,7 +45,7 @@ unload disk new chain f front x q y back r c soft some = record { taken = taken;
 
     -- as many superblock's pairs
     chain_length : length at.site.chain ≡ length chain
-    chain_length = sym at.is_site.chain ∙ ap pair_count_before_root (sym at.is) ∙ r.is_chain
+    chain_length = sym at.is_site.chain ∙ ap count_before_root (sym at.is) ∙ r.is_chain
 
     dirs_before : at.site.before ++ at.site.left ≡ f ∷ front
     dirs_before = sym (drop_at at.site.chain (at.site.before ++ at.site.left) (length chain) chain_length) ∙ ap (drop (length chain)) same.front ∙ drop_at chain (f ∷ front) (length chain) refl
@@ -115,7 +109,7 @@ unload disk new chain f front x q y back r c soft some = record { taken = taken;
       accepted = taken.follows.accepted;
       writable = taken.writable;
       no_move = subst (λ z. HasNoMove (pairs_gstate z)) (sym new_is) step.still_none;
-      is_chain = ap pair_count_before_root new_is
+      is_chain = ap count_before_root new_is
           ∙ chain_now disk new at.site.chain (at.site.before ++ at.site.left) x [] q (y ∷ []) (at.site.right ++ at.site.after) (address_blocks y.at ++ []) step.site.chain step.accepted
           (splice_change disk new at.site.chain (at.site.before ++ at.site.left) x [] q (y ∷ []) (at.site.right ++ at.site.after) (address_blocks y.at) [] (all_slots (x ∷ [])) [] [] [] step.accepted step.no_move step.still_none step.device step.free
           step.shape.at (step.shape.links (at.site.right ++ at.site.after)) step.shape.front step.shape.blocks step.was step.is step.splice)

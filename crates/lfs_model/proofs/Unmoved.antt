@@ -1,24 +1,13 @@
 -- Whether a pair moves after an operation: after most none does, and never where the profile gives no cycles.
 use Rattle.std.proofs.Common.{ℕ, ◌≡◌, inl, inr, true, false, List, [], ◌∷◌, ◌++◌, append_assoc, Option, Some, None, refl, sym, ap, subst, ◌∙◌}
-use Rattle.lfs_model.specs.format.Disk.{Disk, SameGeometry}
+use Rattle.lfs_model.proofs.Common.{Disk, SameGeometry, current_block, Pair, IsAccepted, IsWritable, disk_tree, CallEvent, LeftByLatest, IsRecovered, operation_effect, Operation, Session, DiskSummary, IsLayoutRecovered, is_worn_block, is_worn}
 use Rattle.lfs_model.specs.declared.limits.Profile.{Profile}
-use Rattle.lfs_model.specs.format.Content.{current_block}
-use Rattle.lfs_model.specs.format.Thread.{Pair}
-use Rattle.lfs_model.specs.tree.View.{IsAccepted}
-use Rattle.lfs_model.specs.tree.Profile.{IsWritable}
-use Rattle.lfs_model.specs.tree.Shown.{tree_on_disk}
-use Rattle.lfs_model.specs.session.History.{CallEvent, LeftByLatest}
-use Rattle.lfs_model.specs.session.Recovery.{IsRecovered}
-use Rattle.lfs_model.specs.session.Effects.{operation_effect}
-use Rattle.lfs_model.specs.session.Operations.{Operation}
-use Rattle.lfs_model.specs.session.Session.{Session, DiskSummary}
-use Rattle.lfs_model.specs.session.Layout.{IsLayoutRecovered}
 use Rattle.lfs_model.proofs.Counts.{Each}
 use Rattle.lfs_model.proofs.Sites.{any_from, among_right}
 use Rattle.lfs_model.proofs.Committed.{recovered_from}
 use Rattle.lfs_model.proofs.Arranged.{IsFinished}
 use Rattle.lfs_model.proofs.RootSteps.{IsSameWritable}
-use Rattle.lfs_model.specs.session.Moved.{is_worn_block, is_worn, IsMoved, IsWearSpread, HadBlocks, IsLayoutMoved}
+use Rattle.lfs_model.specs.session.Moved.{IsMoved, IsWearSpread, HadBlocks, IsLayoutMoved}
 
 pub nothing_moves : (disk : Disk) (ps : List Pair) (s : Session) (op : Operation) (calls : List CallEvent) (new : Disk) (qs : List Pair) → SameGeometry disk new → IsAccepted new qs →
     IsLayoutRecovered disk ps s op new qs → IsLayoutMoved disk ps s op calls new qs
@@ -64,7 +53,7 @@ pub record IsSpread (disk : Disk) (ps : List Pair) (s : Session) (op : Operation
   pub accepted : IsAccepted new qs
   pub writable : IsWritable new qs
   pub recovered : IsRecovered qs
-  pub tree : (around : DiskSummary) → tree_on_disk new qs ≡ (operation_effect around s op).1.tree
+  pub tree : (around : DiskSummary) → disk_tree new qs ≡ (operation_effect around s op).1.tree
   pub arranged : IsLayoutMoved disk ps s op calls new qs
 
 pub finished_unmoved : (disk : Disk) (ps : List Pair) (s : Session) (op : Operation) (calls : List CallEvent) (new : Disk) (qs : List Pair) → SameGeometry disk new → IsFinished disk ps s op new qs → IsSpread disk ps s op calls new qs

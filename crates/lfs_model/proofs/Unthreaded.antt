@@ -1,13 +1,7 @@
 -- The pair after another begins a directory that no path leads to, and goes from the thread. So may any number of pairs, in their
 -- order.
 use Rattle.std.proofs.Common.{ℕ, ◌≡◌, ◌<◌, ◌≤◌, true, false, List, [], ◌∷◌, ◌++◌, length, refl, sym, ap, ap₂, subst, ◌∙◌, arith, append_assoc, append-nil, length-append}
-use Rattle.lfs_model.specs.format.Disk.{Disk}
-use Rattle.lfs_model.specs.format.Slots.{same_pair}
-use Rattle.lfs_model.specs.format.Thread.{Pair, is_hard_tail, pairs_gstate, pair_count_before_root, starts_superblock}
-use Rattle.lfs_model.specs.tree.Tree.{Path}
-use Rattle.lfs_model.specs.tree.View.{IsAccepted}
-use Rattle.lfs_model.specs.tree.Profile.{IsWritable}
-use Rattle.lfs_model.specs.tree.Shown.{LeadsTo}
+use Rattle.lfs_model.proofs.Common.{Disk, same_pair, Pair, is_hard_tail, pairs_gstate, count_before_root, starts_superblock, Path, IsAccepted, IsWritable, LeadsTo}
 use Rattle.lfs_model.proofs.Global.{HasNoMove}
 use Rattle.lfs_model.proofs.Superblocks.{IsChain}
 use Rattle.lfs_model.proofs.Listings.{IsRun}
@@ -74,7 +68,7 @@ unthread disk new chain front p o q back r c = record { taken = taken; ready = r
     few : length (chain ++ front) < length (chain ++ (front ++ p ∷ o ∷ back))
     few = omega (arith, length-append chain front, length-append chain (front ++ p ∷ o ∷ back), length-append front (p ∷ o ∷ back))
 
-    behind : pair_count_before_root (chain ++ (front ++ p ∷ o ∷ back)) ≤ length (chain ++ front)
+    behind : count_before_root (chain ++ (front ++ p ∷ o ∷ back)) ≤ length (chain ++ front)
     behind = let e = r.is_chain in omega (arith, e, length-append chain front)
 
     at : HasSite (chain ++ (front ++ p ∷ o ∷ back)) (length (chain ++ front))
@@ -106,10 +100,10 @@ unthread disk new chain front p o q back r c = record { taken = taken; ready = r
 
     -- as many superblock's pairs
     chain_length : length at.site.chain ≡ length chain
-    chain_length = sym at.is_site.chain ∙ ap pair_count_before_root (sym at.is) ∙ r.is_chain
+    chain_length = sym at.is_site.chain ∙ ap count_before_root (sym at.is) ∙ r.is_chain
 
     is_chain : IsChain at.site.chain (dirs_at (last_site at.site.chain at.site.before at.site.left back) (p ∷ ([] ++ o ∷ [])))
-    is_chain = ap pair_count_before_root (sym old_is) ∙ r.is_chain ∙ sym chain_length
+    is_chain = ap count_before_root (sym old_is) ∙ r.is_chain ∙ sym chain_length
 
     step : IsStepDrop disk new at.site.chain at.site.before at.site.left back p [] o q [] [] [] p.content.slots [] [] []
     step = record {
@@ -141,7 +135,7 @@ unthread disk new chain front p o q back r c = record { taken = taken; ready = r
       accepted = taken.follows.accepted;
       writable = taken.writable;
       no_move = c.no_move;
-      is_chain = ap pair_count_before_root new_is
+      is_chain = ap count_before_root new_is
           ∙ chain_now disk new at.site.chain (at.site.before ++ at.site.left) p ([] ++ o ∷ []) q [] back ([] ++ []) is_chain (subst (IsAccepted disk) old_is r.accepted)
           (drop_change disk new at.site.chain at.site.before at.site.left back p [] o q [] [] [] p.content.slots [] [] [] step)
           ∙ chain_length;

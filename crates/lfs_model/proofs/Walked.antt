@@ -1,7 +1,7 @@
 -- A walk is determined by its tree.
 use Rattle.std.proofs.Common.{◌≡◌, List, [], ◌∷◌, ◌++◌, Some, refl, ap, sym, ◌∙◌}
-use Rattle.lfs_model.specs.tree.Tree.{Path, Node, Tree}
-use Rattle.lfs_model.specs.layers.Listing.{PathNode, entry_paths, IsDepthFirst}
+use Rattle.lfs_model.proofs.Common.{Path, Node, Tree, PathNode, entry_paths}
+use Rattle.lfs_model.specs.layers.Listing.{IsDepthFirst}
 
 abbrev entry : Path → Node → PathNode
 entry path node = record { path = path; node = node }

@@ -2,25 +2,10 @@
 -- one for the superblock's pair.
 use Rattle.std.proofs.Common.{ℕ, Option, Some, None, option_map, zero, suc, nat_eq, eqb-true, ap₂, ◌≡◌, ◌≢◌, ◌⊎◌, inl, inr, ◌+◌, ◌<◌, ◌≤◌, Bool, true, false, cond, ◌&&◌, List, [], ◌∷◌, ◌++◌, length, take, drop, refl, sym, ap, subst, ◌∙◌, arith, append_assoc, length-take, take-append-drop}
 use Rattle.std.specs.Prelude.{Contains}
-use Rattle.std.proofs.lemmas.Bool.{cases_lt}
-use Rattle.std.proofs.lemmas.List.Elements.{All-from_recursion, recursion_from_All}
-use Rattle.lfs_model.specs.format.Disk.{Disk, block_count}
-use Rattle.lfs_model.specs.format.Slots.{Slot, Struct, Inline, Ctz, Branch, PairContent, zero_gstate}
-use Rattle.lfs_model.specs.format.Content.{content_at, current_block}
-use Rattle.lfs_model.specs.format.Thread.{Pair, address_blocks, from_first_slots, first_address, has_slots, has_no_entry, has_superblock, may_continue, is_hard_tail, starts_superblock, pairs_gstate, pair_count_before_root}
-use Rattle.lfs_model.specs.tree.View.{BeginsWith, superblock_entry, IsAccepted}
-use Rattle.lfs_model.specs.tree.Profile.{IsWritable}
-use Rattle.lfs_model.specs.tree.Shown.{all_entries, struct_list_bytes, used_blocks}
-use Rattle.lfs_model.specs.tree.Tree.{EntryMap, struct_node}
-use Rattle.lfs_model.specs.session.TreeEdits.{is_file}
-use Rattle.lfs_model.specs.session.Operations.{Operation}
-use Rattle.lfs_model.specs.session.Session.{Session}
-use Rattle.lfs_model.specs.session.SlotEdits.{slot_of}
-use Rattle.lfs_model.specs.layers.Keeping.{KeepsStructs}
-use Rattle.lfs_model.specs.session.Moved.{is_worn, AreUnused, LeavesEighth, pair_joined_to, pair_behind, IsPairMoved, IsPairUnloaded, IsRootUnloaded}
-use Rattle.lfs_model.specs.layers.Steps.{ends_joined, IsWritableChange}
-use Rattle.lfs_model.proofs.Counts.{Each, each_append, each_left, each_right, number_count, count_append, count_here, once_from_distinct, distinct_from_once}
-use Rattle.lfs_model.proofs.BlockSets.{number_count-Contains, Contains-number_count}
+use Rattle.lfs_model.proofs.Common.{cases_lt, All-from_recursion, recursion_from_All, Disk, block_count, Slot, Struct, Inline, Ctz, Branch, PairContent, zero_gstate, content_at, current_block, Pair, address_blocks, from_first_slots, first_address, has_slots, has_no_entry, has_superblock, may_continue, is_hard_tail, starts_superblock, pairs_gstate, count_before_root, BeginsWith, superblock_entry, IsAccepted, IsWritable, all_entries, struct_list_bytes, used_blocks, EntryMap, struct_node, is_file, Operation, Session, slot_of, KeepsStructs, is_worn, AreUnused, ends_joined, IsWritableChange}
+use Rattle.lfs_model.specs.session.Moved.{LeavesEighth, pair_joined_to, pair_behind, IsPairMoved, IsPairUnloaded, IsRootUnloaded}
+use Rattle.lfs_model.proofs.Counts.{Each, each_append, each_left, each_right, number_occurrences, count_append, count_here, once_from_distinct, distinct_from_once}
+use Rattle.lfs_model.proofs.BlockSets.{number_occurrences-Contains, Contains-number_occurrences}
 use Rattle.lfs_model.proofs.Global.{HasNoMove}
 use Rattle.lfs_model.proofs.Splices.{IsDevice, AreFree}
 use Rattle.lfs_model.proofs.Superblocks.{IsChain, FromSlots, InFront, Behind, from_front, meets_from, meets_first}
@@ -82,21 +67,21 @@ first_moved disk new front p x q y back ok c begins = go (from_front front)
 
 -- ---- pairs before and behind the root's first one
 
-at_end : (front : List Pair) (n : ℕ) (dirs : List Pair) → n ≤ length front → pair_count_before_root (front ++ dirs) ≡ n → IsChain (take n front) (drop n front ++ dirs)
-at_end front n dirs few e = ap pair_count_before_root (sym (append_assoc (take n front) (drop n front) dirs) ∙ ap (λ z. z ++ dirs) (take-append-drop n front)) ∙ e ∙ omega (arith, length-take n front)
+at_end : (front : List Pair) (n : ℕ) (dirs : List Pair) → n ≤ length front → count_before_root (front ++ dirs) ≡ n → IsChain (take n front) (drop n front ++ dirs)
+at_end front n dirs few e = ap count_before_root (sym (append_assoc (take n front) (drop n front) dirs) ∙ ap (λ z. z ++ dirs) (take-append-drop n front)) ∙ e ∙ omega (arith, length-take n front)
 
 -- a pair with a soft tail isn't before the root's first one
-soft_behind : (front : List Pair) (p : Pair) (back : List Pair) → is_hard_tail p.content.tail ≡ false → pair_count_before_root (front ++ p ∷ back) ≤ length front
+soft_behind : (front : List Pair) (p : Pair) (back : List Pair) → is_hard_tail p.content.tail ≡ false → count_before_root (front ++ p ∷ back) ≤ length front
 soft_behind [] p back e = go (has_superblock back) (has_no_entry p.content.slots) (is_hard_tail p.content.tail) e
   where
-    go : (a b t : Bool) → t ≡ false → cond (a && (b && t)) (1 + pair_count_before_root back) 0 ≤ 0
+    go : (a b t : Bool) → t ≡ false → cond (a && (b && t)) (1 + count_before_root back) 0 ≤ 0
     go true true true k = absurd (cc)
     go true true false k = omega arith
     go true false t k = omega arith
     go false b t k = omega arith
 soft_behind (f ∷ front) p back e = go (has_superblock (front ++ p ∷ back) && may_continue f) (soft_behind front p back e)
   where
-    go : (t : Bool) → pair_count_before_root (front ++ p ∷ back) ≤ length front → cond t (1 + pair_count_before_root (front ++ p ∷ back)) 0 ≤ length (f ∷ front)
+    go : (t : Bool) → count_before_root (front ++ p ∷ back) ≤ length front → cond t (1 + count_before_root (front ++ p ∷ back)) 0 ≤ length (f ∷ front)
     go true k = omega arith
     go false k = omega arith
 
@@ -108,7 +93,7 @@ pub pair_moves : (disk new : Disk) (front : List Pair) (p x q y : Pair) (back : 
 pair_moves disk new front p x q y back ok fits none c begins = go (cases_lt (length front) n)
   where
     n : ℕ
-    n = pair_count_before_root (front ++ p ∷ x ∷ back)
+    n = count_before_root (front ++ p ∷ x ∷ back)
 
     parts : (zs : List Pair) → take n front ++ (drop n front ++ zs) ≡ front ++ zs
     parts zs = sym (append_assoc (take n front) (drop n front) zs) ∙ ap (λ a. a ++ zs) (take-append-drop n front)
@@ -137,7 +122,7 @@ pair_unloads disk new front p x q y back ok fits none c soft some = from_change 
     (ap pairs_gstate (sym (append_assoc front (p ∷ []) (q ∷ y ∷ back))) ∙ unloaded_gstate (front ++ p ∷ []) x q y back c.delta c.none ∙ ap pairs_gstate (append_assoc front (p ∷ []) (x ∷ back)))
   where
     n : ℕ
-    n = pair_count_before_root (front ++ p ∷ x ∷ back)
+    n = count_before_root (front ++ p ∷ x ∷ back)
 
     parts : (zs : List Pair) → take n front ++ (drop n front ++ zs) ≡ front ++ zs
     parts zs = sym (append_assoc (take n front) (drop n front) zs) ∙ ap (λ a. a ++ zs) (take-append-drop n front)
@@ -153,7 +138,7 @@ pair_unloads disk new front p x q y back ok fits none c soft some = from_change 
           accepted = subst (IsAccepted disk) (sym (there (x ∷ back))) ok;
           writable = subst (IsWritable disk) (sym (there (x ∷ back))) fits;
           no_move = subst (λ a. HasNoMove (pairs_gstate a)) (sym (there (x ∷ back))) none;
-          is_chain = ap pair_count_before_root (there (x ∷ back) ∙ sym (parts (p ∷ x ∷ back))) ∙ at_end front n (p ∷ x ∷ back) (soft_behind front p (x ∷ back) soft) refl;
+          is_chain = ap count_before_root (there (x ∷ back) ∙ sym (parts (p ∷ x ∷ back))) ∙ at_end front n (p ∷ x ∷ back) (soft_behind front p (x ∷ back) soft) refl;
         }) (subst (λ a. IsUnloaded disk new a x q y back []) (sym before) c) (ap (ends_joined false) (sym e) ∙ ends_last false (drop n front) p ∙ soft) some).taken)
 
     go : (ds : List Pair) → drop n front ≡ ds → IsWritableChange disk (front ++ p ∷ x ∷ back) new (front ++ p ∷ q ∷ y ∷ back) (λ t. t) (λ d. d)
@@ -177,22 +162,22 @@ free_unused disk ps at ok unused apart low high = record {
     none : Each (λ b. Contains (used_blocks disk ps) b → ⊥) (address_blocks at)
     none = recursion_from_All (λ b. Contains (used_blocks disk ps) b → ⊥) (address_blocks at) unused
 
-    not_used : (b : ℕ) → (Contains (used_blocks disk ps) b → ⊥) → number_count b (used_blocks disk ps) ≡ 0
-    not_used b n = go (number_count b (used_blocks disk ps)) refl
+    not_used : (b : ℕ) → (Contains (used_blocks disk ps) b → ⊥) → number_occurrences b (used_blocks disk ps) ≡ 0
+    not_used b n = go (number_occurrences b (used_blocks disk ps)) refl
       where
-        go : (k : ℕ) → number_count b (used_blocks disk ps) ≡ k → k ≡ 0
+        go : (k : ℕ) → number_occurrences b (used_blocks disk ps) ≡ k → k ≡ 0
         go zero e = refl
-        go (suc k) e = absurd (n (Contains-number_count (used_blocks disk ps) b (omega (arith, e))))
+        go (suc k) e = absurd (n (Contains-number_occurrences (used_blocks disk ps) b (omega (arith, e))))
 
-    few : (b : ℕ) (s t : Bool) → nat_eq b at.0 ≡ s → nat_eq b at.1 ≡ t → number_count b (address_blocks at) + number_count b (used_blocks disk ps) ≤ 1
+    few : (b : ℕ) (s t : Bool) → nat_eq b at.0 ≡ s → nat_eq b at.1 ≡ t → number_occurrences b (address_blocks at) + number_occurrences b (used_blocks disk ps) ≤ 1
     few b true true e f = absurd (apart (sym (eqb-true b at.0 e) ∙ eqb-true b at.1 f))
     few b true false e f =
         let c = ap₂ (λ x y. cond x 1 0 + (cond y 1 0 + 0)) e f in
-        let n = subst (λ z. number_count z (used_blocks disk ps) ≡ 0) (sym (eqb-true b at.0 e)) (not_used at.0 none.0) in
+        let n = subst (λ z. number_occurrences z (used_blocks disk ps) ≡ 0) (sym (eqb-true b at.0 e)) (not_used at.0 none.0) in
         omega (arith, c, n)
     few b false true e f =
         let c = ap₂ (λ x y. cond x 1 0 + (cond y 1 0 + 0)) e f in
-        let n = subst (λ z. number_count z (used_blocks disk ps) ≡ 0) (sym (eqb-true b at.1 f)) (not_used at.1 none.1.0) in
+        let n = subst (λ z. number_occurrences z (used_blocks disk ps) ≡ 0) (sym (eqb-true b at.1 f)) (not_used at.1 none.1.0) in
         omega (arith, c, n)
     few b false false e f =
         let c = ap₂ (λ x y. cond x 1 0 + (cond y 1 0 + 0)) e f in
@@ -206,9 +191,9 @@ unused_free disk ps at free = All-from_recursion (λ b. Contains (used_blocks di
   (no at.1 (let e = count_here at.1 [] in let f = count_append at.1 (at.0 ∷ []) (at.1 ∷ []) in omega arith), tt),
 )
   where
-    no : (b : ℕ) → 1 ≤ number_count b (address_blocks at) → Contains (used_blocks disk ps) b → ⊥
+    no : (b : ℕ) → 1 ≤ number_occurrences b (address_blocks at) → Contains (used_blocks disk ps) b → ⊥
     no b some has =
-        let k = number_count-Contains (used_blocks disk ps) b has in
+        let k = number_occurrences-Contains (used_blocks disk ps) b has in
         let o = once_from_distinct ((address_blocks at ++ []) ++ used_blocks disk ps) free.distinct b in
         let a1 = count_append b (address_blocks at ++ []) (used_blocks disk ps) in
         let a2 = count_append b (address_blocks at) [] in
@@ -251,7 +236,7 @@ unloaded_by_step disk new front p x q y back c soft some room due = record {
   due = due;
 }
 
-pub root_by_step : (disk new : Disk) (x q y : Pair) (back : List Pair) → IsUnloaded disk new [] x q y back (take 1 x.content.slots) → pair_count_before_root (x ∷ back) ≡ 0 → LeavesEighth new (q ∷ y ∷ back) → is_worn disk x ≡ true →
+pub root_by_step : (disk new : Disk) (x q y : Pair) (back : List Pair) → IsUnloaded disk new [] x q y back (take 1 x.content.slots) → count_before_root (x ∷ back) ≡ 0 → LeavesEighth new (q ∷ y ∷ back) → is_worn disk x ≡ true →
     IsRootUnloaded disk (x ∷ back) new (q ∷ y ∷ back)
 root_by_step disk new x q y back c number room due = record {
   worn = x;

@@ -1,19 +1,13 @@
 -- A compacted block holds what was written to it.
 use Rattle.std.proofs.Common.{ℕ, ◌≡◌, ◌+◌, ◌-◌, ◌*◌, ◌/◌, ◌%◌, ◌^◌, ◌<◌, ◌≤◌, ◌==◌, Bool, true, false, cond, not, List, [], ◌∷◌, ◌++◌, length, Option, Some, None, refl, sym, ap, ap₂, ◌∙◌, arith, length-append, append_assoc, eq-eqb, eqb-true}
 use Rattle.std.specs.Prelude.{nat_lt, nat_le, is_some}
-use Rattle.std.specs.Option.{option_and_then, option_map}
-use Rattle.std.proofs.lemmas.Bool.{ne_eqb, or_right, le-ltb, le-leb, lt-leb, and_parts}
-use Rattle.std.proofs.lemmas.List.{append-nil}
-use Rattle.std.proofs.Math.Seq.{set-append_seam, get_or-append_seam}
+use Rattle.lfs_model.proofs.Common.{option_and_then, option_map, ne_eqb, or_right, le-ltb, le-leb, and_parts, append-nil, set-append_seam, get_or-append_seam, make_tag, tag_type, tag_id, tag_length, abstract_type, tag_chunk, LogEntry, Attributes, Tail, Gstate, zero_gstate, RawSlot, RawContent, content_after_one, content_after, slots_after, attributes_with, empty_raw_content, is_known_tag, has_needed_id, no_id, create_tag_type, delete_tag_type, is_attribute_removal, read_address, tail_to_pair, read_gstate, move_type, log_entry, data_entries, attribute_entries, slot_entries, entries_of_slots, address_bytes, tail_entries, bytes_of_move_state, move_state_entries, is_zero, content_entries, IsAllowedPart, AllowsIfSome, AttributesInOrder, IsFormedSlot, AreWellFormed, AreWords, IsAllowedTail, MoveStateFits}
+use Rattle.std.proofs.lemmas.Bool.{lt-leb}
 use Rattle.byteorder.specs.Endian.{little_number, little_bytes}
 use Rattle.byteorder.specs.Numbers.{little_number-reads_back}
-use Rattle.lfs_model.specs.format.Tag.{make_tag, tag_type, tag_id, tag_length, abstract_type, tag_chunk}
-use Rattle.lfs_model.specs.format.Log.{LogEntry}
-use Rattle.lfs_model.specs.format.Slots.{Attributes, Tail, Gstate, zero_gstate}
-use Rattle.lfs_model.specs.format.Content.{RawSlot, RawContent, content_after_one, content_after, slots_after, attributes_with, empty_raw_content}
-use Rattle.lfs_model.specs.format.EntryTypes.{is_known_tag, has_needed_id, no_id, create_tag_type, delete_tag_type, is_attribute_removal, read_address, tail_to_pair, read_gstate, gstate_from, move_type}
-use Rattle.lfs_model.specs.layers.WrittenContent.{log_entry_of, data_entries, attribute_entries, slot_entries, entries_of_slots, address_bytes, tail_entries, move_word, bytes_of_move_state, move_state_entries, is_zero, content_entries}
-use Rattle.lfs_model.specs.layers.LoggedContent.{IsAllowed, AllowsIfSome, AttributesInOrder, IsSlotWellFormed, AreWellFormed, AreNamed, AreWords, IsAllowedTail, MoveStateFits, IsStorable}
+use Rattle.lfs_model.specs.format.EntryTypes.{gstate_from}
+use Rattle.lfs_model.specs.layers.WrittenContent.{move_word}
+use Rattle.lfs_model.specs.layers.LoggedContent.{AreNamed, IsStorable}
 
 -- ---- the fields of a tag
 
@@ -110,7 +104,7 @@ below_later low high (a ∷ others) l h = (omega arith, below_later low high oth
 
 -- ---- the entries that are written
 
-in_table_at : (part : ℕ × List ℕ) (class id : ℕ) → class < 5 → id < 2 ^ 10 → IsAllowed class part → is_known_tag (make_tag part.0 id (length part.1)) ≡ true
+in_table_at : (part : ℕ × List ℕ) (class id : ℕ) → class < 5 → id < 2 ^ 10 → IsAllowedPart class part → is_known_tag (make_tag part.0 id (length part.1)) ≡ true
 in_table_at part class id c i h =
     let of : part.0 / 2 ^ 8 ≡ class = h.of_class in
     let short : length part.1 < 0x3ff = h.short in
@@ -118,30 +112,30 @@ in_table_at part class id c i h =
     let len : tag_length (make_tag part.0 id (length part.1)) ≡ tag_length (make_tag part.0 0 (length part.1)) = omega arith in
     rw (kind, len) h.in_table
 
-name_written : (c : RawContent) (part : ℕ × List ℕ) → length c.slots < 0x3ff → IsAllowed 0 part
-    → content_after_one c (log_entry_of part.0 (length c.slots) part.1) ≡ Some (record c { slots = c.slots ++ record { name = Some part; struct = None; attributes = [] } ∷ [] })
+name_written : (c : RawContent) (part : ℕ × List ℕ) → length c.slots < 0x3ff → IsAllowedPart 0 part
+    → content_after_one c (log_entry part.0 (length c.slots) part.1) ≡ Some (record c { slots = c.slots ++ record { name = Some part; struct = None; attributes = [] } ∷ [] })
 name_written c part n h =
     let of : part.0 / 2 ^ 8 ≡ 0 = h.of_class in
     let short : length part.1 < 0x3ff = h.short in
     let kind : tag_type (make_tag part.0 (length c.slots) (length part.1)) ≡ part.0 = tag_type-make_tag part.0 (length c.slots) (length part.1) (omega arith) (omega arith) (omega arith) in
     let id : tag_id (make_tag part.0 (length c.slots) (length part.1)) ≡ length c.slots = tag_id-make_tag part.0 (length c.slots) (length part.1) (omega arith) (omega arith) in
-    by_slots c (log_entry_of part.0 (length c.slots) part.1) (omega arith) (in_table_at part 0 (length c.slots) (omega arith) (omega arith) h) (omega arith)
-    ∙ ap (option_map (λ slots. record c { slots = slots })) (name_at_end c.slots (log_entry_of part.0 (length c.slots) part.1) (omega arith) id)
+    by_slots c (log_entry part.0 (length c.slots) part.1) (omega arith) (in_table_at part 0 (length c.slots) (omega arith) (omega arith) h) (omega arith)
+    ∙ ap (option_map (λ slots. record c { slots = slots })) (name_at_end c.slots (log_entry part.0 (length c.slots) part.1) (omega arith) id)
     ∙ ap (λ k. Some (record c { slots = c.slots ++ record { name = Some (k, part.1); struct = None; attributes = [] } ∷ [] })) kind
 
-struct_written : (c : RawContent) (slots : List RawSlot) (s : RawSlot) (part : ℕ × List ℕ) → is_some s.name ≡ true → length slots < 0x3ff → IsAllowed 2 part
-    → content_after_one (record c { slots = last slots s }) (log_entry_of part.0 (length slots) part.1) ≡ Some (record c { slots = last slots (record s { struct = Some part }) })
+struct_written : (c : RawContent) (slots : List RawSlot) (s : RawSlot) (part : ℕ × List ℕ) → is_some s.name ≡ true → length slots < 0x3ff → IsAllowedPart 2 part
+    → content_after_one (record c { slots = last slots s }) (log_entry part.0 (length slots) part.1) ≡ Some (record c { slots = last slots (record s { struct = Some part }) })
 struct_written c slots s part named n h =
     let of : part.0 / 2 ^ 8 ≡ 2 = h.of_class in
     let short : length part.1 < 0x3ff = h.short in
     let kind : tag_type (make_tag part.0 (length slots) (length part.1)) ≡ part.0 = tag_type-make_tag part.0 (length slots) (length part.1) (omega arith) (omega arith) (omega arith) in
     let id : tag_id (make_tag part.0 (length slots) (length part.1)) ≡ length slots = tag_id-make_tag part.0 (length slots) (length part.1) (omega arith) (omega arith) in
-    by_slots (record c { slots = last slots s }) (log_entry_of part.0 (length slots) part.1) (omega arith) (in_table_at part 2 (length slots) (omega arith) (omega arith) h) (omega arith)
-    ∙ ap (option_map (λ all. record c { slots = all })) (struct_at_end slots s (log_entry_of part.0 (length slots) part.1) named (omega arith) id)
+    by_slots (record c { slots = last slots s }) (log_entry part.0 (length slots) part.1) (omega arith) (in_table_at part 2 (length slots) (omega arith) (omega arith) h) (omega arith)
+    ∙ ap (option_map (λ all. record c { slots = all })) (struct_at_end slots s (log_entry part.0 (length slots) part.1) named (omega arith) id)
     ∙ ap (λ k. Some (record c { slots = last slots (record s { struct = Some (k, part.1) }) })) kind
 
 attribute_written : (c : RawContent) (slots : List RawSlot) (s : RawSlot) (type : ℕ) (bytes : List ℕ) → is_some s.name ≡ true → length slots < 0x3ff → type < 2 ^ 8 → length bytes < 0x3ff
-    → content_after_one (record c { slots = last slots s }) (log_entry_of (0x300 + type) (length slots) bytes)
+    → content_after_one (record c { slots = last slots s }) (log_entry (0x300 + type) (length slots) bytes)
     ≡ Some (record c { slots = last slots (record s { attributes = attributes_with type bytes s.attributes }) })
 attribute_written c slots s type bytes named n t short =
     let kind : tag_type (make_tag (0x300 + type) (length slots) (length bytes)) ≡ 0x300 + type = tag_type-make_tag (0x300 + type) (length slots) (length bytes) (omega arith) (omega arith) (omega arith) in
@@ -149,9 +143,9 @@ attribute_written c slots s type bytes named n t short =
     let len : tag_length (make_tag (0x300 + type) (length slots) (length bytes)) ≡ length bytes = tag_length-make_tag (0x300 + type) (length slots) (length bytes) (omega arith) in
     let class : abstract_type (make_tag (0x300 + type) (length slots) (length bytes)) ≡ 3 = omega arith in
     let chunk : tag_chunk (make_tag (0x300 + type) (length slots) (length bytes)) ≡ type = omega arith in
-    by_slots (record c { slots = last slots s }) (log_entry_of (0x300 + type) (length slots) bytes) (omega arith)
-    (attribute_in_table (log_entry_of (0x300 + type) (length slots) bytes) class (omega arith)) (omega arith)
-    ∙ ap (option_map (λ all. record c { slots = all })) (attribute_at_end slots s (log_entry_of (0x300 + type) (length slots) bytes) named class id (omega arith))
+    by_slots (record c { slots = last slots s }) (log_entry (0x300 + type) (length slots) bytes) (omega arith)
+    (attribute_in_table (log_entry (0x300 + type) (length slots) bytes) class (omega arith)) (omega arith)
+    ∙ ap (option_map (λ all. record c { slots = all })) (attribute_at_end slots s (log_entry (0x300 + type) (length slots) bytes) named class id (omega arith))
     ∙ ap (λ k. Some (record c { slots = last slots (record s { attributes = attributes_with k bytes s.attributes }) })) chunk
   where
     attribute_in_table : (e : LogEntry) → abstract_type e.tag ≡ 3 → tag_length e.tag < 0x3ff → is_known_tag e.tag ≡ true
@@ -180,7 +174,7 @@ struct_part_written c slots s None none named n h = ap (λ z. Some (record c { s
 struct_part_written c slots s (Some part) none named n h = ap (option_and_then (λ d. content_after d [])) (struct_written c slots s part named n h)
 
 -- a slot after others
-pub slot_written : (c : RawContent) (s : RawSlot) → length c.slots < 0x3ff → is_some s.name ≡ true → IsSlotWellFormed s
+pub slot_written : (c : RawContent) (s : RawSlot) → length c.slots < 0x3ff → is_some s.name ≡ true → IsFormedSlot s
     → content_after c (slot_entries (length c.slots) s) ≡ Some (record c { slots = last c.slots s })
 slot_written c s n has_name h =
     then c (record c { slots = last c.slots (named s.struct) }) (data_entries (length c.slots) s.name ++ data_entries (length c.slots) s.struct) (attribute_entries (length c.slots) s.attributes) _
@@ -272,7 +266,7 @@ zero_is_none g z = go g.sync refl
 move_written : (c : RawContent) (g : Gstate) → c.move ≡ zero_gstate → MoveStateFits g → content_after c (move_state_entries g) ≡ Some (record c { move = g })
 move_written c g none h = go (is_zero g) refl
   where
-    go : (z : Bool) → is_zero g ≡ z → content_after c (cond z [] (log_entry_of move_type no_id (bytes_of_move_state g) ∷ [])) ≡ Some (record c { move = g })
+    go : (z : Bool) → is_zero g ≡ z → content_after c (cond z [] (log_entry move_type no_id (bytes_of_move_state g) ∷ [])) ≡ Some (record c { move = g })
     go true z = ap (λ m. Some (record c { move = m })) (none ∙ sym (zero_is_none g z))
     go false z = ap (λ m. Some (record c { move = m })) (read_gstate-bytes_of_move_state g h)
 

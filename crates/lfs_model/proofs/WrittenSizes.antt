@@ -1,11 +1,8 @@
 -- How many bytes a content takes when it is written anew.
 use Rattle.std.proofs.Common.{ℕ, ◌≡◌, ◌+◌, ◌≤◌, Bool, true, false, cond, List, [], ◌∷◌, ◌++◌, length, Option, Some, None, refl, arith}
 use Rattle.std.specs.Prelude.{sum_by}
-use Rattle.std.proofs.lemmas.List.Sums.{sum_by-append, sum_by-cons}
-use Rattle.lfs_model.specs.format.Slots.{Attributes, Tail, Gstate, attributes_size}
-use Rattle.lfs_model.specs.format.Log.{LogEntry}
-use Rattle.lfs_model.specs.format.Content.{RawSlot, RawContent}
-use Rattle.lfs_model.specs.layers.WrittenContent.{log_entry_of, lowest_type, data_entries, attribute_entries, slot_entries, entries_of_slots, tail_entries, move_entry, move_state_entries, is_zero, content_entries, data_size, slot_size_raw, raw_slots_size}
+use Rattle.lfs_model.proofs.Common.{sum_by-append, sum_by-cons, Attributes, Tail, Gstate, attributes_size, LogEntry, RawSlot, RawContent, log_entry, first_attribute_type, data_entries, attribute_entries, slot_entries, entries_of_slots, tail_entries, move_state_entries, is_zero, content_entries, data_size, slot_size_raw, raw_slots_size}
+use Rattle.lfs_model.specs.layers.WrittenContent.{move_entry}
 
 abbrev entry_size : LogEntry → ℕ
 entry_size e = 4 + length e.bytes
@@ -17,7 +14,7 @@ part_entries_size id (Some part) = omega arith
 attribute_entries_size : (id : ℕ) (attributes : Attributes) → sum_by entry_size (attribute_entries id attributes) ≡ attributes_size attributes
 attribute_entries_size id [] = refl
 attribute_entries_size id (a ∷ attributes) =
-    let left = sum_by-cons entry_size (log_entry_of (lowest_type + a.0) id a.1) (attribute_entries id attributes) in
+    let left = sum_by-cons entry_size (log_entry (first_attribute_type + a.0) id a.1) (attribute_entries id attributes) in
     let right = sum_by-cons (λ (b : ℕ × List ℕ). 4 + length b.1) a attributes in
     let rest = attribute_entries_size id attributes in
     omega (arith, left, right, rest)

@@ -3,10 +3,8 @@ use Rattle.std.proofs.Common.{ℕ, ◌≡◌, ◌+◌, ◌-◌, ◌^◌, ◌<◌
 use Rattle.std.specs.Prelude.{nat_lt, nat_le}
 use Rattle.std.proofs.lemmas.List.{replicate-append-replicate}
 use Rattle.byteorder.specs.Endian.{big_number}
-use Rattle.lfs_model.specs.format.Blocks.{Blocks, block_bytes, overwritten_at, programmed}
-use Rattle.lfs_model.specs.format.Tag.{tag_data_size}
-use Rattle.lfs_model.specs.format.Log.{CommitSequence, entry_at, chain_of}
-use Rattle.lfs_model.specs.format.Content.{has_commit}
+use Rattle.lfs_model.proofs.Common.{Blocks, block_bytes, overwritten_at, programmed, tag_data_size, CommitSequence, has_commit}
+use Rattle.lfs_model.specs.format.Log.{entry_at, chain_of}
 use Rattle.lfs_model.proofs.Chains.{chain_none, commit_none}
 use Rattle.lfs_model.proofs.Overwrites.{block_bytes-programmed}
 

@@ -4,7 +4,7 @@ ghost use Rattle.std.specs.Prelude.{◌≡◌, ℕ, true, false, [], ◌∷◌, 
 ghost use Rattle.lfs_model.specs.format.Blocks.{Blocks, block_bytes};
 ghost use Rattle.lfs_model.specs.session.History.{CallEvent, Program, Erase, call_event, read_count, program_count, erase_count, blank_count, fault_count, is_unprogrammed_byte, AreUnprogrammed, StayUnprogrammed, AllCallsSince, OnlyReadsSince, LossLeavesAtWorst, HoldsAtLosses};
 ghost use Rattle.lfs_model.specs.crash.Conformance.{CallsConform};
-ghost use Rattle.lfs_model.specs.examples.Histories.{example_after_erase, example_after_program, blank_event, failed_blank, after_erase, after_program, after_read, vain_program_event, other_erase_event};
+ghost use Rattle.lfs_model.specs.examples.Histories.{example_after_erase, example_after_program, blank_event, failed_blank, after_erase, after_program, after_read, lost_program, other_erase};
 
 /// How many reads, programs, erases and faults there were.
 pub fn history_counts_device_calls()
@@ -55,6 +55,6 @@ pub fn power_loss_changes_only_block_of_call()
 /// Each call that didn't fail conforms.
 pub fn calls_conform_unless_failed()
     ensures conforms { CallsConform after_read }
-    ensures not_programmed { CallsConform (vain_program_event ∷ []) → ⊥ }
-    ensures another_block { CallsConform (other_erase_event ∷ []) → ⊥ }
+    ensures not_programmed { CallsConform (lost_program ∷ []) → ⊥ }
+    ensures another_block { CallsConform (other_erase ∷ []) → ⊥ }
 {}

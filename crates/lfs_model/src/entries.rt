@@ -10,7 +10,7 @@ ghost use Rattle.lfs_model.specs.format.Content.{empty_raw_content, empty_slot, 
 ghost use Rattle.lfs_model.specs.format.EntryTypes.{gstate_from, create_tag_type, delete_tag_type, file_name_type, superblock_name_type, inline_type, directory_type, ctz_type, soft_tail_type, hard_tail_type, move_type, no_id};
 ghost use Rattle.lfs_model.specs.layers.Lookup.{IsLeastId, IsNewId, bytes_at};
 ghost use Rattle.lfs_model.specs.examples.Images.{raw_superblock, raw_empty_file};
-ghost use Rattle.lfs_model.specs.layers.WrittenContent.{log_entry_of, tail_entry};
+ghost use Rattle.lfs_model.specs.layers.WrittenContent.{log_entry, tail_entry};
 ghost use Rattle.lfs_model.specs.layers.BlockBytes.{inline_entries, move_state_entry};
 
 /// A tag is its type, its id and its length.
@@ -42,20 +42,20 @@ pub fn move_state_is_its_fields()
 pub fn log_entries_make_slots()
     // "b" is created, "a" is created before it and removed again, and "b" gets an attribute.
     ensures shifted { content_after empty_raw_content
-        (log_entry_of create_tag_type 0 [] ∷ inline_entries 0 (codes "b") []
-        ++ log_entry_of create_tag_type 0 [] ∷ inline_entries 0 (codes "a") []
-        ++ log_entry_of delete_tag_type 0 [] ∷ log_entry_of 0x341 0 (codes "x") ∷ [])
+        (log_entry create_tag_type 0 [] ∷ inline_entries 0 (codes "b") []
+        ++ log_entry create_tag_type 0 [] ∷ inline_entries 0 (codes "a") []
+        ++ log_entry delete_tag_type 0 [] ∷ log_entry 0x341 0 (codes "x") ∷ [])
         ≡ Some (record empty_raw_content { slots = record { name = Some (file_name_type, codes "b"); struct = Some (inline_type, []); attributes = (0x41, codes "x") ∷ [] } ∷ [] }) }
 
     // A name past the last slot makes slots up to its id.
-    ensures extended { content_after empty_raw_content (log_entry_of file_name_type 1 (codes "a") ∷ [])
+    ensures extended { content_after empty_raw_content (log_entry file_name_type 1 (codes "a") ∷ [])
         ≡ Some (record empty_raw_content { slots = empty_slot ∷ record empty_slot { name = Some (file_name_type, codes "a") } ∷ [] }) }
 
     // Attributes are in the order of their types. The last one of a type counts, or none where it was removed.
     ensures attributes { content_after empty_raw_content
-        (log_entry_of file_name_type 0 (codes "a")
-        ∷ log_entry_of 0x342 0 (codes "y") ∷ log_entry_of 0x341 0 (codes "x") ∷ log_entry_of 0x343 0 (codes "z")
-        ∷ log_entry_of 0x342 0 (codes "w") ∷ record { tag = make_tag 0x343 0 0x3ff; bytes = [] } ∷ record { tag = make_tag 0x344 0 0x3ff; bytes = [] } ∷ [])
+        (log_entry file_name_type 0 (codes "a")
+        ∷ log_entry 0x342 0 (codes "y") ∷ log_entry 0x341 0 (codes "x") ∷ log_entry 0x343 0 (codes "z")
+        ∷ log_entry 0x342 0 (codes "w") ∷ record { tag = make_tag 0x343 0 0x3ff; bytes = [] } ∷ record { tag = make_tag 0x344 0 0x3ff; bytes = [] } ∷ [])
         ≡ Some (record empty_raw_content { slots = record empty_slot { name = Some (file_name_type, codes "a"); attributes = (0x41, codes "x") ∷ (0x42, codes "w") ∷ [] } ∷ [] }) }
 {}
 
@@ -64,7 +64,7 @@ pub fn last_tail_and_move_count()
     ensures tail { content_after empty_raw_content (tail_entry false (Some (2, 3)) ∷ tail_entry true (Some (4, 5)) ∷ [])
         ≡ Some (record empty_raw_content { tail = Some (record { hard = true; to = (4, 5) }) }) }
     ensures no_tail { content_after empty_raw_content (tail_entry true (Some (2, 3)) ∷ tail_entry true None ∷ []) ≡ Some empty_raw_content }
-    ensures any_id { content_after empty_raw_content (log_entry_of soft_tail_type 0 (tail_entry false None).bytes ∷ [])
+    ensures any_id { content_after empty_raw_content (log_entry soft_tail_type 0 (tail_entry false None).bytes ∷ [])
         ≡ Some empty_raw_content }
     ensures move_state { content_after empty_raw_content (move_state_entry 0x4ff00400 (0, 1) ∷ move_state_entry 0x80000000 (0, 0) ∷ [])
         ≡ Some (record empty_raw_content { move = record zero_gstate { sync = true } }) }
@@ -72,44 +72,44 @@ pub fn last_tail_and_move_count()
 
 /// Where entries aren't allowed.
 pub fn log_with_bad_entry_is_malformed()
-    ensures unknown_name { content_after empty_raw_content (log_entry_of 0x003 0 (codes "a") ∷ []) ≡ None }
-    ensures unknown_class { content_after empty_raw_content (log_entry_of file_name_type 0 (codes "a") ∷ log_entry_of 0x100 0 [] ∷ []) ≡ None }
-    ensures unknown_struct { content_after empty_raw_content (log_entry_of file_name_type 0 (codes "a") ∷ log_entry_of 0x203 0 [] ∷ []) ≡ None }
-    ensures unknown_splice { content_after empty_raw_content (log_entry_of 0x402 0 [] ∷ []) ≡ None }
-    ensures unknown_tail { content_after empty_raw_content (log_entry_of 0x602 no_id (tail_entry false None).bytes ∷ []) ≡ None }
-    ensures unknown_move { content_after empty_raw_content (log_entry_of 0x7fe no_id (move_state_entry 0 (0, 0)).bytes ∷ []) ≡ None }
+    ensures unknown_name { content_after empty_raw_content (log_entry 0x003 0 (codes "a") ∷ []) ≡ None }
+    ensures unknown_class { content_after empty_raw_content (log_entry file_name_type 0 (codes "a") ∷ log_entry 0x100 0 [] ∷ []) ≡ None }
+    ensures unknown_struct { content_after empty_raw_content (log_entry file_name_type 0 (codes "a") ∷ log_entry 0x203 0 [] ∷ []) ≡ None }
+    ensures unknown_splice { content_after empty_raw_content (log_entry 0x402 0 [] ∷ []) ≡ None }
+    ensures unknown_tail { content_after empty_raw_content (log_entry 0x602 no_id (tail_entry false None).bytes ∷ []) ≡ None }
+    ensures unknown_move { content_after empty_raw_content (log_entry 0x7fe no_id (move_state_entry 0 (0, 0)).bytes ∷ []) ≡ None }
 {}
 
 /// An entry for a slot that isn't there isn't allowed.
 pub fn entry_of_absent_slot_is_malformed()
-    ensures create_past_the_end { content_after empty_raw_content (log_entry_of create_tag_type 1 [] ∷ []) ≡ None }
-    ensures delete_absent { content_after empty_raw_content (log_entry_of delete_tag_type 0 [] ∷ []) ≡ None }
-    ensures struct_absent { content_after empty_raw_content (log_entry_of inline_type 0 [] ∷ []) ≡ None }
-    ensures attribute_absent { content_after empty_raw_content (log_entry_of 0x341 0 [] ∷ []) ≡ None }
+    ensures create_past_the_end { content_after empty_raw_content (log_entry create_tag_type 1 [] ∷ []) ≡ None }
+    ensures delete_absent { content_after empty_raw_content (log_entry delete_tag_type 0 [] ∷ []) ≡ None }
+    ensures struct_absent { content_after empty_raw_content (log_entry inline_type 0 [] ∷ []) ≡ None }
+    ensures attribute_absent { content_after empty_raw_content (log_entry 0x341 0 [] ∷ []) ≡ None }
 {}
 
 /// A slot without a name takes neither a struct nor an attribute, and a name has an id.
 pub fn entry_without_name_is_malformed()
-    ensures struct_without_name { content_after empty_raw_content (log_entry_of create_tag_type 0 [] ∷ log_entry_of inline_type 0 [] ∷ []) ≡ None }
-    ensures attribute_without_name { content_after empty_raw_content (log_entry_of create_tag_type 0 [] ∷ log_entry_of 0x341 0 [] ∷ []) ≡ None }
-    ensures name_without_id { content_after empty_raw_content (log_entry_of file_name_type no_id (codes "a") ∷ []) ≡ None }
+    ensures struct_without_name { content_after empty_raw_content (log_entry create_tag_type 0 [] ∷ log_entry inline_type 0 [] ∷ []) ≡ None }
+    ensures attribute_without_name { content_after empty_raw_content (log_entry create_tag_type 0 [] ∷ log_entry 0x341 0 [] ∷ []) ≡ None }
+    ensures name_without_id { content_after empty_raw_content (log_entry file_name_type no_id (codes "a") ∷ []) ≡ None }
 {}
 
 /// A name or a struct of a wrong length isn't allowed.
 pub fn slot_entry_length_is_checked()
-    ensures superblock_len { content_after empty_raw_content (log_entry_of superblock_name_type 0 (codes "little") ∷ []) ≡ None }
-    ensures directory_len { content_after empty_raw_content (log_entry_of file_name_type 0 (codes "a") ∷ log_entry_of directory_type 0 (codes "1234567") ∷ []) ≡ None }
-    ensures list_len { content_after empty_raw_content (log_entry_of file_name_type 0 (codes "a") ∷ log_entry_of ctz_type 0 (codes "123456789") ∷ []) ≡ None }
+    ensures superblock_len { content_after empty_raw_content (log_entry superblock_name_type 0 (codes "little") ∷ []) ≡ None }
+    ensures directory_len { content_after empty_raw_content (log_entry file_name_type 0 (codes "a") ∷ log_entry directory_type 0 (codes "1234567") ∷ []) ≡ None }
+    ensures list_len { content_after empty_raw_content (log_entry file_name_type 0 (codes "a") ∷ log_entry ctz_type 0 (codes "123456789") ∷ []) ≡ None }
     ensures removed_name { content_after empty_raw_content (record { tag = make_tag file_name_type 0 0x3ff; bytes = [] } ∷ []) ≡ None }
 {}
 
 /// A create, a delete, a tail or a move state of a wrong length isn't allowed.
 pub fn other_entry_length_is_checked()
-    ensures create_len { content_after empty_raw_content (log_entry_of create_tag_type 0 (codes "1") ∷ []) ≡ None }
-    ensures delete_len { content_after empty_raw_content (log_entry_of create_tag_type 0 [] ∷ log_entry_of delete_tag_type 0 (codes "1") ∷ [])
+    ensures create_len { content_after empty_raw_content (log_entry create_tag_type 0 (codes "1") ∷ []) ≡ None }
+    ensures delete_len { content_after empty_raw_content (log_entry create_tag_type 0 [] ∷ log_entry delete_tag_type 0 (codes "1") ∷ [])
         ≡ None }
-    ensures tail_len { content_after empty_raw_content (log_entry_of hard_tail_type no_id (codes "1234") ∷ []) ≡ None }
-    ensures move_len { content_after empty_raw_content (log_entry_of move_type no_id (codes "12345678") ∷ []) ≡ None }
+    ensures tail_len { content_after empty_raw_content (log_entry hard_tail_type no_id (codes "1234") ∷ []) ≡ None }
+    ensures move_len { content_after empty_raw_content (log_entry move_type no_id (codes "12345678") ∷ []) ≡ None }
 {}
 
 /// Where a name is among slots. The superblock's name and the slot that is passed over don't count.

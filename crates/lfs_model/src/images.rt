@@ -11,7 +11,7 @@ ghost use Rattle.lfs_model.specs.tree.Tree.{FileNode, DirectoryNode};
 ghost use Rattle.lfs_model.specs.session.TreeEdits.{tree_creating};
 ghost use Rattle.lfs_model.specs.tree.View.{HasDiskView, IsAccepted};
 ghost use Rattle.lfs_model.specs.tree.Profile.{IsWritable};
-ghost use Rattle.lfs_model.specs.tree.Shown.{tree_on_disk, used_blocks};
+ghost use Rattle.lfs_model.specs.tree.Shown.{disk_tree, used_blocks};
 ghost use Rattle.lfs_model.specs.tree.Fresh.{IsFreshDisk, fresh_pair, empty_tree};
 ghost use Rattle.lfs_model.specs.layers.WrittenContent.{tail_entry};
 ghost use Rattle.lfs_model.specs.layers.BlockBytes.{unwritten_bytes, block_padded, inline_entries, ctz_entries, directory_entries, move_state_entry, superblock_entries, checksum_entry, metadata_bytes};
@@ -22,7 +22,7 @@ ghost use Rattle.lfs_model.specs.examples.Violations.{unwritable_inline_image, s
 pub fn fresh_image_is_accepted()
     ensures accepted { (disk : Disk) → IsFreshDisk disk → IsAccepted disk (fresh_pair disk ∷ []) }
     ensures writable { (disk : Disk) → IsFreshDisk disk → IsWritable disk (fresh_pair disk ∷ []) }
-    ensures shows { (disk : Disk) → tree_on_disk disk (fresh_pair disk ∷ []) ≡ empty_tree }
+    ensures shows { (disk : Disk) → disk_tree disk (fresh_pair disk ∷ []) ≡ empty_tree }
     ensures gstate { (disk : Disk) → pairs_gstate (fresh_pair disk ∷ []) ≡ zero_gstate }
     ensures used { (disk : Disk) → used_blocks disk (fresh_pair disk ∷ []) ≡ 0 ∷ 1 ∷ [] }
 {}

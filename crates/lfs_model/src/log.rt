@@ -6,9 +6,9 @@ ghost use Rattle.lfs_model.specs.format.Crc.{IsCrcFrom, crc_of};
 ghost use Rattle.lfs_model.specs.format.Log.{LogEntry, AreCommits, chain_of, block_revision};
 ghost use Rattle.lfs_model.specs.format.Content.{has_commit, is_later, current_of_two};
 ghost use Rattle.lfs_model.specs.format.EntryTypes.{create_tag_type, no_id};
-ghost use Rattle.lfs_model.specs.layers.WrittenContent.{log_entry_of};
+ghost use Rattle.lfs_model.specs.layers.WrittenContent.{log_entry};
 ghost use Rattle.lfs_model.specs.layers.BlockBytes.{unwritten_bytes, metadata_bytes, checksum_entry};
-ghost use Rattle.lfs_model.specs.examples.Images.{IsNotAccepted, small_block, small_disk_beginning, bad_checksum_block, shifted_slot_block};
+ghost use Rattle.lfs_model.specs.examples.Images.{IsNotAccepted, small_block, small_disk_with, bad_checksum_block, shifted_slot_block};
 
 /// The checksum that is computed is the remainder of the polynomials, and no other number of 32 bits is.
 pub fn checksum_is_remainder()
@@ -33,7 +33,7 @@ pub fn log_is_longest_commit_sequence()
 pub fn altered_commit_ends_log()
     // One bit of the checksum of the only commit is inverted.
     ensures no_log { (k : ℕ) → k < 32 → (chain_of (bad_checksum_block k)).commits ≡ [] }
-    ensures no_image { (k : ℕ) → k < 32 → IsNotAccepted (small_disk_beginning (bad_checksum_block k)) }
+    ensures no_image { (k : ℕ) → k < 32 → IsNotAccepted (small_disk_with (bad_checksum_block k)) }
 
     // Of five commits the second has another byte of data, or the fourth another checksum, or the first another struct.
     ensures second { chain_of (slice_set shifted_slot_block 264 0x63)
@@ -51,26 +51,26 @@ pub fn padding_may_be_any_bytes()
 
 /// What ends a commit: a checksum of type 0x500 or 0x501 and of 4 to 1,022 bytes, over all before it and its own tag.
 pub fn checksum_ends_commit()
-    ensures shortest { has_commit (metadata_bytes 64 1 (log_entry_of create_tag_type 0 [] ∷ checksum_entry 0x3316d230 0 ∷ [])) ≡ true }
-    ensures longest { has_commit (metadata_bytes 1100 1 (log_entry_of create_tag_type 0 [] ∷ checksum_entry 0x45539af1 1018 ∷ []))
+    ensures shortest { has_commit (metadata_bytes 64 1 (log_entry create_tag_type 0 [] ∷ checksum_entry 0x3316d230 0 ∷ [])) ≡ true }
+    ensures longest { has_commit (metadata_bytes 1100 1 (log_entry create_tag_type 0 [] ∷ checksum_entry 0x45539af1 1018 ∷ []))
         ≡ true }
-    ensures other_type { has_commit (metadata_bytes 64 1 (log_entry_of create_tag_type 0 []
-        ∷ log_entry_of 0x501 no_id (little_bytes 4 0x2f307140) ∷ [])) ≡ true }
+    ensures other_type { has_commit (metadata_bytes 64 1 (log_entry create_tag_type 0 []
+        ∷ log_entry 0x501 no_id (little_bytes 4 0x2f307140) ∷ [])) ≡ true }
 {}
 
 /// What ends no commit. Padding that is within the block does.
 pub fn bad_checksum_ends_no_commit()
     // Three bytes of a right number; a type of the same class; a number that leaves out its own tag.
-    ensures too_short { has_commit (metadata_bytes 64 1 (log_entry_of create_tag_type 0 []
-        ∷ log_entry_of 0x500 no_id (little_bytes 3 0xad724793) ∷ [])) ≡ false }
-    ensures no_checksum { has_commit (metadata_bytes 64 1 (log_entry_of create_tag_type 0 []
-        ∷ log_entry_of 0x502 no_id (little_bytes 4 0x0b5b94d0) ∷ [])) ≡ false }
-    ensures not_its_tag { has_commit (metadata_bytes 64 1 (log_entry_of create_tag_type 0 [] ∷ checksum_entry 0x0ffefba6 0 ∷ [])) ≡ false }
+    ensures too_short { has_commit (metadata_bytes 64 1 (log_entry create_tag_type 0 []
+        ∷ log_entry 0x500 no_id (little_bytes 3 0xad724793) ∷ [])) ≡ false }
+    ensures no_checksum { has_commit (metadata_bytes 64 1 (log_entry create_tag_type 0 []
+        ∷ log_entry 0x502 no_id (little_bytes 4 0x0b5b94d0) ∷ [])) ≡ false }
+    ensures not_its_tag { has_commit (metadata_bytes 64 1 (log_entry create_tag_type 0 [] ∷ checksum_entry 0x0ffefba6 0 ∷ [])) ≡ false }
 
     // Its padding exceeds the end of the block; there is none at all.
-    ensures past_the_end { has_commit (take 64 (metadata_bytes 64 1 (log_entry_of create_tag_type 0 [] ∷ checksum_entry 0x7ea4b368 96 ∷ [])))
+    ensures past_the_end { has_commit (take 64 (metadata_bytes 64 1 (log_entry create_tag_type 0 [] ∷ checksum_entry 0x7ea4b368 96 ∷ [])))
         ≡ false }
-    ensures within { has_commit (metadata_bytes 64 1 (log_entry_of create_tag_type 0 [] ∷ checksum_entry 0x7ea4b368 96 ∷ [])) ≡ true }
+    ensures within { has_commit (metadata_bytes 64 1 (log_entry create_tag_type 0 [] ∷ checksum_entry 0x7ea4b368 96 ∷ [])) ≡ true }
     ensures absent { has_commit (unwritten_bytes 64) ≡ false }
 {}
 

@@ -18,7 +18,7 @@ ghost use Rattle.lfs_model.specs.crash.Stops.{ErasesCleanly};
 ghost use Rattle.lfs_model.specs.tree.Tree.{Tree};
 ghost use Rattle.lfs_model.specs.crash.RepeatedPowerLoss.{RecoversTree, KeepsTree, LeftInCall, SurvivesLoss, LeftAfterMount, LeftByLosses, MeetsRunPremises, CrashSafe};
 ghost use Rattle.lfs_model.specs.examples.Images.{small_image, two_commit_image};
-ghost use Rattle.lfs_model.specs.examples.Runs.{fresh_state, failed_state, state_after_open, empty_disk, one_block_reads};
+ghost use Rattle.lfs_model.specs.examples.Runs.{fresh_state, failed_state, state_after_open, blockless_disk, one_block_reads};
 
 /// A run ends where its session fails; the operations before it were applied.
 pub fn session_failure_ends_run_of_operations()
@@ -32,13 +32,13 @@ pub fn failure_of_nonwriting_operation_writes_nothing()
     ensures no_call { FailsIn failed_state (ops.Stat (codes "/")) (record failed_state { calls = one_block_reads 1 }) → ⊥ }
     ensures no_write { FailsIn fresh_state ops.Remount (record failed_state { disk = two_commit_image }) → ⊥ }
     ensures itself { FailsIn fresh_state (ops.Rename (codes "/a") (codes "/a")) (record failed_state { calls = state_after_open.calls }) → ⊥ }
-    ensures unwritten { FailsIn (record fresh_state { disk = empty_disk }) (ops.Mkdir (codes "/d")) (record failed_state { disk = empty_disk; calls = state_after_open.calls }) → ⊥ }
+    ensures unwritten { FailsIn (record fresh_state { disk = blockless_disk }) (ops.Mkdir (codes "/d")) (record failed_state { disk = blockless_disk; calls = state_after_open.calls }) → ⊥ }
 {}
 
 /// A stop leaves the tree from before or from after, and a mount and a recovery keep it.
 pub fn power_loss_leaves_disk_with_safe_tree()
     ensures no_call { SurvivesPowerLoss fresh_state (ops.Stat (codes "/")) fresh_state }
-    ensures lost { SurvivesPowerLoss fresh_state (ops.Stat (codes "/")) (record fresh_state { disk = empty_disk }) → ⊥ }
+    ensures lost { SurvivesPowerLoss fresh_state (ops.Stat (codes "/")) (record fresh_state { disk = blockless_disk }) → ⊥ }
     ensures restored { RecoversTree empty_tree ops.Done small_image }
     ensures other_tree { RecoversTree (λ path. None) ops.Done small_image → ⊥ }
 
@@ -50,7 +50,7 @@ pub fn power_loss_leaves_disk_with_safe_tree()
 /// A fresh disk keeps its tree. A disk without blocks has none to keep.
 pub fn fresh_disk_keeps_its_tree()
     ensures safe { KeepsTree empty_tree small_image }
-    ensures not_safe { (tree : Tree) → KeepsTree tree empty_disk → ⊥ }
+    ensures not_safe { (tree : Tree) → KeepsTree tree blockless_disk → ⊥ }
 {}
 
 /// Wherever power is lost in a run, it is survived, and so is each loss after it.
@@ -61,7 +61,7 @@ pub fn power_loss_is_survived()
     // the tree is the one that was there.
     ensures may { MeetsRunPremises fresh_state fresh_state }
     ensures none_begun { (to : SystemState) (run : IsRun fresh_state [] to) (left : Disk) (s : SurvivesLoss fresh_state [] to run left) → s.tree ≡ empty_tree }
-    ensures not_lost { (to : SystemState) (run : IsRun fresh_state (ops.Stat (codes "/") ∷ []) to) → SurvivesLoss fresh_state (ops.Stat (codes "/") ∷ []) to run empty_disk → ⊥ }
+    ensures not_lost { (to : SystemState) (run : IsRun fresh_state (ops.Stat (codes "/") ∷ []) to) → SurvivesLoss fresh_state (ops.Stat (codes "/") ∷ []) to run blockless_disk → ⊥ }
     ensures not_changed { (to : SystemState) (run : IsRun fresh_state (ops.Stat (codes "/") ∷ []) to) (s : SurvivesLoss fresh_state (ops.Stat (codes "/") ∷ []) to run small_image) → s.tree ≡ (λ path. None) → ⊥ }
 {}
 
@@ -69,7 +69,7 @@ pub fn power_loss_is_survived()
 pub fn repeated_power_losses_keep_tree()
     ensures once { LeftAfterMount small_image small_image }
     ensures again { LeftByLosses small_image (small_image ∷ small_image ∷ []) }
-    ensures not_all { LeftAfterMount small_image empty_disk → ⊥ }
+    ensures not_all { LeftAfterMount small_image blockless_disk → ⊥ }
     ensures in_a_read { (blocks : Blocks) → LeftInCall [] (call_event (Read 0 0 4) blocks blocks false ∷ []) blocks }
     ensures not_in_none { (blocks : Blocks) → LeftInCall [] [] blocks → ⊥ }
 {}
@@ -91,5 +91,5 @@ pub fn disk_after_last_call_is_power_loss_outcome()
 
     // A device that isn't called stays as it is.
     ensures silent { AreConforming fresh_state failed_state }
-    ensures lost { AreConforming fresh_state (record fresh_state { disk = empty_disk }) → ⊥ }
+    ensures lost { AreConforming fresh_state (record fresh_state { disk = blockless_disk }) → ⊥ }
 {}

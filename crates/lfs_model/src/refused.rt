@@ -5,7 +5,7 @@ ghost use Rattle.byteorder.specs.Endian.{little_bytes};
 ghost use Rattle.lfs_model.specs.declared.limits.AcceptedVersions.TheVariants.{AlsoTwoOne};
 ghost use Rattle.lfs_model.specs.layers.WrittenContent.{tail_entry};
 ghost use Rattle.lfs_model.specs.layers.BlockBytes.{unwritten_bytes, block_padded, inline_entries, ctz_entries, directory_entries, move_state_entry};
-ghost use Rattle.lfs_model.specs.examples.Images.{IsNotAccepted, root_block_with, pair_block_with, blocks_image, resized_fresh_image, struct_bytes_with, root_struct_block, disk_with_versions};
+ghost use Rattle.lfs_model.specs.examples.Images.{IsNotAccepted, root_block_with, pair_block_with, blocks_image, resized_image, struct_bytes_with, root_struct_block, disk_with_versions};
 
 /// The thread must end, within the disk, and must not have a block twice.
 pub fn bad_thread_is_not_accepted()
@@ -81,8 +81,8 @@ pub fn move_naming_no_entry_is_not_accepted()
 /// The superblock gives the block size, the block count and the version 2.0, where no other is accepted.
 pub fn bad_superblock_is_not_accepted()
     // The 16 blocks of a fresh image cut to 2, and lengthened by one.
-    ensures cut { IsNotAccepted (resized_fresh_image 2) }
-    ensures lengthened { IsNotAccepted (resized_fresh_image 17) }
+    ensures cut { IsNotAccepted (resized_image 2) }
+    ensures lengthened { IsNotAccepted (resized_image 17) }
     ensures version { IsNotAccepted (blocks_image (root_struct_block (struct_bytes_with 0x00020001 4096 255) 0xf2928257) []) }
     // Version 2.2, where 2.1 is accepted too.
     ensures later_version { IsNotAccepted (disk_with_versions AlsoTwoOne (blocks_image (root_struct_block (struct_bytes_with 0x00020002 4096 255) 0xf04c8570) [])) }

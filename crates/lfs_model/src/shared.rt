@@ -14,7 +14,7 @@ ghost use Rattle.lfs_model.specs.crash.FailedCalls.{FailLikeLossSince, LeftByLat
 ghost use Rattle.lfs_model.specs.session.History.{CallEvent, AllCallsSince, fault_count};
 ghost use Rattle.lfs_model.specs.session.InDirectory.{IsPairAt, IsPlaceOf, BelongsAt, joined_count};
 ghost use Rattle.lfs_model.specs.format.SkipLists.{block_count_for, blocks_to_head, IsSkipList, list_bytes};
-ghost use Rattle.lfs_model.specs.layers.LoggedContent.{IsAllowed, AreWellFormed, IsWellFormed};
+ghost use Rattle.lfs_model.specs.layers.LoggedContent.{IsAllowedPart, AreWellFormed, IsWellFormed};
 ghost use Rattle.lfs_model.specs.format.Names.{Name};
 ghost use Rattle.lfs_model.specs.crash.PowerLoss.{HasEither, SurvivesLossSince, with_blocks};
 ghost use Rattle.lfs_model.specs.session.SlotEdits.{slot_of};
@@ -48,7 +48,7 @@ pub fn full_pair_can_be_split()
 
 /// A name's type is a file's, a directory's or a superblock's. What is written anew with the superblock in slot 0 begins with its entry.
 pub fn superblock_is_written_first()
-    ensures types { (kind : ℕ) (bytes : List ℕ) → IsAllowed 0 (kind, bytes) → (kind ≡ file_name_type) ⊎ ((kind ≡ directory_name_type) ⊎ (kind ≡ superblock_name_type)) }
+    ensures types { (kind : ℕ) (bytes : List ℕ) → IsAllowedPart 0 (kind, bytes) → (kind ≡ file_name_type) ⊎ ((kind ≡ directory_name_type) ⊎ (kind ≡ superblock_name_type)) }
     ensures first { (raw : RawContent) (c : PairContent) → AreWellFormed raw.slots → complete_content raw ≡ Some c → starts_superblock c.slots ≡ true
         → option_map (λ (s : Slot). s.name) (slice_get c.slots 0) ≡ Some (codes "littlefs") → slice_get (content_entries raw) 0 ≡ Some superblock_entry }
 {}

@@ -13,14 +13,14 @@ ghost use Rattle.lfs_model.specs.tree.View.{IsAccepted};
 ghost use Rattle.lfs_model.specs.session.State.{mounted_session};
 ghost use Rattle.lfs_model.specs.tree.Fresh.{empty_tree, superblock_slot};
 ghost use Rattle.lfs_model.specs.session.Recovery.{recovers_first};
-ghost use Rattle.lfs_model.specs.session.SlotEdits.{file_slot, directory_slot, StoresBytes, EditsSlots};
+ghost use Rattle.lfs_model.specs.session.SlotEdits.{file_slot, directory_slot, GivesBytes, EditsSlots};
 ghost use Rattle.lfs_model.specs.session.Layout.{removed_addresses, IsPairAfter, IsLayoutRecovered};
 ghost use Rattle.lfs_model.specs.session.Moved.{IsPairMoved, IsPairUnloaded, IsRootUnloaded, IsMoved, IsLayoutMoved};
 ghost use Rattle.lfs_model.specs.crash.Frame.{answers_itself};
 ghost use Rattle.lfs_model.specs.layers.Keeping.{takes_away, may_store_at, struct_at, KeepsStructs};
 ghost use Rattle.lfs_model.specs.session.Run.{is_read_only, writes_or_truncates, needs_no_call, renames_itself, edits_slots};
 ghost use Rattle.lfs_model.specs.examples.Sessions.{creating_flags, read_flags};
-ghost use Rattle.lfs_model.specs.examples.Images.{small_disk_beginning, small_image, large_image};
+ghost use Rattle.lfs_model.specs.examples.Images.{small_disk_with, small_image, large_image};
 ghost use Rattle.lfs_model.specs.examples.Runs.{pair_with_tail, tail_to_address, root_with_d, image_of_two, root_and_directory, root_and_two, root_with_file, long_attribute_slot, slot_with_list, each_operation, with_reader, with_writer};
 
 /// Which operations recover first, which change where slots are, and which leave the disk alone.
@@ -81,12 +81,12 @@ pub fn slots_and_attributes_are_replaced()
 
 /// At most an eighth of a block is in the entry, and no more than the profile has.
 pub fn inline_limit_is_eighth_of_block()
-    ensures inline { StoresBytes small_image (replicate 128 7) (Inline (replicate 128 7)) }
-    ensures too_long { StoresBytes small_image (replicate 129 7) (Inline (replicate 129 7)) → ⊥ }
-    ensures lower { StoresBytes (record small_image { profile = record default_profile { inline_max = 16 } }) (replicate 16 7) (Inline (replicate 16 7)) }
-    ensures past_lower { StoresBytes (record small_image { profile = record default_profile { inline_max = 16 } }) (replicate 17 7) (Inline (replicate 17 7)) → ⊥ }
-    ensures too_short { StoresBytes small_image (replicate 128 7) (Ctz 1 128) → ⊥ }
-    ensures list { StoresBytes (small_disk_beginning (replicate 1024 7)) (replicate 1024 7) (Ctz 0 1024) }
+    ensures inline { GivesBytes small_image (replicate 128 7) (Inline (replicate 128 7)) }
+    ensures too_long { GivesBytes small_image (replicate 129 7) (Inline (replicate 129 7)) → ⊥ }
+    ensures lower { GivesBytes (record small_image { profile = record default_profile { inline_max = 16 } }) (replicate 16 7) (Inline (replicate 16 7)) }
+    ensures past_lower { GivesBytes (record small_image { profile = record default_profile { inline_max = 16 } }) (replicate 17 7) (Inline (replicate 17 7)) → ⊥ }
+    ensures too_short { GivesBytes small_image (replicate 128 7) (Ctz 1 128) → ⊥ }
+    ensures list { GivesBytes (small_disk_with (replicate 1024 7)) (replicate 1024 7) (Ctz 0 1024) }
 {}
 
 /// A pair is cut where its slots don't fit, and dropped where it has none and isn't the first.

@@ -6,25 +6,25 @@ ghost use Rattle.lfs_model.specs.format.Names.{Name};
 ghost use Rattle.lfs_model.specs.format.Slots.{Attributes};
 ghost use Rattle.lfs_model.specs.format.Thread.{Pair};
 ghost use Rattle.lfs_model.specs.tree.Tree.{Path, Node, FileNode, DirectoryNode, Tree};
-ghost use Rattle.lfs_model.specs.tree.Shown.{tree_on_disk};
+ghost use Rattle.lfs_model.specs.tree.Shown.{disk_tree};
 ghost use Rattle.lfs_model.specs.session.Operations as ops;
 ghost use Rattle.lfs_model.specs.layers.Listing.{PathNode, IsWalk, listing_lines, IsListing, MakeDirectory, PutFile, Unpack, new_flags, CopyTree};
-ghost use Rattle.lfs_model.specs.examples.Images.{tree_of_nodes, small_tree_nodes};
+ghost use Rattle.lfs_model.specs.examples.Images.{tree_of_nodes, small_nodes};
 
 /// Whatever the pairs, they show a tree: each node is in a directory that has its name, and each name of a directory has a node.
 pub fn tree_nodes_match_directory_names()
-    ensures root { (disk : Disk) (ps : List Pair) → (names : List Name) × (tree_on_disk disk ps [] ≡ Some (DirectoryNode [] names)) }
-    ensures parent { (disk : Disk) (ps : List Pair) (path : Path) (name : Name) (node : Node) → tree_on_disk disk ps (path ++ name ∷ []) ≡ Some node
-        → (attributes : Attributes) × (names : List Name) × (tree_on_disk disk ps path ≡ Some (DirectoryNode attributes names)) × Contains names name }
+    ensures root { (disk : Disk) (ps : List Pair) → (names : List Name) × (disk_tree disk ps [] ≡ Some (DirectoryNode [] names)) }
+    ensures parent { (disk : Disk) (ps : List Pair) (path : Path) (name : Name) (node : Node) → disk_tree disk ps (path ++ name ∷ []) ≡ Some node
+        → (attributes : Attributes) × (names : List Name) × (disk_tree disk ps path ≡ Some (DirectoryNode attributes names)) × Contains names name }
     ensures child { (disk : Disk) (ps : List Pair) (path : Path) (attributes : Attributes) (names : List Name) (name : Name)
-        → tree_on_disk disk ps path ≡ Some (DirectoryNode attributes names) → Contains names name → is_some (tree_on_disk disk ps (path ++ name ∷ [])) ≡ true }
+        → disk_tree disk ps path ≡ Some (DirectoryNode attributes names) → Contains names name → is_some (disk_tree disk ps (path ++ name ∷ [])) ≡ true }
 {}
 
 /// How a tree of a file, a directory and an empty file in it is listed, unpacked and copied.
 pub fn example_tree_is_listed_and_unpacked()
-    ensures lines { IsListing (tree_of_nodes small_tree_nodes) (codes "f 5 /a\nd 0 /d\nf 0 /d/x\n") }
-    ensures actions { Unpack (tree_of_nodes small_tree_nodes) (PutFile (codes "/a") (codes "hello") ∷ MakeDirectory (codes "/d") ∷ PutFile (codes "/d/x") [] ∷ []) }
-    ensures operations { CopyTree (tree_of_nodes small_tree_nodes)
+    ensures lines { IsListing (tree_of_nodes small_nodes) (codes "f 5 /a\nd 0 /d\nf 0 /d/x\n") }
+    ensures actions { Unpack (tree_of_nodes small_nodes) (PutFile (codes "/a") (codes "hello") ∷ MakeDirectory (codes "/d") ∷ PutFile (codes "/d/x") [] ∷ []) }
+    ensures operations { CopyTree (tree_of_nodes small_nodes)
         (ops.Open (codes "/a") new_flags ∷ ops.Write 0 (codes "hello") ∷ ops.Close 0 ∷ ops.Mkdir (codes "/d")
         ∷ ops.Open (codes "/d/x") new_flags ∷ ops.Write 0 [] ∷ ops.Close 0 ∷ []) }
 

@@ -1,39 +1,14 @@
 -- A pair that breaks a rule: the thread's pairs break it.
 use Rattle.std.proofs.Common.{ℕ, zero, suc, ◌≡◌, ◌⊎◌, inl, inr, ◌+◌, ◌<◌, ◌≤◌, ◌==◌, ◌&&◌, Bool, true, false, cond, not, List, [], ◌∷◌, ◌++◌, length, take, drop, filter, Option, Some, None, refl, sym, ap, subst, ◌∙◌, arith, append-nil, slice_get, nat_eq, eqb-true, flat_map, option_and_then, option_map}
-use Rattle.std.specs.List.{IsDistinct, cons_option}
-use Rattle.std.proofs.lemmas.Bool.{and_parts}
-use Rattle.std.proofs.lemmas.List.{take-append-drop, take_more}
-use Rattle.std.proofs.lemmas.List.Concat.{flat_map-append}
-use Rattle.std.proofs.lemmas.List.Elements.{filter_map-append, recursion_from_All}
-use Rattle.std.proofs.lemmas.Option.{get_or_from_slice_get, option_and_then_some, same_Some, slice_get_within}
-use Rattle.lfs_model.specs.layers.BlockSets.{BlockStates}
-use Rattle.lfs_model.specs.format.Content.{RawContent, RawSlot, content_after, empty_raw_content, complete_content, raw_content, complete_slot, complete_slots}
-use Rattle.lfs_model.specs.format.Disk.{Disk, disk_block, block_count}
-use Rattle.lfs_model.specs.format.Log.{block_entries}
-use Rattle.lfs_model.specs.layers.LoggedContent.{AreWellFormed, IsSlotWellFormed}
-use Rattle.lfs_model.specs.tree.Shown.{all_slots_not_moved, struct_blocks, used_blocks}
-use Rattle.lfs_model.specs.format.SkipLists.{block_count_for, blocks_to_head}
-use Rattle.lfs_model.specs.format.Names.{Name}
-use Rattle.lfs_model.specs.format.Slots.{Branch, Ctz, Gstate, Inline, Slot, Struct, is_superblock, array_address, same_pair}
-use Rattle.lfs_model.specs.format.Thread.{Pair, blocks_of_pairs, unmoved_entries, pairs_gstate, moved_id, pair_count_before_root, slots_not_moved, starts_superblock}
-use Rattle.lfs_model.specs.tree.View.{HasValidMove, IsWellFormedCtz, IsEntry}
-use Rattle.lfs_model.specs.layers.Violations.{BreaksPairs, IsUsedTwice, IsSlotAt, IsUnmovedAt}
+use Rattle.lfs_mount.proofs.Common.{cons_option, and_parts, take-append-drop, take_more, flat_map-append, filter_map-append, recursion_from_All, get_or_from_slice_get, option_and_then_some, same_Some, slice_get_within, BlockStates, RawContent, RawSlot, content_after, empty_raw_content, complete_content, raw_content, complete_slot, complete_slots, Disk, disk_block, block_count, block_entries, AreWellFormed, IsFormedSlot, all_unmoved_slots, struct_blocks, used_blocks, block_count_for, blocks_to_head, Name, Branch, Ctz, Gstate, Inline, Slot, Struct, is_superblock, array_address, same_pair, Pair, pairs_blocks, unmoved_entries, pairs_gstate, moved_id, count_before_root, slots_not_moved, starts_superblock, HasValidMove, IsFormedList, IsEntry, BreaksPairs, Contains-number_occurrences, complete_parts, Each, count_append, each_counted, number_occurrences, logged, AreByteBlocks, BreaksDescribedPair, BreaksKeptList, BreaksList, BreaksMovedSlot, raw_block_slots, IsDescribedThread, AreDescriptions, IsDescription, raw_slot_entry, struct_reference, named_reference, HasUsedBlocks, raw_slot_lists, blocks_last_first, list_of_entry, Vertex, AddsPair, kept_slot_number, unmoved_raw_slots, after_superblock, raw_entry_slots}
+use Rattle.std.specs.List.{IsDistinct}
+use Rattle.lfs_model.specs.layers.Violations.{IsUsedTwice, IsSlotAt, IsUnmovedAt}
 use Rattle.lfs_model.specs.declared.violations.Violation.{Violation}
 use Rattle.lfs_model.specs.declared.violations.Violation.TheVariants as violation
-use Rattle.lfs_model.proofs.BlockSets.{Contains-number_count}
-use Rattle.lfs_model.proofs.Completed.{complete_parts, complete_take}
-use Rattle.lfs_model.proofs.Counts.{Each, count_append, each_counted, number_count}
-use Rattle.lfs_model.proofs.Logged.{logged}
-use Rattle.lfs_device.specs.Bytes.{HoldBytes}
-use Rattle.lfs_mount.specs.Broken.{BreaksDescribedPair, BreaksKeptEntry, BreaksKeptList, BreaksList, BreaksMovedSlot, BreaksBlockSlots, HasTakenBlock, IsSlotList, IsSuperblockOrNone, LacksSuperblock, list_blocks_before, raw_block_slots}
-use Rattle.lfs_mount.specs.Checked.{IsDescribedThread}
-use Rattle.lfs_mount.specs.Described.{AreDescriptions, IsDescription}
-use Rattle.lfs_mount.specs.DirectoryEntries.{raw_slot_entry, struct_reference, named_reference}
-use Rattle.lfs_mount.specs.Marking.{HasUsedBlocks, raw_slot_lists, blocks_last_first, list_of_entry}
-use Rattle.lfs_mount.specs.Reaching.{Vertex}
-use Rattle.lfs_mount.specs.Taken.{AddsPair, kept_slot_number, unmoved_raw_slots, after_superblock, listed_slots}
+use Rattle.lfs_model.proofs.Completed.{complete_take}
+use Rattle.lfs_mount.specs.Broken.{BreaksKeptEntry, BreaksBlockSlots, HasTakenBlock, IsSlotList, IsSuperblockOrNone, LacksSuperblock, list_blocks_before}
 use Rattle.lfs_mount.specs.declared.pass.PairBeforeSlotsAreRead.{PairBeforeSlotsAreRead}
-use Rattle.lfs_mount.proofs.Accepts.{number_count-flat_map, number_count-reverse}
+use Rattle.lfs_mount.proofs.Accepts.{number_occurrences-flat_map, number_occurrences-reverse}
 use Rattle.lfs_mount.proofs.FirstSlots.{made_of, slot_named}
 use Rattle.lfs_mount.proofs.Found.{get_right}
 use Rattle.lfs_mount.proofs.Kept.{IsNumberOf, kept_number, number_behind}
@@ -65,9 +40,9 @@ none_at [] slots id c e = ap (λ ss. slice_get ss id) (sym (same_Some [] slots c
 none_at (r ∷ raws) slots zero c e = absurd (cc)
 none_at (r ∷ raws) slots (suc id) c e = let p = complete_parts r raws slots c in ap (λ ss. slice_get ss (suc id)) p.all_are ∙ none_at raws p.others id p.are_others e
 
-well_formed_at : (raws : List RawSlot) (id : ℕ) (s : RawSlot) → AreWellFormed raws → slice_get raws id ≡ Some s → IsSlotWellFormed s
+well_formed_at : (raws : List RawSlot) (id : ℕ) (s : RawSlot) → AreWellFormed raws → slice_get raws id ≡ Some s → IsFormedSlot s
 well_formed_at [] id s h e = absurd (cc)
-well_formed_at (r ∷ raws) zero s h e = subst IsSlotWellFormed (same_Some r s e) h.0
+well_formed_at (r ∷ raws) zero s h e = subst IsFormedSlot (same_Some r s e) h.0
 well_formed_at (r ∷ raws) (suc id) s h e = well_formed_at raws id s h.1 e
 
 -- ---- the lists of slots
@@ -92,22 +67,22 @@ blocks_in disk slots = flat_map (λ s. struct_blocks disk s.struct) slots
 abbrev listed : Disk → List (ℕ × ℕ) → List ℕ
 listed disk ls = flat_map (blocks_last_first disk) ls
 
-count_list : (b : ℕ) (disk : Disk) (t : Slot) (l : ℕ × ℕ) → t.struct ≡ Ctz l.0 l.1 → number_count b (blocks_last_first disk l) ≡ number_count b (struct_blocks disk t.struct)
+count_list : (b : ℕ) (disk : Disk) (t : Slot) (l : ℕ × ℕ) → t.struct ≡ Ctz l.0 l.1 → number_occurrences b (blocks_last_first disk l) ≡ number_occurrences b (struct_blocks disk t.struct)
 count_list b disk t l e =
-    number_count-reverse b (blocks_to_head disk.blocks (block_count_for disk.block_size l.1) l.0)
-    ∙ ap (λ u. number_count b (struct_blocks disk u)) (sym e)
+    number_occurrences-reverse b (blocks_to_head disk.blocks (block_count_for disk.block_size l.1) l.0)
+    ∙ ap (λ u. number_occurrences b (struct_blocks disk u)) (sym e)
 
 -- the blocks of the lists of slots are among those of the complete slots
-listed_few : (b : ℕ) (disk : Disk) (raws : List RawSlot) (slots : List Slot) → complete_slots raws ≡ Some slots → number_count b (listed disk (raw_slot_lists raws)) ≤ number_count b (blocks_in disk slots)
+listed_few : (b : ℕ) (disk : Disk) (raws : List RawSlot) (slots : List Slot) → complete_slots raws ≡ Some slots → number_occurrences b (listed disk (raw_slot_lists raws)) ≤ number_occurrences b (blocks_in disk slots)
 listed_few b disk [] slots c = omega arith
 listed_few b disk (s ∷ raws) slots c =
     let p = complete_parts s raws slots c in
-    subst (λ ss. number_count b (listed disk (raw_slot_lists (s ∷ raws))) ≤ number_count b (blocks_in disk ss)) (sym p.all_are)
+    subst (λ ss. number_occurrences b (listed disk (raw_slot_lists (s ∷ raws))) ≤ number_occurrences b (blocks_in disk ss)) (sym p.all_are)
     (go p.first p.others p.is_first (option_and_then list_of_entry (raw_slot_entry s)) refl (listed_few b disk raws p.others p.are_others))
   where
     go : (t : Slot) (ts : List Slot) → complete_slot s ≡ Some t → (o : Option (ℕ × ℕ)) → option_and_then list_of_entry (raw_slot_entry s) ≡ o
-        → number_count b (listed disk (raw_slot_lists raws)) ≤ number_count b (blocks_in disk ts)
-        → number_count b (listed disk (cons_option o (raw_slot_lists raws))) ≤ number_count b (blocks_in disk (t ∷ ts))
+        → number_occurrences b (listed disk (raw_slot_lists raws)) ≤ number_occurrences b (blocks_in disk ts)
+        → number_occurrences b (listed disk (cons_option o (raw_slot_lists raws))) ≤ number_occurrences b (blocks_in disk (t ∷ ts))
     go t ts is None e next = let both = count_append b (struct_blocks disk t.struct) (blocks_in disk ts) in omega arith
     go t ts is (Some l) e next =
         let both = count_append b (struct_blocks disk t.struct) (blocks_in disk ts) in
@@ -117,26 +92,26 @@ listed_few b disk (s ∷ raws) slots c =
 
 -- fewer slots have fewer blocks
 
-count_both : (b : ℕ) (disk : Disk) (xs ys : List Slot) → number_count b (blocks_in disk (xs ++ ys)) ≡ number_count b (blocks_in disk xs) + number_count b (blocks_in disk ys)
-count_both b disk xs ys = ap (number_count b) (flat_map-append (λ (s : Slot). struct_blocks disk s.struct) xs ys) ∙ count_append b (blocks_in disk xs) (blocks_in disk ys)
+count_both : (b : ℕ) (disk : Disk) (xs ys : List Slot) → number_occurrences b (blocks_in disk (xs ++ ys)) ≡ number_occurrences b (blocks_in disk xs) + number_occurrences b (blocks_in disk ys)
+count_both b disk xs ys = ap (number_occurrences b) (flat_map-append (λ (s : Slot). struct_blocks disk s.struct) xs ys) ∙ count_append b (blocks_in disk xs) (blocks_in disk ys)
 
-count_take : (b : ℕ) (disk : Disk) (n : ℕ) (slots : List Slot) → number_count b (blocks_in disk (take n slots)) ≤ number_count b (blocks_in disk slots)
+count_take : (b : ℕ) (disk : Disk) (n : ℕ) (slots : List Slot) → number_occurrences b (blocks_in disk (take n slots)) ≤ number_occurrences b (blocks_in disk slots)
 count_take b disk n slots =
     let both = count_both b disk (take n slots) (drop n slots) in
-    let same = ap (λ ss. number_count b (blocks_in disk ss)) (take-append-drop n slots) in
+    let same = ap (λ ss. number_occurrences b (blocks_in disk ss)) (take-append-drop n slots) in
     omega arith
 
-count_behind : (b : ℕ) (disk : Disk) (first : Bool) (slots : List Slot) → number_count b (blocks_in disk (behind first slots)) ≤ number_count b (blocks_in disk slots)
+count_behind : (b : ℕ) (disk : Disk) (first : Bool) (slots : List Slot) → number_occurrences b (blocks_in disk (behind first slots)) ≤ number_occurrences b (blocks_in disk slots)
 count_behind b disk false slots = omega arith
 count_behind b disk true [] = omega arith
 count_behind b disk true (s ∷ slots) = let both = count_append b (struct_blocks disk s.struct) (blocks_in disk slots) in omega arith
 
-count_filter : (b : ℕ) (disk : Disk) (test : Slot → Bool) (slots : List Slot) → number_count b (blocks_in disk (filter test slots)) ≤ number_count b (blocks_in disk slots)
+count_filter : (b : ℕ) (disk : Disk) (test : Slot → Bool) (slots : List Slot) → number_occurrences b (blocks_in disk (filter test slots)) ≤ number_occurrences b (blocks_in disk slots)
 count_filter b disk test [] = omega arith
 count_filter b disk test (s ∷ slots) = go (test s) (count_filter b disk test slots)
   where
-    go : (t : Bool) → number_count b (blocks_in disk (filter test slots)) ≤ number_count b (blocks_in disk slots)
-        → number_count b (blocks_in disk (cond t (s ∷ filter test slots) (filter test slots))) ≤ number_count b (blocks_in disk (s ∷ slots))
+    go : (t : Bool) → number_occurrences b (blocks_in disk (filter test slots)) ≤ number_occurrences b (blocks_in disk slots)
+        → number_occurrences b (blocks_in disk (cond t (s ∷ filter test slots) (filter test slots))) ≤ number_occurrences b (blocks_in disk (s ∷ slots))
     go true next =
         let both = count_append b (struct_blocks disk s.struct) (blocks_in disk slots) in
         let one = count_append b (struct_blocks disk s.struct) (blocks_in disk (filter test slots)) in
@@ -146,26 +121,26 @@ count_filter b disk test (s ∷ slots) = go (test s) (count_filter b disk test s
 -- ---- the blocks that were marked before a pair
 
 abbrev count_slots : Disk → Gstate → ℕ → List Pair → ℕ
-count_slots disk g b qs = number_count b (blocks_in disk (flat_map (slots_not_moved g) qs))
+count_slots disk g b qs = number_occurrences b (blocks_in disk (flat_map (slots_not_moved g) qs))
 
 count_pairs : (disk : Disk) (g : Gstate) (b : ℕ) (xs ys : List Pair) → count_slots disk g b (xs ++ ys) ≡ count_slots disk g b xs + count_slots disk g b ys
-count_pairs disk g b xs ys = ap (λ ss. number_count b (blocks_in disk ss)) (flat_map-append (slots_not_moved g) xs ys) ∙ count_both b disk (flat_map (slots_not_moved g) xs) (flat_map (slots_not_moved g) ys)
+count_pairs disk g b xs ys = ap (λ ss. number_occurrences b (blocks_in disk ss)) (flat_map-append (slots_not_moved g) xs ys) ∙ count_both b disk (flat_map (slots_not_moved g) xs) (flat_map (slots_not_moved g) ys)
 
-count_one : (disk : Disk) (g : Gstate) (b : ℕ) (q : Pair) → count_slots disk g b (q ∷ []) ≡ number_count b (blocks_in disk (slots_not_moved g q))
-count_one disk g b q = count_both b disk (slots_not_moved g q) [] ∙ (let none : number_count b [] ≡ 0 = refl in omega arith)
+count_one : (disk : Disk) (g : Gstate) (b : ℕ) (q : Pair) → count_slots disk g b (q ∷ []) ≡ number_occurrences b (blocks_in disk (slots_not_moved g q))
+count_one disk g b q = count_both b disk (slots_not_moved g q) [] ∙ (let none : number_occurrences b [] ≡ 0 = refl in omega arith)
 
 -- the blocks of all pairs, and those of the lists of some of the directories' first pairs
 pub record AreMarked (disk : Disk) (chain dirs : List Pair) (count : ℕ) (sets : BlockStates) : Type 0 where
   pub marks : List ℕ
   pub owns : HasUsedBlocks sets marks
   pub len : length sets ≡ block_count disk
-  pub few : (b : ℕ) → number_count b marks ≤ number_count b (blocks_of_pairs (chain ++ dirs)) + count_slots disk (pairs_gstate (chain ++ dirs)) b (take count dirs)
+  pub few : (b : ℕ) → number_occurrences b marks ≤ number_occurrences b (pairs_blocks (chain ++ dirs)) + count_slots disk (pairs_gstate (chain ++ dirs)) b (take count dirs)
 
-pub none_marked : (disk : Disk) (chain dirs : List Pair) (sets : BlockStates) → HasUsedBlocks sets (blocks_of_pairs (chain ++ dirs)) → length sets ≡ block_count disk → AreMarked disk chain dirs 0 sets
-none_marked disk chain dirs sets owns len = record { marks = blocks_of_pairs (chain ++ dirs); owns = owns; len = len; few = λ b. omega arith }
+pub none_marked : (disk : Disk) (chain dirs : List Pair) (sets : BlockStates) → HasUsedBlocks sets (pairs_blocks (chain ++ dirs)) → length sets ≡ block_count disk → AreMarked disk chain dirs 0 sets
+none_marked disk chain dirs sets owns len = record { marks = pairs_blocks (chain ++ dirs); owns = owns; len = len; few = λ b. omega arith }
 
 count_next : (disk : Disk) (g : Gstate) (b : ℕ) (qs : List Pair) (k : ℕ) (q : Pair) → slice_get qs k ≡ Some q
-    → count_slots disk g b (take (k + 1) qs) ≡ count_slots disk g b (take k qs) + number_count b (blocks_in disk (slots_not_moved g q))
+    → count_slots disk g b (take (k + 1) qs) ≡ count_slots disk g b (take k qs) + number_occurrences b (blocks_in disk (slots_not_moved g q))
 count_next disk g b qs k q e =
     ap (count_slots disk g b) (take_more qs k q (slice_get_within qs k q e) ∙ ap (λ (r : Pair). take k qs ++ r ∷ []) (get_or_from_slice_get qs k q q e))
     ∙ count_pairs disk g b (take k qs) (q ∷ []) ∙ ap (λ n. count_slots disk g b (take k qs) + n) (count_one disk g b q)
@@ -182,7 +157,7 @@ more_marked disk firsts chain dirs k first p known new sets marked there a t =
       few = λ b.
           let before = a.few b in
           let both = count_append b a.marks more in
-          let same = number_count-flat_map b disk (unmoved_entries g p) in
+          let same = number_occurrences-flat_map b disk (unmoved_entries g p) in
           let fewer = count_filter b disk (λ s. not (is_superblock s)) (slots_not_moved g p) in
           let next = count_next disk g b dirs k p there in
           omega arith;
@@ -194,8 +169,8 @@ pub record IsPassedPair (disk : Disk) (chain dirs : List Pair) (k : ℕ) (first 
   pub there : slice_get dirs k ≡ Some p
   pub later : first ≡ false → 0 < k
   pub describes : IsDescription disk (pairs_gstate (chain ++ dirs)) first p m
-  pub chain_is : pair_count_before_root (chain ++ dirs) ≡ length chain
-  pub distinct : IsDistinct nat_eq (blocks_of_pairs (chain ++ dirs))
+  pub chain_is : count_before_root (chain ++ dirs) ≡ length chain
+  pub distinct : IsDistinct nat_eq (pairs_blocks (chain ++ dirs))
 
 each_at : {X : Type 0} (P : X → Type 0) (xs : List X) (i : ℕ) (x : X) → Each P xs → slice_get xs i ≡ Some x → P x
 each_at P [] i x h e = absurd (cc)
@@ -209,7 +184,7 @@ lists_next raws i s l e f =
     ∙ filter_map-append (λ (t : RawSlot). option_and_then list_of_entry (raw_slot_entry t)) (take i raws) (s ∷ [])
     ∙ ap (λ (o : Option (ℕ × ℕ)). raw_slot_lists (take i raws) ++ cons_option o []) f
 
-module _ (disk : Disk) (chain dirs : List Pair) (k : ℕ) (first : Bool) (p : Pair) (m : PairBeforeSlotsAreRead) (h : IsPassedPair disk chain dirs k first p m) (bytes : HoldBytes disk.blocks) where
+module _ (disk : Disk) (chain dirs : List Pair) (k : ℕ) (first : Bool) (p : Pair) (m : PairBeforeSlotsAreRead) (h : IsPassedPair disk chain dirs k first p m) (bytes : AreByteBlocks disk.blocks) where
   abbrev ps : List Pair
   ps = chain ++ dirs
 
@@ -264,7 +239,7 @@ module _ (disk : Disk) (chain dirs : List Pair) (k : ℕ) (first : Bool) (p : Pa
         refused = entry_none s c.slot (well_formed_at raws id s are.well_formed e) none c.complete;
       }
     where
-      go : (b : Bool) → first ≡ b → (pair_count_before_root ps < length chain + k) ⊎ (0 < id)
+      go : (b : Bool) → first ≡ b → (count_before_root ps < length chain + k) ⊎ (0 < id)
       go true is = inr (low is)
       go false is = let later = h.later is in let before = h.chain_is in inl (omega arith)
 
@@ -317,11 +292,11 @@ module _ (disk : Disk) (chain dirs : List Pair) (k : ℕ) (first : Bool) (p : Pa
   first_low : (index : ℕ) → first ≡ true → 0 < kept_slot_number m index
   first_low index f = number_behind m index (h.describes.first ∙ f)
 
-  kept_entry_breaks : (v : Violation) (raws kept : List RawSlot) → AreSlotsOfPair raws → listed_slots m raws ≡ Some kept → BreaksKeptEntry m kept v → BreaksPairs disk ps v
+  kept_entry_breaks : (v : Violation) (raws kept : List RawSlot) → AreSlotsOfPair raws → raw_entry_slots m raws ≡ Some kept → BreaksKeptEntry m kept v → BreaksPairs disk ps v
   kept_entry_breaks v raws kept are e (index, (is, (s, (there, none)))) =
       subst (BreaksPairs disk ps) (sym is) (entry_breaks raws (kept_slot_number m index) s are (kept_number m raws kept index s e there).there none (first_low index))
 
-  kept_complete : (raws kept : List RawSlot) → AreSlotsOfPair raws → listed_slots m raws ≡ Some kept → complete_slots kept ≡ Some (behind first (slots_not_moved g p))
+  kept_complete : (raws kept : List RawSlot) → AreSlotsOfPair raws → raw_entry_slots m raws ≡ Some kept → complete_slots kept ≡ Some (behind first (slots_not_moved g p))
   kept_complete raws kept are e =
       let parts = kept_parts m raws kept e in
       let w = without_moved (moved_id g p) raws parts.0 p.content.slots are.complete (ap (λ o. unmoved_raw_slots o raws) (sym h.describes.moved) ∙ parts.1.0) in
@@ -332,14 +307,14 @@ module _ (disk : Disk) (chain dirs : List Pair) (k : ℕ) (first : Bool) (p : Pa
   abbrev up_to : List RawSlot → ℕ → ℕ × ℕ → List ℕ
   up_to kept index l = list_blocks_before disk kept index ++ blocks_last_first disk l
 
-  few_up_to : (b : ℕ) (raws kept : List RawSlot) (index : ℕ) (l : ℕ × ℕ) → AreSlotsOfPair raws → listed_slots m raws ≡ Some kept → IsSlotList kept index l
-      → number_count b (up_to kept index l) ≤ number_count b (blocks_in disk (slots_not_moved g p))
+  few_up_to : (b : ℕ) (raws kept : List RawSlot) (index : ℕ) (l : ℕ × ℕ) → AreSlotsOfPair raws → raw_entry_slots m raws ≡ Some kept → IsSlotList kept index l
+      → number_occurrences b (up_to kept index l) ≤ number_occurrences b (blocks_in disk (slots_not_moved g p))
   few_up_to b raws kept index l are e is =
       let all : List Slot = behind first (slots_not_moved g p) in
       let joined : listed disk (raw_slot_lists (take (index + 1) kept)) ≡ up_to kept index l =
       ap (listed disk) (lists_next kept index is.slot l is.there is.list) ∙ flat_map-append (blocks_last_first disk) (raw_slot_lists (take index kept)) (l ∷ [])
       ∙ ap (λ bs. list_blocks_before disk kept index ++ bs) (append-nil (blocks_last_first disk l)) in
-      let same = ap (number_count b) joined in
+      let same = ap (number_occurrences b) joined in
       let complete = complete_take (index + 1) kept all (kept_complete raws kept are e) in
       let one = listed_few b disk (take (index + 1) kept) (take (index + 1) all) complete in
       let two = count_take b disk (index + 1) all in
@@ -347,17 +322,17 @@ module _ (disk : Disk) (chain dirs : List Pair) (k : ℕ) (first : Bool) (p : Pa
       omega arith
 
   -- the blocks before, and those up to the slot, are used
-  few_used : (b : ℕ) (sets : BlockStates) (a : AreMarked disk chain dirs k sets) → number_count b a.marks + number_count b (blocks_in disk (slots_not_moved g p)) ≤ number_count b (used_blocks disk ps)
+  few_used : (b : ℕ) (sets : BlockStates) (a : AreMarked disk chain dirs k sets) → number_occurrences b a.marks + number_occurrences b (blocks_in disk (slots_not_moved g p)) ≤ number_occurrences b (used_blocks disk ps)
   few_used b sets a =
       let marks = a.few b in
       let next = count_next disk g b dirs k p h.there in
       let rest = ap (count_slots disk g b) (take-append-drop (k + 1) dirs) in
       let apart = count_pairs disk g b (take (k + 1) dirs) (drop (k + 1) dirs) in
       let both = count_pairs disk g b chain dirs in
-      let all = count_append b (blocks_of_pairs ps) (blocks_in disk (all_slots_not_moved ps)) in
+      let all = count_append b (pairs_blocks ps) (blocks_in disk (all_unmoved_slots ps)) in
       omega arith
 
-  in_list : (sets : BlockStates) (l : ℕ × ℕ) (t : Slot) (b : ℕ) → t.struct ≡ Ctz l.0 l.1 → HasTakenBlock disk sets l b → 1 ≤ number_count b (struct_blocks disk t.struct)
+  in_list : (sets : BlockStates) (l : ℕ × ℕ) (t : Slot) (b : ℕ) → t.struct ≡ Ctz l.0 l.1 → HasTakenBlock disk sets l b → 1 ≤ number_occurrences b (struct_blocks disk t.struct)
   in_list sets l t b e taken = let some = meets_in sets (blocks_last_first disk l) b taken.1 in let same = count_list b disk t l e in omega arith
 
   in_disk : (sets : BlockStates) (l : ℕ × ℕ) (b : ℕ) → HasTakenBlock disk sets l b → b < block_count disk
@@ -365,10 +340,10 @@ module _ (disk : Disk) (chain dirs : List Pair) (k : ℕ) (first : Bool) (p : Pa
       let P : ℕ → Type 0 = λ x. x < block_count disk in
       let back : List ℕ = blocks_to_head disk.blocks (block_count_for disk.block_size l.1) l.0 in
       let some = meets_in sets (blocks_last_first disk l) b taken.1 in
-      let same = number_count-reverse b back in
+      let same = number_occurrences-reverse b back in
       each_counted P back (recursion_from_All P back (λ i d lt. let r = taken.0.blocks.in_range i d lt in omega arith)) b (omega arith)
 
-  kept_list_breaks : (v : Violation) (raws kept : List RawSlot) (sets : BlockStates) → AreMarked disk chain dirs k sets → AreSlotsOfPair raws → listed_slots m raws ≡ Some kept → BreaksKeptList disk m sets kept v → BreaksPairs disk ps v
+  kept_list_breaks : (v : Violation) (raws kept : List RawSlot) (sets : BlockStates) → AreMarked disk chain dirs k sets → AreSlotsOfPair raws → raw_entry_slots m raws ≡ Some kept → BreaksKeptList disk m sets kept v → BreaksPairs disk ps v
   unfolding slot_there
   kept_list_breaks v raws kept sets a are e broken = go broken.breaks
     where
@@ -399,7 +374,7 @@ module _ (disk : Disk) (chain dirs : List Pair) (k : ℕ) (first : Bool) (p : Pa
           record {
             slot = c.slot;
             is = unmoved;
-            has = Contains-number_count (struct_blocks disk c.slot.struct) b (in_list broken.mid broken.l c.slot b struct taken);
+            has = Contains-number_occurrences (struct_blocks disk c.slot.struct) b (in_list broken.mid broken.l c.slot b struct taken);
             i = places.0;
             j = places.1;
             apart = places.2.0;
@@ -408,7 +383,7 @@ module _ (disk : Disk) (chain dirs : List Pair) (k : ℕ) (first : Bool) (p : Pa
           }
 
       go : BreaksList disk broken.mid broken.l m.at number v → BreaksPairs disk ps v
-      go (inl (is, bad)) = subst (BreaksPairs disk ps) (sym is) (c.slot, (unmoved, λ well. bad (subst (IsWellFormedCtz disk) struct well)))
+      go (inl (is, bad)) = subst (BreaksPairs disk ps) (sym is) (c.slot, (unmoved, λ well. bad (subst (IsFormedList disk) struct well)))
       go (inr (b, (is, taken))) = subst (BreaksPairs disk ps) (sym is) (twice b taken)
 
   -- ---- whatever is broken
@@ -421,9 +396,9 @@ module _ (disk : Disk) (chain dirs : List Pair) (k : ℕ) (first : Bool) (p : Pa
   pub pair_breaks : (v : Violation) (sets : BlockStates) → AreMarked disk chain dirs k sets → BreaksDescribedPair disk m sets v → BreaksPairs disk ps v
   pair_breaks v sets a (inl broken) = slots_break v broken
   pair_breaks v sets a (inr (kept, (is, broken))) =
-      option_and_then_some (listed_slots m) (raw_block_slots block) kept is (λ raws held e. go raws (slots_of raws held) e broken)
+      option_and_then_some (raw_entry_slots m) (raw_block_slots block) kept is (λ raws held e. go raws (slots_of raws held) e broken)
     where
-      go : (raws : List RawSlot) → AreSlotsOfPair raws → listed_slots m raws ≡ Some kept → BreaksKeptEntry m kept v ⊎ BreaksKeptList disk m sets kept v → BreaksPairs disk ps v
+      go : (raws : List RawSlot) → AreSlotsOfPair raws → raw_entry_slots m raws ≡ Some kept → BreaksKeptEntry m kept v ⊎ BreaksKeptList disk m sets kept v → BreaksPairs disk ps v
       go raws are e (inl entry) = kept_entry_breaks v raws kept are e entry
       go raws are e (inr list) = kept_list_breaks v raws kept sets a are e list
 
@@ -458,6 +433,6 @@ module _ (disk : Disk) (sets : BlockStates) (firsts : List (ℕ × ℕ)) (ms : L
     marked_next known new marked adds =
         more_marked disk firsts chain (p ∷ rest) k d.is_first d.p known new mid marked d.there a (taken_rules disk firsts (pairs_gstate (chain ++ p ∷ rest)) d.is_first d.p m known mid new marked d.describes adds)
 
-    pub thread_breaks : (v : Violation) → HoldBytes disk.blocks → BreaksDescribedPair disk m mid v → BreaksPairs disk (chain ++ p ∷ rest) v
+    pub thread_breaks : (v : Violation) → AreByteBlocks disk.blocks → BreaksDescribedPair disk m mid v → BreaksPairs disk (chain ++ p ∷ rest) v
     thread_breaks v bytes broken =
         pair_breaks disk chain (p ∷ rest) k d.is_first d.p m (record { there = d.there; later = λ no. d.later no refl; describes = d.describes; chain_is = t.chain_is; distinct = t.thread.distinct }) bytes v mid a broken

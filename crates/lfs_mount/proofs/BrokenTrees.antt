@@ -2,23 +2,13 @@
 use Rattle.std.proofs.Common.{ℕ, suc, ◌≡◌, ◌+◌, ◌<◌, Bool, true, false, List, [], ◌∷◌, ◌++◌, length, map, get_or, Option, Some, None, refl, sym, ap, subst, ◌∙◌, arith, slice_get, option_map, nat_eq, Less, AllPairs, add-one, true≢false}
 use Rattle.std.specs.Prelude.{All}
 use Rattle.std.specs.List.{IsDistinct}
-use Rattle.std.proofs.lemmas.List.{length-map}
-use Rattle.std.proofs.lemmas.List.Elements.{All-cons}
-use Rattle.std.proofs.lemmas.Option.{same_Some, slice_get-map, slice_get_within, slice_get-get_or}
+use Rattle.lfs_mount.proofs.Common.{length-map, All-cons, same_Some, slice_get-map, slice_get_within, slice_get-get_or, Name, name_cmp, Slot, array_address, same_pair, Pair, BeginsAt, ThreadDirectory, root_address, IsReachedBySome, all_directories, pair_back, DirectoryGraph, Vertex, AreReachedMarks, IsRepeated, found_after, graph_view, vertex_view, IsPathReached, slot_branches, directory_index, IsThreadGraph, BreaksGraphRule}
 use Rattle.lfs_model.specs.declared.order.NameOrder.{NameOrder}
-use Rattle.lfs_model.specs.format.Names.{Name, name_cmp}
-use Rattle.lfs_model.specs.format.Slots.{Slot, array_address, same_pair}
-use Rattle.lfs_model.specs.format.Thread.{Pair, BeginsAt, ThreadDirectory, root_address}
 use Rattle.lfs_model.specs.tree.Tree.{names_at}
-use Rattle.lfs_model.specs.tree.Shown.{IsReachedBySome, all_directories, all_entries}
+use Rattle.lfs_model.specs.tree.Shown.{all_entries}
 use Rattle.lfs_model.specs.layers.Violations.{IsReachedAt}
 use Rattle.lfs_model.specs.declared.violations.Violation.TheVariants as violation
-use Rattle.lfs_model.proofs.Pairs.{pair_back}
-use Rattle.lfs_mount.specs.Reaching.{DirectoryGraph, Vertex, AreReachedMarks, IsRepeatedNumber, found_after_steps}
-use Rattle.lfs_mount.specs.DirectoryView.{graph_view, vertex_view}
 use Rattle.lfs_mount.specs.declared.reachability.Directory.{Directory}
-use Rattle.lfs_mount.specs.DirectoryPlaces.{IsPathReached, slot_branches, directory_index}
-use Rattle.lfs_mount.specs.Directories.{IsThreadGraph, BreaksGraphRule}
 use Rattle.lfs_mount.proofs.Finished.{led_finished}
 use Rattle.lfs_mount.proofs.Indices.{at_index, begins_index, index_begins, mapped}
 use Rattle.lfs_mount.proofs.Links.{branches-links, links_in}
@@ -106,10 +96,10 @@ module _ {by : NameOrder} (graph : DirectoryGraph) (firsts : List (ℕ × ℕ)) 
         let a = at_index (all_directories ps) l.at v l.index in
         record { leads = l.leads; same = pair_back at l.at (ap (λ (x : ℕ × ℕ). same_pair x l.at) (sym (begins_at v a.listing at a.here there)) ∙ a.same) }
 
-    led_at : (k v : ℕ) → AreSoundBefore graph k → slice_get (found_after_steps graph k) k ≡ Some v → Led ps v
+    led_at : (k v : ℕ) → AreSoundBefore graph k → slice_get (found_after graph k) k ≡ Some v → Led ps v
     led_at k v sound here = found_led (all_directories ps) (root_address ps) graph shows.draws (first ps graph firsts sync shows some) k sound k v here
 
-    falling : (k v : ℕ) (x : Vertex) → AreSoundBefore graph k → slice_get (found_after_steps graph k) k ≡ Some v → slice_get graph v ≡ Some x → x.rises ≡ false → IsLedFalling by ps v
+    falling : (k v : ℕ) (x : Vertex) → AreSoundBefore graph k → slice_get (found_after graph k) k ≡ Some v → slice_get graph v ≡ Some x → x.rises ≡ false → IsLedFalling by ps v
     falling k v x sound here vertex unrisen =
         let l = led_at k v sound here in
         let n = known_at (all_directories ps) graph shows.draws l.at v l.index in
@@ -119,7 +109,7 @@ module _ {by : NameOrder} (graph : DirectoryGraph) (firsts : List (ℕ × ℕ)) 
           falls = λ rise. true≢false (sym (n.drawn.rises.1 (subst (λ (slots : List Slot). AllPairs (λ a b. name_cmp by a b ≡ Less) (map (λ s. s.name) slots)) n.entries rise)) ∙ same);
         }
 
-    leading : (k v : ℕ) (x : Vertex) → AreSoundBefore graph k → slice_get (found_after_steps graph k) k ≡ Some v → slice_get graph v ≡ Some x → x.rises ≡ true → x.leads ≡ false → IsLedLoose ps v
+    leading : (k v : ℕ) (x : Vertex) → AreSoundBefore graph k → slice_get (found_after graph k) k ≡ Some v → slice_get graph v ≡ Some x → x.rises ≡ true → x.leads ≡ false → IsLedLoose ps v
     leading k v x sound here vertex risen unled =
         let l = led_at k v sound here in
         let n = known_at (all_directories ps) graph shows.draws l.at v l.index in
@@ -134,10 +124,10 @@ module _ {by : NameOrder} (graph : DirectoryGraph) (firsts : List (ℕ × ℕ)) 
           loose = link.loose;
         }
 
-    twice : (k x : ℕ) → AreSoundBefore graph (k + 1) → IsDistinct nat_eq (found_after_steps graph k) → IsRepeatedNumber (found_after_steps graph (k + 1)) x → IsLedTwice (all_directories ps) (root_address ps) x
+    twice : (k x : ℕ) → AreSoundBefore graph (k + 1) → IsDistinct nat_eq (found_after graph k) → IsRepeated (found_after graph (k + 1)) x → IsLedTwice (all_directories ps) (root_address ps) x
     twice k x sound distinct repeated =
         found_twice_led (all_directories ps) (root_address ps) graph shows.draws (first ps graph firsts sync shows some) k (subst (AreSoundBefore graph) (add-one k) sound) distinct x
-        (subst (λ n. IsRepeatedNumber (found_after_steps graph n) x) (add-one k) repeated)
+        (subst (λ n. IsRepeated (found_after graph n) x) (add-one k) repeated)
 
     never : (marks : List Bool) → AreReachedMarks graph marks → (v : ℕ) (d : ThreadDirectory) → slice_get (all_directories ps) v ≡ Some d → slice_get marks v ≡ Some false → ¬ IsReachedBySome ps d.at
     never marks r v d here unmarked reached =
@@ -154,7 +144,7 @@ module _ {by : NameOrder} (graph : DirectoryGraph) (firsts : List (ℕ × ℕ)) 
 
   -- ---- the rules
 
-  pub names_broken : (k v : ℕ) (x : Vertex) (pair : List ℕ) → AreSoundBefore graph k → slice_get (found_after_steps graph k) k ≡ Some v → slice_get graph v ≡ Some x → x.rises ≡ false
+  pub names_broken : (k v : ℕ) (x : Vertex) (pair : List ℕ) → AreSoundBefore graph k → slice_get (found_after graph k) k ≡ Some v → slice_get graph v ≡ Some x → x.rises ≡ false
       → slice_get firsts v ≡ Some (array_address pair) → BreaksGraphRule by graph firsts sync (violation.Names pair)
   names_broken k v x pair sound here vertex unrisen there = record {
     broken = λ disk ps order shows.
@@ -162,7 +152,7 @@ module _ {by : NameOrder} (graph : DirectoryGraph) (firsts : List (ℕ × ℕ)) 
         record { path = f.led.path; to = f.led.at; reached = reached_at ps shows v (array_address pair) there f.led; falls = subst (λ (o : NameOrder). ¬ NamesRise o ps f.led.at) (sym order) f.falls };
   }
 
-  pub branch_broken : (k v : ℕ) (x : Vertex) (pair : List ℕ) → AreSoundBefore graph k → slice_get (found_after_steps graph k) k ≡ Some v → slice_get graph v ≡ Some x → x.rises ≡ true → x.leads ≡ false
+  pub branch_broken : (k v : ℕ) (x : Vertex) (pair : List ℕ) → AreSoundBefore graph k → slice_get (found_after graph k) k ≡ Some v → slice_get graph v ≡ Some x → x.rises ≡ true → x.leads ≡ false
       → slice_get firsts v ≡ Some (array_address pair) → BreaksGraphRule by graph firsts sync (violation.Branch pair)
   branch_broken k v x pair sound here vertex risen unled there = record {
     broken = λ disk ps order shows.
@@ -170,7 +160,7 @@ module _ {by : NameOrder} (graph : DirectoryGraph) (firsts : List (ℕ × ℕ)) 
         record { path = f.led.path; to = f.led.at; reached = reached_at ps shows v (array_address pair) there f.led; name = f.name; target = f.to; leads = f.leads; loose = f.loose };
   }
 
-  pub paths_broken : (k x : ℕ) (pair : List ℕ) → AreSoundBefore graph (k + 1) → IsDistinct nat_eq (found_after_steps graph k) → IsRepeatedNumber (found_after_steps graph (k + 1)) x
+  pub paths_broken : (k x : ℕ) (pair : List ℕ) → AreSoundBefore graph (k + 1) → IsDistinct nat_eq (found_after graph k) → IsRepeated (found_after graph (k + 1)) x
       → slice_get firsts x ≡ Some (array_address pair) → BreaksGraphRule by graph firsts sync (violation.TwoPaths pair)
   paths_broken k x pair sound distinct repeated there = record {
     broken = λ disk ps order shows.

@@ -1,13 +1,12 @@
 -- What calls of a device one behind the other say of it.
 use Rattle.std.proofs.Common.{◌≡◌, ◌⊎◌, ◌∙◌, inl, inr, refl, sym, ap, Result, Ok, Err, arith}
-use Rattle.lfs_device.specs.DeviceCalls.{ReadsOnly}
+use Rattle.lfs_mount.proofs.Common.{ReadsOnly, fault_count, OnlyReadsSince-trans, ReadsReportingFaults}
 use Rattle.lfs_device.specs.declared.device.BlockDevice.{Ghosts}
 use Rattle.lfs_device.specs.declared.error.Error.{Error}
 use Rattle.lfs_device.specs.declared.error.Error.TheVariants as error
-use Rattle.lfs_model.specs.session.History.{fault_count}
 use Rattle.lfs_model.specs.declared.violations.Violation.{Violation}
-use Rattle.lfs_model.proofs.Histories.{began, OnlyReadsSince-trans}
-use Rattle.lfs_thread.specs.MountErrors.{OnlyReadsUnlessFault, mount_error_for}
+use Rattle.lfs_model.proofs.Histories.{began}
+use Rattle.lfs_thread.specs.MountErrors.{mount_error_for}
 use Rattle.lfs_thread.specs.declared.mount_error.MountError.{MountError}
 use Rattle.lfs_thread.specs.declared.mount_error.MountError.TheVariants.{Corrupt, Io}
 
@@ -35,16 +34,16 @@ module _ {D : Type 0} (g : Ghosts D) where
   }
 
   -- a call that succeeds has no fault
-  pub quiet : {X : Type 0} {old new : D} {x : X} → OnlyReadsUnlessFault g old new (Ok x) → fault_count (g.history new) ≡ fault_count (g.history old)
+  pub quiet : {X : Type 0} {old new : D} {x : X} → ReadsReportingFaults g old new (Ok x) → fault_count (g.history new) ≡ fault_count (g.history old)
   quiet reading = reading.no_fault (λ is. absurd (cc))
 
   -- reads without a fault, and a result that isn't `Io`
-  pub only_read : {X : Type 0} {old new : D} {r : Result X MountError} → ReadsOnly g old new → fault_count (g.history new) ≡ fault_count (g.history old) → (r ≡ Err Io → ⊥) → OnlyReadsUnlessFault g old new r
+  pub only_read : {X : Type 0} {old new : D} {r : Result X MountError} → ReadsOnly g old new → fault_count (g.history new) ≡ fault_count (g.history old) → (r ≡ Err Io → ⊥) → ReadsReportingFaults g old new r
   only_read reads same other = record { device = reads; fault = λ is. absurd (other is); no_fault = λ none. same }
 
   -- an error passed on behind calls without a fault
   pub passed_on : {X Y : Type 0} {old mid new : D} {r : Result X MountError} {e f : MountError} → r ≡ Err e → e ≡ f → ReadsOnly g old mid → fault_count (g.history mid) ≡ fault_count (g.history old)
-      → OnlyReadsUnlessFault {X = Y} g mid new (Err f) → OnlyReadsUnlessFault g old new r
+      → ReadsReportingFaults {X = Y} g mid new (Err f) → ReadsReportingFaults g old new r
   passed_on {Y = Y} {f = f} is from before same reading = record {
     device = read_on before reading.device;
     fault = λ gives. let io : f ≡ Io = same_error is from gives in let rose = reading.fault (ap Err io) in omega (arith, same, rose);
@@ -52,5 +51,5 @@ module _ {D : Type 0} (g : Ghosts D) where
   }
 
   -- and success
-  pub gone_on : {X Y : Type 0} {old mid new : D} {x : X} {y : Y} → OnlyReadsUnlessFault g old mid (Ok x) → OnlyReadsUnlessFault g mid new (Ok y) → OnlyReadsUnlessFault g old new (Ok y)
+  pub gone_on : {X Y : Type 0} {old mid new : D} {x : X} {y : Y} → ReadsReportingFaults g old mid (Ok x) → ReadsReportingFaults g mid new (Ok y) → ReadsReportingFaults g old new (Ok y)
   gone_on first second = record { device = read_on first.device second.device; fault = λ is. absurd (cc); no_fault = λ other. quiet second ∙ quiet first }

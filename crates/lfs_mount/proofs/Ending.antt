@@ -2,39 +2,22 @@
 use Rattle.std.proofs.Common.{ℕ, zero, suc, ◌≡◌, inl, inr, Bool, true, false, List, [], ◌∷◌, ◌++◌, Option, Some, None, refl, sym, ap, subst, subst₂, ◌∙◌, arith, nat_eq, flat_map}
 use Rattle.std.specs.Prelude.{All}
 use Rattle.std.specs.List.{IsDistinct}
-use Rattle.std.proofs.lemmas.List.Concat.{flat_map-append}
-use Rattle.std.proofs.lemmas.List.Elements.{All-from_recursion, recursion_from_All}
-use Rattle.lfs_model.specs.layers.BlockSets.{BlockStates}
-use Rattle.lfs_model.specs.format.Content.{content_at}
-use Rattle.lfs_model.specs.format.Disk.{Disk, block_count}
-use Rattle.lfs_model.specs.format.SkipLists.{IsSkipList}
-use Rattle.lfs_model.specs.format.Slots.{Slot, Gstate}
-use Rattle.lfs_model.specs.format.Thread.{Pair, IsThread, blocks_of_pairs, pairs_gstate, slots_not_moved, unmoved_entries, moved_id}
+use Rattle.lfs_mount.proofs.Common.{flat_map-append, All-from_recursion, recursion_from_All, BlockStates, content_at, Disk, block_count, IsSkipList, Slot, Gstate, Pair, IsThread, pairs_blocks, pairs_gstate, slots_not_moved, unmoved_entries, moved_id, IsTreeEntry, IsSuperblockFirst, HasStruct, IsFormedList, HasValidMove, IsAccepted, struct_blocks, all_unmoved_slots, used_blocks, all_directories, Each, each_append, number_occurrences, count_append, once_from_distinct, distinct_from_once, IsChain, pairs_behind, StructMark, HoldSlots, DirectoryGraph, IsDirectoryTree, IsThreadGraph, empty_scan, HasUsedBlocks, MarksLists, blocks_last_first, AreDescriptions, FirstHasStruct, HasSuperblockAlone, HasNoEntries, IsDescribedThread, IsEntryOrNone, NamesMovedEntry, ScansPairs, MapUsesBlocks, directory_addresses}
 use Rattle.lfs_model.specs.declared.limits.AcceptedVersions.{AcceptedVersions}
-use Rattle.lfs_model.specs.tree.View.{IsTreeEntry, IsSuperblockFirst, SuperblockFirstIfAny, HasStruct, IsWellFormedCtz, HasValidMove, IsAccepted}
-use Rattle.lfs_model.specs.tree.Shown.{struct_blocks, all_slots_not_moved, used_blocks, all_directories}
-use Rattle.lfs_model.proofs.Counts.{Each, each_append, each_weaker, number_count, count_append, once_from_distinct, distinct_from_once}
-use Rattle.lfs_model.proofs.Superblocks.{IsChain, pairs_behind, Mark, StructMark, HoldSlots, root_rule, superblock_rule, slots_rule}
-use Rattle.lfs_mount.specs.Reaching.{DirectoryGraph}
-use Rattle.lfs_mount.specs.Directories.{IsDirectoryTree, IsThreadGraph}
-use Rattle.lfs_mount.specs.DirectoryEntries.{empty_scan}
-use Rattle.lfs_mount.specs.Marking.{HasUsedBlocks, MarksListsUsed, blocks_last_first}
-use Rattle.lfs_mount.specs.Described.{AreDescriptions}
-use Rattle.lfs_mount.specs.Checked.{BeginsAlone, HasSuperblockAlone, HasNothingElse, HasSuperblockChain, IsDescribedThread}
-use Rattle.lfs_mount.specs.MoveChecks.{IsEntryOrNone, NamesMovedEntry}
-use Rattle.lfs_mount.specs.Passed.{ScansPairs}
+use Rattle.lfs_model.specs.tree.View.{SuperblockFirstIfAny}
+use Rattle.lfs_model.proofs.Counts.{each_weaker}
+use Rattle.lfs_model.proofs.Superblocks.{Mark, root_rule, superblock_rule, slots_rule}
+use Rattle.lfs_mount.specs.Checked.{HasSuperblockChain}
 use Rattle.lfs_mount.specs.declared.pass.PairBeforeSlotsAreRead.{PairBeforeSlotsAreRead}
-use Rattle.lfs_mount.specs.Accepted.{MapUsesBlocks}
 use Rattle.lfs_mount.proofs.Owned.{owned_more, has_only}
 use Rattle.lfs_mount.proofs.Rules.{behind, without, unmoved-without, IsMovedEntry, lists_of, HaveEntries, passed_rules, thread_shows}
 use Rattle.lfs_mount.proofs.Accepts.{IsInline, Starting, starts_so, slots_right, no_blocks, no_lists, counted, listed}
-use Rattle.lfs_model.specs.layers.Steps.{first_pair_addresses}
 
-bare_headed : (v : AcceptedVersions) (bytes : List ℕ) (chain : List Pair) → Each (HasNothingElse v bytes) chain → Each (λ q. SuperblockFirstIfAny (HasStruct v bytes) q.content.slots) chain
+bare_headed : (v : AcceptedVersions) (bytes : List ℕ) (chain : List Pair) → Each (HasNoEntries v bytes) chain → Each (λ q. SuperblockFirstIfAny (HasStruct v bytes) q.content.slots) chain
 bare_headed v bytes [] h = tt
 bare_headed v bytes (q ∷ chain) h = (go h.0, bare_headed v bytes chain h.1)
   where
-    go : HasNothingElse v bytes q → SuperblockFirstIfAny (HasStruct v bytes) q.content.slots
+    go : HasNoEntries v bytes q → SuperblockFirstIfAny (HasStruct v bytes) q.content.slots
     go (inl none) = subst (SuperblockFirstIfAny (HasStruct v bytes)) (sym none) tt
     go (inr alone) = subst (SuperblockFirstIfAny (HasStruct v bytes)) (sym alone.slots) (alone.superblock, alone.struct, (λ k d lt. absurd (omega arith)))
 
@@ -51,7 +34,7 @@ alone_inline g v bytes q h = subst (Each (λ s. IsInline s.struct)) (sym (unmove
     go (Some (suc zero)) = (inline_slot v bytes h.slot h.struct, tt)
     go (Some (suc (suc id))) = (inline_slot v bytes h.slot h.struct, tt)
 
-bare_inline : (g : Gstate) (v : AcceptedVersions) (bytes : List ℕ) (q : Pair) → HasNothingElse v bytes q → Each (λ s. IsInline s.struct) (slots_not_moved g q)
+bare_inline : (g : Gstate) (v : AcceptedVersions) (bytes : List ℕ) (q : Pair) → HasNoEntries v bytes q → Each (λ s. IsInline s.struct) (slots_not_moved g q)
 bare_inline g v bytes q (inr alone) = alone_inline g v bytes q alone
 bare_inline g v bytes q (inl none) = subst (Each (λ s. IsInline s.struct)) (sym (unmoved-without g q ∙ ap (without (moved_id g q)) none)) (go (moved_id g q))
   where
@@ -60,7 +43,7 @@ bare_inline g v bytes q (inl none) = subst (Each (λ s. IsInline s.struct)) (sym
     go (Some zero) = tt
     go (Some (suc id)) = tt
 
-chain_inline : (g : Gstate) (v : AcceptedVersions) (bytes : List ℕ) (chain : List Pair) → Each (HasNothingElse v bytes) chain → Each (λ s. IsInline s.struct) (flat_map (slots_not_moved g) chain)
+chain_inline : (g : Gstate) (v : AcceptedVersions) (bytes : List ℕ) (chain : List Pair) → Each (HasNoEntries v bytes) chain → Each (λ s. IsInline s.struct) (flat_map (slots_not_moved g) chain)
 chain_inline g v bytes [] h = tt
 chain_inline g v bytes (q ∷ chain) h = each_append (λ (s : Slot). IsInline s.struct) (slots_not_moved g q) (flat_map (slots_not_moved g) chain) (bare_inline g v bytes q h.0) (chain_inline g v bytes chain h.1)
 
@@ -73,7 +56,7 @@ others_hold : (g : Gstate) (m : Mark) (ps : List Pair) → HaveEntries g false p
 others_hold g m [] h k = tt
 others_hold g m (p ∷ ps) h k = (slots_right g false p k.0 (λ e. absurd (cc)) h.0, others_hold g m ps h.1 k.1)
 
-headed : (v : AcceptedVersions) (bytes : List ℕ) (slots : List Slot) → BeginsAlone v bytes slots → All IsTreeEntry (behind true slots) → IsSuperblockFirst (HasStruct v bytes) slots
+headed : (v : AcceptedVersions) (bytes : List ℕ) (slots : List Slot) → FirstHasStruct v bytes slots → All IsTreeEntry (behind true slots) → IsSuperblockFirst (HasStruct v bytes) slots
 headed v bytes [] h entries = absurd h
 headed v bytes (s ∷ slots) h entries = (h.0, h.1, entries)
 
@@ -90,56 +73,56 @@ module _ (disk : Disk) (chain : List Pair) (p : Pair) (rest : List Pair) (bytes 
   starting : Starting disk.profile.versions bytes true dirs
   starting = ((λ e. head.start), others_start disk.profile.versions bytes rest)
 
-  slots_parted : all_slots_not_moved ps ≡ flat_map (slots_not_moved g) chain ++ flat_map (slots_not_moved g) dirs
+  slots_parted : all_unmoved_slots ps ≡ flat_map (slots_not_moved g) chain ++ flat_map (slots_not_moved g) dirs
   slots_parted = flat_map-append (slots_not_moved g) chain dirs
 
   -- the two rules on lists
   all_lists : (lists : List (ℕ × ℕ)) → lists ≡ flat_map (λ q. lists_of (unmoved_entries g q)) dirs → HaveEntries g true dirs → Each (λ q. IsMovedEntry (moved_id g q) q.content.slots) dirs
-      → All (λ l. IsSkipList disk.blocks disk.block_size l.0 l.1) lists → All (λ s. IsWellFormedCtz disk s.struct) (all_slots_not_moved ps)
+      → All (λ l. IsSkipList disk.blocks disk.block_size l.0 l.1) lists → All (λ s. IsFormedList disk s.struct) (all_unmoved_slots ps)
   all_lists lists e entries moved all =
       let P : ℕ × ℕ → Type 0 = λ x. IsSkipList disk.blocks disk.block_size x.0 x.1 in
-      let Q : Slot → Type 0 = λ x. IsWellFormedCtz disk x.struct in
-      All-from_recursion Q (all_slots_not_moved ps) (subst (Each Q) (sym slots_parted)
+      let Q : Slot → Type 0 = λ x. IsFormedList disk x.struct in
+      All-from_recursion Q (all_unmoved_slots ps) (subst (Each Q) (sym slots_parted)
       (each_append Q (flat_map (slots_not_moved g) chain) (flat_map (slots_not_moved g) dirs) (no_lists disk (flat_map (slots_not_moved g) chain) (chain_inline g disk.profile.versions bytes chain head.bare))
       (listed disk g bytes true dirs starting entries moved (subst (Each P) e (recursion_from_All P lists all)))))
 
   -- the blocks that are marked are those of the files
   used_counted : HaveEntries g true dirs → Each (λ q. IsMovedEntry (moved_id g q) q.content.slots) dirs
-      → (b : ℕ) → number_count b (used_blocks disk ps) ≡ number_count b (blocks_of_pairs ps ++ flat_map (blocks_last_first disk) (flat_map (λ q. lists_of (unmoved_entries g q)) dirs))
+      → (b : ℕ) → number_occurrences b (used_blocks disk ps) ≡ number_occurrences b (pairs_blocks ps ++ flat_map (blocks_last_first disk) (flat_map (λ q. lists_of (unmoved_entries g q)) dirs))
   used_counted entries moved b =
       let marked : List ℕ = flat_map (blocks_last_first disk) (flat_map (λ q. lists_of (unmoved_entries g q)) dirs) in
       let blocks : List Slot → List ℕ = λ slots. flat_map (λ s. struct_blocks disk s.struct) slots in
-      let before = count_append b (blocks_of_pairs ps) marked in
-      let after = count_append b (blocks_of_pairs ps) (blocks (all_slots_not_moved ps)) in
-      let parts : blocks (all_slots_not_moved ps) ≡ blocks (flat_map (slots_not_moved g) dirs) =
+      let before = count_append b (pairs_blocks ps) marked in
+      let after = count_append b (pairs_blocks ps) (blocks (all_unmoved_slots ps)) in
+      let parts : blocks (all_unmoved_slots ps) ≡ blocks (flat_map (slots_not_moved g) dirs) =
       ap blocks slots_parted ∙ flat_map-append (λ (s : Slot). struct_blocks disk s.struct) (flat_map (slots_not_moved g) chain) (flat_map (slots_not_moved g) dirs)
       ∙ ap (λ bs. bs ++ blocks (flat_map (slots_not_moved g) dirs)) (no_blocks disk (flat_map (slots_not_moved g) chain) (chain_inline g disk.profile.versions bytes chain head.bare)) in
-      let same : number_count b (blocks (all_slots_not_moved ps)) ≡ number_count b marked = ap (number_count b) parts ∙ counted disk g bytes b true dirs starting entries moved in
+      let same : number_occurrences b (blocks (all_unmoved_slots ps)) ≡ number_occurrences b marked = ap (number_occurrences b) parts ∙ counted disk g bytes b true dirs starting entries moved in
       omega arith
 
   once_owned : (sets end : BlockStates) → HaveEntries g true dirs → Each (λ q. IsMovedEntry (moved_id g q) q.content.slots) dirs
-      → HasUsedBlocks sets (blocks_of_pairs ps) → MarksListsUsed disk sets (flat_map (λ q. lists_of (unmoved_entries g q)) dirs) end → IsDistinct nat_eq (used_blocks disk ps)
+      → HasUsedBlocks sets (pairs_blocks ps) → MarksLists disk sets (flat_map (λ q. lists_of (unmoved_entries g q)) dirs) end → IsDistinct nat_eq (used_blocks disk ps)
   once_owned sets end entries moved owns lists =
       let marked : List ℕ = flat_map (blocks_last_first disk) (flat_map (λ q. lists_of (unmoved_entries g q)) dirs) in
-      let all = owned_more sets (blocks_of_pairs ps) marked end owns lists.marked in
+      let all = owned_more sets (pairs_blocks ps) marked end owns lists.marked in
       distinct_from_once (used_blocks disk ps) (λ b.
-      let once = once_from_distinct (blocks_of_pairs ps ++ marked) all.distinct b in
+      let once = once_from_distinct (pairs_blocks ps ++ marked) all.distinct b in
       let same = used_counted entries moved b in
       omega arith)
 
   -- Ok of the pass: the map has the blocks of the image
-  pub has_blocks : (ms : List PairBeforeSlotsAreRead) (sets end : BlockStates) (graph : DirectoryGraph) → HasUsedBlocks sets (blocks_of_pairs ps)
-      → AreDescriptions disk g true dirs ms → ScansPairs disk (first_pair_addresses (all_directories ps)) empty_scan sets ms graph end → MapUsesBlocks sets end (used_blocks disk ps)
+  pub has_blocks : (ms : List PairBeforeSlotsAreRead) (sets end : BlockStates) (graph : DirectoryGraph) → HasUsedBlocks sets (pairs_blocks ps)
+      → AreDescriptions disk g true dirs ms → ScansPairs disk (directory_addresses (all_directories ps)) empty_scan sets ms graph end → MapUsesBlocks sets end (used_blocks disk ps)
   has_blocks ms sets end graph owns members passes =
-      let h = passed_rules disk (first_pair_addresses (all_directories ps)) g true dirs ms empty_scan sets graph end members passes in
+      let h = passed_rules disk (directory_addresses (all_directories ps)) g true dirs ms empty_scan sets graph end members passes in
       let marked : List ℕ = flat_map (blocks_last_first disk) (flat_map (λ q. lists_of (unmoved_entries g q)) dirs) in
-      has_only sets end (blocks_of_pairs ps) marked (used_blocks disk ps) owns h.lists.marked (used_counted h.kept h.moved)
+      has_only sets end (pairs_blocks ps) marked (used_blocks disk ps) owns h.lists.marked (used_counted h.kept h.moved)
 
   -- Ok of the pass and of the search
-  pub is_accepted : (ms : List PairBeforeSlotsAreRead) (sets end : BlockStates) (graph : DirectoryGraph) → IsThread (content_at disk) (block_count disk) ps → HasValidMove ps g → HasUsedBlocks sets (blocks_of_pairs ps)
-      → AreDescriptions disk g true dirs ms → ScansPairs disk (first_pair_addresses (all_directories ps)) empty_scan sets ms graph end → IsDirectoryTree disk.order ps → IsAccepted disk ps
+  pub is_accepted : (ms : List PairBeforeSlotsAreRead) (sets end : BlockStates) (graph : DirectoryGraph) → IsThread (content_at disk) (block_count disk) ps → HasValidMove ps g → HasUsedBlocks sets (pairs_blocks ps)
+      → AreDescriptions disk g true dirs ms → ScansPairs disk (directory_addresses (all_directories ps)) empty_scan sets ms graph end → IsDirectoryTree disk.order ps → IsAccepted disk ps
   is_accepted ms sets end graph thread move owns members passes right =
-      let h = passed_rules disk (first_pair_addresses (all_directories ps)) g true dirs ms empty_scan sets graph end members passes in
+      let h = passed_rules disk (directory_addresses (all_directories ps)) g true dirs ms empty_scan sets graph end members passes in
       let hold : HoldSlots (StructMark disk.profile.versions bytes) true dirs =
       (headed disk.profile.versions bytes p.content.slots head.start (slots_right g true p h.moved.0 (λ e. starts_so disk.profile.versions bytes p.content.slots head.start) h.kept.0), others_hold g (StructMark disk.profile.versions bytes) rest h.kept.1 h.moved.1) in
       record {

@@ -1,20 +1,13 @@
 -- The first slot of a pair: whether it is a superblock's, and its struct.
 use Rattle.std.proofs.Common.{ℕ, ◌≡◌, ◌==◌, ◌&&◌, Bool, true, false, cond, List, [], ◌∷◌, length, drop, slice_get, Option, Some, None, codes, refl, sym, ap, subst, ◌∙◌, eqb-true, eq-eqb, option_and_then, option_map}
-use Rattle.std.proofs.lemmas.Bool.{and_parts, and_from}
-use Rattle.std.proofs.lemmas.Option.{same_Some}
+use Rattle.lfs_mount.proofs.Common.{and_parts, and_from, same_Some, RawSlot, complete_slot, complete_slots, kind_of_type, read_struct, inline_type, directory_type, Disk, block_count, Slot, Struct, Inline, Ctz, Branch, is_superblock, starts_superblock, HasStruct, IsSuperblock, complete_parts, FirstHasStruct, first_slot_struct, first_repeats_superblock}
 use Rattle.std.proofs.lemmas.Slice.Eq.{bytes_eq-Decides}
-use Rattle.lfs_model.specs.format.Content.{RawSlot, complete_slot, complete_slots, kind_of_type, read_struct}
-use Rattle.lfs_model.specs.format.EntryTypes.{inline_type, directory_type, superblock_fields}
-use Rattle.lfs_model.specs.format.Disk.{Disk, block_count}
-use Rattle.lfs_model.specs.format.Slots.{Slot, Struct, Inline, Ctz, Branch, is_superblock}
-use Rattle.lfs_model.specs.format.Thread.{starts_superblock}
+use Rattle.lfs_model.specs.format.EntryTypes.{superblock_fields}
 use Rattle.lfs_model.specs.layers.Violations.{IsDiskSuperblock}
 use Rattle.lfs_model.specs.declared.limits.AcceptedVersions.{AcceptedVersions}
-use Rattle.lfs_model.specs.tree.View.{HasStruct, SameStructExceptVersion, accepts_version, IsSuperblock}
-use Rattle.lfs_model.proofs.Completed.{complete_parts}
+use Rattle.lfs_model.specs.tree.View.{SameExceptVersion, accepts_version}
 use Rattle.lfs_tag.specs.KindView.{is_superblock_tag}
-use Rattle.lfs_mount.specs.Checked.{BeginsAlone}
-use Rattle.lfs_mount.specs.SuperblockChain.{has_name, inline_bytes, is_geometry_struct, struct_if_fitting, first_slot_struct, repeats_superblock_struct, if_repeated_struct, first_repeats_superblock}
+use Rattle.lfs_mount.specs.SuperblockChain.{has_name, inline_bytes, is_geometry_struct, struct_if_fitting, repeats_superblock_struct, if_repeated_struct}
 
 -- ---- a slot with a name and a struct
 
@@ -61,21 +54,21 @@ slot_struct s t bytes m h = ap (λ (x : Slot). x.struct) m.made ∙ inline_back 
 
 -- ---- whether the superblock is repeated
 
-repeats_from : (versions : AcceptedVersions) (bytes own : List ℕ) → repeats_superblock_struct versions bytes own ≡ true → SameStructExceptVersion versions bytes own
+repeats_from : (versions : AcceptedVersions) (bytes own : List ℕ) → repeats_superblock_struct versions bytes own ≡ true → SameExceptVersion versions bytes own
 repeats_from versions bytes own e =
     let one = and_parts (length own == length bytes) _ e in
     let two = and_parts (accepts_version versions (superblock_fields own).version) _ one.1 in
     record { len = eqb-true _ _ one.0; version = two.0; rest = (bytes_eq-Decides (drop 4 own) (drop 4 bytes)).0 two.1 }
 
-repeats_to : (versions : AcceptedVersions) (bytes own : List ℕ) → SameStructExceptVersion versions bytes own → repeats_superblock_struct versions bytes own ≡ true
+repeats_to : (versions : AcceptedVersions) (bytes own : List ℕ) → SameExceptVersion versions bytes own → repeats_superblock_struct versions bytes own ≡ true
 repeats_to versions bytes own h = and_from _ _ (eq-eqb _ _ h.len) (and_from _ _ h.version ((bytes_eq-Decides (drop 4 own) (drop 4 bytes)).1 h.rest))
 
 module _ (versions : AcceptedVersions) (bytes : List ℕ) where
-  same_from : (o : Option (List ℕ)) → if_repeated_struct versions bytes o ≡ Some true → (own : List ℕ) × ((o ≡ Some own) × SameStructExceptVersion versions bytes own)
+  same_from : (o : Option (List ℕ)) → if_repeated_struct versions bytes o ≡ Some true → (own : List ℕ) × ((o ≡ Some own) × SameExceptVersion versions bytes own)
   same_from None e = absurd (cc)
   same_from (Some own) e = go (repeats_superblock_struct versions bytes own) refl e
     where
-      go : (b : Bool) → repeats_superblock_struct versions bytes own ≡ b → cond b (Some true) None ≡ Some true → (x : List ℕ) × ((Some own ≡ Some x) × SameStructExceptVersion versions bytes x)
+      go : (b : Bool) → repeats_superblock_struct versions bytes own ≡ b → cond b (Some true) None ≡ Some true → (x : List ℕ) × ((Some own ≡ Some x) × SameExceptVersion versions bytes x)
       go true f k = (own, (refl, repeats_from versions bytes own f))
       go false f k = absurd (cc)
 
@@ -87,16 +80,16 @@ module _ (versions : AcceptedVersions) (bytes : List ℕ) where
       go true k = absurd (cc)
       go false k = absurd (cc)
 
-  differs : (o : Option (List ℕ)) (own : List ℕ) → if_repeated_struct versions bytes o ≡ None → o ≡ Some own → SameStructExceptVersion versions bytes own → ⊥
+  differs : (o : Option (List ℕ)) (own : List ℕ) → if_repeated_struct versions bytes o ≡ None → o ≡ Some own → SameExceptVersion versions bytes own → ⊥
   differs o own e f same = absurd (
       let some : if_repeated_struct versions bytes o ≡ Some true = ap (if_repeated_struct versions bytes) f ∙ ap (λ b. cond b (Some true) None) (repeats_to versions bytes own same) in
       let clash : Some true ≡ None = sym some ∙ e in cc)
 
-  pub repeats_true : (raws : List RawSlot) (slots : List Slot) → complete_slots raws ≡ Some slots → first_repeats_superblock versions bytes raws ≡ Some true → BeginsAlone versions bytes slots
+  pub repeats_true : (raws : List RawSlot) (slots : List Slot) → complete_slots raws ≡ Some slots → first_repeats_superblock versions bytes raws ≡ Some true → FirstHasStruct versions bytes slots
   repeats_true [] slots c e = absurd (cc)
   repeats_true (s ∷ raws) slots c e =
       let p = complete_parts s raws slots c in
-      subst (BeginsAlone versions bytes) (sym p.all_are) (go p.first (made_of s p.first p.is_first) (is_superblock_tag s.name) refl e)
+      subst (FirstHasStruct versions bytes) (sym p.all_are) (go p.first (made_of s p.first p.is_first) (is_superblock_tag s.name) refl e)
     where
       go : (t : Slot) → IsMadeOf s t → (b : Bool) → is_superblock_tag s.name ≡ b → cond b (if_repeated_struct versions bytes (inline_bytes s.struct)) (Some false) ≡ Some true → (is_superblock t ≡ true) × HasStruct versions bytes t
       go t m true n k = let f = same_from (inline_bytes s.struct) k in (slot_named s t m ∙ n, (f.0, (slot_struct s t f.0 m f.1.0, f.1.1)))
@@ -113,13 +106,13 @@ module _ (versions : AcceptedVersions) (bytes : List ℕ) where
       go false n k = refl
 
   pub repeats_none : (raws : List RawSlot) (slots : List Slot) → complete_slots raws ≡ Some slots → first_repeats_superblock versions bytes raws ≡ None
-      → (starts_superblock slots ≡ true) × (BeginsAlone versions bytes slots → ⊥)
+      → (starts_superblock slots ≡ true) × (FirstHasStruct versions bytes slots → ⊥)
   repeats_none [] slots c e = absurd (cc)
   repeats_none (s ∷ raws) slots c e =
       let p = complete_parts s raws slots c in
       let m = made_of s p.first p.is_first in
       let k = go (is_superblock_tag s.name) refl e in
-      (ap starts_superblock p.all_are ∙ slot_named s p.first m ∙ k.0, λ h. other p.first m k.1 (subst (BeginsAlone versions bytes) p.all_are h).1)
+      (ap starts_superblock p.all_are ∙ slot_named s p.first m ∙ k.0, λ h. other p.first m k.1 (subst (FirstHasStruct versions bytes) p.all_are h).1)
     where
       go : (b : Bool) → is_superblock_tag s.name ≡ b → cond b (if_repeated_struct versions bytes (inline_bytes s.struct)) (Some false) ≡ None → (b ≡ true) × (if_repeated_struct versions bytes (inline_bytes s.struct) ≡ None)
       go true n k = (refl, k)
@@ -202,7 +195,7 @@ describes_struct disk bytes h =
     and_from _ _ (eq-eqb _ _ h.len) (and_from _ _ h.version (and_from _ _ (eq-eqb _ _ h.block_size) (eq-eqb _ _ h.block_count)))
 
 -- the disk's struct repeats itself
-pub first_begins : (disk : Disk) (bytes : List ℕ) (slots : List Slot) → IsSuperblock disk bytes → BeginsWithStruct bytes slots → BeginsAlone disk.profile.versions bytes slots
+pub first_begins : (disk : Disk) (bytes : List ℕ) (slots : List Slot) → IsSuperblock disk bytes → BeginsWithStruct bytes slots → FirstHasStruct disk.profile.versions bytes slots
 first_begins disk bytes [] h start = absurd start
 first_begins disk bytes (s ∷ slots) h start = (start.0, (bytes, (start.1, record { len = refl; version = h.version; rest = refl })))
 

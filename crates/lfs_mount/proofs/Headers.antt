@@ -1,18 +1,11 @@
 -- What the disk holds of a pair that a header describes.
 use Rattle.std.proofs.Common.{ℕ, zero, suc, ◌≡◌, ◌<◌, Bool, true, false, cond, List, [], ◌∷◌, length, slice_get, Option, Some, None, sym, ap, subst, ◌∙◌, option_and_then, option_map}
 use Rattle.std.specs.Prelude.{unwrap_or}
-use Rattle.std.proofs.lemmas.Option.{same_Some, slice_get-map}
-use Rattle.lfs_model.specs.format.Content.{RawContent, complete_slots, complete_content, content_after, content_at, current_block, empty_raw_content}
-use Rattle.lfs_model.specs.format.Disk.{Disk, disk_block, block_count}
-use Rattle.lfs_model.specs.session.History.{CallEvent}
-use Rattle.lfs_model.specs.format.Log.{block_entries}
-use Rattle.lfs_model.specs.format.Slots.{PairContent, zero_gstate}
-use Rattle.lfs_model.specs.format.Thread.{Pair, is_hard_tail}
-use Rattle.lfs_model.proofs.Completed.{complete_length, completed_parts}
-use Rattle.lfs_tag.specs.ContentView.{tail_view}
-use Rattle.lfs_tag.specs.FieldsView.{move_view}
-use Rattle.lfs_pair.specs.Pair.{active_block_at, header_address, is_second_active}
-use Rattle.lfs_thread.specs.Kept.{PairHeader, AreHeaders, IsHeader, disk_pair_at, pairs_of_headers}
+use Rattle.lfs_mount.proofs.Common.{same_Some, slice_get-map, RawContent, complete_slots, complete_content, content_after, content_at, current_block, empty_raw_content, Disk, disk_block, block_count, CallEvent, block_entries, zero_gstate, Pair, is_hard_tail, completed_parts, tail_view, move_view, header_address, PairHeader, AreHeaders, IsHeader, header_pairs}
+use Rattle.lfs_model.specs.format.Slots.{PairContent}
+use Rattle.lfs_model.proofs.Completed.{complete_length}
+use Rattle.lfs_pair.specs.Pair.{active_block_at, is_second_active}
+use Rattle.lfs_thread.specs.Kept.{disk_pair_at}
 
 abbrev pub pair_of : Disk → PairHeader → Pair
 pair_of disk h = disk_pair_at disk (header_address h)
@@ -65,5 +58,5 @@ header_at disk history (x ∷ hs) zero h is e = subst (IsSeen disk) (same_Some x
 header_at disk history (x ∷ hs) (suc k) h is e = header_at disk history hs k h is.1 e
 
 -- its pair
-pub pair_at : (disk : Disk) (hs : List PairHeader) (k : ℕ) (h : PairHeader) → slice_get hs k ≡ Some h → slice_get (pairs_of_headers disk hs) k ≡ Some (pair_of disk h)
+pub pair_at : (disk : Disk) (hs : List PairHeader) (k : ℕ) (h : PairHeader) → slice_get hs k ≡ Some h → slice_get (header_pairs disk hs) k ≡ Some (pair_of disk h)
 pair_at disk hs k h e = slice_get-map (pair_of disk) hs k ∙ ap (option_map (pair_of disk)) e

@@ -1,27 +1,18 @@
 -- How many pairs of the superblock's chain stand in front of the root's first one.
 use Rattle.std.proofs.Common.{ℕ, zero, suc, ◌≡◌, ◌⊎◌, inl, inr, ◌==◌, ◌&&◌, ◌||◌, ◌+◌, ◌-◌, ◌<◌, ◌≤◌, Bool, true, false, cond, List, [], ◌∷◌, ◌++◌, length, drop, slice_get, slice_index_or, Option, Some, None, refl, sym, ap, ap₂, subst, ◌∙◌, arith, eqb-true, option_and_then, option_map}
-use Rattle.std.proofs.lemmas.Bool.{and_from, and_parts, and_right, eqb-false}
-use Rattle.std.proofs.lemmas.List.{length-map}
-use Rattle.std.proofs.lemmas.Option.{same_Some, slice_get_read, slice_get_within}
+use Rattle.lfs_mount.proofs.Common.{and_from, and_parts, length-map, same_Some, slice_get_read, slice_get_within, Blocks, current_block, Disk, disk_block, block_count, CallEvent, Slot, Inline, array_address, Pair, first_address, has_no_entry, is_hard_tail, has_superblock, starts_superblock, count_before_root, pairs_from_root, HasStruct, IsSuperblock, BreaksPairs, Each, tail_view, AreHeaders, PairHeader, header_pairs, FirstHasStruct, HasSuperblockAlone, HasNoEntries, AreThreadHeaders, BreaksFirstSuperblock, HasChain, first_filled, first_repeats_superblock, first_slot_struct}
+use Rattle.std.proofs.lemmas.Bool.{and_right, eqb-false}
 use Rattle.lfs_device.specs.declared.geometry.Geometry.{Geometry}
-use Rattle.lfs_model.specs.format.Blocks.{Blocks, block_bytes}
-use Rattle.lfs_model.specs.format.Content.{current_block}
-use Rattle.lfs_model.specs.format.Disk.{Disk, disk_block, block_count}
-use Rattle.lfs_model.specs.session.History.{CallEvent}
-use Rattle.lfs_model.specs.format.Slots.{Slot, Inline, array_address}
+use Rattle.lfs_model.specs.format.Blocks.{block_bytes}
 use Rattle.lfs_model.specs.format.Thread as Thread
-use Rattle.lfs_model.specs.format.Thread.{Pair, first_address, from_first_slots, has_slots, has_no_entry, is_hard_tail, has_superblock, starts_superblock, starts_or, pair_count_before_root, pairs_from_root}
-use Rattle.lfs_model.specs.tree.View.{BeginsWith, HasStruct, first_slots, first_slot_name, IsSuperblock, superblock_entry}
-use Rattle.lfs_model.specs.layers.Violations.{BreaksPairs, HasFirstSlot, first_filled_address}
+use Rattle.lfs_model.specs.format.Thread.{from_first_slots, has_slots, starts_or_later}
+use Rattle.lfs_model.specs.tree.View.{BeginsWith, first_pair_slots, first_slot_name, superblock_entry}
+use Rattle.lfs_model.specs.layers.Violations.{HasFirstSlot, first_filled_address}
 use Rattle.lfs_model.specs.declared.limits.AcceptedVersions.{AcceptedVersions}
 use Rattle.lfs_model.specs.declared.violations.Violation.{Violation}
 use Rattle.lfs_model.specs.declared.violations.Violation.TheVariants as violation
-use Rattle.lfs_model.proofs.Counts.{Each}
 use Rattle.lfs_model.proofs.Superblocks.{meets_from, meets_starting}
-use Rattle.lfs_tag.specs.ContentView.{tail_view}
-use Rattle.lfs_thread.specs.Kept.{AreHeaders, PairHeader, pairs_of_headers}
-use Rattle.lfs_mount.specs.Checked.{BeginsAlone, HasSuperblockAlone, HasNothingElse}
-use Rattle.lfs_mount.specs.SuperblockChain.{AreThreadHeaders, BreaksFirstSuperblock, HasChain, IsBlockStruct, first_filled, may_continue_after, first_repeats_superblock, repeats_superblock, struct_in_log, first_slot_struct}
+use Rattle.lfs_mount.specs.SuperblockChain.{IsBlockStruct, may_continue_after, repeats_superblock, struct_in_log}
 use Rattle.lfs_mount.proofs.FirstSlots.{IsFirst, begins_struct, first_begins, first_found, first_is, first_of_disk, repeats_false, repeats_none, repeats_true, struct_described}
 use Rattle.lfs_mount.proofs.Headers.{IsSeen, header_at, pair_at, pair_of, seen_from}
 
@@ -29,7 +20,7 @@ use Rattle.lfs_mount.proofs.Headers.{IsSeen, header_at, pair_at, pair_of, seen_f
 
 -- a pair in front of the root's first one; `v` are the versions that are accepted
 abbrev pub IsLink : AcceptedVersions → List ℕ → Pair → Type 0
-IsLink v bytes p = HasNothingElse v bytes p × (is_hard_tail p.content.tail ≡ true)
+IsLink v bytes p = HasNoEntries v bytes p × (is_hard_tail p.content.tail ≡ true)
 
 -- so many of them
 abbrev pub Linked : AcceptedVersions → List ℕ → ℕ → List Pair → Type 0
@@ -40,17 +31,17 @@ Linked v bytes (suc k) (p ∷ ps) = IsLink v bytes p × Linked v bytes k ps
 -- and behind them one that begins with the superblock
 abbrev pub Led : AcceptedVersions → List ℕ → ℕ → List Pair → Type 0
 Led v bytes k [] = ⊥
-Led v bytes zero (p ∷ ps) = BeginsAlone v bytes p.content.slots
+Led v bytes zero (p ∷ ps) = FirstHasStruct v bytes p.content.slots
 Led v bytes (suc k) (p ∷ ps) = IsLink v bytes p × Led v bytes k ps
 
-starts_so : (v : AcceptedVersions) (bytes : List ℕ) (slots : List Slot) → BeginsAlone v bytes slots → starts_superblock slots ≡ true
+starts_so : (v : AcceptedVersions) (bytes : List ℕ) (slots : List Slot) → FirstHasStruct v bytes slots → starts_superblock slots ≡ true
 starts_so v bytes [] h = absurd h
 starts_so v bytes (s ∷ slots) h = h.0
 
-alone_start : (v : AcceptedVersions) (bytes : List ℕ) (p : Pair) → HasSuperblockAlone v bytes p → BeginsAlone v bytes p.content.slots
-alone_start v bytes p a = subst (BeginsAlone v bytes) (sym a.slots) (a.superblock, a.struct)
+alone_start : (v : AcceptedVersions) (bytes : List ℕ) (p : Pair) → HasSuperblockAlone v bytes p → FirstHasStruct v bytes p.content.slots
+alone_start v bytes p a = subst (FirstHasStruct v bytes) (sym a.slots) (a.superblock, a.struct)
 
-link_bare : (v : AcceptedVersions) (bytes : List ℕ) (p : Pair) → HasNothingElse v bytes p → has_no_entry p.content.slots ≡ true
+link_bare : (v : AcceptedVersions) (bytes : List ℕ) (p : Pair) → HasNoEntries v bytes p → has_no_entry p.content.slots ≡ true
 link_bare v bytes p (inl none) = ap has_no_entry none
 link_bare v bytes p (inr alone) = ap has_no_entry alone.slots ∙ alone.superblock
 
@@ -58,18 +49,18 @@ link_leads : (v : AcceptedVersions) (bytes : List ℕ) (p : Pair) → IsLink v b
 link_leads v bytes p h = and_from (has_no_entry p.content.slots) (is_hard_tail p.content.tail) (link_bare v bytes p h.0) h.1
 
 link_meets : (v : AcceptedVersions) (bytes : List ℕ) (p : Pair) (ps : List Pair) → IsLink v bytes p → has_superblock ps ≡ true → has_superblock (p ∷ ps) ≡ true
-link_meets v bytes p ps (inl none, hard) e = ap (λ z. starts_or z (is_hard_tail p.content.tail && has_superblock ps)) none ∙ and_from (is_hard_tail p.content.tail) (has_superblock ps) hard e
+link_meets v bytes p ps (inl none, hard) e = ap (λ z. starts_or_later z (is_hard_tail p.content.tail && has_superblock ps)) none ∙ and_from (is_hard_tail p.content.tail) (has_superblock ps) hard e
 link_meets v bytes p ps (inr alone, hard) e = meets_starting p ps (starts_so v bytes p.content.slots (alone_start v bytes p alone))
 
-before_link : (v : AcceptedVersions) (bytes : List ℕ) (p : Pair) (ps : List Pair) → IsLink v bytes p → has_superblock ps ≡ true → pair_count_before_root (p ∷ ps) ≡ suc (pair_count_before_root ps)
-before_link v bytes p ps h e = ap (λ b. cond b (1 + pair_count_before_root ps) 0) (and_from (has_superblock ps) (Thread.may_continue p) e (link_leads v bytes p h)) ∙ (let n = pair_count_before_root ps in omega arith)
+before_link : (v : AcceptedVersions) (bytes : List ℕ) (p : Pair) (ps : List Pair) → IsLink v bytes p → has_superblock ps ≡ true → count_before_root (p ∷ ps) ≡ suc (count_before_root ps)
+before_link v bytes p ps h e = ap (λ b. cond b (1 + count_before_root ps) 0) (and_from (has_superblock ps) (Thread.may_continue p) e (link_leads v bytes p h)) ∙ (let n = count_before_root ps in omega arith)
 
 linked_meets : (v : AcceptedVersions) (bytes : List ℕ) (k : ℕ) (ps : List Pair) → Linked v bytes k ps → has_superblock (drop k ps) ≡ true → has_superblock ps ≡ true
 linked_meets v bytes zero ps h e = e
 linked_meets v bytes (suc k) [] h e = absurd h
 linked_meets v bytes (suc k) (p ∷ ps) h e = link_meets v bytes p ps h.0 (linked_meets v bytes k ps h.1 e)
 
-linked_before : (v : AcceptedVersions) (bytes : List ℕ) (k : ℕ) (ps : List Pair) → Linked v bytes k ps → has_superblock (drop k ps) ≡ true → pair_count_before_root ps ≡ k + pair_count_before_root (drop k ps)
+linked_before : (v : AcceptedVersions) (bytes : List ℕ) (k : ℕ) (ps : List Pair) → Linked v bytes k ps → has_superblock (drop k ps) ≡ true → count_before_root ps ≡ k + count_before_root (drop k ps)
 linked_before v bytes zero ps h e = omega arith
 linked_before v bytes (suc k) [] h e = absurd h
 linked_before v bytes (suc k) (p ∷ ps) h e =
@@ -82,9 +73,9 @@ linked_more v bytes k [] p h e link = absurd (cc)
 linked_more v bytes zero (x ∷ ps) p h e link = (subst (IsLink v bytes) (sym (same_Some x p e)) link, tt)
 linked_more v bytes (suc k) (x ∷ ps) p h e link = (h.0, linked_more v bytes k ps p h.1 e link)
 
-led_from : (v : AcceptedVersions) (bytes : List ℕ) (k : ℕ) (ps : List Pair) (p : Pair) → Linked v bytes k ps → slice_get ps k ≡ Some p → BeginsAlone v bytes p.content.slots → Led v bytes k ps
+led_from : (v : AcceptedVersions) (bytes : List ℕ) (k : ℕ) (ps : List Pair) (p : Pair) → Linked v bytes k ps → slice_get ps k ≡ Some p → FirstHasStruct v bytes p.content.slots → Led v bytes k ps
 led_from v bytes k [] p h e start = absurd (cc)
-led_from v bytes zero (x ∷ ps) p h e start = subst (λ (z : Pair). BeginsAlone v bytes z.content.slots) (sym (same_Some x p e)) start
+led_from v bytes zero (x ∷ ps) p h e start = subst (λ (z : Pair). FirstHasStruct v bytes z.content.slots) (sym (same_Some x p e)) start
 led_from v bytes (suc k) (x ∷ ps) p h e start = (h.0, led_from v bytes k ps p h.1 e start)
 
 led_linked : (v : AcceptedVersions) (bytes : List ℕ) (k : ℕ) (ps : List Pair) → Led v bytes k ps → Linked v bytes k ps
@@ -92,9 +83,9 @@ led_linked v bytes k [] l = absurd l
 led_linked v bytes zero (p ∷ ps) l = tt
 led_linked v bytes (suc k) (p ∷ ps) l = (l.0, led_linked v bytes k ps l.1)
 
-led_start : (v : AcceptedVersions) (bytes : List ℕ) (k : ℕ) (ps : List Pair) (p : Pair) → Led v bytes k ps → slice_get ps k ≡ Some p → BeginsAlone v bytes p.content.slots
+led_start : (v : AcceptedVersions) (bytes : List ℕ) (k : ℕ) (ps : List Pair) (p : Pair) → Led v bytes k ps → slice_get ps k ≡ Some p → FirstHasStruct v bytes p.content.slots
 led_start v bytes k [] p l e = absurd l
-led_start v bytes zero (x ∷ ps) p l e = subst (λ (z : Pair). BeginsAlone v bytes z.content.slots) (same_Some x p e) l
+led_start v bytes zero (x ∷ ps) p l e = subst (λ (z : Pair). FirstHasStruct v bytes z.content.slots) (same_Some x p e) l
 led_start v bytes (suc k) (x ∷ ps) p l e = led_start v bytes k ps p l.1 e
 
 dropped : (ps : List Pair) (k : ℕ) (p : Pair) → slice_get ps k ≡ Some p → drop k ps ≡ p ∷ drop (suc k) ps
@@ -114,8 +105,8 @@ pub record IsWalked (v : AcceptedVersions) (bytes : List ℕ) (ps : List Pair) (
   pub led : Led v bytes root ps
   pub linked : Linked v bytes index ps
   pub below : root ≤ index
-  pub bare : (p : Pair) → slice_get ps index ≡ Some p → (p.content.slots ≡ []) ⊎ BeginsAlone v bytes p.content.slots
-  pub ends : (p : Pair) → slice_get ps index ≡ Some p → (has_superblock (drop (suc index) ps) && Thread.may_continue p) ≡ false → pair_count_before_root ps ≡ root
+  pub bare : (p : Pair) → slice_get ps index ≡ Some p → (p.content.slots ≡ []) ⊎ FirstHasStruct v bytes p.content.slots
+  pub ends : (p : Pair) → slice_get ps index ≡ Some p → (has_superblock (drop (suc index) ps) && Thread.may_continue p) ≡ false → count_before_root ps ≡ root
 
 walked_at : (v : AcceptedVersions) (bytes : List ℕ) (k : ℕ) (ps : List Pair) → Led v bytes k ps → IsWalked v bytes ps k k
 walked_at v bytes k ps l = record {
@@ -124,7 +115,7 @@ walked_at v bytes k ps l = record {
   below = omega arith;
   bare = λ p e. inr (led_start v bytes k ps p l e);
   ends = λ p e halts.
-      let none = ap pair_count_before_root (dropped ps k p e) ∙ ap (λ b. cond b (1 + pair_count_before_root (drop (suc k) ps)) 0) halts in
+      let none = ap count_before_root (dropped ps k p e) ∙ ap (λ b. cond b (1 + count_before_root (drop (suc k) ps)) 0) halts in
       let all = linked_before v bytes k ps (led_linked v bytes k ps l) (led_meets v bytes k ps l) in
       omega arith;
 }
@@ -137,11 +128,11 @@ few_le n f = go (n == 0) refl (n == 1) refl f
     go false e true g h = let z = eqb-true n 1 g in omega arith
     go false e false g h = absurd (cc)
 
-bare_from : (v : AcceptedVersions) (bytes : List ℕ) (p : Pair) → (p.content.slots ≡ []) ⊎ BeginsAlone v bytes p.content.slots → (length p.content.slots == 0 || length p.content.slots == 1) ≡ true → HasNothingElse v bytes p
+bare_from : (v : AcceptedVersions) (bytes : List ℕ) (p : Pair) → (p.content.slots ≡ []) ⊎ FirstHasStruct v bytes p.content.slots → (length p.content.slots == 0 || length p.content.slots == 1) ≡ true → HasNoEntries v bytes p
 bare_from v bytes p (inl none) few = inl none
 bare_from v bytes p (inr start) few = go p.content.slots refl start (few_le (length p.content.slots) few)
   where
-    go : (slots : List Slot) → p.content.slots ≡ slots → BeginsAlone v bytes slots → length p.content.slots ≤ 1 → HasNothingElse v bytes p
+    go : (slots : List Slot) → p.content.slots ≡ slots → FirstHasStruct v bytes slots → length p.content.slots ≤ 1 → HasNoEntries v bytes p
     go [] is k f = absurd k
     go (s ∷ []) is k f = inr (record { slot = s; slots = is; superblock = k.0; struct = k.1 })
     go (s ∷ t ∷ slots) is k f = absurd (let l = ap length is in omega arith)
@@ -159,7 +150,7 @@ stops p e = go (length p.content.slots == 0 || length p.content.slots == 1) refl
     go false f k = ap (λ b. b && is_hard_tail p.content.tail) (many_slots p.content.slots f)
     go true f k = and_right (has_no_entry p.content.slots) (is_hard_tail p.content.tail) k
 
-meets_slots : (slots : List Slot) (later : Bool) → (slots ≡ [] → ⊥) → starts_or slots later ≡ starts_superblock slots
+meets_slots : (slots : List Slot) (later : Bool) → (slots ≡ [] → ⊥) → starts_or_later slots later ≡ starts_superblock slots
 meets_slots [] later some = absurd (some refl)
 meets_slots (s ∷ slots) later some = refl
 
@@ -171,8 +162,8 @@ record IsSplit (v : AcceptedVersions) (bytes : List ℕ) (k : ℕ) (ps : List Pa
   rest : List Pair
   parts : ps ≡ chain ++ p ∷ rest
   chain_is : length chain ≡ k
-  bare : Each (HasNothingElse v bytes) chain
-  start : BeginsAlone v bytes p.content.slots
+  bare : Each (HasNoEntries v bytes) chain
+  start : FirstHasStruct v bytes p.content.slots
 
 split : (v : AcceptedVersions) (bytes : List ℕ) (k : ℕ) (ps : List Pair) → Led v bytes k ps → IsSplit v bytes k ps
 split v bytes k [] l = absurd l
@@ -195,7 +186,7 @@ starting_some : (slots : List Slot) → starts_superblock slots ≡ true → slo
 starting_some [] h e = cc
 starting_some (s ∷ slots) h e = cc
 
-starting_so : (v : AcceptedVersions) (bytes : List ℕ) (slots : List Slot) (s : Slot) → slice_get slots 0 ≡ Some s → starts_superblock slots ≡ true → HasStruct v bytes s → BeginsAlone v bytes slots
+starting_so : (v : AcceptedVersions) (bytes : List ℕ) (slots : List Slot) (s : Slot) → slice_get slots 0 ≡ Some s → starts_superblock slots ≡ true → HasStruct v bytes s → FirstHasStruct v bytes slots
 starting_so v bytes [] s e starts h = absurd (cc)
 starting_so v bytes (x ∷ slots) s e starts h = (starts, subst (HasStruct v bytes) (sym (same_Some x s e)) h)
 
@@ -230,9 +221,9 @@ record IsFilled (disk : Disk) (hs : List PairHeader) (k : ℕ) (bytes : List ℕ
   header : PairHeader
   here : slice_get hs k ≡ Some header
   some : (pair_of disk header).content.slots ≡ [] → ⊥
-  linked : Linked disk.profile.versions bytes k (pairs_of_headers disk hs)
+  linked : Linked disk.profile.versions bytes k (header_pairs disk hs)
   rest : List Pair
-  from : from_first_slots (pairs_of_headers disk hs) ≡ pair_of disk header ∷ rest
+  from : from_first_slots (header_pairs disk hs) ≡ pair_of disk header ∷ rest
 
 no_slots : (slots : List Slot) → length slots ≡ 0 → slots ≡ []
 no_slots [] e = refl
@@ -257,8 +248,8 @@ filled disk history bytes (x ∷ hs) k each e =
       here = refl;
       some = some;
       linked = tt;
-      rest = pairs_of_headers disk hs;
-      from = ap (λ t. cond t (pair_of disk x ∷ pairs_of_headers disk hs) (from_first_slots (pairs_of_headers disk hs))) (filled_slots (pair_of disk x).content.slots some);
+      rest = header_pairs disk hs;
+      from = ap (λ t. cond t (pair_of disk x ∷ header_pairs disk hs) (from_first_slots (header_pairs disk hs))) (filled_slots (pair_of disk x).content.slots some);
     })
       where
         some : (pair_of disk x).content.slots ≡ [] → ⊥
@@ -271,13 +262,13 @@ filled disk history bytes (x ∷ hs) k each e =
       some = (next j f).some;
       linked = ((inl empty, sym seen.hard ∙ hard), (next j f).linked);
       rest = (next j f).rest;
-      from = ap (λ z. cond (has_slots z) (pair_of disk x ∷ pairs_of_headers disk hs) (from_first_slots (pairs_of_headers disk hs))) empty ∙ (next j f).from;
+      from = ap (λ z. cond (has_slots z) (pair_of disk x ∷ header_pairs disk hs) (from_first_slots (header_pairs disk hs))) empty ∙ (next j f).from;
     })
       where
         empty : (pair_of disk x).content.slots ≡ []
         empty = no_slots (pair_of disk x).content.slots (sym seen.count ∙ eqb-true x.slot_count 0 n)
 
-none_filled : (disk : Disk) (history : List CallEvent) (hs : List PairHeader) → AreHeaders disk history hs → first_filled hs ≡ None → has_superblock (pairs_of_headers disk hs) ≡ false
+none_filled : (disk : Disk) (history : List CallEvent) (hs : List PairHeader) → AreHeaders disk history hs → first_filled hs ≡ None → has_superblock (header_pairs disk hs) ≡ false
 none_filled disk history [] each e = refl
 none_filled disk history (x ∷ hs) each e = go (x.slot_count == 0) refl (is_hard_tail (option_map tail_view x.tail)) refl (first_filled hs) refl e (λ f. none_filled disk history hs each.1 f)
   where
@@ -285,17 +276,17 @@ none_filled disk history (x ∷ hs) each e = go (x.slot_count == 0) refl (is_har
     seen = seen_from disk history x each.0
 
     go : (a : Bool) → (x.slot_count == 0) ≡ a → (b : Bool) → is_hard_tail (option_map tail_view x.tail) ≡ b → (o : Option ℕ) → first_filled hs ≡ o
-        → cond a (cond b (option_map (λ n. suc n) o) None) (Some 0) ≡ None → (first_filled hs ≡ None → has_superblock (pairs_of_headers disk hs) ≡ false) → has_superblock (pairs_of_headers disk (x ∷ hs)) ≡ false
+        → cond a (cond b (option_map (λ n. suc n) o) None) (Some 0) ≡ None → (first_filled hs ≡ None → has_superblock (header_pairs disk hs) ≡ false) → has_superblock (header_pairs disk (x ∷ hs)) ≡ false
     go false n b hard o f is next = absurd (cc)
     go true n true hard (Some j) f is next = absurd (cc)
     go true n true hard None f is next = empty ∙ ap (λ b. is_hard_tail (pair_of disk x).content.tail && b) (next f) ∙ and_right (is_hard_tail (pair_of disk x).content.tail) false refl
       where
-        empty : has_superblock (pairs_of_headers disk (x ∷ hs)) ≡ (is_hard_tail (pair_of disk x).content.tail && has_superblock (pairs_of_headers disk hs))
-        empty = ap (λ z. starts_or z (is_hard_tail (pair_of disk x).content.tail && has_superblock (pairs_of_headers disk hs))) (no_slots (pair_of disk x).content.slots (sym seen.count ∙ eqb-true x.slot_count 0 n))
-    go true n false hard o f is next = empty ∙ ap (λ b. b && has_superblock (pairs_of_headers disk hs)) (sym seen.hard ∙ hard)
+        empty : has_superblock (header_pairs disk (x ∷ hs)) ≡ (is_hard_tail (pair_of disk x).content.tail && has_superblock (header_pairs disk hs))
+        empty = ap (λ z. starts_or_later z (is_hard_tail (pair_of disk x).content.tail && has_superblock (header_pairs disk hs))) (no_slots (pair_of disk x).content.slots (sym seen.count ∙ eqb-true x.slot_count 0 n))
+    go true n false hard o f is next = empty ∙ ap (λ b. b && has_superblock (header_pairs disk hs)) (sym seen.hard ∙ hard)
       where
-        empty : has_superblock (pairs_of_headers disk (x ∷ hs)) ≡ (is_hard_tail (pair_of disk x).content.tail && has_superblock (pairs_of_headers disk hs))
-        empty = ap (λ z. starts_or z (is_hard_tail (pair_of disk x).content.tail && has_superblock (pairs_of_headers disk hs))) (no_slots (pair_of disk x).content.slots (sym seen.count ∙ eqb-true x.slot_count 0 n))
+        empty : has_superblock (header_pairs disk (x ∷ hs)) ≡ (is_hard_tail (pair_of disk x).content.tail && has_superblock (header_pairs disk hs))
+        empty = ap (λ z. starts_or_later z (is_hard_tail (pair_of disk x).content.tail && has_superblock (header_pairs disk hs))) (no_slots (pair_of disk x).content.slots (sym seen.count ∙ eqb-true x.slot_count 0 n))
 
 with_true : (b : Bool) → (b && true) ≡ b
 with_true true = refl
@@ -309,7 +300,7 @@ turned false false = refl
 
 module _ (disk : Disk) (history : List CallEvent) (hs : List PairHeader) (has : AreThreadHeaders disk history hs) where
   abbrev ps : List Pair
-  ps = pairs_of_headers disk hs
+  ps = header_pairs disk hs
 
   abbrev v : AcceptedVersions
   v = disk.profile.versions
@@ -320,7 +311,7 @@ module _ (disk : Disk) (history : List CallEvent) (hs : List PairHeader) (has : 
   leads_seen h seen = ap₂ (λ n b. (n == 0 || n == 1) && b) seen.count seen.hard
 
   -- the chain stops at a pair that doesn't lead on
-  pub halts : (bytes : List ℕ) (root index : ℕ) (h : PairHeader) → slice_get hs index ≡ Some h → IsWalked v bytes ps root index → may_continue_after h ≡ false → pair_count_before_root ps ≡ root
+  pub halts : (bytes : List ℕ) (root index : ℕ) (h : PairHeader) → slice_get hs index ≡ Some h → IsWalked v bytes ps root index → may_continue_after h ≡ false → count_before_root ps ≡ root
   halts bytes root index h here w e = w.ends (pair_of disk h) (pair_at disk hs index h here)
       (and_right (has_superblock (drop (suc index) ps)) (Thread.may_continue (pair_of disk h)) (stops (pair_of disk h) (sym (leads_seen h (header_at disk history hs index h has.each here)) ∙ e)))
 
@@ -367,7 +358,7 @@ module _ (disk : Disk) (history : List CallEvent) (hs : List PairHeader) (has : 
       goes : (has_superblock (drop (suc s.k) ps) && Thread.may_continue p) ≡ has_superblock (drop (suc s.k) ps)
       goes = ap (λ b. has_superblock (drop (suc s.k) ps) && b) (link_leads v bytes p link) ∙ with_true (has_superblock (drop (suc s.k) ps))
 
-      meets : has_superblock (drop (suc s.k) ps) ≡ starts_or q.content.slots (is_hard_tail q.content.tail && has_superblock (drop (suc (suc s.k)) ps))
+      meets : has_superblock (drop (suc s.k) ps) ≡ starts_or_later q.content.slots (is_hard_tail q.content.tail && has_superblock (drop (suc (suc s.k)) ps))
       meets = ap has_superblock (dropped ps (suc s.k) q q_at)
 
       -- no slot
@@ -377,7 +368,7 @@ module _ (disk : Disk) (history : List CallEvent) (hs : List PairHeader) (has : 
         linked = linked;
         below = (let b = w.below in omega arith);
         bare = λ x e. inl (subst (λ (z : Pair). z.content.slots ≡ []) (same_Some q x (sym q_at ∙ e)) empty);
-        ends = λ x e k. w.ends p p_at (goes ∙ meets ∙ ap (λ z. starts_or z (is_hard_tail q.content.tail && has_superblock (drop (suc (suc s.k)) ps))) empty ∙ turned (is_hard_tail q.content.tail) (has_superblock (drop (suc (suc s.k)) ps))
+        ends = λ x e k. w.ends p p_at (goes ∙ meets ∙ ap (λ z. starts_or_later z (is_hard_tail q.content.tail && has_superblock (drop (suc (suc s.k)) ps))) empty ∙ turned (is_hard_tail q.content.tail) (has_superblock (drop (suc (suc s.k)) ps))
             ∙ ap (λ z. has_superblock (drop (suc (suc s.k)) ps) && (has_no_entry z && is_hard_tail q.content.tail)) (sym empty)
             ∙ ap (λ (z : Pair). has_superblock (drop (suc (suc s.k)) ps) && Thread.may_continue z) (same_Some q x (sym q_at ∙ e)) ∙ k);
       })
@@ -394,7 +385,7 @@ module _ (disk : Disk) (history : List CallEvent) (hs : List PairHeader) (has : 
           (led_from v bytes (suc s.k) ps q linked q_at (repeats_true v bytes seen_next.held.slots q.content.slots seen_next.slots (sym repeats ∙ is)))))
 
       -- other slots
-      pub ends : (next.slot_count ≡ 0 → ⊥) → repeats_superblock v bytes (disk_block disk next.active) ≡ Some false → pair_count_before_root ps ≡ root
+      pub ends : (next.slot_count ≡ 0 → ⊥) → repeats_superblock v bytes (disk_block disk next.active) ≡ Some false → count_before_root ps ≡ root
       ends filled is = w.ends p p_at (goes ∙ meets ∙ meets_slots q.content.slots (is_hard_tail q.content.tail && has_superblock (drop (suc (suc s.k)) ps)) (some filled)
           ∙ repeats_false v bytes seen_next.held.slots q.content.slots seen_next.slots (sym repeats ∙ is))
 
@@ -422,9 +413,9 @@ module _ (disk : Disk) (history : List CallEvent) (hs : List PairHeader) (has : 
   -- ---- the first header of a pair that has a slot, as it is read
 
   pub no_superblock : first_filled hs ≡ None → BreaksPairs disk ps violation.NoSuperblock
-  no_superblock none = go (starts_superblock (first_slots (pairs_from_root ps))) refl
+  no_superblock none = go (starts_superblock (first_pair_slots (pairs_from_root ps))) refl
     where
-      go : (b : Bool) → starts_superblock (first_slots (pairs_from_root ps)) ≡ b → b ≡ false
+      go : (b : Bool) → starts_superblock (first_pair_slots (pairs_from_root ps)) ≡ b → b ≡ false
       go true starts = absurd (let e = sym (meets_from ps starts) ∙ none_filled disk history hs has.each none in cc)
       go false starts = refl
 
@@ -501,7 +492,7 @@ module _ (disk : Disk) (history : List CallEvent) (hs : List PairHeader) (has : 
             at_first,
             own.0,
             (
-              ap (λ (qs : List Pair). slice_get (first_slots qs) 0) from ∙ own.1,
+              ap (λ (qs : List Pair). slice_get (first_pair_slots qs) 0) from ∙ own.1,
               λ is_so.
                   let some = ap (option_and_then (λ c. first_slot_struct v disk.block_size (block_count disk) c.slots)) first_seen.log
                   ∙ first_is v disk.block_size (block_count disk) first_seen.held.slots (pair_of disk h).content.slots is_so.bytes first_seen.slots (first_of_disk disk (pair_of disk h).content.slots own.0 own.1 is_so) in
@@ -518,11 +509,11 @@ module _ (disk : Disk) (history : List CallEvent) (hs : List PairHeader) (has : 
       pub first_struct : (bytes : List ℕ) → HasFound bytes → IsFirstStruct ps bytes
       first_struct bytes s =
           let own = begins_struct bytes (pair_of disk h).content.slots (is_first bytes s).start in
-          (own.0, (ap (λ (qs : List Pair). slice_get (first_slots qs) 0) from ∙ own.1.0, own.1.1))
+          (own.0, (ap (λ (qs : List Pair). slice_get (first_pair_slots qs) 0) from ∙ own.1.0, own.1.1))
 
       -- ---- the head
 
-      pub head_is : (bytes : List ℕ) (root index : ℕ) → HasFound bytes → IsWalked v bytes ps root index → pair_count_before_root ps ≡ root → HasChain disk ps root
+      pub head_is : (bytes : List ℕ) (root index : ℕ) → HasFound bytes → IsWalked v bytes ps root index → count_before_root ps ≡ root → HasChain disk ps root
       head_is bytes root index s w before =
           let apart = split v bytes root ps w.led in
           let d = is_first bytes s in
@@ -562,6 +553,6 @@ module _ (disk : Disk) (history : List CallEvent) (hs : List PairHeader) (has : 
           beyond (x ∷ qs) zero l e = cc
           beyond (x ∷ qs) (suc n) l e = beyond qs n (omega arith) e
 
-          go : (o : Option Pair) → slice_get ps index ≡ o → pair_count_before_root ps ≡ root
+          go : (o : Option Pair) → slice_get ps index ≡ o → count_before_root ps ≡ root
           go (Some p) e = w.ends p e (ap (λ (qs : List Pair). has_superblock qs && Thread.may_continue p) (none_behind ps (let l = length-map hs (pair_of disk) in omega arith)))
           go None e = absurd (beyond ps index (let l = length-map hs (pair_of disk) in omega arith) e)

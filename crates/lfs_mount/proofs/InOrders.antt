@@ -1,16 +1,9 @@
 -- What is read of a disk's pairs doesn't depend on the order of its names.
 use Rattle.std.proofs.Common.{ℕ, List, [], ◌∷◌}
-use Rattle.lfs_model.specs.format.Disk.{ordered_disk, Disk}
-use Rattle.lfs_model.specs.layers.BlockSets.{BlockStates}
-use Rattle.lfs_model.specs.session.History.{CallEvent}
-use Rattle.lfs_model.specs.format.Slots.{Gstate}
-use Rattle.lfs_model.specs.tree.View.{IsSuperblock}
+use Rattle.lfs_mount.proofs.Common.{ordered_disk, Disk, BlockStates, CallEvent, Gstate, IsSuperblock, AreHeaders, PairHeader, IsHeader, IsKeptOnDisk, header_pairs, AreThreadHeaders, BreaksFirstSuperblock, HasChain, IsThreadRead}
 use Rattle.lfs_model.specs.declared.order.NameOrder.{NameOrder}
 use Rattle.lfs_model.specs.declared.violations.Violation.{Violation}
 use Rattle.lfs_model.specs.declared.violations.Violation.TheVariants as violation
-use Rattle.lfs_thread.specs.Kept.{AreHeaders, PairHeader, IsHeader, IsKeptOnDisk, pairs_of_headers}
-use Rattle.lfs_mount.specs.SuperblockChain.{AreThreadHeaders, BreaksFirstSuperblock, HasChain}
-use Rattle.lfs_mount.specs.Members.{IsThreadRead}
 
 module _ (order : NameOrder) (disk : Disk) where
   header_in : (history : List CallEvent) (h : PairHeader) → IsHeader disk history h → IsHeader (ordered_disk order disk) history h
@@ -50,7 +43,7 @@ module _ (order : NameOrder) (disk : Disk) where
   struct_in : (bytes : List ℕ) → IsSuperblock disk bytes → IsSuperblock (ordered_disk order disk) bytes
   struct_in bytes s = record { len = s.len; version = s.version; block_size = s.block_size; block_count = s.block_count }
 
-  pub head_in : (hs : List PairHeader) (count : ℕ) → HasChain disk (pairs_of_headers disk hs) count → HasChain (ordered_disk order disk) (pairs_of_headers (ordered_disk order disk) hs) count
+  pub head_in : (hs : List PairHeader) (count : ℕ) → HasChain disk (header_pairs disk hs) count → HasChain (ordered_disk order disk) (header_pairs (ordered_disk order disk) hs) count
   head_in hs count h = record {
     chain = h.chain;
     p = h.p;

@@ -36,3 +36,4 @@ pub mod Mounts
 pub mod Mounted
 pub mod MountReads
 pub mod InOrders
+pub mod Common

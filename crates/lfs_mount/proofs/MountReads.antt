@@ -1,31 +1,12 @@
 -- How many reads the check of an image takes, by what its thread shows.
 use Rattle.std.proofs.Common.{ℕ, ◌≡◌, ◌≤◌, ◌<◌, ◌+◌, not, Bool, true, false, cond, List, [], ◌∷◌, ◌++◌, length, drop, filter, Some, sym, ap, subst, ◌∙◌, arith, refl, length-append}
 use Rattle.std.specs.Prelude.{All, sum_by}
-use Rattle.std.specs.List.{cons_option, flat_map}
-use Rattle.std.proofs.lemmas.List.Concat.{flat_map-append}
+use Rattle.lfs_mount.proofs.Common.{cons_option, flat_map, flat_map-append, same_Some, AreByteBlocks, BlockStates, Disk, disk_block, CallEvent, Name, Branch, Ctz, Gstate, Inline, Slot, Struct, is_superblock, AreLinked, Pair, anchor_address, pairs_gstate, slots_not_moved, unmoved_entries, moved_id, IsAccepted, IsTreeEntry, PairHeader, header_pairs, AreDescriptions, IsDescription, empty_scan, struct_reference, HasChain, list_of_entry, IsThreadRead, IsHeaderThread, header_descriptions, ScansPairs, scan_after_tail, DirectoryGraph, Vertex, list_reads, described_lists, mount_reads, pair_reads, AddsPair, after_superblock, unmoved_raw_slots}
 use Rattle.std.proofs.lemmas.List.Sums.{sum_by-append, sum_by-cons}
-use Rattle.std.proofs.lemmas.Option.{same_Some}
-use Rattle.lfs_device.specs.Bytes.{HoldBytes}
-use Rattle.lfs_model.specs.layers.BlockSets.{BlockStates}
 use Rattle.lfs_model.specs.format.Content.{has_commit}
-use Rattle.lfs_model.specs.format.Disk.{Disk, disk_block}
-use Rattle.lfs_model.specs.session.History.{CallEvent}
-use Rattle.lfs_model.specs.format.Names.{Name}
-use Rattle.lfs_model.specs.format.Slots.{Branch, Ctz, Gstate, Inline, Slot, Struct, is_superblock}
-use Rattle.lfs_model.specs.format.Thread.{AreLinked, Pair, anchor_address, pairs_gstate, slots_not_moved, unmoved_entries, moved_id}
-use Rattle.lfs_model.specs.tree.View.{IsAccepted, IsTreeEntry}
 use Rattle.lfs_pair.specs.Pair.{fetch_reads, later_block_first}
-use Rattle.lfs_thread.specs.Kept.{PairHeader, pairs_of_headers}
 use Rattle.lfs_thread.specs.HeaderReading.{thread_reads}
-use Rattle.lfs_mount.specs.Described.{AreDescriptions, IsDescription}
-use Rattle.lfs_mount.specs.DirectoryEntries.{empty_scan, struct_reference}
-use Rattle.lfs_mount.specs.SuperblockChain.{HasChain}
-use Rattle.lfs_mount.specs.Marking.{list_of_entry}
-use Rattle.lfs_mount.specs.Members.{IsThreadRead, IsHeaderThread, descriptions_of_headers}
-use Rattle.lfs_mount.specs.Passed.{ScansPairs, scan_kept}
-use Rattle.lfs_mount.specs.Reaching.{DirectoryGraph, Vertex}
-use Rattle.lfs_mount.specs.MountReads.{check_reads, lists_reads, list_reads, described_lists, mount_reads, pair_reads, struct_reads}
-use Rattle.lfs_mount.specs.Taken.{AddsPair, after_superblock, unmoved_raw_slots}
+use Rattle.lfs_mount.specs.MountReads.{check_reads, lists_reads, struct_reads}
 use Rattle.lfs_mount.specs.declared.pass.PairBeforeSlotsAreRead.{PairBeforeSlotsAreRead}
 use Rattle.lfs_mount.proofs.KnownThread.{known_thread}
 use Rattle.lfs_mount.proofs.ReadCounts.{takes_lists}
@@ -96,17 +77,17 @@ passed_reads disk firsts g first (p ∷ ps) (x ∷ ms) known sets graph end h (n
     let fewer = fewer_read (slot_reads disk.block_size) (λ s. not (is_superblock s)) (slots_not_moved g p) in
     let one = sum_by-cons (pair_reads disk) x ms in
     let both = sum_by-append (slot_reads disk.block_size) (slots_not_moved g p) (flat_map (slots_not_moved g) ps) in
-    let others = passed_reads disk firsts g false ps ms (scan_kept x.is_hard new) mid rest end h.1 more in
+    let others = passed_reads disk firsts g false ps ms (scan_after_tail x.is_hard new) mid rest end h.1 more in
     omega arith
 
 -- ---- the whole check
 
-module _ (disk : Disk) (history : List CallEvent) (hs : List PairHeader) (sets : BlockStates) (g : Gstate) (count : ℕ) (r : IsThreadRead disk history hs sets g) (head : HasChain disk (pairs_of_headers disk hs) count) where
-  pub directories_read : HoldBytes disk.blocks → IsAccepted disk (pairs_of_headers disk hs)
-      → count + sum_by (pair_reads disk) (descriptions_of_headers g true (drop count hs)) ≤ length (pairs_of_headers disk hs) + lists_reads disk (pairs_of_headers disk hs)
+module _ (disk : Disk) (history : List CallEvent) (hs : List PairHeader) (sets : BlockStates) (g : Gstate) (count : ℕ) (r : IsThreadRead disk history hs sets g) (head : HasChain disk (header_pairs disk hs) count) where
+  pub directories_read : AreByteBlocks disk.blocks → IsAccepted disk (header_pairs disk hs)
+      → count + sum_by (pair_reads disk) (header_descriptions g true (drop count hs)) ≤ length (header_pairs disk hs) + lists_reads disk (header_pairs disk hs)
   directories_read bytes a =
       let ps : List Pair = head.chain ++ head.p ∷ head.rest in
-      let members : List PairBeforeSlotsAreRead = descriptions_of_headers g true (drop count hs) in
+      let members : List PairBeforeSlotsAreRead = header_descriptions g true (drop count hs) in
       let known : IsHeaderThread disk sets g (drop count hs) head.chain head.p head.rest = known_thread disk history hs sets g count r head in
       let passes = accepted_passes disk head.chain head.p head.rest members [] sets known.chain_is bytes known.sets_len known.owns known.described (subst (IsAccepted disk) head.parts a) in
       let most = passed_reads disk [] (pairs_gstate ps) true (head.p ∷ head.rest) members empty_scan sets passes.0 passes.1 known.described passes.2 in
@@ -136,11 +117,11 @@ thread_reads-no_fewer disk (p ∷ ps) =
     omega (arith, more, three, rest)
 
 -- the thread is read, and then its image is checked
-pub mount_few : (old disk now : Disk) (items hs : List PairHeader) (ps qs : List Pair) (first mid last : ℕ) → disk ≡ old → now ≡ disk → hs ≡ items → pairs_of_headers disk items ≡ ps → qs ≡ pairs_of_headers now items
-    → mid ≡ first + thread_reads old ps → last ≤ mid + check_reads disk (pairs_of_headers disk hs) → last ≤ first + mount_reads old qs
+pub mount_few : (old disk now : Disk) (items hs : List PairHeader) (ps qs : List Pair) (first mid last : ℕ) → disk ≡ old → now ≡ disk → hs ≡ items → header_pairs disk items ≡ ps → qs ≡ header_pairs now items
+    → mid ≡ first + thread_reads old ps → last ≤ mid + check_reads disk (header_pairs disk hs) → last ≤ first + mount_reads old qs
 mount_few old disk now items hs ps qs first mid last from same is kept shown read check =
-    let pairs : qs ≡ pairs_of_headers disk items = shown ∙ ap (λ (d : Disk). pairs_of_headers d items) same in
+    let pairs : qs ≡ header_pairs disk items = shown ∙ ap (λ (d : Disk). header_pairs d items) same in
     let headers : thread_reads old ps ≡ thread_reads old qs = ap (thread_reads old) (sym kept ∙ sym pairs) in
-    let most : check_reads disk (pairs_of_headers disk hs) ≡ check_reads old qs =
-    ap (λ (xs : List PairHeader). check_reads disk (pairs_of_headers disk xs)) is ∙ ap (check_reads disk) (sym pairs) ∙ ap (λ (d : Disk). check_reads d qs) from in
+    let most : check_reads disk (header_pairs disk hs) ≡ check_reads old qs =
+    ap (λ (xs : List PairHeader). check_reads disk (header_pairs disk xs)) is ∙ ap (check_reads disk) (sym pairs) ∙ ap (λ (d : Disk). check_reads d qs) from in
     omega (arith, read, check, headers, most)

@@ -1,26 +1,14 @@
 -- From the parts of the check to the image.
 use Rattle.std.proofs.Common.{ℕ, ◌≡◌, inr, ◌++◌, List, ◌∷◌, Option, drop, sym, ap, subst, ◌∙◌}
-use Rattle.lfs_model.specs.layers.BlockSets.{BlockStates}
-use Rattle.lfs_model.specs.format.Disk.{Disk}
-use Rattle.lfs_model.specs.session.History.{CallEvent}
-use Rattle.lfs_model.specs.format.Slots.{Gstate}
-use Rattle.lfs_model.specs.format.Thread.{Pair, pairs_gstate}
-use Rattle.lfs_model.specs.tree.View.{IsAccepted, HasValidMove}
-use Rattle.lfs_model.specs.tree.Shown.{used_blocks}
-use Rattle.lfs_model.specs.layers.Violations.{Breaks, BreaksPairs}
+use Rattle.lfs_mount.proofs.Common.{BlockStates, Disk, CallEvent, Gstate, Pair, pairs_gstate, IsAccepted, HasValidMove, used_blocks, Breaks, BreaksPairs, PairHeader, header_pairs, IsHeadersVerdict, MapUsesBlocks, IsThreadVerdict, AreThreadHeaders, HasChain, IsThreadRead, IsHeaderThread, HaveGstate, NamesMovedEntry}
 use Rattle.lfs_model.specs.declared.violations.Violation.{Violation}
-use Rattle.lfs_thread.specs.Kept.{PairHeader, pairs_of_headers}
-use Rattle.lfs_mount.specs.Accepted.{HasAcceptedIf, MapUsesBlocks, IsAcceptedIf}
-use Rattle.lfs_mount.specs.SuperblockChain.{AreThreadHeaders, HasChain}
-use Rattle.lfs_mount.specs.Members.{IsThreadRead, IsHeaderThread}
-use Rattle.lfs_mount.specs.MoveChecks.{HaveGstate, NamesMovedEntry}
 use Rattle.lfs_mount.proofs.KnownMoves.{directories_behind, joined_global}
 use Rattle.lfs_mount.proofs.KnownThread.{known_thread}
 
 pub has_headers : (disk : Disk) (history : List CallEvent) (hs : List PairHeader) (sets : BlockStates) (g : Gstate) → IsThreadRead disk history hs sets g → AreThreadHeaders disk history hs
 has_headers disk history hs sets g r = record { each = r.kept.each; thread = r.thread }
 
-module _ (disk : Disk) (history : List CallEvent) (hs : List PairHeader) (sets : BlockStates) (g : Gstate) (count : ℕ) (r : IsThreadRead disk history hs sets g) (head : HasChain disk (pairs_of_headers disk hs) count) where
+module _ (disk : Disk) (history : List CallEvent) (hs : List PairHeader) (sets : BlockStates) (g : Gstate) (count : ℕ) (r : IsThreadRead disk history hs sets g) (head : HasChain disk (header_pairs disk hs) count) where
   abbrev dirs : List PairHeader
   dirs = drop count hs
 
@@ -32,7 +20,7 @@ module _ (disk : Disk) (history : List CallEvent) (hs : List PairHeader) (sets :
 
   -- what the pairs of the thread break, the disk breaks
   breaks : (violation : Violation) → BreaksPairs disk (head.chain ++ head.p ∷ head.rest) violation → Breaks disk violation
-  breaks violation h = inr (pairs_of_headers disk hs, (r.thread, subst (λ ps. BreaksPairs disk ps violation) (sym head.parts) h))
+  breaks violation h = inr (header_pairs disk hs, (r.thread, subst (λ ps. BreaksPairs disk ps violation) (sym head.parts) h))
 
   pub move_breaks : (xs : List PairHeader) → xs ≡ dirs → (violation : Violation) → ((d : Disk) (chain : List Pair) (p : Pair) (rest : List Pair) → HaveGstate g xs chain p rest → BreaksPairs d (chain ++ p ∷ rest) violation) → Breaks disk violation
   move_breaks xs e violation broken = breaks violation (broken disk head.chain head.p head.rest (subst (λ ys. HaveGstate g ys head.chain head.p head.rest) (sym e) directories))
@@ -44,12 +32,12 @@ module _ (disk : Disk) (history : List CallEvent) (hs : List PairHeader) (sets :
 
   pub has_image : (now : Disk) → now ≡ disk → (new : BlockStates) (xs : List PairHeader) → xs ≡ dirs
       → ((chain : List Pair) (p : Pair) (rest : List Pair) → HaveGstate g xs chain p rest → NamesMovedEntry g (p ∷ rest) → HasValidMove (chain ++ p ∷ rest) g)
-      → (broken_rule : Option Violation) → ((chain : List Pair) (p : Pair) (rest : List Pair) → IsHeaderThread now sets g xs chain p rest → IsAcceptedIf now broken_rule sets new chain p rest)
-      → HasAcceptedIf disk hs broken_rule sets new
+      → (broken_rule : Option Violation) → ((chain : List Pair) (p : Pair) (rest : List Pair) → IsHeaderThread now sets g xs chain p rest → IsThreadVerdict now broken_rule sets new chain p rest)
+      → IsHeadersVerdict disk hs broken_rule sets new
   has_image now same new xs e move broken_rule judged =
       let ps : List Pair = head.chain ++ head.p ∷ head.rest in
       let thread = subst (λ d. IsHeaderThread d sets g xs head.chain head.p head.rest) (sym same) (subst (λ ys. IsHeaderThread disk sets g ys head.chain head.p head.rest) (sym e) known) in
-      let is : IsAcceptedIf disk broken_rule sets new head.chain head.p head.rest = subst (λ d. IsAcceptedIf d broken_rule sets new head.chain head.p head.rest) same (judged head.chain head.p head.rest thread) in
+      let is : IsThreadVerdict disk broken_rule sets new head.chain head.p head.rest = subst (λ d. IsThreadVerdict d broken_rule sets new head.chain head.p head.rest) same (judged head.chain head.p head.rest thread) in
       let global : g ≡ pairs_gstate ps = r.global ∙ ap pairs_gstate head.parts in
       let has = subst (λ ys. HaveGstate g ys head.chain head.p head.rest) (sym e) directories in
       let moves = move head.chain head.p head.rest has (subst (λ s. NamesMovedEntry s (head.p ∷ head.rest)) (sym global) is.moved) in

@@ -1,28 +1,8 @@
 -- Pairs that keep the rules can be taken.
 use Rattle.std.proofs.Common.{ℕ, zero, suc, ◌≡◌, Bool, true, false, cond, List, [], ◌∷◌, remove, filter, slice_get, Option, Some, None, is_some, refl, sym, ap, ap₂, subst, ◌∙◌, option_and_then, flat_map, not}
 use Rattle.std.specs.Prelude.{All}
-use Rattle.std.proofs.lemmas.Option.{same_Some}
+use Rattle.lfs_mount.proofs.Common.{same_Some, Disk, disk_block, block_entries, Name, BlockStates, RawSlot, RawContent, complete_slots, complete_content, content_after, empty_raw_content, raw_content, AreWellFormed, Slot, Gstate, is_superblock, Pair, starts_superblock, slots_not_moved, unmoved_entries, moved_id, IsTreeEntry, complete_parts, Each, logged, Vertex, DirectoryGraph, NamedReference, raw_slot_entry, scan_after_slots, MarksLists, AddsPair, unmoved_raw_slots, after_superblock, IsDescription, AreDescriptions, AreByteBlocks, scan_after_tail, graph_with_directory, ScansPairs}
 use Rattle.lfs_model.specs.declared.order.NameOrder.{NameOrder}
-use Rattle.lfs_model.specs.format.Disk.{Disk, disk_block}
-use Rattle.lfs_model.specs.format.Log.{block_entries}
-use Rattle.lfs_model.specs.format.Names.{Name}
-use Rattle.lfs_model.specs.layers.BlockSets.{BlockStates}
-use Rattle.lfs_model.specs.format.Content.{RawSlot, RawContent, complete_slots, complete_content, content_after, empty_raw_content, raw_content}
-use Rattle.lfs_model.specs.layers.LoggedContent.{AreWellFormed}
-use Rattle.lfs_model.specs.format.Slots.{Slot, Gstate, is_superblock}
-use Rattle.lfs_model.specs.format.Thread.{Pair, starts_superblock, slots_not_moved, unmoved_entries, moved_id}
-use Rattle.lfs_model.specs.tree.View.{IsTreeEntry}
-use Rattle.lfs_model.proofs.Completed.{complete_parts}
-use Rattle.lfs_model.proofs.Counts.{Each}
-use Rattle.lfs_model.proofs.Logged.{logged}
-use Rattle.lfs_mount.specs.Reaching.{Vertex, DirectoryGraph}
-use Rattle.lfs_mount.specs.DirectoryEntries.{NamedReference, raw_slot_entry}
-use Rattle.lfs_mount.specs.Scanned.{scan_after_slots}
-use Rattle.lfs_mount.specs.Marking.{MarksListsUsed}
-use Rattle.lfs_mount.specs.Taken.{AddsPair, unmoved_raw_slots, after_superblock}
-use Rattle.lfs_mount.specs.Described.{IsDescription, AreDescriptions}
-use Rattle.lfs_device.specs.Bytes.{HoldBytes}
-use Rattle.lfs_mount.specs.Passed.{scan_kept, graph_with_directory, ScansPairs}
 use Rattle.lfs_mount.specs.declared.pass.PairBeforeSlotsAreRead.{PairBeforeSlotsAreRead}
 use Rattle.lfs_mount.proofs.Scans.{entry_none, scan_none}
 use Rattle.lfs_mount.proofs.MarkedLists.{lists_parted}
@@ -87,7 +67,7 @@ can_scan by firsts known raws slots h c entries = go (scan_after_slots by firsts
 -- ---- one pair
 
 pub can_take : (disk : Disk) (firsts : List (ℕ × ℕ)) (g : Gstate) (first : Bool) (p : Pair) (m : PairBeforeSlotsAreRead) (known : Name × Vertex) (sets marked : BlockStates)
-    → HoldBytes disk.blocks → IsDescription disk g first p m → All IsTreeEntry (behind first (slots_not_moved g p)) → IsMovedEntry (moved_id g p) p.content.slots → MarksListsUsed disk sets (lists_of (unmoved_entries g p)) marked
+    → AreByteBlocks disk.blocks → IsDescription disk g first p m → All IsTreeEntry (behind first (slots_not_moved g p)) → IsMovedEntry (moved_id g p) p.content.slots → MarksLists disk sets (lists_of (unmoved_entries g p)) marked
     → (new : Name × Vertex) × AddsPair disk firsts m known sets new marked
 can_take disk firsts g first p m known sets marked bytes h entries moved lists = go (content_after empty_raw_content (block_entries (disk_block disk m.active))) refl
   where
@@ -117,7 +97,7 @@ can_take disk firsts g first p m known sets marked bytes h entries moved lists =
             entries = k.0;
             kept = ap₂ (λ b o. option_and_then (after_superblock b) (unmoved_raw_slots o held.slots)) h.first h.moved ∙ ap (option_and_then (after_superblock first)) u.1 ∙ k.1;
             scan = s.1;
-            lists = subst (λ ls. MarksListsUsed disk sets ls marked) (sym (same_lists disk.order firsts known s.0 k.0 (behind first (without (moved_id g p) p.content.slots)) s.1 are ∙ ap lists_of seen)) lists;
+            lists = subst (λ ls. MarksLists disk sets ls marked) (sym (same_lists disk.order firsts known s.0 k.0 (behind first (without (moved_id g p) p.content.slots)) s.1 are ∙ ap lists_of seen)) lists;
           },
         )
 
@@ -128,13 +108,13 @@ can_take disk firsts g first p m known sets marked bytes h entries moved lists =
 -- ---- all pairs
 
 pub can_pass : (disk : Disk) (firsts : List (ℕ × ℕ)) (g : Gstate) (first : Bool) (ps : List Pair) (ms : List PairBeforeSlotsAreRead) (known : Name × Vertex) (sets end : BlockStates)
-    → HoldBytes disk.blocks → AreDescriptions disk g first ps ms → HaveEntries g first ps → Each (λ p. IsMovedEntry (moved_id g p) p.content.slots) ps
-    → MarksListsUsed disk sets (flat_map (λ p. lists_of (unmoved_entries g p)) ps) end → (graph : DirectoryGraph) × ScansPairs disk firsts known sets ms graph end
+    → AreByteBlocks disk.blocks → AreDescriptions disk g first ps ms → HaveEntries g first ps → Each (λ p. IsMovedEntry (moved_id g p) p.content.slots) ps
+    → MarksLists disk sets (flat_map (λ p. lists_of (unmoved_entries g p)) ps) end → (graph : DirectoryGraph) × ScansPairs disk firsts known sets ms graph end
 can_pass disk firsts g first [] [] known sets end bytes h entries moved lists = ([], (refl, lists.marked))
 can_pass disk firsts g first [] (m ∷ ms) known sets end bytes h entries moved lists = absurd h
 can_pass disk firsts g first (p ∷ ps) [] known sets end bytes h entries moved lists = absurd h
 can_pass disk firsts g first (p ∷ ps) (m ∷ ms) known sets end bytes h entries moved lists =
     let l = lists_parted disk (lists_of (unmoved_entries g p)) (flat_map (λ q. lists_of (unmoved_entries g q)) ps) sets end lists in
     let one = can_take disk firsts g first p m known sets l.0 bytes h.0 entries.0 moved.0 l.1 in
-    let others = can_pass disk firsts g false ps ms (scan_kept m.is_hard one.0) l.0 end bytes h.1 entries.1 moved.1 l.2 in
+    let others = can_pass disk firsts g false ps ms (scan_after_tail m.is_hard one.0) l.0 end bytes h.1 entries.1 moved.1 l.2 in
     (graph_with_directory m.is_hard one.0 others.0, (one.0, l.0, others.0, (one.1, (refl, others.1))))

@@ -1,26 +1,15 @@
 -- How many reads lists and pairs take.
 use Rattle.std.proofs.Common.{ℕ, ◌≡◌, ◌+◌, ◌<◌, List, [], ◌∷◌, length, set, take, get_or, Option, Some, None, sym, ap, ◌∙◌, slice_get, option_and_then, append-nil}
 use Rattle.std.specs.Prelude.{sum_by}
-use Rattle.std.specs.Option.{option_map_or}
-use Rattle.std.proofs.lemmas.List.{length-set, take_more}
+use Rattle.lfs_mount.proofs.Common.{option_map_or, length-set, take_more, BlockStates, Used, RawContent, Disk, Name, lists_view, MarksUsed, raw_slot_lists, Vertex, list_reads, described_lists, pair_reads, AddsPair, raw_entry_slots}
 use Rattle.std.proofs.lemmas.List.Sums.{sum_by_push}
-use Rattle.lfs_model.specs.layers.BlockSets.{BlockStates}
-use Rattle.lfs_model.specs.layers.BlockSets.BlockState.{Used}
-use Rattle.lfs_model.specs.format.Content.{RawContent}
-use Rattle.lfs_model.specs.format.Disk.{Disk}
-use Rattle.lfs_model.specs.format.Names.{Name}
 use Rattle.lfs_tag.specs.declared.content.Slot.{Slot}
-use Rattle.lfs_mount.specs.ListsView.{lists_view}
-use Rattle.lfs_mount.specs.Marking.{MarksBlocksUsed, raw_slot_lists}
-use Rattle.lfs_mount.specs.Reaching.{Vertex}
-use Rattle.lfs_mount.specs.MountReads.{list_reads, described_lists, pair_reads}
-use Rattle.lfs_mount.specs.Taken.{AddsPair, listed_slots}
 use Rattle.lfs_mount.specs.declared.pass.PairBeforeSlotsAreRead.{PairBeforeSlotsAreRead}
 use Rattle.lfs_mount.proofs.MarkedLists.{list_view, lists_next}
 
 -- ---- marks leave as many blocks
 
-pub marks_length : (bs : List ℕ) (old new : BlockStates) → MarksBlocksUsed old bs new → length new ≡ length old
+pub marks_length : (bs : List ℕ) (old new : BlockStates) → MarksUsed old bs new → length new ≡ length old
 marks_length [] old new e = ap length (sym e)
 marks_length (b ∷ bs) old new (free, marks) = marks_length bs (set old b Used) new marks ∙ length-set old b Used
 
@@ -40,7 +29,7 @@ reads_more block_size slots i s l e f =
 pub takes_lists : (disk : Disk) (firsts : List (ℕ × ℕ)) (member : PairBeforeSlotsAreRead) (known new : Name × Vertex) (sets marked : BlockStates) → (t : AddsPair disk firsts member known sets new marked)
     → described_lists disk member ≡ raw_slot_lists t.entries
 takes_lists disk firsts member known new sets marked t =
-    ap (λ (o : Option RawContent). option_map_or raw_slot_lists (option_and_then (λ c. listed_slots member c.slots) o) []) t.content ∙ ap (λ o. option_map_or raw_slot_lists o []) t.kept
+    ap (λ (o : Option RawContent). option_map_or raw_slot_lists (option_and_then (λ c. raw_entry_slots member c.slots) o) []) t.content ∙ ap (λ o. option_map_or raw_slot_lists o []) t.kept
 
 pub pairs_more : (disk : Disk) (members : List PairBeforeSlotsAreRead) (i : ℕ) (d : PairBeforeSlotsAreRead) → i < length members
     → sum_by (pair_reads disk) (take (i + 1) members) ≡ sum_by (pair_reads disk) (take i members) + pair_reads disk (get_or members i d)

@@ -2,19 +2,16 @@
 use Rattle.std.proofs.Common.{◌≡◌, ◌∙◌, List, ap, subst, sym}
 use Rattle.lfs_device.specs.declared.device.BlockDevice.{Ghosts}
 use Rattle.lfs_device.specs.declared.error.Error.TheVariants.{Corrupt}
-use Rattle.lfs_model.specs.layers.BlockSets.{BlockStates}
-use Rattle.lfs_model.specs.format.Disk.{Disk, ordered_disk}
-use Rattle.lfs_model.specs.session.History.{OnlyReadsSince, fault_count}
+use Rattle.lfs_mount.proofs.Common.{BlockStates, Disk, ordered_disk, OnlyReadsSince, fault_count, GivesDeviceBack, KeptThread, PairHeader, ThreadView, disk_of_device}
 use Rattle.lfs_model.specs.declared.order.NameOrder.TheVariants.{LongerFirst}
-use Rattle.lfs_thread.specs.ThreadDevice.{GivesDeviceBackOnlyReadWithError}
 use Rattle.lfs_model.specs.declared.order.NameOrder.{NameOrder}
-use Rattle.lfs_thread.specs.Kept.{KeptThread, PairHeader, ThreadView, disk_of_device, kept_in_order, kept_of_device}
+use Rattle.lfs_thread.specs.Kept.{kept_in_order, kept_of_device}
 use Rattle.lfs_mount.specs.ReadImage.{IsAcceptedIn}
 use Rattle.lfs_mount.specs.declared.orders.OrderViolations.{OrderViolations}
 
 -- the device of a thread that was read, where the image isn't accepted in the order that is wanted
 pub refused_back : {D : Type 0} (g : Ghosts D) (old back : D) (t : ThreadView) (found : OrderViolations) → IsAcceptedIn (disk_of_device g old) (g.history old) t found
-    → ordered_disk t.kept.disk.order (disk_of_device g back) ≡ t.kept.disk → g.history back ≡ t.kept.history → GivesDeviceBackOnlyReadWithError g old back Corrupt
+    → ordered_disk t.kept.disk.order (disk_of_device g back) ≡ t.kept.disk → g.history back ≡ t.kept.history → GivesDeviceBack g old back Corrupt
 refused_back g old back t found read disk history = record {
   disk = ap (ordered_disk LongerFirst) (disk ∙ read.disk_is);
   reads = subst (OnlyReadsSince (g.blocks old) (g.history old)) (sym history) read.reads;

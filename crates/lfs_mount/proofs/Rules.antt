@@ -1,43 +1,16 @@
 -- Pairs that can be taken keep the rules, and what is known of them draws the directories.
 use Rattle.std.proofs.Common.{ℕ, zero, suc, ◌≡◌, ◌==◌, ◌&&◌, not, Bool, true, false, cond, List, [], ◌∷◌, map, drop, remove, filter, slice_get, Option, Some, None, is_some, refl, sym, ap, ap₂, subst, ◌∙◌, arith, option_and_then}
 use Rattle.std.specs.Prelude.{All}
-use Rattle.std.specs.List.{filter_map, cons_option}
-use Rattle.std.proofs.lemmas.Option.{same_Some}
-use Rattle.std.proofs.lemmas.List.Elements.{All-head, All-tail}
+use Rattle.lfs_mount.proofs.Common.{filter_map, cons_option, same_Some, All-head, All-tail, Disk, disk_block, block_entries, Name, BlockStates, RawSlot, RawContent, complete_slots, complete_content, content_after, empty_raw_content, Slot, Gstate, is_superblock, same_pair, Pair, starts_superblock, slots_not_moved, unmoved_entries, is_hard_tail, moved_id, IsTreeEntry, AreComplete, complete_parts, completed_parts, Each, entry_is_other, Vertex, DirectoryGraph, NamedReference, named_reference, raw_slot_entry, scan_with_entries, scan_with_entry, empty_scan, scan_after_slots, MarksLists, list_of_entry, raw_slot_lists, AddsPair, unmoved_raw_slots, after_superblock, raw_entry_slots, IsDescription, AreDescriptions, scan_after_tail, graph_with_directory, ScansPairs, flat_map, block_count, content_at, anchor_address, AreLinked, IsThread, pairs_gstate, count_before_root, pairs_from_root, pair_directories, all_directories, Ends, IsDirectoryGraph, IsThreadGraph, directory_addresses}
 use Rattle.lfs_model.specs.declared.order.NameOrder.{NameOrder}
-use Rattle.lfs_model.specs.format.Disk.{Disk, disk_block}
-use Rattle.lfs_model.specs.format.Log.{block_entries}
-use Rattle.lfs_model.specs.format.Names.{Name}
-use Rattle.lfs_model.specs.layers.BlockSets.{BlockStates}
-use Rattle.lfs_model.specs.format.Content.{RawSlot, RawContent, complete_slots, complete_content, content_after, empty_raw_content}
-use Rattle.lfs_model.specs.format.Slots.{Slot, Gstate, is_superblock, same_pair}
-use Rattle.lfs_model.specs.format.Thread.{Pair, starts_superblock, slots_not_moved, unmoved_entries, is_hard_tail, moved_id}
-use Rattle.lfs_model.specs.tree.View.{IsTreeEntry}
-use Rattle.lfs_model.proofs.Completed.{AreComplete, complete_parts, complete_remove, completed_parts}
-use Rattle.lfs_model.proofs.Counts.{Each}
-use Rattle.lfs_model.proofs.Superblocks.{entry_is_other}
-use Rattle.lfs_mount.specs.Reaching.{Vertex, DirectoryGraph}
-use Rattle.lfs_mount.specs.DirectoryEntries.{NamedReference, named_reference, raw_slot_entry, scan_with_entries, scan_with_entry, empty_scan}
-use Rattle.lfs_mount.specs.Scanned.{scan_after_slots}
-use Rattle.lfs_mount.specs.Marking.{MarksListsUsed, list_of_entry, raw_slot_lists}
-use Rattle.lfs_mount.specs.Taken.{AddsPair, unmoved_raw_slots, after_superblock, listed_slots}
-use Rattle.lfs_mount.specs.Described.{IsDescription, AreDescriptions}
-use Rattle.lfs_mount.specs.Passed.{scan_kept, graph_with_directory, ScansPairs}
+use Rattle.lfs_model.proofs.Completed.{complete_remove}
 use Rattle.lfs_mount.specs.declared.pass.PairBeforeSlotsAreRead.{PairBeforeSlotsAreRead}
 use Rattle.std.proofs.Math.Seq.{drop-nil}
-use Rattle.std.specs.List.{flat_map}
-use Rattle.lfs_model.specs.format.Disk.{block_count}
-use Rattle.lfs_model.specs.format.Content.{content_at}
 use Rattle.lfs_model.specs.format.Slots.{Tail}
-use Rattle.lfs_model.specs.format.Thread.{anchor_address, tail_address_of, AreLinked, IsThread, pairs_gstate, pair_count_before_root, pairs_from_root, pair_directories}
-use Rattle.lfs_model.specs.tree.Shown.{all_directories}
-use Rattle.lfs_model.proofs.Listings.{Ends}
-use Rattle.lfs_mount.specs.DirectoryPlaces.{IsDirectoryGraph}
-use Rattle.lfs_mount.specs.Directories.{IsThreadGraph}
+use Rattle.lfs_model.specs.format.Thread.{tail_target}
 use Rattle.lfs_mount.proofs.Runs.{shown_in, vertices, entries_of, Named, thread_drawn}
 use Rattle.lfs_mount.proofs.MarkedLists.{lists_joined}
 use Rattle.lfs_mount.proofs.Scans.{entry_some, scan_some}
-use Rattle.lfs_model.specs.layers.Steps.{first_pair_addresses}
 
 -- ---- complete slots, some of them taken away
 
@@ -152,10 +125,10 @@ pub record IsTaken (disk : Disk) (firsts : List (ℕ × ℕ)) (g : Gstate) (firs
   pub kept : All IsTreeEntry (behind first (slots_not_moved g p))
   pub entries : All IsTreeEntry (unmoved_entries g p)
   pub known_is : new ≡ scan_with_entries disk.order firsts known (map named_reference (unmoved_entries g p))
-  pub lists : MarksListsUsed disk sets (lists_of (unmoved_entries g p)) marked
+  pub lists : MarksLists disk sets (lists_of (unmoved_entries g p)) marked
   pub moved : IsMovedEntry (moved_id g p) p.content.slots
 
-pub kept_parts : (m : PairBeforeSlotsAreRead) (raws kept : List RawSlot) → listed_slots m raws ≡ Some kept → (mid : List RawSlot) × ((unmoved_raw_slots m.moved raws ≡ Some mid) × (after_superblock m.has_superblock mid ≡ Some kept))
+pub kept_parts : (m : PairBeforeSlotsAreRead) (raws kept : List RawSlot) → raw_entry_slots m raws ≡ Some kept → (mid : List RawSlot) × ((unmoved_raw_slots m.moved raws ≡ Some mid) × (after_superblock m.has_superblock mid ≡ Some kept))
 kept_parts m raws kept e = go (unmoved_raw_slots m.moved raws) refl e
   where
     go : (o : Option (List RawSlot)) → unmoved_raw_slots m.moved raws ≡ o → option_and_then (after_superblock m.has_superblock) o ≡ Some kept
@@ -186,7 +159,7 @@ taken_rules disk firsts g first p m known sets new marked h t =
       kept = subst (λ ss. All IsTreeEntry (behind first ss)) (sym (unmoved-without g p)) (subst (All IsTreeEntry) same s.entries);
       entries = subst (All IsTreeEntry) (same ∙ seen) s.entries;
       known_is = s.same ∙ ap (λ ss. scan_with_entries disk.order firsts known (map named_reference ss)) (same ∙ seen);
-      lists = subst (λ ls. MarksListsUsed disk sets ls marked) (same_lists disk.order firsts known new t.entries s.slots t.scan s.are ∙ ap (filter_map (λ x. list_of_entry (named_reference x))) (same ∙ seen)) t.lists;
+      lists = subst (λ ls. MarksLists disk sets ls marked) (same_lists disk.order firsts known new t.entries s.slots t.scan s.are ∙ ap (filter_map (λ x. list_of_entry (named_reference x))) (same ∙ seen)) t.lists;
       moved = w.entry;
     }
 
@@ -201,11 +174,11 @@ pub record HavePassed (disk : Disk) (firsts : List (ℕ × ℕ)) (g : Gstate) (f
   pub kept : HaveEntries g first ps
   pub entries : Each (λ p. All IsTreeEntry (unmoved_entries g p)) ps
   pub graph_is : graph ≡ vertices disk.order firsts known (map entries_of (shown_in g ps))
-  pub lists : MarksListsUsed disk sets (flat_map (λ p. lists_of (unmoved_entries g p)) ps) end
+  pub lists : MarksLists disk sets (flat_map (λ p. lists_of (unmoved_entries g p)) ps) end
   pub moved : Each (λ p. IsMovedEntry (moved_id g p) p.content.slots) ps
 
 ended-vertices : (by : NameOrder) (hard : Bool) (firsts : List (ℕ × ℕ)) (new : Name × Vertex) (rest : List (Bool × List NamedReference))
-    → graph_with_directory hard new (vertices by firsts (scan_kept hard new) rest) ≡ cond hard (vertices by firsts new rest) (new.1 ∷ vertices by firsts empty_scan rest)
+    → graph_with_directory hard new (vertices by firsts (scan_after_tail hard new) rest) ≡ cond hard (vertices by firsts new rest) (new.1 ∷ vertices by firsts empty_scan rest)
 ended-vertices by true firsts new rest = refl
 ended-vertices by false firsts new rest = refl
 
@@ -217,7 +190,7 @@ passed_rules disk firsts g first [] (m ∷ ms) known sets graph end h t = absurd
 passed_rules disk firsts g first (p ∷ ps) [] known sets graph end h t = absurd h
 passed_rules disk firsts g first (p ∷ ps) (m ∷ ms) known sets graph end h (new, mid, rest, (takes, (e, more))) =
     let one = taken_rules disk firsts g first p m known sets new mid h.0 takes in
-    let others = passed_rules disk firsts g false ps ms (scan_kept m.is_hard new) mid rest end h.1 more in
+    let others = passed_rules disk firsts g false ps ms (scan_after_tail m.is_hard new) mid rest end h.1 more in
     let tail : List (Bool × List NamedReference) = map entries_of (shown_in g ps) in
     record {
       kept = (one.kept, others.kept);
@@ -235,9 +208,9 @@ named_all g [] h = tt
 named_all g (p ∷ ps) h = ((λ k d lt. (h.0 k d lt).name), named_all g ps h.1)
 
 pub passed_draws : (disk : Disk) (g : Gstate) (ps : List Pair) (ms : List PairBeforeSlotsAreRead) (sets : BlockStates) (graph : DirectoryGraph) (end : BlockStates) → Ends ps → AreDescriptions disk g true ps ms
-    → ScansPairs disk (first_pair_addresses (pair_directories g ps)) empty_scan sets ms graph end → IsDirectoryGraph disk.order (pair_directories g ps) graph
+    → ScansPairs disk (directory_addresses (pair_directories g ps)) empty_scan sets ms graph end → IsDirectoryGraph disk.order (pair_directories g ps) graph
 passed_draws disk g ps ms sets graph end ends members passes =
-    let h = passed_rules disk (first_pair_addresses (pair_directories g ps)) g true ps ms empty_scan sets graph end members passes in
+    let h = passed_rules disk (directory_addresses (pair_directories g ps)) g true ps ms empty_scan sets graph end members passes in
     subst (IsDirectoryGraph disk.order (pair_directories g ps)) (sym h.graph_is) (thread_drawn disk.order g ps ends (named_all g ps h.entries))
 
 -- the last pair of a thread has no tail
@@ -245,10 +218,10 @@ pub links_end : (at : Option (ℕ × ℕ)) (ps : List Pair) → AreLinked at ps 
 links_end at [] h = tt
 links_end at (p ∷ []) h = no_tail p.content.tail h.1
   where
-    no_tail : (t : Option Tail) → tail_address_of t ≡ None → is_hard_tail t ≡ false
+    no_tail : (t : Option Tail) → tail_target t ≡ None → is_hard_tail t ≡ false
     no_tail None e = refl
     no_tail (Some t) e = absurd (cc)
-links_end at (p ∷ q ∷ ps) h = links_end (tail_address_of p.content.tail) (q ∷ ps) h.1
+links_end at (p ∷ q ∷ ps) h = links_end (tail_target p.content.tail) (q ∷ ps) h.1
 
 ends_behind : (n : ℕ) (ps : List Pair) → Ends ps → Ends (drop n ps)
 ends_behind zero ps h = h
@@ -257,11 +230,11 @@ ends_behind (suc n) (p ∷ []) h = subst Ends (sym (drop-nil n)) tt
 ends_behind (suc n) (p ∷ q ∷ ps) h = ends_behind n (q ∷ ps) h
 
 pub thread_shows : (disk : Disk) (ps : List Pair) (ms : List PairBeforeSlotsAreRead) (sets : BlockStates) (graph : DirectoryGraph) (end : BlockStates) → IsThread (content_at disk) (block_count disk) ps
-    → AreDescriptions disk (pairs_gstate ps) true (pairs_from_root ps) ms → ScansPairs disk (first_pair_addresses (all_directories ps)) empty_scan sets ms graph end
-    → IsThreadGraph disk.order graph (first_pair_addresses (all_directories ps)) (pairs_gstate ps).sync ps
+    → AreDescriptions disk (pairs_gstate ps) true (pairs_from_root ps) ms → ScansPairs disk (directory_addresses (all_directories ps)) empty_scan sets ms graph end
+    → IsThreadGraph disk.order graph (directory_addresses (all_directories ps)) (pairs_gstate ps).sync ps
 thread_shows disk ps ms sets graph end thread members passes = record {
   distinct = thread.distinct;
-  draws = passed_draws disk (pairs_gstate ps) (pairs_from_root ps) ms sets graph end (ends_behind (pair_count_before_root ps) ps (links_end (Some anchor_address) ps thread.links)) members passes;
+  draws = passed_draws disk (pairs_gstate ps) (pairs_from_root ps) ms sets graph end (ends_behind (count_before_root ps) ps (links_end (Some anchor_address) ps thread.links)) members passes;
   places = refl;
   same = refl;
 }

@@ -1,19 +1,9 @@
 -- From the pairs of a thread to its graph, pair by pair from the front: the run of pairs in hand, and the pairs to come.
 use Rattle.std.proofs.Common.{if◌then◌else◌, ℕ, zero, suc, ◌≡◌, Bool, true, false, cond, List, [], ◌∷◌, ◌++◌, length, map, Some, refl, ap, subst, ◌∙◌, slice_get, append_assoc}
 use Rattle.std.specs.Prelude.{All}
-use Rattle.std.proofs.lemmas.Option.{same_Some}
-use Rattle.std.proofs.lemmas.List.{length-map}
+use Rattle.lfs_mount.proofs.Common.{same_Some, length-map, Name, is_valid_name, Slot, Gstate, Pair, ThreadDirectory, is_hard_tail, unmoved_entries, directories_with_pair, pair_directories, Each, Ends, Vertex, DirectoryGraph, DescribesSlots, IsDirectoryGraph, NamedReference, named_reference, scan_with_entries, empty_scan, directory_addresses}
 use Rattle.lfs_model.specs.declared.order.NameOrder.{NameOrder}
-use Rattle.lfs_model.specs.format.Names.{Name, is_valid_name}
-use Rattle.lfs_model.specs.format.Slots.{Slot, Gstate}
-use Rattle.lfs_model.specs.format.Thread.{Pair, ThreadDirectory, is_hard_tail, unmoved_entries, directories_with_pair, pair_directories}
-use Rattle.lfs_model.proofs.Counts.{Each}
-use Rattle.lfs_model.proofs.Listings.{Ends}
-use Rattle.lfs_mount.specs.Reaching.{Vertex, DirectoryGraph}
-use Rattle.lfs_mount.specs.DirectoryPlaces.{DescribesDirectorySlots, IsDirectoryGraph}
-use Rattle.lfs_mount.specs.DirectoryEntries.{NamedReference, named_reference, scan_with_entries, empty_scan}
 use Rattle.lfs_mount.proofs.Drawn.{IsKnown, known_more, nothing_drawn}
-use Rattle.lfs_model.specs.layers.Steps.{first_pair_addresses}
 
 -- ---- the run of pairs in hand, and the pairs to come
 
@@ -43,7 +33,7 @@ abbrev pub AreDrawn : NameOrder → List ThreadDirectory → List (List Slot) �
 AreDrawn by ds [] [] = Unit {0}
 AreDrawn by ds [] (v ∷ vs) = ⊥
 AreDrawn by ds (s ∷ ss) [] = ⊥
-AreDrawn by ds (s ∷ ss) (v ∷ vs) = DescribesDirectorySlots by ds s v × AreDrawn by ds ss vs
+AreDrawn by ds (s ∷ ss) (v ∷ vs) = DescribesSlots by ds s v × AreDrawn by ds ss vs
 
 -- ---- the same directories from either end
 
@@ -87,10 +77,10 @@ abbrev pub Named : Shown → Type 0
 Named p = All (λ s. is_valid_name s.name ≡ true) p.1
 
 pub runs_drawn : {by : NameOrder} (ds : List ThreadDirectory) (ps : List Shown) (hand : List Slot) (known : Name × Vertex) → Each Named ps → IsKnown by ds hand known
-    → AreDrawn by ds (runs hand ps) (vertices by (first_pair_addresses ds) known (map entries_of ps))
+    → AreDrawn by ds (runs hand ps) (vertices by (directory_addresses ds) known (map entries_of ps))
 runs_drawn {by} ds [] hand known named h = tt
 runs_drawn {by} ds ((true, slots) ∷ ps) hand known named h =
-    runs_drawn ds ps (hand ++ slots) (scan_with_entries by (first_pair_addresses ds) known (map named_reference slots)) named.1 (known_more ds hand slots known named.0 h)
+    runs_drawn ds ps (hand ++ slots) (scan_with_entries by (directory_addresses ds) known (map named_reference slots)) named.1 (known_more ds hand slots known named.0 h)
 runs_drawn {by} ds ((false, slots) ∷ ps) hand known named h =
     ((known_more ds hand slots known named.0 h).drawn, runs_drawn ds ps [] empty_scan named.1 (nothing_drawn by ds))
 
@@ -102,11 +92,11 @@ drawn_len by ds [] (v ∷ vs) h = absurd h
 drawn_len by ds (s ∷ ss) [] h = absurd h
 drawn_len by ds (s ∷ ss) (v ∷ vs) h = ap (λ n. suc n) (drawn_len by ds ss vs h.1)
 
-drawn_at : (by : NameOrder) (ds es : List ThreadDirectory) (graph : DirectoryGraph) → AreDrawn by ds (slots_in es) graph → (i : ℕ) (d : ThreadDirectory) (v : Vertex) → slice_get es i ≡ Some d → slice_get graph i ≡ Some v → DescribesDirectorySlots by ds d.slots v
+drawn_at : (by : NameOrder) (ds es : List ThreadDirectory) (graph : DirectoryGraph) → AreDrawn by ds (slots_in es) graph → (i : ℕ) (d : ThreadDirectory) (v : Vertex) → slice_get es i ≡ Some d → slice_get graph i ≡ Some v → DescribesSlots by ds d.slots v
 drawn_at by ds [] graph h i d v e f = absurd (cc)
 drawn_at by ds (x ∷ es) [] h i d v e f = absurd h
 drawn_at by ds (x ∷ es) (w ∷ vs) h zero d v e f =
-    subst (DescribesDirectorySlots by ds d.slots) (same_Some w v f) (subst (λ (y : ThreadDirectory). DescribesDirectorySlots by ds y.slots w) (same_Some x d e) h.0)
+    subst (DescribesSlots by ds d.slots) (same_Some w v f) (subst (λ (y : ThreadDirectory). DescribesSlots by ds y.slots w) (same_Some x d e) h.0)
 drawn_at by ds (x ∷ es) (w ∷ vs) h (suc i) d v e f = drawn_at by ds es vs h.1 i d v e f
 
 pub draws_from : (by : NameOrder) (ds : List ThreadDirectory) (graph : DirectoryGraph) → AreDrawn by ds (map (λ d. d.slots) ds) graph → IsDirectoryGraph by ds graph
@@ -117,9 +107,9 @@ draws_from by ds graph h = record {
 
 -- pairs taken from the front draw the directories
 pub thread_drawn : (by : NameOrder) (g : Gstate) (ps : List Pair) → Ends ps → Each Named (shown_in g ps)
-    → IsDirectoryGraph by (pair_directories g ps) (vertices by (first_pair_addresses (pair_directories g ps)) empty_scan (map entries_of (shown_in g ps)))
+    → IsDirectoryGraph by (pair_directories g ps) (vertices by (directory_addresses (pair_directories g ps)) empty_scan (map entries_of (shown_in g ps)))
 thread_drawn by g ps ends named =
-    draws_from by (pair_directories g ps) (vertices by (first_pair_addresses (pair_directories g ps)) empty_scan (map entries_of (shown_in g ps)))
-    (subst (λ ss. AreDrawn by (pair_directories g ps) ss (vertices by (first_pair_addresses (pair_directories g ps)) empty_scan (map entries_of (shown_in g ps))))
+    draws_from by (pair_directories g ps) (vertices by (directory_addresses (pair_directories g ps)) empty_scan (map entries_of (shown_in g ps)))
+    (subst (λ ss. AreDrawn by (pair_directories g ps) ss (vertices by (directory_addresses (pair_directories g ps)) empty_scan (map entries_of (shown_in g ps))))
     (directories_from_front g ps ends)
     (runs_drawn (pair_directories g ps) (shown_in g ps) [] empty_scan named (nothing_drawn by (pair_directories g ps))))

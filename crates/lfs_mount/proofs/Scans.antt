@@ -1,22 +1,17 @@
 -- What a scan of slots finds: they are entries of a directory, or they aren't.
 use Rattle.std.proofs.Common.{ℕ, suc, ◌≡◌, ◌/◌, ◌^◌, ◌<◌, ◌==◌, ◌&&◌, ◌||◌, ⊎_elim, Bool, true, false, cond, List, [], ◌∷◌, length, map, Option, Some, None, refl, sym, ap, ap₂, subst, subst₂, ◌∙◌, arith, eqb-true, eq-eqb, option_and_then, option_map, true≢false}
 use Rattle.std.specs.Prelude.{All}
-use Rattle.std.proofs.lemmas.Bool.{and_parts, or_cases, ne_eqb}
-use Rattle.std.proofs.lemmas.List.Elements.{All-head, All-tail, All-cons}
-use Rattle.std.proofs.lemmas.Option.{same_Some}
+use Rattle.lfs_mount.proofs.Common.{and_parts, or_cases, All-head, All-tail, All-cons, same_Some, Name, is_valid_name, Slot, inline_type, directory_type, RawSlot, complete_slot, complete_slots, kind_of_type, read_struct, IsFormedSlot, AreWellFormed, IsTreeEntry, AreComplete, complete_parts, Vertex, HoldsNoneAt, InSlot, InList, Below, struct_reference, NamedReference, named_reference, raw_slot_entry, scan_with_entry, scan_with_entries, scan_after_slots}
+use Rattle.std.proofs.lemmas.Bool.{ne_eqb}
 use Rattle.lfs_model.specs.declared.order.NameOrder.{NameOrder}
-use Rattle.lfs_model.specs.format.Names.{Name, is_valid_name}
 use Rattle.lfs_model.specs.format.Tag.{make_tag, tag_type, tag_length, abstract_type}
-use Rattle.lfs_model.specs.format.Slots.{Slot, File, Directory, Superblock}
-use Rattle.lfs_model.specs.format.EntryTypes.{is_known_tag, is_attribute_removal, allows_any_length, requires_no_bytes, requires_eight_bytes, superblock_name_type, create_tag_type, delete_tag_type, soft_tail_type, hard_tail_type, move_type, read_address, file_name_type, directory_name_type, inline_type, ctz_type, directory_type}
-use Rattle.lfs_model.specs.format.Content.{RawSlot, complete_slot, complete_slots, kind_of_type, read_struct}
-use Rattle.lfs_model.specs.layers.LoggedContent.{IsAllowed, AllowsIfSome, IsSlotWellFormed, AreWellFormed}
-use Rattle.lfs_model.specs.tree.View.{IsTreeEntry, HasKind}
+use Rattle.lfs_model.specs.format.Slots.{File, Directory, Superblock}
+use Rattle.lfs_model.specs.format.EntryTypes.{is_known_tag, is_attribute_removal, allows_any_length, requires_no_bytes, requires_eight_bytes, superblock_name_type, create_tag_type, delete_tag_type, soft_tail_type, hard_tail_type, move_type, read_address, file_name_type, directory_name_type, ctz_type}
+use Rattle.lfs_model.specs.layers.LoggedContent.{IsAllowedPart, AllowsIfSome}
+use Rattle.lfs_model.specs.tree.View.{HasKind}
 use Rattle.lfs_model.proofs.WrittenAnew.{tag_type-make_tag, tag_length-make_tag}
-use Rattle.lfs_model.proofs.Completed.{AreComplete, complete_parts, complete_cons}
-use Rattle.lfs_mount.specs.Reaching.{Vertex}
-use Rattle.lfs_mount.specs.DirectoryEntries.{HoldsNoneAt, EntryReference, InSlot, InList, Below, struct_reference, NamedReference, named_reference, raw_reference, raw_slot_entry, scan_with_entry, scan_with_entries}
-use Rattle.lfs_mount.specs.Scanned.{scan_after_slots}
+use Rattle.lfs_model.proofs.Completed.{complete_cons}
+use Rattle.lfs_mount.specs.DirectoryEntries.{EntryReference, raw_reference}
 
 -- ---- one slot that is an entry
 
@@ -101,7 +96,7 @@ data PartType (type : ℕ) (bytes : List ℕ) : Type 0 where
   pair_there : type ≡ directory_type → length bytes ≡ 8 → PartType type bytes
   list_there : type ≡ ctz_type → length bytes ≡ 8 → PartType type bytes
 
-part_type : (type : ℕ) (bytes : List ℕ) → IsAllowed 2 (type, bytes) → PartType type bytes
+part_type : (type : ℕ) (bytes : List ℕ) → IsAllowedPart 2 (type, bytes) → PartType type bytes
 part_type type bytes h = go (type == inline_type) refl
   where
     of_class : type / 2 ^ 8 ≡ 2
@@ -151,7 +146,7 @@ name_type kind = go (kind == file_name_type) (kind == directory_name_type) refl 
     go false false e f = other_there (ap₂ (λ x y. cond x File (cond y Directory Superblock)) e f)
 
 -- a kind and a struct that suit stand for something
-stands : (kind type : ℕ) (bytes : List ℕ) → IsAllowed 2 (type, bytes) → HasKind (kind_of_type kind) (read_struct type bytes) → raw_reference kind (type, bytes) ≡ None → ⊥
+stands : (kind type : ℕ) (bytes : List ℕ) → IsAllowedPart 2 (type, bytes) → HasKind (kind_of_type kind) (read_struct type bytes) → raw_reference kind (type, bytes) ≡ None → ⊥
 stands kind type bytes h has_struct_of_its_kind none = go (name_type kind) (part_type type bytes h)
   where
     -- the types written out
@@ -179,10 +174,10 @@ stands kind type bytes h has_struct_of_its_kind none = go (name_type kind) (part
     go (directory_there e) (list_there f l) = reported directory_name_type ctz_type e f
     go (other_there e) p = subst (λ k. HasKind k (read_struct type bytes)) e has_struct_of_its_kind
 
-pub entry_none : (s : RawSlot) (t : Slot) → IsSlotWellFormed s → raw_slot_entry s ≡ None → complete_slot s ≡ Some t → IsTreeEntry t → ⊥
+pub entry_none : (s : RawSlot) (t : Slot) → IsFormedSlot s → raw_slot_entry s ≡ None → complete_slot s ≡ Some t → IsTreeEntry t → ⊥
 entry_none s t parts none is entry = go s.name s.struct parts.struct none is
   where
-    below_name : (n p : ℕ × List ℕ) → IsAllowed 2 p → (b : Bool) → is_valid_name n.1 ≡ b → (o : Option EntryReference) → raw_reference n.0 p ≡ o
+    below_name : (n p : ℕ × List ℕ) → IsAllowedPart 2 p → (b : Bool) → is_valid_name n.1 ≡ b → (o : Option EntryReference) → raw_reference n.0 p ≡ o
         → cond b (option_map {U = NamedReference} (λ stand. (n.1, stand)) o) None ≡ None → record { kind = kind_of_type n.0; name = n.1; struct = read_struct p.0 p.1; attributes = s.attributes } ≡ t → ⊥
     below_name n p h true f None g e same = stands n.0 p.0 p.1 h (subst (λ (u : Slot). HasKind u.kind u.struct) (sym same) entry.struct) g
     below_name n p h true f (Some stand) g e same = absurd (cc)

@@ -1,10 +1,10 @@
 -- How many slots a block's log comes to.
 use Rattle.std.proofs.Common.{ℕ, ◌≡◌, ◌+◌, ◌-◌, ◌<◌, ◌≤◌, ◌^◌, List, [], ◌∷◌, length, replicate, Some, ap, ◌∙◌, arith}
-use Rattle.std.proofs.lemmas.List.{length-append, length-replicate, length-set}
+use Rattle.lfs_mount.proofs.Common.{length-replicate, length-set, option_and_then_some, same_Some, RawSlot, RawContent, content_after, empty_raw_content, block_entries}
+use Rattle.std.proofs.lemmas.List.{length-append}
 use Rattle.std.proofs.lemmas.List.Edits.{length-insert, length-remove}
-use Rattle.std.proofs.lemmas.Option.{option_and_then_some, same_Some}
-use Rattle.lfs_model.specs.format.Content.{RawSlot, RawContent, attributes_after, content_after, content_after_one, empty_raw_content, empty_slot, changed_at, slot_of_id, slots_padded_to, type_and_bytes}
-use Rattle.lfs_model.specs.format.Log.{LogEntry, block_entries}
+use Rattle.lfs_model.specs.format.Content.{attributes_after, content_after_one, empty_slot, changed_at, slot_of_id, padded_slots, type_and_bytes}
+use Rattle.lfs_model.specs.format.Log.{LogEntry}
 use Rattle.lfs_model.specs.format.Tag.{tag_id}
 use Rattle.lfs_tag.proofs.Effects.{Effect, attributes, creates, deletes, effect, names, rests, structures}
 use Rattle.lfs_tag.proofs.Ranks.{few_entries}
@@ -16,7 +16,7 @@ length-changed f slots id = length-set slots id (f (slot_of_id slots id))
 one_more : (n : ℕ) (s t : List RawSlot) (e : LogEntry) → length s ≤ 1024 + n → Effect s t e → length t ≤ 1024 + n + 1
 one_more n s t e few (rests high same) = let l = ap length same in omega arith
 one_more n s t e few (names class keeps is) =
-    let l = ap length is ∙ length-changed (λ r. record r { name = type_and_bytes e }) (slots_padded_to s (tag_id e.tag)) (tag_id e.tag) in
+    let l = ap length is ∙ length-changed (λ r. record r { name = type_and_bytes e }) (padded_slots s (tag_id e.tag)) (tag_id e.tag) in
     let padded = length-append s (replicate (tag_id e.tag + 1 - length s) empty_slot) in
     let more = length-replicate (tag_id e.tag + 1 - length s) empty_slot in
     let small : tag_id e.tag < 1024 = omega arith in

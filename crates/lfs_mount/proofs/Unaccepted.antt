@@ -1,14 +1,11 @@
 -- An image that breaks a rule isn't accepted.
 use Rattle.std.proofs.Common.{◌≡◌, inl, true, List, Option, Some, None, is_some, refl}
 use Rattle.lfs_device.specs.declared.error.Error.TheVariants as error
-use Rattle.lfs_model.specs.format.Disk.{Disk, ordered_disk}
-use Rattle.lfs_model.specs.format.Thread.{Pair}
-use Rattle.lfs_model.specs.tree.View.{IsAccepted}
-use Rattle.lfs_model.specs.layers.Violations.{Breaks}
+use Rattle.lfs_mount.proofs.Common.{Disk, ordered_disk, Pair, IsAccepted, Breaks, accepted_breaks_none, error_of_mount}
 use Rattle.lfs_model.specs.declared.violations.Violation.{Violation}
 use Rattle.lfs_model.specs.declared.order.NameOrder.{NameOrder}
-use Rattle.lfs_model.proofs.BrokenRules.{accepted_breaks_none, thread_breaks_in_order}
-use Rattle.lfs_thread.specs.MountErrors.{IsViolationTrue, error_of_mount}
+use Rattle.lfs_model.proofs.BrokenRules.{thread_breaks_in_order}
+use Rattle.lfs_thread.specs.MountErrors.{IsThreadViolation}
 use Rattle.lfs_thread.specs.declared.mount_error.MountError.{MountError}
 use Rattle.lfs_thread.specs.declared.mount_error.MountError.TheVariants as mount
 use Rattle.lfs_mount.specs.TrueViolation.{IsTrueViolation}
@@ -29,7 +26,7 @@ found_broken disk None some broken ps a = absurd (cc)
 found_broken disk (Some violation) some broken ps a = accepted_breaks_none disk violation (broken violation refl) ps a
 
 -- the thread is the same in each order of names
-pub thread_violation : (order : NameOrder) (disk : Disk) (e : MountError) → IsViolationTrue disk e → IsTrueViolation (ordered_disk order disk) e
+pub thread_violation : (order : NameOrder) (disk : Disk) (e : MountError) → IsThreadViolation disk e → IsTrueViolation (ordered_disk order disk) e
 thread_violation order disk (mount.Corrupt violation) broken = inl (thread_breaks_in_order order disk violation broken)
 thread_violation order disk mount.Io broken = tt
 thread_violation order disk mount.NoMemory broken = tt

@@ -1,26 +1,8 @@
 -- What is known of directories names places that there are.
 use Rattle.std.proofs.Common.{ℕ, suc, ◌≡◌, ◌<◌, ◌&&◌, Bool, true, false, cond, List, [], ◌∷◌, ◌++◌, length, Option, Some, None, refl, sym, ap, subst, ◌∙◌, arith, option_map, option_and_then}
 use Rattle.std.specs.Prelude.{All}
-use Rattle.std.proofs.lemmas.Option.{same_Some}
-use Rattle.std.proofs.lemmas.List.{length-map}
-use Rattle.std.proofs.lemmas.List.Elements.{All-from_recursion}
+use Rattle.lfs_mount.proofs.Common.{same_Some, length-map, All-from_recursion, BlockStates, RawSlot, Disk, block_count, Name, Slot, Gstate, same_pair, Pair, ThreadDirectory, directories_with_pair, is_hard_tail, unmoved_entries, pairs_gstate, pairs_from_root, pair_directories, all_directories, Each, each_append, pairs_behind, Vertex, DirectoryGraph, vertex_view, graph_view, address_index, comes_after_name, InSlot, InList, Below, NamedReference, raw_slot_entry, vertex_with_branch, scan_with_entry, empty_scan, scan_after_slots, scan_after_tail, graph_with_directory, ScansPairs, AreDescriptions}
 use Rattle.lfs_model.specs.declared.order.NameOrder.{NameOrder}
-use Rattle.lfs_model.specs.layers.BlockSets.{BlockStates}
-use Rattle.lfs_model.specs.format.Content.{RawSlot}
-use Rattle.lfs_model.specs.format.Disk.{Disk, block_count}
-use Rattle.lfs_model.specs.format.Names.{Name}
-use Rattle.lfs_model.specs.format.Slots.{Slot, Gstate, same_pair}
-use Rattle.lfs_model.specs.format.Thread.{Pair, ThreadDirectory, directories_with_pair, is_hard_tail, unmoved_entries, pairs_gstate, pairs_from_root, pair_directories}
-use Rattle.lfs_model.specs.tree.Shown.{all_directories}
-use Rattle.lfs_model.proofs.Counts.{Each, each_append}
-use Rattle.lfs_model.proofs.Superblocks.{pairs_behind}
-use Rattle.lfs_mount.specs.Reaching.{Vertex, DirectoryGraph}
-use Rattle.lfs_mount.specs.DirectoryView.{vertex_view, graph_view}
-use Rattle.lfs_thread.specs.PairPlaces.{index_of_address}
-use Rattle.lfs_mount.specs.DirectoryEntries.{comes_after_name, InSlot, InList, Below, NamedReference, raw_slot_entry, vertex_with_branch, scan_with_entry, empty_scan}
-use Rattle.lfs_mount.specs.Scanned.{scan_after_slots}
-use Rattle.lfs_mount.specs.Passed.{scan_kept, graph_with_directory, ScansPairs}
-use Rattle.lfs_mount.specs.Described.{AreDescriptions}
 use Rattle.lfs_mount.specs.Checked.{HasDescribed}
 use Rattle.lfs_mount.specs.declared.pass.PairBeforeSlotsAreRead.{PairBeforeSlotsAreRead}
 use Rattle.lfs_mount.specs.declared.reachability.Directory.{Directory}
@@ -29,19 +11,19 @@ use Rattle.lfs_mount.proofs.Ending.{known_drawn}
 abbrev Below_all : ℕ → Vertex → Type 0
 Below_all n v = Each (λ b. b < n) v.branches
 
-place_within : (firsts : List (ℕ × ℕ)) (at : ℕ × ℕ) (i : ℕ) → index_of_address firsts at ≡ Some i → i < length firsts
+place_within : (firsts : List (ℕ × ℕ)) (at : ℕ × ℕ) (i : ℕ) → address_index firsts at ≡ Some i → i < length firsts
 place_within [] at i e = absurd (cc)
-place_within (a ∷ firsts) at i e = go (same_pair a at) (index_of_address firsts at) e (λ j f. place_within firsts at j f)
+place_within (a ∷ firsts) at i e = go (same_pair a at) (address_index firsts at) e (λ j f. place_within firsts at j f)
   where
     go : (b : Bool) (o : Option ℕ) → cond b (Some 0) (option_map (λ j. suc j) o) ≡ Some i → ((j : ℕ) → o ≡ Some j → j < length firsts) → i < suc (length firsts)
     go true o g next = let h = same_Some 0 i g in omega arith
     go false None g next = absurd (cc)
     go false (Some j) g next = let h = same_Some (suc j) i g in let k = next j refl in omega arith
 
-branch_within : (firsts : List (ℕ × ℕ)) (v : Vertex) (to : ℕ × ℕ) → Below_all (length firsts) v → Below_all (length firsts) (vertex_with_branch v (index_of_address firsts to))
-branch_within firsts v to h = go (index_of_address firsts to) refl
+branch_within : (firsts : List (ℕ × ℕ)) (v : Vertex) (to : ℕ × ℕ) → Below_all (length firsts) v → Below_all (length firsts) (vertex_with_branch v (address_index firsts to))
+branch_within firsts v to h = go (address_index firsts to) refl
   where
-    go : (o : Option ℕ) → index_of_address firsts to ≡ o → Below_all (length firsts) (vertex_with_branch v o)
+    go : (o : Option ℕ) → address_index firsts to ≡ o → Below_all (length firsts) (vertex_with_branch v o)
     go None e = h
     go (Some i) e = each_append (λ b. b < length firsts) v.branches (i ∷ []) h (place_within firsts to i e, tt)
 
@@ -60,7 +42,7 @@ scan_within by firsts known new (r ∷ raws) e h =
     let x = parts_of (λ y. scan_after_slots by firsts (scan_with_entry by firsts known y) raws) new (raw_slot_entry r) e in
     scan_within by firsts (scan_with_entry by firsts known x.0) new raws x.1 (entry_within by firsts known x.0 h)
 
-hand_within : (n : ℕ) (hard : Bool) (new : Name × Vertex) → Below_all n new.1 → Below_all n (scan_kept hard new).1
+hand_within : (n : ℕ) (hard : Bool) (new : Name × Vertex) → Below_all n new.1 → Below_all n (scan_after_tail hard new).1
 hand_within n true new h = h
 hand_within n false new h = tt
 
@@ -74,7 +56,7 @@ passes_within disk firsts known sets [] graph end (e, f) h = subst (Each (Below_
 passes_within disk firsts known sets (m ∷ ms) graph end (new, mid, rest, (takes, (e, more))) h =
     let k = scan_within disk.order firsts known new takes.entries takes.scan h in
     subst (Each (Below_all (length firsts))) (sym e)
-    (ended_within (length firsts) m.is_hard new rest k (passes_within disk firsts (scan_kept m.is_hard new) mid ms rest end more (hand_within (length firsts) m.is_hard new k)))
+    (ended_within (length firsts) m.is_hard new rest k (passes_within disk firsts (scan_after_tail m.is_hard new) mid ms rest end more (hand_within (length firsts) m.is_hard new k)))
 
 -- ---- the directories of the code
 

@@ -8,7 +8,7 @@ use Rattle.lfs_model.specs.tree.Shown.{used_blocks}
 use Rattle.lfs_model.specs.layers.Violations.{Breaks, BreaksPairs}
 use Rattle.lfs_model.specs.declared.violations.Violation.{Violation}
 use Rattle.lfs_model.specs.session.History.{CallEvent, OnlyReadsSince, fault_count}
-use Rattle.lfs_thread.specs.Kept.{PairHeader, ThreadView, pairs_of_headers}
+use Rattle.lfs_thread.specs.Kept.{PairHeader, ThreadView, header_pairs}
 use Rattle.lfs_mount.specs.Checked.{HasSuperblockChain}
 use Rattle.lfs_mount.specs.MoveChecks.{NamesMovedEntry}
 
@@ -21,7 +21,7 @@ pub record MapUsesBlocks (old new : BlockStates) (bs : List ℕ) : Type 0 where
 -- The slot that a set move names is an entry. Where the superblock's pairs are right, the map has the image's blocks. Where the
 -- move is right too, the image is accepted if its directories break no rule in the disk's order of names. If they break one, the
 -- pairs of the thread do.
-pub record IsAcceptedIf (disk : Disk) (broken_rule : Option Violation) (old new : BlockStates) (chain : List Pair) (p : Pair) (rest : List Pair) : Type 0 where
+pub record IsThreadVerdict (disk : Disk) (broken_rule : Option Violation) (old new : BlockStates) (chain : List Pair) (p : Pair) (rest : List Pair) : Type 0 where
   pub moved : NamesMovedEntry (pairs_gstate (chain ++ p ∷ rest)) (p ∷ rest)
   pub marked : (bytes : List ℕ) → HasSuperblockChain disk chain p rest bytes → MapUsesBlocks old new (used_blocks disk (chain ++ p ∷ rest))
   pub accepted : broken_rule ≡ None → (bytes : List ℕ) → HasSuperblockChain disk chain p rest bytes → HasValidMove (chain ++ p ∷ rest) (pairs_gstate (chain ++ p ∷ rest)) → IsAccepted disk (chain ++ p ∷ rest)
@@ -29,9 +29,9 @@ pub record IsAcceptedIf (disk : Disk) (broken_rule : Option Violation) (old new 
 
 -- The map has the image's blocks. The image is accepted if its directories break no rule in the disk's order of names. If they
 -- break one, the disk does.
-pub record HasAcceptedIf (disk : Disk) (headers : List PairHeader) (broken_rule : Option Violation) (old new : BlockStates) : Type 0 where
-  pub marked : MapUsesBlocks old new (used_blocks disk (pairs_of_headers disk headers))
-  pub accepted : broken_rule ≡ None → IsAccepted disk (pairs_of_headers disk headers)
+pub record IsHeadersVerdict (disk : Disk) (headers : List PairHeader) (broken_rule : Option Violation) (old new : BlockStates) : Type 0 where
+  pub marked : MapUsesBlocks old new (used_blocks disk (header_pairs disk headers))
+  pub accepted : broken_rule ≡ None → IsAccepted disk (header_pairs disk headers)
   pub broken : (violation : Violation) → broken_rule ≡ Some violation → Breaks disk violation
 
 -- The thread of an accepted image, whose device was only read, without a fault. The map has all blocks. None but the image's are

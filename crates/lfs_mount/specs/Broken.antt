@@ -11,8 +11,8 @@ use Rattle.lfs_model.specs.declared.violations.Violation.{Violation}
 use Rattle.lfs_model.specs.declared.violations.Violation.TheVariants as violation
 use Rattle.lfs_tag.specs.KindView.{is_superblock_tag}
 use Rattle.lfs_mount.specs.DirectoryEntries.{HoldsNoneAt, raw_slot_entry}
-use Rattle.lfs_mount.specs.Marking.{MarksBlocksUsed, MeetsTakenBlock, raw_slot_lists, blocks_last_first, list_of_entry}
-use Rattle.lfs_mount.specs.Taken.{kept_slot_number, unmoved_raw_slots, after_superblock, listed_slots}
+use Rattle.lfs_mount.specs.Marking.{MarksUsed, MeetsTaken, raw_slot_lists, blocks_last_first, list_of_entry}
+use Rattle.lfs_mount.specs.Taken.{kept_slot_number, unmoved_raw_slots, after_superblock, raw_entry_slots}
 use Rattle.lfs_mount.specs.declared.pass.PairBeforeSlotsAreRead.{PairBeforeSlotsAreRead}
 
 -- ---- slots before some are removed
@@ -21,7 +21,7 @@ abbrev pub raw_block_slots : List ℕ → Option (List RawSlot)
 raw_block_slots block = option_map (λ c. c.slots) (content_after empty_raw_content (block_entries block))
 
 abbrev pub kept_block_slots : PairBeforeSlotsAreRead → List ℕ → Option (List RawSlot)
-kept_block_slots m block = option_and_then (listed_slots m) (raw_block_slots block)
+kept_block_slots m block = option_and_then (raw_entry_slots m) (raw_block_slots block)
 
 abbrev pub IsSuperblockOrNone : Option RawSlot → Type 0
 IsSuperblockOrNone None = Unit {0}
@@ -65,7 +65,7 @@ list_blocks_before disk kept index = flat_map (blocks_last_first disk) (raw_slot
 
 -- the list is well formed, and this block of it was marked before
 abbrev pub HasTakenBlock : Disk → BlockStates → ℕ × ℕ → ℕ → Type 0
-HasTakenBlock disk old l block = IsSkipList disk.blocks disk.block_size l.0 l.1 × MeetsTakenBlock old (blocks_last_first disk l) block
+HasTakenBlock disk old l block = IsSkipList disk.blocks disk.block_size l.0 l.1 × MeetsTaken old (blocks_last_first disk l) block
 
 -- the list of a slot isn't well formed, or it has a block that was marked before
 abbrev pub BreaksList : Disk → BlockStates → ℕ × ℕ → List ℕ → ℕ → Violation → Type 0
@@ -78,7 +78,7 @@ pub record BreaksKeptList (disk : Disk) (m : PairBeforeSlotsAreRead) (old : Bloc
   pub l : ℕ × ℕ
   pub is : IsSlotList kept index l
   pub mid : BlockStates
-  pub before : MarksBlocksUsed old (list_blocks_before disk kept index) mid
+  pub before : MarksUsed old (list_blocks_before disk kept index) mid
   pub breaks : BreaksList disk mid l m.at (kept_slot_number m index) v
 
 -- ---- a pair

@@ -5,19 +5,19 @@ use Rattle.lfs_model.specs.layers.BlockSets.{BlockStates}
 use Rattle.lfs_model.specs.format.Content.{current_block, content_at}
 use Rattle.lfs_model.specs.format.Disk.{Disk, block_count}
 use Rattle.lfs_model.specs.format.Slots.{Slot, is_superblock}
-use Rattle.lfs_model.specs.format.Thread.{Pair, IsThread, blocks_of_pairs, first_address, from_first_slots, pairs_gstate, pair_count_before_root}
+use Rattle.lfs_model.specs.format.Thread.{Pair, IsThread, pairs_blocks, first_address, from_first_slots, pairs_gstate, count_before_root}
 use Rattle.lfs_model.specs.tree.View.{HasStruct, BeginsWith, superblock_entry, IsSuperblock, first_slot_name}
 use Rattle.lfs_model.specs.declared.limits.AcceptedVersions.{AcceptedVersions}
 use Rattle.lfs_model.specs.tree.Shown.{all_directories}
 use Rattle.lfs_mount.specs.Marking.{HasUsedBlocks}
 use Rattle.lfs_mount.specs.Described.{AreDescriptions}
 use Rattle.lfs_mount.specs.declared.pass.PairBeforeSlotsAreRead.{PairBeforeSlotsAreRead}
-use Rattle.lfs_model.specs.layers.Steps.{first_pair_addresses}
+use Rattle.lfs_model.specs.layers.Steps.{directory_addresses}
 
 -- the first slot is a superblock's, with this struct but for an accepted version
-abbrev pub BeginsAlone : AcceptedVersions → List ℕ → List Slot → Type 0
-BeginsAlone versions bytes [] = ⊥
-BeginsAlone versions bytes (s ∷ slots) = (is_superblock s ≡ true) × HasStruct versions bytes s
+abbrev pub FirstHasStruct : AcceptedVersions → List ℕ → List Slot → Type 0
+FirstHasStruct versions bytes [] = ⊥
+FirstHasStruct versions bytes (s ∷ slots) = (is_superblock s ≡ true) × HasStruct versions bytes s
 
 -- the pair has the superblock's slot and no other
 pub record HasSuperblockAlone (versions : AcceptedVersions) (bytes : List ℕ) (p : Pair) : Type 0 where
@@ -27,26 +27,26 @@ pub record HasSuperblockAlone (versions : AcceptedVersions) (bytes : List ℕ) (
   pub struct : HasStruct versions bytes slot
 
 -- a pair of the superblock's chain before the root's first one: no slot, or the superblock's slot alone
-abbrev pub HasNothingElse : AcceptedVersions → List ℕ → Pair → Type 0
-HasNothingElse versions bytes p = (p.content.slots ≡ []) ⊎ HasSuperblockAlone versions bytes p
+abbrev pub HasNoEntries : AcceptedVersions → List ℕ → Pair → Type 0
+HasNoEntries versions bytes p = (p.content.slots ≡ []) ⊎ HasSuperblockAlone versions bytes p
 
 -- the superblock's chain up to the root's first pair
 pub record HasSuperblockChain (disk : Disk) (chain : List Pair) (p : Pair) (rest : List Pair) (bytes : List ℕ) : Type 0 where
   pub first : BeginsWith (current_block disk (first_address (from_first_slots (chain ++ p ∷ rest)))) superblock_entry
   pub named : first_slot_name (from_first_slots (chain ++ p ∷ rest)) ≡ Some (codes "littlefs")
   pub struct : IsSuperblock disk bytes
-  pub bare : AllByRecursion (HasNothingElse disk.profile.versions bytes) chain
-  pub start : BeginsAlone disk.profile.versions bytes p.content.slots
+  pub bare : AllByRecursion (HasNoEntries disk.profile.versions bytes) chain
+  pub start : FirstHasStruct disk.profile.versions bytes p.content.slots
 
 -- A thread in three parts: the chain before the root's first pair, that pair, and the others. The blocks of its pairs are marked,
 -- and its directories have their places.
 pub record IsDescribedThread (disk : Disk) (sets : BlockStates) (firsts : List (ℕ × ℕ)) (members : List PairBeforeSlotsAreRead) (sync : Bool) (chain : List Pair) (p : Pair) (rest : List Pair) : Type 0 where
   pub thread : IsThread (content_at disk) (block_count disk) (chain ++ p ∷ rest)
-  pub chain_is : pair_count_before_root (chain ++ p ∷ rest) ≡ length chain
+  pub chain_is : count_before_root (chain ++ p ∷ rest) ≡ length chain
   pub sets_len : length sets ≡ block_count disk
-  pub owns : HasUsedBlocks sets (blocks_of_pairs (chain ++ p ∷ rest))
+  pub owns : HasUsedBlocks sets (pairs_blocks (chain ++ p ∷ rest))
   pub described : AreDescriptions disk (pairs_gstate (chain ++ p ∷ rest)) true (p ∷ rest) members
-  pub places : firsts ≡ first_pair_addresses (all_directories (chain ++ p ∷ rest))
+  pub places : firsts ≡ directory_addresses (all_directories (chain ++ p ∷ rest))
   pub sync_is : (pairs_gstate (chain ++ p ∷ rest)).sync ≡ sync
 
 abbrev pub HasDescribed : Disk → BlockStates → List (ℕ × ℕ) → List PairBeforeSlotsAreRead → Bool → Type 0

@@ -6,7 +6,7 @@ use Rattle.lfs_model.specs.format.Names.{Name, name_cmp, is_less, is_valid_name}
 use Rattle.lfs_model.specs.format.Slots.{Slot, Struct, Inline, Ctz, Branch}
 use Rattle.lfs_model.specs.format.Content.{RawSlot}
 use Rattle.lfs_model.specs.format.EntryTypes.{file_name_type, directory_name_type, inline_type, ctz_type, directory_type, read_address}
-use Rattle.lfs_thread.specs.PairPlaces.{index_of_address}
+use Rattle.lfs_thread.specs.PairPlaces.{address_index}
 use Rattle.lfs_mount.specs.Reaching.{Vertex}
 
 -- what an entry of a directory names, without a file's bytes
@@ -53,7 +53,7 @@ vertex_with_branch v (Some i) = record v { branches = v.branches ++ i ∷ [] }
 abbrev pub vertex_with_entry : List (ℕ × ℕ) → Vertex → EntryReference → Vertex
 vertex_with_entry firsts v InSlot = v
 vertex_with_entry firsts v (InList head size) = v
-vertex_with_entry firsts v (Below to) = vertex_with_branch v (index_of_address firsts to)
+vertex_with_entry firsts v (Below to) = vertex_with_branch v (address_index firsts to)
 
 -- whether a name comes after the last one, which is empty where there is none
 abbrev pub comes_after_name : NameOrder → Name → Name → Bool

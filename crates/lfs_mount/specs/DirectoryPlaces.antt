@@ -21,7 +21,7 @@ slot_branches slots = filter_map (λ s. branch_address s.struct) slots
 
 -- The vertex describes the directory with these slots: whether its names rise, and whether each directory in it is one of the
 -- list. It has their places where each is one.
-pub record DescribesDirectorySlots (by : NameOrder) (ds : List ThreadDirectory) (slots : List Slot) (v : Vertex) : Type 0 where
+pub record DescribesSlots (by : NameOrder) (ds : List ThreadDirectory) (slots : List Slot) (v : Vertex) : Type 0 where
   pub rises : (v.rises ≡ true) ↔ AllPairs (λ a b. name_cmp by a b ≡ Less) (map (λ s. s.name) slots)
   pub leads : (v.leads ≡ true) ↔ All (BeginsAt ds) (slot_branches slots)
   pub branches : v.leads ≡ true → map (λ b. Some b) v.branches ≡ map (directory_index ds) (slot_branches slots)
@@ -29,7 +29,7 @@ pub record DescribesDirectorySlots (by : NameOrder) (ds : List ThreadDirectory) 
 -- the graph of the directories
 pub record IsDirectoryGraph (by : NameOrder) (ds : List ThreadDirectory) (graph : DirectoryGraph) : Type 0 where
   pub len : length graph ≡ length ds
-  pub each : (i : ℕ) (d : ThreadDirectory) (v : Vertex) → slice_get ds i ≡ Some d → slice_get graph i ≡ Some v → DescribesDirectorySlots by ds d.slots v
+  pub each : (i : ℕ) (d : ThreadDirectory) (v : Vertex) → slice_get ds i ≡ Some d → slice_get graph i ≡ Some v → DescribesSlots by ds d.slots v
 
 -- In each directory that a path leads to the names rise. Each path that leads to a directory leads to one of the list. No two
 -- paths lead to the same.

@@ -10,14 +10,14 @@ use Rattle.lfs_model.specs.layers.BlockSets.{BlockStates, IsFree}
 use Rattle.lfs_model.specs.layers.BlockSets.BlockState.{Used}
 
 -- Each block was free, and is used afterwards. A block that comes twice isn't free the second time.
-abbrev pub MarksBlocksUsed : BlockStates → List ℕ → BlockStates → Type 0
-MarksBlocksUsed old [] new = old ≡ new
-MarksBlocksUsed old (b ∷ bs) new = IsFree old b × MarksBlocksUsed (slice_set old b Used) bs new
+abbrev pub MarksUsed : BlockStates → List ℕ → BlockStates → Type 0
+MarksUsed old [] new = old ≡ new
+MarksUsed old (b ∷ bs) new = IsFree old b × MarksUsed (slice_set old b Used) bs new
 
 -- The first blocks were free. This one behind them wasn't, after they were marked.
-abbrev pub MeetsTakenBlock : BlockStates → List ℕ → ℕ → Type 0
-MeetsTakenBlock old [] block = ⊥
-MeetsTakenBlock old (b ∷ bs) block = ((b ≡ block) × ¬ IsFree old b) ⊎ (IsFree old b × MeetsTakenBlock (slice_set old b Used) bs block)
+abbrev pub MeetsTaken : BlockStates → List ℕ → ℕ → Type 0
+MeetsTaken old [] block = ⊥
+MeetsTaken old (b ∷ bs) block = ((b ≡ block) × ¬ IsFree old b) ⊎ (IsFree old b × MeetsTaken (slice_set old b Used) bs block)
 
 -- A walk marks one block. `before` and `after` are the first block so far that wasn't free, if any.
 pub record MarksIfFree (old : BlockStates) (before : Option ℕ) (b : ℕ) (new : BlockStates) (after : Option ℕ) : Type 0 where
@@ -46,11 +46,11 @@ abbrev pub blocks_last_first : Disk → ℕ × ℕ → List ℕ
 blocks_last_first disk l = reverse (blocks_to_head disk.blocks (block_count_for disk.block_size l.1) l.0)
 
 -- the list of that head and size is well formed, and its blocks were free
-pub record MarksListUsed (disk : Disk) (old : BlockStates) (l : ℕ × ℕ) (new : BlockStates) : Type 0 where
+pub record MarksList (disk : Disk) (old : BlockStates) (l : ℕ × ℕ) (new : BlockStates) : Type 0 where
   pub list : IsSkipList disk.blocks disk.block_size l.0 l.1
-  pub marked : MarksBlocksUsed old (blocks_last_first disk l) new
+  pub marked : MarksUsed old (blocks_last_first disk l) new
 
 -- each list is well formed, and the blocks of all of them were free
-pub record MarksListsUsed (disk : Disk) (old : BlockStates) (all : List (ℕ × ℕ)) (new : BlockStates) : Type 0 where
+pub record MarksLists (disk : Disk) (old : BlockStates) (all : List (ℕ × ℕ)) (new : BlockStates) : Type 0 where
   pub lists : All (λ l. IsSkipList disk.blocks disk.block_size l.0 l.1) all
-  pub marked : MarksBlocksUsed old (flat_map (blocks_last_first disk) all) new
+  pub marked : MarksUsed old (flat_map (blocks_last_first disk) all) new

@@ -7,10 +7,10 @@ use Rattle.lfs_model.specs.layers.BlockSets.{AreInFlight, AreUsed, BlockStates}
 use Rattle.lfs_model.specs.format.Content.{content_at}
 use Rattle.lfs_model.specs.format.Disk.{Disk, block_count}
 use Rattle.lfs_model.specs.session.History.{CallEvent}
-use Rattle.lfs_model.specs.format.Thread.{IsThread, Pair, blocks_of_pairs, pairs_gstate, is_hard_tail}
+use Rattle.lfs_model.specs.format.Thread.{IsThread, Pair, pairs_blocks, pairs_gstate, is_hard_tail}
 use Rattle.lfs_tag.specs.ContentView.{tail_view}
 use Rattle.lfs_pair.specs.Pair.{header_address}
-use Rattle.lfs_thread.specs.Kept.{PairHeader, IsKeptOnDisk, pairs_of_headers}
+use Rattle.lfs_thread.specs.Kept.{PairHeader, IsKeptOnDisk, header_pairs}
 use Rattle.lfs_thread.specs.PairPlaces.{blocks_of_addresses}
 use Rattle.lfs_mount.specs.Checked.{HasDescribed, IsDescribedThread}
 use Rattle.lfs_mount.specs.declared.pass.PairBeforeSlotsAreRead.{PairBeforeSlotsAreRead}
@@ -32,28 +32,28 @@ header_description g is_first h = record {
 }
 
 -- what is known of these pairs, of which the first has the superblock
-abbrev pub descriptions_of_headers : Gstate → Bool → List PairHeader → List PairBeforeSlotsAreRead
-descriptions_of_headers g is_first [] = []
-descriptions_of_headers g is_first (h ∷ hs) = header_description g is_first h ∷ descriptions_of_headers g false hs
+abbrev pub header_descriptions : Gstate → Bool → List PairHeader → List PairBeforeSlotsAreRead
+header_descriptions g is_first [] = []
+header_descriptions g is_first (h ∷ hs) = header_description g is_first h ∷ header_descriptions g false hs
 
 -- the addresses at which directories begin: those of pairs that no hard tail names
-abbrev pub header_addresses : Bool → List PairHeader → List (ℕ × ℕ)
-header_addresses begins [] = []
-header_addresses begins (h ∷ hs) = if begins then header_address h ∷ header_addresses (not (has_tail_header h)) hs else header_addresses (not (has_tail_header h)) hs
+abbrev pub directory_beginnings : Bool → List PairHeader → List (ℕ × ℕ)
+directory_beginnings begins [] = []
+directory_beginnings begins (h ∷ hs) = if begins then header_address h ∷ directory_beginnings (not (has_tail_header h)) hs else directory_beginnings (not (has_tail_header h)) hs
 
 -- These are the headers of the directories' pairs in a thread that is known. No two directories begin in the same block.
 pub record AreThreadDirectories (disk : Disk) (sets : BlockStates) (g : Gstate) (headers : List PairHeader) : Type 0 where
-  pub apart : IsDistinct nat_eq (blocks_of_addresses (header_addresses true headers))
-  pub known : HasDescribed disk sets (header_addresses true headers) (descriptions_of_headers g true headers) g.sync
+  pub apart : IsDistinct nat_eq (blocks_of_addresses (directory_beginnings true headers))
+  pub known : HasDescribed disk sets (directory_beginnings true headers) (header_descriptions g true headers) g.sync
 
 -- the thread with these headers
 abbrev pub IsHeaderThread : Disk → BlockStates → Gstate → List PairHeader → List Pair → Pair → List Pair → Type 0
-IsHeaderThread disk sets g headers chain p rest = IsDescribedThread disk sets (header_addresses true headers) (descriptions_of_headers g true headers) g.sync chain p rest
+IsHeaderThread disk sets g headers chain p rest = IsDescribedThread disk sets (directory_beginnings true headers) (header_descriptions g true headers) g.sync chain p rest
 
 -- A thread was read: its headers and the map are kept, and the map has its pairs' blocks only.
 pub record IsThreadRead (disk : Disk) (history : List CallEvent) (headers : List PairHeader) (sets : BlockStates) (g : Gstate) : Type 0 where
   pub kept : IsKeptOnDisk disk history headers sets
-  pub thread : IsThread (content_at disk) (block_count disk) (pairs_of_headers disk headers)
-  pub used : AreUsed sets (blocks_of_pairs (pairs_of_headers disk headers))
+  pub thread : IsThread (content_at disk) (block_count disk) (header_pairs disk headers)
+  pub used : AreUsed sets (pairs_blocks (header_pairs disk headers))
   pub none_in_flight : AreInFlight sets []
-  pub global : g ≡ pairs_gstate (pairs_of_headers disk headers)
+  pub global : g ≡ pairs_gstate (header_pairs disk headers)

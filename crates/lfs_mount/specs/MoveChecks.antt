@@ -2,7 +2,7 @@
 use Rattle.std.specs.Prelude.{ℕ, ◌≡◌, ◌==◌, ◌&&◌, ◌||◌, Bool, false, List, [], ◌∷◌, ◌++◌, length, map, slice_get, Option, Some, None}
 use Rattle.std.specs.List.{AllByRecursion, fold}
 use Rattle.lfs_model.specs.format.Slots.{Gstate, Slot, gstate_xor, zero_gstate, same_pair}
-use Rattle.lfs_model.specs.format.Thread.{Pair, pairs_gstate, pair_count_before_root, moved_id}
+use Rattle.lfs_model.specs.format.Thread.{Pair, pairs_gstate, count_before_root, moved_id}
 use Rattle.lfs_model.specs.tree.View.{IsTreeEntry}
 use Rattle.lfs_tag.specs.FieldsView.{move_view}
 use Rattle.lfs_pair.specs.Pair.{header_address}
@@ -18,14 +18,14 @@ is_among_addresses pair [] = false
 is_among_addresses pair (at ∷ ats) = same_pair pair at || is_among_addresses pair ats
 
 -- whether no move is set, or one of a slot in one of the pairs at these addresses
-abbrev pub is_move_at : Gstate → List (ℕ × ℕ) → Bool
-is_move_at g ats = (g.kind == 0 && g.id == 0 && (g.pair.0 == 0 && g.pair.1 == 0)) || (g.kind == 0x4ff && is_among_addresses g.pair ats)
+abbrev pub is_move_within : Gstate → List (ℕ × ℕ) → Bool
+is_move_within g ats = (g.kind == 0 && g.id == 0 && (g.pair.0 == 0 && g.pair.1 == 0)) || (g.kind == 0x4ff && is_among_addresses g.pair ats)
 
 -- these are the headers of the directories' pairs in a thread with that global state
 pub record HaveGstate (g : Gstate) (headers : List PairHeader) (chain : List Pair) (p : Pair) (rest : List Pair) : Type 0 where
   pub at : map (λ q. q.at) (p ∷ rest) ≡ map header_address headers
   pub global : pairs_gstate (chain ++ p ∷ rest) ≡ g
-  pub chain_is : pair_count_before_root (chain ++ p ∷ rest) ≡ length chain
+  pub chain_is : count_before_root (chain ++ p ∷ rest) ≡ length chain
 
 abbrev pub IsEntryOrNone : Option ℕ → List Slot → Type 0
 IsEntryOrNone None slots = Unit {0}

@@ -20,24 +20,24 @@ branches_at graph v = option_map_or (λ x. x.branches) (slice_get graph v) []
 abbrev pub has_sound_vertex : DirectoryGraph → ℕ → Bool
 has_sound_vertex graph v = option_map_or (λ x. x.rises && x.leads) (slice_get graph v) false
 
-abbrev pub branches_of_option : DirectoryGraph → Option ℕ → List ℕ
-branches_of_option graph None = []
-branches_of_option graph (Some v) = branches_at graph v
+abbrev pub optional_branches : DirectoryGraph → Option ℕ → List ℕ
+optional_branches graph None = []
+optional_branches graph (Some v) = branches_at graph v
 
 -- the directories found so far, and those that the one at place k leads to
 abbrev pub found_with_branches : DirectoryGraph → ℕ → List ℕ → List ℕ
-found_with_branches graph k found = found ++ branches_of_option graph (slice_get found k)
+found_with_branches graph k found = found ++ optional_branches graph (slice_get found k)
 
 -- the directories found from the root, the first found first, after those at the first k places were looked into
-abbrev pub found_after_steps : DirectoryGraph → ℕ → List ℕ
-found_after_steps graph zero = 0 ∷ []
-found_after_steps graph (suc k) = found_with_branches graph k (found_after_steps graph k)
+abbrev pub found_after : DirectoryGraph → ℕ → List ℕ
+found_after graph zero = 0 ∷ []
+found_after graph (suc k) = found_with_branches graph k (found_after graph k)
 
 -- The search has ended: each directory that was found was looked into and is sound. None was found twice.
 pub record EndsSearchSoundly (graph : DirectoryGraph) (k : ℕ) : Type 0 where
-  pub all : length (found_after_steps graph k) ≡ k
-  pub distinct : IsDistinct nat_eq (found_after_steps graph k)
-  pub sound : All (λ v. has_sound_vertex graph v ≡ true) (found_after_steps graph k)
+  pub all : length (found_after graph k) ≡ k
+  pub distinct : IsDistinct nat_eq (found_after graph k)
+  pub sound : All (λ v. has_sound_vertex graph v ≡ true) (found_after graph k)
 
 -- the marks are those of the directories that were found, each once
 pub record AreFoundMarks (marks : List Bool) (found : List ℕ) : Type 0 where
@@ -46,7 +46,7 @@ pub record AreFoundMarks (marks : List Bool) (found : List ℕ) : Type 0 where
   pub only : (v : ℕ) → slice_get marks v ≡ Some true → (i : ℕ) × (slice_get found i ≡ Some v)
 
 -- the number stands at two places of the list
-pub record IsRepeatedNumber (xs : List ℕ) (x : ℕ) : Type 0 where
+pub record IsRepeated (xs : List ℕ) (x : ℕ) : Type 0 where
   pub i : ℕ
   pub j : ℕ
   pub apart : i < j
@@ -54,7 +54,7 @@ pub record IsRepeatedNumber (xs : List ℕ) (x : ℕ) : Type 0 where
   pub other : slice_get xs j ≡ Some x
 
 -- these directories are found, too, each for the first time
-pub record FindsNewDirectories (marks : List Bool) (found branches : List ℕ) (new_marks : List Bool) (new_found : List ℕ) : Type 0 where
+pub record FindsNew (marks : List Bool) (found branches : List ℕ) (new_marks : List Bool) (new_found : List ℕ) : Type 0 where
   pub found_is : new_found ≡ found ++ branches
   pub marked : AreFoundMarks new_marks new_found
   pub len : length new_marks ≡ length marks
@@ -63,5 +63,5 @@ pub record FindsNewDirectories (marks : List Bool) (found branches : List ℕ) (
 pub record AreReachedMarks (graph : DirectoryGraph) (marks : List Bool) : Type 0 where
   pub steps : ℕ
   pub finished : EndsSearchSoundly graph steps
-  pub marked : AreFoundMarks marks (found_after_steps graph steps)
+  pub marked : AreFoundMarks marks (found_after graph steps)
   pub len : length marks ≡ length graph

@@ -7,14 +7,14 @@ use Rattle.lfs_model.specs.format.EntryTypes.{inline_type, superblock_fields}
 use Rattle.lfs_model.specs.format.Disk.{Disk, disk_block, block_count}
 use Rattle.lfs_model.specs.session.History.{CallEvent}
 use Rattle.lfs_model.specs.format.Log.{block_entries}
-use Rattle.lfs_model.specs.format.Thread.{Pair, IsThread, is_hard_tail, pair_count_before_root}
+use Rattle.lfs_model.specs.format.Thread.{Pair, IsThread, is_hard_tail, count_before_root}
 use Rattle.lfs_model.specs.declared.limits.AcceptedVersions.{AcceptedVersions}
 use Rattle.lfs_model.specs.declared.violations.Violation.{Violation}
 use Rattle.lfs_model.specs.declared.violations.Violation.TheVariants as violation
 use Rattle.lfs_model.specs.tree.View.{BeginsWith, accepts_version, superblock_entry}
 use Rattle.lfs_tag.specs.ContentView.{tail_view}
 use Rattle.lfs_tag.specs.KindView.{is_superblock_tag}
-use Rattle.lfs_thread.specs.Kept.{PairHeader, AreHeaders, pairs_of_headers}
+use Rattle.lfs_thread.specs.Kept.{PairHeader, AreHeaders, header_pairs}
 use Rattle.lfs_mount.specs.Checked.{HasSuperblockChain}
 
 -- ---- slots
@@ -94,7 +94,7 @@ first_filled (h ∷ hs) = if h.slot_count == 0 then (if is_hard_tail (option_map
 -- these are the headers of the disk's thread
 pub record AreThreadHeaders (disk : Disk) (history : List CallEvent) (headers : List PairHeader) : Type 0 where
   pub each : AreHeaders disk history headers
-  pub thread : IsThread (content_at disk) (block_count disk) (pairs_of_headers disk headers)
+  pub thread : IsThread (content_at disk) (block_count disk) (header_pairs disk headers)
 
 -- `count` pairs come before the root's first pair
 pub record HasChain (disk : Disk) (ps : List Pair) (count : ℕ) : Type 0 where
@@ -103,6 +103,6 @@ pub record HasChain (disk : Disk) (ps : List Pair) (count : ℕ) : Type 0 where
   pub rest : List Pair
   pub parts : ps ≡ chain ++ p ∷ rest
   pub chain_is : length chain ≡ count
-  pub before : pair_count_before_root ps ≡ count
+  pub before : count_before_root ps ≡ count
   pub bytes : List ℕ
   pub head : HasSuperblockChain disk chain p rest bytes

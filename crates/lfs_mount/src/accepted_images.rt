@@ -12,12 +12,12 @@ ghost use Rattle.lfs_model.specs.declared.order.NameOrder.{NameOrder};
 ghost use Rattle.lfs_model.specs.declared.order.NameOrder.TheVariants.{LongerFirst, ShorterFirst};
 ghost use Rattle.lfs_model.specs.declared.violations.Violation.{Violation};
 ghost use Rattle.lfs_tag.specs.FieldsView.{move_view};
-ghost use Rattle.lfs_thread.specs.ThreadDevice.{GivesDeviceBackOnlyReadWithError};
-ghost use Rattle.lfs_thread.specs.Kept.{disk_of_device, pairs_of_headers};
-ghost use Rattle.lfs_thread.specs.MountErrors.{OnlyReadsUnlessFault, error_of_mount};
-ghost use Rattle.lfs_mount.specs.Accepted.{HasAcceptedIf, IsAcceptedIf, IsMountedOn};
+ghost use Rattle.lfs_thread.specs.ThreadDevice.{GivesDeviceBack};
+ghost use Rattle.lfs_thread.specs.Kept.{disk_of_device, header_pairs};
+ghost use Rattle.lfs_thread.specs.MountErrors.{ReadsReportingFaults, error_of_mount};
+ghost use Rattle.lfs_mount.specs.Accepted.{IsHeadersVerdict, IsThreadVerdict, IsMountedOn};
 ghost use Rattle.lfs_mount.specs.TrueViolation.{IsTrueViolation};
-ghost use Rattle.lfs_mount.specs.Members.{AreThreadDirectories, IsThreadRead, IsHeaderThread, descriptions_of_headers};
+ghost use Rattle.lfs_mount.specs.Members.{AreThreadDirectories, IsThreadRead, IsHeaderThread, header_descriptions};
 ghost use Rattle.lfs_mount.specs.Orders.{violation_in_order};
 ghost use Rattle.lfs_mount.specs.ReadImage.{ReadsLikeMount, IsAcceptedIn};
 ghost use Rattle.lfs_mount.specs.MountReads.{check_reads, pair_reads};
@@ -54,7 +54,7 @@ pub fn mount<D: BlockDevice>(alloc: Global, device: D) -> Result<Thread<D>, (D, 
     ensures longer { IfOk result (λ t. t.kept.disk.order ≡ ShorterFirst → (ps : List ThreadPair) → ¬ IsAccepted (ordered_disk LongerFirst (disk_of_device D.BlockDevice device)) ps) }
     ensures broken { IfErr result (λ e. IsTrueViolation (ordered_disk LongerFirst (disk_of_device D.BlockDevice device)) e.1) }
     ensures corrupt { IfErr result (λ e. error_of_mount e.1 ≡ Error.Corrupt → (order : NameOrder) (ps : List ThreadPair) → ¬ IsAccepted (ordered_disk order (disk_of_device D.BlockDevice device)) ps) }
-    ensures back { IfErr result (λ e. GivesDeviceBackOnlyReadWithError D.BlockDevice device e.0 (error_of_mount e.1)) }
+    ensures back { IfErr result (λ e. GivesDeviceBack D.BlockDevice device e.0 (error_of_mount e.1)) }
     // Those of a fetch and one more for each pair, two more, and one for each block of a file's list.
     ensures few { IfOk result (ReadsLikeMount (disk_of_device D.BlockDevice device) (D.history device)) }
 {
@@ -81,7 +81,7 @@ pub fn mount_in_order<D: BlockDevice>(
     ensures mounted { IfOk result (IsMountedOn (ordered_disk order (disk_of_device D.BlockDevice device)) (D.history device)) }
     ensures broken { IfErr result (λ e. IsTrueViolation (ordered_disk order (disk_of_device D.BlockDevice device)) e.1) }
     ensures corrupt { IfErr result (λ e. error_of_mount e.1 ≡ Error.Corrupt → (ps : List ThreadPair) → ¬ IsAccepted (ordered_disk order (disk_of_device D.BlockDevice device)) ps) }
-    ensures back { IfErr result (λ e. GivesDeviceBackOnlyReadWithError D.BlockDevice device e.0 (error_of_mount e.1)) }
+    ensures back { IfErr result (λ e. GivesDeviceBack D.BlockDevice device e.0 (error_of_mount e.1)) }
     ensures few { IfOk result (ReadsLikeMount (disk_of_device D.BlockDevice device) (D.history device)) }
 {
     let (mut thread, found) = read_and_check(alloc, device)?;
@@ -101,7 +101,7 @@ pub(crate) fn read_and_check<D: BlockDevice>(
 ) -> Result<(Thread<D>, OrderViolations), (D, MountError)>
     ensures read { IfOk result (λ r. IsAcceptedIn (disk_of_device D.BlockDevice device) (D.history device) r.0 r.1) }
     ensures broken { IfErr result (λ e. (order : NameOrder) → IsTrueViolation (ordered_disk order (disk_of_device D.BlockDevice device)) e.1) }
-    ensures back { IfErr result (λ e. GivesDeviceBackOnlyReadWithError D.BlockDevice device e.0 (error_of_mount e.1)) }
+    ensures back { IfErr result (λ e. GivesDeviceBack D.BlockDevice device e.0 (error_of_mount e.1)) }
 {
     let thread = Thread::read(alloc, device)?;
     let state = thread.state();
@@ -129,11 +129,11 @@ fn check_image<D: BlockDevice>(
     state: &MoveState,
 ) -> Result<OrderViolations, MountError>
     requires { IsThreadRead (disk_of_device D.BlockDevice device.old) (D.history device.old) pairs.now map.old (move_view state.now) }
-    ensures image { IfOk result (λ found. (order : NameOrder) → HasAcceptedIf (ordered_disk order (disk_of_device D.BlockDevice device.old)) pairs.now (violation_in_order order found) map.old map.new) }
+    ensures image { IfOk result (λ found. (order : NameOrder) → IsHeadersVerdict (ordered_disk order (disk_of_device D.BlockDevice device.old)) pairs.now (violation_in_order order found) map.old map.new) }
     ensures broken { (v : Violation) → result ≡ Err (MountError.Corrupt v) → (order : NameOrder) → Breaks (ordered_disk order (disk_of_device D.BlockDevice device.old)) v }
-    ensures device { OnlyReadsUnlessFault D.BlockDevice device.old device.new result }
+    ensures device { ReadsReportingFaults D.BlockDevice device.old device.new result }
     ensures few { IfOk result (λ found. (order : NameOrder) → violation_in_order order found ≡ None
-        → read_count (D.history device.new) ≤ read_count (D.history device.old) + check_reads (disk_of_device D.BlockDevice device.old) (pairs_of_headers (disk_of_device D.BlockDevice device.old) pairs.now)) }
+        → read_count (D.history device.new) ≤ read_count (D.history device.old) + check_reads (disk_of_device D.BlockDevice device.old) (header_pairs (disk_of_device D.BlockDevice device.old) pairs.now)) }
 {
     let count = superblock_chain_length(alloc, device, pairs)?;
     let directories = pairs_from_index(pairs, count);
@@ -193,12 +193,12 @@ fn check_directories<D: BlockDevice>(
     requires { AreThreadDirectories (disk_of_device D.BlockDevice device.old) map.old (move_view state.now) pairs.now }
     ensures ok { IfOk result (λ found. (order : NameOrder) (chain : List ThreadPair) (p : ThreadPair) (rest : List ThreadPair)
         → IsHeaderThread (ordered_disk order (disk_of_device D.BlockDevice device.old)) map.old (move_view state.now) pairs.now chain p rest
-        → IsAcceptedIf (ordered_disk order (disk_of_device D.BlockDevice device.old)) (violation_in_order order found) map.old map.new chain p rest) }
+        → IsThreadVerdict (ordered_disk order (disk_of_device D.BlockDevice device.old)) (violation_in_order order found) map.old map.new chain p rest) }
     ensures broken { (v : Violation) → result ≡ Err (MountError.Corrupt v) → (order : NameOrder) (chain : List ThreadPair) (p : ThreadPair) (rest : List ThreadPair)
         → IsHeaderThread (ordered_disk order (disk_of_device D.BlockDevice device.old)) map.old (move_view state.now) pairs.now chain p rest
         → BreaksPairs (ordered_disk order (disk_of_device D.BlockDevice device.old)) (chain ++ p ∷ rest) v }
-    ensures device { OnlyReadsUnlessFault D.BlockDevice device.old device.new result }
-    ensures few { OnOk result (read_count (D.history device.new) ≤ read_count (D.history device.old) + sum_by (pair_reads (disk_of_device D.BlockDevice device.old)) (descriptions_of_headers (move_view state.now) true pairs.now)) }
+    ensures device { ReadsReportingFaults D.BlockDevice device.old device.new result }
+    ensures few { OnOk result (read_count (D.history device.new) ≤ read_count (D.history device.old) + sum_by (pair_reads (disk_of_device D.BlockDevice device.old)) (header_descriptions (move_view state.now) true pairs.now)) }
 {
     let Ok(members) = directory_pairs_of(alloc, state, pairs) else {
         return Err(MountError::NoMemory);

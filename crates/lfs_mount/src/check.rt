@@ -8,9 +8,9 @@ ghost use Rattle.lfs_model.specs.layers.Violations.{BreaksPairs};
 ghost use Rattle.lfs_model.specs.declared.order.NameOrder.{NameOrder};
 ghost use Rattle.lfs_model.specs.declared.violations.Violation.{Violation};
 ghost use Rattle.lfs_mount.specs.Checked.{HasDescribed, IsDescribedThread};
-ghost use Rattle.lfs_mount.specs.Accepted.{IsAcceptedIf};
+ghost use Rattle.lfs_mount.specs.Accepted.{IsThreadVerdict};
 ghost use Rattle.lfs_thread.specs.Kept.{disk_of_device};
-ghost use Rattle.lfs_thread.specs.MountErrors.{OnlyReadsUnlessFault};
+ghost use Rattle.lfs_thread.specs.MountErrors.{ReadsReportingFaults};
 ghost use Rattle.lfs_mount.specs.Orders.{violation_in_order};
 ghost use Rattle.lfs_mount.specs.MountReads.{pair_reads};
 
@@ -48,11 +48,11 @@ pub(crate) fn check_and_mark<D: BlockDevice>(
     requires { HasDescribed (disk_of_device D.BlockDevice device.old) map.old places.now members.now sync }
     ensures ok { IfOk result (λ found. (order : NameOrder) (chain : List Pair) (p : Pair) (rest : List Pair)
         → IsDescribedThread (ordered_disk order (disk_of_device D.BlockDevice device.old)) map.old places.now members.now sync chain p rest
-        → IsAcceptedIf (ordered_disk order (disk_of_device D.BlockDevice device.old)) (violation_in_order order found) map.old map.new chain p rest) }
+        → IsThreadVerdict (ordered_disk order (disk_of_device D.BlockDevice device.old)) (violation_in_order order found) map.old map.new chain p rest) }
     ensures broken { (v : Violation) → result ≡ Err (MountError.Corrupt v) → (order : NameOrder) (chain : List Pair) (p : Pair) (rest : List Pair)
         → IsDescribedThread (ordered_disk order (disk_of_device D.BlockDevice device.old)) map.old places.now members.now sync chain p rest
         → BreaksPairs (ordered_disk order (disk_of_device D.BlockDevice device.old)) (chain ++ p ∷ rest) v }
-    ensures device { OnlyReadsUnlessFault D.BlockDevice device.old device.new result }
+    ensures device { ReadsReportingFaults D.BlockDevice device.old device.new result }
     // One read for each pair, and those of the files' lists.
     ensures few { OnOk result (read_count (D.history device.new) ≤ read_count (D.history device.old) + sum_by (pair_reads (disk_of_device D.BlockDevice device.old)) members.now) }
 {

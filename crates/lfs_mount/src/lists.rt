@@ -8,12 +8,12 @@ ghost use Rattle.lfs_model.specs.layers.BlockSets.BlockState.{Used};
 ghost use Rattle.lfs_model.specs.session.History.{read_count};
 ghost use Rattle.lfs_model.specs.declared.violations.Violation.{Violation};
 ghost use Rattle.lfs_thread.specs.Kept.{disk_of_device};
-ghost use Rattle.lfs_thread.specs.MountErrors.{OnlyReadsUnlessFault};
+ghost use Rattle.lfs_thread.specs.MountErrors.{ReadsReportingFaults};
 ghost use Rattle.lfs_thread.specs.declared.mount_error.MountError.TheVariants.{Corrupt};
 ghost use Rattle.lfs_mount.specs.Broken.{BreaksKeptList, BreaksList};
 ghost use Rattle.lfs_mount.specs.DirectoryEntries.{raw_slot_entry};
 ghost use Rattle.lfs_mount.specs.ListsView.{lists_view, raw_slots_view};
-ghost use Rattle.lfs_mount.specs.Marking.{MarksListUsed, MarksListsUsed, MarksIfFree, list_of_entry};
+ghost use Rattle.lfs_mount.specs.Marking.{MarksList, MarksLists, MarksIfFree, list_of_entry};
 ghost use Rattle.lfs_mount.specs.MountReads.{list_reads};
 ghost use Rattle.lfs_tag.specs.ContentView.{slot_view};
 
@@ -48,9 +48,9 @@ fn mark_slot_list<D: BlockDevice>(
     slot: u32,
     list: (u32, u32),
 ) -> Result<(), MountError>
-    ensures marked { OnOk result (MarksListUsed (disk_of_device D.BlockDevice device.old) map.old list map.new) }
+    ensures marked { OnOk result (MarksList (disk_of_device D.BlockDevice device.old) map.old list map.new) }
     ensures broken { (v : Violation) → result ≡ Err (Corrupt v) → BreaksList (disk_of_device D.BlockDevice device.old) map.old list pair slot v }
-    ensures reading { OnlyReadsUnlessFault D.BlockDevice device.old device.new result }
+    ensures reading { ReadsReportingFaults D.BlockDevice device.old device.new result }
     ensures few { OnOk result (read_count (D.history device.new) ≤ read_count (D.history device.old) + list_reads (D.geometry device.old).block_size list) }
 {
     let mut taken: Option<u32> = None;
@@ -99,9 +99,9 @@ pub(crate) fn mark_slot_lists<D: BlockDevice>(
     slots: &[Slot<'_>],
 ) -> Result<(), MountError>
     requires { length slots.now < 2 ^ 31 }
-    ensures marked { OnOk result (MarksListsUsed (disk_of_device D.BlockDevice device.old) map.old (lists_view slots.now) map.new) }
+    ensures marked { OnOk result (MarksLists (disk_of_device D.BlockDevice device.old) map.old (lists_view slots.now) map.new) }
     ensures broken { (v : Violation) → result ≡ Err (Corrupt v) → BreaksKeptList (disk_of_device D.BlockDevice device.old) member.now map.old (raw_slots_view slots.now) v }
-    ensures reading { OnlyReadsUnlessFault D.BlockDevice device.old device.new result }
+    ensures reading { ReadsReportingFaults D.BlockDevice device.old device.new result }
     ensures few { OnOk result (read_count (D.history device.new) ≤ read_count (D.history device.old) + sum_by (list_reads (D.geometry device.old).block_size) (lists_view slots.now)) }
 {
     for index in 0..slots.len() {

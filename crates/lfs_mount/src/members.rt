@@ -5,7 +5,7 @@ ghost use Rattle.std.specs.List.{IsDistinct};
 ghost use Rattle.lfs_model.specs.format.Slots.{array_address};
 ghost use Rattle.lfs_tag.specs.FieldsView.{move_view};
 ghost use Rattle.lfs_thread.specs.PairPlaces.{blocks_of_addresses};
-ghost use Rattle.lfs_mount.specs.Members.{header_addresses, header_description, descriptions_of_headers, moved_id_at};
+ghost use Rattle.lfs_mount.specs.Members.{directory_beginnings, header_description, header_descriptions, moved_id_at};
 
 use crate::pass::PairBeforeSlotsAreRead;
 use lfs_device::Error;
@@ -45,7 +45,7 @@ pub(crate) fn directory_pairs_of(
     state: &MoveState,
     pairs: &[Pair],
 ) -> Result<Vec<PairBeforeSlotsAreRead>, Error>
-    ensures members { IfOk result (λ members. members.items ≡ descriptions_of_headers (move_view state.now) true pairs.now) }
+    ensures members { IfOk result (λ members. members.items ≡ header_descriptions (move_view state.now) true pairs.now) }
     ensures error { IfErr result (λ e. e ≡ Error.NoMemory) }
 {
     let mut members = Vec::new(alloc);
@@ -58,8 +58,8 @@ pub(crate) fn directory_pairs_of(
 
 // Returns the addresses of the directories of these pairs, from the root's first pair on.
 pub(crate) fn first_addresses(alloc: Global, pairs: &[Pair]) -> Result<PairAddressList, Error>
-    requires { IsDistinct nat_eq (blocks_of_addresses (header_addresses true pairs.now)) }
-    ensures places { IfOk result (λ places. places ≡ header_addresses true pairs.now) }
+    requires { IsDistinct nat_eq (blocks_of_addresses (directory_beginnings true pairs.now)) }
+    ensures places { IfOk result (λ places. places ≡ directory_beginnings true pairs.now) }
     ensures error { IfErr result (λ e. e ≡ Error.NoMemory) }
 {
     let mut places = PairAddressList::new(alloc);

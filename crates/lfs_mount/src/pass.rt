@@ -19,7 +19,7 @@ ghost use Rattle.lfs_mount.specs.MountReads.{pair_reads};
 ghost use Rattle.lfs_mount.specs.Taken.{AddsPair, unmoved_raw_slots, after_superblock};
 ghost use Rattle.lfs_tag.specs.ContentView.{slot_view};
 ghost use Rattle.lfs_thread.specs.Kept.{disk_of_device};
-ghost use Rattle.lfs_thread.specs.MountErrors.{OnlyReadsUnlessFault};
+ghost use Rattle.lfs_thread.specs.MountErrors.{ReadsReportingFaults};
 ghost use Rattle.lfs_thread.specs.declared.mount_error.MountError.TheVariants.{Corrupt, Io};
 
 use crate::directory_scan::ScannedDirectory;
@@ -145,7 +145,7 @@ fn read_active_block<D: BlockDevice>(
     requires { member.now.active < (D.geometry device.old).block_count }
     ensures bytes { IfOk result (λ bytes. bytes.items ≡ block_bytes (D.blocks device.old) member.now.active) }
     ensures sound { (v : Violation) → result ≢ Err (Corrupt v) }
-    ensures reading { OnlyReadsUnlessFault D.BlockDevice device.old device.new result }
+    ensures reading { ReadsReportingFaults D.BlockDevice device.old device.new result }
     ensures once { OnOk result (read_count (D.history device.new) ≡ read_count (D.history device.old) + 1) }
 {
     match read_block(alloc, device, member.active) {
@@ -172,7 +172,7 @@ fn scan_pair<D: BlockDevice>(
     requires { member.now.active < (D.geometry device.old).block_count }
     ensures taken { OnOk result ((order : NameOrder) → AddsPair (ordered_disk order (disk_of_device D.BlockDevice device.old)) places.now member.now (scan_view order known.old) map.old (scan_view order known.new) map.new) }
     ensures broken { (v : Violation) → result ≡ Err (Corrupt v) → (order : NameOrder) → BreaksDescribedPair (ordered_disk order (disk_of_device D.BlockDevice device.old)) member.now map.old v }
-    ensures reading { OnlyReadsUnlessFault D.BlockDevice device.old device.new result }
+    ensures reading { ReadsReportingFaults D.BlockDevice device.old device.new result }
     ensures few { OnOk result (read_count (D.history device.new) ≤ read_count (D.history device.old) + pair_reads (disk_of_device D.BlockDevice device.old) member.now) }
 {
     let bytes = read_active_block(alloc, device, member)?;
@@ -208,7 +208,7 @@ pub(crate) fn scan_pairs<D: BlockDevice>(
     ensures broken { (v : Violation) → result ≡ Err (Corrupt v) → (order : NameOrder) (sync : Bool) (chain : List Pair) (p : Pair) (rest : List Pair)
         → IsDescribedThread (ordered_disk order (disk_of_device D.BlockDevice device.old)) map.old places.now members.now sync chain p rest
         → BreaksPairs (ordered_disk order (disk_of_device D.BlockDevice device.old)) (chain ++ p ∷ rest) v }
-    ensures reading { OnlyReadsUnlessFault D.BlockDevice device.old device.new result }
+    ensures reading { ReadsReportingFaults D.BlockDevice device.old device.new result }
     ensures few { OnOk result (read_count (D.history device.new) ≤ read_count (D.history device.old) + sum_by (pair_reads (disk_of_device D.BlockDevice device.old)) members.now) }
 {
     let mut directories = Vec::new(alloc);

@@ -7,7 +7,7 @@ ghost use Rattle.lfs_model.specs.declared.violations.Violation.{Violation};
 ghost use Rattle.lfs_mount.specs.Directories.{IsTreeOrBreach, BreaksGraphRule};
 ghost use Rattle.lfs_mount.specs.DirectoryView.{graph_view};
 ghost use Rattle.lfs_mount.specs.Orders.{violation_in_order};
-ghost use Rattle.lfs_mount.specs.Reaching.{AreFoundMarks, AreReachedMarks, FindsNewDirectories, IsRepeatedNumber};
+ghost use Rattle.lfs_mount.specs.Reaching.{AreFoundMarks, AreReachedMarks, FindsNew, IsRepeated};
 
 use crate::orders::{NameOrderSet, OrderViolations};
 use lfs_model::{NameOrder, Violation};
@@ -34,8 +34,8 @@ fn mark_branches_found(
 ) -> Result<Option<u32>, MountError>
     requires marked { AreFoundMarks is_found.old.items found.old.items }
     requires within { All (λ b. b < length is_found.old.items) branches.now }
-    ensures found { result ≡ Ok None → FindsNewDirectories is_found.old.items found.old.items branches.now is_found.new.items found.new.items }
-    ensures twice { IfOk result (λ branch. IfSome branch (IsRepeatedNumber (found.old.items ++ branches.now))) }
+    ensures found { result ≡ Ok None → FindsNew is_found.old.items found.old.items branches.now is_found.new.items found.new.items }
+    ensures twice { IfOk result (λ branch. IfSome branch (IsRepeated (found.old.items ++ branches.now))) }
     ensures within { IfOk result (λ branch. IfSome branch (λ b. b < length is_found.old.items)) }
     ensures error { IfErr result (λ e. e ≡ MountError.NoMemory) }
 {

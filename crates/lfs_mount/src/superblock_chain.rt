@@ -10,8 +10,8 @@ ghost use Rattle.lfs_model.specs.layers.Violations.{BreaksPairs};
 ghost use Rattle.lfs_model.specs.declared.order.NameOrder.{NameOrder};
 ghost use Rattle.lfs_model.specs.declared.violations.Violation.{Violation};
 ghost use Rattle.lfs_tag.specs.ContentView.{slot_view};
-ghost use Rattle.lfs_thread.specs.Kept.{disk_of_device, pairs_of_headers};
-ghost use Rattle.lfs_thread.specs.MountErrors.{OnlyReadsUnlessFault};
+ghost use Rattle.lfs_thread.specs.Kept.{disk_of_device, header_pairs};
+ghost use Rattle.lfs_thread.specs.MountErrors.{ReadsReportingFaults};
 ghost use Rattle.lfs_mount.specs.SuperblockChain.{AreThreadHeaders, BreaksFirstSuperblock, HasChain, IsBlockStruct, is_geometry_struct, first_filled, inline_bytes, has_name, may_continue_after, repeats_superblock_struct, first_repeats_superblock, repeats_superblock, first_slot_struct, struct_in_log};
 
 use lfs_device::{AcceptedVersions, BlockDevice, Error, Geometry, read_block};
@@ -163,7 +163,7 @@ fn read_first_struct<D: BlockDevice>(
     requires { pair.now.active < (D.geometry dev.old).block_count }
     ensures found { IfOk result (λ bytes. IsBlockStruct (disk_of_device D.BlockDevice dev.old) pair.now.active bytes.items) }
     ensures broken { (v : Violation) → result ≡ Err (MountError.Corrupt v) → BreaksFirstSuperblock (disk_of_device D.BlockDevice dev.old) pair.now v }
-    ensures device { OnlyReadsUnlessFault D.BlockDevice dev.old dev.new result }
+    ensures device { ReadsReportingFaults D.BlockDevice dev.old dev.new result }
     ensures reads { read_count (D.history dev.new) ≤ read_count (D.history dev.old) + 1 }
 {
     let geometry = dev.geometry();
@@ -195,7 +195,7 @@ fn pair_repeats_superblock<D: BlockDevice>(
     requires bytes { length bytes.now ≡ 24 }
     ensures ok { IfOk result (λ repeats. repeats_superblock (D.geometry dev.old).profile.versions bytes.now (block_bytes (D.blocks dev.old) pair.now.active) ≡ Some repeats) }
     ensures broken { (v : Violation) → result ≡ Err (MountError.Corrupt v) → (v ≡ Violation.OtherSuperblock pair.now.blocks) × (repeats_superblock (D.geometry dev.old).profile.versions bytes.now (block_bytes (D.blocks dev.old) pair.now.active) ≡ None) }
-    ensures device { OnlyReadsUnlessFault D.BlockDevice dev.old dev.new result }
+    ensures device { ReadsReportingFaults D.BlockDevice dev.old dev.new result }
     ensures reads { read_count (D.history dev.new) ≤ read_count (D.history dev.old) + 1 }
 {
     let versions = dev.geometry().profile.versions;
@@ -255,9 +255,9 @@ pub(crate) fn superblock_chain_length<D: BlockDevice>(
     pairs: &[Pair],
 ) -> Result<usize, MountError>
     requires { AreThreadHeaders (disk_of_device D.BlockDevice dev.old) (D.history dev.old) pairs.now }
-    ensures head { IfOk result (HasChain (disk_of_device D.BlockDevice dev.old) (pairs_of_headers (disk_of_device D.BlockDevice dev.old) pairs.now)) }
-    ensures broken { (v : Violation) → result ≡ Err (MountError.Corrupt v) → (order : NameOrder) → BreaksPairs (ordered_disk order (disk_of_device D.BlockDevice dev.old)) (pairs_of_headers (disk_of_device D.BlockDevice dev.old) pairs.now) v }
-    ensures device { OnlyReadsUnlessFault D.BlockDevice dev.old dev.new result }
+    ensures head { IfOk result (HasChain (disk_of_device D.BlockDevice dev.old) (header_pairs (disk_of_device D.BlockDevice dev.old) pairs.now)) }
+    ensures broken { (v : Violation) → result ≡ Err (MountError.Corrupt v) → (order : NameOrder) → BreaksPairs (ordered_disk order (disk_of_device D.BlockDevice dev.old)) (header_pairs (disk_of_device D.BlockDevice dev.old) pairs.now) v }
+    ensures device { ReadsReportingFaults D.BlockDevice dev.old dev.new result }
     ensures reads { IfOk result (λ count. read_count (D.history dev.new) ≤ read_count (D.history dev.old) + count + 2) }
 {
     let Some(first) = first_filled_number(pairs) else {

@@ -1,38 +1,38 @@
 -- A pair that gets more slots or fewer, or is cut, doesn't stay with what it held.
-use Rattle.lfs_operations.proofs.Common.{ℕ, zero, suc, ◌≡◌, ◌≢◌, ◌⊎◌, inl, inr, ◌+◌, ◌<◌, true, false, List, [], ◌∷◌, ◌++◌, length, Option, Some, refl, sym, ap, subst, ◌∙◌, arith, append-nil, append_assoc, length-append, IsDistinct, same_Some, Disk, Gstate, Slot, same_pair, AreLinked, Pair, anchor_address, blocks_of_pairs, tail_address_of, IsAccepted, pair_with_slots, Became, IsCommit, Each, pair_itself, avoids_behind, avoids_front, all_slots, HoldsOfSome, Site, among_parts, thread_at, KeptThread, thread_pair_at, Contains, IsPairTouched, IsPairDropped, content_after_drop}
+use Rattle.lfs_operations.proofs.Common.{ℕ, zero, suc, ◌≡◌, ◌≢◌, ◌⊎◌, inl, inr, ◌+◌, ◌<◌, true, false, List, [], ◌∷◌, ◌++◌, length, Option, Some, refl, sym, ap, subst, ◌∙◌, arith, append-nil, append_assoc, length-append, IsDistinct, same_Some, Disk, Gstate, Slot, same_pair, AreLinked, Pair, anchor_address, pairs_blocks, tail_target, IsAccepted, pair_with_slots, Became, IsCommit, Each, pair_itself, avoids_behind, avoids_front, all_slots, AnyByRecursion, Site, among_parts, thread_at, KeptThread, thread_pair, Contains, IsPairTouched, IsPairDropped, content_after_drop}
 use Rattle.std.proofs.Common.{nat_eq}
 use Rattle.lfs_operations.proofs.DroppedTails.{TwoAt, front_is, gone_is, over_next, two_at, without_is}
 
 -- ---- a pair in a thread
 
-pub among_contains : (p : Pair) (xs : List Pair) → Contains xs p → HoldsOfSome (λ y. y ≡ p) xs
+pub among_contains : (p : Pair) (xs : List Pair) → Contains xs p → AnyByRecursion (λ y. y ≡ p) xs
 among_contains p [] (k, l, e) = absurd (omega arith)
 among_contains p (x ∷ xs) (zero, l, e) = inl e
 among_contains p (x ∷ xs) (suc k, l, e) = inr (among_contains p xs (k, omega arith, e))
 
-avoided : (p : Pair) (xs : List Pair) → Each (λ x. same_pair x.at p.at ≡ false) xs → HoldsOfSome (λ y. y ≡ p) xs → ⊥
+avoided : (p : Pair) (xs : List Pair) → Each (λ x. same_pair x.at p.at ≡ false) xs → AnyByRecursion (λ y. y ≡ p) xs → ⊥
 avoided p [] h a = a
 avoided p (x ∷ xs) h (inl e) = absurd (let k = sym (pair_itself p.at) ∙ ap (λ (y : Pair). same_pair y.at p.at) (sym e) ∙ h.0 in cc)
 avoided p (x ∷ xs) h (inr a) = avoided p xs h.1 a
 
 -- the pair at an address is the only one there
-pub only_there : (xs : List Pair) (q : Pair) (ys : List Pair) (p : Pair) → IsDistinct nat_eq (blocks_of_pairs (xs ++ q ∷ ys)) → q.at ≡ p.at → Contains (xs ++ q ∷ ys) p → q ≡ p
+pub only_there : (xs : List Pair) (q : Pair) (ys : List Pair) (p : Pair) → IsDistinct nat_eq (pairs_blocks (xs ++ q ∷ ys)) → q.at ≡ p.at → Contains (xs ++ q ∷ ys) p → q ≡ p
 only_there xs q ys p distinct e has = go (among_parts (λ y. y ≡ p) xs (q ∷ ys) (among_contains p (xs ++ q ∷ ys) has))
   where
     same : same_pair q.at p.at ≡ true
     same = ap (λ a. same_pair a p.at) e ∙ pair_itself p.at
 
-    go : HoldsOfSome (λ y. y ≡ p) xs ⊎ HoldsOfSome (λ y. y ≡ p) (q ∷ ys) → q ≡ p
+    go : AnyByRecursion (λ y. y ≡ p) xs ⊎ AnyByRecursion (λ y. y ≡ p) (q ∷ ys) → q ≡ p
     go (inl h) = absurd (avoided p xs (avoids_front xs q ys p.at distinct same) h)
     go (inr (inl h)) = h
     go (inr (inr h)) = absurd (avoided p ys (avoids_behind xs q ys p.at distinct same) h)
 
 pub links_behind : (at : Option (ℕ × ℕ)) (xs ys : List Pair) → AreLinked at (xs ++ ys) → (to : Option (ℕ × ℕ)) × AreLinked to ys
 links_behind at [] ys h = (at, h)
-links_behind at (x ∷ xs) ys h = links_behind (tail_address_of x.content.tail) xs ys h.1
+links_behind at (x ∷ xs) ys h = links_behind (tail_target x.content.tail) xs ys h.1
 
 -- no pair's tail names it
-names_another : (xs : List Pair) (f : Pair) (ys : List Pair) → AreLinked (Some anchor_address) (xs ++ f ∷ ys) → IsDistinct nat_eq (blocks_of_pairs (xs ++ f ∷ ys)) → tail_address_of f.content.tail ≡ Some f.at → ⊥
+names_another : (xs : List Pair) (f : Pair) (ys : List Pair) → AreLinked (Some anchor_address) (xs ++ f ∷ ys) → IsDistinct nat_eq (pairs_blocks (xs ++ f ∷ ys)) → tail_target f.content.tail ≡ Some f.at → ⊥
 names_another xs f [] links distinct e = absurd (let k = sym e ∙ (links_behind (Some anchor_address) xs (f ∷ []) links).1.1 in cc)
 names_another xs f (g ∷ ys) links distinct e =
     let k = (links_behind (Some anchor_address) xs (f ∷ g ∷ ys) links).1.1.0 in
@@ -60,19 +60,19 @@ module _ (disk new : Disk) (w : Site) (p q : Pair) (fresh : List ℕ) (l olds ne
       more (omega arith)
 
   -- or its tail names the new one
-  other_tail : (f : Pair) → q ≡ p → q.content.tail ≡ Some (record { hard = true; to = f.at }) → f.content.tail ≡ p.content.tail → tail_address_of f.content.tail ≡ Some f.at
-  other_tail f e first second = ap tail_address_of (second ∙ ap (λ (z : Pair). z.content.tail) (sym e) ∙ first)
+  other_tail : (f : Pair) → q ≡ p → q.content.tail ≡ Some (record { hard = true; to = f.at }) → f.content.tail ≡ p.content.tail → tail_target f.content.tail ≡ Some f.at
+  other_tail f e first second = ap tail_target (second ∙ ap (λ (z : Pair). z.content.tail) (sym e) ∙ first)
 
   pub put_alters : (rest : List Pair) → IsAccepted new (thread_at w (q ∷ rest)) → q.at ≡ p.at → p.content.slots ≡ l ++ (olds ++ r) → all_slots (q ∷ rest) ≡ l ++ (news ++ r) → Became disk p (pair_with_slots (l ++ (news ++ r)) p) q rest
       → Contains (thread_at w (q ∷ rest)) p → ⊥
   put_alters [] ok at was now became has =
       let e = sym (append_assoc w.chain (w.before ++ w.left) (q ∷ behind)) in
-      other_slots (only_there ahead q behind p (subst (λ z. IsDistinct nat_eq (blocks_of_pairs z)) e ok.thread.distinct) at (subst (λ z. Contains z p) e has)) now was
+      other_slots (only_there ahead q behind p (subst (λ z. IsDistinct nat_eq (pairs_blocks z)) e ok.thread.distinct) at (subst (λ z. Contains z p) e has)) now was
   put_alters (f ∷ []) ok at was now became has =
       let e = sym (append_assoc w.chain (w.before ++ w.left) (q ∷ f ∷ behind)) in
-      let is = only_there ahead q (f ∷ behind) p (subst (λ z. IsDistinct nat_eq (blocks_of_pairs z)) e ok.thread.distinct) at (subst (λ z. Contains z p) e has) in
+      let is = only_there ahead q (f ∷ behind) p (subst (λ z. IsDistinct nat_eq (pairs_blocks z)) e ok.thread.distinct) at (subst (λ z. Contains z p) e has) in
       let g = e ∙ sym (append_assoc ahead (q ∷ []) (f ∷ behind)) in
-      names_another (ahead ++ q ∷ []) f behind (subst (λ z. AreLinked (Some anchor_address) z) g ok.thread.links) (subst (λ z. IsDistinct nat_eq (blocks_of_pairs z)) g ok.thread.distinct)
+      names_another (ahead ++ q ∷ []) f behind (subst (λ z. AreLinked (Some anchor_address) z) g ok.thread.links) (subst (λ z. IsDistinct nat_eq (pairs_blocks z)) g ok.thread.distinct)
       (other_tail f is became.0 became.1)
   put_alters (f ∷ g ∷ rest) ok at was now became has = absurd became
 
@@ -93,10 +93,10 @@ drop_alters t front state new low ok d = go (two_at t.pairs front low)
         let here = front_is t front two.ahead p o two.back two.is two.number in
         let next = gone_is t front two.ahead p o two.back two.is two.number in
         let now = d.pairs ∙ without_is t front two.ahead p o two.back two.is two.number c in
-        let same : q ≡ p = only_there two.ahead q two.back p (subst (λ z. IsDistinct nat_eq (blocks_of_pairs z)) now d.thread.distinct) refl (subst (Contains (two.ahead ++ q ∷ two.back)) here (subst (λ z. Contains z (thread_pair_at t front)) now has)) in
+        let same : q ≡ p = only_there two.ahead q two.back p (subst (λ z. IsDistinct nat_eq (pairs_blocks z)) now d.thread.distinct) refl (subst (Contains (two.ahead ++ q ∷ two.back)) here (subst (λ z. Contains z (thread_pair t front)) now has)) in
         let links = (links_behind (Some anchor_address) two.ahead (p ∷ o ∷ two.back) (subst (λ z. AreLinked (Some anchor_address) z) two.is ok.thread.links)).1 in
-        let taken : tail_address_of c.tail ≡ tail_address_of o.content.tail
-        = over_next (thread_pair_at t front).content.tail (thread_pair_at t (front + 1)).content.tail ∙ ap (λ (z : Pair). tail_address_of z.content.tail) next in
-        let names : tail_address_of o.content.tail ≡ Some o.at = sym taken ∙ ap (λ (z : Pair). tail_address_of z.content.tail) same ∙ links.1.0 in
+        let taken : tail_target c.tail ≡ tail_target o.content.tail
+        = over_next (thread_pair t front).content.tail (thread_pair t (front + 1)).content.tail ∙ ap (λ (z : Pair). tail_target z.content.tail) next in
+        let names : tail_target o.content.tail ≡ Some o.at = sym taken ∙ ap (λ (z : Pair). tail_target z.content.tail) same ∙ links.1.0 in
         let is = two.is ∙ sym (append_assoc two.ahead (p ∷ []) (o ∷ two.back)) in
-        names_another (two.ahead ++ p ∷ []) o two.back (subst (λ z. AreLinked (Some anchor_address) z) is ok.thread.links) (subst (λ z. IsDistinct nat_eq (blocks_of_pairs z)) is ok.thread.distinct) names
+        names_another (two.ahead ++ p ∷ []) o two.back (subst (λ z. AreLinked (Some anchor_address) z) is ok.thread.links) (subst (λ z. IsDistinct nat_eq (pairs_blocks z)) is ok.thread.distinct) names

@@ -1,5 +1,5 @@
 -- What the steps of a rename across pairs leave with what it held.
-use Rattle.lfs_operations.proofs.Common.{ℕ, ◌≡◌, ◌-◌, ◌<◌, ◌≤◌, ◌⊎◌, inl, inr, Bool, true, false, List, [], ◌∷◌, ◌++◌, length, None, refl, sym, ap, subst, ◌∙◌, arith, append_assoc, AllByRecursion, IsFree, PairChange, Name, pair_with_slots, Slot, gstate_xor, Pair, blocks_of_pairs, address_blocks, Path, IsAccepted, all_slots_not_moved, used_blocks, SameSlots, Each, number_count, count_append, count_here, each_weaker, once_from_distinct, HoldsOfSome, Site, among_right, dirs_at, file_blocks, two, KeptThread, thread_pair_at, Contains, IsAlteredBlock, IsPairTouched, HasEndedAt, written_at_end, gstate_naming, CanEndSecond, second_commit_pair, number_after_insertion, drops_with_its_slot}
+use Rattle.lfs_operations.proofs.Common.{ℕ, ◌≡◌, ◌-◌, ◌<◌, ◌≤◌, ◌⊎◌, inl, inr, Bool, true, false, List, [], ◌∷◌, ◌++◌, length, None, refl, sym, ap, subst, ◌∙◌, arith, append_assoc, AllByRecursion, IsFree, PairChange, Name, pair_with_slots, Slot, gstate_xor, Pair, pairs_blocks, address_blocks, Path, IsAccepted, all_unmoved_slots, used_blocks, SameSlots, Each, number_occurrences, count_append, count_here, each_weaker, once_from_distinct, AnyByRecursion, Site, among_right, dirs_at, file_blocks, two, KeptThread, thread_pair, Contains, IsTouchedBlock, IsPairTouched, HasEndedAt, written_at_end, gstate_naming, CanEndSecond, second_pair, number_after_insertion, drops_with_its_slot}
 use Rattle.lfs_model.proofs.BlockSets.{Contains-head, Contains-tail}
 use Rattle.lfs_operations.proofs.AlteredBehind.{entered_alters, gone_alters}
 use Rattle.lfs_operations.proofs.MovAcross.{Arranged}
@@ -37,14 +37,14 @@ module _ {t : KeptThread} {sync : Bool} {old_pair : ℕ} {goes : Bool} {new_pair
   place : IsWithin (w.chain ++ two a.b a.front left.os a.mid (x.q ∷ x.more) a.back) x.q x.more
   place = within_two a.b w.chain a.front left.os a.mid x.q x.more a.back
 
-  fresh : (b : ℕ) → 1 ≤ number_count b (blocks_of_pairs x.more) → number_count b (blocks_of_pairs t.pairs) ≡ 0
+  fresh : (b : ℕ) → 1 ≤ number_occurrences b (pairs_blocks x.more) → number_occurrences b (pairs_blocks t.pairs) ≡ 0
   fresh b some =
       let n = not_used t.map (used_blocks t.disk t.pairs) k.ready.used b (x.fresh b some) in
-      let c = count_append b (blocks_of_pairs t.pairs) (file_blocks t.disk (all_slots_not_moved t.pairs)) in
+      let c = count_append b (pairs_blocks t.pairs) (file_blocks t.disk (all_unmoved_slots t.pairs)) in
       omega (arith, n, c)
 
-  there : HoldsOfSome (λ y. y ≡ p) t.pairs
-  there = subst (HoldsOfSome (λ y. y ≡ p)) (sym k.turn.there) (among_right (λ y. y ≡ p) w.chain (dirs_at w (p ∷ [])) (among_right (λ y. y ≡ p) (w.before ++ w.left) (p ∷ (w.right ++ w.after)) (inl refl)))
+  there : AnyByRecursion (λ y. y ≡ p) t.pairs
+  there = subst (AnyByRecursion (λ y. y ≡ p)) (sym k.turn.there) (among_right (λ y. y ≡ p) w.chain (dirs_at w (p ∷ [])) (among_right (λ y. y ≡ p) (w.before ++ w.left) (p ∷ (w.right ++ w.after)) (inl refl)))
 
   -- it has one slot more, or is cut
   pub moved_alters : IsPairTouched t new_pair last
@@ -58,27 +58,27 @@ module _ {t : KeptThread} {sync : Bool} {old_pair : ℕ} {goes : Bool} {new_pair
 
 -- the old one is gone
 pub ended_alters : (t mid m new : KeptThread) (old_pair old_id new_pair : ℕ) → 0 < old_pair → old_pair < length t.pairs → IsAccepted t.disk t.pairs → CanEndSecond t old_pair old_id true new_pair mid
-    → HasEndedAt mid (number_after_insertion old_pair new_pair (length mid.pairs - length t.pairs)) old_id true m → IsAccepted new.disk new.pairs → ((b : ℕ) → number_count b (used_blocks new.disk new.pairs) ≤ number_count b (used_blocks m.disk m.pairs)) → IsPairTouched t (old_pair - 1) new
+    → HasEndedAt mid (number_after_insertion old_pair new_pair (length mid.pairs - length t.pairs)) old_id true m → IsAccepted new.disk new.pairs → ((b : ℕ) → number_occurrences b (used_blocks new.disk new.pairs) ≤ number_occurrences b (used_blocks m.disk m.pairs)) → IsPairTouched t (old_pair - 1) new
 ended_alters t mid m new old_pair old_id new_pair some low ok ends ended now fewer =
-    let b = (thread_pair_at t old_pair).at.0 in
+    let b = (thread_pair t old_pair).at.0 in
     let e = ended.blocks b in
     let f = once_from_distinct (used_blocks mid.disk mid.pairs) ends.can.accepted.owned_once b in
-    let g = ap (λ at. number_count b (address_blocks at)) ends.at in
-    let h = count_here b ((thread_pair_at t old_pair).at.1 ∷ []) in
+    let g = ap (λ at. number_occurrences b (address_blocks at)) ends.at in
+    let h = count_here b ((thread_pair t old_pair).at.1 ∷ []) in
     let i = fewer b in
-    let j = count_append b (blocks_of_pairs new.pairs) (file_blocks new.disk (all_slots_not_moved new.pairs)) in
+    let j = count_append b (pairs_blocks new.pairs) (file_blocks new.disk (all_unmoved_slots new.pairs)) in
     gone_alters t new old_pair some low ok now (omega (arith, e, f, g, h, i, j))
 
 -- ---- the blocks that the steps write
 
 abbrev pub IsKnown : KeptThread → KeptThread → List ℕ → ℕ → Type 0
-IsKnown t new bs b = Contains bs b ⊎ (IsAlteredBlock t new b ⊎ IsFree t.map b)
+IsKnown t new bs b = Contains bs b ⊎ (IsTouchedBlock t new b ⊎ IsFree t.map b)
 
-pub front_altered : (t new : KeptThread) (old_pair first : ℕ) → old_pair < length t.pairs → (drops_with_its_slot t old_pair first ≡ true → IsPairTouched t (old_pair - 1) new) → (bs : List ℕ) → ((b : ℕ) → Contains (address_blocks (thread_pair_at t old_pair).at) b → Contains bs b)
-    → (b : ℕ) → Contains (address_blocks (thread_pair_at t (second_commit_pair t old_pair first)).at) b → IsKnown t new bs b
+pub front_altered : (t new : KeptThread) (old_pair first : ℕ) → old_pair < length t.pairs → (drops_with_its_slot t old_pair first ≡ true → IsPairTouched t (old_pair - 1) new) → (bs : List ℕ) → ((b : ℕ) → Contains (address_blocks (thread_pair t old_pair).at) b → Contains bs b)
+    → (b : ℕ) → Contains (address_blocks (thread_pair t (second_pair t old_pair first)).at) b → IsKnown t new bs b
 front_altered t new old_pair first low alters bs within b = go (drops_with_its_slot t old_pair first) refl
   where
-    go : (g : Bool) → drops_with_its_slot t old_pair first ≡ g → Contains (address_blocks (thread_pair_at t (written_at_end old_pair g)).at) b → IsKnown t new bs b
+    go : (g : Bool) → drops_with_its_slot t old_pair first ≡ g → Contains (address_blocks (thread_pair t (written_at_end old_pair g)).at) b → IsKnown t new bs b
     go true whole own = inr (inl (record { index = old_pair - 1; below = omega (arith, low); own = own; alters = alters whole }))
     go false stays own = inl (within b own)
 
@@ -88,9 +88,9 @@ each_known t new bs at rest own behind = (own at.0 (Contains-head at.0 (at.1 ∷
 pub free_known : (t new : KeptThread) (bs fresh : List ℕ) → AllByRecursion (IsFree t.map) fresh → Each (IsKnown t new bs) fresh
 free_known t new bs fresh free = each_weaker (IsFree t.map) (IsKnown t new bs) (λ b f. inr (inr f)) fresh free
 
-pub two_altered : (t new : KeptThread) (bs : List ℕ) (old_pair first new_pair : ℕ) → old_pair < length t.pairs → (drops_with_its_slot t old_pair first ≡ true → IsPairTouched t (old_pair - 1) new) → ((b : ℕ) → Contains (address_blocks (thread_pair_at t old_pair).at) b → Contains bs b)
-    → ((b : ℕ) → Contains (address_blocks (thread_pair_at t new_pair).at) b → IsKnown t new bs b) → (fresh : List ℕ) → AllByRecursion (IsFree t.map) fresh
-    → Each (IsKnown t new bs) ((thread_pair_at t new_pair).at.0 ∷ (thread_pair_at t new_pair).at.1 ∷ (thread_pair_at t (second_commit_pair t old_pair first)).at.0 ∷ (thread_pair_at t (second_commit_pair t old_pair first)).at.1 ∷ fresh)
+pub two_altered : (t new : KeptThread) (bs : List ℕ) (old_pair first new_pair : ℕ) → old_pair < length t.pairs → (drops_with_its_slot t old_pair first ≡ true → IsPairTouched t (old_pair - 1) new) → ((b : ℕ) → Contains (address_blocks (thread_pair t old_pair).at) b → Contains bs b)
+    → ((b : ℕ) → Contains (address_blocks (thread_pair t new_pair).at) b → IsKnown t new bs b) → (fresh : List ℕ) → AllByRecursion (IsFree t.map) fresh
+    → Each (IsKnown t new bs) ((thread_pair t new_pair).at.0 ∷ (thread_pair t new_pair).at.1 ∷ (thread_pair t (second_pair t old_pair first)).at.0 ∷ (thread_pair t (second_pair t old_pair first)).at.1 ∷ fresh)
 two_altered t new bs old_pair first new_pair low alters within entered fresh free =
-    each_known t new bs (thread_pair_at t new_pair).at ((thread_pair_at t (second_commit_pair t old_pair first)).at.0 ∷ (thread_pair_at t (second_commit_pair t old_pair first)).at.1 ∷ fresh) entered
-    (each_known t new bs (thread_pair_at t (second_commit_pair t old_pair first)).at fresh (front_altered t new old_pair first low alters bs within) (free_known t new bs fresh free))
+    each_known t new bs (thread_pair t new_pair).at ((thread_pair t (second_pair t old_pair first)).at.0 ∷ (thread_pair t (second_pair t old_pair first)).at.1 ∷ fresh) entered
+    (each_known t new bs (thread_pair t (second_pair t old_pair first)).at fresh (front_altered t new old_pair first low alters bs within) (free_known t new bs fresh free))

@@ -1,63 +1,63 @@
 -- Pairs that don't stay with what they held, as tails and slots tell.
-use Rattle.lfs_operations.proofs.Common.{ℕ, ◌≡◌, ◌+◌, ◌-◌, ◌<◌, ◌≤◌, inl, inr, nat_eq, List, [], ◌∷◌, ◌++◌, length, Option, Some, refl, sym, ap, subst, ◌∙◌, arith, append-nil, length-append, IsDistinct, same_Some, Disk, Slot, AreLinked, Pair, anchor_address, blocks_of_pairs, tail_address_of, address_blocks, IsAccepted, SameSlots, Became, number_count, count_append, count_here, HoldsOfSome, all_slots, KeptThread, thread_pair_at, Contains, IsPairTouched}
+use Rattle.lfs_operations.proofs.Common.{ℕ, ◌≡◌, ◌+◌, ◌-◌, ◌<◌, ◌≤◌, inl, inr, nat_eq, List, [], ◌∷◌, ◌++◌, length, Option, Some, refl, sym, ap, subst, ◌∙◌, arith, append-nil, length-append, IsDistinct, same_Some, Disk, Slot, AreLinked, Pair, anchor_address, pairs_blocks, tail_target, address_blocks, IsAccepted, SameSlots, Became, number_occurrences, count_append, count_here, AnyByRecursion, all_slots, KeptThread, thread_pair, Contains, IsPairTouched}
 use Rattle.lfs_operations.proofs.Altered.{among_contains, links_behind, only_there}
 use Rattle.lfs_operations.proofs.DroppedTails.{TwoAt, front_is, gone_is, two_at}
 
 -- ---- no two pairs share a block
 
-pub owner_counted : (b : ℕ) (y : Pair) (zs : List Pair) → HoldsOfSome (λ z. z ≡ y) zs → 1 ≤ number_count b (address_blocks y.at) → 1 ≤ number_count b (blocks_of_pairs zs)
+pub owner_counted : (b : ℕ) (y : Pair) (zs : List Pair) → AnyByRecursion (λ z. z ≡ y) zs → 1 ≤ number_occurrences b (address_blocks y.at) → 1 ≤ number_occurrences b (pairs_blocks zs)
 owner_counted b y [] h some = absurd h
-owner_counted b y (z ∷ zs) (inl e) some = let k = ap (λ (x : Pair). number_count b (address_blocks x.at)) e in let c = count_append b (address_blocks z.at) (blocks_of_pairs zs) in omega arith
-owner_counted b y (z ∷ zs) (inr h) some = let k = owner_counted b y zs h some in let c = count_append b (address_blocks z.at) (blocks_of_pairs zs) in omega arith
+owner_counted b y (z ∷ zs) (inl e) some = let k = ap (λ (x : Pair). number_occurrences b (address_blocks x.at)) e in let c = count_append b (address_blocks z.at) (pairs_blocks zs) in omega arith
+owner_counted b y (z ∷ zs) (inr h) some = let k = owner_counted b y zs h some in let c = count_append b (address_blocks z.at) (pairs_blocks zs) in omega arith
 
-pub same_owner : (b : ℕ) (zs : List Pair) (x y : Pair) → number_count b (blocks_of_pairs zs) ≤ 1 → HoldsOfSome (λ z. z ≡ x) zs → HoldsOfSome (λ z. z ≡ y) zs → 1 ≤ number_count b (address_blocks x.at) → 1 ≤ number_count b (address_blocks y.at) → x ≡ y
+pub same_owner : (b : ℕ) (zs : List Pair) (x y : Pair) → number_occurrences b (pairs_blocks zs) ≤ 1 → AnyByRecursion (λ z. z ≡ x) zs → AnyByRecursion (λ z. z ≡ y) zs → 1 ≤ number_occurrences b (address_blocks x.at) → 1 ≤ number_occurrences b (address_blocks y.at) → x ≡ y
 same_owner b [] x y once h k some more = absurd h
 same_owner b (z ∷ zs) x y once (inl e) (inl f) some more = sym e ∙ f
 same_owner b (z ∷ zs) x y once (inl e) (inr k) some more =
-    let c = count_append b (address_blocks z.at) (blocks_of_pairs zs) in let m = ap (λ (w : Pair). number_count b (address_blocks w.at)) e in let o = owner_counted b y zs k more in absurd (omega arith)
+    let c = count_append b (address_blocks z.at) (pairs_blocks zs) in let m = ap (λ (w : Pair). number_occurrences b (address_blocks w.at)) e in let o = owner_counted b y zs k more in absurd (omega arith)
 same_owner b (z ∷ zs) x y once (inr h) (inl f) some more =
-    let c = count_append b (address_blocks z.at) (blocks_of_pairs zs) in let m = ap (λ (w : Pair). number_count b (address_blocks w.at)) f in let o = owner_counted b x zs h some in absurd (omega arith)
-same_owner b (z ∷ zs) x y once (inr h) (inr k) some more = same_owner b zs x y (let c = count_append b (address_blocks z.at) (blocks_of_pairs zs) in omega arith) h k some more
+    let c = count_append b (address_blocks z.at) (pairs_blocks zs) in let m = ap (λ (w : Pair). number_occurrences b (address_blocks w.at)) f in let o = owner_counted b x zs h some in absurd (omega arith)
+same_owner b (z ∷ zs) x y once (inr h) (inr k) some more = same_owner b zs x y (let c = count_append b (address_blocks z.at) (pairs_blocks zs) in omega arith) h k some more
 
 -- ---- a tail names the pair behind
 
-names_behind : (x : Pair) (xs : List Pair) (o : Pair) (at : Option (ℕ × ℕ)) (a : ℕ × ℕ) → AreLinked at (x ∷ xs) → HoldsOfSome (λ y. y ≡ o) (x ∷ xs) → tail_address_of o.content.tail ≡ Some a → 1 ≤ number_count a.0 (blocks_of_pairs xs)
-names_behind x [] o at a links (inl e) n = absurd (let k = sym n ∙ ap (λ (z : Pair). tail_address_of z.content.tail) (sym e) ∙ links.1 in cc)
+names_behind : (x : Pair) (xs : List Pair) (o : Pair) (at : Option (ℕ × ℕ)) (a : ℕ × ℕ) → AreLinked at (x ∷ xs) → AnyByRecursion (λ y. y ≡ o) (x ∷ xs) → tail_target o.content.tail ≡ Some a → 1 ≤ number_occurrences a.0 (pairs_blocks xs)
+names_behind x [] o at a links (inl e) n = absurd (let k = sym n ∙ ap (λ (z : Pair). tail_target z.content.tail) (sym e) ∙ links.1 in cc)
 names_behind x [] o at a links (inr h) n = absurd h
 names_behind x (y ∷ xs) o at a links (inl e) n =
-    let same : a ≡ y.at = same_Some a y.at (sym n ∙ ap (λ (z : Pair). tail_address_of z.content.tail) (sym e) ∙ links.1.0) in
-    let k = ap (λ (z : ℕ × ℕ). number_count z.0 (y.at.0 ∷ y.at.1 ∷ blocks_of_pairs xs)) same in
-    let h = count_here y.at.0 (y.at.1 ∷ blocks_of_pairs xs) in omega arith
+    let same : a ≡ y.at = same_Some a y.at (sym n ∙ ap (λ (z : Pair). tail_target z.content.tail) (sym e) ∙ links.1.0) in
+    let k = ap (λ (z : ℕ × ℕ). number_occurrences z.0 (y.at.0 ∷ y.at.1 ∷ pairs_blocks xs)) same in
+    let h = count_here y.at.0 (y.at.1 ∷ pairs_blocks xs) in omega arith
 names_behind x (y ∷ xs) o at a links (inr h) n =
-    let k = names_behind y xs o (tail_address_of x.content.tail) a links.1 h n in let c = count_append a.0 (y.at.0 ∷ y.at.1 ∷ []) (blocks_of_pairs xs) in omega arith
+    let k = names_behind y xs o (tail_target x.content.tail) a links.1 h n in let c = count_append a.0 (y.at.0 ∷ y.at.1 ∷ []) (pairs_blocks xs) in omega arith
 
 -- the pair that a tail names is there
-pub named_there : (xs : List Pair) (o : Pair) (at : Option (ℕ × ℕ)) (a : ℕ × ℕ) → AreLinked at xs → HoldsOfSome (λ y. y ≡ o) xs → tail_address_of o.content.tail ≡ Some a → 1 ≤ number_count a.0 (blocks_of_pairs xs)
+pub named_there : (xs : List Pair) (o : Pair) (at : Option (ℕ × ℕ)) (a : ℕ × ℕ) → AreLinked at xs → AnyByRecursion (λ y. y ≡ o) xs → tail_target o.content.tail ≡ Some a → 1 ≤ number_occurrences a.0 (pairs_blocks xs)
 named_there [] o at a links h n = absurd h
-named_there (x ∷ xs) o at a links h n = let k = names_behind x xs o at a links h n in let c = count_append a.0 (x.at.0 ∷ x.at.1 ∷ []) (blocks_of_pairs xs) in omega arith
+named_there (x ∷ xs) o at a links h n = let k = names_behind x xs o at a links h n in let c = count_append a.0 (x.at.0 ∷ x.at.1 ∷ []) (pairs_blocks xs) in omega arith
 
 -- no tail behind the first pair names what the first one's does
-first_alone : (y : Pair) (ys : List Pair) (x o : Pair) (at : Option (ℕ × ℕ)) → AreLinked at (y ∷ ys) → ((b : ℕ) → number_count b (blocks_of_pairs (y ∷ ys)) ≤ 1) → y ≡ x → HoldsOfSome (λ z. z ≡ o) ys → tail_address_of x.content.tail ≡ tail_address_of o.content.tail → ⊥
+first_alone : (y : Pair) (ys : List Pair) (x o : Pair) (at : Option (ℕ × ℕ)) → AreLinked at (y ∷ ys) → ((b : ℕ) → number_occurrences b (pairs_blocks (y ∷ ys)) ≤ 1) → y ≡ x → AnyByRecursion (λ z. z ≡ o) ys → tail_target x.content.tail ≡ tail_target o.content.tail → ⊥
 first_alone y [] x o at links once e h n = h
 first_alone y (z ∷ ys) x o at links once e h n =
-    let k = names_behind z ys o (tail_address_of y.content.tail) z.at links.1 h (sym n ∙ ap (λ (k : Pair). tail_address_of k.content.tail) (sym e) ∙ links.1.0) in
+    let k = names_behind z ys o (tail_target y.content.tail) z.at links.1 h (sym n ∙ ap (λ (k : Pair). tail_target k.content.tail) (sym e) ∙ links.1.0) in
     let l = once z.at.0 in
-    let c = count_append z.at.0 (y.at.0 ∷ y.at.1 ∷ []) (blocks_of_pairs (z ∷ ys)) in
-    let d = count_here z.at.0 (z.at.1 ∷ blocks_of_pairs ys) in
-    let f = count_append z.at.0 (z.at.1 ∷ []) (blocks_of_pairs ys) in
+    let c = count_append z.at.0 (y.at.0 ∷ y.at.1 ∷ []) (pairs_blocks (z ∷ ys)) in
+    let d = count_here z.at.0 (z.at.1 ∷ pairs_blocks ys) in
+    let f = count_append z.at.0 (z.at.1 ∷ []) (pairs_blocks ys) in
     absurd (omega arith)
 
 -- two pairs whose tails name the same are one
-pub same_next : (xs : List Pair) (x o : Pair) (at : Option (ℕ × ℕ)) → AreLinked at xs → ((b : ℕ) → number_count b (blocks_of_pairs xs) ≤ 1) → HoldsOfSome (λ y. y ≡ x) xs → HoldsOfSome (λ y. y ≡ o) xs → tail_address_of x.content.tail ≡ tail_address_of o.content.tail → x ≡ o
+pub same_next : (xs : List Pair) (x o : Pair) (at : Option (ℕ × ℕ)) → AreLinked at xs → ((b : ℕ) → number_occurrences b (pairs_blocks xs) ≤ 1) → AnyByRecursion (λ y. y ≡ x) xs → AnyByRecursion (λ y. y ≡ o) xs → tail_target x.content.tail ≡ tail_target o.content.tail → x ≡ o
 same_next [] x o at links once h k n = absurd h
 same_next (y ∷ ys) x o at links once (inl e) (inl f) n = sym e ∙ f
 same_next (y ∷ ys) x o at links once (inl e) (inr k) n = absurd (first_alone y ys x o at links once e k n)
 same_next (y ∷ ys) x o at links once (inr h) (inl f) n = absurd (first_alone y ys o x at links once f h (sym n))
 same_next (y ∷ ys) x o at links once (inr h) (inr k) n =
-    same_next ys x o (tail_address_of y.content.tail) links.1 (λ b. let l = once b in let c = count_append b (y.at.0 ∷ y.at.1 ∷ []) (blocks_of_pairs ys) in omega arith) h k n
+    same_next ys x o (tail_target y.content.tail) links.1 (λ b. let l = once b in let c = count_append b (y.at.0 ∷ y.at.1 ∷ []) (pairs_blocks ys) in omega arith) h k n
 
 -- the pair behind it is gone
-pub gone_alters : (t new : KeptThread) (index : ℕ) → 0 < index → index < length t.pairs → IsAccepted t.disk t.pairs → IsAccepted new.disk new.pairs → number_count (thread_pair_at t index).at.0 (blocks_of_pairs new.pairs) ≡ 0 → IsPairTouched t (index - 1) new
+pub gone_alters : (t new : KeptThread) (index : ℕ) → 0 < index → index < length t.pairs → IsAccepted t.disk t.pairs → IsAccepted new.disk new.pairs → number_occurrences (thread_pair t index).at.0 (pairs_blocks new.pairs) ≡ 0 → IsPairTouched t (index - 1) new
 gone_alters t new index some low ok now none = go (two_at t.pairs (index - 1) (omega (arith, some, low)))
   where
     go : TwoAt t.pairs (index - 1) → IsPairTouched t (index - 1) new
@@ -67,8 +67,8 @@ gone_alters t new index some low ok now none = go (two_at t.pairs (index - 1) (o
         let same : index - 1 + 1 ≡ index = omega (arith, some) in
         let links = (links_behind (Some anchor_address) two.ahead (two.one ∷ two.other ∷ two.back) (subst (λ z. AreLinked (Some anchor_address) z) two.is ok.thread.links)).1 in
         let k = named_there new.pairs two.one (Some anchor_address) two.other.at now.thread.links (among_contains two.one new.pairs (subst (Contains new.pairs) here has)) links.1.0 in
-        let e = ap (λ (z : Pair). number_count z.at.0 (blocks_of_pairs new.pairs)) next in
-        let f = ap (λ (i : ℕ). number_count (thread_pair_at t i).at.0 (blocks_of_pairs new.pairs)) same in
+        let e = ap (λ (z : Pair). number_occurrences z.at.0 (pairs_blocks new.pairs)) next in
+        let f = ap (λ (i : ℕ). number_occurrences (thread_pair t i).at.0 (pairs_blocks new.pairs)) same in
         absurd (omega (arith, k, e, f, none))
 
 -- ---- a pair has another slot, or is cut
@@ -91,14 +91,14 @@ split_at (x ∷ xs) q ys (r ∷ rs) h =
     let s = split_at xs q ys rs h.2 in record { front = r ∷ s.front; here = s.here; back = s.back; is = ap (λ z. r ∷ z) s.is; at = s.at; slots = s.slots; rest = s.rest }
 
 pub entered_alters : (t new : KeptThread) (disk : Disk) (p d q : Pair) (more before behind : List Pair) (l r : List Slot) (v : Slot) → IsAccepted t.disk t.pairs → IsAccepted new.disk new.pairs → SameSlots (before ++ q ∷ (more ++ behind)) new.pairs
-    → q.at ≡ p.at → all_slots (q ∷ more) ≡ l ++ v ∷ r → p.content.slots ≡ l ++ r → Became disk p d q more → ((b : ℕ) → 1 ≤ number_count b (blocks_of_pairs more) → number_count b (blocks_of_pairs t.pairs) ≡ 0) → HoldsOfSome (λ y. y ≡ p) t.pairs → Contains new.pairs p → ⊥
+    → q.at ≡ p.at → all_slots (q ∷ more) ≡ l ++ v ∷ r → p.content.slots ≡ l ++ r → Became disk p d q more → ((b : ℕ) → 1 ≤ number_occurrences b (pairs_blocks more) → number_occurrences b (pairs_blocks t.pairs) ≡ 0) → AnyByRecursion (λ y. y ≡ p) t.pairs → Contains new.pairs p → ⊥
 entered_alters t new disk p d q more before behind l r v ok now alike at is was became fresh there has = go more (split_at before q (more ++ behind) new.pairs alike) is became fresh
   where
     -- the pair there has these slots
     same : (ys : List Pair) (s : IsSplitAt q ys new.pairs) → s.here ≡ p
-    same ys s = only_there s.front s.here s.back p (subst (λ z. IsDistinct nat_eq (blocks_of_pairs z)) s.is now.thread.distinct) (s.at ∙ at) (subst (λ z. Contains z p) s.is has)
+    same ys s = only_there s.front s.here s.back p (subst (λ z. IsDistinct nat_eq (pairs_blocks z)) s.is now.thread.distinct) (s.at ∙ at) (subst (λ z. Contains z p) s.is has)
 
-    go : (zs : List Pair) → IsSplitAt q (zs ++ behind) new.pairs → all_slots (q ∷ zs) ≡ l ++ v ∷ r → Became disk p d q zs → ((b : ℕ) → 1 ≤ number_count b (blocks_of_pairs zs) → number_count b (blocks_of_pairs t.pairs) ≡ 0) → ⊥
+    go : (zs : List Pair) → IsSplitAt q (zs ++ behind) new.pairs → all_slots (q ∷ zs) ≡ l ++ v ∷ r → Became disk p d q zs → ((b : ℕ) → 1 ≤ number_occurrences b (pairs_blocks zs) → number_occurrences b (pairs_blocks t.pairs) ≡ 0) → ⊥
     go [] s is became fresh =
         let a = ap length (sym (append-nil q.content.slots) ∙ is) in
         let b = length-append l (v ∷ r) in
@@ -114,7 +114,7 @@ entered_alters t new disk p d q more before behind l r v ok now alike at is was 
         cut s (g ∷ back) e =
             let h : g.at ≡ f.at = (subst (SameSlots (f ∷ behind)) e s.rest).0 in
             let links = (links_behind (Some anchor_address) s.front (s.here ∷ g ∷ back) (subst (λ z. AreLinked (Some anchor_address) z) (s.is ∙ ap (λ z. s.front ++ s.here ∷ z) e) now.thread.links)).1 in
-            let k = named_there t.pairs p (Some anchor_address) f.at ok.thread.links there (ap (λ (z : Pair). tail_address_of z.content.tail) (sym (same (f ∷ behind) s)) ∙ links.1.0 ∙ ap Some h) in
+            let k = named_there t.pairs p (Some anchor_address) f.at ok.thread.links there (ap (λ (z : Pair). tail_target z.content.tail) (sym (same (f ∷ behind) s)) ∙ links.1.0 ∙ ap Some h) in
             let n = fresh f.at.0 (let m = count_here f.at.0 (f.at.1 ∷ []) in omega arith) in
             absurd (omega (arith, k, n))
     go (f ∷ g ∷ zs) s is became fresh = became

@@ -1,5 +1,5 @@
 -- A file that comes, as a step of the thread.
-use Rattle.lfs_operations.proofs.Common.{ℕ, ◌≡◌, ◌≤◌, List, [], ◌∷◌, ◌++◌, length, Some, refl, sym, ap, ap₂, subst, ◌∙◌, arith, length-append, insert, ne_eqb, tree_creating, changed_content_of, RawContent, raw_content, complete_content, file_name_type, CanSplit, Disk, CallEvent, BelongsAt, IsAllowed, Name, SurvivesLossSince, Slot, PairContent, path_or_root, Pair, blocks_of_pairs, tail_address_of, Session, Tree, FileNode, IsAccepted, all_entries, tree_on_disk, IsChangedImage, IsCompletion, no_move_from, recovered_from, commit_step, complete_insert, complete_length, completed_parts, completed_from, creates_with_struct, does_nothing, slot_with, insert_cut, nothing_there, place_at, insert_here, IsPlace, some_filled, site, place_of_belongs, Site, thread_at, logged_changed, tag_type-make_tag, tag_length-make_tag, changed_pair, LossLeavesCleanly, KeptThread, thread_pair_at, complete_after, Contains, option_and_then, file_comes, create_completed, IsPairTouched, CanTurn, LeftByTurn, IsTurned, CanCreateIn, IsFileCreated, creation_changes, tree_with_file}
+use Rattle.lfs_operations.proofs.Common.{ℕ, ◌≡◌, ◌≤◌, List, [], ◌∷◌, ◌++◌, length, Some, refl, sym, ap, ap₂, subst, ◌∙◌, arith, length-append, insert, ne_eqb, tree_creating, changed_content_of, RawContent, raw_content, complete_content, file_name_type, CanSplit, Disk, CallEvent, BelongsAt, IsAllowedPart, Name, SurvivesLossSince, Slot, PairContent, path_or_root, Pair, pairs_blocks, tail_target, Session, Tree, FileNode, IsAccepted, all_entries, disk_tree, IsChangedImage, CompletesOperation, no_move_from, recovered_from, commit_step, complete_insert, complete_length, completed_parts, completed_from, creates_with_struct, does_nothing, slot_with, insert_cut, nothing_there, place_at, insert_here, IsPlace, some_filled, site, place_of_belongs, Site, thread_at, logged_changed, tag_type-make_tag, tag_length-make_tag, changed_pair, CleanLossLeaves, KeptThread, thread_pair, complete_after, Contains, option_and_then, file_comes, create_completed, IsPairTouched, CanPut, LeftByPut, ArePut, CanCreateIn, IsFileCreated, creation_changes, tree_with_file}
 use Rattle.lfs_model.specs.format.EntryTypes.{inline_type}
 use Rattle.lfs_model.specs.session.Operations as ops
 use Rattle.lfs_model.specs.session.Operations.{FlagsOfOpen}
@@ -14,7 +14,7 @@ use Rattle.lfs_operations.proofs.PairAt.{HasPairAt, pair_at}
 
 -- ---- the parts of a file's slot
 
-file_name : (name : Name) → length name ≤ 255 → IsAllowed 0 (file_name_type, name)
+file_name : (name : Name) → length name ≤ 255 → IsAllowedPart 0 (file_name_type, name)
 file_name name short = record {
   of_class = refl;
   short = omega arith;
@@ -24,7 +24,7 @@ file_name name short = record {
       rw len (rw kind (rw (ne_eqb (length name) 0x3ff (λ e. omega arith)) refl));
 }
 
-no_bytes : IsAllowed 2 (inline_type, [])
+no_bytes : IsAllowedPart 2 (inline_type, [])
 no_bytes = record { of_class = refl; short = omega arith; in_table = refl }
 
 module _ (t : KeptThread) (index id : ℕ) (name : Name) (can : CanCreateIn t index id name) where
@@ -48,7 +48,7 @@ module _ (t : KeptThread) (index id : ℕ) (name : Name) (can : CanCreateIn t in
   within : id ≤ length p.content.slots
   within = let h = ap length b.held in let l = length-append b.left b.right in let n = b.number in omega arith
 
-  abbrev c : CompletesTo (raw_content t.disk (thread_pair_at t index).at) p.content
+  abbrev c : CompletesTo (raw_content t.disk (thread_pair t index).at) p.content
   c = raw_there t can.ready can.first index p (b.later ++ b.rest) b.place
 
   abbrev raw_now : RawContent
@@ -61,7 +61,7 @@ module _ (t : KeptThread) (index id : ℕ) (name : Name) (can : CanCreateIn t in
       let m = within in
       creates_with_struct c.raw id file_name_type name inline_type [] [] raw_now (omega arith) (omega arith) (file_name name (name_length name can.is_name)) no_bytes (does_nothing raw_now)
 
-  made_raw : changed_pair t.disk (thread_pair_at t index).at (creation_changes id name) ≡ Some raw_now
+  made_raw : changed_pair t.disk (thread_pair t index).at (creation_changes id name) ≡ Some raw_now
   made_raw = ap (λ o. option_and_then (λ (r : RawContent). changed_content_of r (creation_changes id name)) o) c.is ∙ changed
 
   abbrev now : PairContent
@@ -80,13 +80,13 @@ module _ (t : KeptThread) (index id : ℕ) (name : Name) (can : CanCreateIn t in
   cut = insert_cut t.disk.block_size t.disk.page raw_now now p.content id (file_slot name) (logged_changed c.raw (creation_changes id name) raw_now (can.logged c.raw c.is) changed) now_complete refl
       (let f = can.fits.charge in omega arith) (fits_there t can.ready can.first index p (b.later ++ b.rest) b.place)
 
-  pub can_put : CanTurn t index (creation_changes id name)
+  pub can_put : CanPut t index (creation_changes id name)
   can_put = record {
     can = record {
       below = below t can.ready can.first index p (b.later ++ b.rest) b.place;
       content = now;
       made = made;
-      next = ap (λ (z : Pair). tail_address_of z.content.tail) (sym (here t can.ready can.first index p (b.later ++ b.rest) b.place));
+      next = ap (λ (z : Pair). tail_target z.content.tail) (sym (here t can.ready can.first index p (b.later ++ b.rest) b.place));
     };
     raw = raw_now;
     made = made_raw;
@@ -127,26 +127,26 @@ module _ (t : KeptThread) (index id : ℕ) (name : Name) (can : CanCreateIn t in
 
   follows : (disk : Disk) (q : Pair) (more : List Pair) → Commits t w p b.left [] (u ∷ []) b.right [] disk q more
       → IsChangedImage t.disk (thread_at w (p ∷ [])) disk (thread_at w (q ∷ more)) (tree_creating (can.path ++ name ∷ []) (FileNode [] [])) (λ d. d)
-  follows disk q more commit = file_comes t.disk disk w p [] q more (blocks_of_pairs more) [] b.left b.right u (commit_step t.disk disk w p q more [] b.left [] (u ∷ []) b.right commit.commit) can.path can.at
+  follows disk q more commit = file_comes t.disk disk w p [] q more (pairs_blocks more) [] b.left b.right u (commit_step t.disk disk w p q more [] b.left [] (u ∷ []) b.right commit.commit) can.path can.at
       stand.leads stand.begin place_there [] refl (λ e. (recovered_from t.disk (thread_at w (p ∷ [])) commit.commit.accepted commit.commit.settled).reached)
 
-  pub created : (new : KeptThread) → IsTurned t index (creation_changes id name) new → IsFileCreated t new can.path name
+  pub created : (new : KeptThread) → ArePut t index (creation_changes id name) new → IsFileCreated t new can.path name
   created new is = go (put_step t index (creation_changes id name) w p b.left [] (u ∷ []) b.right [] [] splicing new is)
     where
       go : HasStep t w p b.left [] (u ∷ []) b.right [] [] new → IsFileCreated t new can.path name
       go s =
-          let done = λ (z : Session) (given : List ℕ) (flags : FlagsOfOpen) (tree : z.tree ≡ tree_on_disk t.disk t.pairs) (is_path : path_or_root given ≡ can.path ++ name ∷ []).
-          create_completed t.disk new.disk w p s.q s.more b.left b.right name s.commit.commit can.path can.at stand.leads stand.begin place_there z given flags (tree ∙ ap (tree_on_disk t.disk) stand.there) is_path
+          let done = λ (z : Session) (given : List ℕ) (flags : FlagsOfOpen) (tree : z.tree ≡ disk_tree t.disk t.pairs) (is_path : path_or_root given ≡ can.path ++ name ∷ []).
+          create_completed t.disk new.disk w p s.q s.more b.left b.right name s.commit.commit can.path can.at stand.leads stand.begin place_there z given flags (tree ∙ ap (disk_tree t.disk) stand.there) is_path
           (ap₂ (λ (f : Tree) x. f x) tree is_path ∙ (nothing_there t.disk t.pairs can.path can.at (place_at w b.left) name can.leads place).1) in
           record {
             now = ready_again t new (tree_with_file t can.path name) (becomes t index (creation_changes id name) w p b.left [] (u ∷ []) b.right [] [] splicing (tree_creating (can.path ++ name ∷ []) (FileNode [] []))
                 (λ disk q more commit. ((λ d. d), follows disk q more commit)) (λ e. some_filled b.left b.right u) new s);
-            completed = λ z given flags tree is_path. subst (λ x. IsCompletion t.disk x z (ops.Open given flags) new.disk new.pairs) (sym stand.there)
-                (subst (λ x. IsCompletion t.disk (thread_at w (p ∷ [])) z (ops.Open given flags) new.disk x) (sym s.pairs) (done z given flags tree is_path));
+            completed = λ z given flags tree is_path. subst (λ x. CompletesOperation t.disk x z (ops.Open given flags) new.disk new.pairs) (sym stand.there)
+                (subst (λ x. CompletesOperation t.disk (thread_at w (p ∷ [])) z (ops.Open given flags) new.disk x) (sym s.pairs) (done z given flags tree is_path));
           }
 
   -- the pair has one slot more, or is cut
-  pub alters : (new : KeptThread) → IsTurned t index (creation_changes id name) new → IsPairTouched t index new
+  pub alters : (new : KeptThread) → ArePut t index (creation_changes id name) new → IsPairTouched t index new
   alters new is has = go (put_step t index (creation_changes id name) w p b.left [] (u ∷ []) b.right [] [] splicing new is)
     where
       go : HasStep t w p b.left [] (u ∷ []) b.right [] [] new → ⊥
@@ -154,6 +154,6 @@ module _ (t : KeptThread) (index id : ℕ) (name : Name) (can : CanCreateIn t in
           (subst (IsAccepted new.disk) s.pairs (created new is).now.ready.accepted) s.commit.commit
           (subst (λ z. Contains z p) s.pairs (subst (Contains new.pairs) (pair_is t index w p splicing.there splicing.place) has))
 
-  pub create_survives : (new : List CallEvent) → LossLeavesCleanly t.history new (LeftByTurn t index (creation_changes id name)) → SurvivesLossSince t.disk t.history new (tree_on_disk t.disk t.pairs) (tree_with_file t can.path name)
+  pub create_survives : (new : List CallEvent) → CleanLossLeaves t.history new (LeftByPut t index (creation_changes id name)) → SurvivesLossSince t.disk t.history new (disk_tree t.disk t.pairs) (tree_with_file t can.path name)
   create_survives new stops = survives t index (creation_changes id name) w p b.left [] (u ∷ []) b.right [] [] splicing (tree_creating (can.path ++ name ∷ []) (FileNode [] []))
       (λ disk q more commit. ((λ d. d), follows disk q more commit)) (λ e. some_filled b.left b.right u) new stops

@@ -1,5 +1,5 @@
 -- A pair that went from the thread, in an accepted image: what the device holds then, and which blocks the image uses.
-use Rattle.lfs_operations.proofs.Common.{ℕ, ◌≡◌, ◌≢◌, ◌⊎◌, inl, inr, ◌+◌, ◌-◌, ◌≤◌, Bool, true, false, cond, nat_eq, eqb-true, eq-eqb, List, [], ◌∷◌, ◌++◌, length, Option, Some, refl, sym, ap, ap₂, subst, subst₂, ◌∙◌, arith, append_assoc, length-append, length-set, set, slice_get, All-from_recursion, recursion_from_All, same_Some, AreUsed, BlockStates, BlockState, IsInFlight, IsUsedBlock, Free, InFlight, Used, Blocks, content_at, Disk, MoveStateFits, HasEither, with_blocks, IsWritable, Gstate, FitsInPair, PairContent, Slot, Pair, blocks_of_pairs, pairs_gstate, address_blocks, Tree, IsAccepted, all_slots_not_moved, tree_on_disk, used_blocks, Contains-number_count, number_count-Contains, slice_get-set_other, slice_get-set_same, SameFiles, slots_files, Each, number_count, count_append, count_here, each_append, each_left, each_right, once_from_distinct, SameFileBlocks, HasNoMove, Site, thread_at, IsDevice, count_files, file_blocks, all_slots, unmoved_in, KeptThread, IsPairWritten, BeginWithSuperblock, thread_pair_at, map_freeing, Contains, ◌↔◌, CanDropAt, SameInFlight, LeftByDrop, IsPairDropped, content_after_drop, tail_over_drop, dropped_at_end, map_move_ended}
+use Rattle.lfs_operations.proofs.Common.{ℕ, ◌≡◌, ◌≢◌, ◌⊎◌, inl, inr, ◌+◌, ◌-◌, ◌≤◌, Bool, true, false, cond, nat_eq, eqb-true, eq-eqb, List, [], ◌∷◌, ◌++◌, length, Option, Some, refl, sym, ap, ap₂, subst, subst₂, ◌∙◌, arith, append_assoc, length-append, length-set, set, slice_get, All-from_recursion, recursion_from_All, same_Some, AreUsed, BlockStates, BlockState, IsInFlight, IsUsedBlock, Free, InFlight, Used, Blocks, content_at, Disk, MoveStateFits, HasEither, with_blocks, IsWritable, Gstate, FitsInPair, PairContent, Slot, Pair, pairs_blocks, pairs_gstate, address_blocks, Tree, IsAccepted, all_unmoved_slots, disk_tree, used_blocks, Contains-number_occurrences, number_occurrences-Contains, slice_get-set_other, slice_get-set_same, SameFiles, slots_files, Each, number_occurrences, count_append, count_here, each_append, each_left, each_right, once_from_distinct, SameFileBlocks, HasNoMove, Site, thread_at, IsDevice, count_files, file_blocks, all_slots, unmoved_in, KeptThread, IsPairWritten, BeginWithSuperblock, thread_pair, map_freeing, Contains, ◌↔◌, CanDropAt, SameInFlight, LeftByDrop, IsPairDropped, content_after_drop, tail_over_drop, dropped_at_end, map_move_ended}
 use Rattle.lfs_operations.proofs.DroppedTails.{front_is, gone_is, gstate_is, without_is}
 use Rattle.lfs_operations.proofs.Placing.{blocks_append, device, left_still}
 use Rattle.lfs_operations.proofs.Taking.{within}
@@ -40,13 +40,13 @@ module _ (disk new : Disk) (ahead : List Pair) (p o q : Pair) (back : List Pair)
     (d : IsDevice disk new (ahead ++ p ∷ o ∷ back) (ahead ++ q ∷ back)) (slots : q.content.slots ≡ p.content.slots) where
   same : SameFiles disk new (all_slots ahead ++ (p.content.slots ++ (o.content.slots ++ all_slots back)))
   same = subst (SameFiles disk new) (unmoved_in (pairs_gstate (ahead ++ p ∷ o ∷ back)) none (ahead ++ p ∷ o ∷ back) ∙ slots_append ahead (p ∷ o ∷ back))
-      (recursion_from_All (λ (s : Slot). SameFileBlocks disk new s.struct) (all_slots_not_moved (ahead ++ p ∷ o ∷ back)) d.files)
+      (recursion_from_All (λ (s : Slot). SameFileBlocks disk new s.struct) (all_unmoved_slots (ahead ++ p ∷ o ∷ back)) d.files)
 
-  kept : (ss : List Slot) → SameFiles disk new ss → (b : ℕ) → number_count b (file_blocks new ss) ≡ number_count b (file_blocks disk ss)
-  kept ss h b = ap (number_count b) (slots_files disk new ss d.geometry h)
+  kept : (ss : List Slot) → SameFiles disk new ss → (b : ℕ) → number_occurrences b (file_blocks new ss) ≡ number_occurrences b (file_blocks disk ss)
+  kept ss h b = ap (number_occurrences b) (slots_files disk new ss d.geometry h)
 
-  files_dropped : (b : ℕ) → number_count b (file_blocks new (all_slots (ahead ++ q ∷ back))) + number_count b (file_blocks disk o.content.slots)
-      ≡ number_count b (file_blocks disk (all_slots (ahead ++ p ∷ o ∷ back)))
+  files_dropped : (b : ℕ) → number_occurrences b (file_blocks new (all_slots (ahead ++ q ∷ back))) + number_occurrences b (file_blocks disk o.content.slots)
+      ≡ number_occurrences b (file_blocks disk (all_slots (ahead ++ p ∷ o ∷ back)))
   files_dropped b =
       let g = all_slots back in
       let f = all_slots ahead in
@@ -57,24 +57,24 @@ module _ (disk new : Disk) (ahead : List Pair) (p o q : Pair) (back : List Pair)
       let e1 = kept f h1 b in
       let e2 = kept p.content.slots h3 b in
       let e3 = kept g h4 b in
-      let b1 = ap (λ z. number_count b (file_blocks new z)) (slots_append ahead (q ∷ back)) in
-      let b2 = ap (λ z. number_count b (file_blocks disk z)) (slots_append ahead (p ∷ o ∷ back)) in
+      let b1 = ap (λ z. number_occurrences b (file_blocks new z)) (slots_append ahead (q ∷ back)) in
+      let b2 = ap (λ z. number_occurrences b (file_blocks disk z)) (slots_append ahead (p ∷ o ∷ back)) in
       let c1 = count_files b new f (q.content.slots ++ g) in
       let c2 = count_files b new q.content.slots g in
-      let c3 = ap (λ z. number_count b (file_blocks new z)) slots in
+      let c3 = ap (λ z. number_occurrences b (file_blocks new z)) slots in
       let c4 = count_files b disk f (p.content.slots ++ (o.content.slots ++ g)) in
       let c5 = count_files b disk p.content.slots (o.content.slots ++ g) in
       let c6 = count_files b disk o.content.slots g in
       omega arith
 
-pub blocks_dropped : (ahead : List Pair) (p o q : Pair) (back : List Pair) → q.at ≡ p.at → (b : ℕ) → number_count b (blocks_of_pairs (ahead ++ q ∷ back)) + number_count b (address_blocks o.at) ≡ number_count b (blocks_of_pairs (ahead ++ p ∷ o ∷ back))
+pub blocks_dropped : (ahead : List Pair) (p o q : Pair) (back : List Pair) → q.at ≡ p.at → (b : ℕ) → number_occurrences b (pairs_blocks (ahead ++ q ∷ back)) + number_occurrences b (address_blocks o.at) ≡ number_occurrences b (pairs_blocks (ahead ++ p ∷ o ∷ back))
 blocks_dropped ahead p o q back at b =
     let d1 = blocks_append ahead (q ∷ back) b in
     let d2 = blocks_append ahead (p ∷ o ∷ back) b in
     let d3 = blocks_append (q ∷ []) back b in
     let d4 = blocks_append (p ∷ []) (o ∷ back) b in
     let d5 = blocks_append (o ∷ []) back b in
-    let d6 = ap (λ (a : ℕ × ℕ). number_count b (a.0 ∷ a.1 ∷ [])) at in
+    let d6 = ap (λ (a : ℕ × ℕ). number_occurrences b (a.0 ∷ a.1 ∷ [])) at in
     omega arith
 
 -- ---- the map
@@ -89,27 +89,27 @@ pub record HasMapWithout (sets new : BlockStates) (owned : List ℕ) : Type 0 wh
   pub flying : SameInFlight sets new
 
 -- The blocks of a pair are free; they were used, each once.
-module _ (sets : BlockStates) (at : ℕ × ℕ) (us vs : List ℕ) (used : AreUsed sets us) (once : (b : ℕ) → number_count b us ≤ 1) (less : (b : ℕ) → number_count b vs + number_count b (address_blocks at) ≡ number_count b us) where
-  first_there : 1 ≤ number_count at.0 (address_blocks at)
+module _ (sets : BlockStates) (at : ℕ × ℕ) (us vs : List ℕ) (used : AreUsed sets us) (once : (b : ℕ) → number_occurrences b us ≤ 1) (less : (b : ℕ) → number_occurrences b vs + number_occurrences b (address_blocks at) ≡ number_occurrences b us) where
+  first_there : 1 ≤ number_occurrences at.0 (address_blocks at)
   first_there = let e = count_here at.0 (at.1 ∷ []) in omega arith
 
-  second_there : 1 ≤ number_count at.1 (address_blocks at)
+  second_there : 1 ≤ number_occurrences at.1 (address_blocks at)
   second_there = let e = count_here at.1 [] in let k = count_append at.1 (at.0 ∷ []) (at.1 ∷ []) in omega arith
 
   apart : at.0 ≢ at.1
   apart e =
-      let k = ap (λ z. number_count z (at.0 ∷ [])) e in
+      let k = ap (λ z. number_occurrences z (at.0 ∷ [])) e in
       let a = count_append at.1 (at.0 ∷ []) (at.1 ∷ []) in
       let h = count_here at.0 [] in
       let g = count_here at.1 [] in
       let o = once at.1 in
       let l = less at.1 in
-      let m = ap (λ z. number_count z (at.1 ∷ [])) e in
-      let n : number_count at.1 (at.0 ∷ []) ≡ number_count at.0 (at.0 ∷ []) = sym k in
+      let m = ap (λ z. number_occurrences z (at.1 ∷ [])) e in
+      let n : number_occurrences at.1 (at.0 ∷ []) ≡ number_occurrences at.0 (at.0 ∷ []) = sym k in
       absurd (omega arith)
 
-  was_used : (b : ℕ) → 1 ≤ number_count b (address_blocks at) → slice_get sets b ≡ Some Used
-  was_used b some = (used b).1 (Contains-number_count us b (let l = less b in omega arith))
+  was_used : (b : ℕ) → 1 ≤ number_occurrences b (address_blocks at) → slice_get sets b ≡ Some Used
+  was_used b some = (used b).1 (Contains-number_occurrences us b (let l = less b in omega arith))
 
   first_free : slice_get (map_freeing sets at) at.0 ≡ Some Free
   first_free = slice_get-set_other (set sets at.0 Free) at.1 at.0 Free apart ∙ slice_get-set_same sets at.0 Free (within sets at.0 Used (was_used at.0 first_there))
@@ -124,16 +124,16 @@ module _ (sets : BlockStates) (at : ℕ × ℕ) (us vs : List ℕ) (used : AreUs
   used_fewer : AreUsed (map_freeing sets at) vs
   used_fewer b = go (nat_eq b at.0) (nat_eq b at.1) refl refl (less b)
     where
-      gone : slice_get (map_freeing sets at) b ≡ Some Free → number_count b vs ≡ 0 → IsUsedBlock (map_freeing sets at) b ↔ Contains vs b
-      gone free none = ((λ h. absurd (not_both {a = Free} {b = Used} (λ k. absurd (cc)) free h)), (λ h. absurd (let n = number_count-Contains vs b h in omega arith)))
+      gone : slice_get (map_freeing sets at) b ≡ Some Free → number_occurrences b vs ≡ 0 → IsUsedBlock (map_freeing sets at) b ↔ Contains vs b
+      gone free none = ((λ h. absurd (not_both {a = Free} {b = Used} (λ k. absurd (cc)) free h)), (λ h. absurd (let n = number_occurrences-Contains vs b h in omega arith)))
 
-      go : (x y : Bool) → nat_eq b at.0 ≡ x → nat_eq b at.1 ≡ y → number_count b vs + (cond x 1 0 + (cond y 1 0 + 0)) ≡ number_count b us → IsUsedBlock (map_freeing sets at) b ↔ Contains vs b
+      go : (x y : Bool) → nat_eq b at.0 ≡ x → nat_eq b at.1 ≡ y → number_occurrences b vs + (cond x 1 0 + (cond y 1 0 + 0)) ≡ number_occurrences b us → IsUsedBlock (map_freeing sets at) b ↔ Contains vs b
       go true y e f l = gone (ap (slice_get (map_freeing sets at)) (eqb-true b at.0 e) ∙ first_free) (let o = once b in omega arith)
       go false true e f l = gone (ap (slice_get (map_freeing sets at)) (eqb-true b at.1 f) ∙ second_free) (let o = once b in omega arith)
       go false false e f l =
           let same = elsewhere b e f in (
-            (λ h. Contains-number_count vs b (let n = number_count-Contains us b ((used b).0 (sym same ∙ h)) in omega arith)),
-            (λ h. same ∙ (used b).1 (Contains-number_count us b (let n = number_count-Contains vs b h in omega arith))),
+            (λ h. Contains-number_occurrences vs b (let n = number_occurrences-Contains us b ((used b).0 (sym same ∙ h)) in omega arith)),
+            (λ h. same ∙ (used b).1 (Contains-number_occurrences us b (let n = number_occurrences-Contains vs b h in omega arith))),
           )
 
   flying_same : SameInFlight sets (map_freeing sets at)
@@ -151,9 +151,9 @@ module _ (sets : BlockStates) (at : ℕ × ℕ) (us vs : List ℕ) (used : AreUs
   map_without new is = subst (λ z. HasMapWithout sets z vs) (sym is) (record { used = used_fewer; size = length-set (set sets at.0 Free) at.1 Free ∙ length-set sets at.0 Free; flying = flying_same })
 
 -- the map after the end of a move, which frees the pair or not
-pub map_ended : (t : KeptThread) (index : ℕ) (goes : Bool) (us vs : List ℕ) → AreUsed t.map us → ((b : ℕ) → number_count b us ≤ 1)
-    → ((b : ℕ) → number_count b vs + number_count b (dropped_at_end t index goes) ≡ number_count b us) → (new : BlockStates) → new ≡ map_move_ended t index goes → HasMapWithout t.map new vs
-map_ended t index true us vs used once less new is = map_without t.map (thread_pair_at t index).at us vs used once less new is
+pub map_ended : (t : KeptThread) (index : ℕ) (goes : Bool) (us vs : List ℕ) → AreUsed t.map us → ((b : ℕ) → number_occurrences b us ≤ 1)
+    → ((b : ℕ) → number_occurrences b vs + number_occurrences b (dropped_at_end t index goes) ≡ number_occurrences b us) → (new : BlockStates) → new ≡ map_move_ended t index goes → HasMapWithout t.map new vs
+map_ended t index true us vs used once less new is = map_without t.map (thread_pair t index).at us vs used once less new is
 map_ended t index false us vs used once less new is = subst (λ z. HasMapWithout t.map z vs) (sym is) (record { used = used_same t.map us vs (λ b. let e = less b in omega arith) used; size = refl; flying = λ b. ((λ h. h), (λ h. h)) })
 
 -- ---- a pair that is dropped by a commit to the one in front of it
@@ -185,10 +185,10 @@ module _ {t : KeptThread} {index : ℕ} {state : Gstate} {w : Site} {x o : Pair}
   accepted_is : IsAccepted t.disk (ahead ++ x ∷ o ∷ back)
   accepted_is = subst (IsAccepted t.disk) is k.accepted
 
-  pub front_there : thread_pair_at t (index - 1) ≡ x
+  pub front_there : thread_pair t (index - 1) ≡ x
   front_there = front_is t (index - 1) ahead x o back is number
 
-  pub gone_there : thread_pair_at t (index - 1 + 1) ≡ o
+  pub gone_there : thread_pair t (index - 1 + 1) ≡ o
   gone_there = gone_is t (index - 1) ahead x o back is number
 
   pub can_drop_pair : CanDropAt t index state
@@ -226,12 +226,12 @@ module _ {t : KeptThread} {index : ℕ} {state : Gstate} {w : Site} {x o : Pair}
   device_left disk written = subst₂ (IsDevice t.disk disk) (sym (grouped (x ∷ o ∷ []))) (sym (grouped (pair_left ∷ []))) (device_grouped disk written)
 
   -- a stop leaves the pairs as they were, or without that one
-  pub left_dropped : {before after : Tree} → (tree_on_disk t.disk t.pairs ≡ before) ⊎ (tree_on_disk t.disk t.pairs ≡ after)
+  pub left_dropped : {before after : Tree} → (disk_tree t.disk t.pairs ≡ before) ⊎ (disk_tree t.disk t.pairs ≡ after)
       → ((disk : Disk) → IsPairWritten t (index - 1) (content_after_drop t (index - 1) state) disk → HasEither disk before after)
       → (left : Blocks) → LeftByDrop t (index - 1) state left → HasEither (with_blocks left t.disk) before after
   left_dropped {before = before} {after = after} shows then left l = go l.is
     where
-      go : (l.content ≡ (thread_pair_at t (index - 1)).content) ⊎ (l.content ≡ content_after_drop t (index - 1) state) → HasEither (with_blocks left t.disk) before after
+      go : (l.content ≡ (thread_pair t (index - 1)).content) ⊎ (l.content ≡ content_after_drop t (index - 1) state) → HasEither (with_blocks left t.disk) before after
       go (inl e) = left_still t.disk left t.pairs k.accepted k.writable (subst (λ z. IsDevice t.disk (with_blocks left t.disk) z z) (sym is)
           (device_kept t (index - 1) ahead x o back is number accepted_is (with_blocks left t.disk) x.content refl
           (subst (λ y. IsPairWritten t (index - 1) y (with_blocks left t.disk)) (e ∙ ap (λ (z : Pair). z.content) front_there) l.written))) shows
@@ -249,21 +249,21 @@ module _ {t : KeptThread} {index : ℕ} {state : Gstate} {w : Site} {x o : Pair}
     pairs_now : new.pairs ≡ ahead ++ pair_left ∷ back
     pairs_now = pairs_left ∙ grouped (pair_left ∷ [])
 
-    pub blocks_left : (b : ℕ) → number_count b (blocks_of_pairs new.pairs) + number_count b (address_blocks o.at) ≡ number_count b (blocks_of_pairs t.pairs)
+    pub blocks_left : (b : ℕ) → number_occurrences b (pairs_blocks new.pairs) + number_occurrences b (address_blocks o.at) ≡ number_occurrences b (pairs_blocks t.pairs)
     blocks_left b =
-        ap (λ z. number_count b (blocks_of_pairs z) + number_count b (address_blocks o.at)) pairs_now
-        ∙ blocks_dropped ahead x o pair_left back refl b ∙ ap (λ z. number_count b (blocks_of_pairs z)) (sym is)
+        ap (λ z. number_occurrences b (pairs_blocks z) + number_occurrences b (address_blocks o.at)) pairs_now
+        ∙ blocks_dropped ahead x o pair_left back refl b ∙ ap (λ z. number_occurrences b (pairs_blocks z)) (sym is)
 
     module _ (none : HasNoMove (pairs_gstate t.pairs)) (still : HasNoMove state) where
-      pub files_left : (b : ℕ) → number_count b (file_blocks new.disk (all_slots new.pairs)) + number_count b (file_blocks t.disk o.content.slots)
-          ≡ number_count b (file_blocks t.disk (all_slots t.pairs))
+      pub files_left : (b : ℕ) → number_occurrences b (file_blocks new.disk (all_slots new.pairs)) + number_occurrences b (file_blocks t.disk o.content.slots)
+          ≡ number_occurrences b (file_blocks t.disk (all_slots t.pairs))
       files_left b =
-          ap (λ z. number_count b (file_blocks new.disk (all_slots z)) + number_count b (file_blocks t.disk o.content.slots)) pairs_now
+          ap (λ z. number_occurrences b (file_blocks new.disk (all_slots z)) + number_occurrences b (file_blocks t.disk o.content.slots)) pairs_now
           ∙ files_dropped t.disk new.disk ahead x o pair_left back (subst (λ z. HasNoMove (pairs_gstate z)) is none) (device_grouped new.disk d.written) slots_left b
-          ∙ ap (λ z. number_count b (file_blocks t.disk (all_slots z))) (sym is)
+          ∙ ap (λ z. number_occurrences b (file_blocks t.disk (all_slots z))) (sym is)
 
       -- what the image doesn't use any more: the pair's blocks, and those of its slots' lists
-      pub used_left : (b : ℕ) → (number_count b (used_blocks new.disk new.pairs) + number_count b (file_blocks t.disk o.content.slots)) + number_count b (address_blocks o.at) ≡ number_count b (used_blocks t.disk t.pairs)
+      pub used_left : (b : ℕ) → (number_occurrences b (used_blocks new.disk new.pairs) + number_occurrences b (file_blocks t.disk o.content.slots)) + number_occurrences b (address_blocks o.at) ≡ number_occurrences b (used_blocks t.disk t.pairs)
       used_left b =
           let f = files_left b in
           let e = blocks_left b in
@@ -271,5 +271,5 @@ module _ {t : KeptThread} {index : ℕ} {state : Gstate} {w : Site} {x o : Pair}
           let v = count_used b t.disk t.pairs none in
           omega arith
 
-      pub map_dropped : AreUsed t.map (used_blocks t.disk t.pairs) → (owned : List ℕ) → ((b : ℕ) → number_count b owned ≡ number_count b (used_blocks new.disk new.pairs) + number_count b (file_blocks t.disk o.content.slots)) → HasMapWithout t.map new.map owned
+      pub map_dropped : AreUsed t.map (used_blocks t.disk t.pairs) → (owned : List ℕ) → ((b : ℕ) → number_occurrences b owned ≡ number_occurrences b (used_blocks new.disk new.pairs) + number_occurrences b (file_blocks t.disk o.content.slots)) → HasMapWithout t.map new.map owned
       map_dropped used owned are = map_without t.map o.at (used_blocks t.disk t.pairs) owned used (λ b. once_from_distinct (used_blocks t.disk t.pairs) k.accepted.owned_once b) (λ b. let e = are b in let f = used_left b in omega arith) new.map map_left

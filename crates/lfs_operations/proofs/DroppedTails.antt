@@ -1,5 +1,5 @@
 -- What a pair that goes leaves to the one in front of it, as changes of that one.
-use Rattle.lfs_operations.proofs.Common.{ℕ, zero, suc, ◌≡◌, ◌+◌, ◌<◌, ◌&&◌, Bool, true, false, cond, not, inl, inr, ◌⊎◌, List, [], ◌∷◌, ◌++◌, length, Option, Some, None, refl, sym, ap, ap₂, subst, ◌∙◌, arith, get_or, set, remove, xor_lt, same_Some, Blocks, PutMove, PutTail, changed_content_of, RawContent, complete_content, content_after, content_at, has_commit, current_of_two, current_block, is_later, empty_raw_content, raw_content, Disk, disk_block, block_entries, block_revision, IsWellFormed, MoveStateFits, PairContent, FitsInPair, Gstate, Tail, gstate_xor, zero_gstate, Pair, pairs_gstate, tail_address_of, completed_from, completed_parts, Each, each_right, each_weaker, Does, does_first, does_nothing, puts_move, puts_tail, gstate_assoc, gstate_comm, gstate_cons, gstate_moved, gstate_right, gstate_self, logged, KeptThread, CanDropNext, IsNextDropped, LossLeavesPairChanged, RefusesChanges, IsPairWritten, complete_after, empty_anchor, thread_pair_at, tail_setting_change, pairs_with, option_and_then, slice_index, HoldBytes, IsAllowedTail, ends_tail, IsPairDropped, LeftByDrop, delta_after_drop, tail_after_drop, tail_over_drop, dropping_changes, content_after_drop}
+use Rattle.lfs_operations.proofs.Common.{ℕ, zero, suc, ◌≡◌, ◌+◌, ◌<◌, ◌&&◌, Bool, true, false, cond, not, inl, inr, ◌⊎◌, List, [], ◌∷◌, ◌++◌, length, Option, Some, None, refl, sym, ap, ap₂, subst, ◌∙◌, arith, get_or, set, remove, xor_lt, same_Some, Blocks, PutMove, PutTail, changed_content_of, RawContent, complete_content, content_after, content_at, has_commit, current_of_two, current_block, is_later, empty_raw_content, raw_content, Disk, disk_block, block_entries, block_revision, IsWellFormed, MoveStateFits, PairContent, FitsInPair, Gstate, Tail, gstate_xor, zero_gstate, Pair, pairs_gstate, tail_target, completed_from, completed_parts, Each, each_right, each_weaker, Does, does_first, does_nothing, puts_move, puts_tail, gstate_assoc, gstate_comm, gstate_cons, gstate_moved, gstate_right, gstate_self, logged, KeptThread, CanDropNext, IsNextDropped, LossLeavesPair, RefusesChanges, IsPairWritten, complete_after, empty_anchor, thread_pair, tail_change, pairs_with, option_and_then, slice_index, AreByteBlocks, IsAllowedTail, ends_tail, IsPairDropped, LeftByDrop, delta_after_drop, tail_after_drop, tail_over_drop, dropping_changes, content_after_drop}
 use Rattle.lfs_operations.proofs.Held.{completes_to}
 use Rattle.lfs_operations.proofs.Threads.{get_at, set_at}
 
@@ -22,14 +22,14 @@ pub record IsWritableAgain (c : PairContent) : Type 0 where
   pub tail : IsAllowedTail c.tail
   pub move : MoveStateFits c.move
 
-logged_raw : (disk : Disk) (at : ℕ × ℕ) (raw : RawContent) → HoldBytes disk.blocks → raw_content disk at ≡ Some raw → IsWellFormed raw
+logged_raw : (disk : Disk) (at : ℕ × ℕ) (raw : RawContent) → AreByteBlocks disk.blocks → raw_content disk at ≡ Some raw → IsWellFormed raw
 logged_raw disk at raw bytes is = go (current_block disk at) refl is
   where
     go : (o : Option (List ℕ)) → current_block disk at ≡ o → option_and_then (λ block. content_after empty_raw_content (block_entries block)) o ≡ Some raw → IsWellFormed raw
     go None e k = absurd (cc)
     go (Some block) e k = logged block raw (bytes_of_holder (disk_block disk at.0) (disk_block disk at.1) block (bytes at.0) (bytes at.1) e) k
 
-pub logged_content : (disk : Disk) (at : ℕ × ℕ) (c : PairContent) → HoldBytes disk.blocks → content_at disk at ≡ Some c → IsWritableAgain c
+pub logged_content : (disk : Disk) (at : ℕ × ℕ) (c : PairContent) → AreByteBlocks disk.blocks → content_at disk at ≡ Some c → IsWritableAgain c
 logged_content disk at c bytes is =
     let k = completes_to (raw_content disk at) c is in
     let l = logged_raw disk at k.raw bytes k.is in
@@ -52,7 +52,7 @@ pub moves_joined : (ps : List Pair) → Each (λ p. MoveStateFits p.content.move
 moves_joined [] h = no_move_state
 moves_joined (p ∷ ps) h = subst MoveStateFits (sym (gstate_cons p ps)) (move_xor p.content.move (pairs_gstate ps) h.0 (moves_joined ps h.1))
 
-pub all_again : (disk : Disk) (ps : List Pair) → HoldBytes disk.blocks → Each (λ p. content_at disk p.at ≡ Some p.content) ps → Each (λ p. IsWritableAgain p.content) ps
+pub all_again : (disk : Disk) (ps : List Pair) → AreByteBlocks disk.blocks → Each (λ p. content_at disk p.at ≡ Some p.content) ps → Each (λ p. IsWritableAgain p.content) ps
 all_again disk ps bytes h = each_weaker (λ (p : Pair). content_at disk p.at ≡ Some p.content) (λ (p : Pair). IsWritableAgain p.content) (λ p e. logged_content disk p.at p.content bytes e) ps h
 
 -- ---- two pairs of the thread, one behind the other
@@ -84,10 +84,10 @@ remove_next (x ∷ xs) q o zs =
     ap (λ (n : ℕ). remove (x ∷ (xs ++ q ∷ o ∷ zs)) n) e ∙ ap (λ z. x ∷ z) (remove_next xs q o zs)
 
 module _ (t : KeptThread) (front : ℕ) (ahead : List Pair) (p o : Pair) (back : List Pair) (is : t.pairs ≡ ahead ++ p ∷ o ∷ back) (number : length ahead ≡ front) where
-  pub front_is : thread_pair_at t front ≡ p
+  pub front_is : thread_pair t front ≡ p
   front_is = ap₂ (λ (z : List Pair) (i : ℕ). get_or z i empty_anchor) is (sym number) ∙ get_at ahead p (o ∷ back) empty_anchor
 
-  pub gone_is : thread_pair_at t (front + 1) ≡ o
+  pub gone_is : thread_pair t (front + 1) ≡ o
   gone_is = ap₂ (λ (z : List Pair) (i : ℕ). get_or z (i + 1) empty_anchor) is (sym number) ∙ get_next ahead p o back empty_anchor
 
   -- the thread without the second one
@@ -121,12 +121,12 @@ over_again : (f g : Option Tail) → IsAllowedTail g → IsAllowedTail (tail_ove
 over_again f None h = tt
 over_again f (Some t) h = h
 
-pub over_next : (f g : Option Tail) → tail_address_of (tail_over_drop f g) ≡ tail_address_of g
+pub over_next : (f g : Option Tail) → tail_target (tail_over_drop f g) ≡ tail_target g
 over_next f None = refl
 over_next f (Some t) = refl
 
 pub takes : (raw : RawContent) (tail : Option Tail) (m : Gstate) → IsAllowedTail tail → MoveStateFits m
-    → changed_content_of raw (tail_setting_change tail ∷ PutMove m ∷ []) ≡ Some (record { slots = raw.slots; tail = tail; move = m })
+    → changed_content_of raw (tail_change tail ∷ PutMove m ∷ []) ≡ Some (record { slots = raw.slots; tail = tail; move = m })
 takes raw None m h k =
     let now : RawContent = record raw { tail = None } in
     let end : RawContent = record { slots = raw.slots; tail = None; move = m } in
@@ -139,23 +139,23 @@ takes raw (Some t) m h k =
     (does_first (PutMove m) [] now end end (puts_move now m k) (does_nothing end))
 
 pub takes_tail : (c : PairContent) (raw : RawContent) (tail : Option Tail) (m : Gstate) → complete_content raw ≡ Some c → IsAllowedTail tail → MoveStateFits m
-    → option_and_then complete_content (changed_content_of raw (tail_setting_change tail ∷ PutMove m ∷ [])) ≡ Some (record { slots = c.slots; tail = tail; move = m })
+    → option_and_then complete_content (changed_content_of raw (tail_change tail ∷ PutMove m ∷ [])) ≡ Some (record { slots = c.slots; tail = tail; move = m })
 takes_tail c raw tail m complete h k =
     ap (option_and_then complete_content) (takes raw tail m h k)
     ∙ completed_from (record { slots = raw.slots; tail = tail; move = m }) c.slots (completed_parts raw c complete).slots
 
 module _ (t : KeptThread) (front : ℕ) (state : Gstate) (below : front + 1 < length t.pairs) (contents : Each (λ p. content_at t.disk p.at ≡ Some p.content) t.pairs)
-    (bytes : HoldBytes t.disk.blocks) (small : MoveStateFits state) where
+    (bytes : AreByteBlocks t.disk.blocks) (small : MoveStateFits state) where
   two : TwoAt t.pairs front
   two = two_at t.pairs front below
 
-  is_one : thread_pair_at t front ≡ two.one
+  is_one : thread_pair t front ≡ two.one
   is_one = front_is t front two.ahead two.one two.other two.back two.is two.number
 
-  is_other : thread_pair_at t (front + 1) ≡ two.other
+  is_other : thread_pair t (front + 1) ≡ two.other
   is_other = gone_is t front two.ahead two.one two.other two.back two.is two.number
 
-  there : (P : Pair → Type 0) → Each P t.pairs → P (thread_pair_at t front) × P (thread_pair_at t (front + 1))
+  there : (P : Pair → Type 0) → Each P t.pairs → P (thread_pair t front) × P (thread_pair t (front + 1))
   there P h =
       let k = each_right P two.ahead (two.one ∷ two.other ∷ two.back) (subst (Each P) two.is h) in
       (subst P (sym is_one) k.0, subst P (sym is_other) k.1.0)
@@ -167,16 +167,16 @@ module _ (t : KeptThread) (front : ℕ) (state : Gstate) (below : front + 1 < le
   small_delta =
       let k = there (λ p. IsWritableAgain p.content) again in
       let all = moves_joined t.pairs (each_weaker (λ (p : Pair). IsWritableAgain p.content) (λ (p : Pair). MoveStateFits p.content.move) (λ p h. h.move) t.pairs again) in
-      move_xor (gstate_xor (thread_pair_at t front).content.move (thread_pair_at t (front + 1)).content.move) (gstate_xor (pairs_gstate t.pairs) state)
-      (move_xor (thread_pair_at t front).content.move (thread_pair_at t (front + 1)).content.move k.0.move k.1.move) (move_xor (pairs_gstate t.pairs) state all small)
+      move_xor (gstate_xor (thread_pair t front).content.move (thread_pair t (front + 1)).content.move) (gstate_xor (pairs_gstate t.pairs) state)
+      (move_xor (thread_pair t front).content.move (thread_pair t (front + 1)).content.move k.0.move k.1.move) (move_xor (pairs_gstate t.pairs) state all small)
 
   pub taking_made : complete_after t front (dropping_changes t front state) ≡ Some (content_after_drop t front state)
   taking_made =
       let k = there (λ p. IsWritableAgain p.content) again in
-      let held = completes_to (raw_content t.disk (thread_pair_at t front).at) (thread_pair_at t front).content (there (λ p. content_at t.disk p.at ≡ Some p.content) contents).0 in
+      let held = completes_to (raw_content t.disk (thread_pair t front).at) (thread_pair t front).content (there (λ p. content_at t.disk p.at ≡ Some p.content) contents).0 in
       ap (λ o. option_and_then complete_content (option_and_then (λ (x : RawContent). changed_content_of x (dropping_changes t front state)) o)) held.is
-      ∙ takes_tail (thread_pair_at t front).content held.raw (tail_after_drop t front) (delta_after_drop t front state) held.complete
-      (over_again (thread_pair_at t front).content.tail (thread_pair_at t (front + 1)).content.tail k.1.tail) small_delta
+      ∙ takes_tail (thread_pair t front).content held.raw (tail_after_drop t front) (delta_after_drop t front state) held.complete
+      (over_again (thread_pair t front).content.tail (thread_pair t (front + 1)).content.tail k.1.tail) small_delta
 
 module _ (t : KeptThread) (front : ℕ) (state : Gstate) (below : front + 1 < length t.pairs) (made : complete_after t front (dropping_changes t front state) ≡ Some (content_after_drop t front state)) where
   pub can_drop : CanDropNext t front (dropping_changes t front state)
@@ -184,14 +184,14 @@ module _ (t : KeptThread) (front : ℕ) (state : Gstate) (below : front + 1 < le
     below = below;
     content = content_after_drop t front state;
     made = made;
-    next = over_next (thread_pair_at t front).content.tail (thread_pair_at t (front + 1)).content.tail;
+    next = over_next (thread_pair t front).content.tail (thread_pair t (front + 1)).content.tail;
   }
 
   parted : TwoAt t.pairs front
   parted = two_at t.pairs front below
 
   -- the slots stay, so it fits
-  pub drop_not_refused : FitsInPair t.disk.block_size t.disk.page (thread_pair_at t front).content → (new : KeptThread) → RefusesChanges t front (dropping_changes t front state) new → ⊥
+  pub drop_not_refused : FitsInPair t.disk.block_size t.disk.page (thread_pair t front).content → (new : KeptThread) → RefusesChanges t front (dropping_changes t front state) new → ⊥
   drop_not_refused fits new is = is.too_large (subst (FitsInPair t.disk.block_size t.disk.page) (same_Some (content_after_drop t front state) is.content (sym made ∙ is.made)) (record { size = fits.size; count = fits.count }))
 
   pub has_dropped : (new : KeptThread) → IsNextDropped t front (dropping_changes t front state) new → IsPairDropped t front state new
@@ -207,10 +207,10 @@ module _ (t : KeptThread) (front : ℕ) (state : Gstate) (below : front + 1 < le
         map = is.map;
       }
 
-  pub left_by_drop : (left : Blocks) → LossLeavesPairChanged t front (dropping_changes t front state) left → LeftByDrop t front state left
+  pub left_by_drop : (left : Blocks) → LossLeavesPair t front (dropping_changes t front state) left → LeftByDrop t front state left
   left_by_drop left is = record { content = is.content; is = go is.is; written = is.written }
     where
-      go : (is.content ≡ (thread_pair_at t front).content) ⊎ ((complete_after t front (dropping_changes t front state) ≡ Some is.content) × FitsInPair t.disk.block_size t.disk.page is.content)
-          → (is.content ≡ (thread_pair_at t front).content) ⊎ (is.content ≡ content_after_drop t front state)
+      go : (is.content ≡ (thread_pair t front).content) ⊎ ((complete_after t front (dropping_changes t front state) ≡ Some is.content) × FitsInPair t.disk.block_size t.disk.page is.content)
+          → (is.content ≡ (thread_pair t front).content) ⊎ (is.content ≡ content_after_drop t front state)
       go (inl e) = inl e
       go (inr k) = inr (same_Some is.content (content_after_drop t front state) (sym k.0 ∙ made))

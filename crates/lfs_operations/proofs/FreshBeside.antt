@@ -1,13 +1,8 @@
 -- A step that writes one pair and two free blocks: what is on the device then, and that the image stays where the pair does.
 use Rattle.std.proofs.Common.{ℕ, ◌≡◌, ◌+◌, ◌≤◌, nat_eq, List, [], ◌∷◌, ◌++◌, length, Some, inl, refl, sym, ap, ap₂, subst, ◌∙◌, arith, flat_map}
 use Rattle.std.specs.Prelude.{Contains}
-use Rattle.lfs_operations.proofs.Common.{All-from_recursion, Each, IsDistinct, recursion_from_All, number_count-Contains, once_from_distinct, Blocks, SameExceptThese, IsFree, IsInFlight, content_at, current_block, current_of_two, Disk, disk_block, HasEither, with_blocks, PairContent, FitsInPair, Slot, Pair, blocks_of_pairs, pairs_gstate, zero_gstate, address_blocks, addresses_blocks, BeginsWith, superblock_entry, IsAccepted, IsWritable, all_slots_not_moved, struct_blocks, tree_on_disk, used_blocks, each_right, number_count, count_append, count_here, HasNoMove, no_move_from, Site, HasFirst, KeepsOutsideBoth, KeptThread, SameGeometryAs, HasOldPair, ChangesThreadBlocks, BeginWithSuperblock, map_using, thread_pair_at}
+use Rattle.lfs_operations.proofs.Common.{All-from_recursion, Each, IsDistinct, recursion_from_All, number_occurrences-Contains, once_from_distinct, Blocks, SameExceptThese, IsFree, IsInFlight, content_at, current_block, current_of_two, Disk, disk_block, HasEither, with_blocks, PairContent, FitsInPair, Slot, Pair, pairs_blocks, pairs_gstate, zero_gstate, address_blocks, addresses_blocks, BeginsWith, superblock_entry, IsAccepted, IsWritable, all_unmoved_slots, struct_blocks, disk_tree, used_blocks, each_right, number_occurrences, count_append, count_here, HasNoMove, no_move_from, Site, HasFirst, KeepsOutsideBoth, KeptThread, SameGeometryAs, HasOldPair, ChangesThreadBlocks, BeginWithSuperblock, map_using, thread_pair, content_same, KeepsSuperblockFirst, AreTwoFree, map_taking_two, SameInFlight, IsReadyImage}
 use Rattle.lfs_model.specs.session.Moved.{AreUnused}
-use Rattle.lfs_model.proofs.Devices.{content_same}
-use Rattle.lfs_thread.specs.ThreadSteps.{KeepsSuperblockFirst}
-use Rattle.lfs_operations.specs.Changing.{AreTwoFree, map_taking_two}
-use Rattle.lfs_operations.specs.Dropping.{SameInFlight}
-use Rattle.lfs_operations.specs.Ready.{IsReadyImage}
 use Rattle.lfs_operations.proofs.Owning.{count_pairs, none_comes_now, not_used, stay_taken}
 use Rattle.lfs_operations.proofs.Placing.{IsPlaced, all_apart, device, left_still}
 use Rattle.lfs_operations.proofs.Putting.{with_map}
@@ -24,7 +19,7 @@ module _ (t : KeptThread) (ready : IsReadyImage t) (index : ℕ) (ahead : List P
   abbrev pub pair_site : Site
   pair_site = record { chain = ahead; before = []; left = []; right = []; after = back }
 
-  pub pair_there : thread_pair_at t index ≡ p
+  pub pair_there : thread_pair t index ≡ p
   pair_there = threads.pair_is t index pair_site p is place
 
   pub accepted : IsAccepted t.disk (ahead ++ p ∷ back)
@@ -50,7 +45,7 @@ module _ (t : KeptThread) (ready : IsReadyImage t) (index : ℕ) (ahead : List P
   unused = All-from_recursion (λ b. Contains (used_blocks t.disk t.pairs) b → ⊥) own (none fresh.0 two.first, (none fresh.1 two.second, tt))
     where
       none : (b : ℕ) → IsFree t.map b → Contains (used_blocks t.disk t.pairs) b → ⊥
-      none b free h = let n = not_used t.map (used_blocks t.disk t.pairs) ready.used b free in let k = number_count-Contains (used_blocks t.disk t.pairs) b h in absurd (omega arith)
+      none b free h = let n = not_used t.map (used_blocks t.disk t.pairs) ready.used b free in let k = number_occurrences-Contains (used_blocks t.disk t.pairs) b h in absurd (omega arith)
 
   pub flying : SameInFlight t.map (map_using (map_taking_two t.map fresh) fresh)
   flying b = (none_comes_now t.map fresh two b, λ h. stay_taken t.map fresh two b (λ free. absurd (not_free free h)) ∙ h)
@@ -59,8 +54,8 @@ module _ (t : KeptThread) (ready : IsReadyImage t) (index : ℕ) (ahead : List P
       not_free free h = absurd (let e = sym free ∙ h in cc)
 
   -- the pair has another content, and more pairs have theirs
-  pub placed : (disk : Disk) (c : PairContent) (more : List Pair) → SameGeometryAs t.disk disk → KeepsOutsideBoth (thread_pair_at t index).at fresh t.disk.blocks disk.blocks → content_at disk p.at ≡ Some c
-      → Each (λ x. content_at disk x.at ≡ Some x.content) more → KeepsSuperblockFirst t.disk (thread_pair_at t index).at c disk → (HasFirst p.content.slots → BeginWithSuperblock c.slots)
+  pub placed : (disk : Disk) (c : PairContent) (more : List Pair) → SameGeometryAs t.disk disk → KeepsOutsideBoth (thread_pair t index).at fresh t.disk.blocks disk.blocks → content_at disk p.at ≡ Some c
+      → Each (λ x. content_at disk x.at ≡ Some x.content) more → KeepsSuperblockFirst t.disk (thread_pair t index).at c disk → (HasFirst p.content.slots → BeginWithSuperblock c.slots)
       → IsPlaced t.disk disk p (record { at = p.at; content = c }) more (fresh.0 ∷ fresh.1 ∷ [])
   placed disk c more shape others here behind first marked = record {
     geometry = threads.shape_same t index pair_site p is place shape;
@@ -72,16 +67,16 @@ module _ (t : KeptThread) (ready : IsReadyImage t) (index : ℕ) (ahead : List P
 
   -- ---- the pair stays
 
-  still_shows : (left : Blocks) → IsPlaced t.disk (with_blocks left t.disk) p p [] own → HasEither (with_blocks left t.disk) (tree_on_disk t.disk t.pairs) (tree_on_disk t.disk t.pairs)
-  still_shows left still = left_still t.disk left ps accepted writable (device t.disk (with_blocks left t.disk) pair_site p p [] own accepted distinct still) (inl (ap (tree_on_disk t.disk) (sym is)))
+  still_shows : (left : Blocks) → IsPlaced t.disk (with_blocks left t.disk) p p [] own → HasEither (with_blocks left t.disk) (disk_tree t.disk t.pairs) (disk_tree t.disk t.pairs)
+  still_shows left still = left_still t.disk left ps accepted writable (device t.disk (with_blocks left t.disk) pair_site p p [] own accepted distinct still) (inl (ap (disk_tree t.disk) (sym is)))
 
-  pub left_old : (left : Blocks) → KeepsOutsideBoth (thread_pair_at t index).at fresh t.disk.blocks left → HasOldPair (with_map t (map_taking_two t.map fresh)) index (with_blocks left t.disk)
-      → HasEither (with_blocks left t.disk) (tree_on_disk t.disk t.pairs) (tree_on_disk t.disk t.pairs)
+  pub left_old : (left : Blocks) → KeepsOutsideBoth (thread_pair t index).at fresh t.disk.blocks left → HasOldPair (with_map t (map_taking_two t.map fresh)) index (with_blocks left t.disk)
+      → HasEither (with_blocks left t.disk) (disk_tree t.disk t.pairs) (disk_tree t.disk t.pairs)
   left_old left others b = still_shows left (threads.placed_still t index pair_site p is place (with_blocks left t.disk) fresh
       (record { block_size = refl; page = refl; order = refl; profile = refl; count = others.count }) others (record { holds = b.holds; first = b.first }))
 
   -- only the two blocks may differ
-  left_beside : (left : Blocks) → SameExceptThese (address_blocks fresh) t.disk.blocks left → HasEither (with_blocks left t.disk) (tree_on_disk t.disk t.pairs) (tree_on_disk t.disk t.pairs)
+  left_beside : (left : Blocks) → SameExceptThese (address_blocks fresh) t.disk.blocks left → HasEither (with_blocks left t.disk) (disk_tree t.disk t.pairs) (disk_tree t.disk t.pairs)
   left_beside left others = still_shows left (record {
     geometry = record { block_size = refl; page = refl; order = refl; profile = refl; count = others.count };
     same = λ b none. others.others b (all_apart own b (omega arith));
@@ -93,10 +88,10 @@ module _ (t : KeptThread) (ready : IsReadyImage t) (index : ℕ) (ahead : List P
       held_there = each_right (λ (z : Pair). content_at t.disk z.at ≡ Some z.content) ahead (p ∷ back)
           (recursion_from_All (λ (z : Pair). content_at t.disk z.at ≡ Some z.content) ps accepted.thread.contents)
 
-      same_used : (b : ℕ) → 1 ≤ number_count b (blocks_of_pairs (p ∷ [])) → disk_block (with_blocks left t.disk) b ≡ disk_block t.disk b
+      same_used : (b : ℕ) → 1 ≤ number_occurrences b (pairs_blocks (p ∷ [])) → disk_block (with_blocks left t.disk) b ≡ disk_block t.disk b
       same_used b some = others.others b (all_apart own b (
           let n = once_from_distinct (fresh.0 ∷ fresh.1 ∷ used_blocks t.disk ps) distinct b in
-          let k = count_append b (blocks_of_pairs ps) (flat_map (λ (s : Slot). struct_blocks t.disk s.struct) (all_slots_not_moved ps)) in
+          let k = count_append b (pairs_blocks ps) (flat_map (λ (s : Slot). struct_blocks t.disk s.struct) (all_unmoved_slots ps)) in
           let i = count_pairs b pair_site (p ∷ []) in
           omega arith))
 
@@ -106,9 +101,9 @@ module _ (t : KeptThread) (ready : IsReadyImage t) (index : ℕ) (ahead : List P
       second_same : disk_block (with_blocks left t.disk) p.at.1 ≡ disk_block t.disk p.at.1
       second_same = same_used p.at.1 (let h = count_here p.at.1 [] in omega arith)
 
-  pub left_beside_on : (new : KeptThread) → ChangesThreadBlocks (addresses_blocks (thread_pair_at t index).at fresh) (with_map t (map_taking_two t.map fresh)) new → SameExceptThese (address_blocks fresh) t.disk.blocks new.disk.blocks
-      → HasEither new.disk (tree_on_disk t.disk t.pairs) (tree_on_disk t.disk t.pairs)
-  left_beside_on new writes others = subst (λ (d : Disk). HasEither d (tree_on_disk t.disk t.pairs) (tree_on_disk t.disk t.pairs)) same_disk (left_beside new.disk.blocks others)
+  pub left_beside_on : (new : KeptThread) → ChangesThreadBlocks (addresses_blocks (thread_pair t index).at fresh) (with_map t (map_taking_two t.map fresh)) new → SameExceptThese (address_blocks fresh) t.disk.blocks new.disk.blocks
+      → HasEither new.disk (disk_tree t.disk t.pairs) (disk_tree t.disk t.pairs)
+  left_beside_on new writes others = subst (λ (d : Disk). HasEither d (disk_tree t.disk t.pairs) (disk_tree t.disk t.pairs)) same_disk (left_beside new.disk.blocks others)
     where
       same_disk : with_blocks new.disk.blocks t.disk ≡ new.disk
       same_disk = λ j. record { block_size = sym writes.shape.block_size j; page = sym writes.shape.page j; order = sym writes.shape.order j; profile = sym writes.shape.profile j; blocks = new.disk.blocks }

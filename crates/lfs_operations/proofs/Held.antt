@@ -1,6 +1,6 @@
 -- What a pair of an accepted image holds, as its log has it.
 use Rattle.lfs_model.specs.declared.limits.AcceptedVersions.{AcceptedVersions}
-use Rattle.lfs_operations.proofs.Common.{ℕ, ◌≡◌, ◌+◌, ◌<◌, false, take, drop, List, [], ◌∷◌, ◌++◌, length, Option, Some, None, refl, sym, ap, subst, ◌∙◌, arith, append_assoc, length-append, get_or, block_entries, logged, recursion_from_All, RawContent, raw_content, content_after, content_at, complete_content, current_block, empty_raw_content, Disk, IsPairOfDirectory, PairContent, FitsInPair, Slot, is_superblock, BeginsWithSuperblock, IsAccepted, IsTreeEntry, take-append-drop, Pair, pair_count_before_root, Each, each_append, each_right, each_weaker, KeptThread, thread_pair_at, empty_anchor, option_and_then, slice_index, All, IsRawFormed, IsReadyImage}
+use Rattle.lfs_operations.proofs.Common.{ℕ, ◌≡◌, ◌+◌, ◌<◌, false, take, drop, List, [], ◌∷◌, ◌++◌, length, Option, Some, None, refl, sym, ap, subst, ◌∙◌, arith, append_assoc, length-append, get_or, block_entries, logged, recursion_from_All, RawContent, raw_content, content_after, content_at, complete_content, current_block, empty_raw_content, Disk, IsDirectoryPair, PairContent, FitsInPair, Slot, is_superblock, BeginsWithSuperblock, IsAccepted, IsTreeEntry, take-append-drop, Pair, count_before_root, Each, each_append, each_right, each_weaker, KeptThread, thread_pair, empty_anchor, option_and_then, slice_index, All, IsRawFormed, IsReadyImage}
 
 -- a content that is complete comes of one that is there
 pub record CompletesTo (o : Option RawContent) (c : PairContent) : Type 0 where
@@ -27,21 +27,21 @@ headed_entries versions bytes [] h = tt
 headed_entries versions bytes (s ∷ slots) h = ((λ e. absurd (let z = sym e ∙ h.0 in cc)), each_weaker IsTreeEntry IsEntryIfOther (λ x k e. k) slots (recursion_from_All IsTreeEntry slots h.2))
 
 pub other_entries : (disk : Disk) (ps : List Pair) → IsAccepted disk ps → Each (λ p. Each IsEntryIfOther p.content.slots) ps
-other_entries disk ps ok = subst (Each (λ p. Each IsEntryIfOther p.content.slots)) (take-append-drop (pair_count_before_root ps + 1) ps)
-    (each_append (λ p. Each IsEntryIfOther p.content.slots) (take (pair_count_before_root ps + 1) ps) (drop (pair_count_before_root ps + 1) ps)
+other_entries disk ps ok = subst (Each (λ p. Each IsEntryIfOther p.content.slots)) (take-append-drop (count_before_root ps + 1) ps)
+    (each_append (λ p. Each IsEntryIfOther p.content.slots) (take (count_before_root ps + 1) ps) (drop (count_before_root ps + 1) ps)
     (each_weaker (λ (p : Pair). BeginsWithSuperblock disk.profile.versions ok.superblock.0 p.content.slots) (λ (p : Pair). Each IsEntryIfOther p.content.slots) (λ p h. headed_entries disk.profile.versions ok.superblock.0 p.content.slots h)
-    (take (pair_count_before_root ps + 1) ps) (recursion_from_All (λ (p : Pair). BeginsWithSuperblock disk.profile.versions ok.superblock.0 p.content.slots) (take (pair_count_before_root ps + 1) ps) ok.superblock.1.1))
+    (take (count_before_root ps + 1) ps) (recursion_from_All (λ (p : Pair). BeginsWithSuperblock disk.profile.versions ok.superblock.0 p.content.slots) (take (count_before_root ps + 1) ps) ok.superblock.1.1))
     (each_weaker (λ (p : Pair). All IsTreeEntry p.content.slots) (λ (p : Pair). Each IsEntryIfOther p.content.slots)
-    (λ p h. each_weaker IsTreeEntry IsEntryIfOther (λ x k e. k) p.content.slots (recursion_from_All IsTreeEntry p.content.slots h)) (drop (pair_count_before_root ps + 1) ps)
-    (recursion_from_All (λ (p : Pair). All IsTreeEntry p.content.slots) (drop (pair_count_before_root ps + 1) ps) ok.slots)))
+    (λ p h. each_weaker IsTreeEntry IsEntryIfOther (λ x k e. k) p.content.slots (recursion_from_All IsTreeEntry p.content.slots h)) (drop (count_before_root ps + 1) ps)
+    (recursion_from_All (λ (p : Pair). All IsTreeEntry p.content.slots) (drop (count_before_root ps + 1) ps) ok.slots)))
 
 -- ---- the pair of a place
 
-module _ (t : KeptThread) (ready : IsReadyImage t) (first index : ℕ) (p : Pair) (rest : List Pair) (place : IsPairOfDirectory t.pairs first index p rest) where
+module _ (t : KeptThread) (ready : IsReadyImage t) (first index : ℕ) (p : Pair) (rest : List Pair) (place : IsDirectoryPair t.pairs first index p rest) where
   parts : t.pairs ≡ (place.front ++ place.left) ++ p ∷ rest
   parts = place.parts ∙ sym (append_assoc place.front place.left (p ∷ rest))
 
-  pub here : thread_pair_at t index ≡ p
+  pub here : thread_pair t index ≡ p
   here = ap (λ (z : List Pair). get_or z index empty_anchor) parts
       ∙ get_behind (place.front ++ place.left) p rest index empty_anchor (let l = length-append place.front place.left in let n = place.number in omega arith)
 
@@ -51,7 +51,7 @@ module _ (t : KeptThread) (ready : IsReadyImage t) (first index : ℕ) (p : Pair
   pub each_pair : (P : Pair → Type 0) → Each P t.pairs → P p
   each_pair P h = (each_right P (place.front ++ place.left) (p ∷ rest) (subst (Each P) parts h)).0
 
-  pub holds : content_at t.disk (thread_pair_at t index).at ≡ Some p.content
+  pub holds : content_at t.disk (thread_pair t index).at ≡ Some p.content
   holds = ap (λ (z : Pair). content_at t.disk z.at) here
       ∙ each_pair (λ (x : Pair). content_at t.disk x.at ≡ Some x.content) (recursion_from_All (λ (x : Pair). content_at t.disk x.at ≡ Some x.content) t.pairs ready.accepted.thread.contents)
 
@@ -59,8 +59,8 @@ module _ (t : KeptThread) (ready : IsReadyImage t) (first index : ℕ) (p : Pair
   fits_there = each_pair (λ (x : Pair). FitsInPair t.disk.block_size t.disk.page x.content)
       (recursion_from_All (λ (x : Pair). FitsInPair t.disk.block_size t.disk.page x.content) t.pairs ready.writable.pairs)
 
-  pub raw_there : CompletesTo (raw_content t.disk (thread_pair_at t index).at) p.content
-  raw_there = completes_to (raw_content t.disk (thread_pair_at t index).at) p.content holds
+  pub raw_there : CompletesTo (raw_content t.disk (thread_pair t index).at) p.content
+  raw_there = completes_to (raw_content t.disk (thread_pair t index).at) p.content holds
 
 -- a log of bytes comes to what a log can come to
 pub logged_at : (disk : Disk) (at : ℕ × ℕ) (block : List ℕ) → current_block disk at ≡ Some block → ((i : ℕ) → slice_index block i < 256) → IsRawFormed disk at

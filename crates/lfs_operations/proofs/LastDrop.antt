@@ -1,5 +1,5 @@
 -- The last step of an operation drops a pair that no path leads to any more.
-use Rattle.lfs_operations.proofs.Common.{ℕ, ◌≡◌, inr, ◌+◌, ◌-◌, ◌≤◌, false, List, [], ◌∷◌, ◌++◌, length, refl, sym, ap, subst, ◌∙◌, arith, Blocks, AreUsed, Disk, block_count, HasEither as IsLeftOf, with_blocks, PairContent, zero_gstate, Pair, blocks_of_pairs, pairs_gstate, is_hard_tail, root_address, pair_count_before_root, address_blocks, Tree, IsAccepted, PathAddresses, all_slots_not_moved, tree_on_disk, used_blocks, SameSlots, alike_append, alike_itself, number_count, count_append, count_here, once_from_distinct, HasNoMove, IsGone, file_blocks, IsWritableChange, IsChain, KeptThread, SameGeometryAs, IsPairWritten, thread_pair_at, CanDropAt, IsPairDropped, ShowsAfterDrops, LeftByDrop, SameInFlight, content_after_drop, IsReadyImage, KeepsRootBeginning}
+use Rattle.lfs_operations.proofs.Common.{ℕ, ◌≡◌, inr, ◌+◌, ◌-◌, ◌≤◌, false, List, [], ◌∷◌, ◌++◌, length, refl, sym, ap, subst, ◌∙◌, arith, Blocks, AreUsed, Disk, block_count, HasEither as IsLeftOf, with_blocks, PairContent, zero_gstate, Pair, pairs_blocks, pairs_gstate, is_hard_tail, root_address, count_before_root, address_blocks, Tree, IsAccepted, PathAddresses, all_unmoved_slots, disk_tree, used_blocks, SameSlots, alike_append, alike_itself, number_occurrences, count_append, count_here, once_from_distinct, HasNoMove, IsGone, file_blocks, IsWritableChange, IsChain, KeptThread, SameGeometryAs, IsPairWritten, thread_pair, CanDropAt, IsPairDropped, ShowsDroppedTree, LeftByDrop, SameInFlight, content_after_drop, IsReadyImage, KeepsRootNumber}
 use Rattle.lfs_operations.proofs.Dropped.{HasMapWithout, IsToBeDropped, can_drop_pair, device_left, front_there, gone_there, left_dropped, map_dropped, pairs_left, slots_left, state_left, tail_left, used_left}
 use Rattle.lfs_operations.proofs.DroppedTails.{no_move_state}
 use Rattle.lfs_operations.proofs.Placing.{left_after}
@@ -24,17 +24,17 @@ pub record IsAllButDropped (t m : KeptThread) (o : Pair) (n : ℕ) (change : Tre
   pub used : AreUsed m.map (used_blocks m.disk m.pairs)
   pub size : length m.map ≡ block_count m.disk
   pub flying : SameInFlight t.map m.map
-  pub root : KeepsRootBeginning t m
+  pub root : KeepsRootNumber t m
   pub shape : SameGeometryAs t.disk m.disk
 
 module _ {t m : KeptThread} {o : Pair} {n : ℕ} {change : Tree → Tree} {walk : PathAddresses → PathAddresses} (k : IsAllButDropped t m o n change walk) where
   dropping : IsToBeDropped m n zero_gstate (record { chain = k.chain; before = []; left = k.front; right = []; after = k.back }) k.x o
   dropping = record { accepted = k.taken.follows.accepted; writable = k.taken.writable; storable = no_move_state; there = k.there; number = k.number }
 
-  pub x_there : thread_pair_at m (n - 1) ≡ k.x
+  pub x_there : thread_pair m (n - 1) ≡ k.x
   x_there = front_there dropping
 
-  pub o_there : thread_pair_at m (n - 1 + 1) ≡ o
+  pub o_there : thread_pair m (n - 1 + 1) ≡ o
   o_there = gone_there dropping
 
   pub can_drop_last : CanDropAt m n zero_gstate
@@ -71,31 +71,31 @@ module _ {t m : KeptThread} {o : Pair} {n : ℕ} {change : Tree → Tree} {walk 
     pub taken_end : IsWritableChange t.disk t.pairs new.disk new.pairs change walk
     taken_end = subst (λ z. IsWritableChange t.disk t.pairs new.disk z change walk) (sym pairs_end) (k.drops new.disk y (is_gone new.disk g.written))
 
-    end_used : (b : ℕ) → number_count b (used_blocks new.disk new.pairs) + number_count b (address_blocks o.at) ≡ number_count b (used_blocks m.disk m.pairs)
+    end_used : (b : ℕ) → number_occurrences b (used_blocks new.disk new.pairs) + number_occurrences b (address_blocks o.at) ≡ number_occurrences b (used_blocks m.disk m.pairs)
     end_used b =
         let e = used_left dropping new g k.no_move (record { kind = refl; id = refl; pair = refl }) b in
-        let f = ap (λ z. number_count b (file_blocks m.disk z)) k.empty in
+        let f = ap (λ z. number_occurrences b (file_blocks m.disk z)) k.empty in
         omega arith
 
     map_end : HasMapWithout m.map new.map (used_blocks new.disk new.pairs)
-    map_end = map_dropped dropping new g k.no_move (record { kind = refl; id = refl; pair = refl }) k.used (used_blocks new.disk new.pairs) (λ b. let f = ap (λ z. number_count b (file_blocks m.disk z)) k.empty in omega arith)
+    map_end = map_dropped dropping new g k.no_move (record { kind = refl; id = refl; pair = refl }) k.used (used_blocks new.disk new.pairs) (λ b. let f = ap (λ z. number_occurrences b (file_blocks m.disk z)) k.empty in omega arith)
 
-    once : (b : ℕ) → number_count b (used_blocks m.disk m.pairs) ≤ 1
+    once : (b : ℕ) → number_occurrences b (used_blocks m.disk m.pairs) ≤ 1
     once b = once_from_distinct (used_blocks m.disk m.pairs) k.taken.follows.accepted.owned_once b
 
     -- the pair is gone, and no block came
-    pub end_fewer : (b : ℕ) → number_count b (used_blocks new.disk new.pairs) ≤ number_count b (used_blocks m.disk m.pairs)
+    pub end_fewer : (b : ℕ) → number_occurrences b (used_blocks new.disk new.pairs) ≤ number_occurrences b (used_blocks m.disk m.pairs)
     end_fewer b = let e = end_used b in omega arith
 
-    pub end_gone : number_count o.at.0 (blocks_of_pairs new.pairs) ≡ 0
+    pub end_gone : number_occurrences o.at.0 (pairs_blocks new.pairs) ≡ 0
     end_gone =
         let e = end_used o.at.0 in
         let f = once o.at.0 in
         let h = count_here o.at.0 (o.at.1 ∷ []) in
-        let l = count_append o.at.0 (blocks_of_pairs new.pairs) (file_blocks new.disk (all_slots_not_moved new.pairs)) in
+        let l = count_append o.at.0 (pairs_blocks new.pairs) (file_blocks new.disk (all_unmoved_slots new.pairs)) in
         omega arith
 
-    pub shows_dropped : ShowsAfterDrops t new (change (tree_on_disk t.disk t.pairs)) []
+    pub shows_dropped : ShowsDroppedTree t new (change (disk_tree t.disk t.pairs)) []
     shows_dropped = record {
       ready = record {
         accepted = taken_end.follows.accepted;
@@ -114,10 +114,10 @@ module _ {t m : KeptThread} {o : Pair} {n : ℕ} {change : Tree → Tree} {walk 
         (λ h. (k.flying b).0 ((map_end.flying b).0 h)),
         (λ h. (map_end.flying b).1 ((k.flying b).1 h)),
       );
-      root = ap pair_count_before_root pairs_end
+      root = ap count_before_root pairs_end
           ∙ root_stays m.disk new.disk k.chain (k.front ++ k.x ∷ o ∷ k.back) (k.front ++ y ∷ k.back) k.is_chain (subst (IsAccepted m.disk) k.there k.taken.follows.accepted)
           (subst (IsAccepted new.disk) pairs_end taken_end.follows.accepted) (ap root_address (sym pairs_end) ∙ taken_end.follows.root ∙ sym k.taken.follows.root ∙ ap root_address k.there)
-          ∙ sym (ap pair_count_before_root k.there) ∙ k.root;
+          ∙ sym (ap count_before_root k.there) ∙ k.root;
     }
 
   -- ---- at a stop
@@ -125,6 +125,6 @@ module _ {t m : KeptThread} {o : Pair} {n : ℕ} {change : Tree → Tree} {walk 
   same_shape : (left : Blocks) → with_blocks left m.disk ≡ with_blocks left t.disk
   same_shape left = λ j. record { block_size = k.shape.block_size j; page = k.shape.page j; order = k.shape.order j; profile = k.shape.profile j; blocks = left }
 
-  pub left_last : (left : Blocks) → LeftByDrop m (n - 1) zero_gstate left → IsLeftOf (with_blocks left t.disk) (tree_on_disk t.disk t.pairs) (change (tree_on_disk t.disk t.pairs))
-  left_last left g = subst (λ z. IsLeftOf z (tree_on_disk t.disk t.pairs) (change (tree_on_disk t.disk t.pairs))) (same_shape left)
+  pub left_last : (left : Blocks) → LeftByDrop m (n - 1) zero_gstate left → IsLeftOf (with_blocks left t.disk) (disk_tree t.disk t.pairs) (change (disk_tree t.disk t.pairs))
+  left_last left g = subst (λ z. IsLeftOf z (disk_tree t.disk t.pairs) (change (disk_tree t.disk t.pairs))) (same_shape left)
       (left_dropped dropping (inr k.taken.follows.shows) (λ disk written. left_after (k.drops disk y (is_gone disk written)) (inr refl)) left g)

@@ -1,5 +1,5 @@
 -- What the two steps of a mkdir make of a pair.
-use Rattle.lfs_operations.proofs.Common.{ℕ, ◌≡◌, ◌≢◌, ◌≤◌, ◌<◌, ◌==◌, ◌&&◌, not, Bool, true, false, cond, eqb-true, List, [], ◌∷◌, length, Option, Some, None, refl, sym, ap, ap₂, subst, ◌∙◌, arith, insert, and_parts, ne_eqb, PutMove, PutTail, changed_content_of, RawContent, raw_content, content_at, content_after, complete_content, complete_slot, has_commit, current_of_two, current_block, is_later, empty_raw_content, directory_name_type, directory_type, Disk, disk_block, charge_limit, block_entries, block_revision, AreWords, IsWellFormed, MoveStateFits, IsAllowed, Name, PairContent, FitsInPair, Gstate, Tail, slot_size, directory_slot, Pair, tail_address_of, address_bytes, IsCompleted, complete_insert, complete_length, completed_parts, completed_from, creates_with_struct, does_first, puts_move, puts_tail, slot_with, with_sync_inverted, insert_cut, logged_changed, tag_type-make_tag, tag_length-make_tag, changed_pair, KeptThread, thread_pair_at, complete_after, slice_index, option_and_then, HoldBytes, null_address, CanTurn, adding_changes, threading_changes, IsRawFormed}
+use Rattle.lfs_operations.proofs.Common.{ℕ, ◌≡◌, ◌≢◌, ◌≤◌, ◌<◌, ◌==◌, ◌&&◌, not, Bool, true, false, cond, eqb-true, List, [], ◌∷◌, length, Option, Some, None, refl, sym, ap, ap₂, subst, ◌∙◌, arith, insert, and_parts, ne_eqb, PutMove, PutTail, changed_content_of, RawContent, raw_content, content_at, content_after, complete_content, complete_slot, has_commit, current_of_two, current_block, is_later, empty_raw_content, directory_name_type, directory_type, Disk, disk_block, charge_limit, block_entries, block_revision, AreWords, IsWellFormed, MoveStateFits, IsAllowedPart, Name, PairContent, FitsInPair, Gstate, Tail, slot_size, directory_slot, Pair, tail_target, address_bytes, IsCompleted, complete_insert, complete_length, completed_parts, completed_from, creates_with_struct, does_first, puts_move, puts_tail, slot_with, with_sync_inverted, insert_cut, logged_changed, tag_type-make_tag, tag_length-make_tag, changed_pair, KeptThread, thread_pair, complete_after, slice_index, option_and_then, AreByteBlocks, null_address, CanPut, directory_entry_changes, threading_changes, IsRawFormed}
 use Rattle.lfs_model.specs.format.EntryTypes.{tail_to_pair}
 use Rattle.lfs_model.proofs.WrittenAnew.{read_address-address_bytes}
 use Rattle.lfs_operations.proofs.Held.{CompletesTo, completes_to, logged_at}
@@ -21,7 +21,7 @@ holder_small a b block f g h = go (not (has_commit a)) (has_commit b) (has_commi
     go false y true e = same b block e g
     go false y false e = same a block e f
 
-pub logged_there : (disk : Disk) (at : ℕ × ℕ) → HoldBytes disk.blocks → IsRawFormed disk at
+pub logged_there : (disk : Disk) (at : ℕ × ℕ) → AreByteBlocks disk.blocks → IsRawFormed disk at
 logged_there disk at bytes raw is = go (current_block disk at) refl is
   where
     go : (o : Option (List ℕ)) → current_block disk at ≡ o → option_and_then (λ block. content_after empty_raw_content (block_entries block)) o ≡ Some raw → IsWellFormed raw
@@ -30,7 +30,7 @@ logged_there disk at bytes raw is = go (current_block disk at) refl is
 
 -- ---- the parts of a directory's slot
 
-directory_name : (name : Name) → length name ≤ 255 → IsAllowed 0 (directory_name_type, name)
+directory_name : (name : Name) → length name ≤ 255 → IsAllowedPart 0 (directory_name_type, name)
 directory_name name short = record {
   of_class = refl;
   short = omega arith;
@@ -40,7 +40,7 @@ directory_name name short = record {
       rw len (rw kind (rw (ne_eqb (length name) 0x3ff (λ e. omega arith)) refl));
 }
 
-branch_part : (to : ℕ × ℕ) → IsAllowed 2 (directory_type, address_bytes to)
+branch_part : (to : ℕ × ℕ) → IsAllowedPart 2 (directory_type, address_bytes to)
 branch_part to = record { of_class = refl; short = omega arith; in_table = refl }
 
 -- two null addresses are no tail
@@ -53,12 +53,12 @@ tail_is to apart = go (to.0 == null_address && to.1 == null_address) refl
 
 -- ---- the steps
 
-module _ (t : KeptThread) (index : ℕ) (p : Pair) (here : thread_pair_at t index ≡ p) (holds : content_at t.disk (thread_pair_at t index).at ≡ Some p.content) (logged : IsRawFormed t.disk (thread_pair_at t index).at) where
-  abbrev c : CompletesTo (raw_content t.disk (thread_pair_at t index).at) p.content
-  c = completes_to (raw_content t.disk (thread_pair_at t index).at) p.content holds
+module _ (t : KeptThread) (index : ℕ) (p : Pair) (here : thread_pair t index ≡ p) (holds : content_at t.disk (thread_pair t index).at ≡ Some p.content) (logged : IsRawFormed t.disk (thread_pair t index).at) where
+  abbrev c : CompletesTo (raw_content t.disk (thread_pair t index).at) p.content
+  c = completes_to (raw_content t.disk (thread_pair t index).at) p.content holds
 
   abbrev delta : Gstate
-  delta = with_sync_inverted (thread_pair_at t index).content.move
+  delta = with_sync_inverted (thread_pair t index).content.move
 
   parts : IsCompleted c.raw p.content
   parts = completed_parts c.raw p.content c.complete
@@ -101,7 +101,7 @@ module _ (t : KeptThread) (index : ℕ) (p : Pair) (here : thread_pair_at t inde
     abbrev raw_named : RawContent
     raw_named = record c.raw { slots = insert c.raw.slots id (slot_with (directory_name_type, name) (directory_type, address_bytes to)); move = delta }
 
-    names : changed_content_of c.raw (adding_changes t index id name to) ≡ Some raw_named
+    names : changed_content_of c.raw (directory_entry_changes t index id name to) ≡ Some raw_named
     names =
         let l = complete_length c.raw.slots p.content.slots parts.slots in
         let few = fits.count in
@@ -109,8 +109,8 @@ module _ (t : KeptThread) (index : ℕ) (p : Pair) (here : thread_pair_at t inde
         creates_with_struct c.raw id directory_name_type name directory_type (address_bytes to) (PutMove delta ∷ []) raw_named (omega arith) (omega arith) (directory_name name short) (branch_part to)
         (does_first (PutMove delta) [] created raw_named raw_named (puts_move created delta delta_state) refl)
 
-    raw_made : changed_pair t.disk (thread_pair_at t index).at (adding_changes t index id name to) ≡ Some raw_named
-    raw_made = ap (λ o. option_and_then (λ (r : RawContent). changed_content_of r (adding_changes t index id name to)) o) c.is ∙ names
+    raw_made : changed_pair t.disk (thread_pair t index).at (directory_entry_changes t index id name to) ≡ Some raw_named
+    raw_made = ap (λ o. option_and_then (λ (r : RawContent). changed_content_of r (directory_entry_changes t index id name to)) o) c.is ∙ names
 
     slot_is : complete_slot (slot_with (directory_name_type, name) (directory_type, address_bytes to)) ≡ Some (directory_slot name to)
     slot_is = ap (λ (a : ℕ × ℕ). Some (directory_slot name a)) (read_address-address_bytes to address)
@@ -121,19 +121,19 @@ module _ (t : KeptThread) (index : ℕ) (p : Pair) (here : thread_pair_at t inde
         (complete_insert c.raw.slots p.content.slots id (slot_with (directory_name_type, name) (directory_type, address_bytes to)) (directory_slot name to) parts.slots slot_is)
         ∙ ap₂ (λ t m. Some (record { slots = insert p.content.slots id (directory_slot name to); tail = t; move = m })) (sym parts.tail) delta_is
 
-    pub named_made : complete_after t index (adding_changes t index id name to) ≡ Some named_now
+    pub named_made : complete_after t index (directory_entry_changes t index id name to) ≡ Some named_now
     named_made = ap (λ o. option_and_then complete_content o) raw_made ∙ now_complete
 
-    pub can_name : index < length t.pairs → slot_size (directory_slot name to) ≤ charge_limit t.disk.block_size t.disk.page → CanTurn t index (adding_changes t index id name to)
+    pub can_name : index < length t.pairs → slot_size (directory_slot name to) ≤ charge_limit t.disk.block_size t.disk.page → CanPut t index (directory_entry_changes t index id name to)
     can_name below small = record {
       can = record {
         below = below;
         content = named_now;
         made = named_made;
-        next = ap (λ (z : Pair). tail_address_of z.content.tail) (sym here);
+        next = ap (λ (z : Pair). tail_target z.content.tail) (sym here);
       };
       raw = raw_named;
       made = raw_made;
       cut = insert_cut t.disk.block_size t.disk.page raw_named named_now p.content id (directory_slot name to)
-          (logged_changed c.raw (adding_changes t index id name to) raw_named (logged c.raw c.is) names) now_complete refl small fits;
+          (logged_changed c.raw (directory_entry_changes t index id name to) raw_named (logged c.raw c.is) names) now_complete refl small fits;
     }

@@ -1,5 +1,5 @@
 -- Which blocks an image uses after a step in which no file came or went, and how many are free.
-use Rattle.lfs_operations.proofs.Common.{ℕ, ◌≡◌, ◌+◌, List, [], ◌∷◌, ◌++◌, refl, sym, subst, ◌∙◌, arith, length-set, set, Bool, true, false, eqb-true, eq-eqb, nat_eq, BlockStates, IsFree, IsInFlight, Free, InFlight, Used, Disk, Slot, Pair, blocks_of_pairs, pairs_gstate, used_blocks, slice_get-set_same, slice_get-set_other, number_count, HasNoMove, Site, thread_at, IsDevice, file_blocks, all_slots, map_using, AreTwoFree, HasTwoFree, map_taking_two, HasFreeBlocks}
+use Rattle.lfs_operations.proofs.Common.{ℕ, ◌≡◌, ◌+◌, List, [], ◌∷◌, ◌++◌, refl, sym, subst, ◌∙◌, arith, length-set, set, Bool, true, false, eqb-true, eq-eqb, nat_eq, BlockStates, IsFree, IsInFlight, Free, InFlight, Used, Disk, Slot, Pair, pairs_blocks, pairs_gstate, used_blocks, slice_get-set_same, slice_get-set_other, number_occurrences, HasNoMove, Site, thread_at, IsDevice, file_blocks, all_slots, map_using, AreTwoFree, HasTwoFree, map_taking_two, HasFreeBlocks}
 use Rattle.lfs_model.specs.layers.BlockSets.{is_used, state_in_flight}
 use Rattle.lfs_model.proofs.BlockSets.{count_by-set, counts_from_none_free}
 use Rattle.lfs_operations.proofs.Owning.{elsewhere, turned_count}
@@ -9,8 +9,8 @@ use Rattle.lfs_operations.proofs.Taking.{two_free, within}
 
 -- slots without blocks of their own came to a pair
 pub used_count_now : (disk new : Disk) (w : Site) (p q : Pair) (more : List Pair) (l news r : List Slot) → HasNoMove (pairs_gstate (thread_at w (p ∷ []))) → HasNoMove (pairs_gstate (thread_at w (q ∷ more))) → IsDevice disk new (thread_at w (p ∷ [])) (thread_at w (q ∷ more))
-    → q.at ≡ p.at → p.content.slots ≡ l ++ r → all_slots (q ∷ more) ≡ l ++ (news ++ r) → ((b : ℕ) → number_count b (file_blocks new news) ≡ 0)
-    → (b : ℕ) → number_count b (used_blocks new (thread_at w (q ∷ more))) ≡ number_count b (blocks_of_pairs more) + number_count b (used_blocks disk (thread_at w (p ∷ [])))
+    → q.at ≡ p.at → p.content.slots ≡ l ++ r → all_slots (q ∷ more) ≡ l ++ (news ++ r) → ((b : ℕ) → number_occurrences b (file_blocks new news) ≡ 0)
+    → (b : ℕ) → number_occurrences b (used_blocks new (thread_at w (q ∷ more))) ≡ number_occurrences b (pairs_blocks more) + number_occurrences b (used_blocks disk (thread_at w (p ∷ [])))
 used_count_now disk new w p q more l news r none still device at was is no_files b =
     let e = turned_count disk new w p q more l [] news r [] [] (record { none = none; still = still; device = device; at = at; was = was; is = is }) (λ b. let n = no_files b in omega arith) b in
     omega arith

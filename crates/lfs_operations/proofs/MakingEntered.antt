@@ -1,5 +1,5 @@
 -- A directory's slot comes into a pair, and the sync bit goes: what a change or a split comes to, and what a stop in it leaves.
-use Rattle.lfs_operations.proofs.Common.{ℕ, ◌≡◌, ◌+◌, ◌⊎◌, inl, inr, true, false, List, [], ◌∷◌, ◌++◌, length, Some, refl, sym, ap, subst, ◌∙◌, arith, append-nil, ⊎_elim, Blocks, AreUsed, PairChange, Disk, block_count, Name, with_blocks, Slot, PairContent, zero_gstate, gstate_xor, pair_with_slots, directory_slot, Pair, blocks_of_pairs, pairs_gstate, starts_superblock, IsAccepted, IsTreeEntry, IsWritable, IsWritableSlot, used_blocks, became_front, became_shape, no_move_from, number_count, count_append, HasNoMove, gstate_append, gstate_cons, gstate_kept, gstate_right, IsStep, some_filled, Site, thread_at, IsSite, IsDevice, KeptThread, complete_after, BeginWithSuperblock, LeftByTurn, IsTurned, HasNoneNew, KeepsTakenStates}
+use Rattle.lfs_operations.proofs.Common.{ℕ, ◌≡◌, ◌+◌, ◌⊎◌, inl, inr, true, false, List, [], ◌∷◌, ◌++◌, length, Some, refl, sym, ap, subst, ◌∙◌, arith, append-nil, ⊎_elim, Blocks, AreUsed, PairChange, Disk, block_count, Name, with_blocks, Slot, PairContent, zero_gstate, gstate_xor, pair_with_slots, directory_slot, Pair, pairs_blocks, pairs_gstate, starts_superblock, IsAccepted, IsTreeEntry, IsWritable, IsWritableSlot, used_blocks, became_front, became_shape, no_move_from, number_occurrences, count_append, HasNoMove, gstate_append, gstate_cons, gstate_kept, gstate_right, IsStep, some_filled, Site, thread_at, IsSite, IsDevice, KeptThread, complete_after, BeginWithSuperblock, LeftByPut, ArePut, HasNoneNew, KeepsTakenStates}
 use Rattle.lfs_model.proofs.StepsTaken as taken
 use Rattle.lfs_operations.proofs.MakingCounts.{used_count_now}
 use Rattle.lfs_operations.proofs.Owning.{used_same}
@@ -29,7 +29,7 @@ pub record IsEntering (t : KeptThread) (index : ℕ) (changes : List PairChange)
 
 -- the pair became that on the disk, or that and a new one behind it
 pub record Enters (t : KeptThread) (w : Site) (p : Pair) (l : List Slot) (name : Name) (to : ℕ × ℕ) (r : List Slot) (disk : Disk) (q : Pair) (more : List Pair) : Type 0 where
-  pub step : IsStep t.disk disk w p [] q more (blocks_of_pairs more) [] l [] (directory_slot name to ∷ []) r
+  pub step : IsStep t.disk disk w p [] q more (pairs_blocks more) [] l [] (directory_slot name to ∷ []) r
   pub put : taken.IsPut t.disk w p q more l [] (directory_slot name to ∷ []) r
   pub still : pairs_gstate (thread_at w (q ∷ more)) ≡ zero_gstate
 
@@ -125,13 +125,13 @@ module _ (t : KeptThread) (index : ℕ) (changes : List PairChange) (w : Site) (
   used_before : AreUsed t.map (used_blocks t.disk (thread_at w (p ∷ [])))
   used_before = subst (λ z. AreUsed t.map (used_blocks t.disk z)) k.there k.used
 
-  count_now : (disk : Disk) (q : Pair) (more : List Pair) → q.at ≡ p.at → Enters t w p l name to r disk q more → (b : ℕ) → number_count b (used_blocks disk (thread_at w (q ∷ more))) ≡ number_count b (blocks_of_pairs more) + number_count b (used_blocks t.disk (thread_at w (p ∷ [])))
+  count_now : (disk : Disk) (q : Pair) (more : List Pair) → q.at ≡ p.at → Enters t w p l name to r disk q more → (b : ℕ) → number_occurrences b (used_blocks disk (thread_at w (q ∷ more))) ≡ number_occurrences b (pairs_blocks more) + number_occurrences b (used_blocks t.disk (thread_at w (p ∷ [])))
   count_now disk q more at e b = used_count_now t.disk disk w p q more l (u ∷ []) r e.step.no_move e.step.still_none e.step.device at k.was e.step.is (λ b. refl) b
 
   mapped : IsMapped t
   mapped = record { used = k.used; size = k.size }
 
-  pub entered : (new : KeptThread) → IsTurned t index changes new → HasEntered t w p l name to r new
+  pub entered : (new : KeptThread) → ArePut t index changes new → HasEntered t w p l name to r new
   entered new is = go (put_turned t index changes w p (l ++ u ∷ r) k.content.move turn mapped new is)
     where
       go : TurnedTo t w p (l ++ directory_slot name to ∷ r) k.content.move new → HasEntered t w p l name to r new
@@ -142,8 +142,8 @@ module _ (t : KeptThread) (index : ℕ) (changes : List PairChange) (w : Site) (
             more = x.more;
             enters = enters;
             pairs = x.pairs;
-            used = used_same new.map (blocks_of_pairs x.more ++ used_blocks t.disk (thread_at w (p ∷ []))) (used_blocks new.disk new.pairs)
-                (λ b. let e = count_now new.disk x.q x.more x.turned.at enters b in let f = ap (λ z. number_count b (used_blocks new.disk z)) x.pairs in let g = count_append b (blocks_of_pairs x.more) (used_blocks t.disk (thread_at w (p ∷ []))) in omega arith)
+            used = used_same new.map (pairs_blocks x.more ++ used_blocks t.disk (thread_at w (p ∷ []))) (used_blocks new.disk new.pairs)
+                (λ b. let e = count_now new.disk x.q x.more x.turned.at enters b in let f = ap (λ z. number_occurrences b (used_blocks new.disk z)) x.pairs in let g = count_append b (pairs_blocks x.more) (used_blocks t.disk (thread_at w (p ∷ []))) in omega arith)
                 (x.used (used_blocks t.disk (thread_at w (p ∷ []))) used_before);
             size = x.size ∙ k.size ∙ sym x.shape.count;
             stays = x.stays;
@@ -155,7 +155,7 @@ module _ (t : KeptThread) (index : ℕ) (changes : List PairChange) (w : Site) (
   abbrev pub Stays : Disk → Type 0
   Stays disk = IsDevice t.disk disk (thread_at w (p ∷ [])) (thread_at w (p ∷ []))
 
-  pub left_entered : (left : Blocks) → LeftByTurn t index changes left → Stays (with_blocks left t.disk) ⊎ HasEntry t w p l name to r (with_blocks left t.disk)
+  pub left_entered : (left : Blocks) → LeftByPut t index changes left → Stays (with_blocks left t.disk) ⊎ HasEntry t w p l name to r (with_blocks left t.disk)
   left_entered left is = ⊎_elim (λ on. inl on)
       (λ (x : TurnedOn t w p (l ++ directory_slot name to ∷ r) k.content.move (with_blocks left t.disk)). inr (record { q = x.q; more = x.more; enters = enters_from (with_blocks left t.disk) x.q x.more x.turned }))
       (left_put t index changes w p (l ++ u ∷ r) k.content.move turn mapped left is)

@@ -1,10 +1,10 @@
 -- What the steps of a mkdir tell, together.
-use Rattle.lfs_operations.proofs.Common.{ℕ, ◌≡◌, ◌⊎◌, inl, inr, List, Result, Ok, Err, arith, refl, sym, ap, subst, ◌∙◌, BlockStates, fault_count, KeptThread, ThreadView, IoMeantFaultNoMemoryKeptOtherBlocks, IfErr, is_err, Error, Io, NoMemory, NoSpace, ReportsErrorsOfCommitTakingBlocks, has_failed_after, ReportsErrorsOfMakingDirectory}
+use Rattle.lfs_operations.proofs.Common.{ℕ, ◌≡◌, ◌⊎◌, inl, inr, List, Result, Ok, Err, arith, refl, sym, ap, subst, ◌∙◌, BlockStates, fault_count, KeptThread, ThreadView, ThreadReportsKeepingOthers, IfErr, is_err, Error, Io, NoMemory, NoSpace, ReportsTakingCommit, has_failed_after, ReportsMaking}
 use Rattle.lfs_operations.proofs.Putting.{with_map, same_err}
 
 -- the same answer, passed on
-pub reported_again : {X Y : Type 0} (bs : List ℕ) (old new : KeptThread) (e : Error) (result : Result X Error) (given : Result Y Error) → result ≡ Err e → given ≡ Err e → IoMeantFaultNoMemoryKeptOtherBlocks bs old new result
-    → IoMeantFaultNoMemoryKeptOtherBlocks bs old new given
+pub reported_again : {X Y : Type 0} (bs : List ℕ) (old new : KeptThread) (e : Error) (result : Result X Error) (given : Result Y Error) → result ≡ Err e → given ≡ Err e → ThreadReportsKeepingOthers bs old new result
+    → ThreadReportsKeepingOthers bs old new given
 reported_again bs old new e result given is same reported = record {
   errors = subst (λ r. IfErr r (λ x. (x ≡ Io) ⊎ (x ≡ NoMemory))) (sym same) (subst (λ r. IfErr r (λ x. (x ≡ Io) ⊎ (x ≡ NoMemory))) is reported.errors);
   fault = λ io. reported.fault (is ∙ ap Err (same_err e Io given same io));
@@ -13,12 +13,12 @@ reported_again bs old new e result given is same reported = record {
 }
 
 -- the first step failed
-pub reports_first : {X : Type 0} (old new : ThreadView) (sets : BlockStates) (bs : List ℕ) (result : Result X Error) → new.failed ≡ is_err result → IoMeantFaultNoMemoryKeptOtherBlocks bs (with_map old.kept sets) new.kept result
-    → ReportsErrorsOfMakingDirectory old new result
+pub reports_first : {X : Type 0} (old new : ThreadView) (sets : BlockStates) (bs : List ℕ) (result : Result X Error) → new.failed ≡ is_err result → ThreadReportsKeepingOthers bs (with_map old.kept sets) new.kept result
+    → ReportsMaking old new result
 reports_first old new sets bs result failed reported = record { failed = failed; errors = reported.errors; fault = reported.fault; no_fault = reported.no_fault }
 
 -- the second one tells, and never that there is no space
-pub reports_second : {X : Type 0} (old mid new : ThreadView) (result : Result X Error) → fault_count mid.kept.history ≡ fault_count old.kept.history → (result ≡ Err NoSpace → ⊥) → ReportsErrorsOfCommitTakingBlocks mid new result → ReportsErrorsOfMakingDirectory old new result
+pub reports_second : {X : Type 0} (old mid new : ThreadView) (result : Result X Error) → fault_count mid.kept.history ≡ fault_count old.kept.history → (result ≡ Err NoSpace → ⊥) → ReportsTakingCommit mid new result → ReportsMaking old new result
 reports_second {X = X} old mid new result same room reported = record {
   failed = reported.failed ∙ failing result room reported.reports.errors;
   errors = narrow result room reported.reports.errors;

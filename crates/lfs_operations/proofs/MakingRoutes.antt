@@ -1,5 +1,5 @@
 -- Where the two steps of a mkdir change a directory: behind its last pair, and in the pair where the name belongs, which may be that one.
-use Rattle.lfs_operations.proofs.Common.{ℕ, ◌≡◌, ◌⊎◌, inl, inr, ◌+◌, true, cond, List, [], ◌∷◌, ◌++◌, length, drop, refl, sym, ap, subst, ◌∙◌, arith, append_assoc, length-append, Disk, joined_count, Name, Session, Slot, zero_gstate, same_pair, directory_slot, path_or_root, Pair, blocks_of_pairs, first_address, pairs_gstate, Path, LeadsTo, all_entries, tree_on_disk, last_site, IsCompletion, IsRun, IsStep, place_at, IsPlace, HoldsOfSome, Site, among_right, begin_of, dirs_at, run_changed, thread_at, IsSite, IsChain, KeptThread, IsRunEnd}
+use Rattle.lfs_operations.proofs.Common.{ℕ, ◌≡◌, ◌⊎◌, inl, inr, ◌+◌, true, cond, List, [], ◌∷◌, ◌++◌, length, drop, refl, sym, ap, subst, ◌∙◌, arith, append_assoc, length-append, Disk, joined_count, Name, Session, Slot, zero_gstate, same_pair, directory_slot, path_or_root, Pair, pairs_blocks, first_address, pairs_gstate, Path, LeadsTo, all_entries, disk_tree, last_site, CompletesOperation, IsRun, IsStep, place_at, IsPlace, AnyByRecursion, Site, among_right, begin_of, dirs_at, run_changed, thread_at, IsSite, IsChain, KeptThread, IsRunEnd}
 use Rattle.lfs_model.specs.session.Operations as ops
 use Rattle.lfs_model.proofs.MkdirSteps.{mkdir_in_two_completed}
 use Rattle.lfs_model.proofs.StepsTaken as taken
@@ -54,15 +54,15 @@ site_behind w right f = record { chain = w.chain; before = w.before; left = w.le
 abbrev pub Completes : Disk → Site → List Pair → Pair → ℕ × ℕ → List Pair → Pair → List Slot → List Slot → Path → Name → Type 0
 Completes disk w left x fresh right p2 l r P name =
     (middle new : Disk) (q : Pair) (more : List Pair) → IsThreading disk middle w.chain w.before left w.after x fresh → IsThreaded disk w.chain w.before left w.after x fresh
-    → IsStep middle new (site_behind w right (fresh_pair x fresh)) p2 [] q more (blocks_of_pairs more) [] l [] (directory_slot name fresh ∷ []) r
+    → IsStep middle new (site_behind w right (fresh_pair x fresh)) p2 [] q more (pairs_blocks more) [] l [] (directory_slot name fresh ∷ []) r
     → taken.IsPut middle (site_behind w right (fresh_pair x fresh)) p2 q more l [] (directory_slot name fresh ∷ []) r
     → (a : ℕ × ℕ) → LeadsTo (thread_at (last_site w.chain w.before left w.after) (x ∷ [])) P a → same_pair (begin_of (last_site w.chain w.before left w.after) (x ∷ [])) a ≡ true
     → IsPlace middle.order (all_entries (thread_at (site_behind w right (fresh_pair x fresh)) (p2 ∷ [])) a) (place_at (site_behind w right (fresh_pair x fresh)) l) name
     → (pairs_gstate (thread_at (last_site w.chain w.before left w.after) (naming_pair x fresh ∷ ([] ++ fresh_pair x fresh ∷ [])))).sync ≡ true
     → pairs_gstate (thread_at (last_site w.chain w.before left w.after) (x ∷ [])) ≡ zero_gstate
     → pairs_gstate (thread_at (site_behind w right (fresh_pair x fresh)) (q ∷ more)) ≡ zero_gstate
-    → (s : Session) (given : List ℕ) → s.tree ≡ tree_on_disk disk (thread_at (last_site w.chain w.before left w.after) (x ∷ [])) → path_or_root given ≡ P ++ name ∷ []
-    → IsCompletion disk (thread_at (last_site w.chain w.before left w.after) (x ∷ [])) s (ops.Mkdir given) new (thread_at (site_behind w right (fresh_pair x fresh)) (q ∷ more))
+    → (s : Session) (given : List ℕ) → s.tree ≡ disk_tree disk (thread_at (last_site w.chain w.before left w.after) (x ∷ [])) → path_or_root given ≡ P ++ name ∷ []
+    → CompletesOperation disk (thread_at (last_site w.chain w.before left w.after) (x ∷ [])) s (ops.Mkdir given) new (thread_at (site_behind w right (fresh_pair x fresh)) (q ∷ more))
 
 -- the pair is the last one itself
 pub record IsOne (p x p2 : Pair) (fresh : ℕ × ℕ) : Type 0 where
@@ -72,7 +72,7 @@ pub record IsOne (p x p2 : Pair) (fresh : ℕ × ℕ) : Type 0 where
 -- or the last one stands behind it
 pub record IsAhead (p x p2 : Pair) (right : List Pair) (fresh : ℕ × ℕ) : Type 0 where
   pub stays : p2 ≡ p
-  pub names : HoldsOfSome (λ y. y ≡ naming_pair x fresh) right
+  pub names : AnyByRecursion (λ y. y ≡ naming_pair x fresh) right
 
 -- The last pair stands there, and after the first step the pair of the name here.
 pub record IsRoute (t : KeptThread) (last : ℕ) (w : Site) (p : Pair) (fresh : ℕ × ℕ) (l r : List Slot) (P : Path) (name : Name) : Type 0 where
@@ -119,7 +119,7 @@ module _ (t : KeptThread) (index last : ℕ) (w : Site) (p : Pair) (there : t.pa
     begins = go w.left;
     which = inl (record { same = refl; names = refl });
     completed = λ middle new q more step put step2 put2 a leads same place sync settled still s given tree is.
-        mkdir_at_last_completed t.disk middle new w.chain w.before w.left w.after p (naming_pair p fresh) (fresh_pair p fresh) (fresh.0 ∷ fresh.1 ∷ []) p.content.slots [] q more (blocks_of_pairs more) l r P name
+        mkdir_at_last_completed t.disk middle new w.chain w.before w.left w.after p (naming_pair p fresh) (fresh_pair p fresh) (fresh.0 ∷ fresh.1 ∷ []) p.content.slots [] q more (pairs_blocks more) l r P name
         step put step2 put2 a leads same place sync settled still s given tree is;
   }
     where
@@ -157,7 +157,7 @@ module _ (t : KeptThread) (index last : ℕ) (w : Site) (p : Pair) (there : t.pa
     begins = refl;
     which = inr (record { stays = refl; names = among_right (λ z. z ≡ y) k.mid (y ∷ []) (inl refl) });
     completed = λ middle new q more step put step2 put2 a leads same place sync settled still s given tree is.
-        mkdir_in_two_completed t.disk middle new w.chain w.before w.left k.mid w.after k.x y f (fresh.0 ∷ fresh.1 ∷ []) k.x.content.slots [] p q more (blocks_of_pairs more) l r P name
+        mkdir_in_two_completed t.disk middle new w.chain w.before w.left k.mid w.after k.x y f (fresh.0 ∷ fresh.1 ∷ []) k.x.content.slots [] p q more (pairs_blocks more) l r P name
         step put step2 put2 a leads same place sync settled still s given tree is;
   }
     where

@@ -1,7 +1,6 @@
 -- A fresh pair is threaded behind the last one of a directory, and the sync bit set: what that comes to, and what a stop in it leaves.
-use Rattle.lfs_operations.proofs.Common.{ℕ, ◌≡◌, ◌≢◌, ◌+◌, ◌<◌, ◌⊎◌, inl, inr, Bool, true, false, nat_eq, List, [], ◌∷◌, ◌++◌, length, Some, refl, sym, ap, ap₂, subst, ◌∙◌, ◌≤◌, arith, append_assoc, append-nil, flat_map, IsDistinct, same_Some, All-from_recursion, recursion_from_All, Blocks, SameExceptThese, AreUsed, content_at, current_of_two, current_block, Disk, disk_block, block_count, HasEither, with_blocks, PairContent, FitsInPair, Gstate, zero_gstate, gstate_xor, same_pair, Pair, blocks_of_pairs, pairs_gstate, is_hard_tail, address_blocks, addresses_blocks, Path, Tree, BeginsWith, superblock_entry, IsAccepted, HasNoEmpties, IsWritable, LeadsTo, all_slots_not_moved, all_entries, struct_blocks, tree_on_disk, used_blocks, fits_same, IsStepBeside, last_site, threaded, no_move_from, each_right, number_count, count_append, count_here, once_from_distinct, HasNoMove, gstate_assoc, gstate_cons, gstate_left, gstate_moved, gstate_right, sync_bit_delta, with_sync_inverted, turned_is, shown_before, shown_behind, pair_itself, Site, begin_of, dirs_at, thread_at, IsSite, IsPutBeside, IsWritableChange, beside_taken, taken_before, within_at, pairs_behind, ends_joined, KeepsOutsideBoth, KeptThread, SameGeometryAs, HasOldPair, IsThreadedIn, LossLeavesThreadedIn, ChangesThreadBlocks, complete_after, thread_pair_at, map_using, All, ThreadedInOnDisk, KeepsSuperblockFirst, fresh_with_tail, AreTwoFree, map_taking_two, threading_changes, IsReadyImage}
+use Rattle.lfs_operations.proofs.Common.{ℕ, ◌≡◌, ◌≢◌, ◌+◌, ◌<◌, ◌⊎◌, inl, inr, Bool, true, false, nat_eq, List, [], ◌∷◌, ◌++◌, length, Some, refl, sym, ap, ap₂, subst, ◌∙◌, ◌≤◌, arith, append_assoc, append-nil, flat_map, IsDistinct, same_Some, All-from_recursion, recursion_from_All, Blocks, SameExceptThese, AreUsed, content_at, current_of_two, current_block, Disk, disk_block, block_count, HasEither, with_blocks, PairContent, FitsInPair, Gstate, zero_gstate, gstate_xor, same_pair, Pair, pairs_blocks, pairs_gstate, is_hard_tail, address_blocks, addresses_blocks, Path, Tree, BeginsWith, superblock_entry, IsAccepted, HasNoEmpties, IsWritable, LeadsTo, all_unmoved_slots, all_entries, struct_blocks, disk_tree, used_blocks, fits_same, IsStepBeside, last_site, threaded, no_move_from, each_right, number_occurrences, count_append, count_here, once_from_distinct, HasNoMove, gstate_assoc, gstate_cons, gstate_left, gstate_moved, gstate_right, sync_bit_delta, with_sync_inverted, turned_is, shown_before, shown_behind, pair_itself, Site, begin_of, dirs_at, thread_at, IsSite, IsPutBeside, IsWritableChange, beside_taken, taken_before, within_at, pairs_behind, ends_joined, KeepsOutsideBoth, KeptThread, SameGeometryAs, HasOldPair, IsThreadedIn, LossLeavesThreaded, ChangesThreadBlocks, complete_after, thread_pair, map_using, All, ThreadedOnDisk, KeepsSuperblockFirst, fresh_with_tail, AreTwoFree, map_taking_two, threading_changes, IsReadyImage, content_same}
 use Rattle.lfs_model.proofs.Beside.{beside_shape, other_entries, own_entries}
-use Rattle.lfs_model.proofs.Devices.{content_same}
 use Rattle.lfs_model.proofs.Pairs.{put_at}
 use Rattle.lfs_operations.proofs.MakingCounts.{used_count_now}
 use Rattle.lfs_operations.proofs.Threads.{at_is, fresh_distinct, fresh_range, pair_is, placed_still, same_four, shape_same, two_now}
@@ -120,8 +119,8 @@ module _ (t : KeptThread) (ready : IsReadyImage t) (last : ℕ) (chain before le
     splice = record { front = λ k. refl; entries = tt; lists = tt; blocks = λ b. omega arith };
   }
 
-  placed_from : (disk : Disk) → SameGeometryAs t.disk disk → KeepsOutsideBoth (thread_pair_at t last).at fresh t.disk.blocks disk.blocks → content_at disk x.at ≡ Some y.content → content_at disk fresh ≡ Some f.content
-      → KeepsSuperblockFirst t.disk (thread_pair_at t last).at y.content disk → IsPlaced t.disk disk x y (f ∷ []) (fresh.0 ∷ fresh.1 ∷ [])
+  placed_from : (disk : Disk) → SameGeometryAs t.disk disk → KeepsOutsideBoth (thread_pair t last).at fresh t.disk.blocks disk.blocks → content_at disk x.at ≡ Some y.content → content_at disk fresh ≡ Some f.content
+      → KeepsSuperblockFirst t.disk (thread_pair t last).at y.content disk → IsPlaced t.disk disk x y (f ∷ []) (fresh.0 ∷ fresh.1 ∷ [])
   placed_from disk shape others here behind first = record {
     geometry = shape_same t last w x e.there e.place shape;
     same = same_four t last w x e.there e.place disk fresh others;
@@ -138,15 +137,15 @@ module _ (t : KeptThread) (ready : IsReadyImage t) (last : ℕ) (chain before le
   fits_now c m = subst (FitsInPair t.disk.block_size t.disk.page) (sym (made_same c m)) (fits_same t.disk x y refl (within_at t.disk w x [] writable_there).pair)
 
   -- only the blocks of the fresh pair may differ: the image shows the tree that it showed
-  pub left_beside : (blocks : Blocks) (tree : Tree) → SameExceptThese (address_blocks fresh) t.disk.blocks blocks → HasEither (with_blocks blocks t.disk) (tree_on_disk t.disk t.pairs) tree
+  pub left_beside : (blocks : Blocks) (tree : Tree) → SameExceptThese (address_blocks fresh) t.disk.blocks blocks → HasEither (with_blocks blocks t.disk) (disk_tree t.disk t.pairs) tree
   left_beside blocks tree others =
-      left_still t.disk blocks (thread_at w (x ∷ [])) accepted_there writable_there (device t.disk (with_blocks blocks t.disk) w x x [] (fresh.0 ∷ fresh.1 ∷ []) accepted_there distinct placed) (inl (ap (tree_on_disk t.disk) (sym e.there)))
+      left_still t.disk blocks (thread_at w (x ∷ [])) accepted_there writable_there (device t.disk (with_blocks blocks t.disk) w x x [] (fresh.0 ∷ fresh.1 ∷ []) accepted_there distinct placed) (inl (ap (disk_tree t.disk) (sym e.there)))
     where
       -- a block that is used is the same
-      same_used : (b : ℕ) → 1 ≤ number_count b (blocks_of_pairs (x ∷ [])) → disk_block (with_blocks blocks t.disk) b ≡ disk_block t.disk b
+      same_used : (b : ℕ) → 1 ≤ number_occurrences b (pairs_blocks (x ∷ [])) → disk_block (with_blocks blocks t.disk) b ≡ disk_block t.disk b
       same_used b some = others.others b (all_apart (fresh.0 ∷ fresh.1 ∷ []) b (
           let n = once_from_distinct (fresh.0 ∷ fresh.1 ∷ used_blocks t.disk (thread_at w (x ∷ []))) distinct b in
-          let k = count_append b (blocks_of_pairs (thread_at w (x ∷ []))) (flat_map (λ s. struct_blocks t.disk s.struct) (all_slots_not_moved (thread_at w (x ∷ [])))) in
+          let k = count_append b (pairs_blocks (thread_at w (x ∷ []))) (flat_map (λ s. struct_blocks t.disk s.struct) (all_unmoved_slots (thread_at w (x ∷ [])))) in
           let i = count_pairs b w (x ∷ []) in
           omega arith))
 
@@ -166,21 +165,21 @@ module _ (t : KeptThread) (ready : IsReadyImage t) (last : ℕ) (chain before le
 
   -- ---- it was done
 
-  pub has_threaded : (new : KeptThread) → IsThreadedIn (with_map t (map_taking_two t.map fresh)) last fresh (threading_changes t last fresh) new → ChangesThreadBlocks (addresses_blocks (thread_pair_at t last).at fresh) (with_map t (map_taking_two t.map fresh)) new
+  pub has_threaded : (new : KeptThread) → IsThreadedIn (with_map t (map_taking_two t.map fresh)) last fresh (threading_changes t last fresh) new → ChangesThreadBlocks (addresses_blocks (thread_pair t last).at fresh) (with_map t (map_taking_two t.map fresh)) new
       → HasThreaded t chain before left after x fresh new
   has_threaded new is writes =
       let same = made_same is.content is.made in
       let pairs : new.pairs ≡ thread_at w (y ∷ f ∷ [])
-      = is.pairs ∙ two_now t last w x e.there e.place (record { at = (thread_pair_at t last).at; content = is.content }) (fresh_with_tail t last fresh)
-      ∙ ap (λ (g : Pair). thread_at w (record { at = (thread_pair_at t last).at; content = is.content } ∷ g ∷ [])) behind_is
-      ∙ ap (λ (c : PairContent). thread_at w (record { at = (thread_pair_at t last).at; content = c } ∷ f ∷ [])) same
+      = is.pairs ∙ two_now t last w x e.there e.place (record { at = (thread_pair t last).at; content = is.content }) (fresh_with_tail t last fresh)
+      ∙ ap (λ (g : Pair). thread_at w (record { at = (thread_pair t last).at; content = is.content } ∷ g ∷ [])) behind_is
+      ∙ ap (λ (c : PairContent). thread_at w (record { at = (thread_pair t last).at; content = c } ∷ f ∷ [])) same
       ∙ ap (λ (at : ℕ × ℕ). thread_at w (record { at = at; content = y.content } ∷ f ∷ [])) (at_is t last w x e.there e.place) in
       let contents = recursion_from_All (λ (z : Pair). content_at new.disk z.at ≡ Some z.content) (thread_at w (y ∷ f ∷ []))
       (subst (All (λ (z : Pair). content_at new.disk z.at ≡ Some z.content)) pairs is.thread.contents) in
       let here = each_right (λ (z : Pair). content_at new.disk z.at ≡ Some z.content) (before ++ left) (y ∷ f ∷ after)
       (each_right (λ (z : Pair). content_at new.disk z.at ≡ Some z.content) chain ((before ++ left) ++ (y ∷ f ∷ after)) contents) in
       let shape : SameGeometryAs t.disk new.disk = record { block_size = writes.shape.block_size; page = writes.shape.page; order = writes.shape.order; profile = writes.shape.profile; count = writes.shape.count } in
-      let step = step_from new.disk (placed_from new.disk shape writes.others here.0 here.1.0 (subst (λ (c : PairContent). KeepsSuperblockFirst t.disk (thread_pair_at t last).at c new.disk) same is.first)) in
+      let step = step_from new.disk (placed_from new.disk shape writes.others here.0 here.1.0 (subst (λ (c : PairContent). KeepsSuperblockFirst t.disk (thread_pair t last).at c new.disk) same is.first)) in
       record {
         step = step;
         pairs = pairs;
@@ -213,8 +212,8 @@ module _ (t : KeptThread) (ready : IsReadyImage t) (last : ℕ) (chain before le
         ∙ sym (own_entries t.disk disk chain before left after x [] y [] f (fresh.0 ∷ fresh.1 ∷ []) [] x.content.slots [] [] [] step P a leads same)
 
     -- a stop leaves the tree from before it
-    pub left_threading : (left_blocks : Blocks) (tree : Tree) → LossLeavesThreadedIn (with_map t (map_taking_two t.map fresh)) last fresh (threading_changes t last fresh) left_blocks
-        → HasEither (with_blocks left_blocks t.disk) (tree_on_disk t.disk t.pairs) tree
+    pub left_threading : (left_blocks : Blocks) (tree : Tree) → LossLeavesThreaded (with_map t (map_taking_two t.map fresh)) last fresh (threading_changes t last fresh) left_blocks
+        → HasEither (with_blocks left_blocks t.disk) (disk_tree t.disk t.pairs) tree
     left_threading blocks tree is = go is.content
       where
         disk : Disk
@@ -223,14 +222,14 @@ module _ (t : KeptThread) (ready : IsReadyImage t) (last : ℕ) (chain before le
         shape : SameGeometryAs t.disk (with_blocks blocks t.disk)
         shape = record { block_size = refl; page = refl; order = refl; profile = refl; count = is.others.count }
 
-        go : HasOldPair held last (with_blocks blocks t.disk) ⊎ ThreadedInOnDisk held last fresh (threading_changes t last fresh) (with_blocks blocks t.disk) → HasEither (with_blocks blocks t.disk) (tree_on_disk t.disk t.pairs) tree
+        go : HasOldPair held last (with_blocks blocks t.disk) ⊎ ThreadedOnDisk held last fresh (threading_changes t last fresh) (with_blocks blocks t.disk) → HasEither (with_blocks blocks t.disk) (disk_tree t.disk t.pairs) tree
         go (inl b) = left_still t.disk blocks (thread_at w (x ∷ [])) accepted_there writable_there
             (device t.disk (with_blocks blocks t.disk) w x x [] (fresh.0 ∷ fresh.1 ∷ []) accepted_there distinct (placed_still t last w x e.there e.place (with_blocks blocks t.disk) fresh shape is.others (record { holds = b.holds; first = b.first })))
-            (inl (ap (tree_on_disk t.disk) (sym e.there)))
+            (inl (ap (disk_tree t.disk) (sym e.there)))
         go (inr j) =
             let at = at_is t last w x e.there e.place in
             let c = made_same j.content j.made in
             let step = step_from (with_blocks blocks t.disk) (placed_from (with_blocks blocks t.disk) shape is.others (ap (content_at (with_blocks blocks t.disk)) (sym at) ∙ j.holds ∙ ap (λ (z : PairContent). Some z) c)
-            (j.behind ∙ ap (λ (z : Pair). Some z.content) behind_is) (subst (λ (z : PairContent). KeepsSuperblockFirst t.disk (thread_pair_at t last).at z (with_blocks blocks t.disk)) c j.first)) in
-            subst (λ z. HasEither (with_blocks blocks t.disk) (tree_on_disk t.disk z) tree) (sym e.there)
+            (j.behind ∙ ap (λ (z : Pair). Some z.content) behind_is) (subst (λ (z : PairContent). KeepsSuperblockFirst t.disk (thread_pair t last).at z (with_blocks blocks t.disk)) c j.first)) in
+            subst (λ z. HasEither (with_blocks blocks t.disk) (disk_tree t.disk z) tree) (sym e.there)
             (taken_before t.disk (thread_at w (x ∷ [])) (with_blocks blocks t.disk) (thread_at w (y ∷ ([] ++ f ∷ []))) (λ d. d) tree (first_taken (with_blocks blocks t.disk) step))

@@ -1,5 +1,5 @@
 -- A directory that comes, as two steps of the thread.
-use Rattle.lfs_operations.proofs.Common.{ℕ, ◌≡◌, ◌+◌, ◌<◌, ◌≤◌, ◌^◌, ◌⊎◌, inl, inr, true, List, [], ◌∷◌, ◌++◌, length, Some, refl, sym, ap, ap₂, subst, ◌∙◌, arith, append_assoc, length-append, insert, slice_get, recursion_from_All, tree_creating, Blocks, SameExceptThese, IsFree, IsInFlight, Free, content_at, Disk, block_count, charge_limit, BelongsAt, AreWords, Name, HasEither as IsLeftOf, with_blocks, PairContent, FitsInPair, Gstate, Slot, zero_gstate, gstate_xor, same_pair, directory_slot, pair_with_slots, Pair, blocks_of_pairs, pairs_gstate, is_hard_tail, tail_address_of, pair_count_before_root, address_blocks, addresses_blocks, DirectoryNode, IsWritableEntry, IsWritable, IsAccepted, LeadsTo, all_entries, tree_on_disk, Became, last_site, chain_now, InTwo, mkdir_in_two, IsCompletion, no_move_from, recovered_from, each_right, HasNoMove, gstate_assoc, gstate_cons, gstate_moved, gstate_self, sync_bit_delta, with_sync_inverted, turned_is, entry_small, place_at, insert_here, IsPlace, step_writable, site, place_of_belongs, HoldsOfSome, Site, among_left, among_right, begin_of, dirs_at, thread_at, IsSite, IsChain, KeptThread, CanThreadIn, IsThreadedIn, LossLeavesThreadedIn, ChangesThreadBlocks, thread_pair_at, complete_after, All, Contains, HoldBytes, entry_charge, IsPairTouched, AreTwoFree, CanTurn, HasTwoFree, LeftByTurn, IsTurned, map_taking_two, AreBothAltered, CanMakeAt, FitsNewTail, HasFreeBlocks, IsRunEnd, IsDirectoryMade, adding_changes, threading_changes, tree_with_directory}
+use Rattle.lfs_operations.proofs.Common.{ℕ, ◌≡◌, ◌+◌, ◌<◌, ◌≤◌, ◌^◌, ◌⊎◌, inl, inr, true, List, [], ◌∷◌, ◌++◌, length, Some, refl, sym, ap, ap₂, subst, ◌∙◌, arith, append_assoc, length-append, insert, slice_get, recursion_from_All, tree_creating, Blocks, SameExceptThese, IsFree, IsInFlight, Free, content_at, Disk, block_count, charge_limit, BelongsAt, AreWords, Name, HasEither as IsLeftOf, with_blocks, PairContent, FitsInPair, Gstate, Slot, zero_gstate, gstate_xor, same_pair, directory_slot, pair_with_slots, Pair, pairs_blocks, pairs_gstate, is_hard_tail, tail_target, count_before_root, address_blocks, addresses_blocks, DirectoryNode, IsWritableEntry, IsWritable, IsAccepted, LeadsTo, all_entries, disk_tree, Became, last_site, chain_now, InTwo, mkdir_in_two, CompletesOperation, no_move_from, recovered_from, each_right, HasNoMove, gstate_assoc, gstate_cons, gstate_moved, gstate_self, sync_bit_delta, with_sync_inverted, turned_is, entry_small, place_at, insert_here, IsPlace, step_writable, site, place_of_belongs, AnyByRecursion, Site, among_left, among_right, begin_of, dirs_at, thread_at, IsSite, IsChain, KeptThread, CanThreadIn, IsThreadedIn, LossLeavesThreaded, ChangesThreadBlocks, thread_pair, complete_after, All, Contains, AreByteBlocks, entry_charge, IsPairTouched, AreTwoFree, CanPut, HasTwoFree, LeftByPut, ArePut, map_taking_two, AreBothTouched, CanMakeAt, FitsNewTail, HasFreeBlocks, IsRunEnd, IsDirectoryMade, directory_entry_changes, threading_changes, tree_with_directory}
 use Rattle.lfs_model.specs.declared.limits.Profile.{Profile}
 use Rattle.lfs_model.specs.session.Operations as ops
 use Rattle.lfs_model.proofs.Beside.{change}
@@ -22,7 +22,7 @@ use Rattle.lfs_operations.proofs.PairAt.{HasPairAt, pair_at}
 
 -- what the pair at a site holds
 holds_at : (t : KeptThread) (index : ℕ) (w : Site) (p : Pair) → t.pairs ≡ thread_at w (p ∷ []) → index ≡ length w.chain + length (w.before ++ w.left) → IsAccepted t.disk t.pairs
-    → content_at t.disk (thread_pair_at t index).at ≡ Some p.content
+    → content_at t.disk (thread_pair t index).at ≡ Some p.content
 holds_at t index w p there place ok =
     ap (λ (z : Pair). content_at t.disk z.at) (pair_is t index w p there place)
     ∙ (each_right (λ (x : Pair). content_at t.disk x.at ≡ Some x.content) (w.before ++ w.left) (p ∷ (w.right ++ w.after))
@@ -30,7 +30,7 @@ holds_at t index w p there place ok =
     (recursion_from_All (λ (x : Pair). content_at t.disk x.at ≡ Some x.content) (thread_at w (p ∷ [])) (subst (λ z. All (λ (x : Pair). content_at t.disk x.at ≡ Some x.content) z) there ok.thread.contents)))).0
 
 module _ (t : KeptThread) (index id : ℕ) (name : Name) (can : CanMakeAt t index id name) (last : ℕ) (is_last : IsRunEnd t.pairs index last) (fresh : ℕ × ℕ) (two : AreTwoFree t.map fresh)
-    (bytes : HoldBytes t.disk.blocks) (many : block_count t.disk < 2 ^ 32) where
+    (bytes : AreByteBlocks t.disk.blocks) (many : block_count t.disk < 2 ^ 32) where
   abbrev b : BelongsAt t.disk.order t.pairs can.first name index id
   b = can.belongs
 
@@ -75,7 +75,7 @@ module _ (t : KeptThread) (index id : ℕ) (name : Name) (can : CanMakeAt t inde
 
   made : complete_after t last (threading_changes t last fresh) ≡ Some y.content
   made = threaded_made t last x (pair_is t last here x way.end.there way.end.place) (holds_at t last here x way.end.there way.end.place can.ready.accepted)
-      (logged_there t.disk (thread_pair_at t last).at bytes) fresh address two.apart
+      (logged_there t.disk (thread_pair t last).at bytes) fresh address two.apart
 
   pub can_thread : CanThreadIn (with_map t (map_taking_two t.map fresh)) last fresh (threading_changes (with_map t (map_taking_two t.map fresh)) last fresh)
   can_thread = record { below = below t last here x way.end.there way.end.place; content = y.content; made = made; next = refl; held = held t.map fresh two }
@@ -83,14 +83,14 @@ module _ (t : KeptThread) (index id : ℕ) (name : Name) (can : CanMakeAt t inde
   pub thread_fits : FitsNewTail (with_map t (map_taking_two t.map fresh)) last fresh
   thread_fits c m = fits_now t can.ready last w.chain w.before way.left w.after x way.end fresh two made c m
 
-  pub left_by_threading : (left : Blocks) → LossLeavesThreadedIn (with_map t (map_taking_two t.map fresh)) last fresh (threading_changes (with_map t (map_taking_two t.map fresh)) last fresh) left
-      → IsLeftOf (with_blocks left t.disk) (tree_on_disk t.disk t.pairs) (tree_with_directory t can.path name)
+  pub left_by_threading : (left : Blocks) → LossLeavesThreaded (with_map t (map_taking_two t.map fresh)) last fresh (threading_changes (with_map t (map_taking_two t.map fresh)) last fresh) left
+      → IsLeftOf (with_blocks left t.disk) (disk_tree t.disk t.pairs) (tree_with_directory t can.path name)
   left_by_threading left is = left_threading t can.ready last w.chain w.before way.left w.after x way.end fresh two made can.path can.at leads_here same_here left (tree_with_directory t can.path name) is
 
   -- where there was no memory for the step
-  pub left_unthreaded : (new : KeptThread) → ChangesThreadBlocks (addresses_blocks (thread_pair_at t last).at fresh) (with_map t (map_taking_two t.map fresh)) new → SameExceptThese (address_blocks fresh) t.disk.blocks new.disk.blocks
-      → IsLeftOf new.disk (tree_on_disk t.disk t.pairs) (tree_with_directory t can.path name)
-  left_unthreaded new writes others = subst (λ (d : Disk). IsLeftOf d (tree_on_disk t.disk t.pairs) (tree_with_directory t can.path name)) same_disk
+  pub left_unthreaded : (new : KeptThread) → ChangesThreadBlocks (addresses_blocks (thread_pair t last).at fresh) (with_map t (map_taking_two t.map fresh)) new → SameExceptThese (address_blocks fresh) t.disk.blocks new.disk.blocks
+      → IsLeftOf new.disk (disk_tree t.disk t.pairs) (tree_with_directory t can.path name)
+  left_unthreaded new writes others = subst (λ (d : Disk). IsLeftOf d (disk_tree t.disk t.pairs) (tree_with_directory t can.path name)) same_disk
       (left_beside t can.ready last w.chain w.before way.left w.after x way.end fresh two made new.disk.blocks (tree_with_directory t can.path name) others)
     where
       same_disk : with_blocks new.disk.blocks t.disk ≡ new.disk
@@ -101,13 +101,13 @@ module _ (t : KeptThread) (index id : ℕ) (name : Name) (can : CanMakeAt t inde
   abbrev pub IsThreadedNow : KeptThread → Type 0
   IsThreadedNow m = HasThreaded t w.chain w.before way.left w.after x fresh m
 
-  pub threaded_now : (m : KeptThread) → IsThreadedIn (with_map t (map_taking_two t.map fresh)) last fresh (threading_changes t last fresh) m → ChangesThreadBlocks (addresses_blocks (thread_pair_at t last).at fresh) (with_map t (map_taking_two t.map fresh)) m → IsThreadedNow m
+  pub threaded_now : (m : KeptThread) → IsThreadedIn (with_map t (map_taking_two t.map fresh)) last fresh (threading_changes t last fresh) m → ChangesThreadBlocks (addresses_blocks (thread_pair t last).at fresh) (with_map t (map_taking_two t.map fresh)) m → IsThreadedNow m
   threaded_now m is writes = has_threaded t can.ready last w.chain w.before way.left w.after x way.end fresh two made m is writes
 
   pub room_left : (m : KeptThread) → IsThreadedNow m → (HasTwoFree m.map → ⊥) → ⊥
   room_left m h none = no_room m.map none (subst (HasFreeBlocks 2) (sym h.map) (less_room 2 t.map fresh two can.room))
 
-  module _ (m : KeptThread) (h : IsThreadedNow m) (bytes_now : HoldBytes m.disk.blocks) where
+  module _ (m : KeptThread) (h : IsThreadedNow m) (bytes_now : AreByteBlocks m.disk.blocks) where
     abbrev v : Site
     v = site_behind w way.right f
 
@@ -115,8 +115,8 @@ module _ (t : KeptThread) (index id : ℕ) (name : Name) (can : CanMakeAt t inde
     first = first_taken t can.ready last w.chain w.before way.left w.after x way.end fresh two made can.path can.at leads_here same_here m.disk h.step
 
     -- between the steps the tree is the one from before
-    pub left_between : IsLeftOf m.disk (tree_on_disk t.disk t.pairs) (tree_with_directory t can.path name)
-    left_between = subst (λ z. IsLeftOf m.disk (tree_on_disk t.disk z) (tree_with_directory t can.path name)) (sym way.end.there)
+    pub left_between : IsLeftOf m.disk (disk_tree t.disk t.pairs) (tree_with_directory t can.path name)
+    left_between = subst (λ z. IsLeftOf m.disk (disk_tree t.disk z) (tree_with_directory t can.path name)) (sym way.end.there)
         (taken.taken_before t.disk (thread_at here (x ∷ [])) m.disk (thread_at here (y ∷ ([] ++ f ∷ []))) (λ d. d) (tree_with_directory t can.path name) first)
 
     same_thread : thread_at here (y ∷ ([] ++ f ∷ [])) ≡ thread_at v (way.p2 ∷ [])
@@ -152,7 +152,7 @@ module _ (t : KeptThread) (index id : ℕ) (name : Name) (can : CanMakeAt t inde
     id_within : id ≤ length way.p2.content.slots
     id_within = let e = ap length was in let l = length-append b.left b.right in let n = b.number in omega arith
 
-    pair_now : thread_pair_at m index ≡ way.p2
+    pair_now : thread_pair m index ≡ way.p2
     pair_now = pair_is m index v way.p2 there_now stand.number
 
     entry_fits : IsWritableEntry m.disk.profile m.disk.block_size m.disk.page u
@@ -172,12 +172,12 @@ module _ (t : KeptThread) (index id : ℕ) (name : Name) (can : CanMakeAt t inde
     abbrev one : Pair
     one = record { at = way.p2.at; content = now }
 
-    made_now : complete_after m index (adding_changes m index id name fresh) ≡ Some now
-    made_now = named_made m index way.p2 pair_now (holds_at m index v way.p2 there_now stand.number accepted_now) (logged_there m.disk (thread_pair_at m index).at bytes_now)
+    made_now : complete_after m index (directory_entry_changes m index id name fresh) ≡ Some now
+    made_now = named_made m index way.p2 pair_now (holds_at m index v way.p2 there_now stand.number accepted_now) (logged_there m.disk (thread_pair m index).at bytes_now)
         id name fresh (name_length name can.is_name) address id_within fits_there
 
-    pub can_enter : CanTurn m index (adding_changes m index id name fresh)
-    can_enter = can_name m index way.p2 pair_now (holds_at m index v way.p2 there_now stand.number accepted_now) (logged_there m.disk (thread_pair_at m index).at bytes_now)
+    pub can_enter : CanPut m index (directory_entry_changes m index id name fresh)
+    can_enter = can_name m index way.p2 pair_now (holds_at m index v way.p2 there_now stand.number accepted_now) (logged_there m.disk (thread_pair m index).at bytes_now)
         id name fresh (name_length name can.is_name) address id_within fits_there (below m index v way.p2 there_now stand.number) (entry_small m.disk.profile m.disk.block_size m.disk.page u large_now entry_fits)
 
     -- the sync bit goes
@@ -193,7 +193,7 @@ module _ (t : KeptThread) (index id : ℕ) (name : Name) (can : CanMakeAt t inde
         ∙ ap (λ z. gstate_xor sync_bit_delta (pairs_gstate z)) (append_assoc v.chain (v.before ++ v.left) (way.p2 ∷ (v.right ++ v.after)))
         ∙ ap (gstate_xor sync_bit_delta) (ap pairs_gstate (sym there_now) ∙ state_is) ∙ gstate_self sync_bit_delta
 
-    entering : IsEntering m index (adding_changes m index id name fresh) v way.p2 b.left name fresh b.right
+    entering : IsEntering m index (directory_entry_changes m index id name fresh) v way.p2 b.left name fresh b.right
     entering = record {
       accepted = accepted_now;
       writable = writable_now;
@@ -215,7 +215,7 @@ module _ (t : KeptThread) (index id : ℕ) (name : Name) (can : CanMakeAt t inde
     }
 
     -- the pair stands where it stood
-    pub at_still : (thread_pair_at m index).at ≡ (thread_pair_at t index).at
+    pub at_still : (thread_pair m index).at ≡ (thread_pair t index).at
     at_still = ap (λ (z : Pair). z.at) pair_now ∙ way.at ∙ ap (λ (z : Pair). z.at) (sym (pair_is t index w p stand.there stand.number))
 
     -- ---- after it
@@ -237,20 +237,20 @@ module _ (t : KeptThread) (index id : ℕ) (name : Name) (can : CanMakeAt t inde
     both : (disk : Disk) (q : Pair) (more : List Pair) → Enters m v way.p2 b.left name fresh b.right disk q more
         → InTwo t.disk (thread_at here (x ∷ [])) m.disk (thread_at v (way.p2 ∷ [])) disk (thread_at v (q ∷ more)) (λ z. z) (tree_creating (can.path ++ name ∷ []) (DirectoryNode [] []))
     both disk q more e = mkdir_in_two t.disk m.disk disk w.chain w.before way.left w.after x [] y [] f (fresh.0 ∷ fresh.1 ∷ []) x.content.slots [] h.step can.path can.at leads_here same_here sync
-        v way.p2 q more (blocks_of_pairs more) b.left b.right u e.step same_thread can.path can.at
+        v way.p2 q more (pairs_blocks more) b.left b.right u e.step same_thread can.path can.at
         (subst (λ z. LeadsTo z can.path can.at) same_thread (ap (λ d. d can.path) first.follows.leads ∙ leads_here))
         (ap (λ z. same_pair z can.at) way.begins ∙ stand.begin) place_there refl
         (recovered_from t.disk (thread_at here (x ∷ [])) h.step.accepted settled).reached
 
     still_writable : (disk : Disk) (q : Pair) (more : List Pair) → Enters m v way.p2 b.left name fresh b.right disk q more → IsWritable disk (thread_at v (q ∷ more))
-    still_writable disk q more e = step_writable m.disk disk v way.p2 [] q more (blocks_of_pairs more) [] b.left [] (u ∷ []) b.right e.step e.put.writable
+    still_writable disk q more e = step_writable m.disk disk v way.p2 [] q more (pairs_blocks more) [] b.left [] (u ∷ []) b.right e.step e.put.writable
         (taken.put_within m.disk v way.p2 q more b.left [] (u ∷ []) b.right e.put) (taken.put_filled m.disk v way.p2 q more b.left [] (u ∷ []) b.right e.put)
 
-    shows_now : (disk : Disk) (q : Pair) (more : List Pair) (e : Enters m v way.p2 b.left name fresh b.right disk q more) → tree_on_disk disk (thread_at v (q ∷ more)) ≡ tree_with_directory t can.path name
-    shows_now disk q more e = (both disk q more e).end.shows ∙ ap (λ z. tree_creating (can.path ++ name ∷ []) (DirectoryNode [] []) (tree_on_disk t.disk z)) (sym way.end.there)
+    shows_now : (disk : Disk) (q : Pair) (more : List Pair) (e : Enters m v way.p2 b.left name fresh b.right disk q more) → disk_tree disk (thread_at v (q ∷ more)) ≡ tree_with_directory t can.path name
+    shows_now disk q more e = (both disk q more e).end.shows ∙ ap (λ z. tree_creating (can.path ++ name ∷ []) (DirectoryNode [] []) (disk_tree t.disk z)) (sym way.end.there)
 
-    pub made_is : (new : KeptThread) → IsTurned m index (adding_changes m index id name fresh) new → IsDirectoryMade t new can.path name
-    made_is new is = go (entered m index (adding_changes m index id name fresh) v way.p2 b.left name fresh b.right entering new is)
+    pub made_is : (new : KeptThread) → ArePut m index (directory_entry_changes m index id name fresh) new → IsDirectoryMade t new can.path name
+    made_is new is = go (entered m index (directory_entry_changes m index id name fresh) v way.p2 b.left name fresh b.right entering new is)
       where
         go : HasEntered m v way.p2 b.left name fresh b.right new → IsDirectoryMade t new can.path name
         go e = record {
@@ -263,18 +263,18 @@ module _ (t : KeptThread) (index id : ℕ) (name : Name) (can : CanMakeAt t inde
               size = e.size;
               large = subst (λ n. 1024 ≤ n) (sym e.enters.step.device.geometry.block_size) large_now;
             };
-            shows = ap (tree_on_disk new.disk) e.pairs ∙ shows_now new.disk e.q e.more e.enters;
+            shows = ap (disk_tree new.disk) e.pairs ∙ shows_now new.disk e.q e.more e.enters;
             stays = λ c taken_before. e.stays c (λ free. taken_before (was_free c free)) ∙ kept c taken_before;
             none_comes = λ c flies. none_comes_now t.map fresh two c (subst (λ s. IsInFlight s c) h.map (e.none_comes c flies));
-            root = ap pair_count_before_root e.pairs
+            root = ap count_before_root e.pairs
                 ∙ root_stays t.disk new.disk w.chain (dirs_at here (x ∷ [])) (dirs_at v (e.q ∷ e.more)) way.end.site.chain h.step.accepted (both new.disk e.q e.more e.enters).end.accepted (both new.disk e.q e.more e.enters).end.root
-                ∙ sym (ap pair_count_before_root way.end.there);
+                ∙ sym (ap count_before_root way.end.there);
           };
           completed = λ s given tree is_path.
-              subst (λ z. IsCompletion t.disk z s (ops.Mkdir given) new.disk new.pairs) (sym way.end.there)
-              (subst (λ z. IsCompletion t.disk (thread_at here (x ∷ [])) s (ops.Mkdir given) new.disk z) (sym e.pairs)
+              subst (λ z. CompletesOperation t.disk z s (ops.Mkdir given) new.disk new.pairs) (sym way.end.there)
+              (subst (λ z. CompletesOperation t.disk (thread_at here (x ∷ [])) s (ops.Mkdir given) new.disk z) (sym e.pairs)
               (way.completed m.disk new.disk e.q e.more h.step (put_there t can.ready last w.chain w.before way.left w.after x way.end fresh two made) e.enters.step e.enters.put
-              can.at leads_here same_here place_there sync settled e.enters.still s given (tree ∙ ap (tree_on_disk t.disk) way.end.there) is_path));
+              can.at leads_here same_here place_there sync settled e.enters.still s given (tree ∙ ap (disk_tree t.disk) way.end.there) is_path));
         }
           where
             kept : (c : ℕ) → (IsFree t.map c → ⊥) → slice_get m.map c ≡ slice_get t.map c
@@ -284,20 +284,20 @@ module _ (t : KeptThread) (index id : ℕ) (name : Name) (can : CanMakeAt t inde
             was_free c free = freed t.map fresh two c (subst (λ s. IsFree s c) h.map free)
 
     -- neither pair stays with what it held
-    pub made_alters : (new : KeptThread) → IsTurned m index (adding_changes m index id name fresh) new → AreBothAltered t index new
-    made_alters new is = go (entered m index (adding_changes m index id name fresh) v way.p2 b.left name fresh b.right entering new is)
+    pub made_alters : (new : KeptThread) → ArePut m index (directory_entry_changes m index id name fresh) new → AreBothTouched t index new
+    made_alters new is = go (entered m index (directory_entry_changes m index id name fresh) v way.p2 b.left name fresh b.right entering new is)
       where
-        x_was : HoldsOfSome (λ z. z ≡ x) t.pairs
-        x_was = subst (HoldsOfSome (λ z. z ≡ x)) (sym way.end.there) (among_right (λ z. z ≡ x) w.chain (dirs_at here (x ∷ [])) (among_right (λ z. z ≡ x) (w.before ++ way.left) (x ∷ w.after) (inl refl)))
+        x_was : AnyByRecursion (λ z. z ≡ x) t.pairs
+        x_was = subst (AnyByRecursion (λ z. z ≡ x)) (sym way.end.there) (among_right (λ z. z ≡ x) w.chain (dirs_at here (x ∷ [])) (among_right (λ z. z ≡ x) (w.before ++ way.left) (x ∷ w.after) (inl refl)))
 
-        go : HasEntered m v way.p2 b.left name fresh b.right new → AreBothAltered t index new
+        go : HasEntered m v way.p2 b.left name fresh b.right new → AreBothTouched t index new
         go e = by way.which
           where
             ok : IsAccepted new.disk (thread_at v (e.q ∷ e.more))
             ok = (both new.disk e.q e.more e.enters).end.accepted
 
             -- the last one, by the tail of the pair that stands there now
-            end_goes : (z : Pair) → HoldsOfSome (λ y. y ≡ z) (thread_at v (e.q ∷ e.more)) → z.at ≡ x.at → (tail_address_of z.content.tail ≡ Some fresh) ⊎ (is_hard_tail z.content.tail ≡ true) → Contains new.pairs x → ⊥
+            end_goes : (z : Pair) → AnyByRecursion (λ y. y ≡ z) (thread_at v (e.q ∷ e.more)) → z.at ≡ x.at → (tail_target z.content.tail ≡ Some fresh) ⊎ (is_hard_tail z.content.tail ≡ true) → Contains new.pairs x → ⊥
             end_goes z h at tail has =
                 other_tail t z x fresh can.ready two.first x_was (run_right way.left x [] way.end.site.run) (thread_at v (e.q ∷ e.more)) ok.thread.distinct h at tail (subst (λ ps. Contains ps x) e.pairs has)
 
@@ -314,11 +314,11 @@ module _ (t : KeptThread) (index id : ℕ) (name : Name) (can : CanMakeAt t inde
             at_now : e.q.at ≡ p.at
             at_now = e.enters.step.shape.at ∙ way.at
 
-            by : IsOne p x way.p2 fresh ⊎ IsAhead p x way.p2 way.right fresh → AreBothAltered t index new
+            by : IsOne p x way.p2 fresh ⊎ IsAhead p x way.p2 way.right fresh → AreBothTouched t index new
             by (inl h) = record { entry = entry_alters (subst (λ z. Contains new.pairs z → ⊥) h.same gone); end = end_alters gone }
               where
-                tail_now : (more : List Pair) → Became m.disk way.p2 (pair_with_slots (b.left ++ (u ∷ b.right)) way.p2) e.q more → (tail_address_of e.q.content.tail ≡ Some fresh) ⊎ (is_hard_tail e.q.content.tail ≡ true)
-                tail_now [] k = inl (ap tail_address_of k.0 ∙ ap (λ (z : Pair). tail_address_of z.content.tail) h.names)
+                tail_now : (more : List Pair) → Became m.disk way.p2 (pair_with_slots (b.left ++ (u ∷ b.right)) way.p2) e.q more → (tail_target e.q.content.tail ≡ Some fresh) ⊎ (is_hard_tail e.q.content.tail ≡ true)
+                tail_now [] k = inl (ap tail_target k.0 ∙ ap (λ (z : Pair). tail_target z.content.tail) h.names)
                 tail_now (f ∷ []) k = inr (ap is_hard_tail k.0)
                 tail_now (f ∷ g ∷ more) k = absurd k
 
@@ -336,17 +336,17 @@ module _ (t : KeptThread) (index id : ℕ) (name : Name) (can : CanMakeAt t inde
                     (subst (Contains (thread_at v (e.q ∷ e.more))) (sym h.stays) (subst (λ ps. Contains ps p) e.pairs has))
 
     -- a stop leaves the tree from before it or from after it
-    pub left_by_entering : (left : Blocks) → LeftByTurn m index (adding_changes m index id name fresh) left → IsLeftOf (with_blocks left t.disk) (tree_on_disk t.disk t.pairs) (tree_with_directory t can.path name)
-    left_by_entering left is = subst (λ (d : Disk). IsLeftOf d (tree_on_disk t.disk t.pairs) (tree_with_directory t can.path name)) same_disk
-        (go (left_entered m index (adding_changes m index id name fresh) v way.p2 b.left name fresh b.right entering left is))
+    pub left_by_entering : (left : Blocks) → LeftByPut m index (directory_entry_changes m index id name fresh) left → IsLeftOf (with_blocks left t.disk) (disk_tree t.disk t.pairs) (tree_with_directory t can.path name)
+    left_by_entering left is = subst (λ (d : Disk). IsLeftOf d (disk_tree t.disk t.pairs) (tree_with_directory t can.path name)) same_disk
+        (go (left_entered m index (directory_entry_changes m index id name fresh) v way.p2 b.left name fresh b.right entering left is))
       where
         same_disk : with_blocks left m.disk ≡ with_blocks left t.disk
         same_disk = λ j. record { block_size = h.step.device.geometry.block_size j; page = h.step.device.geometry.page j; order = h.step.device.geometry.order j; profile = h.step.device.geometry.profile j; blocks = left }
 
-        go : Stays m index (adding_changes m index id name fresh) v way.p2 b.left name fresh b.right entering (with_blocks left m.disk) ⊎ HasEntry m v way.p2 b.left name fresh b.right (with_blocks left m.disk)
-            → IsLeftOf (with_blocks left m.disk) (tree_on_disk t.disk t.pairs) (tree_with_directory t can.path name)
+        go : Stays m index (directory_entry_changes m index id name fresh) v way.p2 b.left name fresh b.right entering (with_blocks left m.disk) ⊎ HasEntry m v way.p2 b.left name fresh b.right (with_blocks left m.disk)
+            → IsLeftOf (with_blocks left m.disk) (disk_tree t.disk t.pairs) (tree_with_directory t can.path name)
         go (inl d) = left_still m.disk left (thread_at v (way.p2 ∷ [])) (subst (IsAccepted m.disk) there_now accepted_now) (subst (IsWritable m.disk) there_now writable_now) d
-            (inl (ap (tree_on_disk m.disk) (sym same_thread) ∙ first.follows.shows ∙ ap (tree_on_disk t.disk) (sym way.end.there)))
+            (inl (ap (disk_tree m.disk) (sym same_thread) ∙ first.follows.shows ∙ ap (disk_tree t.disk) (sym way.end.there)))
         go (inr e) = record {
           pairs = thread_at v (e.q ∷ e.more);
           accepted = (both (with_blocks left m.disk) e.q e.more e.enters).end.accepted;

@@ -1,6 +1,6 @@
 -- A directory is made whose entry comes into the last pair of its parent: its pair is threaded behind that one, with the sync bit set,
 -- and then the entry comes.
-use Rattle.lfs_operations.proofs.Common.{ℕ, ◌≡◌, true, List, [], ◌∷◌, ◌++◌, refl, sym, ap, subst, ◌∙◌, append_assoc, append-nil, subst₂, Disk, Name, Slot, zero_gstate, same_pair, FitsInPair, Pair, first_address, pairs_gstate, Path, DirectoryNode, IsWritable, LeadsTo, all_entries, tree_on_disk, tree_creating, Session, path_or_root, pair_with_slots, directory_slot, FitsPair, IsPlace, Site, thread_at, begin_of, IsStep, place_at, last_site, IsStepBeside, threaded, SameSlots, alike_itself, IsCompletion, recovered_from, Became, step_writable, InTwo, mkdir_in_two, IsWritableChange, IsPut, IsPutBeside, beside_taken, put_within, put_filled}
+use Rattle.lfs_operations.proofs.Common.{ℕ, ◌≡◌, true, List, [], ◌∷◌, ◌++◌, refl, sym, ap, subst, ◌∙◌, append_assoc, append-nil, subst₂, Disk, Name, Slot, zero_gstate, same_pair, FitsInPair, Pair, first_address, pairs_gstate, Path, DirectoryNode, IsWritable, LeadsTo, all_entries, disk_tree, tree_creating, Session, path_or_root, pair_with_slots, directory_slot, FitsPair, IsPlace, Site, thread_at, begin_of, IsStep, place_at, last_site, IsStepBeside, threaded, SameSlots, alike_itself, CompletesOperation, recovered_from, Became, step_writable, InTwo, mkdir_in_two, IsWritableChange, IsPut, IsPutBeside, beside_taken, put_within, put_filled}
 use Rattle.lfs_model.specs.session.Operations as ops
 use Rattle.lfs_model.proofs.MadeDirectory.{Cut, IsMkdir, mkdir_completed, none_there}
 
@@ -84,7 +84,7 @@ module _ (disk middle new : Disk) (chain before left after : List Pair) (x y f :
       became_cut (g ∷ []) h = ((λ k. h.2 (resized (l ++ directory_slot name f.at ∷ r) k)), sized q h.3, sized g h.4)
       became_cut (g ∷ i ∷ more) h = absurd h
 
-  pub mkdir_at_last_completed : (s : Session) (path : List ℕ) → s.tree ≡ tree_on_disk disk (thread_at (last_site chain before left after) (x ∷ [])) → path_or_root path ≡ P ++ name ∷ []
-      → IsCompletion disk (thread_at (last_site chain before left after) (x ∷ [])) s (ops.Mkdir path) new (thread_at (ahead_of chain before left f after) (q ∷ more))
+  pub mkdir_at_last_completed : (s : Session) (path : List ℕ) → s.tree ≡ disk_tree disk (thread_at (last_site chain before left after) (x ∷ [])) → path_or_root path ≡ P ++ name ∷ []
+      → CompletesOperation disk (thread_at (last_site chain before left after) (x ∷ [])) s (ops.Mkdir path) new (thread_at (ahead_of chain before left f after) (q ∷ more))
   mkdir_at_last_completed s path tree is =
       mkdir_completed disk new (thread_at (ahead_of chain before left f after) (q ∷ more)) chain (before ++ left) after x q more (chain ++ ((before ++ left) ++ (q ∷ more))) after f l r P name made s path tree is

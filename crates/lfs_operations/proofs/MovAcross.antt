@@ -1,5 +1,5 @@
 -- A rename across pairs, of two steps: where the old pair stands between them, and what the operation comes to.
-use Rattle.lfs_operations.proofs.Common.{ℕ, ◌≡◌, ◌+◌, ◌<◌, ◌⊎◌, inl, inr, Bool, true, false, List, [], ◌∷◌, ◌++◌, length, Option, Some, None, refl, sym, ap, subst, ◌∙◌, arith, append_assoc, length-append, Disk, Name, Slot, gstate_xor, zero_gstate, pair_with_slots, slot_of, Pair, pairs_gstate, is_hard_tail, pair_count_before_root, Path, last_name, tree_renaming, Session, path_or_root, IsAccepted, IsWritable, tree_on_disk, SameSlots, Became, IsChangedImage, IsCompletion, onward_all, IsNoDirectory, target_slots, Site, thread_at, IsWritableChange, OldStays, two, from_old, ends_joined, is_some, PathAddresses, gstate_naming}
+use Rattle.lfs_operations.proofs.Common.{ℕ, ◌≡◌, ◌+◌, ◌<◌, ◌⊎◌, inl, inr, Bool, true, false, List, [], ◌∷◌, ◌++◌, length, Option, Some, None, refl, sym, ap, subst, ◌∙◌, arith, append_assoc, length-append, Disk, Name, Slot, gstate_xor, zero_gstate, pair_with_slots, slot_of, Pair, pairs_gstate, is_hard_tail, count_before_root, Path, last_name, tree_renaming, Session, path_or_root, IsAccepted, IsWritable, disk_tree, SameSlots, Became, IsChangedImage, CompletesOperation, onward_all, IsNoDirectory, target_slots, Site, thread_at, IsWritableChange, OldStays, two, from_old, ends_joined, is_some, PathAddresses, gstate_naming}
 use Rattle.lfs_model.specs.session.Operations as ops
 use Rattle.lfs_model.proofs.RenamedAcross.{IsRenameAcross, across_completed}
 use Rattle.lfs_operations.proofs.MovPlaces.{InTurn, ahead, behind}
@@ -93,7 +93,7 @@ module _ (disk middle new : Disk) (wo : Site) (o : Pair) (lo : List Slot) (u : S
       (file : IsNoDirectory target) where
     is_across : IsRenameAcross disk middle new (thread_at w (q ∷ more)) rs arrangement.b w.chain arrangement.front arrangement.mid arrangement.back o p q os more lo u ro l target r old_path new_path name
     is_across = record {
-      is_chain = sym (ap pair_count_before_root arrangement.old_is) ∙ k.site.chain;
+      is_chain = sym (ap count_before_root arrangement.old_is) ∙ k.site.chain;
       accepted = subst (IsAccepted disk) arrangement.old_is k.accepted;
       writable = subst (IsWritable disk) arrangement.old_is k.writable;
       settled = sym (ap pairs_gstate arrangement.old_is) ∙ k.settled;
@@ -115,8 +115,8 @@ module _ (disk middle new : Disk) (wo : Site) (o : Pair) (lo : List Slot) (u : S
       file = file;
     }
 
-    pub completed : (s : Session) (old_bytes new_bytes : List ℕ) → s.tree ≡ tree_on_disk disk (thread_at w (p ∷ [])) → path_or_root old_bytes ≡ old_path → path_or_root new_bytes ≡ new_path
-        → IsCompletion disk (thread_at w (p ∷ [])) s (ops.Rename old_bytes new_bytes) new rs
-    completed s old_bytes new_bytes tree old_as new_as = subst (λ z. IsCompletion disk z s (ops.Rename old_bytes new_bytes) new rs) (sym arrangement.old_is)
+    pub completed : (s : Session) (old_bytes new_bytes : List ℕ) → s.tree ≡ disk_tree disk (thread_at w (p ∷ [])) → path_or_root old_bytes ≡ old_path → path_or_root new_bytes ≡ new_path
+        → CompletesOperation disk (thread_at w (p ∷ [])) s (ops.Rename old_bytes new_bytes) new rs
+    completed s old_bytes new_bytes tree old_as new_as = subst (λ z. CompletesOperation disk z s (ops.Rename old_bytes new_bytes) new rs) (sym arrangement.old_is)
         (across_completed disk middle new (thread_at w (q ∷ more)) rs arrangement.b w.chain arrangement.front arrangement.mid arrangement.back o p q os more lo u ro l target r old_path new_path name is_across
-        s old_bytes new_bytes (tree ∙ ap (tree_on_disk disk) arrangement.old_is) old_as new_as)
+        s old_bytes new_bytes (tree ∙ ap (disk_tree disk) arrangement.old_is) old_as new_as)

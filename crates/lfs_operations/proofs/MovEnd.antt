@@ -1,5 +1,5 @@
 -- A set move ends: the slot that it hides goes.
-use Rattle.lfs_operations.proofs.Common.{ℕ, ◌≡◌, ◌≢◌, ◌+◌, true, false, cond, nat_eq, ◌&&◌, List, [], ◌∷◌, ◌++◌, length, refl, sym, ap, ap₂, subst, ◌∙◌, arith, flat_map, append_assoc, append-nil, remove, IsDistinct, flat_map-append, recursion_from_All, Disk, Slot, Gstate, is_superblock, same_pair, gstate_xor, pair_with_slots, pairs_without_moved, Pair, blocks_of_pairs, pairs_gstate, starts_superblock, slots_not_moved, is_hard_tail, pair_count_before_root, all_directories, used_blocks, all_slots_not_moved, set_move_kind, IsAccepted, IsWritable, became_front, became_shape, slots_files, chain_now, Each, each_append, each_left, each_right, each_weaker, number_count, count_append, SameFileBlocks, HasNoMove, gstate_cons, gstate_right, flip_false, remove_here, pair_back, IsMoveEnd, move_ends, site_gstate_moved, unmoved_elsewhere, end_change, avoids_front, avoids_behind, Site, thread_at, IsSite, all_slots, file_blocks, unmoved_in, IsWritableChange, IsPut, ends_joined, first_pair_addresses, end_taken, gstate_without_sync, gstate_without_move}
+use Rattle.lfs_operations.proofs.Common.{ℕ, ◌≡◌, ◌≢◌, ◌+◌, true, false, cond, nat_eq, ◌&&◌, List, [], ◌∷◌, ◌++◌, length, refl, sym, ap, ap₂, subst, ◌∙◌, arith, flat_map, append_assoc, append-nil, remove, IsDistinct, flat_map-append, recursion_from_All, Disk, Slot, Gstate, is_superblock, same_pair, gstate_xor, pair_with_slots, pairs_without_moved, Pair, pairs_blocks, pairs_gstate, starts_superblock, slots_not_moved, is_hard_tail, count_before_root, all_directories, used_blocks, all_unmoved_slots, set_move_kind, IsAccepted, IsWritable, became_front, became_shape, slots_files, chain_now, Each, each_append, each_left, each_right, each_weaker, number_occurrences, count_append, SameFileBlocks, HasNoMove, gstate_cons, gstate_right, flip_false, remove_here, pair_back, IsMoveEnd, move_ends, site_gstate_moved, unmoved_elsewhere, end_change, avoids_front, avoids_behind, Site, thread_at, IsSite, all_slots, file_blocks, unmoved_in, IsWritableChange, IsPut, ends_joined, directory_addresses, end_taken, gstate_without_sync, gstate_without_move}
 use Rattle.std.specs.Int.Bits.{xor_self}
 use Rattle.lfs_operations.proofs.MovSet.{HasTurned}
 use Rattle.lfs_operations.proofs.MovFirsts.{end_firsts}
@@ -37,25 +37,25 @@ module _ (disk new : Disk) (w : Site) (p : Pair) (mids : List Pair) (q : Pair) (
   far_after = each_right Apart (w.before ++ w.left) (w.right ++ w.after) (each_right Apart w.chain ((w.before ++ w.left) ++ (w.right ++ w.after)) k.elsewhere)
 
   -- the root directory begins where it did
-  pub end_chain : pair_count_before_root (thread_at w (q ∷ [])) ≡ length w.chain
+  pub end_chain : count_before_root (thread_at w (q ∷ [])) ≡ length w.chain
   end_chain = chain_now disk new w.chain (w.before ++ w.left) p mids q [] (w.right ++ w.after) [] k.site.chain k.accepted (end_change disk new w p mids q [] l u r k)
 
-  visible_same : all_slots_not_moved (thread_at w (q ∷ [])) ≡ all_slots_not_moved (thread_at w (p ∷ mids))
+  visible_same : all_unmoved_slots (thread_at w (q ∷ [])) ≡ all_unmoved_slots (thread_at w (p ∷ mids))
   visible_same = unmoved_in (pairs_gstate (thread_at w (q ∷ []))) k.still_none (thread_at w (q ∷ [])) ∙ slots_three (λ s. s.content.slots) (q ∷ [])
       ∙ ap₂ (λ a z. a ++ (all_slots (w.before ++ w.left) ++ z)) (sym (hidden_none w.chain far_chain))
       (ap₂ (λ a z. a ++ z) (k.is ∙ sym k.hidden) (sym (hidden_none (w.right ++ w.after) far_after)))
       ∙ ap (λ z. flat_map (slots_not_moved G) w.chain ++ (z ++ (flat_map (slots_not_moved G) (p ∷ mids) ++ flat_map (slots_not_moved G) (w.right ++ w.after)))) (sym (hidden_none (w.before ++ w.left) far_before))
       ∙ sym (slots_three (slots_not_moved G) (p ∷ mids))
 
-  pub end_count : (b : ℕ) → number_count b (used_blocks new (thread_at w (q ∷ []))) + number_count b (blocks_of_pairs (p ∷ mids)) ≡ number_count b (used_blocks disk (thread_at w (p ∷ mids))) + number_count b (blocks_of_pairs (q ∷ []))
+  pub end_count : (b : ℕ) → number_occurrences b (used_blocks new (thread_at w (q ∷ []))) + number_occurrences b (pairs_blocks (p ∷ mids)) ≡ number_occurrences b (used_blocks disk (thread_at w (p ∷ mids))) + number_occurrences b (pairs_blocks (q ∷ []))
   end_count b =
-      let a1 = count_append b (blocks_of_pairs (thread_at w (q ∷ []))) (file_blocks new (all_slots_not_moved (thread_at w (q ∷ [])))) in
-      let a2 = count_append b (blocks_of_pairs (thread_at w (p ∷ mids))) (file_blocks disk (all_slots_not_moved (thread_at w (p ∷ mids)))) in
+      let a1 = count_append b (pairs_blocks (thread_at w (q ∷ []))) (file_blocks new (all_unmoved_slots (thread_at w (q ∷ [])))) in
+      let a2 = count_append b (pairs_blocks (thread_at w (p ∷ mids))) (file_blocks disk (all_unmoved_slots (thread_at w (p ∷ mids)))) in
       let b1 = count_pairs b w (q ∷ []) in
       let b2 = count_pairs b w (p ∷ mids) in
-      let same = ap (number_count b) (slots_files disk new (all_slots_not_moved (thread_at w (p ∷ mids))) k.device.geometry
-      (recursion_from_All (λ (s : Slot). SameFileBlocks disk new s.struct) (all_slots_not_moved (thread_at w (p ∷ mids))) k.device.files)) in
-      let f = ap (λ z. number_count b (file_blocks new z)) visible_same in
+      let same = ap (number_occurrences b) (slots_files disk new (all_unmoved_slots (thread_at w (p ∷ mids))) k.device.geometry
+      (recursion_from_All (λ (s : Slot). SameFileBlocks disk new s.struct) (all_unmoved_slots (thread_at w (p ∷ mids))) k.device.files)) in
+      let f = ap (λ z. number_occurrences b (file_blocks new z)) visible_same in
       omega arith
 
 -- so a recovery may go on, where the pair stays
@@ -98,8 +98,8 @@ module _ (disk : Disk) (w : Site) (p : Pair) (l : List Slot) (u : Slot) (r : Lis
   grouped : thread_at w (p ∷ []) ≡ (w.chain ++ ahead) ++ p ∷ back
   grouped = sym (append_assoc w.chain ahead (p ∷ back))
 
-  distinct_there : IsDistinct nat_eq (blocks_of_pairs ((w.chain ++ ahead) ++ p ∷ back))
-  distinct_there = subst (λ z. IsDistinct nat_eq (blocks_of_pairs z)) grouped k.accepted.thread.distinct
+  distinct_there : IsDistinct nat_eq (pairs_blocks ((w.chain ++ ahead) ++ p ∷ back))
+  distinct_there = subst (λ z. IsDistinct nat_eq (pairs_blocks z)) grouped k.accepted.thread.distinct
 
   flipped : (ss : List Pair) → Each (λ s. same_pair s.at (pairs_gstate (thread_at w (p ∷ []))).pair ≡ false) ss → Each Far ss
   flipped ss h = each_weaker (λ s. same_pair s.at (pairs_gstate (thread_at w (p ∷ []))).pair ≡ false) Far (λ s e. flip_false s.at g.pair e) ss h
@@ -151,17 +151,17 @@ module _ (disk : Disk) (w : Site) (p : Pair) (l : List Slot) (u : Slot) (r : Lis
         (move_ends disk new w p [] q [] l u r end_step (λ e. k.accepted.reached (sym (ap (λ (z : Gstate). z.sync) ended_state) ∙ e)))
 
     -- the directories begin where they did
-    pub ended_firsts : first_pair_addresses (all_directories qs) ≡ first_pair_addresses (all_directories ps)
+    pub ended_firsts : directory_addresses (all_directories qs) ≡ directory_addresses (all_directories ps)
     ended_firsts = end_firsts disk new w p [] q [] l u r end_step
 
-    pub ended_chain : pair_count_before_root qs ≡ length w.chain
+    pub ended_chain : count_before_root qs ≡ length w.chain
     ended_chain = end_chain disk new w p [] q l u r end_step
 
     pub ended_kin : AreKin (pairs_without_moved (thread_at w (p ∷ []))) (thread_at w (q ∷ []))
     ended_kin = end_kin disk new w p q l u r end_step (ap is_hard_tail x.became.0)
 
-    pub ended_count : (b : ℕ) → number_count b (used_blocks new qs) ≡ number_count b (used_blocks disk ps)
+    pub ended_count : (b : ℕ) → number_occurrences b (used_blocks new qs) ≡ number_occurrences b (used_blocks disk ps)
     ended_count b =
         let e = end_count disk new w p [] q l u r end_step b in
-        let at = ap (λ (a : ℕ × ℕ). number_count b (a.0 ∷ a.1 ∷ [])) x.at in
+        let at = ap (λ (a : ℕ × ℕ). number_occurrences b (a.0 ∷ a.1 ∷ [])) x.at in
         omega arith

@@ -1,5 +1,5 @@
 -- The end of a set move where the pair goes with the slot, as a step of the thread.
-use Rattle.lfs_operations.proofs.Common.{ℕ, ◌≡◌, ◌≢◌, ◌⊎◌, inl, inr, ◌-◌, true, false, List, [], ◌∷◌, ◌++◌, length, refl, sym, ap, ap₂, subst, ◌∙◌, arith, append-nil, length-append, remove, subst₂, Disk, CallEvent, MoveStateFits, SurvivesLossSince, PairContent, Gstate, Slot, same_pair, Pair, pairs_gstate, is_hard_tail, pair_count_before_root, IsAccepted, IsWritable, all_directories, tree_on_disk, used_blocks, SameSlots, alike_append, alike_itself, number_count, HoldsAtLosses-weaker, HasSite, site_of_number, first_pair_addresses, HoldsOfSome, Site, among_left, among_parts, among_right, thread_at, IsWritableChange, ends_joined, LossLeavesCleanly, KeptThread, IsPairWritten, empty_anchor, thread_pair_at, map_freeing, HasNoMove, CanDropAt, IsPairDropped, LeftByDrop, content_after_drop, CanEndAt, HasEndedAt, follows_hard_tail_of, gstate_without_move}
+use Rattle.lfs_operations.proofs.Common.{ℕ, ◌≡◌, ◌≢◌, ◌⊎◌, inl, inr, ◌-◌, true, false, List, [], ◌∷◌, ◌++◌, length, refl, sym, ap, ap₂, subst, ◌∙◌, arith, append-nil, length-append, remove, subst₂, Disk, CallEvent, MoveStateFits, SurvivesLossSince, PairContent, Gstate, Slot, same_pair, Pair, pairs_gstate, is_hard_tail, count_before_root, IsAccepted, IsWritable, all_directories, disk_tree, used_blocks, SameSlots, alike_append, alike_itself, number_occurrences, HoldsAtLosses-weaker, HasSite, site_of_number, directory_addresses, AnyByRecursion, Site, among_left, among_parts, among_right, thread_at, IsWritableChange, ends_joined, CleanLossLeaves, KeptThread, IsPairWritten, empty_anchor, thread_pair, map_freeing, HasNoMove, CanDropAt, IsPairDropped, LeftByDrop, content_after_drop, CanEndAt, HasEndedAt, continues_directory, gstate_without_move}
 use Rattle.lfs_operations.proofs.Dropped.{IsToBeDropped, can_drop_pair, device_left, grouped, is, left_dropped, pairs_left, slots_left, state_left, tail_left}
 use Rattle.lfs_operations.proofs.DroppedTails.{remove_next}
 use Rattle.lfs_operations.proofs.MovEnding.{get_from, led_is}
@@ -25,7 +25,7 @@ module _ (t : KeptThread) (index id : ℕ) (can : CanEndAt t index id true) wher
   abbrev u : Slot
   u = can.stands.slot
 
-  here : thread_pair_at t index ≡ o
+  here : thread_pair t index ≡ o
   here = get_from t.pairs index o empty_anchor h.there
 
   held : o.content.slots ≡ u ∷ []
@@ -45,7 +45,7 @@ module _ (t : KeptThread) (index id : ℕ) (can : CanEndAt t index id true) wher
   -- ---- the pair in front
 
   led : ends_joined false (v.before ++ v.left) ≡ true
-  led = sym (ap (λ z. follows_hard_tail_of z index) h.is ∙ led_is v o index h.is_site.chain h.number) ∙ (can.alone refl).0
+  led = sym (ap (λ z. continues_directory z index) h.is ∙ led_is v o index h.is_site.chain h.number) ∙ (can.alone refl).0
 
   some_left : v.left ≢ []
   some_left none = absurd (let z = sym led ∙ ap (λ z. ends_joined false (v.before ++ z)) none ∙ ap (ends_joined false) (append-nil v.before) ∙ flag_ends v.before h.is_site.ends in cc)
@@ -101,8 +101,8 @@ module _ (t : KeptThread) (index id : ℕ) (can : CanEndAt t index id true) wher
   goes_on disk written = whole_ended t.disk w x o u ending disk q (over_on disk written)
 
   -- the others stay
-  still_there : (z : Pair) → z.content.slots ≡ [] → is_hard_tail z.content.tail ≡ false → HoldsOfSome (λ y. y ≡ z) t.pairs → HoldsOfSome (λ y. y ≡ z) (thread_at w (q ∷ []))
-  still_there z none soft among = subst (HoldsOfSome (λ y. y ≡ z)) (sym (grouped dropping (q ∷ []))) (go (among_parts (λ y. y ≡ z) ahead (x ∷ o ∷ back) (subst (HoldsOfSome (λ y. y ≡ z)) (is dropping) among)))
+  still_there : (z : Pair) → z.content.slots ≡ [] → is_hard_tail z.content.tail ≡ false → AnyByRecursion (λ y. y ≡ z) t.pairs → AnyByRecursion (λ y. y ≡ z) (thread_at w (q ∷ []))
+  still_there z none soft among = subst (AnyByRecursion (λ y. y ≡ z)) (sym (grouped dropping (q ∷ []))) (go (among_parts (λ y. y ≡ z) ahead (x ∷ o ∷ back) (subst (AnyByRecursion (λ y. y ≡ z)) (is dropping) among)))
     where
       ahead : List Pair
       ahead = w.chain ++ (w.before ++ w.left)
@@ -110,12 +110,12 @@ module _ (t : KeptThread) (index id : ℕ) (can : CanEndAt t index id true) wher
       back : List Pair
       back = w.right ++ w.after
 
-      behind : HoldsOfSome (λ y. y ≡ z) (x ∷ o ∷ back) → HoldsOfSome (λ y. y ≡ z) (q ∷ back)
+      behind : AnyByRecursion (λ y. y ≡ z) (x ∷ o ∷ back) → AnyByRecursion (λ y. y ≡ z) (q ∷ back)
       behind (inl e) = absurd (let k = sym before_it.hard ∙ ap (λ (y : Pair). is_hard_tail y.content.tail) e ∙ soft in cc)
       behind (inr (inl e)) = absurd (let k = sym held ∙ ap (λ (y : Pair). y.content.slots) e ∙ none in cc)
       behind (inr (inr a)) = inr a
 
-      go : HoldsOfSome (λ y. y ≡ z) ahead ⊎ HoldsOfSome (λ y. y ≡ z) (x ∷ o ∷ back) → HoldsOfSome (λ y. y ≡ z) (ahead ++ q ∷ back)
+      go : AnyByRecursion (λ y. y ≡ z) ahead ⊎ AnyByRecursion (λ y. y ≡ z) (x ∷ o ∷ back) → AnyByRecursion (λ y. y ≡ z) (ahead ++ q ∷ back)
       go (inl a) = among_left (λ y. y ≡ z) ahead (q ∷ back) a
       go (inr a) = among_right (λ y. y ≡ z) ahead (q ∷ back) (behind a)
 
@@ -126,29 +126,29 @@ module _ (t : KeptThread) (index id : ℕ) (can : CanEndAt t index id true) wher
       let pairs = pairs_left dropping new d in
       let over = over_on new.disk d.written in
       let all = subst₂ (λ z qs. IsWritableChange t.disk z new.disk qs (λ t. t) (λ d. d)) (sym there) (sym pairs) (goes_on new.disk d.written) in
-      let root = ap pair_count_before_root pairs ∙ whole_chain t.disk w x o u ending new.disk q over ∙ sym (ap pair_count_before_root there ∙ before_it.site.chain) in
+      let root = ap count_before_root pairs ∙ whole_chain t.disk w x o u ending new.disk q over ∙ sym (ap count_before_root there ∙ before_it.site.chain) in
       let left : remove t.pairs index ≡ ahead ++ x ∷ back = ap₂ (λ (z : List Pair) (i : ℕ). remove z i) (is dropping) (sym before_it.number) ∙ remove_next ahead x o back in
       record {
         taken = all;
         state = d.gstate;
         alike = subst (λ z. SameSlots z new.pairs) (sym left) (subst (SameSlots (ahead ++ x ∷ back)) (sym (pairs ∙ grouped dropping (q ∷ [])))
             (alike_append ahead (x ∷ back) ahead (q ∷ back) (alike_itself ahead) (refl, slots_left dropping, alike_itself back)));
-        map = d.map ∙ ap (λ (i : ℕ). map_freeing t.map (thread_pair_at t i).at) (let e = before_it.number in omega arith);
+        map = d.map ∙ ap (λ (i : ℕ). map_freeing t.map (thread_pair t i).at) (let e = before_it.number in omega arith);
         blocks = λ b.
             let e = whole_count t.disk w x o u ending new.disk q over b in
-            let f = ap (λ z. number_count b (used_blocks new.disk z)) pairs in
-            let g = ap (λ z. number_count b (used_blocks t.disk z)) there in
-            let k = ap (λ (z : Pair). number_count b (z.at.0 ∷ z.at.1 ∷ [])) here in
+            let f = ap (λ z. number_occurrences b (used_blocks new.disk z)) pairs in
+            let g = ap (λ z. number_occurrences b (used_blocks t.disk z)) there in
+            let k = ap (λ (z : Pair). number_occurrences b (z.at.0 ∷ z.at.1 ∷ [])) here in
             omega arith;
         shape = d.written.shape;
-        begins = ap (λ z. first_pair_addresses (all_directories z)) pairs ∙ whole_firsts t.disk w x o u ending new.disk q over ∙ ap (λ z. first_pair_addresses (all_directories z)) (sym there);
+        begins = ap (λ z. directory_addresses (all_directories z)) pairs ∙ whole_firsts t.disk w x o u ending new.disk q over ∙ ap (λ z. directory_addresses (all_directories z)) (sym there);
         root = root;
         leads_on = whole_leads t.disk w x o u ending new.disk q over t new (go_alike t new all.follows d.written.shape) (subst HasNoMove (sym d.gstate) (record { kind = refl; id = refl; pair = refl })) root there pairs before_it.hard;
-        kept = λ z none soft among. subst (HoldsOfSome (λ y. y ≡ z)) (sym pairs) (still_there z none soft among);
+        kept = λ z none soft among. subst (AnyByRecursion (λ y. y ≡ z)) (sym pairs) (still_there z none soft among);
       }
 
   -- ---- at a stop
 
-  pub goes_survives : (new : List CallEvent) → LossLeavesCleanly t.history new (LeftByDrop t (index - 1) (gstate_without_move (pairs_gstate t.pairs))) → SurvivesLossSince t.disk t.history new (tree_on_disk t.disk t.pairs) (tree_on_disk t.disk t.pairs)
+  pub goes_survives : (new : List CallEvent) → CleanLossLeaves t.history new (LeftByDrop t (index - 1) (gstate_without_move (pairs_gstate t.pairs))) → SurvivesLossSince t.disk t.history new (disk_tree t.disk t.pairs) (disk_tree t.disk t.pairs)
   goes_survives new stops clean = HoldsAtLosses-weaker
-      (left_dropped dropping (inl refl) (λ disk written. left_after (goes_on disk written) (inl (ap (tree_on_disk t.disk) (sym there))))) (stops clean)
+      (left_dropped dropping (inl refl) (λ disk written. left_after (goes_on disk written) (inl (ap (disk_tree t.disk) (sym there))))) (stops clean)

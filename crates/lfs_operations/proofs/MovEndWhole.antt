@@ -1,5 +1,5 @@
 -- A set move ends where the slot that it hides is all that its pair holds: the pair goes with it, and the one in front of it takes over its tail.
-use Rattle.lfs_operations.proofs.Common.{ℕ, ◌≡◌, ◌+◌, true, false, cond, nat_eq, ◌&&◌, List, [], ◌∷◌, ◌++◌, sym, ap, ap₂, subst, ◌∙◌, arith, flat_map, append_assoc, remove, length, length-append, IsDistinct, Disk, Slot, Gstate, is_superblock, same_pair, Pair, blocks_of_pairs, pairs_gstate, starts_superblock, slots_not_moved, is_hard_tail, pair_count_before_root, IsAccepted, IsWritable, all_directories, used_blocks, set_move_kind, Each, each_append, each_left, each_right, each_weaker, number_count, HasNoMove, flip_false, pair_back, IsMoveEnd, move_ends, unmoved_elsewhere, avoids_behind, avoids_front, Site, thread_at, IsSite, drop_shape, IsDevice, IsWritableChange, first_pair_addresses, IsDirectoryGone, pair_with_slots, pairs_without_moved, KeptThread, end_drop_taken, gstate_without_move, RecoveriesAreAllowed}
+use Rattle.lfs_operations.proofs.Common.{ℕ, ◌≡◌, ◌+◌, true, false, cond, nat_eq, ◌&&◌, List, [], ◌∷◌, ◌++◌, sym, ap, ap₂, subst, ◌∙◌, arith, flat_map, append_assoc, remove, length, length-append, IsDistinct, Disk, Slot, Gstate, is_superblock, same_pair, Pair, pairs_blocks, pairs_gstate, starts_superblock, slots_not_moved, is_hard_tail, count_before_root, IsAccepted, IsWritable, all_directories, used_blocks, set_move_kind, Each, each_append, each_left, each_right, each_weaker, number_occurrences, HasNoMove, flip_false, pair_back, IsMoveEnd, move_ends, unmoved_elsewhere, avoids_behind, avoids_front, Site, thread_at, IsSite, drop_shape, IsDevice, IsWritableChange, directory_addresses, IsDirectoryGone, pair_with_slots, pairs_without_moved, KeptThread, end_drop_taken, gstate_without_move, KeepsRecoveryLayouts}
 use Rattle.lfs_model.specs.session.Operations as ops
 use Rattle.lfs_operations.proofs.MovFirsts.{end_firsts}
 use Rattle.lfs_operations.proofs.MovEnd.{end_count, end_chain}
@@ -40,8 +40,8 @@ module _ (disk : Disk) (w : Site) (p o : Pair) (u : Slot) (k : IsEndingWhole dis
   grouped : thread_at w (p ∷ o ∷ []) ≡ ((w.chain ++ ahead) ++ p ∷ []) ++ o ∷ back
   grouped = sym (append_assoc w.chain ahead (p ∷ o ∷ back)) ∙ sym (append_assoc (w.chain ++ ahead) (p ∷ []) (o ∷ back))
 
-  distinct_there : IsDistinct nat_eq (blocks_of_pairs (((w.chain ++ ahead) ++ p ∷ []) ++ o ∷ back))
-  distinct_there = subst (λ z. IsDistinct nat_eq (blocks_of_pairs z)) grouped k.accepted.thread.distinct
+  distinct_there : IsDistinct nat_eq (pairs_blocks (((w.chain ++ ahead) ++ p ∷ []) ++ o ∷ back))
+  distinct_there = subst (λ z. IsDistinct nat_eq (pairs_blocks z)) grouped k.accepted.thread.distinct
 
   flipped : (ss : List Pair) → Each (λ s. same_pair s.at (pairs_gstate (thread_at w (p ∷ o ∷ []))).pair ≡ false) ss → Each Far ss
   flipped ss h = each_weaker (λ s. same_pair s.at (pairs_gstate (thread_at w (p ∷ o ∷ []))).pair ≡ false) Far (λ s e. flip_false s.at g.pair e) ss h
@@ -87,25 +87,25 @@ module _ (disk : Disk) (w : Site) (p o : Pair) (u : Slot) (k : IsEndingWhole dis
         (move_ends disk new w p (o ∷ []) q [] p.content.slots u [] whole_step (λ e. k.accepted.reached (sym (ap (λ (z : Gstate). z.sync) x.state) ∙ e)))
 
     -- the directories begin where they did
-    pub whole_firsts : first_pair_addresses (all_directories (thread_at w (q ∷ []))) ≡ first_pair_addresses (all_directories (thread_at w (p ∷ o ∷ [])))
+    pub whole_firsts : directory_addresses (all_directories (thread_at w (q ∷ []))) ≡ directory_addresses (all_directories (thread_at w (p ∷ o ∷ [])))
     whole_firsts = end_firsts disk new w p (o ∷ []) q [] p.content.slots u [] whole_step
 
-    pub whole_chain : pair_count_before_root (thread_at w (q ∷ [])) ≡ length w.chain
+    pub whole_chain : count_before_root (thread_at w (q ∷ [])) ≡ length w.chain
     whole_chain = end_chain disk new w p (o ∷ []) q p.content.slots u [] whole_step
 
     -- a recovery may go on
-    pub whole_leads : (old next : KeptThread) → GoAlike old.disk next.disk (IsDirectoryGone old.pairs ops.Recover) (IsDirectoryGone next.pairs ops.Recover) → HasNoMove (pairs_gstate next.pairs) → pair_count_before_root next.pairs ≡ pair_count_before_root old.pairs
-        → old.pairs ≡ thread_at w (p ∷ o ∷ []) → next.pairs ≡ thread_at w (q ∷ []) → is_hard_tail p.content.tail ≡ true → RecoveriesAreAllowed old next
+    pub whole_leads : (old next : KeptThread) → GoAlike old.disk next.disk (IsDirectoryGone old.pairs ops.Recover) (IsDirectoryGone next.pairs ops.Recover) → HasNoMove (pairs_gstate next.pairs) → count_before_root next.pairs ≡ count_before_root old.pairs
+        → old.pairs ≡ thread_at w (p ∷ o ∷ []) → next.pairs ≡ thread_at w (q ∷ []) → is_hard_tail p.content.tail ≡ true → KeepsRecoveryLayouts old next
     whole_leads old next alike none root was is hard = laid_out_gap old next alike none root
         (hidden g (w.chain ++ ahead)) (pair_with_slots (slots_not_moved g p) p) (pair_with_slots (slots_not_moved g o) o) (hidden g back) (w.chain ++ ahead) q back
         (ap (λ z. pairs_without_moved z) was ∙ ap (hidden g) (sym (append_assoc w.chain ahead (p ∷ o ∷ back))) ∙ hidden_append g (w.chain ++ ahead) (p ∷ o ∷ back))
         (is ∙ sym (append_assoc w.chain ahead (q ∷ back)))
-        (let c = ap pair_count_before_root was ∙ k.site.chain in let l = hidden_length g (w.chain ++ ahead) in let a = length-append w.chain ahead in omega arith)
+        (let c = ap count_before_root was ∙ k.site.chain in let l = hidden_length g (w.chain ++ ahead) in let a = length-append w.chain ahead in omega arith)
         (hidden_far g (w.chain ++ ahead) far_ahead) (record { at = x.at; slots = x.slots ∙ sym (unmoved_elsewhere g p far_p); led = hard; tail = ap is_hard_tail x.tail; none = hides }) (hidden_far g back far_back)
 
     -- the blocks that the image used, without the pair's
-    pub whole_count : (b : ℕ) → number_count b (used_blocks new (thread_at w (q ∷ []))) + number_count b (blocks_of_pairs (o ∷ [])) ≡ number_count b (used_blocks disk (thread_at w (p ∷ o ∷ [])))
+    pub whole_count : (b : ℕ) → number_occurrences b (used_blocks new (thread_at w (q ∷ []))) + number_occurrences b (pairs_blocks (o ∷ [])) ≡ number_occurrences b (used_blocks disk (thread_at w (p ∷ o ∷ [])))
     whole_count b =
         let e = end_count disk new w p (o ∷ []) q p.content.slots u [] whole_step b in
-        let at = ap (λ (a : ℕ × ℕ). number_count b (a.0 ∷ a.1 ∷ [])) x.at in
+        let at = ap (λ (a : ℕ × ℕ). number_occurrences b (a.0 ∷ a.1 ∷ [])) x.at in
         omega arith

@@ -1,5 +1,5 @@
 -- The end of a set move, as a step of the thread.
-use Rattle.lfs_operations.proofs.Common.{ℕ, zero, suc, ◌≡◌, ◌≢◌, ◌-◌, ◌<◌, ◌⊎◌, inl, inr, true, false, take, List, [], ◌∷◌, Option, ◌++◌, length, Some, refl, sym, ap, ap₂, subst, ◌∙◌, arith, length-append, remove, get_or, slice_get, sum_by, subst₂, xor_lt, same_Some, recursion_from_All, sum_by-append, sum_by-cons, Blocks, Delete, PutMove, changed_content_of, RawContent, content_at, raw_content, complete_content, Disk, CallEvent, AreWords, MoveStateFits, HasEither as IsLeftOf, SurvivesLossSince, with_blocks, Slot, FitsInPair, Gstate, Tail, gstate_xor, same_pair, slot_size, Pair, pairs_gstate, tail_address_of, pair_count_before_root, IsAccepted, IsWritable, all_directories, tree_on_disk, used_blocks, SameSlots, alike_itself, IsCompleted, complete_length, complete_remove, completed_parts, completed_from, Each, each_right, number_count, deletes, does_first, does_nothing, puts_move, HoldsAtLosses-weaker, HasSite, site_of_number, first_pair_addresses, remove_here, HoldsOfSome, Site, among_left, among_parts, among_right, dirs_at, thread_at, IsWritableChange, pairs_behind, ends_joined, LossLeavesCleanly, KeptThread, CanChangePair, IsPairCommitted, LossLeavesPairChanged, RefusesChanges, BeginWithSuperblock, complete_after, empty_anchor, thread_pair_at, pairs_with, pairs_without_moved, HasNoMove, option_and_then, CanEndAt, HasEndedAt, content_move_ended, ending_changes, follows_hard_tail_of, gstate_without_sync, delta_without_move, gstate_without_move}
+use Rattle.lfs_operations.proofs.Common.{ℕ, zero, suc, ◌≡◌, ◌≢◌, ◌-◌, ◌<◌, ◌⊎◌, inl, inr, true, false, take, List, [], ◌∷◌, Option, ◌++◌, length, Some, refl, sym, ap, ap₂, subst, ◌∙◌, arith, length-append, remove, get_or, slice_get, sum_by, subst₂, xor_lt, same_Some, recursion_from_All, sum_by-append, sum_by-cons, Blocks, Delete, PutMove, changed_content_of, RawContent, content_at, raw_content, complete_content, Disk, CallEvent, AreWords, MoveStateFits, HasEither as IsLeftOf, SurvivesLossSince, with_blocks, Slot, FitsInPair, Gstate, Tail, gstate_xor, same_pair, slot_size, Pair, pairs_gstate, tail_target, count_before_root, IsAccepted, IsWritable, all_directories, disk_tree, used_blocks, SameSlots, alike_itself, IsCompleted, complete_length, complete_remove, completed_parts, completed_from, Each, each_right, number_occurrences, deletes, does_first, does_nothing, puts_move, HoldsAtLosses-weaker, HasSite, site_of_number, directory_addresses, remove_here, AnyByRecursion, Site, among_left, among_parts, among_right, dirs_at, thread_at, IsWritableChange, pairs_behind, ends_joined, CleanLossLeaves, KeptThread, CanChangePair, IsPairCommitted, LossLeavesPair, RefusesChanges, BeginWithSuperblock, complete_after, empty_anchor, thread_pair, pairs_with, pairs_without_moved, HasNoMove, option_and_then, CanEndAt, HasEndedAt, content_move_ended, ending_changes, continues_directory, gstate_without_sync, delta_without_move, gstate_without_move}
 use Rattle.lfs_operations.proofs.Held.{CompletesTo, completes_to}
 use Rattle.lfs_operations.proofs.MovEnd.{IsEnding, ended, ended_count, ended_firsts, ended_state, ended_chain, ended_kin}
 use Rattle.lfs_operations.proofs.MovSet.{HasTurned}
@@ -13,7 +13,7 @@ get_from [] i p d e = absurd (cc)
 get_from (x ∷ xs) zero p d e = same_Some x p e
 get_from (x ∷ xs) (suc i) p d e = get_from xs i p d e
 
-pub led_is : (w : Site) (p : Pair) (i : ℕ) → pair_count_before_root (thread_at w (p ∷ [])) ≡ length w.chain → length (w.chain ++ (w.before ++ w.left)) ≡ i → follows_hard_tail_of (thread_at w (p ∷ [])) i ≡ ends_joined false (w.before ++ w.left)
+pub led_is : (w : Site) (p : Pair) (i : ℕ) → count_before_root (thread_at w (p ∷ [])) ≡ length w.chain → length (w.chain ++ (w.before ++ w.left)) ≡ i → continues_directory (thread_at w (p ∷ [])) i ≡ ends_joined false (w.before ++ w.left)
 led_is w p i chain number =
     ap₂ (λ n z. ends_joined false (take (i - n) z)) chain (pairs_behind w.chain (dirs_at w (p ∷ [])) chain)
     ∙ ap (ends_joined false) (take_front (w.before ++ w.left) (p ∷ [] ++ (w.right ++ w.after)) (i - length w.chain) (let l = length-append w.chain (w.before ++ w.left) in omega arith))
@@ -28,7 +28,7 @@ module _ (t : KeptThread) (pair id : ℕ) (can : CanEndAt t pair id false) (addr
   abbrev p : Pair
   p = h.pair
 
-  here : thread_pair_at t pair ≡ p
+  here : thread_pair t pair ≡ p
   here = get_from t.pairs pair p empty_anchor h.there
 
   abbrev l : List Slot
@@ -51,8 +51,8 @@ module _ (t : KeptThread) (pair id : ℕ) (can : CanEndAt t pair id false) (addr
   at_site : (P : Pair → Type 0) → Each P t.pairs → P p
   at_site P e = (each_right P (w.before ++ w.left) (p ∷ [] ++ (w.right ++ w.after)) (each_right P w.chain (dirs_at w (p ∷ [])) (subst (Each P) h.is e))).0
 
-  c : CompletesTo (raw_content t.disk (thread_pair_at t pair).at) p.content
-  c = completes_to (raw_content t.disk (thread_pair_at t pair).at) p.content (ap (λ (z : Pair). content_at t.disk z.at) here
+  c : CompletesTo (raw_content t.disk (thread_pair t pair).at) p.content
+  c = completes_to (raw_content t.disk (thread_pair t pair).at) p.content (ap (λ (z : Pair). content_at t.disk z.at) here
       ∙ at_site (λ x. content_at t.disk x.at ≡ Some x.content) (recursion_from_All (λ (x : Pair). content_at t.disk x.at ≡ Some x.content) t.pairs can.accepted.thread.contents))
 
   fits_there : FitsInPair t.disk.block_size t.disk.page p.content
@@ -73,8 +73,8 @@ module _ (t : KeptThread) (pair id : ℕ) (can : CanEndAt t pair id false) (addr
       let m = within in
       let own = ap (λ (z : Pair). z.content.move) here in
       record {
-        kind = xor_lt 11 (pairs_gstate t.pairs).kind (thread_pair_at t pair).content.move.kind (let e = can.kind in omega arith) (let k = delta_is.kind in let e = ap (λ (z : Gstate). z.kind) own in omega arith);
-        id = xor_lt 10 (pairs_gstate t.pairs).id (thread_pair_at t pair).content.move.id (let e = can.id_is in omega arith) (let k = delta_is.id in let e = ap (λ (z : Gstate). z.id) own in omega arith);
+        kind = xor_lt 11 (pairs_gstate t.pairs).kind (thread_pair t pair).content.move.kind (let e = can.kind in omega arith) (let k = delta_is.kind in let e = ap (λ (z : Gstate). z.kind) own in omega arith);
+        id = xor_lt 10 (pairs_gstate t.pairs).id (thread_pair t pair).content.move.id (let e = can.id_is in omega arith) (let k = delta_is.id in let e = ap (λ (z : Gstate). z.id) own in omega arith);
         pair = address;
       }
 
@@ -107,7 +107,7 @@ module _ (t : KeptThread) (pair id : ℕ) (can : CanEndAt t pair id false) (addr
     below = can.below;
     content = content_with p (l ++ r) move;
     made = made;
-    next = ap (λ (z : Pair). tail_address_of z.content.tail) (sym here);
+    next = ap (λ (z : Pair). tail_target z.content.tail) (sym here);
   }
 
   -- what is left fits
@@ -146,7 +146,7 @@ module _ (t : KeptThread) (pair id : ℕ) (can : CanEndAt t pair id false) (addr
 
   filled : ends_joined false (w.before ++ w.left) ≡ true → l ++ r ≢ []
   filled hard none =
-      let led = ap (λ z. follows_hard_tail_of z pair) h.is ∙ led_is w p pair h.is_site.chain h.number ∙ hard in
+      let led = ap (λ z. continues_directory z pair) h.is ∙ led_is w p pair h.is_site.chain h.number ∙ hard in
       let many = can.stays refl led in
       let e = ap length can.stands.held in
       let i = length-append l (u ∷ r) in
@@ -181,22 +181,22 @@ module _ (t : KeptThread) (pair id : ℕ) (can : CanEndAt t pair id false) (addr
   turned_alone disk x = ended t.disk w p l u r ending disk q_of (subst (λ m. HasTurned t.disk w p (l ++ r) m disk q_of []) move_is x)
 
   -- the others stay
-  still_there : (z : Pair) → z.content.slots ≡ [] → HoldsOfSome (λ y. y ≡ z) (thread_at w (p ∷ [])) → HoldsOfSome (λ y. y ≡ z) (thread_at w (q_of ∷ []))
+  still_there : (z : Pair) → z.content.slots ≡ [] → AnyByRecursion (λ y. y ≡ z) (thread_at w (p ∷ [])) → AnyByRecursion (λ y. y ≡ z) (thread_at w (q_of ∷ []))
   still_there z none among = past (among_parts (λ y. y ≡ z) w.chain (dirs_at w (p ∷ [])) among)
     where
       has_none : (xs : List Slot) → xs ++ u ∷ r ≡ [] → ⊥
       has_none [] e = absurd (cc)
       has_none (s ∷ xs) e = absurd (cc)
 
-      behind : HoldsOfSome (λ y. y ≡ z) (p ∷ (w.right ++ w.after)) → HoldsOfSome (λ y. y ≡ z) (q_of ∷ (w.right ++ w.after))
+      behind : AnyByRecursion (λ y. y ≡ z) (p ∷ (w.right ++ w.after)) → AnyByRecursion (λ y. y ≡ z) (q_of ∷ (w.right ++ w.after))
       behind (inl is) = absurd (has_none l (sym held ∙ ap (λ (y : Pair). y.content.slots) is ∙ none))
       behind (inr a) = inr a
 
-      within_dirs : HoldsOfSome (λ y. y ≡ z) (w.before ++ w.left) ⊎ HoldsOfSome (λ y. y ≡ z) (p ∷ (w.right ++ w.after)) → HoldsOfSome (λ y. y ≡ z) (thread_at w (q_of ∷ []))
+      within_dirs : AnyByRecursion (λ y. y ≡ z) (w.before ++ w.left) ⊎ AnyByRecursion (λ y. y ≡ z) (p ∷ (w.right ++ w.after)) → AnyByRecursion (λ y. y ≡ z) (thread_at w (q_of ∷ []))
       within_dirs (inl a) = among_right (λ y. y ≡ z) w.chain (dirs_at w (q_of ∷ [])) (among_left (λ y. y ≡ z) (w.before ++ w.left) (q_of ∷ (w.right ++ w.after)) a)
       within_dirs (inr a) = among_right (λ y. y ≡ z) w.chain (dirs_at w (q_of ∷ [])) (among_right (λ y. y ≡ z) (w.before ++ w.left) (q_of ∷ (w.right ++ w.after)) (behind a))
 
-      past : HoldsOfSome (λ y. y ≡ z) w.chain ⊎ HoldsOfSome (λ y. y ≡ z) (dirs_at w (p ∷ [])) → HoldsOfSome (λ y. y ≡ z) (thread_at w (q_of ∷ []))
+      past : AnyByRecursion (λ y. y ≡ z) w.chain ⊎ AnyByRecursion (λ y. y ≡ z) (dirs_at w (p ∷ [])) → AnyByRecursion (λ y. y ≡ z) (thread_at w (q_of ∷ []))
       past (inl a) = among_left (λ y. y ≡ z) w.chain (dirs_at w (q_of ∷ [])) a
       past (inr a) = within_dirs (among_parts (λ y. y ≡ z) (w.before ++ w.left) (p ∷ (w.right ++ w.after)) a)
 
@@ -208,31 +208,31 @@ module _ (t : KeptThread) (pair id : ℕ) (can : CanEndAt t pair id false) (addr
           let all = subst₂ (λ z qs. IsWritableChange t.disk z new.disk qs (λ t. t) (λ d. d)) (sym h.is) (sym x.pairs) (turned_alone new.disk x.turned) in
           let y = subst (λ m. HasTurned t.disk w p (l ++ r) m new.disk q_of []) move_is x.turned in
           let state : pairs_gstate new.pairs ≡ gstate_without_move (pairs_gstate t.pairs) = ap pairs_gstate x.pairs ∙ ended_state t.disk w p l u r ending new.disk q_of y ∙ ap (λ z. gstate_without_move (pairs_gstate z)) (sym h.is) in
-          let root = ap pair_count_before_root x.pairs ∙ ended_chain t.disk w p l u r ending new.disk q_of y ∙ sym (ap pair_count_before_root h.is ∙ h.is_site.chain) in
+          let root = ap count_before_root x.pairs ∙ ended_chain t.disk w p l u r ending new.disk q_of y ∙ sym (ap count_before_root h.is ∙ h.is_site.chain) in
           record {
             taken = all;
             state = state;
             alike = subst (SameSlots (pairs_with t pair (content_move_ended t pair id))) (sym (x.is ∙ ap (λ d. pairs_with t pair d) (ap₂ (λ s (z : Pair). record { slots = s; tail = z.content.tail; move = move })
                 (sym slots_now ∙ ap (λ (z : Pair). remove z.content.slots id) (sym here)) (sym here)))) (alike_itself (pairs_with t pair (content_move_ended t pair id)));
             map = x.map;
-            blocks = λ b. (let e = ap (λ z. number_count b (used_blocks new.disk z)) x.pairs ∙ ended_count t.disk w p l u r ending new.disk q_of y b ∙ ap (λ z. number_count b (used_blocks t.disk z)) (sym h.is) in omega arith);
+            blocks = λ b. (let e = ap (λ z. number_occurrences b (used_blocks new.disk z)) x.pairs ∙ ended_count t.disk w p l u r ending new.disk q_of y b ∙ ap (λ z. number_occurrences b (used_blocks t.disk z)) (sym h.is) in omega arith);
             shape = x.shape;
-            begins = ap (λ z. first_pair_addresses (all_directories z)) x.pairs ∙ ended_firsts t.disk w p l u r ending new.disk q_of y ∙ ap (λ z. first_pair_addresses (all_directories z)) (sym h.is);
+            begins = ap (λ z. directory_addresses (all_directories z)) x.pairs ∙ ended_firsts t.disk w p l u r ending new.disk q_of y ∙ ap (λ z. directory_addresses (all_directories z)) (sym h.is);
             root = root;
             leads_on = laid_out_kin t new (go_alike t new all.follows x.shape) (subst HasNoMove (sym state) (record { kind = refl; id = refl; pair = refl })) root
                 (subst (λ z. AreKin (pairs_without_moved z) new.pairs) (sym h.is) (subst (AreKin (pairs_without_moved (thread_at w (p ∷ [])))) (sym x.pairs) (ended_kin t.disk w p l u r ending new.disk q_of y)));
-            kept = λ z none soft among. subst (HoldsOfSome (λ y. y ≡ z)) (sym x.pairs) (still_there z none (subst (HoldsOfSome (λ y. y ≡ z)) h.is among));
+            kept = λ z none soft among. subst (AnyByRecursion (λ y. y ≡ z)) (sym x.pairs) (still_there z none (subst (AnyByRecursion (λ y. y ≡ z)) h.is among));
           }
 
   -- ---- at a stop
 
-  left_tree : (left : Blocks) → LossLeavesPairChanged t pair (ending_changes t pair id) left → IsLeftOf (with_blocks left t.disk) (tree_on_disk t.disk t.pairs) (tree_on_disk t.disk t.pairs)
+  left_tree : (left : Blocks) → LossLeavesPair t pair (ending_changes t pair id) left → IsLeftOf (with_blocks left t.disk) (disk_tree t.disk t.pairs) (disk_tree t.disk t.pairs)
   left_tree left is = go (left_alone t pair (ending_changes t pair id) w p (l ++ r) move turn left is)
     where
       go : Stays t pair (ending_changes t pair id) w p (l ++ r) move turn (with_blocks left t.disk) ⊎ HasTurned t.disk w p (l ++ r) move (with_blocks left t.disk) q_of []
-          → IsLeftOf (with_blocks left t.disk) (tree_on_disk t.disk t.pairs) (tree_on_disk t.disk t.pairs)
-      go (inl d) = left_still t.disk left (thread_at w (p ∷ [])) (subst (IsAccepted t.disk) h.is can.accepted) (subst (IsWritable t.disk) h.is can.writable) d (inl (ap (tree_on_disk t.disk) (sym h.is)))
-      go (inr x) = left_after (turned_alone (with_blocks left t.disk) x) (inl (ap (tree_on_disk t.disk) (sym h.is)))
+          → IsLeftOf (with_blocks left t.disk) (disk_tree t.disk t.pairs) (disk_tree t.disk t.pairs)
+      go (inl d) = left_still t.disk left (thread_at w (p ∷ [])) (subst (IsAccepted t.disk) h.is can.accepted) (subst (IsWritable t.disk) h.is can.writable) d (inl (ap (disk_tree t.disk) (sym h.is)))
+      go (inr x) = left_after (turned_alone (with_blocks left t.disk) x) (inl (ap (disk_tree t.disk) (sym h.is)))
 
-  pub end_survives : (new : List CallEvent) → LossLeavesCleanly t.history new (LossLeavesPairChanged t pair (ending_changes t pair id)) → SurvivesLossSince t.disk t.history new (tree_on_disk t.disk t.pairs) (tree_on_disk t.disk t.pairs)
+  pub end_survives : (new : List CallEvent) → CleanLossLeaves t.history new (LossLeavesPair t pair (ending_changes t pair id)) → SurvivesLossSince t.disk t.history new (disk_tree t.disk t.pairs) (disk_tree t.disk t.pairs)
   end_survives new stops clean = HoldsAtLosses-weaker left_tree (stops clean)

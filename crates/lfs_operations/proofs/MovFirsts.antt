@@ -1,5 +1,5 @@
 -- Where directories begin once a set move has ended: where they did.
-use Rattle.lfs_operations.proofs.Common.{ℕ, ◌≡◌, List, [], ◌∷◌, ◌++◌, refl, sym, ap, ◌∙◌, Disk, Gstate, Slot, Pair, pair_directories, pairs_gstate, unmoved_entries, all_directories, chain_now, rearranged_chain, each_always, IsRun, SameVisible, IsMoveSet, SameAround, first_pair_addresses, set_rearranged, IsMoveEnd, end_change, Site, dirs_at, run_changed, thread_at, IsChain, pairs_behind, firsts_same, site_firsts}
+use Rattle.lfs_operations.proofs.Common.{ℕ, ◌≡◌, List, [], ◌∷◌, ◌++◌, refl, sym, ap, ◌∙◌, Disk, Gstate, Slot, Pair, pair_directories, pairs_gstate, unmoved_entries, all_directories, chain_now, rearranged_chain, each_always, IsRun, SameVisible, IsMoveSet, SameAround, directory_addresses, set_rearranged, IsMoveEnd, end_change, Site, dirs_at, run_changed, thread_at, IsChain, pairs_behind, firsts_same, site_firsts}
 
 module _ (disk new : Disk) (w : Site) (p : Pair) (mid : List Pair) (q : Pair) (more : List Pair) (l : List Slot) (u : Slot) (r : List Slot) (step : IsMoveEnd disk new w p mid q more l u r) where
   abbrev g : Gstate
@@ -20,10 +20,10 @@ module _ (disk new : Disk) (w : Site) (p : Pair) (mid : List Pair) (q : Pair) (m
   around : SameAround h h w
   around = record { before = same_under h w.before; left = same_under h w.left; right = same_under h w.right; after = same_under h w.after }
 
-  pub end_firsts : first_pair_addresses (all_directories (thread_at w (q ∷ more))) ≡ first_pair_addresses (all_directories (thread_at w (p ∷ mid)))
-  end_firsts = ap (λ z. first_pair_addresses (pair_directories h z)) (pairs_behind w.chain (dirs_at w (q ∷ more)) chain_after)
+  pub end_firsts : directory_addresses (all_directories (thread_at w (q ∷ more))) ≡ directory_addresses (all_directories (thread_at w (p ∷ mid)))
+  end_firsts = ap (λ z. directory_addresses (pair_directories h z)) (pairs_behind w.chain (dirs_at w (q ∷ more)) chain_after)
       ∙ site_firsts h h w p mid q more step.site.ends step.site.run run_after step.shape.at around
-      ∙ firsts_same g h (dirs_at w (p ∷ mid)) ∙ ap (λ z. first_pair_addresses (pair_directories g z)) (sym (pairs_behind w.chain (dirs_at w (p ∷ mid)) step.site.chain))
+      ∙ firsts_same g h (dirs_at w (p ∷ mid)) ∙ ap (λ z. directory_addresses (pair_directories g z)) (sym (pairs_behind w.chain (dirs_at w (p ∷ mid)) step.site.chain))
 
 -- ---- where one is set
 
@@ -47,7 +47,7 @@ module _ (disk new : Disk) (wo : Site) (o : Pair) (lo : List Slot) (u : Slot) (r
   around_set : SameAround h2 h2 w
   around_set = record { before = same_set h2 w.before; left = same_set h2 w.left; right = same_set h2 w.right; after = same_set h2 w.after }
 
-  pub set_firsts : first_pair_addresses (all_directories (thread_at w (q ∷ more))) ≡ first_pair_addresses (all_directories (thread_at w (p ∷ mid)))
-  set_firsts = ap (λ z. first_pair_addresses (pair_directories h2 z)) (pairs_behind w.chain (dirs_at w (q ∷ more)) chain_set)
+  pub set_firsts : directory_addresses (all_directories (thread_at w (q ∷ more))) ≡ directory_addresses (all_directories (thread_at w (p ∷ mid)))
+  set_firsts = ap (λ z. directory_addresses (pair_directories h2 z)) (pairs_behind w.chain (dirs_at w (q ∷ more)) chain_set)
       ∙ site_firsts h2 h2 w p mid q more step.site.ends step.site.run run_set step.shape.at around_set
-      ∙ firsts_same g2 h2 (dirs_at w (p ∷ mid)) ∙ ap (λ z. first_pair_addresses (pair_directories g2 z)) (sym (pairs_behind w.chain (dirs_at w (p ∷ mid)) step.site.chain))
+      ∙ firsts_same g2 h2 (dirs_at w (p ∷ mid)) ∙ ap (λ z. directory_addresses (pair_directories g2 z)) (sym (pairs_behind w.chain (dirs_at w (p ∷ mid)) step.site.chain))

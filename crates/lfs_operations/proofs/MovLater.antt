@@ -1,5 +1,5 @@
 -- A rename across pairs after the old slot was read.
-use Rattle.lfs_operations.proofs.Common.{ℕ, ◌≡◌, ◌⊎◌, ◌<◌, length, inl, inr, Bool, true, false, List, ◌∷◌, ◌++◌, Option, None, Some, Result, Err, refl, sym, ap, ap₂, subst, ◌∙◌, arith, PairChange, PutMove, Disk, Blocks, Slot, Pair, Site, Gstate, Path, Tree, gstate_xor, blocks_of_pairs, with_blocks, HasEither, fault_count, Name, SurvivesLossSince, tree_on_disk, AreWords, survives_then, LossLeavesAtWorst-read, HoldsAtLosses-read_count, HoldsAtLosses-trans, HoldsAtLosses-weaker, OnlyReadsSince-trans, StayUnprogrammed-read_count, StayUnprogrammed-trans, KeptThread, ThreadView, IoMeantFaultNoMemoryWroteNothing, OnlyReadsThread, thread_pair_at, IfErr, Error, Io, NoMemory, NoSpace, IsTurned, LeftByTurn, ChangeIsTooLarge, HasTwoFree, has_failed_after, CanEditIn, CanEndSecond, IsPutEnded, SurvivesBothCommits, ReportsErrorsOfCommitsTakingBlocks, WritesTwoTwo, tree_moved, CanMoveAcross, clearing_changes, moving_changes, tree_across, gstate_naming, IsReadyImage, nameless_at, NamelessSlot, slot_changes}
+use Rattle.lfs_operations.proofs.Common.{ℕ, ◌≡◌, ◌⊎◌, ◌<◌, length, inl, inr, Bool, true, false, List, ◌∷◌, ◌++◌, Option, None, Some, Result, Err, refl, sym, ap, ap₂, subst, ◌∙◌, arith, PairChange, PutMove, Disk, Blocks, Slot, Pair, Site, Gstate, Path, Tree, gstate_xor, pairs_blocks, with_blocks, HasEither, fault_count, Name, SurvivesLossSince, disk_tree, AreWords, survives_then, LossLeavesAtWorst-read, HoldsAtLosses-read_count, HoldsAtLosses-trans, HoldsAtLosses-weaker, OnlyReadsSince-trans, StayUnprogrammed-read_count, StayUnprogrammed-trans, KeptThread, ThreadView, ThreadReportsErrors, OnlyReadsThread, thread_pair, IfErr, Error, Io, NoMemory, NoSpace, ArePut, LeftByPut, OverfillsPair, HasTwoFree, has_failed_after, CanEditIn, CanEndSecond, IsPutEnded, SurvivesCommits, ReportsTakingCommits, WritesPairsTwo, tree_moved, CanMoveAcross, clearing_changes, moving_changes, tree_across, gstate_naming, IsReadyImage, nameless_at, NamelessSlot, slot_changes}
 use Rattle.lfs_operations.proofs.Held.{below}
 use Rattle.lfs_operations.proofs.MovPlaced.{IsAimed}
 use Rattle.lfs_operations.proofs.MovRename.{aimed_new}
@@ -12,10 +12,10 @@ use Rattle.lfs_operations.proofs.RenameReadOver.{writes_earlier}
 -- ---- the steps
 
 pub changes_are : (t mid : KeptThread) (only : OnlyReadsThread t mid) (replaces sync : Bool) (old_pair old_id new_pair new_id : ℕ) (name : Name) {cs : List PairChange} {m : Gstate} {z : NamelessSlot} → cs ≡ PutMove m ∷ (clearing_changes replaces new_id ++ slot_changes new_id name z)
-    → m ≡ gstate_xor (gstate_naming sync (thread_pair_at mid old_pair).at old_id) (thread_pair_at mid new_pair).content.move → z ≡ nameless_at t old_pair old_id → cs ≡ moving_changes replaces sync t old_pair old_id new_pair new_id name
+    → m ≡ gstate_xor (gstate_naming sync (thread_pair mid old_pair).at old_id) (thread_pair mid new_pair).content.move → z ≡ nameless_at t old_pair old_id → cs ≡ moving_changes replaces sync t old_pair old_id new_pair new_id name
 changes_are t mid only replaces sync old_pair old_id new_pair new_id name are move parts =
     are ∙ ap₂ (λ m z. PutMove m ∷ (clearing_changes replaces new_id ++ slot_changes new_id name z))
-    (move ∙ ap (λ k. gstate_xor (gstate_naming sync (thread_pair_at k old_pair).at old_id) (thread_pair_at k new_pair).content.move) (read_is t mid only)) parts
+    (move ∙ ap (λ k. gstate_xor (gstate_naming sync (thread_pair k old_pair).at old_id) (thread_pair k new_pair).content.move) (read_is t mid only)) parts
 
 module _ (t mid : KeptThread) (only : OnlyReadsThread t mid) (old_pair old_id : ℕ) (goes : Bool) (new_pair : ℕ) (changes : List PairChange) where
   pub ends_after_read : (last : KeptThread) → CanEndSecond t old_pair old_id goes new_pair last → CanEndSecond mid old_pair old_id goes new_pair last
@@ -34,18 +34,18 @@ module _ (t mid : KeptThread) (only : OnlyReadsThread t mid) (old_pair old_id : 
             fresh = f.blocks.written.fresh;
             few = f.blocks.written.few;
             free = f.blocks.written.free;
-            writes = writes_earlier t mid.history new (blocks_of_pairs t.pairs ++ f.blocks.written.fresh) only.reads f.blocks.written.writes;
+            writes = writes_earlier t mid.history new (pairs_blocks t.pairs ++ f.blocks.written.fresh) only.reads f.blocks.written.writes;
           };
           within = f.blocks.within;
         };
       }
 
-  pub survives_after_read : (one : ℕ) (new : KeptThread) (after : Tree) → WritesTwoTwo mid one new_pair new → SurvivesBothCommits mid new_pair changes new → IsReadyImage t
-      → ((left : Blocks) → LeftByTurn t new_pair changes left → HasEither (with_blocks left t.disk) (tree_on_disk t.disk t.pairs) after) → ((last : KeptThread) → IsTurned t new_pair changes last → tree_on_disk last.disk last.pairs ≡ after)
-      → SurvivesLossSince t.disk t.history new.history (tree_on_disk t.disk t.pairs) after
+  pub survives_after_read : (one : ℕ) (new : KeptThread) (after : Tree) → WritesPairsTwo mid one new_pair new → SurvivesCommits mid new_pair changes new → IsReadyImage t
+      → ((left : Blocks) → LeftByPut t new_pair changes left → HasEither (with_blocks left t.disk) (disk_tree t.disk t.pairs) after) → ((last : KeptThread) → ArePut t new_pair changes last → disk_tree last.disk last.pairs ≡ after)
+      → SurvivesLossSince t.disk t.history new.history (disk_tree t.disk t.pairs) after
   survives_after_read one new after w both ready left shows =
-      survives_then t.disk t.history mid.history new.history (tree_on_disk t.disk t.pairs) after only.reads w.writes.at_worst (read_survives t mid.history only.reads ready after)
-      (subst (λ k. SurvivesBothCommits k new_pair changes new) (read_is t mid only) both (tree_on_disk t.disk t.pairs) after
+      survives_then t.disk t.history mid.history new.history (disk_tree t.disk t.pairs) after only.reads w.writes.at_worst (read_survives t mid.history only.reads ready after)
+      (subst (λ k. SurvivesCommits k new_pair changes new) (read_is t mid only) both (disk_tree t.disk t.pairs) after
       (λ calls stops clean. HoldsAtLosses-weaker (λ blocks l. left blocks (left_earlier t mid.history only.reads new_pair changes blocks l)) (stops clean))
       (λ last is. shows last (put_earlier t mid.history only.reads new_pair changes last is)))
 
@@ -81,12 +81,12 @@ pub record HasAim (t : KeptThread) (replaces sync : Bool) (old_pair old_id first
   pub aimed : IsAimed t replaces sync old_pair old_id first new_pair new_id name old path w p l target r
   pub is : tree_moved t old.path old.name path name ≡ after
 
-pub aim : (t mid : KeptThread) → OnlyReadsThread t mid → (replaces sync : Bool) (old_pair old_id first new_pair new_id : ℕ) (name : Name) (rename : CanMoveAcross t replaces sync old_pair old_id first new_pair new_id name) → AreWords (thread_pair_at mid old_pair).at
+pub aim : (t mid : KeptThread) → OnlyReadsThread t mid → (replaces sync : Bool) (old_pair old_id first new_pair new_id : ℕ) (name : Name) (rename : CanMoveAcross t replaces sync old_pair old_id first new_pair new_id name) → AreWords (thread_pair mid old_pair).at
     → HasAim t replaces sync old_pair old_id first new_pair new_id name (tree_across t replaces sync old_pair old_id first new_pair new_id name rename)
 aim t mid only replaces sync old_pair old_id first new_pair new_id name rename address = go replaces rename
   where
-    there : AreWords (thread_pair_at t old_pair).at
-    there = subst (λ k. AreWords (thread_pair_at k old_pair).at) (read_is t mid only) address
+    there : AreWords (thread_pair t old_pair).at
+    there = subst (λ k. AreWords (thread_pair k old_pair).at) (read_is t mid only) address
 
     go : (replaces : Bool) (rename : CanMoveAcross t replaces sync old_pair old_id first new_pair new_id name) → HasAim t replaces sync old_pair old_id first new_pair new_id name (tree_across t replaces sync old_pair old_id first new_pair new_id name rename)
     go false rename = record { old = rename.old; path = rename.path; w = _; p = _; l = _; target = None; r = _; aimed = aimed_new sync t old_pair old_id first new_pair new_id name rename there; is = refl }
@@ -103,7 +103,7 @@ only_then a b c x y = record {
 }
 
 pub reports_after_read : {X : Type 0} (old mid new : ThreadView) (index : ℕ) (changes : List PairChange) (r : Result X Error) → OnlyReadsThread old.kept mid.kept → fault_count mid.kept.history ≡ fault_count old.kept.history
-    → ReportsErrorsOfCommitsTakingBlocks mid new index changes r → ReportsErrorsOfCommitsTakingBlocks old new index changes r
+    → ReportsTakingCommits mid new index changes r → ReportsTakingCommits old new index changes r
 reports_after_read old mid new index changes r only same h = record {
   failed = go h.failed;
   errors = h.errors;
@@ -111,7 +111,7 @@ reports_after_read old mid new index changes r only same h = record {
   no_fault = λ other. h.no_fault other ∙ same;
   unchanged = λ none. only_then old.kept mid.kept new.kept only (h.unchanged none);
   no_space = λ none. subst (λ m. HasTwoFree m → ⊥) only.map (h.no_space none);
-  too_large = λ none. subst (λ k. ChangeIsTooLarge k index changes) (read_is old.kept mid.kept only) (h.too_large none);
+  too_large = λ none. subst (λ k. OverfillsPair k index changes) (read_is old.kept mid.kept only) (h.too_large none);
 }
   where
     go : (new.failed ≡ has_failed_after r) ⊎ ((new.failed ≡ false) × OnlyReadsThread mid.kept new.kept) → (new.failed ≡ has_failed_after r) ⊎ ((new.failed ≡ false) × OnlyReadsThread old.kept new.kept)
@@ -120,7 +120,7 @@ reports_after_read old mid new index changes r only same h = record {
 
 -- the slot wasn't read
 pub reports_unread : {X Y : Type 0} (old new : ThreadView) (index : ℕ) (changes : List PairChange) (e : Error) (result : Result X Error) (given : Result Y Error) → result ≡ Err e → given ≡ Err e
-    → new.failed ≡ false → OnlyReadsThread old.kept new.kept → IoMeantFaultNoMemoryWroteNothing old.kept new.kept result → ReportsErrorsOfCommitsTakingBlocks old new index changes given
+    → new.failed ≡ false → OnlyReadsThread old.kept new.kept → ThreadReportsErrors old.kept new.kept result → ReportsTakingCommits old new index changes given
 reports_unread old new index changes e result given is same works only reported =
     let unread = moves_unread old new index changes e result given is same works only reported in
     record {
@@ -135,7 +135,7 @@ reports_unread old new index changes e result given is same works only reported 
 
 -- no room for the changes
 pub reports_unmade : {Y : Type 0} (old new : ThreadView) (index : ℕ) (changes : List PairChange) (given : Result Y Error) → given ≡ Err NoMemory → new.failed ≡ false → OnlyReadsThread old.kept new.kept
-    → fault_count new.kept.history ≡ fault_count old.kept.history → ReportsErrorsOfCommitsTakingBlocks old new index changes given
+    → fault_count new.kept.history ≡ fault_count old.kept.history → ReportsTakingCommits old new index changes given
 reports_unmade old new index changes given same works only none = record {
   failed = inr (works, only);
   errors = subst (λ r. IfErr r (λ x. (x ≡ Io) ⊎ ((x ≡ NoMemory) ⊎ (x ≡ NoSpace)))) (sym same) (inr (inl refl));
@@ -146,23 +146,23 @@ reports_unmade old new index changes given same works only none = record {
   too_large = λ e. absurd (let z = sym same ∙ e in cc);
 }
 
-pub writes_after_read : (t mid new : KeptThread) (one other : ℕ) → OnlyReadsThread t mid → WritesTwoTwo mid one other new → WritesTwoTwo t one other new
+pub writes_after_read : (t mid new : KeptThread) (one other : ℕ) → OnlyReadsThread t mid → WritesPairsTwo mid one other new → WritesPairsTwo t one other new
 writes_after_read t mid new one other only w =
-    let f = subst (λ k. WritesTwoTwo k one other new) (read_is t mid only) w in
+    let f = subst (λ k. WritesPairsTwo k one other new) (read_is t mid only) w in
     earlier f
   where
-    earlier : WritesTwoTwo (with_history t mid.history) one other new → WritesTwoTwo t one other new
+    earlier : WritesPairsTwo (with_history t mid.history) one other new → WritesPairsTwo t one other new
     earlier f = record {
       fresh = f.fresh;
       few = f.few;
       free = f.free;
       writes = record {
         others = f.writes.others;
-        elsewhere = StayUnprogrammed-trans (StayUnprogrammed-read_count ((thread_pair_at t other).at.0 ∷ (thread_pair_at t other).at.1 ∷ (thread_pair_at t one).at.0 ∷ (thread_pair_at t one).at.1 ∷ f.fresh) only.reads) f.writes.elsewhere;
+        elsewhere = StayUnprogrammed-trans (StayUnprogrammed-read_count ((thread_pair t other).at.0 ∷ (thread_pair t other).at.1 ∷ (thread_pair t one).at.0 ∷ (thread_pair t one).at.1 ∷ f.fresh) only.reads) f.writes.elsewhere;
         shape = f.writes.shape;
         at_worst = HoldsAtLosses-trans (HoldsAtLosses-read_count LossLeavesAtWorst-read only.reads (record { count = refl; sizes = λ b. refl; others = λ b apart. refl })) f.writes.at_worst;
       };
     }
 
-pub writes_read : (t mid : KeptThread) (one other : ℕ) → OnlyReadsThread t mid → WritesTwoTwo t one other mid
+pub writes_read : (t mid : KeptThread) (one other : ℕ) → OnlyReadsThread t mid → WritesPairsTwo t one other mid
 writes_read t mid one other only = writes_first t mid one other (read_writes t mid only other)

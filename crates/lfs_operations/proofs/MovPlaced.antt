@@ -1,5 +1,5 @@
 -- An entry that goes to a place in another pair, by a move that is set first.
-use Rattle.lfs_operations.proofs.Common.{◌≢◌, nat_eq, Bool, ℕ, ◌≡◌, ◌+◌, ◌<◌, ◌⊎◌, inl, inr, true, false, List, [], ◌∷◌, ◌++◌, length, Some, refl, sym, ap, subst, ◌∙◌, arith, append-nil, Option, ◌-◌, ◌≤◌, IsDistinct, PairChange, Disk, IsPairAt, Name, is_valid_name, Slot, gstate_xor, same_pair, Pair, blocks_of_pairs, pairs_gstate, starts_superblock, pair_count_before_root, Path, tree_renaming, IsWritableEntry, IsWritable, IsAccepted, IsTreeEntry, slot_of, IsChangedImage, no_move_from, Each, each_right, last_is, is_site, number_is, same, site, slot_of_stands, thread_is, Site, begin_of, thread_at, IsSite, ends_joined, KeptThread, BeginWithSuperblock, complete_after, thread_pair_at, IsNoDirectory, target_slots, CanEditIn, gstate_naming, IsRawFormed, drops_with_its_slot, CanTurn, IsTurned, moving_changes, CanEndAt, HasEndedAt, CanEndSecond, IsPutEnded, number_after_insertion, tree_moved, tree_on_disk, ShowsAfterDrops, file_blocks, used_blocks, number_count, Session, path_or_root, IsCompletion}
+use Rattle.lfs_operations.proofs.Common.{◌≢◌, nat_eq, Bool, ℕ, ◌≡◌, ◌+◌, ◌<◌, ◌⊎◌, inl, inr, true, false, List, [], ◌∷◌, ◌++◌, length, Some, refl, sym, ap, subst, ◌∙◌, arith, append-nil, Option, ◌-◌, ◌≤◌, IsDistinct, PairChange, Disk, IsPairAt, Name, is_valid_name, Slot, gstate_xor, same_pair, Pair, pairs_blocks, pairs_gstate, starts_superblock, count_before_root, Path, tree_renaming, IsWritableEntry, IsWritable, IsAccepted, IsTreeEntry, slot_of, IsChangedImage, no_move_from, Each, each_right, last_is, is_site, number_is, same, site, slot_of_stands, thread_is, Site, begin_of, thread_at, IsSite, ends_joined, KeptThread, BeginWithSuperblock, complete_after, thread_pair, IsNoDirectory, target_slots, CanEditIn, gstate_naming, IsRawFormed, drops_with_its_slot, CanPut, ArePut, moving_changes, CanEndAt, HasEndedAt, CanEndSecond, IsPutEnded, number_after_insertion, tree_moved, disk_tree, ShowsDroppedTree, file_blocks, used_blocks, number_occurrences, Session, path_or_root, CompletesOperation}
 use Rattle.lfs_operations.proofs.Held.{IsEntryIfOther, each_pair, here, other_entries}
 use Rattle.lfs_operations.proofs.MovSet.{HasTurned, IsSetting, chain_same, walk_by}
 use Rattle.lfs_operations.proofs.MovStep.{IsFirst, first_turned, grown, mid_ends, mid_shows, rename_becomes, rename_completed, rename_once, same_at}
@@ -26,13 +26,13 @@ old_site {t = t} {pair = pair} can = site t.disk t.pairs can.path can.at can.rea
 -- The entry may come into the pair p at the site w, between l and r, where the target stands, if there is one.
 pub record IsAimed (t : KeptThread) (replaces sync : Bool) (old_pair old_id first new_pair new_id : ℕ) (name : Name) (old : CanEditIn t old_pair old_id) (path : Path) (w : Site) (p : Pair) (l : List Slot) (target : Option Slot) (r : List Slot) : Type 0 where
   pub apart : old_pair ≢ new_pair
-  pub can : CanTurn t new_pair (moving_changes replaces sync t old_pair old_id new_pair new_id name)
+  pub can : CanPut t new_pair (moving_changes replaces sync t old_pair old_id new_pair new_id name)
   pub way : IsFirst t sync old_pair (drops_with_its_slot t old_pair first) new_pair (moving_changes replaces sync t old_pair old_id new_pair new_id name) (old_site old)
       old.stands.pair old.stands.stands.left old.stands.stands.slot old.stands.stands.right w p l target (record old.stands.stands.slot { name = name }) r (old.path ++ old.name ∷ []) (path ++ name ∷ []) name
 
 module _ {t : KeptThread} {replaces sync : Bool} {old_pair old_id first new_pair new_id : ℕ} {name : Name} {old : CanEditIn t old_pair old_id} {path : Path} {w : Site} {p : Pair} {l : List Slot} {target : Option Slot} {r : List Slot}
     (a : IsAimed t replaces sync old_pair old_id first new_pair new_id name old path w p l target r) where
-  pub ends_aimed : (mid : KeptThread) → IsTurned t new_pair (moving_changes replaces sync t old_pair old_id new_pair new_id name) mid → CanEndSecond t old_pair old_id (drops_with_its_slot t old_pair first) new_pair mid
+  pub ends_aimed : (mid : KeptThread) → ArePut t new_pair (moving_changes replaces sync t old_pair old_id new_pair new_id name) mid → CanEndSecond t old_pair old_id (drops_with_its_slot t old_pair first) new_pair mid
   ends_aimed mid is =
       let x = first_turned a.way mid is in
       record {
@@ -42,21 +42,21 @@ module _ {t : KeptThread} {replaces sync : Bool} {old_pair old_id first new_pair
         at = same_at a.way mid x;
       }
 
-  pub shows_aimed : (mid : KeptThread) → IsTurned t new_pair (moving_changes replaces sync t old_pair old_id new_pair new_id name) mid → tree_on_disk mid.disk mid.pairs ≡ tree_moved t old.path old.name path name
+  pub shows_aimed : (mid : KeptThread) → ArePut t new_pair (moving_changes replaces sync t old_pair old_id new_pair new_id name) mid → disk_tree mid.disk mid.pairs ≡ tree_moved t old.path old.name path name
   shows_aimed mid is = mid_shows a.way mid (first_turned a.way mid is)
 
   module _ {new : KeptThread} (is : IsPutEnded t old_pair old_id (drops_with_its_slot t old_pair first) new_pair (moving_changes replaces sync t old_pair old_id new_pair new_id name) new) where
     pub ended_aimed : HasEndedAt is.mid (number_after_insertion old_pair new_pair (length is.mid.pairs - length t.pairs)) (length old.stands.stands.left) (drops_with_its_slot t old_pair first) new
     ended_aimed = subst (λ i. HasEndedAt is.mid (number_after_insertion old_pair new_pair (length is.mid.pairs - length t.pairs)) i (drops_with_its_slot t old_pair first) new) (sym old.stands.stands.number) is.ended
 
-    pub shows_moved : sync ≡ false → ShowsAfterDrops t new (tree_moved t old.path old.name path name) (file_blocks t.disk (target_slots target))
+    pub shows_moved : sync ≡ false → ShowsDroppedTree t new (tree_moved t old.path old.name path name) (file_blocks t.disk (target_slots target))
     shows_moved plain = rename_becomes a.way is.mid (first_turned a.way is.mid is.put) new ended_aimed plain
 
-    pub once_moved : (b : ℕ) → number_count b (used_blocks new.disk new.pairs) + number_count b (file_blocks t.disk (target_slots target)) ≤ 1
+    pub once_moved : (b : ℕ) → number_occurrences b (used_blocks new.disk new.pairs) + number_occurrences b (file_blocks t.disk (target_slots target)) ≤ 1
     once_moved = rename_once a.way is.mid (first_turned a.way is.mid is.put) new ended_aimed
 
-    pub completed_moved : sync ≡ false → (z : Session) (given to_given : List ℕ) → z.tree ≡ tree_on_disk t.disk t.pairs → path_or_root given ≡ old.path ++ old.name ∷ [] → path_or_root to_given ≡ path ++ name ∷ []
-        → IsCompletion t.disk t.pairs z (ops.Rename given to_given) new.disk new.pairs
+    pub completed_moved : sync ≡ false → (z : Session) (given to_given : List ℕ) → z.tree ≡ disk_tree t.disk t.pairs → path_or_root given ≡ old.path ++ old.name ∷ [] → path_or_root to_given ≡ path ++ name ∷ []
+        → CompletesOperation t.disk t.pairs z (ops.Rename given to_given) new.disk new.pairs
     completed_moved plain = rename_completed a.way is.mid (first_turned a.way is.mid is.put) new ended_aimed plain
 
 module _ (t : KeptThread) (old_pair old_id first new_pair : ℕ) (can : CanEditIn t old_pair old_id) (begins_old : can.first ≡ first)
@@ -106,7 +106,7 @@ module _ (t : KeptThread) (old_pair old_id first new_pair : ℕ) (can : CanEditI
         held = can.stands.stands.held;
         other = can.stands.stands.entry;
         apart = λ e.
-            let chains = sym old_site.chain ∙ ap pair_count_before_root (sym there_old ∙ k.there) ∙ k.site.chain in
+            let chains = sym old_site.chain ∙ ap count_before_root (sym there_old ∙ k.there) ∙ k.site.chain in
             let m = old_number in
             let n = k.number in
             k.apart (omega arith);
@@ -126,14 +126,14 @@ module _ (t : KeptThread) (old_pair old_id first new_pair : ℕ) (can : CanEditI
 
   led_first : old_pair ≡ can.first → ends_joined false (wo.before ++ wo.left) ≡ false
   led_first e =
-      let none_before = alone wo.chain wo.before wo.left (wo.right ++ wo.after) q can.at can.first (subst (λ z. IsDistinct nat_eq (blocks_of_pairs z)) there_old can.ready.accepted.thread.distinct) same_begin
+      let none_before = alone wo.chain wo.before wo.left (wo.right ++ wo.after) q can.at can.first (subst (λ z. IsDistinct nat_eq (pairs_blocks z)) there_old can.ready.accepted.thread.distinct) same_begin
       (subst (λ z. IsPairAt z can.at can.first) there_old can.begins) (sym e ∙ old_number) in
       ap (λ z. ends_joined false (wo.before ++ z)) none_before ∙ ap (ends_joined false) (append-nil wo.before) ∙ flag_ends wo.before setting.old_site.ends
 
   stays : goes ≡ false → ends_joined false (wo.before ++ wo.left) ≡ true → 1 < length q.content.slots
   stays remains hard = go (stays_there t old_pair old_id first can begins_old remains)
     where
-      go : (old_pair ≡ can.first) ⊎ (1 < length (thread_pair_at t old_pair).content.slots) → 1 < length q.content.slots
+      go : (old_pair ≡ can.first) ⊎ (1 < length (thread_pair t old_pair).content.slots) → 1 < length q.content.slots
       go (inl e) = absurd (let z = sym hard ∙ led_first e in cc)
       go (inr many) = subst (λ (z : Pair). 1 < length z.content.slots) (here t can.ready can.first old_pair q can.stands.rest can.stands.place) many
 

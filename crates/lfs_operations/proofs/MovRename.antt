@@ -1,5 +1,5 @@
 -- What the first step of a rename across pairs makes of the pair that the entry comes into.
-use Rattle.lfs_operations.proofs.Common.{Bool, ℕ, ◌≡◌, ◌<◌, true, false, List, [], ◌∷◌, ◌++◌, length, None, Some, refl, sym, ap, ap₂, subst, ◌∙◌, arith, length-append, insert, xor_lt, sum_by-append, PairChange, PutMove, changed_content_of, RawContent, RawSlot, complete_slots, complete_content, raw_content, CanSplit, Disk, BelongsAt, IsPairOfDirectory, AreWords, MoveStateFits, Name, is_valid_name, Slot, FitsInPair, Gstate, gstate_xor, slot_size, Pair, tail_address_of, Path, tree_renaming, without_prefix, IsWritableEntry, LeadsTo, all_entries, IsChangedImage, no_move_from, IsCompleted, complete_insert, complete_length, completed_from, completed_parts, does_first, puts_move, content_cut, entry_small, nothing_there, insert_here, place_at, IsPlace, is_site, number_is, place_of_belongs, same, site, thread_is, Site, thread_at, logged_changed, changed_pair, KeptThread, complete_after, thread_pair_at, option_and_then, IsPairTouched, CanTurn, CanEditIn, gstate_naming, CanRenameAcross, IsRenamedAcross, IsRawFormed, drops_with_its_slot, NamelessSlot, nameless_at, nameless_of, slot_changes, moving_changes, IsMovedAcross}
+use Rattle.lfs_operations.proofs.Common.{Bool, ℕ, ◌≡◌, ◌<◌, true, false, List, [], ◌∷◌, ◌++◌, length, None, Some, refl, sym, ap, ap₂, subst, ◌∙◌, arith, length-append, insert, xor_lt, sum_by-append, PairChange, PutMove, changed_content_of, RawContent, RawSlot, complete_slots, complete_content, raw_content, CanSplit, Disk, BelongsAt, IsDirectoryPair, AreWords, MoveStateFits, Name, is_valid_name, Slot, FitsInPair, Gstate, gstate_xor, slot_size, Pair, tail_target, Path, tree_renaming, without_prefix, IsWritableEntry, LeadsTo, all_entries, IsChangedImage, no_move_from, IsCompleted, complete_insert, complete_length, completed_from, completed_parts, does_first, puts_move, content_cut, entry_small, nothing_there, insert_here, place_at, IsPlace, is_site, number_is, place_of_belongs, same, site, thread_is, Site, thread_at, logged_changed, changed_pair, KeptThread, complete_after, thread_pair, option_and_then, IsPairTouched, CanPut, CanEditIn, gstate_naming, CanRenameAcross, IsRenamedAcross, IsRawFormed, drops_with_its_slot, NamelessSlot, nameless_at, nameless_of, slot_changes, moving_changes, IsMovedAcross}
 use Rattle.lfs_operations.proofs.AlteredAcross.{moved_alters}
 use Rattle.lfs_operations.proofs.Held.{CompletesTo, below, fits_there, here, raw_there}
 use Rattle.lfs_operations.proofs.MovSet.{HasTurned, set_new, walk_by}
@@ -17,18 +17,18 @@ record Source (t : KeptThread) (pair id : ℕ) (u : Slot) : Type 0 where
   is : nameless_at t pair id ≡ nameless_of raw
   of : IsOf raw u
 
-module _ (sync : Bool) (t : KeptThread) (old_pair old_id new_pair : ℕ) (can : CanEditIn t old_pair old_id) (address : AreWords (thread_pair_at t old_pair).at)
-    (first : ℕ) (p : Pair) (rest : List Pair) (place : IsPairOfDirectory t.pairs first new_pair p rest) (logged : IsRawFormed t.disk (thread_pair_at t new_pair).at) where
+module _ (sync : Bool) (t : KeptThread) (old_pair old_id new_pair : ℕ) (can : CanEditIn t old_pair old_id) (address : AreWords (thread_pair t old_pair).at)
+    (first : ℕ) (p : Pair) (rest : List Pair) (place : IsDirectoryPair t.pairs first new_pair p rest) (logged : IsRawFormed t.disk (thread_pair t new_pair).at) where
   abbrev pub o : Pair
   o = can.stands.pair
 
   abbrev pub u : Slot
   u = can.stands.stands.slot
 
-  here_o : thread_pair_at t old_pair ≡ o
+  here_o : thread_pair t old_pair ≡ o
   here_o = here t can.ready can.first old_pair o can.stands.rest can.stands.place
 
-  here_p : thread_pair_at t new_pair ≡ p
+  here_p : thread_pair t new_pair ≡ p
   here_p = here t can.ready first new_pair p rest place
 
   source : Source t old_pair old_id u
@@ -38,20 +38,20 @@ module _ (sync : Bool) (t : KeptThread) (old_pair old_id new_pair : ℕ) (can : 
     of = is_slot t old_pair old_id can.ready can.first o can.stands.rest can.stands.place can.logged can.name can.stands.stands;
   }
 
-  abbrev pub c : CompletesTo (raw_content t.disk (thread_pair_at t new_pair).at) p.content
+  abbrev pub c : CompletesTo (raw_content t.disk (thread_pair t new_pair).at) p.content
   c = raw_there t can.ready first new_pair p rest place
 
   parts : IsCompleted c.raw p.content
   parts = completed_parts c.raw p.content c.complete
 
   abbrev pub move : Gstate
-  move = gstate_xor (gstate_naming sync (thread_pair_at t old_pair).at old_id) (thread_pair_at t new_pair).content.move
+  move = gstate_xor (gstate_naming sync (thread_pair t old_pair).at old_id) (thread_pair t new_pair).content.move
 
   abbrev pub delta : Gstate
   delta = gstate_xor (gstate_naming sync o.at (length can.stands.stands.left)) p.content.move
 
   pub move_is : move ≡ delta
-  move_is = ap₂ (λ (x : Pair) (i : ℕ). gstate_xor (gstate_naming sync x.at i) (thread_pair_at t new_pair).content.move) here_o (sym can.stands.stands.number)
+  move_is = ap₂ (λ (x : Pair) (i : ℕ). gstate_xor (gstate_naming sync x.at i) (thread_pair t new_pair).content.move) here_o (sym can.stands.stands.number)
       ∙ ap (λ (x : Pair). gstate_xor (gstate_naming sync o.at (length can.stands.stands.left)) x.content.move) here_p
 
   within : old_id < length o.content.slots
@@ -63,9 +63,9 @@ module _ (sync : Bool) (t : KeptThread) (old_pair old_id new_pair : ℕ) (can : 
       let few = (fits_there t can.ready can.first old_pair o can.stands.rest can.stands.place).count in
       let m = within in
       record {
-        kind = xor_lt 11 0x4ff (thread_pair_at t new_pair).content.move.kind (omega arith) g.kind;
-        id = xor_lt 10 old_id (thread_pair_at t new_pair).content.move.id (omega arith) g.id;
-        pair = (xor_lt 32 (thread_pair_at t old_pair).at.0 (thread_pair_at t new_pair).content.move.pair.0 address.0 g.pair.0, xor_lt 32 (thread_pair_at t old_pair).at.1 (thread_pair_at t new_pair).content.move.pair.1 address.1 g.pair.1);
+        kind = xor_lt 11 0x4ff (thread_pair t new_pair).content.move.kind (omega arith) g.kind;
+        id = xor_lt 10 old_id (thread_pair t new_pair).content.move.id (omega arith) g.id;
+        pair = (xor_lt 32 (thread_pair t old_pair).at.0 (thread_pair t new_pair).content.move.pair.0 address.0 g.pair.0, xor_lt 32 (thread_pair t old_pair).at.1 (thread_pair t new_pair).content.move.pair.1 address.1 g.pair.1);
       }
 
   abbrev pub raw_mid : RawContent
@@ -95,7 +95,7 @@ module _ (sync : Bool) (t : KeptThread) (old_pair old_id new_pair : ℕ) (can : 
         ∙ slot_comes left.left at name (nameless_of source.raw) (let n = fits_left.count in let k = length-append a b in omega arith)
         (let k = length-append a b in let l = length_left in omega arith) (name_length name named) source.of.are))
 
-    made_raw : changed_pair t.disk (thread_pair_at t new_pair).at changes ≡ Some raw_now
+    made_raw : changed_pair t.disk (thread_pair t new_pair).at changes ≡ Some raw_now
     made_raw = ap (λ o. option_and_then (λ (x : RawContent). changed_content_of x changes) o) c.is ∙ changed_now
 
     slots_now : complete_slots raw_now.slots ≡ Some (a ++ moved ∷ b)
@@ -115,13 +115,13 @@ module _ (sync : Bool) (t : KeptThread) (old_pair old_id new_pair : ℕ) (can : 
         (let f = fits_left.size in let k = sum_by-append slot_size a b in omega arith)
         (let n = fits_left.count in let k = length-append a b in omega arith)
 
-    pub can_put : CanTurn t new_pair changes
+    pub can_put : CanPut t new_pair changes
     can_put = record {
       can = record {
         below = below t can.ready first new_pair p rest place;
         content = content_with p (a ++ moved ∷ b) delta;
         made = made;
-        next = ap (λ (z : Pair). tail_address_of z.content.tail) (sym here_p);
+        next = ap (λ (z : Pair). tail_target z.content.tail) (sym here_p);
       };
       raw = raw_now;
       made = made_raw;
@@ -130,7 +130,7 @@ module _ (sync : Bool) (t : KeptThread) (old_pair old_id new_pair : ℕ) (can : 
 
 -- ---- to a new name
 
-module _ (sync : Bool) (t : KeptThread) (old_pair old_id first new_pair new_id : ℕ) (name : Name) (rename : CanRenameAcross t old_pair old_id first new_pair new_id name) (address : AreWords (thread_pair_at t old_pair).at) where
+module _ (sync : Bool) (t : KeptThread) (old_pair old_id first new_pair new_id : ℕ) (name : Name) (rename : CanRenameAcross t old_pair old_id first new_pair new_id name) (address : AreWords (thread_pair t old_pair).at) where
   abbrev can : CanEditIn t old_pair old_id
   can = rename.old
 
@@ -176,7 +176,7 @@ module _ (sync : Bool) (t : KeptThread) (old_pair old_id first new_pair new_id :
   fits_left : FitsInPair t.disk.block_size t.disk.page (record p.content { slots = b.left ++ b.right })
   fits_left = subst (λ z. FitsInPair t.disk.block_size t.disk.page (record p.content { slots = z })) b.held (fits_there t can.ready rename.to_first new_pair p (b.later ++ b.rest) b.place)
 
-  can_put_across : CanTurn t new_pair (moving_changes false sync t old_pair old_id new_pair new_id name)
+  can_put_across : CanPut t new_pair (moving_changes false sync t old_pair old_id new_pair new_id name)
   can_put_across = can_put sync t old_pair old_id new_pair can address rename.to_first p (b.later ++ b.rest) b.place rename.logged [] b.left b.right leaves fits_left new_id b.number name rename.is_name rename.fits
 
   aim : IsPlaceInOtherPair t old_pair old_id new_pair can w p b.left None b.right name

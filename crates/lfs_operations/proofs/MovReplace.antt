@@ -1,5 +1,5 @@
 -- A rename across pairs onto an entry, from where both stand.
-use Rattle.lfs_operations.proofs.Common.{Bool, ℕ, ◌≡◌, ◌+◌, ◌<◌, ◌≤◌, true, false, List, [], ◌∷◌, ◌++◌, length, Some, refl, sym, ap, subst, ◌∙◌, arith, append-nil, length-append, Delete, complete_slots, Disk, IsPlaceOf, AreWords, Name, is_valid_name, Slot, FitsInPair, gstate_xor, Pair, Path, tree_renaming, without_prefix, struct_blocks, LeadsTo, used_blocks, IsChangedImage, no_move_from, completed_parts, Each, each_right, number_count, is_site, number_is, same, site, slot_of_stands, thread_is, Site, thread_at, KeptThread, thread_pair_at, CanTurn, CanEditIn, gstate_naming, tree_moved, CanReplaceEntryOver, CanReplaceFileOver, CanReplaceDirectoryOver, IsFileReplaced, ShowsAfterDrops, drops_with_its_slot, moving_changes, IsMovedAcross}
+use Rattle.lfs_operations.proofs.Common.{Bool, ℕ, ◌≡◌, ◌+◌, ◌<◌, ◌≤◌, true, false, List, [], ◌∷◌, ◌++◌, length, Some, refl, sym, ap, subst, ◌∙◌, arith, append-nil, length-append, Delete, complete_slots, Disk, IsPlaceOf, AreWords, Name, is_valid_name, Slot, FitsInPair, gstate_xor, Pair, Path, tree_renaming, without_prefix, struct_blocks, LeadsTo, used_blocks, IsChangedImage, no_move_from, completed_parts, Each, each_right, number_occurrences, is_site, number_is, same, site, slot_of_stands, thread_is, Site, thread_at, KeptThread, thread_pair, CanPut, CanEditIn, gstate_naming, tree_moved, CanReplaceEntryAcross, CanReplaceFileAcross, CanReplaceDirectoryAcross, IsFileReplaced, ShowsDroppedTree, drops_with_its_slot, moving_changes, IsMovedAcross}
 use Rattle.lfs_operations.proofs.Held.{IsEntryIfOther, each_pair, fits_there, other_entries}
 use Rattle.lfs_operations.proofs.MovSet.{HasTurned, set_onto, walk_by}
 use Rattle.lfs_operations.proofs.MovStep.{IsFirst}
@@ -10,7 +10,7 @@ use Rattle.lfs_operations.proofs.MovPlaced.{IsAimed, IsPlaceInOtherPair, complet
 pub not_plain : {X : Type 0} → true ≡ false → X
 not_plain e = absurd (cc)
 
-abbrev pub onto_file : {t : KeptThread} {old_pair old_id first new_pair new_id : ℕ} {name : Name} → CanReplaceFileOver t old_pair old_id first new_pair new_id name → CanReplaceEntryOver t false old_pair old_id first new_pair new_id name
+abbrev pub onto_file : {t : KeptThread} {old_pair old_id first new_pair new_id : ℕ} {name : Name} → CanReplaceFileAcross t old_pair old_id first new_pair new_id name → CanReplaceEntryAcross t false old_pair old_id first new_pair new_id name
 onto_file r = record {
   old = r.old;
   begins_old = r.begins_old;
@@ -27,8 +27,8 @@ onto_file r = record {
   fits = r.fits;
 }
 
-abbrev pub onto_directory : {t : KeptThread} {old_pair old_id first new_pair new_id : ℕ} {name : Name} {gone : ℕ} → CanReplaceDirectoryOver t old_pair old_id first new_pair new_id name gone
-    → CanReplaceEntryOver t true old_pair old_id first new_pair new_id name
+abbrev pub onto_directory : {t : KeptThread} {old_pair old_id first new_pair new_id : ℕ} {name : Name} {gone : ℕ} → CanReplaceDirectoryAcross t old_pair old_id first new_pair new_id name gone
+    → CanReplaceEntryAcross t true old_pair old_id first new_pair new_id name
 onto_directory r = record {
   old = r.old;
   begins_old = r.begins_old;
@@ -45,7 +45,7 @@ onto_directory r = record {
   fits = r.fits;
 }
 
-module _ (sync : Bool) (t : KeptThread) (old_pair old_id first new_pair new_id : ℕ) (name : Name) (rename : CanReplaceEntryOver t sync old_pair old_id first new_pair new_id name) (address : AreWords (thread_pair_at t old_pair).at) where
+module _ (sync : Bool) (t : KeptThread) (old_pair old_id first new_pair new_id : ℕ) (name : Name) (rename : CanReplaceEntryAcross t sync old_pair old_id first new_pair new_id name) (address : AreWords (thread_pair t old_pair).at) where
   abbrev can : CanEditIn t old_pair old_id
   can = rename.old
 
@@ -116,7 +116,7 @@ module _ (sync : Bool) (t : KeptThread) (old_pair old_id first new_pair new_id :
       let entry = (each_right IsEntryIfOther l (g ∷ r) (subst (Each IsEntryIfOther) b.stands.held here)).0 b.stands.entry in
       ap is_valid_name (sym b.stands.named) ∙ entry.name
 
-  can_put_onto : CanTurn t new_pair (moving_changes true sync t old_pair old_id new_pair new_id name)
+  can_put_onto : CanPut t new_pair (moving_changes true sync t old_pair old_id new_pair new_id name)
   can_put_onto = can_put sync t old_pair old_id new_pair can address rename.to_first p b.rest b.place rename.logged (Delete new_id ∷ []) l r leaves fits_left new_id b.stands.number name is_named rename.fits
 
   aim : IsPlaceInOtherPair t old_pair old_id new_pair can w p l (Some g) r name
@@ -157,13 +157,13 @@ module _ (sync : Bool) (t : KeptThread) (old_pair old_id first new_pair new_id :
 
 -- ---- onto a file
 
-pub replaced_across : {t : KeptThread} {old_pair old_id first new_pair new_id : ℕ} {name : Name} (rename : CanReplaceFileOver t old_pair old_id first new_pair new_id name) {new : KeptThread} → IsMovedAcross t true false old_pair old_id first new_pair new_id name new
+pub replaced_across : {t : KeptThread} {old_pair old_id first new_pair new_id : ℕ} {name : Name} (rename : CanReplaceFileAcross t old_pair old_id first new_pair new_id name) {new : KeptThread} → IsMovedAcross t true false old_pair old_id first new_pair new_id name new
     → IsFileReplaced t new rename.old.path rename.old.name rename.path name rename.target.stands.slot.struct
 replaced_across {t = t} {old_pair = old_pair} {old_id = old_id} {first = first} {new_pair = new_pair} {new_id = new_id} {name = name} rename {new = new} h =
     let a = aimed_onto false t old_pair old_id first new_pair new_id name (onto_file rename) h.address in
     let blocks = append-nil (struct_blocks t.disk rename.target.stands.slot.struct) in
     record {
-      now = subst (λ (z : List ℕ). ShowsAfterDrops t new (tree_moved t rename.old.path rename.old.name rename.path name) z) blocks (shows_moved a h.done refl);
-      once = subst (λ (z : List ℕ). (b : ℕ) → number_count b (used_blocks new.disk new.pairs) + number_count b z ≤ 1) blocks (once_moved a h.done);
+      now = subst (λ (z : List ℕ). ShowsDroppedTree t new (tree_moved t rename.old.path rename.old.name rename.path name) z) blocks (shows_moved a h.done refl);
+      once = subst (λ (z : List ℕ). (b : ℕ) → number_occurrences b (used_blocks new.disk new.pairs) + number_occurrences b z ≤ 1) blocks (once_moved a h.done);
       completed = completed_moved a h.done refl;
     }

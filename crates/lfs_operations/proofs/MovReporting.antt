@@ -1,5 +1,5 @@
 -- What two steps tell, one after the other, and what a stop in them leaves.
-use Rattle.lfs_operations.proofs.Common.{ℕ, zero, suc, ◌≡◌, ◌≢◌, ◌+◌, ◌-◌, ◌<◌, ◌≤◌, ◌⊎◌, inl, inr, Bool, true, false, cond, List, [], ◌∷◌, length, Result, Ok, Err, refl, sym, ap, subst, ◌∙◌, arith, get_or, insert, length-set, set, take, cases_lt, le-ltb, lt-ltb, All-from_recursion, recursion_from_All, PairChange, Disk, CallEvent, AllCallsSince, fault_count, Blocks, HasEither as IsLeftOf, SurvivesLossSince, with_blocks, Pair, pairs_from_root, pair_count_before_root, address_blocks, addresses_blocks, tree_on_disk, survives_then, HoldsAtLosses-weaker, ends_joined, LossLeavesCleanly, KeptThread, ThreadView, SameGeometryAs, IsPairCommitted, ChangesThreadBlocks, split_back_pair, split_front_pair, empty_anchor, thread_pair_at, All, IfErr, IsErrOf, is_err, nat_lt, Error, Io, NoMemory, NoSpace, AreTwoFree, IsSplitInto, LeftByTurn, IsTurned, WritesPairTwo, has_failed_after, written_at_end, follows_hard_tail_of, CanEndSecond, SurvivesBothCommits, ReportsErrorsOfCommitsTakingBlocks, WritesTwoTwo, number_after_insertion, ReportsErrorsOfCommitTakingNoBlock}
+use Rattle.lfs_operations.proofs.Common.{ℕ, zero, suc, ◌≡◌, ◌≢◌, ◌+◌, ◌-◌, ◌<◌, ◌≤◌, ◌⊎◌, inl, inr, Bool, true, false, cond, List, [], ◌∷◌, length, Result, Ok, Err, refl, sym, ap, subst, ◌∙◌, arith, get_or, insert, length-set, set, take, cases_lt, le-ltb, lt-ltb, All-from_recursion, recursion_from_All, PairChange, Disk, CallEvent, AllCallsSince, fault_count, Blocks, HasEither as IsLeftOf, SurvivesLossSince, with_blocks, Pair, pairs_from_root, count_before_root, address_blocks, addresses_blocks, disk_tree, survives_then, HoldsAtLosses-weaker, ends_joined, CleanLossLeaves, KeptThread, ThreadView, SameGeometryAs, IsPairCommitted, ChangesThreadBlocks, back_pair, front_pair, empty_anchor, thread_pair, All, IfErr, IsErrOf, is_err, nat_lt, Error, Io, NoMemory, NoSpace, AreTwoFree, IsSplitInto, LeftByPut, ArePut, WritesPairTwo, has_failed_after, written_at_end, continues_directory, CanEndSecond, SurvivesCommits, ReportsTakingCommits, WritesPairsTwo, number_after_insertion, ReportsCommit}
 use Rattle.lfs_operations.proofs.Putting.{writes_trans, writes_wider}
 
 failing : (e : Error) → (e ≡ Io) ⊎ (e ≡ NoMemory) → has_failed_after {X = Unit {0}} (Err e) ≡ true
@@ -11,7 +11,7 @@ not_space (Ok x) h e = absurd (cc)
 not_space (Err e) (inl h) k = let z : e ≡ NoSpace = cc in absurd (let w = sym h ∙ z in cc)
 not_space (Err e) (inr h) k = let z : e ≡ NoSpace = cc in absurd (let w = sym h ∙ z in cc)
 
-pub reports_of_end : (old mid new : ThreadView) (index : ℕ) (changes : List PairChange) (r : Result (Unit {0}) Error) → fault_count mid.kept.history ≡ fault_count old.kept.history → ReportsErrorsOfCommitTakingNoBlock mid new r → ReportsErrorsOfCommitsTakingBlocks old new index changes r
+pub reports_of_end : (old mid new : ThreadView) (index : ℕ) (changes : List PairChange) (r : Result (Unit {0}) Error) → fault_count mid.kept.history ≡ fault_count old.kept.history → ReportsCommit mid new r → ReportsTakingCommits old new index changes r
 reports_of_end old mid new index changes r same h = record {
   failed = inl (go r h.failed h.reported.errors);
   errors = wider r h.reported.errors;
@@ -47,15 +47,15 @@ without_first a b c d fresh k h =
     let e = recursion_from_All (λ x. x ≢ k) (a ∷ b ∷ c ∷ d ∷ fresh) h in
     All-from_recursion (λ x. x ≢ k) (c ∷ d ∷ []) (e.1.1.0, (e.1.1.1.0, tt))
 
-pub writes_first : (old mid : KeptThread) (one other : ℕ) → WritesPairTwo old other mid → WritesTwoTwo old one other mid
+pub writes_first : (old mid : KeptThread) (one other : ℕ) → WritesPairTwo old other mid → WritesPairsTwo old one other mid
 writes_first old mid one other w = record {
   fresh = w.fresh;
   few = w.few;
   free = w.free;
-  writes = writes_wider ((thread_pair_at old other).at.0 ∷ (thread_pair_at old other).at.1 ∷ (thread_pair_at old one).at.0 ∷ (thread_pair_at old one).at.1 ∷ w.fresh) (without_second (thread_pair_at old other).at.0 (thread_pair_at old other).at.1 (thread_pair_at old one).at.0 (thread_pair_at old one).at.1 w.fresh) w.writes;
+  writes = writes_wider ((thread_pair old other).at.0 ∷ (thread_pair old other).at.1 ∷ (thread_pair old one).at.0 ∷ (thread_pair old one).at.1 ∷ w.fresh) (without_second (thread_pair old other).at.0 (thread_pair old other).at.1 (thread_pair old one).at.0 (thread_pair old one).at.1 w.fresh) w.writes;
 }
 
-pub writes_both : (old mid new : KeptThread) (one other place : ℕ) → (thread_pair_at mid place).at ≡ (thread_pair_at old one).at → WritesPairTwo old other mid → ChangesThreadBlocks (address_blocks (thread_pair_at mid place).at) mid new → WritesTwoTwo old one other new
+pub writes_both : (old mid new : KeptThread) (one other place : ℕ) → (thread_pair mid place).at ≡ (thread_pair old one).at → WritesPairTwo old other mid → ChangesThreadBlocks (address_blocks (thread_pair mid place).at) mid new → WritesPairsTwo old one other new
 unfolding writes_first
 writes_both old mid new one other place at w e =
     let f = writes_first old mid one other w in
@@ -63,18 +63,18 @@ writes_both old mid new one other place at w e =
       fresh = w.fresh;
       few = w.few;
       free = w.free;
-      writes = writes_trans f.writes (writes_wider ((thread_pair_at old other).at.0 ∷ (thread_pair_at old other).at.1 ∷ (thread_pair_at old one).at.0 ∷ (thread_pair_at old one).at.1 ∷ w.fresh) (without_first (thread_pair_at old other).at.0 (thread_pair_at old other).at.1 (thread_pair_at old one).at.0 (thread_pair_at old one).at.1 w.fresh) (subst (λ (a : ℕ × ℕ). ChangesThreadBlocks (address_blocks a) mid new) at e));
+      writes = writes_trans f.writes (writes_wider ((thread_pair old other).at.0 ∷ (thread_pair old other).at.1 ∷ (thread_pair old one).at.0 ∷ (thread_pair old one).at.1 ∷ w.fresh) (without_first (thread_pair old other).at.0 (thread_pair old other).at.1 (thread_pair old one).at.0 (thread_pair old one).at.1 w.fresh) (subst (λ (a : ℕ × ℕ). ChangesThreadBlocks (address_blocks a) mid new) at e));
     }
 
 -- the second step writes the fresh pair
-writes_fresh : (old mid new : KeptThread) (one other : ℕ) (fresh : ℕ × ℕ) → AreTwoFree old.map fresh → ChangesThreadBlocks (addresses_blocks (thread_pair_at old other).at fresh) old mid → ChangesThreadBlocks (address_blocks fresh) mid new → WritesTwoTwo old one other new
+writes_fresh : (old mid new : KeptThread) (one other : ℕ) (fresh : ℕ × ℕ) → AreTwoFree old.map fresh → ChangesThreadBlocks (addresses_blocks (thread_pair old other).at fresh) old mid → ChangesThreadBlocks (address_blocks fresh) mid new → WritesPairsTwo old one other new
 writes_fresh old mid new one other fresh free w e =
-    let bs = (thread_pair_at old other).at.0 ∷ (thread_pair_at old other).at.1 ∷ (thread_pair_at old one).at.0 ∷ (thread_pair_at old one).at.1 ∷ fresh.0 ∷ fresh.1 ∷ [] in
+    let bs = (thread_pair old other).at.0 ∷ (thread_pair old other).at.1 ∷ (thread_pair old one).at.0 ∷ (thread_pair old one).at.1 ∷ fresh.0 ∷ fresh.1 ∷ [] in
     record {
       fresh = fresh.0 ∷ fresh.1 ∷ [];
       few = omega arith;
       free = (free.first, (free.second, tt));
-      writes = writes_trans (writes_wider bs (without_second (thread_pair_at old other).at.0 (thread_pair_at old other).at.1 (thread_pair_at old one).at.0 (thread_pair_at old one).at.1 (fresh.0 ∷ fresh.1 ∷ [])) w) (writes_wider bs (λ k h. (let e = recursion_from_All (λ x. x ≢ k) bs h in All-from_recursion (λ x. x ≢ k) (address_blocks fresh) e.1.1.1.1)) e);
+      writes = writes_trans (writes_wider bs (without_second (thread_pair old other).at.0 (thread_pair old other).at.1 (thread_pair old one).at.0 (thread_pair old one).at.1 (fresh.0 ∷ fresh.1 ∷ [])) w) (writes_wider bs (λ k h. (let e = recursion_from_All (λ x. x ≢ k) bs h in All-from_recursion (λ x. x ≢ k) (address_blocks fresh) e.1.1.1.1)) e);
     }
 
 -- ---- the pair in front of the old one, once the new one has changed
@@ -117,21 +117,21 @@ next_to i o apart a b = go (cases_lt o i)
 
 -- Where the first step has put the changes, the second one writes the pair in front of the old one: that is a pair that stood
 -- there, or a fresh one.
-module _ (old mid new : KeptThread) (index other : ℕ) (changes : List PairChange) (put : IsTurned old other changes mid) (below : other < length old.pairs) (apart : index ≢ other)
+module _ (old mid new : KeptThread) (index other : ℕ) (changes : List PairChange) (put : ArePut old other changes mid) (below : other < length old.pairs) (apart : index ≢ other)
     (above : 0 < number_after_insertion index other (length mid.pairs - length old.pairs))
-    (first : WritesPairTwo old other mid) (second : ChangesThreadBlocks (address_blocks (thread_pair_at mid (number_after_insertion index other (length mid.pairs - length old.pairs) - 1)).at) mid new) where
+    (first : WritesPairTwo old other mid) (second : ChangesThreadBlocks (address_blocks (thread_pair mid (number_after_insertion index other (length mid.pairs - length old.pairs) - 1)).at) mid new) where
   abbrev place : ℕ
   place = number_after_insertion index other (length mid.pairs - length old.pairs)
 
-  stood : (thread_pair_at mid (number_after_insertion index other (length mid.pairs - length old.pairs) - 1)).at ≡ (thread_pair_at old (index - 1)).at → WritesTwoTwo old (index - 1) other new
+  stood : (thread_pair mid (number_after_insertion index other (length mid.pairs - length old.pairs) - 1)).at ≡ (thread_pair old (index - 1)).at → WritesPairsTwo old (index - 1) other new
   stood at = writes_both old mid new (index - 1) other (number_after_insertion index other (length mid.pairs - length old.pairs) - 1) at first second
 
-  changed : IsPairCommitted old other changes mid → WritesTwoTwo old (index - 1) other new
+  changed : IsPairCommitted old other changes mid → WritesPairsTwo old (index - 1) other new
   changed is =
-      let many = ap length is.pairs ∙ length-set old.pairs other (record { at = (thread_pair_at old other).at; content = is.content }) in
+      let many = ap length is.pairs ∙ length-set old.pairs other (record { at = (thread_pair old other).at; content = is.content }) in
       let same : number_after_insertion index other (length mid.pairs - length old.pairs) ≡ index = place_same index other (length mid.pairs - length old.pairs) (omega arith) in
-      stood (ap (λ (i : ℕ). (thread_pair_at mid (i - 1)).at) same ∙ ap (λ z. (get_or z (index - 1) empty_anchor).at) is.pairs
-      ∙ get_set old.pairs other (index - 1) (record { at = (thread_pair_at old other).at; content = is.content }) empty_anchor refl)
+      stood (ap (λ (i : ℕ). (thread_pair mid (i - 1)).at) same ∙ ap (λ z. (get_or z (index - 1) empty_anchor).at) is.pairs
+      ∙ get_set old.pairs other (index - 1) (record { at = (thread_pair old other).at; content = is.content }) empty_anchor refl)
     where
       place_same : (i o n : ℕ) → n ≡ 0 → number_after_insertion i o n ≡ i
       place_same i o n e = ap (number_after_insertion i o) e ∙ go (nat_lt i o)
@@ -140,14 +140,14 @@ module _ (old mid new : KeptThread) (index other : ℕ) (changes : List PairChan
           go true = refl
           go false = omega arith
 
-  cut : (fresh : ℕ × ℕ) → IsSplitInto old other fresh changes mid → WritesTwoTwo old (index - 1) other new
+  cut : (fresh : ℕ × ℕ) → IsSplitInto old other fresh changes mid → WritesPairsTwo old (index - 1) other new
   cut fresh is = go (cases_lt index other)
     where
       in_cut : Pair
-      in_cut = split_front_pair old other is.content is.cut fresh
+      in_cut = front_pair old other is.content is.cut fresh
 
       behind_cut : Pair
-      behind_cut = split_back_pair is.content is.cut fresh
+      behind_cut = back_pair is.content is.cut fresh
 
       there : length (set old.pairs other in_cut) ≡ length old.pairs
       there = length-set old.pairs other in_cut
@@ -161,50 +161,50 @@ module _ (old mid new : KeptThread) (index other : ℕ) (changes : List PairChan
       behind : other < index → number_after_insertion index other (length mid.pairs - length old.pairs) ≡ index + 1
       behind l = ap (λ b. cond b index (index + (length mid.pairs - length old.pairs))) (le-ltb index other (omega arith)) ∙ (let m = many in omega arith)
 
-      get_is : (j : ℕ) → thread_pair_at mid j ≡ get_or (insert (set old.pairs other in_cut) (other + 1) behind_cut) j empty_anchor
+      get_is : (j : ℕ) → thread_pair mid j ≡ get_or (insert (set old.pairs other in_cut) (other + 1) behind_cut) j empty_anchor
       get_is j = ap (λ z. get_or z j empty_anchor) is.pairs
 
-      further : other + 1 < index → WritesTwoTwo old (index - 1) other new
+      further : other + 1 < index → WritesPairsTwo old (index - 1) other new
       further l =
           let e : number_after_insertion index other (length mid.pairs - length old.pairs) - 1 ≡ suc (index - 1) = (let b = behind (omega arith) in omega arith) in
-          stood (ap (λ (i : ℕ). (thread_pair_at mid i).at) e ∙ ap (λ (z : Pair). z.at) (get_is (suc (index - 1)))
+          stood (ap (λ (i : ℕ). (thread_pair mid i).at) e ∙ ap (λ (z : Pair). z.at) (get_is (suc (index - 1)))
           ∙ ap (λ (z : Pair). z.at) (get_after (set old.pairs other in_cut) (other + 1) (index - 1) behind_cut empty_anchor (omega arith) (let t = there in omega arith))
           ∙ get_set old.pairs other (index - 1) in_cut empty_anchor refl)
 
-      next : other + 1 ≡ index → WritesTwoTwo old (index - 1) other new
+      next : other + 1 ≡ index → WritesPairsTwo old (index - 1) other new
       next l =
           let e : number_after_insertion index other (length mid.pairs - length old.pairs) - 1 ≡ other + 1 = (let b = behind (omega arith) in omega arith) in
-          let at : (thread_pair_at mid (number_after_insertion index other (length mid.pairs - length old.pairs) - 1)).at ≡ fresh
-          = ap (λ (i : ℕ). (thread_pair_at mid i).at) e ∙ ap (λ (z : Pair). z.at) (get_is (other + 1) ∙ get_inserted (set old.pairs other in_cut) (other + 1) behind_cut empty_anchor (let t = there in omega arith)) in
+          let at : (thread_pair mid (number_after_insertion index other (length mid.pairs - length old.pairs) - 1)).at ≡ fresh
+          = ap (λ (i : ℕ). (thread_pair mid i).at) e ∙ ap (λ (z : Pair). z.at) (get_is (other + 1) ∙ get_inserted (set old.pairs other in_cut) (other + 1) behind_cut empty_anchor (let t = there in omega arith)) in
           writes_fresh old mid new (index - 1) other fresh is.free is.writes (subst (λ (a : ℕ × ℕ). ChangesThreadBlocks (address_blocks a) mid new) at second)
 
-      go : (index < other) ⊎ (other ≤ index) → WritesTwoTwo old (index - 1) other new
+      go : (index < other) ⊎ (other ≤ index) → WritesPairsTwo old (index - 1) other new
       go (inl l) =
           let e = in_front l in
           let a = above in
-          stood (ap (λ (i : ℕ). (thread_pair_at mid (i - 1)).at) e ∙ ap (λ (z : Pair). z.at) (get_is (index - 1))
+          stood (ap (λ (i : ℕ). (thread_pair mid (i - 1)).at) e ∙ ap (λ (z : Pair). z.at) (get_is (index - 1))
           ∙ ap (λ (z : Pair). z.at) (get_before (set old.pairs other in_cut) (other + 1) (index - 1) behind_cut empty_anchor (omega arith) (let t = there in omega arith))
           ∙ get_set old.pairs other (index - 1) in_cut empty_anchor refl)
       go (inr l) = by (cases_lt (other + 1) index)
         where
-          by : (other + 1 < index) ⊎ (index ≤ other + 1) → WritesTwoTwo old (index - 1) other new
+          by : (other + 1 < index) ⊎ (index ≤ other + 1) → WritesPairsTwo old (index - 1) other new
           by (inl k) = further k
           by (inr k) = next (next_to index other apart l k)
 
-  pub writes_in_front : WritesTwoTwo old (index - 1) other new
+  pub writes_in_front : WritesPairsTwo old (index - 1) other new
   writes_in_front = go put
     where
-      go : IsTurned old other changes mid → WritesTwoTwo old (index - 1) other new
+      go : ArePut old other changes mid → WritesPairsTwo old (index - 1) other new
       go (inl is) = changed is
       go (inr (large, (fresh, is))) = cut fresh is
 
-not_first : (ps : List Pair) (n : ℕ) → follows_hard_tail_of ps n ≡ true → 0 < n
-not_first ps zero e = absurd (let z : ends_joined false (take (0 - pair_count_before_root ps) (pairs_from_root ps)) ≡ true = e in let k : 0 - pair_count_before_root ps ≡ 0 = omega arith in
+not_first : (ps : List Pair) (n : ℕ) → continues_directory ps n ≡ true → 0 < n
+not_first ps zero e = absurd (let z : ends_joined false (take (0 - count_before_root ps) (pairs_from_root ps)) ≡ true = e in let k : 0 - count_before_root ps ≡ 0 = omega arith in
     let w = sym z ∙ ap (λ (i : ℕ). ends_joined false (take i (pairs_from_root ps))) k in cc)
 not_first ps (suc n) e = omega arith
 
-pub writes_at_end : (old mid new : KeptThread) (old_pair old_id : ℕ) (goes : Bool) (new_pair : ℕ) (changes : List PairChange) → IsTurned old new_pair changes mid → new_pair < length old.pairs → CanEndSecond old old_pair old_id goes new_pair mid
-    → WritesPairTwo old new_pair mid → ChangesThreadBlocks (address_blocks (thread_pair_at mid (written_at_end (number_after_insertion old_pair new_pair (length mid.pairs - length old.pairs)) goes)).at) mid new → WritesTwoTwo old (written_at_end old_pair goes) new_pair new
+pub writes_at_end : (old mid new : KeptThread) (old_pair old_id : ℕ) (goes : Bool) (new_pair : ℕ) (changes : List PairChange) → ArePut old new_pair changes mid → new_pair < length old.pairs → CanEndSecond old old_pair old_id goes new_pair mid
+    → WritesPairTwo old new_pair mid → ChangesThreadBlocks (address_blocks (thread_pair mid (written_at_end (number_after_insertion old_pair new_pair (length mid.pairs - length old.pairs)) goes)).at) mid new → WritesPairsTwo old (written_at_end old_pair goes) new_pair new
 unfolding writes_both
 writes_at_end old mid new old_pair old_id false new_pair changes put below ends first second =
     writes_both old mid new old_pair new_pair (number_after_insertion old_pair new_pair (length mid.pairs - length old.pairs)) ends.at first second
@@ -216,15 +216,15 @@ writes_at_end old mid new old_pair old_id true new_pair changes put below ends f
 same_disk : (old new : Disk) (blocks : Blocks) → SameGeometryAs old new → with_blocks blocks new ≡ with_blocks blocks old
 same_disk old new blocks h = λ j. record { block_size = h.block_size j; page = h.page j; order = h.order j; profile = h.profile j; blocks = blocks }
 
-pub survives_both : (old mid new : KeptThread) (index : ℕ) (changes : List PairChange) {P : CallEvent → Type 0} → IsTurned old index changes mid → LossLeavesCleanly old.history mid.history (LeftByTurn old index changes)
-    → WritesPairTwo old index mid → AllCallsSince P mid.history new.history → SurvivesLossSince mid.disk mid.history new.history (tree_on_disk mid.disk mid.pairs) (tree_on_disk mid.disk mid.pairs) → SurvivesBothCommits old index changes new
+pub survives_both : (old mid new : KeptThread) (index : ℕ) (changes : List PairChange) {P : CallEvent → Type 0} → ArePut old index changes mid → CleanLossLeaves old.history mid.history (LeftByPut old index changes)
+    → WritesPairTwo old index mid → AllCallsSince P mid.history new.history → SurvivesLossSince mid.disk mid.history new.history (disk_tree mid.disk mid.pairs) (disk_tree mid.disk mid.pairs) → SurvivesCommits old index changes new
 survives_both old mid new index changes put stops w since second before after first shows =
     survives_then old.disk old.history mid.history new.history before after w.writes.at_worst since (first mid.history stops) (λ clean. HoldsAtLosses-weaker left (second clean))
   where
-    left : (blocks : Blocks) → IsLeftOf (with_blocks blocks mid.disk) (tree_on_disk mid.disk mid.pairs) (tree_on_disk mid.disk mid.pairs) → IsLeftOf (with_blocks blocks old.disk) before after
+    left : (blocks : Blocks) → IsLeftOf (with_blocks blocks mid.disk) (disk_tree mid.disk mid.pairs) (disk_tree mid.disk mid.pairs) → IsLeftOf (with_blocks blocks old.disk) before after
     left blocks k = subst (λ d. IsLeftOf d before after) (same_disk old.disk mid.disk blocks w.writes.shape)
         (record { pairs = k.pairs; accepted = k.accepted; writable = k.writable; tree = inr (either k.tree) })
       where
-        either : (tree_on_disk (with_blocks blocks mid.disk) k.pairs ≡ tree_on_disk mid.disk mid.pairs) ⊎ (tree_on_disk (with_blocks blocks mid.disk) k.pairs ≡ tree_on_disk mid.disk mid.pairs) → tree_on_disk (with_blocks blocks mid.disk) k.pairs ≡ after
+        either : (disk_tree (with_blocks blocks mid.disk) k.pairs ≡ disk_tree mid.disk mid.pairs) ⊎ (disk_tree (with_blocks blocks mid.disk) k.pairs ≡ disk_tree mid.disk mid.pairs) → disk_tree (with_blocks blocks mid.disk) k.pairs ≡ after
         either (inl e) = e ∙ shows mid put
         either (inr e) = e ∙ shows mid put

@@ -1,5 +1,5 @@
 -- The first step of a rename across pairs: the slot comes under its new name, and a set move hides the old one.
-use Rattle.lfs_operations.proofs.Common.{ℕ, ◌≡◌, ◌≢◌, ◌+◌, inl, inr, Bool, true, false, cond, nat_eq, List, [], ◌∷◌, ◌++◌, length, None, refl, sym, ap, ap₂, subst, ◌∙◌, arith, flat_map, append_assoc, append-nil, remove, slice_get, IsDistinct, recursion_from_All, flat_map-append, Disk, disk_block, Slot, Gstate, is_superblock, same_pair, zero_gstate, gstate_xor, pair_with_slots, Pair, blocks_of_pairs, pairs_gstate, starts_superblock, pair_count_before_root, slots_not_moved, Path, Tree, branch_address, without_prefix, tree_with_subtree, tree_renaming, all_entries, LeadsTo, used_blocks, struct_blocks, all_slots_not_moved, IsTreeEntry, HasValidMove, IsEntry, IsAccepted, IsWritable, IsWritableSlot, Became, became_front, became_shape, IsChangedImage, SameFiles, slots_files, no_move_from, recovered_from, Each, each_append, each_left, each_right, each_weaker, each_pieces, number_count, count_append, once_from_distinct, distinct_from_once, SameFileBlocks, gstate_cons, gstate_right, flip_false, place_at, get_here, remove_here, IsMoveSet, IsPlace, some_filled, pair_itself, site_gstate_moved, unmoved_elsewhere, avoids_front, avoids_behind, Site, dirs_at, thread_at, IsSite, begin_of, HoldsOfSome, among_right, among_left, all_slots, file_blocks, count_files, unmoved_in, IsDevice, IsWritableChange, IsPut, All, PathAddresses, move_sets, move_sets_onto, any_from, AreFree, set_taken, gstate_naming}
+use Rattle.lfs_operations.proofs.Common.{ℕ, ◌≡◌, ◌≢◌, ◌+◌, inl, inr, Bool, true, false, cond, nat_eq, List, [], ◌∷◌, ◌++◌, length, None, refl, sym, ap, ap₂, subst, ◌∙◌, arith, flat_map, append_assoc, append-nil, remove, slice_get, IsDistinct, recursion_from_All, flat_map-append, Disk, disk_block, Slot, Gstate, is_superblock, same_pair, zero_gstate, gstate_xor, pair_with_slots, Pair, pairs_blocks, pairs_gstate, starts_superblock, count_before_root, slots_not_moved, Path, Tree, branch_address, without_prefix, tree_with_subtree, tree_renaming, all_entries, LeadsTo, used_blocks, struct_blocks, all_unmoved_slots, IsTreeEntry, HasValidMove, IsEntry, IsAccepted, IsWritable, IsWritableSlot, Became, became_front, became_shape, IsChangedImage, SameFiles, slots_files, no_move_from, recovered_from, Each, each_append, each_left, each_right, each_weaker, each_pieces, number_occurrences, count_append, once_from_distinct, distinct_from_once, SameFileBlocks, gstate_cons, gstate_right, flip_false, place_at, get_here, remove_here, IsMoveSet, IsPlace, some_filled, pair_itself, site_gstate_moved, unmoved_elsewhere, avoids_front, avoids_behind, Site, dirs_at, thread_at, IsSite, begin_of, AnyByRecursion, among_right, among_left, all_slots, file_blocks, count_files, unmoved_in, IsDevice, IsWritableChange, IsPut, All, PathAddresses, move_sets, move_sets_onto, any_from, AreFree, set_taken, gstate_naming}
 use Rattle.lfs_operations.proofs.MovPlaces.{SameParts, same_parts, InTurn, ahead, behind, in_turn, hidden_place}
 use Rattle.lfs_operations.proofs.Placing.{blocks_append}
 
@@ -13,8 +13,8 @@ pub record HasTurned (old : Disk) (w : Site) (p : Pair) (slots : List Slot) (mov
   pub is : all_slots (q ∷ more) ≡ slots
   pub became : Became old p (pair_with_slots slots p) q more
   pub device : IsDevice old disk (thread_at w (p ∷ [])) (thread_at w (q ∷ more))
-  pub free : AreFree old (thread_at w (p ∷ [])) (blocks_of_pairs more) []
-  pub same : (b : ℕ) → number_count b (blocks_of_pairs more ++ blocks_of_pairs (p ∷ [])) ≡ 0 → disk_block disk b ≡ disk_block old b
+  pub free : AreFree old (thread_at w (p ∷ [])) (pairs_blocks more) []
+  pub same : (b : ℕ) → number_occurrences b (pairs_blocks more ++ pairs_blocks (p ∷ [])) ≡ 0 → disk_block disk b ≡ disk_block old b
 
 -- The slot u stands in the pair o at the site wo, and v is to stand in another pair p at the site w, in place of `olds`.
 pub record IsSetting (disk : Disk) (wo : Site) (o : Pair) (lo : List Slot) (u : Slot) (ro : List Slot) (w : Site) (p : Pair) (l olds : List Slot) (v : Slot) (r : List Slot) : Type 0 where
@@ -45,7 +45,7 @@ module _ (disk : Disk) (wo : Site) (o : Pair) (lo : List Slot) (u : Slot) (ro : 
   back_o = wo.right ++ wo.after
 
   same_site : SameParts wo.chain (dirs_at wo (o ∷ [])) w.chain (dirs_at w (p ∷ []))
-  same_site = same_parts wo.chain (dirs_at wo (o ∷ [])) w.chain (dirs_at w (p ∷ [])) (sym k.old_site.chain ∙ ap pair_count_before_root k.there ∙ k.site.chain) k.there
+  same_site = same_parts wo.chain (dirs_at wo (o ∷ [])) w.chain (dirs_at w (p ∷ [])) (sym k.old_site.chain ∙ ap count_before_root k.there ∙ k.site.chain) k.there
 
   pub chain_same : wo.chain ≡ w.chain
   chain_same = same_site.front
@@ -64,8 +64,8 @@ module _ (disk : Disk) (wo : Site) (o : Pair) (lo : List Slot) (u : Slot) (ro : 
   grouped : thread_at w (p ∷ []) ≡ (w.chain ++ front_o) ++ o ∷ back_o
   grouped = sym (ap (λ z. w.chain ++ z) dirs_same) ∙ sym (append_assoc w.chain front_o (o ∷ back_o))
 
-  distinct_there : IsDistinct nat_eq (blocks_of_pairs ((w.chain ++ front_o) ++ o ∷ back_o))
-  distinct_there = subst (λ z. IsDistinct nat_eq (blocks_of_pairs z)) grouped k.accepted.thread.distinct
+  distinct_there : IsDistinct nat_eq (pairs_blocks ((w.chain ++ front_o) ++ o ∷ back_o))
+  distinct_there = subst (λ z. IsDistinct nat_eq (pairs_blocks z)) grouped k.accepted.thread.distinct
 
   flipped : (ss : List Pair) → Each (λ s. same_pair s.at o.at ≡ false) ss → Each Far ss
   flipped ss h = each_weaker (λ s. same_pair s.at o.at ≡ false) Far (λ s e. flip_false s.at o.at e) ss h
@@ -90,14 +90,14 @@ module _ (disk : Disk) (wo : Site) (o : Pair) (lo : List Slot) (u : Slot) (ro : 
     far_more : Each Far more
     far_more = each_left Far more (w.chain ++ front_o) (flipped (more ++ (w.chain ++ front_o))
         (avoids_front (more ++ (w.chain ++ front_o)) o back_o o.at
-        (distinct_from_once (blocks_of_pairs ((more ++ (w.chain ++ front_o)) ++ o ∷ back_o)) (λ b.
-        let once = once_from_distinct ((blocks_of_pairs more ++ []) ++ used_blocks disk (thread_at w (p ∷ []))) x.free.distinct b in
-        let c = count_append b (blocks_of_pairs more ++ []) (used_blocks disk (thread_at w (p ∷ []))) in
-        let d = count_append b (blocks_of_pairs more) [] in
-        let e = count_append b (blocks_of_pairs (thread_at w (p ∷ []))) (flat_map (λ s. file_blocks_of s) (all_slots_not_moved (thread_at w (p ∷ [])))) in
-        let g = ap (λ z. number_count b (blocks_of_pairs z)) grouped in
+        (distinct_from_once (pairs_blocks ((more ++ (w.chain ++ front_o)) ++ o ∷ back_o)) (λ b.
+        let once = once_from_distinct ((pairs_blocks more ++ []) ++ used_blocks disk (thread_at w (p ∷ []))) x.free.distinct b in
+        let c = count_append b (pairs_blocks more ++ []) (used_blocks disk (thread_at w (p ∷ []))) in
+        let d = count_append b (pairs_blocks more) [] in
+        let e = count_append b (pairs_blocks (thread_at w (p ∷ []))) (flat_map (λ s. file_blocks_of s) (all_unmoved_slots (thread_at w (p ∷ [])))) in
+        let g = ap (λ z. number_occurrences b (pairs_blocks z)) grouped in
         let h = blocks_append more ((w.chain ++ front_o) ++ o ∷ back_o) b in
-        let i = ap (λ z. number_count b (blocks_of_pairs z)) (append_assoc more (w.chain ++ front_o) (o ∷ back_o)) in
+        let i = ap (λ z. number_occurrences b (pairs_blocks z)) (append_assoc more (w.chain ++ front_o) (o ∷ back_o)) in
         omega arith))
         (pair_itself o.at)))
       where
@@ -111,7 +111,7 @@ module _ (disk : Disk) (wo : Site) (o : Pair) (lo : List Slot) (u : Slot) (ro : 
         (x.delta ∙ ap (gstate_xor (gstate_naming sync o.at (length lo))) (sym (gstate_cons p [] ∙ gstate_right p.content.move)))
         ∙ ap (gstate_xor (gstate_naming sync o.at (length lo))) k.settled ∙ gstate_right (gstate_naming sync o.at (length lo))
 
-    among : HoldsOfSome (λ s. (same_pair o.at s.at ≡ true) × IsEntry (slice_get s.content.slots (length lo))) qs
+    among : AnyByRecursion (λ s. (same_pair o.at s.at ≡ true) × IsEntry (slice_get s.content.slots (length lo))) qs
     among = among_right N w.chain (dirs_at w (q ∷ more)) (go turns)
       where
         N : Pair → Type 0
@@ -120,9 +120,9 @@ module _ (disk : Disk) (wo : Site) (o : Pair) (lo : List Slot) (u : Slot) (ro : 
         here : N o
         here = (pair_itself o.at, subst IsEntry (sym (ap (λ z. slice_get z (length lo)) k.held ∙ get_here lo ro u)) k.other)
 
-        go : InTurn (w.before ++ w.left) p (w.right ++ w.after) front_o o back_o → HoldsOfSome N (dirs_at w (q ∷ more))
-        go (ahead mid e f) = among_left N (w.before ++ w.left) (q ∷ more ++ (w.right ++ w.after)) (subst (HoldsOfSome N) (sym f) (among_right N front_o (o ∷ mid) (inl here)))
-        go (behind mid e f) = among_right N (w.before ++ w.left) (q ∷ more ++ (w.right ++ w.after)) (among_right N (q ∷ more) (w.right ++ w.after) (subst (HoldsOfSome N) (sym e) (among_right N mid (o ∷ back_o) (inl here))))
+        go : InTurn (w.before ++ w.left) p (w.right ++ w.after) front_o o back_o → AnyByRecursion N (dirs_at w (q ∷ more))
+        go (ahead mid e f) = among_left N (w.before ++ w.left) (q ∷ more ++ (w.right ++ w.after)) (subst (AnyByRecursion N) (sym f) (among_right N front_o (o ∷ mid) (inl here)))
+        go (behind mid e f) = among_right N (w.before ++ w.left) (q ∷ more ++ (w.right ++ w.after)) (among_right N (q ∷ more) (w.right ++ w.after) (subst (AnyByRecursion N) (sym e) (among_right N mid (o ∷ back_o) (inl here))))
 
     is_move : HasValidMove qs (pairs_gstate qs)
     is_move = subst (HasValidMove qs) (sym state_is) (inr (refl, any_from (λ s. (same_pair o.at s.at ≡ true) × IsEntry (slice_get s.content.slots (length lo))) qs among))
@@ -134,7 +134,7 @@ module _ (disk : Disk) (wo : Site) (o : Pair) (lo : List Slot) (u : Slot) (ro : 
     front_kept [] f slots e h = absurd (let z = sym h ∙ ap starts_superblock e ∙ f refl in cc)
     front_kept (s ∷ l) f slots e h = sym (ap starts_superblock e) ∙ h
 
-    pub set_step : IsMoveSet disk new wo o lo u ro w p [] q more (blocks_of_pairs more) l olds v r
+    pub set_step : IsMoveSet disk new wo o lo u ro w p [] q more (pairs_blocks more) l olds v r
     set_step = record {
       accepted = k.accepted;
       site = k.site;
@@ -176,20 +176,20 @@ module _ (disk : Disk) (wo : Site) (o : Pair) (lo : List Slot) (u : Slot) (ro : 
 
     pub taken_by : (change : Tree → Tree) (walk : PathAddresses → PathAddresses) → IsChangedImage disk (thread_at w (p ∷ [])) new (thread_at w (q ∷ more)) change walk
         → IsWritableChange disk (thread_at w (p ∷ [])) new (thread_at w (q ∷ more)) change walk
-    taken_by change walk follows = set_taken disk w p q more l olds (v ∷ []) r set_put new wo o lo u ro (blocks_of_pairs more) v change walk set_step follows
+    taken_by change walk follows = set_taken disk w p q more l olds (v ∷ []) r set_put new wo o lo u ro (pairs_blocks more) v change walk set_step follows
 
     -- ---- the blocks that the image uses
 
-    each_slots : (Q : Slot → Type 0) → All Q (all_slots_not_moved ps) → Each (λ s. Each Q s.content.slots) (dirs_at w (p ∷ []))
+    each_slots : (Q : Slot → Type 0) → All Q (all_unmoved_slots ps) → Each (λ s. Each Q s.content.slots) (dirs_at w (p ∷ []))
     each_slots Q h = each_right (λ (s : Pair). Each Q s.content.slots) w.chain (dirs_at w (p ∷ []))
-        (each_pieces Q (λ (s : Pair). s.content.slots) ps (subst (Each Q) (unmoved_in (pairs_gstate ps) (no_move_from ps k.settled) ps) (recursion_from_All Q (all_slots_not_moved ps) h)))
+        (each_pieces Q (λ (s : Pair). s.content.slots) ps (subst (Each Q) (unmoved_in (pairs_gstate ps) (no_move_from ps k.settled) ps) (recursion_from_All Q (all_unmoved_slots ps) h)))
 
-    these : (Q : Slot → Type 0) → All Q (all_slots_not_moved ps) → Each Q (l ++ (olds ++ r))
+    these : (Q : Slot → Type 0) → All Q (all_unmoved_slots ps) → Each Q (l ++ (olds ++ r))
     these Q h = subst (Each Q) k.was (each_left (λ (s : Pair). Each Q s.content.slots) (p ∷ []) (w.right ++ w.after)
         (each_right (λ (s : Pair). Each Q s.content.slots) (w.before ++ w.left) (p ∷ [] ++ (w.right ++ w.after)) (each_slots Q h))).0
 
-    same_files : SameFiles disk new (all_slots_not_moved ps)
-    same_files = recursion_from_All (λ (s : Slot). SameFileBlocks disk new s.struct) (all_slots_not_moved ps) x.device.files
+    same_files : SameFiles disk new (all_unmoved_slots ps)
+    same_files = recursion_from_All (λ (s : Slot). SameFileBlocks disk new s.struct) (all_unmoved_slots ps) x.device.files
 
     hides : slots_not_moved (gstate_naming sync o.at (length lo)) o ≡ lo ++ ro
     hides = ap (λ b. cond b (remove o.content.slots (length lo)) o.content.slots) (pair_itself o.at) ∙ ap (λ s. remove s (length lo)) k.held ∙ remove_here lo ro u
@@ -198,21 +198,21 @@ module _ (disk : Disk) (wo : Site) (o : Pair) (lo : List Slot) (u : Slot) (ro : 
     hidden_none [] h = refl
     hidden_none (s ∷ ss) h = ap₂ (λ x y. x ++ y) (unmoved_elsewhere (gstate_naming sync o.at (length lo)) s h.0) (hidden_none ss h.1)
 
-    count_slots : (b : ℕ) (xs ys : List Pair) → number_count b (file_blocks new (all_slots (xs ++ ys))) ≡ number_count b (file_blocks new (all_slots xs)) + number_count b (file_blocks new (all_slots ys))
-    count_slots b xs ys = ap (λ z. number_count b (file_blocks new z)) (flat_map-append (λ (s : Pair). s.content.slots) xs ys) ∙ count_files b new (all_slots xs) (all_slots ys)
+    count_slots : (b : ℕ) (xs ys : List Pair) → number_occurrences b (file_blocks new (all_slots (xs ++ ys))) ≡ number_occurrences b (file_blocks new (all_slots xs)) + number_occurrences b (file_blocks new (all_slots ys))
+    count_slots b xs ys = ap (λ z. number_occurrences b (file_blocks new z)) (flat_map-append (λ (s : Pair). s.content.slots) xs ys) ∙ count_files b new (all_slots xs) (all_slots ys)
 
     count_hidden : (b : ℕ) (xs ys : List Pair)
-        → number_count b (file_blocks new (flat_map (slots_not_moved (gstate_naming sync o.at (length lo))) (xs ++ ys))) ≡ number_count b (file_blocks new (flat_map (slots_not_moved (gstate_naming sync o.at (length lo))) xs)) + number_count b (file_blocks new (flat_map (slots_not_moved (gstate_naming sync o.at (length lo))) ys))
-    count_hidden b xs ys = ap (λ z. number_count b (file_blocks new z)) (flat_map-append (slots_not_moved (gstate_naming sync o.at (length lo))) xs ys)
+        → number_occurrences b (file_blocks new (flat_map (slots_not_moved (gstate_naming sync o.at (length lo))) (xs ++ ys))) ≡ number_occurrences b (file_blocks new (flat_map (slots_not_moved (gstate_naming sync o.at (length lo))) xs)) + number_occurrences b (file_blocks new (flat_map (slots_not_moved (gstate_naming sync o.at (length lo))) ys))
+    count_hidden b xs ys = ap (λ z. number_occurrences b (file_blocks new z)) (flat_map-append (slots_not_moved (gstate_naming sync o.at (length lo))) xs ys)
         ∙ count_files b new (flat_map (slots_not_moved (gstate_naming sync o.at (length lo))) xs) (flat_map (slots_not_moved (gstate_naming sync o.at (length lo))) ys)
 
-    pub set_count : (b : ℕ) → number_count b (used_blocks new qs) + number_count b (file_blocks disk olds) ≡ number_count b (blocks_of_pairs more) + number_count b (used_blocks disk ps)
+    pub set_count : (b : ℕ) → number_occurrences b (used_blocks new qs) + number_occurrences b (file_blocks disk olds) ≡ number_occurrences b (pairs_blocks more) + number_occurrences b (used_blocks disk ps)
     set_count b =
         let D : Gstate = gstate_naming sync o.at (length lo) in
-        let hid : List Pair → ℕ = λ z. number_count b (file_blocks new (flat_map (slots_not_moved (gstate_naming sync o.at (length lo))) z)) in
-        let all : List Pair → ℕ = λ z. number_count b (file_blocks new (all_slots z)) in
-        let a1 = count_append b (blocks_of_pairs qs) (file_blocks new (all_slots_not_moved qs)) in
-        let a2 = count_append b (blocks_of_pairs ps) (file_blocks disk (all_slots_not_moved ps)) in
+        let hid : List Pair → ℕ = λ z. number_occurrences b (file_blocks new (flat_map (slots_not_moved (gstate_naming sync o.at (length lo))) z)) in
+        let all : List Pair → ℕ = λ z. number_occurrences b (file_blocks new (all_slots z)) in
+        let a1 = count_append b (pairs_blocks qs) (file_blocks new (all_unmoved_slots qs)) in
+        let a2 = count_append b (pairs_blocks ps) (file_blocks disk (all_unmoved_slots ps)) in
         let b1 = blocks_append w.chain (dirs_at w (q ∷ more)) b in
         let b2 = blocks_append (w.before ++ w.left) (q ∷ more ++ (w.right ++ w.after)) b in
         let b3 = blocks_append (q ∷ more) (w.right ++ w.after) b in
@@ -220,11 +220,11 @@ module _ (disk : Disk) (wo : Site) (o : Pair) (lo : List Slot) (u : Slot) (ro : 
         let b5 = blocks_append (w.before ++ w.left) (p ∷ [] ++ (w.right ++ w.after)) b in
         let b6 = blocks_append (p ∷ []) (w.right ++ w.after) b in
         let b7 = blocks_append (q ∷ []) more b in
-        let at = ap (λ (a : ℕ × ℕ). number_count b (a.0 ∷ a.1 ∷ [])) x.at in
-        let same = ap (number_count b) (slots_files disk new (all_slots_not_moved ps) x.device.geometry same_files) in
-        let plain = ap (λ z. number_count b (file_blocks new z)) (unmoved_in (pairs_gstate ps) (no_move_from ps k.settled) ps) in
-        let now = ap (λ (g : Gstate). number_count b (file_blocks new (flat_map (slots_not_moved g) qs))) state_is in
-        let old_files = ap (number_count b) (slots_files disk new olds x.device.geometry (each_left (λ (s : Slot). SameFileBlocks disk new s.struct) olds r
+        let at = ap (λ (a : ℕ × ℕ). number_occurrences b (a.0 ∷ a.1 ∷ [])) x.at in
+        let same = ap (number_occurrences b) (slots_files disk new (all_unmoved_slots ps) x.device.geometry same_files) in
+        let plain = ap (λ z. number_occurrences b (file_blocks new z)) (unmoved_in (pairs_gstate ps) (no_move_from ps k.settled) ps) in
+        let now = ap (λ (g : Gstate). number_occurrences b (file_blocks new (flat_map (slots_not_moved g) qs))) state_is in
+        let old_files = ap (number_occurrences b) (slots_files disk new olds x.device.geometry (each_left (λ (s : Slot). SameFileBlocks disk new s.struct) olds r
         (each_right (λ (s : Slot). SameFileBlocks disk new s.struct) l (olds ++ r) (these (λ (s : Slot). SameFileBlocks disk new s.struct) x.device.files)))) in
         -- under the move, with the new slot and without it
         let n1 = count_hidden b w.chain (dirs_at w (q ∷ more)) in
@@ -232,30 +232,30 @@ module _ (disk : Disk) (wo : Site) (o : Pair) (lo : List Slot) (u : Slot) (ro : 
         let n3 = count_hidden b (q ∷ more) (w.right ++ w.after) in
         let m2 = count_hidden b (w.before ++ w.left) (p ∷ [] ++ (w.right ++ w.after)) in
         let m3 = count_hidden b (p ∷ []) (w.right ++ w.after) in
-        let q1 = ap (λ z. number_count b (file_blocks new z)) (hidden_none (q ∷ more) (subst (λ at. same_pair o.at at ≡ false) (sym x.at) far_p, far_more) ∙ x.is) in
+        let q1 = ap (λ z. number_occurrences b (file_blocks new z)) (hidden_none (q ∷ more) (subst (λ at. same_pair o.at at ≡ false) (sym x.at) far_p, far_more) ∙ x.is) in
         let q2 = count_files b new l (v ∷ r) in
         let q3 = count_files b new (v ∷ []) r in
-        let p1 = ap (λ z. number_count b (file_blocks new z)) (hidden_none (p ∷ []) (far_p, tt) ∙ append-nil p.content.slots ∙ k.was) in
+        let p1 = ap (λ z. number_occurrences b (file_blocks new z)) (hidden_none (p ∷ []) (far_p, tt) ∙ append-nil p.content.slots ∙ k.was) in
         let p2 = count_files b new l (olds ++ r) in
         let p3 = count_files b new olds r in
         -- the same pairs, around the old slot
-        let t1 = ap (λ z. number_count b (file_blocks new (flat_map (slots_not_moved (gstate_naming sync o.at (length lo))) z))) dirs_same in
+        let t1 = ap (λ z. number_occurrences b (file_blocks new (flat_map (slots_not_moved (gstate_naming sync o.at (length lo))) z))) dirs_same in
         let t2 = count_hidden b front_o (o ∷ back_o) in
         let t3 = count_hidden b (o ∷ []) back_o in
-        let o1 = ap (λ z. number_count b (file_blocks new z)) (append-nil (slots_not_moved (gstate_naming sync o.at (length lo)) o) ∙ hides) in
+        let o1 = ap (λ z. number_occurrences b (file_blocks new z)) (append-nil (slots_not_moved (gstate_naming sync o.at (length lo)) o) ∙ hides) in
         let o2 = count_files b new lo ro in
         -- without the move
         let g1 = count_slots b w.chain (dirs_at w (p ∷ [])) in
-        let g2 = ap (λ z. number_count b (file_blocks new (all_slots z))) dirs_same in
+        let g2 = ap (λ z. number_occurrences b (file_blocks new (all_slots z))) dirs_same in
         let g3 = count_slots b front_o (o ∷ back_o) in
         let g4 = count_slots b (o ∷ []) back_o in
-        let o3 = ap (λ z. number_count b (file_blocks new z)) (append-nil o.content.slots ∙ k.held) in
+        let o3 = ap (λ z. number_occurrences b (file_blocks new z)) (append-nil o.content.slots ∙ k.held) in
         let o4 = count_files b new lo (u ∷ ro) in
         let o5 = count_files b new (u ∷ []) ro in
-        let c1 = ap (λ z. number_count b (file_blocks new z)) (hidden_none w.chain (each_left Far w.chain front_o far_front)) in
-        let c2 = ap (λ z. number_count b (file_blocks new z)) (hidden_none front_o (each_right Far w.chain front_o far_front)) in
-        let c3 = ap (λ z. number_count b (file_blocks new z)) (hidden_none back_o far_back) in
-        let vu = ap (λ z. number_count b (struct_blocks new z ++ [])) k.struct in
+        let c1 = ap (λ z. number_occurrences b (file_blocks new z)) (hidden_none w.chain (each_left Far w.chain front_o far_front)) in
+        let c2 = ap (λ z. number_occurrences b (file_blocks new z)) (hidden_none front_o (each_right Far w.chain front_o far_front)) in
+        let c3 = ap (λ z. number_occurrences b (file_blocks new z)) (hidden_none back_o far_back) in
+        let vu = ap (λ z. number_occurrences b (struct_blocks new z ++ [])) k.struct in
         omega arith
 
 -- ---- to a new name, and onto an entry
@@ -269,13 +269,13 @@ module _ (disk : Disk) (wo : Site) (o : Pair) (lo : List Slot) (u : Slot) (ro : 
       → IsChangedImage disk (thread_at w (p ∷ [])) new (thread_at w (q ∷ more)) (tree_renaming (P ++ u.name ∷ []) (Q ++ v.name ∷ [])) (walk_by (P ++ u.name ∷ []) (Q ++ v.name ∷ []))
   set_new k same_slot off place =
       let step = set_step disk wo o lo u ro w p l [] v r k sync new q more x in
-      move_sets disk new wo o lo u ro w p [] q more (blocks_of_pairs more) l v r step P b leads same_old Q a arrives same same_slot off
-      (hidden_place disk new wo o lo u ro w p q more (blocks_of_pairs more) l v r step P b leads same_old Q a arrives same v.name place)
+      move_sets disk new wo o lo u ro w p [] q more (pairs_blocks more) l v r step P b leads same_old Q a arrives same same_slot off
+      (hidden_place disk new wo o lo u ro w p q more (pairs_blocks more) l v r step P b leads same_old Q a arrives same v.name place)
       (λ e. (recovered_from disk (thread_at w (p ∷ [])) k.accepted k.settled).reached)
 
   pub set_onto : (target : Slot) → is_superblock target ≡ false → IsSetting disk wo o lo u ro w p l (target ∷ []) v r → v ≡ record u { name = target.name }
       → without_prefix (P ++ u.name ∷ []) (Q ++ target.name ∷ []) ≡ None → (sync ≡ false → branch_address target.struct ≡ None)
       → IsChangedImage disk (thread_at w (p ∷ [])) new (thread_at w (q ∷ more)) (tree_renaming (P ++ u.name ∷ []) (Q ++ v.name ∷ [])) (walk_by (P ++ u.name ∷ []) (Q ++ v.name ∷ []))
   set_onto target entry k same_slot off file =
-      move_sets_onto disk new wo o lo u ro w p [] q more (blocks_of_pairs more) l target v r (set_step disk wo o lo u ro w p l (target ∷ []) v r k sync new q more x) entry P b leads same_old Q a arrives same same_slot off
+      move_sets_onto disk new wo o lo u ro w p [] q more (pairs_blocks more) l target v r (set_step disk wo o lo u ro w p l (target ∷ []) v r k sync new q more x) entry P b leads same_old Q a arrives same same_slot off
       (λ e. (file (ap (λ (g : Gstate). g.sync) (sym (state_is disk wo o lo u ro w p l (target ∷ []) v r k sync new q more x)) ∙ e), (recovered_from disk (thread_at w (p ∷ [])) k.accepted k.settled).reached))

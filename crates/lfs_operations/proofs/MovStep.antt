@@ -1,5 +1,5 @@
 -- The first step of a rename across pairs, as a step of the thread, and what the second one makes of it.
-use Rattle.lfs_operations.proofs.Common.{ℕ, ◌≡◌, ◌≢◌, ◌+◌, ◌-◌, ◌<◌, ◌≤◌, ◌⊎◌, inl, inr, Bool, true, false, cond, take, List, [], ◌∷◌, ◌++◌, length, Option, Some, refl, sym, ap, ap₂, subst, ◌∙◌, arith, append_assoc, length-append, get_or, set, remove, le-ltb, lt-ltb, Blocks, AreUsed, Free, InFlight, PairChange, content_after, current_of_two, empty_raw_content, raw_content, block_count, Disk, disk_block, block_entries, Name, HasEither as IsLeftOf, with_blocks, Slot, Gstate, gstate_xor, zero_gstate, same_pair, slot_of, Pair, blocks_of_pairs, pairs_gstate, is_hard_tail, pair_count_before_root, Path, Tree, last_name, tree_renaming, Session, path_or_root, all_directories, all_slots_not_moved, struct_blocks, tree_on_disk, used_blocks, IsAccepted, IsWritable, flat_map, SameSlots, IsChangedImage, rearranged_chain, IsCompletion, number_count, count_append, count_here, once_from_distinct, remove_here, first_pair_addresses, set_rearranged, pair_itself, IsNoDirectory, target_slots, HoldsOfSome, Site, among_left, among_parts, among_right, dirs_at, thread_at, file_blocks, IsWritableChange, IsChain, pairs_behind, OldStays, from_old, two, ends_joined, KeptThread, SameGeometryAs, empty_anchor, thread_pair_at, option_and_then, taken_then, LeftByTurn, IsTurned, ShowsAfterDrops, SameInFlight, CanEndAt, HasEndedAt, dropped_at_end, content_move_ended, follows_hard_tail_of, gstate_naming, pairs_move_ended, number_after_insertion, IsRawFormed, IsReadyImage, KeepsRootBeginning, gstate_without_move}
+use Rattle.lfs_operations.proofs.Common.{ℕ, ◌≡◌, ◌≢◌, ◌+◌, ◌-◌, ◌<◌, ◌≤◌, ◌⊎◌, inl, inr, Bool, true, false, cond, take, List, [], ◌∷◌, ◌++◌, length, Option, Some, refl, sym, ap, ap₂, subst, ◌∙◌, arith, append_assoc, length-append, get_or, set, remove, le-ltb, lt-ltb, Blocks, AreUsed, Free, InFlight, PairChange, content_after, current_of_two, empty_raw_content, raw_content, block_count, Disk, disk_block, block_entries, Name, HasEither as IsLeftOf, with_blocks, Slot, Gstate, gstate_xor, zero_gstate, same_pair, slot_of, Pair, pairs_blocks, pairs_gstate, is_hard_tail, count_before_root, Path, Tree, last_name, tree_renaming, Session, path_or_root, all_directories, all_unmoved_slots, struct_blocks, disk_tree, used_blocks, IsAccepted, IsWritable, flat_map, SameSlots, IsChangedImage, rearranged_chain, CompletesOperation, number_occurrences, count_append, count_here, once_from_distinct, remove_here, directory_addresses, set_rearranged, pair_itself, IsNoDirectory, target_slots, AnyByRecursion, Site, among_left, among_parts, among_right, dirs_at, thread_at, file_blocks, IsWritableChange, IsChain, pairs_behind, OldStays, from_old, two, ends_joined, KeptThread, SameGeometryAs, empty_anchor, thread_pair, option_and_then, taken_then, LeftByPut, ArePut, ShowsDroppedTree, SameInFlight, CanEndAt, HasEndedAt, dropped_at_end, content_move_ended, continues_directory, gstate_naming, pairs_move_ended, number_after_insertion, IsRawFormed, IsReadyImage, KeepsRootNumber, gstate_without_move}
 use Rattle.lfs_model.specs.session.Operations as ops
 use Rattle.lfs_model.proofs.LeftFiles.{ends_same}
 use Rattle.lfs_operations.proofs.Dropped.{HasMapWithout, map_ended}
@@ -21,13 +21,13 @@ only_left [] [] u e = refl
 only_left [] (s ∷ r) u e = absurd (omega arith)
 only_left (s ∷ l) r u e = absurd (let k = length-append l (u ∷ r) in omega arith)
 
-pub blocks_alike : (xs ys : List Pair) → SameSlots xs ys → blocks_of_pairs ys ≡ blocks_of_pairs xs
+pub blocks_alike : (xs ys : List Pair) → SameSlots xs ys → pairs_blocks ys ≡ pairs_blocks xs
 blocks_alike [] [] h = refl
 blocks_alike [] (y ∷ ys) h = absurd h
 blocks_alike (x ∷ xs) [] h = absurd h
 blocks_alike (x ∷ xs) (y ∷ ys) h = ap₂ (λ (at : ℕ × ℕ) (z : List ℕ). at.0 ∷ at.1 ∷ z) h.0 (blocks_alike xs ys h.2)
 
-led_at : (chain pre back : List Pair) (i : ℕ) → IsChain chain (pre ++ back) → i ≡ length chain + length pre → follows_hard_tail_of (chain ++ (pre ++ back)) i ≡ ends_joined false pre
+led_at : (chain pre back : List Pair) (i : ℕ) → IsChain chain (pre ++ back) → i ≡ length chain + length pre → continues_directory (chain ++ (pre ++ back)) i ≡ ends_joined false pre
 led_at chain pre back i is_chain number =
     ap₂ (λ n z. ends_joined false (take (i - n) z)) is_chain (pairs_behind chain (pre ++ back) is_chain)
     ∙ ap (ends_joined false) (take_front pre back (i - length chain) (omega arith))
@@ -42,7 +42,7 @@ pub record IsFirst (t : KeptThread) (sync : Bool) (old_pair : ℕ) (goes : Bool)
   pub setting : IsSetting t.disk wo o lo u ro w p l (target_slots target) v r
   pub chain : wo.chain ≡ w.chain
   pub old_place : old_pair ≡ length wo.chain + length (wo.before ++ wo.left)
-  pub old_is : (thread_pair_at t old_pair).at ≡ o.at
+  pub old_is : (thread_pair t old_pair).at ≡ o.at
   pub logged : IsRawFormed t.disk o.at
   pub same_slot : v ≡ record u { name = name }
   pub follows : (disk : Disk) (q : Pair) (more : List Pair) → HasTurned t.disk w p (l ++ v ∷ r) (gstate_xor (gstate_naming sync o.at (length lo)) p.content.move) disk q more
@@ -66,7 +66,7 @@ module _ {t : KeptThread} {sync : Bool} {old_pair : ℕ} {goes : Bool} {new_pair
   move = gstate_xor (gstate_naming sync o.at (length lo)) p.content.move
 
   abbrev pub after : Tree
-  after = tree_renaming old_path new_path (tree_on_disk t.disk t.pairs)
+  after = tree_renaming old_path new_path (disk_tree t.disk t.pairs)
 
   first_taken : (disk : Disk) (q : Pair) (more : List Pair) → HasTurned t.disk w p slots move disk q more
       → IsWritableChange t.disk (thread_at w (p ∷ [])) disk (thread_at w (q ∷ more)) (tree_renaming old_path new_path) (walk_by old_path new_path)
@@ -74,17 +74,17 @@ module _ {t : KeptThread} {sync : Bool} {old_pair : ℕ} {goes : Bool} {new_pair
 
   -- ---- at a stop in the first step
 
-  pub left_tree : (left : Blocks) → LeftByTurn t new_pair changes left → IsLeftOf (with_blocks left t.disk) (tree_on_disk t.disk t.pairs) (tree_renaming old_path new_path (tree_on_disk t.disk t.pairs))
+  pub left_tree : (left : Blocks) → LeftByPut t new_pair changes left → IsLeftOf (with_blocks left t.disk) (disk_tree t.disk t.pairs) (tree_renaming old_path new_path (disk_tree t.disk t.pairs))
   left_tree left is = go (left_put t new_pair changes w p slots move k.turn (record { used = k.ready.used; size = k.ready.size }) left is)
     where
       go : Stays t new_pair changes w p slots move k.turn (with_blocks left t.disk) ⊎ TurnedOn t w p slots move (with_blocks left t.disk)
-          → IsLeftOf (with_blocks left t.disk) (tree_on_disk t.disk t.pairs) (tree_renaming old_path new_path (tree_on_disk t.disk t.pairs))
-      go (inl d) = left_still t.disk left (thread_at w (p ∷ [])) k.setting.accepted k.setting.writable d (inl (ap (tree_on_disk t.disk) (sym k.turn.there)))
-      go (inr x) = left_after (first_taken (with_blocks left t.disk) x.q x.more x.turned) (inr (ap (λ z. tree_renaming old_path new_path (tree_on_disk t.disk z)) (sym k.turn.there)))
+          → IsLeftOf (with_blocks left t.disk) (disk_tree t.disk t.pairs) (tree_renaming old_path new_path (disk_tree t.disk t.pairs))
+      go (inl d) = left_still t.disk left (thread_at w (p ∷ [])) k.setting.accepted k.setting.writable d (inl (ap (disk_tree t.disk) (sym k.turn.there)))
+      go (inr x) = left_after (first_taken (with_blocks left t.disk) x.q x.more x.turned) (inr (ap (λ z. tree_renaming old_path new_path (disk_tree t.disk z)) (sym k.turn.there)))
 
   -- ---- after the first step
 
-  pub first_turned : (mid : KeptThread) → IsTurned t new_pair changes mid → TurnedTo t w p slots move mid
+  pub first_turned : (mid : KeptThread) → ArePut t new_pair changes mid → TurnedTo t w p slots move mid
   first_turned mid is = put_turned t new_pair changes w p slots move k.turn (record { used = k.ready.used; size = k.ready.size }) mid is
 
   module _ (mid : KeptThread) (x : TurnedTo t w p slots move mid) where
@@ -100,8 +100,8 @@ module _ {t : KeptThread} {sync : Bool} {old_pair : ℕ} {goes : Bool} {new_pair
     taken : IsWritableChange t.disk (thread_at w (p ∷ [])) mid.disk (thread_at w (x.q ∷ x.more)) (tree_renaming old_path new_path) (walk_by old_path new_path)
     taken = first_taken mid.disk x.q x.more x.turned
 
-    pub mid_shows : tree_on_disk mid.disk mid.pairs ≡ tree_renaming old_path new_path (tree_on_disk t.disk t.pairs)
-    mid_shows = ap (tree_on_disk mid.disk) x.pairs ∙ taken.follows.shows ∙ ap (λ z. tree_renaming old_path new_path (tree_on_disk t.disk z)) (sym k.turn.there)
+    pub mid_shows : disk_tree mid.disk mid.pairs ≡ tree_renaming old_path new_path (disk_tree t.disk t.pairs)
+    mid_shows = ap (disk_tree mid.disk) x.pairs ∙ taken.follows.shows ∙ ap (λ z. tree_renaming old_path new_path (disk_tree t.disk z)) (sym k.turn.there)
 
     mid_state : pairs_gstate mid.pairs ≡ gstate_naming sync o.at (length lo)
     mid_state = ap pairs_gstate x.pairs ∙ state_is t.disk wo o lo u ro w p l (target_slots target) v r k.setting sync mid.disk x.q x.more x.turned
@@ -110,9 +110,9 @@ module _ {t : KeptThread} {sync : Bool} {old_pair : ℕ} {goes : Bool} {new_pair
     mid_is = x.pairs ∙ arr.mid_is
 
     mid_chain : IsChain w.chain (arr.pre ++ o ∷ arr.post)
-    mid_chain = ap pair_count_before_root (sym arr.mid_is)
-        ∙ rearranged_chain t.disk mid.disk w.chain (w.before ++ w.left) p [] x.q x.more (w.right ++ w.after) (blocks_of_pairs x.more ++ []) k.setting.site.chain k.setting.accepted
-        (set_rearranged t.disk mid.disk wo o lo u ro w p [] x.q x.more (blocks_of_pairs x.more) l (target_slots target) v r (set_step t.disk wo o lo u ro w p l (target_slots target) v r k.setting sync mid.disk x.q x.more x.turned))
+    mid_chain = ap count_before_root (sym arr.mid_is)
+        ∙ rearranged_chain t.disk mid.disk w.chain (w.before ++ w.left) p [] x.q x.more (w.right ++ w.after) (pairs_blocks x.more ++ []) k.setting.site.chain k.setting.accepted
+        (set_rearranged t.disk mid.disk wo o lo u ro w p [] x.q x.more (pairs_blocks x.more) l (target_slots target) v r (set_step t.disk wo o lo u ro w p l (target_slots target) v r k.setting sync mid.disk x.q x.more x.turned))
 
     -- where the old pair stands
     many : length mid.pairs - length t.pairs ≡ length x.more
@@ -162,16 +162,16 @@ module _ {t : KeptThread} {sync : Bool} {old_pair : ℕ} {goes : Bool} {new_pair
     index_at : number_after_insertion old_pair new_pair (length mid.pairs - length t.pairs) ≡ length (w.chain ++ arr.pre)
     index_at = index_is ∙ sym (length-append w.chain arr.pre)
 
-    here : thread_pair_at mid index ≡ o
+    here : thread_pair mid index ≡ o
     here = ap₂ (λ (z : List Pair) (i : ℕ). get_or z i empty_anchor) grouped index_at ∙ get_at (w.chain ++ arr.pre) o arr.post empty_anchor
 
     -- ---- the old pair isn't written
 
-    both : (b : ℕ) → number_count b (blocks_of_pairs ps) ≡ number_count b (blocks_of_pairs w.chain) + (number_count b (blocks_of_pairs arr.front) + (number_count b (blocks_of_pairs (o ∷ [])) + (number_count b (blocks_of_pairs arr.mid) + (number_count b (blocks_of_pairs (p ∷ [])) + number_count b (blocks_of_pairs arr.back)))))
-    both b = ap (λ z. number_count b (blocks_of_pairs z)) arr.old_is ∙ blocks_append w.chain (two arr.b arr.front (o ∷ []) arr.mid (p ∷ []) arr.back) b ∙ ap (λ n. number_count b (blocks_of_pairs w.chain) + n) (go arr.b)
+    both : (b : ℕ) → number_occurrences b (pairs_blocks ps) ≡ number_occurrences b (pairs_blocks w.chain) + (number_occurrences b (pairs_blocks arr.front) + (number_occurrences b (pairs_blocks (o ∷ [])) + (number_occurrences b (pairs_blocks arr.mid) + (number_occurrences b (pairs_blocks (p ∷ [])) + number_occurrences b (pairs_blocks arr.back)))))
+    both b = ap (λ z. number_occurrences b (pairs_blocks z)) arr.old_is ∙ blocks_append w.chain (two arr.b arr.front (o ∷ []) arr.mid (p ∷ []) arr.back) b ∙ ap (λ n. number_occurrences b (pairs_blocks w.chain) + n) (go arr.b)
       where
-        go : (s : Bool) → number_count b (blocks_of_pairs (two s arr.front (o ∷ []) arr.mid (p ∷ []) arr.back))
-            ≡ number_count b (blocks_of_pairs arr.front) + (number_count b (blocks_of_pairs (o ∷ [])) + (number_count b (blocks_of_pairs arr.mid) + (number_count b (blocks_of_pairs (p ∷ [])) + number_count b (blocks_of_pairs arr.back))))
+        go : (s : Bool) → number_occurrences b (pairs_blocks (two s arr.front (o ∷ []) arr.mid (p ∷ []) arr.back))
+            ≡ number_occurrences b (pairs_blocks arr.front) + (number_occurrences b (pairs_blocks (o ∷ [])) + (number_occurrences b (pairs_blocks arr.mid) + (number_occurrences b (pairs_blocks (p ∷ [])) + number_occurrences b (pairs_blocks arr.back))))
         go true =
             let a = blocks_append arr.front (o ∷ [] ++ (arr.mid ++ (p ∷ [] ++ arr.back))) b in
             let c = blocks_append (o ∷ []) (arr.mid ++ (p ∷ [] ++ arr.back)) b in
@@ -185,14 +185,14 @@ module _ {t : KeptThread} {sync : Bool} {old_pair : ℕ} {goes : Bool} {new_pair
             let e = blocks_append (o ∷ []) arr.back b in
             omega arith
 
-    unwritten : (b : ℕ) → 1 ≤ number_count b (blocks_of_pairs (o ∷ [])) → disk_block mid.disk b ≡ disk_block t.disk b
+    unwritten : (b : ℕ) → 1 ≤ number_occurrences b (pairs_blocks (o ∷ [])) → disk_block mid.disk b ≡ disk_block t.disk b
     unwritten b some = x.turned.same b (
-        let once = once_from_distinct ((blocks_of_pairs x.more ++ []) ++ used_blocks t.disk ps) x.turned.free.distinct b in
-        let c = count_append b (blocks_of_pairs x.more ++ []) (used_blocks t.disk ps) in
-        let d = count_append b (blocks_of_pairs x.more) [] in
-        let e = count_append b (blocks_of_pairs ps) (flat_map (λ s. struct_blocks t.disk s.struct) (all_slots_not_moved ps)) in
+        let once = once_from_distinct ((pairs_blocks x.more ++ []) ++ used_blocks t.disk ps) x.turned.free.distinct b in
+        let c = count_append b (pairs_blocks x.more ++ []) (used_blocks t.disk ps) in
+        let d = count_append b (pairs_blocks x.more) [] in
+        let e = count_append b (pairs_blocks ps) (flat_map (λ s. struct_blocks t.disk s.struct) (all_unmoved_slots ps)) in
         let f = both b in
-        let g = count_append b (blocks_of_pairs x.more) (blocks_of_pairs (p ∷ [])) in
+        let g = count_append b (pairs_blocks x.more) (pairs_blocks (p ∷ [])) in
         omega arith)
 
     raw_same : raw_content mid.disk o.at ≡ raw_content t.disk o.at
@@ -200,14 +200,14 @@ module _ {t : KeptThread} {sync : Bool} {old_pair : ℕ} {goes : Bool} {new_pair
         (unwritten o.at.0 (let e = count_here o.at.0 (o.at.1 ∷ []) in omega arith))
         (unwritten o.at.1 (let e = count_here o.at.1 [] in let f = count_append o.at.1 (o.at.0 ∷ []) (o.at.1 ∷ []) in omega arith)))
 
-    led_same : follows_hard_tail_of mid.pairs index ≡ ends_joined false (wo.before ++ wo.left)
-    led_same = ap (λ z. follows_hard_tail_of z index) mid_is ∙ led_at w.chain arr.pre (o ∷ arr.post) index mid_chain index_is ∙ arr.led
+    led_same : continues_directory mid.pairs index ≡ ends_joined false (wo.before ++ wo.left)
+    led_same = ap (λ z. continues_directory z index) mid_is ∙ led_at w.chain arr.pre (o ∷ arr.post) index mid_chain index_is ∙ arr.led
 
     pub mid_ends : CanEndAt mid (number_after_insertion old_pair new_pair (length mid.pairs - length t.pairs)) (length lo) goes
     mid_ends = record {
       accepted = subst (IsAccepted mid.disk) (sym x.pairs) taken.follows.accepted;
       writable = subst (IsWritable mid.disk) (sym x.pairs) taken.writable;
-      begins = (let e = ap pair_count_before_root mid_is ∙ mid_chain in let f = index_is in omega arith);
+      begins = (let e = ap count_before_root mid_is ∙ mid_chain in let f = index_is in omega arith);
       below = (let e = ap length grouped in let f = length-append (w.chain ++ arr.pre) (o ∷ arr.post) in let g = index_at in omega arith);
       logged = λ raw is. k.logged raw (sym raw_same ∙ ap (λ (z : Pair). raw_content mid.disk z.at) (sym here) ∙ is);
       kind = ap (λ (g : Gstate). g.kind) mid_state;
@@ -227,14 +227,14 @@ module _ {t : KeptThread} {sync : Bool} {old_pair : ℕ} {goes : Bool} {new_pair
       alone = λ goes. (let a = k.alone goes in (led_same ∙ a.0, ap (λ (z : Pair). length z.content.slots) here ∙ a.1));
     }
 
-    pub same_at : (thread_pair_at mid (number_after_insertion old_pair new_pair (length mid.pairs - length t.pairs))).at ≡ (thread_pair_at t old_pair).at
+    pub same_at : (thread_pair mid (number_after_insertion old_pair new_pair (length mid.pairs - length t.pairs))).at ≡ (thread_pair t old_pair).at
     same_at = ap (λ (z : Pair). z.at) here ∙ sym k.old_is
 
     -- ---- after the second step
 
     module _ (last : KeptThread) (e : HasEndedAt mid (number_after_insertion old_pair new_pair (length mid.pairs - length t.pairs)) (length lo) goes last) where
       abbrev o2 : Pair
-      o2 = record { at = (thread_pair_at mid index).at; content = content_move_ended mid index (length lo) }
+      o2 = record { at = (thread_pair mid index).at; content = content_move_ended mid index (length lo) }
 
       slots_left : o2.content.slots ≡ lo ++ ro
       slots_left = ap (λ (z : Pair). remove z.content.slots (length lo)) here ∙ ap (λ z. remove z (length lo)) k.setting.held ∙ remove_here lo ro u
@@ -290,36 +290,36 @@ module _ {t : KeptThread} {sync : Bool} {old_pair : ℕ} {goes : Bool} {new_pair
       last_taken = subst (λ z. IsWritableChange t.disk z last.disk last.pairs (tree_renaming old_path new_path) (walk_by old_path new_path)) (sym k.turn.there)
           (taken_then t.disk mid.disk last.disk (thread_at w (p ∷ [])) (thread_at w (x.q ∷ x.more)) last.pairs (tree_renaming old_path new_path) (λ t. t) (walk_by old_path new_path) (λ d. d) (ends_same (tree_renaming old_path new_path)) taken second)
 
-      pub last_firsts : first_pair_addresses (all_directories last.pairs) ≡ first_pair_addresses (all_directories t.pairs)
-      last_firsts = e.begins ∙ ap (λ z. first_pair_addresses (all_directories z)) x.pairs
-          ∙ set_firsts t.disk mid.disk wo o lo u ro w p [] x.q x.more (blocks_of_pairs x.more) l (target_slots target) v r (set_step t.disk wo o lo u ro w p l (target_slots target) v r k.setting sync mid.disk x.q x.more x.turned)
-          ∙ ap (λ z. first_pair_addresses (all_directories z)) (sym k.turn.there)
+      pub last_firsts : directory_addresses (all_directories last.pairs) ≡ directory_addresses (all_directories t.pairs)
+      last_firsts = e.begins ∙ ap (λ z. directory_addresses (all_directories z)) x.pairs
+          ∙ set_firsts t.disk mid.disk wo o lo u ro w p [] x.q x.more (pairs_blocks x.more) l (target_slots target) v r (set_step t.disk wo o lo u ro w p l (target_slots target) v r k.setting sync mid.disk x.q x.more x.turned)
+          ∙ ap (λ z. directory_addresses (all_directories z)) (sym k.turn.there)
 
       -- a pair stays that isn't one of the two, has no slots and ends its directory
-      pub last_kept : (z : Pair) → (p ≡ z → ⊥) → z.content.slots ≡ [] → is_hard_tail z.content.tail ≡ false → HoldsOfSome (λ y. y ≡ z) t.pairs → HoldsOfSome (λ y. y ≡ z) last.pairs
-      last_kept z other none soft h = e.kept z none soft (subst (HoldsOfSome (λ y. y ≡ z)) (sym x.pairs)
-          (past (among_parts (λ y. y ≡ z) w.chain ((w.before ++ w.left) ++ (p ∷ (w.right ++ w.after))) (subst (HoldsOfSome (λ y. y ≡ z)) k.turn.there h))))
+      pub last_kept : (z : Pair) → (p ≡ z → ⊥) → z.content.slots ≡ [] → is_hard_tail z.content.tail ≡ false → AnyByRecursion (λ y. y ≡ z) t.pairs → AnyByRecursion (λ y. y ≡ z) last.pairs
+      last_kept z other none soft h = e.kept z none soft (subst (AnyByRecursion (λ y. y ≡ z)) (sym x.pairs)
+          (past (among_parts (λ y. y ≡ z) w.chain ((w.before ++ w.left) ++ (p ∷ (w.right ++ w.after))) (subst (AnyByRecursion (λ y. y ≡ z)) k.turn.there h))))
         where
-          behind : HoldsOfSome (λ y. y ≡ z) (p ∷ (w.right ++ w.after)) → HoldsOfSome (λ y. y ≡ z) (thread_at w (x.q ∷ x.more))
+          behind : AnyByRecursion (λ y. y ≡ z) (p ∷ (w.right ++ w.after)) → AnyByRecursion (λ y. y ≡ z) (thread_at w (x.q ∷ x.more))
           behind (inl is) = absurd (other is)
           behind (inr h) = among_right (λ y. y ≡ z) w.chain (dirs_at w (x.q ∷ x.more)) (among_right (λ y. y ≡ z) (w.before ++ w.left) (x.q ∷ x.more ++ (w.right ++ w.after)) (among_right (λ y. y ≡ z) (x.q ∷ x.more) (w.right ++ w.after) h))
 
-          within : HoldsOfSome (λ y. y ≡ z) (w.before ++ w.left) ⊎ HoldsOfSome (λ y. y ≡ z) (p ∷ (w.right ++ w.after)) → HoldsOfSome (λ y. y ≡ z) (thread_at w (x.q ∷ x.more))
+          within : AnyByRecursion (λ y. y ≡ z) (w.before ++ w.left) ⊎ AnyByRecursion (λ y. y ≡ z) (p ∷ (w.right ++ w.after)) → AnyByRecursion (λ y. y ≡ z) (thread_at w (x.q ∷ x.more))
           within (inl h) = among_right (λ y. y ≡ z) w.chain (dirs_at w (x.q ∷ x.more)) (among_left (λ y. y ≡ z) (w.before ++ w.left) (x.q ∷ x.more ++ (w.right ++ w.after)) h)
           within (inr h) = behind h
 
-          past : HoldsOfSome (λ y. y ≡ z) w.chain ⊎ HoldsOfSome (λ y. y ≡ z) ((w.before ++ w.left) ++ (p ∷ (w.right ++ w.after))) → HoldsOfSome (λ y. y ≡ z) (thread_at w (x.q ∷ x.more))
+          past : AnyByRecursion (λ y. y ≡ z) w.chain ⊎ AnyByRecursion (λ y. y ≡ z) ((w.before ++ w.left) ++ (p ∷ (w.right ++ w.after))) → AnyByRecursion (λ y. y ≡ z) (thread_at w (x.q ∷ x.more))
           past (inl h) = among_left (λ y. y ≡ z) w.chain (dirs_at w (x.q ∷ x.more)) h
           past (inr h) = within (among_parts (λ y. y ≡ z) (w.before ++ w.left) (p ∷ (w.right ++ w.after)) h)
 
       pub last_shape : SameGeometryAs t.disk last.disk
       last_shape = record { block_size = e.shape.block_size ∙ x.shape.block_size; page = e.shape.page ∙ x.shape.page; order = e.shape.order ∙ x.shape.order; profile = e.shape.profile ∙ x.shape.profile; count = e.shape.count ∙ x.shape.count }
 
-      pub rename_completed : sync ≡ false → (s : Session) (old_bytes new_bytes : List ℕ) → s.tree ≡ tree_on_disk t.disk t.pairs → path_or_root old_bytes ≡ old_path → path_or_root new_bytes ≡ new_path
-          → IsCompletion t.disk t.pairs s (ops.Rename old_bytes new_bytes) last.disk last.pairs
-      rename_completed plain s old_bytes new_bytes tree old_as new_as = subst (λ z. IsCompletion t.disk z s (ops.Rename old_bytes new_bytes) last.disk last.pairs) (sym k.turn.there)
+      pub rename_completed : sync ≡ false → (s : Session) (old_bytes new_bytes : List ℕ) → s.tree ≡ disk_tree t.disk t.pairs → path_or_root old_bytes ≡ old_path → path_or_root new_bytes ≡ new_path
+          → CompletesOperation t.disk t.pairs s (ops.Rename old_bytes new_bytes) last.disk last.pairs
+      rename_completed plain s old_bytes new_bytes tree old_as new_as = subst (λ z. CompletesOperation t.disk z s (ops.Rename old_bytes new_bytes) last.disk last.pairs) (sym k.turn.there)
           (completed t.disk mid.disk last.disk wo o lo u ro w p l target v r k.setting x.q x.more sync x.turned name k.same_slot old_path new_path (walk_by old_path new_path) taken.follows
-          left_over.os last.pairs left_over.stays left_over.alike second (settled_last plain) k.from_slot k.to_slot k.to_name (k.file plain) s old_bytes new_bytes (tree ∙ ap (tree_on_disk t.disk) k.turn.there) old_as new_as)
+          left_over.os last.pairs left_over.stays left_over.alike second (settled_last plain) k.from_slot k.to_slot k.to_name (k.file plain) s old_bytes new_bytes (tree ∙ ap (disk_tree t.disk) k.turn.there) old_as new_as)
 
       -- ---- the map
 
@@ -329,29 +329,29 @@ module _ {t : KeptThread} {sync : Bool} {old_pair : ℕ} {goes : Bool} {new_pair
       abbrev kept : List ℕ
       kept = used_blocks last.disk last.pairs ++ gone
 
-      before_last : (b : ℕ) → number_count b kept + number_count b (dropped_at_end mid index goes) ≡ number_count b (blocks_of_pairs x.more ++ used_blocks t.disk t.pairs)
+      before_last : (b : ℕ) → number_occurrences b kept + number_occurrences b (dropped_at_end mid index goes) ≡ number_occurrences b (pairs_blocks x.more ++ used_blocks t.disk t.pairs)
       before_last b =
           let a = e.blocks b in
-          let c = ap (λ z. number_count b (used_blocks mid.disk z)) x.pairs in
+          let c = ap (λ z. number_occurrences b (used_blocks mid.disk z)) x.pairs in
           let d = set_count t.disk wo o lo u ro w p l (target_slots target) v r k.setting sync mid.disk x.q x.more x.turned b in
-          let f = ap (λ z. number_count b (used_blocks t.disk z)) k.turn.there in
-          let g = count_append b (blocks_of_pairs x.more) (used_blocks t.disk t.pairs) in
+          let f = ap (λ z. number_occurrences b (used_blocks t.disk z)) k.turn.there in
+          let g = count_append b (pairs_blocks x.more) (used_blocks t.disk t.pairs) in
           let h = count_append b (used_blocks last.disk last.pairs) (file_blocks t.disk (target_slots target)) in
           omega arith
 
-      once_before : (b : ℕ) → number_count b (blocks_of_pairs x.more ++ used_blocks t.disk t.pairs) ≤ 1
+      once_before : (b : ℕ) → number_occurrences b (pairs_blocks x.more ++ used_blocks t.disk t.pairs) ≤ 1
       once_before b =
-          let once = once_from_distinct ((blocks_of_pairs x.more ++ []) ++ used_blocks t.disk ps) x.turned.free.distinct b in
-          let c = count_append b (blocks_of_pairs x.more ++ []) (used_blocks t.disk ps) in
-          let d = count_append b (blocks_of_pairs x.more) [] in
-          let f = ap (λ z. number_count b (used_blocks t.disk z)) k.turn.there in
-          let g = count_append b (blocks_of_pairs x.more) (used_blocks t.disk t.pairs) in
+          let once = once_from_distinct ((pairs_blocks x.more ++ []) ++ used_blocks t.disk ps) x.turned.free.distinct b in
+          let c = count_append b (pairs_blocks x.more ++ []) (used_blocks t.disk ps) in
+          let d = count_append b (pairs_blocks x.more) [] in
+          let f = ap (λ z. number_occurrences b (used_blocks t.disk z)) k.turn.there in
+          let g = count_append b (pairs_blocks x.more) (used_blocks t.disk t.pairs) in
           omega arith
 
       map_is : HasMapWithout mid.map last.map (used_blocks last.disk last.pairs ++ file_blocks t.disk (target_slots target))
-      map_is = map_ended mid index goes (blocks_of_pairs x.more ++ used_blocks t.disk t.pairs) kept (x.used (used_blocks t.disk t.pairs) k.ready.used) once_before before_last last.map e.map
+      map_is = map_ended mid index goes (pairs_blocks x.more ++ used_blocks t.disk t.pairs) kept (x.used (used_blocks t.disk t.pairs) k.ready.used) once_before before_last last.map e.map
 
-      pub rename_once : (b : ℕ) → number_count b (used_blocks last.disk last.pairs) + number_count b (file_blocks t.disk (target_slots target)) ≤ 1
+      pub rename_once : (b : ℕ) → number_occurrences b (used_blocks last.disk last.pairs) + number_occurrences b (file_blocks t.disk (target_slots target)) ≤ 1
       rename_once b =
           let a = before_last b in
           let c = once_before b in
@@ -371,10 +371,10 @@ module _ {t : KeptThread} {sync : Bool} {old_pair : ℕ} {goes : Bool} {new_pair
       )
 
       -- the root directory begins where it did
-      pub last_root : KeepsRootBeginning t last
-      last_root = e.root ∙ ap pair_count_before_root mid_is ∙ mid_chain ∙ sym (ap pair_count_before_root k.turn.there ∙ k.setting.site.chain)
+      pub last_root : KeepsRootNumber t last
+      last_root = e.root ∙ ap count_before_root mid_is ∙ mid_chain ∙ sym (ap count_before_root k.turn.there ∙ k.setting.site.chain)
 
-      pub rename_becomes : sync ≡ false → ShowsAfterDrops t last (tree_renaming old_path new_path (tree_on_disk t.disk t.pairs)) (file_blocks t.disk (target_slots target))
+      pub rename_becomes : sync ≡ false → ShowsDroppedTree t last (tree_renaming old_path new_path (disk_tree t.disk t.pairs)) (file_blocks t.disk (target_slots target))
       rename_becomes plain = record {
         ready = record {
           accepted = e.taken.follows.accepted;

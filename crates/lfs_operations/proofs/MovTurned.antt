@@ -1,5 +1,5 @@
 -- A pair of an accepted image that is changed, or split, and gets any delta of the global state.
-use Rattle.lfs_operations.proofs.Common.{ℕ, zero, suc, ◌≡◌, ◌+◌, ◌<◌, ◌≤◌, ◌⊎◌, inl, inr, Bool, true, false, cond, eqb-true, nat_eq, List, [], ◌∷◌, ◌++◌, length, take, drop, Some, refl, sym, ap, subst, ◌∙◌, arith, append-nil, slice_get, IsDistinct, same_Some, take-append-drop, All-from_recursion, recursion_from_All, Blocks, AreUsed, BlockStates, IsFree, IsInFlight, PairChange, content_at, current_block, Disk, block_count, with_blocks, Slot, PairContent, Gstate, FitsInPair, gstate_xor, pair_with_slots, Pair, blocks_of_pairs, pairs_gstate, BeginsWith, superblock_entry, IsAccepted, used_blocks, fits_same, each_right, number_count, gstate_cons, gstate_left, gstate_right, Site, thread_at, IsSite, IsDevice, HasFirst, KeepsOutsideBoth, KeptThread, thread_pair_at, complete_after, pairs_with, BothOnDisk, SameGeometryAs, HasOldPair, IsPairCommitted, LossLeavesPairChanged, IsPairWritten, BeginWithSuperblock, split_front_pair, split_back_pair, PartsFitPairs, All, AreTwoFree, IsSplitInto, LeftByTurn, IsTurned, ChangeIsTooLarge, HasNoneNew, KeepsTakenStates}
+use Rattle.lfs_operations.proofs.Common.{ℕ, zero, suc, ◌≡◌, ◌+◌, ◌<◌, ◌≤◌, ◌⊎◌, inl, inr, Bool, true, false, cond, eqb-true, nat_eq, List, [], ◌∷◌, ◌++◌, length, take, drop, Some, refl, sym, ap, subst, ◌∙◌, arith, append-nil, slice_get, IsDistinct, same_Some, take-append-drop, All-from_recursion, recursion_from_All, Blocks, AreUsed, BlockStates, IsFree, IsInFlight, PairChange, content_at, current_block, Disk, block_count, with_blocks, Slot, PairContent, Gstate, FitsInPair, gstate_xor, pair_with_slots, Pair, pairs_blocks, pairs_gstate, BeginsWith, superblock_entry, IsAccepted, used_blocks, fits_same, each_right, number_occurrences, gstate_cons, gstate_left, gstate_right, Site, thread_at, IsSite, IsDevice, HasFirst, KeepsOutsideBoth, KeptThread, thread_pair, complete_after, pairs_with, BothOnDisk, SameGeometryAs, HasOldPair, IsPairCommitted, LossLeavesPair, IsPairWritten, BeginWithSuperblock, front_pair, back_pair, PartsFit, All, AreTwoFree, IsSplitInto, LeftByPut, ArePut, OverfillsPair, HasNoneNew, KeepsTakenStates}
 use Rattle.lfs_operations.proofs.Owning.{length_now, none_comes_now, stay_taken, used_more}
 use Rattle.lfs_operations.proofs.Placing.{IsPlaced, device}
 use Rattle.lfs_operations.proofs.Threads as thread
@@ -15,12 +15,12 @@ cut_front at c cut fresh = record { at = at; content = record { slots = take cut
 -- both parts are on the disk
 pub record AreOn (t : KeptThread) (index : ℕ) (content : PairContent) (disk : Disk) (fresh : ℕ × ℕ) (cut : ℕ) : Type 0 where
   pub shape : SameGeometryAs t.disk disk
-  pub others : KeepsOutsideBoth (thread_pair_at t index).at fresh t.disk.blocks disk.blocks
-  pub front : content_at disk (thread_pair_at t index).at ≡ Some (split_front_pair t index content cut fresh).content
-  pub back : content_at disk fresh ≡ Some (split_back_pair content cut fresh).content
-  pub parts : PartsFitPairs t index content cut fresh disk
+  pub others : KeepsOutsideBoth (thread_pair t index).at fresh t.disk.blocks disk.blocks
+  pub front : content_at disk (thread_pair t index).at ≡ Some (front_pair t index content cut fresh).content
+  pub back : content_at disk fresh ≡ Some (back_pair content cut fresh).content
+  pub parts : PartsFit t index content cut fresh disk
 
-of_fresh : (sets : BlockStates) (fresh : ℕ × ℕ) → AreTwoFree sets fresh → (b : ℕ) → 1 ≤ number_count b (fresh.0 ∷ fresh.1 ∷ []) → IsFree sets b
+of_fresh : (sets : BlockStates) (fresh : ℕ × ℕ) → AreTwoFree sets fresh → (b : ℕ) → 1 ≤ number_occurrences b (fresh.0 ∷ fresh.1 ∷ []) → IsFree sets b
 of_fresh sets fresh two b some = go (nat_eq b fresh.0) (nat_eq b fresh.1) refl refl some
   where
     go : (x y : Bool) → nat_eq b fresh.0 ≡ x → nat_eq b fresh.1 ≡ y → 1 ≤ cond x 1 0 + (cond y 1 0 + 0) → IsFree sets b
@@ -50,7 +50,7 @@ pub record TurnedOn (t : KeptThread) (w : Site) (p : Pair) (slots : List Slot) (
   pub q : Pair
   pub more : List Pair
   pub turned : HasTurned t.disk w p slots move disk q more
-  pub fresh : (b : ℕ) → 1 ≤ number_count b (blocks_of_pairs more) → IsFree t.map b
+  pub fresh : (b : ℕ) → 1 ≤ number_occurrences b (pairs_blocks more) → IsFree t.map b
 
 -- so do the thread and the map say
 pub record TurnedTo (t : KeptThread) (w : Site) (p : Pair) (slots : List Slot) (move : Gstate) (new : KeptThread) : Type 0 where
@@ -58,12 +58,12 @@ pub record TurnedTo (t : KeptThread) (w : Site) (p : Pair) (slots : List Slot) (
   pub more : List Pair
   pub turned : HasTurned t.disk w p slots move new.disk q more
   pub pairs : new.pairs ≡ thread_at w (q ∷ more)
-  pub used : (owned : List ℕ) → AreUsed t.map owned → AreUsed new.map (blocks_of_pairs more ++ owned)
+  pub used : (owned : List ℕ) → AreUsed t.map owned → AreUsed new.map (pairs_blocks more ++ owned)
   pub size : length new.map ≡ length t.map
   pub shape : SameGeometryAs t.disk new.disk
   pub stays : KeepsTakenStates t.map new.map
   pub none_comes : HasNoneNew t.map new.map
-  pub fresh : (b : ℕ) → 1 ≤ number_count b (blocks_of_pairs more) → IsFree t.map b
+  pub fresh : (b : ℕ) → 1 ≤ number_occurrences b (pairs_blocks more) → IsFree t.map b
 
 -- the pair alone, as what a change of it comes to
 pub record ChangedOne (t : KeptThread) (index : ℕ) (w : Site) (p : Pair) (slots : List Slot) (move : Gstate) (new : KeptThread) : Type 0 where
@@ -83,10 +83,10 @@ module _ (t : KeptThread) (index : ℕ) (changes : List PairChange) (w : Site) (
   pub accepted : IsAccepted t.disk ps
   accepted = subst (IsAccepted t.disk) k.there k.accepted
 
-  pub pair_is : thread_pair_at t index ≡ p
+  pub pair_is : thread_pair t index ≡ p
   pair_is = thread.pair_is t index w p k.there k.place
 
-  at_is : (thread_pair_at t index).at ≡ p.at
+  at_is : (thread_pair t index).at ≡ p.at
   at_is = ap (λ (z : Pair). z.at) pair_is
 
   front_has : (cut : ℕ) → 0 < cut → HasFirst p.content.slots → BeginWithSuperblock (take cut slots)
@@ -99,7 +99,7 @@ module _ (t : KeptThread) (index : ℕ) (changes : List PairChange) (w : Site) (
 
   -- ---- on the disk
 
-  placed_two : (disk : Disk) (fresh : ℕ × ℕ) (cut : ℕ) → 0 < cut → AreOn t index c disk fresh cut → IsPlaced t.disk disk p (cut_front p.at c cut fresh) (split_back_pair c cut fresh ∷ []) (fresh.0 ∷ fresh.1 ∷ [])
+  placed_two : (disk : Disk) (fresh : ℕ × ℕ) (cut : ℕ) → 0 < cut → AreOn t index c disk fresh cut → IsPlaced t.disk disk p (cut_front p.at c cut fresh) (back_pair c cut fresh ∷ []) (fresh.0 ∷ fresh.1 ∷ [])
   placed_two disk fresh cut some is = record {
     geometry = shape_same t index w p k.there k.place is.shape;
     same = same_four t index w p k.there k.place disk fresh is.others;
@@ -127,7 +127,7 @@ module _ (t : KeptThread) (index : ℕ) (changes : List PairChange) (w : Site) (
   }
 
   turned_two : IsMapped t → (disk : Disk) (fresh : ℕ × ℕ) (cut : ℕ) → AreTwoFree t.map fresh → (FitsInPair t.disk.block_size t.disk.page c → ⊥) → AreOn t index c disk fresh cut
-      → HasTurned t.disk w p slots move disk (cut_front p.at c cut fresh) (split_back_pair c cut fresh ∷ [])
+      → HasTurned t.disk w p slots move disk (cut_front p.at c cut fresh) (back_pair c cut fresh ∷ [])
   turned_two m disk fresh cut two large is = record {
     at = refl;
     delta = gstate_cons front (back ∷ []) ∙ ap (gstate_xor move) (gstate_cons back [] ∙ gstate_left (pairs_gstate [])) ∙ gstate_right move;
@@ -145,12 +145,12 @@ module _ (t : KeptThread) (index : ℕ) (changes : List PairChange) (w : Site) (
       front = cut_front p.at (content_with p slots move) cut fresh
 
       back : Pair
-      back = split_back_pair (content_with p slots move) cut fresh
+      back = back_pair (content_with p slots move) cut fresh
 
   made_same : (d : PairContent) → complete_after t index changes ≡ Some d → d ≡ c
   made_same d m = same_Some d c (sym m ∙ k.made)
 
-  too_large : ChangeIsTooLarge t index changes → FitsInPair t.disk.block_size t.disk.page c → ⊥
+  too_large : OverfillsPair t index changes → FitsInPair t.disk.block_size t.disk.page c → ⊥
   too_large large = subst (λ d. FitsInPair t.disk.block_size t.disk.page d → ⊥) (made_same large.0 large.1.0) large.1.1
 
   pub changed_one : (new : KeptThread) → IsPairCommitted t index changes new → ChangedOne t index w p slots move new
@@ -180,22 +180,22 @@ module _ (t : KeptThread) (index : ℕ) (changes : List PairChange) (w : Site) (
         fresh = λ b some. absurd (omega arith);
       }
 
-  cut_turned : IsMapped t → (new : KeptThread) (fresh : ℕ × ℕ) → ChangeIsTooLarge t index changes → IsSplitInto t index fresh changes new → TurnedTo t w p slots move new
+  cut_turned : IsMapped t → (new : KeptThread) (fresh : ℕ × ℕ) → OverfillsPair t index changes → IsSplitInto t index fresh changes new → TurnedTo t w p slots move new
   cut_turned m new fresh large is =
       let same = made_same is.content is.made in
-      let there : new.pairs ≡ thread_at w (split_front_pair t index is.content is.cut fresh ∷ split_back_pair is.content is.cut fresh ∷ [])
-      = is.pairs ∙ two_now t index w p k.there k.place (split_front_pair t index is.content is.cut fresh) (split_back_pair is.content is.cut fresh) in
-      let held = recursion_from_All (λ (x : Pair). content_at new.disk x.at ≡ Some x.content) (thread_at w (split_front_pair t index is.content is.cut fresh ∷ split_back_pair is.content is.cut fresh ∷ []))
+      let there : new.pairs ≡ thread_at w (front_pair t index is.content is.cut fresh ∷ back_pair is.content is.cut fresh ∷ [])
+      = is.pairs ∙ two_now t index w p k.there k.place (front_pair t index is.content is.cut fresh) (back_pair is.content is.cut fresh) in
+      let held = recursion_from_All (λ (x : Pair). content_at new.disk x.at ≡ Some x.content) (thread_at w (front_pair t index is.content is.cut fresh ∷ back_pair is.content is.cut fresh ∷ []))
       (subst (All (λ (x : Pair). content_at new.disk x.at ≡ Some x.content)) there is.thread.contents) in
-      let here = each_right (λ (x : Pair). content_at new.disk x.at ≡ Some x.content) (w.before ++ w.left) (split_front_pair t index is.content is.cut fresh ∷ split_back_pair is.content is.cut fresh ∷ [] ++ (w.right ++ w.after))
-      (each_right (λ (x : Pair). content_at new.disk x.at ≡ Some x.content) w.chain ((w.before ++ w.left) ++ (split_front_pair t index is.content is.cut fresh ∷ split_back_pair is.content is.cut fresh ∷ [] ++ (w.right ++ w.after))) held) in
+      let here = each_right (λ (x : Pair). content_at new.disk x.at ≡ Some x.content) (w.before ++ w.left) (front_pair t index is.content is.cut fresh ∷ back_pair is.content is.cut fresh ∷ [] ++ (w.right ++ w.after))
+      (each_right (λ (x : Pair). content_at new.disk x.at ≡ Some x.content) w.chain ((w.before ++ w.left) ++ (front_pair t index is.content is.cut fresh ∷ back_pair is.content is.cut fresh ∷ [] ++ (w.right ++ w.after))) held) in
       let on = subst (λ d. AreOn t index d new.disk fresh is.cut) same (record { shape = is.shape; others = is.others; front = here.0; back = here.1.0; parts = is.parts }) in
-      let f = split_back_pair c is.cut fresh in
+      let f = back_pair c is.cut fresh in
       record {
         q = cut_front p.at c is.cut fresh;
         more = f ∷ [];
         turned = turned_two m new.disk fresh is.cut is.free (too_large large) on;
-        pairs = there ∙ ap (λ d. thread_at w (split_front_pair t index d is.cut fresh ∷ split_back_pair d is.cut fresh ∷ [])) same
+        pairs = there ∙ ap (λ d. thread_at w (front_pair t index d is.cut fresh ∷ back_pair d is.cut fresh ∷ [])) same
             ∙ ap (λ at. thread_at w (cut_front at c is.cut fresh ∷ f ∷ [])) at_is;
         used = λ owned h. subst (λ m. AreUsed m (fresh.0 ∷ fresh.1 ∷ owned)) (sym is.map) (used_more t.map fresh is.free owned (fresh.0 ∷ fresh.1 ∷ owned) (λ b. omega arith) h);
         size = ap length is.map ∙ length_now t.map fresh is.free;
@@ -205,7 +205,7 @@ module _ (t : KeptThread) (index : ℕ) (changes : List PairChange) (w : Site) (
         fresh = λ b some. of_fresh t.map fresh is.free b some;
       }
 
-  pub put_turned : IsMapped t → (new : KeptThread) → IsTurned t index changes new → TurnedTo t w p slots move new
+  pub put_turned : IsMapped t → (new : KeptThread) → ArePut t index changes new → TurnedTo t w p slots move new
   put_turned m new (inl is) = changed_turned new is
   put_turned m new (inr (large, (fresh, is))) = cut_turned m new fresh large is
 
@@ -217,11 +217,11 @@ module _ (t : KeptThread) (index : ℕ) (changes : List PairChange) (w : Site) (
   shape_of : (left : Blocks) → length left ≡ length t.disk.blocks → SameGeometryAs t.disk (with_blocks left t.disk)
   shape_of left e = record { block_size = refl; page = refl; order = refl; profile = refl; count = e }
 
-  pub left_alone : (left : Blocks) → LossLeavesPairChanged t index changes left
+  pub left_alone : (left : Blocks) → LossLeavesPair t index changes left
       → Stays (with_blocks left t.disk) ⊎ HasTurned t.disk w p slots move (with_blocks left t.disk) (record { at = p.at; content = content_with p slots move }) []
   left_alone left is = go is.is
     where
-      go : (is.content ≡ (thread_pair_at t index).content) ⊎ ((complete_after t index changes ≡ Some is.content) × FitsInPair t.disk.block_size t.disk.page is.content)
+      go : (is.content ≡ (thread_pair t index).content) ⊎ ((complete_after t index changes ≡ Some is.content) × FitsInPair t.disk.block_size t.disk.page is.content)
           → Stays (with_blocks left t.disk) ⊎ HasTurned t.disk w p slots move (with_blocks left t.disk) (record { at = p.at; content = content_with p slots move }) []
       go (inl e) =
           let same = e ∙ ap (λ (z : Pair). z.content) pair_is in
@@ -235,7 +235,7 @@ module _ (t : KeptThread) (index : ℕ) (changes : List PairChange) (w : Site) (
   alone_on disk (inl d) = inl d
   alone_on disk (inr x) = inr (record { q = record { at = p.at; content = content_with p slots move }; more = []; turned = x; fresh = λ b some. absurd (omega arith) })
 
-  pub left_put : IsMapped t → (left : Blocks) → LeftByTurn t index changes left → Stays (with_blocks left t.disk) ⊎ TurnedOn t w p slots move (with_blocks left t.disk)
+  pub left_put : IsMapped t → (left : Blocks) → LeftByPut t index changes left → Stays (with_blocks left t.disk) ⊎ TurnedOn t w p slots move (with_blocks left t.disk)
   left_put m left (inl is) = alone_on (with_blocks left t.disk) (left_alone left is)
   left_put m left (inr (large, (fresh, (two, is)))) = go is.content
     where
@@ -246,7 +246,7 @@ module _ (t : KeptThread) (index : ℕ) (changes : List PairChange) (w : Site) (
           let same = made_same h.content h.made in
           inr (record {
             q = cut_front p.at (content_with p slots move) h.cut fresh;
-            more = split_back_pair (content_with p slots move) h.cut fresh ∷ [];
+            more = back_pair (content_with p slots move) h.cut fresh ∷ [];
             turned = turned_two m (with_blocks left t.disk) fresh h.cut two (too_large large)
                 (subst (λ d. AreOn t index d (with_blocks left t.disk) fresh h.cut) same
                 (record { shape = shape_of left is.others.count; others = is.others; front = h.front; back = h.back; parts = h.parts }));

@@ -1,5 +1,5 @@
 -- A rename across pairs onto an empty directory: where the directory's pair stands after the move, and what the last step comes to.
-use Rattle.lfs_operations.proofs.Common.{ℕ, zero, suc, ◌≡◌, ◌≢◌, ◌<◌, ◌⊎◌, inl, inr, ◌-◌, Bool, true, false, cond, nat_eq, slice_get, take, List, [], ◌∷◌, ◌++◌, length, map, Some, None, sym, ap, ap₂, subst, ◌∙◌, arith, append_assoc, append-nil, refl, AllByRecursion, IsDistinct, recursion_from_All, same_Some, last_name, tree_renaming, without_prefix, Blocks, PairChange, IsPairAt, IsPlaceOf, FitsPair, IsDirectoryGone, Name, HasEither as IsLeftOf, with_blocks, slot_of, pair_with_slots, Branch, Ctz, Inline, Slot, Struct, gstate_xor, zero_gstate, same_pair, path_or_root, ThreadDirectory, Pair, anchor_address, blocks_of_pairs, pairs_from_root, first_address, pairs_gstate, root_address, pair_count_before_root, Path, branch_address, address_at_path, HasNoEmpties, IsWritable, IsAccepted, IsReachedBySome, LeadsTo, all_directories, all_entries, tree_on_disk, used_blocks, SameSlots, IsChangedImage, IsCompletion, no_move_from, recovered_from, Each, number_count, count_append, each_right, each_weaker, HasDirectory, chain_of_thread, site_shows, NoneGoes, joined_parts, none_where, rest_all, entry_only, get_here, place_at, shown_before, shown_behind, some_filled, pair_itself, pair_on, last_is, Gains, Keeps, Piece, Stays, olds_of, segment_of, renamed_addresses, IsReplaced, avoids_behind, avoids_front, same, site, slot_of_stands, drafts_of, parts_of, HoldsOfSome, Site, begin_of, dirs_at, thread_at, file_blocks, IsWritableChange, IsChain, pairs_behind, OldStays, from_old, two, KeptThread, empty_anchor, thread_pair_at, HasNoMove, Any, BeginsAt, all_at_firsts, begins_at_firsts, CanDropAt, IsPairDropped, LeftByDrop, CanEditIn, HasEndedAt, gstate_naming, IsPutEnded, number_after_insertion, IsRenamedAcross, tree_moved, CanReplaceDirectoryOver, IsMovedAcross, entry_over_changes, drops_with_its_slot}
+use Rattle.lfs_operations.proofs.Common.{ℕ, zero, suc, ◌≡◌, ◌≢◌, ◌<◌, ◌⊎◌, inl, inr, ◌-◌, Bool, true, false, cond, nat_eq, slice_get, take, List, [], ◌∷◌, ◌++◌, length, map, Some, None, sym, ap, ap₂, subst, ◌∙◌, arith, append_assoc, append-nil, refl, AllByRecursion, IsDistinct, recursion_from_All, same_Some, last_name, tree_renaming, without_prefix, Blocks, PairChange, IsPairAt, IsPlaceOf, FitsPair, IsDirectoryGone, Name, HasEither as IsLeftOf, with_blocks, slot_of, pair_with_slots, Branch, Ctz, Inline, Slot, Struct, gstate_xor, zero_gstate, same_pair, path_or_root, ThreadDirectory, Pair, anchor_address, pairs_blocks, pairs_from_root, first_address, pairs_gstate, root_address, count_before_root, Path, branch_address, address_at_path, HasNoEmpties, IsWritable, IsAccepted, IsReachedBySome, LeadsTo, all_directories, all_entries, disk_tree, used_blocks, SameSlots, IsChangedImage, CompletesOperation, no_move_from, recovered_from, Each, number_occurrences, count_append, each_right, each_weaker, HasDirectory, chain_of_thread, site_shows, NoneGoes, joined_parts, none_where, rest_all, entry_only, get_here, place_at, shown_before, shown_behind, some_filled, pair_itself, pair_on, last_is, Gains, Keeps, Piece, Stays, olds_of, segment_of, renamed_addresses, IsReplaced, avoids_behind, avoids_front, same, site, slot_of_stands, drafts_of, parts_of, AnyByRecursion, Site, begin_of, dirs_at, thread_at, file_blocks, IsWritableChange, IsChain, pairs_behind, OldStays, from_old, two, KeptThread, empty_anchor, thread_pair, HasNoMove, Any, BeginsAt, all_at_firsts, begins_at_firsts, CanDropAt, IsPairDropped, LeftByDrop, CanEditIn, HasEndedAt, gstate_naming, IsPutEnded, number_after_insertion, IsRenamedAcross, tree_moved, CanReplaceDirectoryAcross, IsMovedAcross, entry_across_changes, drops_with_its_slot}
 use Rattle.lfs_model.specs.session.TreeEdits.{same_path}
 use Rattle.lfs_model.specs.session.Layout.{slot_addresses, removed_addresses}
 use Rattle.lfs_model.specs.session.Operations as ops
@@ -22,25 +22,25 @@ use Rattle.lfs_operations.proofs.LastDrop.{IsAllButDropped, alike_end, can_drop_
 
 -- ---- lists
 
-among_there : (xs : List Pair) (k : ℕ) (o : Pair) → slice_get xs k ≡ Some o → HoldsOfSome (λ y. y ≡ o) xs
+among_there : (xs : List Pair) (k : ℕ) (o : Pair) → slice_get xs k ≡ Some o → AnyByRecursion (λ y. y ≡ o) xs
 among_there [] k o e = absurd (cc)
 among_there (x ∷ xs) zero o e = inl (same_Some x o e)
 among_there (x ∷ xs) (suc k) o e = inr (among_there xs k o e)
 
-somewhere : (xs : List Pair) (o : Pair) → HoldsOfSome (λ y. y ≡ o) xs → (k : ℕ) × (slice_get xs k ≡ Some o)
+somewhere : (xs : List Pair) (o : Pair) → AnyByRecursion (λ y. y ≡ o) xs → (k : ℕ) × (slice_get xs k ≡ Some o)
 somewhere [] o h = absurd h
 somewhere (x ∷ xs) o (inl e) = (0, ap Some e)
 somewhere (x ∷ xs) o (inr h) = let s = somewhere xs o h in (suc s.0, s.1)
 
-pub old_below : (t : KeptThread) (old_pair old_id first new_pair new_id : ℕ) (name : Name) (gone : ℕ) → CanReplaceDirectoryOver t old_pair old_id first new_pair new_id name gone → old_pair < length t.pairs
+pub old_below : (t : KeptThread) (old_pair old_id first new_pair new_id : ℕ) (name : Name) (gone : ℕ) → CanReplaceDirectoryAcross t old_pair old_id first new_pair new_id name gone → old_pair < length t.pairs
 old_below t old_pair old_id first new_pair new_id name gone rename = below t rename.old.ready rename.old.first old_pair rename.old.stands.pair rename.old.stands.rest rename.old.stands.place
 
-pub new_below : (t : KeptThread) (old_pair old_id first new_pair new_id : ℕ) (name : Name) (gone : ℕ) → CanReplaceDirectoryOver t old_pair old_id first new_pair new_id name gone → new_pair < length t.pairs
+pub new_below : (t : KeptThread) (old_pair old_id first new_pair new_id : ℕ) (name : Name) (gone : ℕ) → CanReplaceDirectoryAcross t old_pair old_id first new_pair new_id name gone → new_pair < length t.pairs
 new_below t old_pair old_id first new_pair new_id name gone rename = below t rename.old.ready rename.to_first new_pair rename.target.pair rename.target.rest rename.target.place
 
-module _ (t : KeptThread) (old_pair old_id first new_pair new_id : ℕ) (name : Name) (gone : ℕ) (rename : CanReplaceDirectoryOver t old_pair old_id first new_pair new_id name gone)
+module _ (t : KeptThread) (old_pair old_id first new_pair new_id : ℕ) (name : Name) (gone : ℕ) (rename : CanReplaceDirectoryAcross t old_pair old_id first new_pair new_id name gone)
     (m : KeptThread) (h : IsMovedAcross t true true old_pair old_id first new_pair new_id name m) where
-  abbrev is : IsPutEnded t old_pair old_id (drops_with_its_slot t old_pair first) new_pair (entry_over_changes true t old_pair old_id new_pair new_id name) m
+  abbrev is : IsPutEnded t old_pair old_id (drops_with_its_slot t old_pair first) new_pair (entry_across_changes true t old_pair old_id new_pair new_id name) m
   is = h.done
 
   abbrev can : CanEditIn t old_pair old_id
@@ -92,10 +92,10 @@ module _ (t : KeptThread) (old_pair old_id first new_pair new_id : ℕ) (name : 
   goes = drops_with_its_slot t old_pair first
 
   abbrev changes : List PairChange
-  changes = entry_over_changes true t old_pair old_id new_pair new_id name
+  changes = entry_across_changes true t old_pair old_id new_pair new_id name
 
   abbrev o : Pair
-  o = thread_pair_at t gone
+  o = thread_pair t gone
 
   first_step : IsFirst t true old_pair goes new_pair changes wo q0 lo s ro w p l (Some g) v r from to name
   first_step = (aimed_onto true t old_pair old_id first new_pair new_id name (onto_directory rename) h.address).way
@@ -149,7 +149,7 @@ module _ (t : KeptThread) (old_pair old_id first new_pair new_id : ℕ) (name : 
 
   found : HasDirectory (pairs_from_root m.pairs) rename.to
   found =
-      let k = links_behind (Some anchor_address) (pair_count_before_root m.pairs) m.pairs moved.follows.accepted.thread.links in
+      let k = links_behind (Some anchor_address) (count_before_root m.pairs) m.pairs moved.follows.accepted.thread.links in
       directory_found (pairs_gstate m.pairs) rename.to k.0 (pairs_from_root m.pairs) k.1 begun
 
   now : HasFront (pairs_from_root m.pairs) rename.to
@@ -157,12 +157,12 @@ module _ (t : KeptThread) (old_pair old_id first new_pair new_id : ℕ) (name : 
       (subst (λ z. same_pair z rename.to ≡ true) (sym (ap first_address (found.is ∙ ap (λ z. z ++ (found.first ∷ found.run ++ found.after)) none)) ∙ moved.follows.root) found.at))
 
   abbrev chain : List Pair
-  chain = take (pair_count_before_root m.pairs) m.pairs
+  chain = take (count_before_root m.pairs) m.pairs
 
-  whole : m.pairs ≡ take (pair_count_before_root m.pairs) m.pairs ++ pairs_from_root m.pairs
+  whole : m.pairs ≡ take (count_before_root m.pairs) m.pairs ++ pairs_from_root m.pairs
   whole = (chain_of_thread m.pairs).0
 
-  accepted_now : IsAccepted m.disk (take (pair_count_before_root m.pairs) m.pairs ++ pairs_from_root m.pairs)
+  accepted_now : IsAccepted m.disk (take (count_before_root m.pairs) m.pairs ++ pairs_from_root m.pairs)
   accepted_now = subst (IsAccepted m.disk) whole moved.follows.accepted
 
   still_there : (k : ℕ) × (slice_get m.pairs k ≡ Some o)
@@ -174,25 +174,25 @@ module _ (t : KeptThread) (old_pair old_id first new_pair new_id : ℕ) (name : 
   dirs_now : pairs_from_root m.pairs ≡ now.front ++ now.before ∷ o ∷ (now.run ++ now.after)
   dirs_now = now.is ∙ ap (λ z. now.front ++ now.before ∷ z ∷ (now.run ++ now.after)) now_is
 
-  there_now : m.pairs ≡ take (pair_count_before_root m.pairs) m.pairs ++ (now.front ++ now.before ∷ o ∷ (now.run ++ now.after))
-  there_now = whole ∙ ap (λ z. take (pair_count_before_root m.pairs) m.pairs ++ z) dirs_now
+  there_now : m.pairs ≡ take (count_before_root m.pairs) m.pairs ++ (now.front ++ now.before ∷ o ∷ (now.run ++ now.after))
+  there_now = whole ∙ ap (λ z. take (count_before_root m.pairs) m.pairs ++ z) dirs_now
 
-  no_list : (b : ℕ) → number_count b (file_blocks t.disk (g ∷ [])) ≡ 0
-  no_list b = ap (λ z. number_count b (file_blocks t.disk (record g { struct = z } ∷ []))) rename.branch
+  no_list : (b : ℕ) → number_occurrences b (file_blocks t.disk (g ∷ [])) ≡ 0
+  no_list b = ap (λ z. number_occurrences b (file_blocks t.disk (record g { struct = z } ∷ []))) rename.branch
 
-  module _ (n : ℕ) (at : IsPairAt m.pairs (thread_pair_at t gone).at n) where
+  module _ (n : ℕ) (at : IsPairAt m.pairs (thread_pair t gone).at n) where
     no_move_now : HasNoMove (pairs_gstate m.pairs)
     no_move_now = subst HasNoMove (sym (last_state first_step is.mid x m e)) (record { kind = refl; id = refl; pair = refl })
 
-    chain_now : IsChain (take (pair_count_before_root m.pairs) m.pairs) (now.front ++ now.before ∷ o ∷ (now.run ++ now.after))
-    chain_now = subst (IsChain (take (pair_count_before_root m.pairs) m.pairs)) dirs_now (chain_of_thread m.pairs).1
+    chain_now : IsChain (take (count_before_root m.pairs) m.pairs) (now.front ++ now.before ∷ o ∷ (now.run ++ now.after))
+    chain_now = subst (IsChain (take (count_before_root m.pairs) m.pairs)) dirs_now (chain_of_thread m.pairs).1
 
     pub replacing_across : IsAllButDropped t m o n (tree_renaming (can.path ++ can.name ∷ []) (rename.path ++ name ∷ [])) (renamed_addresses (can.path ++ can.name ∷ []) (rename.path ++ name ∷ []))
     replacing_across = record {
       ready = can.ready;
       taken = moved;
       no_move = no_move_now;
-      chain = take (pair_count_before_root m.pairs) m.pairs;
+      chain = take (count_before_root m.pairs) m.pairs;
       front = now.front;
       x = now.before;
       back = now.run ++ now.after;
@@ -201,7 +201,7 @@ module _ (t : KeptThread) (old_pair old_id first new_pair new_id : ℕ) (name : 
       number = sym (number_of_first m.disk chain (pairs_from_root m.pairs) rename.to accepted_now now n at.pair (subst (λ z. slice_get z n ≡ Some at.pair) whole at.there)
           (pair_on at.pair.at o.at rename.to at.same rename.alike)).0;
       soft = now.soft;
-      drops = replaced_drops t m from to rename.to (take (pair_count_before_root m.pairs) m.pairs) now.front now.before o (now.run ++ now.after) can.ready moved no_move_now there_now chain_now
+      drops = replaced_drops t m from to rename.to (take (count_before_root m.pairs) m.pairs) now.front now.before o (now.run ++ now.after) can.ready moved no_move_now there_now chain_now
           (subst (λ z. IsReplaced (address_at_path (all_entries z) (root_address z)) from to rename.to) (sym first_step.turn.there)
           (subst (λ (n : Name). IsReplaced (address_at_path (all_entries (thread_at w (p ∷ []))) (root_address (thread_at w (p ∷ [])))) from (rename.path ++ n ∷ []) rename.to) tb.stands.named
           (replaced_by t.disk (thread_at w (p ∷ [])) rename.path rename.at (place_at w l) g rename.to from first_step.setting.accepted leads entry_there rename.branch own.empty
@@ -260,7 +260,7 @@ module _ (t : KeptThread) (old_pair old_id first new_pair new_id : ℕ) (name : 
       -- ---- before
 
       two_chain : IsChain w.chain (two a.b a.front (q0 ∷ []) a.mid (p ∷ []) a.back)
-      two_chain = ap pair_count_before_root (sym a.old_is) ∙ first_step.setting.site.chain
+      two_chain = ap count_before_root (sym a.old_is) ∙ first_step.setting.site.chain
 
       two_is : dirs_at w (p ∷ []) ≡ two a.b a.front (q0 ∷ []) a.mid (p ∷ []) a.back
       two_is = sym (pairs_behind w.chain (dirs_at w (p ∷ [])) first_step.setting.site.chain) ∙ ap pairs_from_root a.old_is ∙ pairs_behind w.chain (two a.b a.front (q0 ∷ []) a.mid (p ∷ []) a.back) two_chain
@@ -277,8 +277,8 @@ module _ (t : KeptThread) (old_pair old_id first new_pair new_id : ℕ) (name : 
       abbrev Apart : Pair → Type 0
       Apart z = same_pair z.at rename.to ≡ false
 
-      distinct_were : IsDistinct nat_eq (blocks_of_pairs ((w.chain ++ ahead) ++ o ∷ behind))
-      distinct_were = subst (λ z. IsDistinct nat_eq (blocks_of_pairs z)) (ap (λ z. w.chain ++ z) dirs_were ∙ sym (append_assoc w.chain ahead (o ∷ behind))) first_step.setting.accepted.thread.distinct
+      distinct_were : IsDistinct nat_eq (pairs_blocks ((w.chain ++ ahead) ++ o ∷ behind))
+      distinct_were = subst (λ z. IsDistinct nat_eq (pairs_blocks z)) (ap (λ z. w.chain ++ z) dirs_were ∙ sym (append_assoc w.chain ahead (o ∷ behind))) first_step.setting.accepted.thread.distinct
 
       cut : IsCutOut t.disk rename.to o None (pieces_of a.b)
       cut = cut_out t.disk rename.to o rename.alike rename.alone None (pieces_of a.b) ahead behind (olds a.b ∙ sym two_is ∙ dirs_were) (soft_end None front.front front.before front.soft)
@@ -290,17 +290,17 @@ module _ (t : KeptThread) (old_pair old_id first new_pair new_id : ℕ) (name : 
       -- ---- after
 
       abbrev ahead_now : List Pair
-      ahead_now = take (pair_count_before_root m.pairs) m.pairs ++ (now.front ++ now.before ∷ [])
+      ahead_now = take (count_before_root m.pairs) m.pairs ++ (now.front ++ now.before ∷ [])
 
       abbrev behind_now : List Pair
       behind_now = now.run ++ now.after
 
-      regrouped : (zs : List Pair) → take (pair_count_before_root m.pairs) m.pairs ++ (now.front ++ now.before ∷ zs) ≡ ahead_now ++ zs
-      regrouped zs = ap (λ z. take (pair_count_before_root m.pairs) m.pairs ++ z) (sym (append_assoc now.front (now.before ∷ []) zs))
-          ∙ sym (append_assoc (take (pair_count_before_root m.pairs) m.pairs) (now.front ++ now.before ∷ []) zs)
+      regrouped : (zs : List Pair) → take (count_before_root m.pairs) m.pairs ++ (now.front ++ now.before ∷ zs) ≡ ahead_now ++ zs
+      regrouped zs = ap (λ z. take (count_before_root m.pairs) m.pairs ++ z) (sym (append_assoc now.front (now.before ∷ []) zs))
+          ∙ sym (append_assoc (take (count_before_root m.pairs) m.pairs) (now.front ++ now.before ∷ []) zs)
 
-      distinct_now : IsDistinct nat_eq (blocks_of_pairs (ahead_now ++ o ∷ behind_now))
-      distinct_now = subst (λ z. IsDistinct nat_eq (blocks_of_pairs z)) (there_now ∙ regrouped (o ∷ behind_now)) moved.follows.accepted.thread.distinct
+      distinct_now : IsDistinct nat_eq (pairs_blocks (ahead_now ++ o ∷ behind_now))
+      distinct_now = subst (λ z. IsDistinct nat_eq (pairs_blocks z)) (there_now ∙ regrouped (o ∷ behind_now)) moved.follows.accepted.thread.distinct
 
       alike_before : SameSlots ((w.chain ++ cut.left) ++ o ∷ cut.right) (ahead_now ++ o ∷ behind_now)
       alike_before = subst (λ z. SameSlots z (ahead_now ++ o ∷ behind_now))
@@ -374,20 +374,20 @@ module _ (t : KeptThread) (old_pair old_id first new_pair new_id : ℕ) (name : 
       pub renamed_onto : IsRenamedAcross t new can.path can.name rename.path name
       renamed_onto = record {
         now = shows_dropped replacing_across new d;
-        completed = λ z given to_given tree given_is to_is. subst (λ y. IsCompletion t.disk y z (ops.Rename given to_given) new.disk new.pairs) (sym were)
-            (onto_completed t.disk new.disk new.pairs a.b w.chain a.front a.mid a.back q0 p lo s ro l g r given to_given name (laid given to_given given_is to_is) z (tree ∙ ap (tree_on_disk t.disk) were));
+        completed = λ z given to_given tree given_is to_is. subst (λ y. CompletesOperation t.disk y z (ops.Rename given to_given) new.disk new.pairs) (sym were)
+            (onto_completed t.disk new.disk new.pairs a.b w.chain a.front a.mid a.back q0 p lo s ro l g r given to_given name (laid given to_given given_is to_is) z (tree ∙ ap (disk_tree t.disk) were));
       }
 
     pub can_drop_onto : CanDropAt m n zero_gstate
     can_drop_onto = can_drop_last replacing_across
 
-    pub left_across : (left : Blocks) → LeftByDrop m (n - 1) zero_gstate left → IsLeftOf (with_blocks left t.disk) (tree_on_disk t.disk t.pairs) (tree_moved t can.path can.name rename.path name)
+    pub left_across : (left : Blocks) → LeftByDrop m (n - 1) zero_gstate left → IsLeftOf (with_blocks left t.disk) (disk_tree t.disk t.pairs) (tree_moved t can.path can.name rename.path name)
     left_across left h = left_last replacing_across left h
 
   pub not_nowhere : AllByRecursion (λ z. same_pair z.at o.at ≡ false) m.pairs → ⊥
   not_nowhere none = go m.pairs none (last_kept first_step is.mid x m e o not_new rename.empty rename.alone (among_there t.pairs gone o o_there))
     where
-      go : (xs : List Pair) → AllByRecursion (λ z. same_pair z.at o.at ≡ false) xs → HoldsOfSome (λ y. y ≡ o) xs → ⊥
+      go : (xs : List Pair) → AllByRecursion (λ z. same_pair z.at o.at ≡ false) xs → AnyByRecursion (λ y. y ≡ o) xs → ⊥
       go [] h k = k
       go (y ∷ ys) h (inl k) = absurd (let z = sym h.0 ∙ ap (λ (z : Pair). same_pair z.at o.at) k ∙ pair_itself o.at in cc)
       go (y ∷ ys) h (inr k) = go ys h.1 k

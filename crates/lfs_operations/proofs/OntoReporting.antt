@@ -1,10 +1,10 @@
 -- What the steps of a rename onto a directory tell, write and leave, one after the other.
-use Rattle.lfs_operations.proofs.Common.{ℕ, ◌≡◌, ◌<◌, ◌⊎◌, inl, inr, Bool, true, false, List, length, arith, Result, Ok, sym, ap, subst, ◌∙◌, fault_count, PairChange, KeptThread, ThreadView, OnlyReadsThread, Error, has_failed_after, written_at_end, ReportsErrorsOfCommitsTakingBlocks, second_commit_pair, ReportsErrorsOfCommitTakingNoBlock, drops_with_its_slot, ReportsErrorsOfReadThenCommit, ReportsErrorsOfReadThenCommits}
+use Rattle.lfs_operations.proofs.Common.{ℕ, ◌≡◌, ◌<◌, ◌⊎◌, inl, inr, Bool, true, false, List, length, arith, Result, Ok, sym, ap, subst, ◌∙◌, fault_count, PairChange, KeptThread, ThreadView, OnlyReadsThread, Error, has_failed_after, written_at_end, ReportsTakingCommits, second_pair, ReportsCommit, drops_with_its_slot, ReportsReadCommit, ReportsReadCommits}
 
-pub over_from : {X : Type 0} (old new : ThreadView) (result : Result X Error) → ReportsErrorsOfReadThenCommit old new result → ReportsErrorsOfReadThenCommits old new result
+pub over_from : {X : Type 0} (old new : ThreadView) (result : Result X Error) → ReportsReadCommit old new result → ReportsReadCommits old new result
 over_from old new result h = record { failed = h.failed; errors = h.reported.errors; fault = h.reported.fault; no_fault = h.reported.no_fault }
 
-pub over_then : {X Y : Type 0} (old mid new : ThreadView) (a : X) (first : Result X Error) (second : Result Y Error) → first ≡ Ok a → ReportsErrorsOfReadThenCommit old mid first → ReportsErrorsOfCommitTakingNoBlock mid new second → ReportsErrorsOfReadThenCommits old new second
+pub over_then : {X Y : Type 0} (old mid new : ThreadView) (a : X) (first : Result X Error) (second : Result Y Error) → first ≡ Ok a → ReportsReadCommit old mid first → ReportsCommit mid new second → ReportsReadCommits old new second
 over_then old mid new a first second ok one two =
     let same : fault_count mid.kept.history ≡ fault_count old.kept.history = one.reported.no_fault (λ io. absurd (let z = sym ok ∙ io in cc)) in
     record {
@@ -16,14 +16,14 @@ over_then old mid new a first second ok one two =
 
 -- ---- across pairs
 
-pub works_after : {X : Type 0} (old new : ThreadView) (index : ℕ) (changes : List PairChange) (r : Result X Error) (x : X) → ReportsErrorsOfCommitsTakingBlocks old new index changes r → r ≡ Ok x → new.failed ≡ false
+pub works_after : {X : Type 0} (old new : ThreadView) (index : ℕ) (changes : List PairChange) (r : Result X Error) (x : X) → ReportsTakingCommits old new index changes r → r ≡ Ok x → new.failed ≡ false
 works_after old new index changes r x h is = go h.failed
   where
     go : (new.failed ≡ has_failed_after r) ⊎ ((new.failed ≡ false) × OnlyReadsThread old.kept new.kept) → new.failed ≡ false
     go (inl e) = e ∙ ap has_failed_after is
     go (inr e) = e.0
 
-pub left_below : (t : KeptThread) (pair first : ℕ) → pair < length t.pairs → second_commit_pair t pair first < length t.pairs
+pub left_below : (t : KeptThread) (pair first : ℕ) → pair < length t.pairs → second_pair t pair first < length t.pairs
 left_below t pair first l = go (drops_with_its_slot t pair first)
   where
     go : (b : Bool) → written_at_end pair b < length t.pairs

@@ -1,5 +1,5 @@
 -- A rename onto an empty directory within a pair: where the directory's pair stands, and what the two steps come to.
-use Rattle.lfs_operations.proofs.Common.{subst₂, ℕ, ◌≡◌, ◌-◌, slice_get, List, [], ◌∷◌, ◌++◌, length, Some, None, refl, sym, ap, subst, ◌∙◌, arith, append-nil, length-append, recursion_from_All, tree_renaming, without_prefix, AreUsed, Blocks, Name, HasEither as IsLeftOf, with_blocks, slot_of, pair_with_slots, Slot, gstate_xor, zero_gstate, Pair, pairs_gstate, root_address, pair_count_before_root, Path, address_at_path, IsAccepted, IsWritable, all_slots_not_moved, all_directories, all_entries, tree_on_disk, used_blocks, SameSlots, fits_same, IsChangedImage, SameFiles, SameFileBlocks, IsCompletion, no_move_from, number_count, IsStep, entry_only, get_here, place_at, shown_before, shown_behind, site_shows, last_is, renamed_addresses, sibling_apart, IsReplaced, step_chain, site, slot_of_stands, Site, dirs_at, thread_at, file_blocks, IsWritableChange, IsChain, KeptThread, IsPairCommitted, thread_pair_at, sync_bit_delta, HasNoMove, some_filled, All, step_each, IsPairDropped, LeftByDrop, SameInFlight, CanEditIn, tree_renamed, CanRenameOver, CanReplaceDirectory, IsRenamedOver, replace_directory_changes}
+use Rattle.lfs_operations.proofs.Common.{subst₂, ℕ, ◌≡◌, ◌-◌, slice_get, List, [], ◌∷◌, ◌++◌, length, Some, None, refl, sym, ap, subst, ◌∙◌, arith, append-nil, length-append, recursion_from_All, tree_renaming, without_prefix, AreUsed, Blocks, Name, HasEither as IsLeftOf, with_blocks, slot_of, pair_with_slots, Slot, gstate_xor, zero_gstate, Pair, pairs_gstate, root_address, count_before_root, Path, address_at_path, IsAccepted, IsWritable, all_unmoved_slots, all_directories, all_entries, disk_tree, used_blocks, SameSlots, fits_same, IsChangedImage, SameFiles, SameFileBlocks, CompletesOperation, no_move_from, number_occurrences, IsStep, entry_only, get_here, place_at, shown_before, shown_behind, site_shows, last_is, renamed_addresses, sibling_apart, IsReplaced, step_chain, site, slot_of_stands, Site, dirs_at, thread_at, file_blocks, IsWritableChange, IsChain, KeptThread, IsPairCommitted, thread_pair, sync_bit_delta, HasNoMove, some_filled, All, step_each, IsPairDropped, LeftByDrop, SameInFlight, CanEditIn, tree_renamed, CanRenameOver, CanReplaceDirectory, IsRenamedOver, replace_directory_changes}
 use Rattle.lfs_model.specs.session.Operations as ops
 use Rattle.lfs_model.proofs.RenamedWithinOnto.{IsRenameWithinOnto, within_onto_completed}
 use Rattle.lfs_operations.proofs.OntoGone.{replaced_by, replaced_drops}
@@ -37,7 +37,7 @@ module _ (t : KeptThread) (index id place : ℕ) (name : Name) (gone : ℕ) (ren
   r2 = over.target.stands.right
 
   abbrev o : Pair
-  o = thread_pair_at t gone
+  o = thread_pair t gone
 
   abbrev w : Site
   w = site t.disk t.pairs can.path can.at can.ready.accepted can.leads can.first index p can.stands.rest can.stands.place can.begins
@@ -94,10 +94,10 @@ module _ (t : KeptThread) (index id place : ℕ) (name : Name) (gone : ℕ) (ren
   placed : HasPlaceOver w p q o over.to (length front.front)
   placed = place_over w p q o over.to rename.at stand.accepted.thread.distinct refl front.front front.before (front.run ++ front.after) own.dirs_are front.soft not_itself
 
-  used_now : (b : ℕ) → number_count b (used_blocks m.disk m.pairs) ≡ number_count b (used_blocks t.disk t.pairs)
+  used_now : (b : ℕ) → number_occurrences b (used_blocks m.disk m.pairs) ≡ number_occurrences b (used_blocks t.disk t.pairs)
   used_now b =
-      let files : SameFiles t.disk m.disk (all_slots_not_moved t.pairs) = subst (λ z. SameFiles t.disk m.disk (all_slots_not_moved z)) (sym stand.there)
-      (recursion_from_All (λ (x : Slot). SameFileBlocks t.disk m.disk x.struct) (all_slots_not_moved (thread_at w (p ∷ []))) stepped.device.files) in
+      let files : SameFiles t.disk m.disk (all_unmoved_slots t.pairs) = subst (λ z. SameFiles t.disk m.disk (all_unmoved_slots z)) (sym stand.there)
+      (recursion_from_All (λ (x : Slot). SameFileBlocks t.disk m.disk x.struct) (all_unmoved_slots (thread_at w (p ∷ []))) stepped.device.files) in
       let e = turned_count t.disk m.disk w p q [] h.l h.olds h.news h.r (file_blocks t.disk (target ∷ [])) [] (record {
         none = stepped.no_move;
         still = stepped.still_none;
@@ -106,9 +106,9 @@ module _ (t : KeptThread) (index id place : ℕ) (name : Name) (gone : ℕ) (ren
         was = h.placed.was;
         is = stepped.is;
       }) (λ b. let n = blocks_now t index (replace_directory_changes t index id place name) w p h.l h.olds h.news h.r (target ∷ []) u (with_name u name) h.placed m.disk stepped.device.geometry files b in omega arith) b in
-      let f = ap (λ z. number_count b (used_blocks m.disk z)) x.pairs in
-      let g = ap (λ z. number_count b (used_blocks t.disk z)) stand.there in
-      let none : number_count b (file_blocks t.disk (target ∷ [])) ≡ 0 = ap (λ z. number_count b (file_blocks t.disk (record target { struct = z } ∷ []))) over.branch in
+      let f = ap (λ z. number_occurrences b (used_blocks m.disk z)) x.pairs in
+      let g = ap (λ z. number_occurrences b (used_blocks t.disk z)) stand.there in
+      let none : number_occurrences b (file_blocks t.disk (target ∷ [])) ≡ 0 = ap (λ z. number_occurrences b (file_blocks t.disk (record target { struct = z } ∷ []))) over.branch in
       omega arith
 
   thread_now : m.pairs ≡ w.chain ++ (placed.front ++ placed.x ∷ o ∷ placed.back)
@@ -145,7 +145,7 @@ module _ (t : KeptThread) (index id place : ℕ) (name : Name) (gone : ℕ) (ren
     used = subst (λ s. AreUsed s (used_blocks m.disk m.pairs)) (sym r.map) (used_same t.map (used_blocks t.disk t.pairs) (used_blocks m.disk m.pairs) used_now can.ready.used);
     size = ap length r.map ∙ can.ready.size ∙ sym r.written.shape.count;
     flying = subst (SameInFlight t.map) (sym r.map) (λ b. ((λ k. k), (λ k. k)));
-    root = ap pair_count_before_root x.pairs ∙ step_chain t.disk m.disk w p [] q [] [] [] h.l h.olds h.news h.r stepped ∙ sym (ap pair_count_before_root stand.there ∙ stand.site.chain);
+    root = ap count_before_root x.pairs ∙ step_chain t.disk m.disk w p [] q [] [] [] h.l h.olds h.news h.r stepped ∙ sym (ap count_before_root stand.there ∙ stand.site.chain);
     shape = r.written.shape;
   }
 
@@ -159,7 +159,7 @@ module _ (t : KeptThread) (index id place : ℕ) (name : Name) (gone : ℕ) (ren
         (can.path ++ can.name ∷ []) (can.path ++ name ∷ []) name
     unfolding replacing
     laid = record {
-      is_chain = ap pair_count_before_root (sym placed.were) ∙ stand.site.chain;
+      is_chain = ap count_before_root (sym placed.were) ∙ stand.site.chain;
       accepted = subst (IsAccepted t.disk) placed.were stand.accepted;
       writable = subst (IsWritable t.disk) placed.were stand.writable;
       settled = ap pairs_gstate (sym placed.were) ∙ stand.settled;
@@ -189,10 +189,10 @@ module _ (t : KeptThread) (index id place : ℕ) (name : Name) (gone : ℕ) (ren
     pub renamed_onto_directory : IsRenamedOver t new rename.over.can.path rename.over.can.name name
     renamed_onto_directory = record {
       now = shows_dropped replacing new g;
-      completed = λ s given to_given tree given_is to_is. subst (λ z. IsCompletion t.disk z s (ops.Rename given to_given) new.disk new.pairs) (sym (stand.there ∙ placed.were))
+      completed = λ s given to_given tree given_is to_is. subst (λ z. CompletesOperation t.disk z s (ops.Rename given to_given) new.disk new.pairs) (sym (stand.there ∙ placed.were))
           (within_onto_completed t.disk new.disk new.pairs placed.b w.chain placed.one placed.mid placed.other p o q [] can.stands.stands.left u can.stands.stands.right h.x target h.y over.to from to name laid s given to_given
-          (tree ∙ ap (tree_on_disk t.disk) (stand.there ∙ placed.were)) given_is to_is);
+          (tree ∙ ap (disk_tree t.disk) (stand.there ∙ placed.were)) given_is to_is);
     }
 
-  pub left_within : (left : Blocks) → LeftByDrop m (gone - 1) zero_gstate left → IsLeftOf (with_blocks left t.disk) (tree_on_disk t.disk t.pairs) (tree_renamed t rename.over.can.path rename.over.can.name name)
+  pub left_within : (left : Blocks) → LeftByDrop m (gone - 1) zero_gstate left → IsLeftOf (with_blocks left t.disk) (disk_tree t.disk t.pairs) (tree_renamed t rename.over.can.path rename.over.can.name name)
   left_within left g = left_last replacing left g

@@ -1,81 +1,81 @@
 -- Steps that write blocks of pairs, and at most two blocks that were free.
-use Rattle.lfs_operations.proofs.Common.{ℕ, zero, suc, ◌≡◌, ◌≢◌, ◌≤◌, ◌<◌, ◌⊎◌, inl, inr, ◌+◌, Bool, true, false, List, [], ◌∷◌, ◌++◌, length, get_or, insert, remove, set, length-set, refl, ap, ◌∙◌, arith, cases_lt, All-from_recursion, recursion_from_All, IsFree, PairChange, Pair, blocks_of_pairs, address_blocks, addresses_blocks, Contains-number_count, number_count-Contains, number_count, count_append, each_append, each_counted, each_from_counted, each_weaker, KeptThread, ChangesThreadBlocks, split_back_pair, split_front_pair, empty_anchor, thread_pair_at, All, Contains, IsTurned, WritesThreadTwo, WritesPairTwo, TakesAtMostTwo, HasEndedAt, content_move_ended, written_at_end, pairs_move_ended, WritesThreadFree, WritesTwoTwo}
+use Rattle.lfs_operations.proofs.Common.{ℕ, zero, suc, ◌≡◌, ◌≢◌, ◌≤◌, ◌<◌, ◌⊎◌, inl, inr, ◌+◌, Bool, true, false, List, [], ◌∷◌, ◌++◌, length, get_or, insert, remove, set, length-set, refl, ap, ◌∙◌, arith, cases_lt, All-from_recursion, recursion_from_All, IsFree, PairChange, Pair, pairs_blocks, address_blocks, addresses_blocks, Contains-number_occurrences, number_occurrences-Contains, number_occurrences, count_append, each_append, each_counted, each_from_counted, each_weaker, KeptThread, ChangesThreadBlocks, back_pair, front_pair, empty_anchor, thread_pair, All, Contains, ArePut, WritesThreadTwo, WritesPairTwo, TakesAtMostTwo, HasEndedAt, content_move_ended, written_at_end, pairs_move_ended, WritesThreadFree, WritesPairsTwo}
 use Rattle.lfs_operations.proofs.MovStep.{blocks_alike}
 use Rattle.lfs_operations.proofs.Putting.{writes_trans, writes_wider}
 
 -- ---- blocks of pairs
 
-blocks_set : (xs : List Pair) (n : ℕ) (p d : Pair) → p.at ≡ (get_or xs n d).at → blocks_of_pairs (set xs n p) ≡ blocks_of_pairs xs
+blocks_set : (xs : List Pair) (n : ℕ) (p d : Pair) → p.at ≡ (get_or xs n d).at → pairs_blocks (set xs n p) ≡ pairs_blocks xs
 blocks_set [] n p d e = refl
-blocks_set (x ∷ xs) zero p d e = ap (λ (at : ℕ × ℕ). at.0 ∷ at.1 ∷ blocks_of_pairs xs) e
+blocks_set (x ∷ xs) zero p d e = ap (λ (at : ℕ × ℕ). at.0 ∷ at.1 ∷ pairs_blocks xs) e
 blocks_set (x ∷ xs) (suc n) p d e = ap (λ z. x.at.0 ∷ x.at.1 ∷ z) (blocks_set xs n p d e)
 
-blocks_inserted : (xs : List Pair) (n : ℕ) (p : Pair) → n ≤ length xs → (b : ℕ) → number_count b (blocks_of_pairs (insert xs n p)) ≡ number_count b (address_blocks p.at) + number_count b (blocks_of_pairs xs)
-blocks_inserted xs zero p l b = count_append b (address_blocks p.at) (blocks_of_pairs xs)
+blocks_inserted : (xs : List Pair) (n : ℕ) (p : Pair) → n ≤ length xs → (b : ℕ) → number_occurrences b (pairs_blocks (insert xs n p)) ≡ number_occurrences b (address_blocks p.at) + number_occurrences b (pairs_blocks xs)
+blocks_inserted xs zero p l b = count_append b (address_blocks p.at) (pairs_blocks xs)
 blocks_inserted [] (suc n) p l b = absurd (omega arith)
 blocks_inserted (x ∷ xs) (suc n) p l b =
     let k = blocks_inserted xs n p (omega arith) b in
-    let e = count_append b (address_blocks x.at) (blocks_of_pairs (insert xs n p)) in
-    let f = count_append b (address_blocks x.at) (blocks_of_pairs xs) in
+    let e = count_append b (address_blocks x.at) (pairs_blocks (insert xs n p)) in
+    let f = count_append b (address_blocks x.at) (pairs_blocks xs) in
     omega (arith, k, e, f)
 
-blocks_removed : (xs : List Pair) (n b : ℕ) → number_count b (blocks_of_pairs (remove xs n)) ≤ number_count b (blocks_of_pairs xs)
+blocks_removed : (xs : List Pair) (n b : ℕ) → number_occurrences b (pairs_blocks (remove xs n)) ≤ number_occurrences b (pairs_blocks xs)
 blocks_removed [] zero b = omega arith
 blocks_removed [] (suc n) b = omega arith
-blocks_removed (x ∷ xs) zero b = let e = count_append b (address_blocks x.at) (blocks_of_pairs xs) in omega (arith, e)
+blocks_removed (x ∷ xs) zero b = let e = count_append b (address_blocks x.at) (pairs_blocks xs) in omega (arith, e)
 blocks_removed (x ∷ xs) (suc n) b =
     let k = blocks_removed xs n b in
-    let e = count_append b (address_blocks x.at) (blocks_of_pairs (remove xs n)) in
-    let f = count_append b (address_blocks x.at) (blocks_of_pairs xs) in
+    let e = count_append b (address_blocks x.at) (pairs_blocks (remove xs n)) in
+    let f = count_append b (address_blocks x.at) (pairs_blocks xs) in
     omega (arith, k, e, f)
 
-pub there_counted : (xs : List Pair) (i : ℕ) (d : Pair) → i < length xs → (b : ℕ) → 1 ≤ number_count b (address_blocks (get_or xs i d).at) → 1 ≤ number_count b (blocks_of_pairs xs)
+pub there_counted : (xs : List Pair) (i : ℕ) (d : Pair) → i < length xs → (b : ℕ) → 1 ≤ number_occurrences b (address_blocks (get_or xs i d).at) → 1 ≤ number_occurrences b (pairs_blocks xs)
 there_counted [] i d l b h = absurd (omega arith)
-there_counted (x ∷ xs) zero d l b h = let e = count_append b (x.at.0 ∷ x.at.1 ∷ []) (blocks_of_pairs xs) in omega arith
-there_counted (x ∷ xs) (suc i) d l b h = let k = there_counted xs i d (omega arith) b h in let e = count_append b (x.at.0 ∷ x.at.1 ∷ []) (blocks_of_pairs xs) in omega arith
+there_counted (x ∷ xs) zero d l b h = let e = count_append b (x.at.0 ∷ x.at.1 ∷ []) (pairs_blocks xs) in omega arith
+there_counted (x ∷ xs) (suc i) d l b h = let k = there_counted xs i d (omega arith) b h in let e = count_append b (x.at.0 ∷ x.at.1 ∷ []) (pairs_blocks xs) in omega arith
 
 -- ---- fewer blocks
 
 -- each of these numbers is one of those
 abbrev AreOf : List ℕ → List ℕ → Type 0
-AreOf bs cs = (b : ℕ) → 1 ≤ number_count b bs → 1 ≤ number_count b cs
+AreOf bs cs = (b : ℕ) → 1 ≤ number_occurrences b bs → 1 ≤ number_occurrences b cs
 
 apart_wider : (bs cs : List ℕ) → AreOf bs cs → (k : ℕ) → All (λ c. c ≢ k) cs → All (λ c. c ≢ k) bs
 apart_wider bs cs of k h = All-from_recursion (λ c. c ≢ k) bs (each_from_counted (λ c. c ≢ k) bs (λ b some. each_counted (λ c. c ≢ k) cs (recursion_from_All (λ c. c ≢ k) cs h) b (of b some)))
 
 both_of : (xs ys cs : List ℕ) → AreOf xs cs → AreOf ys cs → AreOf (xs ++ ys) cs
-both_of xs ys cs f g b some = go (cases_lt 0 (number_count b xs))
+both_of xs ys cs f g b some = go (cases_lt 0 (number_occurrences b xs))
   where
-    go : (0 < number_count b xs) ⊎ (number_count b xs ≤ 0) → 1 ≤ number_count b cs
+    go : (0 < number_occurrences b xs) ⊎ (number_occurrences b xs ≤ 0) → 1 ≤ number_occurrences b cs
     go (inl l) = f b (omega (arith, l))
     go (inr l) = g b (let e = count_append b xs ys in omega (arith, l, e, some))
 
-pair_of : (t : KeptThread) (i : ℕ) (fresh : List ℕ) → i < length t.pairs → AreOf (address_blocks (thread_pair_at t i).at) (blocks_of_pairs t.pairs ++ fresh)
-pair_of t i fresh l b some = let k = there_counted t.pairs i empty_anchor l b some in let e = count_append b (blocks_of_pairs t.pairs) fresh in omega (arith, k, e)
+pair_of : (t : KeptThread) (i : ℕ) (fresh : List ℕ) → i < length t.pairs → AreOf (address_blocks (thread_pair t i).at) (pairs_blocks t.pairs ++ fresh)
+pair_of t i fresh l b some = let k = there_counted t.pairs i empty_anchor l b some in let e = count_append b (pairs_blocks t.pairs) fresh in omega (arith, k, e)
 
-fresh_of : (t : KeptThread) (fresh : List ℕ) → AreOf fresh (blocks_of_pairs t.pairs ++ fresh)
-fresh_of t fresh b some = let e = count_append b (blocks_of_pairs t.pairs) fresh in omega (arith, some, e)
+fresh_of : (t : KeptThread) (fresh : List ℕ) → AreOf fresh (pairs_blocks t.pairs ++ fresh)
+fresh_of t fresh b some = let e = count_append b (pairs_blocks t.pairs) fresh in omega (arith, some, e)
 
 -- ---- steps
 
 -- those of two pairs
-pub writes_one : (t m : KeptThread) (one other : ℕ) → one < length t.pairs → other < length t.pairs → WritesTwoTwo t one other m → WritesThreadTwo t m
+pub writes_one : (t m : KeptThread) (one other : ℕ) → one < length t.pairs → other < length t.pairs → WritesPairsTwo t one other m → WritesThreadTwo t m
 writes_one t m one other l k w =
-    let bs = address_blocks (thread_pair_at t other).at ++ (address_blocks (thread_pair_at t one).at ++ w.fresh) in
-    let cs = blocks_of_pairs t.pairs ++ w.fresh in
+    let bs = address_blocks (thread_pair t other).at ++ (address_blocks (thread_pair t one).at ++ w.fresh) in
+    let cs = pairs_blocks t.pairs ++ w.fresh in
     record {
       fresh = w.fresh;
       few = w.few;
       free = w.free;
-      writes = writes_wider cs (apart_wider bs cs (both_of (address_blocks (thread_pair_at t other).at) (address_blocks (thread_pair_at t one).at ++ w.fresh) cs (pair_of t other w.fresh k)
-          (both_of (address_blocks (thread_pair_at t one).at) w.fresh cs (pair_of t one w.fresh l) (fresh_of t w.fresh)))) w.writes;
+      writes = writes_wider cs (apart_wider bs cs (both_of (address_blocks (thread_pair t other).at) (address_blocks (thread_pair t one).at ++ w.fresh) cs (pair_of t other w.fresh k)
+          (both_of (address_blocks (thread_pair t one).at) w.fresh cs (pair_of t one w.fresh l) (fresh_of t w.fresh)))) w.writes;
     }
 
 -- those of a pair that is changed, or cut in two
-pub put_within : (old mid : KeptThread) (index : ℕ) (changes : List PairChange) → index < length old.pairs → IsTurned old index changes mid → WritesPairTwo old index mid → TakesAtMostTwo old mid
+pub put_within : (old mid : KeptThread) (index : ℕ) (changes : List PairChange) → index < length old.pairs → ArePut old index changes mid → WritesPairTwo old index mid → TakesAtMostTwo old mid
 put_within old mid index changes l (inl is) w =
-    let at = (thread_pair_at old index).at in
-    let cs = blocks_of_pairs old.pairs ++ w.fresh in
+    let at = (thread_pair old index).at in
+    let cs = pairs_blocks old.pairs ++ w.fresh in
     record {
       written = record {
         fresh = w.fresh;
@@ -84,16 +84,16 @@ put_within old mid index changes l (inl is) w =
         writes = writes_wider cs (apart_wider (address_blocks at ++ w.fresh) cs (both_of (address_blocks at) w.fresh cs (pair_of old index w.fresh l) (fresh_of old w.fresh))) w.writes;
       };
       within = λ b h.
-          let k = number_count-Contains (blocks_of_pairs mid.pairs) b h in
-          let same = ap (λ z. number_count b (blocks_of_pairs z)) is.pairs ∙ ap (number_count b) (blocks_set old.pairs index (record { at = at; content = is.content }) empty_anchor refl) in
-          let e = count_append b (blocks_of_pairs old.pairs) w.fresh in
-          Contains-number_count cs b (omega (arith, k, same, e));
+          let k = number_occurrences-Contains (pairs_blocks mid.pairs) b h in
+          let same = ap (λ z. number_occurrences b (pairs_blocks z)) is.pairs ∙ ap (number_occurrences b) (blocks_set old.pairs index (record { at = at; content = is.content }) empty_anchor refl) in
+          let e = count_append b (pairs_blocks old.pairs) w.fresh in
+          Contains-number_occurrences cs b (omega (arith, k, same, e));
     }
 put_within old mid index changes l (inr (large, (fresh, is))) w =
-    let at = (thread_pair_at old index).at in
-    let front = split_front_pair old index is.content is.cut fresh in
-    let back = split_back_pair is.content is.cut fresh in
-    let cs = blocks_of_pairs old.pairs ++ address_blocks fresh in
+    let at = (thread_pair old index).at in
+    let front = front_pair old index is.content is.cut fresh in
+    let back = back_pair is.content is.cut fresh in
+    let cs = pairs_blocks old.pairs ++ address_blocks fresh in
     record {
       written = record {
         fresh = address_blocks fresh;
@@ -102,43 +102,43 @@ put_within old mid index changes l (inr (large, (fresh, is))) w =
         writes = writes_wider cs (apart_wider (addresses_blocks at fresh) cs (both_of (address_blocks at) (address_blocks fresh) cs (pair_of old index (address_blocks fresh) l) (fresh_of old (address_blocks fresh)))) is.writes;
       };
       within = λ b h.
-          let k = number_count-Contains (blocks_of_pairs mid.pairs) b h in
+          let k = number_occurrences-Contains (pairs_blocks mid.pairs) b h in
           let n = length-set old.pairs index front in
-          let same = ap (λ z. number_count b (blocks_of_pairs z)) is.pairs ∙ blocks_inserted (set old.pairs index front) (index + 1) back (omega (arith, l, n)) b in
-          let were = ap (number_count b) (blocks_set old.pairs index front empty_anchor refl) in
-          let e = count_append b (blocks_of_pairs old.pairs) (address_blocks fresh) in
-          Contains-number_count cs b (omega (arith, k, same, were, e));
+          let same = ap (λ z. number_occurrences b (pairs_blocks z)) is.pairs ∙ blocks_inserted (set old.pairs index front) (index + 1) back (omega (arith, l, n)) b in
+          let were = ap (number_occurrences b) (blocks_set old.pairs index front empty_anchor refl) in
+          let e = count_append b (pairs_blocks old.pairs) (address_blocks fresh) in
+          Contains-number_occurrences cs b (omega (arith, k, same, were, e));
     }
 
 -- and a pair of the thread then
-pub more : (old mid new : KeptThread) (i : ℕ) → TakesAtMostTwo old mid → i < length mid.pairs → ChangesThreadBlocks (address_blocks (thread_pair_at mid i).at) mid new → WritesThreadTwo old new
+pub more : (old mid new : KeptThread) (i : ℕ) → TakesAtMostTwo old mid → i < length mid.pairs → ChangesThreadBlocks (address_blocks (thread_pair mid i).at) mid new → WritesThreadTwo old new
 more old mid new i w l second =
-    let cs = blocks_of_pairs old.pairs ++ w.written.fresh in
-    let bs = address_blocks (thread_pair_at mid i).at in
+    let cs = pairs_blocks old.pairs ++ w.written.fresh in
+    let bs = address_blocks (thread_pair mid i).at in
     record {
       fresh = w.written.fresh;
       few = w.written.few;
       free = w.written.free;
-      writes = writes_trans w.written.writes (writes_wider cs (apart_wider bs cs (λ b some. number_count-Contains cs b (w.within b (Contains-number_count (blocks_of_pairs mid.pairs) b (there_counted mid.pairs i empty_anchor l b some))))) second);
+      writes = writes_trans w.written.writes (writes_wider cs (apart_wider bs cs (λ b some. number_occurrences-Contains cs b (w.within b (Contains-number_occurrences (pairs_blocks mid.pairs) b (there_counted mid.pairs i empty_anchor l b some))))) second);
     }
 
-fewer_ended : (t : KeptThread) (pair id : ℕ) (goes : Bool) (b : ℕ) → number_count b (blocks_of_pairs (pairs_move_ended t pair id goes)) ≤ number_count b (blocks_of_pairs t.pairs)
+fewer_ended : (t : KeptThread) (pair id : ℕ) (goes : Bool) (b : ℕ) → number_occurrences b (pairs_blocks (pairs_move_ended t pair id goes)) ≤ number_occurrences b (pairs_blocks t.pairs)
 fewer_ended t pair id true b = blocks_removed t.pairs pair b
-fewer_ended t pair id false b = let e = ap (number_count b) (blocks_set t.pairs pair (record { at = (thread_pair_at t pair).at; content = content_move_ended t pair id }) empty_anchor refl) in omega (arith, e)
+fewer_ended t pair id false b = let e = ap (number_occurrences b) (blocks_set t.pairs pair (record { at = (thread_pair t pair).at; content = content_move_ended t pair id }) empty_anchor refl) in omega (arith, e)
 
 pub end_below : (n pair : ℕ) (goes : Bool) → pair < n → written_at_end pair goes < n
 end_below n pair true l = omega (arith, l)
 end_below n pair false l = l
 
-pub end_within : (old mid new : KeptThread) (pair id : ℕ) (goes : Bool) → TakesAtMostTwo old mid → pair < length mid.pairs → HasEndedAt mid pair id goes new → ChangesThreadBlocks (address_blocks (thread_pair_at mid (written_at_end pair goes)).at) mid new → TakesAtMostTwo old new
+pub end_within : (old mid new : KeptThread) (pair id : ℕ) (goes : Bool) → TakesAtMostTwo old mid → pair < length mid.pairs → HasEndedAt mid pair id goes new → ChangesThreadBlocks (address_blocks (thread_pair mid (written_at_end pair goes)).at) mid new → TakesAtMostTwo old new
 unfolding more
 end_within old mid new pair id goes w l ended second = record {
   written = more old mid new (written_at_end pair goes) w (end_below (length mid.pairs) pair goes l) second;
   within = λ b h. w.within b (
-      let k = number_count-Contains (blocks_of_pairs new.pairs) b h in
-      let same = ap (number_count b) (blocks_alike (pairs_move_ended mid pair id goes) new.pairs ended.alike) in
+      let k = number_occurrences-Contains (pairs_blocks new.pairs) b h in
+      let same = ap (number_occurrences b) (blocks_alike (pairs_move_ended mid pair id goes) new.pairs ended.alike) in
       let f = fewer_ended mid pair id goes b in
-      Contains-number_count (blocks_of_pairs mid.pairs) b (omega (arith, k, same, f))
+      Contains-number_occurrences (pairs_blocks mid.pairs) b (omega (arith, k, same, f))
       );
 }
 
@@ -146,12 +146,12 @@ end_within old mid new pair id goes w l ended second = record {
 
 -- it is a pair's, or was free
 abbrev IsPairsOrFree : KeptThread → ℕ → Type 0
-IsPairsOrFree t b = Contains (blocks_of_pairs t.pairs) b ⊎ IsFree t.map b
+IsPairsOrFree t b = Contains (pairs_blocks t.pairs) b ⊎ IsFree t.map b
 
 pub each_among : (old new : KeptThread) → WritesThreadTwo old new → WritesThreadFree old new
 each_among old new w = record {
-  blocks = blocks_of_pairs old.pairs ++ w.fresh;
-  each = each_append (IsPairsOrFree old) (blocks_of_pairs old.pairs) w.fresh (each_from_counted (IsPairsOrFree old) (blocks_of_pairs old.pairs) (λ b some. inl (Contains-number_count (blocks_of_pairs old.pairs) b some)))
+  blocks = pairs_blocks old.pairs ++ w.fresh;
+  each = each_append (IsPairsOrFree old) (pairs_blocks old.pairs) w.fresh (each_from_counted (IsPairsOrFree old) (pairs_blocks old.pairs) (λ b some. inl (Contains-number_occurrences (pairs_blocks old.pairs) b some)))
       (each_weaker (IsFree old.map) (IsPairsOrFree old) (λ b free. inr free) w.fresh w.free);
   writes = w.writes;
 }

@@ -1,5 +1,5 @@
 -- Which blocks an image uses after a commit: those that it used, and those of a pair that came.
-use Rattle.lfs_operations.proofs.Common.{ℕ, ◌≡◌, ◌≢◌, ◌+◌, ◌≤◌, Bool, true, false, cond, eqb-true, eq-eqb, nat_eq, List, [], ◌∷◌, ◌++◌, length, Some, refl, sym, ap, subst, ◌∙◌, arith, append-nil, set, slice_get, length-set, zero, suc, flat_map, recursion_from_All, flat_map-append, Disk, AreUsed, BlockStates, IsFree, IsInFlight, IsUsedBlock, Free, InFlight, Used, Slot, Pair, blocks_of_pairs, pairs_gstate, all_slots_not_moved, struct_blocks, used_blocks, number_count-Contains, Contains-number_count, slice_get-set_same, slice_get-set_other, SameFiles, slots_files, IsCommit, no_move_from, each_left, each_right, number_count, count_append, SameFileBlocks, HasNoMove, Site, thread_at, IsDevice, file_blocks, all_slots, unmoved_in, count_files, map_using, Contains, ◌↔◌, AreTwoFree, map_taking_two, HasNoneNew, KeepsTakenStates}
+use Rattle.lfs_operations.proofs.Common.{ℕ, ◌≡◌, ◌≢◌, ◌+◌, ◌≤◌, Bool, true, false, cond, eqb-true, eq-eqb, nat_eq, List, [], ◌∷◌, ◌++◌, length, Some, refl, sym, ap, subst, ◌∙◌, arith, append-nil, set, slice_get, length-set, zero, suc, flat_map, recursion_from_All, flat_map-append, Disk, AreUsed, BlockStates, IsFree, IsInFlight, IsUsedBlock, Free, InFlight, Used, Slot, Pair, pairs_blocks, pairs_gstate, all_unmoved_slots, struct_blocks, used_blocks, number_occurrences-Contains, Contains-number_occurrences, slice_get-set_same, slice_get-set_other, SameFiles, slots_files, IsCommit, no_move_from, each_left, each_right, number_occurrences, count_append, SameFileBlocks, HasNoMove, Site, thread_at, IsDevice, file_blocks, all_slots, unmoved_in, count_files, map_using, Contains, ◌↔◌, AreTwoFree, map_taking_two, HasNoneNew, KeepsTakenStates}
 use Rattle.lfs_operations.proofs.Placing.{blocks_append}
 use Rattle.lfs_operations.proofs.Taking.{within}
 
@@ -8,33 +8,33 @@ use Rattle.lfs_operations.proofs.Taking.{within}
 pub slots_append : (xs ys : List Pair) → all_slots (xs ++ ys) ≡ all_slots xs ++ all_slots ys
 slots_append xs ys = flat_map-append (λ (p : Pair). p.content.slots) xs ys
 
-pub count_used : (b : ℕ) (disk : Disk) (ps : List Pair) → HasNoMove (pairs_gstate ps) → number_count b (used_blocks disk ps) ≡ number_count b (blocks_of_pairs ps) + number_count b (file_blocks disk (all_slots ps))
-count_used b disk ps none = count_append b (blocks_of_pairs ps) (flat_map (λ s. struct_blocks disk s.struct) (all_slots_not_moved ps))
-    ∙ ap (λ z. number_count b (blocks_of_pairs ps) + number_count b (file_blocks disk z)) (unmoved_in (pairs_gstate ps) none ps)
+pub count_used : (b : ℕ) (disk : Disk) (ps : List Pair) → HasNoMove (pairs_gstate ps) → number_occurrences b (used_blocks disk ps) ≡ number_occurrences b (pairs_blocks ps) + number_occurrences b (file_blocks disk (all_slots ps))
+count_used b disk ps none = count_append b (pairs_blocks ps) (flat_map (λ s. struct_blocks disk s.struct) (all_unmoved_slots ps))
+    ∙ ap (λ z. number_occurrences b (pairs_blocks ps) + number_occurrences b (file_blocks disk z)) (unmoved_in (pairs_gstate ps) none ps)
 
 -- the slots of a thread, by a site
 pub slots_at : (w : Site) (ps : List Pair) → all_slots (thread_at w ps) ≡ all_slots w.chain ++ (all_slots (w.before ++ w.left) ++ (all_slots ps ++ all_slots (w.right ++ w.after)))
 slots_at w ps = slots_append w.chain ((w.before ++ w.left) ++ (ps ++ (w.right ++ w.after)))
     ∙ ap (λ z. all_slots w.chain ++ z) (slots_append (w.before ++ w.left) (ps ++ (w.right ++ w.after)) ∙ ap (λ z. all_slots (w.before ++ w.left) ++ z) (slots_append ps (w.right ++ w.after)))
 
-pub count_at : (b : ℕ) (disk : Disk) (w : Site) (ps : List Pair) (l mid r : List Slot) → all_slots ps ≡ l ++ (mid ++ r) → number_count b (file_blocks disk (all_slots (thread_at w ps)))
-    ≡ number_count b (file_blocks disk (all_slots w.chain)) + (number_count b (file_blocks disk (all_slots (w.before ++ w.left)))
-    + ((number_count b (file_blocks disk l) + (number_count b (file_blocks disk mid) + number_count b (file_blocks disk r))) + number_count b (file_blocks disk (all_slots (w.right ++ w.after)))))
+pub count_at : (b : ℕ) (disk : Disk) (w : Site) (ps : List Pair) (l mid r : List Slot) → all_slots ps ≡ l ++ (mid ++ r) → number_occurrences b (file_blocks disk (all_slots (thread_at w ps)))
+    ≡ number_occurrences b (file_blocks disk (all_slots w.chain)) + (number_occurrences b (file_blocks disk (all_slots (w.before ++ w.left)))
+    + ((number_occurrences b (file_blocks disk l) + (number_occurrences b (file_blocks disk mid) + number_occurrences b (file_blocks disk r))) + number_occurrences b (file_blocks disk (all_slots (w.right ++ w.after)))))
 count_at b disk w ps l mid r e =
     let f1 = all_slots w.chain in
     let f2 = all_slots (w.before ++ w.left) in
     let g = all_slots (w.right ++ w.after) in
-    let a = ap (λ z. number_count b (file_blocks disk z)) (slots_at w ps) in
+    let a = ap (λ z. number_occurrences b (file_blocks disk z)) (slots_at w ps) in
     let c = count_files b disk f1 (f2 ++ (all_slots ps ++ g)) in
     let d = count_files b disk f2 (all_slots ps ++ g) in
     let h = count_files b disk (all_slots ps) g in
-    let i = ap (λ z. number_count b (file_blocks disk z)) e in
+    let i = ap (λ z. number_occurrences b (file_blocks disk z)) e in
     let j = count_files b disk l (mid ++ r) in
     let k = count_files b disk mid r in
     omega arith
 
-pub count_pairs : (b : ℕ) (w : Site) (ps : List Pair) → number_count b (blocks_of_pairs (thread_at w ps))
-    ≡ number_count b (blocks_of_pairs w.chain) + (number_count b (blocks_of_pairs (w.before ++ w.left)) + (number_count b (blocks_of_pairs ps) + number_count b (blocks_of_pairs (w.right ++ w.after))))
+pub count_pairs : (b : ℕ) (w : Site) (ps : List Pair) → number_occurrences b (pairs_blocks (thread_at w ps))
+    ≡ number_occurrences b (pairs_blocks w.chain) + (number_occurrences b (pairs_blocks (w.before ++ w.left)) + (number_occurrences b (pairs_blocks ps) + number_occurrences b (pairs_blocks (w.right ++ w.after))))
 count_pairs b w ps =
     let a = blocks_append w.chain ((w.before ++ w.left) ++ (ps ++ (w.right ++ w.after))) b in
     let c = blocks_append (w.before ++ w.left) (ps ++ (w.right ++ w.after)) b in
@@ -51,7 +51,7 @@ pub record IsTurnOf (disk new : Disk) (w : Site) (p q : Pair) (more : List Pair)
   pub is : all_slots (q ∷ more) ≡ l ++ (news ++ r)
 
 module _ (disk new : Disk) (w : Site) (p q : Pair) (more : List Pair) (l olds news r : List Slot) (gone come : List ℕ) (c : IsTurnOf disk new w p q more l olds news r)
-    (blocks : (b : ℕ) → number_count b (file_blocks new news) + number_count b gone ≡ number_count b come + number_count b (file_blocks disk olds)) where
+    (blocks : (b : ℕ) → number_occurrences b (file_blocks new news) + number_occurrences b gone ≡ number_occurrences b come + number_occurrences b (file_blocks disk olds)) where
   abbrev ps : List Pair
   ps = thread_at w (p ∷ [])
 
@@ -64,15 +64,15 @@ module _ (disk new : Disk) (w : Site) (p q : Pair) (more : List Pair) (l olds ne
   all_same : SameFiles disk new (all_slots w.chain ++ (all_slots (w.before ++ w.left) ++ ((l ++ (olds ++ r)) ++ all_slots (w.right ++ w.after))))
   all_same = subst (SameFiles disk new)
       (unmoved_in (pairs_gstate ps) c.none ps ∙ slots_at w (p ∷ []) ∙ ap (λ z. all_slots w.chain ++ (all_slots (w.before ++ w.left) ++ (z ++ all_slots (w.right ++ w.after)))) was_one)
-      (recursion_from_All (λ (s : Slot). SameFileBlocks disk new s.struct) (all_slots_not_moved ps) c.device.files)
+      (recursion_from_All (λ (s : Slot). SameFileBlocks disk new s.struct) (all_unmoved_slots ps) c.device.files)
 
   abbrev F : Slot → Type 0
   F s = SameFileBlocks disk new s.struct
 
-  kept : (ss : List Slot) → SameFiles disk new ss → (b : ℕ) → number_count b (file_blocks new ss) ≡ number_count b (file_blocks disk ss)
-  kept ss h b = ap (number_count b) (slots_files disk new ss c.device.geometry h)
+  kept : (ss : List Slot) → SameFiles disk new ss → (b : ℕ) → number_occurrences b (file_blocks new ss) ≡ number_occurrences b (file_blocks disk ss)
+  kept ss h b = ap (number_occurrences b) (slots_files disk new ss c.device.geometry h)
 
-  pub turned_count : (b : ℕ) → number_count b (used_blocks new qs) + number_count b gone ≡ number_count b (blocks_of_pairs more) + number_count b (used_blocks disk ps) + number_count b come
+  pub turned_count : (b : ℕ) → number_occurrences b (used_blocks new qs) + number_occurrences b gone ≡ number_occurrences b (pairs_blocks more) + number_occurrences b (used_blocks disk ps) + number_occurrences b come
   turned_count b =
       let f1 = all_slots w.chain in
       let f2 = all_slots (w.before ++ w.left) in
@@ -95,13 +95,13 @@ module _ (disk new : Disk) (w : Site) (p q : Pair) (more : List Pair) (l olds ne
       let b2 = count_at b disk w (p ∷ []) l olds r was_one in
       let d1 = count_pairs b w (q ∷ more) in
       let d2 = count_pairs b w (p ∷ []) in
-      let at = ap (λ (a : ℕ × ℕ). number_count b (a.0 ∷ a.1 ∷ [])) c.at in
-      let k = count_append b (q.at.0 ∷ q.at.1 ∷ []) (blocks_of_pairs more) in
+      let at = ap (λ (a : ℕ × ℕ). number_occurrences b (a.0 ∷ a.1 ∷ [])) c.at in
+      let k = count_append b (q.at.0 ∷ q.at.1 ∷ []) (pairs_blocks more) in
       omega arith
 
 pub used_count_now : (disk new : Disk) (w : Site) (p q : Pair) (more : List Pair) (l olds news r : List Slot) (gone come : List ℕ) → IsCommit disk new w p q more come l olds news r
-    → ((b : ℕ) → number_count b (file_blocks new news) + number_count b gone ≡ number_count b come + number_count b (file_blocks disk olds))
-    → (b : ℕ) → number_count b (used_blocks new (thread_at w (q ∷ more))) + number_count b gone ≡ number_count b (blocks_of_pairs more) + number_count b (used_blocks disk (thread_at w (p ∷ []))) + number_count b come
+    → ((b : ℕ) → number_occurrences b (file_blocks new news) + number_occurrences b gone ≡ number_occurrences b come + number_occurrences b (file_blocks disk olds))
+    → (b : ℕ) → number_occurrences b (used_blocks new (thread_at w (q ∷ more))) + number_occurrences b gone ≡ number_occurrences b (pairs_blocks more) + number_occurrences b (used_blocks disk (thread_at w (p ∷ []))) + number_occurrences b come
 used_count_now disk new w p q more l olds news r gone come c blocks = turned_count disk new w p q more l olds news r gone come
     (record {
       none = no_move_from (thread_at w (p ∷ [])) c.settled;
@@ -118,18 +118,18 @@ unlike : Some Free ≡ Some Used → ⊥
 unlike e = absurd (cc)
 
 -- a free block isn't among the used ones
-pub not_used : (sets : BlockStates) (bs : List ℕ) → AreUsed sets bs → (b : ℕ) → IsFree sets b → number_count b bs ≡ 0
-not_used sets bs used b free = go (number_count b bs) refl
+pub not_used : (sets : BlockStates) (bs : List ℕ) → AreUsed sets bs → (b : ℕ) → IsFree sets b → number_occurrences b bs ≡ 0
+not_used sets bs used b free = go (number_occurrences b bs) refl
   where
-    go : (n : ℕ) → number_count b bs ≡ n → n ≡ 0
+    go : (n : ℕ) → number_occurrences b bs ≡ n → n ≡ 0
     go zero e = refl
-    go (suc n) e = absurd (unlike (sym free ∙ (used b).1 (Contains-number_count bs b (omega arith))))
+    go (suc n) e = absurd (unlike (sym free ∙ (used b).1 (Contains-number_occurrences bs b (omega arith))))
 
 -- where the image uses the same
-pub used_same : (sets : BlockStates) (us vs : List ℕ) → ((b : ℕ) → number_count b vs ≡ number_count b us) → AreUsed sets us → AreUsed sets vs
+pub used_same : (sets : BlockStates) (us vs : List ℕ) → ((b : ℕ) → number_occurrences b vs ≡ number_occurrences b us) → AreUsed sets us → AreUsed sets vs
 used_same sets us vs same used b = (
-  (λ h. Contains-number_count vs b (let k = number_count-Contains us b ((used b).0 h) in let e = same b in omega arith)),
-  (λ h. (used b).1 (Contains-number_count us b (let k = number_count-Contains vs b h in let e = same b in omega arith))),
+  (λ h. Contains-number_occurrences vs b (let k = number_occurrences-Contains us b ((used b).0 h) in let e = same b in omega arith)),
+  (λ h. (used b).1 (Contains-number_occurrences us b (let k = number_occurrences-Contains vs b h in let e = same b in omega arith))),
 )
 
 -- two blocks come
@@ -171,17 +171,17 @@ module _ (sets : BlockStates) (fresh : ℕ × ℕ) (two : AreTwoFree sets fresh)
       go false true e f = absurd (used_there (ap (slice_get now) (eqb-true b fresh.1 f) ∙ second_used))
       go false false e f = sym (elsewhere b (λ k. absurd (let z = sym (eq-eqb b fresh.0 k) ∙ e in cc)) (λ k. absurd (let z = sym (eq-eqb b fresh.1 k) ∙ f in cc))) ∙ flies
 
-  pub used_more : (us vs : List ℕ) → ((b : ℕ) → number_count b vs ≡ number_count b (fresh.0 ∷ fresh.1 ∷ []) + number_count b us) → AreUsed sets us → AreUsed now vs
+  pub used_more : (us vs : List ℕ) → ((b : ℕ) → number_occurrences b vs ≡ number_occurrences b (fresh.0 ∷ fresh.1 ∷ []) + number_occurrences b us) → AreUsed sets us → AreUsed now vs
   used_more us vs more used b = go (nat_eq b fresh.0) (nat_eq b fresh.1) refl refl (more b)
     where
-      both : slice_get now b ≡ Some Used → 1 ≤ number_count b vs → IsUsedBlock now b ↔ Contains vs b
-      both is some = ((λ h. Contains-number_count vs b some), (λ h. is))
+      both : slice_get now b ≡ Some Used → 1 ≤ number_occurrences b vs → IsUsedBlock now b ↔ Contains vs b
+      both is some = ((λ h. Contains-number_occurrences vs b some), (λ h. is))
 
-      go : (x y : Bool) → nat_eq b fresh.0 ≡ x → nat_eq b fresh.1 ≡ y → number_count b vs ≡ (cond x 1 0 + (cond y 1 0 + 0)) + number_count b us → IsUsedBlock now b ↔ Contains vs b
+      go : (x y : Bool) → nat_eq b fresh.0 ≡ x → nat_eq b fresh.1 ≡ y → number_occurrences b vs ≡ (cond x 1 0 + (cond y 1 0 + 0)) + number_occurrences b us → IsUsedBlock now b ↔ Contains vs b
       go true y e f m = both (ap (slice_get now) (eqb-true b fresh.0 e) ∙ first_used) (omega arith)
       go false true e f m = both (ap (slice_get now) (eqb-true b fresh.1 f) ∙ second_used) (omega arith)
       go false false e f m =
           let same = elsewhere b (λ k. absurd (let z = sym (eq-eqb b fresh.0 k) ∙ e in cc)) (λ k. absurd (let z = sym (eq-eqb b fresh.1 k) ∙ f in cc)) in (
-            (λ h. Contains-number_count vs b (let n = number_count-Contains us b ((used b).0 (sym same ∙ h)) in omega arith)),
-            (λ h. same ∙ (used b).1 (Contains-number_count us b (let n = number_count-Contains vs b h in omega arith))),
+            (λ h. Contains-number_occurrences vs b (let n = number_occurrences-Contains us b ((used b).0 (sym same ∙ h)) in omega arith)),
+            (λ h. same ∙ (used b).1 (Contains-number_occurrences us b (let n = number_occurrences-Contains vs b h in omega arith))),
           )

@@ -1,5 +1,5 @@
 -- A pair of a directory at a path, in an image that may be changed: what is known of it as a site of the thread.
-use Rattle.lfs_operations.proofs.Common.{ℕ, ◌≡◌, ◌+◌, true, List, [], ◌∷◌, ◌++◌, length, sym, ap, subst, ◌∙◌, Path, IsPairAt, IsPairOfDirectory, IsWritable, LeadsTo, Pair, pairs_gstate, IsAccepted, same_pair, zero_gstate, is_site, number_is, same, site, thread_is, IsSite, Site, begin_of, thread_at, KeptThread, IsReadyImage}
+use Rattle.lfs_operations.proofs.Common.{ℕ, ◌≡◌, ◌+◌, true, List, [], ◌∷◌, ◌++◌, length, sym, ap, subst, ◌∙◌, Path, IsPairAt, IsDirectoryPair, IsWritable, LeadsTo, Pair, pairs_gstate, IsAccepted, same_pair, zero_gstate, is_site, number_is, same, site, thread_is, IsSite, Site, begin_of, thread_at, KeptThread, IsReadyImage}
 
 pub record HasPairAt (t : KeptThread) (index : ℕ) (path : Path) (at : ℕ × ℕ) (w : Site) (p : Pair) : Type 0 where
   pub there : t.pairs ≡ thread_at w (p ∷ [])
@@ -11,7 +11,7 @@ pub record HasPairAt (t : KeptThread) (index : ℕ) (path : Path) (at : ℕ × �
   pub writable : IsWritable t.disk (thread_at w (p ∷ []))
   pub settled : pairs_gstate (thread_at w (p ∷ [])) ≡ zero_gstate
 
-pub pair_at : (t : KeptThread) (ready : IsReadyImage t) (path : Path) (at : ℕ × ℕ) (leads : LeadsTo t.pairs path at) (first index : ℕ) (p : Pair) (rest : List Pair) (place : IsPairOfDirectory t.pairs first index p rest) (begins : IsPairAt t.pairs at first)
+pub pair_at : (t : KeptThread) (ready : IsReadyImage t) (path : Path) (at : ℕ × ℕ) (leads : LeadsTo t.pairs path at) (first index : ℕ) (p : Pair) (rest : List Pair) (place : IsDirectoryPair t.pairs first index p rest) (begins : IsPairAt t.pairs at first)
     → HasPairAt t index path at (site t.disk t.pairs path at ready.accepted leads first index p rest place begins) p
 pair_at t ready path at leads first index p rest place begins = record {
   there = there;

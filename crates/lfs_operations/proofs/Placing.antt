@@ -1,24 +1,24 @@
 -- At a site of an accepted image a pair becomes others, on a disk where only its blocks and some that nobody owned differ.
-use Rattle.lfs_operations.proofs.Common.{ℕ, ◌≡◌, ◌≢◌, ◌⊎◌, inl, inr, ◌+◌, ◌≤◌, true, cond, nat_eq, List, [], ◌∷◌, ◌++◌, take, Some, refl, sym, ap, subst, ◌∙◌, arith, append_assoc, IsDistinct, flat_map, All-from_recursion, flat_map-append, Disk, disk_block, SameGeometry, Blocks, HasEither, with_blocks, IsWritableSlot, IsWritable, FitsInPair, Slot, PathAddresses, Tree, content_at, current_block, Pair, blocks_of_pairs, first_address, pair_count_before_root, pairs_from_root, starts_superblock, BeginsWith, superblock_entry, IsAccepted, first_slots, all_slots_not_moved, tree_on_disk, used_blocks, struct_blocks, Each, number_count, count_append, once_from_distinct, each_from_counted, Site, thread_at, IsDevice, IsChangedImage, chain_of_thread, IsChain, HasFirst, All, append-nil, from_first_slots, has_slots, first_slot_name}
+use Rattle.lfs_operations.proofs.Common.{ℕ, ◌≡◌, ◌≢◌, ◌⊎◌, inl, inr, ◌+◌, ◌≤◌, true, cond, nat_eq, List, [], ◌∷◌, ◌++◌, take, Some, refl, sym, ap, subst, ◌∙◌, arith, append_assoc, IsDistinct, flat_map, All-from_recursion, flat_map-append, Disk, disk_block, SameGeometry, Blocks, HasEither, with_blocks, IsWritableSlot, IsWritable, FitsInPair, Slot, PathAddresses, Tree, content_at, current_block, Pair, pairs_blocks, first_address, count_before_root, pairs_from_root, starts_superblock, BeginsWith, superblock_entry, IsAccepted, first_pair_slots, all_unmoved_slots, disk_tree, used_blocks, struct_blocks, Each, number_occurrences, count_append, once_from_distinct, each_from_counted, Site, thread_at, IsDevice, IsChangedImage, chain_of_thread, IsChain, HasFirst, All, append-nil, from_first_slots, has_slots, first_slot_name, device_from}
 use Rattle.lfs_model.specs.declared.limits.Profile.{Profile}
 use Rattle.lfs_model.specs.layers.Steps.{IsWritableChange}
-use Rattle.lfs_model.proofs.Devices.{device_from, first_same}
+use Rattle.lfs_model.proofs.Devices.{first_same}
 use Rattle.lfs_model.proofs.Superblocks.{Behind, FromSlots, InFront, first_counted, from_front}
 use Rattle.lfs_model.proofs.Unchanged.{accepted_first, same_follows}
 
 -- ---- blocks
 
-pub all_apart : (bs : List ℕ) (b : ℕ) → number_count b bs ≡ 0 → All (λ k. k ≢ b) bs
-all_apart bs b none = All-from_recursion (λ k. k ≢ b) bs (each_from_counted (λ k. k ≢ b) bs (λ k some e. absurd (let h = ap (λ z. number_count z bs) e in omega arith)))
+pub all_apart : (bs : List ℕ) (b : ℕ) → number_occurrences b bs ≡ 0 → All (λ k. k ≢ b) bs
+all_apart bs b none = All-from_recursion (λ k. k ≢ b) bs (each_from_counted (λ k. k ≢ b) bs (λ k some e. absurd (let h = ap (λ z. number_occurrences z bs) e in omega arith)))
 
-pub blocks_append : (xs ys : List Pair) (b : ℕ) → number_count b (blocks_of_pairs (xs ++ ys)) ≡ number_count b (blocks_of_pairs xs) + number_count b (blocks_of_pairs ys)
-blocks_append xs ys b = ap (number_count b) (flat_map-append (λ (s : Pair). s.at.0 ∷ s.at.1 ∷ []) xs ys) ∙ count_append b (blocks_of_pairs xs) (blocks_of_pairs ys)
+pub blocks_append : (xs ys : List Pair) (b : ℕ) → number_occurrences b (pairs_blocks (xs ++ ys)) ≡ number_occurrences b (pairs_blocks xs) + number_occurrences b (pairs_blocks ys)
+blocks_append xs ys b = ap (number_occurrences b) (flat_map-append (λ (s : Pair). s.at.0 ∷ s.at.1 ∷ []) xs ys) ∙ count_append b (pairs_blocks xs) (pairs_blocks ys)
 
 -- ---- one pair became others
 
 pub record IsPlaced (old disk : Disk) (p q : Pair) (more : List Pair) (extra : List ℕ) : Type 0 where
   pub geometry : SameGeometry old disk
-  pub same : (b : ℕ) → number_count b (extra ++ blocks_of_pairs (p ∷ [])) ≡ 0 → disk_block disk b ≡ disk_block old b
+  pub same : (b : ℕ) → number_occurrences b (extra ++ pairs_blocks (p ∷ [])) ≡ 0 → disk_block disk b ≡ disk_block old b
   pub contents : Each (λ x. content_at disk x.at ≡ Some x.content) (q ∷ more)
   pub first : HasFirst p.content.slots → BeginsWith (current_block old p.at) superblock_entry → BeginsWith (current_block disk p.at) superblock_entry
 
@@ -37,27 +37,27 @@ module _ (old disk : Disk) (w : Site) (p q : Pair) (more : List Pair) (extra : L
   grouped = sym (append_assoc w.chain (w.before ++ w.left) (p ∷ (w.right ++ w.after)))
 
   -- no extra block is one of the thread's
-  apart : (b : ℕ) → 1 ≤ number_count b (blocks_of_pairs ps) → number_count b extra ≡ 0
+  apart : (b : ℕ) → 1 ≤ number_occurrences b (pairs_blocks ps) → number_occurrences b extra ≡ 0
   apart b some =
       let n = once_from_distinct (extra ++ used_blocks old ps) free b in
       let e = count_append b extra (used_blocks old ps) in
-      let f = count_append b (blocks_of_pairs ps) (flat_map (λ (s : Slot). struct_blocks old s.struct) (all_slots_not_moved ps)) in
+      let f = count_append b (pairs_blocks ps) (flat_map (λ (s : Slot). struct_blocks old s.struct) (all_unmoved_slots ps)) in
       omega arith
 
   abbrev Begins : ℕ × ℕ → Type 0
   Begins at = BeginsWith (current_block disk at) superblock_entry
 
   -- a pair of the others, whose blocks are none that changed
-  other_first : (c : Pair) → first_address (from_first_slots ps) ≡ c.at → 1 ≤ number_count c.at.0 (blocks_of_pairs front) + number_count c.at.0 (blocks_of_pairs back) → 1 ≤ number_count c.at.1 (blocks_of_pairs front) + number_count c.at.1 (blocks_of_pairs back) → Begins (first_address (from_first_slots ps))
+  other_first : (c : Pair) → first_address (from_first_slots ps) ≡ c.at → 1 ≤ number_occurrences c.at.0 (pairs_blocks front) + number_occurrences c.at.0 (pairs_blocks back) → 1 ≤ number_occurrences c.at.1 (pairs_blocks front) + number_occurrences c.at.1 (pairs_blocks back) → Begins (first_address (from_first_slots ps))
   other_first c e f s = subst Begins (sym e) (first_same old disk c.at (still c.at.0 f) (still c.at.1 s) (subst (λ at. BeginsWith (current_block old at) superblock_entry) e ok.first))
     where
-      still : (b : ℕ) → 1 ≤ number_count b (blocks_of_pairs front) + number_count b (blocks_of_pairs back) → disk_block disk b ≡ disk_block old b
+      still : (b : ℕ) → 1 ≤ number_occurrences b (pairs_blocks front) + number_occurrences b (pairs_blocks back) → disk_block disk b ≡ disk_block old b
       still b some = is.same b (
-          let n = once_from_distinct (blocks_of_pairs ps) ok.thread.distinct b in
-          let w = ap (λ z. number_count b (blocks_of_pairs z)) grouped ∙ blocks_append front (p ∷ back) b in
+          let n = once_from_distinct (pairs_blocks ps) ok.thread.distinct b in
+          let w = ap (λ z. number_occurrences b (pairs_blocks z)) grouped ∙ blocks_append front (p ∷ back) b in
           let v = blocks_append (p ∷ []) back b in
           let a = apart b in
-          let k = count_append b extra (blocks_of_pairs (p ∷ [])) in
+          let k = count_append b extra (pairs_blocks (p ∷ [])) in
           let none = a (omega arith) in
           omega arith)
 
@@ -93,9 +93,9 @@ module _ (old disk : Disk) (w : Site) (p q : Pair) (more : List Pair) (extra : L
 
 -- the disk has the thread and the files that it had: it is accepted as before, and shows the same tree
 pub nothing_came : (old disk : Disk) (ps : List Pair) → IsAccepted old ps → IsDevice old disk ps ps → IsChangedImage old ps disk ps (λ t. t) (λ d. d)
-nothing_came old disk ps ok device = go (take (pair_count_before_root ps) ps) (pairs_from_root ps) (chain_of_thread ps).0 (chain_of_thread ps).1 ok.root
+nothing_came old disk ps ok device = go (take (count_before_root ps) ps) (pairs_from_root ps) (chain_of_thread ps).0 (chain_of_thread ps).1 ok.root
   where
-    go : (chain rest : List Pair) → ps ≡ chain ++ rest → IsChain chain rest → starts_superblock (first_slots rest) ≡ true → IsChangedImage old ps disk ps (λ t. t) (λ d. d)
+    go : (chain rest : List Pair) → ps ≡ chain ++ rest → IsChain chain rest → starts_superblock (first_pair_slots rest) ≡ true → IsChangedImage old ps disk ps (λ t. t) (λ d. d)
     go chain [] e is_chain root = absurd (cc)
     go chain (x ∷ rest) e is_chain root = subst (λ z. IsChangedImage old z disk z (λ t. t) (λ d. d)) (sym e)
         (same_follows old disk chain x rest is_chain (subst (IsAccepted old) e ok) (subst (λ z. IsDevice old disk z z) e device))
@@ -116,10 +116,10 @@ either f g (inr b) = inr (g b)
 
 -- what is left has the thread after the step
 pub left_after : {old new : Disk} {ps qs : List Pair} {change : Tree → Tree} {walk : PathAddresses → PathAddresses} {before after : Tree} → IsWritableChange old ps new qs change walk
-    → (change (tree_on_disk old ps) ≡ before) ⊎ (change (tree_on_disk old ps) ≡ after) → HasEither new before after
+    → (change (disk_tree old ps) ≡ before) ⊎ (change (disk_tree old ps) ≡ after) → HasEither new before after
 left_after {qs = qs} f shows = record { pairs = qs; accepted = f.follows.accepted; writable = f.writable; tree = either (λ e. f.follows.shows ∙ e) (λ e. f.follows.shows ∙ e) shows }
 
 -- or the thread that was there
-pub left_still : (old : Disk) (left : Blocks) (ps : List Pair) {before after : Tree} → IsAccepted old ps → IsWritable old ps → IsDevice old (with_blocks left old) ps ps → (tree_on_disk old ps ≡ before) ⊎ (tree_on_disk old ps ≡ after)
+pub left_still : (old : Disk) (left : Blocks) (ps : List Pair) {before after : Tree} → IsAccepted old ps → IsWritable old ps → IsDevice old (with_blocks left old) ps ps → (disk_tree old ps ≡ before) ⊎ (disk_tree old ps ≡ after)
     → HasEither (with_blocks left old) before after
 left_still old left ps ok writable device = left_after (record { follows = nothing_came old (with_blocks left old) ps ok device; writable = profile_same old (with_blocks left old) ps refl refl refl writable })

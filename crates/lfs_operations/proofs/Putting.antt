@@ -1,5 +1,5 @@
 -- A pair that is changed, or split into two free blocks.
-use Rattle.lfs_operations.proofs.Common.{ℕ, ◌≡◌, ◌≢◌, ◌∙◌, ◌≤◌, ◌⊎◌, Option, None, Some, inl, inr, List, [], ◌∷◌, Result, Ok, Err, arith, refl, sym, ◌∙◌, set, Blocks, BlockStates, Free, InFlight, PairChange, Disk, PairContent, CallEvent, OnlyReadsSince, fault_count, slice_get-set_same, slice_get-set_other, HoldsAtLosses-weaker, HoldsAtLosses-trans, StayUnprogrammed-refl, StayUnprogrammed-trans, AllCallsSince-until, AllCallsSince-behind, OnlyReadsSince-trans, StayUnprogrammed-read_count, HoldsAtLosses-read_count, LossLeavesAtWorst-read, LossLeavesCleanly, KeptThread, thread_pair_at, BothOnDisk, PartsFitPairs, CanSplitAt, LossLeavesPairChanged, HasOldPair, LossLeavesPairSplit, OnlyReadsThread, IsSplitInTwo, ChangesThreadBlocks, addresses_blocks, SameExceptThese-trans, SameExceptThese-wider, StayUnprogrammed-wider, All, Error, FreshInFlight, AreTwoFree, CanTurn, IsPairSplit, IsSplitInto, LeftByTurn, ChangeIsTooLarge, LeftBySplit, ReportsFaultsChangingNothingAtNoSpace, WritesPairTwo, map_taking_two, Tree, HasEither, with_blocks, SurvivesLossSince, survives_then}
+use Rattle.lfs_operations.proofs.Common.{ℕ, ◌≡◌, ◌≢◌, ◌∙◌, ◌≤◌, ◌⊎◌, Option, None, Some, inl, inr, List, [], ◌∷◌, Result, Ok, Err, arith, refl, sym, set, Blocks, BlockStates, Free, InFlight, PairChange, Disk, PairContent, CallEvent, OnlyReadsSince, fault_count, slice_get-set_same, slice_get-set_other, HoldsAtLosses-weaker, HoldsAtLosses-trans, StayUnprogrammed-refl, StayUnprogrammed-trans, AllCallsSince-until, AllCallsSince-behind, OnlyReadsSince-trans, StayUnprogrammed-read_count, HoldsAtLosses-read_count, LossLeavesAtWorst-read, CleanLossLeaves, KeptThread, thread_pair, BothOnDisk, PartsFit, CanSplitAt, LossLeavesPair, HasOldPair, LossLeavesBoth, OnlyReadsThread, HasSplit, ChangesThreadBlocks, addresses_blocks, SameExceptThese-trans, SameExceptThese-wider, StayUnprogrammed-wider, All, Error, FreshInFlight, AreTwoFree, CanPut, IsPairSplit, IsSplitInto, LeftByPut, OverfillsPair, LeftBySplit, ReportsSpaceErrors, WritesPairTwo, map_taking_two, Tree, HasEither, with_blocks, SurvivesLossSince, survives_then}
 use Rattle.lfs_model.proofs.Histories.{began}
 use Rattle.lfs_thread.specs.CachedLog.{reads_unless_cached}
 use Rattle.lfs_operations.proofs.Taking.{within}
@@ -31,12 +31,12 @@ writes_trans first second = record {
 -- ---- atomic steps, one after another
 
 -- a step that leaves one of two trees at a stop
-pub survives_step : (disk : Disk) {old new : List CallEvent} {before after : Tree} {P : Blocks → Type 0} → ((left : Blocks) → P left → HasEither (with_blocks left disk) before after) → LossLeavesCleanly old new P → SurvivesLossSince disk old new before after
+pub survives_step : (disk : Disk) {old new : List CallEvent} {before after : Tree} {P : Blocks → Type 0} → ((left : Blocks) → P left → HasEither (with_blocks left disk) before after) → CleanLossLeaves old new P → SurvivesLossSince disk old new before after
 survives_step disk left stops clean = HoldsAtLosses-weaker left (stops clean)
 
 -- and one more, after steps that left one of them
 pub survives_more : {t mid new : KeptThread} {bs cs : List ℕ} (before after : Tree) {P : Blocks → Type 0} → ChangesThreadBlocks bs t mid → ChangesThreadBlocks cs mid new → SurvivesLossSince t.disk t.history mid.history before after
-    → ((left : Blocks) → P left → HasEither (with_blocks left t.disk) before after) → LossLeavesCleanly mid.history new.history P → SurvivesLossSince t.disk t.history new.history before after
+    → ((left : Blocks) → P left → HasEither (with_blocks left t.disk) before after) → CleanLossLeaves mid.history new.history P → SurvivesLossSince t.disk t.history new.history before after
 survives_more {t = t} {mid = mid} {new = new} before after one two first left stops =
     survives_then t.disk t.history mid.history new.history before after one.at_worst two.at_worst first (λ clean. HoldsAtLosses-weaker left (stops clean))
 
@@ -57,7 +57,7 @@ held sets fresh two = record {
     first_taken : BlockStates
     first_taken = set sets fresh.0 InFlight
 
-pub can_split : (t : KeptThread) (index : ℕ) (fresh : ℕ × ℕ) (changes : List PairChange) → CanTurn t index changes → AreTwoFree t.map fresh → CanSplitAt (with_map t (map_taking_two t.map fresh)) index fresh changes
+pub can_split : (t : KeptThread) (index : ℕ) (fresh : ℕ × ℕ) (changes : List PairChange) → CanPut t index changes → AreTwoFree t.map fresh → CanSplitAt (with_map t (map_taking_two t.map fresh)) index fresh changes
 can_split t index fresh changes can two = record {
   can = record { below = can.can.below; content = can.can.content; made = can.can.made; next = can.can.next };
   held = held t.map fresh two;
@@ -72,10 +72,10 @@ module _ (t : KeptThread) (index : ℕ) (fresh : ℕ × ℕ) (changes : List Pai
   abbrev mid : KeptThread
   mid = with_map t (map_taking_two t.map fresh)
 
-  parts_same : {content : PairContent} {cut : ℕ} {disk : Disk} → PartsFitPairs mid index content cut fresh disk → PartsFitPairs t index content cut fresh disk
+  parts_same : {content : PairContent} {cut : ℕ} {disk : Disk} → PartsFit mid index content cut fresh disk → PartsFit t index content cut fresh disk
   parts_same p = record { front_fits = p.front_fits; back_fits = p.back_fits; inside = p.inside; first = p.first }
 
-  pub cut_in : (new : KeptThread) → IsSplitInTwo mid index fresh changes new → ChangesThreadBlocks (addresses_blocks (thread_pair_at t index).at fresh) mid new → IsSplitInto t index fresh changes new
+  pub cut_in : (new : KeptThread) → HasSplit mid index fresh changes new → ChangesThreadBlocks (addresses_blocks (thread_pair t index).at fresh) mid new → IsSplitInto t index fresh changes new
   cut_in new is writes = record {
     free = two;
     content = is.content;
@@ -90,7 +90,7 @@ module _ (t : KeptThread) (index : ℕ) (fresh : ℕ × ℕ) (changes : List Pai
     writes = record { others = writes.others; elsewhere = writes.elsewhere; shape = writes.shape; at_worst = writes.at_worst };
   }
 
-  pub left_by_cut : (left : Blocks) → LossLeavesPairSplit mid index fresh changes left → LeftBySplit t index changes left
+  pub left_by_cut : (left : Blocks) → LossLeavesBoth mid index fresh changes left → LeftBySplit t index changes left
   left_by_cut left l = (fresh, (two, record { others = l.others; content = go l.content }))
     where
       go : HasOldPair mid index (record t.disk { blocks = left }) ⊎ BothOnDisk mid index changes fresh (record t.disk { blocks = left })
@@ -98,10 +98,10 @@ module _ (t : KeptThread) (index : ℕ) (fresh : ℕ × ℕ) (changes : List Pai
       go (inl b) = inl (record { holds = b.holds; first = b.first })
       go (inr h) = inr (record { content = h.content; made = h.made; cut = h.cut; front = h.front; back = h.back; parts = parts_same h.parts })
 
-  pub stops_by_cut : (new : List CallEvent) → LossLeavesCleanly t.history new (LossLeavesPairSplit mid index fresh changes) → LossLeavesCleanly t.history new (LeftBySplit t index changes)
+  pub stops_by_cut : (new : List CallEvent) → CleanLossLeaves t.history new (LossLeavesBoth mid index fresh changes) → CleanLossLeaves t.history new (LeftBySplit t index changes)
   stops_by_cut new stops clean = HoldsAtLosses-weaker left_by_cut (stops clean)
 
-  pub writes_in : (new : KeptThread) → ChangesThreadBlocks (addresses_blocks (thread_pair_at t index).at fresh) mid new → WritesPairTwo t index new
+  pub writes_in : (new : KeptThread) → ChangesThreadBlocks (addresses_blocks (thread_pair t index).at fresh) mid new → WritesPairTwo t index new
   writes_in new w = record {
     fresh = fresh.0 ∷ fresh.1 ∷ [];
     few = omega arith;
@@ -126,7 +126,7 @@ writes_none t index = record {
   free = tt;
   writes = record {
     others = record { count = refl; sizes = λ b. refl; others = λ b apart. refl };
-    elsewhere = StayUnprogrammed-refl ((thread_pair_at t index).at.0 ∷ (thread_pair_at t index).at.1 ∷ []) t.history;
+    elsewhere = StayUnprogrammed-refl ((thread_pair t index).at.0 ∷ (thread_pair t index).at.1 ∷ []) t.history;
     shape = record { block_size = refl; page = refl; order = refl; profile = refl; count = refl };
     at_worst = began;
   };
@@ -145,7 +145,7 @@ module _ (t : KeptThread) (h : List CallEvent) (reads : OnlyReadsSince t.disk.bl
   abbrev later : KeptThread
   later = with_history t h
 
-  parts_earlier : {content : PairContent} {cut : ℕ} {fresh : ℕ × ℕ} {disk : Disk} → PartsFitPairs later index content cut fresh disk → PartsFitPairs t index content cut fresh disk
+  parts_earlier : {content : PairContent} {cut : ℕ} {fresh : ℕ × ℕ} {disk : Disk} → PartsFit later index content cut fresh disk → PartsFit t index content cut fresh disk
   parts_earlier p = record { front_fits = p.front_fits; back_fits = p.back_fits; inside = p.inside; first = p.first }
 
   writes_behind : (bs : List ℕ) (new : KeptThread) → ChangesThreadBlocks bs later new → ChangesThreadBlocks bs t new
@@ -170,7 +170,7 @@ module _ (t : KeptThread) (h : List CallEvent) (reads : OnlyReadsSince t.disk.bl
       pairs = is.pairs;
       thread = is.thread;
       map = is.map;
-      writes = writes_behind (addresses_blocks (thread_pair_at t index).at fresh) new is.writes;
+      writes = writes_behind (addresses_blocks (thread_pair t index).at fresh) new is.writes;
     },
   )
 
@@ -182,7 +182,7 @@ module _ (t : KeptThread) (h : List CallEvent) (reads : OnlyReadsSince t.disk.bl
       go (inl b) = inl (record { holds = b.holds; first = b.first })
       go (inr k) = inr (record { content = k.content; made = k.made; cut = k.cut; front = k.front; back = k.back; parts = parts_earlier k.parts })
 
-  pub reports_later : {X : Type 0} (new : KeptThread) (result : Result X Error) → fault_count h ≡ fault_count t.history → ReportsFaultsChangingNothingAtNoSpace later new result → ReportsFaultsChangingNothingAtNoSpace t new result
+  pub reports_later : {X : Type 0} (new : KeptThread) (result : Result X Error) → fault_count h ≡ fault_count t.history → ReportsSpaceErrors later new result → ReportsSpaceErrors t new result
   reports_later new result same reported = record {
     errors = reported.errors;
     fault = λ io. (let k = reported.fault io in omega (arith, k, same));
@@ -197,11 +197,11 @@ module _ (t : KeptThread) (h : List CallEvent) (reads : OnlyReadsSince t.disk.bl
     fresh = w.fresh;
     few = w.few;
     free = w.free;
-    writes = writes_behind ((thread_pair_at t index).at.0 ∷ (thread_pair_at t index).at.1 ∷ w.fresh) new w.writes;
+    writes = writes_behind ((thread_pair t index).at.0 ∷ (thread_pair t index).at.1 ∷ w.fresh) new w.writes;
   }
 
-  pub stops_later : (new : KeptThread) → ChangeIsTooLarge t index changes → WritesPairTwo later index new → LossLeavesCleanly t.history h (LossLeavesPairChanged t index changes) → LossLeavesCleanly h new.history (LeftBySplit later index changes)
-      → LossLeavesCleanly t.history new.history (LeftByTurn t index changes)
+  pub stops_later : (new : KeptThread) → OverfillsPair t index changes → WritesPairTwo later index new → CleanLossLeaves t.history h (LossLeavesPair t index changes) → CleanLossLeaves h new.history (LeftBySplit later index changes)
+      → CleanLossLeaves t.history new.history (LeftByPut t index changes)
   stops_later new large w first second clean =
       HoldsAtLosses-trans (HoldsAtLosses-weaker (λ left l. inl l) (first (AllCallsSince-until clean reads w.writes.at_worst)))
       (HoldsAtLosses-weaker (λ left l. inr (large, left_later left l)) (second (AllCallsSince-behind clean reads w.writes.at_worst)))

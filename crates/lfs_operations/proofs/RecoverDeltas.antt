@@ -1,5 +1,5 @@
 -- What a commit makes of a pair that sets the global state.
-use Rattle.lfs_operations.proofs.Common.{ℕ, ◌≡◌, ◌<◌, List, [], ◌∷◌, Some, refl, sym, ap, subst, ◌∙◌, arith, get_or, length, zero, suc, same_Some, recursion_from_All, PutMove, changed_content_of, RawContent, complete_content, content_at, raw_content, MoveStateFits, FitsInPair, Gstate, gstate_xor, Pair, pairs_gstate, completed_from, completed_parts, Each, each_weaker, does_first, does_nothing, puts_move, KeptThread, CanChangePair, RefusesChanges, complete_after, empty_anchor, thread_pair_at, option_and_then, CanSetGstate, gstate_changes, delta_reaching_gstate, content_reaching_gstate, HoldBytes}
+use Rattle.lfs_operations.proofs.Common.{ℕ, ◌≡◌, ◌<◌, List, [], ◌∷◌, Some, refl, sym, ap, subst, ◌∙◌, arith, get_or, length, zero, suc, same_Some, recursion_from_All, PutMove, changed_content_of, RawContent, complete_content, content_at, raw_content, MoveStateFits, FitsInPair, Gstate, gstate_xor, Pair, pairs_gstate, completed_from, completed_parts, Each, each_weaker, does_first, does_nothing, puts_move, KeptThread, CanChangePair, RefusesChanges, complete_after, empty_anchor, thread_pair, option_and_then, CanSetGstate, gstate_changes, delta_reaching_gstate, content_reaching_gstate, AreByteBlocks}
 use Rattle.lfs_operations.proofs.Held.{completes_to}
 use Rattle.lfs_operations.proofs.DroppedTails.{all_again, move_xor, moves_joined, IsWritableAgain}
 
@@ -9,9 +9,9 @@ each_at P [] index low h = absurd (omega arith)
 each_at P (p ∷ ps) zero low h = h.0
 each_at P (p ∷ ps) (suc index) low h = each_at P ps index (omega arith) h.1
 
-module _ (t : KeptThread) (index : ℕ) (g : Gstate) (can : CanSetGstate t index g) (bytes : HoldBytes t.disk.blocks) where
+module _ (t : KeptThread) (index : ℕ) (g : Gstate) (can : CanSetGstate t index g) (bytes : AreByteBlocks t.disk.blocks) where
   abbrev p : Pair
-  p = thread_pair_at t index
+  p = thread_pair t index
 
   all_hold : Each (λ p. content_at t.disk p.at ≡ Some p.content) t.pairs
   all_hold = recursion_from_All (λ (p : Pair). content_at t.disk p.at ≡ Some p.content) t.pairs can.accepted.thread.contents
@@ -46,6 +46,6 @@ module _ (t : KeptThread) (index : ℕ) (g : Gstate) (can : CanSetGstate t index
 
 -- ---- it is never refused
 
-pub set_not_refused : (t : KeptThread) (index : ℕ) (g : Gstate) → CanSetGstate t index g → HoldBytes t.disk.blocks → (new : KeptThread) → RefusesChanges t index (gstate_changes t index g) new → ⊥
+pub set_not_refused : (t : KeptThread) (index : ℕ) (g : Gstate) → CanSetGstate t index g → AreByteBlocks t.disk.blocks → (new : KeptThread) → RefusesChanges t index (gstate_changes t index g) new → ⊥
 set_not_refused t index g can bytes new is =
     is.too_large (subst (FitsInPair t.disk.block_size t.disk.page) (sym (same_Some is.content (content_reaching_gstate t index g) (sym is.made ∙ set_made t index g can bytes))) (set_fits t index g can bytes))

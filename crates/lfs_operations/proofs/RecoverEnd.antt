@@ -1,5 +1,5 @@
 -- The end of a recovery: every pair was seen, and the sync bit is cleared.
-use Rattle.lfs_operations.proofs.Common.{ℕ, suc, ◌≡◌, ◌+◌, ◌<◌, ◌≤◌, ◌⊎◌, ◌&&◌, inl, inr, Bool, true, false, cond, List, [], ◌∷◌, ◌++◌, length, take, Option, Some, None, Result, Err, refl, sym, ap, subst, subst₂, ◌∙◌, arith, append-nil, same_Some, All-from_recursion, recursion_from_All, Blocks, SameGeometry, disk_block, CallEvent, fault_count, HasEither as IsLeftOf, SurvivesLossSince, with_blocks, continued_address, Gstate, Slot, zero_gstate, AreLinked, ThreadDirectory, Pair, anchor_address, blocks_of_pairs, pairs_from_root, pairs_gstate, may_continue, has_superblock, pair_count_before_root, IsAccepted, IsReachedBySome, all_slots_not_moved, all_directories, struct_blocks, tree_on_disk, IsWritable, survives_then, SameSlots, alike_itself, SameFiles, Each, number_count, each_always, each_weaker, SameFileBlocks, chain_of_thread, HasNoMove, HoldsAtLosses-weaker, NoneGoes, none_where, rest_all, AllReached, thread_at, IsWritableChange, pairs_behind, LossLeavesCleanly, KeptThread, ThreadView, IsPairCommitted, LossLeavesPairChanged, IsPairWritten, ChangesThreadBlocks, pairs_with, complete_after, All, Error, recovery_ends, gstate_changes, content_reaching_gstate, AreUnreachedNumbers, AreUnreachedFrom, CanClearSync, HasDroppedRecovered, IsSyncCleared, ReportsErrorsOfRecovery, numbered_blocks, numbered_slots, SameInFlight, ReportsErrorsOfCommitTakingNoBlock}
+use Rattle.lfs_operations.proofs.Common.{ℕ, suc, ◌≡◌, ◌+◌, ◌<◌, ◌≤◌, ◌⊎◌, ◌&&◌, inl, inr, Bool, true, false, cond, List, [], ◌∷◌, ◌++◌, length, take, Option, Some, None, Result, Err, refl, sym, ap, subst, subst₂, ◌∙◌, arith, append-nil, same_Some, All-from_recursion, recursion_from_All, Blocks, SameGeometry, disk_block, CallEvent, fault_count, HasEither as IsLeftOf, SurvivesLossSince, with_blocks, continued_address, Gstate, Slot, zero_gstate, AreLinked, ThreadDirectory, Pair, anchor_address, pairs_blocks, pairs_from_root, pairs_gstate, may_continue, has_superblock, count_before_root, IsAccepted, IsReachedBySome, all_unmoved_slots, all_directories, struct_blocks, disk_tree, IsWritable, survives_then, SameSlots, alike_itself, SameFiles, Each, number_occurrences, each_always, each_weaker, SameFileBlocks, chain_of_thread, HasNoMove, HoldsAtLosses-weaker, NoneGoes, none_where, rest_all, AllReached, thread_at, IsWritableChange, pairs_behind, CleanLossLeaves, KeptThread, ThreadView, IsPairCommitted, LossLeavesPair, IsPairWritten, ChangesThreadBlocks, pairs_with, complete_after, All, Error, recovery_ends, gstate_changes, content_reaching_gstate, AreUnreachedNumbers, AreUnreachedFrom, CanClearSync, HasDroppedRecovered, IsSyncCleared, ReportsRecovery, numbered_list_blocks, numbered_slots, SameInFlight, ReportsCommit}
 use Rattle.lfs_model.specs.session.Recovery.{IsRecovered}
 use Rattle.lfs_model.proofs.Changes.{follows_itself}
 use Rattle.lfs_operations.proofs.Removed.{reports_again}
@@ -13,15 +13,15 @@ use Rattle.lfs_operations.proofs.RootStays.{alike_stays}
 
 -- ---- the sync bit
 
-fewer : (p : Pair) (ps : List Pair) → pair_count_before_root (p ∷ ps) < length (p ∷ ps)
+fewer : (p : Pair) (ps : List Pair) → count_before_root (p ∷ ps) < length (p ∷ ps)
 fewer p [] = omega arith
 fewer p (q ∷ ps) = go (has_superblock (q ∷ ps) && may_continue p) (fewer q ps)
   where
-    go : (b : Bool) → pair_count_before_root (q ∷ ps) < length (q ∷ ps) → cond b (1 + pair_count_before_root (q ∷ ps)) 0 < length (p ∷ q ∷ ps)
+    go : (b : Bool) → count_before_root (q ∷ ps) < length (q ∷ ps) → cond b (1 + count_before_root (q ∷ ps)) 0 < length (p ∷ q ∷ ps)
     go true l = omega arith
     go false l = omega arith
 
-some_pairs : (ps : List Pair) → AreLinked (Some anchor_address) ps → pair_count_before_root ps < length ps
+some_pairs : (ps : List Pair) → AreLinked (Some anchor_address) ps → count_before_root ps < length ps
 some_pairs [] h = absurd (cc)
 some_pairs (p ∷ ps) h = fewer p ps
 
@@ -32,7 +32,7 @@ none_is g h s = ap (λ (b : Bool). record { sync = b; kind = g.kind; id = g.id; 
     ∙ ap (λ (k : ℕ × ℕ). record { sync = false; kind = 0; id = 0; pair = k }) h.pair
 
 module _ (t : KeptThread) (can : CanClearSync t) where
-  pub enough : pair_count_before_root t.pairs < length t.pairs
+  pub enough : count_before_root t.pairs < length t.pairs
   enough = some_pairs t.pairs can.accepted.thread.links
 
   pub cleared_already : (pairs_gstate t.pairs).sync ≡ false → IsSyncCleared t t
@@ -41,8 +41,8 @@ module _ (t : KeptThread) (can : CanClearSync t) where
     alike = alike_itself t.pairs;
     settled = none_is (pairs_gstate t.pairs) can.none s;
     map = refl;
-    files = All-from_recursion (λ (s : Slot). SameFileBlocks t.disk t.disk s.struct) (all_slots_not_moved t.pairs)
-        (each_always (λ (s : Slot). SameFileBlocks t.disk t.disk s.struct) (λ s. each_always (λ b. disk_block t.disk b ≡ disk_block t.disk b) (λ b. refl) (struct_blocks t.disk s.struct)) (all_slots_not_moved t.pairs));
+    files = All-from_recursion (λ (s : Slot). SameFileBlocks t.disk t.disk s.struct) (all_unmoved_slots t.pairs)
+        (each_always (λ (s : Slot). SameFileBlocks t.disk t.disk s.struct) (λ s. each_always (λ b. disk_block t.disk b ≡ disk_block t.disk b) (λ b. refl) (struct_blocks t.disk s.struct)) (all_unmoved_slots t.pairs));
   }
 
   module _ (index : ℕ) (is : index + 1 ≡ length t.pairs) where
@@ -66,29 +66,29 @@ module _ (t : KeptThread) (can : CanClearSync t) where
           alike = subst (SameSlots t.pairs) (sym pairs) (clear_alike t index can_clear);
           settled = ap pairs_gstate pairs ∙ clear_state t index can_clear;
           map = c.map;
-          files = subst (λ z. All (λ s. SameFileBlocks t.disk new.disk s.struct) (all_slots_not_moved z)) (sym (h t index can_clear).is) (device_on t index can_clear new.disk written).files;
+          files = subst (λ z. All (λ s. SameFileBlocks t.disk new.disk s.struct) (all_unmoved_slots z)) (sym (h t index can_clear).is) (device_on t index can_clear new.disk written).files;
         }
 
-    pub clear_survives : (new : List CallEvent) → complete_after t index (gstate_changes t index zero_gstate) ≡ Some (content_reaching_gstate t index zero_gstate) → LossLeavesCleanly t.history new (LossLeavesPairChanged t index (gstate_changes t index zero_gstate))
-        → SurvivesLossSince t.disk t.history new (tree_on_disk t.disk t.pairs) (tree_on_disk t.disk t.pairs)
+    pub clear_survives : (new : List CallEvent) → complete_after t index (gstate_changes t index zero_gstate) ≡ Some (content_reaching_gstate t index zero_gstate) → CleanLossLeaves t.history new (LossLeavesPair t index (gstate_changes t index zero_gstate))
+        → SurvivesLossSince t.disk t.history new (disk_tree t.disk t.pairs) (disk_tree t.disk t.pairs)
     clear_survives new made stops clean = HoldsAtLosses-weaker (λ left x. clear_left t index can_clear made left x) (stops clean)
 
 -- ---- all pairs were seen
 
-pub all_seen : (old now : KeptThread) (dropped : ℕ) → IsUnderWay old now dropped [] → IsAtEnd old.disk old.pairs now dropped (take (pair_count_before_root old.pairs) old.pairs) []
-all_seen old now dropped u = go (goes_to old.disk old.pairs now dropped (take (pair_count_before_root old.pairs) old.pairs) u.seen u.todo u.parts u.kept [] u.way)
+pub all_seen : (old now : KeptThread) (dropped : ℕ) → IsUnderWay old now dropped [] → IsAtEnd old.disk old.pairs now dropped (take (count_before_root old.pairs) old.pairs) []
+all_seen old now dropped u = go (goes_to old.disk old.pairs now dropped (take (count_before_root old.pairs) old.pairs) u.seen u.todo u.parts u.kept [] u.way)
   where
-    go : IsAtEnd old.disk old.pairs now dropped (take (pair_count_before_root old.pairs) old.pairs) [] ⊎ IsAtDrop old.disk old.pairs now dropped (take (pair_count_before_root old.pairs) old.pairs) []
-        → IsAtEnd old.disk old.pairs now dropped (take (pair_count_before_root old.pairs) old.pairs) []
+    go : IsAtEnd old.disk old.pairs now dropped (take (count_before_root old.pairs) old.pairs) [] ⊎ IsAtDrop old.disk old.pairs now dropped (take (count_before_root old.pairs) old.pairs) []
+        → IsAtEnd old.disk old.pairs now dropped (take (count_before_root old.pairs) old.pairs) []
     go (inl e) = e
     go (inr d) = absurd (let l = ap length d.is in omega arith)
 
 module _ (old now : KeptThread) (dropped : ℕ) (u : IsUnderWay old now dropped []) where
-  e : IsAtEnd old.disk old.pairs now dropped (take (pair_count_before_root old.pairs) old.pairs) []
+  e : IsAtEnd old.disk old.pairs now dropped (take (count_before_root old.pairs) old.pairs) []
   e = all_seen old now dropped u
 
   abbrev C : List Pair
-  C = take (pair_count_before_root old.pairs) old.pairs
+  C = take (count_before_root old.pairs) old.pairs
 
   leads_now : (a : ℕ × ℕ) → IsReachedBySome old.pairs a → IsReachedBySome (C ++ (e.kept ++ [])) a
   leads_now a (path, at, (l, s)) = (path, at, (ap (λ z. z path) e.way.is.taken.follows.leads ∙ l, s))
@@ -109,36 +109,36 @@ module _ (old now : KeptThread) (dropped : ℕ) (u : IsUnderWay old now dropped 
     reached = subst AllReached (sym e.way.there) all_reached;
   }
 
-  pub shows_now : tree_on_disk now.disk now.pairs ≡ tree_on_disk old.disk old.pairs
-  shows_now = ap (tree_on_disk now.disk) e.way.there ∙ e.way.is.taken.follows.shows
+  pub shows_now : disk_tree now.disk now.pairs ≡ disk_tree old.disk old.pairs
+  shows_now = ap (disk_tree now.disk) e.way.there ∙ e.way.is.taken.follows.shows
 
-  pub ends : IsWritable old.disk old.pairs → 1024 ≤ old.disk.block_size → (new : KeptThread) (numbers : List ℕ) → AreUnreachedNumbers old.pairs numbers → ChangesThreadBlocks (blocks_of_pairs old.pairs) old new → StaysOn now new → IsSyncCleared now new → HasDroppedRecovered old numbers new
+  pub ends : IsWritable old.disk old.pairs → 1024 ≤ old.disk.block_size → (new : KeptThread) (numbers : List ℕ) → AreUnreachedNumbers old.pairs numbers → ChangesThreadBlocks (pairs_blocks old.pairs) old new → StaysOn now new → IsSyncCleared now new → HasDroppedRecovered old numbers new
   ends fits large new numbers reported writes on c = record {
     ready = record {
       accepted = c.taken.follows.accepted;
       writable = c.taken.writable;
       settled = c.settled;
-      used = record { owned = m.owned; are = m.are; same = λ b. let s = m.same b in let g = ap (number_count b) all_gone in omega arith };
+      used = record { owned = m.owned; are = m.are; same = λ b. let s = m.same b in let g = ap (number_occurrences b) all_gone in omega arith };
       size = m.size;
       large = let a = on.shape.block_size in let b = u.device.shape.block_size in omega arith;
     };
     stand = All-from_recursion (λ (s : Slot). SameFileBlocks old.disk new.disk s.struct) (numbered_slots old.pairs numbers)
         (each_at (λ (s : Slot). SameFileBlocks old.disk new.disk s.struct) old.pairs numbers (files_kept old new u.was e.way.no_move writes));
-    lost = λ b. let l = u.lost b in let f = files_stay now new c.alike can_end.none still geometry files b in let g = ap (number_count b) all_gone in omega arith;
-    once = λ b. let s = m.same b in let o = m.once b in let g = ap (number_count b) all_gone in omega arith;
-    fewer = λ b. let l = u.fewer b in let k = ap (λ z. number_count b z) (blocks_alike now.pairs new.pairs c.alike) in omega arith;
+    lost = λ b. let l = u.lost b in let f = files_stay now new c.alike can_end.none still geometry files b in let g = ap (number_occurrences b) all_gone in omega arith;
+    once = λ b. let s = m.same b in let o = m.once b in let g = ap (number_occurrences b) all_gone in omega arith;
+    fewer = λ b. let l = u.fewer b in let k = ap (λ z. number_occurrences b z) (blocks_alike now.pairs new.pairs c.alike) in omega arith;
     flying = subst (SameInFlight old.map) (sym c.map) u.flying;
     root = alike_stays now.disk new.disk now.pairs new.pairs can_end.accepted c.taken.follows.accepted c.taken.follows.root c.alike
-        ∙ ap pair_count_before_root e.way.there ∙ e.way.is.ready.is_chain ∙ sym (ap pair_count_before_root (chain_of_thread old.pairs).0 ∙ (chain_of_thread old.pairs).1);
+        ∙ ap count_before_root e.way.there ∙ e.way.is.ready.is_chain ∙ sym (ap count_before_root (chain_of_thread old.pairs).0 ∙ (chain_of_thread old.pairs).1);
     shows = c.taken.follows.shows ∙ shows_now;
     completed = λ s tree. recovery_ends old.disk old.pairs now.disk C e.seen e.parts e.kept new.disk new.pairs (λ d. d) s e.way.is fits
         (subst (λ z. IsWritableChange now.disk z new.disk new.pairs (λ t. t) (λ d. d)) e.way.there c.taken)
         (subst (λ z. SameSlots z new.pairs) (e.way.there ∙ ap (λ z. C ++ z) (append-nil e.kept)) c.alike) c.settled tree;
   }
     where
-      all_gone : u.gone ≡ numbered_blocks old numbers
+      all_gone : u.gone ≡ numbered_list_blocks old numbers
       all_gone = u.gone_are
-          ∙ ap (numbered_blocks old) (reported_once (IsReachedBySome old.pairs) (pair_count_before_root old.pairs) None (pairs_from_root old.pairs) u.took numbers (subst (AreUnreachedNumbers old.pairs) (append-nil u.took) u.reported) reported)
+          ∙ ap (numbered_list_blocks old) (reported_once (IsReachedBySome old.pairs) (count_before_root old.pairs) None (pairs_from_root old.pairs) u.took numbers (subst (AreUnreachedNumbers old.pairs) (append-nil u.took) u.reported) reported)
 
       still : HasNoMove (pairs_gstate new.pairs)
       still = subst HasNoMove (sym c.settled) (record { kind = refl; id = refl; pair = refl })
@@ -146,17 +146,17 @@ module _ (old now : KeptThread) (dropped : ℕ) (u : IsUnderWay old now dropped 
       geometry : SameGeometry now.disk new.disk
       geometry = record { block_size = on.shape.block_size; page = on.shape.page; order = on.shape.order; profile = on.shape.profile; count = on.shape.count }
 
-      files : SameFiles now.disk new.disk (all_slots_not_moved now.pairs)
-      files = recursion_from_All (λ (s : Slot). SameFileBlocks now.disk new.disk s.struct) (all_slots_not_moved now.pairs) c.files
+      files : SameFiles now.disk new.disk (all_unmoved_slots now.pairs)
+      files = recursion_from_All (λ (s : Slot). SameFileBlocks now.disk new.disk s.struct) (all_unmoved_slots now.pairs) c.files
 
       m : HasMap new u.gone
       m = map_stays now new c.alike can_end.none still geometry files u.gone c.map u.map
 
   -- a stop in the last step leaves the tree too
-  pub end_survives : (new : KeptThread) → StaysOn now new → SurvivesLossSince now.disk now.history new.history (tree_on_disk now.disk now.pairs) (tree_on_disk now.disk now.pairs)
-      → SurvivesLossSince old.disk old.history new.history (tree_on_disk old.disk old.pairs) (tree_on_disk old.disk old.pairs)
-  end_survives new on last = survives_then old.disk old.history now.history new.history (tree_on_disk old.disk old.pairs) (tree_on_disk old.disk old.pairs) u.device.calls on.calls u.survives
-      (λ clean. HoldsAtLosses-weaker (λ left x. subst (λ z. IsLeftOf z (tree_on_disk old.disk old.pairs) (tree_on_disk old.disk old.pairs)) (disk_is left)
+  pub end_survives : (new : KeptThread) → StaysOn now new → SurvivesLossSince now.disk now.history new.history (disk_tree now.disk now.pairs) (disk_tree now.disk now.pairs)
+      → SurvivesLossSince old.disk old.history new.history (disk_tree old.disk old.pairs) (disk_tree old.disk old.pairs)
+  end_survives new on last = survives_then old.disk old.history now.history new.history (disk_tree old.disk old.pairs) (disk_tree old.disk old.pairs) u.device.calls on.calls u.survives
+      (λ clean. HoldsAtLosses-weaker (λ left x. subst (λ z. IsLeftOf z (disk_tree old.disk old.pairs) (disk_tree old.disk old.pairs)) (disk_is left)
       (subst (λ z. IsLeftOf (with_blocks left now.disk) z z) shows_now x)) (last clean))
     where
       disk_is : (left : Blocks) → with_blocks left now.disk ≡ with_blocks left old.disk
@@ -164,8 +164,8 @@ module _ (old now : KeptThread) (dropped : ℕ) (u : IsUnderWay old now dropped 
 
 -- ---- what the steps tell
 
-pub reports_steps : {X Y : Type 0} (old mid new : ThreadView) (e : Error) (result : Result X Error) (given : Result Y Error) → fault_count mid.kept.history ≡ fault_count old.kept.history → result ≡ Err e → given ≡ Err e → ReportsErrorsOfCommitTakingNoBlock mid new result
-    → ReportsErrorsOfRecovery old new given
+pub reports_steps : {X Y : Type 0} (old mid new : ThreadView) (e : Error) (result : Result X Error) (given : Result Y Error) → fault_count mid.kept.history ≡ fault_count old.kept.history → result ≡ Err e → given ≡ Err e → ReportsCommit mid new result
+    → ReportsRecovery old new given
 reports_steps old mid new e result given quiet is same t =
     let k = reports_again mid new e result given is same t.failed t.reported in
     record {
@@ -183,7 +183,7 @@ reported_none R n from (x ∷ xs) numbers h (inl reported) = reported_none R (su
 reported_none R n from (x ∷ xs) numbers h (inr reported) = absurd (h.0 reported.1.1.0)
 
 pub none_reported : (ps : List Pair) (numbers : List ℕ) → IsRecovered ps → AreUnreachedNumbers ps numbers → numbers ≡ []
-none_reported ps numbers h reported = reported_none (IsReachedBySome ps) (pair_count_before_root ps) None (pairs_from_root ps) numbers
+none_reported ps numbers h reported = reported_none (IsReachedBySome ps) (count_before_root ps) None (pairs_from_root ps) numbers
     (none_where (λ a. IsReachedBySome ps a → ⊥) (pairs_gstate ps) None (pairs_from_root ps) (λ a k. absurd (cc))
     (subst (Each (λ (d : ThreadDirectory). (IsReachedBySome ps d.at → ⊥) → ⊥)) (sym (rest_all (all_directories ps)))
     (each_weaker (λ (d : ThreadDirectory). IsReachedBySome ps d.at) (λ (d : ThreadDirectory). (IsReachedBySome ps d.at → ⊥) → ⊥) (λ d k n. n k) (all_directories ps)

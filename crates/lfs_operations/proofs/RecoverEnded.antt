@@ -1,5 +1,5 @@
 -- A recovery ends a set move: which pair the step is about, and what it comes to.
-use Rattle.lfs_operations.proofs.Common.{ℕ, ◌≡◌, ◌≢◌, ◌≤◌, ◌<◌, ◌+◌, ◌-◌, ◌⊎◌, inl, inr, ◌&&◌, ◌==◌, Bool, true, false, List, [], ◌∷◌, ◌++◌, length, take, refl, sym, ap, ap₂, subst, ◌∙◌, arith, append_assoc, length-append, eqb-true, eq-eqb, nat_lt, and_parts, cases_lt, lt-ltb, recursion_from_All, used_blocks, Pair, pairs_gstate, is_hard_tail, pair_count_before_root, BeginsWithSuperblock, once_from_distinct, HasNoMove, HasSite, site_of_number, pair_back, ends_joined, KeptThread, thread_pair_at, has_tail_at, CanEndMove, HasEndedMove, HasMovedSlot, has_one_follower, CanEndAt, HasEndedAt, follows_hard_tail_of, written_at_end, IsRawFormed}
+use Rattle.lfs_operations.proofs.Common.{ℕ, ◌≡◌, ◌≢◌, ◌≤◌, ◌<◌, ◌+◌, ◌-◌, ◌⊎◌, inl, inr, ◌&&◌, ◌==◌, Bool, true, false, List, [], ◌∷◌, ◌++◌, length, take, refl, sym, ap, ap₂, subst, ◌∙◌, arith, append_assoc, length-append, eqb-true, eq-eqb, nat_lt, and_parts, cases_lt, lt-ltb, recursion_from_All, used_blocks, Pair, pairs_gstate, is_hard_tail, count_before_root, BeginsWithSuperblock, once_from_distinct, HasNoMove, HasSite, site_of_number, pair_back, ends_joined, KeptThread, thread_pair, tail_is_hard, CanEndMove, HasEndedMove, HasMovedSlot, drops_when_emptied, CanEndAt, HasEndedAt, continues_directory, written_at_end, IsRawFormed}
 use Rattle.lfs_operations.proofs.Dropped.{HasMapWithout, map_ended}
 use Rattle.lfs_operations.proofs.DroppedTails.{front_is}
 use Rattle.lfs_operations.proofs.MovEnding.{led_is}
@@ -22,24 +22,24 @@ module _ (t : KeptThread) (can : CanEndMove t) (index : ℕ) (m : HasMovedSlot t
 
   -- ---- whether a hard tail names the pair
 
-  named : follows_hard_tail_of t.pairs index ≡ ends_joined false front
-  named = ap (λ z. follows_hard_tail_of z index) h.is ∙ led_is h.site h.pair index h.is_site.chain h.number
+  named : continues_directory t.pairs index ≡ ends_joined false front
+  named = ap (λ z. continues_directory z index) h.is ∙ led_is h.site h.pair index h.is_site.chain h.number
 
-  before_is : (l : List Pair) (z : Pair) → front ≡ l ++ z ∷ [] → thread_pair_at t (index - 1) ≡ z
+  before_is : (l : List Pair) (z : Pair) → front ≡ l ++ z ∷ [] → thread_pair t (index - 1) ≡ z
   before_is l z e = front_is t (index - 1) (h.site.chain ++ l) z h.pair back
       (h.is ∙ ap (λ y. h.site.chain ++ (y ++ h.pair ∷ back)) e ∙ ap (λ y. h.site.chain ++ y) (append_assoc l (z ∷ []) (h.pair ∷ back)) ∙ sym (append_assoc h.site.chain l (z ∷ h.pair ∷ back)))
       (let n = h.number in let a = length-append h.site.chain front in let b = ap length e in let c = length-append l (z ∷ []) in let d = length-append h.site.chain l in omega arith)
 
-  front_led : front ≢ [] → follows_hard_tail_of t.pairs index ≡ has_tail_at t (index - 1)
+  front_led : front ≢ [] → continues_directory t.pairs index ≡ tail_is_hard t (index - 1)
   front_led some =
       let l = last_pair front some in
       named ∙ ap (ends_joined false) l.is ∙ flag_last l.front l.last false ∙ ap (λ (z : Pair). is_hard_tail z.content.tail) (sym (before_is l.front l.last l.is))
 
   abbrev goes : Bool
-  goes = has_one_follower t index
+  goes = drops_when_emptied t index
 
-  stays : has_one_follower t index ≡ false → follows_hard_tail_of t.pairs index ≡ true → 1 < length (thread_pair_at t index).content.slots
-  stays alone led = go (cases_lt 1 (length (thread_pair_at t index).content.slots))
+  stays : drops_when_emptied t index ≡ false → continues_directory t.pairs index ≡ true → 1 < length (thread_pair t index).content.slots
+  stays alone led = go (cases_lt 1 (length (thread_pair t index).content.slots))
     where
       some : front ≢ []
       some none = absurd (let z = sym (named ∙ ap (ends_joined false) none) ∙ led in cc)
@@ -53,43 +53,43 @@ module _ (t : KeptThread) (can : CanEndMove t) (index : ℕ) (m : HasMovedSlot t
           let n = h.number in
           omega arith
 
-      go : (1 < length (thread_pair_at t index).content.slots) ⊎ (length (thread_pair_at t index).content.slots ≤ 1) → 1 < length (thread_pair_at t index).content.slots
+      go : (1 < length (thread_pair t index).content.slots) ⊎ (length (thread_pair t index).content.slots ≤ 1) → 1 < length (thread_pair t index).content.slots
       go (inl many) = many
       go (inr few) =
-          let one : (length (thread_pair_at t index).content.slots == 1) ≡ true = eq-eqb (length (thread_pair_at t index).content.slots) 1
+          let one : (length (thread_pair t index).content.slots == 1) ≡ true = eq-eqb (length (thread_pair t index).content.slots) 1
           (let a = ap length m.held in let b = length-append m.left (m.slot ∷ m.right) in omega arith) in
-          absurd (let z = sym alone ∙ ap₂ (λ a b. a && (b && has_tail_at t (index - 1))) (lt-ltb 0 index above) one ∙ sym (front_led some) ∙ led in cc)
+          absurd (let z = sym alone ∙ ap₂ (λ a b. a && (b && tail_is_hard t (index - 1))) (lt-ltb 0 index above) one ∙ sym (front_led some) ∙ led in cc)
 
-  alone : has_one_follower t index ≡ true → (follows_hard_tail_of t.pairs index ≡ true) × (length (thread_pair_at t index).content.slots ≡ 1)
+  alone : drops_when_emptied t index ≡ true → (continues_directory t.pairs index ≡ true) × (length (thread_pair t index).content.slots ≡ 1)
   alone whole = (front_led some ∙ parts.1, single)
     where
-      parts : ((length (thread_pair_at t index).content.slots == 1) ≡ true) × (has_tail_at t (index - 1) ≡ true)
-      parts = and_parts (length (thread_pair_at t index).content.slots == 1) (has_tail_at t (index - 1)) (and_parts (nat_lt 0 index) (length (thread_pair_at t index).content.slots == 1 && has_tail_at t (index - 1)) whole).1
+      parts : ((length (thread_pair t index).content.slots == 1) ≡ true) × (tail_is_hard t (index - 1) ≡ true)
+      parts = and_parts (length (thread_pair t index).content.slots == 1) (tail_is_hard t (index - 1)) (and_parts (nat_lt 0 index) (length (thread_pair t index).content.slots == 1 && tail_is_hard t (index - 1)) whole).1
 
-      single : length (thread_pair_at t index).content.slots ≡ 1
-      single = eqb-true (length (thread_pair_at t index).content.slots) 1 parts.0
+      single : length (thread_pair t index).content.slots ≡ 1
+      single = eqb-true (length (thread_pair t index).content.slots) 1 parts.0
 
-      slots_are : (thread_pair_at t index).content.slots ≡ m.slot ∷ []
+      slots_are : (thread_pair t index).content.slots ≡ m.slot ∷ []
       slots_are = m.held ∙ only_slot m.left m.right m.slot (sym (ap length m.held) ∙ single)
 
       -- the pair isn't the root's first, which has a superblock
-      later : (pair_count_before_root t.pairs < index) ⊎ (index ≤ pair_count_before_root t.pairs) → pair_count_before_root t.pairs < index
+      later : (count_before_root t.pairs < index) ⊎ (index ≤ count_before_root t.pairs) → count_before_root t.pairs < index
       later (inl l) = l
       later (inr l) = absurd (let k = (subst (BeginsWithSuperblock t.disk.profile.versions can.accepted.superblock.0) slots_are
-          (heads (λ p. BeginsWithSuperblock t.disk.profile.versions can.accepted.superblock.0 p.content.slots) (pair_count_before_root t.pairs + 1) t.pairs index (omega arith) m.below
-          (recursion_from_All (λ (p : Pair). BeginsWithSuperblock t.disk.profile.versions can.accepted.superblock.0 p.content.slots) (take (pair_count_before_root t.pairs + 1) t.pairs) can.accepted.superblock.1.1))).0 in
+          (heads (λ p. BeginsWithSuperblock t.disk.profile.versions can.accepted.superblock.0 p.content.slots) (count_before_root t.pairs + 1) t.pairs index (omega arith) m.below
+          (recursion_from_All (λ (p : Pair). BeginsWithSuperblock t.disk.profile.versions can.accepted.superblock.0 p.content.slots) (take (count_before_root t.pairs + 1) t.pairs) can.accepted.superblock.1.1))).0 in
           let z = sym k ∙ m.other in cc)
 
       some : front ≢ []
       some none =
-          let l = later (cases_lt (pair_count_before_root t.pairs) index) in
-          let c = ap pair_count_before_root h.is ∙ h.is_site.chain in
+          let l = later (cases_lt (count_before_root t.pairs) index) in
+          let c = ap count_before_root h.is ∙ h.is_site.chain in
           let a = length-append h.site.chain front in
           let b = ap length none in
           let n = h.number in
           absurd (omega arith)
 
-  pub can_at : IsRawFormed t.disk (thread_pair_at t index).at → CanEndAt t index (pairs_gstate t.pairs).id (has_one_follower t index)
+  pub can_at : IsRawFormed t.disk (thread_pair t index).at → CanEndAt t index (pairs_gstate t.pairs).id (drops_when_emptied t index)
   can_at logged = record {
     accepted = can.accepted;
     writable = can.writable;
@@ -97,7 +97,7 @@ module _ (t : KeptThread) (can : CanEndMove t) (index : ℕ) (m : HasMovedSlot t
     below = m.below;
     logged = logged;
     kind = m.kind;
-    named = pair_back (thread_pair_at t index).at (pairs_gstate t.pairs).pair m.same;
+    named = pair_back (thread_pair t index).at (pairs_gstate t.pairs).pair m.same;
     id_is = refl;
     name = m.slot.name;
     stands = record { left = m.left; slot = m.slot; right = m.right; held = m.held; number = m.number; entry = m.other; named = refl };
@@ -107,7 +107,7 @@ module _ (t : KeptThread) (can : CanEndMove t) (index : ℕ) (m : HasMovedSlot t
 
   -- ---- what it comes to
 
-  pub ended_at : (new : KeptThread) → HasEndedAt t index (pairs_gstate t.pairs).id (has_one_follower t index) new → HasEndedMove t new
+  pub ended_at : (new : KeptThread) → HasEndedAt t index (pairs_gstate t.pairs).id (drops_when_emptied t index) new → HasEndedMove t new
   ended_at new e = record {
     taken = e.taken;
     none = subst HasNoMove (sym e.state) (record { kind = refl; id = refl; pair = refl });
@@ -120,4 +120,4 @@ module _ (t : KeptThread) (can : CanEndMove t) (index : ℕ) (m : HasMovedSlot t
   }
     where
       map_is : HasMapWithout t.map new.map (used_blocks new.disk new.pairs)
-      map_is = map_ended t index (has_one_follower t index) (used_blocks t.disk t.pairs) (used_blocks new.disk new.pairs) can.used (λ b. once_from_distinct (used_blocks t.disk t.pairs) can.accepted.owned_once b) e.blocks new.map e.map
+      map_is = map_ended t index (drops_when_emptied t index) (used_blocks t.disk t.pairs) (used_blocks new.disk new.pairs) can.used (λ b. once_from_distinct (used_blocks t.disk t.pairs) can.accepted.owned_once b) e.blocks new.map e.map

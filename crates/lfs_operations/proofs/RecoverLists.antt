@@ -1,5 +1,5 @@
 -- The lists of pairs that go in a recovery: they are known by the pairs' numbers, and stay on the disk.
-use Rattle.lfs_operations.proofs.Common.{ℕ, zero, suc, ◌≡◌, ◌≢◌, ◌+◌, ◌≤◌, inl, inr, List, [], ◌∷◌, ◌++◌, length, Option, refl, sym, ap, subst, ◌∙◌, arith, append-nil, length-append, append_assoc, flat_map-append, All-from_recursion, SameGeometry, disk_block, continued_address, Slot, Pair, blocks_of_pairs, pairs_gstate, IsAccepted, struct_blocks, used_blocks, SameFiles, slots_files, Each, number_count, count_append, each_always, each_from_counted, each_joined, each_left, each_pieces, each_right, once_from_distinct, SameFileBlocks, HasNoMove, file_blocks, all_slots, KeptThread, ChangesThreadBlocks, empty_anchor, slice_index_or, AreUnreachedFrom, numbered_blocks, numbered_slots}
+use Rattle.lfs_operations.proofs.Common.{ℕ, zero, suc, ◌≡◌, ◌≢◌, ◌+◌, ◌≤◌, inl, inr, List, [], ◌∷◌, ◌++◌, length, Option, refl, sym, ap, subst, ◌∙◌, arith, append-nil, length-append, append_assoc, flat_map-append, All-from_recursion, SameGeometry, disk_block, continued_address, Slot, Pair, pairs_blocks, pairs_gstate, IsAccepted, struct_blocks, used_blocks, SameFiles, slots_files, Each, number_occurrences, count_append, each_always, each_from_counted, each_joined, each_left, each_pieces, each_right, once_from_distinct, SameFileBlocks, HasNoMove, file_blocks, all_slots, KeptThread, ChangesThreadBlocks, empty_anchor, slice_index_or, AreUnreachedFrom, numbered_list_blocks, numbered_slots}
 use Rattle.lfs_operations.proofs.RecoverWrites.{none_there}
 use Rattle.lfs_operations.proofs.Owning.{count_used}
 
@@ -22,22 +22,22 @@ pub numbered : (ps chain seen : List Pair) (x : Pair) (todo : List Pair) (number
 numbered ps chain seen x todo number are is =
     ap (λ z. slice_index_or ps z empty_anchor) (is ∙ sym (length-append chain seen)) ∙ ap (λ z. slice_index_or z (length (chain ++ seen)) empty_anchor) (are ∙ sym (append_assoc chain seen (x ∷ todo))) ∙ there (chain ++ seen) x todo
 
-pub lists_more : (t : KeptThread) (took : List ℕ) (number : ℕ) (x : Pair) → slice_index_or t.pairs number empty_anchor ≡ x → numbered_blocks t (took ++ number ∷ []) ≡ numbered_blocks t took ++ file_blocks t.disk x.content.slots
+pub lists_more : (t : KeptThread) (took : List ℕ) (number : ℕ) (x : Pair) → slice_index_or t.pairs number empty_anchor ≡ x → numbered_list_blocks t (took ++ number ∷ []) ≡ numbered_list_blocks t took ++ file_blocks t.disk x.content.slots
 lists_more t took number x is =
     ap (file_blocks t.disk) (flat_map-append (λ n. (slice_index_or t.pairs n empty_anchor).content.slots) took (number ∷ []))
     ∙ flat_map-append (λ (s : Slot). struct_blocks t.disk s.struct) (numbered_slots t.pairs took) (numbered_slots t.pairs (number ∷ []))
-    ∙ ap (λ z. numbered_blocks t took ++ file_blocks t.disk z) (append-nil (slice_index_or t.pairs number empty_anchor).content.slots ∙ ap (λ (p : Pair). p.content.slots) is)
+    ∙ ap (λ z. numbered_list_blocks t took ++ file_blocks t.disk z) (append-nil (slice_index_or t.pairs number empty_anchor).content.slots ∙ ap (λ (p : Pair). p.content.slots) is)
 
 -- ---- on the disk
 
 -- no block of a list is a pair's
-pub files_kept : (t u : KeptThread) → IsAccepted t.disk t.pairs → HasNoMove (pairs_gstate t.pairs) → ChangesThreadBlocks (blocks_of_pairs t.pairs) t u → SameFiles t.disk u.disk (all_slots t.pairs)
+pub files_kept : (t u : KeptThread) → IsAccepted t.disk t.pairs → HasNoMove (pairs_gstate t.pairs) → ChangesThreadBlocks (pairs_blocks t.pairs) t u → SameFiles t.disk u.disk (all_slots t.pairs)
 files_kept t u ok none w = go (all_slots t.pairs) (λ b. omega arith)
   where
-    go : (slots : List Slot) → ((b : ℕ) → number_count b (file_blocks t.disk slots) ≤ number_count b (file_blocks t.disk (all_slots t.pairs))) → SameFiles t.disk u.disk slots
+    go : (slots : List Slot) → ((b : ℕ) → number_occurrences b (file_blocks t.disk slots) ≤ number_occurrences b (file_blocks t.disk (all_slots t.pairs))) → SameFiles t.disk u.disk slots
     go [] fewer = tt
     go (s ∷ slots) fewer = (
-      each_from_counted (λ b. disk_block u.disk b ≡ disk_block t.disk b) (struct_blocks t.disk s.struct) (λ b some. w.others.others b (All-from_recursion (λ c. c ≢ b) (blocks_of_pairs t.pairs) (none_there b (blocks_of_pairs t.pairs) (
+      each_from_counted (λ b. disk_block u.disk b ≡ disk_block t.disk b) (struct_blocks t.disk s.struct) (λ b some. w.others.others b (All-from_recursion (λ c. c ≢ b) (pairs_blocks t.pairs) (none_there b (pairs_blocks t.pairs) (
           let a = count_append b (struct_blocks t.disk s.struct) (file_blocks t.disk slots) in
           let f = fewer b in
           let c = count_used b t.disk t.pairs none in
@@ -56,7 +56,7 @@ each_at P ps numbers h = each_joined P (λ n. (slice_index_or ps n empty_anchor)
     one (p ∷ ps) (suc n) h = one ps n (each_right P p.content.slots (all_slots ps) h)
 
 -- the lists of the pair behind so many are as they were
-pub lists_kept : (t u : KeptThread) (chain seen : List Pair) (x : Pair) (todo : List Pair) → t.pairs ≡ chain ++ (seen ++ x ∷ todo) → IsAccepted t.disk t.pairs → HasNoMove (pairs_gstate t.pairs) → ChangesThreadBlocks (blocks_of_pairs t.pairs) t u
+pub lists_kept : (t u : KeptThread) (chain seen : List Pair) (x : Pair) (todo : List Pair) → t.pairs ≡ chain ++ (seen ++ x ∷ todo) → IsAccepted t.disk t.pairs → HasNoMove (pairs_gstate t.pairs) → ChangesThreadBlocks (pairs_blocks t.pairs) t u
     → file_blocks u.disk x.content.slots ≡ file_blocks t.disk x.content.slots
 lists_kept t u chain seen x todo are ok none w = slots_files t.disk u.disk x.content.slots geometry (each_right Q seen (x ∷ todo) (each_right Q chain (seen ++ x ∷ todo) (subst (Each Q) are
     (each_pieces (λ (s : Slot). SameFileBlocks t.disk u.disk s.struct) (λ (p : Pair). p.content.slots) t.pairs (files_kept t u ok none w))))).0

@@ -1,5 +1,5 @@
 -- A recovery pair by pair: a pair whose directory a path leads to stays, and the next one of another goes.
-use Rattle.lfs_operations.proofs.Common.{ℕ, suc, ◌≡◌, ◌+◌, ◌⊎◌, inl, inr, Bool, true, false, cond, List, [], ◌∷◌, ◌++◌, length, Option, Some, None, refl, sym, ap, subst, subst₂, ◌∙◌, arith, append_assoc, length-append, same_Some, All-from_recursion, recursion_from_All, Disk, directory_address, continued_address, Gstate, Slot, Tail, same_pair, AreLinked, ThreadDirectory, Pair, anchor_address, pair_directories, pairs_from_root, pairs_gstate, is_hard_tail, tail_address_of, unmoved_entries, Path, HasNoEmpties, IsReachedBySome, LeadsTo, all_directories, Each, each_weaker, softened, HasNoMove, unmoved_all, NoneGoes, joined_parts, joined_singles, none_where, onward_all, onward_some, rest_all, singles, AllReachedBut, pair_itself, pairs_behind, IsReady, IsUnthreaded, KeptThread, All, is_some, directories_with_pair, IsRecovering, recovery_drops, recovery_keeps, AreUnreachedFrom}
+use Rattle.lfs_operations.proofs.Common.{ℕ, suc, ◌≡◌, ◌+◌, ◌⊎◌, inl, inr, Bool, true, false, cond, List, [], ◌∷◌, ◌++◌, length, Option, Some, None, refl, sym, ap, subst, subst₂, ◌∙◌, arith, append_assoc, length-append, same_Some, All-from_recursion, recursion_from_All, Disk, directory_address, continued_address, Gstate, Slot, Tail, same_pair, AreLinked, ThreadDirectory, Pair, anchor_address, pair_directories, pairs_from_root, pairs_gstate, is_hard_tail, tail_target, unmoved_entries, Path, HasNoEmpties, IsReachedBySome, LeadsTo, all_directories, Each, each_weaker, softened, HasNoMove, unmoved_all, NoneGoes, joined_parts, joined_singles, none_where, onward_all, onward_some, rest_all, singles, AllReachedBut, pair_itself, pairs_behind, IsReady, IsUnthreaded, KeptThread, All, is_some, directories_with_pair, IsRecovering, recovery_drops, recovery_keeps, AreUnreachedFrom}
 use Rattle.lfs_model.proofs.Layouts.{none_goes_right, rest_of}
 
 -- ---- where the pairs' directories begin
@@ -74,10 +74,10 @@ all_where Q g from (p ∷ ps) h = go from h.0 (subst (λ b. Each (λ (d : Thread
 last_soft : (from : Option (ℕ × ℕ)) (xs : List Pair) (p : Pair) → AreLinked from (xs ++ p ∷ []) → is_hard_tail p.content.tail ≡ false
 last_soft from [] p h = go p.content.tail h.1
   where
-    go : (t : Option Tail) → tail_address_of t ≡ None → is_hard_tail t ≡ false
+    go : (t : Option Tail) → tail_target t ≡ None → is_hard_tail t ≡ false
     go None e = refl
     go (Some t) e = absurd (cc)
-last_soft from (x ∷ xs) p h = last_soft (tail_address_of x.content.tail) xs p h.1
+last_soft from (x ∷ xs) p h = last_soft (tail_target x.content.tail) xs p h.1
 
 -- ---- on the way
 
@@ -245,7 +245,7 @@ module _ {disk : Disk} {ps : List Pair} {t : KeptThread} {dropped : ℕ} {chain 
 
         links : (from : Option (ℕ × ℕ)) (xs ys : List Pair) → AreLinked from (xs ++ ys) → (z : Option (ℕ × ℕ)) × AreLinked z ys
         links from [] ys h = (from, h)
-        links from (y ∷ xs) ys h = links (tail_address_of y.content.tail) xs ys h.1
+        links from (y ∷ xs) ys h = links (tail_target y.content.tail) xs ys h.1
 
         behind : (z : Option (ℕ × ℕ)) × AreLinked z (kept ++ x ∷ todo)
         behind = links (Some anchor_address) chain (kept ++ x ∷ todo) ready.accepted.thread.links

@@ -1,5 +1,5 @@
 -- Which blocks the map has on the way: those of the image, and those of lists that only pairs had that are gone.
-use Rattle.lfs_operations.proofs.Common.{ℕ, ◌-◌, ◌≡◌, ◌+◌, ◌≤◌, List, [], ◌∷◌, ◌++◌, length, refl, sym, ap, ap₂, subst, ◌∙◌, arith, AreUsed, SameGeometry, block_count, Gstate, Pair, address_blocks, pairs_gstate, all_slots_not_moved, used_blocks, SameSlots, SameFiles, slots_files, number_count, count_append, HasNoMove, Site, file_blocks, all_slots, unmoved_in, KeptThread, SameInFlight, IsPairDropped}
+use Rattle.lfs_operations.proofs.Common.{ℕ, ◌-◌, ◌≡◌, ◌+◌, ◌≤◌, List, [], ◌∷◌, ◌++◌, length, refl, sym, ap, ap₂, subst, ◌∙◌, arith, AreUsed, SameGeometry, block_count, Gstate, Pair, address_blocks, pairs_gstate, all_unmoved_slots, used_blocks, SameSlots, SameFiles, slots_files, number_occurrences, count_append, HasNoMove, Site, file_blocks, all_slots, unmoved_in, KeptThread, SameInFlight, IsPairDropped}
 use Rattle.lfs_operations.proofs.Dropped.{HasMapWithout, IsToBeDropped, map_left, map_without, used_left}
 use Rattle.lfs_operations.proofs.MovStep.{blocks_alike}
 pub use Rattle.lfs_operations.proofs.Owning.{count_used}
@@ -8,8 +8,8 @@ pub use Rattle.lfs_operations.proofs.Owning.{count_used}
 pub record HasMap (t : KeptThread) (gone : List ℕ) : Type 0 where
   pub owned : List ℕ
   pub are : AreUsed t.map owned
-  pub same : (b : ℕ) → number_count b owned ≡ number_count b (used_blocks t.disk t.pairs) + number_count b gone
-  pub once : (b : ℕ) → number_count b owned ≤ 1
+  pub same : (b : ℕ) → number_occurrences b owned ≡ number_occurrences b (used_blocks t.disk t.pairs) + number_occurrences b gone
+  pub once : (b : ℕ) → number_occurrences b owned ≤ 1
   pub size : length t.map ≡ block_count t.disk
 
 -- ---- a pair goes
@@ -29,7 +29,7 @@ map_drops {now} {index} {state} {w} {before} {x} k new d none still gone h = (
     owned = used_blocks new.disk new.pairs ++ (gone ++ lists)
 
     -- without the pair's own blocks
-    less : (b : ℕ) → number_count b owned + number_count b (address_blocks x.at) ≡ number_count b h.owned
+    less : (b : ℕ) → number_occurrences b owned + number_occurrences b (address_blocks x.at) ≡ number_occurrences b h.owned
     less b =
         let c = count_append b (used_blocks new.disk new.pairs) (gone ++ lists) in
         let e = count_append b gone lists in
@@ -49,10 +49,10 @@ alike_slots (x ∷ xs) [] h = absurd h
 alike_slots (x ∷ xs) (y ∷ ys) h = ap₂ (λ a b. a ++ b) h.1 (alike_slots xs ys h.2)
 
 module _ (now new : KeptThread) (alike : SameSlots now.pairs new.pairs) (none : HasNoMove (pairs_gstate now.pairs)) (still : HasNoMove (pairs_gstate new.pairs))
-    (geometry : SameGeometry now.disk new.disk) (files : SameFiles now.disk new.disk (all_slots_not_moved now.pairs)) where
-  pub files_stay : (b : ℕ) → number_count b (file_blocks new.disk (all_slots new.pairs)) ≡ number_count b (file_blocks now.disk (all_slots now.pairs))
-  files_stay b = ap (λ z. number_count b (file_blocks new.disk z)) (alike_slots now.pairs new.pairs alike)
-      ∙ ap (number_count b) (slots_files now.disk new.disk (all_slots now.pairs) geometry (subst (SameFiles now.disk new.disk) (unmoved_in (pairs_gstate now.pairs) none now.pairs) files))
+    (geometry : SameGeometry now.disk new.disk) (files : SameFiles now.disk new.disk (all_unmoved_slots now.pairs)) where
+  pub files_stay : (b : ℕ) → number_occurrences b (file_blocks new.disk (all_slots new.pairs)) ≡ number_occurrences b (file_blocks now.disk (all_slots now.pairs))
+  files_stay b = ap (λ z. number_occurrences b (file_blocks new.disk z)) (alike_slots now.pairs new.pairs alike)
+      ∙ ap (number_occurrences b) (slots_files now.disk new.disk (all_slots now.pairs) geometry (subst (SameFiles now.disk new.disk) (unmoved_in (pairs_gstate now.pairs) none now.pairs) files))
 
   pub map_stays : (gone : List ℕ) → new.map ≡ now.map → HasMap now gone → HasMap new gone
   map_stays gone map_is h = record {
@@ -60,7 +60,7 @@ module _ (now new : KeptThread) (alike : SameSlots now.pairs new.pairs) (none : 
     are = subst (λ m. AreUsed m h.owned) (sym map_is) h.are;
     same = λ b.
         let f = files_stay b in
-        let k = ap (number_count b) (blocks_alike now.pairs new.pairs alike) in
+        let k = ap (number_occurrences b) (blocks_alike now.pairs new.pairs alike) in
         let u = count_used b new.disk new.pairs still in let v = count_used b now.disk now.pairs none in
         let s = h.same b in
         omega arith;

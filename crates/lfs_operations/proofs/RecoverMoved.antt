@@ -1,5 +1,5 @@
 -- The pair whose slot a set move names.
-use Rattle.lfs_operations.proofs.Common.{ℕ, suc, zero, ◌≡◌, ◌+◌, ◌<◌, ◌≤◌, ◌⊎◌, ◌&&◌, inl, inr, Bool, true, false, cond, List, [], ◌∷◌, ◌++◌, length, take, Option, Some, None, refl, sym, ap, subst, ◌∙◌, arith, get_or, slice_get, AllByRecursion, and_parts, cases_lt, same_Some, IsPairAt, Gstate, Slot, is_superblock, same_pair, Pair, pairs_gstate, is_hard_tail, may_continue, has_superblock, pair_count_before_root, IsAccepted, HasValidMove, IsEntry, set_move_kind, Each, HasNoMove, pair_back, pair_on, same_number, HoldsOfSome, KeptThread, empty_anchor, thread_pair_at, IfNone, IfSome, has_no_entry, IsThreadEntry, no_move_kind, among_from, HasMovedSlot}
+use Rattle.lfs_operations.proofs.Common.{ℕ, suc, zero, ◌≡◌, ◌+◌, ◌<◌, ◌≤◌, ◌⊎◌, ◌&&◌, inl, inr, Bool, true, false, cond, List, [], ◌∷◌, ◌++◌, length, take, Option, Some, None, refl, sym, ap, subst, ◌∙◌, arith, get_or, slice_get, AllByRecursion, and_parts, cases_lt, same_Some, IsPairAt, Gstate, Slot, is_superblock, same_pair, Pair, pairs_gstate, is_hard_tail, may_continue, has_superblock, count_before_root, IsAccepted, HasValidMove, IsEntry, set_move_kind, Each, HasNoMove, pair_back, pair_on, same_number, AnyByRecursion, KeptThread, empty_anchor, thread_pair, IfNone, IfSome, has_no_entry, IsThreadEntry, no_move_kind, among_from, HasMovedSlot}
 
 -- ---- no move, or one that names a slot
 
@@ -14,7 +14,7 @@ record IsSomewhere (ps : List Pair) (a : ℕ × ℕ) (id : ℕ) : Type 0 where
   same : same_pair a pair.at ≡ true
   slot : IsEntry (slice_get pair.content.slots id)
 
-somewhere : (ps : List Pair) (a : ℕ × ℕ) (id : ℕ) → HoldsOfSome (λ p. (same_pair a p.at ≡ true) × IsEntry (slice_get p.content.slots id)) ps → IsSomewhere ps a id
+somewhere : (ps : List Pair) (a : ℕ × ℕ) (id : ℕ) → AnyByRecursion (λ p. (same_pair a p.at ≡ true) × IsEntry (slice_get p.content.slots id)) ps → IsSomewhere ps a id
 somewhere [] a id h = absurd h
 somewhere (p ∷ ps) a id (inl h) = record { number = 0; pair = p; there = refl; same = h.0; slot = h.1 }
 somewhere (p ∷ ps) a id (inr h) = let s = somewhere ps a id h in record { number = suc s.number; pair = s.pair; there = s.there; same = s.same; slot = s.slot }
@@ -46,7 +46,7 @@ moved_at t index ok kind b =
     let n = same_number t.pairs index s.number b.pair s.pair ok.thread.distinct b.there s.there (pair_on b.pair.at g.pair s.pair.at b.same s.same) in
     let same : b.pair ≡ s.pair = same_Some b.pair s.pair (sym b.there ∙ ap (slice_get t.pairs) n ∙ s.there) in
     let here = get_some t.pairs index b.pair b.there in
-    let o = has_other (thread_pair_at t index).content.slots g.id (subst (λ (p : Pair). IsEntry (slice_get p.content.slots g.id)) (sym (here.1 ∙ same)) s.slot) in
+    let o = has_other (thread_pair t index).content.slots g.id (subst (λ (p : Pair). IsEntry (slice_get p.content.slots g.id)) (sym (here.1 ∙ same)) s.slot) in
     record {
       below = here.0;
       kind = kind;
@@ -66,18 +66,18 @@ not_nowhere t ok kind none = go t.pairs none (among_from (λ (p : Pair). (same_p
     g : Gstate
     g = pairs_gstate t.pairs
 
-    go : (ps : List Pair) → AllByRecursion (λ p. same_pair p.at (pairs_gstate t.pairs).pair ≡ false) ps → HoldsOfSome (λ p. (same_pair (pairs_gstate t.pairs).pair p.at ≡ true) × IsEntry (slice_get p.content.slots (pairs_gstate t.pairs).id)) ps → ⊥
+    go : (ps : List Pair) → AllByRecursion (λ p. same_pair p.at (pairs_gstate t.pairs).pair ≡ false) ps → AnyByRecursion (λ p. (same_pair (pairs_gstate t.pairs).pair p.at ≡ true) × IsEntry (slice_get p.content.slots (pairs_gstate t.pairs).id)) ps → ⊥
     go [] h a = a
     go (p ∷ ps) h (inl a) = absurd (let k = sym h.0 ∙ pair_back (pairs_gstate t.pairs).pair p.at a.0 in cc)
     go (p ∷ ps) h (inr a) = go ps h.1 a
 
 -- ---- it is one of a directory
 
-chain_bare : (ps : List Pair) (i : ℕ) → i < pair_count_before_root ps → has_no_entry (get_or ps i empty_anchor).content.slots ≡ true
+chain_bare : (ps : List Pair) (i : ℕ) → i < count_before_root ps → has_no_entry (get_or ps i empty_anchor).content.slots ≡ true
 chain_bare [] i low = absurd (omega arith)
 chain_bare (p ∷ ps) i low = go (has_superblock ps && may_continue p) refl i low (chain_bare ps)
   where
-    go : (t : Bool) → (has_superblock ps && may_continue p) ≡ t → (i : ℕ) → i < cond t (1 + pair_count_before_root ps) 0 → ((k : ℕ) → k < pair_count_before_root ps → has_no_entry (get_or ps k empty_anchor).content.slots ≡ true) →
+    go : (t : Bool) → (has_superblock ps && may_continue p) ≡ t → (i : ℕ) → i < cond t (1 + count_before_root ps) 0 → ((k : ℕ) → k < count_before_root ps → has_no_entry (get_or ps k empty_anchor).content.slots ≡ true) →
         has_no_entry (get_or (p ∷ ps) i empty_anchor).content.slots ≡ true
     go false e i l next = absurd (omega arith)
     go true e zero l next = (and_parts (has_no_entry p.content.slots) (is_hard_tail p.content.tail) (and_parts (has_superblock ps) (may_continue p) e).1).0
@@ -96,10 +96,10 @@ heads P zero (p ∷ ps) i l low h = absurd (omega arith)
 heads P (suc n) (p ∷ ps) zero l low h = h.0
 heads P (suc n) (p ∷ ps) (suc i) l low h = heads P n ps i (omega arith) (omega arith) h.1
 
-pub in_directory : (t : KeptThread) (index : ℕ) → IsAccepted t.disk t.pairs → HasMovedSlot t index → pair_count_before_root t.pairs ≤ index
-in_directory t index ok m = go (cases_lt index (pair_count_before_root t.pairs))
+pub in_directory : (t : KeptThread) (index : ℕ) → IsAccepted t.disk t.pairs → HasMovedSlot t index → count_before_root t.pairs ≤ index
+in_directory t index ok m = go (cases_lt index (count_before_root t.pairs))
   where
-    go : (index < pair_count_before_root t.pairs) ⊎ (pair_count_before_root t.pairs ≤ index) → pair_count_before_root t.pairs ≤ index
+    go : (index < count_before_root t.pairs) ⊎ (count_before_root t.pairs ≤ index) → count_before_root t.pairs ≤ index
     go (inr h) = h
     go (inl h) = absurd (bare_other m.left m.slot m.right m.other (ap has_no_entry (sym m.held) ∙ chain_bare t.pairs index h))
 

@@ -1,7 +1,7 @@
 -- The steps of a recovery, on the disk that they write and on those that a stop leaves.
-use Rattle.lfs_operations.proofs.Common.{ℕ, ◌≡◌, ◌<◌, ◌≤◌, ◌+◌, ◌-◌, ◌⊎◌, inl, inr, true, false, List, [], ◌∷◌, ◌++◌, length, Some, refl, sym, ap, subst, ◌∙◌, arith, length-append, same_Some, Blocks, Disk, HasEither as IsLeftOf, with_blocks, FitsInPair, Gstate, gstate_xor, zero_gstate, same_pair, Pair, pairs_gstate, is_hard_tail, pair_count_before_root, Path, IsAccepted, IsWritable, LeadsTo, tree_on_disk, SameSlots, alike_append, alike_itself, HasNoMove, gstate_assoc, gstate_cons, gstate_right, gstate_self, HasSite, site_of_number, AllReached, AllReachedBut, IsStep, step_writable, site_gstate_moved, Site, thread_at, IsDevice, stays_shape, IsWritableChange, taken_before, within_at, IsReady, IsUnthreaded, KeptThread, LossLeavesPairChanged, IsPairWritten, complete_after, thread_pair_at, pairs_with, within_same, gstate_changes, delta_reaching_gstate, content_reaching_gstate, LeftByDrop, content_after_drop}
+use Rattle.lfs_operations.proofs.Common.{ℕ, ◌≡◌, ◌<◌, ◌≤◌, ◌+◌, ◌-◌, ◌⊎◌, inl, inr, true, false, List, [], ◌∷◌, ◌++◌, length, Some, refl, sym, ap, subst, ◌∙◌, arith, length-append, same_Some, Blocks, Disk, HasEither as IsLeftOf, with_blocks, FitsInPair, Gstate, gstate_xor, zero_gstate, same_pair, Pair, pairs_gstate, is_hard_tail, count_before_root, Path, IsAccepted, IsWritable, LeadsTo, disk_tree, SameSlots, alike_append, alike_itself, HasNoMove, gstate_assoc, gstate_cons, gstate_right, gstate_self, HasSite, site_of_number, AllReached, AllReachedBut, IsStep, step_writable, site_gstate_moved, Site, thread_at, IsDevice, stays_shape, IsWritableChange, taken_before, within_at, IsReady, IsUnthreaded, KeptThread, LossLeavesPair, IsPairWritten, complete_after, thread_pair, pairs_with, within_same, gstate_changes, delta_reaching_gstate, content_reaching_gstate, LeftByDrop, content_after_drop, Unthreads}
 use Rattle.lfs_model.proofs.Rests.{slots_stay}
-use Rattle.lfs_model.proofs.Unthreaded.{Unthreads, unthread}
+use Rattle.lfs_model.proofs.Unthreaded.{unthread}
 use Rattle.lfs_operations.proofs.Threads.{one_now, pair_is, placed_one}
 use Rattle.lfs_operations.proofs.Placing.{device, left_still, left_after}
 use Rattle.lfs_operations.proofs.Dropped.{IsToBeDropped, device_left, left_dropped, slots_left, state_left, tail_left}
@@ -41,8 +41,8 @@ module _ (t : KeptThread) (chain front : List Pair) (before x : Pair) (todo : Li
   over_taken disk is = unthread t.disk disk chain front before x q todo ready (over_on disk is)
 
   -- a stop leaves the tree
-  pub over_left : (left : Blocks) → LeftByDrop t (index - 1) g left → IsLeftOf (with_blocks left t.disk) (tree_on_disk t.disk t.pairs) (tree_on_disk t.disk t.pairs)
-  over_left = left_dropped k (inl refl) (λ disk is. left_after (over_taken disk is).taken (inl (ap (tree_on_disk t.disk) (sym k.there))))
+  pub over_left : (left : Blocks) → LeftByDrop t (index - 1) g left → IsLeftOf (with_blocks left t.disk) (disk_tree t.disk t.pairs) (disk_tree t.disk t.pairs)
+  over_left = left_dropped k (inl refl) (λ disk is. left_after (over_taken disk is).taken (inl (ap (disk_tree t.disk) (sym k.there))))
 
 -- ---- a delta changes, and with it the sync bit
 
@@ -52,7 +52,7 @@ pub record CanClear (t : KeptThread) (index : ℕ) : Type 0 where
   pub writable : IsWritable t.disk t.pairs
   pub none : HasNoMove (pairs_gstate t.pairs)
   pub reached : AllReached t.pairs
-  pub behind : pair_count_before_root t.pairs ≤ index
+  pub behind : count_before_root t.pairs ≤ index
   pub below : index < length t.pairs
 
 module _ (t : KeptThread) (index : ℕ) (can : CanClear t index) where
@@ -62,7 +62,7 @@ module _ (t : KeptThread) (index : ℕ) (can : CanClear t index) where
   place : index ≡ length h.site.chain + length (h.site.before ++ h.site.left)
   place = sym h.number ∙ length-append h.site.chain (h.site.before ++ h.site.left)
 
-  pair_there : thread_pair_at t index ≡ h.pair
+  pair_there : thread_pair t index ≡ h.pair
   pair_there = pair_is t index h.site h.pair h.is place
 
   abbrev pub y : Pair
@@ -120,14 +120,14 @@ module _ (t : KeptThread) (index : ℕ) (can : CanClear t index) where
 
   -- a stop leaves the tree
   pub clear_left : complete_after t index (gstate_changes t index zero_gstate) ≡ Some (content_reaching_gstate t index zero_gstate)
-      → (left : Blocks) → LossLeavesPairChanged t index (gstate_changes t index zero_gstate) left → IsLeftOf (with_blocks left t.disk) (tree_on_disk t.disk t.pairs) (tree_on_disk t.disk t.pairs)
-  clear_left made left is = subst (λ z. IsLeftOf (with_blocks left t.disk) (tree_on_disk t.disk z) (tree_on_disk t.disk z)) (sym h.is) (go is.is)
+      → (left : Blocks) → LossLeavesPair t index (gstate_changes t index zero_gstate) left → IsLeftOf (with_blocks left t.disk) (disk_tree t.disk t.pairs) (disk_tree t.disk t.pairs)
+  clear_left made left is = subst (λ z. IsLeftOf (with_blocks left t.disk) (disk_tree t.disk z) (disk_tree t.disk z)) (sym h.is) (go is.is)
     where
       old : List Pair
       old = thread_at h.site (h.pair ∷ [])
 
-      go : (is.content ≡ (thread_pair_at t index).content) ⊎ ((complete_after t index (gstate_changes t index zero_gstate) ≡ Some is.content) × FitsInPair t.disk.block_size t.disk.page is.content)
-          → IsLeftOf (with_blocks left t.disk) (tree_on_disk t.disk old) (tree_on_disk t.disk old)
+      go : (is.content ≡ (thread_pair t index).content) ⊎ ((complete_after t index (gstate_changes t index zero_gstate) ≡ Some is.content) × FitsInPair t.disk.block_size t.disk.page is.content)
+          → IsLeftOf (with_blocks left t.disk) (disk_tree t.disk old) (disk_tree t.disk old)
       go (inl e) =
           let same : is.content ≡ h.pair.content = e ∙ ap (λ (z : Pair). z.content) pair_there in
           let on = device t.disk (with_blocks left t.disk) h.site h.pair h.pair [] [] accepted accepted.owned_once
@@ -135,5 +135,5 @@ module _ (t : KeptThread) (index : ℕ) (can : CanClear t index) where
           left_still t.disk left old accepted fits on (inl refl)
       go (inr m) =
           let same : is.content ≡ content_reaching_gstate t index zero_gstate = same_Some is.content (content_reaching_gstate t index zero_gstate) (sym m.0 ∙ made) in
-          taken_before t.disk old (with_blocks left t.disk) (thread_at h.site (y ∷ [])) (λ d. d) (tree_on_disk t.disk old)
+          taken_before t.disk old (with_blocks left t.disk) (thread_at h.site (y ∷ [])) (λ d. d) (disk_tree t.disk old)
           (clear_taken (with_blocks left t.disk) (subst (λ c. IsPairWritten t index c (with_blocks left t.disk)) same is.written))

@@ -1,5 +1,5 @@
 -- How far a recovery is, from its beginning to its end.
-use Rattle.lfs_operations.proofs.Common.{ℕ, suc, zero, ◌≡◌, ◌≢◌, ◌+◌, ◌-◌, ◌<◌, ◌≤◌, ◌⊎◌, inl, inr, true, false, cond, nat_eq, eq-eqb, List, [], ◌∷◌, ◌++◌, length, take, drop, Option, Some, None, refl, sym, ap, ap₂, subst, ◌∙◌, arith, append_assoc, length-append, slice_get, ne_eqb, Blocks, Disk, directory_address, continued_address, AllCallsSince, HasEither as IsLeftOf, SurvivesLossSince, with_blocks, Gstate, zero_gstate, same_pair, Pair, blocks_of_pairs, pairs_from_root, first_address, pairs_gstate, pair_count_before_root, address_blocks, IsAccepted, IsReachedBySome, tree_on_disk, used_blocks, IsWritable, survives_then, number_count, count_append, once_from_distinct, HasDirectory, chain_of_thread, led_directory, HasNoMove, HoldsAtLosses-weaker, joined_singles, onward_all, Ends, pair_back, pair_itself, pair_on, same_number, file_blocks, all_slots, IsReady, IsUnthreaded, same_parts, LossLeavesCleanly, KeptThread, SameGeometryAs, ChangesThreadBlocks, empty_anchor, thread_pair_at, is_some, slice_index_or, recovery_begins, AreUnreachedNumbers, AreUnreachedFrom, CanDropPairs, numbered_blocks, gstate_after_drops, SameInFlight, CanDropAt, LeftByDrop, IsPairDropped, content_after_drop}
+use Rattle.lfs_operations.proofs.Common.{ℕ, suc, zero, ◌≡◌, ◌≢◌, ◌+◌, ◌-◌, ◌<◌, ◌≤◌, ◌⊎◌, inl, inr, true, false, cond, nat_eq, eq-eqb, List, [], ◌∷◌, ◌++◌, length, take, drop, Option, Some, None, refl, sym, ap, ap₂, subst, ◌∙◌, arith, append_assoc, length-append, slice_get, ne_eqb, Blocks, Disk, directory_address, continued_address, AllCallsSince, HasEither as IsLeftOf, SurvivesLossSince, with_blocks, Gstate, zero_gstate, same_pair, Pair, pairs_blocks, pairs_from_root, first_address, pairs_gstate, count_before_root, address_blocks, IsAccepted, IsReachedBySome, disk_tree, used_blocks, IsWritable, survives_then, number_occurrences, count_append, once_from_distinct, HasDirectory, chain_of_thread, led_directory, HasNoMove, HoldsAtLosses-weaker, joined_singles, onward_all, Ends, pair_back, pair_itself, pair_on, same_number, file_blocks, all_slots, IsReady, IsUnthreaded, same_parts, CleanLossLeaves, KeptThread, SameGeometryAs, ChangesThreadBlocks, empty_anchor, thread_pair, is_some, slice_index_or, recovery_begins, AreUnreachedNumbers, AreUnreachedFrom, CanDropPairs, numbered_list_blocks, gstate_while_dropping, SameInFlight, CanDropAt, LeftByDrop, IsPairDropped, content_after_drop}
 use Rattle.lfs_model.proofs.Histories.{AllCallsSince-weaker, goes_on_by}
 use Rattle.lfs_operations.proofs.RecoverLists.{lists_kept, lists_more, numbered}
 use Rattle.lfs_operations.proofs.RecoverLoop.{FirstsOnly, IsAtDrop, IsAtEnd, IsOnWay, all_but, drops, goes_to, ready, soft, stands, sync_set, unled}
@@ -42,9 +42,9 @@ ends_none (p ∷ ps) h = ends_on None p ps h
 
 module _ (disk : Disk) (ps : List Pair) (ok : IsAccepted disk ps) where
   abbrev chain : List Pair
-  chain = take (pair_count_before_root ps) ps
+  chain = take (count_before_root ps) ps
 
-  abbrev whole : ps ≡ take (pair_count_before_root ps) ps ++ pairs_from_root ps
+  abbrev whole : ps ≡ take (count_before_root ps) ps ++ pairs_from_root ps
   whole = (chain_of_thread ps).0
 
   -- no path leads to a pair that a hard tail leads to
@@ -80,7 +80,7 @@ pub record IsUnderWay (old now : KeptThread) (dropped : ℕ) (numbers : List ℕ
   pub todo : List Pair
   pub parts : List (List Pair)
   pub kept : List Pair
-  pub way : IsOnWay old.disk old.pairs now dropped (take (pair_count_before_root old.pairs) old.pairs) seen todo parts kept numbers
+  pub way : IsOnWay old.disk old.pairs now dropped (take (count_before_root old.pairs) old.pairs) seen todo parts kept numbers
   pub state : 0 < dropped → numbers ≡ [] → pairs_gstate now.pairs ≡ zero_gstate
   pub device : StaysOn old now
   pub gone : List ℕ
@@ -88,12 +88,12 @@ pub record IsUnderWay (old now : KeptThread) (dropped : ℕ) (numbers : List ℕ
   pub was : IsAccepted old.disk old.pairs
   pub took : List ℕ
   pub reported : AreUnreachedNumbers old.pairs (took ++ numbers)
-  pub gone_are : gone ≡ numbered_blocks old took
-  pub lost : (b : ℕ) → number_count b gone + number_count b (file_blocks now.disk (all_slots now.pairs)) ≡ number_count b (file_blocks old.disk (all_slots old.pairs))
+  pub gone_are : gone ≡ numbered_list_blocks old took
+  pub lost : (b : ℕ) → number_occurrences b gone + number_occurrences b (file_blocks now.disk (all_slots now.pairs)) ≡ number_occurrences b (file_blocks old.disk (all_slots old.pairs))
   pub flying : SameInFlight old.map now.map
-  pub fewer : (b : ℕ) → number_count b (blocks_of_pairs now.pairs) ≤ number_count b (blocks_of_pairs old.pairs)
-  pub writes : ChangesThreadBlocks (blocks_of_pairs old.pairs) old now
-  pub survives : SurvivesLossSince old.disk old.history now.history (tree_on_disk old.disk old.pairs) (tree_on_disk old.disk old.pairs)
+  pub fewer : (b : ℕ) → number_occurrences b (pairs_blocks now.pairs) ≤ number_occurrences b (pairs_blocks old.pairs)
+  pub writes : ChangesThreadBlocks (pairs_blocks old.pairs) old now
+  pub survives : SurvivesLossSince old.disk old.history now.history (disk_tree old.disk old.pairs) (disk_tree old.disk old.pairs)
 
 pub begins : (t : KeptThread) (numbers : List ℕ) → CanDropPairs t numbers → IsUnderWay t t 0 numbers
 begins t numbers can =
@@ -102,7 +102,7 @@ begins t numbers can =
     let none = can.none in
     let reported = can.reported in
     let e = chain_of_thread t.pairs in
-    let number_count : pair_count_before_root t.pairs ≡ length (take (pair_count_before_root t.pairs) t.pairs) + 0 + 0 = let a = ap pair_count_before_root e.0 in let b = e.1 in omega arith in
+    let number_occurrences : count_before_root t.pairs ≡ length (take (count_before_root t.pairs) t.pairs) + 0 + 0 = let a = ap count_before_root e.0 in let b = e.1 in omega arith in
     record {
       seen = [];
       todo = pairs_from_root t.pairs;
@@ -113,7 +113,7 @@ begins t numbers can =
         there = e.0;
         counted = refl;
         no_move = none;
-        reported = subst (λ n. AreUnreachedFrom (IsReachedBySome t.pairs) n None (pairs_from_root t.pairs) numbers) number_count reported;
+        reported = subst (λ n. AreUnreachedFrom (IsReachedBySome t.pairs) n None (pairs_from_root t.pairs) numbers) number_occurrences reported;
         firsts = firsts_from t.disk t.pairs ok [] (pairs_from_root t.pairs) refl;
         filled = fits.no_empty_pair;
         begins = tt;
@@ -137,7 +137,7 @@ begins t numbers can =
       lost = λ b. omega arith;
       flying = λ b. ((λ flies. flies), (λ flies. flies));
       fewer = λ b. omega arith;
-      writes = writes_none (blocks_of_pairs t.pairs) t;
+      writes = writes_none (pairs_blocks t.pairs) t;
       survives = λ clean. record { events = []; extends = refl; each = tt };
     }
 
@@ -145,19 +145,19 @@ begins t numbers can =
 
 -- the pair at an index goes, which stands behind the one before it
 pub record IsNext (old now : KeptThread) (dropped number : ℕ) (rest : List ℕ) : Type 0 where
-  pub goes : IsAtDrop old.disk old.pairs now dropped (take (pair_count_before_root old.pairs) old.pairs) (number ∷ rest)
+  pub goes : IsAtDrop old.disk old.pairs now dropped (take (count_before_root old.pairs) old.pairs) (number ∷ rest)
   pub front : List Pair
   pub before : Pair
   pub split : goes.kept ≡ front ++ before ∷ []
-  pub number_is : number ≡ length (take (pair_count_before_root old.pairs) old.pairs) + length front + 1 + dropped
+  pub number_is : number ≡ length (take (count_before_root old.pairs) old.pairs) + length front + 1 + dropped
 
 pub next_goes : (old now : KeptThread) (dropped number : ℕ) (rest : List ℕ) → IsUnderWay old now dropped (number ∷ rest) → IsNext old now dropped number rest
-next_goes old now dropped number rest u = go (goes_to old.disk old.pairs now dropped (take (pair_count_before_root old.pairs) old.pairs) u.seen u.todo u.parts u.kept (number ∷ rest) u.way)
+next_goes old now dropped number rest u = go (goes_to old.disk old.pairs now dropped (take (count_before_root old.pairs) old.pairs) u.seen u.todo u.parts u.kept (number ∷ rest) u.way)
   where
     head : {a b : ℕ} {us vs : List ℕ} → a ∷ us ≡ b ∷ vs → a ≡ b
     head e = cc
 
-    go : IsAtEnd old.disk old.pairs now dropped (take (pair_count_before_root old.pairs) old.pairs) (number ∷ rest) ⊎ IsAtDrop old.disk old.pairs now dropped (take (pair_count_before_root old.pairs) old.pairs) (number ∷ rest)
+    go : IsAtEnd old.disk old.pairs now dropped (take (count_before_root old.pairs) old.pairs) (number ∷ rest) ⊎ IsAtDrop old.disk old.pairs now dropped (take (count_before_root old.pairs) old.pairs) (number ∷ rest)
         → IsNext old now dropped number rest
     go (inl d) = absurd (let l = ap length d.none in omega arith)
     go (inr d) =
@@ -171,7 +171,7 @@ pub record IsWanted (now : KeptThread) (rest : List ℕ) (g : Gstate) : Type 0 w
 
 module _ (old now : KeptThread) (dropped number : ℕ) (rest : List ℕ) (n : IsNext old now dropped number rest) (g : Gstate) (want : IsWanted now rest g) where
   abbrev C : List Pair
-  C = take (pair_count_before_root old.pairs) old.pairs
+  C = take (count_before_root old.pairs) old.pairs
 
   abbrev at : ℕ
   at = length C + length n.front
@@ -227,8 +227,8 @@ module _ (old now : KeptThread) (dropped number : ℕ) (rest : List ℕ) (n : Is
     pub can_take : CanDropAt now behind g
     can_take = can_drop_pair dropping
 
-    shows : tree_on_disk now.disk now.pairs ≡ tree_on_disk old.disk old.pairs
-    shows = ap (tree_on_disk now.disk) (n.goes.way.there ∙ ap (λ z. C ++ (n.goes.kept ++ z)) (sym (joined_singles (n.goes.x ∷ n.goes.todo)))) ∙ n.goes.way.is.taken.follows.shows
+    shows : disk_tree now.disk now.pairs ≡ disk_tree old.disk old.pairs
+    shows = ap (disk_tree now.disk) (n.goes.way.there ∙ ap (λ z. C ++ (n.goes.kept ++ z)) (sym (joined_singles (n.goes.x ∷ n.goes.todo)))) ∙ n.goes.way.is.taken.follows.shows
 
     disk_is : StaysOn old now → (left : Blocks) → with_blocks left now.disk ≡ with_blocks left old.disk
     disk_is d left = λ j. record { block_size = d.shape.block_size j; page = d.shape.page j; order = d.shape.order j; profile = d.shape.profile j; blocks = left }
@@ -238,22 +238,22 @@ module _ (old now : KeptThread) (dropped number : ℕ) (rest : List ℕ) (n : Is
         (let k = n.number_is in let c = n.goes.way.counted in let a = ap length n.split in let b = length-append n.front (n.before ∷ []) in omega arith)
 
     pub survives_on : (new : KeptThread) → IsUnderWay old now dropped (number ∷ rest)
-        → StaysOn now new → LossLeavesCleanly now.history new.history (LeftByDrop now (behind - 1) g)
-        → SurvivesLossSince old.disk old.history new.history (tree_on_disk old.disk old.pairs) (tree_on_disk old.disk old.pairs)
+        → StaysOn now new → CleanLossLeaves now.history new.history (LeftByDrop now (behind - 1) g)
+        → SurvivesLossSince old.disk old.history new.history (disk_tree old.disk old.pairs) (disk_tree old.disk old.pairs)
     survives_on new u on stops =
-        survives_then old.disk old.history now.history new.history (tree_on_disk old.disk old.pairs) (tree_on_disk old.disk old.pairs) u.device.calls on.calls u.survives
-        (λ clean. HoldsAtLosses-weaker (λ left x. subst (λ z. IsLeftOf z (tree_on_disk old.disk old.pairs) (tree_on_disk old.disk old.pairs)) (disk_is u.device left)
+        survives_then old.disk old.history now.history new.history (disk_tree old.disk old.pairs) (disk_tree old.disk old.pairs) u.device.calls on.calls u.survives
+        (λ clean. HoldsAtLosses-weaker (λ left x. subst (λ z. IsLeftOf z (disk_tree old.disk old.pairs) (disk_tree old.disk old.pairs)) (disk_is u.device left)
         (subst (λ z. IsLeftOf (with_blocks left now.disk) z z) shows
         (over_left now C n.front n.before n.goes.x n.goes.todo behind g dropping is_ready is_unled left x))) (stops clean))
 
-    pub writes_on : (new : KeptThread) → IsUnderWay old now dropped (number ∷ rest) → ChangesThreadBlocks (address_blocks (thread_pair_at now (behind - 1)).at) now new → ChangesThreadBlocks (blocks_of_pairs old.pairs) old new
+    pub writes_on : (new : KeptThread) → IsUnderWay old now dropped (number ∷ rest) → ChangesThreadBlocks (address_blocks (thread_pair now (behind - 1)).at) now new → ChangesThreadBlocks (pairs_blocks old.pairs) old new
     writes_on new u writes =
         let can = can_take in
         let low : behind - 1 < length now.pairs = let w = can.above in let z = can.below in omega arith in
-        writes_trans u.writes (writes_fewer _ (blocks_of_pairs old.pairs) (λ b. let f = u.fewer b in let l = two_fewer now.pairs (behind - 1) low b in omega arith) writes)
+        writes_trans u.writes (writes_fewer _ (pairs_blocks old.pairs) (λ b. let f = u.fewer b in let l = two_fewer now.pairs (behind - 1) low b in omega arith) writes)
 
     pub moves_on : (new : KeptThread) → IsUnderWay old now dropped (number ∷ rest)
-        → IsPairDropped now (behind - 1) g new → ChangesThreadBlocks (address_blocks (thread_pair_at now (behind - 1)).at) now new → LossLeavesCleanly now.history new.history (LeftByDrop now (behind - 1) g)
+        → IsPairDropped now (behind - 1) g new → ChangesThreadBlocks (address_blocks (thread_pair now (behind - 1)).at) now new → CleanLossLeaves now.history new.history (LeftByDrop now (behind - 1) g)
         → IsUnderWay old new (suc dropped) rest
     moves_on new u is writes stops =
         let on = stays_by _ now new writes in
@@ -319,8 +319,8 @@ pub record AreIndexes (number dropped : ℕ) : Type 0 where
 pub indexes : (old now : KeptThread) (dropped number : ℕ) (rest : List ℕ) → IsNext old now dropped number rest → AreIndexes number dropped
 indexes old now dropped number rest n = let k = n.number_is in record { enough = omega arith; sum = omega arith }
 
-pub wanted : (now : KeptThread) (xs : List ℕ) (dropped : ℕ) (g : Gstate) → dropped < length xs → g ≡ gstate_after_drops now (nat_eq (dropped + 1) (length xs)) → IsWanted now (drop (suc dropped) xs) g
+pub wanted : (now : KeptThread) (xs : List ℕ) (dropped : ℕ) (g : Gstate) → dropped < length xs → g ≡ gstate_while_dropping now (nat_eq (dropped + 1) (length xs)) → IsWanted now (drop (suc dropped) xs) g
 wanted now xs dropped g low is = record {
-  last = λ none. is ∙ ap (gstate_after_drops now) (eq-eqb (dropped + 1) (length xs) (let l = drop_none (suc dropped) xs none in omega arith));
-  other = λ some. is ∙ ap (gstate_after_drops now) (ne_eqb (dropped + 1) (length xs) (λ e. some (drop_all (suc dropped) xs (omega arith))));
+  last = λ none. is ∙ ap (gstate_while_dropping now) (eq-eqb (dropped + 1) (length xs) (let l = drop_none (suc dropped) xs none in omega arith));
+  other = λ some. is ∙ ap (gstate_while_dropping now) (ne_eqb (dropped + 1) (length xs) (λ e. some (drop_all (suc dropped) xs (omega arith))));
 }

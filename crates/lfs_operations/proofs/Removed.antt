@@ -1,5 +1,5 @@
 -- A file that goes while its pair stays, as a step of the thread.
-use Rattle.lfs_operations.proofs.Common.{Err, Result, append_assoc, nat_eq, slice_get, ℕ, ◌≡◌, ◌≢◌, ◌⊎◌, inl, inr, ◌+◌, ◌<◌, ◌&&◌, not, Bool, true, false, eqb-true, List, [], ◌∷◌, ◌++◌, length, Some, refl, sym, ap, ap₂, subst, ◌∙◌, arith, append-nil, length-append, remove, sum_by, eqb-false, same_Some, sum_by-append, sum_by-cons, tree_removing, Free, InFlight, Delete, changed_content_of, RawContent, complete_content, raw_content, Disk, CallEvent, SurvivesLossSince, PairContent, FitsInPair, Slot, same_pair, slot_size, Pair, blocks_of_pairs, first_address, tail_address_of, Tree, struct_blocks, tree_on_disk, Name, IsChangedImage, IsCompletion, commit_step, recovered_from, complete_length, complete_remove, completed_from, completed_parts, count_append, deletes, does_first, does_nothing, HoldsAtLosses-weaker, Ends, file_goes, remove_here, same, same_number, site, pair_back, pair_on, IsPairAt, IsDistinct, Site, thread_at, ends_joined, LossLeavesCleanly, KeptThread, ThreadView, CanChangePair, IoMeantFaultNoMemoryWroteNothing, IsPairCommitted, LossLeavesPairChanged, RefusesChanges, complete_after, thread_pair_at, is_err, Error, option_and_then, remove_completed, CanEditIn, editable_slot, ShowsAfterDrops, ShowsUpdatedTree, CanRemoveIn, IsFileRemoved, ReportsErrorsOfCommitTakingNoBlock, drops_with_its_slot, tree_without_entry}
+use Rattle.lfs_operations.proofs.Common.{Err, Result, append_assoc, nat_eq, slice_get, ℕ, ◌≡◌, ◌≢◌, ◌⊎◌, inl, inr, ◌+◌, ◌<◌, ◌&&◌, not, Bool, true, false, eqb-true, List, [], ◌∷◌, ◌++◌, length, Some, refl, sym, ap, ap₂, subst, ◌∙◌, arith, append-nil, length-append, remove, sum_by, eqb-false, same_Some, sum_by-append, sum_by-cons, tree_removing, Free, InFlight, Delete, changed_content_of, RawContent, complete_content, raw_content, Disk, CallEvent, SurvivesLossSince, PairContent, FitsInPair, Slot, same_pair, slot_size, Pair, pairs_blocks, first_address, tail_target, Tree, struct_blocks, disk_tree, Name, IsChangedImage, CompletesOperation, commit_step, recovered_from, complete_length, complete_remove, completed_from, completed_parts, count_append, deletes, does_first, does_nothing, HoldsAtLosses-weaker, Ends, file_goes, remove_here, same, same_number, site, pair_back, pair_on, IsPairAt, IsDistinct, Site, thread_at, ends_joined, CleanLossLeaves, KeptThread, ThreadView, CanChangePair, ThreadReportsErrors, IsPairCommitted, LossLeavesPair, RefusesChanges, complete_after, thread_pair, is_err, Error, option_and_then, remove_completed, CanEditIn, editable_slot, ShowsDroppedTree, ShowsUnsettledTree, CanRemoveIn, IsFileRemoved, ReportsCommit, drops_with_its_slot, tree_without_entry}
 use Rattle.lfs_model.specs.session.Operations as ops
 use Rattle.lfs_operations.proofs.Held.{CompletesTo, below, fits_there, here, raw_there}
 use Rattle.lfs_operations.proofs.Splicing.{Commits, IsSplicing}
@@ -15,7 +15,7 @@ flag_ends (p ∷ []) h = h
 flag_ends (p ∷ q ∷ ps) h = flag_ends (q ∷ ps) h
 
 -- where a pair is the first of its directory, no other stands in front of it there
-pub alone : (chain before left tail : List Pair) (p : Pair) (a : ℕ × ℕ) (first : ℕ) → IsDistinct nat_eq (blocks_of_pairs (chain ++ ((before ++ left) ++ p ∷ tail))) → same_pair (first_address (left ++ p ∷ [])) a ≡ true
+pub alone : (chain before left tail : List Pair) (p : Pair) (a : ℕ × ℕ) (first : ℕ) → IsDistinct nat_eq (pairs_blocks (chain ++ ((before ++ left) ++ p ∷ tail))) → same_pair (first_address (left ++ p ∷ [])) a ≡ true
     → IsPairAt (chain ++ ((before ++ left) ++ p ∷ tail)) a first → first ≡ length chain + length (before ++ left) → left ≡ []
 alone chain before [] tail p a first distinct h b n = refl
 alone chain before (x ∷ left) tail p a first distinct h b n =
@@ -29,7 +29,7 @@ alone chain before (x ∷ left) tail p a first distinct h b n =
     absurd (omega arith)
 
 -- where no block comes, and none becomes free
-pub shrunk_from : (t new : KeptThread) (tree : Tree) (gone : List ℕ) → ShowsUpdatedTree t new tree gone [] → ShowsAfterDrops t new tree gone
+pub shrunk_from : (t new : KeptThread) (tree : Tree) (gone : List ℕ) → ShowsUnsettledTree t new tree gone [] → ShowsDroppedTree t new tree gone
 shrunk_from t new tree gone h = record {
   ready = h.ready;
   shows = h.shows;
@@ -38,14 +38,14 @@ shrunk_from t new tree gone h = record {
 }
 
 -- a pair that doesn't go with its slot is the first of its directory, or has another one
-pub stays_there : (t : KeptThread) (index id first : ℕ) (can : CanEditIn t index id) → can.first ≡ first → drops_with_its_slot t index first ≡ false → (index ≡ can.first) ⊎ (1 < length (thread_pair_at t index).content.slots)
-stays_there t index id first can begins goes = by (nat_eq index first) (nat_eq (length (thread_pair_at t index).content.slots) 1) refl refl goes
+pub stays_there : (t : KeptThread) (index id first : ℕ) (can : CanEditIn t index id) → can.first ≡ first → drops_with_its_slot t index first ≡ false → (index ≡ can.first) ⊎ (1 < length (thread_pair t index).content.slots)
+stays_there t index id first can begins goes = by (nat_eq index first) (nat_eq (length (thread_pair t index).content.slots) 1) refl refl goes
   where
-    by : (x y : Bool) → nat_eq index first ≡ x → nat_eq (length (thread_pair_at t index).content.slots) 1 ≡ y → not x && y ≡ false → (index ≡ can.first) ⊎ (1 < length (thread_pair_at t index).content.slots)
+    by : (x y : Bool) → nat_eq index first ≡ x → nat_eq (length (thread_pair t index).content.slots) 1 ≡ y → not x && y ≡ false → (index ≡ can.first) ⊎ (1 < length (thread_pair t index).content.slots)
     by true y e f k = inl (eqb-true index first e ∙ sym begins)
     by false true e f k = absurd (cc)
     by false false e f k = inr (
-        let n = eqb-false (length (thread_pair_at t index).content.slots) 1 f in
+        let n = eqb-false (length (thread_pair t index).content.slots) 1 f in
         let h = ap length can.stands.stands.held in
         let l = length-append can.stands.stands.left (can.stands.stands.slot ∷ can.stands.stands.right) in
         let p = ap (λ (z : Pair). length z.content.slots) (here t can.ready can.first index can.stands.pair can.stands.rest can.stands.place) in
@@ -78,7 +78,7 @@ module _ (t : KeptThread) (index id first : ℕ) (take : CanRemoveIn t index id 
   within : id < length p.content.slots
   within = let h = ap length can.stands.stands.held in let k = length-append l (u ∷ r) in let n = can.stands.stands.number in omega arith
 
-  abbrev c : CompletesTo (raw_content t.disk (thread_pair_at t index).at) p.content
+  abbrev c : CompletesTo (raw_content t.disk (thread_pair t index).at) p.content
   c = raw_there t can.ready can.first index p can.stands.rest can.stands.place
 
   abbrev raw_now : RawContent
@@ -110,7 +110,7 @@ module _ (t : KeptThread) (index id first : ℕ) (take : CanRemoveIn t index id 
     below = below t can.ready can.first index p can.stands.rest can.stands.place;
     content = now;
     made = made;
-    next = ap (λ (z : Pair). tail_address_of z.content.tail) (sym (here t can.ready can.first index p can.stands.rest can.stands.place));
+    next = ap (λ (z : Pair). tail_target z.content.tail) (sym (here t can.ready can.first index p can.stands.rest can.stands.place));
   }
 
   -- what is left fits
@@ -160,9 +160,9 @@ module _ (t : KeptThread) (index id first : ℕ) (take : CanRemoveIn t index id 
   filled : ends_joined false (w.before ++ w.left) ≡ true → l ++ ([] ++ r) ≢ []
   filled hard none = go (stays_there t index id first can take.begins goes)
     where
-      go : (index ≡ can.first) ⊎ (1 < length (thread_pair_at t index).content.slots) → ⊥
+      go : (index ≡ can.first) ⊎ (1 < length (thread_pair t index).content.slots) → ⊥
       go (inl e) =
-          let none_before = alone w.chain w.before w.left (w.right ++ w.after) p can.at can.first (subst (λ z. IsDistinct nat_eq (blocks_of_pairs z)) stand.there can.ready.accepted.thread.distinct) stand.begin
+          let none_before = alone w.chain w.before w.left (w.right ++ w.after) p can.at can.first (subst (λ z. IsDistinct nat_eq (pairs_blocks z)) stand.there can.ready.accepted.thread.distinct) stand.begin
           (subst (λ z. IsPairAt z can.at can.first) stand.there can.begins) (sym e ∙ stand.number) in
           let ends = stand.site.ends in
           let soft = ap (λ z. ends_joined false (w.before ++ z)) none_before ∙ ap (ends_joined false) (append-nil w.before) ∙ flag_ends w.before ends in
@@ -180,7 +180,7 @@ module _ (t : KeptThread) (index id first : ℕ) (take : CanRemoveIn t index id 
 
   follows : (disk : Disk) (q : Pair) (more : List Pair) → Commits t w p l (u ∷ []) [] r [] disk q more → IsChangedImage t.disk (thread_at w (p ∷ [])) disk (thread_at w (q ∷ more)) turn (λ d. d)
   follows disk q more x = subst (λ (n : Name). IsChangedImage t.disk (thread_at w (p ∷ [])) disk (thread_at w (q ∷ more)) (tree_removing (can.path ++ n ∷ [])) (λ d. d)) can.stands.stands.named
-      (file_goes t.disk disk w p [] q more (blocks_of_pairs more) [] l r u (commit_step t.disk disk w p q more [] l (u ∷ []) [] r x.commit) can.stands.stands.entry can.path can.at stand.leads stand.begin take.file
+      (file_goes t.disk disk w p [] q more (pairs_blocks more) [] l r u (commit_step t.disk disk w p q more [] l (u ∷ []) [] r x.commit) can.stands.stands.entry can.path can.at stand.leads stand.begin take.file
       (λ e. (recovered_from t.disk (thread_at w (p ∷ [])) x.commit.accepted x.commit.settled).reached))
 
   pub gone : (new : KeptThread) → IsPairCommitted t index (Delete id ∷ []) new → IsFileRemoved t new take.can.path take.can.name (editable_slot take.can).struct
@@ -188,23 +188,23 @@ module _ (t : KeptThread) (index id first : ℕ) (take : CanRemoveIn t index id 
     where
       go : HasStep t w p l (u ∷ []) [] r (struct_blocks t.disk u.struct) [] new → IsFileRemoved t new can.path can.name u.struct
       go x = record {
-        now = shrunk_from t new (turn (tree_on_disk t.disk t.pairs)) (struct_blocks t.disk u.struct)
+        now = shrunk_from t new (turn (disk_tree t.disk t.pairs)) (struct_blocks t.disk u.struct)
             (becomes t index (Delete id ∷ []) w p l (u ∷ []) [] r (struct_blocks t.disk u.struct) [] spliced turn (λ disk q more y. ((λ d. d), follows disk q more y)) filled new x);
-        completed = λ z given tree is_path. subst (λ y. IsCompletion t.disk y z (ops.Remove given) new.disk new.pairs) (sym stand.there)
-            (subst (λ y. IsCompletion t.disk (thread_at w (p ∷ [])) z (ops.Remove given) new.disk y) (sym x.pairs)
-            (remove_completed t.disk new.disk w p x.q x.more l r u x.commit.commit can.stands.stands.entry take.file can.path can.at stand.leads stand.begin z given (tree ∙ ap (tree_on_disk t.disk) stand.there)
+        completed = λ z given tree is_path. subst (λ y. CompletesOperation t.disk y z (ops.Remove given) new.disk new.pairs) (sym stand.there)
+            (subst (λ y. CompletesOperation t.disk (thread_at w (p ∷ [])) z (ops.Remove given) new.disk y) (sym x.pairs)
+            (remove_completed t.disk new.disk w p x.q x.more l r u x.commit.commit can.stands.stands.entry take.file can.path can.at stand.leads stand.begin z given (tree ∙ ap (disk_tree t.disk) stand.there)
             (is_path ∙ ap (λ n. can.path ++ n ∷ []) (sym can.stands.stands.named)) filled));
         once = λ b. let e = x.used.same b in let o = x.once b in omega arith;
       }
 
-  pub remove_survives : (new : List CallEvent) → LossLeavesCleanly t.history new (LossLeavesPairChanged t index (Delete id ∷ [])) → SurvivesLossSince t.disk t.history new (tree_on_disk t.disk t.pairs) (tree_without_entry t take.can.path take.can.name)
+  pub remove_survives : (new : List CallEvent) → CleanLossLeaves t.history new (LossLeavesPair t index (Delete id ∷ [])) → SurvivesLossSince t.disk t.history new (disk_tree t.disk t.pairs) (tree_without_entry t take.can.path take.can.name)
   remove_survives new stops = survives t index (Delete id ∷ []) w p l (u ∷ []) [] r (struct_blocks t.disk u.struct) [] spliced turn (λ disk q more y. ((λ d. d), follows disk q more y)) filled new
       (λ clean. HoldsAtLosses-weaker (λ left x. inl x) (stops clean))
 
 -- ---- what it tells
 
 -- an error that is passed on
-pub reports_again : {X Y : Type 0} (old new : ThreadView) (e : Error) (result : Result X Error) (given : Result Y Error) → result ≡ Err e → given ≡ Err e → new.failed ≡ is_err result → IoMeantFaultNoMemoryWroteNothing old.kept new.kept result → ReportsErrorsOfCommitTakingNoBlock old new given
+pub reports_again : {X Y : Type 0} (old new : ThreadView) (e : Error) (result : Result X Error) (given : Result Y Error) → result ≡ Err e → given ≡ Err e → new.failed ≡ is_err result → ThreadReportsErrors old.kept new.kept result → ReportsCommit old new given
 reports_again old new e result given is same failed reported = record {
   failed = failed ∙ ap is_err is ∙ sym (ap is_err same);
   reported = reported_again old.kept new.kept e result given is same reported;

@@ -1,5 +1,5 @@
 -- A file that goes with its pair, which held nothing else and isn't the first of its directory, as a step of the thread.
-use Rattle.lfs_operations.proofs.Common.{◌<◌, ℕ, ◌≡◌, ◌≢◌, inl, inr, ◌+◌, ◌-◌, ◌≤◌, ◌&&◌, not, Bool, true, false, nat_eq, eqb-true, slice_get, List, [], ◌∷◌, ◌++◌, length, Option, Some, None, refl, sym, ap, subst, ◌∙◌, arith, append_assoc, length-append, IsDistinct, eqb-false, tree_removing, Blocks, Disk, CallEvent, IsPairAt, HasEither as IsLeftOf, SurvivesLossSince, with_blocks, PairContent, Slot, Tail, zero_gstate, same_pair, Pair, blocks_of_pairs, first_address, pairs_gstate, is_hard_tail, pair_count_before_root, Tree, branch_address, IsAccepted, IsWritable, LeadsTo, struct_blocks, tree_on_disk, used_blocks, IsChangedImage, IsCompletion, no_move_from, recovered_from, number_count, count_append, once_from_distinct, HasNoMove, HoldsAtLosses-weaker, IsRun, file_goes, same_number, site, pair_back, pair_on, IsSite, Site, begin_of, dirs_at, thread_at, file_blocks, IsChain, ends_joined, LossLeavesCleanly, KeptThread, IsPairWritten, thread_pair_at, CanDropAt, IsPairDropped, ShowsAfterDrops, LeftByDrop, tail_over_drop, content_after_drop, CanEditIn, editable_slot, IsFileRemoved, drops_with_its_slot, tree_without_entry}
+use Rattle.lfs_operations.proofs.Common.{◌<◌, ℕ, ◌≡◌, ◌≢◌, inl, inr, ◌+◌, ◌-◌, ◌≤◌, ◌&&◌, not, Bool, true, false, nat_eq, eqb-true, slice_get, List, [], ◌∷◌, ◌++◌, length, Option, Some, None, refl, sym, ap, subst, ◌∙◌, arith, append_assoc, length-append, IsDistinct, eqb-false, tree_removing, Blocks, Disk, CallEvent, IsPairAt, HasEither as IsLeftOf, SurvivesLossSince, with_blocks, PairContent, Slot, Tail, zero_gstate, same_pair, Pair, pairs_blocks, first_address, pairs_gstate, is_hard_tail, count_before_root, Tree, branch_address, IsAccepted, IsWritable, LeadsTo, struct_blocks, disk_tree, used_blocks, IsChangedImage, CompletesOperation, no_move_from, recovered_from, number_occurrences, count_append, once_from_distinct, HasNoMove, HoldsAtLosses-weaker, IsRun, file_goes, same_number, site, pair_back, pair_on, IsSite, Site, begin_of, dirs_at, thread_at, file_blocks, IsChain, ends_joined, CleanLossLeaves, KeptThread, IsPairWritten, thread_pair, CanDropAt, IsPairDropped, ShowsDroppedTree, LeftByDrop, tail_over_drop, content_after_drop, CanEditIn, editable_slot, IsFileRemoved, drops_with_its_slot, tree_without_entry}
 use Rattle.lfs_model.specs.session.Operations as ops
 use Rattle.lfs_model.proofs.Dropped.{IsDrop, drop_completed, drop_step, drop_writable}
 use Rattle.lfs_operations.proofs.Dropped.{HasMapWithout, IsToBeDropped, can_drop_pair, device_left, left_dropped, map_dropped, pairs_left, slots_left, state_left, tail_left, used_left}
@@ -23,7 +23,7 @@ last_pair (x ∷ []) n = record { front = []; last = x; is = refl }
 last_pair (x ∷ y ∷ xs) n = let l = last_pair (y ∷ xs) (λ e. absurd (cc)) in record { front = x ∷ l.front; last = l.last; is = ap (λ z. x ∷ z) l.is }
 
 -- a pair that isn't the first of its directory has others in front of it there
-not_alone : (chain before left tail : List Pair) (p : Pair) (a : ℕ × ℕ) (first : ℕ) → IsDistinct nat_eq (blocks_of_pairs (chain ++ ((before ++ left) ++ p ∷ tail))) → same_pair (first_address (left ++ p ∷ [])) a ≡ true
+not_alone : (chain before left tail : List Pair) (p : Pair) (a : ℕ × ℕ) (first : ℕ) → IsDistinct nat_eq (pairs_blocks (chain ++ ((before ++ left) ++ p ∷ tail))) → same_pair (first_address (left ++ p ∷ [])) a ≡ true
     → IsPairAt (chain ++ ((before ++ left) ++ p ∷ tail)) a first → (length chain + length (before ++ left) ≡ first → ⊥) → left ≢ []
 not_alone chain before left tail p a first distinct h b n none =
     let there = ap (λ z. slice_get z (length (chain ++ (before ++ left)))) (sym (append_assoc chain (before ++ left) (p ∷ tail))) ∙ get_behind (chain ++ (before ++ left)) p tail in
@@ -121,13 +121,13 @@ module _ (t : KeptThread) (index id first : ℕ) (can : CanEditIn t index id) (b
 
   -- ---- what is known by it
 
-  alone_there : (index ≡ can.first → ⊥) × (length (thread_pair_at t index).content.slots ≡ 1)
-  alone_there = by (nat_eq index first) (nat_eq (length (thread_pair_at t index).content.slots) 1) refl refl goes
+  alone_there : (index ≡ can.first → ⊥) × (length (thread_pair t index).content.slots ≡ 1)
+  alone_there = by (nat_eq index first) (nat_eq (length (thread_pair t index).content.slots) 1) refl refl goes
     where
-      by : (x y : Bool) → nat_eq index first ≡ x → nat_eq (length (thread_pair_at t index).content.slots) 1 ≡ y → not x && y ≡ true → (index ≡ can.first → ⊥) × (length (thread_pair_at t index).content.slots ≡ 1)
+      by : (x y : Bool) → nat_eq index first ≡ x → nat_eq (length (thread_pair t index).content.slots) 1 ≡ y → not x && y ≡ true → (index ≡ can.first → ⊥) × (length (thread_pair t index).content.slots ≡ 1)
       by true y e f k = absurd (cc)
       by false false e f k = absurd (cc)
-      by false true e f k = ((λ same. eqb-false index first e (same ∙ begins)), eqb-true (length (thread_pair_at t index).content.slots) 1 f)
+      by false true e f k = ((λ same. eqb-false index first e (same ∙ begins)), eqb-true (length (thread_pair t index).content.slots) 1 f)
 
   held : o.content.slots ≡ u ∷ []
   held =
@@ -137,7 +137,7 @@ module _ (t : KeptThread) (index id first : ℕ) (can : CanEditIn t index id) (b
 
   behind : StandsBehind t.pairs v o index
   behind = stands_behind t.pairs v o index stand.there stand.site stand.number
-      (not_alone v.chain v.before v.left (v.right ++ v.after) o can.at can.first (subst (λ z. IsDistinct nat_eq (blocks_of_pairs z)) stand.there can.ready.accepted.thread.distinct) stand.begin
+      (not_alone v.chain v.before v.left (v.right ++ v.after) o can.at can.first (subst (λ z. IsDistinct nat_eq (pairs_blocks z)) stand.there can.ready.accepted.thread.distinct) stand.begin
       (subst (λ z. IsPairAt z can.at can.first) stand.there can.begins) (λ e. alone_there.0 (stand.number ∙ e)))
 
   abbrev x : Pair
@@ -203,10 +203,10 @@ module _ (t : KeptThread) (index id first : ℕ) (can : CanEditIn t index id) (b
         (λ e. (recovered_from t.disk (thread_at w (x ∷ o ∷ [])) (drop_on disk written).accepted (drop_on disk written).settled).reached))
 
     module _ (new : KeptThread) (h : IsPairDropped t (index - 1) zero_gstate new) where
-      owned_count : (b : ℕ) → number_count b (used_blocks new.disk new.pairs ++ struct_blocks t.disk u.struct) ≡ number_count b (used_blocks new.disk new.pairs) + number_count b (file_blocks t.disk o.content.slots)
+      owned_count : (b : ℕ) → number_occurrences b (used_blocks new.disk new.pairs ++ struct_blocks t.disk u.struct) ≡ number_occurrences b (used_blocks new.disk new.pairs) + number_occurrences b (file_blocks t.disk o.content.slots)
       owned_count b =
           let k = count_append b (used_blocks new.disk new.pairs) (struct_blocks t.disk u.struct) in
-          let m = ap (λ z. number_count b (file_blocks t.disk z)) held in
+          let m = ap (λ z. number_occurrences b (file_blocks t.disk z)) held in
           let n = count_append b (struct_blocks t.disk u.struct) [] in
           omega arith
 
@@ -216,7 +216,7 @@ module _ (t : KeptThread) (index id first : ℕ) (can : CanEditIn t index id) (b
       map_now : HasMapWithout t.map new.map (used_blocks new.disk new.pairs ++ struct_blocks t.disk u.struct)
       map_now = map_dropped dropping new h none (record { kind = refl; id = refl; pair = refl }) can.ready.used (used_blocks new.disk new.pairs ++ struct_blocks t.disk u.struct) owned_count
 
-      shrunk : ShowsAfterDrops t new (tree_without_entry t can.path can.name) (struct_blocks t.disk u.struct)
+      shrunk : ShowsDroppedTree t new (tree_without_entry t can.path can.name) (struct_blocks t.disk u.struct)
       shrunk =
           let f = follows new.disk h.written in
           let p = pairs_left dropping new h in
@@ -233,17 +233,17 @@ module _ (t : KeptThread) (index id first : ℕ) (can : CanEditIn t index id) (b
               size = map_now.size ∙ can.ready.size ∙ sym h.written.shape.count;
               large = subst (λ n. 1024 ≤ n) (sym h.written.shape.block_size) can.ready.large;
             };
-            shows = ap (tree_on_disk new.disk) p ∙ f.shows ∙ ap (λ z. turn (tree_on_disk t.disk z)) (sym there);
+            shows = ap (disk_tree new.disk) p ∙ f.shows ∙ ap (λ z. turn (disk_tree t.disk z)) (sym there);
             flying = map_now.flying;
-            root = ap pair_count_before_root p ∙ root_stays t.disk new.disk w.chain (dirs_at w (x ∷ o ∷ [])) (dirs_at w (q ∷ [])) behind.site.chain (drop_on new.disk h.written).accepted f.accepted f.root ∙ sym (ap pair_count_before_root there);
+            root = ap count_before_root p ∙ root_stays t.disk new.disk w.chain (dirs_at w (x ∷ o ∷ [])) (dirs_at w (q ∷ [])) behind.site.chain (drop_on new.disk h.written).accepted f.accepted f.root ∙ sym (ap count_before_root there);
           }
 
       pub gone_whole : IsFileRemoved t new can.path can.name (editable_slot can).struct
       gone_whole = record {
         now = shrunk;
-        completed = λ z given tree is_path. subst (λ y. IsCompletion t.disk y z (ops.Remove given) new.disk new.pairs) (sym there)
-            (subst (λ y. IsCompletion t.disk (thread_at w (x ∷ o ∷ [])) z (ops.Remove given) new.disk y) (sym (pairs_left dropping new h))
-            (drop_completed t.disk new.disk w x o q u (drop_on new.disk h.written) file can.path can.at leads_now (subst (λ z. same_pair z can.at ≡ true) behind.begin stand.begin) z given (tree ∙ ap (tree_on_disk t.disk) there)
+        completed = λ z given tree is_path. subst (λ y. CompletesOperation t.disk y z (ops.Remove given) new.disk new.pairs) (sym there)
+            (subst (λ y. CompletesOperation t.disk (thread_at w (x ∷ o ∷ [])) z (ops.Remove given) new.disk y) (sym (pairs_left dropping new h))
+            (drop_completed t.disk new.disk w x o q u (drop_on new.disk h.written) file can.path can.at leads_now (subst (λ z. same_pair z can.at ≡ true) behind.begin stand.begin) z given (tree ∙ ap (disk_tree t.disk) there)
             (is_path ∙ ap (λ n. can.path ++ n ∷ []) (sym can.stands.stands.named))));
         once = λ b.
             let e = owned_count b in
@@ -255,9 +255,9 @@ module _ (t : KeptThread) (index id first : ℕ) (can : CanEditIn t index id) (b
 
     -- ---- at a stop
 
-    left_tree : (left : Blocks) → LeftByDrop t (index - 1) zero_gstate left → IsLeftOf (with_blocks left t.disk) (tree_on_disk t.disk t.pairs) (turn (tree_on_disk t.disk t.pairs))
-    left_tree = left_dropped dropping (inl refl) (λ disk written. left_after (record { follows = follows disk written; writable = drop_writable t.disk disk w x o q u (drop_on disk written) }) (inr (ap (λ z. turn (tree_on_disk t.disk z)) (sym there))))
+    left_tree : (left : Blocks) → LeftByDrop t (index - 1) zero_gstate left → IsLeftOf (with_blocks left t.disk) (disk_tree t.disk t.pairs) (turn (disk_tree t.disk t.pairs))
+    left_tree = left_dropped dropping (inl refl) (λ disk written. left_after (record { follows = follows disk written; writable = drop_writable t.disk disk w x o q u (drop_on disk written) }) (inr (ap (λ z. turn (disk_tree t.disk z)) (sym there))))
 
-    pub whole_survives : (new : List CallEvent) → LossLeavesCleanly t.history new (LeftByDrop t (index - 1) zero_gstate)
-        → SurvivesLossSince t.disk t.history new (tree_on_disk t.disk t.pairs) (tree_without_entry t can.path can.name)
+    pub whole_survives : (new : List CallEvent) → CleanLossLeaves t.history new (LeftByDrop t (index - 1) zero_gstate)
+        → SurvivesLossSince t.disk t.history new (disk_tree t.disk t.pairs) (tree_without_entry t can.path can.name)
     whole_survives new stops clean = HoldsAtLosses-weaker left_tree (stops clean)

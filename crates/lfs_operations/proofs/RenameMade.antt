@@ -1,5 +1,5 @@
 -- A pair from which slots go, and into which one comes again under another name.
-use Rattle.lfs_operations.proofs.Common.{ℕ, ◌≡◌, ◌⊎◌, inl, inr, ◌<◌, ◌≤◌, zero, suc, true, List, [], ◌∷◌, ◌++◌, length, Option, Some, refl, sym, ap, ap₂, subst, ◌∙◌, arith, append_assoc, insert, remove, length-append, sum_by, sum_by-append, sum_by-cons, PairChange, changed_content_of, RawContent, RawSlot, complete_slots, complete_content, empty_raw_content, raw_content, slot_of_id, CanSplit, IsPairOfDirectory, HasName, IsSlotWellFormed, Name, is_valid_name, PairContent, FitsInPair, Slot, slot_size, Pair, tail_address_of, IsWritableEntry, complete_insert, complete_length, complete_remove, completed_from, completed_parts, deletes, does_first, content_cut, entry_small, insert_here, remove_here, logged_changed, changed_pair, KeptThread, complete_after, thread_pair_at, unwrap_or, option_and_then, AreWellFormed, CanTurn, IsRawFormed, IsReadyImage, NamelessSlot, nameless_at, nameless_of, slot_changes}
+use Rattle.lfs_operations.proofs.Common.{ℕ, ◌≡◌, ◌⊎◌, inl, inr, ◌<◌, ◌≤◌, zero, suc, true, List, [], ◌∷◌, ◌++◌, length, Option, Some, refl, sym, ap, ap₂, subst, ◌∙◌, arith, append_assoc, insert, remove, length-append, sum_by, sum_by-append, sum_by-cons, PairChange, changed_content_of, RawContent, RawSlot, complete_slots, complete_content, empty_raw_content, raw_content, slot_of_id, CanSplit, IsDirectoryPair, HasName, IsFormedSlot, Name, is_valid_name, PairContent, FitsInPair, Slot, slot_size, Pair, tail_target, IsWritableEntry, complete_insert, complete_length, complete_remove, completed_from, completed_parts, deletes, does_first, content_cut, entry_small, insert_here, remove_here, logged_changed, changed_pair, KeptThread, complete_after, thread_pair, unwrap_or, option_and_then, AreWellFormed, CanPut, IsRawFormed, IsReadyImage, NamelessSlot, nameless_at, nameless_of, slot_changes}
 use Rattle.lfs_model.specs.layers.Changes as model
 use Rattle.lfs_operations.proofs.Held.{CompletesTo, below, fits_there, here, raw_there}
 use Rattle.lfs_operations.proofs.RawSlots.{IsRaw, is_raw}
@@ -47,7 +47,7 @@ fits_without block_size page c xs u ys e f =
     let n = f.count in
     record { size = omega arith; count = omega arith }
 
-parts_in : (xs : List RawSlot) (i : ℕ) → AreWellFormed xs → i < length xs → IsSlotWellFormed (slot_of_id xs i)
+parts_in : (xs : List RawSlot) (i : ℕ) → AreWellFormed xs → i < length xs → IsFormedSlot (slot_of_id xs i)
 parts_in [] i h l = absurd (omega arith)
 parts_in (x ∷ xs) zero h l = h.0
 parts_in (x ∷ xs) (suc i) h l = parts_in xs i h.1 (omega arith)
@@ -85,9 +85,9 @@ leaves_then c changes more slots others k m = record {
 
 -- ---- in a pair
 
-module _ (t : KeptThread) (index id : ℕ) (ready : IsReadyImage t) (first : ℕ) (p : Pair) (rest : List Pair) (place : IsPairOfDirectory t.pairs first index p rest) (logged : IsRawFormed t.disk (thread_pair_at t index).at)
+module _ (t : KeptThread) (index id : ℕ) (ready : IsReadyImage t) (first : ℕ) (p : Pair) (rest : List Pair) (place : IsDirectoryPair t.pairs first index p rest) (logged : IsRawFormed t.disk (thread_pair t index).at)
     (was : Name) (s : HasName p.content.slots was id) where
-  abbrev pub c : CompletesTo (raw_content t.disk (thread_pair_at t index).at) p.content
+  abbrev pub c : CompletesTo (raw_content t.disk (thread_pair t index).at) p.content
   c = raw_there t ready first index p rest place
 
   pub within : id < length p.content.slots
@@ -110,7 +110,7 @@ module _ (t : KeptThread) (index id : ℕ) (ready : IsReadyImage t) (first : ℕ
 
   pub is_slot : IsOf raw.here s.slot
   is_slot = is_of raw.here s.slot
-      (subst IsSlotWellFormed there_raw (parts_in c.raw.slots id (logged c.raw c.is).slots (let l = complete_length c.raw.slots p.content.slots all_slots in let w = within in omega arith))) raw.is s.entry
+      (subst IsFormedSlot there_raw (parts_in c.raw.slots id (logged c.raw c.is).slots (let l = complete_length c.raw.slots p.content.slots all_slots in let w = within in omega arith))) raw.is s.entry
 
   -- the slots that are left are cut where it comes
   module _ (front : List PairChange) (a b : List Slot) (left : Leaves c.raw front (a ++ b)) (fits_left : FitsInPair t.disk.block_size t.disk.page (record p.content { slots = a ++ b }))
@@ -137,7 +137,7 @@ module _ (t : KeptThread) (index id : ℕ) (ready : IsReadyImage t) (first : ℕ
         ∙ slot_comes left.left at name (nameless_of raw.here) (let n = fits_left.count in let k = length-append a b in omega arith)
         (let k = length-append a b in let l = length_left in omega arith) (name_length name named) is_slot.are)
 
-    made_raw : changed_pair t.disk (thread_pair_at t index).at (front ++ slot_changes at name (nameless_at t index id)) ≡ Some raw_now
+    made_raw : changed_pair t.disk (thread_pair t index).at (front ++ slot_changes at name (nameless_at t index id)) ≡ Some raw_now
     made_raw = ap (λ o. option_and_then (λ (x : RawContent). changed_content_of x (front ++ slot_changes at name (nameless_at t index id))) o) c.is ∙ changed_now
 
     abbrev pub now : PairContent
@@ -163,13 +163,13 @@ module _ (t : KeptThread) (index id : ℕ) (ready : IsReadyImage t) (first : ℕ
         (let f = fits_left.size in let k = sum_by-append slot_size a b in omega arith)
         (let n = fits_left.count in let k = length-append a b in omega arith)
 
-    pub can_put : CanTurn t index (front ++ slot_changes at name (nameless_at t index id))
+    pub can_put : CanPut t index (front ++ slot_changes at name (nameless_at t index id))
     can_put = record {
       can = record {
         below = below t ready first index p rest place;
         content = now;
         made = made;
-        next = ap (λ (z : Pair). tail_address_of z.content.tail) (sym (here t ready first index p rest place));
+        next = ap (λ (z : Pair). tail_target z.content.tail) (sym (here t ready first index p rest place));
       };
       raw = raw_now;
       made = made_raw;

@@ -1,5 +1,5 @@
 -- An entry that takes the place of a directory while the sync bit turns, as a step of the thread.
-use Rattle.lfs_operations.proofs.Common.{subst₂, ℕ, ◌≡◌, ◌⊎◌, inl, inr, ◌+◌, ◌≤◌, true, List, [], ◌∷◌, ◌++◌, length, Some, refl, sym, ap, ap₂, subst, ◌∙◌, arith, append_assoc, length-append, sum_by, insert, sum_by-append, sum_by-cons, same_Some, tree_renaming, PairChange, Delete, PutMove, changed_content_of, RawContent, RawSlot, complete_slots, complete_content, raw_content, Disk, CallEvent, HasName, MoveStateFits, Name, is_valid_name, SurvivesLossSince, PairContent, FitsInPair, Gstate, Slot, gstate_xor, slot_size, Pair, pairs_gstate, tail_address_of, IsTreeEntry, tree_on_disk, IsChangedImage, complete_insert, complete_length, completed_from, completed_parts, does_first, puts_move, gstate_comm, sync_bit_delta, turned_is, HoldsAtLosses-weaker, IsStep, insert_here, some_filled, renamed_addresses, site, Site, thread_at, IsWritableChange, LossLeavesCleanly, KeptThread, CanChangePair, IsPairCommitted, LossLeavesPairChanged, RefusesChanges, IsPairWritten, complete_after, thread_pair_at, option_and_then, struct_len, CanEditIn, id_after_removal, tree_renamed, CanReplaceDirectory, IsDirectoryReplaced, replace_directory_changes, HasSlot, NamelessSlot, nameless_of, slot_changes}
+use Rattle.lfs_operations.proofs.Common.{subst₂, ℕ, ◌≡◌, ◌⊎◌, inl, inr, ◌+◌, ◌≤◌, true, List, [], ◌∷◌, ◌++◌, length, Some, refl, sym, ap, ap₂, subst, ◌∙◌, arith, append_assoc, length-append, sum_by, insert, sum_by-append, sum_by-cons, same_Some, tree_renaming, PairChange, Delete, PutMove, changed_content_of, RawContent, RawSlot, complete_slots, complete_content, raw_content, Disk, CallEvent, HasName, MoveStateFits, Name, is_valid_name, SurvivesLossSince, PairContent, FitsInPair, Gstate, Slot, gstate_xor, slot_size, Pair, pairs_gstate, tail_target, IsTreeEntry, disk_tree, IsChangedImage, complete_insert, complete_length, completed_from, completed_parts, does_first, puts_move, gstate_comm, sync_bit_delta, turned_is, HoldsAtLosses-weaker, IsStep, insert_here, some_filled, renamed_addresses, site, Site, thread_at, IsWritableChange, CleanLossLeaves, KeptThread, CanChangePair, IsPairCommitted, LossLeavesPair, RefusesChanges, IsPairWritten, complete_after, thread_pair, option_and_then, struct_len, CanEditIn, id_after_removal, tree_renamed, CanReplaceDirectory, IsDirectoryReplaced, replace_directory_changes, HasSlot, NamelessSlot, nameless_of, slot_changes}
 use Rattle.lfs_operations.proofs.Held.{CompletesTo, below, here, raw_there}
 use Rattle.lfs_operations.proofs.RenameMade as made
 use Rattle.lfs_operations.proofs.RenameMade.{ComesAhead, ComesBehind, Leaves, behind_or_ahead}
@@ -71,7 +71,7 @@ module _ (t : KeptThread) (index id place : ℕ) (name : Name) (rename : CanRepl
   fits_here : FitsInPair t.disk.block_size t.disk.page p.content
   fits_here = both.fits_here t index id place name can rename.target rename.differs
 
-  abbrev c : CompletesTo (raw_content t.disk (thread_pair_at t index).at) p.content
+  abbrev c : CompletesTo (raw_content t.disk (thread_pair t index).at) p.content
   c = raw_there t can.ready can.first index p can.stands.rest can.stands.place
 
   pub differs : target.name ≡ u.name → ⊥
@@ -84,7 +84,7 @@ module _ (t : KeptThread) (index id place : ℕ) (name : Name) (rename : CanRepl
   entry_again = both.entry_again t index id place name can rename.target rename.differs
 
   abbrev delta : Gstate
-  delta = gstate_xor (thread_pair_at t index).content.move sync_bit_delta
+  delta = gstate_xor (thread_pair t index).content.move sync_bit_delta
 
   -- ---- what the changes make
 
@@ -93,7 +93,7 @@ module _ (t : KeptThread) (index id place : ℕ) (name : Name) (rename : CanRepl
 
   does_turn : (rest : List PairChange) (e : RawContent) → changed_content_of (record c.raw { move = delta }) rest ≡ Some e → changed_content_of c.raw (PutMove delta ∷ rest) ≡ Some e
   does_turn rest e h = does_first (PutMove delta) rest c.raw turned_raw e
-      (puts_move c.raw delta (turned_small (thread_pair_at t index).content.move
+      (puts_move c.raw delta (turned_small (thread_pair t index).content.move
       (subst MoveStateFits (sym (completed_parts c.raw p.content c.complete).move ∙ ap (λ (z : Pair). z.content.move) (sym (here t can.ready can.first index p can.stands.rest can.stands.place))) (can.logged c.raw c.is).move))) h
 
   abbrev pub IsLeftOver : List Slot → List Slot → Type 0
@@ -301,7 +301,7 @@ module _ (t : KeptThread) (index id place : ℕ) (name : Name) (rename : CanRepl
     below = below t can.ready can.first index p can.stands.rest can.stands.place;
     content = over_content has_over.x has_over.y;
     made = over_made has_over.x has_over.y has_over.over;
-    next = ap (λ (z : Pair). tail_address_of z.content.tail) (sym (here t can.ready can.first index p can.stands.rest can.stands.place));
+    next = ap (λ (z : Pair). tail_target z.content.tail) (sym (here t can.ready can.first index p can.stands.rest can.stands.place));
   }
 
   pub same_made : (z : PairContent) → complete_after t index (replace_directory_changes t index id place name) ≡ Some z → z ≡ over_content has_over.x has_over.y
@@ -327,7 +327,7 @@ module _ (t : KeptThread) (index id place : ℕ) (name : Name) (rename : CanRepl
 
   -- ---- at a stop
 
-  pub over_survives : (new : List CallEvent) → LossLeavesCleanly t.history new (LossLeavesPairChanged t index (replace_directory_changes t index id place name))
-      → SurvivesLossSince t.disk t.history new (tree_on_disk t.disk t.pairs) (tree_renamed t rename.can.path rename.can.name name)
+  pub over_survives : (new : List CallEvent) → CleanLossLeaves t.history new (LossLeavesPair t index (replace_directory_changes t index id place name))
+      → SurvivesLossSince t.disk t.history new (disk_tree t.disk t.pairs) (tree_renamed t rename.can.path rename.can.name name)
   over_survives new stops clean = HoldsAtLosses-weaker
       (left_turned (turning has_over) (tree_renaming (can.path ++ can.name ∷ []) (can.path ++ name ∷ [])) (renamed_addresses (can.path ++ can.name ∷ []) (can.path ++ name ∷ [])) (over_follows has_over)) (stops clean)

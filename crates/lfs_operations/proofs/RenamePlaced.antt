@@ -1,5 +1,5 @@
 -- Slots that are replaced by the same ones, of which one has another name, or for fewer.
-use Rattle.lfs_operations.proofs.Common.{ℕ, ◌≡◌, ◌+◌, false, List, [], ◌∷◌, ◌++◌, length, Some, sym, ap, subst, ◌∙◌, arith, take, drop, take-append-drop, recursion_from_All, PairChange, Disk, SameGeometry, PairContent, Slot, is_superblock, Pair, pairs_gstate, starts_superblock, pair_count_before_root, IsWritableEntry, IsWritableSlot, BeginsWithSuperblock, IsAccepted, IsTreeEntry, IsWellFormedCtz, all_slots_not_moved, struct_blocks, SameFiles, slots_files, no_move_from, Each, number_count, count_append, each_append, each_left, each_pieces, each_right, each_weaker, SameFileBlocks, is_list_same, Site, IsSite, dirs_at, thread_at, count_files, file_blocks, unmoved_in, KeptThread, complete_after, All, IsReadyImage}
+use Rattle.lfs_operations.proofs.Common.{ℕ, ◌≡◌, ◌+◌, false, List, [], ◌∷◌, ◌++◌, length, Some, sym, ap, subst, ◌∙◌, arith, take, drop, take-append-drop, recursion_from_All, PairChange, Disk, SameGeometry, PairContent, Slot, is_superblock, Pair, pairs_gstate, starts_superblock, count_before_root, IsWritableEntry, IsWritableSlot, BeginsWithSuperblock, IsAccepted, IsTreeEntry, IsFormedList, all_unmoved_slots, struct_blocks, SameFiles, slots_files, no_move_from, Each, number_occurrences, count_append, each_append, each_left, each_pieces, each_right, each_weaker, SameFileBlocks, is_list_same, Site, IsSite, dirs_at, thread_at, count_files, file_blocks, unmoved_in, KeptThread, complete_after, All, IsReadyImage}
 use Rattle.lfs_model.specs.declared.limits.AcceptedVersions.{AcceptedVersions}
 use Rattle.lfs_model.proofs.Counts.{each_both}
 use Rattle.lfs_operations.proofs.Splicing.{IsSplicing}
@@ -9,7 +9,7 @@ use Rattle.lfs_operations.proofs.Splicing.{IsSplicing}
 -- What holds of the old slots holds of the new ones. They name the same files but for those of the slots that are gone.
 pub record MovesSlots (olds news gone : List Slot) (u moved : Slot) : Type 1 where
   pub each : (P : Slot → Type 0) → (P u → P moved) → Each P olds → Each P news
-  pub files : (disk : Disk) (b : ℕ) → number_count b (file_blocks disk news) + number_count b (file_blocks disk gone) ≡ number_count b (file_blocks disk olds)
+  pub files : (disk : Disk) (b : ℕ) → number_occurrences b (file_blocks disk news) + number_occurrences b (file_blocks disk gone) ≡ number_occurrences b (file_blocks disk olds)
 
 -- the same struct
 abbrev pub with_name : Slot → List ℕ → Slot
@@ -56,12 +56,12 @@ all_rests : (slots : List Slot) → All IsTreeEntry slots → HasRests slots
 all_rests slots h l xs e f = each_right IsTreeEntry l xs (subst (Each IsTreeEntry) e (recursion_from_All IsTreeEntry slots h))
 
 each_rests : (disk : Disk) (ps : List Pair) → IsAccepted disk ps → Each (λ p. HasRests p.content.slots) ps
-each_rests disk ps ok = subst (Each (λ p. HasRests p.content.slots)) (take-append-drop (pair_count_before_root ps + 1) ps)
-    (each_append (λ p. HasRests p.content.slots) (take (pair_count_before_root ps + 1) ps) (drop (pair_count_before_root ps + 1) ps)
+each_rests disk ps ok = subst (Each (λ p. HasRests p.content.slots)) (take-append-drop (count_before_root ps + 1) ps)
+    (each_append (λ p. HasRests p.content.slots) (take (count_before_root ps + 1) ps) (drop (count_before_root ps + 1) ps)
     (each_weaker (λ (p : Pair). BeginsWithSuperblock disk.profile.versions ok.superblock.0 p.content.slots) (λ (p : Pair). HasRests p.content.slots) (λ p h. headed_rests disk.profile.versions ok.superblock.0 p.content.slots h)
-    (take (pair_count_before_root ps + 1) ps) (recursion_from_All (λ (p : Pair). BeginsWithSuperblock disk.profile.versions ok.superblock.0 p.content.slots) (take (pair_count_before_root ps + 1) ps) ok.superblock.1.1))
-    (each_weaker (λ (p : Pair). All IsTreeEntry p.content.slots) (λ (p : Pair). HasRests p.content.slots) (λ p h. all_rests p.content.slots h) (drop (pair_count_before_root ps + 1) ps)
-    (recursion_from_All (λ (p : Pair). All IsTreeEntry p.content.slots) (drop (pair_count_before_root ps + 1) ps) ok.slots)))
+    (take (count_before_root ps + 1) ps) (recursion_from_All (λ (p : Pair). BeginsWithSuperblock disk.profile.versions ok.superblock.0 p.content.slots) (take (count_before_root ps + 1) ps) ok.superblock.1.1))
+    (each_weaker (λ (p : Pair). All IsTreeEntry p.content.slots) (λ (p : Pair). HasRests p.content.slots) (λ p h. all_rests p.content.slots h) (drop (count_before_root ps + 1) ps)
+    (recursion_from_All (λ (p : Pair). All IsTreeEntry p.content.slots) (drop (count_before_root ps + 1) ps) ok.slots)))
 
 -- ---- the commit
 
@@ -92,7 +92,7 @@ module _ (t : KeptThread) (index : ℕ) (changes : List PairChange) (w : Site) (
   of_slots P h = each_left P olds r (each_right P l (olds ++ r) (subst (Each P) k.was h))
 
   -- what holds of all slots holds of those that are replaced
-  pub of_olds : (P : Slot → Type 0) → Each P (all_slots_not_moved t.pairs) → Each P olds
+  pub of_olds : (P : Slot → Type 0) → Each P (all_unmoved_slots t.pairs) → Each P olds
   of_olds P h =
       let on = subst (Each P) (unmoved_in (pairs_gstate t.pairs) (no_move_from t.pairs k.ready.settled) t.pairs) h in
       of_slots P (at_site (λ (x : Pair). Each P x.content.slots) (each_pieces P (λ (x : Pair). x.content.slots) t.pairs on))
@@ -110,17 +110,17 @@ module _ (t : KeptThread) (index : ℕ) (changes : List PairChange) (w : Site) (
   pub fit_now : Each (IsWritableSlot t.disk.profile t.disk.block_size t.disk.page) news
   fit_now = k.carries.each (IsWritableSlot t.disk.profile t.disk.block_size t.disk.page) (λ f. ((λ e. absurd (let z = sym k.other ∙ e in cc)), (λ e. k.fits))) fit_were
 
-  pub lists_now : (disk : Disk) → SameGeometry t.disk disk → SameFiles t.disk disk (all_slots_not_moved t.pairs) → Each (λ s. IsWellFormedCtz disk s.struct) news
-  lists_now disk geometry files = k.carries.each (λ (s : Slot). IsWellFormedCtz disk s.struct) (λ h. subst (IsWellFormedCtz disk) (sym k.struct) h)
-      (each_both (λ (s : Slot). SameFileBlocks t.disk disk s.struct) (λ (s : Slot). IsWellFormedCtz t.disk s.struct) (λ (s : Slot). IsWellFormedCtz disk s.struct) (λ s f h. is_list_same t.disk disk s.struct geometry f h) olds
+  pub lists_now : (disk : Disk) → SameGeometry t.disk disk → SameFiles t.disk disk (all_unmoved_slots t.pairs) → Each (λ s. IsFormedList disk s.struct) news
+  lists_now disk geometry files = k.carries.each (λ (s : Slot). IsFormedList disk s.struct) (λ h. subst (IsFormedList disk) (sym k.struct) h)
+      (each_both (λ (s : Slot). SameFileBlocks t.disk disk s.struct) (λ (s : Slot). IsFormedList t.disk s.struct) (λ (s : Slot). IsFormedList disk s.struct) (λ s f h. is_list_same t.disk disk s.struct geometry f h) olds
       (of_olds (λ (s : Slot). SameFileBlocks t.disk disk s.struct) files)
-      (of_olds (λ (s : Slot). IsWellFormedCtz t.disk s.struct) (recursion_from_All (λ (s : Slot). IsWellFormedCtz t.disk s.struct) (all_slots_not_moved t.pairs) k.ready.accepted.lists)))
+      (of_olds (λ (s : Slot). IsFormedList t.disk s.struct) (recursion_from_All (λ (s : Slot). IsFormedList t.disk s.struct) (all_unmoved_slots t.pairs) k.ready.accepted.lists)))
 
-  pub blocks_now : (disk : Disk) → SameGeometry t.disk disk → SameFiles t.disk disk (all_slots_not_moved t.pairs) → (b : ℕ) → number_count b (file_blocks disk news) + number_count b (file_blocks t.disk gone) ≡ number_count b (file_blocks t.disk olds)
+  pub blocks_now : (disk : Disk) → SameGeometry t.disk disk → SameFiles t.disk disk (all_unmoved_slots t.pairs) → (b : ℕ) → number_occurrences b (file_blocks disk news) + number_occurrences b (file_blocks t.disk gone) ≡ number_occurrences b (file_blocks t.disk olds)
   blocks_now disk geometry files b =
       let same = of_olds (λ (s : Slot). SameFileBlocks t.disk disk s.struct) files in
       let kept = k.carries.each (λ (s : Slot). SameFileBlocks t.disk disk s.struct) (λ h. subst (SameFileBlocks t.disk disk) (sym k.struct) h) same in
-      let e = ap (number_count b) (slots_files t.disk disk news geometry kept) in
+      let e = ap (number_occurrences b) (slots_files t.disk disk news geometry kept) in
       let f = k.carries.files t.disk b in
       omega arith
 

@@ -1,5 +1,5 @@
 -- A pair that is changed after it was read.
-use Rattle.lfs_operations.proofs.Common.{ℕ, ◌≡◌, ◌⊎◌, inl, inr, false, Some, List, Result, Err, refl, sym, ap, subst, ◌∙◌, arith, Blocks, PairChange, CallEvent, OnlyReadsSince, fault_count, IsPairOfDirectory, with_blocks, Pair, LossLeavesAtWorst-read, AllCallsSince-behind, HoldsAtLosses-read_count, HoldsAtLosses-trans, HoldsAtLosses-weaker, OnlyReadsSince-trans, StayUnprogrammed-read_count, StayUnprogrammed-trans, LeftByLoss-read, LossLeavesCleanly, KeptThread, ThreadView, CanChangePair, IoMeantFaultNoMemoryWroteNothing, IsPairCommitted, LossLeavesPairChanged, OnlyReadsThread, RefusesChanges, ChangesThreadBlocks, thread_pair_at, IfErr, Error, Io, NoMemory, IsReadyImage, ReportsErrorsOfReadThenCommit, ReportsErrorsOfCommitTakingNoBlock}
+use Rattle.lfs_operations.proofs.Common.{ℕ, ◌≡◌, ◌⊎◌, inl, inr, false, Some, List, Result, Err, refl, sym, ap, subst, ◌∙◌, arith, Blocks, PairChange, CallEvent, OnlyReadsSince, fault_count, IsDirectoryPair, with_blocks, Pair, LossLeavesAtWorst-read, AllCallsSince-behind, HoldsAtLosses-read_count, HoldsAtLosses-trans, HoldsAtLosses-weaker, OnlyReadsSince-trans, StayUnprogrammed-read_count, StayUnprogrammed-trans, LeftByLoss-read, CleanLossLeaves, KeptThread, ThreadView, CanChangePair, ThreadReportsErrors, IsPairCommitted, LossLeavesPair, OnlyReadsThread, RefusesChanges, ChangesThreadBlocks, thread_pair, IfErr, Error, Io, NoMemory, IsReadyImage, ReportsReadCommit, ReportsCommit}
 use Rattle.lfs_operations.proofs.Held.{here, holds}
 use Rattle.lfs_operations.proofs.Putting.{read_is, with_history, same_err}
 use Rattle.lfs_operations.proofs.RenameRead.{changed_earlier, written_earlier}
@@ -40,11 +40,11 @@ only_read_writes t mid bs only = subst (λ (k : KeptThread). ChangesThreadBlocks
   at_worst = HoldsAtLosses-read_count LossLeavesAtWorst-read only.reads (record { count = refl; sizes = λ b. refl; others = λ b apart. refl });
 })
 
-pub change_stops_after_read : (t mid new : KeptThread) (index : ℕ) (changes : List PairChange) (bs : List ℕ) → OnlyReadsThread t mid → IsReadyImage t → (first : ℕ) (p : Pair) (rest : List Pair) → IsPairOfDirectory t.pairs first index p rest
-    → ChangesThreadBlocks bs mid new → LossLeavesCleanly mid.history new.history (LossLeavesPairChanged mid index changes) → LossLeavesCleanly t.history new.history (LossLeavesPairChanged t index changes)
+pub change_stops_after_read : (t mid new : KeptThread) (index : ℕ) (changes : List PairChange) (bs : List ℕ) → OnlyReadsThread t mid → IsReadyImage t → (first : ℕ) (p : Pair) (rest : List Pair) → IsDirectoryPair t.pairs first index p rest
+    → ChangesThreadBlocks bs mid new → CleanLossLeaves mid.history new.history (LossLeavesPair mid index changes) → CleanLossLeaves t.history new.history (LossLeavesPair t index changes)
 change_stops_after_read t mid new index changes bs only ready first p rest place writes stops clean =
     HoldsAtLosses-trans (HoldsAtLosses-read_count LeftByLoss-read only.reads (record {
-      content = (thread_pair_at t index).content;
+      content = (thread_pair t index).content;
       is = inl refl;
       written = record {
         holds = holds t ready first index p rest place ∙ ap (λ (z : Pair). Some z.content) (sym (here t ready first index p rest place));
@@ -52,15 +52,15 @@ change_stops_after_read t mid new index changes bs only ready first p rest place
         shape = record { block_size = refl; page = refl; order = refl; profile = refl; count = refl };
         first = λ b k. b;
       };
-    })) (HoldsAtLosses-weaker (λ left l. earlier left (subst (λ (k : KeptThread). LossLeavesPairChanged k index changes left) (read_is t mid only) l)) (stops (AllCallsSince-behind clean only.reads writes.at_worst)))
+    })) (HoldsAtLosses-weaker (λ left l. earlier left (subst (λ (k : KeptThread). LossLeavesPair k index changes left) (read_is t mid only) l)) (stops (AllCallsSince-behind clean only.reads writes.at_worst)))
   where
-    earlier : (left : Blocks) → LossLeavesPairChanged (with_history t mid.history) index changes left → LossLeavesPairChanged t index changes left
+    earlier : (left : Blocks) → LossLeavesPair (with_history t mid.history) index changes left → LossLeavesPair t index changes left
     earlier left is = record { content = is.content; is = is.is; written = written_earlier t mid.history index is.content (with_blocks left t.disk) is.written }
 
 -- ---- what it tells
 
 -- an error passed on
-pub reported_again : {X Y : Type 0} (t new : KeptThread) (e : Error) (result : Result X Error) (given : Result Y Error) → result ≡ Err e → given ≡ Err e → IoMeantFaultNoMemoryWroteNothing t new result → IoMeantFaultNoMemoryWroteNothing t new given
+pub reported_again : {X Y : Type 0} (t new : KeptThread) (e : Error) (result : Result X Error) (given : Result Y Error) → result ≡ Err e → given ≡ Err e → ThreadReportsErrors t new result → ThreadReportsErrors t new given
 reported_again t new e result given is same reported = record {
   errors = subst (λ r. IfErr r (λ x. (x ≡ Io) ⊎ (x ≡ NoMemory))) (sym same) (subst (λ r. IfErr r (λ x. (x ≡ Io) ⊎ (x ≡ NoMemory))) is reported.errors);
   fault = λ io. reported.fault (is ∙ ap Err (same_err e Io given same io));
@@ -69,10 +69,10 @@ reported_again t new e result given is same reported = record {
 }
 
 pub over_unread : {X Y : Type 0} (old new : ThreadView) (e : Error) (result : Result X Error) (given : Result Y Error) → result ≡ Err e → given ≡ Err e → new.failed ≡ false → OnlyReadsThread old.kept new.kept
-    → IoMeantFaultNoMemoryWroteNothing old.kept new.kept result → ReportsErrorsOfReadThenCommit old new given
+    → ThreadReportsErrors old.kept new.kept result → ReportsReadCommit old new given
 over_unread old new e result given is same works only reported = record { failed = inr (works, only); reported = reported_again old.kept new.kept e result given is same reported }
 
-later : {X : Type 0} (t : KeptThread) (h : List CallEvent) (new : KeptThread) (result : Result X Error) → OnlyReadsSince t.disk.blocks t.history h → fault_count h ≡ fault_count t.history → IoMeantFaultNoMemoryWroteNothing (with_history t h) new result → IoMeantFaultNoMemoryWroteNothing t new result
+later : {X : Type 0} (t : KeptThread) (h : List CallEvent) (new : KeptThread) (result : Result X Error) → OnlyReadsSince t.disk.blocks t.history h → fault_count h ≡ fault_count t.history → ThreadReportsErrors (with_history t h) new result → ThreadReportsErrors t new result
 later t h new result reads same reported = record {
   errors = reported.errors;
   fault = λ io. (let k = reported.fault io in omega (arith, k, same));
@@ -80,8 +80,8 @@ later t h new result reads same reported = record {
   unwritten = λ none. (let u = reported.unwritten none in record { disk = u.disk; reads = OnlyReadsSince-trans reads u.reads refl });
 }
 
-reported_later : {X : Type 0} (t mid new : KeptThread) (result : Result X Error) → OnlyReadsThread t mid → fault_count mid.history ≡ fault_count t.history → IoMeantFaultNoMemoryWroteNothing mid new result → IoMeantFaultNoMemoryWroteNothing t new result
-reported_later t mid new result only same reported = later t mid.history new result only.reads same (subst (λ (k : KeptThread). IoMeantFaultNoMemoryWroteNothing k new result) (read_is t mid only) reported)
+reported_later : {X : Type 0} (t mid new : KeptThread) (result : Result X Error) → OnlyReadsThread t mid → fault_count mid.history ≡ fault_count t.history → ThreadReportsErrors mid new result → ThreadReportsErrors t new result
+reported_later t mid new result only same reported = later t mid.history new result only.reads same (subst (λ (k : KeptThread). ThreadReportsErrors k new result) (read_is t mid only) reported)
 
-pub over_later : {X : Type 0} (old mid new : ThreadView) (result : Result X Error) → OnlyReadsThread old.kept mid.kept → fault_count mid.kept.history ≡ fault_count old.kept.history → ReportsErrorsOfCommitTakingNoBlock mid new result → ReportsErrorsOfReadThenCommit old new result
+pub over_later : {X : Type 0} (old mid new : ThreadView) (result : Result X Error) → OnlyReadsThread old.kept mid.kept → fault_count mid.kept.history ≡ fault_count old.kept.history → ReportsCommit mid new result → ReportsReadCommit old new result
 over_later old mid new result only faultless h = record { failed = inl h.failed; reported = reported_later old.kept mid.kept new.kept result only faultless h.reported }

@@ -1,5 +1,5 @@
 -- A rename within one pair onto a file.
-use Rattle.lfs_operations.proofs.Common.{ℕ, ◌≡◌, ◌≤◌, ◌+◌, ◌⊎◌, inl, inr, true, List, [], ◌∷◌, ◌++◌, refl, sym, ap, subst, ◌∙◌, append_assoc, append-nil, tree_renaming, Delete, raw_content, Disk, CallEvent, HasName, Name, is_valid_name, SurvivesLossSince, FitsInPair, Slot, Pair, blocks_of_pairs, IsTreeEntry, struct_blocks, tree_on_disk, used_blocks, IsChangedImage, IsCommit, commit_step, recovered_from, number_count, some_filled, renamed_addresses, site, Site, thread_at, LossLeavesCleanly, KeptThread, thread_pair_at, CanTurn, LeftByTurn, IsTurned, CanEditIn, ShowsUpdatedTree, CanRenameOnto, IsRenamedOnto, id_after_removal, onto_changes, tree_renamed, HasSlot}
+use Rattle.lfs_operations.proofs.Common.{ℕ, ◌≡◌, ◌≤◌, ◌+◌, ◌⊎◌, inl, inr, true, List, [], ◌∷◌, ◌++◌, refl, sym, ap, subst, ◌∙◌, append_assoc, append-nil, tree_renaming, Delete, raw_content, Disk, CallEvent, HasName, Name, is_valid_name, SurvivesLossSince, FitsInPair, Slot, Pair, pairs_blocks, IsTreeEntry, struct_blocks, disk_tree, used_blocks, IsChangedImage, IsCommit, commit_step, recovered_from, number_occurrences, some_filled, renamed_addresses, site, Site, thread_at, CleanLossLeaves, KeptThread, thread_pair, CanPut, LeftByPut, ArePut, CanEditIn, ShowsUnsettledTree, CanRenameOnto, IsRenamedOnto, id_after_removal, onto_changes, tree_renamed, HasSlot}
 use Rattle.lfs_model.proofs.RenameOntoFile.{onto_file_ahead_completed, onto_file_behind_completed}
 use Rattle.lfs_operations.proofs.Held.{CompletesTo, raw_there}
 use Rattle.lfs_operations.proofs.RenameMade as made
@@ -45,7 +45,7 @@ module _ (t : KeptThread) (index id place : ℕ) (name : Name) (rename : CanRena
   stand : HasPairAt t index can.path can.at w p
   stand = pair_at t can.ready can.path can.at can.leads can.first index p can.stands.rest can.stands.place can.begins
 
-  abbrev c : CompletesTo (raw_content t.disk (thread_pair_at t index).at) p.content
+  abbrev c : CompletesTo (raw_content t.disk (thread_pair t index).at) p.content
   c = raw_there t can.ready can.first index p can.stands.rest can.stands.place
 
   differs : target.name ≡ u.name → ⊥
@@ -70,7 +70,7 @@ module _ (t : KeptThread) (index id place : ℕ) (name : Name) (rename : CanRena
     left_over = both.left_both t index id place name can rename.target rename.differs x y over c.raw
         (made.all_slots t index id can.ready can.first p can.stands.rest can.stands.place can.logged can.name s)
 
-    can_put_over : CanTurn t index (onto_changes t index id place name)
+    can_put_over : CanPut t index (onto_changes t index id place name)
     can_put_over = made.can_put t index id can.ready can.first p can.stands.rest can.stands.place can.logged can.name s (Delete id ∷ Delete (id_after_removal id place) ∷ []) x y left_over fits_over (id_after_removal id place) over.1
         name named rename.fits
 
@@ -120,7 +120,7 @@ module _ (t : KeptThread) (index id place : ℕ) (name : Name) (rename : CanRena
       follows = λ disk q more k.
           subst (λ (n : Name). IsChangedImage t.disk (thread_at w (p ∷ [])) disk (thread_at w (q ∷ more)) (tree_renaming (can.path ++ n ∷ []) (can.path ++ name ∷ [])) (renamed_addresses (can.path ++ n ∷ []) (can.path ++ name ∷ []))) s.named
           (subst (λ (n : Name). IsChangedImage t.disk (thread_at w (p ∷ [])) disk (thread_at w (q ∷ more)) (tree_renaming (can.path ++ u.name ∷ []) (can.path ++ n ∷ [])) (renamed_addresses (can.path ++ u.name ∷ []) (can.path ++ n ∷ []))) rename.target.stands.named
-          (onto_behind_follows t.disk disk w p q more (blocks_of_pairs more) s.left u d.passed target r2
+          (onto_behind_follows t.disk disk w p q more (pairs_blocks more) s.left u d.passed target r2
           (commit_step t.disk disk w p q more [] s.left (u ∷ (d.passed ++ target ∷ [])) (d.passed ++ with_name u target.name ∷ []) r2 (under_its_name disk q more k)) k.was s.entry rename.target.stands.entry
           (λ e. (rename.file, (recovered_from t.disk (thread_at w (p ∷ [])) k.accepted k.settled).reached)) differs can.path can.at stand.leads stand.begin));
       completed = λ disk q more k z given to_given tree given_is to_is.
@@ -171,7 +171,7 @@ module _ (t : KeptThread) (index id place : ℕ) (name : Name) (rename : CanRena
       follows = λ disk q more k.
           subst (λ (n : Name). IsChangedImage t.disk (thread_at w (p ∷ [])) disk (thread_at w (q ∷ more)) (tree_renaming (can.path ++ n ∷ []) (can.path ++ name ∷ [])) (renamed_addresses (can.path ++ n ∷ []) (can.path ++ name ∷ []))) s.named
           (subst (λ (n : Name). IsChangedImage t.disk (thread_at w (p ∷ [])) disk (thread_at w (q ∷ more)) (tree_renaming (can.path ++ u.name ∷ []) (can.path ++ n ∷ [])) (renamed_addresses (can.path ++ u.name ∷ []) (can.path ++ n ∷ []))) rename.target.stands.named
-          (onto_ahead_follows t.disk disk w p q more (blocks_of_pairs more) l2 u passed target s.right
+          (onto_ahead_follows t.disk disk w p q more (pairs_blocks more) l2 u passed target s.right
           (commit_step t.disk disk w p q more [] l2 (target ∷ (passed ++ u ∷ [])) (with_name u target.name ∷ passed) s.right (under_that_name disk q more k)) k.was s.entry rename.target.stands.entry
           (λ e. (rename.file, (recovered_from t.disk (thread_at w (p ∷ [])) k.accepted k.settled).reached)) differs can.path can.at stand.leads stand.begin));
       completed = λ disk q more k z given to_given tree given_is to_is.
@@ -187,10 +187,10 @@ module _ (t : KeptThread) (index id place : ℕ) (name : Name) (rename : CanRena
   ahead_of : (d : ComesAhead s.left u s.right l2 (target ∷ r2)) → Follower target r2 u s.right d.passed
   ahead_of d = follower target r2 u s.right d.passed (λ e. differs (ap (λ (z : Slot). z.name) e)) d.back
 
-  pub can_put_replaced : CanTurn t index (onto_changes t index id place name)
+  pub can_put_replaced : CanPut t index (onto_changes t index id place name)
   can_put_replaced = go two
     where
-      go : ComesBehind s.left u s.right l2 (target ∷ r2) ⊎ ComesAhead s.left u s.right l2 (target ∷ r2) → CanTurn t index (onto_changes t index id place name)
+      go : ComesBehind s.left u s.right l2 (target ∷ r2) ⊎ ComesAhead s.left u s.right l2 (target ∷ r2) → CanPut t index (onto_changes t index id place name)
       go (inl d) = can_put_over (s.left ++ d.passed) r2 (over_behind d)
       go (inr d) = let f = ahead_of d in can_put_over l2 (f.between ++ s.right) (over_ahead f.between (d.front ∙ ap (λ z. l2 ++ z) f.are) f.back)
 
@@ -201,15 +201,15 @@ module _ (t : KeptThread) (index id place : ℕ) (name : Name) (rename : CanRena
       go (inl d) = moving_behind d
       go (inr d) = let f = ahead_of d in moving_ahead f.between (d.front ∙ ap (λ z. l2 ++ z) f.are) f.back
 
-  pub renamed_onto : (new : KeptThread) → IsTurned t index (onto_changes t index id place name) new → IsRenamedOnto t new rename.can.path rename.can.name name rename.target.stands.slot.struct
+  pub renamed_onto : (new : KeptThread) → ArePut t index (onto_changes t index id place name) new → IsRenamedOnto t new rename.can.path rename.can.name name rename.target.stands.slot.struct
   renamed_onto new is = record {
-    now = subst (λ z. ShowsUpdatedTree t new (tree_renamed t can.path can.name name) z []) (append-nil (struct_blocks t.disk target.struct))
+    now = subst (λ z. ShowsUnsettledTree t new (tree_renamed t can.path can.name name) z []) (append-nil (struct_blocks t.disk target.struct))
         (moved_becomes t index (onto_changes t index id place name) can.path can.name name (target ∷ []) moving new is);
-    once = subst (λ (z : List ℕ). (b : ℕ) → number_count b (used_blocks new.disk new.pairs) + number_count b z ≤ 1) (append-nil (struct_blocks t.disk target.struct))
+    once = subst (λ (z : List ℕ). (b : ℕ) → number_occurrences b (used_blocks new.disk new.pairs) + number_occurrences b z ≤ 1) (append-nil (struct_blocks t.disk target.struct))
         (moved_once t index (onto_changes t index id place name) can.path can.name name (target ∷ []) moving new is);
     completed = moved_completed t index (onto_changes t index id place name) can.path can.name name (target ∷ []) moving new is;
   }
 
-  pub onto_survives : (new : List CallEvent) → LossLeavesCleanly t.history new (LeftByTurn t index (onto_changes t index id place name))
-      → SurvivesLossSince t.disk t.history new (tree_on_disk t.disk t.pairs) (tree_renamed t rename.can.path rename.can.name name)
+  pub onto_survives : (new : List CallEvent) → CleanLossLeaves t.history new (LeftByPut t index (onto_changes t index id place name))
+      → SurvivesLossSince t.disk t.history new (disk_tree t.disk t.pairs) (tree_renamed t rename.can.path rename.can.name name)
   onto_survives new stops = moved_survives t index (onto_changes t index id place name) can.path can.name name (target ∷ []) moving new stops

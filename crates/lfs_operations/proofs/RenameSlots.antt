@@ -1,6 +1,6 @@
 -- What the changes make that put a slot at an id.
 use Rattle.std.specs.List.{insert}
-use Rattle.lfs_operations.proofs.Common.{ℕ, ◌≡◌, ◌⊎◌, inl, inr, ◌+◌, ◌<◌, ◌≤◌, ◌==◌, Bool, true, false, cond, take, drop, List, [], ◌∷◌, ◌++◌, length, Option, Some, None, refl, sym, ap, ap₂, subst, ◌∙◌, arith, append_assoc, append-nil, eqb-true, le-ltb, ne_eqb, same_Some, PutAttribute, changed_content_of, RawSlot, RawContent, complete_slot, changed_at, empty_slot, kind_of_type, attributes_with, slot_of_id, read_struct, file_name_type, directory_name_type, IsSlotWellFormed, IsAllowed, Name, is_valid_name, Attributes, Slot, File, Directory, Superblock, is_superblock, Each, each_append, each_weaker, creates_with_struct, does_first, puts_attribute, tag_type-make_tag, tag_length-make_tag, nat_lt, nat_le, ◌&&◌, is_some, length-take-le, AttributesInOrder, AllowsIfSome, names_superblock, changed_inserted, with_attribute_put, NamelessSlot, attribute_changes, nameless_of, slot_changes}
+use Rattle.lfs_operations.proofs.Common.{ℕ, ◌≡◌, ◌⊎◌, inl, inr, ◌+◌, ◌<◌, ◌≤◌, ◌==◌, Bool, true, false, cond, take, drop, List, [], ◌∷◌, ◌++◌, length, Option, Some, None, refl, sym, ap, ap₂, subst, ◌∙◌, arith, append_assoc, append-nil, eqb-true, le-ltb, ne_eqb, same_Some, PutAttribute, changed_content_of, RawSlot, RawContent, complete_slot, changed_at, empty_slot, kind_of_type, attributes_with, slot_of_id, read_struct, file_name_type, directory_name_type, IsFormedSlot, IsAllowedPart, Name, is_valid_name, Attributes, Slot, File, Directory, Superblock, is_superblock, Each, each_append, each_weaker, creates_with_struct, does_first, puts_attribute, tag_type-make_tag, tag_length-make_tag, nat_lt, nat_le, ◌&&◌, is_some, length-take-le, AttributesInOrder, AllowsIfSome, names_superblock, changed_inserted, with_attribute_put, NamelessSlot, attribute_changes, nameless_of, slot_changes}
 use Rattle.std.proofs.lemmas.Bool.{leb-true}
 use Rattle.std.proofs.Math.Seq.{get_or-append_seam}
 use Rattle.lfs_model.specs.format.Names.{is_component}
@@ -48,7 +48,7 @@ puts_attributes c id s low front (a ∷ rest) small fits named below up =
 -- the parts can be written again
 pub record AreParts (parts : NamelessSlot) : Type 0 where
   pub kind : (parts.kind ≡ file_name_type) ⊎ (parts.kind ≡ directory_name_type)
-  pub struct : IsAllowed 2 parts.struct
+  pub struct : IsAllowedPart 2 parts.struct
   pub attributes : AttributesInOrder 0 parts.attributes
 
 abbrev pub slot_of_parts : Name → NamelessSlot → RawSlot
@@ -61,8 +61,8 @@ name_length name h = leb-true (length name) 255 (and_second (is_component name) 
     and_second true b e = e
     and_second false b e = absurd (cc)
 
-name_part : (kind : ℕ) (name : Name) → (kind ≡ file_name_type) ⊎ (kind ≡ directory_name_type) → length name ≤ 255 → IsAllowed 0 (kind, name)
-name_part kind name (inl e) short = subst (λ (k : ℕ). IsAllowed 0 (k, name)) (sym e) (record {
+name_part : (kind : ℕ) (name : Name) → (kind ≡ file_name_type) ⊎ (kind ≡ directory_name_type) → length name ≤ 255 → IsAllowedPart 0 (kind, name)
+name_part kind name (inl e) short = subst (λ (k : ℕ). IsAllowedPart 0 (k, name)) (sym e) (record {
   of_class = refl;
   short = omega arith;
   in_table =
@@ -70,7 +70,7 @@ name_part kind name (inl e) short = subst (λ (k : ℕ). IsAllowed 0 (k, name)) 
       let len = tag_length-make_tag file_name_type 0 (length name) (omega arith) in
       rw len (rw kind (rw (ne_eqb (length name) 0x3ff (λ e. omega arith)) refl));
 })
-name_part kind name (inr e) short = subst (λ (k : ℕ). IsAllowed 0 (k, name)) (sym e) (record {
+name_part kind name (inr e) short = subst (λ (k : ℕ). IsAllowedPart 0 (k, name)) (sym e) (record {
   of_class = refl;
   short = omega arith;
   in_table =
@@ -101,7 +101,7 @@ kind_of_entry type h = go (type == file_name_type) (type == directory_name_type)
     go false true e f k = inr (eqb-true type directory_name_type f)
     go false false e f k = absurd (cc)
 
-pub is_of : (s : RawSlot) (u : Slot) → IsSlotWellFormed s → complete_slot s ≡ Some u → is_superblock u ≡ false → IsOf s u
+pub is_of : (s : RawSlot) (u : Slot) → IsFormedSlot s → complete_slot s ≡ Some u → is_superblock u ≡ false → IsOf s u
 is_of s u parts is other = go s.name s.struct s.attributes parts.struct parts.attributes is
   where
     go : (n p : Option (ℕ × List ℕ)) (attributes : Attributes) → AllowsIfSome 2 p → AttributesInOrder 0 attributes → (let x : RawSlot = record { name = n; struct = p; attributes = attributes } in complete_slot x ≡ Some u)

@@ -1,5 +1,5 @@
 -- A rename within one pair to a name that is new.
-use Rattle.lfs_operations.proofs.Common.{ℕ, ◌≡◌, ◌⊎◌, inl, inr, ◌-◌, ◌<◌, ◌≤◌, cond, List, [], ◌∷◌, ◌++◌, length, Some, refl, sym, ap, subst, ◌∙◌, arith, append_assoc, append-nil, length-append, le-ltb, lt-ltb, tree_renaming, Delete, raw_content, CallEvent, BelongsAt, HasName, Name, SurvivesLossSince, FitsInPair, Slot, Pair, starts_superblock, IsTreeEntry, all_entries, tree_on_disk, IsChangedImage, no_move_from, place_at, IsPlace, some_filled, renamed_addresses, place_of_belongs, site, Site, thread_at, LossLeavesCleanly, KeptThread, thread_pair_at, CanTurn, LeftByTurn, IsTurned, CanEditIn, CanRenameWithin, IsRenamedWithin, id_after_removal, within_changes, tree_renamed, HasSlot}
+use Rattle.lfs_operations.proofs.Common.{ℕ, ◌≡◌, ◌⊎◌, inl, inr, ◌-◌, ◌<◌, ◌≤◌, cond, List, [], ◌∷◌, ◌++◌, length, Some, refl, sym, ap, subst, ◌∙◌, arith, append_assoc, append-nil, length-append, le-ltb, lt-ltb, tree_renaming, Delete, raw_content, CallEvent, BelongsAt, HasName, Name, SurvivesLossSince, FitsInPair, Slot, Pair, starts_superblock, IsTreeEntry, all_entries, disk_tree, IsChangedImage, no_move_from, place_at, IsPlace, some_filled, renamed_addresses, place_of_belongs, site, Site, thread_at, CleanLossLeaves, KeptThread, thread_pair, CanPut, LeftByPut, ArePut, CanEditIn, CanRenameWithin, IsRenamedWithin, id_after_removal, within_changes, tree_renamed, HasSlot}
 use Rattle.lfs_model.proofs.RenameSteps.{ahead_follows, behind_follows, renamed_ahead_completed, renamed_behind_completed}
 use Rattle.lfs_operations.proofs.Held.{CompletesTo, below, fits_there, here, raw_there}
 use Rattle.lfs_operations.proofs.RenameMade as made
@@ -64,7 +64,7 @@ module _ (t : KeptThread) (index id place : ℕ) (name : Name) (rename : CanRena
   fits_here : FitsInPair t.disk.block_size t.disk.page p.content
   fits_here = fits_there t can.ready can.first index p (b.later ++ b.rest) b.place
 
-  abbrev c : CompletesTo (raw_content t.disk (thread_pair_at t index).at) p.content
+  abbrev c : CompletesTo (raw_content t.disk (thread_pair t index).at) p.content
   c = raw_there t can.ready can.first index p (b.later ++ b.rest) b.place
 
   -- ---- the slots that are left are cut in two
@@ -81,7 +81,7 @@ module _ (t : KeptThread) (index id place : ℕ) (name : Name) (rename : CanRena
     fits_over : FitsInPair t.disk.block_size t.disk.page (record p.content { slots = x ++ y })
     fits_over = subst (λ z. FitsInPair t.disk.block_size t.disk.page (record p.content { slots = z })) over.0 (fits_without t.disk.block_size t.disk.page p.content s.left u s.right s.held fits_here)
 
-    can_put_over : CanTurn t index (within_changes t index id place name)
+    can_put_over : CanPut t index (within_changes t index id place name)
     can_put_over = made.can_put t index id can.ready can.first p (b.later ++ b.rest) b.place can.logged can.name s (Delete id ∷ []) x y left_over fits_over (id_after_removal id place) over.1 name rename.is_name rename.fits
 
   entry_again : IsTreeEntry u → IsTreeEntry (with_name u name)
@@ -202,10 +202,10 @@ module _ (t : KeptThread) (index id place : ℕ) (name : Name) (rename : CanRena
   two : ComesBehind s.left u s.right b.left b.right ⊎ ComesAhead s.left u s.right b.left b.right
   two = behind_or_ahead s.left u s.right b.left b.right (sym s.held ∙ b.held)
 
-  pub can_put_renamed : CanTurn t index (within_changes t index id place name)
+  pub can_put_renamed : CanPut t index (within_changes t index id place name)
   can_put_renamed = go two
     where
-      go : ComesBehind s.left u s.right b.left b.right ⊎ ComesAhead s.left u s.right b.left b.right → CanTurn t index (within_changes t index id place name)
+      go : ComesBehind s.left u s.right b.left b.right ⊎ ComesAhead s.left u s.right b.left b.right → CanPut t index (within_changes t index id place name)
       go (inl d) = can_put_over (s.left ++ d.passed) b.right (over_behind d)
       go (inr d) = can_put_over b.left (d.passed ++ s.right) (over_ahead d)
 
@@ -216,12 +216,12 @@ module _ (t : KeptThread) (index id place : ℕ) (name : Name) (rename : CanRena
       go (inl d) = moving_behind d
       go (inr d) = moving_ahead d
 
-  pub renamed_within : (new : KeptThread) → IsTurned t index (within_changes t index id place name) new → IsRenamedWithin t new rename.can.path rename.can.name name
+  pub renamed_within : (new : KeptThread) → ArePut t index (within_changes t index id place name) new → IsRenamedWithin t new rename.can.path rename.can.name name
   renamed_within new is = record {
     now = ready_again t new (tree_renamed t can.path can.name name) (moved_becomes t index (within_changes t index id place name) can.path can.name name [] moving new is);
     completed = moved_completed t index (within_changes t index id place name) can.path can.name name [] moving new is;
   }
 
-  pub rename_survives : (new : List CallEvent) → LossLeavesCleanly t.history new (LeftByTurn t index (within_changes t index id place name))
-      → SurvivesLossSince t.disk t.history new (tree_on_disk t.disk t.pairs) (tree_renamed t rename.can.path rename.can.name name)
+  pub rename_survives : (new : List CallEvent) → CleanLossLeaves t.history new (LeftByPut t index (within_changes t index id place name))
+      → SurvivesLossSince t.disk t.history new (disk_tree t.disk t.pairs) (tree_renamed t rename.can.path rename.can.name name)
   rename_survives new stops = moved_survives t index (within_changes t index id place name) can.path can.name name [] moving new stops

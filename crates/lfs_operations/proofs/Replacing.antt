@@ -1,5 +1,5 @@
 -- An entry that becomes another of the same name, as a step of the thread.
-use Rattle.lfs_operations.proofs.Common.{nat_eq, ℕ, ◌≡◌, ◌+◌, ◌<◌, ◌≤◌, true, false, List, [], ◌∷◌, ◌++◌, length, Some, refl, sym, ap, ap₂, subst, ◌∙◌, arith, length-append, set, sum_by, same_Some, sum_by-append, sum_by-cons, PairChange, changed_content_of, RawContent, RawSlot, raw_content, complete_slot, complete_content, changed_at, slot_of_id, CanSplit, Disk, SameGeometry, disk_block, IsPlaceOf, Slot, PairContent, FitsInPair, is_superblock, same_pair, slot_size, Pair, pairs_gstate, tail_address_of, IsTreeEntry, IsWellFormedCtz, IsWritableEntry, LeadsTo, all_slots_not_moved, struct_blocks, used_blocks, no_move_from, completed_parts, completed_from, Each, each_pieces, each_right, number_count, count_append, Does, does_first, does_nothing, SameFileBlocks, entry_small, site, thread_is, is_site, same, number_is, IsDistinct, IsInFlight, Site, dirs_at, thread_at, begin_of, unmoved_in, logged_changed, changed_pair, KeptThread, RefusesChanges, thread_pair_at, complete_after, is_some, option_and_then, IsNamed, set_here, CanTurn, CanEditIn, editable_slot}
+use Rattle.lfs_operations.proofs.Common.{nat_eq, ℕ, ◌≡◌, ◌+◌, ◌<◌, ◌≤◌, true, false, List, [], ◌∷◌, ◌++◌, length, Some, refl, sym, ap, ap₂, subst, ◌∙◌, arith, length-append, set, sum_by, same_Some, sum_by-append, sum_by-cons, PairChange, changed_content_of, RawContent, RawSlot, raw_content, complete_slot, complete_content, changed_at, slot_of_id, CanSplit, Disk, SameGeometry, disk_block, IsPlaceOf, Slot, PairContent, FitsInPair, is_superblock, same_pair, slot_size, Pair, pairs_gstate, tail_target, IsTreeEntry, IsFormedList, IsWritableEntry, LeadsTo, all_unmoved_slots, struct_blocks, used_blocks, no_move_from, completed_parts, completed_from, Each, each_pieces, each_right, number_occurrences, count_append, Does, does_first, does_nothing, SameFileBlocks, entry_small, site, thread_is, is_site, same, number_is, IsDistinct, IsInFlight, Site, dirs_at, thread_at, begin_of, unmoved_in, logged_changed, changed_pair, KeptThread, RefusesChanges, thread_pair, complete_after, is_some, option_and_then, IsNamed, set_here, CanPut, CanEditIn, editable_slot}
 use Rattle.lfs_model.proofs.Completed.{complete_set}
 use Rattle.lfs_model.proofs.Halves.{set_cut}
 use Rattle.lfs_model.proofs.Superblocks.{entry_is_other}
@@ -40,7 +40,7 @@ module _ (t : KeptThread) (index id : ℕ) (can : CanEditIn t index id) (g : Raw
   within : id < length p.content.slots
   within = let h = ap length s.stands.held in let k = length-append l (u ∷ r) in let n = s.stands.number in omega arith
 
-  abbrev c : CompletesTo (raw_content t.disk (thread_pair_at t index).at) p.content
+  abbrev c : CompletesTo (raw_content t.disk (thread_pair t index).at) p.content
   c = raw_there t can.ready can.first index p s.rest s.place
 
   raw : IsRaw c.raw.slots l u
@@ -58,7 +58,7 @@ module _ (t : KeptThread) (index id : ℕ) (can : CanEditIn t index id) (g : Raw
       let m = within in
       does_first change [] c.raw raw_now raw_now (does c.raw (omega arith) (ap (λ (z : RawSlot). is_some z.name) there_raw ∙ is_named raw.here u raw.is)) (does_nothing raw_now)
 
-  made_raw : changed_pair t.disk (thread_pair_at t index).at (change ∷ []) ≡ Some raw_now
+  made_raw : changed_pair t.disk (thread_pair t index).at (change ∷ []) ≡ Some raw_now
   made_raw = ap (λ o. option_and_then (λ (x : RawContent). changed_content_of x (change ∷ [])) o) c.is ∙ changed_now
 
   abbrev now : PairContent
@@ -96,19 +96,19 @@ module _ (t : KeptThread) (index id : ℕ) (can : CanEditIn t index id) (g : Raw
       let j = ap length slots_now in
       let k = length-append l (v ∷ r) in
       let size = f.size in
-      let number_count = f.count in
+      let number_occurrences = f.count in
       record { size = omega arith; count = omega arith }
 
   pub not_refused : slot_size v ≤ slot_size u → (new : KeptThread) → RefusesChanges t index (change ∷ []) new → ⊥
   not_refused less new is = is.too_large (subst (FitsInPair t.disk.block_size t.disk.page) (sym (same_Some is.content now (sym is.made ∙ made))) (fits_as_before less))
 
-  pub can_put : CanTurn t index (change ∷ [])
+  pub can_put : CanPut t index (change ∷ [])
   can_put = record {
     can = record {
       below = below t can.ready can.first index p s.rest s.place;
       content = now;
       made = made;
-      next = ap (λ (z : Pair). tail_address_of z.content.tail) (sym (here t can.ready can.first index p s.rest s.place));
+      next = ap (λ (z : Pair). tail_target z.content.tail) (sym (here t can.ready can.first index p s.rest s.place));
     };
     raw = raw_now;
     made = made_raw;
@@ -121,9 +121,9 @@ module _ (t : KeptThread) (index id : ℕ) (can : CanEditIn t index id) (g : Raw
   there = thread_is t.disk t.pairs can.path can.at can.ready.accepted can.leads can.first index p s.rest s.place can.begins
 
   -- what holds of all slots holds of it
-  pub of_slot : (P : Slot → Type 0) → Each P (all_slots_not_moved t.pairs) → P u
+  pub of_slot : (P : Slot → Type 0) → Each P (all_unmoved_slots t.pairs) → P u
   of_slot P h =
-      let on = subst (Each P) (unmoved_in (pairs_gstate (thread_at w (p ∷ []))) (no_move_from (thread_at w (p ∷ [])) (ap pairs_gstate (sym there) ∙ can.ready.settled)) (thread_at w (p ∷ []))) (subst (λ z. Each P (all_slots_not_moved z)) there h) in
+      let on = subst (Each P) (unmoved_in (pairs_gstate (thread_at w (p ∷ []))) (no_move_from (thread_at w (p ∷ [])) (ap pairs_gstate (sym there) ∙ can.ready.settled)) (thread_at w (p ∷ []))) (subst (λ z. Each P (all_unmoved_slots z)) there h) in
       let pieces = each_pieces P (λ (x : Pair). x.content.slots) (thread_at w (p ∷ [])) on in
       let here = (each_right (λ (x : Pair). Each P x.content.slots) (w.before ++ w.left) (p ∷ [] ++ (w.right ++ w.after)) (each_right (λ (x : Pair). Each P x.content.slots) w.chain (dirs_at w (p ∷ [])) pieces)).0 in
       (each_right P l (u ∷ r) (subst (Each P) s.stands.held here)).0
@@ -141,9 +141,9 @@ module _ (t : KeptThread) (index id : ℕ) (can : CanEditIn t index id) (g : Raw
     pub entry : IsTreeEntry v
     pub flying : Each (IsInFlight t.map) come
     pub apart : IsDistinct nat_eq (come ++ used_blocks t.disk t.pairs)
-    pub lists : (disk : Disk) → SameGeometry t.disk disk → SameFileBlocks t.disk disk u.struct → Each (λ b. disk_block disk b ≡ disk_block t.disk b) come → IsWellFormedCtz disk v.struct
+    pub lists : (disk : Disk) → SameGeometry t.disk disk → SameFileBlocks t.disk disk u.struct → Each (λ b. disk_block disk b ≡ disk_block t.disk b) come → IsFormedList disk v.struct
     pub blocks : (disk : Disk) → SameGeometry t.disk disk → SameFileBlocks t.disk disk u.struct → Each (λ b. disk_block disk b ≡ disk_block t.disk b) come
-        → (b : ℕ) → number_count b (struct_blocks disk v.struct) + number_count b gone ≡ number_count b come + number_count b (struct_blocks t.disk u.struct)
+        → (b : ℕ) → number_occurrences b (struct_blocks disk v.struct) + number_occurrences b gone ≡ number_occurrences b come + number_occurrences b (struct_blocks t.disk u.struct)
 
   pub splicing : (gone come : List ℕ) → Names gone come → IsSplicing t index (change ∷ []) w p l (u ∷ []) (v ∷ []) r gone come
   splicing gone come n = record {

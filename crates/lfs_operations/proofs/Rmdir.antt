@@ -1,5 +1,5 @@
 -- The entry of an empty directory goes, and then its pair: what each of the two steps comes to, in an accepted image.
-use Rattle.lfs_operations.proofs.Common.{ℕ, ◌≡◌, ◌≢◌, ◌&&◌, true, false, List, [], ◌∷◌, ◌++◌, length, Option, Some, None, refl, sym, ap, subst, ◌∙◌, arith, recursion_from_All, tree_with_subtree, tree_removing, Disk, Session, slot_of, Branch, Slot, Tail, is_superblock, zero_gstate, same_pair, path_or_root, Pair, pairs_gstate, is_hard_tail, pair_count_before_root, Path, IsAccepted, IsWritable, LeadsTo, all_slots_not_moved, all_entries, tree_on_disk, used_blocks, alike_itself, SameSlots, alike_append, IsChangedImage, SameFiles, slots_files, IsCompletion, number_count, each_left, each_right, softened, SameFileBlocks, HasNoMove, onward_all, IsStep, IsRmdir, rmdir_completed, IsGone, rmdir_named, rmdir_taken, Site, begin_of, dirs_at, thread_at, IsDevice, count_files, file_blocks, all_slots, unmoved_in, IsWritableChange, some_filled, is_some, tail_over_drop}
+use Rattle.lfs_operations.proofs.Common.{ℕ, ◌≡◌, ◌≢◌, ◌&&◌, true, false, List, [], ◌∷◌, ◌++◌, length, Option, Some, None, refl, sym, ap, subst, ◌∙◌, arith, recursion_from_All, tree_with_subtree, tree_removing, Disk, Session, slot_of, Branch, Slot, Tail, is_superblock, zero_gstate, same_pair, path_or_root, Pair, pairs_gstate, is_hard_tail, count_before_root, Path, IsAccepted, IsWritable, LeadsTo, all_unmoved_slots, all_entries, disk_tree, used_blocks, alike_itself, SameSlots, alike_append, IsChangedImage, SameFiles, slots_files, CompletesOperation, number_occurrences, each_left, each_right, softened, SameFileBlocks, HasNoMove, onward_all, IsStep, IsRmdir, rmdir_completed, IsGone, rmdir_named, rmdir_taken, Site, begin_of, dirs_at, thread_at, IsDevice, count_files, file_blocks, all_slots, unmoved_in, IsWritableChange, some_filled, is_some, tail_over_drop}
 use Rattle.lfs_model.specs.session.Operations as ops
 use Rattle.lfs_operations.proofs.Owning.{count_used, slots_append}
 use Rattle.lfs_operations.proofs.Placing.{blocks_append}
@@ -34,8 +34,8 @@ pub record HasPlace (disk middle : Disk) (w : Site) (p q : Pair) (u : Slot) (P :
   pub soft : is_hard_tail x.content.tail ≡ false
   pub taken : (new : Disk) (y : Pair) → IsGone middle new w.chain front x o y back
       → IsWritableChange disk (thread_at w (p ∷ [])) new (w.chain ++ (front ++ y ∷ back)) (tree_removing (P ++ u.name ∷ [])) (tree_with_subtree (P ++ u.name ∷ []) (λ t. None))
-  pub completed : (new : Disk) (y : Pair) → IsGone middle new w.chain front x o y back → (s : Session) (path : List ℕ) → s.tree ≡ tree_on_disk disk (thread_at w (p ∷ [])) → path_or_root path ≡ P ++ u.name ∷ []
-      → IsCompletion disk (thread_at w (p ∷ [])) s (ops.Remove path) new (w.chain ++ (front ++ y ∷ back))
+  pub completed : (new : Disk) (y : Pair) → IsGone middle new w.chain front x o y back → (s : Session) (path : List ℕ) → s.tree ≡ disk_tree disk (thread_at w (p ∷ [])) → path_or_root path ≡ P ++ u.name ∷ []
+      → CompletesOperation disk (thread_at w (p ∷ [])) s (ops.Remove path) new (w.chain ++ (front ++ y ∷ back))
 
 module _ (disk middle : Disk) (w : Site) (p q : Pair) (l r : List Slot) (u : Slot) (P : Path) (a d : ℕ × ℕ) (c : Unlinks disk middle w p q l r u P a d) (o : Pair) (address : same_pair o.at d ≡ true) (alone : is_hard_tail o.content.tail ≡ false) where
   abbrev path_there : Path
@@ -58,15 +58,15 @@ module _ (disk middle : Disk) (w : Site) (p q : Pair) (l r : List Slot) (u : Slo
         number = k.number;
         soft = k.soft;
         taken = takes_place k.front k.x k.back k.there;
-        completed = λ new y gone s path tree is. subst (λ z. IsCompletion disk z s (ops.Remove path) new (w.chain ++ (k.front ++ y ∷ k.back))) (sym k.were)
-            (rmdir_completed disk new (w.chain ++ (k.front ++ y ∷ k.back)) k.b w.chain k.one k.mid k.other p o (q ∷ []) l u r d path_there (made new y gone) s path (tree ∙ ap (tree_on_disk disk) k.were) is);
+        completed = λ new y gone s path tree is. subst (λ z. CompletesOperation disk z s (ops.Remove path) new (w.chain ++ (k.front ++ y ∷ k.back))) (sym k.were)
+            (rmdir_completed disk new (w.chain ++ (k.front ++ y ∷ k.back)) k.b w.chain k.one k.mid k.other p o (q ∷ []) l u r d path_there (made new y gone) s path (tree ∙ ap (disk_tree disk) k.were) is);
       }
         where
           made : (new : Disk) (y : Pair) → IsGone middle new w.chain k.front k.x o y k.back → IsRmdir disk new (w.chain ++ (k.front ++ y ∷ k.back)) k.b w.chain k.one k.mid k.other p o (q ∷ []) l u r d (P ++ u.name ∷ [])
           made new y gone =
               let taken = takes_place k.front k.x k.back k.there new y gone in
               record {
-                is_chain = ap pair_count_before_root (sym k.were) ∙ c.step.site.chain;
+                is_chain = ap count_before_root (sym k.were) ∙ c.step.site.chain;
                 accepted = subst (IsAccepted disk) k.were c.step.accepted;
                 writable = subst (IsWritable disk) k.were c.old_writable;
                 settled = ap pairs_gstate (sym k.were) ∙ c.settled;
@@ -100,16 +100,16 @@ module _ (disk new : Disk) (ahead : List Pair) (p q : Pair) (back : List Pair) (
     (on : IsDevice disk new (ahead ++ p ∷ back) (ahead ++ q ∷ back)) (at : q.at ≡ p.at) (held : p.content.slots ≡ l ++ u ∷ r) (kept : q.content.slots ≡ l ++ r) (branch : u.struct ≡ Branch d) where
   same_files : SameFiles disk new (all_slots ahead ++ (p.content.slots ++ all_slots back))
   same_files = subst (SameFiles disk new) (unmoved_in (pairs_gstate (ahead ++ p ∷ back)) none (ahead ++ p ∷ back) ∙ slots_append ahead (p ∷ back))
-      (recursion_from_All (λ (s : Slot). SameFileBlocks disk new s.struct) (all_slots_not_moved (ahead ++ p ∷ back)) on.files)
+      (recursion_from_All (λ (s : Slot). SameFileBlocks disk new s.struct) (all_unmoved_slots (ahead ++ p ∷ back)) on.files)
 
-  stays_same : (ss : List Slot) → SameFiles disk new ss → (b : ℕ) → number_count b (file_blocks new ss) ≡ number_count b (file_blocks disk ss)
-  stays_same ss h b = ap (number_count b) (slots_files disk new ss on.geometry h)
+  stays_same : (ss : List Slot) → SameFiles disk new ss → (b : ℕ) → number_occurrences b (file_blocks new ss) ≡ number_occurrences b (file_blocks disk ss)
+  stays_same ss h b = ap (number_occurrences b) (slots_files disk new ss on.geometry h)
 
-  no_blocks : (b : ℕ) → number_count b (file_blocks disk (u ∷ [])) ≡ 0
-  no_blocks b = ap (λ z. number_count b (file_blocks disk (record u { struct = z } ∷ []))) branch
+  no_blocks : (b : ℕ) → number_occurrences b (file_blocks disk (u ∷ [])) ≡ 0
+  no_blocks b = ap (λ z. number_occurrences b (file_blocks disk (record u { struct = z } ∷ []))) branch
 
   -- a directory's entry has no list, so the image uses the same
-  pub unlinked_count : (b : ℕ) → number_count b (used_blocks new (ahead ++ q ∷ back)) ≡ number_count b (used_blocks disk (ahead ++ p ∷ back))
+  pub unlinked_count : (b : ℕ) → number_occurrences b (used_blocks new (ahead ++ q ∷ back)) ≡ number_occurrences b (used_blocks disk (ahead ++ p ∷ back))
   unlinked_count b =
       let f = all_slots ahead in
       let g = all_slots back in
@@ -124,8 +124,8 @@ module _ (disk new : Disk) (ahead : List Pair) (p q : Pair) (back : List Pair) (
       let e4 = stays_same g h4 b in
       let a1 = count_used b new (ahead ++ q ∷ back) still in
       let a2 = count_used b disk (ahead ++ p ∷ back) none in
-      let b1 = ap (λ z. number_count b (file_blocks new z)) (slots_append ahead (q ∷ back) ∙ ap (λ z. f ++ (z ++ g)) kept) in
-      let b2 = ap (λ z. number_count b (file_blocks disk z)) (slots_append ahead (p ∷ back) ∙ ap (λ z. f ++ (z ++ g)) held) in
+      let b1 = ap (λ z. number_occurrences b (file_blocks new z)) (slots_append ahead (q ∷ back) ∙ ap (λ z. f ++ (z ++ g)) kept) in
+      let b2 = ap (λ z. number_occurrences b (file_blocks disk z)) (slots_append ahead (p ∷ back) ∙ ap (λ z. f ++ (z ++ g)) held) in
       let c1 = count_files b new f ((l ++ r) ++ g) in
       let c2 = count_files b new (l ++ r) g in
       let c3 = count_files b new l r in
@@ -138,5 +138,5 @@ module _ (disk new : Disk) (ahead : List Pair) (p q : Pair) (back : List Pair) (
       let d2 = blocks_append ahead (p ∷ back) b in
       let d3 = blocks_append (q ∷ []) back b in
       let d4 = blocks_append (p ∷ []) back b in
-      let d5 = ap (λ (x : ℕ × ℕ). number_count b (x.0 ∷ x.1 ∷ [])) at in
+      let d5 = ap (λ (x : ℕ × ℕ). number_occurrences b (x.0 ∷ x.1 ∷ [])) at in
       omega arith

@@ -1,5 +1,5 @@
 -- Where the pair of an empty directory stands in the thread, from the entry that names it.
-use Rattle.lfs_operations.proofs.Common.{ℕ, zero, suc, ◌≡◌, ◌+◌, ◌<◌, true, false, cond, slice_get, get_or, List, [], ◌∷◌, ◌++◌, length, Option, Some, None, refl, sym, ap, subst, ◌∙◌, arith, append_assoc, append-nil, length-append, Bool, nat_eq, same_Some, Disk, directory_address, continued_address, IsPairAt, IsPlaceOf, Name, Branch, Slot, same_pair, Pair, pairs_from_root, first_address, pairs_gstate, is_hard_tail, root_address, blocks_of_pairs, Path, branch_address, IsAccepted, LeadsTo, all_entries, no_move_from, HasDirectory, led_directory, HasNoMove, site_shows, onward_all, onward_some, Ends, IsRun, pair_back, pair_on, same_number, avoids_behind, avoids_front, slot_of_stands, Site, dirs_at, thread_at, IsChain, pairs_behind, ends_joined, KeptThread, empty_anchor, thread_pair_at, IsDistinct, Each, each_append, each_left, each_right, onward_append, before_gone, from_kept, two, option_and_then, is_some, IsReadyImage}
+use Rattle.lfs_operations.proofs.Common.{ℕ, zero, suc, ◌≡◌, ◌+◌, ◌<◌, true, false, cond, slice_get, get_or, List, [], ◌∷◌, ◌++◌, length, Option, Some, None, refl, sym, ap, subst, ◌∙◌, arith, append_assoc, append-nil, length-append, Bool, nat_eq, same_Some, Disk, directory_address, continued_address, IsPairAt, IsPlaceOf, Name, Branch, Slot, same_pair, Pair, pairs_from_root, first_address, pairs_gstate, is_hard_tail, root_address, pairs_blocks, Path, branch_address, IsAccepted, LeadsTo, all_entries, no_move_from, HasDirectory, led_directory, HasNoMove, site_shows, onward_all, onward_some, Ends, IsRun, pair_back, pair_on, same_number, avoids_behind, avoids_front, slot_of_stands, Site, dirs_at, thread_at, IsChain, pairs_behind, ends_joined, KeptThread, empty_anchor, thread_pair, IsDistinct, Each, each_append, each_left, each_right, onward_append, before_gone, from_kept, two, option_and_then, is_some, IsReadyImage}
 use Rattle.lfs_operations.proofs.RemovedWhole.{last_pair}
 use Rattle.lfs_operations.proofs.Threads.{get_behind}
 
@@ -146,12 +146,12 @@ led_to t ready P a leads first index id name stands begins to branch =
 pub record HasOwnPair (t : KeptThread) (chain dirs : List Pair) (gone : ℕ) (to : ℕ × ℕ) : Type 0 where
   pub front : HasFront dirs to
   pub number : gone ≡ length (chain ++ front.front) + 1
-  pub first : front.first ≡ thread_pair_at t gone
-  pub dirs_are : dirs ≡ front.front ++ front.before ∷ thread_pair_at t gone ∷ (front.run ++ front.after)
+  pub first : front.first ≡ thread_pair t gone
+  pub dirs_are : dirs ≡ front.front ++ front.before ∷ thread_pair t gone ∷ (front.run ++ front.after)
   pub empty : all_entries (chain ++ dirs) to ≡ []
 
 pub own_pair : (t : KeptThread) (ready : IsReadyImage t) (chain dirs : List Pair) → t.pairs ≡ chain ++ dirs → IsChain chain dirs → (P : Path) (n : Name) (to : ℕ × ℕ) (gone : ℕ) → LeadsTo t.pairs (P ++ n ∷ []) to → gone < length t.pairs
-    → same_pair (thread_pair_at t gone).at to ≡ true → (thread_pair_at t gone).content.slots ≡ [] → is_hard_tail (thread_pair_at t gone).content.tail ≡ false → HasOwnPair t chain dirs gone to
+    → same_pair (thread_pair t gone).at to ≡ true → (thread_pair t gone).content.slots ≡ [] → is_hard_tail (thread_pair t gone).content.tail ≡ false → HasOwnPair t chain dirs gone to
 own_pair t ready chain dirs there is_chain P n to gone led below at empty alone = record {
   front = front;
   number = first_is.0;
@@ -167,8 +167,8 @@ own_pair t ready chain dirs there is_chain P n to gone led below at empty alone 
     front : HasFront dirs to
     front = has_front t.disk chain dirs P n to accepted is_chain (subst (λ z. LeadsTo z (P ++ n ∷ []) to) there led)
 
-    first_is : (gone ≡ length (chain ++ front.front) + 1) × (front.first ≡ thread_pair_at t gone)
-    first_is = number_of_first t.disk chain dirs to accepted front gone (thread_pair_at t gone) (subst (λ z. slice_get z gone ≡ Some (thread_pair_at t gone)) there (get_some t.pairs gone empty_anchor below)) at
+    first_is : (gone ≡ length (chain ++ front.front) + 1) × (front.first ≡ thread_pair t gone)
+    first_is = number_of_first t.disk chain dirs to accepted front gone (thread_pair t gone) (subst (λ z. slice_get z gone ≡ Some (thread_pair t gone)) there (get_some t.pairs gone empty_anchor below)) at
 
 -- ---- the pair that goes, once the one of its entry is changed
 
@@ -190,7 +190,7 @@ pub record HasPlaceOver (w : Site) (p q o : Pair) (d : ℕ × ℕ) (n : ℕ) : T
   pub are : two b one (q ∷ []) mid [] other ≡ front ++ x ∷ back
   pub led : is_some (from_kept b one mid o) ≡ true → is_some (onward_all None (w.before ++ w.left)) ≡ true
 
-module _ (w : Site) (p q o : Pair) (d : ℕ × ℕ) (address : same_pair o.at d ≡ true) (distinct : IsDistinct nat_eq (blocks_of_pairs (thread_at w (p ∷ [])))) (tail : is_hard_tail q.content.tail ≡ is_hard_tail p.content.tail) where
+module _ (w : Site) (p q o : Pair) (d : ℕ × ℕ) (address : same_pair o.at d ≡ true) (distinct : IsDistinct nat_eq (pairs_blocks (thread_at w (p ∷ [])))) (tail : is_hard_tail q.content.tail ≡ is_hard_tail p.content.tail) where
   abbrev in_front : List Pair
   in_front = w.before ++ w.left
 
@@ -200,7 +200,7 @@ module _ (w : Site) (p q o : Pair) (d : ℕ × ℕ) (address : same_pair o.at d 
   -- the pairs but o aren't at its address
   others_apart : (front back : List Pair) → thread_at w (p ∷ []) ≡ w.chain ++ (front ++ o ∷ back) → Each (λ z. same_pair z.at d ≡ false) front × Each (λ z. same_pair z.at d ≡ false) back
   others_apart front back is =
-      let e = subst (λ z. IsDistinct nat_eq (blocks_of_pairs z)) (is ∙ sym (append_assoc w.chain front (o ∷ back))) distinct in
+      let e = subst (λ z. IsDistinct nat_eq (pairs_blocks z)) (is ∙ sym (append_assoc w.chain front (o ∷ back))) distinct in
       (each_right (λ (z : Pair). same_pair z.at d ≡ false) w.chain front (avoids_front (w.chain ++ front) o back d e address), avoids_behind (w.chain ++ front) o back d e address)
 
   ahead_place : (mid : List Pair) (x : Pair) (back : List Pair) (n : ℕ) → in_back ≡ mid ++ x ∷ o ∷ back → length (in_front ++ p ∷ mid) ≡ n → is_hard_tail x.content.tail ≡ false → HasPlaceOver w p q o d n

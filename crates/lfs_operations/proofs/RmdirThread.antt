@@ -1,5 +1,5 @@
 -- An empty directory that goes in two steps of the thread.
-use Rattle.lfs_operations.proofs.Common.{Some, ℕ, ◌≡◌, ◌≢◌, ◌⊎◌, inl, inr, ◌-◌, ◌<◌, true, false, nat_eq, List, [], ◌∷◌, ◌++◌, length, None, refl, sym, ap, subst, ◌∙◌, arith, append_assoc, append-nil, length-append, IsPairCommitted, LossLeavesPairChanged, IsDistinct, tree_removing, tree_with_subtree, Blocks, AreUsed, Disk, IsPairAt, HasEither as IsLeftOf, with_blocks, FitsInPair, Gstate, Slot, gstate_xor, zero_gstate, Pair, blocks_of_pairs, pairs_gstate, pair_count_before_root, tree_on_disk, used_blocks, IsCompletion, no_move_from, IsChangedImage, number_count, HasNoMove, sync_bit_delta, IsStep, directory_goes, step_chain, site, Site, dirs_at, thread_at, IsDevice, IsWritableChange, ends_joined, KeptThread, thread_pair_at, IsChain, Path, IsPairDropped, LeftByDrop, SameInFlight, ShowsAfterDrops, CanEditIn, drops_with_its_slot, tree_without_entry, CanRemoveDirectory, IsDirectoryRemoved, unlink_changes}
+use Rattle.lfs_operations.proofs.Common.{Some, ℕ, ◌≡◌, ◌≢◌, ◌⊎◌, inl, inr, ◌-◌, ◌<◌, true, false, nat_eq, List, [], ◌∷◌, ◌++◌, length, None, refl, sym, ap, subst, ◌∙◌, arith, append_assoc, append-nil, length-append, IsPairCommitted, LossLeavesPair, IsDistinct, tree_removing, tree_with_subtree, Blocks, AreUsed, Disk, IsPairAt, HasEither as IsLeftOf, with_blocks, FitsInPair, Gstate, Slot, gstate_xor, zero_gstate, Pair, pairs_blocks, pairs_gstate, count_before_root, disk_tree, used_blocks, CompletesOperation, no_move_from, IsChangedImage, number_occurrences, HasNoMove, sync_bit_delta, IsStep, directory_goes, step_chain, site, Site, dirs_at, thread_at, IsDevice, IsWritableChange, ends_joined, KeptThread, thread_pair, IsChain, Path, IsPairDropped, LeftByDrop, SameInFlight, ShowsDroppedTree, CanEditIn, drops_with_its_slot, tree_without_entry, CanRemoveDirectory, IsDirectoryRemoved, unlink_changes}
 use Rattle.lfs_model.specs.session.Operations as ops
 use Rattle.lfs_operations.proofs.Removed.{alone, flag_ends, stays_there}
 use Rattle.lfs_operations.proofs.Rmdir.{HasPlace, Unlinks, place_of, unlinked_count}
@@ -28,7 +28,7 @@ module _ (t : KeptThread) (index id first gone : ℕ) (take : CanRemoveDirectory
   u = can.stands.stands.slot
 
   abbrev o : Pair
-  o = thread_pair_at t gone
+  o = thread_pair t gone
 
   abbrev w : Site
   w = site t.disk t.pairs can.path can.at can.ready.accepted can.leads can.first index p can.stands.rest can.stands.place can.begins
@@ -55,9 +55,9 @@ module _ (t : KeptThread) (index id first gone : ℕ) (take : CanRemoveDirectory
   filled : ends_joined false (w.before ++ w.left) ≡ true → l ++ ([] ++ r) ≢ []
   filled hard none = go (stays_there t index id first take.can take.begins goes)
     where
-      go : (index ≡ can.first) ⊎ (1 < length (thread_pair_at t index).content.slots) → ⊥
+      go : (index ≡ can.first) ⊎ (1 < length (thread_pair t index).content.slots) → ⊥
       go (inl e) =
-          let none_before = alone w.chain w.before w.left (w.right ++ w.after) p can.at can.first (subst (λ z. IsDistinct nat_eq (blocks_of_pairs z)) stand.there can.ready.accepted.thread.distinct) stand.begin
+          let none_before = alone w.chain w.before w.left (w.right ++ w.after) p can.at can.first (subst (λ z. IsDistinct nat_eq (pairs_blocks z)) stand.there can.ready.accepted.thread.distinct) stand.begin
           (subst (λ z. IsPairAt z can.at can.first) stand.there can.begins) (sym e ∙ stand.number) in
           let soft = ap (λ z. ends_joined false (w.before ++ z)) none_before ∙ ap (ends_joined false) (append-nil w.before) ∙ flag_ends w.before stand.site.ends in
           absurd (let z = sym hard ∙ soft in cc)
@@ -141,17 +141,17 @@ module _ (t : KeptThread) (index id first gone : ℕ) (take : CanRemoveDirectory
     pairs_middle : m.pairs ≡ thread_at w (q ∷ [])
     pairs_middle = x.pairs
 
-    used_middle : (b : ℕ) → number_count b (used_blocks m.disk m.pairs) ≡ number_count b (used_blocks t.disk t.pairs)
-    used_middle b = ap (λ z. number_count b (used_blocks m.disk z)) (pairs_middle ∙ grouped q)
+    used_middle : (b : ℕ) → number_occurrences b (used_blocks m.disk m.pairs) ≡ number_occurrences b (used_blocks t.disk t.pairs)
+    used_middle b = ap (λ z. number_occurrences b (used_blocks m.disk z)) (pairs_middle ∙ grouped q)
         ∙ unlinked_count t.disk m.disk ahead p q behind l r u take.to (subst (λ z. HasNoMove (pairs_gstate z)) (grouped p) (no_move_from (thread_at w (p ∷ [])) stand.settled)) (subst (λ z. HasNoMove (pairs_gstate z)) (grouped q) (no_move_turned turning))
         (subst (λ z. IsDevice t.disk m.disk z (ahead ++ q ∷ behind)) (grouped p) (subst (IsDevice t.disk m.disk (thread_at w (p ∷ []))) (grouped q) x.turned.device)) refl held refl take.branch b
-        ∙ ap (λ z. number_count b (used_blocks t.disk z)) (sym (stand.there ∙ grouped p))
+        ∙ ap (λ z. number_occurrences b (used_blocks t.disk z)) (sym (stand.there ∙ grouped p))
 
     chain_middle : IsChain w.chain (dirs_at w (q ∷ []))
     chain_middle = step_chain t.disk m.disk w p [] q [] [] [] l (u ∷ []) [] r (step_turned turning m.disk x.turned)
 
     -- the directory's own pair may go
-    pub may_go : IsAllButDropped t m (thread_pair_at t gone) gone (tree_removing (take.can.path ++ take.can.stands.stands.slot.name ∷ [])) (tree_with_subtree (take.can.path ++ take.can.stands.stands.slot.name ∷ []) (λ t. None))
+    pub may_go : IsAllButDropped t m (thread_pair t gone) gone (tree_removing (take.can.path ++ take.can.stands.stands.slot.name ∷ [])) (tree_with_subtree (take.can.path ++ take.can.stands.stands.slot.name ∷ []) (λ t. None))
     may_go = record {
       ready = can.ready;
       taken = subst (λ z. IsWritableChange t.disk t.pairs m.disk z (tree_removing path_there) (tree_with_subtree path_there (λ t. None))) (sym pairs_middle)
@@ -170,28 +170,28 @@ module _ (t : KeptThread) (index id first gone : ℕ) (take : CanRemoveDirectory
       used = subst (λ s. AreUsed s (used_blocks m.disk m.pairs)) (sym h.map) (used_same t.map (used_blocks t.disk t.pairs) (used_blocks m.disk m.pairs) used_middle can.ready.used);
       size = ap length h.map ∙ can.ready.size ∙ sym h.written.shape.count;
       flying = subst (SameInFlight t.map) (sym h.map) (λ b. ((λ f. f), (λ f. f)));
-      root = ap pair_count_before_root pairs_middle ∙ chain_middle ∙ sym (ap pair_count_before_root stand.there ∙ stand.site.chain);
+      root = ap count_before_root pairs_middle ∙ chain_middle ∙ sym (ap count_before_root stand.there ∙ stand.site.chain);
       shape = h.written.shape;
     }
 
-    turned : tree_removing (can.path ++ u.name ∷ []) (tree_on_disk t.disk t.pairs) ≡ tree_without_entry t take.can.path take.can.name
-    turned = ap (λ n. tree_removing (can.path ++ n ∷ []) (tree_on_disk t.disk t.pairs)) can.stands.stands.named
+    turned : tree_removing (can.path ++ u.name ∷ []) (disk_tree t.disk t.pairs) ≡ tree_without_entry t take.can.path take.can.name
+    turned = ap (λ n. tree_removing (can.path ++ n ∷ []) (disk_tree t.disk t.pairs)) can.stands.stands.named
 
     pub directory_removed : (new : KeptThread) → IsPairDropped m (gone - 1) zero_gstate new → IsDirectoryRemoved t new take.can.path take.can.name
     unfolding may_go
     directory_removed new g = record {
-      now = subst (λ z. ShowsAfterDrops t new z []) turned (shows_dropped may_go new g);
-      completed = λ z given tree is_path. subst (λ s. IsCompletion t.disk s z (ops.Remove given) new.disk new.pairs) (sym stand.there)
-          (subst (λ s. IsCompletion t.disk (thread_at w (p ∷ [])) z (ops.Remove given) new.disk s) (sym (pairs_end may_go new g))
-          (k.completed new.disk (y may_go) (is_gone may_go new.disk g.written) z given (tree ∙ ap (tree_on_disk t.disk) stand.there) (is_path ∙ ap (λ n. can.path ++ n ∷ []) (sym can.stands.stands.named))));
+      now = subst (λ z. ShowsDroppedTree t new z []) turned (shows_dropped may_go new g);
+      completed = λ z given tree is_path. subst (λ s. CompletesOperation t.disk s z (ops.Remove given) new.disk new.pairs) (sym stand.there)
+          (subst (λ s. CompletesOperation t.disk (thread_at w (p ∷ [])) z (ops.Remove given) new.disk s) (sym (pairs_end may_go new g))
+          (k.completed new.disk (y may_go) (is_gone may_go new.disk g.written) z given (tree ∙ ap (disk_tree t.disk) stand.there) (is_path ∙ ap (λ n. can.path ++ n ∷ []) (sym can.stands.stands.named))));
     }
 
     -- what a stop in the second step leaves
-    pub left_second : (left : Blocks) → LeftByDrop m (gone - 1) zero_gstate left → IsLeftOf (with_blocks left t.disk) (tree_on_disk t.disk t.pairs) (tree_without_entry t take.can.path take.can.name)
-    left_second left g = subst (IsLeftOf (with_blocks left t.disk) (tree_on_disk t.disk t.pairs)) turned (left_last may_go left g)
+    pub left_second : (left : Blocks) → LeftByDrop m (gone - 1) zero_gstate left → IsLeftOf (with_blocks left t.disk) (disk_tree t.disk t.pairs) (tree_without_entry t take.can.path take.can.name)
+    left_second left g = subst (IsLeftOf (with_blocks left t.disk) (disk_tree t.disk t.pairs)) turned (left_last may_go left g)
 
   -- ---- at a stop in the first step
 
-  pub left_first : (left : Blocks) → LossLeavesPairChanged t index (unlink_changes t index id) left → IsLeftOf (with_blocks left t.disk) (tree_on_disk t.disk t.pairs) (tree_without_entry t take.can.path take.can.name)
-  left_first left is = subst (IsLeftOf (with_blocks left t.disk) (tree_on_disk t.disk t.pairs)) (ap (λ n. tree_removing (can.path ++ n ∷ []) (tree_on_disk t.disk t.pairs)) can.stands.stands.named)
+  pub left_first : (left : Blocks) → LossLeavesPair t index (unlink_changes t index id) left → IsLeftOf (with_blocks left t.disk) (disk_tree t.disk t.pairs) (tree_without_entry t take.can.path take.can.name)
+  left_first left is = subst (IsLeftOf (with_blocks left t.disk) (disk_tree t.disk t.pairs)) (ap (λ n. tree_removing (can.path ++ n ∷ []) (disk_tree t.disk t.pairs)) can.stands.stands.named)
       (left_turned turning (tree_removing (can.path ++ u.name ∷ [])) (tree_with_subtree (can.path ++ u.name ∷ []) (λ t. None)) follows left is)

@@ -1,5 +1,5 @@
 -- The entry of an empty directory goes with its pair, which held nothing else, and then the directory's own pair goes.
-use Rattle.lfs_operations.proofs.Common.{ℕ, ◌≡◌, ◌⊎◌, inl, inr, ◌+◌, ◌<◌, Bool, true, false, cond, nat_eq, List, [], ◌∷◌, ◌++◌, length, Option, Some, None, refl, sym, ap, subst, ◌∙◌, arith, append_assoc, length-append, IsDistinct, tree_with_subtree, tree_removing, Disk, directory_address, continued_address, Session, slot_of, Branch, Slot, is_superblock, zero_gstate, same_pair, path_or_root, Pair, blocks_of_pairs, pairs_gstate, is_hard_tail, pair_count_before_root, Path, IsAccepted, IsWritable, LeadsTo, all_entries, tree_on_disk, SameSlots, alike_append, alike_itself, IsChangedImage, IsCompletion, Each, each_append, each_left, each_right, onward_all, IsStep, IsRmdir, before_gone, from_kept, rmdir_completed, IsGone, rmdir_named, rmdir_taken, avoids_behind, avoids_front, Site, begin_of, dirs_at, thread_at, IsWritableChange, two, same_parts, is_some}
+use Rattle.lfs_operations.proofs.Common.{ℕ, ◌≡◌, ◌⊎◌, inl, inr, ◌+◌, ◌<◌, Bool, true, false, cond, nat_eq, List, [], ◌∷◌, ◌++◌, length, Option, Some, None, refl, sym, ap, subst, ◌∙◌, arith, append_assoc, length-append, IsDistinct, tree_with_subtree, tree_removing, Disk, directory_address, continued_address, Session, slot_of, Branch, Slot, is_superblock, zero_gstate, same_pair, path_or_root, Pair, pairs_blocks, pairs_gstate, is_hard_tail, count_before_root, Path, IsAccepted, IsWritable, LeadsTo, all_entries, disk_tree, SameSlots, alike_append, alike_itself, IsChangedImage, CompletesOperation, Each, each_append, each_left, each_right, onward_all, IsStep, IsRmdir, before_gone, from_kept, rmdir_completed, IsGone, rmdir_named, rmdir_taken, avoids_behind, avoids_front, Site, begin_of, dirs_at, thread_at, IsWritableChange, two, same_parts, is_some}
 use Rattle.lfs_model.specs.session.Operations as ops
 use Rattle.lfs_model.proofs.Unthreaded.{SameParts}
 use Rattle.lfs_operations.proofs.RemovedWhole.{last_pair}
@@ -42,8 +42,8 @@ pub record HasPlaceWhole (disk middle : Disk) (w : Site) (x0 e q : Pair) (u : Sl
   pub soft : is_hard_tail x.content.tail ≡ false
   pub taken : (new : Disk) (y : Pair) → IsGone middle new w.chain front x o y back
       → IsWritableChange disk (thread_at w (x0 ∷ e ∷ [])) new (w.chain ++ (front ++ y ∷ back)) (tree_removing (P ++ u.name ∷ [])) (tree_with_subtree (P ++ u.name ∷ []) (λ t. None))
-  pub completed : (new : Disk) (y : Pair) → IsGone middle new w.chain front x o y back → (s : Session) (path : List ℕ) → s.tree ≡ tree_on_disk disk (thread_at w (x0 ∷ e ∷ [])) → path_or_root path ≡ P ++ u.name ∷ []
-      → IsCompletion disk (thread_at w (x0 ∷ e ∷ [])) s (ops.Remove path) new (w.chain ++ (front ++ y ∷ back))
+  pub completed : (new : Disk) (y : Pair) → IsGone middle new w.chain front x o y back → (s : Session) (path : List ℕ) → s.tree ≡ disk_tree disk (thread_at w (x0 ∷ e ∷ [])) → path_or_root path ≡ P ++ u.name ∷ []
+      → CompletesOperation disk (thread_at w (x0 ∷ e ∷ [])) s (ops.Remove path) new (w.chain ++ (front ++ y ∷ back))
 
 module _ (disk middle : Disk) (w : Site) (x0 e q : Pair) (u : Slot) (P : Path) (a d : ℕ × ℕ) (c : UnlinksWhole disk middle w x0 e q u P a d) (o : Pair) (address : same_pair o.at d ≡ true) (alone : is_hard_tail o.content.tail ≡ false) where
   abbrev in_front : List Pair
@@ -69,13 +69,13 @@ module _ (disk middle : Disk) (w : Site) (x0 e q : Pair) (u : Slot) (P : Path) (
     alike : SameSlots (w.chain ++ two b front [] mid [] back) rs
 
   completes : (b : Bool) (front mid back : List Pair) (new : Disk) (y : Pair) (f : List Pair) (x : Pair) (rest : List Pair) (there : dirs_at w (q ∷ []) ≡ f ++ x ∷ o ∷ rest) → IsGone middle new w.chain f x o y rest
-      → IsParted b front mid back (w.chain ++ (f ++ y ∷ rest)) → (s : Session) (path : List ℕ) → s.tree ≡ tree_on_disk disk (thread_at w (x0 ∷ e ∷ [])) → path_or_root path ≡ P ++ u.name ∷ []
-      → IsCompletion disk (thread_at w (x0 ∷ e ∷ [])) s (ops.Remove path) new (w.chain ++ (f ++ y ∷ rest))
+      → IsParted b front mid back (w.chain ++ (f ++ y ∷ rest)) → (s : Session) (path : List ℕ) → s.tree ≡ disk_tree disk (thread_at w (x0 ∷ e ∷ [])) → path_or_root path ≡ P ++ u.name ∷ []
+      → CompletesOperation disk (thread_at w (x0 ∷ e ∷ [])) s (ops.Remove path) new (w.chain ++ (f ++ y ∷ rest))
   completes b front mid back new y f x rest there gone h s path tree is =
       let rs = w.chain ++ (f ++ y ∷ rest) in
       let taken = takes_place f x rest there new y gone in
       let made : IsRmdir disk new (w.chain ++ (f ++ y ∷ rest)) b w.chain front mid back e o [] [] u [] d path_there = record {
-        is_chain = ap pair_count_before_root (sym h.were) ∙ c.step.site.chain;
+        is_chain = ap count_before_root (sym h.were) ∙ c.step.site.chain;
         accepted = subst (IsAccepted disk) h.were c.step.accepted;
         writable = subst (IsWritable disk) h.were c.old_writable;
         settled = ap pairs_gstate (sym h.were) ∙ c.settled;
@@ -94,13 +94,13 @@ module _ (disk middle : Disk) (w : Site) (x0 e q : Pair) (u : Slot) (P : Path) (
         named = subst (λ z. slot_of z path_there ≡ Some u) h.were
             (rmdir_named disk middle new w x0 (e ∷ []) q x0.content.slots [] u c.step c.other c.writable P a c.leads c.same d c.branch c.empty c.sync c.settled f x o y rest there address alone gone);
       } in
-      subst (λ z. IsCompletion disk z s (ops.Remove path) new (w.chain ++ (f ++ y ∷ rest))) (sym h.were)
-      (rmdir_completed disk new (w.chain ++ (f ++ y ∷ rest)) b w.chain front mid back e o [] [] u [] d path_there made s path (tree ∙ ap (tree_on_disk disk) h.were) is)
+      subst (λ z. CompletesOperation disk z s (ops.Remove path) new (w.chain ++ (f ++ y ∷ rest))) (sym h.were)
+      (rmdir_completed disk new (w.chain ++ (f ++ y ∷ rest)) b w.chain front mid back e o [] [] u [] d path_there made s path (tree ∙ ap (disk_tree disk) h.were) is)
 
   -- the pairs but o aren't at its address
   others_apart : (front back : List Pair) → thread_at w (x0 ∷ e ∷ []) ≡ w.chain ++ (front ++ o ∷ back) → Each (λ z. same_pair z.at d ≡ false) front × Each (λ z. same_pair z.at d ≡ false) back
   others_apart front back is =
-      let distinct = subst (λ z. IsDistinct nat_eq (blocks_of_pairs z)) (is ∙ sym (append_assoc w.chain front (o ∷ back))) c.step.accepted.thread.distinct in
+      let distinct = subst (λ z. IsDistinct nat_eq (pairs_blocks z)) (is ∙ sym (append_assoc w.chain front (o ∷ back))) c.step.accepted.thread.distinct in
       (each_right (λ (z : Pair). same_pair z.at d ≡ false) w.chain front (avoids_front (w.chain ++ front) o back d distinct address), avoids_behind (w.chain ++ front) o back d distinct address)
 
   dirs_were : dirs_at w (x0 ∷ e ∷ []) ≡ (in_front ++ x0 ∷ []) ++ e ∷ in_back

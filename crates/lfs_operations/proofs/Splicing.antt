@@ -1,5 +1,5 @@
 -- A pair of an accepted image in which some slots are replaced by others, as a commit of the laws.
-use Rattle.lfs_operations.proofs.Common.{ℕ, zero, suc, ◌≡◌, ◌+◌, ◌<◌, ◌≤◌, false, nat_eq, List, [], ◌∷◌, ◌++◌, length, Some, refl, sym, ap, subst, ◌∙◌, arith, ◌⊎◌, inl, inr, IsDistinct, flat_map, recursion_from_All, BlockStates, IsFree, IsInFlight, Free, InFlight, PairChange, Disk, disk_block, SameGeometry, Slot, PairContent, gstate_xor, Pair, blocks_of_pairs, pairs_gstate, starts_superblock, struct_blocks, all_slots_not_moved, used_blocks, IsAccepted, IsTreeEntry, IsWellFormedCtz, IsWritable, IsWritableSlot, SameFiles, IsCommit, Each, each_counted, each_from_counted, number_count, count_append, once_from_distinct, distinct_from_once, SameFileBlocks, gstate_append, gstate_cons, gstate_kept, gstate_right, Site, thread_at, IsSite, file_blocks, KeptThread, complete_after, BeginWithSuperblock, cases_lt, IsReadyImage}
+use Rattle.lfs_operations.proofs.Common.{ℕ, zero, suc, ◌≡◌, ◌+◌, ◌<◌, ◌≤◌, false, nat_eq, List, [], ◌∷◌, ◌++◌, length, Some, refl, sym, ap, subst, ◌∙◌, arith, ◌⊎◌, inl, inr, IsDistinct, flat_map, recursion_from_All, BlockStates, IsFree, IsInFlight, Free, InFlight, PairChange, Disk, disk_block, SameGeometry, Slot, PairContent, gstate_xor, Pair, pairs_blocks, pairs_gstate, starts_superblock, struct_blocks, all_unmoved_slots, used_blocks, IsAccepted, IsTreeEntry, IsFormedList, IsWritable, IsWritableSlot, SameFiles, IsCommit, Each, each_counted, each_from_counted, number_occurrences, count_append, once_from_distinct, distinct_from_once, SameFileBlocks, gstate_append, gstate_cons, gstate_kept, gstate_right, Site, thread_at, IsSite, file_blocks, KeptThread, complete_after, BeginWithSuperblock, cases_lt, IsReadyImage}
 use Rattle.lfs_operations.proofs.MovTurned.{IsTurn}
 use Rattle.lfs_operations.proofs.MovSet.{HasTurned}
 use Rattle.lfs_operations.proofs.Owning.{count_pairs}
@@ -28,9 +28,9 @@ pub record IsSplicing (t : KeptThread) (index : ℕ) (changes : List PairChange)
   -- blocks that come are in flight; they name these now, and those that are gone no more
   pub flying : Each (IsInFlight t.map) come
   pub apart : IsDistinct nat_eq (come ++ used_blocks t.disk t.pairs)
-  pub lists : (disk : Disk) → SameGeometry t.disk disk → SameFiles t.disk disk (all_slots_not_moved t.pairs) → Each (λ b. disk_block disk b ≡ disk_block t.disk b) come → Each (λ s. IsWellFormedCtz disk s.struct) news
-  pub blocks : (disk : Disk) → SameGeometry t.disk disk → SameFiles t.disk disk (all_slots_not_moved t.pairs) → Each (λ b. disk_block disk b ≡ disk_block t.disk b) come
-      → (b : ℕ) → number_count b (file_blocks disk news) + number_count b gone ≡ number_count b come + number_count b (file_blocks t.disk olds)
+  pub lists : (disk : Disk) → SameGeometry t.disk disk → SameFiles t.disk disk (all_unmoved_slots t.pairs) → Each (λ b. disk_block disk b ≡ disk_block t.disk b) come → Each (λ s. IsFormedList disk s.struct) news
+  pub blocks : (disk : Disk) → SameGeometry t.disk disk → SameFiles t.disk disk (all_unmoved_slots t.pairs) → Each (λ b. disk_block disk b ≡ disk_block t.disk b) come
+      → (b : ℕ) → number_occurrences b (file_blocks disk news) + number_occurrences b gone ≡ number_occurrences b come + number_occurrences b (file_blocks t.disk olds)
 
 -- a commit, on a disk where the blocks that come are as they were
 pub record Commits (t : KeptThread) (w : Site) (p : Pair) (l olds news r : List Slot) (come : List ℕ) (disk : Disk) (q : Pair) (more : List Pair) : Type 0 where
@@ -41,10 +41,10 @@ unlike_flying : Some Free ≡ Some InFlight → ⊥
 unlike_flying e = absurd (cc)
 
 -- nor is it in flight
-not_flying : (sets : BlockStates) (bs : List ℕ) → Each (IsInFlight sets) bs → (b : ℕ) → IsFree sets b → number_count b bs ≡ 0
-not_flying sets bs flying b free = go (number_count b bs) refl
+not_flying : (sets : BlockStates) (bs : List ℕ) → Each (IsInFlight sets) bs → (b : ℕ) → IsFree sets b → number_occurrences b bs ≡ 0
+not_flying sets bs flying b free = go (number_occurrences b bs) refl
   where
-    go : (n : ℕ) → number_count b bs ≡ n → n ≡ 0
+    go : (n : ℕ) → number_occurrences b bs ≡ n → n ≡ 0
     go zero e = refl
     go (suc n) e = absurd (unlike_flying (sym free ∙ each_counted (IsInFlight sets) bs flying b (omega arith)))
 
@@ -70,7 +70,7 @@ module _ (t : KeptThread) (index : ℕ) (changes : List PairChange) (w : Site) (
 
   -- ---- the commit
 
-  pub commits : (disk : Disk) (q : Pair) (more : List Pair) → HasTurned t.disk w p (l ++ (news ++ r)) p.content.move disk q more → ((b : ℕ) → 1 ≤ number_count b (blocks_of_pairs more) → IsFree t.map b)
+  pub commits : (disk : Disk) (q : Pair) (more : List Pair) → HasTurned t.disk w p (l ++ (news ++ r)) p.content.move disk q more → ((b : ℕ) → 1 ≤ number_occurrences b (pairs_blocks more) → IsFree t.map b)
       → Commits t w p l olds news r come disk q more
   commits disk q more x fresh = record {
     commit = record {
@@ -99,35 +99,35 @@ module _ (t : KeptThread) (index : ℕ) (changes : List PairChange) (w : Site) (
   }
     where
       -- a free block is neither used nor one of those that come
-      distinct : IsDistinct nat_eq ((blocks_of_pairs more ++ come) ++ used_blocks t.disk (thread_at w (p ∷ [])))
-      distinct = distinct_from_once ((blocks_of_pairs more ++ come) ++ used_blocks t.disk (thread_at w (p ∷ []))) (λ b. go b (cases_lt 0 (number_count b (blocks_of_pairs more))))
+      distinct : IsDistinct nat_eq ((pairs_blocks more ++ come) ++ used_blocks t.disk (thread_at w (p ∷ [])))
+      distinct = distinct_from_once ((pairs_blocks more ++ come) ++ used_blocks t.disk (thread_at w (p ∷ []))) (λ b. go b (cases_lt 0 (number_occurrences b (pairs_blocks more))))
         where
-          go : (b : ℕ) → (0 < number_count b (blocks_of_pairs more)) ⊎ (number_count b (blocks_of_pairs more) ≤ 0) → number_count b ((blocks_of_pairs more ++ come) ++ used_blocks t.disk (thread_at w (p ∷ []))) ≤ 1
+          go : (b : ℕ) → (0 < number_occurrences b (pairs_blocks more)) ⊎ (number_occurrences b (pairs_blocks more) ≤ 0) → number_occurrences b ((pairs_blocks more ++ come) ++ used_blocks t.disk (thread_at w (p ∷ []))) ≤ 1
           go b (inl some) =
               let n = not_flying t.map come k.flying b (fresh b some) in
-              let o = once_from_distinct ((blocks_of_pairs more ++ []) ++ used_blocks t.disk (thread_at w (p ∷ []))) x.free.distinct b in
-              let e = count_append b (blocks_of_pairs more ++ []) (used_blocks t.disk (thread_at w (p ∷ []))) in
-              let f = count_append b (blocks_of_pairs more) [] in
-              let g = count_append b (blocks_of_pairs more ++ come) (used_blocks t.disk (thread_at w (p ∷ []))) in
-              let h = count_append b (blocks_of_pairs more) come in
+              let o = once_from_distinct ((pairs_blocks more ++ []) ++ used_blocks t.disk (thread_at w (p ∷ []))) x.free.distinct b in
+              let e = count_append b (pairs_blocks more ++ []) (used_blocks t.disk (thread_at w (p ∷ []))) in
+              let f = count_append b (pairs_blocks more) [] in
+              let g = count_append b (pairs_blocks more ++ come) (used_blocks t.disk (thread_at w (p ∷ []))) in
+              let h = count_append b (pairs_blocks more) come in
               omega arith
           go b (inr none) =
               let o = once_from_distinct (come ++ used_blocks t.disk (thread_at w (p ∷ []))) (subst (λ z. IsDistinct nat_eq (come ++ used_blocks t.disk z)) k.there k.apart) b in
               let e = count_append b come (used_blocks t.disk (thread_at w (p ∷ []))) in
-              let g = count_append b (blocks_of_pairs more ++ come) (used_blocks t.disk (thread_at w (p ∷ []))) in
-              let h = count_append b (blocks_of_pairs more) come in
+              let g = count_append b (pairs_blocks more ++ come) (used_blocks t.disk (thread_at w (p ∷ []))) in
+              let h = count_append b (pairs_blocks more) come in
               omega arith
 
       -- what comes isn't written
       come_there : Each (λ b. disk_block disk b ≡ disk_block t.disk b) come
       come_there = each_from_counted (λ b. disk_block disk b ≡ disk_block t.disk b) come (λ b some. x.same b (
-          let n = once_from_distinct ((blocks_of_pairs more ++ come) ++ used_blocks t.disk (thread_at w (p ∷ []))) distinct b in
-          let e = count_append b (blocks_of_pairs more ++ come) (used_blocks t.disk (thread_at w (p ∷ []))) in
-          let f = count_append b (blocks_of_pairs more) come in
-          let g = count_append b (blocks_of_pairs more) (blocks_of_pairs (p ∷ [])) in
-          let h = count_append b (blocks_of_pairs (thread_at w (p ∷ []))) (flat_map (λ s. struct_blocks t.disk s.struct) (all_slots_not_moved (thread_at w (p ∷ [])))) in
+          let n = once_from_distinct ((pairs_blocks more ++ come) ++ used_blocks t.disk (thread_at w (p ∷ []))) distinct b in
+          let e = count_append b (pairs_blocks more ++ come) (used_blocks t.disk (thread_at w (p ∷ []))) in
+          let f = count_append b (pairs_blocks more) come in
+          let g = count_append b (pairs_blocks more) (pairs_blocks (p ∷ [])) in
+          let h = count_append b (pairs_blocks (thread_at w (p ∷ []))) (flat_map (λ s. struct_blocks t.disk s.struct) (all_unmoved_slots (thread_at w (p ∷ [])))) in
           let i = count_pairs b w (p ∷ []) in
           omega arith))
 
-      files : SameFiles t.disk disk (all_slots_not_moved t.pairs)
-      files = subst (λ z. SameFiles t.disk disk (all_slots_not_moved z)) (sym k.there) (recursion_from_All (λ (s : Slot). SameFileBlocks t.disk disk s.struct) (all_slots_not_moved (thread_at w (p ∷ []))) x.device.files)
+      files : SameFiles t.disk disk (all_unmoved_slots t.pairs)
+      files = subst (λ z. SameFiles t.disk disk (all_unmoved_slots z)) (sym k.there) (recursion_from_All (λ (s : Slot). SameFileBlocks t.disk disk s.struct) (all_unmoved_slots (thread_at w (p ∷ []))) x.device.files)

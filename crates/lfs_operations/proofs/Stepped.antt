@@ -1,5 +1,5 @@
 -- What a change or a split comes to, and what a stop in it leaves, as a commit of the laws.
-use Rattle.lfs_operations.proofs.Common.{ℕ, ◌≡◌, ◌≢◌, true, false, ◌⊎◌, inl, inr, ⊎_elim, ◌+◌, ◌<◌, ◌≤◌, List, [], ◌∷◌, ◌++◌, length, sym, ap, subst, ◌∙◌, arith, append-nil, nat_eq, cases_lt, recursion_from_All, Blocks, AreUsed, IsFree, PairChange, Disk, block_count, HasEither as IsLeftOf, SurvivesLossSince, with_blocks, Slot, Pair, blocks_of_pairs, pairs_gstate, pair_count_before_root, Tree, IsAccepted, IsWritable, all_slots_not_moved, tree_on_disk, used_blocks, Contains-number_count, number_count-Contains, IsChangedImage, SameFiles, SameFileBlocks, ends_joined, IsCommit, number_count, once_from_distinct, count_append, HoldsAtLosses-weaker, Site, dirs_at, thread_at, IsDevice, CallEvent, LossLeavesCleanly, KeptThread, IsDistinct, Contains, PathAddresses, LeftByTurn, IsTurned, AreUsedUntilUpdate, ShowsReadyTree, ShowsUpdatedTree, HasNoneNew, KeepsTakenStates}
+use Rattle.lfs_operations.proofs.Common.{ℕ, ◌≡◌, ◌≢◌, true, false, ◌⊎◌, inl, inr, ⊎_elim, ◌+◌, ◌<◌, ◌≤◌, List, [], ◌∷◌, ◌++◌, length, sym, ap, subst, ◌∙◌, arith, append-nil, nat_eq, cases_lt, recursion_from_All, Blocks, AreUsed, IsFree, PairChange, Disk, block_count, HasEither as IsLeftOf, SurvivesLossSince, with_blocks, Slot, Pair, pairs_blocks, pairs_gstate, count_before_root, Tree, IsAccepted, IsWritable, all_unmoved_slots, disk_tree, used_blocks, Contains-number_occurrences, number_occurrences-Contains, IsChangedImage, SameFiles, SameFileBlocks, ends_joined, IsCommit, number_occurrences, once_from_distinct, count_append, HoldsAtLosses-weaker, Site, dirs_at, thread_at, IsDevice, CallEvent, CleanLossLeaves, KeptThread, IsDistinct, Contains, PathAddresses, LeftByPut, ArePut, AreUsedUnsettled, ShowsReadyTree, ShowsUnsettledTree, HasNoneNew, KeepsTakenStates}
 use Rattle.lfs_model.proofs.Committed.{commit_writable}
 use Rattle.lfs_operations.proofs.Owning.{count_pairs, used_count_now, used_same}
 use Rattle.lfs_operations.proofs.Placing.{left_after, left_still}
@@ -19,9 +19,9 @@ pub record HasStep (t : KeptThread) (w : Site) (p : Pair) (l olds news r : List 
   pub more : List Pair
   pub commit : Commits t w p l olds news r come new.disk q more
   pub pairs : new.pairs ≡ thread_at w (q ∷ more)
-  pub used : AreUsedUntilUpdate new.map (used_blocks new.disk new.pairs) gone come
-  pub once : (b : ℕ) → number_count b used.owned ≤ 1
-  pub places : (b : ℕ) → Contains (blocks_of_pairs new.pairs) b → Contains (blocks_of_pairs t.pairs) b ⊎ IsFree t.map b
+  pub used : AreUsedUnsettled new.map (used_blocks new.disk new.pairs) gone come
+  pub once : (b : ℕ) → number_occurrences b used.owned ≤ 1
+  pub places : (b : ℕ) → Contains (pairs_blocks new.pairs) b → Contains (pairs_blocks t.pairs) b ⊎ IsFree t.map b
   pub size : length new.map ≡ block_count new.disk
   pub stays : KeepsTakenStates t.map new.map
   pub none_comes : HasNoneNew t.map new.map
@@ -30,27 +30,27 @@ module _ (t : KeptThread) (index : ℕ) (changes : List PairChange) (w : Site) (
   used_before : AreUsed t.map (used_blocks t.disk (thread_at w (p ∷ [])))
   used_before = subst (λ z. AreUsed t.map (used_blocks t.disk z)) k.there k.ready.used
 
-  files_at : {disk : Disk} {q : Pair} {more : List Pair} → IsCommit t.disk disk w p q more come l olds news r → SameFiles t.disk disk (all_slots_not_moved t.pairs)
-  files_at {disk = disk} c = subst (λ z. SameFiles t.disk disk (all_slots_not_moved z)) (sym k.there) (recursion_from_All (λ (s : Slot). SameFileBlocks t.disk disk s.struct) (all_slots_not_moved (thread_at w (p ∷ []))) c.device.files)
+  files_at : {disk : Disk} {q : Pair} {more : List Pair} → IsCommit t.disk disk w p q more come l olds news r → SameFiles t.disk disk (all_unmoved_slots t.pairs)
+  files_at {disk = disk} c = subst (λ z. SameFiles t.disk disk (all_unmoved_slots z)) (sym k.there) (recursion_from_All (λ (s : Slot). SameFileBlocks t.disk disk s.struct) (all_unmoved_slots (thread_at w (p ∷ []))) c.device.files)
 
   -- a block of the pairs was one before, or is one that came
-  place_of : (b : ℕ) (now : List Pair) (fresh : List ℕ) → number_count b (blocks_of_pairs now) ≡ number_count b (blocks_of_pairs (p ∷ [])) + number_count b fresh → Contains (blocks_of_pairs (thread_at w now)) b
-      → Contains (blocks_of_pairs t.pairs) b ⊎ (1 ≤ number_count b fresh)
-  place_of b now fresh e has = go (cases_lt 0 (number_count b fresh))
+  place_of : (b : ℕ) (now : List Pair) (fresh : List ℕ) → number_occurrences b (pairs_blocks now) ≡ number_occurrences b (pairs_blocks (p ∷ [])) + number_occurrences b fresh → Contains (pairs_blocks (thread_at w now)) b
+      → Contains (pairs_blocks t.pairs) b ⊎ (1 ≤ number_occurrences b fresh)
+  place_of b now fresh e has = go (cases_lt 0 (number_occurrences b fresh))
     where
-      go : (0 < number_count b fresh) ⊎ (number_count b fresh ≤ 0) → Contains (blocks_of_pairs t.pairs) b ⊎ (1 ≤ number_count b fresh)
+      go : (0 < number_occurrences b fresh) ⊎ (number_occurrences b fresh ≤ 0) → Contains (pairs_blocks t.pairs) b ⊎ (1 ≤ number_occurrences b fresh)
       go (inl some) = inr some
       go (inr none) =
-          let some = number_count-Contains (blocks_of_pairs (thread_at w now)) b has in
+          let some = number_occurrences-Contains (pairs_blocks (thread_at w now)) b has in
           let c = count_pairs b w now in
           let d = count_pairs b w (p ∷ []) in
-          let g = ap (λ z. number_count b (blocks_of_pairs z)) k.there in
-          inl (Contains-number_count (blocks_of_pairs t.pairs) b (omega arith))
+          let g = ap (λ z. number_occurrences b (pairs_blocks z)) k.there in
+          inl (Contains-number_occurrences (pairs_blocks t.pairs) b (omega arith))
 
   mapped : IsMapped t
   mapped = record { used = k.ready.used; size = k.ready.size }
 
-  pub put_step : (new : KeptThread) → IsTurned t index changes new → HasStep t w p l olds news r gone come new
+  pub put_step : (new : KeptThread) → ArePut t index changes new → HasStep t w p l olds news r gone come new
   put_step new is = go (put_turned t index changes w p (l ++ (news ++ r)) p.content.move (turn t index changes w p l olds news r gone come k) mapped new is)
     where
       go : TurnedTo t w p (l ++ (news ++ r)) p.content.move new → HasStep t w p l olds news r gone come new
@@ -62,18 +62,18 @@ module _ (t : KeptThread) (index : ℕ) (changes : List PairChange) (w : Site) (
             commit = commit;
             pairs = x.pairs;
             used = record {
-              owned = blocks_of_pairs x.more ++ used_blocks t.disk (thread_at w (p ∷ []));
+              owned = pairs_blocks x.more ++ used_blocks t.disk (thread_at w (p ∷ []));
               are = x.used (used_blocks t.disk (thread_at w (p ∷ []))) used_before;
               same = λ b.
                   let e = used_count_now t.disk new.disk w p x.q x.more l olds news r gone come commit.commit (k.blocks new.disk commit.commit.device.geometry (files_at commit.commit) commit.come_same) b in
-                  let f = ap (λ z. number_count b (used_blocks new.disk z)) x.pairs in
-                  let g = count_append b (blocks_of_pairs x.more) (used_blocks t.disk (thread_at w (p ∷ []))) in
+                  let f = ap (λ z. number_occurrences b (used_blocks new.disk z)) x.pairs in
+                  let g = count_append b (pairs_blocks x.more) (used_blocks t.disk (thread_at w (p ∷ []))) in
                   omega arith;
             };
-            once = λ b. once_from_distinct (blocks_of_pairs x.more ++ used_blocks t.disk (thread_at w (p ∷ []))) (subst (λ z. IsDistinct nat_eq (z ++ used_blocks t.disk (thread_at w (p ∷ [])))) (append-nil (blocks_of_pairs x.more)) x.turned.free.distinct) b;
+            once = λ b. once_from_distinct (pairs_blocks x.more ++ used_blocks t.disk (thread_at w (p ∷ []))) (subst (λ z. IsDistinct nat_eq (z ++ used_blocks t.disk (thread_at w (p ∷ [])))) (append-nil (pairs_blocks x.more)) x.turned.free.distinct) b;
             places = λ b has. ⊎_elim (λ was. inl was) (λ some. inr (x.fresh b some))
-                (place_of b (x.q ∷ x.more) (blocks_of_pairs x.more) (let a = ap (λ (z : ℕ × ℕ). number_count b (z.0 ∷ z.1 ∷ [])) x.turned.at in let c = count_append b (x.q.at.0 ∷ x.q.at.1 ∷ []) (blocks_of_pairs x.more) in omega arith)
-                (subst (λ (z : List Pair). Contains (blocks_of_pairs z) b) x.pairs has));
+                (place_of b (x.q ∷ x.more) (pairs_blocks x.more) (let a = ap (λ (z : ℕ × ℕ). number_occurrences b (z.0 ∷ z.1 ∷ [])) x.turned.at in let c = count_append b (x.q.at.0 ∷ x.q.at.1 ∷ []) (pairs_blocks x.more) in omega arith)
+                (subst (λ (z : List Pair). Contains (pairs_blocks z) b) x.pairs has));
             size = x.size ∙ k.ready.size ∙ sym x.shape.count;
             stays = x.stays;
             none_comes = x.none_comes;
@@ -84,7 +84,7 @@ module _ (t : KeptThread) (index : ℕ) (changes : List PairChange) (w : Site) (
   abbrev pub Stays : Disk → Type 0
   Stays disk = IsDevice t.disk disk (thread_at w (p ∷ [])) (thread_at w (p ∷ []))
 
-  left_step : (left : Blocks) → LeftByTurn t index changes left → Stays (with_blocks left t.disk) ⊎ HasCommit t w p l olds news r come (with_blocks left t.disk)
+  left_step : (left : Blocks) → LeftByPut t index changes left → Stays (with_blocks left t.disk) ⊎ HasCommit t w p l olds news r come (with_blocks left t.disk)
   left_step left is = ⊎_elim (λ on. inl on)
       (λ (x : TurnedOn t w p (l ++ (news ++ r)) p.content.move (with_blocks left t.disk)). inr (record { q = x.q; more = x.more; commit = commits t index changes w p l olds news r gone come k (with_blocks left t.disk) x.q x.more x.turned x.fresh }))
       (left_put t index changes w p (l ++ (news ++ r)) p.content.move (turn t index changes w p l olds news r gone come k) mapped left is)
@@ -94,24 +94,24 @@ module _ (t : KeptThread) (index : ℕ) (changes : List PairChange) (w : Site) (
   AllFollow change = (disk : Disk) (q : Pair) (more : List Pair) → Commits t w p l olds news r come disk q more
       → (walk : PathAddresses → PathAddresses) × IsChangedImage t.disk (thread_at w (p ∷ [])) disk (thread_at w (q ∷ more)) change walk
 
-  left_tree : (change : Tree → Tree) → AllFollow change → (ends_joined false (w.before ++ w.left) ≡ true → l ++ (news ++ r) ≢ []) → (left : Blocks) → LeftByTurn t index changes left
-      → IsLeftOf (with_blocks left t.disk) (tree_on_disk t.disk t.pairs) (change (tree_on_disk t.disk t.pairs))
+  left_tree : (change : Tree → Tree) → AllFollow change → (ends_joined false (w.before ++ w.left) ≡ true → l ++ (news ++ r) ≢ []) → (left : Blocks) → LeftByPut t index changes left
+      → IsLeftOf (with_blocks left t.disk) (disk_tree t.disk t.pairs) (change (disk_tree t.disk t.pairs))
   left_tree change follow filled left is = go (left_step left is)
     where
-      go : Stays (with_blocks left t.disk) ⊎ HasCommit t w p l olds news r come (with_blocks left t.disk) → IsLeftOf (with_blocks left t.disk) (tree_on_disk t.disk t.pairs) (change (tree_on_disk t.disk t.pairs))
-      go (inl d) = left_still t.disk left (thread_at w (p ∷ [])) (accepted t index changes w p l olds news r gone come k) (subst (IsWritable t.disk) k.there k.ready.writable) d (inl (ap (tree_on_disk t.disk) (sym k.there)))
+      go : Stays (with_blocks left t.disk) ⊎ HasCommit t w p l olds news r come (with_blocks left t.disk) → IsLeftOf (with_blocks left t.disk) (disk_tree t.disk t.pairs) (change (disk_tree t.disk t.pairs))
+      go (inl d) = left_still t.disk left (thread_at w (p ∷ [])) (accepted t index changes w p l olds news r gone come k) (subst (IsWritable t.disk) k.there k.ready.writable) d (inl (ap (disk_tree t.disk) (sym k.there)))
       go (inr h) =
           let f = follow (with_blocks left t.disk) h.q h.more h.commit in
-          left_after {walk = f.0} (record { follows = f.1; writable = commit_writable t.disk (with_blocks left t.disk) w p h.q h.more come l olds news r h.commit.commit filled }) (inr (ap (λ z. change (tree_on_disk t.disk z)) (sym k.there)))
+          left_after {walk = f.0} (record { follows = f.1; writable = commit_writable t.disk (with_blocks left t.disk) w p h.q h.more come l olds news r h.commit.commit filled }) (inr (ap (λ z. change (disk_tree t.disk z)) (sym k.there)))
 
-  pub survives : (change : Tree → Tree) → AllFollow change → (ends_joined false (w.before ++ w.left) ≡ true → l ++ (news ++ r) ≢ []) → (new : List CallEvent) → LossLeavesCleanly t.history new (LeftByTurn t index changes)
-      → SurvivesLossSince t.disk t.history new (tree_on_disk t.disk t.pairs) (change (tree_on_disk t.disk t.pairs))
+  pub survives : (change : Tree → Tree) → AllFollow change → (ends_joined false (w.before ++ w.left) ≡ true → l ++ (news ++ r) ≢ []) → (new : List CallEvent) → CleanLossLeaves t.history new (LeftByPut t index changes)
+      → SurvivesLossSince t.disk t.history new (disk_tree t.disk t.pairs) (change (disk_tree t.disk t.pairs))
   survives change follow filled new stops clean = HoldsAtLosses-weaker (left_tree change follow filled) (stops clean)
 
   -- ---- what it shows
 
   pub becomes : (change : Tree → Tree) → AllFollow change → (ends_joined false (w.before ++ w.left) ≡ true → l ++ (news ++ r) ≢ []) → (new : KeptThread) → HasStep t w p l olds news r gone come new
-      → ShowsUpdatedTree t new (change (tree_on_disk t.disk t.pairs)) gone come
+      → ShowsUnsettledTree t new (change (disk_tree t.disk t.pairs)) gone come
   becomes change follow filled new x =
       let f = (follow new.disk x.q x.more x.commit).1 in
       record {
@@ -123,16 +123,16 @@ module _ (t : KeptThread) (index : ℕ) (changes : List PairChange) (w : Site) (
           size = x.size;
           large = subst (λ n. 1024 ≤ n) (sym x.commit.commit.device.geometry.block_size) k.ready.large;
         };
-        shows = ap (tree_on_disk new.disk) x.pairs ∙ f.shows ∙ ap (λ z. change (tree_on_disk t.disk z)) (sym k.there);
+        shows = ap (disk_tree new.disk) x.pairs ∙ f.shows ∙ ap (λ z. change (disk_tree t.disk z)) (sym k.there);
         stays = x.stays;
         none_comes = x.none_comes;
-        root = ap pair_count_before_root x.pairs
+        root = ap count_before_root x.pairs
             ∙ root_stays t.disk new.disk w.chain (dirs_at w (p ∷ [])) (dirs_at w (x.q ∷ x.more)) k.site.chain (accepted t index changes w p l olds news r gone come k) f.accepted f.root
-            ∙ sym (ap pair_count_before_root k.there);
+            ∙ sym (ap count_before_root k.there);
       }
 
 -- where no block came or went
-pub ready_again : (t new : KeptThread) (tree : Tree) → ShowsUpdatedTree t new tree [] [] → ShowsReadyTree t new tree
+pub ready_again : (t new : KeptThread) (tree : Tree) → ShowsUnsettledTree t new tree [] [] → ShowsReadyTree t new tree
 ready_again t new tree h = record {
   ready = record {
     accepted = h.ready.accepted;

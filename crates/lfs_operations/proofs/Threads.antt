@@ -1,5 +1,5 @@
 -- Pairs of a thread, by their numbers; and the pair of a number by its site: where it stands, and which blocks change with it.
-use Rattle.lfs_operations.proofs.Common.{ℕ, suc, ◌≡◌, ◌+◌, ◌<◌, ◌≤◌, Bool, true, false, cond, eqb-true, nat_eq, List, [], ◌∷◌, ◌++◌, length, Some, refl, sym, ap, ap₂, subst, ◌∙◌, arith, append_assoc, length-append, get_or, set, insert, slice_get, take, IsDistinct, AreUsed, IsFree, Free, content_at, current_block, Disk, disk_block, block_count, SameGeometry, PairContent, gstate_xor, zero_gstate, Pair, blocks_of_pairs, pairs_gstate, BeginsWith, superblock_entry, used_blocks, Each, number_count, once_from_distinct, distinct_from_once, Site, thread_at, HasFirst, KeepsOutsideBoth, KeptThread, thread_pair_at, empty_anchor, pairs_with, SameGeometryAs, HasOldPair, IsPairWritten, BeginWithSuperblock, gstate_comm, gstate_cons, gstate_right, sync_bit_delta, site_gstate_moved, pairs_with_split, AreTwoFree}
+use Rattle.lfs_operations.proofs.Common.{ℕ, suc, ◌≡◌, ◌+◌, ◌<◌, ◌≤◌, Bool, true, false, cond, eqb-true, nat_eq, List, [], ◌∷◌, ◌++◌, length, Some, refl, sym, ap, ap₂, subst, ◌∙◌, arith, append_assoc, length-append, get_or, set, insert, slice_get, take, IsDistinct, AreUsed, IsFree, Free, content_at, current_block, Disk, disk_block, block_count, SameGeometry, PairContent, gstate_xor, zero_gstate, Pair, pairs_blocks, pairs_gstate, BeginsWith, superblock_entry, used_blocks, Each, number_occurrences, once_from_distinct, distinct_from_once, Site, thread_at, HasFirst, KeepsOutsideBoth, KeptThread, thread_pair, empty_anchor, pairs_with, SameGeometryAs, HasOldPair, IsPairWritten, BeginWithSuperblock, gstate_comm, gstate_cons, gstate_right, sync_bit_delta, site_gstate_moved, pairs_split, AreTwoFree}
 use Rattle.lfs_pair.specs.Commits.{KeepsOutsidePair}
 use Rattle.lfs_operations.proofs.Placing.{IsPlaced, all_apart}
 use Rattle.lfs_operations.proofs.Taking.{within}
@@ -44,10 +44,10 @@ module _ (t : KeptThread) (index : ℕ) (w : Site) (p : Pair) (there : t.pairs �
   place_is : index ≡ length ahead
   place_is = place ∙ sym (length-append w.chain (w.before ++ w.left))
 
-  pub pair_is : thread_pair_at t index ≡ p
+  pub pair_is : thread_pair t index ≡ p
   pair_is = ap₂ (λ (z : List Pair) (i : ℕ). get_or z i empty_anchor) (there ∙ grouped p []) place_is ∙ get_at ahead p behind empty_anchor
 
-  pub at_is : (thread_pair_at t index).at ≡ p.at
+  pub at_is : (thread_pair t index).at ≡ p.at
   at_is = ap (λ (z : Pair). z.at) pair_is
 
   pub below : index < length t.pairs
@@ -60,7 +60,7 @@ module _ (t : KeptThread) (index : ℕ) (w : Site) (p : Pair) (there : t.pairs �
       ap (λ (z : Pair). set t.pairs index (record { at = z.at; content = c })) pair_is
       ∙ ap₂ (λ (z : List Pair) (i : ℕ). set z i q) (there ∙ grouped p []) place_is ∙ set_at ahead p behind q ∙ sym (grouped q [])
 
-  pub two_now : (q f : Pair) → pairs_with_split t.pairs index q f ≡ thread_at w (q ∷ f ∷ [])
+  pub two_now : (q f : Pair) → pairs_split t.pairs index q f ≡ thread_at w (q ∷ f ∷ [])
   two_now q f =
       ap₂ (λ (z : List Pair) (i : ℕ). insert (set z i q) (i + 1) f) (there ∙ grouped p []) place_is
       ∙ ap (λ (z : List Pair). insert z (length ahead + 1) f) (set_at ahead p behind q) ∙ insert_at ahead q behind f ∙ sym (grouped q (f ∷ []))
@@ -70,10 +70,10 @@ module _ (t : KeptThread) (index : ℕ) (w : Site) (p : Pair) (there : t.pairs �
   pub shape_same : {disk : Disk} → SameGeometryAs t.disk disk → SameGeometry t.disk disk
   shape_same s = record { block_size = s.block_size; page = s.page; order = s.order; profile = s.profile; count = s.count }
 
-  pub same_two : (disk : Disk) → KeepsOutsidePair (thread_pair_at t index).at t.disk.blocks disk.blocks → (b : ℕ) → number_count b (blocks_of_pairs (p ∷ [])) ≡ 0 → disk_block disk b ≡ disk_block t.disk b
+  pub same_two : (disk : Disk) → KeepsOutsidePair (thread_pair t index).at t.disk.blocks disk.blocks → (b : ℕ) → number_occurrences b (pairs_blocks (p ∷ [])) ≡ 0 → disk_block disk b ≡ disk_block t.disk b
   same_two disk others b none = (subst (λ at. KeepsOutsidePair at t.disk.blocks disk.blocks) at_is others).others b (all_apart (p.at.0 ∷ p.at.1 ∷ []) b none)
 
-  pub same_four : (disk : Disk) (fresh : ℕ × ℕ) → KeepsOutsideBoth (thread_pair_at t index).at fresh t.disk.blocks disk.blocks → (b : ℕ) → number_count b (fresh.0 ∷ fresh.1 ∷ blocks_of_pairs (p ∷ [])) ≡ 0
+  pub same_four : (disk : Disk) (fresh : ℕ × ℕ) → KeepsOutsideBoth (thread_pair t index).at fresh t.disk.blocks disk.blocks → (b : ℕ) → number_occurrences b (fresh.0 ∷ fresh.1 ∷ pairs_blocks (p ∷ [])) ≡ 0
       → disk_block disk b ≡ disk_block t.disk b
   same_four disk fresh others b none = (subst (λ at. KeepsOutsideBoth at fresh t.disk.blocks disk.blocks) at_is others).others b (all_apart (p.at.0 ∷ p.at.1 ∷ fresh.0 ∷ fresh.1 ∷ []) b (omega arith))
 
@@ -85,7 +85,7 @@ module _ (t : KeptThread) (index : ℕ) (w : Site) (p : Pair) (there : t.pairs �
     first = λ h b. subst (λ at. BeginsWith (current_block disk at) superblock_entry) at_is (is.first (subst (λ at. BeginsWith (current_block t.disk at) superblock_entry) (sym at_is) b) (first h));
   }
 
-  pub placed_still : (disk : Disk) (fresh : ℕ × ℕ) → SameGeometryAs t.disk disk → KeepsOutsideBoth (thread_pair_at t index).at fresh t.disk.blocks disk.blocks → HasOldPair t index disk → IsPlaced t.disk disk p p [] (fresh.0 ∷ fresh.1 ∷ [])
+  pub placed_still : (disk : Disk) (fresh : ℕ × ℕ) → SameGeometryAs t.disk disk → KeepsOutsideBoth (thread_pair t index).at fresh t.disk.blocks disk.blocks → HasOldPair t index disk → IsPlaced t.disk disk p p [] (fresh.0 ∷ fresh.1 ∷ [])
   placed_still disk fresh shape others is = record {
     geometry = shape_same shape;
     same = same_four disk fresh others;
@@ -95,7 +95,7 @@ module _ (t : KeptThread) (index : ℕ) (w : Site) (p : Pair) (there : t.pairs �
 
   -- ---- free blocks
 
-  free_apart : AreUsed t.map (used_blocks t.disk t.pairs) → (b : ℕ) → IsFree t.map b → number_count b (used_blocks t.disk (thread_at w (p ∷ []))) ≡ 0
+  free_apart : AreUsed t.map (used_blocks t.disk t.pairs) → (b : ℕ) → IsFree t.map b → number_occurrences b (used_blocks t.disk (thread_at w (p ∷ []))) ≡ 0
   free_apart used b free = not_used t.map (used_blocks t.disk (thread_at w (p ∷ []))) (subst (λ z. AreUsed t.map (used_blocks t.disk z)) there used) b free
 
   pub fresh_distinct : AreUsed t.map (used_blocks t.disk t.pairs) → IsDistinct nat_eq (used_blocks t.disk t.pairs) → (fresh : ℕ × ℕ) → AreTwoFree t.map fresh
@@ -105,7 +105,7 @@ module _ (t : KeptThread) (index : ℕ) (w : Site) (p : Pair) (there : t.pairs �
       once_there : IsDistinct nat_eq (used_blocks t.disk (thread_at w (p ∷ [])))
       once_there = subst (λ z. IsDistinct nat_eq (used_blocks t.disk z)) there once
 
-      go : (b : ℕ) (x y : Bool) → nat_eq b fresh.0 ≡ x → nat_eq b fresh.1 ≡ y → cond x 1 0 + (cond y 1 0 + number_count b (used_blocks t.disk (thread_at w (p ∷ [])))) ≤ 1
+      go : (b : ℕ) (x y : Bool) → nat_eq b fresh.0 ≡ x → nat_eq b fresh.1 ≡ y → cond x 1 0 + (cond y 1 0 + number_occurrences b (used_blocks t.disk (thread_at w (p ∷ [])))) ≤ 1
       go b false false e f = let n = once_from_distinct (used_blocks t.disk (thread_at w (p ∷ []))) once_there b in omega arith
       go b true true e f = absurd (two.apart (sym (eqb-true b fresh.0 e) ∙ eqb-true b fresh.1 f))
       go b true false e f = let n = free_apart used b (subst (IsFree t.map) (sym (eqb-true b fresh.0 e)) two.first) in omega arith

@@ -1,5 +1,5 @@
 -- A pair of an image with nothing to recover, whose commit turns the sync bit: the step, and what a stop leaves.
-use Rattle.lfs_operations.proofs.Common.{ℕ, ◌≡◌, ◌≢◌, ◌⊎◌, inl, inr, ◌+◌, true, false, List, [], ◌∷◌, ◌++◌, length, Some, refl, sym, ap, subst, ◌∙◌, arith, append-nil, recursion_from_All, Blocks, PairChange, Disk, SameGeometry, HasEither as IsLeftOf, with_blocks, IsWritableSlot, IsWritable, all_slots_not_moved, tree_on_disk, pair_with_slots, FitsInPair, Slot, gstate_xor, zero_gstate, PathAddresses, Pair, pairs_gstate, starts_superblock, Tree, IsAccepted, fits_same, IsChangedImage, SameFiles, no_move_from, Each, SameFileBlocks, HasNoMove, sync_bit_delta, IsStep, IsSite, Site, thread_at, IsDevice, stays_shape, IsWritableChange, ends_joined, KeptThread, LossLeavesPairChanged, BeginWithSuperblock, complete_after, IsSplice, commit_taken, IsReadyImage}
+use Rattle.lfs_operations.proofs.Common.{ℕ, ◌≡◌, ◌≢◌, ◌⊎◌, inl, inr, ◌+◌, true, false, List, [], ◌∷◌, ◌++◌, length, Some, refl, sym, ap, subst, ◌∙◌, arith, append-nil, recursion_from_All, Blocks, PairChange, Disk, SameGeometry, HasEither as IsLeftOf, with_blocks, IsWritableSlot, IsWritable, all_unmoved_slots, disk_tree, pair_with_slots, FitsInPair, Slot, gstate_xor, zero_gstate, PathAddresses, Pair, pairs_gstate, starts_superblock, Tree, IsAccepted, fits_same, IsChangedImage, SameFiles, no_move_from, Each, SameFileBlocks, HasNoMove, sync_bit_delta, IsStep, IsSite, Site, thread_at, IsDevice, stays_shape, IsWritableChange, ends_joined, KeptThread, LossLeavesPair, BeginWithSuperblock, complete_after, IsSplice, commit_taken, IsReadyImage}
 use Rattle.lfs_operations.proofs.MovSet.{HasTurned}
 use Rattle.lfs_operations.proofs.MovTurned.{IsTurn, content_with, left_alone}
 use Rattle.lfs_operations.proofs.Placing.{left_after, left_still}
@@ -18,7 +18,7 @@ pub record IsSyncTurn (t : KeptThread) (index : ℕ) (changes : List PairChange)
   pub front : l ≡ [] → starts_superblock (olds ++ r) ≡ false
   pub fit : Each (IsWritableSlot t.disk.profile t.disk.block_size t.disk.page) news
   pub filled : ends_joined false (w.before ++ w.left) ≡ true → l ++ (news ++ r) ≢ []
-  pub splice : (disk : Disk) → SameGeometry t.disk disk → SameFiles t.disk disk (all_slots_not_moved t.pairs) → IsSplice t.disk disk [] l olds news r
+  pub splice : (disk : Disk) → SameGeometry t.disk disk → SameFiles t.disk disk (all_unmoved_slots t.pairs) → IsSplice t.disk disk [] l olds news r
 
 module _ {t : KeptThread} {index : ℕ} {changes : List PairChange} {w : Site} {p : Pair} {slots l olds news r : List Slot} (k : IsSyncTurn t index changes w p slots l olds news r) where
   abbrev pub pair_turned : Pair
@@ -70,7 +70,7 @@ module _ {t : KeptThread} {index : ℕ} {changes : List PairChange} {w : Site} {
     was = append-nil p.content.slots ∙ k.was;
     is = append-nil slots ∙ k.now;
     splice = k.splice disk x.device.geometry
-        (subst (λ z. SameFiles t.disk disk (all_slots_not_moved z)) (sym k.there) (recursion_from_All (λ (s : Slot). SameFileBlocks t.disk disk s.struct) (all_slots_not_moved (thread_at w (p ∷ []))) x.device.files));
+        (subst (λ z. SameFiles t.disk disk (all_unmoved_slots z)) (sym k.there) (recursion_from_All (λ (s : Slot). SameFileBlocks t.disk disk s.struct) (all_unmoved_slots (thread_at w (p ∷ []))) x.device.files));
   }
 
   -- where the step follows by a change of the tree
@@ -90,10 +90,10 @@ module _ {t : KeptThread} {index : ℕ} {changes : List PairChange} {w : Site} {
         })
         disk [] [] change walk (step_turned disk x) (follows disk (step_turned disk x))
 
-    pub left_turned : (left : Blocks) → LossLeavesPairChanged t index changes left → IsLeftOf (with_blocks left t.disk) (tree_on_disk t.disk t.pairs) (change (tree_on_disk t.disk t.pairs))
+    pub left_turned : (left : Blocks) → LossLeavesPair t index changes left → IsLeftOf (with_blocks left t.disk) (disk_tree t.disk t.pairs) (change (disk_tree t.disk t.pairs))
     left_turned left is = go (left_alone t index changes w p slots (gstate_xor p.content.move sync_bit_delta) turn_of left is)
       where
         go : IsDevice t.disk (with_blocks left t.disk) (thread_at w (p ∷ [])) (thread_at w (p ∷ [])) ⊎ Turned (with_blocks left t.disk)
-            → IsLeftOf (with_blocks left t.disk) (tree_on_disk t.disk t.pairs) (change (tree_on_disk t.disk t.pairs))
-        go (inl on) = left_still t.disk left (thread_at w (p ∷ [])) accepted writable on (inl (ap (tree_on_disk t.disk) (sym k.there)))
-        go (inr x) = left_after (taken_turned (with_blocks left t.disk) x) (inr (ap (λ z. change (tree_on_disk t.disk z)) (sym k.there)))
+            → IsLeftOf (with_blocks left t.disk) (disk_tree t.disk t.pairs) (change (disk_tree t.disk t.pairs))
+        go (inl on) = left_still t.disk left (thread_at w (p ∷ [])) accepted writable on (inl (ap (disk_tree t.disk) (sym k.there)))
+        go (inr x) = left_after (taken_turned (with_blocks left t.disk) x) (inr (ap (λ z. change (disk_tree t.disk z)) (sym k.there)))

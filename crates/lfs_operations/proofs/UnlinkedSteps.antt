@@ -1,5 +1,5 @@
 -- Two steps of the thread, one after the other: what they write and tell.
-use Rattle.lfs_operations.proofs.Common.{◌⊎◌, ℕ, zero, suc, ◌≡◌, ◌≢◌, ◌-◌, ◌<◌, Result, Ok, List, [], ◌∷◌, get_or, set, refl, sym, ap, subst, ◌∙◌, true, false, cond, inl, inr, IsPairCommitted, PairChange, All-from_recursion, recursion_from_All, fault_count, PairContent, Pair, address_blocks, addresses_blocks, KeptThread, ThreadView, ChangesThreadBlocks, empty_anchor, thread_pair_at, sync_bit_delta, All, Error, IsPairDropped, ReportsErrorsOfCommitTakingNoBlock, drops_with_its_slot, written_by_removal, CanRemoveDirectory, ReportsErrorsOfCommitsTakingNoBlock, number_after_drop}
+use Rattle.lfs_operations.proofs.Common.{◌⊎◌, ℕ, zero, suc, ◌≡◌, ◌≢◌, ◌-◌, ◌<◌, Result, Ok, List, [], ◌∷◌, get_or, set, refl, sym, ap, subst, ◌∙◌, true, false, cond, inl, inr, IsPairCommitted, PairChange, All-from_recursion, recursion_from_All, fault_count, PairContent, Pair, address_blocks, addresses_blocks, KeptThread, ThreadView, ChangesThreadBlocks, empty_anchor, thread_pair, sync_bit_delta, All, Error, IsPairDropped, ReportsCommit, drops_with_its_slot, written_by_removal, CanRemoveDirectory, ReportsCommits, number_after_drop}
 use Rattle.lfs_operations.proofs.Putting.{writes_trans, writes_wider}
 use Rattle.lfs_operations.proofs.RemovedWhole.{StandsWhole}
 use Rattle.lfs_operations.proofs.UnlinkedWhole.{written_then}
@@ -26,20 +26,20 @@ at_kept (x ∷ xs) zero (suc k) c d = refl
 at_kept (x ∷ xs) (suc n) zero c d = refl
 at_kept (x ∷ xs) (suc n) (suc k) c d = at_kept xs n k c d
 
-pub at_there : (t m : KeptThread) (index k : ℕ) (changes : List PairChange) → IsPairCommitted t index changes m → (thread_pair_at m k).at ≡ (thread_pair_at t k).at
+pub at_there : (t m : KeptThread) (index k : ℕ) (changes : List PairChange) → IsPairCommitted t index changes m → (thread_pair m k).at ≡ (thread_pair t k).at
 at_there t m index k changes h = ap (λ (z : List Pair). (get_or z k empty_anchor).at) h.pairs ∙ at_kept t.pairs index k h.content empty_anchor
 
-pub writes_two : (t m new : KeptThread) (index gone : ℕ) (changes : List PairChange) → IsPairCommitted t index changes m → ChangesThreadBlocks (address_blocks (thread_pair_at t index).at) t m
-    → ChangesThreadBlocks (address_blocks (thread_pair_at m (gone - 1)).at) m new → ChangesThreadBlocks (addresses_blocks (thread_pair_at t index).at (thread_pair_at t (gone - 1)).at) t new
+pub writes_two : (t m new : KeptThread) (index gone : ℕ) (changes : List PairChange) → IsPairCommitted t index changes m → ChangesThreadBlocks (address_blocks (thread_pair t index).at) t m
+    → ChangesThreadBlocks (address_blocks (thread_pair m (gone - 1)).at) m new → ChangesThreadBlocks (addresses_blocks (thread_pair t index).at (thread_pair t (gone - 1)).at) t new
 writes_two t m new index gone changes h first second =
-    writes_both (thread_pair_at t index).at (thread_pair_at t (gone - 1)).at first (subst (λ at. ChangesThreadBlocks (address_blocks at) m new) (at_there t m index (gone - 1) changes h) second)
+    writes_both (thread_pair t index).at (thread_pair t (gone - 1)).at first (subst (λ at. ChangesThreadBlocks (address_blocks at) m new) (at_there t m index (gone - 1) changes h) second)
 
 -- ---- what they tell
 
-pub steps_from : {X : Type 0} (old new : ThreadView) (result : Result X Error) → ReportsErrorsOfCommitTakingNoBlock old new result → ReportsErrorsOfCommitsTakingNoBlock old new result
+pub steps_from : {X : Type 0} (old new : ThreadView) (result : Result X Error) → ReportsCommit old new result → ReportsCommits old new result
 steps_from old new result h = record { failed = h.failed; errors = h.reported.errors; fault = h.reported.fault; no_fault = h.reported.no_fault }
 
-pub steps_then : {X Y : Type 0} (old mid new : ThreadView) (a : X) (first : Result X Error) (second : Result Y Error) → first ≡ Ok a → ReportsErrorsOfCommitTakingNoBlock old mid first → ReportsErrorsOfCommitTakingNoBlock mid new second → ReportsErrorsOfCommitsTakingNoBlock old new second
+pub steps_then : {X Y : Type 0} (old mid new : ThreadView) (a : X) (first : Result X Error) (second : Result Y Error) → first ≡ Ok a → ReportsCommit old mid first → ReportsCommit mid new second → ReportsCommits old new second
 steps_then old mid new a first second ok one two =
     let same : fault_count mid.kept.history ≡ fault_count old.kept.history = one.reported.no_fault (λ io. absurd (let z = sym ok ∙ io in cc)) in
     record {
@@ -53,18 +53,18 @@ steps_then old mid new a first second ok one two =
 
 module _ (t : KeptThread) (index id first gone : ℕ) (take : CanRemoveDirectory t index id first gone) where
   module _ (s : StandsWhole t index id take.can) where
-    pub writes_whole : (m new : KeptThread) → IsPairDropped t (index - 1) sync_bit_delta m → ChangesThreadBlocks (address_blocks (thread_pair_at t (index - 1)).at) t m → ChangesThreadBlocks (address_blocks (thread_pair_at m (number_after_drop index gone - 1)).at) m new
-        → ChangesThreadBlocks (addresses_blocks (thread_pair_at t (index - 1)).at (thread_pair_at t (gone - 1)).at) t new
+    pub writes_whole : (m new : KeptThread) → IsPairDropped t (index - 1) sync_bit_delta m → ChangesThreadBlocks (address_blocks (thread_pair t (index - 1)).at) t m → ChangesThreadBlocks (address_blocks (thread_pair m (number_after_drop index gone - 1)).at) m new
+        → ChangesThreadBlocks (addresses_blocks (thread_pair t (index - 1)).at (thread_pair t (gone - 1)).at) t new
     writes_whole m new h one two = go (written_then t index id first gone take s m h)
       where
-        go : ((thread_pair_at m (number_after_drop index gone - 1)).at ≡ (thread_pair_at t (gone - 1)).at) ⊎ ((thread_pair_at m (number_after_drop index gone - 1)).at ≡ (thread_pair_at t (index - 1)).at)
-            → ChangesThreadBlocks (addresses_blocks (thread_pair_at t (index - 1)).at (thread_pair_at t (gone - 1)).at) t new
-        go (inl e) = writes_both (thread_pair_at t (index - 1)).at (thread_pair_at t (gone - 1)).at one (subst (λ at. ChangesThreadBlocks (address_blocks at) m new) e two)
-        go (inr e) = writes_first (thread_pair_at t (index - 1)).at (thread_pair_at t (gone - 1)).at (writes_trans one (subst (λ at. ChangesThreadBlocks (address_blocks at) m new) e two))
+        go : ((thread_pair m (number_after_drop index gone - 1)).at ≡ (thread_pair t (gone - 1)).at) ⊎ ((thread_pair m (number_after_drop index gone - 1)).at ≡ (thread_pair t (index - 1)).at)
+            → ChangesThreadBlocks (addresses_blocks (thread_pair t (index - 1)).at (thread_pair t (gone - 1)).at) t new
+        go (inl e) = writes_both (thread_pair t (index - 1)).at (thread_pair t (gone - 1)).at one (subst (λ at. ChangesThreadBlocks (address_blocks at) m new) e two)
+        go (inr e) = writes_first (thread_pair t (index - 1)).at (thread_pair t (gone - 1)).at (writes_trans one (subst (λ at. ChangesThreadBlocks (address_blocks at) m new) e two))
 
 -- which pair the first step writes
-pub written_beside : (t : KeptThread) (index first : ℕ) → drops_with_its_slot t index first ≡ false → written_by_removal t index first ≡ (thread_pair_at t index).at
-written_beside t index first goes = ap (λ b. cond b (thread_pair_at t (index - 1)).at (thread_pair_at t index).at) goes
+pub written_beside : (t : KeptThread) (index first : ℕ) → drops_with_its_slot t index first ≡ false → written_by_removal t index first ≡ (thread_pair t index).at
+written_beside t index first goes = ap (λ b. cond b (thread_pair t (index - 1)).at (thread_pair t index).at) goes
 
-pub written_whole : (t : KeptThread) (index first : ℕ) → drops_with_its_slot t index first ≡ true → written_by_removal t index first ≡ (thread_pair_at t (index - 1)).at
-written_whole t index first goes = ap (λ b. cond b (thread_pair_at t (index - 1)).at (thread_pair_at t index).at) goes
+pub written_whole : (t : KeptThread) (index first : ℕ) → drops_with_its_slot t index first ≡ true → written_by_removal t index first ≡ (thread_pair t (index - 1)).at
+written_whole t index first goes = ap (λ b. cond b (thread_pair t (index - 1)).at (thread_pair t index).at) goes

@@ -1,6 +1,6 @@
 -- An empty directory that goes in two steps of the thread, the first of which drops its entry's pair.
 use Rattle.std.proofs.lemmas.Bool.{ltb-false, ltb-true}
-use Rattle.lfs_operations.proofs.Common.{ℕ, ◌≡◌, ◌⊎◌, inl, inr, ◌+◌, ◌-◌, ◌<◌, ◌≤◌, Bool, true, false, cond, List, [], ◌∷◌, ◌++◌, length, refl, sym, ap, ap₂, subst, ◌∙◌, arith, append_assoc, append-nil, length-append, None, tree_removing, tree_with_subtree, Blocks, Disk, HasEither as IsLeftOf, with_blocks, PairContent, Gstate, Slot, zero_gstate, Pair, pairs_gstate, starts_superblock, pair_count_before_root, Path, IsAccepted, IsWritable, LeadsTo, tree_on_disk, used_blocks, IsCompletion, no_move_from, number_count, HasNoMove, sync_bit_delta, IsStep, directory_goes, step_chain, Site, dirs_at, thread_at, drop_shape, file_blocks, IsWritableChange, KeptThread, IsPairWritten, thread_pair_at, IsChain, nat_lt, drop_taken, CanDropAt, IsPairDropped, LeftByDrop, content_after_drop, ShowsAfterDrops, CanEditIn, tree_without_entry, CanRemoveDirectory, IsDirectoryRemoved, number_after_drop}
+use Rattle.lfs_operations.proofs.Common.{ℕ, ◌≡◌, ◌⊎◌, inl, inr, ◌+◌, ◌-◌, ◌<◌, ◌≤◌, Bool, true, false, cond, List, [], ◌∷◌, ◌++◌, length, refl, sym, ap, ap₂, subst, ◌∙◌, arith, append_assoc, append-nil, length-append, None, tree_removing, tree_with_subtree, Blocks, Disk, HasEither as IsLeftOf, with_blocks, PairContent, Gstate, Slot, zero_gstate, Pair, pairs_gstate, starts_superblock, count_before_root, Path, IsAccepted, IsWritable, LeadsTo, disk_tree, used_blocks, CompletesOperation, no_move_from, number_occurrences, HasNoMove, sync_bit_delta, IsStep, directory_goes, step_chain, Site, dirs_at, thread_at, drop_shape, file_blocks, IsWritableChange, KeptThread, IsPairWritten, thread_pair, IsChain, nat_lt, drop_taken, CanDropAt, IsPairDropped, LeftByDrop, content_after_drop, ShowsDroppedTree, CanEditIn, tree_without_entry, CanRemoveDirectory, IsDirectoryRemoved, number_after_drop}
 use Rattle.lfs_model.specs.session.Operations as ops
 use Rattle.lfs_operations.proofs.Dropped.{HasMapWithout, IsToBeDropped, can_drop_pair, device_left, front_there, left_dropped, map_dropped, pairs_left, slots_left, state_left, tail_left}
 use Rattle.lfs_operations.proofs.DroppedTails.{front_is}
@@ -21,7 +21,7 @@ module _ (t : KeptThread) (index id first gone : ℕ) (take : CanRemoveDirectory
   u = can.stands.stands.slot
 
   abbrev o : Pair
-  o = thread_pair_at t gone
+  o = thread_pair t gone
 
   abbrev w : Site
   w = s.w
@@ -173,15 +173,15 @@ module _ (t : KeptThread) (index id first gone : ℕ) (take : CanRemoveDirectory
 
     map_middle : HasMapWithout t.map m.map (used_blocks m.disk m.pairs)
     map_middle = map_dropped dropping m h (no_move_from t.pairs can.ready.settled) (record { kind = refl; id = refl; pair = refl }) can.ready.used (used_blocks m.disk m.pairs) (λ b.
-        let f3 = ap (λ z. number_count b (file_blocks t.disk z)) s.held in
-        let f4 : number_count b (file_blocks t.disk (u ∷ [])) ≡ 0 = ap (λ z. number_count b (file_blocks t.disk (record u { struct = z } ∷ []))) take.branch in
+        let f3 = ap (λ z. number_occurrences b (file_blocks t.disk z)) s.held in
+        let f4 : number_occurrences b (file_blocks t.disk (u ∷ [])) ≡ 0 = ap (λ z. number_occurrences b (file_blocks t.disk (record u { struct = z } ∷ []))) take.branch in
         omega arith)
 
     chain_middle : IsChain w.chain (dirs_at w (q ∷ []))
     chain_middle = step_chain t.disk m.disk w x0 (e ∷ []) q [] [] [] x0.content.slots (u ∷ []) [] [] (step m.disk h.written)
 
     -- the directory's own pair may go
-    pub may_go : IsAllButDropped t m (thread_pair_at t gone) (number_after_drop index gone) (tree_removing (take.can.path ++ take.can.stands.stands.slot.name ∷ [])) (tree_with_subtree (take.can.path ++ take.can.stands.stands.slot.name ∷ []) (λ t. None))
+    pub may_go : IsAllButDropped t m (thread_pair t gone) (number_after_drop index gone) (tree_removing (take.can.path ++ take.can.stands.stands.slot.name ∷ [])) (tree_with_subtree (take.can.path ++ take.can.stands.stands.slot.name ∷ []) (λ t. None))
     may_go = record {
       ready = can.ready;
       taken = subst (λ z. IsWritableChange t.disk t.pairs m.disk z (tree_removing path_there) (tree_with_subtree path_there (λ t. None))) (sym pairs_middle)
@@ -200,45 +200,45 @@ module _ (t : KeptThread) (index id first gone : ℕ) (take : CanRemoveDirectory
       used = map_middle.used;
       size = map_middle.size ∙ can.ready.size ∙ sym h.written.shape.count;
       flying = map_middle.flying;
-      root = ap pair_count_before_root pairs_middle ∙ chain_middle ∙ sym (ap pair_count_before_root s.there ∙ s.site.chain);
+      root = ap count_before_root pairs_middle ∙ chain_middle ∙ sym (ap count_before_root s.there ∙ s.site.chain);
       shape = h.written.shape;
     }
 
-    turned : tree_removing (can.path ++ u.name ∷ []) (tree_on_disk t.disk t.pairs) ≡ tree_without_entry t take.can.path take.can.name
-    turned = ap (λ n. tree_removing (can.path ++ n ∷ []) (tree_on_disk t.disk t.pairs)) can.stands.stands.named
+    turned : tree_removing (can.path ++ u.name ∷ []) (disk_tree t.disk t.pairs) ≡ tree_without_entry t take.can.path take.can.name
+    turned = ap (λ n. tree_removing (can.path ++ n ∷ []) (disk_tree t.disk t.pairs)) can.stands.stands.named
 
-    x_now : thread_pair_at m (now - 1) ≡ k.x
+    x_now : thread_pair m (now - 1) ≡ k.x
     unfolding may_go
     x_now = x_there may_go
 
     -- the pair that is written in the second step is where the one in front of it was, or where the one in front of the entry's was
-    pub written_then : ((thread_pair_at m (now - 1)).at ≡ (thread_pair_at t (gone - 1)).at) ⊎ ((thread_pair_at m (now - 1)).at ≡ (thread_pair_at t (index - 1)).at)
+    pub written_then : ((thread_pair m (now - 1)).at ≡ (thread_pair t (gone - 1)).at) ⊎ ((thread_pair m (now - 1)).at ≡ (thread_pair t (index - 1)).at)
     written_then = go k.was
       where
         is_old : t.pairs ≡ (w.chain ++ front.front) ++ front.before ∷ o ∷ (front.run ++ front.after)
         is_old = s.there ∙ ap (λ z. w.chain ++ z) own.dirs_are ∙ sym (append_assoc w.chain front.front (front.before ∷ o ∷ (front.run ++ front.after)))
 
-        old_front : thread_pair_at t (gone - 1) ≡ front.before
+        old_front : thread_pair t (gone - 1) ≡ front.before
         old_front = front_is t (gone - 1) (w.chain ++ front.front) front.before o (front.run ++ front.after) is_old (let g = own.number in omega arith)
 
-        go : (k.x.at ≡ front.before.at) ⊎ (k.x.at ≡ x0.at) → ((thread_pair_at m (now - 1)).at ≡ (thread_pair_at t (gone - 1)).at) ⊎ ((thread_pair_at m (now - 1)).at ≡ (thread_pair_at t (index - 1)).at)
+        go : (k.x.at ≡ front.before.at) ⊎ (k.x.at ≡ x0.at) → ((thread_pair m (now - 1)).at ≡ (thread_pair t (gone - 1)).at) ⊎ ((thread_pair m (now - 1)).at ≡ (thread_pair t (index - 1)).at)
         go (inl z) = inl (ap (λ (v : Pair). v.at) x_now ∙ z ∙ ap (λ (v : Pair). v.at) (sym old_front))
         go (inr z) = inr (ap (λ (v : Pair). v.at) x_now ∙ z ∙ ap (λ (v : Pair). v.at) (sym (front_there dropping)))
 
     pub whole_removed : (new : KeptThread) → IsPairDropped m (now - 1) zero_gstate new → IsDirectoryRemoved t new take.can.path take.can.name
     unfolding may_go
     whole_removed new g = record {
-      now = subst (λ z. ShowsAfterDrops t new z []) turned (shows_dropped may_go new g);
-      completed = λ z given tree is_path. subst (λ s. IsCompletion t.disk s z (ops.Remove given) new.disk new.pairs) (sym s.there)
-          (subst (λ s. IsCompletion t.disk old z (ops.Remove given) new.disk s) (sym (pairs_end may_go new g))
-          (k.completed new.disk (y may_go) (is_gone may_go new.disk g.written) z given (tree ∙ ap (tree_on_disk t.disk) s.there) (is_path ∙ ap (λ n. can.path ++ n ∷ []) (sym can.stands.stands.named))));
+      now = subst (λ z. ShowsDroppedTree t new z []) turned (shows_dropped may_go new g);
+      completed = λ z given tree is_path. subst (λ s. CompletesOperation t.disk s z (ops.Remove given) new.disk new.pairs) (sym s.there)
+          (subst (λ s. CompletesOperation t.disk old z (ops.Remove given) new.disk s) (sym (pairs_end may_go new g))
+          (k.completed new.disk (y may_go) (is_gone may_go new.disk g.written) z given (tree ∙ ap (disk_tree t.disk) s.there) (is_path ∙ ap (λ n. can.path ++ n ∷ []) (sym can.stands.stands.named))));
     }
 
     -- what a stop in the second step leaves
-    pub whole_second : (left : Blocks) → LeftByDrop m (now - 1) zero_gstate left → IsLeftOf (with_blocks left t.disk) (tree_on_disk t.disk t.pairs) (tree_without_entry t take.can.path take.can.name)
-    whole_second left g = subst (IsLeftOf (with_blocks left t.disk) (tree_on_disk t.disk t.pairs)) turned (left_last may_go left g)
+    pub whole_second : (left : Blocks) → LeftByDrop m (now - 1) zero_gstate left → IsLeftOf (with_blocks left t.disk) (disk_tree t.disk t.pairs) (tree_without_entry t take.can.path take.can.name)
+    whole_second left g = subst (IsLeftOf (with_blocks left t.disk) (disk_tree t.disk t.pairs)) turned (left_last may_go left g)
 
   -- ---- at a stop in the first step
 
-  pub whole_first : (left : Blocks) → LeftByDrop t (index - 1) sync_bit_delta left → IsLeftOf (with_blocks left t.disk) (tree_on_disk t.disk t.pairs) (tree_without_entry t can.path can.name)
-  whole_first = left_dropped dropping (inl refl) (λ disk written. left_after (first_taken disk written) (inr (ap₂ (λ n z. tree_removing (can.path ++ n ∷ []) (tree_on_disk t.disk z)) can.stands.stands.named (sym s.there))))
+  pub whole_first : (left : Blocks) → LeftByDrop t (index - 1) sync_bit_delta left → IsLeftOf (with_blocks left t.disk) (disk_tree t.disk t.pairs) (tree_without_entry t can.path can.name)
+  whole_first = left_dropped dropping (inl refl) (λ disk written. left_after (first_taken disk written) (inr (ap₂ (λ n z. tree_removing (can.path ++ n ∷ []) (disk_tree t.disk z)) can.stands.stands.named (sym s.there))))

@@ -1,21 +1,13 @@
 -- A worn pair behind a hard tail is at two other blocks: the image shows the same tree, also at a stop.
 use Rattle.std.proofs.Common.{ℕ, suc, ◌≡◌, ◌+◌, ◌-◌, ◌%◌, ◌^◌, ◌<◌, ◌≤◌, ◌⊎◌, inl, inr, true, cond, nat_eq, List, [], ◌∷◌, ◌++◌, length, Some, refl, sym, ap, ap₂, subst, subst₂, ◌∙◌, arith, append_assoc, length-append, set, take, drop, ◌&&◌}
 use Rattle.std.specs.Prelude.{All}
-use Rattle.std.specs.Option.{option_map}
-use Rattle.lfs_operations.proofs.Common.{All-from_recursion, IsDistinct, recursion_from_All, take-append-drop, once_from_distinct, Blocks, SameExceptThese, AreUsed, BlockStates, content_at, current_block, Disk, HasEither, with_blocks, FitsInPair, Slot, Pair, pairs_gstate, is_hard_tail, address_blocks, addresses_blocks, first_address, first_slots, has_superblock, pair_count_before_root, pairs_from_root, starts_superblock, BeginsWith, superblock_entry, IsAccepted, IsWritable, all_slots_not_moved, tree_on_disk, used_blocks, Each, each_right, HasNoMove, zero_gstate, no_move_from, IsChain, pairs_behind, Site, IsDevice, KeepsOutsideBoth, KeptThread, SameGeometryAs, HasOldPair, ChangesThreadBlocks, map_freeing, map_using, thread_pair_at}
-use Rattle.lfs_model.specs.format.Thread.{from_first_slots, has_slots, has_no_entry, starts_or}
-use Rattle.lfs_model.specs.layers.Steps.{KeepsStruct, SameFileBlocks}
-use Rattle.lfs_model.specs.session.SlotEdits.{slot_of}
-use Rattle.lfs_model.specs.session.Moved.{is_worn, pair_joined_to}
-use Rattle.lfs_model.proofs.Devices.{device_from}
+use Rattle.lfs_operations.proofs.Common.{All-from_recursion, IsDistinct, recursion_from_All, take-append-drop, once_from_distinct, Blocks, SameExceptThese, AreUsed, BlockStates, content_at, current_block, Disk, HasEither, with_blocks, FitsInPair, Slot, Pair, pairs_gstate, is_hard_tail, address_blocks, addresses_blocks, first_address, first_pair_slots, has_superblock, count_before_root, pairs_from_root, starts_superblock, BeginsWith, superblock_entry, IsAccepted, IsWritable, all_unmoved_slots, disk_tree, used_blocks, Each, each_right, HasNoMove, zero_gstate, no_move_from, IsChain, pairs_behind, Site, IsDevice, KeepsOutsideBoth, KeptThread, SameGeometryAs, HasOldPair, ChangesThreadBlocks, map_freeing, map_using, thread_pair, option_map, from_first_slots, has_slots, has_no_entry, KeepsStruct, slot_of, is_worn, pair_joined_to, device_from, IsSameWritable, CanMoveNext, IsNextMoved, LossLeavesNextMoved, pair_revision, KeepsSuperblockFirst, AreTwoFree, map_taking_two, SameInFlight}
+use Rattle.lfs_model.specs.format.Thread.{starts_or_later}
+use Rattle.lfs_model.specs.layers.Steps.{SameFileBlocks}
 use Rattle.lfs_model.proofs.MovedBlocks.{relocated_blocks, relocated_length}
 use Rattle.lfs_model.proofs.Relocated.{IsRelocated}
-use Rattle.lfs_model.proofs.RootSteps.{IsSameWritable}
 use Rattle.lfs_model.proofs.Worn.{pair_moves}
-use Rattle.lfs_thread.specs.Moves.{BeginsWithAnySuperblock, CanMoveNext, IsNextMoved, LossLeavesNextMoved, NextMovedOnDisk, pair_revision}
-use Rattle.lfs_thread.specs.ThreadSteps.{KeepsSuperblockFirst}
-use Rattle.lfs_operations.specs.Changing.{AreTwoFree, map_taking_two}
-use Rattle.lfs_operations.specs.Dropping.{SameInFlight}
+use Rattle.lfs_thread.specs.Moves.{BeginsWithAnySuperblock, NextMovedOnDisk}
 use Rattle.lfs_operations.specs.Wear.{CanMovePair, IsMovedAt}
 use Rattle.lfs_operations.proofs.Dropped.{HasMapWithout, map_without}
 use Rattle.lfs_operations.proofs.DroppedTails.{TwoAt, gone_is, two_at}
@@ -37,11 +29,11 @@ set_next (z ∷ xs) q x ys y =
 -- as many pairs come before the root directory's first one
 module _ (p x : Pair) (to : ℕ × ℕ) (back : List Pair) (hard : is_hard_tail p.content.tail ≡ true) where
   superblock_same : (ahead : List Pair) → has_superblock (ahead ++ pair_joined_to to p.content.slots p ∷ record x { at = to } ∷ back) ≡ has_superblock (ahead ++ p ∷ x ∷ back)
-  superblock_same [] = ap (λ b. starts_or p.content.slots (b && has_superblock (x ∷ back))) (sym hard)
-  superblock_same (z ∷ ahead) = ap (λ b. starts_or z.content.slots (is_hard_tail z.content.tail && b)) (superblock_same ahead)
+  superblock_same [] = ap (λ b. starts_or_later p.content.slots (b && has_superblock (x ∷ back))) (sym hard)
+  superblock_same (z ∷ ahead) = ap (λ b. starts_or_later z.content.slots (is_hard_tail z.content.tail && b)) (superblock_same ahead)
 
-  count_same : (ahead : List Pair) → pair_count_before_root (ahead ++ pair_joined_to to p.content.slots p ∷ record x { at = to } ∷ back) ≡ pair_count_before_root (ahead ++ p ∷ x ∷ back)
-  count_same [] = ap (λ b. cond (has_superblock (x ∷ back) && (has_no_entry p.content.slots && b)) (1 + pair_count_before_root (x ∷ back)) 0) (sym hard)
+  count_same : (ahead : List Pair) → count_before_root (ahead ++ pair_joined_to to p.content.slots p ∷ record x { at = to } ∷ back) ≡ count_before_root (ahead ++ p ∷ x ∷ back)
+  count_same [] = ap (λ b. cond (has_superblock (x ∷ back) && (has_no_entry p.content.slots && b)) (1 + count_before_root (x ∷ back)) 0) (sym hard)
   count_same (z ∷ ahead) = ap₂ (λ b n. cond (b && (has_no_entry z.content.slots && is_hard_tail z.content.tail)) (1 + n) 0) (superblock_same ahead) (count_same ahead)
 
 -- ---- on a disk
@@ -49,10 +41,10 @@ module _ (p x : Pair) (to : ℕ × ℕ) (back : List Pair) (hard : is_hard_tail 
 -- the pair before leads to the two blocks, and they have what the worn pair had
 record IsThere (t : KeptThread) (front : ℕ) (p x : Pair) (fresh : ℕ × ℕ) (disk : Disk) : Type 0 where
   shape : SameGeometryAs t.disk disk
-  others : KeepsOutsideBoth (thread_pair_at t front).at fresh t.disk.blocks disk.blocks
+  others : KeepsOutsideBoth (thread_pair t front).at fresh t.disk.blocks disk.blocks
   leads : content_at disk p.at ≡ Some (pair_joined_to fresh p.content.slots p).content
   moved : content_at disk fresh ≡ Some x.content
-  first : KeepsSuperblockFirst t.disk (thread_pair_at t front).at (pair_joined_to fresh p.content.slots p).content disk
+  first : KeepsSuperblockFirst t.disk (thread_pair t front).at (pair_joined_to fresh p.content.slots p).content disk
   anew : BeginsWithAnySuperblock (record x { at = fresh }) disk
 
 module _ (t : KeptThread) (index : ℕ) (can : CanMovePair t index) (at : TwoAt t.pairs (index - 1)) (fresh : ℕ × ℕ) (two : AreTwoFree t.map fresh) where
@@ -87,14 +79,14 @@ module _ (t : KeptThread) (index : ℕ) (can : CanMovePair t index) (at : TwoAt 
   place : index - 1 ≡ length at.ahead + 0
   place = let n = at.number in omega arith
 
-  front_there : thread_pair_at t (index - 1) ≡ at.one
+  front_there : thread_pair t (index - 1) ≡ at.one
   front_there = beside.pair_there t can.ready front at.ahead p (x ∷ at.back) at.is place fresh two
 
-  next_there : thread_pair_at t (index - 1 + 1) ≡ at.other
+  next_there : thread_pair t (index - 1 + 1) ≡ at.other
   next_there = gone_is t front at.ahead p x at.back at.is at.number
 
-  worn_there : thread_pair_at t index ≡ at.other
-  worn_there = ap (thread_pair_at t) (let a = can.above in omega arith) ∙ next_there
+  worn_there : thread_pair t index ≡ at.other
+  worn_there = ap (thread_pair t) (let a = can.above in omega arith) ∙ next_there
 
   hard : is_hard_tail at.one.content.tail ≡ true
   hard = ap (λ (z : Pair). is_hard_tail z.content.tail) (sym front_there) ∙ can.joined
@@ -158,37 +150,37 @@ module _ (t : KeptThread) (index : ℕ) (can : CanMovePair t index) (at : TwoAt 
   -- ---- at a stop
 
   -- with an accepted image of the same tree
-  shows_same : (disk : Disk) → IsThere t (index - 1) at.one at.other fresh disk → HasEither disk (tree_on_disk t.disk t.pairs) (tree_on_disk t.disk t.pairs)
+  shows_same : (disk : Disk) → IsThere t (index - 1) at.one at.other fresh disk → HasEither disk (disk_tree t.disk t.pairs) (disk_tree t.disk t.pairs)
   shows_same disk is =
       let s = same_writable disk is in
-      record { pairs = qs; accepted = s.same.accepted; writable = s.writable; tree = inl (s.same.shows ∙ ap (tree_on_disk t.disk) (sym at.is)) }
+      record { pairs = qs; accepted = s.same.accepted; writable = s.writable; tree = inl (s.same.shows ∙ ap (disk_tree t.disk) (sym at.is)) }
 
-  pub left_moved : (left : Blocks) → LossLeavesNextMoved (with_map t (map_taking_two t.map fresh)) (index - 1) fresh left → HasEither (with_blocks left t.disk) (tree_on_disk t.disk t.pairs) (tree_on_disk t.disk t.pairs)
+  pub left_moved : (left : Blocks) → LossLeavesNextMoved (with_map t (map_taking_two t.map fresh)) (index - 1) fresh left → HasEither (with_blocks left t.disk) (disk_tree t.disk t.pairs) (disk_tree t.disk t.pairs)
   left_moved left l = go l.content
     where
       shape : SameGeometryAs t.disk (with_blocks left t.disk)
       shape = record { block_size = refl; page = refl; order = refl; profile = refl; count = l.others.count }
 
       go : HasOldPair (with_map t (map_taking_two t.map fresh)) (index - 1) (with_blocks left t.disk) ⊎ NextMovedOnDisk (with_map t (map_taking_two t.map fresh)) (index - 1) fresh (with_blocks left t.disk)
-          → HasEither (with_blocks left t.disk) (tree_on_disk t.disk t.pairs) (tree_on_disk t.disk t.pairs)
+          → HasEither (with_blocks left t.disk) (disk_tree t.disk t.pairs) (disk_tree t.disk t.pairs)
       go (inl b) = beside.left_old t can.ready front at.ahead p (x ∷ at.back) at.is place fresh two left l.others b
       go (inr n) = shows_same (with_blocks left t.disk) (record {
         shape = shape;
         others = l.others;
         leads = subst (λ (z : Pair). content_at (with_blocks left t.disk) z.at ≡ Some (pair_joined_to fresh z.content.slots z).content) front_there n.leads;
         moved = n.moved ∙ ap (λ (z : Pair). Some z.content) next_there;
-        first = subst (λ (z : Pair). KeepsSuperblockFirst t.disk (thread_pair_at t (index - 1)).at (pair_joined_to fresh z.content.slots z).content (with_blocks left t.disk)) front_there n.first;
+        first = subst (λ (z : Pair). KeepsSuperblockFirst t.disk (thread_pair t (index - 1)).at (pair_joined_to fresh z.content.slots z).content (with_blocks left t.disk)) front_there n.first;
         anew = subst (λ (z : Pair). BeginsWithAnySuperblock (record z { at = fresh }) (with_blocks left t.disk)) next_there n.anew;
       })
 
-  pub left_beside_on : (new : KeptThread) → ChangesThreadBlocks (addresses_blocks (thread_pair_at t (index - 1)).at fresh) (with_map t (map_taking_two t.map fresh)) new → SameExceptThese (address_blocks fresh) t.disk.blocks new.disk.blocks
-      → HasEither new.disk (tree_on_disk t.disk t.pairs) (tree_on_disk t.disk t.pairs)
+  pub left_beside_on : (new : KeptThread) → ChangesThreadBlocks (addresses_blocks (thread_pair t (index - 1)).at fresh) (with_map t (map_taking_two t.map fresh)) new → SameExceptThese (address_blocks fresh) t.disk.blocks new.disk.blocks
+      → HasEither new.disk (disk_tree t.disk t.pairs) (disk_tree t.disk t.pairs)
   left_beside_on new writes others = beside.left_beside_on t can.ready front at.ahead p (x ∷ at.back) at.is place fresh two new writes others
 
   -- ---- it was done
 
   module _ (new : KeptThread) (is : IsNextMoved (with_map t (map_taking_two t.map fresh)) (index - 1) fresh new)
-      (writes : ChangesThreadBlocks (addresses_blocks (thread_pair_at t (index - 1)).at fresh) (with_map t (map_taking_two t.map fresh)) new) where
+      (writes : ChangesThreadBlocks (addresses_blocks (thread_pair t (index - 1)).at fresh) (with_map t (map_taking_two t.map fresh)) new) where
     pairs : new.pairs ≡ qs
     pairs = is.pairs ∙ ap₂ (λ (a b : Pair). set (set t.pairs front (pair_joined_to fresh a.content.slots a)) (front + 1) (record b { at = fresh })) front_there next_there
         ∙ ap₂ (λ (z : List Pair) (i : ℕ). set (set z i q) (i + 1) y) at.is (sym at.number)
@@ -204,7 +196,7 @@ module _ (t : KeptThread) (index : ℕ) (can : CanMovePair t index) (at : TwoAt 
       others = writes.others;
       leads = contents.0;
       moved = contents.1.0;
-      first = subst (λ (z : Pair). KeepsSuperblockFirst t.disk (thread_pair_at t (index - 1)).at (pair_joined_to fresh z.content.slots z).content new.disk) front_there is.first;
+      first = subst (λ (z : Pair). KeepsSuperblockFirst t.disk (thread_pair t (index - 1)).at (pair_joined_to fresh z.content.slots z).content new.disk) front_there is.first;
       anew = subst (λ (z : Pair). BeginsWithAnySuperblock (record z { at = fresh }) new.disk) next_there is.anew;
     }
 
@@ -253,15 +245,15 @@ module _ (t : KeptThread) (index : ℕ) (can : CanMovePair t index) (at : TwoAt 
           size = now.size ∙ length_now t.map fresh two ∙ can.ready.size ∙ sym writes.shape.count;
           large = subst (λ n. 1024 ≤ n) (sym writes.shape.block_size) can.ready.large;
         };
-        shows = ap (tree_on_disk new.disk) pairs ∙ same.same.shows ∙ ap (tree_on_disk t.disk) (sym at.is);
+        shows = ap (disk_tree new.disk) pairs ∙ same.same.shows ∙ ap (disk_tree t.disk) (sym at.is);
         structs = λ path. subst₂ (λ a b. KeepsStruct (slot_of a path) (slot_of b path)) (sym at.is) (sym pairs) (same.same.stays path);
-        lists = subst (λ z. All (λ s. SameFileBlocks t.disk new.disk s.struct) (all_slots_not_moved z)) (sym at.is) (relocated new.disk there).device.files;
+        lists = subst (λ z. All (λ s. SameFileBlocks t.disk new.disk s.struct) (all_unmoved_slots z)) (sym at.is) (relocated new.disk there).device.files;
         flying = flying;
       };
       revision = is.revision ∙ ap (λ (z : Pair). option_map (λ r. (r + 1) % 2 ^ 32) (pair_revision t.disk z.at)) next_there;
       as_many = ap (λ z. length (used_blocks new.disk z)) pairs ∙ relocated_length t.disk new.disk at.ahead p x q y at.back no_move (relocated new.disk there)
           ∙ ap (λ z. length (used_blocks t.disk z)) (sym at.is);
-      root = ap pair_count_before_root pairs ∙ count_same p x fresh at.back hard at.ahead ∙ ap pair_count_before_root (sym at.is);
+      root = ap count_before_root pairs ∙ count_same p x fresh at.back hard at.ahead ∙ ap count_before_root (sym at.is);
     }
 
 -- ---- in the operation's words

@@ -1,28 +1,18 @@
 -- A worn pair gives its slots to a fresh pair behind it, and keeps its first ones: the image shows the same tree, also at a stop.
 use Rattle.std.proofs.Common.{ℕ, ◌≡◌, ◌≢◌, ◌+◌, ◌-◌, ◌%◌, ◌^◌, ◌<◌, ◌≤◌, ◌⊎◌, inl, inr, Bool, true, false, cond, List, [], ◌∷◌, ◌++◌, length, Some, refl, sym, ap, ap₂, subst, subst₂, ◌∙◌, arith, append_assoc, length-append, slice_get, take, drop}
 use Rattle.std.specs.Prelude.{All}
-use Rattle.std.specs.Option.{option_map}
 use Rattle.std.proofs.lemmas.Bool.{and_from}
-use Rattle.std.proofs.lemmas.List.{length-take-le}
-use Rattle.lfs_operations.proofs.Common.{All-from_recursion, recursion_from_All, take-append-drop, Blocks, SameExceptThese, AreUsed, content_at, Disk, FitsInPair, IsWritable, HasNoMove, no_move_from, HasEither, with_blocks, Slot, Pair, pairs_gstate, is_hard_tail, address_blocks, addresses_blocks, has_superblock, may_continue, pair_count_before_root, starts_superblock, IsAccepted, all_slots_not_moved, tree_on_disk, used_blocks, Each, each_right, IsChain, HasFirst, file_blocks, KeptThread, SameGeometryAs, HasOldPair, ChangesThreadBlocks, BeginWithSuperblock, thread_pair_at, KeepsOutsideBoth}
-use Rattle.lfs_model.specs.format.Thread.{from_first_slots, has_slots, has_no_entry}
-use Rattle.lfs_model.specs.layers.Steps.{KeepsStruct, SameFileBlocks, ends_joined}
-use Rattle.lfs_model.specs.session.Moved.{LeavesEighth, is_worn, pair_behind, pair_joined_to}
-use Rattle.lfs_model.specs.session.SlotEdits.{slot_of}
-use Rattle.lfs_model.specs.tree.View.{HasStruct, first_slot_name, IsSuperblockFirst, IsTreeEntry}
+use Rattle.lfs_operations.proofs.Common.{All-from_recursion, recursion_from_All, take-append-drop, Blocks, SameExceptThese, AreUsed, content_at, Disk, FitsInPair, IsWritable, HasNoMove, no_move_from, HasEither, with_blocks, Slot, Pair, pairs_gstate, is_hard_tail, address_blocks, addresses_blocks, has_superblock, may_continue, count_before_root, starts_superblock, IsAccepted, all_unmoved_slots, disk_tree, used_blocks, Each, each_right, IsChain, HasFirst, file_blocks, KeptThread, SameGeometryAs, HasOldPair, ChangesThreadBlocks, BeginWithSuperblock, thread_pair, KeepsOutsideBoth, option_map, length-take-le, from_first_slots, has_slots, has_no_entry, KeepsStruct, is_worn, pair_joined_to, slot_of, first_slot_name, IsTreeEntry, IsSameWritable, Unthreads, pair_revision, KeepsSuperblockFirst, pairs_split, CanUnload, IsUnloaded, LossLeavesUnloaded, AreTwoFree, map_taking_two, SameInFlight, IsReadyImage}
+use Rattle.lfs_model.specs.layers.Steps.{SameFileBlocks, ends_joined}
+use Rattle.lfs_model.specs.session.Moved.{LeavesEighth, pair_behind}
+use Rattle.lfs_model.specs.tree.View.{HasStruct, IsSuperblockFirst}
 use Rattle.lfs_model.proofs.BlockSets.{used_count-AreUsed}
 use Rattle.lfs_model.proofs.MovedBlocks.{unloaded_blocks, unloaded_length}
 use Rattle.lfs_model.proofs.Relocated as laws
-use Rattle.lfs_model.proofs.RootSteps.{IsSameWritable, kept_bare, root_unloads}
+use Rattle.lfs_model.proofs.RootSteps.{kept_bare, root_unloads}
 use Rattle.lfs_model.proofs.Superblocks.{StructMark, hold_each, hold_from_rules, meets_starting, starts, starts_not}
 use Rattle.lfs_model.proofs.Unloaded.{unload}
-use Rattle.lfs_model.proofs.Unthreaded.{Unthreads}
-use Rattle.lfs_thread.specs.Moves.{pair_revision}
-use Rattle.lfs_thread.specs.ThreadSteps.{KeepsSuperblockFirst, pairs_with_split}
-use Rattle.lfs_thread.specs.Unloads.{CanUnload, IsUnloaded, LossLeavesUnloaded, UnloadedOnDisk}
-use Rattle.lfs_operations.specs.Changing.{AreTwoFree, map_taking_two}
-use Rattle.lfs_operations.specs.Dropping.{SameInFlight}
-use Rattle.lfs_operations.specs.Ready.{IsReadyImage}
+use Rattle.lfs_thread.specs.Unloads.{UnloadedOnDisk}
 use Rattle.lfs_operations.specs.Wear.{CanExpandRoot, CanUnloadPair, IsRootExpanded, IsUnloadedAt, HasRoomToUnload, ShowsSameFiles}
 use Rattle.lfs_operations.proofs.DroppedTails.{TwoAt, front_is, two_at}
 use Rattle.lfs_operations.proofs.FreshBeside as beside
@@ -39,15 +29,15 @@ record IsLaw (t : KeptThread) (ahead : List Pair) (x : Pair) (back : List Pair) 
   kept : keep ≤ length x.content.slots
   taken : (disk : Disk) → laws.IsUnloaded t.disk disk ahead x (pair_joined_to fresh (take keep x.content.slots) x) (pair_behind fresh x) back (take keep x.content.slots)
       → IsSameWritable t.disk (ahead ++ x ∷ back) disk (ahead ++ pair_joined_to fresh (take keep x.content.slots) x ∷ pair_behind fresh x ∷ back)
-      × (pair_count_before_root (ahead ++ pair_joined_to fresh (take keep x.content.slots) x ∷ pair_behind fresh x ∷ back) ≡ root)
+      × (count_before_root (ahead ++ pair_joined_to fresh (take keep x.content.slots) x ∷ pair_behind fresh x ∷ back) ≡ root)
 
 -- the pair has its first slots, and the two blocks have all
 record IsThere (t : KeptThread) (index : ℕ) (x : Pair) (keep : ℕ) (fresh : ℕ × ℕ) (disk : Disk) : Type 0 where
   shape : SameGeometryAs t.disk disk
-  others : KeepsOutsideBoth (thread_pair_at t index).at fresh t.disk.blocks disk.blocks
+  others : KeepsOutsideBoth (thread_pair t index).at fresh t.disk.blocks disk.blocks
   keeps : content_at disk x.at ≡ Some (pair_joined_to fresh (take keep x.content.slots) x).content
   behind : content_at disk fresh ≡ Some (pair_behind fresh x).content
-  first : KeepsSuperblockFirst t.disk (thread_pair_at t index).at (pair_joined_to fresh (take keep x.content.slots) x).content disk
+  first : KeepsSuperblockFirst t.disk (thread_pair t index).at (pair_joined_to fresh (take keep x.content.slots) x).content disk
 
 module _ (t : KeptThread) (ready : IsReadyImage t) (index : ℕ) (ahead : List Pair) (x : Pair) (back : List Pair) (is : t.pairs ≡ ahead ++ x ∷ back) (place : index ≡ length ahead + 0)
     (keep : ℕ) (fresh : ℕ × ℕ) (two : AreTwoFree t.map fresh) (root : ℕ) (law : IsLaw t ahead x back keep fresh root) where
@@ -63,7 +53,7 @@ module _ (t : KeptThread) (ready : IsReadyImage t) (index : ℕ) (ahead : List P
   abbrev qs : List Pair
   qs = ahead ++ q ∷ y ∷ back
 
-  there : thread_pair_at t index ≡ x
+  there : thread_pair t index ≡ x
   there = beside.pair_there t ready index ahead x back is place fresh two
 
   can_unload : CanUnload (with_map t (map_taking_two t.map fresh)) index fresh keep
@@ -96,11 +86,11 @@ module _ (t : KeptThread) (ready : IsReadyImage t) (index : ℕ) (ahead : List P
     same_writable : IsSameWritable t.disk ps disk qs
     same_writable = (law.taken disk unloaded).0
 
-  left_unloaded : (left : Blocks) → LossLeavesUnloaded (with_map t (map_taking_two t.map fresh)) index fresh keep left → HasEither (with_blocks left t.disk) (tree_on_disk t.disk t.pairs) (tree_on_disk t.disk t.pairs)
+  left_unloaded : (left : Blocks) → LossLeavesUnloaded (with_map t (map_taking_two t.map fresh)) index fresh keep left → HasEither (with_blocks left t.disk) (disk_tree t.disk t.pairs) (disk_tree t.disk t.pairs)
   left_unloaded left l = go l.content
     where
       go : HasOldPair (with_map t (map_taking_two t.map fresh)) index (with_blocks left t.disk) ⊎ UnloadedOnDisk (with_map t (map_taking_two t.map fresh)) index fresh keep (with_blocks left t.disk)
-          → HasEither (with_blocks left t.disk) (tree_on_disk t.disk t.pairs) (tree_on_disk t.disk t.pairs)
+          → HasEither (with_blocks left t.disk) (disk_tree t.disk t.pairs) (disk_tree t.disk t.pairs)
       go (inl b) = beside.left_old t ready index ahead x back is place fresh two left l.others b
       go (inr n) =
           let s = same_writable (with_blocks left t.disk) (record {
@@ -108,16 +98,16 @@ module _ (t : KeptThread) (ready : IsReadyImage t) (index : ℕ) (ahead : List P
             others = l.others;
             keeps = subst (λ (z : Pair). content_at (with_blocks left t.disk) z.at ≡ Some (pair_joined_to fresh (take keep z.content.slots) z).content) there n.keeps;
             behind = n.behind ∙ ap (λ (z : Pair). Some (pair_behind fresh z).content) there;
-            first = subst (λ (z : Pair). KeepsSuperblockFirst t.disk (thread_pair_at t index).at (pair_joined_to fresh (take keep z.content.slots) z).content (with_blocks left t.disk)) there n.first;
+            first = subst (λ (z : Pair). KeepsSuperblockFirst t.disk (thread_pair t index).at (pair_joined_to fresh (take keep z.content.slots) z).content (with_blocks left t.disk)) there n.first;
           }) in
-          record { pairs = qs; accepted = s.same.accepted; writable = s.writable; tree = inl (s.same.shows ∙ ap (tree_on_disk t.disk) (sym is)) }
+          record { pairs = qs; accepted = s.same.accepted; writable = s.writable; tree = inl (s.same.shows ∙ ap (disk_tree t.disk) (sym is)) }
 
   -- ---- it was done
 
   module _ (new : KeptThread) (done : IsUnloaded (with_map t (map_taking_two t.map fresh)) index fresh keep new)
-      (writes : ChangesThreadBlocks (addresses_blocks (thread_pair_at t index).at fresh) (with_map t (map_taking_two t.map fresh)) new) where
+      (writes : ChangesThreadBlocks (addresses_blocks (thread_pair t index).at fresh) (with_map t (map_taking_two t.map fresh)) new) where
     pairs : new.pairs ≡ ahead ++ pair_joined_to fresh (take keep x.content.slots) x ∷ pair_behind fresh x ∷ back
-    pairs = done.pairs ∙ ap (λ (z : Pair). pairs_with_split t.pairs index (pair_joined_to fresh (take keep z.content.slots) z) (pair_behind fresh z)) there
+    pairs = done.pairs ∙ ap (λ (z : Pair). pairs_split t.pairs index (pair_joined_to fresh (take keep z.content.slots) z) (pair_behind fresh z)) there
         ∙ two_now t index (beside.pair_site t ready index ahead x back is place fresh two) x is place q y
 
     contents : Each (λ (z : Pair). content_at new.disk z.at ≡ Some z.content) (q ∷ y ∷ back)
@@ -130,7 +120,7 @@ module _ (t : KeptThread) (ready : IsReadyImage t) (index : ℕ) (ahead : List P
       others = writes.others;
       keeps = contents.0;
       behind = contents.1.0;
-      first = subst (λ (z : Pair). KeepsSuperblockFirst t.disk (thread_pair_at t index).at (pair_joined_to fresh (take keep z.content.slots) z).content new.disk) there done.first;
+      first = subst (λ (z : Pair). KeepsSuperblockFirst t.disk (thread_pair t index).at (pair_joined_to fresh (take keep z.content.slots) z).content new.disk) there done.first;
     }
 
     same : IsSameWritable t.disk ps new.disk qs
@@ -153,8 +143,8 @@ module _ (t : KeptThread) (ready : IsReadyImage t) (index : ℕ) (ahead : List P
     revision_now : pair_revision new.disk fresh ≡ option_map (λ r. (r + 1) % 2 ^ 32) (pair_revision t.disk x.at)
     revision_now = done.revision ∙ ap (λ (z : Pair). option_map (λ r. (r + 1) % 2 ^ 32) (pair_revision t.disk z.at)) there
 
-    root_now : pair_count_before_root new.pairs ≡ root
-    root_now = ap pair_count_before_root pairs ∙ (law.taken new.disk (unloaded new.disk there_now)).1
+    root_now : count_before_root new.pairs ≡ root
+    root_now = ap count_before_root pairs ∙ (law.taken new.disk (unloaded new.disk there_now)).1
 
     files : ShowsSameFiles t new
     files = record {
@@ -169,9 +159,9 @@ module _ (t : KeptThread) (ready : IsReadyImage t) (index : ℕ) (ahead : List P
         size = ap length done.map ∙ length_now t.map fresh two ∙ ready.size ∙ sym writes.shape.count;
         large = subst (λ n. 1024 ≤ n) (sym writes.shape.block_size) ready.large;
       };
-      shows = ap (tree_on_disk new.disk) pairs ∙ same.same.shows ∙ ap (tree_on_disk t.disk) (sym is);
+      shows = ap (disk_tree new.disk) pairs ∙ same.same.shows ∙ ap (disk_tree t.disk) (sym is);
       structs = λ path. subst₂ (λ a b. KeepsStruct (slot_of a path) (slot_of b path)) (sym is) (sym pairs) (same.same.stays path);
-      lists = subst (λ z. All (λ s. SameFileBlocks t.disk new.disk s.struct) (all_slots_not_moved z)) (sym is) (unloaded new.disk there_now).device.files;
+      lists = subst (λ z. All (λ s. SameFileBlocks t.disk new.disk s.struct) (all_unmoved_slots z)) (sym is) (unloaded new.disk there_now).device.files;
       flying = subst (SameInFlight t.map) (sym done.map) (beside.flying t ready index ahead x back is place fresh two);
     }
 
@@ -210,10 +200,10 @@ module _ (t : KeptThread) (index : ℕ) (can : CanUnloadPair t index) (at : TwoA
   number_is : index ≡ length (at.ahead ++ at.one ∷ []) + 0
   number_is = let l = length-append at.ahead (at.one ∷ []) in let n = at.number in let r = can.root in omega arith
 
-  one_there : thread_pair_at t (index - 1) ≡ at.one
+  one_there : thread_pair t (index - 1) ≡ at.one
   one_there = front_is t (index - 1) at.ahead at.one at.other at.back at.is at.number
 
-  worn_there : thread_pair_at t index ≡ at.other
+  worn_there : thread_pair t index ≡ at.other
   worn_there = beside.pair_there t can.ready index pairs_ahead at.other at.back pairs_are number_is fresh two
 
   soft : is_hard_tail at.one.content.tail ≡ false
@@ -222,14 +212,14 @@ module _ (t : KeptThread) (index : ℕ) (can : CanUnloadPair t index) (at : TwoA
   some : has_slots at.other.content.slots ≡ true
   some = ap (λ (z : Pair). has_slots z.content.slots) (sym worn_there) ∙ can.some
 
-  r : HasRoot (at.ahead ++ at.one ∷ []) (pair_count_before_root t.pairs)
-  r = has_root pairs_ahead (pair_count_before_root t.pairs) (let n = number_is in let c = can.root in omega arith)
+  r : HasRoot (at.ahead ++ at.one ∷ []) (count_before_root t.pairs)
+  r = has_root pairs_ahead (count_before_root t.pairs) (let n = number_is in let c = can.root in omega arith)
 
   there_is : (zs : List Pair) → (at.ahead ++ at.one ∷ []) ++ zs ≡ r.chain ++ (r.first ∷ r.rest ++ zs)
   there_is zs = ap (λ z. z ++ zs) r.is ∙ append_assoc r.chain (r.first ∷ r.rest) zs
 
   is_chain : IsChain r.chain (r.first ∷ r.rest ++ at.other ∷ at.back)
-  is_chain = ap pair_count_before_root (sym (there_is (at.other ∷ at.back)) ∙ sym pairs_are) ∙ sym r.count
+  is_chain = ap count_before_root (sym (there_is (at.other ∷ at.back)) ∙ sym pairs_are) ∙ sym r.count
 
   ok : IsAccepted t.disk (r.chain ++ (r.first ∷ r.rest ++ at.other ∷ at.back))
   ok = subst (IsAccepted t.disk) (pairs_are ∙ there_is (at.other ∷ at.back)) can.ready.accepted
@@ -273,26 +263,26 @@ module _ (t : KeptThread) (index : ℕ) (can : CanUnloadPair t index) (at : TwoA
       writable = taken.taken.writable;
     })
 
-  pair_law : IsLaw t (at.ahead ++ at.one ∷ []) at.other at.back 0 fresh (pair_count_before_root t.pairs)
+  pair_law : IsLaw t (at.ahead ++ at.one ∷ []) at.other at.back 0 fresh (count_before_root t.pairs)
   pair_law = record {
     marked = λ h. absurd (let k = sym h.kind ∙ no_superblock in cc);
     bare = λ disk c. refl;
     kept = omega arith;
-    taken = λ disk c. (same_tree disk c, ap pair_count_before_root (there_is (pair_joined_to fresh [] at.other ∷ pair_behind fresh at.other ∷ at.back)) ∙ (taken disk c).ready.is_chain ∙ r.count);
+    taken = λ disk c. (same_tree disk c, ap count_before_root (there_is (pair_joined_to fresh [] at.other ∷ pair_behind fresh at.other ∷ at.back)) ∙ (taken disk c).ready.is_chain ∙ r.count);
   }
 
   pub pair_can : CanUnload (with_map t (map_taking_two t.map fresh)) index fresh 0
-  pair_can = can_unload t can.ready index pairs_ahead at.other at.back pairs_are number_is 0 fresh two (pair_count_before_root t.pairs) pair_law
+  pair_can = can_unload t can.ready index pairs_ahead at.other at.back pairs_are number_is 0 fresh two (count_before_root t.pairs) pair_law
 
-  pub pair_left : (left : Blocks) → LossLeavesUnloaded (with_map t (map_taking_two t.map fresh)) index fresh 0 left → HasEither (with_blocks left t.disk) (tree_on_disk t.disk t.pairs) (tree_on_disk t.disk t.pairs)
-  pair_left left l = left_unloaded t can.ready index pairs_ahead at.other at.back pairs_are number_is 0 fresh two (pair_count_before_root t.pairs) pair_law left l
+  pub pair_left : (left : Blocks) → LossLeavesUnloaded (with_map t (map_taking_two t.map fresh)) index fresh 0 left → HasEither (with_blocks left t.disk) (disk_tree t.disk t.pairs) (disk_tree t.disk t.pairs)
+  pair_left left l = left_unloaded t can.ready index pairs_ahead at.other at.back pairs_are number_is 0 fresh two (count_before_root t.pairs) pair_law left l
 
-  pub pair_beside : (new : KeptThread) → ChangesThreadBlocks (addresses_blocks (thread_pair_at t index).at fresh) (with_map t (map_taking_two t.map fresh)) new → SameExceptThese (address_blocks fresh) t.disk.blocks new.disk.blocks
-      → HasEither new.disk (tree_on_disk t.disk t.pairs) (tree_on_disk t.disk t.pairs)
+  pub pair_beside : (new : KeptThread) → ChangesThreadBlocks (addresses_blocks (thread_pair t index).at fresh) (with_map t (map_taking_two t.map fresh)) new → SameExceptThese (address_blocks fresh) t.disk.blocks new.disk.blocks
+      → HasEither new.disk (disk_tree t.disk t.pairs) (disk_tree t.disk t.pairs)
   pair_beside new writes others = beside.left_beside_on t can.ready index pairs_ahead at.other at.back pairs_are number_is fresh two new writes others
 
   module _ (new : KeptThread) (done : IsUnloaded (with_map t (map_taking_two t.map fresh)) index fresh 0 new)
-      (writes : ChangesThreadBlocks (addresses_blocks (thread_pair_at t index).at fresh) (with_map t (map_taking_two t.map fresh)) new) where
+      (writes : ChangesThreadBlocks (addresses_blocks (thread_pair t index).at fresh) (with_map t (map_taking_two t.map fresh)) new) where
     pub unloaded_at : IsUnloadedAt t index new
     unloaded_at = record {
       unloaded = record {
@@ -304,16 +294,16 @@ module _ (t : KeptThread) (index : ℕ) (can : CanUnloadPair t index) (at : TwoA
         was = at.is;
         first = soft;
         some = some;
-        is = pairs t can.ready index pairs_ahead at.other at.back pairs_are number_is 0 fresh two (pair_count_before_root t.pairs) pair_law new done writes ∙ append_assoc at.ahead (at.one ∷ []) (pair_joined_to fresh [] at.other ∷ pair_behind fresh at.other ∷ at.back);
+        is = pairs t can.ready index pairs_ahead at.other at.back pairs_are number_is 0 fresh two (count_before_root t.pairs) pair_law new done writes ∙ append_assoc at.ahead (at.one ∷ []) (pair_joined_to fresh [] at.other ∷ pair_behind fresh at.other ∷ at.back);
         unused = beside.unused t can.ready index pairs_ahead at.other at.back pairs_are number_is fresh two;
-        room = eighth t can.ready index pairs_ahead at.other at.back pairs_are number_is 0 fresh two (pair_count_before_root t.pairs) pair_law new done writes can.room;
+        room = eighth t can.ready index pairs_ahead at.other at.back pairs_are number_is 0 fresh two (count_before_root t.pairs) pair_law new done writes can.room;
         due = ap (is_worn t.disk) (sym worn_there) ∙ can.worn;
       };
       number = let n = at.number in let c = can.root in omega arith;
-      files = files t can.ready index pairs_ahead at.other at.back pairs_are number_is 0 fresh two (pair_count_before_root t.pairs) pair_law new done writes;
-      revision = revision_now t can.ready index pairs_ahead at.other at.back pairs_are number_is 0 fresh two (pair_count_before_root t.pairs) pair_law new done writes;
-      two_more = two_more t can.ready index pairs_ahead at.other at.back pairs_are number_is 0 fresh two (pair_count_before_root t.pairs) pair_law new done writes;
-      root = root_now t can.ready index pairs_ahead at.other at.back pairs_are number_is 0 fresh two (pair_count_before_root t.pairs) pair_law new done writes;
+      files = files t can.ready index pairs_ahead at.other at.back pairs_are number_is 0 fresh two (count_before_root t.pairs) pair_law new done writes;
+      revision = revision_now t can.ready index pairs_ahead at.other at.back pairs_are number_is 0 fresh two (count_before_root t.pairs) pair_law new done writes;
+      two_more = two_more t can.ready index pairs_ahead at.other at.back pairs_are number_is 0 fresh two (count_before_root t.pairs) pair_law new done writes;
+      root = root_now t can.ready index pairs_ahead at.other at.back pairs_are number_is 0 fresh two (count_before_root t.pairs) pair_law new done writes;
     }
 
 -- ---- the thread's first pair
@@ -350,8 +340,8 @@ module _ (t : KeptThread) (can : CanExpandRoot t) (at : HasFirstPair t.pairs) (f
   root_none : HasNoMove (pairs_gstate (at.first ∷ at.others))
   root_none = no_move_from (at.first ∷ at.others) (ap pairs_gstate (sym at.is) ∙ can.ready.settled)
 
-  root_number : pair_count_before_root (at.first ∷ at.others) ≡ 0
-  root_number = ap pair_count_before_root (sym at.is) ∙ can.root
+  root_number : count_before_root (at.first ∷ at.others) ≡ 0
+  root_number = ap count_before_root (sym at.is) ∙ can.root
 
   root_held : IsSuperblockFirst (HasStruct t.disk.profile.versions root_accepted.superblock.0) at.first.content.slots
   root_held = (hold_from_rules (StructMark t.disk.profile.versions root_accepted.superblock.0) [] at.first at.others root_number root_accepted.superblock.1.1 root_accepted.root root_accepted.slots).1.0
@@ -370,7 +360,7 @@ module _ (t : KeptThread) (can : CanExpandRoot t) (at : HasFirstPair t.pairs) (f
     );
   }
     where
-      root_next : pair_count_before_root (pair_joined_to fresh (take 1 at.first.content.slots) at.first ∷ pair_behind fresh at.first ∷ at.others) ≡ 1
+      root_next : count_before_root (pair_joined_to fresh (take 1 at.first.content.slots) at.first ∷ pair_behind fresh at.first ∷ at.others) ≡ 1
       root_next = ap₂ (λ b n. cond b (1 + n) 0)
           (and_from (has_superblock (pair_behind fresh at.first ∷ at.others)) (may_continue (pair_joined_to fresh (take 1 at.first.content.slots) at.first)) (meets_starting (pair_behind fresh at.first) at.others root_starts)
           (and_from (has_no_entry (take 1 at.first.content.slots)) true (take_bare at.first.content.slots root_starts) refl)) root_number
@@ -378,15 +368,15 @@ module _ (t : KeptThread) (can : CanExpandRoot t) (at : HasFirstPair t.pairs) (f
   pub root_can : CanUnload (with_map t (map_taking_two t.map fresh)) 0 fresh 1
   root_can = can_unload t can.ready 0 [] at.first at.others at.is refl 1 fresh two 1 root_law
 
-  pub root_left : (left : Blocks) → LossLeavesUnloaded (with_map t (map_taking_two t.map fresh)) 0 fresh 1 left → HasEither (with_blocks left t.disk) (tree_on_disk t.disk t.pairs) (tree_on_disk t.disk t.pairs)
+  pub root_left : (left : Blocks) → LossLeavesUnloaded (with_map t (map_taking_two t.map fresh)) 0 fresh 1 left → HasEither (with_blocks left t.disk) (disk_tree t.disk t.pairs) (disk_tree t.disk t.pairs)
   root_left left l = left_unloaded t can.ready 0 [] at.first at.others at.is refl 1 fresh two 1 root_law left l
 
-  pub root_beside : (new : KeptThread) → ChangesThreadBlocks (addresses_blocks (thread_pair_at t 0).at fresh) (with_map t (map_taking_two t.map fresh)) new → SameExceptThese (address_blocks fresh) t.disk.blocks new.disk.blocks
-      → HasEither new.disk (tree_on_disk t.disk t.pairs) (tree_on_disk t.disk t.pairs)
+  pub root_beside : (new : KeptThread) → ChangesThreadBlocks (addresses_blocks (thread_pair t 0).at fresh) (with_map t (map_taking_two t.map fresh)) new → SameExceptThese (address_blocks fresh) t.disk.blocks new.disk.blocks
+      → HasEither new.disk (disk_tree t.disk t.pairs) (disk_tree t.disk t.pairs)
   root_beside new writes others = beside.left_beside_on t can.ready 0 [] at.first at.others at.is refl fresh two new writes others
 
   module _ (new : KeptThread) (done : IsUnloaded (with_map t (map_taking_two t.map fresh)) 0 fresh 1 new)
-      (writes : ChangesThreadBlocks (addresses_blocks (thread_pair_at t 0).at fresh) (with_map t (map_taking_two t.map fresh)) new) where
+      (writes : ChangesThreadBlocks (addresses_blocks (thread_pair t 0).at fresh) (with_map t (map_taking_two t.map fresh)) new) where
     pub root_expanded : IsRootExpanded t new
     root_expanded = record {
       unloaded = record {

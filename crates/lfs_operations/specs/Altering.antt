@@ -3,19 +3,19 @@ use Rattle.std.specs.Prelude.{Contains, ℕ, ◌⊎◌, ◌<◌, List, length}
 use Rattle.std.specs.List.{AllByRecursion}
 use Rattle.lfs_model.specs.layers.BlockSets.{IsFree}
 use Rattle.lfs_thread.specs.Kept.{KeptThread}
-use Rattle.lfs_thread.specs.ThreadSteps.{ChangesThreadBlocks, thread_pair_at}
+use Rattle.lfs_thread.specs.ThreadSteps.{ChangesThreadBlocks, thread_pair}
 use Rattle.lfs_operations.specs.Changing.{IsPairTouched}
 use Rattle.lfs_model.specs.format.Thread.{address_blocks}
 
 -- the block is one of a pair that doesn't stay with what it held
-pub record IsAlteredBlock (old new : KeptThread) (b : ℕ) : Type 0 where
+pub record IsTouchedBlock (old new : KeptThread) (b : ℕ) : Type 0 where
   pub index : ℕ
   pub below : index < length old.pairs
-  pub own : Contains (address_blocks (thread_pair_at old index).at) b
+  pub own : Contains (address_blocks (thread_pair old index).at) b
   pub alters : IsPairTouched old index new
 
 -- No block changed but these, blocks of pairs that don't stay with what they held, and blocks that were free.
-pub record ChangesGiven (old : KeptThread) (bs : List ℕ) (new : KeptThread) : Type 0 where
+pub record WritesTouchedFree (old : KeptThread) (bs : List ℕ) (new : KeptThread) : Type 0 where
   pub blocks : List ℕ
-  pub each : AllByRecursion (λ b. Contains bs b ⊎ (IsAlteredBlock old new b ⊎ IsFree old.map b)) blocks
+  pub each : AllByRecursion (λ b. Contains bs b ⊎ (IsTouchedBlock old new b ⊎ IsFree old.map b)) blocks
   pub writes : ChangesThreadBlocks blocks old new

@@ -11,12 +11,12 @@ use Rattle.lfs_model.specs.format.Content.{RawContent, content_at}
 use Rattle.lfs_model.specs.format.Disk.{block_count}
 use Rattle.lfs_model.specs.session.History.{fault_count}
 use Rattle.lfs_model.specs.format.Slots.{PairContent, FitsInPair}
-use Rattle.lfs_model.specs.format.Thread.{IsThread, blocks_of_pairs, addresses_blocks}
+use Rattle.lfs_model.specs.format.Thread.{IsThread, pairs_blocks, addresses_blocks}
 use Rattle.lfs_model.specs.layers.Cut.{CanSplit}
 use Rattle.lfs_pair.specs.Commits.{changed_pair}
 use Rattle.lfs_pair.specs.Split.{KeepsOutsideBoth}
 use Rattle.lfs_thread.specs.Kept.{KeptThread, ThreadView}
-use Rattle.lfs_thread.specs.ThreadSteps.{thread_pair_at, complete_after, CanChangePair, RefusesChanges, SameGeometryAs, IsPairCommitted, LossLeavesPairChanged, LossLeavesPairSplit, OnlyReadsThread, OnlyReadsDevice, PartsFitPairs, ChangesThreadBlocks, split_front_pair, split_back_pair, map_using, pairs_with_split}
+use Rattle.lfs_thread.specs.ThreadSteps.{thread_pair, complete_after, CanChangePair, RefusesChanges, SameGeometryAs, IsPairCommitted, LossLeavesPair, LossLeavesBoth, OnlyReadsThread, OnlyReadsDevice, PartsFit, ChangesThreadBlocks, front_pair, back_pair, map_using, pairs_split}
 
 -- ---- free blocks
 
@@ -42,7 +42,7 @@ has_failed_after (Err _) = true
 
 -- `Io` comes with a fault of the device, and any other result with none. At `NoMemory` nothing was written. At `NoSpace`, which
 -- comes where fewer than two blocks are free, everything is as it was.
-pub record ReportsFaultsChangingNothingAtNoSpace {X : Type 0} (old new : KeptThread) (result : Result X Error) : Type 0 where
+pub record ReportsSpaceErrors {X : Type 0} (old new : KeptThread) (result : Result X Error) : Type 0 where
   pub errors : IfErr result (λ e. (e ≡ Io) ⊎ ((e ≡ NoMemory) ⊎ (e ≡ NoSpace)))
   pub fault : IsErrOf result Io → fault_count old.history < fault_count new.history
   pub no_fault : ¬ IsErrOf result Io → fault_count new.history ≡ fault_count old.history
@@ -55,28 +55,28 @@ pub record WritesPairTwo (old : KeptThread) (index : ℕ) (new : KeptThread) : T
   pub fresh : List ℕ
   pub few : length fresh ≤ 2
   pub free : AllByRecursion (IsFree old.map) fresh
-  pub writes : ChangesThreadBlocks ((thread_pair_at old index).at.0 ∷ (thread_pair_at old index).at.1 ∷ fresh) old new
+  pub writes : ChangesThreadBlocks ((thread_pair old index).at.0 ∷ (thread_pair old index).at.1 ∷ fresh) old new
 
 -- No block changed but those of pairs, and at most two that were free.
 pub record WritesThreadTwo (old new : KeptThread) : Type 0 where
   pub fresh : List ℕ
   pub few : length fresh ≤ 2
   pub free : AllByRecursion (IsFree old.map) fresh
-  pub writes : ChangesThreadBlocks (blocks_of_pairs old.pairs ++ fresh) old new
+  pub writes : ChangesThreadBlocks (pairs_blocks old.pairs ++ fresh) old new
 
 -- No block changed but those of pairs, and at most two that were free. Those two are the only blocks that pairs may have beside
 -- their old ones.
 pub record TakesAtMostTwo (old new : KeptThread) : Type 0 where
   pub written : WritesThreadTwo old new
-  pub within : (b : ℕ) → Contains (blocks_of_pairs new.pairs) b → Contains (blocks_of_pairs old.pairs ++ written.fresh) b
+  pub within : (b : ℕ) → Contains (pairs_blocks new.pairs) b → Contains (pairs_blocks old.pairs ++ written.fresh) b
 
 -- ---- a pair is changed or split
 
 -- There is a pair at the index. What the changes make of it can be cut in two, and has a tail that names the same pair as before.
-pub record CanTurn (t : KeptThread) (index : ℕ) (changes : List PairChange) : Type 0 where
+pub record CanPut (t : KeptThread) (index : ℕ) (changes : List PairChange) : Type 0 where
   pub can : CanChangePair t index changes
   pub raw : RawContent
-  pub made : changed_pair t.disk (thread_pair_at t index).at changes ≡ Some raw
+  pub made : changed_pair t.disk (thread_pair t index).at changes ≡ Some raw
   pub cut : CanSplit t.disk.block_size t.disk.page raw.slots
 
 -- There is a pair at the index. What the changes make of it fits it, and has a tail that names the same pair as before.
@@ -90,42 +90,42 @@ pub record IsSplitInto (old : KeptThread) (index : ℕ) (fresh : ℕ × ℕ) (ch
   pub content : PairContent
   pub made : complete_after old index changes ≡ Some content
   pub cut : ℕ
-  pub parts : PartsFitPairs old index content cut fresh new.disk
-  pub others : KeepsOutsideBoth (thread_pair_at old index).at fresh old.disk.blocks new.disk.blocks
+  pub parts : PartsFit old index content cut fresh new.disk
+  pub others : KeepsOutsideBoth (thread_pair old index).at fresh old.disk.blocks new.disk.blocks
   pub shape : SameGeometryAs old.disk new.disk
-  pub pairs : new.pairs ≡ pairs_with_split old.pairs index (split_front_pair old index content cut fresh) (split_back_pair content cut fresh)
+  pub pairs : new.pairs ≡ pairs_split old.pairs index (front_pair old index content cut fresh) (back_pair content cut fresh)
   pub thread : IsThread (content_at new.disk) (block_count new.disk) new.pairs
   pub map : new.map ≡ map_using (map_taking_two old.map fresh) fresh
-  pub writes : ChangesThreadBlocks (addresses_blocks (thread_pair_at old index).at fresh) old new
+  pub writes : ChangesThreadBlocks (addresses_blocks (thread_pair old index).at fresh) old new
 
 abbrev pub IsPairSplit : KeptThread → ℕ → List PairChange → KeptThread → Type 0
 IsPairSplit old index changes new = (fresh : ℕ × ℕ) × IsSplitInto old index fresh changes new
 
 -- what the changes make doesn't fit the pair
-abbrev pub ChangeIsTooLarge : KeptThread → ℕ → List PairChange → Type 0
-ChangeIsTooLarge t index changes = (content : PairContent) × ((complete_after t index changes ≡ Some content) × (FitsInPair t.disk.block_size t.disk.page content → ⊥))
+abbrev pub OverfillsPair : KeptThread → ℕ → List PairChange → Type 0
+OverfillsPair t index changes = (content : PairContent) × ((complete_after t index changes ≡ Some content) × (FitsInPair t.disk.block_size t.disk.page content → ⊥))
 
-abbrev pub IsTurned : KeptThread → ℕ → List PairChange → KeptThread → Type 0
-IsTurned old index changes new = IsPairCommitted old index changes new ⊎ (ChangeIsTooLarge old index changes × IsPairSplit old index changes new)
+abbrev pub ArePut : KeptThread → ℕ → List PairChange → KeptThread → Type 0
+ArePut old index changes new = IsPairCommitted old index changes new ⊎ (OverfillsPair old index changes × IsPairSplit old index changes new)
 
 -- what a stop leaves of a split, and of either
 abbrev pub LeftBySplit : KeptThread → ℕ → List PairChange → Blocks → Type 0
-LeftBySplit old index changes left = (fresh : ℕ × ℕ) × (AreTwoFree old.map fresh × LossLeavesPairSplit old index fresh changes left)
+LeftBySplit old index changes left = (fresh : ℕ × ℕ) × (AreTwoFree old.map fresh × LossLeavesBoth old index fresh changes left)
 
-abbrev pub LeftByTurn : KeptThread → ℕ → List PairChange → Blocks → Type 0
-LeftByTurn old index changes left = LossLeavesPairChanged old index changes left ⊎ (ChangeIsTooLarge old index changes × LeftBySplit old index changes left)
+abbrev pub LeftByPut : KeptThread → ℕ → List PairChange → Blocks → Type 0
+LeftByPut old index changes left = LossLeavesPair old index changes left ⊎ (OverfillsPair old index changes × LeftBySplit old index changes left)
 
 -- What a step of an operation reports, and whether the thread has failed after it.
-pub record ReportsErrorsOfCommitTakingBlocks {X : Type 0} (old new : ThreadView) (result : Result X Error) : Type 0 where
+pub record ReportsTakingCommit {X : Type 0} (old new : ThreadView) (result : Result X Error) : Type 0 where
   pub failed : new.failed ≡ has_failed_after result
-  pub reports : ReportsFaultsChangingNothingAtNoSpace old.kept new.kept result
+  pub reports : ReportsSpaceErrors old.kept new.kept result
 
 -- The same of a step that splits the pair only if it has to: `NoSpace` comes only where what the changes make doesn't fit the
 -- pair.
-pub record ReportsErrorsOfChangeOrSplit {X : Type 0} (old new : ThreadView) (index : ℕ) (changes : List PairChange) (result : Result X Error) : Type 0 where
-  pub reports : ReportsErrorsOfCommitTakingBlocks old new result
-  pub too_large : result ≡ Err NoSpace → ChangeIsTooLarge old.kept index changes
+pub record ReportsPut {X : Type 0} (old new : ThreadView) (index : ℕ) (changes : List PairChange) (result : Result X Error) : Type 0 where
+  pub reports : ReportsTakingCommit old new result
+  pub too_large : result ≡ Err NoSpace → OverfillsPair old.kept index changes
 
 -- the pair doesn't stay with what it held
 abbrev pub IsPairTouched : KeptThread → ℕ → KeptThread → Type 0
-IsPairTouched old index new = Contains new.pairs (thread_pair_at old index) → ⊥
+IsPairTouched old index new = Contains new.pairs (thread_pair old index) → ⊥

@@ -12,10 +12,10 @@ use Rattle.lfs_model.specs.session.SlotEdits.{file_slot}
 use Rattle.lfs_model.specs.session.Refusals.{path_or_root}
 use Rattle.lfs_model.specs.tree.Tree.{Path, Tree, FileNode}
 use Rattle.lfs_model.specs.tree.Profile.{IsWritableEntry}
-use Rattle.lfs_model.specs.tree.Shown.{LeadsTo, tree_on_disk}
-use Rattle.lfs_model.specs.layers.Steps.{IsCompletion}
+use Rattle.lfs_model.specs.tree.Shown.{LeadsTo, disk_tree}
+use Rattle.lfs_model.specs.layers.Steps.{CompletesOperation}
 use Rattle.lfs_thread.specs.Kept.{KeptThread}
-use Rattle.lfs_thread.specs.ThreadSteps.{thread_pair_at}
+use Rattle.lfs_thread.specs.ThreadSteps.{thread_pair}
 use Rattle.lfs_operations.specs.Ready.{ShowsReadyTree, IsRawFormed, IsReadyImage}
 
 abbrev pub creation_changes : ℕ → Name → List PairChange
@@ -32,14 +32,14 @@ pub record CanCreateIn (t : KeptThread) (pair id : ℕ) (name : Name) : Type 0 w
   pub belongs : BelongsAt t.disk.order t.pairs first name pair id
   pub is_name : is_valid_name name ≡ true
   pub fits : IsWritableEntry t.disk.profile t.disk.block_size t.disk.page (file_slot name)
-  pub logged : IsRawFormed t.disk (thread_pair_at t pair).at
+  pub logged : IsRawFormed t.disk (thread_pair t pair).at
 
 -- the tree with the file
 abbrev pub tree_with_file : KeptThread → Path → Name → Tree
-tree_with_file t path name = tree_creating (path ++ name ∷ []) (FileNode [] []) (tree_on_disk t.disk t.pairs)
+tree_with_file t path name = tree_creating (path ++ name ∷ []) (FileNode [] []) (disk_tree t.disk t.pairs)
 
 -- The tree has the file, and its slot is where the layout wants it. So an open that creates the file is completed.
 pub record IsFileCreated (old new : KeptThread) (path : Path) (name : Name) : Type 0 where
   pub now : ShowsReadyTree old new (tree_with_file old path name)
-  pub completed : (s : Session) (given : List ℕ) (flags : FlagsOfOpen) → s.tree ≡ tree_on_disk old.disk old.pairs → path_or_root given ≡ path ++ name ∷ []
-      → IsCompletion old.disk old.pairs s (ops.Open given flags) new.disk new.pairs
+  pub completed : (s : Session) (given : List ℕ) (flags : FlagsOfOpen) → s.tree ≡ disk_tree old.disk old.pairs → path_or_root given ≡ path ++ name ∷ []
+      → CompletesOperation old.disk old.pairs s (ops.Open given flags) new.disk new.pairs

@@ -7,21 +7,21 @@ use Rattle.lfs_model.specs.format.Thread.{pairs_gstate, is_hard_tail}
 use Rattle.lfs_model.specs.tree.View.{IsAccepted}
 use Rattle.lfs_model.specs.tree.Profile.{IsWritable}
 use Rattle.lfs_thread.specs.Kept.{KeptThread}
-use Rattle.lfs_thread.specs.ThreadSteps.{thread_pair_at}
+use Rattle.lfs_thread.specs.ThreadSteps.{thread_pair}
 
 -- The delta that a pair gets, so that the global state becomes g.
 abbrev pub delta_reaching_gstate : KeptThread → ℕ → Gstate → Gstate
-delta_reaching_gstate t index g = gstate_xor (gstate_xor g (pairs_gstate t.pairs)) (thread_pair_at t index).content.move
+delta_reaching_gstate t index g = gstate_xor (gstate_xor g (pairs_gstate t.pairs)) (thread_pair t index).content.move
 
 abbrev pub gstate_changes : KeptThread → ℕ → Gstate → List PairChange
 gstate_changes t index g = PutMove (delta_reaching_gstate t index g) ∷ []
 
 -- what the pair then holds
 abbrev pub content_reaching_gstate : KeptThread → ℕ → Gstate → PairContent
-content_reaching_gstate t index g = record { slots = (thread_pair_at t index).content.slots; tail = (thread_pair_at t index).content.tail; move = delta_reaching_gstate t index g }
+content_reaching_gstate t index g = record { slots = (thread_pair t index).content.slots; tail = (thread_pair t index).content.tail; move = delta_reaching_gstate t index g }
 
-abbrev pub has_tail_at : KeptThread → ℕ → Bool
-has_tail_at t index = is_hard_tail (thread_pair_at t index).content.tail
+abbrev pub tail_is_hard : KeptThread → ℕ → Bool
+tail_is_hard t index = is_hard_tail (thread_pair t index).content.tail
 
 -- the premises of a commit that sets the state: a pair in an image that may be written, and a state that can be stored
 pub record CanSetGstate (t : KeptThread) (index : ℕ) (g : Gstate) : Type 0 where

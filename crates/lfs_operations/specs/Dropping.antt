@@ -10,10 +10,10 @@ use Rattle.lfs_model.specs.layers.LoggedContent.{MoveStateFits}
 use Rattle.lfs_model.specs.format.Slots.{PairContent, FitsInPair, Gstate, Tail, gstate_xor}
 use Rattle.lfs_model.specs.format.Thread.{IsThread, pairs_gstate, is_hard_tail}
 use Rattle.lfs_model.specs.tree.Tree.{Tree}
-use Rattle.lfs_model.specs.tree.Shown.{tree_on_disk}
+use Rattle.lfs_model.specs.tree.Shown.{disk_tree}
 use Rattle.lfs_thread.specs.Kept.{KeptThread}
-use Rattle.lfs_thread.specs.ThreadSteps.{IsPairWritten, thread_pair_at, tail_setting_change, pairs_with, map_freeing}
-use Rattle.lfs_operations.specs.Ready.{IsReadyUpdated, KeepsRootBeginning}
+use Rattle.lfs_thread.specs.ThreadSteps.{IsPairWritten, thread_pair, tail_change, pairs_with, map_freeing}
+use Rattle.lfs_operations.specs.Ready.{IsReadyUnsettled, KeepsRootNumber}
 
 -- The tail that the pair before a dropped one gets. It is hard only where both tails are. Else the pair after the dropped one
 -- would continue another directory.
@@ -23,17 +23,17 @@ tail_over_drop front (Some t) = Some (record { hard = is_hard_tail front && t.ha
 
 -- the delta that the pair of that number gets, so that the global state is g once the pair after it is dropped
 abbrev pub delta_after_drop : KeptThread → ℕ → Gstate → Gstate
-delta_after_drop t front state = gstate_xor (gstate_xor (thread_pair_at t front).content.move (thread_pair_at t (front + 1)).content.move) (gstate_xor (pairs_gstate t.pairs) state)
+delta_after_drop t front state = gstate_xor (gstate_xor (thread_pair t front).content.move (thread_pair t (front + 1)).content.move) (gstate_xor (pairs_gstate t.pairs) state)
 
 abbrev pub tail_after_drop : KeptThread → ℕ → Option Tail
-tail_after_drop t front = tail_over_drop (thread_pair_at t front).content.tail (thread_pair_at t (front + 1)).content.tail
+tail_after_drop t front = tail_over_drop (thread_pair t front).content.tail (thread_pair t (front + 1)).content.tail
 
 -- what the pair before the dropped one then holds: its slots, the dropped pair's tail, and that delta
 abbrev pub content_after_drop : KeptThread → ℕ → Gstate → PairContent
-content_after_drop t front state = record { slots = (thread_pair_at t front).content.slots; tail = tail_after_drop t front; move = delta_after_drop t front state }
+content_after_drop t front state = record { slots = (thread_pair t front).content.slots; tail = tail_after_drop t front; move = delta_after_drop t front state }
 
 abbrev pub dropping_changes : KeptThread → ℕ → Gstate → List PairChange
-dropping_changes t front state = tail_setting_change (tail_after_drop t front) ∷ PutMove (delta_after_drop t front state) ∷ []
+dropping_changes t front state = tail_change (tail_after_drop t front) ∷ PutMove (delta_after_drop t front state) ∷ []
 
 -- The pair of that number isn't the first of the thread, and what the pair before it holds fits a pair. The new global state can
 -- be written.
@@ -41,7 +41,7 @@ pub record CanDropAt (t : KeptThread) (index : ℕ) (state : Gstate) : Type 0 wh
   pub above : 0 < index
   pub below : index < length t.pairs
   pub thread : IsThread (content_at t.disk) (block_count t.disk) t.pairs
-  pub fits : FitsInPair t.disk.block_size t.disk.page (thread_pair_at t (index - 1)).content
+  pub fits : FitsInPair t.disk.block_size t.disk.page (thread_pair t (index - 1)).content
   pub storable : MoveStateFits state
 
 -- The pair after the one of that number is dropped, and its blocks are free. The global state is the new one, and everything else
@@ -51,12 +51,12 @@ pub record IsPairDropped (old : KeptThread) (front : ℕ) (state : Gstate) (new 
   pub pairs : new.pairs ≡ remove (pairs_with old front (content_after_drop old front state)) (front + 1)
   pub gstate : pairs_gstate new.pairs ≡ state
   pub thread : IsThread (content_at new.disk) (block_count new.disk) new.pairs
-  pub map : new.map ≡ map_freeing old.map (thread_pair_at old (front + 1)).at
+  pub map : new.map ≡ map_freeing old.map (thread_pair old (front + 1)).at
 
 -- what a stop leaves of a drop: the pair before the dropped one with its old content, or with its new one
 pub record LeftByDrop (old : KeptThread) (front : ℕ) (state : Gstate) (left : Blocks) : Type 0 where
   pub content : PairContent
-  pub is : (content ≡ (thread_pair_at old front).content) ⊎ (content ≡ content_after_drop old front state)
+  pub is : (content ≡ (thread_pair old front).content) ⊎ (content ≡ content_after_drop old front state)
   pub written : IsPairWritten old front content (record old.disk { blocks = left })
 
 -- ---- an operation by which pairs may be dropped
@@ -67,8 +67,8 @@ SameInFlight old new = (b : ℕ) → IsInFlight new b ↔ IsInFlight old b
 
 -- The image shows that tree, and may be changed again once the blocks `gone` are freed. The root directory begins where it did.
 -- The blocks of the dropped pairs are free already.
-pub record ShowsAfterDrops (old new : KeptThread) (tree : Tree) (gone : List ℕ) : Type 0 where
-  pub ready : IsReadyUpdated new gone []
-  pub shows : tree_on_disk new.disk new.pairs ≡ tree
+pub record ShowsDroppedTree (old new : KeptThread) (tree : Tree) (gone : List ℕ) : Type 0 where
+  pub ready : IsReadyUnsettled new gone []
+  pub shows : disk_tree new.disk new.pairs ≡ tree
   pub flying : SameInFlight old.map new.map
-  pub root : KeepsRootBeginning old new
+  pub root : KeepsRootNumber old new

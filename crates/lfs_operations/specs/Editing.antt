@@ -11,10 +11,10 @@ use Rattle.lfs_model.specs.format.Slots.{Attributes, Slot}
 use Rattle.lfs_model.specs.session.Refusals.{path_or_root}
 use Rattle.lfs_model.specs.tree.Tree.{Path, Tree}
 use Rattle.lfs_model.specs.tree.Profile.{IsWritableEntry}
-use Rattle.lfs_model.specs.tree.Shown.{LeadsTo, tree_on_disk}
-use Rattle.lfs_model.specs.layers.Steps.{IsCompletion}
+use Rattle.lfs_model.specs.tree.Shown.{LeadsTo, disk_tree}
+use Rattle.lfs_model.specs.layers.Steps.{CompletesOperation}
 use Rattle.lfs_thread.specs.Kept.{KeptThread}
-use Rattle.lfs_thread.specs.ThreadSteps.{thread_pair_at}
+use Rattle.lfs_thread.specs.ThreadSteps.{thread_pair}
 use Rattle.lfs_operations.specs.Ready.{ShowsReadyTree, IsRawFormed, IsReadyImage}
 
 -- The image may be changed, and an entry is at the id of the pair: the one of that name in the directory at a path.
@@ -27,7 +27,7 @@ pub record CanEditIn (t : KeptThread) (pair id : ℕ) : Type 0 where
   pub begins : IsPairAt t.pairs at first
   pub name : Name
   pub stands : IsPlaceOf t.pairs first name pair id
-  pub logged : IsRawFormed t.disk (thread_pair_at t pair).at
+  pub logged : IsRawFormed t.disk (thread_pair t pair).at
 
 abbrev pub editable_slot : {t : KeptThread} {pair id : ℕ} → CanEditIn t pair id → Slot
 editable_slot can = can.stands.stands.slot
@@ -39,15 +39,15 @@ pub record CanSetAttribute (t : KeptThread) (pair id kind : ℕ) (bytes : List �
   pub fits : IsWritableEntry t.disk.profile t.disk.block_size t.disk.page (record (editable_slot can) { attributes = attributes_with kind bytes (editable_slot can).attributes })
 
 -- the tree with other attributes there
-abbrev pub tree_with_attributes_set : KeptThread → Path → Name → (Attributes → Attributes) → Tree
-tree_with_attributes_set t path name f = tree_with_change (path ++ name ∷ []) (λ n. with_attributes (f (node_attributes_of (Some n))) n) (tree_on_disk t.disk t.pairs)
+abbrev pub tree_setting_attributes : KeptThread → Path → Name → (Attributes → Attributes) → Tree
+tree_setting_attributes t path name f = tree_with_change (path ++ name ∷ []) (λ n. with_attributes (f (node_attributes_of (Some n))) n) (disk_tree t.disk t.pairs)
 
 -- The tree has the entry with those attributes, and its slot is where the layout wants it. So that operation on its path is
 -- completed.
 pub record HasAttributesChanged (old new : KeptThread) (path : Path) (name : Name) (f : Attributes → Attributes) (op : List ℕ → Operation) : Type 0 where
-  pub now : ShowsReadyTree old new (tree_with_attributes_set old path name f)
-  pub completed : (s : Session) (given : List ℕ) → s.tree ≡ tree_on_disk old.disk old.pairs → path_or_root given ≡ path ++ name ∷ []
-      → IsCompletion old.disk old.pairs s (op given) new.disk new.pairs
+  pub now : ShowsReadyTree old new (tree_setting_attributes old path name f)
+  pub completed : (s : Session) (given : List ℕ) → s.tree ≡ disk_tree old.disk old.pairs → path_or_root given ≡ path ++ name ∷ []
+      → CompletesOperation old.disk old.pairs s (op given) new.disk new.pairs
 
 abbrev pub HasSetAttribute : KeptThread → KeptThread → Path → Name → ℕ → List ℕ → Type 0
 HasSetAttribute old new path name kind bytes = HasAttributesChanged old new path name (attributes_with kind bytes) (λ given. ops.SetAttr given kind bytes)

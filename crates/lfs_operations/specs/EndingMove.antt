@@ -11,12 +11,12 @@ use Rattle.lfs_model.specs.tree.View.{IsAccepted}
 use Rattle.lfs_model.specs.tree.Shown.{used_blocks}
 use Rattle.lfs_model.specs.tree.Profile.{IsWritable}
 use Rattle.lfs_model.specs.format.Slots.{set_move_kind}
-use Rattle.lfs_model.specs.layers.Steps.{number_count, HasNoMove, IsWritableChange}
+use Rattle.lfs_model.specs.layers.Steps.{number_occurrences, HasNoMove, IsWritableChange}
 use Rattle.lfs_thread.specs.Kept.{KeptThread}
-use Rattle.lfs_thread.specs.ThreadSteps.{thread_pair_at}
+use Rattle.lfs_thread.specs.ThreadSteps.{thread_pair}
 use Rattle.lfs_operations.specs.Dropping.{SameInFlight}
-use Rattle.lfs_operations.specs.Ready.{KeepsRootBeginning}
-use Rattle.lfs_operations.specs.Deltas.{has_tail_at}
+use Rattle.lfs_operations.specs.Ready.{KeepsRootNumber}
+use Rattle.lfs_operations.specs.Deltas.{tail_is_hard}
 
 -- the global state without a move
 abbrev pub gstate_without_move : Gstate → Gstate
@@ -26,17 +26,17 @@ gstate_without_move g = record zero_gstate { sync = g.sync }
 pub record HasMovedSlot (t : KeptThread) (index : ℕ) : Type 0 where
   pub below : index < length t.pairs
   pub kind : (pairs_gstate t.pairs).kind ≡ set_move_kind
-  pub same : same_pair (thread_pair_at t index).at (pairs_gstate t.pairs).pair ≡ true
+  pub same : same_pair (thread_pair t index).at (pairs_gstate t.pairs).pair ≡ true
   pub left : List Slot
   pub slot : Slot
   pub right : List Slot
-  pub held : (thread_pair_at t index).content.slots ≡ left ++ slot ∷ right
+  pub held : (thread_pair t index).content.slots ≡ left ++ slot ∷ right
   pub number : length left ≡ (pairs_gstate t.pairs).id
   pub other : is_superblock slot ≡ false
 
 -- the pair has no other slot, and isn't the first of its directory
-abbrev pub has_one_follower : KeptThread → ℕ → Bool
-has_one_follower t index = nat_lt 0 index && (length (thread_pair_at t index).content.slots == 1 && has_tail_at t (index - 1))
+abbrev pub drops_when_emptied : KeptThread → ℕ → Bool
+drops_when_emptied t index = nat_lt 0 index && (length (thread_pair t index).content.slots == 1 && tail_is_hard t (index - 1))
 
 -- The image is accepted and may be written, and the map knows each of its blocks.
 pub record CanEndMove (t : KeptThread) : Type 0 where
@@ -46,8 +46,8 @@ pub record CanEndMove (t : KeptThread) : Type 0 where
   pub size : length t.map ≡ block_count t.disk
 
 -- What a recovery may make of the new image's slots, a recovery of the old image may make, too.
-abbrev pub RecoveriesAreAllowed : KeptThread → KeptThread → Type 0
-RecoveriesAreAllowed old new = (s : Session) (disk : Disk) (qs : List Pair) → IsLayout new.disk new.pairs s ops.Recover disk qs → IsLayout old.disk old.pairs s ops.Recover disk qs
+abbrev pub KeepsRecoveryLayouts : KeptThread → KeptThread → Type 0
+KeepsRecoveryLayouts old new = (s : Session) (disk : Disk) (qs : List Pair) → IsLayout new.disk new.pairs s ops.Recover disk qs → IsLayout old.disk old.pairs s ops.Recover disk qs
 
 -- No move is set, and the image shows the same tree, so pairs may be dropped now. The root directory begins where it did. The map
 -- knows each of the image's blocks, and the image has no new ones.
@@ -56,7 +56,7 @@ pub record HasEndedMove (old new : KeptThread) : Type 0 where
   pub none : HasNoMove (pairs_gstate new.pairs)
   pub used : AreUsed new.map (used_blocks new.disk new.pairs)
   pub size : length new.map ≡ block_count new.disk
-  pub fewer : (b : ℕ) → number_count b (used_blocks new.disk new.pairs) ≤ number_count b (used_blocks old.disk old.pairs)
+  pub fewer : (b : ℕ) → number_occurrences b (used_blocks new.disk new.pairs) ≤ number_occurrences b (used_blocks old.disk old.pairs)
   pub flying : SameInFlight old.map new.map
-  pub root : KeepsRootBeginning old new
-  pub leads_on : RecoveriesAreAllowed old new
+  pub root : KeepsRootNumber old new
+  pub leads_on : KeepsRecoveryLayouts old new

@@ -17,12 +17,12 @@ use Rattle.lfs_model.specs.format.Slots.{PairContent, FitsInPair, entry_charge}
 use Rattle.lfs_model.specs.session.Refusals.{path_or_root}
 use Rattle.lfs_model.specs.format.Thread.{Pair}
 use Rattle.lfs_model.specs.tree.Tree.{Path, Tree, DirectoryNode}
-use Rattle.lfs_model.specs.tree.Shown.{LeadsTo, tree_on_disk}
+use Rattle.lfs_model.specs.tree.Shown.{LeadsTo, disk_tree}
 use Rattle.lfs_model.specs.layers.WrittenContent.{address_bytes}
-use Rattle.lfs_model.specs.layers.Steps.{IsCompletion, with_sync_inverted}
+use Rattle.lfs_model.specs.layers.Steps.{CompletesOperation, with_sync_inverted}
 use Rattle.lfs_model.specs.format.Thread.{address_blocks}
 use Rattle.lfs_thread.specs.Kept.{KeptThread, ThreadView}
-use Rattle.lfs_thread.specs.ThreadSteps.{CanThreadIn, IoMeantFaultNoMemoryKeptOtherBlocks, ChangesThreadBlocks, complete_after, thread_pair_at}
+use Rattle.lfs_thread.specs.ThreadSteps.{CanThreadIn, ThreadReportsKeepingOthers, ChangesThreadBlocks, complete_after, thread_pair}
 use Rattle.lfs_operations.specs.Changing.{IsPairTouched}
 use Rattle.lfs_operations.specs.Ready.{ShowsReadyTree, IsReadyImage}
 
@@ -57,15 +57,15 @@ pub record CanMakeAt (t : KeptThread) (pair id : ℕ) (name : Name) : Type 0 whe
 
 -- the last pair's tail names the fresh pair, and the sync bit is turned
 abbrev pub threading_changes : KeptThread → ℕ → ℕ × ℕ → List PairChange
-threading_changes t last fresh = PutTail false (Some fresh) ∷ PutMove (with_sync_inverted (thread_pair_at t last).content.move) ∷ []
+threading_changes t last fresh = PutTail false (Some fresh) ∷ PutMove (with_sync_inverted (thread_pair t last).content.move) ∷ []
 
 -- the entry is put in with a struct of these bytes, and the sync bit is turned
 abbrev pub entry_changes : KeptThread → ℕ → ℕ → Name → List ℕ → List PairChange
 entry_changes t pair id name branch =
-    Create id directory_name_type name ∷ PutStruct id directory_type branch ∷ PutMove (with_sync_inverted (thread_pair_at t pair).content.move) ∷ []
+    Create id directory_name_type name ∷ PutStruct id directory_type branch ∷ PutMove (with_sync_inverted (thread_pair t pair).content.move) ∷ []
 
-abbrev pub adding_changes : KeptThread → ℕ → ℕ → Name → ℕ × ℕ → List PairChange
-adding_changes t pair id name to = entry_changes t pair id name (address_bytes to)
+abbrev pub directory_entry_changes : KeptThread → ℕ → ℕ → Name → ℕ × ℕ → List PairChange
+directory_entry_changes t pair id name to = entry_changes t pair id name (address_bytes to)
 
 -- what the first commit makes fits the pair
 abbrev pub FitsNewTail : KeptThread → ℕ → ℕ × ℕ → Type 0
@@ -79,27 +79,27 @@ pub record CanLink (t : KeptThread) (last : ℕ) (fresh : ℕ × ℕ) : Type 0 w
 -- what the first step reports, and whether the thread has failed after it
 pub record ReportsErrorsOfLink {X : Type 0} (old new : ThreadView) (fresh : ℕ × ℕ) (result : Result X Error) : Type 0 where
   pub failed : new.failed ≡ is_err result
-  pub reported : IoMeantFaultNoMemoryKeptOtherBlocks (address_blocks fresh) old.kept new.kept result
+  pub reported : ThreadReportsKeepingOthers (address_blocks fresh) old.kept new.kept result
 
 -- ---- what the operation leaves
 
 -- the tree with the directory
 abbrev pub tree_with_directory : KeptThread → Path → Name → Tree
-tree_with_directory t path name = tree_creating (path ++ name ∷ []) (DirectoryNode [] []) (tree_on_disk t.disk t.pairs)
+tree_with_directory t path name = tree_creating (path ++ name ∷ []) (DirectoryNode [] []) (disk_tree t.disk t.pairs)
 
 -- The tree has the directory, and its slot and its pair are where the layout wants them. So a mkdir of its path is completed.
 pub record IsDirectoryMade (old new : KeptThread) (path : Path) (name : Name) : Type 0 where
   pub now : ShowsReadyTree old new (tree_with_directory old path name)
-  pub completed : (s : Session) (given : List ℕ) → s.tree ≡ tree_on_disk old.disk old.pairs → path_or_root given ≡ path ++ name ∷ []
-      → IsCompletion old.disk old.pairs s (ops.Mkdir given) new.disk new.pairs
+  pub completed : (s : Session) (given : List ℕ) → s.tree ≡ disk_tree old.disk old.pairs → path_or_root given ≡ path ++ name ∷ []
+      → CompletesOperation old.disk old.pairs s (ops.Mkdir given) new.disk new.pairs
 
 -- Neither the pair nor the directory's last pair stays with what it held.
-pub record AreBothAltered (old : KeptThread) (pair : ℕ) (new : KeptThread) : Type 0 where
+pub record AreBothTouched (old : KeptThread) (pair : ℕ) (new : KeptThread) : Type 0 where
   pub entry : IsPairTouched old pair new
   pub end : (last : ℕ) → IsRunEnd old.pairs pair last → IsPairTouched old last new
 
 -- `Io` comes with a fault of the device, and any other result with none. After an error the thread has failed.
-pub record ReportsErrorsOfMakingDirectory {X : Type 0} (old new : ThreadView) (result : Result X Error) : Type 0 where
+pub record ReportsMaking {X : Type 0} (old new : ThreadView) (result : Result X Error) : Type 0 where
   pub failed : new.failed ≡ is_err result
   pub errors : IfErr result (λ e. (e ≡ Io) ⊎ (e ≡ NoMemory))
   pub fault : IsErrOf result Io → fault_count old.kept.history < fault_count new.kept.history
@@ -112,4 +112,4 @@ pub record WritesPairsFour (old : KeptThread) (pair : ℕ) (new : KeptThread) : 
   pub fresh : List ℕ
   pub few : length fresh ≤ 4
   pub free : AllByRecursion (IsFree old.map) fresh
-  pub writes : ChangesThreadBlocks ((thread_pair_at old pair).at.0 ∷ (thread_pair_at old pair).at.1 ∷ (thread_pair_at old last).at.0 ∷ (thread_pair_at old last).at.1 ∷ fresh) old new
+  pub writes : ChangesThreadBlocks ((thread_pair old pair).at.0 ∷ (thread_pair old pair).at.1 ∷ (thread_pair old last).at.0 ∷ (thread_pair old last).at.1 ∷ fresh) old new

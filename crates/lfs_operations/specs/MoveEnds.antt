@@ -6,16 +6,16 @@ use Rattle.lfs_model.specs.layers.Changes.{PairChange, Delete, PutMove}
 use Rattle.lfs_model.specs.session.InDirectory.{HasName}
 use Rattle.lfs_model.specs.format.Names.{Name}
 use Rattle.lfs_model.specs.format.Slots.{PairContent, Gstate, gstate_xor, same_pair}
-use Rattle.lfs_model.specs.format.Thread.{Pair, pairs_from_root, pairs_gstate, is_hard_tail, pair_count_before_root, address_blocks}
+use Rattle.lfs_model.specs.format.Thread.{Pair, pairs_from_root, pairs_gstate, is_hard_tail, count_before_root, address_blocks}
 use Rattle.lfs_model.specs.tree.Profile.{IsWritable}
 use Rattle.lfs_model.specs.tree.Shown.{all_directories, used_blocks}
 use Rattle.lfs_model.specs.tree.View.{IsAccepted}
 use Rattle.lfs_model.specs.format.Slots.{set_move_kind}
-use Rattle.lfs_model.specs.layers.Steps.{SameSlots, number_count, first_pair_addresses, HoldsOfSome, IsWritableChange, ends_joined}
+use Rattle.lfs_model.specs.layers.Steps.{SameSlots, number_occurrences, directory_addresses, AnyByRecursion, IsWritableChange, ends_joined}
 use Rattle.lfs_thread.specs.Kept.{KeptThread}
-use Rattle.lfs_thread.specs.ThreadSteps.{SameGeometryAs, thread_pair_at, pairs_with, map_freeing}
-use Rattle.lfs_operations.specs.Ready.{IsRawFormed, KeepsRootBeginning}
-use Rattle.lfs_operations.specs.EndingMove.{RecoveriesAreAllowed, gstate_without_move}
+use Rattle.lfs_thread.specs.ThreadSteps.{SameGeometryAs, thread_pair, pairs_with, map_freeing}
+use Rattle.lfs_operations.specs.Ready.{IsRawFormed, KeepsRootNumber}
+use Rattle.lfs_operations.specs.EndingMove.{KeepsRecoveryLayouts, gstate_without_move}
 
 -- a move that names the slot at an id of a pair, with the sync bit set or not
 abbrev pub gstate_naming : Bool → ℕ × ℕ → ℕ → Gstate
@@ -26,12 +26,12 @@ abbrev pub gstate_without_sync : Gstate → Gstate
 gstate_without_sync g = record g { sync = false }
 
 -- whether a hard tail names the pair, so that it continues a directory
-abbrev pub follows_hard_tail_of : List Pair → ℕ → Bool
-follows_hard_tail_of ps pair = ends_joined false (take (pair - pair_count_before_root ps) (pairs_from_root ps))
+abbrev pub continues_directory : List Pair → ℕ → Bool
+continues_directory ps pair = ends_joined false (take (pair - count_before_root ps) (pairs_from_root ps))
 
 -- the pair's delta without the move that is set
 abbrev pub delta_without_move : KeptThread → ℕ → Gstate
-delta_without_move t pair = gstate_xor (gstate_without_sync (pairs_gstate t.pairs)) (thread_pair_at t pair).content.move
+delta_without_move t pair = gstate_xor (gstate_without_sync (pairs_gstate t.pairs)) (thread_pair t pair).content.move
 
 abbrev pub ending_changes : KeptThread → ℕ → ℕ → List PairChange
 ending_changes t pair id = Delete id ∷ PutMove (delta_without_move t pair) ∷ []
@@ -41,22 +41,22 @@ ending_changes t pair id = Delete id ∷ PutMove (delta_without_move t pair) ∷
 pub record CanEndAt (t : KeptThread) (pair id : ℕ) (goes : Bool) : Type 0 where
   pub accepted : IsAccepted t.disk t.pairs
   pub writable : IsWritable t.disk t.pairs
-  pub begins : pair_count_before_root t.pairs ≤ pair
+  pub begins : count_before_root t.pairs ≤ pair
   pub below : pair < length t.pairs
-  pub logged : IsRawFormed t.disk (thread_pair_at t pair).at
+  pub logged : IsRawFormed t.disk (thread_pair t pair).at
   pub kind : (pairs_gstate t.pairs).kind ≡ set_move_kind
-  pub named : same_pair (pairs_gstate t.pairs).pair (thread_pair_at t pair).at ≡ true
+  pub named : same_pair (pairs_gstate t.pairs).pair (thread_pair t pair).at ≡ true
   pub id_is : (pairs_gstate t.pairs).id ≡ id
   pub name : Name
-  pub stands : HasName (thread_pair_at t pair).content.slots name id
-  pub stays : goes ≡ false → follows_hard_tail_of t.pairs pair ≡ true → 1 < length (thread_pair_at t pair).content.slots
-  pub alone : goes ≡ true → (follows_hard_tail_of t.pairs pair ≡ true) × (length (thread_pair_at t pair).content.slots ≡ 1)
+  pub stands : HasName (thread_pair t pair).content.slots name id
+  pub stays : goes ≡ false → continues_directory t.pairs pair ≡ true → 1 < length (thread_pair t pair).content.slots
+  pub alone : goes ≡ true → (continues_directory t.pairs pair ≡ true) × (length (thread_pair t pair).content.slots ≡ 1)
 
 -- what the pair then holds, if it stays
 abbrev pub content_move_ended : KeptThread → ℕ → ℕ → PairContent
 content_move_ended t pair id = record {
-  slots = remove (thread_pair_at t pair).content.slots id;
-  tail = (thread_pair_at t pair).content.tail;
+  slots = remove (thread_pair t pair).content.slots id;
+  tail = (thread_pair t pair).content.tail;
   move = delta_without_move t pair;
 }
 
@@ -68,10 +68,10 @@ abbrev pub pairs_move_ended : KeptThread → ℕ → ℕ → Bool → List Pair
 pairs_move_ended t pair id goes = if goes then remove t.pairs pair else pairs_with t pair (content_move_ended t pair id)
 
 abbrev pub dropped_at_end : KeptThread → ℕ → Bool → List ℕ
-dropped_at_end t pair goes = if goes then address_blocks (thread_pair_at t pair).at else []
+dropped_at_end t pair goes = if goes then address_blocks (thread_pair t pair).at else []
 
 abbrev pub map_move_ended : KeptThread → ℕ → Bool → BlockStates
-map_move_ended t pair goes = if goes then map_freeing t.map (thread_pair_at t pair).at else t.map
+map_move_ended t pair goes = if goes then map_freeing t.map (thread_pair t pair).at else t.map
 
 -- The slot is removed, or the pair is dropped with it, and no move is set. The tree, the sync bit, the used blocks but the
 -- pair's, and the slots of every other pair are as they were. The image is accepted and in the writing profile.
@@ -80,10 +80,10 @@ pub record HasEndedAt (old : KeptThread) (pair id : ℕ) (goes : Bool) (new : Ke
   pub state : pairs_gstate new.pairs ≡ gstate_without_move (pairs_gstate old.pairs)
   pub alike : SameSlots (pairs_move_ended old pair id goes) new.pairs
   pub map : new.map ≡ map_move_ended old pair goes
-  pub blocks : (b : ℕ) → number_count b (used_blocks new.disk new.pairs) + number_count b (dropped_at_end old pair goes) ≡ number_count b (used_blocks old.disk old.pairs)
+  pub blocks : (b : ℕ) → number_occurrences b (used_blocks new.disk new.pairs) + number_occurrences b (dropped_at_end old pair goes) ≡ number_occurrences b (used_blocks old.disk old.pairs)
   pub shape : SameGeometryAs old.disk new.disk
   -- The directories begin where they did. A pair without slots that ends its directory stays as it is. A recovery may go on.
-  pub begins : first_pair_addresses (all_directories new.pairs) ≡ first_pair_addresses (all_directories old.pairs)
-  pub root : KeepsRootBeginning old new
-  pub leads_on : RecoveriesAreAllowed old new
-  pub kept : (z : Pair) → z.content.slots ≡ [] → is_hard_tail z.content.tail ≡ false → HoldsOfSome (λ x. x ≡ z) old.pairs → HoldsOfSome (λ x. x ≡ z) new.pairs
+  pub begins : directory_addresses (all_directories new.pairs) ≡ directory_addresses (all_directories old.pairs)
+  pub root : KeepsRootNumber old new
+  pub leads_on : KeepsRecoveryLayouts old new
+  pub kept : (z : Pair) → z.content.slots ≡ [] → is_hard_tail z.content.tail ≡ false → AnyByRecursion (λ x. x ≡ z) old.pairs → AnyByRecursion (λ x. x ≡ z) new.pairs

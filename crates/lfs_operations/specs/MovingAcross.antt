@@ -5,17 +5,17 @@ use Rattle.lfs_model.specs.session.TreeEdits.{tree_renaming, without_prefix}
 use Rattle.lfs_model.specs.session.Operations as ops
 use Rattle.lfs_model.specs.session.Session.{Session}
 use Rattle.lfs_model.specs.session.Refusals.{path_or_root}
-use Rattle.lfs_model.specs.layers.Steps.{IsCompletion}
+use Rattle.lfs_model.specs.layers.Steps.{CompletesOperation}
 use Rattle.lfs_model.specs.layers.Changes.{PairChange, Delete, PutMove}
 use Rattle.lfs_model.specs.session.InDirectory.{IsPairAt, BelongsAt}
 use Rattle.lfs_model.specs.format.Names.{Name, is_valid_name}
 use Rattle.lfs_model.specs.format.Slots.{gstate_xor}
 use Rattle.lfs_model.specs.tree.Profile.{IsWritableEntry}
-use Rattle.lfs_model.specs.tree.Shown.{LeadsTo, tree_on_disk}
+use Rattle.lfs_model.specs.tree.Shown.{LeadsTo, disk_tree}
 use Rattle.lfs_thread.specs.Kept.{KeptThread}
-use Rattle.lfs_thread.specs.ThreadSteps.{thread_pair_at}
+use Rattle.lfs_thread.specs.ThreadSteps.{thread_pair}
 use Rattle.lfs_operations.specs.Editing.{CanEditIn, editable_slot}
-use Rattle.lfs_operations.specs.Dropping.{ShowsAfterDrops}
+use Rattle.lfs_operations.specs.Dropping.{ShowsDroppedTree}
 use Rattle.lfs_operations.specs.Ready.{IsRawFormed}
 use Rattle.lfs_operations.specs.RenamingSlots.{nameless_at, slot_changes}
 use Rattle.lfs_operations.specs.MoveEnds.{gstate_naming}
@@ -27,7 +27,7 @@ clearing_changes replaces id = if replaces then Delete id ∷ [] else []
 -- the changes to the new pair: a move that names the old slot, with the sync bit or without, and a copy of that slot at an id
 abbrev pub moving_changes : (replaces sync : Bool) → KeptThread → (old_pair old_id new_pair new_id : ℕ) → Name → List PairChange
 moving_changes replaces sync t old_pair old_id new_pair new_id name =
-    PutMove (gstate_xor (gstate_naming sync (thread_pair_at t old_pair).at old_id) (thread_pair_at t new_pair).content.move) ∷ (clearing_changes replaces new_id ++ slot_changes new_id name (nameless_at t old_pair old_id))
+    PutMove (gstate_xor (gstate_naming sync (thread_pair t old_pair).at old_id) (thread_pair t new_pair).content.move) ∷ (clearing_changes replaces new_id ++ slot_changes new_id name (nameless_at t old_pair old_id))
 
 -- the same to a name that is new there
 abbrev pub across_changes : KeptThread → (old_pair old_id new_pair new_id : ℕ) → Name → List PairChange
@@ -45,7 +45,7 @@ pub record CanRenameAcross (t : KeptThread) (old_pair old_id first new_pair new_
   pub to_first : ℕ
   pub begins : IsPairAt t.pairs at to_first
   pub belongs : BelongsAt t.disk.order t.pairs to_first name new_pair new_id
-  pub logged : IsRawFormed t.disk (thread_pair_at t new_pair).at
+  pub logged : IsRawFormed t.disk (thread_pair t new_pair).at
   pub apart : old_pair ≢ new_pair
   pub not_beneath : without_prefix (old.path ++ old.name ∷ []) (path ++ name ∷ []) ≡ None
   pub is_name : is_valid_name name ≡ true
@@ -53,10 +53,10 @@ pub record CanRenameAcross (t : KeptThread) (old_pair old_id first new_pair new_
 
 -- the tree in which what was at the one path is at the other
 abbrev pub tree_moved : KeptThread → Path → Name → Path → Name → Tree
-tree_moved t from from_name to to_name = tree_renaming (from ++ from_name ∷ []) (to ++ to_name ∷ []) (tree_on_disk t.disk t.pairs)
+tree_moved t from from_name to to_name = tree_renaming (from ++ from_name ∷ []) (to ++ to_name ∷ []) (disk_tree t.disk t.pairs)
 
 -- The tree has the entry at the other path, and its slot is where the layout wants it. So a rename of its path is completed.
 pub record IsRenamedAcross (old new : KeptThread) (from : Path) (from_name : Name) (to : Path) (to_name : Name) : Type 0 where
-  pub now : ShowsAfterDrops old new (tree_moved old from from_name to to_name) []
-  pub completed : (s : Session) (given to_given : List ℕ) → s.tree ≡ tree_on_disk old.disk old.pairs → path_or_root given ≡ from ++ from_name ∷ [] → path_or_root to_given ≡ to ++ to_name ∷ []
-      → IsCompletion old.disk old.pairs s (ops.Rename given to_given) new.disk new.pairs
+  pub now : ShowsDroppedTree old new (tree_moved old from from_name to to_name) []
+  pub completed : (s : Session) (given to_given : List ℕ) → s.tree ≡ disk_tree old.disk old.pairs → path_or_root given ≡ from ++ from_name ∷ [] → path_or_root to_given ≡ to ++ to_name ∷ []
+      → CompletesOperation old.disk old.pairs s (ops.Rename given to_given) new.disk new.pairs

@@ -5,7 +5,7 @@ use Rattle.lfs_model.specs.session.TreeEdits.{without_prefix}
 use Rattle.lfs_model.specs.session.Operations as ops
 use Rattle.lfs_model.specs.session.Session.{Session}
 use Rattle.lfs_model.specs.session.Refusals.{path_or_root}
-use Rattle.lfs_model.specs.layers.Steps.{IsCompletion, number_count}
+use Rattle.lfs_model.specs.layers.Steps.{CompletesOperation, number_occurrences}
 use Rattle.lfs_model.specs.layers.Changes.{PairChange}
 use Rattle.lfs_model.specs.session.InDirectory.{IsPairAt, IsPlaceOf}
 use Rattle.lfs_model.specs.layers.LoggedContent.{AreWords}
@@ -13,27 +13,27 @@ use Rattle.lfs_model.specs.format.Names.{Name}
 use Rattle.lfs_model.specs.format.Slots.{Branch, Struct, same_pair}
 use Rattle.lfs_model.specs.format.Thread.{is_hard_tail}
 use Rattle.lfs_model.specs.tree.Profile.{IsWritableEntry}
-use Rattle.lfs_model.specs.tree.Shown.{struct_blocks, LeadsTo, tree_on_disk, used_blocks}
+use Rattle.lfs_model.specs.tree.Shown.{struct_blocks, LeadsTo, disk_tree, used_blocks}
 use Rattle.lfs_thread.specs.Kept.{KeptThread}
-use Rattle.lfs_thread.specs.ThreadSteps.{thread_pair_at}
+use Rattle.lfs_thread.specs.ThreadSteps.{thread_pair}
 use Rattle.lfs_operations.specs.Editing.{CanEditIn, editable_slot}
-use Rattle.lfs_operations.specs.Dropping.{ShowsAfterDrops}
+use Rattle.lfs_operations.specs.Dropping.{ShowsDroppedTree}
 use Rattle.lfs_operations.specs.Ready.{IsRawFormed}
 use Rattle.lfs_operations.specs.Removing.{drops_with_its_slot}
 use Rattle.lfs_operations.specs.MovingSteps.{IsPutEnded}
 use Rattle.lfs_operations.specs.MovingAcross.{CanRenameAcross, moving_changes, tree_moved}
 
 -- the changes to the new pair onto an entry: the slot that was there is removed; the sync bit is set or not
-abbrev pub entry_over_changes : Bool → KeptThread → (old_pair old_id new_pair new_id : ℕ) → Name → List PairChange
-entry_over_changes sync t old_pair old_id new_pair new_id name = moving_changes true sync t old_pair old_id new_pair new_id name
+abbrev pub entry_across_changes : Bool → KeptThread → (old_pair old_id new_pair new_id : ℕ) → Name → List PairChange
+entry_across_changes sync t old_pair old_id new_pair new_id name = moving_changes true sync t old_pair old_id new_pair new_id name
 
-abbrev pub file_over_changes : KeptThread → (old_pair old_id new_pair new_id : ℕ) → Name → List PairChange
-file_over_changes t old_pair old_id new_pair new_id name = entry_over_changes false t old_pair old_id new_pair new_id name
+abbrev pub file_across_changes : KeptThread → (old_pair old_id new_pair new_id : ℕ) → Name → List PairChange
+file_across_changes t old_pair old_id new_pair new_id name = entry_across_changes false t old_pair old_id new_pair new_id name
 
 -- The image may be changed. An entry is at old_id of the old pair, in the directory that begins with the pair of number `first`.
 -- A file is at new_id of the new pair, in the directory at a path, and isn't beneath the entry. The entry may be written under
 -- the file's name.
-pub record CanReplaceFileOver (t : KeptThread) (old_pair old_id first new_pair new_id : ℕ) (name : Name) : Type 0 where
+pub record CanReplaceFileAcross (t : KeptThread) (old_pair old_id first new_pair new_id : ℕ) (name : Name) : Type 0 where
   pub old : CanEditIn t old_pair old_id
   pub begins_old : old.first ≡ first
   pub path : Path
@@ -43,13 +43,13 @@ pub record CanReplaceFileOver (t : KeptThread) (old_pair old_id first new_pair n
   pub begins : IsPairAt t.pairs at to_first
   pub target : IsPlaceOf t.pairs to_first name new_pair new_id
   pub file : branch_address target.stands.slot.struct ≡ None
-  pub logged : IsRawFormed t.disk (thread_pair_at t new_pair).at
+  pub logged : IsRawFormed t.disk (thread_pair t new_pair).at
   pub apart : old_pair ≢ new_pair
   pub not_beneath : without_prefix (old.path ++ old.name ∷ []) (path ++ name ∷ []) ≡ None
   pub fits : IsWritableEntry t.disk.profile t.disk.block_size t.disk.page (record (editable_slot old) { name = name })
 
 -- The premises of a rename onto an entry of another pair: onto a file, or with `sync` also onto a directory.
-pub record CanReplaceEntryOver (t : KeptThread) (sync : Bool) (old_pair old_id first new_pair new_id : ℕ) (name : Name) : Type 0 where
+pub record CanReplaceEntryAcross (t : KeptThread) (sync : Bool) (old_pair old_id first new_pair new_id : ℕ) (name : Name) : Type 0 where
   pub old : CanEditIn t old_pair old_id
   pub begins_old : old.first ≡ first
   pub path : Path
@@ -59,7 +59,7 @@ pub record CanReplaceEntryOver (t : KeptThread) (sync : Bool) (old_pair old_id f
   pub begins : IsPairAt t.pairs at to_first
   pub target : IsPlaceOf t.pairs to_first name new_pair new_id
   pub file : sync ≡ false → branch_address target.stands.slot.struct ≡ None
-  pub logged : IsRawFormed t.disk (thread_pair_at t new_pair).at
+  pub logged : IsRawFormed t.disk (thread_pair t new_pair).at
   pub apart : old_pair ≢ new_pair
   pub not_beneath : without_prefix (old.path ++ old.name ∷ []) (path ++ name ∷ []) ≡ None
   pub fits : IsWritableEntry t.disk.profile t.disk.block_size t.disk.page (record (editable_slot old) { name = name })
@@ -67,7 +67,7 @@ pub record CanReplaceEntryOver (t : KeptThread) (sync : Bool) (old_pair old_id f
 -- the premises of a rename to a name that is new in the other pair, or onto an entry of it
 abbrev pub CanMoveAcross : KeptThread → (replaces sync : Bool) → (old_pair old_id first new_pair new_id : ℕ) → Name → Type 0
 CanMoveAcross t false sync old_pair old_id first new_pair new_id name = CanRenameAcross t old_pair old_id first new_pair new_id name
-CanMoveAcross t true sync old_pair old_id first new_pair new_id name = CanReplaceEntryOver t sync old_pair old_id first new_pair new_id name
+CanMoveAcross t true sync old_pair old_id first new_pair new_id name = CanReplaceEntryAcross t sync old_pair old_id first new_pair new_id name
 
 -- the tree after it
 abbrev pub tree_across : (t : KeptThread) (replaces sync : Bool) (old_pair old_id first new_pair new_id : ℕ) (name : Name) → CanMoveAcross t replaces sync old_pair old_id first new_pair new_id name → Tree
@@ -76,19 +76,19 @@ tree_across t true sync old_pair old_id first new_pair new_id name rename = tree
 
 -- A copy of the slot was put in, and then the move ended.
 pub record IsMovedAcross (old : KeptThread) (replaces sync : Bool) (old_pair old_id first new_pair new_id : ℕ) (name : Name) (new : KeptThread) : Type 0 where
-  pub address : AreWords (thread_pair_at old old_pair).at
+  pub address : AreWords (thread_pair old old_pair).at
   pub done : IsPutEnded old old_pair old_id (drops_with_its_slot old old_pair first) new_pair (moving_changes replaces sync old old_pair old_id new_pair new_id name) new
 
 -- The tree has the entry in the file's place. So a rename of its path onto the file's is completed. The blocks of the file's list
 -- are `gone`, each once, and none of them is the image's.
 pub record IsFileReplaced (old new : KeptThread) (from : Path) (from_name : Name) (to : Path) (to_name : Name) (struct : Struct) : Type 0 where
-  pub now : ShowsAfterDrops old new (tree_moved old from from_name to to_name) (struct_blocks old.disk struct)
-  pub once : (b : ℕ) → number_count b (used_blocks new.disk new.pairs) + number_count b (struct_blocks old.disk struct) ≤ 1
-  pub completed : (s : Session) (given to_given : List ℕ) → s.tree ≡ tree_on_disk old.disk old.pairs → path_or_root given ≡ from ++ from_name ∷ [] → path_or_root to_given ≡ to ++ to_name ∷ []
-      → IsCompletion old.disk old.pairs s (ops.Rename given to_given) new.disk new.pairs
+  pub now : ShowsDroppedTree old new (tree_moved old from from_name to to_name) (struct_blocks old.disk struct)
+  pub once : (b : ℕ) → number_occurrences b (used_blocks new.disk new.pairs) + number_occurrences b (struct_blocks old.disk struct) ≤ 1
+  pub completed : (s : Session) (given to_given : List ℕ) → s.tree ≡ disk_tree old.disk old.pairs → path_or_root given ≡ from ++ from_name ∷ [] → path_or_root to_given ≡ to ++ to_name ∷ []
+      → CompletesOperation old.disk old.pairs s (ops.Rename given to_given) new.disk new.pairs
 
--- The premises of CanReplaceFileOver, but a directory is there. The pair of number `gone` is its only one, and has no slots.
-pub record CanReplaceDirectoryOver (t : KeptThread) (old_pair old_id first new_pair new_id : ℕ) (name : Name) (gone : ℕ) : Type 0 where
+-- The premises of CanReplaceFileAcross, but a directory is there. The pair of number `gone` is its only one, and has no slots.
+pub record CanReplaceDirectoryAcross (t : KeptThread) (old_pair old_id first new_pair new_id : ℕ) (name : Name) (gone : ℕ) : Type 0 where
   pub old : CanEditIn t old_pair old_id
   pub begins_old : old.first ≡ first
   pub path : Path
@@ -100,10 +100,10 @@ pub record CanReplaceDirectoryOver (t : KeptThread) (old_pair old_id first new_p
   pub to : ℕ × ℕ
   pub branch : target.stands.slot.struct ≡ Branch to
   pub below : gone < length t.pairs
-  pub alike : same_pair (thread_pair_at t gone).at to ≡ true
-  pub empty : (thread_pair_at t gone).content.slots ≡ []
-  pub alone : is_hard_tail (thread_pair_at t gone).content.tail ≡ false
-  pub logged : IsRawFormed t.disk (thread_pair_at t new_pair).at
+  pub alike : same_pair (thread_pair t gone).at to ≡ true
+  pub empty : (thread_pair t gone).content.slots ≡ []
+  pub alone : is_hard_tail (thread_pair t gone).content.tail ≡ false
+  pub logged : IsRawFormed t.disk (thread_pair t new_pair).at
   pub apart : old_pair ≢ new_pair
   pub not_beneath : without_prefix (old.path ++ old.name ∷ []) (path ++ name ∷ []) ≡ None
   pub fits : IsWritableEntry t.disk.profile t.disk.block_size t.disk.page (record (editable_slot old) { name = name })

@@ -9,12 +9,12 @@ use Rattle.lfs_model.specs.session.History.{CallEvent, fault_count}
 use Rattle.lfs_model.specs.crash.PowerLoss.{SurvivesLossSince}
 use Rattle.lfs_model.specs.tree.Tree.{Tree}
 use Rattle.lfs_model.specs.layers.Changes.{PairChange}
-use Rattle.lfs_model.specs.format.Thread.{blocks_of_pairs}
-use Rattle.lfs_model.specs.tree.Shown.{tree_on_disk}
+use Rattle.lfs_model.specs.format.Thread.{pairs_blocks}
+use Rattle.lfs_model.specs.tree.Shown.{disk_tree}
 use Rattle.lfs_thread.specs.Kept.{KeptThread, ThreadView}
-use Rattle.lfs_thread.specs.ThreadDevice.{LossLeavesCleanly}
-use Rattle.lfs_thread.specs.ThreadSteps.{OnlyReadsThread, ChangesThreadBlocks, thread_pair_at}
-use Rattle.lfs_operations.specs.Changing.{CanTurn, HasTwoFree, LeftByTurn, IsTurned, ChangeIsTooLarge, TakesAtMostTwo, has_failed_after}
+use Rattle.lfs_thread.specs.ThreadDevice.{CleanLossLeaves}
+use Rattle.lfs_thread.specs.ThreadSteps.{OnlyReadsThread, ChangesThreadBlocks, thread_pair}
+use Rattle.lfs_operations.specs.Changing.{CanPut, HasTwoFree, LeftByPut, ArePut, OverfillsPair, TakesAtMostTwo, has_failed_after}
 use Rattle.lfs_operations.specs.Removing.{drops_with_its_slot}
 use Rattle.lfs_operations.specs.MoveEnds.{CanEndAt, written_at_end, HasEndedAt}
 
@@ -27,52 +27,52 @@ pub record CanEndSecond (old : KeptThread) (old_pair old_id : ℕ) (goes : Bool)
   pub apart : old_pair ≢ new_pair
   pub grown : length old.pairs ≤ length mid.pairs
   pub can : CanEndAt mid (number_after_insertion old_pair new_pair (length mid.pairs - length old.pairs)) old_id goes
-  pub at : (thread_pair_at mid (number_after_insertion old_pair new_pair (length mid.pairs - length old.pairs))).at ≡ (thread_pair_at old old_pair).at
+  pub at : (thread_pair mid (number_after_insertion old_pair new_pair (length mid.pairs - length old.pairs))).at ≡ (thread_pair old old_pair).at
 
 -- The changes can be put into the new pair, and then the move can end at the old one.
 pub record CanPutAndEnd (t : KeptThread) (old_pair old_id : ℕ) (goes : Bool) (new_pair : ℕ) (changes : List PairChange) : Type 0 where
-  pub turns : CanTurn t new_pair changes
-  pub ends : (mid : KeptThread) → IsTurned t new_pair changes mid → CanEndSecond t old_pair old_id goes new_pair mid
+  pub turns : CanPut t new_pair changes
+  pub ends : (mid : KeptThread) → ArePut t new_pair changes mid → CanEndSecond t old_pair old_id goes new_pair mid
 
 -- The changes were put into the new pair, and then the move ended. Pairs have no new blocks but at most two that were free.
 pub record IsPutEnded (old : KeptThread) (old_pair old_id : ℕ) (goes : Bool) (new_pair : ℕ) (changes : List PairChange) (new : KeptThread) : Type 0 where
   pub mid : KeptThread
-  pub put : IsTurned old new_pair changes mid
+  pub put : ArePut old new_pair changes mid
   pub ended : HasEndedAt mid (number_after_insertion old_pair new_pair (length mid.pairs - length old.pairs)) old_id goes new
   pub blocks : TakesAtMostTwo old new
 
 -- the pair that the second step writes: the old one, or the one before it where that is dropped with its slot
-abbrev pub second_commit_pair : KeptThread → ℕ → ℕ → ℕ
-second_commit_pair t pair first = written_at_end pair (drops_with_its_slot t pair first)
+abbrev pub second_pair : KeptThread → ℕ → ℕ → ℕ
+second_pair t pair first = written_at_end pair (drops_with_its_slot t pair first)
 
 -- If a stop in the first step leaves a disk with one of two trees, and the first step leads to the second tree, then a stop in
 -- either step leaves one of them.
-abbrev pub SurvivesBothCommits : KeptThread → ℕ → List PairChange → KeptThread → Type 0
-SurvivesBothCommits old new_pair changes new = (before after : Tree)
-    → ((calls : List CallEvent) → LossLeavesCleanly old.history calls (LeftByTurn old new_pair changes) → SurvivesLossSince old.disk old.history calls before after)
-    → ((mid : KeptThread) → IsTurned old new_pair changes mid → tree_on_disk mid.disk mid.pairs ≡ after) → SurvivesLossSince old.disk old.history new.history before after
+abbrev pub SurvivesCommits : KeptThread → ℕ → List PairChange → KeptThread → Type 0
+SurvivesCommits old new_pair changes new = (before after : Tree)
+    → ((calls : List CallEvent) → CleanLossLeaves old.history calls (LeftByPut old new_pair changes) → SurvivesLossSince old.disk old.history calls before after)
+    → ((mid : KeptThread) → ArePut old new_pair changes mid → disk_tree mid.disk mid.pairs ≡ after) → SurvivesLossSince old.disk old.history new.history before after
 
 -- What an operation of several steps reports. `Io` comes with a fault of the device, and any other result with none. At `NoSpace`
 -- everything is as it was; it comes only where what the changes make doesn't fit the pair and fewer than two blocks are free. At
 -- any other error the thread has failed, unless it was only read by then.
-pub record ReportsErrorsOfCommitsTakingBlocks {X : Type 0} (old new : ThreadView) (index : ℕ) (changes : List PairChange) (result : Result X Error) : Type 0 where
+pub record ReportsTakingCommits {X : Type 0} (old new : ThreadView) (index : ℕ) (changes : List PairChange) (result : Result X Error) : Type 0 where
   pub failed : (new.failed ≡ has_failed_after result) ⊎ ((new.failed ≡ false) × OnlyReadsThread old.kept new.kept)
   pub errors : IfErr result (λ e. (e ≡ Io) ⊎ ((e ≡ NoMemory) ⊎ (e ≡ NoSpace)))
   pub fault : IsErrOf result Io → fault_count old.kept.history < fault_count new.kept.history
   pub no_fault : ¬ IsErrOf result Io → fault_count new.kept.history ≡ fault_count old.kept.history
   pub unchanged : result ≡ Err NoSpace → OnlyReadsThread old.kept new.kept
   pub no_space : result ≡ Err NoSpace → HasTwoFree old.kept.map → ⊥
-  pub too_large : result ≡ Err NoSpace → ChangeIsTooLarge old.kept index changes
+  pub too_large : result ≡ Err NoSpace → OverfillsPair old.kept index changes
 
 -- No block changed but those of the two pairs, and at most two that were free.
-pub record WritesTwoTwo (old : KeptThread) (one other : ℕ) (new : KeptThread) : Type 0 where
+pub record WritesPairsTwo (old : KeptThread) (one other : ℕ) (new : KeptThread) : Type 0 where
   pub fresh : List ℕ
   pub few : length fresh ≤ 2
   pub free : AllByRecursion (IsFree old.map) fresh
-  pub writes : ChangesThreadBlocks ((thread_pair_at old other).at.0 ∷ (thread_pair_at old other).at.1 ∷ (thread_pair_at old one).at.0 ∷ (thread_pair_at old one).at.1 ∷ fresh) old new
+  pub writes : ChangesThreadBlocks ((thread_pair old other).at.0 ∷ (thread_pair old other).at.1 ∷ (thread_pair old one).at.0 ∷ (thread_pair old one).at.1 ∷ fresh) old new
 
 -- No block changed but those of pairs, and blocks that were free.
 pub record WritesThreadFree (old new : KeptThread) : Type 0 where
   pub blocks : List ℕ
-  pub each : AllByRecursion (λ b. Contains (blocks_of_pairs old.pairs) b ⊎ IsFree old.map b) blocks
+  pub each : AllByRecursion (λ b. Contains (pairs_blocks old.pairs) b ⊎ IsFree old.map b) blocks
   pub writes : ChangesThreadBlocks blocks old new

@@ -5,12 +5,12 @@ use Rattle.lfs_model.specs.format.Content.{RawContent, raw_content}
 use Rattle.lfs_model.specs.format.Disk.{Disk, block_count}
 use Rattle.lfs_model.specs.layers.LoggedContent.{IsWellFormed}
 use Rattle.lfs_model.specs.format.Slots.{zero_gstate}
-use Rattle.lfs_model.specs.format.Thread.{pairs_gstate, pair_count_before_root}
+use Rattle.lfs_model.specs.format.Thread.{pairs_gstate, count_before_root}
 use Rattle.lfs_model.specs.tree.View.{IsAccepted}
 use Rattle.lfs_model.specs.tree.Profile.{IsWritable}
-use Rattle.lfs_model.specs.tree.Shown.{tree_on_disk, used_blocks}
+use Rattle.lfs_model.specs.tree.Shown.{disk_tree, used_blocks}
 use Rattle.lfs_model.specs.tree.Tree.{Tree}
-use Rattle.lfs_model.specs.layers.Steps.{number_count}
+use Rattle.lfs_model.specs.layers.Steps.{number_occurrences}
 use Rattle.lfs_thread.specs.Kept.{KeptThread}
 
 -- The image is accepted and in the writing profile. No move is set, nor the sync bit. The map knows each of the image's blocks. A
@@ -32,8 +32,8 @@ abbrev pub HasNoneNew : BlockStates → BlockStates → Type 0
 HasNoneNew old new = (b : ℕ) → IsInFlight new b → IsInFlight old b
 
 -- as many pairs as before come before the root directory's first one
-abbrev pub KeepsRootBeginning : KeptThread → KeptThread → Type 0
-KeepsRootBeginning old new = pair_count_before_root new.pairs ≡ pair_count_before_root old.pairs
+abbrev pub KeepsRootNumber : KeptThread → KeptThread → Type 0
+KeepsRootNumber old new = count_before_root new.pairs ≡ count_before_root old.pairs
 
 -- what the log of a pair comes to is something that a log can come to, as where its bytes are below 256
 abbrev pub IsRawFormed : Disk → ℕ × ℕ → Type 0
@@ -43,29 +43,29 @@ IsRawFormed disk at = (raw : RawContent) → raw_content disk at ≡ Some raw �
 -- further block is in flight.
 pub record ShowsReadyTree (old new : KeptThread) (tree : Tree) : Type 0 where
   pub ready : IsReadyImage new
-  pub shows : tree_on_disk new.disk new.pairs ≡ tree
+  pub shows : disk_tree new.disk new.pairs ≡ tree
   pub stays : KeepsTakenStates old.map new.map
   pub none_comes : HasNoneNew old.map new.map
-  pub root : KeepsRootBeginning old new
+  pub root : KeepsRootNumber old new
 
 -- The map's used blocks are `used` without `come` and with `gone`.
-pub record AreUsedUntilUpdate (sets : BlockStates) (used gone come : List ℕ) : Type 0 where
+pub record AreUsedUnsettled (sets : BlockStates) (used gone come : List ℕ) : Type 0 where
   pub owned : List ℕ
   pub are : AreUsed sets owned
-  pub same : (b : ℕ) → number_count b owned + number_count b come ≡ number_count b used + number_count b gone
+  pub same : (b : ℕ) → number_occurrences b owned + number_occurrences b come ≡ number_occurrences b used + number_occurrences b gone
 
 -- An image that may be changed again once `come` are settled in the map, and `gone` are freed.
-pub record IsReadyUpdated (t : KeptThread) (gone come : List ℕ) : Type 0 where
+pub record IsReadyUnsettled (t : KeptThread) (gone come : List ℕ) : Type 0 where
   pub accepted : IsAccepted t.disk t.pairs
   pub writable : IsWritable t.disk t.pairs
   pub settled : pairs_gstate t.pairs ≡ zero_gstate
-  pub used : AreUsedUntilUpdate t.map (used_blocks t.disk t.pairs) gone come
+  pub used : AreUsedUnsettled t.map (used_blocks t.disk t.pairs) gone come
   pub size : length t.map ≡ block_count t.disk
   pub large : 1024 ≤ t.disk.block_size
 
-pub record ShowsUpdatedTree (old new : KeptThread) (tree : Tree) (gone come : List ℕ) : Type 0 where
-  pub ready : IsReadyUpdated new gone come
-  pub shows : tree_on_disk new.disk new.pairs ≡ tree
+pub record ShowsUnsettledTree (old new : KeptThread) (tree : Tree) (gone come : List ℕ) : Type 0 where
+  pub ready : IsReadyUnsettled new gone come
+  pub shows : disk_tree new.disk new.pairs ≡ tree
   pub stays : KeepsTakenStates old.map new.map
   pub none_comes : HasNoneNew old.map new.map
-  pub root : KeepsRootBeginning old new
+  pub root : KeepsRootNumber old new

@@ -11,16 +11,16 @@ use Rattle.lfs_model.specs.session.Operations as ops
 use Rattle.lfs_model.specs.session.Recovery.{AllReached}
 use Rattle.lfs_model.specs.session.Session.{Session}
 use Rattle.lfs_model.specs.format.Slots.{Gstate, Slot, zero_gstate}
-use Rattle.lfs_model.specs.format.Thread.{Pair, blocks_of_pairs, pairs_from_root, pairs_gstate, pair_count_before_root}
+use Rattle.lfs_model.specs.format.Thread.{Pair, pairs_blocks, pairs_from_root, pairs_gstate, count_before_root}
 use Rattle.lfs_model.specs.tree.View.{IsAccepted}
-use Rattle.lfs_model.specs.tree.Shown.{IsReachedBySome, all_slots_not_moved, tree_on_disk, used_blocks}
+use Rattle.lfs_model.specs.tree.Shown.{IsReachedBySome, all_unmoved_slots, disk_tree, used_blocks}
 use Rattle.lfs_model.specs.tree.Profile.{IsWritable}
-use Rattle.lfs_model.specs.layers.Steps.{SameSlots, IsCompletion, number_count, SameFileBlocks, HasNoMove, file_blocks, IsWritableChange}
+use Rattle.lfs_model.specs.layers.Steps.{SameSlots, CompletesOperation, number_occurrences, SameFileBlocks, HasNoMove, file_blocks, IsWritableChange}
 use Rattle.lfs_model.specs.session.InDirectory.{all_slots}
 use Rattle.lfs_thread.specs.Kept.{KeptThread, ThreadView}
 use Rattle.lfs_thread.specs.ThreadSteps.{empty_anchor}
 use Rattle.lfs_operations.specs.Dropping.{SameInFlight}
-use Rattle.lfs_operations.specs.Ready.{IsReadyUpdated, KeepsRootBeginning}
+use Rattle.lfs_operations.specs.Ready.{IsReadyUnsettled, KeepsRootNumber}
 
 -- These are the numbers, in rising order, of those pairs of xs to whose directory no path leads. The first of xs has the number
 -- n. `from` is where the directory of the pair before it begins, if a hard tail continues it.
@@ -31,7 +31,7 @@ AreUnreachedFrom R n from (x ∷ xs) numbers = (R (directory_address from x) × 
 
 -- the numbers, in the thread, of the pairs of directories that no path leads to
 abbrev pub AreUnreachedNumbers : List Pair → List ℕ → Type 0
-AreUnreachedNumbers ps numbers = AreUnreachedFrom (IsReachedBySome ps) (pair_count_before_root ps) None (pairs_from_root ps) numbers
+AreUnreachedNumbers ps numbers = AreUnreachedFrom (IsReachedBySome ps) (count_before_root ps) None (pairs_from_root ps) numbers
 
 -- The image is accepted and may be written, and no move is set. The map knows each of its blocks. The numbers are those of the
 -- pairs that no path leads to. A block has at least 1,024 bytes, as in each geometry.
@@ -52,7 +52,7 @@ pub record CanClearSync (t : KeptThread) : Type 0 where
   pub reached : AllReached t.pairs
 
 -- `Io` comes with a fault of the device, and any other result with none. After an error the thread has failed.
-pub record ReportsErrorsOfRecovery {X : Type 0} (old new : ThreadView) (result : Result X Error) : Type 0 where
+pub record ReportsRecovery {X : Type 0} (old new : ThreadView) (result : Result X Error) : Type 0 where
   pub failed : new.failed ≡ is_err result
   pub errors : IfErr result (λ e. (e ≡ Io) ⊎ (e ≡ NoMemory))
   pub fault : IsErrOf result Io → fault_count old.kept.history < fault_count new.kept.history
@@ -64,30 +64,30 @@ pub record IsSyncCleared (old new : KeptThread) : Type 0 where
   pub alike : SameSlots old.pairs new.pairs
   pub settled : pairs_gstate new.pairs ≡ zero_gstate
   pub map : new.map ≡ old.map
-  pub files : All (λ s. SameFileBlocks old.disk new.disk s.struct) (all_slots_not_moved old.pairs)
+  pub files : All (λ s. SameFileBlocks old.disk new.disk s.struct) (all_unmoved_slots old.pairs)
 
 -- the slots of the pairs of these numbers, in turn
 abbrev pub numbered_slots : List Pair → List ℕ → List Slot
 numbered_slots ps numbers = flat_map (λ n. (slice_index_or ps n empty_anchor).content.slots) numbers
 
 -- the blocks of the lists that these slots name
-abbrev pub numbered_blocks : KeptThread → List ℕ → List ℕ
-numbered_blocks t numbers = file_blocks t.disk (numbered_slots t.pairs numbers)
+abbrev pub numbered_list_blocks : KeptThread → List ℕ → List ℕ
+numbered_list_blocks t numbers = file_blocks t.disk (numbered_slots t.pairs numbers)
 
 -- Nothing is left to recover, the tree is as it was, and the slots are where the layout wants them. So a recovery is completed.
 -- The root directory begins where it did. The pairs of these numbers are dropped, their blocks are free, and no pair is new. The
 -- lists of their slots are unchanged, and have blocks that no other list has. These are still used.
 pub record HasDroppedRecovered (old : KeptThread) (numbers : List ℕ) (new : KeptThread) : Type 0 where
-  pub ready : IsReadyUpdated new (numbered_blocks old numbers) []
+  pub ready : IsReadyUnsettled new (numbered_list_blocks old numbers) []
   pub stand : All (λ s. SameFileBlocks old.disk new.disk s.struct) (numbered_slots old.pairs numbers)
-  pub lost : (b : ℕ) → number_count b (numbered_blocks old numbers) + number_count b (file_blocks new.disk (all_slots new.pairs)) ≡ number_count b (file_blocks old.disk (all_slots old.pairs))
-  pub once : (b : ℕ) → number_count b (used_blocks new.disk new.pairs) + number_count b (numbered_blocks old numbers) ≤ 1
-  pub fewer : (b : ℕ) → number_count b (blocks_of_pairs new.pairs) ≤ number_count b (blocks_of_pairs old.pairs)
+  pub lost : (b : ℕ) → number_occurrences b (numbered_list_blocks old numbers) + number_occurrences b (file_blocks new.disk (all_slots new.pairs)) ≡ number_occurrences b (file_blocks old.disk (all_slots old.pairs))
+  pub once : (b : ℕ) → number_occurrences b (used_blocks new.disk new.pairs) + number_occurrences b (numbered_list_blocks old numbers) ≤ 1
+  pub fewer : (b : ℕ) → number_occurrences b (pairs_blocks new.pairs) ≤ number_occurrences b (pairs_blocks old.pairs)
   pub flying : SameInFlight old.map new.map
-  pub root : KeepsRootBeginning old new
-  pub shows : tree_on_disk new.disk new.pairs ≡ tree_on_disk old.disk old.pairs
-  pub completed : (s : Session) → s.tree ≡ tree_on_disk old.disk old.pairs → IsCompletion old.disk old.pairs s ops.Recover new.disk new.pairs
+  pub root : KeepsRootNumber old new
+  pub shows : disk_tree new.disk new.pairs ≡ disk_tree old.disk old.pairs
+  pub completed : (s : Session) → s.tree ≡ disk_tree old.disk old.pairs → CompletesOperation old.disk old.pairs s ops.Recover new.disk new.pairs
 
 -- the global state that is wanted after a pair is dropped: zero after the last one
-abbrev pub gstate_after_drops : KeptThread → Bool → Gstate
-gstate_after_drops t is_last = if is_last then zero_gstate else pairs_gstate t.pairs
+abbrev pub gstate_while_dropping : KeptThread → Bool → Gstate
+gstate_while_dropping t is_last = if is_last then zero_gstate else pairs_gstate t.pairs

@@ -8,12 +8,12 @@ use Rattle.lfs_model.specs.session.Session.{Session}
 use Rattle.lfs_model.specs.format.Slots.{Struct}
 use Rattle.lfs_model.specs.session.Refusals.{path_or_root}
 use Rattle.lfs_model.specs.tree.Tree.{Path, Tree, branch_address}
-use Rattle.lfs_model.specs.tree.Shown.{struct_blocks, tree_on_disk, used_blocks}
-use Rattle.lfs_model.specs.layers.Steps.{IsCompletion, number_count}
+use Rattle.lfs_model.specs.tree.Shown.{struct_blocks, disk_tree, used_blocks}
+use Rattle.lfs_model.specs.layers.Steps.{CompletesOperation, number_occurrences}
 use Rattle.lfs_thread.specs.Kept.{KeptThread, ThreadView}
-use Rattle.lfs_thread.specs.ThreadSteps.{IoMeantFaultNoMemoryWroteNothing, thread_pair_at}
+use Rattle.lfs_thread.specs.ThreadSteps.{ThreadReportsErrors, thread_pair}
 use Rattle.lfs_operations.specs.Editing.{CanEditIn, editable_slot}
-use Rattle.lfs_operations.specs.Dropping.{ShowsAfterDrops}
+use Rattle.lfs_operations.specs.Dropping.{ShowsDroppedTree}
 
 -- A file is at the id of the pair, in the directory that begins with the pair of number `first`.
 pub record CanRemoveIn (t : KeptThread) (pair id first : ℕ) : Type 0 where
@@ -23,24 +23,24 @@ pub record CanRemoveIn (t : KeptThread) (pair id first : ℕ) : Type 0 where
 
 -- its slot is the only one of a pair that isn't the first of the directory, so the pair is dropped with it
 abbrev pub drops_with_its_slot : KeptThread → ℕ → ℕ → Bool
-drops_with_its_slot t pair first = not (pair == first) && length (thread_pair_at t pair).content.slots == 1
+drops_with_its_slot t pair first = not (pair == first) && length (thread_pair t pair).content.slots == 1
 
 -- the pair that is written: the slot's, or the one before it
 abbrev pub written_by_removal : KeptThread → ℕ → ℕ → ℕ × ℕ
-written_by_removal t pair first = if drops_with_its_slot t pair first then (thread_pair_at t (pair - 1)).at else (thread_pair_at t pair).at
+written_by_removal t pair first = if drops_with_its_slot t pair first then (thread_pair t (pair - 1)).at else (thread_pair t pair).at
 
 abbrev pub tree_without_entry : KeptThread → Path → Name → Tree
-tree_without_entry t path name = tree_removing (path ++ name ∷ []) (tree_on_disk t.disk t.pairs)
+tree_without_entry t path name = tree_removing (path ++ name ∷ []) (disk_tree t.disk t.pairs)
 
 -- The tree has no such file, and the other slots are where the layout wants them. So a remove of its path is completed. The
 -- blocks of the file's list are `gone`, each once, and none of them is the image's.
 pub record IsFileRemoved (old new : KeptThread) (path : Path) (name : Name) (struct : Struct) : Type 0 where
-  pub now : ShowsAfterDrops old new (tree_without_entry old path name) (struct_blocks old.disk struct)
-  pub completed : (s : Session) (given : List ℕ) → s.tree ≡ tree_on_disk old.disk old.pairs → path_or_root given ≡ path ++ name ∷ []
-      → IsCompletion old.disk old.pairs s (ops.Remove given) new.disk new.pairs
-  pub once : (b : ℕ) → number_count b (used_blocks new.disk new.pairs) + number_count b (struct_blocks old.disk struct) ≤ 1
+  pub now : ShowsDroppedTree old new (tree_without_entry old path name) (struct_blocks old.disk struct)
+  pub completed : (s : Session) (given : List ℕ) → s.tree ≡ disk_tree old.disk old.pairs → path_or_root given ≡ path ++ name ∷ []
+      → CompletesOperation old.disk old.pairs s (ops.Remove given) new.disk new.pairs
+  pub once : (b : ℕ) → number_occurrences b (used_blocks new.disk new.pairs) + number_occurrences b (struct_blocks old.disk struct) ≤ 1
 
 -- what a step reports that takes no block, and whether the thread has failed after it
-pub record ReportsErrorsOfCommitTakingNoBlock {X : Type 0} (old new : ThreadView) (result : Result X Error) : Type 0 where
+pub record ReportsCommit {X : Type 0} (old new : ThreadView) (result : Result X Error) : Type 0 where
   pub failed : new.failed ≡ is_err result
-  pub reported : IoMeantFaultNoMemoryWroteNothing old.kept new.kept result
+  pub reported : ThreadReportsErrors old.kept new.kept result

@@ -12,13 +12,13 @@ use Rattle.lfs_model.specs.format.Slots.{Struct}
 use Rattle.lfs_model.specs.session.Refusals.{path_or_root}
 use Rattle.lfs_model.specs.tree.Tree.{Path, Tree, branch_address}
 use Rattle.lfs_model.specs.tree.Profile.{IsWritableEntry}
-use Rattle.lfs_model.specs.tree.Shown.{struct_blocks, tree_on_disk, used_blocks}
-use Rattle.lfs_model.specs.layers.Steps.{IsCompletion, number_count}
+use Rattle.lfs_model.specs.tree.Shown.{struct_blocks, disk_tree, used_blocks}
+use Rattle.lfs_model.specs.layers.Steps.{CompletesOperation, number_occurrences}
 use Rattle.lfs_thread.specs.Kept.{KeptThread, ThreadView}
 use Rattle.lfs_thread.specs.ThreadSteps.{OnlyReadsThread}
-use Rattle.lfs_operations.specs.Changing.{ChangeIsTooLarge, ReportsFaultsChangingNothingAtNoSpace, has_failed_after}
+use Rattle.lfs_operations.specs.Changing.{OverfillsPair, ReportsSpaceErrors, has_failed_after}
 use Rattle.lfs_operations.specs.Editing.{CanEditIn, editable_slot}
-use Rattle.lfs_operations.specs.Ready.{ShowsReadyTree, ShowsUpdatedTree}
+use Rattle.lfs_operations.specs.Ready.{ShowsReadyTree, ShowsUnsettledTree}
 use Rattle.lfs_operations.specs.RenamingSlots.{nameless_at, slot_changes}
 
 -- a place among slots after the slot at an id was removed
@@ -52,11 +52,11 @@ pub record CanRenameOnto (t : KeptThread) (pair id place : ℕ) (name : Name) : 
 
 -- the tree in which what was at the one name is at the other
 abbrev pub tree_renamed : KeptThread → Path → Name → Name → Tree
-tree_renamed t path from to = tree_renaming (path ++ from ∷ []) (path ++ to ∷ []) (tree_on_disk t.disk t.pairs)
+tree_renamed t path from to = tree_renaming (path ++ from ∷ []) (path ++ to ∷ []) (disk_tree t.disk t.pairs)
 
 abbrev pub CompletesRename : KeptThread → KeptThread → Path → Name → Name → Type 0
-CompletesRename old new path from to = (s : Session) (given to_given : List ℕ) → s.tree ≡ tree_on_disk old.disk old.pairs → path_or_root given ≡ path ++ from ∷ [] → path_or_root to_given ≡ path ++ to ∷ []
-    → IsCompletion old.disk old.pairs s (ops.Rename given to_given) new.disk new.pairs
+CompletesRename old new path from to = (s : Session) (given to_given : List ℕ) → s.tree ≡ disk_tree old.disk old.pairs → path_or_root given ≡ path ++ from ∷ [] → path_or_root to_given ≡ path ++ to ∷ []
+    → CompletesOperation old.disk old.pairs s (ops.Rename given to_given) new.disk new.pairs
 
 -- The tree has the entry under the other name, and its slot is where the layout wants it. So a rename of its path is completed.
 pub record IsRenamedWithin (old new : KeptThread) (path : Path) (from to : Name) : Type 0 where
@@ -66,13 +66,13 @@ pub record IsRenamedWithin (old new : KeptThread) (path : Path) (from to : Name)
 -- The tree has the entry in the file's place. So a rename of its path onto the file's is completed. The blocks of the file's list
 -- are `gone`, each once, and none of them is the image's.
 pub record IsRenamedOnto (old new : KeptThread) (path : Path) (from to : Name) (struct : Struct) : Type 0 where
-  pub now : ShowsUpdatedTree old new (tree_renamed old path from to) (struct_blocks old.disk struct) []
-  pub once : (b : ℕ) → number_count b (used_blocks new.disk new.pairs) + number_count b (struct_blocks old.disk struct) ≤ 1
+  pub now : ShowsUnsettledTree old new (tree_renamed old path from to) (struct_blocks old.disk struct) []
+  pub once : (b : ℕ) → number_occurrences b (used_blocks new.disk new.pairs) + number_occurrences b (struct_blocks old.disk struct) ≤ 1
   pub completed : CompletesRename old new path from to
 
 -- What an operation reports that reads a slot before it changes or splits the pair: as `ReportsPut`, except that the thread works
 -- on and is as it was where the slot couldn't be read.
-pub record ReportsErrorsOfReadThenChangeOrSplit {X : Type 0} (old new : ThreadView) (index : ℕ) (changes : List PairChange) (result : Result X Error) : Type 0 where
+pub record ReportsReadPut {X : Type 0} (old new : ThreadView) (index : ℕ) (changes : List PairChange) (result : Result X Error) : Type 0 where
   pub failed : (new.failed ≡ has_failed_after result) ⊎ ((new.failed ≡ false) × OnlyReadsThread old.kept new.kept)
-  pub reports : ReportsFaultsChangingNothingAtNoSpace old.kept new.kept result
-  pub too_large : result ≡ Err NoSpace → ChangeIsTooLarge old.kept index changes
+  pub reports : ReportsSpaceErrors old.kept new.kept result
+  pub too_large : result ≡ Err NoSpace → OverfillsPair old.kept index changes

@@ -15,15 +15,15 @@ use Rattle.lfs_model.specs.tree.Tree.{Path}
 use Rattle.lfs_model.specs.tree.Profile.{IsWritableEntry}
 use Rattle.lfs_model.specs.layers.Steps.{sync_bit_delta, renamed_addresses, IsWritableChange}
 use Rattle.lfs_thread.specs.Kept.{KeptThread, ThreadView}
-use Rattle.lfs_thread.specs.ThreadSteps.{IoMeantFaultNoMemoryWroteNothing, IsPairCommitted, OnlyReadsThread, IsPairWritten, thread_pair_at, pairs_with}
-use Rattle.lfs_operations.specs.Dropping.{ShowsAfterDrops}
+use Rattle.lfs_thread.specs.ThreadSteps.{ThreadReportsErrors, IsPairCommitted, OnlyReadsThread, IsPairWritten, thread_pair, pairs_with}
+use Rattle.lfs_operations.specs.Dropping.{ShowsDroppedTree}
 use Rattle.lfs_operations.specs.Editing.{CanEditIn, editable_slot}
 use Rattle.lfs_operations.specs.Renaming.{CompletesRename, id_after_removal, tree_renamed}
 use Rattle.lfs_operations.specs.RenamingSlots.{nameless_at, slot_changes}
 
 -- the pair's delta turns the sync bit, both slots are removed, and the entry's is put in at the other's place
 abbrev pub replace_directory_changes : KeptThread → ℕ → ℕ → ℕ → Name → List PairChange
-replace_directory_changes t pair id place name = PutMove (gstate_xor (thread_pair_at t pair).content.move sync_bit_delta) ∷ Delete id ∷ Delete (id_after_removal id place)
+replace_directory_changes t pair id place name = PutMove (gstate_xor (thread_pair t pair).content.move sync_bit_delta) ∷ Delete id ∷ Delete (id_after_removal id place)
     ∷ slot_changes (id_after_removal id place) name (nameless_at t pair id)
 
 -- The image may be changed. An entry is at the id of the pair, and a directory of another name at a place of the same pair and
@@ -50,9 +50,9 @@ pub record IsDirectoryReplaced (old new : KeptThread) (pair id place : ℕ) (pat
 
 -- What a step reports that reads a slot first and takes no block: after an error the thread has failed, except that it works on
 -- and is as it was where the slot couldn't be read.
-pub record ReportsErrorsOfReadThenCommit {X : Type 0} (old new : ThreadView) (result : Result X Error) : Type 0 where
+pub record ReportsReadCommit {X : Type 0} (old new : ThreadView) (result : Result X Error) : Type 0 where
   pub failed : (new.failed ≡ is_err result) ⊎ ((new.failed ≡ false) × OnlyReadsThread old.kept new.kept)
-  pub reported : IoMeantFaultNoMemoryWroteNothing old.kept new.kept result
+  pub reported : ThreadReportsErrors old.kept new.kept result
 
 -- ---- the operation
 
@@ -60,20 +60,20 @@ pub record ReportsErrorsOfReadThenCommit {X : Type 0} (old new : ThreadView) (re
 pub record CanRenameOver (t : KeptThread) (pair id place : ℕ) (name : Name) (gone : ℕ) : Type 0 where
   pub over : CanReplaceDirectory t pair id place name
   pub below : gone < length t.pairs
-  pub at : same_pair (thread_pair_at t gone).at over.to ≡ true
-  pub empty : (thread_pair_at t gone).content.slots ≡ []
-  pub alone : is_hard_tail (thread_pair_at t gone).content.tail ≡ false
+  pub at : same_pair (thread_pair t gone).at over.to ≡ true
+  pub empty : (thread_pair t gone).content.slots ≡ []
+  pub alone : is_hard_tail (thread_pair t gone).content.tail ≡ false
 
 -- The tree has the entry in the directory's place, and the directory's pair is dropped. So a rename of its path onto the
 -- directory's is completed.
 pub record IsRenamedOver (old new : KeptThread) (path : Path) (from to : Name) : Type 0 where
-  pub now : ShowsAfterDrops old new (tree_renamed old path from to) []
+  pub now : ShowsDroppedTree old new (tree_renamed old path from to) []
   pub completed : CompletesRename old new path from to
 
 -- What several steps report that take no block, where the first one reads a slot. `Io` comes with a fault of the device, and any
 -- other result with none. After an error the thread has failed, except that it works on and is as it was where the slot couldn't
 -- be read.
-pub record ReportsErrorsOfReadThenCommits {X : Type 0} (old new : ThreadView) (result : Result X Error) : Type 0 where
+pub record ReportsReadCommits {X : Type 0} (old new : ThreadView) (result : Result X Error) : Type 0 where
   pub failed : (new.failed ≡ is_err result) ⊎ ((new.failed ≡ false) × OnlyReadsThread old.kept new.kept)
   pub errors : IfErr result (λ e. (e ≡ Io) ⊎ (e ≡ NoMemory))
   pub fault : IsErrOf result Io → fault_count old.kept.history < fault_count new.kept.history

@@ -6,7 +6,7 @@ use Rattle.lfs_model.specs.format.Disk.{Disk}
 use Rattle.lfs_model.specs.format.Names.{Name}
 use Rattle.lfs_model.specs.format.Slots.{Attributes}
 use Rattle.lfs_thread.specs.Kept.{KeptThread}
-use Rattle.lfs_thread.specs.ThreadSteps.{thread_pair_at}
+use Rattle.lfs_thread.specs.ThreadSteps.{thread_pair}
 
 -- the type and the bytes of a name or a struct; a type 0 and no bytes where there is none
 abbrev pub data_type_bytes : Option (ℕ × List ℕ) → ℕ × List ℕ
@@ -26,12 +26,12 @@ abbrev pub raw_log_slot : Disk → ℕ × ℕ → ℕ → RawSlot
 raw_log_slot disk at id = slot_of_id (unwrap_or (raw_content disk at) empty_raw_content).slots id
 
 abbrev pub nameless_at : KeptThread → ℕ → ℕ → NamelessSlot
-nameless_at t index id = nameless_of (raw_log_slot t.disk (thread_pair_at t index).at id)
+nameless_at t index id = nameless_of (raw_log_slot t.disk (thread_pair t index).at id)
 
 -- the pair of that number has a slot of that id
 pub record HasSlot (t : KeptThread) (index id : ℕ) : Type 0 where
   pub below : index < length t.pairs
-  pub there : id < length (thread_pair_at t index).content.slots
+  pub there : id < length (thread_pair t index).content.slots
 
 abbrev pub attribute_changes : ℕ → Attributes → List PairChange
 attribute_changes id attributes = map (λ a. PutAttribute id a.0 a.1) attributes

@@ -4,51 +4,51 @@ use Rattle.std.specs.List.{AllByRecursion, IsDistinct}
 use Rattle.lfs_model.specs.session.TreeEdits.{tree_with_change}
 use Rattle.lfs_model.specs.layers.BlockSets.{IsFree, IsInFlight}
 use Rattle.lfs_model.specs.format.Content.{read_struct}
-use Rattle.lfs_model.specs.layers.LoggedContent.{IsAllowed}
+use Rattle.lfs_model.specs.layers.LoggedContent.{IsAllowedPart}
 use Rattle.lfs_model.specs.format.Names.{Name}
 use Rattle.lfs_model.specs.session.Operations as ops
 use Rattle.lfs_model.specs.session.Session.{Session, FileWriter, Writing, file_numbered}
-use Rattle.lfs_model.specs.session.SlotEdits.{StoresBytes}
+use Rattle.lfs_model.specs.session.SlotEdits.{GivesBytes}
 use Rattle.lfs_model.specs.session.Effects.{file_with_bytes}
-use Rattle.lfs_model.specs.format.Thread.{blocks_of_pairs}
+use Rattle.lfs_model.specs.format.Thread.{pairs_blocks}
 use Rattle.lfs_model.specs.tree.Tree.{Path, Tree, branch_address}
-use Rattle.lfs_model.specs.tree.View.{IsWellFormedCtz}
-use Rattle.lfs_model.specs.tree.Shown.{struct_blocks, tree_on_disk, used_blocks}
-use Rattle.lfs_model.specs.layers.Steps.{IsCompletion, number_count}
+use Rattle.lfs_model.specs.tree.View.{IsFormedList}
+use Rattle.lfs_model.specs.tree.Shown.{struct_blocks, disk_tree, used_blocks}
+use Rattle.lfs_model.specs.layers.Steps.{CompletesOperation, number_occurrences}
 use Rattle.lfs_thread.specs.Kept.{KeptThread}
 use Rattle.lfs_operations.specs.Editing.{CanEditIn, editable_slot}
-use Rattle.lfs_operations.specs.Ready.{ShowsUpdatedTree}
+use Rattle.lfs_operations.specs.Ready.{ShowsUnsettledTree}
 
 -- A file is at the id of the pair, and the struct says these bytes: inline, or as a list that is on the disk. `come` are the
 -- list's blocks that the old list hasn't; they are in flight. `gone` are those that only the old list has.
 pub record CanSetStruct (t : KeptThread) (pair id kind : ℕ) (bytes : List ℕ) : Type 0 where
   pub can : CanEditIn t pair id
   pub file : branch_address (editable_slot can).struct ≡ None
-  pub part : IsAllowed 2 (kind, bytes)
+  pub part : IsAllowedPart 2 (kind, bytes)
   pub contents : List ℕ
-  pub stores : StoresBytes t.disk contents (read_struct kind bytes)
-  pub list : IsWellFormedCtz t.disk (read_struct kind bytes)
+  pub stores : GivesBytes t.disk contents (read_struct kind bytes)
+  pub list : IsFormedList t.disk (read_struct kind bytes)
   pub gone : List ℕ
   pub come : List ℕ
   pub flying : AllByRecursion (IsInFlight t.map) come
   pub apart : IsDistinct nat_eq come
-  pub blocks : (b : ℕ) → number_count b (struct_blocks t.disk (read_struct kind bytes)) + number_count b gone ≡ number_count b come + number_count b (struct_blocks t.disk (editable_slot can).struct)
+  pub blocks : (b : ℕ) → number_occurrences b (struct_blocks t.disk (read_struct kind bytes)) + number_occurrences b gone ≡ number_occurrences b come + number_occurrences b (struct_blocks t.disk (editable_slot can).struct)
 
 -- the tree with other contents there
 abbrev pub tree_with_contents : KeptThread → Path → Name → List ℕ → Tree
-tree_with_contents t path name contents = tree_with_change (path ++ name ∷ []) (file_with_bytes contents) (tree_on_disk t.disk t.pairs)
+tree_with_contents t path name contents = tree_with_change (path ++ name ∷ []) (file_with_bytes contents) (disk_tree t.disk t.pairs)
 
-abbrev pub IsDirtyOf : Session → ℕ → Path → List ℕ → FileWriter → Type 0
-IsDirtyOf s fd path contents writer = (file_numbered s.files fd ≡ Some (Writing writer)) × ((writer.dirty ≡ true) × ((writer.path ≡ path) × (writer.contents ≡ contents)))
+abbrev pub IsDirtyWriter : Session → ℕ → Path → List ℕ → FileWriter → Type 0
+IsDirtyWriter s fd path contents writer = (file_numbered s.files fd ≡ Some (Writing writer)) × ((writer.dirty ≡ true) × ((writer.path ≡ path) × (writer.contents ≡ contents)))
 
 -- The tree has the file with those contents, and its slot is where the layout wants it. So a sync or a close of a file that was
 -- written is completed. The blocks `gone` are distinct, and none of them is the image's. A block of the pairs was one before, or
 -- was free.
 pub record HasStoredContents (old new : KeptThread) (path : Path) (name : Name) (contents gone come : List ℕ) : Type 0 where
-  pub now : ShowsUpdatedTree old new (tree_with_contents old path name contents) gone come
-  pub synced : (s : Session) (fd : ℕ) (writer : FileWriter) → s.tree ≡ tree_on_disk old.disk old.pairs → IsDirtyOf s fd (path ++ name ∷ []) contents writer
-      → IsCompletion old.disk old.pairs s (ops.Sync fd) new.disk new.pairs
-  pub closed : (s : Session) (fd : ℕ) (writer : FileWriter) → s.tree ≡ tree_on_disk old.disk old.pairs → IsDirtyOf s fd (path ++ name ∷ []) contents writer
-      → IsCompletion old.disk old.pairs s (ops.Close fd) new.disk new.pairs
-  pub once : (b : ℕ) → number_count b (used_blocks new.disk new.pairs) + number_count b gone ≤ number_count b come + 1
-  pub places : (b : ℕ) → Contains (blocks_of_pairs new.pairs) b → Contains (blocks_of_pairs old.pairs) b ⊎ IsFree old.map b
+  pub now : ShowsUnsettledTree old new (tree_with_contents old path name contents) gone come
+  pub synced : (s : Session) (fd : ℕ) (writer : FileWriter) → s.tree ≡ disk_tree old.disk old.pairs → IsDirtyWriter s fd (path ++ name ∷ []) contents writer
+      → CompletesOperation old.disk old.pairs s (ops.Sync fd) new.disk new.pairs
+  pub closed : (s : Session) (fd : ℕ) (writer : FileWriter) → s.tree ≡ disk_tree old.disk old.pairs → IsDirtyWriter s fd (path ++ name ∷ []) contents writer
+      → CompletesOperation old.disk old.pairs s (ops.Close fd) new.disk new.pairs
+  pub once : (b : ℕ) → number_occurrences b (used_blocks new.disk new.pairs) + number_occurrences b gone ≤ number_occurrences b come + 1
+  pub places : (b : ℕ) → Contains (pairs_blocks new.pairs) b → Contains (pairs_blocks old.pairs) b ⊎ IsFree old.map b

@@ -11,12 +11,12 @@ use Rattle.lfs_model.specs.format.Slots.{Branch, gstate_xor, same_pair}
 use Rattle.lfs_model.specs.session.Refusals.{path_or_root}
 use Rattle.lfs_model.specs.format.Thread.{is_hard_tail}
 use Rattle.lfs_model.specs.tree.Tree.{Path}
-use Rattle.lfs_model.specs.tree.Shown.{tree_on_disk}
-use Rattle.lfs_model.specs.layers.Steps.{IsCompletion, sync_bit_delta}
+use Rattle.lfs_model.specs.tree.Shown.{disk_tree}
+use Rattle.lfs_model.specs.layers.Steps.{CompletesOperation, sync_bit_delta}
 use Rattle.lfs_thread.specs.Kept.{KeptThread, ThreadView}
-use Rattle.lfs_thread.specs.ThreadSteps.{thread_pair_at}
+use Rattle.lfs_thread.specs.ThreadSteps.{thread_pair}
 use Rattle.lfs_operations.specs.Changing.{IsPairTouched}
-use Rattle.lfs_operations.specs.Dropping.{ShowsAfterDrops}
+use Rattle.lfs_operations.specs.Dropping.{ShowsDroppedTree}
 use Rattle.lfs_operations.specs.Editing.{CanEditIn, editable_slot}
 use Rattle.lfs_operations.specs.Removing.{drops_with_its_slot, tree_without_entry}
 
@@ -24,7 +24,7 @@ use Rattle.lfs_operations.specs.Removing.{drops_with_its_slot, tree_without_entr
 
 -- the entry goes, and the pair's delta turns the sync bit
 abbrev pub unlink_changes : KeptThread → ℕ → ℕ → List PairChange
-unlink_changes t pair id = Delete id ∷ PutMove (gstate_xor (thread_pair_at t pair).content.move sync_bit_delta) ∷ []
+unlink_changes t pair id = Delete id ∷ PutMove (gstate_xor (thread_pair t pair).content.move sync_bit_delta) ∷ []
 
 -- ---- the operation
 
@@ -36,9 +36,9 @@ pub record CanRemoveDirectory (t : KeptThread) (pair id first gone : ℕ) : Type
   pub to : ℕ × ℕ
   pub branch : (editable_slot can).struct ≡ Branch to
   pub below : gone < length t.pairs
-  pub at : same_pair (thread_pair_at t gone).at to ≡ true
-  pub empty : (thread_pair_at t gone).content.slots ≡ []
-  pub alone : is_hard_tail (thread_pair_at t gone).content.tail ≡ false
+  pub at : same_pair (thread_pair t gone).at to ≡ true
+  pub empty : (thread_pair t gone).content.slots ≡ []
+  pub alone : is_hard_tail (thread_pair t gone).content.tail ≡ false
 
 -- the number of a pair after another one was dropped
 abbrev pub number_after_drop : ℕ → ℕ → ℕ
@@ -47,19 +47,19 @@ number_after_drop other pair = if nat_lt other pair then pair - 1 else pair
 -- The tree has no such directory, the other slots are where the layout wants them, and its pair is dropped. So a remove of its
 -- path is completed.
 pub record IsDirectoryRemoved (old new : KeptThread) (path : Path) (name : Name) : Type 0 where
-  pub now : ShowsAfterDrops old new (tree_without_entry old path name) []
-  pub completed : (s : Session) (given : List ℕ) → s.tree ≡ tree_on_disk old.disk old.pairs → path_or_root given ≡ path ++ name ∷ []
-      → IsCompletion old.disk old.pairs s (ops.Remove given) new.disk new.pairs
+  pub now : ShowsDroppedTree old new (tree_without_entry old path name) []
+  pub completed : (s : Session) (given : List ℕ) → s.tree ≡ disk_tree old.disk old.pairs → path_or_root given ≡ path ++ name ∷ []
+      → CompletesOperation old.disk old.pairs s (ops.Remove given) new.disk new.pairs
 
 -- The pair before the directory's own one doesn't stay with what it held. Nor does the one before the entry's pair, where that is
 -- dropped too.
-pub record AreBeforeAltered (old : KeptThread) (pair first gone : ℕ) (new : KeptThread) : Type 0 where
+pub record AreFrontsTouched (old : KeptThread) (pair first gone : ℕ) (new : KeptThread) : Type 0 where
   pub front : IsPairTouched old (gone - 1) new
   pub entry : drops_with_its_slot old pair first ≡ true → IsPairTouched old (pair - 1) new
 
 -- What several steps report that take no block: `Io` comes with a fault of the device, and any other result with none. After an
 -- error the thread has failed.
-pub record ReportsErrorsOfCommitsTakingNoBlock {X : Type 0} (old new : ThreadView) (result : Result X Error) : Type 0 where
+pub record ReportsCommits {X : Type 0} (old new : ThreadView) (result : Result X Error) : Type 0 where
   pub failed : new.failed ≡ is_err result
   pub errors : IfErr result (λ e. (e ≡ Io) ⊎ (e ≡ NoMemory))
   pub fault : IsErrOf result Io → fault_count old.kept.history < fault_count new.kept.history

@@ -1,27 +1,27 @@
 -- Worn pairs that move, in an image that may be written.
 use Rattle.std.specs.Prelude.{ℕ, ◌≡◌, ◌≤◌, ◌<◌, ◌+◌, ◌-◌, ◌*◌, ◌%◌, ◌^◌, true, false, option_map, length, All}
 use Rattle.lfs_model.specs.format.Disk.{Disk}
-use Rattle.lfs_model.specs.format.Thread.{has_slots, is_hard_tail, pair_count_before_root}
+use Rattle.lfs_model.specs.format.Thread.{has_slots, is_hard_tail, count_before_root}
 use Rattle.lfs_model.specs.layers.BlockSets.{BlockStates, used_count}
 use Rattle.lfs_model.specs.layers.Steps.{KeepsStruct, SameFileBlocks}
 use Rattle.lfs_model.specs.session.Moved.{IsPairMoved, IsPairUnloaded, IsRootUnloaded, is_worn}
 use Rattle.lfs_model.specs.session.SlotEdits.{slot_of}
-use Rattle.lfs_model.specs.tree.Shown.{all_slots_not_moved, tree_on_disk, used_blocks}
+use Rattle.lfs_model.specs.tree.Shown.{all_unmoved_slots, disk_tree, used_blocks}
 use Rattle.lfs_model.specs.tree.Tree.{Path}
 use Rattle.lfs_thread.specs.Kept.{KeptThread}
 use Rattle.lfs_thread.specs.Moves.{pair_revision}
-use Rattle.lfs_thread.specs.ThreadSteps.{thread_pair_at}
+use Rattle.lfs_thread.specs.ThreadSteps.{thread_pair}
 use Rattle.lfs_operations.specs.Dropping.{SameInFlight}
 use Rattle.lfs_operations.specs.Making.{HasFreeBlocks}
-use Rattle.lfs_operations.specs.Ready.{IsReadyImage, KeepsRootBeginning}
+use Rattle.lfs_operations.specs.Ready.{IsReadyImage, KeepsRootNumber}
 
 -- The image may be changed again, and shows the same tree. Each file has the struct that it had, and the blocks of its list are
 -- unchanged. The same blocks are in flight.
 pub record ShowsSameFiles (old new : KeptThread) : Type 0 where
   pub ready : IsReadyImage new
-  pub shows : tree_on_disk new.disk new.pairs ≡ tree_on_disk old.disk old.pairs
+  pub shows : disk_tree new.disk new.pairs ≡ disk_tree old.disk old.pairs
   pub structs : (path : Path) → KeepsStruct (slot_of old.pairs path) (slot_of new.pairs path)
-  pub lists : All (λ s. SameFileBlocks old.disk new.disk s.struct) (all_slots_not_moved old.pairs)
+  pub lists : All (λ s. SameFileBlocks old.disk new.disk s.struct) (all_unmoved_slots old.pairs)
   pub flying : SameInFlight old.map new.map
 
 -- ---- which pair is worn
@@ -30,12 +30,12 @@ pub record ShowsSameFiles (old new : KeptThread) : Type 0 where
 pub record IsFirstWorn (t : KeptThread) (from index : ℕ) : Type 0 where
   pub above : from ≤ index
   pub below : index < length t.pairs
-  pub worn : is_worn t.disk (thread_pair_at t index) ≡ true
-  pub before : (i : ℕ) → from ≤ i → i < index → is_worn t.disk (thread_pair_at t i) ≡ false
+  pub worn : is_worn t.disk (thread_pair t index) ≡ true
+  pub before : (i : ℕ) → from ≤ i → i < index → is_worn t.disk (thread_pair t i) ≡ false
 
 -- no pair of at least that number is worn
 abbrev pub HasNoWorn : KeptThread → ℕ → Type 0
-HasNoWorn t from = (i : ℕ) → from ≤ i → i < length t.pairs → is_worn t.disk (thread_pair_at t i) ≡ false
+HasNoWorn t from = (i : ℕ) → from ≤ i → i < length t.pairs → is_worn t.disk (thread_pair t i) ≡ false
 
 -- the pair at the new address goes on with the next revision
 abbrev pub RevisionGoesOn : Disk → ℕ × ℕ → Disk → ℕ × ℕ → Type 0
@@ -48,8 +48,8 @@ pub record CanMovePair (t : KeptThread) (index : ℕ) : Type 0 where
   pub ready : IsReadyImage t
   pub above : 0 < index
   pub below : index < length t.pairs
-  pub joined : is_hard_tail (thread_pair_at t (index - 1)).content.tail ≡ true
-  pub worn : is_worn t.disk (thread_pair_at t index) ≡ true
+  pub joined : is_hard_tail (thread_pair t (index - 1)).content.tail ≡ true
+  pub worn : is_worn t.disk (thread_pair t index) ≡ true
   pub room : HasFreeBlocks 2 t.map
 
 -- The pair of that number is at two other blocks. As many blocks are used as before.
@@ -59,7 +59,7 @@ pub record IsMovedAt (old : KeptThread) (index : ℕ) (new : KeptThread) : Type 
   pub files : ShowsSameFiles old new
   pub revision : RevisionGoesOn old.disk moved.worn.at new.disk moved.to
   pub as_many : length (used_blocks new.disk new.pairs) ≡ length (used_blocks old.disk old.pairs)
-  pub root : KeepsRootBeginning old new
+  pub root : KeepsRootNumber old new
 
 -- ---- a pair gives its slots away
 
@@ -72,10 +72,10 @@ pub record HasRoomToUnload (sets : BlockStates) : Type 0 where
 pub record CanUnloadPair (t : KeptThread) (index : ℕ) : Type 0 where
   pub ready : IsReadyImage t
   pub below : index < length t.pairs
-  pub root : pair_count_before_root t.pairs < index
-  pub first : is_hard_tail (thread_pair_at t (index - 1)).content.tail ≡ false
-  pub some : has_slots (thread_pair_at t index).content.slots ≡ true
-  pub worn : is_worn t.disk (thread_pair_at t index) ≡ true
+  pub root : count_before_root t.pairs < index
+  pub first : is_hard_tail (thread_pair t (index - 1)).content.tail ≡ false
+  pub some : has_slots (thread_pair t index).content.slots ≡ true
+  pub worn : is_worn t.disk (thread_pair t index) ≡ true
   pub room : HasRoomToUnload t.map
 
 -- The slots of the pair of that number are in a pair behind it. Two more blocks are used.
@@ -85,13 +85,13 @@ pub record IsUnloadedAt (old : KeptThread) (index : ℕ) (new : KeptThread) : Ty
   pub files : ShowsSameFiles old new
   pub revision : RevisionGoesOn old.disk unloaded.worn.at new.disk unloaded.to
   pub two_more : length (used_blocks new.disk new.pairs) ≡ length (used_blocks old.disk old.pairs) + 2
-  pub root : KeepsRootBeginning old new
+  pub root : KeepsRootNumber old new
 
 -- The image may be changed. The root directory begins with the thread's first pair, which is worn.
 pub record CanExpandRoot (t : KeptThread) : Type 0 where
   pub ready : IsReadyImage t
-  pub root : pair_count_before_root t.pairs ≡ 0
-  pub worn : is_worn t.disk (thread_pair_at t 0) ≡ true
+  pub root : count_before_root t.pairs ≡ 0
+  pub worn : is_worn t.disk (thread_pair t 0) ≡ true
   pub room : HasRoomToUnload t.map
 
 -- The root directory begins with the second pair. Two more blocks are used.
@@ -100,4 +100,4 @@ pub record IsRootExpanded (old new : KeptThread) : Type 0 where
   pub files : ShowsSameFiles old new
   pub revision : RevisionGoesOn old.disk unloaded.worn.at new.disk unloaded.to
   pub two_more : length (used_blocks new.disk new.pairs) ≡ length (used_blocks old.disk old.pairs) + 2
-  pub root : pair_count_before_root new.pairs ≡ 1
+  pub root : count_before_root new.pairs ≡ 1

@@ -4,11 +4,11 @@ ghost use Rattle.std.specs.Prelude.{◌≡◌, ◌∷◌, [], false, OnOk};
 ghost use Rattle.lfs_model.specs.layers.Changes.{PutAttribute};
 ghost use Rattle.lfs_model.specs.format.Content.{attributes_with, attributes_without};
 ghost use Rattle.lfs_model.specs.crash.PowerLoss.{SurvivesLossSince};
-ghost use Rattle.lfs_model.specs.tree.Shown.{tree_on_disk};
-ghost use Rattle.lfs_thread.specs.ThreadSteps.{ChangesThreadBlocks, thread_pair_at};
-ghost use Rattle.lfs_operations.specs.Changing.{ReportsErrorsOfChangeOrSplit, WritesPairTwo};
-ghost use Rattle.lfs_operations.specs.Editing.{CanEditIn, CanSetAttribute, HasRemovedAttribute, HasSetAttribute, tree_with_attributes_set};
-ghost use Rattle.lfs_operations.specs.Removing.{ReportsErrorsOfCommitTakingNoBlock};
+ghost use Rattle.lfs_model.specs.tree.Shown.{disk_tree};
+ghost use Rattle.lfs_thread.specs.ThreadSteps.{ChangesThreadBlocks, thread_pair};
+ghost use Rattle.lfs_operations.specs.Changing.{ReportsPut, WritesPairTwo};
+ghost use Rattle.lfs_operations.specs.Editing.{CanEditIn, CanSetAttribute, HasRemovedAttribute, HasSetAttribute, tree_setting_attributes};
+ghost use Rattle.lfs_operations.specs.Removing.{ReportsCommit};
 ghost use Rattle.lfs_model.specs.format.Thread.{address_blocks};
 
 use crate::changes::{change_or_split, commit_fitting};
@@ -34,10 +34,10 @@ pub fn set_attribute<D: BlockDevice>(
     requires works { thread.old.failed ≡ false }
     requires can { CanSetAttribute thread.old.kept pair id kind bytes.now }
     ensures is_set { OnOk result ((set : CanSetAttribute thread.old.kept pair id kind bytes.now) → HasSetAttribute thread.old.kept thread.new.kept set.can.path set.can.name kind bytes.now) }
-    ensures errors { ReportsErrorsOfChangeOrSplit thread.old thread.new pair (PutAttribute id kind bytes.now ∷ []) result }
+    ensures errors { ReportsPut thread.old thread.new pair (PutAttribute id kind bytes.now ∷ []) result }
     ensures device { WritesPairTwo thread.old.kept pair thread.new.kept }
     ensures survives { (set : CanSetAttribute thread.old.kept pair id kind bytes.now) → SurvivesLossSince thread.old.kept.disk thread.old.kept.history thread.new.kept.history
-        (tree_on_disk thread.old.kept.disk thread.old.kept.pairs) (tree_with_attributes_set thread.old.kept set.can.path set.can.name (attributes_with kind bytes.now)) }
+        (disk_tree thread.old.kept.disk thread.old.kept.pairs) (tree_setting_attributes thread.old.kept set.can.path set.can.name (attributes_with kind bytes.now)) }
 {
     let changes = [Change::Attr {
         id,
@@ -60,10 +60,10 @@ pub fn remove_attribute<D: BlockDevice>(
     requires works { thread.old.failed ≡ false }
     requires can { CanEditIn thread.old.kept pair id }
     ensures is_removed { OnOk result ((can : CanEditIn thread.old.kept pair id) → HasRemovedAttribute thread.old.kept thread.new.kept can.path can.name kind) }
-    ensures errors { ReportsErrorsOfCommitTakingNoBlock thread.old thread.new result }
-    ensures device { ChangesThreadBlocks (address_blocks (thread_pair_at thread.old.kept pair).at) thread.old.kept thread.new.kept }
+    ensures errors { ReportsCommit thread.old thread.new result }
+    ensures device { ChangesThreadBlocks (address_blocks (thread_pair thread.old.kept pair).at) thread.old.kept thread.new.kept }
     ensures survives { (can : CanEditIn thread.old.kept pair id) → SurvivesLossSince thread.old.kept.disk thread.old.kept.history thread.new.kept.history
-        (tree_on_disk thread.old.kept.disk thread.old.kept.pairs) (tree_with_attributes_set thread.old.kept can.path can.name (attributes_without kind)) }
+        (disk_tree thread.old.kept.disk thread.old.kept.pairs) (tree_setting_attributes thread.old.kept can.path can.name (attributes_without kind)) }
 {
     // What is left fits, so the commit is never refused.
     commit_fitting(alloc, thread, pair, &[Change::NoAttr { id, attr: kind }])

@@ -4,11 +4,11 @@ ghost use Rattle.std.specs.Prelude.{◌≡◌, ◌≤◌, ◌+◌, false, IfSome
 ghost use Rattle.lfs_model.specs.session.History.{read_count};
 ghost use Rattle.lfs_model.specs.format.Slots.{array_address};
 ghost use Rattle.lfs_pair.specs.ChangeView.{changes_view};
-ghost use Rattle.lfs_thread.specs.ThreadDevice.{LossLeavesCleanly};
+ghost use Rattle.lfs_thread.specs.ThreadDevice.{CleanLossLeaves};
 ghost use Rattle.lfs_model.specs.format.Thread.{address_blocks};
-ghost use Rattle.lfs_thread.specs.ThreadSteps.{ChangesThreadBlocks, IsPairCommitted, LossLeavesPairChanged, thread_pair_at};
-ghost use Rattle.lfs_operations.specs.Removing.{ReportsErrorsOfCommitTakingNoBlock};
-ghost use Rattle.lfs_operations.specs.Changing.{AreTwoFree, CanCommit, CanTurn, HasTwoFree, IsPairSplit, LeftBySplit, LeftByTurn, IsTurned, ReportsErrorsOfCommitTakingBlocks, ReportsErrorsOfChangeOrSplit, WritesPairTwo, map_taking_two};
+ghost use Rattle.lfs_thread.specs.ThreadSteps.{ChangesThreadBlocks, IsPairCommitted, LossLeavesPair, thread_pair};
+ghost use Rattle.lfs_operations.specs.Removing.{ReportsCommit};
+ghost use Rattle.lfs_operations.specs.Changing.{AreTwoFree, CanCommit, CanPut, HasTwoFree, IsPairSplit, LeftBySplit, LeftByPut, ArePut, ReportsTakingCommit, ReportsPut, WritesPairTwo, map_taking_two};
 
 use lfs_device::{BlockDevice, Error};
 use lfs_pair::{Change, Outcome};
@@ -42,12 +42,12 @@ fn split_in_two<D: BlockDevice>(
     changes: &[Change<'_>],
 ) -> Result<(), Error>
     requires works { thread.old.failed ≡ false }
-    requires can { CanTurn thread.old.kept index (changes_view changes.now) }
+    requires can { CanPut thread.old.kept index (changes_view changes.now) }
     ensures is_cut { OnOk result (IsPairSplit thread.old.kept index (changes_view changes.now) thread.new.kept) }
-    ensures errors { ReportsErrorsOfCommitTakingBlocks thread.old thread.new result }
+    ensures errors { ReportsTakingCommit thread.old thread.new result }
     ensures device { WritesPairTwo thread.old.kept index thread.new.kept }
     ensures few { read_count thread.new.kept.history ≤ read_count thread.old.kept.history + 4 }
-    ensures stops { LossLeavesCleanly thread.old.kept.history thread.new.kept.history (LeftBySplit thread.old.kept index (changes_view changes.now)) }
+    ensures stops { CleanLossLeaves thread.old.kept.history thread.new.kept.history (LeftBySplit thread.old.kept index (changes_view changes.now)) }
 {
     let Some(fresh) = take_two_blocks(thread) else {
         return Err(Error::NoSpace);
@@ -63,12 +63,12 @@ pub(crate) fn change_or_split<D: BlockDevice>(
     changes: &[Change<'_>],
 ) -> Result<(), Error>
     requires works { thread.old.failed ≡ false }
-    requires can { CanTurn thread.old.kept index (changes_view changes.now) }
-    ensures is_put { OnOk result (IsTurned thread.old.kept index (changes_view changes.now) thread.new.kept) }
-    ensures errors { ReportsErrorsOfChangeOrSplit thread.old thread.new index (changes_view changes.now) result }
+    requires can { CanPut thread.old.kept index (changes_view changes.now) }
+    ensures is_put { OnOk result (ArePut thread.old.kept index (changes_view changes.now) thread.new.kept) }
+    ensures errors { ReportsPut thread.old thread.new index (changes_view changes.now) result }
     ensures device { WritesPairTwo thread.old.kept index thread.new.kept }
     ensures few { read_count thread.new.kept.history ≤ read_count thread.old.kept.history + 6 }
-    ensures stops { LossLeavesCleanly thread.old.kept.history thread.new.kept.history (LeftByTurn thread.old.kept index (changes_view changes.now)) }
+    ensures stops { CleanLossLeaves thread.old.kept.history thread.new.kept.history (LeftByPut thread.old.kept index (changes_view changes.now)) }
 {
     match thread.commit_pair_changes(alloc, index, changes)? {
         Outcome::Done => Ok(()),
@@ -86,9 +86,9 @@ pub(crate) fn commit_fitting<D: BlockDevice>(
     requires works { thread.old.failed ≡ false }
     requires can { CanCommit thread.old.kept index (changes_view changes.now) }
     ensures is_changed { OnOk result (IsPairCommitted thread.old.kept index (changes_view changes.now) thread.new.kept) }
-    ensures errors { ReportsErrorsOfCommitTakingNoBlock thread.old thread.new result }
-    ensures device { ChangesThreadBlocks (address_blocks (thread_pair_at thread.old.kept index).at) thread.old.kept thread.new.kept }
-    ensures stops { LossLeavesCleanly thread.old.kept.history thread.new.kept.history (LossLeavesPairChanged thread.old.kept index (changes_view changes.now)) }
+    ensures errors { ReportsCommit thread.old thread.new result }
+    ensures device { ChangesThreadBlocks (address_blocks (thread_pair thread.old.kept index).at) thread.old.kept thread.new.kept }
+    ensures stops { CleanLossLeaves thread.old.kept.history thread.new.kept.history (LossLeavesPair thread.old.kept index (changes_view changes.now)) }
 {
     thread.commit_pair_changes(alloc, index, changes)?;
     Ok(())

@@ -2,14 +2,14 @@
 
 ghost use Rattle.std.specs.Prelude.{◌≡◌, ◌-◌, true, false, OnOk};
 ghost use Rattle.lfs_model.specs.crash.PowerLoss.{SurvivesLossSince};
-ghost use Rattle.lfs_model.specs.tree.Shown.{tree_on_disk};
+ghost use Rattle.lfs_model.specs.tree.Shown.{disk_tree};
 ghost use Rattle.lfs_model.specs.layers.Steps.{sync_bit_delta};
 ghost use Rattle.lfs_tag.specs.FieldsView.{move_view};
-ghost use Rattle.lfs_thread.specs.ThreadDevice.{LossLeavesCleanly};
-ghost use Rattle.lfs_thread.specs.ThreadSteps.{IsPairCommitted, LossLeavesPairChanged, ChangesThreadBlocks, thread_pair_at};
+ghost use Rattle.lfs_thread.specs.ThreadDevice.{CleanLossLeaves};
+ghost use Rattle.lfs_thread.specs.ThreadSteps.{IsPairCommitted, LossLeavesPair, ChangesThreadBlocks, thread_pair};
 ghost use Rattle.lfs_operations.specs.Editing.{CanEditIn};
-ghost use Rattle.lfs_operations.specs.Removing.{ReportsErrorsOfCommitTakingNoBlock, drops_with_its_slot, tree_without_entry, written_by_removal};
-ghost use Rattle.lfs_operations.specs.Unlinking.{AreBeforeAltered, CanRemoveDirectory, IsDirectoryRemoved, ReportsErrorsOfCommitsTakingNoBlock, unlink_changes, number_after_drop};
+ghost use Rattle.lfs_operations.specs.Removing.{ReportsCommit, drops_with_its_slot, tree_without_entry, written_by_removal};
+ghost use Rattle.lfs_operations.specs.Unlinking.{AreFrontsTouched, CanRemoveDirectory, IsDirectoryRemoved, ReportsCommits, unlink_changes, number_after_drop};
 ghost use Rattle.lfs_model.specs.format.Thread.{address_blocks, addresses_blocks};
 
 use crate::changes::commit_fitting;
@@ -44,9 +44,9 @@ fn unlink_directory_entry<D: BlockDevice>(
     requires works { thread.old.failed ≡ false }
     requires can { CanEditIn thread.old.kept pair id }
     ensures is_unlinked { OnOk result (IsPairCommitted thread.old.kept pair (unlink_changes thread.old.kept pair id) thread.new.kept) }
-    ensures errors { ReportsErrorsOfCommitTakingNoBlock thread.old thread.new result }
-    ensures device { ChangesThreadBlocks (address_blocks (thread_pair_at thread.old.kept pair).at) thread.old.kept thread.new.kept }
-    ensures stops { LossLeavesCleanly thread.old.kept.history thread.new.kept.history (LossLeavesPairChanged thread.old.kept pair (unlink_changes thread.old.kept pair id)) }
+    ensures errors { ReportsCommit thread.old thread.new result }
+    ensures device { ChangesThreadBlocks (address_blocks (thread_pair thread.old.kept pair).at) thread.old.kept thread.new.kept }
+    ensures stops { CleanLossLeaves thread.old.kept.history thread.new.kept.history (LossLeavesPair thread.old.kept pair (unlink_changes thread.old.kept pair id)) }
 {
     let state = gstate_xor_delta(&thread.delta(pair), &sync_delta());
     let changes = [Change::Delete { id }, Change::Move { state }];
@@ -74,11 +74,11 @@ fn remove_keeping_pair<D: BlockDevice>(
     requires can { CanRemoveDirectory thread.old.kept pair id first gone }
     requires stays { drops_with_its_slot thread.old.kept pair first ≡ false }
     ensures is_removed { OnOk result ((take : CanRemoveDirectory thread.old.kept pair id first gone) → IsDirectoryRemoved thread.old.kept thread.new.kept take.can.path take.can.name) }
-    ensures alters { OnOk result (AreBeforeAltered thread.old.kept pair first gone thread.new.kept) }
-    ensures errors { ReportsErrorsOfCommitsTakingNoBlock thread.old thread.new result }
-    ensures device { ChangesThreadBlocks (addresses_blocks (written_by_removal thread.old.kept pair first) (thread_pair_at thread.old.kept (gone - 1)).at) thread.old.kept thread.new.kept }
+    ensures alters { OnOk result (AreFrontsTouched thread.old.kept pair first gone thread.new.kept) }
+    ensures errors { ReportsCommits thread.old thread.new result }
+    ensures device { ChangesThreadBlocks (addresses_blocks (written_by_removal thread.old.kept pair first) (thread_pair thread.old.kept (gone - 1)).at) thread.old.kept thread.new.kept }
     ensures survives { (take : CanRemoveDirectory thread.old.kept pair id first gone) → SurvivesLossSince thread.old.kept.disk thread.old.kept.history thread.new.kept.history
-        (tree_on_disk thread.old.kept.disk thread.old.kept.pairs) (tree_without_entry thread.old.kept take.can.path take.can.name) }
+        (disk_tree thread.old.kept.disk thread.old.kept.pairs) (tree_without_entry thread.old.kept take.can.path take.can.name) }
 {
     unlink_directory_entry(alloc, thread, pair, id)?;
     drop_pair_at(alloc, thread, gone, &MoveState::none())
@@ -97,11 +97,11 @@ fn remove_with_pair<D: BlockDevice>(
     requires can { CanRemoveDirectory thread.old.kept pair id first gone }
     requires goes { drops_with_its_slot thread.old.kept pair first ≡ true }
     ensures is_removed { OnOk result ((take : CanRemoveDirectory thread.old.kept pair id first gone) → IsDirectoryRemoved thread.old.kept thread.new.kept take.can.path take.can.name) }
-    ensures alters { OnOk result (AreBeforeAltered thread.old.kept pair first gone thread.new.kept) }
-    ensures errors { ReportsErrorsOfCommitsTakingNoBlock thread.old thread.new result }
-    ensures device { ChangesThreadBlocks (addresses_blocks (written_by_removal thread.old.kept pair first) (thread_pair_at thread.old.kept (gone - 1)).at) thread.old.kept thread.new.kept }
+    ensures alters { OnOk result (AreFrontsTouched thread.old.kept pair first gone thread.new.kept) }
+    ensures errors { ReportsCommits thread.old thread.new result }
+    ensures device { ChangesThreadBlocks (addresses_blocks (written_by_removal thread.old.kept pair first) (thread_pair thread.old.kept (gone - 1)).at) thread.old.kept thread.new.kept }
     ensures survives { (take : CanRemoveDirectory thread.old.kept pair id first gone) → SurvivesLossSince thread.old.kept.disk thread.old.kept.history thread.new.kept.history
-        (tree_on_disk thread.old.kept.disk thread.old.kept.pairs) (tree_without_entry thread.old.kept take.can.path take.can.name) }
+        (disk_tree thread.old.kept.disk thread.old.kept.pairs) (tree_without_entry thread.old.kept take.can.path take.can.name) }
 {
     drop_pair_at(alloc, thread, pair, &sync_delta())?;
     drop_pair_at(
@@ -132,11 +132,11 @@ pub fn remove_directory<D: BlockDevice>(
     requires works { thread.old.failed ≡ false }
     requires can { CanRemoveDirectory thread.old.kept pair id first gone }
     ensures is_removed { OnOk result ((take : CanRemoveDirectory thread.old.kept pair id first gone) → IsDirectoryRemoved thread.old.kept thread.new.kept take.can.path take.can.name) }
-    ensures alters { OnOk result (AreBeforeAltered thread.old.kept pair first gone thread.new.kept) }
-    ensures errors { ReportsErrorsOfCommitsTakingNoBlock thread.old thread.new result }
-    ensures device { ChangesThreadBlocks (addresses_blocks (written_by_removal thread.old.kept pair first) (thread_pair_at thread.old.kept (gone - 1)).at) thread.old.kept thread.new.kept }
+    ensures alters { OnOk result (AreFrontsTouched thread.old.kept pair first gone thread.new.kept) }
+    ensures errors { ReportsCommits thread.old thread.new result }
+    ensures device { ChangesThreadBlocks (addresses_blocks (written_by_removal thread.old.kept pair first) (thread_pair thread.old.kept (gone - 1)).at) thread.old.kept thread.new.kept }
     ensures survives { (take : CanRemoveDirectory thread.old.kept pair id first gone) → SurvivesLossSince thread.old.kept.disk thread.old.kept.history thread.new.kept.history
-        (tree_on_disk thread.old.kept.disk thread.old.kept.pairs) (tree_without_entry thread.old.kept take.can.path take.can.name) }
+        (disk_tree thread.old.kept.disk thread.old.kept.pairs) (tree_without_entry thread.old.kept take.can.path take.can.name) }
 {
     if drops_with_slot(thread, pair, first) {
         remove_with_pair(alloc, thread, pair, id, first, gone)

@@ -6,10 +6,10 @@ ghost use Rattle.lfs_model.specs.format.Thread.{address_blocks};
 ghost use Rattle.lfs_pair.specs.ChangeView.{change_view, changes_view};
 ghost use Rattle.lfs_tag.specs.ContentView.{tail_view};
 ghost use Rattle.lfs_tag.specs.FieldsView.{move_view};
-ghost use Rattle.lfs_thread.specs.ThreadDevice.{LossLeavesCleanly};
-ghost use Rattle.lfs_thread.specs.ThreadSteps.{ChangesThreadBlocks, complete_after, thread_pair_at, tail_setting_change};
+ghost use Rattle.lfs_thread.specs.ThreadDevice.{CleanLossLeaves};
+ghost use Rattle.lfs_thread.specs.ThreadSteps.{ChangesThreadBlocks, complete_after, thread_pair, tail_change};
 ghost use Rattle.lfs_operations.specs.Dropping.{CanDropAt, IsPairDropped, LeftByDrop, delta_after_drop, tail_over_drop, dropping_changes, content_after_drop};
-ghost use Rattle.lfs_operations.specs.Removing.{ReportsErrorsOfCommitTakingNoBlock};
+ghost use Rattle.lfs_operations.specs.Removing.{ReportsCommit};
 
 use lfs_device::{BlockDevice, Error};
 use lfs_pair::Change;
@@ -19,7 +19,7 @@ use std::alloc::Global;
 
 // Returns the change that gives a pair with the tail `front` the tail of a dropped pair, `gone`.
 fn tail_over_dropped(front: Option<Tail>, gone: Option<Tail>) -> Change<'static>
-    ensures { change_view result ≡ tail_setting_change (tail_over_drop (option_map tail_view front) (option_map tail_view gone)) }
+    ensures { change_view result ≡ tail_change (tail_over_drop (option_map tail_view front) (option_map tail_view gone)) }
 {
     match gone {
         None => Change::Tail {
@@ -86,9 +86,9 @@ pub(crate) fn drop_pair_at<D: BlockDevice>(
     requires works { thread.old.failed ≡ false }
     requires can { CanDropAt thread.old.kept index (move_view state.now) }
     ensures is_dropped { OnOk result (IsPairDropped thread.old.kept (index - 1) (move_view state.now) thread.new.kept) }
-    ensures errors { ReportsErrorsOfCommitTakingNoBlock thread.old thread.new result }
-    ensures device { ChangesThreadBlocks (address_blocks (thread_pair_at thread.old.kept (index - 1)).at) thread.old.kept thread.new.kept }
-    ensures stops { LossLeavesCleanly thread.old.kept.history thread.new.kept.history (LeftByDrop thread.old.kept (index - 1) (move_view state.now)) }
+    ensures errors { ReportsCommit thread.old thread.new result }
+    ensures device { ChangesThreadBlocks (address_blocks (thread_pair thread.old.kept (index - 1)).at) thread.old.kept thread.new.kept }
+    ensures stops { CleanLossLeaves thread.old.kept.history thread.new.kept.history (LeftByDrop thread.old.kept (index - 1) (move_view state.now)) }
 {
     let changes = drop_changes_at(thread, index, state);
     // The slots stay, and a pair has room of its own for tail and delta. So the commit is never

@@ -8,17 +8,17 @@ ghost use Rattle.lfs_operations.specs.RenamingSlots.{slot_changes};
 ghost use Rattle.lfs_model.specs.layers.LoggedContent.{AreWords};
 ghost use Rattle.lfs_model.specs.crash.PowerLoss.{SurvivesLossSince};
 ghost use Rattle.lfs_model.specs.format.Thread.{pairs_gstate, address_blocks, addresses_blocks};
-ghost use Rattle.lfs_model.specs.tree.Shown.{tree_on_disk};
+ghost use Rattle.lfs_model.specs.tree.Shown.{disk_tree};
 ghost use Rattle.lfs_tag.specs.FieldsView.{move_view};
-ghost use Rattle.lfs_thread.specs.ThreadSteps.{ChangesThreadBlocks, thread_pair_at};
+ghost use Rattle.lfs_thread.specs.ThreadSteps.{ChangesThreadBlocks, thread_pair};
 ghost use Rattle.lfs_pair.specs.ChangeView.{changes_view};
-ghost use Rattle.lfs_operations.specs.Altering.{ChangesGiven};
+ghost use Rattle.lfs_operations.specs.Altering.{WritesTouchedFree};
 ghost use Rattle.lfs_operations.specs.Changing.{WritesThreadTwo};
 ghost use Rattle.lfs_operations.specs.MoveEnds.{CanEndAt, HasEndedAt, written_at_end, gstate_naming, delta_without_move};
-ghost use Rattle.lfs_operations.specs.MovingSteps.{CanPutAndEnd, IsPutEnded, SurvivesBothCommits, ReportsErrorsOfCommitsTakingBlocks, WritesTwoTwo, second_commit_pair, number_after_insertion};
+ghost use Rattle.lfs_operations.specs.MovingSteps.{CanPutAndEnd, IsPutEnded, SurvivesCommits, ReportsTakingCommits, WritesPairsTwo, second_pair, number_after_insertion};
 ghost use Rattle.lfs_operations.specs.MovingAcross.{CanRenameAcross, IsRenamedAcross, across_changes, clearing_changes, moving_changes, tree_moved};
-ghost use Rattle.lfs_operations.specs.MovingOnto.{CanMoveAcross, CanReplaceFileOver, CanReplaceDirectoryOver, IsMovedAcross, IsFileReplaced, entry_over_changes, file_over_changes, tree_across};
-ghost use Rattle.lfs_operations.specs.Removing.{ReportsErrorsOfCommitTakingNoBlock};
+ghost use Rattle.lfs_operations.specs.MovingOnto.{CanMoveAcross, CanReplaceFileAcross, CanReplaceDirectoryAcross, IsMovedAcross, IsFileReplaced, entry_across_changes, file_across_changes, tree_across};
+ghost use Rattle.lfs_operations.specs.Removing.{ReportsCommit};
 ghost use Rattle.lfs_operations.specs.EndingMove.{gstate_without_move};
 
 use crate::changes::{change_or_split, commit_fitting};
@@ -70,10 +70,10 @@ fn end_by_commit<D: BlockDevice>(
     requires works { thread.old.failed ≡ false }
     requires can { CanEndAt thread.old.kept pair id false }
     ensures ended { OnOk result (HasEndedAt thread.old.kept pair id false thread.new.kept) }
-    ensures errors { ReportsErrorsOfCommitTakingNoBlock thread.old thread.new result }
-    ensures device { ChangesThreadBlocks (address_blocks (thread_pair_at thread.old.kept pair).at) thread.old.kept thread.new.kept }
+    ensures errors { ReportsCommit thread.old thread.new result }
+    ensures device { ChangesThreadBlocks (address_blocks (thread_pair thread.old.kept pair).at) thread.old.kept thread.new.kept }
     ensures survives { SurvivesLossSince thread.old.kept.disk thread.old.kept.history thread.new.kept.history
-        (tree_on_disk thread.old.kept.disk thread.old.kept.pairs) (tree_on_disk thread.old.kept.disk thread.old.kept.pairs) }
+        (disk_tree thread.old.kept.disk thread.old.kept.pairs) (disk_tree thread.old.kept.disk thread.old.kept.pairs) }
 {
     let state = delta_without_move(thread, pair);
     // What is left fits, so the commit is never refused.
@@ -101,10 +101,10 @@ fn end_by_drop<D: BlockDevice>(
     requires works { thread.old.failed ≡ false }
     requires can { CanEndAt thread.old.kept pair id true }
     ensures ended { OnOk result (HasEndedAt thread.old.kept pair id true thread.new.kept) }
-    ensures errors { ReportsErrorsOfCommitTakingNoBlock thread.old thread.new result }
-    ensures device { ChangesThreadBlocks (address_blocks (thread_pair_at thread.old.kept (pair - 1)).at) thread.old.kept thread.new.kept }
+    ensures errors { ReportsCommit thread.old thread.new result }
+    ensures device { ChangesThreadBlocks (address_blocks (thread_pair thread.old.kept (pair - 1)).at) thread.old.kept thread.new.kept }
     ensures survives { SurvivesLossSince thread.old.kept.disk thread.old.kept.history thread.new.kept.history
-        (tree_on_disk thread.old.kept.disk thread.old.kept.pairs) (tree_on_disk thread.old.kept.disk thread.old.kept.pairs) }
+        (disk_tree thread.old.kept.disk thread.old.kept.pairs) (disk_tree thread.old.kept.disk thread.old.kept.pairs) }
 {
     let state = settled_gstate(thread);
     drop_pair_at(alloc, thread, pair, &state)
@@ -122,10 +122,10 @@ pub(crate) fn end_move<D: BlockDevice>(
     requires works { thread.old.failed ≡ false }
     requires can { CanEndAt thread.old.kept pair id goes }
     ensures ended { OnOk result (HasEndedAt thread.old.kept pair id goes thread.new.kept) }
-    ensures errors { ReportsErrorsOfCommitTakingNoBlock thread.old thread.new result }
-    ensures device { ChangesThreadBlocks (address_blocks (thread_pair_at thread.old.kept (written_at_end pair goes)).at) thread.old.kept thread.new.kept }
+    ensures errors { ReportsCommit thread.old thread.new result }
+    ensures device { ChangesThreadBlocks (address_blocks (thread_pair thread.old.kept (written_at_end pair goes)).at) thread.old.kept thread.new.kept }
     ensures survives { SurvivesLossSince thread.old.kept.disk thread.old.kept.history thread.new.kept.history
-        (tree_on_disk thread.old.kept.disk thread.old.kept.pairs) (tree_on_disk thread.old.kept.disk thread.old.kept.pairs) }
+        (disk_tree thread.old.kept.disk thread.old.kept.pairs) (disk_tree thread.old.kept.disk thread.old.kept.pairs) }
 {
     if goes {
         end_by_drop(alloc, thread, pair, id)
@@ -154,9 +154,9 @@ fn put_and_end<D: BlockDevice>(
     requires works { thread.old.failed ≡ false }
     requires can { CanPutAndEnd thread.old.kept route.old_pair route.old_id goes route.new_pair (changes_view changes.now) }
     ensures done { OnOk result (IsPutEnded thread.old.kept route.old_pair route.old_id goes route.new_pair (changes_view changes.now) thread.new.kept) }
-    ensures errors { ReportsErrorsOfCommitsTakingBlocks thread.old thread.new route.new_pair (changes_view changes.now) result }
-    ensures device { WritesTwoTwo thread.old.kept (written_at_end route.old_pair goes) route.new_pair thread.new.kept }
-    ensures survives { SurvivesBothCommits thread.old.kept route.new_pair (changes_view changes.now) thread.new.kept }
+    ensures errors { ReportsTakingCommits thread.old thread.new route.new_pair (changes_view changes.now) result }
+    ensures device { WritesPairsTwo thread.old.kept (written_at_end route.old_pair goes) route.new_pair thread.new.kept }
+    ensures survives { SurvivesCommits thread.old.kept route.new_pair (changes_view changes.now) thread.new.kept }
 {
     let before = thread.len();
     change_or_split(alloc, thread, route.new_pair, changes)?;
@@ -171,8 +171,8 @@ fn move_setting_delta<D: BlockDevice>(thread: &Thread<D>, route: Route, sync: bo
     requires works { thread.now.failed ≡ false }
     requires old_below { route.old_pair < length thread.now.kept.pairs }
     requires new_below { route.new_pair < length thread.now.kept.pairs }
-    ensures delta { move_view result ≡ gstate_xor (gstate_naming sync (thread_pair_at thread.now.kept route.old_pair).at route.old_id) (thread_pair_at thread.now.kept route.new_pair).content.move }
-    ensures address { AreWords (thread_pair_at thread.now.kept route.old_pair).at }
+    ensures delta { move_view result ≡ gstate_xor (gstate_naming sync (thread_pair thread.now.kept route.old_pair).at route.old_id) (thread_pair thread.now.kept route.new_pair).content.move }
+    ensures address { AreWords (thread_pair thread.now.kept route.old_pair).at }
 {
     let pair = thread.blocks_of_pair(route.old_pair);
     let state = MoveState {
@@ -232,10 +232,10 @@ fn move_across<D: BlockDevice>(
     requires works { thread.old.failed ≡ false }
     requires can { CanMoveAcross thread.old.kept replaces sync route.old_pair route.old_id route.first route.new_pair route.new_id name.now }
     ensures moved { OnOk result (IsMovedAcross thread.old.kept replaces sync route.old_pair route.old_id route.first route.new_pair route.new_id name.now thread.new.kept) }
-    ensures errors { ReportsErrorsOfCommitsTakingBlocks thread.old thread.new route.new_pair (moving_changes replaces sync thread.old.kept route.old_pair route.old_id route.new_pair route.new_id name.now) result }
-    ensures device { WritesTwoTwo thread.old.kept (second_commit_pair thread.old.kept route.old_pair route.first) route.new_pair thread.new.kept }
+    ensures errors { ReportsTakingCommits thread.old thread.new route.new_pair (moving_changes replaces sync thread.old.kept route.old_pair route.old_id route.new_pair route.new_id name.now) result }
+    ensures device { WritesPairsTwo thread.old.kept (second_pair thread.old.kept route.old_pair route.first) route.new_pair thread.new.kept }
     ensures survives { (rename : CanMoveAcross thread.old.kept replaces sync route.old_pair route.old_id route.first route.new_pair route.new_id name.now) → SurvivesLossSince thread.old.kept.disk thread.old.kept.history thread.new.kept.history
-        (tree_on_disk thread.old.kept.disk thread.old.kept.pairs) (tree_across thread.old.kept replaces sync route.old_pair route.old_id route.first route.new_pair route.new_id name.now rename) }
+        (disk_tree thread.old.kept.disk thread.old.kept.pairs) (tree_across thread.old.kept replaces sync route.old_pair route.old_id route.first route.new_pair route.new_id name.now rename) }
 {
     let goes = drops_with_slot(thread, route.old_pair, route.first);
     let copy = copy_pair_slot(alloc, thread, route.old_pair, route.old_id)?;
@@ -269,11 +269,11 @@ pub fn rename_across_pairs<D: BlockDevice>(
     requires can { CanRenameAcross thread.old.kept route.old_pair route.old_id route.first route.new_pair route.new_id name.now }
     ensures renamed { OnOk result ((rename : CanRenameAcross thread.old.kept route.old_pair route.old_id route.first route.new_pair route.new_id name.now)
         → IsRenamedAcross thread.old.kept thread.new.kept rename.old.path rename.old.name rename.path name.now) }
-    ensures alters { OnOk result (ChangesGiven thread.old.kept (address_blocks (thread_pair_at thread.old.kept route.old_pair).at) thread.new.kept) }
-    ensures errors { ReportsErrorsOfCommitsTakingBlocks thread.old thread.new route.new_pair (across_changes thread.old.kept route.old_pair route.old_id route.new_pair route.new_id name.now) result }
-    ensures device { WritesTwoTwo thread.old.kept (second_commit_pair thread.old.kept route.old_pair route.first) route.new_pair thread.new.kept }
+    ensures alters { OnOk result (WritesTouchedFree thread.old.kept (address_blocks (thread_pair thread.old.kept route.old_pair).at) thread.new.kept) }
+    ensures errors { ReportsTakingCommits thread.old thread.new route.new_pair (across_changes thread.old.kept route.old_pair route.old_id route.new_pair route.new_id name.now) result }
+    ensures device { WritesPairsTwo thread.old.kept (second_pair thread.old.kept route.old_pair route.first) route.new_pair thread.new.kept }
     ensures survives { (rename : CanRenameAcross thread.old.kept route.old_pair route.old_id route.first route.new_pair route.new_id name.now) → SurvivesLossSince thread.old.kept.disk thread.old.kept.history thread.new.kept.history
-        (tree_on_disk thread.old.kept.disk thread.old.kept.pairs) (tree_moved thread.old.kept rename.old.path rename.old.name rename.path name.now) }
+        (disk_tree thread.old.kept.disk thread.old.kept.pairs) (tree_moved thread.old.kept rename.old.path rename.old.name rename.path name.now) }
 {
     move_across(alloc, thread, route, name, false, false)
 }
@@ -291,14 +291,14 @@ pub fn onto_file_across<D: BlockDevice>(
     name: &[u8],
 ) -> Result<(), Error>
     requires works { thread.old.failed ≡ false }
-    requires can { CanReplaceFileOver thread.old.kept route.old_pair route.old_id route.first route.new_pair route.new_id name.now }
-    ensures replaced { OnOk result ((rename : CanReplaceFileOver thread.old.kept route.old_pair route.old_id route.first route.new_pair route.new_id name.now)
+    requires can { CanReplaceFileAcross thread.old.kept route.old_pair route.old_id route.first route.new_pair route.new_id name.now }
+    ensures replaced { OnOk result ((rename : CanReplaceFileAcross thread.old.kept route.old_pair route.old_id route.first route.new_pair route.new_id name.now)
         → IsFileReplaced thread.old.kept thread.new.kept rename.old.path rename.old.name rename.path name.now rename.target.stands.slot.struct) }
-    ensures alters { OnOk result (ChangesGiven thread.old.kept (addresses_blocks (thread_pair_at thread.old.kept route.old_pair).at (thread_pair_at thread.old.kept route.new_pair).at) thread.new.kept) }
-    ensures errors { ReportsErrorsOfCommitsTakingBlocks thread.old thread.new route.new_pair (file_over_changes thread.old.kept route.old_pair route.old_id route.new_pair route.new_id name.now) result }
-    ensures device { WritesTwoTwo thread.old.kept (second_commit_pair thread.old.kept route.old_pair route.first) route.new_pair thread.new.kept }
-    ensures survives { (rename : CanReplaceFileOver thread.old.kept route.old_pair route.old_id route.first route.new_pair route.new_id name.now) → SurvivesLossSince thread.old.kept.disk thread.old.kept.history thread.new.kept.history
-        (tree_on_disk thread.old.kept.disk thread.old.kept.pairs) (tree_moved thread.old.kept rename.old.path rename.old.name rename.path name.now) }
+    ensures alters { OnOk result (WritesTouchedFree thread.old.kept (addresses_blocks (thread_pair thread.old.kept route.old_pair).at (thread_pair thread.old.kept route.new_pair).at) thread.new.kept) }
+    ensures errors { ReportsTakingCommits thread.old thread.new route.new_pair (file_across_changes thread.old.kept route.old_pair route.old_id route.new_pair route.new_id name.now) result }
+    ensures device { WritesPairsTwo thread.old.kept (second_pair thread.old.kept route.old_pair route.first) route.new_pair thread.new.kept }
+    ensures survives { (rename : CanReplaceFileAcross thread.old.kept route.old_pair route.old_id route.first route.new_pair route.new_id name.now) → SurvivesLossSince thread.old.kept.disk thread.old.kept.history thread.new.kept.history
+        (disk_tree thread.old.kept.disk thread.old.kept.pairs) (tree_moved thread.old.kept rename.old.path rename.old.name rename.path name.now) }
 {
     move_across(alloc, thread, route, name, true, false)
 }
@@ -318,14 +318,14 @@ pub fn onto_directory_across<D: BlockDevice>(
     gone: usize,
 ) -> Result<(), Error>
     requires works { thread.old.failed ≡ false }
-    requires can { CanReplaceDirectoryOver thread.old.kept route.old_pair route.old_id route.first route.new_pair route.new_id name.now gone }
-    ensures renamed { OnOk result ((rename : CanReplaceDirectoryOver thread.old.kept route.old_pair route.old_id route.first route.new_pair route.new_id name.now gone)
+    requires can { CanReplaceDirectoryAcross thread.old.kept route.old_pair route.old_id route.first route.new_pair route.new_id name.now gone }
+    ensures renamed { OnOk result ((rename : CanReplaceDirectoryAcross thread.old.kept route.old_pair route.old_id route.first route.new_pair route.new_id name.now gone)
         → IsRenamedAcross thread.old.kept thread.new.kept rename.old.path rename.old.name rename.path name.now) }
-    ensures alters { OnOk result (ChangesGiven thread.old.kept (addresses_blocks (thread_pair_at thread.old.kept route.old_pair).at (thread_pair_at thread.old.kept route.new_pair).at) thread.new.kept) }
-    ensures errors { ReportsErrorsOfCommitsTakingBlocks thread.old thread.new route.new_pair (entry_over_changes true thread.old.kept route.old_pair route.old_id route.new_pair route.new_id name.now) result }
+    ensures alters { OnOk result (WritesTouchedFree thread.old.kept (addresses_blocks (thread_pair thread.old.kept route.old_pair).at (thread_pair thread.old.kept route.new_pair).at) thread.new.kept) }
+    ensures errors { ReportsTakingCommits thread.old thread.new route.new_pair (entry_across_changes true thread.old.kept route.old_pair route.old_id route.new_pair route.new_id name.now) result }
     ensures device { WritesThreadTwo thread.old.kept thread.new.kept }
-    ensures survives { (rename : CanReplaceDirectoryOver thread.old.kept route.old_pair route.old_id route.first route.new_pair route.new_id name.now gone) → SurvivesLossSince thread.old.kept.disk thread.old.kept.history thread.new.kept.history
-        (tree_on_disk thread.old.kept.disk thread.old.kept.pairs) (tree_moved thread.old.kept rename.old.path rename.old.name rename.path name.now) }
+    ensures survives { (rename : CanReplaceDirectoryAcross thread.old.kept route.old_pair route.old_id route.first route.new_pair route.new_id name.now gone) → SurvivesLossSince thread.old.kept.disk thread.old.kept.history thread.new.kept.history
+        (disk_tree thread.old.kept.disk thread.old.kept.pairs) (tree_moved thread.old.kept rename.old.path rename.old.name rename.path name.now) }
 {
     let at = thread.blocks_of_pair(gone);
     move_across(alloc, thread, route, name, true, true)?;

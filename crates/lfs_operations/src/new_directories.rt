@@ -1,17 +1,17 @@
 // Empty directories that are made.
 
 ghost use Rattle.std.specs.Prelude.{◌≡◌, ◌<◌, ◌^◌, ℕ, false, length, Err, OnOk};
-ghost use Rattle.lfs_device.specs.Bytes.{HoldBytes};
+ghost use Rattle.lfs_device.specs.Bytes.{AreByteBlocks};
 ghost use Rattle.lfs_model.specs.format.Disk.{block_count};
 ghost use Rattle.lfs_model.specs.crash.PowerLoss.{HasEither, SurvivesLossSince};
 ghost use Rattle.lfs_model.specs.format.Slots.{array_address};
-ghost use Rattle.lfs_model.specs.tree.Shown.{tree_on_disk};
+ghost use Rattle.lfs_model.specs.tree.Shown.{disk_tree};
 ghost use Rattle.lfs_model.specs.layers.Steps.{with_sync_inverted};
 ghost use Rattle.lfs_tag.specs.FieldsView.{move_view};
-ghost use Rattle.lfs_thread.specs.ThreadDevice.{LossLeavesCleanly};
-ghost use Rattle.lfs_thread.specs.ThreadSteps.{IsThreadedIn, LossLeavesThreadedIn, ChangesThreadBlocks, thread_pair_at};
-ghost use Rattle.lfs_operations.specs.Changing.{CanTurn, LeftByTurn, IsTurned, ReportsErrorsOfChangeOrSplit, WritesPairTwo};
-ghost use Rattle.lfs_operations.specs.Making.{AreBothAltered, CanLink, CanMakeAt, IsRunEnd, IsDirectoryMade, ReportsErrorsOfLink, ReportsErrorsOfMakingDirectory, WritesPairsFour, entry_changes, adding_changes, threading_changes, tree_with_directory};
+ghost use Rattle.lfs_thread.specs.ThreadDevice.{CleanLossLeaves};
+ghost use Rattle.lfs_thread.specs.ThreadSteps.{IsThreadedIn, LossLeavesThreaded, ChangesThreadBlocks, thread_pair};
+ghost use Rattle.lfs_operations.specs.Changing.{CanPut, LeftByPut, ArePut, ReportsPut, WritesPairTwo};
+ghost use Rattle.lfs_operations.specs.Making.{AreBothTouched, CanLink, CanMakeAt, IsRunEnd, IsDirectoryMade, ReportsErrorsOfLink, ReportsMaking, WritesPairsFour, entry_changes, directory_entry_changes, threading_changes, tree_with_directory};
 ghost use Rattle.lfs_model.specs.format.Thread.{address_blocks, addresses_blocks};
 
 use crate::changes::{change_or_split, take_two_blocks};
@@ -26,7 +26,7 @@ use std::alloc::Global;
 // bits.
 pub(crate) fn lemma_device_facts<D: BlockDevice>(thread: &Thread<D>)
     ensures count { block_count thread.now.kept.disk < 2 ^ 32 }
-    ensures bytes { HoldBytes thread.now.kept.disk.blocks }
+    ensures bytes { AreByteBlocks thread.now.kept.disk.blocks }
 {
     let _count = thread.device().geometry().block_count;
 }
@@ -70,8 +70,8 @@ fn link_pair_after<D: BlockDevice>(
     requires can { CanLink thread.old.kept last (array_address fresh) }
     ensures is_joined { OnOk result (IsThreadedIn thread.old.kept last (array_address fresh) (threading_changes thread.old.kept last (array_address fresh)) thread.new.kept) }
     ensures errors { ReportsErrorsOfLink thread.old thread.new (array_address fresh) result }
-    ensures device { ChangesThreadBlocks (addresses_blocks (thread_pair_at thread.old.kept last).at (array_address fresh)) thread.old.kept thread.new.kept }
-    ensures stops { LossLeavesCleanly thread.old.kept.history thread.new.kept.history (LossLeavesThreadedIn thread.old.kept last (array_address fresh) (threading_changes thread.old.kept last (array_address fresh))) }
+    ensures device { ChangesThreadBlocks (addresses_blocks (thread_pair thread.old.kept last).at (array_address fresh)) thread.old.kept thread.new.kept }
+    ensures stops { CleanLossLeaves thread.old.kept.history thread.new.kept.history (LossLeavesThreaded thread.old.kept last (array_address fresh) (threading_changes thread.old.kept last (array_address fresh))) }
 {
     let changes = [
         Change::Tail {
@@ -97,11 +97,11 @@ fn put_directory_entry<'a, D: BlockDevice>(
     branch: &'a [u8],
 ) -> Result<(), Error>
     requires works { thread.old.failed ≡ false }
-    requires can { CanTurn thread.old.kept pair (entry_changes thread.old.kept pair id name.now branch.now) }
-    ensures is_put { OnOk result (IsTurned thread.old.kept pair (entry_changes thread.old.kept pair id name.now branch.now) thread.new.kept) }
-    ensures errors { ReportsErrorsOfChangeOrSplit thread.old thread.new pair (entry_changes thread.old.kept pair id name.now branch.now) result }
+    requires can { CanPut thread.old.kept pair (entry_changes thread.old.kept pair id name.now branch.now) }
+    ensures is_put { OnOk result (ArePut thread.old.kept pair (entry_changes thread.old.kept pair id name.now branch.now) thread.new.kept) }
+    ensures errors { ReportsPut thread.old thread.new pair (entry_changes thread.old.kept pair id name.now branch.now) result }
     ensures device { WritesPairTwo thread.old.kept pair thread.new.kept }
-    ensures stops { LossLeavesCleanly thread.old.kept.history thread.new.kept.history (LeftByTurn thread.old.kept pair (entry_changes thread.old.kept pair id name.now branch.now)) }
+    ensures stops { CleanLossLeaves thread.old.kept.history thread.new.kept.history (LeftByPut thread.old.kept pair (entry_changes thread.old.kept pair id name.now branch.now)) }
 {
     let changes = [
         Change::Create {
@@ -131,11 +131,11 @@ fn put_new_entry<D: BlockDevice>(
     at: [u32; 2],
 ) -> Result<(), Error>
     requires works { thread.old.failed ≡ false }
-    requires can { CanTurn thread.old.kept pair (adding_changes thread.old.kept pair id name.now (array_address at)) }
-    ensures is_put { OnOk result (IsTurned thread.old.kept pair (adding_changes thread.old.kept pair id name.now (array_address at)) thread.new.kept) }
-    ensures errors { ReportsErrorsOfChangeOrSplit thread.old thread.new pair (adding_changes thread.old.kept pair id name.now (array_address at)) result }
+    requires can { CanPut thread.old.kept pair (directory_entry_changes thread.old.kept pair id name.now (array_address at)) }
+    ensures is_put { OnOk result (ArePut thread.old.kept pair (directory_entry_changes thread.old.kept pair id name.now (array_address at)) thread.new.kept) }
+    ensures errors { ReportsPut thread.old thread.new pair (directory_entry_changes thread.old.kept pair id name.now (array_address at)) result }
     ensures device { WritesPairTwo thread.old.kept pair thread.new.kept }
-    ensures stops { LossLeavesCleanly thread.old.kept.history thread.new.kept.history (LeftByTurn thread.old.kept pair (adding_changes thread.old.kept pair id name.now (array_address at))) }
+    ensures stops { CleanLossLeaves thread.old.kept.history thread.new.kept.history (LeftByPut thread.old.kept pair (directory_entry_changes thread.old.kept pair id name.now (array_address at))) }
 {
     let branch = pair_bytes(at);
     put_directory_entry(alloc, thread, pair, id, name, &branch)
@@ -160,13 +160,13 @@ pub fn make_directory<D: BlockDevice>(
     requires works { thread.old.failed ≡ false }
     requires can { CanMakeAt thread.old.kept pair id name.now }
     ensures made { OnOk result ((can : CanMakeAt thread.old.kept pair id name.now) → IsDirectoryMade thread.old.kept thread.new.kept can.path name.now) }
-    ensures alters { OnOk result (AreBothAltered thread.old.kept pair thread.new.kept) }
-    ensures errors { ReportsErrorsOfMakingDirectory thread.old thread.new result }
+    ensures alters { OnOk result (AreBothTouched thread.old.kept pair thread.new.kept) }
+    ensures errors { ReportsMaking thread.old thread.new result }
     ensures device { WritesPairsFour thread.old.kept pair thread.new.kept }
     ensures stands { result ≡ Err Error.NoMemory → (can : CanMakeAt thread.old.kept pair id name.now) → HasEither thread.new.kept.disk
-        (tree_on_disk thread.old.kept.disk thread.old.kept.pairs) (tree_with_directory thread.old.kept can.path name.now) }
+        (disk_tree thread.old.kept.disk thread.old.kept.pairs) (tree_with_directory thread.old.kept can.path name.now) }
     ensures survives { (can : CanMakeAt thread.old.kept pair id name.now) → SurvivesLossSince thread.old.kept.disk thread.old.kept.history thread.new.kept.history
-        (tree_on_disk thread.old.kept.disk thread.old.kept.pairs) (tree_with_directory thread.old.kept can.path name.now) }
+        (disk_tree thread.old.kept.disk thread.old.kept.pairs) (tree_with_directory thread.old.kept can.path name.now) }
 {
     let last = last_directory_pair(thread, pair);
     lemma_device_facts(thread);

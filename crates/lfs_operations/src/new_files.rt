@@ -3,8 +3,8 @@
 ghost use Rattle.std.specs.Prelude.{◌≡◌, ◌≤◌, ◌+◌, false, OnOk};
 ghost use Rattle.lfs_model.specs.session.History.{read_count};
 ghost use Rattle.lfs_model.specs.crash.PowerLoss.{SurvivesLossSince};
-ghost use Rattle.lfs_model.specs.tree.Shown.{tree_on_disk};
-ghost use Rattle.lfs_operations.specs.Changing.{IsPairTouched, ReportsErrorsOfChangeOrSplit, WritesPairTwo};
+ghost use Rattle.lfs_model.specs.tree.Shown.{disk_tree};
+ghost use Rattle.lfs_operations.specs.Changing.{IsPairTouched, ReportsPut, WritesPairTwo};
 ghost use Rattle.lfs_operations.specs.Creating.{CanCreateIn, IsFileCreated, creation_changes, tree_with_file};
 
 use crate::changes::change_or_split;
@@ -33,11 +33,11 @@ pub fn create_file<D: BlockDevice>(
     requires can { CanCreateIn thread.old.kept pair id name.now }
     ensures created { OnOk result ((can : CanCreateIn thread.old.kept pair id name.now) → IsFileCreated thread.old.kept thread.new.kept can.path name.now) }
     ensures alters { OnOk result (IsPairTouched thread.old.kept pair thread.new.kept) }
-    ensures errors { ReportsErrorsOfChangeOrSplit thread.old thread.new pair (creation_changes id name.now) result }
+    ensures errors { ReportsPut thread.old thread.new pair (creation_changes id name.now) result }
     ensures device { WritesPairTwo thread.old.kept pair thread.new.kept }
     ensures few { read_count thread.new.kept.history ≤ read_count thread.old.kept.history + 6 }
     ensures survives { (can : CanCreateIn thread.old.kept pair id name.now) → SurvivesLossSince thread.old.kept.disk thread.old.kept.history thread.new.kept.history
-        (tree_on_disk thread.old.kept.disk thread.old.kept.pairs) (tree_with_file thread.old.kept can.path name.now) }
+        (disk_tree thread.old.kept.disk thread.old.kept.pairs) (tree_with_file thread.old.kept can.path name.now) }
 {
     let changes = [
         Change::Create {

@@ -4,17 +4,17 @@ ghost use Rattle.std.specs.Prelude.{◌≡◌, ◌<◌, ◌+◌, ◌-◌, ◌&&�
 ghost use Rattle.lfs_model.specs.crash.PowerLoss.{SurvivesLossSince};
 ghost use Rattle.lfs_model.specs.session.Recovery.{IsRecovered};
 ghost use Rattle.lfs_model.specs.format.Slots.{zero_gstate};
-ghost use Rattle.lfs_model.specs.format.Thread.{blocks_of_pairs, pairs_gstate, address_blocks};
+ghost use Rattle.lfs_model.specs.format.Thread.{pairs_blocks, pairs_gstate, address_blocks};
 ghost use Rattle.lfs_model.specs.tree.View.{IsAccepted};
-ghost use Rattle.lfs_model.specs.tree.Shown.{tree_on_disk};
+ghost use Rattle.lfs_model.specs.tree.Shown.{disk_tree};
 ghost use Rattle.lfs_model.specs.layers.Steps.{HasNoMove};
 ghost use Rattle.lfs_tag.specs.FieldsView.{move_view};
-ghost use Rattle.lfs_thread.specs.ThreadDevice.{LossLeavesCleanly};
-ghost use Rattle.lfs_thread.specs.ThreadSteps.{complete_after, IsPairCommitted, LossLeavesPairChanged, ChangesThreadBlocks, thread_pair_at};
-ghost use Rattle.lfs_operations.specs.Deltas.{content_reaching_gstate, CanSetGstate, has_tail_at, gstate_changes, delta_reaching_gstate};
-ghost use Rattle.lfs_operations.specs.Recovering.{CanClearSync, CanDropPairs, HasDroppedRecovered, IsSyncCleared, ReportsErrorsOfRecovery, gstate_after_drops};
-ghost use Rattle.lfs_operations.specs.EndingMove.{CanEndMove, HasEndedMove, HasMovedSlot, has_one_follower};
-ghost use Rattle.lfs_operations.specs.Removing.{ReportsErrorsOfCommitTakingNoBlock};
+ghost use Rattle.lfs_thread.specs.ThreadDevice.{CleanLossLeaves};
+ghost use Rattle.lfs_thread.specs.ThreadSteps.{complete_after, IsPairCommitted, LossLeavesPair, ChangesThreadBlocks, thread_pair};
+ghost use Rattle.lfs_operations.specs.Deltas.{content_reaching_gstate, CanSetGstate, tail_is_hard, gstate_changes, delta_reaching_gstate};
+ghost use Rattle.lfs_operations.specs.Recovering.{CanClearSync, CanDropPairs, HasDroppedRecovered, IsSyncCleared, ReportsRecovery, gstate_while_dropping};
+ghost use Rattle.lfs_operations.specs.EndingMove.{CanEndMove, HasEndedMove, HasMovedSlot, drops_when_emptied};
+ghost use Rattle.lfs_operations.specs.Removing.{ReportsCommit};
 
 use crate::changes::commit_fitting;
 use crate::drops::drop_pair_at;
@@ -45,7 +45,7 @@ fn delta_to_gstate<D: BlockDevice>(
 fn follows_tail<D: BlockDevice>(thread: &Thread<D>, index: usize) -> bool
     requires works { thread.now.failed ≡ false }
     requires below { index < length thread.now.kept.pairs }
-    ensures { result ≡ has_tail_at thread.now.kept index }
+    ensures { result ≡ tail_is_hard thread.now.kept index }
 {
     thread.next(index).is_some()
 }
@@ -60,10 +60,10 @@ fn set_gstate_in<D: BlockDevice>(
     requires works { thread.old.failed ≡ false }
     requires can { CanSetGstate thread.old.kept index (move_view wanted.now) }
     ensures is_set { OnOk result (IsPairCommitted thread.old.kept index (gstate_changes thread.old.kept index (move_view wanted.now)) thread.new.kept) }
-    ensures errors { ReportsErrorsOfCommitTakingNoBlock thread.old thread.new result }
+    ensures errors { ReportsCommit thread.old thread.new result }
     ensures made { complete_after thread.old.kept index (gstate_changes thread.old.kept index (move_view wanted.now)) ≡ Some (content_reaching_gstate thread.old.kept index (move_view wanted.now)) }
-    ensures device { ChangesThreadBlocks (address_blocks (thread_pair_at thread.old.kept index).at) thread.old.kept thread.new.kept }
-    ensures stops { LossLeavesCleanly thread.old.kept.history thread.new.kept.history (LossLeavesPairChanged thread.old.kept index (gstate_changes thread.old.kept index (move_view wanted.now))) }
+    ensures device { ChangesThreadBlocks (address_blocks (thread_pair thread.old.kept index).at) thread.old.kept thread.new.kept }
+    ensures stops { CleanLossLeaves thread.old.kept.history thread.new.kept.history (LossLeavesPair thread.old.kept index (gstate_changes thread.old.kept index (move_view wanted.now))) }
 {
     lemma_device_facts(thread);
     let state = delta_to_gstate(thread, index, wanted);
@@ -74,7 +74,7 @@ fn set_gstate_in<D: BlockDevice>(
 // Returns the global state that is wanted after a pair is dropped: zero after the last one.
 fn lemma_gstate_zero<D: BlockDevice>(thread: &Thread<D>, is_last: bool) -> MoveState
     requires { thread.now.failed ≡ false }
-    ensures { move_view result ≡ gstate_after_drops thread.now.kept is_last }
+    ensures { move_view result ≡ gstate_while_dropping thread.now.kept is_last }
 {
     if is_last {
         MoveState::none()
@@ -89,10 +89,10 @@ fn clear_sync_bit<D: BlockDevice>(alloc: Global, thread: &mut Thread<D>) -> Resu
     requires can { CanClearSync thread.old.kept }
     ensures nothing { pairs_gstate thread.old.kept.pairs ≡ zero_gstate → thread.new.kept ≡ thread.old.kept }
     ensures is_cleared { OnOk result (IsSyncCleared thread.old.kept thread.new.kept) }
-    ensures errors { ReportsErrorsOfCommitTakingNoBlock thread.old thread.new result }
-    ensures device { ChangesThreadBlocks (blocks_of_pairs thread.old.kept.pairs) thread.old.kept thread.new.kept }
+    ensures errors { ReportsCommit thread.old thread.new result }
+    ensures device { ChangesThreadBlocks (pairs_blocks thread.old.kept.pairs) thread.old.kept thread.new.kept }
     ensures survives { SurvivesLossSince thread.old.kept.disk thread.old.kept.history thread.new.kept.history
-        (tree_on_disk thread.old.kept.disk thread.old.kept.pairs) (tree_on_disk thread.old.kept.disk thread.old.kept.pairs) }
+        (disk_tree thread.old.kept.disk thread.old.kept.pairs) (disk_tree thread.old.kept.disk thread.old.kept.pairs) }
 {
     if thread.state().sync {
         let last = thread.len() - 1;
@@ -122,10 +122,10 @@ pub fn drop_unreached_pairs<D: BlockDevice>(
     requires can { CanDropPairs thread.old.kept unreached.now }
     ensures nothing { IsRecovered thread.old.kept.pairs → thread.new.kept ≡ thread.old.kept }
     ensures recovered { OnOk result (HasDroppedRecovered thread.old.kept unreached.now thread.new.kept) }
-    ensures errors { ReportsErrorsOfRecovery thread.old thread.new result }
-    ensures device { ChangesThreadBlocks (blocks_of_pairs thread.old.kept.pairs) thread.old.kept thread.new.kept }
+    ensures errors { ReportsRecovery thread.old thread.new result }
+    ensures device { ChangesThreadBlocks (pairs_blocks thread.old.kept.pairs) thread.old.kept thread.new.kept }
     ensures survives { SurvivesLossSince thread.old.kept.disk thread.old.kept.history thread.new.kept.history
-        (tree_on_disk thread.old.kept.disk thread.old.kept.pairs) (tree_on_disk thread.old.kept.disk thread.old.kept.pairs) }
+        (disk_tree thread.old.kept.disk thread.old.kept.pairs) (disk_tree thread.old.kept.disk thread.old.kept.pairs) }
 {
     for dropped in 0..unreached.len() {
         let behind = unreached[dropped] - dropped;
@@ -152,7 +152,7 @@ fn moved_slot_pair<D: BlockDevice>(thread: &Thread<D>, state: &MoveState) -> Opt
 fn one_after_tail<D: BlockDevice>(thread: &Thread<D>, index: usize) -> bool
     requires works { thread.now.failed ≡ false }
     requires below { index < length thread.now.kept.pairs }
-    ensures { result ≡ has_one_follower thread.now.kept index }
+    ensures { result ≡ drops_when_emptied thread.now.kept index }
 {
     index > 0 && thread.slot_count(index) == 1 && follows_tail(thread, index - 1)
 }
@@ -168,10 +168,10 @@ pub fn end_move<D: BlockDevice>(alloc: Global, thread: &mut Thread<D>) -> Result
     requires can { CanEndMove thread.old.kept }
     ensures nothing { HasNoMove (pairs_gstate thread.old.kept.pairs) → thread.new.kept ≡ thread.old.kept }
     ensures ended { OnOk result (HasEndedMove thread.old.kept thread.new.kept) }
-    ensures errors { ReportsErrorsOfRecovery thread.old thread.new result }
-    ensures device { ChangesThreadBlocks (blocks_of_pairs thread.old.kept.pairs) thread.old.kept thread.new.kept }
+    ensures errors { ReportsRecovery thread.old thread.new result }
+    ensures device { ChangesThreadBlocks (pairs_blocks thread.old.kept.pairs) thread.old.kept thread.new.kept }
     ensures survives { SurvivesLossSince thread.old.kept.disk thread.old.kept.history thread.new.kept.history
-        (tree_on_disk thread.old.kept.disk thread.old.kept.pairs) (tree_on_disk thread.old.kept.disk thread.old.kept.pairs) }
+        (disk_tree thread.old.kept.disk thread.old.kept.pairs) (disk_tree thread.old.kept.disk thread.old.kept.pairs) }
 {
     let state = thread.state();
     let Some(index) = moved_slot_pair(thread, &state) else {

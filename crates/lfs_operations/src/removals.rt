@@ -2,11 +2,11 @@
 
 ghost use Rattle.std.specs.Prelude.{◌≡◌, ◌<◌, ◌-◌, length, false, true, OnOk};
 ghost use Rattle.lfs_model.specs.crash.PowerLoss.{SurvivesLossSince};
-ghost use Rattle.lfs_model.specs.tree.Shown.{tree_on_disk};
+ghost use Rattle.lfs_model.specs.tree.Shown.{disk_tree};
 ghost use Rattle.lfs_thread.specs.ThreadSteps.{ChangesThreadBlocks};
 ghost use Rattle.lfs_operations.specs.Changing.{IsPairTouched};
 ghost use Rattle.lfs_operations.specs.Editing.{editable_slot};
-ghost use Rattle.lfs_operations.specs.Removing.{CanRemoveIn, IsFileRemoved, ReportsErrorsOfCommitTakingNoBlock, drops_with_its_slot, tree_without_entry, written_by_removal};
+ghost use Rattle.lfs_operations.specs.Removing.{CanRemoveIn, IsFileRemoved, ReportsCommit, drops_with_its_slot, tree_without_entry, written_by_removal};
 ghost use Rattle.lfs_model.specs.format.Thread.{address_blocks};
 
 use crate::changes::commit_fitting;
@@ -45,10 +45,10 @@ pub fn remove_file<D: BlockDevice>(
     requires can { CanRemoveIn thread.old.kept pair id first }
     ensures is_removed { OnOk result ((take : CanRemoveIn thread.old.kept pair id first) → IsFileRemoved thread.old.kept thread.new.kept take.can.path take.can.name (editable_slot take.can).struct) }
     ensures alters { OnOk result (drops_with_its_slot thread.old.kept pair first ≡ true → IsPairTouched thread.old.kept (pair - 1) thread.new.kept) }
-    ensures errors { ReportsErrorsOfCommitTakingNoBlock thread.old thread.new result }
+    ensures errors { ReportsCommit thread.old thread.new result }
     ensures device { ChangesThreadBlocks (address_blocks (written_by_removal thread.old.kept pair first)) thread.old.kept thread.new.kept }
     ensures survives { (take : CanRemoveIn thread.old.kept pair id first) → SurvivesLossSince thread.old.kept.disk thread.old.kept.history thread.new.kept.history
-        (tree_on_disk thread.old.kept.disk thread.old.kept.pairs) (tree_without_entry thread.old.kept take.can.path take.can.name) }
+        (disk_tree thread.old.kept.disk thread.old.kept.pairs) (tree_without_entry thread.old.kept take.can.path take.can.name) }
 {
     if drops_with_slot(thread, pair, first) {
         drop_pair_at(alloc, thread, pair, &MoveState::none())

@@ -3,10 +3,10 @@
 ghost use Rattle.std.specs.Prelude.{◌≡◌, ◌∷◌, IfOk, OnOk, false};
 ghost use Rattle.lfs_model.specs.layers.Changes.{Delete};
 ghost use Rattle.lfs_model.specs.crash.PowerLoss.{SurvivesLossSince};
-ghost use Rattle.lfs_model.specs.tree.Shown.{tree_on_disk};
+ghost use Rattle.lfs_model.specs.tree.Shown.{disk_tree};
 ghost use Rattle.lfs_pair.specs.ChangeView.{changes_view};
 ghost use Rattle.lfs_operations.specs.Changing.{WritesPairTwo};
-ghost use Rattle.lfs_operations.specs.Renaming.{CanRenameWithin, CanRenameOnto, IsRenamedWithin, IsRenamedOnto, ReportsErrorsOfReadThenChangeOrSplit, id_after_removal, within_changes, onto_changes, tree_renamed};
+ghost use Rattle.lfs_operations.specs.Renaming.{CanRenameWithin, CanRenameOnto, IsRenamedWithin, IsRenamedOnto, ReportsReadPut, id_after_removal, within_changes, onto_changes, tree_renamed};
 ghost use Rattle.lfs_operations.specs.RenamingView.{slot_copy};
 ghost use Rattle.lfs_operations.specs.RenamingSlots.{slot_changes};
 
@@ -61,10 +61,10 @@ pub fn rename<D: BlockDevice>(
     requires works { thread.old.failed ≡ false }
     requires can { CanRenameWithin thread.old.kept pair id place name.now }
     ensures renamed { OnOk result ((rename : CanRenameWithin thread.old.kept pair id place name.now) → IsRenamedWithin thread.old.kept thread.new.kept rename.can.path rename.can.name name.now) }
-    ensures errors { ReportsErrorsOfReadThenChangeOrSplit thread.old thread.new pair (within_changes thread.old.kept pair id place name.now) result }
+    ensures errors { ReportsReadPut thread.old thread.new pair (within_changes thread.old.kept pair id place name.now) result }
     ensures device { WritesPairTwo thread.old.kept pair thread.new.kept }
     ensures survives { (rename : CanRenameWithin thread.old.kept pair id place name.now) → SurvivesLossSince thread.old.kept.disk thread.old.kept.history thread.new.kept.history
-        (tree_on_disk thread.old.kept.disk thread.old.kept.pairs) (tree_renamed thread.old.kept rename.can.path rename.can.name name.now) }
+        (disk_tree thread.old.kept.disk thread.old.kept.pairs) (tree_renamed thread.old.kept rename.can.path rename.can.name name.now) }
 {
     let copy = copy_pair_slot(alloc, thread, pair, id)?;
     let changes = renaming_changes(alloc, id, place, name, &copy)?;
@@ -108,10 +108,10 @@ pub fn rename_onto_file<D: BlockDevice>(
     requires can { CanRenameOnto thread.old.kept pair id place name.now }
     ensures renamed { OnOk result ((rename : CanRenameOnto thread.old.kept pair id place name.now)
         → IsRenamedOnto thread.old.kept thread.new.kept rename.can.path rename.can.name name.now rename.target.stands.slot.struct) }
-    ensures errors { ReportsErrorsOfReadThenChangeOrSplit thread.old thread.new pair (onto_changes thread.old.kept pair id place name.now) result }
+    ensures errors { ReportsReadPut thread.old thread.new pair (onto_changes thread.old.kept pair id place name.now) result }
     ensures device { WritesPairTwo thread.old.kept pair thread.new.kept }
     ensures survives { (rename : CanRenameOnto thread.old.kept pair id place name.now) → SurvivesLossSince thread.old.kept.disk thread.old.kept.history thread.new.kept.history
-        (tree_on_disk thread.old.kept.disk thread.old.kept.pairs) (tree_renamed thread.old.kept rename.can.path rename.can.name name.now) }
+        (disk_tree thread.old.kept.disk thread.old.kept.pairs) (tree_renamed thread.old.kept rename.can.path rename.can.name name.now) }
 {
     let copy = copy_pair_slot(alloc, thread, pair, id)?;
     let changes = renaming_onto_changes(alloc, id, place, name, &copy)?;

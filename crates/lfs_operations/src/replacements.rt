@@ -3,13 +3,13 @@
 ghost use Rattle.std.specs.Prelude.{◌≡◌, ◌-◌, ◌∷◌, IfOk, OnOk, false};
 ghost use Rattle.lfs_model.specs.layers.Changes.{Delete, PutMove};
 ghost use Rattle.lfs_model.specs.crash.PowerLoss.{SurvivesLossSince};
-ghost use Rattle.lfs_model.specs.tree.Shown.{tree_on_disk};
+ghost use Rattle.lfs_model.specs.tree.Shown.{disk_tree};
 ghost use Rattle.lfs_tag.specs.FieldsView.{move_view};
 ghost use Rattle.lfs_pair.specs.ChangeView.{changes_view};
-ghost use Rattle.lfs_thread.specs.ThreadSteps.{ChangesThreadBlocks, thread_pair_at};
-ghost use Rattle.lfs_operations.specs.Altering.{ChangesGiven};
+ghost use Rattle.lfs_thread.specs.ThreadSteps.{ChangesThreadBlocks, thread_pair};
+ghost use Rattle.lfs_operations.specs.Altering.{WritesTouchedFree};
 ghost use Rattle.lfs_operations.specs.Renaming.{id_after_removal, tree_renamed};
-ghost use Rattle.lfs_operations.specs.RenamingOver.{CanRenameOver, CanReplaceDirectory, IsRenamedOver, IsDirectoryReplaced, ReportsErrorsOfReadThenCommit, ReportsErrorsOfReadThenCommits};
+ghost use Rattle.lfs_operations.specs.RenamingOver.{CanRenameOver, CanReplaceDirectory, IsRenamedOver, IsDirectoryReplaced, ReportsReadCommit, ReportsReadCommits};
 ghost use Rattle.lfs_operations.specs.RenamingView.{slot_copy};
 ghost use Rattle.lfs_operations.specs.RenamingSlots.{slot_changes};
 ghost use Rattle.lfs_model.specs.format.Thread.{address_blocks, addresses_blocks};
@@ -64,10 +64,10 @@ pub(crate) fn rename_over_directory<D: BlockDevice>(
     requires works { thread.old.failed ≡ false }
     requires can { CanReplaceDirectory thread.old.kept pair id place name.now }
     ensures renamed { OnOk result ((rename : CanReplaceDirectory thread.old.kept pair id place name.now) → IsDirectoryReplaced thread.old.kept thread.new.kept pair id place rename.can.path rename.can.name name.now) }
-    ensures errors { ReportsErrorsOfReadThenCommit thread.old thread.new result }
-    ensures device { ChangesThreadBlocks (address_blocks (thread_pair_at thread.old.kept pair).at) thread.old.kept thread.new.kept }
+    ensures errors { ReportsReadCommit thread.old thread.new result }
+    ensures device { ChangesThreadBlocks (address_blocks (thread_pair thread.old.kept pair).at) thread.old.kept thread.new.kept }
     ensures survives { (rename : CanReplaceDirectory thread.old.kept pair id place name.now) → SurvivesLossSince thread.old.kept.disk thread.old.kept.history thread.new.kept.history
-        (tree_on_disk thread.old.kept.disk thread.old.kept.pairs) (tree_renamed thread.old.kept rename.can.path rename.can.name name.now) }
+        (disk_tree thread.old.kept.disk thread.old.kept.pairs) (tree_renamed thread.old.kept rename.can.path rename.can.name name.now) }
 {
     let copy = copy_pair_slot(alloc, thread, pair, id)?;
     let state = gstate_xor_delta(&thread.delta(pair), &sync_delta());
@@ -100,11 +100,11 @@ pub fn rename_onto_directory<D: BlockDevice>(
     requires can { CanRenameOver thread.old.kept pair id place name.now gone }
     ensures renamed { OnOk result ((rename : CanRenameOver thread.old.kept pair id place name.now gone)
         → IsRenamedOver thread.old.kept thread.new.kept rename.over.can.path rename.over.can.name name.now) }
-    ensures alters { OnOk result (ChangesGiven thread.old.kept (address_blocks (thread_pair_at thread.old.kept pair).at) thread.new.kept) }
-    ensures errors { ReportsErrorsOfReadThenCommits thread.old thread.new result }
-    ensures device { ChangesThreadBlocks (addresses_blocks (thread_pair_at thread.old.kept pair).at (thread_pair_at thread.old.kept (gone - 1)).at) thread.old.kept thread.new.kept }
+    ensures alters { OnOk result (WritesTouchedFree thread.old.kept (address_blocks (thread_pair thread.old.kept pair).at) thread.new.kept) }
+    ensures errors { ReportsReadCommits thread.old thread.new result }
+    ensures device { ChangesThreadBlocks (addresses_blocks (thread_pair thread.old.kept pair).at (thread_pair thread.old.kept (gone - 1)).at) thread.old.kept thread.new.kept }
     ensures survives { (rename : CanRenameOver thread.old.kept pair id place name.now gone) → SurvivesLossSince thread.old.kept.disk thread.old.kept.history thread.new.kept.history
-        (tree_on_disk thread.old.kept.disk thread.old.kept.pairs) (tree_renamed thread.old.kept rename.over.can.path rename.over.can.name name.now) }
+        (disk_tree thread.old.kept.disk thread.old.kept.pairs) (tree_renamed thread.old.kept rename.over.can.path rename.over.can.name name.now) }
 {
     rename_over_directory(alloc, thread, pair, id, place, name)?;
     drop_pair_at(alloc, thread, gone, &MoveState::none())

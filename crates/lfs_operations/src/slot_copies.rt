@@ -7,7 +7,7 @@ ghost use Rattle.lfs_model.specs.format.Slots.{PairContent as ModelContent};
 ghost use Rattle.lfs_pair.specs.ChangeView.{changes_view};
 ghost use Rattle.lfs_tag.specs.ContentView.{attribute_view, data_view, slot_view};
 ghost use Rattle.lfs_thread.specs.CachedLog.{IsContentLog};
-ghost use Rattle.lfs_thread.specs.ThreadSteps.{IoMeantFaultNoMemoryWroteNothing, OnlyReadsThread};
+ghost use Rattle.lfs_thread.specs.ThreadSteps.{ThreadReportsErrors, OnlyReadsThread};
 ghost use Rattle.lfs_operations.specs.RenamingSlots.{HasSlot, attribute_changes, nameless_at, nameless_of, slot_changes};
 ghost use Rattle.lfs_operations.specs.RenamingView.{attribute_copy, slot_copy, struct_copy};
 
@@ -111,7 +111,7 @@ pub(crate) fn copy_pair_slot<D: BlockDevice>(
     ensures copied { IfOk result (λ copy. slot_copy copy ≡ nameless_at thread.old.kept pair id) }
     ensures only { OnlyReadsThread thread.old.kept thread.new.kept }
     ensures works { thread.new.failed ≡ false }
-    ensures errors { IoMeantFaultNoMemoryWroteNothing thread.old.kept thread.new.kept result }
+    ensures errors { ThreadReportsErrors thread.old.kept thread.new.kept result }
 {
     thread.load_pair(pair)?;
     let copy = copy_log_slot(alloc, &thread.lend(pair).unwrap(), id)?;

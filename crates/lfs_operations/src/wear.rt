@@ -3,10 +3,10 @@
 ghost use Rattle.std.specs.Prelude.{◌≡◌, ◌<◌, ◌-◌, false, length, OnOk, IfSome, IfNone, Err};
 ghost use Rattle.lfs_model.specs.crash.PowerLoss.{HasEither, SurvivesLossSince};
 ghost use Rattle.lfs_model.specs.session.Moved.{is_worn};
-ghost use Rattle.lfs_model.specs.tree.Shown.{tree_on_disk};
-ghost use Rattle.lfs_thread.specs.ThreadSteps.{thread_pair_at};
+ghost use Rattle.lfs_model.specs.tree.Shown.{disk_tree};
+ghost use Rattle.lfs_thread.specs.ThreadSteps.{thread_pair};
 ghost use Rattle.lfs_operations.specs.Changing.{WritesPairTwo};
-ghost use Rattle.lfs_operations.specs.Making.{ReportsErrorsOfMakingDirectory};
+ghost use Rattle.lfs_operations.specs.Making.{ReportsMaking};
 ghost use Rattle.lfs_operations.specs.Wear.{CanMovePair, CanUnloadPair, CanExpandRoot, HasNoWorn, IsFirstWorn, IsMovedAt, IsUnloadedAt, IsRootExpanded};
 
 use crate::changes::take_two_blocks;
@@ -19,7 +19,7 @@ use std::alloc::Global;
 fn is_worn_pair<D: BlockDevice>(thread: &Thread<D>, index: usize) -> bool
     requires works { thread.now.failed ≡ false }
     requires below { index < length thread.now.kept.pairs }
-    ensures { result ≡ is_worn thread.now.kept.disk (thread_pair_at thread.now.kept index) }
+    ensures { result ≡ is_worn thread.now.kept.disk (thread_pair thread.now.kept index) }
 {
     let cycles = thread.geometry().profile.pair_cycles;
     cycles != 0 && thread.revision(index) % cycles == 0
@@ -56,12 +56,12 @@ pub fn move_pair<D: BlockDevice>(
     requires works { thread.old.failed ≡ false }
     requires can { CanMovePair thread.old.kept index }
     ensures moved { OnOk result (IsMovedAt thread.old.kept index thread.new.kept) }
-    ensures errors { ReportsErrorsOfMakingDirectory thread.old thread.new result }
+    ensures errors { ReportsMaking thread.old thread.new result }
     ensures device { WritesPairTwo thread.old.kept (index - 1) thread.new.kept }
     ensures stands { result ≡ Err Error.NoMemory → HasEither thread.new.kept.disk
-        (tree_on_disk thread.old.kept.disk thread.old.kept.pairs) (tree_on_disk thread.old.kept.disk thread.old.kept.pairs) }
+        (disk_tree thread.old.kept.disk thread.old.kept.pairs) (disk_tree thread.old.kept.disk thread.old.kept.pairs) }
     ensures survives { SurvivesLossSince thread.old.kept.disk thread.old.kept.history thread.new.kept.history
-        (tree_on_disk thread.old.kept.disk thread.old.kept.pairs) (tree_on_disk thread.old.kept.disk thread.old.kept.pairs) }
+        (disk_tree thread.old.kept.disk thread.old.kept.pairs) (disk_tree thread.old.kept.disk thread.old.kept.pairs) }
 {
     let Some(fresh) = take_two_blocks(thread) else {
         return Err(Error::NoSpace);
@@ -83,12 +83,12 @@ pub fn unload_pair<D: BlockDevice>(
     requires works { thread.old.failed ≡ false }
     requires can { CanUnloadPair thread.old.kept index }
     ensures unloaded { OnOk result (IsUnloadedAt thread.old.kept index thread.new.kept) }
-    ensures errors { ReportsErrorsOfMakingDirectory thread.old thread.new result }
+    ensures errors { ReportsMaking thread.old thread.new result }
     ensures device { WritesPairTwo thread.old.kept index thread.new.kept }
     ensures stands { result ≡ Err Error.NoMemory → HasEither thread.new.kept.disk
-        (tree_on_disk thread.old.kept.disk thread.old.kept.pairs) (tree_on_disk thread.old.kept.disk thread.old.kept.pairs) }
+        (disk_tree thread.old.kept.disk thread.old.kept.pairs) (disk_tree thread.old.kept.disk thread.old.kept.pairs) }
     ensures survives { SurvivesLossSince thread.old.kept.disk thread.old.kept.history thread.new.kept.history
-        (tree_on_disk thread.old.kept.disk thread.old.kept.pairs) (tree_on_disk thread.old.kept.disk thread.old.kept.pairs) }
+        (disk_tree thread.old.kept.disk thread.old.kept.pairs) (disk_tree thread.old.kept.disk thread.old.kept.pairs) }
 {
     let Some(fresh) = take_two_blocks(thread) else {
         return Err(Error::NoSpace);
@@ -106,12 +106,12 @@ pub fn expand_root<D: BlockDevice>(alloc: Global, thread: &mut Thread<D>) -> Res
     requires works { thread.old.failed ≡ false }
     requires can { CanExpandRoot thread.old.kept }
     ensures expanded { OnOk result (IsRootExpanded thread.old.kept thread.new.kept) }
-    ensures errors { ReportsErrorsOfMakingDirectory thread.old thread.new result }
+    ensures errors { ReportsMaking thread.old thread.new result }
     ensures device { WritesPairTwo thread.old.kept 0 thread.new.kept }
     ensures stands { result ≡ Err Error.NoMemory → HasEither thread.new.kept.disk
-        (tree_on_disk thread.old.kept.disk thread.old.kept.pairs) (tree_on_disk thread.old.kept.disk thread.old.kept.pairs) }
+        (disk_tree thread.old.kept.disk thread.old.kept.pairs) (disk_tree thread.old.kept.disk thread.old.kept.pairs) }
     ensures survives { SurvivesLossSince thread.old.kept.disk thread.old.kept.history thread.new.kept.history
-        (tree_on_disk thread.old.kept.disk thread.old.kept.pairs) (tree_on_disk thread.old.kept.disk thread.old.kept.pairs) }
+        (disk_tree thread.old.kept.disk thread.old.kept.pairs) (disk_tree thread.old.kept.disk thread.old.kept.pairs) }
 {
     let Some(fresh) = take_two_blocks(thread) else {
         return Err(Error::NoSpace);

@@ -1,21 +1,11 @@
 -- A content written into an erased block, as its first commit.
 use Rattle.std.proofs.Common.{ℕ, ◌≡◌, ◌+◌, ◌≤◌, Bool, false, List, [], ◌∷◌, Some, inl, inr, refl, sym, ap, ◌∙◌, subst, arith}
-use Rattle.lfs_model.specs.format.Blocks.{Blocks, block_bytes, SameExcept}
-use Rattle.lfs_model.specs.format.Geometry.{IsValidGeometry}
-use Rattle.lfs_model.specs.format.Content.{RawContent, empty_raw_content}
-use Rattle.lfs_model.specs.layers.Commit.{encoded_size, commit_end_aligned}
-use Rattle.lfs_model.specs.layers.WrittenContent.{RawContentFits, content_entries}
-use Rattle.lfs_model.specs.layers.LoggedContent.{AreNamed, IsWellFormed, IsStorable}
-use Rattle.lfs_model.specs.session.History.{CallEvent, call_event, Erase, AllCallsSince, HoldsAtLosses}
-use Rattle.lfs_model.specs.crash.Stops.{MayEraseLeave, ErasesCleanly, LeftByLoss}
-use Rattle.lfs_model.proofs.Appended.{appended_content}
-use Rattle.lfs_model.proofs.Histories.{began, goes_on, goes_on_by, HoldsAtLosses-weaker, AllCallsSince-until, AllCallsSince-only}
-use Rattle.lfs_model.proofs.Overwrites.{SameExcept-trans}
-use Rattle.lfs_model.proofs.Pages.{page_positive, commit_end_aligned-below}
+use Rattle.lfs_pair.proofs.Common.{Blocks, block_bytes, SameExcept, IsValidGeometry, RawContent, empty_raw_content, encoded_size, aligned_end, RawContentFits, content_entries, AreNamed, IsWellFormed, CallEvent, call_event, Erase, AllCallsSince, HoldsAtLosses, ErasesCleanly, LeftByLoss, appended_content, began, goes_on, goes_on_by, HoldsAtLosses-weaker, AllCallsSince-until, AllCallsSince-only, SameExcept-trans, PartialCommit, padded_end_of, commit_with_more, LogGetsCommit, HasOneCommit, LossLeavesCommit, LossLeavesRewritten, DiffersInBlock}
+use Rattle.lfs_model.specs.layers.LoggedContent.{IsStorable}
+use Rattle.lfs_model.specs.crash.Stops.{MayEraseLeave}
+use Rattle.lfs_model.proofs.Pages.{page_positive, aligned_end-below}
 use Rattle.lfs_model.proofs.WrittenAnew.{entries_of-reads}
 use Rattle.lfs_model.proofs.WrittenSizes.{written_size}
-use Rattle.lfs_tag.specs.Builder.{PartialCommit, padded_end_of}
-use Rattle.lfs_pair.specs.Writing.{commit_with_more, LogGetsCommit, HasOneCommit, LossLeavesCommit, LossLeavesRewritten, DiffersInBlock}
 use Rattle.lfs_pair.proofs.Committed.{Gets-has_commit}
 
 -- the commit, in a buffer of a block
@@ -34,7 +24,7 @@ is_anew {size = size} {page = page} {revision = revision} {room = room} {paged =
 
 anew_ends : (size page count revision : ℕ) (c : RawContent) → IsValidGeometry size page count → RawContentFits size page c → padded_end_of (anew size page revision c) ≤ size
 anew_ends size page count revision c valid fits =
-    let end = commit_end_aligned-below page (4 + encoded_size (content_entries c)) (page_positive page valid.power) in
+    let end = aligned_end-below page (4 + encoded_size (content_entries c)) (page_positive page valid.power) in
     omega (arith, end, written_size c, fits.size, valid.pages, valid.no_smaller)
 
 pub anew_room : {b : PartialCommit} {size page count revision : ℕ} {c : RawContent} → b ≡ anew size page revision c → IsValidGeometry size page count → RawContentFits size page c → padded_end_of b ≤ b.room
@@ -96,5 +86,5 @@ leaves_anew {revision = revision} {block = block} {c = c} {old = old} {mid = mid
 pub nothing_more : (n : ℕ) → 0 + n ≡ n
 nothing_more n = omega arith
 
-pub anew_end : {b : PartialCommit} {size page revision : ℕ} (c : RawContent) (end : ℕ) → end ≡ 0 + padded_end_of b → b ≡ anew size page revision c → end ≡ commit_end_aligned page (4 + encoded_size (content_entries c))
-anew_end {page = page} c end is built = is ∙ ap (λ (d : PartialCommit). 0 + padded_end_of d) built ∙ nothing_more (commit_end_aligned page (4 + encoded_size (content_entries c)))
+pub anew_end : {b : PartialCommit} {size page revision : ℕ} (c : RawContent) (end : ℕ) → end ≡ 0 + padded_end_of b → b ≡ anew size page revision c → end ≡ aligned_end page (4 + encoded_size (content_entries c))
+anew_end {page = page} c end is built = is ∙ ap (λ (d : PartialCommit). 0 + padded_end_of d) built ∙ nothing_more (aligned_end page (4 + encoded_size (content_entries c)))

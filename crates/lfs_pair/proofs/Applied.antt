@@ -1,16 +1,10 @@
 -- Changes taken one by one.
 use Rattle.std.proofs.Common.{ℕ, zero, suc, ◌≡◌, ◌+◌, ◌<◌, Bool, true, List, [], ◌∷◌, ◌++◌, length, take, drop, map, get_or, Option, Some, None, refl, ap, ◌∙◌, arith}
-use Rattle.std.specs.List.{list_all}
-use Rattle.std.proofs.lemmas.Bool.{and_parts}
-use Rattle.std.proofs.lemmas.List.{append-nil}
-use Rattle.std.proofs.lemmas.List.Concat.{flat_map-append}
-use Rattle.lfs_model.specs.format.Content.{RawContent, content_after}
-use Rattle.lfs_model.specs.layers.Changes.{PairChange, change_entries, entries_of_changes}
+use Rattle.lfs_pair.proofs.Common.{list_all, and_parts, append-nil, flat_map-append, RawContent, content_after, PairChange, change_entries, entries_of_changes, option_and_then}
 use Rattle.lfs_model.proofs.WrittenAnew.{then, content_after-append}
 use Rattle.lfs_tag.specs.declared.content.ContentError.{ContentError}
 use Rattle.lfs_tag.specs.declared.content.ContentError.TheVariants.{Malformed, NoMemory}
 use Rattle.lfs_tag.specs.ContentGives.{IsContentError}
-use Rattle.std.specs.Option.{option_and_then}
 
 pub all_at : {X Y : Type 0} (p : Y → Bool) (f : X → Y) (xs : List X) (i : ℕ) (d : X) → list_all p (map f xs) ≡ true → i < length xs → p (f (get_or xs i d)) ≡ true
 all_at p f [] i d h l = absurd (omega arith)

@@ -1,23 +1,16 @@
 -- A question about blank bytes changes nothing.
 use Rattle.std.proofs.Common.{ℕ, ◌≡◌, ◌≤◌, ◌+◌, List, [], ◌∷◌, true, inl, inr, refl, sym, ap, ◌∙◌, subst, arith}
 use Rattle.lfs_device.specs.declared.device.BlockDevice.{Ghosts}
-use Rattle.lfs_device.specs.DeviceCalls.{ChangesOnlyTheseBlocks}
-use Rattle.lfs_model.specs.format.Blocks.{Blocks, SameExceptThese, block_bytes}
-use Rattle.lfs_model.specs.session.History.{CallEvent, LossLeavesAtWorst, StayUnprogrammed, HoldsAtLosses, blank_count, erase_count, program_count, read_count}
-use Rattle.lfs_model.specs.crash.Stops.{LeftByLoss}
-use Rattle.lfs_model.proofs.Histories.{began, goes_on, goes_on_by, StayUnprogrammed-blank, StayUnprogrammed-refl}
-use Rattle.lfs_model.proofs.Overwrites.{SameExcept-refl, SameExceptThese-refl}
+use Rattle.lfs_pair.proofs.Common.{ChangesTheseBlocks, Blocks, SameExceptThese, block_bytes, CallEvent, StayUnprogrammed, HoldsAtLosses, blank_count, erase_count, program_count, read_count, LeftByLoss, began, goes_on, goes_on_by, SameExcept-refl, SameExceptThese-refl, PairChange, RawContent, Disk, address_blocks, CanAppend, IsEndKnown, LossLeavesNew, OnlyAsksBlank, ChangesReadingFew, DiffersInBlock}
+use Rattle.lfs_model.specs.session.History.{LossLeavesAtWorst}
+use Rattle.lfs_model.proofs.Histories.{StayUnprogrammed-blank, StayUnprogrammed-refl}
 use Rattle.lfs_device.specs.declared.geometry.Geometry.{Geometry}
-use Rattle.lfs_model.specs.layers.Changes.{PairChange}
-use Rattle.lfs_model.specs.format.Content.{RawContent}
-use Rattle.lfs_model.specs.format.Disk.{Disk}
-use Rattle.lfs_model.specs.format.Thread.{address_blocks}
 use Rattle.lfs_pair.specs.declared.pair.Pair.{Pair}
-use Rattle.lfs_pair.specs.Commits.{CanAppendChanges, CannotAppend, IsEndKnown, LossLeavesNew}
-use Rattle.lfs_pair.specs.Writing.{AsksAboutBlankBytes, ChangesOnlyBlocksWithinReadLimit, DiffersInBlock, SaysBytesAreBlank}
+use Rattle.lfs_pair.specs.Commits.{CannotAppend}
+use Rattle.lfs_pair.specs.Writing.{SaysBlank}
 
 -- what can be appended by a history with no word more, can be by the one before
-pub appends_until : {disk : Disk} {before mid after : List CallEvent} {pair : Pair} {changes : List PairChange} → mid ≡ before → blank_count after ≡ blank_count before → CanAppendChanges disk before after pair changes → CanAppendChanges disk before mid pair changes
+pub appends_until : {disk : Disk} {before mid after : List CallEvent} {pair : Pair} {changes : List PairChange} → mid ≡ before → blank_count after ≡ blank_count before → CanAppend disk before after pair changes → CanAppend disk before mid pair changes
 appends_until {before = before} {mid = mid} {after = after} {pair = pair} same words can = record { known = known can.known; room = can.room }
   where
     known : IsEndKnown before after pair → IsEndKnown before mid pair
@@ -38,47 +31,47 @@ left_alone old at new = record {
 
 module _ {D : Type 0} (g : Ghosts D) where
   -- what was known before a program is known after it
-  pub known_after : {old mid : D} (after : List CallEvent) (pair : Pair) → AsksAboutBlankBytes g old mid → blank_count after ≡ blank_count (g.history mid) → IsEndKnown (g.history old) (g.history mid) pair → IsEndKnown (g.history old) after pair
+  pub known_after : {old mid : D} (after : List CallEvent) (pair : Pair) → OnlyAsksBlank g old mid → blank_count after ≡ blank_count (g.history mid) → IsEndKnown (g.history old) (g.history mid) pair → IsEndKnown (g.history old) after pair
   known_after after pair asks same (inl written) = inl written
   known_after after pair asks same (inr blank) = inr (omega (arith, same, blank))
 
-  pub asks_reads : {old new : D} → AsksAboutBlankBytes g old new → read_count (g.history new) ≡ read_count (g.history old)
+  pub asks_reads : {old new : D} → OnlyAsksBlank g old new → read_count (g.history new) ≡ read_count (g.history old)
   asks_reads asks = elim asks.asked [
     | inl same ↦ ap read_count same
     | inr says ↦ let here = ap read_count says.word in omega arith
   ]
 
-  pub asks_erases : {old new : D} → AsksAboutBlankBytes g old new → erase_count (g.history new) ≡ erase_count (g.history old)
+  pub asks_erases : {old new : D} → OnlyAsksBlank g old new → erase_count (g.history new) ≡ erase_count (g.history old)
   asks_erases asks = elim asks.asked [
     | inl same ↦ ap erase_count same
     | inr says ↦ let here = ap erase_count says.word in omega arith
   ]
 
-  pub asks_programs : {old new : D} → AsksAboutBlankBytes g old new → program_count (g.history new) ≡ program_count (g.history old)
+  pub asks_programs : {old new : D} → OnlyAsksBlank g old new → program_count (g.history new) ≡ program_count (g.history old)
   asks_programs asks = elim asks.asked [
     | inl same ↦ ap program_count same
     | inr says ↦ let here = ap program_count says.word in omega arith
   ]
 
-  pub asks_stops : {old new : D} (P : Blocks → Type 0) → AsksAboutBlankBytes g old new → P (g.blocks old) → HoldsAtLosses LeftByLoss (g.history old) (g.history new) P
+  pub asks_stops : {old new : D} (P : Blocks → Type 0) → OnlyAsksBlank g old new → P (g.blocks old) → HoldsAtLosses LeftByLoss (g.history old) (g.history new) P
   asks_stops {old} P asks here = elim asks.asked [
     | inl same ↦ subst (λ h. HoldsAtLosses LeftByLoss (g.history old) h P) (sym same) began
     | inr says ↦ goes_on began says.word (λ disk left. subst P (sym left) here)
   ]
 
-  asks_at_worst : {old new : D} (P : Blocks → Type 0) → AsksAboutBlankBytes g old new → P (g.blocks old) → HoldsAtLosses LossLeavesAtWorst (g.history old) (g.history new) P
+  asks_at_worst : {old new : D} (P : Blocks → Type 0) → OnlyAsksBlank g old new → P (g.blocks old) → HoldsAtLosses LossLeavesAtWorst (g.history old) (g.history new) P
   asks_at_worst {old} P asks here = elim asks.asked [
     | inl same ↦ subst (λ h. HoldsAtLosses LossLeavesAtWorst (g.history old) h P) (sym same) began
     | inr says ↦ goes_on began says.word (λ disk left. subst P (sym left) here)
   ]
 
-  asks_elsewhere : {old new : D} (bs : List ℕ) → AsksAboutBlankBytes g old new → StayUnprogrammed bs (g.history old) (g.history new)
+  asks_elsewhere : {old new : D} (bs : List ℕ) → OnlyAsksBlank g old new → StayUnprogrammed bs (g.history old) (g.history new)
   asks_elsewhere {old} bs asks = elim asks.asked [
     | inl same ↦ subst (StayUnprogrammed bs (g.history old)) (sym same) (StayUnprogrammed-refl bs (g.history old))
     | inr says ↦ StayUnprogrammed-blank bs says.word
   ]
 
-  pub asks_only : {old new : D} (bs : List ℕ) → AsksAboutBlankBytes g old new → ChangesOnlyTheseBlocks g bs old new
+  pub asks_only : {old new : D} (bs : List ℕ) → OnlyAsksBlank g old new → ChangesTheseBlocks g bs old new
   asks_only {old} bs asks = record {
     others = subst (SameExceptThese bs (g.blocks old)) (sym asks.same) (SameExceptThese-refl bs (g.blocks old));
     elsewhere = asks_elsewhere bs asks;
@@ -88,14 +81,14 @@ module _ {D : Type 0} (g : Ghosts D) where
 
   -- a program behind a question
 
-  pub asks_then_stops : {old mid new : D} (block : ℕ) (P : List ℕ → List ℕ → Type 0) → ((bytes : List ℕ) → P bytes bytes) → AsksAboutBlankBytes g old mid
+  pub asks_then_stops : {old mid new : D} (block : ℕ) (P : List ℕ → List ℕ → Type 0) → ((bytes : List ℕ) → P bytes bytes) → OnlyAsksBlank g old mid
       → HoldsAtLosses LeftByLoss (g.history mid) (g.history new) (DiffersInBlock block P (g.blocks mid))
       → HoldsAtLosses LeftByLoss (g.history old) (g.history new) (DiffersInBlock block P (g.blocks old))
   asks_then_stops {old} {mid} {new} block P same asks stops =
       goes_on_by (asks_stops (DiffersInBlock block P (g.blocks old)) asks (SameExcept-refl block (g.blocks old), same (block_bytes (g.blocks old) block)))
       (subst (λ b. HoldsAtLosses LeftByLoss (g.history mid) (g.history new) (DiffersInBlock block P b)) asks.same stops)
 
-  pub asks_then_few : {old mid : D} (n m : ℕ) → AsksAboutBlankBytes g old mid → n ≤ read_count (g.history mid) + m → n ≤ read_count (g.history old) + m
+  pub asks_then_few : {old mid : D} (n m : ℕ) → OnlyAsksBlank g old mid → n ≤ read_count (g.history mid) + m → n ≤ read_count (g.history old) + m
   asks_then_few n m asks few = let same = asks_reads asks in omega (arith, same, few)
 
   -- where nothing was appended the disk and its calls are as before
@@ -106,7 +99,7 @@ module _ {D : Type 0} (g : Ghosts D) where
       subst (λ k. P k (g.blocks old) (g.history old)) kept.geometry
       (subst (λ b. P (g.geometry new) b (g.history old)) kept.blocks (subst (P (g.geometry new) (g.blocks new)) kept.history is))
 
-  pub kept_unread : {changes : List PairChange} {old new : D} {was now : Pair} (bs : List ℕ) → CannotAppend g changes old new was now → ChangesOnlyBlocksWithinReadLimit g 0 bs old new
+  pub kept_unread : {changes : List PairChange} {old new : D} {was now : Pair} (bs : List ℕ) → CannotAppend g changes old new was now → ChangesReadingFew g 0 bs old new
   kept_unread {old = old} {new = new} bs kept =
-      let asks : AsksAboutBlankBytes g old new = record { same = kept.blocks; geometry = kept.geometry; asked = inl kept.history } in
+      let asks : OnlyAsksBlank g old new = record { same = kept.blocks; geometry = kept.geometry; asked = inl kept.history } in
       record { only = asks_only bs asks; few = let same = asks_reads asks in omega (arith, same) }

@@ -3,25 +3,15 @@ use Rattle.std.proofs.Common.{ℕ, ◌≡◌, ◌+◌, inl, inr, refl, sym, ap, 
 use Rattle.lfs_device.specs.declared.device.BlockDevice.{Ghosts}
 use Rattle.lfs_device.specs.declared.error.Error.{Error}
 use Rattle.lfs_device.specs.declared.geometry.Geometry.{Geometry}
-use Rattle.lfs_device.specs.DeviceCalls.{ReadsOnly}
-use Rattle.lfs_device.specs.DeviceDisk.{disk_of_blocks}
-use Rattle.lfs_model.specs.format.Blocks.{Blocks}
-use Rattle.lfs_model.specs.format.Disk.{Disk}
+use Rattle.lfs_pair.proofs.Common.{ReadsOnly, disk_of_blocks, Blocks, Disk, RawContentFits, CallEvent, AllCallsSince, OnlyReadsSince, PairChange, AllCallsSince-behind, blank_count-read_count, erase_count-read_count, program_count-read_count, header_address, CanAppend, CommitFails, IsEndKnown, changed_pair, ErasedOneMore, IsWellFormed, RawContent}
 use Rattle.lfs_model.specs.format.Slots.{FitsInPair}
-use Rattle.lfs_model.specs.layers.WrittenContent.{RawContentFits}
-use Rattle.lfs_model.specs.session.History.{CallEvent, AllCallsSince, OnlyReadsSince}
-use Rattle.lfs_model.specs.layers.Changes.{PairChange}
-use Rattle.lfs_model.proofs.Histories.{AllCallsSince-behind, blank_count-read_count, erase_count-read_count, program_count-read_count}
 use Rattle.lfs_pair.specs.declared.pair.Pair.{Pair}
-use Rattle.lfs_pair.specs.Pair.{header_address}
-use Rattle.lfs_pair.specs.Commits.{CanAppendChanges, CommitsChanges, CommitFailsKeepingHeader, IsEndKnown, RefusesCommit, changed_pair}
-use Rattle.lfs_pair.specs.FreshPair.{ErasedOneMore}
+use Rattle.lfs_pair.specs.Commits.{CommitsChanges, RefusesCommit}
 use Rattle.lfs_pair.specs.Split.{SplitsPair}
 use Rattle.lfs_pair.proofs.Calls.{reads_none, reads_trans}
 use Rattle.lfs_pair.proofs.Changed.{some_same}
 use Rattle.lfs_model.proofs.Completed.{fits_raw}
-use Rattle.lfs_model.specs.layers.LoggedContent.{IsWellFormed}
-use Rattle.lfs_model.specs.format.Content.{RawContent, complete_content}
+use Rattle.lfs_model.specs.format.Content.{complete_content}
 
 -- what can be appended can be appended behind reads, and the other way round
 
@@ -33,10 +23,10 @@ known_ahead : {blocks : Blocks} {before mid : List CallEvent} (after : List Call
 known_ahead after pair reads (inl written) = inl written
 known_ahead after pair reads (inr blank) = let same = blank_count-read_count reads in inr (omega (arith, same, blank))
 
-appends_behind : {disk : Disk} {blocks : Blocks} {before mid after : List CallEvent} {pair : Pair} {changes : List PairChange} → OnlyReadsSince blocks before mid → CanAppendChanges disk before after pair changes → CanAppendChanges disk mid after pair changes
+appends_behind : {disk : Disk} {blocks : Blocks} {before mid after : List CallEvent} {pair : Pair} {changes : List PairChange} → OnlyReadsSince blocks before mid → CanAppend disk before after pair changes → CanAppend disk mid after pair changes
 appends_behind {after = after} {pair = pair} reads can = record { known = known_behind after pair reads can.known; room = can.room }
 
-appends_ahead : {disk : Disk} {blocks : Blocks} {before mid after : List CallEvent} {pair : Pair} {changes : List PairChange} → OnlyReadsSince blocks before mid → CanAppendChanges disk mid after pair changes → CanAppendChanges disk before after pair changes
+appends_ahead : {disk : Disk} {blocks : Blocks} {before mid after : List CallEvent} {pair : Pair} {changes : List PairChange} → OnlyReadsSince blocks before mid → CanAppend disk mid after pair changes → CanAppend disk before after pair changes
 appends_ahead {after = after} {pair = pair} reads can = record { known = known_ahead after pair reads can.known; room = can.room }
 
 -- a commit, where its disk is known by another name
@@ -79,7 +69,7 @@ full_behind {g = g} {changes = changes} {was = was} reads is = record {
   device = reads_trans reads is.device;
 }
 
-pub fails_behind : {D : Type 0} {g : Ghosts D} {old mid new : D} {was now : Pair} {e : Error} → ReadsOnly g old mid → CommitFailsKeepingHeader g mid new was now e → CommitFailsKeepingHeader g old new was now e
+pub fails_behind : {D : Type 0} {g : Ghosts D} {old mid new : D} {was now : Pair} {e : Error} → ReadsOnly g old mid → CommitFails g mid new was now e → CommitFails g old new was now e
 fails_behind reads is = record { errors = is.errors; pair = is.pair; no_memory = λ lacks. reads_trans reads (is.no_memory lacks) }
 
 pub clears_behind : {count : ℕ} {blocks : Blocks} {before mid history : List CallEvent} {P : CallEvent → Type 0} → OnlyReadsSince blocks before mid → AllCallsSince P mid history → ErasedOneMore count mid history → ErasedOneMore count before history

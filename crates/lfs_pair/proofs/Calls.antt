@@ -1,18 +1,15 @@
 -- What calls behind calls do to a device.
 use Rattle.std.proofs.Common.{arith, ap, inl, inr, Err, ℕ, ◌≡◌, ◌≤◌, ◌+◌, ◌⊎◌, Bool, List, [], ◌∷◌, refl, sym, ◌∙◌, subst}
 use Rattle.lfs_device.specs.declared.device.BlockDevice.{Ghosts}
-use Rattle.lfs_device.specs.DeviceCalls.{ReadsOnly, ChangesOnlyThisBlock, ChangesOnlyTheseBlocks}
+use Rattle.lfs_pair.proofs.Common.{ReadsOnly, ChangesTheseBlocks, Blocks, SameExcept, SameExceptThese, CallEvent, Erase, call_event, read_count, began, goes_on, goes_on_by, HoldsAtLosses-read_count, HoldsAtLosses-weaker, StayUnprogrammed-wider, SameExcept-refl, SameExcept-trans, SameExceptThese-refl, SameExceptThese-trans, SameExceptThese-wider, ChangesReadingFew, address_blocks}
+use Rattle.lfs_device.specs.DeviceCalls.{ChangesOneBlock}
 use Rattle.std.specs.Prelude.{All, ◌≢◌, IsErrOf}
 use Rattle.lfs_device.specs.declared.error.Error.{Error}
 use Rattle.lfs_device.specs.declared.error.Error.TheVariants.{Io, NoMemory}
-use Rattle.lfs_model.specs.format.Blocks.{Blocks, SameExcept, SameExceptThese}
-use Rattle.lfs_model.specs.session.History.{CallEvent, Read, Program, Erase, call_event, read_count}
-use Rattle.lfs_model.proofs.Histories.{began, goes_on, goes_on_by, LossLeavesAtWorst-read, HoldsAtLosses-read_count, HoldsAtLosses-weaker, OnlyReadsSince-read, OnlyReadsSince-trans, StayUnprogrammed-erase, StayUnprogrammed-program, StayUnprogrammed-read_count, StayUnprogrammed-trans, StayUnprogrammed-wider}
-use Rattle.lfs_model.proofs.Overwrites.{SameExcept-refl, SameExcept-trans, SameExceptThese-refl, SameExceptThese-trans, SameExceptThese-wider}
-use Rattle.lfs_pair.specs.Writing.{ChangesOnlyBlocksWithinReadLimit}
+use Rattle.lfs_model.specs.session.History.{Read, Program}
+use Rattle.lfs_model.proofs.Histories.{LossLeavesAtWorst-read, OnlyReadsSince-read, OnlyReadsSince-trans, StayUnprogrammed-erase, StayUnprogrammed-program, StayUnprogrammed-read_count, StayUnprogrammed-trans}
 use Rattle.lfs_pair.proofs.Changed.{stays_outside}
 use Rattle.lfs_pair.proofs.TwoBlocks.{outside_one}
-use Rattle.lfs_model.specs.format.Thread.{address_blocks}
 
 -- ---- reads
 
@@ -32,7 +29,7 @@ reads_trans first second = record {
 
 -- ---- one block
 
-pub block_by_reads : {D : Type 0} {g : Ghosts D} {b : ℕ} {old new : D} → ReadsOnly g old new → ChangesOnlyThisBlock g b old new
+pub block_by_reads : {D : Type 0} {g : Ghosts D} {b : ℕ} {old new : D} → ReadsOnly g old new → ChangesOneBlock g b old new
 block_by_reads {g = g} {b = b} {old = old} read_count = record {
   others = subst (SameExcept b (g.blocks old)) (sym read_count.same) (SameExcept-refl b (g.blocks old));
   elsewhere = StayUnprogrammed-read_count (b ∷ []) read_count.reads;
@@ -41,7 +38,7 @@ block_by_reads {g = g} {b = b} {old = old} read_count = record {
 }
 
 pub block_by_erase : {D : Type 0} {g : Ghosts D} {b : ℕ} {old new : D} {failed : Bool} → SameExcept b (g.blocks old) (g.blocks new) → g.geometry new ≡ g.geometry old
-    → g.history new ≡ call_event (Erase b) (g.blocks old) (g.blocks new) failed ∷ g.history old → ChangesOnlyThisBlock g b old new
+    → g.history new ≡ call_event (Erase b) (g.blocks old) (g.blocks new) failed ∷ g.history old → ChangesOneBlock g b old new
 block_by_erase same geometry is = record {
   others = same;
   elsewhere = StayUnprogrammed-erase is;
@@ -50,7 +47,7 @@ block_by_erase same geometry is = record {
 }
 
 pub block_by_program : {D : Type 0} {g : Ghosts D} {b off : ℕ} {bytes : List ℕ} {old new : D} {failed : Bool} → SameExcept b (g.blocks old) (g.blocks new) → g.geometry new ≡ g.geometry old
-    → g.history new ≡ call_event (Program b off bytes) (g.blocks old) (g.blocks new) failed ∷ g.history old → ChangesOnlyThisBlock g b old new
+    → g.history new ≡ call_event (Program b off bytes) (g.blocks old) (g.blocks new) failed ∷ g.history old → ChangesOneBlock g b old new
 block_by_program same geometry is = record {
   others = same;
   elsewhere = StayUnprogrammed-program is;
@@ -58,7 +55,7 @@ block_by_program same geometry is = record {
   at_worst = goes_on began is (λ disk left. left);
 }
 
-pub block_trans : {D : Type 0} {g : Ghosts D} {b : ℕ} {old mid new : D} → ChangesOnlyThisBlock g b old mid → ChangesOnlyThisBlock g b mid new → ChangesOnlyThisBlock g b old new
+pub block_trans : {D : Type 0} {g : Ghosts D} {b : ℕ} {old mid new : D} → ChangesOneBlock g b old mid → ChangesOneBlock g b mid new → ChangesOneBlock g b old new
 block_trans first second = record {
   others = SameExcept-trans first.others second.others;
   elsewhere = StayUnprogrammed-trans first.elsewhere second.elsewhere;
@@ -68,7 +65,7 @@ block_trans first second = record {
 
 -- ---- several blocks
 
-pub only_by_reads : {D : Type 0} {g : Ghosts D} {bs : List ℕ} {old new : D} → ReadsOnly g old new → ChangesOnlyTheseBlocks g bs old new
+pub only_by_reads : {D : Type 0} {g : Ghosts D} {bs : List ℕ} {old new : D} → ReadsOnly g old new → ChangesTheseBlocks g bs old new
 only_by_reads {g = g} {bs = bs} {old = old} read_count = record {
   others = subst (SameExceptThese bs (g.blocks old)) (sym read_count.same) (SameExceptThese-refl bs (g.blocks old));
   elsewhere = StayUnprogrammed-read_count bs read_count.reads;
@@ -76,7 +73,7 @@ only_by_reads {g = g} {bs = bs} {old = old} read_count = record {
   at_worst = HoldsAtLosses-read_count LossLeavesAtWorst-read read_count.reads (SameExceptThese-refl bs (g.blocks old));
 }
 
-pub only_trans : {D : Type 0} {g : Ghosts D} {bs : List ℕ} {old mid new : D} → ChangesOnlyTheseBlocks g bs old mid → ChangesOnlyTheseBlocks g bs mid new → ChangesOnlyTheseBlocks g bs old new
+pub only_trans : {D : Type 0} {g : Ghosts D} {bs : List ℕ} {old mid new : D} → ChangesTheseBlocks g bs old mid → ChangesTheseBlocks g bs mid new → ChangesTheseBlocks g bs old new
 only_trans first second = record {
   others = SameExceptThese-trans first.others second.others;
   elsewhere = StayUnprogrammed-trans first.elsewhere second.elsewhere;
@@ -84,7 +81,7 @@ only_trans first second = record {
   at_worst = goes_on_by first.at_worst (HoldsAtLosses-weaker (λ disk left. SameExceptThese-trans first.others left) second.at_worst);
 }
 
-pub only_wider : {D : Type 0} {g : Ghosts D} {bs : List ℕ} (cs : List ℕ) {old new : D} → ((other : ℕ) → All (λ c. c ≢ other) cs → All (λ c. c ≢ other) bs) → ChangesOnlyTheseBlocks g bs old new → ChangesOnlyTheseBlocks g cs old new
+pub only_wider : {D : Type 0} {g : Ghosts D} {bs : List ℕ} (cs : List ℕ) {old new : D} → ((other : ℕ) → All (λ c. c ≢ other) cs → All (λ c. c ≢ other) bs) → ChangesTheseBlocks g bs old new → ChangesTheseBlocks g cs old new
 only_wider cs among only = record {
   others = SameExceptThese-wider cs among only.others;
   elsewhere = StayUnprogrammed-wider cs among only.elsewhere;
@@ -93,7 +90,7 @@ only_wider cs among only = record {
 }
 
 -- one block of a pair
-pub only_block : {D : Type 0} {g : Ghosts D} {b : ℕ} {old new : D} (at : ℕ × ℕ) → (b ≡ at.0) ⊎ (b ≡ at.1) → ChangesOnlyThisBlock g b old new → ChangesOnlyTheseBlocks g (address_blocks at) old new
+pub only_block : {D : Type 0} {g : Ghosts D} {b : ℕ} {old new : D} (at : ℕ × ℕ) → (b ≡ at.0) ⊎ (b ≡ at.1) → ChangesOneBlock g b old new → ChangesTheseBlocks g (address_blocks at) old new
 only_block {b = b} at is block = record {
   others = outside_one at b _ _ is block.others;
   elsewhere = stays_outside at b _ _ is block.elsewhere;
@@ -103,14 +100,14 @@ only_block {b = b} at is block = record {
 
 -- ---- with how often the device is read
 
-pub reading_trans : {D : Type 0} {g : Ghosts D} {n m : ℕ} {bs : List ℕ} {old mid new : D} → ChangesOnlyBlocksWithinReadLimit g n bs old mid → ChangesOnlyBlocksWithinReadLimit g m bs mid new → ChangesOnlyBlocksWithinReadLimit g (n + m) bs old new
+pub reading_trans : {D : Type 0} {g : Ghosts D} {n m : ℕ} {bs : List ℕ} {old mid new : D} → ChangesReadingFew g n bs old mid → ChangesReadingFew g m bs mid new → ChangesReadingFew g (n + m) bs old new
 reading_trans first second = record {
   only = only_trans first.only second.only;
   few = let a = first.few in let b = second.few in omega (arith, a, b);
 }
 
 -- one read, where more are allowed
-pub reading_by_read : {D : Type 0} {g : Ghosts D} {n : ℕ} {bs : List ℕ} {old new : D} → ReadsOnly g old new → read_count (g.history new) ≤ read_count (g.history old) + 1 → 1 ≤ n → ChangesOnlyBlocksWithinReadLimit g n bs old new
+pub reading_by_read : {D : Type 0} {g : Ghosts D} {n : ℕ} {bs : List ℕ} {old new : D} → ReadsOnly g old new → read_count (g.history new) ≤ read_count (g.history old) + 1 → 1 ≤ n → ChangesReadingFew g n bs old new
 reading_by_read read few some = record { only = only_by_reads read; few = omega (arith, few, some) }
 
 -- one read

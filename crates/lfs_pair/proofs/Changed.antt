@@ -1,29 +1,14 @@
 -- What a pair holds after a commit, and what a stop on the way leaves of it.
 use Rattle.std.proofs.Common.{ℕ, zero, suc, get_or, ◌≡◌, ◌≢◌, ◌⊎◌, ◌+◌, ◌%◌, ◌^◌, ◌<◌, ◌≤◌, Bool, true, false, cond, List, [], ◌∷◌, ◌++◌, length, Option, Some, None, flat_map, refl, sym, ap, ◌∙◌, subst, arith, inl, inr, length-append}
 use Rattle.std.specs.Prelude.{nat_lt, slice_get, unwrap_or}
-use Rattle.std.specs.List.{list_all}
-use Rattle.std.proofs.lemmas.Bool.{lt-ltb, ltb-true}
-use Rattle.lfs_model.specs.format.Blocks.{Blocks, SameExcept, block_bytes}
-use Rattle.lfs_model.specs.format.Disk.{Disk, disk_block}
-use Rattle.lfs_model.specs.format.Log.{LogEntry, chain_of, block_revision, block_entries}
-use Rattle.lfs_model.specs.tree.View.{BeginsWith}
-use Rattle.lfs_model.specs.layers.WrittenContent.{RawContentFits, content_entries}
-use Rattle.lfs_model.specs.layers.LoggedContent.{IsWellFormed}
-use Rattle.std.proofs.lemmas.List.Concat.{flat_map-append}
+use Rattle.lfs_pair.proofs.Common.{list_all, lt-ltb, ltb-true, Blocks, SameExcept, block_bytes, Disk, disk_block, LogEntry, block_revision, block_entries, BeginsWith, RawContentFits, content_entries, IsWellFormed, flat_map-append, RawContent, has_commit, current_block, raw_content, content_after, empty_raw_content, PairChange, changed_content_of, entries_of_changes, is_storable, appended_content, StayUnprogrammed-wider, SameExceptThese-refl, option_and_then, PartialCommit, earlier_commits, CallEvent, AreUnprogrammed, StayUnprogrammed, IsTrueHeader, is_second_active, active_block_at, header_address, LogGetsCommit, HasOneCommit, LossLeavesCommit, LossLeavesRewritten, DiffersInBlock, HeaderSaysActive, IsPairAddress, HasNewContent, HasOldContent, KeepsFirstEntry, LossLeavesChanged, LossLeavesNew, HasWrittenContent, changed_log, changed_pair}
+use Rattle.lfs_model.specs.format.Log.{chain_of}
 use Rattle.lfs_pair.proofs.Holders.{held_commit, holder_is, raw_held}
-use Rattle.lfs_model.specs.format.Content.{RawContent, has_commit, current_block, raw_content, content_after, empty_raw_content}
-use Rattle.lfs_model.specs.layers.Changes.{PairChange, changed_content_of, entries_of_changes, is_storable}
-use Rattle.lfs_model.proofs.Appended.{appended_content}
-use Rattle.lfs_model.proofs.Histories.{StayUnprogrammed-wider}
-use Rattle.lfs_model.proofs.Overwrites.{SameExceptThese-refl}
 use Rattle.lfs_model.proofs.Commits.{has_commit-end, chain_ends}
-use Rattle.std.specs.Option.{option_and_then}
-use Rattle.lfs_tag.specs.Builder.{PartialCommit, earlier_commits}
-use Rattle.lfs_model.specs.session.History.{CallEvent, AreUnprogrammed, StayUnprogrammed}
 use Rattle.lfs_pair.specs.declared.pair.Pair.{Pair}
-use Rattle.lfs_pair.specs.Pair.{HeaderHasEnd, IsAsHeader, IsContentHeader, is_second_active, active_block_at, header_address, header_inactive_block}
-use Rattle.lfs_pair.specs.Writing.{LogGetsCommit, HasOneCommit, EndsBeforeUnprogrammed, LossLeavesCommit, LossLeavesRewritten, DiffersInBlock}
-use Rattle.lfs_pair.specs.Commits.{HeaderSaysActive, AddressIsOnDisk, HasContentMade, HasNewContent, HasOldContent, KeepsFirstEntry, LossLeavesChanged, LossLeavesNew, PairHas, OutsideStaysUnprogrammed, content_made, changed_log, changed_pair}
+use Rattle.lfs_pair.specs.Pair.{HeaderHasEnd, IsContentHeader, header_inactive_block}
+use Rattle.lfs_pair.specs.Writing.{EndsBeforeUnprogrammed}
+use Rattle.lfs_pair.specs.Commits.{HasContentMade, OutsideStaysUnprogrammed, changed_if_any}
 use Rattle.lfs_pair.proofs.SameLogs.{entries_same}
 use Rattle.lfs_pair.proofs.TwoBlocks.{active_block, Sides, Stays, sides, raw_is, still_active, other_active, stays_same, stays_log, weaker_same, weaker_log, weaker_none, active_is, other_is, outside_one, sides_apart, below_count}
 
@@ -209,7 +194,7 @@ left_by_compaction disk at active other revision new left k (same, which) = reco
 
 -- ---- by what the pair says
 
-pub is_compacting : (disk : Disk) (pair : Pair) (other revision : ℕ) → AddressIsOnDisk disk (header_address pair) → HeaderSaysActive disk pair
+pub is_compacting : (disk : Disk) (pair : Pair) (other revision : ℕ) → IsPairAddress disk (header_address pair) → HeaderSaysActive disk pair
     → other ≡ header_inactive_block pair → pair.revision < 2 ^ 32 → revision ≡ (pair.revision + 1) % 2 ^ 32 → IsCompacting disk (header_address pair) pair.active other revision
 is_compacting disk pair other revision on is also small next =
     let both : Sides disk (header_address pair) pair.active other = subst (Sides disk (header_address pair) pair.active) (sym also) (sides disk (header_address pair) pair.active on.apart is.active) in
@@ -222,13 +207,13 @@ is_compacting disk pair other revision on is also small next =
       next = next ∙ ap (λ r. (r + 1) % 2 ^ 32) is.revision_is;
     }
 
-pub is_active : (disk : Disk) (history : List CallEvent) (pair : Pair) (held : RawContent) → IsAsHeader disk history pair held → HeaderSaysActive disk pair
+pub is_active : (disk : Disk) (history : List CallEvent) (pair : Pair) (held : RawContent) → IsTrueHeader disk history pair held → HeaderSaysActive disk pair
 is_active disk history pair held is = record { active = is.active; holds = is.holds; revision_is = is.describes.revision }
 
 -- a pair that was just written
 pub now_holds : (disk : Disk) (history : List CallEvent) (at : ℕ × ℕ) (pair : Pair) (active : ℕ) (c : RawContent) → IsIn disk at active c
     → header_address pair ≡ at → pair.active ≡ active → pair.is_fetched ≡ false → pair.revision ≡ block_revision (disk_block disk active)
-    → {end last : ℕ} → HeaderHasEnd end last pair → EndsBeforeUnprogrammed disk history active end last → IsContentHeader c pair → IsWellFormed c → PairHas disk history at pair c
+    → {end last : ℕ} → HeaderHasEnd end last pair → EndsBeforeUnprogrammed disk history active end last → IsContentHeader c pair → IsWellFormed c → HasWrittenContent disk history at pair c
 now_holds disk history at pair active c in_block same is fetched revision ends written sums logged = record {
   is_pair = record {
     active = is ∙ in_block.active_is ∙ ap (active_block_at disk) (sym same);
@@ -250,7 +235,7 @@ now_holds disk history at pair active c in_block same is fetched revision ends w
   written = fetched;
 }
 
-pub is_appending : (disk : Disk) (history : List CallEvent) (pair : Pair) (held new : RawContent) (changes : List PairChange) (b : PartialCommit) → AddressIsOnDisk disk (header_address pair) → IsAsHeader disk history pair held
+pub is_appending : (disk : Disk) (history : List CallEvent) (pair : Pair) (held new : RawContent) (changes : List PairChange) (b : PartialCommit) → IsPairAddress disk (header_address pair) → IsTrueHeader disk history pair held
     → changed_content_of held changes ≡ Some new → b.entries ≡ entries_of_changes changes → b.revision ≡ None → IsAppending disk (header_address pair) pair.active (header_inactive_block pair) held new b
 is_appending disk history pair held new changes b on is made entries none =
     let both = sides disk (header_address pair) pair.active on.apart is.active in
@@ -265,25 +250,25 @@ is_appending disk history pair held new changes b on is made entries none =
     }
 
 -- what the changes make of what the pair holds is what they make of its block's content
-pub made_is : (disk : Disk) (history : List CallEvent) (pair : Pair) (held : RawContent) (changes : List PairChange) → IsAsHeader disk history pair held → changed_pair disk (header_address pair) changes ≡ changed_content_of held changes
+pub made_is : (disk : Disk) (history : List CallEvent) (pair : Pair) (held : RawContent) (changes : List PairChange) → IsTrueHeader disk history pair held → changed_pair disk (header_address pair) changes ≡ changed_content_of held changes
 made_is disk history pair held changes is =
     ap (option_and_then (λ c. changed_content_of c changes)) (raw_held disk (header_address pair) pair.active is.holds ∙ is.describes.content)
 
 -- the log of a pair ends within its block
-pub ends_in_block : (disk : Disk) (history : List CallEvent) (pair : Pair) (held : RawContent) (block_size : ℕ) → IsAsHeader disk history pair held → length (disk_block disk pair.active) ≡ block_size → 1024 ≤ block_size → pair.end ≤ block_size
+pub ends_in_block : (disk : Disk) (history : List CallEvent) (pair : Pair) (held : RawContent) (block_size : ℕ) → IsTrueHeader disk history pair held → length (disk_block disk pair.active) ≡ block_size → 1024 ≤ block_size → pair.end ≤ block_size
 ends_in_block disk history pair held block_size is size large =
     let within = chain_ends (disk_block disk pair.active) (omega (arith, size, large)) in
     let end = is.describes.end in
     omega (arith, within, end, size)
 
 -- the active block is one of the two
-pub active_among : (disk : Disk) (history : List CallEvent) (pair : Pair) (held : RawContent) → AddressIsOnDisk disk (header_address pair) → IsAsHeader disk history pair held
+pub active_among : (disk : Disk) (history : List CallEvent) (pair : Pair) (held : RawContent) → IsPairAddress disk (header_address pair) → IsTrueHeader disk history pair held
     → (pair.active ≡ (header_address pair).0) ⊎ (pair.active ≡ (header_address pair).1)
 active_among disk history pair held on is =
     active_is disk (header_address pair) pair.active (header_inactive_block pair) (sides disk (header_address pair) pair.active on.apart is.active)
 
 -- it is a block of the device, and the log ends within it
-pub active_below : (disk : Disk) (history : List CallEvent) (pair : Pair) (held : RawContent) (block_count : ℕ) → AddressIsOnDisk disk (header_address pair) → IsAsHeader disk history pair held
+pub active_below : (disk : Disk) (history : List CallEvent) (pair : Pair) (held : RawContent) (block_count : ℕ) → IsPairAddress disk (header_address pair) → IsTrueHeader disk history pair held
     → length disk.blocks ≡ block_count → pair.active < block_count
 active_below disk history pair held block_count on is count =
     let below = below_count disk (header_address pair) pair.active on (active_among disk history pair held on is) in omega (arith, below, count)
@@ -304,19 +289,19 @@ stays_outside at b old new (inl is) stays = StayUnprogrammed-wider (at.0 ∷ at.
 stays_outside at b old new (inr is) stays = StayUnprogrammed-wider (at.0 ∷ at.1 ∷ []) (λ other apart k d l. only other b k d l (λ same. apart 1 0 (omega arith) (sym is ∙ same))) stays
 
 -- what changes make of a block with these bytes, they make of the pair
-pub made_here : (disk : Disk) (history : List CallEvent) (pair : Pair) (held : RawContent) (block : List ℕ) (changes : List PairChange) (new : Option RawContent) → IsAsHeader disk history pair held
+pub made_here : (disk : Disk) (history : List CallEvent) (pair : Pair) (held : RawContent) (block : List ℕ) (changes : List PairChange) (new : Option RawContent) → IsTrueHeader disk history pair held
     → block ≡ disk_block disk pair.active → changed_log block changes ≡ new → changed_pair disk (header_address pair) changes ≡ new
 made_here disk history pair held block changes new is here made =
-    ap (λ h. content_made h changes) (raw_held disk (header_address pair) pair.active is.holds) ∙ ap (λ b. changed_log b changes) (sym here) ∙ made
+    ap (λ h. changed_if_any h changes) (raw_held disk (header_address pair) pair.active is.holds) ∙ ap (λ b. changed_log b changes) (sym here) ∙ made
 
 -- the content that changes make of a block with these bytes is the one that they make of what the pair holds
-pub content_made_here : (disk : Disk) (history : List CallEvent) (pair : Pair) (held new : RawContent) (block : List ℕ) (changes : List PairChange) (c : RawContent) → IsAsHeader disk history pair held
+pub content_made_here : (disk : Disk) (history : List CallEvent) (pair : Pair) (held new : RawContent) (block : List ℕ) (changes : List PairChange) (c : RawContent) → IsTrueHeader disk history pair held
     → block ≡ disk_block disk pair.active → changed_content_of held changes ≡ Some new → changed_log block changes ≡ Some c → new ≡ c
 content_made_here disk history pair held new block changes c is here made log =
     some_same (sym made ∙ sym (made_is disk history pair held changes is) ∙ made_here disk history pair held block changes (Some c) is here log)
 
 -- where the log ends that holds, and by which tag
-pub ends_here : (disk : Disk) (history : List CallEvent) (pair : Pair) (held : RawContent) (block : List ℕ) → IsAsHeader disk history pair held → block ≡ disk_block disk pair.active → HeaderHasEnd (chain_of block).end (chain_of block).last pair
+pub ends_here : (disk : Disk) (history : List CallEvent) (pair : Pair) (held : RawContent) (block : List ℕ) → IsTrueHeader disk history pair held → block ≡ disk_block disk pair.active → HeaderHasEnd (chain_of block).end (chain_of block).last pair
 ends_here disk history pair held block is here = record {
   end_is = is.describes.end ∙ ap (λ b. (chain_of b).end) (sym here);
   last_is = is.describes.last ∙ ap (λ b. (chain_of b).last) (sym here);

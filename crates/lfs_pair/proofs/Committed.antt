@@ -1,13 +1,10 @@
 -- What a commit's pages make of a block, and what a stop while they are programmed leaves.
 use Rattle.std.proofs.Common.{ℕ, ◌≡◌, ◌+◌, ◌≤◌, true, List, [], ◌∷◌, ◌++◌, length, Option, inl, inr, sym, ap, ◌∙◌, subst, arith, length-append}
-use Rattle.std.proofs.lemmas.Bool.{lt-ltb}
-use Rattle.lfs_model.specs.format.Blocks.{Blocks, block_bytes, overwritten_at, SameExcept}
-use Rattle.lfs_model.specs.format.Log.{LogEntry, chain_of}
-use Rattle.lfs_model.specs.format.Content.{has_commit}
-use Rattle.lfs_model.specs.layers.Commit.{four_bytes}
-use Rattle.lfs_model.specs.crash.Stops.{SameLog, MayProgramLeave}
-use Rattle.lfs_tag.specs.Builder.{PartialCommit, AreCommitPages, IsCommitOffset, earlier_commits, padded_end_of, checksum_entry}
-use Rattle.lfs_pair.specs.Writing.{LogGetsCommit, LossLeavesCommit, DiffersInBlock}
+use Rattle.lfs_pair.proofs.Common.{lt-ltb, Blocks, block_bytes, overwritten_at, SameExcept, LogEntry, has_commit, SameLog, PartialCommit, IsCommitOffset, earlier_commits, padded_end_of, LogGetsCommit, LossLeavesCommit, DiffersInBlock}
+use Rattle.lfs_model.specs.format.Log.{chain_of}
+use Rattle.lfs_model.specs.layers.Commit.{four_bytes_at}
+use Rattle.lfs_model.specs.crash.Stops.{MayProgramLeave}
+use Rattle.lfs_tag.specs.Builder.{AreCommitPages, checksum_entry}
 use Rattle.lfs_pair.proofs.SameLogs.{commits_same, revision_same}
 
 -- a block that got a commit has one
@@ -29,15 +26,15 @@ pub record GoInto (b : PartialCommit) (next : Option (List ℕ)) (pages : List �
   pub commit : AreCommitPages b next pages
   pub goes : IsCommitOffset b.revision b.previous block at
   pub room : at + length pages ≤ length block
-  pub behind : four_bytes block (at + length pages) ≡ next
+  pub behind : four_bytes_at block (at + length pages) ≡ next
 
 pub goes_into : {b : PartialCommit} {next : Option (List ℕ)} {pages : List ℕ} {at size end : ℕ} {block : List ℕ} → AreCommitPages b next pages → length pages ≡ padded_end_of b → IsCommitOffset b.revision b.previous block at
-    → length block ≡ size → at + padded_end_of b ≤ size → end ≡ at + padded_end_of b → next ≡ four_bytes block end → GoInto b next pages at block
+    → length block ≡ size → at + padded_end_of b ≤ size → end ≡ at + padded_end_of b → next ≡ four_bytes_at block end → GoInto b next pages at block
 goes_into {b} {pages = pages} {at = at} {block = block} commit long goes whole ends is next = record {
   commit = commit;
   goes = goes;
   room = omega arith;
-  behind = ap (λ n. four_bytes block (at + n)) long ∙ ap (four_bytes block) (sym is) ∙ sym next;
+  behind = ap (λ n. four_bytes_at block (at + n)) long ∙ ap (four_bytes_at block) (sym is) ∙ sym next;
 }
 
 pub gets_commit : {b : PartialCommit} {next : Option (List ℕ)} {pages : List ℕ} {at : ℕ} {block : List ℕ} → GoInto b next pages at block → LogGetsCommit b block (overwritten_at block at pages)

@@ -1,12 +1,8 @@
 -- Where slots are cut.
 use Rattle.std.proofs.Common.{ℕ, zero, suc, ◌≡◌, ◌+◌, ◌*◌, ◌-◌, ◌^◌, ◌<◌, ◌≤◌, inl, inr, List, [], ◌∷◌, length, take, drop, map, min, get_or, sum_by, sym, subst, arith, length-drop, drop_of_length-le}
-use Rattle.std.proofs.lemmas.Bool.{cases_lt}
-use Rattle.std.proofs.lemmas.List.{length-map, length-take-le}
+use Rattle.lfs_pair.proofs.Common.{cases_lt, length-map, length-take-le, pair_capacity, slots_limit, RawSlot, slot_size_raw, IsFittingSplit, IsHalfCut}
 use Rattle.std.proofs.lemmas.List.Sums.{sum_by-cons, sum_by-take-drop, sum_by-take-le}
-use Rattle.lfs_model.specs.format.Disk.{pair_capacity, slots_limit}
-use Rattle.lfs_model.specs.format.Content.{RawSlot}
-use Rattle.lfs_model.specs.layers.WrittenContent.{slot_size_raw}
-use Rattle.lfs_pair.specs.HalfCut.{SlotsFitPair, IsFittingSplit, CanSplit, IsHalfCut}
+use Rattle.lfs_pair.specs.HalfCut.{SlotsFitPair, CanSplit}
 
 -- a longer front is no smaller
 front_grows : {X : Type 0} (f : X → ℕ) (xs : List X) (a b : ℕ) → a ≤ b → sum_by f (take a xs) ≤ sum_by f (take b xs)

@@ -1,14 +1,9 @@
 -- Which block of a pair a fetch takes, after it has read both revisions.
 use Rattle.std.proofs.Common.{ℕ, ◌≡◌, Bool, true, false, cond, ◌&&◌, ◌||◌, List, Some, refl, sym, ap, ◌∙◌, subst, Ok, Err}
 use Rattle.std.specs.Prelude.{IfOk, Result}
-use Rattle.std.specs.Option.{option_and_then}
+use Rattle.lfs_pair.proofs.Common.{option_and_then, RawContent, has_commit, is_later, current_block, content_after, empty_raw_content, raw_content, Disk, disk_block, CallEvent, block_entries, block_revision, array_address, HeaderDescribesLog, active_block_at}
 use Rattle.lfs_device.specs.declared.error.Error.{Error}
-use Rattle.lfs_model.specs.format.Content.{RawContent, has_commit, is_later, current_block, content_after, empty_raw_content, raw_content}
-use Rattle.lfs_model.specs.format.Disk.{Disk, disk_block}
-use Rattle.lfs_model.specs.session.History.{CallEvent}
-use Rattle.lfs_model.specs.format.Log.{block_entries, block_revision}
-use Rattle.lfs_model.specs.format.Slots.{array_address}
-use Rattle.lfs_pair.specs.Pair.{HeaderDescribesLog, FetchFindsPair, active_block_at, later_block_first}
+use Rattle.lfs_pair.specs.Pair.{FetchFinds, later_block_first}
 use Rattle.lfs_pair.specs.declared.pair.Pair.{Pair}
 
 -- that block of the pair is the one that holds
@@ -49,7 +44,7 @@ content_held disk at block h = ap (option_and_then (λ b. content_after empty_ra
 -- the header that was made of the block that holds
 pub fetches : (disk : Disk) (history : List CallEvent) (blocks : List ℕ) (bytes : List ℕ) (active : ℕ) (r : Result Pair Error) → HoldsAt disk (array_address blocks) active → bytes ≡ disk_block disk active
     → IfOk r (λ pair. (held : RawContent) × HeaderDescribesLog bytes pair held) → IfOk r (λ pair. pair.blocks ≡ blocks) → IfOk r (λ pair. pair.active ≡ active) → IfOk r (λ pair. pair.is_fetched ≡ true)
-    → IfOk r (λ pair. FetchFindsPair disk history (array_address blocks) pair)
+    → IfOk r (λ pair. FetchFinds disk history (array_address blocks) pair)
 fetches disk history blocks bytes active (Err e) h same described at is fetched = tt
 fetches disk history blocks bytes active (Ok pair) h same described at is fetched =
     let address = ap array_address at in

@@ -1,11 +1,8 @@
 -- Which block of a pair holds, and which one does after a write.
 use Rattle.std.proofs.Common.{ℕ, ◌≡◌, ◌+◌, ◌-◌, ◌%◌, ◌^◌, ◌<◌, Bool, true, false, cond, not, ◌&&◌, ◌||◌, List, Some, None, refl, sym, ap, subst, ◌∙◌, arith}
-use Rattle.std.specs.Option.{option_and_then}
+use Rattle.lfs_pair.proofs.Common.{option_and_then, Disk, disk_block, block_entries, block_revision, has_commit, is_later, current_block, content_after, empty_raw_content, raw_content, is_second_active}
 use Rattle.std.proofs.lemmas.Option.{same_Some}
-use Rattle.lfs_model.specs.format.Disk.{Disk, disk_block}
-use Rattle.lfs_model.specs.format.Log.{block_entries, block_revision}
-use Rattle.lfs_model.specs.format.Content.{has_commit, is_later, current_of_two, current_block, content_after, empty_raw_content, raw_content}
-use Rattle.lfs_pair.specs.Pair.{is_second_active}
+use Rattle.lfs_model.specs.format.Content.{current_of_two}
 
 -- the block that holds, by which of the two it is
 pub holder_is : (a b : List ℕ) → has_commit (cond (is_second_active a b) b a) ≡ true → current_of_two a b ≡ Some (cond (is_second_active a b) b a)

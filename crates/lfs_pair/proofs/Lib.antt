@@ -17,3 +17,4 @@ pub mod Calls
 pub mod Asking
 pub mod Behind
 pub mod Erring
+pub mod Common

@@ -1,10 +1,7 @@
 -- What changes make can be written again.
 use Rattle.std.proofs.Common.{◌≡◌, Bool, true, false, cond, List, Some, None}
 use Rattle.std.specs.Prelude.{is_some}
-use Rattle.std.specs.List.{list_all}
-use Rattle.lfs_model.specs.layers.LoggedContent.{IsWellFormed}
-use Rattle.lfs_model.specs.format.Content.{RawContent, content_after}
-use Rattle.lfs_model.specs.layers.Changes.{PairChange, entries_of_changes, is_storable, changed_content_of}
+use Rattle.lfs_pair.proofs.Common.{list_all, IsWellFormed, RawContent, content_after, PairChange, entries_of_changes, is_storable, changed_content_of}
 use Rattle.lfs_model.proofs.StoredChanges.{logged_changed}
 
 pub logged_made : (c : RawContent) (changes : List PairChange) (d : RawContent) → IsWellFormed c → is_some (changed_content_of c changes) ≡ true → content_after c (entries_of_changes changes) ≡ Some d → IsWellFormed d

@@ -1,32 +1,13 @@
 -- A content cut into the parts of two pairs, and what a stop on the way there leaves.
 use Rattle.std.specs.Prelude.{All}
 use Rattle.std.proofs.Common.{ℕ, zero, suc, get_or, ◌≡◌, ◌≢◌, ◌+◌, ◌≤◌, ◌<◌, ◌==◌, ◌&&◌, ◌^◌, false, List, [], ◌∷◌, Some, length, take, drop, sum_by, refl, sym, ap, ◌∙◌, subst, arith, inl, inr}
-use Rattle.std.proofs.lemmas.Bool.{cases_lt, ne_eqb}
+use Rattle.lfs_pair.proofs.Common.{cases_lt, ne_eqb, disk_of_blocks, Blocks, block_bytes, Disk, pair_capacity, slots_limit, AllCallsSince, CallEvent, OnlyReadsSince, RawSlot, RawContent, current_block, raw_content, LogEntry, AreNamed, AreWellFormed, IsWellFormed, RawContentFits, slot_size_raw, PairChange, AllCallsSince-until, nothing_logged, SameExceptThese-refl, SameExceptThese-trans, SameExceptThese-wider, AreElsewhere, current_block-stays, raw_content-stays, header_address, BeginsWith, HasNewContent, HasOldContent, KeepsFirstEntry, LossLeavesNew, KeepsOutsidePair, changed_log, changed_pair, IsFittingSplit, ErasedOneMore, IsWrittenAnew, CanSplitPair, LossLeavesSplit}
 use Rattle.std.proofs.lemmas.List.{take_all}
-use Rattle.lfs_device.specs.DeviceDisk.{disk_of_blocks}
 use Rattle.lfs_device.specs.declared.geometry.Geometry.{Geometry}
-use Rattle.lfs_model.specs.format.Blocks.{Blocks, block_bytes}
-use Rattle.lfs_model.specs.format.Disk.{Disk, pair_capacity, slots_limit}
-use Rattle.lfs_model.specs.session.History.{AllCallsSince, CallEvent, OnlyReadsSince}
 use Rattle.lfs_model.specs.format.Slots.{null_address}
-use Rattle.lfs_model.specs.format.Content.{RawSlot, RawContent, current_block, raw_content}
-use Rattle.lfs_model.specs.format.Log.{LogEntry}
-use Rattle.lfs_model.specs.layers.LoggedContent.{AreNamed, AreWellFormed, IsWellFormed}
-use Rattle.lfs_model.specs.layers.WrittenContent.{RawContentFits, slot_size_raw}
-use Rattle.lfs_model.specs.layers.Changes.{PairChange}
-use Rattle.lfs_model.proofs.Histories.{AllCallsSince-until}
-use Rattle.lfs_model.proofs.Logged.{nothing_logged}
-use Rattle.lfs_model.proofs.Overwrites.{SameExceptThese-refl, SameExceptThese-trans, SameExceptThese-wider}
-use Rattle.lfs_model.proofs.Staying.{AreElsewhere, current_block-stays, raw_content-stays}
 use Rattle.lfs_pair.specs.declared.pair.Pair.{Pair}
-use Rattle.lfs_pair.specs.Pair.{header_address}
-use Rattle.lfs_model.specs.tree.View.{BeginsWith}
-use Rattle.lfs_pair.specs.Commits.{HasNewContent, HasOldContent, KeepsFirstEntry, LossLeavesNew, KeepsOutsidePair, changed_log, changed_pair}
-use Rattle.lfs_pair.specs.HalfCut.{IsFittingSplit}
-use Rattle.lfs_pair.specs.FreshPair.{ErasedOneMore}
-use Rattle.lfs_pair.specs.Writing.{IsWrittenAnew}
-use Rattle.lfs_pair.specs.Split.{AreApart, IsContentCut, CanSplitPair, BothHaveSlots, LossLeavesSplit, KeepsOutsideBoth}
-use Rattle.lfs_pair.proofs.Stay.{IsAsHeader-reads}
+use Rattle.lfs_pair.specs.Split.{AreApart, IsContentCut, BothHaveSlots, KeepsOutsideBoth}
+use Rattle.lfs_pair.proofs.Stay.{IsTrueHeader-reads}
 use Rattle.lfs_pair.proofs.Changed.{made_here, made_is, some_same}
 
 -- ---- blocks of two pairs
@@ -179,7 +160,7 @@ pub CanSplitPair-reads : {blocks : Blocks} {disk : Disk} {before after : List Ca
 CanSplitPair-reads reads can =
     let commit = can.commit in
     record {
-      commit = record { address = commit.address; held = commit.held; is_pair = IsAsHeader-reads reads commit.is_pair; new = commit.new; changed = commit.changed; names = commit.names };
+      commit = record { address = commit.address; held = commit.held; is_pair = IsTrueHeader-reads reads commit.is_pair; new = commit.new; changed = commit.changed; names = commit.names };
       fresh_is = can.fresh_is;
       apart = can.apart;
       cut = can.cut;

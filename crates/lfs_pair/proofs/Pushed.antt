@@ -1,16 +1,11 @@
 -- Entries put into a commit one after the other.
 use Rattle.std.proofs.Common.{ℕ, zero, suc, ◌≡◌, ◌+◌, ◌<◌, ◌≤◌, ◌∙◌, List, [], ◌∷◌, ◌++◌, length, take, map, get_or, sym, ap, subst, arith, append_assoc}
 use Rattle.std.specs.List.{flat_map}
-use Rattle.std.proofs.lemmas.List.{append-nil, map-append, length-map, length-take-le}
-use Rattle.std.proofs.lemmas.List.Concat.{flat_map-append}
-use Rattle.lfs_model.specs.format.Log.{LogEntry}
-use Rattle.lfs_model.specs.format.Content.{RawSlot}
-use Rattle.lfs_model.specs.layers.LoggedContent.{AttributesInOrder, IsSlotWellFormed, AreWellFormed}
-use Rattle.lfs_model.specs.layers.WrittenContent.{attribute_entries, lowest_type, log_entry_of, slot_entries, entries_of_slots}
-use Rattle.lfs_tag.specs.Builder.{PartialCommit}
+use Rattle.lfs_pair.proofs.Common.{append-nil, length-map, length-take-le, flat_map-append, LogEntry, RawSlot, AreWellFormed, attribute_entries, log_entry, entries_of_slots, PartialCommit, attribute_view, commit_with_more}
+use Rattle.std.proofs.lemmas.List.{map-append}
+use Rattle.lfs_model.specs.layers.LoggedContent.{AttributesInOrder, IsFormedSlot}
+use Rattle.lfs_model.specs.layers.WrittenContent.{first_attribute_type, slot_entries}
 use Rattle.lfs_tag.specs.declared.content.Attribute.{Attribute}
-use Rattle.lfs_tag.specs.ContentView.{attribute_view}
-use Rattle.lfs_pair.specs.Writing.{commit_with_more}
 use Rattle.lfs_pair.proofs.Applied.{mapped_front}
 
 -- ---- commits
@@ -24,11 +19,11 @@ with_more es fs old mid new first second =
 
 -- one attribute more
 pub attributes_more : (id kind : ℕ) (xs : List Attribute) (i : ℕ) (d : Attribute) (old mid new : PartialCommit) → i < length xs → kind ≡ (get_or xs i d).kind
-    → mid ≡ commit_with_more (attribute_entries id (map attribute_view (take i xs))) old → new ≡ commit_with_more (log_entry_of (lowest_type + kind) id (get_or xs i d).bytes.now ∷ []) mid
+    → mid ≡ commit_with_more (attribute_entries id (map attribute_view (take i xs))) old → new ≡ commit_with_more (log_entry (first_attribute_type + kind) id (get_or xs i d).bytes.now ∷ []) mid
     → new ≡ commit_with_more (attribute_entries id (map attribute_view (take (i + 1) xs))) old
 attributes_more id kind xs i d old mid new l is first second =
     let bytes : List ℕ = (get_or xs i d).bytes.now in
-    with_more (attribute_entries id (map attribute_view (take i xs))) (log_entry_of (lowest_type + (get_or xs i d).kind) id bytes ∷ []) old mid new first (second ∙ ap (λ k. commit_with_more (log_entry_of (lowest_type + k) id bytes ∷ []) mid) is)
+    with_more (attribute_entries id (map attribute_view (take i xs))) (log_entry (first_attribute_type + (get_or xs i d).kind) id bytes ∷ []) old mid new first (second ∙ ap (λ k. commit_with_more (log_entry (first_attribute_type + k) id bytes ∷ []) mid) is)
     ∙ ap (λ es. commit_with_more es old) (sym (ap (attribute_entries id) (mapped_front attribute_view xs i d l) ∙ map-append _ (map attribute_view (take i xs)) (attribute_view (get_or xs i d) ∷ [])))
 
 -- one element more of a list where each has a list of entries
@@ -67,10 +62,10 @@ short_at f low [] i d h l = absurd (omega arith)
 short_at f low (x ∷ xs) zero d h l = omega (arith, h.2)
 short_at f low (x ∷ xs) (suc i) d h l = short_at f ((f x).0 + 1) xs i d h.3 (omega arith)
 
-parts_of : {X : Type 0} (f : X → RawSlot) (xs : List X) (i : ℕ) (d : X) → AreWellFormed (map f xs) → i < length xs → IsSlotWellFormed (f (get_or xs i d))
+parts_of : {X : Type 0} (f : X → RawSlot) (xs : List X) (i : ℕ) (d : X) → AreWellFormed (map f xs) → i < length xs → IsFormedSlot (f (get_or xs i d))
 parts_of f [] i d h l = absurd (omega arith)
 parts_of f (x ∷ xs) zero d h l = h.0
 parts_of f (x ∷ xs) (suc i) d h l = parts_of f xs i d h.1 (omega arith)
 
-pub parts_at : {X : Type 0} (f : X → RawSlot) (xs : List X) (i : ℕ) (x : X) → AreWellFormed (map f xs) → i < length xs → x ≡ get_or xs i x → IsSlotWellFormed (f x)
-parts_at f xs i x h l at = subst (λ z. IsSlotWellFormed (f z)) (sym at) (parts_of f xs i x h l)
+pub parts_at : {X : Type 0} (f : X → RawSlot) (xs : List X) (i : ℕ) (x : X) → AreWellFormed (map f xs) → i < length xs → x ≡ get_or xs i x → IsFormedSlot (f x)
+parts_at f xs i x h l at = subst (λ z. IsFormedSlot (f z)) (sym at) (parts_of f xs i x h l)

@@ -1,9 +1,8 @@
 -- What blocks of the same log share.
 use Rattle.std.proofs.Common.{ℕ, ◌≡◌, true, false, List, [], ◌∷◌, length, Option, Some, None, refl, sym, ap, ◌∙◌, flat_map}
 use Rattle.std.specs.Prelude.{nat_lt}
-use Rattle.lfs_model.specs.format.Log.{LogEntry, BlockLog, chain_of, block_revision, block_entries, committed_log}
-use Rattle.lfs_model.specs.format.Content.{has_commit}
-use Rattle.lfs_model.specs.crash.Stops.{SameLog, HasNoLog}
+use Rattle.lfs_pair.proofs.Common.{LogEntry, block_revision, block_entries, has_commit, SameLog, HasNoLog}
+use Rattle.lfs_model.specs.format.Log.{BlockLog, chain_of, committed_log}
 
 abbrev commits_in : Option BlockLog → List (List LogEntry)
 commits_in None = []

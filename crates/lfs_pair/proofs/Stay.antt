@@ -1,16 +1,9 @@
 -- What a pair holds where nothing is written to its two blocks.
 use Rattle.std.specs.Prelude.{All}
 use Rattle.std.proofs.Common.{ℕ, ◌≡◌, ◌≢◌, Bool, true, false, cond, List, Some, sym, ap, ap₂, ◌∙◌, subst}
-use Rattle.lfs_model.specs.format.Blocks.{Blocks, SameExceptThese}
-use Rattle.lfs_model.specs.format.Disk.{Disk, disk_block}
-use Rattle.lfs_model.specs.format.Log.{block_revision}
-use Rattle.lfs_model.specs.session.History.{CallEvent, OnlyReadsSince, StayUnprogrammed}
-use Rattle.lfs_model.specs.format.Content.{RawContent}
-use Rattle.lfs_model.proofs.Histories.{AreUnprogrammed-read_count, AreUnprogrammed-stays}
-use Rattle.lfs_model.proofs.Staying.{AreElsewhere, current_block-stays, raw_content-stays}
+use Rattle.lfs_pair.proofs.Common.{Blocks, SameExceptThese, Disk, disk_block, block_revision, CallEvent, OnlyReadsSince, StayUnprogrammed, RawContent, AreUnprogrammed-read_count, AreElsewhere, current_block-stays, raw_content-stays, IsTrueHeader, HeaderDescribesLog, is_second_active, active_block_at, header_address, HeaderSaysActive, HasWrittenContent}
+use Rattle.lfs_model.proofs.Histories.{AreUnprogrammed-stays}
 use Rattle.lfs_pair.specs.declared.pair.Pair.{Pair}
-use Rattle.lfs_pair.specs.Pair.{IsAsHeader, HeaderDescribesLog, is_second_active, active_block_at, header_address}
-use Rattle.lfs_pair.specs.Commits.{HeaderSaysActive, PairHas}
 
 -- ---- on the disk
 
@@ -39,9 +32,9 @@ HeaderSaysActive-stays {disk = disk} {pair = pair} elsewhere same is =
       revision_is = is.revision_is ∙ ap block_revision (sym block);
     }
 
-pub IsAsHeader-stays : {bs : List ℕ} {disk : Disk} {blocks : Blocks} {before after : List CallEvent} {pair : Pair} {held : RawContent}
-    → AreElsewhere (header_address pair) bs → SameExceptThese bs disk.blocks blocks → StayUnprogrammed bs before after → IsAsHeader disk before pair held → IsAsHeader (record disk { blocks = blocks }) after pair held
-IsAsHeader-stays {disk = disk} {pair = pair} {held} elsewhere same stay is =
+pub IsTrueHeader-stays : {bs : List ℕ} {disk : Disk} {blocks : Blocks} {before after : List CallEvent} {pair : Pair} {held : RawContent}
+    → AreElsewhere (header_address pair) bs → SameExceptThese bs disk.blocks blocks → StayUnprogrammed bs before after → IsTrueHeader disk before pair held → IsTrueHeader (record disk { blocks = blocks }) after pair held
+IsTrueHeader-stays {disk = disk} {pair = pair} {held} elsewhere same stay is =
     let apart = active_elsewhere disk pair.active elsewhere is.active in
     let block = same.others pair.active apart in
     record {
@@ -54,9 +47,9 @@ IsAsHeader-stays {disk = disk} {pair = pair} {held} elsewhere same stay is =
 
 -- a pair's address is that of its blocks
 pub NowHolds-stays : {at : ℕ × ℕ} {bs : List ℕ} {disk : Disk} {blocks : Blocks} {before after : List CallEvent} {pair : Pair} {held : RawContent}
-    → AreElsewhere at bs → SameExceptThese bs disk.blocks blocks → StayUnprogrammed bs before after → PairHas disk before at pair held → PairHas (record disk { blocks = blocks }) after at pair held
+    → AreElsewhere at bs → SameExceptThese bs disk.blocks blocks → StayUnprogrammed bs before after → HasWrittenContent disk before at pair held → HasWrittenContent (record disk { blocks = blocks }) after at pair held
 NowHolds-stays {bs = bs} {disk = disk} elsewhere same stay holds = record {
-  is_pair = IsAsHeader-stays (subst (λ a. AreElsewhere a bs) (sym holds.same) elsewhere) same stay holds.is_pair;
+  is_pair = IsTrueHeader-stays (subst (λ a. AreElsewhere a bs) (sym holds.same) elsewhere) same stay holds.is_pair;
   same = holds.same;
   content = raw_content-stays disk elsewhere same ∙ holds.content;
   written = holds.written;
@@ -64,8 +57,8 @@ NowHolds-stays {bs = bs} {disk = disk} elsewhere same stay holds = record {
 
 -- ---- after reads
 
-pub IsAsHeader-reads : {blocks : Blocks} {disk : Disk} {before after : List CallEvent} {pair : Pair} {held : RawContent} → OnlyReadsSince blocks before after → IsAsHeader disk before pair held → IsAsHeader disk after pair held
-IsAsHeader-reads {pair = pair} reads is = record {
+pub IsTrueHeader-reads : {blocks : Blocks} {disk : Disk} {before after : List CallEvent} {pair : Pair} {held : RawContent} → OnlyReadsSince blocks before after → IsTrueHeader disk before pair held → IsTrueHeader disk after pair held
+IsTrueHeader-reads {pair = pair} reads is = record {
   active = is.active;
   holds = is.holds;
   describes = is.describes;

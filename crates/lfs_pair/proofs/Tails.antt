@@ -1,11 +1,10 @@
 -- A tail that a change sets.
 use Rattle.std.proofs.Common.{ℕ, ◌≡◌, ◌^◌, Bool, true, false, Option, Some, refl, ap, ◌∙◌}
-use Rattle.std.proofs.lemmas.Bool.{and_parts, ltb-true}
+use Rattle.lfs_pair.proofs.Common.{and_parts, ltb-true, RawContent, content_after, change_entries, is_storable}
 use Rattle.std.specs.Prelude.{[], ◌∷◌, nat_lt}
-use Rattle.lfs_model.specs.format.Content.{RawContent, content_after}
 use Rattle.lfs_model.specs.format.EntryTypes.{tail_to_pair, read_address}
 use Rattle.lfs_model.specs.layers.WrittenContent.{tail_entry, tail_or_null, address_bytes}
-use Rattle.lfs_model.specs.layers.Changes.{PutTail, change_entries, is_storable}
+use Rattle.lfs_model.specs.layers.Changes.{PutTail}
 use Rattle.lfs_model.proofs.WrittenAnew.{read_address-address_bytes}
 
 pub tail_changed : (c : RawContent) (hard : Bool) (pair : Option (ℕ × ℕ)) → is_storable (PutTail hard pair) ≡ true

@@ -1,16 +1,10 @@
 -- What a pair holds, by which of its two blocks was written.
 use Rattle.std.proofs.Common.{ℕ, ◌≡◌, ◌≢◌, ◌⊎◌, ◌+◌, ◌%◌, ◌^◌, ◌<◌, ◌==◌, Bool, true, false, cond, List, [], ◌∷◌, refl, sym, ap, ◌∙◌, subst, arith, eq-eqb, inl, inr}
 use Rattle.std.specs.Prelude.{All}
-use Rattle.std.proofs.lemmas.Bool.{ne_eqb}
-use Rattle.std.specs.Option.{option_and_then}
-use Rattle.lfs_model.specs.format.Blocks.{Blocks, SameExcept, block_bytes}
-use Rattle.lfs_model.specs.format.Disk.{Disk, disk_block, block_count}
-use Rattle.lfs_model.specs.format.Log.{block_revision, block_entries}
-use Rattle.lfs_model.specs.crash.Stops.{SameLog, HasNoLog}
-use Rattle.lfs_model.specs.format.Content.{has_commit, is_later, raw_content, content_after, empty_raw_content}
-use Rattle.lfs_pair.specs.Pair.{is_second_active, active_block_at, inactive_of}
-use Rattle.lfs_pair.specs.Commits.{AddressIsOnDisk, KeepsOutsidePair}
-use Rattle.lfs_model.proofs.Overwrites.{SameExceptThese-refl, SameExceptThese-one}
+use Rattle.lfs_pair.proofs.Common.{ne_eqb, option_and_then, Blocks, SameExcept, block_bytes, Disk, disk_block, block_revision, block_entries, SameLog, HasNoLog, has_commit, is_later, raw_content, content_after, empty_raw_content, is_second_active, active_block_at, IsPairAddress, KeepsOutsidePair, SameExceptThese-refl}
+use Rattle.lfs_model.specs.format.Disk.{block_count}
+use Rattle.lfs_pair.specs.Pair.{inactive_of}
+use Rattle.lfs_model.proofs.Overwrites.{SameExceptThese-one}
 use Rattle.lfs_pair.proofs.Holders.{holder_is, is_second_active-written, first_holds-written}
 use Rattle.lfs_pair.proofs.SameLogs.{has_commit_same, revision_same, has_no_commit}
 
@@ -144,6 +138,6 @@ pub sides_apart : (disk : Disk) (at : ℕ × ℕ) (active other : ℕ) → at.0 
 sides_apart disk at active other apart (first e is also) same = apart (sym is ∙ sym same ∙ also)
 sides_apart disk at active other apart (second e is also) same = apart (sym also ∙ same ∙ is)
 
-pub below_count : (disk : Disk) (at : ℕ × ℕ) (b : ℕ) → AddressIsOnDisk disk at → (b ≡ at.0) ⊎ (b ≡ at.1) → b < block_count disk
+pub below_count : (disk : Disk) (at : ℕ × ℕ) (b : ℕ) → IsPairAddress disk at → (b ≡ at.0) ⊎ (b ≡ at.1) → b < block_count disk
 below_count disk at b on (inl is) = subst (λ k. k < block_count disk) (sym is) on.first
 below_count disk at b on (inr is) = subst (λ k. k < block_count disk) (sym is) on.second

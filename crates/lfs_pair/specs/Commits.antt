@@ -16,12 +16,12 @@ use Rattle.lfs_model.specs.format.Slots.{PairContent, FitsInPair}
 use Rattle.lfs_model.specs.format.Content.{RawContent, complete_content, current_block, raw_content, content_after, empty_raw_content}
 use Rattle.lfs_model.specs.tree.View.{BeginsWith}
 use Rattle.lfs_model.specs.layers.Changes.{PairChange, changed_content_of, entries_of_changes}
-use Rattle.lfs_model.specs.layers.Commit.{encoded_size, commit_end_aligned}
+use Rattle.lfs_model.specs.layers.Commit.{encoded_size, aligned_end}
 use Rattle.lfs_model.specs.layers.WrittenContent.{RawContentFits, content_entries}
 use Rattle.lfs_model.specs.format.Tag.{abstract_type}
 use Rattle.lfs_pair.specs.Writing.{IsWrittenAnew}
 use Rattle.lfs_pair.specs.declared.pair.Pair.{Pair}
-use Rattle.lfs_pair.specs.Pair.{IsAsHeader, active_block_at, header_address}
+use Rattle.lfs_pair.specs.Pair.{IsTrueHeader, active_block_at, header_address}
 use Rattle.lfs_model.specs.format.Thread.{address_blocks}
 
 -- the content is there, and its entries begin with that one when it is written anew
@@ -45,26 +45,26 @@ pub record HasNewContent (old : Disk) (at : ℕ × ℕ) (new : RawContent) (disk
   pub first : KeepsFirstEntry old at (Some new) disk
 
 -- the address of a pair: two different blocks of the disk
-pub record AddressIsOnDisk (disk : Disk) (at : ℕ × ℕ) : Type 0 where
+pub record IsPairAddress (disk : Disk) (at : ℕ × ℕ) : Type 0 where
   pub apart : at.0 ≢ at.1
   pub first : at.0 < block_count disk
   pub second : at.1 < block_count disk
 
 -- What changes make of a content, if there is one; of what a block's log comes to; and of the pair at an address.
-abbrev pub content_made : Option RawContent → List PairChange → Option RawContent
-content_made held changes = option_and_then (λ c. changed_content_of c changes) held
+abbrev pub changed_if_any : Option RawContent → List PairChange → Option RawContent
+changed_if_any held changes = option_and_then (λ c. changed_content_of c changes) held
 
 abbrev pub changed_log : List ℕ → List PairChange → Option RawContent
-changed_log block changes = content_made (content_after empty_raw_content (block_entries block)) changes
+changed_log block changes = changed_if_any (content_after empty_raw_content (block_entries block)) changes
 
 abbrev pub changed_pair : Disk → ℕ × ℕ → List PairChange → Option RawContent
-changed_pair disk at changes = content_made (raw_content disk at) changes
+changed_pair disk at changes = changed_if_any (raw_content disk at) changes
 
 -- A commit's premises: the disk has the pair as its header says, the log allows each change, and each slot has a name afterwards.
 pub record CanCommit (disk : Disk) (history : List CallEvent) (pair : Pair) (changes : List PairChange) : Type 0 where
-  pub address : AddressIsOnDisk disk (header_address pair)
+  pub address : IsPairAddress disk (header_address pair)
   pub held : RawContent
-  pub is_pair : IsAsHeader disk history pair held
+  pub is_pair : IsTrueHeader disk history pair held
   pub new : RawContent
   pub changed : changed_content_of held changes ≡ Some new
   pub names : AreNamed new.slots
@@ -89,7 +89,7 @@ pub record CanAppendContent (disk : Disk) (history : List CallEvent) (pair : Pai
 
 -- The premises of a compaction: the disk has the pair, the content can be written anew, and the buffer is as long as a block.
 pub record CanCompact (disk : Disk) (pair : Pair) (c : RawContent) (len : ℕ) : Type 0 where
-  pub address : AddressIsOnDisk disk (header_address pair)
+  pub address : IsPairAddress disk (header_address pair)
   pub active : HeaderSaysActive disk pair
   pub buf : len ≡ disk.block_size
   pub logged : IsWellFormed c
@@ -97,8 +97,8 @@ pub record CanCompact (disk : Disk) (pair : Pair) (c : RawContent) (len : ℕ) :
   pub fits : RawContentFits disk.block_size disk.page c
 
 -- the pair at the address has that content, and its active block was written since the last fetch
-pub record PairHas (disk : Disk) (history : List CallEvent) (at : ℕ × ℕ) (pair : Pair) (held : RawContent) : Type 0 where
-  pub is_pair : IsAsHeader disk history pair held
+pub record HasWrittenContent (disk : Disk) (history : List CallEvent) (at : ℕ × ℕ) (pair : Pair) (held : RawContent) : Type 0 where
+  pub is_pair : IsTrueHeader disk history pair held
   pub same : header_address pair ≡ at
   pub content : raw_content disk at ≡ Some held
   pub written : pair.is_fetched ≡ false
@@ -114,16 +114,16 @@ pub record IsEndBlank (geometry : Geometry) (before after : List CallEvent) (pai
   pub unprogrammed : AreUnprogrammed after pair.active pair.end geometry.block_size
 
 -- the changes can be appended: nothing is programmed after the log, and the padded commit ends within the block
-pub record CanAppendChanges (disk : Disk) (before after : List CallEvent) (pair : Pair) (changes : List PairChange) : Type 0 where
+pub record CanAppend (disk : Disk) (before after : List CallEvent) (pair : Pair) (changes : List PairChange) : Type 0 where
   pub known : IsEndKnown before after pair
-  pub room : pair.end + commit_end_aligned disk.page (encoded_size (entries_of_changes changes)) ≤ disk.block_size
+  pub room : pair.end + aligned_end disk.page (encoded_size (entries_of_changes changes)) ≤ disk.block_size
 
 -- The log of a block has one commit more, of these entries. The commit ends on the next page boundary.
 pub record LogHasMore (page : ℕ) (es : List LogEntry) (old new : List ℕ) : Type 0 where
   pub checksum : LogEntry
   pub class : abstract_type checksum.tag ≡ 5
   pub commits : (chain_of new).commits ≡ (chain_of old).commits ++ (es ++ checksum ∷ []) ∷ []
-  pub end : (chain_of new).end ≡ (chain_of old).end + commit_end_aligned page (encoded_size es)
+  pub end : (chain_of new).end ≡ (chain_of old).end + aligned_end page (encoded_size es)
 
 -- An append erases nothing, changes the active block alone, and keeps all bytes before the old end.
 pub record IsCommitAppended (page : ℕ) (was : Pair) (changes : List PairChange) (old new : Blocks) (before after : List CallEvent) (pair : Pair) : Type 0 where
@@ -139,27 +139,27 @@ pub record IsCommitAppended (page : ℕ) (was : Pair) (changes : List PairChange
 pub record IsPairRewritten (page : ℕ) (was : Pair) (c : RawContent) (old new : Blocks) (before after : List CallEvent) (pair : Pair) : Type 0 where
   pub active : pair.active ≢ was.active
   pub anew : IsWrittenAnew ((was.revision + 1) % 2 ^ 32) c (block_bytes new pair.active) before after
-  pub end : pair.end ≡ commit_end_aligned page (4 + encoded_size (content_entries c))
+  pub end : pair.end ≡ aligned_end page (4 + encoded_size (content_entries c))
   pub kept : block_bytes new was.active ≡ block_bytes old was.active
 
 -- The changes could be appended, and they were: the pair has the new content, and its log begins as before.
 pub record AppendsChanges (old : Disk) (before : List CallEvent) (was : Pair) (changes : List PairChange) (c : RawContent) (disk : Disk) (history : List CallEvent) (pair : Pair) : Type 0 where
-  pub holds : PairHas disk history (header_address was) pair c
+  pub holds : HasWrittenContent disk history (header_address was) pair c
   pub first : KeepsFirstEntry old (header_address was) (Some c) disk
-  pub appends : CanAppendChanges old before history was changes
+  pub appends : CanAppend old before history was changes
   pub appended : IsCommitAppended old.page was changes old.blocks disk.blocks before history pair
 
 -- the changes can't be appended; the disk, its calls and the header are as before
 pub record CannotAppend {D : Type 0} (g : Ghosts D) (changes : List PairChange) (old new : D) (was now : Pair) : Type 0 where
-  pub no_room : CanAppendChanges (disk_of_blocks (g.geometry old) (g.blocks old)) (g.history old) (g.history new) was changes → ⊥
+  pub no_room : CanAppend (disk_of_blocks (g.geometry old) (g.blocks old)) (g.history old) (g.history new) was changes → ⊥
   pub blocks : g.blocks new ≡ g.blocks old
   pub geometry : g.geometry new ≡ g.geometry old
   pub history : g.history new ≡ g.history old
   pub pair : now ≡ was
 
 -- The content was written anew: the pair has it, and its log begins as before.
-pub record CompactsToContent (old : Disk) (before : List CallEvent) (was : Pair) (c : RawContent) (disk : Disk) (history : List CallEvent) (pair : Pair) : Type 0 where
-  pub holds : PairHas disk history (header_address was) pair c
+pub record CompactsTo (old : Disk) (before : List CallEvent) (was : Pair) (c : RawContent) (disk : Disk) (history : List CallEvent) (pair : Pair) : Type 0 where
+  pub holds : HasWrittenContent disk history (header_address was) pair c
   pub first : KeepsFirstEntry old (header_address was) (Some c) disk
   pub compacted : IsPairRewritten old.page was c old.blocks disk.blocks before history pair
 
@@ -170,10 +170,10 @@ pub record CommitsChanges (old : Disk) (before : List CallEvent) (changes : List
   pub made : changed_pair old (header_address was) changes ≡ Some new
   pub fits : RawContentFits old.block_size old.page new
   pub logged : IsWellFormed new
-  pub holds : PairHas disk history (header_address was) pair new
+  pub holds : HasWrittenContent disk history (header_address was) pair new
   pub first : KeepsFirstEntry old (header_address was) (Some new) disk
-  pub appended : CanAppendChanges old before history was changes → IsCommitAppended old.page was changes old.blocks disk.blocks before history pair
-  pub compacted : (CanAppendChanges old before history was changes → ⊥) → IsPairRewritten old.page was new old.blocks disk.blocks before history pair
+  pub appended : CanAppend old before history was changes → IsCommitAppended old.page was changes old.blocks disk.blocks before history pair
+  pub compacted : (CanAppend old before history was changes → ⊥) → IsPairRewritten old.page was new old.blocks disk.blocks before history pair
 
 -- A commit that is refused: what the changes make doesn't fit the pair, neither as a log's content nor, where each slot is
 -- complete, as slots. The header is as before, and nothing was written.
@@ -185,7 +185,7 @@ pub record RefusesCommit {D : Type 0} (g : Ghosts D) (changes : List PairChange)
   pub device : ReadsOnly g old new
 
 -- A commit that ends in an error: the header is as before, and at `NoMemory` nothing was written.
-pub record CommitFailsKeepingHeader {D : Type 0} (g : Ghosts D) (old new : D) (was now : Pair) (e : Error) : Type 0 where
+pub record CommitFails {D : Type 0} (g : Ghosts D) (old new : D) (was now : Pair) (e : Error) : Type 0 where
   pub errors : (e ≡ Io) ⊎ (e ≡ NoMemory)
   pub pair : now ≡ was
   pub no_memory : e ≡ NoMemory → ReadsOnly g old new

@@ -68,7 +68,7 @@ active_block_at disk at = if is_second_active (disk_block disk at.0) (disk_block
 
 -- The disk has the pair with that content, as the header says. Unless the header was only fetched, nothing is programmed after
 -- the end of the log.
-pub record IsAsHeader (disk : Disk) (history : List CallEvent) (pair : Pair) (held : RawContent) : Type 0 where
+pub record IsTrueHeader (disk : Disk) (history : List CallEvent) (pair : Pair) (held : RawContent) : Type 0 where
   pub active : pair.active ≡ active_block_at disk (header_address pair)
   pub holds : current_block disk (header_address pair) ≡ Some (disk_block disk pair.active)
   pub describes : HeaderDescribesLog (disk_block disk pair.active) pair held
@@ -76,9 +76,9 @@ pub record IsAsHeader (disk : Disk) (history : List CallEvent) (pair : Pair) (he
   pub unprogrammed : pair.is_fetched ≡ false → AreUnprogrammed history pair.active pair.end disk.block_size
 
 -- what a fetch finds at a pair's address
-pub record FetchFindsPair (disk : Disk) (history : List CallEvent) (address : ℕ × ℕ) (pair : Pair) : Type 0 where
+pub record FetchFinds (disk : Disk) (history : List CallEvent) (address : ℕ × ℕ) (pair : Pair) : Type 0 where
   pub held : RawContent
-  pub is_pair : IsAsHeader disk history pair held
+  pub is_pair : IsTrueHeader disk history pair held
   pub at : header_address pair ≡ address
   pub content : raw_content disk address ≡ Some held
   pub fetched : pair.is_fetched ≡ true

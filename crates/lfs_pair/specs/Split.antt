@@ -11,7 +11,7 @@ use Rattle.lfs_model.specs.layers.WrittenContent.{RawContentFits}
 use Rattle.lfs_pair.specs.FreshPair.{ErasedOneMore, HasFreshContent}
 use Rattle.lfs_pair.specs.declared.pair.Pair.{Pair}
 use Rattle.lfs_pair.specs.Pair.{header_address}
-use Rattle.lfs_pair.specs.Commits.{AddressIsOnDisk, CanCommit, HasNewContent, HasOldContent, KeepsFirstEntry, PairHas, changed_pair}
+use Rattle.lfs_pair.specs.Commits.{IsPairAddress, CanCommit, HasNewContent, HasOldContent, KeepsFirstEntry, HasWrittenContent, changed_pair}
 use Rattle.lfs_pair.specs.Writing.{HasOneCommit}
 use Rattle.lfs_pair.specs.HalfCut.{CanSplit, IsFittingSplit}
 use Rattle.lfs_model.specs.format.Thread.{addresses_blocks}
@@ -27,7 +27,7 @@ pub record AreApart (at fresh : ℕ × ℕ) : Type 0 where
 -- two parts that fit a pair each.
 pub record CanSplitPair (disk : Disk) (history : List CallEvent) (pair : Pair) (fresh : ℕ × ℕ) (changes : List PairChange) : Type 0 where
   pub commit : CanCommit disk history pair changes
-  pub fresh_is : AddressIsOnDisk disk fresh
+  pub fresh_is : IsPairAddress disk fresh
   pub apart : AreApart (header_address pair) fresh
   pub cut : CanSplit disk.block_size disk.page commit.new.slots
 
@@ -63,8 +63,8 @@ pub record SplitsPair (old : Disk) (before : List CallEvent) (changes : List Pai
   pub cut : ℕ
   pub is_cut : IsFittingSplit old.block_size old.page new.slots cut
   pub inside : BothHaveSlots old.block_size old.page new cut
-  pub front : PairHas disk history (header_address was) pair (split_front new cut fresh)
-  pub back : PairHas disk history fresh fresh_pair (split_back new cut)
+  pub front : HasWrittenContent disk history (header_address was) pair (split_front new cut fresh)
+  pub back : HasWrittenContent disk history fresh fresh_pair (split_back new cut)
   pub first : KeepsFirstEntry old (header_address was) (Some (split_front new cut fresh)) disk
   -- The old pair's part is written into the block that wasn't active, with the next revision. The block that was active stays as
   -- it was.

@@ -4,7 +4,7 @@ use Rattle.lfs_device.specs.declared.device.BlockDevice.{Ghosts}
 use Rattle.lfs_device.specs.declared.error.Error.{Error}
 use Rattle.lfs_device.specs.declared.error.Error.TheVariants.{Io}
 use Rattle.lfs_device.specs.declared.geometry.Geometry.{Geometry}
-use Rattle.lfs_device.specs.DeviceCalls.{ChangesOnlyThisBlock, ChangesOnlyTheseBlocks, ReportsFaults}
+use Rattle.lfs_device.specs.DeviceCalls.{ChangesOneBlock, ChangesTheseBlocks, ReportsFaults}
 use Rattle.lfs_model.specs.format.Blocks.{Blocks, block_bytes, SameExcept}
 use Rattle.lfs_model.specs.format.Disk.{Disk, disk_block}
 use Rattle.lfs_model.specs.session.History.{AreUnprogrammed, Blank, CallEvent, call_event, blank_count, erase_count, program_count, read_count}
@@ -74,7 +74,7 @@ pub record HasOneCommit (revision : ℕ) (c : RawContent) (block : List ℕ) : T
   pub commits : (chain_of block).commits ≡ (content_entries c ++ checksum ∷ []) ∷ []
 
 -- one word of the device that bytes are blank, or a question that failed
-pub record SaysBytesAreBlank {D : Type 0} (g : Ghosts D) (old new : D) : Type 0 where
+pub record SaysBlank {D : Type 0} (g : Ghosts D) (old new : D) : Type 0 where
   pub block : ℕ
   pub off : ℕ
   pub len : ℕ
@@ -82,10 +82,10 @@ pub record SaysBytesAreBlank {D : Type 0} (g : Ghosts D) (old new : D) : Type 0 
   pub word : g.history new ≡ call_event (Blank block off len) (g.blocks old) (g.blocks new) failed ∷ g.history old
 
 -- The device was asked at most whether bytes are blank.
-pub record AsksAboutBlankBytes {D : Type 0} (g : Ghosts D) (old new : D) : Type 0 where
+pub record OnlyAsksBlank {D : Type 0} (g : Ghosts D) (old new : D) : Type 0 where
   pub same : g.blocks new ≡ g.blocks old
   pub geometry : g.geometry new ≡ g.geometry old
-  pub asked : (g.history new ≡ g.history old) ⊎ SaysBytesAreBlank g old new
+  pub asked : (g.history new ≡ g.history old) ⊎ SaysBlank g old new
 
 -- one program more, and neither an erase nor a word on blank bytes
 pub record ProgramsOnce (before after : List CallEvent) : Type 0 where
@@ -109,22 +109,22 @@ abbrev pub DiffersInBlock : ℕ → (List ℕ → List ℕ → Type 0) → Block
 DiffersInBlock b P old left = SameExcept b old left × P (block_bytes old b) (block_bytes left b)
 
 -- No block changes but these, and the device is read at most so often.
-pub record ChangesOnlyBlocksWithinReadLimit {D : Type 0} (g : Ghosts D) (most : ℕ) (bs : List ℕ) (old new : D) : Type 0 where
-  pub only : ChangesOnlyTheseBlocks g bs old new
+pub record ChangesReadingFew {D : Type 0} (g : Ghosts D) (most : ℕ) (bs : List ℕ) (old new : D) : Type 0 where
+  pub only : ChangesTheseBlocks g bs old new
   pub few : read_count (g.history new) ≤ read_count (g.history old) + most
 
 -- No block is written but this one, and the device is read at most so often. The only error is `Io`, which comes with a fault of
 -- the device.
-pub record WritesOnlyThisBlock {D X : Type 0} (g : Ghosts D) (most b : ℕ) (old new : D) (result : Result X Error) : Type 0 where
-  pub device : ChangesOnlyThisBlock g b old new
+pub record WritesOneBlock {D X : Type 0} (g : Ghosts D) (most b : ℕ) (old new : D) (result : Result X Error) : Type 0 where
+  pub device : ChangesOneBlock g b old new
   pub few : read_count (g.history new) ≤ read_count (g.history old) + most
   pub errors : IfErr result (λ e. e ≡ Io)
   pub faults : ReportsFaults g old new result
 
 -- No block is written but these, and the device is read at most so often. The only error is `Io`, which comes with a fault of the
 -- device.
-pub record WritesOnlyTheseBlocks {D X : Type 0} (g : Ghosts D) (most : ℕ) (bs : List ℕ) (old new : D) (result : Result X Error) : Type 0 where
-  pub device : ChangesOnlyTheseBlocks g bs old new
+pub record WritesTheseBlocks {D X : Type 0} (g : Ghosts D) (most : ℕ) (bs : List ℕ) (old new : D) (result : Result X Error) : Type 0 where
+  pub device : ChangesTheseBlocks g bs old new
   pub few : read_count (g.history new) ≤ read_count (g.history old) + most
   pub errors : IfErr result (λ e. e ≡ Io)
   pub faults : ReportsFaults g old new result

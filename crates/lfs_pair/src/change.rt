@@ -6,7 +6,7 @@ ghost use Rattle.std.specs.Option.{option_map};
 ghost use Rattle.lfs_model.specs.format.Slots.{array_address};
 ghost use Rattle.lfs_model.specs.format.Content.{content_after_one, content_after};
 ghost use Rattle.lfs_model.specs.format.EntryTypes.{tail_to_pair as tail_with_pair};
-ghost use Rattle.lfs_model.specs.layers.WrittenContent.{log_entry_of, tail_or_null};
+ghost use Rattle.lfs_model.specs.layers.WrittenContent.{log_entry, tail_or_null};
 ghost use Rattle.lfs_model.specs.layers.Changes.{change_entries, entries_of_changes, is_storable, RemoveAttribute};
 ghost use Rattle.lfs_tag.specs.ContentView.{content_view, tail_view};
 ghost use Rattle.lfs_tag.specs.ContentGives.{GivesWithMemory};
@@ -47,7 +47,7 @@ fn apply_entry_of<'a>(
     requires kind { kind < 2 ^ 11 }
     requires id { id < 2 ^ 10 }
     requires bytes { length bytes.now ≤ 1022 }
-    ensures { GivesWithMemory (λ _. content_view content.new) result (content_after_one (content_view content.old) (log_entry_of kind id bytes.now)) }
+    ensures { GivesWithMemory (λ _. content_view content.new) result (content_after_one (content_view content.old) (log_entry kind id bytes.now)) }
 {
     let tag = Tag::new(kind, id, bytes.len() as u16);
     content.apply_next_entry(alloc, &Entry { tag, bytes })?;

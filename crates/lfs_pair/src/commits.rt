@@ -2,16 +2,16 @@
 
 ghost use Rattle.std.specs.Prelude.{◌≡◌, true, false, IfErr, OnErr, OnOk, length};
 ghost use Rattle.lfs_device.specs.DeviceDisk.{disk_of_blocks};
-ghost use Rattle.lfs_device.specs.DeviceCalls.{ReportsFaults, ReportsNoErrorButIo};
+ghost use Rattle.lfs_device.specs.DeviceCalls.{ReportsFaults, ReportsOnlyIo};
 ghost use Rattle.lfs_model.specs.session.History.{AllCallsSince, HoldsAtLosses};
 ghost use Rattle.lfs_model.specs.crash.Stops.{ErasesCleanly, LeftByLoss};
 ghost use Rattle.lfs_tag.specs.ContentView.{content_view};
 ghost use Rattle.lfs_model.specs.format.Content.{RawContent};
-ghost use Rattle.lfs_pair.specs.Pair.{IsAsHeader, header_address};
+ghost use Rattle.lfs_pair.specs.Pair.{IsTrueHeader, header_address};
 ghost use Rattle.lfs_pair.specs.ChangeView.{changes_view};
-ghost use Rattle.lfs_pair.specs.Commits.{AddressIsOnDisk, CanAppendContent, CanCommit, CanCommitBytes, CanCompact, CompactsToContent, CommitFailsKeepingHeader, IsEndBlank, LossLeavesChanged, LossLeavesNew};
+ghost use Rattle.lfs_pair.specs.Commits.{IsPairAddress, CanAppendContent, CanCommit, CanCommitBytes, CanCompact, CompactsTo, CommitFails, IsEndBlank, LossLeavesChanged, LossLeavesNew};
 ghost use Rattle.lfs_pair.specs.Endings.{AppendEnds, CommitEnds};
-ghost use Rattle.lfs_pair.specs.Writing.{AsksAboutBlankBytes, ChangesOnlyBlocksWithinReadLimit, WritesOnlyTheseBlocks};
+ghost use Rattle.lfs_pair.specs.Writing.{OnlyAsksBlank, ChangesReadingFew, WritesTheseBlocks};
 ghost use Rattle.lfs_model.specs.format.Thread.{address_blocks};
 
 use crate::change::Change;
@@ -63,8 +63,8 @@ pub fn commit<D: BlockDevice>(
     requires { CanCommit (disk_of_blocks (D.geometry dev.old) (D.blocks dev.old)) (D.history dev.old) pair.old (changes_view changes.now) }
 
     ensures ends { CommitEnds D.BlockDevice (changes_view changes.now) dev.old dev.new pair.old pair.new result }
-    ensures error { IfErr result (λ e. CommitFailsKeepingHeader D.BlockDevice dev.old dev.new pair.old pair.new e) }
-    ensures device { ChangesOnlyBlocksWithinReadLimit D.BlockDevice 2 (address_blocks (header_address pair.old)) dev.old dev.new }
+    ensures error { IfErr result (λ e. CommitFails D.BlockDevice dev.old dev.new pair.old pair.new e) }
+    ensures device { ChangesReadingFew D.BlockDevice 2 (address_blocks (header_address pair.old)) dev.old dev.new }
     ensures faults { ReportsFaults D.BlockDevice dev.old dev.new result }
     ensures stops { AllCallsSince ErasesCleanly (D.history dev.old) (D.history dev.new)
         → HoldsAtLosses LeftByLoss (D.history dev.old) (D.history dev.new) (LossLeavesChanged (disk_of_blocks (D.geometry dev.old) (D.blocks dev.old)) (header_address pair.old) (changes_view changes.now)) }
@@ -89,8 +89,8 @@ pub fn commit_bytes<'a, 'b: 'a, D: BlockDevice>(
     requires { CanCommitBytes (disk_of_blocks (D.geometry dev.old) (D.blocks dev.old)) (D.history dev.old) pair.old (changes_view changes.now) block.now }
 
     ensures ends { CommitEnds D.BlockDevice (changes_view changes.now) dev.old dev.new pair.old pair.new result }
-    ensures error { IfErr result (λ e. CommitFailsKeepingHeader D.BlockDevice dev.old dev.new pair.old pair.new e) }
-    ensures device { ChangesOnlyBlocksWithinReadLimit D.BlockDevice 1 (address_blocks (header_address pair.old)) dev.old dev.new }
+    ensures error { IfErr result (λ e. CommitFails D.BlockDevice dev.old dev.new pair.old pair.new e) }
+    ensures device { ChangesReadingFew D.BlockDevice 1 (address_blocks (header_address pair.old)) dev.old dev.new }
     ensures faults { ReportsFaults D.BlockDevice dev.old dev.new result }
     ensures stops { AllCallsSince ErasesCleanly (D.history dev.old) (D.history dev.new)
         → HoldsAtLosses LeftByLoss (D.history dev.old) (D.history dev.new) (LossLeavesChanged (disk_of_blocks (D.geometry dev.old) (D.blocks dev.old)) (header_address pair.old) (changes_view changes.now)) }
@@ -111,13 +111,13 @@ pub fn commit_bytes<'a, 'b: 'a, D: BlockDevice>(
 // Tells whether the bytes after a pair's log are unprogrammed. Where the pair was fetched and not
 // written to since then, the device is asked.
 fn is_end_blank<D: BlockDevice>(dev: &mut D, pair: &Pair) -> Result<bool, Error>
-    requires address { AddressIsOnDisk (disk_of_blocks (D.geometry dev.old) (D.blocks dev.old)) (header_address pair.now) }
-    requires pair { (held : RawContent) × IsAsHeader (disk_of_blocks (D.geometry dev.old) (D.blocks dev.old)) (D.history dev.old) pair.now held }
+    requires address { IsPairAddress (disk_of_blocks (D.geometry dev.old) (D.blocks dev.old)) (header_address pair.now) }
+    requires pair { (held : RawContent) × IsTrueHeader (disk_of_blocks (D.geometry dev.old) (D.blocks dev.old)) (D.history dev.old) pair.now held }
 
     ensures yes { result ≡ Ok true → IsEndBlank (D.geometry dev.old) (D.history dev.old) (D.history dev.new) pair.now }
     ensures no { result ≡ Ok false → (pair.now.is_fetched ≡ true) × (D.history dev.new ≡ D.history dev.old) }
-    ensures asks { AsksAboutBlankBytes D.BlockDevice dev.old dev.new }
-    ensures reports { ReportsNoErrorButIo D.BlockDevice dev.old dev.new result }
+    ensures asks { OnlyAsksBlank D.BlockDevice dev.old dev.new }
+    ensures reports { ReportsOnlyIo D.BlockDevice dev.old dev.new result }
 {
     if !pair.is_fetched {
         return Ok(true);
@@ -145,7 +145,7 @@ fn append_changes<D: BlockDevice>(
     ensures ends { AppendEnds D.BlockDevice (changes_view changes.now) (content_view content.now) dev.old dev.new pair.old pair.new result }
     ensures buf { length buf.new ≡ length buf.old }
     ensures err_pair { OnErr result (pair.new ≡ pair.old) }
-    ensures writes { WritesOnlyTheseBlocks D.BlockDevice 1 (address_blocks (header_address pair.old)) dev.old dev.new result }
+    ensures writes { WritesTheseBlocks D.BlockDevice 1 (address_blocks (header_address pair.old)) dev.old dev.new result }
     ensures stops { HoldsAtLosses LeftByLoss (D.history dev.old) (D.history dev.new) (LossLeavesNew (disk_of_blocks (D.geometry dev.old) (D.blocks dev.old)) (header_address pair.old) (content_view content.now)) }
 {
     let geometry = dev.geometry();
@@ -174,10 +174,10 @@ pub(crate) fn compact<D: BlockDevice>(
     requires { CanCompact (disk_of_blocks (D.geometry dev.old) (D.blocks dev.old)) pair.old (content_view content.now) (length buf.old) }
 
     ensures buf { length buf.new ≡ length buf.old }
-    ensures done { OnOk result (CompactsToContent (disk_of_blocks (D.geometry dev.old) (D.blocks dev.old)) (D.history dev.old) pair.old (content_view content.now)
+    ensures done { OnOk result (CompactsTo (disk_of_blocks (D.geometry dev.old) (D.blocks dev.old)) (D.history dev.old) pair.old (content_view content.now)
         (disk_of_blocks (D.geometry dev.new) (D.blocks dev.new)) (D.history dev.new) pair.new) }
     ensures err_pair { OnErr result (pair.new ≡ pair.old) }
-    ensures writes { WritesOnlyTheseBlocks D.BlockDevice 1 (address_blocks (header_address pair.old)) dev.old dev.new result }
+    ensures writes { WritesTheseBlocks D.BlockDevice 1 (address_blocks (header_address pair.old)) dev.old dev.new result }
     ensures stops { AllCallsSince ErasesCleanly (D.history dev.old) (D.history dev.new)
         → HoldsAtLosses LeftByLoss (D.history dev.old) (D.history dev.new) (LossLeavesNew (disk_of_blocks (D.geometry dev.old) (D.blocks dev.old)) (header_address pair.old) (content_view content.now)) }
 {

@@ -6,8 +6,8 @@ ghost use Rattle.lfs_device.specs.DeviceDisk.{disk_of_blocks};
 ghost use Rattle.lfs_model.specs.format.Slots.{array_address};
 ghost use Rattle.lfs_model.specs.format.Thread.{address_blocks};
 ghost use Rattle.lfs_pair.specs.ChangeView.{changes_view};
-ghost use Rattle.lfs_pair.specs.Copies.{CanCopyPair, IsPairCopied, WritesNothingAtNoMemory};
-ghost use Rattle.lfs_pair.specs.Writing.{ChangesOnlyBlocksWithinReadLimit};
+ghost use Rattle.lfs_pair.specs.Copies.{CanCopyPair, IsPairCopied, IsCopyError};
+ghost use Rattle.lfs_pair.specs.Writing.{ChangesReadingFew};
 
 use crate::change::Change;
 use crate::contents::changed_content;
@@ -41,8 +41,8 @@ pub fn copy<D: BlockDevice>(
 
     ensures copied { IfOk result (λ copy. IsPairCopied (disk_of_blocks (D.geometry dev.old) (D.blocks dev.old)) (D.history dev.old) (changes_view changes.now) pair.now
         (disk_of_blocks (D.geometry dev.new) (D.blocks dev.new)) (D.history dev.new) (array_address fresh) copy) }
-    ensures error { IfErr result (λ e. WritesNothingAtNoMemory D.BlockDevice dev.old dev.new e) }
-    ensures device { ChangesOnlyBlocksWithinReadLimit D.BlockDevice 3 (address_blocks (array_address fresh)) dev.old dev.new }
+    ensures error { IfErr result (λ e. IsCopyError D.BlockDevice dev.old dev.new e) }
+    ensures device { ChangesReadingFew D.BlockDevice 3 (address_blocks (array_address fresh)) dev.old dev.new }
     ensures faults { ReportsFaults D.BlockDevice dev.old dev.new result }
 {
     let block = read_block(alloc, dev, pair.active)?;

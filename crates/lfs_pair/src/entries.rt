@@ -4,8 +4,8 @@ ghost use Rattle.std.specs.Prelude.{◌≡◌, ◌≢◌, ◌+◌, ◌/◌, ◌<
 ghost use Rattle.std.specs.List.{list_all};
 ghost use Rattle.std.specs.Option.{option_map};
 ghost use Rattle.lfs_model.specs.format.Slots.{array_address};
-ghost use Rattle.lfs_model.specs.layers.LoggedContent.{AttributesInOrder, IsSlotWellFormed, AreWellFormed, IsWellFormed, MoveStateFits, AllowsIfSome};
-ghost use Rattle.lfs_model.specs.layers.WrittenContent.{data_entries, attribute_entries, slot_entries, entries_of_slots, tail_entries, tail_entry, move_entry, move_state_entries, content_entries, log_entry_of};
+ghost use Rattle.lfs_model.specs.layers.LoggedContent.{AttributesInOrder, IsFormedSlot, AreWellFormed, IsWellFormed, MoveStateFits, AllowsIfSome};
+ghost use Rattle.lfs_model.specs.layers.WrittenContent.{data_entries, attribute_entries, slot_entries, entries_of_slots, tail_entries, tail_entry, move_entry, move_state_entries, content_entries, log_entry};
 ghost use Rattle.lfs_model.specs.layers.Changes.{change_entries, entries_of_changes, is_storable, RemoveAttribute};
 ghost use Rattle.lfs_tag.specs.ContentView.{data_view, attribute_view, slot_view, tail_view, content_view};
 ghost use Rattle.lfs_tag.specs.FieldsView.{move_view};
@@ -25,7 +25,7 @@ fn push_log_entry(builder: &mut CommitBuilder<'_>, kind: u16, id: u16, bytes: &[
     requires other { kind / 2 ^ 8 ≢ 5 }
     requires id { id < 2 ^ 10 }
     requires bytes { length bytes.now ≤ 1022 }
-    ensures { builder.new ≡ commit_with_more (log_entry_of kind id bytes.now ∷ []) builder.old }
+    ensures { builder.new ≡ commit_with_more (log_entry kind id bytes.now ∷ []) builder.old }
 {
     builder.push(Tag::new(kind, id, bytes.len() as u16), bytes);
 }
@@ -121,7 +121,7 @@ fn push_attributes(builder: &mut CommitBuilder<'_>, id: u16, attributes: &[Attri
 // Adds a slot.
 fn push_slot(builder: &mut CommitBuilder<'_>, id: u16, slot: &Slot<'_>)
     requires id { id < 2 ^ 10 }
-    requires parts { IsSlotWellFormed (slot_view slot.now) }
+    requires parts { IsFormedSlot (slot_view slot.now) }
     ensures { builder.new ≡ commit_with_more (slot_entries id (slot_view slot.now)) builder.old }
 {
     push_data(builder, id, &slot.name, 0);

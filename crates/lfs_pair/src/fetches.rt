@@ -3,12 +3,12 @@
 ghost use Rattle.std.specs.Prelude.{◌≡◌, ◌+◌, ◌<◌, true, IfOk, IfErr};
 ghost use Rattle.lfs_model.specs.format.Blocks.{block_bytes};
 ghost use Rattle.lfs_device.specs.DeviceDisk.{disk_of_blocks};
-ghost use Rattle.lfs_device.specs.DeviceCalls.{ReadsOnly, ReportsFaults, ReportsNoErrorButIo};
+ghost use Rattle.lfs_device.specs.DeviceCalls.{ReadsOnly, ReportsFaults, ReportsOnlyIo};
 ghost use Rattle.lfs_model.specs.session.History.{read_count};
 ghost use Rattle.lfs_model.specs.format.Slots.{array_address};
 ghost use Rattle.lfs_model.specs.format.Log.{block_revision};
 ghost use Rattle.lfs_model.specs.format.Content.{RawContent};
-ghost use Rattle.lfs_pair.specs.Pair.{AreTwoBlocks, FetchFindsPair, HeaderDescribesLog, later_block_first};
+ghost use Rattle.lfs_pair.specs.Pair.{AreTwoBlocks, FetchFinds, HeaderDescribesLog, later_block_first};
 ghost use Rattle.lfs_pair.specs.Fetching.{FetchFails, FetchReads, HeaderFails, IsHeadOf, ReadsTwice};
 
 use crate::block_logs::ActiveBlockCandidate;
@@ -69,7 +69,7 @@ fn later_first<D: BlockDevice>(dev: &mut D, blocks: [u32; 2]) -> Result<[u32; 2]
     requires first { (array_address blocks).0 < (D.geometry dev.old).block_count }
     requires second { (array_address blocks).1 < (D.geometry dev.old).block_count }
     ensures later { IfOk result (λ later. array_address later ≡ later_block_first (disk_of_blocks (D.geometry dev.old) (D.blocks dev.old)) (array_address blocks)) }
-    ensures reports { ReportsNoErrorButIo D.BlockDevice dev.old dev.new result }
+    ensures reports { ReportsOnlyIo D.BlockDevice dev.old dev.new result }
     ensures device { ReadsOnly D.BlockDevice dev.old dev.new }
     ensures twice { ReadsTwice (D.history dev.old) (D.history dev.new) result }
 {
@@ -95,7 +95,7 @@ fn later_first<D: BlockDevice>(dev: &mut D, blocks: [u32; 2]) -> Result<[u32; 2]
 /// granted.
 pub fn fetch<D: BlockDevice>(alloc: Global, dev: &mut D, blocks: [u32; 2]) -> Result<Pair, Error>
     requires { AreTwoBlocks (D.geometry dev.old).block_count (array_address blocks) }
-    ensures ok { IfOk result (λ pair. FetchFindsPair (disk_of_blocks (D.geometry dev.old) (D.blocks dev.old)) (D.history dev.new) (array_address blocks) pair) }
+    ensures ok { IfOk result (λ pair. FetchFinds (disk_of_blocks (D.geometry dev.old) (D.blocks dev.old)) (D.history dev.new) (array_address blocks) pair) }
     ensures fails { FetchFails D.BlockDevice (array_address blocks) dev.old dev.new result }
     ensures device { ReadsOnly D.BlockDevice dev.old dev.new }
     ensures reads { FetchReads (disk_of_blocks (D.geometry dev.old) (D.blocks dev.old)) (array_address blocks) (D.history dev.old) (D.history dev.new) result }

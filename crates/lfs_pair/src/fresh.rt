@@ -8,9 +8,9 @@ ghost use Rattle.lfs_model.specs.format.Content.{has_commit};
 ghost use Rattle.lfs_model.specs.format.Slots.{array_address};
 ghost use Rattle.lfs_tag.specs.ContentView.{content_view};
 ghost use Rattle.lfs_pair.specs.ChangeView.{changes_view};
-ghost use Rattle.lfs_pair.specs.Commits.{PairHas};
-ghost use Rattle.lfs_pair.specs.Writing.{ChangesOnlyBlocksWithinReadLimit, WritesOnlyThisBlock, WritesOnlyTheseBlocks};
-ghost use Rattle.lfs_pair.specs.FreshPair.{CanWriteFresh, CanWriteFreshContent, ErasedOneMore, LeavesDeviceUntouchedAtNoMemory, HasFreshContent, IsFreshPair};
+ghost use Rattle.lfs_pair.specs.Commits.{HasWrittenContent};
+ghost use Rattle.lfs_pair.specs.Writing.{ChangesReadingFew, WritesOneBlock, WritesTheseBlocks};
+ghost use Rattle.lfs_pair.specs.FreshPair.{CanWriteFresh, CanWriteFreshContent, ErasedOneMore, IsWriteError, HasFreshContent, IsFreshPair};
 ghost use Rattle.lfs_model.specs.format.Thread.{address_blocks};
 
 use crate::change::Change;
@@ -35,7 +35,7 @@ fn erase_cleanly<D: BlockDevice>(dev: &mut D, block: u32, buf: &mut [u8]) -> Res
     ensures cleared { OnOk result (has_commit (block_bytes (D.blocks dev.new) block) ≡ false) }
     ensures buf { length buf.new ≡ length buf.old }
     ensures clears { OnOk result (ErasedOneMore 0 (D.history dev.old) (D.history dev.new)) }
-    ensures writes { WritesOnlyThisBlock D.BlockDevice 1 block dev.old dev.new result }
+    ensures writes { WritesOneBlock D.BlockDevice 1 block dev.old dev.new result }
 {
     let page = dev.geometry().page as usize;
     dev.erase(block)?;
@@ -56,11 +56,11 @@ pub(crate) fn write_fresh_pair<D: BlockDevice>(
 ) -> Result<Pair, Error>
     requires { CanWriteFreshContent (disk_of_blocks (D.geometry dev.old) (D.blocks dev.old)) (array_address blocks) (content_view content.now) (length buf.old) }
 
-    ensures holds { IfOk result (λ pair. PairHas (disk_of_blocks (D.geometry dev.new) (D.blocks dev.new)) (D.history dev.new) (array_address blocks) pair (content_view content.now)) }
+    ensures holds { IfOk result (λ pair. HasWrittenContent (disk_of_blocks (D.geometry dev.new) (D.blocks dev.new)) (D.history dev.new) (array_address blocks) pair (content_view content.now)) }
     ensures fresh { IfOk result (λ pair. HasFreshContent revision (content_view content.now) (disk_of_blocks (D.geometry dev.new) (D.blocks dev.new)) (array_address blocks) pair) }
     ensures buf { length buf.new ≡ length buf.old }
     ensures clears { OnOk result (ErasedOneMore 1 (D.history dev.old) (D.history dev.new)) }
-    ensures writes { WritesOnlyTheseBlocks D.BlockDevice 2 (address_blocks (array_address blocks)) dev.old dev.new result }
+    ensures writes { WritesTheseBlocks D.BlockDevice 2 (address_blocks (array_address blocks)) dev.old dev.new result }
 {
     let [first, second] = blocks;
     erase_cleanly(dev, second, buf)?;
@@ -92,8 +92,8 @@ impl Pair {
         requires { CanWriteFresh (disk_of_blocks (D.geometry dev.old) (D.blocks dev.old)) (array_address blocks) (changes_view changes.now) }
 
         ensures fresh { IfOk result (λ pair. IsFreshPair (D.history dev.old) (changes_view changes.now) (disk_of_blocks (D.geometry dev.new) (D.blocks dev.new)) (D.history dev.new) (array_address blocks) pair) }
-        ensures error { IfErr result (λ e. LeavesDeviceUntouchedAtNoMemory dev.old dev.new e) }
-        ensures device { ChangesOnlyBlocksWithinReadLimit D.BlockDevice 2 (address_blocks (array_address blocks)) dev.old dev.new }
+        ensures error { IfErr result (λ e. IsWriteError dev.old dev.new e) }
+        ensures device { ChangesReadingFew D.BlockDevice 2 (address_blocks (array_address blocks)) dev.old dev.new }
         ensures faults { ReportsFaults D.BlockDevice dev.old dev.new result }
     {
         let content = content_of_changes(alloc, changes)?;

@@ -2,14 +2,14 @@
 
 ghost use Rattle.std.specs.Prelude.{◌≡◌, ◌<◌, ◌≤◌, ◌+◌, length, IfOk, OnOk};
 ghost use Rattle.lfs_device.specs.DeviceDisk.{disk_of_blocks};
-ghost use Rattle.lfs_device.specs.DeviceCalls.{ReadsOnly, ReportsNoErrorButIo};
+ghost use Rattle.lfs_device.specs.DeviceCalls.{ReadsOnly, ReportsOnlyIo};
 ghost use Rattle.lfs_model.specs.format.Blocks.{block_bytes};
 ghost use Rattle.lfs_model.specs.session.History.{AllCallsSince, HoldsAtLosses, read_count};
-ghost use Rattle.lfs_model.specs.layers.Commit.{encoded_size, four_bytes, commit_end_aligned};
+ghost use Rattle.lfs_model.specs.layers.Commit.{encoded_size, four_bytes_at, aligned_end};
 ghost use Rattle.lfs_model.specs.crash.Stops.{ErasesCleanly, LeftByLoss};
 ghost use Rattle.lfs_model.specs.layers.WrittenContent.{content_entries};
 ghost use Rattle.lfs_tag.specs.ContentView.{content_view};
-ghost use Rattle.lfs_pair.specs.Writing.{BlockGetsCommit, CanProgramCommit, CanWriteAnew, IsWrittenAnew, EndsBeforeUnprogrammed, LossLeavesCommit, LossLeavesRewritten, DiffersInBlock, ProgramsOnce, WritesOnlyThisBlock};
+ghost use Rattle.lfs_pair.specs.Writing.{BlockGetsCommit, CanProgramCommit, CanWriteAnew, IsWrittenAnew, EndsBeforeUnprogrammed, LossLeavesCommit, LossLeavesRewritten, DiffersInBlock, ProgramsOnce, WritesOneBlock};
 
 use crate::entries::push_content;
 use lfs_device::{BlockDevice, Error};
@@ -32,9 +32,9 @@ fn read_four_bytes<D: BlockDevice>(
 ) -> Result<Option<[u8; 4]>, Error>
     requires in_device { block < (D.geometry dev.old).block_count }
     requires in_block { at ≤ (D.geometry dev.old).block_size }
-    ensures bytes { IfOk result (λ next. next ≡ four_bytes (block_bytes (D.blocks dev.old) block) at) }
+    ensures bytes { IfOk result (λ next. next ≡ four_bytes_at (block_bytes (D.blocks dev.old) block) at) }
     ensures device { ReadsOnly D.BlockDevice dev.old dev.new }
-    ensures reports { ReportsNoErrorButIo D.BlockDevice dev.old dev.new result }
+    ensures reports { ReportsOnlyIo D.BlockDevice dev.old dev.new result }
     ensures few { read_count (D.history dev.new) ≤ read_count (D.history dev.old) + 1 }
 {
     if dev.geometry().block_size - at < 4 {
@@ -56,7 +56,7 @@ pub(crate) fn program_commit_at<D: BlockDevice>(
 
     ensures adds { IfOk result (λ written. BlockGetsCommit builder.entry at written.end (block_bytes (D.blocks dev.old) block) (block_bytes (D.blocks dev.new) block)) }
     ensures written { IfOk result (λ written. EndsBeforeUnprogrammed (disk_of_blocks (D.geometry dev.new) (D.blocks dev.new)) (D.history dev.new) block written.end written.last) }
-    ensures writes { WritesOnlyThisBlock D.BlockDevice 1 block dev.old dev.new result }
+    ensures writes { WritesOneBlock D.BlockDevice 1 block dev.old dev.new result }
     ensures programs { OnOk result (ProgramsOnce (D.history dev.old) (D.history dev.new)) }
     ensures stops { HoldsAtLosses LeftByLoss (D.history dev.old) (D.history dev.new) (DiffersInBlock block (LossLeavesCommit builder.entry at) (D.blocks dev.old)) }
 {
@@ -82,10 +82,10 @@ pub(crate) fn write_block_anew<D: BlockDevice>(
 ) -> Result<WrittenCommit, Error>
     requires { CanWriteAnew (D.geometry dev.old) block (content_view content.now) (length buf.old) }
 
-    ensures size { IfOk result (λ written. written.end ≡ commit_end_aligned (D.geometry dev.old).page (4 + encoded_size (content_entries (content_view content.now)))) }
+    ensures size { IfOk result (λ written. written.end ≡ aligned_end (D.geometry dev.old).page (4 + encoded_size (content_entries (content_view content.now)))) }
     ensures written { IfOk result (λ written. EndsBeforeUnprogrammed (disk_of_blocks (D.geometry dev.new) (D.blocks dev.new)) (D.history dev.new) block written.end written.last) }
     ensures anew { OnOk result (IsWrittenAnew revision (content_view content.now) (block_bytes (D.blocks dev.new) block) (D.history dev.old) (D.history dev.new)) }
-    ensures writes { WritesOnlyThisBlock D.BlockDevice 1 block dev.old dev.new result }
+    ensures writes { WritesOneBlock D.BlockDevice 1 block dev.old dev.new result }
     ensures stops { AllCallsSince ErasesCleanly (D.history dev.old) (D.history dev.new)
         → HoldsAtLosses LeftByLoss (D.history dev.old) (D.history dev.new) (DiffersInBlock block (LossLeavesRewritten revision (content_view content.now)) (D.blocks dev.old)) }
 {

@@ -8,10 +8,10 @@ ghost use Rattle.lfs_model.specs.format.Slots.{array_address};
 ghost use Rattle.lfs_model.specs.crash.Stops.{ErasesCleanly, LeftByLoss};
 ghost use Rattle.lfs_tag.specs.ContentView.{content_view};
 ghost use Rattle.lfs_pair.specs.Pair.{header_address};
-ghost use Rattle.lfs_pair.specs.Commits.{CommitFailsKeepingHeader};
+ghost use Rattle.lfs_pair.specs.Commits.{CommitFails};
 ghost use Rattle.lfs_pair.specs.ChangeView.{changes_view};
 ghost use Rattle.lfs_pair.specs.HalfCut.{CanSplit};
-ghost use Rattle.lfs_pair.specs.Writing.{ChangesOnlyBlocksWithinReadLimit};
+ghost use Rattle.lfs_pair.specs.Writing.{ChangesReadingFew};
 ghost use Rattle.lfs_pair.specs.Split.{CanSplitBytes, CanSplitPair, SplitsPair, LossLeavesSplit, IsContentCut};
 ghost use Rattle.lfs_model.specs.format.Thread.{addresses_blocks};
 
@@ -53,8 +53,8 @@ pub fn split<D: BlockDevice>(
 
     ensures splits { IfOk result (λ fresh_pair. SplitsPair (disk_of_blocks (D.geometry dev.old) (D.blocks dev.old)) (D.history dev.old) (changes_view changes.now) pair.old (array_address fresh)
         (disk_of_blocks (D.geometry dev.new) (D.blocks dev.new)) (D.history dev.new) pair.new fresh_pair) }
-    ensures error { IfErr result (λ e. CommitFailsKeepingHeader D.BlockDevice dev.old dev.new pair.old pair.new e) }
-    ensures device { ChangesOnlyBlocksWithinReadLimit D.BlockDevice 4 (addresses_blocks (header_address pair.old) (array_address fresh)) dev.old dev.new }
+    ensures error { IfErr result (λ e. CommitFails D.BlockDevice dev.old dev.new pair.old pair.new e) }
+    ensures device { ChangesReadingFew D.BlockDevice 4 (addresses_blocks (header_address pair.old) (array_address fresh)) dev.old dev.new }
     ensures faults { ReportsFaults D.BlockDevice dev.old dev.new result }
     ensures stops { AllCallsSince ErasesCleanly (D.history dev.old) (D.history dev.new)
         → HoldsAtLosses LeftByLoss (D.history dev.old) (D.history dev.new) (LossLeavesSplit (disk_of_blocks (D.geometry dev.old) (D.blocks dev.old)) (header_address pair.old) (array_address fresh) (changes_view changes.now)) }
@@ -81,8 +81,8 @@ pub fn split_bytes<'a, 'b: 'a, D: BlockDevice>(
 
     ensures splits { IfOk result (λ fresh_pair. SplitsPair (disk_of_blocks (D.geometry dev.old) (D.blocks dev.old)) (D.history dev.old) (changes_view changes.now) pair.old (array_address fresh)
         (disk_of_blocks (D.geometry dev.new) (D.blocks dev.new)) (D.history dev.new) pair.new fresh_pair) }
-    ensures error { IfErr result (λ e. CommitFailsKeepingHeader D.BlockDevice dev.old dev.new pair.old pair.new e) }
-    ensures device { ChangesOnlyBlocksWithinReadLimit D.BlockDevice 3 (addresses_blocks (header_address pair.old) (array_address fresh)) dev.old dev.new }
+    ensures error { IfErr result (λ e. CommitFails D.BlockDevice dev.old dev.new pair.old pair.new e) }
+    ensures device { ChangesReadingFew D.BlockDevice 3 (addresses_blocks (header_address pair.old) (array_address fresh)) dev.old dev.new }
     ensures faults { ReportsFaults D.BlockDevice dev.old dev.new result }
     ensures stops { AllCallsSince ErasesCleanly (D.history dev.old) (D.history dev.new)
         → HoldsAtLosses LeftByLoss (D.history dev.old) (D.history dev.new) (LossLeavesSplit (disk_of_blocks (D.geometry dev.old) (D.blocks dev.old)) (header_address pair.old) (array_address fresh) (changes_view changes.now)) }

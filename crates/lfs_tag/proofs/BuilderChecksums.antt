@@ -1,16 +1,10 @@
 -- A commit's pages in a block.
 use Rattle.std.proofs.Common.{◌≡◌, ℕ, zero, suc, ◌+◌, ◌*◌, ◌/◌, ◌%◌, ◌^◌, ◌<◌, ◌≤◌, Bool, true, false, cond, ltb, leb, ◌||◌, ◌⊎◌, inl, inr, List, length, take, drop, get_or, bit_xor, Option, Some, None, IfSome, refl, sym, ap, ◌∙◌, arith}
 use Rattle.std.specs.Int.Bits.{xor_zero_l}
-use Rattle.std.proofs.lemmas.Bool.Decides.{nat_tests}
-use Rattle.std.proofs.lemmas.Nat.{xor_shr}
+use Rattle.lfs_tag.proofs.Common.{nat_tests, xor_shr, IsValidTag, tag_type, tag_length, abstract_type, tag_chunk, tag_data_size, tag_before_next, make_tag, LogEntry, tag_at, is_page, no_id, four_bytes_at, checksum_type, PartialCommit, checksum_start, padded_end_of}
 use Rattle.byteorder.specs.Endian.{big_number}
 use Rattle.byteorder.specs.Numbers.{big_from-take}
-use Rattle.lfs_model.specs.format.Tag.{IsValidTag, tag_type, tag_length, abstract_type, tag_chunk, tag_data_size, tag_before_next, make_tag}
-use Rattle.lfs_model.specs.format.Log.{LogEntry, tag_at, entry_at}
-use Rattle.lfs_model.specs.format.Geometry.{is_page}
-use Rattle.lfs_model.specs.format.EntryTypes.{no_id}
-use Rattle.lfs_model.specs.layers.Commit.{four_bytes, checksum_type}
-use Rattle.lfs_tag.specs.Builder.{PartialCommit, checksum_start, padded_end_of}
+use Rattle.lfs_model.specs.format.Log.{entry_at}
 use Rattle.lfs_tag.proofs.BuilderCommits.{IsChecksumKind, class_of_kind, not_forward}
 
 -- ---- the checksum's tag
@@ -89,7 +83,7 @@ carried_is kind size k small =
     let plain = not_forward (make_tag kind no_id size) (kind_of_cases kind (make_tag kind no_id size) k is) in
     rw (class, plain, bit) refl
 
-pub nothing_follows : (block : List ℕ) (end size : ℕ) (next : Option (List ℕ)) → IfSome next AreBytes → size < 2 ^ 10 → four_bytes block end ≡ next
+pub nothing_follows : (block : List ℕ) (end size : ℕ) (next : Option (List ℕ)) → IfSome next AreBytes → size < 2 ^ 10 → four_bytes_at block end ≡ next
     → entry_at block end (tag_before_next (make_tag (checksum_type next) no_id size)) ≡ None
 unfolding entry_at
 nothing_follows block end size None are small is =

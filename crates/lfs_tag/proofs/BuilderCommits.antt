@@ -1,17 +1,12 @@
 -- The bytes of a commit are that commit.
 use Rattle.std.proofs.Common.{◌≡◌, subst, ℕ, ◌+◌, ◌-◌, ◌/◌, ◌^◌, ◌<◌, ◌≤◌, true, false, eqb, leb, ◌||◌, ◌⊎◌, inl, inr, List, [], ◌∷◌, ◌++◌, length, take, drop, slice_range, bit_xor, Some, refl, sym, ap, eq-eqb, ◌∙◌, arith, add-zero, append_assoc, length-append}
-use Rattle.std.specs.Int.Bits.{xor_assoc, xor_self, xor_zero_r}
-use Rattle.std.proofs.lemmas.Bool.Decides.{nat_tests}
-use Rattle.std.proofs.lemmas.List.{drop-drop, length-drop}
-use Rattle.std.proofs.lemmas.List.Sums.{sum_by-cons}
-use Rattle.std.proofs.Math.Seq.{take-append_seam, drop-append_seam}
+use Rattle.lfs_tag.proofs.Common.{xor_assoc, xor_zero_r, nat_tests, drop-drop, length-drop, sum_by-cons, take-append_seam, drop-append_seam, IsValidTag, tag_type, tag_length, abstract_type, tag_data_size, tag_before_next, LogEntry, entry_end, is_checksum_entry, IsCommit, encoded_entries, encoded_size, carried_tag, AreStorableEntries}
+use Rattle.std.specs.Int.Bits.{xor_self}
 use Rattle.byteorder.specs.Endian.{big_number, big_bytes, little_number, little_bytes}
 use Rattle.byteorder.specs.Numbers.{big_number-reads_back, little_number-reads_back}
 use Rattle.lfs_model.specs.format.Crc.{crc_of}
-use Rattle.lfs_model.specs.format.Tag.{IsValidTag, tag_type, tag_length, abstract_type, tag_data_size, is_forward, tag_before_next}
-use Rattle.lfs_model.specs.format.Log.{LogEntry, entry_at, entry_end, is_checksum_entry, closes, IsCommit}
-use Rattle.lfs_model.specs.layers.Commit.{encoded_entries, encoded_size}
-use Rattle.lfs_tag.specs.BuilderKeeps.{last_after, AreStorableEntries}
+use Rattle.lfs_model.specs.format.Tag.{is_forward}
+use Rattle.lfs_model.specs.format.Log.{entry_at, closes}
 use Rattle.lfs_tag.proofs.Local.{from_lies}
 use Rattle.lfs_tag.proofs.BuilderEntries.{carried_other}
 
@@ -41,7 +36,7 @@ commit_cons block start at before e (f ∷ es) end last is other rest = (is, oth
 
 -- entries as they are stored, before a checksum's
 pub entries_read : (block rest : List ℕ) (start at before : ℕ) (es : List LogEntry) (ck : LogEntry) (end last : ℕ) → AreStorableEntries before es → drop at block ≡ encoded_entries before es ++ rest
-    → IsCommit block start (at + encoded_size es) (last_after before es) (ck ∷ []) end last → IsCommit block start at before (es ++ ck ∷ []) end last
+    → IsCommit block start (at + encoded_size es) (carried_tag before es) (ck ∷ []) end last → IsCommit block start at before (es ++ ck ∷ []) end last
 entries_read block rest start at before [] ck end last all here base = rw add-zero at base
 entries_read block rest start at before (e ∷ es) ck end last all here base =
     let tag = big_bytes 4 (bit_xor e.tag before) in

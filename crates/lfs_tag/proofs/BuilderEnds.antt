@@ -1,11 +1,8 @@
 -- What the buffer holds at the end is the commit's pages.
 use Rattle.std.proofs.Common.{◌≡◌, ℕ, ◌+◌, ◌-◌, ◌≤◌, ◌<◌, ◌^◌, List, ◌++◌, length, take, bit_xor, Option, IfSome, refl, ap, ◌∙◌, arith, replicate}
-use Rattle.std.proofs.lemmas.List.{length-replicate}
+use Rattle.lfs_tag.proofs.Common.{length-replicate, overwritten_at, PartialCommit, checksum_start, padded_end_of, checksum_tag, checksummed_bytes, BuildsCommit}
 use Rattle.byteorder.specs.Endian.{big_bytes, little_bytes}
 use Rattle.lfs_model.specs.format.Crc.{crc_of}
-use Rattle.lfs_model.specs.format.Blocks.{overwritten_at}
-use Rattle.lfs_tag.specs.Builder.{PartialCommit, checksum_start, padded_end_of, checksum_tag}
-use Rattle.lfs_tag.specs.BuilderKeeps.{bytes_to_checksum, BuildsCommit}
 use Rattle.lfs_tag.proofs.BuilderWrites.{take-overwritten}
 use Rattle.lfs_tag.proofs.BuilderChecksums.{AreBytes, padded}
 use Rattle.lfs_tag.proofs.BuilderPages.{ArePages}
@@ -31,7 +28,7 @@ module _ (page len last stored end tag : ℕ) (buf now : List ℕ) (b : PartialC
   exact : len ≡ checksum_start b
   exact = let p = padded b s.kept.power in omega (arith, s.kept.len_is, s.end_is, s.within, s.room, p.low)
 
-  pages_are : take end now ≡ bytes_to_checksum b ++ (big_bytes 4 (bit_xor tag last) ++ (little_bytes 4 sum ++ pad))
+  pages_are : take end now ≡ checksummed_bytes b ++ (big_bytes 4 (bit_xor tag last) ++ (little_bytes 4 sum ++ pad))
   pages_are =
       let p = padded b s.kept.power in
       let filled = big_bytes 4 stored ++ (little_bytes 4 sum ++ replicate (end - (len + 8)) 255) in

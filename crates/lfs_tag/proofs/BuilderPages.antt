@@ -1,37 +1,30 @@
 -- A commit's pages, put into a block.
 use Rattle.std.proofs.Common.{◌≡◌, ℕ, ◌+◌, ◌-◌, ◌^◌, ◌<◌, ◌≤◌, true, false, ltb, List, [], ◌∷◌, ◌++◌, length, take, drop, bit_xor, Option, Some, None, IfSome, unwrap_or, refl, sym, ap, subst, ◌∙◌, arith, append_assoc, length-append, replicate}
-use Rattle.std.proofs.lemmas.Bool.{le-ltb}
-use Rattle.std.proofs.lemmas.List.{drop-drop, length-take-le, take-append-drop, length-replicate}
-use Rattle.std.proofs.Math.Seq.{drop-append_seam}
+use Rattle.lfs_tag.proofs.Common.{le-ltb, drop-drop, length-take-le, length-replicate, drop-append_seam, tag_before_next, tag_length, LogEntry, with_commit, IsCommit, commit_at, block_entries, is_page, overwritten_at, encoded_entries, encoded_size, four_bytes_at, checksum_type, PartialCommit, entries_start, checksum_start, padded_end_of, checksum_tag, carried_tag, revision_bytes, checksummed_bytes, AreStorableEntries, commit_none, commit_complete, chain_on, chain_none}
+use Rattle.std.proofs.lemmas.List.{take-append-drop}
 use Rattle.byteorder.specs.Endian.{big_bytes, little_number, little_bytes}
 use Rattle.byteorder.specs.Numbers.{little_from-take, little_from-append, little_number-reads_back}
 use Rattle.lfs_model.specs.format.Crc.{crc_of}
-use Rattle.lfs_model.specs.format.Tag.{tag_before_next, tag_length}
-use Rattle.lfs_model.specs.format.Log.{LogEntry, with_commit, IsCommit, commit_at, chain_of, block_revision, block_entries}
-use Rattle.lfs_model.specs.format.Geometry.{is_page}
-use Rattle.lfs_model.specs.format.Blocks.{overwritten_at}
-use Rattle.lfs_model.specs.layers.Commit.{encoded_entries, encoded_size, four_bytes, checksum_type}
-use Rattle.lfs_tag.specs.Builder.{PartialCommit, entries_start, checksum_start, padded_end_of, checksum_tag, checksum_entry, IsCommitOffset, earlier_commits, AreCommitPages}
-use Rattle.lfs_tag.specs.BuilderKeeps.{last_after, revision_bytes, bytes_to_checksum, AreStorableEntries}
-use Rattle.lfs_model.proofs.Chains.{commit_none, commit_complete, chain_on, chain_none}
+use Rattle.lfs_model.specs.format.Log.{chain_of, block_revision}
+use Rattle.lfs_tag.specs.Builder.{checksum_entry, IsCommitOffset, earlier_commits, AreCommitPages}
 use Rattle.lfs_tag.proofs.Local.{appended, next_start}
 use Rattle.lfs_tag.proofs.Runs.{all_run, run_space}
 use Rattle.lfs_tag.proofs.BuilderWrites.{drop-overwritten, length-overwritten}
-use Rattle.lfs_tag.proofs.BuilderEntries.{length-bytes_to_checksum}
+use Rattle.lfs_tag.proofs.BuilderEntries.{length-checksummed_bytes}
 use Rattle.lfs_tag.proofs.BuilderCommits.{class_of_kind, closing, entries_read}
 use Rattle.lfs_tag.proofs.BuilderChecksums.{AreBytes, padded, kind_cases, kind_is, kind_of_cases, valid_is, len_is, nothing_follows}
 
 -- what the pages of a commit are
 pub record ArePages (b : PartialCommit) (next : Option (List ℕ)) (pages : List ℕ) (last sum : ℕ) : Type 0 where
   pub power : is_page b.page ≡ true
-  pub last_is : last ≡ last_after b.previous b.entries
+  pub last_is : last ≡ carried_tag b.previous b.entries
   pub revision : IfSome b.revision (λ r. r < 2 ^ 32)
   pub entries : AreStorableEntries b.previous b.entries
   pub bytes : IfSome next AreBytes
   pub fits : bit_xor (checksum_tag b next) last < 2 ^ 32
   pub small : sum < 2 ^ 32
-  pub sum_is : sum ≡ crc_of 0xffffffff (bytes_to_checksum b ++ big_bytes 4 (bit_xor (checksum_tag b next) last))
-  pub pages_are : pages ≡ bytes_to_checksum b ++ (big_bytes 4 (bit_xor (checksum_tag b next) last) ++ (little_bytes 4 sum ++ replicate (padded_end_of b - (checksum_start b + 8)) 255))
+  pub sum_is : sum ≡ crc_of 0xffffffff (checksummed_bytes b ++ big_bytes 4 (bit_xor (checksum_tag b next) last))
+  pub pages_are : pages ≡ checksummed_bytes b ++ (big_bytes 4 (bit_xor (checksum_tag b next) last) ++ (little_bytes 4 sum ++ replicate (padded_end_of b - (checksum_start b + 8)) 255))
 
 length-revision : (r : Option ℕ) → length (revision_bytes r) ≡ entries_start r
 length-revision None = refl
@@ -66,24 +59,24 @@ module _ (b : PartialCommit) (next : Option (List ℕ)) (pages : List ℕ) (last
   length-pages =
       let p = padded b h.power in
       let eight : length (tag_bytes ++ (little_bytes 4 sum ++ pad)) ≡ 8 + length pad = omega arith in
-      let all : length pages ≡ length (bytes_to_checksum b) + length (tag_bytes ++ (little_bytes 4 sum ++ pad)) = ap length h.pages_are ∙ length-append (bytes_to_checksum b) (tag_bytes ++ (little_bytes 4 sum ++ pad)) in
-      omega (arith, p.low, length-bytes_to_checksum b, all, eight, pad_len)
+      let all : length pages ≡ length (checksummed_bytes b) + length (tag_bytes ++ (little_bytes 4 sum ++ pad)) = ap length h.pages_are ∙ length-append (checksummed_bytes b) (tag_bytes ++ (little_bytes 4 sum ++ pad)) in
+      omega (arith, p.low, length-checksummed_bytes b, all, eight, pad_len)
 
   -- the entry that the words name
   named : ck ≡ checksum_entry b next pages
   named =
-      let from : checksum_start b + 4 ≡ length (bytes_to_checksum b ++ tag_bytes) = omega (arith, length-bytes_to_checksum b, length-append (bytes_to_checksum b) tag_bytes) in
+      let from : checksum_start b + 4 ≡ length (checksummed_bytes b ++ tag_bytes) = omega (arith, length-checksummed_bytes b, length-append (checksummed_bytes b) tag_bytes) in
       let rest : drop (checksum_start b + 4) pages ≡ little_bytes 4 sum ++ pad =
-      ap (drop (checksum_start b + 4)) (h.pages_are ∙ sym (append_assoc (bytes_to_checksum b) tag_bytes (little_bytes 4 sum ++ pad)))
-      ∙ ap (λ (n : ℕ). drop n ((bytes_to_checksum b ++ tag_bytes) ++ (little_bytes 4 sum ++ pad))) from ∙ drop-append_seam (bytes_to_checksum b ++ tag_bytes) (little_bytes 4 sum ++ pad) in
+      ap (drop (checksum_start b + 4)) (h.pages_are ∙ sym (append_assoc (checksummed_bytes b) tag_bytes (little_bytes 4 sum ++ pad)))
+      ∙ ap (λ (n : ℕ). drop n ((checksummed_bytes b ++ tag_bytes) ++ (little_bytes 4 sum ++ pad))) from ∙ drop-append_seam (checksummed_bytes b ++ tag_bytes) (little_bytes 4 sum ++ pad) in
       rw rest refl
 
   -- what is after the checksum
   padding_is : drop (checksum_start b + 8) pages ≡ pad
   padding_is =
-      let front = bytes_to_checksum b ++ (tag_bytes ++ little_bytes 4 sum) in
-      let joined : pages ≡ front ++ pad = h.pages_are ∙ sym (append_assoc (bytes_to_checksum b) (tag_bytes ++ little_bytes 4 sum) pad) in
-      let at : checksum_start b + 8 ≡ length front = omega (arith, length-bytes_to_checksum b, length-append (bytes_to_checksum b) (tag_bytes ++ little_bytes 4 sum)) in
+      let front = checksummed_bytes b ++ (tag_bytes ++ little_bytes 4 sum) in
+      let joined : pages ≡ front ++ pad = h.pages_are ∙ sym (append_assoc (checksummed_bytes b) (tag_bytes ++ little_bytes 4 sum) pad) in
+      let at : checksum_start b + 8 ≡ length front = omega (arith, length-checksummed_bytes b, length-append (checksummed_bytes b) (tag_bytes ++ little_bytes 4 sum)) in
       ap (drop (checksum_start b + 8)) joined ∙ ap (λ (n : ℕ). drop n (front ++ pad)) at ∙ drop-append_seam front pad
 
   commit_here : (new rest : List ℕ) (start : ℕ) → drop start new ≡ pages ++ rest → IsCommit new start (start + entries_start b.revision) b.previous (b.entries ++ ck ∷ []) (start + length pages) (tag_before_next tag)
@@ -94,20 +87,20 @@ module _ (b : PartialCommit) (next : Option (List ℕ)) (pages : List ℕ) (last
       let p = padded b h.power in
       let first = start + entries_start b.revision in
       let at = first + encoded_size b.entries in
-      let whole : drop start new ≡ bytes_to_checksum b ++ (tag_bytes ++ (filled ++ rest)) =
-      here ∙ ap (λ (l : List ℕ). l ++ rest) h.pages_are ∙ append_assoc (bytes_to_checksum b) (tag_bytes ++ filled) rest ∙ ap (λ (l : List ℕ). bytes_to_checksum b ++ l) (append_assoc tag_bytes filled rest) in
+      let whole : drop start new ≡ checksummed_bytes b ++ (tag_bytes ++ (filled ++ rest)) =
+      here ∙ ap (λ (l : List ℕ). l ++ rest) h.pages_are ∙ append_assoc (checksummed_bytes b) (tag_bytes ++ filled) rest ∙ ap (λ (l : List ℕ). checksummed_bytes b ++ l) (append_assoc tag_bytes filled rest) in
       let behind : drop first new ≡ es ++ (tag_bytes ++ (filled ++ rest)) =
       ap (λ (n : ℕ). drop (start + n) new) (sym (length-revision b.revision)) ∙ sym (drop-drop (length head) start new)
       ∙ ap (drop (length head)) (whole ∙ append_assoc head es (tag_bytes ++ (filled ++ rest))) ∙ drop-append_seam head (es ++ (tag_bytes ++ (filled ++ rest))) in
       let kind = kind_of_cases (checksum_type next) tag (kind_cases next) (kind_is (checksum_type next) size (kind_cases next) size_small) in
-      let closed = closing new (bytes_to_checksum b) rest pad start at tag last sum kind (valid_is (checksum_type next) size (kind_cases next) size_small) h.fits h.small
-      (omega (arith, tag_len, pad_len, p.low)) (omega (arith, tag_len, p.low, p.high)) (omega (arith, length-bytes_to_checksum b)) h.sum_is whole in
+      let closed = closing new (checksummed_bytes b) rest pad start at tag last sum kind (valid_is (checksum_type next) size (kind_cases next) size_small) h.fits h.small
+      (omega (arith, tag_len, pad_len, p.low)) (omega (arith, tag_len, p.low, p.high)) (omega (arith, length-checksummed_bytes b)) h.sum_is whole in
       let end : at + 4 + tag_length tag ≡ start + length pages = omega (arith, tag_len, p.low, length-pages) in
-      let base : IsCommit new start at (last_after b.previous b.entries) (ck ∷ []) (start + length pages) (tag_before_next tag) =
+      let base : IsCommit new start at (carried_tag b.previous b.entries) (ck ∷ []) (start + length pages) (tag_before_next tag) =
       subst (λ (n : ℕ). IsCommit new start at n (ck ∷ []) (start + length pages) (tag_before_next tag)) h.last_is (subst (λ (n : ℕ). IsCommit new start at last (ck ∷ []) n (tag_before_next tag)) end closed) in
       entries_read new (tag_bytes ++ (filled ++ rest)) start first b.previous b.entries ck (start + length pages) (tag_before_next tag) h.entries behind base
 
-  none_here : (new : List ℕ) (end : ℕ) → four_bytes new end ≡ next → commit_at new end end (tag_before_next tag) ≡ None
+  none_here : (new : List ℕ) (end : ℕ) → four_bytes_at new end ≡ next → commit_at new end end (tag_before_next tag) ≡ None
   none_here new end is = commit_none new end end (tag_before_next tag) (nothing_follows new end size next h.bytes size_small is)
 
 -- ---- in a block
@@ -157,12 +150,12 @@ module _ (b : PartialCommit) (next : Option (List ℕ)) (pages : List ℕ) (last
   here =
       ap (drop at) joined ∙ ap (λ (n : ℕ). drop n (take at block ++ (pages ++ rest))) (sym long) ∙ drop-append_seam (take at block) (pages ++ rest)
 
-  same_next : four_bytes new (at + length pages) ≡ four_bytes block (at + length pages)
+  same_next : four_bytes_at new (at + length pages) ≡ four_bytes_at block (at + length pages)
   same_next =
       let behind : drop (at + length pages) new ≡ rest = drop-overwritten at (at + length pages) 0 block pages (omega arith) (omega arith) in
       rw (same_len, behind) refl
 
-  log_of : (r : Option ℕ) → entries_start b.revision ≡ entries_start r → IsCommitOffset r b.previous block at → four_bytes block (at + length pages) ≡ next
+  log_of : (r : Option ℕ) → entries_start b.revision ≡ entries_start r → IsCommitOffset r b.previous block at → four_bytes_at block (at + length pages) ≡ next
       → chain_of new ≡ record { commits = earlier_commits r block ++ (b.entries ++ ck b next pages last sum h ∷ []) ∷ []; end = at + length pages; last = tag_before_next (checksum_tag b next) }
   log_of None starts goes nexts =
       let es = b.entries ++ ck b next pages last sum h ∷ [] in

@@ -1,9 +1,8 @@
 -- Writes to parts of a buffer.
 use Rattle.std.proofs.Common.{◌≡◌, ℕ, ◌+◌, ◌-◌, ◌≤◌, List, [], ◌++◌, length, take, drop, sym, ap, ◌∙◌, arith, append_assoc, length-append}
-use Rattle.std.proofs.lemmas.List.{take_all, drop-drop, length-drop, length-take-le, append-nil}
+use Rattle.lfs_tag.proofs.Common.{take_all, drop-drop, length-drop, length-take-le, append-nil, take-append_seam, overwritten_at}
 use Rattle.std.proofs.Math.ListN.{drop_of_length-le}
-use Rattle.std.proofs.Math.Seq.{take-append_seam, drop-append-add}
-use Rattle.lfs_model.specs.format.Blocks.{overwritten_at}
+use Rattle.std.proofs.Math.Seq.{drop-append-add}
 use borrow.Rule.Slice.PartMut.{put_mid}
 
 -- a write of a whole part

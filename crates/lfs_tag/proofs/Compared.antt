@@ -1,10 +1,10 @@
 -- The order that has the longer names first, by the bytes that two names share.
 use Rattle.std.proofs.Common.{ℕ, zero, suc, ◌≡◌, ◌<◌, ◌≤◌, ◌⊎◌, inl, inr, [], ◌∷◌, length, take, refl, ap, ◌∙◌, nat_cmp, Ordering, Less, Equal, Greater, arith}
-use Rattle.std.specs.Ordering.{ordering_then, MatchOrdering}
+use Rattle.lfs_tag.proofs.Common.{ordering_then, slice_cmp, Name}
+use Rattle.std.specs.Ordering.{MatchOrdering}
 use Rattle.std.specs.Cmp.{nat_cmp_is}
-use Rattle.std.specs.Cmp.Lexicographic.{slice_cmp}
 use Rattle.std.proofs.lemmas.Cmp.{ranked}
-use Rattle.lfs_model.specs.format.Names.{Name, cmp_longer_first}
+use Rattle.lfs_model.specs.format.Names.{cmp_longer_first}
 
 both_more : (p q : ℕ) → nat_cmp p q ≡ nat_cmp (suc p) (suc q)
 both_more p q = nat_cmp_is (suc p) (suc q) (nat_cmp p q) (go (nat_cmp p q) (ranked p q (nat_cmp p q) refl))

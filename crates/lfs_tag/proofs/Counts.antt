@@ -1,17 +1,12 @@
 -- How many slots a log has, by its entries.
 use Rattle.std.proofs.Common.{◌≡◌, ℕ, ◌+◌, ◌-◌, true, false, eqb, leb, ltb, max, List, [], ◌∷◌, length, replicate, sym, ap, ◌∙◌, Some, arith, length-append}
-use Rattle.std.proofs.lemmas.Bool.Decides.{nat_tests}
-use Rattle.std.proofs.lemmas.Option.{option_and_then_some, same_Some}
-use Rattle.std.proofs.lemmas.List.{length-set, length-replicate}
+use Rattle.lfs_tag.proofs.Common.{nat_tests, option_and_then_some, same_Some, length-replicate, tag_type, tag_id, abstract_type, LogEntry, create_tag_type, RawSlot, RawContent, empty_slot, padded_slots, content_after_one, content_after, empty_raw_content, count_after}
+use Rattle.std.proofs.lemmas.List.{length-set}
 use Rattle.std.proofs.lemmas.List.Edits.{length-insert, length-remove}
-use Rattle.lfs_model.specs.format.Tag.{tag_type, tag_id, abstract_type}
-use Rattle.lfs_model.specs.format.Log.{LogEntry}
-use Rattle.lfs_model.specs.format.EntryTypes.{create_tag_type}
-use Rattle.lfs_model.specs.format.Content.{RawSlot, RawContent, empty_slot, slots_padded_to, content_after_one, content_after, empty_raw_content}
-use Rattle.lfs_tag.specs.SlotCount.{slot_count_after_entry, slot_count_after}
+use Rattle.lfs_tag.specs.SlotCount.{slot_count_after_entry}
 use Rattle.lfs_tag.proofs.Effects.{Effect, rests, names, creates, deletes, structures, attributes, effect}
 
-padded_count : (s : List RawSlot) (id : ℕ) → length (slots_padded_to s id) ≡ max (length s) (id + 1)
+padded_count : (s : List RawSlot) (id : ℕ) → length (padded_slots s id) ≡ max (length s) (id + 1)
 padded_count s id = length-append s (replicate (id + 1 - length s) empty_slot) ∙ omega (arith, length-replicate (id + 1 - length s) empty_slot)
 
 count_step : (s t : List RawSlot) (e : LogEntry) → Effect s t e → slot_count_after_entry (length s) e ≡ length t
@@ -21,7 +16,7 @@ count_step s t e (rests high same) =
     rw (a, b) (ap length (sym same))
 count_step s t e (names class keeps is) =
     let a : eqb (abstract_type e.tag) 0 ≡ true = grind (arith, nat_tests) in
-    rw (a, is) (sym (length-set (slots_padded_to s (tag_id e.tag)) (tag_id e.tag) _ ∙ padded_count s (tag_id e.tag)))
+    rw (a, is) (sym (length-set (padded_slots s (tag_id e.tag)) (tag_id e.tag) _ ∙ padded_count s (tag_id e.tag)))
 count_step s t e (creates class create le is) =
     let a : eqb (abstract_type e.tag) 0 ≡ false = grind (arith, nat_tests) in
     let b : eqb (abstract_type e.tag) 4 ≡ true = grind (arith, nat_tests) in
@@ -43,11 +38,11 @@ count_step s t e (attributes class lt is) =
     let b : eqb (abstract_type e.tag) 4 ≡ false = grind (arith, nat_tests) in
     rw (a, b, is) (sym (length-set s (tag_id e.tag) _))
 
-counts_after_content : (es : List LogEntry) (s t : RawContent) → content_after s es ≡ Some t → slot_count_after (length s.slots) es ≡ length t.slots
+counts_after_content : (es : List LogEntry) (s t : RawContent) → content_after s es ≡ Some t → count_after (length s.slots) es ≡ length t.slots
 counts_after_content [] s t h = ap (λ (x : RawContent). length x.slots) (same_Some _ _ h)
 counts_after_content (e ∷ es) s t h =
     option_and_then_some (λ u. content_after u es) (content_after_one s e) t h (λ u is rest.
-    ap (λ n. slot_count_after n es) (count_step s.slots u.slots e (effect s u e is)) ∙ counts_after_content es u t rest)
+    ap (λ n. count_after n es) (count_step s.slots u.slots e (effect s u e is)) ∙ counts_after_content es u t rest)
 
-pub counted : (es : List LogEntry) (t : RawContent) → content_after empty_raw_content es ≡ Some t → slot_count_after 0 es ≡ length t.slots
+pub counted : (es : List LogEntry) (t : RawContent) → content_after empty_raw_content es ≡ Some t → count_after 0 es ≡ length t.slots
 counted es t h = counts_after_content es empty_raw_content t h

@@ -1,19 +1,13 @@
 -- What one entry does to the slots, by its kind.
 use Rattle.std.proofs.Common.{◌≡◌, ◌≢◌, ℕ, ◌<◌, ◌≤◌, Bool, true, false, ◌&&◌, not, cond, eqb, ltb, leb, is_some, List, length, insert, remove, Option, Some, None, refl, sym, ap, ◌∙◌, arith, inl, inr, ◌⊎◌}
-use Rattle.std.specs.Option.{option_map}
-use Rattle.std.proofs.lemmas.Bool.{cases_lt, eqb-true, ltb-true, leb-true}
-use Rattle.std.proofs.lemmas.Bool.Decides.{nat_tests}
-use Rattle.std.proofs.lemmas.Option.{cond_some, same_Some}
-use Rattle.std.proofs.lemmas.List.{get_or_past}
-use Rattle.lfs_model.specs.format.Tag.{tag_type, tag_id, abstract_type}
-use Rattle.lfs_model.specs.format.Log.{LogEntry}
-use Rattle.lfs_model.specs.format.Content.{RawSlot, RawContent, empty_slot, slot_of_id, changed_at, slots_padded_to, type_and_bytes, attributes_after, slots_after, content_after_one}
-use Rattle.lfs_model.specs.format.EntryTypes.{is_known_tag, has_needed_id, is_attribute_removal, create_tag_type, delete_tag_type}
+use Rattle.lfs_tag.proofs.Common.{option_map, cases_lt, eqb-true, nat_tests, same_Some, get_or_past, tag_type, tag_id, abstract_type, LogEntry, RawSlot, RawContent, empty_slot, slot_of_id, changed_at, padded_slots, type_and_bytes, attributes_after, slots_after, content_after_one, is_known_tag, has_needed_id, is_attribute_removal, create_tag_type, delete_tag_type}
+use Rattle.std.proofs.lemmas.Bool.{ltb-true, leb-true}
+use Rattle.std.proofs.lemmas.Option.{cond_some}
 
 -- the slots before an entry and after it
 pub data Effect (s t : List RawSlot) (e : LogEntry) : Type 0 where
   rests : 5 ≤ abstract_type e.tag → t ≡ s → Effect s t e
-  names : abstract_type e.tag ≡ 0 → is_attribute_removal e.tag ≡ false → t ≡ changed_at (λ r. record r { name = type_and_bytes e }) (slots_padded_to s (tag_id e.tag)) (tag_id e.tag) → Effect s t e
+  names : abstract_type e.tag ≡ 0 → is_attribute_removal e.tag ≡ false → t ≡ changed_at (λ r. record r { name = type_and_bytes e }) (padded_slots s (tag_id e.tag)) (tag_id e.tag) → Effect s t e
   creates : abstract_type e.tag ≡ 4 → tag_type e.tag ≡ create_tag_type → tag_id e.tag ≤ length s → t ≡ insert s (tag_id e.tag) empty_slot → Effect s t e
   deletes : abstract_type e.tag ≡ 4 → tag_type e.tag ≢ create_tag_type → tag_id e.tag < length s → t ≡ remove s (tag_id e.tag) → Effect s t e
   structures : abstract_type e.tag ≡ 2 → is_attribute_removal e.tag ≡ false → tag_id e.tag < length s → t ≡ changed_at (λ r. record r { struct = type_and_bytes e }) s (tag_id e.tag) → Effect s t e

@@ -1,11 +1,7 @@
 -- What an attribute's type holds, and which slot is which, after one entry.
 use Rattle.std.proofs.Common.{◌≡◌, ◌≢◌, ℕ, zero, suc, ◌+◌, ◌-◌, ◌<◌, Bool, true, false, not, cond, eqb, ltb, List, [], ◌∷◌, find, length, replicate, Some, None, refl, sym, ap, ◌∙◌, arith, inl, inr, get_or-set_same, get_or-set_other}
-use Rattle.std.specs.Option.{option_map}
-use Rattle.std.proofs.lemmas.Bool.{cases_lt, cases_order}
-use Rattle.std.proofs.lemmas.Bool.Decides.{nat_tests}
-use Rattle.std.proofs.lemmas.List.{get_or_append_left, get_or-append_right, get_or_past, length-append, length-replicate}
-use Rattle.lfs_model.specs.format.Slots.{Attributes}
-use Rattle.lfs_model.specs.format.Content.{RawSlot, empty_slot, slot_of_id, changed_at, slots_padded_to, attributes_with, attributes_without, attribute_bytes}
+use Rattle.lfs_tag.proofs.Common.{option_map, cases_lt, cases_order, nat_tests, get_or_past, length-append, length-replicate, Attributes, RawSlot, empty_slot, slot_of_id, changed_at, padded_slots, attributes_with, attributes_without, attribute_bytes}
+use Rattle.std.proofs.lemmas.List.{get_or_append_left, get_or-append_right}
 
 -- ---- attributes
 
@@ -73,7 +69,7 @@ attribute-without_other type other (a ∷ xs) ne = elim (eqb a.0 other) as (λ b
 
 -- ---- slots
 
-pub slot-up_to : (slots : List RawSlot) (j i : ℕ) → slot_of_id (slots_padded_to slots j) i ≡ slot_of_id slots i
+pub slot-up_to : (slots : List RawSlot) (j i : ℕ) → slot_of_id (padded_slots slots j) i ≡ slot_of_id slots i
 slot-up_to slots j i =
     elim (cases_lt i (length slots)) [
       | inl lt ↦ get_or_append_left slots (replicate (j + 1 - length slots) empty_slot) empty_slot i lt
@@ -85,7 +81,7 @@ slot-up_to slots j i =
     empties (suc n) zero = refl
     empties (suc n) (suc k) = empties n k
 
-pub length-up_to : (slots : List RawSlot) (j : ℕ) → length (slots_padded_to slots j) ≡ length slots + (j + 1 - length slots)
+pub length-up_to : (slots : List RawSlot) (j : ℕ) → length (padded_slots slots j) ≡ length slots + (j + 1 - length slots)
 length-up_to slots j = length-append slots (replicate (j + 1 - length slots) empty_slot) ∙ ap (λ (n : ℕ). length slots + n) (length-replicate (j + 1 - length slots) empty_slot)
 
 pub slot-changed_same : (f : RawSlot → RawSlot) (slots : List RawSlot) (j : ℕ) → j < length slots → slot_of_id (changed_at f slots j) j ≡ f (slot_of_id slots j)

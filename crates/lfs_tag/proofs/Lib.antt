@@ -16,3 +16,4 @@ pub mod BuilderCommits
 pub mod BuilderChecksums
 pub mod BuilderPages
 pub mod BuilderEnds
+pub mod Common

@@ -1,14 +1,11 @@
 -- What lies in the front of a block stays when the rest changes.
 use Rattle.std.proofs.Common.{◌≡◌, ℕ, ◌+◌, ◌-◌, ◌^◌, ◌<◌, ◌≤◌, Bool, true, false, cond, ltb, leb, List, [], ◌∷◌, ◌++◌, length, take, drop, bit_xor, ◌||◌, ◌/◌, Option, Some, None, refl, sym, ap, subst, ◌∙◌, arith, length-append}
-use Rattle.std.proofs.lemmas.Bool.{le-ltb}
-use Rattle.std.proofs.lemmas.Bool.Decides.{nat_tests}
-use Rattle.std.proofs.lemmas.Nat.{xor_shr}
-use Rattle.std.proofs.lemmas.List.{drop-append-le, take-append-le, length-drop}
+use Rattle.lfs_tag.proofs.Common.{le-ltb, nat_tests, xor_shr, length-drop, tag_data_size, LogEntry, with_commit, tag_at, entry_end, IsCommit, AreAdjacent, commit_at, longest_sequence, lies, commit_none, commit_space, commit_complete, chain_on, chain_none, chain_sound}
+use Rattle.std.proofs.lemmas.List.{drop-append-le, take-append-le}
 use Rattle.byteorder.specs.Endian.{big_number}
 use Rattle.byteorder.specs.Numbers.{big_from-append}
-use Rattle.lfs_model.specs.format.Tag.{tag_data_size}
-use Rattle.lfs_model.specs.format.Log.{LogEntry, with_commit, tag_at, entry_at, entry_end, closes, IsCommit, AreAdjacent, commit_at, longest_sequence, chain_of}
-use Rattle.lfs_model.proofs.Chains.{Lies, lies, commit_none, commit_space, commit_complete, chain_on, chain_none, chain_sound}
+use Rattle.lfs_model.specs.format.Log.{entry_at, closes, chain_of}
+use Rattle.lfs_model.proofs.Chains.{Lies}
 
 pub from_lies : (block : List ℕ) (at before : ℕ) (e : LogEntry) → Lies block at before e → entry_at block at before ≡ Some e
 unfolding entry_at

@@ -1,14 +1,10 @@
 -- Attributes by type, and slots in a list.
 use Rattle.std.proofs.Common.{◌≡◌, ℕ, suc, ◌+◌, ◌<◌, ◌≤◌, Bool, true, false, not, filter, cond, eqb, leb, ltb, List, [], ◌∷◌, ◌++◌, length, map, take, drop, replicate, set, get_or, remove, insert, refl, sym, ap, ◌∙◌, arith, append_assoc, inl, inr}
 use Rattle.std.specs.List.{take-map, drop-map}
-use Rattle.std.proofs.lemmas.Bool.{cases_order}
-use Rattle.std.proofs.lemmas.Bool.Decides.{nat_tests}
-use Rattle.std.proofs.lemmas.List.{map-append, map-set, get_or-map, replicate-append-replicate}
-use Rattle.lfs_model.specs.format.Slots.{Attributes}
-use Rattle.lfs_model.specs.format.Content.{RawSlot, empty_slot, attributes_with, attributes_without, changed_at}
+use Rattle.lfs_tag.proofs.Common.{cases_order, nat_tests, map-append, map-set, get_or-map, Attributes, RawSlot, empty_slot, attributes_with, attributes_without, changed_at, slot_view, attribute_view, index_for_attribute}
+use Rattle.std.proofs.lemmas.List.{replicate-append-replicate}
 use Rattle.lfs_tag.specs.declared.content.Slot.{Slot}
 use Rattle.lfs_tag.specs.declared.content.Attribute.{Attribute}
-use Rattle.lfs_tag.specs.ContentView.{slot_view, attribute_view, index_for_attribute}
 
 pub map-remove : {X Y : Type 0} (f : X → Y) (xs : List X) (i : ℕ) → map f (remove xs i) ≡ remove (map f xs) i
 map-remove f xs i = map-append f (take i xs) (drop (suc i) xs) ∙ rw (take-map f i xs, drop-map f (suc i) xs) refl

@@ -1,25 +1,18 @@
 -- The ranks after a log's entries are those of its slots, and the first wanted one is the answer.
 use Rattle.std.proofs.Common.{◌≡◌, ℕ, zero, suc, ◌+◌, ◌-◌, ◌<◌, ◌≤◌, ◌^◌, Bool, true, false, ◌&&◌, not, cond, eqb, ltb, leb, List, [], ◌∷◌, ◌++◌, length, map, drop, replicate, set, get_or, drop-cons, Option, Some, None, refl, sym, ap, subst, ◌∙◌, arith, inl, inr}
-use Rattle.std.specs.Option.{option_and_then, option_map_or}
+use Rattle.lfs_tag.proofs.Common.{option_and_then, option_map_or, cases_lt, nat_tests, option_and_then_some, same_Some, map-append, map-set, length-map, get_or_past, tag_type, tag_id, abstract_type, LogEntry, block_entries, Name, is_equal, RawSlot, RawContent, empty_slot, slot_of_id, changed_at, padded_slots, type_and_bytes, attributes_after, content_after_one, content_after, empty_raw_content, create_tag_type, comparison_with_slot, comparisons_after, first_wanted_slot, IsNameLookup, lookup_of_comparisons}
 use Rattle.std.specs.declared.cmp.Ordering.{Ordering}
 use Rattle.std.specs.declared.cmp.Ordering.TheVariants.{Less, Equal, Greater}
-use Rattle.std.proofs.lemmas.Bool.{cases_lt}
-use Rattle.std.proofs.lemmas.Bool.Decides.{nat_tests}
-use Rattle.std.proofs.lemmas.Option.{option_and_then_some, same_Some}
-use Rattle.std.proofs.lemmas.List.{map-append, map-set, length-map, get_or_past}
 use Rattle.lfs_model.proofs.Orders.{same_by}
 use Rattle.lfs_model.specs.declared.order.NameOrder.{NameOrder}
-use Rattle.lfs_model.specs.format.Tag.{tag_type, tag_id, abstract_type}
-use Rattle.lfs_model.specs.format.Log.{LogEntry, block_entries, chain_of}
-use Rattle.lfs_model.specs.format.Names.{Name, name_cmp, same_name, is_equal, is_less}
-use Rattle.lfs_model.specs.format.Content.{RawSlot, RawContent, empty_slot, slot_of_id, changed_at, slots_padded_to, type_and_bytes, attributes_after, content_after_one, content_after, empty_raw_content}
-use Rattle.lfs_model.specs.format.EntryTypes.{create_tag_type, superblock_name_type}
+use Rattle.lfs_model.specs.format.Log.{chain_of}
+use Rattle.lfs_model.specs.format.Names.{name_cmp, same_name, is_less}
+use Rattle.lfs_model.specs.format.EntryTypes.{superblock_name_type}
 use Rattle.lfs_model.specs.layers.Lookup.{entry_name, passes_name_test, comes_after, IsLeastId, IsNewId}
 use Rattle.lfs_tag.specs.declared.lookup.NameComparison.{NameComparison}
 use Rattle.lfs_tag.specs.declared.lookup.NameComparison.TheVariants as slot
-use Rattle.lfs_tag.specs.Find.{ordering_comparison, comparison_with_slot, comparison_with_entry, comparisons_padded_to, comparisons_after_entry, comparisons_after, is_wanted_comparison, is_skipped_id, is_wanted_slot, first_wanted_slot}
+use Rattle.lfs_tag.specs.Find.{ordering_comparison, comparison_with_entry, padded_comparisons, comparisons_after_entry, is_wanted, is_skipped, is_wanted_slot}
 use Rattle.lfs_tag.specs.declared.lookup.Lookup.TheVariants.{Found, Place}
-use Rattle.lfs_tag.specs.FindView.{IsNameLookup, lookup_of_comparisons}
 use Rattle.lfs_tag.proofs.Effects.{Effect, rests, names, creates, deletes, structures, attributes, effect}
 use Rattle.lfs_tag.proofs.Places.{map-insert, map-remove}
 use Rattle.lfs_tag.proofs.Runs.{all_run, run_count, back}
@@ -30,7 +23,7 @@ empty_ranks : (order : NameOrder) (name : Name) (n : ℕ) → map (comparison_wi
 empty_ranks order name zero = refl
 empty_ranks order name (suc n) = ap (λ rs. slot.NoneOrLess ∷ rs) (empty_ranks order name n)
 
-up_to_ranks : (order : NameOrder) (name : Name) (slots : List RawSlot) (i : ℕ) → map (comparison_with_slot order name) (slots_padded_to slots i) ≡ comparisons_padded_to (map (comparison_with_slot order name) slots) i
+up_to_ranks : (order : NameOrder) (name : Name) (slots : List RawSlot) (i : ℕ) → map (comparison_with_slot order name) (padded_slots slots i) ≡ padded_comparisons (map (comparison_with_slot order name) slots) i
 up_to_ranks order name slots i =
     map-append (comparison_with_slot order name) slots (replicate (i + 1 - length slots) empty_slot)
     ∙ ap (λ rs. map (comparison_with_slot order name) slots ++ rs) (empty_ranks order name (i + 1 - length slots) ∙ ap (λ n. replicate (i + 1 - n) slot.NoneOrLess) (sym (length-map slots (comparison_with_slot order name))))
@@ -56,7 +49,7 @@ rank_step order name s t e (rests high same) =
 rank_step order name s t e (names class keeps is) =
     let a : eqb (abstract_type e.tag) 0 ≡ true = grind (arith, nat_tests) in
     let i = tag_id e.tag in
-    let all = slots_padded_to s i in
+    let all = padded_slots s i in
     let r = slot_of_id all i in
     rw (a, is) (ap (λ rs. set rs i (comparison_with_entry order name e)) (sym (up_to_ranks order name s i)) ∙ ap (set (map (comparison_with_slot order name) all) i) (sym (named_rank order name e r)) ∙ sym (map-set (comparison_with_slot order name) all i (record r { name = type_and_bytes e })))
 rank_step order name s t e (creates class create le is) =
@@ -158,29 +151,29 @@ rank_at order name [] k = refl
 rank_at order name (s ∷ slots) zero = refl
 rank_at order name (s ∷ slots) (suc k) = rank_at order name slots k
 
-same_wanted : (order : NameOrder) (name : Name) (o : Option Name) → is_wanted_comparison true (option_map_or (λ other. ordering_comparison (name_cmp order name other)) o slot.NoneOrLess) ≡ option_map_or (same_name name) o false
+same_wanted : (order : NameOrder) (name : Name) (o : Option Name) → is_wanted true (option_map_or (λ other. ordering_comparison (name_cmp order name other)) o slot.NoneOrLess) ≡ option_map_or (same_name name) o false
 same_wanted order name None = refl
 same_wanted order name (Some other) = by_order (name_cmp order name other) ∙ same_by order name other
   where
-    by_order : (o : Ordering) → is_wanted_comparison true (ordering_comparison o) ≡ is_equal o
+    by_order : (o : Ordering) → is_wanted true (ordering_comparison o) ≡ is_equal o
     by_order Less = refl
     by_order Equal = refl
     by_order Greater = refl
 
-behind_wanted : (order : NameOrder) (name : Name) (o : Option Name) → is_wanted_comparison false (option_map_or (λ other. ordering_comparison (name_cmp order name other)) o slot.NoneOrLess) ≡ option_map_or (comes_after order name) o false
+behind_wanted : (order : NameOrder) (name : Name) (o : Option Name) → is_wanted false (option_map_or (λ other. ordering_comparison (name_cmp order name other)) o slot.NoneOrLess) ≡ option_map_or (comes_after order name) o false
 behind_wanted order name None = refl
 behind_wanted order name (Some other) = by_order (name_cmp order name other)
   where
-    by_order : (o : Ordering) → is_wanted_comparison false (ordering_comparison o) ≡ is_less o
+    by_order : (o : Ordering) → is_wanted false (ordering_comparison o) ≡ is_less o
     by_order Less = refl
     by_order Equal = refl
     by_order Greater = refl
 
 same_named : (order : NameOrder) (name : Name) (skip : Option ℕ) (slots : List RawSlot) (k : ℕ) → passes_name_test (same_name name) skip slots k ≡ is_wanted_slot true skip k (get_or (map (comparison_with_slot order name) slots) k slot.NoneOrLess)
-same_named order name skip slots k = ap (λ b. b && not (is_skipped_id skip k)) (sym (ap (is_wanted_comparison true) (rank_at order name slots k) ∙ same_wanted order name (entry_name (slot_of_id slots k))))
+same_named order name skip slots k = ap (λ b. b && not (is_skipped skip k)) (sym (ap (is_wanted true) (rank_at order name slots k) ∙ same_wanted order name (entry_name (slot_of_id slots k))))
 
 behind_named : (order : NameOrder) (name : Name) (skip : Option ℕ) (slots : List RawSlot) (k : ℕ) → passes_name_test (comes_after order name) skip slots k ≡ is_wanted_slot false skip k (get_or (map (comparison_with_slot order name) slots) k slot.NoneOrLess)
-behind_named order name skip slots k = ap (λ b. b && not (is_skipped_id skip k)) (sym (ap (is_wanted_comparison false) (rank_at order name slots k) ∙ behind_wanted order name (entry_name (slot_of_id slots k))))
+behind_named order name skip slots k = ap (λ b. b && not (is_skipped skip k)) (sym (ap (is_wanted false) (rank_at order name slots k) ∙ behind_wanted order name (entry_name (slot_of_id slots k))))
 
 found_is : (order : NameOrder) (name : Name) (skip : Option ℕ) (slots : List RawSlot) (id : ℕ) → id ≡ first_wanted_slot true skip 0 (map (comparison_with_slot order name) slots) → id < length slots → IsLeastId name skip slots id
 found_is order name skip slots id is lt =
@@ -199,7 +192,7 @@ place_is order name skip slots id past is =
     record {
       absent = λ k. elim (cases_lt k (length slots)) [
         | inl lt ↦ same_named order name skip slots k ∙ from_zero true skip (map (comparison_with_slot order name) slots) k false (none.before k (omega arith))
-        | inr le ↦ ap (λ (s : RawSlot). option_map_or (same_name name) (entry_name s) false && not (is_skipped_id skip k)) (get_or_past slots k empty_slot le)
+        | inr le ↦ ap (λ (s : RawSlot). option_map_or (same_name name) (entry_name s) false && not (is_skipped skip k)) (get_or_past slots k empty_slot le)
       ];
       least = λ k below. behind_named order name skip slots k ∙ from_zero false skip (map (comparison_with_slot order name) slots) k false (first.before k (omega arith));
       greater = λ lt. behind_named order name skip slots id ∙ from_zero false skip (map (comparison_with_slot order name) slots) id true (first.here id (omega arith) (omega (arith, len)));

@@ -1,17 +1,11 @@
 -- Entries one after the other, from the front and from the back.
 use Rattle.std.proofs.Common.{◌≡◌, ℕ, zero, suc, ◌+◌, ◌-◌, ◌*◌, ◌%◌, ◌^◌, ◌<◌, ◌≤◌, Bool, true, false, cond, ltb, List, [], ◌∷◌, ◌++◌, length, drop, slice_range, Option, Some, None, refl, sym, ap, ◌∙◌, arith}
-use Rattle.std.specs.Option.{option_map_or}
-use Rattle.std.specs.Int.Bits.{bit_xor, xor_zero_r}
-use Rattle.std.proofs.lemmas.Nat.{xor_mod}
-use Rattle.std.proofs.lemmas.Bool.Decides.{nat_tests}
-use Rattle.std.proofs.lemmas.List.{length-append}
+use Rattle.lfs_tag.proofs.Common.{option_map_or, bit_xor, xor_zero_r, xor_mod, nat_tests, length-append, tag_chunk, tag_data_size, tag_before_next, LogEntry, entry_end, is_checksum_entry, IsCommit, AreAdjacent, block_entries, has_commit, lies, commit_space, chain_sound}
 use Rattle.byteorder.specs.Endian.{big_number}
-use Rattle.lfs_model.specs.format.Tag.{tag_chunk, tag_data_size, is_commit_end, tag_before_next}
+use Rattle.lfs_model.specs.format.Tag.{is_commit_end}
 use Rattle.std.specs.List.{flat_map}
-use Rattle.lfs_model.specs.format.Log.{LogEntry, entry_at, entry_end, is_checksum_entry, IsCommit, AreAdjacent, chain_of, block_entries, AreEntriesBetween, run_within, entries_between}
+use Rattle.lfs_model.specs.format.Log.{entry_at, chain_of, AreEntriesBetween, run_within, entries_between}
 use Rattle.lfs_model.proofs.Checksums.{xor_cancel}
-use Rattle.lfs_model.specs.format.Content.{has_commit}
-use Rattle.lfs_model.proofs.Chains.{lies, commit_space, chain_sound}
 
 run_zero : (n : ℕ) (block : List ℕ) (at before end : ℕ) → end ≤ at → run_within n block at before end ≡ []
 unfolding run_within

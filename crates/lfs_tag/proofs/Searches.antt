@@ -1,18 +1,11 @@
 -- A search back finds what the slots hold.
 use Rattle.std.proofs.Common.{◌≡◌, ◌≢◌, ◌⊎◌, ℕ, suc, ◌+◌, ◌-◌, ◌/◌, ◌%◌, ◌^◌, ◌<◌, ◌≤◌, Bool, true, false, ◌&&◌, ◌||◌, not, cond, eqb, ltb, leb, List, [], ◌∷◌, ◌++◌, reverse, length, insert, remove, Option, Some, None, refl, sym, ap, subst, ◌∙◌, arith, inl, inr}
-use Rattle.std.specs.Option.{option_and_then, option_map}
-use Rattle.std.proofs.lemmas.Bool.{cases_lt, cases_order, cases_eq}
-use Rattle.std.proofs.lemmas.Bool.Decides.{nat_tests}
-use Rattle.std.proofs.lemmas.Option.{option_and_then_some, same_Some}
+use Rattle.lfs_tag.proofs.Common.{option_and_then, option_map, cases_lt, cases_order, nat_tests, option_and_then_some, same_Some, Attributes, tag_type, tag_id, abstract_type, tag_chunk, LogEntry, block_entries, RawSlot, RawContent, empty_slot, slot_of_id, changed_at, padded_slots, type_and_bytes, attributes_after, attributes_with, attributes_without, attribute_bytes, content_after_one, content_after, empty_raw_content, is_attribute_removal, create_tag_type, part_bytes, found_in_entries, searched_count}
+use Rattle.std.proofs.lemmas.Bool.{cases_eq}
 use Rattle.std.proofs.lemmas.List.{reverse-append, reverse-reverse}
 use Rattle.std.proofs.lemmas.List.Edits.{get_or-insert_below, get_or-insert_at, get_or-insert_above, get_or-remove_below, get_or-remove_above}
-use Rattle.lfs_model.specs.format.Slots.{Attributes}
-use Rattle.lfs_model.specs.format.Tag.{tag_type, tag_id, abstract_type, tag_chunk}
-use Rattle.lfs_model.specs.format.Log.{LogEntry, block_entries}
-use Rattle.lfs_model.specs.format.Content.{RawSlot, RawContent, empty_slot, slot_of_id, changed_at, slots_padded_to, type_and_bytes, attributes_after, attributes_with, attributes_without, attribute_bytes, content_after_one, content_after, empty_raw_content}
-use Rattle.lfs_model.specs.format.EntryTypes.{is_attribute_removal, create_tag_type}
-use Rattle.lfs_model.specs.layers.Lookup.{bytes_of_type, slot_bytes}
-use Rattle.lfs_tag.specs.EntrySearch.{EntryEffectOnSlot, Holds, Was, is_entry_about, effect_on_slot, found_given_effect, found_in_entries, searched_entries, searched_given_effect}
+use Rattle.lfs_model.specs.layers.Lookup.{slot_bytes}
+use Rattle.lfs_tag.specs.EntrySearch.{SlotEffect, Holds, Was, is_entry_about, slot_effect, found_given_effect, count_given_effect}
 use Rattle.lfs_tag.proofs.Effects.{Effect, rests, names, creates, deletes, structures, attributes, effect}
 use Rattle.lfs_tag.proofs.Held.{attribute-put_same, attribute-put_other, attribute-without_same, attribute-without_other, slot-up_to, length-up_to, slot-changed_same, slot-changed_other}
 
@@ -27,15 +20,15 @@ abbrev pub part_at : List RawSlot → ℕ → ℕ → Option (ℕ × List ℕ)
 part_at slots type i = part_in type (slot_of_id slots i)
 
 -- its bytes, where it has the type
-pub bytes_of_part : (type : ℕ) (s : RawSlot) → bytes_of_type type (part_in type s) ≡ slot_bytes type s
+pub bytes_of_part : (type : ℕ) (s : RawSlot) → part_bytes type (part_in type s) ≡ slot_bytes type s
 bytes_of_part type s = either (eqb (type / 2 ^ 8) 0) (eqb (type / 2 ^ 8) 2) (eqb (type / 2 ^ 8) 3)
   where
-    attribute : (o : Option (List ℕ)) → bytes_of_type type (option_map (λ bytes. (type, bytes)) o) ≡ o
+    attribute : (o : Option (List ℕ)) → part_bytes type (option_map (λ bytes. (type, bytes)) o) ≡ o
     attribute None = refl
     attribute (Some bytes) = let e : eqb type type ≡ true = grind (arith, nat_tests) in rw e refl
 
-    either : (a b c : Bool) → bytes_of_type type (cond a s.name (cond b s.struct (cond c (option_map (λ bytes. (type, bytes)) (attribute_bytes (type % 2 ^ 8) s.attributes)) None)))
-        ≡ cond a (bytes_of_type type s.name) (cond b (bytes_of_type type s.struct) (cond c (attribute_bytes (type % 2 ^ 8) s.attributes) None))
+    either : (a b c : Bool) → part_bytes type (cond a s.name (cond b s.struct (cond c (option_map (λ bytes. (type, bytes)) (attribute_bytes (type % 2 ^ 8) s.attributes)) None)))
+        ≡ cond a (part_bytes type s.name) (cond b (part_bytes type s.struct) (cond c (attribute_bytes (type % 2 ^ 8) s.attributes) None))
     either true b c = refl
     either false true c = refl
     either false false true = attribute (attribute_bytes (type % 2 ^ 8) s.attributes)
@@ -43,7 +36,7 @@ bytes_of_part type s = either (eqb (type / 2 ^ 8) 0) (eqb (type / 2 ^ 8) 2) (eqb
 
 -- what an entry says of a type and an id is what the slots after it hold
 abbrev Finds : LogEntry → ℕ → ℕ → List RawSlot → List RawSlot → Type 0
-Finds e type i s t = found_given_effect (effect_on_slot e type i) (part_at s type) ≡ part_at t type i
+Finds e type i s t = found_given_effect (slot_effect e type i) (part_at s type) ≡ part_at t type i
 
 empty_part : (type : ℕ) → part_in type empty_slot ≡ None
 empty_part type = either (eqb (type / 2 ^ 8) 0) (eqb (type / 2 ^ 8) 2) (eqb (type / 2 ^ 8) 3)
@@ -96,14 +89,14 @@ delete_finds e type i s class delete lt =
 -- ---- names, structs and attributes
 
 -- the entry isn't about that
-not_about : (e : LogEntry) (type i : ℕ) → abstract_type e.tag ≢ 4 → is_entry_about e type i ≡ false → (before : ℕ → Option (ℕ × List ℕ)) → found_given_effect (effect_on_slot e type i) before ≡ before i
+not_about : (e : LogEntry) (type i : ℕ) → abstract_type e.tag ≢ 4 → is_entry_about e type i ≡ false → (before : ℕ → Option (ℕ × List ℕ)) → found_given_effect (slot_effect e type i) before ≡ before i
 not_about e type i class other before =
     let a : eqb (abstract_type e.tag) 4 ≡ false = grind (arith, nat_tests) in
     rw (a, other) refl
 
 -- it is
 about : (e : LogEntry) (type i : ℕ) → abstract_type e.tag ≢ 4 → is_entry_about e type i ≡ true → (before : ℕ → Option (ℕ × List ℕ))
-    → found_given_effect (effect_on_slot e type i) before ≡ cond (is_attribute_removal e.tag) None (type_and_bytes e)
+    → found_given_effect (slot_effect e type i) before ≡ cond (is_attribute_removal e.tag) None (type_and_bytes e)
 about e type i class here before =
     let a : eqb (abstract_type e.tag) 4 ≡ false = grind (arith, nat_tests) in
     rw (a, here) refl
@@ -137,7 +130,7 @@ same_class e type i id small class =
 
 -- one slot is changed, and the others stay
 changed_finds : (e : LogEntry) (type i : ℕ) (f : RawSlot → RawSlot) (s all : List RawSlot) → abstract_type e.tag ≢ 4 → tag_id e.tag < length all → ((k : ℕ) → slot_of_id all k ≡ slot_of_id s k)
-    → (tag_id e.tag ≡ i → found_given_effect (effect_on_slot e type i) (part_at s type) ≡ part_in type (f (slot_of_id s i)))
+    → (tag_id e.tag ≡ i → found_given_effect (slot_effect e type i) (part_at s type) ≡ part_in type (f (slot_of_id s i)))
     → Finds e type i s (changed_at f all (tag_id e.tag))
 changed_finds e type i f s all class lt same here =
     elim (cases_eq (tag_id e.tag) i) [
@@ -148,9 +141,9 @@ changed_finds e type i f s all class lt same here =
       | inr miss ↦ not_about e type i class (elsewhere e type i miss) (part_at s type) ∙ ap (part_in type) (sym (slot-changed_other f all (tag_id e.tag) i (λ z. miss (sym z)) ∙ same i))
     ]
 
-name_finds : (e : LogEntry) (type i : ℕ) (s : List RawSlot) → abstract_type e.tag ≡ 0 → is_attribute_removal e.tag ≡ false → Finds e type i s (changed_at (λ r. record r { name = type_and_bytes e }) (slots_padded_to s (tag_id e.tag)) (tag_id e.tag))
+name_finds : (e : LogEntry) (type i : ℕ) (s : List RawSlot) → abstract_type e.tag ≡ 0 → is_attribute_removal e.tag ≡ false → Finds e type i s (changed_at (λ r. record r { name = type_and_bytes e }) (padded_slots s (tag_id e.tag)) (tag_id e.tag))
 name_finds e type i s class keeps =
-    changed_finds e type i (λ r. record r { name = type_and_bytes e }) s (slots_padded_to s (tag_id e.tag)) (omega arith) (omega (arith, length-up_to s (tag_id e.tag))) (slot-up_to s (tag_id e.tag))
+    changed_finds e type i (λ r. record r { name = type_and_bytes e }) s (padded_slots s (tag_id e.tag)) (omega arith) (omega (arith, length-up_to s (tag_id e.tag))) (slot-up_to s (tag_id e.tag))
     (λ hit. elim (cases_eq (type / 2 ^ 8) 0) [
       | inl same ↦
           let z : eqb (type / 2 ^ 8) 0 ≡ true = grind (arith, nat_tests) in
@@ -272,16 +265,16 @@ found_is (e ∷ es) t type i h =
     sym (after_last empty_raw_content (reverse es) e) ∙ ap (content_after empty_raw_content) (sym (reverse-append (e ∷ []) es)) ∙ h in
     option_and_then_some (λ u. content_after_one u e) (content_after empty_raw_content (reverse es)) t split (λ u was is.
     let same : (λ (j : ℕ). found_in_entries es type j) ≡ part_at u.slots type = funext _ _ (λ j. found_is es u type j was) in
-    ap (found_given_effect (effect_on_slot e type i)) same ∙ effect_finds e type i u.slots t.slots (effect u t e is))
+    ap (found_given_effect (slot_effect e type i)) same ∙ effect_finds e type i u.slots t.slots (effect u t e is))
 
 -- so of the log of a block
 pub found_in_log : (block : List ℕ) (t : RawContent) (type i : ℕ) → content_after empty_raw_content (block_entries block) ≡ Some t → found_in_entries (reverse (block_entries block)) type i ≡ part_at t.slots type i
 found_in_log block t type i h = found_is (reverse (block_entries block)) t type i (ap (content_after empty_raw_content) (reverse-reverse (block_entries block)) ∙ h)
 
-pub looks_within : (es : List LogEntry) (type i : ℕ) → searched_entries es type i ≤ length es
+pub looks_within : (es : List LogEntry) (type i : ℕ) → searched_count es type i ≤ length es
 looks_within [] type i = omega arith
-looks_within (e ∷ es) type i = by_verdict (effect_on_slot e type i) (λ j. looks_within es type j)
+looks_within (e ∷ es) type i = by_verdict (slot_effect e type i) (λ j. looks_within es type j)
   where
-    by_verdict : (v : EntryEffectOnSlot) → ((j : ℕ) → searched_entries es type j ≤ length es) → searched_given_effect v (λ j. searched_entries es type j) ≤ suc (length es)
+    by_verdict : (v : SlotEffect) → ((j : ℕ) → searched_count es type j ≤ length es) → count_given_effect v (λ j. searched_count es type j) ≤ suc (length es)
     by_verdict (Holds bytes) within = omega arith
     by_verdict (Was j) within = omega (arith, within j)

@@ -1,43 +1,38 @@
 -- What is kept of a log without its slots is kept of its content.
 use Rattle.std.proofs.Common.{◌≡◌, ℕ, zero, suc, ◌+◌, ◌-◌, Bool, true, false, ◌&&◌, not, cond, eqb, leb, ltb, is_some, List, [], ◌∷◌, ◌++◌, length, map, replicate, insert, remove, Option, Some, None, refl, sym, ap, ap₂, ◌∙◌}
-use Rattle.std.specs.Option.{option_map, option_and_then}
-use Rattle.std.specs.List.{list_all}
-use Rattle.std.proofs.lemmas.List.{map-append, length-map}
-use Rattle.std.proofs.lemmas.Option.{same_Some}
-use Rattle.lfs_model.specs.format.Tag.{tag_type, tag_id, abstract_type}
-use Rattle.lfs_model.specs.format.Log.{LogEntry, block_entries}
+use Rattle.lfs_tag.proofs.Common.{option_map, option_and_then, list_all, map-append, length-map, same_Some, tag_type, tag_id, abstract_type, LogEntry, block_entries, RawSlot, RawContent, empty_slot, slot_of_id, changed_at, padded_slots, type_and_bytes, attributes_after, slots_after, content_after_one, content_after, empty_raw_content, is_known_tag, has_needed_id, create_tag_type, delete_tag_type, slot_mark, has_both, outline_after, empty_outline}
 use Rattle.lfs_model.specs.format.Slots.{Slot, PairContent}
-use Rattle.lfs_model.specs.format.Content.{RawSlot, RawContent, empty_slot, slot_of_id, changed_at, slots_padded_to, type_and_bytes, attributes_after, slots_after, content_after_one, content_after, empty_raw_content, kind_of_type, read_struct, complete_slots, complete_content}
-use Rattle.lfs_model.specs.format.EntryTypes.{is_known_tag, has_needed_id, create_tag_type, delete_tag_type, entry_tail, read_gstate}
+use Rattle.lfs_model.specs.format.Content.{kind_of_type, read_struct, complete_slots, complete_content}
+use Rattle.lfs_model.specs.format.EntryTypes.{entry_tail, read_gstate}
 use Rattle.lfs_tag.specs.declared.summary.SlotSummary.{SlotSummary}
-use Rattle.lfs_tag.specs.Summary.{mark_of_slot, mark_at_id, marks_with_change, marks_padded_to, empty_mark, has_both, marks_after_entry, OutlineOfLog, outline_of_content, outline_after_entry, outline_after, empty_outline}
+use Rattle.lfs_tag.specs.Summary.{id_mark, marks_with_change, padded_marks, empty_mark, marks_after_entry, LogOutline, content_outline, outline_after_entry}
 use Rattle.lfs_tag.proofs.Places.{map-insert, map-remove}
 
 -- ---- one slot
 
-mark_at : (slots : List RawSlot) (i : ℕ) → mark_at_id (map mark_of_slot slots) i ≡ mark_of_slot (slot_of_id slots i)
+mark_at : (slots : List RawSlot) (i : ℕ) → id_mark (map slot_mark slots) i ≡ slot_mark (slot_of_id slots i)
 mark_at [] i = refl
 mark_at (s ∷ slots) zero = refl
 mark_at (s ∷ slots) (suc i) = mark_at slots i
 
-change_marks : (f : RawSlot → RawSlot) (g : SlotSummary → SlotSummary) → ((s : RawSlot) → mark_of_slot (f s) ≡ g (mark_of_slot s)) → (slots : List RawSlot) (i : ℕ) → map mark_of_slot (changed_at f slots i) ≡ marks_with_change g (map mark_of_slot slots) i
+change_marks : (f : RawSlot → RawSlot) (g : SlotSummary → SlotSummary) → ((s : RawSlot) → slot_mark (f s) ≡ g (slot_mark s)) → (slots : List RawSlot) (i : ℕ) → map slot_mark (changed_at f slots i) ≡ marks_with_change g (map slot_mark slots) i
 change_marks f g same [] i = refl
-change_marks f g same (s ∷ slots) zero = ap (λ m. m ∷ map mark_of_slot slots) (same s)
-change_marks f g same (s ∷ slots) (suc i) = ap (λ ms. mark_of_slot s ∷ ms) (change_marks f g same slots i)
+change_marks f g same (s ∷ slots) zero = ap (λ m. m ∷ map slot_mark slots) (same s)
+change_marks f g same (s ∷ slots) (suc i) = ap (λ ms. slot_mark s ∷ ms) (change_marks f g same slots i)
 
 marked_as_it_is : (marks : List SlotSummary) (i : ℕ) → marks_with_change (λ m. m) marks i ≡ marks
 marked_as_it_is [] i = refl
 marked_as_it_is (m ∷ marks) zero = refl
 marked_as_it_is (m ∷ marks) (suc i) = ap (λ ms. m ∷ ms) (marked_as_it_is marks i)
 
-empty_marks : (n : ℕ) → map mark_of_slot (replicate n empty_slot) ≡ replicate n empty_mark
+empty_marks : (n : ℕ) → map slot_mark (replicate n empty_slot) ≡ replicate n empty_mark
 empty_marks zero = refl
 empty_marks (suc n) = ap (λ ms. empty_mark ∷ ms) (empty_marks n)
 
-up_to_marks : (slots : List RawSlot) (i : ℕ) → map mark_of_slot (slots_padded_to slots i) ≡ marks_padded_to (map mark_of_slot slots) i
+up_to_marks : (slots : List RawSlot) (i : ℕ) → map slot_mark (padded_slots slots i) ≡ padded_marks (map slot_mark slots) i
 up_to_marks slots i =
-    map-append mark_of_slot slots (replicate (i + 1 - length slots) empty_slot)
-    ∙ ap (λ ms. map mark_of_slot slots ++ ms) (empty_marks (i + 1 - length slots) ∙ ap (λ n. replicate (i + 1 - n) empty_mark) (sym (length-map slots mark_of_slot)))
+    map-append slot_mark slots (replicate (i + 1 - length slots) empty_slot)
+    ∙ ap (λ ms. map slot_mark slots ++ ms) (empty_marks (i + 1 - length slots) ∙ ap (λ n. replicate (i + 1 - n) empty_mark) (sym (length-map slots slot_mark)))
 
 -- ---- one entry
 
@@ -53,26 +48,26 @@ either f false false within false there true true x y z u v x2 y2 z2 u2 v2 a b c
 either f false false within false there true false x y z u v x2 y2 z2 u2 v2 a b c d e = ap Some e
 either f false false within false there false struct x y z u v x2 y2 z2 u2 v2 a b c d e = refl
 
-slots_marked : (slots : List RawSlot) (e : LogEntry) → option_map (map mark_of_slot) (slots_after slots e) ≡ marks_after_entry (map mark_of_slot slots) e
+slots_marked : (slots : List RawSlot) (e : LogEntry) → option_map (map slot_mark) (slots_after slots e) ≡ marks_after_entry (map slot_mark slots) e
 slots_marked slots e =
-    either (map mark_of_slot) (eqb (abstract_type e.tag) 0) (eqb (tag_type e.tag) create_tag_type) (leb i (length slots)) (eqb (tag_type e.tag) delete_tag_type) (ltb i (length slots)) (is_some (slot_of_id slots i).name) (eqb (abstract_type e.tag) 2)
-    (changed_at (λ s. record s { name = type_and_bytes e }) (slots_padded_to slots i) i) (insert slots i empty_slot) (remove slots i) (changed_at (λ s. record s { struct = type_and_bytes e }) slots i) (changed_at (λ s. record s { attributes = attributes_after e s.attributes }) slots i)
+    either (map slot_mark) (eqb (abstract_type e.tag) 0) (eqb (tag_type e.tag) create_tag_type) (leb i (length slots)) (eqb (tag_type e.tag) delete_tag_type) (ltb i (length slots)) (is_some (slot_of_id slots i).name) (eqb (abstract_type e.tag) 2)
+    (changed_at (λ s. record s { name = type_and_bytes e }) (padded_slots slots i) i) (insert slots i empty_slot) (remove slots i) (changed_at (λ s. record s { struct = type_and_bytes e }) slots i) (changed_at (λ s. record s { attributes = attributes_after e s.attributes }) slots i)
     named (insert marks i empty_mark) (remove marks i) structured marks
-    (change_marks (λ s. record s { name = type_and_bytes e }) (λ m. record m { has_name = true }) (λ s. refl) (slots_padded_to slots i) i ∙ ap (λ ms. marks_with_change (λ m. record m { has_name = true }) ms i) (up_to_marks slots i))
-    (map-insert mark_of_slot slots i empty_slot)
-    (map-remove mark_of_slot slots i)
+    (change_marks (λ s. record s { name = type_and_bytes e }) (λ m. record m { has_name = true }) (λ s. refl) (padded_slots slots i) i ∙ ap (λ ms. marks_with_change (λ m. record m { has_name = true }) ms i) (up_to_marks slots i))
+    (map-insert slot_mark slots i empty_slot)
+    (map-remove slot_mark slots i)
     (change_marks (λ s. record s { struct = type_and_bytes e }) (λ m. record m { has_struct = true }) (λ s. refl) slots i)
     (change_marks (λ s. record s { attributes = attributes_after e s.attributes }) (λ m. m) (λ s. refl) slots i ∙ marked_as_it_is marks i)
-    ∙ ap₂ tested (sym (length-map slots mark_of_slot)) (sym (ap (λ m. m.has_name) (mark_at slots i)))
+    ∙ ap₂ tested (sym (length-map slots slot_mark)) (sym (ap (λ m. m.has_name) (mark_at slots i)))
   where
     i : ℕ
     i = tag_id e.tag
 
     marks : List SlotSummary
-    marks = map mark_of_slot slots
+    marks = map slot_mark slots
 
     named : List SlotSummary
-    named = marks_with_change (λ m. record m { has_name = true }) (marks_padded_to marks i) i
+    named = marks_with_change (λ m. record m { has_name = true }) (padded_marks marks i) i
 
     structured : List SlotSummary
     structured = marks_with_change (λ m. record m { has_struct = true }) marks i
@@ -87,45 +82,45 @@ slots_marked slots e =
 
 -- ---- all entries
 
-entry_outlined : (c : RawContent) (e : LogEntry) → option_map outline_of_content (content_after_one c e) ≡ outline_after_entry (outline_of_content c) e
+entry_outlined : (c : RawContent) (e : LogEntry) → option_map content_outline (content_after_one c e) ≡ outline_after_entry (content_outline c) e
 entry_outlined c e = go (eqb (abstract_type e.tag) 5) (is_known_tag e.tag && has_needed_id e.tag) (eqb (abstract_type e.tag) 6) (eqb (abstract_type e.tag) 7) (slots_after c.slots e) (slots_marked c.slots e)
   where
-    slots : (o : Option (List RawSlot)) → option_map outline_of_content (option_map (λ slots. record c { slots = slots }) o) ≡ option_map (λ marks. record (outline_of_content c) { marks = marks }) (option_map (map mark_of_slot) o)
+    slots : (o : Option (List RawSlot)) → option_map content_outline (option_map (λ slots. record c { slots = slots }) o) ≡ option_map (λ marks. record (content_outline c) { marks = marks }) (option_map (map slot_mark) o)
     slots None = refl
     slots (Some s) = refl
 
-    go : (checksum fits tail move : Bool) (o : Option (List RawSlot)) → option_map (map mark_of_slot) o ≡ marks_after_entry (map mark_of_slot c.slots) e
-        → option_map outline_of_content (cond checksum (Some c) (cond (not fits) None (cond tail (Some (record c { tail = entry_tail e })) (cond move (Some (record c { move = read_gstate e.bytes })) (option_map (λ slots. record c { slots = slots }) o)))))
-        ≡ cond checksum (Some (outline_of_content c)) (cond (not fits) None (cond tail (Some (record (outline_of_content c) { tail = entry_tail e })) (cond move (Some (record (outline_of_content c) { move = read_gstate e.bytes })) (option_map (λ marks. record (outline_of_content c) { marks = marks }) (marks_after_entry (map mark_of_slot c.slots) e)))))
+    go : (checksum fits tail move : Bool) (o : Option (List RawSlot)) → option_map (map slot_mark) o ≡ marks_after_entry (map slot_mark c.slots) e
+        → option_map content_outline (cond checksum (Some c) (cond (not fits) None (cond tail (Some (record c { tail = entry_tail e })) (cond move (Some (record c { move = read_gstate e.bytes })) (option_map (λ slots. record c { slots = slots }) o)))))
+        ≡ cond checksum (Some (content_outline c)) (cond (not fits) None (cond tail (Some (record (content_outline c) { tail = entry_tail e })) (cond move (Some (record (content_outline c) { move = read_gstate e.bytes })) (option_map (λ marks. record (content_outline c) { marks = marks }) (marks_after_entry (map slot_mark c.slots) e)))))
     go true fits tail move o same = refl
     go false false tail move o same = refl
     go false true true move o same = refl
     go false true false true o same = refl
-    go false true false false o same = slots o ∙ ap (option_map (λ marks. record (outline_of_content c) { marks = marks })) same
+    go false true false false o same = slots o ∙ ap (option_map (λ marks. record (content_outline c) { marks = marks })) same
 
-pub outlined : (c : RawContent) (es : List LogEntry) → option_map outline_of_content (content_after c es) ≡ outline_after (outline_of_content c) es
+pub outlined : (c : RawContent) (es : List LogEntry) → option_map content_outline (content_after c es) ≡ outline_after (content_outline c) es
 outlined c [] = refl
 outlined c (e ∷ es) = go (content_after_one c e) (λ d. outlined d es) ∙ ap (option_and_then (λ p. outline_after p es)) (entry_outlined c e)
   where
-    go : (o : Option RawContent) → ((d : RawContent) → option_map outline_of_content (content_after d es) ≡ outline_after (outline_of_content d) es)
-        → option_map outline_of_content (option_and_then (λ d. content_after d es) o) ≡ option_and_then (λ p. outline_after p es) (option_map outline_of_content o)
+    go : (o : Option RawContent) → ((d : RawContent) → option_map content_outline (content_after d es) ≡ outline_after (content_outline d) es)
+        → option_map content_outline (option_and_then (λ d. content_after d es) o) ≡ option_and_then (λ p. outline_after p es) (option_map content_outline o)
     go None rest = refl
     go (Some d) rest = rest d
 
 -- ---- complete slots
 
-whole_slots : (slots : List RawSlot) → list_all has_both (map mark_of_slot slots) ≡ is_some (complete_slots slots)
+whole_slots : (slots : List RawSlot) → list_all has_both (map slot_mark slots) ≡ is_some (complete_slots slots)
 whole_slots [] = refl
 whole_slots (s ∷ slots) = by_parts (λ name struct. record { kind = kind_of_type name.0; name = name.1; struct = read_struct struct.0 struct.1; attributes = s.attributes }) s.name s.struct (complete_slots slots) (whole_slots slots)
   where
-    by_parts : (make : ℕ × List ℕ → ℕ × List ℕ → Slot) (name struct : Option (ℕ × List ℕ)) (others : Option (List Slot)) → list_all has_both (map mark_of_slot slots) ≡ is_some others
-        → ((is_some name && is_some struct) && list_all has_both (map mark_of_slot slots)) ≡ is_some (option_and_then (λ t. option_map (λ ts. t ∷ ts) others) (option_and_then (λ n. option_map (λ p. make n p) struct) name))
+    by_parts : (make : ℕ × List ℕ → ℕ × List ℕ → Slot) (name struct : Option (ℕ × List ℕ)) (others : Option (List Slot)) → list_all has_both (map slot_mark slots) ≡ is_some others
+        → ((is_some name && is_some struct) && list_all has_both (map slot_mark slots)) ≡ is_some (option_and_then (λ t. option_map (λ ts. t ∷ ts) others) (option_and_then (λ n. option_map (λ p. make n p) struct) name))
     by_parts make None struct others same = refl
     by_parts make (Some n) None others same = refl
     by_parts make (Some n) (Some p) None same = same
     by_parts make (Some n) (Some p) (Some ts) same = same
 
-pub whole_content : (c : RawContent) → list_all has_both (map mark_of_slot c.slots) ≡ is_some (complete_content c)
+pub whole_content : (c : RawContent) → list_all has_both (map slot_mark c.slots) ≡ is_some (complete_content c)
 whole_content c = whole_slots c.slots ∙ go (complete_slots c.slots)
   where
     the_content : List Slot → PairContent
@@ -137,16 +132,16 @@ whole_content c = whole_slots c.slots ∙ go (complete_slots c.slots)
 
 -- ---- the log
 
-pub of_content : (block : List ℕ) (o : OutlineOfLog) → outline_after empty_outline (block_entries block) ≡ Some o → (c : RawContent) × (content_after empty_raw_content (block_entries block) ≡ Some c) × (outline_of_content c ≡ o)
+pub of_content : (block : List ℕ) (o : LogOutline) → outline_after empty_outline (block_entries block) ≡ Some o → (c : RawContent) × (content_after empty_raw_content (block_entries block) ≡ Some c) × (content_outline c ≡ o)
 of_content block o h = go (content_after empty_raw_content (block_entries block)) refl (outlined empty_raw_content (block_entries block) ∙ h)
   where
-    go : (d : Option RawContent) → content_after empty_raw_content (block_entries block) ≡ d → option_map outline_of_content (content_after empty_raw_content (block_entries block)) ≡ Some o → (c : RawContent) × (content_after empty_raw_content (block_entries block) ≡ Some c) × (outline_of_content c ≡ o)
-    go None is same = absurd (let z : None ≡ Some o = sym (ap (option_map outline_of_content) is) ∙ same in cc)
-    go (Some c) is same = (c, is, same_Some (outline_of_content c) o (sym (ap (option_map outline_of_content) is) ∙ same))
+    go : (d : Option RawContent) → content_after empty_raw_content (block_entries block) ≡ d → option_map content_outline (content_after empty_raw_content (block_entries block)) ≡ Some o → (c : RawContent) × (content_after empty_raw_content (block_entries block) ≡ Some c) × (content_outline c ≡ o)
+    go None is same = absurd (let z : None ≡ Some o = sym (ap (option_map content_outline) is) ∙ same in cc)
+    go (Some c) is same = (c, is, same_Some (content_outline c) o (sym (ap (option_map content_outline) is) ∙ same))
 
 pub no_content_where_none : (block : List ℕ) → outline_after empty_outline (block_entries block) ≡ None → content_after empty_raw_content (block_entries block) ≡ None
 no_content_where_none block h = go (content_after empty_raw_content (block_entries block)) (outlined empty_raw_content (block_entries block) ∙ h)
   where
-    go : (d : Option RawContent) → option_map outline_of_content d ≡ None → d ≡ None
+    go : (d : Option RawContent) → option_map content_outline d ≡ None → d ≡ None
     go None same = refl
     go (Some c) same = absurd (cc)

@@ -1,10 +1,8 @@
 -- A table of what eight steps make of each byte.
 use Rattle.std.proofs.Common.{◌≡◌, ℕ, zero, suc, ◌+◌, ◌*◌, ◌/◌, ◌%◌, ◌^◌, ◌<◌, Bool, true, false, ◌&&◌, cond, eqb, List, [], ◌∷◌, length, get_or, refl, sym, ap, ◌∙◌, arith, zero-add}
-use Rattle.std.specs.Int.Bits.{bit_xor, xor_zero_r, xor_shifted, xor_assoc}
-use Rattle.std.proofs.lemmas.Bool.{eqb-true}
-use Rattle.std.proofs.lemmas.Nat.{xor_comm, xor_shr, xor_mod}
+use Rattle.lfs_tag.proofs.Common.{bit_xor, xor_zero_r, xor_shifted, xor_assoc, eqb-true, xor_comm, xor_shr, xor_mod, crc_after_bit}
 use Rattle.std.proofs.Math.Nat.{pow-suc}
-use Rattle.lfs_model.specs.format.Crc.{crc_after_bit, next_bits}
+use Rattle.lfs_model.specs.format.Crc.{next_bits}
 use Rattle.lfs_tag.specs.declared.crc_table.TheConstants.{AFTER}
 
 -- the lowest bit alone decides what is mixed in, and the others move down

@@ -1,11 +1,9 @@
 -- The checksum's steps over a word at once.
 use Rattle.std.proofs.Common.{◌≡◌, ℕ, zero, suc, ◌+◌, ◌*◌, ◌/◌, ◌%◌, ◌^◌, ◌<◌, ◌≤◌, List, ◌∷◌, length, take, drop, get_or, refl, sym, ap, ◌∙◌, arith, zero-add, drop-cons, inl, inr, ◌⊎◌}
-use Rattle.std.specs.Int.Bits.{bit_xor, xor_zero_r, xor_shifted, xor_assoc}
-use Rattle.std.proofs.lemmas.Bool.{cases_lt}
-use Rattle.std.proofs.lemmas.Nat.{xor_comm, xor_shr, xor_mod}
+use Rattle.lfs_tag.proofs.Common.{bit_xor, xor_zero_r, xor_shifted, xor_assoc, cases_lt, xor_comm, xor_shr, xor_mod, crc_after_bit, AreBytes}
 use Rattle.byteorder.specs.Endian.{little_from}
-use Rattle.lfs_model.specs.format.Crc.{crc_after_bit, next_bits, crc_of}
-use Rattle.lfs_model.proofs.Checksums.{xor_swap, AreBytes}
+use Rattle.lfs_model.specs.format.Crc.{next_bits, crc_of}
+use Rattle.lfs_model.proofs.Checksums.{xor_swap}
 use Rattle.lfs_tag.proofs.Table.{by_low_byte, next_bits-xor}
 
 -- ---- the steps are linear

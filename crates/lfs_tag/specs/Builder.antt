@@ -2,7 +2,7 @@
 use Rattle.std.specs.Prelude.{◌≡◌, ◌<◌, ◌≤◌, ℕ, ◌+◌, ◌-◌, List, [], ◌∷◌, ◌++◌, length, drop, replicate, Option, Some, None, unwrap_or}
 use Rattle.lfs_model.specs.format.Tag.{abstract_type, make_tag, tag_before_next}
 use Rattle.lfs_model.specs.format.Log.{LogEntry, chain_of, block_revision}
-use Rattle.lfs_model.specs.layers.Commit.{encoded_size, commit_end_aligned, four_bytes, checksum_type}
+use Rattle.lfs_model.specs.layers.Commit.{encoded_size, aligned_end, four_bytes_at, checksum_type}
 use Rattle.lfs_model.specs.format.EntryTypes.{no_id}
 use Rattle.lfs_model.specs.format.Blocks.{overwritten_at}
 
@@ -29,7 +29,7 @@ abbrev pub checksum_start : PartialCommit → ℕ
 checksum_start b = entries_start b.revision + encoded_size b.entries
 
 abbrev pub padded_end_of : PartialCommit → ℕ
-padded_end_of b = commit_end_aligned b.page (checksum_start b)
+padded_end_of b = aligned_end b.page (checksum_start b)
 
 -- ---- the checksum's entry
 
@@ -55,7 +55,7 @@ earlier_commits (Some revision) block = []
 -- Pages that are the commit. In the block they are before the bytes `next`. Then the log has the earlier commits and exactly this
 -- one.
 pub record AreCommitPages (b : PartialCommit) (next : Option (List ℕ)) (pages : List ℕ) : Type 0 where
-  pub log : (block : List ℕ) (at : ℕ) → IsCommitOffset b.revision b.previous block at → at + length pages ≤ length block → four_bytes block (at + length pages) ≡ next
+  pub log : (block : List ℕ) (at : ℕ) → IsCommitOffset b.revision b.previous block at → at + length pages ≤ length block → four_bytes_at block (at + length pages) ≡ next
       → chain_of (overwritten_at block at pages) ≡ record {
         commits = earlier_commits b.revision block ++ (b.entries ++ checksum_entry b next pages ∷ []) ∷ [];
         end = at + length pages;

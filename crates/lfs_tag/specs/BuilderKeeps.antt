@@ -8,17 +8,17 @@ use Rattle.lfs_model.specs.format.Geometry.{is_page}
 use Rattle.lfs_tag.specs.Builder.{PartialCommit, checksum_start}
 
 -- what the last of the tags is carried as
-abbrev pub last_after : ℕ → List LogEntry → ℕ
-last_after before [] = before
-last_after before (e ∷ es) = last_after (tag_before_next e.tag) es
+abbrev pub carried_tag : ℕ → List LogEntry → ℕ
+carried_tag before [] = before
+carried_tag before (e ∷ es) = carried_tag (tag_before_next e.tag) es
 
 abbrev pub revision_bytes : Option ℕ → List ℕ
 revision_bytes None = []
 revision_bytes (Some revision) = little_bytes 4 revision
 
 -- all bytes before the checksum
-abbrev pub bytes_to_checksum : PartialCommit → List ℕ
-bytes_to_checksum b = revision_bytes b.revision ++ encoded_entries b.previous b.entries
+abbrev pub checksummed_bytes : PartialCommit → List ℕ
+checksummed_bytes b = revision_bytes b.revision ++ encoded_entries b.previous b.entries
 
 -- an entry that is no checksum, and is read as the same entry
 pub record IsStorableEntry (before : ℕ) (e : LogEntry) : Type 0 where
@@ -37,7 +37,7 @@ pub record BuildsCommit (page len last : ℕ) (buf : List ℕ) (b : PartialCommi
   pub power : is_page b.page ≡ true
   pub room : length buf ≡ b.room
   pub len_is : len ≡ min (checksum_start b) (2 ^ 64 - 1)
-  pub last_is : last ≡ last_after b.previous b.entries
+  pub last_is : last ≡ carried_tag b.previous b.entries
   pub revision : IfSome b.revision (λ r. r < 2 ^ 32)
   pub entries : AreStorableEntries b.previous b.entries
-  pub bytes : len ≤ length buf → take len buf ≡ bytes_to_checksum b
+  pub bytes : len ≤ length buf → take len buf ≡ checksummed_bytes b

@@ -16,6 +16,6 @@ GivesWithMemory view (Ok x) o = o ≡ Some (view x)
 GivesWithMemory view (Err e) o = IsContentError e o
 
 -- the same as the file system's error
-abbrev pub error_of_content : ContentError → Error
-error_of_content errors.Malformed = Corrupt
-error_of_content errors.NoMemory = NoMemory
+abbrev pub content_error : ContentError → Error
+content_error errors.Malformed = Corrupt
+content_error errors.NoMemory = NoMemory

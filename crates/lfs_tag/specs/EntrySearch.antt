@@ -6,9 +6,9 @@ use Rattle.lfs_model.specs.format.EntryTypes.{create_tag_type, is_attribute_remo
 use Rattle.lfs_model.specs.format.Content.{type_and_bytes}
 
 -- What an entry means for an id after it: what the slot holds, its type and its bytes, or which id the slot had before the entry.
-pub data EntryEffectOnSlot : Type 0 where
-  Holds : (part : Option (ℕ × List ℕ)) → EntryEffectOnSlot
-  Was : (id : ℕ) → EntryEffectOnSlot
+pub data SlotEffect : Type 0 where
+  Holds : (part : Option (ℕ × List ℕ)) → SlotEffect
+  Was : (id : ℕ) → SlotEffect
 
 -- the entry is about this id, and about this type or the one that takes its place
 abbrev pub is_entry_about : LogEntry → ℕ → ℕ → Bool
@@ -16,32 +16,32 @@ is_entry_about e type id =
     tag_id e.tag == id && (nat_lt (abstract_type e.tag) 4 && (abstract_type e.tag == type / 2 ^ 8 && (not (abstract_type e.tag == 3) || tag_type e.tag == type)))
 
 -- what a create or a delete means
-abbrev pub splice_effect_of : LogEntry → ℕ → EntryEffectOnSlot
+abbrev pub splice_effect_of : LogEntry → ℕ → SlotEffect
 splice_effect_of e id =
     if tag_type e.tag == create_tag_type
     then (if tag_id e.tag == id then Holds None else Was (if nat_lt (tag_id e.tag) id then id - 1 else id))
     else Was (if nat_le (tag_id e.tag) id then id + 1 else id)
 
-abbrev pub effect_on_slot : LogEntry → ℕ → ℕ → EntryEffectOnSlot
-effect_on_slot e type id =
+abbrev pub slot_effect : LogEntry → ℕ → ℕ → SlotEffect
+slot_effect e type id =
     if abstract_type e.tag == 4 then splice_effect_of e id
     else (if is_entry_about e type id then Holds (if is_attribute_removal e.tag then None else type_and_bytes e) else Was id)
 
 -- what a verdict comes to, where `before` is what the earlier entries hold for an id
-abbrev pub found_given_effect : EntryEffectOnSlot → (ℕ → Option (ℕ × List ℕ)) → Option (ℕ × List ℕ)
+abbrev pub found_given_effect : SlotEffect → (ℕ → Option (ℕ × List ℕ)) → Option (ℕ × List ℕ)
 found_given_effect (Holds part) before = part
 found_given_effect (Was id) before = before id
 
 -- what entries hold for a type and an id, the newest first; it may be of another type of that class
 abbrev pub found_in_entries : List LogEntry → ℕ → ℕ → Option (ℕ × List ℕ)
 found_in_entries [] type id = None
-found_in_entries (e ∷ es) type id = found_given_effect (effect_on_slot e type id) (λ i. found_in_entries es type i)
+found_in_entries (e ∷ es) type id = found_given_effect (slot_effect e type id) (λ i. found_in_entries es type i)
 
-abbrev pub searched_given_effect : EntryEffectOnSlot → (ℕ → ℕ) → ℕ
-searched_given_effect (Holds part) before = 1
-searched_given_effect (Was id) before = 1 + before id
+abbrev pub count_given_effect : SlotEffect → (ℕ → ℕ) → ℕ
+count_given_effect (Holds part) before = 1
+count_given_effect (Was id) before = 1 + before id
 
 -- how many entries are looked at for that, the newest first
-abbrev pub searched_entries : List LogEntry → ℕ → ℕ → ℕ
-searched_entries [] type id = 0
-searched_entries (e ∷ es) type id = searched_given_effect (effect_on_slot e type id) (λ i. searched_entries es type i)
+abbrev pub searched_count : List LogEntry → ℕ → ℕ → ℕ
+searched_count [] type id = 0
+searched_count (e ∷ es) type id = count_given_effect (slot_effect e type id) (λ i. searched_count es type i)

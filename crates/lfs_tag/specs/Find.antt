@@ -28,8 +28,8 @@ comparison_with_slot order name s = option_map_or (λ other. ordering_comparison
 abbrev pub comparison_with_entry : NameOrder → Name → LogEntry → NameComparison
 comparison_with_entry order name e = if tag_type e.tag == superblock_name_type then slot.NoneOrLess else ordering_comparison (name_cmp order name e.bytes)
 
-abbrev pub comparisons_padded_to : List NameComparison → ℕ → List NameComparison
-comparisons_padded_to ranks id = ranks ++ replicate (id + 1 - length ranks) slot.NoneOrLess
+abbrev pub padded_comparisons : List NameComparison → ℕ → List NameComparison
+padded_comparisons ranks id = ranks ++ replicate (id + 1 - length ranks) slot.NoneOrLess
 
 -- the ranks after a create or a delete
 abbrev pub comparisons_after_splice : List NameComparison → LogEntry → List NameComparison
@@ -41,7 +41,7 @@ comparisons_after_splice ranks e =
 -- the ranks after an entry, and after all of these
 abbrev pub comparisons_after_entry : NameOrder → Name → List NameComparison → LogEntry → List NameComparison
 comparisons_after_entry order name ranks e =
-    if abstract_type e.tag == 0 then slice_set (comparisons_padded_to ranks (tag_id e.tag)) (tag_id e.tag) (comparison_with_entry order name e)
+    if abstract_type e.tag == 0 then slice_set (padded_comparisons ranks (tag_id e.tag)) (tag_id e.tag) (comparison_with_entry order name e)
     else (if abstract_type e.tag == 4 then comparisons_after_splice ranks e else ranks)
 
 abbrev pub comparisons_after : NameOrder → Name → List NameComparison → List LogEntry → List NameComparison
@@ -51,16 +51,16 @@ comparisons_after order name ranks (e ∷ es) = comparisons_after order name (co
 -- ---- the first slot
 
 -- what is wanted: the name itself, or a greater one
-abbrev pub is_wanted_comparison : Bool → NameComparison → Bool
-is_wanted_comparison same slot.NoneOrLess = false
-is_wanted_comparison same slot.Same = same
-is_wanted_comparison same slot.Greater = not same
+abbrev pub is_wanted : Bool → NameComparison → Bool
+is_wanted same slot.NoneOrLess = false
+is_wanted same slot.Same = same
+is_wanted same slot.Greater = not same
 
-abbrev pub is_skipped_id : Option ℕ → ℕ → Bool
-is_skipped_id skip id = option_map_or (λ k. k == id) skip false
+abbrev pub is_skipped : Option ℕ → ℕ → Bool
+is_skipped skip id = option_map_or (λ k. k == id) skip false
 
 abbrev pub is_wanted_slot : Bool → Option ℕ → ℕ → NameComparison → Bool
-is_wanted_slot same skip id rank = is_wanted_comparison same rank && not (is_skipped_id skip id)
+is_wanted_slot same skip id rank = is_wanted same rank && not (is_skipped skip id)
 
 -- the first wanted one of the slots from an id on, or the number of slots
 abbrev pub first_wanted_slot : Bool → Option ℕ → ℕ → List NameComparison → ℕ

@@ -13,6 +13,6 @@ slot_count_after_entry count e =
     then (if nat_le (tag_id e.tag) count then count + 1 else count)
     else (if nat_lt (tag_id e.tag) count then count - 1 else count)))
 
-abbrev pub slot_count_after : ℕ → List LogEntry → ℕ
-slot_count_after count [] = count
-slot_count_after count (e ∷ es) = slot_count_after (slot_count_after_entry count e) es
+abbrev pub count_after : ℕ → List LogEntry → ℕ
+count_after count [] = count
+count_after count (e ∷ es) = count_after (slot_count_after_entry count e) es

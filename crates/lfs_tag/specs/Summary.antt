@@ -24,31 +24,31 @@ pub record IsLogSummary (block : List ℕ) (c : RawContent) (s : Summary) : Type
 
 -- ---- how it is computed: of each slot only whether it has a name and a struct
 
-abbrev pub mark_of_slot : RawSlot → SlotSummary
-mark_of_slot s = record { has_name = is_some s.name; has_struct = is_some s.struct }
+abbrev pub slot_mark : RawSlot → SlotSummary
+slot_mark s = record { has_name = is_some s.name; has_struct = is_some s.struct }
 
-pub record OutlineOfLog : Type 0 where
+pub record LogOutline : Type 0 where
   pub marks : List SlotSummary
   pub tail : Option slots.Tail
   pub move : Gstate
 
-abbrev pub outline_of_content : RawContent → OutlineOfLog
-outline_of_content c = record { marks = map mark_of_slot c.slots; tail = c.tail; move = c.move }
+abbrev pub content_outline : RawContent → LogOutline
+content_outline c = record { marks = map slot_mark c.slots; tail = c.tail; move = c.move }
 
-abbrev pub outline_view : code.PartialSummary → OutlineOfLog
+abbrev pub outline_view : code.PartialSummary → LogOutline
 outline_view o = record { marks = o.marks.items; tail = option_map tail_view o.tail; move = move_view o.move_state }
 
 abbrev pub empty_mark : SlotSummary
 empty_mark = record { has_name = false; has_struct = false }
 
-abbrev pub mark_at_id : List SlotSummary → ℕ → SlotSummary
-mark_at_id marks id = slice_index_or marks id empty_mark
+abbrev pub id_mark : List SlotSummary → ℕ → SlotSummary
+id_mark marks id = slice_index_or marks id empty_mark
 
 abbrev pub marks_with_change : (SlotSummary → SlotSummary) → List SlotSummary → ℕ → List SlotSummary
-marks_with_change f marks id = slice_set marks id (f (mark_at_id marks id))
+marks_with_change f marks id = slice_set marks id (f (id_mark marks id))
 
-abbrev pub marks_padded_to : List SlotSummary → ℕ → List SlotSummary
-marks_padded_to marks id = marks ++ replicate (id + 1 - length marks) empty_mark
+abbrev pub padded_marks : List SlotSummary → ℕ → List SlotSummary
+padded_marks marks id = marks ++ replicate (id + 1 - length marks) empty_mark
 
 abbrev pub has_both : SlotSummary → Bool
 has_both m = m.has_name && m.has_struct
@@ -56,15 +56,15 @@ has_both m = m.has_name && m.has_struct
 -- the marks after an entry, or none where the entry isn't allowed there
 abbrev pub marks_after_entry : List SlotSummary → LogEntry → Option (List SlotSummary)
 marks_after_entry marks e =
-    if abstract_type e.tag == 0 then Some (marks_with_change (λ m. record m { has_name = true }) (marks_padded_to marks (tag_id e.tag)) (tag_id e.tag))
+    if abstract_type e.tag == 0 then Some (marks_with_change (λ m. record m { has_name = true }) (padded_marks marks (tag_id e.tag)) (tag_id e.tag))
     else (if tag_type e.tag == create_tag_type then (if nat_le (tag_id e.tag) (length marks) then Some (insert marks (tag_id e.tag) empty_mark) else None)
     else (if tag_type e.tag == delete_tag_type then (if nat_lt (tag_id e.tag) (length marks) then Some (remove marks (tag_id e.tag)) else None)
-    else (if not (mark_at_id marks (tag_id e.tag)).has_name then None
+    else (if not (id_mark marks (tag_id e.tag)).has_name then None
     else (if abstract_type e.tag == 2 then Some (marks_with_change (λ m. record m { has_struct = true }) marks (tag_id e.tag))
     else Some marks))))
 
 -- the outline after an entry, or none where the log is malformed
-abbrev pub outline_after_entry : OutlineOfLog → LogEntry → Option OutlineOfLog
+abbrev pub outline_after_entry : LogOutline → LogEntry → Option LogOutline
 outline_after_entry o e =
     if abstract_type e.tag == 5 then Some o
     else (if not (is_known_tag e.tag && has_needed_id e.tag) then None
@@ -72,9 +72,9 @@ outline_after_entry o e =
     else (if abstract_type e.tag == 7 then Some (record o { move = read_gstate e.bytes })
     else option_map (λ marks. record o { marks = marks }) (marks_after_entry o.marks e))))
 
-abbrev pub outline_after : OutlineOfLog → List LogEntry → Option OutlineOfLog
+abbrev pub outline_after : LogOutline → List LogEntry → Option LogOutline
 outline_after o [] = Some o
 outline_after o (e ∷ es) = option_and_then (λ p. outline_after p es) (outline_after_entry o e)
 
-abbrev pub empty_outline : OutlineOfLog
+abbrev pub empty_outline : LogOutline
 empty_outline = record { marks = []; tail = None; move = zero_gstate }

@@ -4,7 +4,7 @@ ghost use Rattle.std.specs.Prelude.{◌≡◌, ℕ, ◌+◌, ◌≤◌, ◌<◌,
 ghost use Rattle.std.specs.Option.{option_map};
 ghost use Rattle.lfs_model.specs.format.Log.{block_entries};
 ghost use Rattle.lfs_model.specs.format.EntryTypes.{is_known_tag, has_needed_id, entry_tail};
-ghost use Rattle.lfs_model.specs.format.Content.{attributes_with, attributes_after, empty_slot, slot_of_id, changed_at, slots_padded_to, slots_after, content_after_one, content_after, empty_raw_content};
+ghost use Rattle.lfs_model.specs.format.Content.{attributes_with, attributes_after, empty_slot, slot_of_id, changed_at, padded_slots, slots_after, content_after_one, content_after, empty_raw_content};
 ghost use Rattle.lfs_model.specs.format.Thread.{is_hard_tail};
 ghost use Rattle.lfs_tag.specs.LogEntryView.{log_entry_view};
 ghost use Rattle.lfs_tag.specs.ContentView.{data_view, attribute_view, slot_view, tail_view, content_view, index_for_attribute};
@@ -94,9 +94,9 @@ impl From<AllocError> for ContentError {
 
 /// Converts to the file system's error: a malformed log is `Corrupt`.
 impl From<ContentError> for Error {
-    ghost use Rattle.lfs_tag.specs.ContentGives.{error_of_content};
+    ghost use Rattle.lfs_tag.specs.ContentGives.{content_error};
 
-    ghost from_gives = { λ c e. e ≡ error_of_content c };
+    ghost from_gives = { λ c e. e ≡ content_error c };
 
     fn from(error: ContentError) -> Error {
         match error {
@@ -180,7 +180,7 @@ fn remove_attribute(attributes: &mut Vec<Attribute<'_>>, kind: u8)
 // Adds empty slots up to an id.
 fn pad_slots(alloc: Global, slots: &mut Vec<Slot<'_>>, id: usize) -> Result<(), AllocError>
     requires { id < 1024 }
-    ensures filled { OnOk result (map slot_view slots.new.items ≡ slots_padded_to (map slot_view slots.old.items) id) }
+    ensures filled { OnOk result (map slot_view slots.new.items ≡ padded_slots (map slot_view slots.old.items) id) }
     ensures long { OnOk result (id < vec_len slots.new) }
 {
     while slots.len() <= id {
@@ -197,7 +197,7 @@ fn set_slot_name<'a>(
     part: NameOrStruct<'a>,
 ) -> Result<(), AllocError>
     requires { id < 1024 }
-    ensures { OnOk result (map slot_view slots.new.items ≡ changed_at (λ s. record s { name = Some (data_view part.entry) }) (slots_padded_to (map slot_view slots.old.items) id) id) }
+    ensures { OnOk result (map slot_view slots.new.items ≡ changed_at (λ s. record s { name = Some (data_view part.entry) }) (padded_slots (map slot_view slots.old.items) id) id) }
 {
     pad_slots(alloc, slots, id)?;
     let slot = &mut slots[id];

@@ -5,7 +5,7 @@ ghost use Rattle.std.specs.List.{insert, remove};
 ghost use Rattle.arrayvec.specs.ArrayVec.{array_vec_len};
 ghost use Rattle.lfs_model.specs.format.Log.{block_entries};
 ghost use Rattle.lfs_model.specs.format.Content.{RawContent, content_after, empty_raw_content, slot_of_id};
-ghost use Rattle.lfs_tag.specs.Find.{ordering_comparison, comparison_with_entry, comparison_with_slot, comparisons_padded_to, comparisons_after_splice, comparisons_after_entry, comparisons_after, is_wanted_comparison, is_skipped_id, is_wanted_slot, first_wanted_slot};
+ghost use Rattle.lfs_tag.specs.Find.{ordering_comparison, comparison_with_entry, comparison_with_slot, padded_comparisons, comparisons_after_splice, comparisons_after_entry, comparisons_after, is_wanted, is_skipped, is_wanted_slot, first_wanted_slot};
 ghost use Rattle.lfs_tag.specs.FindView.{IsNameLookup, lookup_of_comparisons};
 ghost use Rattle.lfs_tag.specs.LogEntryView.{log_entry_view};
 
@@ -184,7 +184,7 @@ fn comparison_by_ordering(ordering: Ordering) -> NameComparison
 // Ranks a slot, which may be past the end.
 fn put_comparison(ranks: &mut Ranks, id: usize, rank: NameComparison)
     requires { id < 1024 }
-    ensures { ranks.new.items ≡ slice_set (comparisons_padded_to ranks.old.items id) id rank }
+    ensures { ranks.new.items ≡ slice_set (padded_comparisons ranks.old.items id) id rank }
 {
     pad_comparisons(ranks, id);
     ranks[id] = rank;
@@ -193,7 +193,7 @@ fn put_comparison(ranks: &mut Ranks, id: usize, rank: NameComparison)
 // Adds slots without a name up to an id.
 fn pad_comparisons(ranks: &mut Ranks, id: usize)
     requires { id < 1024 }
-    ensures ranks { ranks.new.items ≡ comparisons_padded_to ranks.old.items id }
+    ensures ranks { ranks.new.items ≡ padded_comparisons ranks.old.items id }
     ensures long { id < array_vec_len ranks.new }
 {
     while ranks.len() <= id {
@@ -240,7 +240,7 @@ fn named_as_wanted(same: bool, skip: Option<u16>, id: usize, rank: NameCompariso
 }
 
 fn is_as_wanted(same: bool, rank: NameComparison) -> bool
-    ensures { result ≡ is_wanted_comparison same rank }
+    ensures { result ≡ is_wanted same rank }
 {
     match rank {
         NameComparison::NoneOrLess => false,
@@ -250,7 +250,7 @@ fn is_as_wanted(same: bool, rank: NameComparison) -> bool
 }
 
 fn skips_id(skip: Option<u16>, id: usize) -> bool
-    ensures { result ≡ is_skipped_id skip id }
+    ensures { result ≡ is_skipped skip id }
 {
     match skip {
         Some(skipped) => usize::from(skipped) == id,

@@ -4,9 +4,9 @@ ghost use Rattle.std.specs.Prelude.{◌≡◌, ℕ, ◌+◌, ◌-◌, ◌≤◌,
 ghost use Rattle.std.specs.Option.{option_copied, option_map};
 ghost use Rattle.lfs_model.specs.format.Log.{block_entries};
 ghost use Rattle.lfs_model.specs.format.Content.{RawContent, content_after, empty_raw_content, slot_of_id};
-ghost use Rattle.lfs_model.specs.layers.Lookup.{bytes_at, bytes_of_type};
+ghost use Rattle.lfs_model.specs.layers.Lookup.{bytes_at, part_bytes};
 ghost use Rattle.lfs_tag.specs.ContentView.{data_view};
-ghost use Rattle.lfs_tag.specs.EntrySearch.{splice_effect_of, effect_on_slot, found_in_entries, searched_entries};
+ghost use Rattle.lfs_tag.specs.EntrySearch.{splice_effect_of, slot_effect, found_in_entries, searched_count};
 ghost use Rattle.lfs_tag.specs.VerdictView.{entry_effect_view};
 ghost use Rattle.lfs_tag.specs.LogEntryView.{log_entry_view};
 
@@ -45,7 +45,7 @@ fn splice_effect<'a>(entry: &Entry<'a>, id: u64) -> EntryEffect<'a>
 // Returns what an entry means for a type and an id after it.
 fn effect_on_id<'a>(entry: &Entry<'a>, kind: u16, id: u64) -> EntryEffect<'a>
     requires { id < 2 ^ 64 - 1 }
-    ensures { entry_effect_view result ≡ effect_on_slot (log_entry_view entry.now) kind id }
+    ensures { entry_effect_view result ≡ slot_effect (log_entry_view entry.now) kind id }
 {
     let tag = entry.tag;
     let class = tag.class();
@@ -77,7 +77,7 @@ fn search_newest<'a>(
 ) -> (Option<NameOrStruct<'a>>, u64)
     requires { id + length entries < 2 ^ 63 }
     ensures found { option_map data_view result.0 ≡ found_in_entries (reverse entries.entry) kind id }
-    ensures looks { result.1 ≡ searched_entries (reverse entries.entry) kind id }
+    ensures looks { result.1 ≡ searched_count (reverse entries.entry) kind id }
 {
     let mut looks = 0;
     while let Some(entry) = entries.next_back() {
@@ -99,7 +99,7 @@ fn newest_of_slot<'a>(
     steps: &mut Steps,
 ) -> Option<NameOrStruct<'a>>
     ensures found { option_map data_view result ≡ found_in_entries (reverse (block_entries log.now)) kind id }
-    ensures steps { steps.new ≡ min (steps.old + searched_entries (reverse (block_entries log.now)) kind id) (2 ^ 64 - 1) }
+    ensures steps { steps.new ≡ min (steps.old + searched_count (reverse (block_entries log.now)) kind id) (2 ^ 64 - 1) }
     ensures bound { steps.new ≤ steps.old + length (block_entries log.now) }
 {
     let found = search_newest(log.entries(), kind, u64::from(id));
@@ -109,7 +109,7 @@ fn newest_of_slot<'a>(
 
 // Returns the bytes of a part, where the part has that type.
 fn matching_bytes<'a>(part: Option<NameOrStruct<'a>>, kind: u16) -> Option<&'a [u8]>
-    ensures { option_copied result ≡ bytes_of_type kind (option_map data_view part.entry) }
+    ensures { option_copied result ≡ part_bytes kind (option_map data_view part.entry) }
 {
     match part {
         Some(part) if part.kind == kind => Some(part.bytes),
@@ -123,7 +123,7 @@ fn matching_bytes<'a>(part: Option<NameOrStruct<'a>>, kind: u16) -> Option<&'a [
 /// in `steps`; these are at most the entries of the log.
 pub fn get<'a>(log: &Log<'a>, kind: u16, id: u16, steps: &mut Steps) -> Option<&'a [u8]>
     ensures held { (c : RawContent) → content_after empty_raw_content (block_entries log.now) ≡ Some c → option_copied result ≡ bytes_at c.slots kind id }
-    ensures steps { steps.new ≡ min (steps.old + searched_entries (reverse (block_entries log.now)) kind id) (2 ^ 64 - 1) }
+    ensures steps { steps.new ≡ min (steps.old + searched_count (reverse (block_entries log.now)) kind id) (2 ^ 64 - 1) }
     ensures bound { steps.new ≤ steps.old + length (block_entries log.now) }
 {
     matching_bytes(newest_of_slot(log, kind, id, steps), kind)
@@ -133,7 +133,7 @@ pub fn get<'a>(log: &Log<'a>, kind: u16, id: u16, steps: &mut Steps) -> Option<&
 /// there. The log isn't malformed. `steps` counts as in [`get`].
 pub fn find_slot_name<'a>(log: &Log<'a>, id: u16, steps: &mut Steps) -> Option<NameOrStruct<'a>>
     ensures held { (c : RawContent) → content_after empty_raw_content (block_entries log.now) ≡ Some c → option_map data_view result ≡ (slot_of_id c.slots id).name }
-    ensures steps { steps.new ≡ min (steps.old + searched_entries (reverse (block_entries log.now)) 0 id) (2 ^ 64 - 1) }
+    ensures steps { steps.new ≡ min (steps.old + searched_count (reverse (block_entries log.now)) 0 id) (2 ^ 64 - 1) }
     ensures bound { steps.new ≤ steps.old + length (block_entries log.now) }
 {
     newest_of_slot(log, NAME_CLASS << 8, id, steps)
@@ -143,7 +143,7 @@ pub fn find_slot_name<'a>(log: &Log<'a>, id: u16, steps: &mut Steps) -> Option<N
 /// there. The log isn't malformed. `steps` counts as in [`get`].
 pub fn find_slot_struct<'a>(log: &Log<'a>, id: u16, steps: &mut Steps) -> Option<NameOrStruct<'a>>
     ensures held { (c : RawContent) → content_after empty_raw_content (block_entries log.now) ≡ Some c → option_map data_view result ≡ (slot_of_id c.slots id).struct }
-    ensures steps { steps.new ≡ min (steps.old + searched_entries (reverse (block_entries log.now)) 0x200 id) (2 ^ 64 - 1) }
+    ensures steps { steps.new ≡ min (steps.old + searched_count (reverse (block_entries log.now)) 0x200 id) (2 ^ 64 - 1) }
     ensures bound { steps.new ≤ steps.old + length (block_entries log.now) }
 {
     newest_of_slot(log, STRUCT_CLASS << 8, id, steps)

@@ -2,7 +2,7 @@
 
 ghost use Rattle.std.specs.Prelude.{◌≡◌, ◌+◌, ◌≤◌, ◌<◌, ◌^◌, length, max};
 ghost use Rattle.lfs_model.specs.format.Log.{block_entries};
-ghost use Rattle.lfs_tag.specs.SlotCount.{slot_count_after_entry, slot_count_after};
+ghost use Rattle.lfs_tag.specs.SlotCount.{slot_count_after_entry, count_after};
 ghost use Rattle.lfs_tag.specs.LogEntryView.{log_entry_view};
 
 use crate::entry::Entry;
@@ -13,7 +13,7 @@ use crate::log::Log;
 #[tactic(auto, using(crate::proofs::Ranks::few_entries))]
 pub(crate) fn slot_count(log: &Log<'_>) -> usize
     requires { length log.now ≤ 2 ^ 16 }
-    ensures count { result ≡ slot_count_after 0 (block_entries log.now) }
+    ensures count { result ≡ count_after 0 (block_entries log.now) }
     ensures few { result < 17408 }
 {
     let mut count = 0;

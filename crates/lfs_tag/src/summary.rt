@@ -6,7 +6,7 @@ ghost use Rattle.lfs_model.specs.format.Log.{block_entries};
 ghost use Rattle.lfs_model.specs.format.Content.{RawContent, content_after, empty_raw_content};
 ghost use Rattle.lfs_tag.specs.LogEntryView.{log_entry_view};
 ghost use Rattle.lfs_tag.specs.ContentGives.{GivesWithMemory};
-ghost use Rattle.lfs_tag.specs.Summary.{IsLogSummary, empty_mark, mark_at_id, marks_with_change, marks_padded_to, has_both, marks_after_entry, outline_view, outline_after_entry, outline_after, empty_outline};
+ghost use Rattle.lfs_tag.specs.Summary.{IsLogSummary, empty_mark, id_mark, marks_with_change, padded_marks, has_both, marks_after_entry, outline_view, outline_after_entry, outline_after, empty_outline};
 
 use crate::content::{ContentError, Tail, has_needed_slot, is_known_entry, tail_set_by};
 use crate::entry::Entry;
@@ -151,7 +151,7 @@ fn apply_to_marks(marks: &mut Vec<SlotSummary>, entry: &Entry<'_>) -> Result<(),
 
 // Returns whether a slot is there and has a name.
 fn is_named_mark(marks: &[SlotSummary], id: usize) -> bool
-    ensures value { result ≡ (mark_at_id marks.now id).has_name }
+    ensures value { result ≡ (id_mark marks.now id).has_name }
     ensures there { IsTrue result → id < length marks.now }
 {
     if id < marks.len() {
@@ -164,7 +164,7 @@ fn is_named_mark(marks: &[SlotSummary], id: usize) -> bool
 // Marks the name of a slot, which may be past the end.
 fn mark_named(marks: &mut Vec<SlotSummary>, id: usize) -> Result<(), AllocError>
     requires { id < 1024 }
-    ensures { OnOk result (marks.new.items ≡ marks_with_change (λ m. record m { has_name = true }) (marks_padded_to marks.old.items id) id) }
+    ensures { OnOk result (marks.new.items ≡ marks_with_change (λ m. record m { has_name = true }) (padded_marks marks.old.items id) id) }
 {
     pad_marks(marks, id)?;
     marks[id].has_name = true;
@@ -174,7 +174,7 @@ fn mark_named(marks: &mut Vec<SlotSummary>, id: usize) -> Result<(), AllocError>
 // Adds marks of empty slots up to an id.
 fn pad_marks(marks: &mut Vec<SlotSummary>, id: usize) -> Result<(), AllocError>
     requires { id < 1024 }
-    ensures filled { OnOk result (marks.new.items ≡ marks_padded_to marks.old.items id) }
+    ensures filled { OnOk result (marks.new.items ≡ padded_marks marks.old.items id) }
     ensures long { OnOk result (id < vec_len marks.new) }
 {
     if marks.len() <= id {

@@ -1,42 +1,27 @@
 -- The pairs of a thread, read in turn.
 use Rattle.std.proofs.Common.{ℕ, zero, suc, ◌≡◌, ◌≢◌, ◌⊎◌, inl, inr, ◌↔◌, ◌+◌, ◌<◌, ◌≤◌, nat_eq, true, false, List, [], ◌∷◌, ◌++◌, length, Option, Some, None, refl, sym, ap, subst, ◌∙◌, arith, set, replicate}
 use Rattle.std.specs.Prelude.{Contains, is_some, slice_get}
-use Rattle.std.specs.Option.{option_and_then, option_map}
-use Rattle.std.proofs.lemmas.Bool.Decides.{eqb_tells}
-use Rattle.std.proofs.lemmas.Option.{slice_get_within}
-use Rattle.std.proofs.lemmas.List.{map-append, length-set, length-replicate}
+use Rattle.lfs_thread.proofs.Common.{option_and_then, option_map, eqb_tells, slice_get_within, map-append, length-set, ReadsOnly, Blocks, Free, InFlight, Used, BlockStates, IsFree, IsInFlight, IsUsedBlock, Disk, block_count, CallEvent, OnlyReadsSince, PairContent, complete_content, content_at, raw_content, Pair, anchor_address, AreLinked, tail_target, pairs_blocks, slice_get-set_same, slice_get-set_other, Contains-number_occurrences, completed_parts, goes_on_by, number_occurrences, count_here, once_from_distinct, distinct_from_once, tail_view, IsPairAddress, header_address, PairHeader, disk_pair_at, header_pairs, IsHeader, AllBlocksUsed, IsKeptOnDisk, AreBeforeAddress, IsThreadBeginning}
+use Rattle.std.proofs.lemmas.List.{length-replicate}
 use Rattle.lfs_device.specs.declared.device.BlockDevice.{Ghosts}
-use Rattle.lfs_device.specs.DeviceCalls.{ReadsOnly}
-use Rattle.lfs_model.specs.format.Blocks.{Blocks}
-use Rattle.lfs_model.specs.layers.BlockSets.{Free, InFlight, Used, AreInFlight, BlockStates, IsFree, IsInFlight, IsUsedBlock}
-use Rattle.lfs_model.specs.format.Disk.{Disk, block_count}
-use Rattle.lfs_model.specs.session.History.{CallEvent, OnlyReadsSince}
-use Rattle.lfs_model.specs.format.Slots.{PairContent}
-use Rattle.lfs_model.specs.format.Content.{complete_content, content_at, raw_content}
-use Rattle.lfs_model.specs.format.Thread.{Pair, anchor_address, AreLinked, tail_address_of, blocks_of_pairs}
+use Rattle.lfs_model.specs.layers.BlockSets.{AreInFlight}
 use Rattle.lfs_model.specs.layers.Violations.{LeadsByTails}
-use Rattle.lfs_model.proofs.BlockSets.{slice_get-set_same, slice_get-set_other, Contains-number_count, number_count-Contains, used_count-AreUsed, counts_le}
-use Rattle.lfs_model.proofs.Completed.{completed_parts}
-use Rattle.lfs_model.proofs.Histories.{goes_on_by}
-use Rattle.lfs_model.proofs.Counts.{number_count, count_here, once_from_distinct, distinct_from_once}
-use Rattle.lfs_tag.specs.ContentView.{tail_view}
-use Rattle.lfs_pair.specs.Commits.{AddressIsOnDisk}
-use Rattle.lfs_pair.specs.Pair.{FetchFindsPair, header_address}
-use Rattle.lfs_thread.specs.Kept.{PairHeader, disk_pair_at, pairs_of_headers, IsHeader, AllBlocksUsed, IsKeptOnDisk}
-use Rattle.lfs_thread.specs.Begun.{AreBeforeAddress, IsOnFreeBlocks, IsThreadBeginning}
+use Rattle.lfs_model.proofs.BlockSets.{number_occurrences-Contains, used_count-AreUsed, counts_le}
+use Rattle.lfs_pair.specs.Pair.{FetchFinds}
+use Rattle.lfs_thread.specs.Begun.{IsOnFreeBlocks}
 use Rattle.lfs_thread.proofs.Keeping.{headers_append, header_content, header_contents, pair_on_content, blocks_append}
 use Rattle.lfs_thread.proofs.Changing.{headers_read}
 use Rattle.lfs_thread.proofs.Coming.{two_unused, free_unused}
 
 -- ---- a pair that was fetched
 
-pub fetched_header : (disk : Disk) (history : List CallEvent) (at : ℕ × ℕ) (pair : PairHeader) → AddressIsOnDisk disk at → FetchFindsPair disk history at pair → pair.is_complete ≡ true → IsHeader disk history pair
+pub fetched_header : (disk : Disk) (history : List CallEvent) (at : ℕ × ℕ) (pair : PairHeader) → IsPairAddress disk at → FetchFinds disk history at pair → pair.is_complete ≡ true → IsHeader disk history pair
 fetched_header disk history at pair on f full = go (complete_content f.held) refl (sym f.is_pair.describes.sums.complete ∙ full)
   where
     go : (o : Option PairContent) → complete_content f.held ≡ o → is_some {T = PairContent} o ≡ true → IsHeader disk history pair
     go None e k = absurd (cc)
     go (Some c) e k = record {
-      address = subst (AddressIsOnDisk disk) (sym f.at) on;
+      address = subst (IsPairAddress disk) (sym f.at) on;
       held = f.held;
       is_pair = f.is_pair;
       raw = ap (raw_content disk) f.at ∙ f.content;
@@ -44,7 +29,7 @@ fetched_header disk history at pair on f full = go (complete_content f.held) ref
       complete = e;
     }
 
-pub fetched_stands : (disk : Disk) (history : List CallEvent) (at : ℕ × ℕ) (pair : PairHeader) (sets : BlockStates) → AddressIsOnDisk disk at → FetchFindsPair disk history at pair → pair.is_complete ≡ true
+pub fetched_stands : (disk : Disk) (history : List CallEvent) (at : ℕ × ℕ) (pair : PairHeader) (sets : BlockStates) → IsPairAddress disk at → FetchFinds disk history at pair → pair.is_complete ≡ true
     → IsFree sets at.0 → IsFree (set sets at.0 Used) at.1 → IsOnFreeBlocks disk sets at
 fetched_stands disk history at pair sets on f full first second =
     let h = fetched_header disk history at pair on f full in
@@ -57,14 +42,14 @@ fetched_stands disk history at pair sets on f full first second =
     }
 
 -- no content, where a slot lacks its name or its struct
-pub fetched_incomplete : (disk : Disk) (history : List CallEvent) (at : ℕ × ℕ) (pair : PairHeader) → FetchFindsPair disk history at pair → pair.is_complete ≡ false → content_at disk at ≡ None
+pub fetched_incomplete : (disk : Disk) (history : List CallEvent) (at : ℕ × ℕ) (pair : PairHeader) → FetchFinds disk history at pair → pair.is_complete ≡ false → content_at disk at ≡ None
 fetched_incomplete disk history at pair f not_full = ap (option_and_then complete_content) f.content ∙ go (complete_content f.held) (sym f.is_pair.describes.sums.complete ∙ not_full)
   where
     go : (o : Option PairContent) → is_some {T = PairContent} o ≡ false → o ≡ None
     go None k = refl
     go (Some c) k = absurd (cc)
 
-pub on_disk : (disk : Disk) (n : ℕ) (at : ℕ × ℕ) → block_count disk ≡ n → at.0 ≢ at.1 → at.0 < n → at.1 < n → AddressIsOnDisk disk at
+pub on_disk : (disk : Disk) (n : ℕ) (at : ℕ × ℕ) → block_count disk ≡ n → at.0 ≢ at.1 → at.0 < n → at.1 < n → IsPairAddress disk at
 on_disk disk n at is apart first second = record { apart = apart; first = subst (λ k. at.0 < k) (sym is) first; second = subst (λ k. at.1 < k) (sym is) second }
 
 -- ---- nothing is read yet
@@ -85,25 +70,25 @@ begun_none disk history n e = record {
   links = refl;
   distinct = distinct_from_once [] (λ b. omega arith);
   size = length-replicate n Free ∙ e;
-  marked = λ b. ((λ u. absurd (none_used n b u)), (λ h. absurd (omega (arith, number_count-Contains [] b h))));
+  marked = λ b. ((λ u. absurd (none_used n b u)), (λ h. absurd (omega (arith, number_occurrences-Contains [] b h))));
   others = λ b l. inr (all_free n b (let k = length-replicate n Free in omega arith));
 }
 
 -- ---- one more
 
-leads_on : (at : Option (ℕ × ℕ)) (ps : List Pair) (p : Pair) → LeadsByTails at ps (Some p.at) → LeadsByTails at (ps ++ p ∷ []) (tail_address_of p.content.tail)
+leads_on : (at : Option (ℕ × ℕ)) (ps : List Pair) (p : Pair) → LeadsByTails at ps (Some p.at) → LeadsByTails at (ps ++ p ∷ []) (tail_target p.content.tail)
 leads_on at [] p l = (l, refl)
-leads_on at (q ∷ ps) p l = (l.0, leads_on (tail_address_of q.content.tail) ps p l.1)
+leads_on at (q ∷ ps) p l = (l.0, leads_on (tail_target q.content.tail) ps p l.1)
 
 all_used : (sets : BlockStates) (bs : List ℕ) → ((b : ℕ) → Contains bs b → IsUsedBlock sets b) → AllBlocksUsed sets bs
 all_used sets [] f = tt
-all_used sets (b ∷ bs) f = (f b (Contains-number_count (b ∷ bs) b (let k = count_here b bs in omega arith)), all_used sets bs (λ c h. f c (Contains-number_count (b ∷ bs) c (let k = number_count-Contains bs c h in let l = more c b bs in omega arith))))
+all_used sets (b ∷ bs) f = (f b (Contains-number_occurrences (b ∷ bs) b (let k = count_here b bs in omega arith)), all_used sets bs (λ c h. f c (Contains-number_occurrences (b ∷ bs) c (let k = number_occurrences-Contains bs c h in let l = more c b bs in omega arith))))
   where
-    more : (x b : ℕ) (bs : List ℕ) → number_count x bs ≤ number_count x (b ∷ bs)
+    more : (x b : ℕ) (bs : List ℕ) → number_occurrences x bs ≤ number_occurrences x (b ∷ bs)
     more x b bs = omega arith
 
-used_now : (disk : Disk) (history : List CallEvent) (hs : List PairHeader) (sets : BlockStates) (next : Option (ℕ × ℕ)) → IsThreadBeginning disk history hs sets next → AllBlocksUsed sets (blocks_of_pairs (pairs_of_headers disk hs))
-used_now disk history hs sets next begun = all_used sets (blocks_of_pairs (pairs_of_headers disk hs)) (λ b h. (begun.marked b).1 h)
+used_now : (disk : Disk) (history : List CallEvent) (hs : List PairHeader) (sets : BlockStates) (next : Option (ℕ × ℕ)) → IsThreadBeginning disk history hs sets next → AllBlocksUsed sets (pairs_blocks (header_pairs disk hs))
+used_now disk history hs sets next begun = all_used sets (pairs_blocks (header_pairs disk hs)) (λ b h. (begun.marked b).1 h)
 
 module _ (disk : Disk) (blocks : Blocks) (before after : List CallEvent) (hs : List PairHeader) (sets : BlockStates) (at : ℕ × ℕ) (h : PairHeader)
     (reads : OnlyReadsSince blocks before after) (begun : IsThreadBeginning disk before hs sets (Some at)) (is : IsHeader disk after h) (same : header_address h ≡ at) (stands : IsOnFreeBlocks disk sets at) where
@@ -117,12 +102,12 @@ module _ (disk : Disk) (blocks : Blocks) (before after : List CallEvent) (hs : L
   tail_is = ap (λ (q : Pair). q.content.tail) (pair_on_content disk (header_address h) is.content (header_content disk after h is))
       ∙ (completed_parts is.held is.content is.complete).tail ∙ sym is.is_pair.describes.sums.tail
 
-  pairs_now : pairs_of_headers disk (hs ++ h ∷ []) ≡ pairs_of_headers disk hs ++ p ∷ []
+  pairs_now : header_pairs disk (hs ++ h ∷ []) ≡ header_pairs disk hs ++ p ∷ []
   pairs_now = map-append (λ x. disk_pair_at disk (header_address x)) hs (h ∷ [])
 
-  counts : (b : ℕ) → number_count b (blocks_of_pairs (pairs_of_headers disk (hs ++ h ∷ []))) ≡ number_count b (blocks_of_pairs (pairs_of_headers disk hs)) + number_count b (at.0 ∷ at.1 ∷ [])
-  counts b = ap (λ z. number_count b (blocks_of_pairs z)) pairs_now ∙ blocks_append (pairs_of_headers disk hs) (p ∷ []) b
-      ∙ ap (λ (x : ℕ × ℕ). number_count b (blocks_of_pairs (pairs_of_headers disk hs)) + number_count b (x.0 ∷ x.1 ∷ [])) same
+  counts : (b : ℕ) → number_occurrences b (pairs_blocks (header_pairs disk (hs ++ h ∷ []))) ≡ number_occurrences b (pairs_blocks (header_pairs disk hs)) + number_occurrences b (at.0 ∷ at.1 ∷ [])
+  counts b = ap (λ z. number_occurrences b (pairs_blocks z)) pairs_now ∙ blocks_append (header_pairs disk hs) (p ∷ []) b
+      ∙ ap (λ (x : ℕ × ℕ). number_occurrences b (pairs_blocks (header_pairs disk hs)) + number_occurrences b (x.0 ∷ x.1 ∷ [])) same
 
   first_within : at.0 < length sets
   first_within = slice_get_within sets at.0 Free stands.first_free
@@ -149,40 +134,40 @@ module _ (disk : Disk) (blocks : Blocks) (before after : List CallEvent) (hs : L
       go (inr k) (inl l) = inl (inr l.1)
       go (inr k) (inr l) = inr (k.1, l.1)
 
-  one_of : (b : ℕ) → (b ≡ at.0) ⊎ (b ≡ at.1) → (IsUsedBlock now b) × (1 ≤ number_count b (at.0 ∷ at.1 ∷ []))
-  one_of b (inl e) = (subst (IsUsedBlock now) (sym e) first_used, (let k = ap (λ x. number_count x (at.0 ∷ at.1 ∷ [])) e in let l = count_here at.0 (at.1 ∷ []) in omega arith))
-  one_of b (inr e) = (subst (IsUsedBlock now) (sym e) second_used, (let k = ap (λ x. number_count x (at.0 ∷ at.1 ∷ [])) e in let l = count_here at.1 [] in let m = more at.1 at.0 (at.1 ∷ []) in omega arith))
+  one_of : (b : ℕ) → (b ≡ at.0) ⊎ (b ≡ at.1) → (IsUsedBlock now b) × (1 ≤ number_occurrences b (at.0 ∷ at.1 ∷ []))
+  one_of b (inl e) = (subst (IsUsedBlock now) (sym e) first_used, (let k = ap (λ x. number_occurrences x (at.0 ∷ at.1 ∷ [])) e in let l = count_here at.0 (at.1 ∷ []) in omega arith))
+  one_of b (inr e) = (subst (IsUsedBlock now) (sym e) second_used, (let k = ap (λ x. number_occurrences x (at.0 ∷ at.1 ∷ [])) e in let l = count_here at.1 [] in let m = more at.1 at.0 (at.1 ∷ []) in omega arith))
     where
-      more : (x b : ℕ) (bs : List ℕ) → number_count x bs ≤ number_count x (b ∷ bs)
+      more : (x b : ℕ) (bs : List ℕ) → number_occurrences x bs ≤ number_occurrences x (b ∷ bs)
       more x b bs = omega arith
 
-  no_other : (b : ℕ) → b ≢ at.0 → b ≢ at.1 → number_count b (at.0 ∷ at.1 ∷ []) ≡ 0
+  no_other : (b : ℕ) → b ≢ at.0 → b ≢ at.1 → number_occurrences b (at.0 ∷ at.1 ∷ []) ≡ 0
   no_other b f g = go (eqb_tells b at.0) (eqb_tells b at.1)
     where
       go : ((nat_eq b at.0 ≡ true) × (b ≡ at.0)) ⊎ ((nat_eq b at.0 ≡ false) × (b ≢ at.0)) → ((nat_eq b at.1 ≡ true) × (b ≡ at.1)) ⊎ ((nat_eq b at.1 ≡ false) × (b ≢ at.1))
-          → number_count b (at.0 ∷ at.1 ∷ []) ≡ 0
+          → number_occurrences b (at.0 ∷ at.1 ∷ []) ≡ 0
       go (inl k) l = absurd (f k.1)
       go (inr k) (inl l) = absurd (g l.1)
       go (inr k) (inr l) = rw (k.0, l.0) refl
 
-  marked_now : (b : ℕ) → IsUsedBlock now b ↔ Contains (blocks_of_pairs (pairs_of_headers disk (hs ++ h ∷ []))) b
+  marked_now : (b : ℕ) → IsUsedBlock now b ↔ Contains (pairs_blocks (header_pairs disk (hs ++ h ∷ []))) b
   marked_now b = (to, from)
     where
-      to : IsUsedBlock now b → Contains (blocks_of_pairs (pairs_of_headers disk (hs ++ h ∷ []))) b
+      to : IsUsedBlock now b → Contains (pairs_blocks (header_pairs disk (hs ++ h ∷ []))) b
       to u = go (which b)
         where
-          go : ((b ≡ at.0) ⊎ (b ≡ at.1)) ⊎ ((b ≢ at.0) × (b ≢ at.1)) → Contains (blocks_of_pairs (pairs_of_headers disk (hs ++ h ∷ []))) b
-          go (inl k) = Contains-number_count (blocks_of_pairs (pairs_of_headers disk (hs ++ h ∷ []))) b (let e = counts b in let l = (one_of b k).1 in omega arith)
-          go (inr k) = Contains-number_count (blocks_of_pairs (pairs_of_headers disk (hs ++ h ∷ []))) b
-              (let e = counts b in let l = number_count-Contains (blocks_of_pairs (pairs_of_headers disk hs)) b ((begun.marked b).0 (sym (other_same b k.0 k.1) ∙ u)) in omega arith)
+          go : ((b ≡ at.0) ⊎ (b ≡ at.1)) ⊎ ((b ≢ at.0) × (b ≢ at.1)) → Contains (pairs_blocks (header_pairs disk (hs ++ h ∷ []))) b
+          go (inl k) = Contains-number_occurrences (pairs_blocks (header_pairs disk (hs ++ h ∷ []))) b (let e = counts b in let l = (one_of b k).1 in omega arith)
+          go (inr k) = Contains-number_occurrences (pairs_blocks (header_pairs disk (hs ++ h ∷ []))) b
+              (let e = counts b in let l = number_occurrences-Contains (pairs_blocks (header_pairs disk hs)) b ((begun.marked b).0 (sym (other_same b k.0 k.1) ∙ u)) in omega arith)
 
-      from : Contains (blocks_of_pairs (pairs_of_headers disk (hs ++ h ∷ []))) b → IsUsedBlock now b
+      from : Contains (pairs_blocks (header_pairs disk (hs ++ h ∷ []))) b → IsUsedBlock now b
       from c = go (which b)
         where
           go : ((b ≡ at.0) ⊎ (b ≡ at.1)) ⊎ ((b ≢ at.0) × (b ≢ at.1)) → IsUsedBlock now b
           go (inl k) = (one_of b k).0
-          go (inr k) = other_same b k.0 k.1 ∙ (begun.marked b).1 (Contains-number_count (blocks_of_pairs (pairs_of_headers disk hs)) b
-              (let e = counts b in let l = number_count-Contains (blocks_of_pairs (pairs_of_headers disk (hs ++ h ∷ []))) b c in let m = no_other b k.0 k.1 in omega arith))
+          go (inr k) = other_same b k.0 k.1 ∙ (begun.marked b).1 (Contains-number_occurrences (pairs_blocks (header_pairs disk hs)) b
+              (let e = counts b in let l = number_occurrences-Contains (pairs_blocks (header_pairs disk (hs ++ h ∷ []))) b c in let m = no_other b k.0 k.1 in omega arith))
 
   others_now : (b : ℕ) → b < length now → IsUsedBlock now b ⊎ IsFree now b
   others_now b l = go (which b)
@@ -198,15 +183,15 @@ module _ (disk : Disk) (blocks : Blocks) (before after : List CallEvent) (hs : L
           side (inl u) = inl (other_same b k.0 k.1 ∙ u)
           side (inr f) = inr (other_same b k.0 k.1 ∙ f)
 
-  pub begun_more : IsThreadBeginning disk after (hs ++ h ∷ []) now (tail_address_of (option_map tail_view h.tail))
+  pub begun_more : IsThreadBeginning disk after (hs ++ h ∷ []) now (tail_target (option_map tail_view h.tail))
   begun_more = record {
     each = headers_append disk after hs (h ∷ []) (headers_read disk blocks before after hs reads begun.each) (is, tt);
-    links = subst (λ ps. LeadsByTails (Some anchor_address) ps (tail_address_of (option_map tail_view h.tail))) (sym pairs_now)
-        (subst (λ t. LeadsByTails (Some anchor_address) (pairs_of_headers disk hs ++ p ∷ []) (tail_address_of t)) tail_is
-        (leads_on (Some anchor_address) (pairs_of_headers disk hs) p (subst (λ a. LeadsByTails (Some anchor_address) (pairs_of_headers disk hs) (Some a)) (sym same) begun.links)));
-    distinct = distinct_from_once (blocks_of_pairs (pairs_of_headers disk (hs ++ h ∷ []))) (λ b.
+    links = subst (λ ps. LeadsByTails (Some anchor_address) ps (tail_target (option_map tail_view h.tail))) (sym pairs_now)
+        (subst (λ t. LeadsByTails (Some anchor_address) (header_pairs disk hs ++ p ∷ []) (tail_target t)) tail_is
+        (leads_on (Some anchor_address) (header_pairs disk hs) p (subst (λ a. LeadsByTails (Some anchor_address) (header_pairs disk hs) (Some a)) (sym same) begun.links)));
+    distinct = distinct_from_once (pairs_blocks (header_pairs disk (hs ++ h ∷ []))) (λ b.
         let e = counts b in
-        let k = two_unused sets at.0 at.1 (blocks_of_pairs (pairs_of_headers disk hs)) (free_unused sets at.0 stands.first_free) (free_unused sets at.1 stands.second_free) stands.apart (used_now disk before hs sets (Some at) begun) (once_from_distinct (blocks_of_pairs (pairs_of_headers disk hs)) begun.distinct) b in
+        let k = two_unused sets at.0 at.1 (pairs_blocks (header_pairs disk hs)) (free_unused sets at.0 stands.first_free) (free_unused sets at.1 stands.second_free) stands.apart (used_now disk before hs sets (Some at) begun) (once_from_distinct (pairs_blocks (header_pairs disk hs)) begun.distinct) b in
         omega arith);
     size = length-set (set sets at.0 Used) at.1 Used ∙ length-set sets at.0 Used ∙ begun.size;
     marked = marked_now;
@@ -217,12 +202,12 @@ module _ (disk : Disk) (blocks : Blocks) (before after : List CallEvent) (hs : L
 
 leads_linked : (at : Option (ℕ × ℕ)) (ps : List Pair) → LeadsByTails at ps None → AreLinked at ps
 leads_linked at [] l = l
-leads_linked at (p ∷ ps) l = (l.0, leads_linked (tail_address_of p.content.tail) ps l.1)
+leads_linked at (p ∷ ps) l = (l.0, leads_linked (tail_target p.content.tail) ps l.1)
 
 pub begun_kept : (disk : Disk) (history : List CallEvent) (hs : List PairHeader) (sets : BlockStates) → IsThreadBeginning disk history hs sets None → IsKeptOnDisk disk history hs sets
 begun_kept disk history hs sets begun = record {
   each = begun.each;
-  links = leads_linked (Some anchor_address) (pairs_of_headers disk hs) begun.links;
+  links = leads_linked (Some anchor_address) (header_pairs disk hs) begun.links;
   distinct = begun.distinct;
   size = begun.size;
   used = used_now disk history hs sets None begun;
@@ -239,9 +224,9 @@ begun_none_in_flight disk history hs sets next begun b = (
     go flies (inr free) = absurd (let e : Some InFlight ≡ Some Free = sym flies ∙ free in cc)
 
 pub begun_before : (disk : Disk) (history : List CallEvent) (hs : List PairHeader) (sets : BlockStates) (next : Option (ℕ × ℕ)) (at : ℕ × ℕ) → next ≡ Some at → IsThreadBeginning disk history hs sets next
-    → AreBeforeAddress disk sets (pairs_of_headers disk hs) at
+    → AreBeforeAddress disk sets (header_pairs disk hs) at
 begun_before disk history hs sets next at is begun = record {
-  begins = record { links = subst (LeadsByTails (Some anchor_address) (pairs_of_headers disk hs)) is begun.links; contents = header_contents disk history hs begun.each };
+  begins = record { links = subst (LeadsByTails (Some anchor_address) (header_pairs disk hs)) is begun.links; contents = header_contents disk history hs begun.each };
   marked = begun.marked;
   others = begun.others;
 }
@@ -249,13 +234,13 @@ begun_before disk history hs sets next at is begun = record {
 -- there are at least two blocks for each pair
 pub begun_few : (disk : Disk) (history : List CallEvent) (hs : List PairHeader) (sets : BlockStates) (next : Option (ℕ × ℕ)) → IsThreadBeginning disk history hs sets next → length hs + length hs ≤ block_count disk
 begun_few disk history hs sets next begun =
-    let u = used_count-AreUsed sets (blocks_of_pairs (pairs_of_headers disk hs)) begun.distinct begun.marked in
+    let u = used_count-AreUsed sets (pairs_blocks (header_pairs disk hs)) begun.distinct begun.marked in
     let c = counts_le sets in
     let s = begun.size in
     let d = doubled hs in
     omega arith
   where
-    doubled : (hs : List PairHeader) → length (blocks_of_pairs (pairs_of_headers disk hs)) ≡ length hs + length hs
+    doubled : (hs : List PairHeader) → length (pairs_blocks (header_pairs disk hs)) ≡ length hs + length hs
     doubled [] = refl
     doubled (h ∷ hs) = let d = doubled hs in omega arith
 
@@ -277,7 +262,7 @@ begun_first disk history hs sets n e f g =
 
 pub begun_next : (disk now : Disk) (blocks : Blocks) (before after : List CallEvent) (hs items : List PairHeader) (sets marked : BlockStates) (next : Option (ℕ × ℕ)) (at : ℕ × ℕ) (h : PairHeader) (behind : Option (ℕ × ℕ))
     → now ≡ disk → OnlyReadsSince blocks before after → next ≡ Some at → IsThreadBeginning disk before hs sets next → IsHeader disk after h → header_address h ≡ at → IsOnFreeBlocks disk sets at
-    → items ≡ hs ++ h ∷ [] → marked ≡ set (set sets at.0 Used) at.1 Used → behind ≡ tail_address_of (option_map tail_view h.tail) → IsThreadBeginning now after items marked behind
+    → items ≡ hs ++ h ∷ [] → marked ≡ set (set sets at.0 Used) at.1 Used → behind ≡ tail_target (option_map tail_view h.tail) → IsThreadBeginning now after items marked behind
 begun_next disk now blocks before after hs items sets marked next at h behind e reads is begun header same stands items_are marked_is behind_is =
     subst (λ d. IsThreadBeginning d after items marked behind) (sym e)
     (subst (λ z. IsThreadBeginning disk after z marked behind) (sym items_are)

@@ -2,17 +2,14 @@
 use Rattle.std.proofs.Common.{◌+◌, ◌++◌, ◌≢◌, ◌≤◌, ◌<◌, ◌^◌, length, map, subst, nat_cmp, nat_eq, ℕ, zero, suc, ◌≡◌, ◌⊎◌, inl, inr, ⊎_elim, Bool, true, false, cond, ◌&&◌, ◌==◌, List, [], ◌∷◌, Option, Some, None, refl, sym, ap, ap₂, ◌∙◌, arith, slice_get, option_map, min, max, eq-eqb, eqb-true, length-append, true≢false}
 use Rattle.std.proofs.lemmas.Bool.{cases_eq, cases_lt, and_parts, or_cases, or_left, or_right, and_from}
 use Rattle.std.specs.Prelude.{All}
-use Rattle.std.specs.List.{AllByRecursion, IsDistinct}
+use Rattle.lfs_thread.proofs.Common.{AllByRecursion, IsDistinct, length-map, All-from_recursion, same_Some, slice_get_within, same_pair, Each, number_occurrences, count_here, once_from_distinct, distinct_from_once, FindsByLesser, blocks_of_addresses, lesser_of, address_index}
 use Rattle.std.specs.Ordering.{is_eq}
 use Rattle.std.proofs.lemmas.Bool.Decides.{nat_tests}
-use Rattle.std.proofs.lemmas.List.{length-map}
-use Rattle.std.proofs.lemmas.List.Elements.{All-contains, All-from_recursion, All-map, All-push}
+use Rattle.std.proofs.lemmas.List.Elements.{All-contains, All-map, All-push}
 use Rattle.std.proofs.lemmas.Map.Steps.{length-le_from_distinct_below}
 use Rattle.std.proofs.lemmas.Map.Views.{Contains-from_any}
-use Rattle.std.proofs.lemmas.Option.{same_Some, get_or_from_slice_get, slice_get_within}
-use Rattle.lfs_model.specs.format.Slots.{same_pair}
-use Rattle.lfs_model.proofs.Counts.{Each, number_count, count_here, once_from_distinct, distinct_from_once}
-use Rattle.lfs_thread.specs.PairPlaces.{FindsByLesser, SameAddressAt, blocks_of_addresses, greater_of, lesser_of, index_of_address}
+use Rattle.std.proofs.lemmas.Option.{get_or_from_slice_get}
+use Rattle.lfs_thread.specs.PairPlaces.{SameAddressAt, greater_of}
 
 -- ---- lists
 
@@ -61,20 +58,20 @@ same_from_sorted a b l g = ⊎_elim
     (cases_same a b l g)
 
 -- the address at a place
-pub place_some : (addresses : List (ℕ × ℕ)) (at : ℕ × ℕ) (i : ℕ) → index_of_address addresses at ≡ Some i → SameAddressAt addresses at i
+pub place_some : (addresses : List (ℕ × ℕ)) (at : ℕ × ℕ) (i : ℕ) → address_index addresses at ≡ Some i → SameAddressAt addresses at i
 place_some [] at i e = absurd (cc)
 place_some (a ∷ addresses) at i e = go (same_pair a at) refl e (place_some addresses at)
   where
-    go : (b : Bool) → same_pair a at ≡ b → cond b (Some 0) (option_map (λ k. suc k) (index_of_address addresses at)) ≡ Some i
-        → ((k : ℕ) → index_of_address addresses at ≡ Some k → SameAddressAt addresses at k) → SameAddressAt (a ∷ addresses) at i
+    go : (b : Bool) → same_pair a at ≡ b → cond b (Some 0) (option_map (λ k. suc k) (address_index addresses at)) ≡ Some i
+        → ((k : ℕ) → address_index addresses at ≡ Some k → SameAddressAt addresses at k) → SameAddressAt (a ∷ addresses) at i
     go true s f next = record { address = a; there = ap (slice_get (a ∷ addresses)) (sym (same_Some 0 i f)); same = s }
     go false s f next =
-        let m = mapped (λ (k : ℕ). suc k) (index_of_address addresses at) i f in
+        let m = mapped (λ (k : ℕ). suc k) (address_index addresses at) i f in
         let p = next m.0 m.1 in
         record { address = p.address; there = ap (slice_get (a ∷ addresses)) (sym m.2) ∙ p.there; same = p.same }
 
 -- an address without a place is none of them
-pub place_none : (addresses : List (ℕ × ℕ)) (at : ℕ × ℕ) → index_of_address addresses at ≡ None → AllByRecursion (λ a. same_pair a at ≡ false) addresses
+pub place_none : (addresses : List (ℕ × ℕ)) (at : ℕ × ℕ) → address_index addresses at ≡ None → AllByRecursion (λ a. same_pair a at ≡ false) addresses
 place_none [] at e = tt
 place_none (a ∷ addresses) at e = go (same_pair a at) refl e (place_none addresses at)
   where
@@ -82,10 +79,10 @@ place_none (a ∷ addresses) at e = go (same_pair a at) refl e (place_none addre
     unmapped None h = refl
     unmapped (Some k) h = absurd (cc)
 
-    go : (t : Bool) → same_pair a at ≡ t → cond t (Some 0) (option_map (λ k. suc k) (index_of_address addresses at)) ≡ None → (index_of_address addresses at ≡ None → AllByRecursion (λ b. same_pair b at ≡ false) addresses)
+    go : (t : Bool) → same_pair a at ≡ t → cond t (Some 0) (option_map (λ k. suc k) (address_index addresses at)) ≡ None → (address_index addresses at ≡ None → AllByRecursion (λ b. same_pair b at ≡ false) addresses)
         → (same_pair a at ≡ false) × AllByRecursion (λ b. same_pair b at ≡ false) addresses
     go true h g next = absurd (cc)
-    go false h g next = (h, next (unmapped (index_of_address addresses at) g))
+    go false h g next = (h, next (unmapped (address_index addresses at) g))
 
 none_stands : (addresses : List (ℕ × ℕ)) (at : ℕ × ℕ) (i : ℕ) (a : ℕ × ℕ) → AllByRecursion (λ b. same_pair b at ≡ false) addresses → slice_get addresses i ≡ Some a → same_pair a at ≡ true → ⊥
 none_stands [] at i a all f s = absurd (cc)
@@ -93,22 +90,22 @@ none_stands (b ∷ addresses) at zero a all f s = true≢false (sym s ∙ ap (λ
 none_stands (b ∷ addresses) at (suc i) a all f s = none_stands addresses at i a all.1 f s
 
 module _ (addresses : List (ℕ × ℕ)) (place : ℕ → Option ℕ) (by : FindsByLesser addresses place) (at : ℕ × ℕ) where
-  pub found_place : (i : ℕ) (a : ℕ × ℕ) → place (lesser_of at) ≡ Some i → slice_get addresses i ≡ Some a → greater_of a ≡ greater_of at → index_of_address addresses at ≡ Some i
-  found_place i a e f g = go (index_of_address addresses at) refl
+  pub found_place : (i : ℕ) (a : ℕ × ℕ) → place (lesser_of at) ≡ Some i → slice_get addresses i ≡ Some a → greater_of a ≡ greater_of at → address_index addresses at ≡ Some i
+  found_place i a e f g = go (address_index addresses at) refl
     where
       same : same_pair a at ≡ true
       same = same_from_sorted a at (same_Some (lesser_of a) (lesser_of at) (ap (option_map lesser_of) (sym f) ∙ by.only (lesser_of at) i e)) g
 
-      go : (o : Option ℕ) → index_of_address addresses at ≡ o → o ≡ Some i
+      go : (o : Option ℕ) → address_index addresses at ≡ o → o ≡ Some i
       go None h = absurd (none_stands addresses at i a (place_none addresses at h) f same)
       go (Some j) h =
           let c = place_some addresses at j h in
           sym (by.each j c.address c.there) ∙ ap place (sorted_from_same c.address at c.same).0 ∙ e
 
-  pub other_place : (i : ℕ) (a : ℕ × ℕ) → place (lesser_of at) ≡ Some i → slice_get addresses i ≡ Some a → (greater_of a ≡ greater_of at → ⊥) → index_of_address addresses at ≡ None
-  other_place i a e f ne = go (index_of_address addresses at) refl
+  pub other_place : (i : ℕ) (a : ℕ × ℕ) → place (lesser_of at) ≡ Some i → slice_get addresses i ≡ Some a → (greater_of a ≡ greater_of at → ⊥) → address_index addresses at ≡ None
+  other_place i a e f ne = go (address_index addresses at) refl
     where
-      go : (o : Option ℕ) → index_of_address addresses at ≡ o → o ≡ None
+      go : (o : Option ℕ) → address_index addresses at ≡ o → o ≡ None
       go None h = refl
       go (Some j) h =
           let c = place_some addresses at j h in
@@ -117,10 +114,10 @@ module _ (addresses : List (ℕ × ℕ)) (place : ℕ → Option ℕ) (by : Find
           let ca : c.address ≡ a = same_Some c.address a (sym c.there ∙ ap (slice_get addresses) ji ∙ f) in
           absurd (ne (ap greater_of (sym ca) ∙ s.1))
 
-  pub no_place : place (lesser_of at) ≡ None → index_of_address addresses at ≡ None
-  no_place e = go (index_of_address addresses at) refl
+  pub no_place : place (lesser_of at) ≡ None → address_index addresses at ≡ None
+  no_place e = go (address_index addresses at) refl
     where
-      go : (o : Option ℕ) → index_of_address addresses at ≡ o → o ≡ None
+      go : (o : Option ℕ) → address_index addresses at ≡ o → o ≡ None
       go None h = refl
       go (Some j) h =
           let c = place_some addresses at j h in
@@ -148,19 +145,19 @@ one_of_two b x y = ⊎_elim
     (λ (l : y ≤ x). let e : min x y ≡ y = omega arith in subst (λ (n : ℕ). cond (nat_eq b n) 1 0 ≤ cond (nat_eq b x) 1 0 + cond (nat_eq b y) 1 0) (sym e) (omega arith))
     (cases_lt x y)
 
-lesser_count : (b : ℕ) (addresses : List (ℕ × ℕ)) → number_count b (map lesser_of addresses) ≤ number_count b (blocks_of_addresses addresses)
+lesser_count : (b : ℕ) (addresses : List (ℕ × ℕ)) → number_occurrences b (map lesser_of addresses) ≤ number_occurrences b (blocks_of_addresses addresses)
 lesser_count b [] = omega arith
 lesser_count b (a ∷ addresses) = let n = lesser_count b addresses in let o = one_of_two b a.0 a.1 in omega arith
 
 -- pairs that have no block in common have lesser blocks of their own
-lesser_once : (addresses : List (ℕ × ℕ)) → IsDistinct nat_eq (blocks_of_addresses addresses) → (b : ℕ) → number_count b (map lesser_of addresses) ≤ 1
+lesser_once : (addresses : List (ℕ × ℕ)) → IsDistinct nat_eq (blocks_of_addresses addresses) → (b : ℕ) → number_occurrences b (map lesser_of addresses) ≤ 1
 lesser_once addresses distinct b = let n = lesser_count b addresses in let o = once_from_distinct (blocks_of_addresses addresses) distinct b in omega arith
 
-apart_from : (n : ℕ) (xs : List (ℕ × ℕ)) (at : ℕ × ℕ) → number_count n (map lesser_of (xs ++ at ∷ [])) ≡ 0 → n ≢ lesser_of at
-apart_from n [] at e = λ is. let h = count_here n [] in let k = subst (λ (m : ℕ). number_count n (m ∷ []) ≡ 0) (sym is) e in absurd (omega arith)
+apart_from : (n : ℕ) (xs : List (ℕ × ℕ)) (at : ℕ × ℕ) → number_occurrences n (map lesser_of (xs ++ at ∷ [])) ≡ 0 → n ≢ lesser_of at
+apart_from n [] at e = λ is. let h = count_here n [] in let k = subst (λ (m : ℕ). number_occurrences n (m ∷ []) ≡ 0) (sym is) e in absurd (omega arith)
 apart_from n (x ∷ xs) at e = apart_from n xs at (omega arith)
 
-apart_each : (xs : List (ℕ × ℕ)) (at : ℕ × ℕ) → ((b : ℕ) → number_count b (map lesser_of (xs ++ at ∷ [])) ≤ 1) → Each (λ x. lesser_of x ≢ lesser_of at) xs
+apart_each : (xs : List (ℕ × ℕ)) (at : ℕ × ℕ) → ((b : ℕ) → number_occurrences b (map lesser_of (xs ++ at ∷ [])) ≤ 1) → Each (λ x. lesser_of x ≢ lesser_of at) xs
 apart_each [] at once = tt
 apart_each (x ∷ xs) at once = (
   apart_from (lesser_of x) xs at (let o = once (lesser_of x) in let h = count_here (lesser_of x) (map lesser_of (xs ++ at ∷ [])) in omega arith),

@@ -1,34 +1,15 @@
 -- A commit to one pair of the thread.
 use Rattle.std.proofs.Common.{ℕ, zero, suc, ◌≡◌, ◌⊎◌, inl, inr, ◌<◌, true, false, List, [], ◌∷◌, ◌++◌, length, Option, Some, None, refl, sym, ap, ap₂, subst, ◌∙◌, arith, get_or, set, Ok, Err, Result}
 use Rattle.std.specs.Prelude.{is_some, is_err}
-use Rattle.std.specs.Option.{option_and_then, option_map}
-use Rattle.std.proofs.lemmas.Option.{same_Some}
-use Rattle.std.proofs.lemmas.List.{map-append, length-map}
-use Rattle.std.proofs.Math.Seq.{set-append_seam}
-use Rattle.std.proofs.lemmas.List.Concat.{flat_map-append}
-use Rattle.lfs_model.specs.format.Blocks.{Blocks}
-use Rattle.lfs_model.specs.layers.BlockSets.{BlockStates}
-use Rattle.lfs_model.specs.format.Disk.{Disk}
-use Rattle.lfs_model.specs.session.History.{CallEvent, OnlyReadsSince}
-use Rattle.lfs_model.specs.format.Slots.{Slot, PairContent, FitsInPair}
-use Rattle.lfs_model.specs.layers.Changes.{PairChange, changed_content_of}
-use Rattle.lfs_model.specs.layers.LoggedContent.{AreNamed}
-use Rattle.lfs_model.specs.format.Content.{RawSlot, RawContent, raw_content, content_at, complete_content, complete_slot, complete_slots, kind_of_type, read_struct}
-use Rattle.lfs_model.specs.format.Thread.{Pair, AreLinked, tail_address_of, blocks_of_pairs}
-use Rattle.lfs_model.proofs.Counts.{number_count, once_from_distinct}
-use Rattle.lfs_model.proofs.Completed.{complete_parts, fits_pair}
+use Rattle.lfs_thread.proofs.Common.{option_and_then, option_map, same_Some, map-append, length-map, set-append_seam, flat_map-append, Blocks, BlockStates, Disk, CallEvent, OnlyReadsSince, Slot, PairContent, FitsInPair, PairChange, changed_content_of, AreNamed, RawSlot, RawContent, raw_content, content_at, complete_content, complete_slots, Pair, AreLinked, tail_target, pairs_blocks, number_occurrences, once_from_distinct, complete_parts, fits_pair, disk_of_blocks, header_address, CanCommit, CommitsChanges, IsPairAddress, KeepsOutsidePair, OutsideStaysUnprogrammed, HasContentMade, HasOldContent, LossLeavesChanged, changed_pair, superblock_entry, superblock_anew, PairHeader, kept_view, disk_pair_at, header_pairs, IsHeader, AreHeaders, AllBlocksUsed, IsKeptOnDisk, thread_pair, empty_anchor, complete_after, CanChangePair, pairs_with, KeepsSuperblockFirst, IsPairWritten, IsPairCommitted, RefusesChanges, LossLeavesPair}
+use Rattle.lfs_model.specs.format.Content.{complete_slot, kind_of_type, read_struct}
 use Rattle.lfs_model.proofs.Histories.{is_unprogrammed_byte-read_count}
 use Rattle.lfs_device.specs.declared.error.Error.{Error}
 use Rattle.lfs_device.specs.declared.geometry.Geometry.{Geometry}
-use Rattle.lfs_device.specs.DeviceDisk.{disk_of_blocks}
 use Rattle.lfs_pair.specs.declared.commits.Outcome.{Outcome}
 use Rattle.lfs_pair.specs.declared.commits.Outcome.TheVariants.{Done, Full}
-use Rattle.lfs_pair.specs.Pair.{header_address}
-use Rattle.lfs_pair.specs.Commits.{CanCommit, CommitsChanges, PairHas, AddressIsOnDisk, KeepsOutsidePair, OutsideStaysUnprogrammed, HasContentMade, HasOldContent, LossLeavesChanged, changed_pair}
-use Rattle.lfs_model.specs.tree.View.{superblock_entry}
-use Rattle.lfs_model.proofs.FirstEntries.{superblock_anew}
-use Rattle.lfs_thread.specs.Kept.{PairHeader, kept_view, disk_pair_at, pairs_of_headers, IsHeader, AreHeaders, AllBlocksUsed, IsKeptOnDisk}
-use Rattle.lfs_thread.specs.ThreadSteps.{thread_pair_at, empty_anchor, complete_after, CanChangePair, pairs_with, KeepsSuperblockFirst, IsPairWritten, IsPairCommitted, OnlyReadsThread, RefusesChanges, LossLeavesPairChanged}
+use Rattle.lfs_pair.specs.Commits.{HasWrittenContent}
+use Rattle.lfs_thread.specs.ThreadSteps.{OnlyReadsThread}
 use Rattle.lfs_thread.proofs.Keeping.{IsAsItWas, header_same, kept_thread, headers_right, header_content, pair_on_content, used_left, used_right, IsReplaced, pairs_are, kept_replaced}
 
 -- ---- the header at an index
@@ -47,11 +28,11 @@ at_index (h ∷ hs) (suc index) d l =
     record { front = h ∷ a.front; back = a.back; parts = ap (λ z. h ∷ z) a.parts; place = ap suc a.place }
 
 pub pair_at_index : (disk : Disk) (history : List CallEvent) (hs : List PairHeader) (sets : BlockStates) (index : ℕ) (h : PairHeader) → IsAt hs index h
-    → thread_pair_at (kept_view disk history hs sets) index ≡ disk_pair_at disk (header_address h)
+    → thread_pair (kept_view disk history hs sets) index ≡ disk_pair_at disk (header_address h)
 pair_at_index disk history hs sets index h a =
-    ap₂ (λ (z : List PairHeader) (i : ℕ). get_or (pairs_of_headers disk z) i empty_anchor) a.parts a.place ∙ go a.front
+    ap₂ (λ (z : List PairHeader) (i : ℕ). get_or (header_pairs disk z) i empty_anchor) a.parts a.place ∙ go a.front
   where
-    go : (front : List PairHeader) → get_or (pairs_of_headers disk (front ++ h ∷ a.back)) (length front) empty_anchor ≡ disk_pair_at disk (header_address h)
+    go : (front : List PairHeader) → get_or (header_pairs disk (front ++ h ∷ a.back)) (length front) empty_anchor ≡ disk_pair_at disk (header_address h)
     go [] = refl
     go (x ∷ front) = go front
 
@@ -124,7 +105,7 @@ module _ (disk : Disk) (before : List CallEvent) (blocks : Blocks) (after : List
   kept_parts : IsKeptOnDisk disk before (a.front ++ (h ∷ [] ++ a.back)) sets
   kept_parts = subst (λ z. IsKeptOnDisk disk before z sets) a.parts kept
 
-  holds : PairHas left after (header_address h) new commits.new
+  holds : HasWrittenContent left after (header_address h) new commits.new
   holds = commits.holds
 
   whole : complete_content commits.new ≡ Some can.content
@@ -135,7 +116,7 @@ module _ (disk : Disk) (before : List CallEvent) (blocks : Blocks) (after : List
   now_header =
       let on = (header_at_index disk before hs index h a kept.each).address in
       record {
-        address = subst (AddressIsOnDisk left) (sym holds.same) (record {
+        address = subst (IsPairAddress left) (sym holds.same) (record {
           apart = on.apart;
           first = subst (λ n. (header_address h).0 < n) (sym others.count) on.first;
           second = subst (λ n. (header_address h).1 < n) (sym others.count) on.second;
@@ -151,20 +132,20 @@ module _ (disk : Disk) (before : List CallEvent) (blocks : Blocks) (after : List
   unfolding now_header
   now_pair = pair_on_content left (header_address new) can.content (header_content left after new now_header) ∙ ap (λ at. record { at = at; content = can.content }) holds.same
 
-  was_pair : thread_pair_at (kept_view disk before hs sets) index ≡ disk_pair_at disk (header_address h)
+  was_pair : thread_pair (kept_view disk before hs sets) index ≡ disk_pair_at disk (header_address h)
   was_pair = pair_at_index disk before hs sets index h a
 
-  same_next : tail_address_of (disk_pair_at left (header_address new)).content.tail ≡ tail_address_of (disk_pair_at disk (header_address h)).content.tail
-  same_next = ap (λ (p : Pair). tail_address_of p.content.tail) now_pair ∙ can.next ∙ ap (λ (p : Pair). tail_address_of p.content.tail) was_pair
+  same_next : tail_target (disk_pair_at left (header_address new)).content.tail ≡ tail_target (disk_pair_at disk (header_address h)).content.tail
+  same_next = ap (λ (p : Pair). tail_target p.content.tail) now_pair ∙ can.next ∙ ap (λ (p : Pair). tail_target p.content.tail) was_pair
 
-  used_parts : AllBlocksUsed sets (blocks_of_pairs (pairs_of_headers disk a.front)) × (AllBlocksUsed sets (blocks_of_pairs (pairs_of_headers disk (h ∷ []))) × AllBlocksUsed sets (blocks_of_pairs (pairs_of_headers disk a.back)))
+  used_parts : AllBlocksUsed sets (pairs_blocks (header_pairs disk a.front)) × (AllBlocksUsed sets (pairs_blocks (header_pairs disk (h ∷ []))) × AllBlocksUsed sets (pairs_blocks (header_pairs disk a.back)))
   used_parts =
-      let all = subst (λ ps. AllBlocksUsed sets (blocks_of_pairs ps)) (map-append (λ x. disk_pair_at disk (header_address x)) a.front (h ∷ a.back)) kept_parts.used in
-      let cut = subst (AllBlocksUsed sets) (flat_map-append (λ (s : Pair). s.at.0 ∷ s.at.1 ∷ []) (pairs_of_headers disk a.front) (pairs_of_headers disk (h ∷ a.back))) all in
-      let right = used_right sets (blocks_of_pairs (pairs_of_headers disk a.front)) (blocks_of_pairs (pairs_of_headers disk (h ∷ a.back))) cut in
-      (used_left sets (blocks_of_pairs (pairs_of_headers disk a.front)) (blocks_of_pairs (pairs_of_headers disk (h ∷ a.back))) cut, ((right.0, (right.1.0, tt)), right.1.1))
+      let all = subst (λ ps. AllBlocksUsed sets (pairs_blocks ps)) (map-append (λ x. disk_pair_at disk (header_address x)) a.front (h ∷ a.back)) kept_parts.used in
+      let cut = subst (AllBlocksUsed sets) (flat_map-append (λ (s : Pair). s.at.0 ∷ s.at.1 ∷ []) (header_pairs disk a.front) (header_pairs disk (h ∷ a.back))) all in
+      let right = used_right sets (pairs_blocks (header_pairs disk a.front)) (pairs_blocks (header_pairs disk (h ∷ a.back))) cut in
+      (used_left sets (pairs_blocks (header_pairs disk a.front)) (pairs_blocks (header_pairs disk (h ∷ a.back))) cut, ((right.0, (right.1.0, tt)), right.1.1))
 
-  same_blocks : blocks_of_pairs (pairs_of_headers left (new ∷ [])) ≡ blocks_of_pairs (pairs_of_headers disk (h ∷ []))
+  same_blocks : pairs_blocks (header_pairs left (new ∷ [])) ≡ pairs_blocks (header_pairs disk (h ∷ []))
   same_blocks = ap (λ (at : ℕ × ℕ). at.0 ∷ at.1 ∷ []) holds.same
 
   replaced : IsReplaced disk before blocks after a.front (h ∷ []) (new ∷ []) a.back ((header_address h).0 ∷ (header_address h).1 ∷ []) [] sets
@@ -172,9 +153,9 @@ module _ (disk : Disk) (before : List CallEvent) (blocks : Blocks) (after : List
     same = others;
     stay = stay;
     touched = λ b k. omega arith;
-    free = λ b. let o = once_from_distinct (blocks_of_pairs (pairs_of_headers disk (a.front ++ (h ∷ [] ++ a.back)))) kept_parts.distinct b in omega arith;
+    free = λ b. let o = once_from_distinct (pairs_blocks (header_pairs disk (a.front ++ (h ∷ [] ++ a.back)))) kept_parts.distinct b in omega arith;
     each = (now_header, tt);
-    no_more = λ b. let e = ap (number_count b) same_blocks in omega arith;
+    no_more = λ b. let e = ap (number_occurrences b) same_blocks in omega arith;
     links = λ ys from l. (l.0 ∙ ap Some (sym holds.same), subst (λ n. AreLinked n ys) (sym same_next) l.1);
     size = kept_parts.size;
     used = (used_parts.0, (subst (AllBlocksUsed sets) (sym same_blocks) used_parts.1.0, used_parts.1.1));
@@ -187,13 +168,13 @@ module _ (disk : Disk) (before : List CallEvent) (blocks : Blocks) (after : List
   changed_kept = subst (λ z. IsKeptOnDisk left after z sets) (sym set_there)
       (kept_replaced disk before blocks after a.front (h ∷ []) (new ∷ []) a.back ((header_address h).0 ∷ (header_address h).1 ∷ []) [] sets sets kept_parts replaced)
 
-  pub changed_pairs : pairs_of_headers left (set hs index new) ≡ pairs_with (kept_view disk before hs sets) index can.content
-  changed_pairs = ap (pairs_of_headers left) set_there
+  pub changed_pairs : header_pairs left (set hs index new) ≡ pairs_with (kept_view disk before hs sets) index can.content
+  changed_pairs = ap (header_pairs left) set_there
       ∙ pairs_are disk before blocks after a.front (h ∷ []) (new ∷ []) a.back ((header_address h).0 ∷ (header_address h).1 ∷ []) [] sets sets kept_parts replaced
-      ∙ ap (λ p. pairs_of_headers disk a.front ++ p ∷ pairs_of_headers disk a.back) (now_pair ∙ ap (λ (p : Pair). record { at = p.at; content = can.content }) (sym was_pair))
-      ∙ sym (set-append_seam (pairs_of_headers disk a.front) (disk_pair_at disk (header_address h)) (pairs_of_headers disk a.back) (record { at = (thread_pair_at (kept_view disk before hs sets) index).at; content = can.content }))
-      ∙ ap₂ (λ (z : List Pair) (i : ℕ). set z i (record { at = (thread_pair_at (kept_view disk before hs sets) index).at; content = can.content }))
-      (sym (ap (pairs_of_headers disk) a.parts ∙ map-append (λ x. disk_pair_at disk (header_address x)) a.front (h ∷ a.back)))
+      ∙ ap (λ p. header_pairs disk a.front ++ p ∷ header_pairs disk a.back) (now_pair ∙ ap (λ (p : Pair). record { at = p.at; content = can.content }) (sym was_pair))
+      ∙ sym (set-append_seam (header_pairs disk a.front) (disk_pair_at disk (header_address h)) (header_pairs disk a.back) (record { at = (thread_pair (kept_view disk before hs sets) index).at; content = can.content }))
+      ∙ ap₂ (λ (z : List Pair) (i : ℕ). set z i (record { at = (thread_pair (kept_view disk before hs sets) index).at; content = can.content }))
+      (sym (ap (header_pairs disk) a.parts ∙ map-append (λ x. disk_pair_at disk (header_address x)) a.front (h ∷ a.back)))
       (length-map a.front (λ x. disk_pair_at disk (header_address x)) ∙ sym a.place)
 
   pub is_changed : IsPairCommitted (kept_view disk before hs sets) index changes (kept_view left after (set hs index new) sets)
@@ -228,7 +209,7 @@ module _ (geometry later : Geometry) (old blocks : Blocks) (before after : List 
   device_changed = subst (λ k. IsPairCommitted (kept_view (disk_of_blocks geometry old) before hs sets) index changes (kept_view (disk_of_blocks k blocks) after (set hs index new) sets)) (sym same)
       (is_changed (disk_of_blocks geometry old) before blocks after hs sets index h new changes a kept can commits_there others stay)
 
-pub at_there : (disk : Disk) (hs : List PairHeader) (index : ℕ) (h : PairHeader) → index < length (pairs_of_headers disk hs) → h ≡ get_or hs index h → IsAt hs index h
+pub at_there : (disk : Disk) (hs : List PairHeader) (index : ℕ) (h : PairHeader) → index < length (header_pairs disk hs) → h ≡ get_or hs index h → IsAt hs index h
 at_there disk hs index h below value =
     subst (IsAt hs index) (sym value) (at_index hs index h (let l = length-map hs (λ x. disk_pair_at disk (header_address x)) in omega arith))
 
@@ -257,16 +238,16 @@ set_same hs index h a = ap₂ (λ (z : List PairHeader) (i : ℕ). set z i h) a.
 -- ---- at a stop
 
 pub left_in_thread : (disk : Disk) (history : List CallEvent) (hs : List PairHeader) (sets : BlockStates) (index : ℕ) (h : PairHeader) (changes : List PairChange) (blocks : Blocks) → IsAt hs index h → IsKeptOnDisk disk history hs sets
-    → (c : PairContent) → complete_after (kept_view disk history hs sets) index changes ≡ Some c → LossLeavesChanged disk (header_address h) changes blocks → LossLeavesPairChanged (kept_view disk history hs sets) index changes blocks
+    → (c : PairContent) → complete_after (kept_view disk history hs sets) index changes ≡ Some c → LossLeavesChanged disk (header_address h) changes blocks → LossLeavesPair (kept_view disk history hs sets) index changes blocks
 left_in_thread disk history hs sets index h changes blocks a kept made_content made l = sides l.content
   where
-    e : thread_pair_at (kept_view disk history hs sets) index ≡ disk_pair_at disk (header_address h)
+    e : thread_pair (kept_view disk history hs sets) index ≡ disk_pair_at disk (header_address h)
     e = pair_at_index disk history hs sets index h a
 
     is : IsHeader disk history h
     is = header_at_index disk history hs index h a kept.each
 
-    was : content_at disk (header_address h) ≡ Some (thread_pair_at (kept_view disk history hs sets) index).content
+    was : content_at disk (header_address h) ≡ Some (thread_pair (kept_view disk history hs sets) index).content
     was = header_content disk history h is ∙ ap (λ (p : Pair). Some p.content) (sym (e ∙ pair_on_content disk (header_address h) is.content (header_content disk history h is)))
 
     written : (c : PairContent) → content_at (record disk { blocks = blocks }) (header_address h) ≡ Some c → KeepsSuperblockFirst disk (header_address h) c (record disk { blocks = blocks })
@@ -285,11 +266,11 @@ left_in_thread disk history hs sets index h changes blocks a kept made_content m
     whole k = ap complete_content (same_Some k.new made_here.raw (sym k.made ∙ made_here.is)) ∙ made_here.complete
 
     sides : HasOldContent disk (header_address h) (record disk { blocks = blocks }) ⊎ HasContentMade disk (header_address h) changes (record disk { blocks = blocks })
-        → LossLeavesPairChanged (kept_view disk history hs sets) index changes blocks
+        → LossLeavesPair (kept_view disk history hs sets) index changes blocks
     sides (inl k) = record {
-      content = (thread_pair_at (kept_view disk history hs sets) index).content;
+      content = (thread_pair (kept_view disk history hs sets) index).content;
       is = inl refl;
-      written = written (thread_pair_at (kept_view disk history hs sets) index).content (ap (λ o. option_and_then complete_content o) k.content ∙ was) (λ begins has. k.first superblock_entry begins);
+      written = written (thread_pair (kept_view disk history hs sets) index).content (ap (λ o. option_and_then complete_content o) k.content ∙ was) (λ begins has. k.first superblock_entry begins);
     }
     sides (inr k) = record {
       content = made_content;
@@ -315,7 +296,7 @@ pub full_read : (disk new : Disk) (before after : List CallEvent) (hs : List Pai
 full_read disk new before after hs sets index h same a e f reads = record {
   disk = e;
   reads = reads;
-  pairs = ap₂ pairs_of_headers e (ap (set hs index) f ∙ set_same hs index h a);
+  pairs = ap₂ header_pairs e (ap (set hs index) f ∙ set_same hs index h a);
   map = refl;
 }
 

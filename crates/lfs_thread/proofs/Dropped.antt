@@ -1,27 +1,7 @@
 -- The pair behind another one goes.
 use Rattle.std.proofs.Common.{ℕ, suc, ◌≡◌, ◌+◌, ◌<◌, ◌≤◌, List, [], ◌∷◌, ◌++◌, length, Some, refl, sym, ap, ap₂, subst, ◌∙◌, arith, get_or, set, remove, append_assoc, length-append}
-use Rattle.std.proofs.lemmas.Option.{same_Some}
-use Rattle.std.proofs.lemmas.List.{map-append, length-map, length-set}
-use Rattle.std.proofs.lemmas.List.Concat.{flat_map-append}
-use Rattle.std.proofs.Math.Seq.{set-append_seam}
+use Rattle.lfs_thread.proofs.Common.{same_Some, map-append, length-map, length-set, flat_map-append, set-append_seam, disk_of_blocks, Blocks, Free, BlockStates, Disk, CallEvent, PairChange, raw_content, content_at, complete_content, Pair, AreLinked, tail_target, pairs_blocks, fits_pair, slice_get-set_other, number_occurrences, count_here, once_from_distinct, header_address, IsPairAddress, CommitsChanges, KeepsOutsidePair, OutsideStaysUnprogrammed, superblock_entry, superblock_anew, PairHeader, kept_view, disk_pair_at, header_pairs, IsHeader, AllBlocksUsed, IsKeptOnDisk, thread_pair, pairs_with, CanDropNext, IsNextDropped, map_freeing, KeepsSuperblockFirst}
 use Rattle.lfs_device.specs.declared.geometry.Geometry.{Geometry}
-use Rattle.lfs_device.specs.DeviceDisk.{disk_of_blocks}
-use Rattle.lfs_model.specs.format.Blocks.{Blocks}
-use Rattle.lfs_model.specs.layers.BlockSets.{Free, BlockStates}
-use Rattle.lfs_model.specs.format.Disk.{Disk}
-use Rattle.lfs_model.specs.session.History.{CallEvent}
-use Rattle.lfs_model.specs.layers.Changes.{PairChange}
-use Rattle.lfs_model.specs.format.Content.{raw_content, content_at, complete_content}
-use Rattle.lfs_model.specs.format.Thread.{Pair, AreLinked, tail_address_of, blocks_of_pairs}
-use Rattle.lfs_model.proofs.Completed.{fits_pair}
-use Rattle.lfs_model.proofs.BlockSets.{slice_get-set_other}
-use Rattle.lfs_model.proofs.Counts.{number_count, count_here, once_from_distinct}
-use Rattle.lfs_pair.specs.Pair.{header_address}
-use Rattle.lfs_pair.specs.Commits.{AddressIsOnDisk, CommitsChanges, KeepsOutsidePair, OutsideStaysUnprogrammed}
-use Rattle.lfs_model.specs.tree.View.{superblock_entry}
-use Rattle.lfs_model.proofs.FirstEntries.{superblock_anew}
-use Rattle.lfs_thread.specs.Kept.{PairHeader, kept_view, disk_pair_at, pairs_of_headers, IsHeader, AllBlocksUsed, IsKeptOnDisk}
-use Rattle.lfs_thread.specs.ThreadSteps.{thread_pair_at, pairs_with, CanDropNext, IsNextDropped, map_freeing, KeepsSuperblockFirst}
 use Rattle.lfs_thread.proofs.Keeping.{kept_thread, header_content, pair_on_content, used_left, used_right, blocks_append, IsReplaced, pairs_are, kept_replaced}
 use Rattle.lfs_thread.proofs.Changing.{IsAt, at_index, header_at_index, pair_at_index, made_of_header}
 
@@ -67,21 +47,21 @@ pub gone_is : (hs : List PairHeader) (index : ℕ) (h new gone : PairHeader) (n 
 gone_is hs index h new gone n value = value ∙ ap₂ (λ (z : List PairHeader) (i : ℕ). get_or z (i + 1) gone) (set_next hs index h new n) n.place ∙ get_behind n.front new n.next n.back gone
 
 -- the header at the index, with the one behind it
-pub next_there : (disk : Disk) (hs : List PairHeader) (index : ℕ) (h : PairHeader) → index + 1 < length (pairs_of_headers disk hs) → h ≡ get_or hs index h → HasNext hs index h
+pub next_there : (disk : Disk) (hs : List PairHeader) (index : ℕ) (h : PairHeader) → index + 1 < length (header_pairs disk hs) → h ≡ get_or hs index h → HasNext hs index h
 next_there disk hs index h below value =
     let l = length-map hs (λ x. disk_pair_at disk (header_address x)) in
     next_at hs index h (subst (IsAt hs index) (sym value) (at_index hs index h (omega arith))) (omega arith)
 
 -- ---- the map
 
-released : (sets : BlockStates) (x : ℕ) (bs : List ℕ) → number_count x bs ≡ 0 → AllBlocksUsed sets bs → AllBlocksUsed (set sets x Free) bs
+released : (sets : BlockStates) (x : ℕ) (bs : List ℕ) → number_occurrences x bs ≡ 0 → AllBlocksUsed sets bs → AllBlocksUsed (set sets x Free) bs
 released sets x [] none used = tt
 released sets x (b ∷ bs) none used = (
-  slice_get-set_other sets x b Free (λ e. let k = subst (λ (y : ℕ). number_count x (y ∷ bs) ≡ 0) e none in let m = count_here x bs in absurd (omega arith)) ∙ used.0,
+  slice_get-set_other sets x b Free (λ e. let k = subst (λ (y : ℕ). number_occurrences x (y ∷ bs) ≡ 0) e none in let m = count_here x bs in absurd (omega arith)) ∙ used.0,
   released sets x bs (let k = none in omega arith) used.1,
 )
 
-pub both_released : (sets : BlockStates) (at : ℕ × ℕ) (bs : List ℕ) → number_count at.0 bs ≡ 0 → number_count at.1 bs ≡ 0 → AllBlocksUsed sets bs → AllBlocksUsed (map_freeing sets at) bs
+pub both_released : (sets : BlockStates) (at : ℕ × ℕ) (bs : List ℕ) → number_occurrences at.0 bs ≡ 0 → number_occurrences at.1 bs ≡ 0 → AllBlocksUsed sets bs → AllBlocksUsed (map_freeing sets at) bs
 both_released sets at bs f g used = released (set sets at.0 Free) at.1 bs g (released sets at.0 bs f used)
 
 pub next_used : (disk : Disk) (before : List CallEvent) (hs : List PairHeader) (sets : BlockStates) (index : ℕ) (h : PairHeader) (n : HasNext hs index h) → IsKeptOnDisk disk before hs sets
@@ -108,10 +88,10 @@ module _ (disk : Disk) (before : List CallEvent) (blocks : Blocks) (after : List
   kept_parts : IsKeptOnDisk disk before (n.front ++ (two ++ n.back)) sets
   kept_parts = subst (λ z. IsKeptOnDisk disk before z sets) n.parts kept
 
-  was_pair : thread_pair_at (kept_view disk before hs sets) index ≡ disk_pair_at disk (header_address h)
+  was_pair : thread_pair (kept_view disk before hs sets) index ≡ disk_pair_at disk (header_address h)
   was_pair = pair_at_index disk before hs sets index h (here_at hs index h n)
 
-  next_pair : thread_pair_at (kept_view disk before hs sets) (index + 1) ≡ disk_pair_at disk (header_address n.next)
+  next_pair : thread_pair (kept_view disk before hs sets) (index + 1) ≡ disk_pair_at disk (header_address n.next)
   next_pair = pair_at_index disk before hs sets (index + 1) n.next (there_at hs index h n)
 
   whole : complete_content commits.new ≡ Some can.content
@@ -122,7 +102,7 @@ module _ (disk : Disk) (before : List CallEvent) (blocks : Blocks) (after : List
   now_header =
       let on = (header_at_index disk before hs index h (here_at hs index h n) kept.each).address in
       record {
-        address = subst (AddressIsOnDisk left) (sym commits.holds.same) (record {
+        address = subst (IsPairAddress left) (sym commits.holds.same) (record {
           apart = on.apart;
           first = subst (λ k. (header_address h).0 < k) (sym others.count) on.first;
           second = subst (λ k. (header_address h).1 < k) (sym others.count) on.second;
@@ -138,53 +118,53 @@ module _ (disk : Disk) (before : List CallEvent) (blocks : Blocks) (after : List
   unfolding now_header
   now_pair = pair_on_content left (header_address new) can.content (header_content left after new now_header) ∙ ap (λ at. record { at = at; content = can.content }) commits.holds.same
 
-  same_next : tail_address_of (disk_pair_at left (header_address new)).content.tail ≡ tail_address_of (disk_pair_at disk (header_address n.next)).content.tail
-  same_next = ap (λ (p : Pair). tail_address_of p.content.tail) now_pair ∙ can.next ∙ ap (λ (p : Pair). tail_address_of p.content.tail) next_pair
+  same_next : tail_target (disk_pair_at left (header_address new)).content.tail ≡ tail_target (disk_pair_at disk (header_address n.next)).content.tail
+  same_next = ap (λ (p : Pair). tail_target p.content.tail) now_pair ∙ can.next ∙ ap (λ (p : Pair). tail_target p.content.tail) next_pair
 
-  same_blocks : blocks_of_pairs (pairs_of_headers left (new ∷ [])) ≡ blocks_of_pairs (pairs_of_headers disk (h ∷ []))
+  same_blocks : pairs_blocks (header_pairs left (new ∷ [])) ≡ pairs_blocks (header_pairs disk (h ∷ []))
   same_blocks = ap (λ (at : ℕ × ℕ). at.0 ∷ at.1 ∷ []) commits.holds.same
 
   -- how often a block stands in each part
-  counts : (b : ℕ) → number_count b (blocks_of_pairs (pairs_of_headers disk n.front)) + (number_count b (blocks_of_pairs (pairs_of_headers disk (h ∷ []))) + (number_count b (blocks_of_pairs (pairs_of_headers disk (n.next ∷ []))) + number_count b (blocks_of_pairs (pairs_of_headers disk n.back)))) ≤ 1
+  counts : (b : ℕ) → number_occurrences b (pairs_blocks (header_pairs disk n.front)) + (number_occurrences b (pairs_blocks (header_pairs disk (h ∷ []))) + (number_occurrences b (pairs_blocks (header_pairs disk (n.next ∷ []))) + number_occurrences b (pairs_blocks (header_pairs disk n.back)))) ≤ 1
   counts b =
-      let o = once_from_distinct (blocks_of_pairs (pairs_of_headers disk (n.front ++ (two ++ n.back)))) kept_parts.distinct b in
-      let e = ap (λ ps. number_count b (blocks_of_pairs ps)) (map-append (λ x. disk_pair_at disk (header_address x)) n.front (two ++ n.back)) in
-      let f = blocks_append (pairs_of_headers disk n.front) (pairs_of_headers disk (two ++ n.back)) b in
-      let g = blocks_append (pairs_of_headers disk (h ∷ [])) (pairs_of_headers disk (n.next ∷ n.back)) b in
-      let k = blocks_append (pairs_of_headers disk (n.next ∷ [])) (pairs_of_headers disk n.back) b in
+      let o = once_from_distinct (pairs_blocks (header_pairs disk (n.front ++ (two ++ n.back)))) kept_parts.distinct b in
+      let e = ap (λ ps. number_occurrences b (pairs_blocks ps)) (map-append (λ x. disk_pair_at disk (header_address x)) n.front (two ++ n.back)) in
+      let f = blocks_append (header_pairs disk n.front) (header_pairs disk (two ++ n.back)) b in
+      let g = blocks_append (header_pairs disk (h ∷ [])) (header_pairs disk (n.next ∷ n.back)) b in
+      let k = blocks_append (header_pairs disk (n.next ∷ [])) (header_pairs disk n.back) b in
       omega arith
 
-  first_once : 1 ≤ number_count (header_address n.next).0 (blocks_of_pairs (pairs_of_headers disk (n.next ∷ [])))
+  first_once : 1 ≤ number_occurrences (header_address n.next).0 (pairs_blocks (header_pairs disk (n.next ∷ [])))
   first_once = let m = count_here (header_address n.next).0 ((header_address n.next).1 ∷ []) in omega arith
 
-  second_once : 1 ≤ number_count (header_address n.next).1 (blocks_of_pairs (pairs_of_headers disk (n.next ∷ [])))
+  second_once : 1 ≤ number_occurrences (header_address n.next).1 (pairs_blocks (header_pairs disk (n.next ∷ [])))
   second_once = let m = count_here (header_address n.next).1 [] in omega arith
 
-  stay_used : (bs : List ℕ) → ((b : ℕ) → 1 ≤ number_count b (blocks_of_pairs (pairs_of_headers disk (n.next ∷ []))) → number_count b bs ≡ 0) → AllBlocksUsed sets bs → AllBlocksUsed now bs
+  stay_used : (bs : List ℕ) → ((b : ℕ) → 1 ≤ number_occurrences b (pairs_blocks (header_pairs disk (n.next ∷ []))) → number_occurrences b bs ≡ 0) → AllBlocksUsed sets bs → AllBlocksUsed now bs
   stay_used bs f used = both_released sets (header_address n.next) bs (f (header_address n.next).0 first_once) (f (header_address n.next).1 second_once) used
 
-  used_parts : AllBlocksUsed sets (blocks_of_pairs (pairs_of_headers disk n.front)) × (AllBlocksUsed sets (blocks_of_pairs (pairs_of_headers disk (h ∷ []))) × AllBlocksUsed sets (blocks_of_pairs (pairs_of_headers disk n.back)))
+  used_parts : AllBlocksUsed sets (pairs_blocks (header_pairs disk n.front)) × (AllBlocksUsed sets (pairs_blocks (header_pairs disk (h ∷ []))) × AllBlocksUsed sets (pairs_blocks (header_pairs disk n.back)))
   used_parts =
-      let all = subst (λ ps. AllBlocksUsed sets (blocks_of_pairs ps)) (map-append (λ x. disk_pair_at disk (header_address x)) n.front (two ++ n.back)) kept_parts.used in
-      let cut = subst (AllBlocksUsed sets) (flat_map-append (λ (s : Pair). s.at.0 ∷ s.at.1 ∷ []) (pairs_of_headers disk n.front) (pairs_of_headers disk (two ++ n.back))) all in
-      let right = used_right sets (blocks_of_pairs (pairs_of_headers disk n.front)) (blocks_of_pairs (pairs_of_headers disk (two ++ n.back))) cut in
-      (used_left sets (blocks_of_pairs (pairs_of_headers disk n.front)) (blocks_of_pairs (pairs_of_headers disk (two ++ n.back))) cut, ((right.0, (right.1.0, tt)), right.1.1.1.1))
+      let all = subst (λ ps. AllBlocksUsed sets (pairs_blocks ps)) (map-append (λ x. disk_pair_at disk (header_address x)) n.front (two ++ n.back)) kept_parts.used in
+      let cut = subst (AllBlocksUsed sets) (flat_map-append (λ (s : Pair). s.at.0 ∷ s.at.1 ∷ []) (header_pairs disk n.front) (header_pairs disk (two ++ n.back))) all in
+      let right = used_right sets (pairs_blocks (header_pairs disk n.front)) (pairs_blocks (header_pairs disk (two ++ n.back))) cut in
+      (used_left sets (pairs_blocks (header_pairs disk n.front)) (pairs_blocks (header_pairs disk (two ++ n.back))) cut, ((right.0, (right.1.0, tt)), right.1.1.1.1))
 
   replaced : IsReplaced disk before blocks after n.front two (new ∷ []) n.back ((header_address h).0 ∷ (header_address h).1 ∷ []) [] now
   replaced = record {
     same = others;
     stay = stay;
     touched = λ b k. omega arith;
-    free = λ b. let o = once_from_distinct (blocks_of_pairs (pairs_of_headers disk (n.front ++ (two ++ n.back)))) kept_parts.distinct b in omega arith;
+    free = λ b. let o = once_from_distinct (pairs_blocks (header_pairs disk (n.front ++ (two ++ n.back)))) kept_parts.distinct b in omega arith;
     each = (now_header, tt);
-    no_more = λ b. let e = ap (number_count b) same_blocks in omega arith;
+    no_more = λ b. let e = ap (number_occurrences b) same_blocks in omega arith;
     links = λ ys from l. (l.0 ∙ ap Some (sym commits.holds.same), subst (λ x. AreLinked x ys) (sym same_next) l.1.1);
     size = length-set (set sets (header_address n.next).0 Free) (header_address n.next).1 Free ∙ length-set sets (header_address n.next).0 Free ∙ kept_parts.size;
     used = (
-      stay_used (blocks_of_pairs (pairs_of_headers disk n.front)) (λ b k. let c = counts b in omega arith) used_parts.0,
+      stay_used (pairs_blocks (header_pairs disk n.front)) (λ b k. let c = counts b in omega arith) used_parts.0,
       (
-        subst (AllBlocksUsed now) (sym same_blocks) (stay_used (blocks_of_pairs (pairs_of_headers disk (h ∷ []))) (λ b k. let c = counts b in omega arith) used_parts.1.0),
-        stay_used (blocks_of_pairs (pairs_of_headers disk n.back)) (λ b k. let c = counts b in omega arith) used_parts.1.1,
+        subst (AllBlocksUsed now) (sym same_blocks) (stay_used (pairs_blocks (header_pairs disk (h ∷ []))) (λ b k. let c = counts b in omega arith) used_parts.1.0),
+        stay_used (pairs_blocks (header_pairs disk n.back)) (λ b k. let c = counts b in omega arith) used_parts.1.1,
       ),
     );
   }
@@ -200,16 +180,16 @@ module _ (disk : Disk) (before : List CallEvent) (blocks : Blocks) (after : List
       (kept_replaced disk before blocks after n.front two (new ∷ []) n.back ((header_address h).0 ∷ (header_address h).1 ∷ []) [] sets now kept_parts replaced)
 
   abbrev p : Pair
-  p = record { at = (thread_pair_at (kept_view disk before hs sets) index).at; content = can.content }
+  p = record { at = (thread_pair (kept_view disk before hs sets) index).at; content = can.content }
 
-  dropped_pairs : pairs_of_headers left headers ≡ remove (pairs_with (kept_view disk before hs sets) index can.content) (index + 1)
-  dropped_pairs = ap (pairs_of_headers left) headers_are
+  dropped_pairs : header_pairs left headers ≡ remove (pairs_with (kept_view disk before hs sets) index can.content) (index + 1)
+  dropped_pairs = ap (header_pairs left) headers_are
       ∙ pairs_are disk before blocks after n.front two (new ∷ []) n.back ((header_address h).0 ∷ (header_address h).1 ∷ []) [] sets now kept_parts replaced
-      ∙ ap (λ q. pairs_of_headers disk n.front ++ q ∷ pairs_of_headers disk n.back) (now_pair ∙ ap (λ (q : Pair). record { at = q.at; content = can.content }) (sym was_pair))
+      ∙ ap (λ q. header_pairs disk n.front ++ q ∷ header_pairs disk n.back) (now_pair ∙ ap (λ (q : Pair). record { at = q.at; content = can.content }) (sym was_pair))
       ∙ sym (ap₂ (λ (z : List Pair) (i : ℕ). remove (set z i p) (i + 1))
-      (ap (pairs_of_headers disk) n.parts ∙ map-append (λ x. disk_pair_at disk (header_address x)) n.front (h ∷ n.next ∷ n.back)) (n.place ∙ sym (length-map n.front (λ x. disk_pair_at disk (header_address x))))
-      ∙ ap (λ z. remove z (length (pairs_of_headers disk n.front) + 1)) (set-append_seam (pairs_of_headers disk n.front) (disk_pair_at disk (header_address h)) (pairs_of_headers disk (n.next ∷ n.back)) p)
-      ∙ remove_behind (pairs_of_headers disk n.front) p (disk_pair_at disk (header_address n.next)) (pairs_of_headers disk n.back))
+      (ap (header_pairs disk) n.parts ∙ map-append (λ x. disk_pair_at disk (header_address x)) n.front (h ∷ n.next ∷ n.back)) (n.place ∙ sym (length-map n.front (λ x. disk_pair_at disk (header_address x))))
+      ∙ ap (λ z. remove z (length (header_pairs disk n.front) + 1)) (set-append_seam (header_pairs disk n.front) (disk_pair_at disk (header_address h)) (header_pairs disk (n.next ∷ n.back)) p)
+      ∙ remove_behind (header_pairs disk n.front) p (disk_pair_at disk (header_address n.next)) (header_pairs disk n.back))
 
   pub is_dropped : IsNextDropped (kept_view disk before hs sets) index changes (kept_view left after headers now)
   unfolding now_header

@@ -1,17 +1,8 @@
 -- The delta of the global state that pairs have.
 use Rattle.std.proofs.Common.{ℕ, ◌≡◌, ◌+◌, ◌<◌, List, [], ◌∷◌, ◌++◌, length, map, take, get_or, refl, sym, ap, ap₂, ◌∙◌, add-one}
-use Rattle.std.specs.List.{fold}
+use Rattle.lfs_thread.proofs.Common.{fold, map-append, Disk, CallEvent, Gstate, gstate_xor, zero_gstate, Pair, pairs_gstate, completed_parts, move_view, header_address, PairHeader, AreHeaders, IsHeader, disk_pair_at, header_pairs}
 use Rattle.std.proofs.Math.Seq.{take-suc}
-use Rattle.std.proofs.lemmas.List.{map-append}
 use Rattle.std.proofs.lemmas.List.Sums.{fold-append}
-use Rattle.lfs_model.specs.format.Disk.{Disk}
-use Rattle.lfs_model.specs.session.History.{CallEvent}
-use Rattle.lfs_model.specs.format.Slots.{Gstate, gstate_xor, zero_gstate}
-use Rattle.lfs_model.specs.format.Thread.{Pair, pairs_gstate}
-use Rattle.lfs_model.proofs.Completed.{completed_parts}
-use Rattle.lfs_tag.specs.FieldsView.{move_view}
-use Rattle.lfs_pair.specs.Pair.{header_address}
-use Rattle.lfs_thread.specs.Kept.{PairHeader, AreHeaders, IsHeader, disk_pair_at, pairs_of_headers}
 use Rattle.lfs_thread.proofs.Keeping.{header_content, pair_on_content}
 
 abbrev delta_of : PairHeader → Gstate
@@ -31,10 +22,10 @@ delta_is disk history h is =
     is.is_pair.describes.sums.move ∙ sym (completed_parts is.held is.content is.complete).move
     ∙ sym (ap (λ (p : Pair). p.content.move) (pair_on_content disk (header_address h) is.content (header_content disk history h is)))
 
-deltas_are : (disk : Disk) (history : List CallEvent) (hs : List PairHeader) → AreHeaders disk history hs → map delta_of hs ≡ map (λ (p : Pair). p.content.move) (pairs_of_headers disk hs)
+deltas_are : (disk : Disk) (history : List CallEvent) (hs : List PairHeader) → AreHeaders disk history hs → map delta_of hs ≡ map (λ (p : Pair). p.content.move) (header_pairs disk hs)
 deltas_are disk history [] are = refl
 deltas_are disk history (h ∷ hs) are = ap₂ (λ (g : Gstate) (gs : List Gstate). g ∷ gs) (delta_is disk history h are.0) (deltas_are disk history hs are.1)
 
 -- the deltas in the headers come to the global state of the pairs
-pub state_is : (disk : Disk) (history : List CallEvent) (hs : List PairHeader) → AreHeaders disk history hs → fold gstate_xor zero_gstate (map (λ (p : PairHeader). move_view p.move_state) hs) ≡ pairs_gstate (pairs_of_headers disk hs)
+pub state_is : (disk : Disk) (history : List CallEvent) (hs : List PairHeader) → AreHeaders disk history hs → fold gstate_xor zero_gstate (map (λ (p : PairHeader). move_view p.move_state) hs) ≡ pairs_gstate (header_pairs disk hs)
 state_is disk history hs are = ap (fold gstate_xor zero_gstate) (deltas_are disk history hs are)

@@ -2,17 +2,14 @@
 use Rattle.std.proofs.Common.{ℕ, ◌≡◌, ◌+◌, ◌++◌, ◌∙◌, List, [], ◌∷◌, refl, sym, ap, ap₂, arith}
 use Rattle.std.specs.Prelude.{sum_by}
 use Rattle.std.proofs.lemmas.List.Sums.{sum_by-cons, sum_by_push}
-use Rattle.lfs_model.specs.format.Disk.{Disk}
-use Rattle.lfs_model.specs.format.Thread.{Pair}
-use Rattle.lfs_pair.specs.Pair.{header_address, fetch_reads}
-use Rattle.lfs_thread.specs.Kept.{PairHeader, disk_pair_at, pairs_of_headers}
+use Rattle.lfs_thread.proofs.Common.{Disk, Pair, header_address, fetch_reads, PairHeader, disk_pair_at, header_pairs}
 use Rattle.lfs_thread.specs.HeaderReading.{thread_reads}
 
 -- the same, counted for headers
-pub header_reads_of : (on disk : Disk) (hs : List PairHeader) → thread_reads disk (pairs_of_headers on hs) ≡ sum_by (λ h. fetch_reads disk (header_address h)) hs
+pub header_reads_of : (on disk : Disk) (hs : List PairHeader) → thread_reads disk (header_pairs on hs) ≡ sum_by (λ h. fetch_reads disk (header_address h)) hs
 header_reads_of on disk [] = refl
 header_reads_of on disk (h ∷ hs) =
-    sum_by-cons (λ (p : Pair). fetch_reads disk p.at) (disk_pair_at on (header_address h)) (pairs_of_headers on hs)
+    sum_by-cons (λ (p : Pair). fetch_reads disk p.at) (disk_pair_at on (header_address h)) (header_pairs on hs)
     ∙ ap (λ n. fetch_reads disk (header_address h) + n) (header_reads_of on disk hs)
     ∙ sym (sum_by-cons (λ (x : PairHeader). fetch_reads disk (header_address x)) h hs)
 

@@ -3,20 +3,9 @@ use Rattle.std.proofs.Common.{◌≡◌, ℕ, false, List, ap, inl, inr, refl, R
 use Rattle.std.specs.Prelude.{OnOk, is_err}
 use Rattle.lfs_device.specs.declared.error.Error.{Error}
 use Rattle.lfs_device.specs.declared.device.BlockDevice.{Ghosts}
-use Rattle.lfs_model.specs.layers.BlockSets.{BlockStates}
-use Rattle.lfs_model.specs.format.Blocks.{Blocks}
-use Rattle.lfs_model.specs.layers.Changes.{PairChange}
-use Rattle.lfs_model.specs.format.Disk.{Disk, ordered_disk}
-use Rattle.lfs_model.specs.session.History.{CallEvent}
-use Rattle.lfs_model.specs.format.Slots.{PairContent}
+use Rattle.lfs_thread.proofs.Common.{BlockStates, Blocks, PairChange, Disk, ordered_disk, CallEvent, PairContent, HoldsAtLosses-weaker, KeepsPairBlocks, CleanLossLeaves, KeptThread, CanMoveNext, IsNextMoved, LossLeavesNextMoved, NextMovedOnDisk, CanUnload, IsUnloaded, LossLeavesUnloaded, UnloadedOnDisk, BothOnDisk, CanChangePair, CanDropNext, CanSplitAt, CanThreadIn, HasOldPair, RefusesChanges, IsThreadedIn, ThreadedOnDisk, IsNextDropped, IsPairCommitted, HasSplit, IsPairWritten, RefusesThreading, LossLeavesPair, LossLeavesBoth, LossLeavesThreaded, PartsFit}
 use Rattle.lfs_model.specs.declared.order.NameOrder.{NameOrder}
-use Rattle.lfs_model.proofs.Histories.{HoldsAtLosses-weaker}
-use Rattle.lfs_thread.specs.Beside.{LeavesUsedBlocksOfPairsUnchangedAndUsed}
-use Rattle.lfs_thread.specs.ThreadDevice.{LossLeavesCleanly}
-use Rattle.lfs_thread.specs.Kept.{KeptThread}
-use Rattle.lfs_thread.specs.Moves.{CanMoveNext, IsNextMoved, LossLeavesNextMoved, NextMovedOnDisk}
-use Rattle.lfs_thread.specs.Unloads.{CanUnload, IsUnloaded, LossLeavesUnloaded, UnloadedOnDisk}
-use Rattle.lfs_thread.specs.ThreadSteps.{BothOnDisk, CanChangePair, CanDropNext, CanSplitAt, CanThreadIn, HasOldPair, SameGeometryAs, RefusesChanges, IsThreadedIn, ThreadedInOnDisk, IsNextDropped, IsPairCommitted, IsSplitInTwo, IsPairWritten, RefusesThreadingIn, LossLeavesPairChanged, LossLeavesPairSplit, LossLeavesThreadedIn, PartsFitPairs}
+use Rattle.lfs_thread.specs.ThreadSteps.{SameGeometryAs}
 
 -- the same thread, with its names in that order
 abbrev pub in_order : NameOrder → KeptThread → KeptThread
@@ -70,10 +59,10 @@ module _ (order : NameOrder) where
     only = record { disk = ap (ordered_disk order) is.only.disk; reads = is.only.reads; pairs = is.only.pairs; map = is.only.map };
   }
 
-  parts_in : (old : KeptThread) (index : ℕ) (content : PairContent) (cut : ℕ) (fresh : ℕ × ℕ) (disk : Disk) → PartsFitPairs old index content cut fresh disk → PartsFitPairs (in_order order old) index content cut fresh (ordered_disk order disk)
+  parts_in : (old : KeptThread) (index : ℕ) (content : PairContent) (cut : ℕ) (fresh : ℕ × ℕ) (disk : Disk) → PartsFit old index content cut fresh disk → PartsFit (in_order order old) index content cut fresh (ordered_disk order disk)
   parts_in old index content cut fresh disk parts = record { front_fits = parts.front_fits; back_fits = parts.back_fits; inside = parts.inside; first = parts.first }
 
-  pub split_in : (old new : KeptThread) (index : ℕ) (fresh : ℕ × ℕ) (changes : List PairChange) → IsSplitInTwo old index fresh changes new → IsSplitInTwo (in_order order old) index fresh changes (in_order order new)
+  pub split_in : (old new : KeptThread) (index : ℕ) (fresh : ℕ × ℕ) (changes : List PairChange) → HasSplit old index fresh changes new → HasSplit (in_order order old) index fresh changes (in_order order new)
   split_in old new index fresh changes is = record {
     content = is.content;
     made = is.made;
@@ -95,7 +84,7 @@ module _ (order : NameOrder) where
     map = is.map;
   }
 
-  pub threading_refused_in : (old new : KeptThread) (index : ℕ) (fresh : ℕ × ℕ) (changes : List PairChange) → RefusesThreadingIn old index fresh changes new → RefusesThreadingIn (in_order order old) index fresh changes (in_order order new)
+  pub threading_refused_in : (old new : KeptThread) (index : ℕ) (fresh : ℕ × ℕ) (changes : List PairChange) → RefusesThreading old index fresh changes new → RefusesThreading (in_order order old) index fresh changes (in_order order new)
   threading_refused_in old new index fresh changes is = record { content = is.content; made = is.made; too_large = is.too_large; pairs = is.pairs; map = is.map; others = is.others }
 
   pub dropped_in : (old new : KeptThread) (index : ℕ) (changes : List PairChange) → IsNextDropped old index changes new → IsNextDropped (in_order order old) index changes (in_order order new)
@@ -117,13 +106,13 @@ module _ (order : NameOrder) where
 
   -- ---- what a loss of power leaves of a step
 
-  pub left_changed_in : (old : KeptThread) (index : ℕ) (changes : List PairChange) (left : Blocks) → LossLeavesPairChanged old index changes left → LossLeavesPairChanged (in_order order old) index changes left
+  pub left_changed_in : (old : KeptThread) (index : ℕ) (changes : List PairChange) (left : Blocks) → LossLeavesPair old index changes left → LossLeavesPair (in_order order old) index changes left
   left_changed_in old index changes left is = record { content = is.content; is = is.is; written = written_in old index is.content (record old.disk { blocks = left }) is.written }
 
   old_in : (old : KeptThread) (index : ℕ) (disk : Disk) → HasOldPair old index disk → HasOldPair (in_order order old) index (ordered_disk order disk)
   old_in old index disk has = record { holds = has.holds; first = has.first }
 
-  pub left_split_in : (old : KeptThread) (index : ℕ) (fresh : ℕ × ℕ) (changes : List PairChange) (left : Blocks) → LossLeavesPairSplit old index fresh changes left → LossLeavesPairSplit (in_order order old) index fresh changes left
+  pub left_split_in : (old : KeptThread) (index : ℕ) (fresh : ℕ × ℕ) (changes : List PairChange) (left : Blocks) → LossLeavesBoth old index fresh changes left → LossLeavesBoth (in_order order old) index fresh changes left
   left_split_in old index fresh changes left is = record {
     others = is.others;
     content = elim is.content [
@@ -141,13 +130,13 @@ module _ (order : NameOrder) where
     ];
   }
 
-  pub left_threaded_in : (old : KeptThread) (index : ℕ) (fresh : ℕ × ℕ) (changes : List PairChange) (left : Blocks) → LossLeavesThreadedIn old index fresh changes left → LossLeavesThreadedIn (in_order order old) index fresh changes left
+  pub left_threaded_in : (old : KeptThread) (index : ℕ) (fresh : ℕ × ℕ) (changes : List PairChange) (left : Blocks) → LossLeavesThreaded old index fresh changes left → LossLeavesThreaded (in_order order old) index fresh changes left
   left_threaded_in old index fresh changes left is = record {
     others = is.others;
     content = elim is.content [
       | inl has ↦ inl (old_in old index (record old.disk { blocks = left }) has)
       | inr both ↦
-          let there : ThreadedInOnDisk (in_order order old) index fresh changes (record (ordered_disk order old.disk) { blocks = left }) = record {
+          let there : ThreadedOnDisk (in_order order old) index fresh changes (record (ordered_disk order old.disk) { blocks = left }) = record {
             content = both.content;
             made = both.made;
             fits = both.fits;
@@ -182,10 +171,10 @@ module _ (order : NameOrder) where
   }
 
 -- work that leaves the pairs alone
-pub leaves_in : {D : Type 0} (g : Ghosts D) (order : NameOrder) (t : KeptThread) (device : D) (map : BlockStates) (later : D) (later_map : BlockStates) → LeavesUsedBlocksOfPairsUnchangedAndUsed g (in_order order t) device map later later_map → LeavesUsedBlocksOfPairsUnchangedAndUsed g t device map later later_map
+pub leaves_in : {D : Type 0} (g : Ghosts D) (order : NameOrder) (t : KeptThread) (device : D) (map : BlockStates) (later : D) (later_map : BlockStates) → KeepsPairBlocks g (in_order order t) device map later later_map → KeepsPairBlocks g t device map later later_map
 leaves_in g order t device map later later_map leaves = record { geometry = leaves.geometry; count = leaves.count; same = leaves.same; stays = leaves.stays; size = leaves.size; used = leaves.used }
 
-pub stops_in : {before after : List CallEvent} {P Q : Blocks → Type 0} → ((left : Blocks) → P left → Q left) → LossLeavesCleanly before after P → LossLeavesCleanly before after Q
+pub stops_in : {before after : List CallEvent} {P Q : Blocks → Type 0} → ((left : Blocks) → P left → Q left) → CleanLossLeaves before after P → CleanLossLeaves before after Q
 stops_in f stops clean = HoldsAtLosses-weaker f (stops clean)
 
 -- what holds at Ok holds where the result isn't an error

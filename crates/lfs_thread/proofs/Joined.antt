@@ -1,33 +1,9 @@
 -- A pair comes into the thread: a fresh one stands beside it, and then the tail of another names it.
 use Rattle.std.proofs.Common.{ℕ, ◌≡◌, ◌+◌, ◌<◌, ◌≤◌, ◌==◌, ◌&&◌, false, cond, nat_eq, List, [], ◌∷◌, ◌++◌, length, Option, Some, None, refl, sym, ap, ap₂, subst, ◌∙◌, arith, set, insert}
-use Rattle.std.proofs.lemmas.Bool.{ne_eqb}
-use Rattle.std.proofs.lemmas.Option.{same_Some}
-use Rattle.std.proofs.lemmas.List.{map-append, length-map}
-use Rattle.std.proofs.lemmas.List.Concat.{flat_map-append}
-use Rattle.std.proofs.Math.Seq.{set-append_seam}
-use Rattle.lfs_model.specs.format.Blocks.{Blocks}
-use Rattle.std.specs.List.{IsDistinct}
-use Rattle.std.specs.Option.{option_and_then, option_map}
-use Rattle.lfs_tag.specs.ContentView.{tail_view}
-use Rattle.lfs_model.proofs.Completed.{completed_parts}
-use Rattle.lfs_model.specs.layers.BlockSets.{BlockStates, IsUsedBlock}
-use Rattle.lfs_model.specs.format.Disk.{Disk, block_count}
-use Rattle.lfs_model.specs.session.History.{CallEvent}
-use Rattle.lfs_model.specs.format.Slots.{PairContent, Tail, zero_gstate, null_address}
-use Rattle.lfs_model.specs.layers.LoggedContent.{AreWords, IsAllowedTail, is_null}
-use Rattle.lfs_model.specs.layers.Changes.{PairChange, PutTail, changed_content_of}
-use Rattle.lfs_model.proofs.Effects.{does_first, does_nothing, ends_tail, puts_tail}
-use Rattle.lfs_model.specs.format.Content.{empty_raw_content, raw_content, complete_content}
-use Rattle.lfs_model.specs.format.EntryTypes.{tail_to_pair}
-use Rattle.lfs_model.specs.format.Thread.{Pair, anchor_address, AreLinked, tail_address_of, blocks_of_pairs}
-use Rattle.lfs_model.proofs.Counts.{number_count, once_from_distinct}
-use Rattle.lfs_pair.specs.Pair.{header_address}
-use Rattle.lfs_pair.specs.Commits.{CommitsChanges, changed_pair, content_made, AddressIsOnDisk, KeepsOutsidePair, OutsideStaysUnprogrammed}
-use Rattle.lfs_pair.specs.FreshPair.{CanWriteFresh, IsFreshPair}
-use Rattle.lfs_pair.specs.Split.{AreApart}
-use Rattle.lfs_model.proofs.Staying.{AreElsewhere, raw_content-stays}
-use Rattle.lfs_thread.specs.Kept.{PairHeader, kept_view, disk_pair_at, pairs_of_headers, IsHeader, AreHeaders, AllBlocksUsed, IsKeptOnDisk}
-use Rattle.lfs_thread.specs.ThreadSteps.{thread_pair_at, complete_after, CanThreadIn, tail_setting_change, pairs_with_split}
+use Rattle.lfs_thread.proofs.Common.{ne_eqb, same_Some, map-append, length-map, flat_map-append, set-append_seam, Blocks, IsDistinct, option_and_then, option_map, tail_view, completed_parts, BlockStates, IsUsedBlock, Disk, block_count, CallEvent, PairContent, Tail, zero_gstate, null_address, IsAllowedTail, PairChange, PutTail, changed_content_of, does_first, does_nothing, puts_tail, empty_raw_content, raw_content, complete_content, tail_to_pair, Pair, anchor_address, AreLinked, tail_target, pairs_blocks, number_occurrences, once_from_distinct, header_address, CommitsChanges, changed_pair, changed_if_any, IsPairAddress, KeepsOutsidePair, OutsideStaysUnprogrammed, IsFreshPair, AreApart, AreElsewhere, raw_content-stays, PairHeader, kept_view, disk_pair_at, header_pairs, IsHeader, AreHeaders, AllBlocksUsed, IsKeptOnDisk, thread_pair, complete_after, CanThreadIn, tail_change, pairs_split}
+use Rattle.lfs_model.specs.layers.LoggedContent.{AreWords, is_null}
+use Rattle.lfs_model.proofs.Effects.{ends_tail}
+use Rattle.lfs_pair.specs.FreshPair.{CanWriteFresh}
 use Rattle.lfs_thread.proofs.Keeping.{AllElsewhere, elsewhere_from, headers_right, headers-stay, pairs-stay, header-stays, header_content, pair_on_content, disk_pair_at-stays, used_left, used_right, IsReplaced, pairs_are, kept_replaced, pair_elsewhere, fresh_elsewhere}
 use Rattle.lfs_thread.proofs.Changing.{IsAt, header_at_index, pair_at_index, made_of_header}
 use Rattle.lfs_thread.proofs.Coming.{count_other, used_at, two_unused, used_still, SettlesTwo, held_address}
@@ -39,19 +15,19 @@ module _ (disk : Disk) (before : List CallEvent) (blocks : Blocks) (after : List
     (first : ¬ IsUsedBlock sets fresh.0) (second : ¬ IsUsedBlock sets fresh.1) (others : KeepsOutsidePair fresh disk.blocks blocks) (stay : OutsideStaysUnprogrammed fresh before after) where
   elsewhere : AllElsewhere (fresh.0 ∷ fresh.1 ∷ []) hs
   elsewhere = elsewhere_from disk (fresh.0 ∷ fresh.1 ∷ []) hs (λ b k.
-      let used = used_at sets b (blocks_of_pairs (pairs_of_headers disk hs)) kept.used k in
+      let used = used_at sets b (pairs_blocks (header_pairs disk hs)) kept.used k in
       count_other b fresh.0 (fresh.1 ∷ []) (λ e. first (subst (IsUsedBlock sets) e used)) ∙ count_other b fresh.1 [] (λ e. second (subst (IsUsedBlock sets) e used)))
 
-  pub beside_pairs : pairs_of_headers (record disk { blocks = blocks }) hs ≡ pairs_of_headers disk hs
+  pub beside_pairs : header_pairs (record disk { blocks = blocks }) hs ≡ header_pairs disk hs
   beside_pairs = pairs-stay disk hs elsewhere others
 
   pub beside_kept : IsKeptOnDisk (record disk { blocks = blocks }) after hs sets
   beside_kept = record {
     each = headers-stay disk before after hs elsewhere others stay kept.each;
     links = subst (AreLinked (Some anchor_address)) (sym beside_pairs) kept.links;
-    distinct = subst (λ ps. IsDistinct nat_eq (blocks_of_pairs ps)) (sym beside_pairs) kept.distinct;
+    distinct = subst (λ ps. IsDistinct nat_eq (pairs_blocks ps)) (sym beside_pairs) kept.distinct;
     size = kept.size ∙ sym others.count;
-    used = subst (λ ps. AllBlocksUsed sets (blocks_of_pairs ps)) (sym beside_pairs) kept.used;
+    used = subst (λ ps. AllBlocksUsed sets (pairs_blocks ps)) (sym beside_pairs) kept.used;
   }
 
 -- what changes make of a pair is what they make of it beside the fresh one
@@ -60,15 +36,15 @@ pub beside_made : (disk : Disk) (before : List CallEvent) (blocks : Blocks) (aft
     → complete_after (kept_view (record disk { blocks = blocks }) after hs sets) index changes ≡ complete_after (kept_view disk before hs sets) index changes
 beside_made disk before blocks after hs sets fresh index h changes a kept first second others =
     ap (λ (p : Pair). option_and_then complete_content (changed_pair (record disk { blocks = blocks }) p.at changes)) (pair_at_index (record disk { blocks = blocks }) after hs sets index h a)
-    ∙ ap (λ r. option_and_then complete_content (content_made r changes)) (raw_content-stays disk (pair_elsewhere apart) others)
+    ∙ ap (λ r. option_and_then complete_content (changed_if_any r changes)) (raw_content-stays disk (pair_elsewhere apart) others)
     ∙ ap (λ (p : Pair). option_and_then complete_content (changed_pair disk p.at changes)) (sym (pair_at_index disk before hs sets index h a))
   where
     used : AllBlocksUsed sets ((header_address h).0 ∷ (header_address h).1 ∷ [])
     used =
-        let all = subst (λ z. AllBlocksUsed sets (blocks_of_pairs (pairs_of_headers disk z))) a.parts kept.used in
-        let parts = subst (λ ps. AllBlocksUsed sets (blocks_of_pairs ps)) (map-append (λ x. disk_pair_at disk (header_address x)) a.front (h ∷ a.back)) all in
-        let cut = subst (AllBlocksUsed sets) (flat_map-append (λ (s : Pair). s.at.0 ∷ s.at.1 ∷ []) (pairs_of_headers disk a.front) (pairs_of_headers disk (h ∷ a.back))) parts in
-        let right = used_right sets (blocks_of_pairs (pairs_of_headers disk a.front)) (blocks_of_pairs (pairs_of_headers disk (h ∷ a.back))) cut in
+        let all = subst (λ z. AllBlocksUsed sets (pairs_blocks (header_pairs disk z))) a.parts kept.used in
+        let parts = subst (λ ps. AllBlocksUsed sets (pairs_blocks ps)) (map-append (λ x. disk_pair_at disk (header_address x)) a.front (h ∷ a.back)) all in
+        let cut = subst (AllBlocksUsed sets) (flat_map-append (λ (s : Pair). s.at.0 ∷ s.at.1 ∷ []) (header_pairs disk a.front) (header_pairs disk (h ∷ a.back))) parts in
+        let right = used_right sets (pairs_blocks (header_pairs disk a.front)) (pairs_blocks (header_pairs disk (h ∷ a.back))) cut in
         (right.0, (right.1.0, tt))
 
     apart : AreApart (header_address h) fresh
@@ -82,7 +58,7 @@ beside_made disk before blocks after hs sets fresh index h changes a kept first 
 -- ---- the tail names it
 
 module _ (disk : Disk) (before : List CallEvent) (blocks : Blocks) (after : List CallEvent) (hs : List PairHeader) (sets now : BlockStates) (index : ℕ) (h new f : PairHeader) (fresh : ℕ × ℕ) (changes : List PairChange) (c : PairContent)
-    (a : IsAt hs index h) (kept : IsKeptOnDisk disk before hs sets) (made : complete_after (kept_view disk before hs sets) index changes ≡ Some c) (next : tail_address_of c.tail ≡ Some fresh)
+    (a : IsAt hs index h) (kept : IsKeptOnDisk disk before hs sets) (made : complete_after (kept_view disk before hs sets) index changes ≡ Some c) (next : tail_target c.tail ≡ Some fresh)
     (commits : CommitsChanges disk before changes h (record disk { blocks = blocks }) after new) (others : KeepsOutsidePair (header_address h) disk.blocks blocks) (stay : OutsideStaysUnprogrammed (header_address h) before after)
     (beside : IsHeader disk before f) (at_fresh : header_address f ≡ fresh) (behind : PairContent) (has : beside.content ≡ behind) (tail_is : behind.tail ≡ (disk_pair_at disk (header_address h)).content.tail)
     (uses : SettlesTwo sets fresh now) where
@@ -100,7 +76,7 @@ module _ (disk : Disk) (before : List CallEvent) (blocks : Blocks) (after : List
   now_header =
       let on = (header_at_index disk before hs index h a kept.each).address in
       record {
-        address = subst (AddressIsOnDisk left) (sym commits.holds.same) (record {
+        address = subst (IsPairAddress left) (sym commits.holds.same) (record {
           apart = on.apart;
           first = subst (λ n. (header_address h).0 < n) (sym others.count) on.first;
           second = subst (λ n. (header_address h).1 < n) (sym others.count) on.second;
@@ -116,15 +92,15 @@ module _ (disk : Disk) (before : List CallEvent) (blocks : Blocks) (after : List
   unfolding now_header
   now_pair = pair_on_content left (header_address new) c (header_content left after new now_header) ∙ ap (λ at. record { at = at; content = c }) commits.holds.same
 
-  was_pair : thread_pair_at (kept_view disk before hs sets) index ≡ disk_pair_at disk (header_address h)
+  was_pair : thread_pair (kept_view disk before hs sets) index ≡ disk_pair_at disk (header_address h)
   was_pair = pair_at_index disk before hs sets index h a
 
-  used_parts : AllBlocksUsed sets (blocks_of_pairs (pairs_of_headers disk a.front)) × (AllBlocksUsed sets (blocks_of_pairs (pairs_of_headers disk (h ∷ []))) × AllBlocksUsed sets (blocks_of_pairs (pairs_of_headers disk a.back)))
+  used_parts : AllBlocksUsed sets (pairs_blocks (header_pairs disk a.front)) × (AllBlocksUsed sets (pairs_blocks (header_pairs disk (h ∷ []))) × AllBlocksUsed sets (pairs_blocks (header_pairs disk a.back)))
   used_parts =
-      let all = subst (λ ps. AllBlocksUsed sets (blocks_of_pairs ps)) (map-append (λ x. disk_pair_at disk (header_address x)) a.front (h ∷ a.back)) kept_parts.used in
-      let cut = subst (AllBlocksUsed sets) (flat_map-append (λ (s : Pair). s.at.0 ∷ s.at.1 ∷ []) (pairs_of_headers disk a.front) (pairs_of_headers disk (h ∷ a.back))) all in
-      let right = used_right sets (blocks_of_pairs (pairs_of_headers disk a.front)) (blocks_of_pairs (pairs_of_headers disk (h ∷ a.back))) cut in
-      (used_left sets (blocks_of_pairs (pairs_of_headers disk a.front)) (blocks_of_pairs (pairs_of_headers disk (h ∷ a.back))) cut, ((right.0, (right.1.0, tt)), right.1.1))
+      let all = subst (λ ps. AllBlocksUsed sets (pairs_blocks ps)) (map-append (λ x. disk_pair_at disk (header_address x)) a.front (h ∷ a.back)) kept_parts.used in
+      let cut = subst (AllBlocksUsed sets) (flat_map-append (λ (s : Pair). s.at.0 ∷ s.at.1 ∷ []) (header_pairs disk a.front) (header_pairs disk (h ∷ a.back))) all in
+      let right = used_right sets (pairs_blocks (header_pairs disk a.front)) (pairs_blocks (header_pairs disk (h ∷ a.back))) cut in
+      (used_left sets (pairs_blocks (header_pairs disk a.front)) (pairs_blocks (header_pairs disk (h ∷ a.back))) cut, ((right.0, (right.1.0, tt)), right.1.1))
 
   apart : AreApart (header_address h) fresh
   apart = record {
@@ -145,7 +121,7 @@ module _ (disk : Disk) (before : List CallEvent) (blocks : Blocks) (after : List
       ∙ pair_on_content disk (header_address f) beside.content (header_content disk before f beside)
       ∙ ap₂ (λ (at : ℕ × ℕ) (x : PairContent). record { at = at; content = x }) at_fresh has
 
-  new_blocks : blocks_of_pairs (pairs_of_headers left (new ∷ f ∷ [])) ≡ (header_address h).0 ∷ (header_address h).1 ∷ fresh.0 ∷ fresh.1 ∷ []
+  new_blocks : pairs_blocks (header_pairs left (new ∷ f ∷ [])) ≡ (header_address h).0 ∷ (header_address h).1 ∷ fresh.0 ∷ fresh.1 ∷ []
   new_blocks = ap₂ (λ (x y : ℕ × ℕ). x.0 ∷ x.1 ∷ y.0 ∷ y.1 ∷ []) commits.holds.same at_fresh
 
   same_tail : (disk_pair_at left (header_address f)).content.tail ≡ (disk_pair_at disk (header_address h)).content.tail
@@ -156,20 +132,20 @@ module _ (disk : Disk) (before : List CallEvent) (blocks : Blocks) (after : List
     same = others;
     stay = stay;
     touched = λ b k. omega arith;
-    free = two_unused sets fresh.0 fresh.1 (blocks_of_pairs (pairs_of_headers disk (a.front ++ (h ∷ [] ++ a.back)))) uses.first_unused uses.second_unused uses.apart kept_parts.used
-        (once_from_distinct (blocks_of_pairs (pairs_of_headers disk (a.front ++ (h ∷ [] ++ a.back)))) kept_parts.distinct);
+    free = two_unused sets fresh.0 fresh.1 (pairs_blocks (header_pairs disk (a.front ++ (h ∷ [] ++ a.back)))) uses.first_unused uses.second_unused uses.apart kept_parts.used
+        (once_from_distinct (pairs_blocks (header_pairs disk (a.front ++ (h ∷ [] ++ a.back)))) kept_parts.distinct);
     each = (now_header, (f_header, tt));
-    no_more = λ b. let e = ap (number_count b) new_blocks in omega arith;
+    no_more = λ b. let e = ap (number_occurrences b) new_blocks in omega arith;
     links = λ ys from l. (
       l.0 ∙ ap Some (sym commits.holds.same),
-      (ap (λ (p : Pair). tail_address_of p.content.tail) now_pair ∙ next ∙ ap Some (sym at_fresh), subst (λ t. AreLinked (tail_address_of t) ys) (sym same_tail) l.1),
+      (ap (λ (p : Pair). tail_target p.content.tail) now_pair ∙ next ∙ ap Some (sym at_fresh), subst (λ t. AreLinked (tail_target t) ys) (sym same_tail) l.1),
     );
     size = uses.size ∙ kept_parts.size;
     used = (
-      used_still sets now fresh (blocks_of_pairs (pairs_of_headers disk a.front)) uses used_parts.0,
+      used_still sets now fresh (pairs_blocks (header_pairs disk a.front)) uses used_parts.0,
       (
-        subst (AllBlocksUsed now) (sym new_blocks) ((used_still sets now fresh (blocks_of_pairs (pairs_of_headers disk (h ∷ []))) uses used_parts.1.0).0, ((used_still sets now fresh (blocks_of_pairs (pairs_of_headers disk (h ∷ []))) uses used_parts.1.0).1.0, (uses.first, (uses.second, tt)))),
-        used_still sets now fresh (blocks_of_pairs (pairs_of_headers disk a.back)) uses used_parts.1.1,
+        subst (AllBlocksUsed now) (sym new_blocks) ((used_still sets now fresh (pairs_blocks (header_pairs disk (h ∷ []))) uses used_parts.1.0).0, ((used_still sets now fresh (pairs_blocks (header_pairs disk (h ∷ []))) uses used_parts.1.0).1.0, (uses.first, (uses.second, tt)))),
+        used_still sets now fresh (pairs_blocks (header_pairs disk a.back)) uses used_parts.1.1,
       ),
     );
   }
@@ -186,23 +162,23 @@ module _ (disk : Disk) (before : List CallEvent) (blocks : Blocks) (after : List
       (kept_replaced disk before blocks after a.front (h ∷ []) (new ∷ f ∷ []) a.back ((header_address h).0 ∷ (header_address h).1 ∷ []) (fresh.0 ∷ fresh.1 ∷ []) sets now kept_parts replaced)
 
   abbrev then : Pair
-  then = record { at = (thread_pair_at (kept_view disk before hs sets) index).at; content = c }
+  then = record { at = (thread_pair (kept_view disk before hs sets) index).at; content = c }
 
   abbrev after_it : Pair
   after_it = record { at = fresh; content = behind }
 
-  pub joined_pairs : pairs_of_headers left headers ≡ pairs_with_split (pairs_of_headers disk hs) index then after_it
-  joined_pairs = ap (pairs_of_headers left) headers_are
+  pub joined_pairs : header_pairs left headers ≡ pairs_split (header_pairs disk hs) index then after_it
+  joined_pairs = ap (header_pairs left) headers_are
       ∙ pairs_are disk before blocks after a.front (h ∷ []) (new ∷ f ∷ []) a.back ((header_address h).0 ∷ (header_address h).1 ∷ []) (fresh.0 ∷ fresh.1 ∷ []) sets now kept_parts replaced
-      ∙ ap₂ (λ p q. pairs_of_headers disk a.front ++ p ∷ q ∷ pairs_of_headers disk a.back) (now_pair ∙ ap (λ (p : Pair). record { at = p.at; content = c }) (sym was_pair)) f_pair
-      ∙ sym (ap₂ (λ (z : List Pair) (i : ℕ). pairs_with_split z i then after_it)
-      (ap (pairs_of_headers disk) a.parts ∙ map-append (λ x. disk_pair_at disk (header_address x)) a.front (h ∷ a.back)) (a.place ∙ sym (length-map a.front (λ x. disk_pair_at disk (header_address x))))
-      ∙ ap (λ z. insert z (length (pairs_of_headers disk a.front) + 1) after_it) (set-append_seam (pairs_of_headers disk a.front) (disk_pair_at disk (header_address h)) (pairs_of_headers disk a.back) then)
-      ∙ insert_behind (pairs_of_headers disk a.front) then (pairs_of_headers disk a.back) after_it)
+      ∙ ap₂ (λ p q. header_pairs disk a.front ++ p ∷ q ∷ header_pairs disk a.back) (now_pair ∙ ap (λ (p : Pair). record { at = p.at; content = c }) (sym was_pair)) f_pair
+      ∙ sym (ap₂ (λ (z : List Pair) (i : ℕ). pairs_split z i then after_it)
+      (ap (header_pairs disk) a.parts ∙ map-append (λ x. disk_pair_at disk (header_address x)) a.front (h ∷ a.back)) (a.place ∙ sym (length-map a.front (λ x. disk_pair_at disk (header_address x))))
+      ∙ ap (λ z. insert z (length (header_pairs disk a.front) + 1) after_it) (set-append_seam (header_pairs disk a.front) (disk_pair_at disk (header_address h)) (header_pairs disk a.back) then)
+      ∙ insert_behind (header_pairs disk a.front) then (header_pairs disk a.back) after_it)
 
 -- ---- what the fresh pair is to hold
 
-pub fresh_made : (t : Option Tail) → IsAllowedTail t → changed_content_of empty_raw_content (tail_setting_change t ∷ []) ≡ Some (record { slots = []; tail = t; move = zero_gstate })
+pub fresh_made : (t : Option Tail) → IsAllowedTail t → changed_content_of empty_raw_content (tail_change t ∷ []) ≡ Some (record { slots = []; tail = t; move = zero_gstate })
 fresh_made None h = does_first (PutTail false None) [] empty_raw_content (record empty_raw_content { tail = None }) (record empty_raw_content { tail = None }) (ends_tail empty_raw_content false) (does_nothing (record empty_raw_content { tail = None }))
 fresh_made (Some t) h =
     let is : tail_to_pair t.hard t.to ≡ Some t = ap (λ b. cond b None (Some t)) h.1 in
@@ -210,7 +186,7 @@ fresh_made (Some t) h =
     (does_nothing (record empty_raw_content { tail = tail_to_pair t.hard t.to }))
     ∙ ap (λ (x : Option Tail). Some (record { slots = []; tail = x; move = zero_gstate })) is
 
-pub can_be_fresh : (disk : Disk) (fresh : ℕ × ℕ) (t : Option Tail) → AddressIsOnDisk disk fresh → IsAllowedTail t → CanWriteFresh disk fresh (tail_setting_change t ∷ [])
+pub can_be_fresh : (disk : Disk) (fresh : ℕ × ℕ) (t : Option Tail) → IsPairAddress disk fresh → IsAllowedTail t → CanWriteFresh disk fresh (tail_change t ∷ [])
 can_be_fresh disk fresh t on h = record {
   address = on;
   new = record { slots = []; tail = t; move = zero_gstate };
@@ -227,15 +203,15 @@ tail_named disk history hs sets index h a kept few = go (disk_pair_at disk (head
     each : AreHeaders disk history (a.front ++ h ∷ a.back)
     each = subst (AreHeaders disk history) a.parts kept.each
 
-    links : AreLinked (Some anchor_address) (pairs_of_headers disk a.front ++ disk_pair_at disk (header_address h) ∷ pairs_of_headers disk a.back)
-    links = subst (AreLinked (Some anchor_address)) (ap (pairs_of_headers disk) a.parts ∙ map-append (λ x. disk_pair_at disk (header_address x)) a.front (h ∷ a.back)) kept.links
+    links : AreLinked (Some anchor_address) (header_pairs disk a.front ++ disk_pair_at disk (header_address h) ∷ header_pairs disk a.back)
+    links = subst (AreLinked (Some anchor_address)) (ap (header_pairs disk) a.parts ∙ map-append (λ x. disk_pair_at disk (header_address x)) a.front (h ∷ a.back)) kept.links
 
-    behind : (front : List PairHeader) (from : Option (ℕ × ℕ)) → AreLinked from (pairs_of_headers disk front ++ disk_pair_at disk (header_address h) ∷ pairs_of_headers disk a.back)
-        → AreLinked (tail_address_of (disk_pair_at disk (header_address h)).content.tail) (pairs_of_headers disk a.back)
+    behind : (front : List PairHeader) (from : Option (ℕ × ℕ)) → AreLinked from (header_pairs disk front ++ disk_pair_at disk (header_address h) ∷ header_pairs disk a.back)
+        → AreLinked (tail_target (disk_pair_at disk (header_address h)).content.tail) (header_pairs disk a.back)
     behind [] from l = l.1
-    behind (x ∷ front) from l = behind front (tail_address_of (disk_pair_at disk (header_address x)).content.tail) l.1
+    behind (x ∷ front) from l = behind front (tail_target (disk_pair_at disk (header_address x)).content.tail) l.1
 
-    go : (t : Option Tail) (back : List PairHeader) → AreLinked (tail_address_of t) (pairs_of_headers disk back) → AreHeaders disk history back → IsAllowedTail t
+    go : (t : Option Tail) (back : List PairHeader) → AreLinked (tail_target t) (header_pairs disk back) → AreHeaders disk history back → IsAllowedTail t
     go None back l are = tt
     go (Some t) [] l are = absurd (cc)
     go (Some t) (x ∷ back) l are =
@@ -249,10 +225,10 @@ header_tail disk history h is = ap (λ (q : Pair). q.content.tail) (pair_on_cont
     ∙ (completed_parts is.held is.content is.complete).tail ∙ sym is.is_pair.describes.sums.tail
 
 pub fresh_can : (disk : Disk) (history : List CallEvent) (hs : List PairHeader) (sets : BlockStates) (index : ℕ) (h : PairHeader) (fresh : ℕ × ℕ) (changes : List PairChange) (t : PairChange) → IsAt hs index h → IsKeptOnDisk disk history hs sets
-    → block_count disk ≤ 65536 → CanThreadIn (kept_view disk history hs sets) index fresh changes → t ≡ tail_setting_change (option_map tail_view h.tail) → CanWriteFresh disk fresh (t ∷ [])
+    → block_count disk ≤ 65536 → CanThreadIn (kept_view disk history hs sets) index fresh changes → t ≡ tail_change (option_map tail_view h.tail) → CanWriteFresh disk fresh (t ∷ [])
 fresh_can disk history hs sets index h fresh changes t a kept few can e =
     subst (λ x. CanWriteFresh disk fresh (x ∷ [])) (sym e)
-    (subst (λ y. CanWriteFresh disk fresh (tail_setting_change y ∷ [])) (header_tail disk history h (header_at_index disk history hs index h a kept.each))
+    (subst (λ y. CanWriteFresh disk fresh (tail_change y ∷ [])) (header_tail disk history h (header_at_index disk history hs index h a kept.each))
     (can_be_fresh disk fresh (disk_pair_at disk (header_address h)).content.tail (held_address disk history hs sets fresh kept can.held) (tail_named disk history hs sets index h a kept few)))
 
 -- the fresh pair's header
@@ -261,11 +237,11 @@ pub record IsFreshHeader (disk : Disk) (history : List CallEvent) (f : PairHeade
   pub at : header_address f ≡ fresh
   pub empty : header.content ≡ record { slots = []; tail = t; move = zero_gstate }
 
-pub fresh_header : (disk : Disk) (before history : List CallEvent) (f : PairHeader) (fresh : ℕ × ℕ) (t : Option Tail) → AddressIsOnDisk disk fresh → IsAllowedTail t → IsFreshPair before (tail_setting_change t ∷ []) disk history fresh f
+pub fresh_header : (disk : Disk) (before history : List CallEvent) (f : PairHeader) (fresh : ℕ × ℕ) (t : Option Tail) → IsPairAddress disk fresh → IsAllowedTail t → IsFreshPair before (tail_change t ∷ []) disk history fresh f
     → IsFreshHeader disk history f fresh t
 fresh_header disk before history f fresh t on real is = record {
   header = record {
-    address = subst (AddressIsOnDisk disk) (sym is.holds.same) on;
+    address = subst (IsPairAddress disk) (sym is.holds.same) on;
     held = is.new;
     is_pair = is.holds.is_pair;
     raw = ap (raw_content disk) is.holds.same ∙ is.holds.content;

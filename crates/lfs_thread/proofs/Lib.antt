@@ -17,3 +17,4 @@ pub mod Beside
 pub mod ByBlocks
 pub mod HeaderReads
 pub mod MountErrors
+pub mod Common

@@ -2,14 +2,10 @@
 use Rattle.std.proofs.Common.{ℕ, ◌≡◌, ◌≢◌, ◌⊎◌, inl, inr, ◌<◌, List, length, refl, sym, subst, ◌∙◌, set}
 use Rattle.lfs_device.specs.declared.error.Error.{Error}
 use Rattle.lfs_device.specs.declared.error.Error.TheVariants as error
-use Rattle.lfs_model.specs.layers.BlockSets.{BlockStates, IsFree, IsUsedBlock, Used}
-use Rattle.lfs_model.specs.format.Disk.{Disk}
-use Rattle.lfs_model.specs.format.Thread.{Pair}
+use Rattle.lfs_thread.proofs.Common.{BlockStates, IsFree, IsUsedBlock, Used, Disk, Pair, slice_get-set_other, AreBeforeAddress, IsThreadViolation}
 use Rattle.lfs_model.specs.layers.Violations.{BreaksThread, HasBlock, IsInTwoPairs}
 use Rattle.lfs_model.specs.declared.violations.Violation.{Violation}
-use Rattle.lfs_model.proofs.BlockSets.{slice_get-set_other}
-use Rattle.lfs_thread.specs.Begun.{AreBeforeAddress}
-use Rattle.lfs_thread.specs.MountErrors.{IsViolationTrue, mount_error_for}
+use Rattle.lfs_thread.specs.MountErrors.{mount_error_for}
 
 -- ---- an error below
 
@@ -17,10 +13,10 @@ abbrev pub IsReadingError : Error → Type 0
 IsReadingError e = (e ≡ error.Corrupt) ⊎ (e ≡ error.NoMemory) ⊎ (e ≡ error.Io)
 
 -- a violation is true where each `Corrupt` below means it
-pub true_of : (disk : Disk) (e : Error) (v : Violation) → IsReadingError e → (e ≡ error.Corrupt → BreaksThread disk v) → IsViolationTrue disk (mount_error_for e v)
-true_of disk e v (inl is) breaks = subst (λ x. IsViolationTrue disk (mount_error_for x v)) (sym is) (breaks is)
-true_of disk e v (inr (inl is)) breaks = subst (λ x. IsViolationTrue disk (mount_error_for x v)) (sym is) tt
-true_of disk e v (inr (inr is)) breaks = subst (λ x. IsViolationTrue disk (mount_error_for x v)) (sym is) tt
+pub true_of : (disk : Disk) (e : Error) (v : Violation) → IsReadingError e → (e ≡ error.Corrupt → BreaksThread disk v) → IsThreadViolation disk (mount_error_for e v)
+true_of disk e v (inl is) breaks = subst (λ x. IsThreadViolation disk (mount_error_for x v)) (sym is) (breaks is)
+true_of disk e v (inr (inl is)) breaks = subst (λ x. IsThreadViolation disk (mount_error_for x v)) (sym is) tt
+true_of disk e v (inr (inr is)) breaks = subst (λ x. IsThreadViolation disk (mount_error_for x v)) (sym is) tt
 
 -- ---- a block of the pair isn't free
 

@@ -1,41 +1,11 @@
 -- The pair behind another one moves: its copy stands beside the thread, and then the other's tail names the copy.
 use Rattle.std.proofs.Common.{ℕ, suc, ◌≡◌, ◌⊎◌, inl, inr, get_or, ◌+◌, ◌%◌, ◌^◌, ◌<◌, ◌≤◌, ◌==◌, ◌&&◌, true, false, cond, List, [], ◌∷◌, ◌++◌, length, Option, Some, None, refl, sym, ap, ap₂, subst, ◌∙◌, arith, set, not, slice_get, flat_map}
-use Rattle.std.proofs.lemmas.Bool.{ne_eqb}
-use Rattle.std.proofs.lemmas.Option.{same_Some}
-use Rattle.std.proofs.lemmas.List.{length-map, length-set, map-append}
-use Rattle.std.proofs.lemmas.List.Concat.{flat_map-append}
-use Rattle.std.proofs.Math.Seq.{set-append_seam}
-use Rattle.std.specs.Option.{option_and_then, option_map}
-use Rattle.lfs_device.specs.DeviceDisk.{disk_of_blocks}
+use Rattle.lfs_thread.proofs.Common.{ne_eqb, same_Some, length-map, length-set, map-append, flat_map-append, set-append_seam, option_and_then, option_map, disk_of_blocks, LeftByLoss, Blocks, RawContent, raw_content, content_at, complete_content, current_block, Disk, block_count, disk_block, tail_to_pair, LogEntry, FitsInPair, PairContent, Tail, null_address, Pair, AreLinked, tail_target, pairs_blocks, BlockStates, Free, IsUsedBlock, PairChange, PutTail, changed_content_of, AreNamed, AreWellFormed, IsAllowedTail, BeginsWith, superblock_entry, LossLeavesAtWorst, CallEvent, HoldsAtLosses, completed_from, completed_parts, fits_raw, number_occurrences, count_here, once_from_distinct, does_first, does_nothing, puts_tail, superblock_anew, AllCallsSince-behind, HoldsAtLosses-weaker, HoldsAtLosses-worst, goes_on_by, AreElsewhere, raw_content-stays, IsPairAddress, CanCommit, CommitsChanges, HasContentMade, HasOldContent, LossLeavesChanged, changed_pair, changed_if_any, KeepsOutsidePair, OutsideStaysUnprogrammed, CanCopyPair, IsPairCopied, header_address, AreApart, KeepsOutsideBoth, KeptThread, PairHeader, kept_view, disk_pair_at, header_pairs, IsHeader, AllBlocksUsed, IsKeptOnDisk, CanMoveNext, IsNextMoved, LossLeavesNextMoved, NextMovedOnDisk, pair_revision, CleanLossLeaves, thread_pair, empty_anchor, complete_after, CanThreadIn, HasOldPair, HasSuperblock, map_freeing, map_using}
 use Rattle.lfs_device.specs.declared.geometry.Geometry.{Geometry}
-use Rattle.lfs_model.specs.crash.Stops.{LeftByLoss}
-use Rattle.lfs_model.specs.format.Blocks.{Blocks}
-use Rattle.lfs_model.specs.format.Content.{RawContent, raw_content, content_at, complete_content, current_block, current_of_two, has_commit, is_later}
-use Rattle.lfs_model.specs.format.Disk.{Disk, block_count, disk_block}
-use Rattle.lfs_model.specs.format.EntryTypes.{tail_to_pair}
-use Rattle.lfs_model.specs.format.Log.{LogEntry, block_revision}
-use Rattle.lfs_model.specs.format.Slots.{FitsInPair, PairContent, Tail, null_address}
-use Rattle.lfs_model.specs.format.Thread.{Pair, AreLinked, tail_address_of, blocks_of_pairs}
-use Rattle.lfs_model.specs.layers.BlockSets.{BlockStates, Free, IsUsedBlock}
-use Rattle.lfs_model.specs.layers.Changes.{PairChange, PutTail, changed_content_of}
-use Rattle.lfs_model.specs.layers.LoggedContent.{AreNamed, AreWellFormed, IsAllowedTail}
+use Rattle.lfs_model.specs.format.Content.{current_of_two, has_commit, is_later}
+use Rattle.lfs_model.specs.format.Log.{block_revision}
 use Rattle.lfs_model.specs.layers.WrittenContent.{content_entries}
-use Rattle.lfs_model.specs.tree.View.{BeginsWith, superblock_entry}
-use Rattle.lfs_model.specs.session.History.{LossLeavesAtWorst, CallEvent, HoldsAtLosses}
-use Rattle.lfs_model.proofs.Completed.{completed_from, completed_parts, fits_raw}
-use Rattle.lfs_model.proofs.Counts.{number_count, count_here, once_from_distinct}
-use Rattle.lfs_model.proofs.Effects.{does_first, does_nothing, puts_tail}
-use Rattle.lfs_model.proofs.FirstEntries.{superblock_anew}
-use Rattle.lfs_model.proofs.Histories.{AllCallsSince-behind, HoldsAtLosses-weaker, HoldsAtLosses-worst, goes_on_by}
-use Rattle.lfs_model.proofs.Staying.{AreElsewhere, raw_content-stays}
-use Rattle.lfs_pair.specs.Commits.{AddressIsOnDisk, CanCommit, CommitsChanges, HasContentMade, HasOldContent, LossLeavesChanged, changed_pair, content_made, KeepsOutsidePair, OutsideStaysUnprogrammed}
-use Rattle.lfs_pair.specs.Copies.{CanCopyPair, IsPairCopied}
-use Rattle.lfs_pair.specs.Pair.{header_address}
-use Rattle.lfs_pair.specs.Split.{AreApart, KeepsOutsideBoth}
-use Rattle.lfs_thread.specs.Kept.{KeptThread, PairHeader, kept_view, disk_pair_at, pairs_of_headers, IsHeader, AllBlocksUsed, IsKeptOnDisk}
-use Rattle.lfs_thread.specs.Moves.{BeginsWithAnySuperblock, CanMoveNext, IsNextMoved, LossLeavesNextMoved, NextMovedOnDisk, pair_leading_to, pair_moved_to, pair_revision, pairs_with_next_moved}
-use Rattle.lfs_thread.specs.ThreadDevice.{LossLeavesCleanly}
-use Rattle.lfs_thread.specs.ThreadSteps.{thread_pair_at, empty_anchor, complete_after, CanThreadIn, HasOldPair, HasSuperblockOf, map_freeing, map_using}
+use Rattle.lfs_thread.specs.Moves.{BeginsWithAnySuperblock, pair_leading_to, pair_moved_to, pairs_with_next_moved}
 use Rattle.lfs_thread.proofs.Keeping.{kept_thread, header-stays, header_content, pair_on_content, blocks_append, first_stays, used_left, used_right, fresh_elsewhere, IsReplaced, pairs_are, kept_replaced}
 use Rattle.lfs_thread.proofs.Changing.{IsAt, completes, header_at_index, pair_at_index}
 use Rattle.lfs_thread.proofs.Coming.{SettlesTwo, count_other, held_address, settles_two, two_unused, used_still}
@@ -52,7 +22,7 @@ set_behind (x ∷ xs) y z w ys = let e : suc (length xs) + 1 ≡ suc (length xs 
 abbrev pub hard_to : ℕ × ℕ → Option Tail
 hard_to fresh = Some (record { hard = true; to = fresh })
 
-pub named : (disk : Disk) (fresh : ℕ × ℕ) → AddressIsOnDisk disk fresh → block_count disk ≤ 65536 → IsAllowedTail (hard_to fresh)
+pub named : (disk : Disk) (fresh : ℕ × ℕ) → IsPairAddress disk fresh → block_count disk ≤ 65536 → IsAllowedTail (hard_to fresh)
 named disk fresh on few =
     let f = on.first in let s = on.second in
     let real : (fresh.0 == null_address) ≡ false = ne_eqb fresh.0 null_address (λ e. absurd (omega (arith, e, f, few))) in
@@ -74,7 +44,7 @@ pub revision_at : (disk : Disk) (history : List CallEvent) (h : PairHeader) → 
 revision_at disk history h is = ap (option_map block_revision) is.is_pair.holds ∙ ap Some (sym is.is_pair.describes.revision)
 
 pub revision_there : (disk : Disk) (history : List CallEvent) (hs : List PairHeader) (sets : BlockStates) (index : ℕ) (h : PairHeader) → IsAt hs index h → IsKeptOnDisk disk history hs sets
-    → pair_revision disk (thread_pair_at (kept_view disk history hs sets) index).at ≡ Some h.revision
+    → pair_revision disk (thread_pair (kept_view disk history hs sets) index).at ≡ Some h.revision
 revision_there disk history hs sets index h a kept =
     ap (λ (p : Pair). pair_revision disk p.at) (pair_at_index disk history hs sets index h a) ∙ revision_at disk history h (header_at_index disk history hs index h a kept.each)
 
@@ -106,10 +76,10 @@ module _ (disk : Disk) (history : List CallEvent) (hs : List PairHeader) (sets :
   abbrev here : IsAt hs index h
   here = here_at hs index h n
 
-  was_pair : thread_pair_at old index ≡ disk_pair_at disk (header_address h)
+  was_pair : thread_pair old index ≡ disk_pair_at disk (header_address h)
   was_pair = pair_at_index disk history hs sets index h here
 
-  next_pair : thread_pair_at old (index + 1) ≡ disk_pair_at disk (header_address n.next)
+  next_pair : thread_pair old (index + 1) ≡ disk_pair_at disk (header_address n.next)
   next_pair = pair_at_index disk history hs sets (index + 1) n.next (there_at hs index h n)
 
   is_header : IsHeader disk history h
@@ -118,18 +88,18 @@ module _ (disk : Disk) (history : List CallEvent) (hs : List PairHeader) (sets :
   is_next : IsHeader disk history n.next
   is_next = header_at_index disk history hs (index + 1) n.next (there_at hs index h n) kept.each
 
-  on_disk : AddressIsOnDisk disk fresh
+  on_disk : IsPairAddress disk fresh
   on_disk = held_address disk history hs sets fresh kept can.held
 
-  content_is : is_header.content ≡ (thread_pair_at old index).content
+  content_is : is_header.content ≡ (thread_pair old index).content
   content_is = sym (ap (λ (p : Pair). p.content) (was_pair ∙ pair_on_content disk (header_address h) is_header.content (header_content disk history h is_header)))
 
-  next_content : is_next.content ≡ (thread_pair_at old (index + 1)).content
+  next_content : is_next.content ≡ (thread_pair old (index + 1)).content
   next_content = sym (ap (λ (p : Pair). p.content) (next_pair ∙ pair_on_content disk (header_address n.next) is_next.content (header_content disk history n.next is_next)))
 
   pub made : complete_after old index changes ≡ Some (pair_leading_to old index fresh).content
   made = ap (λ (p : Pair). option_and_then complete_content (changed_pair disk p.at changes)) was_pair
-      ∙ ap (λ r. option_and_then complete_content (content_made r changes)) is_header.raw
+      ∙ ap (λ r. option_and_then complete_content (changed_if_any r changes)) is_header.raw
       ∙ ap (λ r. option_and_then complete_content r) (hard_made is_header.held fresh (named disk fresh on_disk few))
       ∙ complete_with_tail is_header.held is_header.content (hard_to fresh) is_header.complete
       ∙ ap (λ (c : PairContent). Some (record c { tail = hard_to fresh })) content_is
@@ -164,7 +134,7 @@ module _ (disk : Disk) (history : List CallEvent) (hs : List PairHeader) (sets :
     beside = record disk { blocks = mid }
 
     pub left_by_copy : (left : Blocks) → KeepsOutsidePair fresh disk.blocks left → LossLeavesNextMoved old index fresh left
-    left_by_copy left keeps = record { others = keeps_by_fresh (thread_pair_at old index).at fresh keeps; content = inl (old_beside disk history hs sets index h fresh changes here kept can_lead mid then others stay left keeps) }
+    left_by_copy left keeps = record { others = keeps_by_fresh (thread_pair old index).at fresh keeps; content = inl (old_beside disk history hs sets index h fresh changes here kept can_lead mid then others stay left keeps) }
 
     pub lead_can : CanCommit beside then h changes
     lead_can = then_can disk history hs sets index h fresh changes here kept can_lead mid then others stay
@@ -178,10 +148,10 @@ module _ (disk : Disk) (history : List CallEvent) (hs : List PairHeader) (sets :
     mid_kept : IsKeptOnDisk beside then hs sets
     mid_kept = still_kept disk history hs sets index h fresh changes here kept can_lead mid then others stay
 
-    mid_pairs : pairs_of_headers beside hs ≡ pairs_of_headers disk hs
+    mid_pairs : header_pairs beside hs ≡ header_pairs disk hs
     mid_pairs = still_pairs disk history hs sets index h fresh changes here kept can_lead mid then others stay
 
-    mid_next : disk_pair_at beside (header_address n.next) ≡ thread_pair_at old (index + 1)
+    mid_next : disk_pair_at beside (header_address n.next) ≡ thread_pair old (index + 1)
     mid_next = sym (pair_at_index beside then hs sets (index + 1) n.next (there_at hs index h n)) ∙ ap (λ ps. get_or ps (index + 1) empty_anchor) mid_pairs
 
     apart_from : AreApart (header_address h) fresh
@@ -189,12 +159,12 @@ module _ (disk : Disk) (history : List CallEvent) (hs : List PairHeader) (sets :
 
     module _ (f : PairHeader) (copied : IsPairCopied disk history [] n.next beside then fresh f) where
       same_held : copied.new ≡ is_next.held
-      same_held = same_Some copied.new is_next.held (sym copied.made ∙ ap (λ r. content_made r []) is_next.raw)
+      same_held = same_Some copied.new is_next.held (sym copied.made ∙ ap (λ r. changed_if_any r []) is_next.raw)
 
-      abbrev copy_is : IsCopyHeader beside then f fresh (thread_pair_at old (index + 1)).content
+      abbrev copy_is : IsCopyHeader beside then f fresh (thread_pair old (index + 1)).content
       copy_is = record {
         header = record {
-          address = subst (AddressIsOnDisk beside) (sym copied.holds.same) (record {
+          address = subst (IsPairAddress beside) (sym copied.holds.same) (record {
             apart = on_disk.apart;
             first = subst (λ k. fresh.0 < k) (sym others.count) on_disk.first;
             second = subst (λ k. fresh.1 < k) (sym others.count) on_disk.second;
@@ -213,9 +183,9 @@ module _ (disk : Disk) (history : List CallEvent) (hs : List PairHeader) (sets :
       f_elsewhere = subst (λ x. AreElsewhere x ((header_address h).0 ∷ (header_address h).1 ∷ [])) (sym copied.holds.same) (fresh_elsewhere apart_from)
 
       -- a log that was written anew begins with the superblock's entry, where slot 0 is the superblock
-      log_first : HasSuperblockOf (pair_moved_to old (index + 1) fresh).content → BeginsWith (current_block beside fresh) superblock_entry
+      log_first : HasSuperblock (pair_moved_to old (index + 1) fresh).content → BeginsWith (current_block beside fresh) superblock_entry
       log_first has =
-          let full = subst HasSuperblockOf (sym next_content) has in
+          let full = subst HasSuperblock (sym next_content) has in
           subst (λ o. BeginsWith o superblock_entry) (sym (first_holds (disk_block beside fresh.0) (disk_block beside fresh.1) copied.fresh_is.anew.has_commit copied.fresh_is.cleared))
           (ap (λ (cs : List (List LogEntry)). slice_get (flat_map (λ c. c) cs) 0) copied.fresh_is.anew.commits
           ∙ first_of (content_entries copied.new ++ copied.fresh_is.anew.checksum ∷ []) [] superblock_entry (first_of (content_entries copied.new) (copied.fresh_is.anew.checksum ∷ []) superblock_entry
@@ -270,7 +240,7 @@ module _ (disk : Disk) (history : List CallEvent) (hs : List PairHeader) (sets :
         now_header =
             let on = is_header.address in
             record {
-              address = subst (AddressIsOnDisk left) (sym commits.holds.same) (record {
+              address = subst (IsPairAddress left) (sym commits.holds.same) (record {
                 apart = on.apart;
                 first = subst (λ k. (header_address h).0 < k) (sym (keeps.count ∙ others.count)) on.first;
                 second = subst (λ k. (header_address h).1 < k) (sym (keeps.count ∙ others.count)) on.second;
@@ -290,73 +260,73 @@ module _ (disk : Disk) (history : List CallEvent) (hs : List PairHeader) (sets :
         f_header : IsHeader left after f
         f_header = header-stays f f_elsewhere keeps stays copy_is.header
 
-        f_content : content_at left (header_address f) ≡ Some (thread_pair_at old (index + 1)).content
+        f_content : content_at left (header_address f) ≡ Some (thread_pair old (index + 1)).content
         f_content = ap (λ r. option_and_then complete_content r) (raw_content-stays beside f_elsewhere keeps) ∙ header_content beside then f copy_is.header ∙ ap Some next_content
 
         f_pair : disk_pair_at left (header_address f) ≡ pair_moved_to old (index + 1) fresh
-        f_pair = pair_on_content left (header_address f) (thread_pair_at old (index + 1)).content f_content
-            ∙ ap (λ at. record { at = at; content = (thread_pair_at old (index + 1)).content }) copied.holds.same
+        f_pair = pair_on_content left (header_address f) (thread_pair old (index + 1)).content f_content
+            ∙ ap (λ at. record { at = at; content = (thread_pair old (index + 1)).content }) copied.holds.same
 
-        new_blocks : blocks_of_pairs (pairs_of_headers left (new ∷ f ∷ [])) ≡ (header_address h).0 ∷ (header_address h).1 ∷ fresh.0 ∷ fresh.1 ∷ []
+        new_blocks : pairs_blocks (header_pairs left (new ∷ f ∷ [])) ≡ (header_address h).0 ∷ (header_address h).1 ∷ fresh.0 ∷ fresh.1 ∷ []
         new_blocks = ap₂ (λ (x y : ℕ × ℕ). x.0 ∷ x.1 ∷ y.0 ∷ y.1 ∷ []) commits.holds.same copied.holds.same
 
         -- how often a block stands in each part
-        counts : (b : ℕ) → number_count b (blocks_of_pairs (pairs_of_headers beside n.front)) + (number_count b (blocks_of_pairs (pairs_of_headers beside (h ∷ []))) + (number_count b (blocks_of_pairs (pairs_of_headers beside (n.next ∷ []))) + number_count b (blocks_of_pairs (pairs_of_headers beside n.back)))) ≤ 1
+        counts : (b : ℕ) → number_occurrences b (pairs_blocks (header_pairs beside n.front)) + (number_occurrences b (pairs_blocks (header_pairs beside (h ∷ []))) + (number_occurrences b (pairs_blocks (header_pairs beside (n.next ∷ []))) + number_occurrences b (pairs_blocks (header_pairs beside n.back)))) ≤ 1
         counts b =
-            let o = once_from_distinct (blocks_of_pairs (pairs_of_headers beside (n.front ++ (two ++ n.back)))) kept_parts.distinct b in
-            let e = ap (λ ps. number_count b (blocks_of_pairs ps)) (map-append (λ x. disk_pair_at beside (header_address x)) n.front (two ++ n.back)) in
-            let l = blocks_append (pairs_of_headers beside n.front) (pairs_of_headers beside (two ++ n.back)) b in
-            let m = blocks_append (pairs_of_headers beside (h ∷ [])) (pairs_of_headers beside (n.next ∷ n.back)) b in
-            let k = blocks_append (pairs_of_headers beside (n.next ∷ [])) (pairs_of_headers beside n.back) b in
+            let o = once_from_distinct (pairs_blocks (header_pairs beside (n.front ++ (two ++ n.back)))) kept_parts.distinct b in
+            let e = ap (λ ps. number_occurrences b (pairs_blocks ps)) (map-append (λ x. disk_pair_at beside (header_address x)) n.front (two ++ n.back)) in
+            let l = blocks_append (header_pairs beside n.front) (header_pairs beside (two ++ n.back)) b in
+            let m = blocks_append (header_pairs beside (h ∷ [])) (header_pairs beside (n.next ∷ n.back)) b in
+            let k = blocks_append (header_pairs beside (n.next ∷ [])) (header_pairs beside n.back) b in
             omega arith
 
-        first_once : 1 ≤ number_count (header_address n.next).0 (blocks_of_pairs (pairs_of_headers beside (n.next ∷ [])))
+        first_once : 1 ≤ number_occurrences (header_address n.next).0 (pairs_blocks (header_pairs beside (n.next ∷ [])))
         first_once = let m = count_here (header_address n.next).0 ((header_address n.next).1 ∷ []) in omega arith
 
-        second_once : 1 ≤ number_count (header_address n.next).1 (blocks_of_pairs (pairs_of_headers beside (n.next ∷ [])))
+        second_once : 1 ≤ number_occurrences (header_address n.next).1 (pairs_blocks (header_pairs beside (n.next ∷ [])))
         second_once = let m = count_here (header_address n.next).1 [] in omega arith
 
-        stay_used : (bs : List ℕ) → ((b : ℕ) → 1 ≤ number_count b (blocks_of_pairs (pairs_of_headers beside (n.next ∷ []))) → number_count b bs ≡ 0) → AllBlocksUsed sets bs → AllBlocksUsed now bs
+        stay_used : (bs : List ℕ) → ((b : ℕ) → 1 ≤ number_occurrences b (pairs_blocks (header_pairs beside (n.next ∷ []))) → number_occurrences b bs ≡ 0) → AllBlocksUsed sets bs → AllBlocksUsed now bs
         stay_used bs f used = both_released (map_using sets fresh) (header_address n.next) bs (f (header_address n.next).0 first_once) (f (header_address n.next).1 second_once) (used_still sets (map_using sets fresh) fresh bs uses used)
 
-        used_parts : AllBlocksUsed sets (blocks_of_pairs (pairs_of_headers beside n.front)) × (AllBlocksUsed sets (blocks_of_pairs (pairs_of_headers beside two)) × AllBlocksUsed sets (blocks_of_pairs (pairs_of_headers beside n.back)))
+        used_parts : AllBlocksUsed sets (pairs_blocks (header_pairs beside n.front)) × (AllBlocksUsed sets (pairs_blocks (header_pairs beside two)) × AllBlocksUsed sets (pairs_blocks (header_pairs beside n.back)))
         used_parts =
-            let all = subst (λ ps. AllBlocksUsed sets (blocks_of_pairs ps)) (map-append (λ x. disk_pair_at beside (header_address x)) n.front (two ++ n.back)) kept_parts.used in
-            let cut = subst (AllBlocksUsed sets) (flat_map-append (λ (s : Pair). s.at.0 ∷ s.at.1 ∷ []) (pairs_of_headers beside n.front) (pairs_of_headers beside (two ++ n.back))) all in
-            let right = used_right sets (blocks_of_pairs (pairs_of_headers beside n.front)) (blocks_of_pairs (pairs_of_headers beside (two ++ n.back))) cut in
-            (used_left sets (blocks_of_pairs (pairs_of_headers beside n.front)) (blocks_of_pairs (pairs_of_headers beside (two ++ n.back))) cut, ((right.0, (right.1.0, (right.1.1.0, (right.1.1.1.0, tt)))), right.1.1.1.1))
+            let all = subst (λ ps. AllBlocksUsed sets (pairs_blocks ps)) (map-append (λ x. disk_pair_at beside (header_address x)) n.front (two ++ n.back)) kept_parts.used in
+            let cut = subst (AllBlocksUsed sets) (flat_map-append (λ (s : Pair). s.at.0 ∷ s.at.1 ∷ []) (header_pairs beside n.front) (header_pairs beside (two ++ n.back))) all in
+            let right = used_right sets (pairs_blocks (header_pairs beside n.front)) (pairs_blocks (header_pairs beside (two ++ n.back))) cut in
+            (used_left sets (pairs_blocks (header_pairs beside n.front)) (pairs_blocks (header_pairs beside (two ++ n.back))) cut, ((right.0, (right.1.0, (right.1.1.0, (right.1.1.1.0, tt)))), right.1.1.1.1))
 
-        fresh_counts : (b : ℕ) → IsUsedBlock sets b → number_count b (fresh.0 ∷ fresh.1 ∷ []) ≡ 0
+        fresh_counts : (b : ℕ) → IsUsedBlock sets b → number_occurrences b (fresh.0 ∷ fresh.1 ∷ []) ≡ 0
         fresh_counts b used = count_other b fresh.0 (fresh.1 ∷ []) (λ e. uses.first_unused (subst (IsUsedBlock sets) e used)) ∙ count_other b fresh.1 [] (λ e. uses.second_unused (subst (IsUsedBlock sets) e used))
 
         fresh_used : AllBlocksUsed now (fresh.0 ∷ fresh.1 ∷ [])
         fresh_used = both_released (map_using sets fresh) (header_address n.next) (fresh.0 ∷ fresh.1 ∷ []) (fresh_counts (header_address n.next).0 used_parts.1.0.1.1.0) (fresh_counts (header_address n.next).1 used_parts.1.0.1.1.1.0) (uses.first, (uses.second, tt))
 
-        here_used : AllBlocksUsed now (blocks_of_pairs (pairs_of_headers beside (h ∷ [])))
-        here_used = stay_used (blocks_of_pairs (pairs_of_headers beside (h ∷ []))) (λ b k. let c = counts b in omega arith) (used_parts.1.0.0, (used_parts.1.0.1.0, tt))
+        here_used : AllBlocksUsed now (pairs_blocks (header_pairs beside (h ∷ [])))
+        here_used = stay_used (pairs_blocks (header_pairs beside (h ∷ []))) (λ b k. let c = counts b in omega arith) (used_parts.1.0.0, (used_parts.1.0.1.0, tt))
 
         replaced : IsReplaced beside then blocks after n.front two (new ∷ f ∷ []) n.back ((header_address h).0 ∷ (header_address h).1 ∷ []) (fresh.0 ∷ fresh.1 ∷ []) now
         replaced = record {
           same = keeps;
           stay = stays;
           touched = λ b k. omega arith;
-          free = two_unused sets fresh.0 fresh.1 (blocks_of_pairs (pairs_of_headers beside (n.front ++ (two ++ n.back)))) uses.first_unused uses.second_unused uses.apart kept_parts.used
-              (once_from_distinct (blocks_of_pairs (pairs_of_headers beside (n.front ++ (two ++ n.back)))) kept_parts.distinct);
+          free = two_unused sets fresh.0 fresh.1 (pairs_blocks (header_pairs beside (n.front ++ (two ++ n.back)))) uses.first_unused uses.second_unused uses.apart kept_parts.used
+              (once_from_distinct (pairs_blocks (header_pairs beside (n.front ++ (two ++ n.back)))) kept_parts.distinct);
           each = (now_header, (f_header, tt));
-          no_more = λ b. let e = ap (number_count b) new_blocks in omega arith;
+          no_more = λ b. let e = ap (number_occurrences b) new_blocks in omega arith;
           links = λ ys from l. (
             l.0 ∙ ap Some (sym commits.holds.same),
             (
-              ap (λ (p : Pair). tail_address_of p.content.tail) now_pair ∙ ap Some (sym copied.holds.same),
-              subst (λ (t : Option Tail). AreLinked (tail_address_of t) ys) (ap (λ (p : Pair). p.content.tail) mid_next ∙ sym (ap (λ (p : Pair). p.content.tail) f_pair)) l.1.1,
+              ap (λ (p : Pair). tail_target p.content.tail) now_pair ∙ ap Some (sym copied.holds.same),
+              subst (λ (t : Option Tail). AreLinked (tail_target t) ys) (ap (λ (p : Pair). p.content.tail) mid_next ∙ sym (ap (λ (p : Pair). p.content.tail) f_pair)) l.1.1,
             ),
           );
           size = length-set (set (map_using sets fresh) (header_address n.next).0 Free) (header_address n.next).1 Free ∙ length-set (map_using sets fresh) (header_address n.next).0 Free ∙ uses.size ∙ kept_parts.size;
           used = (
-            stay_used (blocks_of_pairs (pairs_of_headers beside n.front)) (λ b k. let c = counts b in omega arith) used_parts.0,
+            stay_used (pairs_blocks (header_pairs beside n.front)) (λ b k. let c = counts b in omega arith) used_parts.0,
             (
               subst (AllBlocksUsed now) (sym new_blocks) (here_used.0, (here_used.1.0, fresh_used)),
-              stay_used (blocks_of_pairs (pairs_of_headers beside n.back)) (λ b k. let c = counts b in omega arith) used_parts.1.1,
+              stay_used (pairs_blocks (header_pairs beside n.back)) (λ b k. let c = counts b in omega arith) used_parts.1.1,
             ),
           );
         }
@@ -378,15 +348,15 @@ module _ (disk : Disk) (history : List CallEvent) (hs : List PairHeader) (sets :
         abbrev q : Pair
         q = pair_moved_to old (index + 1) fresh
 
-        moved_pairs : pairs_of_headers left headers ≡ pairs_with_next_moved old index fresh
-        moved_pairs = ap (pairs_of_headers left) headers_are
+        moved_pairs : header_pairs left headers ≡ pairs_with_next_moved old index fresh
+        moved_pairs = ap (header_pairs left) headers_are
             ∙ pairs_are beside then blocks after n.front two (new ∷ f ∷ []) n.back ((header_address h).0 ∷ (header_address h).1 ∷ []) (fresh.0 ∷ fresh.1 ∷ []) sets now kept_parts replaced
-            ∙ ap₂ (λ x y. pairs_of_headers beside n.front ++ x ∷ y ∷ pairs_of_headers beside n.back) now_pair f_pair
+            ∙ ap₂ (λ x y. header_pairs beside n.front ++ x ∷ y ∷ header_pairs beside n.back) now_pair f_pair
             ∙ sym (ap (λ z. set (set z index p) (index + 1) q) (sym mid_pairs)
             ∙ ap₂ (λ (z : List Pair) (i : ℕ). set (set z i p) (i + 1) q)
-            (ap (pairs_of_headers beside) n.parts ∙ map-append (λ x. disk_pair_at beside (header_address x)) n.front (h ∷ n.next ∷ n.back)) (n.place ∙ sym (length-map n.front (λ x. disk_pair_at beside (header_address x))))
-            ∙ ap (λ z. set z (length (pairs_of_headers beside n.front) + 1) q) (set-append_seam (pairs_of_headers beside n.front) (disk_pair_at beside (header_address h)) (pairs_of_headers beside (n.next ∷ n.back)) p)
-            ∙ set_behind (pairs_of_headers beside n.front) p (disk_pair_at beside (header_address n.next)) q (pairs_of_headers beside n.back))
+            (ap (header_pairs beside) n.parts ∙ map-append (λ x. disk_pair_at beside (header_address x)) n.front (h ∷ n.next ∷ n.back)) (n.place ∙ sym (length-map n.front (λ x. disk_pair_at beside (header_address x))))
+            ∙ ap (λ z. set z (length (header_pairs beside n.front) + 1) q) (set-append_seam (header_pairs beside n.front) (disk_pair_at beside (header_address h)) (header_pairs beside (n.next ∷ n.back)) p)
+            ∙ set_behind (header_pairs beside n.front) p (disk_pair_at beside (header_address n.next)) q (header_pairs beside n.back))
 
         pub is_moved : IsNextMoved old index fresh (kept_view left after headers now)
         is_moved = record {
@@ -430,7 +400,7 @@ module _ (geometry later : Geometry) (old mid : Blocks) (before then : List Call
         (subst (λ k. IsPairCopied (disk_of_blocks geometry old) before [] x (disk_of_blocks k mid) then fresh f) same copied)
 
     pub device_move_stops : (after : List CallEvent) → HoldsAtLosses LossLeavesAtWorst before then (KeepsOutsidePair fresh old) → HoldsAtLosses LossLeavesAtWorst then after (KeepsOutsidePair (header_address h) mid)
-        → LossLeavesCleanly then after (LossLeavesChanged (disk_of_blocks later mid) (header_address h) leads) → LossLeavesCleanly before after (LossLeavesNextMoved was index fresh)
+        → CleanLossLeaves then after (LossLeavesChanged (disk_of_blocks later mid) (header_address h) leads) → CleanLossLeaves before after (LossLeavesNextMoved was index fresh)
     device_move_stops after first second stops cleanly = goes_on_by (device_left_by_copy first)
         (HoldsAtLosses-weaker (λ left l. left_by_lead (disk_of_blocks geometry old) before hs sets index h fresh few n kept can mid then others stay f copied_there left
         (subst (λ k. LossLeavesChanged (disk_of_blocks k mid) (header_address h) leads left) same l)) (stops (AllCallsSince-behind cleanly first second)))

@@ -1,34 +1,12 @@
 -- A pair of the thread is split.
 use Rattle.std.proofs.Common.{ℕ, zero, suc, ◌≡◌, ◌⊎◌, inl, inr, ◌+◌, ◌-◌, ◌<◌, true, List, [], ◌∷◌, ◌++◌, length, take, drop, Option, Some, None, refl, sym, ap, ap₂, subst, ◌∙◌, arith, set, insert}
-use Rattle.std.specs.Option.{option_and_then, option_map}
-use Rattle.std.proofs.lemmas.Option.{same_Some}
-use Rattle.std.proofs.lemmas.List.{map-append, length-map}
+use Rattle.lfs_thread.proofs.Common.{option_and_then, option_map, same_Some, map-append, length-map, flat_map-append, set-append_seam, Blocks, BlockStates, IsUsedBlock, disk_of_blocks, Disk, CallEvent, Slot, PairContent, FitsInPair, Gstate, Tail, zero_gstate, AreWellFormed, IsWellFormed, nothing_logged, BeginsWith, superblock_entry, PairChange, RawSlot, RawContent, current_block, raw_content, content_at, content_after, complete_content, complete_slots, empty_raw_content, block_entries, Pair, AreLinked, tail_target, pairs_blocks, number_occurrences, once_from_distinct, complete_parts, complete_take, completed_from, fits_pair, header_address, IsPairAddress, CanCommit, HasOldContent, KeepsFirstEntry, changed_pair, changed_if_any, superblock_anew, KeepsOutsideBoth, KeptThread, PairHeader, kept_view, disk_pair_at, header_pairs, IsHeader, AllBlocksUsed, IsKeptOnDisk, thread_pair, CanSplitAt, map_using, pairs_split, HasSplit, BothOnDisk, PartsFit, HasOldPair, LossLeavesBoth}
 use Rattle.std.proofs.lemmas.List.Edits.{insert-append_right}
-use Rattle.std.proofs.lemmas.List.Concat.{flat_map-append}
-use Rattle.std.proofs.Math.Seq.{set-append_seam}
-use Rattle.lfs_model.specs.format.Blocks.{Blocks}
-use Rattle.lfs_model.specs.layers.BlockSets.{BlockStates, IsUsedBlock}
 use Rattle.lfs_device.specs.declared.geometry.Geometry.{Geometry}
-use Rattle.lfs_device.specs.DeviceDisk.{disk_of_blocks}
-use Rattle.lfs_model.specs.format.Disk.{Disk}
-use Rattle.lfs_model.specs.session.History.{CallEvent}
-use Rattle.lfs_model.specs.format.Slots.{Slot, PairContent, FitsInPair, Gstate, Tail, zero_gstate}
-use Rattle.lfs_model.specs.layers.LoggedContent.{AreWellFormed, IsWellFormed}
-use Rattle.lfs_model.proofs.Logged.{nothing_logged}
-use Rattle.lfs_model.specs.tree.View.{BeginsWith, superblock_entry}
-use Rattle.lfs_model.specs.layers.Changes.{PairChange}
-use Rattle.lfs_model.specs.format.Content.{RawSlot, RawContent, current_block, raw_content, content_at, content_after, complete_content, complete_slots, empty_raw_content}
-use Rattle.lfs_model.specs.format.Log.{block_entries}
-use Rattle.lfs_model.specs.format.Thread.{Pair, AreLinked, tail_address_of, blocks_of_pairs}
-use Rattle.lfs_model.proofs.Counts.{number_count, once_from_distinct}
-use Rattle.lfs_model.proofs.Completed.{complete_parts, complete_take, complete_drop, completed_from, fits_pair}
-use Rattle.lfs_pair.specs.Pair.{header_address}
+use Rattle.lfs_model.proofs.Completed.{complete_drop}
 use Rattle.lfs_pair.specs.HalfCut.{CanSplit, SlotsFitPair, IsFittingSplit}
-use Rattle.lfs_pair.specs.Commits.{AddressIsOnDisk, CanCommit, HasOldContent, KeepsFirstEntry, changed_pair, content_made}
-use Rattle.lfs_model.proofs.FirstEntries.{superblock_anew}
-use Rattle.lfs_pair.specs.Split.{CanSplitPair, BothHaveSlots, SplitsPair, KeepsOutsideBoth, OutsideBothStaysUnprogrammed, LossLeavesSplit, PairsHaveParts, split_front, split_back}
-use Rattle.lfs_thread.specs.Kept.{KeptThread, PairHeader, kept_view, disk_pair_at, pairs_of_headers, IsHeader, AllBlocksUsed, IsKeptOnDisk}
-use Rattle.lfs_thread.specs.ThreadSteps.{thread_pair_at, CanSplitAt, map_using, split_front_pair, split_back_pair, pairs_with_split, IsSplitInTwo, BothOnDisk, PartsFitPairs, HasOldPair, LossLeavesPairSplit}
+use Rattle.lfs_pair.specs.Split.{CanSplitPair, BothHaveSlots, SplitsPair, OutsideBothStaysUnprogrammed, LossLeavesSplit, PairsHaveParts, split_front, split_back}
+use Rattle.lfs_thread.specs.ThreadSteps.{front_pair, back_pair}
 use Rattle.lfs_thread.proofs.Coming.{two_unused, used_still, SettlesTwo, settles_two, held_address}
 use Rattle.lfs_thread.proofs.Keeping.{kept_thread, header_content, pair_on_content, used_left, used_right, IsReplaced, pairs_are, kept_replaced}
 use Rattle.lfs_thread.proofs.Changing.{IsAt, header_at_index, pair_at_index, Completes, made_of_header, can_commit}
@@ -89,7 +67,7 @@ complete_length (s ∷ slots) all e =
 
 parts_of_cut : (old : KeptThread) (index : ℕ) (raw : RawContent) (c : PairContent) (cut : ℕ) (fresh : ℕ × ℕ) (disk : Disk) → IsComplete raw c → complete_content raw ≡ Some c → IsWellFormed raw → IsFittingSplit old.disk.block_size old.disk.page raw.slots cut
     → BothHaveSlots old.disk.block_size old.disk.page raw cut
-    → KeepsFirstEntry old.disk (thread_pair_at old index).at (Some (split_front raw cut fresh)) disk → PartsFitPairs old index c cut fresh disk
+    → KeepsFirstEntry old.disk (thread_pair old index).at (Some (split_front raw cut fresh)) disk → PartsFit old index c cut fresh disk
 parts_of_cut old index raw c cut fresh disk is whole logged is_cut is_inside keeps = record {
   inside = λ too_large. let i = is_inside (λ f. too_large (fits_pair old.disk.block_size old.disk.page raw c logged whole f)) in let l = complete_length raw.slots c.slots is.slots in (i.0, omega arith);
   front_fits = slots_fit old.disk.block_size old.disk.page (take cut raw.slots) (take cut c.slots) (Some (record { hard = true; to = fresh })) c.move
@@ -133,14 +111,14 @@ can_split disk before hs sets index h fresh changes a kept can =
 
     raw_same : (commit : CanCommit disk before h changes) → can.raw ≡ commit.new
     raw_same commit = same_Some can.raw commit.new (sym can.made ∙ ap (λ (p : Pair). changed_pair disk p.at changes) (pair_at_index disk before hs sets index h a)
-        ∙ ap (λ r. content_made r changes) (held_raw commit) ∙ commit.changed)
+        ∙ ap (λ r. changed_if_any r changes) (held_raw commit) ∙ commit.changed)
 
     blocks_used : IsUsedBlock sets (header_address h).0 × IsUsedBlock sets (header_address h).1
     blocks_used =
-        let all = subst (λ z. AllBlocksUsed sets (blocks_of_pairs (pairs_of_headers disk z))) a.parts kept.used in
-        let parts = subst (λ ps. AllBlocksUsed sets (blocks_of_pairs ps)) (map-append (λ x. disk_pair_at disk (header_address x)) a.front (h ∷ a.back)) all in
-        let cut = subst (AllBlocksUsed sets) (flat_map-append (λ (s : Pair). s.at.0 ∷ s.at.1 ∷ []) (pairs_of_headers disk a.front) (pairs_of_headers disk (h ∷ a.back))) parts in
-        let right = used_right sets (blocks_of_pairs (pairs_of_headers disk a.front)) (blocks_of_pairs (pairs_of_headers disk (h ∷ a.back))) cut in
+        let all = subst (λ z. AllBlocksUsed sets (pairs_blocks (header_pairs disk z))) a.parts kept.used in
+        let parts = subst (λ ps. AllBlocksUsed sets (pairs_blocks ps)) (map-append (λ x. disk_pair_at disk (header_address x)) a.front (h ∷ a.back)) all in
+        let cut = subst (AllBlocksUsed sets) (flat_map-append (λ (s : Pair). s.at.0 ∷ s.at.1 ∷ []) (header_pairs disk a.front) (header_pairs disk (h ∷ a.back))) parts in
+        let right = used_right sets (pairs_blocks (header_pairs disk a.front)) (pairs_blocks (header_pairs disk (h ∷ a.back))) cut in
         (right.0, right.1.0)
 
 -- ---- after
@@ -164,7 +142,7 @@ module _ (disk : Disk) (before : List CallEvent) (blocks : Blocks) (after : List
   kept_parts : IsKeptOnDisk disk before (a.front ++ (h ∷ [] ++ a.back)) sets
   kept_parts = subst (λ z. IsKeptOnDisk disk before z sets) a.parts kept
 
-  was_pair : thread_pair_at (kept_view disk before hs sets) index ≡ disk_pair_at disk (header_address h)
+  was_pair : thread_pair (kept_view disk before hs sets) index ≡ disk_pair_at disk (header_address h)
   was_pair = pair_at_index disk before hs sets index h a
 
   is_whole : complete_content splits.new ≡ Some c
@@ -177,7 +155,7 @@ module _ (disk : Disk) (before : List CallEvent) (blocks : Blocks) (after : List
   new_header =
       let on = (header_at_index disk before hs index h a kept.each).address in
       record {
-        address = subst (AddressIsOnDisk left) (sym splits.front.same) (record {
+        address = subst (IsPairAddress left) (sym splits.front.same) (record {
           apart = on.apart;
           first = subst (λ n. (header_address h).0 < n) (sym others.count) on.first;
           second = subst (λ n. (header_address h).1 < n) (sym others.count) on.second;
@@ -191,7 +169,7 @@ module _ (disk : Disk) (before : List CallEvent) (blocks : Blocks) (after : List
 
   fresh_header : IsHeader left after f
   fresh_header = record {
-    address = subst (AddressIsOnDisk left) (sym splits.back.same) (let on = held_address disk before hs sets fresh kept can.held in record {
+    address = subst (IsPairAddress left) (sym splits.back.same) (let on = held_address disk before hs sets fresh kept can.held in record {
       apart = on.apart;
       first = subst (λ n. fresh.0 < n) (sym others.count) on.first;
       second = subst (λ n. fresh.1 < n) (sym others.count) on.second;
@@ -203,48 +181,48 @@ module _ (disk : Disk) (before : List CallEvent) (blocks : Blocks) (after : List
     complete = back_complete splits.new c splits.cut parts_of;
   }
 
-  new_pair : disk_pair_at left (header_address new) ≡ split_front_pair (kept_view disk before hs sets) index c splits.cut fresh
+  new_pair : disk_pair_at left (header_address new) ≡ front_pair (kept_view disk before hs sets) index c splits.cut fresh
   unfolding new_header
   new_pair = pair_on_content left (header_address new) (record { slots = take splits.cut c.slots; tail = Some (record { hard = true; to = fresh }); move = c.move }) (header_content left after new new_header)
       ∙ ap (λ at. record { at = at; content = record { slots = take splits.cut c.slots; tail = Some (record { hard = true; to = fresh }); move = c.move } }) (splits.front.same ∙ ap (λ (p : Pair). p.at) (sym was_pair))
 
-  fresh_pair : disk_pair_at left (header_address f) ≡ split_back_pair c splits.cut fresh
+  fresh_pair : disk_pair_at left (header_address f) ≡ back_pair c splits.cut fresh
   unfolding fresh_header
   fresh_pair = pair_on_content left (header_address f) (record { slots = drop splits.cut c.slots; tail = c.tail; move = zero_gstate }) (header_content left after f fresh_header)
       ∙ ap (λ at. record { at = at; content = record { slots = drop splits.cut c.slots; tail = c.tail; move = zero_gstate } }) splits.back.same
 
-  used_parts : AllBlocksUsed sets (blocks_of_pairs (pairs_of_headers disk a.front)) × (AllBlocksUsed sets (blocks_of_pairs (pairs_of_headers disk (h ∷ []))) × AllBlocksUsed sets (blocks_of_pairs (pairs_of_headers disk a.back)))
+  used_parts : AllBlocksUsed sets (pairs_blocks (header_pairs disk a.front)) × (AllBlocksUsed sets (pairs_blocks (header_pairs disk (h ∷ []))) × AllBlocksUsed sets (pairs_blocks (header_pairs disk a.back)))
   used_parts =
-      let all = subst (λ ps. AllBlocksUsed sets (blocks_of_pairs ps)) (map-append (λ x. disk_pair_at disk (header_address x)) a.front (h ∷ a.back)) kept_parts.used in
-      let cut = subst (AllBlocksUsed sets) (flat_map-append (λ (s : Pair). s.at.0 ∷ s.at.1 ∷ []) (pairs_of_headers disk a.front) (pairs_of_headers disk (h ∷ a.back))) all in
-      let right = used_right sets (blocks_of_pairs (pairs_of_headers disk a.front)) (blocks_of_pairs (pairs_of_headers disk (h ∷ a.back))) cut in
-      (used_left sets (blocks_of_pairs (pairs_of_headers disk a.front)) (blocks_of_pairs (pairs_of_headers disk (h ∷ a.back))) cut, ((right.0, (right.1.0, tt)), right.1.1))
+      let all = subst (λ ps. AllBlocksUsed sets (pairs_blocks ps)) (map-append (λ x. disk_pair_at disk (header_address x)) a.front (h ∷ a.back)) kept_parts.used in
+      let cut = subst (AllBlocksUsed sets) (flat_map-append (λ (s : Pair). s.at.0 ∷ s.at.1 ∷ []) (header_pairs disk a.front) (header_pairs disk (h ∷ a.back))) all in
+      let right = used_right sets (pairs_blocks (header_pairs disk a.front)) (pairs_blocks (header_pairs disk (h ∷ a.back))) cut in
+      (used_left sets (pairs_blocks (header_pairs disk a.front)) (pairs_blocks (header_pairs disk (h ∷ a.back))) cut, ((right.0, (right.1.0, tt)), right.1.1))
 
-  new_blocks : blocks_of_pairs (pairs_of_headers left (new ∷ f ∷ [])) ≡ (header_address h).0 ∷ (header_address h).1 ∷ fresh.0 ∷ fresh.1 ∷ []
+  new_blocks : pairs_blocks (header_pairs left (new ∷ f ∷ [])) ≡ (header_address h).0 ∷ (header_address h).1 ∷ fresh.0 ∷ fresh.1 ∷ []
   new_blocks = ap₂ (λ (x y : ℕ × ℕ). x.0 ∷ x.1 ∷ y.0 ∷ y.1 ∷ []) splits.front.same splits.back.same
 
-  same_next : tail_address_of (disk_pair_at left (header_address f)).content.tail ≡ tail_address_of (disk_pair_at disk (header_address h)).content.tail
-  same_next = ap (λ (p : Pair). tail_address_of p.content.tail) fresh_pair ∙ can.can.next ∙ ap (λ (p : Pair). tail_address_of p.content.tail) was_pair
+  same_next : tail_target (disk_pair_at left (header_address f)).content.tail ≡ tail_target (disk_pair_at disk (header_address h)).content.tail
+  same_next = ap (λ (p : Pair). tail_target p.content.tail) fresh_pair ∙ can.can.next ∙ ap (λ (p : Pair). tail_target p.content.tail) was_pair
 
   replaced : IsReplaced disk before blocks after a.front (h ∷ []) (new ∷ f ∷ []) a.back ((header_address h).0 ∷ (header_address h).1 ∷ fresh.0 ∷ fresh.1 ∷ []) (fresh.0 ∷ fresh.1 ∷ []) now
   replaced = record {
     same = others;
     stay = stay;
     touched = λ b k. omega arith;
-    free = two_unused sets fresh.0 fresh.1 (blocks_of_pairs (pairs_of_headers disk (a.front ++ (h ∷ [] ++ a.back)))) uses.first_unused uses.second_unused uses.apart kept_parts.used
-        (once_from_distinct (blocks_of_pairs (pairs_of_headers disk (a.front ++ (h ∷ [] ++ a.back)))) kept_parts.distinct);
+    free = two_unused sets fresh.0 fresh.1 (pairs_blocks (header_pairs disk (a.front ++ (h ∷ [] ++ a.back)))) uses.first_unused uses.second_unused uses.apart kept_parts.used
+        (once_from_distinct (pairs_blocks (header_pairs disk (a.front ++ (h ∷ [] ++ a.back)))) kept_parts.distinct);
     each = (new_header, (fresh_header, tt));
-    no_more = λ b. let e = ap (number_count b) new_blocks in omega arith;
+    no_more = λ b. let e = ap (number_occurrences b) new_blocks in omega arith;
     links = λ ys from l. (
       l.0 ∙ ap Some (sym splits.front.same),
-      (ap (λ (p : Pair). tail_address_of p.content.tail) new_pair ∙ ap Some (sym splits.back.same), subst (λ n. AreLinked n ys) (sym same_next) l.1),
+      (ap (λ (p : Pair). tail_target p.content.tail) new_pair ∙ ap Some (sym splits.back.same), subst (λ n. AreLinked n ys) (sym same_next) l.1),
     );
     size = uses.size ∙ kept_parts.size;
     used = (
-      used_still sets now fresh (blocks_of_pairs (pairs_of_headers disk a.front)) uses used_parts.0,
+      used_still sets now fresh (pairs_blocks (header_pairs disk a.front)) uses used_parts.0,
       (
-        subst (AllBlocksUsed now) (sym new_blocks) ((used_still sets now fresh (blocks_of_pairs (pairs_of_headers disk (h ∷ []))) uses used_parts.1.0).0, ((used_still sets now fresh (blocks_of_pairs (pairs_of_headers disk (h ∷ []))) uses used_parts.1.0).1.0, (uses.first, (uses.second, tt)))),
-        used_still sets now fresh (blocks_of_pairs (pairs_of_headers disk a.back)) uses used_parts.1.1,
+        subst (AllBlocksUsed now) (sym new_blocks) ((used_still sets now fresh (pairs_blocks (header_pairs disk (h ∷ []))) uses used_parts.1.0).0, ((used_still sets now fresh (pairs_blocks (header_pairs disk (h ∷ []))) uses used_parts.1.0).1.0, (uses.first, (uses.second, tt)))),
+        used_still sets now fresh (pairs_blocks (header_pairs disk a.back)) uses used_parts.1.1,
       ),
     );
   }
@@ -260,23 +238,23 @@ module _ (disk : Disk) (before : List CallEvent) (blocks : Blocks) (after : List
   split_kept = subst (λ z. IsKeptOnDisk left after z now) (sym headers_are)
       (kept_replaced disk before blocks after a.front (h ∷ []) (new ∷ f ∷ []) a.back ((header_address h).0 ∷ (header_address h).1 ∷ fresh.0 ∷ fresh.1 ∷ []) (fresh.0 ∷ fresh.1 ∷ []) sets now kept_parts replaced)
 
-  split_pairs : pairs_of_headers left headers ≡ pairs_with_split (pairs_of_headers disk hs) index (split_front_pair (kept_view disk before hs sets) index c splits.cut fresh) (split_back_pair c splits.cut fresh)
-  split_pairs = ap (pairs_of_headers left) headers_are
+  split_pairs : header_pairs left headers ≡ pairs_split (header_pairs disk hs) index (front_pair (kept_view disk before hs sets) index c splits.cut fresh) (back_pair c splits.cut fresh)
+  split_pairs = ap (header_pairs left) headers_are
       ∙ pairs_are disk before blocks after a.front (h ∷ []) (new ∷ f ∷ []) a.back ((header_address h).0 ∷ (header_address h).1 ∷ fresh.0 ∷ fresh.1 ∷ []) (fresh.0 ∷ fresh.1 ∷ []) sets now kept_parts replaced
-      ∙ ap₂ (λ p q. pairs_of_headers disk a.front ++ p ∷ q ∷ pairs_of_headers disk a.back) new_pair fresh_pair
+      ∙ ap₂ (λ p q. header_pairs disk a.front ++ p ∷ q ∷ header_pairs disk a.back) new_pair fresh_pair
       ∙ sym (there)
     where
       p : Pair
-      p = split_front_pair (kept_view disk before hs sets) index c splits.cut fresh
+      p = front_pair (kept_view disk before hs sets) index c splits.cut fresh
 
-      there : pairs_with_split (pairs_of_headers disk hs) index (split_front_pair (kept_view disk before hs sets) index c splits.cut fresh) (split_back_pair c splits.cut fresh)
-          ≡ pairs_of_headers disk a.front ++ split_front_pair (kept_view disk before hs sets) index c splits.cut fresh ∷ split_back_pair c splits.cut fresh ∷ pairs_of_headers disk a.back
-      there = ap₂ (λ (z : List Pair) (i : ℕ). pairs_with_split z i (split_front_pair (kept_view disk before hs sets) index c splits.cut fresh) (split_back_pair c splits.cut fresh))
-          (ap (pairs_of_headers disk) a.parts ∙ map-append (λ x. disk_pair_at disk (header_address x)) a.front (h ∷ a.back)) (a.place ∙ sym (length-map a.front (λ x. disk_pair_at disk (header_address x))))
-          ∙ ap (λ z. insert z (length (pairs_of_headers disk a.front) + 1) (split_back_pair c splits.cut fresh)) (set-append_seam (pairs_of_headers disk a.front) (disk_pair_at disk (header_address h)) (pairs_of_headers disk a.back) (split_front_pair (kept_view disk before hs sets) index c splits.cut fresh))
-          ∙ insert_behind (pairs_of_headers disk a.front) (split_front_pair (kept_view disk before hs sets) index c splits.cut fresh) (pairs_of_headers disk a.back) (split_back_pair c splits.cut fresh)
+      there : pairs_split (header_pairs disk hs) index (front_pair (kept_view disk before hs sets) index c splits.cut fresh) (back_pair c splits.cut fresh)
+          ≡ header_pairs disk a.front ++ front_pair (kept_view disk before hs sets) index c splits.cut fresh ∷ back_pair c splits.cut fresh ∷ header_pairs disk a.back
+      there = ap₂ (λ (z : List Pair) (i : ℕ). pairs_split z i (front_pair (kept_view disk before hs sets) index c splits.cut fresh) (back_pair c splits.cut fresh))
+          (ap (header_pairs disk) a.parts ∙ map-append (λ x. disk_pair_at disk (header_address x)) a.front (h ∷ a.back)) (a.place ∙ sym (length-map a.front (λ x. disk_pair_at disk (header_address x))))
+          ∙ ap (λ z. insert z (length (header_pairs disk a.front) + 1) (back_pair c splits.cut fresh)) (set-append_seam (header_pairs disk a.front) (disk_pair_at disk (header_address h)) (header_pairs disk a.back) (front_pair (kept_view disk before hs sets) index c splits.cut fresh))
+          ∙ insert_behind (header_pairs disk a.front) (front_pair (kept_view disk before hs sets) index c splits.cut fresh) (header_pairs disk a.back) (back_pair c splits.cut fresh)
 
-  pub is_split : IsSplitInTwo (kept_view disk before hs sets) index fresh changes (kept_view left after headers now)
+  pub is_split : HasSplit (kept_view disk before hs sets) index fresh changes (kept_view left after headers now)
   is_split = record {
     content = c;
     made = can.can.made;
@@ -301,10 +279,10 @@ module _ (geometry later : Geometry) (old blocks : Blocks) (before after : List 
   device_split = subst (λ k. IsKeptOnDisk (disk_of_blocks k blocks) after items now) (sym same) (subst (λ z. IsKeptOnDisk (disk_of_blocks geometry blocks) after z now) (sym are) (subst (λ m. IsKeptOnDisk (disk_of_blocks geometry blocks) after (insert (set hs index new) (index + 1) f) m) (sym is_now)
       (split_kept (disk_of_blocks geometry old) before blocks after hs sets index h new f fresh changes a kept can splits_there others stay)))
 
-  pub device_is_split : IsSplitInTwo (kept_view (disk_of_blocks geometry old) before hs sets) index fresh changes (kept_view (disk_of_blocks later blocks) after items now)
-  device_is_split = subst (λ k. IsSplitInTwo (kept_view (disk_of_blocks geometry old) before hs sets) index fresh changes (kept_view (disk_of_blocks k blocks) after items now)) (sym same)
-      (subst (λ z. IsSplitInTwo (kept_view (disk_of_blocks geometry old) before hs sets) index fresh changes (kept_view (disk_of_blocks geometry blocks) after z now)) (sym are)
-      (subst (λ m. IsSplitInTwo (kept_view (disk_of_blocks geometry old) before hs sets) index fresh changes (kept_view (disk_of_blocks geometry blocks) after (insert (set hs index new) (index + 1) f) m)) (sym is_now)
+  pub device_is_split : HasSplit (kept_view (disk_of_blocks geometry old) before hs sets) index fresh changes (kept_view (disk_of_blocks later blocks) after items now)
+  device_is_split = subst (λ k. HasSplit (kept_view (disk_of_blocks geometry old) before hs sets) index fresh changes (kept_view (disk_of_blocks k blocks) after items now)) (sym same)
+      (subst (λ z. HasSplit (kept_view (disk_of_blocks geometry old) before hs sets) index fresh changes (kept_view (disk_of_blocks geometry blocks) after z now)) (sym are)
+      (subst (λ m. HasSplit (kept_view (disk_of_blocks geometry old) before hs sets) index fresh changes (kept_view (disk_of_blocks geometry blocks) after (insert (set hs index new) (index + 1) f) m)) (sym is_now)
       (is_split (disk_of_blocks geometry old) before blocks after hs sets index h new f fresh changes a kept can splits_there others stay)))
 
 -- what stands behind the header at an index is put there, and then it and the header are set
@@ -325,19 +303,19 @@ placed hs index h x new f a =
 
 pub left_by_split : (disk : Disk) (before : List CallEvent) (hs : List PairHeader) (sets : BlockStates) (index : ℕ) (h : PairHeader) (fresh : ℕ × ℕ) (changes : List PairChange) (blocks : Blocks) → IsAt hs index h → IsKeptOnDisk disk before hs sets
     → CanSplitAt (kept_view disk before hs sets) index fresh changes → LossLeavesSplit disk (header_address h) fresh changes blocks
-    → LossLeavesPairSplit (kept_view disk before hs sets) index fresh changes blocks
+    → LossLeavesBoth (kept_view disk before hs sets) index fresh changes blocks
 left_by_split disk before hs sets index h fresh changes blocks a kept can l = record {
   others = subst (λ (p : Pair). KeepsOutsideBoth p.at fresh disk.blocks blocks) (sym e) l.others;
   content = sides l.content;
 }
   where
-    e : thread_pair_at (kept_view disk before hs sets) index ≡ disk_pair_at disk (header_address h)
+    e : thread_pair (kept_view disk before hs sets) index ≡ disk_pair_at disk (header_address h)
     e = pair_at_index disk before hs sets index h a
 
     is : IsHeader disk before h
     is = header_at_index disk before hs index h a kept.each
 
-    was : content_at disk (header_address h) ≡ Some (thread_pair_at (kept_view disk before hs sets) index).content
+    was : content_at disk (header_address h) ≡ Some (thread_pair (kept_view disk before hs sets) index).content
     was = header_content disk before h is ∙ ap (λ (p : Pair). Some p.content) (sym (e ∙ pair_on_content disk (header_address h) is.content (header_content disk before h is)))
 
     made_whole : (raw : RawContent) → changed_pair disk (header_address h) changes ≡ Some raw → complete_content raw ≡ Some can.can.content

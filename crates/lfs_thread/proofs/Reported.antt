@@ -6,27 +6,21 @@ use Rattle.lfs_device.specs.declared.device.BlockDevice.{Ghosts}
 use Rattle.lfs_device.specs.declared.error.Error.{Error}
 use Rattle.lfs_device.specs.declared.error.Error.TheVariants.{Io, NoMemory}
 use Rattle.lfs_device.specs.declared.geometry.Geometry.{Geometry}
-use Rattle.lfs_device.specs.DeviceCalls.{ChangesOnlyTheseBlocks, ReadsOnly}
-use Rattle.lfs_device.specs.DeviceDisk.{disk_of_blocks}
-use Rattle.lfs_model.specs.format.Blocks.{Blocks, SameExceptThese}
-use Rattle.lfs_model.specs.layers.BlockSets.{BlockStates}
-use Rattle.lfs_model.specs.format.Disk.{ordered_disk}
+use Rattle.lfs_thread.proofs.Common.{ReadsOnly, disk_of_blocks, Blocks, SameExceptThese, BlockStates, ordered_disk, HoldsAtLosses-weaker, goes_on_by, ChangesReadingFew, ReportsErrorsWritingNothing, PairHeader, kept_in_order, ThreadReportsErrors, ThreadReportsKeepingOthers, ChangesWithinReads, address_blocks, addresses_blocks}
+use Rattle.lfs_device.specs.DeviceCalls.{ChangesTheseBlocks}
 use Rattle.lfs_model.specs.declared.order.NameOrder.{NameOrder}
-use Rattle.lfs_model.proofs.Histories.{HoldsAtLosses-weaker, StayUnprogrammed-trans, StayUnprogrammed-wider, goes_on_by}
+use Rattle.lfs_model.proofs.Histories.{StayUnprogrammed-trans, StayUnprogrammed-wider}
 use Rattle.lfs_model.proofs.Overwrites.{SameExceptThese-trans, SameExceptThese-wider}
 use Rattle.lfs_pair.specs.declared.pair.Pair.{Pair}
-use Rattle.lfs_pair.specs.Commits.{CommitFailsKeepingHeader}
-use Rattle.lfs_pair.specs.Writing.{ChangesOnlyBlocksWithinReadLimit}
-use Rattle.lfs_thread.specs.ThreadDevice.{IoMeansFaultNoMemoryWritesNothing, IoMeansFaultNoMemoryKeepsOtherBlocks}
-use Rattle.lfs_thread.specs.Kept.{PairHeader, kept_in_order}
-use Rattle.lfs_thread.specs.ThreadSteps.{IoMeantFaultNoMemoryWroteNothing, IoMeantFaultNoMemoryKeptOtherBlocks, OnlyReadsDevice, ChangesThreadBlocks, ChangesWithinReads}
-use Rattle.lfs_model.specs.format.Thread.{address_blocks, addresses_blocks}
+use Rattle.lfs_pair.specs.Commits.{CommitFails}
+use Rattle.lfs_thread.specs.ThreadDevice.{ReportsErrorsKeepingOthers}
+use Rattle.lfs_thread.specs.ThreadSteps.{OnlyReadsDevice, ChangesThreadBlocks}
 
 module _ {D : Type 0} (g : Ghosts D) (order : NameOrder) (old new : D) (hs now_hs : List PairHeader) (sets now_sets : BlockStates) where
   pub unwritten_from : ReadsOnly g old new → OnlyReadsDevice (kept_in_order g order old hs sets) (kept_in_order g order new now_hs now_sets)
   unwritten_from r = record { disk = ap₂ (λ k bs. ordered_disk order (disk_of_blocks k bs)) r.geometry r.same; reads = r.reads }
 
-  pub reported_from : {X : Type 0} (result : Result X Error) → IoMeansFaultNoMemoryWritesNothing g old new result → IoMeantFaultNoMemoryWroteNothing (kept_in_order g order old hs sets) (kept_in_order g order new now_hs now_sets) result
+  pub reported_from : {X : Type 0} (result : Result X Error) → ReportsErrorsWritingNothing g old new result → ThreadReportsErrors (kept_in_order g order old hs sets) (kept_in_order g order new now_hs now_sets) result
   reported_from result t = record {
     errors = t.errors;
     fault = t.faults.fault;
@@ -34,10 +28,10 @@ module _ {D : Type 0} (g : Ghosts D) (order : NameOrder) (old new : D) (hs now_h
     unwritten = λ (e : result ≡ Err NoMemory). unwritten_from (t.unwritten e);
   }
 
-  pub reported_beside_from : {X : Type 0} (bs : List ℕ) (result : Result X Error) → IoMeansFaultNoMemoryKeepsOtherBlocks g bs old new result → IoMeantFaultNoMemoryKeptOtherBlocks bs (kept_in_order g order old hs sets) (kept_in_order g order new now_hs now_sets) result
+  pub reported_beside_from : {X : Type 0} (bs : List ℕ) (result : Result X Error) → ReportsErrorsKeepingOthers g bs old new result → ThreadReportsKeepingOthers bs (kept_in_order g order old hs sets) (kept_in_order g order new now_hs now_sets) result
   reported_beside_from bs result t = record { errors = t.errors; fault = t.faults.fault; no_fault = t.faults.no_fault; beside = t.beside }
 
-  pub writes_from : (bs : List ℕ) → ChangesOnlyTheseBlocks g bs old new → ChangesThreadBlocks bs (kept_in_order g order old hs sets) (kept_in_order g order new now_hs now_sets)
+  pub writes_from : (bs : List ℕ) → ChangesTheseBlocks g bs old new → ChangesThreadBlocks bs (kept_in_order g order old hs sets) (kept_in_order g order new now_hs now_sets)
   writes_from bs w = record {
     others = w.others;
     elsewhere = w.elsewhere;
@@ -52,7 +46,7 @@ module _ {D : Type 0} (g : Ghosts D) (order : NameOrder) (old new : D) (hs now_h
   }
 
 module _ {D : Type 0} (g : Ghosts D) (order : NameOrder) (old new : D) (hs now_hs : List PairHeader) (sets now_sets : BlockStates) where
-  pub reading_from : {most : ℕ} (bs : List ℕ) → ChangesOnlyBlocksWithinReadLimit g most bs old new → ChangesWithinReads most bs (kept_in_order g order old hs sets) (kept_in_order g order new now_hs now_sets)
+  pub reading_from : {most : ℕ} (bs : List ℕ) → ChangesReadingFew g most bs old new → ChangesWithinReads most bs (kept_in_order g order old hs sets) (kept_in_order g order new now_hs now_sets)
   reading_from bs w = record { only = writes_from g order old new hs now_hs sets now_sets bs w.only; few = w.few }
 
 -- ---- two calls, of which the first writes a fresh pair
@@ -71,7 +65,7 @@ pub keeps_by_both : (at fresh : ℕ × ℕ) {old mid new : Blocks} → SameExcep
 keeps_by_both at fresh first second = SameExceptThese-trans (keeps_by_fresh at fresh first) (SameExceptThese-wider (addresses_blocks at fresh) (among_first at fresh) second)
 
 module _ {D : Type 0} (g : Ghosts D) (at fresh : ℕ × ℕ) where
-  pub changes_by_fresh : {old new : D} → ChangesOnlyTheseBlocks g (address_blocks fresh) old new → ChangesOnlyTheseBlocks g (addresses_blocks at fresh) old new
+  pub changes_by_fresh : {old new : D} → ChangesTheseBlocks g (address_blocks fresh) old new → ChangesTheseBlocks g (addresses_blocks at fresh) old new
   changes_by_fresh w = record {
     others = keeps_by_fresh at fresh w.others;
     elsewhere = StayUnprogrammed-wider (addresses_blocks at fresh) (among_second at fresh) w.elsewhere;
@@ -79,7 +73,7 @@ module _ {D : Type 0} (g : Ghosts D) (at fresh : ℕ × ℕ) where
     at_worst = HoldsAtLosses-weaker (λ disk left. keeps_by_fresh at fresh left) w.at_worst;
   }
 
-  pub changes_by_both : {old mid new : D} → ChangesOnlyTheseBlocks g (address_blocks fresh) old mid → ChangesOnlyTheseBlocks g (address_blocks at) mid new → ChangesOnlyTheseBlocks g (addresses_blocks at fresh) old new
+  pub changes_by_both : {old mid new : D} → ChangesTheseBlocks g (address_blocks fresh) old mid → ChangesTheseBlocks g (address_blocks at) mid new → ChangesTheseBlocks g (addresses_blocks at fresh) old new
   changes_by_both w v = record {
     others = keeps_by_both at fresh w.others v.others;
     elsewhere = StayUnprogrammed-trans (StayUnprogrammed-wider (addresses_blocks at fresh) (among_second at fresh) w.elsewhere) (StayUnprogrammed-wider (addresses_blocks at fresh) (among_first at fresh) v.elsewhere);
@@ -97,12 +91,12 @@ pub record HasErrors {D X : Type 0} (g : Ghosts D) (old new : D) (result : Resul
 same_error : (X : Type 0) (e f : Error) → (let r : Result X Error = Err e in r) ≡ Err f → e ≡ f
 same_error X e f h = cc
 
-pub errors_of : {D X : Type 0} {g : Ghosts D} {old new : D} (was now : Pair) {result : Result X Error} → IfErr result (λ e. CommitFailsKeepingHeader g old new was now e) → HasErrors g old new result
+pub errors_of : {D X : Type 0} {g : Ghosts D} {old new : D} (was now : Pair) {result : Result X Error} → IfErr result (λ e. CommitFails g old new was now e) → HasErrors g old new result
 errors_of was now {result = Ok x} h = record { errors = tt; unwritten = λ e. absurd (cc) }
 errors_of {X = X} was now {result = Err e} h = record { errors = h.errors; unwritten = λ same. h.no_memory (same_error X e NoMemory same) }
 
 -- an error that is passed on
-pub errors_again : {D X Y : Type 0} {g : Ghosts D} {old new : D} (e : Error) (first : Result X Error) (second : Result Y Error) → first ≡ Err e → second ≡ Err e → IoMeansFaultNoMemoryWritesNothing g old new first → IoMeansFaultNoMemoryWritesNothing g old new second
+pub errors_again : {D X Y : Type 0} {g : Ghosts D} {old new : D} (e : Error) (first : Result X Error) (second : Result Y Error) → first ≡ Err e → second ≡ Err e → ReportsErrorsWritingNothing g old new first → ReportsErrorsWritingNothing g old new second
 errors_again {X = X} {Y = Y} e first second is now t = record {
   errors = subst (λ (r : Result Y Error). IfErr r (λ e. (e ≡ Io) ⊎ (e ≡ NoMemory))) (sym now) (subst (λ (r : Result X Error). IfErr r (λ e. (e ≡ Io) ⊎ (e ≡ NoMemory))) is t.errors);
   faults = record {

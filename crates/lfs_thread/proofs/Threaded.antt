@@ -1,34 +1,8 @@
 -- A fresh pair beside the thread, and then in it.
 use Rattle.std.proofs.Common.{ℕ, ◌≡◌, ◌⊎◌, inl, inr, get_or, ◌+◌, ◌<◌, ◌≤◌, List, [], ◌∷◌, length, Some, refl, sym, ap, ap₂, subst, ◌∙◌, set, insert, remove}
-use Rattle.std.proofs.lemmas.Option.{same_Some}
-use Rattle.std.proofs.lemmas.List.{map-append}
-use Rattle.std.proofs.lemmas.List.Concat.{flat_map-append}
-use Rattle.lfs_model.specs.format.Blocks.{Blocks}
-use Rattle.std.specs.Option.{option_and_then, option_map}
-use Rattle.lfs_tag.specs.ContentView.{tail_view}
-use Rattle.lfs_model.proofs.Completed.{fits_pair}
-use Rattle.lfs_model.specs.tree.View.{BeginsWith, superblock_entry}
-use Rattle.lfs_model.specs.layers.BlockSets.{BlockStates, IsUsedBlock}
-use Rattle.lfs_model.specs.format.Disk.{Disk}
+use Rattle.lfs_thread.proofs.Common.{same_Some, map-append, flat_map-append, Blocks, option_and_then, option_map, tail_view, fits_pair, BeginsWith, superblock_entry, BlockStates, IsUsedBlock, Disk, disk_of_blocks, LossLeavesAtWorst, CallEvent, HoldsAtLosses, OnlyReadsSince, LeftByLoss, AllCallsSince-behind, HoldsAtLosses-weaker, HoldsAtLosses-worst, goes_on_by, PairContent, FitsInPair, zero_gstate, PairChange, RawContent, current_block, raw_content, content_at, complete_content, Pair, pairs_blocks, header_address, IsWellFormed, CanCommit, CommitsChanges, HasContentMade, HasOldContent, KeepsFirstEntry, LossLeavesChanged, changed_pair, KeepsOutsidePair, OutsideStaysUnprogrammed, IsFreshPair, AreApart, KeepsOutsideBoth, superblock_anew, AreElsewhere, raw_content-stays, KeptThread, PairHeader, kept_view, disk_pair_at, header_pairs, IsHeader, AllBlocksUsed, IsKeptOnDisk, CleanLossLeaves, thread_pair, empty_anchor, RefusesThreading, complete_after, CanThreadIn, HasSuperblock, HasOldPair, IsThreadedIn, ThreadedOnDisk, LossLeavesThreaded, KeepsSuperblockFirst, tail_change, map_using, pairs_split}
 use Rattle.lfs_device.specs.declared.geometry.Geometry.{Geometry}
-use Rattle.lfs_device.specs.DeviceDisk.{disk_of_blocks}
-use Rattle.lfs_model.specs.session.History.{LossLeavesAtWorst, CallEvent, HoldsAtLosses, OnlyReadsSince}
-use Rattle.lfs_model.specs.crash.Stops.{LeftByLoss}
-use Rattle.lfs_model.proofs.Histories.{AllCallsSince-behind, HoldsAtLosses-weaker, HoldsAtLosses-worst, goes_on_by}
-use Rattle.lfs_model.specs.format.Slots.{PairContent, FitsInPair, zero_gstate}
-use Rattle.lfs_model.specs.layers.Changes.{PairChange}
-use Rattle.lfs_model.specs.format.Content.{RawContent, current_block, raw_content, content_at, complete_content}
-use Rattle.lfs_model.specs.format.Thread.{Pair, blocks_of_pairs}
-use Rattle.lfs_pair.specs.Pair.{header_address}
-use Rattle.lfs_model.specs.layers.LoggedContent.{IsWellFormed}
-use Rattle.lfs_pair.specs.Commits.{CanCommit, CommitsChanges, HasContentMade, HasOldContent, KeepsFirstEntry, LossLeavesChanged, changed_pair, KeepsOutsidePair, OutsideStaysUnprogrammed}
-use Rattle.lfs_pair.specs.FreshPair.{IsFreshPair}
-use Rattle.lfs_pair.specs.Split.{AreApart, KeepsOutsideBoth}
-use Rattle.lfs_model.proofs.FirstEntries.{superblock_anew}
-use Rattle.lfs_model.proofs.Staying.{AreElsewhere, raw_content-stays}
-use Rattle.lfs_thread.specs.Kept.{KeptThread, PairHeader, kept_view, disk_pair_at, pairs_of_headers, IsHeader, AllBlocksUsed, IsKeptOnDisk}
-use Rattle.lfs_thread.specs.ThreadDevice.{LossLeavesCleanly}
-use Rattle.lfs_thread.specs.ThreadSteps.{thread_pair_at, empty_anchor, RefusesThreadingIn, complete_after, CanThreadIn, HasSuperblockOf, HasOldPair, IsThreadedIn, ThreadedInOnDisk, LossLeavesThreadedIn, KeepsSuperblockFirst, fresh_with_tail, tail_setting_change, map_using, pairs_with_split}
+use Rattle.lfs_thread.specs.ThreadSteps.{fresh_with_tail}
 use Rattle.lfs_thread.proofs.Keeping.{kept_thread, header_content, pair_on_content, disk_pair_at-stays, used_right, pair_elsewhere, fresh_elsewhere, first_stays}
 use Rattle.lfs_thread.proofs.Changing.{IsAt, Completes, can_commit, kept_read, header_at_index, pair_at_index, made_of_header}
 use Rattle.lfs_thread.proofs.Coming.{SettlesTwo, settles_two, held_address}
@@ -54,7 +28,7 @@ module _ (disk : Disk) (history : List CallEvent) (hs : List PairHeader) (sets :
   pub still_kept : IsKeptOnDisk beside then hs sets
   still_kept = beside_kept disk history mid then hs sets fresh kept uses.first_unused uses.second_unused others stay
 
-  pub still_pairs : pairs_of_headers beside hs ≡ pairs_of_headers disk hs
+  pub still_pairs : header_pairs beside hs ≡ header_pairs disk hs
   still_pairs = beside_pairs disk history mid then hs sets fresh kept uses.first_unused uses.second_unused others stay
 
   pub still_made : complete_after (kept_view beside then hs sets) index changes ≡ Some can.content
@@ -63,22 +37,22 @@ module _ (disk : Disk) (history : List CallEvent) (hs : List PairHeader) (sets :
   pub then_can : CanCommit beside then h changes
   then_can = can_commit beside then hs sets index h changes a still_kept can.content still_made
 
-  was_pair : thread_pair_at old index ≡ disk_pair_at disk (header_address h)
+  was_pair : thread_pair old index ≡ disk_pair_at disk (header_address h)
   was_pair = pair_at_index disk history hs sets index h a
 
   is_header : IsHeader disk history h
   is_header = header_at_index disk history hs index h a kept.each
 
-  was_content : content_at disk (header_address h) ≡ Some (thread_pair_at old index).content
+  was_content : content_at disk (header_address h) ≡ Some (thread_pair old index).content
   was_content = header_content disk history h is_header
       ∙ ap (λ (p : Pair). Some p.content) (sym (was_pair ∙ pair_on_content disk (header_address h) is_header.content (header_content disk history h is_header)))
 
   blocks_used : AllBlocksUsed sets ((header_address h).0 ∷ (header_address h).1 ∷ [])
   blocks_used =
-      let all = subst (λ z. AllBlocksUsed sets (blocks_of_pairs (pairs_of_headers disk z))) a.parts kept.used in
-      let parts = subst (λ ps. AllBlocksUsed sets (blocks_of_pairs ps)) (map-append (λ x. disk_pair_at disk (header_address x)) a.front (h ∷ a.back)) all in
-      let cut = subst (AllBlocksUsed sets) (flat_map-append (λ (s : Pair). s.at.0 ∷ s.at.1 ∷ []) (pairs_of_headers disk a.front) (pairs_of_headers disk (h ∷ a.back))) parts in
-      let right = used_right sets (blocks_of_pairs (pairs_of_headers disk a.front)) (blocks_of_pairs (pairs_of_headers disk (h ∷ a.back))) cut in
+      let all = subst (λ z. AllBlocksUsed sets (pairs_blocks (header_pairs disk z))) a.parts kept.used in
+      let parts = subst (λ ps. AllBlocksUsed sets (pairs_blocks ps)) (map-append (λ x. disk_pair_at disk (header_address x)) a.front (h ∷ a.back)) all in
+      let cut = subst (AllBlocksUsed sets) (flat_map-append (λ (s : Pair). s.at.0 ∷ s.at.1 ∷ []) (header_pairs disk a.front) (header_pairs disk (h ∷ a.back))) parts in
+      let right = used_right sets (pairs_blocks (header_pairs disk a.front)) (pairs_blocks (header_pairs disk (h ∷ a.back))) cut in
       (right.0, (right.1.0, tt))
 
   pub apart : AreApart (header_address h) fresh
@@ -93,7 +67,7 @@ module _ (disk : Disk) (history : List CallEvent) (hs : List PairHeader) (sets :
   same_raw = raw_content-stays disk (pair_elsewhere apart) others
 
   -- the log that holds begins as it did
-  still_first : (left : Disk) (c : PairContent) → (BeginsWith (current_block beside (header_address h)) superblock_entry → HasSuperblockOf c → BeginsWith (current_block left (header_address h)) superblock_entry)
+  still_first : (left : Disk) (c : PairContent) → (BeginsWith (current_block beside (header_address h)) superblock_entry → HasSuperblock c → BeginsWith (current_block left (header_address h)) superblock_entry)
       → KeepsSuperblockFirst disk (header_address h) c left
   still_first left c f begins has = f (first_stays disk (pair_elsewhere apart) others superblock_entry begins) has
 
@@ -107,8 +81,8 @@ module _ (disk : Disk) (history : List CallEvent) (hs : List PairHeader) (sets :
         (first_stays disk (pair_elsewhere apart) keeps superblock_entry);
   }
 
-  pub left_beside : (left : Blocks) → KeepsOutsidePair fresh disk.blocks left → LossLeavesThreadedIn old index fresh changes left
-  left_beside left keeps = record { others = keeps_by_fresh (thread_pair_at old index).at fresh keeps; content = inl (old_beside left keeps) }
+  pub left_beside : (left : Blocks) → KeepsOutsidePair fresh disk.blocks left → LossLeavesThreaded old index fresh changes left
+  left_beside left keeps = record { others = keeps_by_fresh (thread_pair old index).at fresh keeps; content = inl (old_beside left keeps) }
 
   -- ---- a stop in the commit, and its end
 
@@ -127,11 +101,11 @@ module _ (disk : Disk) (history : List CallEvent) (hs : List PairHeader) (sets :
   whole_made new made = ap complete_content (same_Some new made_beside.raw (sym made ∙ made_beside.is)) ∙ made_beside.complete
 
   pub content_made_there : (left : Blocks) (new : RawContent) → changed_pair beside (header_address h) changes ≡ Some new → raw_content (record disk { blocks = left }) (header_address h) ≡ Some new
-      → content_at (record disk { blocks = left }) (thread_pair_at old index).at ≡ Some can.content
+      → content_at (record disk { blocks = left }) (thread_pair old index).at ≡ Some can.content
   content_made_there left new made is = ap (λ (p : Pair). content_at (record disk { blocks = left }) p.at) was_pair ∙ ap (λ o. option_and_then complete_content o) is ∙ whole_made new made
 
   pub first_made : (left : Blocks) (new : RawContent) → changed_pair beside (header_address h) changes ≡ Some new → IsWellFormed new → KeepsFirstEntry beside (header_address h) (Some new) (record disk { blocks = left })
-      → KeepsSuperblockFirst disk (thread_pair_at old index).at can.content (record disk { blocks = left })
+      → KeepsSuperblockFirst disk (thread_pair old index).at can.content (record disk { blocks = left })
   first_made left new made logged first = subst (λ (p : Pair). KeepsSuperblockFirst disk p.at can.content (record disk { blocks = left })) (sym was_pair)
       (still_first (record disk { blocks = left }) can.content (λ begins has. first superblock_entry begins (superblock_anew new can.content logged.slots (whole_made new made) has.0 has.1)))
 
@@ -142,7 +116,7 @@ module _ (disk : Disk) (history : List CallEvent) (hs : List PairHeader) (sets :
     same_pair = disk_pair_at-stays disk (header_address h) (pair_elsewhere apart) others
 
     -- a stop in the commit
-    pub left_by_join : (left : Blocks) → LossLeavesChanged beside (header_address h) changes left → LossLeavesThreadedIn old index fresh changes left
+    pub left_by_join : (left : Blocks) → LossLeavesChanged beside (header_address h) changes left → LossLeavesThreaded old index fresh changes left
     left_by_join left l = record {
       others = subst (λ (p : Pair). KeepsOutsideBoth p.at fresh disk.blocks left) (sym was_pair) (keeps_by_both (header_address h) fresh others l.others);
       content = sides l.content;
@@ -155,7 +129,7 @@ module _ (disk : Disk) (history : List CallEvent) (hs : List PairHeader) (sets :
             ∙ ap (λ (p : Pair). Some (record { slots = []; tail = p.content.tail; move = zero_gstate })) (sym was_pair)
 
         sides : HasOldContent beside (header_address h) (record disk { blocks = left }) ⊎ HasContentMade beside (header_address h) changes (record disk { blocks = left })
-            → HasOldPair old index (record disk { blocks = left }) ⊎ ThreadedInOnDisk old index fresh changes (record disk { blocks = left })
+            → HasOldPair old index (record disk { blocks = left }) ⊎ ThreadedOnDisk old index fresh changes (record disk { blocks = left })
         sides (inl k) = inl (old_still left k)
         sides (inr k) = inr (record {
           content = can.content;
@@ -172,7 +146,7 @@ module _ (disk : Disk) (history : List CallEvent) (hs : List PairHeader) (sets :
       abbrev left : Disk
       left = record disk { blocks = blocks }
 
-      there_pair : thread_pair_at (kept_view beside then hs sets) index ≡ disk_pair_at beside (header_address h)
+      there_pair : thread_pair (kept_view beside then hs sets) index ≡ disk_pair_at beside (header_address h)
       there_pair = pair_at_index beside then hs sets index h a
 
       abbrev behind : PairContent
@@ -184,7 +158,7 @@ module _ (disk : Disk) (history : List CallEvent) (hs : List PairHeader) (sets :
       pub is_kept : IsKeptOnDisk left after (insert (set hs index new) (index + 1) f) (map_using sets fresh)
       is_kept = joined_kept beside then blocks after hs sets (map_using sets fresh) index h new f fresh changes can.content a still_kept still_made can.next commits keeps stays is.header is.at behind empty (ap (λ (p : Pair). p.content.tail) there_pair) uses
 
-      same_at : thread_pair_at (kept_view beside then hs sets) index ≡ thread_pair_at old index
+      same_at : thread_pair (kept_view beside then hs sets) index ≡ thread_pair old index
       same_at = ap (λ ps. get_or ps index empty_anchor) still_pairs
 
       pub is_joined : IsThreadedIn old index fresh changes (kept_view left after (insert (set hs index new) (index + 1) f) (map_using sets fresh))
@@ -194,7 +168,7 @@ module _ (disk : Disk) (history : List CallEvent) (hs : List PairHeader) (sets :
         fits = fits_pair disk.block_size disk.page commits.new can.content commits.logged (whole_made commits.new commits.made) commits.fits;
         first = first_made blocks commits.new commits.made commits.logged commits.first;
         pairs = joined_pairs beside then blocks after hs sets (map_using sets fresh) index h new f fresh changes can.content a still_kept still_made can.next commits keeps stays is.header is.at behind empty (ap (λ (p : Pair). p.content.tail) there_pair) uses
-            ∙ ap₂ (λ (ps : List Pair) (p : Pair). pairs_with_split ps index (record { at = p.at; content = can.content }) (record { at = fresh; content = record { slots = []; tail = p.content.tail; move = zero_gstate } })) still_pairs same_at;
+            ∙ ap₂ (λ (ps : List Pair) (p : Pair). pairs_split ps index (record { at = p.at; content = can.content }) (record { at = fresh; content = record { slots = []; tail = p.content.tail; move = zero_gstate } })) still_pairs same_at;
         thread = kept_thread left after (insert (set hs index new) (index + 1) f) (map_using sets fresh) is_kept;
         map = refl;
       }
@@ -210,7 +184,7 @@ module _ (geometry later : Geometry) (old mid : Blocks) (before then : List Call
   pub device_can : CanCommit (disk_of_blocks later mid) then h changes
   device_can = subst (λ k. CanCommit (disk_of_blocks k mid) then h changes) (sym same) (then_can (disk_of_blocks geometry old) before hs sets index h fresh changes a kept can mid then others stay)
 
-  pub device_left_beside : HoldsAtLosses LossLeavesAtWorst before then (KeepsOutsidePair fresh old) → HoldsAtLosses LeftByLoss before then (LossLeavesThreadedIn was index fresh changes)
+  pub device_left_beside : HoldsAtLosses LossLeavesAtWorst before then (KeepsOutsidePair fresh old) → HoldsAtLosses LeftByLoss before then (LossLeavesThreaded was index fresh changes)
   device_left_beside worst = HoldsAtLosses-weaker (λ left keeps. left_beside (disk_of_blocks geometry old) before hs sets index h fresh changes a kept can mid then others stay left keeps) (HoldsAtLosses-worst worst)
 
   pub beside_read : (disk : Disk) (after : List CallEvent) → disk ≡ disk_of_blocks later mid → OnlyReadsSince mid then after → IsKeptOnDisk disk after hs sets
@@ -219,8 +193,8 @@ module _ (geometry later : Geometry) (old mid : Blocks) (before then : List Call
 
   pub is_beside : (disk : Disk) (after : List CallEvent) → disk ≡ disk_of_blocks later mid
       → ((raw : RawContent) (d : PairContent) → changed_pair (disk_of_blocks later mid) (header_address h) changes ≡ Some raw → complete_content raw ≡ Some d → FitsInPair later.block_size later.page d → ⊥)
-      → RefusesThreadingIn was index fresh changes (kept_view disk after hs sets)
-  is_beside disk after e too_large = subst (λ d. RefusesThreadingIn was index fresh changes (kept_view d after hs sets)) (sym e) (subst (λ k. RefusesThreadingIn was index fresh changes (kept_view (disk_of_blocks k mid) after hs sets)) (sym same) (record {
+      → RefusesThreading was index fresh changes (kept_view disk after hs sets)
+  is_beside disk after e too_large = subst (λ d. RefusesThreading was index fresh changes (kept_view d after hs sets)) (sym e) (subst (λ k. RefusesThreading was index fresh changes (kept_view (disk_of_blocks k mid) after hs sets)) (sym same) (record {
     content = can.content;
     made = can.made;
     too_large = λ f.
@@ -231,18 +205,18 @@ module _ (geometry later : Geometry) (old mid : Blocks) (before then : List Call
     others = others;
   }))
 
-  module _ (f : PairHeader) (tail : PairChange) (is : IsFreshPair before (tail ∷ []) (disk_of_blocks later mid) then fresh f) (tail_is : tail ≡ tail_setting_change (option_map tail_view h.tail)) (few : length old ≤ 65536) where
+  module _ (f : PairHeader) (tail : PairChange) (is : IsFreshPair before (tail ∷ []) (disk_of_blocks later mid) then fresh f) (tail_is : tail ≡ tail_change (option_map tail_view h.tail)) (few : length old ≤ 65536) where
     fresh_there : IsFreshHeader (disk_of_blocks geometry mid) then f fresh (disk_pair_at (disk_of_blocks geometry old) (header_address h)).content.tail
     fresh_there =
         let on = held_address (disk_of_blocks geometry old) before hs sets fresh kept can.held in
-        let named = subst (λ t. tail ≡ tail_setting_change t) (sym (header_tail (disk_of_blocks geometry old) before h (header_at_index (disk_of_blocks geometry old) before hs index h a kept.each))) tail_is in
+        let named = subst (λ t. tail ≡ tail_change t) (sym (header_tail (disk_of_blocks geometry old) before h (header_at_index (disk_of_blocks geometry old) before hs index h a kept.each))) tail_is in
         fresh_header (disk_of_blocks geometry mid) before then f fresh (disk_pair_at (disk_of_blocks geometry old) (header_address h)).content.tail
         (record { apart = on.apart; first = subst (λ n. fresh.0 < n) (sym others.count) on.first; second = subst (λ n. fresh.1 < n) (sym others.count) on.second })
         (tail_named (disk_of_blocks geometry old) before hs sets index h a kept few)
         (subst (λ t. IsFreshPair before (t ∷ []) (disk_of_blocks geometry mid) then fresh f) named (subst (λ k. IsFreshPair before (tail ∷ []) (disk_of_blocks k mid) then fresh f) same is))
 
     pub device_stops : (after : List CallEvent) → HoldsAtLosses LossLeavesAtWorst before then (KeepsOutsidePair fresh old) → HoldsAtLosses LossLeavesAtWorst then after (KeepsOutsidePair (header_address h) mid)
-        → LossLeavesCleanly then after (LossLeavesChanged (disk_of_blocks later mid) (header_address h) changes) → LossLeavesCleanly before after (LossLeavesThreadedIn was index fresh changes)
+        → CleanLossLeaves then after (LossLeavesChanged (disk_of_blocks later mid) (header_address h) changes) → CleanLossLeaves before after (LossLeavesThreaded was index fresh changes)
     device_stops after first second stops cleanly = goes_on_by (device_left_beside first)
         (HoldsAtLosses-weaker (λ left l. left_by_join (disk_of_blocks geometry old) before hs sets index h fresh changes a kept can mid then others stay f fresh_there left
         (subst (λ k. LossLeavesChanged (disk_of_blocks k mid) (header_address h) changes left) same l)) (stops (AllCallsSince-behind cleanly first second)))

@@ -1,37 +1,15 @@
 -- The slots of a pair go into a fresh pair after it: the fresh one stands beside the thread, and then the pair's tail names it.
 use Rattle.std.proofs.Common.{ℕ, zero, suc, ◌≡◌, ◌⊎◌, inl, inr, get_or, ◌+◌, ◌-◌, ◌%◌, ◌^◌, ◌≤◌, ◌<◌, List, [], ◌∷◌, length, take, Option, Some, refl, sym, ap, ap₂, subst, ◌∙◌, arith, map, set, insert, remove}
 use Rattle.std.specs.Prelude.{replicate}
-use Rattle.std.proofs.lemmas.Option.{same_Some}
+use Rattle.lfs_thread.proofs.Common.{same_Some, option_and_then, option_map, disk_of_blocks, LeftByLoss, Blocks, RawContent, raw_content, content_at, complete_content, Disk, block_count, FitsInPair, PairContent, Tail, zero_gstate, Pair, BlockStates, PairChange, PutMove, changed_content_of, AreNamed, IsAllowedTail, LossLeavesAtWorst, CallEvent, HoldsAtLosses, complete_length, complete_take, completed_from, completed_parts, fits_raw, does_first, does_nothing, AllCallsSince-behind, HoldsAtLosses-weaker, HoldsAtLosses-worst, goes_on_by, nothing_logged, AreElsewhere, raw_content-stays, IsPairAddress, CanCommit, CommitsChanges, HasContentMade, HasOldContent, LossLeavesChanged, changed_pair, changed_if_any, KeepsOutsidePair, OutsideStaysUnprogrammed, CanCopyPair, IsPairCopied, header_address, AreApart, KeepsOutsideBoth, KeptThread, PairHeader, kept_view, disk_pair_at, header_pairs, IsHeader, IsKeptOnDisk, pair_revision, CleanLossLeaves, thread_pair, empty_anchor, complete_after, CanThreadIn, HasOldPair, map_using, pairs_split, CanUnload, IsUnloaded, LossLeavesUnloaded, UnloadedOnDisk}
 use Rattle.std.proofs.lemmas.List.{take_all}
 use Rattle.std.proofs.lemmas.List.Edits.{length-remove}
 use Rattle.std.proofs.lemmas.List.Sums.{sum_by-take-le}
-use Rattle.std.specs.Option.{option_and_then, option_map}
-use Rattle.lfs_device.specs.DeviceDisk.{disk_of_blocks}
 use Rattle.lfs_device.specs.declared.geometry.Geometry.{Geometry}
-use Rattle.lfs_model.specs.crash.Stops.{LeftByLoss}
-use Rattle.lfs_model.specs.format.Blocks.{Blocks}
-use Rattle.lfs_model.specs.format.Content.{RawContent, raw_content, content_at, complete_content}
-use Rattle.lfs_model.specs.format.Disk.{Disk, block_count}
-use Rattle.lfs_model.specs.format.Slots.{FitsInPair, PairContent, Tail, slot_size, zero_gstate}
-use Rattle.lfs_model.specs.format.Thread.{Pair}
-use Rattle.lfs_model.specs.layers.BlockSets.{BlockStates}
-use Rattle.lfs_model.specs.layers.Changes.{PairChange, Delete, PutMove, changed_content_of}
-use Rattle.lfs_model.specs.layers.LoggedContent.{AreNamed, IsAllowedTail}
-use Rattle.lfs_model.specs.session.History.{LossLeavesAtWorst, CallEvent, HoldsAtLosses}
-use Rattle.lfs_model.proofs.Completed.{complete_length, complete_take, completed_from, completed_parts, fits_raw}
-use Rattle.lfs_model.proofs.Effects.{deletes, does_first, does_nothing, puts_move}
-use Rattle.lfs_model.proofs.Histories.{AllCallsSince-behind, HoldsAtLosses-weaker, HoldsAtLosses-worst, goes_on_by}
-use Rattle.lfs_model.proofs.Logged.{nothing_logged}
-use Rattle.lfs_model.proofs.Staying.{AreElsewhere, raw_content-stays}
-use Rattle.lfs_pair.specs.Commits.{AddressIsOnDisk, CanCommit, CommitsChanges, HasContentMade, HasOldContent, LossLeavesChanged, changed_pair, content_made, KeepsOutsidePair, OutsideStaysUnprogrammed}
-use Rattle.lfs_pair.specs.Copies.{CanCopyPair, IsPairCopied}
-use Rattle.lfs_pair.specs.Pair.{header_address}
-use Rattle.lfs_pair.specs.Split.{AreApart, KeepsOutsideBoth}
-use Rattle.lfs_thread.specs.Kept.{KeptThread, PairHeader, kept_view, disk_pair_at, pairs_of_headers, IsHeader, IsKeptOnDisk}
-use Rattle.lfs_thread.specs.Moves.{pair_revision}
-use Rattle.lfs_thread.specs.ThreadDevice.{LossLeavesCleanly}
-use Rattle.lfs_thread.specs.ThreadSteps.{thread_pair_at, empty_anchor, complete_after, CanThreadIn, HasOldPair, map_using, pairs_with_split}
-use Rattle.lfs_thread.specs.Unloads.{CanUnload, IsUnloaded, LossLeavesUnloaded, UnloadedOnDisk, changes_of_unload, loaded_pair, unloaded_pair}
+use Rattle.lfs_model.specs.format.Slots.{slot_size}
+use Rattle.lfs_model.specs.layers.Changes.{Delete}
+use Rattle.lfs_model.proofs.Effects.{deletes, puts_move}
+use Rattle.lfs_thread.specs.Unloads.{changes_of_unload, loaded_pair, unloaded_pair}
 use Rattle.lfs_thread.proofs.Changing.{IsAt, completes, header_at_index, pair_at_index}
 use Rattle.lfs_thread.proofs.Coming.{SettlesTwo, held_address, settles_two}
 use Rattle.lfs_thread.proofs.Joined.{joined_kept, joined_pairs}
@@ -82,7 +60,7 @@ complete_without_delta raw c h =
 
 module _ (disk : Disk) (history : List CallEvent) (hs : List PairHeader) (sets : BlockStates) (index : ℕ) (h : PairHeader) (fresh : ℕ × ℕ) (keep count : ℕ) (few : block_count disk ≤ 65536)
     (a : IsAt hs index h) (kept : IsKeptOnDisk disk history hs sets) (can : CanUnload (kept_view disk history hs sets) index fresh keep)
-    (counted : length (thread_pair_at (kept_view disk history hs sets) index).content.slots ≡ count + keep) where
+    (counted : length (thread_pair (kept_view disk history hs sets) index).content.slots ≡ count + keep) where
   abbrev old : KeptThread
   old = kept_view disk history hs sets
 
@@ -92,24 +70,24 @@ module _ (disk : Disk) (history : List CallEvent) (hs : List PairHeader) (sets :
   abbrev drops : List PairChange
   drops = PutMove zero_gstate ∷ []
 
-  was_pair : thread_pair_at old index ≡ disk_pair_at disk (header_address h)
+  was_pair : thread_pair old index ≡ disk_pair_at disk (header_address h)
   was_pair = pair_at_index disk history hs sets index h a
 
   is_header : IsHeader disk history h
   is_header = header_at_index disk history hs index h a kept.each
 
-  on_disk : AddressIsOnDisk disk fresh
+  on_disk : IsPairAddress disk fresh
   on_disk = held_address disk history hs sets fresh kept can.held
 
-  content_is : is_header.content ≡ (thread_pair_at old index).content
+  content_is : is_header.content ≡ (thread_pair old index).content
   content_is = sym (ap (λ (p : Pair). p.content) (was_pair ∙ pair_on_content disk (header_address h) is_header.content (header_content disk history h is_header)))
 
-  same_count : length is_header.held.slots ≡ length (thread_pair_at old index).content.slots
+  same_count : length is_header.held.slots ≡ length (thread_pair old index).content.slots
   same_count = sym (complete_length is_header.held.slots is_header.content.slots (completed_parts is_header.held is_header.content is_header.complete).slots) ∙ ap (λ (c : PairContent). length c.slots) content_is
 
   pub made : complete_after old index changes ≡ Some (unloaded_pair old index fresh keep).content
   made = ap (λ (p : Pair). option_and_then complete_content (changed_pair disk p.at changes)) was_pair
-      ∙ ap (λ r. option_and_then complete_content (content_made r changes)) is_header.raw
+      ∙ ap (λ r. option_and_then complete_content (changed_if_any r changes)) is_header.raw
       ∙ ap (λ r. option_and_then complete_content r) (leave_made count is_header.held fresh keep (named disk fresh on_disk few) (same_count ∙ counted) (let n = can.fits.count in omega (arith, same_count, n)))
       ∙ left_complete is_header.held is_header.content keep (hard_to fresh) is_header.complete
       ∙ ap (λ (c : PairContent). Some (record { slots = take keep c.slots; tail = hard_to fresh; move = c.move })) content_is
@@ -140,7 +118,7 @@ module _ (disk : Disk) (history : List CallEvent) (hs : List PairHeader) (sets :
     beside = record disk { blocks = mid }
 
     pub left_by_load : (left : Blocks) → KeepsOutsidePair fresh disk.blocks left → LossLeavesUnloaded old index fresh keep left
-    left_by_load left keeps = record { others = keeps_by_fresh (thread_pair_at old index).at fresh keeps; content = inl (old_beside disk history hs sets index h fresh changes a kept can_leave mid then others stay left keeps) }
+    left_by_load left keeps = record { others = keeps_by_fresh (thread_pair old index).at fresh keeps; content = inl (old_beside disk history hs sets index h fresh changes a kept can_leave mid then others stay left keeps) }
 
     pub leave_can : CanCommit beside then h changes
     leave_can = then_can disk history hs sets index h fresh changes a kept can_leave mid then others stay
@@ -149,7 +127,7 @@ module _ (disk : Disk) (history : List CallEvent) (hs : List PairHeader) (sets :
     pub never_full : ((raw : RawContent) (d : PairContent) → changed_pair beside (header_address h) changes ≡ Some raw → complete_content raw ≡ Some d → FitsInPair disk.block_size disk.page d → ⊥) → ⊥
     never_full full =
         let m = made_beside disk history hs sets index h fresh changes a kept can_leave mid then others stay in
-        let slots = (thread_pair_at old index).content.slots in
+        let slots = (thread_pair old index).content.slots in
         full m.raw can_leave.content m.is m.complete (record {
           size = let less = sum_by-take-le slot_size slots keep in let all = can.fits.size in omega (arith, less, all);
           count = let less = taken_count keep slots in let all = can.fits.count in omega (arith, less, all);
@@ -158,7 +136,7 @@ module _ (disk : Disk) (history : List CallEvent) (hs : List PairHeader) (sets :
     mid_kept : IsKeptOnDisk beside then hs sets
     mid_kept = still_kept disk history hs sets index h fresh changes a kept can_leave mid then others stay
 
-    mid_pairs : pairs_of_headers beside hs ≡ pairs_of_headers disk hs
+    mid_pairs : header_pairs beside hs ≡ header_pairs disk hs
     mid_pairs = still_pairs disk history hs sets index h fresh changes a kept can_leave mid then others stay
 
     apart_from : AreApart (header_address h) fresh
@@ -166,12 +144,12 @@ module _ (disk : Disk) (history : List CallEvent) (hs : List PairHeader) (sets :
 
     module _ (f : PairHeader) (copied : IsPairCopied disk history drops h beside then fresh f) where
       same_new : copied.new ≡ record is_header.held { move = zero_gstate }
-      same_new = same_Some copied.new (record is_header.held { move = zero_gstate }) (sym copied.made ∙ ap (λ r. content_made r drops) is_header.raw ∙ without_delta is_header.held)
+      same_new = same_Some copied.new (record is_header.held { move = zero_gstate }) (sym copied.made ∙ ap (λ r. changed_if_any r drops) is_header.raw ∙ without_delta is_header.held)
 
       abbrev copy_is : IsCopyHeader beside then f fresh (loaded_pair old index fresh).content
       copy_is = record {
         header = record {
-          address = subst (AddressIsOnDisk beside) (sym copied.holds.same) (record {
+          address = subst (IsPairAddress beside) (sym copied.holds.same) (record {
             apart = on_disk.apart;
             first = subst (λ k. fresh.0 < k) (sym others.count) on_disk.first;
             second = subst (λ k. fresh.1 < k) (sym others.count) on_disk.second;
@@ -227,7 +205,7 @@ module _ (disk : Disk) (history : List CallEvent) (hs : List PairHeader) (sets :
         tail_is : (loaded_pair old index fresh).content.tail ≡ (disk_pair_at beside (header_address h)).content.tail
         tail_is = ap (λ (p : Pair). p.content.tail) (was_pair ∙ sym (disk_pair_at-stays disk (header_address h) (pair_elsewhere apart_from) others))
 
-        same_at : thread_pair_at (kept_view beside then hs sets) index ≡ thread_pair_at old index
+        same_at : thread_pair (kept_view beside then hs sets) index ≡ thread_pair old index
         same_at = ap (λ ps. get_or ps index empty_anchor) mid_pairs
 
         abbrev headers : List PairHeader
@@ -239,7 +217,7 @@ module _ (disk : Disk) (history : List CallEvent) (hs : List PairHeader) (sets :
         pub is_unloaded : IsUnloaded old index fresh keep (kept_view left after headers (map_using sets fresh))
         is_unloaded = record {
           pairs = joined_pairs beside then blocks after hs sets (map_using sets fresh) index h new f fresh changes can_leave.content a mid_kept made_there refl commits keeps stays copy_is.header copy_is.at (loaded_pair old index fresh).content copy_is.content tail_is uses
-              ∙ ap₂ (λ (ps : List Pair) (p : Pair). pairs_with_split ps index (record { at = p.at; content = can_leave.content }) (loaded_pair old index fresh)) mid_pairs same_at;
+              ∙ ap₂ (λ (ps : List Pair) (p : Pair). pairs_split ps index (record { at = p.at; content = can_leave.content }) (loaded_pair old index fresh)) mid_pairs same_at;
           thread = kept_thread left after headers (map_using sets fresh) unloaded_kept;
           first = first_made disk history hs sets index h fresh changes a kept can_leave mid then others stay blocks commits.new commits.made commits.logged commits.first;
           revision = ap (pair_revision left) (sym copied.holds.same) ∙ revision_at left after f (header-stays f f_elsewhere keeps stays copy_is.header) ∙ ap Some copied.fresh_is.revision_is
@@ -251,7 +229,7 @@ module _ (disk : Disk) (history : List CallEvent) (hs : List PairHeader) (sets :
 
 module _ (geometry later : Geometry) (old mid : Blocks) (before then : List CallEvent) (hs : List PairHeader) (sets : BlockStates) (index : ℕ) (h : PairHeader) (fresh : ℕ × ℕ) (keep count : ℕ) (few : length old ≤ 65536)
     (same : later ≡ geometry) (a : IsAt hs index h) (kept : IsKeptOnDisk (disk_of_blocks geometry old) before hs sets) (can : CanUnload (kept_view (disk_of_blocks geometry old) before hs sets) index fresh keep)
-    (counted : length (thread_pair_at (kept_view (disk_of_blocks geometry old) before hs sets) index).content.slots ≡ count + keep)
+    (counted : length (thread_pair (kept_view (disk_of_blocks geometry old) before hs sets) index).content.slots ≡ count + keep)
     (others : KeepsOutsidePair fresh old mid) (stay : OutsideStaysUnprogrammed fresh before then) where
   abbrev was : KeptThread
   was = kept_view (disk_of_blocks geometry old) before hs sets
@@ -274,7 +252,7 @@ module _ (geometry later : Geometry) (old mid : Blocks) (before then : List Call
     copied_there = subst (λ k. IsPairCopied (disk_of_blocks geometry old) before (PutMove zero_gstate ∷ []) h (disk_of_blocks k mid) then fresh f) same copied
 
     pub device_unload_stops : (after : List CallEvent) → HoldsAtLosses LossLeavesAtWorst before then (KeepsOutsidePair fresh old) → HoldsAtLosses LossLeavesAtWorst then after (KeepsOutsidePair (header_address h) mid)
-        → LossLeavesCleanly then after (LossLeavesChanged (disk_of_blocks later mid) (header_address h) leaves) → LossLeavesCleanly before after (LossLeavesUnloaded was index fresh keep)
+        → CleanLossLeaves then after (LossLeavesChanged (disk_of_blocks later mid) (header_address h) leaves) → CleanLossLeaves before after (LossLeavesUnloaded was index fresh keep)
     device_unload_stops after first second stops cleanly = goes_on_by (device_left_by_load first)
         (HoldsAtLosses-weaker (λ left l. left_by_leave (disk_of_blocks geometry old) before hs sets index h fresh keep count few a kept can counted mid then others stay f copied_there left
         (subst (λ k. LossLeavesChanged (disk_of_blocks k mid) (header_address h) leaves left) same l)) (stops (AllCallsSince-behind cleanly first second)))

@@ -8,11 +8,11 @@ use Rattle.lfs_model.specs.format.Blocks.{block_bytes}
 use Rattle.lfs_model.specs.layers.BlockSets.{BlockStates, IsUsedBlock}
 use Rattle.lfs_model.specs.format.Disk.{Disk, block_count, ordered_disk}
 use Rattle.lfs_model.specs.session.History.{is_unprogrammed_byte}
-use Rattle.lfs_model.specs.format.Thread.{blocks_of_pairs}
+use Rattle.lfs_model.specs.format.Thread.{pairs_blocks}
 use Rattle.lfs_thread.specs.Kept.{KeptThread, disk_of_device}
 
 -- the disk has this geometry
-pub record HasGeometryOf (geometry : Geometry) (disk : Disk) : Type 0 where
+pub record HasGeometry (geometry : Geometry) (disk : Disk) : Type 0 where
   pub block_size : geometry.block_size ≡ disk.block_size
   pub page : geometry.page ≡ disk.page
   pub profile : geometry.profile ≡ disk.profile
@@ -23,17 +23,17 @@ abbrev pub DeviceWork : Type 0 → Type 0 → Type 0 → Type 1
 DeviceWork F D X = Once F (MutBor D × (MutBor BlockStates × Unit {0})) (X × (MutBor D × (MutBor BlockStates × Unit {0})))
 
 -- the device and the map are the thread's
-pub record AreDeviceAndMapOfThread {D : Type 0} (g : Ghosts D) (t : KeptThread) (device : D) (sets : BlockStates) : Type 0 where
+pub record BelongToThread {D : Type 0} (g : Ghosts D) (t : KeptThread) (device : D) (sets : BlockStates) : Type 0 where
   pub disk : ordered_disk t.disk.order (disk_of_device g device) ≡ t.disk
   pub history : g.history device ≡ t.history
   pub map : sets ≡ t.map
 
 -- the work may be called with this device and this map
-pub record CanCallClosureOnDeviceAndMap {F D X : Type 0} (call : DeviceWork F D X) (work : F) (device : D) (map : BlockStates) : Type 0 where
+pub record CanRunWork {F D X : Type 0} (call : DeviceWork F D X) (work : F) (device : D) (map : BlockStates) : Type 0 where
   pub can : (p : MutBor D) (q : MutBor BlockStates) → p.now ≡ device → q.now ≡ map → call.pre work (p, (q, tt))
 
 -- a call of the work with this device and this map may return x, and leave `later` and `later_map`
-pub record MayClosureOnDeviceAndMapReturn {F D X : Type 0} (call : DeviceWork F D X) (work : F) (device : D) (map : BlockStates) (x : X) (later : D) (later_map : BlockStates) : Type 0 where
+pub record WorkMayReturn {F D X : Type 0} (call : DeviceWork F D X) (work : F) (device : D) (map : BlockStates) (x : X) (later : D) (later_map : BlockStates) : Type 0 where
   pub shown : MutBor D
   pub shows : shown.now ≡ device
   pub shown_map : MutBor BlockStates
@@ -45,22 +45,22 @@ pub record MayClosureOnDeviceAndMapReturn {F D X : Type 0} (call : DeviceWork F 
   pub leaves_map : left_map.now ≡ later_map
 
 -- No used block of the thread's pairs changes, its unprogrammed bytes stay so, and it stays used.
-pub record LeavesUsedBlocksOfPairsUnchangedAndUsed {D : Type 0} (g : Ghosts D) (t : KeptThread) (device : D) (map : BlockStates) (later : D) (later_map : BlockStates) : Type 0 where
+pub record KeepsPairBlocks {D : Type 0} (g : Ghosts D) (t : KeptThread) (device : D) (map : BlockStates) (later : D) (later_map : BlockStates) : Type 0 where
   pub geometry : g.geometry later ≡ g.geometry device
   pub count : length (g.blocks later) ≡ length (g.blocks device)
-  pub same : (b : ℕ) → Contains (blocks_of_pairs t.pairs) b → IsUsedBlock map b → block_bytes (g.blocks later) b ≡ block_bytes (g.blocks device) b
-  pub stays : (b k : ℕ) → Contains (blocks_of_pairs t.pairs) b → IsUsedBlock map b → is_unprogrammed_byte (g.history device) b k ≡ true → is_unprogrammed_byte (g.history later) b k ≡ true
+  pub same : (b : ℕ) → Contains (pairs_blocks t.pairs) b → IsUsedBlock map b → block_bytes (g.blocks later) b ≡ block_bytes (g.blocks device) b
+  pub stays : (b k : ℕ) → Contains (pairs_blocks t.pairs) b → IsUsedBlock map b → is_unprogrammed_byte (g.history device) b k ≡ true → is_unprogrammed_byte (g.history later) b k ≡ true
   pub size : length later_map ≡ length map
-  pub used : (b : ℕ) → Contains (blocks_of_pairs t.pairs) b → IsUsedBlock map b → IsUsedBlock later_map b
+  pub used : (b : ℕ) → Contains (pairs_blocks t.pairs) b → IsUsedBlock map b → IsUsedBlock later_map b
 
 -- The work was called with the thread's device and map, and returned x. The thread has the device and the map that it left, and
 -- its names are in the same order.
-pub record HasRunWorkOnDeviceAndMap {F D X : Type 0} (g : Ghosts D) (call : DeviceWork F D X) (work : F) (old : KeptThread) (x : X) (new : KeptThread) : Type 0 where
+pub record HasRunWork {F D X : Type 0} (g : Ghosts D) (call : DeviceWork F D X) (work : F) (old : KeptThread) (x : X) (new : KeptThread) : Type 0 where
   pub device : D
   pub map : BlockStates
   pub later : D
   pub later_map : BlockStates
-  pub before : AreDeviceAndMapOfThread g old device map
-  pub after : AreDeviceAndMapOfThread g new later later_map
+  pub before : BelongToThread g old device map
+  pub after : BelongToThread g new later later_map
   pub order : new.disk.order ≡ old.disk.order
-  pub run : MayClosureOnDeviceAndMapReturn call work device map x later later_map
+  pub run : WorkMayReturn call work device map x later later_map

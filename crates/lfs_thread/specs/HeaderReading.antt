@@ -5,7 +5,7 @@ use Rattle.lfs_model.specs.layers.BlockSets.{AreInFlight, AreUsed, BlockStates, 
 use Rattle.lfs_model.specs.format.Content.{content_at}
 use Rattle.lfs_model.specs.format.Disk.{Disk}
 use Rattle.lfs_model.specs.session.History.{CallEvent, OnlyReadsSince, fault_count, read_count}
-use Rattle.lfs_model.specs.format.Thread.{IsThread, Pair, blocks_of_pairs}
+use Rattle.lfs_model.specs.format.Thread.{IsThread, Pair, pairs_blocks}
 use Rattle.lfs_pair.specs.Pair.{header_address, fetch_reads}
 use Rattle.lfs_thread.specs.Begun.{IsOnFreeBlocks}
 use Rattle.lfs_thread.specs.Kept.{PairHeader, IsHeader, ThreadView, disk_of_device}
@@ -23,10 +23,10 @@ thread_reads disk ps = sum_by (λ p. fetch_reads disk p.at) ps
 
 -- The thread was read from a device that was only read, by one fetch for each pair and none with a fault. It works. The blocks
 -- of its pairs are used and no others, and none is in flight.
-pub record IsThreadReadFromDevice {D : Type 0} (g : Ghosts D) (device : D) (t : ThreadView) : Type 0 where
+pub record IsReadThread {D : Type 0} (g : Ghosts D) (device : D) (t : ThreadView) : Type 0 where
   pub works : t.failed ≡ false
   pub thread : IsThread (content_at (disk_of_device g device)) (g.geometry device).block_count t.kept.pairs
-  pub used : AreUsed t.kept.map (blocks_of_pairs t.kept.pairs)
+  pub used : AreUsed t.kept.map (pairs_blocks t.kept.pairs)
   pub none_in_flight : AreInFlight t.kept.map []
   pub disk : t.kept.disk ≡ disk_of_device g device
   pub only : OnlyReadsSince (g.blocks device) (g.history device) t.kept.history

@@ -11,10 +11,10 @@ use Rattle.lfs_model.specs.session.History.{CallEvent, OnlyReadsSince}
 use Rattle.lfs_model.specs.format.Slots.{PairContent, zero_gstate}
 use Rattle.lfs_model.specs.format.Content.{RawContent, raw_content, content_at, complete_content}
 use Rattle.lfs_model.specs.declared.order.NameOrder.{NameOrder}
-use Rattle.lfs_model.specs.format.Thread.{Pair, anchor_address, AreLinked, blocks_of_pairs}
+use Rattle.lfs_model.specs.format.Thread.{Pair, anchor_address, AreLinked, pairs_blocks}
 use Rattle.lfs_pair.specs.declared.pair.Pair as header
-use Rattle.lfs_pair.specs.Pair.{IsAsHeader, header_address}
-use Rattle.lfs_pair.specs.Commits.{AddressIsOnDisk}
+use Rattle.lfs_pair.specs.Pair.{IsTrueHeader, header_address}
+use Rattle.lfs_pair.specs.Commits.{IsPairAddress}
 
 -- The header that is kept of a pair.
 abbrev pub PairHeader : Type 0
@@ -37,17 +37,17 @@ pub record ThreadView : Type 0 where
 abbrev pub disk_pair_at : Disk → ℕ × ℕ → Pair
 disk_pair_at disk at = record { at = at; content = unwrap_or (content_at disk at) (record { slots = []; tail = Option.None; move = zero_gstate }) }
 
-abbrev pub pairs_of_headers : Disk → List PairHeader → List Pair
-pairs_of_headers disk headers = map (λ h. disk_pair_at disk (header_address h)) headers
+abbrev pub header_pairs : Disk → List PairHeader → List Pair
+header_pairs disk headers = map (λ h. disk_pair_at disk (header_address h)) headers
 
 abbrev pub kept_view : Disk → List CallEvent → List PairHeader → BlockStates → KeptThread
-kept_view disk history headers sets = record { disk = disk; history = history; pairs = pairs_of_headers disk headers; map = sets }
+kept_view disk history headers sets = record { disk = disk; history = history; pairs = header_pairs disk headers; map = sets }
 
 -- The disk has the pair as its header says, and each of its slots has a name and a struct.
 pub record IsHeader (disk : Disk) (history : List CallEvent) (h : PairHeader) : Type 0 where
-  pub address : AddressIsOnDisk disk (header_address h)
+  pub address : IsPairAddress disk (header_address h)
   pub held : RawContent
-  pub is_pair : IsAsHeader disk history h held
+  pub is_pair : IsTrueHeader disk history h held
   pub raw : raw_content disk (header_address h) ≡ Some held
   pub content : PairContent
   pub complete : complete_content held ≡ Some content
@@ -63,20 +63,20 @@ AllBlocksUsed sets (b ∷ bs) = IsUsedBlock sets b × AllBlocksUsed sets bs
 -- What is kept is what the disk has: the headers are those of its thread, and the map has their blocks as used.
 pub record IsKeptOnDisk (disk : Disk) (history : List CallEvent) (headers : List PairHeader) (sets : BlockStates) : Type 0 where
   pub each : AreHeaders disk history headers
-  pub links : AreLinked (Some anchor_address) (pairs_of_headers disk headers)
-  pub distinct : IsDistinct nat_eq (blocks_of_pairs (pairs_of_headers disk headers))
+  pub links : AreLinked (Some anchor_address) (header_pairs disk headers)
+  pub distinct : IsDistinct nat_eq (pairs_blocks (header_pairs disk headers))
   pub size : length sets ≡ block_count disk
-  pub used : AllBlocksUsed sets (blocks_of_pairs (pairs_of_headers disk headers))
+  pub used : AllBlocksUsed sets (pairs_blocks (header_pairs disk headers))
 
 -- Headers that were kept at some time of a disk that was only read since then. The map has their blocks as used.
 pub record WasKeptOnDisk (disk : Disk) (history : List CallEvent) (headers : List PairHeader) (sets : BlockStates) : Type 0 where
   pub before : List CallEvent
   pub since : OnlyReadsSince disk.blocks before history
   pub each : AreHeaders disk before headers
-  pub links : AreLinked (Some anchor_address) (pairs_of_headers disk headers)
-  pub distinct : IsDistinct nat_eq (blocks_of_pairs (pairs_of_headers disk headers))
+  pub links : AreLinked (Some anchor_address) (header_pairs disk headers)
+  pub distinct : IsDistinct nat_eq (pairs_blocks (header_pairs disk headers))
   pub size : length sets ≡ block_count disk
-  pub used : AllBlocksUsed sets (blocks_of_pairs (pairs_of_headers disk headers))
+  pub used : AllBlocksUsed sets (pairs_blocks (header_pairs disk headers))
 
 -- each cached block has the bytes that the device has
 abbrev pub IsCacheCurrent : Blocks → CachedBlocks → Type 0

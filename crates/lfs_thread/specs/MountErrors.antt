@@ -24,12 +24,12 @@ mount_error_for error.Io violation = mount.Io
 mount_error_for _ violation = mount.NoMemory
 
 -- The device was only read. `Io` comes with a fault of the device, and any other result without one.
-pub record OnlyReadsUnlessFault {D X : Type 0} (g : Ghosts D) (old new : D) (result : Result X MountError) : Type 0 where
+pub record ReadsReportingFaults {D X : Type 0} (g : Ghosts D) (old new : D) (result : Result X MountError) : Type 0 where
   pub device : ReadsOnly g old new
   pub fault : IsErrOf result mount.Io → fault_count (g.history old) < fault_count (g.history new)
   pub no_fault : (IsErrOf result mount.Io → ⊥) → fault_count (g.history new) ≡ fault_count (g.history old)
 
 -- where the image breaks a rule of the thread, the disk breaks it
-abbrev pub IsViolationTrue : Disk → MountError → Type 0
-IsViolationTrue disk (mount.Corrupt violation) = BreaksThread disk violation
-IsViolationTrue disk _ = Unit {0}
+abbrev pub IsThreadViolation : Disk → MountError → Type 0
+IsThreadViolation disk (mount.Corrupt violation) = BreaksThread disk violation
+IsThreadViolation disk _ = Unit {0}

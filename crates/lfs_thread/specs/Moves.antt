@@ -9,7 +9,7 @@ use Rattle.lfs_model.specs.format.Thread.{IsThread, Pair, is_hard_tail}
 use Rattle.lfs_model.specs.tree.View.{BeginsWith, superblock_entry}
 use Rattle.lfs_pair.specs.Split.{KeepsOutsideBoth}
 use Rattle.lfs_thread.specs.Kept.{KeptThread}
-use Rattle.lfs_thread.specs.ThreadSteps.{FreshInFlight, HasOldPair, HasSuperblockOf, KeepsSuperblockFirst, map_freeing, map_using, thread_pair_at}
+use Rattle.lfs_thread.specs.ThreadSteps.{FreshInFlight, HasOldPair, HasSuperblock, KeepsSuperblockFirst, map_freeing, map_using, thread_pair}
 
 -- the revision of the block that is active, of the pair at an address
 abbrev pub pair_revision : Disk → ℕ × ℕ → Option ℕ
@@ -18,45 +18,45 @@ pair_revision disk at = option_map block_revision (current_block disk at)
 -- There is a pair at the index, with a hard tail, and one after it. The slots of each fit a pair. The two blocks are in flight.
 pub record CanMoveNext (t : KeptThread) (index : ℕ) (fresh : ℕ × ℕ) : Type 0 where
   pub below : index + 1 < length t.pairs
-  pub joined : is_hard_tail (thread_pair_at t index).content.tail ≡ true
-  pub fits : FitsInPair t.disk.block_size t.disk.page (thread_pair_at t index).content
-  pub next_fits : FitsInPair t.disk.block_size t.disk.page (thread_pair_at t (index + 1)).content
+  pub joined : is_hard_tail (thread_pair t index).content.tail ≡ true
+  pub fits : FitsInPair t.disk.block_size t.disk.page (thread_pair t index).content
+  pub next_fits : FitsInPair t.disk.block_size t.disk.page (thread_pair t (index + 1)).content
   pub held : FreshInFlight t.map fresh
 
 -- the pair at an index, with a hard tail to the two blocks
 abbrev pub pair_leading_to : KeptThread → ℕ → ℕ × ℕ → Pair
-pair_leading_to t index fresh = let p = thread_pair_at t index in record p { content = record p.content { tail = Some (record { hard = true; to = fresh }) } }
+pair_leading_to t index fresh = let p = thread_pair t index in record p { content = record p.content { tail = Some (record { hard = true; to = fresh }) } }
 
 -- the pair at an index, in the two blocks
 abbrev pub pair_moved_to : KeptThread → ℕ → ℕ × ℕ → Pair
-pair_moved_to t index fresh = record (thread_pair_at t index) { at = fresh }
+pair_moved_to t index fresh = record (thread_pair t index) { at = fresh }
 
 abbrev pub pairs_with_next_moved : KeptThread → ℕ → ℕ × ℕ → List Pair
 pairs_with_next_moved t index fresh = slice_set (slice_set t.pairs index (pair_leading_to t index fresh)) (index + 1) (pair_moved_to t (index + 1) fresh)
 
 -- If the pair has the superblock in slot 0, its log begins with that entry.
 abbrev pub BeginsWithAnySuperblock : Pair → Disk → Type 0
-BeginsWithAnySuperblock p disk = HasSuperblockOf p.content → BeginsWith (current_block disk p.at) superblock_entry
+BeginsWithAnySuperblock p disk = HasSuperblock p.content → BeginsWith (current_block disk p.at) superblock_entry
 
 -- A move that is done: the pair at the index leads to the two blocks. The pair after it has its content there, and the next
 -- revision. Its old blocks are free.
 pub record IsNextMoved (old : KeptThread) (index : ℕ) (fresh : ℕ × ℕ) (new : KeptThread) : Type 0 where
   pub pairs : new.pairs ≡ pairs_with_next_moved old index fresh
   pub thread : IsThread (content_at new.disk) (block_count new.disk) new.pairs
-  pub first : KeepsSuperblockFirst old.disk (thread_pair_at old index).at (pair_leading_to old index fresh).content new.disk
+  pub first : KeepsSuperblockFirst old.disk (thread_pair old index).at (pair_leading_to old index fresh).content new.disk
   pub anew : BeginsWithAnySuperblock (pair_moved_to old (index + 1) fresh) new.disk
-  pub revision : pair_revision new.disk fresh ≡ option_map (λ r. (r + 1) % 2 ^ 32) (pair_revision old.disk (thread_pair_at old (index + 1)).at)
-  pub map : new.map ≡ map_freeing (map_using old.map fresh) (thread_pair_at old (index + 1)).at
+  pub revision : pair_revision new.disk fresh ≡ option_map (λ r. (r + 1) % 2 ^ 32) (pair_revision old.disk (thread_pair old (index + 1)).at)
+  pub map : new.map ≡ map_freeing (map_using old.map fresh) (thread_pair old (index + 1)).at
 
 -- on the disk, the pair at the index leads to the two blocks, and they have the content of the pair after it
 pub record NextMovedOnDisk (old : KeptThread) (index : ℕ) (fresh : ℕ × ℕ) (disk : Disk) : Type 0 where
-  pub leads : content_at disk (thread_pair_at old index).at ≡ Some (pair_leading_to old index fresh).content
+  pub leads : content_at disk (thread_pair old index).at ≡ Some (pair_leading_to old index fresh).content
   pub moved : content_at disk fresh ≡ Some (pair_moved_to old (index + 1) fresh).content
-  pub first : KeepsSuperblockFirst old.disk (thread_pair_at old index).at (pair_leading_to old index fresh).content disk
+  pub first : KeepsSuperblockFirst old.disk (thread_pair old index).at (pair_leading_to old index fresh).content disk
   pub anew : BeginsWithAnySuperblock (pair_moved_to old (index + 1) fresh) disk
 
 -- What a stop leaves of a move: the pair at the index with its old content, or the pair after it moved.
 pub record LossLeavesNextMoved (old : KeptThread) (index : ℕ) (fresh : ℕ × ℕ) (left : Blocks) : Type 0 where
-  pub others : KeepsOutsideBoth (thread_pair_at old index).at fresh old.disk.blocks left
+  pub others : KeepsOutsideBoth (thread_pair old index).at fresh old.disk.blocks left
   pub content : HasOldPair old index (record old.disk { blocks = left })
       ⊎ NextMovedOnDisk old index fresh (record old.disk { blocks = left })

@@ -9,9 +9,9 @@ abbrev pub blocks_of_addresses : List (ℕ × ℕ) → List ℕ
 blocks_of_addresses addresses = flat_map (λ at. at.0 ∷ at.1 ∷ []) addresses
 
 -- the place of the first address with the same two blocks
-abbrev pub index_of_address : List (ℕ × ℕ) → ℕ × ℕ → Option ℕ
-index_of_address [] at = None
-index_of_address (a ∷ addresses) at = if same_pair a at then Some 0 else option_map (λ i. suc i) (index_of_address addresses at)
+abbrev pub address_index : List (ℕ × ℕ) → ℕ × ℕ → Option ℕ
+address_index [] at = None
+address_index (a ∷ addresses) at = if same_pair a at then Some 0 else option_map (λ i. suc i) (address_index addresses at)
 
 -- the address at that place has the same two blocks
 pub record SameAddressAt (addresses : List (ℕ × ℕ)) (at : ℕ × ℕ) (place : ℕ) : Type 0 where

@@ -10,7 +10,7 @@ use Rattle.lfs_model.specs.session.History.{LossLeavesAtWorst, HoldsAtLosses, On
 use Rattle.lfs_model.specs.format.Slots.{PairContent, FitsInPair, Slot, Tail, zero_gstate}
 use Rattle.lfs_model.specs.format.Content.{RawContent, content_at, complete_content, current_block}
 use Rattle.lfs_model.specs.layers.Changes.{PairChange, PutTail}
-use Rattle.lfs_model.specs.format.Thread.{Pair, anchor_address, IsThread, tail_address_of, starts_superblock}
+use Rattle.lfs_model.specs.format.Thread.{Pair, anchor_address, IsThread, tail_target, starts_superblock}
 use Rattle.lfs_pair.specs.Commits.{changed_pair, KeepsOutsidePair}
 use Rattle.lfs_model.specs.tree.View.{BeginsWith, superblock_entry}
 use Rattle.lfs_model.specs.layers.BlockSets.{Free, Used, BlockStates, IsInFlight}
@@ -21,12 +21,12 @@ use Rattle.lfs_thread.specs.Kept.{KeptThread}
 abbrev pub empty_anchor : Pair
 empty_anchor = record { at = anchor_address; content = record { slots = []; tail = Option.None; move = zero_gstate } }
 
-abbrev pub thread_pair_at : KeptThread → ℕ → Pair
-thread_pair_at t index = slice_index_or t.pairs index empty_anchor
+abbrev pub thread_pair : KeptThread → ℕ → Pair
+thread_pair t index = slice_index_or t.pairs index empty_anchor
 
 -- what changes make of the pair at an index, if each slot then has a name and a struct
 abbrev pub complete_after : KeptThread → ℕ → List PairChange → Option PairContent
-complete_after t index changes = option_and_then complete_content (changed_pair t.disk (thread_pair_at t index).at changes)
+complete_after t index changes = option_and_then complete_content (changed_pair t.disk (thread_pair t index).at changes)
 
 -- ---- what every step reports
 
@@ -57,14 +57,14 @@ pub record OnlyReadsDevice (old new : KeptThread) : Type 0 where
   pub reads : OnlyReadsSince old.disk.blocks old.history new.history
 
 -- `Io` comes with a fault of the device, and any other result with none. At `NoMemory` nothing was written.
-pub record IoMeantFaultNoMemoryWroteNothing {X : Type 0} (old new : KeptThread) (result : Result X Error) : Type 0 where
+pub record ThreadReportsErrors {X : Type 0} (old new : KeptThread) (result : Result X Error) : Type 0 where
   pub errors : IfErr result (λ e. (e ≡ Io) ⊎ (e ≡ NoMemory))
   pub fault : IsErrOf result Io → fault_count old.history < fault_count new.history
   pub no_fault : ¬ IsErrOf result Io → fault_count new.history ≡ fault_count old.history
   pub unwritten : result ≡ Err NoMemory → OnlyReadsDevice old new
 
 -- `Io` comes with a fault of the device, and any other result with none. At `NoMemory` no block was written but these.
-pub record IoMeantFaultNoMemoryKeptOtherBlocks {X : Type 0} (bs : List ℕ) (old new : KeptThread) (result : Result X Error) : Type 0 where
+pub record ThreadReportsKeepingOthers {X : Type 0} (bs : List ℕ) (old new : KeptThread) (result : Result X Error) : Type 0 where
   pub errors : IfErr result (λ e. (e ≡ Io) ⊎ (e ≡ NoMemory))
   pub fault : IsErrOf result Io → fault_count old.history < fault_count new.history
   pub no_fault : ¬ IsErrOf result Io → fault_count new.history ≡ fault_count old.history
@@ -84,29 +84,29 @@ pub record CanChangePair (t : KeptThread) (index : ℕ) (changes : List PairChan
   pub below : index < length t.pairs
   pub content : PairContent
   pub made : complete_after t index changes ≡ Some content
-  pub next : tail_address_of content.tail ≡ tail_address_of (thread_pair_at t index).content.tail
+  pub next : tail_target content.tail ≡ tail_target (thread_pair t index).content.tail
 
 abbrev pub pairs_with : KeptThread → ℕ → PairContent → List Pair
-pairs_with t index c = slice_set t.pairs index (record { at = (thread_pair_at t index).at; content = c })
+pairs_with t index c = slice_set t.pairs index (record { at = (thread_pair t index).at; content = c })
 
 -- slot 0 is the superblock
 abbrev pub BeginWithSuperblock : List Slot → Type 0
 BeginWithSuperblock slots = (starts_superblock slots ≡ true) × (option_map (λ s. s.name) (slice_get slots 0) ≡ Some (codes "littlefs"))
 
-abbrev pub HasSuperblockOf : PairContent → Type 0
-HasSuperblockOf c = BeginWithSuperblock c.slots
+abbrev pub HasSuperblock : PairContent → Type 0
+HasSuperblock c = BeginWithSuperblock c.slots
 
 -- If a pair's log began with the superblock's entry, and its content now has the superblock in slot 0, its log begins with that
 -- entry now.
 abbrev pub KeepsSuperblockFirst : Disk → ℕ × ℕ → PairContent → Disk → Type 0
-KeepsSuperblockFirst old at c disk = BeginsWith (current_block old at) superblock_entry → HasSuperblockOf c → BeginsWith (current_block disk at) superblock_entry
+KeepsSuperblockFirst old at c disk = BeginsWith (current_block old at) superblock_entry → HasSuperblock c → BeginsWith (current_block disk at) superblock_entry
 
 -- The pair at an index has that content on the disk, and no block but its two differs. The superblock stays first.
 pub record IsPairWritten (old : KeptThread) (index : ℕ) (content : PairContent) (disk : Disk) : Type 0 where
-  pub holds : content_at disk (thread_pair_at old index).at ≡ Some content
-  pub others : KeepsOutsidePair (thread_pair_at old index).at old.disk.blocks disk.blocks
+  pub holds : content_at disk (thread_pair old index).at ≡ Some content
+  pub others : KeepsOutsidePair (thread_pair old index).at old.disk.blocks disk.blocks
   pub shape : SameGeometryAs old.disk disk
-  pub first : KeepsSuperblockFirst old.disk (thread_pair_at old index).at content disk
+  pub first : KeepsSuperblockFirst old.disk (thread_pair old index).at content disk
 
 -- A commit that is done: the pair has what the changes make, and everything else is as it was.
 pub record IsPairCommitted (old : KeptThread) (index : ℕ) (changes : List PairChange) (new : KeptThread) : Type 0 where
@@ -126,9 +126,9 @@ pub record RefusesChanges (old : KeptThread) (index : ℕ) (changes : List PairC
   pub only : OnlyReadsThread old new
 
 -- What a stop leaves of a commit: the pair with its old content or with what the changes make.
-pub record LossLeavesPairChanged (old : KeptThread) (index : ℕ) (changes : List PairChange) (left : Blocks) : Type 0 where
+pub record LossLeavesPair (old : KeptThread) (index : ℕ) (changes : List PairChange) (left : Blocks) : Type 0 where
   pub content : PairContent
-  pub is : (content ≡ (thread_pair_at old index).content) ⊎ ((complete_after old index changes ≡ Some content) × FitsInPair old.disk.block_size old.disk.page content)
+  pub is : (content ≡ (thread_pair old index).content) ⊎ ((complete_after old index changes ≡ Some content) × FitsInPair old.disk.block_size old.disk.page content)
   pub written : IsPairWritten old index content (record old.disk { blocks = left })
 
 -- ---- blocks of a fresh pair
@@ -144,13 +144,13 @@ abbrev pub map_using : BlockStates → ℕ × ℕ → BlockStates
 map_using sets fresh = slice_set (slice_set sets fresh.0 Used) fresh.1 Used
 
 -- the pairs with two pairs in place of the one at an index
-abbrev pub pairs_with_split : List Pair → ℕ → Pair → Pair → List Pair
-pairs_with_split ps index p q = insert (slice_set ps index p) (index + 1) q
+abbrev pub pairs_split : List Pair → ℕ → Pair → Pair → List Pair
+pairs_split ps index p q = insert (slice_set ps index p) (index + 1) q
 
 -- the pair has the content that it had, and its log still begins with the superblock's entry if it did
 pub record HasOldPair (old : KeptThread) (index : ℕ) (disk : Disk) : Type 0 where
-  pub holds : content_at disk (thread_pair_at old index).at ≡ Some (thread_pair_at old index).content
-  pub first : BeginsWith (current_block old.disk (thread_pair_at old index).at) superblock_entry → BeginsWith (current_block disk (thread_pair_at old index).at) superblock_entry
+  pub holds : content_at disk (thread_pair old index).at ≡ Some (thread_pair old index).content
+  pub first : BeginsWith (current_block old.disk (thread_pair old index).at) superblock_entry → BeginsWith (current_block disk (thread_pair old index).at) superblock_entry
 
 -- ---- a pair is split
 
@@ -159,31 +159,31 @@ pub record CanSplitAt (t : KeptThread) (index : ℕ) (fresh : ℕ × ℕ) (chang
   pub can : CanChangePair t index changes
   pub held : FreshInFlight t.map fresh
   pub raw : RawContent
-  pub made : changed_pair t.disk (thread_pair_at t index).at changes ≡ Some raw
+  pub made : changed_pair t.disk (thread_pair t index).at changes ≡ Some raw
   pub cut : CanSplit t.disk.block_size t.disk.page raw.slots
 
 -- The two parts of a content: the slots before the cut with a hard tail to the fresh pair, and the slots after it with the old
 -- tail.
-abbrev pub split_front_pair : KeptThread → ℕ → PairContent → ℕ → ℕ × ℕ → Pair
-split_front_pair t index c cut fresh = record { at = (thread_pair_at t index).at; content = record { slots = take cut c.slots; tail = Some (record { hard = true; to = fresh }); move = c.move } }
+abbrev pub front_pair : KeptThread → ℕ → PairContent → ℕ → ℕ × ℕ → Pair
+front_pair t index c cut fresh = record { at = (thread_pair t index).at; content = record { slots = take cut c.slots; tail = Some (record { hard = true; to = fresh }); move = c.move } }
 
-abbrev pub split_back_pair : PairContent → ℕ → ℕ × ℕ → Pair
-split_back_pair c cut fresh = record { at = fresh; content = record { slots = drop cut c.slots; tail = c.tail; move = zero_gstate } }
+abbrev pub back_pair : PairContent → ℕ → ℕ × ℕ → Pair
+back_pair c cut fresh = record { at = fresh; content = record { slots = drop cut c.slots; tail = c.tail; move = zero_gstate } }
 
 -- Both parts fit, and both have slots where the whole doesn't fit. The superblock stays first.
-pub record PartsFitPairs (old : KeptThread) (index : ℕ) (content : PairContent) (cut : ℕ) (fresh : ℕ × ℕ) (disk : Disk) : Type 0 where
-  pub front_fits : FitsInPair old.disk.block_size old.disk.page (split_front_pair old index content cut fresh).content
-  pub back_fits : FitsInPair old.disk.block_size old.disk.page (split_back_pair content cut fresh).content
+pub record PartsFit (old : KeptThread) (index : ℕ) (content : PairContent) (cut : ℕ) (fresh : ℕ × ℕ) (disk : Disk) : Type 0 where
+  pub front_fits : FitsInPair old.disk.block_size old.disk.page (front_pair old index content cut fresh).content
+  pub back_fits : FitsInPair old.disk.block_size old.disk.page (back_pair content cut fresh).content
   pub inside : ¬ FitsInPair old.disk.block_size old.disk.page content → (0 < cut) × (cut < length content.slots)
-  pub first : KeepsSuperblockFirst old.disk (thread_pair_at old index).at (split_front_pair old index content cut fresh).content disk
+  pub first : KeepsSuperblockFirst old.disk (thread_pair old index).at (front_pair old index content cut fresh).content disk
 
 -- A split that is done: both pairs have their parts, and everything else is as it was.
-pub record IsSplitInTwo (old : KeptThread) (index : ℕ) (fresh : ℕ × ℕ) (changes : List PairChange) (new : KeptThread) : Type 0 where
+pub record HasSplit (old : KeptThread) (index : ℕ) (fresh : ℕ × ℕ) (changes : List PairChange) (new : KeptThread) : Type 0 where
   pub content : PairContent
   pub made : complete_after old index changes ≡ Some content
   pub cut : ℕ
-  pub parts : PartsFitPairs old index content cut fresh new.disk
-  pub pairs : new.pairs ≡ pairs_with_split old.pairs index (split_front_pair old index content cut fresh) (split_back_pair content cut fresh)
+  pub parts : PartsFit old index content cut fresh new.disk
+  pub pairs : new.pairs ≡ pairs_split old.pairs index (front_pair old index content cut fresh) (back_pair content cut fresh)
   pub thread : IsThread (content_at new.disk) (block_count new.disk) new.pairs
   pub map : new.map ≡ map_using old.map fresh
 
@@ -192,13 +192,13 @@ pub record BothOnDisk (old : KeptThread) (index : ℕ) (changes : List PairChang
   pub content : PairContent
   pub made : complete_after old index changes ≡ Some content
   pub cut : ℕ
-  pub front : content_at disk (thread_pair_at old index).at ≡ Some (split_front_pair old index content cut fresh).content
-  pub back : content_at disk fresh ≡ Some (split_back_pair content cut fresh).content
-  pub parts : PartsFitPairs old index content cut fresh disk
+  pub front : content_at disk (thread_pair old index).at ≡ Some (front_pair old index content cut fresh).content
+  pub back : content_at disk fresh ≡ Some (back_pair content cut fresh).content
+  pub parts : PartsFit old index content cut fresh disk
 
 -- What a stop leaves of a split: the old pair with its old content, or both pairs with their parts.
-pub record LossLeavesPairSplit (old : KeptThread) (index : ℕ) (fresh : ℕ × ℕ) (changes : List PairChange) (left : Blocks) : Type 0 where
-  pub others : KeepsOutsideBoth (thread_pair_at old index).at fresh old.disk.blocks left
+pub record LossLeavesBoth (old : KeptThread) (index : ℕ) (fresh : ℕ × ℕ) (changes : List PairChange) (left : Blocks) : Type 0 where
+  pub others : KeepsOutsideBoth (thread_pair old index).at fresh old.disk.blocks left
   pub content : HasOldPair old index (record old.disk { blocks = left })
       ⊎ BothOnDisk old index changes fresh (record old.disk { blocks = left })
 
@@ -209,30 +209,30 @@ pub record CanThreadIn (t : KeptThread) (index : ℕ) (fresh : ℕ × ℕ) (chan
   pub below : index < length t.pairs
   pub content : PairContent
   pub made : complete_after t index changes ≡ Some content
-  pub next : tail_address_of content.tail ≡ Some fresh
+  pub next : tail_target content.tail ≡ Some fresh
   pub held : FreshInFlight t.map fresh
 
 -- the change that sets this tail
-abbrev pub tail_setting_change : Option Tail → PairChange
-tail_setting_change None = PutTail false None
-tail_setting_change (Some t) = PutTail t.hard (Some t.to)
+abbrev pub tail_change : Option Tail → PairChange
+tail_change None = PutTail false None
+tail_change (Some t) = PutTail t.hard (Some t.to)
 
 -- a pair without slots that has the tail of the pair at an index
 abbrev pub fresh_with_tail : KeptThread → ℕ → ℕ × ℕ → Pair
-fresh_with_tail t index fresh = record { at = fresh; content = record { slots = []; tail = (thread_pair_at t index).content.tail; move = zero_gstate } }
+fresh_with_tail t index fresh = record { at = fresh; content = record { slots = []; tail = (thread_pair t index).content.tail; move = zero_gstate } }
 
 -- A fresh pair that is threaded in: the pair has what the changes make, and the fresh pair comes after it.
 pub record IsThreadedIn (old : KeptThread) (index : ℕ) (fresh : ℕ × ℕ) (changes : List PairChange) (new : KeptThread) : Type 0 where
   pub content : PairContent
   pub made : complete_after old index changes ≡ Some content
   pub fits : FitsInPair old.disk.block_size old.disk.page content
-  pub first : KeepsSuperblockFirst old.disk (thread_pair_at old index).at content new.disk
-  pub pairs : new.pairs ≡ pairs_with_split old.pairs index (record { at = (thread_pair_at old index).at; content = content }) (fresh_with_tail old index fresh)
+  pub first : KeepsSuperblockFirst old.disk (thread_pair old index).at content new.disk
+  pub pairs : new.pairs ≡ pairs_split old.pairs index (record { at = (thread_pair old index).at; content = content }) (fresh_with_tail old index fresh)
   pub thread : IsThread (content_at new.disk) (block_count new.disk) new.pairs
   pub map : new.map ≡ map_using old.map fresh
 
 -- What the changes make doesn't fit. The thread is as it was, and no block was written but the two of the fresh pair.
-pub record RefusesThreadingIn (old : KeptThread) (index : ℕ) (fresh : ℕ × ℕ) (changes : List PairChange) (new : KeptThread) : Type 0 where
+pub record RefusesThreading (old : KeptThread) (index : ℕ) (fresh : ℕ × ℕ) (changes : List PairChange) (new : KeptThread) : Type 0 where
   pub content : PairContent
   pub made : complete_after old index changes ≡ Some content
   pub too_large : ¬ FitsInPair old.disk.block_size old.disk.page content
@@ -241,20 +241,20 @@ pub record RefusesThreadingIn (old : KeptThread) (index : ℕ) (fresh : ℕ × �
   pub others : KeepsOutsidePair fresh old.disk.blocks new.disk.blocks
 
 -- the pair on the disk has what the changes make, and the fresh pair comes after it
-pub record ThreadedInOnDisk (old : KeptThread) (index : ℕ) (fresh : ℕ × ℕ) (changes : List PairChange) (disk : Disk) : Type 0 where
+pub record ThreadedOnDisk (old : KeptThread) (index : ℕ) (fresh : ℕ × ℕ) (changes : List PairChange) (disk : Disk) : Type 0 where
   pub content : PairContent
   pub made : complete_after old index changes ≡ Some content
   pub fits : FitsInPair old.disk.block_size old.disk.page content
-  pub holds : content_at disk (thread_pair_at old index).at ≡ Some content
+  pub holds : content_at disk (thread_pair old index).at ≡ Some content
   pub behind : content_at disk fresh ≡ Some (fresh_with_tail old index fresh).content
-  pub first : KeepsSuperblockFirst old.disk (thread_pair_at old index).at content disk
+  pub first : KeepsSuperblockFirst old.disk (thread_pair old index).at content disk
 
 -- What a stop leaves of a pair that is threaded in: the old pair with its old content, or with what the changes make and the
 -- fresh pair after it.
-pub record LossLeavesThreadedIn (old : KeptThread) (index : ℕ) (fresh : ℕ × ℕ) (changes : List PairChange) (left : Blocks) : Type 0 where
-  pub others : KeepsOutsideBoth (thread_pair_at old index).at fresh old.disk.blocks left
+pub record LossLeavesThreaded (old : KeptThread) (index : ℕ) (fresh : ℕ × ℕ) (changes : List PairChange) (left : Blocks) : Type 0 where
+  pub others : KeepsOutsideBoth (thread_pair old index).at fresh old.disk.blocks left
   pub content : HasOldPair old index (record old.disk { blocks = left })
-      ⊎ ThreadedInOnDisk old index fresh changes (record old.disk { blocks = left })
+      ⊎ ThreadedOnDisk old index fresh changes (record old.disk { blocks = left })
 
 -- ---- the pair after another is dropped
 
@@ -264,7 +264,7 @@ pub record CanDropNext (t : KeptThread) (index : ℕ) (changes : List PairChange
   pub below : index + 1 < length t.pairs
   pub content : PairContent
   pub made : complete_after t index changes ≡ Some content
-  pub next : tail_address_of content.tail ≡ tail_address_of (thread_pair_at t (index + 1)).content.tail
+  pub next : tail_target content.tail ≡ tail_target (thread_pair t (index + 1)).content.tail
 
 -- the map with the dropped pair's blocks free
 abbrev pub map_freeing : BlockStates → ℕ × ℕ → BlockStates
@@ -278,4 +278,4 @@ pub record IsNextDropped (old : KeptThread) (index : ℕ) (changes : List PairCh
   pub fits : FitsInPair old.disk.block_size old.disk.page content
   pub pairs : new.pairs ≡ remove (pairs_with old index content) (index + 1)
   pub thread : IsThread (content_at new.disk) (block_count new.disk) new.pairs
-  pub map : new.map ≡ map_freeing old.map (thread_pair_at old (index + 1)).at
+  pub map : new.map ≡ map_freeing old.map (thread_pair old (index + 1)).at

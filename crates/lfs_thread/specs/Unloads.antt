@@ -9,13 +9,13 @@ use Rattle.lfs_model.specs.layers.Changes.{PairChange, Delete, PutTail}
 use Rattle.lfs_pair.specs.Split.{KeepsOutsideBoth}
 use Rattle.lfs_thread.specs.Kept.{KeptThread}
 use Rattle.lfs_thread.specs.Moves.{pair_revision}
-use Rattle.lfs_thread.specs.ThreadSteps.{FreshInFlight, HasOldPair, KeepsSuperblockFirst, map_using, pairs_with_split, thread_pair_at}
+use Rattle.lfs_thread.specs.ThreadSteps.{FreshInFlight, HasOldPair, KeepsSuperblockFirst, map_using, pairs_split, thread_pair}
 
 -- There is a pair at the index with at least `keep` slots, and they fit a pair. The two blocks are in flight.
 pub record CanUnload (t : KeptThread) (index : ℕ) (fresh : ℕ × ℕ) (keep : ℕ) : Type 0 where
   pub below : index < length t.pairs
-  pub slots : keep ≤ length (thread_pair_at t index).content.slots
-  pub fits : FitsInPair t.disk.block_size t.disk.page (thread_pair_at t index).content
+  pub slots : keep ≤ length (thread_pair t index).content.slots
+  pub fits : FitsInPair t.disk.block_size t.disk.page (thread_pair t index).content
   pub held : FreshInFlight t.map fresh
 
 -- The changes that leave the first slots of a pair, and a hard tail to the two blocks: so many slots after them are deleted.
@@ -24,28 +24,28 @@ changes_of_unload fresh keep count = replicate count (Delete keep) ++ PutTail tr
 
 -- the pair at an index with its first slots, its delta of the global state, and a hard tail to the two blocks
 abbrev pub unloaded_pair : KeptThread → ℕ → ℕ × ℕ → ℕ → Pair
-unloaded_pair t index fresh keep = let p = thread_pair_at t index in record p { content = record p.content { slots = take keep p.content.slots; tail = Some (record { hard = true; to = fresh }) } }
+unloaded_pair t index fresh keep = let p = thread_pair t index in record p { content = record p.content { slots = take keep p.content.slots; tail = Some (record { hard = true; to = fresh }) } }
 
 -- a pair in the two blocks with all slots and the tail of the pair at an index
 abbrev pub loaded_pair : KeptThread → ℕ → ℕ × ℕ → Pair
-loaded_pair t index fresh = record { at = fresh; content = record (thread_pair_at t index).content { move = zero_gstate } }
+loaded_pair t index fresh = record { at = fresh; content = record (thread_pair t index).content { move = zero_gstate } }
 
 -- A pair is unloaded: the fresh pair comes after it, and has all of its slots, its tail and the next revision.
 pub record IsUnloaded (old : KeptThread) (index : ℕ) (fresh : ℕ × ℕ) (keep : ℕ) (new : KeptThread) : Type 0 where
-  pub pairs : new.pairs ≡ pairs_with_split old.pairs index (unloaded_pair old index fresh keep) (loaded_pair old index fresh)
+  pub pairs : new.pairs ≡ pairs_split old.pairs index (unloaded_pair old index fresh keep) (loaded_pair old index fresh)
   pub thread : IsThread (content_at new.disk) (block_count new.disk) new.pairs
-  pub first : KeepsSuperblockFirst old.disk (thread_pair_at old index).at (unloaded_pair old index fresh keep).content new.disk
-  pub revision : pair_revision new.disk fresh ≡ option_map (λ r. (r + 1) % 2 ^ 32) (pair_revision old.disk (thread_pair_at old index).at)
+  pub first : KeepsSuperblockFirst old.disk (thread_pair old index).at (unloaded_pair old index fresh keep).content new.disk
+  pub revision : pair_revision new.disk fresh ≡ option_map (λ r. (r + 1) % 2 ^ 32) (pair_revision old.disk (thread_pair old index).at)
   pub map : new.map ≡ map_using old.map fresh
 
 -- on the disk, the pair at the index has its first slots, and the fresh pair has all
 pub record UnloadedOnDisk (old : KeptThread) (index : ℕ) (fresh : ℕ × ℕ) (keep : ℕ) (disk : Disk) : Type 0 where
-  pub keeps : content_at disk (thread_pair_at old index).at ≡ Some (unloaded_pair old index fresh keep).content
+  pub keeps : content_at disk (thread_pair old index).at ≡ Some (unloaded_pair old index fresh keep).content
   pub behind : content_at disk fresh ≡ Some (loaded_pair old index fresh).content
-  pub first : KeepsSuperblockFirst old.disk (thread_pair_at old index).at (unloaded_pair old index fresh keep).content disk
+  pub first : KeepsSuperblockFirst old.disk (thread_pair old index).at (unloaded_pair old index fresh keep).content disk
 
 -- What a stop leaves: the pair with its old content, or unloaded.
 pub record LossLeavesUnloaded (old : KeptThread) (index : ℕ) (fresh : ℕ × ℕ) (keep : ℕ) (left : Blocks) : Type 0 where
-  pub others : KeepsOutsideBoth (thread_pair_at old index).at fresh old.disk.blocks left
+  pub others : KeepsOutsideBoth (thread_pair old index).at fresh old.disk.blocks left
   pub content : HasOldPair old index (record old.disk { blocks = left })
       ⊎ UnloadedOnDisk old index fresh keep (record old.disk { blocks = left })

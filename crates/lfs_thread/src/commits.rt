@@ -1,16 +1,16 @@
 // Commits to pairs and splits of pairs, with a cache of blocks.
 
 ghost use Rattle.std.specs.Prelude.{◌≡◌, ◌+◌, IfOk, option_map};
-ghost use Rattle.lfs_model.specs.layers.Cache.{cached_bytes, cache_without_block};
+ghost use Rattle.lfs_model.specs.layers.Cache.{cached_bytes, cache_without};
 ghost use Rattle.lfs_model.specs.format.Slots.{array_address};
 ghost use Rattle.lfs_pair.specs.ChangeView.{changes_view};
 ghost use Rattle.lfs_pair.specs.Commits.{LossLeavesChanged};
 ghost use Rattle.lfs_pair.specs.Pair.{header_address};
 ghost use Rattle.lfs_pair.specs.Split.{LossLeavesSplit, SplitsPair};
-ghost use Rattle.lfs_pair.specs.Writing.{ChangesOnlyBlocksWithinReadLimit};
+ghost use Rattle.lfs_pair.specs.Writing.{ChangesReadingFew};
 ghost use Rattle.lfs_thread.specs.Kept.{IsCacheCurrent, disk_of_device};
 ghost use Rattle.lfs_thread.specs.CachedLog.{reads_unless_cached};
-ghost use Rattle.lfs_thread.specs.ThreadDevice.{LossLeavesCleanly, IoMeansFaultNoMemoryWritesNothing};
+ghost use Rattle.lfs_thread.specs.ThreadDevice.{CleanLossLeaves, ReportsErrorsWritingNothing};
 ghost use Rattle.lfs_model.specs.format.Thread.{address_blocks, addresses_blocks};
 ghost use Rattle.lfs_thread.specs.CachedCalls.{CanCommitCached, CanSplitCached};
 ghost use Rattle.lfs_pair.specs.Endings.{CommitEnds};
@@ -32,9 +32,9 @@ pub(crate) fn commit_with_cache<D: BlockDevice>(
     requires { CanCommitCached D.BlockDevice device.old cache.old pair.old (changes_view changes.now) }
     ensures ends { CommitEnds D.BlockDevice (changes_view changes.now) device.old device.new pair.old pair.new result }
     ensures current { IsCacheCurrent (D.blocks device.new) cache.new }
-    ensures device { ChangesOnlyBlocksWithinReadLimit D.BlockDevice (1 + reads_unless_cached (cached_bytes cache.old pair.old.active)) (address_blocks (header_address pair.old)) device.old device.new }
-    ensures errors { IoMeansFaultNoMemoryWritesNothing D.BlockDevice device.old device.new result }
-    ensures stops { LossLeavesCleanly (D.history device.old) (D.history device.new)
+    ensures device { ChangesReadingFew D.BlockDevice (1 + reads_unless_cached (cached_bytes cache.old pair.old.active)) (address_blocks (header_address pair.old)) device.old device.new }
+    ensures errors { ReportsErrorsWritingNothing D.BlockDevice device.old device.new result }
+    ensures stops { CleanLossLeaves (D.history device.old) (D.history device.new)
         (LossLeavesChanged (disk_of_device D.BlockDevice device.old) (header_address pair.old) (changes_view changes.now)) }
 {
     match take_pair_blocks(cache, pair.blocks, pair.active) {
@@ -57,9 +57,9 @@ pub(crate) fn split_with_cache<D: BlockDevice>(
     ensures splits { IfOk result (λ fresh_pair. SplitsPair (disk_of_device D.BlockDevice device.old) (D.history device.old) (changes_view changes.now) pair.old (array_address fresh)
         (disk_of_device D.BlockDevice device.new) (D.history device.new) pair.new fresh_pair) }
     ensures current { IsCacheCurrent (D.blocks device.new) cache.new }
-    ensures device { ChangesOnlyBlocksWithinReadLimit D.BlockDevice (3 + reads_unless_cached (cached_bytes cache.old pair.old.active)) (addresses_blocks (header_address pair.old) (array_address fresh)) device.old device.new }
-    ensures errors { IoMeansFaultNoMemoryWritesNothing D.BlockDevice device.old device.new result }
-    ensures stops { LossLeavesCleanly (D.history device.old) (D.history device.new)
+    ensures device { ChangesReadingFew D.BlockDevice (3 + reads_unless_cached (cached_bytes cache.old pair.old.active)) (addresses_blocks (header_address pair.old) (array_address fresh)) device.old device.new }
+    ensures errors { ReportsErrorsWritingNothing D.BlockDevice device.old device.new result }
+    ensures stops { CleanLossLeaves (D.history device.old) (D.history device.new)
         (LossLeavesSplit (disk_of_device D.BlockDevice device.old) (header_address pair.old) (array_address fresh) (changes_view changes.now)) }
 {
     let held = take_pair_blocks(cache, pair.blocks, pair.active);
@@ -74,7 +74,7 @@ pub(crate) fn split_with_cache<D: BlockDevice>(
 // hand.
 fn take_pair_blocks(cache: &mut Cache, blocks: [u32; 2], active: u32) -> Option<Vec<u8>>
     ensures bytes { option_map (λ bytes. bytes.items) result ≡ cached_bytes cache.old active }
-    ensures gone { cache.new ≡ cache_without_block (cache_without_block (cache_without_block cache.old active) (array_address blocks).0) (array_address blocks).1 }
+    ensures gone { cache.new ≡ cache_without (cache_without (cache_without cache.old active) (array_address blocks).0) (array_address blocks).1 }
 {
     let held = cache.take(active);
     forget_cached_pair(cache, blocks);
@@ -83,7 +83,7 @@ fn take_pair_blocks(cache: &mut Cache, blocks: [u32; 2], active: u32) -> Option<
 
 // Takes both blocks of a pair out of the cache.
 pub(crate) fn forget_cached_pair(cache: &mut Cache, blocks: [u32; 2])
-    ensures { cache.new ≡ cache_without_block (cache_without_block cache.old (array_address blocks).0) (array_address blocks).1 }
+    ensures { cache.new ≡ cache_without (cache_without cache.old (array_address blocks).0) (array_address blocks).1 }
 {
     cache.forget(blocks[0]);
     cache.forget(blocks[1]);

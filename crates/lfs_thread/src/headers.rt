@@ -6,11 +6,11 @@ ghost use Rattle.lfs_model.specs.format.Slots.{array_address};
 ghost use Rattle.lfs_tag.specs.ContentView.{tail_view};
 ghost use Rattle.lfs_model.specs.layers.BlockSets.{AreInFlight, AreUsed};
 ghost use Rattle.lfs_model.specs.session.History.{read_count};
-ghost use Rattle.lfs_model.specs.format.Thread.{Pair as ThreadPair, blocks_of_pairs, tail_address_of};
+ghost use Rattle.lfs_model.specs.format.Thread.{Pair as ThreadPair, pairs_blocks, tail_target};
 ghost use Rattle.lfs_pair.specs.Pair.{header_address, fetch_reads};
 ghost use Rattle.lfs_thread.specs.Begun.{AreBeforeAddress};
-ghost use Rattle.lfs_thread.specs.Kept.{IsKept, disk_of_device, pairs_of_headers};
-ghost use Rattle.lfs_thread.specs.MountErrors.{IsViolationTrue, OnlyReadsUnlessFault};
+ghost use Rattle.lfs_thread.specs.Kept.{IsKept, disk_of_device, header_pairs};
+ghost use Rattle.lfs_thread.specs.MountErrors.{IsThreadViolation, ReadsReportingFaults};
 ghost use Rattle.lfs_thread.specs.HeaderReading.{IsReadAndMarked};
 ghost use Rattle.lfs_thread.specs.CachedCalls.{IsThreadUnread};
 
@@ -31,9 +31,9 @@ pub(crate) fn read_thread_headers<D: BlockDevice>(
 ) -> Result<(), MountError>
     requires { IsThreadUnread pairs.old.items map.old (D.geometry device.old).block_count }
     ensures kept { OnOk result (IsKept D.BlockDevice device.new pairs.new.items map.new) }
-    ensures marked { OnOk result (AreUsed map.new (blocks_of_pairs (pairs_of_headers (disk_of_device D.BlockDevice device.new) pairs.new.items)) × AreInFlight map.new []) }
-    ensures broken { IfErr result (λ e. IsViolationTrue (disk_of_device D.BlockDevice device.old) e) }
-    ensures reported { OnlyReadsUnlessFault D.BlockDevice device.old device.new result }
+    ensures marked { OnOk result (AreUsed map.new (pairs_blocks (header_pairs (disk_of_device D.BlockDevice device.new) pairs.new.items)) × AreInFlight map.new []) }
+    ensures broken { IfErr result (λ e. IsThreadViolation (disk_of_device D.BlockDevice device.old) e) }
+    ensures reported { ReadsReportingFaults D.BlockDevice device.old device.new result }
     ensures few { OnOk result (read_count (D.history device.new) ≡ read_count (D.history device.old) + sum_by (λ h. fetch_reads (disk_of_device D.BlockDevice device.old) (header_address h)) pairs.new.items) }
 {
     let block_count = device.geometry().block_count;
@@ -54,7 +54,7 @@ pub(crate) fn read_thread_headers<D: BlockDevice>(
 
 // Returns the address that a pair's tail names.
 fn tail_address(pair: &Pair) -> Option<[u32; 2]>
-    ensures { option_map array_address result ≡ tail_address_of (option_map tail_view pair.now.tail) }
+    ensures { option_map array_address result ≡ tail_target (option_map tail_view pair.now.tail) }
 {
     match pair.tail {
         None => None,
@@ -73,8 +73,8 @@ fn read_and_mark<D: BlockDevice>(
     requires { length map.old ≡ (D.geometry device.old).block_count }
     ensures read { IfOk result (IsReadAndMarked (disk_of_device D.BlockDevice device.old) (D.history device.new) (array_address at) map.old map.new) }
     ensures broken { (before : List ThreadPair) → AreBeforeAddress (disk_of_device D.BlockDevice device.old) map.old before (array_address at)
-        → IfErr result (λ e. IsViolationTrue (disk_of_device D.BlockDevice device.old) e) }
-    ensures reported { OnlyReadsUnlessFault D.BlockDevice device.old device.new result }
+        → IfErr result (λ e. IsThreadViolation (disk_of_device D.BlockDevice device.old) e) }
+    ensures reported { ReadsReportingFaults D.BlockDevice device.old device.new result }
     ensures few { OnOk result (read_count (D.history device.new) ≡ read_count (D.history device.old) + fetch_reads (disk_of_device D.BlockDevice device.old) (array_address at)) }
 {
     let [first, second] = at;

@@ -4,12 +4,12 @@ ghost use Rattle.std.specs.Prelude.{◌≡◌, ◌+◌, OnOk};
 ghost use Rattle.std.specs.Option.{option_map};
 ghost use Rattle.lfs_model.specs.format.Slots.{array_address};
 ghost use Rattle.lfs_tag.specs.ContentView.{tail_view};
-ghost use Rattle.lfs_pair.specs.Writing.{ChangesOnlyBlocksWithinReadLimit};
+ghost use Rattle.lfs_pair.specs.Writing.{ChangesReadingFew};
 ghost use Rattle.lfs_pair.specs.ChangeView.{change_view, changes_view};
-ghost use Rattle.lfs_thread.specs.ThreadDevice.{LossLeavesCleanly, IoMeansFaultNoMemoryKeepsOtherBlocks};
+ghost use Rattle.lfs_thread.specs.ThreadDevice.{CleanLossLeaves, ReportsErrorsKeepingOthers};
 ghost use Rattle.lfs_thread.specs.Kept.{IsCacheCurrent, IsKept, kept_of_device};
 ghost use Rattle.lfs_thread.specs.CachedLog.{cached_block_log, reads_unless_cached};
-ghost use Rattle.lfs_thread.specs.ThreadSteps.{CanThreadIn, RefusesThreadingIn, IsThreadedIn, LossLeavesThreadedIn, tail_setting_change, thread_pair_at};
+ghost use Rattle.lfs_thread.specs.ThreadSteps.{CanThreadIn, RefusesThreading, IsThreadedIn, LossLeavesThreaded, tail_change, thread_pair};
 ghost use Rattle.lfs_model.specs.format.Thread.{address_blocks, addresses_blocks};
 
 use crate::commits::{commit_with_cache, forget_cached_pair};
@@ -40,12 +40,12 @@ pub(crate) fn thread_in_pair<D: BlockDevice>(
     ensures current { IsCacheCurrent (D.blocks device.new) cache.new }
     ensures is_joined { result ≡ Ok Outcome.Done → IsThreadedIn (kept_of_device D.BlockDevice device.old pairs.old.items map.old) index (array_address fresh) (changes_view changes.now)
         (kept_of_device D.BlockDevice device.new pairs.new.items map.new) }
-    ensures full { result ≡ Ok Outcome.Full → RefusesThreadingIn (kept_of_device D.BlockDevice device.old pairs.old.items map.old) index (array_address fresh) (changes_view changes.now)
+    ensures full { result ≡ Ok Outcome.Full → RefusesThreading (kept_of_device D.BlockDevice device.old pairs.old.items map.old) index (array_address fresh) (changes_view changes.now)
         (kept_of_device D.BlockDevice device.new pairs.new.items map.new) }
-    ensures device { ChangesOnlyBlocksWithinReadLimit D.BlockDevice (3 + reads_unless_cached (cached_block_log (kept_of_device D.BlockDevice device.old pairs.old.items map.old) cache.old index)) (addresses_blocks (thread_pair_at (kept_of_device D.BlockDevice device.old pairs.old.items map.old) index).at (array_address fresh)) device.old device.new }
-    ensures errors { IoMeansFaultNoMemoryKeepsOtherBlocks D.BlockDevice (address_blocks (array_address fresh)) device.old device.new result }
-    ensures stops { LossLeavesCleanly (D.history device.old) (D.history device.new)
-        (LossLeavesThreadedIn (kept_of_device D.BlockDevice device.old pairs.old.items map.old) index (array_address fresh) (changes_view changes.now)) }
+    ensures device { ChangesReadingFew D.BlockDevice (3 + reads_unless_cached (cached_block_log (kept_of_device D.BlockDevice device.old pairs.old.items map.old) cache.old index)) (addresses_blocks (thread_pair (kept_of_device D.BlockDevice device.old pairs.old.items map.old) index).at (array_address fresh)) device.old device.new }
+    ensures errors { ReportsErrorsKeepingOthers D.BlockDevice (address_blocks (array_address fresh)) device.old device.new result }
+    ensures stops { CleanLossLeaves (D.history device.old) (D.history device.new)
+        (LossLeavesThreaded (kept_of_device D.BlockDevice device.old pairs.old.items map.old) index (array_address fresh) (changes_view changes.now)) }
 {
     let mut pair = pairs[index];
     // This takes the memory for the fresh pair's header, before anything is written.
@@ -67,7 +67,7 @@ pub(crate) fn thread_in_pair<D: BlockDevice>(
 
 // Returns the change that sets this tail.
 fn change_setting_tail<'a>(tail: &Option<Tail>) -> Change<'a>
-    ensures { change_view result ≡ tail_setting_change (option_map tail_view tail.now) }
+    ensures { change_view result ≡ tail_change (option_map tail_view tail.now) }
 {
     match tail {
         None => Change::Tail {

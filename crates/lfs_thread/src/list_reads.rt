@@ -1,8 +1,8 @@
 // Parts of files' blocks that are read through the cache.
 
 ghost use Rattle.std.specs.Prelude.{◌≡◌, ◌+◌, IfOk, length, slice_range, take};
-ghost use Rattle.lfs_blocks.specs.BlockReads.{ReadsOnceUnlessCached};
-ghost use Rattle.lfs_device.specs.DeviceCalls.{OnlyReadsOrIo};
+ghost use Rattle.lfs_blocks.specs.BlockReads.{ReadsOnceUncached};
+ghost use Rattle.lfs_device.specs.DeviceCalls.{ReadsOrIo};
 ghost use Rattle.lfs_model.specs.format.Blocks.{block_bytes};
 ghost use Rattle.lfs_model.specs.layers.Cache.{cached_bytes};
 ghost use Rattle.lfs_thread.specs.Kept.{IsCacheCurrent};
@@ -23,8 +23,8 @@ pub(crate) fn read_part_cached<D: BlockDevice>(
     requires { CanReadCached D.BlockDevice device.old cache.old part.block part.offset part.len (length buf.old) }
     ensures read { IfOk result (λ n. (n ≡ part.len) × (take n buf.new ≡ slice_range (block_bytes (D.blocks device.old) part.block) part.offset (part.offset + n))) }
     ensures current { IsCacheCurrent (D.blocks device.new) cache.new }
-    ensures few { ReadsOnceUnlessCached D.BlockDevice (cached_bytes cache.old part.block) device.old device.new }
-    ensures reading { OnlyReadsOrIo D.BlockDevice device.old device.new result }
+    ensures few { ReadsOnceUncached D.BlockDevice (cached_bytes cache.old part.block) device.old device.new }
+    ensures reading { ReadsOrIo D.BlockDevice device.old device.new result }
 {
     let len = part.len as usize;
     cache.read(device, part.block, part.offset, &mut buf[..len])?;

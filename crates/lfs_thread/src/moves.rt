@@ -3,12 +3,12 @@
 ghost use Rattle.std.specs.Prelude.{◌≡◌, ◌+◌, OnOk};
 ghost use Rattle.lfs_model.specs.format.Slots.{array_address};
 ghost use Rattle.lfs_model.specs.format.Thread.{address_blocks, addresses_blocks};
-ghost use Rattle.lfs_pair.specs.Writing.{ChangesOnlyBlocksWithinReadLimit};
+ghost use Rattle.lfs_pair.specs.Writing.{ChangesReadingFew};
 ghost use Rattle.lfs_thread.specs.CachedLog.{cached_block_log, reads_unless_cached};
 ghost use Rattle.lfs_thread.specs.Kept.{IsCacheCurrent, IsKept, kept_of_device};
 ghost use Rattle.lfs_thread.specs.Moves.{CanMoveNext, IsNextMoved, LossLeavesNextMoved};
-ghost use Rattle.lfs_thread.specs.ThreadDevice.{LossLeavesCleanly, IoMeansFaultNoMemoryKeepsOtherBlocks};
-ghost use Rattle.lfs_thread.specs.ThreadSteps.{thread_pair_at};
+ghost use Rattle.lfs_thread.specs.ThreadDevice.{CleanLossLeaves, ReportsErrorsKeepingOthers};
+ghost use Rattle.lfs_thread.specs.ThreadSteps.{thread_pair};
 
 use crate::commits::{commit_with_cache, forget_cached_pair};
 use lfs_blocks::{BlockMap, Cache};
@@ -35,9 +35,9 @@ pub(crate) fn move_next_pair<D: BlockDevice>(
     ensures current { IsCacheCurrent (D.blocks device.new) cache.new }
     ensures is_moved { OnOk result (IsNextMoved (kept_of_device D.BlockDevice device.old pairs.old.items map.old) index (array_address fresh)
         (kept_of_device D.BlockDevice device.new pairs.new.items map.new)) }
-    ensures device { ChangesOnlyBlocksWithinReadLimit D.BlockDevice (4 + reads_unless_cached (cached_block_log (kept_of_device D.BlockDevice device.old pairs.old.items map.old) cache.old index)) (addresses_blocks (thread_pair_at (kept_of_device D.BlockDevice device.old pairs.old.items map.old) index).at (array_address fresh)) device.old device.new }
-    ensures errors { IoMeansFaultNoMemoryKeepsOtherBlocks D.BlockDevice (address_blocks (array_address fresh)) device.old device.new result }
-    ensures stops { LossLeavesCleanly (D.history device.old) (D.history device.new)
+    ensures device { ChangesReadingFew D.BlockDevice (4 + reads_unless_cached (cached_block_log (kept_of_device D.BlockDevice device.old pairs.old.items map.old) cache.old index)) (addresses_blocks (thread_pair (kept_of_device D.BlockDevice device.old pairs.old.items map.old) index).at (array_address fresh)) device.old device.new }
+    ensures errors { ReportsErrorsKeepingOthers D.BlockDevice (address_blocks (array_address fresh)) device.old device.new result }
+    ensures stops { CleanLossLeaves (D.history device.old) (D.history device.new)
         (LossLeavesNextMoved (kept_of_device D.BlockDevice device.old pairs.old.items map.old) index (array_address fresh)) }
 {
     let mut pair = pairs[index];

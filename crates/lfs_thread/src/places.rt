@@ -3,7 +3,7 @@
 ghost use Rattle.std.specs.Prelude.{IfSome, IfNone, ◌≡◌, ◌++◌, ◌∷◌, [], ◌<◌, false, nat_eq, OnOk, OnErr, IfErr, length, map};
 ghost use Rattle.std.specs.List.{AllByRecursion, IsDistinct};
 ghost use Rattle.lfs_model.specs.format.Slots.{array_address, same_pair};
-ghost use Rattle.lfs_thread.specs.PairPlaces.{SameAddressAt, blocks_of_addresses, greater_of, lesser_of, index_of_address};
+ghost use Rattle.lfs_thread.specs.PairPlaces.{SameAddressAt, blocks_of_addresses, greater_of, lesser_of, address_index};
 
 use lfs_device::Error;
 use std::alloc::Global;
@@ -85,7 +85,7 @@ impl PairAddressList {
     /// Returns the place of the pair that has these two blocks, in either order. Returns None where
     /// no pair of the list has them.
     pub fn find(&self, pair: [u32; 2]) -> Option<u32>
-        ensures value { result ≡ index_of_address self.now (array_address pair) }
+        ensures value { result ≡ address_index self.now (array_address pair) }
         ensures within { IfSome result (λ place. place < length self.now) }
         ensures there { IfSome result (SameAddressAt self.now (array_address pair)) }
         ensures nowhere { IfNone result (AllByRecursion (λ a. same_pair a (array_address pair) ≡ false) self.now) }

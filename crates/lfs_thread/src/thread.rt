@@ -13,15 +13,15 @@ ghost use Rattle.lfs_model.specs.format.Thread.{pairs_gstate, is_hard_tail, addr
 ghost use Rattle.lfs_tag.specs.ContentView.{tail_view};
 ghost use Rattle.lfs_tag.specs.FieldsView.{move_view};
 ghost use Rattle.lfs_pair.specs.ChangeView.{changes_view};
-ghost use Rattle.lfs_thread.specs.Beside.{CanCallClosureOnDeviceAndMap, HasRunWorkOnDeviceAndMap, HasGeometryOf, LeavesUsedBlocksOfPairsUnchangedAndUsed, MayClosureOnDeviceAndMapReturn, AreDeviceAndMapOfThread};
-ghost use Rattle.lfs_thread.specs.ThreadDevice.{GivesDeviceBackOnlyReadWithError, LossLeavesCleanly};
+ghost use Rattle.lfs_thread.specs.Beside.{CanRunWork, HasRunWork, HasGeometry, KeepsPairBlocks, WorkMayReturn, BelongToThread};
+ghost use Rattle.lfs_thread.specs.ThreadDevice.{GivesDeviceBack, CleanLossLeaves};
 ghost use Rattle.lfs_thread.specs.Kept.{IsCacheCurrent, IsKept, WasKeptOnDevice, disk_of_device, kept_in_order};
 ghost use Rattle.lfs_thread.specs.CachedLog.{IsContentLog, cached_log, loaded_cache, reads_unless_cached};
 ghost use Rattle.lfs_thread.specs.Moves.{CanMoveNext, IsNextMoved, LossLeavesNextMoved, pair_revision};
-ghost use Rattle.lfs_thread.specs.MountErrors.{IsViolationTrue, error_of_mount};
-ghost use Rattle.lfs_thread.specs.HeaderReading.{IsThreadReadFromDevice};
+ghost use Rattle.lfs_thread.specs.MountErrors.{IsThreadViolation, error_of_mount};
+ghost use Rattle.lfs_thread.specs.HeaderReading.{IsReadThread};
 ghost use Rattle.lfs_thread.specs.Unloads.{CanUnload, IsUnloaded, LossLeavesUnloaded};
-ghost use Rattle.lfs_thread.specs.ThreadSteps.{CanSplitAt, CanChangePair, CanDropNext, CanThreadIn, IoMeantFaultNoMemoryWroteNothing, IoMeantFaultNoMemoryKeptOtherBlocks, RefusesThreadingIn, IsThreadedIn, LossLeavesThreadedIn, IsPairCommitted, IsNextDropped, LossLeavesPairChanged, LossLeavesPairSplit, OnlyReadsThread, RefusesChanges, IsSplitInTwo, ChangesWithinReads, thread_pair_at};
+ghost use Rattle.lfs_thread.specs.ThreadSteps.{CanSplitAt, CanChangePair, CanDropNext, CanThreadIn, ThreadReportsErrors, ThreadReportsKeepingOthers, RefusesThreading, IsThreadedIn, LossLeavesThreaded, IsPairCommitted, IsNextDropped, LossLeavesPair, LossLeavesBoth, OnlyReadsThread, RefusesChanges, HasSplit, ChangesWithinReads, thread_pair};
 
 use crate::commits::commit_with_cache;
 use crate::deltas::headers_gstate;
@@ -91,9 +91,9 @@ impl<D: BlockDevice> Thread<D> {
     /// a read failed. `NoMemory` where memory for the headers, the map or a block and its slots
     /// isn't granted. The device comes back with an error.
     pub fn read(alloc: Global, mut device: D) -> Result<Thread<D>, (D, MountError)>
-        ensures read { IfOk result (IsThreadReadFromDevice D.BlockDevice device) }
-        ensures broken { IfErr result (λ e. IsViolationTrue (disk_of_device D.BlockDevice device) e.1) }
-        ensures back { IfErr result (λ e. GivesDeviceBackOnlyReadWithError D.BlockDevice device e.0 (error_of_mount e.1)) }
+        ensures read { IfOk result (IsReadThread D.BlockDevice device) }
+        ensures broken { IfErr result (λ e. IsThreadViolation (disk_of_device D.BlockDevice device) e.1) }
+        ensures back { IfErr result (λ e. GivesDeviceBack D.BlockDevice device e.0 (error_of_mount e.1)) }
     {
         let block_count = device.geometry().block_count;
         let mut pairs = Vec::new(alloc);
@@ -203,7 +203,7 @@ impl<D: BlockDevice> Thread<D> {
     /// the pair's number in the thread, from 0 on.
     pub fn blocks_of_pair(&self, index: usize) -> [u32; 2]
         requires { index < length self.now.kept.pairs }
-        ensures { array_address result ≡ (thread_pair_at self.now.kept index).at }
+        ensures { array_address result ≡ (thread_pair self.now.kept index).at }
     {
         self.pairs[index].blocks
     }
@@ -212,7 +212,7 @@ impl<D: BlockDevice> Thread<D> {
     pub fn slot_count(&self, index: usize) -> usize
         requires works { self.now.failed ≡ false }
         requires below { index < length self.now.kept.pairs }
-        ensures { result ≡ length (thread_pair_at self.now.kept index).content.slots }
+        ensures { result ≡ length (thread_pair self.now.kept index).content.slots }
     {
         self.pairs[index].slot_count
     }
@@ -221,7 +221,7 @@ impl<D: BlockDevice> Thread<D> {
     pub fn revision(&self, index: usize) -> u32
         requires works { self.now.failed ≡ false }
         requires below { index < length self.now.kept.pairs }
-        ensures { pair_revision self.now.kept.disk (thread_pair_at self.now.kept index).at ≡ Some result }
+        ensures { pair_revision self.now.kept.disk (thread_pair self.now.kept index).at ≡ Some result }
     {
         self.pairs[index].revision
     }
@@ -232,7 +232,7 @@ impl<D: BlockDevice> Thread<D> {
     pub fn next(&self, index: usize) -> Option<usize>
         requires works { self.now.failed ≡ false }
         requires below { index < length self.now.kept.pairs }
-        ensures next { result ≡ (if is_hard_tail (thread_pair_at self.now.kept index).content.tail then Some (index + 1) else None) }
+        ensures next { result ≡ (if is_hard_tail (thread_pair self.now.kept index).content.tail then Some (index + 1) else None) }
         ensures below { IfSome result (λ next. next < length self.now.kept.pairs) }
     {
         if has_hard_tail(self.pairs[index].tail) {
@@ -247,7 +247,7 @@ impl<D: BlockDevice> Thread<D> {
     pub fn tail_of_pair(&self, index: usize) -> Option<Tail>
         requires works { self.now.failed ≡ false }
         requires below { index < length self.now.kept.pairs }
-        ensures { option_map tail_view result ≡ (thread_pair_at self.now.kept index).content.tail }
+        ensures { option_map tail_view result ≡ (thread_pair self.now.kept index).content.tail }
     {
         self.pairs[index].tail
     }
@@ -256,7 +256,7 @@ impl<D: BlockDevice> Thread<D> {
     pub fn delta(&self, index: usize) -> MoveState
         requires works { self.now.failed ≡ false }
         requires below { index < length self.now.kept.pairs }
-        ensures { move_view result ≡ (thread_pair_at self.now.kept index).content.move }
+        ensures { move_view result ≡ (thread_pair self.now.kept index).content.move }
     {
         self.pairs[index].move_state
     }
@@ -274,7 +274,7 @@ impl<D: BlockDevice> Thread<D> {
         ensures only { OnlyReadsThread self.old.kept self.new.kept }
         ensures few { read_count self.new.kept.history ≤ read_count self.old.kept.history + 1 }
         ensures works { self.new.failed ≡ false }
-        ensures errors { IoMeantFaultNoMemoryWroteNothing self.old.kept self.new.kept result }
+        ensures errors { ThreadReportsErrors self.old.kept self.new.kept result }
         // The eight blocks that were loaded last stay cached.
         ensures recent { OnOk result (self.new.cache ≡ loaded_cache self.old index) }
     {
@@ -288,8 +288,8 @@ impl<D: BlockDevice> Thread<D> {
         requires works { self.now.failed ≡ false }
         requires below { index < length self.now.kept.pairs }
         ensures lent { result ≡ cached_log self.now index }
-        ensures holds { IfSome result (λ log. IsContentLog log (thread_pair_at self.now.kept index).content) }
-        ensures holder { IfSome result (λ log. current_block self.now.kept.disk (thread_pair_at self.now.kept index).at ≡ Some log) }
+        ensures holds { IfSome result (λ log. IsContentLog log (thread_pair self.now.kept index).content) }
+        ensures holder { IfSome result (λ log. current_block self.now.kept.disk (thread_pair self.now.kept index).at ≡ Some log) }
     {
         let pair = &self.pairs[index];
         match self.cache.lend(pair.active) {
@@ -317,7 +317,7 @@ impl<D: BlockDevice> Thread<D> {
         ensures bytes { IfOk result (λ n. take n buf.new ≡ slice_range (list_bytes self.old.kept.disk.blocks self.old.kept.disk.block_size head size) pos (pos + n)) }
         ensures only { OnlyReadsThread self.old.kept self.new.kept }
         ensures same { (self.new.failed ≡ false) × (self.new.cache ≡ self.old.cache) }
-        ensures errors { IoMeantFaultNoMemoryWroteNothing self.old.kept self.new.kept result }
+        ensures errors { ThreadReportsErrors self.old.kept self.new.kept result }
     {
         read_at(&mut self.device, head, size, pos, buf)
     }
@@ -346,7 +346,7 @@ impl<D: BlockDevice> Thread<D> {
         ensures blocks { AreKnownBlocks (struct_blocks self.old.kept.disk (Ctz head size)) known.new }
         ensures only { OnlyReadsThread self.old.kept self.new.kept }
         ensures works { self.new.failed ≡ false }
-        ensures errors { IoMeantFaultNoMemoryWroteNothing self.old.kept self.new.kept result }
+        ensures errors { ThreadReportsErrors self.old.kept self.new.kept result }
         ensures few { OnOk result (ReadsKnownList self.old.kept.disk.block_size size pos (length buf.old) known.old known.new self.old.kept.history self.new.kept.history) }
     {
         let goes_on = known.end == pos;
@@ -402,9 +402,9 @@ impl<D: BlockDevice> Thread<D> {
         ensures done { result ≡ Ok Outcome.Done → IsPairCommitted self.old.kept index (changes_view changes.now) self.new.kept }
         ensures full { result ≡ Ok Outcome.Full → RefusesChanges self.old.kept index (changes_view changes.now) self.new.kept }
         ensures failed { self.new.failed ≡ is_err result }
-        ensures errors { IoMeantFaultNoMemoryWroteNothing self.old.kept self.new.kept result }
-        ensures device { ChangesWithinReads (1 + reads_unless_cached (cached_log self.old index)) (address_blocks (thread_pair_at self.old.kept index).at) self.old.kept self.new.kept }
-        ensures stops { LossLeavesCleanly self.old.kept.history self.new.kept.history (LossLeavesPairChanged self.old.kept index (changes_view changes.now)) }
+        ensures errors { ThreadReportsErrors self.old.kept self.new.kept result }
+        ensures device { ChangesWithinReads (1 + reads_unless_cached (cached_log self.old index)) (address_blocks (thread_pair self.old.kept index).at) self.old.kept self.new.kept }
+        ensures stops { CleanLossLeaves self.old.kept.history self.new.kept.history (LossLeavesPair self.old.kept index (changes_view changes.now)) }
     {
         let outcome = commit_with_cache(
             alloc,
@@ -432,11 +432,11 @@ impl<D: BlockDevice> Thread<D> {
     ) -> Result<(), Error>
         requires works { self.old.failed ≡ false }
         requires can { CanSplitAt self.old.kept index (array_address fresh) (changes_view changes.now) }
-        ensures done { OnOk result (IsSplitInTwo self.old.kept index (array_address fresh) (changes_view changes.now) self.new.kept) }
+        ensures done { OnOk result (HasSplit self.old.kept index (array_address fresh) (changes_view changes.now) self.new.kept) }
         ensures failed { self.new.failed ≡ is_err result }
-        ensures errors { IoMeantFaultNoMemoryWroteNothing self.old.kept self.new.kept result }
-        ensures device { ChangesWithinReads (3 + reads_unless_cached (cached_log self.old index)) (addresses_blocks (thread_pair_at self.old.kept index).at (array_address fresh)) self.old.kept self.new.kept }
-        ensures stops { LossLeavesCleanly self.old.kept.history self.new.kept.history (LossLeavesPairSplit self.old.kept index (array_address fresh) (changes_view changes.now)) }
+        ensures errors { ThreadReportsErrors self.old.kept self.new.kept result }
+        ensures device { ChangesWithinReads (3 + reads_unless_cached (cached_log self.old index)) (addresses_blocks (thread_pair self.old.kept index).at (array_address fresh)) self.old.kept self.new.kept }
+        ensures stops { CleanLossLeaves self.old.kept.history self.new.kept.history (LossLeavesBoth self.old.kept index (array_address fresh) (changes_view changes.now)) }
     {
         let result = split_pair(
             alloc,
@@ -471,11 +471,11 @@ impl<D: BlockDevice> Thread<D> {
         requires works { self.old.failed ≡ false }
         requires can { CanThreadIn self.old.kept index (array_address fresh) (changes_view changes.now) }
         ensures done { result ≡ Ok Outcome.Done → IsThreadedIn self.old.kept index (array_address fresh) (changes_view changes.now) self.new.kept }
-        ensures full { result ≡ Ok Outcome.Full → RefusesThreadingIn self.old.kept index (array_address fresh) (changes_view changes.now) self.new.kept }
+        ensures full { result ≡ Ok Outcome.Full → RefusesThreading self.old.kept index (array_address fresh) (changes_view changes.now) self.new.kept }
         ensures failed { self.new.failed ≡ is_err result }
-        ensures errors { IoMeantFaultNoMemoryKeptOtherBlocks (address_blocks (array_address fresh)) self.old.kept self.new.kept result }
-        ensures device { ChangesWithinReads (3 + reads_unless_cached (cached_log self.old index)) (addresses_blocks (thread_pair_at self.old.kept index).at (array_address fresh)) self.old.kept self.new.kept }
-        ensures stops { LossLeavesCleanly self.old.kept.history self.new.kept.history (LossLeavesThreadedIn self.old.kept index (array_address fresh) (changes_view changes.now)) }
+        ensures errors { ThreadReportsKeepingOthers (address_blocks (array_address fresh)) self.old.kept self.new.kept result }
+        ensures device { ChangesWithinReads (3 + reads_unless_cached (cached_log self.old index)) (addresses_blocks (thread_pair self.old.kept index).at (array_address fresh)) self.old.kept self.new.kept }
+        ensures stops { CleanLossLeaves self.old.kept.history self.new.kept.history (LossLeavesThreaded self.old.kept index (array_address fresh) (changes_view changes.now)) }
     {
         let outcome = thread_in_pair(
             alloc,
@@ -507,9 +507,9 @@ impl<D: BlockDevice> Thread<D> {
         ensures done { result ≡ Ok Outcome.Done → IsNextDropped self.old.kept index (changes_view changes.now) self.new.kept }
         ensures full { result ≡ Ok Outcome.Full → RefusesChanges self.old.kept index (changes_view changes.now) self.new.kept }
         ensures failed { self.new.failed ≡ is_err result }
-        ensures errors { IoMeantFaultNoMemoryWroteNothing self.old.kept self.new.kept result }
-        ensures device { ChangesWithinReads (1 + reads_unless_cached (cached_log self.old index)) (address_blocks (thread_pair_at self.old.kept index).at) self.old.kept self.new.kept }
-        ensures stops { LossLeavesCleanly self.old.kept.history self.new.kept.history (LossLeavesPairChanged self.old.kept index (changes_view changes.now)) }
+        ensures errors { ThreadReportsErrors self.old.kept self.new.kept result }
+        ensures device { ChangesWithinReads (1 + reads_unless_cached (cached_log self.old index)) (address_blocks (thread_pair self.old.kept index).at) self.old.kept self.new.kept }
+        ensures stops { CleanLossLeaves self.old.kept.history self.new.kept.history (LossLeavesPair self.old.kept index (changes_view changes.now)) }
     {
         let outcome = drop_next_pair(
             alloc,
@@ -537,9 +537,9 @@ impl<D: BlockDevice> Thread<D> {
         requires can { CanMoveNext self.old.kept index (array_address fresh) }
         ensures done { OnOk result (IsNextMoved self.old.kept index (array_address fresh) self.new.kept) }
         ensures failed { self.new.failed ≡ is_err result }
-        ensures errors { IoMeantFaultNoMemoryKeptOtherBlocks (address_blocks (array_address fresh)) self.old.kept self.new.kept result }
-        ensures device { ChangesWithinReads (4 + reads_unless_cached (cached_log self.old index)) (addresses_blocks (thread_pair_at self.old.kept index).at (array_address fresh)) self.old.kept self.new.kept }
-        ensures stops { LossLeavesCleanly self.old.kept.history self.new.kept.history (LossLeavesNextMoved self.old.kept index (array_address fresh)) }
+        ensures errors { ThreadReportsKeepingOthers (address_blocks (array_address fresh)) self.old.kept self.new.kept result }
+        ensures device { ChangesWithinReads (4 + reads_unless_cached (cached_log self.old index)) (addresses_blocks (thread_pair self.old.kept index).at (array_address fresh)) self.old.kept self.new.kept }
+        ensures stops { CleanLossLeaves self.old.kept.history self.new.kept.history (LossLeavesNextMoved self.old.kept index (array_address fresh)) }
     {
         let result = move_next_pair(
             alloc,
@@ -573,9 +573,9 @@ impl<D: BlockDevice> Thread<D> {
         requires can { CanUnload self.old.kept index (array_address fresh) keep }
         ensures done { OnOk result (IsUnloaded self.old.kept index (array_address fresh) keep self.new.kept) }
         ensures failed { self.new.failed ≡ is_err result }
-        ensures errors { IoMeantFaultNoMemoryKeptOtherBlocks (address_blocks (array_address fresh)) self.old.kept self.new.kept result }
-        ensures device { ChangesWithinReads (4 + reads_unless_cached (cached_log self.old index)) (addresses_blocks (thread_pair_at self.old.kept index).at (array_address fresh)) self.old.kept self.new.kept }
-        ensures stops { LossLeavesCleanly self.old.kept.history self.new.kept.history (LossLeavesUnloaded self.old.kept index (array_address fresh) keep) }
+        ensures errors { ThreadReportsKeepingOthers (address_blocks (array_address fresh)) self.old.kept self.new.kept result }
+        ensures device { ChangesWithinReads (4 + reads_unless_cached (cached_log self.old index)) (addresses_blocks (thread_pair self.old.kept index).at (array_address fresh)) self.old.kept self.new.kept }
+        ensures stops { CleanLossLeaves self.old.kept.history self.new.kept.history (LossLeavesUnloaded self.old.kept index (array_address fresh) keep) }
     {
         let result = unload_pair(
             alloc,
@@ -596,10 +596,10 @@ impl<D: BlockDevice> Thread<D> {
     /// in the map. The cache is empty afterwards.
     pub fn run_on_device<X, F: FnOnce(&mut D, &mut BlockMap) -> X>(&mut self, work: F) -> X
         requires works { self.old.failed ≡ false }
-        requires can { (device : D) (map : BlockMap) → AreDeviceAndMapOfThread D.BlockDevice self.old.kept device map → CanCallClosureOnDeviceAndMap F.FnOnce work device map }
-        requires leaves { (device : D) (map : BlockMap) (x : X) (later : D) (later_map : BlockMap) → AreDeviceAndMapOfThread D.BlockDevice self.old.kept device map
-            → MayClosureOnDeviceAndMapReturn F.FnOnce work device map x later later_map → LeavesUsedBlocksOfPairsUnchangedAndUsed D.BlockDevice self.old.kept device map later later_map }
-        ensures ran { HasRunWorkOnDeviceAndMap D.BlockDevice F.FnOnce work self.old.kept result self.new.kept }
+        requires can { (device : D) (map : BlockMap) → BelongToThread D.BlockDevice self.old.kept device map → CanRunWork F.FnOnce work device map }
+        requires leaves { (device : D) (map : BlockMap) (x : X) (later : D) (later_map : BlockMap) → BelongToThread D.BlockDevice self.old.kept device map
+            → WorkMayReturn F.FnOnce work device map x later later_map → KeepsPairBlocks D.BlockDevice self.old.kept device map later later_map }
+        ensures ran { HasRunWork D.BlockDevice F.FnOnce work self.old.kept result self.new.kept }
         ensures pairs { self.new.kept.pairs ≡ self.old.kept.pairs }
         ensures works { self.new.failed ≡ false }
         ensures cache { self.new.cache ≡ [] }
@@ -639,7 +639,7 @@ impl<D: BlockDevice> Thread<D> {
 
     /// Returns the geometry of the device.
     pub fn geometry(&self) -> Geometry
-        ensures { HasGeometryOf result self.now.kept.disk }
+        ensures { HasGeometry result self.now.kept.disk }
     {
         self.device.geometry()
     }

@@ -1,60 +1,55 @@
 -- What was done of the items that are unpacked.
 use Rattle.std.proofs.Common.{ℕ, zero, suc, ◌≡◌, ◌<◌, ◌+◌, ◌∙◌, ◌++◌, List, [], ◌∷◌, Option, Some, None, Result, Ok, Err, ap, add-one, append_assoc, arith, get_or, length, refl, subst, sym, take}
 use Rattle.std.specs.Prelude.{OnErr}
-use Rattle.lfs_model.specs.format.Disk.{Disk}
-use Rattle.lfs_model.specs.layers.Listing.{UnpackingAction}
-use Rattle.lfs_model.specs.tree.View.{IsWellFormedCtz}
+use Rattle.lfs_tool.proofs.Common.{Disk, UnpackingAction, IsFormedList, OnlyReadsThread, owned_view, tree_items_view, HaveFormedLists, HasBegun, HasDone, place_action, place_actions}
 use Rattle.lfs_model.proofs.Histories.{OnlyReadsSince-trans}
 use Rattle.lfs_thread.specs.Kept.{KeptThread}
-use Rattle.lfs_thread.specs.ThreadSteps.{OnlyReadsThread}
-use Rattle.lfs_lookup.specs.Items.{owned_view}
-use Rattle.lfs_lookup.specs.TreeWalk.{tree_item_view, tree_items_view}
+use Rattle.lfs_lookup.specs.TreeWalk.{tree_item_view}
 use Rattle.lfs_lookup.specs.declared.walks.TreeItem.{TreeItem}
 use Rattle.lfs_tool_folders.specs.Actions.{AddsAction}
-use Rattle.lfs_tool.specs.Unpackings.{HaveFormedLists, HasBegunActions, HasDoneFurther, tree_entry_action, tree_entry_actions}
 
-list_of : (disk : Disk) (items : List TreeItem) (i : ℕ) (d : TreeItem) → HaveFormedLists disk (tree_items_view items) → i < length items → IsWellFormedCtz disk (owned_view (get_or items i d).structure)
+list_of : (disk : Disk) (items : List TreeItem) (i : ℕ) (d : TreeItem) → HaveFormedLists disk (tree_items_view items) → i < length items → IsFormedList disk (owned_view (get_or items i d).structure)
 list_of disk [] i d h l = absurd (omega arith)
 list_of disk (x ∷ xs) zero d h l = h.0
 list_of disk (x ∷ xs) (suc i) d h l = list_of disk xs i d h.1 (omega arith)
 
 pub list_at : (disk now : Disk) (items : List TreeItem) (i : ℕ) (x : TreeItem) → now ≡ disk → HaveFormedLists disk (tree_items_view items) → i < length items → x ≡ get_or items i x
-    → IsWellFormedCtz now (owned_view x.structure)
-list_at disk now items i x same h l at = subst (λ d. IsWellFormedCtz d (owned_view x.structure)) (sym same) (subst (λ z. IsWellFormedCtz disk (owned_view z.structure)) (sym at) (list_of disk items i x h l))
+    → IsFormedList now (owned_view x.structure)
+list_at disk now items i x same h l at = subst (λ d. IsFormedList d (owned_view x.structure)) (sym same) (subst (λ z. IsFormedList disk (owned_view z.structure)) (sym at) (list_of disk items i x h l))
 
 -- ---- one action more
 
 actions_more : (disk : Disk) (items : List TreeItem) (i : ℕ) (d : TreeItem) → i < length items
-    → tree_entry_actions disk (tree_items_view (take (suc i) items)) ≡ tree_entry_actions disk (tree_items_view (take i items)) ++ tree_entry_action disk (tree_item_view (get_or items i d)) ∷ []
+    → place_actions disk (tree_items_view (take (suc i) items)) ≡ place_actions disk (tree_items_view (take i items)) ++ place_action disk (tree_item_view (get_or items i d)) ∷ []
 actions_more disk [] i d l = absurd (omega arith)
 actions_more disk (x ∷ xs) zero d l = refl
-actions_more disk (x ∷ xs) (suc i) d l = ap (λ more. tree_entry_action disk (tree_item_view x) ∷ more) (actions_more disk xs i d (omega arith))
+actions_more disk (x ∷ xs) (suc i) d l = ap (λ more. place_action disk (tree_item_view x) ∷ more) (actions_more disk xs i d (omega arith))
 
-done_more : (first mid last : Option (List UnpackingAction)) (some : List UnpackingAction) (a : UnpackingAction) → HasDoneFurther first mid some → AddsAction mid last a → HasDoneFurther first last (some ++ a ∷ [])
+done_more : (first mid last : Option (List UnpackingAction)) (some : List UnpackingAction) (a : UnpackingAction) → HasDone first mid some → AddsAction mid last a → HasDone first last (some ++ a ∷ [])
 done_more None mid last some a h more = tt
 done_more (Some old) None last some a h more = absurd h
 done_more (Some old) (Some m) None some a h more = absurd more
 done_more (Some old) (Some m) (Some l) some a h more = more ∙ ap (λ xs. xs ++ a ∷ []) h ∙ append_assoc old some (a ∷ [])
 
 pub done_item : (disk now : Disk) (items : List TreeItem) (i : ℕ) (x : TreeItem) (first mid last : Option (List UnpackingAction)) → now ≡ disk → i < length items → x ≡ get_or items i x
-    → HasDoneFurther first mid (tree_entry_actions disk (tree_items_view (take i items))) → AddsAction mid last (tree_entry_action now (tree_item_view x)) → HasDoneFurther first last (tree_entry_actions disk (tree_items_view (take (i + 1) items)))
+    → HasDone first mid (place_actions disk (tree_items_view (take i items))) → AddsAction mid last (place_action now (tree_item_view x)) → HasDone first last (place_actions disk (tree_items_view (take (i + 1) items)))
 done_item disk now items i x first mid last same l at h more =
-    let here = subst (λ d. AddsAction mid last (tree_entry_action d (tree_item_view x))) same more in
-    let there = subst (λ z. AddsAction mid last (tree_entry_action disk (tree_item_view z))) at here in
-    subst (HasDoneFurther first last) (sym (ap (λ k. tree_entry_actions disk (tree_items_view (take k items))) (add-one i) ∙ actions_more disk items i x l)) (done_more first mid last _ _ h there)
+    let here = subst (λ d. AddsAction mid last (place_action d (tree_item_view x))) same more in
+    let there = subst (λ z. AddsAction mid last (place_action disk (tree_item_view z))) at here in
+    subst (HasDone first last) (sym (ap (λ k. place_actions disk (tree_items_view (take k items))) (add-one i) ∙ actions_more disk items i x l)) (done_more first mid last _ _ h there)
 
 -- ---- a beginning
 
-actions_take : (disk : Disk) (items : List TreeItem) (i : ℕ) → take i (tree_entry_actions disk (tree_items_view items)) ≡ tree_entry_actions disk (tree_items_view (take i items))
+actions_take : (disk : Disk) (items : List TreeItem) (i : ℕ) → take i (place_actions disk (tree_items_view items)) ≡ place_actions disk (tree_items_view (take i items))
 actions_take disk [] zero = refl
 actions_take disk [] (suc i) = refl
 actions_take disk (x ∷ xs) zero = refl
-actions_take disk (x ∷ xs) (suc i) = ap (λ more. tree_entry_action disk (tree_item_view x) ∷ more) (actions_take disk xs i)
+actions_take disk (x ∷ xs) (suc i) = ap (λ more. place_action disk (tree_item_view x) ∷ more) (actions_take disk xs i)
 
-pub begun_item : (disk : Disk) (items : List TreeItem) (i : ℕ) (first mid last : Option (List UnpackingAction)) → HasDoneFurther first mid (tree_entry_actions disk (tree_items_view (take i items))) → last ≡ mid
-    → HasBegunActions first last (tree_entry_actions disk (tree_items_view items))
+pub begun_item : (disk : Disk) (items : List TreeItem) (i : ℕ) (first mid last : Option (List UnpackingAction)) → HasDone first mid (place_actions disk (tree_items_view (take i items))) → last ≡ mid
+    → HasBegun first last (place_actions disk (tree_items_view items))
 begun_item disk items i first mid last h same =
-    (i, subst (HasDoneFurther first last) (sym (actions_take disk items i)) (subst (λ o. HasDoneFurther first o (tree_entry_actions disk (tree_items_view (take i items)))) (sym same) h))
+    (i, subst (HasDone first last) (sym (actions_take disk items i)) (subst (λ o. HasDone first o (place_actions disk (tree_items_view (take i items)))) (sym same) h))
 
 pub at_error : {X E : Type 0} (r : Result X E) (P : Type 0) → P → OnErr r P
 at_error (Ok x) P h = tt

@@ -1,14 +1,9 @@
 -- What was found beneath the root, counted.
 use Rattle.std.proofs.Common.{◌≡◌, ◌∙◌, ◌+◌, Bool, cond, suc, List, [], ◌∷◌, length, count_by, refl, sym, ap, ap₂}
 use Rattle.std.proofs.lemmas.List.Sums.{sum_by-cons}
-use Rattle.lfs_model.specs.format.Disk.{Disk}
-use Rattle.lfs_model.specs.layers.Listing.{PathNode}
-use Rattle.lfs_model.specs.format.Slots.{Branch, Ctz, Inline, Struct}
-use Rattle.lfs_model.specs.tree.Tree.{Node}
-use Rattle.lfs_lookup.specs.Items.{owned_view}
-use Rattle.lfs_lookup.specs.TreeWalk.{AreTreeItems, IsStructNode, tree_items_view}
+use Rattle.lfs_tool.proofs.Common.{Disk, PathNode, Branch, Ctz, Inline, Struct, Node, owned_view, AreTreeItems, IsStructNode, tree_items_view, is_file_item}
 use Rattle.lfs_lookup.specs.declared.walks.TreeItem.{TreeItem}
-use Rattle.lfs_tool.specs.ImageSummaries.{is_file_entry, is_file_item, is_file_node, is_file_struct}
+use Rattle.lfs_tool.specs.ImageSummaries.{is_file_entry, is_file_node, is_file_struct}
 
 file_alike : (disk : Disk) (s : Struct) (n : Node) → IsStructNode disk s n → is_file_struct s ≡ is_file_node n
 file_alike disk (Inline bytes) n (attributes, is) = ap is_file_node (sym is)

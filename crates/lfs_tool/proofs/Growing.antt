@@ -1,22 +1,11 @@
 -- Entries come into a tree one after another, each folder before what stands in it. What they make is the source's tree.
 use Rattle.std.proofs.Common.{ℕ, zero, suc, ◌≡◌, ◌∙◌, ◌≤◌, ◌++◌, Bool, true, false, cond, List, [], ◌∷◌, length, Option, Some, None, refl, sym, ap, subst, arith, append_assoc, append-nil, length-append, option_and_then, option_map}
-use Rattle.std.proofs.lemmas.List.Sorted.{IsPermutation-map}
-use Rattle.std.proofs.lemmas.List.Elements.{recursion_from_All}
+use Rattle.lfs_tool.proofs.Common.{IsPermutation-map, recursion_from_All, Name, is_component, name_cmp, Path, FileNode, DirectoryNode, Tree, tree_creating, names_with, node_with_names, empty_tree, path_bytes, AFile, AFolder, IsSourceTree, IsSourceNode, TreeSource, is_named_folder, source_names, path_in_folder, node_at, path_or_root, Each, each_append, each_both, each_weaker, append_step, not_longer, optional_view, AreSourceEntries, AreDepthFirst, AreFolderNames, HasSourceContents, PathKind, paths_in_folder, node_of_bytes}
 use Rattle.std.specs.declared.cmp.Ordering.TheVariants.{Less}
 use Rattle.lfs_model.specs.declared.order.NameOrder.TheVariants.{ShorterFirst}
-use Rattle.lfs_model.specs.format.Names.{Name, is_component, name_cmp}
-use Rattle.lfs_model.specs.tree.Tree.{Path, FileNode, DirectoryNode, Tree}
-use Rattle.lfs_model.specs.session.TreeEdits.{tree_creating, names_with, node_with_names}
-use Rattle.lfs_model.specs.tree.Fresh.{empty_tree}
-use Rattle.lfs_model.specs.session.Operations.{path_bytes}
-use Rattle.lfs_model.specs.layers.Source.{AFile, AFolder, IsSourceTree, IsSourceNode, TreeSource, SourceNode, file_at_end, is_some_folder, source_names, path_in_folder, node_at}
-use Rattle.lfs_model.specs.session.Refusals.{path_or_root}
-use Rattle.lfs_model.proofs.Counts.{Each, each_append, each_both, each_weaker}
-use Rattle.lfs_model.proofs.Paths.{append_step, cancel, not_longer}
-use Rattle.lfs_tool_folders.specs.MemorySources.{optional_view}
-use Rattle.lfs_tool_folders.specs.SourceEntries.{AreSourceEntries, AreDepthFirst, AreFolderNames, HasSourceContents, PathKind, paths_in_folder}
+use Rattle.lfs_model.specs.layers.Source.{SourceNode, file_at_end}
+use Rattle.lfs_model.proofs.Paths.{cancel}
 use Rattle.lfs_tool_folders.specs.declared.entries.SourceEntry.{SourceEntry}
-use Rattle.lfs_tool.specs.AppliedOperations.{node_of_bytes}
 use Rattle.lfs_tool.proofs.NamesGiven.{Rising, before_it, each_given, each_names, kind_moved, less_unlike, name_at_end, none_given, rising_from, rising_right}
 use Rattle.lfs_tool.proofs.PathPlaces.{AreComponents, added_above, added_aside, added_there, path_more, read_back}
 
@@ -73,18 +62,18 @@ abbrev ShowsName : TreeSource → Path → Tree → Name × Bool → Type 0
 ShowsName s f new g = (rest : Path) → IsSourceNode (beneath s (path_in_folder (path_bytes f) g.0) rest g.1) (new (f ++ g.0 ∷ rest))
 
 -- the folder has these names, and nothing else stands in it
-record IsWhole (s : TreeSource) (f : Path) (within : List (Name × Bool)) (new : Tree) : Type 0 where
+record IsWholeImage (s : TreeSource) (f : Path) (within : List (Name × Bool)) (new : Tree) : Type 0 where
   folder : new f ≡ Some (DirectoryNode [] (source_names within))
   below : Each (ShowsName s f new) within
   nothing : (m : Name) (rest : Path) → Each (λ g. m ≡ g.0 → ⊥) within → new (f ++ m ∷ rest) ≡ None
 
-whole_shows : (s : TreeSource) (f : Path) (within : List (Name × Bool)) (new : Tree) → AreFolderNames (Some s) (path_bytes f) within → IsWhole s f within new → (rest : Path) → IsSourceNode (node_at s (path_bytes f) rest) (new (f ++ rest))
+whole_shows : (s : TreeSource) (f : Path) (within : List (Name × Bool)) (new : Tree) → AreFolderNames (Some s) (path_bytes f) within → IsWholeImage s f within new → (rest : Path) → IsSourceNode (node_at s (path_bytes f) rest) (new (f ++ rest))
 whole_shows s f within new w h [] = subst (IsSourceNode (Some (AFolder (source_names (s.names (path_bytes f)))))) (sym (ap new (append-nil f) ∙ h.folder))
     (refl, IsPermutation-map (λ (g : Name × Bool). g.0) (s.names (path_bytes f)) within w.names, w.order.rise)
 whole_shows s f within new w h (m ∷ rest) =
-    subst (λ k. IsSourceNode (option_and_then (beneath s (path_in_folder (path_bytes f) m) rest) k) (new (f ++ m ∷ rest))) (sym (kind_moved (s.names (path_bytes f)) within w.names (rising_from (source_names within) w.order.rise) m)) (go (is_some_folder m within) refl)
+    subst (λ k. IsSourceNode (option_and_then (beneath s (path_in_folder (path_bytes f) m) rest) k) (new (f ++ m ∷ rest))) (sym (kind_moved (s.names (path_bytes f)) within w.names (rising_from (source_names within) w.order.rise) m)) (go (is_named_folder m within) refl)
   where
-    go : (o : Option Bool) → is_some_folder m within ≡ o → IsSourceNode (option_and_then (beneath s (path_in_folder (path_bytes f) m) rest) o) (new (f ++ m ∷ rest))
+    go : (o : Option Bool) → is_named_folder m within ≡ o → IsSourceNode (option_and_then (beneath s (path_in_folder (path_bytes f) m) rest) o) (new (f ++ m ∷ rest))
     go None e = subst (IsSourceNode None) (sym (h.nothing m rest (none_given m within e))) tt
     go (Some k) e = each_given (ShowsName s f new) m within k e h.below rest
 

@@ -6,31 +6,23 @@ use Rattle.lfs_device.specs.declared.error.Error.TheVariants.{NoMemory}
 use Rattle.std.proofs.lemmas.Nat.{div-mul-add, mod-mul-add}
 use Rattle.lfs_device.specs.DeviceDisk as device
 use Rattle.lfs_device.specs.declared.geometry.Geometry.{Geometry}
-use Rattle.lfs_device.specs.RamDevice.{ram_geometry, ram_blocks, ram_bytes}
+use Rattle.lfs_tool.proofs.Common.{ram_geometry, ram_blocks, ram_bytes, Disk, block_count, ordered_disk, disk_of_image, IsFreshDisk, empty_tree, session_after_all, SystemState, Session, IsSourceTree, TreeSource, Healthy, SessionHealth, is_remount, mounted_session, IsAccepted, Each, fresh_defined, SessionView, system_state, AreSourceEntries, AreApplied, IsFirstRefusal, entry_copying, entries_copying, RefusesEntries}
 use Rattle.lfs_device.specs.declared.ram.RamDevice.{RamDevice}
 use Rattle.lfs_model.specs.format.Blocks.{cut}
 use Rattle.lfs_model.specs.format.Content.{content_at}
-use Rattle.lfs_model.specs.format.Disk.{Disk, SameGeometry, block_count, ordered_disk, disk_of_image}
-use Rattle.lfs_model.specs.tree.Fresh.{IsFreshDisk, empty_tree}
+use Rattle.lfs_model.specs.format.Disk.{SameGeometry}
 use Rattle.lfs_model.specs.format.Geometry.{IsValidGeometry}
-use Rattle.lfs_model.specs.session.Headline.{IsRecoveredDisk, HasDiskTree, session_after_all}
-use Rattle.lfs_model.specs.session.Run.{SystemState}
-use Rattle.lfs_model.specs.session.Session.{Session}
-use Rattle.lfs_model.specs.layers.Source.{IsSourceTree, TreeSource}
-use Rattle.lfs_model.specs.session.State.{HasFailed, Healthy, SessionHealth, is_remount, mounted_session}
-use Rattle.lfs_model.specs.tree.View.{IsAccepted}
+use Rattle.lfs_model.specs.session.Headline.{IsRecoveredDisk, HasDiskTree}
+use Rattle.lfs_model.specs.session.State.{HasFailed}
 use Rattle.lfs_model.specs.declared.order.NameOrder.{NameOrder}
 use Rattle.lfs_model.specs.tree.Profile.{IsWritable}
-use Rattle.lfs_model.specs.tree.Shown.{tree_on_disk}
-use Rattle.lfs_model.proofs.Counts.{Each, each_always, each_joined}
+use Rattle.lfs_model.specs.tree.Shown.{disk_tree}
+use Rattle.lfs_model.proofs.Counts.{each_always, each_joined}
 use Rattle.lfs_model.proofs.Cuts.{length-cut}
-use Rattle.lfs_model.proofs.Kept.{fresh_defined, fresh_settled, fresh_true}
+use Rattle.lfs_model.proofs.Kept.{fresh_settled, fresh_true}
 use Rattle.lfs_model.proofs.Uniqueness.{one_thread}
-use Rattle.lfs_fs.specs.SessionView.{SessionView, system_state}
-use Rattle.lfs_tool_folders.specs.SourceEntries.{AreSourceEntries}
 use Rattle.lfs_tool_folders.specs.declared.entries.SourceEntry.{SourceEntry}
-use Rattle.lfs_tool.specs.AppliedOperations.{AreApplied, IsFirstRefusal, entry_copying, entries_copying}
-use Rattle.lfs_tool.specs.MadeImages.{AreImageBytes, BeginsOnFreshDisk, IsSourceImage, RefusesEntries}
+use Rattle.lfs_tool.specs.MadeImages.{AreImageBytes, BeginsFresh, IsSourceImage}
 use Rattle.lfs_tool.proofs.Growing.{carried_tree, tree_after}
 use Rattle.lfs_fs.proofs.StepShapes.{steps_keep_order, steps_keep_shape}
 use Rattle.lfs_tool.proofs.Refusing.{IsFromFresh, anywhere, comes, has_carried, no_remount}
@@ -38,7 +30,7 @@ use Rattle.lfs_tool.proofs.Refusing.{IsFromFresh, anywhere, comes, has_carried, 
 -- ---- the geometry
 
 pub begins : (g : Geometry) (o : NameOrder) (d : RamDevice) (h : SessionView) → ram_geometry d ≡ g → IsFreshDisk h.tree.disk → (system_state h).state ≡ Healthy (mounted_session empty_tree) → SameGeometry (ordered_disk o (device.disk_of_blocks (ram_geometry d) (ram_blocks d))) h.tree.disk
-    → BeginsOnFreshDisk g o (system_state h)
+    → BeginsFresh g o (system_state h)
 begins g o d h is fresh state same = record {
   fresh = fresh;
   block_size = same.block_size ∙ ap (λ (x : Geometry). x.block_size) is;
@@ -63,7 +55,7 @@ some_bytes : (g : Geometry) → 1 ≤ g.block_size
 some_bytes g = let least : 1024 ≤ g.block_size = g.valid.no_smaller in omega (arith, least)
 
 -- what the run left in the device
-pub left : (g : Geometry) (o : NameOrder) (from to : SystemState) (es : List SourceEntry) (d : RamDevice) (bytes : List ℕ) → BeginsOnFreshDisk g o from → AreApplied from (entries_copying es) to
+pub left : (g : Geometry) (o : NameOrder) (from to : SystemState) (es : List SourceEntry) (d : RamDevice) (bytes : List ℕ) → BeginsFresh g o from → AreApplied from (entries_copying es) to
     → ordered_disk to.disk.order (device.disk_of_blocks (ram_geometry d) (ram_blocks d)) ≡ to.disk
     → bytes ≡ ram_bytes d → AreImageBytes g o es bytes
 left g o from to es d bytes b c shown is =
@@ -122,18 +114,18 @@ made g o known es bytes all l = record {
     after = same_session t.session (session_after_all anywhere (mounted_session empty_tree) (flat_map entry_copying es) l.carried.replies)
         (sym t.healthy ∙ fresh_defined (entries_copying es) l.carried.replies l.to anywhere (comes l.from l.to (entries_copying es) (record { fresh = l.begins.fresh; mounts = l.begins.mounts }) l.carried))
 
-    shows : (k : Option TreeSource) → AreSourceEntries k es → IfSome k (λ src. IsSourceTree src (tree_on_disk (disk_of_image g.block_size g.page g.profile o bytes) s.pairs))
+    shows : (k : Option TreeSource) → AreSourceEntries k es → IfSome k (λ src. IsSourceTree src (disk_tree (disk_of_image g.block_size g.page g.profile o bytes) s.pairs))
     shows None a = tt
     shows (Some src) a =
         let whole = carried_tree src es a in
         let one = one_thread (content_at l.to.disk) (block_count l.to.disk) s.pairs t.shows.0 s.accepted.thread t.shows.1.0.thread in
-        let tree : tree_on_disk l.to.disk s.pairs ≡ tree_after es empty_tree =
-        ap (tree_on_disk l.to.disk) one ∙ sym t.shows.1.1 ∙ ap (λ (x : Session). x.tree) after ∙ (has_carried l.from l.to es (record { fresh = l.begins.fresh; mounts = l.begins.mounts }) l.carried).tree whole.new in
-        subst (IsSourceTree src) (sym tree ∙ ap (λ k. tree_on_disk k s.pairs) l.disk) whole.tree
+        let tree : disk_tree l.to.disk s.pairs ≡ tree_after es empty_tree =
+        ap (disk_tree l.to.disk) one ∙ sym t.shows.1.1 ∙ ap (λ (x : Session). x.tree) after ∙ (has_carried l.from l.to es (record { fresh = l.begins.fresh; mounts = l.begins.mounts }) l.carried).tree whole.new in
+        subst (IsSourceTree src) (sym tree ∙ ap (λ k. disk_tree k s.pairs) l.disk) whole.tree
 
 -- ---- what is passed on
 
-pub refused : {X : Type 0} (r : Result X Error) (e : Error) (g : Geometry) (o : NameOrder) (from : SystemState) (es : List SourceEntry) → IsErrAnd r (λ f. f ≡ e) → BeginsOnFreshDisk g o from → (e ≢ NoMemory → IsFirstRefusal from (entries_copying es) e)
+pub refused : {X : Type 0} (r : Result X Error) (e : Error) (g : Geometry) (o : NameOrder) (from : SystemState) (es : List SourceEntry) → IsErrAnd r (λ f. f ≡ e) → BeginsFresh g o from → (e ≢ NoMemory → IsFirstRefusal from (entries_copying es) e)
     → IfErr r (λ f. f ≢ NoMemory → RefusesEntries g o es f)
 refused (Ok x) e g o from es is b h = tt
 refused (Err f) e g o from es is b h = λ other. record { from = from; begins = b; first = subst (IsFirstRefusal from (entries_copying es)) (sym is) (h (λ x. other (is ∙ x))) }

@@ -1,10 +1,10 @@
 -- What several calls in a row do to known bytes.
 use Rattle.std.proofs.Common.{◌≡◌, ◌∙◌, ◌++◌, ◌+◌, ◌-◌, ◌≤◌, ◌<◌, ap, ap₂, inl, inr, ℕ, List, [], Option, Some, None, append_assoc, arith, drop, length, length-append, refl, sym, take}
 use Rattle.std.specs.Prelude.{IfSome}
-use Rattle.std.specs.Io.KnownBytes.{Appends, Consumes, IsAtEnd, Keeps}
-use Rattle.lfs_tool.specs.Reports.{IsReadToEnd}
+use Rattle.lfs_tool.proofs.Common.{Appends, Consumes, Keeps, IsReadToEnd, append-nil, take_all}
+use Rattle.std.specs.Io.KnownBytes.{IsAtEnd}
 use Rattle.std.proofs.Math.Seq.{take-add, take-append_seam}
-use Rattle.std.proofs.lemmas.List.{append-nil, length-drop, length-take-le, take_all}
+use Rattle.std.proofs.lemmas.List.{length-drop, length-take-le}
 
 rest_whole : (a : ℕ) (bs : List ℕ) → take (length bs - a) (drop a bs) ≡ drop a bs
 rest_whole a bs = take_all _ (drop a bs) (omega (arith, length-drop a bs))

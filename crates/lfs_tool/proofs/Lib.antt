@@ -17,3 +17,4 @@ mod Runs
 mod Refusing
 mod ImagesMade
 mod Walking
+pub mod Common

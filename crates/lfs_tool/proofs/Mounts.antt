@@ -2,13 +2,9 @@
 use Rattle.std.proofs.Common.{◌≡◌, ◌<◌, List, inl, inr, arith, subst, sym}
 use Rattle.lfs_device.specs.declared.error.Error.{Error}
 use Rattle.lfs_device.specs.declared.error.Error.TheVariants.{Corrupt, Io}
-use Rattle.lfs_model.specs.format.Disk.{ordered_disk, Disk}
-use Rattle.lfs_model.specs.session.History.{CallEvent, fault_count}
-use Rattle.lfs_model.specs.format.Thread.{Pair}
-use Rattle.lfs_model.specs.tree.View.{IsAccepted}
+use Rattle.lfs_tool.proofs.Common.{ordered_disk, Disk, CallEvent, fault_count, Pair, IsAccepted, IsMountError}
 use Rattle.lfs_model.specs.declared.order.NameOrder.{NameOrder}
 use Rattle.lfs_mount.specs.MountFaults.{IsErrorOfMount}
-use Rattle.lfs_tool.specs.Listings.{IsMountError}
 
 -- without a fault it isn't for a fault
 pub not_mounted : (disk : Disk) (e : Error) (old new : List CallEvent) → IsErrorOfMount e → (e ≡ Corrupt → (order : NameOrder) (ps : List Pair) → IsAccepted (ordered_disk order disk) ps → ⊥) → (e ≡ Io → fault_count old < fault_count new) → fault_count new ≡ fault_count old → IsMountError disk e

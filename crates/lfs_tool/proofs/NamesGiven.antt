@@ -1,17 +1,10 @@
 -- Names in order, and the kinds that are given with them.
 use Rattle.std.proofs.Common.{suc, ◌≡◌, ◌∙◌, ◌++◌, Bool, true, false, cond, List, [], ◌∷◌, Option, Some, None, refl, sym, ap, ap₂, subst, arith, AllPairs, option_map}
 use Rattle.std.specs.Prelude.{Contains, find}
-use Rattle.std.specs.List.Sorted.{IsPermutation}
+use Rattle.lfs_tool.proofs.Common.{IsPermutation, All-contains, All-contains_itself, All-from_recursion, recursion_from_All, Contains-permutation, IsPermutation-sym, same_Some, Name, name_cmp, names_with, is_named_folder, source_names, Each, each_both, each_right, greater}
 use Rattle.std.specs.declared.cmp.Ordering.TheVariants.{Less}
-use Rattle.std.proofs.lemmas.List.Elements.{All-contains, All-contains_itself, All-from_recursion, recursion_from_All}
-use Rattle.std.proofs.lemmas.List.Sorted.{Contains-permutation, IsPermutation-sym}
-use Rattle.std.proofs.lemmas.Option.{same_Some}
 use Rattle.lfs_model.specs.declared.order.NameOrder.TheVariants.{ShorterFirst}
-use Rattle.lfs_model.specs.format.Names.{Name, name_cmp, same_name, is_less}
-use Rattle.lfs_model.specs.session.TreeEdits.{names_with}
-use Rattle.lfs_model.specs.layers.Source.{is_some_folder, source_names}
-use Rattle.lfs_model.proofs.Counts.{Each, each_both, each_right}
-use Rattle.lfs_model.proofs.Names.{greater}
+use Rattle.lfs_model.specs.format.Names.{same_name, is_less}
 use Rattle.lfs_model.proofs.Paths.{Names, alike, unlike, names, name_itself, same_itself, unlike_test}
 
 -- ---- order
@@ -50,55 +43,55 @@ each_names P (g ∷ gs) h = (h.0, each_names P gs h.1)
 
 -- ---- the kind of a name
 
-kind_first : (m : Name) (g : Name × Bool) (gs : List (Name × Bool)) → same_name m g.0 ≡ true → is_some_folder m (g ∷ gs) ≡ Some g.1
+kind_first : (m : Name) (g : Name × Bool) (gs : List (Name × Bool)) → same_name m g.0 ≡ true → is_named_folder m (g ∷ gs) ≡ Some g.1
 kind_first m g gs e = ap (λ b. option_map (λ (x : Name × Bool). x.1) (cond b (Some g) (find (λ x. same_name m x.0) gs))) e
 
-kind_past : (m : Name) (g : Name × Bool) (gs : List (Name × Bool)) → same_name m g.0 ≡ false → is_some_folder m (g ∷ gs) ≡ is_some_folder m gs
+kind_past : (m : Name) (g : Name × Bool) (gs : List (Name × Bool)) → same_name m g.0 ≡ false → is_named_folder m (g ∷ gs) ≡ is_named_folder m gs
 kind_past m g gs e = ap (λ b. option_map (λ (x : Name × Bool). x.1) (cond b (Some g) (find (λ x. same_name m x.0) gs))) e
 
-pub each_given : (P : Name × Bool → Type 0) (m : Name) (gs : List (Name × Bool)) (k : Bool) → is_some_folder m gs ≡ Some k → Each P gs → P (m, k)
+pub each_given : (P : Name × Bool → Type 0) (m : Name) (gs : List (Name × Bool)) (k : Bool) → is_named_folder m gs ≡ Some k → Each P gs → P (m, k)
 each_given P m [] k e h = absurd (cc)
 each_given P m (g ∷ gs) k e h = go (names m g.0) (λ f. each_given P m gs k f h.1)
   where
-    go : Names m g.0 → (is_some_folder m gs ≡ Some k → P (m, k)) → P (m, k)
+    go : Names m g.0 → (is_named_folder m gs ≡ Some k → P (m, k)) → P (m, k)
     go (alike is same) next =
         let kind : g.1 ≡ k = same_Some g.1 k (sym (kind_first m g gs same) ∙ e) in
         let both : (g.0, g.1) ≡ (m, k) = ap₂ (λ (a : Name) (b : Bool). (a, b)) (sym is) kind in
         subst P both h.0
     go (unlike apart other) next = next (sym (kind_past m g gs other) ∙ e)
 
-pub none_given : (m : Name) (gs : List (Name × Bool)) → is_some_folder m gs ≡ None → Each (λ g. m ≡ g.0 → ⊥) gs
+pub none_given : (m : Name) (gs : List (Name × Bool)) → is_named_folder m gs ≡ None → Each (λ g. m ≡ g.0 → ⊥) gs
 none_given m [] e = tt
 none_given m (g ∷ gs) e = go (names m g.0) (none_given m gs)
   where
-    go : Names m g.0 → (is_some_folder m gs ≡ None → Each (λ h. m ≡ h.0 → ⊥) gs) → Each (λ h. m ≡ h.0 → ⊥) (g ∷ gs)
+    go : Names m g.0 → (is_named_folder m gs ≡ None → Each (λ h. m ≡ h.0 → ⊥) gs) → Each (λ h. m ≡ h.0 → ⊥) (g ∷ gs)
     go (alike is same) next = absurd (let f = sym (kind_first m g gs same) ∙ e in cc)
     go (unlike apart other) next = (apart, next (sym (kind_past m g gs other) ∙ e))
 
-pub each_found : (gs : List (Name × Bool)) → Rising (source_names gs) → Each (λ g. is_some_folder g.0 gs ≡ Some g.1) gs
+pub each_found : (gs : List (Name × Bool)) → Rising (source_names gs) → Each (λ g. is_named_folder g.0 gs ≡ Some g.1) gs
 each_found [] h = tt
 each_found (g ∷ gs) h = (
   kind_first g.0 g gs (same_itself g.0),
-  each_both (λ (x : Name × Bool). name_cmp ShorterFirst g.0 x.0 ≡ Less) (λ (x : Name × Bool). is_some_folder x.0 gs ≡ Some x.1) (λ (x : Name × Bool). is_some_folder x.0 (g ∷ gs) ≡ Some x.1)
+  each_both (λ (x : Name × Bool). name_cmp ShorterFirst g.0 x.0 ≡ Less) (λ (x : Name × Bool). is_named_folder x.0 gs ≡ Some x.1) (λ (x : Name × Bool). is_named_folder x.0 (g ∷ gs) ≡ Some x.1)
       (λ x less found. kind_past x.0 g gs (unlike_test x.0 g.0 (λ e. less_unlike g.0 x.0 less (sym e))) ∙ found) gs (each_names (λ n. name_cmp ShorterFirst g.0 n ≡ Less) gs h.0) (each_found gs h.1),
 )
 
 -- names that come once have their kinds in any order
-pub kind_moved : (xs ys : List (Name × Bool)) → IsPermutation xs ys → Rising (source_names ys) → (m : Name) → is_some_folder m xs ≡ is_some_folder m ys
-kind_moved xs ys moved rising m = go (is_some_folder m xs) refl
+pub kind_moved : (xs ys : List (Name × Bool)) → IsPermutation xs ys → Rising (source_names ys) → (m : Name) → is_named_folder m xs ≡ is_named_folder m ys
+kind_moved xs ys moved rising m = go (is_named_folder m xs) refl
   where
-    itself : (zs : List (Name × Bool)) (k : Bool) → is_some_folder m zs ≡ Some k → Contains zs (m, k)
+    itself : (zs : List (Name × Bool)) (k : Bool) → is_named_folder m zs ≡ Some k → Contains zs (m, k)
     itself zs k e = each_given (Contains zs) m zs k e (recursion_from_All (Contains zs) zs (All-contains_itself zs))
 
-    there : (k : Bool) → Contains ys (m, k) → is_some_folder m ys ≡ Some k
-    there k c = All-contains (λ (g : Name × Bool). is_some_folder g.0 ys ≡ Some g.1) ys (m, k) (All-from_recursion (λ (g : Name × Bool). is_some_folder g.0 ys ≡ Some g.1) ys (each_found ys rising)) c
+    there : (k : Bool) → Contains ys (m, k) → is_named_folder m ys ≡ Some k
+    there k c = All-contains (λ (g : Name × Bool). is_named_folder g.0 ys ≡ Some g.1) ys (m, k) (All-from_recursion (λ (g : Name × Bool). is_named_folder g.0 ys ≡ Some g.1) ys (each_found ys rising)) c
 
-    neither : is_some_folder m xs ≡ None → (o : Option Bool) → is_some_folder m ys ≡ o → is_some_folder m xs ≡ is_some_folder m ys
+    neither : is_named_folder m xs ≡ None → (o : Option Bool) → is_named_folder m ys ≡ o → is_named_folder m xs ≡ is_named_folder m ys
     neither e None f = e ∙ sym f
     neither e (Some k) f =
         let c = Contains-permutation ys xs (m, k) (IsPermutation-sym xs ys moved) (itself ys k f) in
         absurd (All-contains (λ (g : Name × Bool). m ≡ g.0 → ⊥) xs (m, k) (All-from_recursion (λ (g : Name × Bool). m ≡ g.0 → ⊥) xs (none_given m xs e)) c refl)
 
-    go : (o : Option Bool) → is_some_folder m xs ≡ o → is_some_folder m xs ≡ is_some_folder m ys
-    go None e = neither e (is_some_folder m ys) refl
+    go : (o : Option Bool) → is_named_folder m xs ≡ o → is_named_folder m xs ≡ is_named_folder m ys
+    go None e = neither e (is_named_folder m ys) refl
     go (Some k) e = e ∙ sym (there k (Contains-permutation xs ys (m, k) moved (itself xs k e)))

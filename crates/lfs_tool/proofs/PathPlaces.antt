@@ -3,15 +3,10 @@ use Rattle.std.proofs.Common.{◌≡◌, ◌∙◌, ◌++◌, true, false, cond,
 use Rattle.std.specs.Prelude.{unwrap_or}
 use Rattle.std.specs.List.{list_all}
 use Rattle.std.proofs.lemmas.Bool.{and_from}
-use Rattle.std.proofs.lemmas.Grind.{flat_map-append}
-use Rattle.lfs_model.specs.format.Names.{Name, is_component, slash_byte}
-use Rattle.lfs_model.specs.tree.Tree.{Path, Node, Tree}
-use Rattle.lfs_model.specs.session.TreeEdits.{tree_creating, last_name, parent_path, same_path, names_with, node_with_names}
-use Rattle.lfs_model.specs.session.Operations.{path_bytes}
-use Rattle.lfs_model.specs.layers.Source.{path_in_folder}
-use Rattle.lfs_model.specs.session.Refusals.{path_or_root}
-use Rattle.lfs_model.proofs.Counts.{Each}
-use Rattle.lfs_model.proofs.Paths.{Paths, path_alike, path_unlike, paths, path_itself, not_longer, parent_is, last_is}
+use Rattle.lfs_tool.proofs.Common.{flat_map-append, Name, is_component, Path, Node, Tree, tree_creating, same_path, names_with, node_with_names, path_bytes, path_in_folder, path_or_root, Each, not_longer}
+use Rattle.lfs_model.specs.format.Names.{slash_byte}
+use Rattle.lfs_model.specs.session.TreeEdits.{last_name, parent_path}
+use Rattle.lfs_model.proofs.Paths.{Paths, path_alike, path_unlike, paths, path_itself, parent_is, last_is}
 use Rattle.lfs_model.proofs.Spelled.{spelled}
 
 -- ---- bytes

@@ -1,27 +1,16 @@
 -- In a run from a fresh disk in memory each error but want of memory is a refusal, the first.
 use Rattle.std.proofs.Common.{ℕ, ◌≡◌, ◌≢◌, ◌∙◌, ◌+◌, ◌<◌, ◌++◌, ◌⊎◌, inl, inr, Bool, true, false, List, [], ◌∷◌, length, take, drop, get_or, Option, Some, None, refl, sym, ap, subst, add-one, append_assoc, arith, drop-cons, flat_map}
-use Rattle.std.proofs.lemmas.Grind.{flat_map-append}
+use Rattle.lfs_tool.proofs.Common.{flat_map-append, recursion_from_All, IsFreshDisk, empty_tree, session_after_all, fault_count, node_copies, Operation, SystemState, is_refusal, DiskSummary, Healthy, is_remount, mounted_session, Each, each_right, fresh_defined, EndsInError, optional_view, AreApplied, IsRunToError, HealthyWithoutFiles, IsFirstRefusal, node_of_bytes, entry_copying}
 use Rattle.std.proofs.lemmas.List.{take-append-drop}
-use Rattle.std.proofs.lemmas.List.Elements.{recursion_from_All}
 use Rattle.lfs_device.specs.declared.error.Error.{Error}
 use Rattle.lfs_device.specs.declared.error.Error.TheVariants.{Io, NoMemory, Corrupt}
 use Rattle.lfs_model.specs.format.Disk.{default_profile}
-use Rattle.lfs_model.specs.tree.Fresh.{IsFreshDisk, empty_tree}
-use Rattle.lfs_model.specs.session.Headline.{IsReached, session_after_all}
-use Rattle.lfs_model.specs.session.History.{fault_count}
-use Rattle.lfs_model.specs.layers.Listing.{node_copies}
-use Rattle.lfs_model.specs.session.Operations.{Operation}
-use Rattle.lfs_model.specs.session.Run.{SystemState, ShowsTree, is_refusal}
-use Rattle.lfs_model.specs.session.Session.{DiskSummary}
+use Rattle.lfs_model.specs.session.Headline.{IsReached}
+use Rattle.lfs_model.specs.session.Run.{ShowsTree}
 use Rattle.lfs_model.specs.format.Slots.{zero_gstate}
-use Rattle.lfs_model.specs.session.State.{Healthy, is_remount, mounted_session}
-use Rattle.lfs_model.proofs.Counts.{Each, each_right}
-use Rattle.lfs_model.proofs.Kept.{fresh_defined}
-use Rattle.lfs_fs.specs.SessionView.{SessionFails, EndsOperation}
+use Rattle.lfs_fs.specs.SessionView.{SessionFails}
 use Rattle.lfs_lookup.specs.RefusalErrors as refusals
-use Rattle.lfs_tool_folders.specs.MemorySources.{optional_view}
 use Rattle.lfs_tool_folders.specs.declared.entries.SourceEntry.{SourceEntry}
-use Rattle.lfs_tool.specs.AppliedOperations.{AreApplied, IsRunToError, HealthyWithoutFiles, IsFirstRefusal, node_of_bytes, entry_copying}
 use Rattle.lfs_tool.proofs.Runs.{ended_before, ended_on}
 use Rattle.lfs_tool.proofs.Stepping.{HasCarried, carried_from}
 
@@ -76,7 +65,7 @@ refusal_first e from to operations k is = record {
   at = k.at;
   carried = k.carried;
   to = to;
-  refused = subst (λ b. EndsOperation b e k.at k.next to) is k.ends;
+  refused = subst (λ b. EndsInError b e k.at k.next to) is k.ends;
   refusal = is;
 }
 
@@ -96,7 +85,7 @@ refused_in_entry e x at to k none not_memory = go (refusals.is_refusal e) refl
 
     go : (b : Bool) → refusals.is_refusal e ≡ b → refusals.is_refusal e ≡ true
     go true is = is
-    go false is = absurd (not_memory (only_memory e k.at to k.next (subst (λ b. EndsOperation b e k.at k.next to) is k.ends) other none))
+    go false is = absurd (not_memory (only_memory e k.at to k.next (subst (λ b. EndsInError b e k.at k.next to) is k.ends) other none))
 
 module _ (e : Error) (es : List SourceEntry) (i : ℕ) (d : SourceEntry) (from at to : SystemState) (lt : i < length es) (c : AreApplied from (flat_map entry_copying (take i es)) at)
     (k : IsRunToError e at (entry_copying (get_or es i d)) to) (none : fault_count to.calls ≡ 0) where

@@ -1,23 +1,17 @@
 -- Operations that are carried out one after another, up to an error.
 use Rattle.std.proofs.Common.{ℕ, ◌≡◌, ◌∙◌, ◌+◌, ◌<◌, ◌++◌, Bool, true, false, cond, List, [], ◌∷◌, length, take, get_or, Result, Ok, Err, refl, sym, ap, subst, append_assoc, flat_map}
 use Rattle.std.specs.Prelude.{IsErrAnd}
-use Rattle.std.proofs.lemmas.Grind.{flat_map-append}
-use Rattle.std.proofs.lemmas.List.{append-nil, take_more}
-use Rattle.std.proofs.lemmas.List.Elements.{All-from_recursion, recursion_from_All}
+use Rattle.lfs_tool.proofs.Common.{flat_map-append, append-nil, All-from_recursion, recursion_from_All, new_flags, node_copies, Operation, Reply, FileNode, IsStep, SystemState, is_refusal, each_append, SessionView, system_state, EndsInError, AreApplied, IsRunToError, AppliesUntilError, HealthyWithoutFiles, entry_copying}
+use Rattle.std.proofs.lemmas.List.{take_more}
 use Rattle.lfs_device.specs.declared.error.Error.{Error}
 use Rattle.lfs_model.specs.session.Operations as ops
-use Rattle.lfs_model.specs.layers.Listing.{new_flags, node_copies}
-use Rattle.lfs_model.specs.session.Operations.{FlagsOfOpen, Operation, Reply}
-use Rattle.lfs_model.specs.tree.Tree.{FileNode}
-use Rattle.lfs_model.specs.session.Run.{IsStep, SystemState, is_refusal}
-use Rattle.lfs_model.proofs.Counts.{each_append}
+use Rattle.lfs_model.specs.session.Operations.{FlagsOfOpen}
 use Rattle.lfs_model.proofs.SessionSteps.{session_steps_joined}
-use Rattle.lfs_fs.specs.SessionView.{StepsOrFails, SessionView, system_state, EndsOperation}
+use Rattle.lfs_fs.specs.SessionView.{StepsOrFails}
 use Rattle.lfs_fs.specs.Replies.{reply_from}
 use Rattle.lfs_lookup.specs.RefusalErrors as refusals
 use Rattle.lfs_lookup.specs.RefusalErrors.{error_refusal}
 use Rattle.lfs_tool_folders.specs.declared.entries.SourceEntry.{SourceEntry}
-use Rattle.lfs_tool.specs.AppliedOperations.{AreApplied, IsRunToError, AppliesUntilError, HealthyWithoutFiles, entry_copying}
 use Rattle.lfs_tool.proofs.Stepping.{opened_first}
 
 abbrev IsAccepted : Reply → Type 0
@@ -31,10 +25,10 @@ one_carried a b op reply turn accepted = record { replies = reply ∷ []; sessio
 pub none_carried : (a : SystemState) → AreApplied a [] a
 none_carried a = record { replies = []; session_steps = refl; accepted = All-from_recursion IsAccepted [] tt }
 
-pub one_ends : {X : Type 0} (old new : SessionView) (op : Operation) (reply : X → Reply) (e : Error) → StepsOrFails old op (reply_from reply (Err e)) new → EndsOperation (refusals.is_refusal e) e (system_state old) op (system_state new)
+pub one_ends : {X : Type 0} (old new : SessionView) (op : Operation) (reply : X → Reply) (e : Error) → StepsOrFails old op (reply_from reply (Err e)) new → EndsInError (refusals.is_refusal e) e (system_state old) op (system_state new)
 one_ends old new op reply e = go (refusals.is_refusal e)
   where
-    go : (b : Bool) → StepsOrFails old op (cond b (Ok (ops.Refused (error_refusal e))) (Err e)) new → EndsOperation b e (system_state old) op (system_state new)
+    go : (b : Bool) → StepsOrFails old op (cond b (Ok (ops.Refused (error_refusal e))) (Err e)) new → EndsInError b e (system_state old) op (system_state new)
     go true h = h
     go false h = h
 
@@ -48,7 +42,7 @@ carried_on xs ys a b c h k = record {
       (each_append IsAccepted h.replies k.replies (recursion_from_All IsAccepted h.replies h.accepted) (recursion_from_All IsAccepted k.replies k.accepted));
 }
 
-pub ended_at : (e : Error) (xs : List Operation) (op : Operation) (more : List Operation) (a b c : SystemState) → AreApplied a xs b → EndsOperation (refusals.is_refusal e) e b op c → IsRunToError e a (xs ++ op ∷ more) c
+pub ended_at : (e : Error) (xs : List Operation) (op : Operation) (more : List Operation) (a b c : SystemState) → AreApplied a xs b → EndsInError (refusals.is_refusal e) e b op c → IsRunToError e a (xs ++ op ∷ more) c
 ended_at e xs op more a b c h ends = record { done = xs; next = op; others = more; are = refl; at = b; carried = h; ends = ends }
 
 pub ended_on : (e : Error) (xs ys : List Operation) (a b c : SystemState) → AreApplied a xs b → IsRunToError e b ys c → IsRunToError e a (xs ++ ys) c

@@ -1,23 +1,18 @@
 -- What the operations of entries make of a session, where each is accepted.
 use Rattle.std.proofs.Common.{ℕ, ◌≡◌, ◌∙◌, ◌+◌, ◌++◌, Bool, true, false, cond, List, [], ◌∷◌, length, Option, Some, None, drop, is_none, refl, sym, ap, ap₂, subst, append-nil, flat_map, option_map}
 use Rattle.std.proofs.Math.Seq.{drop-nil}
-use Rattle.std.proofs.lemmas.Option.{same_Some}
-use Rattle.lfs_model.specs.session.TreeEdits.{tree_creating, file_bytes, tree_with_change, same_path}
-use Rattle.lfs_model.specs.layers.Listing.{new_flags, node_copies}
+use Rattle.lfs_tool.proofs.Common.{same_Some, tree_creating, same_path, new_flags, node_copies, Operation, Reply, Session, DiskSummary, path_or_root, Healthy, SessionHealth, Path, FileNode, DirectoryNode, Tree, IsStep, SystemState, is_refusal, session_after_all, Each, optional_view, node_of_bytes, entry_copying}
+use Rattle.lfs_model.specs.session.TreeEdits.{file_bytes, tree_with_change}
 use Rattle.lfs_model.specs.session.Operations as ops
-use Rattle.lfs_model.specs.session.Operations.{Operation, Refusal, Reply}
-use Rattle.lfs_model.specs.session.Session.{OpenFilesByNumber, Session, DiskSummary, FileWriter, Writing, free_number_of}
+use Rattle.lfs_model.specs.session.Operations.{Refusal}
+use Rattle.lfs_model.specs.session.Session.{OpenFilesByNumber, FileWriter, Writing, free_number_of}
 use Rattle.lfs_model.specs.session.Writers.{written_writer, opened_writer}
 use Rattle.lfs_model.specs.session.Effects.{operation_result, tree_stored, operation_effect, unless_refused, file_with_bytes}
-use Rattle.lfs_model.specs.session.Refusals.{path_or_root, operation_refusal}
-use Rattle.lfs_model.specs.session.State.{Healthy, SessionHealth, reply_else}
-use Rattle.lfs_model.specs.tree.Tree.{Path, FileNode, DirectoryNode, Tree}
-use Rattle.lfs_model.specs.session.Run.{AreSteps, IsStep, SystemState, is_refusal}
-use Rattle.lfs_model.specs.session.Headline.{session_after_all}
-use Rattle.lfs_model.proofs.Counts.{Each}
-use Rattle.lfs_tool_folders.specs.MemorySources.{optional_view}
+use Rattle.lfs_model.specs.session.Refusals.{operation_refusal}
+use Rattle.lfs_model.specs.session.State.{other_result}
+use Rattle.lfs_model.specs.session.Run.{AreSteps}
 use Rattle.lfs_tool_folders.specs.declared.entries.SourceEntry.{SourceEntry}
-use Rattle.lfs_tool.specs.AppliedOperations.{AllFilesClosed, node_of_bytes, entry_copying}
+use Rattle.lfs_tool.specs.AppliedOperations.{AllFilesClosed}
 use Rattle.lfs_tool.proofs.Growing.{AreNew, grown, tree_after}
 
 pub first_is_free : (files : OpenFilesByNumber) → AllFilesClosed files → free_number_of files ≡ 0
@@ -168,6 +163,6 @@ number_in around s path fd (Some error) e = absurd (cc)
 pub opened_first : (from to : SystemState) (s : Session) (path : List ℕ) (fd : ℕ) → from.state ≡ Healthy s → AllFilesClosed s.files → IsStep from (ops.Open path new_flags) (ops.Opened fd) to → fd ≡ 0
 opened_first from to s path fd state closed turn =
     let a = turn.answered in
-    let e : reply_else a.around (Healthy s) (ops.Open path new_flags) ≡ (Some (ops.Opened fd), to.state) = ap (λ z. reply_else a.around z (ops.Open path new_flags)) (sym state) ∙ a.answers in
+    let e : other_result a.around (Healthy s) (ops.Open path new_flags) ≡ (Some (ops.Opened fd), to.state) = ap (λ z. other_result a.around z (ops.Open path new_flags)) (sym state) ∙ a.answers in
     let reply : (operation_result a.around s (ops.Open path new_flags)).0 ≡ ops.Opened fd = same_Some _ _ (ap (λ (z : Option Reply × SessionHealth). z.0) e) in
     sym (number_in a.around s path fd (operation_refusal a.around s (ops.Open path new_flags)) reply) ∙ first_is_free s.files closed

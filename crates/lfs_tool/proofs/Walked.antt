@@ -1,14 +1,11 @@
 -- What was found of a tree lists it.
 use Rattle.std.proofs.Common.{◌≡◌, ◌∙◌, ◌++◌, ◌≤◌, ℕ, List, Some, [], ◌∷◌, ap, ap₂, refl, sym}
 use Rattle.lfs_model.specs.format.Blocks.{HasBlockSizes}
-use Rattle.lfs_model.specs.format.Disk.{Disk}
-use Rattle.lfs_model.specs.layers.Listing.{PathNode, IsListing, escaped_text, line_start, listing_line, listing_lines, newline}
-use Rattle.lfs_model.specs.format.Slots.{Branch, Ctz, Inline, Struct}
-use Rattle.lfs_model.specs.tree.Tree.{Node}
-use Rattle.lfs_model.specs.tree.View.{HasDiskView, DiskView, disk_view}
+use Rattle.lfs_tool.proofs.Common.{Disk, PathNode, Branch, Ctz, Inline, Struct, Node, HasDiskView, disk_view, AreTreeItems, PathStruct, IsTreeItem, IsStructNode, IsDiskListing, place_lines}
+use Rattle.lfs_model.specs.layers.Listing.{IsListing, escaped_text, line_start, listing_line, listing_lines, newline}
+use Rattle.lfs_model.specs.tree.View.{DiskView}
 use Rattle.lfs_model.proofs.ListSizes.{length-list_bytes}
-use Rattle.lfs_lookup.specs.TreeWalk.{AreTreeItems, PathStruct, IsTreeItem, IsStructNode}
-use Rattle.lfs_tool.specs.Listings.{IsListingOfDisk, tree_entry_line, path_line, tree_entry_lines}
+use Rattle.lfs_tool.specs.Listings.{place_line, path_line}
 use Rattle.lfs_lookup.specs.ListAt.{listed_struct_size}
 
 pub record HasSizes (disk : Disk) : Type 0 where
@@ -25,10 +22,10 @@ line_node disk sizes path (Ctz head size) node (attributes, (is, list)) =
     ap (λ k. path_line (Some k) path) (sym (length-list_bytes disk.blocks disk.block_size sizes.count head size sizes.enough sizes.divided list)) ∙ ap (line_for path) (sym is)
 line_node disk sizes path (Branch to) node (attributes, (names, is)) = ap (line_for path) (sym is)
 
-line_shown : (disk : Disk) → HasSizes disk → (p : PathStruct) (e : PathNode) → IsTreeItem disk p e → tree_entry_line p ≡ listing_line e
+line_shown : (disk : Disk) → HasSizes disk → (p : PathStruct) (e : PathNode) → IsTreeItem disk p e → place_line p ≡ listing_line e
 line_shown disk sizes p e s = line_node disk sizes p.path p.struct e.node s.node ∙ ap (λ path. line_for path e.node) s.path
 
-lines_shown : (disk : Disk) → HasSizes disk → (ps : List PathStruct) (es : List PathNode) → AreTreeItems disk ps es → tree_entry_lines ps ≡ listing_lines es
+lines_shown : (disk : Disk) → HasSizes disk → (ps : List PathStruct) (es : List PathNode) → AreTreeItems disk ps es → place_lines ps ≡ listing_lines es
 lines_shown disk sizes [] [] s = refl
 lines_shown disk sizes [] (e ∷ es) s = absurd s
 lines_shown disk sizes (p ∷ ps) [] s = absurd s
@@ -39,6 +36,6 @@ abbrev pub IsListed : Disk → List ℕ → Type 0
 IsListed disk text = (view : DiskView) × (HasDiskView disk view × IsListing view.tree text)
 
 -- a disk of which each place has its line is listed
-pub listed_from : (disk : Disk) (text : List ℕ) → HasSizes disk → IsListingOfDisk disk text → IsListed disk text
+pub listed_from : (disk : Disk) (text : List ℕ) → HasSizes disk → IsDiskListing disk text → IsListed disk text
 listed_from disk text sizes (ps, (accepted, (places, ((entries, (walk, shows)), lines)))) =
     (disk_view disk ps, ((ps, (accepted, refl)), (entries, (walk, lines ∙ lines_shown disk sizes places entries shows))))

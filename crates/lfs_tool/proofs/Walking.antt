@@ -1,26 +1,13 @@
 -- The entries that were read are a walk of the source's tree, so their operations carry it over.
 use Rattle.std.proofs.Common.{ℕ, ◌≡◌, ◌∙◌, ◌++◌, ◌⊎◌, inl, inr, Bool, true, false, List, [], ◌∷◌, map, Option, Some, None, refl, sym, ap, ap₂, subst, append-nil, flat_map, option_and_then}
 use Rattle.std.specs.Prelude.{Contains}
-use Rattle.std.specs.List.Sorted.{IsPermutation}
+use Rattle.lfs_tool.proofs.Common.{IsPermutation, All-contains, All-contains_itself, All-from_recursion, recursion_from_All, Contains-permutation, IsPermutation-map, IsPermutation-sym, empty_tree, node_copies, Name, name_cmp, Operation, path_bytes, AFile, AFolder, IsSourceTree, IsSourceNode, TreeSource, is_named_folder, source_names, path_in_folder, node_at, Path, Node, FileNode, DirectoryNode, Tree, Each, each_weaker, greater, append_step, AreSourceEntries, AreDepthFirst, AreFolderNames, HasSourceContents, PathKind, paths_in_folder, optional_view, node_of_bytes, entry_copying, entries_copying}
 use Rattle.std.specs.declared.cmp.Ordering.TheVariants.{Less}
-use Rattle.std.proofs.lemmas.List.Elements.{All-contains, All-contains_itself, All-from_recursion, recursion_from_All}
-use Rattle.std.proofs.lemmas.List.Sorted.{Contains-permutation, IsPermutation-map, IsPermutation-sym}
 use Rattle.lfs_model.specs.declared.order.NameOrder.TheVariants.{ShorterFirst}
 use Rattle.lfs_model.specs.session.TreeEdits as apply
-use Rattle.lfs_model.specs.tree.Fresh.{empty_tree}
 use Rattle.lfs_model.specs.layers.Listing as listing
-use Rattle.lfs_model.specs.layers.Listing.{IsDepthFirst, node_copies, entry_paths}
-use Rattle.lfs_model.specs.format.Names.{Name, name_cmp}
-use Rattle.lfs_model.specs.session.Operations.{Operation, path_bytes}
-use Rattle.lfs_model.specs.layers.Source.{AFile, AFolder, IsSourceTree, IsSourceNode, TreeSource, is_some_folder, source_names, path_in_folder, node_at}
-use Rattle.lfs_model.specs.tree.Tree.{Path, Node, FileNode, DirectoryNode, Tree}
-use Rattle.lfs_model.proofs.Counts.{Each, each_weaker}
-use Rattle.lfs_model.proofs.Names.{greater}
-use Rattle.lfs_model.proofs.Paths.{append_step}
-use Rattle.lfs_tool_folders.specs.SourceEntries.{AreSourceEntries, AreDepthFirst, AreFolderNames, HasSourceContents, PathKind, paths_in_folder}
-use Rattle.lfs_tool_folders.specs.MemorySources.{optional_view}
+use Rattle.lfs_model.specs.layers.Listing.{IsDepthFirst, entry_paths}
 use Rattle.lfs_tool_folders.specs.declared.entries.SourceEntry.{SourceEntry}
-use Rattle.lfs_tool.specs.AppliedOperations.{node_of_bytes, entry_copying, entries_copying}
 use Rattle.lfs_tool.specs.MadeImages.{CopySource}
 use Rattle.lfs_tool.proofs.Growing.{beneath, carried_tree, tree_after}
 use Rattle.lfs_tool.proofs.NamesGiven.{Rising, each_found, kind_moved, less_unlike, rising_from}
@@ -92,7 +79,7 @@ stand_append s (q ∷ qs) rs [] os h k = absurd h
 stand_append s (q ∷ qs) rs (p ∷ ps) os h k = (h.0, stand_append s qs rs ps os h.1 k)
 
 below_stand : (s : TreeSource) (q : Path) (folder : List ℕ) (given : List (Name × Bool)) → path_bytes q ≡ folder → ((rest : Path) → node_at s [] (q ++ rest) ≡ node_at s folder rest)
-    → Each (λ g. is_some_folder g.0 (s.names folder) ≡ Some g.1) given → AllStand s (map (λ n. q ++ n ∷ []) (source_names given)) (paths_in_folder folder given)
+    → Each (λ g. is_named_folder g.0 (s.names folder) ≡ Some g.1) given → AllStand s (map (λ n. q ++ n ∷ []) (source_names given)) (paths_in_folder folder given)
 below_stand s q folder [] at leads kinds = tt
 below_stand s q folder (g ∷ given) at leads kinds = (
   record {
@@ -102,10 +89,10 @@ below_stand s q folder (g ∷ given) at leads kinds = (
   below_stand s q folder given at leads kinds.1,
 )
 
-kinds_within : (s : TreeSource) (folder : List ℕ) (within : List (Name × Bool)) → AreFolderNames (Some s) folder within → Each (λ g. is_some_folder g.0 (s.names folder) ≡ Some g.1) within
+kinds_within : (s : TreeSource) (folder : List ℕ) (within : List (Name × Bool)) → AreFolderNames (Some s) folder within → Each (λ g. is_named_folder g.0 (s.names folder) ≡ Some g.1) within
 kinds_within s folder within w =
     let rising = rising_from (source_names within) w.order.rise in
-    each_weaker (λ (g : Name × Bool). is_some_folder g.0 within ≡ Some g.1) (λ (g : Name × Bool). is_some_folder g.0 (s.names folder) ≡ Some g.1)
+    each_weaker (λ (g : Name × Bool). is_named_folder g.0 within ≡ Some g.1) (λ (g : Name × Bool). is_named_folder g.0 (s.names folder) ≡ Some g.1)
     (λ g e. kind_moved (s.names folder) within w.names rising g.0 ∙ e) within (each_found within rising)
 
 -- ---- the walk

@@ -10,7 +10,7 @@ use Rattle.lfs_model.specs.session.Run as run
 use Rattle.lfs_model.specs.session.Session.{OpenFilesByNumber, Session}
 use Rattle.lfs_model.specs.session.State.{Healthy}
 use Rattle.lfs_model.specs.tree.Tree.{Node, FileNode, DirectoryNode}
-use Rattle.lfs_fs.specs.SessionView.{EndsOperation}
+use Rattle.lfs_fs.specs.SessionView.{EndsInError}
 use Rattle.lfs_lookup.specs.RefusalErrors.{is_refusal, error_refusal}
 use Rattle.lfs_tool_folders.specs.MemorySources.{optional_view}
 use Rattle.lfs_tool_folders.specs.declared.entries.SourceEntry.{SourceEntry}
@@ -59,7 +59,7 @@ pub record IsRunToError (e : Error) (from : SystemState) (operations : List Oper
   pub are : operations ≡ done ++ next ∷ others
   pub at : SystemState
   pub carried : AreApplied from done at
-  pub ends : EndsOperation (is_refusal e) e at next to
+  pub ends : EndsInError (is_refusal e) e at next to
 
 abbrev pub AppliesUntilError : {X : Type 0} → SystemState → List Operation → Result X Error → SystemState → Type 0
 AppliesUntilError from operations (Ok x) to = AreApplied from operations to

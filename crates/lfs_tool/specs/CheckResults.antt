@@ -1,10 +1,10 @@
 -- The result of a check of an image.
 use Rattle.std.specs.Prelude.{ℕ, ◌≡◌, ◌<◌, ◌≤◌, ◌/◌, Bool, true, false, List, length, Option, Some, None}
 use Rattle.lfs_tool.specs.declared.image_layout.ImageLayout.{ImageLayout}
-use Rattle.lfs_tool.specs.WrongNumbers.{NoWrongNumberIn, IsWrongNumberIn}
+use Rattle.lfs_tool.specs.WrongNumbers.{NoneIsWrong, IsWrongIn}
 use Rattle.lfs_tool.specs.Verdict.{BreaksInSome, IsSummarized, IsInNoOrder, IsDiskVerdict}
 use Rattle.lfs_tool.specs.declared.verdict.ImageVerdict.{ImageVerdict}
-use Rattle.lfs_model.specs.format.Disk.{Disk, IsWhole, disk_of_image}
+use Rattle.lfs_model.specs.format.Disk.{Disk, IsWholeImage, disk_of_image}
 use Rattle.lfs_model.specs.declared.order.NameOrder.TheVariants.{LongerFirst}
 use Rattle.lfs_tool.specs.declared.verdict.WrongNumber.{WrongNumber}
 use Rattle.lfs_tool.specs.declared.verdict.CheckResult.{CheckResult}
@@ -15,7 +15,7 @@ use Rattle.lfs_tool.specs.declared.verdict.RefusalReason.TheVariants as reason
 
 -- the bytes are an image, and this holds of its disk
 abbrev pub HoldsOfImage : ImageLayout → List ℕ → (Disk → Type 0) → Type 0
-HoldsOfImage layout image P = IsWhole layout.block_size layout.page image × P (disk_of_image layout.block_size layout.page layout.profile LongerFirst image)
+HoldsOfImage layout image P = IsWholeImage layout.block_size layout.page image × P (disk_of_image layout.block_size layout.page layout.profile LongerFirst image)
 
 -- the bytes are no more than an image may have
 abbrev pub IsShortEnough : List ℕ → Type 0
@@ -23,17 +23,17 @@ IsShortEnough image = length image ≤ 268435456
 
 -- no number is wrong, unless the bytes are more than an image may have
 abbrev pub NoWrongNumber : ImageLayout → List ℕ → Type 0
-NoWrongNumber layout image = IsShortEnough image → NoWrongNumberIn image layout.block_size layout.profile.versions
+NoWrongNumber layout image = IsShortEnough image → NoneIsWrong image layout.block_size layout.profile.versions
 
 -- the number is wrong there; without one, none is
 abbrev pub IsWrongNumber : ImageLayout → List ℕ → Option WrongNumber → Type 0
 IsWrongNumber layout image None = NoWrongNumber layout image
-IsWrongNumber layout image (Some stated) = IsShortEnough image × IsWrongNumberIn image layout.block_size layout.profile.versions stated
+IsWrongNumber layout image (Some stated) = IsShortEnough image × IsWrongIn image layout.block_size layout.profile.versions stated
 
 -- why the bytes are refused; a wrong number comes before any other reason
 abbrev pub IsRefusalReason : ImageLayout → List ℕ → RefusalReason → Type 0
 IsRefusalReason layout image (reason.WrongNumber stated) = IsWrongNumber layout image (Some stated)
-IsRefusalReason layout image reason.NoImage = IsWrongNumber layout image None × ¬ IsWhole layout.block_size layout.page image
+IsRefusalReason layout image reason.NoImage = IsWrongNumber layout image None × ¬ IsWholeImage layout.block_size layout.page image
 IsRefusalReason layout image (reason.Broken rule) = IsWrongNumber layout image None × HoldsOfImage layout image (λ disk. BreaksInSome disk rule.violation)
 
 -- the sizes are those that were given; there are so many bytes and whole blocks, unless the bytes are more than an image may have
@@ -46,7 +46,7 @@ pub record AreGivenSizes (layout : ImageLayout) (image : List ℕ) (given : Give
 
 -- the bytes aren't an image that is accepted, in either order of names
 abbrev pub AreRefusedBytes : ImageLayout → List ℕ → Type 0
-AreRefusedBytes layout image = IsWhole layout.block_size layout.page image → IsInNoOrder (disk_of_image layout.block_size layout.page layout.profile LongerFirst image)
+AreRefusedBytes layout image = IsWholeImage layout.block_size layout.page image → IsInNoOrder (disk_of_image layout.block_size layout.page layout.profile LongerFirst image)
 
 -- The bytes are an accepted image, in these orders of names, and have that; or they are refused, and why.
 abbrev pub IsCheckResult : ImageLayout → List ℕ → CheckResult → Type 0
@@ -59,5 +59,5 @@ is_accepted_result (checked.Refused reason given) = false
 
 -- the verdict on an image, where the bytes are one
 abbrev pub IsBytesVerdict : ImageLayout → List ℕ → Option ImageVerdict → Type 0
-IsBytesVerdict layout image None = ¬ IsWhole layout.block_size layout.page image
+IsBytesVerdict layout image None = ¬ IsWholeImage layout.block_size layout.page image
 IsBytesVerdict layout image (Some verdict) = HoldsOfImage layout image (λ disk. IsDiskVerdict disk verdict)

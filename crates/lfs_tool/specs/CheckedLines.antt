@@ -20,10 +20,10 @@ use Rattle.lfs_tool.specs.declared.verdict.ImageSummary.{ImageSummary}
 
 -- ---- an accepted image
 
-abbrev pub name_orders_text : AcceptedOrders → List ℕ
-name_orders_text orders.LongerFirst = codes "longer-first"
-name_orders_text orders.ShorterFirst = codes "shorter-first"
-name_orders_text orders.Either = codes "either"
+abbrev pub orders_text : AcceptedOrders → List ℕ
+orders_text orders.LongerFirst = codes "longer-first"
+orders_text orders.ShorterFirst = codes "shorter-first"
+orders_text orders.Either = codes "either"
 
 -- `version 2.1`; nothing where it is 2.0
 abbrev pub version_line : ℕ → List ℕ
@@ -52,21 +52,21 @@ inline_limit_text None = codes "an eighth of a block"
 inline_limit_text (Some n) = codes "inline_max " ++ decimal n
 
 -- which rule of the writing profile an image breaks
-abbrev pub profile_breach_text : Option ℕ → ProfileBreach → List ℕ
-profile_breach_text inline_max (breach.OtherLimits pair slot limit) =
+abbrev pub breach_text : Option ℕ → ProfileBreach → List ℕ
+breach_text inline_max (breach.OtherLimits pair slot limit) =
     pair_text (array_address pair) ++ codes ", slot " ++ decimal slot ++ codes ": a superblock with other limits than this library writes, " ++ other_limit_text limit
-profile_breach_text inline_max (breach.LongInline pair slot) =
+breach_text inline_max (breach.LongInline pair slot) =
     pair_text (array_address pair) ++ codes ", slot " ++ decimal slot ++ codes ": more bytes inline than " ++ inline_limit_text inline_max
-profile_breach_text inline_max (breach.EmptyPair pair) = pair_text (array_address pair) ++ codes ": no entry, but a directory goes on in it"
-profile_breach_text inline_max (breach.TooLarge pair) = codes "a pair or an entry is larger than this library writes"
+breach_text inline_max (breach.EmptyPair pair) = pair_text (array_address pair) ++ codes ": no entry, but a directory goes on in it"
+breach_text inline_max (breach.TooLarge pair) = codes "a pair or an entry is larger than this library writes"
 
 abbrev pub writable_text : Option ℕ → Option ProfileBreach → List ℕ
 writable_text inline_max None = codes "yes"
-writable_text inline_max (Some b) = codes "no: " ++ profile_breach_text inline_max b
+writable_text inline_max (Some b) = codes "no: " ++ breach_text inline_max b
 
-abbrev pub yes_or_no_text : Bool → List ℕ
-yes_or_no_text true = codes "yes"
-yes_or_no_text false = codes "no"
+abbrev pub yes_no_text : Bool → List ℕ
+yes_no_text true = codes "yes"
+yes_no_text false = codes "no"
 
 abbrev pub counts_text : ImageSummary → List ℕ
 counts_text s = codes "ok\nfiles " ++ decimal s.files ++ codes "\ndirectories " ++ decimal s.directories ++ codes "\n"
@@ -75,10 +75,10 @@ abbrev pub blocks_text : ImageSummary → List ℕ
 blocks_text s = codes "used " ++ decimal s.used ++ codes " of " ++ decimal s.blocks ++ codes " blocks\nfree " ++ decimal (s.blocks - s.used) ++ codes "\n"
 
 abbrev pub order_line : AcceptedOrders → List ℕ
-order_line orders = codes "order " ++ name_orders_text orders ++ codes "\n"
+order_line orders = codes "order " ++ orders_text orders ++ codes "\n"
 
 abbrev pub recover_line : Bool → List ℕ
-recover_line recover = codes "recover " ++ yes_or_no_text recover ++ codes "\n"
+recover_line recover = codes "recover " ++ yes_no_text recover ++ codes "\n"
 
 abbrev pub writable_line : Option ℕ → Option ProfileBreach → List ℕ
 writable_line inline_max b = codes "writable " ++ writable_text inline_max b ++ codes "\n"

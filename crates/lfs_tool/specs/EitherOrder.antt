@@ -6,9 +6,9 @@ use Rattle.lfs_model.specs.tree.View.{HasDiskView, DiskView}
 use Rattle.lfs_model.specs.declared.order.NameOrder.{NameOrder}
 
 -- the disk of these bytes is accepted with its names in one of the orders, and shows that
-abbrev pub IsSomeImageView : ImageLayout → List ℕ → DiskView → Type 0
-IsSomeImageView layout image view = (order : NameOrder) × HasDiskView (disk_of_image layout.block_size layout.page layout.profile order image) view
+abbrev pub IsImageView : ImageLayout → List ℕ → DiskView → Type 0
+IsImageView layout image view = (order : NameOrder) × HasDiskView (disk_of_image layout.block_size layout.page layout.profile order image) view
 
 -- the same of a disk, whatever its own order
-abbrev pub IsViewInSome : Disk → DiskView → Type 0
-IsViewInSome disk view = (order : NameOrder) × HasDiskView (ordered_disk order disk) view
+abbrev pub IsEitherView : Disk → DiskView → Type 0
+IsEitherView disk view = (order : NameOrder) × HasDiskView (ordered_disk order disk) view

@@ -2,14 +2,14 @@
 use Rattle.std.specs.Prelude.{◌++◌, ℕ, List, codes}
 use Rattle.std.specs.Fmt.{decimal}
 use Rattle.lfs_model.specs.layers.Listing.{newline}
-use Rattle.lfs_device.specs.Error.{error_name, number_of_error}
+use Rattle.lfs_device.specs.Error.{error_name, error_number}
 use Rattle.lfs_device.specs.declared.error.Error.{Error}
 use Rattle.lfs_tool.specs.declared.errors.ToolError.{ToolError}
 use Rattle.lfs_tool.specs.declared.errors.ToolError.TheVariants.{Fs, Input, Output}
 
 -- `error: <name> (<number>)`
 abbrev pub error_line : Error → List ℕ
-error_line e = codes "error: " ++ error_name e ++ codes " (" ++ decimal (number_of_error e) ++ codes ")" ++ newline
+error_line e = codes "error: " ++ error_name e ++ codes " (" ++ decimal (error_number e) ++ codes ")" ++ newline
 
 abbrev pub error_line_of : ToolError → List ℕ
 error_line_of (Fs e) = error_line e

@@ -7,7 +7,7 @@ use Rattle.lfs_tool_line.specs.declared.line.LineError.TheVariants.{Modes, NotUt
 use Rattle.lfs_tool_line.specs.declared.line.LineError.TheVariants as line_error
 use Rattle.lfs_tool_line.specs.declared.limits.Limit.{Limit}
 use Rattle.lfs_tool_line.specs.Extras.{misuse_rule}
-use Rattle.lfs_tool_line.specs.Limits.{rule_of_limit}
+use Rattle.lfs_tool_line.specs.Limits.{limit_rule}
 use Rattle.lfs_model.specs.layers.Listing.{newline}
 use Rattle.lfs_tool.specs.Errors.{error_line, error_line_of, error_status}
 use Rattle.lfs_device.specs.declared.error.Error.TheVariants.{NoMemory}
@@ -15,18 +15,18 @@ use Rattle.lfs_tool.specs.declared.errors.Fault.{Fault}
 use Rattle.lfs_tool.specs.declared.errors.Fault.TheVariants.{Line, Tool}
 
 -- which writer gets the parser's text
-pub data ParserErrorOutcome : Type 0 where
-  memory : ParserErrorOutcome
-  help : ParserErrorOutcome
-  mistake : ParserErrorOutcome
+pub data ParserOutcome : Type 0 where
+  memory : ParserOutcome
+  help : ParserOutcome
+  mistake : ParserOutcome
 
-abbrev pub parser_error_outcome : ErrorKind → ParserErrorOutcome
-parser_error_outcome kind.OutOfMemory = memory
-parser_error_outcome kind.DisplayHelp = help
-parser_error_outcome kind.DisplayVersion = help
-parser_error_outcome _ = mistake
+abbrev pub parser_outcome : ErrorKind → ParserOutcome
+parser_outcome kind.OutOfMemory = memory
+parser_outcome kind.DisplayHelp = help
+parser_outcome kind.DisplayVersion = help
+parser_outcome _ = mistake
 
-abbrev pub parser_outcome_status : ParserErrorOutcome → ℕ
+abbrev pub parser_outcome_status : ParserOutcome → ℕ
 parser_outcome_status memory = 1
 parser_outcome_status help = 0
 parser_outcome_status mistake = 2
@@ -39,17 +39,17 @@ failure_status (Line (line_error.Limit limit)) = 2
 failure_status (Line (line_error.Misuse misuse)) = 2
 failure_status (Line line_error.Part) = 2
 failure_status (Line NotUtf8) = 2
-failure_status (Line (Parser e)) = parser_outcome_status (parser_error_outcome (kind_of e))
+failure_status (Line (Parser e)) = parser_outcome_status (parser_outcome (kind_of e))
 failure_status (Tool e) = error_status e
 
-abbrev pub parser_outcome_line : ParserErrorOutcome → Option (List ℕ)
+abbrev pub parser_outcome_line : ParserOutcome → Option (List ℕ)
 parser_outcome_line memory = Some (error_line NoMemory)
 parser_outcome_line help = None
 parser_outcome_line mistake = None
 
 -- the line that says which rule a limit breaks
 abbrev pub broken_limit_line : Limit → List ℕ
-broken_limit_line limit = codes "error: " ++ rule_of_limit limit ++ newline
+broken_limit_line limit = codes "error: " ++ limit_rule limit ++ newline
 
 -- the line on the standard error, where it is the tool's own
 abbrev pub failure_line : Fault → Option (List ℕ)
@@ -60,14 +60,14 @@ failure_line (Line (line_error.Limit limit)) = Some (broken_limit_line limit)
 failure_line (Line (line_error.Misuse misuse)) = Some (codes "error: " ++ misuse_rule misuse ++ newline)
 failure_line (Line line_error.Part) = Some (codes "error: -b auto and --offset are for -l, -u, --check and --cat" ++ newline)
 failure_line (Line NotUtf8) = Some (codes "error: the command line is not UTF-8" ++ newline)
-failure_line (Line (Parser e)) = parser_outcome_line (parser_error_outcome (kind_of e))
+failure_line (Line (Parser e)) = parser_outcome_line (parser_outcome (kind_of e))
 failure_line (Tool e) = Some (error_line_of e)
 
-abbrev pub is_help_outcome : ParserErrorOutcome → Bool
+abbrev pub is_help_outcome : ParserOutcome → Bool
 is_help_outcome help = true
 is_help_outcome _ = false
 
 -- the fault is a request for help, which is no mistake
 abbrev pub is_help_request : Fault → Bool
-is_help_request (Line (Parser e)) = is_help_outcome (parser_error_outcome (kind_of e))
+is_help_request (Line (Parser e)) = is_help_outcome (parser_outcome (kind_of e))
 is_help_request _ = false

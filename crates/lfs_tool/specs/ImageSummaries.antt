@@ -4,9 +4,9 @@ use Rattle.lfs_model.specs.format.Disk.{ordered_disk, Disk, block_count, default
 use Rattle.lfs_model.specs.layers.Listing.{PathNode, IsWalk}
 use Rattle.lfs_model.specs.tree.Profile.{image_fields}
 use Rattle.lfs_model.specs.layers.ProfileBreaches.{IsBreachIfAny}
-use Rattle.lfs_model.specs.tree.Shown.{tree_on_disk, used_blocks}
+use Rattle.lfs_model.specs.tree.Shown.{disk_tree, used_blocks}
 use Rattle.lfs_model.specs.format.Slots.{Gstate, Struct, Inline, Ctz, Branch, no_move_kind}
-use Rattle.lfs_model.specs.format.Tag.{tag_data_limit}
+use Rattle.lfs_model.specs.format.Tag.{data_limit}
 use Rattle.lfs_model.specs.format.Thread.{Pair, pairs_gstate}
 use Rattle.lfs_model.specs.tree.Tree.{Node, FileNode, DirectoryNode}
 use Rattle.lfs_model.specs.tree.View.{IsAccepted}
@@ -50,12 +50,12 @@ IsSuperblockTold profile ps told = (profile ≡ default_profile → told ≡ Non
 
 -- the profile's own limit of a file that is inline, where it is less than that of the blocks
 abbrev pub lesser_inline_max : Profile → ℕ → Option ℕ
-lesser_inline_max profile block_size = if nat_lt profile.inline_max (min (block_size / 8) tag_data_limit) then Some profile.inline_max else None
+lesser_inline_max profile block_size = if nat_lt profile.inline_max (min (block_size / 8) data_limit) then Some profile.inline_max else None
 
 -- what the image of these pairs has: all entries beneath its root are files or directories
 pub record HasImageSummary (disk : Disk) (ps : List Pair) (c : ImageSummary) : Type 0 where
   pub entries : List PathNode
-  pub walk : IsWalk (tree_on_disk disk ps) entries
+  pub walk : IsWalk (disk_tree disk ps) entries
   pub files : c.files ≡ count_by is_file_entry entries
   pub all : c.files + c.directories ≡ length entries
   pub used : c.used ≡ length (used_blocks disk ps)

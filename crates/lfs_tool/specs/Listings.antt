@@ -3,7 +3,7 @@ use Rattle.std.specs.Prelude.{ℕ, ◌≡◌, false, List, ◌++◌, Option, Som
 use Rattle.std.specs.List.{flat_map}
 use Rattle.std.specs.Fmt.{decimal}
 use Rattle.lfs_tool.specs.declared.image_layout.ImageLayout.{ImageLayout}
-use Rattle.lfs_model.specs.format.Disk.{ordered_disk, Disk, IsWhole}
+use Rattle.lfs_model.specs.format.Disk.{ordered_disk, Disk, IsWholeImage}
 use Rattle.lfs_model.specs.format.Thread.{Pair}
 use Rattle.lfs_model.specs.tree.View.{IsAccepted, DiskView}
 use Rattle.lfs_model.specs.declared.order.NameOrder.{NameOrder}
@@ -12,20 +12,20 @@ use Rattle.lfs_thread.specs.Kept.{ThreadView}
 use Rattle.lfs_lookup.specs.TreeWalk.{AreWalkItems, PathStruct}
 use Rattle.lfs_device.specs.declared.error.Error.{Error}
 use Rattle.lfs_device.specs.declared.error.Error.TheVariants.{Invalid, Corrupt, NoMemory}
-use Rattle.lfs_tool.specs.EitherOrder.{IsSomeImageView}
+use Rattle.lfs_tool.specs.EitherOrder.{IsImageView}
 use Rattle.lfs_lookup.specs.ListAt.{listed_struct_size}
 
 -- the bytes are an image that this text lists
-abbrev pub IsListingOfImage : ImageLayout → List ℕ → List ℕ → Type 0
-IsListingOfImage layout image text = IsWhole layout.block_size layout.page image × ((view : DiskView) × (IsSomeImageView layout image view × IsListing view.tree text))
+abbrev pub IsImageListing : ImageLayout → List ℕ → List ℕ → Type 0
+IsImageListing layout image text = IsWholeImage layout.block_size layout.page image × ((view : DiskView) × (IsImageView layout image view × IsListing view.tree text))
 
 -- the bytes are an image that isn't accepted, in either order of names
 abbrev pub IsInNeitherOrder : ImageLayout → List ℕ → Type 0
-IsInNeitherOrder layout image = IsWhole layout.block_size layout.page image × ((view : DiskView) → ¬ IsSomeImageView layout image view)
+IsInNeitherOrder layout image = IsWholeImage layout.block_size layout.page image × ((view : DiskView) → ¬ IsImageView layout image view)
 
 -- why bytes aren't listed; memory may run out at any
 abbrev pub RefusesToList : ImageLayout → List ℕ → Error → Type 0
-RefusesToList layout image Invalid = ¬ IsWhole layout.block_size layout.page image
+RefusesToList layout image Invalid = ¬ IsWholeImage layout.block_size layout.page image
 RefusesToList layout image NoMemory = Unit {0}
 RefusesToList layout image Corrupt = IsInNeitherOrder layout image
 RefusesToList layout image other = ⊥
@@ -35,17 +35,17 @@ abbrev pub path_line : Option ℕ → List ℕ → List ℕ
 path_line (Some size) path = (codes "f " ++ decimal size ++ codes " ") ++ escaped_text path ++ newline
 path_line None path = codes "d 0 " ++ escaped_text path ++ newline
 
-abbrev pub tree_entry_line : PathStruct → List ℕ
-tree_entry_line p = path_line (listed_struct_size p.struct) p.path
+abbrev pub place_line : PathStruct → List ℕ
+place_line p = path_line (listed_struct_size p.struct) p.path
 
-abbrev pub tree_entry_lines : List PathStruct → List ℕ
-tree_entry_lines places = flat_map tree_entry_line places
+abbrev pub place_lines : List PathStruct → List ℕ
+place_lines places = flat_map place_line places
 
 -- ---- an image that is mounted
 
 -- the disk is accepted, and the text has a line for each place of its tree's walk
-abbrev pub IsListingOfDisk : Disk → List ℕ → Type 0
-IsListingOfDisk disk text = (ps : List Pair) × (IsAccepted disk ps × ((places : List PathStruct) × (AreWalkItems disk ps places × (text ≡ tree_entry_lines places))))
+abbrev pub IsDiskListing : Disk → List ℕ → Type 0
+IsDiskListing disk text = (ps : List Pair) × (IsAccepted disk ps × ((places : List PathStruct) × (AreWalkItems disk ps places × (text ≡ place_lines places))))
 
 -- the thread is that of the disk, accepted in the thread's order of names, and these are the places of its tree's walk
 pub record IsWalkedThread (disk : Disk) (t : ThreadView) (places : List PathStruct) : Type 0 where

@@ -8,11 +8,11 @@ abbrev pub padded_to_size : ℕ → List ℕ → List ℕ
 padded_to_size size bytes = bytes ++ replicate (size - length bytes) 255
 
 -- all its bytes
-abbrev pub loaded_block_bytes : LoadedBlock → List ℕ
-loaded_block_bytes b = padded_to_size b.size b.bytes.items
+abbrev pub loaded_bytes : LoadedBlock → List ℕ
+loaded_bytes b = padded_to_size b.size b.bytes.items
 
-abbrev pub bytes_of_loaded : List LoadedBlock → Blocks
-bytes_of_loaded blocks = map loaded_block_bytes blocks
+abbrev pub blocks_as_loaded : List LoadedBlock → Blocks
+blocks_as_loaded blocks = map loaded_bytes blocks
 
 -- the blocks have this size
 abbrev pub AreLoadedOfSize : ℕ → List LoadedBlock → Type 0

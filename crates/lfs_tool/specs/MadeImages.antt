@@ -1,7 +1,7 @@
 -- What is made of a source, and why nothing is.
 use Rattle.std.specs.Prelude.{ℕ, ◌≡◌, ◌*◌, List, length, Option, Result, Err, IfSome}
 use Rattle.std.specs.Io.KnownBytes.{Appends}
-use Rattle.lfs_model.specs.format.Disk.{IsWhole, block_count, disk_of_image}
+use Rattle.lfs_model.specs.format.Disk.{IsWholeImage, block_count, disk_of_image}
 use Rattle.lfs_model.specs.tree.Fresh.{IsFreshDisk, empty_tree}
 use Rattle.lfs_model.specs.layers.Listing.{CopyTree}
 use Rattle.lfs_model.specs.session.Operations.{Operation}
@@ -14,7 +14,7 @@ use Rattle.lfs_model.specs.tree.Tree.{Tree}
 use Rattle.lfs_model.specs.tree.View.{IsAccepted}
 use Rattle.lfs_model.specs.declared.order.NameOrder.{NameOrder}
 use Rattle.lfs_model.specs.tree.Profile.{IsWritable}
-use Rattle.lfs_model.specs.tree.Shown.{tree_on_disk}
+use Rattle.lfs_model.specs.tree.Shown.{disk_tree}
 use Rattle.lfs_device.specs.declared.error.Error.{Error}
 use Rattle.lfs_device.specs.declared.geometry.Geometry.{Geometry}
 use Rattle.lfs_tool.specs.declared.errors.ToolError.{ToolError}
@@ -27,7 +27,7 @@ use Rattle.lfs_tool_folders.specs.declared.entries.SourceEntry.{SourceEntry}
 -- ---- a run
 
 -- A session begins on a fresh disk of the geometry, with its names in that order.
-pub record BeginsOnFreshDisk (geometry : Geometry) (order : NameOrder) (from : SystemState) : Type 0 where
+pub record BeginsFresh (geometry : Geometry) (order : NameOrder) (from : SystemState) : Type 0 where
   pub fresh : IsFreshDisk from.disk
   pub block_size : from.disk.block_size ≡ geometry.block_size
   pub page : from.disk.page ≡ geometry.page
@@ -39,7 +39,7 @@ pub record BeginsOnFreshDisk (geometry : Geometry) (order : NameOrder) (from : S
 -- These are the bytes of the disk that the operations of the entries leave, none of them refused.
 pub record AreImageBytes (geometry : Geometry) (order : NameOrder) (entries : List SourceEntry) (bytes : List ℕ) : Type 0 where
   pub from : SystemState
-  pub begins : BeginsOnFreshDisk geometry order from
+  pub begins : BeginsFresh geometry order from
   pub to : SystemState
   pub carried : AreApplied from (entries_copying entries) to
   pub len : length bytes ≡ geometry.block_size * geometry.block_count
@@ -48,7 +48,7 @@ pub record AreImageBytes (geometry : Geometry) (order : NameOrder) (entries : Li
 -- An operation of the entries is refused, and this is the first refusal.
 pub record RefusesEntries (geometry : Geometry) (order : NameOrder) (entries : List SourceEntry) (e : Error) : Type 0 where
   pub from : SystemState
-  pub begins : BeginsOnFreshDisk geometry order from
+  pub begins : BeginsFresh geometry order from
   pub first : IsFirstRefusal from (entries_copying entries) e
 
 -- These operations copy the source's tree, where it is known what the source shows.
@@ -61,12 +61,12 @@ CopySource known operations = IfSome known (λ s. (tree : Tree) × (IsSourceTree
 -- source's tree.
 pub record IsSourceImage (geometry : Geometry) (order : NameOrder) (known : Option TreeSource) (bytes : List ℕ) : Type 0 where
   pub len : length bytes ≡ geometry.block_size * geometry.block_count
-  pub image : IsWhole geometry.block_size geometry.page bytes
+  pub image : IsWholeImage geometry.block_size geometry.page bytes
   pub pairs : List Pair
   pub accepted : IsAccepted (disk_of_image geometry.block_size geometry.page geometry.profile order bytes) pairs
   pub writable : IsWritable (disk_of_image geometry.block_size geometry.page geometry.profile order bytes) pairs
   pub gstate : pairs_gstate pairs ≡ zero_gstate
-  pub tree : IfSome known (λ s. IsSourceTree s (tree_on_disk (disk_of_image geometry.block_size geometry.page geometry.profile order bytes) pairs))
+  pub tree : IfSome known (λ s. IsSourceTree s (disk_tree (disk_of_image geometry.block_size geometry.page geometry.profile order bytes) pairs))
 
 -- all that the source has is copied, and what is known to be written grew by one image of it
 abbrev pub HasWrittenImage : Geometry → NameOrder → Option TreeSource → Option (List ℕ) → Option (List ℕ) → Type 0

@@ -16,8 +16,8 @@ ReportsWriterFaults g old new (Err Output) = g.faults new ≡ suc (g.faults old)
 ReportsWriterFaults g old new (Err e) = new ≡ old
 
 -- unless it failed, it has shown one value more
-abbrev pub HasWrittenOne : {W : Type 0} → Ghosts W → W → W → Type 0
-HasWrittenOne g old new = g.faults new ≡ g.faults old → g.shown new ≡ suc (g.shown old)
+abbrev pub HasShownOne : {W : Type 0} → Ghosts W → W → W → Type 0
+HasShownOne g old new = g.faults new ≡ g.faults old → g.shown new ≡ suc (g.shown old)
 
 -- known bytes were read to their end, or more of them than an image may have
 abbrev pub IsReadToEnd : Option (List ℕ) → Option (List ℕ) → Type 0

@@ -2,8 +2,8 @@
 use Rattle.std.specs.Prelude.{ℕ, ◌≡◌, ◌≢◌, ◌⊎◌, ◌++◌, suc, List, Option, Some, None, IfSome, Result, Ok, Err, map, take}
 use Rattle.std.specs.List.{AllByRecursion}
 use Rattle.lfs_tool.specs.declared.image_layout.ImageLayout.{ImageLayout}
-use Rattle.lfs_model.specs.format.Disk.{Disk, IsWhole}
-use Rattle.lfs_model.specs.tree.View.{IsWellFormedCtz, DiskView}
+use Rattle.lfs_model.specs.format.Disk.{Disk, IsWholeImage}
+use Rattle.lfs_model.specs.tree.View.{IsFormedList, DiskView}
 use Rattle.lfs_model.specs.format.Slots.{Struct, Inline, Ctz, Branch}
 use Rattle.lfs_model.specs.layers.Listing.{UnpackingAction, Unpack, MakeDirectory, PutFile}
 use Rattle.lfs_device.specs.declared.error.Error.{Error}
@@ -11,27 +11,27 @@ use Rattle.lfs_device.specs.declared.error.Error.TheVariants.{Corrupt, Invalid, 
 use Rattle.lfs_tool.specs.declared.errors.ToolError.{ToolError}
 use Rattle.lfs_tool.specs.declared.errors.ToolError.TheVariants.{Fs, Output}
 use Rattle.lfs_tool.specs.Listings.{IsInNeitherOrder, IsMountError, RefusesToList}
-use Rattle.lfs_tool.specs.EitherOrder.{IsSomeImageView, IsViewInSome}
+use Rattle.lfs_tool.specs.EitherOrder.{IsImageView, IsEitherView}
 use Rattle.lfs_lookup.specs.FileBytes.{struct_file_bytes}
 use Rattle.lfs_lookup.specs.TreeWalk.{PathStruct}
 
 -- the disk is accepted, and these actions unpack what it shows
 abbrev pub UnpackDisk : Disk → List UnpackingAction → Type 0
-UnpackDisk disk actions = (view : DiskView) × (IsViewInSome disk view × Unpack view.tree actions)
+UnpackDisk disk actions = (view : DiskView) × (IsEitherView disk view × Unpack view.tree actions)
 
 -- the bytes are an image that these actions unpack
 abbrev pub UnpackImage : ImageLayout → List ℕ → List UnpackingAction → Type 0
-UnpackImage layout image actions = IsWhole layout.block_size layout.page image × ((view : DiskView) × (IsSomeImageView layout image view × Unpack view.tree actions))
+UnpackImage layout image actions = IsWholeImage layout.block_size layout.page image × ((view : DiskView) × (IsImageView layout image view × Unpack view.tree actions))
 
 -- these actions more were done, where what was done is known
-abbrev pub HasDoneFurther : Option (List UnpackingAction) → Option (List UnpackingAction) → List UnpackingAction → Type 0
-HasDoneFurther None new actions = Unit {0}
-HasDoneFurther (Some old) None actions = ⊥
-HasDoneFurther (Some old) (Some new) actions = new ≡ old ++ actions
+abbrev pub HasDone : Option (List UnpackingAction) → Option (List UnpackingAction) → List UnpackingAction → Type 0
+HasDone None new actions = Unit {0}
+HasDone (Some old) None actions = ⊥
+HasDone (Some old) (Some new) actions = new ≡ old ++ actions
 
 -- a beginning of them was done
-abbrev pub HasBegunActions : Option (List UnpackingAction) → Option (List UnpackingAction) → List UnpackingAction → Type 0
-HasBegunActions old new actions = (n : ℕ) × HasDoneFurther old new (take n actions)
+abbrev pub HasBegun : Option (List UnpackingAction) → Option (List UnpackingAction) → List UnpackingAction → Type 0
+HasBegun old new actions = (n : ℕ) × HasDone old new (take n actions)
 
 -- ---- the actions of what was found
 
@@ -40,15 +40,15 @@ struct_action disk path (Inline bytes) = PutFile path (struct_file_bytes disk (I
 struct_action disk path (Ctz head size) = PutFile path (struct_file_bytes disk (Ctz head size))
 struct_action disk path (Branch to) = MakeDirectory path
 
-abbrev pub tree_entry_action : Disk → PathStruct → UnpackingAction
-tree_entry_action disk p = struct_action disk p.path p.struct
+abbrev pub place_action : Disk → PathStruct → UnpackingAction
+place_action disk p = struct_action disk p.path p.struct
 
-abbrev pub tree_entry_actions : Disk → List PathStruct → List UnpackingAction
-tree_entry_actions disk places = map (tree_entry_action disk) places
+abbrev pub place_actions : Disk → List PathStruct → List UnpackingAction
+place_actions disk places = map (place_action disk) places
 
 -- the lists among them are well formed
 abbrev pub HaveFormedLists : Disk → List PathStruct → Type 0
-HaveFormedLists disk places = AllByRecursion (λ p. IsWellFormedCtz disk p.struct) places
+HaveFormedLists disk places = AllByRecursion (λ p. IsFormedList disk p.struct) places
 
 -- `Output` comes where the target has failed, and any other result where it hasn't: then memory ran out, if the result is an
 -- error
@@ -65,36 +65,36 @@ ReportsTargetFaults old new (Err e) = IsTargetError old new e
 
 -- the disk is accepted, and all that it shows was done
 abbrev pub HasUnpackedDisk : Disk → Option (List UnpackingAction) → Option (List UnpackingAction) → Type 0
-HasUnpackedDisk disk old new = (actions : List UnpackingAction) × (UnpackDisk disk actions × HasDoneFurther old new actions)
+HasUnpackedDisk disk old new = (actions : List UnpackingAction) × (UnpackDisk disk actions × HasDone old new actions)
 
 -- the same of a beginning of it
 abbrev pub HasBegunDisk : Disk → Option (List UnpackingAction) → Option (List UnpackingAction) → Type 0
-HasBegunDisk disk old new = (actions : List UnpackingAction) × (UnpackDisk disk actions × HasBegunActions old new actions)
+HasBegunDisk disk old new = (actions : List UnpackingAction) × (UnpackDisk disk actions × HasBegun old new actions)
 
 -- why a disk in memory isn't unpacked, and what was done then
-abbrev pub FailsToUnpackDisk : Disk → Option (List UnpackingAction) → Option (List UnpackingAction) → ToolError → Type 0
-FailsToUnpackDisk disk old new (Fs Corrupt) = IsMountError disk Corrupt × (new ≡ old)
-FailsToUnpackDisk disk old new (Fs NoMemory) = (new ≡ old) ⊎ HasBegunDisk disk old new
-FailsToUnpackDisk disk old new Output = HasBegunDisk disk old new
-FailsToUnpackDisk disk old new other = ⊥
+abbrev pub FailsOnDisk : Disk → Option (List UnpackingAction) → Option (List UnpackingAction) → ToolError → Type 0
+FailsOnDisk disk old new (Fs Corrupt) = IsMountError disk Corrupt × (new ≡ old)
+FailsOnDisk disk old new (Fs NoMemory) = (new ≡ old) ⊎ HasBegunDisk disk old new
+FailsOnDisk disk old new Output = HasBegunDisk disk old new
+FailsOnDisk disk old new other = ⊥
 
 abbrev pub HasUnpackedImage : ImageLayout → List ℕ → Option (List UnpackingAction) → Option (List UnpackingAction) → Type 0
-HasUnpackedImage layout image old new = (actions : List UnpackingAction) × (UnpackImage layout image actions × HasDoneFurther old new actions)
+HasUnpackedImage layout image old new = (actions : List UnpackingAction) × (UnpackImage layout image actions × HasDone old new actions)
 
 abbrev pub HasBegunImage : ImageLayout → List ℕ → Option (List UnpackingAction) → Option (List UnpackingAction) → Type 0
-HasBegunImage layout image old new = (actions : List UnpackingAction) × (UnpackImage layout image actions × HasBegunActions old new actions)
+HasBegunImage layout image old new = (actions : List UnpackingAction) × (UnpackImage layout image actions × HasBegun old new actions)
 
 -- the same of an image
-abbrev pub FailsToUnpackImage : ImageLayout → List ℕ → Option (List UnpackingAction) → Option (List UnpackingAction) → ToolError → Type 0
-FailsToUnpackImage layout image old new (Fs Corrupt) = IsInNeitherOrder layout image × (new ≡ old)
-FailsToUnpackImage layout image old new (Fs Invalid) = (¬ IsWhole layout.block_size layout.page image) × (new ≡ old)
-FailsToUnpackImage layout image old new (Fs NoMemory) = (new ≡ old) ⊎ HasBegunImage layout image old new
-FailsToUnpackImage layout image old new Output = HasBegunImage layout image old new
-FailsToUnpackImage layout image old new other = ⊥
+abbrev pub FailsOnImage : ImageLayout → List ℕ → Option (List UnpackingAction) → Option (List UnpackingAction) → ToolError → Type 0
+FailsOnImage layout image old new (Fs Corrupt) = IsInNeitherOrder layout image × (new ≡ old)
+FailsOnImage layout image old new (Fs Invalid) = (¬ IsWholeImage layout.block_size layout.page image) × (new ≡ old)
+FailsOnImage layout image old new (Fs NoMemory) = (new ≡ old) ⊎ HasBegunImage layout image old new
+FailsOnImage layout image old new Output = HasBegunImage layout image old new
+FailsOnImage layout image old new other = ⊥
 
 -- Why the bytes aren't unpacked, where they are known, and what was done then: nothing more, or a beginning of what unpacks them,
 -- where the target failed or memory ran out.
-pub record FailsToUnpackKnown (layout : ImageLayout) (image : Option (List ℕ)) (old new : Option (List UnpackingAction)) (e : ToolError) : Type 0 where
+pub record FailsOnKnown (layout : ImageLayout) (image : Option (List ℕ)) (old new : Option (List UnpackingAction)) (e : ToolError) : Type 0 where
   pub refused : (f : Error) → e ≡ Fs f → IfSome image (λ bytes. RefusesToList layout bytes f)
   pub undone : e ≢ Output → e ≢ Fs NoMemory → new ≡ old
   pub begun : (new ≡ old) ⊎ IfSome image (λ bytes. HasBegunImage layout bytes old new)

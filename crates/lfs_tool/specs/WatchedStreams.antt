@@ -11,5 +11,5 @@ abbrev pub watched_faults : {T : Type 0} → WatchedStream T → ℕ
 watched_faults w = w.faults.count
 
 -- how many values it has shown
-abbrev pub written_count : {T : Type 0} → WatchedStream T → ℕ
-written_count w = w.shown.count
+abbrev pub shown_count : {T : Type 0} → WatchedStream T → ℕ
+shown_count w = w.shown.count

@@ -41,7 +41,7 @@ abbrev pub IsFirstSuperblock : List ℕ → Superblock → Type 0
 IsFirstSuperblock bytes s = (from : ℕ) × (((from ≡ 0) ⊎ (from ≡ s.block_size)) × IsSuperblockAt bytes from (superblock_view s))
 
 -- a number in the superblock of block 0 or 1 is wrong for these bytes, in blocks of that size
-pub record IsWrongNumberIn (bytes : List ℕ) (block_size : ℕ) (versions : AcceptedVersions) (stated : WrongNumber) : Type 0 where
+pub record IsWrongIn (bytes : List ℕ) (block_size : ℕ) (versions : AcceptedVersions) (stated : WrongNumber) : Type 0 where
   pub sized : 0 < block_size
   pub from : ℕ
   pub block : (from ≡ 0) ⊎ (from ≡ block_size)
@@ -50,5 +50,5 @@ pub record IsWrongNumberIn (bytes : List ℕ) (block_size : ℕ) (versions : Acc
   pub unlike : IsWrongField block_size (length bytes / block_size) versions fields stated
 
 -- no number in the superblock of block 0 or 1 is wrong
-abbrev pub NoWrongNumberIn : List ℕ → ℕ → AcceptedVersions → Type 0
-NoWrongNumberIn bytes block_size versions = (stated : WrongNumber) → ¬ IsWrongNumberIn bytes block_size versions stated
+abbrev pub NoneIsWrong : List ℕ → ℕ → AcceptedVersions → Type 0
+NoneIsWrong bytes block_size versions = (stated : WrongNumber) → ¬ IsWrongIn bytes block_size versions stated

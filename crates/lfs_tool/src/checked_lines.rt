@@ -1,7 +1,7 @@
 // The lines of a check's result.
 
 ghost use Rattle.std.specs.Prelude.{◌≡◌, ◌++◌, IfOk, OnOk};
-ghost use Rattle.lfs_tool.specs.CheckedLines.{blocks_text, result_text, counts_text, limit_line, order_line, other_limit_text, profile_breach_text, recover_line, reason_text, summary_text, superblock_lines, version_line, writable_line, writable_text, yes_or_no_text};
+ghost use Rattle.lfs_tool.specs.CheckedLines.{blocks_text, result_text, counts_text, limit_line, order_line, other_limit_text, breach_text, recover_line, reason_text, summary_text, superblock_lines, version_line, writable_line, writable_text, yes_no_text};
 
 use crate::number_text::{NoImageText, PairText, WrongNumberText};
 use crate::verdict::{AcceptedOrders, CheckResult, GivenSizes, ImageSummary, RefusalReason};
@@ -16,9 +16,9 @@ use std::{fmt, io};
 
 impl fmt::Display for AcceptedOrders {
     ghost use Rattle.std.specs.Prelude.{Some};
-    ghost use Rattle.lfs_tool.specs.CheckedLines.{name_orders_text};
+    ghost use Rattle.lfs_tool.specs.CheckedLines.{orders_text};
 
-    ghost output = { λ orders. Some (name_orders_text orders) };
+    ghost output = { λ orders. Some (orders_text orders) };
 
     fn fmt<W: fmt::Write>(&self, f: &mut fmt::Formatter<W>) -> fmt::Result {
         match self {
@@ -78,7 +78,7 @@ fn push_profile_breach(
     inline_max: Option<u32>,
     breach: ProfileBreach,
 ) -> io::Result<()>
-    ensures { OnOk result (text.new.items ≡ text.old.items ++ profile_breach_text inline_max breach) }
+    ensures { OnOk result (text.new.items ≡ text.old.items ++ breach_text inline_max breach) }
 {
     match breach {
         ProfileBreach::OtherLimits { pair, slot, limit } => {
@@ -122,7 +122,7 @@ fn push_writable(
 }
 
 fn yes_or_no(yes: bool) -> &'static str
-    ensures { result.now ≡ yes_or_no_text yes }
+    ensures { result.now ≡ yes_no_text yes }
 {
     if yes { "yes" } else { "no" }
 }

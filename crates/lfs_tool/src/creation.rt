@@ -2,7 +2,7 @@ ghost use Rattle.std.specs.Prelude.{◌≡◌, ◌≢◌, IfErr, IfOk, IsErrOf, 
 ghost use Rattle.lfs_device.specs.RamDevice.{ram_bytes};
 ghost use Rattle.lfs_fs.specs.SessionView.{system_state};
 ghost use Rattle.lfs_tool.specs.Reports.{ReportsWriterFaults};
-ghost use Rattle.lfs_tool.specs.MadeImages.{AreImageBytes, BeginsOnFreshDisk, RefusesSource, HasWrittenBeginning, HasWrittenImage, RefusesEntries, ReportsSourceFaults};
+ghost use Rattle.lfs_tool.specs.MadeImages.{AreImageBytes, BeginsFresh, RefusesSource, HasWrittenBeginning, HasWrittenImage, RefusesEntries, ReportsSourceFaults};
 ghost use Rattle.lfs_tool_folders.specs.SourceEntries.{AreSourceEntries};
 
 use crate::output::write_and_flush;
@@ -39,7 +39,7 @@ fn begin_session(
     geometry: Geometry,
     order: NameOrder,
 ) -> Result<Session<RamDevice>, Error>
-    ensures begins { IfOk result (λ s. BeginsOnFreshDisk geometry order (system_state s)) }
+    ensures begins { IfOk result (λ s. BeginsFresh geometry order (system_state s)) }
     ensures err { IfErr result (λ e. e ≡ Error.NoMemory) }
 {
     let device = RamDevice::blank(alloc, geometry)?;

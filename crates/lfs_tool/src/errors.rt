@@ -6,8 +6,8 @@ ghost use Rattle.lfs_model.specs.layers.Listing.{newline};
 ghost use Rattle.lfs_tool.specs.Errors.{error_line, error_line_of, error_status};
 ghost use Rattle.lfs_tool.specs.ExitStatus.{is_help_request};
 ghost use Rattle.lfs_tool.specs.KnownBytes.{AppendsBeginning};
-ghost use Rattle.lfs_tool.specs.Reports.{HasWrittenOne};
-ghost use Rattle.lfs_tool.specs.RunEnds.{IsFailureReportedWithStatus};
+ghost use Rattle.lfs_tool.specs.Reports.{HasShownOne};
+ghost use Rattle.lfs_tool.specs.RunEnds.{IsFailureReported};
 
 use crate::ToolOutput;
 use crate::output::write_and_flush;
@@ -154,9 +154,9 @@ fn write_error_line<E: ToolOutput>(err: &mut E, error: ToolError) -> u8
 /// a line of the tool's own is written whole, or the parser's text is shown. Either is flushed.
 /// No promise is made of the parser's text.
 pub fn report<O: ToolOutput, E: ToolOutput>(fault: &Fault, out: &mut O, err: &mut E) -> u8
-    ensures shown { IsFailureReportedWithStatus E.ToolOutput fault.now result err.old err.new }
+    ensures shown { IsFailureReported E.ToolOutput fault.now result err.old err.new }
     ensures out { is_help_request fault.now ≡ false → out.new ≡ out.old }
-    ensures help { is_help_request fault.now ≡ true → HasWrittenOne O.ToolOutput out.old out.new }
+    ensures help { is_help_request fault.now ≡ true → HasShownOne O.ToolOutput out.old out.new }
 {
     match fault {
         Fault::Line(LineError::Modes) => write_mistake(err, "give exactly one of -c, -u, -l"),

@@ -3,7 +3,7 @@
 ghost use Rattle.std.specs.Prelude.{◌≡◌, ◌⊎◌, ◌<◌, ◌/◌, ◌%◌, ◌^◌, [], Err, List, IfErr, IfOk, OnOk, length};
 ghost use Rattle.lfs_device.specs.RamDevice.{ram_blocks, ram_geometry, ram_history};
 ghost use Rattle.lfs_device.specs.DeviceDisk.{disk_of_blocks as shown};
-ghost use Rattle.lfs_model.specs.format.Disk.{ordered_disk, IsWhole, disk_of_image};
+ghost use Rattle.lfs_model.specs.format.Disk.{ordered_disk, IsWholeImage, disk_of_image};
 ghost use Rattle.lfs_model.specs.format.Geometry.{IsValidGeometry};
 ghost use Rattle.lfs_model.specs.format.Thread.{Pair};
 ghost use Rattle.lfs_model.specs.tree.View.{IsAccepted};
@@ -11,7 +11,7 @@ ghost use Rattle.lfs_model.specs.declared.order.NameOrder.{NameOrder};
 ghost use Rattle.lfs_model.specs.declared.order.NameOrder.TheVariants.{LongerFirst};
 ghost use Rattle.lfs_mount.specs.Accepted.{IsMountedOn};
 ghost use Rattle.lfs_mount.specs.MountFaults.{IsErrorOfMount};
-ghost use Rattle.lfs_thread.specs.ThreadDevice.{GivesDeviceBackOnlyReadWithError};
+ghost use Rattle.lfs_thread.specs.ThreadDevice.{GivesDeviceBack};
 ghost use Rattle.lfs_thread.specs.Kept.{disk_of_device};
 ghost use Rattle.lfs_tool.specs.SparseView.{sparse_geometry};
 ghost use Rattle.lfs_tool.specs.Listings.{IsWalkedThread, IsMountError};
@@ -45,10 +45,10 @@ fn geometry_of_length(len: usize, layout: ImageLayout) -> Result<Geometry, Error
 /// `Invalid` exactly where no image has so many bytes.
 pub fn ram_device_of(image: Vec<u8>, layout: ImageLayout) -> Result<RamDevice, Error>
     requires { length image.items < 2 ^ 32 }
-    ensures image { OnOk result (IsWhole layout.block_size layout.page image.items) }
+    ensures image { OnOk result (IsWholeImage layout.block_size layout.page image.items) }
     ensures disk { IfOk result (λ d. shown (ram_geometry d) (ram_blocks d) ≡ disk_of_image layout.block_size layout.page layout.profile LongerFirst image.items) }
     ensures no_call { IfOk result (λ d. ram_history d ≡ []) }
-    ensures err { IfErr result (λ e. (e ≡ Error.Invalid) × (¬ IsWhole layout.block_size layout.page image.items)) }
+    ensures err { IfErr result (λ e. (e ≡ Error.Invalid) × (¬ IsWholeImage layout.block_size layout.page image.items)) }
 {
     let geometry = geometry_of_length(image.len(), layout)?;
     RamDevice::from_bytes(geometry, image)
@@ -74,7 +74,7 @@ fn mount_thread<D: BlockDevice>(alloc: Global, device: D) -> Result<Thread<D>, (
     ensures mounted { IfOk result (λ t. IsMountedOn (ordered_disk t.kept.disk.order (disk_of_device D.BlockDevice device)) (D.history device) t) }
     ensures corrupt { IfErr result (λ e. e.1 ≡ Error.Corrupt → (order : NameOrder) (ps : List Pair) → ¬ IsAccepted (ordered_disk order (disk_of_device D.BlockDevice device)) ps) }
     ensures errors { IfErr result (λ e. IsErrorOfMount e.1) }
-    ensures back { IfErr result (λ e. GivesDeviceBackOnlyReadWithError D.BlockDevice device e.0 e.1) }
+    ensures back { IfErr result (λ e. GivesDeviceBack D.BlockDevice device e.0 e.1) }
 {
     match mount(alloc, device) {
         Ok(thread) => Ok(thread),
@@ -91,7 +91,7 @@ pub(crate) fn tree_items_of<D: BlockDevice>(
     ensures items { IfOk result (λ found. IsWalkedThread (disk_of_device D.BlockDevice device) found.0 (tree_items_view found.1.items)) }
     ensures corrupt { IfErr result (λ e. e.1 ≡ Error.Corrupt → (order : NameOrder) (ps : List Pair) → ¬ IsAccepted (ordered_disk order (disk_of_device D.BlockDevice device)) ps) }
     ensures errors { IfErr result (λ e. IsErrorOfMount e.1) }
-    ensures back { IfErr result (λ e. GivesDeviceBackOnlyReadWithError D.BlockDevice device e.0 e.1) }
+    ensures back { IfErr result (λ e. GivesDeviceBack D.BlockDevice device e.0 e.1) }
 {
     let mut thread = mount_thread(alloc, device)?;
     match walk_tree(alloc, &mut thread) {

@@ -11,7 +11,7 @@ ghost use Rattle.lfs_mount.specs.MountFaults.{IsErrorOfMount};
 ghost use Rattle.lfs_thread.specs.Kept.{disk_of_device};
 ghost use Rattle.lfs_tool.specs.KnownBytes.{AppendsBeginning, IsListingError, IsListingRefusal};
 ghost use Rattle.lfs_tool.specs.Reports.{IsReadToEnd, ReportsOneFault, ReportsWriterFaults};
-ghost use Rattle.lfs_tool.specs.Listings.{IsListingOfDisk, IsMountError, IsListingOfImage, RefusesToList};
+ghost use Rattle.lfs_tool.specs.Listings.{IsDiskListing, IsMountError, IsImageListing, RefusesToList};
 
 use crate::image_devices::{ram_device_of, tree_items_of};
 use crate::input::read_image;
@@ -33,7 +33,7 @@ pub fn lines_of_device<D: BlockDevice + Drop>(
     alloc: Global,
     device: D,
 ) -> Result<Vec<u8>, (D, Error)>
-    ensures lines { IfOk result (λ text. (order : NameOrder) × IsListingOfDisk (ordered_disk order (disk_of_device D.BlockDevice device)) text.items) }
+    ensures lines { IfOk result (λ text. (order : NameOrder) × IsDiskListing (ordered_disk order (disk_of_device D.BlockDevice device)) text.items) }
     ensures corrupt { IfErr result (λ e. e.1 ≡ Error.Corrupt → (order : NameOrder) (ps : List Pair) → ¬ IsAccepted (ordered_disk order (disk_of_device D.BlockDevice device)) ps) }
     ensures errors { IfErr result (λ e. IsErrorOfMount e.1) }
     ensures fault { IfErr result (λ e. e.1 ≡ Error.Io → fault_count (D.history device) < fault_count (D.history e.0)) }
@@ -47,7 +47,7 @@ pub fn lines_of_device<D: BlockDevice + Drop>(
 
 // Returns the lines of a device in memory.
 fn lines_of_ram(alloc: Global, device: RamDevice) -> Result<Vec<u8>, Error>
-    ensures lines { IfOk result (λ text. (order : NameOrder) × IsListingOfDisk (ordered_disk order (shown (ram_geometry device) (ram_blocks device))) text.items) }
+    ensures lines { IfOk result (λ text. (order : NameOrder) × IsDiskListing (ordered_disk order (shown (ram_geometry device) (ram_blocks device))) text.items) }
     ensures err { IfErr result (IsMountError (shown (ram_geometry device) (ram_blocks device))) }
 {
     match lines_of_device(alloc, device) {
@@ -59,7 +59,7 @@ fn lines_of_ram(alloc: Global, device: RamDevice) -> Result<Vec<u8>, Error>
 // Returns the lines of the bytes of an image.
 fn lines_of_image(alloc: Global, image: Vec<u8>, layout: ImageLayout) -> Result<Vec<u8>, Error>
     requires { length image.items < 2 ^ 32 }
-    ensures ok { IfOk result (λ text. IsListingOfImage layout image.items text.items) }
+    ensures ok { IfOk result (λ text. IsImageListing layout image.items text.items) }
     ensures err { IfErr result (RefusesToList layout image.items) }
 {
     match ram_device_of(image, layout) {
@@ -74,7 +74,7 @@ fn read_as_lines<R: ImageInput>(
     image: &mut R,
     layout: ImageLayout,
 ) -> Result<Vec<u8>, ToolError>
-    ensures ok { IfOk result (λ text. IfSome (R.remaining image.old) (λ bytes. IsListingOfImage layout bytes text.items)) }
+    ensures ok { IfOk result (λ text. IfSome (R.remaining image.old) (λ bytes. IsImageListing layout bytes text.items)) }
     ensures refused { (e : _) → IsErrOf result (ToolError.Fs e) → IfSome (R.remaining image.old) (λ bytes. RefusesToList layout bytes e) }
     ensures kept { OnOk result (R.faults image.new ≡ R.faults image.old) }
     ensures failed { IfErr result (λ e. IsListingError e (R.faults image.old) (R.faults image.new)) }
@@ -111,12 +111,12 @@ pub fn list<R: ImageInput, W: ToolOutput>(
     out: &mut W,
 ) -> Result<(), ToolError>
     ensures ok { OnOk result (IfSome (R.remaining image.old) (λ bytes.
-        (text : _) × (IsListingOfImage layout bytes text × Appends (W.contents out.old) (W.contents out.new) text))) }
+        (text : _) × (IsImageListing layout bytes text × Appends (W.contents out.old) (W.contents out.new) text))) }
 
     // Where the writer fails, a beginning of the lines may be written.
     ensures writer { ReportsWriterFaults W.ToolOutput out.old out.new result }
     ensures beginning { IsErrOf result ToolError.Output → IfSome (R.remaining image.old) (λ bytes.
-        (text : _) × (IsListingOfImage layout bytes text × AppendsBeginning (W.contents out.old) (W.contents out.new) text)) }
+        (text : _) × (IsImageListing layout bytes text × AppendsBeginning (W.contents out.old) (W.contents out.new) text)) }
 
     // When each other error comes.
     ensures refused { (e : _) → IsErrOf result (ToolError.Fs e) → IsListingRefusal e × IfSome (R.remaining image.old) (λ bytes. RefusesToList layout bytes e) }

@@ -11,7 +11,7 @@ pub struct LoadedBlock {
 }
 
 impl LoadedBlock {
-    ghost use Rattle.lfs_tool.specs.LoadedBlocks.{loaded_block_bytes};
+    ghost use Rattle.lfs_tool.specs.LoadedBlocks.{loaded_bytes};
 
     // Makes a block of this size that begins with these bytes.
     pub(crate) fn new(size: usize, bytes: Vec<u8>) -> LoadedBlock
@@ -30,7 +30,7 @@ impl LoadedBlock {
     // Fills the buffer with the block's bytes from an offset on, where they are loaded. Returns whether they are.
     pub(crate) fn read(&self, off: usize, buf: &mut [u8]) -> bool
         requires { off + length buf.old ≤ self.now.size }
-        ensures { result ≡ true → buf.new ≡ slice_range (loaded_block_bytes self.now) off (off + length buf.old) }
+        ensures { result ≡ true → buf.new ≡ slice_range (loaded_bytes self.now) off (off + length buf.old) }
     {
         let end = off + buf.len();
         if end > self.bytes.len() {

@@ -3,7 +3,7 @@ ghost use Rattle.lfs_model.specs.format.Blocks.{block_bytes, SameExcept};
 ghost use Rattle.lfs_model.specs.session.History.{call_event, LeftByLatest, AreUnprogrammed};
 ghost use Rattle.lfs_model.specs.session.History.DeviceCall.{Read, Program, Erase};
 ghost use Rattle.lfs_model.specs.crash.Conformance.{CallsConform};
-ghost use Rattle.lfs_tool.specs.LoadedBlocks.{AreLoadedOfSize, bytes_of_loaded, padded_to_size};
+ghost use Rattle.lfs_tool.specs.LoadedBlocks.{AreLoadedOfSize, blocks_as_loaded, padded_to_size};
 
 use crate::loaded_block::LoadedBlock;
 use lfs_device::{BlockDevice, Error, Geometry, Trace};
@@ -20,7 +20,7 @@ pub struct SparseDevice {
     trace: Trace,
     ghost count: { length blocks.items ≡ geometry.block_count },
     ghost sizes: { AreLoadedOfSize geometry.block_size blocks.items },
-    ghost newest: { LeftByLatest trace.events (bytes_of_loaded blocks.items) },
+    ghost newest: { LeftByLatest trace.events (blocks_as_loaded blocks.items) },
     ghost conforms: { CallsConform trace.events },
 }
 

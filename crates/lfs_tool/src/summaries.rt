@@ -5,7 +5,7 @@ ghost use Rattle.lfs_model.specs.layers.BlockSets.{AreUsed};
 ghost use Rattle.lfs_model.specs.format.Disk.{default_profile};
 ghost use Rattle.lfs_model.specs.layers.ProfileBreaches.{IsBreachIfAny};
 ghost use Rattle.lfs_model.specs.tree.Shown.{used_blocks};
-ghost use Rattle.lfs_model.specs.format.Thread.{pair_count_before_root};
+ghost use Rattle.lfs_model.specs.format.Thread.{count_before_root};
 ghost use Rattle.lfs_model.specs.tree.View.{IsAccepted};
 ghost use Rattle.lfs_tag.specs.FieldsView.{move_view};
 ghost use Rattle.lfs_thread.specs.ThreadSteps.{OnlyReadsThread};
@@ -76,7 +76,7 @@ fn superblock_to_tell<D: BlockDevice>(
 ) -> Result<Option<Superblock>, Error>
     requires works { thread.old.failed ≡ false }
     requires accepted { IsAccepted thread.old.kept.disk thread.old.kept.pairs }
-    requires root { root ≡ pair_count_before_root thread.old.kept.pairs }
+    requires root { root ≡ count_before_root thread.old.kept.pairs }
     ensures told { IfOk result (IsSuperblockTold thread.old.kept.disk.profile thread.old.kept.pairs) }
     ensures only { (OnlyReadsThread thread.old.kept thread.new.kept) × (thread.new.failed ≡ false) }
 {

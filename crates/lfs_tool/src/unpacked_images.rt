@@ -3,9 +3,9 @@
 ghost use Rattle.std.specs.Prelude.{◌≡◌, ◌⊎◌, ◌<◌, ◌^◌, IfErr, IfOk, IfSome, IsErrOf, OnErr, OnOk, false, length};
 ghost use Rattle.lfs_device.specs.RamDevice.{ram_blocks, ram_geometry};
 ghost use Rattle.lfs_device.specs.DeviceDisk.{disk_of_blocks as shown};
-ghost use Rattle.lfs_model.specs.tree.View.{IsWellFormedCtz};
+ghost use Rattle.lfs_model.specs.tree.View.{IsFormedList};
 ghost use Rattle.lfs_tool_folders.specs.Actions.{AddsAction};
-ghost use Rattle.lfs_tool.specs.Unpackings.{HaveFormedLists, FailsToUnpackDisk, FailsToUnpackImage, HasBegunActions, HasDoneFurther, FailsToUnpackKnown, HasUnpackedDisk, HasUnpackedImage, ReportsTargetFaults, tree_entry_action, tree_entry_actions};
+ghost use Rattle.lfs_tool.specs.Unpackings.{HaveFormedLists, FailsOnDisk, FailsOnImage, HasBegun, HasDone, FailsOnKnown, HasUnpackedDisk, HasUnpackedImage, ReportsTargetFaults, place_action, place_actions};
 ghost use Rattle.lfs_thread.specs.ThreadSteps.{OnlyReadsThread};
 ghost use Rattle.lfs_lookup.specs.FileBytes.{struct_file_bytes};
 ghost use Rattle.lfs_lookup.specs.Items.{owned_view};
@@ -28,7 +28,7 @@ fn file_bytes(
     structure: &OwnedStruct,
 ) -> Result<Vec<u8>, ToolError>
     requires works { thread.old.failed ≡ false }
-    requires list { IsWellFormedCtz thread.old.kept.disk (owned_view structure.now) }
+    requires list { IsFormedList thread.old.kept.disk (owned_view structure.now) }
     ensures bytes { IfOk result (λ bytes. bytes.items ≡ struct_file_bytes thread.old.kept.disk (owned_view structure.now)) }
     ensures only { OnlyReadsThread thread.old.kept thread.new.kept }
     ensures works { thread.new.failed ≡ false }
@@ -62,8 +62,8 @@ fn put_tree_item<T: Target>(
     target: &mut T,
 ) -> Result<(), ToolError>
     requires works { thread.old.failed ≡ false }
-    requires list { IsWellFormedCtz thread.old.kept.disk (owned_view item.now.structure) }
-    ensures done { OnOk result (AddsAction (T.done target.old) (T.done target.new) (tree_entry_action thread.old.kept.disk (tree_item_view item.now))) }
+    requires list { IsFormedList thread.old.kept.disk (owned_view item.now.structure) }
+    ensures done { OnOk result (AddsAction (T.done target.old) (T.done target.new) (place_action thread.old.kept.disk (tree_item_view item.now))) }
     ensures undone { OnErr result (T.done target.new ≡ T.done target.old) }
     ensures only { (OnlyReadsThread thread.old.kept thread.new.kept) × (thread.new.failed ≡ false) }
     ensures reports { ReportsTargetFaults (T.faults target.old) (T.faults target.new) result }
@@ -109,8 +109,8 @@ fn put_tree_items<T: Target, F: FollowsProgress>(
 ) -> Result<(), ToolError>
     requires works { thread.old.failed ≡ false }
     requires lists { HaveFormedLists thread.old.kept.disk (tree_items_view items.now) }
-    ensures done { OnOk result (HasDoneFurther (T.done target.old) (T.done target.new) (tree_entry_actions thread.old.kept.disk (tree_items_view items.now))) }
-    ensures begun { OnErr result (HasBegunActions (T.done target.old) (T.done target.new) (tree_entry_actions thread.old.kept.disk (tree_items_view items.now))) }
+    ensures done { OnOk result (HasDone (T.done target.old) (T.done target.new) (place_actions thread.old.kept.disk (tree_items_view items.now))) }
+    ensures begun { OnErr result (HasBegun (T.done target.old) (T.done target.new) (place_actions thread.old.kept.disk (tree_items_view items.now))) }
     ensures reports { ReportsTargetFaults (T.faults target.old) (T.faults target.new) result }
 {
     progress.begin(counts_of_items(items));
@@ -129,7 +129,7 @@ fn unpack_ram_device<T: Target, F: FollowsProgress>(
     progress: &mut F,
 ) -> Result<(), ToolError>
     ensures done { OnOk result (HasUnpackedDisk (shown (ram_geometry device) (ram_blocks device)) (T.done target.old) (T.done target.new)) }
-    ensures failed { IfErr result (FailsToUnpackDisk (shown (ram_geometry device) (ram_blocks device)) (T.done target.old) (T.done target.new)) }
+    ensures failed { IfErr result (FailsOnDisk (shown (ram_geometry device) (ram_blocks device)) (T.done target.old) (T.done target.new)) }
     ensures output { ReportsOneFault ToolError.Output (T.faults target.old) (T.faults target.new) result }
 {
     match ram_tree_items(alloc, device) {
@@ -148,7 +148,7 @@ fn unpack_image<T: Target, F: FollowsProgress>(
 ) -> Result<(), ToolError>
     requires { length image.items < 2 ^ 32 }
     ensures done { OnOk result (HasUnpackedImage layout image.items (T.done target.old) (T.done target.new)) }
-    ensures failed { IfErr result (FailsToUnpackImage layout image.items (T.done target.old) (T.done target.new)) }
+    ensures failed { IfErr result (FailsOnImage layout image.items (T.done target.old) (T.done target.new)) }
     ensures output { ReportsOneFault ToolError.Output (T.faults target.old) (T.faults target.new) result }
 {
     match ram_device_of(image, layout) {
@@ -184,7 +184,7 @@ pub fn unpack<R: ImageInput, T: Target, F: FollowsProgress>(
     ensures done { OnOk result (IfSome (R.remaining image.old) (λ bytes. HasUnpackedImage layout bytes (T.done target.old) (T.done target.new))) }
 
     // Nothing is done, or a beginning of the actions, where the target failed or memory ran out.
-    ensures failed { IfErr result (FailsToUnpackKnown layout (R.remaining image.old) (T.done target.old) (T.done target.new)) }
+    ensures failed { IfErr result (FailsOnKnown layout (R.remaining image.old) (T.done target.old) (T.done target.new)) }
 
     // When each error comes.
     ensures input { ReportsOneFault ToolError.Input (R.faults image.old) (R.faults image.new) result }

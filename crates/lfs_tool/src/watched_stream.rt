@@ -75,13 +75,13 @@ impl<R: Read> ImageInput for WatchedStream<R> {
 }
 
 impl<W: Write> ToolOutput for WatchedStream<W> {
-    ghost use Rattle.lfs_tool.specs.WatchedStreams.{watched_faults, watched_inner, written_count};
+    ghost use Rattle.lfs_tool.specs.WatchedStreams.{watched_faults, watched_inner, shown_count};
 
     ghost contents = { λ w. W.contents (watched_inner w) };
 
     ghost faults = { watched_faults };
 
-    ghost shown = { written_count };
+    ghost shown = { shown_count };
 
     // A writer that takes nothing of some bytes fails.
     fn write(&mut self, buf: &[u8]) -> io::Result<usize> {

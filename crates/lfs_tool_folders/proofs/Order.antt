@@ -11,11 +11,11 @@ use Rattle.std.proofs.lemmas.List.Sums.{sum_by-cons}
 use Rattle.std.proofs.lemmas.List.Sorted.{IsPermutation-map, sum_by-IsPermutation}
 use Rattle.lfs_model.specs.declared.order.NameOrder.TheVariants.{ShorterFirst}
 use Rattle.lfs_model.specs.format.Names.{Name, name_cmp, same_name, is_component, is_less}
-use Rattle.lfs_model.specs.layers.Source.{HaveBadName, TreeSource, source_names, name_count}
+use Rattle.lfs_model.specs.layers.Source.{HaveBadName, TreeSource, source_names, name_occurrences}
 use Rattle.lfs_tool_folders.specs.SourceTrees.{listed_view}
 use Rattle.lfs_model.proofs.Counts.{Each, each_weaker}
 use Rattle.lfs_model.proofs.Paths.{name_from_equal, same_itself}
-use Rattle.lfs_tool_folders.specs.SourceEntries.{AreRising, is_listed_before, listed_bytes, components_rise_after}
+use Rattle.lfs_tool_folders.specs.SourceEntries.{AreRising, is_listed_before, listed_bytes, rise_after}
 use Rattle.lfs_tool_folders.specs.declared.source.ListedName.{ListedName}
 
 -- ---- in order
@@ -30,10 +30,10 @@ record Rises (last : Name) (ns : List Name) : Type 0 where
   above : Each (λ n. name_cmp ShorterFirst last n ≡ Less) ns
   pairs : AllPairs (λ a b. name_cmp ShorterFirst a b ≡ Less) ns
 
-rises_from : (last : Name) (ns : List Name) → components_rise_after last ns ≡ true → Rises last ns
+rises_from : (last : Name) (ns : List Name) → rise_after last ns ≡ true → Rises last ns
 rises_from last [] e = record { components = tt; above = tt; pairs = λ i j d l m. absurd (omega arith) }
 rises_from last (n ∷ ns) e =
-    let one = and_parts (is_component n && is_less (name_cmp ShorterFirst last n)) (components_rise_after n ns) e in
+    let one = and_parts (is_component n && is_less (name_cmp ShorterFirst last n)) (rise_after n ns) e in
     let two = and_parts (is_component n) (is_less (name_cmp ShorterFirst last n)) one.0 in
     let less = less_from (name_cmp ShorterFirst last n) two.1 in
     let rest = rises_from n ns one.1 in
@@ -43,7 +43,7 @@ rises_from last (n ∷ ns) e =
       pairs = AllPairs-cons (λ a b. name_cmp ShorterFirst a b ≡ Less) n ns (All-from_recursion (λ m. name_cmp ShorterFirst n m ≡ Less) ns rest.above) rest.pairs;
     }
 
-pub in_order : (ns : List Name) → components_rise_after [] ns ≡ true → AreRising ns
+pub in_order : (ns : List Name) → rise_after [] ns ≡ true → AreRising ns
 in_order ns e =
     let r = rises_from [] ns e in
     record { components = All-from_recursion (λ n. is_component n ≡ true) ns r.components; rise = r.pairs }
@@ -65,11 +65,11 @@ never_fall (x ∷ y ∷ xs) h = (
       subst (λ i. is_listed_before (get_or (x ∷ y ∷ xs) i d) (get_or (y ∷ xs) k d) ≡ false) next (h (suc k) d (omega arith) (omega arith))),
 )
 
-times_more : (name n : Name) (ns : List Name) → name_count name (n ∷ ns) ≡ cond (same_name name n) 1 0 + name_count name ns
+times_more : (name n : Name) (ns : List Name) → name_occurrences name (n ∷ ns) ≡ cond (same_name name n) 1 0 + name_occurrences name ns
 times_more name n ns = sum_by-cons (λ m. cond (same_name name m) 1 0) n ns
 
-here_too : (n : Name) (ns : List Name) → name_count n (n ∷ ns) ≡ 1 + name_count n ns
-here_too n ns = times_more n n ns ∙ ap (λ b. cond b 1 0 + name_count n ns) (same_itself n)
+here_too : (n : Name) (ns : List Name) → name_occurrences n (n ∷ ns) ≡ 1 + name_occurrences n ns
+here_too n ns = times_more n n ns ∙ ap (λ b. cond b 1 0 + name_occurrences n ns) (same_itself n)
 
 bad_later : (n : Name) (ns : List Name) → HaveBadName ns → HaveBadName (n ∷ ns)
 bad_later n ns (inl h) = inl (h.0, h.1, omega (arith, h.2, times_more h.0 n ns))
@@ -81,11 +81,11 @@ odd_here n ns e = inl (n, e, omega (arith, here_too n ns))
 twice : (n : Name) (ns : List Name) → HaveBadName (n ∷ n ∷ ns)
 twice n ns = inr (n, omega (arith, here_too n (n ∷ ns), here_too n ns))
 
-bad_behind : (last : Name) (ns : List Name) → NeverFall (last ∷ ns) → components_rise_after last ns ≡ false → HaveBadName (last ∷ ns)
+bad_behind : (last : Name) (ns : List Name) → NeverFall (last ∷ ns) → rise_after last ns ≡ false → HaveBadName (last ∷ ns)
 bad_behind last [] h e = absurd (cc)
 bad_behind last (n ∷ ns) h e = go (is_component n) (name_cmp ShorterFirst last n) refl refl e (bad_behind n ns h.1)
   where
-    go : (c : Bool) (o : Ordering) → is_component n ≡ c → name_cmp ShorterFirst last n ≡ o → (c && is_less o && components_rise_after n ns) ≡ false → (components_rise_after n ns ≡ false → HaveBadName (n ∷ ns)) → HaveBadName (last ∷ n ∷ ns)
+    go : (c : Bool) (o : Ordering) → is_component n ≡ c → name_cmp ShorterFirst last n ≡ o → (c && is_less o && rise_after n ns) ≡ false → (rise_after n ns ≡ false → HaveBadName (n ∷ ns)) → HaveBadName (last ∷ n ∷ ns)
     go false o is cmp f next = bad_later last (n ∷ ns) (odd_here n ns is)
     go true Less is cmp f next = bad_later last (n ∷ ns) (next f)
     go true Equal is cmp f next = subst (λ m. HaveBadName (last ∷ m ∷ ns)) (name_from_equal last n cmp) (twice last ns)
@@ -98,20 +98,20 @@ above_nothing : (n : Name) → is_component n ≡ true → is_less (name_cmp Sho
 above_nothing [] e = absurd (cc)
 above_nothing (b ∷ n) e = refl
 
-bad_from : (ns : List Name) → NeverFall ns → components_rise_after [] ns ≡ false → HaveBadName ns
+bad_from : (ns : List Name) → NeverFall ns → rise_after [] ns ≡ false → HaveBadName ns
 bad_from [] h e = absurd (cc)
 bad_from (n ∷ ns) h e = go (is_component n) refl e
   where
-    go : (c : Bool) → is_component n ≡ c → (c && is_less (name_cmp ShorterFirst [] n) && components_rise_after n ns) ≡ false → HaveBadName (n ∷ ns)
+    go : (c : Bool) → is_component n ≡ c → (c && is_less (name_cmp ShorterFirst [] n) && rise_after n ns) ≡ false → HaveBadName (n ∷ ns)
     go false is f = odd_here n ns is
-    go true is f = bad_behind n ns h (sym (ap (λ b. b && components_rise_after n ns) (above_nothing n is)) ∙ f)
+    go true is f = bad_behind n ns h (sym (ap (λ b. b && rise_after n ns) (above_nothing n is)) ∙ f)
 
-pub bad_names : (xs : List ListedName) → IsSortedBy is_listed_before xs → components_rise_after [] (map listed_bytes xs) ≡ false → HaveBadName (map listed_bytes xs)
+pub bad_names : (xs : List ListedName) → IsSortedBy is_listed_before xs → rise_after [] (map listed_bytes xs) ≡ false → HaveBadName (map listed_bytes xs)
 bad_names xs h e = bad_from (map listed_bytes xs) (never_fall xs h) e
 
 -- ---- in another order
 
-same_times : (xs ys : List ListedName) (name : Name) → IsPermutation xs ys → name_count name (map listed_bytes ys) ≡ name_count name (map listed_bytes xs)
+same_times : (xs ys : List ListedName) (name : Name) → IsPermutation xs ys → name_occurrences name (map listed_bytes ys) ≡ name_occurrences name (map listed_bytes xs)
 same_times xs ys name h = sum_by-IsPermutation (λ n. cond (same_name name n) 1 0) (map listed_bytes xs) (map listed_bytes ys) (IsPermutation-map listed_bytes xs ys h)
 
 bad_before : (xs ys : List ListedName) → IsPermutation xs ys → HaveBadName (map listed_bytes ys) → HaveBadName (map listed_bytes xs)

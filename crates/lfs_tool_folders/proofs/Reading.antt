@@ -8,7 +8,7 @@ use Rattle.std.proofs.lemmas.List.Sorted.{All-permutation, IsPermutation-map}
 use Rattle.lfs_model.specs.format.Names.{Name}
 use Rattle.lfs_model.specs.layers.Source.{HaveBadName, TreeSource, source_names, path_in_folder}
 use Rattle.lfs_model.proofs.Counts.{Each, each_append, each_left, each_right}
-use Rattle.lfs_tool_folders.specs.SourceTrees.{IsSourceUnchanged, listed_view}
+use Rattle.lfs_tool_folders.specs.SourceTrees.{IsUnchanged, listed_view}
 use Rattle.lfs_tool_folders.specs.MemorySources.{optional_view}
 use Rattle.lfs_tool_folders.specs.SourceEntries.{AreSourceEntries, AreRising, AreDepthFirst, AreFolderNames, HasBadNames, HasSourceContents, IsSourceFolder, IsFolderReached, PathKind, listed_bytes, paths_in_folder}
 use Rattle.lfs_tool_folders.specs.declared.source.ListedName.{ListedName}
@@ -17,21 +17,21 @@ use Rattle.lfs_tool_folders.proofs.Order.{names_given}
 
 -- ---- what a source shows stays
 
-pub rests_both : (a b c : Option TreeSource) → IsSourceUnchanged a b → IsSourceUnchanged b c → IsSourceUnchanged a c
+pub rests_both : (a b c : Option TreeSource) → IsUnchanged a b → IsUnchanged b c → IsUnchanged a c
 rests_both None b c x y = tt
 rests_both (Some t) None c x y = absurd x
 rests_both (Some t) (Some u) None x y = absurd y
 rests_both (Some t) (Some u) (Some v) x y = y ∙ x
 
-pub along : (P : TreeSource → Type 0) (a b : Option TreeSource) → IsSourceUnchanged a b → IfSome b P → IfSome a P
+pub along : (P : TreeSource → Type 0) (a b : Option TreeSource) → IsUnchanged a b → IfSome b P → IfSome a P
 along P None b x p = tt
 along P (Some t) None x p = absurd x
 along P (Some t) (Some u) x p = subst P x p
 
-pub within_along : (a b : Option TreeSource) (folder : List ℕ) (within : List (Name × Bool)) → IsSourceUnchanged a b → AreFolderNames b folder within → AreFolderNames a folder within
+pub within_along : (a b : Option TreeSource) (folder : List ℕ) (within : List (Name × Bool)) → IsUnchanged a b → AreFolderNames b folder within → AreFolderNames a folder within
 within_along a b folder within x h = record { order = h.order; names = along (λ s. IsPermutation (s.names folder) within) a b x h.names }
 
-pub holds_along : (a b : Option TreeSource) (path : List ℕ) (is_folder : Bool) (bytes : Option (List ℕ)) (within : List (Name × Bool)) → IsSourceUnchanged a b → HasSourceContents b path is_folder bytes within
+pub holds_along : (a b : Option TreeSource) (path : List ℕ) (is_folder : Bool) (bytes : Option (List ℕ)) (within : List (Name × Bool)) → IsUnchanged a b → HasSourceContents b path is_folder bytes within
     → HasSourceContents a path is_folder bytes within
 holds_along a b path false None within x h = absurd h
 holds_along a b path false (Some bytes) within x h = (along (λ s. bytes ≡ s.bytes path) a b x h.0, h.1)
@@ -125,7 +125,7 @@ folders_on (Some s) front p places bytes within h holds after =
 
 -- ---- faults
 
-pub bad_below : (known now : Option TreeSource) (front : List PathKind) (p : PathKind) → AreFolders known (front ++ p ∷ []) → IsSourceUnchanged known now → p.1 ≡ true → IfSome now (λ s. HaveBadName (source_names (s.names p.0)))
+pub bad_below : (known now : Option TreeSource) (front : List PathKind) (p : PathKind) → AreFolders known (front ++ p ∷ []) → IsUnchanged known now → p.1 ≡ true → IfSome now (λ s. HaveBadName (source_names (s.names p.0)))
     → IfSome known HasBadNames
 bad_below None now front p h x is bad = tt
 bad_below (Some s) None front p h x is bad = absurd x

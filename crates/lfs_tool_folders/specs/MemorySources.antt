@@ -43,5 +43,5 @@ names_in_folder held folder = map (memory_entry_name folder) (filter (λ e. is_d
 abbrev pub file_bytes_at : List PathBytes → List ℕ → Option (List ℕ)
 file_bytes_at held path = option_and_then (λ e. e.1) (find (λ e. bytes_eq e.0 path) held)
 
-abbrev pub source_of_files : List PathBytes → TreeSource
-source_of_files held = record { names = names_in_folder held; bytes = λ path. unwrap_or (file_bytes_at held path) [] }
+abbrev pub memory_source : List PathBytes → TreeSource
+memory_source held = record { names = names_in_folder held; bytes = λ path. unwrap_or (file_bytes_at held path) [] }

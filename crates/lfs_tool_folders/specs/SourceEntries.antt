@@ -20,9 +20,9 @@ abbrev pub is_listed_before : ListedName → ListedName → Bool
 is_listed_before a b = is_less (name_cmp ShorterFirst a.name.items b.name.items)
 
 -- each is a component, and greater than the one before it
-abbrev pub components_rise_after : Name → List Name → Bool
-components_rise_after last [] = true
-components_rise_after last (n ∷ ns) = is_component n && is_less (name_cmp ShorterFirst last n) && components_rise_after n ns
+abbrev pub rise_after : Name → List Name → Bool
+rise_after last [] = true
+rise_after last (n ∷ ns) = is_component n && is_less (name_cmp ShorterFirst last n) && rise_after n ns
 
 -- components of paths, each greater than those before it
 pub record AreRising (names : List Name) : Type 0 where

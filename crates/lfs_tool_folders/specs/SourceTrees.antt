@@ -6,10 +6,10 @@ use Rattle.lfs_tool_folders.specs.declared.source.SourceKind.TheVariants.{File, 
 use Rattle.lfs_tool_folders.specs.declared.source.ListedName.{ListedName}
 
 -- a known tree stays
-abbrev pub IsSourceUnchanged : {X : Type 0} → Option X → Option X → Type 0
-IsSourceUnchanged None new = Unit {0}
-IsSourceUnchanged (Some x) None = ⊥
-IsSourceUnchanged (Some x) (Some y) = y ≡ x
+abbrev pub IsUnchanged : {X : Type 0} → Option X → Option X → Type 0
+IsUnchanged None new = Unit {0}
+IsUnchanged (Some x) None = ⊥
+IsUnchanged (Some x) (Some y) = y ≡ x
 
 abbrev pub is_folder : SourceKind → Bool
 is_folder File = false

@@ -1,6 +1,6 @@
 ghost use Rattle.std.specs.Prelude.{◌≡◌, ◌++◌, ◌∷◌, [], IfOk, IfSome, IsErrOf, OnOk, map, reverse, true};
 ghost use Rattle.lfs_model.specs.layers.Source.{HaveBadName, source_names, path_in_folder};
-ghost use Rattle.lfs_tool_folders.specs.SourceTrees.{IsSourceUnchanged, is_folder, listed_view};
+ghost use Rattle.lfs_tool_folders.specs.SourceTrees.{IsUnchanged, is_folder, listed_view};
 ghost use Rattle.lfs_tool_folders.specs.MemorySources.{optional_view};
 ghost use Rattle.lfs_tool_folders.specs.SourceEntries.{AreSourceEntries, AreFolderNames, HasFaultOr, HasBadNames, HasSourceContents, waiting_view, paths_in_folder};
 
@@ -47,7 +47,7 @@ fn sorted_names<S: Source>(
     folder: &[u8],
 ) -> Result<Vec<ListedName>, SourceError>
     ensures names { IfOk result (λ v. AreFolderNames (S.shown source.old) folder.now (map listed_view v.items)) }
-    ensures shown { IsSourceUnchanged (S.shown source.old) (S.shown source.new) }
+    ensures shown { IsUnchanged (S.shown source.old) (S.shown source.new) }
     ensures kept { OnOk result (S.faults source.new ≡ S.faults source.old) }
     ensures fault { IsErrOf result SourceError.Fault
         → HasFaultOr (S.faults source.old) (S.faults source.new) (IfSome (S.shown source.old) (λ s. HaveBadName (source_names (s.names folder.now)))) }
@@ -95,7 +95,7 @@ fn push_folder_names<S: Source>(
 ) -> Result<(), SourceError>
     ensures within { OnOk result ((within : _) × (AreFolderNames (S.shown source.old) folder.now within
         × (map waiting_view waiting.new.items ≡ map waiting_view waiting.old.items ++ reverse (paths_in_folder folder.now within)))) }
-    ensures shown { IsSourceUnchanged (S.shown source.old) (S.shown source.new) }
+    ensures shown { IsUnchanged (S.shown source.old) (S.shown source.new) }
     ensures kept { OnOk result (S.faults source.new ≡ S.faults source.old) }
     ensures fault { IsErrOf result SourceError.Fault
         → HasFaultOr (S.faults source.old) (S.faults source.new) (IfSome (S.shown source.old) (λ s. HaveBadName (source_names (s.names folder.now)))) }
@@ -116,7 +116,7 @@ fn read_waiting_entry<S: Source>(
 ) -> Result<Option<Vec<u8>>, SourceError>
     ensures holds { IfOk result (λ bytes. (within : _) × (HasSourceContents (S.shown source.old) one.now.path.items (is_folder one.now.kind) (optional_view bytes) within
         × (map waiting_view waiting.new.items ≡ map waiting_view waiting.old.items ++ reverse (paths_in_folder one.now.path.items within)))) }
-    ensures shown { IsSourceUnchanged (S.shown source.old) (S.shown source.new) }
+    ensures shown { IsUnchanged (S.shown source.old) (S.shown source.new) }
     ensures kept { OnOk result (S.faults source.new ≡ S.faults source.old) }
     ensures fault { IsErrOf result SourceError.Fault
         → HasFaultOr (S.faults source.old) (S.faults source.new)
@@ -150,7 +150,7 @@ fn push_source_entry(entries: &mut Vec<SourceEntry>, entry: SourceEntry) -> Resu
 /// - `NoMemory` where memory isn't granted.
 pub fn read_tree<S: Source>(alloc: Global, source: &mut S) -> Result<Vec<SourceEntry>, SourceError>
     ensures entries { IfOk result (λ v. AreSourceEntries (S.shown source.old) v.items) }
-    ensures shown { IsSourceUnchanged (S.shown source.old) (S.shown source.new) }
+    ensures shown { IsUnchanged (S.shown source.old) (S.shown source.new) }
     ensures kept { OnOk result (S.faults source.new ≡ S.faults source.old) }
     ensures fault { IsErrOf result SourceError.Fault → HasFaultOr (S.faults source.old) (S.faults source.new) (IfSome (S.shown source.old) HasBadNames) }
     ensures no_memory { IsErrOf result SourceError.NoMemory → S.faults source.new ≡ S.faults source.old }

@@ -3,7 +3,7 @@
 ghost use Rattle.std.specs.Prelude.{◌≡◌, [], map, false, true};
 ghost use Rattle.std.specs.List.Sorted.{IsPermutation, IsSortedBy};
 ghost use Rattle.lfs_model.specs.layers.Source.{HaveBadName};
-ghost use Rattle.lfs_tool_folders.specs.SourceEntries.{AreRising, is_listed_before, listed_bytes, components_rise_after};
+ghost use Rattle.lfs_tool_folders.specs.SourceEntries.{AreRising, is_listed_before, listed_bytes, rise_after};
 
 use crate::ListedName;
 use lfs_tag::is_valid_component;
@@ -26,7 +26,7 @@ pub(crate) fn names_in_order(names: &[ListedName]) -> bool
 }
 
 fn are_components_rising(names: &[ListedName]) -> bool
-    ensures { result ≡ components_rise_after [] (map listed_bytes names.now) }
+    ensures { result ≡ rise_after [] (map listed_bytes names.now) }
 {
     let mut last: &[u8] = b"";
     for one in names {

@@ -1,6 +1,6 @@
 ghost use Rattle.std.specs.Prelude.{◌≡◌, ℕ, IfOk, IfSome, IsErrOf, None, OnOk, Option, map, suc};
 ghost use Rattle.lfs_model.specs.layers.Source as model;
-ghost use Rattle.lfs_tool_folders.specs.SourceTrees.{IsSourceUnchanged, listed_view};
+ghost use Rattle.lfs_tool_folders.specs.SourceTrees.{IsUnchanged, listed_view};
 
 use std::alloc::Global;
 
@@ -48,7 +48,7 @@ pub trait Source {
     /// - `NoMemory` where memory isn't granted.
     fn list(&mut self, alloc: Global, folder: &[u8]) -> Result<Vec<ListedName>, SourceError>
         ensures names { IfOk result (λ v. IfSome (shown self.old) (λ s. map listed_view v.items ≡ s.names folder.now)) }
-        ensures shown { IsSourceUnchanged (shown self.old) (shown self.new) }
+        ensures shown { IsUnchanged (shown self.old) (shown self.new) }
         ensures kept { OnOk result (faults self.new ≡ faults self.old) }
         ensures fault { IsErrOf result SourceError.Fault → faults self.new ≡ suc (faults self.old) }
         ensures no_memory { IsErrOf result SourceError.NoMemory → faults self.new ≡ faults self.old };
@@ -61,7 +61,7 @@ pub trait Source {
     /// - `NoMemory` where memory isn't granted.
     fn read(&mut self, alloc: Global, file: &[u8], listed_len: u64) -> Result<Vec<u8>, SourceError>
         ensures bytes { IfOk result (λ v. IfSome (shown self.old) (λ s. v.items ≡ s.bytes file.now)) }
-        ensures shown { IsSourceUnchanged (shown self.old) (shown self.new) }
+        ensures shown { IsUnchanged (shown self.old) (shown self.new) }
         ensures kept { OnOk result (faults self.new ≡ faults self.old) }
         ensures fault { IsErrOf result SourceError.Fault → faults self.new ≡ suc (faults self.old) }
         ensures no_memory { IsErrOf result SourceError.NoMemory → faults self.new ≡ faults self.old };

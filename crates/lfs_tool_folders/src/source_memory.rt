@@ -2,7 +2,7 @@ ghost use Rattle.std.specs.Prelude.{◌≡◌, ◌+◌, ◌++◌, ◌∷◌, [],
 ghost use Rattle.std.specs.List.{list_any};
 ghost use Rattle.lfs_model.specs.format.Names.{slash_byte};
 ghost use Rattle.lfs_tool_folders.specs.SourceTrees.{is_folder, listed_view};
-ghost use Rattle.lfs_tool_folders.specs.MemorySources.{file_bytes_at, are_absent, is_directly_in, memory_view, name_in_folder, names_in_folder, source_of_files};
+ghost use Rattle.lfs_tool_folders.specs.MemorySources.{file_bytes_at, are_absent, is_directly_in, memory_view, name_in_folder, names_in_folder, memory_source};
 
 use crate::{ListedName, Source, SourceError, SourceKind, Tally};
 use std::alloc::Global;
@@ -113,7 +113,7 @@ fn direct_names(
 }
 
 impl Source for MemorySource {
-    ghost shown = { λ s. Some (source_of_files (map memory_view s.held.items)) };
+    ghost shown = { λ s. Some (memory_source (map memory_view s.held.items)) };
 
     ghost faults = { λ s. s.faults.count };
 

@@ -7,7 +7,7 @@ use Rattle.clap.specs.Words.{Text, first_of, first_value, one_text, rows_of}
 use Rattle.clap.specs.Matches.{ReadsOne}
 use Rattle.clap.specs.declared.parser.matches.Found.{Found}
 use Rattle.clap.proofs.WalkLemmas.{first_value-rows, one_text-rows}
-use Rattle.lfs_tool_line.specs.Values.{flag_in_rows, is_true_text}
+use Rattle.lfs_tool_line.specs.Values.{flag_in_rows, is_true}
 
 flag_by : (E : Type 0) (t : Text) (r : Option Bool) → ReadsOne {T = Bool} {E = E} ParsesBool t r → unwrap_or r false ≡ bytes_eq t (codes "true")
 flag_by E t (Some true) h = rw h refl
@@ -20,9 +20,9 @@ flag_by E t None h = go (bytes_eq t (codes "true")) refl
 
 pub flag_read : (E : Type 0) (f : Found) (id : Text) (r : Option Bool) → (one_text f id ≡ None → r ≡ None)
     → ((t : Text) → one_text f id ≡ Some t → ReadsOne {T = Bool} {E = E} ParsesBool t r) → unwrap_or r false ≡ flag_in_rows id (rows_of f)
-flag_read E f id r none value = go (one_text f id) refl ∙ ap is_true_text (one_text-rows f id)
+flag_read E f id r none value = go (one_text f id) refl ∙ ap is_true (one_text-rows f id)
   where
-    go : (o : Option Text) → one_text f id ≡ o → unwrap_or r false ≡ is_true_text (one_text f id)
+    go : (o : Option Text) → one_text f id ≡ o → unwrap_or r false ≡ is_true (one_text f id)
     go None e = rw (e, none e) refl
     go (Some t) e = rw e (flag_by E t r (value t e))
 

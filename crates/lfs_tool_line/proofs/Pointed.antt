@@ -3,7 +3,7 @@ use Rattle.std.proofs.Common.{◌≡◌, ◌<◌, ◌+◌, ◌*◌, ◌/◌, ◌
 use Rattle.std.proofs.lemmas.Bool.{ltb-false}
 use Rattle.std.proofs.Math.Nat.{add-mul-mod_self_right, add-mul-div_right, le-mul_of_pos_right}
 use Rattle.std.specs.Char.{digit_value}
-use Rattle.lfs_tool_line.specs.Numbers.{bytes_of_parts, number_after, number_of_digits, pointed_number, fits_word}
+use Rattle.lfs_tool_line.specs.Numbers.{parts_bytes, number_after, number_of_digits, pointed_number, fits_word}
 use Rattle.lfs_tool_line.proofs.Digits.{large_within}
 use Rattle.lfs_tool_line.proofs.Fractions.{digits_behind, power_some}
 
@@ -23,7 +23,7 @@ digits_appended radix n (c ∷ cs) ys = go (nat_lt (digit_value c) radix) (digit
     go false rest = refl
 
 units_and_parts : (unit n p : ℕ) (x : Option ℕ) → 0 < p
-    → bytes_of_parts unit p (option_map (λ f. n * p + f) x) ≡ option_map (λ q. n * unit + q) (bytes_of_parts unit p x)
+    → parts_bytes unit p (option_map (λ f. n * p + f) x) ≡ option_map (λ q. n * unit + q) (parts_bytes unit p x)
 units_and_parts unit n p None some = refl
 units_and_parts unit n p (Some f) some =
     let same : (n * p + f) * unit ≡ f * unit + n * unit * p = omega arith in
@@ -39,16 +39,16 @@ units_and_bytes unit None more = None
 units_and_bytes unit (Some n) more = option_map (λ q. n * unit + q) more
 
 pub pointed_is : (unit : ℕ) (whole fraction : List ℕ) → 0 < length fraction
-    → pointed_number unit whole fraction ≡ units_and_bytes unit (number_of_digits 10 whole) (bytes_of_parts unit (10 ^ length fraction) (number_after 10 0 fraction))
+    → pointed_number unit whole fraction ≡ units_and_bytes unit (number_of_digits 10 whole) (parts_bytes unit (10 ^ length fraction) (number_after 10 0 fraction))
 pointed_is unit whole [] some = absurd (omega arith)
 pointed_is unit [] (d ∷ ds) some = refl
 pointed_is unit (c ∷ cs) (d ∷ ds) some =
-    ap (bytes_of_parts unit (10 ^ length (d ∷ ds))) (digits_appended 10 0 (c ∷ cs) (d ∷ ds)) ∙ go (number_after 10 0 (c ∷ cs))
+    ap (parts_bytes unit (10 ^ length (d ∷ ds))) (digits_appended 10 0 (c ∷ cs) (d ∷ ds)) ∙ go (number_after 10 0 (c ∷ cs))
   where
-    go : (o : Option ℕ) → bytes_of_parts unit (10 ^ length (d ∷ ds)) (digits_behind_number 10 (d ∷ ds) o)
-        ≡ units_and_bytes unit o (bytes_of_parts unit (10 ^ length (d ∷ ds)) (number_after 10 0 (d ∷ ds)))
+    go : (o : Option ℕ) → parts_bytes unit (10 ^ length (d ∷ ds)) (digits_behind_number 10 (d ∷ ds) o)
+        ≡ units_and_bytes unit o (parts_bytes unit (10 ^ length (d ∷ ds)) (number_after 10 0 (d ∷ ds)))
     go None = refl
-    go (Some n) = ap (bytes_of_parts unit (10 ^ length (d ∷ ds))) (digits_behind n (d ∷ ds))
+    go (Some n) = ap (parts_bytes unit (10 ^ length (d ∷ ds))) (digits_behind n (d ∷ ds))
         ∙ units_and_parts unit n (10 ^ length (d ∷ ds)) (number_after 10 0 (d ∷ ds)) (power_some (length (d ∷ ds)))
 
 pub within_some : (o : Option ℕ) (n : ℕ) → Some n ≡ fits_word o → o ≡ Some n
@@ -72,13 +72,13 @@ none_with_more unit (Some n) (Some q) some is = go (nat_lt n (2 ^ 32)) refl is
 pub none_of_units : (unit : ℕ) (whole fraction : List ℕ) → 0 < unit → 0 < length fraction → None ≡ fits_word (number_of_digits 10 whole)
     → None ≡ fits_word (pointed_number unit whole fraction)
 none_of_units unit whole fraction some digit is =
-    none_with_more unit (number_of_digits 10 whole) (bytes_of_parts unit (10 ^ length fraction) (number_after 10 0 fraction)) some is
+    none_with_more unit (number_of_digits 10 whole) (parts_bytes unit (10 ^ length fraction) (number_after 10 0 fraction)) some is
     ∙ sym (ap fits_word (pointed_is unit whole fraction digit))
 
 pub units_of_pointed : (unit : ℕ) (whole fraction : List ℕ) (n : ℕ) (more : Option ℕ) → 0 < length fraction → Some n ≡ fits_word (number_of_digits 10 whole)
-    → more ≡ bytes_of_parts unit (10 ^ length fraction) (number_after 10 0 fraction)
+    → more ≡ parts_bytes unit (10 ^ length fraction) (number_after 10 0 fraction)
     → fits_word (option_map (λ q. n * unit + q) more) ≡ fits_word (pointed_number unit whole fraction)
 units_of_pointed unit whole fraction n more digit is parts =
     ap fits_word (ap (option_map (λ q. n * unit + q)) parts
-    ∙ (sym (ap (λ o. units_and_bytes unit o (bytes_of_parts unit (10 ^ length fraction) (number_after 10 0 fraction))) (within_some (number_of_digits 10 whole) n is))
+    ∙ (sym (ap (λ o. units_and_bytes unit o (parts_bytes unit (10 ^ length fraction) (number_after 10 0 fraction))) (within_some (number_of_digits 10 whole) n is))
     ∙ sym (pointed_is unit whole fraction digit)))

@@ -21,12 +21,12 @@ abbrev pub is_given : Text → List Row → Bool
 is_given id rows = is_some (first_of id rows)
 
 -- the text of a file names a standard stream
-abbrev pub is_stream_text : Option Text → Bool
-is_stream_text None = false
-is_stream_text (Some text) = bytes_eq text (codes "-")
+abbrev pub names_stream : Option Text → Bool
+names_stream None = false
+names_stream (Some text) = bytes_eq text (codes "-")
 
 abbrev pub is_standard_stream : Text → List Row → Bool
-is_standard_stream id rows = is_stream_text (first_of id rows)
+is_standard_stream id rows = names_stream (first_of id rows)
 
 -- the first option of those for sizes, times and files that has no meaning where it is given
 abbrev pub misused_pair : List Row → Option Misuse

@@ -2,7 +2,7 @@
 use Rattle.std.specs.Prelude.{◌/◌, ◌&&◌, if◌then◌else◌, nat_le, min, ℕ, List, Bool, true, Option, Some, None, codes}
 use Rattle.lfs_model.specs.format.Disk.{attribute_limit, size_limit}
 use Rattle.lfs_model.specs.format.Names.{name_limit}
-use Rattle.lfs_model.specs.format.Tag.{tag_data_limit}
+use Rattle.lfs_model.specs.format.Tag.{data_limit}
 use Rattle.clap.specs.Words.{Row}
 use Rattle.lfs_tool_line.specs.Values.{number_in_rows}
 use Rattle.lfs_tool_line.specs.declared.limits.Limit.{Limit}
@@ -19,12 +19,12 @@ first_broken_limit block_size rows =
     if is_limit_within name_limit (number_in_rows (codes "name_max") rows) then
     (if is_limit_within size_limit (number_in_rows (codes "file_max") rows) then
     (if is_limit_within attribute_limit (number_in_rows (codes "attr_max") rows) then
-    (if is_limit_within (min (block_size / 8) tag_data_limit) (number_in_rows (codes "inline_max") rows) then None
+    (if is_limit_within (min (block_size / 8) data_limit) (number_in_rows (codes "inline_max") rows) then None
     else Some limit.Inline) else Some limit.Attr) else Some limit.File) else Some limit.Name
 
 -- what the limit's rule says
-abbrev pub rule_of_limit : Limit → List ℕ
-rule_of_limit limit.Name = codes "--name-max is from 1 to 255"
-rule_of_limit limit.File = codes "--file-max is from 1 to 2147483647"
-rule_of_limit limit.Attr = codes "--attr-max is from 1 to 1022"
-rule_of_limit limit.Inline = codes "--inline-max is from 1 to 1022, and at most an eighth of -b"
+abbrev pub limit_rule : Limit → List ℕ
+limit_rule limit.Name = codes "--name-max is from 1 to 255"
+limit_rule limit.File = codes "--file-max is from 1 to 2147483647"
+limit_rule limit.Attr = codes "--attr-max is from 1 to 1022"
+limit_rule limit.Inline = codes "--inline-max is from 1 to 1022, and at most an eighth of -b"

@@ -96,12 +96,12 @@ AreGivenModes flags rows (given.One mode) = (given_count flags ≡ 1) × IsModeO
 AreGivenModes flags rows given.Several = 2 ≤ given_count flags
 
 -- the order of names that a text names
-abbrev pub name_order_of_text : Text → Option NameOrder
-name_order_of_text text = if bytes_eq text (codes "longer-first") then Some LongerFirst else (if bytes_eq text (codes "shorter-first") then Some ShorterFirst else None)
+abbrev pub order_named : Text → Option NameOrder
+order_named text = if bytes_eq text (codes "longer-first") then Some LongerFirst else (if bytes_eq text (codes "shorter-first") then Some ShorterFirst else None)
 
 abbrev pub order_if_present : Option Text → Option NameOrder
 order_if_present None = None
-order_if_present (Some text) = name_order_of_text text
+order_if_present (Some text) = order_named text
 
 abbrev pub given_order : List Row → Option NameOrder
 given_order rows = order_if_present (first_of (codes "order") rows)
@@ -152,7 +152,7 @@ abbrev pub broken_limit : List Row → Option Limit
 broken_limit rows = first_broken_limit (given_block_size rows) rows
 
 -- each part of the line is the value that the words give it, or its default
-pub record IsCommandLineOf (rows : List Row) (line : Line) : Type 0 where
+pub record IsLineOf (rows : List Row) (line : Line) : Type 0 where
   pub one_mode : OneMode rows
   pub mode : IsModeOf rows line.mode
   pub known_board : KnownBoard rows
@@ -184,7 +184,7 @@ makes_part line = makes_part_with line.mode (gives_part line)
 
 -- the line and what it requests beside its image
 pub record IsRequestOf (rows : List Row) (request : Request) : Type 0 where
-  pub line : IsCommandLineOf rows request.line
+  pub line : IsLineOf rows request.line
   pub extras : AreExtrasOf rows request.extras
   pub whole : makes_part request.line ≡ false
 
@@ -206,5 +206,5 @@ IsLineError words Order = ParserAccepts words × OneMode (rows words) × ¬ HasV
 IsLineError words error.Board = ParserAccepts words × OneMode (rows words) × HasValidOrder (rows words) × ¬ KnownBoard (rows words)
 IsLineError words (error.Limit limit) = NamesKnownModes words × (broken_limit (rows words) ≡ Some limit)
 IsLineError words (error.Misuse misuse) = NamesKnownModes words × (broken_limit (rows words) ≡ None) × (misused_option (rows words) ≡ Some misuse)
-IsLineError words error.Part = ParserAccepts words × ((line : Line) × (IsCommandLineOf (rows words) line × (makes_part line ≡ true)))
+IsLineError words error.Part = ParserAccepts words × ((line : Line) × (IsLineOf (rows words) line × (makes_part line ≡ true)))
 IsLineError words NotUtf8 = ⊥

@@ -18,15 +18,15 @@ number_of_digits radix [] = None
 number_of_digits radix (c ∷ cs) = number_after radix 0 (c ∷ cs)
 
 -- no number but 0 has a minus
-abbrev pub zero_alone : Option ℕ → Option ℕ
-zero_alone None = None
-zero_alone (Some n) = if n == 0 then Some n else None
+abbrev pub zero_or_none : Option ℕ → Option ℕ
+zero_or_none None = None
+zero_or_none (Some n) = if n == 0 then Some n else None
 
 -- the number that decimal digits name, with a sign or without one
 abbrev pub decimal_number : List ℕ → Option ℕ
 decimal_number text =
     if slice_index text 0 == 43 then number_of_digits 10 (drop 1 text)
-    else (if slice_index text 0 == 45 then zero_alone (number_of_digits 10 (drop 1 text))
+    else (if slice_index text 0 == 45 then zero_or_none (number_of_digits 10 (drop 1 text))
     else number_of_digits 10 text)
 
 -- the bytes of a unit: k or K, and m or M
@@ -36,25 +36,25 @@ bytes_of_unit letter =
     else (if letter == 109 || letter == 77 then Some 1048576 else None)
 
 -- n parts of a unit that has so many of them, where that is a whole number of bytes
-abbrev pub bytes_of_parts : ℕ → ℕ → Option ℕ → Option ℕ
-bytes_of_parts unit parts None = None
-bytes_of_parts unit parts (Some n) = if (n * unit) % parts == 0 then Some (n * unit / parts) else None
+abbrev pub parts_bytes : ℕ → ℕ → Option ℕ → Option ℕ
+parts_bytes unit parts None = None
+parts_bytes unit parts (Some n) = if (n * unit) % parts == 0 then Some (n * unit / parts) else None
 
 -- the number of digits on both sides of a point: 1.25 of a unit is 125 of its hundred parts
 abbrev pub pointed_number : ℕ → List ℕ → List ℕ → Option ℕ
 pointed_number unit [] fraction = None
 pointed_number unit (c ∷ cs) [] = None
-pointed_number unit (c ∷ cs) (d ∷ ds) = bytes_of_parts unit (10 ^ length (d ∷ ds)) (number_of_digits 10 ((c ∷ cs) ++ (d ∷ ds)))
+pointed_number unit (c ∷ cs) (d ∷ ds) = parts_bytes unit (10 ^ length (d ∷ ds)) (number_of_digits 10 ((c ∷ cs) ++ (d ∷ ds)))
 
 -- the number that the text before a unit's letter names, with its first point at this place
-abbrev pub by_point : ℕ → List ℕ → Option ℕ → Option ℕ
-by_point unit text None = option_map (λ n. n * unit) (number_of_digits 10 text)
-by_point unit text (Some i) = pointed_number unit (take i text) (drop (i + 1) text)
+abbrev pub number_by_point : ℕ → List ℕ → Option ℕ → Option ℕ
+number_by_point unit text None = option_map (λ n. n * unit) (number_of_digits 10 text)
+number_by_point unit text (Some i) = pointed_number unit (take i text) (drop (i + 1) text)
 
 -- the number that a text names whose last letter is that of this unit, or of none
-abbrev pub by_unit : List ℕ → Option ℕ → Option ℕ
-by_unit text None = decimal_number text
-by_unit text (Some unit) = let front = take (length text - 1) text in by_point unit front (position (λ c. c == 46) front)
+abbrev pub number_by_unit : List ℕ → Option ℕ → Option ℕ
+number_by_unit text None = decimal_number text
+number_by_unit text (Some unit) = let front = take (length text - 1) text in number_by_point unit front (position (λ c. c == 46) front)
 
 -- the text begins with 0x or 0X
 abbrev pub is_hex : List ℕ → Bool
@@ -64,4 +64,4 @@ is_hex text = slice_index text 0 == 48 && (slice_index text 1 == 120 || slice_in
 unfoldable pub number_in_text : List ℕ → Option ℕ
 number_in_text text =
     if is_hex text then number_of_digits 16 (drop 2 text)
-    else by_unit text (bytes_of_unit (slice_index text (length text - 1)))
+    else number_by_unit text (bytes_of_unit (slice_index text (length text - 1)))

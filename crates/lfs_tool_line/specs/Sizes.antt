@@ -18,22 +18,22 @@ BreaksSizeRule s rule.WholeBlocks = s.size % s.block_size ≢ 0
 BreaksSizeRule s rule.BlockCount = (s.size / s.block_size < 2) ⊎ (65536 < s.size / s.block_size)
 
 -- the rule's place among the rules
-abbrev pub size_rule_index : SizeRule → ℕ
-size_rule_index rule.PageSize = 0
-size_rule_index rule.BlockSize = 1
-size_rule_index rule.EightPages = 2
-size_rule_index rule.WholePages = 3
-size_rule_index rule.ImageSize = 4
-size_rule_index rule.WholeBlocks = 5
-size_rule_index rule.BlockCount = 6
+abbrev pub rule_index : SizeRule → ℕ
+rule_index rule.PageSize = 0
+rule_index rule.BlockSize = 1
+rule_index rule.EightPages = 2
+rule_index rule.WholePages = 3
+rule_index rule.ImageSize = 4
+rule_index rule.WholeBlocks = 5
+rule_index rule.BlockCount = 6
 
 -- the sizes break no rule before this place
 abbrev pub BreaksNoneBefore : Sizes → ℕ → Type 0
-BreaksNoneBefore s place = (rule : SizeRule) → size_rule_index rule < place → ¬ BreaksSizeRule s rule
+BreaksNoneBefore s place = (rule : SizeRule) → rule_index rule < place → ¬ BreaksSizeRule s rule
 
 -- the sizes break the rule, and none before it
 abbrev pub IsFirstBroken : Sizes → SizeRule → Type 0
-IsFirstBroken s rule = BreaksSizeRule s rule × BreaksNoneBefore s (size_rule_index rule)
+IsFirstBroken s rule = BreaksSizeRule s rule × BreaksNoneBefore s (rule_index rule)
 
 -- there are images of these sizes
 abbrev pub AreImageSizes : Sizes → Type 0
@@ -43,14 +43,14 @@ abbrev pub number_text : List ℕ → ℕ → List ℕ
 number_text before n = before ++ decimal n
 
 -- the sizes that the rule is about
-abbrev pub rule_sizes_text : Sizes → SizeRule → List ℕ
-rule_sizes_text s rule.PageSize = number_text (codes "page ") s.page
-rule_sizes_text s rule.BlockSize = number_text (codes "block ") s.block_size
-rule_sizes_text s rule.EightPages = number_text (codes "block ") s.block_size ++ number_text (codes ", page ") s.page
-rule_sizes_text s rule.WholePages = number_text (codes "block ") s.block_size ++ number_text (codes ", page ") s.page
-rule_sizes_text s rule.ImageSize = []
-rule_sizes_text s rule.WholeBlocks = number_text (codes "size ") s.size ++ number_text (codes ", block ") s.block_size
-rule_sizes_text s rule.BlockCount = number_text (codes "size ") s.size ++ number_text (codes ", block ") s.block_size
+abbrev pub sizes_text : Sizes → SizeRule → List ℕ
+sizes_text s rule.PageSize = number_text (codes "page ") s.page
+sizes_text s rule.BlockSize = number_text (codes "block ") s.block_size
+sizes_text s rule.EightPages = number_text (codes "block ") s.block_size ++ number_text (codes ", page ") s.page
+sizes_text s rule.WholePages = number_text (codes "block ") s.block_size ++ number_text (codes ", page ") s.page
+sizes_text s rule.ImageSize = []
+sizes_text s rule.WholeBlocks = number_text (codes "size ") s.size ++ number_text (codes ", block ") s.block_size
+sizes_text s rule.BlockCount = number_text (codes "size ") s.size ++ number_text (codes ", block ") s.block_size
 
 -- what the rule says
 abbrev pub rule_words : SizeRule → List ℕ
@@ -64,4 +64,4 @@ rule_words rule.BlockCount = codes ": an image has from 2 to 65536 blocks" ++ ne
 
 -- the line that says that the sizes break the rule
 abbrev pub broken_rule_line : Sizes → SizeRule → List ℕ
-broken_rule_line s r = rule_sizes_text s r ++ rule_words r
+broken_rule_line s r = sizes_text s r ++ rule_words r

@@ -60,13 +60,13 @@ abbrev pub number_faults : List Row → Kinds
 number_faults rows = if is_some (first_bad_text rows) then ValueValidation ∷ [] else []
 
 -- the flag's text, which clap gives as true or false
-abbrev pub is_true_text : Option Text → Bool
-is_true_text None = false
-is_true_text (Some text) = bytes_eq text (codes "true")
+abbrev pub is_true : Option Text → Bool
+is_true None = false
+is_true (Some text) = bytes_eq text (codes "true")
 
 -- the value of a flag
 abbrev pub flag_in_rows : Text → List Row → Bool
-flag_in_rows id rows = is_true_text (one_of id rows)
+flag_in_rows id rows = is_true (one_of id rows)
 
 -- the number of an option, or this one where none is given
 abbrev pub number_or : ℕ → Text → List Row → ℕ

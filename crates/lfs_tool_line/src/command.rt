@@ -2,7 +2,7 @@
 
 ghost use Rattle.std.specs.Prelude.{◌≡◌, IfOk, codes, map, false};
 ghost use Rattle.clap.specs.Words.{FailsBy, app_of, fault_of, found_of, kind_of, new_app, rows_of, rule_of, with_rule};
-ghost use Rattle.lfs_tool_line.specs.Command.{check_rule, explain_rule, folder_rule, image_rule, list_rule, mklittlefs, number_rule, order_rule, with_mode_options, with_common_options, with_size_options, with_version_option};
+ghost use Rattle.lfs_tool_line.specs.Command.{check_rule, explain_rule, folder_rule, image_rule, list_rule, mklittlefs, number_rule, order_rule, with_mode_options, with_common_options, with_size_options, with_version};
 ghost use Rattle.lfs_tool_line.specs.Matches.{HasImage, faults, rows};
 
 use crate::extra_options::with_extra_options;
@@ -225,7 +225,7 @@ fn add_image_argument<'a>(alloc: Global, command: Command<'a>) -> Result<Command
 
 // Makes the command without its arguments, with the texts of its help.
 fn bare_command<'a>(alloc: Global) -> Command<'a>
-    ensures { app_of result ≡ with_version_option (new_app (codes "mklittlefs")) }
+    ensures { app_of result ≡ with_version (new_app (codes "mklittlefs")) }
 {
     Command::new(alloc, "mklittlefs")
         .version(VERSION)

@@ -2,7 +2,7 @@
 
 ghost use Rattle.std.specs.Prelude.{◌≡◌};
 ghost use Rattle.clap.specs.Words.{found_of, rows_of};
-ghost use Rattle.lfs_tool_line.specs.Limits.{first_broken_limit, is_limit_within, rule_of_limit};
+ghost use Rattle.lfs_tool_line.specs.Limits.{first_broken_limit, is_limit_within, limit_rule};
 ghost use Rattle.lfs_tool_line.specs.Matches.{profile_given_or, versions_given_or};
 
 use crate::values::{flag_value, given_number, number_given_or};
@@ -25,7 +25,7 @@ pub enum Limit {
 impl Limit {
     /// Returns what the limit's rule says.
     pub fn rule(self) -> &'static str
-        ensures { result.now ≡ rule_of_limit self }
+        ensures { result.now ≡ limit_rule self }
     {
         match self {
             Limit::Name => "--name-max is from 1 to 255",

@@ -1,7 +1,7 @@
 ghost use Rattle.std.specs.Prelude.{◌≡◌, List, IfErr, IfOk, Some, false, map};
 ghost use Rattle.clap.specs.Words.{Text, found_of, rows_of};
 ghost use Rattle.lfs_tool_line.specs.Choices.{AreChoicesOf};
-ghost use Rattle.lfs_tool_line.specs.Matches.{HasImage, IsLineError, IsCommandLineOf, IsRequestOf, ParserAccepts, makes_part, broken_limit, given_board, given_order, name_order_of_text, rows};
+ghost use Rattle.lfs_tool_line.specs.Matches.{HasImage, IsLineError, IsLineOf, IsRequestOf, ParserAccepts, makes_part, broken_limit, given_board, given_order, order_named, rows};
 
 use crate::board::Board;
 use crate::command::parse_words;
@@ -107,7 +107,7 @@ pub enum LineError {
 
 // Returns the order that a text names.
 fn order_of_text(text: &str) -> Option<NameOrder>
-    ensures { result ≡ name_order_of_text text.now }
+    ensures { result ≡ order_named text.now }
 {
     if text == "longer-first" {
         Some(NameOrder::LongerFirst)
@@ -171,7 +171,7 @@ fn makes_part(line: &Line<'_>) -> bool
 fn line_of_matches<'a>(matches: &ArgMatches<'a>, choices: Choices<'a>) -> Result<Line<'a>, Limit>
     requires image { HasImage (found_of matches.now) }
     requires choices { AreChoicesOf (rows_of (found_of matches.now)) choices }
-    ensures ok { IfOk result (IsCommandLineOf (rows_of (found_of matches.now))) }
+    ensures ok { IfOk result (IsLineOf (rows_of (found_of matches.now))) }
     ensures err { IfErr result (λ limit. broken_limit (rows_of (found_of matches.now)) ≡ Some limit) }
 {
     let board = choices.board;
@@ -248,7 +248,7 @@ pub fn read_request<'a, S: AsStr>(alloc: Global, words: &'a [S]) -> Result<Reque
 /// Those of `read_request`.
 pub fn read_line<'a, S: AsStr>(alloc: Global, words: &'a [S]) -> Result<Line<'a>, LineError>
     ensures ok { IfOk result (λ line. ParserAccepts (map S.text words.entry.now)
-        × IsCommandLineOf (rows (map S.text words.entry.now)) line × (makes_part line ≡ false)) }
+        × IsLineOf (rows (map S.text words.entry.now)) line × (makes_part line ≡ false)) }
     ensures err { IfErr result (IsLineError (map S.text words.entry.now)) }
 {
     match read_request(alloc, words) {

@@ -1,7 +1,7 @@
 // The numbers of a command line.
 
 ghost use Rattle.std.specs.Prelude.{◌≡◌, ◌≤◌, ◌<◌, ◌^◌, ◌*◌, ◌+◌, ◌==◌, IfSome, Some, length, position};
-ghost use Rattle.lfs_tool_line.specs.Numbers.{bytes_of_parts, bytes_of_unit, decimal_number, number_after, by_point, number_in_text, number_of_digits, pointed_number, fits_word};
+ghost use Rattle.lfs_tool_line.specs.Numbers.{parts_bytes, bytes_of_unit, decimal_number, number_after, number_by_point, number_in_text, number_of_digits, pointed_number, fits_word};
 
 // Returns the number that digits name, one or more.
 fn number_of_digits(digits: &[u8], radix: u32) -> Option<u32>
@@ -58,7 +58,7 @@ fn bytes_of_unit(letter: u8) -> Option<u32>
 // Returns the bytes of the digits behind a point, from the last one on.
 fn bytes_of_fraction(digits: &[u8], unit: u32) -> Option<u32>
     requires { unit ≤ 1048576 }
-    ensures { result ≡ bytes_of_parts unit (10 ^ length digits.now) (number_after 10 0 digits.now) }
+    ensures { result ≡ parts_bytes unit (10 ^ length digits.now) (number_after 10 0 digits.now) }
 {
     let mut bytes: u32 = 0;
     let mut at = digits.len();
@@ -118,7 +118,7 @@ fn point_of(text: &[u8]) -> Option<usize>
 fn number_of_units(text: &[u8], unit: u32) -> Option<u32>
     requires some { 0 < unit }
     requires most { unit ≤ 1048576 }
-    ensures { result ≡ fits_word (by_point unit text.now (position (λ c. c == 46) text.now)) }
+    ensures { result ≡ fits_word (number_by_point unit text.now (position (λ c. c == 46) text.now)) }
 {
     match point_of(text) {
         Some(point) => pointed_number(&text[..point], &text[point + 1..], unit),

@@ -2,14 +2,14 @@
 
 ghost use Rattle.std.specs.Prelude.{◌≡◌, IfOk, false};
 ghost use Rattle.clap.specs.Words.{app_of, rule_of, with_rule};
-ghost use Rattle.lfs_tool_line.specs.Command.{board_rule, version_rule, limit_option_rule, with_board_options, with_limit_options};
+ghost use Rattle.lfs_tool_line.specs.Command.{board_rule, version_rule, text_rule, with_board_options, with_limit_options};
 
 use clap::{Arg, ArgAction, Command};
 use std::alloc::{AllocError, Global};
 
 // Returns an option that takes a number, with its long name alone.
 pub(crate) fn number_arg<'a>(alloc: Global, id: &'a str, long: &'a str, help: &'a str) -> Arg<'a>
-    ensures rule { rule_of result ≡ limit_option_rule id.entry.now long.entry.now }
+    ensures rule { rule_of result ≡ text_rule id.entry.now long.entry.now }
     ensures local { result.global ≡ false }
 {
     Arg::new(alloc, id)
@@ -27,7 +27,7 @@ pub(crate) fn with_limit_option<'a>(
     long: &'a str,
     help: &'a str,
 ) -> Result<Command<'a>, AllocError>
-    ensures { IfOk result (λ c. app_of c ≡ with_rule (app_of command.entry) (limit_option_rule id.entry.now long.entry.now)) }
+    ensures { IfOk result (λ c. app_of c ≡ with_rule (app_of command.entry) (text_rule id.entry.now long.entry.now)) }
 {
     command.arg(number_arg(alloc, id, long, help))
 }

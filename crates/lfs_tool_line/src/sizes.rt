@@ -2,7 +2,7 @@
 
 ghost use Rattle.std.specs.Prelude.{◌≡◌, ◌≤◌, ◌*◌, ◌++◌, ◌/◌, ◌%◌, IfSome, None, OnOk};
 ghost use Rattle.lfs_model.specs.format.Geometry.{is_page};
-ghost use Rattle.lfs_tool_line.specs.Sizes.{AreImageSizes, IsFirstBroken, BreaksNoneBefore, number_text, size_rule_index, rule_words, broken_rule_line, rule_sizes_text};
+ghost use Rattle.lfs_tool_line.specs.Sizes.{AreImageSizes, IsFirstBroken, BreaksNoneBefore, number_text, rule_index, rule_words, broken_rule_line, sizes_text};
 
 use std::alloc::AllocError;
 use std::io::Write;
@@ -69,7 +69,7 @@ fn size_rule_text(rule: SizeRule) -> &'static str
 impl Sizes {
     // Adds the sizes that the rule is about.
     fn push_rule_sizes(self, text: &mut Vec<u8>, rule: SizeRule) -> Result<(), AllocError>
-        ensures { OnOk result (text.new.items ≡ text.old.items ++ rule_sizes_text self rule) }
+        ensures { OnOk result (text.new.items ≡ text.old.items ++ sizes_text self rule) }
     {
         let (block_size, page) = (self.block_size as usize, self.page as usize);
         match rule {
@@ -98,7 +98,7 @@ impl Sizes {
 
     // Returns the first rule that the image's size breaks, where those of blocks and pages break none.
     fn first_broken_rule(self) -> Option<SizeRule>
-        requires { BreaksNoneBefore self (size_rule_index SizeRule.ImageSize) }
+        requires { BreaksNoneBefore self (rule_index SizeRule.ImageSize) }
         ensures broken { IfSome result (IsFirstBroken self) }
         ensures fits { result ≡ None → AreImageSizes self }
     {

@@ -3,15 +3,8 @@ use Rattle.std.proofs.Common.{ℕ, ◌≡◌, ◌∙◌, ◌||◌, Bool, false, 
 use Rattle.std.specs.Prelude.{IfErr, OnErr, OnOk, is_err}
 use Rattle.lfs_device.specs.declared.error.Error.{Error}
 use Rattle.lfs_device.specs.declared.error.Error.TheVariants.{Io}
-use Rattle.lfs_model.specs.layers.BlockSets.{BlockStates}
-use Rattle.lfs_model.specs.layers.Cache.{CachedBlocks}
-use Rattle.lfs_model.specs.format.Disk.{Disk}
-use Rattle.lfs_model.specs.session.History.{CallEvent}
-use Rattle.lfs_model.specs.format.Thread.{Pair, pair_count_before_root}
-use Rattle.lfs_thread.specs.Kept.{ThreadView}
-use Rattle.lfs_tree.specs.RootedThreads.{SoundUnlessFailed, IsSoundWithRoot, kept_state, thread_state}
-use Rattle.lfs_lookup.specs.LookupReading.{OnlyReadsThreadAndReportsErrors}
-use Rattle.lfs_tree.specs.TreeState.{TreeState, without_cache, OnlyReadsTree, OnlyReadsTreeOrFails, FailedByReading, HasErrorCause}
+use Rattle.lfs_tree.proofs.Common.{BlockStates, CachedBlocks, Disk, CallEvent, Pair, count_before_root, ThreadView, SoundUnlessFailed, IsSoundWithRoot, kept_state, thread_state, ReadsOrReports, TreeState, without_cache, HasErrorCause}
+use Rattle.lfs_tree.specs.TreeState.{OnlyReadsTree, ReadsTreeOrFails, FailedByReading}
 use Rattle.lfs_tree.proofs.Mounting.{sound_read}
 use Rattle.lfs_tree.proofs.SameErrors.{same_error}
 
@@ -23,7 +16,7 @@ abbrev pub behind : {X : Type 0} → ThreadView → Result X Error → ThreadVie
 behind b r = record b { failed = is_err r || b.failed }
 
 module _ {X : Type 0} (a b : ThreadView) (root : ℕ) (writable : Bool) (h : IsSoundWithRoot a root writable) where
-  asked : (r : Result X Error) → OnlyReadsThreadAndReportsErrors a b r → OnOk r (OnlyReadsTree (thread_state a writable) (thread_state (behind b r) writable))
+  asked : (r : Result X Error) → ReadsOrReports a b r → OnOk r (OnlyReadsTree (thread_state a writable) (thread_state (behind b r) writable))
   asked (Err e) k = tt
   asked (Ok x) k = record {
     same = ap (λ z. see z b.kept.history b.kept.pairs b.kept.map writable b.failed b.cache) k.only.disk
@@ -35,11 +28,11 @@ module _ {X : Type 0} (a b : ThreadView) (root : ℕ) (writable : Bool) (h : IsS
     no_fault = k.reported.no_fault (λ e. absurd (cc));
   }
 
-  broken : (r : Result X Error) → OnlyReadsThreadAndReportsErrors a b r → OnErr r (FailedByReading (thread_state a writable) (thread_state (behind b r) writable))
+  broken : (r : Result X Error) → ReadsOrReports a b r → OnErr r (FailedByReading (thread_state a writable) (thread_state (behind b r) writable))
   broken (Ok x) k = tt
   broken (Err e) k = record { failed = refl; disk = k.only.disk; reads = k.only.reads }
 
-  reported : (r : Result X Error) → OnlyReadsThreadAndReportsErrors a b r → IfErr r (HasErrorCause (thread_state a writable) (thread_state (behind b r) writable))
+  reported : (r : Result X Error) → ReadsOrReports a b r → IfErr r (HasErrorCause (thread_state a writable) (thread_state (behind b r) writable))
   reported (Ok x) k = tt
   reported (Err e) k = record {
     errors = k.reported.errors;
@@ -47,20 +40,20 @@ module _ {X : Type 0} (a b : ThreadView) (root : ℕ) (writable : Bool) (h : IsS
     no_fault = λ other. k.reported.no_fault (λ z. other (same_error e Io z));
   }
 
-  pub asking : (now : TreeState) (r : Result X Error) (c : ThreadView) → thread_state a writable ≡ now → c ≡ behind b r → OnlyReadsThreadAndReportsErrors a b r → OnlyReadsTreeOrFails now r (thread_state c writable)
+  pub asking : (now : TreeState) (r : Result X Error) (c : ThreadView) → thread_state a writable ≡ now → c ≡ behind b r → ReadsOrReports a b r → ReadsTreeOrFails now r (thread_state c writable)
   asking now r c view is k =
-      subst (λ (s : TreeState). OnlyReadsTreeOrFails s r (thread_state c writable)) view
-      (subst (λ (t : ThreadView). OnlyReadsTreeOrFails (thread_state a writable) r (thread_state t writable)) (sym is) (record { asked = asked r k; broken = broken r k; errors = reported r k }))
+      subst (λ (s : TreeState). ReadsTreeOrFails s r (thread_state c writable)) view
+      (subst (λ (t : ThreadView). ReadsTreeOrFails (thread_state a writable) r (thread_state t writable)) (sym is) (record { asked = asked r k; broken = broken r k; errors = reported r k }))
 
   -- it stays what it is
-  pub rooted : (r : Result X Error) → OnlyReadsThreadAndReportsErrors a b r → IsSoundWithRoot b root writable
-  rooted r k = record { works = k.works; sound = sound_read a.kept b.kept writable false false k.only h.sound; root_is = h.root_is ∙ ap pair_count_before_root (sym k.only.pairs) }
+  pub rooted : (r : Result X Error) → ReadsOrReports a b r → IsSoundWithRoot b root writable
+  rooted r k = record { works = k.works; sound = sound_read a.kept b.kept writable false false k.only h.sound; root_is = h.root_is ∙ ap count_before_root (sym k.only.pairs) }
 
   -- where it doesn't fail
-  pub held : (r : Result X Error) (c : ThreadView) → c ≡ behind b r → OnlyReadsThreadAndReportsErrors a b r → SoundUnlessFailed c root writable
+  pub held : (r : Result X Error) (c : ThreadView) → c ≡ behind b r → ReadsOrReports a b r → SoundUnlessFailed c root writable
   held r c is k = subst (λ (t : ThreadView). SoundUnlessFailed t root writable) (sym is) (go r k)
     where
-      go : (r : Result X Error) → OnlyReadsThreadAndReportsErrors a b r → SoundUnlessFailed (behind b r) root writable
+      go : (r : Result X Error) → ReadsOrReports a b r → SoundUnlessFailed (behind b r) root writable
       go (Err e) k f = absurd (cc)
       go (Ok x) k f = rooted (Ok x) k
 

@@ -1,27 +1,14 @@
 -- An image of which no used block changed.
 use Rattle.std.proofs.Common.{ℕ, ◌≡◌, ◌≤◌, ◌+◌, ◌∙◌, List, [], ◌∷◌, ◌++◌, length, length-append, take, Some, refl, sym, ap, subst, arith}
 use Rattle.std.specs.Prelude.{All, Contains}
-use Rattle.std.specs.List.{flat_map}
-use Rattle.std.proofs.lemmas.List.Elements.{All-from_recursion, recursion_from_All}
-use Rattle.std.proofs.lemmas.Option.{slice_get_within}
-use Rattle.lfs_model.specs.format.Content.{content_at, current_block}
+use Rattle.lfs_tree.proofs.Common.{flat_map, All-from_recursion, recursion_from_All, slice_get_within, current_block, Disk, SameGeometry, disk_block, FitsInPair, Slot, Pair, pairs_blocks, pairs_from_root, first_address, count_before_root, BeginsWith, IsAccepted, superblock_entry, IsWritableSlot, IsWritable, all_unmoved_slots, struct_blocks, used_blocks, Contains-number_occurrences, IsChangedImage, slots_files, Each, number_occurrences, count_append, count_here, each_from_counted, each_pieces, SameFileBlocks, chain_of_thread, root_begins}
+use Rattle.lfs_model.specs.format.Content.{content_at}
 use Rattle.lfs_model.specs.declared.limits.Profile.{Profile}
-use Rattle.lfs_model.specs.format.Disk.{Disk, SameGeometry, disk_block}
-use Rattle.lfs_model.specs.format.Slots.{FitsInPair, Slot}
-use Rattle.lfs_model.specs.format.Thread.{Pair, blocks_of_pairs, pairs_from_root, first_address, from_first_slots, pair_count_before_root}
-use Rattle.lfs_model.specs.tree.View.{BeginsWith, IsAccepted, superblock_entry}
-use Rattle.lfs_model.specs.tree.Profile.{IsWritableSlot, IsWritable}
-use Rattle.lfs_model.specs.tree.Shown.{all_slots_not_moved, struct_blocks, used_blocks}
-use Rattle.lfs_model.proofs.BlockSets.{Contains-number_count}
-use Rattle.lfs_model.proofs.Changes.{IsChangedImage, slots_files}
-use Rattle.lfs_model.proofs.Counts.{Each, number_count, count_append, count_here, each_from_counted, each_pieces}
+use Rattle.lfs_model.specs.format.Thread.{from_first_slots}
 use Rattle.lfs_model.proofs.Devices.{content_same, first_same}
-use Rattle.lfs_model.proofs.Files.{SameFileBlocks}
-use Rattle.lfs_model.proofs.Found.{chain_of_thread}
 use Rattle.lfs_model.proofs.Splices.{IsDevice}
 use Rattle.lfs_model.proofs.Superblocks.{IsChain, first_counted}
 use Rattle.lfs_model.proofs.Unchanged.{accepted_filled, same_follows}
-use Rattle.lfs_lookup.proofs.Roots.{root_begins}
 
 pub writable_on : (disk new : Disk) (ps : List Pair) → SameGeometry disk new → IsWritable disk ps → IsWritable new ps
 writable_on disk new ps g h = record {
@@ -35,17 +22,17 @@ pub geometry_back : (disk new : Disk) → SameGeometry disk new → SameGeometry
 geometry_back disk new g = record { block_size = sym g.block_size; page = sym g.page; order = sym g.order; profile = sym g.profile; count = sym g.count }
 
 -- pairs of which no block changed
-contents_still : (disk new : Disk) (ps : List Pair) → ((b : ℕ) → 1 ≤ number_count b (blocks_of_pairs ps) → disk_block new b ≡ disk_block disk b) → Each (λ (p : Pair). content_at disk p.at ≡ Some p.content) ps
+contents_still : (disk new : Disk) (ps : List Pair) → ((b : ℕ) → 1 ≤ number_occurrences b (pairs_blocks ps) → disk_block new b ≡ disk_block disk b) → Each (λ (p : Pair). content_at disk p.at ≡ Some p.content) ps
     → Each (λ (p : Pair). content_at new p.at ≡ Some p.content) ps
 contents_still disk new [] same was = tt
 contents_still disk new (p ∷ ps) same was = (
   content_same disk new p.at
-      (same p.at.0 (let e = count_here p.at.0 (p.at.1 ∷ blocks_of_pairs ps) in omega arith))
-      (same p.at.1 (let e = count_here p.at.1 (blocks_of_pairs ps) in omega arith)) ∙ was.0,
+      (same p.at.0 (let e = count_here p.at.0 (p.at.1 ∷ pairs_blocks ps) in omega arith))
+      (same p.at.1 (let e = count_here p.at.1 (pairs_blocks ps) in omega arith)) ∙ was.0,
   contents_still disk new ps (λ b some. same b (omega arith)) was.1,
 )
 
-first_still : (disk new : Disk) (ps : List Pair) → IsAccepted disk ps → ((b : ℕ) → 1 ≤ number_count b (blocks_of_pairs ps) → disk_block new b ≡ disk_block disk b)
+first_still : (disk new : Disk) (ps : List Pair) → IsAccepted disk ps → ((b : ℕ) → 1 ≤ number_occurrences b (pairs_blocks ps) → disk_block new b ≡ disk_block disk b)
     → BeginsWith (current_block new (first_address (from_first_slots ps))) superblock_entry
 first_still disk new ps ok same =
     let f = accepted_filled disk ps ok in
@@ -55,16 +42,16 @@ first_still disk new ps ok same =
     (first_same disk new f.pair.at (same f.pair.at.0 n.0) (same f.pair.at.1 n.1) (subst (λ at. BeginsWith (current_block disk at) superblock_entry) e ok.first))
 
 module _ (disk new : Disk) (ps : List Pair) (ok : IsAccepted disk ps) (geometry : SameGeometry disk new) (same : (b : ℕ) → Contains (used_blocks disk ps) b → disk_block new b ≡ disk_block disk b) where
-  counted : (b : ℕ) → number_count b (used_blocks disk ps) ≡ number_count b (blocks_of_pairs ps) + number_count b (flat_map (λ (s : Slot). struct_blocks disk s.struct) (all_slots_not_moved ps))
-  counted b = count_append b (blocks_of_pairs ps) (flat_map (λ (s : Slot). struct_blocks disk s.struct) (all_slots_not_moved ps))
+  counted : (b : ℕ) → number_occurrences b (used_blocks disk ps) ≡ number_occurrences b (pairs_blocks ps) + number_occurrences b (flat_map (λ (s : Slot). struct_blocks disk s.struct) (all_unmoved_slots ps))
+  counted b = count_append b (pairs_blocks ps) (flat_map (λ (s : Slot). struct_blocks disk s.struct) (all_unmoved_slots ps))
 
-  pair_still : (b : ℕ) → 1 ≤ number_count b (blocks_of_pairs ps) → disk_block new b ≡ disk_block disk b
-  pair_still b some = same b (Contains-number_count (used_blocks disk ps) b (let e = counted b in omega arith))
+  pair_still : (b : ℕ) → 1 ≤ number_occurrences b (pairs_blocks ps) → disk_block new b ≡ disk_block disk b
+  pair_still b some = same b (Contains-number_occurrences (used_blocks disk ps) b (let e = counted b in omega arith))
 
-  pub files_still : Each (λ (s : Slot). SameFileBlocks disk new s.struct) (all_slots_not_moved ps)
-  files_still = each_pieces (λ b. disk_block new b ≡ disk_block disk b) (λ (s : Slot). struct_blocks disk s.struct) (all_slots_not_moved ps)
-      (each_from_counted (λ b. disk_block new b ≡ disk_block disk b) (flat_map (λ (s : Slot). struct_blocks disk s.struct) (all_slots_not_moved ps))
-      (λ b some. same b (Contains-number_count (used_blocks disk ps) b (let e = counted b in omega arith))))
+  pub files_still : Each (λ (s : Slot). SameFileBlocks disk new s.struct) (all_unmoved_slots ps)
+  files_still = each_pieces (λ b. disk_block new b ≡ disk_block disk b) (λ (s : Slot). struct_blocks disk s.struct) (all_unmoved_slots ps)
+      (each_from_counted (λ b. disk_block new b ≡ disk_block disk b) (flat_map (λ (s : Slot). struct_blocks disk s.struct) (all_unmoved_slots ps))
+      (λ b some. same b (Contains-number_occurrences (used_blocks disk ps) b (let e = counted b in omega arith))))
 
   device_still : IsDevice disk new ps ps
   device_still = record {
@@ -72,7 +59,7 @@ module _ (disk new : Disk) (ps : List Pair) (ok : IsAccepted disk ps) (geometry 
     contents = All-from_recursion (λ (p : Pair). content_at new p.at ≡ Some p.content) ps
         (contents_still disk new ps pair_still (recursion_from_All (λ (p : Pair). content_at disk p.at ≡ Some p.content) ps ok.thread.contents));
     first = first_still disk new ps ok pair_still;
-    files = All-from_recursion (λ (s : Slot). SameFileBlocks disk new s.struct) (all_slots_not_moved ps) files_still;
+    files = All-from_recursion (λ (s : Slot). SameFileBlocks disk new s.struct) (all_unmoved_slots ps) files_still;
   }
 
   -- it is accepted as before, and shows the same tree
@@ -80,22 +67,22 @@ module _ (disk new : Disk) (ps : List Pair) (ok : IsAccepted disk ps) (geometry 
   still_follows = go (pairs_from_root ps) refl
     where
       chain : List Pair
-      chain = take (pair_count_before_root ps) ps
+      chain = take (count_before_root ps) ps
 
       go : (behind : List Pair) → pairs_from_root ps ≡ behind → IsChangedImage disk ps new ps (λ t. t) (λ d. d)
       go [] e = absurd (
           let c = chain_of_thread ps in
           let root = root_begins disk ps ok in
-          let w = slice_get_within ps (pair_count_before_root ps) root.pair root.there in
-          let l = ap length (c.0 ∙ ap (λ z. take (pair_count_before_root ps) ps ++ z) e) in
-          let k : pair_count_before_root ps ≡ length (take (pair_count_before_root ps) ps) = ap pair_count_before_root c.0 ∙ c.1 in
-          let n = length-append (take (pair_count_before_root ps) ps) [] in
+          let w = slice_get_within ps (count_before_root ps) root.pair root.there in
+          let l = ap length (c.0 ∙ ap (λ z. take (count_before_root ps) ps ++ z) e) in
+          let k : count_before_root ps ≡ length (take (count_before_root ps) ps) = ap count_before_root c.0 ∙ c.1 in
+          let n = length-append (take (count_before_root ps) ps) [] in
           omega arith)
       go (x ∷ rest) e =
           let c = chain_of_thread ps in
-          let are : ps ≡ take (pair_count_before_root ps) ps ++ (x ∷ rest) = c.0 ∙ ap (λ z. take (pair_count_before_root ps) ps ++ z) e in
+          let are : ps ≡ take (count_before_root ps) ps ++ (x ∷ rest) = c.0 ∙ ap (λ z. take (count_before_root ps) ps ++ z) e in
           subst (λ z. IsChangedImage disk z new z (λ t. t) (λ d. d)) (sym are)
-          (same_follows disk new (take (pair_count_before_root ps) ps) x rest (subst (IsChain (take (pair_count_before_root ps) ps)) e c.1) (subst (IsAccepted disk) are ok) (subst (λ z. IsDevice disk new z z) are device_still))
+          (same_follows disk new (take (count_before_root ps) ps) x rest (subst (IsChain (take (count_before_root ps) ps)) e c.1) (subst (IsAccepted disk) are ok) (subst (λ z. IsDevice disk new z z) are device_still))
 
   pub used_still : used_blocks new ps ≡ used_blocks disk ps
-  used_still = ap (λ z. blocks_of_pairs ps ++ z) (slots_files disk new (all_slots_not_moved ps) geometry files_still)
+  used_still = ap (λ z. pairs_blocks ps ++ z) (slots_files disk new (all_unmoved_slots ps) geometry files_still)

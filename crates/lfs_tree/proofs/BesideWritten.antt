@@ -1,46 +1,24 @@
 -- Contents of a writer that are written beside an image.
 use Rattle.std.proofs.Common.{ℕ, ◌≡◌, ◌<◌, ◌≤◌, ◌+◌, ◌/◌, ◌∙◌, Bool, true, false, List, length, min, max, Option, Some, None, Result, Ok, Err, inl, refl, sym, ap, subst, arith}
-use Rattle.std.proofs.Math.Nat.{min-le_right}
+use Rattle.lfs_tree.proofs.Common.{min-le_right, is_file, AreUsed, used_count, SameGeometry, disk_block, block_count, inline_limit, DiskSummary, slot_of, Slot, Pair, pairs_gstate, count_before_root, Path, Tree, IsAccepted, IsWritable, disk_tree, used_blocks, Blocks, CachedBlocks, HasEither, SurvivesLossSince, with_blocks, IsChangedImage, HoldsAtLosses-weaker, HoldsAtLosses-worst, SameFileBlocks, file_blocks_same, CanTruncate, CanWrite, HaveThreadForm, KeepsPairs, ThreadReportsFaults, contents_list_blocks, KeptThread, ThreadView, SoundUnlessFailed, IsSoundWithRoot, kept_state, thread_state, CanTruncateIn, CanWriteIn, AreThreadContents, slot_blocks, writer_contents_bytes, list_blocks_at, IsFailedTree, HasErrorCause, IsSoundState, TreeState, contents_bytes, contents_form, ContentsForm, AreUsedAmong}
 use Rattle.std.specs.Prelude.{Contains, IfErr, IfOk, OnErr, OnOk}
 use Rattle.lfs_device.specs.declared.error.Error.{Error}
 use Rattle.lfs_device.specs.declared.error.Error.TheVariants.{Io}
-use Rattle.lfs_model.specs.session.TreeEdits.{is_file}
-use Rattle.lfs_model.specs.layers.BlockSets.{AreUsed, used_count}
 use Rattle.lfs_model.specs.declared.limits.Profile.{Profile}
-use Rattle.lfs_model.specs.format.Disk.{SameGeometry, disk_block, block_count, inline_limit}
-use Rattle.lfs_model.specs.session.Session.{DiskSummary}
-use Rattle.lfs_model.specs.session.SlotEdits.{slot_of}
-use Rattle.lfs_model.specs.format.Slots.{Slot}
-use Rattle.lfs_model.specs.format.Thread.{Pair, pairs_gstate, pair_count_before_root}
-use Rattle.lfs_model.specs.tree.Tree.{Path, Tree}
-use Rattle.lfs_model.specs.tree.View.{IsAccepted}
-use Rattle.lfs_model.specs.tree.Profile.{IsWritable}
-use Rattle.lfs_model.specs.tree.Shown.{tree_on_disk, used_blocks}
-use Rattle.lfs_model.specs.format.Blocks.{Blocks}
-use Rattle.lfs_model.specs.layers.Cache.{CachedBlocks}
-use Rattle.lfs_model.specs.crash.PowerLoss.{HasEither, SurvivesLossSince, with_blocks}
-use Rattle.lfs_model.proofs.Changes.{IsChangedImage}
-use Rattle.lfs_model.proofs.Histories.{HoldsAtLosses-weaker, HoldsAtLosses-worst}
 use Rattle.lfs_file.specs.Hand.{KeepsUsedBytes}
-use Rattle.lfs_model.proofs.Files.{SameFileBlocks, file_blocks_same}
-use Rattle.lfs_tree.specs.ThreadContents.{CanTruncate, CanWrite, HasContents, KeepsPairs, ReportsFaultOrNoMemory, contents_list_blocks}
-use Rattle.lfs_thread.specs.Kept.{KeptThread, ThreadView}
-use Rattle.lfs_tree.specs.RootedThreads.{SoundUnlessFailed, IsSoundWithRoot, kept_state, thread_state}
-use Rattle.lfs_tree.specs.OpenContents.{CanTruncateWriterContents, CanWriteWriterContents, OverThreadFile, WritesOnlyUnusedBlocksOrFails, KeepsImage, slot_list_blocks, writer_contents_bytes, list_blocks_at}
-use Rattle.lfs_tree.specs.TreeState.{IsFailedTree, HasErrorCause, IsSoundState, TreeState}
+use Rattle.lfs_tree.specs.OpenContents.{WritesUnusedOrFails, KeepsImage}
 use Rattle.lfs_tree.proofs.BesideImage.{files_still, geometry_back, still_follows, used_still, writable_on}
 use Rattle.lfs_tree.proofs.SameErrors.{same_error}
 use Rattle.lfs_tree.proofs.Asking.{behind}
 use Rattle.lfs_tree.proofs.SlotsHave.{slot_has}
 use Rattle.lfs_tree.proofs.UsedBlocks.{count_is}
-use Rattle.lfs_file.specs.Contents.{FormFitsInlineLimit, NeedsTruncateRoom, contents_bytes, contents_form, truncation_room, write_room}
-use Rattle.lfs_file.specs.Form.{StorageForm, form_size}
-use Rattle.lfs_file.specs.BlockOwners.{AreOwn}
+use Rattle.lfs_file.specs.Contents.{FormFitsInline, NeedsTruncateRoom, truncation_room, write_room}
+use Rattle.lfs_file.specs.Form.{form_size}
 use Rattle.lfs_file.specs.declared.contents.WriterContents.{WriterContents}
 use Rattle.lfs_file.proofs.Used.{used_back}
 
 -- the bytes and the form of contents that stand on a thread's device
-pub bytes_of_held : (t : KeptThread) (c : WriterContents) (bytes : List ℕ) (shape : StorageForm) → HasContents t c bytes shape → writer_contents_bytes t c ≡ bytes
+pub bytes_of_held : (t : KeptThread) (c : WriterContents) (bytes : List ℕ) (shape : ContentsForm) → HaveThreadForm t c bytes shape → writer_contents_bytes t c ≡ bytes
 bytes_of_held t c bytes shape h = ap (λ (n : ℕ). contents_bytes t.disk.blocks n c) (sym h.divided.block_size) ∙ h.has.has
 
 pub geometry_beside : (a b : KeptThread) → KeepsPairs a b → SameGeometry a.disk b.disk
@@ -56,8 +34,8 @@ module _ (a b : KeptThread) (leaves : KeepsPairs a b) (accepted : IsAccepted a.d
   pub accepted_beside : IsAccepted b.disk b.pairs
   accepted_beside = subst (IsAccepted b.disk) (sym leaves.pairs) follows.accepted
 
-  pub tree_beside : tree_on_disk b.disk b.pairs ≡ tree_on_disk a.disk a.pairs
-  tree_beside = ap (tree_on_disk b.disk) leaves.pairs ∙ follows.shows
+  pub tree_beside : disk_tree b.disk b.pairs ≡ disk_tree a.disk a.pairs
+  tree_beside = ap (disk_tree b.disk) leaves.pairs ∙ follows.shows
 
   pub used_blocks_beside : used_blocks b.disk b.pairs ≡ used_blocks a.disk a.pairs
   used_blocks_beside = ap (used_blocks b.disk) leaves.pairs ∙ used_still a.disk b.disk a.pairs accepted (geometry_beside a b leaves) used_same
@@ -67,15 +45,15 @@ module _ (a b : KeptThread) (leaves : KeepsPairs a b) (accepted : IsAccepted a.d
 
   -- the file at a path has its list in the same blocks
   pub list_beside : (path : Path) → list_blocks_at b path ≡ list_blocks_at a path
-  list_beside path = ap (λ (ps : List Pair). slot_list_blocks b.disk (slot_of ps path)) leaves.pairs ∙ go (slot_of a.pairs path) refl
+  list_beside path = ap (λ (ps : List Pair). slot_blocks b.disk (slot_of ps path)) leaves.pairs ∙ go (slot_of a.pairs path) refl
     where
-      go : (o : Option Slot) → slot_of a.pairs path ≡ o → slot_list_blocks b.disk o ≡ slot_list_blocks a.disk o
+      go : (o : Option Slot) → slot_of a.pairs path ≡ o → slot_blocks b.disk o ≡ slot_blocks a.disk o
       go None e = refl
       go (Some s) e = file_blocks_same a.disk b.disk s.struct (geometry_beside a b leaves)
           (slot_has (λ (x : Slot). SameFileBlocks a.disk b.disk x.struct) a.disk a.pairs accepted (files_still a.disk b.disk a.pairs accepted (geometry_beside a b leaves) used_same) tt path s e)
 
   -- what a call makes of contents is over the same file
-  pub over_beside : (path : Path) (contents c : WriterContents) (bytes : List ℕ) (shape : StorageForm) → OverThreadFile a path contents → HasContents b c bytes shape → AreOwn b.map (contents_list_blocks a contents) (contents_list_blocks b c) → OverThreadFile b path c
+  pub over_beside : (path : Path) (contents c : WriterContents) (bytes : List ℕ) (shape : ContentsForm) → AreThreadContents a path contents → HaveThreadForm b c bytes shape → AreUsedAmong b.map (contents_list_blocks a contents) (contents_list_blocks b c) → AreThreadContents b path c
   over_beside path contents c bytes shape over holds owned = record {
     file = ap (λ (t : Tree). is_file (t path)) tree_beside ∙ over.file;
     stands = record { geometry = holds.geometry; divided = holds.divided; stands = holds.has.stands };
@@ -100,7 +78,7 @@ around_is writable profile profile_now block_size page count block_size_now page
 
 -- a disk of which no used block changed
 pub left_beside : (t : KeptThread) (blocks : Blocks) {after : Tree} → IsAccepted t.disk t.pairs → IsWritable t.disk t.pairs → AreUsed t.map (used_blocks t.disk t.pairs) → KeepsUsedBytes t.map t.disk.blocks blocks
-    → HasEither (with_blocks blocks t.disk) (tree_on_disk t.disk t.pairs) after
+    → HasEither (with_blocks blocks t.disk) (disk_tree t.disk t.pairs) after
 left_beside t blocks accepted fits used spared =
     let same : SameGeometry t.disk (with_blocks blocks t.disk) = record { block_size = refl; page = refl; order = refl; profile = refl; count = spared.count } in
     let f = still_follows t.disk (with_blocks blocks t.disk) t.pairs accepted same (λ x has. spared.same x ((used x).1 has)) in
@@ -112,9 +90,9 @@ module _ (a b : ThreadView) (root : ℕ) (writable : Bool) (h : IsSoundWithRoot 
   sound = h.sound
 
   pub rooted_beside : IsSoundWithRoot b root writable
-  rooted_beside = record { works = still; sound = sound_beside a.kept b.kept writable leaves sound; root_is = h.root_is ∙ ap pair_count_before_root (sym leaves.pairs) }
+  rooted_beside = record { works = still; sound = sound_beside a.kept b.kept writable leaves sound; root_is = h.root_is ∙ ap count_before_root (sym leaves.pairs) }
 
-  written_beside : (r : Result WriterContents Error) → ReportsFaultOrNoMemory a.kept b.kept r → OnOk r (KeepsImage (thread_state a writable) (thread_state (behind b r) writable))
+  written_beside : (r : Result WriterContents Error) → ThreadReportsFaults a.kept b.kept r → OnOk r (KeepsImage (thread_state a writable) (thread_state (behind b r) writable))
   written_beside (Err e) t = tt
   written_beside (Ok c) t =
       let s = sound_beside a.kept b.kept writable leaves sound in
@@ -137,7 +115,7 @@ module _ (a b : ThreadView) (root : ℕ) (writable : Bool) (h : IsSoundWithRoot 
   broken_beside (Ok c) = tt
   broken_beside (Err e) = record { failed = refl; geometry = geometry_beside a.kept b.kept leaves; calls = leaves.at_worst.events; called = leaves.at_worst.extends }
 
-  reported_beside : (r : Result WriterContents Error) → ReportsFaultOrNoMemory a.kept b.kept r → IfErr r (HasErrorCause (thread_state a writable) (thread_state (behind b r) writable))
+  reported_beside : (r : Result WriterContents Error) → ThreadReportsFaults a.kept b.kept r → IfErr r (HasErrorCause (thread_state a writable) (thread_state (behind b r) writable))
   reported_beside (Ok c) t = tt
   reported_beside (Err e) t = record {
     errors = t.errors;
@@ -146,13 +124,13 @@ module _ (a b : ThreadView) (root : ℕ) (writable : Bool) (h : IsSoundWithRoot 
   }
 
   -- a loss of power on the way leaves the image as it was
-  survives_beside : writable ≡ true → SurvivesLossSince a.kept.disk a.kept.history b.kept.history (tree_on_disk a.kept.disk a.kept.pairs) (tree_on_disk a.kept.disk a.kept.pairs)
+  survives_beside : writable ≡ true → SurvivesLossSince a.kept.disk a.kept.history b.kept.history (disk_tree a.kept.disk a.kept.pairs) (disk_tree a.kept.disk a.kept.pairs)
   survives_beside may clean = HoldsAtLosses-weaker (λ blocks spared. left_beside a.kept blocks sound.accepted (sound.fits may) sound.used spared) (HoldsAtLosses-worst leaves.at_worst)
 
-  pub writing : (now : TreeState) (r : Result WriterContents Error) (c : ThreadView) → thread_state a writable ≡ now → c ≡ behind b r → ReportsFaultOrNoMemory a.kept b.kept r → WritesOnlyUnusedBlocksOrFails now r (thread_state c writable)
+  pub writing : (now : TreeState) (r : Result WriterContents Error) (c : ThreadView) → thread_state a writable ≡ now → c ≡ behind b r → ThreadReportsFaults a.kept b.kept r → WritesUnusedOrFails now r (thread_state c writable)
   writing now r c view is t =
-      subst (λ (s : TreeState). WritesOnlyUnusedBlocksOrFails s r (thread_state c writable)) view
-      (subst (λ (t : ThreadView). WritesOnlyUnusedBlocksOrFails (thread_state a writable) r (thread_state t writable)) (sym is)
+      subst (λ (s : TreeState). WritesUnusedOrFails s r (thread_state c writable)) view
+      (subst (λ (t : ThreadView). WritesUnusedOrFails (thread_state a writable) r (thread_state t writable)) (sym is)
       (record { beside = written_beside r t; broken = broken_beside r; errors = reported_beside r t; survives = survives_beside }))
 
   -- and the thread is still that of the image
@@ -163,8 +141,8 @@ module _ (a b : ThreadView) (root : ℕ) (writable : Bool) (h : IsSoundWithRoot 
       go (Err e) f = absurd (cc)
       go (Ok x) f = rooted_beside
 
-  pub all_over : (path : Path) (contents : WriterContents) (bytes : List ℕ) (shape : StorageForm) (r : Result WriterContents Error) → OverThreadFile a.kept path contents → IfOk r (λ c. HasContents b.kept c bytes shape)
-      → IfOk r (λ c. AreOwn b.kept.map (contents_list_blocks a.kept contents) (contents_list_blocks b.kept c)) → IfOk r (OverThreadFile b.kept path)
+  pub all_over : (path : Path) (contents : WriterContents) (bytes : List ℕ) (shape : ContentsForm) (r : Result WriterContents Error) → AreThreadContents a.kept path contents → IfOk r (λ c. HaveThreadForm b.kept c bytes shape)
+      → IfOk r (λ c. AreUsedAmong b.kept.map (contents_list_blocks a.kept contents) (contents_list_blocks b.kept c)) → IfOk r (AreThreadContents b.kept path)
   all_over path contents bytes shape (Err e) over holds owned = tt
   all_over path contents bytes shape (Ok c) over holds owned = over_beside a.kept b.kept leaves sound.accepted sound.used path contents c bytes shape over holds owned
 
@@ -180,11 +158,11 @@ module _ (t : KeptThread) (writable : Bool) (limit : ℕ) (sound : IsSoundState 
   room_is : (need : ℕ) → length (used_blocks t.disk t.pairs) + need ≤ block_count t.disk → used_count t.map + need ≤ length t.map
   room_is need room = let e = count_is (kept_state t writable false) sound in let s = sound.size in omega arith
 
-  pub can_write : {cache : CachedBlocks} (failed : Bool) (contents : WriterContents) (place count : ℕ) → CanWriteWriterContents (record (kept_state t writable failed) { cache = cache }) contents place count → CanWrite t contents limit place count
+  pub can_write : {cache : CachedBlocks} (failed : Bool) (contents : WriterContents) (place count : ℕ) → CanWriteIn (record (kept_state t writable failed) { cache = cache }) contents place count → CanWrite t contents limit place count
   can_write failed contents place count can = record {
     stands = can.stands;
     fits = record {
-      large = subst (λ (n : ℕ). FormFitsInlineLimit n (contents_form contents)) (sym is) can.large;
+      large = subst (λ (n : ℕ). FormFitsInline n (contents_form contents)) (sym is) can.large;
       short = limit_short t.disk.profile t.disk.block_size limit large is;
       some = can.some;
       small = can.small;
@@ -192,11 +170,11 @@ module _ (t : KeptThread) (writable : Bool) (limit : ℕ) (sound : IsSoundState 
     };
   }
 
-  pub can_truncate : {cache : CachedBlocks} (failed : Bool) (contents : WriterContents) (size : ℕ) → CanTruncateWriterContents (record (kept_state t writable failed) { cache = cache }) contents size → CanTruncate t contents limit size
+  pub can_truncate : {cache : CachedBlocks} (failed : Bool) (contents : WriterContents) (size : ℕ) → CanTruncateIn (record (kept_state t writable failed) { cache = cache }) contents size → CanTruncate t contents limit size
   can_truncate failed contents size can = record {
     stands = can.stands;
     fits = record {
-      large = subst (λ (n : ℕ). FormFitsInlineLimit n (contents_form contents)) (sym is) can.large;
+      large = subst (λ (n : ℕ). FormFitsInline n (contents_form contents)) (sym is) can.large;
       short = limit_short t.disk.profile t.disk.block_size limit large is;
       small = can.small;
       room = λ needs. room_is (truncation_room t.disk.block_size size (contents_form contents)) (can.room (subst (λ (n : ℕ). NeedsTruncateRoom n size (contents_form contents)) is needs));

@@ -1,41 +1,11 @@
 -- A file or a directory that comes to a path.
 use Rattle.std.proofs.Common.{ℕ, ◌≡◌, ◌≢◌, ◌≤◌, ◌∙◌, ◌++◌, inr, true, false, List, [], ◌∷◌, Result, Ok, Err, refl, sym, ap, subst, arith}
-use Rattle.std.specs.List.{list_all}
+use Rattle.lfs_tree.proofs.Common.{list_all, ltb-false, same_Some, AreByteBlocks, LeavesOthers, changed_paths, OpenFilesByNumber, Session, Pair, tree_creating, last_name, BlockStates, IsFree, IsInFlight, Free, InFlight, charge_limit, CallEvent, OnlyReadsSince, fault_count, Name, is_component, is_valid_name, FlagsOfOpen, Operation, entry_charge, path_or_root, Path, Tree, DirectoryNode, FileNode, disk_tree, each_weaker, last_is, here, WritesPairTwo, IsPairTouched, CanCreateIn, IsFileCreated, tree_with_file, AreBothTouched, CanMakeAt, IsDirectoryMade, WritesPairsFour, tree_with_directory, IsReadyImage, KeptThread, ThreadView, ChangesThreadBlocks, thread_pair, CanAddEntry, tree_after_call, AppliesOperation, HasAppliedCall, CanChangeRecovered, AppliesOrFails, IsNewSpot, IsVacantPath, HasSoundImage, SurvivesEither, kept_state, tree_summary}
 use Rattle.lfs_device.specs.declared.error.Error.{Error}
-use Rattle.std.proofs.lemmas.Bool.{ltb-false}
-use Rattle.std.proofs.lemmas.Option.{same_Some}
-use Rattle.lfs_device.specs.Bytes.{HoldBytes}
-use Rattle.lfs_model.specs.crash.Frame.{LeavesOthers, changed_paths}
-use Rattle.lfs_model.specs.session.Session.{OpenFilesByNumber, Session}
-use Rattle.lfs_model.specs.format.Thread.{Pair}
-use Rattle.lfs_model.specs.session.TreeEdits.{tree_creating, last_name}
-use Rattle.lfs_model.specs.layers.BlockSets.{BlockStates, IsFree, IsInFlight}
-use Rattle.lfs_model.specs.layers.BlockSets.BlockState.{Free, InFlight}
-use Rattle.lfs_model.specs.format.Disk.{charge_limit}
-use Rattle.lfs_model.specs.session.History.{CallEvent, OnlyReadsSince, fault_count}
-use Rattle.lfs_model.specs.format.Names.{Name, is_component, is_valid_name}
 use Rattle.lfs_model.specs.session.Operations as ops
-use Rattle.lfs_model.specs.session.Operations.{FlagsOfOpen, Operation}
-use Rattle.lfs_model.specs.format.Slots.{entry_charge}
-use Rattle.lfs_model.specs.session.Refusals.{path_or_root}
-use Rattle.lfs_model.specs.tree.Tree.{Path, Tree, DirectoryNode, FileNode}
-use Rattle.lfs_model.specs.tree.Shown.{tree_on_disk}
-use Rattle.lfs_model.proofs.Counts.{each_weaker}
-use Rattle.lfs_model.proofs.Paths.{last_is}
-use Rattle.lfs_operations.proofs.Held.{here}
-use Rattle.lfs_operations.specs.Changing.{WritesPairTwo, IsPairTouched}
-use Rattle.lfs_operations.specs.Creating.{CanCreateIn, IsFileCreated, tree_with_file}
-use Rattle.lfs_operations.specs.Making.{AreBothAltered, CanMakeAt, IsDirectoryMade, WritesPairsFour, tree_with_directory}
-use Rattle.lfs_operations.specs.Ready.{IsReadyImage, KeepsTakenStates}
-use Rattle.lfs_thread.specs.Kept.{KeptThread, ThreadView}
-use Rattle.lfs_thread.specs.ThreadSteps.{ChangesThreadBlocks, thread_pair_at}
+use Rattle.lfs_operations.specs.Ready.{KeepsTakenStates}
 use Rattle.lfs_tree.proofs.LeftAlone.{IsConcernedOrFree, concerned_alone, concerned_pair, rest_left_alone}
-use Rattle.lfs_tree.specs.Permissions.{CanAddEntry}
 use Rattle.lfs_tree.specs.TreeCalls as call
-use Rattle.lfs_tree.specs.TreeCalls.{tree_after_call}
-use Rattle.lfs_tree.specs.TreeChanges.{AppliesOperation, HasAppliedCall, CanChangeRecovered, AppliesOrFails, IsNewSpot, IsVacantPath, HasSoundImage, SurvivesEither}
-use Rattle.lfs_tree.specs.RootedThreads.{kept_state}
-use Rattle.lfs_tree.specs.TreeState.{tree_summary}
 use Rattle.lfs_lookup.specs.declared.search.SlotPosition.{SlotPosition}
 use Rattle.lfs_tree.proofs.Carried.{among_one, among_two, behind_below, carried, with_history}
 use Rattle.lfs_tree.proofs.CarryLogged.{logged_there}
@@ -55,7 +25,7 @@ ready_to t root h rests large = record {
   large = large;
 }
 
-pub vacant_to : (t : KeptThread) (path : Path) (need : ℕ) → CanAddEntry (kept_state t true false) path need → IsVacantPath (tree_on_disk t.disk t.pairs) path
+pub vacant_to : (t : KeptThread) (path : Path) (need : ℕ) → CanAddEntry (kept_state t true false) path need → IsVacantPath (disk_tree t.disk t.pairs) path
 vacant_to t path need can = record { parents = can.parents; nothing = can.nothing }
 
 pub stay_in_flight : (old new : BlockStates) → KeepsTakenStates old new → (b : ℕ) → IsInFlight old b → IsInFlight new b
@@ -64,7 +34,7 @@ stay_in_flight old new stays b flies = stays b (λ free. let k : InFlight ≡ Fr
 any_flags : FlagsOfOpen
 any_flags = record { read = false; write = true; create = true; exclusive = false; truncate = false; append = false; unknown = false }
 
-module _ (t : ThreadView) (root : ℕ) (rests : CanChangeRecovered t root) (path : Path) (components : list_all is_component path ≡ true) (large : 1024 ≤ t.kept.disk.block_size) (bytes : HoldBytes t.kept.disk.blocks)
+module _ (t : ThreadView) (root : ℕ) (rests : CanChangeRecovered t root) (path : Path) (components : list_all is_component path ≡ true) (large : 1024 ≤ t.kept.disk.block_size) (bytes : AreByteBlocks t.kept.disk.blocks)
     (need : ℕ) (can : CanAddEntry (kept_state t.kept true false) path need) (name : Name) (spot : SlotPosition) (place : IsNewSpot t.kept.disk.order t.kept.pairs path name spot) (h : List CallEvent) where
   name_is : last_name path ≡ name
   name_is = ap last_name place.is ∙ last_is place.above name
@@ -125,7 +95,7 @@ module _ (t : ThreadView) (root : ℕ) (rests : CanChangeRecovered t root) (path
         ready = is.now.ready;
         stay = stay_in_flight t.kept.map c.map is.now.stays;
         none_comes = is.now.none_comes;
-        completed = λ files. is.completed (record { tree = tree_on_disk t.kept.disk t.kept.pairs; files = files }) given flags refl (e ∙ place.is);
+        completed = λ files. is.completed (record { tree = disk_tree t.kept.disk t.kept.pairs; files = files }) given flags refl (e ∙ place.is);
         writes = record {
           blocks = _;
           each = among_one t.kept spot.pair writes.fresh (behind_below t.kept.pairs place.first spot.pair place.belongs.pair _ place.belongs.place) writes.free;
@@ -135,11 +105,11 @@ module _ (t : ThreadView) (root : ℕ) (rests : CanChangeRecovered t root) (path
       }) refl refl
 
   created_alone : (c : KeptThread) (op : Operation) (files : OpenFilesByNumber) → WritesPairTwo (with_history t.kept h) spot.pair c → IsPairTouched (with_history t.kept h) spot.pair c
-      → LeavesOthers t.kept.disk t.kept.pairs (record { tree = tree_on_disk t.kept.disk t.kept.pairs; files = files }) op c.disk c.pairs
+      → LeavesOthers t.kept.disk t.kept.pairs (record { tree = disk_tree t.kept.disk t.kept.pairs; files = files }) op c.disk c.pairs
   created_alone c op files w alters =
       let b = place.belongs in
-      let is : thread_pair_at t.kept spot.pair ≡ b.pair = here (with_history t.kept h) (ready_to t root h rests large) place.first spot.pair b.pair (b.later ++ b.rest) b.place in
-      rest_left_alone (with_history t.kept h) c place.first spot.pair b.pair (b.later ++ b.rest) w.fresh (record { tree = tree_on_disk t.kept.disk t.kept.pairs; files = files }) op
+      let is : thread_pair t.kept spot.pair ≡ b.pair = here (with_history t.kept h) (ready_to t root h rests large) place.first spot.pair b.pair (b.later ++ b.rest) b.place in
+      rest_left_alone (with_history t.kept h) c place.first spot.pair b.pair (b.later ++ b.rest) w.fresh (record { tree = disk_tree t.kept.disk t.kept.pairs; files = files }) op
       rests.held.sound.accepted rests.held.sound.used b.place w.free
       (subst (λ (z : Pair). ChangesThreadBlocks (z.at.0 ∷ z.at.1 ∷ w.fresh) (with_history t.kept h) c) is w.writes)
       (λ has n. alters (subst (Contains c.pairs) (sym is) has))
@@ -159,7 +129,7 @@ module _ (t : ThreadView) (root : ℕ) (rests : CanChangeRecovered t root) (path
         ready = is.now.ready;
         stay = stay_in_flight t.kept.map c.map is.now.stays;
         none_comes = is.now.none_comes;
-        completed = λ files. is.completed (record { tree = tree_on_disk t.kept.disk t.kept.pairs; files = files }) given refl (e ∙ place.is);
+        completed = λ files. is.completed (record { tree = disk_tree t.kept.disk t.kept.pairs; files = files }) given refl (e ∙ place.is);
         writes = record {
           blocks = _;
           each = among_two t.kept spot.pair writes.last writes.fresh (behind_below t.kept.pairs place.first spot.pair place.belongs.pair _ place.belongs.place) writes.is_last.below writes.free;
@@ -168,10 +138,10 @@ module _ (t : ThreadView) (root : ℕ) (rests : CanChangeRecovered t root) (path
         no_fault = quiet;
       }) refl refl
 
-  made_alone : (c : KeptThread) (op : Operation) (files : OpenFilesByNumber) → WritesPairsFour (with_history t.kept h) spot.pair c → AreBothAltered (with_history t.kept h) spot.pair c
-      → LeavesOthers t.kept.disk t.kept.pairs (record { tree = tree_on_disk t.kept.disk t.kept.pairs; files = files }) op c.disk c.pairs
+  made_alone : (c : KeptThread) (op : Operation) (files : OpenFilesByNumber) → WritesPairsFour (with_history t.kept h) spot.pair c → AreBothTouched (with_history t.kept h) spot.pair c
+      → LeavesOthers t.kept.disk t.kept.pairs (record { tree = disk_tree t.kept.disk t.kept.pairs; files = files }) op c.disk c.pairs
   made_alone c op files w alters =
-      let s : Session = record { tree = tree_on_disk t.kept.disk t.kept.pairs; files = files } in
+      let s : Session = record { tree = disk_tree t.kept.disk t.kept.pairs; files = files } in
       let old = with_history t.kept h in
       let entry = concerned_pair old (changed_paths s op) c.pairs spot.pair (behind_below t.kept.pairs place.first spot.pair place.belongs.pair _ place.belongs.place) (inr alters.entry) in
       let end = concerned_pair old (changed_paths s op) c.pairs w.last w.is_last.below (inr (alters.end w.last w.is_last)) in
@@ -179,7 +149,7 @@ module _ (t : ThreadView) (root : ℕ) (rests : CanChangeRecovered t root) (path
       (entry.0, (entry.1, (end.0, (end.1, each_weaker (IsFree t.kept.map) (IsConcernedOrFree old (changed_paths s op) c.pairs) (λ b f. inr f) w.fresh w.free)))) w.writes
 
   abbrev before : Tree
-  before = tree_on_disk t.kept.disk t.kept.pairs
+  before = disk_tree t.kept.disk t.kept.pairs
 
   created_survives : (c : KeptThread) → OnlyReadsSince t.kept.disk.blocks t.kept.history h → WritesPairTwo (with_history t.kept h) spot.pair c
       → ((can : CanCreateIn (with_history t.kept h) spot.pair spot.id name) → SurvivesEither (with_history t.kept h) c (tree_with_file (with_history t.kept h) can.path name)) → SurvivesEither t.kept c (tree_creating path (FileNode [] []) before)
@@ -213,12 +183,12 @@ module _ (t : ThreadView) (root : ℕ) (rests : CanChangeRecovered t root) (path
       )
 
   pub make_does : (new : ThreadView) (r : Result (Unit {0}) Error) (given : List ℕ) → path_or_root given ≡ path → 4 ≤ need → fault_count h ≡ fault_count t.kept.history → OnlyReadsSince t.kept.disk.blocks t.kept.history h → WritesPairsFour (with_history t.kept h) spot.pair new.kept
-      → OnOk r ((can : CanMakeAt (with_history t.kept h) spot.pair spot.id name) → IsDirectoryMade (with_history t.kept h) new.kept can.path name) → OnOk r (AreBothAltered (with_history t.kept h) spot.pair new.kept) → ReportsFaultsSince h new.kept.history r → OnOk r (new.failed ≡ false)
+      → OnOk r ((can : CanMakeAt (with_history t.kept h) spot.pair spot.id name) → IsDirectoryMade (with_history t.kept h) new.kept can.path name) → OnOk r (AreBothTouched (with_history t.kept h) spot.pair new.kept) → ReportsFaultsSince h new.kept.history r → OnOk r (new.failed ≡ false)
       → ((can : CanMakeAt (with_history t.kept h) spot.pair spot.id name) → SurvivesEither (with_history t.kept h) new.kept (tree_with_directory (with_history t.kept h) can.path name)) → AppliesOrFails t (call.Mkdir path) r new
   make_does new r given named enough quiet reads w gives alters reported works survives =
       changed t new (HasAppliedCall t.kept (call.Mkdir path)) (tree_after_call (call.Mkdir path) before) h _ r quiet reads w.writes reported works (go r gives alters (quiet_reported t.kept new.kept h r quiet reported)) (made_survives new.kept reads w survives enough)
     where
-      go : (r : Result (Unit {0}) Error) → OnOk r ((can : CanMakeAt (with_history t.kept h) spot.pair spot.id name) → IsDirectoryMade (with_history t.kept h) new.kept can.path name) → OnOk r (AreBothAltered (with_history t.kept h) spot.pair new.kept)
+      go : (r : Result (Unit {0}) Error) → OnOk r ((can : CanMakeAt (with_history t.kept h) spot.pair spot.id name) → IsDirectoryMade (with_history t.kept h) new.kept can.path name) → OnOk r (AreBothTouched (with_history t.kept h) spot.pair new.kept)
           → OnOk r (fault_count new.kept.history ≡ fault_count t.kept.history) → OnOk r (HasAppliedCall t.kept (call.Mkdir path) new.kept × HasSoundImage t.kept (tree_after_call (call.Mkdir path) before) new.kept)
       go (Err e) gives alters same = tt
       go (Ok x) gives alters same = (

@@ -2,44 +2,12 @@
 use Rattle.std.proofs.Common.{ℕ, ◌≡◌, ◌<◌, ◌≤◌, ◌∙◌, ◌++◌, true, false, List, [], ◌∷◌, length, Some, None, Result, Ok, Err, refl, sym, ap, subst}
 use Rattle.std.specs.Prelude.{All, is_none, Any, OnOk}
 use Rattle.lfs_device.specs.declared.error.Error.{Error}
-use Rattle.std.specs.List.{AllByRecursion}
-use Rattle.std.specs.Option.{option_map}
-use Rattle.std.proofs.lemmas.Bool.{ltb-false}
-use Rattle.std.proofs.lemmas.List.Elements.{recursion_from_All}
-use Rattle.lfs_device.specs.Bytes.{HoldBytes}
-use Rattle.lfs_model.specs.layers.BlockSets.{IsFree}
-use Rattle.lfs_model.specs.crash.Frame.{HasPathSlot, LeavesOthers, changed_paths}
-use Rattle.lfs_model.specs.session.Session.{OpenFilesByNumber}
-use Rattle.lfs_model.specs.session.TreeEdits.{node_attributes_of, last_name}
-use Rattle.lfs_model.specs.format.Content.{attributes_with, attributes_without}
-use Rattle.lfs_model.specs.format.Disk.{charge_limit, inline_limit}
-use Rattle.lfs_model.specs.session.History.{CallEvent, OnlyReadsSince, fault_count}
-use Rattle.lfs_model.specs.format.Names.{Name}
+use Rattle.lfs_tree.proofs.Common.{AllByRecursion, option_map, ltb-false, recursion_from_All, AreByteBlocks, IsFree, HasPathSlot, LeavesOthers, changed_paths, OpenFilesByNumber, node_attributes_of, last_name, attributes_with, attributes_without, charge_limit, inline_limit, CallEvent, OnlyReadsSince, fault_count, Name, Operation, is_recover, renames_itself, slot_of, Attributes, Slot, Struct, Inline, Ctz, Branch, entry_charge, path_or_root, is_root_path, Pair, address_blocks, Path, Tree, struct_node, IsWritableSlot, InlineBytesFit, struct_list_bytes, all_entries, disk_tree, Each, each_right, last_is, here, WritesPairTwo, CanEditIn, CanSetAttribute, HasRemovedAttribute, HasSetAttribute, tree_setting_attributes, KeptThread, ThreadView, ChangesThreadBlocks, thread_pair, CanRemoveAttr, CanSetAttr, tree_after_call, AppliesOperation, HasAppliedCall, CanChangeRecovered, AppliesOrFails, SparesOutsideOperation, HasSoundImage, SurvivesEither, HasPathEntry, IsPathSpot, is_entry_found, tree_with_attributes, kept_state, LeadsToResult, IsSlotBelow}
 use Rattle.lfs_model.specs.session.Operations as ops
-use Rattle.lfs_model.specs.session.Operations.{Operation}
-use Rattle.lfs_model.specs.session.Run.{is_recover, renames_itself}
-use Rattle.lfs_model.specs.session.SlotEdits.{slot_of}
-use Rattle.lfs_model.specs.format.Slots.{Attributes, Slot, Struct, Inline, Ctz, Branch, entry_charge}
-use Rattle.lfs_model.specs.session.Refusals.{path_or_root, is_root_path}
-use Rattle.lfs_model.specs.format.Thread.{Pair, address_blocks}
-use Rattle.lfs_model.specs.tree.Tree.{Path, Tree, struct_node}
-use Rattle.lfs_model.specs.tree.Profile.{IsWritableSlot, InlineBytesFit}
-use Rattle.lfs_model.specs.tree.Shown.{struct_list_bytes, all_entries, tree_on_disk}
-use Rattle.lfs_model.proofs.Counts.{Each, each_right}
-use Rattle.lfs_model.proofs.Paths.{last_is}
-use Rattle.lfs_operations.proofs.Held.{here}
-use Rattle.lfs_operations.specs.Changing.{WritesPairTwo}
-use Rattle.lfs_operations.specs.Editing.{CanEditIn, CanSetAttribute, HasRemovedAttribute, HasSetAttribute, HasAttributesChanged, tree_with_attributes_set}
-use Rattle.lfs_thread.specs.Kept.{KeptThread, ThreadView}
-use Rattle.lfs_thread.specs.ThreadSteps.{ChangesThreadBlocks, thread_pair_at}
+use Rattle.lfs_operations.specs.Editing.{HasAttributesChanged}
 use Rattle.lfs_tree.proofs.LeftAlone.{about_one, holds_slot, rest_left_alone}
-use Rattle.lfs_tree.specs.Permissions.{CanRemoveAttr, CanSetAttr}
 use Rattle.lfs_tree.specs.TreeCalls as call
-use Rattle.lfs_tree.specs.TreeCalls.{tree_after_call}
-use Rattle.lfs_tree.specs.TreeChanges.{AppliesOperation, HasAppliedCall, CanChangeRecovered, AppliesOrFails, SparesOutsideOperation, HasSoundImage, SurvivesEither}
-use Rattle.lfs_tree.specs.SlotChanges.{HasPathEntry, IsPathSpot, IsFoundSpot, is_entry_found, tree_with_attributes}
-use Rattle.lfs_tree.specs.RootedThreads.{kept_state}
-use Rattle.lfs_lookup.specs.LookupPaths.{LeadsToResult, IsSlotBelow}
+use Rattle.lfs_tree.specs.SlotChanges.{IsFoundSpot}
 use Rattle.lfs_lookup.specs.declared.paths.PathLookup.{PathLookup}
 use Rattle.lfs_lookup.specs.declared.paths.PathLookup.TheVariants as found
 use Rattle.lfs_lookup.specs.declared.search.SlotPosition.{SlotPosition}
@@ -52,11 +20,11 @@ use Rattle.lfs_tree.proofs.Operated.{changed, clear_stands, does_clear, does_set
 
 -- ---- what is found
 
-absent : (t : KeptThread) (path : Path) → HasPathEntry (tree_on_disk t.disk t.pairs) path → slot_of t.pairs path ≡ None → ⊥
+absent : (t : KeptThread) (path : Path) → HasPathEntry (disk_tree t.disk t.pairs) path → slot_of t.pairs path ≡ None → ⊥
 absent t path v e =
     let k = sym v.something ∙ ap (λ o. is_none (option_map (λ (f : Slot). struct_node (struct_list_bytes t.disk) (all_entries t.pairs) f.attributes f.struct) o)) e in absurd (cc)
 
-pub slot_found : (t : KeptThread) (path : Path) (f : PathLookup) → HasPathEntry (tree_on_disk t.disk t.pairs) path → LeadsToResult t path f → is_entry_found f ≡ true
+pub slot_found : (t : KeptThread) (path : Path) (f : PathLookup) → HasPathEntry (disk_tree t.disk t.pairs) path → LeadsToResult t path f → is_entry_found f ≡ true
 slot_found t path found.Root v l = let k = sym v.entry ∙ ap is_root_path l.there in absurd (cc)
 slot_found t path found.ParentIsFile v l = let k = sym v.parents ∙ l.parents in absurd (cc)
 slot_found t path found.ParentIsMissing v l = let k = sym v.parents ∙ l.parents in absurd (cc)
@@ -75,18 +43,18 @@ slot_for t path (found.Nothing parent place) spot l h = absurd h
 slot_for t path (found.Directory parent slot first) spot l h = slot_is t.pairs path l.there.above l.there.name parent slot spot l.there.is l.there.there.0 h
 slot_for t path (found.File parent slot contents) spot l h = slot_is t.pairs path l.there.above l.there.name parent slot spot l.there.is l.there.there.0 h
 
-pub entry_to_set : (t : KeptThread) (path : Path) (kind : ℕ) (bytes : List ℕ) → CanSetAttr (kept_state t true false) path kind bytes → HasPathEntry (tree_on_disk t.disk t.pairs) path
+pub entry_to_set : (t : KeptThread) (path : Path) (kind : ℕ) (bytes : List ℕ) → CanSetAttr (kept_state t true false) path kind bytes → HasPathEntry (disk_tree t.disk t.pairs) path
 entry_to_set t path kind bytes can = record { entry = can.entry; parents = can.parents; something = can.something }
 
-pub entry_to_clear : (t : KeptThread) (path : Path) (kind : ℕ) → CanRemoveAttr (kept_state t true false) path kind → HasPathEntry (tree_on_disk t.disk t.pairs) path
+pub entry_to_clear : (t : KeptThread) (path : Path) (kind : ℕ) → CanRemoveAttr (kept_state t true false) path kind → HasPathEntry (disk_tree t.disk t.pairs) path
 entry_to_clear t path kind can = record { entry = can.entry; parents = can.parents; something = can.something }
 
 -- ---- what may be changed
 
-module _ (t : ThreadView) (root : ℕ) (rests : CanChangeRecovered t root) (path : Path) (large : 1024 ≤ t.kept.disk.block_size) (bytes : HoldBytes t.kept.disk.blocks) (spot : SlotPosition) (slot : IsPathSpot t.kept.pairs path spot)
+module _ (t : ThreadView) (root : ℕ) (rests : CanChangeRecovered t root) (path : Path) (large : 1024 ≤ t.kept.disk.block_size) (bytes : AreByteBlocks t.kept.disk.blocks) (spot : SlotPosition) (slot : IsPathSpot t.kept.pairs path spot)
     (h : List CallEvent) where
   abbrev before : Tree
-  before = tree_on_disk t.kept.disk t.kept.pairs
+  before = disk_tree t.kept.disk t.kept.pairs
 
   abbrev found_slot : Slot
   found_slot = slot.stands.stands.stands.slot
@@ -104,7 +72,7 @@ module _ (t : ThreadView) (root : ℕ) (rests : CanChangeRecovered t root) (path
     logged = logged_there t.kept.disk _ bytes;
   }
 
-  pub attributes_are : node_attributes_of (tree_on_disk t.kept.disk t.kept.pairs path) ≡ found_slot.attributes
+  pub attributes_are : node_attributes_of (disk_tree t.kept.disk t.kept.pairs path) ≡ found_slot.attributes
   attributes_are =
       ap (λ o. node_attributes_of (option_map (λ (f : Slot). struct_node (struct_list_bytes t.kept.disk) (all_entries t.kept.pairs) f.attributes f.struct) o)) (ap (slot_of t.kept.pairs) slot.is ∙ slot.stands.slot)
       ∙ by_struct found_slot.attributes found_slot.struct
@@ -158,7 +126,7 @@ module _ (t : ThreadView) (root : ℕ) (rests : CanChangeRecovered t root) (path
         ready = is.now.ready;
         stay = stay_in_flight t.kept.map c.map is.now.stays;
         none_comes = is.now.none_comes;
-        completed = λ files. is.completed (record { tree = tree_on_disk t.kept.disk t.kept.pairs; files = files }) given refl (e ∙ slot.is);
+        completed = λ files. is.completed (record { tree = disk_tree t.kept.disk t.kept.pairs; files = files }) given refl (e ∙ slot.is);
         writes = record { blocks = bs; each = among; writes = writes };
         no_fault = quiet;
       }) other asks
@@ -179,13 +147,13 @@ module _ (t : ThreadView) (root : ℕ) (rests : CanChangeRecovered t root) (path
       edited_at c (attributes_without kind) (λ z. ops.RemoveAttr z kind) given bs quiet reads writes among is e refl refl
 
   -- the pair holds the slot of the path
-  edited_alone : (c : KeptThread) (op : Operation) (files : OpenFilesByNumber) (given : List ℕ) (fresh : List ℕ) → changed_paths (record { tree = tree_on_disk t.kept.disk t.kept.pairs; files = files }) op ≡ path_or_root given ∷ [] → path_or_root given ≡ path
-      → AllByRecursion (IsFree t.kept.map) fresh → ChangesThreadBlocks ((thread_pair_at t.kept spot.pair).at.0 ∷ (thread_pair_at t.kept spot.pair).at.1 ∷ fresh) (with_history t.kept h) c
-      → LeavesOthers t.kept.disk t.kept.pairs (record { tree = tree_on_disk t.kept.disk t.kept.pairs; files = files }) op c.disk c.pairs
+  edited_alone : (c : KeptThread) (op : Operation) (files : OpenFilesByNumber) (given : List ℕ) (fresh : List ℕ) → changed_paths (record { tree = disk_tree t.kept.disk t.kept.pairs; files = files }) op ≡ path_or_root given ∷ [] → path_or_root given ≡ path
+      → AllByRecursion (IsFree t.kept.map) fresh → ChangesThreadBlocks ((thread_pair t.kept spot.pair).at.0 ∷ (thread_pair t.kept spot.pair).at.1 ∷ fresh) (with_history t.kept h) c
+      → LeavesOthers t.kept.disk t.kept.pairs (record { tree = disk_tree t.kept.disk t.kept.pairs; files = files }) op c.disk c.pairs
   edited_alone c op files given fresh about e free w =
       let s = slot.stands.stands in
-      let is : thread_pair_at t.kept spot.pair ≡ s.pair = here (with_history t.kept h) (ready_to t root h rests large) slot.first spot.pair s.pair s.rest s.place in
-      rest_left_alone (with_history t.kept h) c slot.first spot.pair s.pair s.rest fresh (record { tree = tree_on_disk t.kept.disk t.kept.pairs; files = files }) op
+      let is : thread_pair t.kept spot.pair ≡ s.pair = here (with_history t.kept h) (ready_to t root h rests large) slot.first spot.pair s.pair s.rest s.place in
+      rest_left_alone (with_history t.kept h) c slot.first spot.pair s.pair s.rest fresh (record { tree = disk_tree t.kept.disk t.kept.pairs; files = files }) op
       rests.held.sound.accepted rests.held.sound.used s.place free
       (subst (λ (z : Pair). ChangesThreadBlocks (z.at.0 ∷ z.at.1 ∷ fresh) (with_history t.kept h) c) is w)
       (λ has n. n (subst (Any (HasPathSlot t.kept.pairs s.pair)) (sym about)
@@ -193,19 +161,19 @@ module _ (t : ThreadView) (root : ℕ) (rests : CanChangeRecovered t root) (path
       (holds_slot t.kept.pairs slot.above slot.stands.on.at slot.first slot.name spot.pair spot.id rests.held.sound.accepted.thread.distinct slot.stands.on.leads slot.stands.on.begins s))))
 
   edit_survives : (c : KeptThread) (f : Attributes → Attributes) (bs : List ℕ) → OnlyReadsSince t.kept.disk.blocks t.kept.history h → ChangesThreadBlocks bs (with_history t.kept h) c
-      → SurvivesEither (with_history t.kept h) c (tree_with_attributes_set t.kept slot.above slot.name f) → SurvivesEither t.kept c (tree_with_attributes path f (tree_on_disk t.kept.disk t.kept.pairs))
+      → SurvivesEither (with_history t.kept h) c (tree_setting_attributes t.kept slot.above slot.name f) → SurvivesEither t.kept c (tree_with_attributes path f (disk_tree t.kept.disk t.kept.pairs))
   edit_survives c f bs reads writes k =
-      subst (λ p. SurvivesEither t.kept c (tree_with_attributes p f (tree_on_disk t.kept.disk t.kept.pairs))) (sym slot.is) (survives_behind t root rests h c bs (tree_with_attributes_set t.kept slot.above slot.name f) reads writes k)
+      subst (λ p. SurvivesEither t.kept c (tree_with_attributes p f (disk_tree t.kept.disk t.kept.pairs))) (sym slot.is) (survives_behind t root rests h c bs (tree_setting_attributes t.kept slot.above slot.name f) reads writes k)
 
   set_survives : (c : KeptThread) (kind : ℕ) (bytes_given : List ℕ) (bs : List ℕ) → CanSetAttr (kept_state t.kept true false) path kind bytes_given → OnlyReadsSince t.kept.disk.blocks t.kept.history h → ChangesThreadBlocks bs (with_history t.kept h) c
-      → ((set : CanSetAttribute (with_history t.kept h) spot.pair spot.id kind bytes_given) → SurvivesEither (with_history t.kept h) c (tree_with_attributes_set (with_history t.kept h) set.can.path set.can.name (attributes_with kind bytes_given)))
-      → SurvivesEither t.kept c (tree_with_attributes path (attributes_with kind bytes_given) (tree_on_disk t.kept.disk t.kept.pairs))
+      → ((set : CanSetAttribute (with_history t.kept h) spot.pair spot.id kind bytes_given) → SurvivesEither (with_history t.kept h) c (tree_setting_attributes (with_history t.kept h) set.can.path set.can.name (attributes_with kind bytes_given)))
+      → SurvivesEither t.kept c (tree_with_attributes path (attributes_with kind bytes_given) (disk_tree t.kept.disk t.kept.pairs))
   unfolding can_set can_edit
   set_survives c kind bytes_given bs can reads writes gives = edit_survives c (attributes_with kind bytes_given) bs reads writes (gives (can_set kind bytes_given can))
 
   cleared_survives : (c : KeptThread) (kind : ℕ) (bs : List ℕ) → OnlyReadsSince t.kept.disk.blocks t.kept.history h → ChangesThreadBlocks bs (with_history t.kept h) c
-      → ((can : CanEditIn (with_history t.kept h) spot.pair spot.id) → SurvivesEither (with_history t.kept h) c (tree_with_attributes_set (with_history t.kept h) can.path can.name (attributes_without kind)))
-      → SurvivesEither t.kept c (tree_with_attributes path (attributes_without kind) (tree_on_disk t.kept.disk t.kept.pairs))
+      → ((can : CanEditIn (with_history t.kept h) spot.pair spot.id) → SurvivesEither (with_history t.kept h) c (tree_setting_attributes (with_history t.kept h) can.path can.name (attributes_without kind)))
+      → SurvivesEither t.kept c (tree_with_attributes path (attributes_without kind) (disk_tree t.kept.disk t.kept.pairs))
   unfolding can_edit
   cleared_survives c kind bs reads writes gives = edit_survives c (attributes_without kind) bs reads writes (gives can_edit)
 
@@ -214,7 +182,7 @@ module _ (t : ThreadView) (root : ℕ) (rests : CanChangeRecovered t root) (path
   pub set_does : (new : ThreadView) (r : Result (Unit {0}) Error) (kind : ℕ) (value given : List ℕ) → path_or_root given ≡ path → CanSetAttr (kept_state t.kept true false) path kind value → fault_count h ≡ fault_count t.kept.history → OnlyReadsSince t.kept.disk.blocks t.kept.history h
       → WritesPairTwo (with_history t.kept h) spot.pair new.kept → OnOk r ((set : CanSetAttribute (with_history t.kept h) spot.pair spot.id kind value) → HasSetAttribute (with_history t.kept h) new.kept set.can.path set.can.name kind value)
       → ReportsFaultsSince h new.kept.history r → OnOk r (new.failed ≡ false)
-      → ((set : CanSetAttribute (with_history t.kept h) spot.pair spot.id kind value) → SurvivesEither (with_history t.kept h) new.kept (tree_with_attributes_set (with_history t.kept h) set.can.path set.can.name (attributes_with kind value)))
+      → ((set : CanSetAttribute (with_history t.kept h) spot.pair spot.id kind value) → SurvivesEither (with_history t.kept h) new.kept (tree_setting_attributes (with_history t.kept h) set.can.path set.can.name (attributes_with kind value)))
       → AppliesOrFails t (call.SetAttr path kind value) r new
   set_does new r kind value given named can quiet reads w gives reported works survives =
       changed t new (HasAppliedCall t.kept (call.SetAttr path kind value)) (tree_after_call (call.SetAttr path kind value) before) h _ r quiet reads w.writes reported works (go r gives (quiet_reported t.kept new.kept h r quiet reported)) (set_survives new.kept kind value _ can reads w.writes survives)
@@ -233,9 +201,9 @@ module _ (t : ThreadView) (root : ℕ) (rests : CanChangeRecovered t root) (path
           )
 
   pub clear_does : (new : ThreadView) (r : Result (Unit {0}) Error) (kind : ℕ) (given : List ℕ) → path_or_root given ≡ path → fault_count h ≡ fault_count t.kept.history → OnlyReadsSince t.kept.disk.blocks t.kept.history h
-      → ChangesThreadBlocks (address_blocks (thread_pair_at t.kept spot.pair).at) (with_history t.kept h) new.kept → OnOk r ((can : CanEditIn (with_history t.kept h) spot.pair spot.id) → HasRemovedAttribute (with_history t.kept h) new.kept can.path can.name kind)
+      → ChangesThreadBlocks (address_blocks (thread_pair t.kept spot.pair).at) (with_history t.kept h) new.kept → OnOk r ((can : CanEditIn (with_history t.kept h) spot.pair spot.id) → HasRemovedAttribute (with_history t.kept h) new.kept can.path can.name kind)
       → ReportsFaultsSince h new.kept.history r → OnOk r (new.failed ≡ false)
-      → ((can : CanEditIn (with_history t.kept h) spot.pair spot.id) → SurvivesEither (with_history t.kept h) new.kept (tree_with_attributes_set (with_history t.kept h) can.path can.name (attributes_without kind)))
+      → ((can : CanEditIn (with_history t.kept h) spot.pair spot.id) → SurvivesEither (with_history t.kept h) new.kept (tree_setting_attributes (with_history t.kept h) can.path can.name (attributes_without kind)))
       → AppliesOrFails t (call.RemoveAttr path kind) r new
   clear_does new r kind given named quiet reads w gives reported works survives =
       changed t new (HasAppliedCall t.kept (call.RemoveAttr path kind)) (tree_after_call (call.RemoveAttr path kind) before) h _ r quiet reads w reported works (go r gives (quiet_reported t.kept new.kept h r quiet reported)) (cleared_survives new.kept kind _ reads w survives)

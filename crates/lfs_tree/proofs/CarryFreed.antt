@@ -1,50 +1,23 @@
 -- A file that the image hasn't any more, whose blocks are freed in the map.
 use Rattle.std.proofs.Common.{ℕ, ◌≡◌, ◌≢◌, ◌⊎◌, inl, inr, ◌<◌, ◌≤◌, ◌+◌, ◌-◌, ◌∙◌, Bool, true, false, List, [], ◌∷◌, ◌++◌, length, slice_get, Some, Result, Ok, Err, refl, sym, ap, subst, arith, append-nil, cond}
 use Rattle.std.specs.Prelude.{Contains, OnOk, ◌↔◌}
-use Rattle.std.proofs.lemmas.Bool.{cases_lt}
-use Rattle.std.proofs.lemmas.List.Elements.{All-from_recursion, recursion_from_All}
-use Rattle.std.proofs.lemmas.Option.{same_Some}
-use Rattle.lfs_tree.specs.SettledFiles.{CanSettleFile, ChangesOnlyMap, IsListSettled, thread_list_blocks}
+use Rattle.lfs_tree.proofs.Common.{cases_lt, All-from_recursion, recursion_from_All, same_Some, CanSettleFile, ChangesOnlyMap, IsListSettled, stored_list_blocks, AreUsed, BlockStates, IsInFlight, IsUsedBlock, Free, InFlight, Used, Disk, SameGeometry, disk_block, CallEvent, Slot, Struct, Pair, pairs_blocks, pairs_gstate, address_blocks, IsFormedList, all_unmoved_slots, struct_blocks, used_blocks, Contains-number_occurrences, number_occurrences-Contains, no_move_from, Each, number_occurrences, count_append, each_from_counted, each_pieces, each_right, once_from_distinct, SameFileBlocks, file_blocks_same, is_list_same, HoldsAtLosses-read_count, HoldsAtLosses-trans, file_blocks, unmoved_in, SameInFlight, CanEditIn, editable_slot, IsReadyImage, IsReadyUnsettled, drops_with_its_slot, written_by_removal, KeptThread, ChangesThreadBlocks, thread_pair, WritesThreadFree, IsStorage, list_in_storage, IsListOrEmpty, SettlesList, empty_list}
 use Rattle.lfs_model.specs.format.Blocks.{SameExceptThese}
-use Rattle.lfs_model.specs.layers.BlockSets.{AreUsed, BlockStates, IsInFlight, IsUsedBlock}
-use Rattle.lfs_model.specs.layers.BlockSets.BlockState.{Free, InFlight, Used}
-use Rattle.lfs_model.specs.format.Disk.{Disk, SameGeometry, disk_block}
-use Rattle.lfs_model.specs.session.History.{CallEvent}
-use Rattle.lfs_model.specs.format.Slots.{Slot, Struct}
-use Rattle.lfs_model.specs.format.Thread.{Pair, blocks_of_pairs, pairs_gstate, address_blocks}
-use Rattle.lfs_model.specs.tree.View.{IsWellFormedCtz}
-use Rattle.lfs_model.specs.tree.Shown.{all_slots_not_moved, struct_blocks, used_blocks}
-use Rattle.lfs_model.proofs.BlockSets.{Contains-number_count, number_count-Contains}
-use Rattle.lfs_model.proofs.Committed.{no_move_from}
-use Rattle.lfs_model.proofs.Counts.{Each, number_count, count_append, each_from_counted, each_pieces, each_right, once_from_distinct}
-use Rattle.lfs_model.proofs.Files.{SameFileBlocks, file_blocks_same, is_list_same}
-use Rattle.lfs_model.proofs.Histories.{LossLeavesAtWorst-read, HoldsAtLosses-read_count, HoldsAtLosses-trans, StayUnprogrammed-read_count, StayUnprogrammed-trans}
-use Rattle.lfs_model.proofs.Splices.{file_blocks, unmoved_in}
-use Rattle.lfs_operations.specs.Dropping.{SameInFlight}
-use Rattle.lfs_operations.specs.Editing.{CanEditIn, editable_slot}
-use Rattle.lfs_operations.specs.Ready.{IsReadyImage, IsReadyUpdated}
-use Rattle.lfs_operations.specs.Removing.{drops_with_its_slot, written_by_removal}
-use Rattle.lfs_thread.specs.Kept.{KeptThread}
-use Rattle.lfs_thread.specs.ThreadSteps.{SameGeometryAs, ChangesThreadBlocks, thread_pair_at}
-use Rattle.lfs_operations.specs.MovingSteps.{WritesThreadFree}
-use Rattle.lfs_lookup.specs.Entry.{IsStorage}
+use Rattle.lfs_model.proofs.Histories.{LossLeavesAtWorst-read, StayUnprogrammed-read_count, StayUnprogrammed-trans}
+use Rattle.lfs_thread.specs.ThreadSteps.{SameGeometryAs}
 use Rattle.lfs_tree.specs.Removals.{CanFreeList}
-use Rattle.lfs_tree.specs.Stores.{list_in_storage}
 use Rattle.lfs_lookup.specs.declared.entry.FileStorage.{FileStorage}
 use Rattle.lfs_lookup.specs.declared.entry.FileStorage.TheVariants as shown
 use Rattle.lfs_tree.proofs.Carried.{behind_below, pair_blocks}
 use Rattle.lfs_tree.proofs.KeptFiles.{among_files}
-use Rattle.lfs_file.specs.Bases.{IsListOrEmpty}
-use Rattle.lfs_file.specs.SettledMaps.{SettlesList}
-use Rattle.lfs_tree.specs.Stores.{empty_list}
 
 -- a number that isn't in a list
-pub none_there : (b : ℕ) (xs : List ℕ) → number_count b xs ≤ 0 → Each (λ x. x ≢ b) xs
-none_there b xs never = each_from_counted (λ x. x ≢ b) xs (λ x some e. let k = ap (λ z. number_count z xs) e in absurd (omega arith))
+pub none_there : (b : ℕ) (xs : List ℕ) → number_occurrences b xs ≤ 0 → Each (λ x. x ≢ b) xs
+none_there b xs never = each_from_counted (λ x. x ≢ b) xs (λ x some e. let k = ap (λ z. number_occurrences z xs) e in absurd (omega arith))
 
 -- ---- the blocks of a slot's file
 
-pub each_here : (P : Slot → Type 0) (t : KeptThread) (index id : ℕ) (can : CanEditIn t index id) → Each P (all_slots_not_moved t.pairs) → P (editable_slot can)
+pub each_here : (P : Slot → Type 0) (t : KeptThread) (index id : ℕ) (can : CanEditIn t index id) → Each P (all_unmoved_slots t.pairs) → P (editable_slot can)
 each_here P t index id can h =
     let place = can.stands.place in
     let stands = can.stands.stands in
@@ -59,35 +32,35 @@ module _ (t : KeptThread) (index id : ℕ) (can : CanEditIn t index id) where
   struct = (editable_slot can).struct
 
   -- no block of a pair is one of them
-  pub apart_from_pairs : (b : ℕ) → 1 ≤ number_count b (struct_blocks t.disk (editable_slot can).struct) → number_count b (blocks_of_pairs t.pairs) ≡ 0
+  pub apart_from_pairs : (b : ℕ) → 1 ≤ number_occurrences b (struct_blocks t.disk (editable_slot can).struct) → number_occurrences b (pairs_blocks t.pairs) ≡ 0
   apart_from_pairs b some =
-      let l = each_here (λ (s : Slot). number_count b (struct_blocks t.disk s.struct) ≤ number_count b (file_blocks t.disk (all_slots_not_moved t.pairs))) t index id can (among_files b t.disk (all_slots_not_moved t.pairs)) in
-      let e = count_append b (blocks_of_pairs t.pairs) (file_blocks t.disk (all_slots_not_moved t.pairs)) in
+      let l = each_here (λ (s : Slot). number_occurrences b (struct_blocks t.disk s.struct) ≤ number_occurrences b (file_blocks t.disk (all_unmoved_slots t.pairs))) t index id can (among_files b t.disk (all_unmoved_slots t.pairs)) in
+      let e = count_append b (pairs_blocks t.pairs) (file_blocks t.disk (all_unmoved_slots t.pairs)) in
       let o = once_from_distinct (used_blocks t.disk t.pairs) can.ready.accepted.owned_once b in
       omega arith
 
-  list_there : IsWellFormedCtz t.disk (editable_slot can).struct
-  list_there = each_here (λ (s : Slot). IsWellFormedCtz t.disk s.struct) t index id can (recursion_from_All (λ (s : Slot). IsWellFormedCtz t.disk s.struct) (all_slots_not_moved t.pairs) can.ready.accepted.lists)
+  list_there : IsFormedList t.disk (editable_slot can).struct
+  list_there = each_here (λ (s : Slot). IsFormedList t.disk s.struct) t index id can (recursion_from_All (λ (s : Slot). IsFormedList t.disk s.struct) (all_unmoved_slots t.pairs) can.ready.accepted.lists)
 
 -- ---- which blocks are written
 
-counted_of : (bs : List ℕ) (at other : ℕ × ℕ) (b : Bool) → (1 ≤ number_count at.0 bs) × (1 ≤ number_count at.1 bs) → (1 ≤ number_count other.0 bs) × (1 ≤ number_count other.1 bs) → (1 ≤ number_count (cond b at other).0 bs) × (1 ≤ number_count (cond b at other).1 bs)
+counted_of : (bs : List ℕ) (at other : ℕ × ℕ) (b : Bool) → (1 ≤ number_occurrences at.0 bs) × (1 ≤ number_occurrences at.1 bs) → (1 ≤ number_occurrences other.0 bs) × (1 ≤ number_occurrences other.1 bs) → (1 ≤ number_occurrences (cond b at other).0 bs) × (1 ≤ number_occurrences (cond b at other).1 bs)
 counted_of bs at other true h k = h
 counted_of bs at other false h k = k
 
-in_pairs : (t : KeptThread) (index first : ℕ) → index < length t.pairs → (1 ≤ number_count (written_by_removal t index first).0 (blocks_of_pairs t.pairs)) × (1 ≤ number_count (written_by_removal t index first).1 (blocks_of_pairs t.pairs))
+in_pairs : (t : KeptThread) (index first : ℕ) → index < length t.pairs → (1 ≤ number_occurrences (written_by_removal t index first).0 (pairs_blocks t.pairs)) × (1 ≤ number_occurrences (written_by_removal t index first).1 (pairs_blocks t.pairs))
 in_pairs t index first below =
     let a = pair_blocks t.pairs (index - 1) (omega arith) in
     let b = pair_blocks t.pairs index below in
-    counted_of (blocks_of_pairs t.pairs) (thread_pair_at t (index - 1)).at (thread_pair_at t index).at (drops_with_its_slot t index first)
-    (number_count-Contains (blocks_of_pairs t.pairs) (thread_pair_at t (index - 1)).at.0 a.0, number_count-Contains (blocks_of_pairs t.pairs) (thread_pair_at t (index - 1)).at.1 a.1)
-    (number_count-Contains (blocks_of_pairs t.pairs) (thread_pair_at t index).at.0 b.0, number_count-Contains (blocks_of_pairs t.pairs) (thread_pair_at t index).at.1 b.1)
+    counted_of (pairs_blocks t.pairs) (thread_pair t (index - 1)).at (thread_pair t index).at (drops_with_its_slot t index first)
+    (number_occurrences-Contains (pairs_blocks t.pairs) (thread_pair t (index - 1)).at.0 a.0, number_occurrences-Contains (pairs_blocks t.pairs) (thread_pair t (index - 1)).at.1 a.1)
+    (number_occurrences-Contains (pairs_blocks t.pairs) (thread_pair t index).at.0 b.0, number_occurrences-Contains (pairs_blocks t.pairs) (thread_pair t index).at.1 b.1)
 
 -- those of a pair, and of one in front of it
-pub written_pairs : (t : KeptThread) (index first : ℕ) → index < length t.pairs → Contains (blocks_of_pairs t.pairs) (written_by_removal t index first).0 × Contains (blocks_of_pairs t.pairs) (written_by_removal t index first).1
+pub written_pairs : (t : KeptThread) (index first : ℕ) → index < length t.pairs → Contains (pairs_blocks t.pairs) (written_by_removal t index first).0 × Contains (pairs_blocks t.pairs) (written_by_removal t index first).1
 written_pairs t index first below =
     let k = in_pairs t index first below in
-    (Contains-number_count (blocks_of_pairs t.pairs) (written_by_removal t index first).0 k.0, Contains-number_count (blocks_of_pairs t.pairs) (written_by_removal t index first).1 k.1)
+    (Contains-number_occurrences (pairs_blocks t.pairs) (written_by_removal t index first).0 k.0, Contains-number_occurrences (pairs_blocks t.pairs) (written_by_removal t index first).1 k.1)
 
 -- calls that only read, behind those that write
 pub writes_then : (a b c : KeptThread) (bs : List ℕ) → ChangesThreadBlocks bs a b → ChangesOnlyMap b c → ChangesThreadBlocks bs a c
@@ -119,20 +92,20 @@ pub files_stay : (old mid : KeptThread) (index id first : ℕ) (can : CanEditIn 
 files_stay old mid index id first can w = each_from_counted (λ b. disk_block mid.disk b ≡ disk_block old.disk b) (struct_blocks old.disk (editable_slot can).struct) (λ b some. w.others.others b
     (All-from_recursion (λ c. c ≢ b) (address_blocks (written_by_removal old index first)) (other b some (written_by_removal old index first).0 in_pair.0, (other b some (written_by_removal old index first).1 in_pair.1, tt))))
   where
-    in_pair : (1 ≤ number_count (written_by_removal old index first).0 (blocks_of_pairs old.pairs)) × (1 ≤ number_count (written_by_removal old index first).1 (blocks_of_pairs old.pairs))
+    in_pair : (1 ≤ number_occurrences (written_by_removal old index first).0 (pairs_blocks old.pairs)) × (1 ≤ number_occurrences (written_by_removal old index first).1 (pairs_blocks old.pairs))
     in_pair = in_pairs old index first (behind_below old.pairs can.first index can.stands.pair can.stands.rest can.stands.place)
 
-    other : (b : ℕ) → 1 ≤ number_count b (struct_blocks old.disk (editable_slot can).struct) → (c : ℕ) → 1 ≤ number_count c (blocks_of_pairs old.pairs) → c ≢ b
-    other b some c has e = let k = ap (λ z. number_count z (blocks_of_pairs old.pairs)) e in let n = apart_from_pairs old index id can b some in absurd (omega arith)
+    other : (b : ℕ) → 1 ≤ number_occurrences b (struct_blocks old.disk (editable_slot can).struct) → (c : ℕ) → 1 ≤ number_occurrences c (pairs_blocks old.pairs) → c ≢ b
+    other b some c has e = let k = ap (λ z. number_occurrences z (pairs_blocks old.pairs)) e in let n = apart_from_pairs old index id can b some in absurd (omega arith)
 
 -- Where the image hasn't the file of a slot any more, whose blocks are as they were.
 module _ (old mid : KeptThread) (index id : ℕ) (can : CanEditIn old index id) (contents : FileStorage) (shows : IsStorage contents (editable_slot can).struct) (geometry : SameGeometry old.disk mid.disk)
-    (same : SameFileBlocks old.disk mid.disk (editable_slot can).struct) (ready : IsReadyUpdated mid (struct_blocks old.disk (editable_slot can).struct) [])
-    (once : (b : ℕ) → number_count b (used_blocks mid.disk mid.pairs) + number_count b (struct_blocks old.disk (editable_slot can).struct) ≤ 1) where
-  list_is : thread_list_blocks mid (list_in_storage contents) ≡ struct_blocks old.disk (editable_slot can).struct
+    (same : SameFileBlocks old.disk mid.disk (editable_slot can).struct) (ready : IsReadyUnsettled mid (struct_blocks old.disk (editable_slot can).struct) [])
+    (once : (b : ℕ) → number_occurrences b (used_blocks mid.disk mid.pairs) + number_occurrences b (struct_blocks old.disk (editable_slot can).struct) ≤ 1) where
+  list_is : stored_list_blocks mid (list_in_storage contents) ≡ struct_blocks old.disk (editable_slot can).struct
   list_is = go contents shows
     where
-      go : (c : FileStorage) → IsStorage c (editable_slot can).struct → thread_list_blocks mid (list_in_storage c) ≡ struct_blocks old.disk (editable_slot can).struct
+      go : (c : FileStorage) → IsStorage c (editable_slot can).struct → stored_list_blocks mid (list_in_storage c) ≡ struct_blocks old.disk (editable_slot can).struct
       go (shown.Inline len) h = ap (struct_blocks old.disk) (sym h.1.0)
       go (shown.List head size) h = ap (struct_blocks mid.disk) (sym h) ∙ file_blocks_same old.disk mid.disk (editable_slot can).struct geometry same
 
@@ -141,7 +114,7 @@ module _ (old mid : KeptThread) (index id : ℕ) (can : CanEditIn old index id) 
     where
       go : (c : FileStorage) → IsStorage c (editable_slot can).struct → IsListOrEmpty mid.disk.blocks mid.disk.block_size (list_in_storage c).head (list_in_storage c).size
       go (shown.Inline len) h = inl refl
-      go (shown.List head size) h = inr (subst (IsWellFormedCtz mid.disk) h (is_list_same old.disk mid.disk (editable_slot can).struct geometry same (list_there old index id can)))
+      go (shown.List head size) h = inr (subst (IsFormedList mid.disk) h (is_list_same old.disk mid.disk (editable_slot can).struct geometry same (list_there old index id can)))
 
   pub can_free : CanFreeList mid contents
   can_free = record { gone = struct_blocks old.disk (editable_slot can).struct; ready = ready; once = once; list = base_there; are = list_is }
@@ -164,35 +137,35 @@ module _ (t : KeptThread) (contents : FileStorage) (can : CanFreeList t contents
     list = inl refl;
     size = can.ready.size;
     apart = λ b has lists.
-        let a = number_count-Contains (blocks_of_pairs t.pairs) b has in
-        let l = number_count-Contains can.gone b (subst (λ z. Contains z b) (append-nil (thread_list_blocks t (list_in_storage contents)) ∙ can.are) lists) in
-        let e = count_append b (blocks_of_pairs t.pairs) (file_blocks t.disk (all_slots_not_moved t.pairs)) in
+        let a = number_occurrences-Contains (pairs_blocks t.pairs) b has in
+        let l = number_occurrences-Contains can.gone b (subst (λ z. Contains z b) (append-nil (stored_list_blocks t (list_in_storage contents)) ∙ can.are) lists) in
+        let e = count_append b (pairs_blocks t.pairs) (file_blocks t.disk (all_unmoved_slots t.pairs)) in
         let o = can.once b in
         absurd (omega arith);
-    shared = record { used = λ b has none. let k = number_count-Contains [] b none in absurd (omega arith) };
+    shared = record { used = λ b has none. let k = number_occurrences-Contains [] b none in absurd (omega arith) };
   }
 
   -- where there is no list, nothing is to be done
-  pub none_freed : thread_list_blocks t (list_in_storage contents) ≡ [] → IsReadyImage t
+  pub none_freed : stored_list_blocks t (list_in_storage contents) ≡ [] → IsReadyImage t
   none_freed none = record {
     accepted = can.ready.accepted;
     writable = can.ready.writable;
     settled = can.ready.settled;
     used = λ b. (
-      (λ h. Contains-number_count (used_blocks t.disk t.pairs) b (let k = number_count-Contains can.ready.used.owned b ((can.ready.used.are b).0 h) in let e = can.ready.used.same b in let n = ap (number_count b) (sym can.are ∙ none) in omega arith)),
-      (λ h. (can.ready.used.are b).1 (Contains-number_count can.ready.used.owned b (let k = number_count-Contains (used_blocks t.disk t.pairs) b h in let e = can.ready.used.same b in omega arith))),
+      (λ h. Contains-number_occurrences (used_blocks t.disk t.pairs) b (let k = number_occurrences-Contains can.ready.used.owned b ((can.ready.used.are b).0 h) in let e = can.ready.used.same b in let n = ap (number_occurrences b) (sym can.are ∙ none) in omega arith)),
+      (λ h. (can.ready.used.are b).1 (Contains-number_occurrences can.ready.used.owned b (let k = number_occurrences-Contains (used_blocks t.disk t.pairs) b h in let e = can.ready.used.same b in omega arith))),
     );
     size = can.ready.size;
     large = can.ready.large;
   }
 
   module _ (history : List CallEvent) (map : BlockStates) (settled : IsListSettled t (list_in_storage contents) empty_list (with_map t history map))
-      (law : (sets later : BlockStates) (owned used before now gone come : List ℕ) → AreUsed sets owned → ((b : ℕ) → number_count b owned ≤ 1) → ((b : ℕ) → number_count b owned + number_count b come ≡ number_count b used + number_count b gone)
-      → ((b : ℕ) → number_count b now + number_count b gone ≡ number_count b come + number_count b before) → ((b : ℕ) → Contains now b → Contains used b) → SettlesList sets later before now → AreUsed later used) where
+      (law : (sets later : BlockStates) (owned used before now gone come : List ℕ) → AreUsed sets owned → ((b : ℕ) → number_occurrences b owned ≤ 1) → ((b : ℕ) → number_occurrences b owned + number_occurrences b come ≡ number_occurrences b used + number_occurrences b gone)
+      → ((b : ℕ) → number_occurrences b now + number_occurrences b gone ≡ number_occurrences b come + number_occurrences b before) → ((b : ℕ) → Contains now b → Contains used b) → SettlesList sets later before now → AreUsed later used) where
     used_now : AreUsed map (used_blocks t.disk t.pairs)
-    used_now = law t.map map can.ready.used.owned (used_blocks t.disk t.pairs) (thread_list_blocks t (list_in_storage contents)) (thread_list_blocks t empty_list) can.gone []
+    used_now = law t.map map can.ready.used.owned (used_blocks t.disk t.pairs) (stored_list_blocks t (list_in_storage contents)) (stored_list_blocks t empty_list) can.gone []
         can.ready.used.are (λ b. let e = can.ready.used.same b in let o = can.once b in omega arith) can.ready.used.same
-        (λ b. let e = ap (number_count b) can.are in omega arith) (λ b h. let k = number_count-Contains [] b h in absurd (omega arith)) settled
+        (λ b. let e = ap (number_occurrences b) can.are in omega arith) (λ b h. let k = number_occurrences-Contains [] b h in absurd (omega arith)) settled
 
     ready_here : IsReadyImage (with_map t history map)
     ready_here = record {
@@ -206,21 +179,21 @@ module _ (t : KeptThread) (contents : FileStorage) (can : CanFreeList t contents
 
     -- a block of the list was used, and is free
     flying_here : SameInFlight t.map map
-    flying_here b = go (cases_lt 0 (number_count b can.gone))
+    flying_here b = go (cases_lt 0 (number_occurrences b can.gone))
       where
-        go : (0 < number_count b can.gone) ⊎ (number_count b can.gone ≤ 0) → IsInFlight map b ↔ IsInFlight t.map b
+        go : (0 < number_occurrences b can.gone) ⊎ (number_occurrences b can.gone ≤ 0) → IsInFlight map b ↔ IsInFlight t.map b
         go (inl some) =
             let e = can.ready.used.same b in
-            let was = (can.ready.used.are b).1 (Contains-number_count can.ready.used.owned b (omega arith)) in
-            let free = settled.freed b (subst (λ z. Contains z b) (sym can.are) (Contains-number_count can.gone b some)) (All-from_recursion (λ x. x ≢ b) [] tt) in
+            let was = (can.ready.used.are b).1 (Contains-number_occurrences can.ready.used.owned b (omega arith)) in
+            let free = settled.freed b (subst (λ z. Contains z b) (sym can.are) (Contains-number_occurrences can.gone b some)) (All-from_recursion (λ x. x ≢ b) [] tt) in
             ((λ flies. absurd (not_free map b free flies)), (λ flies. absurd (not_both t.map b was flies)))
         go (inr never) =
-            let same = settled.others b (All-from_recursion (λ x. x ≢ b) (thread_list_blocks t (list_in_storage contents)) (subst (Each (λ x. x ≢ b)) (sym can.are) (none_there b can.gone never))) (All-from_recursion (λ x. x ≢ b) [] tt) in
+            let same = settled.others b (All-from_recursion (λ x. x ≢ b) (stored_list_blocks t (list_in_storage contents)) (subst (Each (λ x. x ≢ b)) (sym can.are) (none_there b can.gone never))) (All-from_recursion (λ x. x ≢ b) [] tt) in
             ((λ flies. sym same ∙ flies), (λ flies. same ∙ flies))
 
   module _ (new : KeptThread) (only : ChangesOnlyMap t new) (settled : IsListSettled t (list_in_storage contents) empty_list new)
-      (law : (sets later : BlockStates) (owned used before now gone come : List ℕ) → AreUsed sets owned → ((b : ℕ) → number_count b owned ≤ 1) → ((b : ℕ) → number_count b owned + number_count b come ≡ number_count b used + number_count b gone)
-      → ((b : ℕ) → number_count b now + number_count b gone ≡ number_count b come + number_count b before) → ((b : ℕ) → Contains now b → Contains used b) → SettlesList sets later before now → AreUsed later used) where
+      (law : (sets later : BlockStates) (owned used before now gone come : List ℕ) → AreUsed sets owned → ((b : ℕ) → number_occurrences b owned ≤ 1) → ((b : ℕ) → number_occurrences b owned + number_occurrences b come ≡ number_occurrences b used + number_occurrences b gone)
+      → ((b : ℕ) → number_occurrences b now + number_occurrences b gone ≡ number_occurrences b come + number_occurrences b before) → ((b : ℕ) → Contains now b → Contains used b) → SettlesList sets later before now → AreUsed later used) where
     pub freed_ready : IsReadyImage new
     freed_ready = subst IsReadyImage (sym (beside_is t new only)) (ready_here new.history new.map settled law)
 

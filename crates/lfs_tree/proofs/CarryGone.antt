@@ -1,50 +1,22 @@
 -- An entry that goes, at a path.
 use Rattle.std.proofs.Common.{ℕ, ◌≡◌, ◌≤◌, ◌-◌, ◌∙◌, ◌++◌, true, false, List, [], ◌∷◌, length, Some, None, ◌⊎◌, inl, Result, Ok, Err, refl, sym, ap, subst, arith}
 use Rattle.std.specs.Prelude.{nat_lt, IfErr, OnOk, is_err}
-use Rattle.std.specs.Option.{option_and_then}
-use Rattle.std.proofs.lemmas.Bool.{ltb-false}
-use Rattle.std.proofs.lemmas.List.{length-map}
-use Rattle.std.proofs.lemmas.Option.{same_Some, slice_get_within}
-use Rattle.lfs_device.specs.Bytes.{HoldBytes}
+use Rattle.lfs_tree.proofs.Common.{option_and_then, ltb-false, length-map, same_Some, slice_get_within, AreByteBlocks, ChangesOnlyMap, ThreadReportsFaults, directory_names, tree_removing, Disk, CallEvent, OnlyReadsSince, fault_count, Slot, Struct, Inline, Ctz, Branch, path_or_root, Pair, count_before_root, addresses_blocks, Path, Tree, branch_address, LeadsTo, all_entries, disk_tree, used_blocks, Contains-number_occurrences, number_occurrences-Contains, CompletesOperation, no_move_from, SameInFlight, IsReadyImage, IsReadyUnsettled, written_by_removal, CanRemoveDirectory, IsDirectoryRemoved, KeptThread, ThreadView, ChangesThreadBlocks, thread_pair, WritesThreadFree, CanRemoveEntry, tree_after_call, AppliesOperation, HasAppliedCall, CanChangeRecovered, AppliesOrFails, SparesOutsideOperation, HasSoundImage, SurvivesEither, HasPathEntry, IsPathSpot, is_entry_found, IsStorage, CanRemoveFound, HasRemovedEntry, SparesInRemoval, kept_state, LeadsToResult, IsSlotBelow, directory_at_path}
 use Rattle.lfs_device.specs.declared.error.Error.{Error}
 use Rattle.lfs_device.specs.declared.error.Error.TheVariants.{Io, NoMemory}
-use Rattle.lfs_tree.specs.SettledFiles.{ChangesOnlyMap}
-use Rattle.lfs_tree.specs.ThreadContents.{ReportsFaultOrNoMemory}
 use Rattle.lfs_model.proofs.Orders.{length_in_order}
 use Rattle.lfs_model.specs.declared.order.NameOrder.TheVariants.{ShorterFirst}
-use Rattle.lfs_model.specs.session.TreeEdits.{directory_names, tree_removing}
-use Rattle.lfs_model.specs.format.Disk.{Disk}
-use Rattle.lfs_model.specs.session.History.{CallEvent, OnlyReadsSince, fault_count}
 use Rattle.lfs_model.specs.session.Operations as ops
-use Rattle.lfs_model.specs.format.Slots.{Slot, Struct, Inline, Ctz, Branch}
-use Rattle.lfs_model.specs.session.Refusals.{path_or_root}
-use Rattle.lfs_model.specs.format.Thread.{Pair, pair_count_before_root, addresses_blocks}
-use Rattle.lfs_model.specs.tree.Tree.{names_at, Path, Tree, branch_address}
-use Rattle.lfs_model.specs.tree.Shown.{LeadsTo, all_entries, tree_on_disk, used_blocks}
-use Rattle.lfs_model.proofs.BlockSets.{Contains-number_count, number_count-Contains}
-use Rattle.lfs_model.proofs.Committed.{IsCompletion, no_move_from}
-use Rattle.lfs_operations.specs.Dropping.{SameInFlight}
-use Rattle.lfs_operations.specs.Ready.{IsReadyImage, IsReadyUpdated}
-use Rattle.lfs_operations.specs.Removing.{IsFileRemoved, ReportsErrorsOfCommitTakingNoBlock, written_by_removal}
-use Rattle.lfs_operations.specs.Unlinking.{CanRemoveDirectory, IsDirectoryRemoved, ReportsErrorsOfCommitsTakingNoBlock}
-use Rattle.lfs_thread.specs.Kept.{KeptThread, ThreadView}
-use Rattle.lfs_thread.specs.ThreadSteps.{ChangesThreadBlocks, thread_pair_at}
-use Rattle.lfs_operations.specs.MovingSteps.{WritesThreadFree}
-use Rattle.lfs_tree.specs.Permissions.{CanRemoveEntry}
+use Rattle.lfs_model.specs.tree.Tree.{names_at}
+use Rattle.lfs_operations.specs.Removing.{IsFileRemoved, ReportsCommit}
+use Rattle.lfs_operations.specs.Unlinking.{ReportsCommits}
 use Rattle.lfs_tree.specs.TreeCalls as call
-use Rattle.lfs_tree.specs.TreeCalls.{tree_after_call}
-use Rattle.lfs_tree.specs.TreeChanges.{AppliesOperation, HasAppliedCall, CanChangeRecovered, AppliesOrFails, SparesOutsideOperation, HasSoundImage, SurvivesEither}
-use Rattle.lfs_tree.specs.SlotChanges.{HasPathEntry, IsPathSpot, is_entry_found}
-use Rattle.lfs_lookup.specs.Entry.{IsStorage}
-use Rattle.lfs_tree.specs.Removals.{CanRemoveFound, HasRemovedEntry, SparesInRemoval, IsFoundAt}
-use Rattle.lfs_tree.specs.RootedThreads.{kept_state}
-use Rattle.lfs_lookup.specs.LookupPaths.{LeadsToResult, IsSlotBelow}
+use Rattle.lfs_tree.specs.Removals.{IsFoundAt}
 use Rattle.lfs_lookup.specs.declared.entry.FileStorage.{FileStorage}
 use Rattle.lfs_lookup.specs.declared.entry.FileStorage.TheVariants as contents
 use Rattle.lfs_lookup.specs.declared.paths.PathLookup.{PathLookup}
 use Rattle.lfs_lookup.specs.declared.paths.PathLookup.TheVariants as found
 use Rattle.lfs_lookup.specs.declared.search.SlotPosition.{SlotPosition}
-use Rattle.lfs_lookup.proofs.AtPaths.{directory_at_path}
 use Rattle.lfs_tree.proofs.Carried.{among_one, behind_below, carried, with_history}
 use Rattle.lfs_tree.proofs.CarryEdited.{can_edit, slot_found}
 use Rattle.lfs_tree.proofs.CarryFreed.{shape_geometry, written_pairs}
@@ -55,7 +27,7 @@ use Rattle.lfs_tree.proofs.EmptyDirectories.{at_there, bare_there}
 
 -- ---- what is found
 
-pub entry_on : (t : KeptThread) (path : Path) (f : PathLookup) → HasPathEntry (tree_on_disk t.disk t.pairs) path → LeadsToResult t path f → IsFoundAt t.disk.order t.pairs path f
+pub entry_on : (t : KeptThread) (path : Path) (f : PathLookup) → HasPathEntry (disk_tree t.disk t.pairs) path → LeadsToResult t path f → IsFoundAt t.disk.order t.pairs path f
 entry_on t path f v l = go f l (slot_found t path f v l)
   where
     go : (f : PathLookup) → LeadsToResult t path f → is_entry_found f ≡ true → IsFoundAt t.disk.order t.pairs path f
@@ -66,7 +38,7 @@ entry_on t path f v l = go f l (slot_found t path f v l)
     go (found.Directory parent slot first) l e = record { ends = l.there; has = e }
     go (found.File parent slot contents) l e = record { ends = l.there; has = e }
 
-pub entry_to_remove : (t : KeptThread) (path : Path) → CanRemoveEntry (kept_state t true false) path → HasPathEntry (tree_on_disk t.disk t.pairs) path
+pub entry_to_remove : (t : KeptThread) (path : Path) → CanRemoveEntry (kept_state t true false) path → HasPathEntry (disk_tree t.disk t.pairs) path
 entry_to_remove t path can = record { entry = can.entry; parents = can.parents; something = can.something }
 
 file_branch : (c : FileStorage) (s : Struct) → IsStorage c s → branch_address s ≡ None
@@ -81,10 +53,10 @@ branch_is (Branch at) to e = ap Branch (same_Some at to e)
 -- ---- what may go
 
 -- a directory without names has no entries
-pub none_entered : (t : KeptThread) (path : Path) → nat_lt 0 (length (directory_names (tree_on_disk t.disk t.pairs path))) ≡ false → (at : ℕ × ℕ) → LeadsTo t.pairs path at → all_entries t.pairs at ≡ []
+pub none_entered : (t : KeptThread) (path : Path) → nat_lt 0 (length (directory_names (disk_tree t.disk t.pairs path))) ≡ false → (at : ℕ × ℕ) → LeadsTo t.pairs path at → all_entries t.pairs at ≡ []
 none_entered t path bare at leads =
     let d = directory_at_path t.disk t.pairs path at leads in
-    let none = ltb-false 0 (length (directory_names (tree_on_disk t.disk t.pairs path))) bare in
+    let none = ltb-false 0 (length (directory_names (disk_tree t.disk t.pairs path))) bare in
     let e = ap (λ o. length (directory_names o)) d.is in
     let l = length_in_order ShorterFirst (names_at (all_entries t.pairs) at) ∙ length-map (all_entries t.pairs at) (λ (s : Slot). s.name) in
     empty (all_entries t.pairs at) (omega arith)
@@ -93,7 +65,7 @@ none_entered t path bare at leads =
     empty [] l = refl
     empty (x ∷ xs) l = absurd (omega arith)
 
-module _ (t : ThreadView) (root : ℕ) (rests : CanChangeRecovered t root) (path : Path) (large : 1024 ≤ t.kept.disk.block_size) (bytes : HoldBytes t.kept.disk.blocks) (can : CanRemoveEntry (kept_state t.kept true false) path) (h : List CallEvent) where
+module _ (t : ThreadView) (root : ℕ) (rests : CanChangeRecovered t root) (path : Path) (large : 1024 ≤ t.kept.disk.block_size) (bytes : AreByteBlocks t.kept.disk.blocks) (can : CanRemoveEntry (kept_state t.kept true false) path) (h : List CallEvent) where
   no_entries : (at : ℕ × ℕ) → LeadsTo t.kept.pairs path at → all_entries t.kept.pairs at ≡ []
   no_entries at leads = none_entered t.kept path can.empty at leads
 
@@ -138,14 +110,14 @@ module _ (t : ThreadView) (root : ℕ) (rests : CanChangeRecovered t root) (path
 
 -- ---- what comes of it
 
-ready_from : (t : KeptThread) → IsReadyUpdated t [] [] → IsReadyImage t
+ready_from : (t : KeptThread) → IsReadyUnsettled t [] [] → IsReadyImage t
 ready_from t r = record {
   accepted = r.accepted;
   writable = r.writable;
   settled = r.settled;
   used = λ b. (
-    (λ h. Contains-number_count (used_blocks t.disk t.pairs) b (let k = number_count-Contains r.used.owned b ((r.used.are b).0 h) in let e = r.used.same b in omega arith)),
-    (λ h. (r.used.are b).1 (Contains-number_count r.used.owned b (let k = number_count-Contains (used_blocks t.disk t.pairs) b h in let e = r.used.same b in omega arith))),
+    (λ h. Contains-number_occurrences (used_blocks t.disk t.pairs) b (let k = number_occurrences-Contains r.used.owned b ((r.used.are b).0 h) in let e = r.used.same b in omega arith)),
+    (λ h. (r.used.are b).1 (Contains-number_occurrences r.used.owned b (let k = number_occurrences-Contains (used_blocks t.disk t.pairs) b h in let e = r.used.same b in omega arith))),
   );
   size = r.size;
   large = r.large;
@@ -164,14 +136,14 @@ pub file_gone : (old mid new : KeptThread) (path above : Path) (name : List ℕ)
 file_gone old mid new path above name struct e is only ready flying = record {
   ready = ready;
   flying = λ b. ((λ flies. (is.now.flying b).0 ((flying b).0 flies)), (λ flies. (flying b).1 ((is.now.flying b).1 flies)));
-  root = ap pair_count_before_root only.pairs ∙ is.now.root;
-  completed = λ s given tree given_is. subst (λ (d : Disk). IsCompletion old.disk old.pairs s (ops.Remove given) d new.pairs) (sym only.disk)
-      (subst (λ (ps : List Pair). IsCompletion old.disk old.pairs s (ops.Remove given) mid.disk ps) (sym only.pairs) (is.completed s given tree (given_is ∙ e)));
+  root = ap count_before_root only.pairs ∙ is.now.root;
+  completed = λ s given tree given_is. subst (λ (d : Disk). CompletesOperation old.disk old.pairs s (ops.Remove given) d new.pairs) (sym only.disk)
+      (subst (λ (ps : List Pair). CompletesOperation old.disk old.pairs s (ops.Remove given) mid.disk ps) (sym only.pairs) (is.completed s given tree (given_is ∙ e)));
 }
 
-pub directory_writes : (old new : KeptThread) (pair id first gone : ℕ) → CanRemoveDirectory old pair id first gone → ChangesThreadBlocks (addresses_blocks (written_by_removal old pair first) (thread_pair_at old (gone - 1)).at) old new → WritesThreadFree old new
+pub directory_writes : (old new : KeptThread) (pair id first gone : ℕ) → CanRemoveDirectory old pair id first gone → ChangesThreadBlocks (addresses_blocks (written_by_removal old pair first) (thread_pair old (gone - 1)).at) old new → WritesThreadFree old new
 directory_writes old new pair id first gone take w = record {
-  blocks = addresses_blocks (written_by_removal old pair first) (thread_pair_at old (gone - 1)).at;
+  blocks = addresses_blocks (written_by_removal old pair first) (thread_pair old (gone - 1)).at;
   each = (
       let k = written_pairs old pair first (behind_below old.pairs take.can.first pair take.can.stands.pair take.can.stands.rest take.can.stands.place) in
       let b = take.below in
@@ -192,7 +164,7 @@ module _ (t : ThreadView) (root : ℕ) (rests : CanChangeRecovered t root) (path
         ready = g.ready;
         stay = λ b flies. (g.flying b).1 flies;
         none_comes = λ b flies. (g.flying b).0 flies;
-        completed = λ files. g.completed (record { tree = tree_on_disk t.kept.disk t.kept.pairs; files = files }) given refl e;
+        completed = λ files. g.completed (record { tree = disk_tree t.kept.disk t.kept.pairs; files = files }) given refl e;
         writes = w;
         no_fault = quiet;
       }) refl refl
@@ -203,7 +175,7 @@ same_err : {X : Type 0} (a b : Error) (r : Result X Error) → r ≡ Err a → r
 same_err a b r h k = cc
 
 -- an error of one call that is passed on
-pub steps_from : {X Y : Type 0} (old new : ThreadView) (e : Error) (result : Result X Error) (given : Result Y Error) → result ≡ Err e → given ≡ Err e → ReportsErrorsOfCommitTakingNoBlock old new result → ReportsErrorsOfCommitsTakingNoBlock old new given
+pub steps_from : {X Y : Type 0} (old new : ThreadView) (e : Error) (result : Result X Error) (given : Result Y Error) → result ≡ Err e → given ≡ Err e → ReportsCommit old new result → ReportsCommits old new given
 steps_from {X} {Y} old new e result given is same t = record {
   failed = t.failed ∙ ap is_err is ∙ sym (ap is_err same);
   errors = subst (λ (r : Result Y Error). IfErr r (λ x. (x ≡ Io) ⊎ (x ≡ NoMemory))) (sym same) (subst (λ (r : Result X Error). IfErr r (λ x. (x ≡ Io) ⊎ (x ≡ NoMemory))) is t.reported.errors);
@@ -212,7 +184,7 @@ steps_from {X} {Y} old new e result given is same t = record {
 }
 
 -- a call that answered, and another
-pub steps_both : {X Y : Type 0} (old mid new : ThreadView) (x : X) (result : Result X Error) (given : Result Y Error) → result ≡ Ok x → ReportsErrorsOfCommitTakingNoBlock old mid result → new.failed ≡ is_err given → ReportsFaultOrNoMemory mid.kept new.kept given → ReportsErrorsOfCommitsTakingNoBlock old new given
+pub steps_both : {X Y : Type 0} (old mid new : ThreadView) (x : X) (result : Result X Error) (given : Result Y Error) → result ≡ Ok x → ReportsCommit old mid result → new.failed ≡ is_err given → ThreadReportsFaults mid.kept new.kept given → ReportsCommits old new given
 steps_both old mid new x result given is t failed w =
     let same = t.reported.no_fault (λ io. let z = sym is ∙ io in absurd (cc)) in
     record {
@@ -225,21 +197,21 @@ steps_both old mid new x result given is t failed w =
 -- ---- a loss of power on the way
 
 -- an entry of a path
-pub removal_survives : (old new : KeptThread) (path above : Path) (name : List ℕ) → path ≡ above ++ name ∷ [] → SurvivesEither old new (tree_removing (above ++ name ∷ []) (tree_on_disk old.disk old.pairs)) → SurvivesEither old new (tree_removing path (tree_on_disk old.disk old.pairs))
-removal_survives old new path above name e k = subst (λ p. SurvivesEither old new (tree_removing p (tree_on_disk old.disk old.pairs))) (sym e) k
+pub removal_survives : (old new : KeptThread) (path above : Path) (name : List ℕ) → path ≡ above ++ name ∷ [] → SurvivesEither old new (tree_removing (above ++ name ∷ []) (disk_tree old.disk old.pairs)) → SurvivesEither old new (tree_removing path (disk_tree old.disk old.pairs))
+removal_survives old new path above name e k = subst (λ p. SurvivesEither old new (tree_removing p (disk_tree old.disk old.pairs))) (sym e) k
 
 -- a file, whose list is freed behind it
 pub freeing_survives : (old mid new : KeptThread) (path above : Path) (name : List ℕ) (struct : Struct) (bs : List ℕ) → path ≡ above ++ name ∷ [] → ChangesThreadBlocks bs old mid → IsFileRemoved old mid above name struct → ChangesOnlyMap mid new
-    → SurvivesEither old mid (tree_removing (above ++ name ∷ []) (tree_on_disk old.disk old.pairs)) → SurvivesEither old new (tree_removing path (tree_on_disk old.disk old.pairs))
+    → SurvivesEither old mid (tree_removing (above ++ name ∷ []) (disk_tree old.disk old.pairs)) → SurvivesEither old new (tree_removing path (disk_tree old.disk old.pairs))
 freeing_survives old mid new path above name struct bs e w is only k =
-    survives_left old mid new.history (tree_removing path (tree_on_disk old.disk old.pairs)) (shape_geometry old mid w.shape) w.at_worst is.now.ready.accepted is.now.ready.writable
-    (is.now.shows ∙ ap (λ p. tree_removing p (tree_on_disk old.disk old.pairs)) (sym e)) only.reads (removal_survives old mid path above name e k)
+    survives_left old mid new.history (tree_removing path (disk_tree old.disk old.pairs)) (shape_geometry old mid w.shape) w.at_worst is.now.ready.accepted is.now.ready.writable
+    (is.now.shows ∙ ap (λ p. tree_removing p (disk_tree old.disk old.pairs)) (sym e)) only.reads (removal_survives old mid path above name e k)
 
 -- ---- all that is said of it
 
 module _ (t : ThreadView) (root : ℕ) (rests : CanChangeRecovered t root) (path : Path) (h : List CallEvent) (new : ThreadView) (reads : OnlyReadsSince t.kept.disk.blocks t.kept.history h) (w : WritesThreadFree (with_history t.kept h) new.kept) where
   abbrev before : Tree
-  before = tree_on_disk t.kept.disk t.kept.pairs
+  before = disk_tree t.kept.disk t.kept.pairs
 
   pub remove_does : (r : Result (Unit {0}) Error) (given : List ℕ) → path_or_root given ≡ path → fault_count h ≡ fault_count t.kept.history → OnOk r (HasRemovedEntry (with_history t.kept h) path new.kept) → OnOk r (SparesInRemoval (with_history t.kept h) path new.kept)
       → ReportsFaultsSince h new.kept.history r → OnOk r (new.failed ≡ false) → SurvivesEither (with_history t.kept h) new.kept (tree_removing path before) → AppliesOrFails t (call.Remove path) r new
@@ -253,7 +225,7 @@ module _ (t : ThreadView) (root : ℕ) (rests : CanChangeRecovered t root) (path
       go (Ok x) gone spared same = (
         record {
           carries = does_remove (λ op. AppliesOperation t.kept op new.kept) path (λ given e. removed_at t root rests path h new.kept reads w given gone same e);
-          spares = does_remove (λ op. SparesOutsideOperation t.kept op new.kept) path (λ given e none files. spared (record { tree = tree_on_disk t.kept.disk t.kept.pairs; files = files }) given e);
+          spares = does_remove (λ op. SparesOutsideOperation t.kept op new.kept) path (λ given e none files. spared (record { tree = disk_tree t.kept.disk t.kept.pairs; files = files }) given e);
         },
         remove_stands t.kept new.kept path given named (removed_at t root rests path h new.kept reads w given gone same named) gone.root,
       )

@@ -1,24 +1,11 @@
 -- What the checks of an operation have shown, as its steps ask for it.
 use Rattle.std.proofs.Common.{ℕ, ◌≡◌, ◌≢◌, ◌<◌, ◌∙◌, ◌&&◌, Bool, true, false, zero, suc, [], ◌∷◌, length, Some, refl, sym, ap₂, subst, arith, set, length-set}
 use Rattle.std.specs.Prelude.{slice_get}
-use Rattle.std.specs.List.{list_all}
-use Rattle.std.proofs.Math.Nat.{min-le_right}
-use Rattle.std.proofs.lemmas.Bool.{le-leb, ltb-false}
-use Rattle.std.proofs.lemmas.Option.{same_Some}
-use Rattle.lfs_model.specs.session.TreeEdits.{last_name}
-use Rattle.lfs_model.specs.layers.BlockSets.{BlockStates, IsFree, state_in_flight, is_used}
-use Rattle.lfs_model.specs.layers.BlockSets.BlockState.{Free, InFlight}
-use Rattle.lfs_model.specs.format.Names.{is_component, is_valid_name}
-use Rattle.lfs_model.specs.format.Disk.{name_max_of}
-use Rattle.lfs_model.specs.session.Session.{DiskSummary, has_long_name}
-use Rattle.lfs_model.specs.tree.Tree.{Path}
-use Rattle.lfs_model.proofs.BlockSets.{count_by-set, counts_from_none_free, slice_get-set_other, slice_get-set_same, used_count-AreUsed}
-use Rattle.lfs_operations.specs.Changing.{AreTwoFree, HasTwoFree}
-use Rattle.lfs_operations.specs.Making.{HasFreeBlocks}
-use Rattle.lfs_thread.specs.Kept.{KeptThread}
-use Rattle.lfs_tree.specs.Permissions.{HasNeededBlocks}
-use Rattle.lfs_tree.specs.RootedThreads.{kept_state}
-use Rattle.lfs_tree.specs.TreeState.{IsSoundState}
+use Rattle.lfs_tree.proofs.Common.{list_all, min-le_right, ltb-false, same_Some, last_name, BlockStates, IsFree, state_in_flight, Free, InFlight, is_component, is_valid_name, name_max_of, DiskSummary, has_long_name, Path, slice_get-set_other, slice_get-set_same, used_count-AreUsed, HasTwoFree, HasFreeBlocks, KeptThread, HasNeededBlocks, kept_state, IsSoundState}
+use Rattle.std.proofs.lemmas.Bool.{le-leb}
+use Rattle.lfs_model.specs.layers.BlockSets.{is_used}
+use Rattle.lfs_model.proofs.BlockSets.{count_by-set, counts_from_none_free}
+use Rattle.lfs_operations.specs.Changing.{AreTwoFree}
 
 -- ---- room
 

@@ -1,30 +1,21 @@
 -- The contents of an open writer where only other blocks change.
 use Rattle.std.proofs.Common.{ℕ, ◌≡◌, ◌≢◌, ◌<◌, ⊎_elim, inl, inr, List, [], ◌∷◌, ◌++◌, drop, length, take, slice_get, sym, ap, ◌∙◌, subst, arith, length-append}
 use Rattle.std.specs.Prelude.{All, Contains}
-use Rattle.std.proofs.lemmas.List.Elements.{All-from_recursion, Contains-append_left, Contains-append_right}
-use Rattle.lfs_model.specs.format.Blocks.{Blocks, block_bytes}
-use Rattle.lfs_model.specs.layers.BlockSets.{BlockStates, IsFree, IsInFlight}
-use Rattle.lfs_model.specs.format.SkipLists.{blocks_to_head, block_count_for}
-use Rattle.lfs_model.proofs.BlockSets.{Contains-number_count, number_count-Contains}
-use Rattle.lfs_model.proofs.Counts.{each_counted, each_from_counted}
+use Rattle.lfs_tree.proofs.Common.{All-from_recursion, Contains-append_left, Contains-append_right, Blocks, block_bytes, BlockStates, IsFree, IsInFlight, blocks_to_head, block_count_for, Contains-number_occurrences, number_occurrences-Contains, each_from_counted, Each, recursion_from_All, AreKnownBlocks, GrowingList, unwritten_block, growing_size_with, IsTakenWritten, IsListOrEmpty, blocks_of_list, CanEndOver, IsFinishedList, bytes_over_base}
+use Rattle.lfs_model.proofs.Counts.{each_counted}
 use Rattle.lfs_model.proofs.Files.{Same, back_same, bytes_same, chain_same, data_same, list_same}
-use Rattle.lfs_model.proofs.Counts.{Each}
-use Rattle.std.proofs.lemmas.List.Elements.{recursion_from_All}
-use Rattle.lfs_file.specs.Known.{AreKnownBlocks}
-use Rattle.lfs_file.specs.Growing.{GrowingList, LastBytesAreAt, SameListLater, growing_bytes, blocks_data, kept_blocks, rest_block, unwritten_after_full, unwritten_block, growing_size_with}
+use Rattle.lfs_file.specs.Growing.{IsRestAt, SameListLater, growing_bytes, blocks_data, kept_blocks, rest_block, unwritten_rest_block}
 use Rattle.lfs_file.specs.declared.rest.RestLocation.{RestLocation}
 use Rattle.lfs_file.specs.declared.rest.RestLocation.TheVariants.{Closed, Shared, Handed, Held}
-use Rattle.lfs_file.specs.BlocksApart.{IsTakenWritten}
-use Rattle.lfs_file.specs.Bases.{IsListOrEmpty, list_blocks_from}
-use Rattle.lfs_file.specs.Hand.{CanEndOver, FinishedListOnDisk, bytes_over_base, stored_list_bytes}
+use Rattle.lfs_file.specs.Hand.{stored_list_bytes}
 use Rattle.lfs_file.specs.declared.stored_list.StoredList.{StoredList}
 
 -- what holds of each member
 pub each_of : (P : ℕ → Type 0) (bs : List ℕ) → ((b : ℕ) → Contains bs b → P b) → Each P bs
-each_of P bs has = each_from_counted P bs (λ b some. has b (Contains-number_count bs b some))
+each_of P bs has = each_from_counted P bs (λ b some. has b (Contains-number_occurrences bs b some))
 
 pub of_each : (P : ℕ → Type 0) (bs : List ℕ) → Each P bs → (b : ℕ) → Contains bs b → P b
-of_each P bs each b has = each_counted P bs each b (number_count-Contains bs b has)
+of_each P bs each b has = each_counted P bs each b (number_occurrences-Contains bs b has)
 
 pub all_of : (P : ℕ → Type 0) (bs : List ℕ) → ((b : ℕ) → Contains bs b → P b) → All P bs
 all_of P bs has = All-from_recursion P bs (each_of P bs has)
@@ -63,11 +54,11 @@ not_free map later b same was free = was (sym same ∙ free)
 
 -- ---- a list
 
-module _ (map later : BlockStates) (d e : Blocks) (block_size : ℕ) (s : StoredList) (stay : StayAs map d (list_blocks_from d block_size s.head s.size) later e) where
-  each_same : Same d e (list_blocks_from d block_size s.head s.size)
-  each_same = each_of (λ b. block_bytes e b ≡ block_bytes d b) (list_blocks_from d block_size s.head s.size) stay.same
+module _ (map later : BlockStates) (d e : Blocks) (block_size : ℕ) (s : StoredList) (stay : StayAs map d (blocks_of_list d block_size s.head s.size) later e) where
+  each_same : Same d e (blocks_of_list d block_size s.head s.size)
+  each_same = each_of (λ b. block_bytes e b ≡ block_bytes d b) (blocks_of_list d block_size s.head s.size) stay.same
 
-  pub list_stays : list_blocks_from e block_size s.head s.size ≡ list_blocks_from d block_size s.head s.size
+  pub list_stays : blocks_of_list e block_size s.head s.size ≡ blocks_of_list d block_size s.head s.size
   list_stays = back_same d e (block_count_for block_size s.size) s.head each_same
 
   pub base_stays : IsListOrEmpty d block_size s.head s.size → IsListOrEmpty e block_size s.head s.size
@@ -76,30 +67,30 @@ module _ (map later : BlockStates) (d e : Blocks) (block_size : ℕ) (s : Stored
   pub bytes_stay : stored_list_bytes e block_size s ≡ stored_list_bytes d block_size s
   bytes_stay = bytes_same d e block_size s.head s.size each_same
 
-  pub stored_stays : FinishedListOnDisk map d block_size s → FinishedListOnDisk later e block_size s
+  pub stored_stays : IsFinishedList map d block_size s → IsFinishedList later e block_size s
   stored_stays is = record {
     base = base_stays is.base;
     count = stay.size ∙ is.count ∙ sym stay.count;
     marked = subst (All (λ b. ¬ (IsFree later b))) (sym list_stays)
-        (all_of (λ b. ¬ (IsFree later b)) (list_blocks_from d block_size s.head s.size) (λ b has. not_free map later b (stay.states b has) (of_all (λ x. ¬ (IsFree map x)) (list_blocks_from d block_size s.head s.size) is.marked b has)));
+        (all_of (λ b. ¬ (IsFree later b)) (blocks_of_list d block_size s.head s.size) (λ b has. not_free map later b (stay.states b has) (of_all (λ x. ¬ (IsFree map x)) (blocks_of_list d block_size s.head s.size) is.marked b has)));
     flying = λ b flies. let k = is.flying b (stay.none_comes b flies) in (k.0, subst (λ (bs : List ℕ). Contains bs b) (sym list_stays) k.1);
   }
 
 -- ---- a list in hand, over its base
 
 module _ (map later : BlockStates) (d e : Blocks) (block_size : ℕ) (g : GrowingList) (base : StoredList) (shared : ℕ) (hand : CanEndOver map d block_size g base shared)
-    (stay : StayAs map d (kept_blocks d g ++ list_blocks_from d block_size base.head base.size) later e) where
+    (stay : StayAs map d (kept_blocks d g ++ blocks_of_list d block_size base.head base.size) later e) where
   abbrev own : List ℕ
   own = kept_blocks d g
 
   abbrev bb : List ℕ
-  bb = list_blocks_from d block_size base.head base.size
+  bb = blocks_of_list d block_size base.head base.size
 
   stay_own : StayAs map d (kept_blocks d g) later e
-  stay_own = stay_left map later d e (kept_blocks d g) (list_blocks_from d block_size base.head base.size) stay
+  stay_own = stay_left map later d e (kept_blocks d g) (blocks_of_list d block_size base.head base.size) stay
 
-  stay_base : StayAs map d (list_blocks_from d block_size base.head base.size) later e
-  stay_base = stay_right map later d e (kept_blocks d g) (list_blocks_from d block_size base.head base.size) stay
+  stay_base : StayAs map d (blocks_of_list d block_size base.head base.size) later e
+  stay_base = stay_right map later d e (kept_blocks d g) (blocks_of_list d block_size base.head base.size) stay
 
   full_same : Same d e (blocks_to_head d g.full g.head)
   full_same = each_of (λ b. block_bytes e b ≡ block_bytes d b) (blocks_to_head d g.full g.head) (λ b has. stay_own.same b (Contains-append_left (blocks_to_head d g.full g.head) (unwritten_block g) b has))
@@ -108,7 +99,7 @@ module _ (map later : BlockStates) (d e : Blocks) (block_size : ℕ) (g : Growin
   full_back = back_same d e g.full g.head full_same
 
   -- no block is shared with the list that the rest comes from
-  rest_still : (t : RestLocation) → blocks_to_head d g.full g.head ++ rest_block t ≡ blocks_to_head d g.full g.head ++ unwritten_after_full t → LastBytesAreAt d g.full g.head g.rest t → LastBytesAreAt e g.full g.head g.rest t
+  rest_still : (t : RestLocation) → blocks_to_head d g.full g.head ++ rest_block t ≡ blocks_to_head d g.full g.head ++ unwritten_rest_block t → IsRestAt d g.full g.head g.rest t → IsRestAt e g.full g.head g.rest t
   rest_still Closed same is = is
   rest_still (Shared b) same is = absurd (omega (arith, ap length same, length-append (blocks_to_head d g.full g.head) (b ∷ []), length-append (blocks_to_head d g.full g.head) []))
   rest_still (Handed b) same is = record {
@@ -126,7 +117,7 @@ module _ (map later : BlockStates) (d e : Blocks) (block_size : ℕ) (g : Growin
     blocks = ap (λ (l : List ℕ). l ++ rest_block g.stand) full_back;
   }
 
-  pub base_list : list_blocks_from e block_size base.head base.size ≡ list_blocks_from d block_size base.head base.size
+  pub base_list : blocks_of_list e block_size base.head base.size ≡ blocks_of_list d block_size base.head base.size
   base_list = list_stays map later d e block_size base stay_base
 
   pub hand_stays : CanEndOver later e block_size g base shared

@@ -2,14 +2,8 @@
 use Rattle.std.proofs.Common.{◌≡◌, ◌∙◌, Option, Some, None, Result, Ok, Err, sym, ap, subst}
 use Rattle.std.specs.Prelude.{IfOk, IfSome}
 use Rattle.lfs_device.specs.declared.error.Error.{Error}
-use Rattle.lfs_model.specs.format.Slots.{zero_gstate}
-use Rattle.lfs_model.specs.format.Thread.{pairs_gstate}
-use Rattle.lfs_model.specs.tree.Tree.{Path}
-use Rattle.lfs_thread.specs.Kept.{KeptThread, ThreadView}
-use Rattle.lfs_thread.specs.ThreadSteps.{OnlyReadsThread}
+use Rattle.lfs_tree.proofs.Common.{zero_gstate, pairs_gstate, Path, KeptThread, ThreadView, OnlyReadsThread, IsCreationResult, TreeState, kept_thread}
 use Rattle.lfs_lookup.specs.declared.paths.PathLookup.{PathLookup}
-use Rattle.lfs_tree.specs.CreationPaths.{IsCreationResult}
-use Rattle.lfs_tree.specs.TreeState.{TreeState, kept_thread}
 use Rattle.lfs_tree.specs.declared.creation_paths.CreationFindings.{CreationFindings}
 use Rattle.lfs_tree.proofs.RenamePaths.{leads_since}
 

@@ -3,23 +3,15 @@ use Rattle.std.proofs.Common.{ℕ, ◌≡◌, ◌<◌, ◌≤◌, ◌+◌, ◌-�
 use Rattle.std.proofs.lemmas.List.{drop-drop}
 use Rattle.std.proofs.lemmas.Option.{get_or_from_slice_get}
 use Rattle.std.proofs.Math.Seq.{drop-append_seam}
-use Rattle.lfs_model.specs.format.Disk.{Disk}
-use Rattle.lfs_model.specs.session.InDirectory.{IsPairAt, AreEntryPairs, entry_slots, all_slots}
-use Rattle.lfs_model.specs.format.Names.{Name}
-use Rattle.lfs_model.specs.format.Slots.{Slot, is_superblock, same_pair}
-use Rattle.lfs_model.specs.format.Thread.{Pair, pairs_from_root, first_address, pairs_gstate, is_hard_tail, root_address, pair_count_before_root, unmoved_entries}
-use Rattle.lfs_model.specs.tree.Tree.{Path}
-use Rattle.lfs_model.specs.tree.Profile.{HasNoEmpties, IsWritable}
-use Rattle.lfs_model.specs.tree.View.{IsAccepted}
-use Rattle.lfs_model.specs.tree.Shown.{LeadsTo, all_entries}
-use Rattle.lfs_model.proofs.Counts.{Each}
+use Rattle.lfs_tree.proofs.Common.{Disk, IsPairAt, Name, Slot, same_pair, Pair, pairs_from_root, first_address, pairs_gstate, is_hard_tail, root_address, count_before_root, Path, HasNoEmpties, IsWritable, IsAccepted, LeadsTo, all_entries, Each, HasNoMove, IsDirectory, begins_directory, empty_anchor}
+use Rattle.lfs_model.specs.session.InDirectory.{HaveNoSuperblock, entry_slots, all_slots}
+use Rattle.lfs_model.specs.format.Slots.{is_superblock}
+use Rattle.lfs_model.specs.format.Thread.{unmoved_entries}
 use Rattle.lfs_model.proofs.Found.{HasDirectory}
-use Rattle.lfs_model.proofs.Global.{HasNoMove}
 use Rattle.lfs_model.proofs.Layouts.{have_right}
 use Rattle.lfs_model.proofs.Listings.{IsRun}
-use Rattle.lfs_model.proofs.Searches.{IsDirectory, begins_directory, plain_behind}
+use Rattle.lfs_model.proofs.Searches.{plain_behind}
 use Rattle.lfs_model.proofs.Splices as splices
-use Rattle.lfs_thread.specs.ThreadSteps.{empty_anchor}
 use Rattle.lfs_lookup.specs.Listed.{joined_pairs}
 use Rattle.lfs_lookup.proofs.Directories.{own_run, run_is}
 
@@ -59,15 +51,15 @@ module _ (disk : Disk) (ps : List Pair) (above : Path) (name : Name) (a : ℕ ×
       go (x ∷ xs) h = omega arith
 
   rest_here : drop n ps ≡ d.first ∷ d.run ++ d.after
-  rest_here = ap (λ k. drop k ps) begun.number ∙ sym (drop-drop (length d.before) (pair_count_before_root ps) ps) ∙ ap (drop (length d.before)) d.is ∙ drop-append_seam d.before (d.first ∷ d.run ++ d.after)
+  rest_here = ap (λ k. drop k ps) begun.number ∙ sym (drop-drop (length d.before) (count_before_root ps) ps) ∙ ap (drop (length d.before)) d.is ∙ drop-append_seam d.before (d.first ∷ d.run ++ d.after)
 
-  plain : AreEntryPairs (d.first ∷ d.run ++ d.after)
+  plain : HaveNoSuperblock (d.first ∷ d.run ++ d.after)
   plain =
       let number = begun.number in
       let some = some_before in
-      let low : pair_count_before_root ps ≤ n - 1 = omega arith in
+      let low : count_before_root ps ≤ n - 1 = omega arith in
       let next : n - 1 + 1 ≡ n = omega arith in
-      subst AreEntryPairs (ap (λ k. drop k ps) next ∙ rest_here) (plain_behind disk ps (n - 1) ok low)
+      subst HaveNoSuperblock (ap (λ k. drop k ps) next ∙ rest_here) (plain_behind disk ps (n - 1) ok low)
 
   shown : entry_slots (d.first.content.slots ++ all_slots d.run) ≡ []
   shown = sym (splices.visible_in (pairs_gstate ps) none (d.first ∷ d.run)) ∙ ap (flat_map (unmoved_entries (pairs_gstate ps))) (sym (ap joined_pairs rest_here ∙ run_is d.first d.run d.after d.is_run))
@@ -79,7 +71,7 @@ module _ (disk : Disk) (ps : List Pair) (above : Path) (name : Name) (a : ℕ ×
   have : HasNoEmpties (is_hard_tail d.first.content.tail) (d.run ++ d.after)
   have = (have_right None d.before (d.first ∷ d.run ++ d.after) (subst (HasNoEmpties false) d.is fits.no_empty_pair)).1
 
-  no_run : (run : List Pair) → d.run ≡ run → IsRun (d.first ∷ run) → AreEntryPairs (run ++ d.after) → entry_slots (all_slots run) ≡ [] → HasNoEmpties (is_hard_tail d.first.content.tail) (run ++ d.after) → is_hard_tail d.first.content.tail ≡ false
+  no_run : (run : List Pair) → d.run ≡ run → IsRun (d.first ∷ run) → HaveNoSuperblock (run ++ d.after) → entry_slots (all_slots run) ≡ [] → HasNoEmpties (is_hard_tail d.first.content.tail) (run ++ d.after) → is_hard_tail d.first.content.tail ≡ false
   no_run [] e is_run clean shows filled = is_run
   no_run (q ∷ run) e is_run clean shows filled = absurd (filled.0 is_run.0 (none_first q.content.slots (all_slots run) clean.0 shows).0)
 

@@ -2,39 +2,29 @@
 use Rattle.std.proofs.Common.{ℕ, zero, suc, ◌≡◌, ◌⊎◌, inl, inr, ◌<◌, ◌≤◌, Bool, true, false, not, cond, ◌&&◌, List, [], ◌∷◌, ◌++◌, length, Some, None, refl, sym, ap, ap₂, subst, ◌∙◌, arith, set, replicate, nat_eq}
 use Rattle.std.specs.Prelude.{Contains, slice_get, unwrap_or}
 use Rattle.std.specs.Bool.{IsTrue, OnTrue}
-use Rattle.std.specs.List.{IsDistinct, flat_map}
-use Rattle.std.specs.Option.{option_and_then}
+use Rattle.lfs_tree.proofs.Common.{flat_map, option_and_then, length-replicate, same_Some, Blocks, AreInFlight, AreUsed, BlockStates, BlockState, IsFree, PairChange, has_commit, current_of_two, current_block, is_later, empty_raw_content, Disk, disk_block, block_count, ordered_disk, CallEvent, block_revision, zero_gstate, anchor_address, pairs_blocks, address_blocks, BeginsWith, IsAccepted, superblock_entry, IsWritable, Contains-cons, Contains-head, Contains-tail, KeptThread, kept_in_order, ChangesThreadBlocks, IsFormatted, IsEmptyWritable}
+use Rattle.std.specs.List.{IsDistinct}
 use Rattle.std.proofs.lemmas.Bool.{OnTrue_at}
-use Rattle.std.proofs.lemmas.List.{length-replicate}
-use Rattle.std.proofs.lemmas.Option.{same_Some}
 use Rattle.lfs_device.specs.declared.geometry.Geometry.{Geometry}
 use Rattle.lfs_device.specs.declared.device.BlockDevice.{Ghosts}
-use Rattle.lfs_device.specs.DeviceCalls.{ChangesOnlyTheseBlocks}
+use Rattle.lfs_device.specs.DeviceCalls.{ChangesTheseBlocks}
 use Rattle.lfs_device.specs.DeviceDisk.{disk_of_blocks}
-use Rattle.lfs_model.specs.format.Blocks.{Blocks}
-use Rattle.lfs_model.specs.layers.BlockSets.{AreInFlight, AreUsed, BlockStates, BlockState, Free, InFlight, IsFree, Used}
-use Rattle.lfs_model.specs.layers.Changes.{PairChange, changed_content_of}
-use Rattle.lfs_model.specs.format.Content.{complete_content, has_commit, current_of_two, current_block, is_later, empty_raw_content, raw_content}
+use Rattle.lfs_model.specs.layers.BlockSets.{Free, InFlight, Used}
+use Rattle.lfs_model.specs.layers.Changes.{changed_content_of}
+use Rattle.lfs_model.specs.format.Content.{complete_content, raw_content}
 use Rattle.lfs_model.specs.declared.order.NameOrder.{NameOrder}
-use Rattle.lfs_model.specs.format.Disk.{Disk, disk_block, block_count, ordered_disk}
 use Rattle.lfs_model.specs.tree.Fresh.{fresh_content, fresh_pair, superblock_bytes}
 use Rattle.lfs_model.specs.format.Geometry.{IsValidGeometry}
-use Rattle.lfs_model.specs.session.History.{CallEvent}
-use Rattle.lfs_model.specs.format.Log.{block_revision}
-use Rattle.lfs_model.specs.format.Slots.{zero_gstate}
-use Rattle.lfs_model.specs.format.Thread.{AreLinked, anchor_address, blocks_of_pairs, address_blocks}
-use Rattle.lfs_model.specs.tree.View.{BeginsWith, IsAccepted, superblock_entry, disk_view}
-use Rattle.lfs_model.specs.tree.Profile.{IsWritable}
+use Rattle.lfs_model.specs.format.Thread.{AreLinked}
+use Rattle.lfs_model.specs.tree.View.{disk_view}
 use Rattle.lfs_model.specs.layers.WrittenContent.{content_entries}
 use Rattle.lfs_model.proofs.Histories.{began}
 use Rattle.lfs_model.proofs.Fresh.{accepted, shows, writable}
-use Rattle.lfs_model.proofs.BlockSets.{Contains-cons, Contains-head, Contains-tail}
-use Rattle.lfs_pair.specs.Commits.{AddressIsOnDisk}
+use Rattle.lfs_pair.specs.Commits.{IsPairAddress}
 use Rattle.lfs_pair.specs.FreshPair as pair
 use Rattle.lfs_pair.specs.Writing.{HasOneCommit}
-use Rattle.lfs_thread.specs.Kept.{AllBlocksUsed, PairHeader, KeptThread, WasKeptOnDisk, disk_pair_at, pairs_of_headers, kept_view, kept_in_order}
-use Rattle.lfs_thread.specs.ThreadSteps.{ChangesThreadBlocks}
-use Rattle.lfs_tree.specs.Formats.{IsFormattedMap, IsRootHeader, IsRootThread, IsFormatted, IsEmptyWritable, superblock_slot_changes, superblock_content}
+use Rattle.lfs_thread.specs.Kept.{AllBlocksUsed, PairHeader, WasKeptOnDisk, disk_pair_at, header_pairs, kept_view}
+use Rattle.lfs_tree.specs.Formats.{IsFormattedMap, IsRootHeader, IsRootThread, superblock_slot_changes, superblock_content}
 
 -- ---- the map
 
@@ -102,7 +92,7 @@ made disk = refl
 completes : (disk : Disk) → complete_content (superblock_content disk) ≡ Some (fresh_content disk.profile disk.block_size (block_count disk))
 completes disk = refl
 
-address : (disk : Disk) → 2 ≤ block_count disk → AddressIsOnDisk disk anchor_address
+address : (disk : Disk) → 2 ≤ block_count disk → IsPairAddress disk anchor_address
 address disk few = record { apart = λ e. absurd (omega (arith, e)); first = omega (arith, few); second = omega (arith, few) }
 
 can_be_fresh : (disk : Disk) → IsValidGeometry disk.block_size disk.page (block_count disk) → pair.CanWriteFresh disk anchor_address (superblock_slot_changes (superblock_bytes disk.profile disk.block_size (block_count disk)))
@@ -133,7 +123,7 @@ module _ (disk : Disk) (before history : List CallEvent) (h : PairHeader) (g : I
   is_root : IsRootHeader disk history h
   is_root = record {
     header = record {
-      address = subst (AddressIsOnDisk disk) (sym is.holds.same) (address disk g.no_fewer);
+      address = subst (IsPairAddress disk) (sym is.holds.same) (address disk g.no_fewer);
       held = is.new;
       is_pair = is.holds.is_pair;
       raw = ap (raw_content disk) is.holds.same ∙ is.holds.content;
@@ -174,7 +164,7 @@ device_root k asked blocks before history h changes bytes fields count same e f 
 
 -- ---- what is kept
 
-pairs_are : (disk : Disk) (history : List CallEvent) (h : PairHeader) → IsRootHeader disk history h → pairs_of_headers disk (h ∷ []) ≡ fresh_pair disk ∷ []
+pairs_are : (disk : Disk) (history : List CallEvent) (h : PairHeader) → IsRootHeader disk history h → header_pairs disk (h ∷ []) ≡ fresh_pair disk ∷ []
 pairs_are disk history h root =
     ap (λ at. disk_pair_at disk at ∷ []) root.at
     ∙ ap (λ o. record { at = anchor_address; content = unwrap_or o (record { slots = []; tail = None; move = zero_gstate }) } ∷ []) root.fresh.content
@@ -186,9 +176,9 @@ kept disk history h sets root map = record {
   since = began;
   each = (root.header, tt);
   links = subst (λ ps. AreLinked (Some anchor_address) ps) (sym (pairs_are disk history h root)) (refl, refl);
-  distinct = subst (λ ps. IsDistinct nat_eq (blocks_of_pairs ps)) (sym (pairs_are disk history h root)) ((refl, tt), (tt, tt));
+  distinct = subst (λ ps. IsDistinct nat_eq (pairs_blocks ps)) (sym (pairs_are disk history h root)) ((refl, tt), (tt, tt));
   size = map.size;
-  used = subst (λ ps. AllBlocksUsed sets (blocks_of_pairs ps)) (sym (pairs_are disk history h root))
+  used = subst (λ ps. AllBlocksUsed sets (pairs_blocks ps)) (sym (pairs_are disk history h root))
       ((map.used 0).1 (Contains-head 0 (1 ∷ [])), ((map.used 1).1 (Contains-tail 0 1 (1 ∷ []) (Contains-head 1 [])), tt));
 }
 
@@ -201,7 +191,7 @@ empty_formatted order disk history hs sets n count thread map = record {
   fresh = record { geometry = thread.root.fresh.geometry; content = thread.root.fresh.content; first = thread.root.fresh.first };
   first = thread.root.first;
   second = thread.root.second;
-  pairs = ap (pairs_of_headers disk) thread.only ∙ pairs_are disk history thread.first thread.root;
+  pairs = ap (header_pairs disk) thread.only ∙ pairs_are disk history thread.first thread.root;
   used = map.used;
   in_flight = map.in_flight;
   size = map.size ∙ sym count;
@@ -215,7 +205,7 @@ shows_empty t h = record {
 }
 
 -- what was written of the device, in the words of the thread
-pub wrote : {D : Type 0} (g : Ghosts D) (order : NameOrder) {old new : D} (hs : List PairHeader) (sets : BlockStates) (bs : List ℕ) → ChangesOnlyTheseBlocks g bs old new → ChangesThreadBlocks bs (kept_in_order g order old [] []) (kept_in_order g order new hs sets)
+pub wrote : {D : Type 0} (g : Ghosts D) (order : NameOrder) {old new : D} (hs : List PairHeader) (sets : BlockStates) (bs : List ℕ) → ChangesTheseBlocks g bs old new → ChangesThreadBlocks bs (kept_in_order g order old [] []) (kept_in_order g order new hs sets)
 wrote g order hs sets bs w = record {
   others = w.others;
   elsewhere = w.elsewhere;

@@ -1,68 +1,52 @@
 -- Files whose lists stay in the same blocks.
 use Rattle.std.proofs.Common.{ℕ, ◌≡◌, ◌≤◌, ◌∙◌, true, List, [], ◌∷◌, Option, Some, None, refl, sym, ap, subst, arith}
 use Rattle.std.specs.Prelude.{All, Contains}
-use Rattle.std.proofs.lemmas.List.Elements.{recursion_from_All}
-use Rattle.std.specs.Option.{option_map}
-use Rattle.lfs_model.specs.session.TreeEdits.{is_file}
-use Rattle.lfs_model.specs.layers.BlockSets.{AreUsed, IsUsedBlock}
-use Rattle.lfs_model.specs.format.Disk.{Disk, SameGeometry, disk_block}
-use Rattle.lfs_model.specs.layers.Keeping.{struct_at}
-use Rattle.lfs_model.specs.session.SlotEdits.{slot_of}
-use Rattle.lfs_model.specs.format.Slots.{Slot, Struct, Inline, Ctz, Branch, Attributes}
-use Rattle.lfs_model.specs.format.Thread.{Pair, blocks_of_pairs}
-use Rattle.lfs_model.specs.tree.Tree.{Path, struct_node}
-use Rattle.lfs_model.specs.tree.View.{IsAccepted}
-use Rattle.lfs_model.specs.tree.Shown.{all_slots_not_moved, struct_list_bytes, all_entries, struct_blocks, tree_on_disk, used_blocks}
-use Rattle.lfs_model.proofs.BlockSets.{Contains-number_count, number_count-Contains}
-use Rattle.lfs_model.proofs.Counts.{Each, number_count, count_append, each_from_counted, once_from_distinct}
-use Rattle.lfs_model.proofs.Files.{file_blocks_same}
-use Rattle.lfs_model.proofs.Splices.{file_blocks}
-use Rattle.lfs_thread.specs.Kept.{KeptThread}
-use Rattle.lfs_tree.specs.KeptFiles.{KeepsListBytes, KeepsFileAt, slot_list_blocks, list_blocks_at}
+use Rattle.lfs_tree.proofs.Common.{recursion_from_All, option_map, is_file, AreUsed, IsUsedBlock, Disk, SameGeometry, disk_block, struct_at, slot_of, Slot, Struct, Inline, Ctz, Branch, Attributes, Pair, pairs_blocks, Path, struct_node, IsAccepted, all_unmoved_slots, struct_list_bytes, all_entries, struct_blocks, disk_tree, used_blocks, Contains-number_occurrences, number_occurrences-Contains, Each, number_occurrences, count_append, each_from_counted, once_from_distinct, file_blocks_same, file_blocks, KeptThread, KeepsListBytes, KeepsFileAt}
+use Rattle.lfs_tree.specs.KeptFiles.{slot_blocks, list_blocks_at}
 use Rattle.lfs_tree.proofs.SlotsHave.{slot_has}
 
 -- ---- the blocks of a file's list
 
 -- each of a slot's is one of the image's files
-pub among_files : (b : ℕ) (disk : Disk) (slots : List Slot) → Each (λ (s : Slot). number_count b (struct_blocks disk s.struct) ≤ number_count b (file_blocks disk slots)) slots
+pub among_files : (b : ℕ) (disk : Disk) (slots : List Slot) → Each (λ (s : Slot). number_occurrences b (struct_blocks disk s.struct) ≤ number_occurrences b (file_blocks disk slots)) slots
 among_files b disk [] = tt
 among_files b disk (s ∷ slots) =
     let e = count_append b (struct_blocks disk s.struct) (file_blocks disk slots) in
     (omega arith, weaker slots (among_files b disk slots))
   where
-    weaker : (xs : List Slot) → Each (λ (x : Slot). number_count b (struct_blocks disk x.struct) ≤ number_count b (file_blocks disk slots)) xs
-        → Each (λ (x : Slot). number_count b (struct_blocks disk x.struct) ≤ number_count b (file_blocks disk (s ∷ slots))) xs
+    weaker : (xs : List Slot) → Each (λ (x : Slot). number_occurrences b (struct_blocks disk x.struct) ≤ number_occurrences b (file_blocks disk slots)) xs
+        → Each (λ (x : Slot). number_occurrences b (struct_blocks disk x.struct) ≤ number_occurrences b (file_blocks disk (s ∷ slots))) xs
     weaker [] h = tt
     weaker (x ∷ xs) h = (let l = h.0 in let e = count_append b (struct_blocks disk s.struct) (file_blocks disk slots) in omega arith, weaker xs h.1)
 
-list_counted : (t : KeptThread) (path : Path) → IsAccepted t.disk t.pairs → (b : ℕ) → number_count b (list_blocks_at t path) ≤ number_count b (file_blocks t.disk (all_slots_not_moved t.pairs))
+list_counted : (t : KeptThread) (path : Path) → IsAccepted t.disk t.pairs → (b : ℕ) → number_occurrences b (list_blocks_at t path) ≤ number_occurrences b (file_blocks t.disk (all_unmoved_slots t.pairs))
 list_counted t path accepted b = go (slot_of t.pairs path) refl
   where
-    go : (o : Option Slot) → slot_of t.pairs path ≡ o → number_count b (slot_list_blocks t.disk o) ≤ number_count b (file_blocks t.disk (all_slots_not_moved t.pairs))
+    go : (o : Option Slot) → slot_of t.pairs path ≡ o → number_occurrences b (slot_blocks t.disk o) ≤ number_occurrences b (file_blocks t.disk (all_unmoved_slots t.pairs))
     go None e = omega arith
-    go (Some s) e = slot_has (λ (x : Slot). number_count b (struct_blocks t.disk x.struct) ≤ number_count b (file_blocks t.disk (all_slots_not_moved t.pairs))) t.disk t.pairs accepted (among_files b t.disk (all_slots_not_moved t.pairs)) (omega arith) path s e
+    go (Some s) e = slot_has (λ (x : Slot). number_occurrences b (struct_blocks t.disk x.struct) ≤ number_occurrences b (file_blocks t.disk (all_unmoved_slots t.pairs))) t.disk t.pairs accepted (among_files b t.disk (all_unmoved_slots t.pairs)) (omega arith) path s e
 
 -- they are used
 pub list_used : (t : KeptThread) (path : Path) → IsAccepted t.disk t.pairs → AreUsed t.map (used_blocks t.disk t.pairs) → (b : ℕ) → Contains (list_blocks_at t path) b → IsUsedBlock t.map b
 list_used t path accepted used b has =
-    let k = number_count-Contains (list_blocks_at t path) b has in
+    let k = number_occurrences-Contains (list_blocks_at t path) b has in
     let l = list_counted t path accepted b in
-    let e = count_append b (blocks_of_pairs t.pairs) (file_blocks t.disk (all_slots_not_moved t.pairs)) in
-    (used b).1 (Contains-number_count (used_blocks t.disk t.pairs) b (omega arith))
+    let e = count_append b (pairs_blocks t.pairs) (file_blocks t.disk (all_unmoved_slots t.pairs)) in
+    (used b).1 (Contains-number_occurrences (used_blocks t.disk t.pairs) b (omega arith))
 
 -- and no pair's
-pub no_pairs : (t : KeptThread) (path : Path) → IsAccepted t.disk t.pairs → (b : ℕ) → Contains (list_blocks_at t path) b → Contains (blocks_of_pairs t.pairs) b → ⊥
+pub no_pairs : (t : KeptThread) (path : Path) → IsAccepted t.disk t.pairs → (b : ℕ) → Contains (list_blocks_at t path) b → Contains (pairs_blocks t.pairs) b → ⊥
 no_pairs t path accepted b has pairs =
-    let k = number_count-Contains (list_blocks_at t path) b has in
-    let p = number_count-Contains (blocks_of_pairs t.pairs) b pairs in
+    let k = number_occurrences-Contains (list_blocks_at t path) b has in
+    let p = number_occurrences-Contains (pairs_blocks t.pairs) b pairs in
     let l = list_counted t path accepted b in
-    let e = count_append b (blocks_of_pairs t.pairs) (file_blocks t.disk (all_slots_not_moved t.pairs)) in
+    let e = count_append b (pairs_blocks t.pairs) (file_blocks t.disk (all_unmoved_slots t.pairs)) in
     let o = once_from_distinct (used_blocks t.disk t.pairs) accepted.owned_once b in
     absurd (omega arith)
 
 -- ---- a file that is kept
 
-module _ (old new : KeptThread) (path : Path) (file : is_file (tree_on_disk old.disk old.pairs path) ≡ true) (same : struct_at new.pairs path ≡ struct_at old.pairs path) (geometry : SameGeometry old.disk new.disk)
+module _ (old new : KeptThread) (path : Path) (file : is_file (disk_tree old.disk old.pairs path) ≡ true) (same : struct_at new.pairs path ≡ struct_at old.pairs path) (geometry : SameGeometry old.disk new.disk)
     (bytes : (b : ℕ) → Contains (list_blocks_at old path) b → disk_block new.disk b ≡ disk_block old.disk b) where
   is_kept : (attributes others : Attributes) (s u : Struct) → u ≡ s → is_file (Some (struct_node (struct_list_bytes old.disk) (all_entries old.pairs) attributes s)) ≡ true
       → is_file (Some (struct_node (struct_list_bytes new.disk) (all_entries new.pairs) others u)) ≡ true
@@ -73,14 +57,14 @@ module _ (old new : KeptThread) (path : Path) (file : is_file (tree_on_disk old.
 
   list_kept : (s u : Struct) → u ≡ s → ((b : ℕ) → Contains (struct_blocks old.disk s) b → disk_block new.disk b ≡ disk_block old.disk b) → struct_blocks new.disk u ≡ struct_blocks old.disk s
   list_kept s u e k = ap (struct_blocks new.disk) e
-      ∙ file_blocks_same old.disk new.disk s geometry (each_from_counted (λ b. disk_block new.disk b ≡ disk_block old.disk b) (struct_blocks old.disk s) (λ b some. k b (Contains-number_count (struct_blocks old.disk s) b some)))
+      ∙ file_blocks_same old.disk new.disk s geometry (each_from_counted (λ b. disk_block new.disk b ≡ disk_block old.disk b) (struct_blocks old.disk s) (λ b some. k b (Contains-number_occurrences (struct_blocks old.disk s) b some)))
 
   abbrev StaysAt : Option Slot → Option Slot → Type 0
-  StaysAt was now = (is_file (option_map (λ (u : Slot). struct_node (struct_list_bytes new.disk) (all_entries new.pairs) u.attributes u.struct) now) ≡ true) × (slot_list_blocks new.disk now ≡ slot_list_blocks old.disk was)
+  StaysAt was now = (is_file (option_map (λ (u : Slot). struct_node (struct_list_bytes new.disk) (all_entries new.pairs) u.attributes u.struct) now) ≡ true) × (slot_blocks new.disk now ≡ slot_blocks old.disk was)
 
   slots_kept : (was now : Option Slot) → option_map (λ (u : Slot). u.struct) now ≡ option_map (λ (u : Slot). u.struct) was
       → is_file (option_map (λ (u : Slot). struct_node (struct_list_bytes old.disk) (all_entries old.pairs) u.attributes u.struct) was) ≡ true
-      → ((b : ℕ) → Contains (slot_list_blocks old.disk was) b → disk_block new.disk b ≡ disk_block old.disk b) → StaysAt was now
+      → ((b : ℕ) → Contains (slot_blocks old.disk was) b → disk_block new.disk b ≡ disk_block old.disk b) → StaysAt was now
   slots_kept None now e h k = absurd (cc)
   slots_kept (Some s) None e h k = absurd (cc)
   slots_kept (Some s) (Some u) e h k =
@@ -92,7 +76,7 @@ module _ (old new : KeptThread) (path : Path) (file : is_file (tree_on_disk old.
       let k = slots_kept (slot_of old.pairs path) (slot_of new.pairs path) same file bytes in
       record { file = k.0; struct = same; list = k.1; bytes = bytes }
 
-pub keeps_same : (t : KeptThread) (path : Path) → is_file (tree_on_disk t.disk t.pairs path) ≡ true → KeepsFileAt t t path
+pub keeps_same : (t : KeptThread) (path : Path) → is_file (disk_tree t.disk t.pairs path) ≡ true → KeepsFileAt t t path
 keeps_same t path file = record { file = file; struct = refl; list = refl; bytes = λ b has. refl }
 
 pub keeps_then : (a b c : KeptThread) (path : Path) → KeepsFileAt a b path → KeepsFileAt b c path → KeepsFileAt a c path
@@ -109,9 +93,9 @@ module _ (disk new : Disk) (ps qs : List Pair) (path : Path) (accepted : IsAccep
   Stays s = All (λ b. disk_block new b ≡ disk_block disk b) (struct_blocks disk s.struct)
 
   stays_at : (s : Slot) → slot_of ps path ≡ Some s → Stays s
-  stays_at s at = slot_has Stays disk ps accepted (recursion_from_All Stays (all_slots_not_moved ps) keeps) (λ i d lt. absurd (omega (arith, lt))) path s at
+  stays_at s at = slot_has Stays disk ps accepted (recursion_from_All Stays (all_unmoved_slots ps) keeps) (λ i d lt. absurd (omega (arith, lt))) path s at
 
-  same_list : (was now : Option Slot) → slot_of ps path ≡ was → option_map (λ (u : Slot). u.struct) now ≡ option_map (λ (u : Slot). u.struct) was → slot_list_blocks new now ≡ slot_list_blocks disk was
+  same_list : (was now : Option Slot) → slot_of ps path ≡ was → option_map (λ (u : Slot). u.struct) now ≡ option_map (λ (u : Slot). u.struct) was → slot_blocks new now ≡ slot_blocks disk was
   same_list None None at e = refl
   same_list None (Some u) at e = absurd (cc)
   same_list (Some s) None at e = absurd (cc)
@@ -120,5 +104,5 @@ module _ (disk new : Disk) (ps qs : List Pair) (path : Path) (accepted : IsAccep
       ap (struct_blocks new) is
       ∙ file_blocks_same disk new s.struct geometry (recursion_from_All (λ b. disk_block new b ≡ disk_block disk b) (struct_blocks disk s.struct) (stays_at s at))
 
-  pub list_stays : struct_at qs path ≡ struct_at ps path → slot_list_blocks new (slot_of qs path) ≡ slot_list_blocks disk (slot_of ps path)
+  pub list_stays : struct_at qs path ≡ struct_at ps path → slot_blocks new (slot_of qs path) ≡ slot_blocks disk (slot_of ps path)
   list_stays same = same_list (slot_of ps path) (slot_of qs path) refl same

@@ -52,3 +52,4 @@ pub mod RenamePaths
 pub mod Standing
 pub mod Settled
 pub mod Coming
+pub mod Common

@@ -4,27 +4,15 @@ use Rattle.std.specs.List.{IsDistinct}
 use Rattle.std.specs.Prelude.{◌↔◌, IsTrue}
 use Rattle.lfs_device.specs.declared.device.BlockDevice.{Ghosts}
 use Rattle.lfs_device.specs.declared.error.Error.{Error}
-use Rattle.lfs_model.specs.format.Disk.{ordered_disk, Disk, block_count}
+use Rattle.lfs_tree.proofs.Common.{ordered_disk, Disk, block_count, AreInFlight, AreUsed, BlockStates, CallEvent, OnlyReadsSince, fault_count, read_count, Pair, count_before_root, IsAccepted, IsWritable, used_blocks, OnlyReadsSince-trans, KeptThread, ThreadView, disk_of_device, OnlyReadsThread, IsFormatted, IsEmptyWritable, IsSoundWithRoot, kept_state, thread_state, ReadsOrReports, IsMountedTree, IsSoundState, HasRead}
 use Rattle.lfs_device.specs.declared.error.Error.TheVariants.{Io}
-use Rattle.lfs_model.specs.layers.BlockSets.{AreInFlight, AreUsed, BlockStates}
-use Rattle.lfs_model.specs.session.History.{CallEvent, OnlyReadsSince, fault_count, read_count}
-use Rattle.lfs_model.specs.format.Thread.{Pair, pair_count_before_root}
-use Rattle.lfs_model.specs.tree.View.{IsAccepted, DiskView}
-use Rattle.lfs_model.specs.tree.Profile.{IsWritable}
-use Rattle.lfs_model.specs.tree.Shown.{used_blocks}
+use Rattle.lfs_model.specs.tree.View.{DiskView}
 use Rattle.lfs_model.proofs.BlockSets.{in_flight_count-AreInFlight}
-use Rattle.lfs_model.proofs.Histories.{OnlyReadsSince-trans, read_count-since}
+use Rattle.lfs_model.proofs.Histories.{read_count-since}
 use Rattle.lfs_mount.specs.Accepted.{IsMountedOn}
 use Rattle.lfs_model.specs.declared.order.NameOrder.{NameOrder}
 use Rattle.lfs_model.specs.declared.order.NameOrder.TheVariants.{LongerFirst}
-use Rattle.lfs_thread.specs.ThreadDevice.{GivesDeviceBackOnlyReadWithError}
-use Rattle.lfs_thread.specs.Kept.{KeptThread, ThreadView, disk_of_device}
-use Rattle.lfs_thread.specs.ThreadSteps.{OnlyReadsThread}
-use Rattle.lfs_tree.specs.Formats.{IsFormatted, IsEmptyWritable}
-use Rattle.lfs_tree.specs.RootedThreads.{IsSoundWithRoot, kept_state, thread_state}
-use Rattle.lfs_lookup.specs.LookupReading.{OnlyReadsThreadAndReportsErrors}
-use Rattle.lfs_tree.specs.TreeState.{IsMountedTree, IsSoundState}
-use Rattle.lfs_lookup.proofs.Reading.{HasRead}
+use Rattle.lfs_thread.specs.ThreadDevice.{GivesDeviceBack}
 use Rattle.lfs_tree.proofs.SameErrors.{same_error}
 
 -- what is sound stays so where it was only read
@@ -43,7 +31,7 @@ unfolding IsDistinct
 none_twice = tt
 
 module _ (disk : Disk) (history : List CallEvent) (a b : ThreadView) (root : ℕ) (writable : Bool) (m : IsMountedOn disk history a) (r : HasRead a b)
-    (is : root ≡ pair_count_before_root a.kept.pairs) (fits : IsTrue writable ↔ IsWritable a.kept.disk a.kept.pairs) where
+    (is : root ≡ count_before_root a.kept.pairs) (fits : IsTrue writable ↔ IsWritable a.kept.disk a.kept.pairs) where
   sound_now : IsSoundState (kept_state b.kept writable false)
   sound_now = sound_read a.kept b.kept writable false false r.only (record {
     accepted = subst (λ (d : Disk). IsAccepted d a.kept.pairs) (sym m.disk_is) m.accepted;
@@ -54,7 +42,7 @@ module _ (disk : Disk) (history : List CallEvent) (a b : ThreadView) (root : ℕ
   })
 
   pub mounted_rooted : IsSoundWithRoot b root writable
-  mounted_rooted = record { works = r.works; sound = sound_now; root_is = is ∙ ap pair_count_before_root (sym r.only.pairs) }
+  mounted_rooted = record { works = r.works; sound = sound_now; root_is = is ∙ ap count_before_root (sym r.only.pairs) }
 
   pub mounted_tree : read_count history < read_count a.kept.history → IsMountedTree disk history (thread_state b writable)
   mounted_tree called = record {
@@ -69,8 +57,8 @@ module _ (disk : Disk) (history : List CallEvent) (a b : ThreadView) (root : ℕ
 
 -- the device comes back with the error of a read
 pub read_back : {D X : Type 0} (g : Ghosts D) (old back : D) (order now : NameOrder) (a b : ThreadView) (r : Result X Error) (e : Error)
-    → IsMountedOn (ordered_disk order (disk_of_device g old)) (g.history old) a → r ≡ Err e → OnlyReadsThreadAndReportsErrors a b r → ordered_disk now (disk_of_device g back) ≡ b.kept.disk → g.history back ≡ b.kept.history
-    → GivesDeviceBackOnlyReadWithError g old back e
+    → IsMountedOn (ordered_disk order (disk_of_device g old)) (g.history old) a → r ≡ Err e → ReadsOrReports a b r → ordered_disk now (disk_of_device g back) ≡ b.kept.disk → g.history back ≡ b.kept.history
+    → GivesDeviceBack g old back e
 read_back {X = X} g old back order now a b r e m is read same later = record {
   disk = ap (ordered_disk LongerFirst) (same ∙ read.only.disk ∙ m.disk_is);
   reads = subst (λ (h : List CallEvent). OnlyReadsSince (g.blocks old) (g.history old) h) (sym later) (OnlyReadsSince-trans m.reads read.only.reads (ap (λ (d : Disk). d.blocks) m.disk_is));
@@ -90,4 +78,4 @@ module _ (t : ThreadView) (works : t.failed ≡ false) (f : IsFormatted t.kept) 
   }
 
   pub fresh_rooted : IsSoundWithRoot t 0 true
-  fresh_rooted = record { works = works; sound = fresh_sound; root_is = sym (ap pair_count_before_root f.pairs) }
+  fresh_rooted = record { works = works; sound = fresh_sound; root_is = sym (ap count_before_root f.pairs) }

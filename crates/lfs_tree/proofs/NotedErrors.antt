@@ -2,10 +2,7 @@
 use Rattle.std.proofs.Common.{ℕ, ◌≡◌, ◌∙◌, ◌||◌, true, Result, Ok, Err, refl, sym, subst}
 use Rattle.std.specs.Prelude.{OnErr, is_err}
 use Rattle.lfs_device.specs.declared.error.Error.{Error}
-use Rattle.lfs_model.specs.tree.Tree.{Tree}
-use Rattle.lfs_thread.specs.Kept.{KeptThread, ThreadView}
-use Rattle.lfs_tree.specs.TreeChanges.{ChangesTreeOrFails}
-use Rattle.lfs_tree.specs.RootedThreads.{SoundUnlessFailed, IsSoundWithRoot}
+use Rattle.lfs_tree.proofs.Common.{Tree, KeptThread, ThreadView, ChangesTreeOrFails, SoundUnlessFailed, IsSoundWithRoot}
 
 module _ {X : Type 0} (t b new : ThreadView) (Done : KeptThread → Type 0) (after : Tree) (r : Result X Error) (w : ChangesTreeOrFails t Done after r b) (f : new ≡ record b { failed = is_err r || b.failed }) where
   pub noted : ChangesTreeOrFails t Done after r new

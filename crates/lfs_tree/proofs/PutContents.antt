@@ -1,56 +1,41 @@
 -- Contents that come into a file's slot.
 use Rattle.std.proofs.Common.{ℕ, ◌≡◌, ◌≤◌, ◌+◌, ◌/◌, ◌∙◌, ne_eqb, true, List, [], ◌∷◌, ◌++◌, length, min, None, Result, Ok, Err, refl, sym, ap, subst, arith}
-use Rattle.std.proofs.Math.Nat.{min-le_right}
+use Rattle.lfs_tree.proofs.Common.{min-le_right, GrowingList, is_file, read_struct, inline_limit, slot_of, Struct, Inline, Path, branch_address, IsFormedList, struct_blocks, disk_tree, number_occurrences, AreOnThread, ThreadReportsFaults, editable_slot, HasFreeBlocks, HasStoredContents, KeptThread, ThreadView, IsStorage, writer_contents_bytes, LeadsToResult, CanPutContents, IsPathFile, IsFinishedForm, list_in_struct, list_in_storage, finished_struct, directory_at_path, contents_form}
 use Rattle.std.specs.Prelude.{OnOk}
-use Rattle.lfs_file.specs.Growing.{GrowingList, IsAllBuffered}
+use Rattle.lfs_file.specs.Growing.{IsAllBuffered}
 use Rattle.lfs_device.specs.declared.error.Error.{Error}
-use Rattle.lfs_model.specs.session.TreeEdits.{is_file}
 use Rattle.lfs_model.specs.layers.Changes.{PutStruct}
 use Rattle.lfs_model.specs.format.EntryTypes.{ctz_type, inline_type}
-use Rattle.lfs_model.specs.format.Content.{read_struct}
-use Rattle.lfs_model.specs.format.Disk.{inline_limit}
-use Rattle.lfs_model.specs.layers.LoggedContent.{IsAllowed}
+use Rattle.lfs_model.specs.layers.LoggedContent.{IsAllowedPart}
 use Rattle.lfs_model.specs.session.Operations as ops
-use Rattle.lfs_model.specs.session.SlotEdits.{StoresBytes, slot_of}
-use Rattle.lfs_model.specs.format.Slots.{Struct, Inline}
-use Rattle.lfs_model.specs.tree.Tree.{Path, branch_address}
-use Rattle.lfs_model.specs.tree.View.{IsWellFormedCtz}
-use Rattle.lfs_model.specs.tree.Shown.{struct_blocks, tree_on_disk}
+use Rattle.lfs_model.specs.session.SlotEdits.{GivesBytes}
 use Rattle.lfs_model.specs.layers.WrittenContent.{address_bytes}
-use Rattle.lfs_model.proofs.Counts.{number_count}
 use Rattle.lfs_model.proofs.WrittenAnew.{tag_type-make_tag, tag_length-make_tag}
-use Rattle.lfs_tree.specs.ThreadContents.{AreOnThread, ReportsFaultOrNoMemory}
-use Rattle.lfs_operations.specs.Changing.{ReportsErrorsOfChangeOrSplit}
-use Rattle.lfs_operations.specs.Editing.{editable_slot}
-use Rattle.lfs_operations.specs.Making.{HasFreeBlocks}
-use Rattle.lfs_operations.specs.Storing.{CanSetStruct, HasStoredContents}
-use Rattle.lfs_thread.specs.Kept.{KeptThread, ThreadView}
-use Rattle.lfs_lookup.specs.Entry.{IsStorage}
-use Rattle.lfs_tree.specs.OpenContents.{writer_contents_bytes}
-use Rattle.lfs_lookup.specs.LookupPaths.{LeadsToResult}
-use Rattle.lfs_tree.specs.Stores.{CanPutContents, IsPathFileSlot, IsFoundFile, IsFinishedInline, is_file_found, list_in_struct, list_in_storage, finished_struct}
+use Rattle.lfs_operations.specs.Changing.{ReportsPut}
+use Rattle.lfs_operations.specs.Storing.{CanSetStruct}
+use Rattle.lfs_tree.specs.Stores.{IsFoundFile, is_file_found}
 use Rattle.lfs_lookup.specs.declared.entry.FileStorage.{FileStorage}
 use Rattle.lfs_lookup.specs.declared.entry.FileStorage.TheVariants as entry
 use Rattle.lfs_lookup.specs.declared.paths.PathLookup.{PathLookup}
 use Rattle.lfs_lookup.specs.declared.paths.PathLookup.TheVariants as found
 use Rattle.lfs_lookup.specs.declared.search.SlotPosition.{SlotPosition}
 use Rattle.lfs_tree.specs.declared.contents_at.FileSlot.{FileSlot}
-use Rattle.lfs_lookup.proofs.AtPaths.{directory_at_path, nothing_at, refused_none}
+use Rattle.lfs_lookup.proofs.AtPaths.{nothing_at, refused_none}
 use Rattle.lfs_tree.proofs.ReportedFaults.{reported_with_room}
-use Rattle.lfs_file.specs.Contents.{contents_form, buffered_bytes}
+use Rattle.lfs_file.specs.Contents.{buffered_bytes}
 use Rattle.lfs_file.specs.declared.contents.WriterContents.{WriterContents}
 use Rattle.lfs_file.specs.declared.contents.WriterContents.TheVariants.{InMemory}
 
 -- ---- the slot of a file
 
-pub file_found : (t : KeptThread) (path : Path) (f : PathLookup) → is_file (tree_on_disk t.disk t.pairs path) ≡ true → LeadsToResult t path f → is_file_found f ≡ true
-file_found t path found.Root file l = let k = sym file ∙ ap (λ p. is_file (tree_on_disk t.disk t.pairs p)) l.there in absurd (cc)
+pub file_found : (t : KeptThread) (path : Path) (f : PathLookup) → is_file (disk_tree t.disk t.pairs path) ≡ true → LeadsToResult t path f → is_file_found f ≡ true
+file_found t path found.Root file l = let k = sym file ∙ ap (λ p. is_file (disk_tree t.disk t.pairs p)) l.there in absurd (cc)
 file_found t path found.ParentIsFile file l = let k = sym file ∙ ap is_file (nothing_at t.disk t.pairs path (refused_none t.disk t.pairs path [] ops.NotDir l.parents)) in absurd (cc)
 file_found t path found.ParentIsMissing file l = let k = sym file ∙ ap is_file (nothing_at t.disk t.pairs path (refused_none t.disk t.pairs path [] ops.NoEnt l.parents)) in absurd (cc)
 file_found t path (found.Nothing parent place) file l = let k = sym file ∙ ap is_file (nothing_at t.disk t.pairs path (ap (slot_of t.pairs) l.there.is ∙ l.there.there.nothing)) in absurd (cc)
 file_found t path (found.Directory parent slot first) file l =
     let on = l.there.there.1 in
-    let k = sym file ∙ ap (λ p. is_file (tree_on_disk t.disk t.pairs p)) l.there.is ∙ ap is_file (directory_at_path t.disk t.pairs (l.there.above ++ l.there.name ∷ []) on.at on.leads).is in absurd (cc)
+    let k = sym file ∙ ap (λ p. is_file (disk_tree t.disk t.pairs p)) l.there.is ∙ ap is_file (directory_at_path t.disk t.pairs (l.there.above ++ l.there.name ∷ []) on.at on.leads).is in absurd (cc)
 file_found t path (found.File parent slot contents) file l = refl
 
 shown_leaf : (contents : FileStorage) (s : Struct) → IsStorage contents s → branch_address s ≡ None
@@ -61,7 +46,7 @@ shown_list : (contents : FileStorage) (s : Struct) → IsStorage contents s → 
 shown_list (entry.Inline len) s k = sym (ap list_in_struct k.1.0)
 shown_list (entry.List head size) s k = sym (ap list_in_struct k)
 
-pub file_for : (t : KeptThread) (path : Path) (f : PathLookup) (file : FileSlot) → LeadsToResult t path f → IsFoundFile f file → IsPathFileSlot t.pairs path file
+pub file_for : (t : KeptThread) (path : Path) (f : PathLookup) (file : FileSlot) → LeadsToResult t path f → IsFoundFile f file → IsPathFile t.pairs path file
 file_for t path found.Root file l h = absurd h
 file_for t path found.ParentIsFile file l h = absurd h
 file_for t path found.ParentIsMissing file l h = absurd h
@@ -70,7 +55,7 @@ file_for t path (found.Directory parent slot first) file l h = absurd h
 file_for t path (found.File parent slot contents) file l h =
     let there = l.there.there in
     let same : (let x : FileSlot = record { spot = slot; list = list_in_storage contents } in x) ≡ file = λ i. record { spot = sym h.0 i; list = sym h.1 i } in
-    subst (IsPathFileSlot t.pairs path) same
+    subst (IsPathFile t.pairs path) same
     (record {
       slot = record { above = l.there.above; name = l.there.name; first = parent; is = l.there.is; stands = there.0 };
       leaf = shown_leaf contents there.0.stands.stands.slot.struct there.1;
@@ -79,23 +64,23 @@ file_for t path (found.File parent slot contents) file l h =
 
 -- ---- what comes into it
 
-module _ (t : KeptThread) (spot : SlotPosition) (contents : WriterContents) (can : CanPutContents t spot contents) (kind : ℕ) (bytes : List ℕ) (part : IsAllowed 2 (kind, bytes)) (is : read_struct kind bytes ≡ finished_struct contents) where
+module _ (t : KeptThread) (spot : SlotPosition) (contents : WriterContents) (can : CanPutContents t spot contents) (kind : ℕ) (bytes : List ℕ) (part : IsAllowedPart 2 (kind, bytes)) (is : read_struct kind bytes ≡ finished_struct contents) where
   abbrev pub store_of : CanSetStruct t spot.pair spot.id kind bytes
   store_of = record {
     can = can.can;
     file = can.leaf;
     part = part;
     contents = writer_contents_bytes t contents;
-    stores = subst (StoresBytes t.disk (writer_contents_bytes t contents)) (sym is) can.come.stores;
-    list = subst (IsWellFormedCtz t.disk) (sym is) can.come.list;
+    stores = subst (GivesBytes t.disk (writer_contents_bytes t contents)) (sym is) can.come.stores;
+    list = subst (IsFormedList t.disk) (sym is) can.come.list;
     gone = can.come.gone;
     come = can.come.come;
     flying = can.come.flying;
     apart = can.come.apart;
-    blocks = λ b. subst (λ (z : Struct). number_count b (struct_blocks t.disk z) + number_count b can.come.gone ≡ number_count b can.come.come + number_count b (struct_blocks t.disk (editable_slot can.can).struct)) (sym is) (can.come.blocks b);
+    blocks = λ b. subst (λ (z : Struct). number_occurrences b (struct_blocks t.disk z) + number_occurrences b can.come.gone ≡ number_occurrences b can.come.come + number_occurrences b (struct_blocks t.disk (editable_slot can.can).struct)) (sym is) (can.come.blocks b);
   }
 
-pub stored_from : (t new : KeptThread) (spot : SlotPosition) (contents : WriterContents) (kind : ℕ) (bytes : List ℕ) → IsAllowed 2 (kind, bytes) → read_struct kind bytes ≡ finished_struct contents → (r : Result (Unit {0}) Error)
+pub stored_from : (t new : KeptThread) (spot : SlotPosition) (contents : WriterContents) (kind : ℕ) (bytes : List ℕ) → IsAllowedPart 2 (kind, bytes) → read_struct kind bytes ≡ finished_struct contents → (r : Result (Unit {0}) Error)
     → OnOk r ((store : CanSetStruct t spot.pair spot.id kind bytes) → HasStoredContents t new store.can.path store.can.name store.contents store.gone store.come)
     → OnOk r ((can : CanPutContents t spot contents) → HasStoredContents t new can.can.path can.can.name (writer_contents_bytes t contents) can.come.gone can.come.come)
 stored_from t new spot contents kind bytes part is (Err e) h = tt
@@ -103,7 +88,7 @@ stored_from t new spot contents kind bytes part is (Ok u) h = λ can. h (store_o
 
 -- ---- its bytes
 
-pub inline_part : (bytes : List ℕ) → length bytes ≤ 1022 → IsAllowed 2 (inline_type, bytes)
+pub inline_part : (bytes : List ℕ) → length bytes ≤ 1022 → IsAllowedPart 2 (inline_type, bytes)
 inline_part bytes short = record {
   of_class = refl;
   short = omega arith;
@@ -113,16 +98,16 @@ inline_part bytes short = record {
       rw len (rw kind (rw (ne_eqb (length bytes) 0x3ff (λ e. omega arith)) refl));
 }
 
-pub list_part : (head size : ℕ) (bytes : List ℕ) → bytes ≡ address_bytes (head, size) → IsAllowed 2 (ctz_type, bytes)
-list_part head size bytes e = subst (λ b. IsAllowed 2 (ctz_type, b)) (sym e) (record { of_class = refl; short = omega arith; in_table = refl })
+pub list_part : (head size : ℕ) (bytes : List ℕ) → bytes ≡ address_bytes (head, size) → IsAllowedPart 2 (ctz_type, bytes)
+list_part head size bytes e = subst (λ b. IsAllowedPart 2 (ctz_type, b)) (sym e) (record { of_class = refl; short = omega arith; in_table = refl })
 
 module _ (t : KeptThread) (spot : SlotPosition) (contents : WriterContents) (list : GrowingList) (can : CanPutContents t spot contents) (is : contents ≡ InMemory list) where
   pub held_there : IsAllBuffered list
   held_there = (subst (AreOnThread t) is can.stands).stands.resting.held
 
-  pub held_part : (bytes : List ℕ) → bytes ≡ buffered_bytes list → IsAllowed 2 (inline_type, bytes)
+  pub held_part : (bytes : List ℕ) → bytes ≡ buffered_bytes list → IsAllowedPart 2 (inline_type, bytes)
   held_part bytes e =
-      let few = subst (λ (c : WriterContents). IsFinishedInline (inline_limit t.disk.profile t.disk.block_size) (contents_form c)) is can.finished in
+      let few = subst (λ (c : WriterContents). IsFinishedForm (inline_limit t.disk.profile t.disk.block_size) (contents_form c)) is can.finished in
       let m = min-le_right (t.disk.block_size / 8) 1022 in
       let n = min-le_right t.disk.profile.inline_max (min (t.disk.block_size / 8) 1022) in
       let l = ap length e in
@@ -133,7 +118,7 @@ held_struct contents list bytes is e = ap (λ b. Inline b) e ∙ sym (ap finishe
 
 -- ---- what it tells
 
-pub reports_put : (old new : ThreadView) (pair : ℕ) (id kind : ℕ) (bytes : List ℕ) (r : Result (Unit {0}) Error) → HasFreeBlocks 2 old.kept.map → ReportsErrorsOfChangeOrSplit old new pair (PutStruct id kind bytes ∷ []) r → ReportsFaultOrNoMemory old.kept new.kept r
+pub reports_put : (old new : ThreadView) (pair : ℕ) (id kind : ℕ) (bytes : List ℕ) (r : Result (Unit {0}) Error) → HasFreeBlocks 2 old.kept.map → ReportsPut old new pair (PutStruct id kind bytes ∷ []) r → ThreadReportsFaults old.kept new.kept r
 reports_put old new pair id kind bytes r room reports =
     let t = reported_with_room old.kept new.kept r room reports.reports.reports in
     record { errors = t.errors; fault = t.fault; no_fault = t.no_fault }

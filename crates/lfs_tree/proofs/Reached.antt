@@ -2,31 +2,13 @@
 use Rattle.std.proofs.Common.{ℕ, zero, suc, ◌≡◌, ◌+◌, ◌<◌, ◌⊎◌, ◌∙◌, inl, inr, Bool, true, false, cond, nat_eq, eqb-true, List, [], ◌∷◌, ◌++◌, length, map, get_or, set, slice_get, Option, Some, None, option_and_then, refl, sym, ap, subst, arith, append-nil, append_assoc, length-append, length-set, replicate}
 use Rattle.std.specs.Prelude.{Contains}
 use Rattle.std.specs.List.{IsDistinct}
-use Rattle.std.proofs.lemmas.Bool.{eqb-false}
-use Rattle.std.proofs.lemmas.List.Elements.{Contains-append_cases, Contains-append_left, Contains-append_right}
-use Rattle.std.proofs.lemmas.Option.{same_Some, slice_get_within}
-use Rattle.lfs_model.specs.format.Disk.{Disk}
-use Rattle.lfs_model.specs.session.InDirectory.{IsPairAt}
-use Rattle.lfs_model.specs.format.Names.{Name, same_name}
-use Rattle.lfs_model.specs.session.SlotEdits.{slot_of}
-use Rattle.lfs_model.specs.format.Slots.{Slot, Struct, Inline, Ctz, Branch, same_pair}
-use Rattle.lfs_model.specs.format.Thread.{Pair, blocks_of_pairs, root_address, pair_count_before_root}
-use Rattle.lfs_model.specs.tree.Tree.{EntryMap, Path, branch_address, address_from_slot, entry_named, root_slot, slot_at_path}
-use Rattle.lfs_model.specs.tree.View.{IsAccepted}
-use Rattle.lfs_model.specs.tree.Shown.{LeadsTo, all_entries}
-use Rattle.lfs_model.proofs.BlockSets.{slice_get-set_other, slice_get-set_same}
-use Rattle.lfs_model.proofs.Counts.{Each, each_right}
+use Rattle.lfs_tree.proofs.Common.{eqb-false, Contains-append_cases, Contains-append_left, Contains-append_right, same_Some, slice_get_within, Disk, IsPairAt, Name, same_name, slot_of, Slot, Struct, Inline, Ctz, Branch, same_pair, Pair, pairs_blocks, root_address, count_before_root, Path, branch_address, entry_named, root_slot, slot_at_path, IsAccepted, LeadsTo, all_entries, slice_get-set_other, slice_get-set_same, Each, each_right, pair_back, pair_on, AnyByRecursion, pair_entries_from, LeadsToPair, DirectoriesBegin, MarkReached, QueuesMarked, IsStructPair, IsNamedPair, unmarked_count, HasFirstIfDirectory, root_begins}
+use Rattle.lfs_model.specs.tree.Tree.{EntryMap, address_from_slot}
 use Rattle.lfs_model.proofs.OneCommit.{slot_there}
-use Rattle.lfs_model.proofs.Pairs.{pair_back, pair_on}
 use Rattle.lfs_model.proofs.Searches.{same_number}
-use Rattle.lfs_model.proofs.Sites.{HoldsOfSome}
 use Rattle.lfs_lookup.specs.Items.{NamedStruct, named_struct}
-use Rattle.lfs_lookup.specs.Listed.{pair_entries_from}
-use Rattle.lfs_lookup.specs.LookupPaths.{LeadsToPair}
-use Rattle.lfs_tree.specs.Orphans.{DirectoriesBegin, MarkReached, MarksPending, IsMarkedReached, IsStructPair, IsSomeStructPair, unmarked_count}
-use Rattle.lfs_lookup.specs.TreeWalk.{HasFirstIfDirectory}
+use Rattle.lfs_tree.specs.Orphans.{IsMarkedReached}
 use Rattle.lfs_lookup.proofs.Directories.{begins_with, own_shapes}
-use Rattle.lfs_lookup.proofs.Roots.{root_begins}
 use Rattle.lfs_lookup.proofs.Visits.{leads_to, visit_begins}
 
 -- ---- one mark
@@ -52,7 +34,7 @@ contains_one n = (0, omega arith, refl)
 none_in : (k : ℕ) → Contains [] k → ⊥
 none_in k h = let l : h.0 < 0 = h.1 in absurd (omega arith)
 
-pub mark_new : (m : List Bool) (p : List ℕ) (n : ℕ) → slice_get m n ≡ Some false → MarksPending (λ k. k ≡ n) m p (set m n true) (p ++ n ∷ [])
+pub mark_new : (m : List Bool) (p : List ℕ) (n : ℕ) → slice_get m n ≡ Some false → QueuesMarked (λ k. k ≡ n) m p (set m n true) (p ++ n ∷ [])
 mark_new m p n e = record {
   len = length-set m n true;
   stay = λ k h. stay k h (nat_eq k n) refl;
@@ -78,7 +60,7 @@ mark_new m p n e = record {
     pend k (inl h) = inl h
     pend k (inr h) = inr (subst (λ z. slice_get (set m n true) z ≡ Some true) (sym (one_of n k h)) here)
 
-pub mark_old : (m : List Bool) (p : List ℕ) (n : ℕ) → slice_get m n ≡ Some true → MarksPending (λ k. k ≡ n) m p m p
+pub mark_old : (m : List Bool) (p : List ℕ) (n : ℕ) → slice_get m n ≡ Some true → QueuesMarked (λ k. k ≡ n) m p m p
 mark_old m p n e = record {
   len = refl;
   stay = λ k h. h;
@@ -89,7 +71,7 @@ mark_old m p n e = record {
   less = omega arith;
 }
 
-pub mark_none : (P : ℕ → Type 0) (m : List Bool) (p : List ℕ) → ((k : ℕ) → P k → ⊥) → MarksPending P m p m p
+pub mark_none : (P : ℕ → Type 0) (m : List Bool) (p : List ℕ) → ((k : ℕ) → P k → ⊥) → QueuesMarked P m p m p
 mark_none P m p none = record {
   len = refl;
   stay = λ k h. h;
@@ -100,7 +82,7 @@ mark_none P m p none = record {
   less = omega arith;
 }
 
-pub mark_as : (P Q : ℕ → Type 0) (m n : List Bool) (p q : List ℕ) → ((k : ℕ) → Q k → P k) → ((k : ℕ) → P k → Q k) → MarksPending P m p n q → MarksPending Q m p n q
+pub mark_as : (P Q : ℕ → Type 0) (m n : List Bool) (p q : List ℕ) → ((k : ℕ) → Q k → P k) → ((k : ℕ) → P k → Q k) → QueuesMarked P m p n q → QueuesMarked Q m p n q
 mark_as P Q m n p q back there h = record {
   len = h.len;
   stay = h.stay;
@@ -116,7 +98,7 @@ mark_as P Q m n p q back there h = record {
     go k (inr x) = inr (there k x.0, x.1)
 
 -- one after another
-pub mark_then : (P Q : ℕ → Type 0) (m n o : List Bool) (p q r : List ℕ) → MarksPending P m p n q → MarksPending Q n q o r → MarksPending (λ k. Q k ⊎ P k) m p o r
+pub mark_then : (P Q : ℕ → Type 0) (m n o : List Bool) (p q r : List ℕ) → QueuesMarked P m p n q → QueuesMarked Q n q o r → QueuesMarked (λ k. Q k ⊎ P k) m p o r
 mark_then P Q m n o p q r h g = record {
   len = g.len ∙ h.len;
   stay = λ k x. g.stay k (h.stay k x);
@@ -149,10 +131,10 @@ mark_then P Q m n o p q r h g = record {
 
 -- ---- what an entry names
 
-pub begins_same : (ps : List Pair) (a : ℕ × ℕ) (i j : ℕ) → IsDistinct nat_eq (blocks_of_pairs ps) → IsPairAt ps a i → IsPairAt ps a j → i ≡ j
+pub begins_same : (ps : List Pair) (a : ℕ × ℕ) (i j : ℕ) → IsDistinct nat_eq (pairs_blocks ps) → IsPairAt ps a i → IsPairAt ps a j → i ≡ j
 begins_same ps a i j distinct b c = same_number ps i j b.pair c.pair distinct b.there c.there (pair_on b.pair.at a c.pair.at b.same (pair_back c.pair.at a c.same))
 
-pub mark_named : (disk : Disk) (ps : List Pair) (to : ℕ × ℕ) (number : ℕ) (m n : List Bool) (p q : List ℕ) → IsAccepted disk ps → IsPairAt ps to number → MarksPending (λ k. k ≡ number) m p n q → MarksPending (IsStructPair ps (Branch to)) m p n q
+pub mark_named : (disk : Disk) (ps : List Pair) (to : ℕ × ℕ) (number : ℕ) (m n : List Bool) (p q : List ℕ) → IsAccepted disk ps → IsPairAt ps to number → QueuesMarked (λ k. k ≡ number) m p n q → QueuesMarked (IsStructPair ps (Branch to)) m p n q
 mark_named disk ps to number m n p q ok b h = mark_as (λ k. k ≡ number) (IsStructPair ps (Branch to)) m n p q
     (λ k x. begins_same ps to k number ok.thread.distinct x b) (λ k x. subst (λ z. IsPairAt ps to z) (sym x) b) h
 
@@ -166,7 +148,7 @@ named_there name (x ∷ xs) u e = go (same_name name x.name) e (named_there name
     go true f next = (0, f)
     go false f next = let r = next f in (suc r.0, r.1)
 
-among_at : (P : Struct → Type 0) (xs : List Slot) (k : ℕ) (u : Slot) → slice_get xs k ≡ Some u → P u.struct → HoldsOfSome (λ (s : NamedStruct). P s.struct) (map named_struct xs)
+among_at : (P : Struct → Type 0) (xs : List Slot) (k : ℕ) (u : Slot) → slice_get xs k ≡ Some u → P u.struct → AnyByRecursion (λ (s : NamedStruct). P s.struct) (map named_struct xs)
 among_at P [] k u e h = absurd (cc)
 among_at P (x ∷ xs) zero u e h = let f = same_Some x u e in inl (subst (λ (z : Slot). P z.struct) (sym f) h)
 among_at P (x ∷ xs) (suc k) u e h = inr (among_at P xs k u e h)
@@ -177,7 +159,7 @@ record IsFound (P : Struct → Type 0) (xs : List Slot) : Type 0 where
   there : slice_get xs index ≡ Some slot
   holds : P slot.struct
 
-found_in : (P : Struct → Type 0) (xs : List Slot) → HoldsOfSome (λ (s : NamedStruct). P s.struct) (map named_struct xs) → IsFound P xs
+found_in : (P : Struct → Type 0) (xs : List Slot) → AnyByRecursion (λ (s : NamedStruct). P s.struct) (map named_struct xs) → IsFound P xs
 found_in P [] h = absurd h
 found_in P (x ∷ xs) (inl h) = record { index = 0; slot = x; there = refl; holds = h }
 found_in P (x ∷ xs) (inr h) = let r = found_in P xs h in record { index = suc r.index; slot = r.slot; there = r.there; holds = r.holds }
@@ -195,9 +177,9 @@ module _ (disk : Disk) (ps : List Pair) (ok : IsAccepted disk ps) where
   all_begin n path on = subst (DirectoriesBegin ps) (sym (own_shapes disk ps path on.at n ok on.leads on.begins))
       (each_shape (HasFirstIfDirectory ps) (all_entries ps on.at) (λ k u e. visit_begins disk ps (record { path = path ++ u.name ∷ []; slot = u }) ok (led_slot path on.at k u on.leads e)))
 
-  pub named_led : (n k : ℕ) (path : Path) → LeadsToPair ps path n → IsSomeStructPair ps (pair_entries_from ps (Some n)) k → (below : Path) × LeadsToPair ps below k
+  pub named_led : (n k : ℕ) (path : Path) → LeadsToPair ps path n → IsNamedPair ps (pair_entries_from ps (Some n)) k → (below : Path) × LeadsToPair ps below k
   named_led n k path on named =
-      let f = found_in (λ s. IsStructPair ps s k) (all_entries ps on.at) (subst (λ z. IsSomeStructPair ps z k) (own_shapes disk ps path on.at n ok on.leads on.begins) named) in
+      let f = found_in (λ s. IsStructPair ps s k) (all_entries ps on.at) (subst (λ z. IsNamedPair ps z k) (own_shapes disk ps path on.at n ok on.leads on.begins) named) in
       go f.slot (led_slot path on.at f.index f.slot on.leads f.there) f.slot.struct refl f.holds
     where
       go : (u : Slot) → slot_of ps (path ++ u.name ∷ []) ≡ Some u → (s : Struct) → u.struct ≡ s → IsStructPair ps s k → (below : Path) × LeadsToPair ps below k
@@ -210,10 +192,10 @@ module _ (disk : Disk) (ps : List Pair) (ok : IsAccepted disk ps) where
 pub record AreTaken (ps : List Pair) (all left : List NamedStruct) (old : List Bool) (waiting : List ℕ) (new : List Bool) (pending : List ℕ) : Type 0 where
   pub done : List NamedStruct
   pub are : all ≡ left ++ done
-  pub so_far : MarksPending (IsSomeStructPair ps done) old waiting new pending
+  pub so_far : QueuesMarked (IsNamedPair ps done) old waiting new pending
 
 pub none_taken : (ps : List Pair) (all : List NamedStruct) (m : List Bool) (p : List ℕ) → AreTaken ps all all m p m p
-none_taken ps all m p = record { done = []; are = sym (append-nil all); so_far = mark_none (IsSomeStructPair ps []) m p (λ k h. h) }
+none_taken ps all m p = record { done = []; are = sym (append-nil all); so_far = mark_none (IsNamedPair ps []) m p (λ k h. h) }
 
 module _ (ps : List Pair) (all left rest : List NamedStruct) (s : NamedStruct) where
   split : left ≡ rest ++ s ∷ [] → (done : List NamedStruct) → all ≡ left ++ done → all ≡ rest ++ s ∷ done
@@ -222,15 +204,15 @@ module _ (ps : List Pair) (all left rest : List NamedStruct) (s : NamedStruct) w
   pub take_begins : (m n : List Bool) (p q : List ℕ) → left ≡ rest ++ s ∷ [] → AreTaken ps all left m p n q → DirectoriesBegin ps all → HasFirstIfDirectory ps s.struct
   take_begins m n p q e t h = (each_right (λ (s : NamedStruct). HasFirstIfDirectory ps s.struct) rest (s ∷ t.done) (subst (DirectoriesBegin ps) (split e t.done t.are) h)).0
 
-  pub taken_more : (m n o : List Bool) (p q r : List ℕ) → left ≡ rest ++ s ∷ [] → AreTaken ps all left m p n q → MarksPending (IsStructPair ps s.struct) n q o r → AreTaken ps all rest m p o r
+  pub taken_more : (m n o : List Bool) (p q r : List ℕ) → left ≡ rest ++ s ∷ [] → AreTaken ps all left m p n q → QueuesMarked (IsStructPair ps s.struct) n q o r → AreTaken ps all rest m p o r
   taken_more m n o p q r e t h = record {
     done = s ∷ t.done;
     are = split e t.done t.are;
-    so_far = mark_then (IsSomeStructPair ps t.done) (IsStructPair ps s.struct) m n o p q r t.so_far h;
+    so_far = mark_then (IsNamedPair ps t.done) (IsStructPair ps s.struct) m n o p q r t.so_far h;
   }
 
-pub all_taken : (ps : List Pair) (all left : List NamedStruct) (m n : List Bool) (p q : List ℕ) → left ≡ [] → AreTaken ps all left m p n q → MarksPending (IsSomeStructPair ps all) m p n q
-all_taken ps all left m n p q e t = subst (λ z. MarksPending (IsSomeStructPair ps z) m p n q) (sym (t.are ∙ ap (λ z. z ++ t.done) e)) t.so_far
+pub all_taken : (ps : List Pair) (all left : List NamedStruct) (m n : List Bool) (p q : List ℕ) → left ≡ [] → AreTaken ps all left m p n q → QueuesMarked (IsNamedPair ps all) m p n q
+all_taken ps all left m n p q e t = subst (λ z. QueuesMarked (IsNamedPair ps z) m p n q) (sym (t.are ∙ ap (λ z. z ++ t.done) e)) t.so_far
 
 -- ---- marking
 
@@ -238,21 +220,21 @@ pub record IsMarking (ps : List Pair) (marks : List Bool) (pending : List ℕ) :
   pub len : length marks ≡ length ps
   pub sound : (n : ℕ) → IsMarkedReached marks n → (path : Path) × LeadsToPair ps path n
   pub pend : (n : ℕ) → Contains pending n → IsMarkedReached marks n
-  pub rooted : IsMarkedReached marks (pair_count_before_root ps)
-  pub closed : (n : ℕ) → IsMarkedReached marks n → Contains pending n ⊎ ((k : ℕ) → IsSomeStructPair ps (pair_entries_from ps (Some n)) k → IsMarkedReached marks k)
+  pub rooted : IsMarkedReached marks (count_before_root ps)
+  pub closed : (n : ℕ) → IsMarkedReached marks n → Contains pending n ⊎ ((k : ℕ) → IsNamedPair ps (pair_entries_from ps (Some n)) k → IsMarkedReached marks k)
 
 unset_marks : (len n : ℕ) → IsMarkedReached (replicate len false) n → ⊥
 unset_marks zero n e = absurd (cc)
 unset_marks (suc len) zero e = absurd (let f : false ≡ true = same_Some false true e in cc)
 unset_marks (suc len) (suc n) e = unset_marks len n e
 
-pub marking_begun : (disk : Disk) (ps : List Pair) (len root : ℕ) (marks : List Bool) (pending : List ℕ) → IsAccepted disk ps → len ≡ length ps → length (replicate len false) ≡ len → root ≡ pair_count_before_root ps
-    → MarksPending (λ k. k ≡ root) (replicate len false) [] marks pending → IsMarking ps marks pending
+pub marking_begun : (disk : Disk) (ps : List Pair) (len root : ℕ) (marks : List Bool) (pending : List ℕ) → IsAccepted disk ps → len ≡ length ps → length (replicate len false) ≡ len → root ≡ count_before_root ps
+    → QueuesMarked (λ k. k ≡ root) (replicate len false) [] marks pending → IsMarking ps marks pending
 marking_begun disk ps len root marks pending ok e sized is h = record {
   len = h.len ∙ sized ∙ e;
   sound = λ n x. sound n (h.from n x);
   pend = λ n x. pend n (h.pend n x);
-  rooted = h.marked (pair_count_before_root ps) (sym is);
+  rooted = h.marked (count_before_root ps) (sym is);
   closed = λ n x. closed n (h.from n x);
 }
   where
@@ -264,7 +246,7 @@ marking_begun disk ps len root marks pending ok e sized is h = record {
     pend n (inl x) = absurd (none_in n x)
     pend n (inr x) = x
 
-    closed : (n : ℕ) → IsMarkedReached (replicate len false) n ⊎ ((n ≡ root) × Contains pending n) → Contains pending n ⊎ ((k : ℕ) → IsSomeStructPair ps (pair_entries_from ps (Some n)) k → IsMarkedReached marks k)
+    closed : (n : ℕ) → IsMarkedReached (replicate len false) n ⊎ ((n ≡ root) × Contains pending n) → Contains pending n ⊎ ((k : ℕ) → IsNamedPair ps (pair_entries_from ps (Some n)) k → IsMarkedReached marks k)
     closed n (inl x) = absurd (unset_marks len n x)
     closed n (inr x) = inl x.1
 
@@ -282,16 +264,16 @@ module _ (disk : Disk) (ps : List Pair) (ok : IsAccepted disk ps) (marks : List 
   pub first_begin : DirectoriesBegin ps (pair_entries_from ps (Some first))
   first_begin = all_begin disk ps ok first first_on.0 first_on.1
 
-  pub marking_on : (new : List Bool) (more : List ℕ) → MarksPending (IsSomeStructPair ps (pair_entries_from ps (Some first))) marks rest new more → IsMarking ps new more
+  pub marking_on : (new : List Bool) (more : List ℕ) → QueuesMarked (IsNamedPair ps (pair_entries_from ps (Some first))) marks rest new more → IsMarking ps new more
   marking_on new more h = record {
     len = h.len ∙ m.len;
     sound = λ n x. sound n (h.from n x);
     pend = λ n x. pend n (h.pend n x);
-    rooted = h.stay (pair_count_before_root ps) m.rooted;
+    rooted = h.stay (count_before_root ps) m.rooted;
     closed = λ n x. closed n (h.from n x);
   }
     where
-      sound : (n : ℕ) → IsMarkedReached marks n ⊎ (IsSomeStructPair ps (pair_entries_from ps (Some first)) n × Contains more n) → (path : Path) × LeadsToPair ps path n
+      sound : (n : ℕ) → IsMarkedReached marks n ⊎ (IsNamedPair ps (pair_entries_from ps (Some first)) n × Contains more n) → (path : Path) × LeadsToPair ps path n
       sound n (inl x) = m.sound n x
       sound n (inr x) = named_led disk ps ok first n first_on.0 first_on.1 x.0
 
@@ -299,15 +281,15 @@ module _ (disk : Disk) (ps : List Pair) (ok : IsAccepted disk ps) (marks : List 
       pend n (inl x) = h.stay n (m.pend n (subst (λ z. Contains z n) (sym is) (Contains-append_left rest (first ∷ []) n x)))
       pend n (inr x) = x
 
-      waiting : (n : ℕ) → Contains rest n ⊎ Contains (first ∷ []) n → Contains more n ⊎ ((k : ℕ) → IsSomeStructPair ps (pair_entries_from ps (Some n)) k → IsMarkedReached new k)
+      waiting : (n : ℕ) → Contains rest n ⊎ Contains (first ∷ []) n → Contains more n ⊎ ((k : ℕ) → IsNamedPair ps (pair_entries_from ps (Some n)) k → IsMarkedReached new k)
       waiting n (inl x) = inl (h.kept n x)
-      waiting n (inr x) = inr (λ k y. h.marked k (subst (λ (z : ℕ). IsSomeStructPair ps (pair_entries_from ps (Some z)) k) (one_of first n x) y))
+      waiting n (inr x) = inr (λ k y. h.marked k (subst (λ (z : ℕ). IsNamedPair ps (pair_entries_from ps (Some z)) k) (one_of first n x) y))
 
-      was : (n : ℕ) → Contains pending n ⊎ ((k : ℕ) → IsSomeStructPair ps (pair_entries_from ps (Some n)) k → IsMarkedReached marks k) → Contains more n ⊎ ((k : ℕ) → IsSomeStructPair ps (pair_entries_from ps (Some n)) k → IsMarkedReached new k)
+      was : (n : ℕ) → Contains pending n ⊎ ((k : ℕ) → IsNamedPair ps (pair_entries_from ps (Some n)) k → IsMarkedReached marks k) → Contains more n ⊎ ((k : ℕ) → IsNamedPair ps (pair_entries_from ps (Some n)) k → IsMarkedReached new k)
       was n (inl x) = waiting n (Contains-append_cases rest (first ∷ []) n (subst (λ z. Contains z n) is x))
       was n (inr x) = inr (λ k y. h.stay k (x k y))
 
-      closed : (n : ℕ) → IsMarkedReached marks n ⊎ (IsSomeStructPair ps (pair_entries_from ps (Some first)) n × Contains more n) → Contains more n ⊎ ((k : ℕ) → IsSomeStructPair ps (pair_entries_from ps (Some n)) k → IsMarkedReached new k)
+      closed : (n : ℕ) → IsMarkedReached marks n ⊎ (IsNamedPair ps (pair_entries_from ps (Some first)) n × Contains more n) → Contains more n ⊎ ((k : ℕ) → IsNamedPair ps (pair_entries_from ps (Some n)) k → IsMarkedReached new k)
       closed n (inl x) = was n (m.closed n x)
       closed n (inr x) = inl x.1
 
@@ -317,10 +299,10 @@ module _ (disk : Disk) (ps : List Pair) (ok : IsAccepted disk ps) (marks : List 
   abbrev E : EntryMap
   E = all_entries ps
 
-  closed_all : (n k : ℕ) → IsMarkedReached marks n → IsSomeStructPair ps (pair_entries_from ps (Some n)) k → IsMarkedReached marks k
+  closed_all : (n k : ℕ) → IsMarkedReached marks n → IsNamedPair ps (pair_entries_from ps (Some n)) k → IsMarkedReached marks k
   closed_all n k x y = go (m.closed n x)
     where
-      go : Contains [] n ⊎ ((k : ℕ) → IsSomeStructPair ps (pair_entries_from ps (Some n)) k → IsMarkedReached marks k) → IsMarkedReached marks k
+      go : Contains [] n ⊎ ((k : ℕ) → IsNamedPair ps (pair_entries_from ps (Some n)) k → IsMarkedReached marks k) → IsMarkedReached marks k
       go (inl z) = absurd (none_in n z)
       go (inr z) = z k y
 
@@ -349,7 +331,7 @@ module _ (disk : Disk) (ps : List Pair) (ok : IsAccepted disk ps) (marks : List 
       below u k there g (Branch b) is d next =
           let leads = leads_to ps P s a e f in
           let n = begins_with disk ps (P ++ u.name ∷ []) b ok (leads_to ps (P ++ u.name ∷ []) u b g is) in
-          let named : IsSomeStructPair ps (pair_entries_from ps (Some h.number)) n.0 = subst (λ z. IsSomeStructPair ps z n.0) (sym (own_shapes disk ps P a h.number ok leads h.begins))
+          let named : IsNamedPair ps (pair_entries_from ps (Some h.number)) n.0 = subst (λ z. IsNamedPair ps z n.0) (sym (own_shapes disk ps P a h.number ok leads h.begins))
           (among_at (λ z. IsStructPair ps z n.0) (all_entries ps a) k u there (subst (λ z. IsStructPair ps z n.0) (sym is) n.1)) in
           next u b g is (record { number = n.0; begins = n.1; marked = closed_all h.number n.0 h.marked named }) d
 
@@ -364,7 +346,7 @@ module _ (disk : Disk) (ps : List Pair) (ok : IsAccepted disk ps) (marks : List 
   reach_marks = record {
     len = m.len;
     marked = λ n p there r.
-        let x = along r.0 [] (root_slot (root_address ps)) (root_address ps) refl refl (record { number = pair_count_before_root ps; begins = root_begins disk ps ok; marked = m.rooted }) r.1 r.2.0 in
+        let x = along r.0 [] (root_slot (root_address ps)) (root_address ps) refl refl (record { number = count_before_root ps; begins = root_begins disk ps ok; marked = m.rooted }) r.1 r.2.0 in
         subst (IsMarkedReached marks) (begins_same ps r.1 x.number n ok.thread.distinct x.begins (record { pair = p; there = there; same = r.2.1 })) x.marked;
     reached = λ n p there h.
         let s = m.sound n h in

@@ -1,32 +1,20 @@
 -- The contents of a file, as they were found.
 use Rattle.std.proofs.Common.{ℕ, ◌≡◌, ◌≤◌, List, Option, Some, None, length, refl, subst, sym}
-use Rattle.std.specs.Option.{option_map}
-use Rattle.std.proofs.lemmas.List.Elements.{recursion_from_All}
-use Rattle.std.proofs.lemmas.Option.{same_Some}
-use Rattle.lfs_model.specs.format.Disk.{Disk}
+use Rattle.lfs_tree.proofs.Common.{option_map, recursion_from_All, same_Some, Disk, HasBlockSizes, slot_of, Attributes, Slot, all_unmoved_slots, all_entries, struct_list_bytes, disk_tree, Pair, Path, struct_node, file_bytes, IsAccepted, IsFormedList, IsStorageAt, contents_struct}
 use Rattle.lfs_model.proofs.ListSizes.{length-list_bytes}
-use Rattle.lfs_model.specs.format.Blocks.{HasBlockSizes}
-use Rattle.lfs_model.specs.session.SlotEdits.{slot_of}
-use Rattle.lfs_model.specs.format.Slots.{Attributes, Slot}
-use Rattle.lfs_model.specs.tree.Shown.{all_slots_not_moved, all_entries, struct_list_bytes, tree_on_disk}
-use Rattle.lfs_model.specs.format.Thread.{Pair}
-use Rattle.lfs_model.specs.tree.Tree.{Path, struct_node}
-use Rattle.lfs_model.specs.session.TreeEdits.{file_bytes}
-use Rattle.lfs_model.specs.tree.View.{IsAccepted, IsWellFormedCtz}
-use Rattle.lfs_lookup.specs.FileContents.{IsStorageAt, contents_struct}
 use Rattle.lfs_lookup.specs.declared.file_contents.FileContents.{FileContents}
 use Rattle.lfs_lookup.specs.declared.file_contents.FileContents.TheVariants as contents
 use Rattle.lfs_tree.proofs.SlotsHave.{slot_has}
 
 -- its list is well formed
-pub list_read : (disk : Disk) (ps : List Pair) (path : Path) (contents : FileContents) → IsAccepted disk ps → IsStorageAt ps path contents → IsWellFormedCtz disk (contents_struct contents)
+pub list_read : (disk : Disk) (ps : List Pair) (path : Path) (contents : FileContents) → IsAccepted disk ps → IsStorageAt ps path contents → IsFormedList disk (contents_struct contents)
 list_read disk ps path contents ok h = go (slot_of ps path) refl h.struct
   where
-    go : (o : Option Slot) → slot_of ps path ≡ o → option_map (λ (u : Slot). u.struct) o ≡ Some (contents_struct contents) → IsWellFormedCtz disk (contents_struct contents)
+    go : (o : Option Slot) → slot_of ps path ≡ o → option_map (λ (u : Slot). u.struct) o ≡ Some (contents_struct contents) → IsFormedList disk (contents_struct contents)
     go None at e = absurd (cc)
     go (Some u) at e =
-        subst (IsWellFormedCtz disk) (same_Some u.struct (contents_struct contents) e)
-        (slot_has (λ (s : Slot). IsWellFormedCtz disk s.struct) disk ps ok (recursion_from_All (λ (s : Slot). IsWellFormedCtz disk s.struct) (all_slots_not_moved ps) ok.lists) tt path u at)
+        subst (IsFormedList disk) (same_Some u.struct (contents_struct contents) e)
+        (slot_has (λ (s : Slot). IsFormedList disk s.struct) disk ps ok (recursion_from_All (λ (s : Slot). IsFormedList disk s.struct) (all_unmoved_slots ps) ok.lists) tt path u at)
 
 -- how many bytes these contents have
 abbrev pub size_of_file_contents : FileContents → ℕ
@@ -35,10 +23,10 @@ size_of_file_contents (contents.List head size) = size
 
 -- the file there has as many
 pub contents_sized : (disk : Disk) (ps : List Pair) (path : Path) (c : FileContents) (count : ℕ) → IsAccepted disk ps → (1024 ≤ disk.block_size) × HasBlockSizes disk.block_size count disk.blocks → IsStorageAt ps path c
-    → size_of_file_contents c ≡ length (file_bytes (tree_on_disk disk ps path))
+    → size_of_file_contents c ≡ length (file_bytes (disk_tree disk ps path))
 contents_sized disk ps path c count ok shape h = go (slot_of ps path) h.struct
   where
-    kind : (attributes : Attributes) (d : FileContents) → IsWellFormedCtz disk (contents_struct d) → size_of_file_contents d ≡ length (file_bytes (Some (struct_node (struct_list_bytes disk) (all_entries ps) attributes (contents_struct d))))
+    kind : (attributes : Attributes) (d : FileContents) → IsFormedList disk (contents_struct d) → size_of_file_contents d ≡ length (file_bytes (Some (struct_node (struct_list_bytes disk) (all_entries ps) attributes (contents_struct d))))
     kind attributes (contents.Inline bytes) list = refl
     kind attributes (contents.List head size) list = sym (length-list_bytes disk.blocks disk.block_size count head size shape.0 shape.1 list)
 

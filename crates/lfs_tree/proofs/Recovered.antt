@@ -1,50 +1,17 @@
 -- A recovery over a thread, step by step.
 use Rattle.std.proofs.Common.{ℕ, zero, suc, ◌≡◌, ◌≢◌, ◌+◌, ◌≤◌, ◌<◌, ◌⊎◌, ◌∙◌, ◌==◌, inl, inr, Bool, true, false, not, eqb-true, List, [], ◌∷◌, ◌++◌, length, take, get_or, Option, None, Result, Err, refl, sym, ap, ap₂, subst, subst₂, arith, append_assoc, flat_map, length-append}
 use Rattle.std.specs.Prelude.{All, IfErr}
-use Rattle.std.proofs.lemmas.List.Elements.{All-from_recursion}
-use Rattle.std.proofs.lemmas.Option.{same_Some}
+use Rattle.lfs_tree.proofs.Common.{All-from_recursion, same_Some, ChangesOnlyMap, ThreadReportsFaults, AreUsed, IsInFlight, IsUsedBlock, InFlight, Used, Disk, AllCalls, AllCallsSince, CallEvent, OnlyReadsSince, fault_count, struct_at, continued_address, HasEither, SurvivesLossSince, with_blocks, OpenFilesByNumber, Session, Gstate, zero_gstate, is_zero, Pair, pairs_blocks, pairs_from_root, pairs_gstate, count_before_root, Tree, IsAccepted, IsReachedBySome, all_unmoved_slots, struct_blocks, disk_tree, used_blocks, IsWritable, survives_then, arranged_after, arranged_settled, recovered_stays, Contains-number_occurrences, CompletesOperation, no_move_from, recovered_from, number_occurrences, count_append, chain_of_thread, HasNoMove, HoldsAtLosses-read_count, HoldsAtLosses-weaker, LeftByLoss-read, is_unprogrammed_byte-read_count, SameInFlight, IsReadyImage, AreUnreachedNumbers, AreUnreachedFrom, CanDropPairs, HasDroppedRecovered, HasEndedMove, KeptThread, ThreadView, ThreadReportsErrors, OnlyReadsThread, ChangesThreadBlocks, AppliesOperation, HasFurtherCalls, SurvivesEither, HasThreadCause, SoundUnlessFailed, IsSoundWithRoot, kept_state, thread_state, HasDroppedUnreached, IsApplied, IsSoundState, KeepsInFlight, TreeState, kept_thread, shown_tree}
 use Rattle.lfs_device.specs.declared.error.Error.{Error}
 use Rattle.lfs_device.specs.declared.error.Error.TheVariants.{Io, NoMemory}
-use Rattle.lfs_tree.specs.SettledFiles.{ChangesOnlyMap}
-use Rattle.lfs_tree.specs.ThreadContents.{ReportsFaultOrNoMemory}
-use Rattle.lfs_model.specs.layers.BlockSets.{AreUsed, IsInFlight, IsUsedBlock}
-use Rattle.lfs_model.specs.layers.BlockSets.BlockState.{InFlight, Used}
-use Rattle.lfs_model.specs.format.Disk.{Disk}
-use Rattle.lfs_model.specs.session.History.{AllCalls, AllCallsSince, CallEvent, OnlyReadsSince, fault_count}
-use Rattle.lfs_model.specs.layers.Keeping.{struct_at}
-use Rattle.lfs_model.specs.session.Layout.{continued_address}
 use Rattle.lfs_model.specs.session.Operations as ops
-use Rattle.lfs_model.specs.crash.PowerLoss.{HasEither, SurvivesLossSince, with_blocks}
-use Rattle.lfs_model.specs.session.Session.{OpenFilesByNumber, Session}
-use Rattle.lfs_model.specs.format.Slots.{Gstate, zero_gstate}
-use Rattle.lfs_model.specs.layers.WrittenContent.{is_zero}
 use Rattle.std.proofs.lemmas.Bool.{and_parts}
-use Rattle.lfs_model.specs.format.Thread.{Pair, blocks_of_pairs, pairs_from_root, pairs_gstate, pair_count_before_root}
-use Rattle.lfs_model.specs.tree.Tree.{Tree}
-use Rattle.lfs_model.specs.tree.View.{IsAccepted}
-use Rattle.lfs_model.specs.tree.Shown.{IsReachedBySome, all_slots_not_moved, struct_blocks, tree_on_disk, used_blocks}
-use Rattle.lfs_model.specs.tree.Profile.{IsWritable}
-use Rattle.lfs_model.proofs.AfterStops.{survives_then}
-use Rattle.lfs_model.proofs.Arranged.{arranged_after, arranged_settled, recovered_stays}
-use Rattle.lfs_model.proofs.BlockSets.{Contains-number_count}
-use Rattle.lfs_model.proofs.Committed.{IsCompletion, no_move_from, recovered_from}
-use Rattle.lfs_model.proofs.Counts.{number_count, count_append}
-use Rattle.lfs_model.proofs.Found.{chain_of_thread}
 use Rattle.lfs_model.proofs.KeptStructs.{struct_stays}
 use Rattle.lfs_model.proofs.LeftFiles.{same_leaves}
-use Rattle.lfs_model.proofs.Global.{HasNoMove}
-use Rattle.lfs_model.proofs.Histories.{HoldsAtLosses-read_count, HoldsAtLosses-weaker, LeftByLoss-read, is_unprogrammed_byte-read_count}
-use Rattle.lfs_operations.specs.Dropping.{SameInFlight}
-use Rattle.lfs_operations.specs.Ready.{IsReadyImage}
-use Rattle.lfs_operations.specs.Recovering.{AreUnreachedNumbers, AreUnreachedFrom, CanDropPairs, HasDroppedRecovered, ReportsErrorsOfRecovery}
-use Rattle.lfs_operations.specs.EndingMove.{CanEndMove, HasEndedMove}
+use Rattle.lfs_operations.specs.Recovering.{ReportsRecovery}
+use Rattle.lfs_operations.specs.EndingMove.{CanEndMove}
 use Rattle.lfs_operations.proofs.RecoverMap.{count_used}
-use Rattle.lfs_thread.specs.Kept.{KeptThread, ThreadView}
-use Rattle.lfs_thread.specs.ThreadSteps.{IoMeantFaultNoMemoryWroteNothing, OnlyReadsThread, ChangesThreadBlocks}
-use Rattle.lfs_tree.specs.TreeChanges.{AppliesOperation, HasFurtherCalls, SurvivesEither, HasThreadCause}
-use Rattle.lfs_tree.specs.RootedThreads.{SoundUnlessFailed, IsSoundWithRoot, kept_state, thread_state}
-use Rattle.lfs_tree.specs.Recoveries.{CanDropUnreached, HasDroppedUnreached}
-use Rattle.lfs_tree.specs.TreeState.{IsApplied, IsSoundState, KeepsInFlight, TreeState, kept_thread, tree_view}
+use Rattle.lfs_tree.specs.Recoveries.{CanDropUnreached}
 use Rattle.lfs_tree.proofs.Carried.{all_pairs, keeps_writing, lists_from, read_is, with_history}
 use Rattle.lfs_tree.proofs.CarryFreed.{none_there, writes_then}
 use Rattle.lfs_tree.proofs.SameErrors.{same_error}
@@ -64,26 +31,26 @@ numbers_from R n from (x ∷ xs) numbers (inr h) j low =
 
 pub numbers_below : (ps : List Pair) (numbers : List ℕ) → AreUnreachedNumbers ps numbers → (j : ℕ) → j < length numbers → get_or numbers j 0 < length ps
 numbers_below ps numbers h j low =
-    let k = numbers_from (IsReachedBySome ps) (pair_count_before_root ps) None (pairs_from_root ps) numbers h j low in
+    let k = numbers_from (IsReachedBySome ps) (count_before_root ps) None (pairs_from_root ps) numbers h j low in
     let c = chain_of_thread ps in
-    let a = ap pair_count_before_root c.0 ∙ c.1 in
-    let b = ap length c.0 ∙ length-append (take (pair_count_before_root ps) ps) (pairs_from_root ps) in
+    let a = ap count_before_root c.0 ∙ c.1 in
+    let b = ap length c.0 ∙ length-append (take (count_before_root ps) ps) (pairs_from_root ps) in
     omega arith
 
 -- ---- blocks in flight
 
-apart_pairs : (t : KeptThread) → AreUsed t.map (used_blocks t.disk t.pairs) → (b : ℕ) → IsInFlight t.map b → All (λ c. c ≢ b) (blocks_of_pairs t.pairs)
-apart_pairs t used b flies = All-from_recursion (λ c. c ≢ b) (blocks_of_pairs t.pairs) (none_there b (blocks_of_pairs t.pairs) (let none = go (number_count b (blocks_of_pairs t.pairs)) refl in omega arith))
+apart_pairs : (t : KeptThread) → AreUsed t.map (used_blocks t.disk t.pairs) → (b : ℕ) → IsInFlight t.map b → All (λ c. c ≢ b) (pairs_blocks t.pairs)
+apart_pairs t used b flies = All-from_recursion (λ c. c ≢ b) (pairs_blocks t.pairs) (none_there b (pairs_blocks t.pairs) (let none = go (number_occurrences b (pairs_blocks t.pairs)) refl in omega arith))
   where
-    go : (n : ℕ) → number_count b (blocks_of_pairs t.pairs) ≡ n → n ≡ 0
+    go : (n : ℕ) → number_occurrences b (pairs_blocks t.pairs) ≡ n → n ≡ 0
     go zero e = refl
     go (suc n) e =
-        let k = count_append b (blocks_of_pairs t.pairs) (flat_map (λ s. struct_blocks t.disk s.struct) (all_slots_not_moved t.pairs)) in
-        let here : IsUsedBlock t.map b = (used b).1 (Contains-number_count (used_blocks t.disk t.pairs) b (omega arith)) in
+        let k = count_append b (pairs_blocks t.pairs) (flat_map (λ s. struct_blocks t.disk s.struct) (all_unmoved_slots t.pairs)) in
+        let here : IsUsedBlock t.map b = (used b).1 (Contains-number_occurrences (used_blocks t.disk t.pairs) b (omega arith)) in
         let wrong : InFlight ≡ Used = same_Some InFlight Used (sym flies ∙ here) in
         absurd (cc)
 
-leaves_same : (a c : KeptThread) → AreUsed a.map (used_blocks a.disk a.pairs) → SameInFlight a.map c.map → ChangesThreadBlocks (blocks_of_pairs a.pairs) a c → KeepsInFlight (kept_state a true false) (kept_state c true false)
+leaves_same : (a c : KeptThread) → AreUsed a.map (used_blocks a.disk a.pairs) → SameInFlight a.map c.map → ChangesThreadBlocks (pairs_blocks a.pairs) a c → KeepsInFlight (kept_state a true false) (kept_state c true false)
 leaves_same a c used same w = record {
   stay = λ b flies. (same b).1 flies;
   none_comes = λ b flies. (same b).0 flies;
@@ -121,22 +88,22 @@ can_drop t m numbers can large r reported = subst (λ z. CanDropPairs z numbers)
 })
 
 -- the lists are freed behind the drop
-pub freed : (old mid new : KeptThread) (numbers : List ℕ) → IsAccepted old.disk old.pairs → AreUsed old.map (used_blocks old.disk old.pairs) → HasNoMove (pairs_gstate old.pairs) → HasDroppedRecovered old numbers mid → ChangesThreadBlocks (blocks_of_pairs old.pairs) old mid → ChangesOnlyMap mid new → IsReadyImage new → SameInFlight mid.map new.map
+pub freed : (old mid new : KeptThread) (numbers : List ℕ) → IsAccepted old.disk old.pairs → AreUsed old.map (used_blocks old.disk old.pairs) → HasNoMove (pairs_gstate old.pairs) → HasDroppedRecovered old numbers mid → ChangesThreadBlocks (pairs_blocks old.pairs) old mid → ChangesOnlyMap mid new → IsReadyImage new → SameInFlight mid.map new.map
     → HasDroppedUnreached old new
 freed old mid new numbers accepted used none r w only ready flying = record {
   ready = ready;
-  root = ap pair_count_before_root only.pairs ∙ r.root;
-  shows = ap₂ (λ (disk : Disk) (ps : List Pair). tree_on_disk disk ps) only.disk only.pairs ∙ r.shows;
-  completed = λ s tree. subst₂ (λ (disk : Disk) (ps : List Pair). IsCompletion old.disk old.pairs s ops.Recover disk ps) (sym only.disk) (sym only.pairs) (r.completed s tree);
+  root = ap count_before_root only.pairs ∙ r.root;
+  shows = ap₂ (λ (disk : Disk) (ps : List Pair). disk_tree disk ps) only.disk only.pairs ∙ r.shows;
+  completed = λ s tree. subst₂ (λ (disk : Disk) (ps : List Pair). CompletesOperation old.disk old.pairs s ops.Recover disk ps) (sym only.disk) (sym only.pairs) (r.completed s tree);
   fewer = λ b.
-      let e = ap₂ (λ (disk : Disk) (ps : List Pair). number_count b (used_blocks disk ps)) only.disk only.pairs in
+      let e = ap₂ (λ (disk : Disk) (ps : List Pair). number_occurrences b (used_blocks disk ps)) only.disk only.pairs in
       let u = count_used b mid.disk mid.pairs (no_move_from mid.pairs r.ready.settled) in
       let v = count_used b old.disk old.pairs none in
       let k = r.fewer b in let l = r.lost b in
       omega arith;
-  keeps = λ path file. keeps_writing old new (blocks_of_pairs old.pairs) accepted used (all_pairs old) (writes_then old mid new (blocks_of_pairs old.pairs) w only) path file
-      (ap (λ (ps : List Pair). struct_at ps path) only.pairs ∙ (r.completed (record { tree = tree_on_disk old.disk old.pairs; files = [] }) refl).structs path file refl refl);
-  flight = leaves_same old new used (λ b. ((λ flies. (r.flying b).0 ((flying b).0 flies)), (λ flies. (flying b).1 ((r.flying b).1 flies)))) (writes_then old mid new (blocks_of_pairs old.pairs) w only);
+  keeps = λ path file. keeps_writing old new (pairs_blocks old.pairs) accepted used (all_pairs old) (writes_then old mid new (pairs_blocks old.pairs) w only) path file
+      (ap (λ (ps : List Pair). struct_at ps path) only.pairs ∙ (r.completed (record { tree = disk_tree old.disk old.pairs; files = [] }) refl).structs path file refl refl);
+  flight = leaves_same old new used (λ b. ((λ flies. (r.flying b).0 ((flying b).0 flies)), (λ flies. (flying b).1 ((r.flying b).1 flies)))) (writes_then old mid new (pairs_blocks old.pairs) w only);
 }
 
 dropped_behind : (t : KeptThread) (h : List CallEvent) (d : KeptThread) → OnlyReadsSince t.disk.blocks t.history h → HasDroppedUnreached (with_history t h) d → HasDroppedUnreached t d
@@ -162,24 +129,24 @@ all_some (e ∷ older) = (tt, all_some older)
 pub some_since : (events old new : List CallEvent) → new ≡ events ++ old → AllCallsSince (λ e. Unit {0}) old new
 some_since events old new e = record { events = events; extends = e; each = all_some events }
 
-pub reading_survives : (t : KeptThread) (h : List CallEvent) → IsAccepted t.disk t.pairs → IsWritable t.disk t.pairs → OnlyReadsSince t.disk.blocks t.history h → SurvivesLossSince t.disk t.history h (tree_on_disk t.disk t.pairs) (tree_on_disk t.disk t.pairs)
+pub reading_survives : (t : KeptThread) (h : List CallEvent) → IsAccepted t.disk t.pairs → IsWritable t.disk t.pairs → OnlyReadsSince t.disk.blocks t.history h → SurvivesLossSince t.disk t.history h (disk_tree t.disk t.pairs) (disk_tree t.disk t.pairs)
 reading_survives t h ok fits reads clean = HoldsAtLosses-read_count LeftByLoss-read reads (record { pairs = t.pairs; accepted = ok; writable = fits; tree = inl refl })
 
-pub read_survives : (t m : KeptThread) → CanDropUnreached t → OnlyReadsThread t m → SurvivesEither t m (tree_on_disk t.disk t.pairs)
+pub read_survives : (t m : KeptThread) → CanDropUnreached t → OnlyReadsThread t m → SurvivesEither t m (disk_tree t.disk t.pairs)
 read_survives t m can r = reading_survives t m.history can.accepted can.writable r.reads
 
-pub drop_survives : (t m d : KeptThread) → CanDropUnreached t → OnlyReadsThread t m → ChangesThreadBlocks (blocks_of_pairs m.pairs) m d → SurvivesLossSince m.disk m.history d.history (tree_on_disk m.disk m.pairs) (tree_on_disk m.disk m.pairs) → SurvivesEither t d (tree_on_disk t.disk t.pairs)
+pub drop_survives : (t m d : KeptThread) → CanDropUnreached t → OnlyReadsThread t m → ChangesThreadBlocks (pairs_blocks m.pairs) m d → SurvivesLossSince m.disk m.history d.history (disk_tree m.disk m.pairs) (disk_tree m.disk m.pairs) → SurvivesEither t d (disk_tree t.disk t.pairs)
 drop_survives t m d can r w k =
-    survives_then t.disk t.history m.history d.history (tree_on_disk t.disk t.pairs) (tree_on_disk t.disk t.pairs) r.reads w.at_worst (read_survives t m can r)
-    (subst₂ (λ (disk : Disk) (ps : List Pair). SurvivesLossSince disk m.history d.history (tree_on_disk disk ps) (tree_on_disk disk ps)) r.disk r.pairs k)
+    survives_then t.disk t.history m.history d.history (disk_tree t.disk t.pairs) (disk_tree t.disk t.pairs) r.reads w.at_worst (read_survives t m can r)
+    (subst₂ (λ (disk : Disk) (ps : List Pair). SurvivesLossSince disk m.history d.history (disk_tree disk ps) (disk_tree disk ps)) r.disk r.pairs k)
 
 -- behind the end of a set move
-pub end_survives : (a b : KeptThread) (h : List CallEvent) → ChangesThreadBlocks (blocks_of_pairs a.pairs) a b → tree_on_disk b.disk b.pairs ≡ tree_on_disk a.disk a.pairs → (calls : List CallEvent) → h ≡ calls ++ b.history
-    → SurvivesLossSince a.disk a.history b.history (tree_on_disk a.disk a.pairs) (tree_on_disk a.disk a.pairs) → SurvivesLossSince b.disk b.history h (tree_on_disk b.disk b.pairs) (tree_on_disk b.disk b.pairs)
-    → SurvivesLossSince a.disk a.history h (tree_on_disk a.disk a.pairs) (tree_on_disk a.disk a.pairs)
+pub end_survives : (a b : KeptThread) (h : List CallEvent) → ChangesThreadBlocks (pairs_blocks a.pairs) a b → disk_tree b.disk b.pairs ≡ disk_tree a.disk a.pairs → (calls : List CallEvent) → h ≡ calls ++ b.history
+    → SurvivesLossSince a.disk a.history b.history (disk_tree a.disk a.pairs) (disk_tree a.disk a.pairs) → SurvivesLossSince b.disk b.history h (disk_tree b.disk b.pairs) (disk_tree b.disk b.pairs)
+    → SurvivesLossSince a.disk a.history h (disk_tree a.disk a.pairs) (disk_tree a.disk a.pairs)
 end_survives a b h w shows calls called first second =
-    survives_then a.disk a.history b.history h (tree_on_disk a.disk a.pairs) (tree_on_disk a.disk a.pairs) w.at_worst (some_since calls b.history h called) first
-    (λ clean. HoldsAtLosses-weaker (λ left x. subst (λ z. HasEither z (tree_on_disk a.disk a.pairs) (tree_on_disk a.disk a.pairs))
+    survives_then a.disk a.history b.history h (disk_tree a.disk a.pairs) (disk_tree a.disk a.pairs) w.at_worst (some_since calls b.history h called) first
+    (λ clean. HoldsAtLosses-weaker (λ left x. subst (λ z. HasEither z (disk_tree a.disk a.pairs) (disk_tree a.disk a.pairs))
     (λ j. record { block_size = w.shape.block_size j; page = w.shape.page j; order = w.shape.order j; profile = w.shape.profile j; blocks = left })
     (subst (λ z. HasEither (with_blocks left b.disk) z z) shows x)) (second clean))
 
@@ -213,13 +180,13 @@ can_end t root r = record { accepted = r.sound.accepted; writable = r.sound.fits
 pub can_drop_then : (a b : KeptThread) → HasEndedMove a b → CanDropUnreached b
 can_drop_then a b e = record { accepted = e.taken.follows.accepted; writable = e.taken.writable; used = e.used; size = e.size; none = e.none }
 
-pub recovered_whole : (t : ThreadView) (root : ℕ) (b c : KeptThread) → IsSoundWithRoot t root true → (pairs_gstate t.kept.pairs ≡ zero_gstate → ⊥) → HasEndedMove t.kept b → ChangesThreadBlocks (blocks_of_pairs t.kept.pairs) t.kept b → HasDroppedUnreached b c → HasFurtherCalls b c
+pub recovered_whole : (t : ThreadView) (root : ℕ) (b c : KeptThread) → IsSoundWithRoot t root true → (pairs_gstate t.kept.pairs ≡ zero_gstate → ⊥) → HasEndedMove t.kept b → ChangesThreadBlocks (pairs_blocks t.kept.pairs) t.kept b → HasDroppedUnreached b c → HasFurtherCalls b c
     → fault_count c.history ≡ fault_count t.kept.history → AppliesOperation t.kept ops.Recover c
 recovered_whole t root b c rooted left e w d called quiet =
     let a = t.kept in
-    let all = called_then a b c (called_writing a b (blocks_of_pairs a.pairs) w) called in
-    let completed : (files : OpenFilesByNumber) → IsCompletion b.disk b.pairs (record { tree = tree_on_disk a.disk a.pairs; files = files }) ops.Recover c.disk c.pairs
-    = λ files. d.completed (record { tree = tree_on_disk a.disk a.pairs; files = files }) (sym e.taken.follows.shows) in
+    let all = called_then a b c (called_writing a b (pairs_blocks a.pairs) w) called in
+    let completed : (files : OpenFilesByNumber) → CompletesOperation b.disk b.pairs (record { tree = disk_tree a.disk a.pairs; files = files }) ops.Recover c.disk c.pairs
+    = λ files. d.completed (record { tree = disk_tree a.disk a.pairs; files = files }) (sym e.taken.follows.shows) in
     record {
       works = refl;
       sound = record { accepted = d.ready.accepted; fits = λ z. d.ready.writable; is_kept = λ z. refl; used = d.ready.used; size = d.ready.size };
@@ -232,14 +199,14 @@ recovered_whole t root b c rooted left e w d called quiet =
       recovered = (completed []).recovered;
       shows = λ around files. (completed files).tree around;
       arranged = λ files.
-          let s : Session = record { tree = tree_on_disk a.disk a.pairs; files = files } in
+          let s : Session = record { tree = disk_tree a.disk a.pairs; files = files } in
           let k = completed files in
           arranged_after a.disk c.disk c.disk a.pairs c.pairs c.pairs s ops.Recover all.geometry k.accepted k.recovered (e.leads_on s c.disk c.pairs k.laid_out) (recovered_stays c.disk c.pairs s k.accepted d.ready.writable d.ready.settled);
       itself = λ z. absurd (cc);
       nothing_left = λ z done. absurd (left done.gstate);
       flight = leaves_then (kept_state a true false) (kept_state b true false) (kept_state c true false) (leaves_same a b rooted.sound.used e.flying w) d.flight;
       keeps = λ path file away.
-          let first = keeps_writing a b (blocks_of_pairs a.pairs) rooted.sound.accepted rooted.sound.used (all_pairs a) w path file (struct_stays a.disk a.pairs b.pairs path file (e.taken.follows.stays path (same_leaves path))) in
+          let first = keeps_writing a b (pairs_blocks a.pairs) rooted.sound.accepted rooted.sound.used (all_pairs a) w path file (struct_stays a.disk a.pairs b.pairs path file (e.taken.follows.stays path (same_leaves path))) in
           let k = keeps_then a b c path first (d.keeps path first.file) in
           record { file = k.file; struct = k.struct; list = k.list; bytes = k.bytes };
       lists = λ none. absurd (left none);
@@ -247,21 +214,21 @@ recovered_whole t root b c rooted left e w d called quiet =
 
 -- ---- what it tells
 
-pub reports_reading : {X : Type 0} (t m : KeptThread) (r : Result X Error) (e : Error) → r ≡ Err e → IoMeantFaultNoMemoryWroteNothing t m r → HasThreadCause t m e
+pub reports_reading : {X : Type 0} (t m : KeptThread) (r : Result X Error) (e : Error) → r ≡ Err e → ThreadReportsErrors t m r → HasThreadCause t m e
 reports_reading {X} t m r e is reported = record {
   errors = subst (λ (z : Result X Error). IfErr z (λ f. (f ≡ Io) ⊎ (f ≡ NoMemory))) is reported.errors;
   fault = λ io. reported.fault (is ∙ ap Err io);
   no_fault = λ other. reported.no_fault (λ io. other (same_error e Io (sym is ∙ io)));
 }
 
-pub reports_steps : {X : Type 0} (m d : ThreadView) (r : Result X Error) (e : Error) → r ≡ Err e → ReportsErrorsOfRecovery m d r → HasThreadCause m.kept d.kept e
+pub reports_steps : {X : Type 0} (m d : ThreadView) (r : Result X Error) (e : Error) → r ≡ Err e → ReportsRecovery m d r → HasThreadCause m.kept d.kept e
 reports_steps {X} m d r e is reported = record {
   errors = subst (λ (z : Result X Error). IfErr z (λ f. (f ≡ Io) ⊎ (f ≡ NoMemory))) is reported.errors;
   fault = λ io. reported.fault (is ∙ ap Err io);
   no_fault = λ other. reported.no_fault (λ io. other (same_error e Io (sym is ∙ io)));
 }
 
-pub reports_work : {X : Type 0} (m d : KeptThread) (r : Result X Error) (e : Error) → r ≡ Err e → ReportsFaultOrNoMemory m d r → HasThreadCause m d e
+pub reports_work : {X : Type 0} (m d : KeptThread) (r : Result X Error) (e : Error) → r ≡ Err e → ThreadReportsFaults m d r → HasThreadCause m d e
 reports_work {X} m d r e is reported = record {
   errors = subst (λ (z : Result X Error). IfErr z (λ f. (f ≡ Io) ⊎ (f ≡ NoMemory))) is reported.errors;
   fault = λ io. reported.fault (is ∙ ap Err io);
@@ -290,7 +257,7 @@ recovered_already t works writable sound settled = record {
   recovered = recovered_from t.disk t.pairs sound.accepted settled;
   shows = λ around files. refl;
   arranged = λ files.
-      let s : Session = record { tree = tree_view t; files = files } in
+      let s : Session = record { tree = shown_tree t; files = files } in
       arranged_settled t.disk t.pairs s ops.Recover t.disk t.pairs sound.accepted (sound.fits writable) settled (recovered_stays t.disk t.pairs s sound.accepted (sound.fits writable) settled);
   itself = λ e. absurd (cc);
   nothing_left = λ e done. (refl, (refl, refl));
@@ -299,7 +266,7 @@ recovered_already t works writable sound settled = record {
   lists = λ none. lists_from t.disk t.disk t.pairs (λ b some. refl);
 }
 
-pub none_survives : (t : TreeState) (after : Tree) → SurvivesLossSince t.disk t.history t.history (tree_view t) after
+pub none_survives : (t : TreeState) (after : Tree) → SurvivesLossSince t.disk t.history t.history (shown_tree t) after
 none_survives t after clean = record { events = []; extends = refl; each = tt }
 
 -- a state in which nothing is set

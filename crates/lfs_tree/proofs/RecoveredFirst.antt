@@ -1,59 +1,33 @@
 -- An operation behind a recovery is one on the image from before it.
 use Rattle.std.proofs.Common.{ℕ, suc, ◌≡◌, ◌+◌, ◌≤◌, ◌⊎◌, ◌∙◌, ◌&&◌, inl, inr, true, false, not, cond, List, [], ◌∷◌, length, Option, Some, None, refl, sym, ap, ap₂, subst, arith}
-use Rattle.std.proofs.lemmas.List.Sums.{sum_by-cons}
-use Rattle.std.proofs.lemmas.Option.{same_Some}
+use Rattle.lfs_tree.proofs.Common.{sum_by-cons, same_Some, node_attributes_of, is_file, last_name, directory_names, same_path, Blocks, attributes_with, Name, BlockStates, BlockState, IsInFlight, in_flight_count, state_in_flight, Free, InFlight, Used, SameGeometry, charge_limit, name_max_of, IsDirectoryGone, IsLayoutRecovered, Operation, HasEither, with_blocks, is_recover, renames_itself, Session, has_long_name, Attributes, entry_charge, zero_gstate, Pair, pairs_gstate, count_before_root, Path, Tree, disk_tree, used_blocks, survives_then, Contains-number_occurrences, number_occurrences-Contains, used_count-AreUsed, number_occurrences, HoldsAtLosses-weaker, HasEndedMove, KeepsRootNumber, KeptThread, ThreadView, CanAddEntry, CanRemoveEntry, CanRemoveAttr, CanRenamePath, CanSetAttr, HasNeededBlocks, AppliesOperation, HasFurtherCalls, SparesOutsideOperation, HasSoundImage, SurvivesEither, HasThreadCause, IsSoundWithRoot, kept_state, KeepsListBytes, HasDroppedUnreached, HasRecovered, IsSoundState, tree_summary, kept_thread}
 use Rattle.std.specs.Prelude.{is_none, is_some, nat_lt}
 use Rattle.lfs_device.specs.declared.error.Error.{Error}
-use Rattle.lfs_model.specs.session.TreeEdits.{node_attributes_of, is_directory, is_file, last_name, directory_names, same_path}
-use Rattle.lfs_model.specs.format.Blocks.{Blocks}
-use Rattle.lfs_model.specs.format.Content.{attribute_bytes, attributes_with}
-use Rattle.lfs_model.specs.format.Names.{Name}
+use Rattle.lfs_model.specs.session.TreeEdits.{is_directory}
+use Rattle.lfs_model.specs.format.Content.{attribute_bytes}
 use Rattle.lfs_model.specs.session.Effects.{operation_effect}
 use Rattle.lfs_tree.proofs.RecoveredTwice.{recovers_through}
-use Rattle.lfs_model.specs.layers.BlockSets.{BlockStates, BlockState, IsInFlight, in_flight_count, state_in_flight}
-use Rattle.lfs_model.specs.layers.BlockSets.BlockState.{Free, InFlight, Used}
 use Rattle.lfs_model.specs.declared.limits.Profile.{Profile}
-use Rattle.lfs_model.specs.format.Disk.{SameGeometry, charge_limit, name_max_of}
-use Rattle.lfs_model.specs.session.Layout.{IsDirectoryGone, IsLayoutRecovered}
 use Rattle.lfs_model.specs.session.Operations as ops
-use Rattle.lfs_model.specs.session.Operations.{Operation}
-use Rattle.lfs_model.specs.crash.PowerLoss.{HasEither, with_blocks}
-use Rattle.lfs_model.specs.session.Run.{is_recover, renames_itself}
-use Rattle.lfs_model.specs.session.Session.{Session, has_long_name, is_over_charge, parents_refusal}
-use Rattle.lfs_model.specs.format.Slots.{Attributes, entry_charge, zero_gstate}
-use Rattle.lfs_model.specs.format.Thread.{Pair, pairs_gstate, pair_count_before_root}
-use Rattle.lfs_model.specs.tree.Tree.{Path, Tree}
-use Rattle.lfs_model.specs.tree.Shown.{tree_on_disk, used_blocks}
-use Rattle.lfs_model.proofs.AfterStops.{survives_then}
+use Rattle.lfs_model.specs.session.Session.{exceeds_charge, parents_refusal}
 use Rattle.lfs_model.proofs.BlockCounts.{few_used}
-use Rattle.lfs_model.proofs.BlockSets.{Contains-number_count, number_count-Contains, used_count-AreUsed}
-use Rattle.lfs_model.proofs.Counts.{number_count}
-use Rattle.lfs_model.proofs.Histories.{HoldsAtLosses-weaker}
-use Rattle.lfs_operations.specs.EndingMove.{HasEndedMove, RecoveriesAreAllowed}
+use Rattle.lfs_operations.specs.EndingMove.{KeepsRecoveryLayouts}
 use Rattle.lfs_operations.proofs.RecoverBefore.{AreKin, stand_kin}
-use Rattle.lfs_operations.specs.Ready.{KeepsRootBeginning}
-use Rattle.lfs_thread.specs.Kept.{KeptThread, ThreadView}
-use Rattle.lfs_tree.specs.Permissions.{CanAddEntry, CanRemoveEntry, CanRemoveAttr, CanRenamePath, CanSetAttr, HasNeededBlocks}
-use Rattle.lfs_tree.specs.TreeChanges.{AppliesOperation, HasFurtherCalls, SparesOutsideOperation, HasSoundImage, SurvivesEither, HasThreadCause}
-use Rattle.lfs_tree.specs.RootedThreads.{IsSoundWithRoot, kept_state}
-use Rattle.lfs_tree.specs.KeptFiles.{KeepsListBytes}
-use Rattle.lfs_tree.specs.Recoveries.{HasDroppedUnreached, HasRecovered}
-use Rattle.lfs_tree.specs.TreeState.{IsSoundState, tree_summary, kept_thread}
 use Rattle.lfs_tree.proofs.KeptFiles.{keeps_then}
 use Rattle.lfs_tree.proofs.Recovered.{called_then, leaves_then, recovered_already, some_since}
 
 -- ---- the recovery
 
 -- no more blocks are used
-fewer_used : (c : KeptThread) (used : List ℕ) → IsSoundState (kept_state c true false) → ((b : ℕ) → number_count b (used_blocks c.disk c.pairs) ≤ number_count b used) → length (used_blocks c.disk c.pairs) ≤ length used
+fewer_used : (c : KeptThread) (used : List ℕ) → IsSoundState (kept_state c true false) → ((b : ℕ) → number_occurrences b (used_blocks c.disk c.pairs) ≤ number_occurrences b used) → length (used_blocks c.disk c.pairs) ≤ length used
 fewer_used c used sound fewer =
     let e = used_count-AreUsed c.map (used_blocks c.disk c.pairs) sound.accepted.owned_once sound.used in
-    let f = few_used used c.map (λ b is. Contains-number_count used b (let k = number_count-Contains (used_blocks c.disk c.pairs) b ((sound.used b).0 is) in let l = fewer b in omega arith)) in
+    let f = few_used used c.map (λ b is. Contains-number_occurrences used b (let k = number_occurrences-Contains (used_blocks c.disk c.pairs) b ((sound.used b).0 is) in let l = fewer b in omega arith)) in
     omega arith
 
 pub settled_whole : (a b c : KeptThread) → (pairs_gstate a.pairs ≡ zero_gstate → ⊥) → HasEndedMove a b → HasDroppedUnreached b c → AppliesOperation a ops.Recover c → HasRecovered a c
 settled_whole a b c left e d carries =
-    let now : Session = record { tree = tree_on_disk b.disk b.pairs; files = [] } in
+    let now : Session = record { tree = disk_tree b.disk b.pairs; files = [] } in
     let done = d.completed now refl in
     record {
       carries = carries;
@@ -62,7 +36,7 @@ settled_whole a b c left e d carries =
       same = λ none. absurd (left none);
     }
 
-pub settled_stands : (a c : KeptThread) → HasRecovered a c → KeepsRootBeginning a c → HasSoundImage a (tree_on_disk a.disk a.pairs) c
+pub settled_stands : (a c : KeptThread) → HasRecovered a c → KeepsRootNumber a c → HasSoundImage a (disk_tree a.disk a.pairs) c
 settled_stands a c f root = record { sound = f.carries.sound; fits = f.carries.fits; root = root; shows = f.carries.shows (tree_summary (kept_state a true false)) []; no_fault = f.carries.no_fault }
 
 -- nothing was left
@@ -80,7 +54,7 @@ kin_itself : (ps : List Pair) → AreKin ps ps
 kin_itself [] = tt
 kin_itself (p ∷ ps) = (record { at = refl; slots = refl; hard = refl }, kin_itself ps)
 
-arranged_through : (a b c : KeptThread) (s : Session) (op : Operation) → SameGeometry a.disk b.disk → RecoveriesAreAllowed a b → IsLayoutRecovered b.disk b.pairs s op c.disk c.pairs → IsLayoutRecovered a.disk a.pairs s op c.disk c.pairs
+arranged_through : (a b c : KeptThread) (s : Session) (op : Operation) → SameGeometry a.disk b.disk → KeepsRecoveryLayouts a b → IsLayoutRecovered b.disk b.pairs s op c.disk c.pairs → IsLayoutRecovered a.disk a.pairs s op c.disk c.pairs
 arranged_through a b c s op g leads k = record {
   middle = k.middle;
   between = k.between;
@@ -95,7 +69,7 @@ arranged_through a b c s op g leads k = record {
     back = k.operation.back;
     edits = k.operation.edits;
     stand = stand_kin a.disk b.disk (IsDirectoryGone k.between op) (IsDirectoryGone k.between op) (record { block_size = g.block_size; page = g.page; there = λ x y. y; back = λ x y. y })
-        (pair_count_before_root k.between) None k.operation.drafts k.operation.drafts k.operation.parts (kin_itself k.operation.drafts) k.operation.stand;
+        (count_before_root k.between) None k.operation.drafts k.operation.drafts k.operation.parts (kin_itself k.operation.drafts) k.operation.stand;
     joined = k.operation.joined;
     is = k.operation.is;
   };
@@ -130,11 +104,11 @@ fewer_flying (x ∷ xs) (y ∷ ys) h =
     omega arith
 
 -- the tree from before is one of both
-pub survives_before : (a c : KeptThread) (after : Tree) → SurvivesEither a c (tree_on_disk a.disk a.pairs) → SurvivesEither a c after
+pub survives_before : (a c : KeptThread) (after : Tree) → SurvivesEither a c (disk_tree a.disk a.pairs) → SurvivesEither a c after
 survives_before a c after k clean = HoldsAtLosses-weaker (λ left x. record { pairs = x.pairs; accepted = x.accepted; writable = x.writable; tree = go left x.pairs x.tree }) (k clean)
   where
-    go : (left : Blocks) (ps : List Pair) → (tree_on_disk (with_blocks left a.disk) ps ≡ tree_on_disk a.disk a.pairs) ⊎ (tree_on_disk (with_blocks left a.disk) ps ≡ tree_on_disk a.disk a.pairs)
-        → (tree_on_disk (with_blocks left a.disk) ps ≡ tree_on_disk a.disk a.pairs) ⊎ (tree_on_disk (with_blocks left a.disk) ps ≡ after)
+    go : (left : Blocks) (ps : List Pair) → (disk_tree (with_blocks left a.disk) ps ≡ disk_tree a.disk a.pairs) ⊎ (disk_tree (with_blocks left a.disk) ps ≡ disk_tree a.disk a.pairs)
+        → (disk_tree (with_blocks left a.disk) ps ≡ disk_tree a.disk a.pairs) ⊎ (disk_tree (with_blocks left a.disk) ps ≡ after)
     go left ps (inl e) = inl e
     go left ps (inr e) = inl e
 
@@ -142,7 +116,7 @@ called_by : (a b : KeptThread) (op : Operation) → AppliesOperation a op b → 
 called_by a b op k = record { geometry = k.geometry; calls = k.calls; called = k.called }
 
 module _ (a b : KeptThread) (f : HasRecovered a b) where
-  pub tree_is : tree_on_disk b.disk b.pairs ≡ tree_on_disk a.disk a.pairs
+  pub tree_is : disk_tree b.disk b.pairs ≡ disk_tree a.disk a.pairs
   tree_is = f.carries.shows (tree_summary (kept_state a true false)) []
 
   pub called_after : (c : KeptThread) → HasFurtherCalls b c → HasFurtherCalls a c
@@ -161,8 +135,8 @@ module _ (a b : KeptThread) (f : HasRecovered a b) where
         no_fault = k.no_fault ∙ f.carries.no_fault;
         fits = k.fits;
         recovered = k.recovered;
-        shows = λ around files. subst (λ t. tree_on_disk c.disk c.pairs ≡ (operation_effect around (record { tree = t; files = files }) op).1.tree) tree_is (k.shows around files);
-        arranged = λ files. arranged_through a b c (record { tree = tree_on_disk a.disk a.pairs; files = files }) op f.carries.geometry f.leads_on
+        shows = λ around files. subst (λ t. disk_tree c.disk c.pairs ≡ (operation_effect around (record { tree = t; files = files }) op).1.tree) tree_is (k.shows around files);
+        arranged = λ files. arranged_through a b c (record { tree = disk_tree a.disk a.pairs; files = files }) op f.carries.geometry f.leads_on
             (subst (λ t. IsLayoutRecovered b.disk b.pairs (record { tree = t; files = files }) op c.disk c.pairs) tree_is (k.arranged files));
         itself = λ e. absurd (cc (apart, e));
         nothing_left = λ e. absurd (cc (other, e));
@@ -179,15 +153,15 @@ module _ (a b : KeptThread) (f : HasRecovered a b) where
   left_on : (blocks : Blocks) → with_blocks blocks b.disk ≡ with_blocks blocks a.disk
   left_on blocks = λ j. record { block_size = f.carries.geometry.block_size j; page = f.carries.geometry.page j; order = f.carries.geometry.order j; profile = f.carries.geometry.profile j; blocks = blocks }
 
-  pub survives_after : (c : KeptThread) (change : Tree → Tree) → HasFurtherCalls b c → SurvivesEither a b (tree_on_disk a.disk a.pairs) → SurvivesEither b c (change (tree_on_disk b.disk b.pairs)) → SurvivesEither a c (change (tree_on_disk a.disk a.pairs))
+  pub survives_after : (c : KeptThread) (change : Tree → Tree) → HasFurtherCalls b c → SurvivesEither a b (disk_tree a.disk a.pairs) → SurvivesEither b c (change (disk_tree b.disk b.pairs)) → SurvivesEither a c (change (disk_tree a.disk a.pairs))
   survives_after c change called first second =
-      survives_then a.disk a.history b.history c.history (tree_on_disk a.disk a.pairs) (change (tree_on_disk a.disk a.pairs)) (some_since f.carries.calls a.history b.history f.carries.called) (some_since called.calls b.history c.history called.called)
-      (survives_before a b (change (tree_on_disk a.disk a.pairs)) first)
-      (λ clean. HoldsAtLosses-weaker (λ left x. subst (λ d. HasEither d (tree_on_disk a.disk a.pairs) (change (tree_on_disk a.disk a.pairs))) (left_on left) (subst (λ t. HasEither (with_blocks left b.disk) t (change t)) tree_is x)) (second clean))
+      survives_then a.disk a.history b.history c.history (disk_tree a.disk a.pairs) (change (disk_tree a.disk a.pairs)) (some_since f.carries.calls a.history b.history f.carries.called) (some_since called.calls b.history c.history called.called)
+      (survives_before a b (change (disk_tree a.disk a.pairs)) first)
+      (λ clean. HoldsAtLosses-weaker (λ left x. subst (λ d. HasEither d (disk_tree a.disk a.pairs) (change (disk_tree a.disk a.pairs))) (left_on left) (subst (λ t. HasEither (with_blocks left b.disk) t (change t)) tree_is x)) (second clean))
 
   -- ---- what its checks have shown
 
-  charge_is : (name : Name) (attributes : Attributes) → is_over_charge (tree_summary (kept_state b true false)) name attributes ≡ is_over_charge (tree_summary (kept_state a true false)) name attributes
+  charge_is : (name : Name) (attributes : Attributes) → exceeds_charge (tree_summary (kept_state b true false)) name attributes ≡ exceeds_charge (tree_summary (kept_state a true false)) name attributes
   charge_is name attributes =
       ap₂ (λ (size page : ℕ). nat_lt (charge_limit size page) (entry_charge b.disk.profile size name attributes)) f.carries.geometry.block_size f.carries.geometry.page
       ∙ ap (λ (profile : Profile). nat_lt (charge_limit a.disk.block_size a.disk.page) (entry_charge profile a.disk.block_size name attributes)) f.carries.geometry.profile
@@ -199,7 +173,7 @@ module _ (a b : KeptThread) (f : HasRecovered a b) where
   room_is need room =
       let few = fewer_flying b.map a.map f.carries.flight.none_comes in
       let used = f.room in
-      let number_count = f.carries.geometry.count in
+      let number_occurrences = f.carries.geometry.count in
       omega (arith, room)
 
   pub add_after : (path : Path) (need : ℕ) → CanAddEntry (kept_state a true false) path need → CanAddEntry (kept_state b true false) path need
@@ -231,8 +205,8 @@ module _ (a b : KeptThread) (f : HasRecovered a b) where
     parents = subst (λ t. parents_refusal t [] path ≡ None) (sym tree_is) can.parents;
     something = subst (λ (t : Tree). is_none (t path) ≡ false) (sym tree_is) can.something;
     len = can.len;
-    fits = subst (λ (t : Tree). is_over_charge (tree_summary (kept_state b true false)) (last_name path) (attributes_with kind bytes (node_attributes_of (t path))) ≡ false) (sym tree_is)
-        (charge_is (last_name path) (attributes_with kind bytes (node_attributes_of (tree_on_disk a.disk a.pairs path))) ∙ can.fits);
+    fits = subst (λ (t : Tree). exceeds_charge (tree_summary (kept_state b true false)) (last_name path) (attributes_with kind bytes (node_attributes_of (t path))) ≡ false) (sym tree_is)
+        (charge_is (last_name path) (attributes_with kind bytes (node_attributes_of (disk_tree a.disk a.pairs path))) ∙ can.fits);
     room = room_is 2 can.room;
   }
 
@@ -260,8 +234,8 @@ module _ (a b : KeptThread) (f : HasRecovered a b) where
     directory = subst (λ (t : Tree). (not (same_path from to) && is_directory (t from) && is_file (t to)) ≡ false) (sym tree_is) can.directory;
     file = subst (λ (t : Tree). (not (same_path from to) && is_file (t from) && is_directory (t to)) ≡ false) (sym tree_is) can.file;
     empty = subst (λ (t : Tree). (not (same_path from to) && nat_lt 0 (length (directory_names (t to)))) ≡ false) (sym tree_is) can.empty;
-    fits = subst (λ (t : Tree). (not (same_path from to) && is_over_charge (tree_summary (kept_state b true false)) (last_name to) (node_attributes_of (t from))) ≡ false) (sym tree_is)
-        (ap (λ x. not (same_path from to) && x) (charge_is (last_name to) (node_attributes_of (tree_on_disk a.disk a.pairs from))) ∙ can.fits);
+    fits = subst (λ (t : Tree). (not (same_path from to) && exceeds_charge (tree_summary (kept_state b true false)) (last_name to) (node_attributes_of (t from))) ≡ false) (sym tree_is)
+        (ap (λ x. not (same_path from to) && x) (charge_is (last_name to) (node_attributes_of (disk_tree a.disk a.pairs from))) ∙ can.fits);
     room = room_is 2 can.room;
   }
 

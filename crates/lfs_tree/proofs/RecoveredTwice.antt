@@ -1,20 +1,11 @@
 -- A recovery where nothing is left to recover changes no slots, so where they stand behind it they stand behind the one before.
 use Rattle.std.proofs.Common.{ℕ, ◌≡◌, ◌⊎◌, ◌∙◌, inl, inr, true, false, List, [], ◌∷◌, ◌++◌, length, take, Option, None, refl, sym, ap, subst, append-nil}
 use Rattle.std.specs.Prelude.{is_none, is_some}
-use Rattle.std.proofs.lemmas.List.Elements.{recursion_from_All}
-use Rattle.lfs_model.specs.format.Disk.{Disk}
-use Rattle.lfs_model.specs.session.Layout.{ArePairsAfter, FitsPair, IsDirectoryGone, IsLayout, directory_address, continued_address}
+use Rattle.lfs_tree.proofs.Common.{recursion_from_All, Disk, ArePairsAfter, FitsPair, IsDirectoryGone, IsLayout, directory_address, continued_address, Session, zero_gstate, Pair, pairs_from_root, pairs_gstate, count_before_root, HasNoEmpties, IsWritable, IsAccepted, recovered_from, Each, each_left, each_right, chain_of_thread, onward_some}
 use Rattle.lfs_model.specs.session.Operations as ops
-use Rattle.lfs_model.specs.session.Session.{Session}
-use Rattle.lfs_model.specs.format.Slots.{zero_gstate}
-use Rattle.lfs_model.specs.format.Thread.{Pair, pairs_from_root, pairs_gstate, pair_count_before_root}
-use Rattle.lfs_model.specs.tree.Profile.{HasNoEmpties, IsWritable}
-use Rattle.lfs_model.specs.tree.View.{IsAccepted}
 use Rattle.lfs_model.proofs.Alike.{SameSlots, stood_alike}
-use Rattle.lfs_model.proofs.Committed.{none_goes, nothing_moved, recovered_from}
-use Rattle.lfs_model.proofs.Counts.{Each, each_left, each_right}
-use Rattle.lfs_model.proofs.Found.{chain_of_thread}
-use Rattle.lfs_model.proofs.Layouts.{NoneGoes, first_or_some, joined_parts, onward_some}
+use Rattle.lfs_model.proofs.Committed.{none_goes, nothing_moved}
+use Rattle.lfs_model.proofs.Layouts.{NoneGoes, first_or_some, joined_parts}
 
 module _ (disk : Disk) (goes : ℕ × ℕ → Type 0) where
   alike_dirs : (from : Option (ℕ × ℕ)) (ds : List Pair) (parts : List (List Pair)) → Each (FitsPair disk) ds → HasNoEmpties (is_some from) ds → NoneGoes goes from ds → ArePairsAfter disk goes 0 from ds parts → SameSlots ds (joined_parts parts)
@@ -51,17 +42,17 @@ joined_is disk ps s new qs h = h.joined ∙ sym (h.is ∙ ap (λ z. h.front ++ (
 stays_alike : (disk : Disk) (ps : List Pair) (s : Session) (new : Disk) (qs : List Pair) → IsAccepted disk ps → IsWritable disk ps → pairs_gstate ps ≡ zero_gstate → IsLayout disk ps s ops.Recover new qs → SameSlots ps qs
 stays_alike disk ps s new qs ok fits e h =
     let are = (chain_of_thread ps).0 in
-    let count : pair_count_before_root ps ≡ length chain = ap pair_count_before_root are ∙ (chain_of_thread ps).1 in
+    let count : count_before_root ps ≡ length chain = ap count_before_root are ∙ (chain_of_thread ps).1 in
     let drafts : h.drafts ≡ chain ++ dirs = h.edits.1 ∙ nothing_moved ps e ∙ are in
     let all = subst (Each (FitsPair disk)) are (recursion_from_All (FitsPair disk) ps fits.pairs) in
     let none = none_goes ps ops.Recover refl (recovered_from disk ps ok e).reached in
-    let stand = subst (λ n. ArePairsAfter disk goes n None (chain ++ dirs) h.parts) count (subst (λ xs. ArePairsAfter disk goes (pair_count_before_root ps) None xs h.parts) drafts h.stand) in
+    let stand = subst (λ n. ArePairsAfter disk goes n None (chain ++ dirs) h.parts) count (subst (λ xs. ArePairsAfter disk goes (count_before_root ps) None xs h.parts) drafts h.stand) in
     subst (λ xs. SameSlots xs qs) (sym are) (subst (SameSlots (chain ++ dirs)) (joined_is disk ps s new qs h)
     (alike_chain disk goes chain dirs h.parts (each_left (FitsPair disk) chain dirs all)
     (λ rest k. alike_dirs disk goes None dirs rest (each_right (FitsPair disk) chain dirs all) fits.no_empty_pair none k) stand))
   where
     chain : List Pair
-    chain = take (pair_count_before_root ps) ps
+    chain = take (count_before_root ps) ps
 
     dirs : List Pair
     dirs = pairs_from_root ps
@@ -74,7 +65,7 @@ pub recovers_through : (disk : Disk) (ps : List Pair) (s : Session) (mid : Disk)
     → pairs_gstate qs ≡ zero_gstate → IsLayout mid qs r ops.Recover new rs → IsLayout disk ps r ops.Recover new rs
 recovers_through disk ps s mid qs r new rs h ok fits e k =
     let alike = subst (λ z. SameSlots z rs) (sym (joined_is disk ps s mid qs h)) (stays_alike mid qs r new rs ok fits e k) in
-    let stood = stood_alike disk (IsDirectoryGone ps ops.Recover) (pair_count_before_root ps) None h.drafts h.parts rs h.stand alike in
+    let stood = stood_alike disk (IsDirectoryGone ps ops.Recover) (count_before_root ps) None h.drafts h.parts rs h.stand alike in
     record {
       drafts = h.drafts;
       parts = stood.parts;

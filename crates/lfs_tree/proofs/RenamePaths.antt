@@ -1,29 +1,16 @@
 -- What is found at the two paths of a rename.
 use Rattle.std.proofs.Common.{ℕ, ◌≡◌, ◌≤◌, ◌+◌, ◌∙◌, ◌++◌, List, [], ◌∷◌, Option, Some, None, Result, Ok, Err, sym, ap, subst, arith}
 use Rattle.std.specs.Prelude.{IfOk, IfSome, sum_by}
-use Rattle.std.proofs.lemmas.List.Sums.{sum_by-append, sum_by-cons}
+use Rattle.lfs_tree.proofs.Common.{sum_by-append, sum_by-cons, Disk, pair_count_at, ancestor_paths, CallEvent, read_count, Name, slot_of, zero_gstate, Pair, pairs_gstate, Path, IsAccepted, disk_tree, KeptThread, ThreadView, OnlyReadsThread, LeadsToPair, IsSlotBelow, LeadsToResult, AreRenameResults, rename_directories, TreeState, kept_thread}
 use Rattle.lfs_device.specs.declared.error.Error.{Error}
-use Rattle.lfs_model.specs.format.Disk.{Disk}
-use Rattle.lfs_model.specs.crash.Frame.{pair_count_at, ancestor_paths}
-use Rattle.lfs_model.specs.session.History.{CallEvent, read_count}
-use Rattle.lfs_model.specs.format.Names.{Name}
-use Rattle.lfs_model.specs.session.SlotEdits.{slot_of}
-use Rattle.lfs_model.specs.format.Slots.{zero_gstate}
-use Rattle.lfs_model.specs.format.Thread.{Pair, pairs_gstate}
-use Rattle.lfs_model.specs.tree.Tree.{Path}
-use Rattle.lfs_model.specs.tree.View.{IsAccepted}
-use Rattle.lfs_model.specs.tree.Shown.{tree_on_disk}
-use Rattle.lfs_thread.specs.Kept.{KeptThread, ThreadView}
-use Rattle.lfs_thread.specs.ThreadSteps.{OnlyReadsThread}
 use Rattle.lfs_lookup.specs.AtPath.{IsResult}
-use Rattle.lfs_lookup.specs.LookupPaths.{LeadsToPair, IsUnmoved, IsSlotBelow, LeadsToResult, IsHiddenResult}
+use Rattle.lfs_lookup.specs.LookupPaths.{IsUnmoved, IsHiddenResult}
 use Rattle.lfs_lookup.specs.declared.paths.PathLookup.{PathLookup}
 use Rattle.lfs_lookup.specs.declared.paths.PathLookup.TheVariants as found
 use Rattle.lfs_lookup.specs.declared.paths.VisiblePathLookup.{VisiblePathLookup}
 use Rattle.lfs_lookup.specs.declared.search.SlotPosition.{SlotPosition}
 use Rattle.lfs_lookup.proofs.Entered.{hiding_none}
-use Rattle.lfs_tree.specs.RenameFindings.{AreRenameResults, rename_directories, visible_lookup}
-use Rattle.lfs_tree.specs.TreeState.{TreeState, kept_thread}
+use Rattle.lfs_tree.specs.RenameFindings.{lookup_without_parent}
 use Rattle.lfs_tree.specs.declared.rename_paths.RenameFindings.{RenameFindings}
 use Rattle.lfs_tree.specs.declared.rename_paths.RenameTargets.{RenameTargets}
 use Rattle.lfs_tree.proofs.Carried.{read_is, with_history}
@@ -49,8 +36,8 @@ targets_since a b from to r only k = record {
 }
 
 -- the tree stays
-pub same_tree : (a b : KeptThread) → OnlyReadsThread a b → tree_on_disk b.disk b.pairs ≡ tree_on_disk a.disk a.pairs
-same_tree a b only = ap (λ (d : Disk). tree_on_disk d b.pairs) only.disk ∙ ap (λ (ps : List Pair). tree_on_disk a.disk ps) only.pairs
+pub same_tree : (a b : KeptThread) → OnlyReadsThread a b → disk_tree b.disk b.pairs ≡ disk_tree a.disk a.pairs
+same_tree a b only = ap (λ (d : Disk). disk_tree d b.pairs) only.disk ∙ ap (λ (ps : List Pair). disk_tree a.disk ps) only.pairs
 
 -- so do those of what was found, if they are known
 pub found_since : (a b : KeptThread) (from to : Path) (r : Result RenameFindings Error) → OnlyReadsThread a b → IfOk r (λ found. IfSome found.targets (AreRenameResults a from to)) → IfOk r (λ found. IfSome found.targets (AreRenameResults b from to))
@@ -84,7 +71,7 @@ spot_of_shown_entry ps path above name parent slot e s = record {
   slot = ap (slot_of ps) e ∙ s.slot;
 }
 
-shows_to : (t : KeptThread) (path : Path) (f : PathLookup) → LeadsToResult t path f → IsHiddenResult t None path (visible_lookup f)
+shows_to : (t : KeptThread) (path : Path) (f : PathLookup) → LeadsToResult t path f → IsHiddenResult t None path (lookup_without_parent f)
 shows_to t path found.Root l = l.there
 shows_to t path found.ParentIsFile l = l.parents
 shows_to t path found.ParentIsMissing l = l.parents
@@ -93,7 +80,7 @@ shows_to t path (found.Directory parent slot first) l =
     (l.parents, (spot_of_shown_entry t.pairs path l.there.above l.there.name parent slot l.there.is l.there.there.0, subst (λ (p : Path). LeadsToPair t.pairs p first) (sym l.there.is) l.there.there.1))
 shows_to t path (found.File parent slot contents) l = (l.parents, (spot_of_shown_entry t.pairs path l.there.above l.there.name parent slot l.there.is l.there.there.0, l.there.there.1))
 
-pub shows_found : (t : KeptThread) (path : Path) (f : PathLookup) (s : VisiblePathLookup) → IsAccepted t.disk t.pairs → pairs_gstate t.pairs ≡ zero_gstate → LeadsToResult t path f → s ≡ visible_lookup f → IsResult t path s
+pub shows_found : (t : KeptThread) (path : Path) (f : PathLookup) (s : VisiblePathLookup) → IsAccepted t.disk t.pairs → pairs_gstate t.pairs ≡ zero_gstate → LeadsToResult t path f → s ≡ lookup_without_parent f → IsResult t path s
 shows_found t path f s ok settled l is =
     subst (λ z. IsResult t path z) (sym is) (record { moved = None; hides = (hiding_none t (record { accepted = ok; settled = settled })).hides; shows = shows_to t path f l })
 

@@ -3,13 +3,8 @@ use Rattle.std.proofs.Common.{ℕ, ◌≡◌, ◌<◌, ◌⊎◌, inl, inr, ◌�
 use Rattle.std.specs.Prelude.{IfErr, IsErrOf}
 use Rattle.lfs_device.specs.declared.error.Error.{Error}
 use Rattle.lfs_device.specs.declared.error.Error.TheVariants.{Io, NoMemory, NoSpace}
-use Rattle.lfs_model.specs.format.Disk.{Disk, block_count}
-use Rattle.lfs_model.specs.session.History.{CallEvent, OnlyReadsSince, fault_count}
-use Rattle.lfs_operations.specs.Changing.{ReportsFaultsChangingNothingAtNoSpace}
-use Rattle.lfs_operations.specs.Making.{HasFreeBlocks}
-use Rattle.lfs_thread.specs.Kept.{KeptThread}
-use Rattle.lfs_thread.specs.ThreadSteps.{IoMeantFaultNoMemoryWroteNothing, OnlyReadsThread, ChangesThreadBlocks}
-use Rattle.lfs_tree.specs.TreeChanges.{HasFurtherCalls, HasThreadCause}
+use Rattle.lfs_tree.proofs.Common.{Disk, block_count, CallEvent, OnlyReadsSince, fault_count, HasFreeBlocks, KeptThread, ThreadReportsErrors, OnlyReadsThread, ChangesThreadBlocks, HasFurtherCalls, HasThreadCause}
+use Rattle.lfs_operations.specs.Changing.{ReportsSpaceErrors}
 use Rattle.lfs_tree.proofs.CarryRooms.{no_room}
 use Rattle.lfs_tree.proofs.SameErrors.{same_error}
 use Rattle.lfs_tree.proofs.Carried.{with_history}
@@ -34,11 +29,11 @@ pub record ReportsFaultsSince {X : Type 0} (old new : List CallEvent) (result : 
   pub fault : IsErrOf result Io → fault_count old < fault_count new
   pub no_fault : ¬ IsErrOf result Io → fault_count new ≡ fault_count old
 
-pub reported_by_reading : {X : Type 0} (a b : KeptThread) (result : Result X Error) → IoMeantFaultNoMemoryWroteNothing a b result → ReportsFaultsSince a.history b.history result
+pub reported_by_reading : {X : Type 0} (a b : KeptThread) (result : Result X Error) → ThreadReportsErrors a b result → ReportsFaultsSince a.history b.history result
 reported_by_reading a b result t = record { errors = t.errors; fault = t.fault; no_fault = t.no_fault }
 
 -- there was room, so NoSpace doesn't come
-pub reported_with_room : {X : Type 0} (old new : KeptThread) (result : Result X Error) → HasFreeBlocks 2 old.map → ReportsFaultsChangingNothingAtNoSpace old new result → ReportsFaultsSince old.history new.history result
+pub reported_with_room : {X : Type 0} (old new : KeptThread) (result : Result X Error) → HasFreeBlocks 2 old.map → ReportsSpaceErrors old new result → ReportsFaultsSince old.history new.history result
 reported_with_room {X} old new result room t = record { errors = go result refl t.errors; fault = t.fault; no_fault = t.no_fault }
   where
     go : (r : Result X Error) → result ≡ r → IfErr r (λ e. (e ≡ Io) ⊎ ((e ≡ NoMemory) ⊎ (e ≡ NoSpace))) → IfErr r (λ e. (e ≡ Io) ⊎ (e ≡ NoMemory))

@@ -1,19 +1,8 @@
 -- Slots of one pair are of one directory.
 use Rattle.std.proofs.Common.{ℕ, zero, suc, ◌≡◌, ◌+◌, ◌-◌, ◌<◌, ◌≤◌, ◌∙◌, true, false, List, [], ◌∷◌, ◌++◌, length, take, get_or, refl, sym, ap, subst, arith}
 use Rattle.std.proofs.lemmas.List.{get_or-append-add, get_or_append_left}
-use Rattle.std.proofs.lemmas.Option.{same_Some}
-use Rattle.lfs_model.specs.format.Disk.{Disk}
-use Rattle.lfs_model.specs.session.InDirectory.{IsPairAt, IsPairOfDirectory, HasHardTail}
-use Rattle.lfs_model.specs.format.Slots.{same_pair}
-use Rattle.lfs_model.specs.format.Thread.{Pair, is_hard_tail, pair_count_before_root}
-use Rattle.lfs_model.specs.tree.Tree.{Path}
-use Rattle.lfs_model.specs.tree.View.{IsAccepted}
-use Rattle.lfs_model.specs.tree.Shown.{LeadsTo}
-use Rattle.lfs_model.proofs.Counts.{Each}
-use Rattle.lfs_model.proofs.Found.{chain_of_thread}
+use Rattle.lfs_tree.proofs.Common.{same_Some, Disk, IsPairAt, IsDirectoryPair, HasHardTail, same_pair, Pair, is_hard_tail, count_before_root, Path, IsAccepted, LeadsTo, Each, chain_of_thread, pair_back, pair_on, IsDirectory, begins_directory}
 use Rattle.lfs_model.proofs.Listings.{Ends}
-use Rattle.lfs_model.proofs.Pairs.{pair_back, pair_on}
-use Rattle.lfs_model.proofs.Searches.{IsDirectory, begins_directory}
 
 -- whether the pair of a number goes on with the next one
 abbrev hard_at : List Pair → ℕ → Pair → Type 0
@@ -25,7 +14,7 @@ joined_at (p ∷ ps) zero d h l = h.0
 joined_at (p ∷ ps) (suc n) d h l = joined_at ps n d h.1 (omega arith)
 
 -- up to the pair hard tails lead
-joined_up_to : (ps : List Pair) (first index n : ℕ) (pair d : Pair) (rest : List Pair) → IsPairOfDirectory ps first index pair rest → first ≤ n → n < index → hard_at ps n d
+joined_up_to : (ps : List Pair) (first index n : ℕ) (pair d : Pair) (rest : List Pair) → IsDirectoryPair ps first index pair rest → first ≤ n → n < index → hard_at ps n d
 joined_up_to ps first index n pair d rest b low high =
     let e : length b.front + (n - length b.front) ≡ n = (let k = b.begins in omega (arith, low, k)) in
     let l : n - length b.front < length b.left = (let k = b.begins in let m = b.number in omega (arith, low, high, k, m)) in
@@ -42,13 +31,13 @@ last_ends (p ∷ q ∷ ps) d h l =
     subst (λ n. is_hard_tail (get_or (p ∷ q ∷ ps) n d).content.tail ≡ false) e (last_ends (q ∷ ps) d h (omega arith))
 
 -- in front of a directory's first pair none does
-not_joined : (ps : List Pair) (a : ℕ × ℕ) (first : ℕ) (d : Pair) → IsDirectory ps a first → pair_count_before_root ps < first → is_hard_tail (get_or ps (first - 1) d).content.tail ≡ false
+not_joined : (ps : List Pair) (a : ℕ × ℕ) (first : ℕ) (d : Pair) → IsDirectory ps a first → count_before_root ps < first → is_hard_tail (get_or ps (first - 1) d).content.tail ≡ false
 not_joined ps a first d h low =
     let before = h.directory.before in
     let rest = h.directory.first ∷ (h.directory.run ++ h.directory.after) in
-    let chain = take (pair_count_before_root ps) ps in
+    let chain = take (count_before_root ps) ps in
     let c = chain_of_thread ps in
-    let n : length chain ≡ pair_count_before_root ps = sym (ap pair_count_before_root c.0 ∙ c.1) in
+    let n : length chain ≡ count_before_root ps = sym (ap count_before_root c.0 ∙ c.1) in
     let l : 0 < length before = (let k = h.number in omega (arith, low, k)) in
     let at : length chain + (length before - 1) ≡ first - 1 = (let k = h.number in omega (arith, l, n, k)) in
     subst (λ m. is_hard_tail (get_or ps m d).content.tail ≡ false) at
@@ -56,23 +45,23 @@ not_joined ps a first d h low =
     (subst (λ (p : Pair). is_hard_tail p.content.tail ≡ false) (sym (get_or-append-add chain (before ++ rest) (length before - 1) d ∙ get_or_append_left before rest d (length before - 1) (omega (arith, l))))
     (last_ends before d h.directory.ends l)))
 
-not_in_front : (ps : List Pair) (a : ℕ × ℕ) (first other index : ℕ) (pair : Pair) (rest : List Pair) → IsDirectory ps a other → pair_count_before_root ps ≤ first → IsPairOfDirectory ps first index pair rest → other ≤ index → first < other → ⊥
+not_in_front : (ps : List Pair) (a : ℕ × ℕ) (first other index : ℕ) (pair : Pair) (rest : List Pair) → IsDirectory ps a other → count_before_root ps ≤ first → IsDirectoryPair ps first index pair rest → other ≤ index → first < other → ⊥
 not_in_front ps a first other index pair rest h low b up l =
     let k = not_joined ps a other pair h (omega (arith, low, l)) in
     let j = joined_up_to ps first index (other - 1) pair pair rest b (omega (arith, l)) (omega (arith, l, up)) in
     absurd (let z = sym k ∙ j in cc)
 
-behind_up : (ps : List Pair) (first index : ℕ) (pair : Pair) (rest : List Pair) → IsPairOfDirectory ps first index pair rest → first ≤ index
+behind_up : (ps : List Pair) (first index : ℕ) (pair : Pair) (rest : List Pair) → IsDirectoryPair ps first index pair rest → first ≤ index
 behind_up ps first index pair rest b = let k = b.begins in let n = b.number in omega (arith, k, n)
 
 -- two directories of which the pair is
 pub same_first : (disk : Disk) (ps : List Pair) (P Q : Path) (a b : ℕ × ℕ) (first other index : ℕ) (pair pair' : Pair) (rest rest' : List Pair) → IsAccepted disk ps → LeadsTo ps P a → IsPairAt ps a first → LeadsTo ps Q b → IsPairAt ps b other
-    → IsPairOfDirectory ps first index pair rest → IsPairOfDirectory ps other index pair' rest' → first ≡ other
+    → IsDirectoryPair ps first index pair rest → IsDirectoryPair ps other index pair' rest' → first ≡ other
 same_first disk ps P Q a b first other index pair pair' rest rest' ok leads begins leads' begins' h k =
     let d = begins_directory disk ps P a first ok leads begins in
     let e = begins_directory disk ps Q b other ok leads' begins' in
-    let low : pair_count_before_root ps ≤ first = (let n = d.number in omega (arith, n)) in
-    let low' : pair_count_before_root ps ≤ other = (let n = e.number in omega (arith, n)) in
+    let low : count_before_root ps ≤ first = (let n = d.number in omega (arith, n)) in
+    let low' : count_before_root ps ≤ other = (let n = e.number in omega (arith, n)) in
     equal first other (not_in_front ps b first other index pair rest e low h (behind_up ps other index pair' rest' k))
     (not_in_front ps a other first index pair' rest' d low' k (behind_up ps first index pair rest h))
   where

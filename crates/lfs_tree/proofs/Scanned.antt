@@ -2,16 +2,9 @@
 use Rattle.std.proofs.Common.{ℕ, zero, suc, ◌≡◌, ◌+◌, ◌-◌, ◌≤◌, ◌<◌, ◌∙◌, ◌&&◌, inl, inr, Bool, true, false, cond, List, [], ◌∷◌, ◌++◌, length, drop, get_or, slice_get, Option, Some, None, refl, sym, ap, ap₂, subst, arith, append_assoc, append-nil}
 use Rattle.std.specs.Prelude.{is_some, nat_lt}
 use Rattle.std.proofs.lemmas.Bool.{le-ltb, lt-ltb}
-use Rattle.std.proofs.lemmas.Option.{same_Some}
+use Rattle.lfs_tree.proofs.Common.{same_Some, directory_address, continued_address, Pair, is_hard_tail, count_before_root, IsReachedBySome, onward_some, AreUnreachedNumbers, AreUnreachedFrom, empty_anchor, MarkReached}
 use Rattle.std.proofs.Math.Seq.{drop-cons}
-use Rattle.lfs_model.specs.session.Layout.{directory_address, continued_address}
-use Rattle.lfs_model.specs.format.Thread.{Pair, is_hard_tail, pair_count_before_root}
-use Rattle.lfs_model.specs.tree.Shown.{IsReachedBySome}
-use Rattle.lfs_model.proofs.Layouts.{onward_some}
-use Rattle.lfs_operations.specs.Recovering.{AreUnreachedNumbers, AreUnreachedFrom}
-use Rattle.lfs_thread.specs.ThreadSteps.{empty_anchor}
 use Rattle.lfs_lookup.specs.ProfileChecks.{follows_tail_at}
-use Rattle.lfs_tree.specs.Orphans.{MarkReached}
 
 pub record IsScanning (ps : List Pair) (root i : ℕ) (numbers : List ℕ) (flag : Bool) : Type 0 where
   pub from : Option (ℕ × ℕ)
@@ -98,7 +91,7 @@ drop_past zero (x ∷ xs) l = absurd (omega arith)
 drop_past (suc n) [] l = refl
 drop_past (suc n) (x ∷ xs) l = drop_past n xs (omega arith)
 
-pub scanned : (ps : List Pair) (root i : ℕ) (numbers : List ℕ) (flag : Bool) → root ≡ pair_count_before_root ps → length ps ≤ i → IsScanning ps root i numbers flag → AreUnreachedNumbers ps numbers
+pub scanned : (ps : List Pair) (root i : ℕ) (numbers : List ℕ) (flag : Bool) → root ≡ count_before_root ps → length ps ≤ i → IsScanning ps root i numbers flag → AreUnreachedNumbers ps numbers
 scanned ps root i numbers flag is past s =
     subst (λ (n : ℕ). AreUnreachedFrom (IsReachedBySome ps) n None (drop n ps) numbers) is
     (subst (λ z. AreUnreachedFrom (IsReachedBySome ps) root None (drop root ps) z) (append-nil numbers)

@@ -4,33 +4,27 @@ use Rattle.std.specs.Prelude.{Contains, OnOk}
 use Rattle.lfs_device.specs.DeviceCalls.{ReadsOnly}
 use Rattle.lfs_device.specs.declared.device.BlockDevice.{Ghosts}
 use Rattle.lfs_device.specs.declared.error.Error.{Error}
-use Rattle.lfs_model.specs.format.Blocks.{Blocks, HasBlockSizes, block_bytes}
-use Rattle.lfs_model.specs.layers.BlockSets.{BlockStates}
-use Rattle.lfs_model.proofs.Histories.{is_unprogrammed_byte-read_count}
-use Rattle.lfs_thread.specs.Beside.{LeavesUsedBlocksOfPairsUnchangedAndUsed, AreDeviceAndMapOfThread}
-use Rattle.lfs_thread.specs.Kept.{KeptThread}
-use Rattle.lfs_file.specs.Bases.{IsListOrEmpty, list_blocks_from}
-use Rattle.lfs_file.specs.SettledMaps.{CanSettleList, SettlesList, KeepsOtherStates, AreSharedUsed}
+use Rattle.lfs_tree.proofs.Common.{Blocks, HasBlockSizes, block_bytes, BlockStates, is_unprogrammed_byte-read_count, KeepsPairBlocks, BelongToThread, KeptThread, IsListOrEmpty, blocks_of_list, SettlesList, CanSettleFile, IsListSettled, stored_list_blocks}
+use Rattle.lfs_file.specs.SettledMaps.{CanSettleList, KeepsOtherStates, AreSharedUsed}
 use Rattle.lfs_file.specs.declared.stored_list.StoredList.{StoredList}
-use Rattle.lfs_tree.specs.SettledFiles.{CanSettleFile, IsListSettled, thread_list_blocks}
 use Rattle.lfs_tree.proofs.Standing.{blocks_here, size_here}
 
-module _ {D : Type 0} (g : Ghosts D) (t : KeptThread) (device : D) (map : BlockStates) (shows : AreDeviceAndMapOfThread g t device map)
+module _ {D : Type 0} (g : Ghosts D) (t : KeptThread) (device : D) (map : BlockStates) (shows : BelongToThread g t device map)
     (shape : HasBlockSizes (g.geometry device).block_size (g.geometry device).block_count (g.blocks device)) (before stored : StoredList) (can : CanSettleFile t before stored) where
-  pub list_here : (s : StoredList) → list_blocks_from (g.blocks device) (g.geometry device).block_size s.head s.size ≡ thread_list_blocks t s
-  list_here s = ap (λ (d : Blocks). list_blocks_from d (g.geometry device).block_size s.head s.size) (blocks_here g t device map shows shape)
-      ∙ ap (λ (n : ℕ). list_blocks_from t.disk.blocks n s.head s.size) (size_here g t device map shows shape)
+  pub list_here : (s : StoredList) → blocks_of_list (g.blocks device) (g.geometry device).block_size s.head s.size ≡ stored_list_blocks t s
+  list_here s = ap (λ (d : Blocks). blocks_of_list d (g.geometry device).block_size s.head s.size) (blocks_here g t device map shows shape)
+      ∙ ap (λ (n : ℕ). blocks_of_list t.disk.blocks n s.head s.size) (size_here g t device map shows shape)
 
   base_here : (s : StoredList) → IsListOrEmpty t.disk.blocks t.disk.block_size s.head s.size → IsListOrEmpty (g.blocks device) (g.geometry device).block_size s.head s.size
   base_here s is =
       subst (λ (d : Blocks). IsListOrEmpty d (g.geometry device).block_size s.head s.size) (sym (blocks_here g t device map shows shape))
       (subst (λ (n : ℕ). IsListOrEmpty t.disk.blocks n s.head s.size) (sym (size_here g t device map shows shape)) is)
 
-  shared_here : AreSharedUsed map (list_blocks_from (g.blocks device) (g.geometry device).block_size before.head before.size) (list_blocks_from (g.blocks device) (g.geometry device).block_size stored.head stored.size)
+  shared_here : AreSharedUsed map (blocks_of_list (g.blocks device) (g.geometry device).block_size before.head before.size) (blocks_of_list (g.blocks device) (g.geometry device).block_size stored.head stored.size)
   shared_here =
-      subst (λ (m : BlockStates). AreSharedUsed m (list_blocks_from (g.blocks device) (g.geometry device).block_size before.head before.size) (list_blocks_from (g.blocks device) (g.geometry device).block_size stored.head stored.size)) (sym shows.map)
-      (subst (λ (l : List ℕ). AreSharedUsed t.map l (list_blocks_from (g.blocks device) (g.geometry device).block_size stored.head stored.size)) (sym (list_here before))
-      (subst (λ (l : List ℕ). AreSharedUsed t.map (thread_list_blocks t before) l) (sym (list_here stored)) can.shared))
+      subst (λ (m : BlockStates). AreSharedUsed m (blocks_of_list (g.blocks device) (g.geometry device).block_size before.head before.size) (blocks_of_list (g.blocks device) (g.geometry device).block_size stored.head stored.size)) (sym shows.map)
+      (subst (λ (l : List ℕ). AreSharedUsed t.map l (blocks_of_list (g.blocks device) (g.geometry device).block_size stored.head stored.size)) (sym (list_here before))
+      (subst (λ (l : List ℕ). AreSharedUsed t.map (stored_list_blocks t before) l) (sym (list_here stored)) can.shared))
 
   pub settle_here : CanSettleList map (g.blocks device) (g.geometry device).block_size before stored
   settle_here = record {
@@ -42,8 +36,8 @@ module _ {D : Type 0} (g : Ghosts D) (t : KeptThread) (device : D) (map : BlockS
 
   -- the pairs stay, since their blocks are in neither list
   pub settle_leaves : (later : D) (later_map : BlockStates) → ReadsOnly g device later
-      → KeepsOtherStates map later_map (list_blocks_from (g.blocks device) (g.geometry device).block_size before.head before.size ++ list_blocks_from (g.blocks device) (g.geometry device).block_size stored.head stored.size)
-      → LeavesUsedBlocksOfPairsUnchangedAndUsed g t device map later later_map
+      → KeepsOtherStates map later_map (blocks_of_list (g.blocks device) (g.geometry device).block_size before.head before.size ++ blocks_of_list (g.blocks device) (g.geometry device).block_size stored.head stored.size)
+      → KeepsPairBlocks g t device map later later_map
   settle_leaves later later_map only keeps = record {
     geometry = only.geometry;
     count = ap length only.same;
@@ -51,16 +45,16 @@ module _ {D : Type 0} (g : Ghosts D) (t : KeptThread) (device : D) (map : BlockS
     stays = λ b k _ _ was. is_unprogrammed_byte-read_count b k only.reads ∙ was;
     size = keeps.count;
     used = λ b has used. keeps.others b (λ in_lists. can.apart b has
-        (subst (λ (l : List ℕ). Contains (l ++ thread_list_blocks t stored) b) (list_here before)
-        (subst (λ (l : List ℕ). Contains (list_blocks_from (g.blocks device) (g.geometry device).block_size before.head before.size ++ l) b) (list_here stored) in_lists))) ∙ used;
+        (subst (λ (l : List ℕ). Contains (l ++ stored_list_blocks t stored) b) (list_here before)
+        (subst (λ (l : List ℕ). Contains (blocks_of_list (g.blocks device) (g.geometry device).block_size before.head before.size ++ l) b) (list_here stored) in_lists))) ∙ used;
   }
 
   pub settled_after : (new : KeptThread) (later_map : BlockStates) → later_map ≡ new.map → (r : Result (Unit {0}) Error)
-      → OnOk r (SettlesList map later_map (list_blocks_from (g.blocks device) (g.geometry device).block_size before.head before.size) (list_blocks_from (g.blocks device) (g.geometry device).block_size stored.head stored.size))
+      → OnOk r (SettlesList map later_map (blocks_of_list (g.blocks device) (g.geometry device).block_size before.head before.size) (blocks_of_list (g.blocks device) (g.geometry device).block_size stored.head stored.size))
       → OnOk r (IsListSettled t before stored new)
   settled_after new later_map is (Ok u) settled =
-      subst (λ (m : BlockStates). SettlesList t.map m (thread_list_blocks t before) (thread_list_blocks t stored)) is
-      (subst (λ (m : BlockStates). SettlesList m later_map (thread_list_blocks t before) (thread_list_blocks t stored)) shows.map
-      (subst (λ (l : List ℕ). SettlesList map later_map l (thread_list_blocks t stored)) (list_here before)
-      (subst (λ (l : List ℕ). SettlesList map later_map (list_blocks_from (g.blocks device) (g.geometry device).block_size before.head before.size) l) (list_here stored) settled)))
+      subst (λ (m : BlockStates). SettlesList t.map m (stored_list_blocks t before) (stored_list_blocks t stored)) is
+      (subst (λ (m : BlockStates). SettlesList m later_map (stored_list_blocks t before) (stored_list_blocks t stored)) shows.map
+      (subst (λ (l : List ℕ). SettlesList map later_map l (stored_list_blocks t stored)) (list_here before)
+      (subst (λ (l : List ℕ). SettlesList map later_map (blocks_of_list (g.blocks device) (g.geometry device).block_size before.head before.size) l) (list_here stored) settled)))
   settled_after new later_map is (Err e) settled = tt

@@ -1,52 +1,15 @@
 -- What stands behind a commit of contents, before and after their lists are settled.
 use Rattle.std.proofs.Common.{ℕ, ◌≡◌, ◌≢◌, ◌<◌, ◌≤◌, ◌+◌, ◌∙◌, inl, inr, ⊎_elim, List, [], ◌∷◌, ◌++◌, length, None, Some, true, false, refl, sym, ap, subst, arith, append_assoc}
 use Rattle.std.specs.Prelude.{All, Contains}
-use Rattle.std.proofs.lemmas.Bool.{cases_lt}
-use Rattle.std.proofs.lemmas.List.Elements.{All-contains, All-from_recursion}
-use Rattle.std.proofs.lemmas.Option.{same_Some}
-use Rattle.lfs_device.specs.Bytes.{HoldBytes}
-use Rattle.lfs_model.proofs.Sites.{HoldsOfSome, among_right}
-use Rattle.lfs_model.specs.crash.Frame.{HasPathSlot}
-use Rattle.lfs_model.specs.session.TreeEdits.{tree_with_change, same_path}
-use Rattle.lfs_model.specs.layers.BlockSets.{AreUsed, IsFree, IsInFlight, IsUsedBlock}
-use Rattle.lfs_model.specs.layers.BlockSets.BlockState.{Free, InFlight, Used}
-use Rattle.lfs_model.specs.format.Disk.{Disk, SameGeometry, disk_block, block_count}
-use Rattle.lfs_model.specs.session.History.{CallEvent, HoldsAtLosses, OnlyReadsSince}
-use Rattle.lfs_model.specs.session.Layout.{IsLayout}
-use Rattle.lfs_model.specs.format.Names.{Name}
+use Rattle.lfs_tree.proofs.Common.{cases_lt, All-contains, All-from_recursion, same_Some, AreByteBlocks, AnyByRecursion, among_right, HasPathSlot, tree_with_change, same_path, AreUsed, IsFree, IsInFlight, IsUsedBlock, Free, InFlight, Used, Disk, SameGeometry, disk_block, block_count, CallEvent, OnlyReadsSince, IsLayout, Name, struct_at, Session, HasEither, with_blocks, slot_of, Slot, file_with_bytes, Pair, pairs_blocks, pairs_gstate, count_before_root, Path, IsAccepted, IsWritable, struct_blocks, disk_tree, used_blocks, survives_then, Contains-number_occurrences, number_occurrences-Contains, number_occurrences, count_append, each_from_counted, each_weaker, once_from_distinct, SameFileBlocks, file_blocks_same, is_list_same, HoldsAtLosses-read_count, HoldsAtLosses-trans, HoldsAtLosses-weaker, HoldsAtLosses-worst, LeftByLoss-read, IsContentsStruct, CanSettleFile, ChangesOnlyMap, IsListSettled, stored_list_blocks, here, WritesPairTwo, HasStoredContents, tree_with_contents, KeptThread, ThreadView, thread_pair, ChangesThreadBlocks, HasFurtherCalls, CanChangeRecovered, SurvivesEither, writer_contents_bytes, CanCommitContents, CanPutContents, HasCommittedBytes, IsPathFile, finished_list, list_in_struct, finished_struct, ChangesPathPair, SizedLists}
+use Rattle.lfs_model.specs.session.History.{HoldsAtLosses}
 use Rattle.lfs_model.specs.session.Operations as ops
-use Rattle.lfs_model.specs.layers.Keeping.{struct_at}
-use Rattle.lfs_model.specs.session.Session.{Session, FileWriter, Writing}
-use Rattle.lfs_model.specs.crash.PowerLoss.{HasEither, with_blocks}
-use Rattle.lfs_model.specs.session.SlotEdits.{slot_of}
-use Rattle.lfs_model.specs.format.Slots.{Slot}
-use Rattle.lfs_model.specs.session.Effects.{file_with_bytes}
+use Rattle.lfs_model.specs.session.Session.{FileWriter, Writing}
 use Rattle.lfs_model.specs.crash.Stops.{LeftByLoss}
-use Rattle.lfs_model.specs.format.Thread.{Pair, blocks_of_pairs, pairs_gstate, pair_count_before_root}
-use Rattle.lfs_model.specs.tree.Tree.{Path}
-use Rattle.lfs_model.specs.tree.View.{IsAccepted}
-use Rattle.lfs_model.specs.tree.Profile.{IsWritable}
-use Rattle.lfs_model.specs.tree.Shown.{struct_blocks, tree_on_disk, used_blocks}
-use Rattle.lfs_model.proofs.AfterStops.{survives_then}
-use Rattle.lfs_model.proofs.BlockSets.{Contains-number_count, number_count-Contains}
-use Rattle.lfs_model.proofs.Counts.{number_count, count_append, each_from_counted, each_weaker, once_from_distinct}
-use Rattle.lfs_model.proofs.Files.{SameFileBlocks, file_blocks_same, is_list_same}
-use Rattle.lfs_model.proofs.Histories.{HoldsAtLosses-read_count, HoldsAtLosses-trans, HoldsAtLosses-weaker, HoldsAtLosses-worst, LeftByLoss-read}
-use Rattle.lfs_tree.specs.StructChanges.{IsContentsStruct}
-use Rattle.lfs_tree.specs.SettledFiles.{CanSettleFile, ChangesOnlyMap, IsListSettled, thread_list_blocks}
 use Rattle.lfs_file.proofs.Settlement.{settled_exactly}
-use Rattle.lfs_operations.proofs.Held.{here}
-use Rattle.lfs_operations.specs.Changing.{WritesPairTwo}
-use Rattle.lfs_operations.specs.Storing.{HasStoredContents, tree_with_contents}
-use Rattle.lfs_thread.specs.Kept.{KeptThread, ThreadView}
-use Rattle.lfs_thread.specs.ThreadSteps.{thread_pair_at, ChangesThreadBlocks}
 use Rattle.lfs_tree.proofs.CarryCreated.{ready_to}
 use Rattle.lfs_tree.proofs.LeftAlone.{contains_among, holds_slot}
-use Rattle.lfs_tree.specs.TreeChanges.{HasFurtherCalls, CanChangeRecovered, SurvivesEither}
-use Rattle.lfs_tree.specs.OpenContents.{writer_contents_bytes}
-use Rattle.lfs_tree.specs.Stores.{CanCommitContents, CanPutContents, HasCommittedBytes, IsPathFileSlot, finished_list, list_in_struct, finished_struct, ChangesPathPair}
 use Rattle.lfs_tree.specs.declared.contents_at.FileSlot.{FileSlot}
-use Rattle.lfs_lookup.proofs.AtPaths.{SizedLists}
 use Rattle.lfs_tree.proofs.Carried.{pair_blocks, with_history}
 use Rattle.lfs_tree.proofs.CarryEdited.{can_edit, slot_below}
 use Rattle.lfs_tree.proofs.CarryFreed.{none_there}
@@ -55,7 +18,7 @@ use Rattle.lfs_tree.proofs.CommitContents.{base_before, base_now, blocks_before_
 use Rattle.lfs_tree.proofs.OpenedFiles.{no_flight, not_free}
 use Rattle.lfs_file.specs.declared.contents.WriterContents.{WriterContents}
 
-not_there : (b : ℕ) (bs : List ℕ) → number_count b bs ≤ 0 → All (λ x. x ≢ b) bs
+not_there : (b : ℕ) (bs : List ℕ) → number_occurrences b bs ≤ 0 → All (λ x. x ≢ b) bs
 not_there b bs none = All-from_recursion (λ x. x ≢ b) bs (none_there b bs none)
 
 -- ---- the slot gets them
@@ -64,21 +27,21 @@ module _ (t : KeptThread) (path : Path) (u : Slot) (ok : IsAccepted t.disk t.pai
     (c : WriterContents) (can : CanCommitContents t path c) (pair : ℕ) (below : pair < length t.pairs) (new : KeptThread) (w : WritesPairTwo t pair new) (above : Path) (name : Name) (come : IsContentsStruct t (writer_contents_bytes t c) u.struct (finished_struct c))
     (is : HasStoredContents t new above name (writer_contents_bytes t c) come.gone come.come) where
   -- a block that isn't free and no pair's isn't written
-  untouched : (b : ℕ) → (IsFree t.map b → ⊥) → number_count b (blocks_of_pairs t.pairs) ≡ 0 → disk_block new.disk b ≡ disk_block t.disk b
+  untouched : (b : ℕ) → (IsFree t.map b → ⊥) → number_occurrences b (pairs_blocks t.pairs) ≡ 0 → disk_block new.disk b ≡ disk_block t.disk b
   untouched b taken none =
       let k = pair_blocks t.pairs pair below in
-      let off : (x : ℕ) → Contains (blocks_of_pairs t.pairs) x → x ≢ b = λ x has e. (let some = number_count-Contains (blocks_of_pairs t.pairs) x has in let z = ap (λ y. number_count y (blocks_of_pairs t.pairs)) e in absurd (omega arith)) in
+      let off : (x : ℕ) → Contains (pairs_blocks t.pairs) x → x ≢ b = λ x has e. (let some = number_occurrences-Contains (pairs_blocks t.pairs) x has in let z = ap (λ y. number_occurrences y (pairs_blocks t.pairs)) e in absurd (omega arith)) in
       w.writes.others.others b
-      (All-from_recursion (λ x. x ≢ b) ((thread_pair_at t pair).at.0 ∷ (thread_pair_at t pair).at.1 ∷ w.fresh)
-      (off (thread_pair_at t pair).at.0 k.0, (off (thread_pair_at t pair).at.1 k.1, each_weaker (IsFree t.map) (λ x. x ≢ b) (λ x f e. taken (subst (IsFree t.map) e f)) w.fresh w.free)))
+      (All-from_recursion (λ x. x ≢ b) ((thread_pair t pair).at.0 ∷ (thread_pair t pair).at.1 ∷ w.fresh)
+      (off (thread_pair t pair).at.0 k.0, (off (thread_pair t pair).at.1 k.1, each_weaker (IsFree t.map) (λ x. x ≢ b) (λ x f e. taken (subst (IsFree t.map) e f)) w.fresh w.free)))
 
   geometry : SameGeometry t.disk new.disk
   geometry = record { block_size = w.writes.shape.block_size; page = w.writes.shape.page; order = w.writes.shape.order; profile = w.writes.shape.profile; count = w.writes.shape.count }
 
-  was_taken : (b : ℕ) → 1 ≤ number_count b (struct_blocks t.disk u.struct) → IsFree t.map b → ⊥
+  was_taken : (b : ℕ) → 1 ≤ number_occurrences b (struct_blocks t.disk u.struct) → IsFree t.map b → ⊥
   was_taken b some = not_free t.map b (list_used t path u ok used at sized b some)
 
-  now_taken : (b : ℕ) → 1 ≤ number_count b (struct_blocks t.disk (finished_struct c)) → IsFree t.map b → ⊥
+  now_taken : (b : ℕ) → 1 ≤ number_occurrences b (struct_blocks t.disk (finished_struct c)) → IsFree t.map b → ⊥
   now_taken b some = coming_taken t path u ok used at sized c can.over can.finished b some
 
   was_same : SameFileBlocks t.disk new.disk u.struct
@@ -88,26 +51,26 @@ module _ (t : KeptThread) (path : Path) (u : Slot) (ok : IsAccepted t.disk t.pai
   now_same = each_from_counted (λ b. disk_block new.disk b ≡ disk_block t.disk b) (struct_blocks t.disk (finished_struct c))
       (λ b some. untouched b (now_taken b some) (coming_apart t path u ok used at sized c can.over can.finished b some))
 
-  before_is : thread_list_blocks new (list_in_struct u.struct) ≡ struct_blocks t.disk u.struct
+  before_is : stored_list_blocks new (list_in_struct u.struct) ≡ struct_blocks t.disk u.struct
   before_is = blocks_before_is new u.struct ∙ file_blocks_same t.disk new.disk u.struct geometry was_same
 
-  now_is : thread_list_blocks new (finished_list c) ≡ struct_blocks t.disk (finished_struct c)
+  now_is : stored_list_blocks new (finished_list c) ≡ struct_blocks t.disk (finished_struct c)
   now_is = blocks_now_is new c ∙ file_blocks_same t.disk new.disk (finished_struct c) geometry now_same
 
   -- no block of the pairs is in either list
-  lists_apart : (b : ℕ) → Contains (blocks_of_pairs new.pairs) b → ¬ (Contains (thread_list_blocks new (list_in_struct u.struct) ++ thread_list_blocks new (finished_list c)) b)
+  lists_apart : (b : ℕ) → Contains (pairs_blocks new.pairs) b → ¬ (Contains (stored_list_blocks new (list_in_struct u.struct) ++ stored_list_blocks new (finished_list c)) b)
   lists_apart b has both =
-      let some = number_count-Contains (thread_list_blocks new (list_in_struct u.struct) ++ thread_list_blocks new (finished_list c)) b both in
-      let e = count_append b (thread_list_blocks new (list_in_struct u.struct)) (thread_list_blocks new (finished_list c)) in
-      let f = ap (number_count b) before_is in
-      let g = ap (number_count b) now_is in
+      let some = number_occurrences-Contains (stored_list_blocks new (list_in_struct u.struct) ++ stored_list_blocks new (finished_list c)) b both in
+      let e = count_append b (stored_list_blocks new (list_in_struct u.struct)) (stored_list_blocks new (finished_list c)) in
+      let f = ap (number_occurrences b) before_is in
+      let g = ap (number_occurrences b) now_is in
       ⊎_elim
-      (λ k. ⊎_elim (λ was. absurd (let n = list_apart t path u ok used at sized b k in let m = number_count-Contains (blocks_of_pairs t.pairs) b was in omega arith))
+      (λ k. ⊎_elim (λ was. absurd (let n = list_apart t path u ok used at sized b k in let m = number_occurrences-Contains (pairs_blocks t.pairs) b was in omega arith))
       (λ free. absurd (was_taken b k free)) (is.places b has))
-      (λ none. let k : 1 ≤ number_count b (struct_blocks t.disk (finished_struct c)) = omega arith in
-      ⊎_elim (λ was. absurd (let n = coming_apart t path u ok used at sized c can.over can.finished b k in let m = number_count-Contains (blocks_of_pairs t.pairs) b was in omega arith))
+      (λ none. let k : 1 ≤ number_occurrences b (struct_blocks t.disk (finished_struct c)) = omega arith in
+      ⊎_elim (λ was. absurd (let n = coming_apart t path u ok used at sized c can.over can.finished b k in let m = number_occurrences-Contains (pairs_blocks t.pairs) b was in omega arith))
       (λ free. absurd (now_taken b k free)) (is.places b has))
-      (cases_lt 0 (number_count b (struct_blocks t.disk u.struct)))
+      (cases_lt 0 (number_occurrences b (struct_blocks t.disk u.struct)))
 
   pub can_settle : CanSettleFile new (list_in_struct u.struct) (finished_list c)
   can_settle = record {
@@ -117,54 +80,54 @@ module _ (t : KeptThread) (path : Path) (u : Slot) (ok : IsAccepted t.disk t.pai
     apart = lists_apart;
     shared = record {
       used = λ b has _.
-          let some = number_count-Contains (thread_list_blocks new (list_in_struct u.struct)) b has in
-          let f = ap (number_count b) before_is in
-          let was : 1 ≤ number_count b (struct_blocks t.disk u.struct) = omega arith in
+          let some = number_occurrences-Contains (stored_list_blocks new (list_in_struct u.struct)) b has in
+          let f = ap (number_occurrences b) before_is in
+          let was : 1 ≤ number_occurrences b (struct_blocks t.disk u.struct) = omega arith in
           is.now.stays b (was_taken b was) ∙ list_used t path u ok used at sized b was;
     };
   }
 
   -- ---- the lists are settled
 
-  lists_are : (b : ℕ) → number_count b (thread_list_blocks new (finished_list c)) + number_count b come.gone ≡ number_count b come.come + number_count b (thread_list_blocks new (list_in_struct u.struct))
-  lists_are b = let e = come.blocks b in let f = ap (number_count b) before_is in let g = ap (number_count b) now_is in omega arith
+  lists_are : (b : ℕ) → number_occurrences b (stored_list_blocks new (finished_list c)) + number_occurrences b come.gone ≡ number_occurrences b come.come + number_occurrences b (stored_list_blocks new (list_in_struct u.struct))
+  lists_are b = let e = come.blocks b in let f = ap (number_occurrences b) before_is in let g = ap (number_occurrences b) now_is in omega arith
 
   -- the image names the list that came
-  list_within : (b : ℕ) → Contains (thread_list_blocks new (finished_list c)) b → Contains (used_blocks new.disk new.pairs) b
+  list_within : (b : ℕ) → Contains (stored_list_blocks new (finished_list c)) b → Contains (used_blocks new.disk new.pairs) b
   list_within b has =
-      let some = number_count-Contains (thread_list_blocks new (finished_list c)) b has in
+      let some = number_occurrences-Contains (stored_list_blocks new (finished_list c)) b has in
       let s = is.now.ready.used.same b in
       let l = lists_are b in
-      let f = ap (number_count b) before_is in
-      Contains-number_count (used_blocks new.disk new.pairs) b (⊎_elim
+      let f = ap (number_occurrences b) before_is in
+      Contains-number_occurrences (used_blocks new.disk new.pairs) b (⊎_elim
       (λ was.
-      let own = number_count-Contains is.now.ready.used.owned b ((is.now.ready.used.are b).0 (is.now.stays b (was_taken b was) ∙ list_used t path u ok used at sized b was)) in
+      let own = number_occurrences-Contains is.now.ready.used.owned b ((is.now.ready.used.are b).0 (is.now.stays b (was_taken b was) ∙ list_used t path u ok used at sized b was)) in
       let o = is.once b in
       let once = once_from_distinct (struct_blocks t.disk u.struct) (distinct_list t.disk u.struct (list_there t path u ok used at sized)) b in
       omega arith)
       (λ none. omega arith)
-      (cases_lt 0 (number_count b (struct_blocks t.disk u.struct))))
+      (cases_lt 0 (number_occurrences b (struct_blocks t.disk u.struct))))
 
   module _ (later : KeptThread) (only : ChangesOnlyMap new later) (settled : IsListSettled new (list_in_struct u.struct) (finished_list c) later) where
     on : (P : Disk → List Pair → Type 0) → P new.disk new.pairs → P later.disk later.pairs
     on P p = subst (λ (d : Disk). P d later.pairs) (sym only.disk) (subst (P new.disk) (sym only.pairs) p)
 
     used_later : AreUsed later.map (used_blocks new.disk new.pairs)
-    used_later = settled_exactly new.map later.map is.now.ready.used.owned (used_blocks new.disk new.pairs) (thread_list_blocks new (list_in_struct u.struct)) (thread_list_blocks new (finished_list c)) come.gone come.come
+    used_later = settled_exactly new.map later.map is.now.ready.used.owned (used_blocks new.disk new.pairs) (stored_list_blocks new (list_in_struct u.struct)) (stored_list_blocks new (finished_list c)) come.gone come.come
         is.now.ready.used.are (λ b. let s = is.now.ready.used.same b in let o = is.once b in omega arith) is.now.ready.used.same lists_are list_within settled
 
     none_later : (b : ℕ) → ¬ (IsInFlight later.map b)
     none_later b flies = ⊎_elim
-        (λ some. absurd (let k : Used ≡ InFlight = same_Some Used InFlight (sym (All-contains (IsUsedBlock later.map) (thread_list_blocks new (finished_list c)) b settled.used (Contains-number_count (thread_list_blocks new (finished_list c)) b some)) ∙ flies) in cc))
+        (λ some. absurd (let k : Used ≡ InFlight = same_Some Used InFlight (sym (All-contains (IsUsedBlock later.map) (stored_list_blocks new (finished_list c)) b settled.used (Contains-number_occurrences (stored_list_blocks new (finished_list c)) b some)) ∙ flies) in cc))
         (λ none. ⊎_elim
-        (λ was. absurd (let k : Free ≡ InFlight = same_Some Free InFlight (sym (settled.freed b (Contains-number_count (thread_list_blocks new (list_in_struct u.struct)) b was) (not_there b (thread_list_blocks new (finished_list c)) none)) ∙ flies) in cc))
+        (λ was. absurd (let k : Free ≡ InFlight = same_Some Free InFlight (sym (settled.freed b (Contains-number_occurrences (stored_list_blocks new (list_in_struct u.struct)) b was) (not_there b (stored_list_blocks new (finished_list c)) none)) ∙ flies) in cc))
         (λ never.
-        let there = is.now.none_comes b (sym (settled.others b (not_there b (thread_list_blocks new (list_in_struct u.struct)) never) (not_there b (thread_list_blocks new (finished_list c)) none)) ∙ flies) in
-        let some = number_count-Contains (struct_blocks t.disk (finished_struct c)) b (flying_in t path u ok used at sized c can.over can.finished b there) in
-        let g = ap (number_count b) now_is in
+        let there = is.now.none_comes b (sym (settled.others b (not_there b (stored_list_blocks new (list_in_struct u.struct)) never) (not_there b (stored_list_blocks new (finished_list c)) none)) ∙ flies) in
+        let some = number_occurrences-Contains (struct_blocks t.disk (finished_struct c)) b (flying_in t path u ok used at sized c can.over can.finished b there) in
+        let g = ap (number_occurrences b) now_is in
         absurd (omega arith))
-        (cases_lt 0 (number_count b (thread_list_blocks new (list_in_struct u.struct)))))
-        (cases_lt 0 (number_count b (thread_list_blocks new (finished_list c))))
+        (cases_lt 0 (number_occurrences b (stored_list_blocks new (list_in_struct u.struct)))))
+        (cases_lt 0 (number_occurrences b (stored_list_blocks new (finished_list c))))
 
     pub committed : path ≡ above ++ name ∷ [] → ChangesPathPair t.disk t.pairs path new.disk → HasCommittedBytes t path (writer_contents_bytes t c) later
     committed e alone = record {
@@ -177,15 +140,15 @@ module _ (t : KeptThread) (path : Path) (u : Slot) (ok : IsAccepted t.disk t.pai
       };
       fits = on (λ d ps. IsWritable d ps) is.now.ready.writable;
       settled = ap pairs_gstate only.pairs ∙ is.now.ready.settled;
-      root = ap pair_count_before_root only.pairs ∙ is.now.root;
-      shows = on (λ d ps. tree_on_disk d ps ≡ tree_with_change path (file_with_bytes (writer_contents_bytes t c)) (tree_on_disk t.disk t.pairs)) (is.now.shows ∙ ap (λ p. tree_with_change p (file_with_bytes (writer_contents_bytes t c)) (tree_on_disk t.disk t.pairs)) (sym e));
-      synced = λ files fd writer wr. on (λ d ps. IsLayout t.disk t.pairs (record { tree = tree_on_disk t.disk t.pairs; files = files }) (ops.Sync fd) d ps)
-          (is.synced (record { tree = tree_on_disk t.disk t.pairs; files = files }) fd writer refl (wr.0, (wr.1.0, (wr.1.1.0 ∙ e, wr.1.1.1)))).laid_out;
-      closed = λ files fd writer wr. on (λ d ps. IsLayout t.disk t.pairs (record { tree = tree_on_disk t.disk t.pairs; files = files }) (ops.Close fd) d ps)
-          (is.closed (record { tree = tree_on_disk t.disk t.pairs; files = files }) fd writer refl (wr.0, (wr.1.0, (wr.1.1.0 ∙ e, wr.1.1.1)))).laid_out;
+      root = ap count_before_root only.pairs ∙ is.now.root;
+      shows = on (λ d ps. disk_tree d ps ≡ tree_with_change path (file_with_bytes (writer_contents_bytes t c)) (disk_tree t.disk t.pairs)) (is.now.shows ∙ ap (λ p. tree_with_change p (file_with_bytes (writer_contents_bytes t c)) (disk_tree t.disk t.pairs)) (sym e));
+      synced = λ files fd writer wr. on (λ d ps. IsLayout t.disk t.pairs (record { tree = disk_tree t.disk t.pairs; files = files }) (ops.Sync fd) d ps)
+          (is.synced (record { tree = disk_tree t.disk t.pairs; files = files }) fd writer refl (wr.0, (wr.1.0, (wr.1.1.0 ∙ e, wr.1.1.1)))).laid_out;
+      closed = λ files fd writer wr. on (λ d ps. IsLayout t.disk t.pairs (record { tree = disk_tree t.disk t.pairs; files = files }) (ops.Close fd) d ps)
+          (is.closed (record { tree = disk_tree t.disk t.pairs; files = files }) fd writer refl (wr.0, (wr.1.0, (wr.1.1.0 ∙ e, wr.1.1.1)))).laid_out;
       others = λ q file apart.
           let writer : FileWriter = record { path = above ++ name ∷ []; contents = writer_contents_bytes t c; position = 0; append = false; dirty = true; turned = false; last_end = None } in
-          let s : Session = record { tree = tree_on_disk t.disk t.pairs; files = Some (Writing writer) ∷ [] } in
+          let s : Session = record { tree = disk_tree t.disk t.pairs; files = Some (Writing writer) ∷ [] } in
           ap (λ (ps : List Pair). struct_at ps q) only.pairs ∙ (is.synced s 0 writer refl (refl, (refl, (refl, refl)))).structs q file refl (subst (λ p. same_path p q ≡ false) e apart);
       alone = subst (λ (d : Disk). ChangesPathPair t.disk t.pairs path d) (sym only.disk) alone;
       none_in_flight = no_flight later.map none_later;
@@ -197,8 +160,8 @@ committed_read t h path bytes later k =
 
 -- ---- behind calls that only read
 
-module _ (t : ThreadView) (root : ℕ) (rests : CanChangeRecovered t root) (path : Path) (large : 1024 ≤ t.kept.disk.block_size) (bytes : HoldBytes t.kept.disk.blocks) (c : WriterContents) (can : CanCommitContents t.kept path c)
-    (file : FileSlot) (slot : IsPathFileSlot t.kept.pairs path file) (sized : SizedLists t.kept.disk) (h : List CallEvent) where
+module _ (t : ThreadView) (root : ℕ) (rests : CanChangeRecovered t root) (path : Path) (large : 1024 ≤ t.kept.disk.block_size) (bytes : AreByteBlocks t.kept.disk.blocks) (c : WriterContents) (can : CanCommitContents t.kept path c)
+    (file : FileSlot) (slot : IsPathFile t.kept.pairs path file) (sized : SizedLists t.kept.disk) (h : List CallEvent) where
   abbrev u : Slot
   u = slot.slot.stands.stands.stands.slot
 
@@ -244,11 +207,11 @@ module _ (t : ThreadView) (root : ℕ) (rests : CanChangeRecovered t root) (path
     changes =
         let s = slot.slot.stands.stands in
         let place = s.place in
-        let is : thread_pair_at t.kept file.spot.pair ≡ s.pair = here (with_history t.kept h) (ready_to t root h rests large) slot.slot.first file.spot.pair s.pair s.rest s.place in
+        let is : thread_pair t.kept file.spot.pair ≡ s.pair = here (with_history t.kept h) (ready_to t root h rests large) slot.slot.first file.spot.pair s.pair s.rest s.place in
         let writes = subst (λ (z : Pair). ChangesThreadBlocks (z.at.0 ∷ z.at.1 ∷ w.fresh) (with_history t.kept h) new) is w.writes in
         record {
           pair = s.pair;
-          there = contains_among s.pair t.kept.pairs (subst (HoldsOfSome (λ y. y ≡ s.pair)) (sym place.parts)
+          there = contains_among s.pair t.kept.pairs (subst (AnyByRecursion (λ y. y ≡ s.pair)) (sym place.parts)
               (among_right (λ y. y ≡ s.pair) place.front (place.left ++ s.pair ∷ s.rest) (among_right (λ y. y ≡ s.pair) place.left (s.pair ∷ s.rest) (inl refl))));
           holds = subst (HasPathSlot t.kept.pairs s.pair) (sym slot.slot.is)
               (holds_slot t.kept.pairs slot.slot.above slot.slot.stands.on.at slot.slot.first slot.slot.name file.spot.pair file.spot.id ok.thread.distinct slot.slot.stands.on.leads slot.slot.stands.on.begins s);
@@ -263,28 +226,28 @@ module _ (t : ThreadView) (root : ℕ) (rests : CanChangeRecovered t root) (path
           (subst (λ l. IsListSettled new l (finished_list c) later) slot.list settled) slot.slot.is changes)
 
       -- the calls that settle only read
-      pub survives_settled : OnlyReadsSince t.kept.disk.blocks t.kept.history h → SurvivesEither t.kept new (tree_with_change path (file_with_bytes (writer_contents_bytes t.kept c)) (tree_on_disk t.kept.disk t.kept.pairs))
-          → SurvivesEither t.kept later (tree_with_change path (file_with_bytes (writer_contents_bytes t.kept c)) (tree_on_disk t.kept.disk t.kept.pairs))
+      pub survives_settled : OnlyReadsSince t.kept.disk.blocks t.kept.history h → SurvivesEither t.kept new (tree_with_change path (file_with_bytes (writer_contents_bytes t.kept c)) (disk_tree t.kept.disk t.kept.pairs))
+          → SurvivesEither t.kept later (tree_with_change path (file_with_bytes (writer_contents_bytes t.kept c)) (disk_tree t.kept.disk t.kept.pairs))
       survives_settled reads k =
-          let after = tree_with_change path (file_with_bytes (writer_contents_bytes t.kept c)) (tree_on_disk t.kept.disk t.kept.pairs) in
+          let after = tree_with_change path (file_with_bytes (writer_contents_bytes t.kept c)) (disk_tree t.kept.disk t.kept.pairs) in
           let disk_is : new.disk ≡ with_blocks new.disk.blocks t.kept.disk = λ i. record { block_size = w.writes.shape.block_size i; page = w.writes.shape.page i; order = w.writes.shape.order i; profile = w.writes.shape.profile i; blocks = new.disk.blocks } in
           let first : HoldsAtLosses LeftByLoss t.kept.history new.history (λ d. Unit {0}) = HoldsAtLosses-trans (HoldsAtLosses-read_count LeftByLoss-read reads tt) (HoldsAtLosses-weaker (λ d p. tt) (HoldsAtLosses-worst w.writes.at_worst)) in
-          survives_then t.kept.disk t.kept.history new.history later.history (tree_on_disk t.kept.disk t.kept.pairs) after first only.reads k
+          survives_then t.kept.disk t.kept.history new.history later.history (disk_tree t.kept.disk t.kept.pairs) after first only.reads k
           (λ clean. HoldsAtLosses-read_count LeftByLoss-read only.reads
-          (subst (λ (d : Disk). HasEither d (tree_on_disk t.kept.disk t.kept.pairs) (tree_with_change path (file_with_bytes (writer_contents_bytes t.kept c)) (tree_on_disk t.kept.disk t.kept.pairs))) disk_is
+          (subst (λ (d : Disk). HasEither d (disk_tree t.kept.disk t.kept.pairs) (tree_with_change path (file_with_bytes (writer_contents_bytes t.kept c)) (disk_tree t.kept.disk t.kept.pairs))) disk_is
           (record {
             pairs = new.pairs;
             accepted = is.now.ready.accepted;
             writable = is.now.ready.writable;
-            tree = inr (is.now.shows ∙ ap (λ p. tree_with_change p (file_with_bytes (writer_contents_bytes t.kept c)) (tree_on_disk t.kept.disk t.kept.pairs)) (sym slot.slot.is));
+            tree = inr (is.now.shows ∙ ap (λ p. tree_with_change p (file_with_bytes (writer_contents_bytes t.kept c)) (disk_tree t.kept.disk t.kept.pairs)) (sym slot.slot.is));
           })))
 
   pub survives_put : (new : KeptThread) (w : WritesPairTwo (with_history t.kept h) file.spot.pair new) → OnlyReadsSince t.kept.disk.blocks t.kept.history h
       → ((put : CanPutContents (with_history t.kept h) file.spot c) → SurvivesEither (with_history t.kept h) new (tree_with_contents (with_history t.kept h) put.can.path put.can.name (writer_contents_bytes (with_history t.kept h) c)))
-      → SurvivesEither t.kept new (tree_with_change path (file_with_bytes (writer_contents_bytes t.kept c)) (tree_on_disk t.kept.disk t.kept.pairs))
+      → SurvivesEither t.kept new (tree_with_change path (file_with_bytes (writer_contents_bytes t.kept c)) (disk_tree t.kept.disk t.kept.pairs))
   unfolding can_put can_edit
   survives_put new w reads gives =
-      subst (λ p. SurvivesEither t.kept new (tree_with_change p (file_with_bytes (writer_contents_bytes t.kept c)) (tree_on_disk t.kept.disk t.kept.pairs))) (sym slot.slot.is)
+      subst (λ p. SurvivesEither t.kept new (tree_with_change p (file_with_bytes (writer_contents_bytes t.kept c)) (disk_tree t.kept.disk t.kept.pairs))) (sym slot.slot.is)
       (survives_behind t root rests h new _ (tree_with_contents t.kept slot.slot.above slot.slot.name (writer_contents_bytes t.kept c)) reads w.writes (gives can_put))
 
 pub called_beside : (a b c : KeptThread) → HasFurtherCalls a b → ChangesOnlyMap b c → HasFurtherCalls a c

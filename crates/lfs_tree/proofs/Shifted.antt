@@ -1,38 +1,13 @@
 -- An entry that gets another path: what is found for it, and what may be done.
 use Rattle.std.proofs.Common.{ℕ, ◌≡◌, ◌≤◌, ◌∙◌, ◌&&◌, ◌++◌, not, Bool, true, false, List, [], ◌∷◌, Option, Some, None, Result, Ok, Err, refl, sym, ap, ap₂, subst}
 use Rattle.std.specs.Prelude.{OnOk, is_some}
-use Rattle.std.specs.List.{list_all}
-use Rattle.std.specs.Option.{option_and_then}
-use Rattle.std.proofs.lemmas.Bool.{ltb-false}
-use Rattle.std.proofs.lemmas.Option.{slice_get_within}
-use Rattle.lfs_device.specs.Bytes.{HoldBytes}
+use Rattle.lfs_tree.proofs.Common.{list_all, option_and_then, ltb-false, slice_get_within, AreByteBlocks, last_name, tree_renaming, without_prefix, same_path, charge_limit, CallEvent, OnlyReadsSince, fault_count, BelongsAt, Name, is_component, is_valid_name, Slot, entry_charge, path_or_root, is_root_path, Pair, pairs_gstate, count_before_root, Path, Tree, branch_address, LeadsTo, disk_tree, no_move_from, last_is, KeptThread, ThreadView, OnlyReadsThread, WritesThreadFree, CanRenamePath, tree_after_call, AppliesOperation, HasAppliedCall, CanChangeRecovered, AppliesOrFails, IsNamedResult, SparesOutsideOperation, HasSoundImage, SurvivesEither, HasPathEntry, kept_state, tree_summary, LeadsToPair, LeadsToResult, IsSlotBelow, CanMoveEntry, CanMoveOntoFound, CanMoveOntoFile, CanMoveOntoDirectory, CanMoveToVacant, HasMovedEntry, ThreadWorksOrReports}
 use Rattle.lfs_device.specs.declared.error.Error.{Error}
-use Rattle.lfs_model.specs.session.TreeEdits.{is_path_beneath, last_name, tree_renaming, without_prefix, same_path}
-use Rattle.lfs_model.specs.format.Disk.{charge_limit}
-use Rattle.lfs_model.specs.session.History.{CallEvent, OnlyReadsSince, fault_count}
-use Rattle.lfs_model.specs.session.InDirectory.{BelongsAt}
-use Rattle.lfs_model.specs.format.Names.{Name, is_component, is_valid_name}
+use Rattle.lfs_model.specs.session.TreeEdits.{is_beneath}
 use Rattle.lfs_model.specs.session.Operations as ops
-use Rattle.lfs_model.specs.format.Slots.{Slot, entry_charge}
-use Rattle.lfs_model.specs.session.Refusals.{path_or_root, is_root_path}
-use Rattle.lfs_model.specs.format.Thread.{Pair, pairs_gstate, pair_count_before_root}
-use Rattle.lfs_model.specs.tree.Tree.{Path, Tree, branch_address}
 use Rattle.lfs_model.specs.tree.Profile.{IsWritableEntry}
-use Rattle.lfs_model.specs.tree.Shown.{LeadsTo, tree_on_disk}
-use Rattle.lfs_model.proofs.Committed.{no_move_from}
-use Rattle.lfs_model.proofs.Paths.{last_is}
-use Rattle.lfs_thread.specs.Kept.{KeptThread, ThreadView}
-use Rattle.lfs_thread.specs.ThreadSteps.{OnlyReadsThread}
-use Rattle.lfs_operations.specs.MovingSteps.{WritesThreadFree}
-use Rattle.lfs_tree.specs.Permissions.{CanRenamePath}
 use Rattle.lfs_tree.specs.TreeCalls as call
-use Rattle.lfs_tree.specs.TreeCalls.{tree_after_call}
-use Rattle.lfs_tree.specs.TreeChanges.{AppliesOperation, HasAppliedCall, CanChangeRecovered, AppliesOrFails, IsResultAndName, SparesOutsideOperation, HasSoundImage, SurvivesEither}
-use Rattle.lfs_tree.specs.SlotChanges.{HasPathEntry}
-use Rattle.lfs_tree.specs.RootedThreads.{kept_state}
-use Rattle.lfs_tree.specs.TreeState.{tree_summary}
-use Rattle.lfs_lookup.specs.LookupPaths.{LeadsToPair, LeadsToResult, IsSlotBelow}
-use Rattle.lfs_tree.specs.MovedEntries.{CanMoveEntry, CanMoveOntoFound, CanMoveOntoFile, CanMoveOntoDirectory, CanMoveToVacant, HasMovedEntry, IsSourceAt, IsFoundSource, ThreadWorksOrReportsError}
+use Rattle.lfs_tree.specs.MovedEntries.{IsSourceAt, IsFoundSource}
 use Rattle.lfs_tree.specs.declared.renames_at.RenameSource.{RenameSource}
 use Rattle.lfs_lookup.specs.declared.entry.FileStorage.{FileStorage}
 use Rattle.lfs_lookup.specs.declared.paths.PathLookup.{PathLookup}
@@ -65,11 +40,11 @@ source_for t path (found.File parent slot contents) source l h = source_is t.pai
 
 -- ---- what may be done
 
-pub entry_to_rename : (t : KeptThread) (from to : Path) → CanRenamePath (kept_state t true false) from to → HasPathEntry (tree_on_disk t.disk t.pairs) from
+pub entry_to_rename : (t : KeptThread) (from to : Path) → CanRenamePath (kept_state t true false) from to → HasPathEntry (disk_tree t.disk t.pairs) from
 entry_to_rename t from to can = record { entry = can.entry; parents = can.parents; something = can.something }
 
 -- what isn't beneath it, and is another path, doesn't begin with it
-pub goes_elsewhere : (from to : Path) → is_path_beneath from to ≡ false → same_path from to ≡ false → without_prefix from to ≡ None
+pub goes_elsewhere : (from to : Path) → is_beneath from to ≡ false → same_path from to ≡ false → without_prefix from to ≡ None
 goes_elsewhere from to apart other = none (without_prefix from to) (sym (ap (λ b. is_some (without_prefix from to) && not b) other) ∙ apart)
   where
     none : (o : Option Path) → (is_some o && true) ≡ false → o ≡ None
@@ -81,7 +56,7 @@ checked_apart : (same b : Bool) → same ≡ false → (not same && b) ≡ false
 checked_apart true b e f = absurd (cc)
 checked_apart false b e f = f
 
-module _ (t : ThreadView) (root : ℕ) (rests : CanChangeRecovered t root) (from to : Path) (components : list_all is_component to ≡ true) (large : 1024 ≤ t.kept.disk.block_size) (bytes : HoldBytes t.kept.disk.blocks)
+module _ (t : ThreadView) (root : ℕ) (rests : CanChangeRecovered t root) (from to : Path) (components : list_all is_component to ≡ true) (large : 1024 ≤ t.kept.disk.block_size) (bytes : AreByteBlocks t.kept.disk.blocks)
     (can : CanRenamePath (kept_state t.kept true false) from to) (other : same_path from to ≡ false) (source : RenameSource) (is : IsSourceAt t.kept.pairs from source) (h : List CallEvent) where
   pub elsewhere : without_prefix from to ≡ None
   elsewhere = goes_elsewhere from to can.apart other
@@ -113,7 +88,7 @@ module _ (t : ThreadView) (root : ℕ) (rests : CanChangeRecovered t root) (from
     room = room_for t.kept 2 rests.held.sound can.room;
   }
 
-  pub shift_to : (parent : ℕ) (place : SlotPosition) (name : Name) → IsResultAndName t.kept to (found.Nothing parent place) name → CanMoveToVacant (with_history t.kept h) from to source place name
+  pub shift_to : (parent : ℕ) (place : SlotPosition) (name : Name) → IsNamedResult t.kept to (found.Nothing parent place) name → CanMoveToVacant (with_history t.kept h) from to source place name
   unfolding can_shift
   shift_to parent place name target =
       let there = target.leads.there in
@@ -123,7 +98,7 @@ module _ (t : ThreadView) (root : ℕ) (rests : CanChangeRecovered t root) (from
         belongs = subst (λ n. BelongsAt t.kept.disk.order t.kept.pairs parent n place.pair place.id) (sym same) there.there.belongs;
       }
 
-  pub shift_onto : (parent : ℕ) (slot : SlotPosition) (contents : FileStorage) (name : Name) → IsResultAndName t.kept to (found.File parent slot contents) name → CanMoveOntoFile (with_history t.kept h) from to source slot contents name
+  pub shift_onto : (parent : ℕ) (slot : SlotPosition) (contents : FileStorage) (name : Name) → IsNamedResult t.kept to (found.File parent slot contents) name → CanMoveOntoFile (with_history t.kept h) from to source slot contents name
   unfolding can_shift
   shift_onto parent slot contents name target =
       let there = target.leads.there in
@@ -131,7 +106,7 @@ module _ (t : ThreadView) (root : ℕ) (rests : CanChangeRecovered t root) (from
       subst (λ n. CanMoveOntoFile (with_history t.kept h) from to source slot contents n) (sym (target.named ∙ same))
       (record { can = can_shift there.above parent there.name (sym same) there.is there.there.0.on; target = there.there.0.stands; shows = there.there.1 })
 
-  pub shift_over : (parent : ℕ) (slot : SlotPosition) (first : ℕ) (name : Name) → IsResultAndName t.kept to (found.Directory parent slot first) name → CanMoveOntoDirectory (with_history t.kept h) from to source slot first name
+  pub shift_over : (parent : ℕ) (slot : SlotPosition) (first : ℕ) (name : Name) → IsNamedResult t.kept to (found.Directory parent slot first) name → CanMoveOntoDirectory (with_history t.kept h) from to source slot first name
   unfolding can_shift
   shift_over parent slot first name target =
       let there = target.leads.there in
@@ -152,7 +127,7 @@ module _ (t : ThreadView) (root : ℕ) (rests : CanChangeRecovered t root) (from
         alone = bare.alone;
       })
 
-  pub shift_found : (f : PathLookup) (name : Name) → IsResultAndName t.kept to f name → CanMoveOntoFound (with_history t.kept h) from to source f name
+  pub shift_found : (f : PathLookup) (name : Name) → IsNamedResult t.kept to f name → CanMoveOntoFound (with_history t.kept h) from to source f name
   shift_found found.Root name target = let k = sym can.target ∙ ap is_root_path target.leads.there in absurd (cc)
   shift_found found.ParentIsFile name target = let k = sym can.target_parents ∙ target.leads.parents in absurd (cc)
   shift_found found.ParentIsMissing name target = let k = sym can.target_parents ∙ target.leads.parents in absurd (cc)
@@ -174,14 +149,14 @@ module _ (t : ThreadView) (root : ℕ) (rests : CanChangeRecovered t root) (from
         ready = is.ready;
         stay = λ b flies. (is.flying b).1 flies;
         none_comes = λ b flies. (is.flying b).0 flies;
-        completed = λ files. is.completed (record { tree = tree_on_disk t.kept.disk t.kept.pairs; files = files }) given to_given refl e f;
+        completed = λ files. is.completed (record { tree = disk_tree t.kept.disk t.kept.pairs; files = files }) given to_given refl e f;
         writes = w;
         no_fault = quiet;
       }) (ap₂ same_path e f ∙ other) refl
 
 module _ (t : ThreadView) (root : ℕ) (rests : CanChangeRecovered t root) (from to : Path) (other : same_path from to ≡ false) (h : List CallEvent) (new : ThreadView) (reads : OnlyReadsSince t.kept.disk.blocks t.kept.history h) (w : WritesThreadFree (with_history t.kept h) new.kept) where
   abbrev before : Tree
-  before = tree_on_disk t.kept.disk t.kept.pairs
+  before = disk_tree t.kept.disk t.kept.pairs
 
   -- all that is said of it
   pub rename_does : (r : Result (Unit {0}) Error) (given to_given : List ℕ) → path_or_root given ≡ from → path_or_root to_given ≡ to → fault_count h ≡ fault_count t.kept.history → OnOk r (HasMovedEntry (with_history t.kept h) from to new.kept)
@@ -196,7 +171,7 @@ module _ (t : ThreadView) (root : ℕ) (rests : CanChangeRecovered t root) (from
       go (Ok x) shifted same = (
         record {
           carries = does_rename (λ op. AppliesOperation t.kept op new.kept) from to (λ given to_given e f. shifted_at t root rests from to other h new.kept reads w given to_given shifted same e f);
-          spares = does_rename (λ op. SparesOutsideOperation t.kept op new.kept) from to (λ given to_given e f none files. shifted.alone (record { tree = tree_on_disk t.kept.disk t.kept.pairs; files = files }) given to_given e f);
+          spares = does_rename (λ op. SparesOutsideOperation t.kept op new.kept) from to (λ given to_given e f none files. shifted.alone (record { tree = disk_tree t.kept.disk t.kept.pairs; files = files }) given to_given e f);
         },
         rename_stands t.kept new.kept from to given to_given named to_named (shifted_at t root rests from to other h new.kept reads w given to_given shifted same named to_named) shifted.root,
       )
@@ -206,12 +181,12 @@ rests_still t mid root rests only works = record {
   held = record {
     works = works;
     sound = sound_read t.kept mid.kept true false false only rests.held.sound;
-    root_is = rests.held.root_is ∙ ap pair_count_before_root (sym only.pairs);
+    root_is = rests.held.root_is ∙ ap count_before_root (sym only.pairs);
   };
   settled = ap pairs_gstate only.pairs ∙ rests.settled;
 }
 
-pub reported_of_work : {X : Type 0} (old new : ThreadView) (result : Result X Error) → ThreadWorksOrReportsError old new result → ReportsFaultsSince old.kept.history new.kept.history result
+pub reported_of_work : {X : Type 0} (old new : ThreadView) (result : Result X Error) → ThreadWorksOrReports old new result → ReportsFaultsSince old.kept.history new.kept.history result
 reported_of_work old new result t = record { errors = t.errors; fault = t.fault; no_fault = t.no_fault }
 
 leads_back : (t : KeptThread) (h : List CallEvent) (path : Path) (f : PathLookup) → LeadsToResult (with_history t h) path f → LeadsToResult t path f
@@ -223,7 +198,7 @@ leads_back t h path (found.Directory parent slot first) l = record { parents = l
 leads_back t h path (found.File parent slot contents) l = record { parents = l.parents; there = l.there }
 
 -- what is found behind calls that only read
-pub target_back : (a b : KeptThread) (path : Path) (f : PathLookup) (name : Name) → OnlyReadsThread a b → IsResultAndName b path f name → IsResultAndName a path f name
+pub target_back : (a b : KeptThread) (path : Path) (f : PathLookup) (name : Name) → OnlyReadsThread a b → IsNamedResult b path f name → IsNamedResult a path f name
 target_back a b path f name only target =
-    let k = subst (λ z. IsResultAndName z path f name) (read_is a b only) target in
+    let k = subst (λ z. IsNamedResult z path f name) (read_is a b only) target in
     record { leads = leads_back a b.history path f k.leads; named = k.named }

@@ -2,29 +2,15 @@
 use Rattle.std.proofs.Common.{ℕ, ◌≡◌, ◌≢◌, ◌⊎◌, inl, inr, ◌-◌, ◌∙◌, ◌++◌, false, [], ◌∷◌, Result, Ok, Err, sym, ap₂, subst, arith}
 use Rattle.std.specs.Prelude.{OnOk, is_err}
 use Rattle.lfs_device.specs.declared.error.Error.{Error}
-use Rattle.lfs_model.specs.session.TreeEdits.{tree_renaming, without_prefix}
-use Rattle.lfs_model.specs.session.InDirectory.{IsPlaceOf}
-use Rattle.lfs_model.specs.format.Names.{Name}
-use Rattle.lfs_model.specs.format.Slots.{Branch}
-use Rattle.lfs_model.specs.tree.Tree.{Path}
-use Rattle.lfs_model.specs.tree.Shown.{tree_on_disk}
-use Rattle.lfs_operations.specs.Altering.{ChangesGiven}
-use Rattle.lfs_operations.specs.MovingSteps.{WritesThreadFree}
-use Rattle.lfs_operations.specs.MovingAcross.{IsRenamedAcross, tree_moved}
-use Rattle.lfs_operations.specs.MovingOnto.{CanReplaceDirectoryOver}
-use Rattle.lfs_operations.specs.Renaming.{tree_renamed}
-use Rattle.lfs_operations.specs.RenamingOver.{CanRenameOver, IsRenamedOver, ReportsErrorsOfReadThenCommits}
-use Rattle.lfs_thread.specs.Kept.{KeptThread, ThreadView}
-use Rattle.lfs_thread.specs.ThreadSteps.{OnlyReadsThread, ChangesThreadBlocks, thread_pair_at}
-use Rattle.lfs_tree.specs.TreeChanges.{SurvivesEither}
-use Rattle.lfs_tree.specs.MovedEntries.{CanMoveEntry, CanMoveOntoDirectory, HasMovedEntry, ThreadWorksOrReportsError}
+use Rattle.lfs_tree.proofs.Common.{tree_renaming, without_prefix, IsPlaceOf, Name, Branch, Path, disk_tree, WritesTouchedFree, WritesThreadFree, IsRenamedAcross, tree_moved, tree_renamed, KeptThread, ThreadView, OnlyReadsThread, ChangesThreadBlocks, thread_pair, SurvivesEither, CanMoveEntry, CanMoveOntoDirectory, HasMovedEntry, ThreadWorksOrReports, address_blocks, addresses_blocks}
+use Rattle.lfs_operations.specs.MovingOnto.{CanReplaceDirectoryAcross}
+use Rattle.lfs_operations.specs.RenamingOver.{CanRenameOver, IsRenamedOver, ReportsReadCommits}
 use Rattle.lfs_tree.specs.declared.renames_at.RenameSource.{RenameSource}
 use Rattle.lfs_lookup.specs.declared.search.SlotPosition.{SlotPosition}
 use Rattle.lfs_tree.proofs.Carried.{among_two, behind_below}
 use Rattle.lfs_tree.proofs.ShiftedAlone.{spares_one, spares_two}
 use Rattle.lfs_tree.proofs.ShiftedPlaces.{one_place, other_name, target_path}
 use Rattle.lfs_tree.proofs.ShiftedSlots.{none_gone, survives_at}
-use Rattle.lfs_model.specs.format.Thread.{address_blocks, addresses_blocks}
 
 -- what stands there, seen in the directory of another number
 record IsDirectoryAt (t : KeptThread) (first index id : ℕ) (name : Name) (at : ℕ × ℕ) : Type 0 where
@@ -62,11 +48,11 @@ module _ (t : KeptThread) (from to : Path) (source : RenameSource) (slot : SlotP
       }
 
   pub over_survives_within : (new : KeptThread) → source.slot.pair ≡ slot.pair → ((rename : CanRenameOver t source.slot.pair source.slot.id slot.id name gone) → SurvivesEither t new (tree_renamed t rename.over.can.path rename.over.can.name name))
-      → SurvivesEither t new (tree_renaming from to (tree_on_disk t.disk t.pairs))
+      → SurvivesEither t new (tree_renaming from to (disk_tree t.disk t.pairs))
   unfolding over_within
   over_survives_within new e gives = survives_at t new from to _ _ shift.old_is (path_here e) (gives (over_within e))
 
-  pub over_done_within : (new : KeptThread) → source.slot.pair ≡ slot.pair → ChangesGiven t (address_blocks (thread_pair_at t source.slot.pair).at) new
+  pub over_done_within : (new : KeptThread) → source.slot.pair ≡ slot.pair → WritesTouchedFree t (address_blocks (thread_pair t source.slot.pair).at) new
       → ((rename : CanRenameOver t source.slot.pair source.slot.id slot.id name gone) → IsRenamedOver t new rename.over.can.path rename.over.can.name name) → HasMovedEntry t from to new
   unfolding over_within
   over_done_within new e alters gives =
@@ -79,16 +65,16 @@ module _ (t : KeptThread) (from to : Path) (source : RenameSource) (slot : SlotP
         alone = spares_one t new from to source name shift alters;
       }
 
-  pub over_writes_within : (new : KeptThread) → ChangesThreadBlocks (addresses_blocks (thread_pair_at t source.slot.pair).at (thread_pair_at t (gone - 1)).at) t new → WritesThreadFree t new
+  pub over_writes_within : (new : KeptThread) → ChangesThreadBlocks (addresses_blocks (thread_pair t source.slot.pair).at (thread_pair t (gone - 1)).at) t new → WritesThreadFree t new
   over_writes_within new w = record {
-    blocks = addresses_blocks (thread_pair_at t source.slot.pair).at (thread_pair_at t (gone - 1)).at;
+    blocks = addresses_blocks (thread_pair t source.slot.pair).at (thread_pair t (gone - 1)).at;
     writes = w;
     each = among_two t source.slot.pair (gone - 1) [] (behind_below t.pairs shift.old.first source.slot.pair shift.old.stands.pair shift.old.stands.rest shift.old.stands.place) (let b = can.below in omega (arith, b)) tt;
   }
 
   -- ---- in another pair
 
-  pub over_apart : source.slot.pair ≢ slot.pair → CanReplaceDirectoryOver t source.slot.pair source.slot.id source.first slot.pair slot.id name gone
+  pub over_apart : source.slot.pair ≢ slot.pair → CanReplaceDirectoryAcross t source.slot.pair source.slot.id source.first slot.pair slot.id name gone
   over_apart ne = record {
     old = shift.old;
     begins_old = shift.old_first;
@@ -110,13 +96,13 @@ module _ (t : KeptThread) (from to : Path) (source : RenameSource) (slot : SlotP
     fits = shift.fits;
   }
 
-  pub over_survives_apart : (new : KeptThread) → source.slot.pair ≢ slot.pair → ((rename : CanReplaceDirectoryOver t source.slot.pair source.slot.id source.first slot.pair slot.id name gone) → SurvivesEither t new (tree_moved t rename.old.path rename.old.name rename.path name))
-      → SurvivesEither t new (tree_renaming from to (tree_on_disk t.disk t.pairs))
+  pub over_survives_apart : (new : KeptThread) → source.slot.pair ≢ slot.pair → ((rename : CanReplaceDirectoryAcross t source.slot.pair source.slot.id source.first slot.pair slot.id name gone) → SurvivesEither t new (tree_moved t rename.old.path rename.old.name rename.path name))
+      → SurvivesEither t new (tree_renaming from to (disk_tree t.disk t.pairs))
   unfolding over_apart
   over_survives_apart new ne gives = survives_at t new from to _ _ shift.old_is shift.is (gives (over_apart ne))
 
-  pub over_done_apart : (new : KeptThread) → source.slot.pair ≢ slot.pair → ChangesGiven t (addresses_blocks (thread_pair_at t source.slot.pair).at (thread_pair_at t slot.pair).at) new
-      → ((rename : CanReplaceDirectoryOver t source.slot.pair source.slot.id source.first slot.pair slot.id name gone) → IsRenamedAcross t new rename.old.path rename.old.name rename.path name) → HasMovedEntry t from to new
+  pub over_done_apart : (new : KeptThread) → source.slot.pair ≢ slot.pair → WritesTouchedFree t (addresses_blocks (thread_pair t source.slot.pair).at (thread_pair t slot.pair).at) new
+      → ((rename : CanReplaceDirectoryAcross t source.slot.pair source.slot.id source.first slot.pair slot.id name gone) → IsRenamedAcross t new rename.old.path rename.old.name rename.path name) → HasMovedEntry t from to new
   unfolding over_apart
   over_done_apart new ne alters gives =
       let is : IsRenamedAcross t new shift.old.path shift.old.name shift.above name = gives (over_apart ne) in
@@ -130,7 +116,7 @@ module _ (t : KeptThread) (from to : Path) (source : RenameSource) (slot : SlotP
 
 -- ---- what is told
 
-pub reported_over : {X : Type 0} (old new : ThreadView) (r : Result X Error) → ReportsErrorsOfReadThenCommits old new r → ThreadWorksOrReportsError old new r
+pub reported_over : {X : Type 0} (old new : ThreadView) (r : Result X Error) → ReportsReadCommits old new r → ThreadWorksOrReports old new r
 reported_over {X} old new r t = record { works = works r t.failed; errors = t.errors; fault = t.fault; no_fault = t.no_fault }
   where
     works : (r : Result X Error) → (new.failed ≡ is_err r) ⊎ ((new.failed ≡ false) × OnlyReadsThread old.kept new.kept) → OnOk r (new.failed ≡ false)

@@ -3,32 +3,11 @@ use Rattle.std.proofs.Common.{ℕ, ◌≡◌, ◌≢◌, ◌⊎◌, ◌<◌, ◌
 use Rattle.std.specs.Prelude.{IfErr, OnOk, is_err}
 use Rattle.lfs_device.specs.declared.error.Error.{Error}
 use Rattle.lfs_device.specs.declared.error.Error.TheVariants.{Io, NoMemory}
-use Rattle.lfs_tree.specs.SettledFiles.{ChangesOnlyMap}
-use Rattle.lfs_tree.specs.ThreadContents.{ReportsFaultOrNoMemory}
-use Rattle.lfs_model.specs.crash.Frame.{LeavesOthers}
-use Rattle.lfs_model.specs.format.Thread.{pair_count_before_root, addresses_blocks}
-use Rattle.lfs_model.specs.session.TreeEdits.{tree_renaming, without_prefix}
-use Rattle.lfs_model.specs.session.InDirectory.{IsPlaceOf}
-use Rattle.lfs_model.specs.format.Names.{Name}
+use Rattle.lfs_tree.proofs.Common.{ChangesOnlyMap, ThreadReportsFaults, LeavesOthers, count_before_root, addresses_blocks, tree_renaming, without_prefix, IsPlaceOf, Name, Struct, Path, branch_address, disk_tree, CompletesOperation, WritesTouchedFree, WritesPairTwo, SameInFlight, CanEditIn, WritesPairsTwo, second_pair, WritesThreadFree, tree_moved, IsReadyImage, tree_renamed, KeptThread, ThreadView, thread_pair, SurvivesEither, IsStorage, CanMoveEntry, CanMoveOntoFile, HasMovedEntry, ThreadWorksOrReports}
 use Rattle.lfs_model.specs.session.Operations as ops
-use Rattle.lfs_model.specs.format.Slots.{Struct}
-use Rattle.lfs_model.specs.tree.Tree.{Path, branch_address}
-use Rattle.lfs_model.specs.tree.Shown.{tree_on_disk}
-use Rattle.lfs_model.proofs.Committed.{IsCompletion}
-use Rattle.lfs_operations.specs.Altering.{ChangesGiven}
-use Rattle.lfs_operations.specs.Changing.{WritesPairTwo}
-use Rattle.lfs_operations.specs.Dropping.{SameInFlight}
-use Rattle.lfs_operations.specs.Editing.{CanEditIn}
-use Rattle.lfs_operations.specs.MovingSteps.{WritesTwoTwo, second_commit_pair, WritesThreadFree}
-use Rattle.lfs_operations.specs.MovingAcross.{tree_moved}
-use Rattle.lfs_operations.specs.MovingOnto.{CanReplaceFileOver, IsFileReplaced}
-use Rattle.lfs_operations.specs.Ready.{IsReadyImage}
-use Rattle.lfs_operations.specs.Renaming.{CanRenameOnto, IsRenamedOnto, tree_renamed}
-use Rattle.lfs_thread.specs.Kept.{KeptThread, ThreadView}
-use Rattle.lfs_thread.specs.ThreadSteps.{thread_pair_at}
-use Rattle.lfs_tree.specs.TreeChanges.{SurvivesEither}
-use Rattle.lfs_lookup.specs.Entry.{IsStorage}
-use Rattle.lfs_tree.specs.MovedEntries.{CanMoveEntry, CanMoveOntoFile, HasMovedEntry, HasMovedOnto, ThreadWorksOrReportsError}
+use Rattle.lfs_operations.specs.MovingOnto.{CanReplaceFileAcross, IsFileReplaced}
+use Rattle.lfs_operations.specs.Renaming.{CanRenameOnto, IsRenamedOnto}
+use Rattle.lfs_tree.specs.MovedEntries.{HasMovedOnto}
 use Rattle.lfs_tree.specs.declared.renames_at.RenameSource.{RenameSource}
 use Rattle.lfs_lookup.specs.declared.entry.FileStorage.{FileStorage}
 use Rattle.lfs_lookup.specs.declared.entry.FileStorage.TheVariants as shown
@@ -100,7 +79,7 @@ module _ (t : KeptThread) (from to : Path) (source : RenameSource) (slot : SlotP
     logged = shift.logged _;
   }
 
-  pub onto_survives_within : (new : KeptThread) → source.slot.pair ≡ slot.pair → ((rename : CanRenameOnto t source.slot.pair source.slot.id slot.id name) → SurvivesEither t new (tree_renamed t rename.can.path rename.can.name name)) → SurvivesEither t new (tree_renaming from to (tree_on_disk t.disk t.pairs))
+  pub onto_survives_within : (new : KeptThread) → source.slot.pair ≡ slot.pair → ((rename : CanRenameOnto t source.slot.pair source.slot.id slot.id name) → SurvivesEither t new (tree_renamed t rename.can.path rename.can.name name)) → SurvivesEither t new (tree_renaming from to (disk_tree t.disk t.pairs))
   unfolding replace_within
   onto_survives_within new e gives = survives_at t new from to _ _ shift.old_is (path_here e) (gives (replace_within e))
 
@@ -123,7 +102,7 @@ module _ (t : KeptThread) (from to : Path) (source : RenameSource) (slot : SlotP
 
   -- ---- in another pair
 
-  pub replace_apart : source.slot.pair ≢ slot.pair → CanReplaceFileOver t source.slot.pair source.slot.id source.first slot.pair slot.id name
+  pub replace_apart : source.slot.pair ≢ slot.pair → CanReplaceFileAcross t source.slot.pair source.slot.id source.first slot.pair slot.id name
   replace_apart ne = record {
     old = shift.old;
     begins_old = shift.old_first;
@@ -140,16 +119,16 @@ module _ (t : KeptThread) (from to : Path) (source : RenameSource) (slot : SlotP
     fits = shift.fits;
   }
 
-  pub onto_survives_apart : (new : KeptThread) → source.slot.pair ≢ slot.pair → ((rename : CanReplaceFileOver t source.slot.pair source.slot.id source.first slot.pair slot.id name) → SurvivesEither t new (tree_moved t rename.old.path rename.old.name rename.path name))
-      → SurvivesEither t new (tree_renaming from to (tree_on_disk t.disk t.pairs))
+  pub onto_survives_apart : (new : KeptThread) → source.slot.pair ≢ slot.pair → ((rename : CanReplaceFileAcross t source.slot.pair source.slot.id source.first slot.pair slot.id name) → SurvivesEither t new (tree_moved t rename.old.path rename.old.name rename.path name))
+      → SurvivesEither t new (tree_renaming from to (disk_tree t.disk t.pairs))
   unfolding replace_apart
   onto_survives_apart new ne gives = survives_at t new from to _ _ shift.old_is shift.is (gives (replace_apart ne))
 
   below_target : slot.pair < length t.pairs
   below_target = behind_below t.pairs shift.first slot.pair can.target.pair can.target.rest can.target.place
 
-  pub onto_apart : (new : KeptThread) → source.slot.pair ≢ slot.pair → WritesTwoTwo t (second_commit_pair t source.slot.pair source.first) slot.pair new → ChangesGiven t (addresses_blocks (thread_pair_at t source.slot.pair).at (thread_pair_at t slot.pair).at) new
-      → ((rename : CanReplaceFileOver t source.slot.pair source.slot.id source.first slot.pair slot.id name) → IsFileReplaced t new rename.old.path rename.old.name rename.path name rename.target.stands.slot.struct) → HasMovedOnto t from to contents new
+  pub onto_apart : (new : KeptThread) → source.slot.pair ≢ slot.pair → WritesPairsTwo t (second_pair t source.slot.pair source.first) slot.pair new → WritesTouchedFree t (addresses_blocks (thread_pair t source.slot.pair).at (thread_pair t slot.pair).at) new
+      → ((rename : CanReplaceFileAcross t source.slot.pair source.slot.id source.first slot.pair slot.id name) → IsFileReplaced t new rename.old.path rename.old.name rename.path name rename.target.stands.slot.struct) → HasMovedOnto t from to contents new
   unfolding replace_apart target_edit
   onto_apart new ne w alters gives =
       let is : IsFileReplaced t new shift.old.path shift.old.name shift.above name can.target.stands.slot.struct = gives (replace_apart ne) in
@@ -163,7 +142,7 @@ module _ (t : KeptThread) (from to : Path) (source : RenameSource) (slot : SlotP
         alone = spares_two t new from to source name shift slot can.target alters;
       }
 
-  pub onto_writes_apart : (new : KeptThread) → WritesTwoTwo t (second_commit_pair t source.slot.pair source.first) slot.pair new → WritesThreadFree t new
+  pub onto_writes_apart : (new : KeptThread) → WritesPairsTwo t (second_pair t source.slot.pair source.first) slot.pair new → WritesThreadFree t new
   onto_writes_apart new w = apart_across t from to source name slot.pair new shift below_target w
 
 -- ---- the file's list is freed behind it
@@ -172,10 +151,10 @@ pub onto_done : (t mid new : KeptThread) (from to : Path) (contents : FileStorag
 onto_done t mid new from to contents is only ready flying = record {
   ready = ready;
   flying = λ b. ((λ h. (is.flying b).0 ((flying b).0 h)), (λ h. (flying b).1 ((is.flying b).1 h)));
-  root = ap pair_count_before_root only.pairs ∙ is.root;
+  root = ap count_before_root only.pairs ∙ is.root;
   completed = λ s given to_given tree f k.
-      subst (λ ps. IsCompletion t.disk t.pairs s (ops.Rename given to_given) new.disk ps) (sym only.pairs)
-      (subst (λ disk. IsCompletion t.disk t.pairs s (ops.Rename given to_given) disk mid.pairs) (sym only.disk) (is.completed s given to_given tree f k));
+      subst (λ ps. CompletesOperation t.disk t.pairs s (ops.Rename given to_given) new.disk ps) (sym only.pairs)
+      (subst (λ disk. CompletesOperation t.disk t.pairs s (ops.Rename given to_given) disk mid.pairs) (sym only.disk) (is.completed s given to_given tree f k));
   alone = λ s given to_given f k.
       subst (λ ps. LeavesOthers t.disk t.pairs s (ops.Rename given to_given) new.disk ps) (sym only.pairs)
       (subst (λ disk. LeavesOthers t.disk t.pairs s (ops.Rename given to_given) disk mid.pairs) (sym only.disk) (is.alone s given to_given f k));
@@ -184,7 +163,7 @@ onto_done t mid new from to contents is only ready flying = record {
 pub apart_then : (t mid new : KeptThread) → WritesThreadFree t mid → ChangesOnlyMap mid new → WritesThreadFree t new
 apart_then t mid new w only = record { blocks = w.blocks; writes = writes_then t mid new w.blocks w.writes only; each = w.each }
 
-pub reported_then : {X Y : Type 0} (old mid new : ThreadView) (x : X) (result : Result X Error) (given : Result Y Error) → result ≡ Ok x → ThreadWorksOrReportsError old mid result → new.failed ≡ is_err given → ReportsFaultOrNoMemory mid.kept new.kept given → ThreadWorksOrReportsError old new given
+pub reported_then : {X Y : Type 0} (old mid new : ThreadView) (x : X) (result : Result X Error) (given : Result Y Error) → result ≡ Ok x → ThreadWorksOrReports old mid result → new.failed ≡ is_err given → ThreadReportsFaults mid.kept new.kept given → ThreadWorksOrReports old new given
 reported_then {X} {Y} old mid new x result given is t failed w =
     let same = t.no_fault (λ io. let z = sym is ∙ io in absurd (cc)) in
     record {
@@ -198,7 +177,7 @@ reported_then {X} {Y} old mid new x result given is t failed w =
     works (Ok y) e = e
     works (Err e) f = tt
 
-pub reported_of : {X Y : Type 0} (old new : ThreadView) (e : Error) (result : Result X Error) (given : Result Y Error) → result ≡ Err e → given ≡ Err e → ThreadWorksOrReportsError old new result → ThreadWorksOrReportsError old new given
+pub reported_of : {X Y : Type 0} (old new : ThreadView) (e : Error) (result : Result X Error) (given : Result Y Error) → result ≡ Err e → given ≡ Err e → ThreadWorksOrReports old new result → ThreadWorksOrReports old new given
 reported_of {X} {Y} old new e result given is same t = record {
   works = subst (λ (r : Result Y Error). OnOk r (new.failed ≡ false)) (sym same) tt;
   errors = subst (λ (r : Result Y Error). IfErr r (λ x. (x ≡ Io) ⊎ (x ≡ NoMemory))) (sym same) (subst (λ (r : Result X Error). IfErr r (λ x. (x ≡ Io) ⊎ (x ≡ NoMemory))) is t.errors);
@@ -209,7 +188,7 @@ reported_of {X} {Y} old new e result given is same t = record {
     error_is : {Z : Type 0} (a b : Error) (r : Result Z Error) → r ≡ Err a → r ≡ Err b → a ≡ b
     error_is a b r h k = cc
 
-pub onto_survives : (t mid new : KeptThread) (from to : Path) (contents : FileStorage) → WritesThreadFree t mid → HasMovedOnto t from to contents mid → ChangesOnlyMap mid new → SurvivesEither t mid (tree_renaming from to (tree_on_disk t.disk t.pairs))
-    → SurvivesEither t new (tree_renaming from to (tree_on_disk t.disk t.pairs))
+pub onto_survives : (t mid new : KeptThread) (from to : Path) (contents : FileStorage) → WritesThreadFree t mid → HasMovedOnto t from to contents mid → ChangesOnlyMap mid new → SurvivesEither t mid (tree_renaming from to (disk_tree t.disk t.pairs))
+    → SurvivesEither t new (tree_renaming from to (disk_tree t.disk t.pairs))
 onto_survives t mid new from to contents w is only k =
-    survives_left t mid new.history (tree_renaming from to (tree_on_disk t.disk t.pairs)) (shape_geometry t mid w.writes.shape) w.writes.at_worst is.free.ready.accepted is.free.ready.writable is.shows only.reads k
+    survives_left t mid new.history (tree_renaming from to (disk_tree t.disk t.pairs)) (shape_geometry t mid w.writes.shape) w.writes.at_worst is.free.ready.accepted is.free.ready.writable is.shows only.reads k

@@ -1,12 +1,7 @@
 -- An entry that takes the place of another one, whose slot is of the same pair.
 use Rattle.std.proofs.Common.{◌≡◌, ◌≢◌, ◌∙◌, ◌++◌, [], ◌∷◌, append-nil, Some, None, sym, ap, subst}
-use Rattle.lfs_model.specs.session.TreeEdits.{without_prefix}
-use Rattle.lfs_model.specs.session.InDirectory.{IsPairOfDirectory, IsPlaceOf}
-use Rattle.lfs_model.specs.format.Names.{Name}
-use Rattle.lfs_model.specs.tree.Tree.{Path}
+use Rattle.lfs_tree.proofs.Common.{without_prefix, IsDirectoryPair, IsPlaceOf, Name, Path, KeptThread, CanMoveEntry}
 use Rattle.lfs_model.proofs.Paths.{rest_itself}
-use Rattle.lfs_thread.specs.Kept.{KeptThread}
-use Rattle.lfs_tree.specs.MovedEntries.{CanMoveEntry}
 use Rattle.lfs_tree.specs.declared.renames_at.RenameSource.{RenameSource}
 use Rattle.lfs_lookup.specs.declared.search.SlotPosition.{SlotPosition}
 use Rattle.lfs_tree.proofs.SameDirectory.{same_above, same_first}
@@ -15,7 +10,7 @@ module _ (t : KeptThread) (from to : Path) (source : RenameSource) (slot : SlotP
   pub one_place : can.first ≡ can.old.first
   one_place = same_first t.disk t.pairs can.above can.old.path can.on.at can.old.at can.first can.old.first slot.pair target.pair can.old.stands.pair target.rest can.old.stands.rest
       can.old.ready.accepted can.on.leads can.on.begins can.old.leads can.old.begins target.place
-      (subst (λ i. IsPairOfDirectory t.pairs can.old.first i can.old.stands.pair can.old.stands.rest) e can.old.stands.place)
+      (subst (λ i. IsDirectoryPair t.pairs can.old.first i can.old.stands.pair can.old.stands.rest) e can.old.stands.place)
 
   one_above : can.above ≡ can.old.path
   one_above = same_above t.disk t.pairs can.above can.old.path can.on.at can.old.at can.first can.old.first can.old.ready.accepted can.on.leads can.on.begins can.old.leads can.old.begins one_place

@@ -1,40 +1,13 @@
 -- An entry that gets another path: what the operations on slots ask for, and what they come to.
 use Rattle.std.proofs.Common.{ℕ, ◌≡◌, ◌≢◌, ◌⊎◌, inl, inr, ◌<◌, ◌≤◌, ◌∙◌, ◌++◌, Bool, true, false, List, [], ◌∷◌, length, Result, Ok, Err, sym, ap, ap₂, subst, arith}
 use Rattle.std.specs.Prelude.{IfErr, OnOk, slice_get}
-use Rattle.std.specs.List.{AllByRecursion}
-use Rattle.std.proofs.lemmas.List.Elements.{All-from_recursion}
-use Rattle.std.proofs.lemmas.Option.{same_Some}
+use Rattle.lfs_tree.proofs.Common.{AllByRecursion, All-from_recursion, same_Some, tree_renaming, without_prefix, IsFree, IsUsedBlock, Free, Used, PairChange, disk_block, BelongsAt, IsDirectoryPair, Name, Slot, pairs_blocks, address_blocks, Path, all_unmoved_slots, struct_blocks, disk_tree, used_blocks, Contains-number_occurrences, number_occurrences-Contains, Each, number_occurrences, count_append, each_from_counted, each_weaker, SameFileBlocks, file_blocks, WritesTouchedFree, HasTwoFree, WritesPairTwo, has_failed_after, CanEditIn, editable_slot, HasFreeBlocks, WritesPairsTwo, second_pair, WritesThreadFree, IsRenamedAcross, tree_moved, IsReadyImage, IsReadyUnsettled, drops_with_its_slot, tree_renamed, KeptThread, ThreadView, ChangesThreadBlocks, thread_pair, SurvivesEither, CanMoveEntry, CanMoveToVacant, HasMovedEntry, ThreadWorksOrReports}
 use Rattle.lfs_device.specs.declared.error.Error.{Error}
 use Rattle.lfs_device.specs.declared.error.Error.TheVariants.{Io, NoMemory, NoSpace}
-use Rattle.lfs_model.specs.session.TreeEdits.{tree_renaming, without_prefix}
-use Rattle.lfs_model.specs.layers.BlockSets.{IsFree, IsUsedBlock}
-use Rattle.lfs_model.specs.layers.BlockSets.BlockState.{Free, Used}
-use Rattle.lfs_model.specs.layers.Changes.{PairChange}
-use Rattle.lfs_model.specs.format.Disk.{disk_block}
-use Rattle.lfs_model.specs.session.InDirectory.{BelongsAt, IsPairOfDirectory}
-use Rattle.lfs_model.specs.format.Names.{Name}
-use Rattle.lfs_model.specs.format.Slots.{Slot}
-use Rattle.lfs_model.specs.format.Thread.{blocks_of_pairs, address_blocks}
-use Rattle.lfs_model.specs.tree.Tree.{Path}
-use Rattle.lfs_model.specs.tree.Shown.{all_slots_not_moved, struct_blocks, tree_on_disk, used_blocks}
-use Rattle.lfs_model.proofs.BlockSets.{Contains-number_count, number_count-Contains}
-use Rattle.lfs_model.proofs.Counts.{Each, number_count, count_append, each_from_counted, each_weaker}
-use Rattle.lfs_model.proofs.Files.{SameFileBlocks}
-use Rattle.lfs_model.proofs.Splices.{file_blocks}
-use Rattle.lfs_operations.specs.Altering.{ChangesGiven}
-use Rattle.lfs_operations.specs.Changing.{HasTwoFree, WritesPairTwo, has_failed_after}
-use Rattle.lfs_operations.specs.Editing.{CanEditIn, editable_slot}
-use Rattle.lfs_operations.specs.Making.{HasFreeBlocks}
 use Rattle.lfs_operations.specs.MoveEnds.{written_at_end}
-use Rattle.lfs_operations.specs.MovingSteps.{ReportsErrorsOfCommitsTakingBlocks, WritesTwoTwo, second_commit_pair, WritesThreadFree}
-use Rattle.lfs_operations.specs.MovingAcross.{CanRenameAcross, IsRenamedAcross, tree_moved}
-use Rattle.lfs_operations.specs.Ready.{IsReadyImage, IsReadyUpdated}
-use Rattle.lfs_operations.specs.Removing.{drops_with_its_slot}
-use Rattle.lfs_operations.specs.Renaming.{CanRenameWithin, IsRenamedWithin, ReportsErrorsOfReadThenChangeOrSplit, tree_renamed}
-use Rattle.lfs_thread.specs.Kept.{KeptThread, ThreadView}
-use Rattle.lfs_thread.specs.ThreadSteps.{ChangesThreadBlocks, thread_pair_at}
-use Rattle.lfs_tree.specs.TreeChanges.{SurvivesEither}
-use Rattle.lfs_tree.specs.MovedEntries.{CanMoveEntry, CanMoveToVacant, HasMovedEntry, ThreadWorksOrReportsError}
+use Rattle.lfs_operations.specs.MovingSteps.{ReportsTakingCommits}
+use Rattle.lfs_operations.specs.MovingAcross.{CanRenameAcross}
+use Rattle.lfs_operations.specs.Renaming.{CanRenameWithin, IsRenamedWithin, ReportsReadPut}
 use Rattle.lfs_tree.specs.declared.renames_at.RenameSource.{RenameSource}
 use Rattle.lfs_lookup.specs.declared.search.SlotPosition.{SlotPosition}
 use Rattle.lfs_tree.proofs.Carried.{among_one, among_two, behind_below, pair_blocks}
@@ -67,7 +40,7 @@ works_on new P (Ok x) (inl h) = h
 works_on new P (Ok x) (inr h) = h.0
 works_on new P (Err e) h = tt
 
-pub reported_within : {X : Type 0} (old new : ThreadView) (index : ℕ) (changes : List PairChange) (r : Result X Error) → HasFreeBlocks 2 old.kept.map → ReportsErrorsOfReadThenChangeOrSplit old new index changes r → ThreadWorksOrReportsError old new r
+pub reported_within : {X : Type 0} (old new : ThreadView) (index : ℕ) (changes : List PairChange) (r : Result X Error) → HasFreeBlocks 2 old.kept.map → ReportsReadPut old new index changes r → ThreadWorksOrReports old new r
 reported_within old new index changes r room t = record {
   works = works_on new _ r t.failed;
   errors = reported_errors old.kept r room t.reports.no_space t.reports.errors;
@@ -75,7 +48,7 @@ reported_within old new index changes r room t = record {
   no_fault = t.reports.no_fault;
 }
 
-pub reported_across : {X : Type 0} (old new : ThreadView) (index : ℕ) (changes : List PairChange) (r : Result X Error) → HasFreeBlocks 2 old.kept.map → ReportsErrorsOfCommitsTakingBlocks old new index changes r → ThreadWorksOrReportsError old new r
+pub reported_across : {X : Type 0} (old new : ThreadView) (index : ℕ) (changes : List PairChange) (r : Result X Error) → HasFreeBlocks 2 old.kept.map → ReportsTakingCommits old new index changes r → ThreadWorksOrReports old new r
 reported_across old new index changes r room t = record {
   works = works_on new _ r t.failed;
   errors = reported_errors old.kept r room t.no_space t.errors;
@@ -93,13 +66,13 @@ apart_within t from to source name new can w = record {
 }
 
 -- a pair's two blocks
-in_pair : (t : KeptThread) (index : ℕ) → index < length t.pairs → (1 ≤ number_count (thread_pair_at t index).at.0 (blocks_of_pairs t.pairs)) × (1 ≤ number_count (thread_pair_at t index).at.1 (blocks_of_pairs t.pairs))
+in_pair : (t : KeptThread) (index : ℕ) → index < length t.pairs → (1 ≤ number_occurrences (thread_pair t index).at.0 (pairs_blocks t.pairs)) × (1 ≤ number_occurrences (thread_pair t index).at.1 (pairs_blocks t.pairs))
 in_pair t index below =
-    let k = pair_blocks t.pairs index below in (number_count-Contains (blocks_of_pairs t.pairs) (thread_pair_at t index).at.0 k.0, number_count-Contains (blocks_of_pairs t.pairs) (thread_pair_at t index).at.1 k.1)
+    let k = pair_blocks t.pairs index below in (number_occurrences-Contains (pairs_blocks t.pairs) (thread_pair t index).at.0 k.0, number_occurrences-Contains (pairs_blocks t.pairs) (thread_pair t index).at.1 k.1)
 
 -- a pair's, or free
 abbrev pub IsBeside : KeptThread → ℕ → Type 0
-IsBeside t c = (1 ≤ number_count c (blocks_of_pairs t.pairs)) ⊎ IsFree t.map c
+IsBeside t c = (1 ≤ number_occurrences c (pairs_blocks t.pairs)) ⊎ IsFree t.map c
 
 all_free : (t : KeptThread) (fresh : List ℕ) → AllByRecursion (IsFree t.map) fresh → Each (IsBeside t) fresh
 all_free t fresh h = each_weaker (IsFree t.map) (IsBeside t) (λ c f. inr f) fresh h
@@ -108,55 +81,55 @@ source_below : (t : KeptThread) (from to : Path) (source : RenameSource) (name :
 source_below t from to source name can = behind_below t.pairs can.old.first source.slot.pair can.old.stands.pair can.old.stands.rest can.old.stands.place
 
 pub within_written : (t : KeptThread) (from to : Path) (source : RenameSource) (name : Name) (new : KeptThread) → CanMoveEntry t from to source name → (w : WritesPairTwo t source.slot.pair new)
-    → Each (IsBeside t) ((thread_pair_at t source.slot.pair).at.0 ∷ (thread_pair_at t source.slot.pair).at.1 ∷ w.fresh)
+    → Each (IsBeside t) ((thread_pair t source.slot.pair).at.0 ∷ (thread_pair t source.slot.pair).at.1 ∷ w.fresh)
 within_written t from to source name new can w = let k = in_pair t source.slot.pair (source_below t from to source name can) in (inl k.0, (inl k.1, all_free t w.fresh w.free))
 
 -- the pair that the second step writes
-left_below : (t : KeptThread) (index first : ℕ) → index < length t.pairs → second_commit_pair t index first < length t.pairs
+left_below : (t : KeptThread) (index first : ℕ) → index < length t.pairs → second_pair t index first < length t.pairs
 left_below t index first below = go (drops_with_its_slot t index first)
   where
     go : (b : Bool) → written_at_end index b < length t.pairs
     go true = omega arith
     go false = below
 
-pub across_written : (t : KeptThread) (from to : Path) (source : RenameSource) (name : Name) (other : ℕ) (new : KeptThread) → CanMoveEntry t from to source name → other < length t.pairs → (w : WritesTwoTwo t (second_commit_pair t source.slot.pair source.first) other new)
-    → (let one = second_commit_pair t source.slot.pair source.first in Each (IsBeside t) ((thread_pair_at t other).at.0 ∷ (thread_pair_at t other).at.1 ∷ (thread_pair_at t one).at.0 ∷ (thread_pair_at t one).at.1 ∷ w.fresh))
+pub across_written : (t : KeptThread) (from to : Path) (source : RenameSource) (name : Name) (other : ℕ) (new : KeptThread) → CanMoveEntry t from to source name → other < length t.pairs → (w : WritesPairsTwo t (second_pair t source.slot.pair source.first) other new)
+    → (let one = second_pair t source.slot.pair source.first in Each (IsBeside t) ((thread_pair t other).at.0 ∷ (thread_pair t other).at.1 ∷ (thread_pair t one).at.0 ∷ (thread_pair t one).at.1 ∷ w.fresh))
 across_written t from to source name other new can below w =
     let k = in_pair t other below in
-    let l = in_pair t (second_commit_pair t source.slot.pair source.first) (left_below t source.slot.pair source.first (source_below t from to source name can)) in
+    let l = in_pair t (second_pair t source.slot.pair source.first) (left_below t source.slot.pair source.first (source_below t from to source name can)) in
     (inl k.0, (inl k.1, (inl l.0, (inl l.1, all_free t w.fresh w.free))))
 
-pub apart_across : (t : KeptThread) (from to : Path) (source : RenameSource) (name : Name) (other : ℕ) (new : KeptThread) → CanMoveEntry t from to source name → other < length t.pairs → WritesTwoTwo t (second_commit_pair t source.slot.pair source.first) other new → WritesThreadFree t new
+pub apart_across : (t : KeptThread) (from to : Path) (source : RenameSource) (name : Name) (other : ℕ) (new : KeptThread) → CanMoveEntry t from to source name → other < length t.pairs → WritesPairsTwo t (second_pair t source.slot.pair source.first) other new → WritesThreadFree t new
 apart_across t from to source name other new can below w = record {
   blocks = _;
   writes = w.writes;
-  each = among_two t other (second_commit_pair t source.slot.pair source.first) w.fresh below (left_below t source.slot.pair source.first (source_below t from to source name can)) w.free;
+  each = among_two t other (second_pair t source.slot.pair source.first) w.fresh below (left_below t source.slot.pair source.first (source_below t from to source name can)) w.free;
 }
 
 -- none of them is a file's
-file_used : (t : KeptThread) (index id : ℕ) (can : CanEditIn t index id) (b : ℕ) → 1 ≤ number_count b (struct_blocks t.disk (editable_slot can).struct) → IsUsedBlock t.map b
+file_used : (t : KeptThread) (index id : ℕ) (can : CanEditIn t index id) (b : ℕ) → 1 ≤ number_occurrences b (struct_blocks t.disk (editable_slot can).struct) → IsUsedBlock t.map b
 file_used t index id can b some =
-    let l = each_here (λ (s : Slot). number_count b (struct_blocks t.disk s.struct) ≤ number_count b (file_blocks t.disk (all_slots_not_moved t.pairs))) t index id can (among_files b t.disk (all_slots_not_moved t.pairs)) in
-    let e = count_append b (blocks_of_pairs t.pairs) (file_blocks t.disk (all_slots_not_moved t.pairs)) in
-    (can.ready.used b).1 (Contains-number_count (used_blocks t.disk t.pairs) b (omega (arith, l, e, some)))
+    let l = each_here (λ (s : Slot). number_occurrences b (struct_blocks t.disk s.struct) ≤ number_occurrences b (file_blocks t.disk (all_unmoved_slots t.pairs))) t index id can (among_files b t.disk (all_unmoved_slots t.pairs)) in
+    let e = count_append b (pairs_blocks t.pairs) (file_blocks t.disk (all_unmoved_slots t.pairs)) in
+    (can.ready.used b).1 (Contains-number_occurrences (used_blocks t.disk t.pairs) b (omega (arith, l, e, some)))
 
 pub file_beside : (t new : KeptThread) (index id : ℕ) (can : CanEditIn t index id) (bs : List ℕ) → ChangesThreadBlocks bs t new → Each (IsBeside t) bs → SameFileBlocks t.disk new.disk (editable_slot can).struct
 file_beside t new index id can bs w beside = each_from_counted (λ b. disk_block new.disk b ≡ disk_block t.disk b) (struct_blocks t.disk (editable_slot can).struct)
     (λ b some. w.others.others b (All-from_recursion (λ c. c ≢ b) bs (each_weaker (IsBeside t) (λ c. c ≢ b) (other b some) bs beside)))
   where
-    other : (b : ℕ) → 1 ≤ number_count b (struct_blocks t.disk (editable_slot can).struct) → (c : ℕ) → IsBeside t c → c ≢ b
-    other b some c (inl has) e = let k = ap (λ z. number_count z (blocks_of_pairs t.pairs)) e in let n = apart_from_pairs t index id can b some in absurd (omega (arith, k, n, has))
+    other : (b : ℕ) → 1 ≤ number_occurrences b (struct_blocks t.disk (editable_slot can).struct) → (c : ℕ) → IsBeside t c → c ≢ b
+    other b some c (inl has) e = let k = ap (λ z. number_occurrences z (pairs_blocks t.pairs)) e in let n = apart_from_pairs t index id can b some in absurd (omega (arith, k, n, has))
     other b some c (inr free) e = let k : Used ≡ Free = same_Some Used Free (sym (file_used t index id can b some) ∙ ap (slice_get t.map) (sym e) ∙ free) in absurd (cc)
 
 -- nothing is gone
-pub none_gone : (t : KeptThread) → IsReadyUpdated t [] [] → IsReadyImage t
+pub none_gone : (t : KeptThread) → IsReadyUnsettled t [] [] → IsReadyImage t
 none_gone t r = record {
   accepted = r.accepted;
   writable = r.writable;
   settled = r.settled;
   used = λ b. (
-    (λ h. Contains-number_count (used_blocks t.disk t.pairs) b (let k = number_count-Contains r.used.owned b ((r.used.are b).0 h) in let e = r.used.same b in omega (arith, k, e))),
-    (λ h. (r.used.are b).1 (Contains-number_count r.used.owned b (let k = number_count-Contains (used_blocks t.disk t.pairs) b h in let e = r.used.same b in omega (arith, k, e)))),
+    (λ h. Contains-number_occurrences (used_blocks t.disk t.pairs) b (let k = number_occurrences-Contains r.used.owned b ((r.used.are b).0 h) in let e = r.used.same b in omega (arith, k, e))),
+    (λ h. (r.used.are b).1 (Contains-number_occurrences r.used.owned b (let k = number_occurrences-Contains (used_blocks t.disk t.pairs) b h in let e = r.used.same b in omega (arith, k, e)))),
   );
   size = r.size;
   large = r.large;
@@ -164,12 +137,12 @@ none_gone t r = record {
 
 -- ---- paths
 
-pub survives_at : (t new : KeptThread) (from to p q : Path) → from ≡ p → to ≡ q → SurvivesEither t new (tree_renaming p q (tree_on_disk t.disk t.pairs)) → SurvivesEither t new (tree_renaming from to (tree_on_disk t.disk t.pairs))
+pub survives_at : (t new : KeptThread) (from to p q : Path) → from ≡ p → to ≡ q → SurvivesEither t new (tree_renaming p q (disk_tree t.disk t.pairs)) → SurvivesEither t new (tree_renaming from to (disk_tree t.disk t.pairs))
 survives_at t new from to p q e f k =
-    subst (λ z. SurvivesEither t new (tree_renaming z to (tree_on_disk t.disk t.pairs))) (sym e) (subst (λ z. SurvivesEither t new (tree_renaming p z (tree_on_disk t.disk t.pairs))) (sym f) k)
+    subst (λ z. SurvivesEither t new (tree_renaming z to (disk_tree t.disk t.pairs))) (sym e) (subst (λ z. SurvivesEither t new (tree_renaming p z (disk_tree t.disk t.pairs))) (sym f) k)
 
-pub shows_at : (t new : KeptThread) (from to p q : Path) → from ≡ p → to ≡ q → tree_on_disk new.disk new.pairs ≡ tree_renaming p q (tree_on_disk t.disk t.pairs) → tree_on_disk new.disk new.pairs ≡ tree_renaming from to (tree_on_disk t.disk t.pairs)
-shows_at t new from to p q e f k = k ∙ ap₂ (λ a b. tree_renaming a b (tree_on_disk t.disk t.pairs)) (sym e) (sym f)
+pub shows_at : (t new : KeptThread) (from to p q : Path) → from ≡ p → to ≡ q → disk_tree new.disk new.pairs ≡ tree_renaming p q (disk_tree t.disk t.pairs) → disk_tree new.disk new.pairs ≡ tree_renaming from to (disk_tree t.disk t.pairs)
+shows_at t new from to p q e f k = k ∙ ap₂ (λ a b. tree_renaming a b (disk_tree t.disk t.pairs)) (sym e) (sym f)
 
 -- ---- a name that isn't there
 
@@ -180,7 +153,7 @@ module _ (t : KeptThread) (from to : Path) (source : RenameSource) (place : Slot
   one_directory : source.slot.pair ≡ place.pair → shift.first ≡ shift.old.first
   one_directory e = same_first t.disk t.pairs shift.above shift.old.path shift.on.at shift.old.at shift.first shift.old.first place.pair can.belongs.pair shift.old.stands.pair _ shift.old.stands.rest
       shift.old.ready.accepted shift.on.leads shift.on.begins shift.old.leads shift.old.begins can.belongs.place
-      (subst (λ i. IsPairOfDirectory t.pairs shift.old.first i shift.old.stands.pair shift.old.stands.rest) e shift.old.stands.place)
+      (subst (λ i. IsDirectoryPair t.pairs shift.old.first i shift.old.stands.pair shift.old.stands.rest) e shift.old.stands.place)
 
   pub rename_within : source.slot.pair ≡ place.pair → CanRenameWithin t source.slot.pair source.slot.id place.id name
   rename_within e = record {
@@ -194,7 +167,7 @@ module _ (t : KeptThread) (from to : Path) (source : RenameSource) (place : Slot
   path_is e = shift.is ∙ ap (λ p. p ++ name ∷ [])
       (same_above t.disk t.pairs shift.above shift.old.path shift.on.at shift.old.at shift.first shift.old.first shift.old.ready.accepted shift.on.leads shift.on.begins shift.old.leads shift.old.begins (one_directory e))
 
-  pub survives_within : (new : KeptThread) → source.slot.pair ≡ place.pair → ((rename : CanRenameWithin t source.slot.pair source.slot.id place.id name) → SurvivesEither t new (tree_renamed t rename.can.path rename.can.name name)) → SurvivesEither t new (tree_renaming from to (tree_on_disk t.disk t.pairs))
+  pub survives_within : (new : KeptThread) → source.slot.pair ≡ place.pair → ((rename : CanRenameWithin t source.slot.pair source.slot.id place.id name) → SurvivesEither t new (tree_renamed t rename.can.path rename.can.name name)) → SurvivesEither t new (tree_renaming from to (disk_tree t.disk t.pairs))
   unfolding rename_within
   survives_within new e gives = survives_at t new from to _ _ shift.old_is (path_is e) (gives (rename_within e))
 
@@ -230,11 +203,11 @@ module _ (t : KeptThread) (from to : Path) (source : RenameSource) (place : Slot
   }
 
   pub survives_apart : (new : KeptThread) → source.slot.pair ≢ place.pair → ((rename : CanRenameAcross t source.slot.pair source.slot.id source.first place.pair place.id name) → SurvivesEither t new (tree_moved t rename.old.path rename.old.name rename.path name))
-      → SurvivesEither t new (tree_renaming from to (tree_on_disk t.disk t.pairs))
+      → SurvivesEither t new (tree_renaming from to (disk_tree t.disk t.pairs))
   unfolding rename_apart
   survives_apart new ne gives = survives_at t new from to _ _ shift.old_is shift.is (gives (rename_apart ne))
 
-  pub shifted_apart : (new : KeptThread) → source.slot.pair ≢ place.pair → ChangesGiven t (address_blocks (thread_pair_at t source.slot.pair).at) new → ((rename : CanRenameAcross t source.slot.pair source.slot.id source.first place.pair place.id name) → IsRenamedAcross t new rename.old.path rename.old.name rename.path name)
+  pub shifted_apart : (new : KeptThread) → source.slot.pair ≢ place.pair → WritesTouchedFree t (address_blocks (thread_pair t source.slot.pair).at) new → ((rename : CanRenameAcross t source.slot.pair source.slot.id source.first place.pair place.id name) → IsRenamedAcross t new rename.old.path rename.old.name rename.path name)
       → HasMovedEntry t from to new
   unfolding rename_apart
   shifted_apart new ne alters gives =
@@ -247,6 +220,6 @@ module _ (t : KeptThread) (from to : Path) (source : RenameSource) (place : Slot
         alone = spares_one t new from to source name shift alters;
       }
 
-  pub writes_apart : (new : KeptThread) → WritesTwoTwo t (second_commit_pair t source.slot.pair source.first) place.pair new → WritesThreadFree t new
+  pub writes_apart : (new : KeptThread) → WritesPairsTwo t (second_pair t source.slot.pair source.first) place.pair new → WritesThreadFree t new
   writes_apart new w = apart_across t from to source name place.pair new shift
       (behind_below t.pairs shift.first place.pair can.belongs.pair _ can.belongs.place) w

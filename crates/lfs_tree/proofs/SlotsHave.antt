@@ -1,21 +1,12 @@
 -- What holds of each slot of an image holds of the one at a path.
 use Rattle.std.proofs.Common.{◌≡◌, ◌∙◌, List, [], ◌∷◌, ◌++◌, Option, Some, None, refl, sym, ap, subst}
-use Rattle.std.specs.Option.{option_and_then}
-use Rattle.std.proofs.lemmas.Option.{same_Some}
-use Rattle.lfs_model.specs.format.Disk.{Disk}
-use Rattle.lfs_model.specs.format.Names.{Name}
-use Rattle.lfs_model.specs.session.SlotEdits.{slot_of}
-use Rattle.lfs_model.specs.format.Slots.{Slot, Struct, Inline, Ctz, Branch}
-use Rattle.lfs_model.specs.format.Thread.{Pair, root_address}
-use Rattle.lfs_model.specs.tree.Tree.{Path, branch_address, child_slot, entry_named, root_slot, slot_at_path}
-use Rattle.lfs_model.specs.tree.View.{IsAccepted}
-use Rattle.lfs_model.specs.tree.Shown.{LeadsTo, all_slots_not_moved, all_entries}
-use Rattle.lfs_model.proofs.Counts.{Each}
+use Rattle.lfs_tree.proofs.Common.{option_and_then, same_Some, Disk, Name, slot_of, Slot, Struct, Inline, Ctz, Branch, Pair, root_address, Path, branch_address, entry_named, root_slot, slot_at_path, IsAccepted, LeadsTo, all_unmoved_slots, all_entries, Each}
+use Rattle.lfs_model.specs.tree.Tree.{child_slot}
 use Rattle.lfs_model.proofs.Walks.{walk_on}
 use Rattle.lfs_lookup.proofs.AtPaths.{each_found}
 use Rattle.lfs_lookup.proofs.Visits.{each_entry}
 
-module _ (P : Slot → Type 0) (disk : Disk) (ps : List Pair) (ok : IsAccepted disk ps) (all : Each P (all_slots_not_moved ps)) where
+module _ (P : Slot → Type 0) (disk : Disk) (ps : List Pair) (ok : IsAccepted disk ps) (all : Each P (all_unmoved_slots ps)) where
   child_has : (above : Path) (s c : Slot) (n : Name) → slot_of ps above ≡ Some s → child_slot (all_entries ps) s n ≡ Some c → P c
   child_has above s c n at child = go s.struct refl
     where

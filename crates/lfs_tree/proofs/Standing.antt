@@ -4,19 +4,12 @@ use Rattle.std.specs.Prelude.{IfOk}
 use Rattle.lfs_device.specs.declared.error.Error.{Error}
 use Rattle.lfs_device.specs.declared.device.BlockDevice.{Ghosts}
 use Rattle.lfs_device.specs.declared.geometry.Geometry.{Geometry}
-use Rattle.lfs_model.specs.format.Blocks.{Blocks, HasBlockSizes}
-use Rattle.lfs_model.specs.layers.BlockSets.{BlockStates, used_count}
-use Rattle.lfs_model.specs.format.Disk.{Disk}
-use Rattle.lfs_thread.specs.Beside.{HasGeometryOf, AreDeviceAndMapOfThread}
-use Rattle.lfs_thread.specs.Kept.{KeptThread}
-use Rattle.lfs_file.specs.Contents.{CanFinishContents, CanTruncateContents, CanWriteContents, HasTruncationRoom, HasWriteRoom, HaveForm, AreSoundContents, finish_room, contents_form}
-use Rattle.lfs_file.specs.Form.{StorageForm}
-use Rattle.lfs_file.specs.BlockOwners.{AreOwn, contents_blocks}
+use Rattle.lfs_tree.proofs.Common.{Blocks, HasBlockSizes, BlockStates, used_count, Disk, HasGeometry, BelongToThread, KeptThread, HaveForm, AreSoundContents, finish_room, contents_form, ContentsForm, AreUsedAmong, contents_blocks, CanFinish, CanTruncate, CanWrite, HaveThreadForm, AreOnThread, contents_list_blocks}
+use Rattle.lfs_file.specs.Contents.{CanFinishContents, CanTruncateContents, CanWriteContents, HasTruncationRoom, HasWriteRoom}
 use Rattle.lfs_file.specs.declared.contents.WriterContents.{WriterContents}
-use Rattle.lfs_tree.specs.ThreadContents.{CanFinish, CanTruncate, CanWrite, HasContents, AreOnThread, contents_list_blocks}
 use Rattle.lfs_file.proofs.ContentsGeometries.{geometry_is}
 
-module _ {D : Type 0} (g : Ghosts D) (t : KeptThread) (device : D) (map : BlockStates) (shows : AreDeviceAndMapOfThread g t device map)
+module _ {D : Type 0} (g : Ghosts D) (t : KeptThread) (device : D) (map : BlockStates) (shows : BelongToThread g t device map)
     (shape : HasBlockSizes (g.geometry device).block_size (g.geometry device).block_count (g.blocks device)) where
   pub blocks_here : g.blocks device ≡ t.disk.blocks
   blocks_here = ap (λ (d : Disk). d.blocks) shows.disk
@@ -24,10 +17,10 @@ module _ {D : Type 0} (g : Ghosts D) (t : KeptThread) (device : D) (map : BlockS
   pub size_here : (g.geometry device).block_size ≡ t.disk.block_size
   size_here = ap (λ (d : Disk). d.block_size) shows.disk
 
-  pub divided_here : HasGeometryOf (g.geometry device) t.disk
+  pub divided_here : HasGeometry (g.geometry device) t.disk
   divided_here = record { block_size = size_here; page = ap (λ (d : Disk). d.page) shows.disk; profile = ap (λ (d : Disk). d.profile) shows.disk; count = sym shape.count ∙ ap length blocks_here }
 
-  pub geometry_here : (x : Geometry) → HasGeometryOf x t.disk → g.geometry device ≡ x
+  pub geometry_here : (x : Geometry) → HasGeometry x t.disk → g.geometry device ≡ x
   geometry_here x of_disk = geometry_is (g.geometry device) x (size_here ∙ sym of_disk.block_size) (divided_here.page ∙ sym of_disk.page) (divided_here.profile ∙ sym of_disk.profile) (divided_here.count ∙ sym of_disk.count)
 
   pub stands_here : (contents : WriterContents) → AreOnThread t contents → AreSoundContents map (g.blocks device) (g.geometry device) contents
@@ -37,7 +30,7 @@ module _ {D : Type 0} (g : Ghosts D) (t : KeptThread) (device : D) (map : BlockS
       (subst (λ (x : Geometry). AreSoundContents t.map t.disk.blocks x contents) (sym (geometry_here is.geometry is.divided)) is.stands))
 
   -- contents that a call left there
-  pub holds_here : (x : Geometry) (contents : WriterContents) (bytes : List ℕ) (form : StorageForm) → x ≡ g.geometry device → HaveForm map (g.blocks device) x contents bytes form → HasContents t contents bytes form
+  pub holds_here : (x : Geometry) (contents : WriterContents) (bytes : List ℕ) (form : ContentsForm) → x ≡ g.geometry device → HaveForm map (g.blocks device) x contents bytes form → HaveThreadForm t contents bytes form
   holds_here x contents bytes form is has = record {
     geometry = g.geometry device;
     divided = divided_here;
@@ -69,23 +62,23 @@ module _ {D : Type 0} (g : Ghosts D) (t : KeptThread) (device : D) (map : BlockS
   }
 
 -- what a call answers, seen from the thread
-pub holds_after : {D : Type 0} (g : Ghosts D) (old new : KeptThread) (d e : D) (m n : BlockStates) → AreDeviceAndMapOfThread g old d m → AreDeviceAndMapOfThread g new e n → HasBlockSizes (g.geometry d).block_size (g.geometry d).block_count (g.blocks d)
-    → HasBlockSizes (g.geometry e).block_size (g.geometry e).block_count (g.blocks e) → g.geometry e ≡ g.geometry d → (bytes : Blocks → ℕ → List ℕ) (form : StorageForm) (r : Result WriterContents Error)
-    → IfOk r (λ c. HaveForm n (g.blocks e) (g.geometry d) c (bytes (g.blocks d) (g.geometry d).block_size) form) → IfOk r (λ c. HasContents new c (bytes old.disk.blocks old.disk.block_size) form)
+pub holds_after : {D : Type 0} (g : Ghosts D) (old new : KeptThread) (d e : D) (m n : BlockStates) → BelongToThread g old d m → BelongToThread g new e n → HasBlockSizes (g.geometry d).block_size (g.geometry d).block_count (g.blocks d)
+    → HasBlockSizes (g.geometry e).block_size (g.geometry e).block_count (g.blocks e) → g.geometry e ≡ g.geometry d → (bytes : Blocks → ℕ → List ℕ) (form : ContentsForm) (r : Result WriterContents Error)
+    → IfOk r (λ c. HaveForm n (g.blocks e) (g.geometry d) c (bytes (g.blocks d) (g.geometry d).block_size) form) → IfOk r (λ c. HaveThreadForm new c (bytes old.disk.blocks old.disk.block_size) form)
 holds_after g old new d e m n before after shape later geometry bytes form (Ok c) has =
-    subst (λ (x : Blocks). HasContents new c (bytes x old.disk.block_size) form) (blocks_here g old d m before shape)
-    (subst (λ (k : ℕ). HasContents new c (bytes (g.blocks d) k) form) (size_here g old d m before shape)
+    subst (λ (x : Blocks). HaveThreadForm new c (bytes x old.disk.block_size) form) (blocks_here g old d m before shape)
+    (subst (λ (k : ℕ). HaveThreadForm new c (bytes (g.blocks d) k) form) (size_here g old d m before shape)
     (holds_here g new e n after later (g.geometry d) c (bytes (g.blocks d) (g.geometry d).block_size) form (sym geometry) has))
 holds_after g old new d e m n before after shape later geometry bytes form (Err x) has = tt
 
 -- no used block comes into the lists
-pub owned_after : {D : Type 0} (g : Ghosts D) (old new : KeptThread) (d e : D) (m n : BlockStates) → AreDeviceAndMapOfThread g old d m → AreDeviceAndMapOfThread g new e n → HasBlockSizes (g.geometry d).block_size (g.geometry d).block_count (g.blocks d)
+pub owned_after : {D : Type 0} (g : Ghosts D) (old new : KeptThread) (d e : D) (m n : BlockStates) → BelongToThread g old d m → BelongToThread g new e n → HasBlockSizes (g.geometry d).block_size (g.geometry d).block_count (g.blocks d)
     → HasBlockSizes (g.geometry e).block_size (g.geometry e).block_count (g.blocks e) → g.geometry e ≡ g.geometry d → (contents : WriterContents) (r : Result WriterContents Error)
-    → IfOk r (λ c. AreOwn n (contents_blocks (g.blocks d) (g.geometry d).block_size contents) (contents_blocks (g.blocks e) (g.geometry d).block_size c)) → IfOk r (λ c. AreOwn new.map (contents_list_blocks old contents) (contents_list_blocks new c))
+    → IfOk r (λ c. AreUsedAmong n (contents_blocks (g.blocks d) (g.geometry d).block_size contents) (contents_blocks (g.blocks e) (g.geometry d).block_size c)) → IfOk r (λ c. AreUsedAmong new.map (contents_list_blocks old contents) (contents_list_blocks new c))
 owned_after g old new d e m n before after shape later geometry contents (Ok c) owned =
-    subst (λ (s : BlockStates). AreOwn s (contents_list_blocks old contents) (contents_list_blocks new c)) after.map
-    (subst (λ (k : ℕ). AreOwn n (contents_list_blocks old contents) (contents_blocks new.disk.blocks k c)) (ap (λ (x : Geometry). x.block_size) (sym geometry) ∙ size_here g new e n after later)
-    (subst (λ (x : Blocks). AreOwn n (contents_list_blocks old contents) (contents_blocks x (g.geometry d).block_size c)) (blocks_here g new e n after later)
-    (subst (λ (k : ℕ). AreOwn n (contents_blocks old.disk.blocks k contents) (contents_blocks (g.blocks e) (g.geometry d).block_size c)) (size_here g old d m before shape)
-    (subst (λ (x : Blocks). AreOwn n (contents_blocks x (g.geometry d).block_size contents) (contents_blocks (g.blocks e) (g.geometry d).block_size c)) (blocks_here g old d m before shape) owned))))
+    subst (λ (s : BlockStates). AreUsedAmong s (contents_list_blocks old contents) (contents_list_blocks new c)) after.map
+    (subst (λ (k : ℕ). AreUsedAmong n (contents_list_blocks old contents) (contents_blocks new.disk.blocks k c)) (ap (λ (x : Geometry). x.block_size) (sym geometry) ∙ size_here g new e n after later)
+    (subst (λ (x : Blocks). AreUsedAmong n (contents_list_blocks old contents) (contents_blocks x (g.geometry d).block_size c)) (blocks_here g new e n after later)
+    (subst (λ (k : ℕ). AreUsedAmong n (contents_blocks old.disk.blocks k contents) (contents_blocks (g.blocks e) (g.geometry d).block_size c)) (size_here g old d m before shape)
+    (subst (λ (x : Blocks). AreUsedAmong n (contents_blocks x (g.geometry d).block_size contents) (contents_blocks (g.blocks e) (g.geometry d).block_size c)) (blocks_here g old d m before shape) owned))))
 owned_after g old new d e m n before after shape later geometry contents (Err x) owned = tt

@@ -2,43 +2,17 @@
 use Rattle.std.proofs.Common.{ℕ, ◌≡◌, ◌≤◌, ◌+◌, ◌∙◌, Bool, true, false, List, [], ◌∷◌, ◌++◌, length, Result, Ok, Err, refl, sym, ap, ap₂, subst, arith, append_assoc}
 use Rattle.std.specs.Prelude.{IfErr, OnOk, Contains}
 use Rattle.lfs_device.specs.declared.error.Error.{Error}
-use Rattle.lfs_model.specs.crash.Frame.{HasPathSlot}
-use Rattle.lfs_model.specs.session.TreeEdits.{tree_with_change}
-use Rattle.lfs_model.specs.format.Blocks.{Blocks}
-use Rattle.lfs_model.specs.layers.BlockSets.{used_count}
-use Rattle.lfs_model.specs.format.Disk.{Disk, block_count, inline_limit}
-use Rattle.lfs_model.specs.session.History.{AllCalls, AllCallsSince, CallEvent, fault_count}
-use Rattle.lfs_model.specs.session.Layout.{IsLayout}
+use Rattle.lfs_tree.proofs.Common.{HasPathSlot, tree_with_change, Blocks, used_count, Disk, block_count, inline_limit, AllCalls, AllCallsSince, CallEvent, fault_count, IsLayout, Operation, HasEither, SurvivesLossSince, with_blocks, Session, list_blocks_of, file_with_bytes, Pair, pairs_gstate, Path, Tree, IsAccepted, disk_tree, used_blocks, survives_then, arranged_after, recovered_stays, recovered_from, HoldsAtLosses-weaker, HoldsAtLosses-worst, CanFinish, HaveThreadForm, KeepsPairs, contents_list_blocks, KeptThread, ThreadView, HasFurtherCalls, CanChangeRecovered, SurvivesEither, HasThreadCause, SoundUnlessFailed, kept_state, thread_state, KeepsListBytes, CanStoreContents, writer_contents_bytes, IsSoundState, TreeState, shown_tree, CanCommitContents, HasCommittedBytes, StoresThreadBytes, IsFinishedForm, ChangesPathPair, contents_bytes, finish_room, form_after_finish, contents_form, ContentsForm, AreUsedAmong}
 use Rattle.lfs_model.specs.session.Operations as ops
-use Rattle.lfs_model.specs.session.Operations.{Operation}
-use Rattle.lfs_model.specs.crash.PowerLoss.{HasEither, SurvivesLossSince, with_blocks}
-use Rattle.lfs_model.specs.session.Session.{Session, list_blocks_of}
-use Rattle.lfs_model.specs.session.Effects.{file_with_bytes}
-use Rattle.lfs_model.specs.format.Thread.{Pair, pairs_gstate}
-use Rattle.lfs_model.specs.tree.Tree.{Path, Tree}
-use Rattle.lfs_model.specs.tree.View.{IsAccepted}
-use Rattle.lfs_model.specs.tree.Shown.{tree_on_disk, used_blocks}
-use Rattle.lfs_model.proofs.AfterStops.{survives_then}
-use Rattle.lfs_model.proofs.Arranged.{arranged_after, recovered_stays}
-use Rattle.lfs_model.proofs.Committed.{recovered_from}
-use Rattle.lfs_model.proofs.Histories.{HoldsAtLosses-weaker, HoldsAtLosses-worst}
-use Rattle.lfs_tree.specs.ThreadContents.{CanFinish, HasContents, KeepsPairs, contents_list_blocks}
-use Rattle.lfs_thread.specs.Kept.{KeptThread, ThreadView}
 use Rattle.lfs_tree.proofs.LeftAlone.{files_of_alone, pair_of_alone}
-use Rattle.lfs_tree.specs.TreeChanges.{HasFurtherCalls, CanChangeRecovered, SurvivesEither, HasThreadCause}
-use Rattle.lfs_tree.specs.RootedThreads.{SoundUnlessFailed, kept_state, thread_state}
 use Rattle.lfs_tree.proofs.Asking.{seen_working}
-use Rattle.lfs_tree.specs.KeptFiles.{KeepsListBytes, KeepsOtherFiles}
+use Rattle.lfs_tree.specs.KeptFiles.{KeepsOtherFiles}
 use Rattle.lfs_tree.proofs.KeptFiles.{list_stays}
-use Rattle.lfs_tree.specs.OpenContents.{CanStoreAt, SlotsAfterRecovery, InlineUpToLimit, StoresBytesAt, writer_contents_bytes, kept_thread}
-use Rattle.lfs_tree.specs.TreeState.{IsSoundState, TreeState, tree_view}
-use Rattle.lfs_tree.specs.Stores.{CanCommitContents, HasCommittedBytes, StoresBytesIn, IsFinishedInline, SlotsAfterWriter, ChangesPathPair}
+use Rattle.lfs_tree.specs.OpenContents.{IsWriterLayoutRecovered, InlineWithinLimit, StoresBytesAt, kept_thread}
+use Rattle.lfs_tree.specs.Stores.{IsWriterLayout}
 use Rattle.lfs_tree.proofs.BesideWritten.{accepted_beside, bytes_of_held, geometry_beside, left_beside, over_beside, rooted_beside, tree_beside}
 use Rattle.lfs_tree.proofs.UsedBlocks.{count_is}
-use Rattle.lfs_file.specs.Contents.{contents_bytes, finish_room, form_after_finish, contents_form}
 use Rattle.lfs_file.specs.Form as form
-use Rattle.lfs_file.specs.Form.{StorageForm}
-use Rattle.lfs_file.specs.BlockOwners.{AreOwn}
 use Rattle.lfs_file.specs.declared.contents.WriterContents.{WriterContents}
 
 -- ---- calls, one after another
@@ -70,12 +44,12 @@ errors_then a b c (Err e) same t = record {
 room_on : (t : KeptThread) → IsSoundState (kept_state t true false) → (need : ℕ) → length (used_blocks t.disk t.pairs) + need ≤ block_count t.disk → used_count t.map + need ≤ length t.map
 room_on t sound need room = let e = count_is (kept_state t true false) sound in let s = sound.size in omega arith
 
-finished_form : (limit : ℕ) (f : StorageForm) → InlineUpToLimit limit f → IsFinishedInline limit (form_after_finish f)
+finished_form : (limit : ℕ) (f : ContentsForm) → InlineWithinLimit limit f → IsFinishedForm limit (form_after_finish f)
 finished_form limit (form.InMemory size) h = h
 finished_form limit (form.Finished size flying) h = h
 finished_form limit (form.InHand stop base flying) h = h
 
-module _ (t : ThreadView) (root : ℕ) (rests : CanChangeRecovered t root) (path : Path) (contents : WriterContents) (can : CanStoreAt (kept_state t.kept true false) path contents) where
+module _ (t : ThreadView) (root : ℕ) (rests : CanChangeRecovered t root) (path : Path) (contents : WriterContents) (can : CanStoreContents (kept_state t.kept true false) path contents) where
   abbrev sound : IsSoundState (kept_state t.kept true false)
   sound = rests.held.sound
 
@@ -90,15 +64,15 @@ module _ (t : ThreadView) (root : ℕ) (rests : CanChangeRecovered t root) (path
     pub survives_beside : (after : Tree) → SurvivesEither t.kept b.kept after
     survives_beside after clean = HoldsAtLosses-weaker (λ blocks spared. left_beside t.kept blocks sound.accepted (sound.fits refl) sound.used spared) (HoldsAtLosses-worst leaves.at_worst)
 
-    module _ (c : WriterContents) (holds : HasContents b.kept c (contents_bytes t.kept.disk.blocks t.kept.disk.block_size contents) (form_after_finish (contents_form contents))) (owned : AreOwn b.kept.map (contents_list_blocks t.kept contents) (contents_list_blocks b.kept c)) where
+    module _ (c : WriterContents) (holds : HaveThreadForm b.kept c (contents_bytes t.kept.disk.blocks t.kept.disk.block_size contents) (form_after_finish (contents_form contents))) (owned : AreUsedAmong b.kept.map (contents_list_blocks t.kept contents) (contents_list_blocks b.kept c)) where
       bytes_same : writer_contents_bytes b.kept c ≡ writer_contents_bytes t.kept contents
       bytes_same = bytes_of_held b.kept c (contents_bytes t.kept.disk.blocks t.kept.disk.block_size contents) (form_after_finish (contents_form contents)) holds
 
       pub can_commit : CanCommitContents b.kept path c
       can_commit = record {
         over = over_beside t.kept b.kept leaves sound.accepted sound.used path contents c _ _ can.over holds owned;
-        finished = subst (λ (f : StorageForm). IsFinishedInline (inline_limit b.kept.disk.profile b.kept.disk.block_size) f) (sym holds.has.form)
-            (subst (λ (n : ℕ). IsFinishedInline n (form_after_finish (contents_form contents))) (sym (ap₂ (λ p n. inline_limit p n) leaves.shape.profile leaves.shape.block_size)) (finished_form (inline_limit t.kept.disk.profile t.kept.disk.block_size) (contents_form contents) can.form));
+        finished = subst (λ (f : ContentsForm). IsFinishedForm (inline_limit b.kept.disk.profile b.kept.disk.block_size) f) (sym holds.has.form)
+            (subst (λ (n : ℕ). IsFinishedForm n (form_after_finish (contents_form contents))) (sym (ap₂ (λ p n. inline_limit p n) leaves.shape.profile leaves.shape.block_size)) (finished_form (inline_limit t.kept.disk.profile t.kept.disk.block_size) (contents_form contents) can.form));
         room = (let l : list_blocks_of b.kept.disk.profile b.kept.disk.block_size (length (writer_contents_bytes b.kept c)) ≡ list_blocks_of t.kept.disk.profile t.kept.disk.block_size (length (writer_contents_bytes t.kept contents))
             = ap₂ (λ p n. list_blocks_of p n (length (writer_contents_bytes b.kept c))) leaves.shape.profile leaves.shape.block_size ∙ ap (λ z. list_blocks_of t.kept.disk.profile t.kept.disk.block_size (length z)) bytes_same in
             let r = can.room in
@@ -110,23 +84,23 @@ module _ (t : ThreadView) (root : ℕ) (rests : CanChangeRecovered t root) (path
       }
 
       abbrev turn : Tree
-      turn = tree_with_change path (file_with_bytes (writer_contents_bytes t.kept contents)) (tree_on_disk t.kept.disk t.kept.pairs)
+      turn = tree_with_change path (file_with_bytes (writer_contents_bytes t.kept contents)) (disk_tree t.kept.disk t.kept.pairs)
 
-      tree_same : tree_on_disk b.kept.disk b.kept.pairs ≡ tree_on_disk t.kept.disk t.kept.pairs
+      tree_same : disk_tree b.kept.disk b.kept.pairs ≡ disk_tree t.kept.disk t.kept.pairs
       tree_same = tree_beside t.kept b.kept leaves sound.accepted sound.used
 
-      turn_same : tree_with_change path (file_with_bytes (writer_contents_bytes b.kept c)) (tree_on_disk b.kept.disk b.kept.pairs) ≡ tree_with_change path (file_with_bytes (writer_contents_bytes t.kept contents)) (tree_on_disk t.kept.disk t.kept.pairs)
-      turn_same = ap (λ (x : Tree). tree_with_change path (file_with_bytes (writer_contents_bytes b.kept c)) x) tree_same ∙ ap (λ z. tree_with_change path (file_with_bytes z) (tree_on_disk t.kept.disk t.kept.pairs)) bytes_same
+      turn_same : tree_with_change path (file_with_bytes (writer_contents_bytes b.kept c)) (disk_tree b.kept.disk b.kept.pairs) ≡ tree_with_change path (file_with_bytes (writer_contents_bytes t.kept contents)) (disk_tree t.kept.disk t.kept.pairs)
+      turn_same = ap (λ (x : Tree). tree_with_change path (file_with_bytes (writer_contents_bytes b.kept c)) x) tree_same ∙ ap (λ z. tree_with_change path (file_with_bytes z) (disk_tree t.kept.disk t.kept.pairs)) bytes_same
 
       -- seen from before the end of the list
-      arranged_before : (new : KeptThread) (op : ℕ → Operation) → SlotsAfterWriter b.kept path (writer_contents_bytes b.kept c) op new → SlotsAfterRecovery (kept_state t.kept true false) path (writer_contents_bytes t.kept contents) op (kept_state new true false)
+      arranged_before : (new : KeptThread) (op : ℕ → Operation) → IsWriterLayout b.kept path (writer_contents_bytes b.kept c) op new → IsWriterLayoutRecovered (kept_state t.kept true false) path (writer_contents_bytes t.kept contents) op (kept_state new true false)
       arranged_before new op laid files fd writer wr =
-          let s : Session = record { tree = tree_on_disk t.kept.disk t.kept.pairs; files = files } in
-          let stays = recovered_stays t.kept.disk t.kept.pairs (record { tree = tree_on_disk t.kept.disk t.kept.pairs; files = files }) sound.accepted (sound.fits refl) rests.settled in
-          arranged_after t.kept.disk b.kept.disk new.disk t.kept.pairs t.kept.pairs new.pairs (record { tree = tree_on_disk t.kept.disk t.kept.pairs; files = files }) (op fd)
+          let s : Session = record { tree = disk_tree t.kept.disk t.kept.pairs; files = files } in
+          let stays = recovered_stays t.kept.disk t.kept.pairs (record { tree = disk_tree t.kept.disk t.kept.pairs; files = files }) sound.accepted (sound.fits refl) rests.settled in
+          arranged_after t.kept.disk b.kept.disk new.disk t.kept.pairs t.kept.pairs new.pairs (record { tree = disk_tree t.kept.disk t.kept.pairs; files = files }) (op fd)
           (geometry_beside t.kept b.kept leaves) (subst (IsAccepted b.kept.disk) leaves.pairs (accepted_beside t.kept b.kept leaves sound.accepted sound.used)) (recovered_from t.kept.disk t.kept.pairs sound.accepted rests.settled)
           (record { drafts = stays.drafts; parts = stays.parts; front = stays.front; fresh = stays.fresh; back = stays.back; edits = stays.edits; stand = stays.stand; joined = stays.joined; is = stays.is })
-          (subst (λ (ps : List Pair). IsLayout b.kept.disk ps (record { tree = tree_on_disk t.kept.disk t.kept.pairs; files = files }) (op fd) new.disk new.pairs) leaves.pairs
+          (subst (λ (ps : List Pair). IsLayout b.kept.disk ps (record { tree = disk_tree t.kept.disk t.kept.pairs; files = files }) (op fd) new.disk new.pairs) leaves.pairs
           (subst (λ (x : Tree). IsLayout b.kept.disk b.kept.pairs (record { tree = x; files = files }) (op fd) new.disk new.pairs) tree_same
           (laid files fd writer (wr.0, (wr.1.0, (wr.1.1.0, wr.1.1.1 ∙ sym bytes_same))))))
 
@@ -142,14 +116,14 @@ module _ (t : ThreadView) (root : ℕ) (rests : CanChangeRecovered t root) (path
       }
 
       -- the other files keep what they have
-      others_before : (new : KeptThread) → HasCommittedBytes b.kept path (writer_contents_bytes b.kept c) new → KeepsOtherFiles (tree_on_disk t.kept.disk t.kept.pairs) t.kept.pairs path new.pairs
-      others_before new k = subst (λ (ps : List Pair). KeepsOtherFiles (tree_on_disk t.kept.disk t.kept.pairs) ps path new.pairs) leaves.pairs
+      others_before : (new : KeptThread) → HasCommittedBytes b.kept path (writer_contents_bytes b.kept c) new → KeepsOtherFiles (disk_tree t.kept.disk t.kept.pairs) t.kept.pairs path new.pairs
+      others_before new k = subst (λ (ps : List Pair). KeepsOtherFiles (disk_tree t.kept.disk t.kept.pairs) ps path new.pairs) leaves.pairs
           (subst (λ (x : Tree). KeepsOtherFiles x b.kept.pairs path new.pairs) tree_same k.others)
 
       lists_before : (new : KeptThread) → ChangesPathPair b.kept.disk b.kept.pairs path new.disk → KeepsListBytes t.kept.disk t.kept.pairs new.disk
       lists_before new k = files_of_alone t.kept.disk new.disk t.kept.pairs [] path sound.accepted (changes_before new.disk k)
 
-      stored_before : (new : KeptThread) → HasFurtherCalls t.kept new → fault_count new.history ≡ fault_count t.kept.history → HasCommittedBytes b.kept path (writer_contents_bytes b.kept c) new → StoresBytesIn t.kept path (writer_contents_bytes t.kept contents) new
+      stored_before : (new : KeptThread) → HasFurtherCalls t.kept new → fault_count new.history ≡ fault_count t.kept.history → HasCommittedBytes b.kept path (writer_contents_bytes b.kept c) new → StoresThreadBytes t.kept path (writer_contents_bytes t.kept contents) new
       stored_before new called quiet k = record {
         works = refl;
         sound = k.sound;
@@ -165,40 +139,40 @@ module _ (t : ThreadView) (root : ℕ) (rests : CanChangeRecovered t root) (path
         lists = λ q file apart. list_stays t.kept.disk new.disk t.kept.pairs new.pairs q sound.accepted called.geometry (lists_before new k.alone) (others_before new k q file apart);
         synced = arranged_before new ops.Sync k.synced;
         closed = arranged_before new ops.Close k.closed;
-        alone = λ files op. pair_of_alone t.kept.disk new.disk t.kept.pairs new.pairs path sound.accepted (changes_before new.disk k.alone) (record { tree = tree_on_disk t.kept.disk t.kept.pairs; files = files }) op;
+        alone = λ files op. pair_of_alone t.kept.disk new.disk t.kept.pairs new.pairs path sound.accepted (changes_before new.disk k.alone) (record { tree = disk_tree t.kept.disk t.kept.pairs; files = files }) op;
         none_in_flight = k.none_in_flight;
       }
 
-      pub all_stored : (new : KeptThread) (r : Result (Unit {0}) Error) → HasFurtherCalls t.kept new → fault_count b.kept.history ≡ fault_count t.kept.history → OnOk r (fault_count new.history ≡ fault_count b.kept.history) → OnOk r (HasCommittedBytes b.kept path (writer_contents_bytes b.kept c) new) → OnOk r (StoresBytesIn t.kept path (writer_contents_bytes t.kept contents) new)
+      pub all_stored : (new : KeptThread) (r : Result (Unit {0}) Error) → HasFurtherCalls t.kept new → fault_count b.kept.history ≡ fault_count t.kept.history → OnOk r (fault_count new.history ≡ fault_count b.kept.history) → OnOk r (HasCommittedBytes b.kept path (writer_contents_bytes b.kept c) new) → OnOk r (StoresThreadBytes t.kept path (writer_contents_bytes t.kept contents) new)
       all_stored new (Ok u) called same quiet k = stored_before new called (quiet ∙ same) k
       all_stored new (Err e) called same quiet k = tt
 
-      pub survives_then_commit : (new : KeptThread) → HasFurtherCalls b.kept new → SurvivesEither b.kept new (tree_with_change path (file_with_bytes (writer_contents_bytes b.kept c)) (tree_on_disk b.kept.disk b.kept.pairs))
-          → SurvivesEither t.kept new (tree_with_change path (file_with_bytes (writer_contents_bytes t.kept contents)) (tree_on_disk t.kept.disk t.kept.pairs))
+      pub survives_then_commit : (new : KeptThread) → HasFurtherCalls b.kept new → SurvivesEither b.kept new (tree_with_change path (file_with_bytes (writer_contents_bytes b.kept c)) (disk_tree b.kept.disk b.kept.pairs))
+          → SurvivesEither t.kept new (tree_with_change path (file_with_bytes (writer_contents_bytes t.kept contents)) (disk_tree t.kept.disk t.kept.pairs))
       survives_then_commit new called k =
           let second : AllCallsSince (λ e. Unit {0}) b.kept.history new.history = record { events = called.calls; extends = called.called; each = each_any called.calls } in
-          let after = tree_with_change path (file_with_bytes (writer_contents_bytes t.kept contents)) (tree_on_disk t.kept.disk t.kept.pairs) in
+          let after = tree_with_change path (file_with_bytes (writer_contents_bytes t.kept contents)) (disk_tree t.kept.disk t.kept.pairs) in
           let same : (blocks : Blocks) → with_blocks blocks b.kept.disk ≡ with_blocks blocks t.kept.disk = λ blocks. λ i. record { block_size = leaves.shape.block_size i; page = leaves.shape.page i; order = leaves.shape.order i; profile = leaves.shape.profile i; blocks = blocks } in
-          survives_then t.kept.disk t.kept.history b.kept.history new.history (tree_on_disk t.kept.disk t.kept.pairs) after leaves.at_worst second (survives_beside after)
+          survives_then t.kept.disk t.kept.history b.kept.history new.history (disk_tree t.kept.disk t.kept.pairs) after leaves.at_worst second (survives_beside after)
           (λ clean. HoldsAtLosses-weaker (λ blocks left.
-          subst (λ (d : Disk). HasEither d (tree_on_disk t.kept.disk t.kept.pairs) (tree_with_change path (file_with_bytes (writer_contents_bytes t.kept contents)) (tree_on_disk t.kept.disk t.kept.pairs))) (same blocks)
-          (subst (λ (x : Tree). HasEither (with_blocks blocks b.kept.disk) x (tree_with_change path (file_with_bytes (writer_contents_bytes t.kept contents)) (tree_on_disk t.kept.disk t.kept.pairs))) tree_same
-          (subst (λ (x : Tree). HasEither (with_blocks blocks b.kept.disk) (tree_on_disk b.kept.disk b.kept.pairs) x) turn_same left))) (k clean))
+          subst (λ (d : Disk). HasEither d (disk_tree t.kept.disk t.kept.pairs) (tree_with_change path (file_with_bytes (writer_contents_bytes t.kept contents)) (disk_tree t.kept.disk t.kept.pairs))) (same blocks)
+          (subst (λ (x : Tree). HasEither (with_blocks blocks b.kept.disk) x (tree_with_change path (file_with_bytes (writer_contents_bytes t.kept contents)) (disk_tree t.kept.disk t.kept.pairs))) tree_same
+          (subst (λ (x : Tree). HasEither (with_blocks blocks b.kept.disk) (disk_tree b.kept.disk b.kept.pairs) x) turn_same left))) (k clean))
 
 -- ---- seen from a tree
 
 module _ (thread : ThreadView) (root : ℕ) (writable : Bool) (now : TreeState) (kept : SoundUnlessFailed thread root writable) (view : thread_state thread writable ≡ now) (works : now.failed ≡ false) (may : now.writable ≡ true) (path : Path) (contents : WriterContents) where
-  stored_working : (new : ThreadView) → new.failed ≡ false → StoresBytesIn thread.kept path (writer_contents_bytes thread.kept contents) new.kept → StoresBytesAt now path (writer_contents_bytes (kept_thread now) contents) (thread_state new writable)
+  stored_working : (new : ThreadView) → new.failed ≡ false → StoresThreadBytes thread.kept path (writer_contents_bytes thread.kept contents) new.kept → StoresBytesAt now path (writer_contents_bytes (kept_thread now) contents) (thread_state new writable)
   stored_working new still k =
       subst (λ a. StoresBytesAt now path (writer_contents_bytes (kept_thread now) contents) (kept_state new.kept a new.failed)) (sym (ap (λ (s : TreeState). s.writable) view ∙ may))
       (subst (λ b. StoresBytesAt now path (writer_contents_bytes (kept_thread now) contents) (kept_state new.kept true b)) (sym still)
       (subst (λ (s : TreeState). StoresBytesAt s path (writer_contents_bytes (kept_thread s) contents) (kept_state new.kept true false)) (sym (seen_working thread root writable now kept view works may)) k))
 
-  pub all_stored_working : (r : Result (Unit {0}) Error) (new : ThreadView) → OnOk r (StoresBytesIn thread.kept path (writer_contents_bytes thread.kept contents) new.kept) → OnOk r (new.failed ≡ false) → OnOk r (StoresBytesAt now path (writer_contents_bytes (kept_thread now) contents) (thread_state new writable))
+  pub all_stored_working : (r : Result (Unit {0}) Error) (new : ThreadView) → OnOk r (StoresThreadBytes thread.kept path (writer_contents_bytes thread.kept contents) new.kept) → OnOk r (new.failed ≡ false) → OnOk r (StoresBytesAt now path (writer_contents_bytes (kept_thread now) contents) (thread_state new writable))
   all_stored_working (Ok x) new k still = stored_working new still k
   all_stored_working (Err e) new k still = tt
 
-  pub survives_stored : (new : List CallEvent) → SurvivesLossSince thread.kept.disk thread.kept.history new (tree_on_disk thread.kept.disk thread.kept.pairs) (tree_with_change path (file_with_bytes (writer_contents_bytes thread.kept contents)) (tree_on_disk thread.kept.disk thread.kept.pairs))
-      → SurvivesLossSince now.disk now.history new (tree_view now) (tree_with_change path (file_with_bytes (writer_contents_bytes (kept_thread now) contents)) (tree_view now))
+  pub survives_stored : (new : List CallEvent) → SurvivesLossSince thread.kept.disk thread.kept.history new (disk_tree thread.kept.disk thread.kept.pairs) (tree_with_change path (file_with_bytes (writer_contents_bytes thread.kept contents)) (disk_tree thread.kept.disk thread.kept.pairs))
+      → SurvivesLossSince now.disk now.history new (shown_tree now) (tree_with_change path (file_with_bytes (writer_contents_bytes (kept_thread now) contents)) (shown_tree now))
   survives_stored new k =
-      subst (λ (s : TreeState). SurvivesLossSince s.disk s.history new (tree_view s) (tree_with_change path (file_with_bytes (writer_contents_bytes (kept_thread s) contents)) (tree_view s))) (sym (seen_working thread root writable now kept view works may)) k
+      subst (λ (s : TreeState). SurvivesLossSince s.disk s.history new (shown_tree s) (tree_with_change path (file_with_bytes (writer_contents_bytes (kept_thread s) contents)) (shown_tree s))) (sym (seen_working thread root writable now kept view works may)) k

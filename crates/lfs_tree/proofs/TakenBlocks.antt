@@ -1,18 +1,9 @@
 -- How many blocks an operation takes, by where the slots stand that it leaves.
 use Rattle.std.proofs.Common.{ℕ, zero, suc, ◌≡◌, ◌≤◌, ◌+◌, ◌*◌, ◌⊎◌, ⊎_elim, inl, inr, Bool, true, false, if◌then◌else◌, List, [], ◌∷◌, ◌++◌, length, map, Option, None, refl, ap, arith, drop, flat_map, length-append, remove, take}
 use Rattle.std.specs.Prelude.{is_none, sum_by}
-use Rattle.std.proofs.lemmas.List.{length-map}
-use Rattle.std.proofs.lemmas.List.Sums.{sum_by-append, sum_by-cons}
-use Rattle.lfs_model.specs.format.Disk.{Disk}
-use Rattle.lfs_model.specs.session.Layout.{ArePairsAfter, FitsPair, IsPairAfter, directory_address, continued_address}
-use Rattle.lfs_model.specs.format.SkipLists.{block_count_for}
-use Rattle.lfs_model.specs.session.SlotEdits.{pair_with_slots, pairs_without_moved}
-use Rattle.lfs_model.specs.format.Slots.{Gstate, Slot, Struct, Inline, Ctz, Branch, slot_size}
-use Rattle.lfs_model.specs.format.Thread.{Pair, blocks_of_pairs, pairs_gstate, slots_not_moved}
-use Rattle.lfs_model.specs.tree.Shown.{all_slots_not_moved, struct_blocks, used_blocks}
-use Rattle.lfs_model.proofs.Counts.{Each, each_append}
-use Rattle.lfs_model.proofs.Files.{length_back}
-use Rattle.lfs_model.proofs.Splices.{file_blocks}
+use Rattle.lfs_tree.proofs.Common.{length-map, sum_by-append, sum_by-cons, Disk, ArePairsAfter, FitsPair, directory_address, continued_address, block_count_for, pair_with_slots, pairs_without_moved, Gstate, Slot, Struct, Inline, Ctz, Branch, slot_size, Pair, pairs_blocks, pairs_gstate, all_unmoved_slots, struct_blocks, used_blocks, Each, each_append, length_back, file_blocks}
+use Rattle.lfs_model.specs.session.Layout.{IsPairAfter}
+use Rattle.lfs_model.specs.format.Thread.{slots_not_moved}
 
 -- ---- how many blocks lists have
 
@@ -47,7 +38,7 @@ pub lists_append : (block_size : ℕ) (ps qs : List Pair) → lists_of block_siz
 lists_append block_size [] qs = omega arith
 lists_append block_size (p ∷ ps) qs = let e = lists_append block_size ps qs in omega arith
 
-length_blocks : (ps : List Pair) → length (blocks_of_pairs ps) ≡ 2 * length ps
+length_blocks : (ps : List Pair) → length (pairs_blocks ps) ≡ 2 * length ps
 length_blocks [] = refl
 length_blocks (p ∷ ps) = let e = length_blocks ps in omega arith
 
@@ -112,9 +103,9 @@ module _ (disk : Disk) where
   -- an image uses the blocks of its pairs, and of the lists that aren't moved away
   pub used_total : (ps : List Pair) → length (used_blocks disk ps) ≡ total size (pairs_without_moved ps)
   used_total ps =
-      let e = length-append (blocks_of_pairs ps) (file_blocks disk (all_slots_not_moved ps)) in
+      let e = length-append (pairs_blocks ps) (file_blocks disk (all_unmoved_slots ps)) in
       let f = length_blocks ps in
-      let g = length_files disk (all_slots_not_moved ps) in
+      let g = length_files disk (all_unmoved_slots ps) in
       let h = lists_unmoved (pairs_gstate ps) ps in
       let l = length-map ps (λ (p : Pair). pair_with_slots (slots_not_moved (pairs_gstate ps) p) p) in
       omega arith

@@ -1,25 +1,11 @@
 -- How many blocks an operation takes: by its edits, and on the whole.
 use Rattle.std.proofs.Common.{ℕ, ◌≡◌, ◌≤◌, ◌+◌, ◌*◌, ◌∙◌, inr, true, List, [], ◌∷◌, ◌++◌, length, Option, Some, None, refl, sym, ap, subst, arith, flat_map, length-append}
 use Rattle.std.specs.Prelude.{sum_by}
-use Rattle.std.proofs.lemmas.List.Elements.{recursion_from_All}
-use Rattle.std.proofs.lemmas.List.Sums.{sum_by-append, sum_by-cons}
-use Rattle.lfs_model.specs.session.TreeEdits.{last_name}
-use Rattle.lfs_model.specs.format.Content.{attributes_with, attributes_without}
-use Rattle.lfs_model.specs.format.Disk.{Disk}
-use Rattle.lfs_model.specs.session.Layout.{FitsPair, IsDirectoryGone, IsLayoutRecovered, IsLayout}
-use Rattle.lfs_model.specs.format.Names.{Name}
+use Rattle.lfs_tree.proofs.Common.{recursion_from_All, sum_by-append, sum_by-cons, last_name, attributes_with, attributes_without, Disk, FitsPair, IsDirectoryGone, IsLayoutRecovered, IsLayout, Name, Operation, Session, slot_of, pair_with_slots, pairs_without_moved, FitsInPair, Slot, slot_size, path_or_root, Pair, pairs_gstate, count_before_root, Node, Path, Tree, Each, each_append, each_left, each_right, IsApplied, IsSoundState, TreeState, tree_summary, shown_tree}
 use Rattle.lfs_model.specs.session.Operations as ops
-use Rattle.lfs_model.specs.session.Operations.{Operation}
-use Rattle.lfs_model.specs.session.Session.{Session}
-use Rattle.lfs_model.specs.session.SlotEdits.{RemovesSlot, AddsFile, EditsSlots, ReplacesSlots, AddsDirectory, MovesSlot, ReplacesSlot, directory_slot, file_slot, slot_of, pair_with_slots, pairs_without_moved}
-use Rattle.lfs_model.specs.format.Slots.{FitsInPair, Slot, slot_size}
-use Rattle.lfs_model.specs.session.Refusals.{path_or_root}
-use Rattle.lfs_model.specs.format.Thread.{Pair, pairs_gstate, pair_count_before_root}
-use Rattle.lfs_model.specs.tree.Tree.{Node, Path, Tree}
-use Rattle.lfs_model.proofs.Counts.{Each, each_append, each_left, each_right}
+use Rattle.lfs_model.specs.session.SlotEdits.{RemovesSlot, AddsFile, EditsSlots, ReplacesSlots, AddsDirectory, MovesSlot, ReplacesSlot, directory_slot, file_slot}
 use Rattle.lfs_operations.proofs.RawSlots.{fewer_attributes}
-use Rattle.lfs_tree.specs.KeptFiles.{operation_blocks}
-use Rattle.lfs_tree.specs.TreeState.{IsApplied, IsSoundState, TreeState, tree_summary, tree_view}
+use Rattle.lfs_tree.specs.KeptFiles.{operation_room}
 use Rattle.lfs_tree.proofs.TakenBlocks.{FitBut, all_few, all_fit, fit_unmoved, list_length, lists_append, lists_in, lists_of, parts_fit, some_fit, total, total_append, total_unmoved, used_total}
 
 -- ---- slots that are replaced by others
@@ -198,7 +184,7 @@ module _ (disk : Disk) where
   abbrev asked_in : Tree → Session
   asked_in tree = record { tree = tree; files = [] }
 
-  drafted : (new : Disk) (ps : List Pair) (tree : Tree) (op : Operation) (fresh old drafts : List Pair) → Each (FitsPair disk) old → EditsSlots new ps (asked_in tree) op fresh old drafts → IsDrafted disk old fresh drafts (operation_blocks op)
+  drafted : (new : Disk) (ps : List Pair) (tree : Tree) (op : Operation) (fresh old drafts : List Pair) → Each (FitsPair disk) old → EditsSlots new ps (asked_in tree) op fresh old drafts → IsDrafted disk old fresh drafts (operation_room op)
   drafted new ps tree (ops.Open path flags) fresh old drafts h e = created (tree (path_or_root path)) (last_name (path_or_root path)) old fresh drafts h e.0 e.1
   drafted new ps tree (ops.Mkdir path) fresh old drafts h e = made (last_name (path_or_root path)) fresh old drafts h e
   drafted new ps tree (ops.Remove path) fresh old drafts h e = shrunk_drafted old fresh drafts (e.1 ∷ []) [] h e.0 e.2.1 (omega arith) (omega arith) (omega arith)
@@ -235,10 +221,10 @@ module _ (disk : Disk) where
         let e = total_append disk laid.front laid.back in
         omega arith
 
-    pub taken_laid_out : total size qs ≤ total size (pairs_without_moved ps) + operation_blocks op
+    pub taken_laid_out : total size qs ≤ total size (pairs_without_moved ps) + operation_room op
     taken_laid_out =
         let d = drafted new ps tree op laid.fresh (pairs_without_moved ps) laid.drafts fit_here laid.edits in
-        let few = all_few disk (IsDirectoryGone ps op) (pair_count_before_root ps) None laid.drafts laid.parts laid.stand d.cuts d.few in
+        let few = all_few disk (IsDirectoryGone ps op) (count_before_root ps) None laid.drafts laid.parts laid.stand d.cuts d.few in
         let same = d.same in
         let taken = d.taken in
         let all = parts_total in
@@ -247,21 +233,21 @@ module _ (disk : Disk) where
   -- a recovery adds no pair, and cuts none
   pub recovered_fit : (new : Disk) (ps qs : List Pair) (tree : Tree) → IsLayout disk ps (asked_in tree) ops.Recover new qs → Each (FitsPair disk) qs
   recovered_fit new ps qs tree laid =
-      let parts = parts_fit disk (IsDirectoryGone ps ops.Recover) (pair_count_before_root ps) None laid.drafts laid.parts laid.stand in
+      let parts = parts_fit disk (IsDirectoryGone ps ops.Recover) (count_before_root ps) None laid.drafts laid.parts laid.stand in
       let joined = subst (Each (FitsPair disk)) laid.joined parts in
       let none = laid.edits.0 in
       subst (Each (FitsPair disk)) (sym (laid.is ∙ ap (λ (z : List Pair). laid.front ++ (z ++ laid.back)) none)) joined
 
-  pub taken_arranged : (new : Disk) (ps qs : List Pair) (tree : Tree) (op : Operation) → IsLayoutRecovered disk ps (asked_in tree) op new qs → Each (FitsPair disk) ps → total size qs ≤ total size (pairs_without_moved ps) + operation_blocks op
+  pub taken_arranged : (new : Disk) (ps qs : List Pair) (tree : Tree) (op : Operation) → IsLayoutRecovered disk ps (asked_in tree) op new qs → Each (FitsPair disk) ps → total size qs ≤ total size (pairs_without_moved ps) + operation_room op
   taken_arranged new ps qs tree op a h =
       let first = taken_laid_out a.middle ps a.between tree ops.Recover a.recovery h in
       let second = taken_laid_out new a.between qs tree op a.operation (recovered_fit a.middle ps a.between tree a.recovery) in
       let between = total_unmoved disk (pairs_gstate a.between) a.between in
       omega arith
 
-pub room_of : (old new : TreeState) (op : Operation) → IsSoundState old → old.writable ≡ true → IsApplied old op new → length (tree_summary new).used ≤ length (tree_summary old).used + operation_blocks op
+pub room_of : (old new : TreeState) (op : Operation) → IsSoundState old → old.writable ≡ true → IsApplied old op new → length (tree_summary new).used ≤ length (tree_summary old).used + operation_room op
 room_of old new op sound writable k =
-    let taken = taken_arranged old.disk new.disk old.pairs new.pairs (tree_view old) op (k.arranged []) (recursion_from_All (λ (p : Pair). FitsInPair old.disk.block_size old.disk.page p.content) old.pairs (sound.fits writable).pairs) in
+    let taken = taken_arranged old.disk new.disk old.pairs new.pairs (shown_tree old) op (k.arranged []) (recursion_from_All (λ (p : Pair). FitsInPair old.disk.block_size old.disk.page p.content) old.pairs (sound.fits writable).pairs) in
     let before = used_total old.disk old.pairs in
     let after = used_total new.disk new.pairs in
     let unmoved = total_unmoved new.disk (pairs_gstate new.pairs) new.pairs in

@@ -3,18 +3,10 @@ use Rattle.std.proofs.Common.{ℕ, ◌≡◌, ◌∙◌, ◌||◌, Bool, false, 
 use Rattle.std.specs.Prelude.{IfErr, OnErr, OnOk, is_err}
 use Rattle.lfs_device.specs.declared.error.Error.{Error}
 use Rattle.lfs_model.specs.session.Operations as ops
-use Rattle.lfs_model.specs.session.Operations.{Operation}
-use Rattle.lfs_model.specs.format.Slots.{zero_gstate}
-use Rattle.lfs_model.specs.format.Thread.{pairs_gstate}
-use Rattle.lfs_model.specs.tree.Tree.{Tree}
-use Rattle.lfs_model.specs.tree.Shown.{tree_on_disk}
-use Rattle.lfs_thread.specs.Kept.{KeptThread, ThreadView}
+use Rattle.lfs_tree.proofs.Common.{Operation, zero_gstate, pairs_gstate, Tree, disk_tree, KeptThread, ThreadView, IsOperationCall, tree_after_call, HasFurtherCalls, HasAppliedCall, CanChangeRecovered, ChangesTreeOrFails, AppliesOrFails, SurvivesEither, HasThreadCause, SoundUnlessFailed, IsSoundWithRoot, kept_state, thread_state, HasRecovered, IsFailedTree, IsApplied, HasErrorCause, IsSoundState, TreeState, without_cache, kept_thread, shown_tree}
 use Rattle.lfs_tree.specs.TreeCalls as calls
-use Rattle.lfs_tree.specs.TreeCalls.{TreeCall, IsOperationCall, AppliesCallOrFails, tree_after_call}
-use Rattle.lfs_tree.specs.TreeChanges.{HasFurtherCalls, HasAppliedCall, CanChangeRecovered, ChangesTreeOrFails, AppliesOrFails, SurvivesEither, HasThreadCause}
-use Rattle.lfs_tree.specs.RootedThreads.{SoundUnlessFailed, IsSoundWithRoot, kept_state, thread_state}
-use Rattle.lfs_tree.specs.Recoveries.{HasRecovered}
-use Rattle.lfs_tree.specs.TreeState.{IsFailedTree, IsApplied, IsAppliedTo, HasErrorCause, IsSoundState, LeavesOthersAlone, TreeState, SurvivesStops, without_cache, kept_thread, tree_view}
+use Rattle.lfs_tree.specs.TreeCalls.{TreeCall, AppliesCallOrFails}
+use Rattle.lfs_tree.specs.TreeState.{IsAppliedTo, LeavesOthersAlone, SurvivesStops}
 use Rattle.lfs_tree.proofs.NotedErrors.{noted, noted_failed, noted_held}
 use Rattle.lfs_tree.proofs.Operated.{IsPlain}
 use Rattle.lfs_tree.proofs.Carried.{lists_from}
@@ -41,13 +33,13 @@ module _ (t : ThreadView) (writable : Bool) (now : TreeState) (view : thread_sta
 -- ---- the recovery itself
 
 module _ (t : ThreadView) (writable : Bool) (now : TreeState) (view : thread_state t writable ≡ now) (works : t.failed ≡ false) (may : writable ≡ true) (left : pairs_gstate t.kept.pairs ≡ zero_gstate → ⊥)
-    {X : Type 0} (r : Result X Error) (new : ThreadView) (w : ChangesTreeOrFails t (HasRecovered t.kept) (tree_on_disk t.kept.disk t.kept.pairs) r new) where
+    {X : Type 0} (r : Result X Error) (new : ThreadView) (w : ChangesTreeOrFails t (HasRecovered t.kept) (disk_tree t.kept.disk t.kept.pairs) r new) where
   pub recovers : OnErr r (new.failed ≡ true) → AppliesCallOrFails now calls.Recover r (thread_state new writable)
   recovers failed = subst (λ (s : TreeState). AppliesCallOrFails s calls.Recover r (thread_state new writable)) view (record {
     done = done r w.done w.works;
     alone = alone r;
-    broken = breaks t writable (thread_state t writable) refl (HasRecovered t.kept) (tree_on_disk t.kept.disk t.kept.pairs) r new w failed;
-    errors = reports t writable (thread_state t writable) refl (HasRecovered t.kept) (tree_on_disk t.kept.disk t.kept.pairs) r new w;
+    broken = breaks t writable (thread_state t writable) refl (HasRecovered t.kept) (disk_tree t.kept.disk t.kept.pairs) r new w failed;
+    errors = reports t writable (thread_state t writable) refl (HasRecovered t.kept) (disk_tree t.kept.disk t.kept.pairs) r new w;
     survives = w.survives;
   })
     where
@@ -78,7 +70,7 @@ recovers_nothing t works may sound none r is = subst (λ (z : Result (Unit {0}) 
   alone = λ op does. leaves_itself t op;
   broken = tt;
   errors = tt;
-  survives = none_survives t (tree_view t);
+  survives = none_survives t (shown_tree t);
 })
 
 -- where it failed, so did the call
@@ -87,7 +79,7 @@ recovery_failed {X} {Y} old mid call r s e f was is same k =
     subst (λ (z : Result Y Error). AppliesCallOrFails old call z mid) (sym (is ∙ ap Err same)) (go (subst (λ (z : Result X Error). AppliesCallOrFails old calls.Recover z mid) was k))
   where
     go : (let z : Result X Error = Err e in AppliesCallOrFails old calls.Recover z mid) → (let z : Result Y Error = Err e in AppliesCallOrFails old call z mid)
-    go k = record { done = tt; alone = tt; broken = k.broken; errors = k.errors; survives = survives_before (kept_thread old) (kept_thread mid) (tree_after_call call (tree_view old)) k.survives }
+    go k = record { done = tt; alone = tt; broken = k.broken; errors = k.errors; survives = survives_before (kept_thread old) (kept_thread mid) (tree_after_call call (shown_tree old)) k.survives }
 
 -- ---- what comes behind it
 
@@ -115,7 +107,7 @@ module _ (old mid : TreeState) (works : old.failed ≡ false) (may : old.writabl
     settled = subst (λ (k : KeptThread). pairs_gstate k.pairs ≡ zero_gstate) (sym kept_is) done.recovered.gstate;
   }
 
-  module _ (call : TreeCall) (plain : (op : Operation) → IsOperationCall call op → IsPlain op) (first : SurvivesStops old mid (tree_view old)) where
+  module _ (call : TreeCall) (plain : (op : Operation) → IsOperationCall call op → IsPlain op) (first : SurvivesStops old mid (shown_tree old)) where
     operates : {X : Type 0} (r : Result X Error) (new : ThreadView) → AppliesOrFails t call r new → OnErr r (new.failed ≡ true) → AppliesCallOrFails old call r (thread_state new writable)
     operates {X} r new w failed = record {
       done = dones r w.done w.works;
@@ -123,7 +115,7 @@ module _ (old mid : TreeState) (works : old.failed ≡ false) (may : old.writabl
       broken = broken r failed;
       errors = errors r w.errors;
       survives = survives_after (kept_thread old) t.kept settled_here new.kept (tree_after_call call) w.called
-          (subst (λ (k : KeptThread). SurvivesEither (kept_thread old) k (tree_view old)) (sym kept_is) first) w.survives;
+          (subst (λ (k : KeptThread). SurvivesEither (kept_thread old) k (shown_tree old)) (sym kept_is) first) w.survives;
     }
       where
         all : HasFurtherCalls (kept_thread old) new.kept
@@ -150,7 +142,7 @@ module _ (old mid : TreeState) (works : old.failed ≡ false) (may : old.writabl
 
     module _ {X : Type 0} (b new : ThreadView) (r : Result X Error) (w : AppliesOrFails t call r b) (f : new ≡ record b { failed = is_err r || b.failed }) where
       pub operates_noted : AppliesCallOrFails old call r (thread_state new writable)
-      operates_noted = operates r new (noted t b new (HasAppliedCall t.kept call) (tree_after_call call (tree_on_disk t.kept.disk t.kept.pairs)) r w f) (noted_failed t b new (HasAppliedCall t.kept call) (tree_after_call call (tree_on_disk t.kept.disk t.kept.pairs)) r w f)
+      operates_noted = operates r new (noted t b new (HasAppliedCall t.kept call) (tree_after_call call (disk_tree t.kept.disk t.kept.pairs)) r w f) (noted_failed t b new (HasAppliedCall t.kept call) (tree_after_call call (disk_tree t.kept.disk t.kept.pairs)) r w f)
 
       pub held_noted : SoundUnlessFailed new root writable
-      held_noted = subst (λ a. SoundUnlessFailed new root a) (sym writes) (noted_held t b new (HasAppliedCall t.kept call) (tree_after_call call (tree_on_disk t.kept.disk t.kept.pairs)) r w f root rests_behind.held)
+      held_noted = subst (λ a. SoundUnlessFailed new root a) (sym writes) (noted_held t b new (HasAppliedCall t.kept call) (tree_after_call call (disk_tree t.kept.disk t.kept.pairs)) r w f root rests_behind.held)

@@ -1,12 +1,7 @@
 -- Which blocks an image uses, and how many.
 use Rattle.std.proofs.Common.{ℕ, ◌≡◌, ◌⊎◌, ◌==◌, ◌||◌, Bool, true, false, List, [], ◌∷◌, length, refl, sym, subst, eqb-true, inl, inr, arith}
 use Rattle.std.specs.Prelude.{◌↔◌, Contains, IsTrue}
-use Rattle.std.specs.List.{list_any}
-use Rattle.std.proofs.lemmas.Bool.{eqb-false}
-use Rattle.lfs_model.specs.layers.BlockSets.{AreUsed, BlockStates, IsUsedBlock, used_count}
-use Rattle.lfs_model.specs.tree.Shown.{used_blocks}
-use Rattle.lfs_model.proofs.BlockSets.{Contains-cons, Contains-head, Contains-tail, used_count-AreUsed}
-use Rattle.lfs_tree.specs.TreeState.{TreeState, IsSoundState}
+use Rattle.lfs_tree.proofs.Common.{list_any, eqb-false, AreUsed, BlockStates, IsUsedBlock, used_count, used_blocks, Contains-cons, Contains-head, Contains-tail, used_count-AreUsed, TreeState, IsSoundState}
 
 contained_any : (bs : List ℕ) (block : ℕ) → Contains bs block → list_any (λ b. b == block) bs ≡ true
 contained_any [] block h = absurd (omega (arith, h.1))

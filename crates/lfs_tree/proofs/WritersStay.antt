@@ -1,31 +1,13 @@
 -- The contents of an open writer over a file that an operation keeps.
 use Rattle.std.proofs.Common.{ℕ, ◌≡◌, ◌≤◌, ◌<◌, ◌⊎◌, ⊎_elim, inl, inr, false, List, [], ◌++◌, length, get_or, slice_get, Some, refl, sym, ap, ◌∙◌, subst, arith}
 use Rattle.std.specs.Prelude.{Contains}
-use Rattle.std.proofs.lemmas.List.Elements.{Contains-append_cases}
-use Rattle.std.proofs.lemmas.Option.{slice_get-get_or}
+use Rattle.lfs_tree.proofs.Common.{Contains-append_cases, slice_get-get_or, GrowingList, unwritten_block, growing_size_with, contents_list_blocks, Blocks, block_bytes, BlockStates, BlockState, IsFree, IsInFlight, IsUsedBlock, in_flight_count, Free, InFlight, Used, SameGeometry, blocks_to_head, block_count_for, Operation, Path, few_flying, KeepsFileAt, AreTreeContents, writer_contents_bytes, IsApplied, IsSoundState, KeepsInFlight, TreeState, without_cache, kept_thread, IsTakenWritten, IsListOrEmpty, blocks_of_list, AreSoundContents, contents_bytes, contents_form, CanEndOver, bytes_over_base, contents_blocks}
 use Rattle.lfs_device.specs.declared.geometry.Geometry.{Geometry}
-use Rattle.lfs_file.specs.Growing.{GrowingList, kept_blocks as blocks_kept, unwritten_block, growing_size_with, growing_size}
-use Rattle.lfs_tree.specs.ThreadContents.{contents_list_blocks}
-use Rattle.lfs_model.specs.format.Blocks.{Blocks, block_bytes}
-use Rattle.lfs_model.specs.layers.BlockSets.{BlockStates, BlockState, IsFree, IsInFlight, IsUsedBlock, in_flight_count}
-use Rattle.lfs_model.specs.layers.BlockSets.BlockState.{Free, InFlight, Used}
-use Rattle.lfs_model.specs.format.Disk.{SameGeometry}
+use Rattle.lfs_file.specs.Growing.{kept_blocks as blocks_kept, growing_size}
 use Rattle.lfs_model.specs.layers.Keeping.{takes_away}
-use Rattle.lfs_model.specs.format.SkipLists.{blocks_to_head, block_count_for}
-use Rattle.lfs_model.specs.session.Operations.{Operation}
-use Rattle.lfs_model.specs.tree.Tree.{Path}
-use Rattle.lfs_model.proofs.BlockCounts.{few_flying}
-use Rattle.lfs_tree.specs.KeptFiles.{KeepsFileAt}
-use Rattle.lfs_tree.specs.OpenContents.{OverTreeFile, writer_contents_bytes}
-use Rattle.lfs_tree.specs.TreeState.{IsApplied, IsSoundState, KeepsInFlight, TreeState, without_cache, kept_thread}
 use Rattle.lfs_tree.proofs.ContentsStay.{StayAs, base_list, bytes_stay, hand_bytes_stay, hand_stays, hand_still, list_stays, of_all, stored_stays}
 use Rattle.lfs_tree.proofs.KeptFiles.{list_used}
-use Rattle.lfs_file.specs.BlocksApart.{IsTakenWritten}
-use Rattle.lfs_file.specs.Bases.{IsListOrEmpty, list_blocks_from}
-use Rattle.lfs_file.specs.Contents.{AreSoundContents, contents_bytes, contents_form}
 use Rattle.lfs_file.specs.Form.{form_in_flight}
-use Rattle.lfs_file.specs.Hand.{CanEndOver, bytes_over_base}
-use Rattle.lfs_file.specs.BlockOwners.{contents_blocks}
 use Rattle.lfs_file.specs.declared.contents.WriterContents.{WriterContents}
 use Rattle.lfs_file.specs.declared.contents.WriterContents.TheVariants.{InMemory, Finished, InHand}
 use Rattle.lfs_file.specs.declared.stored_list.StoredList.{StoredList}
@@ -44,7 +26,7 @@ hand_still_on : (map later : BlockStates) (d e : Blocks) (now : Geometry) (hand 
 hand_still_on map later d e now hand is list stay = (
   hand_stays map later d e now.block_size hand.list hand.base hand.shared list stay,
   (
-    ap (λ (l : List ℕ). l ++ list_blocks_from e now.block_size hand.base.head hand.base.size) (hand_still map later d e now.block_size hand.list hand.base hand.shared list stay).kept
+    ap (λ (l : List ℕ). l ++ blocks_of_list e now.block_size hand.base.head hand.base.size) (hand_still map later d e now.block_size hand.list hand.base hand.shared list stay).kept
         ∙ ap (λ (l : List ℕ). blocks_kept d hand.list ++ l) (base_list map later d e now.block_size hand.list hand.base hand.shared list stay),
     hand_bytes_stay map later d e now.block_size hand.list hand.base hand.shared list stay,
   ),
@@ -92,9 +74,9 @@ state_of sets b below taken = go (get_or sets b Free) (slice_get-get_or sets b F
     go InFlight is = inr is
     go Used is = inl is
 
-base_below : (d : Blocks) (block_size : ℕ) (s : StoredList) → IsListOrEmpty d block_size s.head s.size → (b : ℕ) → Contains (list_blocks_from d block_size s.head s.size) b → b < length d
-base_below d block_size s (inl none) b has = absurd (let k : Contains [] b = subst (λ n. Contains (list_blocks_from d block_size s.head n) b) none has in omega (arith, k.1))
-base_below d block_size s (inr list) b has = of_all (λ x. x < length d) (list_blocks_from d block_size s.head s.size) list.blocks.in_range b has
+base_below : (d : Blocks) (block_size : ℕ) (s : StoredList) → IsListOrEmpty d block_size s.head s.size → (b : ℕ) → Contains (blocks_of_list d block_size s.head s.size) b → b < length d
+base_below d block_size s (inl none) b has = absurd (let k : Contains [] b = subst (λ n. Contains (blocks_of_list d block_size s.head n) b) none has in omega (arith, k.1))
+base_below d block_size s (inr list) b has = of_all (λ x. x < length d) (blocks_of_list d block_size s.head s.size) list.blocks.in_range b has
 
 own_state : (map : BlockStates) (d : Blocks) (block_size : ℕ) (g : GrowingList) (base : StoredList) (shared : ℕ) → CanEndOver map d block_size g base shared → (b : ℕ) → Contains (blocks_kept d g) b → IsUsedBlock map b ⊎ IsInFlight map b
 own_state map d block_size g base shared hand b has = ⊎_elim
@@ -106,17 +88,17 @@ own_state map d block_size g base shared hand b has = ⊎_elim
 pub held_states : (map : BlockStates) (d : Blocks) (now : Geometry) (c : WriterContents) → AreSoundContents map d now c → (b : ℕ) → Contains (contents_blocks d now.block_size c) b → IsUsedBlock map b ⊎ IsInFlight map b
 held_states map d now (InMemory list) is b has = absurd (omega (arith, has.1))
 held_states map d now (Finished stored) is b has =
-    state_of map b (let l = base_below d now.block_size stored is.base b has in omega (arith, l, is.count)) (of_all (λ x. ¬ (IsFree map x)) (list_blocks_from d now.block_size stored.head stored.size) is.marked b has)
+    state_of map b (let l = base_below d now.block_size stored is.base b has in omega (arith, l, is.count)) (of_all (λ x. ¬ (IsFree map x)) (blocks_of_list d now.block_size stored.head stored.size) is.marked b has)
 held_states map d now (InHand hand) is b has =
     let list : CanEndOver map d now.block_size hand.list hand.base hand.shared = subst (λ (k : Geometry). CanEndOver map d k.block_size hand.list hand.base hand.shared) (sym is.geometry) is.list in
     ⊎_elim (own_state map d now.block_size hand.list hand.base hand.shared list b)
     (λ base. state_of map b (let l = base_below d now.block_size hand.base list.begun.list b base in omega (arith, l, list.begun.marked.count))
-    (of_all (λ x. IsTakenWritten map (unwritten_block hand.list) x) (list_blocks_from d now.block_size hand.base.head hand.base.size) list.begun.apart b base).0)
-    (Contains-append_cases (blocks_kept d hand.list) (list_blocks_from d now.block_size hand.base.head hand.base.size) b has)
+    (of_all (λ x. IsTakenWritten map (unwritten_block hand.list) x) (blocks_of_list d now.block_size hand.base.head hand.base.size) list.begun.apart b base).0)
+    (Contains-append_cases (blocks_kept d hand.list) (blocks_of_list d now.block_size hand.base.head hand.base.size) b has)
 
 -- ---- the contents of a writer
 
-module _ (old new : TreeState) (path : Path) (c : WriterContents) (over : OverTreeFile old path c) (before : IsSoundState old) (sound : IsSoundState new) (geometry : SameGeometry old.disk new.disk) (flight : KeepsInFlight old new)
+module _ (old new : TreeState) (path : Path) (c : WriterContents) (over : AreTreeContents old path c) (before : IsSoundState old) (sound : IsSoundState new) (geometry : SameGeometry old.disk new.disk) (flight : KeepsInFlight old new)
     (keeps : KeepsFileAt (kept_thread old) (kept_thread new) path) where
   abbrev now : Geometry
   now = over.stands.geometry
@@ -150,7 +132,7 @@ module _ (old new : TreeState) (path : Path) (c : WriterContents) (over : OverTr
   held_now : contents_list_blocks (kept_thread new) c ≡ contents_blocks old.disk.blocks now.block_size c
   held_now = ap (λ n. contents_blocks new.disk.blocks n c) (geometry.block_size ∙ sym over.stands.divided.block_size) ∙ still.1.0
 
-  pub over_stays : OverTreeFile new path c
+  pub over_stays : AreTreeContents new path c
   over_stays = record {
     file = keeps.file;
     stands = record {
@@ -173,12 +155,12 @@ module _ (old new : TreeState) (path : Path) (c : WriterContents) (over : OverTr
   pub bytes_held_stay : writer_contents_bytes (kept_thread new) c ≡ writer_contents_bytes (kept_thread old) c
   bytes_held_stay = ap (λ n. contents_bytes new.disk.blocks n c) (geometry.block_size ∙ sym over.stands.divided.block_size) ∙ still.1.1 ∙ ap (λ n. contents_bytes old.disk.blocks n c) over.stands.divided.block_size
 
-pub contents_stay : (old new : TreeState) (op : Operation) (path : Path) (c : WriterContents) → OverTreeFile old path c → IsSoundState old → IsApplied old op new → takes_away op path ≡ false
-    → OverTreeFile new path c × (writer_contents_bytes (kept_thread new) c ≡ writer_contents_bytes (kept_thread old) c)
+pub contents_stay : (old new : TreeState) (op : Operation) (path : Path) (c : WriterContents) → AreTreeContents old path c → IsSoundState old → IsApplied old op new → takes_away op path ≡ false
+    → AreTreeContents new path c × (writer_contents_bytes (kept_thread new) c ≡ writer_contents_bytes (kept_thread old) c)
 contents_stay old new op path c over sound k away =
     let keeps = k.keeps path over.file away in
     (over_stays (without_cache old) (without_cache new) path c over sound k.sound k.geometry k.flight keeps, bytes_held_stay (without_cache old) (without_cache new) path c over sound k.sound k.geometry k.flight keeps)
 
 -- no more blocks are in flight than contents in that form may have
-pub flying_of : (t : TreeState) (path : Path) (c : WriterContents) → OverTreeFile t path c → in_flight_count t.map ≤ form_in_flight t.disk.block_size (contents_form c)
+pub flying_of : (t : TreeState) (path : Path) (c : WriterContents) → AreTreeContents t path c → in_flight_count t.map ≤ form_in_flight t.disk.block_size (contents_form c)
 flying_of t path c over = subst (λ n. in_flight_count t.map ≤ form_in_flight n (contents_form c)) over.stands.divided.block_size (stands_flying t.map t.disk.blocks over.stands.geometry c over.stands.stands)

@@ -3,7 +3,7 @@ use Rattle.std.specs.Prelude.{ℕ, ◌≡◌, ◌≢◌, ◌⊎◌, ◌<◌, ◌
 use Rattle.lfs_device.specs.declared.device.BlockDevice.{Ghosts}
 use Rattle.lfs_device.specs.declared.error.Error.{Error}
 use Rattle.lfs_device.specs.declared.error.Error.TheVariants.{Io, NoMemory}
-use Rattle.lfs_device.specs.DeviceCalls.{ChangesOnlyTheseBlocks}
+use Rattle.lfs_device.specs.DeviceCalls.{ChangesTheseBlocks}
 use Rattle.lfs_model.specs.format.Disk.{ordered_disk, Disk, SameGeometry, disk_block, block_count}
 use Rattle.lfs_model.specs.format.Blocks.{SameExceptThese}
 use Rattle.lfs_model.specs.declared.order.NameOrder.{NameOrder}
@@ -85,9 +85,9 @@ pub record WritesFirstTwo (old new : KeptThread) : Type 0 where
 
 -- An error comes with the device. No block but these was written, and none where memory was lacking. `Io` comes with a fault of
 -- the device, and no other error does.
-pub record FailedFormatSparesOtherBlocks {D : Type 0} (g : Ghosts D) (bs : List ℕ) (old back : D) (error : Error) : Type 0 where
+pub record IsFormatError {D : Type 0} (g : Ghosts D) (bs : List ℕ) (old back : D) (error : Error) : Type 0 where
   pub errors : (error ≡ Io) ⊎ (error ≡ NoMemory)
-  pub writes : ChangesOnlyTheseBlocks g bs old back
+  pub writes : ChangesTheseBlocks g bs old back
   pub unwritten : error ≡ NoMemory → back ≡ old
   pub fault : error ≡ Io → fault_count (g.history old) < fault_count (g.history back)
   pub no_fault : error ≢ Io → fault_count (g.history back) ≡ fault_count (g.history old)

@@ -9,36 +9,36 @@ use Rattle.lfs_model.specs.session.SlotEdits.{slot_of}
 use Rattle.lfs_model.specs.format.Slots.{Slot}
 use Rattle.lfs_model.specs.format.Thread.{Pair}
 use Rattle.lfs_model.specs.tree.Tree.{Path, Tree}
-use Rattle.lfs_model.specs.tree.Shown.{all_slots_not_moved, struct_blocks, tree_on_disk}
+use Rattle.lfs_model.specs.tree.Shown.{all_unmoved_slots, struct_blocks, disk_tree}
 use Rattle.lfs_thread.specs.Kept.{KeptThread}
 
 -- how many blocks an operation may take: a pair may be cut for a new entry, and a directory has a pair of its own
-abbrev pub operation_blocks : Operation → ℕ
-operation_blocks (ops.Mkdir path) = 4
-operation_blocks (ops.Open path flags) = 2
-operation_blocks (ops.Rename from to) = 2
-operation_blocks (ops.SetAttr path kind bytes) = 2
-operation_blocks _ = 0
+abbrev pub operation_room : Operation → ℕ
+operation_room (ops.Mkdir path) = 4
+operation_room (ops.Open path flags) = 2
+operation_room (ops.Rename from to) = 2
+operation_room (ops.SetAttr path kind bytes) = 2
+operation_room _ = 0
 
 -- the blocks of the list that a slot names
-abbrev pub slot_list_blocks : Disk → Option Slot → List ℕ
-slot_list_blocks disk None = []
-slot_list_blocks disk (Some s) = struct_blocks disk s.struct
+abbrev pub slot_blocks : Disk → Option Slot → List ℕ
+slot_blocks disk None = []
+slot_blocks disk (Some s) = struct_blocks disk s.struct
 
 -- the blocks of the list of the file at a path
 abbrev pub list_blocks_at : KeptThread → Path → List ℕ
-list_blocks_at t path = slot_list_blocks t.disk (slot_of t.pairs path)
+list_blocks_at t path = slot_blocks t.disk (slot_of t.pairs path)
 
 -- a file is at the path still, with the struct that it had, and its list is in the same blocks, which hold what they held
 pub record KeepsFileAt (old new : KeptThread) (path : Path) : Type 0 where
-  pub file : is_file (tree_on_disk new.disk new.pairs path) ≡ true
+  pub file : is_file (disk_tree new.disk new.pairs path) ≡ true
   pub struct : struct_at new.pairs path ≡ struct_at old.pairs path
   pub list : list_blocks_at new path ≡ list_blocks_at old path
   pub bytes : (b : ℕ) → Contains (list_blocks_at old path) b → disk_block new.disk b ≡ disk_block old.disk b
 
 -- every block of a file's list keeps its bytes
 abbrev pub KeepsListBytes : Disk → List Pair → Disk → Type 0
-KeepsListBytes disk ps new = All (λ t. All (λ b. disk_block new b ≡ disk_block disk b) (struct_blocks disk t.struct)) (all_slots_not_moved ps)
+KeepsListBytes disk ps new = All (λ t. All (λ b. disk_block new b ≡ disk_block disk b) (struct_blocks disk t.struct)) (all_unmoved_slots ps)
 
 -- the tree's files but for the one at the path have the structs that they had
 abbrev pub KeepsOtherFiles : Tree → List Pair → Path → List Pair → Type 0

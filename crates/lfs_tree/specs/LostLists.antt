@@ -1,12 +1,12 @@
 -- The skip lists of slots that are dropped. Their blocks are freed after that.
 use Rattle.std.specs.Prelude.{ℕ, ◌≤◌, ◌+◌, false, List, [], ◌∷◌, Option, Some, None}
 use Rattle.std.specs.List.{AllByRecursion, flat_map}
-use Rattle.lfs_tree.specs.SettledFiles.{thread_list_blocks}
+use Rattle.lfs_tree.specs.SettledFiles.{stored_list_blocks}
 use Rattle.lfs_model.specs.format.Content.{RawSlot, read_struct}
 use Rattle.lfs_model.specs.format.Slots.{Slot, Struct, Inline, Ctz, Branch}
 use Rattle.lfs_model.specs.tree.Shown.{used_blocks}
-use Rattle.lfs_model.specs.layers.Steps.{number_count}
-use Rattle.lfs_operations.specs.Ready.{IsReadyUpdated}
+use Rattle.lfs_model.specs.layers.Steps.{number_occurrences}
+use Rattle.lfs_operations.specs.Ready.{IsReadyUnsettled}
 use Rattle.lfs_thread.specs.Kept.{KeptThread}
 use Rattle.lfs_file.specs.Bases.{IsListOrEmpty}
 use Rattle.lfs_file.specs.declared.stored_list.StoredList.{StoredList}
@@ -18,8 +18,8 @@ struct_lists (Ctz head size) = record { head = head; size = size; in_flight = fa
 struct_lists (Inline bytes) = []
 struct_lists (Branch to) = []
 
-abbrev pub lists_of_slots : List Slot → List StoredList
-lists_of_slots slots = flat_map (λ s. struct_lists s.struct) slots
+abbrev pub slots_lists : List Slot → List StoredList
+slots_lists slots = flat_map (λ s. struct_lists s.struct) slots
 
 -- the list of a log's slot, whose struct is a type and bytes
 abbrev pub raw_struct_lists : Option (ℕ × List ℕ) → List StoredList
@@ -32,10 +32,10 @@ raw_slots_lists slots = flat_map (λ s. raw_struct_lists s.struct) slots
 -- ---- their blocks
 
 abbrev pub blocks_of_lists : KeptThread → List StoredList → List ℕ
-blocks_of_lists t lists = flat_map (thread_list_blocks t) lists
+blocks_of_lists t lists = flat_map (stored_list_blocks t) lists
 
 -- The image hasn't the files of these lists any more. The lists are on the disk, and their blocks are still used.
 pub record CanFreeDropped (t : KeptThread) (lists : List StoredList) : Type 0 where
-  pub ready : IsReadyUpdated t (blocks_of_lists t lists) []
-  pub once : (b : ℕ) → number_count b (used_blocks t.disk t.pairs) + number_count b (blocks_of_lists t lists) ≤ 1
+  pub ready : IsReadyUnsettled t (blocks_of_lists t lists) []
+  pub once : (b : ℕ) → number_occurrences b (used_blocks t.disk t.pairs) + number_occurrences b (blocks_of_lists t lists) ≤ 1
   pub stand : AllByRecursion (λ list. IsListOrEmpty t.disk.blocks t.disk.block_size list.head list.size) lists

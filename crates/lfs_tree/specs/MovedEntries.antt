@@ -14,14 +14,14 @@ use Rattle.lfs_model.specs.session.Refusals.{path_or_root}
 use Rattle.lfs_model.specs.format.Thread.{Pair, is_hard_tail}
 use Rattle.lfs_model.specs.tree.Tree.{Path}
 use Rattle.lfs_model.specs.tree.Profile.{IsWritableEntry}
-use Rattle.lfs_model.specs.tree.Shown.{tree_on_disk}
-use Rattle.lfs_model.specs.layers.Steps.{IsCompletion}
+use Rattle.lfs_model.specs.tree.Shown.{disk_tree}
+use Rattle.lfs_model.specs.layers.Steps.{CompletesOperation}
 use Rattle.lfs_operations.specs.Dropping.{SameInFlight}
 use Rattle.lfs_operations.specs.Editing.{CanEditIn, editable_slot}
 use Rattle.lfs_operations.specs.Making.{HasFreeBlocks}
-use Rattle.lfs_operations.specs.Ready.{IsRawFormed, IsReadyImage, KeepsRootBeginning}
+use Rattle.lfs_operations.specs.Ready.{IsRawFormed, IsReadyImage, KeepsRootNumber}
 use Rattle.lfs_thread.specs.Kept.{KeptThread, ThreadView}
-use Rattle.lfs_thread.specs.ThreadSteps.{thread_pair_at}
+use Rattle.lfs_thread.specs.ThreadSteps.{thread_pair}
 use Rattle.lfs_tree.specs.SlotChanges.{IsPathSpot}
 use Rattle.lfs_lookup.specs.Entry.{IsStorage}
 use Rattle.lfs_tree.specs.Removals.{CanFreeList}
@@ -78,9 +78,9 @@ pub record CanMoveOntoDirectory (t : KeptThread) (from to : Path) (source : Rena
   pub at : ℕ × ℕ
   pub branch : target.stands.slot.struct ≡ Branch at
   pub below : gone < length t.pairs
-  pub there : same_pair (thread_pair_at t gone).at at ≡ true
-  pub empty : (thread_pair_at t gone).content.slots ≡ []
-  pub alone : is_hard_tail (thread_pair_at t gone).content.tail ≡ false
+  pub there : same_pair (thread_pair t gone).at at ≡ true
+  pub empty : (thread_pair t gone).content.slots ≡ []
+  pub alone : is_hard_tail (thread_pair t gone).content.tail ≡ false
 
 -- nothing is found at the other path, a file, or a directory without entries
 abbrev pub CanMoveOntoFound : KeptThread → Path → Path → RenameSource → PathLookup → Name → Type 0
@@ -100,23 +100,23 @@ SparesInRename old from to new = (s : Session) (given to_given : List ℕ) → p
 pub record HasMovedEntry (old : KeptThread) (from to : Path) (new : KeptThread) : Type 0 where
   pub ready : IsReadyImage new
   pub flying : SameInFlight old.map new.map
-  pub root : KeepsRootBeginning old new
-  pub completed : (s : Session) (given to_given : List ℕ) → s.tree ≡ tree_on_disk old.disk old.pairs → path_or_root given ≡ from → path_or_root to_given ≡ to
-      → IsCompletion old.disk old.pairs s (ops.Rename given to_given) new.disk new.pairs
+  pub root : KeepsRootNumber old new
+  pub completed : (s : Session) (given to_given : List ℕ) → s.tree ≡ disk_tree old.disk old.pairs → path_or_root given ≡ from → path_or_root to_given ≡ to
+      → CompletesOperation old.disk old.pairs s (ops.Rename given to_given) new.disk new.pairs
   pub alone : SparesInRename old from to new
 
 -- The same, but the blocks of the replaced file's list are still used.
 pub record HasMovedOnto (old : KeptThread) (from to : Path) (contents : FileStorage) (new : KeptThread) : Type 0 where
   pub free : CanFreeList new contents
-  pub shows : tree_on_disk new.disk new.pairs ≡ tree_renaming from to (tree_on_disk old.disk old.pairs)
+  pub shows : disk_tree new.disk new.pairs ≡ tree_renaming from to (disk_tree old.disk old.pairs)
   pub flying : SameInFlight old.map new.map
-  pub root : KeepsRootBeginning old new
-  pub completed : (s : Session) (given to_given : List ℕ) → s.tree ≡ tree_on_disk old.disk old.pairs → path_or_root given ≡ from → path_or_root to_given ≡ to
-      → IsCompletion old.disk old.pairs s (ops.Rename given to_given) new.disk new.pairs
+  pub root : KeepsRootNumber old new
+  pub completed : (s : Session) (given to_given : List ℕ) → s.tree ≡ disk_tree old.disk old.pairs → path_or_root given ≡ from → path_or_root to_given ≡ to
+      → CompletesOperation old.disk old.pairs s (ops.Rename given to_given) new.disk new.pairs
   pub alone : SparesInRename old from to new
 
 -- `Io` comes with a fault of the device, and any other result with none; where there is no error the thread works
-pub record ThreadWorksOrReportsError {X : Type 0} (old new : ThreadView) (result : Result X Error) : Type 0 where
+pub record ThreadWorksOrReports {X : Type 0} (old new : ThreadView) (result : Result X Error) : Type 0 where
   pub works : OnOk result (new.failed ≡ false)
   pub errors : IfErr result (λ e. (e ≡ Io) ⊎ (e ≡ NoMemory))
   pub fault : IsErrOf result Io → fault_count old.kept.history < fault_count new.kept.history

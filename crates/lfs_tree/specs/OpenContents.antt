@@ -17,17 +17,17 @@ use Rattle.lfs_model.specs.session.Effects.{file_with_bytes}
 use Rattle.lfs_model.specs.format.Thread.{pairs_gstate}
 use Rattle.lfs_model.specs.tree.Tree.{Path}
 use Rattle.lfs_model.specs.tree.Profile.{IsWritable}
-use Rattle.lfs_model.specs.tree.Shown.{tree_on_disk, used_blocks}
+use Rattle.lfs_model.specs.tree.Shown.{disk_tree, used_blocks}
 use Rattle.lfs_tree.specs.ThreadContents.{AreOnThread, contents_list_blocks}
-use Rattle.lfs_operations.specs.Storing.{IsDirtyOf}
+use Rattle.lfs_operations.specs.Storing.{IsDirtyWriter}
 use Rattle.lfs_thread.specs.Kept.{KeptThread}
-pub use Rattle.lfs_tree.specs.KeptFiles.{KeepsOtherFiles, slot_list_blocks, list_blocks_at}
+pub use Rattle.lfs_tree.specs.KeptFiles.{KeepsOtherFiles, slot_blocks, list_blocks_at}
 pub use Rattle.lfs_tree.specs.TreeState.{kept_thread}
-use Rattle.lfs_tree.specs.TreeState.{IsFailedTree, HasErrorCause, TreeState, IsSoundState, SurvivesStops, tree_summary, without_cache, tree_view}
-use Rattle.lfs_file.specs.Contents.{FormFitsInlineLimit, NeedsTruncateRoom, contents_bytes, finish_room, contents_form, truncation_room, write_room}
+use Rattle.lfs_tree.specs.TreeState.{IsFailedTree, HasErrorCause, TreeState, IsSoundState, SurvivesStops, tree_summary, without_cache, shown_tree}
+use Rattle.lfs_file.specs.Contents.{FormFitsInline, NeedsTruncateRoom, contents_bytes, finish_room, contents_form, truncation_room, write_room}
 use Rattle.lfs_file.specs.Form as form
-use Rattle.lfs_file.specs.Form.{StorageForm, form_size}
-use Rattle.lfs_file.specs.BlockOwners.{AreOwn}
+use Rattle.lfs_file.specs.Form.{ContentsForm, form_size}
+use Rattle.lfs_file.specs.BlockOwners.{AreUsedAmong}
 use Rattle.lfs_file.specs.declared.contents.WriterContents.{WriterContents}
 
 -- the bytes of a writer's contents
@@ -35,18 +35,18 @@ abbrev pub writer_contents_bytes : KeptThread → WriterContents → List ℕ
 writer_contents_bytes t contents = contents_bytes t.disk.blocks t.disk.block_size contents
 
 -- a writer's contents have these bytes, in that form
-pub record HasFormBytes (t : TreeState) (these : List ℕ) (shape : StorageForm) (contents : WriterContents) : Type 0 where
+pub record HasFormBytes (t : TreeState) (these : List ℕ) (shape : ContentsForm) (contents : WriterContents) : Type 0 where
   pub bytes : writer_contents_bytes (kept_thread t) contents ≡ these
   pub form : contents_form contents ≡ shape
 
 -- These are the contents of an open writer over the file at the path. They are on the disk, and their used blocks are the file's.
-pub record OverThreadFile (t : KeptThread) (path : Path) (contents : WriterContents) : Type 0 where
-  pub file : is_file (tree_on_disk t.disk t.pairs path) ≡ true
+pub record AreThreadContents (t : KeptThread) (path : Path) (contents : WriterContents) : Type 0 where
+  pub file : is_file (disk_tree t.disk t.pairs path) ≡ true
   pub stands : AreOnThread t contents
-  pub owned : AreOwn t.map (list_blocks_at t path) (contents_list_blocks t contents)
+  pub owned : AreUsedAmong t.map (list_blocks_at t path) (contents_list_blocks t contents)
 
-abbrev pub OverTreeFile : TreeState → Path → WriterContents → Type 0
-OverTreeFile t path contents = OverThreadFile (kept_thread t) path contents
+abbrev pub AreTreeContents : TreeState → Path → WriterContents → Type 0
+AreTreeContents t path contents = AreThreadContents (kept_thread t) path contents
 
 -- ---- what is asked for
 
@@ -55,51 +55,51 @@ pub record CanOpenWriterOf (t : TreeState) (path : Path) : Type 0 where
   pub works : t.failed ≡ false
   pub writable : t.writable ≡ true
   pub idle : in_flight_count t.map ≡ 0
-  pub file : is_file (tree_view t path) ≡ true
+  pub file : is_file (shown_tree t path) ≡ true
 
 -- So many bytes, at least one, may be written there. Past the inline limit there is room for the blocks in flight that this
 -- takes.
-pub record CanWriteWriterContents (t : TreeState) (contents : WriterContents) (place count : ℕ) : Type 0 where
+pub record CanWriteIn (t : TreeState) (contents : WriterContents) (place count : ℕ) : Type 0 where
   pub works : t.failed ≡ false
   pub stands : AreOnThread (kept_thread t) contents
-  pub large : FormFitsInlineLimit (inline_limit t.disk.profile t.disk.block_size) (contents_form contents)
+  pub large : FormFitsInline (inline_limit t.disk.profile t.disk.block_size) (contents_form contents)
   pub some : 1 ≤ count
   pub small : place + count < 2 ^ 31
   pub room : inline_limit t.disk.profile t.disk.block_size < max (form_size (contents_form contents)) (place + count)
       → length (tree_summary t).used + write_room t.disk.block_size place count (contents_form contents) ≤ block_count t.disk
 
 -- They may be cut or filled up to that size. Where blocks are wanted, there is room for them.
-pub record CanTruncateWriterContents (t : TreeState) (contents : WriterContents) (size : ℕ) : Type 0 where
+pub record CanTruncateIn (t : TreeState) (contents : WriterContents) (size : ℕ) : Type 0 where
   pub works : t.failed ≡ false
   pub stands : AreOnThread (kept_thread t) contents
-  pub large : FormFitsInlineLimit (inline_limit t.disk.profile t.disk.block_size) (contents_form contents)
+  pub large : FormFitsInline (inline_limit t.disk.profile t.disk.block_size) (contents_form contents)
   pub small : size < 2 ^ 31
   pub room : NeedsTruncateRoom (inline_limit t.disk.profile t.disk.block_size) size (contents_form contents)
       → length (tree_summary t).used + truncation_room t.disk.block_size size (contents_form contents) ≤ block_count t.disk
 
 -- contents are in memory exactly where they are at most the limit
-abbrev pub InlineUpToLimit : ℕ → StorageForm → Type 0
-InlineUpToLimit limit (form.InMemory size) = size ≤ limit
-InlineUpToLimit limit (form.Finished size flying) = limit < size
-InlineUpToLimit limit (form.InHand stop base flying) = limit < max stop base
+abbrev pub InlineWithinLimit : ℕ → ContentsForm → Type 0
+InlineWithinLimit limit (form.InMemory size) = size ≤ limit
+InlineWithinLimit limit (form.Finished size flying) = limit < size
+InlineWithinLimit limit (form.InHand stop base flying) = limit < max stop base
 
 -- The file at the path may get these contents: there is room for what is still to be written of them, and then for two blocks.
-pub record CanStoreIn (t : TreeState) (path : Path) (contents : WriterContents) : Type 0 where
+pub record CanStoreContentsIn (t : TreeState) (path : Path) (contents : WriterContents) : Type 0 where
   pub works : t.failed ≡ false
   pub writable : t.writable ≡ true
   pub settled : pairs_gstate t.pairs ≡ zero_gstate
-  pub over : OverTreeFile t path contents
-  pub form : InlineUpToLimit (inline_limit t.disk.profile t.disk.block_size) (contents_form contents)
+  pub over : AreTreeContents t path contents
+  pub form : InlineWithinLimit (inline_limit t.disk.profile t.disk.block_size) (contents_form contents)
   pub end : length (tree_summary t).used + finish_room t.disk.block_size (contents_form contents) ≤ block_count t.disk
   pub room : length (tree_summary t).used + list_blocks_of t.disk.profile t.disk.block_size (length (writer_contents_bytes (kept_thread t) contents)) + 2 ≤ block_count t.disk
 
-abbrev pub CanStoreAt : TreeState → Path → WriterContents → Type 0
-CanStoreAt t path contents = CanStoreIn (without_cache t) path contents
+abbrev pub CanStoreContents : TreeState → Path → WriterContents → Type 0
+CanStoreContents t path contents = CanStoreContentsIn (without_cache t) path contents
 
 -- ---- what comes of it
 
 -- contents of so many bytes as they are opened: in memory where they are inline in the file's entry, else as its list
-abbrev pub IsOpenedForm : Profile → ℕ → ℕ → StorageForm → Type 0
+abbrev pub IsOpenedForm : Profile → ℕ → ℕ → ContentsForm → Type 0
 IsOpenedForm profile block_size size shape = ((shape ≡ form.InMemory size) × (size ≤ inline_limit profile block_size)) ⊎ (shape ≡ form.Finished size false)
 
 -- Only blocks were written that the image doesn't use: it shows what it showed, in the same pairs. Each list is in the same blocks.
@@ -108,7 +108,7 @@ pub record KeepsImage (old new : TreeState) : Type 0 where
   pub sound : IsSoundState new
   pub writable : new.writable ≡ old.writable
   pub pairs : new.pairs ≡ old.pairs
-  pub shows : tree_view new ≡ tree_view old
+  pub shows : shown_tree new ≡ shown_tree old
   pub around : tree_summary new ≡ tree_summary old
   pub stay : (b : ℕ) → Contains (used_blocks old.disk old.pairs) b → disk_block new.disk b ≡ disk_block old.disk b
   pub lists : (path : Path) → list_blocks_at (kept_thread new) path ≡ list_blocks_at (kept_thread old) path
@@ -119,16 +119,16 @@ pub record KeepsImage (old new : TreeState) : Type 0 where
 
 -- What a call promises that changes a writer's contents and leaves the image. A loss of power during the call leaves the image,
 -- too.
-pub record WritesOnlyUnusedBlocksOrFails {X : Type 0} (old : TreeState) (result : Result X Error) (new : TreeState) : Type 0 where
+pub record WritesUnusedOrFails {X : Type 0} (old : TreeState) (result : Result X Error) (new : TreeState) : Type 0 where
   pub beside : OnOk result (KeepsImage old new)
   pub broken : OnErr result (IsFailedTree old new)
   pub errors : IfErr result (HasErrorCause old new)
-  pub survives : old.writable ≡ true → SurvivesStops old new (tree_view old)
+  pub survives : old.writable ≡ true → SurvivesStops old new (shown_tree old)
 
 -- slots are where the operation on such a writer puts them
-abbrev pub SlotsAfterRecovery : TreeState → Path → List ℕ → (ℕ → Operation) → TreeState → Type 0
-SlotsAfterRecovery old path bytes op new = (files : OpenFilesByNumber) (fd : ℕ) (writer : FileWriter) → IsDirtyOf (record { tree = tree_view old; files = files }) fd path bytes writer
-    → IsLayoutRecovered old.disk old.pairs (record { tree = tree_view old; files = files }) (op fd) new.disk new.pairs
+abbrev pub IsWriterLayoutRecovered : TreeState → Path → List ℕ → (ℕ → Operation) → TreeState → Type 0
+IsWriterLayoutRecovered old path bytes op new = (files : OpenFilesByNumber) (fd : ℕ) (writer : FileWriter) → IsDirtyWriter (record { tree = shown_tree old; files = files }) fd path bytes writer
+    → IsLayoutRecovered old.disk old.pairs (record { tree = shown_tree old; files = files }) (op fd) new.disk new.pairs
 
 -- the operation is about that path, as a sync or a close of its writer
 abbrev pub ConcernsOnlyPath : Session → Operation → Path → Type 0
@@ -146,12 +146,12 @@ pub record StoresImageBytes (old : TreeState) (path : Path) (bytes : List ℕ) (
   pub no_fault : fault_count new.history ≡ fault_count old.history
   pub fits : IsWritable new.disk new.pairs
   pub recovered : IsRecovered new.pairs
-  pub shows : tree_view new ≡ tree_with_change path (file_with_bytes bytes) (tree_view old)
-  pub others : KeepsOtherFiles (tree_view old) old.pairs path new.pairs
-  pub lists : (q : Path) → is_file (tree_view old q) ≡ true → same_path path q ≡ false → list_blocks_at (kept_thread new) q ≡ list_blocks_at (kept_thread old) q
-  pub synced : SlotsAfterRecovery old path bytes ops.Sync new
-  pub closed : SlotsAfterRecovery old path bytes ops.Close new
-  pub alone : (files : OpenFilesByNumber) (op : Operation) → ConcernsOnlyPath (record { tree = tree_view old; files = files }) op path → LeavesOthers old.disk old.pairs (record { tree = tree_view old; files = files }) op new.disk new.pairs
+  pub shows : shown_tree new ≡ tree_with_change path (file_with_bytes bytes) (shown_tree old)
+  pub others : KeepsOtherFiles (shown_tree old) old.pairs path new.pairs
+  pub lists : (q : Path) → is_file (shown_tree old q) ≡ true → same_path path q ≡ false → list_blocks_at (kept_thread new) q ≡ list_blocks_at (kept_thread old) q
+  pub synced : IsWriterLayoutRecovered old path bytes ops.Sync new
+  pub closed : IsWriterLayoutRecovered old path bytes ops.Close new
+  pub alone : (files : OpenFilesByNumber) (op : Operation) → ConcernsOnlyPath (record { tree = shown_tree old; files = files }) op path → LeavesOthers old.disk old.pairs (record { tree = shown_tree old; files = files }) op new.disk new.pairs
   pub none_in_flight : in_flight_count new.map ≡ 0
 
 abbrev pub StoresBytesAt : TreeState → Path → List ℕ → TreeState → Type 0

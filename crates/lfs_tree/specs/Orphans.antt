@@ -5,7 +5,7 @@ use Rattle.lfs_model.specs.session.InDirectory.{IsPairAt}
 use Rattle.lfs_model.specs.format.Slots.{Struct, Inline, Ctz, Branch}
 use Rattle.lfs_model.specs.format.Thread.{Pair}
 use Rattle.lfs_model.specs.tree.Shown.{IsReachedBySome}
-use Rattle.lfs_model.specs.layers.Steps.{HoldsOfSome}
+use Rattle.lfs_model.specs.layers.Steps.{AnyByRecursion}
 use Rattle.lfs_lookup.specs.Items.{NamedStruct}
 use Rattle.lfs_lookup.specs.TreeWalk.{HasFirstIfDirectory}
 
@@ -23,15 +23,15 @@ IsStructPair ps (Branch to) n = IsPairAt ps to n
 IsStructPair ps (Inline bytes) n = ⊥
 IsStructPair ps (Ctz head size) n = ⊥
 
-abbrev pub IsSomeStructPair : List Pair → List NamedStruct → ℕ → Type 0
-IsSomeStructPair ps shapes n = HoldsOfSome (λ (s : NamedStruct). IsStructPair ps s.struct n) shapes
+abbrev pub IsNamedPair : List Pair → List NamedStruct → ℕ → Type 0
+IsNamedPair ps shapes n = AnyByRecursion (λ (s : NamedStruct). IsStructPair ps s.struct n) shapes
 
 -- the directories that are named begin with pairs of the thread
 abbrev pub DirectoriesBegin : List Pair → List NamedStruct → Type 0
 DirectoriesBegin ps shapes = AllByRecursion (λ (s : NamedStruct). HasFirstIfDirectory ps s.struct) shapes
 
 -- The numbers that have P are marked now, and those of them that weren't before are pending.
-pub record MarksPending (P : ℕ → Type 0) (old : List Bool) (waiting : List ℕ) (new : List Bool) (pending : List ℕ) : Type 0 where
+pub record QueuesMarked (P : ℕ → Type 0) (old : List Bool) (waiting : List ℕ) (new : List Bool) (pending : List ℕ) : Type 0 where
   pub len : length new ≡ length old
   pub stay : (n : ℕ) → IsMarkedReached old n → IsMarkedReached new n
   pub marked : (n : ℕ) → P n → IsMarkedReached new n

@@ -10,10 +10,10 @@ use Rattle.lfs_model.specs.format.Thread.{pairs_gstate}
 use Rattle.lfs_model.specs.tree.Tree.{Path}
 use Rattle.lfs_model.specs.tree.View.{IsAccepted}
 use Rattle.lfs_model.specs.tree.Profile.{IsWritable}
-use Rattle.lfs_model.specs.tree.Shown.{tree_on_disk, used_blocks}
-use Rattle.lfs_model.specs.layers.Steps.{IsCompletion, number_count, HasNoMove}
-use Rattle.lfs_operations.specs.Ready.{IsReadyImage, KeepsRootBeginning}
-use Rattle.lfs_operations.specs.EndingMove.{RecoveriesAreAllowed}
+use Rattle.lfs_model.specs.tree.Shown.{disk_tree, used_blocks}
+use Rattle.lfs_model.specs.layers.Steps.{CompletesOperation, number_occurrences, HasNoMove}
+use Rattle.lfs_operations.specs.Ready.{IsReadyImage, KeepsRootNumber}
+use Rattle.lfs_operations.specs.EndingMove.{KeepsRecoveryLayouts}
 use Rattle.lfs_thread.specs.Kept.{KeptThread}
 use Rattle.lfs_tree.specs.TreeChanges.{AppliesOperation}
 use Rattle.lfs_tree.specs.RootedThreads.{kept_state}
@@ -32,11 +32,11 @@ pub record CanDropUnreached (t : KeptThread) : Type 0 where
 -- has come into use.
 pub record HasDroppedUnreached (old new : KeptThread) : Type 0 where
   pub ready : IsReadyImage new
-  pub root : KeepsRootBeginning old new
-  pub shows : tree_on_disk new.disk new.pairs ≡ tree_on_disk old.disk old.pairs
-  pub completed : (s : Session) → s.tree ≡ tree_on_disk old.disk old.pairs → IsCompletion old.disk old.pairs s ops.Recover new.disk new.pairs
-  pub fewer : (b : ℕ) → number_count b (used_blocks new.disk new.pairs) ≤ number_count b (used_blocks old.disk old.pairs)
-  pub keeps : (path : Path) → is_file (tree_on_disk old.disk old.pairs path) ≡ true → KeepsFileAt old new path
+  pub root : KeepsRootNumber old new
+  pub shows : disk_tree new.disk new.pairs ≡ disk_tree old.disk old.pairs
+  pub completed : (s : Session) → s.tree ≡ disk_tree old.disk old.pairs → CompletesOperation old.disk old.pairs s ops.Recover new.disk new.pairs
+  pub fewer : (b : ℕ) → number_occurrences b (used_blocks new.disk new.pairs) ≤ number_occurrences b (used_blocks old.disk old.pairs)
+  pub keeps : (path : Path) → is_file (disk_tree old.disk old.pairs path) ≡ true → KeepsFileAt old new path
   pub flight : KeepsInFlight (kept_state old true false) (kept_state new true false)
 
 -- What a loss of power left is ended, without a fault of the device. Slots that are laid out after a further recovery are laid
@@ -44,6 +44,6 @@ pub record HasDroppedUnreached (old new : KeptThread) : Type 0 where
 -- was left, no call was made.
 pub record HasRecovered (old new : KeptThread) : Type 0 where
   pub carries : AppliesOperation old ops.Recover new
-  pub leads_on : RecoveriesAreAllowed old new
+  pub leads_on : KeepsRecoveryLayouts old new
   pub room : length (used_blocks new.disk new.pairs) ≤ length (used_blocks old.disk old.pairs)
   pub same : pairs_gstate old.pairs ≡ zero_gstate → new ≡ old

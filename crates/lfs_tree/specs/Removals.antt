@@ -1,6 +1,6 @@
 -- An entry that is removed from its directory.
 use Rattle.std.specs.Prelude.{ℕ, ◌≡◌, ◌≤◌, ◌+◌, true, false, List, [], ◌∷◌, ◌++◌}
-use Rattle.lfs_tree.specs.SettledFiles.{thread_list_blocks}
+use Rattle.lfs_tree.specs.SettledFiles.{stored_list_blocks}
 use Rattle.lfs_model.specs.declared.order.NameOrder.{NameOrder}
 use Rattle.lfs_model.specs.crash.Frame.{LeavesOthers}
 use Rattle.lfs_model.specs.session.Operations as ops
@@ -8,11 +8,11 @@ use Rattle.lfs_model.specs.session.Session.{Session}
 use Rattle.lfs_model.specs.session.Refusals.{path_or_root}
 use Rattle.lfs_model.specs.format.Thread.{Pair}
 use Rattle.lfs_model.specs.tree.Tree.{Path}
-use Rattle.lfs_model.specs.tree.Shown.{tree_on_disk, used_blocks}
-use Rattle.lfs_model.specs.layers.Steps.{IsCompletion, number_count}
+use Rattle.lfs_model.specs.tree.Shown.{disk_tree, used_blocks}
+use Rattle.lfs_model.specs.layers.Steps.{CompletesOperation, number_occurrences}
 use Rattle.lfs_operations.specs.Dropping.{SameInFlight}
 use Rattle.lfs_operations.specs.Editing.{editable_slot}
-use Rattle.lfs_operations.specs.Ready.{IsReadyImage, IsReadyUpdated, KeepsRootBeginning}
+use Rattle.lfs_operations.specs.Ready.{IsReadyImage, IsReadyUnsettled, KeepsRootNumber}
 use Rattle.lfs_operations.specs.Removing.{CanRemoveIn}
 use Rattle.lfs_operations.specs.Unlinking.{CanRemoveDirectory}
 use Rattle.lfs_thread.specs.Kept.{KeptThread}
@@ -37,10 +37,10 @@ pub record IsFoundAt (order : NameOrder) (ps : List Pair) (path : Path) (found :
 -- The image hasn't the file of these contents any more; the blocks of its list are still used.
 pub record CanFreeList (t : KeptThread) (contents : FileStorage) : Type 0 where
   pub gone : List ℕ
-  pub ready : IsReadyUpdated t gone []
-  pub once : (b : ℕ) → number_count b (used_blocks t.disk t.pairs) + number_count b gone ≤ 1
+  pub ready : IsReadyUnsettled t gone []
+  pub once : (b : ℕ) → number_occurrences b (used_blocks t.disk t.pairs) + number_occurrences b gone ≤ 1
   pub list : IsListOrEmpty t.disk.blocks t.disk.block_size (list_in_storage contents).head (list_in_storage contents).size
-  pub are : thread_list_blocks t (list_in_storage contents) ≡ gone
+  pub are : stored_list_blocks t (list_in_storage contents) ≡ gone
 
 -- ---- what may go
 
@@ -67,9 +67,9 @@ CanRemoveFound t path _ = ⊥
 pub record HasRemovedEntry (old : KeptThread) (path : Path) (new : KeptThread) : Type 0 where
   pub ready : IsReadyImage new
   pub flying : SameInFlight old.map new.map
-  pub root : KeepsRootBeginning old new
-  pub completed : (s : Session) (given : List ℕ) → s.tree ≡ tree_on_disk old.disk old.pairs → path_or_root given ≡ path
-      → IsCompletion old.disk old.pairs s (ops.Remove given) new.disk new.pairs
+  pub root : KeepsRootNumber old new
+  pub completed : (s : Session) (given : List ℕ) → s.tree ≡ disk_tree old.disk old.pairs → path_or_root given ≡ path
+      → CompletesOperation old.disk old.pairs s (ops.Remove given) new.disk new.pairs
 
 -- the removal left alone the blocks of files and of pairs that it doesn't concern
 abbrev pub SparesInRemoval : KeptThread → Path → KeptThread → Type 0

@@ -17,13 +17,13 @@ use Rattle.lfs_tree.specs.declared.rename_paths.RenameFindings.{RenameFindings}
 use Rattle.lfs_tree.specs.declared.rename_paths.RenameTargets.{RenameTargets}
 
 -- what was found, but for where a name belongs and in which directory it is
-abbrev pub visible_lookup : PathLookup → VisiblePathLookup
-visible_lookup found.Root = shown.Root
-visible_lookup (found.Directory parent slot first) = shown.Directory slot first
-visible_lookup (found.File parent slot contents) = shown.File slot contents
-visible_lookup (found.Nothing parent place) = shown.Nothing
-visible_lookup found.ParentIsFile = shown.ParentIsFile
-visible_lookup found.ParentIsMissing = shown.ParentIsMissing
+abbrev pub lookup_without_parent : PathLookup → VisiblePathLookup
+lookup_without_parent found.Root = shown.Root
+lookup_without_parent (found.Directory parent slot first) = shown.Directory slot first
+lookup_without_parent (found.File parent slot contents) = shown.File slot contents
+lookup_without_parent (found.Nothing parent place) = shown.Nothing
+lookup_without_parent found.ParentIsFile = shown.ParentIsFile
+lookup_without_parent found.ParentIsMissing = shown.ParentIsMissing
 
 -- the directories that are searched for the two: those above the old path, twice, those above the new one, and the one at it
 abbrev pub rename_directories : Path → Path → List Path

@@ -1,6 +1,6 @@
 -- What a tree keeps of its device.
 use Rattle.std.specs.Prelude.{ℕ, ◌≡◌, Bool, false, []}
-use Rattle.lfs_model.specs.format.Thread.{pair_count_before_root}
+use Rattle.lfs_model.specs.format.Thread.{count_before_root}
 use Rattle.lfs_thread.specs.Kept.{KeptThread, ThreadView}
 use Rattle.lfs_tree.specs.TreeState.{TreeState, IsSoundState}
 
@@ -15,7 +15,7 @@ thread_state t writable = record (kept_state t.kept writable t.failed) { cache =
 pub record IsSoundWithRoot (t : ThreadView) (root : ℕ) (writable : Bool) : Type 0 where
   pub works : t.failed ≡ false
   pub sound : IsSoundState (kept_state t.kept writable false)
-  pub root_is : root ≡ pair_count_before_root t.kept.pairs
+  pub root_is : root ≡ count_before_root t.kept.pairs
 
 -- so, unless it has failed
 abbrev pub SoundUnlessFailed : ThreadView → ℕ → Bool → Type 0

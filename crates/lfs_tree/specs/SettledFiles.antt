@@ -2,22 +2,22 @@
 use Rattle.std.specs.Prelude.{ℕ, ◌≡◌, ◌++◌, List, length, Contains}
 use Rattle.lfs_model.specs.format.Disk.{block_count}
 use Rattle.lfs_model.specs.session.History.{OnlyReadsSince}
-use Rattle.lfs_model.specs.format.Thread.{blocks_of_pairs}
+use Rattle.lfs_model.specs.format.Thread.{pairs_blocks}
 use Rattle.lfs_thread.specs.Kept.{KeptThread}
-use Rattle.lfs_file.specs.Bases.{IsListOrEmpty, list_blocks_from}
+use Rattle.lfs_file.specs.Bases.{IsListOrEmpty, blocks_of_list}
 use Rattle.lfs_file.specs.SettledMaps.{SettlesList, AreSharedUsed}
 use Rattle.lfs_file.specs.declared.stored_list.StoredList.{StoredList}
 
-abbrev pub thread_list_blocks : KeptThread → StoredList → List ℕ
-thread_list_blocks t s = list_blocks_from t.disk.blocks t.disk.block_size s.head s.size
+abbrev pub stored_list_blocks : KeptThread → StoredList → List ℕ
+stored_list_blocks t s = blocks_of_list t.disk.blocks t.disk.block_size s.head s.size
 
 -- Both lists are on the disk, or have no block. No block of theirs is a pair's, and those that both have are used.
 pub record CanSettleFile (t : KeptThread) (before stored : StoredList) : Type 0 where
   pub was : IsListOrEmpty t.disk.blocks t.disk.block_size before.head before.size
   pub list : IsListOrEmpty t.disk.blocks t.disk.block_size stored.head stored.size
   pub size : length t.map ≡ block_count t.disk
-  pub apart : (b : ℕ) → Contains (blocks_of_pairs t.pairs) b → ¬ (Contains (thread_list_blocks t before ++ thread_list_blocks t stored) b)
-  pub shared : AreSharedUsed t.map (thread_list_blocks t before) (thread_list_blocks t stored)
+  pub apart : (b : ℕ) → Contains (pairs_blocks t.pairs) b → ¬ (Contains (stored_list_blocks t before ++ stored_list_blocks t stored) b)
+  pub shared : AreSharedUsed t.map (stored_list_blocks t before) (stored_list_blocks t stored)
 
 -- nothing was written, and the pairs are the same
 pub record ChangesOnlyMap (old new : KeptThread) : Type 0 where
@@ -26,4 +26,4 @@ pub record ChangesOnlyMap (old new : KeptThread) : Type 0 where
   pub pairs : new.pairs ≡ old.pairs
 
 abbrev pub IsListSettled : KeptThread → StoredList → StoredList → KeptThread → Type 0
-IsListSettled old before stored new = SettlesList old.map new.map (thread_list_blocks old before) (thread_list_blocks old stored)
+IsListSettled old before stored new = SettlesList old.map new.map (stored_list_blocks old before) (stored_list_blocks old stored)

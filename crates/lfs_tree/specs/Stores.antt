@@ -13,18 +13,18 @@ use Rattle.lfs_model.specs.session.Effects.{file_with_bytes}
 use Rattle.lfs_model.specs.format.Thread.{Pair, pairs_gstate}
 use Rattle.lfs_model.specs.tree.Tree.{Path, branch_address}
 use Rattle.lfs_model.specs.tree.Profile.{IsWritable}
-use Rattle.lfs_model.specs.tree.Shown.{tree_on_disk, used_blocks}
-use Rattle.lfs_operations.specs.Ready.{KeepsRootBeginning}
+use Rattle.lfs_model.specs.tree.Shown.{disk_tree, used_blocks}
+use Rattle.lfs_operations.specs.Ready.{KeepsRootNumber}
 use Rattle.lfs_tree.specs.StructChanges.{IsContentsStruct}
 use Rattle.lfs_tree.specs.ThreadContents.{AreOnThread}
 use Rattle.lfs_operations.specs.Editing.{CanEditIn, editable_slot}
 use Rattle.lfs_operations.specs.Making.{HasFreeBlocks}
-use Rattle.lfs_operations.specs.Storing.{IsDirtyOf}
+use Rattle.lfs_operations.specs.Storing.{IsDirtyWriter}
 use Rattle.lfs_thread.specs.Kept.{KeptThread}
 use Rattle.lfs_tree.specs.SlotChanges.{IsPathSpot}
 use Rattle.lfs_tree.specs.RootedThreads.{kept_state}
 use Rattle.lfs_tree.specs.KeptFiles.{KeepsOtherFiles}
-use Rattle.lfs_tree.specs.OpenContents.{OverThreadFile, StoresBytesAt, writer_contents_bytes}
+use Rattle.lfs_tree.specs.OpenContents.{AreThreadContents, StoresBytesAt, writer_contents_bytes}
 use Rattle.lfs_tree.specs.TreeState.{IsSoundState}
 use Rattle.lfs_lookup.specs.declared.entry.FileStorage.{FileStorage}
 use Rattle.lfs_lookup.specs.declared.entry.FileStorage.TheVariants as entry
@@ -34,7 +34,7 @@ use Rattle.lfs_lookup.specs.declared.search.SlotPosition.{SlotPosition}
 use Rattle.lfs_tree.specs.declared.contents_at.FileSlot.{FileSlot}
 use Rattle.lfs_file.specs.Contents.{contents_form, buffered_bytes}
 use Rattle.lfs_file.specs.Form as form
-use Rattle.lfs_file.specs.Form.{StorageForm}
+use Rattle.lfs_file.specs.Form.{ContentsForm}
 use Rattle.lfs_file.specs.declared.contents.WriterContents.{WriterContents}
 use Rattle.lfs_file.specs.declared.contents.WriterContents.TheVariants.{InMemory, Finished, InHand}
 use Rattle.lfs_file.specs.declared.stored_list.StoredList.{StoredList}
@@ -64,7 +64,7 @@ IsFoundFile (found.File parent slot contents) file = (file.spot ≡ slot) × (fi
 IsFoundFile _ file = ⊥
 
 -- the slot of the file at a path, and its list
-pub record IsPathFileSlot (ps : List Pair) (path : Path) (file : FileSlot) : Type 0 where
+pub record IsPathFile (ps : List Pair) (path : Path) (file : FileSlot) : Type 0 where
   pub slot : IsPathSpot ps path file.spot
   pub leaf : branch_address slot.stands.stands.stands.slot.struct ≡ None
   pub list : file.list ≡ list_in_struct slot.stands.stands.stands.slot.struct
@@ -81,30 +81,30 @@ finished_list (Finished stored) = stored
 finished_list (InHand hand) = empty_list
 
 -- contents are finished, and in memory exactly where they are at most the limit
-abbrev pub IsFinishedInline : ℕ → StorageForm → Type 0
-IsFinishedInline limit (form.InMemory size) = size ≤ limit
-IsFinishedInline limit (form.Finished size flying) = limit < size
-IsFinishedInline limit (form.InHand stop base flying) = ⊥
+abbrev pub IsFinishedForm : ℕ → ContentsForm → Type 0
+IsFinishedForm limit (form.InMemory size) = size ≤ limit
+IsFinishedForm limit (form.Finished size flying) = limit < size
+IsFinishedForm limit (form.InHand stop base flying) = ⊥
 
 -- The file at the id of the pair may get finished contents, and two blocks are free.
 pub record CanPutContents (t : KeptThread) (spot : SlotPosition) (contents : WriterContents) : Type 0 where
   pub can : CanEditIn t spot.pair spot.id
   pub stands : AreOnThread t contents
   pub leaf : branch_address (editable_slot can).struct ≡ None
-  pub finished : IsFinishedInline (inline_limit t.disk.profile t.disk.block_size) (contents_form contents)
+  pub finished : IsFinishedForm (inline_limit t.disk.profile t.disk.block_size) (contents_form contents)
   pub come : IsContentsStruct t (writer_contents_bytes t contents) (editable_slot can).struct (finished_struct contents)
   pub room : HasFreeBlocks 2 t.map
 
 -- The file at the path may get finished contents, and there is room for their list and two blocks.
 pub record CanCommitContents (t : KeptThread) (path : Path) (contents : WriterContents) : Type 0 where
-  pub over : OverThreadFile t path contents
-  pub finished : IsFinishedInline (inline_limit t.disk.profile t.disk.block_size) (contents_form contents)
+  pub over : AreThreadContents t path contents
+  pub finished : IsFinishedForm (inline_limit t.disk.profile t.disk.block_size) (contents_form contents)
   pub room : used_count t.map + list_blocks_of t.disk.profile t.disk.block_size (length (writer_contents_bytes t contents)) + 2 ≤ length t.map
 
 -- slots are where the operation on a dirty writer of the file, with these contents, puts them
-abbrev pub SlotsAfterWriter : KeptThread → Path → List ℕ → (ℕ → Operation) → KeptThread → Type 0
-SlotsAfterWriter old path bytes op new = (files : OpenFilesByNumber) (fd : ℕ) (writer : FileWriter) → IsDirtyOf (record { tree = tree_on_disk old.disk old.pairs; files = files }) fd path bytes writer
-    → IsLayout old.disk old.pairs (record { tree = tree_on_disk old.disk old.pairs; files = files }) (op fd) new.disk new.pairs
+abbrev pub IsWriterLayout : KeptThread → Path → List ℕ → (ℕ → Operation) → KeptThread → Type 0
+IsWriterLayout old path bytes op new = (files : OpenFilesByNumber) (fd : ℕ) (writer : FileWriter) → IsDirtyWriter (record { tree = disk_tree old.disk old.pairs; files = files }) fd path bytes writer
+    → IsLayout old.disk old.pairs (record { tree = disk_tree old.disk old.pairs; files = files }) (op fd) new.disk new.pairs
 
 -- Of the used blocks only those of one pair changed, which holds the slot of the path.
 pub record ChangesPathPair (disk : Disk) (ps : List Pair) (path : Path) (new : Disk) : Type 0 where
@@ -118,14 +118,14 @@ pub record HasCommittedBytes (old : KeptThread) (path : Path) (bytes : List ℕ)
   pub sound : IsSoundState (kept_state new true false)
   pub fits : IsWritable new.disk new.pairs
   pub settled : pairs_gstate new.pairs ≡ zero_gstate
-  pub root : KeepsRootBeginning old new
-  pub shows : tree_on_disk new.disk new.pairs ≡ tree_with_change path (file_with_bytes bytes) (tree_on_disk old.disk old.pairs)
-  pub others : KeepsOtherFiles (tree_on_disk old.disk old.pairs) old.pairs path new.pairs
-  pub synced : SlotsAfterWriter old path bytes ops.Sync new
-  pub closed : SlotsAfterWriter old path bytes ops.Close new
+  pub root : KeepsRootNumber old new
+  pub shows : disk_tree new.disk new.pairs ≡ tree_with_change path (file_with_bytes bytes) (disk_tree old.disk old.pairs)
+  pub others : KeepsOtherFiles (disk_tree old.disk old.pairs) old.pairs path new.pairs
+  pub synced : IsWriterLayout old path bytes ops.Sync new
+  pub closed : IsWriterLayout old path bytes ops.Close new
   pub alone : ChangesPathPair old.disk old.pairs path new.disk
   pub none_in_flight : in_flight_count new.map ≡ 0
 
 -- the same, of a tree
-abbrev pub StoresBytesIn : KeptThread → Path → List ℕ → KeptThread → Type 0
-StoresBytesIn old path bytes new = StoresBytesAt (kept_state old true false) path bytes (kept_state new true false)
+abbrev pub StoresThreadBytes : KeptThread → Path → List ℕ → KeptThread → Type 0
+StoresThreadBytes old path bytes new = StoresBytesAt (kept_state old true false) path bytes (kept_state new true false)

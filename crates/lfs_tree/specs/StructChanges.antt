@@ -2,20 +2,20 @@
 use Rattle.std.specs.Prelude.{ℕ, ◌≡◌, ◌+◌, nat_eq, List}
 use Rattle.std.specs.List.{AllByRecursion, IsDistinct}
 use Rattle.lfs_model.specs.layers.BlockSets.{IsInFlight}
-use Rattle.lfs_model.specs.session.SlotEdits.{StoresBytes}
+use Rattle.lfs_model.specs.session.SlotEdits.{GivesBytes}
 use Rattle.lfs_model.specs.format.Slots.{Struct}
-use Rattle.lfs_model.specs.tree.View.{IsWellFormedCtz}
+use Rattle.lfs_model.specs.tree.View.{IsFormedList}
 use Rattle.lfs_model.specs.tree.Shown.{struct_blocks}
-use Rattle.lfs_model.specs.layers.Steps.{number_count}
+use Rattle.lfs_model.specs.layers.Steps.{number_occurrences}
 use Rattle.lfs_thread.specs.Kept.{KeptThread}
 
 -- The struct gives these contents, inline or as a list that is on the disk. `come` are the blocks that the list before hasn't;
 -- they are in flight. `gone` are the blocks that only the list before has.
 pub record IsContentsStruct (t : KeptThread) (contents : List ℕ) (was now : Struct) : Type 0 where
-  pub stores : StoresBytes t.disk contents now
-  pub list : IsWellFormedCtz t.disk now
+  pub stores : GivesBytes t.disk contents now
+  pub list : IsFormedList t.disk now
   pub gone : List ℕ
   pub come : List ℕ
   pub flying : AllByRecursion (IsInFlight t.map) come
   pub apart : IsDistinct nat_eq come
-  pub blocks : (b : ℕ) → number_count b (struct_blocks t.disk now) + number_count b gone ≡ number_count b come + number_count b (struct_blocks t.disk was)
+  pub blocks : (b : ℕ) → number_occurrences b (struct_blocks t.disk now) + number_occurrences b gone ≡ number_occurrences b come + number_occurrences b (struct_blocks t.disk was)

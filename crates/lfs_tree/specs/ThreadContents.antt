@@ -5,11 +5,11 @@ use Rattle.lfs_device.specs.declared.error.Error.TheVariants.{Io, NoMemory}
 use Rattle.lfs_device.specs.declared.geometry.Geometry.{Geometry}
 use Rattle.lfs_model.specs.layers.BlockSets.{used_count}
 use Rattle.lfs_model.specs.session.History.{LossLeavesAtWorst, HoldsAtLosses, fault_count}
-use Rattle.lfs_thread.specs.Beside.{HasGeometryOf}
+use Rattle.lfs_thread.specs.Beside.{HasGeometry}
 use Rattle.lfs_thread.specs.Kept.{KeptThread}
 use Rattle.lfs_thread.specs.ThreadSteps.{SameGeometryAs}
 use Rattle.lfs_file.specs.Contents.{HasTruncationRoom, HasWriteRoom, HaveForm, AreSoundContents, finish_room, contents_form}
-use Rattle.lfs_file.specs.Form.{StorageForm}
+use Rattle.lfs_file.specs.Form.{ContentsForm}
 use Rattle.lfs_file.specs.Hand.{KeepsUsedBlocks, KeepsUsedBytes, UsedStayUnprogrammed}
 use Rattle.lfs_file.specs.BlockOwners.{contents_blocks}
 use Rattle.lfs_file.specs.declared.contents.WriterContents.{WriterContents}
@@ -17,13 +17,13 @@ use Rattle.lfs_file.specs.declared.contents.WriterContents.{WriterContents}
 -- the contents are on the disk, and the map has their blocks
 pub record AreOnThread (t : KeptThread) (contents : WriterContents) : Type 0 where
   pub geometry : Geometry
-  pub divided : HasGeometryOf geometry t.disk
+  pub divided : HasGeometry geometry t.disk
   pub stands : AreSoundContents t.map t.disk.blocks geometry contents
 
 -- the contents are in that form, with these bytes
-pub record HasContents (t : KeptThread) (contents : WriterContents) (bytes : List ℕ) (shape : StorageForm) : Type 0 where
+pub record HaveThreadForm (t : KeptThread) (contents : WriterContents) (bytes : List ℕ) (shape : ContentsForm) : Type 0 where
   pub geometry : Geometry
-  pub divided : HasGeometryOf geometry t.disk
+  pub divided : HasGeometry geometry t.disk
   pub has : HaveForm t.map t.disk.blocks geometry contents bytes shape
 
 -- bytes may be written there
@@ -42,7 +42,7 @@ pub record KeepsPairs (old new : KeptThread) : Type 0 where
   pub map : KeepsUsedBlocks old.map new.map
 
 -- `Io` comes with a fault of the device, and any other result with none
-pub record ReportsFaultOrNoMemory {X : Type 0} (old new : KeptThread) (result : Result X Error) : Type 0 where
+pub record ThreadReportsFaults {X : Type 0} (old new : KeptThread) (result : Result X Error) : Type 0 where
   pub errors : IfErr result (λ e. (e ≡ Io) ⊎ (e ≡ NoMemory))
   pub fault : IsErrOf result Io → fault_count old.history < fault_count new.history
   pub no_fault : ¬ IsErrOf result Io → fault_count new.history ≡ fault_count old.history

@@ -14,8 +14,8 @@ use Rattle.lfs_model.specs.format.Thread.{Pair, pairs_gstate}
 use Rattle.lfs_model.specs.tree.Tree.{Path, Tree}
 use Rattle.lfs_model.specs.session.TreeEdits.{last_name}
 use Rattle.lfs_model.specs.tree.Profile.{IsWritable}
-use Rattle.lfs_model.specs.tree.Shown.{tree_on_disk}
-use Rattle.lfs_operations.specs.Ready.{KeepsRootBeginning}
+use Rattle.lfs_model.specs.tree.Shown.{disk_tree}
+use Rattle.lfs_operations.specs.Ready.{KeepsRootNumber}
 use Rattle.lfs_thread.specs.Kept.{KeptThread, ThreadView}
 use Rattle.lfs_tree.specs.TreeCalls.{TreeCall, IsOperationCall, tree_after_call}
 use Rattle.lfs_tree.specs.RootedThreads.{IsSoundWithRoot, kept_state}
@@ -31,7 +31,7 @@ pub record CanChangeRecovered (t : ThreadView) (root : ℕ) : Type 0 where
   pub settled : pairs_gstate t.kept.pairs ≡ zero_gstate
 
 -- what a look-up finds at the path, and its last name
-pub record IsResultAndName (t : KeptThread) (path : Path) (target : PathLookup) (name : Name) : Type 0 where
+pub record IsNamedResult (t : KeptThread) (path : Path) (target : PathLookup) (name : Name) : Type 0 where
   pub leads : LeadsToResult t path target
   pub named : name ≡ last_name path
 
@@ -77,7 +77,7 @@ HasThreadCause old new e = HasErrorCause (kept_state old true false) (kept_state
 
 -- a loss of power during the call leaves the tree from before, or that one
 abbrev pub SurvivesEither : KeptThread → KeptThread → Tree → Type 0
-SurvivesEither old new after = SurvivesLossSince old.disk old.history new.history (tree_on_disk old.disk old.pairs) after
+SurvivesEither old new after = SurvivesLossSince old.disk old.history new.history (disk_tree old.disk old.pairs) after
 
 -- ---- what is said of it
 
@@ -85,8 +85,8 @@ SurvivesEither old new after = SurvivesLossSince old.disk old.history new.histor
 pub record HasSoundImage (old : KeptThread) (tree : Tree) (new : KeptThread) : Type 0 where
   pub sound : IsSoundState (kept_state new true false)
   pub fits : IsWritable new.disk new.pairs
-  pub root : KeepsRootBeginning old new
-  pub shows : tree_on_disk new.disk new.pairs ≡ tree
+  pub root : KeepsRootNumber old new
+  pub shows : disk_tree new.disk new.pairs ≡ tree
   pub no_fault : fault_count new.history ≡ fault_count old.history
 
 -- What a change of the image promises. The thread works on and shows the tree from after the change. An error has its cause, and
@@ -106,4 +106,4 @@ pub record HasAppliedCall (old : KeptThread) (call : TreeCall) (new : KeptThread
 
 -- what a call promises over a thread that has nothing to recover
 abbrev pub AppliesOrFails : {X : Type 0} → ThreadView → TreeCall → Result X Error → ThreadView → Type 0
-AppliesOrFails old call result new = ChangesTreeOrFails old (HasAppliedCall old.kept call) (tree_after_call call (tree_on_disk old.kept.disk old.kept.pairs)) result new
+AppliesOrFails old call result new = ChangesTreeOrFails old (HasAppliedCall old.kept call) (tree_after_call call (disk_tree old.kept.disk old.kept.pairs)) result new

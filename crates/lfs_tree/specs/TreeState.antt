@@ -23,7 +23,7 @@ use Rattle.lfs_model.specs.format.Thread.{Pair, pairs_gstate}
 use Rattle.lfs_model.specs.tree.Tree.{Path, Tree}
 use Rattle.lfs_model.specs.tree.View.{IsAccepted}
 use Rattle.lfs_model.specs.tree.Profile.{IsWritable}
-use Rattle.lfs_model.specs.tree.Shown.{tree_on_disk, used_blocks}
+use Rattle.lfs_model.specs.tree.Shown.{disk_tree, used_blocks}
 use Rattle.lfs_thread.specs.Kept.{KeptThread}
 use Rattle.lfs_tree.specs.KeptFiles.{KeepsFileAt, KeepsListBytes}
 
@@ -45,8 +45,8 @@ without_cache t = record t { cache = [] }
 abbrev pub kept_thread : TreeState → KeptThread
 kept_thread t = record { disk = t.disk; history = t.history; pairs = t.pairs; map = t.map }
 
-abbrev pub tree_view : TreeState → Tree
-tree_view t = tree_on_disk t.disk t.pairs
+abbrev pub shown_tree : TreeState → Tree
+shown_tree t = disk_tree t.disk t.pairs
 
 abbrev pub tree_summary : TreeState → DiskSummary
 tree_summary t = record {
@@ -93,13 +93,13 @@ pub record HasErrorCause (old new : TreeState) (e : Error) : Type 0 where
   pub no_fault : e ≢ Io → fault_count new.history ≡ fault_count old.history
 
 -- what such a call promises
-pub record OnlyReadsTreeOrFails {X : Type 0} (old : TreeState) (result : Result X Error) (new : TreeState) : Type 0 where
+pub record ReadsTreeOrFails {X : Type 0} (old : TreeState) (result : Result X Error) (new : TreeState) : Type 0 where
   pub asked : OnOk result (OnlyReadsTree old new)
   pub broken : OnErr result (FailedByReading old new)
   pub errors : IfErr result (HasErrorCause old new)
 
 -- The same of a mount. `Corrupt` comes where the disk is accepted in neither order of names.
-pub record IsCausedError (old new : TreeState) (e : Error) : Type 0 where
+pub record HasMountCause (old new : TreeState) (e : Error) : Type 0 where
   pub errors : (e ≡ Io) ⊎ ((e ≡ NoMemory) ⊎ ((e ≡ Corrupt) × ((order : NameOrder) (ps : List Pair) → IsAccepted (ordered_disk order old.disk) ps → ⊥)))
   pub fault : e ≡ Io → fault_count old.history < fault_count new.history
   pub no_fault : e ≢ Io → fault_count new.history ≡ fault_count old.history
@@ -122,7 +122,7 @@ pub record KeepsInFlight (old new : TreeState) : Type 0 where
 
 -- a loss of power during the call leaves the tree from before, or that one
 abbrev pub SurvivesStops : TreeState → TreeState → Tree → Type 0
-SurvivesStops old new after = SurvivesLossSince old.disk old.history new.history (tree_view old) after
+SurvivesStops old new after = SurvivesLossSince old.disk old.history new.history (shown_tree old) after
 
 -- the operation is applied without a fault of the device, whatever files are open
 pub record IsAppliedTo (old : TreeState) (op : Operation) (new : TreeState) : Type 0 where
@@ -135,12 +135,12 @@ pub record IsAppliedTo (old : TreeState) (op : Operation) (new : TreeState) : Ty
   pub no_fault : fault_count new.history ≡ fault_count old.history
   pub fits : IsWritable new.disk new.pairs
   pub recovered : IsRecovered new.pairs
-  pub shows : (around : DiskSummary) (files : OpenFilesByNumber) → tree_view new ≡ (operation_effect around (record { tree = tree_view old; files = files }) op).1.tree
-  pub arranged : (files : OpenFilesByNumber) → IsLayoutRecovered old.disk old.pairs (record { tree = tree_view old; files = files }) op new.disk new.pairs
+  pub shows : (around : DiskSummary) (files : OpenFilesByNumber) → shown_tree new ≡ (operation_effect around (record { tree = shown_tree old; files = files }) op).1.tree
+  pub arranged : (files : OpenFilesByNumber) → IsLayoutRecovered old.disk old.pairs (record { tree = shown_tree old; files = files }) op new.disk new.pairs
   pub itself : renames_itself op ≡ true → IsUntouched old.disk calls new.disk
   pub nothing_left : is_recover op ≡ true → IsRecovered old.pairs → IsUntouched old.disk calls new.disk
   pub flight : KeepsInFlight old new
-  pub keeps : (path : Path) → is_file (tree_view old path) ≡ true → takes_away op path ≡ false → KeepsFileAt (kept_thread old) (kept_thread new) path
+  pub keeps : (path : Path) → is_file (shown_tree old path) ≡ true → takes_away op path ≡ false → KeepsFileAt (kept_thread old) (kept_thread new) path
   pub lists : pairs_gstate old.pairs ≡ zero_gstate → KeepsListBytes old.disk old.pairs new.disk
 
 abbrev pub IsApplied : TreeState → Operation → TreeState → Type 0
@@ -148,7 +148,7 @@ IsApplied old op new = IsAppliedTo (without_cache old) op (without_cache new)
 
 -- Where nothing was to recover, the blocks of files keep their bytes. So do blocks of pairs that the operation isn't about.
 abbrev pub LeavesOthersAlone : TreeState → Operation → TreeState → Type 0
-LeavesOthersAlone old op new = pairs_gstate old.pairs ≡ zero_gstate → (files : OpenFilesByNumber) → LeavesOthers old.disk old.pairs (record { tree = tree_view old; files = files }) op new.disk new.pairs
+LeavesOthersAlone old op new = pairs_gstate old.pairs ≡ zero_gstate → (files : OpenFilesByNumber) → LeavesOthers old.disk old.pairs (record { tree = shown_tree old; files = files }) op new.disk new.pairs
 
 -- The image of a disk that was only read, at least once and without a fault. The tree works, and no block is in flight.
 pub record IsMountedTree (disk : Disk) (history : List CallEvent) (t : TreeState) : Type 0 where

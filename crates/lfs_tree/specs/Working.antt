@@ -3,7 +3,7 @@ use Rattle.std.specs.Prelude.{ℕ, ◌≡◌, false, true, IfErr, OnOk, Result}
 use Rattle.lfs_device.specs.declared.error.Error.{Error}
 use Rattle.lfs_model.specs.layers.BlockSets.{in_flight_count}
 use Rattle.lfs_model.specs.session.History.{fault_count}
-use Rattle.lfs_model.specs.tree.Shown.{tree_on_disk}
+use Rattle.lfs_model.specs.tree.Shown.{disk_tree}
 use Rattle.lfs_model.specs.tree.Tree.{Path}
 use Rattle.lfs_model.specs.session.TreeEdits.{is_file}
 use Rattle.lfs_thread.specs.Kept.{KeptThread, ThreadView}
@@ -22,7 +22,7 @@ pub record WorksOrReportsFault {X : Type 0} (old new : ThreadView) (result : Res
   pub errors : IfErr result (HasThreadCause old.kept new.kept)
 
 -- the image is sound and in the writing profile, no block is in flight, and a file is at the path
-pub record CanOpenPathFile (t : ThreadView) (root : ℕ) (path : Path) : Type 0 where
+pub record CanOpenFile (t : ThreadView) (root : ℕ) (path : Path) : Type 0 where
   pub held : IsSoundWithRoot t root true
   pub idle : in_flight_count t.kept.map ≡ 0
-  pub file : is_file (tree_on_disk t.kept.disk t.kept.pairs path) ≡ true
+  pub file : is_file (disk_tree t.kept.disk t.kept.pairs path) ≡ true

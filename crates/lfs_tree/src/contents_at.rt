@@ -1,16 +1,16 @@
 // Files that get the contents of a writer, in a thread that has nothing to recover.
 
 ghost use Rattle.std.specs.Prelude.{◌≡◌, false, true, OnOk};
-ghost use Rattle.lfs_tree.specs.ThreadContents.{ReportsFaultOrNoMemory};
+ghost use Rattle.lfs_tree.specs.ThreadContents.{ThreadReportsFaults};
 ghost use Rattle.lfs_model.specs.session.TreeEdits.{tree_with_change};
 ghost use Rattle.lfs_model.specs.session.Effects.{file_with_bytes};
-ghost use Rattle.lfs_model.specs.tree.Shown.{tree_on_disk};
+ghost use Rattle.lfs_model.specs.tree.Shown.{disk_tree};
 ghost use Rattle.lfs_operations.specs.Changing.{WritesPairTwo};
 ghost use Rattle.lfs_operations.specs.Storing.{HasStoredContents, tree_with_contents};
 ghost use Rattle.lfs_tree.specs.TreeChanges.{HasFurtherCalls, CanChangeRecovered, ChangesTreeOrFails, SurvivesEither};
 ghost use Rattle.lfs_tree.specs.RootedThreads.{kept_state};
-ghost use Rattle.lfs_tree.specs.OpenContents.{CanStoreAt, writer_contents_bytes};
-ghost use Rattle.lfs_tree.specs.Stores.{CanCommitContents, CanPutContents, HasCommittedBytes, StoresBytesIn, IsFoundFile, is_file_found, finished_list, list_in_storage, empty_list};
+ghost use Rattle.lfs_tree.specs.OpenContents.{CanStoreContents, writer_contents_bytes};
+ghost use Rattle.lfs_tree.specs.Stores.{CanCommitContents, CanPutContents, HasCommittedBytes, StoresThreadBytes, IsFoundFile, is_file_found, finished_list, list_in_storage, empty_list};
 ghost use Rattle.lfs_tree.specs.Working.{IsWorkingWhere, WorksOrReportsFault};
 
 use crate::entries_at::{find_at_path, lemma_block_facts};
@@ -91,7 +91,7 @@ fn put_contents<D: BlockDevice>(
     ensures stored { OnOk result ((can : CanPutContents thread.old.kept spot contents.now)
         → HasStoredContents thread.old.kept thread.new.kept can.can.path can.can.name (writer_contents_bytes thread.old.kept contents.now) can.come.gone can.come.come) }
     ensures works { OnOk result (thread.new.failed ≡ false) }
-    ensures reports { ReportsFaultOrNoMemory thread.old.kept thread.new.kept result }
+    ensures reports { ThreadReportsFaults thread.old.kept thread.new.kept result }
     ensures device { WritesPairTwo thread.old.kept spot.pair thread.new.kept }
     ensures survives { (can : CanPutContents thread.old.kept spot contents.now) → SurvivesEither thread.old.kept thread.new.kept (tree_with_contents thread.old.kept can.can.path can.can.name (writer_contents_bytes thread.old.kept contents.now)) }
 {
@@ -129,7 +129,7 @@ fn commit_contents_at<D: BlockDevice>(
     ensures done { OnOk result (HasCommittedBytes thread.old.kept path.now (writer_contents_bytes thread.old.kept contents) thread.new.kept) }
     ensures reports { WorksOrReportsFault thread.old thread.new result }
     ensures called { HasFurtherCalls thread.old.kept thread.new.kept }
-    ensures survives { SurvivesEither thread.old.kept thread.new.kept (tree_with_change path.now (file_with_bytes (writer_contents_bytes thread.old.kept contents)) (tree_on_disk thread.old.kept.disk thread.old.kept.pairs)) }
+    ensures survives { SurvivesEither thread.old.kept thread.new.kept (tree_with_change path.now (file_with_bytes (writer_contents_bytes thread.old.kept contents)) (disk_tree thread.old.kept.disk thread.old.kept.pairs)) }
 {
     lemma_block_facts(thread);
     // By its sizes a list has as many bytes as it says.
@@ -152,9 +152,9 @@ pub(crate) fn store_contents_at<D: BlockDevice>(
     contents: WriterContents,
 ) -> Result<(), Error>
     requires rests { CanChangeRecovered thread.old root }
-    requires can { CanStoreAt (kept_state thread.old.kept true false) path.now contents }
-    ensures { ChangesTreeOrFails thread.old (StoresBytesIn thread.old.kept path.now (writer_contents_bytes thread.old.kept contents))
-        (tree_with_change path.now (file_with_bytes (writer_contents_bytes thread.old.kept contents)) (tree_on_disk thread.old.kept.disk thread.old.kept.pairs)) result thread.new }
+    requires can { CanStoreContents (kept_state thread.old.kept true false) path.now contents }
+    ensures { ChangesTreeOrFails thread.old (StoresThreadBytes thread.old.kept path.now (writer_contents_bytes thread.old.kept contents))
+        (tree_with_change path.now (file_with_bytes (writer_contents_bytes thread.old.kept contents)) (disk_tree thread.old.kept.disk thread.old.kept.pairs)) result thread.new }
 {
     let finished = finish_file(alloc, thread, contents)?;
     commit_contents_at(alloc, thread, root, path, finished)

@@ -3,15 +3,15 @@
 ghost use Rattle.std.specs.Prelude.{◌≡◌, ◌≤◌, ◌+◌, true, false, IfOk, IfSome, IsSome, sum_by};
 ghost use Rattle.lfs_model.specs.crash.Frame.{pair_count_at, ancestor_paths};
 ghost use Rattle.lfs_model.specs.session.History.{read_count};
-ghost use Rattle.lfs_model.specs.tree.Shown.{tree_on_disk};
+ghost use Rattle.lfs_model.specs.tree.Shown.{disk_tree};
 ghost use Rattle.lfs_model.specs.format.Slots.{zero_gstate};
 ghost use Rattle.lfs_model.specs.format.Thread.{pairs_gstate};
 ghost use Rattle.lfs_lookup.specs.Finds.{IsFoundNode};
-ghost use Rattle.lfs_lookup.specs.LookupReading.{OnlyReadsThreadAndReportsErrors};
+ghost use Rattle.lfs_lookup.specs.LookupReading.{ReadsOrReports};
 ghost use Rattle.lfs_tree.specs.CreationPaths.{IsCreationResult};
 ghost use Rattle.lfs_tree.specs.RootedThreads.{IsSoundWithRoot};
 ghost use Rattle.lfs_tree.specs.TreeChanges.{CanChangeRecovered};
-ghost use Rattle.lfs_tree.specs.TreeState.{OnlyReadsTreeOrFails, kept_thread, tree_view};
+ghost use Rattle.lfs_tree.specs.TreeState.{ReadsTreeOrFails, kept_thread, shown_tree};
 
 use crate::answers::mark_failed;
 use crate::entries_at::find_at_path;
@@ -39,11 +39,11 @@ fn creation_findings<D: BlockDevice>(
     path: &Path<'_>,
 ) -> Result<CreationFindings, Error>
     requires { CanChangeRecovered thread.old root }
-    ensures found { IfOk result (λ found. IsFoundNode (tree_on_disk thread.old.kept.disk thread.old.kept.pairs) path.now found.entry) }
+    ensures found { IfOk result (λ found. IsFoundNode (disk_tree thread.old.kept.disk thread.old.kept.pairs) path.now found.entry) }
     ensures target { IfOk result (λ found. IfSome found.target (IsCreationResult thread.old.kept path.now)) }
     ensures handed_on { IfOk result (λ found. IsSome found.target) }
     ensures few { read_count thread.new.kept.history ≤ read_count thread.old.kept.history + sum_by (pair_count_at thread.old.kept.pairs) (ancestor_paths path.now) }
-    ensures reading { OnlyReadsThreadAndReportsErrors thread.old thread.new result }
+    ensures reading { ReadsOrReports thread.old thread.new result }
 {
     let target = find_at_path(alloc, thread, root, path)?;
     // By the sizes of its blocks a list has as many bytes as its entry says.
@@ -62,10 +62,10 @@ fn creation_before_recovery<D: BlockDevice>(
     path: &Path<'_>,
 ) -> Result<CreationFindings, Error>
     requires { IsSoundWithRoot thread.old root true }
-    ensures found { IfOk result (λ found. IsFoundNode (tree_on_disk thread.old.kept.disk thread.old.kept.pairs) path.now found.entry) }
+    ensures found { IfOk result (λ found. IsFoundNode (disk_tree thread.old.kept.disk thread.old.kept.pairs) path.now found.entry) }
     ensures target { IfOk result (λ found. IfSome found.target (IsCreationResult thread.old.kept path.now)) }
     ensures few { read_count thread.new.kept.history ≤ read_count thread.old.kept.history + sum_by (pair_count_at thread.old.kept.pairs) (ancestor_paths path.now) }
-    ensures reading { OnlyReadsThreadAndReportsErrors thread.old thread.new result }
+    ensures reading { ReadsOrReports thread.old thread.new result }
 {
     let entry = find_node(alloc, thread, root, path)?;
     Ok(CreationFindings {
@@ -82,11 +82,11 @@ fn creation_path<D: BlockDevice>(
     path: &Path<'_>,
 ) -> Result<CreationFindings, Error>
     requires { IsSoundWithRoot thread.old root true }
-    ensures found { IfOk result (λ found. IsFoundNode (tree_on_disk thread.old.kept.disk thread.old.kept.pairs) path.now found.entry) }
+    ensures found { IfOk result (λ found. IsFoundNode (disk_tree thread.old.kept.disk thread.old.kept.pairs) path.now found.entry) }
     ensures target { IfOk result (λ found. IfSome found.target (IsCreationResult thread.old.kept path.now)) }
     ensures handed_on { pairs_gstate thread.old.kept.pairs ≡ zero_gstate → IfOk result (λ found. IsSome found.target) }
     ensures few { read_count thread.new.kept.history ≤ read_count thread.old.kept.history + sum_by (pair_count_at thread.old.kept.pairs) (ancestor_paths path.now) }
-    ensures reading { OnlyReadsThreadAndReportsErrors thread.old thread.new result }
+    ensures reading { ReadsOrReports thread.old thread.new result }
 {
     let state = thread.state();
     if state.is_none() {
@@ -109,8 +109,8 @@ impl<D: BlockDevice> Tree<D> {
     ) -> Result<CreationFindings, Error>
         requires works { self.old.failed ≡ false }
         requires writable { self.old.writable ≡ true }
-        ensures asks { OnlyReadsTreeOrFails self.old result self.new }
-        ensures found { IfOk result (λ found. IsFoundNode (tree_view self.old) path.now found.entry) }
+        ensures asks { ReadsTreeOrFails self.old result self.new }
+        ensures found { IfOk result (λ found. IsFoundNode (shown_tree self.old) path.now found.entry) }
         ensures target { IfOk result (λ found. IfSome found.target (IsCreationResult (kept_thread self.new) path.now)) }
         ensures handed_on { pairs_gstate self.old.pairs ≡ zero_gstate → IfOk result (λ found. IsSome found.target) }
         ensures few { read_count self.new.history ≤ read_count self.old.history + sum_by (pair_count_at self.old.pairs) (ancestor_paths path.now) }

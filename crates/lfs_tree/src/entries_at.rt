@@ -1,16 +1,16 @@
 // Operations on paths of a thread that has nothing to recover.
 
 ghost use Rattle.std.specs.Prelude.{◌≡◌, ◌≤◌, ◌+◌, map, sum_by, true, false, IfOk, IfSome, IsSome};
-ghost use Rattle.lfs_device.specs.Bytes.{HoldBytes};
+ghost use Rattle.lfs_device.specs.Bytes.{AreByteBlocks};
 ghost use Rattle.lfs_model.specs.crash.Frame.{pair_count_at, ancestor_paths};
 ghost use Rattle.lfs_model.specs.session.History.{read_count};
 ghost use Rattle.lfs_model.specs.session.TreeEdits.{last_name};
 ghost use Rattle.lfs_tree.specs.Permissions.{CanCreateFile, CanMakeDirectory};
 ghost use Rattle.lfs_tree.specs.CreationPaths.{IsCreationResult};
 ghost use Rattle.lfs_tree.specs.TreeCalls as call;
-ghost use Rattle.lfs_tree.specs.TreeChanges.{CanChangeRecovered, AppliesOrFails, IsAbsentSpot, IsResultAndName, is_nothing_found};
+ghost use Rattle.lfs_tree.specs.TreeChanges.{CanChangeRecovered, AppliesOrFails, IsAbsentSpot, IsNamedResult, is_nothing_found};
 ghost use Rattle.lfs_tree.specs.RootedThreads.{kept_state};
-ghost use Rattle.lfs_lookup.specs.LookupReading.{OnlyReadsThreadAndReportsErrors};
+ghost use Rattle.lfs_lookup.specs.LookupReading.{ReadsOrReports};
 
 use lfs_device::{BlockDevice, Error};
 use lfs_lookup::{Path, PathLookup, SlotPosition, look_up};
@@ -21,7 +21,7 @@ use std::alloc::Global;
 // Shows the proof what is known of any device: how large a block is, and that it holds bytes.
 pub(crate) fn lemma_block_facts<D: BlockDevice>(thread: &Thread<D>)
     ensures large { 1024 ≤ thread.now.kept.disk.block_size }
-    ensures bytes { HoldBytes thread.now.kept.disk.blocks }
+    ensures bytes { AreByteBlocks thread.now.kept.disk.blocks }
 {
     let _size = thread.device().geometry().block_size;
 }
@@ -62,9 +62,9 @@ pub(crate) fn find_at_path<'a, D: BlockDevice>(
     path: &Path<'a>,
 ) -> Result<FoundAtPath<'a>, Error>
     requires { CanChangeRecovered thread.old root }
-    ensures target { IfOk result (λ target. IsResultAndName thread.old.kept path.now target.found target.name.now) }
+    ensures target { IfOk result (λ target. IsNamedResult thread.old.kept path.now target.found target.name.now) }
     ensures few { read_count thread.new.kept.history ≤ read_count thread.old.kept.history + sum_by (pair_count_at thread.old.kept.pairs) (ancestor_paths path.now) }
-    ensures reading { OnlyReadsThreadAndReportsErrors thread.old thread.new result }
+    ensures reading { ReadsOrReports thread.old thread.new result }
 {
     let names = path.names(alloc)?;
     let found = look_up(thread, root, &names)?;
@@ -84,9 +84,9 @@ fn find_unless_known<'a, D: BlockDevice>(
 ) -> Result<FoundAtPath<'a>, Error>
     requires rests { CanChangeRecovered thread.old root }
     requires known { IfSome known (IsCreationResult thread.old.kept path.now) }
-    ensures target { IfOk result (λ target. IsResultAndName thread.old.kept path.now target.found target.name.now) }
+    ensures target { IfOk result (λ target. IsNamedResult thread.old.kept path.now target.found target.name.now) }
     ensures unread { IsSome known → read_count thread.new.kept.history ≡ read_count thread.old.kept.history }
-    ensures reading { OnlyReadsThreadAndReportsErrors thread.old thread.new result }
+    ensures reading { ReadsOrReports thread.old thread.new result }
 {
     let Some(found) = known else {
         return find_at_path(alloc, thread, root, path);

@@ -1,12 +1,12 @@
 // The contents of files that are open for writing, on the device of a thread of metadata pairs.
 
 ghost use Rattle.std.specs.Prelude.{◌≡◌, false, is_err, length, take, IfErr, IfOk, OnOk};
-ghost use Rattle.lfs_model.specs.session.Writers.{written_contents, padded_with_zeros};
+ghost use Rattle.lfs_model.specs.session.Writers.{written_contents, zero_padded};
 ghost use Rattle.lfs_tree.specs.SettledFiles.{CanSettleFile, ChangesOnlyMap, IsListSettled};
-ghost use Rattle.lfs_tree.specs.ThreadContents.{CanFinish, CanTruncate, CanWrite, HasContents, KeepsPairs, ReportsFaultOrNoMemory, contents_list_blocks};
+ghost use Rattle.lfs_tree.specs.ThreadContents.{CanFinish, CanTruncate, CanWrite, HaveThreadForm, KeepsPairs, ThreadReportsFaults, contents_list_blocks};
 ghost use Rattle.lfs_file.specs.Contents.{contents_bytes, form_after_finish, contents_form};
 ghost use Rattle.lfs_file.specs.Form.{truncated_form, written_form};
-ghost use Rattle.lfs_file.specs.BlockOwners.{AreOwn};
+ghost use Rattle.lfs_file.specs.BlockOwners.{AreUsedAmong};
 
 use lfs_device::{BlockDevice, Error};
 use lfs_file::{
@@ -32,12 +32,12 @@ pub fn write_file<D: BlockDevice>(
 ) -> Result<WriterContents, Error>
     requires works { thread.old.failed ≡ false }
     requires can { CanWrite thread.old.kept contents limit place (length bytes.now) }
-    ensures written { IfOk result (λ c. HasContents thread.new.kept c (written_contents (contents_bytes thread.old.kept.disk.blocks thread.old.kept.disk.block_size contents) place bytes.now)
+    ensures written { IfOk result (λ c. HaveThreadForm thread.new.kept c (written_contents (contents_bytes thread.old.kept.disk.blocks thread.old.kept.disk.block_size contents) place bytes.now)
         (written_form limit place (length bytes.now) (contents_form contents))) }
-    ensures owned { IfOk result (λ c. AreOwn thread.new.kept.map (contents_list_blocks thread.old.kept contents) (contents_list_blocks thread.new.kept c)) }
+    ensures owned { IfOk result (λ c. AreUsedAmong thread.new.kept.map (contents_list_blocks thread.old.kept contents) (contents_list_blocks thread.new.kept c)) }
     ensures works { thread.new.failed ≡ false }
     ensures leaves { KeepsPairs thread.old.kept thread.new.kept }
-    ensures reports { ReportsFaultOrNoMemory thread.old.kept thread.new.kept result }
+    ensures reports { ThreadReportsFaults thread.old.kept thread.new.kept result }
 {
     thread.run_on_device(|device, map| {
         write_contents(alloc, device, map, contents, limit, place, bytes)
@@ -60,12 +60,12 @@ pub fn truncate_file<D: BlockDevice>(
 ) -> Result<WriterContents, Error>
     requires works { thread.old.failed ≡ false }
     requires can { CanTruncate thread.old.kept contents limit size }
-    ensures truncated { IfOk result (λ c. HasContents thread.new.kept c (take size (padded_with_zeros size (contents_bytes thread.old.kept.disk.blocks thread.old.kept.disk.block_size contents)))
+    ensures truncated { IfOk result (λ c. HaveThreadForm thread.new.kept c (take size (zero_padded size (contents_bytes thread.old.kept.disk.blocks thread.old.kept.disk.block_size contents)))
         (truncated_form limit size (contents_form contents))) }
-    ensures owned { IfOk result (λ c. AreOwn thread.new.kept.map (contents_list_blocks thread.old.kept contents) (contents_list_blocks thread.new.kept c)) }
+    ensures owned { IfOk result (λ c. AreUsedAmong thread.new.kept.map (contents_list_blocks thread.old.kept contents) (contents_list_blocks thread.new.kept c)) }
     ensures works { thread.new.failed ≡ false }
     ensures leaves { KeepsPairs thread.old.kept thread.new.kept }
-    ensures reports { ReportsFaultOrNoMemory thread.old.kept thread.new.kept result }
+    ensures reports { ThreadReportsFaults thread.old.kept thread.new.kept result }
 {
     thread.run_on_device(|device, map| truncate_contents(alloc, device, map, contents, limit, size))
 }
@@ -82,11 +82,11 @@ pub fn finish_file<D: BlockDevice>(
 ) -> Result<WriterContents, Error>
     requires works { thread.old.failed ≡ false }
     requires can { CanFinish thread.old.kept contents }
-    ensures finished { IfOk result (λ c. HasContents thread.new.kept c (contents_bytes thread.old.kept.disk.blocks thread.old.kept.disk.block_size contents) (form_after_finish (contents_form contents))) }
-    ensures owned { IfOk result (λ c. AreOwn thread.new.kept.map (contents_list_blocks thread.old.kept contents) (contents_list_blocks thread.new.kept c)) }
+    ensures finished { IfOk result (λ c. HaveThreadForm thread.new.kept c (contents_bytes thread.old.kept.disk.blocks thread.old.kept.disk.block_size contents) (form_after_finish (contents_form contents))) }
+    ensures owned { IfOk result (λ c. AreUsedAmong thread.new.kept.map (contents_list_blocks thread.old.kept contents) (contents_list_blocks thread.new.kept c)) }
     ensures works { thread.new.failed ≡ false }
     ensures leaves { KeepsPairs thread.old.kept thread.new.kept }
-    ensures reports { ReportsFaultOrNoMemory thread.old.kept thread.new.kept result }
+    ensures reports { ThreadReportsFaults thread.old.kept thread.new.kept result }
 {
     thread.run_on_device(|device, map| finish_contents(alloc, device, map, contents))
 }
@@ -103,7 +103,7 @@ fn settle_in_map<D: BlockDevice>(
     ensures errors { IfErr result (λ e. e ≡ Error.Io) }
     ensures only { ChangesOnlyMap thread.old.kept thread.new.kept }
     ensures works { thread.new.failed ≡ false }
-    ensures reports { ReportsFaultOrNoMemory thread.old.kept thread.new.kept result }
+    ensures reports { ThreadReportsFaults thread.old.kept thread.new.kept result }
 {
     thread.run_on_device(|device, map| settle_list(device, map, before, stored))
 }
@@ -125,7 +125,7 @@ pub fn settle_file<D: BlockDevice>(
     ensures errors { IfErr result (λ e. e ≡ Error.Io) }
     ensures only { ChangesOnlyMap thread.old.kept thread.new.kept }
     ensures failed { thread.new.failed ≡ is_err result }
-    ensures reports { ReportsFaultOrNoMemory thread.old.kept thread.new.kept result }
+    ensures reports { ThreadReportsFaults thread.old.kept thread.new.kept result }
 {
     let result = settle_in_map(thread, before, stored);
     if result.is_err() {

@@ -1,14 +1,14 @@
 // An empty file system on a device.
 
 ghost use Rattle.std.specs.Prelude.{◌≡◌, ◌≤◌, ◌+◌, [], false, IfErr, IfOk, OnOk};
-ghost use Rattle.lfs_device.specs.DeviceCalls.{ChangesOnlyTheseBlocks, ReportsFaults};
+ghost use Rattle.lfs_device.specs.DeviceCalls.{ChangesTheseBlocks, ReportsFaults};
 ghost use Rattle.lfs_model.specs.session.History.{erase_count};
 ghost use Rattle.lfs_model.specs.format.Thread.{anchor_address, address_blocks};
 ghost use Rattle.lfs_pair.specs.ChangeView.{changes_view};
-ghost use Rattle.lfs_pair.specs.FreshPair.{LeavesDeviceUntouchedAtNoMemory};
+ghost use Rattle.lfs_pair.specs.FreshPair.{IsWriteError};
 ghost use Rattle.lfs_thread.specs.Kept.{disk_of_device, kept_in_order};
 ghost use Rattle.lfs_thread.specs.ThreadSteps.{ChangesThreadBlocks};
-ghost use Rattle.lfs_tree.specs.Formats.{FailedFormatSparesOtherBlocks, ErasesTwo, IsFormattedMap, IsRootHeader, IsRootThread, IsFormatted, IsEmptyWritable, superblock_slot_changes};
+ghost use Rattle.lfs_tree.specs.Formats.{IsFormatError, ErasesTwo, IsFormattedMap, IsRootHeader, IsRootThread, IsFormatted, IsEmptyWritable, superblock_slot_changes};
 
 use lfs_blocks::{BlockMap, Cache};
 use lfs_device::{BlockDevice, Error};
@@ -44,8 +44,8 @@ fn superblock_changes<'a>(structure: &'a [u8; 24]) -> [Change<'a>; 2]
 fn write_root_pair<D: BlockDevice>(alloc: Global, device: &mut D) -> Result<Pair, Error>
     ensures root { IfOk result (λ pair. IsRootHeader (disk_of_device D.BlockDevice device.new) (D.history device.new) pair) }
     ensures erases { OnOk result (erase_count (D.history device.new) ≡ erase_count (D.history device.old) + 2) }
-    ensures error { IfErr result (λ e. LeavesDeviceUntouchedAtNoMemory device.old device.new e) }
-    ensures device { ChangesOnlyTheseBlocks D.BlockDevice (address_blocks anchor_address) device.old device.new }
+    ensures error { IfErr result (λ e. IsWriteError device.old device.new e) }
+    ensures device { ChangesTheseBlocks D.BlockDevice (address_blocks anchor_address) device.old device.new }
     ensures faults { ReportsFaults D.BlockDevice device.old device.new result }
 {
     let geometry = device.geometry();
@@ -64,8 +64,8 @@ fn write_root_thread<D: BlockDevice>(
     requires none { pairs.old.items ≡ [] }
     ensures root { OnOk result (IsRootThread (disk_of_device D.BlockDevice device.new) (D.history device.new) pairs.new.items) }
     ensures erases { OnOk result (erase_count (D.history device.new) ≡ erase_count (D.history device.old) + 2) }
-    ensures error { IfErr result (λ e. LeavesDeviceUntouchedAtNoMemory device.old device.new e) }
-    ensures device { ChangesOnlyTheseBlocks D.BlockDevice (address_blocks anchor_address) device.old device.new }
+    ensures error { IfErr result (λ e. IsWriteError device.old device.new e) }
+    ensures device { ChangesTheseBlocks D.BlockDevice (address_blocks anchor_address) device.old device.new }
     ensures faults { ReportsFaults D.BlockDevice device.old device.new result }
 {
     // The header's memory is taken before anything is written.
@@ -112,7 +112,7 @@ pub fn format<D: BlockDevice>(
     ensures shows { IfOk result (λ t. IsEmptyWritable t.kept) }
     ensures writes { IfOk result (λ t. ChangesThreadBlocks (address_blocks anchor_address) (kept_in_order D.BlockDevice order device [] []) t.kept) }
     ensures calls { IfOk result (λ t. ErasesTwo (D.history device) t.kept.history) }
-    ensures back { IfErr result (λ e. FailedFormatSparesOtherBlocks D.BlockDevice (address_blocks anchor_address) device e.0 e.1) }
+    ensures back { IfErr result (λ e. IsFormatError D.BlockDevice (address_blocks anchor_address) device e.0 e.1) }
 {
     let block_count = device.geometry().block_count;
     let mut pairs = Vec::new(alloc);

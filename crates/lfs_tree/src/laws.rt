@@ -5,8 +5,8 @@ ghost use Rattle.lfs_model.specs.layers.BlockSets.{in_flight_count};
 ghost use Rattle.lfs_model.specs.layers.Keeping.{takes_away};
 ghost use Rattle.lfs_model.specs.session.Operations.{Operation};
 ghost use Rattle.lfs_model.specs.tree.Tree.{Path};
-ghost use Rattle.lfs_tree.specs.KeptFiles.{operation_blocks};
-ghost use Rattle.lfs_tree.specs.OpenContents.{OverTreeFile, writer_contents_bytes};
+ghost use Rattle.lfs_tree.specs.KeptFiles.{operation_room};
+ghost use Rattle.lfs_tree.specs.OpenContents.{AreTreeContents, writer_contents_bytes};
 ghost use Rattle.lfs_tree.specs.TreeState.{IsApplied, IsSoundState, TreeState, tree_summary, kept_thread};
 ghost use Rattle.lfs_file.specs.Contents.{contents_form};
 ghost use Rattle.lfs_file.specs.Form.{form_in_flight};
@@ -16,13 +16,13 @@ ghost use Rattle.lfs_file.specs.declared.contents.WriterContents.{WriterContents
 /// it is also with bytes that aren't in the tree yet. No more blocks are in flight than contents in
 /// their form have.
 pub fn lemma_contents_stay()
-    ensures over { (old new : TreeState) (op : Operation) (path : Path) (contents : WriterContents) → OverTreeFile old path contents → IsSoundState old → IsApplied old op new → takes_away op path ≡ false → OverTreeFile new path contents }
-    ensures bytes { (old new : TreeState) (op : Operation) (path : Path) (contents : WriterContents) → OverTreeFile old path contents → IsSoundState old → IsApplied old op new → takes_away op path ≡ false
+    ensures over { (old new : TreeState) (op : Operation) (path : Path) (contents : WriterContents) → AreTreeContents old path contents → IsSoundState old → IsApplied old op new → takes_away op path ≡ false → AreTreeContents new path contents }
+    ensures bytes { (old new : TreeState) (op : Operation) (path : Path) (contents : WriterContents) → AreTreeContents old path contents → IsSoundState old → IsApplied old op new → takes_away op path ≡ false
         → writer_contents_bytes (kept_thread new) contents ≡ writer_contents_bytes (kept_thread old) contents }
-    ensures flying { (t : TreeState) (path : Path) (contents : WriterContents) → OverTreeFile t path contents → in_flight_count t.map ≤ form_in_flight t.disk.block_size (contents_form contents) }
+    ensures flying { (t : TreeState) (path : Path) (contents : WriterContents) → AreTreeContents t path contents → in_flight_count t.map ≤ form_in_flight t.disk.block_size (contents_form contents) }
 {}
 
 /// An operation that is applied takes few blocks more than the image has.
 pub fn lemma_few_blocks()
-    ensures { (old new : TreeState) (op : Operation) → IsSoundState old → old.writable ≡ true → IsApplied old op new → length (tree_summary new).used ≤ length (tree_summary old).used + operation_blocks op }
+    ensures { (old new : TreeState) (op : Operation) → IsSoundState old → old.writable ≡ true → IsApplied old op new → length (tree_summary new).used ≤ length (tree_summary old).used + operation_room op }
 {}

@@ -3,17 +3,17 @@
 ghost use Rattle.std.specs.Prelude.{◌≡◌, ◌++◌, ◌<◌, IfErr, IfOk, OnOk, false, is_err, length, map};
 ghost use Rattle.std.specs.Option.{option_to_list};
 ghost use Rattle.lfs_tree.specs.SettledFiles.{ChangesOnlyMap};
-ghost use Rattle.lfs_tree.specs.ThreadContents.{ReportsFaultOrNoMemory};
-ghost use Rattle.lfs_model.specs.layers.LoggedContent.{IsSlotWellFormed, AreWellFormed};
+ghost use Rattle.lfs_tree.specs.ThreadContents.{ThreadReportsFaults};
+ghost use Rattle.lfs_model.specs.layers.LoggedContent.{IsFormedSlot, AreWellFormed};
 ghost use Rattle.lfs_model.specs.format.Slots.{PairContent as ModelContent};
 ghost use Rattle.lfs_operations.specs.Dropping.{SameInFlight};
 ghost use Rattle.lfs_operations.specs.Ready.{IsReadyImage};
 ghost use Rattle.lfs_operations.specs.Recovering.{AreUnreachedNumbers, numbered_slots};
 ghost use Rattle.lfs_tag.specs.ContentView.{slot_view};
 ghost use Rattle.lfs_thread.specs.CachedLog.{IsContentLog};
-ghost use Rattle.lfs_thread.specs.ThreadSteps.{thread_pair_at};
-ghost use Rattle.lfs_tree.specs.LostLists.{CanFreeDropped, raw_struct_lists, lists_of_slots, raw_slots_lists};
-ghost use Rattle.lfs_lookup.specs.LookupReading.{OnlyReadsThreadAndReportsErrors};
+ghost use Rattle.lfs_thread.specs.ThreadSteps.{thread_pair};
+ghost use Rattle.lfs_tree.specs.LostLists.{CanFreeDropped, raw_struct_lists, slots_lists, raw_slots_lists};
+ghost use Rattle.lfs_lookup.specs.LookupReading.{ReadsOrReports};
 ghost use Rattle.lfs_lookup.specs.NameSearch.{HasCompleteLog};
 ghost use Rattle.lfs_tree.specs.Working.{IsWorkingWhere};
 
@@ -27,7 +27,7 @@ use std::alloc::{AllocError, Global};
 
 // Returns the list that a slot names, if it names one.
 fn list_named_by(slot: &Slot<'_>) -> Option<StoredList>
-    requires { IsSlotWellFormed (slot_view slot.now) }
+    requires { IsFormedSlot (slot_view slot.now) }
     ensures { option_to_list result ≡ raw_struct_lists (slot_view slot.now).struct }
 {
     let Some(structure) = slot.structure else {
@@ -59,7 +59,7 @@ fn push_slot_lists(lists: &mut Vec<StoredList>, slots: &[Slot<'_>]) -> Result<()
 // Adds the lists that the slots of a log name.
 fn push_log_lists(alloc: Global, lists: &mut Vec<StoredList>, log: &Log<'_>) -> Result<(), Error>
     requires { HasCompleteLog log.now }
-    ensures lists { (content : ModelContent) → IsContentLog log.now content → OnOk result (lists.new.items ≡ lists.old.items ++ lists_of_slots content.slots) }
+    ensures lists { (content : ModelContent) → IsContentLog log.now content → OnOk result (lists.new.items ≡ lists.old.items ++ slots_lists content.slots) }
     ensures errors { IfErr result (λ e. e ≡ Error.NoMemory) }
 {
     let content = Content::read(alloc, log)?;
@@ -76,8 +76,8 @@ fn push_pair_lists<D: BlockDevice>(
 ) -> Result<(), Error>
     requires works { thread.old.failed ≡ false }
     requires below { index < length thread.old.kept.pairs }
-    ensures lists { OnOk result (lists.new.items ≡ lists.old.items ++ lists_of_slots (thread_pair_at thread.old.kept index).content.slots) }
-    ensures reading { OnlyReadsThreadAndReportsErrors thread.old thread.new result }
+    ensures lists { OnOk result (lists.new.items ≡ lists.old.items ++ slots_lists (thread_pair thread.old.kept index).content.slots) }
+    ensures reading { ReadsOrReports thread.old thread.new result }
 {
     thread.load_pair(index)?;
     push_log_lists(alloc, lists, &thread.lend(index).unwrap())
@@ -93,8 +93,8 @@ pub(crate) fn lists_of_pairs<D: BlockDevice>(
 ) -> Result<Vec<StoredList>, Error>
     requires works { thread.old.failed ≡ false }
     requires unreached { AreUnreachedNumbers thread.old.kept.pairs numbers.now }
-    ensures lists { IfOk result (λ lists. lists.items ≡ lists_of_slots (numbered_slots thread.old.kept.pairs numbers.now)) }
-    ensures reading { OnlyReadsThreadAndReportsErrors thread.old thread.new result }
+    ensures lists { IfOk result (λ lists. lists.items ≡ slots_lists (numbered_slots thread.old.kept.pairs numbers.now)) }
+    ensures reading { ReadsOrReports thread.old thread.new result }
 {
     let mut lists = Vec::new(alloc);
     for number in numbers {
@@ -115,7 +115,7 @@ pub(crate) fn free_lists<D: BlockDevice>(
     ensures flying { OnOk result (SameInFlight thread.old.kept.map thread.new.kept.map) }
     ensures only { ChangesOnlyMap thread.old.kept thread.new.kept }
     ensures failed { thread.new.failed ≡ is_err result }
-    ensures reports { ReportsFaultOrNoMemory thread.old.kept thread.new.kept result }
+    ensures reports { ThreadReportsFaults thread.old.kept thread.new.kept result }
 {
     lemma_settled_map();
     let nothing = StoredList {

@@ -2,13 +2,13 @@
 
 ghost use Rattle.std.specs.Prelude.{◌≡◌, true, OnOk};
 ghost use Rattle.lfs_model.specs.format.Slots.{zero_gstate};
-ghost use Rattle.lfs_model.specs.format.Thread.{blocks_of_pairs, pairs_gstate, pair_count_before_root};
-ghost use Rattle.lfs_model.specs.tree.Shown.{tree_on_disk};
+ghost use Rattle.lfs_model.specs.format.Thread.{pairs_blocks, pairs_gstate, count_before_root};
+ghost use Rattle.lfs_model.specs.tree.Shown.{disk_tree};
 ghost use Rattle.lfs_operations.specs.Recovering.{CanDropPairs, numbered_slots};
 ghost use Rattle.lfs_thread.specs.ThreadSteps.{ChangesThreadBlocks};
 ghost use Rattle.lfs_tree.specs.TreeChanges.{HasFurtherCalls, ChangesTreeOrFails, SurvivesEither};
 ghost use Rattle.lfs_tree.specs.RootedThreads.{IsSoundWithRoot};
-ghost use Rattle.lfs_tree.specs.LostLists.{lists_of_slots};
+ghost use Rattle.lfs_tree.specs.LostLists.{slots_lists};
 ghost use Rattle.lfs_tree.specs.Recoveries.{CanDropUnreached, HasDroppedUnreached, HasRecovered};
 ghost use Rattle.lfs_tree.specs.Working.{IsWorkingWhere, WorksOrReportsFault};
 
@@ -32,11 +32,11 @@ fn drop_with_lists<D: BlockDevice>(
     lists: &[StoredList],
 ) -> Result<(), Error>
     requires can { IsWorkingWhere thread.old (λ t. CanDropPairs t numbers.now) }
-    requires lists { lists.now ≡ lists_of_slots (numbered_slots thread.old.kept.pairs numbers.now) }
+    requires lists { lists.now ≡ slots_lists (numbered_slots thread.old.kept.pairs numbers.now) }
     ensures dropped { OnOk result (HasDroppedUnreached thread.old.kept thread.new.kept) }
     ensures reports { WorksOrReportsFault thread.old thread.new result }
-    ensures device { ChangesThreadBlocks (blocks_of_pairs thread.old.kept.pairs) thread.old.kept thread.new.kept }
-    ensures survives { SurvivesEither thread.old.kept thread.new.kept (tree_on_disk thread.old.kept.disk thread.old.kept.pairs) }
+    ensures device { ChangesThreadBlocks (pairs_blocks thread.old.kept.pairs) thread.old.kept thread.new.kept }
+    ensures survives { SurvivesEither thread.old.kept thread.new.kept (disk_tree thread.old.kept.disk thread.old.kept.pairs) }
 {
     drop_unreached_pairs(alloc, thread, numbers)?;
     free_lists(thread, lists)?;
@@ -53,11 +53,11 @@ fn drop_unreached_directories<D: BlockDevice>(
     root: usize,
 ) -> Result<(), Error>
     requires can { IsWorkingWhere thread.old CanDropUnreached }
-    requires root { root ≡ pair_count_before_root thread.old.kept.pairs }
+    requires root { root ≡ count_before_root thread.old.kept.pairs }
     ensures dropped { OnOk result (HasDroppedUnreached thread.old.kept thread.new.kept) }
     ensures reports { WorksOrReportsFault thread.old thread.new result }
     ensures called { HasFurtherCalls thread.old.kept thread.new.kept }
-    ensures survives { SurvivesEither thread.old.kept thread.new.kept (tree_on_disk thread.old.kept.disk thread.old.kept.pairs) }
+    ensures survives { SurvivesEither thread.old.kept thread.new.kept (disk_tree thread.old.kept.disk thread.old.kept.pairs) }
 {
     lemma_block_facts(thread);
     let numbers = find_unreached_pairs(alloc, thread, root)?;
@@ -77,7 +77,7 @@ pub(crate) fn end_and_drop<D: BlockDevice>(
 ) -> Result<(), Error>
     requires rooted { IsSoundWithRoot thread.old root true }
     requires left { pairs_gstate thread.old.kept.pairs ≡ zero_gstate → ⊥ }
-    ensures { ChangesTreeOrFails thread.old (HasRecovered thread.old.kept) (tree_on_disk thread.old.kept.disk thread.old.kept.pairs) result thread.new }
+    ensures { ChangesTreeOrFails thread.old (HasRecovered thread.old.kept) (disk_tree thread.old.kept.disk thread.old.kept.pairs) result thread.new }
 {
     end_move(alloc, thread)?;
     drop_unreached_directories(alloc, thread, root)

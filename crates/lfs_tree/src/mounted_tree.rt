@@ -2,17 +2,17 @@
 
 ghost use Rattle.std.specs.Prelude.{List, ◌≡◌, ◌↔◌, IsTrue, IfErr, IfOk, false};
 ghost use Rattle.lfs_model.specs.format.Disk.{ordered_disk};
-ghost use Rattle.lfs_model.specs.format.Thread.{Pair, pair_count_before_root};
+ghost use Rattle.lfs_model.specs.format.Thread.{Pair, count_before_root};
 ghost use Rattle.lfs_model.specs.tree.View.{IsAccepted};
 ghost use Rattle.lfs_model.specs.tree.Profile.{IsWritable};
 ghost use Rattle.lfs_model.specs.declared.order.NameOrder.{NameOrder};
 ghost use Rattle.lfs_model.specs.declared.order.NameOrder.TheVariants.{LongerFirst, ShorterFirst};
-ghost use Rattle.lfs_thread.specs.ThreadDevice.{GivesDeviceBackOnlyReadWithError};
+ghost use Rattle.lfs_thread.specs.ThreadDevice.{GivesDeviceBack};
 ghost use Rattle.lfs_thread.specs.Kept.{disk_of_device};
 ghost use Rattle.lfs_mount.specs.Accepted.{IsMountedOn};
 ghost use Rattle.lfs_mount.specs.MountFaults.{IsErrorOfMount};
 ghost use Rattle.lfs_mount.specs.ReadImage.{ReadsLikeMount};
-ghost use Rattle.lfs_lookup.specs.LookupReading.{OnlyReadsThreadAndReportsErrors};
+ghost use Rattle.lfs_lookup.specs.LookupReading.{ReadsOrReports};
 
 use lfs_device::{BlockDevice, Error};
 use lfs_lookup::{find_profile_breach, find_root};
@@ -28,7 +28,7 @@ pub(crate) fn mount_thread<D: BlockDevice>(
     ensures longer { IfOk result (λ t. t.kept.disk.order ≡ ShorterFirst → (ps : List Pair) → ¬ IsAccepted (ordered_disk LongerFirst (disk_of_device D.BlockDevice device)) ps) }
     ensures corrupt { IfErr result (λ e. e.1 ≡ Error.Corrupt → (order : NameOrder) (ps : List Pair) → ¬ IsAccepted (ordered_disk order (disk_of_device D.BlockDevice device)) ps) }
     ensures errors { IfErr result (λ e. IsErrorOfMount e.1) }
-    ensures back { IfErr result (λ e. GivesDeviceBackOnlyReadWithError D.BlockDevice device e.0 e.1) }
+    ensures back { IfErr result (λ e. GivesDeviceBack D.BlockDevice device e.0 e.1) }
     ensures few { IfOk result (ReadsLikeMount (disk_of_device D.BlockDevice device) (D.history device)) }
 {
     match lfs_mount::mount(alloc, device) {
@@ -45,9 +45,9 @@ pub(crate) fn root_and_profile<D: BlockDevice>(
 ) -> Result<(usize, bool), Error>
     requires works { thread.old.failed ≡ false }
     requires accepted { IsAccepted thread.old.kept.disk thread.old.kept.pairs }
-    ensures root { IfOk result (λ r. r.0 ≡ pair_count_before_root thread.old.kept.pairs) }
+    ensures root { IfOk result (λ r. r.0 ≡ count_before_root thread.old.kept.pairs) }
     ensures writable { IfOk result (λ r. IsTrue r.1 ↔ IsWritable thread.old.kept.disk thread.old.kept.pairs) }
-    ensures reading { OnlyReadsThreadAndReportsErrors thread.old thread.new result }
+    ensures reading { ReadsOrReports thread.old thread.new result }
 {
     let root = find_root(alloc, thread)?;
     let breach = find_profile_breach(alloc, thread, root)?;

@@ -3,15 +3,15 @@
 ghost use Rattle.std.specs.Prelude.{◌≡◌, [], false, length, IfErr, IfOk};
 ghost use Rattle.lfs_model.specs.session.TreeEdits.{file_bytes};
 ghost use Rattle.lfs_model.specs.format.Slots.{Inline, Slot};
-ghost use Rattle.lfs_model.specs.tree.Shown.{tree_on_disk};
-ghost use Rattle.lfs_thread.specs.Beside.{HasGeometryOf};
-ghost use Rattle.lfs_tree.specs.OpenContents.{IsOpenedForm, OverThreadFile, writer_contents_bytes};
+ghost use Rattle.lfs_model.specs.tree.Shown.{disk_tree};
+ghost use Rattle.lfs_thread.specs.Beside.{HasGeometry};
+ghost use Rattle.lfs_tree.specs.OpenContents.{IsOpenedForm, AreThreadContents, writer_contents_bytes};
 ghost use Rattle.lfs_tree.specs.Openings.{CanOpenSlot, AreOpenedContents, opened_form};
-ghost use Rattle.lfs_lookup.specs.LookupReading.{OnlyReadsThreadAndReportsErrors};
+ghost use Rattle.lfs_lookup.specs.LookupReading.{ReadsOrReports};
 ghost use Rattle.lfs_lookup.specs.declared.entry.FileStorage.TheVariants as entry_contents;
 ghost use Rattle.lfs_lookup.specs.declared.search.SlotPosition.{SlotPosition as SpotSeen};
 ghost use Rattle.lfs_file.specs.Contents.{NoneInFlight, contents_form};
-ghost use Rattle.lfs_tree.specs.Working.{CanOpenPathFile};
+ghost use Rattle.lfs_tree.specs.Working.{CanOpenFile};
 ghost use Rattle.lfs_file.specs.Form as form;
 
 use lfs_device::{BlockDevice, Error, Geometry};
@@ -22,7 +22,7 @@ use std::alloc::Global;
 
 // Returns the geometry of a thread's device.
 fn geometry_of<D: BlockDevice>(thread: &Thread<D>) -> Geometry
-    ensures { HasGeometryOf result thread.now.kept.disk }
+    ensures { HasGeometry result thread.now.kept.disk }
 {
     thread.device().geometry()
 }
@@ -37,7 +37,7 @@ fn open_inline_contents<D: BlockDevice>(
     requires works { thread.old.failed ≡ false }
     requires can { (held : Slot) × CanOpenSlot thread.old.kept slot (entry_contents.Inline len) held }
     ensures opened { (held : Slot) → CanOpenSlot thread.old.kept slot (entry_contents.Inline len) held → IfOk result (AreOpenedContents thread.new.kept held.struct (opened_form (entry_contents.Inline len))) }
-    ensures reading { OnlyReadsThreadAndReportsErrors thread.old thread.new result }
+    ensures reading { ReadsOrReports thread.old thread.new result }
 {
     let geometry = geometry_of(thread);
     let bytes = read_inline_at(alloc, thread, slot, 0, len)?;
@@ -67,7 +67,7 @@ fn open_contents<D: BlockDevice>(
     requires works { thread.old.failed ≡ false }
     requires can { (held : Slot) × CanOpenSlot thread.old.kept slot contents held }
     ensures opened { (held : Slot) → CanOpenSlot thread.old.kept slot contents held → IfOk result (AreOpenedContents thread.new.kept held.struct (opened_form contents)) }
-    ensures reading { OnlyReadsThreadAndReportsErrors thread.old thread.new result }
+    ensures reading { ReadsOrReports thread.old thread.new result }
 {
     match contents {
         lfs_lookup::FileStorage::Inline { len } => open_inline_contents(alloc, thread, slot, len),
@@ -83,11 +83,11 @@ pub(crate) fn open_contents_at<D: BlockDevice>(
     root: usize,
     path: &Path<'_>,
 ) -> Result<WriterContents, Error>
-    requires { CanOpenPathFile thread.old root path.now }
-    ensures over { IfOk result (OverThreadFile thread.new.kept path.now) }
-    ensures bytes { IfOk result (λ c. writer_contents_bytes thread.new.kept c ≡ file_bytes (tree_on_disk thread.old.kept.disk thread.old.kept.pairs path.now)) }
-    ensures form { IfOk result (λ c. IsOpenedForm thread.old.kept.disk.profile thread.old.kept.disk.block_size (length (file_bytes (tree_on_disk thread.old.kept.disk thread.old.kept.pairs path.now))) (contents_form c)) }
-    ensures reading { OnlyReadsThreadAndReportsErrors thread.old thread.new result }
+    requires { CanOpenFile thread.old root path.now }
+    ensures over { IfOk result (AreThreadContents thread.new.kept path.now) }
+    ensures bytes { IfOk result (λ c. writer_contents_bytes thread.new.kept c ≡ file_bytes (disk_tree thread.old.kept.disk thread.old.kept.pairs path.now)) }
+    ensures form { IfOk result (λ c. IsOpenedForm thread.old.kept.disk.profile thread.old.kept.disk.block_size (length (file_bytes (disk_tree thread.old.kept.disk thread.old.kept.pairs path.now))) (contents_form c)) }
+    ensures reading { ReadsOrReports thread.old thread.new result }
 {
     let shown = look_up_path(alloc, thread, root, path)?;
     let Some((slot, contents)) = spot_of_file(shown) else {

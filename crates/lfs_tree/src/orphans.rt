@@ -1,13 +1,13 @@
 // The pairs of directories that no path leads to.
 
 ghost use Rattle.std.specs.Prelude.{◌≡◌, ◌<◌, ◌≤◌, ◌++◌, ◌∷◌, [], IfOk, OnOk, false, if◌then◌else◌, length, replicate, slice_index_or};
-ghost use Rattle.lfs_model.specs.format.Thread.{pair_count_before_root};
+ghost use Rattle.lfs_model.specs.format.Thread.{count_before_root};
 ghost use Rattle.lfs_model.specs.tree.View.{IsAccepted};
 ghost use Rattle.lfs_operations.specs.Recovering.{AreUnreachedNumbers};
 ghost use Rattle.lfs_lookup.specs.Items.{directory_item_view, directory_items_view};
 ghost use Rattle.lfs_lookup.specs.ProfileChecks.{follows_tail_at};
-ghost use Rattle.lfs_lookup.specs.LookupReading.{OnlyReadsThreadAndReportsErrors};
-ghost use Rattle.lfs_tree.specs.Orphans.{DirectoriesBegin, MarkReached, MarksPending, IsStructPair, IsSomeStructPair};
+ghost use Rattle.lfs_lookup.specs.LookupReading.{ReadsOrReports};
+ghost use Rattle.lfs_tree.specs.Orphans.{DirectoriesBegin, MarkReached, QueuesMarked, IsStructPair, IsNamedPair};
 ghost use Rattle.lfs_lookup.specs.TreeWalk.{HasFirstIfDirectory};
 
 use lfs_device::{BlockDevice, Error};
@@ -29,7 +29,7 @@ fn mark_reached(
     number: usize,
 ) -> Result<(), AllocError>
     requires { number < length marks.old.items }
-    ensures { OnOk result (MarksPending (λ n. n ≡ number) marks.old.items pending.old.items marks.new.items pending.new.items) }
+    ensures { OnOk result (QueuesMarked (λ n. n ≡ number) marks.old.items pending.old.items marks.new.items pending.new.items) }
 {
     if !marks[number] {
         marks[number] = true;
@@ -48,7 +48,7 @@ fn mark_directory<D: BlockDevice>(
     requires accepted { IsAccepted thread.now.kept.disk thread.now.kept.pairs }
     requires begins { HasFirstIfDirectory thread.now.kept.pairs (directory_item_view item.now).struct }
     requires len { length marks.old.items ≡ length thread.now.kept.pairs }
-    ensures { OnOk result (MarksPending (IsStructPair thread.now.kept.pairs (directory_item_view item.now).struct) marks.old.items pending.old.items marks.new.items pending.new.items) }
+    ensures { OnOk result (QueuesMarked (IsStructPair thread.now.kept.pairs (directory_item_view item.now).struct) marks.old.items pending.old.items marks.new.items pending.new.items) }
 {
     if let OwnedStruct::Branch(to) = item.structure {
         let number = number_at_address(thread, to).unwrap();
@@ -67,7 +67,7 @@ fn mark_directories<D: BlockDevice>(
     requires accepted { IsAccepted thread.now.kept.disk thread.now.kept.pairs }
     requires begin { DirectoriesBegin thread.now.kept.pairs (directory_items_view items.items) }
     requires len { length marks.old.items ≡ length thread.now.kept.pairs }
-    ensures { OnOk result (MarksPending (IsSomeStructPair thread.now.kept.pairs (directory_items_view items.items)) marks.old.items pending.old.items marks.new.items pending.new.items) }
+    ensures { OnOk result (QueuesMarked (IsNamedPair thread.now.kept.pairs (directory_items_view items.items)) marks.old.items pending.old.items marks.new.items pending.new.items) }
 {
     while let Some(item) = items.pop() {
         mark_directory(thread, &item, marks, pending)?;
@@ -83,9 +83,9 @@ fn mark_reached_directories<D: BlockDevice>(
 ) -> Result<Vec<bool>, Error>
     requires works { thread.old.failed ≡ false }
     requires accepted { IsAccepted thread.old.kept.disk thread.old.kept.pairs }
-    requires root { root ≡ pair_count_before_root thread.old.kept.pairs }
+    requires root { root ≡ count_before_root thread.old.kept.pairs }
     ensures marks { IfOk result (λ marks. MarkReached thread.old.kept.pairs marks.items) }
-    ensures reading { OnlyReadsThreadAndReportsErrors thread.old thread.new result }
+    ensures reading { ReadsOrReports thread.old thread.new result }
 {
     let state = thread.state();
     let mut marks = unset_marks(alloc, thread.len())?;
@@ -141,7 +141,7 @@ fn numbers_not_reached<D: BlockDevice>(
     marks: &[bool],
 ) -> Result<Vec<usize>, AllocError>
     requires works { thread.now.failed ≡ false }
-    requires root { root ≡ pair_count_before_root thread.now.kept.pairs }
+    requires root { root ≡ count_before_root thread.now.kept.pairs }
     requires few { root ≤ length thread.now.kept.pairs }
     requires marks { MarkReached thread.now.kept.pairs marks.now }
     ensures { IfOk result (λ numbers. AreUnreachedNumbers thread.now.kept.pairs numbers.items) }
@@ -166,9 +166,9 @@ pub(crate) fn find_unreached_pairs<D: BlockDevice>(
 ) -> Result<Vec<usize>, Error>
     requires works { thread.old.failed ≡ false }
     requires accepted { IsAccepted thread.old.kept.disk thread.old.kept.pairs }
-    requires root { root ≡ pair_count_before_root thread.old.kept.pairs }
+    requires root { root ≡ count_before_root thread.old.kept.pairs }
     ensures unreached { IfOk result (λ numbers. AreUnreachedNumbers thread.old.kept.pairs numbers.items) }
-    ensures reading { OnlyReadsThreadAndReportsErrors thread.old thread.new result }
+    ensures reading { ReadsOrReports thread.old thread.new result }
 {
     let marks = mark_reached_directories(alloc, thread, root)?;
     let numbers = numbers_not_reached(alloc, thread, root, &marks)?;

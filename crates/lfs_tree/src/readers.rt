@@ -2,17 +2,17 @@
 
 ghost use Rattle.std.specs.Prelude.{◌≡◌, ◌≤◌, ◌<◌, ◌+◌, ◌-◌, ◌^◌, List, ℕ, IfOk, OnOk, drop, false, length, min, take};
 ghost use Rattle.lfs_model.specs.crash.Frame.{ancestor_paths};
-ghost use Rattle.lfs_model.specs.tree.Shown.{struct_blocks, tree_on_disk};
+ghost use Rattle.lfs_model.specs.tree.Shown.{struct_blocks, disk_tree};
 ghost use Rattle.lfs_model.specs.format.Slots.{Ctz, Inline};
 ghost use Rattle.lfs_model.specs.tree.Tree.{Path as ModelPath};
 ghost use Rattle.lfs_model.specs.session.TreeEdits.{file_bytes};
-ghost use Rattle.lfs_model.specs.tree.View.{IsWellFormedCtz};
+ghost use Rattle.lfs_model.specs.tree.View.{IsFormedList};
 ghost use Rattle.lfs_file.specs.Known.{AreKnownBlocks, ReadsKnownList};
-ghost use Rattle.lfs_lookup.specs.LookupReading.{OnlyReadsThreadAndReportsErrors};
+ghost use Rattle.lfs_lookup.specs.LookupReading.{ReadsOrReports};
 ghost use Rattle.lfs_lookup.specs.FileContents.{ContentsFitTag, IsStorageAt, AreContentsAt, contents_struct};
 ghost use Rattle.lfs_lookup.specs.Finds.{IsFoundNode};
 ghost use Rattle.lfs_tree.specs.TreeReads.{ReadsPairsOnce};
-ghost use Rattle.lfs_tree.specs.TreeState.{OnlyReadsTreeOrFails, kept_thread, tree_view};
+ghost use Rattle.lfs_tree.specs.TreeState.{ReadsTreeOrFails, kept_thread, shown_tree};
 
 use crate::answers::mark_failed;
 use crate::tree::Tree;
@@ -30,8 +30,8 @@ impl<D: BlockDevice> Tree<D> {
     /// after either.
     pub fn find_file(&mut self, alloc: Global, path: &Path<'_>) -> Result<FoundFile, Error>
         requires { self.old.failed ≡ false }
-        ensures asks { OnlyReadsTreeOrFails self.old result self.new }
-        ensures found { IfOk result (λ found. IsFoundNode (tree_view self.old) path.now found.finding) }
+        ensures asks { ReadsTreeOrFails self.old result self.new }
+        ensures found { IfOk result (λ found. IsFoundNode (shown_tree self.old) path.now found.finding) }
         ensures contents { IfOk result (λ found. AreContentsAt (kept_thread self.old) path.now found.contents) }
         ensures few { ReadsPairsOnce (ancestor_paths path.now) self.old self.new.history }
     {
@@ -58,8 +58,8 @@ impl<D: BlockDevice> Tree<D> {
         requires works { self.old.failed ≡ false }
         requires there { (path : ModelPath) × IsStorageAt self.old.pairs path contents.now }
         requires blocks { AreKnownBlocks (struct_blocks self.old.disk (contents_struct contents.now)) known.old }
-        ensures asks { OnlyReadsTreeOrFails self.old result self.new }
-        ensures bytes { (path : ModelPath) → IsStorageAt self.old.pairs path contents.now → IfOk result (λ n. take n buf.new ≡ take (length buf.old) (drop position (file_bytes (tree_view self.old path)))) }
+        ensures asks { ReadsTreeOrFails self.old result self.new }
+        ensures bytes { (path : ModelPath) → IsStorageAt self.old.pairs path contents.now → IfOk result (λ n. take n buf.new ≡ take (length buf.old) (drop position (file_bytes (shown_tree self.old path)))) }
         ensures count { IfOk result (λ n. (n ≤ length buf.old) × (position + n < 2 ^ 32) × (drop n buf.new ≡ drop n buf.old)) }
         ensures none { (own : List ℕ) → contents_struct contents.now ≡ Inline own → self.new.history ≡ self.old.history }
         ensures blocks { AreKnownBlocks (struct_blocks self.old.disk (contents_struct contents.now)) known.new }
@@ -75,7 +75,7 @@ impl<D: BlockDevice> Tree<D> {
     pub fn size_of_contents(&self, contents: &FileContents) -> u32
         requires works { self.now.failed ≡ false }
         requires there { (path : ModelPath) × IsStorageAt self.now.pairs path contents.now }
-        ensures size { (path : ModelPath) → IsStorageAt self.now.pairs path contents.now → result ≡ length (file_bytes (tree_view self.now path)) }
+        ensures size { (path : ModelPath) → IsStorageAt self.now.pairs path contents.now → result ≡ length (file_bytes (shown_tree self.now path)) }
         ensures list { (head size : ℕ) → contents_struct contents.now ≡ Ctz head size → result ≡ size }
     {
         let _device = self.thread.device();
@@ -110,13 +110,13 @@ fn read_known_contents<D: BlockDevice>(
 ) -> Result<usize, Error>
     requires works { thread.old.failed ≡ false }
     requires fits { ContentsFitTag contents.now }
-    requires list { IsWellFormedCtz thread.old.kept.disk (contents_struct contents.now) }
+    requires list { IsFormedList thread.old.kept.disk (contents_struct contents.now) }
     requires blocks { AreKnownBlocks (struct_blocks thread.old.kept.disk (contents_struct contents.now)) known.old }
-    ensures bytes { (path : ModelPath) → IsStorageAt thread.old.kept.pairs path contents.now → IfOk result (λ n. take n buf.new ≡ take (length buf.old) (drop position (file_bytes (tree_on_disk thread.old.kept.disk thread.old.kept.pairs path)))) }
+    ensures bytes { (path : ModelPath) → IsStorageAt thread.old.kept.pairs path contents.now → IfOk result (λ n. take n buf.new ≡ take (length buf.old) (drop position (file_bytes (disk_tree thread.old.kept.disk thread.old.kept.pairs path)))) }
     ensures count { IfOk result (λ n. (n ≤ length buf.old) × (position + n < 2 ^ 32) × (drop n buf.new ≡ drop n buf.old)) }
     ensures none { (own : List ℕ) → contents_struct contents.now ≡ Inline own → thread.new ≡ thread.old }
     ensures blocks { AreKnownBlocks (struct_blocks thread.old.kept.disk (contents_struct contents.now)) known.new }
-    ensures reading { OnlyReadsThreadAndReportsErrors thread.old thread.new result }
+    ensures reading { ReadsOrReports thread.old thread.new result }
     ensures few { (head size : ℕ) → contents_struct contents.now ≡ Ctz head size → OnOk result (ReadsKnownList thread.old.kept.disk.block_size size position (length buf.old) known.old known.new thread.old.kept.history thread.new.kept.history) }
 {
     match contents {

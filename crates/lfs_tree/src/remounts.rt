@@ -1,7 +1,7 @@
 // A device that is mounted again.
 
 ghost use Rattle.std.specs.Prelude.{◌≡◌, IfErr, OnErr, OnOk};
-ghost use Rattle.lfs_tree.specs.TreeState.{FailedByReading, IsCausedError, IsRemountedTree};
+ghost use Rattle.lfs_tree.specs.TreeState.{FailedByReading, HasMountCause, IsRemountedTree};
 
 use crate::tree::Tree;
 use lfs_blocks::{BlockMap, Cache};
@@ -35,7 +35,7 @@ pub(crate) fn mount_again<D: BlockDevice>(
 ) -> (Tree<D>, Result<(), Error>)
     ensures mounted { OnOk result.1 (IsRemountedTree tree result.0) }
     ensures broken { OnErr result.1 (FailedByReading tree result.0) }
-    ensures errors { IfErr result.1 (IsCausedError tree result.0) }
+    ensures errors { IfErr result.1 (HasMountCause tree result.0) }
 {
     let is_writable = tree.is_writable;
     let order = tree.order();

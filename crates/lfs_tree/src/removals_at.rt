@@ -2,13 +2,13 @@
 
 ghost use Rattle.std.specs.Prelude.{◌≡◌, true, false, is_err, OnOk};
 ghost use Rattle.lfs_tree.specs.SettledFiles.{ChangesOnlyMap};
-ghost use Rattle.lfs_tree.specs.ThreadContents.{ReportsFaultOrNoMemory};
+ghost use Rattle.lfs_tree.specs.ThreadContents.{ThreadReportsFaults};
 ghost use Rattle.lfs_model.specs.session.TreeEdits.{tree_removing};
 ghost use Rattle.lfs_model.specs.tree.Tree.{Path as TreePath};
-ghost use Rattle.lfs_model.specs.tree.Shown.{tree_on_disk};
+ghost use Rattle.lfs_model.specs.tree.Shown.{disk_tree};
 ghost use Rattle.lfs_operations.specs.Dropping.{SameInFlight};
 ghost use Rattle.lfs_operations.specs.Ready.{IsReadyImage};
-ghost use Rattle.lfs_operations.specs.Unlinking.{ReportsErrorsOfCommitsTakingNoBlock};
+ghost use Rattle.lfs_operations.specs.Unlinking.{ReportsCommits};
 ghost use Rattle.lfs_operations.specs.MovingSteps.{WritesThreadFree};
 ghost use Rattle.lfs_tree.specs.Permissions.{CanRemoveEntry};
 ghost use Rattle.lfs_tree.specs.TreeCalls as call;
@@ -39,7 +39,7 @@ pub(crate) fn free_file_list<D: BlockDevice>(
     ensures flying { OnOk result (SameInFlight thread.old.kept.map thread.new.kept.map) }
     ensures only { ChangesOnlyMap thread.old.kept thread.new.kept }
     ensures failed { thread.new.failed ≡ is_err result }
-    ensures reports { ReportsFaultOrNoMemory thread.old.kept thread.new.kept result }
+    ensures reports { ThreadReportsFaults thread.old.kept thread.new.kept result }
 {
     lemma_settled_map();
     match contents {
@@ -71,9 +71,9 @@ fn remove_with_list<D: BlockDevice>(
     requires { IsWorkingWhere thread.old (λ t. (path : TreePath) × CanRemoveFile t path parent slot contents) }
     ensures gone { OnOk result ((path : TreePath) → CanRemoveFile thread.old.kept path parent slot contents → HasRemovedEntry thread.old.kept path thread.new.kept) }
     ensures alone { OnOk result ((path : TreePath) → CanRemoveFile thread.old.kept path parent slot contents → SparesInRemoval thread.old.kept path thread.new.kept) }
-    ensures errors { ReportsErrorsOfCommitsTakingNoBlock thread.old thread.new result }
+    ensures errors { ReportsCommits thread.old thread.new result }
     ensures device { WritesThreadFree thread.old.kept thread.new.kept }
-    ensures survives { (path : TreePath) → CanRemoveFile thread.old.kept path parent slot contents → SurvivesEither thread.old.kept thread.new.kept (tree_removing path (tree_on_disk thread.old.kept.disk thread.old.kept.pairs)) }
+    ensures survives { (path : TreePath) → CanRemoveFile thread.old.kept path parent slot contents → SurvivesEither thread.old.kept thread.new.kept (tree_removing path (disk_tree thread.old.kept.disk thread.old.kept.pairs)) }
 {
     remove_file(alloc, thread, slot.pair, slot.id, parent)?;
     free_file_list(thread, contents)
@@ -88,9 +88,9 @@ fn remove_found_entry<D: BlockDevice>(
     requires { IsWorkingWhere thread.old (λ t. (path : TreePath) × CanRemoveFound t path found) }
     ensures gone { OnOk result ((path : TreePath) → CanRemoveFound thread.old.kept path found → HasRemovedEntry thread.old.kept path thread.new.kept) }
     ensures alone { OnOk result ((path : TreePath) → CanRemoveFound thread.old.kept path found → SparesInRemoval thread.old.kept path thread.new.kept) }
-    ensures errors { ReportsErrorsOfCommitsTakingNoBlock thread.old thread.new result }
+    ensures errors { ReportsCommits thread.old thread.new result }
     ensures device { WritesThreadFree thread.old.kept thread.new.kept }
-    ensures survives { (path : TreePath) → CanRemoveFound thread.old.kept path found → SurvivesEither thread.old.kept thread.new.kept (tree_removing path (tree_on_disk thread.old.kept.disk thread.old.kept.pairs)) }
+    ensures survives { (path : TreePath) → CanRemoveFound thread.old.kept path found → SurvivesEither thread.old.kept thread.new.kept (tree_removing path (disk_tree thread.old.kept.disk thread.old.kept.pairs)) }
 {
     match found {
         PathLookup::File {

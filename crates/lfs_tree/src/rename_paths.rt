@@ -3,16 +3,16 @@
 ghost use Rattle.std.specs.Prelude.{◌≡◌, ◌≤◌, ◌+◌, ◌++◌, true, false, IfOk, IfSome, IsSome, sum_by};
 ghost use Rattle.lfs_model.specs.crash.Frame.{pair_count_at, ancestor_paths};
 ghost use Rattle.lfs_model.specs.session.History.{read_count};
-ghost use Rattle.lfs_model.specs.tree.Shown.{tree_on_disk};
+ghost use Rattle.lfs_model.specs.tree.Shown.{disk_tree};
 ghost use Rattle.lfs_model.specs.format.Slots.{zero_gstate};
 ghost use Rattle.lfs_model.specs.format.Thread.{pairs_gstate};
 ghost use Rattle.lfs_lookup.specs.Finds.{IsFoundNode, has_entry_beneath};
 ghost use Rattle.lfs_lookup.specs.LookupPaths.{LeadsToResult};
-ghost use Rattle.lfs_lookup.specs.LookupReading.{OnlyReadsThreadAndReportsErrors};
+ghost use Rattle.lfs_lookup.specs.LookupReading.{ReadsOrReports};
 ghost use Rattle.lfs_tree.specs.TreeChanges.{CanChangeRecovered};
 ghost use Rattle.lfs_tree.specs.RootedThreads.{IsSoundWithRoot};
-ghost use Rattle.lfs_tree.specs.RenameFindings.{AreRenameResults, AreRenameFindings, rename_directories, visible_lookup};
-ghost use Rattle.lfs_tree.specs.TreeState.{OnlyReadsTreeOrFails, kept_thread, tree_view};
+ghost use Rattle.lfs_tree.specs.RenameFindings.{AreRenameResults, AreRenameFindings, rename_directories, lookup_without_parent};
+ghost use Rattle.lfs_tree.specs.TreeState.{ReadsTreeOrFails, kept_thread, shown_tree};
 
 use crate::answers::mark_failed;
 use crate::entries_at::find_at_path;
@@ -49,7 +49,7 @@ pub struct RenameFindings {
 
 // Returns what was found, but for where a name belongs and in which directory it is.
 pub(crate) fn found_alone(found: PathLookup) -> VisiblePathLookup
-    ensures { result ≡ visible_lookup found }
+    ensures { result ≡ lookup_without_parent found }
 {
     match found {
         PathLookup::Root => VisiblePathLookup::Root,
@@ -72,7 +72,7 @@ fn find_rename_targets<D: BlockDevice>(
     requires { CanChangeRecovered thread.old root }
     ensures targets { IfOk result (AreRenameResults thread.old.kept from.now to.now) }
     ensures few { read_count thread.new.kept.history ≤ read_count thread.old.kept.history + sum_by (pair_count_at thread.old.kept.pairs) (ancestor_paths from.now ++ ancestor_paths to.now) }
-    ensures reading { OnlyReadsThreadAndReportsErrors thread.old thread.new result }
+    ensures reading { ReadsOrReports thread.old thread.new result }
 {
     let entry = find_at_path(alloc, thread, root, from)?;
     let target = find_at_path(alloc, thread, root, to)?;
@@ -94,7 +94,7 @@ pub(crate) fn given_or_found<D: BlockDevice>(
     requires rests { CanChangeRecovered thread.old root }
     requires known { IfSome known (AreRenameResults thread.old.kept from.now to.now) }
     ensures targets { IfOk result (AreRenameResults thread.old.kept from.now to.now) }
-    ensures reading { OnlyReadsThreadAndReportsErrors thread.old thread.new result }
+    ensures reading { ReadsOrReports thread.old thread.new result }
 {
     match known {
         Some(targets) => Ok(targets),
@@ -113,10 +113,10 @@ fn node_and_emptiness<D: BlockDevice>(
 ) -> Result<NodeAndEmptiness, Error>
     requires rests { CanChangeRecovered thread.old root }
     requires leads { LeadsToResult thread.old.kept _path.now found }
-    ensures found { IfOk result (λ inside. IsFoundNode (tree_on_disk thread.old.kept.disk thread.old.kept.pairs) _path.now inside.finding) }
-    ensures has { IfOk result (λ inside. inside.has_entries ≡ has_entry_beneath (tree_on_disk thread.old.kept.disk thread.old.kept.pairs) _path.now) }
+    ensures found { IfOk result (λ inside. IsFoundNode (disk_tree thread.old.kept.disk thread.old.kept.pairs) _path.now inside.finding) }
+    ensures has { IfOk result (λ inside. inside.has_entries ≡ has_entry_beneath (disk_tree thread.old.kept.disk thread.old.kept.pairs) _path.now) }
     ensures few { read_count thread.new.kept.history ≤ read_count thread.old.kept.history + pair_count_at thread.old.kept.pairs _path.now }
-    ensures reading { OnlyReadsThreadAndReportsErrors thread.old thread.new result }
+    ensures reading { ReadsOrReports thread.old thread.new result }
 {
     let shown = found_alone(found);
     let has_entries = has_entries(alloc, thread, first_pair_found(root, shown))?;
@@ -137,11 +137,11 @@ fn rename_findings<D: BlockDevice>(
     to: &Path<'_>,
 ) -> Result<RenameFindings, Error>
     requires { CanChangeRecovered thread.old root }
-    ensures found { IfOk result (AreRenameFindings (tree_on_disk thread.old.kept.disk thread.old.kept.pairs) from.now to.now) }
+    ensures found { IfOk result (AreRenameFindings (disk_tree thread.old.kept.disk thread.old.kept.pairs) from.now to.now) }
     ensures targets { IfOk result (λ found. IfSome found.targets (AreRenameResults thread.old.kept from.now to.now)) }
     ensures handed_on { IfOk result (λ found. IsSome found.targets) }
     ensures few { read_count thread.new.kept.history ≤ read_count thread.old.kept.history + sum_by (pair_count_at thread.old.kept.pairs) (rename_directories from.now to.now) }
-    ensures reading { OnlyReadsThreadAndReportsErrors thread.old thread.new result }
+    ensures reading { ReadsOrReports thread.old thread.new result }
 {
     let targets = find_rename_targets(alloc, thread, root, from, to)?;
     let attributes_size = attributes_size_at(alloc, thread, root, from)?;
@@ -165,10 +165,10 @@ fn rename_before_recovery<D: BlockDevice>(
     to: &Path<'_>,
 ) -> Result<RenameFindings, Error>
     requires { IsSoundWithRoot thread.old root true }
-    ensures found { IfOk result (AreRenameFindings (tree_on_disk thread.old.kept.disk thread.old.kept.pairs) from.now to.now) }
+    ensures found { IfOk result (AreRenameFindings (disk_tree thread.old.kept.disk thread.old.kept.pairs) from.now to.now) }
     ensures targets { IfOk result (λ found. IfSome found.targets (AreRenameResults thread.old.kept from.now to.now)) }
     ensures few { read_count thread.new.kept.history ≤ read_count thread.old.kept.history + sum_by (pair_count_at thread.old.kept.pairs) (rename_directories from.now to.now) }
-    ensures reading { OnlyReadsThreadAndReportsErrors thread.old thread.new result }
+    ensures reading { ReadsOrReports thread.old thread.new result }
 {
     let entry = find_node(alloc, thread, root, from)?;
     let target = path_has_entries(alloc, thread, root, to)?;
@@ -190,11 +190,11 @@ fn rename_targets<D: BlockDevice>(
     to: &Path<'_>,
 ) -> Result<RenameFindings, Error>
     requires { IsSoundWithRoot thread.old root true }
-    ensures found { IfOk result (AreRenameFindings (tree_on_disk thread.old.kept.disk thread.old.kept.pairs) from.now to.now) }
+    ensures found { IfOk result (AreRenameFindings (disk_tree thread.old.kept.disk thread.old.kept.pairs) from.now to.now) }
     ensures targets { IfOk result (λ found. IfSome found.targets (AreRenameResults thread.old.kept from.now to.now)) }
     ensures handed_on { pairs_gstate thread.old.kept.pairs ≡ zero_gstate → IfOk result (λ found. IsSome found.targets) }
     ensures few { read_count thread.new.kept.history ≤ read_count thread.old.kept.history + sum_by (pair_count_at thread.old.kept.pairs) (rename_directories from.now to.now) }
-    ensures reading { OnlyReadsThreadAndReportsErrors thread.old thread.new result }
+    ensures reading { ReadsOrReports thread.old thread.new result }
 {
     let state = thread.state();
     if state.is_none() {
@@ -219,8 +219,8 @@ impl<D: BlockDevice> Tree<D> {
     ) -> Result<RenameFindings, Error>
         requires works { self.old.failed ≡ false }
         requires writable { self.old.writable ≡ true }
-        ensures asks { OnlyReadsTreeOrFails self.old result self.new }
-        ensures found { IfOk result (AreRenameFindings (tree_view self.old) from.now to.now) }
+        ensures asks { ReadsTreeOrFails self.old result self.new }
+        ensures found { IfOk result (AreRenameFindings (shown_tree self.old) from.now to.now) }
         ensures targets { IfOk result (λ found. IfSome found.targets (AreRenameResults (kept_thread self.new) from.now to.now)) }
         ensures handed_on { pairs_gstate self.old.pairs ≡ zero_gstate → IfOk result (λ found. IsSome found.targets) }
         ensures few { read_count self.new.history ≤ read_count self.old.history + sum_by (pair_count_at self.old.pairs) (rename_directories from.now to.now) }

@@ -5,7 +5,7 @@ ghost use Rattle.lfs_model.specs.format.Slots.{zero_gstate};
 ghost use Rattle.lfs_model.specs.format.Thread.{pairs_gstate};
 ghost use Rattle.lfs_model.specs.session.TreeEdits.{tree_renaming, same_path};
 ghost use Rattle.lfs_model.specs.tree.Tree.{Path};
-ghost use Rattle.lfs_model.specs.tree.Shown.{tree_on_disk};
+ghost use Rattle.lfs_model.specs.tree.Shown.{disk_tree};
 ghost use Rattle.lfs_operations.specs.MovingSteps.{WritesThreadFree};
 ghost use Rattle.lfs_tree.specs.Permissions.{CanRenamePath};
 ghost use Rattle.lfs_tree.specs.TreeCalls as call;
@@ -13,7 +13,7 @@ ghost use Rattle.lfs_tree.specs.TreeCalls.{AppliesCallOrFails};
 ghost use Rattle.lfs_tree.specs.TreeChanges.{CanChangeRecovered, AppliesOrFails, SurvivesEither};
 ghost use Rattle.lfs_tree.specs.SlotChanges.{is_entry_found};
 ghost use Rattle.lfs_tree.specs.RootedThreads.{kept_state};
-ghost use Rattle.lfs_tree.specs.MovedEntries.{CanMoveOntoFound, CanMoveOntoFile, CanMoveOntoDirectory, HasMovedEntry, HasMovedOnto, IsFoundSource, ThreadWorksOrReportsError};
+ghost use Rattle.lfs_tree.specs.MovedEntries.{CanMoveOntoFound, CanMoveOntoFile, CanMoveOntoDirectory, HasMovedEntry, HasMovedOnto, IsFoundSource, ThreadWorksOrReports};
 ghost use Rattle.lfs_tree.specs.RenameFindings.{AreRenameResults};
 ghost use Rattle.lfs_tree.specs.TreeState.{kept_thread};
 
@@ -65,9 +65,9 @@ fn replace_file<D: BlockDevice>(
     requires works { thread.old.failed ≡ false }
     requires can { (from to : Path) × CanMoveOntoFile thread.old.kept from to source slot _contents name.now }
     ensures shifted { OnOk result ((from to : Path) → CanMoveOntoFile thread.old.kept from to source slot _contents name.now → HasMovedOnto thread.old.kept from to _contents thread.new.kept) }
-    ensures errors { ThreadWorksOrReportsError thread.old thread.new result }
+    ensures errors { ThreadWorksOrReports thread.old thread.new result }
     ensures device { WritesThreadFree thread.old.kept thread.new.kept }
-    ensures survives { (from to : Path) → CanMoveOntoFile thread.old.kept from to source slot _contents name.now → SurvivesEither thread.old.kept thread.new.kept (tree_renaming from to (tree_on_disk thread.old.kept.disk thread.old.kept.pairs)) }
+    ensures survives { (from to : Path) → CanMoveOntoFile thread.old.kept from to source slot _contents name.now → SurvivesEither thread.old.kept thread.new.kept (tree_renaming from to (disk_tree thread.old.kept.disk thread.old.kept.pairs)) }
 {
     let from = source.slot;
     if from.pair == slot.pair {
@@ -96,9 +96,9 @@ fn move_onto_file<D: BlockDevice>(
     requires works { thread.old.failed ≡ false }
     requires can { (from to : Path) × CanMoveOntoFile thread.old.kept from to source slot contents name.now }
     ensures shifted { OnOk result ((from to : Path) → CanMoveOntoFile thread.old.kept from to source slot contents name.now → HasMovedEntry thread.old.kept from to thread.new.kept) }
-    ensures errors { ThreadWorksOrReportsError thread.old thread.new result }
+    ensures errors { ThreadWorksOrReports thread.old thread.new result }
     ensures device { WritesThreadFree thread.old.kept thread.new.kept }
-    ensures survives { (from to : Path) → CanMoveOntoFile thread.old.kept from to source slot contents name.now → SurvivesEither thread.old.kept thread.new.kept (tree_renaming from to (tree_on_disk thread.old.kept.disk thread.old.kept.pairs)) }
+    ensures survives { (from to : Path) → CanMoveOntoFile thread.old.kept from to source slot contents name.now → SurvivesEither thread.old.kept thread.new.kept (tree_renaming from to (disk_tree thread.old.kept.disk thread.old.kept.pairs)) }
 {
     replace_file(alloc, thread, source, slot, contents, name)?;
     free_file_list(thread, contents)
@@ -116,9 +116,9 @@ fn move_onto_directory<D: BlockDevice>(
     requires works { thread.old.failed ≡ false }
     requires can { (from to : Path) × CanMoveOntoDirectory thread.old.kept from to source slot gone name.now }
     ensures shifted { OnOk result ((from to : Path) → CanMoveOntoDirectory thread.old.kept from to source slot gone name.now → HasMovedEntry thread.old.kept from to thread.new.kept) }
-    ensures errors { ThreadWorksOrReportsError thread.old thread.new result }
+    ensures errors { ThreadWorksOrReports thread.old thread.new result }
     ensures device { WritesThreadFree thread.old.kept thread.new.kept }
-    ensures survives { (from to : Path) → CanMoveOntoDirectory thread.old.kept from to source slot gone name.now → SurvivesEither thread.old.kept thread.new.kept (tree_renaming from to (tree_on_disk thread.old.kept.disk thread.old.kept.pairs)) }
+    ensures survives { (from to : Path) → CanMoveOntoDirectory thread.old.kept from to source slot gone name.now → SurvivesEither thread.old.kept thread.new.kept (tree_renaming from to (disk_tree thread.old.kept.disk thread.old.kept.pairs)) }
 {
     let from = source.slot;
     if from.pair == slot.pair {
@@ -146,9 +146,9 @@ fn move_onto_found<D: BlockDevice>(
     requires works { thread.old.failed ≡ false }
     requires can { (from to : Path) × CanMoveOntoFound thread.old.kept from to source found name.now }
     ensures shifted { OnOk result ((from to : Path) → CanMoveOntoFound thread.old.kept from to source found name.now → HasMovedEntry thread.old.kept from to thread.new.kept) }
-    ensures errors { ThreadWorksOrReportsError thread.old thread.new result }
+    ensures errors { ThreadWorksOrReports thread.old thread.new result }
     ensures device { WritesThreadFree thread.old.kept thread.new.kept }
-    ensures survives { (from to : Path) → CanMoveOntoFound thread.old.kept from to source found name.now → SurvivesEither thread.old.kept thread.new.kept (tree_renaming from to (tree_on_disk thread.old.kept.disk thread.old.kept.pairs)) }
+    ensures survives { (from to : Path) → CanMoveOntoFound thread.old.kept from to source found name.now → SurvivesEither thread.old.kept thread.new.kept (tree_renaming from to (disk_tree thread.old.kept.disk thread.old.kept.pairs)) }
 {
     match found {
         PathLookup::Nothing { place, .. } => {

@@ -17,7 +17,7 @@ ghost use Rattle.lfs_model.specs.declared.order.NameOrder.TheVariants.{LongerFir
 ghost use Rattle.lfs_model.specs.session.Effects.{items_at};
 ghost use Rattle.lfs_mount.specs.MountFaults.{IsErrorOfMount};
 ghost use Rattle.lfs_tag.specs.FieldsView.{move_view, superblock_view};
-ghost use Rattle.lfs_thread.specs.ThreadDevice.{GivesDeviceBackOnlyReadWithError};
+ghost use Rattle.lfs_thread.specs.ThreadDevice.{GivesDeviceBack};
 ghost use Rattle.lfs_thread.specs.Kept.{disk_of_device, kept_in_order};
 ghost use Rattle.lfs_tree.specs.Permissions.{CanCreateFile, CanMakeDirectory, CanRemoveEntry, CanRemoveAttr, CanSetAttr};
 ghost use Rattle.lfs_lookup.specs.CachedPairs.{AreFewSmall};
@@ -28,8 +28,8 @@ ghost use Rattle.lfs_tree.specs.TreeReads.{HasCachedDirectories, ReadsSixAtMost,
 ghost use Rattle.lfs_tree.specs.Recoveries.{HasRecovered};
 ghost use Rattle.lfs_lookup.specs.AttributeAt.{IsAttributesSize};
 ghost use Rattle.lfs_lookup.specs.Finds.{IsFoundNode, has_entry_beneath, listed_item_view};
-ghost use Rattle.lfs_tree.specs.Formats.{FailedFormatSparesOtherBlocks, IsFormatted, WritesFirstTwo};
-ghost use Rattle.lfs_tree.specs.TreeState.{OnlyReadsTreeOrFails, FailedByReading, IsCausedError, IsMountedTree, IsRemountedTree, IsSoundState, tree_summary, kept_thread, tree_view};
+ghost use Rattle.lfs_tree.specs.Formats.{IsFormatError, IsFormatted, WritesFirstTwo};
+ghost use Rattle.lfs_tree.specs.TreeState.{ReadsTreeOrFails, FailedByReading, HasMountCause, IsMountedTree, IsRemountedTree, IsSoundState, tree_summary, kept_thread, shown_tree};
 
 use crate::answers::mark_failed;
 use crate::attributes_at::{remove_attr_at, set_attr_at};
@@ -86,7 +86,7 @@ impl<D: BlockDevice> Tree<D> {
         ensures longer { IfOk result (λ t. t.disk.order ≡ ShorterFirst → (ps : List Pair) → ¬ IsAccepted (ordered_disk LongerFirst (disk_of_device D.BlockDevice device)) ps) }
         ensures corrupt { IfErr result (λ e. e.1 ≡ Error.Corrupt → (order : NameOrder) (ps : List Pair) → ¬ IsAccepted (ordered_disk order (disk_of_device D.BlockDevice device)) ps) }
         ensures errors { IfErr result (λ e. IsErrorOfMount e.1) }
-        ensures back { IfErr result (λ e. GivesDeviceBackOnlyReadWithError D.BlockDevice device e.0 e.1) }
+        ensures back { IfErr result (λ e. GivesDeviceBack D.BlockDevice device e.0 e.1) }
     {
         let mut thread = mount_thread(alloc, device)?;
         match root_and_profile(alloc, &mut thread) {
@@ -108,7 +108,7 @@ impl<D: BlockDevice> Tree<D> {
         ensures formatted { IfOk result (λ t. IsFormatted (kept_thread t)) }
         ensures geometry { IfOk result (λ t. SameGeometry (ordered_disk order (disk_of_device D.BlockDevice device)) t.disk) }
         ensures calls { IfOk result (λ t. WritesFirstTwo (kept_in_order D.BlockDevice order device [] []) (kept_thread t)) }
-        ensures back { IfErr result (λ e. FailedFormatSparesOtherBlocks D.BlockDevice (address_blocks anchor_address) device e.0 e.1) }
+        ensures back { IfErr result (λ e. IsFormatError D.BlockDevice (address_blocks anchor_address) device e.0 e.1) }
     {
         match format(alloc, device, order) {
             Ok(thread) => Ok(Tree {
@@ -127,7 +127,7 @@ impl<D: BlockDevice> Tree<D> {
     pub fn remount(&mut self, alloc: Global) -> Result<(), Error>
         ensures mounted { OnOk result (IsRemountedTree self.old self.new) }
         ensures broken { OnErr result (FailedByReading self.old self.new) }
-        ensures errors { IfErr result (IsCausedError self.old self.new) }
+        ensures errors { IfErr result (HasMountCause self.old self.new) }
     {
         match SpareThreadParts::new(alloc) {
             Ok(spare) => replace_with(self, spare, mount_again),
@@ -223,7 +223,7 @@ impl<D: BlockDevice> Tree<D> {
     /// after either.
     pub fn superblock(&mut self, alloc: Global) -> Result<Superblock, Error>
         requires { self.old.failed ≡ false }
-        ensures asks { OnlyReadsTreeOrFails self.old result self.new }
+        ensures asks { ReadsTreeOrFails self.old result self.new }
         ensures is { IfOk result (λ f. image_fields self.old.pairs ≡ Some (superblock_view f)) }
         ensures few { read_count self.new.history ≤ read_count self.old.history + 1 }
     {
@@ -239,8 +239,8 @@ impl<D: BlockDevice> Tree<D> {
     /// after either.
     pub fn look_up(&mut self, alloc: Global, path: &Path<'_>) -> Result<FoundNode, Error>
         requires { self.old.failed ≡ false }
-        ensures asks { OnlyReadsTreeOrFails self.old result self.new }
-        ensures found { IfOk result (IsFoundNode (tree_view self.old) path.now) }
+        ensures asks { ReadsTreeOrFails self.old result self.new }
+        ensures found { IfOk result (IsFoundNode (shown_tree self.old) path.now) }
         ensures few { ReadsPairsOnce (ancestor_paths path.now) self.old self.new.history }
         ensures hand { AreFewSmall self.old.pairs (ancestor_paths path.now) → IfOk result (λ found. found.fault ≡ None → HasCachedDirectories self.new (ancestor_paths path.now)) }
     {
@@ -260,9 +260,9 @@ impl<D: BlockDevice> Tree<D> {
         path: &Path<'_>,
     ) -> Result<NodeAndEmptiness, Error>
         requires { self.old.failed ≡ false }
-        ensures asks { OnlyReadsTreeOrFails self.old result self.new }
-        ensures found { IfOk result (λ inside. IsFoundNode (tree_view self.old) path.now inside.finding) }
-        ensures has { IfOk result (λ inside. inside.has_entries ≡ has_entry_beneath (tree_view self.old) path.now) }
+        ensures asks { ReadsTreeOrFails self.old result self.new }
+        ensures found { IfOk result (λ inside. IsFoundNode (shown_tree self.old) path.now inside.finding) }
+        ensures has { IfOk result (λ inside. inside.has_entries ≡ has_entry_beneath (shown_tree self.old) path.now) }
         ensures few { read_count self.new.history ≤ read_count self.old.history + sum_by (pair_count_at self.old.pairs) (ancestor_paths path.now ++ path.now ∷ []) }
     {
         let inside = path_has_entries(alloc, &mut self.thread, self.root, path);
@@ -283,9 +283,9 @@ impl<D: BlockDevice> Tree<D> {
         kind: u8,
     ) -> Result<FoundAttribute, Error>
         requires { self.old.failed ≡ false }
-        ensures asks { OnlyReadsTreeOrFails self.old result self.new }
-        ensures found { IfOk result (λ found. IsFoundNode (tree_view self.old) path.now found.finding) }
-        ensures bytes { IfOk result (λ found. (option_map (λ v. v.items) found.bytes ≡ attribute_bytes kind (node_attributes_of (tree_view self.old path.now))) × IfSome found.bytes (λ v. length v.items ≤ 1022)) }
+        ensures asks { ReadsTreeOrFails self.old result self.new }
+        ensures found { IfOk result (λ found. IsFoundNode (shown_tree self.old) path.now found.finding) }
+        ensures bytes { IfOk result (λ found. (option_map (λ v. v.items) found.bytes ≡ attribute_bytes kind (node_attributes_of (shown_tree self.old path.now))) × IfSome found.bytes (λ v. length v.items ≤ 1022)) }
         ensures few { ReadsPairsOnce (ancestor_paths path.now) self.old self.new.history }
     {
         let found = find_attribute(alloc, &mut self.thread, self.root, path, kind);
@@ -301,8 +301,8 @@ impl<D: BlockDevice> Tree<D> {
     /// after either.
     pub fn attributes_size(&mut self, alloc: Global, path: &Path<'_>) -> Result<usize, Error>
         requires { self.old.failed ≡ false }
-        ensures asks { OnlyReadsTreeOrFails self.old result self.new }
-        ensures size { IfOk result (IsAttributesSize (node_attributes_of (tree_view self.old path.now))) }
+        ensures asks { ReadsTreeOrFails self.old result self.new }
+        ensures size { IfOk result (IsAttributesSize (node_attributes_of (shown_tree self.old path.now))) }
         ensures few { ReadsPairsOnce (ancestor_paths path.now) self.old self.new.history }
     {
         let size = attributes_size_at(alloc, &mut self.thread, self.root, path);
@@ -318,9 +318,9 @@ impl<D: BlockDevice> Tree<D> {
     /// after either.
     pub fn list(&mut self, alloc: Global, path: &Path<'_>) -> Result<Listing, Error>
         requires { self.old.failed ≡ false }
-        ensures asks { OnlyReadsTreeOrFails self.old result self.new }
-        ensures found { IfOk result (λ listing. IsFoundNode (tree_view self.old) path.now listing.finding) }
-        ensures items { IfOk result (λ listing. map listed_item_view listing.items.items ≡ items_at (tree_view self.old) path.now) }
+        ensures asks { ReadsTreeOrFails self.old result self.new }
+        ensures found { IfOk result (λ listing. IsFoundNode (shown_tree self.old) path.now listing.finding) }
+        ensures items { IfOk result (λ listing. map listed_item_view listing.items.items ≡ items_at (shown_tree self.old) path.now) }
         ensures few { ReadsPairsOnce (ancestor_paths path.now ++ path.now ∷ []) self.old self.new.history }
     {
         let listing = list_directory(alloc, &mut self.thread, self.root, path);

@@ -4,11 +4,11 @@ ghost use Rattle.std.specs.Prelude.{◌≡◌, [], false, true, length, take, If
 ghost use Rattle.lfs_model.specs.session.TreeEdits.{file_bytes, tree_with_change, is_file};
 ghost use Rattle.lfs_model.specs.layers.BlockSets.{in_flight_count};
 ghost use Rattle.lfs_model.specs.format.Disk.{inline_limit};
-ghost use Rattle.lfs_model.specs.session.Writers.{written_contents, padded_with_zeros};
+ghost use Rattle.lfs_model.specs.session.Writers.{written_contents, zero_padded};
 ghost use Rattle.lfs_model.specs.session.Effects.{file_with_bytes};
 ghost use Rattle.lfs_model.specs.tree.Tree.{Path as ModelPath};
-ghost use Rattle.lfs_tree.specs.OpenContents.{CanOpenWriterOf, CanStoreAt, CanTruncateWriterContents, CanWriteWriterContents, HasFormBytes, IsOpenedForm, OverTreeFile, StoresBytesAt, WritesOnlyUnusedBlocksOrFails, writer_contents_bytes, kept_thread};
-ghost use Rattle.lfs_tree.specs.TreeState.{OnlyReadsTreeOrFails, IsFailedTree, FailedByReading, HasErrorCause, SurvivesStops, tree_view};
+ghost use Rattle.lfs_tree.specs.OpenContents.{CanOpenWriterOf, CanStoreContents, CanTruncateIn, CanWriteIn, HasFormBytes, IsOpenedForm, AreTreeContents, StoresBytesAt, WritesUnusedOrFails, writer_contents_bytes, kept_thread};
+ghost use Rattle.lfs_tree.specs.TreeState.{ReadsTreeOrFails, IsFailedTree, FailedByReading, HasErrorCause, SurvivesStops, shown_tree};
 ghost use Rattle.lfs_file.specs.Contents.{contents_form};
 ghost use Rattle.lfs_file.specs.Form as form;
 ghost use Rattle.lfs_file.specs.Form.{truncated_form, written_form};
@@ -35,10 +35,10 @@ impl<D: BlockDevice> Tree<D> {
         path: &Path<'_>,
     ) -> Result<WriterContents, Error>
         requires { CanOpenWriterOf self.old path.now }
-        ensures asks { OnlyReadsTreeOrFails self.old result self.new }
-        ensures over { IfOk result (OverTreeFile self.new path.now) }
-        ensures bytes { IfOk result (λ c. writer_contents_bytes (kept_thread self.new) c ≡ file_bytes (tree_view self.old path.now)) }
-        ensures form { IfOk result (λ c. IsOpenedForm self.old.disk.profile self.old.disk.block_size (length (file_bytes (tree_view self.old path.now))) (contents_form c)) }
+        ensures asks { ReadsTreeOrFails self.old result self.new }
+        ensures over { IfOk result (AreTreeContents self.new path.now) }
+        ensures bytes { IfOk result (λ c. writer_contents_bytes (kept_thread self.new) c ≡ file_bytes (shown_tree self.old path.now)) }
+        ensures form { IfOk result (λ c. IsOpenedForm self.old.disk.profile self.old.disk.block_size (length (file_bytes (shown_tree self.old path.now))) (contents_form c)) }
     {
         let contents = open_contents_at(alloc, &mut self.thread, self.root, path);
         mark_failed(&mut self.thread, &contents);
@@ -52,7 +52,7 @@ impl<D: BlockDevice> Tree<D> {
         requires works { self.old.failed ≡ false }
         requires idle { in_flight_count self.old.map ≡ 0 }
         ensures same { OnOk result (self.new ≡ self.old) }
-        ensures over { (path : ModelPath) → is_file (tree_view self.old path) ≡ true → IfOk result (OverTreeFile self.new path) }
+        ensures over { (path : ModelPath) → is_file (shown_tree self.old path) ≡ true → IfOk result (AreTreeContents self.new path) }
         ensures bytes { IfOk result (λ c. writer_contents_bytes (kept_thread self.new) c ≡ []) }
         ensures form { IfOk result (λ c. contents_form c ≡ form.InMemory 0) }
         ensures broken { OnErr result (FailedByReading self.old self.new) }
@@ -75,11 +75,11 @@ impl<D: BlockDevice> Tree<D> {
         place: u32,
         bytes: &[u8],
     ) -> Result<WriterContents, Error>
-        requires { CanWriteWriterContents self.old contents place (length bytes.now) }
-        ensures over { (path : ModelPath) → OverTreeFile self.old path contents → IfOk result (OverTreeFile self.new path) }
+        requires { CanWriteIn self.old contents place (length bytes.now) }
+        ensures over { (path : ModelPath) → AreTreeContents self.old path contents → IfOk result (AreTreeContents self.new path) }
         ensures written { IfOk result (HasFormBytes self.new (written_contents (writer_contents_bytes (kept_thread self.old) contents) place bytes.now)
             (written_form (inline_limit self.old.disk.profile self.old.disk.block_size) place (length bytes.now) (contents_form contents))) }
-        ensures writes { WritesOnlyUnusedBlocksOrFails self.old result self.new }
+        ensures writes { WritesUnusedOrFails self.old result self.new }
     {
         let limit = self.geometry().inline_limit();
         let written = write_file(alloc, &mut self.thread, contents, limit, place, bytes);
@@ -96,11 +96,11 @@ impl<D: BlockDevice> Tree<D> {
         contents: WriterContents,
         size: u32,
     ) -> Result<WriterContents, Error>
-        requires { CanTruncateWriterContents self.old contents size }
-        ensures over { (path : ModelPath) → OverTreeFile self.old path contents → IfOk result (OverTreeFile self.new path) }
-        ensures truncated { IfOk result (HasFormBytes self.new (take size (padded_with_zeros size (writer_contents_bytes (kept_thread self.old) contents)))
+        requires { CanTruncateIn self.old contents size }
+        ensures over { (path : ModelPath) → AreTreeContents self.old path contents → IfOk result (AreTreeContents self.new path) }
+        ensures truncated { IfOk result (HasFormBytes self.new (take size (zero_padded size (writer_contents_bytes (kept_thread self.old) contents)))
             (truncated_form (inline_limit self.old.disk.profile self.old.disk.block_size) size (contents_form contents))) }
-        ensures writes { WritesOnlyUnusedBlocksOrFails self.old result self.new }
+        ensures writes { WritesUnusedOrFails self.old result self.new }
     {
         let limit = self.geometry().inline_limit();
         let truncated = truncate_file(alloc, &mut self.thread, contents, limit, size);
@@ -117,11 +117,11 @@ impl<D: BlockDevice> Tree<D> {
         path: &Path<'_>,
         contents: WriterContents,
     ) -> Result<(), Error>
-        requires { CanStoreAt self.old path.now contents }
+        requires { CanStoreContents self.old path.now contents }
         ensures stored { OnOk result (StoresBytesAt self.old path.now (writer_contents_bytes (kept_thread self.old) contents) self.new) }
         ensures broken { OnErr result (IsFailedTree self.old self.new) }
         ensures errors { IfErr result (HasErrorCause self.old self.new) }
-        ensures survives { SurvivesStops self.old self.new (tree_with_change path.now (file_with_bytes (writer_contents_bytes (kept_thread self.old) contents)) (tree_view self.old)) }
+        ensures survives { SurvivesStops self.old self.new (tree_with_change path.now (file_with_bytes (writer_contents_bytes (kept_thread self.old) contents)) (shown_tree self.old)) }
     {
         let stored = store_contents_at(alloc, &mut self.thread, self.root, path, contents);
         mark_failed(&mut self.thread, &stored);

@@ -15,7 +15,7 @@ use Rattle.lfs_model.specs.declared.order.NameOrder.{NameOrder}
 use Rattle.lfs_model.specs.declared.order.NameOrder.TheVariants.{LongerFirst, ShorterFirst}
 use Rattle.lfs_fs.specs.ImageLimits.{BeginsLimited}
 use Rattle.lfs_fs.specs.SessionView.{BeginsByMount, SessionView, system_state}
-use Rattle.littlefs_c.specs.ImageCalls.{IsSessionError, IsImageSession, IsFreshDevice}
+use Rattle.littlefs_c.specs.ImageCalls.{IsSessionError, IsImageSession, IsImageDevice}
 use Rattle.littlefs_c.specs.Configs.{IsValidConfig, config_profile}
 use Rattle.littlefs_c.specs.Mounts.{IsMountedWithin}
 use Rattle.littlefs_c.specs.declared.config.Config.{Config}
@@ -25,7 +25,7 @@ use Rattle.littlefs_c.proofs.Images.{disk_by_profile, mounts, prevented}
 abbrev pub disk_seen : Profile → RamDevice → Disk
 disk_seen by d = profiled_disk by (disk_of_blocks (ram_geometry d) (ram_blocks d))
 
-module _ (block_size page : ℕ) (profile : Profile) (image : List ℕ) (d : RamDevice) (is : IsFreshDevice block_size page profile image d) where
+module _ (block_size page : ℕ) (profile : Profile) (image : List ℕ) (d : RamDevice) (is : IsImageDevice block_size page profile image d) where
   pub mounted_by : (by : Profile) (history : List CallEvent) (h : SessionView) → BeginsByMount (ordered_disk h.tree.disk.order (disk_seen by d)) history h
       → (h.tree.disk.order ≡ ShorterFirst → (ps : List Pair) → ¬ IsAccepted (ordered_disk LongerFirst (disk_seen by d)) ps) → IsImageSession block_size page by image (system_state h)
   mounted_by by history h b longer = mounts block_size page by image (disk_seen by d) history h is.whole (λ order. disk_by_profile block_size page profile image d by order is) b longer
@@ -36,7 +36,7 @@ module _ (block_size page : ℕ) (profile : Profile) (image : List ℕ) (d : Ram
 
 -- a mount by the limits of the image
 pub mounted_with_limits : (config : Config) (image : List ℕ) (d : RamDevice) (given : Profile) (history : List CallEvent) (h : SessionView) → IsValidConfig config
-    → IsFreshDevice config.block_size config.page (config_profile config) image d → given ≡ config_profile config → BeginsLimited (disk_of_blocks (ram_geometry d) (ram_blocks d)) history given h
+    → IsImageDevice config.block_size config.page (config_profile config) image d → given ≡ config_profile config → BeginsLimited (disk_of_blocks (ram_geometry d) (ram_blocks d)) history given h
     → (h.tree.disk.order ≡ ShorterFirst → (ps : List Pair) → ¬ IsAccepted (ordered_disk LongerFirst (disk_seen h.tree.disk.profile d)) ps) → IsMountedWithin config image (system_state h)
 mounted_with_limits config image d given history h valid is by b longer = record {
   valid = valid;

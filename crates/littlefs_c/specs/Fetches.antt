@@ -54,14 +54,14 @@ code_of_fetched fetched.Change = pos 1
 code_of_fetched fetched.NoneYet = pos 0
 code_of_fetched fetched.NotKept = lost_change_code
 
-abbrev pub change_code : Option ℕ → ℤ
-change_code (Some n) = pos n
-change_code None = lost_change_code
+abbrev pub next_change_code : Option ℕ → ℤ
+next_change_code (Some n) = pos n
+next_change_code None = lost_change_code
 
 -- a fetch of a session's change
 abbrev pub IsFetchAnswer : ℕ → ShownChange → ShownChange → List ℕ → List ℕ → ℤ → SessionView → SessionView → Type 0
 IsFetchAnswer number shown after buffer filled code old new = WithCode {X = Fetched} code_of_fetched (λ s answer. FetchesChange (history_writes s.tree.history) number answer shown after buffer filled) code old new
 
 -- the number of a session's next change
-abbrev pub IsNoteAnswer : ℤ → SessionView → SessionView → Type 0
-IsNoteAnswer code old new = WithCode {X = Option ℕ} change_code (λ s number. IsNextChange (history_writes s.tree.history) number) code old new
+abbrev pub IsChangeNumber : ℤ → SessionView → SessionView → Type 0
+IsChangeNumber code old new = WithCode {X = Option ℕ} next_change_code (λ s number. IsNextChange (history_writes s.tree.history) number) code old new

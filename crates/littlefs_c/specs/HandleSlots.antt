@@ -37,6 +37,6 @@ slot_owns alloc p None = ftrue
 slot_owns alloc p (Some x) = box_owns (ghosts.dealloc_token alloc) held_session_row p x
 
 -- 1 where there is a session
-abbrev pub open_number : Option SessionView → ℕ
-open_number None = 0
-open_number (Some x) = 1
+abbrev pub session_count : Option SessionView → ℕ
+session_count None = 0
+session_count (Some x) = 1

@@ -53,19 +53,19 @@ blank_disk config count = record {
 }
 
 -- The configuration and the number of blocks give a disk.
-pub record GiveDisk (config : Config) (count : ℕ) : Type 0 where
+pub record IsDiskConfig (config : Config) (count : ℕ) : Type 0 where
   pub valid : IsValidConfig config
   pub geometry : IsValidGeometry config.block_size config.page count
 
 -- A device in memory that has the blank disk, and has had no call.
 pub record IsBlankDevice (config : Config) (count : ℕ) (d : RamDevice) : Type 0 where
-  pub given : GiveDisk config count
+  pub given : IsDiskConfig config count
   pub disk : ordered_disk (config_order config) (disk_of_blocks (ram_geometry d) (ram_blocks d)) ≡ blank_disk config count
   pub no_call : ram_history d ≡ []
 
 -- A session over a new image: its disk is a fresh one, whose blocks but the first two are blank.
 pub record IsFormattedBy (config : Config) (count : ℕ) (s : SessionView) : Type 0 where
-  pub given : GiveDisk config count
+  pub given : IsDiskConfig config count
   pub geometry : SameGeometry (blank_disk config count) s.tree.disk
   pub fresh : IsFreshDisk s.tree.disk
   pub others : SameExceptThese (0 ∷ 1 ∷ []) (blank_disk config count).blocks s.tree.disk.blocks
@@ -73,7 +73,7 @@ pub record IsFormattedBy (config : Config) (count : ℕ) (s : SessionView) : Typ
 
 -- the numbers give no disk, or memory wasn't granted
 abbrev pub PreventsFormat : Config → ℕ → Error → Type 0
-PreventsFormat config count e = ((e ≡ Invalid) × (¬ GiveDisk config count)) ⊎ (e ≡ NoMemory)
+PreventsFormat config count e = ((e ≡ Invalid) × (¬ IsDiskConfig config count)) ⊎ (e ≡ NoMemory)
 
 -- ---- in a handle
 

@@ -4,7 +4,7 @@ use Rattle.std.specs.Int.RustNames.{bit_and}
 use Rattle.lfs_device.specs.declared.error.Error.{Error}
 use Rattle.lfs_device.specs.declared.error.Error.TheVariants.{NoMemory}
 use Rattle.lfs_model.specs.format.Blocks.{overwritten_at}
-use Rattle.lfs_model.specs.format.Disk.{Disk, IsWhole, disk_of_image}
+use Rattle.lfs_model.specs.format.Disk.{Disk, IsWholeImage, disk_of_image}
 use Rattle.lfs_model.specs.session.Operations as ops
 use Rattle.lfs_model.specs.session.Operations.{FlagsOfOpen, ListedEntry, Operation, Reply}
 use Rattle.lfs_lookup.specs.Finds.{listed_item_view, stat_view}
@@ -99,7 +99,7 @@ IsFileAnswer P code old new = WithCode {X = Result ℕ Error} (λ r. result_code
 
 -- The bytes are an image whose disk is that one.
 pub record IsDiskImage (disk : Disk) (bytes : List ℕ) : Type 0 where
-  pub whole : IsWhole disk.block_size disk.page bytes
+  pub whole : IsWholeImage disk.block_size disk.page bytes
   pub holds : disk ≡ disk_of_image disk.block_size disk.page disk.profile disk.order bytes
 
 -- The buffer has the image of the session, if it fits, which takes that room.

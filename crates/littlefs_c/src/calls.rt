@@ -6,7 +6,7 @@ ghost use Rattle.lfs_fs.specs.FlagsView.{flags_view};
 ghost use Rattle.littlefs_c.specs.Buffers.{FillsOrRefuses};
 ghost use Rattle.littlefs_c.specs.Codes.{order_of_number};
 ghost use Rattle.littlefs_c.specs.ImageCalls.{ChangesOrRefuses, AcceptsOrReports};
-ghost use Rattle.littlefs_c.specs.Files.{reading_operations, replaced_file_flags, writing_operations};
+ghost use Rattle.littlefs_c.specs.Files.{reading_operations, replaced_flags, writing_operations};
 ghost use Rattle.littlefs_c.specs.Starts.{FormatsOrRefuses};
 
 use crate::buffers::copy_if_fitting;
@@ -121,7 +121,7 @@ pub(crate) fn get_attr_in(
 
 // Returns the flags of an open that makes a file, or makes it empty.
 fn replacing_flags() -> OpenFlags
-    ensures { flags_view result ≡ replaced_file_flags }
+    ensures { flags_view result ≡ replaced_flags }
 {
     let mut flags = OpenFlags::WRITE;
     flags.insert(OpenFlags::CREATE);

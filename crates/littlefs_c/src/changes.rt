@@ -3,7 +3,7 @@
 ghost use Rattle.std.specs.Prelude.{◌≡◌, ◌<◌, ◌^◌, IfSome, List};
 ghost use Rattle.lfs_model.specs.session.History.{DeviceCall};
 ghost use Rattle.littlefs_c.specs.ChangeLog.{AreNoted, change_call, history_writes};
-ghost use Rattle.littlefs_c.specs.Fetches.{FetchesChange, IsFetchAnswer, IsNoteAnswer, IsNextChange, IsShownChange, buffer_after_change, change_code, code_of_fetched};
+ghost use Rattle.littlefs_c.specs.Fetches.{FetchesChange, IsFetchAnswer, IsChangeNumber, IsNextChange, IsShownChange, buffer_after_change, next_change_code, code_of_fetched};
 ghost use Rattle.littlefs_c.specs.Sessions.{CallsSession};
 
 use crate::buffers::copy_if_fitting;
@@ -46,7 +46,7 @@ fn fetched_code(fetched: Fetched) -> i64
 
 fn change_number_code(number: Option<u64>) -> i64
     requires { IfSome number (λ n. n < 2 ^ 63) }
-    ensures { result ≡ change_code number }
+    ensures { result ≡ next_change_code number }
 {
     match number {
         Some(number) => number as i64,
@@ -127,7 +127,7 @@ fn next_change_number(session: &Session<HeldDevice>) -> Option<u64>
 /// changes.
 #[unsafe(no_mangle)]
 pub extern "C" fn lfs_c_note_changes(alloc: Global, session: &mut Handle) -> i64
-    ensures { CallsSession (IsNoteAnswer result) result session.old.slot.session session.new.slot.session }
+    ensures { CallsSession (IsChangeNumber result) result session.old.slot.session session.new.slot.session }
 {
     let Some(inner) = take_session(alloc, session) else {
         return CLOSED;

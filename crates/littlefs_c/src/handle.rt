@@ -1,7 +1,7 @@
 // A session as C holds it.
 
 ghost use Rattle.std.specs.Prelude.{◌≡◌, Option, None, Some, option_map};
-ghost use Rattle.littlefs_c.specs.HandleSlots.{open_number};
+ghost use Rattle.littlefs_c.specs.HandleSlots.{session_count};
 
 use crate::noted::HeldDevice;
 use crate::parts::Parts;
@@ -19,7 +19,7 @@ pub(crate) const CLOSED: i64 = -77;
 pub struct Handle {
     pub slot: Slot,
     pub is_open: u64,
-    ghost agrees: { is_open ≡ open_number slot.session },
+    ghost agrees: { is_open ≡ session_count slot.session },
 }
 
 impl Handle {

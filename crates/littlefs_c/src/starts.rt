@@ -2,7 +2,7 @@
 
 ghost use Rattle.std.specs.Prelude.{◌≡◌, pos, None, IfOk, IfErr};
 ghost use Rattle.lfs_fs.specs.SessionView.{system_state};
-ghost use Rattle.littlefs_c.specs.ImageCalls.{IsFreshDevice};
+ghost use Rattle.littlefs_c.specs.ImageCalls.{IsImageDevice};
 ghost use Rattle.littlefs_c.specs.Configs.{IsValidConfig, config_profile};
 ghost use Rattle.littlefs_c.specs.Mounts.{BeginsInHandle, IsBlankDevice, IsBeginningCode, IsFormattedBy, IsMountedBy, IsMountedWithin, PreventsFormat, PreventsMount};
 
@@ -31,7 +31,7 @@ fn box_session(
 
 // Makes a device in memory that has a copy of an image, by a configuration.
 fn copy_of_image(alloc: Global, config: &Config, image: &[u8]) -> Result<RamDevice, Error>
-    ensures ok { IfOk result (λ d. IsValidConfig config.now × IsFreshDevice config.now.block_size config.now.page (config_profile config.now) image.now d) }
+    ensures ok { IfOk result (λ d. IsValidConfig config.now × IsImageDevice config.now.block_size config.now.page (config_profile config.now) image.now d) }
     ensures err { IfErr result (PreventsMount config.now image.now) }
 {
     if !config.is_valid() {

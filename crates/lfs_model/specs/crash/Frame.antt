@@ -6,7 +6,7 @@ use Rattle.lfs_model.specs.format.Thread.{Pair, is_hard_tail, root_address}
 use Rattle.lfs_model.specs.tree.Tree.{Path, address_at_path}
 use Rattle.lfs_model.specs.format.Names.{Name, same_name}
 use Rattle.lfs_model.specs.session.TreeEdits.{parent_path, last_name}
-use Rattle.lfs_model.specs.tree.Shown.{all_entries, all_slots_not_moved, struct_blocks, LeadsTo}
+use Rattle.lfs_model.specs.tree.Shown.{all_entries, all_unmoved_slots, struct_blocks, LeadsTo}
 use Rattle.lfs_model.specs.session.History.{CallEvent, read_count}
 use Rattle.lfs_model.specs.session.Operations as ops
 use Rattle.lfs_model.specs.session.Operations.{Operation, Refusal, BadFile, Invalid, ReadOnly, Failed}
@@ -60,7 +60,7 @@ SamePairBlocks disk new p = (disk_block new p.at.0 ≡ disk_block disk p.at.0) �
 -- Every block of a file's list keeps its bytes. So do both blocks of a pair that stays with what it holds. Excepted are pairs
 -- that hold a slot that the operation is about.
 pub record LeavesOthers (disk : Disk) (ps : List Pair) (s : Session) (op : Operation) (new : Disk) (qs : List Pair) : Type 0 where
-  pub files : All (λ t. All (λ b. disk_block new b ≡ disk_block disk b) (struct_blocks disk t.struct)) (all_slots_not_moved ps)
+  pub files : All (λ t. All (λ b. disk_block new b ≡ disk_block disk b) (struct_blocks disk t.struct)) (all_unmoved_slots ps)
   pub pairs : (p : Pair) → Contains ps p → Contains qs p → (Any (HasPathSlot ps p) (changed_paths s op) → ⊥) → SamePairBlocks disk new p
 
 -- ---- reads
@@ -92,8 +92,8 @@ pair_count_at ps path = count (address_at_path (all_entries ps) (root_address ps
     count (Some at) = length (directory_pairs ps at)
 
 -- a look-up reads no more pairs than its directories have
-abbrev pub BoundsReads : List Pair → Operation → List CallEvent → Type 0
-BoundsReads ps op calls = is_look_up op ≡ true → read_count calls ≤ sum_by (pair_count_at ps) (searched_directories op)
+abbrev pub ReadsEachOnce : List Pair → Operation → List CallEvent → Type 0
+ReadsEachOnce ps op calls = is_look_up op ≡ true → read_count calls ≤ sum_by (pair_count_at ps) (searched_directories op)
 
 -- the session answers the operation from its own state, without the device
 abbrev pub answers_itself : Operation → Bool

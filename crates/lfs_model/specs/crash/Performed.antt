@@ -4,7 +4,7 @@ use Rattle.lfs_model.specs.session.Operations.{Operation, Reply}
 use Rattle.lfs_model.specs.session.Run.{SystemState, IsStep}
 use Rattle.lfs_model.specs.crash.Failure.{FailsIn}
 use Rattle.lfs_model.specs.crash.PowerLoss.{SurvivesPowerLoss}
-use Rattle.lfs_model.specs.crash.ReadBounds.{IsLocal, BoundsAlways, unless_refusal}
+use Rattle.lfs_model.specs.crash.ReadBounds.{IsLocal, ReadsOnceAlways, accepted_operation}
 
 -- An operation that is applied or refused, after the operation before, if that was accepted.
 pub record IsSafeStep (before : Option Operation) (from : SystemState) (op : Operation) (reply : Reply) (to : SystemState) : Type 0 where
@@ -17,7 +17,7 @@ abbrev pub AreSafeSteps : Option Operation → SystemState → List Operation �
 AreSafeSteps before from [] [] to = from ≡ to
 AreSafeSteps before from [] (reply ∷ replies) to = ⊥
 AreSafeSteps before from (op ∷ operations) [] to = ⊥
-AreSafeSteps before from (op ∷ operations) (reply ∷ replies) to = (next : SystemState) × (IsSafeStep before from op reply next × AreSafeSteps (unless_refusal op reply) next operations replies to)
+AreSafeSteps before from (op ∷ operations) (reply ∷ replies) to = (next : SystemState) × (IsSafeStep before from op reply next × AreSafeSteps (accepted_operation op reply) next operations replies to)
 
 -- Some of the operations are performed, and the session fails in the next one, which survives stops, too.
 pub record FailsDuringRun (from : SystemState) (operations : List Operation) (to : SystemState) : Type 0 where
@@ -30,7 +30,7 @@ pub record FailsDuringRun (from : SystemState) (operations : List Operation) (to
   pub performed : AreSafeSteps None from done replies at
   pub fails : FailsIn at next to
   pub survives_loss : SurvivesPowerLoss at next to
-  pub few : BoundsAlways at next to
+  pub few : ReadsOnceAlways at next to
 
 -- the operations are all performed, or the run is cut short
 abbrev pub IsRun : SystemState → List Operation → SystemState → Type 0

@@ -6,7 +6,7 @@ use Rattle.lfs_model.specs.format.Thread.{Pair}
 use Rattle.lfs_model.specs.tree.Tree.{Tree}
 use Rattle.lfs_model.specs.tree.View.{IsAccepted}
 use Rattle.lfs_model.specs.tree.Profile.{IsWritable}
-use Rattle.lfs_model.specs.tree.Shown.{tree_on_disk}
+use Rattle.lfs_model.specs.tree.Shown.{disk_tree}
 use Rattle.lfs_model.specs.session.Operations.{Operation}
 use Rattle.lfs_model.specs.session.Session.{Session, DiskSummary}
 use Rattle.lfs_model.specs.session.Effects.{operation_result}
@@ -22,7 +22,7 @@ pub record HasEither (disk : Disk) (before after : Tree) : Type 0 where
   pub pairs : List Pair
   pub accepted : IsAccepted disk pairs
   pub writable : IsWritable disk pairs
-  pub tree : (tree_on_disk disk pairs ≡ before) ⊎ (tree_on_disk disk pairs ≡ after)
+  pub tree : (disk_tree disk pairs ≡ before) ⊎ (disk_tree disk pairs ≡ after)
 
 abbrev pub with_blocks : Blocks → Disk → Disk
 with_blocks blocks disk = record disk { blocks = blocks }

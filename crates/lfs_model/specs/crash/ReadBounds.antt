@@ -7,7 +7,7 @@ use Rattle.lfs_model.specs.session.History.{CallEvent, read_count}
 use Rattle.lfs_model.specs.session.Operations.{Operation, Reply}
 use Rattle.lfs_model.specs.session.Session.{Session}
 use Rattle.lfs_model.specs.session.State.{Healthy}
-use Rattle.lfs_model.specs.crash.Frame.{LeavesOthers, answers_itself, BoundsReads, SearchesAgain}
+use Rattle.lfs_model.specs.crash.Frame.{LeavesOthers, answers_itself, ReadsEachOnce, SearchesAgain}
 use Rattle.lfs_model.specs.session.Run.{SystemState, is_refusal}
 
 -- the operation read nothing, if the one before was a look-up in the same directories
@@ -20,12 +20,12 @@ pub record IsLocal (before : Option Operation) (from : SystemState) (op : Operat
   pub alone : (s : Session) → from.state ≡ Healthy s → (ps qs : List Pair) → IsAccepted from.disk ps → IsAccepted to.disk qs → pairs_gstate ps ≡ zero_gstate
       → LeavesOthers from.disk ps s op to.disk qs
   pub asked : answers_itself op ≡ true → calls ≡ []
-  pub few : (s : Session) → from.state ≡ Healthy s → (ps : List Pair) → IsAccepted from.disk ps → BoundsReads ps op calls
+  pub few : (s : Session) → from.state ≡ Healthy s → (ps : List Pair) → IsAccepted from.disk ps → ReadsEachOnce ps op calls
   pub kept : (s : Session) → from.state ≡ Healthy s → (ps : List Pair) → IsAccepted from.disk ps → ReadsNothing ps before op calls
 
 -- by any of its calls a look-up reads no more pairs than its directories have, also where it meets an error
-abbrev pub BoundsAlways : SystemState → Operation → SystemState → Type 0
-BoundsAlways from op to = (s : Session) → from.state ≡ Healthy s → (ps : List Pair) → IsAccepted from.disk ps → (calls : List CallEvent) → to.calls ≡ calls ++ from.calls → BoundsReads ps op calls
+abbrev pub ReadsOnceAlways : SystemState → Operation → SystemState → Type 0
+ReadsOnceAlways from op to = (s : Session) → from.state ≡ Healthy s → (ps : List Pair) → IsAccepted from.disk ps → (calls : List CallEvent) → to.calls ≡ calls ++ from.calls → ReadsEachOnce ps op calls
 
-abbrev pub unless_refusal : Operation → Reply → Option Operation
-unless_refusal op reply = if is_refusal reply then None else Some op
+abbrev pub accepted_operation : Operation → Reply → Option Operation
+accepted_operation op reply = if is_refusal reply then None else Some op

@@ -8,7 +8,7 @@ use Rattle.lfs_model.specs.format.Thread.{Pair}
 use Rattle.lfs_model.specs.tree.Tree.{Tree}
 use Rattle.lfs_model.specs.tree.View.{IsAccepted}
 use Rattle.lfs_model.specs.tree.Profile.{IsWritable, IsWritableDisk}
-use Rattle.lfs_model.specs.tree.Shown.{tree_on_disk}
+use Rattle.lfs_model.specs.tree.Shown.{disk_tree}
 use Rattle.lfs_model.specs.session.History.{CallEvent, AllCallsSince}
 use Rattle.lfs_model.specs.crash.Stops.{LeftByLoss, ErasesCleanly}
 use Rattle.lfs_model.specs.session.Operations as ops
@@ -20,7 +20,7 @@ use Rattle.lfs_model.specs.session.Recovery.{IsRecovered}
 use Rattle.lfs_model.specs.session.Run.{SystemState, ShowsTree, IsStep}
 use Rattle.lfs_model.specs.session.Headline.{HasDiskTree}
 use Rattle.lfs_model.specs.crash.Performed.{AreSafeSteps, IsRun}
-use Rattle.lfs_model.specs.crash.ReadBounds.{unless_refusal}
+use Rattle.lfs_model.specs.crash.ReadBounds.{accepted_operation}
 use Rattle.lfs_model.specs.crash.PowerLoss.{with_blocks, FailsLikeLoss, IsHealthySession}
 
 -- ---- a mount and a recovery
@@ -43,14 +43,14 @@ pub record RecoversTree (tree : Tree) (reply : Reply) (disk : Disk) : Type 0 whe
   pub accepted : IsAccepted disk pairs
   pub writable : IsWritable disk pairs
   pub recovered : IsRecovered pairs
-  pub kept : tree_on_disk disk pairs ≡ tree
+  pub kept : disk_tree disk pairs ≡ tree
 
 -- The disk is accepted and in the writing profile, and has that tree. A session that mounts it has the tree, and a recovery keeps it.
 pub record KeepsTree (tree : Tree) (disk : Disk) : Type 0 where
   pub pairs : List Pair
   pub accepted : IsAccepted disk pairs
   pub writable : IsWritable disk pairs
-  pub shows : tree_on_disk disk pairs ≡ tree
+  pub shows : disk_tree disk pairs ≡ tree
   pub mounts : (other : Disk) (begin : SystemState) → SameBytes disk other → IsMounted other begin → begin.state ≡ Healthy (mounted_session tree)
   pub recovers : (other : Disk) (begin to : SystemState) (reply : Reply) → SameBytes disk other → IsMounted other begin → IsStep begin ops.Recover reply to
       → RecoversTree tree reply to.disk
@@ -92,7 +92,7 @@ abbrev pub LossInOperations : (before : Option Operation) (from : SystemState) (
 LossInOperations before from [] replies to steps left tree AtEnd = AtEnd
 LossInOperations before from (op ∷ operations) [] to steps left tree AtEnd = ⊥
 LossInOperations before from (op ∷ operations) (reply ∷ replies) to (next, (one, others)) left tree AtEnd =
-    LossInOperation from op next left tree ⊎ LossInOperations (unless_refusal op reply) next operations replies to others left tree AtEnd
+    LossInOperation from op next left tree ⊎ LossInOperations (accepted_operation op reply) next operations replies to others left tree AtEnd
 
 -- Power was lost in one of the operations of this run, or after all of them. An error may have ended the last operation.
 abbrev pub LossInRun : (from : SystemState) (operations : List Operation) (to : SystemState) → IsRun from operations to → Disk → Tree → Type 0

@@ -40,8 +40,8 @@ abbrev pub failed_blank : CallEvent
 failed_blank = call_event (Blank 1 2 2) example_after_program example_after_program true
 
 -- calls that don't conform: a program that left nothing, and an erase of another block
-abbrev pub vain_program_event : CallEvent
-vain_program_event = call_event (Program 0 0 (9 ∷ 9 ∷ [])) example_after_erase example_after_erase false
+abbrev pub lost_program : CallEvent
+lost_program = call_event (Program 0 0 (9 ∷ 9 ∷ [])) example_after_erase example_after_erase false
 
-abbrev pub other_erase_event : CallEvent
-other_erase_event = call_event (Erase 1) example_before_erase example_after_erase false
+abbrev pub other_erase : CallEvent
+other_erase = call_event (Erase 1) example_before_erase example_after_erase false

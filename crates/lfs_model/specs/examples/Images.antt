@@ -16,7 +16,7 @@ use Rattle.lfs_model.specs.tree.Tree.{Path, Node, FileNode, DirectoryNode, Tree}
 use Rattle.lfs_model.specs.session.TreeEdits.{same_path}
 use Rattle.lfs_model.specs.tree.View.{DiskView, IsAccepted, superblock_entry}
 use Rattle.lfs_model.specs.tree.Profile.{IsWritable}
-use Rattle.lfs_model.specs.layers.WrittenContent.{log_entry_of}
+use Rattle.lfs_model.specs.layers.WrittenContent.{log_entry}
 use Rattle.lfs_model.specs.layers.Changes.{PairChange, Create, Delete, PutStruct, PutAttribute}
 use Rattle.lfs_model.specs.format.Names.{Name}
 use Rattle.lfs_model.specs.tree.Fresh.{superblock_bytes}
@@ -30,8 +30,8 @@ abbrev pub nodes_view : List (Path × Node) → Gstate → List ℕ → DiskView
 nodes_view nodes gstate used = record { tree = tree_of_nodes nodes; gstate = gstate; used = used }
 
 -- file `a` with `hello`, and directory `d` with an empty file `x`
-abbrev pub small_tree_nodes : List (Path × Node)
-small_tree_nodes =
+abbrev pub small_nodes : List (Path × Node)
+small_nodes =
     ([], DirectoryNode [] (codes "a" ∷ codes "d" ∷ []))
     ∷ (codes "a" ∷ [], FileNode [] (codes "hello"))
     ∷ (codes "d" ∷ [], DirectoryNode [] (codes "x" ∷ []))
@@ -64,14 +64,14 @@ small_commit =
     0x1c ∷ 0x06 ∷ 0xb9 ∷ 0x35 ∷  -- the checksum
     unwritten_bytes 76  -- padding to the page
 
-abbrev pub small_disk_beginning : List ℕ → Disk
-small_disk_beginning block = record { block_size = 1024; page = 128; order = ShorterFirst; profile = default_profile; blocks = block ∷ unwritten_bytes 1024 ∷ [] }
+abbrev pub small_disk_with : List ℕ → Disk
+small_disk_with block = record { block_size = 1024; page = 128; order = ShorterFirst; profile = default_profile; blocks = block ∷ unwritten_bytes 1024 ∷ [] }
 
 abbrev pub small_block : List ℕ
 small_block = block_padded 1024 small_commit
 
 abbrev pub small_image : Disk
-small_image = small_disk_beginning small_block
+small_image = small_disk_with small_block
 
 -- 16 blocks of 4,096 bytes with pages of 256
 abbrev pub large_commit : List ℕ
@@ -106,7 +106,7 @@ appending_commit =
     0x6a ∷ 0xa8 ∷ 0x34 ∷ 0x70 ∷ unwritten_bytes 107
 
 abbrev pub two_commit_image : Disk
-two_commit_image = small_disk_beginning (block_padded 1024 (small_commit ++ appending_commit))
+two_commit_image = small_disk_with (block_padded 1024 (small_commit ++ appending_commit))
 
 -- bit k of the checksum is inverted
 abbrev pub bad_checksum_block : ℕ → List ℕ
@@ -189,8 +189,8 @@ abbrev pub blocks_image : List ℕ → Blocks → Disk
 blocks_image root blocks = large_disk_with (root ∷ unwritten_bytes 4096 ∷ blocks)
 
 -- the fresh image cut or lengthened to so many blocks
-abbrev pub resized_fresh_image : ℕ → Disk
-resized_fresh_image count = record { block_size = 4096; page = 256; order = ShorterFirst; profile = default_profile; blocks = block_padded 4096 large_commit ∷ replicate (count - 1) (unwritten_bytes 4096) }
+abbrev pub resized_image : ℕ → Disk
+resized_image count = record { block_size = 4096; page = 256; order = ShorterFirst; profile = default_profile; blocks = block_padded 4096 large_commit ∷ replicate (count - 1) (unwritten_bytes 4096) }
 
 -- the same disk, where these versions are accepted
 abbrev pub disk_with_versions : AcceptedVersions → Disk → Disk
@@ -201,7 +201,7 @@ abbrev pub struct_bytes_with : ℕ → ℕ → ℕ → List ℕ
 struct_bytes_with version block_size name_limit = flat_map (little_bytes 4) (version ∷ block_size ∷ 16 ∷ name_limit ∷ size_limit ∷ 1022 ∷ [])
 
 abbrev pub superblock_entries_with : List ℕ → List LogEntry
-superblock_entries_with struct = superblock_entry ∷ log_entry_of inline_type 0 struct ∷ []
+superblock_entries_with struct = superblock_entry ∷ log_entry inline_type 0 struct ∷ []
 
 abbrev pub root_struct_block : List ℕ → ℕ → List ℕ
 root_struct_block struct number = metadata_bytes 4096 1 (superblock_entries_with struct ++ checksum_entry number 204 ∷ [])

@@ -7,7 +7,7 @@ use Rattle.lfs_model.specs.tree.Fresh.{superblock_bytes}
 use Rattle.lfs_model.specs.layers.ProfileBreaches.{BreaksProfile}
 use Rattle.lfs_model.specs.format.Thread.{Pair}
 use Rattle.lfs_model.specs.tree.View.{IsAccepted, superblock_entry}
-use Rattle.lfs_model.specs.layers.WrittenContent.{log_entry_of, tail_entry}
+use Rattle.lfs_model.specs.layers.WrittenContent.{log_entry, tail_entry}
 use Rattle.lfs_model.specs.declared.breaches.ProfileBreach.{ProfileBreach}
 use Rattle.lfs_model.specs.examples.Images.{blocks_image, pair_block_with, root_block_with, root_struct_block, struct_bytes_with}
 
@@ -17,8 +17,8 @@ use Rattle.lfs_model.specs.examples.Images.{blocks_image, pair_block_with, root_
 abbrev pub absent_block_image : Disk
 absent_block_image = blocks_image (root_block_with (tail_entry false (Some (2, 16)) ∷ []) 0x45f64334 192) (pair_block_with [] 0x43f29ceb 244 ∷ [])
 
-abbrev pub one_block_image : Disk
-one_block_image = blocks_image (root_block_with (tail_entry false (Some (2, 2)) ∷ []) 0x7b687562 192) (pair_block_with [] 0x43f29ceb 244 ∷ [])
+abbrev pub same_blocks_image : Disk
+same_blocks_image = blocks_image (root_block_with (tail_entry false (Some (2, 2)) ∷ []) 0x7b687562 192) (pair_block_with [] 0x43f29ceb 244 ∷ [])
 
 -- the root's tail names the root
 abbrev pub root_again_image : Disk
@@ -36,7 +36,7 @@ no_superblock_image = blocks_image (pair_block_with [] 0x43f29ceb 244) []
 
 -- the log begins with a create entry
 abbrev pub create_first_image : Disk
-create_first_image = blocks_image (pair_block_with (log_entry_of create_tag_type 0 [] ∷ superblock_entry ∷ log_entry_of inline_type 0 (superblock_bytes default_profile 4096 16) ∷ []) 0x914ab51c 200) []
+create_first_image = blocks_image (pair_block_with (log_entry create_tag_type 0 [] ∷ superblock_entry ∷ log_entry inline_type 0 (superblock_bytes default_profile 4096 16) ∷ []) 0x914ab51c 200) []
 
 -- the superblock gives version 2.1
 abbrev pub later_version_image : Disk
@@ -105,4 +105,4 @@ empty_pair_image = blocks_image (root_block_with (tail_entry true (Some (2, 3)) 
 
 -- the attributes of "a" have 1,422 bytes
 abbrev pub large_entry_image : Disk
-large_entry_image = blocks_image (root_block_with (inline_entries 1 (codes "a") [] ++ log_entry_of 0x341 1 (replicate 1022 1) ∷ log_entry_of 0x342 1 (replicate 400 1) ∷ []) 0xf45b3dfa 45) []
+large_entry_image = blocks_image (root_block_with (inline_entries 1 (codes "a") [] ++ log_entry 0x341 1 (replicate 1022 1) ∷ log_entry 0x342 1 (replicate 400 1) ∷ []) 0xf45b3dfa 45) []

@@ -32,8 +32,8 @@ abbrev pub changed_at : (RawSlot → RawSlot) → List RawSlot → ℕ → List 
 changed_at f slots id = slice_set slots id (f (slot_of_id slots id))
 
 -- the slots, with empty ones up to an id
-abbrev pub slots_padded_to : List RawSlot → ℕ → List RawSlot
-slots_padded_to slots id = slots ++ replicate (id + 1 - length slots) empty_slot
+abbrev pub padded_slots : List RawSlot → ℕ → List RawSlot
+padded_slots slots id = slots ++ replicate (id + 1 - length slots) empty_slot
 
 -- attributes by ascending type
 abbrev pub attributes_without : ℕ → Attributes → Attributes
@@ -58,7 +58,7 @@ type_and_bytes e = Some (tag_type e.tag, e.bytes)
 -- the slots after an entry of a class below 5, or none where the entry isn't allowed there
 abbrev pub slots_after : List RawSlot → LogEntry → Option (List RawSlot)
 slots_after slots e =
-    if abstract_type e.tag == 0 then Some (changed_at (λ s. record s { name = type_and_bytes e }) (slots_padded_to slots (tag_id e.tag)) (tag_id e.tag))
+    if abstract_type e.tag == 0 then Some (changed_at (λ s. record s { name = type_and_bytes e }) (padded_slots slots (tag_id e.tag)) (tag_id e.tag))
     else (if tag_type e.tag == create_tag_type then (if nat_le (tag_id e.tag) (length slots) then Some (insert slots (tag_id e.tag) empty_slot) else None)
     else (if tag_type e.tag == delete_tag_type then (if nat_lt (tag_id e.tag) (length slots) then Some (remove slots (tag_id e.tag)) else None)
     else (if not (is_some (slot_of_id slots (tag_id e.tag)).name) then None

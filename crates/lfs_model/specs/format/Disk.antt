@@ -7,7 +7,7 @@ use Rattle.lfs_model.specs.declared.limits.AcceptedVersions.TheVariants.{OnlyTwo
 use Rattle.lfs_model.specs.declared.limits.Profile.{Profile}
 use Rattle.lfs_model.specs.format.Geometry.{IsValidGeometry}
 use Rattle.lfs_model.specs.format.Names.{name_limit}
-use Rattle.lfs_model.specs.format.Tag.{tag_data_limit}
+use Rattle.lfs_model.specs.format.Tag.{data_limit}
 
 pub record Disk : Type 0 where
   pub block_size : ℕ
@@ -41,7 +41,7 @@ pub record SameGeometry (disk new : Disk) : Type 0 where
   pub count : block_count new ≡ block_count disk
 
 -- An image of a device: its bytes, a whole number of blocks.
-pub record IsWhole (block_size page : ℕ) (bytes : List ℕ) : Type 0 where
+pub record IsWholeImage (block_size page : ℕ) (bytes : List ℕ) : Type 0 where
   pub geometry : IsValidGeometry block_size page (length bytes / block_size)
   pub whole : length bytes % block_size ≡ 0
 
@@ -51,7 +51,7 @@ disk_of_image block_size page profile order bytes = record { block_size = block_
 
 -- The size of the largest file that is kept inline, in bytes: an eighth of a block, and no more than the profile has.
 abbrev pub inline_limit : Profile → ℕ → ℕ
-inline_limit profile block_size = min profile.inline_max (min (block_size / 8) tag_data_limit)
+inline_limit profile block_size = min profile.inline_max (min (block_size / 8) data_limit)
 
 -- the most bytes of a struct: of inline contents, or 8 of two addresses
 abbrev pub longest_struct : Profile → ℕ → ℕ
@@ -101,4 +101,4 @@ pub record AreValidLimits (profile : Profile) : Type 0 where
   pub some_attr : 1 ≤ profile.attr_max
   pub attr : profile.attr_max ≤ attribute_limit
   pub some_inline : 1 ≤ profile.inline_max
-  pub inline : profile.inline_max ≤ tag_data_limit
+  pub inline : profile.inline_max ≤ data_limit

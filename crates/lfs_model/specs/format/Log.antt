@@ -3,7 +3,7 @@ use Rattle.std.specs.Prelude.{◌≡◌, ℕ, zero, suc, ◌+◌, ◌-◌, ◌^�
 use Rattle.std.specs.Option.{option_map, option_map_or, option_and_then}
 use Rattle.std.specs.List.{flat_map}
 use Rattle.byteorder.specs.Endian.{big_number, little_number}
-use Rattle.lfs_model.specs.format.Tag.{tag_type, tag_length, tag_data_size, is_commit_end, tag_before_next, tag_data_limit}
+use Rattle.lfs_model.specs.format.Tag.{tag_type, tag_length, tag_data_size, is_commit_end, tag_before_next, data_limit}
 use Rattle.lfs_model.specs.format.Crc.{crc_of}
 
 -- a tag and its bytes
@@ -32,7 +32,7 @@ is_checksum_entry e = is_commit_end e.tag
 -- the checksum entry at an offset ends the commit that begins at `start`
 unfoldable pub closes : List ℕ → ℕ → ℕ → LogEntry → Bool
 closes block start at e =
-    (tag_type e.tag == 0x500 || tag_type e.tag == 0x501) && (nat_le 4 (tag_length e.tag) && (nat_le (tag_length e.tag) tag_data_limit
+    (tag_type e.tag == 0x500 || tag_type e.tag == 0x501) && (nat_le 4 (tag_length e.tag) && (nat_le (tag_length e.tag) data_limit
     && (little_number 4 e.bytes == crc_of 0xffffffff (slice_range block start (at + 4)))))
 
 -- ---- in relations

@@ -25,8 +25,8 @@ abbrev pub removal_length : ℕ
 removal_length = 0x3ff
 
 -- the most bytes that may follow a tag
-abbrev pub tag_data_limit : ℕ
-tag_data_limit = 1022
+abbrev pub data_limit : ℕ
+data_limit = 1022
 
 -- how many bytes follow the tag
 abbrev pub tag_data_size : ℕ → ℕ
@@ -42,7 +42,7 @@ forward_checksum_type = 0x5ff
 
 -- a forward checksum, of any length: an entry without meaning
 abbrev pub is_forward : ℕ → Bool
-is_forward tag = tag_type tag == forward_checksum_type && nat_le (tag_length tag) tag_data_limit
+is_forward tag = tag_type tag == forward_checksum_type && nat_le (tag_length tag) data_limit
 
 -- the tag ends a commit, or spoils it: any tag of class 5 but a forward checksum
 abbrev pub is_commit_end : ℕ → Bool

@@ -12,17 +12,17 @@ abbrev pub anchor_address : ℕ × ℕ
 anchor_address = (0, 1)
 
 -- the pair that a tail names
-abbrev pub tail_address_of : Option Tail → Option (ℕ × ℕ)
-tail_address_of None = None
-tail_address_of (Some t) = Some t.to
+abbrev pub tail_target : Option Tail → Option (ℕ × ℕ)
+tail_target None = None
+tail_target (Some t) = Some t.to
 
 -- the pairs from that address on, each tail naming the next, up to one that names none
 abbrev pub AreLinked : Option (ℕ × ℕ) → List Pair → Type 0
 AreLinked at [] = at ≡ None
-AreLinked at (p ∷ ps) = (at ≡ Some p.at) × AreLinked (tail_address_of p.content.tail) ps
+AreLinked at (p ∷ ps) = (at ≡ Some p.at) × AreLinked (tail_target p.content.tail) ps
 
-abbrev pub blocks_of_pairs : List Pair → List ℕ
-blocks_of_pairs ps = flat_map (λ p. p.at.0 ∷ p.at.1 ∷ []) ps
+abbrev pub pairs_blocks : List Pair → List ℕ
+pairs_blocks ps = flat_map (λ p. p.at.0 ∷ p.at.1 ∷ []) ps
 
 -- the two blocks of the pair at an address
 abbrev pub address_blocks : ℕ × ℕ → List ℕ
@@ -35,8 +35,8 @@ addresses_blocks one other = one.0 ∷ one.1 ∷ other.0 ∷ other.1 ∷ []
 pub record IsThread (content_of : ℕ × ℕ → Option PairContent) (block_count : ℕ) (ps : List Pair) : Type 0 where
   pub links : AreLinked (Some anchor_address) ps
   pub contents : All (λ p. content_of p.at ≡ Some p.content) ps
-  pub in_range : All (λ b. b < block_count) (blocks_of_pairs ps)
-  pub distinct : IsDistinct nat_eq (blocks_of_pairs ps)
+  pub in_range : All (λ b. b < block_count) (pairs_blocks ps)
+  pub distinct : IsDistinct nat_eq (pairs_blocks ps)
 
 abbrev pub pairs_gstate : List Pair → Gstate
 pairs_gstate ps = fold gstate_xor zero_gstate (map (λ p. p.content.move) ps)
@@ -72,23 +72,23 @@ abbrev pub may_continue : Pair → Bool
 may_continue p = has_no_entry p.content.slots && is_hard_tail p.content.tail
 
 -- slot 0 is a superblock, or there is no slot and `later` is true
-abbrev pub starts_or : List Slot → Bool → Bool
-starts_or [] later = later
-starts_or (s ∷ slots) later = is_superblock s
+abbrev pub starts_or_later : List Slot → Bool → Bool
+starts_or_later [] later = later
+starts_or_later (s ∷ slots) later = is_superblock s
 
 -- the first pair that has a slot begins with a superblock, and the pairs before it have hard tails
 abbrev pub has_superblock : List Pair → Bool
 has_superblock [] = false
-has_superblock (p ∷ ps) = starts_or p.content.slots (is_hard_tail p.content.tail && has_superblock ps)
+has_superblock (p ∷ ps) = starts_or_later p.content.slots (is_hard_tail p.content.tail && has_superblock ps)
 
 -- how many pairs are before the root directory
-abbrev pub pair_count_before_root : List Pair → ℕ
-pair_count_before_root [] = 0
-pair_count_before_root (p ∷ ps) = if has_superblock ps && may_continue p then 1 + pair_count_before_root ps else 0
+abbrev pub count_before_root : List Pair → ℕ
+count_before_root [] = 0
+count_before_root (p ∷ ps) = if has_superblock ps && may_continue p then 1 + count_before_root ps else 0
 
 -- the pairs of all directories, the root's first
 abbrev pub pairs_from_root : List Pair → List Pair
-pairs_from_root ps = drop (pair_count_before_root ps) ps
+pairs_from_root ps = drop (count_before_root ps) ps
 
 -- the pairs from the first one that has a slot on
 abbrev pub from_first_slots : List Pair → List Pair

@@ -5,7 +5,7 @@ use Rattle.lfs_model.specs.format.Log.{LogEntry}
 use Rattle.lfs_model.specs.layers.Commit.{encoded_entries}
 use Rattle.lfs_model.specs.format.Names.{Name}
 use Rattle.lfs_model.specs.format.EntryTypes.{file_name_type, directory_name_type, directory_type, inline_type, ctz_type, move_type, no_id}
-use Rattle.lfs_model.specs.layers.WrittenContent.{log_entry_of, address_bytes}
+use Rattle.lfs_model.specs.layers.WrittenContent.{log_entry, address_bytes}
 use Rattle.lfs_model.specs.tree.View.{superblock_entry}
 use Rattle.lfs_model.specs.declared.limits.Profile.{Profile}
 use Rattle.lfs_model.specs.tree.Fresh.{superblock_bytes}
@@ -22,24 +22,24 @@ block_padded size bytes = bytes ++ unwritten_bytes (size - length bytes)
 
 -- a slot's name and struct
 abbrev pub inline_entries : ℕ → Name → List ℕ → List LogEntry
-inline_entries id name bytes = log_entry_of file_name_type id name ∷ log_entry_of inline_type id bytes ∷ []
+inline_entries id name bytes = log_entry file_name_type id name ∷ log_entry inline_type id bytes ∷ []
 
 abbrev pub ctz_entries : ℕ → Name → ℕ → ℕ → List LogEntry
-ctz_entries id name head size = log_entry_of file_name_type id name ∷ log_entry_of ctz_type id (address_bytes (head, size)) ∷ []
+ctz_entries id name head size = log_entry file_name_type id name ∷ log_entry ctz_type id (address_bytes (head, size)) ∷ []
 
 abbrev pub directory_entries : ℕ → Name → ℕ × ℕ → List LogEntry
-directory_entries id name to = log_entry_of directory_name_type id name ∷ log_entry_of directory_type id (address_bytes to) ∷ []
+directory_entries id name to = log_entry directory_name_type id name ∷ log_entry directory_type id (address_bytes to) ∷ []
 
 abbrev pub superblock_entries : Profile → ℕ → ℕ → List LogEntry
-superblock_entries profile block_size block_count = superblock_entry ∷ log_entry_of inline_type 0 (superblock_bytes profile block_size block_count) ∷ []
+superblock_entries profile block_size block_count = superblock_entry ∷ log_entry inline_type 0 (superblock_bytes profile block_size block_count) ∷ []
 
 -- a move state by its first word
 abbrev pub move_state_entry : ℕ → ℕ × ℕ → LogEntry
-move_state_entry word pair = log_entry_of move_type no_id (little_bytes 4 word ++ address_bytes pair)
+move_state_entry word pair = log_entry move_type no_id (little_bytes 4 word ++ address_bytes pair)
 
 -- the checksum, and so many bytes of padding
 abbrev pub checksum_entry : ℕ → ℕ → LogEntry
-checksum_entry number padding = log_entry_of 0x500 no_id (little_bytes 4 number ++ unwritten_bytes padding)
+checksum_entry number padding = log_entry 0x500 no_id (little_bytes 4 number ++ unwritten_bytes padding)
 
 -- ---- in bytes
 

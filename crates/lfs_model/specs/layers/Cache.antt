@@ -13,9 +13,9 @@ abbrev pub cached_bytes : CachedBlocks → ℕ → Option (List ℕ)
 cached_bytes cache b = lookup (nat_eq b) cache
 
 -- all but this block, in their order
-abbrev pub cache_without_block : CachedBlocks → ℕ → CachedBlocks
-cache_without_block cache b = filter (λ e. not (nat_eq b e.0)) cache
+abbrev pub cache_without : CachedBlocks → ℕ → CachedBlocks
+cache_without cache b = filter (λ e. not (nat_eq b e.0)) cache
 
 -- this block with these bytes, followed by the others without it; the last one is dropped where there is one too many
-abbrev pub cache_with_block : CachedBlocks → ℕ → List ℕ → CachedBlocks
-cache_with_block cache b bytes = take cache_limit ((b, bytes) ∷ cache_without_block cache b)
+abbrev pub cache_with : CachedBlocks → ℕ → List ℕ → CachedBlocks
+cache_with cache b bytes = take cache_limit ((b, bytes) ∷ cache_without cache b)

@@ -2,11 +2,11 @@
 use Rattle.std.specs.Prelude.{ℕ, ◌+◌, ◌^◌, ◌&&◌, nat_le, nat_lt, if◌then◌else◌, Bool, List, [], ◌∷◌, length, Option, None}
 use Rattle.std.specs.List.{flat_map, list_all}
 use Rattle.lfs_model.specs.format.Slots.{Gstate}
-use Rattle.lfs_model.specs.format.Tag.{make_tag, tag_data_limit, removal_length}
+use Rattle.lfs_model.specs.format.Tag.{make_tag, data_limit, removal_length}
 use Rattle.lfs_model.specs.format.Log.{LogEntry}
 use Rattle.lfs_model.specs.format.Content.{RawContent, content_after}
 use Rattle.lfs_model.specs.format.EntryTypes.{create_tag_type, delete_tag_type, no_id}
-use Rattle.lfs_model.specs.layers.WrittenContent.{log_entry_of, lowest_type, tail_entry, move_entry, tail_or_null}
+use Rattle.lfs_model.specs.layers.WrittenContent.{log_entry, first_attribute_type, tail_entry, move_entry, tail_or_null}
 
 -- kind is the type of a name or of a struct, attribute the type of an attribute from 0 on
 pub data PairChange : Type 0 where
@@ -21,11 +21,11 @@ pub data PairChange : Type 0 where
   PutMove : (state : Gstate) → PairChange
 
 abbrev pub change_entries : PairChange → List LogEntry
-change_entries (Create id kind name) = log_entry_of create_tag_type id [] ∷ log_entry_of kind id name ∷ []
-change_entries (Delete id) = log_entry_of delete_tag_type id [] ∷ []
-change_entries (PutStruct id kind bytes) = log_entry_of kind id bytes ∷ []
-change_entries (PutAttribute id attribute bytes) = log_entry_of (lowest_type + attribute) id bytes ∷ []
-change_entries (RemoveAttribute id attribute) = record { tag = make_tag (lowest_type + attribute) id removal_length; bytes = [] } ∷ []
+change_entries (Create id kind name) = log_entry create_tag_type id [] ∷ log_entry kind id name ∷ []
+change_entries (Delete id) = log_entry delete_tag_type id [] ∷ []
+change_entries (PutStruct id kind bytes) = log_entry kind id bytes ∷ []
+change_entries (PutAttribute id attribute bytes) = log_entry (first_attribute_type + attribute) id bytes ∷ []
+change_entries (RemoveAttribute id attribute) = record { tag = make_tag (first_attribute_type + attribute) id removal_length; bytes = [] } ∷ []
 change_entries (PutTail hard pair) = tail_entry hard pair ∷ []
 change_entries (PutMove state) = move_entry state ∷ []
 
@@ -38,7 +38,7 @@ abbrev pub has_word_addresses : ℕ × ℕ → Bool
 has_word_addresses pair = nat_lt pair.0 (2 ^ 32) && nat_lt pair.1 (2 ^ 32)
 
 abbrev pub fits_in_tag : List ℕ → Bool
-fits_in_tag bytes = nat_le (length bytes) tag_data_limit
+fits_in_tag bytes = nat_le (length bytes) data_limit
 
 -- the type is a name's (class 0) or a struct's (class 2)
 abbrev pub is_name_type : ℕ → Bool

@@ -15,12 +15,12 @@ abbrev pub encoded_size : List LogEntry → ℕ
 encoded_size es = sum_by (λ e. 4 + length e.bytes) es
 
 -- where a commit ends whose checksum's tag is at `at`: on the next page boundary that leaves room for that tag and four bytes
-abbrev pub commit_end_aligned : ℕ → ℕ → ℕ
-commit_end_aligned page at = next_multiple_of (at + 8) page
+abbrev pub aligned_end : ℕ → ℕ → ℕ
+aligned_end page at = next_multiple_of (at + 8) page
 
 -- the four bytes of a block from an offset on, or none where there are fewer
-abbrev pub four_bytes : List ℕ → ℕ → Option (List ℕ)
-four_bytes block at = if nat_lt (length block) (at + 4) then None else Some (take 4 (drop at block))
+abbrev pub four_bytes_at : List ℕ → ℕ → Option (List ℕ)
+four_bytes_at block at = if nat_lt (length block) (at + 4) then None else Some (take 4 (drop at block))
 
 -- The type of the checksum before these bytes. They must decode as an invalid tag, and 0x501 inverts the top bit of that tag.
 abbrev pub checksum_type : Option (List ℕ) → ℕ

@@ -5,7 +5,7 @@ use Rattle.lfs_model.specs.format.Disk.{Disk}
 use Rattle.lfs_model.specs.format.Slots.{Struct}
 use Rattle.lfs_model.specs.format.Thread.{Pair}
 use Rattle.lfs_model.specs.tree.Tree.{Path}
-use Rattle.lfs_model.specs.tree.Shown.{tree_on_disk}
+use Rattle.lfs_model.specs.tree.Shown.{disk_tree}
 use Rattle.lfs_model.specs.session.TreeEdits.{same_path, without_prefix, is_file}
 use Rattle.lfs_model.specs.session.Operations as ops
 use Rattle.lfs_model.specs.session.Operations.{Operation}
@@ -35,4 +35,4 @@ struct_at ps path = option_map (λ u. u.struct) (slot_of ps path)
 
 -- Every file that the operation isn't about has the struct that it had; qs are the pairs after it.
 abbrev pub KeepsStructs : Disk → List Pair → Session → Operation → List Pair → Type 0
-KeepsStructs disk ps s op qs = (q : Path) → is_file (tree_on_disk disk ps q) ≡ true → takes_away op q ≡ false → may_store_at s op q ≡ false → struct_at qs q ≡ struct_at ps q
+KeepsStructs disk ps s op qs = (q : Path) → is_file (disk_tree disk ps q) ≡ true → takes_away op q ≡ false → may_store_at s op q ≡ false → struct_at qs q ≡ struct_at ps q

@@ -7,14 +7,14 @@ use Rattle.lfs_model.specs.format.Content.{RawSlot, RawContent}
 use Rattle.lfs_model.specs.format.EntryTypes.{is_known_tag, no_id}
 
 -- a name or a struct: a type of that class, with bytes of its length
-pub record IsAllowed (class : ℕ) (part : ℕ × List ℕ) : Type 0 where
+pub record IsAllowedPart (class : ℕ) (part : ℕ × List ℕ) : Type 0 where
   pub of_class : part.0 / 2 ^ 8 ≡ class
   pub short : length part.1 < removal_length
   pub in_table : is_known_tag (make_tag part.0 0 (length part.1)) ≡ true
 
 abbrev pub AllowsIfSome : ℕ → Option (ℕ × List ℕ) → Type 0
 AllowsIfSome class None = Unit {0}
-AllowsIfSome class (Some part) = IsAllowed class part
+AllowsIfSome class (Some part) = IsAllowedPart class part
 
 -- attributes by ascending type, from a type on
 abbrev pub AttributesInOrder : ℕ → Attributes → Type 0
@@ -22,14 +22,14 @@ AttributesInOrder low [] = Unit {0}
 AttributesInOrder low (a ∷ others) = (low ≤ a.0) × (a.0 < 2 ^ 8) × (length a.1 < removal_length) × AttributesInOrder (a.0 + 1) others
 
 -- a slot of any log
-pub record IsSlotWellFormed (s : RawSlot) : Type 0 where
+pub record IsFormedSlot (s : RawSlot) : Type 0 where
   pub name : AllowsIfSome 0 s.name
   pub struct : AllowsIfSome 2 s.struct
   pub attributes : AttributesInOrder 0 s.attributes
 
 abbrev pub AreWellFormed : List RawSlot → Type 0
 AreWellFormed [] = Unit {0}
-AreWellFormed (s ∷ slots) = IsSlotWellFormed s × AreWellFormed slots
+AreWellFormed (s ∷ slots) = IsFormedSlot s × AreWellFormed slots
 
 abbrev pub AreNamed : List RawSlot → Type 0
 AreNamed [] = Unit {0}

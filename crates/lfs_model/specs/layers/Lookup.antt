@@ -7,15 +7,15 @@ use Rattle.lfs_model.specs.format.Content.{RawSlot, slot_of_id, attribute_bytes}
 use Rattle.lfs_model.specs.format.EntryTypes.{superblock_name_type}
 
 -- the bytes of a name or a struct, where it has that type
-abbrev pub bytes_of_type : ℕ → Option (ℕ × List ℕ) → Option (List ℕ)
-bytes_of_type type None = None
-bytes_of_type type (Some part) = if part.0 == type then Some part.1 else None
+abbrev pub part_bytes : ℕ → Option (ℕ × List ℕ) → Option (List ℕ)
+part_bytes type None = None
+part_bytes type (Some part) = if part.0 == type then Some part.1 else None
 
 -- the bytes that a slot holds of a name's, a struct's or an attribute's type; a slot holds no other type
 abbrev pub slot_bytes : ℕ → RawSlot → Option (List ℕ)
 slot_bytes type s =
-    if type / 2 ^ 8 == 0 then bytes_of_type type s.name
-    else (if type / 2 ^ 8 == 2 then bytes_of_type type s.struct
+    if type / 2 ^ 8 == 0 then part_bytes type s.name
+    else (if type / 2 ^ 8 == 2 then part_bytes type s.struct
     else (if type / 2 ^ 8 == 3 then attribute_bytes (type % 2 ^ 8) s.attributes else None))
 
 abbrev pub bytes_at : List RawSlot → ℕ → ℕ → Option (List ℕ)

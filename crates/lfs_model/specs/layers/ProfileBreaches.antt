@@ -4,7 +4,7 @@ use Rattle.lfs_model.specs.format.Disk.{Disk, attr_max_of, charge_limit, file_ma
 use Rattle.lfs_model.specs.format.EntryTypes.{SuperblockFields, superblock_fields}
 use Rattle.lfs_model.specs.tree.Profile.{InlineBytesFit, IsWritable}
 use Rattle.lfs_model.specs.format.Slots.{Inline, FitsInPair, PairContent, Slot, entry_charge, is_superblock, array_address}
-use Rattle.lfs_model.specs.format.Thread.{Pair, is_hard_tail, pair_count_before_root}
+use Rattle.lfs_model.specs.format.Thread.{Pair, is_hard_tail, count_before_root}
 use Rattle.lfs_model.specs.layers.Violations.{IsSlotAt}
 use Rattle.lfs_model.specs.declared.breaches.OtherLimit.{OtherLimit}
 use Rattle.lfs_model.specs.declared.breaches.OtherLimit.TheVariants as limit
@@ -42,7 +42,7 @@ pub record IsEmptyPairAt (ps : List Pair) (at : ℕ × ℕ) : Type 0 where
   pub pair : Pair
   pub first : slice_get ps index ≡ Some before
   pub next : slice_get ps (index + 1) ≡ Some pair
-  pub root : pair_count_before_root ps ≤ index
+  pub root : count_before_root ps ≤ index
   pub hard : is_hard_tail before.content.tail ≡ true
   pub at_is : pair.at ≡ at
   pub empty : pair.content.slots ≡ []

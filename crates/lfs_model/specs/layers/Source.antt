@@ -24,12 +24,12 @@ source_names given = map (λ g. g.0) given
 -- ---- faults
 
 -- how often a name is given
-abbrev pub name_count : Name → List Name → ℕ
-name_count name names = sum_by (λ n. if same_name name n then 1 else 0) names
+abbrev pub name_occurrences : Name → List Name → ℕ
+name_occurrences name names = sum_by (λ n. if same_name name n then 1 else 0) names
 
 -- a name is given that is no component of a path, or a name is given twice
 abbrev pub HaveBadName : List Name → Type 0
-HaveBadName names = ((name : Name) × (is_component name ≡ false) × (1 ≤ name_count name names)) ⊎ ((name : Name) × (2 ≤ name_count name names))
+HaveBadName names = ((name : Name) × (is_component name ≡ false) × (1 ≤ name_occurrences name names)) ⊎ ((name : Name) × (2 ≤ name_occurrences name names))
 
 -- ---- trees
 
@@ -38,8 +38,8 @@ pub data SourceNode : Type 0 where
   AFolder : (names : List Name) → SourceNode
 
 -- whether a name is a folder's, where it is given
-abbrev pub is_some_folder : Name → List (Name × Bool) → Option Bool
-is_some_folder name given = option_map (λ g. g.1) (find (λ g. same_name name g.0) given)
+abbrev pub is_named_folder : Name → List (Name × Bool) → Option Bool
+is_named_folder name given = option_map (λ g. g.1) (find (λ g. same_name name g.0) given)
 
 -- a file has nothing beneath it
 abbrev pub file_at_end : TreeSource → List ℕ → Path → Option SourceNode
@@ -50,7 +50,7 @@ file_at_end s path (name ∷ rest) = None
 abbrev pub node_at : TreeSource → List ℕ → Path → Option SourceNode
 node_at s folder [] = Some (AFolder (source_names (s.names folder)))
 node_at s folder (name ∷ rest) =
-    option_and_then (λ is_folder. if is_folder then node_at s (path_in_folder folder name) rest else file_at_end s (path_in_folder folder name) rest) (is_some_folder name (s.names folder))
+    option_and_then (λ is_folder. if is_folder then node_at s (path_in_folder folder name) rest else file_at_end s (path_in_folder folder name) rest) (is_named_folder name (s.names folder))
 
 -- A tree has this node at a path. A directory has the folder's names in order.
 abbrev pub IsSourceNode : Option SourceNode → Option Node → Type 0

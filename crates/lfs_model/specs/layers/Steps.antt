@@ -6,7 +6,7 @@ use Rattle.lfs_model.specs.format.Slots.{Slot, Struct, Attributes, Gstate, zero_
 use Rattle.lfs_model.specs.format.Thread.{Pair, ThreadDirectory, is_hard_tail, root_address}
 use Rattle.lfs_model.specs.tree.Tree.{Path, Tree, FileNode, branch_address, address_at_path}
 use Rattle.lfs_model.specs.session.TreeEdits.{tree_with_subtree}
-use Rattle.lfs_model.specs.tree.Shown.{all_entries, struct_blocks, tree_on_disk}
+use Rattle.lfs_model.specs.tree.Shown.{all_entries, struct_blocks, disk_tree}
 use Rattle.lfs_model.specs.tree.View.{IsAccepted}
 use Rattle.lfs_model.specs.tree.Profile.{IsWritable}
 use Rattle.lfs_model.specs.session.Operations.{Operation}
@@ -20,14 +20,14 @@ use Rattle.lfs_model.specs.layers.Keeping.{KeepsStructs}
 -- ---- lists
 
 -- how often a number is in a list
-abbrev pub number_count : ℕ → List ℕ → ℕ
-number_count b [] = 0
-number_count b (x ∷ xs) = cond (nat_eq b x) 1 0 + number_count b xs
+abbrev pub number_occurrences : ℕ → List ℕ → ℕ
+number_occurrences b [] = 0
+number_occurrences b (x ∷ xs) = cond (nat_eq b x) 1 0 + number_occurrences b xs
 
 -- one of the elements has the property
-abbrev pub HoldsOfSome : {X : Type 0} → (X → Type 0) → List X → Type 0
-HoldsOfSome P [] = ⊥
-HoldsOfSome P (x ∷ xs) = P x ⊎ HoldsOfSome P xs
+abbrev pub AnyByRecursion : {X : Type 0} → (X → Type 0) → List X → Type 0
+AnyByRecursion P [] = ⊥
+AnyByRecursion P (x ∷ xs) = P x ⊎ AnyByRecursion P xs
 
 -- ---- pairs and files
 
@@ -44,8 +44,8 @@ SameSlots (p ∷ ps) [] = ⊥
 SameSlots (p ∷ ps) (q ∷ qs) = (q.at ≡ p.at) × (q.content.slots ≡ p.content.slots) × SameSlots ps qs
 
 -- where directories begin
-abbrev pub first_pair_addresses : List ThreadDirectory → List (ℕ × ℕ)
-first_pair_addresses ds = map (λ d. d.at) ds
+abbrev pub directory_addresses : List ThreadDirectory → List (ℕ × ℕ)
+directory_addresses ds = map (λ d. d.at) ds
 
 -- the blocks of the files that slots name
 abbrev pub file_blocks : Disk → List Slot → List ℕ
@@ -92,7 +92,7 @@ KeepsStruct was now = (u : Slot) → was ≡ Some u → branch_address u.struct 
 pub record IsChangedImage (disk : Disk) (ps : List Pair) (new : Disk) (qs : List Pair) (change : Tree → Tree) (walk : PathAddresses → PathAddresses) : Type 0 where
   pub accepted : IsAccepted new qs
   pub root : root_address qs ≡ root_address ps
-  pub shows : tree_on_disk new qs ≡ change (tree_on_disk disk ps)
+  pub shows : disk_tree new qs ≡ change (disk_tree disk ps)
   pub leads : address_at_path (all_entries qs) (root_address qs) ≡ walk (address_at_path (all_entries ps) (root_address ps))
   -- a file whose bytes are left has the same struct
   pub stays : (q : Path) → KeepsFileBytes change q → KeepsStruct (slot_of ps q) (slot_of qs q)
@@ -106,10 +106,10 @@ pub record IsWritableChange (disk : Disk) (ps : List Pair) (new : Disk) (qs : Li
 
 -- The new image is accepted, may be written, and has nothing to recover. It shows the tree that the operation leaves, and its
 -- slots are where they should be. Files that the operation isn't about keep their structs.
-pub record IsCompletion (disk : Disk) (ps : List Pair) (s : Session) (op : Operation) (new : Disk) (qs : List Pair) : Type 0 where
+pub record CompletesOperation (disk : Disk) (ps : List Pair) (s : Session) (op : Operation) (new : Disk) (qs : List Pair) : Type 0 where
   pub accepted : IsAccepted new qs
   pub writable : IsWritable new qs
   pub recovered : IsRecovered qs
-  pub tree : (around : DiskSummary) → tree_on_disk new qs ≡ (operation_effect around s op).1.tree
+  pub tree : (around : DiskSummary) → disk_tree new qs ≡ (operation_effect around s op).1.tree
   pub laid_out : IsLayout disk ps s op new qs
   pub structs : KeepsStructs disk ps s op qs

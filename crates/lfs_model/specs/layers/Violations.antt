@@ -6,9 +6,9 @@ use Rattle.lfs_model.specs.format.Disk.{Disk, block_count}
 use Rattle.lfs_model.specs.format.Names.{Name, name_cmp}
 use Rattle.lfs_model.specs.tree.Shown.{IsReachedBySome, LeadsTo, all_directories, all_entries, struct_blocks, used_blocks}
 use Rattle.lfs_model.specs.format.Slots.{Inline, Slot, is_superblock, array_address, same_pair}
-use Rattle.lfs_model.specs.format.Thread.{BeginsAt, IsThread, Pair, ThreadDirectory, anchor_address, blocks_of_pairs, first_address, pairs_gstate, moved_id, tail_address_of, pair_count_before_root, from_first_slots, pairs_from_root, starts_superblock}
+use Rattle.lfs_model.specs.format.Thread.{BeginsAt, IsThread, Pair, ThreadDirectory, anchor_address, pairs_blocks, first_address, pairs_gstate, moved_id, tail_target, count_before_root, from_first_slots, pairs_from_root, starts_superblock}
 use Rattle.lfs_model.specs.tree.Tree.{Path, names_at}
-use Rattle.lfs_model.specs.tree.View.{BeginsWith, HasStruct, HasValidMove, IsTreeEntry, IsWellFormedCtz, IsSuperblock, first_slots, superblock_entry}
+use Rattle.lfs_model.specs.tree.View.{BeginsWith, HasStruct, HasValidMove, IsTreeEntry, IsFormedList, IsSuperblock, first_pair_slots, superblock_entry}
 use Rattle.lfs_model.specs.declared.violations.Violation.{Violation}
 use Rattle.lfs_model.specs.declared.violations.Violation.TheVariants as violation
 
@@ -17,16 +17,16 @@ use Rattle.lfs_model.specs.declared.violations.Violation.TheVariants as violatio
 -- the pairs from an address on, each tail naming the next; the last one names `next`
 abbrev pub LeadsByTails : Option (ℕ × ℕ) → List Pair → Option (ℕ × ℕ) → Type 0
 LeadsByTails at [] next = at ≡ next
-LeadsByTails at (p ∷ ps) next = (at ≡ Some p.at) × LeadsByTails (tail_address_of p.content.tail) ps next
+LeadsByTails at (p ∷ ps) next = (at ≡ Some p.at) × LeadsByTails (tail_target p.content.tail) ps next
 
 -- these pairs are the thread's first ones, each with what it holds, and the thread goes on at an address
-pub record BeginsThread (disk : Disk) (ps : List Pair) (next : ℕ × ℕ) : Type 0 where
+pub record AreFirstPairs (disk : Disk) (ps : List Pair) (next : ℕ × ℕ) : Type 0 where
   pub links : LeadsByTails (Some anchor_address) ps (Some next)
   pub contents : All (λ p. content_at disk p.at ≡ Some p.content) ps
 
 -- the thread names a pair at the address
 abbrev pub IsNamed : Disk → ℕ × ℕ → Type 0
-IsNamed disk at = (ps : List Pair) × BeginsThread disk ps at
+IsNamed disk at = (ps : List Pair) × AreFirstPairs disk ps at
 
 abbrev pub IsInRange : Disk → ℕ × ℕ → Type 0
 IsInRange disk at = (at.0 < block_count disk) × (at.1 < block_count disk)
@@ -37,9 +37,9 @@ HasBlock at block = (at.0 ≡ block) ⊎ (at.1 ≡ block)
 -- the block is of the pair, and of one before it
 pub record IsInTwoPairs (disk : Disk) (at : ℕ × ℕ) (block : ℕ) : Type 0 where
   pub before : List Pair
-  pub begins : BeginsThread disk before at
+  pub begins : AreFirstPairs disk before at
   pub own : HasBlock at block
-  pub earlier : Contains (blocks_of_pairs before) block
+  pub earlier : Contains (pairs_blocks before) block
 
 -- ---- the superblock
 
@@ -57,7 +57,7 @@ first_filled_address ps = first_address (from_first_slots ps)
 
 -- slot 0 of the first pair that has a slot
 abbrev pub HasFirstSlot : List Pair → Slot → Type 0
-HasFirstSlot ps s = slice_get (first_slots (from_first_slots ps)) 0 ≡ Some s
+HasFirstSlot ps s = slice_get (first_pair_slots (from_first_slots ps)) 0 ≡ Some s
 
 -- a pair of the superblock's chain begins with another superblock than the first one
 pub record IsOtherSuperblock (disk : Disk) (ps : List Pair) (at : ℕ × ℕ) : Type 0 where
@@ -65,7 +65,7 @@ pub record IsOtherSuperblock (disk : Disk) (ps : List Pair) (at : ℕ × ℕ) : 
   pub pair : Pair
   pub there : slice_get ps index ≡ Some pair
   pub at_is : pair.at ≡ at
-  pub in_chain : index ≤ pair_count_before_root ps
+  pub in_chain : index ≤ count_before_root ps
   pub slot : Slot
   pub slot_is : slice_get pair.content.slots 0 ≡ Some slot
   pub first : Slot
@@ -88,7 +88,7 @@ pub record IsSlotAt (ps : List Pair) (at : ℕ × ℕ) (id : ℕ) (s : Slot) : T
 pub record IsNoEntryAt (ps : List Pair) (at : ℕ × ℕ) (id : ℕ) : Type 0 where
   pub slot : Slot
   pub is : IsSlotAt ps at id slot
-  pub behind : (pair_count_before_root ps < is.index) ⊎ (0 < id)
+  pub behind : (count_before_root ps < is.index) ⊎ (0 < id)
   pub refused : ¬ IsTreeEntry slot
 
 -- a slot that no set move names
@@ -165,7 +165,7 @@ BreaksThread disk _ = ⊥
 
 -- the pairs of the thread break a rule
 abbrev pub BreaksPairs : Disk → List Pair → Violation → Type 0
-BreaksPairs disk ps violation.NoSuperblock = starts_superblock (first_slots (pairs_from_root ps)) ≡ false
+BreaksPairs disk ps violation.NoSuperblock = starts_superblock (first_pair_slots (pairs_from_root ps)) ≡ false
 BreaksPairs disk ps (violation.FirstEntry pair) = (first_filled_address ps ≡ array_address pair) × ¬ BeginsWith (current_block disk (array_address pair)) superblock_entry
 BreaksPairs disk ps (violation.Superblock pair) = (first_filled_address ps ≡ array_address pair) × (s : Slot) × (HasFirstSlot ps s × ¬ IsDiskSuperblock disk s)
 BreaksPairs disk ps (violation.OtherSuperblock pair) = IsOtherSuperblock disk ps (array_address pair)
@@ -175,7 +175,7 @@ BreaksPairs disk ps (violation.Branch pair) = BranchIsLoose ps (array_address pa
 BreaksPairs disk ps (violation.TwoPaths pair) = IsReachedTwice ps (array_address pair)
 BreaksPairs disk ps (violation.NoPath pair) = NeverReached ps (array_address pair)
 BreaksPairs disk ps violation.Move = ¬ HasValidMove ps (pairs_gstate ps)
-BreaksPairs disk ps (violation.List pair slot) = (s : Slot) × (IsUnmovedAt ps (array_address pair) slot s × ¬ IsWellFormedCtz disk s.struct)
+BreaksPairs disk ps (violation.List pair slot) = (s : Slot) × (IsUnmovedAt ps (array_address pair) slot s × ¬ IsFormedList disk s.struct)
 BreaksPairs disk ps (violation.TwoOwners pair slot block) = IsUsedTwice disk ps (array_address pair) slot block
 BreaksPairs disk ps _ = ⊥
 

@@ -32,31 +32,31 @@ tail_or_null (Some pair) = pair
 -- ---- entries
 
 -- the entry of that type and id with these bytes
-abbrev pub log_entry_of : ℕ → ℕ → List ℕ → LogEntry
-log_entry_of type id bytes = record { tag = make_tag type id (length bytes); bytes = bytes }
+abbrev pub log_entry : ℕ → ℕ → List ℕ → LogEntry
+log_entry type id bytes = record { tag = make_tag type id (length bytes); bytes = bytes }
 
 -- the types of attributes begin here
-abbrev pub lowest_type : ℕ
-lowest_type = 0x300
+abbrev pub first_attribute_type : ℕ
+first_attribute_type = 0x300
 
 abbrev pub tail_type : Bool → ℕ
 tail_type hard = if hard then hard_tail_type else soft_tail_type
 
 abbrev pub tail_entry : Bool → Option (ℕ × ℕ) → LogEntry
-tail_entry hard pair = log_entry_of (tail_type hard) no_id (address_bytes (tail_or_null pair))
+tail_entry hard pair = log_entry (tail_type hard) no_id (address_bytes (tail_or_null pair))
 
 abbrev pub move_entry : Gstate → LogEntry
-move_entry g = log_entry_of move_type no_id (bytes_of_move_state g)
+move_entry g = log_entry move_type no_id (bytes_of_move_state g)
 
 -- ---- what a pair holds, written anew
 
 -- a name or a struct
 abbrev pub data_entries : ℕ → Option (ℕ × List ℕ) → List LogEntry
 data_entries id None = []
-data_entries id (Some part) = log_entry_of part.0 id part.1 ∷ []
+data_entries id (Some part) = log_entry part.0 id part.1 ∷ []
 
 abbrev pub attribute_entries : ℕ → Attributes → List LogEntry
-attribute_entries id attributes = map (λ a. log_entry_of (lowest_type + a.0) id a.1) attributes
+attribute_entries id attributes = map (λ a. log_entry (first_attribute_type + a.0) id a.1) attributes
 
 abbrev pub slot_entries : ℕ → RawSlot → List LogEntry
 slot_entries id s = data_entries id s.name ++ data_entries id s.struct ++ attribute_entries id s.attributes

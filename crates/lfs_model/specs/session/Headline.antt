@@ -6,7 +6,7 @@ use Rattle.lfs_model.specs.tree.Tree.{Tree}
 use Rattle.lfs_model.specs.session.TreeEdits.{file_bytes}
 use Rattle.lfs_model.specs.tree.View.{IsAccepted}
 use Rattle.lfs_model.specs.tree.Profile.{IsWritable, IsWritableDisk}
-use Rattle.lfs_model.specs.tree.Shown.{tree_on_disk}
+use Rattle.lfs_model.specs.tree.Shown.{disk_tree}
 use Rattle.lfs_model.specs.tree.Fresh.{IsFreshDisk, empty_tree}
 use Rattle.lfs_model.specs.session.Operations as ops
 use Rattle.lfs_model.specs.session.Operations.{Operation, Reply, BadFile}
@@ -69,7 +69,7 @@ pub record IsFreshReply (at : SystemState) (op : Operation) (reply : Reply) : Ty
   pub accepted : IsAccepted at.disk pairs
   pub around : DiskSummary
   pub surrounds : IsSummary at.disk pairs around
-  pub is : reply ≡ (operation_result around (mounted_session (tree_on_disk at.disk pairs)) op).0
+  pub is : reply ≡ (operation_result around (mounted_session (disk_tree at.disk pairs)) op).0
 
 -- the bytes that a reader returns from a tree's file, from its position
 abbrev pub reply_to_reader : Tree → Option FileReader → ℕ → Reply
@@ -82,7 +82,7 @@ pub record IsReaderReply (at : SystemState) (fd count : ℕ) (reply : Reply) : T
   pub accepted : IsAccepted at.disk pairs
   pub session : Session
   pub healthy : at.state ≡ Healthy session
-  pub is : reply ≡ reply_to_reader (tree_on_disk at.disk pairs) (file_reader (file_numbered session.files fd)) count
+  pub is : reply ≡ reply_to_reader (disk_tree at.disk pairs) (file_reader (file_numbered session.files fd)) count
 
 -- ---- runs over joined lists
 

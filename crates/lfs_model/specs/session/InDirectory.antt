@@ -50,8 +50,8 @@ abbrev pub HasHardTail : Pair → Type 0
 HasHardTail p = is_hard_tail p.content.tail ≡ true
 
 -- only the first pair of a directory may have a superblock
-abbrev pub AreEntryPairs : List Pair → Type 0
-AreEntryPairs ps = AllByRecursion (λ p. AllByRecursion (λ s. is_superblock s ≡ false) p.content.slots) ps
+abbrev pub HaveNoSuperblock : List Pair → Type 0
+HaveNoSuperblock ps = AllByRecursion (λ p. AllByRecursion (λ s. is_superblock s ≡ false) p.content.slots) ps
 
 -- how many pairs hard tails join to the first, with the first
 abbrev pub joined_count : List Pair → ℕ
@@ -68,7 +68,7 @@ last_joins p [] = is_hard_tail p.content.tail
 last_joins p (q ∷ qs) = last_joins q qs
 
 -- a pair of the directory that begins with the pair of number `first`, and the directory's pairs before it
-pub record IsPairOfDirectory (ps : List Pair) (first index : ℕ) (pair : Pair) (rest : List Pair) : Type 0 where
+pub record IsDirectoryPair (ps : List Pair) (first index : ℕ) (pair : Pair) (rest : List Pair) : Type 0 where
   pub front : List Pair
   pub left : List Pair
   pub parts : ps ≡ front ++ (left ++ pair ∷ rest)
@@ -86,7 +86,7 @@ pub record IsPairAt (ps : List Pair) (at : ℕ × ℕ) (first : ℕ) : Type 0 wh
 pub record IsPlaceOf (ps : List Pair) (first : ℕ) (name : Name) (index id : ℕ) : Type 0 where
   pub pair : Pair
   pub rest : List Pair
-  pub place : IsPairOfDirectory ps first index pair rest
+  pub place : IsDirectoryPair ps first index pair rest
   pub stands : HasName pair.content.slots name id
 
 -- The name belongs at this place. The pair is the directory's first or has an entry less than the name. After the place a greater
@@ -95,7 +95,7 @@ pub record BelongsAt (order : NameOrder) (ps : List Pair) (first : ℕ) (name : 
   pub pair : Pair
   pub later : List Pair
   pub rest : List Pair
-  pub place : IsPairOfDirectory ps first index pair (later ++ rest)
+  pub place : IsDirectoryPair ps first index pair (later ++ rest)
   pub runs : AreJoined pair later
   pub left : List Slot
   pub right : List Slot

@@ -4,7 +4,7 @@ use Rattle.std.specs.Prelude.{ℕ, zero, suc, ◌≡◌, ◌≢◌, ◌⊎◌, B
 use Rattle.std.specs.List.{flat_map}
 use Rattle.lfs_model.specs.format.Disk.{Disk}
 use Rattle.lfs_model.specs.format.Slots.{Slot, same_pair, FitsInPair}
-use Rattle.lfs_model.specs.format.Thread.{Pair, is_hard_tail, pair_count_before_root}
+use Rattle.lfs_model.specs.format.Thread.{Pair, is_hard_tail, count_before_root}
 use Rattle.lfs_model.specs.tree.Tree.{branch_address}
 use Rattle.lfs_model.specs.tree.Shown.{IsReachedBySome}
 use Rattle.lfs_model.specs.tree.View.{IsAccepted}
@@ -77,7 +77,7 @@ pub record IsLayout (disk : Disk) (ps : List Pair) (s : Session) (op : Operation
   pub fresh : List Pair
   pub back : List Pair
   pub edits : EditsSlots new ps s op fresh (pairs_without_moved ps) drafts
-  pub stand : ArePairsAfter disk (IsDirectoryGone ps op) (pair_count_before_root ps) None drafts parts
+  pub stand : ArePairsAfter disk (IsDirectoryGone ps op) (count_before_root ps) None drafts parts
   pub joined : flat_map (λ part. part) parts ≡ front ++ back
   pub is : qs ≡ front ++ (fresh ++ back)
 

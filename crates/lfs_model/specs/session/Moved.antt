@@ -5,7 +5,7 @@ use Rattle.lfs_model.specs.format.Disk.{Disk, SameGeometry, block_count}
 use Rattle.lfs_model.specs.format.Log.{block_revision}
 use Rattle.lfs_model.specs.format.Slots.{Slot, zero_gstate}
 use Rattle.lfs_model.specs.format.Content.{current_block}
-use Rattle.lfs_model.specs.format.Thread.{Pair, address_blocks, has_slots, is_hard_tail, pair_count_before_root}
+use Rattle.lfs_model.specs.format.Thread.{Pair, address_blocks, has_slots, is_hard_tail, count_before_root}
 use Rattle.lfs_model.specs.tree.Shown.{used_blocks}
 use Rattle.lfs_model.specs.tree.View.{IsAccepted}
 use Rattle.lfs_model.specs.session.History.{CallEvent}
@@ -78,7 +78,7 @@ pub record IsRootUnloaded (disk : Disk) (ps : List Pair) (new : Disk) (qs : List
   pub back : List Pair
   pub to : ℕ × ℕ
   pub was : ps ≡ worn ∷ back
-  pub root : pair_count_before_root ps ≡ 0
+  pub root : count_before_root ps ≡ 0
   pub is : qs ≡ pair_joined_to to (take 1 worn.content.slots) worn ∷ pair_behind to worn ∷ back
   pub unused : AreUnused disk ps to
   pub room : LeavesEighth new qs

@@ -6,8 +6,8 @@ use Rattle.lfs_model.specs.format.Content.{attribute_bytes, attributes_with}
 use Rattle.lfs_model.specs.tree.Tree.{Path}
 use Rattle.lfs_model.specs.session.Operations as ops
 use Rattle.lfs_model.specs.session.Operations.{Refusal, NoEnt, BadFile, Busy, Exist, NotDir, IsDir, Invalid, TooBig, NoSpace, ReadOnly, NameTooLong, NotEmpty, NoAttr, EntryFull, FlagsOfOpen, Operation, parse_path}
-use Rattle.lfs_model.specs.session.TreeEdits.{same_path, without_prefix, is_path_beneath, last_name, is_directory, is_file, node_attributes_of, file_bytes, directory_names}
-use Rattle.lfs_model.specs.session.Session.{Session, DiskSummary, FileWriter, file_numbered, file_reader, file_writer, has_file, all_readers, all_writers, refuse_if, first_refusal, parents_refusal, are_allowed, has_long_name, lacks_free, overfills_disk, is_over_charge}
+use Rattle.lfs_model.specs.session.TreeEdits.{same_path, without_prefix, is_beneath, last_name, is_directory, is_file, node_attributes_of, file_bytes, directory_names}
+use Rattle.lfs_model.specs.session.Session.{Session, DiskSummary, FileWriter, file_numbered, file_reader, file_writer, has_file, all_readers, all_writers, refuse_if, first_refusal, parents_refusal, are_allowed, has_long_name, lacks_free, overfills_disk, exceeds_charge}
 use Rattle.lfs_model.specs.session.Writers.{write_position, written_writer, truncated_writer, opened_writer}
 
 abbrev pub is_root_path : Path → Bool
@@ -34,7 +34,7 @@ open_refusal around s given p flags = first_refusal (
     ∷ refuse_if (if flags.write
     then nat_lt 0 (length (all_writers s.files)) || has_file (same_path p) s.files
     else list_any (λ w. same_path p w.path) (all_writers s.files) || nat_le 16 (length (all_readers s.files))) Busy
-    ∷ refuse_if (is_none (s.tree p) && is_over_charge around (last_name p) []) EntryFull
+    ∷ refuse_if (is_none (s.tree p) && exceeds_charge around (last_name p) []) EntryFull
     ∷ refuse_if (is_none (s.tree p) && lacks_free around s.files 2) NoSpace
     ∷ refuse_if (flags.truncate && overfills_disk around (opened_writer p flags (file_bytes (s.tree p)))) NoSpace
     ∷ [])
@@ -42,7 +42,7 @@ open_refusal around s given p flags = first_refusal (
 abbrev pub rename_refusal : DiskSummary → Session → Option Path → Option Path → Path → Path → Option Refusal
 rename_refusal around s given_old given_new old new = first_refusal (
     refuse_if (not around.writable) ReadOnly
-    ∷ refuse_if (is_unusable given_old || is_unusable given_new || is_path_beneath old new) Invalid
+    ∷ refuse_if (is_unusable given_old || is_unusable given_new || is_beneath old new) Invalid
     ∷ parents_refusal s.tree [] old
     ∷ parents_refusal s.tree [] new
     ∷ refuse_if (has_long_name around new) NameTooLong
@@ -51,7 +51,7 @@ rename_refusal around s given_old given_new old new = first_refusal (
     ∷ refuse_if (not (same_path old new) && is_file (s.tree old) && is_directory (s.tree new)) IsDir
     ∷ refuse_if (not (same_path old new) && nat_lt 0 (length (directory_names (s.tree new)))) NotEmpty
     ∷ refuse_if (has_file (λ p. is_some (without_prefix old p) || same_path new p) s.files) Busy
-    ∷ refuse_if (not (same_path old new) && is_over_charge around (last_name new) (node_attributes_of (s.tree old))) EntryFull
+    ∷ refuse_if (not (same_path old new) && exceeds_charge around (last_name new) (node_attributes_of (s.tree old))) EntryFull
     ∷ refuse_if (lacks_free around s.files 2) NoSpace
     ∷ [])
 
@@ -87,7 +87,7 @@ operation_refusal around s (ops.Mkdir path) = first_refusal (
     ∷ parents_refusal s.tree [] (path_or_root path)
     ∷ refuse_if (has_long_name around (path_or_root path)) NameTooLong
     ∷ refuse_if (is_some (s.tree (path_or_root path))) Exist
-    ∷ refuse_if (is_over_charge around (last_name (path_or_root path)) []) EntryFull
+    ∷ refuse_if (exceeds_charge around (last_name (path_or_root path)) []) EntryFull
     ∷ refuse_if (lacks_free around s.files 4) NoSpace
     ∷ [])
 operation_refusal around s (ops.Remove path) = first_refusal (
@@ -122,7 +122,7 @@ operation_refusal around s (ops.SetAttr path kind bytes) = first_refusal (
     ∷ parents_refusal s.tree [] (path_or_root path)
     ∷ refuse_if (is_none (s.tree (path_or_root path))) NoEnt
     ∷ refuse_if (nat_lt (attr_max_of around.profile) (length bytes)) TooBig
-    ∷ refuse_if (is_over_charge around (last_name (path_or_root path)) (attributes_with kind bytes (node_attributes_of (s.tree (path_or_root path))))) EntryFull
+    ∷ refuse_if (exceeds_charge around (last_name (path_or_root path)) (attributes_with kind bytes (node_attributes_of (s.tree (path_or_root path))))) EntryFull
     ∷ refuse_if (lacks_free around s.files 2) NoSpace
     ∷ [])
 operation_refusal around s (ops.RemoveAttr path kind) = first_refusal (

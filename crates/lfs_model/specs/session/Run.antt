@@ -9,7 +9,7 @@ use Rattle.lfs_model.specs.tree.Tree.{Tree}
 use Rattle.lfs_model.specs.session.TreeEdits.{same_path}
 use Rattle.lfs_model.specs.tree.View.{DiskView, HasDiskView, IsAccepted}
 use Rattle.lfs_model.specs.tree.Profile.{IsWritable}
-use Rattle.lfs_model.specs.tree.Shown.{tree_on_disk}
+use Rattle.lfs_model.specs.tree.Shown.{disk_tree}
 use Rattle.lfs_model.specs.session.History.{CallEvent, program_count, erase_count}
 use Rattle.lfs_model.specs.session.Operations as ops
 use Rattle.lfs_model.specs.session.Operations.{Operation, Reply}
@@ -28,7 +28,7 @@ pub record SystemState : Type 0 where
 -- what the disk shows: a tree, or none where it is accepted in neither order of names
 abbrev pub ShowsTree : Disk → Option Tree → Type 0
 ShowsTree disk None = (order : NameOrder) (ps : List Pair) → IsAccepted (ordered_disk order disk) ps → ⊥
-ShowsTree disk (Some tree) = (ps : List Pair) × (IsAccepted disk ps × (tree ≡ tree_on_disk disk ps))
+ShowsTree disk (Some tree) = (ps : List Pair) × (IsAccepted disk ps × (tree ≡ disk_tree disk ps))
 
 -- a healthy session has the disk's tree
 abbrev pub HealthyHasDiskTree : Disk → SessionHealth → Type 0

@@ -143,6 +143,6 @@ lacks_free around files n = nat_lt around.block_count (length around.used + rese
 abbrev pub overfills_disk : DiskSummary → FileWriter → Bool
 overfills_disk around w = nat_lt around.block_count (length around.used + reserved_for_writer around.profile around.block_size w)
 
-abbrev pub is_over_charge : DiskSummary → Name → Attributes → Bool
-is_over_charge around name attributes =
+abbrev pub exceeds_charge : DiskSummary → Name → Attributes → Bool
+exceeds_charge around name attributes =
     nat_lt (charge_limit around.block_size around.page) (entry_charge around.profile around.block_size name attributes)

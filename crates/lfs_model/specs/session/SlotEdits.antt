@@ -39,10 +39,10 @@ abbrev pub ReplacesSlot : (Slot → Slot → Type 0) → List Pair → Path → 
 ReplacesSlot P ps path old new = (u v : Slot) × ((slot_of ps path ≡ Some u) × P u v × ReplacesSlots (u ∷ []) (v ∷ []) old new)
 
 -- the struct gives these bytes: inline where they are at most the limit, else as a list
-abbrev pub StoresBytes : Disk → List ℕ → Struct → Type 0
-StoresBytes disk bytes (Inline own) = (own ≡ bytes) × (length bytes ≤ inline_limit disk.profile disk.block_size)
-StoresBytes disk bytes (Ctz head size) = (size ≡ length bytes) × (struct_list_bytes disk head size ≡ bytes) × (inline_limit disk.profile disk.block_size < length bytes)
-StoresBytes disk bytes (Branch to) = ⊥
+abbrev pub GivesBytes : Disk → List ℕ → Struct → Type 0
+GivesBytes disk bytes (Inline own) = (own ≡ bytes) × (length bytes ≤ inline_limit disk.profile disk.block_size)
+GivesBytes disk bytes (Ctz head size) = (size ≡ length bytes) × (struct_list_bytes disk head size ≡ bytes) × (inline_limit disk.profile disk.block_size < length bytes)
+GivesBytes disk bytes (Branch to) = ⊥
 
 abbrev pub file_slot : Name → Slot
 file_slot name = record { kind = File; name = name; struct = Inline []; attributes = [] }
@@ -76,7 +76,7 @@ abbrev pub StoresWriter : Disk → List Pair → Option OpenFile → List Pair �
 StoresWriter disk ps None old new = new ≡ old
 StoresWriter disk ps (Some (Reading r)) old new = new ≡ old
 StoresWriter disk ps (Some (Writing w)) old new = (w.dirty ≡ false × (new ≡ old))
-    ⊎ (w.dirty ≡ true × ReplacesSlot (λ u v. (v ≡ record u { struct = v.struct }) × StoresBytes disk w.contents v.struct) ps w.path old new)
+    ⊎ (w.dirty ≡ true × ReplacesSlot (λ u v. (v ≡ record u { struct = v.struct }) × GivesBytes disk w.contents v.struct) ps w.path old new)
 
 -- What the operation makes of the slots. The pairs before it are `ps`, the pair that it adds is `fresh`, and the disk after it is
 -- `disk`.

@@ -20,8 +20,8 @@ without_prefix [] q = Some q
 without_prefix (a ∷ p) [] = None
 without_prefix (a ∷ p) (b ∷ q) = if same_name a b then without_prefix p q else None
 
-abbrev pub is_path_beneath : Path → Path → Bool
-is_path_beneath p q = is_some (without_prefix p q) && not (same_path p q)
+abbrev pub is_beneath : Path → Path → Bool
+is_beneath p q = is_some (without_prefix p q) && not (same_path p q)
 
 abbrev pub parent_path : Path → Path
 parent_path p = take (length p - 1) p

@@ -6,11 +6,11 @@ use Rattle.lfs_model.specs.session.Session.{FileWriter}
 
 -- what a writer is after a call, when no check refuses it
 
-abbrev pub padded_with_zeros : ℕ → List ℕ → List ℕ
-padded_with_zeros n bytes = bytes ++ replicate (n - length bytes) 0
+abbrev pub zero_padded : ℕ → List ℕ → List ℕ
+zero_padded n bytes = bytes ++ replicate (n - length bytes) 0
 
 abbrev pub written_contents : List ℕ → ℕ → List ℕ → List ℕ
-written_contents old at bytes = take at (padded_with_zeros at old) ++ bytes ++ drop (at + length bytes) old
+written_contents old at bytes = take at (zero_padded at old) ++ bytes ++ drop (at + length bytes) old
 
 abbrev pub write_position : FileWriter → ℕ
 write_position w = if w.append then length w.contents else w.position
@@ -33,7 +33,7 @@ abbrev pub truncated_writer : FileWriter → ℕ → FileWriter
 truncated_writer w size =
     if size == length w.contents then w
     else record w {
-      contents = take size (padded_with_zeros size w.contents);
+      contents = take size (zero_padded size w.contents);
       dirty = true;
       turned = w.turned || is_some w.last_end;
       last_end = if nat_lt (length w.contents) size then Some size else w.last_end;

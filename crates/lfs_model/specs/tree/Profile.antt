@@ -7,7 +7,7 @@ use Rattle.lfs_model.specs.format.Names.{name_limit}
 use Rattle.lfs_model.specs.format.Slots.{Slot, Struct, Inline, Ctz, Branch, is_superblock, entry_charge, FitsInPair}
 use Rattle.lfs_model.specs.format.EntryTypes.{SuperblockFields, superblock_fields}
 use Rattle.lfs_model.specs.format.Thread.{Pair, is_hard_tail, pairs_from_root}
-use Rattle.lfs_model.specs.tree.View.{IsAccepted, first_slots}
+use Rattle.lfs_model.specs.tree.View.{IsAccepted, first_pair_slots}
 
 -- ---- the writing profile
 
@@ -51,7 +51,7 @@ struct_fields (Branch to) = None
 
 -- the superblock with which the root directory begins
 abbrev pub image_fields : List Pair → Option SuperblockFields
-image_fields ps = option_and_then (λ s. struct_fields s.struct) (slice_get (first_slots (pairs_from_root ps)) 0)
+image_fields ps = option_and_then (λ s. struct_fields s.struct) (slice_get (first_pair_slots (pairs_from_root ps)) 0)
 
 -- no limit is 0, or above what an image may have
 abbrev pub are_usable : SuperblockFields → Bool

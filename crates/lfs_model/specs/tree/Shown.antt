@@ -4,7 +4,7 @@ use Rattle.std.specs.List.{flat_map}
 use Rattle.lfs_model.specs.format.Disk.{Disk}
 use Rattle.lfs_model.specs.format.Slots.{Slot, Struct, Inline, Ctz, Branch, same_pair}
 use Rattle.lfs_model.specs.format.SkipLists.{block_count_for, blocks_to_head, list_bytes}
-use Rattle.lfs_model.specs.format.Thread.{Pair, pairs_gstate, blocks_of_pairs, pairs_from_root, root_address, slots_not_moved, ThreadDirectory, pair_directories, directory_slots}
+use Rattle.lfs_model.specs.format.Thread.{Pair, pairs_gstate, pairs_blocks, pairs_from_root, root_address, slots_not_moved, ThreadDirectory, pair_directories, directory_slots}
 use Rattle.lfs_model.specs.tree.Tree.{Path, Tree, EntryMap, address_at_path, beneath_root}
 
 -- ---- what the pairs show
@@ -27,8 +27,8 @@ IsReachedBySome ps first = (path : Path) × (at : ℕ × ℕ) × (LeadsTo ps pat
 abbrev pub struct_list_bytes : Disk → ℕ → ℕ → List ℕ
 struct_list_bytes disk head size = list_bytes disk.blocks disk.block_size head size
 
-abbrev pub tree_on_disk : Disk → List Pair → Tree
-tree_on_disk disk ps = beneath_root (struct_list_bytes disk) (all_entries ps) (root_address ps)
+abbrev pub disk_tree : Disk → List Pair → Tree
+disk_tree disk ps = beneath_root (struct_list_bytes disk) (all_entries ps) (root_address ps)
 
 abbrev pub struct_blocks : Disk → Struct → List ℕ
 struct_blocks disk (Ctz head size) = blocks_to_head disk.blocks (block_count_for disk.block_size size) head
@@ -36,8 +36,8 @@ struct_blocks disk (Inline bytes) = []
 struct_blocks disk (Branch to) = []
 
 -- the slots of all pairs, without the one that a set move names
-abbrev pub all_slots_not_moved : List Pair → List Slot
-all_slots_not_moved ps = flat_map (slots_not_moved (pairs_gstate ps)) ps
+abbrev pub all_unmoved_slots : List Pair → List Slot
+all_unmoved_slots ps = flat_map (slots_not_moved (pairs_gstate ps)) ps
 
 abbrev pub used_blocks : Disk → List Pair → List ℕ
-used_blocks disk ps = blocks_of_pairs ps ++ flat_map (λ s. struct_blocks disk s.struct) (all_slots_not_moved ps)
+used_blocks disk ps = pairs_blocks ps ++ flat_map (λ s. struct_blocks disk s.struct) (all_unmoved_slots ps)

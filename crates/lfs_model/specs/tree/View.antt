@@ -13,9 +13,9 @@ use Rattle.lfs_model.specs.format.Slots.{Slot, SlotKind, File, Directory, Superb
 use Rattle.lfs_model.specs.format.Content.{current_block, content_at}
 use Rattle.lfs_model.specs.format.EntryTypes.{superblock_name_type, superblock_fields}
 use Rattle.lfs_model.specs.format.SkipLists.{IsSkipList}
-use Rattle.lfs_model.specs.format.Thread.{Pair, IsThread, pairs_from_root, first_address, from_first_slots, pairs_gstate, starts_superblock, pair_count_before_root, BeginsAt}
+use Rattle.lfs_model.specs.format.Thread.{Pair, IsThread, pairs_from_root, first_address, from_first_slots, pairs_gstate, starts_superblock, count_before_root, BeginsAt}
 use Rattle.lfs_model.specs.tree.Tree.{Path, Tree, names_at}
-use Rattle.lfs_model.specs.tree.Shown.{all_directories, all_entries, LeadsTo, IsReachedBySome, tree_on_disk, all_slots_not_moved, used_blocks}
+use Rattle.lfs_model.specs.tree.Shown.{all_directories, all_entries, LeadsTo, IsReachedBySome, disk_tree, all_unmoved_slots, used_blocks}
 
 -- ---- the superblock
 
@@ -66,13 +66,13 @@ SuperblockFirstIfAny P [] = Unit {0}
 SuperblockFirstIfAny P (s ∷ slots) = IsSuperblockFirst P (s ∷ slots)
 
 -- a superblock's struct with an accepted version, and with the same numbers behind it
-pub record SameStructExceptVersion (versions : AcceptedVersions) (bytes own : List ℕ) : Type 0 where
+pub record SameExceptVersion (versions : AcceptedVersions) (bytes own : List ℕ) : Type 0 where
   pub len : length own ≡ length bytes
   pub version : accepts_version versions (superblock_fields own).version ≡ true
   pub rest : drop 4 own ≡ drop 4 bytes
 
 abbrev pub HasStruct : AcceptedVersions → List ℕ → Slot → Type 0
-HasStruct versions bytes s = (own : List ℕ) × ((s.struct ≡ Inline own) × SameStructExceptVersion versions bytes own)
+HasStruct versions bytes s = (own : List ℕ) × ((s.struct ≡ Inline own) × SameExceptVersion versions bytes own)
 
 abbrev pub BeginsWithSuperblock : AcceptedVersions → List ℕ → List Slot → Type 0
 BeginsWithSuperblock versions bytes slots = SuperblockFirstIfAny (HasStruct versions bytes) slots
@@ -83,20 +83,20 @@ first_slot_name [] = None
 first_slot_name (p ∷ ps) = option_map (λ s. s.name) (slice_get p.content.slots 0)
 
 -- the slots of the first of these pairs
-abbrev pub first_slots : List Pair → List Slot
-first_slots [] = []
-first_slots (p ∷ ps) = p.content.slots
+abbrev pub first_pair_slots : List Pair → List Slot
+first_pair_slots [] = []
+first_pair_slots (p ∷ ps) = p.content.slots
 
 abbrev pub chain_pairs : List Pair → List Pair
-chain_pairs ps = take (pair_count_before_root ps + 1) ps
+chain_pairs ps = take (count_before_root ps + 1) ps
 
 abbrev pub after_chain : List Pair → List Pair
-after_chain ps = drop (pair_count_before_root ps + 1) ps
+after_chain ps = drop (count_before_root ps + 1) ps
 
-abbrev pub IsWellFormedCtz : Disk → Struct → Type 0
-IsWellFormedCtz disk (Ctz head size) = IsSkipList disk.blocks disk.block_size head size
-IsWellFormedCtz disk (Inline bytes) = Unit {0}
-IsWellFormedCtz disk (Branch to) = Unit {0}
+abbrev pub IsFormedList : Disk → Struct → Type 0
+IsFormedList disk (Ctz head size) = IsSkipList disk.blocks disk.block_size head size
+IsFormedList disk (Inline bytes) = Unit {0}
+IsFormedList disk (Branch to) = Unit {0}
 
 -- there is a slot, and it isn't a superblock's
 abbrev pub IsEntry : Option Slot → Type 0
@@ -119,7 +119,7 @@ pub record IsAccepted (disk : Disk) (ps : List Pair) : Type 0 where
   pub first : BeginsWith (current_block disk (first_address (from_first_slots ps))) superblock_entry
   pub named : first_slot_name (from_first_slots ps) ≡ Some (codes "littlefs")
   -- the root directory begins with a superblock, and all those of its chain have the same struct but for an accepted version
-  pub root : starts_superblock (first_slots (pairs_from_root ps)) ≡ true
+  pub root : starts_superblock (first_pair_slots (pairs_from_root ps)) ≡ true
   pub superblock : (bytes : List ℕ) × (IsSuperblock disk bytes × All (λ p. BeginsWithSuperblock disk.profile.versions bytes p.content.slots) (chain_pairs ps))
   -- every other slot is a file or a directory, with a name and a struct that match
   pub slots : All (λ p. All IsTreeEntry p.content.slots) (after_chain ps)
@@ -132,7 +132,7 @@ pub record IsAccepted (disk : Disk) (ps : List Pair) : Type 0 where
   pub reached : (pairs_gstate ps).sync ≡ false → All (λ d. IsReachedBySome ps d.at) (all_directories ps)
   pub move : HasValidMove ps (pairs_gstate ps)
   -- every file's list is well formed, and no block is owned twice
-  pub lists : All (λ s. IsWellFormedCtz disk s.struct) (all_slots_not_moved ps)
+  pub lists : All (λ s. IsFormedList disk s.struct) (all_unmoved_slots ps)
   pub owned_once : IsDistinct nat_eq (used_blocks disk ps)
 
 -- ---- what an accepted disk shows
@@ -143,7 +143,7 @@ pub record DiskView : Type 0 where
   pub used : List ℕ
 
 abbrev pub disk_view : Disk → List Pair → DiskView
-disk_view disk ps = record { tree = tree_on_disk disk ps; gstate = pairs_gstate ps; used = used_blocks disk ps }
+disk_view disk ps = record { tree = disk_tree disk ps; gstate = pairs_gstate ps; used = used_blocks disk ps }
 
 -- the disk is accepted, and shows that
 abbrev pub HasDiskView : Disk → DiskView → Type 0

@@ -1,5 +1,6 @@
 use Rattle.std.proofs.Common.{ℕ, ◌≡◌, ◌+◌, ◌-◌, ◌≤◌, ◌++◌, List, length, take, drop, ap, ap₂, ◌∙◌, arith, length-drop}
-use Rattle.std.proofs.lemmas.List.{append-nil, drop_all, drop-drop, take_rest}
+use Rattle.lfs_file.proofs.Common.{append-nil, drop_all, drop-drop}
+use Rattle.std.proofs.lemmas.List.{take_rest}
 use Rattle.byteorder.specs.Endian.{little_bytes}
 use borrow.Rule.Slice.PartMut.{put_mid}
 use Rattle.lfs_file.proofs.block.put_word.Goals as goal

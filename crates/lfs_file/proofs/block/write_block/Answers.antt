@@ -1,9 +1,7 @@
 use Rattle.std.proofs.Common.{ℕ, ◌≡◌, ◌-◌, ◌*◌, ◌<◌, ◌^◌, ◌++◌, List, length, take, drop, slice_index, refl, ap, subst, ◌∙◌, arith}
-use Rattle.lfs_model.proofs.Overwrites.{SameExcept-trans}
+use Rattle.lfs_file.proofs.Common.{SameExcept-trans, Blocks, SameExcept, block_bytes, read_count, blocks_to_head, pointer_count, word_at}
 use Rattle.lfs_model.proofs.Histories.{erase_count-read_count, program_count-read_count}
-use Rattle.lfs_model.specs.format.Blocks.{Blocks, SameExcept, block_bytes}
-use Rattle.lfs_model.specs.session.History.{erase_count, program_count, read_count}
-use Rattle.lfs_model.specs.format.SkipLists.{blocks_to_head, pointer_count, word_at}
+use Rattle.lfs_model.specs.session.History.{erase_count, program_count}
 use Rattle.lfs_file.proofs.Grown.{chain_grown, grown_back}
 use Rattle.lfs_file.proofs.Called.{changes_on, erase_once, only_read, program_once}
 use Rattle.lfs_file.proofs.Words.{block_bytes-written, word_at-written, data-written}

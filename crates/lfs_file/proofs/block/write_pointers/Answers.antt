@@ -1,20 +1,12 @@
 use Rattle.std.proofs.Common.{rules, ℕ, ◌≡◌, ◌≤◌, ◌<◌, ◌+◌, ◌-◌, ◌*◌, ◌%◌, ◌^◌, List, length, slice_index, refl, sym, ap, ◌∙◌, arith, below_more, subst, add-one}
-use Rattle.std.specs.Int.{w32, trailing_zeros}
-use Rattle.std.proofs.Math.Nat.{pow-suc, one-le-pow}
-use Rattle.std.proofs.Math.Pow.{pow_mono}
-use Rattle.std.proofs.lemmas.Nat.{mul-le}
-use Rattle.std.proofs.lemmas.Nat.Bits.{bit_at-trailing_zeros}
-use Rattle.std.proofs.lemmas.Result.{err_from_is_err_and}
+use Rattle.lfs_file.proofs.Common.{w32, trailing_zeros, pow-suc, one-le-pow, pow_mono, mul-le, bit_at-trailing_zeros, err_from_is_err_and, IsKnownIndex, Blocks, block_bytes, AreListBlocks, blocks_to_head, pointer_count, word_at}
 use Rattle.std.proofs.Common.{drop, Result, Err, ◌⊎◌, inl, inr}
 use Rattle.lfs_device.specs.declared.error.Error.{Error}
-use Rattle.lfs_file.specs.Known.{IsKnownIndex}
 use Rattle.lfs_file.specs.declared.block.FullBlocks.{FullBlocks}
 use Rattle.lfs_file.specs.declared.known.KnownBlocks.{KnownBlocks}
 use Rattle.lfs_file.proofs.Called.{not_read, read_on, quiet, reported_as, reported_on}
 use Rattle.lfs_file.proofs.Sizes.{pointer_count-le}
 use Rattle.lfs_device.specs.declared.geometry.Geometry.{Geometry}
-use Rattle.lfs_model.specs.format.Blocks.{Blocks, block_bytes}
-use Rattle.lfs_model.specs.format.SkipLists.{AreListBlocks, blocks_to_head, pointer_count, word_at}
 use Rattle.lfs_file.proofs.Chains.{head_of_back, in_range_at, length_back, pointer_count-pos}
 use Rattle.lfs_file.proofs.Words.{with_word, word_at-with_word, word_at-with_word_above, drop-with_word}
 use Rattle.lfs_file.proofs.TrailingZeros.{factor-pos, multiple_of_power, zeros32_before}

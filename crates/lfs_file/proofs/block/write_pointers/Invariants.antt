@@ -1,9 +1,6 @@
 use Rattle.std.proofs.Common.{ℕ, ◌≡◌, ◌≤◌, ◌<◌, ◌+◌, ◌-◌, ◌*◌, ◌^◌, length, drop, slice_index}
-use Rattle.lfs_device.specs.DeviceCalls.{ReadsOnly}
-use Rattle.lfs_model.specs.session.History.{fault_count, read_count}
-use Rattle.lfs_model.specs.format.SkipLists.{blocks_to_head, pointer_count, word_at}
+use Rattle.lfs_file.proofs.Common.{ReadsOnly, fault_count, read_count, blocks_to_head, pointer_count, word_at, ArePointersKnown}
 use Rattle.lfs_file.specs.Front.{KeepsFullBlocks}
-use Rattle.lfs_file.specs.Known.{ArePointersKnown}
 use Rattle.lfs_file.proofs.block.write_pointers.Given as goal
 
 abbrev pub invariant-loop-k : goal.invariant-loop-k

@@ -1,18 +1,10 @@
 use Rattle.std.proofs.Common.{rules, ℕ, inl, ◌≡◌, ◌+◌, ◌-◌, ◌<◌, ◌≤◌, get_or, List, ◌++◌, length, min, take, drop, slice_index, refl, sym, ap, ◌∙◌, subst, arith}
-use Rattle.std.proofs.lemmas.List.{get_or_read, length-take-le}
-use Rattle.std.proofs.lemmas.Result.{err_from_is_err_and}
+use Rattle.lfs_file.proofs.Common.{length-take-le, err_from_is_err_and, Blocks, HasBlockSizes, IsBytePlace, IsSkipList, blocks_to_head, block_count_for, list_bytes, block_count_for-more, IsOnDisk, growing_bytes, kept_blocks, growing_size_with, GrowsInFree, HasBlocksTaken, blocks_of_list, CanEndAlone, place-lt}
+use Rattle.std.proofs.lemmas.List.{get_or_read}
 use Rattle.lfs_device.specs.declared.geometry.Geometry.{Geometry}
-use Rattle.lfs_model.specs.format.Blocks.{Blocks, HasBlockSizes}
-use Rattle.lfs_model.specs.format.SkipLists.{IsBytePlace, IsSkipList, blocks_to_head, block_count_for, list_bytes}
-use Rattle.lfs_model.proofs.ListSizes.{block_count_for-more}
-use Rattle.lfs_file.specs.Growing.{IsOnDisk, growing_bytes, kept_blocks, growing_size_with}
-use Rattle.lfs_file.specs.BlocksApart.{GrowsInFree, HasBlocksTaken}
-use Rattle.lfs_file.specs.Bases.{list_blocks_from}
-use Rattle.lfs_file.specs.Extensions.{CanEndAlone}
 use Rattle.lfs_file.proofs.ContentsCalled.{apart_on, apart_read, apart_reads, quiet, reported_as, reported_on}
 use Rattle.lfs_file.proofs.Copies.{base_list, grown_on, copied, none_behind, sized}
 use Rattle.lfs_file.proofs.Growth.{GrowsInFree-refl, Keeps-refl, Keeps-trans}
-use Rattle.lfs_model.proofs.ListParts.{place-lt}
 use Rattle.lfs_file.proofs.Pieces.{among, is_there, on_device, piece, placed_by}
 use Rattle.lfs_file.proofs.block_copies.append_by_block.Goals as goal
 
@@ -55,7 +47,7 @@ copying-init g c =
 
 -- the blocks that were collected, by the geometry of the list
 collected : (d : Blocks) (geometry made : Geometry) (head size n from : ℕ) (items : List ℕ) → made ≡ geometry → n ≡ block_count_for made.block_size size → items ≡ drop from (blocks_to_head d n head)
-    → items ≡ drop from (list_blocks_from d geometry.block_size head size)
+    → items ≡ drop from (blocks_of_list d geometry.block_size head size)
 collected d geometry made head size n from items same count is = is ∙ ap (λ k. drop from (blocks_to_head d k head)) (count ∙ ap (λ (k : Geometry). block_count_for k.block_size size) same)
 
 pub overflow_sub-index : goal.overflow_sub-index
@@ -94,7 +86,7 @@ index-block-requires g c =
 -- the block that was read of those that were collected
 read_of : (d : Blocks) (geometry made : Geometry) (head size n start from skip pos i off block : ℕ) (items : List ℕ) → made ≡ geometry → n ≡ block_count_for made.block_size size → items ≡ drop from (blocks_to_head d n head)
     → IsBytePlace made.block_size start from skip → IsBytePlace made.block_size pos i off → start ≤ pos → pos < size → ((i - from < length items) → block ≡ get_or items (i - from) 0)
-    → block ≡ slice_index (list_blocks_from d geometry.block_size head size) i
+    → block ≡ slice_index (blocks_of_list d geometry.block_size head size) i
 read_of d geometry made head size n start from skip pos i off block items same count is begins place le lt read =
     let whole = collected d geometry made head size n from items same count is in
     let first = placed_by geometry made start from skip same begins in

@@ -1,11 +1,5 @@
 use Rattle.std.proofs.Common.{◌≡◌, ◌≤◌, ◌++◌, ◌-◌, drop, max}
-use Rattle.lfs_model.specs.session.History.{fault_count}
-use Rattle.lfs_model.specs.format.SkipLists.{list_bytes}
-use Rattle.lfs_file.specs.Growing.{IsOnDisk, growing_bytes, unwritten_block, growing_size_with}
-use Rattle.lfs_file.specs.BlocksApart.{GrowsInFree, HasBlocksTaken}
-use Rattle.lfs_file.specs.ContentsCalls.{CallKeepsTakenBlocksExceptUnwritten}
-use Rattle.lfs_file.specs.Extensions.{CanEndAlone}
-use Rattle.lfs_file.specs.TakenBlocks.{ChangesOnlyFree}
+use Rattle.lfs_file.proofs.Common.{fault_count, list_bytes, IsOnDisk, growing_bytes, unwritten_block, growing_size_with, GrowsInFree, HasBlocksTaken, KeepsTakenBlocks, CanEndAlone, ChangesOnlyFree}
 use Rattle.lfs_file.proofs.block_copies.append_by_block.Given as goal
 
 abbrev pub invariant-copying : goal.invariant-copying
@@ -22,7 +16,7 @@ invariant-copying g l =
       grown : GrowsInFree l.fn.map old was l.map new now;
       marked : HasBlocksTaken l.map new now;
       map : ChangesOnlyFree l.fn.map l.map;
-      device : CallKeepsTakenBlocksExceptUnwritten g.D.BlockDevice l.fn.map (unwritten_block was) l.fn.dev l.dev;
+      device : KeepsTakenBlocks g.D.BlockDevice l.fn.map (unwritten_block was) l.fn.dev l.dev;
       own : CanEndAlone new l.list;
       some : growing_size_with block_size was ≤ growing_size_with block_size now;
       top : growing_size_with block_size now ≤ max (growing_size_with block_size was) l.fn.base.size;

@@ -1,7 +1,5 @@
 use Rattle.std.proofs.Common.{◌≡◌, ◌≤◌, ◌<◌, ◌+◌, ◌-◌, length, drop, slice_index}
-use Rattle.lfs_device.specs.DeviceCalls.{ReadsOnly}
-use Rattle.lfs_model.specs.session.History.{fault_count, read_count}
-use Rattle.lfs_model.specs.format.SkipLists.{blocks_to_head}
+use Rattle.lfs_file.proofs.Common.{ReadsOnly, fault_count, read_count, blocks_to_head}
 use Rattle.lfs_file.proofs.block_copies.blocks_from_index.Given as goal
 
 abbrev pub invariant-going : goal.invariant-going

@@ -1,6 +1,5 @@
 use Rattle.std.proofs.Common.{◌≤◌, ◌<◌, ◌-◌, ℕ}
-use Rattle.lfs_model.specs.layers.BlockSets.{IsInFlight}
-use Rattle.lfs_file.specs.Hand.{KeepsUsedBlocks}
+use Rattle.lfs_file.proofs.Common.{IsInFlight, KeepsUsedBlocks}
 use Rattle.lfs_file.proofs.completion.release_in_flight.Given as goal
 
 abbrev pub invariant-abandoning : goal.invariant-abandoning

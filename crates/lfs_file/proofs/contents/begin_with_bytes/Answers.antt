@@ -1,9 +1,6 @@
 use Rattle.std.proofs.Common.{List, ℕ, ap, ◌∙◌, subst}
-use Rattle.std.proofs.lemmas.Result.{err_from_is_err_and}
+use Rattle.lfs_file.proofs.Common.{err_from_is_err_and, Blocks, written_contents, CanEndUnfinished, unfinished_bytes}
 use Rattle.lfs_device.specs.declared.geometry.Geometry.{Geometry}
-use Rattle.lfs_model.specs.format.Blocks.{Blocks}
-use Rattle.lfs_model.specs.session.Writers.{written_contents}
-use Rattle.lfs_file.specs.HandWrites.{HasUnfinishedBytes, unfinished_bytes}
 use Rattle.lfs_file.proofs.Owning.{list_from}
 use Rattle.lfs_file.proofs.ContentsCalled.{quiet, reported_as, reported_on, used_on, used_reads}
 use Rattle.lfs_file.proofs.Spared.{KeepsUsedBlocks-refl}
@@ -30,7 +27,7 @@ returns-clause-written g c =
     let at = c.in_ok-begun.ensures.begun c.args.map.now c.requires.stored in
     let wrote = c.in_ok-fill_and_write.ensures.written in
     record {
-      going = subst (λ (k : Geometry). HasUnfinishedBytes c.fill_and_write.new.map (g.D.BlockDevice.blocks c.fill_and_write.new.dev) k c.fill_and_write.new.hand) read.geometry wrote.going;
+      going = subst (λ (k : Geometry). CanEndUnfinished c.fill_and_write.new.map (g.D.BlockDevice.blocks c.fill_and_write.new.dev) k c.fill_and_write.new.hand) read.geometry wrote.going;
       size = wrote.size;
       bytes = wrote.bytes ∙ ap (λ (x : Blocks). written_contents (unfinished_bytes x hand) c.args.place c.args.bytes.now) read.same ∙ ap (λ (l : List ℕ). written_contents l c.args.place c.args.bytes.now) at.bytes;
     }

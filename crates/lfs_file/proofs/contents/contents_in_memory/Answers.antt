@@ -1,6 +1,6 @@
 use Rattle.std.proofs.Common.{[], length, sym, ap, ◌∙◌, arith}
 use Rattle.lfs_device.specs.declared.geometry.Geometry.{Geometry}
-use Rattle.lfs_file.specs.Form.{InMemory}
+use Rattle.lfs_file.proofs.Common.{InMemory}
 use Rattle.lfs_file.proofs.contents.contents_in_memory.Goals as goal
 
 pub returns-clause-holds : goal.returns-clause-holds

@@ -1,7 +1,5 @@
 use Rattle.std.proofs.Common.{ℕ, ◌≡◌, ◌+◌, List, length, max, sym, ap, ◌∙◌, arith}
-use Rattle.lfs_model.specs.format.Blocks.{Blocks}
-use Rattle.lfs_file.specs.Contents.{buffered_bytes}
-use Rattle.lfs_file.specs.Form.{InMemory}
+use Rattle.lfs_file.proofs.Common.{Blocks, buffered_bytes, InMemory}
 use Rattle.lfs_file.proofs.Forms.{length-written, written_few}
 use Rattle.lfs_file.proofs.ContentsMemories.{held_size}
 use Rattle.lfs_file.proofs.contents.write_in_memory.Goals as goal

@@ -1,11 +1,6 @@
 use Rattle.std.proofs.Common.{ℕ, ◌≡◌, ◌+◌, List, length, max, sym, ap, ◌∙◌, arith}
-use Rattle.std.proofs.lemmas.List.{take_all}
+use Rattle.lfs_file.proofs.Common.{take_all, Blocks, written_contents, buffered_bytes, InMemory, Finished, stored_list_bytes}
 use Rattle.lfs_device.specs.declared.geometry.Geometry.{Geometry}
-use Rattle.lfs_model.specs.format.Blocks.{Blocks}
-use Rattle.lfs_model.specs.session.Writers.{written_contents}
-use Rattle.lfs_file.specs.Contents.{buffered_bytes}
-use Rattle.lfs_file.specs.Form.{InMemory, Finished}
-use Rattle.lfs_file.specs.Hand.{stored_list_bytes}
 use Rattle.lfs_file.proofs.Owning.{hand_owned, owned_is}
 use Rattle.lfs_file.proofs.ContentsCalled.{used_reads}
 use Rattle.lfs_file.proofs.Flights.{length-base}

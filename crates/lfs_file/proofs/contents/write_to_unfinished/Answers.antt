@@ -1,13 +1,7 @@
 use Rattle.std.proofs.Common.{rules, length, ap, subst, sym, ◌≡◌, ◌<◌}
-use Rattle.std.proofs.lemmas.Bool.{and_parts, eqb-true}
-use Rattle.lfs_file.specs.BlockOwners.{AreOwn, contents_blocks}
-use Rattle.lfs_file.specs.Contents.{HaveForm, contents_form}
-use Rattle.lfs_file.specs.Form.{written_form}
-use Rattle.lfs_file.specs.Growing.{growing_size}
-use Rattle.lfs_file.specs.HandWrites.{unfinished_bytes, unfinished_length}
+use Rattle.lfs_file.proofs.Common.{and_parts, eqb-true, AreUsedAmong, contents_blocks, HaveForm, contents_form, written_form, growing_size, unfinished_bytes, unfinished_length, written_contents}
 use Rattle.lfs_file.specs.declared.contents.WriterContents.TheVariants.{InHand}
 use Rattle.lfs_file.specs.declared.writes.PendingList.{PendingList}
-use Rattle.lfs_model.specs.session.Writers.{written_contents}
 use Rattle.lfs_file.proofs.Owning.{hand_owned, owned_right}
 use Rattle.lfs_file.proofs.Forms.{written_hand}
 use Rattle.lfs_file.proofs.Within.{written_within}
@@ -45,7 +39,7 @@ returns-clause-owned g c =
     let now = g.D.BlockDevice.geometry c.args.dev.now in
     let new = g.D.BlockDevice.blocks c.write_at_position.new.dev in
     let same : c.write_within_block.new.hand ≡ c.args.hand = c.if-write_within_block.ensures.same in
-    subst (λ (h : PendingList). AreOwn c.write_at_position.new.map (contents_blocks old now.block_size (InHand h)) (contents_blocks new now.block_size (InHand c.in_ok-hand.hand))) same
+    subst (λ (h : PendingList). AreUsedAmong c.write_at_position.new.map (contents_blocks old now.block_size (InHand h)) (contents_blocks new now.block_size (InHand c.in_ok-hand.hand))) same
     (hand_owned c.write_at_position.new.map new now c.in_ok-hand.hand _ c.in_ok-hand.ensures.written.going (owned_right _ c.in_ok-hand.ensures.over.owned))
 
 pub returns-clause-reports : goal.returns-clause-reports

@@ -1,11 +1,6 @@
 use Rattle.std.proofs.Common.{ℕ, ◌≡◌, ◌+◌, ◌-◌, ◌≤◌, List, length, sym, ap, ◌∙◌, subst, arith, length-append}
-use Rattle.std.proofs.lemmas.Option.{slice_get_within}
+use Rattle.lfs_file.proofs.Common.{slice_get_within, BlockStates, IsFree, Free, block_count_for, kept_blocks, unwritten_block, growing_size_with, TakesFreeBlocks}
 use Rattle.lfs_device.specs.declared.geometry.Geometry.{Geometry}
-use Rattle.lfs_model.specs.layers.BlockSets.{BlockStates, IsFree}
-use Rattle.lfs_model.specs.layers.BlockSets.BlockState.{Free}
-use Rattle.lfs_model.specs.format.SkipLists.{block_count_for}
-use Rattle.lfs_file.specs.Growing.{kept_blocks, unwritten_block, growing_size_with}
-use Rattle.lfs_file.specs.TakenBlocks.{TakesFreeBlocks}
 use Rattle.lfs_file.proofs.Pushed.{length-kept, leaves_apart, grows, marks}
 use Rattle.lfs_file.proofs.extensions.extend_list.Goals as goal
 

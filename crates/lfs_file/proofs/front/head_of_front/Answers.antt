@@ -1,9 +1,6 @@
 use Rattle.std.proofs.Common.{ℕ, ◌≡◌, ◌≤◌, ◌+◌, ◌-◌, take, slice_index, ap, subst, ◌∙◌, arith}
-use Rattle.std.proofs.lemmas.Result.{err_from_is_err_and}
+use Rattle.lfs_file.proofs.Common.{err_from_is_err_and, Blocks, HasBlockSizes, AreListBlocks, IsSkipList, IsBytePlace, blocks_to_head, block_count_for, list_bytes, IsListOf}
 use Rattle.lfs_device.specs.declared.geometry.Geometry.{Geometry}
-use Rattle.lfs_model.specs.format.Blocks.{Blocks, HasBlockSizes}
-use Rattle.lfs_model.specs.format.SkipLists.{AreListBlocks, IsSkipList, IsBytePlace, blocks_to_head, block_count_for, list_bytes}
-use Rattle.lfs_file.specs.Finished.{IsListOf}
 use Rattle.lfs_file.proofs.Geometries.{chain, last_is, shaped, sized}
 use Rattle.lfs_file.proofs.Resumed.{front_end}
 use Rattle.lfs_file.proofs.Sizes.{blocks_for-last, place-lt}

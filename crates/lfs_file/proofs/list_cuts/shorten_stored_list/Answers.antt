@@ -1,14 +1,7 @@
 use Rattle.std.proofs.Common.{ℕ, [], ◌≡◌, take, refl, sym, ap, ◌∙◌, subst, arith}
 use Rattle.std.specs.Prelude.{Contains, List}
-use Rattle.std.proofs.lemmas.Result.{err_from_is_err_and}
+use Rattle.lfs_file.proofs.Common.{err_from_is_err_and, Blocks, block_count_for, list_bytes, block_count_for-more, SameExceptThese-refl, blocks_of_list, IsFinishedList, ReleasesInFlight}
 use Rattle.lfs_device.specs.declared.geometry.Geometry.{Geometry}
-use Rattle.lfs_model.specs.format.Blocks.{Blocks}
-use Rattle.lfs_model.specs.format.SkipLists.{block_count_for, list_bytes}
-use Rattle.lfs_model.proofs.ListSizes.{block_count_for-more}
-use Rattle.lfs_model.proofs.Overwrites.{SameExceptThese-refl}
-use Rattle.lfs_file.specs.Bases.{list_blocks_from}
-use Rattle.lfs_file.specs.Hand.{FinishedListOnDisk}
-use Rattle.lfs_file.specs.Releases.{ReleasesInFlight}
 use Rattle.lfs_file.proofs.Hands.{Contains-take}
 use Rattle.lfs_file.proofs.ContentsCalled.{quiet, read_on, reported_as, reported_on}
 use Rattle.lfs_file.proofs.Copies.{base_list}
@@ -57,10 +50,10 @@ returns-clause-cut g c =
     let within = c.requires.length.1 in
     let front = c.in_ok-head.ensures.front (base_list d now.block_size stored.head stored.size (omega arith) c.requires.stored.base) in
     let count : c.blocks_for-count.result ≡ block_count_for now.block_size c.args.keep = c.blocks_for-count.ensures ∙ ap (λ (k : Geometry). block_count_for k.block_size c.args.keep) (c.geometry.ensures ∙ read.geometry) in
-    let released = subst (λ (k : Geometry). ReleasesInFlight c.args.map.now c.release_base_from.new.map (gone_of stored.in_flight c.blocks_for-count.result (list_blocks_from d k.block_size stored.head stored.size))) read.geometry
-    (subst (λ (x : Blocks). ReleasesInFlight c.args.map.now c.release_base_from.new.map (gone_of stored.in_flight c.blocks_for-count.result (list_blocks_from x (g.D.BlockDevice.geometry c.head_of_front.new.dev).block_size stored.head stored.size))) read.same c.in_ok-release_base_from.ensures.released) in
-    let blocks = front.blocks ∙ ap (λ n. take n (list_blocks_from d now.block_size stored.head stored.size)) (sym count) in
-    let at : Blocks → Type 0 = λ x. FinishedListOnDisk c.release_base_from.new.map x now.block_size (record { head = c.in_ok-head.head; size = c.args.keep; in_flight = stored.in_flight }) in
+    let released = subst (λ (k : Geometry). ReleasesInFlight c.args.map.now c.release_base_from.new.map (gone_of stored.in_flight c.blocks_for-count.result (blocks_of_list d k.block_size stored.head stored.size))) read.geometry
+    (subst (λ (x : Blocks). ReleasesInFlight c.args.map.now c.release_base_from.new.map (gone_of stored.in_flight c.blocks_for-count.result (blocks_of_list x (g.D.BlockDevice.geometry c.head_of_front.new.dev).block_size stored.head stored.size))) read.same c.in_ok-release_base_from.ensures.released) in
+    let blocks = front.blocks ∙ ap (λ n. take n (blocks_of_list d now.block_size stored.head stored.size)) (sym count) in
+    let at : Blocks → Type 0 = λ x. IsFinishedList c.release_base_from.new.map x now.block_size (record { head = c.in_ok-head.head; size = c.args.keep; in_flight = stored.in_flight }) in
     record {
       stored = subst at (sym all) (cuts c.args.map.now d d now.block_size stored [] c.requires.stored refl (SameExceptThese-refl [] d) c.release_base_from.new.map c.blocks_for-count.result c.in_ok-head.head c.args.keep front.list blocks released);
       count = refl;
@@ -78,6 +71,6 @@ returns-clause-front g c =
     let front = c.in_ok-head.ensures.front (base_list d now.block_size stored.head stored.size (omega arith) c.requires.stored.base) in
     record {
       flying = refl;
-      among = λ b has. Contains-take _ (list_blocks_from d now.block_size stored.head stored.size) b
-          (subst (λ (l : List ℕ). Contains l b) (ap (λ x. list_blocks_from x now.block_size c.in_ok-head.head c.args.keep) all ∙ front.blocks) has);
+      among = λ b has. Contains-take _ (blocks_of_list d now.block_size stored.head stored.size) b
+          (subst (λ (l : List ℕ). Contains l b) (ap (λ x. blocks_of_list x now.block_size c.in_ok-head.head c.args.keep) all ∙ front.blocks) has);
     }

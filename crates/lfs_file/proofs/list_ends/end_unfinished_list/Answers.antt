@@ -1,15 +1,9 @@
 use Rattle.std.proofs.Common.{◌≡◌, inl, true, refl, sym, ap, ◌∙◌, subst, arith}
-use Rattle.std.proofs.lemmas.Result.{err_from_is_err_and}
+use Rattle.lfs_file.proofs.Common.{err_from_is_err_and, Blocks, block_count_for, list_bytes, unwritten_block, IsFinishedList, in_flight_limit, blocks_of_list}
 use Rattle.lfs_device.specs.declared.geometry.Geometry.{Geometry}
-use Rattle.lfs_model.specs.format.Blocks.{Blocks}
-use Rattle.lfs_model.specs.format.SkipLists.{block_count_for, list_bytes}
-use Rattle.lfs_file.specs.Growing.{unwritten_block}
-use Rattle.lfs_file.specs.Hand.{FinishedListOnDisk}
-use Rattle.lfs_file.specs.BaseRoom.{in_flight_limit}
 use Rattle.lfs_file.proofs.Bases.{blocks_stay}
 use Rattle.lfs_file.proofs.Owning.{ends_over}
 use Rattle.lfs_file.proofs.Spared.{KeepsUsedBlocks-refl, after_release}
-use Rattle.lfs_file.specs.Bases.{list_blocks_from}
 use Rattle.lfs_file.proofs.ContentsCalled.{apart_end, apart_on, quiet, reported_as, reported_on, used_of, used_read, writes_well}
 use Rattle.lfs_file.proofs.Ends.{base_end, ends_by, used_kept, used_kept_on}
 use Rattle.lfs_file.proofs.Flights.{begun_flying}
@@ -102,7 +96,7 @@ returns-clause-ended g c =
     let device = c.finish.ensures.device.geometry ∙ c.append_base_rest.ensures.writing.device.geometry ∙ is in
     let stored = ends_by c.append_base_rest.new.map c.release_base_from.new.map (g.D.BlockDevice.blocks c.append_base_rest.new.dev) (g.D.BlockDevice.blocks c.finish.new.dev) geometry longer.geometry _ longer hand.base hand.shared
     c.in_ok-head.head c.in_ok-head.size more.geometry device whole c.finish.ensures.device.others finished.list finished.blocks c.in_ok-release_base_from.ensures.released in
-    let at : Blocks → Geometry → Type 0 = λ x k. FinishedListOnDisk c.release_base_from.new.map x k.block_size (record { head = c.in_ok-head.head; size = c.in_ok-head.size; in_flight = true }) in
+    let at : Blocks → Geometry → Type 0 = λ x k. IsFinishedList c.release_base_from.new.map x k.block_size (record { head = c.in_ok-head.head; size = c.in_ok-head.size; in_flight = true }) in
     record {
       stored = subst (λ x. at x now) (sym c.release_base_from.ensures.reading.device.same) (subst (at (g.D.BlockDevice.blocks c.finish.new.dev)) (sym is) stored);
       count = c.in_ok-head.ensures.size ∙ more.sum;
@@ -126,5 +120,5 @@ returns-clause-own g c =
     ends_over c.append_base_rest.new.map c.release_base_from.new.map d e (g.D.BlockDevice.blocks c.release_base_from.new.dev) geometry now longer hand.base hand.shared
     (record { head = c.in_ok-head.head; size = c.in_ok-head.size; in_flight = true }) going.geometry whole (after_release c.in_ok-release_base_from.ensures.released)
     (blocks_stay c.args.map.now (unwritten_block hand.list) d e geometry.block_size hand.base.head hand.base.size c.append_base_rest.ensures.writing.device.spared going.list.begun.apart)
-    (ap (λ x. list_blocks_from x geometry.block_size c.in_ok-head.head c.in_ok-head.size) c.release_base_from.ensures.reading.device.same
-    ∙ ap (λ (k : Geometry). list_blocks_from (g.D.BlockDevice.blocks c.finish.new.dev) k.block_size c.in_ok-head.head c.in_ok-head.size) (sym more.geometry) ∙ finished.blocks ∙ whole.own) refl
+    (ap (λ x. blocks_of_list x geometry.block_size c.in_ok-head.head c.in_ok-head.size) c.release_base_from.ensures.reading.device.same
+    ∙ ap (λ (k : Geometry). blocks_of_list (g.D.BlockDevice.blocks c.finish.new.dev) k.block_size c.in_ok-head.head c.in_ok-head.size) (sym more.geometry) ∙ finished.blocks ∙ whole.own) refl

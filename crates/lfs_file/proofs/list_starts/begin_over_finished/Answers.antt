@@ -1,15 +1,9 @@
 use Rattle.std.proofs.Common.{ℕ, ◌≡◌, ◌≢◌, List, [], ◌++◌, take, drop, refl, sym, ap, ◌∙◌, subst, arith}
-use Rattle.std.proofs.lemmas.List.{take-append-drop}
+use Rattle.lfs_file.proofs.Common.{take-append-drop, Blocks, BlockStates, ListHasBytes, unwritten_rest_block, growing_bytes, growing_size_with, GrowingList, SharesFirstBlocks, stored_list_bytes, IsUnfinishedTo}
 use Rattle.lfs_device.specs.declared.geometry.Geometry.{Geometry}
-use Rattle.lfs_model.specs.format.Blocks.{Blocks}
-use Rattle.lfs_model.specs.layers.BlockSets.{BlockStates}
-use Rattle.lfs_file.specs.Extended.{ListHasBytes}
 use Rattle.std.specs.Prelude.{All}
 use Rattle.lfs_file.specs.declared.rest.RestLocation.{RestLocation}
 use Rattle.lfs_file.specs.declared.rest.RestLocation.TheVariants.{Closed, Shared, Handed, Held}
-use Rattle.lfs_file.specs.Growing.{unwritten_after_full, growing_bytes, growing_size_with, GrowingList}
-use Rattle.lfs_file.specs.Hand.{SharesFirstBlocks, stored_list_bytes}
-use Rattle.lfs_file.specs.HandWrites.{IsUnfinishedTo}
 use Rattle.lfs_file.specs.declared.stored_list.StoredList.{StoredList}
 use Rattle.lfs_file.proofs.Hands.{begins, none_pending}
 use Rattle.lfs_file.proofs.list_starts.begin_over_finished.Goals as goal
@@ -31,7 +25,7 @@ at_by map d now list base shared keep count front own all grown first is begun =
     }
 
 -- none of the block's own waits
-none_waits : (t : RestLocation) → ((other : ℕ) → All (λ b. b ≢ other) [] → All (λ b. b ≢ other) (unwritten_after_full t)) → unwritten_after_full t ≡ []
+none_waits : (t : RestLocation) → ((other : ℕ) → All (λ b. b ≢ other) [] → All (λ b. b ≢ other) (unwritten_rest_block t)) → unwritten_rest_block t ≡ []
 none_waits Closed waits = refl
 none_waits (Shared b) waits = refl
 none_waits (Handed b) waits = absurd (waits b (λ k x l. absurd (omega (arith, l))) 0 0 (omega arith) refl)

@@ -1,11 +1,6 @@
 use Rattle.std.proofs.Common.{ℕ, ◌≡◌, ◌≤◌, ◌+◌, List, length, take, slice_range, refl, sym, ap, ◌∙◌, arith}
-use Rattle.std.proofs.lemmas.List.{length-take-le}
-use Rattle.std.proofs.lemmas.Result.{err_from_is_err_and}
+use Rattle.lfs_file.proofs.Common.{length-take-le, err_from_is_err_and, Blocks, growing_size, buffered_bytes, stored_list_bytes}
 use Rattle.lfs_device.specs.declared.geometry.Geometry.{Geometry}
-use Rattle.lfs_model.specs.format.Blocks.{Blocks}
-use Rattle.lfs_file.specs.Growing.{growing_size}
-use Rattle.lfs_file.specs.Contents.{buffered_bytes}
-use Rattle.lfs_file.specs.Hand.{stored_list_bytes}
 use Rattle.lfs_file.proofs.ContentsCalled.{not_read, quiet, read_on, reported_as, reported_on}
 use Rattle.lfs_file.proofs.Copies.{not_corrupt}
 use Rattle.lfs_file.proofs.Flights.{length-base}

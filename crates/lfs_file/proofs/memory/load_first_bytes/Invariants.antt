@@ -1,9 +1,6 @@
 use Rattle.std.proofs.Common.{◌≡◌, ◌≤◌, ◌-◌, take}
-use Rattle.lfs_device.specs.DeviceCalls.{ReadsOnly}
-use Rattle.lfs_model.specs.session.History.{fault_count}
-use Rattle.lfs_file.specs.Growing.{growing_size}
-use Rattle.lfs_file.specs.Contents.{IsBuffered, buffered_bytes}
-use Rattle.lfs_file.specs.Hand.{stored_list_bytes}
+use Rattle.lfs_file.proofs.Common.{ReadsOnly, fault_count, growing_size, buffered_bytes, stored_list_bytes}
+use Rattle.lfs_file.specs.Contents.{IsBuffered}
 use Rattle.lfs_file.proofs.memory.load_first_bytes.Given as goal
 
 abbrev pub invariant-loading : goal.invariant-loading

@@ -1,10 +1,6 @@
 use Rattle.std.proofs.Common.{rules, ℕ, ◌≡◌, ◌+◌, List, length, min, refl, sym, ap, ◌∙◌, arith}
-use Rattle.std.proofs.lemmas.List.{length-take-le}
-use Rattle.std.proofs.lemmas.Result.{err_from_is_err_and}
+use Rattle.lfs_file.proofs.Common.{length-take-le, err_from_is_err_and, Blocks, written_contents, buffered_bytes}
 use Rattle.lfs_device.specs.declared.geometry.Geometry.{Geometry}
-use Rattle.lfs_model.specs.format.Blocks.{Blocks}
-use Rattle.lfs_model.specs.session.Writers.{written_contents}
-use Rattle.lfs_file.specs.Contents.{buffered_bytes}
 use Rattle.lfs_file.proofs.ContentsCalled.{quiet, reported_as, writes_well}
 use Rattle.lfs_file.proofs.ContentsMemories.{held_size, no_base_fits, wrote_cut}
 use Rattle.lfs_file.proofs.memory.move_to_list.Goals as goal

@@ -1,9 +1,7 @@
 use Rattle.std.proofs.Common.{ℕ, ◌≡◌, ◌<◌, Bool, true, false, set, length, [], ◌∷◌}
 use Rattle.std.specs.Bool.{OnFalse, OnTrue}
 use Rattle.std.specs.Prelude.{IsTrue}
-use Rattle.lfs_model.specs.layers.BlockSets.{BlockStates, IsFree, IsInFlight}
-use Rattle.lfs_model.specs.layers.BlockSets.BlockState.{Used}
-use Rattle.lfs_file.specs.SettledMaps.{PutsInState}
+use Rattle.lfs_file.proofs.Common.{BlockStates, IsFree, IsInFlight, Used, PutsInState}
 use Rattle.lfs_file.proofs.Settlings.{puts_kept, puts_one, used_else}
 use Rattle.lfs_file.proofs.named_lists.make_block_used.Goals as goal
 

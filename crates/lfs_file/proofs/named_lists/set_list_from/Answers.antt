@@ -1,11 +1,6 @@
 use Rattle.std.proofs.Common.{ℕ, ◌≡◌, ◌+◌, ◌-◌, List, drop, slice_index, refl, sym, ap, ◌∙◌, subst, arith}
-use Rattle.std.proofs.lemmas.List.{drop_all}
-use Rattle.std.proofs.lemmas.Result.{err_from_is_err_and}
+use Rattle.lfs_file.proofs.Common.{drop_all, err_from_is_err_and, Blocks, blocks_to_head, length_back, PutsInState, used_or_free}
 use Rattle.lfs_device.specs.declared.geometry.Geometry.{Geometry}
-use Rattle.lfs_model.specs.format.Blocks.{Blocks}
-use Rattle.lfs_model.specs.format.SkipLists.{blocks_to_head}
-use Rattle.lfs_model.proofs.Files.{length_back}
-use Rattle.lfs_file.specs.SettledMaps.{PutsInState, used_or_free}
 use Rattle.lfs_file.proofs.ContentsCalled.{not_read, quiet, read_on, reported_as, reported_on}
 use Rattle.lfs_file.proofs.Releasings.{in_range_at, next_is, next_there}
 use Rattle.lfs_file.proofs.Others.{others_drop, puts_others}

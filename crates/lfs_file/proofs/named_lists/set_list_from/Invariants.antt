@@ -1,8 +1,5 @@
 use Rattle.std.proofs.Common.{◌≡◌, ◌≤◌, ◌<◌, ◌+◌, ◌-◌, drop, slice_index}
-use Rattle.lfs_device.specs.DeviceCalls.{ReadsOnly}
-use Rattle.lfs_model.specs.session.History.{fault_count, read_count}
-use Rattle.lfs_model.specs.format.SkipLists.{blocks_to_head}
-use Rattle.lfs_file.specs.SettledMaps.{PutsInState, used_or_free}
+use Rattle.lfs_file.proofs.Common.{ReadsOnly, fault_count, read_count, blocks_to_head, PutsInState, used_or_free}
 use Rattle.lfs_file.proofs.named_lists.set_list_from.Given as goal
 
 abbrev pub invariant-putting : goal.invariant-putting

@@ -1,6 +1,5 @@
 use Rattle.std.proofs.Common.{Bool, [], ◌∷◌, sym, subst}
-use Rattle.lfs_model.specs.layers.BlockSets.BlockState.{Free}
-use Rattle.lfs_file.specs.SettledMaps.{PutsInState, used_or_free}
+use Rattle.lfs_file.proofs.Common.{Free, PutsInState, used_or_free}
 use Rattle.lfs_file.proofs.Settlings.{puts_one}
 use Rattle.lfs_file.proofs.named_lists.set_taken.Goals as goal
 

@@ -1,13 +1,6 @@
 use Rattle.std.proofs.Common.{ℕ, ◌≡◌, drop, length, refl, sym, ap, ◌∙◌, subst, arith}
-use Rattle.std.proofs.lemmas.Result.{err_from_is_err_and}
+use Rattle.lfs_file.proofs.Common.{err_from_is_err_and, Blocks, BlockState, BlockStates, Free, Used, AreListBlocks, blocks_to_head, block_count_for, length_back, KeepsOtherStates, PutsInState, IsSharedCount}
 use Rattle.lfs_device.specs.declared.geometry.Geometry.{Geometry}
-use Rattle.lfs_model.specs.format.Blocks.{Blocks}
-use Rattle.lfs_model.specs.layers.BlockSets.{BlockState, BlockStates}
-use Rattle.lfs_model.specs.layers.BlockSets.BlockState.{Free, Used}
-use Rattle.lfs_model.specs.format.SkipLists.{AreListBlocks, blocks_to_head, block_count_for}
-use Rattle.lfs_model.proofs.Files.{length_back}
-use Rattle.lfs_file.specs.SettledMaps.{KeepsOtherStates, PutsInState}
-use Rattle.lfs_file.specs.SharedBlocks.{IsSharedCount}
 use Rattle.lfs_file.proofs.ContentsCalled.{quiet, read_on, reported_as, reported_on}
 use Rattle.lfs_file.proofs.Ends.{base_chain}
 use Rattle.lfs_file.proofs.Others.{others_left, others_more}

@@ -1,10 +1,6 @@
 use Rattle.std.proofs.Common.{rules, ℕ, ◌+◌, ◌-◌, List, refl, ap, ◌∙◌, subst, arith}
-use Rattle.std.proofs.lemmas.Result.{err_from_is_err_and}
+use Rattle.lfs_file.proofs.Common.{err_from_is_err_and, Blocks, growing_size, stored_list_bytes, CanEndUnfinished, unfinished_bytes}
 use Rattle.lfs_device.specs.declared.geometry.Geometry.{Geometry}
-use Rattle.lfs_model.specs.format.Blocks.{Blocks}
-use Rattle.lfs_file.specs.Growing.{growing_size}
-use Rattle.lfs_file.specs.Hand.{stored_list_bytes}
-use Rattle.lfs_file.specs.HandWrites.{HasUnfinishedBytes, unfinished_bytes}
 use Rattle.lfs_file.proofs.Owning.{list_from}
 use Rattle.lfs_file.proofs.ContentsCalled.{writes_as, writes_fail, writes_of_reads, writes_on}
 use Rattle.lfs_file.proofs.Flights.{length-base, part_fits}
@@ -59,7 +55,7 @@ returns-clause-filled g c =
     let end = zeroed.at.size in
     let all = length-base d now.block_size now.block_count stored.head stored.size now.valid.no_smaller (g.met.D.BlockDevice.shape c.args.dev.now) c.requires.stored.base in
     record {
-      going = subst (λ (k : Geometry). HasUnfinishedBytes c.write_zeros.new.map (g.D.BlockDevice.blocks c.write_zeros.new.dev) k c.write_zeros.new.hand) read.geometry (zeroed.going (omega arith));
+      going = subst (λ (k : Geometry). CanEndUnfinished c.write_zeros.new.map (g.D.BlockDevice.blocks c.write_zeros.new.dev) k c.write_zeros.new.hand) read.geometry (zeroed.going (omega arith));
       size = omega arith;
       bytes = lengthened old (unfinished_bytes (g.D.BlockDevice.blocks c.begin_over_finished.new.dev) hand) _ stored.size (growing_size hand.list) c.args.size all (omega arith) (ap (λ (x : Blocks). unfinished_bytes x hand) read.same ∙ at.bytes) sum zeroed.at.bytes;
     }

@@ -1,11 +1,6 @@
 use Rattle.std.proofs.Common.{◌≡◌, ◌+◌, ◌-◌, length, replicate, refl, ap, ◌∙◌, arith}
-use Rattle.std.proofs.lemmas.Result.{err_from_is_err_and}
+use Rattle.lfs_file.proofs.Common.{err_from_is_err_and, Blocks, written_contents, growing_size, buffered_bytes, unfinished_bytes}
 use Rattle.lfs_device.specs.declared.geometry.Geometry.{Geometry}
-use Rattle.lfs_model.specs.format.Blocks.{Blocks}
-use Rattle.lfs_model.specs.session.Writers.{written_contents}
-use Rattle.lfs_file.specs.Growing.{growing_size}
-use Rattle.lfs_file.specs.Contents.{buffered_bytes}
-use Rattle.lfs_file.specs.HandWrites.{unfinished_bytes}
 use Rattle.lfs_file.proofs.ContentsCalled.{quiet, reported_as, writes_well}
 use Rattle.lfs_file.proofs.ContentsMemories.{held_size, lengthened, no_base_fits}
 use Rattle.lfs_file.proofs.new_sizes.fill_memory_contents.Goals as goal

@@ -1,13 +1,6 @@
 use Rattle.std.proofs.Common.{rules, ℕ, ◌≡◌, ◌≢◌, ◌+◌, ◌*◌, ◌-◌, ◌<◌, ◌≤◌, Bool, if◌then◌else◌, max, sym, ap, ◌∙◌, subst, arith}
 use Rattle.lfs_device.specs.declared.geometry.Geometry.{Geometry}
-use Rattle.lfs_model.specs.format.Blocks.{Blocks}
-use Rattle.lfs_model.specs.format.SkipLists.{block_count_for}
-use Rattle.lfs_model.proofs.ListSizes.{block_count_for-more}
-use Rattle.lfs_file.specs.Growing.{growing_size}
-use Rattle.lfs_file.specs.Contents.{truncation_room}
-use Rattle.lfs_file.specs.Form.{InHand}
-use Rattle.lfs_file.specs.HandWrites.{HasUnfinishedBytes, unfinished_bytes, unfinished_length}
-use Rattle.std.proofs.lemmas.Result.{err_from_is_err_and}
+use Rattle.lfs_file.proofs.Common.{Blocks, block_count_for, block_count_for-more, growing_size, truncation_room, InHand, CanEndUnfinished, unfinished_bytes, unfinished_length, err_from_is_err_and}
 use Rattle.lfs_file.proofs.Owning.{owned_kept}
 use Rattle.lfs_file.proofs.ContentsCalled.{writes_as, writes_fail, writes_on}
 use Rattle.lfs_file.proofs.Flights.{in_flight_limit-le, either_fits, length-hand, shaped}
@@ -82,7 +75,7 @@ returns-clause-lengthened g c =
     let end = zeroed.at.size in
     let all = length-hand d geometry.block_size (g.D.BlockDevice.geometry c.args.dev.now).block_count hand.list hand.base geometry.valid.no_smaller (shaped d _ _ going.geometry (g.met.D.BlockDevice.shape c.args.dev.now)) going.list.begun.growing going.list.begun.list in
     record {
-      going = subst (λ (k : Geometry). HasUnfinishedBytes c.write_zeros.new.map (g.D.BlockDevice.blocks c.write_zeros.new.dev) k c.write_zeros.new.hand) c.restart_list_at.ensures.writing.device.geometry (zeroed.going (omega arith));
+      going = subst (λ (k : Geometry). CanEndUnfinished c.write_zeros.new.map (g.D.BlockDevice.blocks c.write_zeros.new.dev) k c.write_zeros.new.hand) c.restart_list_at.ensures.writing.device.geometry (zeroed.going (omega arith));
       size = omega arith;
       bytes = lengthened (unfinished_bytes d hand) _ _ c.max-length.result _ c.args.size (all ∙ sym len) (omega arith) at.bytes sum zeroed.at.bytes;
     }

@@ -1,8 +1,6 @@
 use Rattle.std.proofs.Common.{ℕ, ◌≡◌, List, [], length, min, sym, ap, ◌∙◌, arith}
 use Rattle.lfs_device.specs.declared.geometry.Geometry.{Geometry}
-use Rattle.lfs_model.specs.format.Blocks.{Blocks}
-use Rattle.lfs_model.specs.session.Writers.{written_contents}
-use Rattle.lfs_file.specs.Hand.{stored_list_bytes}
+use Rattle.lfs_file.proofs.Common.{Blocks, written_contents, stored_list_bytes}
 use Rattle.lfs_file.proofs.Flights.{length-base}
 use Rattle.lfs_file.proofs.Truncations.{resized}
 use Rattle.lfs_file.proofs.new_sizes.shorten_to_memory.Goals as goal

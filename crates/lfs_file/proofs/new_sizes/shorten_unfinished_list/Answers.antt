@@ -1,13 +1,7 @@
 use Rattle.std.proofs.Common.{ℕ, ◌≡◌, ◌<◌, List, take, sym, ap, ◌∙◌, subst, arith}
-use Rattle.std.proofs.lemmas.Result.{err_from_is_err_and}
-use Rattle.lfs_file.specs.Growing.{growing_size}
+use Rattle.lfs_file.proofs.Common.{err_from_is_err_and, growing_size, zero_padded, Finished, truncated_form, IsFinishedList, stored_list_bytes, unfinished_length, AreUsedAmong, contents_blocks, stored_blocks}
 use Rattle.lfs_device.specs.declared.geometry.Geometry.{Geometry}
-use Rattle.lfs_model.specs.session.Writers.{padded_with_zeros}
 use Rattle.lfs_file.specs.Contents.{AreSoundContents, contents_bytes}
-use Rattle.lfs_file.specs.Form.{Finished, truncated_form}
-use Rattle.lfs_file.specs.Hand.{FinishedListOnDisk, stored_list_bytes}
-use Rattle.lfs_file.specs.HandWrites.{unfinished_length}
-use Rattle.lfs_file.specs.BlockOwners.{AreOwn, contents_blocks, stored_blocks}
 use Rattle.lfs_file.proofs.Owning.{owned_on, owned_right}
 use Rattle.lfs_file.proofs.ContentsCalled.{writes_as, writes_fail, writes_on}
 use Rattle.lfs_file.proofs.Truncations.{room_shorter}
@@ -31,7 +25,7 @@ truncate_finished_list-requires g c =
     let shorter = c.requires.shorter in
     let large : c.args.limit < unfinished_length c.args.hand = c.requires.can.fits.large in
     record {
-      stands = subst (λ (k : Geometry). FinishedListOnDisk c.end_unfinished_list.new.map (g.D.BlockDevice.blocks c.end_unfinished_list.new.dev) k.block_size c.in_ok-stored.stored) (sym is) c.in_ok-stored.ensures.ended.stored;
+      stands = subst (λ (k : Geometry). IsFinishedList c.end_unfinished_list.new.map (g.D.BlockDevice.blocks c.end_unfinished_list.new.dev) k.block_size c.in_ok-stored.stored) (sym is) c.in_ok-stored.ensures.ended.stored;
       fits = record {
         large = λ flying. omega arith;
         short = subst (λ (k : Geometry). c.args.limit < k.block_size) (sym is) c.requires.can.fits.short;
@@ -66,12 +60,12 @@ returns-clause-truncated g c =
     record {
       stands = subst (λ (k : Geometry). AreSoundContents c.truncate_finished_list.new.map (g.D.BlockDevice.blocks c.truncate_finished_list.new.dev) k c.in_ok-cut.cut) is cut.stands;
       has = sym (ap (λ (k : Geometry). contents_bytes (g.D.BlockDevice.blocks c.truncate_finished_list.new.dev) k.block_size c.in_ok-cut.cut) is) ∙ cut.has
-          ∙ ap (λ (l : List ℕ). take c.args.size (padded_with_zeros c.args.size l)) (ap (λ (k : Geometry). stored_list_bytes d k.block_size stored) is ∙ ended.bytes);
+          ∙ ap (λ (l : List ℕ). take c.args.size (zero_padded c.args.size l)) (ap (λ (k : Geometry). stored_list_bytes d k.block_size stored) is ∙ ended.bytes);
       form = cut.form ∙ ap (λ k. truncated_form c.args.limit c.args.size (Finished k stored.in_flight)) ended.count ∙ ap (λ t. truncated_form c.args.limit c.args.size (Finished (unfinished_length c.args.hand) t)) c.in_ok-stored.ensures.own.flying;
     }
 
 pub returns-clause-owned : goal.returns-clause-owned
 returns-clause-owned g c =
     owned_right _ (owned_on c.truncate_finished_list.ensures.writing.map c.in_ok-stored.ensures.own.owned
-    (subst (λ (k : Geometry). AreOwn c.truncate_finished_list.new.map (stored_blocks (g.D.BlockDevice.blocks c.end_unfinished_list.new.dev) k.block_size c.in_ok-stored.stored)
+    (subst (λ (k : Geometry). AreUsedAmong c.truncate_finished_list.new.map (stored_blocks (g.D.BlockDevice.blocks c.end_unfinished_list.new.dev) k.block_size c.in_ok-stored.stored)
     (contents_blocks (g.D.BlockDevice.blocks c.truncate_finished_list.new.dev) k.block_size c.in_ok-cut.cut)) c.end_unfinished_list.ensures.writing.device.geometry c.in_ok-cut.ensures.owned))

@@ -1,12 +1,6 @@
 use Rattle.std.proofs.Common.{ℕ, ◌≡◌, ◌+◌, ◌<◌, ◌≤◌, inl, List, length, sym, ap, ◌∙◌, arith}
-use Rattle.std.proofs.lemmas.Result.{err_from_is_err_and}
-use Rattle.lfs_model.specs.layers.BlockSets.{used_count}
-use Rattle.lfs_model.specs.format.SkipLists.{block_count_for}
-use Rattle.lfs_file.specs.BaseRoom.{in_flight_limit}
+use Rattle.lfs_file.proofs.Common.{err_from_is_err_and, used_count, block_count_for, in_flight_limit, Blocks, Finished, InHand, InMemory, stored_list_bytes}
 use Rattle.lfs_device.specs.declared.geometry.Geometry.{Geometry}
-use Rattle.lfs_model.specs.format.Blocks.{Blocks}
-use Rattle.lfs_file.specs.Form.{Finished, InHand, InMemory}
-use Rattle.lfs_file.specs.Hand.{stored_list_bytes}
 use Rattle.lfs_file.proofs.Owning.{hand_owned, owned_is}
 use Rattle.lfs_file.proofs.ContentsCalled.{quiet, reported_as, used_reads, writes_as, writes_none, writes_of_reads, writes_same, writes_well}
 use Rattle.lfs_file.proofs.Flights.{length-base}

@@ -1,12 +1,6 @@
 use Rattle.std.proofs.Common.{ℕ, ◌≡◌, ◌+◌, ◌<◌, ◌≤◌, List, [], length, min, sym, ap, ◌∙◌, arith}
-use Rattle.std.proofs.lemmas.Result.{err_from_is_err_and}
-use Rattle.lfs_model.specs.layers.BlockSets.{used_count}
-use Rattle.lfs_model.specs.format.SkipLists.{block_count_for}
+use Rattle.lfs_file.proofs.Common.{err_from_is_err_and, used_count, block_count_for, Blocks, written_contents, buffered_bytes, InHand, InMemory}
 use Rattle.lfs_device.specs.declared.geometry.Geometry.{Geometry}
-use Rattle.lfs_model.specs.format.Blocks.{Blocks}
-use Rattle.lfs_model.specs.session.Writers.{written_contents}
-use Rattle.lfs_file.specs.Contents.{buffered_bytes}
-use Rattle.lfs_file.specs.Form.{InHand, InMemory}
 use Rattle.lfs_file.proofs.ContentsCalled.{writes_as, writes_none, writes_same}
 use Rattle.lfs_file.proofs.ContentsMemories.{held_size}
 use Rattle.lfs_file.proofs.Truncations.{length-resized, resized, truncated_held, truncated_longer}

@@ -1,10 +1,6 @@
 use Rattle.std.proofs.Common.{◌≡◌, sym, ap, ◌∙◌, arith}
-use Rattle.std.proofs.lemmas.Result.{err_from_is_err_and}
+use Rattle.lfs_file.proofs.Common.{err_from_is_err_and, Blocks, growing_size, InHand, unfinished_bytes, unfinished_length}
 use Rattle.lfs_device.specs.declared.geometry.Geometry.{Geometry}
-use Rattle.lfs_model.specs.format.Blocks.{Blocks}
-use Rattle.lfs_file.specs.Growing.{growing_size}
-use Rattle.lfs_file.specs.Form.{InHand}
-use Rattle.lfs_file.specs.HandWrites.{unfinished_bytes, unfinished_length}
 use Rattle.lfs_file.proofs.Owning.{hand_owned, owned_right}
 use Rattle.lfs_file.proofs.ContentsCalled.{writes_as, writes_none, writes_same}
 use Rattle.lfs_file.proofs.Flights.{length-hand, shaped}

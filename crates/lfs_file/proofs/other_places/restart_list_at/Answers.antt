@@ -1,7 +1,5 @@
 use Rattle.std.proofs.Common.{rules, sym, subst}
-use Rattle.std.proofs.lemmas.Result.{err_from_is_err_and}
-use Rattle.lfs_model.specs.format.Blocks.{Blocks}
-use Rattle.lfs_file.specs.BlockOwners.{AreOwn, stored_blocks}
+use Rattle.lfs_file.proofs.Common.{err_from_is_err_and, Blocks, AreUsedAmong, stored_blocks}
 use Rattle.lfs_file.specs.declared.stored_list.StoredList.{StoredList}
 use Rattle.lfs_file.proofs.Owning.{owned_all}
 use Rattle.lfs_file.proofs.ContentsCalled.{used_reads, writes_as, writes_fail, writes_on}
@@ -32,6 +30,6 @@ returns-clause-over g c =
     let m = c.end_unfinished_list.new.map in
     record {
       over = search rules;
-      owned = subst (λ (x : Blocks). AreOwn m (stored_blocks d n hand.base) (stored_blocks x n c.in_ok-hand.hand.base)) (sym c.begin_over_finished.ensures.device.same)
-          (subst (λ (v : StoredList). AreOwn m (stored_blocks d n hand.base) (stored_blocks (g.D.BlockDevice.blocks c.end_unfinished_list.new.dev) n v)) (sym c.in_ok-hand.ensures.base) c.in_ok-base.ensures.own.owned);
+      owned = subst (λ (x : Blocks). AreUsedAmong m (stored_blocks d n hand.base) (stored_blocks x n c.in_ok-hand.hand.base)) (sym c.begin_over_finished.ensures.device.same)
+          (subst (λ (v : StoredList). AreUsedAmong m (stored_blocks d n hand.base) (stored_blocks (g.D.BlockDevice.blocks c.end_unfinished_list.new.dev) n v)) (sym c.in_ok-hand.ensures.base) c.in_ok-base.ensures.own.owned);
     }

@@ -1,14 +1,7 @@
 use Rattle.std.proofs.Common.{rules, ℕ, ◌≡◌, ◌≢◌, ◌+◌, ◌*◌, ◌≤◌, Bool, if◌then◌else◌, length, max, min, sym, ap, ◌∙◌, arith}
-use Rattle.std.proofs.lemmas.Bool.{eq-eqb, ne_eqb}
-use Rattle.lfs_model.specs.format.SkipLists.{block_count_for}
-use Rattle.lfs_file.specs.Contents.{write_room}
-use Rattle.lfs_file.specs.Form.{InHand}
+use Rattle.lfs_file.proofs.Common.{eq-eqb, ne_eqb, block_count_for, write_room, InHand, block_count_for-more, growing_size, unfinished_length, err_from_is_err_and}
 use Rattle.lfs_device.specs.declared.geometry.Geometry.{Geometry}
-use Rattle.lfs_model.proofs.ListSizes.{block_count_for-more}
-use Rattle.lfs_file.specs.Growing.{growing_size}
-use Rattle.lfs_file.specs.HandWrites.{unfinished_length}
 use Rattle.lfs_file.proofs.Owning.{owned_kept}
-use Rattle.std.proofs.lemmas.Result.{err_from_is_err_and}
 use Rattle.lfs_file.proofs.ContentsCalled.{writes_as, writes_fail, writes_on}
 use Rattle.lfs_file.proofs.Flights.{in_flight_limit-le, either_fits}
 use Rattle.lfs_file.proofs.other_places.write_at_position.Goals as goal

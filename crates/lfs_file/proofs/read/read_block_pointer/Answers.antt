@@ -1,6 +1,6 @@
 use Rattle.std.proofs.Common.{◌≡◌, ◌⊎◌, rules}
 use Rattle.std.specs.Prelude.{IfErr}
-use Rattle.lfs_device.specs.DeviceCalls.{ReportsFaults}
+use Rattle.lfs_file.proofs.Common.{ReportsFaults}
 use Rattle.lfs_device.specs.declared.error.Error.TheVariants.{Corrupt, Io}
 use Rattle.lfs_file.proofs.Called.{read_once}
 use Rattle.lfs_file.proofs.read.read_block_pointer.Goals as goal

@@ -1,14 +1,8 @@
 use Rattle.std.proofs.Common.{ℕ, ◌≡◌, ◌+◌, ◌-◌, ◌<◌, ◌⊎◌, inl, inr, List, drop, slice_index, Result, Err, refl, sym, ap, ◌∙◌, subst, arith}
-use Rattle.std.proofs.lemmas.List.{drop_all}
-use Rattle.std.proofs.lemmas.Result.{err_from_is_err_and}
+use Rattle.lfs_file.proofs.Common.{drop_all, err_from_is_err_and, Blocks, blocks_to_head, length_back, head_of_back, ReleasesInFlight}
 use Rattle.lfs_device.specs.declared.error.Error.{Error}
 use Rattle.lfs_device.specs.declared.geometry.Geometry.{Geometry}
-use Rattle.lfs_model.specs.format.Blocks.{Blocks}
-use Rattle.lfs_model.specs.format.SkipLists.{blocks_to_head}
-use Rattle.lfs_model.proofs.Files.{length_back}
-use Rattle.lfs_model.proofs.ListSizes.{head_of_back}
 use Rattle.lfs_file.proofs.ContentsCalled.{not_read, quiet, read_on, reported_as, reported_on}
-use Rattle.lfs_file.specs.Releases.{ReleasesInFlight}
 use Rattle.lfs_file.proofs.Releasings.{releases_none, next_is, next_there, releases_here}
 use Rattle.lfs_file.proofs.releases.release_list_from.Goals as goal
 

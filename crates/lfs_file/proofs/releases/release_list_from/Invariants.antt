@@ -1,8 +1,5 @@
 use Rattle.std.proofs.Common.{◌≡◌, ◌≤◌, ◌<◌, ◌-◌, drop, slice_index}
-use Rattle.lfs_device.specs.DeviceCalls.{ReadsOnly}
-use Rattle.lfs_model.specs.session.History.{fault_count}
-use Rattle.lfs_model.specs.format.SkipLists.{blocks_to_head}
-use Rattle.lfs_file.specs.Releases.{ReleasesInFlight}
+use Rattle.lfs_file.proofs.Common.{ReadsOnly, fault_count, blocks_to_head, ReleasesInFlight}
 use Rattle.lfs_file.proofs.releases.release_list_from.Given as goal
 
 abbrev pub invariant-releasing : goal.invariant-releasing

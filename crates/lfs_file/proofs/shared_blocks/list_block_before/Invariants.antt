@@ -1,7 +1,5 @@
 use Rattle.std.proofs.Common.{◌≡◌, ◌≤◌, ◌<◌, ◌+◌, ◌-◌, slice_index}
-use Rattle.lfs_device.specs.DeviceCalls.{ReadsOnly}
-use Rattle.lfs_model.specs.session.History.{fault_count, read_count}
-use Rattle.lfs_model.specs.format.SkipLists.{blocks_to_head}
+use Rattle.lfs_file.proofs.Common.{ReadsOnly, fault_count, read_count, blocks_to_head}
 use Rattle.lfs_file.proofs.shared_blocks.list_block_before.Given as goal
 
 abbrev pub invariant-going : goal.invariant-going

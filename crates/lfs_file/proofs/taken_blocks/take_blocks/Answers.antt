@@ -1,8 +1,6 @@
 use Rattle.std.proofs.Common.{ℕ, ◌≡◌, ◌+◌, ◌<◌, ◌++◌, List, [], ◌∷◌, length, set, Option, None, Some, refl, sym, ap, subst, arith, length-append}
 use Rattle.std.specs.Option.{IfNone, IfSome, IsSome}
-use Rattle.lfs_model.specs.layers.BlockSets.{BlockStates, IsFree, in_flight_count, used_count}
-use Rattle.lfs_model.specs.layers.BlockSets.BlockState.{InFlight}
-use Rattle.lfs_file.specs.TakenBlocks.{TakesFreeBlocks}
+use Rattle.lfs_file.proofs.Common.{BlockStates, IsFree, in_flight_count, used_count, InFlight, TakesFreeBlocks}
 use Rattle.lfs_file.proofs.Takings.{takes_none, takes_more, some_free, keeps_by}
 use Rattle.lfs_model.proofs.BlockCounts.{in_flight-taken, used-taken}
 use Rattle.lfs_file.proofs.taken_blocks.take_blocks.Goals as goal

@@ -1,6 +1,5 @@
 use Rattle.std.proofs.Common.{◌≡◌, ◌≤◌, ◌+◌, ◌-◌, length}
-use Rattle.lfs_model.specs.layers.BlockSets.{in_flight_count, used_count}
-use Rattle.lfs_file.specs.TakenBlocks.{TakesFreeBlocks}
+use Rattle.lfs_file.proofs.Common.{in_flight_count, used_count, TakesFreeBlocks}
 use Rattle.lfs_file.proofs.taken_blocks.take_blocks.Given as goal
 
 abbrev pub invariant-take_next : goal.invariant-take_next

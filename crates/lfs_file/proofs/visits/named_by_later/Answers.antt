@@ -1,9 +1,7 @@
 use Rattle.std.proofs.Common.{ℕ, ◌≡◌, ◌≤◌, ◌<◌, ◌+◌, ◌*◌, ◌^◌, sym, ap, ◌∙◌, arith, below_more, ⊎_elim}
-use Rattle.std.proofs.lemmas.Bool.{cases_lt}
-use Rattle.std.proofs.Math.Nat.{pow-suc}
+use Rattle.lfs_file.proofs.Common.{cases_lt, pow-suc, word_at}
 use Rattle.std.proofs.Common.{add-one}
 use lib.Pow.{pow_mono}
-use Rattle.lfs_model.specs.format.SkipLists.{word_at}
 use Rattle.lfs_file.proofs.visits.named_by_later.Goals as goal
 
 pub returns-then-word_of_slice-block-clause-no : goal.returns-then-word_of_slice-block-clause-no

@@ -1,5 +1,5 @@
 use Rattle.std.proofs.Common.{ℕ, ◌≡◌, ◌<◌, ◌*◌}
-use Rattle.lfs_model.specs.format.SkipLists.{word_at}
+use Rattle.lfs_file.proofs.Common.{word_at}
 use Rattle.lfs_file.proofs.visits.named_by_later.Given as goal
 
 abbrev pub invariant-loop-k : goal.invariant-loop-k

@@ -1,17 +1,9 @@
 use Rattle.std.proofs.Common.{ℕ, ◌≡◌, ◌≤◌, ◌<◌, ◌+◌, ◌-◌, List, [], drop, reverse, slice_index, refl, sym, ap, subst, ◌∙◌, arith}
 use Rattle.std.proofs.Common.{suc, Result, Err, ◌^◌, ⊎_elim, rules, of_calls}
-use Rattle.std.proofs.lemmas.Bool.{cases_lt}
-use Rattle.std.specs.Int.{w32, trailing_zeros}
-use Rattle.lfs_file.specs.Way.{HasNotedPointers, visit_count}
+use Rattle.lfs_file.proofs.Common.{cases_lt, w32, trailing_zeros, HasNotedPointers, visit_count, FoldsTo, LaterPointersName, ArePointersCopied, err_from_is_err_and, drop_all, Blocks, HasBlockSizes, block_bytes, AreListBlocks, IsSkipList, block_count_for, blocks_to_head, word_at}
 use Rattle.lfs_file.proofs.Ways.{none_off, one_on}
-use Rattle.std.specs.List.{FoldsTo}
 use Rattle.lfs_device.specs.declared.error.Error.{Error}
-use Rattle.lfs_file.specs.Right.{LaterPointersName, ArePointersCopied}
-use Rattle.std.proofs.lemmas.Result.{err_from_is_err_and}
-use Rattle.std.proofs.lemmas.List.{drop_all}
 use Rattle.lfs_device.specs.declared.geometry.Geometry.{Geometry}
-use Rattle.lfs_model.specs.format.Blocks.{Blocks, HasBlockSizes, block_bytes}
-use Rattle.lfs_model.specs.format.SkipLists.{AreListBlocks, IsSkipList, block_count_for, blocks_to_head, word_at}
 use Rattle.lfs_file.proofs.Sizes.{blocks_for-last}
 use Rattle.lfs_file.proofs.Chains.{head_of_back, length_back, in_range_at, back-pointer0}
 use Rattle.lfs_file.proofs.Geometries.{chain, sized, count_by}

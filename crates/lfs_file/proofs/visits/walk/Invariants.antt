@@ -1,9 +1,5 @@
 use Rattle.std.proofs.Common.{length, ◌≡◌, ◌≤◌, ◌+◌, drop, reverse, slice_index}
-use Rattle.std.specs.List.{FoldsTo}
-use Rattle.lfs_device.specs.DeviceCalls.{ReadsOnly}
-use Rattle.lfs_model.specs.session.History.{fault_count, read_count}
-use Rattle.lfs_model.specs.format.SkipLists.{AreListBlocks, blocks_to_head}
-use Rattle.lfs_file.specs.Way.{visit_count}
+use Rattle.lfs_file.proofs.Common.{FoldsTo, ReadsOnly, fault_count, read_count, AreListBlocks, blocks_to_head, visit_count}
 use Rattle.lfs_file.proofs.Walked.{IsChecked}
 use Rattle.lfs_file.proofs.visits.walk.Given as goal
 

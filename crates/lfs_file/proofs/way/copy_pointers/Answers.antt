@@ -1,10 +1,6 @@
 use Rattle.std.proofs.Common.{ℕ, ◌≡◌, ◌≤◌, ◌+◌, ◌-◌, ◌*◌, ◌++◌, List, length, take, drop, ap, ◌∙◌, arith}
-use Rattle.std.proofs.lemmas.List.{length-take-le}
+use Rattle.lfs_file.proofs.Common.{length-take-le, w32, from_le_bytes, Blocks, block_bytes, pointer_count, word_at, ArePointersCopied}
 use Rattle.std.proofs.lemmas.Slice.{drop-append-drop}
-use Rattle.std.specs.Int.{w32, from_le_bytes}
-use Rattle.lfs_model.specs.format.Blocks.{Blocks, block_bytes}
-use Rattle.lfs_model.specs.format.SkipLists.{pointer_count, word_at}
-use Rattle.lfs_file.specs.Right.{ArePointersCopied}
 use Rattle.lfs_file.proofs.Sizes.{pointer_count-le}
 use Rattle.lfs_file.proofs.Words.{word_at-written}
 use Rattle.lfs_file.proofs.way.copy_pointers.Goals as goal

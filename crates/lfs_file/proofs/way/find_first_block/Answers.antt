@@ -1,14 +1,7 @@
 use Rattle.std.proofs.Common.{rules, ℕ, ◌≡◌, ◌≤◌, ◌+◌, ◌-◌, ◌*◌, ◌%◌, ◌^◌, ◌++◌, length, take, drop, slice_index, slice_set, refl, sym, ap, subst, ◌∙◌, arith}
-use Rattle.std.specs.Int.{w32, trailing_zeros}
-use Rattle.std.proofs.lemmas.Nat.{one_shl}
-use Rattle.std.proofs.Math.Nat.{one-le-pow}
-use Rattle.std.proofs.lemmas.List.{length-set}
-use Rattle.std.proofs.lemmas.Result.{err_from_is_err_and}
+use Rattle.lfs_file.proofs.Common.{w32, trailing_zeros, one_shl, one-le-pow, length-set, err_from_is_err_and, Blocks, block_bytes, AreListBlocks, blocks_to_head, word_at, IsIndexVisited, HasNotedWalk}
 use Rattle.lfs_device.specs.declared.geometry.Geometry.{Geometry}
-use Rattle.lfs_model.specs.format.Blocks.{Blocks, block_bytes}
-use Rattle.lfs_model.specs.format.SkipLists.{AreListBlocks, blocks_to_head, word_at}
 use Rattle.lfs_file.specs.declared.way.WalkedBlocks.{WalkedBlocks}
-use Rattle.lfs_file.specs.Way.{IsIndexVisited, HasNotedWalk}
 use Rattle.lfs_file.proofs.Called.{list_corrupt, list_io, list_ok, not_read, quiet, read_on, reported_on}
 use Rattle.lfs_file.proofs.Chains.{head_of_back, in_range_at, pointer_at}
 use Rattle.lfs_file.proofs.Walked.{power_small}

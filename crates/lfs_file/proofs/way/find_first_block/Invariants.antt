@@ -1,8 +1,5 @@
 use Rattle.std.proofs.Common.{◌≡◌, ◌≤◌, ◌<◌, ◌+◌, length, slice_index}
-use Rattle.lfs_device.specs.DeviceCalls.{ReadsOnly}
-use Rattle.lfs_model.specs.session.History.{fault_count, read_count}
-use Rattle.lfs_model.specs.format.SkipLists.{AreListBlocks, blocks_to_head}
-use Rattle.lfs_file.specs.Way.{IsIndexVisited, HasNotedWalk, visit_count}
+use Rattle.lfs_file.proofs.Common.{ReadsOnly, fault_count, read_count, AreListBlocks, blocks_to_head, IsIndexVisited, HasNotedWalk, visit_count}
 use Rattle.lfs_file.proofs.way.find_first_block.Given as goal
 
 abbrev pub invariant-loop-at : goal.invariant-loop-at

@@ -1,8 +1,6 @@
 use Rattle.std.proofs.Common.{rules, ◌+◌, length, sym, ap, ◌∙◌, arith}
 use Rattle.lfs_device.specs.declared.geometry.Geometry.{Geometry}
-use Rattle.lfs_model.specs.format.SkipLists.{block_count_for}
-use Rattle.lfs_file.specs.Growing.{growing_size}
-use Rattle.lfs_file.specs.BaseRoom.{in_flight_limit}
+use Rattle.lfs_file.proofs.Common.{block_count_for, growing_size, in_flight_limit}
 use Rattle.lfs_file.proofs.Owning.{base_kept}
 use Rattle.lfs_file.proofs.ContentsCalled.{used_of}
 use Rattle.lfs_file.proofs.Flights.{begun_flying, length-content, shaped}

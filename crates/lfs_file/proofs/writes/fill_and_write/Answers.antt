@@ -1,8 +1,6 @@
 use Rattle.std.proofs.Common.{rules, ◌≡◌, ◌+◌, ◌-◌, length, refl, ap, ◌∙◌, subst, arith, replicate}
 use Rattle.lfs_device.specs.declared.geometry.Geometry.{Geometry}
-use Rattle.lfs_model.specs.session.Writers.{written_contents}
-use Rattle.lfs_file.specs.Growing.{growing_size}
-use Rattle.lfs_file.specs.HandWrites.{HasUnfinishedBytes, unfinished_bytes, unfinished_length}
+use Rattle.lfs_file.proofs.Common.{written_contents, growing_size, CanEndUnfinished, unfinished_bytes, unfinished_length}
 use Rattle.lfs_file.proofs.Owning.{list_then}
 use Rattle.lfs_file.proofs.ContentsCalled.{used_on}
 use Rattle.lfs_file.proofs.Flights.{length-hand, part_fits, shaped, wrote_all}
@@ -39,7 +37,7 @@ returns-clause-written g c =
     let long = length-hand d geometry.block_size (g.D.BlockDevice.geometry c.args.dev.now).block_count hand.list hand.base geometry.valid.no_smaller (shaped d _ _ begun.geometry (g.met.D.BlockDevice.shape c.args.dev.now)) begun.begun.growing begun.begun.list in
     let gap : c.args.place - c.size.result ≡ c.args.place - growing_size hand.list = ap (λ n. c.args.place - n) size in
     record {
-      going = subst (λ (k : Geometry). HasUnfinishedBytes c.append_to_unfinished.new.map (g.D.BlockDevice.blocks c.append_to_unfinished.new.dev) k c.append_to_unfinished.new.hand) c.write_zeros.ensures.device.geometry wrote.going;
+      going = subst (λ (k : Geometry). CanEndUnfinished c.append_to_unfinished.new.map (g.D.BlockDevice.blocks c.append_to_unfinished.new.dev) k c.append_to_unfinished.new.hand) c.write_zeros.ensures.device.geometry wrote.going;
       size = (let sum = wrote.size in omega arith);
       bytes = wrote_all (unfinished_bytes d hand) (unfinished_bytes d hand) _ _ c.args.bytes.now (unfinished_length hand) c.args.place (growing_size hand.list) (growing_size hand.list) _ long at refl refl
           (zeroed.at.bytes ∙ ap (λ n. written_contents (unfinished_bytes d hand) (growing_size hand.list) (replicate n 0)) gap) end wrote.bytes;

@@ -1,10 +1,8 @@
 use Rattle.std.proofs.Common.{rules, ℕ, ◌≡◌, ◌+◌, ◌≤◌, List, length, take, replicate, refl, sym, ap, ◌∙◌, subst, arith}
-use Rattle.std.proofs.lemmas.List.{take-replicate, length-replicate}
-use Rattle.std.proofs.lemmas.Result.{err_from_is_err_and}
+use Rattle.lfs_file.proofs.Common.{length-replicate, err_from_is_err_and, written_contents, growing_size, CanEndUnfinished, EndsInZeros, unfinished_bytes}
+use Rattle.std.proofs.lemmas.List.{take-replicate}
 use Rattle.lfs_device.specs.declared.geometry.Geometry.{Geometry}
-use Rattle.lfs_model.specs.session.Writers.{written_contents}
-use Rattle.lfs_file.specs.Growing.{growing_size}
-use Rattle.lfs_file.specs.HandWrites.{UnfinishedListOnDisk, HasUnfinishedBytes, EndsInZeros, unfinished_bytes}
+use Rattle.lfs_file.specs.HandWrites.{IsUnfinishedList}
 use Rattle.lfs_file.proofs.Owning.{list_same, list_then}
 use Rattle.lfs_file.proofs.ContentsCalled.{not_read, quiet, reported_as, reported_on, used_on, used_reads}
 use Rattle.lfs_file.proofs.Flights.{in_hand, more_zeros, part_fits, shaped, wrote_none}
@@ -34,7 +32,7 @@ pub append_to_unfinished-requires : goal.append_to_unfinished-requires
 append_to_unfinished-requires g c = record {
   begun =
       let inv = c.zeroing.invariant in
-      subst (λ (k : Geometry). UnfinishedListOnDisk c.zeroing.map (g.D.BlockDevice.blocks c.zeroing.dev) k c.zeroing.hand) (sym inv.device.geometry) inv.zeroed.at.begun;
+      subst (λ (k : Geometry). IsUnfinishedList c.zeroing.map (g.D.BlockDevice.blocks c.zeroing.dev) k c.zeroing.hand) (sym inv.device.geometry) inv.zeroed.at.begun;
   some = search rules;
   small = search rules;
   room =
@@ -71,7 +69,7 @@ zeroing-preserved g c =
     let size = inv.zeroed.at.size in
     let sum = wrote.size in
     let len : length zeros ≡ n = ap length part ∙ length-replicate {A = ℕ} n 0 in
-    let going = subst (λ (k : Geometry). HasUnfinishedBytes c.append_to_unfinished.new.map (g.D.BlockDevice.blocks c.append_to_unfinished.new.dev) k c.append_to_unfinished.new.hand) inv.device.geometry wrote.going in
+    let going = subst (λ (k : Geometry). CanEndUnfinished c.append_to_unfinished.new.map (g.D.BlockDevice.blocks c.append_to_unfinished.new.dev) k c.append_to_unfinished.new.hand) inv.device.geometry wrote.going in
     record {
       few = omega arith;
       zeroed = record {

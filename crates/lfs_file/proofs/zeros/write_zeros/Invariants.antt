@@ -1,11 +1,5 @@
 use Rattle.std.proofs.Common.{◌≡◌, ◌≤◌, ◌+◌, ◌-◌, replicate}
-use Rattle.lfs_model.specs.session.History.{fault_count}
-use Rattle.lfs_model.specs.session.Writers.{written_contents}
-use Rattle.lfs_file.specs.Growing.{growing_size}
-use Rattle.lfs_file.specs.ContentsCalls.{CallKeepsUsedBytes}
-use Rattle.lfs_file.specs.Hand.{KeepsUsedBlocks}
-use Rattle.lfs_file.specs.HandWrites.{EndsInZeros, unfinished_bytes}
-use Rattle.lfs_file.specs.BlockOwners.{KeepsStoredBlocks}
+use Rattle.lfs_file.proofs.Common.{fault_count, written_contents, growing_size, CallKeepsUsed, KeepsUsedBlocks, EndsInZeros, unfinished_bytes, KeepsStoredBlocks}
 use Rattle.lfs_file.proofs.zeros.write_zeros.Given as goal
 
 abbrev pub invariant-zeroing : goal.invariant-zeroing
@@ -18,7 +12,7 @@ invariant-zeroing g l =
           (written_contents (unfinished_bytes (shows.blocks l.fn.dev) was) (growing_size was.list) (replicate l.done 0));
       base : KeepsStoredBlocks (shows.geometry l.fn.dev).block_size (shows.blocks l.fn.dev) was.base (shows.blocks l.dev) l.hand.base;
       map : KeepsUsedBlocks l.fn.map l.map;
-      device : CallKeepsUsedBytes shows l.fn.map l.fn.dev l.dev;
+      device : CallKeepsUsed shows l.fn.map l.fn.dev l.dev;
       quiet : fault_count (shows.history l.dev) ≡ fault_count (shows.history l.fn.dev);
     }
 

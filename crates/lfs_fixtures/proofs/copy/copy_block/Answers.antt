@@ -2,23 +2,23 @@ use Rattle.std.proofs.Common.{◌≡◌, ◌<◌, ◌≤◌, ◌+◌, ◌*◌, L
 use Rattle.std.proofs.lemmas.List.{take_all}
 use Rattle.lfs_device.specs.declared.geometry.Geometry.{Geometry}
 use Rattle.lfs_model.specs.format.Blocks.{Blocks, block_bytes, overwritten_at}
-use Rattle.lfs_device.proofs.CallLaws.{ChangesOnlyThisBlock-reads, ChangesOnlyThisBlock-trans, ChangesOnlyThisBlock-erase, ChangesOnlyThisBlock-program}
+use Rattle.lfs_device.proofs.CallLaws.{ChangesOneBlock-reads, ChangesOneBlock-trans, ChangesOneBlock-erase, ChangesOneBlock-program}
 use Rattle.lfs_model.proofs.Histories.{is_unprogrammed_byte-erase, is_unprogrammed_byte-program}
 use Rattle.lfs_model.proofs.Overwrites.{SameExcept-is, block_bytes-set, take-overwritten_next}
 use Rattle.lfs_fixtures.proofs.copy.copy_block.Goals as goal
 
 pub returns-in_err-bytes-clause-device : goal.returns-in_err-bytes-clause-device
-returns-in_err-bytes-clause-device g c = ChangesOnlyThisBlock-reads g.D.BlockDevice c.args.to c.in_err-bytes.ensures.device
+returns-in_err-bytes-clause-device g c = ChangesOneBlock-reads g.D.BlockDevice c.args.to c.in_err-bytes.ensures.device
 
 pub returns-in_err-erase-clause-device : goal.returns-in_err-erase-clause-device
 returns-in_err-erase-clause-device g c =
-    ChangesOnlyThisBlock-trans g.D.BlockDevice (ChangesOnlyThisBlock-reads g.D.BlockDevice c.args.to c.in_ok-bytes.ensures.device)
-    (ChangesOnlyThisBlock-erase g.D.BlockDevice c.erase.ensures.history c.erase.ensures.others c.erase.ensures.geometry)
+    ChangesOneBlock-trans g.D.BlockDevice (ChangesOneBlock-reads g.D.BlockDevice c.args.to c.in_ok-bytes.ensures.device)
+    (ChangesOneBlock-erase g.D.BlockDevice c.erase.ensures.history c.erase.ensures.others c.erase.ensures.geometry)
 
 pub loop-page-init : goal.loop-page-init
 loop-page-init g c = record {
-  device = ChangesOnlyThisBlock-trans g.D.BlockDevice (ChangesOnlyThisBlock-reads g.D.BlockDevice c.args.to c.in_ok-bytes.ensures.device)
-      (ChangesOnlyThisBlock-erase g.D.BlockDevice c.erase.ensures.history c.erase.ensures.others c.erase.ensures.geometry);
+  device = ChangesOneBlock-trans g.D.BlockDevice (ChangesOneBlock-reads g.D.BlockDevice c.args.to c.in_ok-bytes.ensures.device)
+      (ChangesOneBlock-erase g.D.BlockDevice c.erase.ensures.history c.erase.ensures.others c.erase.ensures.geometry);
   front = search rules;
   unprogrammed = is_unprogrammed_byte-erase c.in_ok-erase.ensures.history;
   erases = search rules;
@@ -28,8 +28,8 @@ loop-page-init g c = record {
 
 pub returns-in_err-prog-clause-device : goal.returns-in_err-prog-clause-device
 returns-in_err-prog-clause-device g c =
-    ChangesOnlyThisBlock-trans g.D.BlockDevice c.loop-page.invariant.device
-    (ChangesOnlyThisBlock-program g.D.BlockDevice c.prog.ensures.history c.prog.ensures.programs.others c.prog.ensures.geometry)
+    ChangesOneBlock-trans g.D.BlockDevice c.loop-page.invariant.device
+    (ChangesOneBlock-program g.D.BlockDevice c.prog.ensures.history c.prog.ensures.programs.others c.prog.ensures.geometry)
 
 -- one page more
 front : (g : _) (c : goal.In_ok-prog g) → take ((c.loop-page.page + 1) * c.geometry-geometry.result.page) (block_bytes (g.D.BlockDevice.blocks c.prog.new.self) c.args.to)
@@ -58,8 +58,8 @@ front g c =
 
 pub loop-page-preserved : goal.loop-page-preserved
 loop-page-preserved g c = record {
-  device = ChangesOnlyThisBlock-trans g.D.BlockDevice c.loop-page.invariant.device
-      (ChangesOnlyThisBlock-program g.D.BlockDevice c.prog.ensures.history c.prog.ensures.programs.others c.prog.ensures.geometry);
+  device = ChangesOneBlock-trans g.D.BlockDevice c.loop-page.invariant.device
+      (ChangesOneBlock-program g.D.BlockDevice c.prog.ensures.history c.prog.ensures.programs.others c.prog.ensures.geometry);
   front = front g c;
   unprogrammed = is_unprogrammed_byte-program c.prog.ensures.history c.loop-page.invariant.unprogrammed (grind arith) (grind arith);
   erases = search rules;

@@ -1,5 +1,5 @@
 use Rattle.std.proofs.Common.{◌≡◌, ◌+◌, ◌*◌, take}
-use Rattle.lfs_device.specs.DeviceCalls.{ChangesOnlyThisBlock}
+use Rattle.lfs_device.specs.DeviceCalls.{ChangesOneBlock}
 use Rattle.lfs_model.specs.format.Blocks.{block_bytes}
 use Rattle.lfs_model.specs.session.History.{AreUnprogrammed, erase_count, program_count, fault_count}
 use Rattle.lfs_fixtures.proofs.copy.copy_block.Given as goal
@@ -11,7 +11,7 @@ invariant-loop-page g l =
     let history = g.D.BlockDevice.history in
     let old = l.fn.device in
     record {
-      device : ChangesOnlyThisBlock g.D.BlockDevice l.to old l.device;
+      device : ChangesOneBlock g.D.BlockDevice l.to old l.device;
       front : take (l.page * l.geometry.page) (block_bytes (blocks l.device) l.to) ≡ take (l.page * l.geometry.page) (block_bytes (blocks old) l.from);
       unprogrammed : AreUnprogrammed (history l.device) l.to (l.page * l.geometry.page) l.geometry.block_size;
       erases : erase_count (history l.device) ≡ erase_count (history old) + 1;

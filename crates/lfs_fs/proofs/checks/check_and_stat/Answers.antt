@@ -1,24 +1,21 @@
-use Rattle.lfs_fs.specs.SessionView.{view_of_session}
+use Rattle.lfs_fs.proofs.Common.{session_view, ancestor_paths, searched_directories, HasCachedDirectories, stat_view}
 use Rattle.lfs_model.specs.session.Operations as ops
 use Rattle.lfs_fs.proofs.Errors.{given_on}
 use Rattle.lfs_fs.proofs.Late.{stat_late}
 use Rattle.lfs_fs.proofs.Checked.{lookup_failed, stat_checked}
 use Rattle.lfs_fs.proofs.FewReads.{few_given}
 use Rattle.lfs_fs.proofs.KeptLookUps.{hand_failed, hand_given, none_given}
-use Rattle.lfs_model.specs.crash.Frame.{ancestor_paths, searched_directories}
-use Rattle.lfs_tree.specs.TreeReads.{HasCachedDirectories}
-use Rattle.lfs_lookup.specs.Finds.{stat_view}
 use Rattle.std.proofs.Common.{[], ◌∷◌, ◌∙◌}
 use Rattle.lfs_fs.proofs.checks.check_and_stat.Goals as goal
 
 pub returns-clause-checks : goal.returns-clause-checks
 returns-clause-checks g c =
-    stat_checked stat_view (view_of_session c.args.tree.now c.args.files.now) c.args.bytes.now c.in-Some.path c.in_ok-found.found _ c.is_nothing.result c.refuse_if.result c.from_size.result c.value_or_refusal.result
+    stat_checked stat_view (session_view c.args.tree.now c.args.files.now) c.args.bytes.now c.in-Some.path c.in_ok-found.found _ c.is_nothing.result c.refuse_if.result c.from_size.result c.value_or_refusal.result
     c.if-has_failed.ensures c.in-Some.ensures c.in_ok-found.ensures.asks.asked c.in_ok-found.ensures.found c.is_nothing.ensures c.refuse_if.ensures (c.from_size.ensures ∙ c.size.ensures) c.value_or_refusal.ensures
 
 pub returns-in_err-found-clause-checks : goal.returns-in_err-found-clause-checks
 returns-in_err-found-clause-checks g c =
-    lookup_failed (view_of_session c.args.tree.now c.args.files.now) (ops.Stat c.args.bytes.now) _ c.in_err-found.field-0.0 _ c.from_residual.result c.if-has_failed.ensures c.in_err-found.ensures.asks.broken c.in_err-found.ensures.asks.errors (stat_late (view_of_session c.args.tree.now c.args.files.now) c.args.bytes.now c.in-Some.path c.if-has_failed.ensures c.in-Some.ensures)
+    lookup_failed (session_view c.args.tree.now c.args.files.now) (ops.Stat c.args.bytes.now) _ c.in_err-found.field-0.0 _ c.from_residual.result c.if-has_failed.ensures c.in_err-found.ensures.asks.broken c.in_err-found.ensures.asks.errors (stat_late (session_view c.args.tree.now c.args.files.now) c.args.bytes.now c.in-Some.path c.if-has_failed.ensures c.in-Some.ensures)
     (given_on _ c.from_residual.result c.from_residual.ensures.1)
 
 pub returns-clause-few : goal.returns-clause-few

@@ -1,10 +1,7 @@
 use Rattle.lfs_fs.proofs.OpenFiles.{lacks_is}
 use Rattle.std.proofs.Common.{◌∙◌, ap, sym}
-use Rattle.lfs_model.specs.session.Session.{lacks_free}
-use Rattle.lfs_tree.specs.TreeState.{tree_summary}
-use Rattle.lfs_fs.specs.FileView.{files_view}
+use Rattle.lfs_fs.proofs.Common.{lacks_free, tree_summary, files_view, session_view}
 use Rattle.lfs_fs.proofs.Answered.{ready_later}
-use Rattle.lfs_fs.specs.SessionView.{view_of_session}
 use Rattle.lfs_model.specs.session.Operations as ops
 use Rattle.lfs_fs.proofs.Errors.{given_on}
 use Rattle.lfs_fs.proofs.Late.{mkdir_late}
@@ -13,7 +10,7 @@ use Rattle.lfs_fs.proofs.checks.check_mkdir.Goals as goal
 
 pub returns : goal.returns
 returns g c =
-    mkdir_checked (view_of_session c.args.tree.now c.args.files.now) c.args.bytes.now c.in-Some.path c.in_ok-found.found _ c.name_len.result c.name_len-2.result c.name_is_long.result c.is_nothing.result c.new_entry_overflows.result c.lacks_blocks.result
+    mkdir_checked (session_view c.args.tree.now c.args.files.now) c.args.bytes.now c.in-Some.path c.in_ok-found.found _ c.name_len.result c.name_len-2.result c.name_is_long.result c.is_nothing.result c.new_entry_overflows.result c.lacks_blocks.result
     c.refuse_if.result c.refuse_if-2.result c.refuse_if-3.result c.refuse_if-4.result c.value_or_refusal.result
     c.if-has_failed.ensures c.if-not-is_writable.ensures c.in-Some.ensures c.in_ok-found.ensures.asks.asked c.in_ok-found.ensures.found
     c.name_len.ensures.len c.name_is_long.ensures c.refuse_if.ensures c.is_nothing.ensures c.refuse_if-2.ensures c.name_len-2.ensures.len c.new_entry_overflows.ensures c.refuse_if-3.ensures
@@ -21,5 +18,5 @@ returns g c =
 
 pub returns-in_err-found : goal.returns-in_err-found
 returns-in_err-found g c =
-    lookup_failed (view_of_session c.args.tree.now c.args.files.now) (ops.Mkdir c.args.bytes.now) _ c.in_err-found.field-0.0 _ c.from_residual.result c.if-has_failed.ensures c.in_err-found.ensures.asks.broken c.in_err-found.ensures.asks.errors (mkdir_late (view_of_session c.args.tree.now c.args.files.now) c.args.bytes.now c.in-Some.path c.if-has_failed.ensures c.if-not-is_writable.ensures c.in-Some.ensures)
+    lookup_failed (session_view c.args.tree.now c.args.files.now) (ops.Mkdir c.args.bytes.now) _ c.in_err-found.field-0.0 _ c.from_residual.result c.if-has_failed.ensures c.in_err-found.ensures.asks.broken c.in_err-found.ensures.asks.errors (mkdir_late (session_view c.args.tree.now c.args.files.now) c.args.bytes.now c.in-Some.path c.if-has_failed.ensures c.if-not-is_writable.ensures c.in-Some.ensures)
     (given_on _ c.from_residual.result c.from_residual.ensures.1)

@@ -1,11 +1,6 @@
 use Rattle.std.proofs.Common.{◌∙◌, [], ap, refl, sym}
 use Rattle.lfs_model.specs.session.Operations as ops
-use Rattle.lfs_model.specs.session.Session.{lacks_free}
-use Rattle.lfs_model.specs.format.Thread.{pairs_gstate}
-use Rattle.lfs_tree.specs.TreeState.{TreeState, tree_summary}
-use Rattle.lfs_fs.specs.FileView.{files_view}
-use Rattle.lfs_fs.specs.FlagsView.{flags_view}
-use Rattle.lfs_fs.specs.SessionView.{view_of_session}
+use Rattle.lfs_fs.proofs.Common.{lacks_free, pairs_gstate, TreeState, tree_summary, files_view, flags_view, session_view}
 use Rattle.lfs_fs.proofs.Answered.{ready_later}
 use Rattle.lfs_fs.proofs.Errors.{given_on}
 use Rattle.lfs_fs.proofs.Late.{writer_late}
@@ -18,7 +13,7 @@ pub returns : goal.returns
 returns g c =
     let t = c.args.tree.now in
     let fs = c.args.files.now in
-    writer_checked (view_of_session t fs) c.args.bytes.now c.in-Some.path (flags_view c.args.flags) c.in_ok-found.found.entry c.look_up_creation.new.self c.size-size.result c.name_len.result c.name_len-2.result
+    writer_checked (session_view t fs) c.args.bytes.now c.in-Some.path (flags_view c.args.flags) c.in_ok-found.found.entry c.look_up_creation.new.self c.size-size.result c.name_len.result c.name_len-2.result
     c.name_is_long.result c.is_nothing-is_absent.result c.contains-creates.result c.contains-is_exclusive.result c.contains-truncates.result c.is_directory.result c.prevents_writer_at.result c.new_entry_overflows.result c.lacks_blocks.result c.lacks_truncate_room.result
     c.are_both_true.result c.are_both_true-2.result c.are_both_true-3.result c.are_both_true-4.result c.are_both_true-5.result c.are_both_true-6.result c.are_both_true-7.result
     c.refuse_if.result c.refuse_if-2.result c.refuse_if-3.result c.refuse_if-4.result c.refuse_if-5.result c.refuse_if-6.result c.refuse_if-7.result c.refuse_if-8.result c.in_ok-found.found.target c.value_or_refusal.result
@@ -33,7 +28,7 @@ returns g c =
 
 pub returns-in_err-found : goal.returns-in_err-found
 returns-in_err-found g c =
-    lookup_failed (view_of_session c.args.tree.now c.args.files.now) (ops.Open c.args.bytes.now (flags_view c.args.flags)) _ c.in_err-found.field-0.0 _ c.from_residual.result c.if-has_failed.ensures c.in_err-found.ensures.asks.broken c.in_err-found.ensures.asks.errors (writer_late (view_of_session c.args.tree.now c.args.files.now) c.args.bytes.now c.in-Some.path (flags_view c.args.flags) c.if-has_failed.ensures c.if-not-is_writable.ensures c.in-Some.ensures c.requires.write c.if-not-is_allowed.ensures)
+    lookup_failed (session_view c.args.tree.now c.args.files.now) (ops.Open c.args.bytes.now (flags_view c.args.flags)) _ c.in_err-found.field-0.0 _ c.from_residual.result c.if-has_failed.ensures c.in_err-found.ensures.asks.broken c.in_err-found.ensures.asks.errors (writer_late (session_view c.args.tree.now c.args.files.now) c.args.bytes.now c.in-Some.path (flags_view c.args.flags) c.if-has_failed.ensures c.if-not-is_writable.ensures c.in-Some.ensures c.requires.write c.if-not-is_allowed.ensures)
     (given_on _ c.from_residual.result c.from_residual.ensures.1)
 
 pub returns-then-not-is_writable : goal.returns-then-not-is_writable

@@ -1,5 +1,5 @@
 use Rattle.lfs_model.specs.session.Operations as ops
-use Rattle.lfs_model.specs.session.Session.{refuse_if}
+use Rattle.lfs_fs.proofs.Common.{refuse_if}
 use Rattle.lfs_fs.proofs.checks.check_truncate.Goals.{else-size-writer-via-then-size-writer+else-lacks_writer_room, else-size-writer-via-else-size-writer}
 use Rattle.std.proofs.Common.{refl, sym, ap, ◌∙◌}
 use Rattle.lfs_fs.proofs.WriterChecks.{truncate_fits, truncate_no_writer, truncate_same, truncate_too_big, writer_there, written_at}

@@ -1,5 +1,5 @@
 use Rattle.lfs_model.specs.session.Operations as ops
-use Rattle.lfs_model.specs.session.Session.{refuse_if}
+use Rattle.lfs_fs.proofs.Common.{refuse_if}
 use Rattle.std.proofs.Common.{refl, sym, ap, ◌∙◌}
 use Rattle.lfs_fs.proofs.WriterChecks.{no_bytes, some_bytes, write_fits, write_no_writer, write_nothing, write_too_big, writer_there, written_at}
 use Rattle.lfs_fs.proofs.checks.check_write.Goals as goal

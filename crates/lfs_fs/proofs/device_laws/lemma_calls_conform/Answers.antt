@@ -1,5 +1,5 @@
 use Rattle.std.proofs.Common.{ap}
-use Rattle.lfs_model.specs.format.Disk.{Disk}
+use Rattle.lfs_fs.proofs.Common.{Disk}
 use Rattle.lfs_fs.proofs.DeviceLaws.{laws_met}
 use Rattle.lfs_fs.proofs.device_laws.lemma_calls_conform.Goals as goal
 

@@ -1,5 +1,5 @@
 use Rattle.std.proofs.Common.{◌≡◌, ◌+◌, ◌≤◌, drop}
-use Rattle.lfs_fs.specs.FileView.{lowest_free}
+use Rattle.lfs_fs.proofs.Common.{lowest_free}
 use Rattle.lfs_fs.proofs.files.free_number.Given as goal
 
 abbrev pub invariant-loop-entry : goal.invariant-loop-entry

@@ -1,5 +1,5 @@
 use Rattle.std.proofs.Common.{◌≡◌, drop}
-use Rattle.lfs_fs.specs.FileView.{writers_among}
+use Rattle.lfs_fs.proofs.Common.{writers_among}
 use Rattle.lfs_fs.proofs.files.is_writing.Given as goal
 
 abbrev pub invariant-loop-entry : goal.invariant-loop-entry

@@ -1,5 +1,5 @@
 use Rattle.std.proofs.Common.{◌≡◌, ◌+◌, ◌≤◌, drop, length}
-use Rattle.lfs_fs.specs.FileView.{readers_among}
+use Rattle.lfs_fs.proofs.Common.{readers_among}
 use Rattle.lfs_fs.proofs.files.reader_count.Given as goal
 
 abbrev pub invariant-loop-entry : goal.invariant-loop-entry

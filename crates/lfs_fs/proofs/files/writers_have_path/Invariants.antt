@@ -1,8 +1,5 @@
 use Rattle.std.proofs.Common.{◌≡◌, drop}
-use Rattle.std.specs.List.{list_any}
-use Rattle.lfs_model.specs.session.TreeEdits.{same_path}
-use Rattle.lfs_model.specs.session.Refusals.{path_or_root}
-use Rattle.lfs_fs.specs.FileView.{writers_among}
+use Rattle.lfs_fs.proofs.Common.{list_any, same_path, path_or_root, writers_among}
 use Rattle.lfs_fs.proofs.files.writers_have_path.Given as goal
 
 abbrev pub invariant-loop-entry : goal.invariant-loop-entry

@@ -1,10 +1,6 @@
 use Rattle.std.proofs.Common.{ap, subst, sym}
-use Rattle.lfs_device.specs.DeviceDisk.{profiled_disk}
-use Rattle.lfs_model.specs.format.Disk.{ordered_disk, Disk}
-use Rattle.lfs_model.specs.tree.View.{IsAccepted}
+use Rattle.lfs_fs.proofs.Common.{profiled_disk, ordered_disk, Disk, IsAccepted, disk_of_device, ReturnsUnchangedDevice}
 use Rattle.lfs_model.specs.declared.order.NameOrder.TheVariants.{LongerFirst}
-use Rattle.lfs_thread.specs.Kept.{disk_of_device}
-use Rattle.lfs_fs.specs.ImageLimits.{ReturnsUnchangedDeviceByAnyProfile}
 use Rattle.lfs_fs.proofs.image_limits.mount_with_profile.Goals as goal
 
 pub returns-in-Ok-clause-longer : goal.returns-in-Ok-clause-longer
@@ -20,8 +16,8 @@ returns-in-Err-clause-corrupt g c = λ corrupt order ps ok.
 pub returns-in-Err-clause-back : goal.returns-in-Err-clause-back
 returns-in-Err-clause-back g c =
     let back = c.in-Err.ensures.back in
-    subst (λ old. ReturnsUnchangedDeviceByAnyProfile g.D.BlockDevice old c.into_inner.result c.in-Err.error) c.new.ensures.inner
-    (subst (λ new. ReturnsUnchangedDeviceByAnyProfile g.D.BlockDevice c.new.result.inner new c.in-Err.error) (sym c.into_inner.ensures) (record {
+    subst (λ old. ReturnsUnchangedDevice g.D.BlockDevice old c.into_inner.result c.in-Err.error) c.new.ensures.inner
+    (subst (λ new. ReturnsUnchangedDevice g.D.BlockDevice c.new.result.inner new c.in-Err.error) (sym c.into_inner.ensures) (record {
       disk = λ order profile. ap (λ (d : Disk). ordered_disk order (profiled_disk profile d)) back.disk;
       reads = back.reads;
       fault = back.fault;

@@ -1,9 +1,6 @@
 use Rattle.std.proofs.Common.{refl, subst, sym, ap, ◌∙◌}
 use Rattle.lfs_model.specs.session.Operations as ops
-use Rattle.lfs_model.specs.format.Thread.{pairs_gstate}
-use Rattle.lfs_tree.specs.RenameFindings.{AreRenameFindings}
-use Rattle.lfs_tree.specs.TreeState.{TreeState, tree_view}
-use Rattle.lfs_fs.specs.SessionView.{view_of_session}
+use Rattle.lfs_fs.proofs.Common.{pairs_gstate, AreRenameFindings, TreeState, shown_tree, session_view}
 use Rattle.lfs_fs.proofs.Answered.{ready_later}
 use Rattle.lfs_fs.proofs.Checked.{lookup_failed}
 use Rattle.lfs_fs.proofs.Errors.{given_on}
@@ -18,7 +15,7 @@ rename_refusal_of-refusal-requires-clause-passes g c = passes_later _ _ c.args.o
 
 pub rename_refusal_of-refusal-requires-clause-found : goal.rename_refusal_of-refusal-requires-clause-found
 rename_refusal_of-refusal-requires-clause-found g c =
-    subst (λ t. AreRenameFindings (tree_view t) c.in_ok-paths.paths.from c.in_ok-paths.paths.to c.in_ok-found.found) (sym c.in_ok-found.ensures.asks.asked.same) c.in_ok-found.ensures.found
+    subst (λ t. AreRenameFindings (shown_tree t) c.in_ok-paths.paths.from c.in_ok-paths.paths.to c.in_ok-found.found) (sym c.in_ok-found.ensures.asks.asked.same) c.in_ok-found.ensures.found
 
 pub returns : goal.returns
 returns g c =
@@ -33,6 +30,6 @@ returns-in_err-paths g c = refused_at_once c.args.tree.now c.args.files.now (ops
 
 pub returns-in_err-found : goal.returns-in_err-found
 returns-in_err-found g c =
-    lookup_failed (view_of_session c.args.tree.now c.args.files.now) (ops.Rename c.args.old.now c.args.new.now) _ c.in_err-found.field-0.0 _ c.from_residual-in_err-found.result (sym c.in_ok-paths.ensures.passes.works) c.in_err-found.ensures.asks.broken c.in_err-found.ensures.asks.errors
+    lookup_failed (session_view c.args.tree.now c.args.files.now) (ops.Rename c.args.old.now c.args.new.now) _ c.in_err-found.field-0.0 _ c.from_residual-in_err-found.result (sym c.in_ok-paths.ensures.passes.works) c.in_err-found.ensures.asks.broken c.in_err-found.ensures.asks.errors
     (passes_late c.args.tree.now c.args.files.now c.args.old.now c.args.new.now c.in_ok-paths.paths c.in_ok-paths.ensures.passes)
     (given_on _ c.from_residual-in_err-found.result c.from_residual-in_err-found.ensures.1)

@@ -1,6 +1,5 @@
-use Rattle.lfs_fs.specs.SessionView.{view_of_session}
+use Rattle.lfs_fs.proofs.Common.{session_view, files_view}
 use Rattle.std.proofs.Common.{ap}
-use Rattle.lfs_fs.specs.FileView.{files_view}
 use Rattle.lfs_fs.proofs.FreshBegun.{fresh_state}
 use Rattle.lfs_fs.proofs.Remounting.{fresh_ready}
 use Rattle.lfs_fs.proofs.session.format_ordered.Goals as goal
@@ -12,4 +11,4 @@ invariant_of-result g c = record {
 }
 
 pub returns-in-Ok-clause-state : goal.returns-in-Ok-clause-state
-returns-in-Ok-clause-state g c = fresh_state (view_of_session c.in-Ok.tree c.without_open_files.result) c.in-Ok.ensures.works.0 (ap (files_view c.in-Ok.tree) c.without_open_files.ensures) c.in-Ok.ensures.sound.accepted c.in-Ok.ensures.formatted.fresh
+returns-in-Ok-clause-state g c = fresh_state (session_view c.in-Ok.tree c.without_open_files.result) c.in-Ok.ensures.works.0 (ap (files_view c.in-Ok.tree) c.without_open_files.ensures) c.in-Ok.ensures.sound.accepted c.in-Ok.ensures.formatted.fresh

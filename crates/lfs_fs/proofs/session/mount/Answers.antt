@@ -1,9 +1,6 @@
 use Rattle.std.proofs.Common.{ap, subst, sym}
-use Rattle.lfs_model.specs.format.Disk.{Disk}
+use Rattle.lfs_fs.proofs.Common.{Disk, IsAccepted, files_view, IsReady}
 use Rattle.lfs_fs.proofs.FreshBegun.{mount_state}
-use Rattle.lfs_model.specs.tree.View.{IsAccepted}
-use Rattle.lfs_fs.specs.FileView.{files_view}
-use Rattle.lfs_fs.specs.SessionView.{IsReady}
 use Rattle.lfs_fs.proofs.Remounting.{mounted_ready}
 use Rattle.lfs_fs.proofs.session.mount.Goals as goal
 

@@ -1,7 +1,6 @@
 use Rattle.std.proofs.Common.{◌∙◌, Err, ap, refl, subst, sym}
 use Rattle.std.specs.Prelude.{IfErr}
-use Rattle.std.proofs.lemmas.Result.{err_from_is_err_and}
-use Rattle.lfs_tree.specs.TreeState.{HasErrorCause}
+use Rattle.lfs_fs.proofs.Common.{err_from_is_err_and, HasErrorCause}
 use Rattle.lfs_fs.proofs.Questions.{error_either}
 use Rattle.lfs_fs.proofs.Writing.{beside_later, broken_after, can_truncate, has_truncated}
 use Rattle.lfs_fs.proofs.Stopping.{nothing_yet, then_reads}

@@ -1,8 +1,6 @@
 use Rattle.std.proofs.Common.{◌<◌, slice_index_or, ◌∙◌, ◌++◌, ◌∷◌, [], length, nat_eq, take_all, sym, ap, subst, arith}
 use Rattle.std.specs.List.{IsDistinct}
-use Rattle.lfs_thread.specs.PairPlaces.{blocks_of_addresses}
-use Rattle.lfs_thread.specs.ThreadSteps.{empty_anchor}
-use Rattle.lfs_lookup.specs.TreeWalk.{pairs_addresses}
+use Rattle.lfs_lookup.proofs.Common.{blocks_of_addresses, empty_anchor, pairs_addresses}
 use Rattle.lfs_lookup.proofs.PairAddresses.{next_added, next_apart}
 use Rattle.lfs_lookup.proofs.addresses.thread_addresses.Goals as goal
 

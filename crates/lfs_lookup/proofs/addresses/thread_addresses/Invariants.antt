@@ -1,5 +1,5 @@
 use Rattle.std.proofs.Common.{◌≡◌, take}
-use Rattle.lfs_lookup.specs.TreeWalk.{pairs_addresses}
+use Rattle.lfs_lookup.proofs.Common.{pairs_addresses}
 use Rattle.lfs_lookup.proofs.addresses.thread_addresses.Given as goal
 
 abbrev pub invariant-loop-index : goal.invariant-loop-index

@@ -1,10 +1,6 @@
 use Rattle.std.proofs.Common.{◌≡◌, ◌<◌, ◌∙◌, List, Some, ap, arith, length, slice_get, slice_index_or, subst, sym, rules}
 use Rattle.std.specs.Prelude.{IfOk}
-use Rattle.lfs_model.specs.session.History.{read_count}
-use Rattle.lfs_model.specs.format.Thread.{Pair}
-use Rattle.lfs_lookup.specs.AttributeAt.{IsAttributesSize}
-use Rattle.lfs_thread.specs.Kept.{KeptThread}
-use Rattle.lfs_thread.specs.ThreadSteps.{empty_anchor}
+use Rattle.lfs_lookup.proofs.Common.{read_count, Pair, IsAttributesSize, KeptThread, empty_anchor}
 use Rattle.lfs_lookup.proofs.AttributeAtSlots.{no_slot, slot_is_cached, slot_for}
 use Rattle.lfs_lookup.proofs.AttributesPut.{none_sized}
 use Rattle.lfs_lookup.proofs.Reading.{answered, further}

@@ -1,11 +1,5 @@
 use Rattle.std.proofs.Common.{◌∙◌, List, map, sym, ap, subst}
-use Rattle.std.proofs.lemmas.Option.{same_Some}
-use Rattle.lfs_model.specs.format.Content.{RawContent, RawSlot, slot_of_id}
-use Rattle.lfs_model.specs.layers.LoggedContent.{AttributesInOrder, AreWellFormed}
-use Rattle.lfs_model.specs.format.Slots.{attributes_size}
-use Rattle.lfs_model.proofs.Logged.{logged}
-use Rattle.lfs_model.proofs.Completed.{completed_parts}
-use Rattle.lfs_tag.specs.ContentView.{content_view, slot_view}
+use Rattle.lfs_lookup.proofs.Common.{same_Some, RawContent, RawSlot, slot_of_id, AttributesInOrder, AreWellFormed, attributes_size, logged, completed_parts, content_view, slot_view}
 use Rattle.lfs_lookup.proofs.AttributeAtSlots.{parts_of_id, same_attributes}
 use Rattle.lfs_lookup.proofs.AttributesPut.{sized}
 use Rattle.lfs_lookup.proofs.BytesAtSlots.{raw_slot}

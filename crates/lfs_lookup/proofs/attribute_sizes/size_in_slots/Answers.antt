@@ -1,6 +1,5 @@
 use Rattle.std.proofs.Common.{map, subst, sym}
-use Rattle.lfs_model.specs.layers.LoggedContent.{AttributesInOrder}
-use Rattle.lfs_tag.specs.ContentView.{attribute_view, slot_view}
+use Rattle.lfs_lookup.proofs.Common.{AttributesInOrder, attribute_view, slot_view}
 use Rattle.lfs_lookup.proofs.ItemsShown.{parts_at}
 use Rattle.lfs_lookup.proofs.attribute_sizes.size_in_slots.Goals as goal
 

@@ -1,6 +1,5 @@
 use Rattle.std.proofs.Common.{◌≡◌, ◌+◌, drop, map}
-use Rattle.lfs_model.specs.format.Slots.{attributes_size}
-use Rattle.lfs_tag.specs.ContentView.{attribute_view}
+use Rattle.lfs_lookup.proofs.Common.{attributes_size, attribute_view}
 use Rattle.lfs_lookup.proofs.attribute_sizes.total_attributes_size.Given as goal
 
 abbrev pub invariant-loop-attribute : goal.invariant-loop-attribute

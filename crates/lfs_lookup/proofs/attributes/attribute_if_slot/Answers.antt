@@ -1,7 +1,6 @@
 use Rattle.std.proofs.Common.{Option, ap, subst, sym}
 use Rattle.std.proofs.Common.{ap}
-use Rattle.lfs_model.specs.format.Content.{attribute_bytes}
-use Rattle.lfs_lookup.specs.AttributeAt.{AreAttributesAt}
+use Rattle.lfs_lookup.proofs.Common.{attribute_bytes, AreAttributesAt}
 use Rattle.lfs_lookup.specs.declared.search.SlotPosition.{SlotPosition}
 use Rattle.lfs_lookup.proofs.AttributeAtSlots.{attribute_same}
 use Rattle.lfs_lookup.proofs.attributes.attribute_if_slot.Goals as goal

@@ -1,8 +1,6 @@
 use Rattle.std.proofs.Common.{◌+◌, ◌∙◌, ap}
-use Rattle.lfs_model.specs.format.Content.{slot_of_id}
-use Rattle.lfs_model.specs.layers.Lookup.{bytes_at, slot_bytes}
-use Rattle.lfs_model.proofs.Completed.{completed_parts}
-use Rattle.lfs_model.proofs.Logged.{logged}
+use Rattle.lfs_lookup.proofs.Common.{slot_of_id, slot_bytes, completed_parts, logged}
+use Rattle.lfs_model.specs.layers.Lookup.{bytes_at}
 use Rattle.lfs_lookup.proofs.AttributeAtSlots.{attribute_if_slot, short_in, short_result}
 use Rattle.lfs_lookup.proofs.BytesAtSlots.{raw_slot}
 use Rattle.lfs_lookup.proofs.attributes.attribute_in_log.Goals as goal

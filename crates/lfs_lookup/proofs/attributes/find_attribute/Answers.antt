@@ -1,9 +1,5 @@
 use Rattle.std.proofs.Common.{◌∙◌, ap, refl, arith, rules}
-use Rattle.std.proofs.lemmas.Result.{err_from_is_err_and}
-use Rattle.lfs_model.specs.session.History.{read_count}
-use Rattle.lfs_model.specs.session.TreeEdits.{node_attributes_of}
-use Rattle.lfs_model.specs.tree.Shown.{tree_on_disk}
-use Rattle.lfs_thread.specs.Kept.{KeptThread}
+use Rattle.lfs_lookup.proofs.Common.{err_from_is_err_and, read_count, node_attributes_of, disk_tree, KeptThread}
 use Rattle.lfs_lookup.proofs.AtPaths.{sized_on}
 use Rattle.lfs_lookup.proofs.AttributeAtSlots.{are_held, held_later, slot_is_cached, slot_within}
 use Rattle.lfs_lookup.proofs.Reading.{answered, answers, both, further, passed}
@@ -54,7 +50,7 @@ pub returns-clause-is : goal.returns-clause-is
 returns-clause-is g c =
     let t = c.args.thread.now.kept in
     let held = are_held t c.args.path.now c.in_ok-shown.shown c.spot_if_found.result c.in_ok-shown.ensures.shown c.spot_if_found.ensures in
-    c.in_ok-bytes.ensures.is (node_attributes_of (tree_on_disk t.disk t.pairs c.args.path.now)) (held_later t c.look_up_path.new.thread.kept c.spot_if_found.result _ c.look_up_path.ensures.reading.only.pairs held)
+    c.in_ok-bytes.ensures.is (node_attributes_of (disk_tree t.disk t.pairs c.args.path.now)) (held_later t c.look_up_path.new.thread.kept c.spot_if_found.result _ c.look_up_path.ensures.reading.only.pairs held)
 
 pub returns-clause-reads : goal.returns-clause-reads
 returns-clause-reads g c = record {

@@ -1,6 +1,5 @@
 use Rattle.std.proofs.Common.{◌∙◌, arith, refl}
-use Rattle.std.proofs.lemmas.Result.{err_from_is_err_and}
-use Rattle.lfs_model.specs.crash.Frame.{pair_count_at}
+use Rattle.lfs_lookup.proofs.Common.{err_from_is_err_and, pair_count_at}
 use Rattle.lfs_lookup.proofs.AtPaths.{sized_on}
 use Rattle.lfs_lookup.proofs.Reading.{answered, answers, both, further, passed}
 use Rattle.lfs_lookup.proofs.ShownFindings.{few_from, few_own, first_at, first_within, found_shown, has_beneath, in_entry}

@@ -1,6 +1,5 @@
 use Rattle.std.proofs.Common.{◌∙◌, ap, drop, sym, take}
-use Rattle.std.proofs.lemmas.Option.{same_Some}
-use Rattle.std.specs.Option.{option_copied}
+use Rattle.lfs_lookup.proofs.Common.{same_Some, option_copied}
 use Rattle.lfs_lookup.proofs.bytes.copy_inline_bytes.Goals as goal
 
 pub returns-in_default-clause-bytes : goal.returns-in_default-clause-bytes

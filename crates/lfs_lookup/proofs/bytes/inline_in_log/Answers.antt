@@ -1,6 +1,5 @@
 use Rattle.std.proofs.Common.{◌∙◌}
-use Rattle.lfs_model.specs.format.Content.{slot_of_id}
-use Rattle.lfs_model.proofs.Completed.{completed_parts}
+use Rattle.lfs_lookup.proofs.Common.{slot_of_id, completed_parts}
 use Rattle.lfs_lookup.proofs.BytesAtSlots.{inline_held, raw_slot}
 use Rattle.lfs_lookup.proofs.bytes.inline_in_log.Goals as goal
 

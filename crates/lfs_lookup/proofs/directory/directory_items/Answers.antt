@@ -1,9 +1,5 @@
 use Rattle.std.proofs.Common.{◌<◌, ◌+◌, ◌∙◌, Err, IfSome, List, None, Some, ap, cond, length, refl, slice_index_or, subst, arith}
-use Rattle.std.proofs.lemmas.List.{map-append}
-use Rattle.std.proofs.lemmas.Result.{err_from_is_err_and}
-use Rattle.lfs_model.specs.format.Thread.{Pair, is_hard_tail}
-use Rattle.lfs_thread.specs.ThreadSteps.{empty_anchor, thread_pair_at}
-use Rattle.lfs_lookup.specs.Items.{directory_item_view, directory_items_view}
+use Rattle.lfs_lookup.proofs.Common.{map-append, err_from_is_err_and, Pair, is_hard_tail, empty_anchor, thread_pair, directory_item_view, directory_items_view}
 use Rattle.lfs_lookup.proofs.Directories.{length_on, length_some, list_on, run_next}
 use Rattle.lfs_lookup.proofs.Reading.{answered, both, further, lacks_memory, passed}
 use Rattle.lfs_lookup.proofs.RecentBlocks.{keeps_on, none_on}
@@ -21,7 +17,7 @@ returns-in_err-more-clause-kept g c =
     let next = cond (is_hard_tail (slice_index_or c.loop-pair.thread.kept.pairs c.in-Some.index empty_anchor).content.tail) (Some (c.in-Some.index + 1)) None in
     let within = subst (λ o. IfSome o (λ pair. pair < length ps)) c.in-Some.is inv.below in
     let run = run_next ps c.loop-pair.thread.kept.pairs c.in-Some.index empty_anchor c.loop-pair.pair next inv.read.only.pairs c.in-Some.is within refl in
-    none_on _ _ _ (thread_pair_at c.loop-pair.thread.kept c.in-Some.index) c.args.thread.now c.loop-pair.thread c.pair_items.new.thread c.pair_items.result inv.along run c.pair_items.ensures.loads
+    none_on _ _ _ (thread_pair c.loop-pair.thread.kept c.in-Some.index) c.args.thread.now c.loop-pair.thread c.pair_items.new.thread c.pair_items.result inv.along run c.pair_items.ensures.loads
 
 pub returns-in_err-more-clause-few : goal.returns-in_err-more-clause-few
 returns-in_err-more-clause-few g c =
@@ -38,7 +34,7 @@ returns-in_err-append-clause-kept g c =
     let next = cond (is_hard_tail (slice_index_or c.loop-pair.thread.kept.pairs c.in-Some.index empty_anchor).content.tail) (Some (c.in-Some.index + 1)) None in
     let within = subst (λ o. IfSome o (λ pair. pair < length ps)) c.in-Some.is inv.below in
     let run = run_next ps c.loop-pair.thread.kept.pairs c.in-Some.index empty_anchor c.loop-pair.pair next inv.read.only.pairs c.in-Some.is within refl in
-    none_on _ _ _ (thread_pair_at c.loop-pair.thread.kept c.in-Some.index) c.args.thread.now c.loop-pair.thread c.pair_items.new.thread c.pair_items.result inv.along run c.pair_items.ensures.loads
+    none_on _ _ _ (thread_pair c.loop-pair.thread.kept c.in-Some.index) c.args.thread.now c.loop-pair.thread c.pair_items.new.thread c.pair_items.result inv.along run c.pair_items.ensures.loads
 
 pub returns-in_err-append-clause-few : goal.returns-in_err-append-clause-few
 returns-in_err-append-clause-few g c =
@@ -67,7 +63,7 @@ loop-pair-preserved g c =
     record {
       read = read;
       few = omega (arith, f, n, one);
-      along = keeps_on _ _ _ (thread_pair_at c.loop-pair.thread.kept c.in-Some.index) c.args.thread.now c.loop-pair.thread c.pair_items.new.thread c.pair_items.result inv.along
+      along = keeps_on _ _ _ (thread_pair c.loop-pair.thread.kept c.in-Some.index) c.args.thread.now c.loop-pair.thread c.pair_items.new.thread c.pair_items.result inv.along
           (run_next ps c.loop-pair.thread.kept.pairs c.in-Some.index empty_anchor c.loop-pair.pair c.next-pair.result inv.read.only.pairs c.in-Some.is within next) c.pair_items.ensures.loads
           c.in_ok-more.more c.in_ok-more.was c.pair_items.ensures.reading.only.disk;
       below = subst (λ (ps : List Pair). IfSome c.next-pair.result (λ pair. pair < length ps)) read.only.pairs c.next-pair.ensures.below;

@@ -1,8 +1,5 @@
 use Rattle.std.proofs.Common.{◌≡◌, ◌<◌, ◌≤◌, ◌+◌, ◌-◌, ◌++◌, IfSome, Some, drop, length}
-use Rattle.std.specs.Option.{option_map_or}
-use Rattle.lfs_model.specs.session.History.{read_count}
-use Rattle.lfs_lookup.specs.Items.{directory_items_view}
-use Rattle.lfs_lookup.specs.Listed.{joined_pairs, joined_count_from, joined_pairs_from, pair_entries_from}
+use Rattle.lfs_lookup.proofs.Common.{option_map_or, read_count, directory_items_view, joined_pairs, joined_count_from, joined_pairs_from, pair_entries_from}
 use Rattle.lfs_lookup.proofs.Reading.{HasRead}
 use Rattle.lfs_lookup.proofs.RecentBlocks.{HasKept}
 use Rattle.lfs_lookup.proofs.directory.directory_items.Given as goal

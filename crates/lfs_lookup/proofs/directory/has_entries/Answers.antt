@@ -1,10 +1,6 @@
 use Rattle.std.proofs.Common.{ℕ, ◌≡◌, ◌<◌, ◌≤◌, ◌+◌, ◌∙◌, IfSome, List, [], ◌∷◌, ◌++◌, Option, None, Some, ap, cond, get_or, map, length, refl, slice_index_or, subst, sym, arith}
-use Rattle.std.proofs.lemmas.Result.{err_from_is_err_and}
-use Rattle.lfs_model.specs.format.Thread.{Pair, pairs_gstate, is_hard_tail, unmoved_entries}
-use Rattle.lfs_thread.specs.ThreadSteps.{empty_anchor}
-use Rattle.lfs_lookup.specs.Items.{NamedStruct, directory_items_view, named_struct}
+use Rattle.lfs_lookup.proofs.Common.{err_from_is_err_and, Pair, pairs_gstate, is_hard_tail, unmoved_entries, empty_anchor, NamedStruct, directory_items_view, named_struct, pair_entries_from}
 use Rattle.lfs_lookup.specs.declared.items.NameAndOwnedStruct.{NameAndOwnedStruct}
-use Rattle.lfs_lookup.specs.Listed.{pair_entries_from}
 use Rattle.lfs_lookup.proofs.Directories.{length_on, length_some, shapes_on}
 use Rattle.lfs_lookup.proofs.Reading.{answered, answers, both, further, passed}
 use Rattle.lfs_lookup.proofs.directory.has_entries.Goals as goal

@@ -1,7 +1,5 @@
 use Rattle.std.proofs.Common.{◌≡◌, ◌<◌, ◌≤◌, ◌+◌, ◌-◌, IfSome, length}
-use Rattle.std.specs.Option.{option_map_or}
-use Rattle.lfs_model.specs.session.History.{read_count}
-use Rattle.lfs_lookup.specs.Listed.{joined_count_from, pair_entries_from}
+use Rattle.lfs_lookup.proofs.Common.{option_map_or, read_count, joined_count_from, pair_entries_from}
 use Rattle.lfs_lookup.proofs.Reading.{HasRead}
 use Rattle.lfs_lookup.proofs.directory.has_entries.Given as goal
 

@@ -1,4 +1,4 @@
-use Rattle.std.proofs.lemmas.Result.{err_from_is_err_and}
+use Rattle.lfs_lookup.proofs.Common.{err_from_is_err_and}
 use Rattle.lfs_lookup.proofs.RecentBlocks.{loads_one, on_any, on_err}
 use Rattle.lfs_lookup.proofs.directory.pair_items.Goals as goal
 

@@ -1,6 +1,5 @@
 use Rattle.std.proofs.Common.{◌∙◌, ◌<◌, ℕ, List, ap, length, subst, sym}
-use Rattle.lfs_model.specs.format.Slots.{Inline}
-use Rattle.lfs_lookup.specs.Entry.{IsStorage}
+use Rattle.lfs_lookup.proofs.Common.{Inline, IsStorage}
 use Rattle.lfs_lookup.proofs.FileContentsAt.{whole}
 use Rattle.lfs_lookup.proofs.file_contents.contents_of_slot.Goals as goal
 

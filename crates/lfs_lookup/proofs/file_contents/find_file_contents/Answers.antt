@@ -1,7 +1,5 @@
 use Rattle.std.proofs.Common.{◌∙◌, ap, refl, sym, arith, rules}
-use Rattle.std.proofs.lemmas.Result.{err_from_is_err_and}
-use Rattle.lfs_model.specs.session.History.{read_count}
-use Rattle.lfs_thread.specs.Kept.{KeptThread}
+use Rattle.lfs_lookup.proofs.Common.{err_from_is_err_and, read_count, KeptThread}
 use Rattle.lfs_lookup.proofs.AtPaths.{sized_on}
 use Rattle.lfs_lookup.proofs.BytesAtSlots.{file_of_path, file_since, not_file}
 use Rattle.lfs_lookup.proofs.FileContentsAt.{contents_at, file_at_hand}

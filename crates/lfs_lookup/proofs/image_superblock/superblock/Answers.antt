@@ -1,5 +1,5 @@
 use Rattle.std.proofs.Common.{◌∙◌, Some, ap, length, sym}
-use Rattle.lfs_model.specs.format.EntryTypes.{superblock_fields}
+use Rattle.lfs_lookup.proofs.Common.{superblock_fields}
 use Rattle.lfs_lookup.proofs.ImageSuperblock.{image_superblock, root_superblock, whole_struct}
 use Rattle.lfs_lookup.proofs.image_superblock.superblock.Goals as goal
 

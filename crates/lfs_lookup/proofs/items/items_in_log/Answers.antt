@@ -1,11 +1,5 @@
 use Rattle.std.proofs.Common.{◌∙◌, map, sym, ap, subst}
-use Rattle.std.proofs.lemmas.Option.{same_Some}
-use Rattle.lfs_model.specs.format.Content.{RawContent}
-use Rattle.lfs_model.specs.layers.LoggedContent.{AreWellFormed}
-use Rattle.lfs_model.proofs.Logged.{logged}
-use Rattle.lfs_model.proofs.Completed.{completed_parts}
-use Rattle.lfs_tag.specs.ContentView.{content_view, slot_view}
-use Rattle.lfs_lookup.specs.Items.{raw_entries, slots_except}
+use Rattle.lfs_lookup.proofs.Common.{same_Some, RawContent, AreWellFormed, logged, completed_parts, content_view, slot_view, raw_entries, slots_except}
 use Rattle.lfs_lookup.proofs.ItemsShown.{parts_without, shown_shapes}
 use Rattle.lfs_lookup.proofs.items.items_in_log.Goals as goal
 

@@ -1,4 +1,4 @@
-use Rattle.lfs_tag.specs.ContentView.{slot_view}
+use Rattle.lfs_lookup.proofs.Common.{slot_view}
 use Rattle.lfs_lookup.proofs.ItemsShown.{parts_at}
 use Rattle.lfs_lookup.proofs.items.items_of_slots.Goals as goal
 

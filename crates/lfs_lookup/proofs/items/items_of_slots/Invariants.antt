@@ -1,6 +1,5 @@
 use Rattle.std.proofs.Common.{◌≡◌, map, take}
-use Rattle.lfs_tag.specs.ContentView.{slot_view}
-use Rattle.lfs_lookup.specs.Items.{directory_items_view, raw_entries}
+use Rattle.lfs_lookup.proofs.Common.{slot_view, directory_items_view, raw_entries}
 use Rattle.lfs_lookup.proofs.items.items_of_slots.Given as goal
 
 abbrev pub invariant-loop-slot : goal.invariant-loop-slot

@@ -1,4 +1,4 @@
-use Rattle.lfs_tag.specs.ContentView.{slot_view}
+use Rattle.lfs_lookup.proofs.Common.{slot_view}
 use Rattle.lfs_lookup.proofs.ItemsShown.{map_remove}
 use Rattle.lfs_lookup.proofs.items.remove_moved_slot.Goals as goal
 

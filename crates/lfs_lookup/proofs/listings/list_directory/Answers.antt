@@ -1,8 +1,5 @@
 use Rattle.std.proofs.Common.{Err, ap, map, refl, ◌∙◌, arith}
-use Rattle.std.proofs.lemmas.Result.{err_from_is_err_and}
-use Rattle.lfs_model.specs.crash.Frame.{pair_count_at}
-use Rattle.lfs_lookup.specs.Finds.{listed_item_view}
-use Rattle.lfs_lookup.specs.Items.{directory_items_view}
+use Rattle.lfs_lookup.proofs.Common.{err_from_is_err_and, pair_count_at, listed_item_view, directory_items_view}
 use Rattle.lfs_lookup.proofs.AtPaths.{sized_on}
 use Rattle.lfs_lookup.proofs.ListAtItems.{bytes_on}
 use Rattle.lfs_lookup.proofs.Reading.{answered, answers, both, further, lacks_memory, passed}

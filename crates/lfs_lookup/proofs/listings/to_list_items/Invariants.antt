@@ -1,8 +1,6 @@
 use Rattle.std.proofs.Common.{◌≡◌, ◌++◌, map}
 use Rattle.std.specs.Vec.Iter.{into_iter_items}
-use Rattle.lfs_lookup.specs.Finds.{listed_item_view}
-use Rattle.lfs_lookup.specs.Items.{directory_items_view}
-use Rattle.lfs_lookup.specs.ListAt.{AreInLimits, listed_item}
+use Rattle.lfs_lookup.proofs.Common.{listed_item_view, directory_items_view, AreInLimits, listed_item}
 use Rattle.lfs_lookup.proofs.listings.to_list_items.Given as goal
 
 abbrev pub invariant-loop-item : goal.invariant-loop-item

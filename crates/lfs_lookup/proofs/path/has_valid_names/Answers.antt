@@ -1,7 +1,6 @@
 use Rattle.std.proofs.Common.{rules, tests, ◌==◌}
 use Rattle.std.proofs.lemmas.Iterator.Search.{all_from_yields_List}
-use Rattle.std.proofs.lemmas.Iterator.Splits.{YieldsList-from_slice_split}
-use Rattle.lfs_model.specs.format.Names.{is_component, slash_byte}
+use Rattle.lfs_lookup.proofs.Common.{YieldsList-from_slice_split, is_component, slash_byte}
 use Rattle.lfs_lookup.proofs.path.has_valid_names.Goals as goal
 
 pub returns : goal.returns

@@ -1,6 +1,6 @@
 use Rattle.std.proofs.Common.{rules, tests}
 use Rattle.std.proofs.lemmas.Iterator.Consumers.{map_from_collect}
-use Rattle.std.proofs.lemmas.Iterator.Splits.{YieldsList-from_slice_split}
+use Rattle.lfs_lookup.proofs.Common.{YieldsList-from_slice_split}
 use Rattle.lfs_lookup.proofs.path.split_at_slashes.Goals as goal
 
 pub returns : goal.returns

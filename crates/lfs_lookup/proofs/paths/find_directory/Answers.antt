@@ -1,10 +1,6 @@
 use Rattle.std.proofs.Common.{◌≡◌, None, ap, map, take, subst, ◌∙◌, arith, refl}
-use Rattle.std.proofs.lemmas.Result.{err_from_is_err_and}
-use Rattle.std.proofs.lemmas.List.{length-map}
+use Rattle.lfs_lookup.proofs.Common.{err_from_is_err_and, length-map, ancestor_paths, pair_count_at, NoEnt, NotDir, IsNodeAt, parent_refusal}
 use Rattle.std.specs.Prelude.{sum_by}
-use Rattle.lfs_model.specs.crash.Frame.{ancestor_paths, pair_count_at}
-use Rattle.lfs_model.specs.session.Operations.{NoEnt, NotDir}
-use Rattle.lfs_lookup.specs.LookupPaths.{IsNodeAt, parent_refusal}
 use Rattle.lfs_lookup.specs.declared.paths.Parent.TheVariants as parent
 use Rattle.lfs_lookup.proofs.ReadOnly.{only_read, reported_on}
 use Rattle.lfs_lookup.proofs.LoadedDown.{run_same, searched_all, searched_on, searched_to_here, stops_none}

@@ -1,6 +1,5 @@
 use Rattle.std.proofs.Common.{refl, subst, arith}
-use Rattle.lfs_model.specs.crash.Frame.{pair_count_at}
-use Rattle.lfs_lookup.specs.LookupPaths.{ParentReached}
+use Rattle.lfs_lookup.proofs.Common.{pair_count_at, ParentReached}
 use Rattle.lfs_lookup.proofs.Reading.{answered, further}
 use Rattle.lfs_lookup.proofs.Descended.{names_are, sum_is, looked_in, leads_past_file, leads_past_nothing, few_same}
 use Rattle.lfs_lookup.proofs.Entered.{hiding_none}

@@ -1,12 +1,7 @@
 use Rattle.std.proofs.Common.{refl, ℕ, ◌≡◌, ◌++◌, ◌∷◌, [], Option, subst, false, rules}
 use Rattle.std.specs.Prelude.{IfSome}
-use Rattle.std.specs.List.{AllByRecursion}
-use Rattle.lfs_model.specs.session.InDirectory.{IsPairAt}
-use Rattle.lfs_model.specs.format.Slots.{array_address, same_pair}
-use Rattle.lfs_lookup.specs.Entry.{IsStructEntry}
-use Rattle.lfs_lookup.specs.NameSearch.{FindsUnhidden}
+use Rattle.lfs_lookup.proofs.Common.{AllByRecursion, IsPairAt, array_address, same_pair, IsStructEntry, FindsUnhidden, err_from_is_err_and}
 use Rattle.lfs_lookup.proofs.Entered.{leads_by, shown_slot, no_slot, is_somewhere, some_there}
-use Rattle.std.proofs.lemmas.Result.{err_from_is_err_and}
 use Rattle.lfs_lookup.proofs.RecentBlocks.{along_as, on_ok, passes_none}
 use Rattle.lfs_lookup.proofs.InOrder.{in_order_if}
 use Rattle.lfs_lookup.proofs.paths.look_up_name.Goals as goal

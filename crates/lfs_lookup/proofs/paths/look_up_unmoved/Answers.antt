@@ -1,14 +1,10 @@
 use Rattle.std.proofs.Common.{◌≡◌, None, ap, subst, ◌∙◌, [], arith}
-use Rattle.lfs_model.specs.crash.Frame.{pair_count_at}
+use Rattle.lfs_lookup.proofs.Common.{pair_count_at, ParentReached, parent_refusal, err_from_is_err_and, parents_refusal, disk_tree}
 use Rattle.lfs_lookup.specs.AtPath.{ParentsAllowLookup}
-use Rattle.lfs_lookup.specs.LookupPaths.{ParentReached, parent_refusal}
 use Rattle.lfs_lookup.proofs.ReadOnly.{only_read, reported_behind}
-use Rattle.std.proofs.lemmas.Result.{err_from_is_err_and}
 use Rattle.lfs_lookup.proofs.LoadedDown.{down_last, down_short, run_same, stops_none}
 use Rattle.lfs_lookup.proofs.RecentBlocks.{on_ok, passes_none}
 use Rattle.lfs_lookup.proofs.Descended.{hiding_same, names_are, sum_is, showed_in, few_same}
-use Rattle.lfs_model.specs.session.Session.{parents_refusal}
-use Rattle.lfs_model.specs.tree.Shown.{tree_on_disk}
 use Rattle.lfs_lookup.proofs.HalvedDown.{halved_last, halved_short}
 use Rattle.lfs_lookup.proofs.paths.look_up_unmoved.Goals as goal
 
@@ -81,7 +77,7 @@ returns-in-File-clause-answer g c =
     let t = c.args.thread.now.kept in
     let is = names_are (λ name. name.now) c.args.path.now _ _ c.in-Some.ensures.cases.0 in
     let d = subst (ParentReached t _) c.in-File.is c.in_ok-parent.ensures.answer in
-    ap (parents_refusal (tree_on_disk t.disk t.pairs) []) is ∙ d.fault _
+    ap (parents_refusal (disk_tree t.disk t.pairs) []) is ∙ d.fault _
 
 pub returns-in-File-clause-reads : goal.returns-in-File-clause-reads
 returns-in-File-clause-reads g c = record {
@@ -107,7 +103,7 @@ returns-in-Nothing-clause-answer g c =
     let t = c.args.thread.now.kept in
     let is = names_are (λ name. name.now) c.args.path.now _ _ c.in-Some.ensures.cases.0 in
     let d = subst (ParentReached t _) c.in-Nothing.is c.in_ok-parent.ensures.answer in
-    ap (parents_refusal (tree_on_disk t.disk t.pairs) []) is ∙ d.fault _
+    ap (parents_refusal (disk_tree t.disk t.pairs) []) is ∙ d.fault _
 
 pub returns-in-Nothing-clause-reads : goal.returns-in-Nothing-clause-reads
 returns-in-Nothing-clause-reads g c = record {

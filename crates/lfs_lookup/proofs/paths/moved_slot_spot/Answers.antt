@@ -1,6 +1,5 @@
 use Rattle.std.proofs.Common.{ℕ, ◌==◌, refl, ap, arith}
-use Rattle.std.proofs.lemmas.Bool.{ne_eqb}
-use Rattle.lfs_model.specs.format.Slots.{Gstate}
+use Rattle.lfs_lookup.proofs.Common.{ne_eqb, Gstate}
 use Rattle.lfs_tag.specs.FieldsView.{move_view}
 use Rattle.lfs_lookup.proofs.HiddenSlots.{hides_nothing, hides_nowhere, hides_there}
 use Rattle.lfs_lookup.proofs.paths.moved_slot_spot.Goals as goal

@@ -1,10 +1,6 @@
 use Rattle.std.proofs.Common.{ℕ, ◌≡◌, ◌++◌, ◌∷◌, [], Option, subst, false}
 use Rattle.std.specs.Prelude.{IfSome}
-use Rattle.std.specs.List.{AllByRecursion}
-use Rattle.lfs_model.specs.session.InDirectory.{IsPairAt, IsPlaceOf}
-use Rattle.lfs_model.specs.format.Slots.{array_address, same_pair}
-use Rattle.lfs_lookup.specs.Entry.{IsStructEntry}
-use Rattle.lfs_lookup.specs.NameSearch.{FindsInDirectory}
+use Rattle.lfs_lookup.proofs.Common.{AllByRecursion, IsPairAt, IsPlaceOf, array_address, same_pair, IsStructEntry, FindsInDirectory}
 use Rattle.lfs_lookup.proofs.Entered.{plain_on, slot_is, leads_to, absent_is, is_somewhere, some_there}
 use Rattle.lfs_lookup.proofs.paths.search_directory.Goals as goal
 

@@ -1,19 +1,11 @@
 use Rattle.std.proofs.Common.{◌≡◌, ◌≢◌, ◌∙◌, inl, inr, true, List, [], ◌∷◌, length, map, refl, sym, ap, subst, arith}
 use Rattle.std.specs.Prelude.{All}
-use Rattle.std.proofs.lemmas.List.{length-map}
-use Rattle.std.proofs.lemmas.Option.{same_Some}
-use Rattle.lfs_model.specs.format.Content.{RawContent, complete_slots}
-use Rattle.lfs_model.specs.layers.LoggedContent.{IsWellFormed}
-use Rattle.lfs_model.specs.tree.Profile.{IsWritableSlot}
-use Rattle.lfs_model.specs.format.Slots.{FitsInPair, Slot, array_address}
-use Rattle.lfs_model.specs.format.Thread.{Pair}
+use Rattle.lfs_lookup.proofs.Common.{length-map, same_Some, RawContent, complete_slots, IsWellFormed, IsWritableSlot, FitsInPair, Slot, array_address, Pair, logged, complete_length, completed_parts, content_view, slot_view, BreaksPair, BreaksSome, IsWritablePair}
 use Rattle.lfs_model.specs.layers.WrittenContent.{RawContentFits}
 use Rattle.lfs_model.specs.declared.breaches.ProfileBreach.{ProfileBreach}
 use Rattle.lfs_model.specs.declared.breaches.ProfileBreach.TheVariants as breach
-use Rattle.lfs_model.proofs.Logged.{logged}
-use Rattle.lfs_model.proofs.Completed.{complete_length, completed_parts, fits_pair, fits_raw}
-use Rattle.lfs_tag.specs.ContentView.{content_view, slot_view}
-use Rattle.lfs_lookup.specs.ProfileChecks.{BreaksPair, BreaksSome, BreaksWhole, IsWritablePair}
+use Rattle.lfs_model.proofs.Completed.{fits_pair, fits_raw}
+use Rattle.lfs_lookup.specs.ProfileChecks.{BreaksWhole}
 use Rattle.lfs_lookup.proofs.Profiled.{told, weaker}
 use Rattle.lfs_lookup.proofs.profile.breach_of_log.Goals as goal
 

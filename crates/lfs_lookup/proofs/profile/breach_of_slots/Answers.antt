@@ -1,11 +1,8 @@
 use Rattle.std.proofs.Common.{ℕ, ◌+◌, ◌<◌, length, slice_index_or, arith}
 use Rattle.std.specs.Prelude.{All}
-use Rattle.std.proofs.lemmas.Option.{slice_get-get_or}
-use Rattle.lfs_model.specs.tree.Profile.{IsWritableSlot}
-use Rattle.lfs_model.specs.format.Slots.{Slot, array_address}
+use Rattle.lfs_lookup.proofs.Common.{slice_get-get_or, IsWritableSlot, Slot, array_address, slot_view, BreaksSome}
 use Rattle.lfs_model.specs.declared.breaches.ProfileBreach.{ProfileBreach}
-use Rattle.lfs_tag.specs.ContentView.{slot_view}
-use Rattle.lfs_lookup.specs.ProfileChecks.{BreaksSlot, BreaksSome}
+use Rattle.lfs_lookup.specs.ProfileChecks.{BreaksSlot}
 use Rattle.lfs_lookup.proofs.Profiled.{complete_count, complete_there, fits_next, no_slot, told, weaker}
 use Rattle.lfs_lookup.proofs.profile.breach_of_slots.Goals as goal
 

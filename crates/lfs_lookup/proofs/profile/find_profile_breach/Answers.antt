@@ -1,10 +1,5 @@
 use Rattle.std.proofs.Common.{◌≡◌, ◌+◌, All, List, slice_index_or, Ok, length, refl, subst, sym, arith}
-use Rattle.std.proofs.lemmas.Result.{err_from_is_err_and}
-use Rattle.lfs_model.specs.tree.Profile.{IsWritable}
-use Rattle.lfs_model.specs.layers.ProfileBreaches.{BreaksProfile}
-use Rattle.lfs_model.specs.format.Thread.{Pair}
-use Rattle.lfs_thread.specs.ThreadSteps.{empty_anchor}
-use Rattle.lfs_lookup.specs.ProfileChecks.{HasLongStruct}
+use Rattle.lfs_lookup.proofs.Common.{err_from_is_err_and, IsWritable, BreaksProfile, Pair, empty_anchor, HasSuperblockStruct}
 use Rattle.lfs_lookup.proofs.Profiled.{EachFits, as_before, broken, pair_on, shaped_all, stated, weaker, writable_from}
 use Rattle.lfs_lookup.proofs.Reading.{answered, answers, both, further, passed}
 use Rattle.lfs_lookup.proofs.profile.find_profile_breach.Goals as goal
@@ -13,7 +8,7 @@ pub breach_at-requires-clause-shaped : goal.breach_at-requires-clause-shaped
 breach_at-requires-clause-shaped g c =
     let inv = c.loop-index.invariant in
     let n = inv.end in
-    subst (λ (ps : List Pair). All HasLongStruct (slice_index_or ps c.loop-index.index empty_anchor).content.slots) (sym inv.read.only.pairs)
+    subst (λ (ps : List Pair). All HasSuperblockStruct (slice_index_or ps c.loop-index.index empty_anchor).content.slots) (sym inv.read.only.pairs)
     (shaped_all c.args.thread.now.kept.disk c.args.thread.now.kept.pairs c.loop-index.index c.requires.accepted (omega (arith, n, c.loop-index-test.true)))
 
 pub returns-in_err-next-clause-reading : goal.returns-in_err-next-clause-reading

@@ -1,6 +1,6 @@
 use Rattle.std.proofs.Common.{◌≡◌, ◌≤◌, length}
 use Rattle.std.specs.Prelude.{MatchOption}
-use Rattle.lfs_model.specs.layers.ProfileBreaches.{BreaksProfile}
+use Rattle.lfs_lookup.proofs.Common.{BreaksProfile}
 use Rattle.lfs_lookup.proofs.Profiled.{EachFits}
 use Rattle.lfs_lookup.proofs.Reading.{HasRead}
 use Rattle.lfs_lookup.proofs.profile.find_profile_breach.Given as goal

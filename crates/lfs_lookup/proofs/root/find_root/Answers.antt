@@ -1,6 +1,5 @@
 use Rattle.std.proofs.Common.{arith, refl, subst}
-use Rattle.std.proofs.lemmas.Result.{err_from_is_err_and}
-use Rattle.lfs_lookup.specs.Root.{IsChainPair}
+use Rattle.lfs_lookup.proofs.Common.{err_from_is_err_and, IsChainNext}
 use Rattle.lfs_lookup.proofs.Reading.{answered, answers, both, further, passed}
 use Rattle.lfs_lookup.proofs.RootPairs.{in_chain_on}
 use Rattle.lfs_lookup.proofs.root.find_root.Goals as goal
@@ -17,7 +16,7 @@ returns-clause-reading g c =
 pub loop-next-preserved : goal.loop-next-preserved
 loop-next-preserved g c =
     let inv = c.loop-next.invariant in
-    let next = subst (IsChainPair c.loop-next.thread.kept c.loop-next.root) c.in-Some.is c.in_ok-next.ensures.next in
+    let next = subst (IsChainNext c.loop-next.thread.kept c.loop-next.root) c.in-Some.is c.in_ok-next.ensures.next in
     let few = inv.few in
     let once = c.next_superblock_pair.ensures.few in
     let more = next.0 in

@@ -1,6 +1,5 @@
 use Rattle.std.proofs.Common.{◌≤◌, ◌+◌, ◌-◌, length}
-use Rattle.lfs_model.specs.session.History.{read_count}
-use Rattle.lfs_lookup.specs.Root.{IsInChain}
+use Rattle.lfs_lookup.proofs.Common.{read_count, IsInChain}
 use Rattle.lfs_lookup.proofs.Reading.{HasRead}
 use Rattle.lfs_lookup.proofs.root.find_root.Given as goal
 

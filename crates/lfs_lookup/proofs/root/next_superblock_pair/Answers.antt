@@ -1,11 +1,5 @@
 use Rattle.std.proofs.Common.{◌∙◌, ◌≡◌, ◌<◌, None, Some, true, false, arith, rules, length, ap, sym, refl, subst}
-use Rattle.std.proofs.lemmas.Result.{err_from_is_err_and}
-use Rattle.lfs_model.specs.session.History.{read_count}
-use Rattle.lfs_model.specs.format.Thread.{starts_superblock}
-use Rattle.lfs_thread.specs.Kept.{ThreadView}
-use Rattle.lfs_thread.specs.ThreadSteps.{thread_pair_at}
-use Rattle.lfs_lookup.specs.LookupReading.{OnlyReadsThreadAndReportsErrors}
-use Rattle.lfs_lookup.specs.Root.{next_pair}
+use Rattle.lfs_lookup.proofs.Common.{err_from_is_err_and, read_count, starts_superblock, ThreadView, thread_pair, ReadsOrReports, next_pair}
 use Rattle.lfs_lookup.proofs.Reading.{HasRead, answered, answers, begun, passed}
 use Rattle.lfs_lookup.proofs.RootPairs.{walked_first, walked_found, walked_on, walked_other, walked_stops}
 use Rattle.lfs_lookup.proofs.root.next_superblock_pair.Goals as goal
@@ -47,7 +41,7 @@ pub returns-in_err-begins_with_superblock-clause-reading : goal.returns-in_err-b
 returns-in_err-begins_with_superblock-clause-reading g c =
     let p = err_from_is_err_and c.from_residual.result c.from_residual.ensures.1 in
     passed _ _ c.begins_with_superblock.result c.from_residual.result _ p.0 c.in_err-begins_with_superblock.was p.1 p.2
-    (subst (λ (s : ThreadView). OnlyReadsThreadAndReportsErrors s c.begins_with_superblock.new.thread c.begins_with_superblock.result) c.loop-index.invariant.same c.begins_with_superblock.ensures.reading)
+    (subst (λ (s : ThreadView). ReadsOrReports s c.begins_with_superblock.new.thread c.begins_with_superblock.result) c.loop-index.invariant.same c.begins_with_superblock.ensures.reading)
 
 pub returns-then-not-branch-clause-next : goal.returns-then-not-branch-clause-next
 returns-then-not-branch-clause-next g c =
@@ -56,8 +50,8 @@ returns-then-not-branch-clause-next g c =
     let leads = ap (λ (s : ThreadView). next_pair s.kept c.loop-index.index) (sym c.loop-index.invariant.same) ∙ sym c.next_in_chain.ensures.next ∙ is_next in
     let within = subst (λ (s : ThreadView). c.in-Some.next < length s.kept.pairs) c.loop-index.invariant.same c.in-Some.ensures.below in
     walked_other t c.args.superblock c.loop-index.index c.in-Some.next c.loop-index.invariant.walked leads within
-    (subst (λ (s : ThreadView). 0 < length (thread_pair_at s.kept c.in-Some.next).content.slots) c.loop-index.invariant.same (let n = c.slot_count.ensures in let some = c.if-slot_count-gt0.true in omega (arith, n, some)))
-    (subst (λ (s : ThreadView). starts_superblock (thread_pair_at s.kept c.in-Some.next).content.slots ≡ false) c.loop-index.invariant.same (sym c.in_ok-begins_with_superblock.ensures.is ∙ c.if-not-branch.true))
+    (subst (λ (s : ThreadView). 0 < length (thread_pair s.kept c.in-Some.next).content.slots) c.loop-index.invariant.same (let n = c.slot_count.ensures in let some = c.if-slot_count-gt0.true in omega (arith, n, some)))
+    (subst (λ (s : ThreadView). starts_superblock (thread_pair s.kept c.in-Some.next).content.slots ≡ false) c.loop-index.invariant.same (sym c.in_ok-begins_with_superblock.ensures.is ∙ c.if-not-branch.true))
 
 pub returns-then-not-branch-clause-few : goal.returns-then-not-branch-clause-few
 returns-then-not-branch-clause-few g c =
@@ -76,8 +70,8 @@ returns-then-slot_count-gt0-clause-next g c =
     let leads = ap (λ (s : ThreadView). next_pair s.kept c.loop-index.index) (sym c.loop-index.invariant.same) ∙ sym c.next_in_chain.ensures.next ∙ is_next in
     let within = subst (λ (s : ThreadView). c.in-Some.next < length s.kept.pairs) c.loop-index.invariant.same c.in-Some.ensures.below in
     walked_found t c.args.superblock c.loop-index.index c.in-Some.next c.loop-index.invariant.walked leads within
-    (subst (λ (s : ThreadView). 0 < length (thread_pair_at s.kept c.in-Some.next).content.slots) c.loop-index.invariant.same (let n = c.slot_count.ensures in let some = c.if-slot_count-gt0.true in omega (arith, n, some)))
-    (subst (λ (s : ThreadView). starts_superblock (thread_pair_at s.kept c.in-Some.next).content.slots ≡ true) c.loop-index.invariant.same (sym c.in_ok-begins_with_superblock.ensures.is ∙ c.if-not-branch.false))
+    (subst (λ (s : ThreadView). 0 < length (thread_pair s.kept c.in-Some.next).content.slots) c.loop-index.invariant.same (let n = c.slot_count.ensures in let some = c.if-slot_count-gt0.true in omega (arith, n, some)))
+    (subst (λ (s : ThreadView). starts_superblock (thread_pair s.kept c.in-Some.next).content.slots ≡ true) c.loop-index.invariant.same (sym c.in_ok-begins_with_superblock.ensures.is ∙ c.if-not-branch.false))
 
 pub returns-then-slot_count-gt0-clause-few : goal.returns-then-slot_count-gt0-clause-few
 returns-then-slot_count-gt0-clause-few g c =
@@ -99,5 +93,5 @@ loop-index-preserved g c =
       end = c.loop-index.invariant.end;
       same = c.loop-index.invariant.same;
       walked = walked_on t c.args.superblock c.loop-index.index c.in-Some.next c.loop-index.invariant.walked leads within
-          (subst (λ (s : ThreadView). length (thread_pair_at s.kept c.in-Some.next).content.slots ≡ 0) c.loop-index.invariant.same (let n = c.slot_count.ensures in let none = c.if-slot_count-gt0.false in omega (arith, n, none)));
+          (subst (λ (s : ThreadView). length (thread_pair s.kept c.in-Some.next).content.slots ≡ 0) c.loop-index.invariant.same (let n = c.slot_count.ensures in let none = c.if-slot_count-gt0.false in omega (arith, n, none)));
     }

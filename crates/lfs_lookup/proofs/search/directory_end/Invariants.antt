@@ -1,7 +1,5 @@
 use Rattle.std.proofs.Common.{◌≡◌, ◌<◌, ◌+◌, ◌-◌, length, drop}
-use Rattle.lfs_model.specs.session.InDirectory.{joined_count}
-use Rattle.lfs_lookup.specs.Halves.{EndsWithoutTail}
-use Rattle.lfs_lookup.specs.Listed.{joined_pairs}
+use Rattle.lfs_lookup.proofs.Common.{joined_count, EndsWithoutTail, joined_pairs}
 use Rattle.lfs_lookup.proofs.search.directory_end.Given as goal
 
 abbrev pub invariant-loop-next : goal.invariant-loop-next

@@ -1,11 +1,5 @@
 use Rattle.std.proofs.Common.{ℕ, ◌≡◌, ◌<◌, ◌+◌, ◌∙◌, ◌∷◌, [], true, List, slice_index_or, sym, ap, subst, length, drop, arith, refl}
-use Rattle.std.proofs.lemmas.Result.{err_from_is_err_and}
-use Rattle.lfs_model.specs.session.InDirectory.{joined_count}
-use Rattle.lfs_model.specs.format.Thread.{Pair, is_hard_tail}
-use Rattle.lfs_thread.specs.ThreadSteps.{thread_pair_at, empty_anchor}
-use Rattle.lfs_lookup.specs.CachedPairs.{ReadsNothingAndKeepsPairsWhereAllCached}
-use Rattle.lfs_lookup.specs.Listed.{joined_pairs}
-use Rattle.lfs_lookup.specs.NameSearch.{FindsInPair, IsAbsent, IsAbsentExcept, HasNameUnskipped}
+use Rattle.lfs_lookup.proofs.Common.{err_from_is_err_and, joined_count, Pair, is_hard_tail, thread_pair, empty_anchor, KeepsCachedPairs, joined_pairs, FindsInPair, IsAbsent, IsAbsentExcept, HasNameUnskipped}
 use Rattle.lfs_lookup.proofs.Directories.{run_hard_on, run_on as run_here_on, run_some_on}
 use Rattle.lfs_lookup.proofs.Reading.{answered, answers, both}
 use Rattle.lfs_lookup.proofs.ReadOnly.{only_read, only_itself, reported_on}
@@ -41,7 +35,7 @@ returns-in_err-id-clause-loads g c =
     let p = err_from_is_err_and c.from_residual.result c.from_residual.ensures.1 in
     let ps = c.args.thread.now.kept.pairs in
     loads_to_here _ _ _ (slice_index_or ps c.loop-id.pair empty_anchor) c.args.thread.now c.loop-id.thread c.find_in_pair.new.thread c.find_in_pair.result inv.along (run_here_on ps c.loop-id.pair empty_anchor inv.below)
-    (subst (λ (qs : List Pair). ReadsNothingAndKeepsPairsWhereAllCached (slice_index_or qs c.loop-id.pair empty_anchor ∷ []) c.loop-id.thread c.find_in_pair.new.thread c.find_in_pair.result) inv.only.pairs c.find_in_pair.ensures.loads)
+    (subst (λ (qs : List Pair). KeepsCachedPairs (slice_index_or qs c.loop-id.pair empty_anchor ∷ []) c.loop-id.thread c.find_in_pair.new.thread c.find_in_pair.result) inv.only.pairs c.find_in_pair.ensures.loads)
     c.from_residual.result (passes_none c.find_in_pair.result c.from_residual.result p.0 p.1)
 
 pub returns-in_err-id-clause-reading : goal.returns-in_err-id-clause-reading
@@ -58,7 +52,7 @@ pub returns-in-Found-clause-answer : goal.returns-in-Found-clause-answer
 returns-in-Found-clause-answer g c =
     let inv = c.loop-id.invariant in
     let ps = c.args.thread.now.kept.pairs in
-    let a = subst (λ o. FindsInPair c.loop-id.thread.kept.disk.order c.id_to_skip-skip.result (thread_pair_at c.loop-id.thread.kept c.loop-id.pair).content.slots c.args.name.now o) c.in-Found.is c.in_ok-id.ensures.answer in
+    let a = subst (λ o. FindsInPair c.loop-id.thread.kept.disk.order c.id_to_skip-skip.result (thread_pair c.loop-id.thread.kept c.loop-id.pair).content.slots c.args.name.now o) c.in-Found.is c.in_ok-id.ensures.answer in
     let b = subst (λ qs. HasNameUnskipped c.id_to_skip-skip.result (slice_index_or qs c.loop-id.pair empty_anchor).content.slots c.args.name.now c.in-Found.id c.in-Found.entry) inv.only.pairs a in
     shown_here ps c.args.moved c.args.first c.args.name.now _ (slice_index_or ps c.loop-id.pair empty_anchor) c.in-Found.entry inv.reached
     (subst (λ k. HasNameUnskipped k (slice_index_or ps c.loop-id.pair empty_anchor).content.slots c.args.name.now c.in-Found.id c.in-Found.entry) c.id_to_skip-skip.ensures b)
@@ -68,7 +62,7 @@ returns-in-Found-clause-loads g c =
     let inv = c.loop-id.invariant in
     let ps = c.args.thread.now.kept.pairs in
     loads_to_here _ _ _ (slice_index_or ps c.loop-id.pair empty_anchor) c.args.thread.now c.loop-id.thread c.find_in_pair.new.thread c.find_in_pair.result inv.along (run_here_on ps c.loop-id.pair empty_anchor inv.below)
-    (subst (λ (qs : List Pair). ReadsNothingAndKeepsPairsWhereAllCached (slice_index_or qs c.loop-id.pair empty_anchor ∷ []) c.loop-id.thread c.find_in_pair.new.thread c.find_in_pair.result) inv.only.pairs c.find_in_pair.ensures.loads)
+    (subst (λ (qs : List Pair). KeepsCachedPairs (slice_index_or qs c.loop-id.pair empty_anchor ∷ []) c.loop-id.thread c.find_in_pair.new.thread c.find_in_pair.result) inv.only.pairs c.find_in_pair.ensures.loads)
     _ (λ P h. on_ok c.find_in_pair.result c.in_ok-id.field-0 P c.in_ok-id.was h)
 
 pub returns-in-Found-clause-reading : goal.returns-in-Found-clause-reading
@@ -81,7 +75,7 @@ returns-in-None-clause-loads g c =
     let inv = c.loop-id.invariant in
     let ps = c.args.thread.now.kept.pairs in
     loads_to_here _ _ _ (slice_index_or ps c.loop-id.pair empty_anchor) c.args.thread.now c.loop-id.thread c.find_in_pair.new.thread c.find_in_pair.result inv.along (run_here_on ps c.loop-id.pair empty_anchor inv.below)
-    (subst (λ (qs : List Pair). ReadsNothingAndKeepsPairsWhereAllCached (slice_index_or qs c.loop-id.pair empty_anchor ∷ []) c.loop-id.thread c.find_in_pair.new.thread c.find_in_pair.result) inv.only.pairs c.find_in_pair.ensures.loads)
+    (subst (λ (qs : List Pair). KeepsCachedPairs (slice_index_or qs c.loop-id.pair empty_anchor ∷ []) c.loop-id.thread c.find_in_pair.new.thread c.find_in_pair.result) inv.only.pairs c.find_in_pair.ensures.loads)
     _ (λ P h. on_ok c.find_in_pair.result c.in_ok-id.field-0 P c.in_ok-id.was h)
 
 pub returns-in-None-clause-reading : goal.returns-in-None-clause-reading
@@ -93,11 +87,11 @@ pub returns-in-None-clause-answer : goal.returns-in-None-clause-answer
 returns-in-None-clause-answer g c =
     let inv = c.loop-id.invariant in
     let ps = c.args.thread.now.kept.pairs in
-    let a = subst (λ o. FindsInPair c.loop-id.thread.kept.disk.order c.id_to_skip-skip.result (thread_pair_at c.loop-id.thread.kept c.loop-id.pair).content.slots c.args.name.now o) c.in-Place.is c.in_ok-id.ensures.answer in
+    let a = subst (λ o. FindsInPair c.loop-id.thread.kept.disk.order c.id_to_skip-skip.result (thread_pair c.loop-id.thread.kept c.loop-id.pair).content.slots c.args.name.now o) c.in-Place.is c.in_ok-id.ensures.answer in
     let b = subst (λ k. IsAbsentExcept k (slice_index_or ps c.loop-id.pair empty_anchor).content.slots c.args.name.now) c.id_to_skip-skip.ensures
     (subst (λ qs. IsAbsentExcept c.id_to_skip-skip.result (slice_index_or qs c.loop-id.pair empty_anchor).content.slots c.args.name.now) inv.only.pairs a.absent) in
     let pairs = c.in_ok-id.ensures.reading.only.pairs ∙ inv.only.pairs in
-    let soft = leads_nowhere (is_hard_tail (thread_pair_at c.find_in_pair.new.thread.kept c.loop-id.pair).content.tail) (c.loop-id.pair + 1) (sym c.next.ensures.next ∙ c.in-None.is) in
+    let soft = leads_nowhere (is_hard_tail (thread_pair c.find_in_pair.new.thread.kept c.loop-id.pair).content.tail) (c.loop-id.pair + 1) (sym c.next.ensures.next ∙ c.in-None.is) in
     absent_end ps c.args.moved c.loop-id.pair c.args.name.now empty_anchor (IsAbsent c.args.moved c.args.first (drop c.args.first ps) c.args.name.now) inv.below inv.absent b
     (ap (λ (qs : List Pair). is_hard_tail (slice_index_or qs c.loop-id.pair empty_anchor).content.tail) (sym pairs) ∙ soft)
 
@@ -105,11 +99,11 @@ pub loop-id-preserved : goal.loop-id-preserved
 loop-id-preserved g c =
     let inv = c.loop-id.invariant in
     let ps = c.args.thread.now.kept.pairs in
-    let a = subst (λ o. FindsInPair c.loop-id.thread.kept.disk.order c.id_to_skip-skip.result (thread_pair_at c.loop-id.thread.kept c.loop-id.pair).content.slots c.args.name.now o) c.in-Place.is c.in_ok-id.ensures.answer in
+    let a = subst (λ o. FindsInPair c.loop-id.thread.kept.disk.order c.id_to_skip-skip.result (thread_pair c.loop-id.thread.kept c.loop-id.pair).content.slots c.args.name.now o) c.in-Place.is c.in_ok-id.ensures.answer in
     let b = subst (λ k. IsAbsentExcept k (slice_index_or ps c.loop-id.pair empty_anchor).content.slots c.args.name.now) c.id_to_skip-skip.ensures
     (subst (λ qs. IsAbsentExcept c.id_to_skip-skip.result (slice_index_or qs c.loop-id.pair empty_anchor).content.slots c.args.name.now) inv.only.pairs a.absent) in
     let pairs = c.in_ok-id.ensures.reading.only.pairs ∙ inv.only.pairs in
-    let on = leads_on (is_hard_tail (thread_pair_at c.find_in_pair.new.thread.kept c.loop-id.pair).content.tail) (c.loop-id.pair + 1) c.in-Some.next (sym c.next.ensures.next ∙ c.in-Some.is) in
+    let on = leads_on (is_hard_tail (thread_pair c.find_in_pair.new.thread.kept c.loop-id.pair).content.tail) (c.loop-id.pair + 1) c.in-Some.next (sym c.next.ensures.next ∙ c.in-Some.is) in
     let hard : is_hard_tail (slice_index_or ps c.loop-id.pair empty_anchor).content.tail ≡ true = ap (λ (qs : List Pair). is_hard_tail (slice_index_or qs c.loop-id.pair empty_anchor).content.tail) (sym pairs) ∙ on.0 in
     let next : c.in-Some.next ≡ c.loop-id.pair + 1 = on.1 in
     let behind : c.in-Some.next < length ps = subst (λ (qs : List Pair). c.in-Some.next < length qs) pairs c.in-Some.ensures.below in
@@ -124,7 +118,7 @@ loop-id-preserved g c =
       few = omega (arith, few, once, run);
       along = loads_on _ _ _ (slice_index_or ps c.loop-id.pair empty_anchor) c.args.thread.now c.loop-id.thread c.find_in_pair.new.thread c.find_in_pair.result inv.along
           (run_hard_on ps c.loop-id.pair c.in-Some.next empty_anchor inv.below hard next)
-          (subst (λ (qs : List Pair). ReadsNothingAndKeepsPairsWhereAllCached (slice_index_or qs c.loop-id.pair empty_anchor ∷ []) c.loop-id.thread c.find_in_pair.new.thread c.find_in_pair.result) inv.only.pairs c.find_in_pair.ensures.loads)
+          (subst (λ (qs : List Pair). KeepsCachedPairs (slice_index_or qs c.loop-id.pair empty_anchor ∷ []) c.loop-id.thread c.find_in_pair.new.thread c.find_in_pair.result) inv.only.pairs c.find_in_pair.ensures.loads)
           c.in_ok-id.field-0 c.in_ok-id.was c.find_in_pair.ensures.reading.only.disk (run_some_on ps c.in-Some.next empty_anchor behind);
       from = omega (arith, from, next);
       below = behind;

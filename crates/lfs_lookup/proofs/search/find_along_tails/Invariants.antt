@@ -1,9 +1,5 @@
 use Rattle.std.proofs.Common.{◌≡◌, ◌<◌, ◌≤◌, ◌+◌, ◌-◌, length, drop, false, get_or}
-use Rattle.lfs_model.specs.session.History.{fault_count, read_count}
-use Rattle.lfs_model.specs.session.InDirectory.{joined_count}
-use Rattle.lfs_thread.specs.ThreadSteps.{OnlyReadsThread, empty_anchor}
-use Rattle.lfs_lookup.specs.Listed.{joined_pairs}
-use Rattle.lfs_lookup.specs.NameSearch.{IsAbsent}
+use Rattle.lfs_lookup.proofs.Common.{fault_count, read_count, joined_count, OnlyReadsThread, empty_anchor, joined_pairs, IsAbsent}
 use Rattle.lfs_lookup.proofs.RecentBlocks.{HasBrought}
 use Rattle.lfs_lookup.proofs.ShownAlong.{IsReached}
 use Rattle.lfs_lookup.proofs.search.find_along_tails.Given as goal

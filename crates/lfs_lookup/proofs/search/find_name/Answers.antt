@@ -1,15 +1,5 @@
 use Rattle.std.proofs.Common.{subst₂, ℕ, ◌≡◌, ◌⊎◌, inl, inr, ◌<◌, ◌≤◌, ◌+◌, ◌-◌, ◌/◌, ◌∙◌, ◌∷◌, [], List, slice_index_or, sym, ap, subst, length, drop, arith, refl, None}
-use Rattle.std.proofs.lemmas.Result.{err_from_is_err_and}
-use Rattle.lfs_model.specs.format.Disk.{Disk}
-use Rattle.lfs_model.specs.session.History.{read_count}
-use Rattle.lfs_model.specs.session.InDirectory.{BelongsAtId, HasName, joined_count}
-use Rattle.lfs_model.specs.format.Thread.{Pair}
-use Rattle.lfs_thread.specs.ThreadSteps.{thread_pair_at, empty_anchor}
-use Rattle.lfs_lookup.specs.CachedPairs.{ReadsNothingAndKeepsPairsWhereAllCached}
-use Rattle.lfs_lookup.specs.Entry.{IsStructEntry}
-use Rattle.lfs_lookup.specs.Halves.{all_halvings}
-use Rattle.lfs_lookup.specs.Listed.{joined_pairs}
-use Rattle.lfs_lookup.specs.NameSearch.{FindsInPair}
+use Rattle.lfs_lookup.proofs.Common.{err_from_is_err_and, Disk, read_count, BelongsAtId, HasName, joined_count, Pair, thread_pair, empty_anchor, KeepsCachedPairs, IsStructEntry, halving_count, joined_pairs, FindsInPair}
 use Rattle.lfs_lookup.proofs.Halved.{IsLow, at_run, begun, belongs_between, belongs_inside, ends, exceeds, low_past, passed, passes, run_count, stands_at, starts}
 use Rattle.lfs_lookup.proofs.HalvedReads.{HasHalved, HasLoaded, halved_all, halved_none, halved_on, halved_to_here, has_slot, loaded_nothing, loaded_on, loaded_past, loads_all, loads_here, lower_half, middle_below, upper_half}
 use Rattle.lfs_lookup.proofs.Reading.{answered, answers, both, further, has_read_nothing, passed as passed_on}
@@ -32,7 +22,7 @@ loop-low-init g c =
       within = c.directory_end-high.ensures.within;
       fits = omega (arith, c.directory_end-high.type_inv);
       few = omega (arith, e);
-      halves = λ slots. subst (λ (n : ℕ). HasHalved (all_halvings (joined_count (drop c.args.first ps))) (read_count c.args.thread.now.kept.history) (read_count c.args.thread.now.kept.history) n) size
+      halves = λ slots. subst (λ (n : ℕ). HasHalved (halving_count (joined_count (drop c.args.first ps))) (read_count c.args.thread.now.kept.history) (read_count c.args.thread.now.kept.history) n) size
           (halved_none (read_count c.args.thread.now.kept.history) (joined_count (drop c.args.first ps)));
       loaded = loaded_nothing (joined_pairs (drop c.args.first ps)) c.args.first c.directory_end-high.result c.args.thread.now (omega (arith, e, one));
       lesser = begun refl refl refl;
@@ -132,7 +122,7 @@ returns-in_err-id-clause-reads g c = record {
       let w = c.middle_pair_number-pair.ensures.within in
       let some = c.loop-low-test.true in
       let a = at_run ps c.args.first c.middle_pair_number-pair.result empty_anchor (let f = inv.from in let l = w.0 in omega (arith, f, l)) (let e = inv.end in let l = w.1 in omega (arith, e, l)) in
-      let b = subst (λ (qs : List Pair). ReadsNothingAndKeepsPairsWhereAllCached (slice_index_or qs c.middle_pair_number-pair.result empty_anchor ∷ []) c.loop-low.thread c.find_in_pair.new.thread c.find_in_pair.result) inv.read.only.pairs c.find_in_pair.ensures.loads in
+      let b = subst (λ (qs : List Pair). KeepsCachedPairs (slice_index_or qs c.middle_pair_number-pair.result empty_anchor ∷ []) c.loop-low.thread c.find_in_pair.new.thread c.find_in_pair.result) inv.read.only.pairs c.find_in_pair.ensures.loads in
       let p = err_from_is_err_and c.from_residual.result c.from_residual.ensures.1 in
       loads_here (joined_pairs (drop c.args.first ps)) c.args.first c.loop-low.low c.loop-low.high c.middle_pair_number-pair.result (slice_index_or ps c.middle_pair_number-pair.result empty_anchor) c.args.thread.now c.loop-low.thread c.find_in_pair.new.thread c.find_in_pair.result a inv.loaded some b c.from_residual.result (passes_none c.find_in_pair.result c.from_residual.result p.0 p.1)
       );
@@ -150,7 +140,7 @@ returns-in-Found-clause-answer g c =
     let w = c.middle_pair_number-pair.ensures.within in
     let some = c.loop-low-test.true in
     let a = at_run ps c.args.first c.middle_pair_number-pair.result empty_anchor (let f = inv.from in let l = w.0 in omega (arith, f, l)) (let e = inv.end in let l = w.1 in omega (arith, e, l)) in
-    let answer = subst (λ o. FindsInPair c.loop-low.thread.kept.disk.order None (thread_pair_at c.loop-low.thread.kept c.middle_pair_number-pair.result).content.slots c.args.name.now o) c.in-Found.is c.in_ok-id.ensures.answer in
+    let answer = subst (λ o. FindsInPair c.loop-low.thread.kept.disk.order None (thread_pair c.loop-low.thread.kept c.middle_pair_number-pair.result).content.slots c.args.name.now o) c.in-Found.is c.in_ok-id.ensures.answer in
     let (s, shows) = subst (λ (qs : List Pair). (s : HasName (slice_index_or qs c.middle_pair_number-pair.result empty_anchor).content.slots c.args.name.now c.in-Found.id) × IsStructEntry c.in-Found.entry s.slot.struct) inv.read.only.pairs (answer.stands, answer.shows) in
     stands_at c.args.thread.now.kept.disk.order ps c.args.first c.args.name.now c.middle_pair_number-pair.result (slice_index_or ps c.middle_pair_number-pair.result empty_anchor) a c.requires.can.below c.in-Found.id c.in-Found.entry s shows
 
@@ -172,7 +162,7 @@ returns-in-Found-clause-reads g c = record {
       let w = c.middle_pair_number-pair.ensures.within in
       let some = c.loop-low-test.true in
       let a = at_run ps c.args.first c.middle_pair_number-pair.result empty_anchor (let f = inv.from in let l = w.0 in omega (arith, f, l)) (let e = inv.end in let l = w.1 in omega (arith, e, l)) in
-      let b = subst (λ (qs : List Pair). ReadsNothingAndKeepsPairsWhereAllCached (slice_index_or qs c.middle_pair_number-pair.result empty_anchor ∷ []) c.loop-low.thread c.find_in_pair.new.thread c.find_in_pair.result) inv.read.only.pairs c.find_in_pair.ensures.loads in
+      let b = subst (λ (qs : List Pair). KeepsCachedPairs (slice_index_or qs c.middle_pair_number-pair.result empty_anchor ∷ []) c.loop-low.thread c.find_in_pair.new.thread c.find_in_pair.result) inv.read.only.pairs c.find_in_pair.ensures.loads in
       loads_here (joined_pairs (drop c.args.first ps)) c.args.first c.loop-low.low c.loop-low.high c.middle_pair_number-pair.result (slice_index_or ps c.middle_pair_number-pair.result empty_anchor) c.args.thread.now c.loop-low.thread c.find_in_pair.new.thread c.find_in_pair.result a inv.loaded some b _ (λ P h. on_ok c.find_in_pair.result c.in_ok-id.field-0 P c.in_ok-id.was h)
       );
 }
@@ -189,7 +179,7 @@ returns-then-from-count-clause-answer g c =
     let w = c.middle_pair_number-pair.ensures.within in
     let some = c.loop-low-test.true in
     let a = at_run ps c.args.first c.middle_pair_number-pair.result empty_anchor (let f = inv.from in let l = w.0 in omega (arith, f, l)) (let e = inv.end in let l = w.1 in omega (arith, e, l)) in
-    let answer = subst (λ o. FindsInPair c.loop-low.thread.kept.disk.order None (thread_pair_at c.loop-low.thread.kept c.middle_pair_number-pair.result).content.slots c.args.name.now o) c.in-Place.is c.in_ok-id.ensures.answer in
+    let answer = subst (λ o. FindsInPair c.loop-low.thread.kept.disk.order None (thread_pair c.loop-low.thread.kept c.middle_pair_number-pair.result).content.slots c.args.name.now o) c.in-Place.is c.in_ok-id.ensures.answer in
     let place = subst₂ (λ (d : Disk) (qs : List Pair). BelongsAtId d.order (slice_index_or qs c.middle_pair_number-pair.result empty_anchor).content.slots c.args.name.now c.in-Place.id) inv.read.only.disk inv.read.only.pairs (answer.place refl) in
     let count = c.slot_count-count.ensures ∙ ap (λ (qs : List Pair). length (slice_index_or qs c.middle_pair_number-pair.result empty_anchor).content.slots) inv.read.only.pairs in
     let less = c.if-from-count.true in
@@ -219,7 +209,7 @@ returns-then-from-count-clause-reads g c = record {
       let w = c.middle_pair_number-pair.ensures.within in
       let some = c.loop-low-test.true in
       let a = at_run ps c.args.first c.middle_pair_number-pair.result empty_anchor (let f = inv.from in let l = w.0 in omega (arith, f, l)) (let e = inv.end in let l = w.1 in omega (arith, e, l)) in
-      let b = subst (λ (qs : List Pair). ReadsNothingAndKeepsPairsWhereAllCached (slice_index_or qs c.middle_pair_number-pair.result empty_anchor ∷ []) c.loop-low.thread c.find_in_pair.new.thread c.find_in_pair.result) inv.read.only.pairs c.find_in_pair.ensures.loads in
+      let b = subst (λ (qs : List Pair). KeepsCachedPairs (slice_index_or qs c.middle_pair_number-pair.result empty_anchor ∷ []) c.loop-low.thread c.find_in_pair.new.thread c.find_in_pair.result) inv.read.only.pairs c.find_in_pair.ensures.loads in
       loads_here (joined_pairs (drop c.args.first ps)) c.args.first c.loop-low.low c.loop-low.high c.middle_pair_number-pair.result (slice_index_or ps c.middle_pair_number-pair.result empty_anchor) c.args.thread.now c.loop-low.thread c.find_in_pair.new.thread c.find_in_pair.result a inv.loaded some b _ (λ P h. on_ok c.find_in_pair.result c.in_ok-id.field-0 P c.in_ok-id.was h)
       );
 }
@@ -236,8 +226,8 @@ loop-low-preserved-then-count-gt0 g c =
     let w = c.middle_pair_number-pair.ensures.within in
     let some = c.loop-low-test.true in
     let a = at_run ps c.args.first c.middle_pair_number-pair.result empty_anchor (let f = inv.from in let l = w.0 in omega (arith, f, l)) (let e = inv.end in let l = w.1 in omega (arith, e, l)) in
-    let b = subst (λ (qs : List Pair). ReadsNothingAndKeepsPairsWhereAllCached (slice_index_or qs c.middle_pair_number-pair.result empty_anchor ∷ []) c.loop-low.thread c.find_in_pair.new.thread c.find_in_pair.result) inv.read.only.pairs c.find_in_pair.ensures.loads in
-    let answer = subst (λ o. FindsInPair c.loop-low.thread.kept.disk.order None (thread_pair_at c.loop-low.thread.kept c.middle_pair_number-pair.result).content.slots c.args.name.now o) c.in-Place.is c.in_ok-id.ensures.answer in
+    let b = subst (λ (qs : List Pair). KeepsCachedPairs (slice_index_or qs c.middle_pair_number-pair.result empty_anchor ∷ []) c.loop-low.thread c.find_in_pair.new.thread c.find_in_pair.result) inv.read.only.pairs c.find_in_pair.ensures.loads in
+    let answer = subst (λ o. FindsInPair c.loop-low.thread.kept.disk.order None (thread_pair c.loop-low.thread.kept c.middle_pair_number-pair.result).content.slots c.args.name.now o) c.in-Place.is c.in_ok-id.ensures.answer in
     let place = subst₂ (λ (d : Disk) (qs : List Pair). BelongsAtId d.order (slice_index_or qs c.middle_pair_number-pair.result empty_anchor).content.slots c.args.name.now c.in-Place.id) inv.read.only.disk inv.read.only.pairs (answer.place refl) in
     let count = c.slot_count-count.ensures ∙ ap (λ (qs : List Pair). length (slice_index_or qs c.middle_pair_number-pair.result empty_anchor).content.slots) inv.read.only.pairs in
     let few = inv.few in
@@ -277,8 +267,8 @@ loop-low-preserved g c =
     let w = c.middle_pair_number-pair.ensures.within in
     let some = c.loop-low-test.true in
     let a = at_run ps c.args.first c.middle_pair_number-pair.result empty_anchor (let f = inv.from in let l = w.0 in omega (arith, f, l)) (let e = inv.end in let l = w.1 in omega (arith, e, l)) in
-    let b = subst (λ (qs : List Pair). ReadsNothingAndKeepsPairsWhereAllCached (slice_index_or qs c.middle_pair_number-pair.result empty_anchor ∷ []) c.loop-low.thread c.find_in_pair.new.thread c.find_in_pair.result) inv.read.only.pairs c.find_in_pair.ensures.loads in
-    let answer = subst (λ o. FindsInPair c.loop-low.thread.kept.disk.order None (thread_pair_at c.loop-low.thread.kept c.middle_pair_number-pair.result).content.slots c.args.name.now o) c.in-Place.is c.in_ok-id.ensures.answer in
+    let b = subst (λ (qs : List Pair). KeepsCachedPairs (slice_index_or qs c.middle_pair_number-pair.result empty_anchor ∷ []) c.loop-low.thread c.find_in_pair.new.thread c.find_in_pair.result) inv.read.only.pairs c.find_in_pair.ensures.loads in
+    let answer = subst (λ o. FindsInPair c.loop-low.thread.kept.disk.order None (thread_pair c.loop-low.thread.kept c.middle_pair_number-pair.result).content.slots c.args.name.now o) c.in-Place.is c.in_ok-id.ensures.answer in
     let place = subst₂ (λ (d : Disk) (qs : List Pair). BelongsAtId d.order (slice_index_or qs c.middle_pair_number-pair.result empty_anchor).content.slots c.args.name.now c.in-Place.id) inv.read.only.disk inv.read.only.pairs (answer.place refl) in
     let count = c.slot_count-count.ensures ∙ ap (λ (qs : List Pair). length (slice_index_or qs c.middle_pair_number-pair.result empty_anchor).content.slots) inv.read.only.pairs in
     let few = inv.few in

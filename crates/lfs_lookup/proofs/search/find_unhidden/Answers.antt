@@ -1,6 +1,6 @@
 use Rattle.std.proofs.Common.{subst, rules}
-use Rattle.std.proofs.lemmas.Result.{err_from_is_err_and}
-use Rattle.lfs_lookup.specs.NameSearch.{CachesFoundPair, FindsInDirectory}
+use Rattle.lfs_lookup.proofs.Common.{err_from_is_err_and, FindsInDirectory}
+use Rattle.lfs_lookup.specs.NameSearch.{CachesFoundPair}
 use Rattle.lfs_lookup.proofs.InOrder.{found_shown, nothing_shown}
 use Rattle.lfs_lookup.proofs.RecentBlocks.{along_as, on_ok, passes_none}
 use Rattle.lfs_lookup.proofs.search.find_unhidden.Goals as goal

@@ -1,10 +1,7 @@
 use Rattle.std.proofs.Common.{ℕ, ◌≡◌, false, List, sym, subst}
 use Rattle.std.specs.Prelude.{IfNone, IfSome}
-use Rattle.std.specs.List.{AllByRecursion}
-use Rattle.lfs_model.specs.format.Slots.{array_address, same_pair}
-use Rattle.lfs_thread.specs.PairPlaces.{SameAddressAt}
-use Rattle.lfs_lookup.specs.Items.{owned_view}
-use Rattle.lfs_lookup.specs.TreeWalk.{PushesIfDirectory, ArePushed, HasFirstIfDirectory, tree_items_view}
+use Rattle.lfs_lookup.proofs.Common.{AllByRecursion, array_address, same_pair, SameAddressAt, owned_view, ArePushed, HasFirstIfDirectory, tree_items_view}
+use Rattle.lfs_lookup.specs.TreeWalk.{PushesIfDirectory}
 use Rattle.lfs_lookup.proofs.PairAddresses.{place_begins, place_there}
 use Rattle.lfs_lookup.proofs.walks.push_below_entry.Goals as goal
 

@@ -1,6 +1,5 @@
 use Rattle.std.proofs.Common.{◌≡◌, ◌++◌, length, reverse}
-use Rattle.lfs_lookup.specs.Items.{directory_items_view}
-use Rattle.lfs_lookup.specs.TreeWalk.{tree_items_view, walked_entries}
+use Rattle.lfs_lookup.proofs.Common.{directory_items_view, tree_items_view, walked_entries}
 use Rattle.lfs_lookup.proofs.walks.push_beneath_path.Given as goal
 
 abbrev pub invariant-loop-item : goal.invariant-loop-item

@@ -1,10 +1,6 @@
 use Rattle.std.proofs.Common.{◌<◌, ◌++◌, ◌∷◌, [], ◌-◌, ◌∙◌, Err, List, ap, length, sym, subst, take}
-use Rattle.std.proofs.lemmas.List.{map-append}
-use Rattle.std.proofs.lemmas.Result.{err_from_is_err_and}
-use Rattle.lfs_model.specs.format.Thread.{Pair}
-use Rattle.lfs_model.specs.tree.Shown.{all_entries}
-use Rattle.lfs_lookup.specs.Items.{owned_view}
-use Rattle.lfs_lookup.specs.TreeWalk.{AreBelowPushed, ArePushed, HasFirstIfDirectory, PathStruct, tree_item_view, tree_items_view}
+use Rattle.lfs_lookup.proofs.Common.{map-append, err_from_is_err_and, Pair, all_entries, owned_view, PushesEntriesBelow, ArePushed, HasFirstIfDirectory, PathStruct, tree_items_view}
+use Rattle.lfs_lookup.specs.TreeWalk.{tree_item_view}
 use Rattle.lfs_lookup.specs.declared.walks.TreeItem.{TreeItem}
 use Rattle.lfs_lookup.proofs.Reading.{answered, both, further, has_read_nothing, lacks_memory, passed}
 use Rattle.lfs_lookup.proofs.Roots.{root_shapes}
@@ -44,7 +40,7 @@ loop-found-smaller g c =
     let inv = c.loop-found.invariant in
     let are = ap tree_items_view c.in-Some.ensures.items ∙ map-append tree_item_view c.pop.new.self.items (c.in-Some.found ∷ []) in
     let next = took c.args.thread.now.kept.disk c.args.thread.now.kept.pairs (tree_items_view c.loop-found.walked.items) (tree_items_view c.loop-found.pending.items) (tree_items_view c.pop.new.self.items) (tree_item_view c.in-Some.found) are inv.under_way in
-    let pushed = subst (λ (ps : List Pair). AreBelowPushed ps (tree_item_view c.in-Some.found) (tree_items_view c.pop.new.self.items) (tree_items_view c.push_below_entry.new.pending.items)) inv.read.only.pairs c.in_ok-push_below_entry.ensures.pushed in
+    let pushed = subst (λ (ps : List Pair). PushesEntriesBelow ps (tree_item_view c.in-Some.found) (tree_items_view c.pop.new.self.items) (tree_items_view c.push_below_entry.new.pending.items)) inv.read.only.pairs c.in_ok-push_below_entry.ensures.pushed in
     subst (λ (places : List PathStruct). load_list_into_memory (length c.args.thread.now.kept.pairs) (all_entries c.args.thread.now.kept.pairs) (tree_items_view c.push_below_entry.new.pending.items) < load_list_into_memory (length c.args.thread.now.kept.pairs) (all_entries c.args.thread.now.kept.pairs) places) (sym are)
     (less_left c.args.thread.now.kept.disk c.args.thread.now.kept.pairs (tree_items_view c.loop-found.walked.items) (tree_items_view c.pop.new.self.items) (tree_items_view c.push_below_entry.new.pending.items) (tree_item_view c.in-Some.found) c.requires.accepted next pushed)
 
@@ -53,7 +49,7 @@ loop-found-preserved g c =
     let inv = c.loop-found.invariant in
     let are = ap tree_items_view c.in-Some.ensures.items ∙ map-append tree_item_view c.pop.new.self.items (c.in-Some.found ∷ []) in
     let next = took c.args.thread.now.kept.disk c.args.thread.now.kept.pairs (tree_items_view c.loop-found.walked.items) (tree_items_view c.loop-found.pending.items) (tree_items_view c.pop.new.self.items) (tree_item_view c.in-Some.found) are inv.under_way in
-    let pushed = subst (λ (ps : List Pair). AreBelowPushed ps (tree_item_view c.in-Some.found) (tree_items_view c.pop.new.self.items) (tree_items_view c.push_below_entry.new.pending.items)) inv.read.only.pairs c.in_ok-push_below_entry.ensures.pushed in
+    let pushed = subst (λ (ps : List Pair). PushesEntriesBelow ps (tree_item_view c.in-Some.found) (tree_items_view c.pop.new.self.items) (tree_items_view c.push_below_entry.new.pending.items)) inv.read.only.pairs c.in_ok-push_below_entry.ensures.pushed in
     record {
       read = both _ _ _ inv.read (answered _ _ c.push_below_entry.result c.in_ok-push_below_entry.field-0 c.in_ok-push_below_entry.was c.push_below_entry.ensures.reading);
       under_way = subst (λ (done : List PathStruct). IsUnderWay c.args.thread.now.kept.disk c.args.thread.now.kept.pairs done (tree_items_view c.push_below_entry.new.pending.items))

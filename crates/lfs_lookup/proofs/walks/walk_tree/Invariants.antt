@@ -1,6 +1,5 @@
 use Rattle.std.proofs.Common.{length}
-use Rattle.lfs_model.specs.tree.Shown.{all_entries}
-use Rattle.lfs_lookup.specs.TreeWalk.{tree_items_view}
+use Rattle.lfs_lookup.proofs.Common.{all_entries, tree_items_view}
 use Rattle.lfs_lookup.proofs.Reading.{HasRead}
 use Rattle.lfs_lookup.proofs.Sizes.{load_list_into_memory}
 use Rattle.lfs_lookup.proofs.Visits.{IsUnderWay}

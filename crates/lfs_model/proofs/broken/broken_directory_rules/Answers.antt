@@ -2,8 +2,7 @@ use Rattle.std.proofs.Common.{[], ◌∷◌, List, None, inr, refl, arith}
 use Rattle.std.specs.Prelude.{codes}
 use Rattle.lfs_model.specs.format.Crc.{crc_of, next_bits}
 use Rattle.lfs_model.specs.format.Log.{chain_of, chain_within, commit_within, entry_at, closes}
-use Rattle.lfs_model.specs.format.Slots.{Slot, zero_gstate}
-use Rattle.lfs_model.specs.format.Thread.{Pair}
+use Rattle.lfs_model.proofs.Common.{Slot, zero_gstate, Pair}
 use Rattle.lfs_model.specs.declared.order.NameOrder.TheVariants.{ShorterFirst}
 use Rattle.lfs_model.specs.examples.Violations.{dot_name_image, falling_names_image, joined_branches_image, loose_branch_image, unnamed_pair_image}
 use Rattle.lfs_model.proofs.BrokenImages.{is_thread, no_directory_there, no_entry, no_path_leads, no_rise, paths_differ}

@@ -2,8 +2,7 @@ use Rattle.std.proofs.Common.{ℕ, [], ◌∷◌, ◌≡◌, List, None, Some, f
 use Rattle.std.specs.Prelude.{codes}
 use Rattle.lfs_model.specs.format.Crc.{crc_of, next_bits}
 use Rattle.lfs_model.specs.format.Log.{chain_of, chain_within, commit_within, entry_at, closes}
-use Rattle.lfs_model.specs.format.Slots.{Slot, zero_gstate}
-use Rattle.lfs_model.specs.format.Thread.{Pair}
+use Rattle.lfs_model.proofs.Common.{Slot, zero_gstate, Pair}
 use Rattle.lfs_model.specs.examples.Violations.{bad_move_image, empty_list_image, shared_block_image}
 use Rattle.lfs_model.proofs.BrokenImages.{is_thread, no_list, no_valid_move}
 use Rattle.lfs_model.proofs.Examples.{large_superblock, long_file, pair}

@@ -1,15 +1,8 @@
 use Rattle.std.proofs.Common.{ℕ, ◌≡◌, ◌≤◌, [], ◌∷◌, None, refl, subst, arith, replicate}
 use Rattle.std.specs.Prelude.{codes}
-use Rattle.lfs_model.specs.format.Content.{content_at}
+use Rattle.lfs_model.proofs.Common.{content_at, block_count, default_profile, fresh_pair, superblock_bytes, InlineBytesFit, IsWritable, IsSmallEnough, Inline, Slot, zero_gstate, Pair, struct_bytes_with}
 use Rattle.lfs_model.specs.format.Crc.{crc_of, next_bits}
-use Rattle.lfs_model.specs.format.Disk.{block_count, default_profile}
-use Rattle.lfs_model.specs.tree.Fresh.{fresh_pair, superblock_bytes}
 use Rattle.lfs_model.specs.format.Log.{chain_of, chain_within, commit_within, entry_at, closes}
-use Rattle.lfs_model.specs.tree.Profile.{InlineBytesFit, IsWritable}
-use Rattle.lfs_model.specs.layers.ProfileBreaches.{IsSmallEnough}
-use Rattle.lfs_model.specs.format.Slots.{Inline, Slot, zero_gstate}
-use Rattle.lfs_model.specs.format.Thread.{Pair}
-use Rattle.lfs_model.specs.examples.Images.{struct_bytes_with}
 use Rattle.lfs_model.specs.examples.Violations.{empty_pair_image, large_entry_image, unwritable_inline_image, short_names_image}
 use Rattle.lfs_model.proofs.Acceptance.{image_is_accepted}
 use Rattle.lfs_model.proofs.KeptProfiles.{writable_breaks_none}

@@ -1,14 +1,9 @@
 use Rattle.std.proofs.Common.{◌+◌, ◌≡◌, [], ◌∷◌, List, None, Option, Some, ap, inr, refl, arith}
 use Rattle.std.specs.Prelude.{codes, unwrap_or}
 use Rattle.lfs_model.specs.format.Crc.{crc_of, next_bits}
-use Rattle.lfs_model.specs.format.Disk.{default_profile}
-use Rattle.lfs_model.specs.tree.Fresh.{superblock_slot, superblock_bytes}
-use Rattle.lfs_model.specs.format.Log.{LogEntry, chain_of, chain_within, commit_within, entry_at, closes}
-use Rattle.lfs_model.specs.format.Slots.{Inline, Slot, zero_gstate}
-use Rattle.lfs_model.specs.format.Thread.{Pair, pair_count_before_root}
-use Rattle.lfs_model.specs.tree.View.{superblock_entry}
+use Rattle.lfs_model.proofs.Common.{default_profile, superblock_slot, superblock_bytes, LogEntry, Inline, Slot, zero_gstate, Pair, count_before_root, superblock_entry, struct_bytes_with}
+use Rattle.lfs_model.specs.format.Log.{chain_of, chain_within, commit_within, entry_at, closes}
 use Rattle.lfs_model.specs.declared.limits.AcceptedVersions.TheVariants.{OnlyTwoZero}
-use Rattle.lfs_model.specs.examples.Images.{struct_bytes_with}
 use Rattle.lfs_model.specs.examples.Violations.{later_version_image, create_first_image, two_sizes_image, no_superblock_image}
 use Rattle.lfs_model.proofs.BrokenImages.{is_thread, no_same_superblock, no_superblock_of_disk}
 use Rattle.lfs_model.proofs.Examples.{file, hard, large_superblock, pair}
@@ -60,7 +55,7 @@ returns-clause-other_superblock c = inr (
       pair = second;
       there = refl;
       at_is = refl;
-      in_chain = let count : pair_count_before_root two_pairs ≡ 1 = refl in omega (arith, count);
+      in_chain = let count : count_before_root two_pairs ≡ 1 = refl in omega (arith, count);
       slot = larger;
       slot_is = refl;
       first = large_superblock;

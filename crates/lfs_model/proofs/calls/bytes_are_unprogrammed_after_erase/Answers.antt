@@ -1,6 +1,5 @@
 use Rattle.std.proofs.Common.{ℕ, zero, suc, ◌≡◌, ◌≤◌, ◌<◌, true, refl, arith}
-use Rattle.lfs_model.specs.session.History.{is_unprogrammed_byte}
-use Rattle.lfs_model.specs.examples.Histories.{after_read}
+use Rattle.lfs_model.proofs.Common.{is_unprogrammed_byte, after_read}
 use Rattle.lfs_model.proofs.calls.bytes_are_unprogrammed_after_erase.Goals as goal
 
 from_there : (k : ℕ) → 2 ≤ k → k < 4 → is_unprogrammed_byte after_read 0 k ≡ true

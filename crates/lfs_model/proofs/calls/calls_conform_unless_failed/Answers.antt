@@ -1,10 +1,7 @@
 use Rattle.std.proofs.Common.{true, false, [], ◌∷◌, refl, ap, arith}
 use Rattle.std.specs.Prelude.{slice_index, replicate}
-use Rattle.std.proofs.lemmas.List.{get_or-set_other}
-use Rattle.std.proofs.lemmas.List.Elements.{All-nil, All-cons, All-head}
-use Rattle.lfs_model.specs.format.Blocks.{Blocks, block_bytes, SameExcept}
-use Rattle.lfs_model.specs.crash.Conformance.{ConformsTo, CallsConform}
-use Rattle.lfs_model.specs.examples.Histories.{example_before_erase, example_after_erase, example_after_program, erase_event, program_event, failed_read, vain_program_event, other_erase_event, after_erase, after_program}
+use Rattle.lfs_model.proofs.Common.{get_or-set_other, All-nil, All-cons, All-head, Blocks, block_bytes, SameExcept, ConformsTo, CallsConform, example_before_erase, example_after_program, program_event, failed_read, after_erase, after_program}
+use Rattle.lfs_model.specs.examples.Histories.{example_after_erase, erase_event, lost_program, other_erase}
 use Rattle.lfs_model.proofs.Conformance.{conforms_read, conforms_program, conforms_erase}
 use Rattle.lfs_model.proofs.calls.calls_conform_unless_failed.Goals as goal
 
@@ -25,12 +22,12 @@ returns-clause-conforms c = All-cons ConformsTo failed_read after_program (confo
 
 pub returns-clause-not_programmed : goal.returns-clause-not_programmed
 returns-clause-not_programmed c = λ h. absurd (
-    let left = (All-head ConformsTo vain_program_event [] h).programs 0 0 (9 ∷ 9 ∷ []) refl refl in
+    let left = (All-head ConformsTo lost_program [] h).programs 0 0 (9 ∷ 9 ∷ []) refl refl in
     let k = ap (λ (blocks : Blocks). slice_index (block_bytes blocks 0) 0) left in
     omega arith)
 
 pub returns-clause-another_block : goal.returns-clause-another_block
 returns-clause-another_block c = λ h. absurd (
-    let same = (All-head ConformsTo other_erase_event [] h).erases 1 refl refl in
+    let same = (All-head ConformsTo other_erase [] h).erases 1 refl refl in
     let k = ap (λ bytes. slice_index bytes 0) (same.others 0 (λ e. absurd (omega arith))) in
     omega arith)

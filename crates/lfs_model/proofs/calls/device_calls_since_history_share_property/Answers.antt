@@ -1,7 +1,5 @@
 use Rattle.std.proofs.Common.{◌≡◌, false, [], ◌∷◌, refl, sym, ◌∙◌, subst, append-nil}
-use Rattle.lfs_model.specs.session.History.{AllCalls, IsRead}
-use Rattle.lfs_model.specs.examples.Histories.{example_after_program, program_event, failed_read, after_erase, after_program}
-use Rattle.std.proofs.lemmas.List.{append_cancel_right}
+use Rattle.lfs_model.proofs.Common.{AllCalls, IsRead, example_after_program, program_event, failed_read, after_erase, after_program, append_cancel_right}
 use Rattle.lfs_model.proofs.calls.device_calls_since_history_share_property.Goals as goal
 
 pub returns-clause-succeeded : goal.returns-clause-succeeded

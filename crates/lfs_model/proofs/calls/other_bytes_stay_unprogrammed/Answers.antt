@@ -1,9 +1,6 @@
 use Rattle.std.proofs.Common.{ℕ, zero, suc, ◌≡◌, ◌≢◌, true, false, ◌==◌, cond, [], ◌∷◌, refl, sym, ap, ◌∙◌, arith}
 use Rattle.std.specs.Prelude.{All}
-use Rattle.std.proofs.lemmas.List.Elements.{All-from_recursion}
-use Rattle.std.proofs.lemmas.Bool.Decides.{nat_tests}
-use Rattle.lfs_model.specs.session.History.{is_unprogrammed_byte}
-use Rattle.lfs_model.specs.examples.Histories.{after_erase, after_read}
+use Rattle.lfs_model.proofs.Common.{All-from_recursion, nat_tests, is_unprogrammed_byte, after_erase, after_read}
 use Rattle.lfs_model.proofs.calls.other_bytes_stay_unprogrammed.Goals as goal
 
 stays : (b k : ℕ) → All (λ c. c ≢ b) (0 ∷ []) → is_unprogrammed_byte after_erase b k ≡ true → is_unprogrammed_byte after_read b k ≡ true

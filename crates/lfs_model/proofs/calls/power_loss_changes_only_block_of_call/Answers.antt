@@ -1,8 +1,6 @@
 use Rattle.std.proofs.Common.{◌≡◌, [], ◌∷◌, refl, sym, ap, ◌∙◌, subst, arith, append-nil}
 use Rattle.std.specs.Prelude.{slice_index}
-use Rattle.lfs_model.specs.format.Blocks.{Blocks, block_bytes}
-use Rattle.lfs_model.specs.session.History.{AllCalls, LossLeavesAtWorst}
-use Rattle.lfs_model.specs.examples.Histories.{example_before_erase, after_read}
+use Rattle.lfs_model.proofs.Common.{Blocks, block_bytes, AllCalls, LossLeavesAtWorst, example_before_erase, after_read}
 use Rattle.lfs_model.proofs.calls.power_loss_changes_only_block_of_call.Goals as goal
 
 pub returns-clause-block_1 : goal.returns-clause-block_1

@@ -1,12 +1,8 @@
 use Rattle.std.proofs.Common.{List, [], ◌∷◌, None, refl}
 use Rattle.std.specs.Prelude.{codes}
-use Rattle.lfs_model.specs.format.Disk.{default_profile}
+use Rattle.lfs_model.proofs.Common.{default_profile, Slot, Inline, zero_gstate, Pair, struct_bytes_with, superblock_bytes, superblock_slot}
 use Rattle.lfs_model.specs.format.Crc.{crc_of, next_bits}
 use Rattle.lfs_model.specs.format.Log.{chain_of, chain_within, commit_within, entry_at, closes}
-use Rattle.lfs_model.specs.format.Slots.{Slot, Inline, zero_gstate}
-use Rattle.lfs_model.specs.format.Thread.{Pair}
-use Rattle.lfs_model.specs.examples.Images.{struct_bytes_with}
-use Rattle.lfs_model.specs.tree.Fresh.{superblock_bytes, superblock_slot}
 use Rattle.lfs_model.proofs.Examples.{pair, hard, file, large_superblock}
 use Rattle.lfs_model.proofs.Refusals.{refused_with, fails_slots, fails_superblock}
 use Rattle.lfs_model.proofs.images.bad_superblock_chain_is_refused.Goals as goal

@@ -1,14 +1,9 @@
 use Rattle.std.proofs.Common.{ℕ, ◌≡◌, ◌≤◌, ap, ◌∙◌, List, [], ◌∷◌, None, refl, arith, replicate, drop}
 use Rattle.std.specs.Prelude.{codes}
 use Rattle.byteorder.specs.Endian.{little_number}
-use Rattle.lfs_model.specs.format.Disk.{default_profile}
+use Rattle.lfs_model.proofs.Common.{default_profile, Slot, Inline, zero_gstate, Pair, IsWritableSlot, superblock_bytes, struct_bytes_with}
 use Rattle.lfs_model.specs.format.Crc.{crc_of, next_bits}
 use Rattle.lfs_model.specs.format.Log.{chain_of, chain_within, commit_within, entry_at, closes}
-use Rattle.lfs_model.specs.format.Slots.{Slot, Inline, zero_gstate}
-use Rattle.lfs_model.specs.format.Thread.{Pair}
-use Rattle.lfs_model.specs.tree.Profile.{IsWritableSlot}
-use Rattle.lfs_model.specs.tree.Fresh.{superblock_bytes}
-use Rattle.lfs_model.specs.examples.Images.{struct_bytes_with}
 use Rattle.lfs_model.proofs.Examples.{image_shows, pair, file, large_superblock}
 use Rattle.lfs_model.proofs.Refusals.{read_only_with, fails_slot}
 use Rattle.lfs_model.proofs.images.image_outside_profile_is_read_only.Goals as goal

@@ -1,17 +1,10 @@
 use Rattle.std.proofs.Common.{◌≡◌, sym, ap, ◌∙◌, [], ◌∷◌, None, refl}
 use Rattle.std.specs.Prelude.{codes}
-use Rattle.lfs_model.specs.format.Disk.{default_profile}
+use Rattle.lfs_model.proofs.Common.{default_profile, zero_gstate, superblock_bytes, small_image, two_commit_image, disk_tree, tree_creating, FileNode, empty_tree}
 use Rattle.lfs_model.specs.format.Crc.{crc_of, next_bits}
 use Rattle.lfs_model.specs.format.Log.{chain_of, chain_within, commit_within, entry_at, closes}
-use Rattle.lfs_model.specs.format.Slots.{zero_gstate}
-use Rattle.lfs_model.specs.tree.Fresh.{superblock_bytes}
 use Rattle.lfs_model.proofs.Skips.{list_from}
 use Rattle.lfs_model.proofs.Examples.{image_shows, pair, file, long_file, large_superblock}
-use Rattle.lfs_model.specs.examples.Images.{small_image, two_commit_image}
-use Rattle.lfs_model.specs.tree.Shown.{tree_on_disk}
-use Rattle.lfs_model.specs.session.TreeEdits.{tree_creating}
-use Rattle.lfs_model.specs.tree.Tree.{FileNode}
-use Rattle.lfs_model.specs.tree.Fresh.{empty_tree}
 use Rattle.lfs_model.proofs.Fresh.{shows}
 use Rattle.lfs_model.proofs.Example.{next, file_came}
 use Rattle.lfs_model.proofs.images.image_shows_its_only_file.Goals as goal
@@ -38,5 +31,5 @@ returns-clause-zeroed c = image_shows _ (pair (0, 1) (large_superblock ∷ file 
 
 pub returns-clause-appended : goal.returns-clause-appended
 returns-clause-appended c =
-    let tree : tree_on_disk two_commit_image (next ∷ []) ≡ tree_creating (codes "b" ∷ []) (FileNode [] []) empty_tree = file_came.shows ∙ ap (tree_creating (codes "b" ∷ []) (FileNode [] [])) (shows small_image) in
+    let tree : disk_tree two_commit_image (next ∷ []) ≡ tree_creating (codes "b" ∷ []) (FileNode [] []) empty_tree = file_came.shows ∙ ap (tree_creating (codes "b" ∷ []) (FileNode [] [])) (shows small_image) in
     (next ∷ [], (file_came.accepted, λ i. record { tree = sym tree i; gstate = zero_gstate; used = 0 ∷ 1 ∷ [] }))

@@ -1,10 +1,8 @@
 use Rattle.std.proofs.Common.{[], ◌∷◌, None, false, refl}
 use Rattle.std.specs.Prelude.{codes}
-use Rattle.lfs_model.specs.format.Disk.{default_profile}
+use Rattle.lfs_model.proofs.Common.{default_profile, zero_gstate, superblock_bytes}
 use Rattle.lfs_model.specs.format.Crc.{crc_of, next_bits}
 use Rattle.lfs_model.specs.format.Log.{chain_of, chain_within, commit_within, entry_at, closes}
-use Rattle.lfs_model.specs.format.Slots.{zero_gstate}
-use Rattle.lfs_model.specs.tree.Fresh.{superblock_bytes}
 use Rattle.lfs_model.proofs.Examples.{image_shows, pair, soft, file, long_file, folder, large_superblock}
 use Rattle.lfs_model.proofs.images.moved_slot_is_hidden.Goals as goal
 

@@ -1,12 +1,8 @@
 use Rattle.std.proofs.Common.{List, [], ◌∷◌, None, refl}
 use Rattle.std.specs.Prelude.{codes}
-use Rattle.lfs_model.specs.format.Disk.{default_profile}
+use Rattle.lfs_model.proofs.Common.{default_profile, Slot, Inline, zero_gstate, Pair, struct_bytes_with, superblock_bytes}
 use Rattle.lfs_model.specs.format.Crc.{crc_of, next_bits}
 use Rattle.lfs_model.specs.format.Log.{chain_of, chain_within, commit_within, entry_at, closes}
-use Rattle.lfs_model.specs.format.Slots.{Slot, Inline, zero_gstate}
-use Rattle.lfs_model.specs.format.Thread.{Pair}
-use Rattle.lfs_model.specs.examples.Images.{struct_bytes_with}
-use Rattle.lfs_model.specs.tree.Fresh.{superblock_bytes}
 use Rattle.lfs_model.proofs.Examples.{image_shows, pair, hard, file, large_superblock}
 use Rattle.lfs_model.proofs.images.root_begins_at_end_of_superblock_chain.Goals as goal
 

@@ -2,7 +2,7 @@ use Rattle.std.proofs.Common.{ℕ, ◌≡◌, ◌<◌, Bool, true, false, List, 
 use Rattle.std.specs.Prelude.{nat_lt}
 use Rattle.lfs_model.specs.format.Crc.{crc_of, next_bits}
 use Rattle.lfs_model.specs.format.Log.{chain_of, chain_within, commit_within, entry_at, closes}
-use Rattle.lfs_model.specs.examples.Images.{small_disk_beginning, bad_checksum_block}
+use Rattle.lfs_model.specs.examples.Images.{small_disk_with, bad_checksum_block}
 use Rattle.lfs_model.proofs.Skips.{all_below, below_from}
 use Rattle.lfs_model.proofs.Refusals.{no_commit}
 use Rattle.lfs_model.proofs.log.altered_commit_ends_log.Goals as goal
@@ -44,4 +44,4 @@ returns-clause-no_log c = no_log
 
 pub returns-clause-no_image : goal.returns-clause-no_image
 unfolding chain_of chain_within commit_within entry_at closes crc_of next_bits
-returns-clause-no_image c = λ k l. no_commit (small_disk_beginning (bad_checksum_block k)) (ap (λ commits. nat_lt 0 (length commits)) (no_log k l)) refl
+returns-clause-no_image c = λ k l. no_commit (small_disk_with (bad_checksum_block k)) (ap (λ commits. nat_lt 0 (length commits)) (no_log k l)) refl

@@ -1,7 +1,7 @@
 use Rattle.std.proofs.Common.{◌≡◌, true, refl, ◌+◌, ◌==◌, eqb-true, slice_set}
 use Rattle.lfs_model.specs.format.Crc.{crc_of, next_bits}
 use Rattle.lfs_model.specs.format.Log.{chain_of, chain_within, commit_within, entry_at, closes}
-use Rattle.lfs_model.specs.examples.Images.{small_block}
+use Rattle.lfs_model.proofs.Common.{small_block}
 use Rattle.lfs_model.proofs.Skips.{all_below, below_from}
 use Rattle.lfs_model.proofs.log.padding_may_be_any_bytes.Goals as goal
 

@@ -1,8 +1,5 @@
 use Rattle.std.proofs.Common.{refl, ap}
-use Rattle.std.proofs.lemmas.List.Elements.{All-nil}
-use Rattle.lfs_model.specs.format.Disk.{Disk}
-use Rattle.lfs_model.specs.crash.Conformance.{ConformsTo}
-use Rattle.lfs_model.specs.crash.PowerLoss.{HasEither, with_blocks}
+use Rattle.lfs_model.proofs.Common.{All-nil, Disk, ConformsTo, HasEither, with_blocks}
 use Rattle.lfs_model.proofs.Standing.{stands_since, one_device, device_survives_loss}
 use Rattle.lfs_model.proofs.losses.disk_after_last_call_is_power_loss_outcome.Goals as goal
 

@@ -1,5 +1,5 @@
 use Rattle.std.proofs.Common.{refl, sym, ap, ◌∙◌, append-nil}
-use Rattle.lfs_model.specs.session.History.{program_count}
+use Rattle.lfs_model.proofs.Common.{program_count}
 use Rattle.lfs_model.proofs.FreshSession.{differ, none_accepted}
 use Rattle.lfs_model.proofs.losses.failure_of_nonwriting_operation_writes_nothing.Goals as goal
 

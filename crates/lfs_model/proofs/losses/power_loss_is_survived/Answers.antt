@@ -1,16 +1,6 @@
 use Rattle.std.proofs.Common.{◌≡◌, inl, inr, List, [], ◌∷◌, ◌++◌, refl, sym, ap, ◌∙◌}
-use Rattle.lfs_model.specs.session.Operations.{Operation}
-use Rattle.lfs_model.specs.crash.RepeatedPowerLoss.{LossAfterRun, SurvivesLoss}
-use Rattle.lfs_model.specs.crash.Performed.{IsRun}
-use Rattle.lfs_model.specs.format.Disk.{Disk, ordered_disk}
-use Rattle.lfs_model.specs.session.Run.{SystemState}
-use Rattle.lfs_model.specs.session.Session.{Session}
-use Rattle.lfs_model.specs.examples.Runs.{fresh_state}
-use Rattle.lfs_model.specs.tree.Tree.{Tree}
-use Rattle.lfs_model.specs.tree.Fresh.{empty_tree}
-use Rattle.lfs_model.specs.session.State.{SessionHealth, HasFailed, Healthy, mounted_session}
+use Rattle.lfs_model.proofs.Common.{Operation, LossAfterRun, SurvivesLoss, IsRun, Disk, ordered_disk, SystemState, Session, fresh_state, Tree, empty_tree, SessionHealth, HasFailed, Healthy, mounted_session, small_image}
 use Rattle.lfs_model.proofs.Fresh.{shows}
-use Rattle.lfs_model.specs.examples.Images.{small_image}
 use Rattle.lfs_model.proofs.FreshSession.{pairs, are_accepted, in_profile, none_in_order, tree_in_order}
 use Rattle.lfs_model.proofs.Survived.{run_survives}
 use Rattle.lfs_model.proofs.losses.power_loss_is_survived.Goals as goal

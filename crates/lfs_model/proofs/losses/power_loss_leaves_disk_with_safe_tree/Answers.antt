@@ -1,13 +1,9 @@
 use Rattle.std.proofs.Common.{[], refl, sym, ap, ◌∙◌}
 use Rattle.std.specs.Prelude.{codes}
-use Rattle.lfs_model.specs.tree.Tree.{Tree}
+use Rattle.lfs_model.proofs.Common.{Tree, empty_tree, Healthy, mounted_session, small_image, disk_tree}
 use Rattle.lfs_model.specs.session.Operations as ops
-use Rattle.lfs_model.specs.tree.Fresh.{empty_tree}
-use Rattle.lfs_model.specs.session.State.{Healthy, mounted_session}
-use Rattle.lfs_model.specs.examples.Images.{small_image}
 use Rattle.lfs_model.proofs.Fresh.{shows, writable}
 use Rattle.lfs_model.proofs.Example.{fresh}
-use Rattle.lfs_model.specs.tree.Shown.{tree_on_disk}
 use Rattle.lfs_model.proofs.Survived.{safe_with}
 use Rattle.lfs_model.proofs.FreshSession.{pairs, are_accepted, tree_is_empty, around, is_at_work, none_accepted, surviving}
 use Rattle.lfs_model.proofs.losses.power_loss_leaves_disk_with_safe_tree.Goals as goal
@@ -34,4 +30,4 @@ pub returns-clause-other_tree : goal.returns-clause-other_tree
 returns-clause-other_tree c = λ h. absurd (let e = ap (λ (t : Tree). t []) (sym (tree_is_empty h.pairs h.accepted) ∙ h.kept) in cc)
 
 pub returns-clause-left : goal.returns-clause-left
-returns-clause-left c = λ disk before after k. (tree_on_disk disk k.pairs, (k.tree, safe_with disk k.pairs k.accepted k.writable))
+returns-clause-left c = λ disk before after k. (disk_tree disk k.pairs, (k.tree, safe_with disk k.pairs k.accepted k.writable))

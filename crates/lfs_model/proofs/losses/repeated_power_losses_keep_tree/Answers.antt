@@ -1,13 +1,9 @@
 use Rattle.std.proofs.Common.{inl, false, [], ◌∷◌, None, refl, sym, ◌∙◌, subst, append-nil}
 use Rattle.std.specs.Prelude.{Any, codes}
-use Rattle.lfs_model.specs.session.History.{Read, call_event}
-use Rattle.lfs_model.specs.crash.Stops.{LeftByLoss}
+use Rattle.lfs_model.proofs.Common.{Read, call_event, LeftByLoss, empty_tree, small_image, fresh_state, blockless_disk}
 use Rattle.lfs_model.proofs.Sites.{any_from, among_from}
-use Rattle.lfs_model.specs.tree.Fresh.{empty_tree}
 use Rattle.lfs_model.specs.session.Operations as ops
 use Rattle.lfs_model.specs.crash.RepeatedPowerLoss.{LeftAfterMount}
-use Rattle.lfs_model.specs.examples.Images.{small_image}
-use Rattle.lfs_model.specs.examples.Runs.{fresh_state, empty_disk}
 use Rattle.lfs_model.proofs.Fresh.{shows}
 use Rattle.lfs_model.proofs.AskedStep.{asked}
 use Rattle.lfs_model.proofs.Survived.{again_survived}
@@ -37,7 +33,7 @@ returns-clause-again c = (once, (once, tt))
 
 pub returns-clause-not_all : goal.returns-clause-not_all
 returns-clause-not_all c = λ o.
-    let s = again_survived small_image.order small_image empty_tree (empty_disk ∷ []) is_safe (o, tt) in
+    let s = again_survived small_image.order small_image empty_tree (blockless_disk ∷ []) is_safe (o, tt) in
     none_in_order s.0.order s.0.safe.pairs s.0.safe.accepted
 
 pub returns-clause-in_a_read : goal.returns-clause-in_a_read

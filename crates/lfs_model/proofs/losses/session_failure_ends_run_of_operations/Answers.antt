@@ -1,9 +1,9 @@
 use Rattle.std.proofs.Common.{[], ◌∷◌, None, refl}
 use Rattle.std.specs.Prelude.{codes}
 use Rattle.lfs_model.specs.session.Operations as ops
-use Rattle.lfs_model.specs.examples.Runs.{fresh_state, failed_state}
+use Rattle.lfs_model.proofs.Common.{fresh_state, HasFailed}
+use Rattle.lfs_model.specs.examples.Runs.{failed_state}
 use Rattle.lfs_model.specs.crash.Performed.{FailsDuringRun}
-use Rattle.lfs_model.specs.session.State.{HasFailed}
 use Rattle.lfs_model.proofs.FreshSession.{surviving}
 use Rattle.lfs_model.proofs.AskedStep.{asked}
 use Rattle.lfs_model.proofs.losses.session_failure_ends_run_of_operations.Goals as goal

@@ -1,9 +1,8 @@
 use Rattle.std.proofs.Common.{ℕ, ◌+◌, ◌≡◌, [], ◌∷◌, Option, Some, None, List, refl, ap, arith}
 use Rattle.std.specs.Prelude.{codes, slice_index, unwrap_or}
 use Rattle.lfs_model.specs.format.Crc.{crc_of, next_bits}
-use Rattle.lfs_model.specs.format.Log.{LogEntry, chain_of, chain_within, commit_within, entry_at, closes}
-use Rattle.lfs_model.specs.format.Slots.{zero_gstate}
-use Rattle.lfs_model.specs.tree.View.{superblock_entry}
+use Rattle.lfs_model.proofs.Common.{LogEntry, zero_gstate, superblock_entry}
+use Rattle.lfs_model.specs.format.Log.{chain_of, chain_within, commit_within, entry_at, closes}
 use Rattle.lfs_model.proofs.Examples.{pair, large_superblock}
 use Rattle.lfs_model.proofs.Refusals.{refused_with}
 use Rattle.lfs_model.proofs.more_images.bad_first_entry_is_not_accepted.Goals as goal

@@ -1,11 +1,8 @@
 use Rattle.std.proofs.Common.{◌≤◌, [], ◌∷◌, None, refl, arith, replicate}
 use Rattle.std.specs.Prelude.{codes}
-use Rattle.lfs_model.specs.format.Disk.{default_profile}
+use Rattle.lfs_model.proofs.Common.{default_profile, zero_gstate, Slot, Pair, IsWritableSlot}
 use Rattle.lfs_model.specs.format.Crc.{crc_of, next_bits}
 use Rattle.lfs_model.specs.format.Log.{chain_of, chain_within, commit_within, entry_at, closes}
-use Rattle.lfs_model.specs.format.Slots.{zero_gstate, Slot}
-use Rattle.lfs_model.specs.format.Thread.{Pair}
-use Rattle.lfs_model.specs.tree.Profile.{IsWritableSlot}
 use Rattle.lfs_model.proofs.Examples.{pair, hard, file, large_superblock}
 use Rattle.lfs_model.proofs.Refusals.{read_only_with, fails_slot}
 use Rattle.lfs_model.proofs.more_images.overlarge_entry_or_empty_pair_is_not_writable.Goals as goal

@@ -1,10 +1,8 @@
 use Rattle.std.proofs.Common.{[], ◌∷◌, None, false, refl}
 use Rattle.std.specs.Prelude.{codes}
-use Rattle.lfs_model.specs.format.Disk.{default_profile}
+use Rattle.lfs_model.proofs.Common.{default_profile, zero_gstate, File, Directory, superblock_bytes}
 use Rattle.lfs_model.specs.format.Crc.{crc_of, next_bits}
 use Rattle.lfs_model.specs.format.Log.{chain_of, chain_within, commit_within, entry_at, closes}
-use Rattle.lfs_model.specs.format.Slots.{zero_gstate, File, Directory}
-use Rattle.lfs_model.specs.tree.Fresh.{superblock_bytes}
 use Rattle.lfs_model.proofs.Examples.{pair, folder, file, large_superblock}
 use Rattle.lfs_model.proofs.Refusals.{no_first, refused_with, fails_superblock, fails_move}
 use Rattle.lfs_model.proofs.more_images.slot_with_mismatched_struct_is_not_accepted.Goals as goal

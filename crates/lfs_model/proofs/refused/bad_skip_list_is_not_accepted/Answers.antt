@@ -2,7 +2,7 @@ use Rattle.std.proofs.Common.{[], ◌∷◌, None, refl}
 use Rattle.std.specs.Prelude.{codes}
 use Rattle.lfs_model.specs.format.Crc.{crc_of, next_bits}
 use Rattle.lfs_model.specs.format.Log.{chain_of, chain_within, commit_within, entry_at, closes}
-use Rattle.lfs_model.specs.format.Slots.{zero_gstate}
+use Rattle.lfs_model.proofs.Common.{zero_gstate}
 use Rattle.lfs_model.proofs.Examples.{pair, long_file, large_superblock}
 use Rattle.lfs_model.proofs.Refusals.{refused_with, fails_owners, fails_lists}
 use Rattle.lfs_model.proofs.refused.bad_skip_list_is_not_accepted.Goals as goal

@@ -1,10 +1,7 @@
 use Rattle.std.proofs.Common.{[], ◌∷◌, None, refl}
-use Rattle.lfs_model.specs.format.Disk.{default_profile}
+use Rattle.lfs_model.proofs.Common.{default_profile, zero_gstate, Inline, superblock_bytes, struct_bytes_with}
 use Rattle.lfs_model.specs.format.Crc.{crc_of, next_bits}
 use Rattle.lfs_model.specs.format.Log.{chain_of, chain_within, commit_within, entry_at, closes}
-use Rattle.lfs_model.specs.format.Slots.{zero_gstate, Inline}
-use Rattle.lfs_model.specs.tree.Fresh.{superblock_bytes}
-use Rattle.lfs_model.specs.examples.Images.{struct_bytes_with}
 use Rattle.lfs_model.proofs.Examples.{pair, large_superblock}
 use Rattle.lfs_model.proofs.Refusals.{no_first, refused_with, fails_superblock}
 use Rattle.lfs_model.proofs.refused.bad_superblock_is_not_accepted.Goals as goal

@@ -1,7 +1,7 @@
 use Rattle.std.proofs.Common.{[], ◌∷◌, None, refl}
 use Rattle.lfs_model.specs.format.Crc.{crc_of, next_bits}
 use Rattle.lfs_model.specs.format.Log.{chain_of, chain_within, commit_within, entry_at, closes}
-use Rattle.lfs_model.specs.format.Slots.{zero_gstate}
+use Rattle.lfs_model.proofs.Common.{zero_gstate}
 use Rattle.lfs_model.proofs.Examples.{pair, soft, large_superblock}
 use Rattle.lfs_model.proofs.Refusals.{no_second, no_distinct, fails_range, refused_with}
 use Rattle.lfs_model.proofs.refused.bad_thread_is_not_accepted.Goals as goal

@@ -1,8 +1,5 @@
 use Rattle.std.proofs.Common.{refl, sym}
-use Rattle.lfs_model.specs.tree.Fresh.{empty_tree}
-use Rattle.lfs_model.specs.session.State.{mounted_session}
-use Rattle.lfs_model.specs.examples.Images.{small_image}
-use Rattle.lfs_model.specs.examples.Runs.{fresh_state}
+use Rattle.lfs_model.proofs.Common.{empty_tree, mounted_session, small_image, fresh_state}
 use Rattle.lfs_model.proofs.Fresh.{shows}
 use Rattle.lfs_model.proofs.Example.{fresh}
 use Rattle.lfs_model.proofs.FreshSession.{pairs, are_accepted}

@@ -1,5 +1,5 @@
 use Rattle.std.proofs.Common.{refl}
-use Rattle.lfs_model.specs.examples.Images.{small_image}
+use Rattle.lfs_model.proofs.Common.{small_image}
 use Rattle.lfs_model.proofs.Fresh.{writable}
 use Rattle.lfs_model.proofs.Example.{fresh}
 use Rattle.lfs_model.proofs.FreshSession.{pairs, are_accepted, none_accepted}

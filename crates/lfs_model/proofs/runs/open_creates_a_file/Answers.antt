@@ -1,14 +1,8 @@
 use Rattle.std.proofs.Common.{[], ◌∷◌, refl, sym, ap, ◌∙◌}
 use Rattle.std.specs.Prelude.{codes}
-use Rattle.std.proofs.lemmas.List.{append_cancel_right}
-use Rattle.lfs_model.specs.format.Disk.{block_count}
-use Rattle.lfs_model.specs.format.Content.{content_at}
-use Rattle.lfs_model.specs.tree.Tree.{Tree}
-use Rattle.lfs_model.specs.tree.Shown.{tree_on_disk}
+use Rattle.lfs_model.proofs.Common.{append_cancel_right, block_count, content_at, Tree, disk_tree, IsStep, large_image, large_fresh_state, state_after_open}
 use Rattle.lfs_model.specs.session.Operations as ops
-use Rattle.lfs_model.specs.session.Run.{IsStep}
-use Rattle.lfs_model.specs.examples.Images.{large_image}
-use Rattle.lfs_model.specs.examples.Runs.{large_fresh_state, state_after_open, one_block_reads}
+use Rattle.lfs_model.specs.examples.Runs.{one_block_reads}
 use Rattle.lfs_model.proofs.Uniqueness.{one_thread}
 use Rattle.lfs_model.proofs.Fresh.{shows}
 use Rattle.lfs_model.proofs.OpenedFile.{op, pair, next, opened, commit, completed, turn, sync_step}
@@ -36,7 +30,7 @@ unwritten : IsStep large_fresh_state op (ops.Opened 0) (record state_after_open 
 unwritten h =
     let shown = h.agrees in
     let same = one_thread (content_at large_image) (block_count large_image) (pair ∷ []) shown.0 commit.accepted.thread shown.1.0.thread in
-    let k = ap (λ (t : Tree). t (codes "b" ∷ [])) (shown.1.1 ∙ sym (ap (tree_on_disk large_image) same) ∙ shows large_image) in
+    let k = ap (λ (t : Tree). t (codes "b" ∷ [])) (shown.1.1 ∙ sym (ap (disk_tree large_image) same) ∙ shows large_image) in
     absurd (cc)
 
 pub returns-clause-not_unwritten : goal.returns-clause-not_unwritten

@@ -1,15 +1,7 @@
 use Rattle.std.proofs.Common.{◌+◌, ◌≤◌, ◌≡◌, length, true, [], ◌∷◌, ◌++◌, List, None, inl, inr, refl, sym, ap, subst, ◌∙◌, arith}
 use Rattle.std.specs.Prelude.{codes, sum_by}
-use Rattle.lfs_model.specs.format.Disk.{Disk, pair_capacity, slots_limit, default_profile}
-use Rattle.lfs_model.specs.format.Slots.{Slot, slot_size, same_pair, zero_gstate}
-use Rattle.lfs_model.specs.format.Thread.{Pair, anchor_address, pairs_gstate}
-use Rattle.lfs_model.specs.tree.Fresh.{fresh_pair, superblock_slot, empty_tree}
+use Rattle.lfs_model.proofs.Common.{Disk, pair_capacity, slots_limit, default_profile, Slot, slot_size, same_pair, zero_gstate, Pair, anchor_address, pairs_gstate, fresh_pair, superblock_slot, empty_tree, mounted_session, creating_flags, file_slot, ReplacesSlots, IsDirectoryGone, FitsPair, IsPairAfter, ArePairsAfter, IsLayout, IsLayoutRecovered, small_image, two_commit_image}
 use Rattle.lfs_model.specs.session.Operations as ops
-use Rattle.lfs_model.specs.session.State.{mounted_session}
-use Rattle.lfs_model.specs.examples.Sessions.{creating_flags}
-use Rattle.lfs_model.specs.session.SlotEdits.{file_slot, ReplacesSlots}
-use Rattle.lfs_model.specs.session.Layout.{IsDirectoryGone, FitsPair, IsPairAfter, ArePairsAfter, IsLayout, IsLayoutRecovered}
-use Rattle.lfs_model.specs.examples.Images.{small_image, two_commit_image}
 use Rattle.lfs_model.specs.examples.Runs.{root_with_b}
 use Rattle.lfs_model.proofs.Sites.{among_from}
 use Rattle.lfs_model.proofs.Committed.{nothing_moved}

@@ -1,10 +1,7 @@
 use Rattle.std.proofs.Common.{◌⊎◌, inl, inr, [], ◌∷◌, refl, arith}
 use Rattle.std.specs.Prelude.{codes, Any}
-use Rattle.lfs_model.specs.format.Disk.{default_profile}
-use Rattle.lfs_model.specs.format.Slots.{Slot}
-use Rattle.lfs_model.specs.session.SlotEdits.{file_slot}
+use Rattle.lfs_model.proofs.Common.{default_profile, Slot, file_slot, superblock_slot}
 use Rattle.lfs_model.specs.crash.Frame.{HasEntryName}
-use Rattle.lfs_model.specs.tree.Fresh.{superblock_slot}
 use Rattle.lfs_model.proofs.Sites.{among_from, any_from}
 use Rattle.lfs_model.proofs.runs.pair_with_slot_of_path_is_found.Goals as goal
 

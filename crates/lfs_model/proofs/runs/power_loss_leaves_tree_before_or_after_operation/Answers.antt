@@ -1,12 +1,5 @@
 use Rattle.std.proofs.Common.{◌≡◌, ◌⊎◌, true, [], ◌∷◌, None, inl, inr, refl, sym, ap, subst, ◌∙◌, append-nil}
-use Rattle.lfs_model.specs.tree.Tree.{Tree}
-use Rattle.lfs_model.specs.tree.Shown.{tree_on_disk}
-use Rattle.lfs_model.specs.tree.Fresh.{fresh_pair}
-use Rattle.lfs_model.specs.session.History.{CallEvent, Read, call_event, AllCalls}
-use Rattle.lfs_model.specs.crash.Stops.{LeftByLoss}
-use Rattle.lfs_model.specs.format.Blocks.{Blocks}
-use Rattle.lfs_model.specs.crash.PowerLoss.{HasEither, with_blocks, SurvivesLossSince}
-use Rattle.lfs_model.specs.examples.Images.{small_image}
+use Rattle.lfs_model.proofs.Common.{Tree, disk_tree, fresh_pair, CallEvent, Read, call_event, AllCalls, LeftByLoss, Blocks, HasEither, with_blocks, SurvivesLossSince, small_image}
 use Rattle.lfs_model.proofs.Fresh.{accepted, writable, shows}
 use Rattle.lfs_model.proofs.Example.{fresh}
 use Rattle.lfs_model.proofs.FreshSession.{tree_is_empty, none_accepted}
@@ -31,7 +24,7 @@ pub returns-clause-lost : goal.returns-clause-lost
 returns-clause-lost c = lost
 
 -- it shows the empty tree
-other : (left : HasEither small_image (λ path. None) (λ path. None)) → (tree_on_disk small_image left.pairs ≡ (λ path. None)) ⊎ (tree_on_disk small_image left.pairs ≡ (λ path. None)) → ⊥
+other : (left : HasEither small_image (λ path. None) (λ path. None)) → (disk_tree small_image left.pairs ≡ (λ path. None)) ⊎ (disk_tree small_image left.pairs ≡ (λ path. None)) → ⊥
 other left (inl e) = absurd (let k = ap (λ (t : Tree). t []) (sym (tree_is_empty left.pairs left.accepted) ∙ e) in cc)
 other left (inr e) = absurd (let k = ap (λ (t : Tree). t []) (sym (tree_is_empty left.pairs left.accepted) ∙ e) in cc)
 

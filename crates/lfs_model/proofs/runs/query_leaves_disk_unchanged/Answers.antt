@@ -1,10 +1,6 @@
 use Rattle.std.proofs.Common.{◌≡◌, [], ◌∷◌, None, refl, sym, ◌∙◌}
-use Rattle.lfs_model.specs.tree.Fresh.{fresh_pair, empty_tree}
+use Rattle.lfs_model.proofs.Common.{fresh_pair, empty_tree, mounted_session, SystemState, IsStep, small_image, two_commit_image, fresh_state}
 use Rattle.lfs_model.specs.session.Operations as ops
-use Rattle.lfs_model.specs.session.State.{mounted_session}
-use Rattle.lfs_model.specs.session.Run.{SystemState, IsStep}
-use Rattle.lfs_model.specs.examples.Images.{small_image, two_commit_image}
-use Rattle.lfs_model.specs.examples.Runs.{fresh_state}
 use Rattle.lfs_model.proofs.Fresh.{accepted}
 use Rattle.lfs_model.proofs.Example.{fresh}
 use Rattle.lfs_model.proofs.SessionSteps.{session_step_is_healthy, true_from}

@@ -1,14 +1,7 @@
 use Rattle.std.proofs.Common.{◌≡◌, ◌≤◌, inl, inr, true, List, [], ◌∷◌, ◌++◌, None, refl, sym, ap, subst, ◌∙◌, arith, flat_map, length}
 use Rattle.std.specs.Prelude.{sum_by}
-use Rattle.std.proofs.lemmas.Option.{same_Some}
-use Rattle.lfs_model.specs.format.Disk.{Disk, pair_capacity, slots_limit, default_profile}
-use Rattle.lfs_model.specs.format.Slots.{Gstate, slot_size, same_pair}
-use Rattle.lfs_model.specs.format.Thread.{Pair}
-use Rattle.lfs_model.specs.tree.Shown.{IsReachedBySome}
-use Rattle.lfs_model.specs.tree.Fresh.{fresh_pair, superblock_slot}
+use Rattle.lfs_model.proofs.Common.{same_Some, Disk, pair_capacity, slots_limit, default_profile, Gstate, slot_size, same_pair, Pair, IsReachedBySome, fresh_pair, superblock_slot, IsDirectoryGone, FitsPair, ArePairsAfter, large_image}
 use Rattle.lfs_model.specs.session.Operations as ops
-use Rattle.lfs_model.specs.session.Layout.{IsDirectoryGone, FitsPair, ArePairsAfter}
-use Rattle.lfs_model.specs.examples.Images.{large_image}
 use Rattle.lfs_model.specs.examples.Runs.{root_with_sync, root_and_unreached}
 use Rattle.lfs_model.proofs.Sites.{among_from}
 use Rattle.lfs_model.proofs.runs.recovery_drops_unreached_pair.Goals as goal

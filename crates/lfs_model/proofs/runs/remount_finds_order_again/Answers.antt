@@ -1,13 +1,7 @@
 use Rattle.std.proofs.Common.{◌≡◌, [], refl, subst}
 use Rattle.lfs_model.specs.declared.order.NameOrder.TheVariants.{LongerFirst, ShorterFirst}
-use Rattle.lfs_model.specs.format.Disk.{ordered_disk}
-use Rattle.lfs_model.specs.tree.View.{IsAccepted}
+use Rattle.lfs_model.proofs.Common.{ordered_disk, IsAccepted, HasFailed, Healthy, mounted_session, Tree, IsStep, small_image, fresh_state}
 use Rattle.lfs_model.specs.session.Operations as ops
-use Rattle.lfs_model.specs.session.State.{HasFailed, Healthy, mounted_session}
-use Rattle.lfs_model.specs.tree.Tree.{Tree}
-use Rattle.lfs_model.specs.session.Run.{IsStep}
-use Rattle.lfs_model.specs.examples.Images.{small_image}
-use Rattle.lfs_model.specs.examples.Runs.{fresh_state}
 use Rattle.lfs_model.proofs.Fresh.{accepted, shows}
 use Rattle.lfs_model.proofs.Example.{fresh}
 use Rattle.lfs_model.proofs.FreshSession.{around, are_accepted, none_in_order, pairs, surrounds}

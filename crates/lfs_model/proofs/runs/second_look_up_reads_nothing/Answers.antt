@@ -1,9 +1,8 @@
 use Rattle.std.proofs.Common.{ℕ, ◌≡◌, [], ◌∷◌, refl, arith}
 use Rattle.std.specs.Prelude.{codes, Contains}
-use Rattle.std.proofs.lemmas.List.Elements.{All-from_recursion}
+use Rattle.lfs_model.proofs.Common.{All-from_recursion, pair_count_at, root_and_two}
 use Rattle.lfs_model.specs.session.Operations as ops
-use Rattle.lfs_model.specs.crash.Frame.{SearchesAgain, pair_count_at, searched_directories}
-use Rattle.lfs_model.specs.examples.Runs.{root_and_two}
+use Rattle.lfs_model.specs.crash.Frame.{SearchesAgain, searched_directories}
 use Rattle.lfs_model.proofs.runs.second_look_up_reads_nothing.Goals as goal
 
 kept : SearchesAgain root_and_two (ops.Stat (codes "/d")) (ops.Stat (codes "/e"))

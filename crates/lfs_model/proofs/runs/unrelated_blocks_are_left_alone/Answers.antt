@@ -1,11 +1,7 @@
 use Rattle.std.proofs.Common.{ℕ, ◌≡◌, List, [], ◌∷◌, refl, sym, ap, arith}
 use Rattle.std.specs.Prelude.{codes, slice_index}
-use Rattle.lfs_model.specs.format.Disk.{disk_block}
-use Rattle.lfs_model.specs.tree.Fresh.{fresh_pair, empty_tree}
+use Rattle.lfs_model.proofs.Common.{disk_block, fresh_pair, empty_tree, mounted_session, HasPathSlot, LeavesOthers, small_image, two_commit_image}
 use Rattle.lfs_model.specs.session.Operations as ops
-use Rattle.lfs_model.specs.session.State.{mounted_session}
-use Rattle.lfs_model.specs.crash.Frame.{HasPathSlot, LeavesOthers}
-use Rattle.lfs_model.specs.examples.Images.{small_image, two_commit_image}
 use Rattle.lfs_model.proofs.Sites.{among_from}
 use Rattle.lfs_model.proofs.runs.unrelated_blocks_are_left_alone.Goals as goal
 

@@ -1,15 +1,7 @@
 use Rattle.std.proofs.Common.{ℕ, ◌≡◌, Bool, true, false, cond, ◌&&◌, List, [], ◌∷◌, Option, Some, None, refl, sym, ap, ◌∙◌, option_map, option_and_then}
 use Rattle.std.specs.Prelude.{codes}
-use Rattle.lfs_model.specs.format.Disk.{Disk}
-use Rattle.lfs_model.specs.format.Names.{same_name}
-use Rattle.lfs_model.specs.format.Slots.{Slot, Struct, Inline, Ctz}
-use Rattle.lfs_model.specs.tree.Tree.{Path, slot_at_path}
-use Rattle.lfs_model.specs.session.TreeEdits.{same_path}
-use Rattle.lfs_model.specs.tree.Shown.{all_entries}
+use Rattle.lfs_model.proofs.Common.{Disk, same_name, Slot, Struct, Inline, Ctz, Path, slot_at_path, same_path, all_entries, file_slot, struct_at, KeepsStructs, root_with_file, with_writer}
 use Rattle.lfs_model.specs.session.Operations as ops
-use Rattle.lfs_model.specs.session.SlotEdits.{file_slot}
-use Rattle.lfs_model.specs.layers.Keeping.{struct_at, KeepsStructs}
-use Rattle.lfs_model.specs.examples.Runs.{root_with_file, with_writer}
 use Rattle.lfs_model.proofs.Paths.{Names, alike, unlike, names, same_itself}
 use Rattle.lfs_model.proofs.slots.other_files_keep_their_structs.Goals as goal
 

@@ -1,8 +1,6 @@
 use Rattle.std.proofs.Common.{◌≤◌, [], ◌∷◌, None, refl, arith}
 use Rattle.std.specs.Prelude.{codes}
-use Rattle.lfs_model.specs.session.Layout.{FitsPair}
-use Rattle.lfs_model.specs.examples.Images.{small_image}
-use Rattle.lfs_model.specs.examples.Runs.{pair_with_tail, long_attribute_slot}
+use Rattle.lfs_model.proofs.Common.{FitsPair, small_image, pair_with_tail, long_attribute_slot}
 use Rattle.lfs_model.proofs.slots.pairs_are_split_and_dropped.Goals as goal
 
 too_much : FitsPair small_image (pair_with_tail (2, 3) (long_attribute_slot (codes "a") ∷ long_attribute_slot (codes "b") ∷ []) None) → ⊥

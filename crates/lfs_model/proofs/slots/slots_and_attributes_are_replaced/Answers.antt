@@ -1,18 +1,9 @@
 use Rattle.std.proofs.Common.{ℕ, ◌+◌, ◌≡◌, ◌≤◌, inl, inr, true, List, [], ◌∷◌, length, refl, sym, ap, ◌∙◌, arith}
 use Rattle.std.specs.Prelude.{codes}
-use Rattle.std.proofs.lemmas.Option.{same_Some}
-use Rattle.lfs_model.specs.format.Disk.{default_profile}
-use Rattle.lfs_model.specs.format.Slots.{Slot, Struct, Inline, Ctz, Branch}
-use Rattle.lfs_model.specs.format.Content.{attributes_with}
-use Rattle.lfs_model.specs.tree.Fresh.{superblock_slot}
-use Rattle.lfs_model.specs.session.Session.{file_numbered}
-use Rattle.lfs_model.specs.session.SlotEdits.{file_slot, directory_slot, ReplacesSlot, StoresBytes, StoresWriter}
-use Rattle.lfs_model.specs.examples.Images.{large_image}
-use Rattle.lfs_model.specs.examples.Runs.{root_and_directory, root_and_two, root_with_file, long_attribute_slot, with_writer}
-use Rattle.lfs_model.proofs.Sites.{HoldsOfSome}
+use Rattle.lfs_model.proofs.Common.{same_Some, default_profile, Slot, Struct, Inline, Ctz, Branch, attributes_with, superblock_slot, file_numbered, file_slot, directory_slot, ReplacesSlot, GivesBytes, StoresWriter, large_image, root_and_directory, root_and_two, root_with_file, long_attribute_slot, with_writer, all_slots}
+use Rattle.lfs_model.proofs.Sites.{AnyByRecursion}
 use Rattle.lfs_model.proofs.Spliced.{comes}
 use Rattle.lfs_model.proofs.slots.slots_and_attributes_are_replaced.Goals as goal
-use Rattle.lfs_model.specs.session.InDirectory.{all_slots}
 
 abbrev root : List Slot
 root = superblock_slot default_profile 4096 16 ∷ directory_slot (codes "d") (4, 5) ∷ []
@@ -52,7 +43,7 @@ unset (u, v, (at, is, spliced)) = go (comes v (u ∷ []) root_and_two root_and_t
     none : (s : Slot) → length s.attributes ≡ 0 → s ≡ v → ⊥
     none s e f = absurd (let k = ap (λ (t : Slot). length t.attributes) f in omega (arith, some))
 
-    go : HoldsOfSome (λ s. s ≡ v) (all_slots root_and_two) → ⊥
+    go : AnyByRecursion (λ s. s ≡ v) (all_slots root_and_two) → ⊥
     go (inl e) = none (superblock_slot default_profile 4096 16) refl e
     go (inr (inl e)) = none (directory_slot (codes "d") (4, 5)) refl e
     go (inr (inr (inl e))) = none (file_slot (codes "a")) refl e
@@ -67,13 +58,13 @@ size : Struct → ℕ
 size (Inline bytes) = length bytes
 size _ = 0
 
-stored : (s : Struct) → StoresBytes large_image (codes "hi") s → size s ≡ 2
+stored : (s : Struct) → GivesBytes large_image (codes "hi") s → size s ≡ 2
 unfolding size
 stored (Inline own) h = ap length h.0
 stored (Ctz head long) h = absurd (let k : 512 + 1 ≤ 2 = h.2 in omega arith)
 stored (Branch to) h = absurd h
 
-uncommitted : ReplacesSlot (λ u v. (v ≡ record u { struct = v.struct }) × StoresBytes large_image (codes "hi") v.struct) (root_with_file (codes "a") []) (codes "a" ∷ []) (root_with_file (codes "a") []) (root_with_file (codes "a") []) → ⊥
+uncommitted : ReplacesSlot (λ u v. (v ≡ record u { struct = v.struct }) × GivesBytes large_image (codes "hi") v.struct) (root_with_file (codes "a") []) (codes "a" ∷ []) (root_with_file (codes "a") []) (root_with_file (codes "a") []) → ⊥
 unfolding size
 uncommitted (u, v, (at, (is, said), spliced)) = go (comes v (u ∷ []) (root_with_file (codes "a") []) (root_with_file (codes "a") []) spliced)
   where
@@ -83,7 +74,7 @@ uncommitted (u, v, (at, (is, said), spliced)) = go (comes v (u ∷ []) (root_wit
     other : (s : Slot) (n : ℕ) → size s.struct ≡ n → s ≡ v → n ≡ 2
     other s n e f = sym e ∙ ap (λ (t : Slot). size t.struct) f ∙ two
 
-    go : HoldsOfSome (λ s. s ≡ v) (all_slots (root_with_file (codes "a") [])) → ⊥
+    go : AnyByRecursion (λ s. s ≡ v) (all_slots (root_with_file (codes "a") [])) → ⊥
     go (inl e) = absurd (let k : 24 ≡ 2 = other (superblock_slot default_profile 4096 16) 24 refl e in omega arith)
     go (inr (inl e)) = absurd (let k : 0 ≡ 2 = other (file_slot (codes "a")) 0 refl e in omega arith)
     go (inr (inr e)) = e

@@ -1,9 +1,6 @@
 use Rattle.std.proofs.Common.{inr, [], ◌∷◌, refl, arith}
 use Rattle.std.specs.Prelude.{codes}
-use Rattle.lfs_model.specs.format.Disk.{default_profile}
-use Rattle.lfs_model.specs.format.Slots.{Inline}
-use Rattle.lfs_model.specs.tree.Fresh.{superblock_slot}
-use Rattle.lfs_model.specs.session.SlotEdits.{file_slot}
+use Rattle.lfs_model.proofs.Common.{default_profile, Inline, superblock_slot, file_slot}
 use Rattle.lfs_model.proofs.slots.sync_edits_struct.Goals as goal
 
 pub returns : goal.returns

@@ -1,14 +1,10 @@
 use Rattle.std.proofs.Common.{ℕ, ◌≡◌, ◌≤◌, ◌*◌, true, [], ◌∷◌, Some, None, Contains, refl, sym, subst, arith}
 use Rattle.std.specs.Prelude.{codes}
-use Rattle.std.proofs.lemmas.List.Elements.{All-from_recursion}
+use Rattle.lfs_model.proofs.Common.{All-from_recursion, Pair, address_blocks, file_slot, used_blocks, is_worn_block, is_worn, AreUnused, pair_with_tail, root_and_two}
 use Rattle.lfs_model.specs.format.Crc.{crc_of, next_bits}
 use Rattle.lfs_model.specs.format.Log.{chain_of, chain_within, commit_within, entry_at, closes}
-use Rattle.lfs_model.specs.format.Thread.{Pair, address_blocks}
-use Rattle.lfs_model.specs.session.SlotEdits.{file_slot}
-use Rattle.lfs_model.specs.tree.Shown.{used_blocks}
-use Rattle.lfs_model.specs.session.Moved.{is_worn_block, is_worn, AreUnused}
-use Rattle.lfs_model.specs.examples.Runs.{pair_with_tail, tail_to_address, root_with_d, image_of_two, root_and_two}
-use Rattle.lfs_model.proofs.BlockSets.{number_count-Contains}
+use Rattle.lfs_model.specs.examples.Runs.{tail_to_address, root_with_d, image_of_two}
+use Rattle.lfs_model.proofs.BlockSets.{number_occurrences-Contains}
 use Rattle.lfs_model.proofs.Counts.{Each}
 use Rattle.lfs_model.proofs.Unmoved.{none_moves, only_worn_moves}
 use Rattle.lfs_model.proofs.slots.worn_pair_moves.Goals as goal
@@ -21,8 +17,8 @@ last_pair = pair_with_tail (6, 7) (file_slot (codes "z") ∷ []) None
 
 unused : AreUnused (image_of_two 1) root_and_two (8, 9)
 unused = All-from_recursion (λ b. Contains (used_blocks (image_of_two 1) root_and_two) b → ⊥) (address_blocks (8, 9)) (
-  (λ has. let k : 1 ≤ 0 = number_count-Contains (0 ∷ 1 ∷ 4 ∷ 5 ∷ 6 ∷ 7 ∷ []) 8 has in omega arith),
-  ((λ has. let k : 1 ≤ 0 = number_count-Contains (0 ∷ 1 ∷ 4 ∷ 5 ∷ 6 ∷ 7 ∷ []) 9 has in omega arith), tt),
+  (λ has. let k : 1 ≤ 0 = number_occurrences-Contains (0 ∷ 1 ∷ 4 ∷ 5 ∷ 6 ∷ 7 ∷ []) 8 has in omega arith),
+  ((λ has. let k : 1 ≤ 0 = number_occurrences-Contains (0 ∷ 1 ∷ 4 ∷ 5 ∷ 6 ∷ 7 ∷ []) 9 has in omega arith), tt),
 )
 
 -- each has the revision 1

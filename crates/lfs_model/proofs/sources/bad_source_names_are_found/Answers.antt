@@ -1,7 +1,7 @@
 use Rattle.std.proofs.Common.{◌+◌, ◌≤◌, ◌≡◌, inl, inr, Bool, true, false, cond, [], ◌∷◌, refl, sym, ap, ◌∙◌, subst, arith}
 use Rattle.std.specs.Prelude.{codes, slice_index}
-use Rattle.lfs_model.specs.format.Names.{Name, same_name, is_component}
-use Rattle.lfs_model.specs.layers.Source.{name_count}
+use Rattle.lfs_model.proofs.Common.{Name, same_name, is_component}
+use Rattle.lfs_model.specs.layers.Source.{name_occurrences}
 use Rattle.lfs_model.proofs.Paths.{name_from_same}
 use Rattle.lfs_model.proofs.sources.bad_source_names_are_found.Goals as goal
 
@@ -11,7 +11,7 @@ returns-clause-slash c = inl (codes "a/b", refl, omega arith)
 pub returns-clause-twice : goal.returns-clause-twice
 returns-clause-twice c = inr (codes "a", omega arith)
 
-counted : (name : Name) → name_count name (codes "a" ∷ codes "b" ∷ []) ≡ 0 + cond (same_name name (codes "a")) 1 0 + cond (same_name name (codes "b")) 1 0
+counted : (name : Name) → name_occurrences name (codes "a" ∷ codes "b" ∷ []) ≡ 0 + cond (same_name name (codes "a")) 1 0 + cond (same_name name (codes "b")) 1 0
 counted name = refl
 
 no_odd : (name : Name) (x y : Bool) → same_name name (codes "a") ≡ x → same_name name (codes "b") ≡ y → is_component name ≡ false → 1 ≤ 0 + cond x 1 0 + cond y 1 0 → ⊥

@@ -1,12 +1,9 @@
 use Rattle.std.proofs.Common.{Bool, true, false, cond, ◌&&◌, [], ◌∷◌, Option, Some, None, refl, arith}
 use Rattle.std.specs.Prelude.{codes}
-use Rattle.std.specs.Option.{option_and_then, option_map}
+use Rattle.lfs_model.proofs.Common.{option_and_then, option_map, Name, same_name, Path, Node, FileNode, DirectoryNode, tree_of_nodes}
 use Rattle.std.proofs.lemmas.List.Sorted.{IsPermutation-refl}
-use Rattle.lfs_model.specs.format.Names.{Name, same_name}
-use Rattle.lfs_model.specs.tree.Tree.{Path, Node, FileNode, DirectoryNode}
 use Rattle.lfs_model.specs.layers.Source.{IsSourceNode, SourceNode, AFile, path_in_folder, node_at}
 use Rattle.lfs_model.specs.examples.Sources.{file_source}
-use Rattle.lfs_model.specs.examples.Images.{tree_of_nodes}
 use Rattle.lfs_model.proofs.sources.tree_mirrors_source_folders.Goals as goal
 
 -- by whether the name is the file's, and whether anything follows

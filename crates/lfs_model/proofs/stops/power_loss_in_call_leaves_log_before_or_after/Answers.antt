@@ -1,10 +1,8 @@
 use Rattle.std.proofs.Common.{◌≡◌, List, [], ◌∷◌, ◌++◌, inl, refl}
 use Rattle.std.specs.Prelude.{ℕ, take}
-use Rattle.std.proofs.lemmas.List.{get_or-set_other}
+use Rattle.lfs_model.proofs.Common.{get_or-set_other, block_log, unwritten_bytes, small_commit, appending_commit}
 use Rattle.lfs_model.specs.format.Crc.{crc_of, next_bits}
-use Rattle.lfs_model.specs.format.Log.{block_log, chain_of, chain_within, commit_within, entry_at, closes}
-use Rattle.lfs_model.specs.layers.BlockBytes.{unwritten_bytes}
-use Rattle.lfs_model.specs.examples.Images.{small_commit, appending_commit}
+use Rattle.lfs_model.specs.format.Log.{chain_of, chain_within, commit_within, entry_at, closes}
 use Rattle.lfs_model.proofs.Stopped.{stops_before, stops_whole}
 use Rattle.lfs_model.proofs.stops.power_loss_in_call_leaves_log_before_or_after.Goals as goal
 

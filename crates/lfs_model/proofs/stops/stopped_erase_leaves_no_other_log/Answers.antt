@@ -1,11 +1,8 @@
 use Rattle.std.proofs.Common.{ℕ, ◌+◌, ◌≡◌, inl, inr, Option, Some, None, List, [], ◌∷◌, ◌++◌, true, refl, ap, arith, zero, suc, length}
-use Rattle.lfs_model.specs.format.Blocks.{Blocks, block_bytes}
-use Rattle.lfs_model.specs.session.History.{Erase, call_event}
+use Rattle.lfs_model.proofs.Common.{Blocks, block_bytes, Erase, call_event, BlockLog, LeftByLoss, MayEraseLeave, unwritten_bytes, small_block, small_commit, appending_commit}
 use Rattle.lfs_model.specs.format.Crc.{crc_of, next_bits}
-use Rattle.lfs_model.specs.format.Log.{BlockLog, chain_of, chain_within, commit_within, entry_at, closes}
-use Rattle.lfs_model.specs.crash.Stops.{LeftByLoss, MayEraseLeave}
-use Rattle.lfs_model.specs.layers.BlockBytes.{unwritten_bytes, block_padded}
-use Rattle.lfs_model.specs.examples.Images.{small_block, small_commit, appending_commit}
+use Rattle.lfs_model.specs.format.Log.{chain_of, chain_within, commit_within, entry_at, closes}
+use Rattle.lfs_model.specs.layers.BlockBytes.{block_padded}
 use Rattle.lfs_model.proofs.stops.stopped_erase_leaves_no_other_log.Goals as goal
 
 abbrev commits_in : Option BlockLog → ℕ

@@ -1,5 +1,4 @@
-use Rattle.lfs_model.specs.format.Disk.{block_count}
-use Rattle.lfs_model.specs.format.Content.{content_at}
+use Rattle.lfs_model.proofs.Common.{block_count, content_at}
 use Rattle.lfs_model.proofs.Uniqueness.{one_thread}
 use Rattle.lfs_model.proofs.OneView.{one_view}
 use Rattle.lfs_model.proofs.thread.thread_is_unique.Goals as goal

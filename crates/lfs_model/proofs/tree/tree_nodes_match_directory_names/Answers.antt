@@ -1,9 +1,6 @@
 use Rattle.std.proofs.Common.{refl}
 use Rattle.lfs_model.specs.declared.order.NameOrder.TheVariants.{ShorterFirst}
-use Rattle.lfs_model.specs.format.Names.{sorted_names}
-use Rattle.lfs_model.specs.tree.Tree.{root_slot, names_at}
-use Rattle.lfs_model.specs.format.Thread.{root_address}
-use Rattle.lfs_model.specs.tree.Shown.{struct_list_bytes, all_entries}
+use Rattle.lfs_model.proofs.Common.{sorted_names, root_slot, names_at, root_address, struct_list_bytes, all_entries}
 use Rattle.lfs_model.proofs.Parents.{parent_has_name, name_has_node}
 use Rattle.lfs_model.proofs.tree.tree_nodes_match_directory_names.Goals as goal
 

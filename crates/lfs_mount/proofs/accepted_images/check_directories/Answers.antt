@@ -1,13 +1,7 @@
 use Rattle.std.proofs.Common.{ℕ, ◌∙◌, List, sym, subst₂}
 use Rattle.std.specs.Prelude.{IfOk}
-use Rattle.lfs_model.specs.format.Disk.{ordered_disk}
-use Rattle.lfs_model.specs.format.Thread.{Pair}
+use Rattle.lfs_mount.proofs.Common.{ordered_disk, Pair, move_view, disk_of_device, IsThreadVerdict, IsDescribedThread, violation_in_order}
 use Rattle.lfs_model.specs.declared.order.NameOrder.{NameOrder}
-use Rattle.lfs_tag.specs.FieldsView.{move_view}
-use Rattle.lfs_thread.specs.Kept.{disk_of_device}
-use Rattle.lfs_mount.specs.Accepted.{IsAcceptedIf}
-use Rattle.lfs_mount.specs.Checked.{IsDescribedThread}
-use Rattle.lfs_mount.specs.Orders.{violation_in_order}
 use Rattle.lfs_mount.specs.declared.pass.PairBeforeSlotsAreRead.{PairBeforeSlotsAreRead}
 use Rattle.lfs_mount.proofs.accepted_images.check_directories.Goals as goal
 
@@ -16,7 +10,7 @@ returns-clause-ok g c =
     let disk = disk_of_device g.D.BlockDevice c.args.device.now in
     subst₂ (λ (firsts : List (ℕ × ℕ)) (ms : List PairBeforeSlotsAreRead). IfOk c.check_and_mark.result (λ found. (order : NameOrder) (chain : List Pair) (p : Pair) (rest : List Pair)
     → IsDescribedThread (ordered_disk order disk) c.args.map.now firsts ms (move_view c.args.state.now).sync chain p rest
-    → IsAcceptedIf (ordered_disk order disk) (violation_in_order order found) c.args.map.now c.check_and_mark.new.map chain p rest))
+    → IsThreadVerdict (ordered_disk order disk) (violation_in_order order found) c.args.map.now c.check_and_mark.new.map chain p rest))
     c.in-Ok-first_addresses.ensures.places (c.deref.ensures.value ∙ c.in-Ok.ensures.members) c.check_and_mark.ensures.ok
 
 pub returns-clause-broken : goal.returns-clause-broken

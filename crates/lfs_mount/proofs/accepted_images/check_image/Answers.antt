@@ -1,16 +1,6 @@
 use Rattle.std.proofs.Common.{◌≡◌, ◌∙◌, ◌≤◌, ◌+◌, inr, Err, List, true, sym, ap, ap₂, subst, subst₂, arith}
 use Rattle.std.specs.Prelude.{sum_by}
-use Rattle.std.proofs.lemmas.Result.{err_from_is_err_and}
-use Rattle.lfs_device.specs.DeviceDisk.{disk_of_blocks}
-use Rattle.lfs_model.specs.format.Disk.{ordered_disk, Disk}
-use Rattle.lfs_model.specs.session.History.{read_count}
-use Rattle.lfs_model.specs.format.Slots.{Gstate}
-use Rattle.lfs_tag.specs.FieldsView.{move_view}
-use Rattle.lfs_thread.specs.Kept.{PairHeader, disk_of_device, pairs_of_headers}
-use Rattle.lfs_mount.specs.Accepted.{HasAcceptedIf}
-use Rattle.lfs_mount.specs.Members.{AreThreadDirectories, descriptions_of_headers}
-use Rattle.lfs_mount.specs.Orders.{violation_in_order}
-use Rattle.lfs_mount.specs.MountReads.{pair_reads}
+use Rattle.lfs_mount.proofs.Common.{err_from_is_err_and, disk_of_blocks, ordered_disk, Disk, read_count, Gstate, move_view, PairHeader, disk_of_device, header_pairs, IsHeadersVerdict, AreThreadDirectories, header_descriptions, violation_in_order, pair_reads}
 use Rattle.lfs_mount.proofs.Called.{only_read, passed_on, quiet, read_on, same_error}
 use Rattle.lfs_mount.proofs.InOrders.{head_in, read_in}
 use Rattle.lfs_mount.proofs.KnownMoves.{directories_within}
@@ -23,7 +13,7 @@ pub returns-in_err-count-clause-broken : goal.returns-in_err-count-clause-broken
 returns-in_err-count-clause-broken g c = λ v is order.
     let disk : Disk = disk_of_device g.D.BlockDevice c.args.device.now in
     let e = err_from_is_err_and c.from_residual.result c.from_residual.ensures.1 in
-    inr (pairs_of_headers disk c.args.pairs.now, (c.requires.thread, c.in_err-count.ensures.broken v (ap Err (same_error e.1 e.2 is)) order))
+    inr (header_pairs disk c.args.pairs.now, (c.requires.thread, c.in_err-count.ensures.broken v (ap Err (same_error e.1 e.2 is)) order))
 
 pub pairs_from_index-directories-requires : goal.pairs_from_index-directories-requires
 pairs_from_index-directories-requires g c =
@@ -82,7 +72,7 @@ returns-clause-image g c = λ order.
     let history = g.D.BlockDevice.history c.args.device.now in
     let read = c.in_ok-count.ensures.device.device in
     let state : Gstate = move_view c.args.state.now in
-    subst (HasAcceptedIf (ordered_disk order disk) c.args.pairs.now (violation_in_order order c.in_ok-found.found) c.args.map.now) (sym c.start_allocation_elsewhere.ensures.same)
+    subst (IsHeadersVerdict (ordered_disk order disk) c.args.pairs.now (violation_in_order order c.in_ok-found.found) c.args.map.now) (sym c.start_allocation_elsewhere.ensures.same)
     (has_image (ordered_disk order disk) history c.args.pairs.now c.args.map.now state c.in_ok-count.count (read_in order disk history c.args.pairs.now c.args.map.now state c.requires)
     (head_in order disk c.args.pairs.now c.in_ok-count.count c.in_ok-count.ensures.head)
     (ordered_disk order now) (ap (ordered_disk order) (ap₂ disk_of_blocks read.geometry read.same)) c.check_directories.new.map c.pairs_from_index-directories.result.now c.pairs_from_index-directories.ensures
@@ -100,10 +90,10 @@ returns-clause-few g c = λ order fits.
     let disk : Disk = disk_of_device g.D.BlockDevice c.args.device.now in
     let history = g.D.BlockDevice.history c.args.device.now in
     let state : Gstate = move_view c.args.state.now in
-    let image : HasAcceptedIf (ordered_disk order disk) c.args.pairs.now (violation_in_order order c.in_ok-found.found) c.args.map.now c.start_allocation_elsewhere.new.map = returns-clause-image g c order in
+    let image : IsHeadersVerdict (ordered_disk order disk) c.args.pairs.now (violation_in_order order c.in_ok-found.found) c.args.map.now c.start_allocation_elsewhere.new.map = returns-clause-image g c order in
     let read = c.in_ok-count.ensures.device.device in
     let first = c.in_ok-count.ensures.reads in
-    let rest = subst₂ (λ (d : Disk) (hs : List PairHeader). read_count (g.D.BlockDevice.history c.check_directories.new.device) ≤ read_count (g.D.BlockDevice.history c.superblock_chain_length.new.dev) + sum_by (pair_reads d) (descriptions_of_headers state true hs))
+    let rest = subst₂ (λ (d : Disk) (hs : List PairHeader). read_count (g.D.BlockDevice.history c.check_directories.new.device) ≤ read_count (g.D.BlockDevice.history c.superblock_chain_length.new.dev) + sum_by (pair_reads d) (header_descriptions state true hs))
     (ap₂ disk_of_blocks read.geometry read.same) c.pairs_from_index-directories.ensures (c.in_ok-found.ensures.few) in
     let most = directories_read (ordered_disk order disk) history c.args.pairs.now c.args.map.now state c.in_ok-count.count (read_in order disk history c.args.pairs.now c.args.map.now state c.requires)
     (head_in order disk c.args.pairs.now c.in_ok-count.count c.in_ok-count.ensures.head) (g.met.D.BlockDevice.bytes c.args.device.now) (image.accepted fits) in

@@ -1,10 +1,8 @@
 use Rattle.std.proofs.Common.{ℕ, ◌≡◌, ◌+◌, ◌%◌, ◌^◌, take, ap, ◌∙◌, arith}
 use Rattle.std.specs.Prelude.{sum_by}
-use Rattle.std.proofs.lemmas.List.{take_all}
+use Rattle.lfs_mount.proofs.Common.{take_all, PairHeader, image_number}
 use Rattle.std.proofs.lemmas.List.Sums.{sum_by_more}
 use Rattle.lfs_model.specs.layers.BlockSets.{used_count}
-use Rattle.lfs_thread.specs.Kept.{PairHeader}
-use Rattle.lfs_mount.specs.Start.{image_number}
 use Rattle.lfs_mount.proofs.accepted_images.image_number.Goals as goal
 
 one_more : (number sum revision : ℕ) → number ≡ sum % 2 ^ 32 → (number + revision) % 2 ^ 32 ≡ (sum + revision) % 2 ^ 32

@@ -1,5 +1,5 @@
 use Rattle.std.proofs.Common.{◌≡◌, take}
-use Rattle.lfs_mount.specs.Start.{image_number}
+use Rattle.lfs_mount.proofs.Common.{image_number}
 use Rattle.lfs_mount.proofs.accepted_images.image_number.Given as goal
 
 abbrev pub invariant-loop-pair : goal.invariant-loop-pair

@@ -1,9 +1,6 @@
 use Rattle.std.proofs.Common.{◌≡◌, ◌∙◌, Ok, ap, sym}
-use Rattle.std.proofs.lemmas.Result.{err_from_is_err_and}
-use Rattle.lfs_model.specs.format.Disk.{ordered_disk}
+use Rattle.lfs_mount.proofs.Common.{err_from_is_err_and, ordered_disk, ThreadView, disk_of_device, violation_in_order}
 use Rattle.lfs_model.specs.declared.order.NameOrder.TheVariants.{LongerFirst, ShorterFirst}
-use Rattle.lfs_thread.specs.Kept.{ThreadView, disk_of_device}
-use Rattle.lfs_mount.specs.Orders.{violation_in_order}
 use Rattle.lfs_mount.proofs.Unaccepted.{found_broken, none_accepted}
 use Rattle.lfs_mount.proofs.ReadImages.{refused_back}
 use Rattle.lfs_mount.proofs.accepted_images.mount.Goals as goal

@@ -1,8 +1,5 @@
 use Rattle.std.proofs.Common.{◌∙◌, sym}
-use Rattle.std.proofs.lemmas.Result.{err_from_is_err_and}
-use Rattle.lfs_model.specs.format.Disk.{ordered_disk}
-use Rattle.lfs_model.proofs.BrokenRules.{accepted_breaks_none}
-use Rattle.lfs_thread.specs.Kept.{disk_of_device}
+use Rattle.lfs_mount.proofs.Common.{err_from_is_err_and, ordered_disk, accepted_breaks_none, disk_of_device}
 use Rattle.lfs_mount.proofs.Unaccepted.{none_accepted}
 use Rattle.lfs_mount.proofs.ReadImages.{refused_back}
 use Rattle.lfs_mount.proofs.accepted_images.mount_in_order.Goals as goal

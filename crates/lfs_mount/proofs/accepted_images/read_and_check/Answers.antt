@@ -1,20 +1,14 @@
 use Rattle.std.proofs.Common.{Err, arith, ◌≡◌, ◌≤◌, ◌+◌, sym, ap, subst, ◌∙◌}
-use Rattle.lfs_model.specs.format.Disk.{ordered_disk, Disk}
-use Rattle.lfs_model.specs.format.Blocks.{Blocks}
-use Rattle.lfs_model.specs.session.History.{OnlyReadsSince, fault_count, read_count}
-use Rattle.lfs_model.specs.layers.Violations.{Breaks}
-use Rattle.lfs_model.proofs.Histories.{OnlyReadsSince-trans, read_count-since}
-use Rattle.lfs_tag.specs.FieldsView.{move_view}
-use Rattle.lfs_thread.specs.Kept.{IsCacheCurrent, KeptThread, disk_of_device}
+use Rattle.lfs_mount.proofs.Common.{ordered_disk, Disk, Blocks, OnlyReadsSince, fault_count, read_count, Breaks, OnlyReadsSince-trans, move_view, KeptThread, disk_of_device, mount_reads, err_from_is_err_and}
+use Rattle.lfs_model.proofs.Histories.{read_count-since}
+use Rattle.lfs_thread.specs.Kept.{IsCacheCurrent}
 use Rattle.lfs_mount.specs.ReadImage.{view_in_order}
-use Rattle.lfs_mount.specs.MountReads.{mount_reads}
 use Rattle.lfs_mount.proofs.MountReads.{thread_reads-no_fewer, mount_few, some_pair}
 use Rattle.lfs_mount.proofs.ReadImages.{plain_again}
 use Rattle.lfs_model.specs.declared.order.NameOrder.{NameOrder}
 use Rattle.lfs_mount.proofs.Called.{quiet}
 use Rattle.lfs_mount.proofs.Mounted.{disk_now, given_back, is_mounted, kept_again, read_is}
 use Rattle.lfs_mount.proofs.Unaccepted.{thread_violation, true_violation}
-use Rattle.std.proofs.lemmas.Result.{err_from_is_err_and}
 use Rattle.lfs_mount.proofs.accepted_images.read_and_check.Goals as goal
 
 pub check_image-requires : goal.check_image-requires

@@ -1,15 +1,8 @@
 use Rattle.std.proofs.Common.{ℕ, ◌≡◌, ◌++◌, ◌∷◌, ◌∙◌, ◌<◌, List, Err, Option, Some, None, length, map, refl, sym, ap, subst, subst₂, true}
 use Rattle.std.specs.Prelude.{All}
-use Rattle.std.proofs.lemmas.List.{length-map}
-use Rattle.std.proofs.lemmas.Result.{err_from_is_err_and}
-use Rattle.lfs_model.specs.format.Disk.{ordered_disk}
-use Rattle.lfs_model.specs.format.Slots.{array_address}
-use Rattle.lfs_model.specs.format.Thread.{pairs_gstate}
+use Rattle.lfs_mount.proofs.Common.{length-map, err_from_is_err_and, ordered_disk, array_address, pairs_gstate, disk_of_device, graph_view, IsThreadGraph, violation_in_order}
 use Rattle.lfs_model.specs.declared.violations.Violation.{Violation}
-use Rattle.lfs_thread.specs.Kept.{disk_of_device}
-use Rattle.lfs_mount.specs.DirectoryView.{graph_view}
-use Rattle.lfs_mount.specs.Directories.{IsTreeOrBreach, IsThreadGraph}
-use Rattle.lfs_mount.specs.Orders.{violation_in_order}
+use Rattle.lfs_mount.specs.Directories.{IsTreeOrBreach}
 use Rattle.lfs_mount.specs.declared.pass.PairBeforeSlotsAreRead.{PairBeforeSlotsAreRead}
 use Rattle.lfs_mount.specs.declared.reachability.Directory.{Directory}
 use Rattle.lfs_mount.proofs.Called.{only_read, quiet, same_error}

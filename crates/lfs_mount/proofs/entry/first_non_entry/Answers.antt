@@ -1,9 +1,5 @@
 use Rattle.std.proofs.Common.{refl, sym, ap, ◌≡◌, ◌∙◌, true, is_some, map, option_map, arith, ⊎_elim, slice_get}
-use Rattle.std.proofs.lemmas.Bool.{cases_eq}
-use Rattle.std.proofs.lemmas.List.{length-map}
-use Rattle.std.proofs.lemmas.Option.{same_Some, slice_get-map, slice_get_read, slice_get_within}
-use Rattle.lfs_tag.specs.ContentView.{slot_view}
-use Rattle.lfs_mount.specs.DirectoryEntries.{raw_slot_entry}
+use Rattle.lfs_mount.proofs.Common.{cases_eq, length-map, same_Some, slice_get-map, slice_get_read, slice_get_within, slot_view, raw_slot_entry}
 use Rattle.lfs_mount.proofs.Kept.{no_entry}
 use Rattle.lfs_mount.proofs.entry.first_non_entry.Goals as goal
 

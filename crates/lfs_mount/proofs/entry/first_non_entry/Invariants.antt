@@ -1,6 +1,5 @@
 use Rattle.std.proofs.Common.{ℕ, ◌≤◌, map}
-use Rattle.lfs_tag.specs.ContentView.{slot_view}
-use Rattle.lfs_mount.specs.DirectoryEntries.{HoldsNoneAt}
+use Rattle.lfs_mount.proofs.Common.{slot_view, HoldsNoneAt}
 use Rattle.lfs_mount.proofs.entry.first_non_entry.Given as goal
 
 abbrev pub invariant-loop-index : goal.invariant-loop-index

@@ -1,6 +1,5 @@
 use Rattle.std.proofs.Common.{rules, inr, refl, subst, ◌≡◌, Some, None}
-use Rattle.lfs_thread.specs.Kept.{disk_of_device}
-use Rattle.lfs_mount.specs.Marking.{MarksBlocksUsed, blocks_last_first}
+use Rattle.lfs_mount.proofs.Common.{disk_of_device, MarksUsed, blocks_last_first}
 use Rattle.lfs_mount.proofs.Markings.{all_free, all_keep, some_taken}
 use Rattle.lfs_mount.proofs.lists.mark_slot_list.Goals as goal
 
@@ -17,6 +16,6 @@ returns-in-None-clause-marked g c =
     let e : c.walk-walked.new.visit.1.now ≡ None = search (rules, flags, c.in-None.is) in
     record {
       list = c.in_default.ensures.listed.list;
-      marked = subst (MarksBlocksUsed c.args.map.now (blocks_last_first (disk_of_device g.D.BlockDevice c.args.device.now) c.args.list))
+      marked = subst (MarksUsed c.args.map.now (blocks_last_first (disk_of_device g.D.BlockDevice c.args.device.now) c.args.list))
           (search (rules, names)) (all_free _ (λ p. p.0.now) (λ p. p.1.now) (λ p b q r. search rules) _ _ _ c.in_default.ensures.visited e).1;
     }

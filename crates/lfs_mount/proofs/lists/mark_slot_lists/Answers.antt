@@ -1,21 +1,9 @@
 use Rattle.std.proofs.Common.{ℕ, List, refl, sym, ap, ap₂, ◌∙◌, ◌≤◌, Err, subst, take, ◌+◌, arith, flat_map, option_map}
 use Rattle.std.proofs.lemmas.List.{take-map}
-use Rattle.std.proofs.lemmas.Result.{err_from_is_err_and}
-use Rattle.std.proofs.lemmas.Option.{slice_get-map, slice_get_read}
-use Rattle.lfs_device.specs.DeviceCalls.{ReadsOnly}
-use Rattle.lfs_device.specs.DeviceDisk.{disk_of_blocks}
+use Rattle.lfs_mount.proofs.Common.{err_from_is_err_and, slice_get-map, slice_get_read, ReadsOnly, disk_of_blocks, BlockStates, Disk, fault_count, read_count, slot_view, disk_of_device, BreaksList, lists_view, MarksList, MarksLists, MarksUsed, raw_slot_lists, blocks_last_first, list_reads}
 use Rattle.lfs_device.specs.declared.device.BlockDevice.{Ghosts}
 use Rattle.lfs_device.specs.declared.geometry.Geometry.{Geometry}
-use Rattle.lfs_model.specs.layers.BlockSets.{BlockStates}
-use Rattle.lfs_model.specs.format.Disk.{Disk}
-use Rattle.lfs_model.specs.session.History.{fault_count, read_count}
 use Rattle.lfs_model.specs.declared.violations.Violation.{Violation}
-use Rattle.lfs_tag.specs.ContentView.{slot_view}
-use Rattle.lfs_thread.specs.Kept.{disk_of_device}
-use Rattle.lfs_mount.specs.Broken.{BreaksList}
-use Rattle.lfs_mount.specs.ListsView.{lists_view}
-use Rattle.lfs_mount.specs.Marking.{MarksListUsed, MarksListsUsed, MarksBlocksUsed, raw_slot_lists, blocks_last_first}
-use Rattle.lfs_mount.specs.MountReads.{list_reads}
 use Rattle.lfs_mount.proofs.Called.{passed_on, quiet, read_on, same_error}
 use Rattle.lfs_mount.proofs.MarkedLists.{lists_more, lists_stay}
 use Rattle.lfs_mount.proofs.ReadCounts.{reads_more, reads_stay}
@@ -40,7 +28,7 @@ returns-in_err-mark_slot_list-clause-broken g c = λ v is.
         list = sym c.list_of_slot.ensures ∙ c.in-Some.is;
       };
       mid = c.loop-index.map;
-      before = subst (λ ss. MarksBlocksUsed c.args.map.now (flat_map (blocks_last_first disk) (raw_slot_lists ss)) c.loop-index.map) (sym (take-map slot_view c.loop-index.index c.args.slots.now)) c.loop-index.invariant.marked.marked;
+      before = subst (λ ss. MarksUsed c.args.map.now (flat_map (blocks_last_first disk) (raw_slot_lists ss)) c.loop-index.map) (sym (take-map slot_view c.loop-index.index c.args.slots.now)) c.loop-index.invariant.marked.marked;
       breaks = first_on g.D.BlockDevice c.args.device.now c.loop-index.device c.loop-index.invariant.device c.loop-index.map c.in-Some.list c.args.member.now.at _ v
           (subst (λ n. BreaksList (disk_of_device g.D.BlockDevice c.loop-index.device) c.loop-index.map c.in-Some.list c.args.member.now.at n v) c.kept_slot_number-number.ensures
           (c.in_err-mark_slot_list.ensures.broken v (ap Err (same_error p.1 p.2 is))));
@@ -60,10 +48,10 @@ loop-index-preserved g c =
       | in-Some+in_ok-mark_slot_list w ↦
           let same = ap₂ disk_of_blocks c.loop-index.invariant.device.geometry c.loop-index.invariant.device.same in
           record {
-            marked = subst (λ m. MarksListsUsed disk c.args.map.now lists m) (sym w.map-is)
+            marked = subst (λ m. MarksLists disk c.args.map.now lists m) (sym w.map-is)
                 (lists_more disk c.args.slots.now c.loop-index.index c.index-slots-index.result w.in-Some.list c.args.map.now c.loop-index.map w.mark_slot_list.new.map at
                 (sym c.list_of_slot.ensures ∙ w.in-Some.is) c.loop-index.invariant.marked
-                (subst (λ (d : Disk). MarksListUsed d c.loop-index.map w.in-Some.list w.mark_slot_list.new.map) same w.in_ok-mark_slot_list.ensures.marked));
+                (subst (λ (d : Disk). MarksList d c.loop-index.map w.in-Some.list w.mark_slot_list.new.map) same w.in_ok-mark_slot_list.ensures.marked));
             device = subst (ReadsOnly g.D.BlockDevice c.args.device.now) (sym w.device-is) (read_on g.D.BlockDevice c.loop-index.invariant.device w.in_ok-mark_slot_list.ensures.reading.device);
             quiet = ap (λ d. fault_count (g.D.BlockDevice.history d)) w.device-is ∙ quiet g.D.BlockDevice w.in_ok-mark_slot_list.ensures.reading ∙ c.loop-index.invariant.quiet;
             few =
@@ -77,7 +65,7 @@ loop-index-preserved g c =
                 omega arith;
           }
       | in_default w ↦ record {
-        marked = subst (λ m. MarksListsUsed disk c.args.map.now lists m) (sym w.map-is)
+        marked = subst (λ m. MarksLists disk c.args.map.now lists m) (sym w.map-is)
             (lists_stay disk c.args.slots.now c.loop-index.index c.index-slots-index.result c.args.map.now c.loop-index.map at (sym c.list_of_slot.ensures ∙ w.in_default.is) c.loop-index.invariant.marked);
         device = subst (ReadsOnly g.D.BlockDevice c.args.device.now) (sym w.device-is) c.loop-index.invariant.device;
         quiet = ap (λ d. fault_count (g.D.BlockDevice.history d)) w.device-is ∙ c.loop-index.invariant.quiet;

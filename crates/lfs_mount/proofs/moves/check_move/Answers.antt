@@ -1,7 +1,6 @@
 use Rattle.std.proofs.Common.{◌≡◌, ◌∙◌, subst, sym}
-use Rattle.lfs_model.specs.layers.Violations.{BreaksPairs}
+use Rattle.lfs_mount.proofs.Common.{BreaksPairs, move_view}
 use Rattle.lfs_model.specs.declared.violations.Violation.TheVariants as violation
-use Rattle.lfs_tag.specs.FieldsView.{move_view}
 use Rattle.lfs_mount.proofs.KnownMoves.{known_right, unknown_breaks}
 use Rattle.lfs_mount.proofs.moves.check_move.Goals as goal
 

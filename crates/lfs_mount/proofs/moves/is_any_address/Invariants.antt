@@ -1,7 +1,5 @@
 use Rattle.std.proofs.Common.{◌≡◌, drop, map}
-use Rattle.lfs_model.specs.format.Slots.{array_address}
-use Rattle.lfs_pair.specs.Pair.{header_address}
-use Rattle.lfs_mount.specs.MoveChecks.{is_among_addresses}
+use Rattle.lfs_mount.proofs.Common.{array_address, header_address, is_among_addresses}
 use Rattle.lfs_mount.proofs.moves.is_any_address.Given as goal
 
 -- none of those so far is at the address

@@ -1,9 +1,6 @@
 use Rattle.std.proofs.Common.{inl, inr, ap, subst, ◌≡◌, arith, map, option_map, Some}
-use Rattle.std.proofs.lemmas.List.{length-map}
-use Rattle.std.proofs.lemmas.Result.{err_from_is_err_and}
-use Rattle.lfs_model.specs.format.Content.{RawContent}
-use Rattle.lfs_tag.specs.ContentView.{content_view, slot_view}
-use Rattle.lfs_mount.specs.Broken.{BreaksMovedSlot, raw_block_slots}
+use Rattle.lfs_mount.proofs.Common.{length-map, err_from_is_err_and, RawContent, slot_view, BreaksMovedSlot, raw_block_slots}
+use Rattle.lfs_tag.specs.ContentView.{content_view}
 use Rattle.lfs_mount.proofs.Called.{same_error}
 use Rattle.lfs_mount.proofs.SlotCounts.{few_slots}
 use Rattle.lfs_mount.proofs.pass.read_kept_slots.Goals as goal

@@ -1,9 +1,6 @@
 use Rattle.std.proofs.Common.{refl, sym, ap, inr, is_some, ◌∙◌, map, arith, option_map}
-use Rattle.std.proofs.lemmas.Option.{same_Some, slice_get-map, slice_get_read}
-use Rattle.lfs_tag.specs.ContentView.{slot_view}
+use Rattle.lfs_mount.proofs.Common.{same_Some, slice_get-map, slice_get_read, slot_view, raw_slot_entry, unmoved_raw_slots}
 use Rattle.lfs_tag.specs.declared.content.Slot.{Slot}
-use Rattle.lfs_mount.specs.DirectoryEntries.{raw_slot_entry}
-use Rattle.lfs_mount.specs.Taken.{unmoved_raw_slots}
 use Rattle.lfs_mount.proofs.Kept.{moved_goes, no_entry}
 use Rattle.lfs_mount.proofs.pass.remove_moved_slot.Goals as goal
 

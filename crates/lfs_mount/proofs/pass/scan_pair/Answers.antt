@@ -1,26 +1,12 @@
 use Rattle.std.proofs.Common.{ℕ, List, Err, inl, inr, refl, arith, ◌≡◌, ◌≤◌, ◌+◌, sym, ap, ap₂, ◌∙◌, length, map, subst}
 use Rattle.std.specs.Prelude.{sum_by}
-use Rattle.std.proofs.lemmas.Result.{err_from_is_err_and}
-use Rattle.lfs_device.specs.DeviceCalls.{ReadsOnly}
-use Rattle.lfs_device.specs.DeviceDisk.{disk_of_blocks}
+use Rattle.lfs_mount.proofs.Common.{err_from_is_err_and, ReadsOnly, disk_of_blocks, BlockStates, RawSlot, ordered_disk, Disk, disk_block, read_count, slot_view, disk_of_device, BreaksKeptList, kept_block_slots, HoldsNoneAt, scan_view, lists_view, MarksLists, list_reads, described_lists, scan_after_slots}
 use Rattle.lfs_device.specs.declared.device.BlockDevice.{Ghosts}
 use Rattle.lfs_device.specs.declared.geometry.Geometry.{Geometry}
-use Rattle.lfs_model.specs.layers.BlockSets.{BlockStates}
-use Rattle.lfs_model.specs.format.Content.{RawSlot}
-use Rattle.lfs_model.specs.format.Disk.{ordered_disk, Disk, disk_block}
-use Rattle.lfs_model.specs.session.History.{read_count}
 use Rattle.lfs_model.specs.declared.order.NameOrder.{NameOrder}
 use Rattle.lfs_model.specs.declared.violations.Violation.{Violation}
 use Rattle.lfs_model.specs.declared.violations.Violation.TheVariants as violation
-use Rattle.lfs_tag.specs.ContentView.{slot_view}
-use Rattle.lfs_thread.specs.Kept.{disk_of_device}
-use Rattle.lfs_mount.specs.Broken.{BreaksKeptList, kept_block_slots}
-use Rattle.lfs_mount.specs.DirectoryEntries.{HoldsNoneAt}
-use Rattle.lfs_mount.specs.KnownView.{scan_view}
-use Rattle.lfs_mount.specs.ListsView.{lists_view, raw_slots_view}
-use Rattle.lfs_mount.specs.Marking.{MarksListsUsed}
-use Rattle.lfs_mount.specs.MountReads.{list_reads, described_lists}
-use Rattle.lfs_mount.specs.Scanned.{scan_after_slots}
+use Rattle.lfs_mount.specs.ListsView.{raw_slots_view}
 use Rattle.lfs_mount.specs.declared.pass.PairBeforeSlotsAreRead.{PairBeforeSlotsAreRead}
 use Rattle.lfs_mount.proofs.Called.{gone_on, passed_on, quiet, same_error, violation_of}
 use Rattle.lfs_mount.proofs.Kept.{held_kept}
@@ -35,7 +21,7 @@ lists_first_on g old mid reads order m sets slots v broken =
     let b = subst (λ (d : Disk). BreaksKeptList d m sets slots v) (ap₂ disk_of_blocks reads.geometry reads.same) broken in
     record { index = b.index; l = b.l; is = b.is; mid = b.mid; before = b.before; breaks = b.breaks }
 
-lists_in_order : (order : NameOrder) (disk : Disk) {old new : BlockStates} {all : List (ℕ × ℕ)} → MarksListsUsed disk old all new → MarksListsUsed (ordered_disk order disk) old all new
+lists_in_order : (order : NameOrder) (disk : Disk) {old new : BlockStates} {all : List (ℕ × ℕ)} → MarksLists disk old all new → MarksLists (ordered_disk order disk) old all new
 lists_in_order order disk m = record { lists = m.lists; marked = m.marked }
 
 pub returns-in-Err-clause-broken : goal.returns-in-Err-clause-broken
@@ -99,9 +85,9 @@ returns-clause-taken g c = λ order.
       entries = map slot_view c.in_ok-slots.slots.items;
       kept = held.1.1;
       scan = ap (λ xs. scan_after_slots order c.args.places.now (scan_view order c.args.known.now) (map slot_view xs)) (sym c.deref-2.ensures.value) ∙ c.in_default.ensures.ok order;
-      lists = lists_in_order order disk (subst (λ ls. MarksListsUsed disk c.args.map.now ls c.mark_slot_lists.new.map)
+      lists = lists_in_order order disk (subst (λ ls. MarksLists disk c.args.map.now ls c.mark_slot_lists.new.map)
           (ap lists_view c.deref-3.ensures.value)
-          (subst (λ d. MarksListsUsed d c.args.map.now (lists_view c.deref-3.result.now) c.mark_slot_lists.new.map) (ap₂ disk_of_blocks c.in_ok-bytes.ensures.reading.device.geometry c.in_ok-bytes.ensures.reading.device.same) c.in_ok-mark_slot_lists.ensures.marked));
+          (subst (λ d. MarksLists d c.args.map.now (lists_view c.deref-3.result.now) c.mark_slot_lists.new.map) (ap₂ disk_of_blocks c.in_ok-bytes.ensures.reading.device.geometry c.in_ok-bytes.ensures.reading.device.same) c.in_ok-mark_slot_lists.ensures.marked));
     }
 
 pub returns-clause-few : goal.returns-clause-few

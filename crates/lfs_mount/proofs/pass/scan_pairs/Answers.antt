@@ -1,23 +1,9 @@
 use Rattle.std.proofs.Common.{refl, ◌≤◌, ◌+◌, ◌++◌, ◌∷◌, [], Err, drop, get_or, sym, ap, ap₂, subst, subst₂, ◌∙◌, arith, false, None}
-use Rattle.std.proofs.lemmas.List.{map-append}
+use Rattle.lfs_mount.proofs.Common.{map-append, slice_get-get_or, err_from_is_err_and, read_count, disk_of_device, pair_reads, ReadsOnly, disk_of_blocks, ordered_disk, Disk, BlockStates, BreaksDescribedPair, vertex_view, graph_view, scan_view, Vertex, DirectoryGraph, AddsPair}
 use Rattle.std.proofs.Math.ListN.{drop_of_length-le}
-use Rattle.std.proofs.lemmas.Option.{slice_get-get_or}
-use Rattle.std.proofs.lemmas.Result.{err_from_is_err_and}
-use Rattle.lfs_model.specs.session.History.{read_count}
-use Rattle.lfs_thread.specs.Kept.{disk_of_device}
-use Rattle.lfs_mount.specs.MountReads.{pair_reads}
-use Rattle.lfs_device.specs.DeviceCalls.{ReadsOnly}
 use Rattle.lfs_device.specs.declared.device.BlockDevice.{Ghosts}
-use Rattle.lfs_device.specs.DeviceDisk.{disk_of_blocks}
-use Rattle.lfs_model.specs.format.Disk.{ordered_disk, Disk}
-use Rattle.lfs_model.specs.layers.BlockSets.{BlockStates}
 use Rattle.lfs_model.specs.declared.violations.Violation.{Violation}
 use Rattle.lfs_model.specs.declared.order.NameOrder.{NameOrder}
-use Rattle.lfs_mount.specs.Broken.{BreaksDescribedPair}
-use Rattle.lfs_mount.specs.DirectoryView.{vertex_view, graph_view}
-use Rattle.lfs_mount.specs.KnownView.{scan_view}
-use Rattle.lfs_mount.specs.Reaching.{Vertex, DirectoryGraph}
-use Rattle.lfs_mount.specs.Taken.{AddsPair}
 use Rattle.lfs_mount.specs.declared.pass.PairBeforeSlotsAreRead.{PairBeforeSlotsAreRead}
 use Rattle.lfs_mount.proofs.Breaking.{marked_first, marked_next, thread_breaks}
 use Rattle.lfs_mount.proofs.Called.{not_read, passed_on, quiet, read_on, same_error}

@@ -1,15 +1,7 @@
 use Rattle.std.proofs.Common.{◌≡◌, ◌≤◌, ◌+◌, ◌∷◌, Bool, List, drop, take}
 use Rattle.std.specs.Prelude.{sum_by}
-use Rattle.lfs_device.specs.DeviceCalls.{ReadsOnly}
-use Rattle.lfs_model.specs.format.Disk.{ordered_disk}
-use Rattle.lfs_model.specs.session.History.{fault_count, read_count}
-use Rattle.lfs_model.specs.format.Thread.{Pair}
+use Rattle.lfs_mount.proofs.Common.{ReadsOnly, ordered_disk, fault_count, read_count, Pair, disk_of_device, IsDescribedThread, graph_view, scan_view, pair_reads}
 use Rattle.lfs_model.specs.declared.order.NameOrder.{NameOrder}
-use Rattle.lfs_thread.specs.Kept.{disk_of_device}
-use Rattle.lfs_mount.specs.Checked.{IsDescribedThread}
-use Rattle.lfs_mount.specs.DirectoryView.{graph_view}
-use Rattle.lfs_mount.specs.KnownView.{scan_view}
-use Rattle.lfs_mount.specs.MountReads.{pair_reads}
 use Rattle.lfs_mount.proofs.Breaking.{AreMarked}
 use Rattle.lfs_mount.proofs.Passing.{IsUnderWay}
 use Rattle.lfs_mount.proofs.pass.scan_pairs.Given as goal

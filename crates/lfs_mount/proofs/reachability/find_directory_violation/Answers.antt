@@ -1,9 +1,6 @@
 use Rattle.std.proofs.Common.{Some, List, Bool, [], true, arith, sym, ◌≡◌, ◌∙◌, refl, subst, slice_get, get_or, map, false, true≢false}
 use Rattle.std.specs.Prelude.{All}
-use Rattle.std.proofs.lemmas.List.{length-map}
-use Rattle.std.proofs.lemmas.Option.{slice_get_within}
-use Rattle.lfs_model.specs.format.Slots.{array_address}
-use Rattle.lfs_mount.specs.DirectoryView.{graph_view, vertex_view}
+use Rattle.lfs_mount.proofs.Common.{length-map, slice_get_within, array_address, graph_view, vertex_view}
 use Rattle.lfs_mount.proofs.BrokenTrees.{first_at, some_in, no_path_broken}
 use Rattle.lfs_mount.proofs.Rooted.{all_right}
 use Rattle.lfs_mount.proofs.reachability.find_directory_violation.Goals as goal

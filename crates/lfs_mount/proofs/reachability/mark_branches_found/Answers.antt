@@ -1,7 +1,5 @@
 use Rattle.std.proofs.Common.{◌≡◌, ◌++◌, take, arith, ap, sym, ◌∙◌, refl, get_or, subst, set, Some, true}
-use Rattle.std.proofs.lemmas.List.{length-set, take_all}
-use Rattle.std.proofs.lemmas.Option.{slice_get_read}
-use Rattle.lfs_mount.specs.Reaching.{AreFoundMarks}
+use Rattle.lfs_mount.proofs.Common.{length-set, take_all, slice_get_read, AreFoundMarks}
 use Rattle.lfs_mount.proofs.Marks.{one_more, more_found, found_twice}
 use Rattle.lfs_mount.proofs.reachability.mark_branches_found.Goals as goal
 

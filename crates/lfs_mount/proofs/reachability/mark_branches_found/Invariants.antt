@@ -1,5 +1,5 @@
 use Rattle.std.proofs.Common.{◌≡◌, ◌++◌, length, take}
-use Rattle.lfs_mount.specs.Reaching.{AreFoundMarks}
+use Rattle.lfs_mount.proofs.Common.{AreFoundMarks}
 use Rattle.lfs_mount.proofs.reachability.mark_branches_found.Given as goal
 
 abbrev pub invariant-loop-branch : goal.invariant-loop-branch

@@ -1,16 +1,10 @@
 use Rattle.std.proofs.Common.{Result, Ok, Err, None, arith, ap, sym, ◌≡◌, ◌<◌, ◌∙◌, refl, true, false, subst, length, set, slice_get, get_or, ◌++◌, ◌∷◌, [], length-append, nat_eq, map}
 use Rattle.std.specs.Prelude.{All, IfSome}
 use Rattle.std.specs.List.{IsDistinct}
-use Rattle.std.proofs.lemmas.List.{length-set, length-replicate, length-map}
-use Rattle.std.proofs.lemmas.Bool.{and_from}
-use Rattle.std.proofs.lemmas.Option.{slice_get_read}
-use Rattle.lfs_model.specs.format.Slots.{array_address}
+use Rattle.lfs_mount.proofs.Common.{length-set, length-replicate, length-map, and_from, slice_get_read, array_address, BreaksGraphRule, graph_view, vertex_view, AreFoundMarks, IsRepeated}
 use Rattle.lfs_model.specs.declared.violations.Violation.{Violation}
 use Rattle.lfs_thread.specs.declared.mount_error.MountError.{MountError}
 use Rattle.lfs_thread.specs.declared.mount_error.MountError.TheVariants.{Corrupt}
-use Rattle.lfs_mount.specs.Directories.{BreaksGraphRule}
-use Rattle.lfs_mount.specs.DirectoryView.{graph_view, vertex_view}
-use Rattle.lfs_mount.specs.Reaching.{AreFoundMarks, IsRepeatedNumber}
 use Rattle.lfs_mount.proofs.BrokenTrees.{first_at, some_in, names_broken, branch_broken, paths_broken}
 use Rattle.lfs_mount.proofs.Marks.{first_marked, marked_within, few_marked, sound_of, vertex_at, branches_found, next_sound, nothing_left, branches_within}
 use Rattle.lfs_mount.proofs.reachability.reached_directories.Goals as goal
@@ -88,7 +82,7 @@ returns-in-Some-clause-broken c = λ v sync is.
     let lt : c.index.result.now < length c.args.directories.now = omega (arith, within, c.loop-next.invariant.len) in
     let here = slice_get_read c.args.directories.now _ c.index.result.now c.index-directories-place.result refl lt c.index-directories-place.is in
     let below = subst (λ o. IfSome o (λ b. b < length c.loop-next.is_found.items)) c.in-Some.is c.in_ok-branch.ensures.within in
-    let twice = subst (λ o. IfSome o (IsRepeatedNumber (c.loop-next.found.items ++ c.deref.result.now))) c.in-Some.is c.in_ok-branch.ensures.twice in
+    let twice = subst (λ o. IfSome o (IsRepeated (c.loop-next.found.items ++ c.deref.result.now))) c.in-Some.is c.in_ok-branch.ensures.twice in
     let next = ap (λ xs. c.loop-next.found.items ++ xs) c.deref.ensures.value
     ∙ branches_found c.args.order c.args.directories.now c.loop-next.found.items c.loop-next.next c.index.result.now c.index-directories-place.result c.loop-next.invariant.found at here in
     let sound = sound_of c.args.order c.args.directories.now c.index.result.now c.index-directories-place.result here ∙ and_from _ _ (sym c.contains.ensures ∙ c.if-not-contains.false) c.if-not-directory.false in
@@ -96,7 +90,7 @@ returns-in-Some-clause-broken c = λ v sync is.
     (paths_broken (graph_view c.args.order c.args.directories.now) (map array_address c.args.addresses.now) sync (some_in c.args.order c.args.directories.now c.requires.some) c.loop-next.next c.in-Some.branch
     (get_or c.args.addresses.now c.in-Some.branch [])
     (next_sound (graph_view c.args.order c.args.directories.now) c.loop-next.next c.index.result.now (ap (λ xs. slice_get xs c.loop-next.next) (sym c.loop-next.invariant.found) ∙ at) c.loop-next.invariant.sound sound)
-    (subst (IsDistinct nat_eq) c.loop-next.invariant.found c.loop-next.invariant.marked.distinct) (subst (λ xs. IsRepeatedNumber xs c.in-Some.branch) next twice)
+    (subst (IsDistinct nat_eq) c.loop-next.invariant.found c.loop-next.invariant.marked.distinct) (subst (λ xs. IsRepeated xs c.in-Some.branch) next twice)
     (first_at c.args.addresses.now c.in-Some.branch (omega (arith, below, c.loop-next.invariant.len, c.requires.places))))
 
 pub loop-next-smaller : goal.loop-next-smaller

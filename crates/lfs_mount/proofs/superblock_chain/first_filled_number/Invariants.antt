@@ -1,6 +1,6 @@
 use Rattle.std.proofs.Common.{◌≡◌, ◌+◌, drop, length}
 use Rattle.std.specs.Option.{option_map}
-use Rattle.lfs_mount.specs.SuperblockChain.{first_filled}
+use Rattle.lfs_mount.proofs.Common.{first_filled}
 use Rattle.lfs_mount.proofs.superblock_chain.first_filled_number.Given as goal
 
 abbrev pub invariant-loop-index : goal.invariant-loop-index

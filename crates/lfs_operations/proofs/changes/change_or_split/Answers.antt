@@ -1,4 +1,4 @@
-use Rattle.lfs_operations.proofs.Common.{arith, ap, subst, ◌∙◌, inl, inr, Ok, on_ok_weaker, HoldsAtLosses-weaker, changes_view, LossLeavesCleanly, KeptThread, cached_log, IsPairSplit, LeftBySplit, ReportsFaultsChangingNothingAtNoSpace, WritesPairTwo}
+use Rattle.lfs_operations.proofs.Common.{arith, ap, subst, ◌∙◌, inl, inr, Ok, on_ok_weaker, HoldsAtLosses-weaker, changes_view, CleanLossLeaves, KeptThread, cached_log, IsPairSplit, LeftBySplit, ReportsSpaceErrors, WritesPairTwo}
 use Rattle.lfs_device.specs.declared.error.Error.TheVariants as Error
 use Rattle.lfs_pair.specs.declared.commits.Outcome.TheVariants as Outcome
 use Rattle.lfs_operations.proofs.Putting.{read_at_most, read_is, cut_later, reports_later, writes_later, stops_later, not_both}
@@ -27,7 +27,7 @@ returns-in-Full-clause-errors g c =
     let r = c.commit_pair_changes.ensures.full was in
     let reported = reports_later old c.commit_pair_changes.new.self.kept.history r.only.reads c.args.index (changes_view c.args.changes.now) c.split_in_two.new.thread.kept c.split_in_two.result
     (c.commit_pair_changes.ensures.errors.no_fault (λ io. not_both c.commit_pair_changes.result Outcome.Full Error.Io was io))
-    (subst (λ (k : KeptThread). ReportsFaultsChangingNothingAtNoSpace k c.split_in_two.new.thread.kept c.split_in_two.result) (read_is old c.commit_pair_changes.new.self.kept r.only) c.split_in_two.ensures.errors.reports) in
+    (subst (λ (k : KeptThread). ReportsSpaceErrors k c.split_in_two.new.thread.kept c.split_in_two.result) (read_is old c.commit_pair_changes.new.self.kept r.only) c.split_in_two.ensures.errors.reports) in
     record {
       reports = record { failed = c.split_in_two.ensures.errors.failed; reports = reported };
       too_large = λ none. (r.content, (r.made, r.too_large));
@@ -48,7 +48,7 @@ returns-in-Full-clause-stops g c =
     (r.content, (r.made, r.too_large))
     (subst (λ (k : KeptThread). WritesPairTwo k c.args.index c.split_in_two.new.thread.kept) (read_is old c.commit_pair_changes.new.self.kept r.only) c.split_in_two.ensures.device)
     c.commit_pair_changes.ensures.stops
-    (subst (λ (k : KeptThread). LossLeavesCleanly k.history c.split_in_two.new.thread.kept.history (LeftBySplit k c.args.index (changes_view c.args.changes.now))) (read_is old c.commit_pair_changes.new.self.kept r.only) c.split_in_two.ensures.stops)
+    (subst (λ (k : KeptThread). CleanLossLeaves k.history c.split_in_two.new.thread.kept.history (LeftBySplit k c.args.index (changes_view c.args.changes.now))) (read_is old c.commit_pair_changes.new.self.kept r.only) c.split_in_two.ensures.stops)
 
 pub returns-in_err-commit_pair_changes-clause-few : goal.returns-in_err-commit_pair_changes-clause-few
 returns-in_err-commit_pair_changes-clause-few g c =

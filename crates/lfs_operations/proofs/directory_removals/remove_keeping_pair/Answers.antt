@@ -1,4 +1,4 @@
-use Rattle.lfs_operations.proofs.Common.{ap, sym, subst, ◌∙◌, ◌-◌, Err, on_ok_weaker, err_from_is_err_and, Gstate, LossLeavesCleanly, ChangesThreadBlocks, thread_pair_at, addresses_blocks, CanDropAt, IsPairDropped, LeftByDrop, tree_on_disk, tree_without_entry}
+use Rattle.lfs_operations.proofs.Common.{ap, sym, subst, ◌∙◌, ◌-◌, Err, on_ok_weaker, err_from_is_err_and, Gstate, CleanLossLeaves, ChangesThreadBlocks, thread_pair, addresses_blocks, CanDropAt, IsPairDropped, LeftByDrop, disk_tree, tree_without_entry}
 use Rattle.lfs_operations.proofs.Putting.{survives_more, survives_step}
 use Rattle.lfs_operations.proofs.AlteredDrops.{beside_alters}
 use Rattle.lfs_operations.proofs.Removed.{reports_again}
@@ -20,8 +20,8 @@ returns-in_err-unlink_directory_entry-clause-errors g c =
 
 pub returns-in_err-unlink_directory_entry-clause-device : goal.returns-in_err-unlink_directory_entry-clause-device
 returns-in_err-unlink_directory_entry-clause-device g c =
-    subst (λ at. ChangesThreadBlocks (addresses_blocks at (thread_pair_at c.args.thread.now.kept (c.args.gone - 1)).at) c.args.thread.now.kept c.unlink_directory_entry.new.thread.kept) (sym (written_beside c.args.thread.now.kept c.args.pair c.args.first c.requires.stays))
-    (writes_first (thread_pair_at c.args.thread.now.kept c.args.pair).at (thread_pair_at c.args.thread.now.kept (c.args.gone - 1)).at c.unlink_directory_entry.ensures.device)
+    subst (λ at. ChangesThreadBlocks (addresses_blocks at (thread_pair c.args.thread.now.kept (c.args.gone - 1)).at) c.args.thread.now.kept c.unlink_directory_entry.new.thread.kept) (sym (written_beside c.args.thread.now.kept c.args.pair c.args.first c.requires.stays))
+    (writes_first (thread_pair c.args.thread.now.kept c.args.pair).at (thread_pair c.args.thread.now.kept (c.args.gone - 1)).at c.unlink_directory_entry.ensures.device)
 
 pub returns-in_err-unlink_directory_entry-clause-survives : goal.returns-in_err-unlink_directory_entry-clause-survives
 returns-in_err-unlink_directory_entry-clause-survives g c take = survives_step c.args.thread.now.kept.disk (left_first c.args.thread.now.kept c.args.pair c.args.id c.args.first c.args.gone take c.requires.stays) c.unlink_directory_entry.ensures.stops
@@ -32,7 +32,7 @@ returns-clause-is_removed g c = on_ok_weaker c.drop_pair_at.result (λ is take. 
 
 pub returns-clause-device : goal.returns-clause-device
 returns-clause-device g c =
-    subst (λ at. ChangesThreadBlocks (addresses_blocks at (thread_pair_at c.args.thread.now.kept (c.args.gone - 1)).at) c.args.thread.now.kept c.drop_pair_at.new.thread.kept) (sym (written_beside c.args.thread.now.kept c.args.pair c.args.first c.requires.stays))
+    subst (λ at. ChangesThreadBlocks (addresses_blocks at (thread_pair c.args.thread.now.kept (c.args.gone - 1)).at) c.args.thread.now.kept c.drop_pair_at.new.thread.kept) (sym (written_beside c.args.thread.now.kept c.args.pair c.args.first c.requires.stays))
     (writes_two c.args.thread.now.kept c.unlink_directory_entry.new.thread.kept c.drop_pair_at.new.thread.kept c.args.pair c.args.gone _ c.in_ok-unlink_directory_entry.ensures.is_unlinked
     c.unlink_directory_entry.ensures.device c.drop_pair_at.ensures.device)
 
@@ -40,10 +40,10 @@ pub returns-clause-survives : goal.returns-clause-survives
 returns-clause-survives g c take =
     let t = c.args.thread.now.kept in
     let m = c.unlink_directory_entry.new.thread.kept in
-    survives_more (tree_on_disk t.disk t.pairs) (tree_without_entry t take.can.path take.can.name) c.unlink_directory_entry.ensures.device c.drop_pair_at.ensures.device
+    survives_more (disk_tree t.disk t.pairs) (tree_without_entry t take.can.path take.can.name) c.unlink_directory_entry.ensures.device c.drop_pair_at.ensures.device
     (survives_step t.disk (left_first t c.args.pair c.args.id c.args.first c.args.gone take c.requires.stays) c.unlink_directory_entry.ensures.stops)
     (left_second t c.args.pair c.args.id c.args.first c.args.gone take c.requires.stays m c.in_ok-unlink_directory_entry.ensures.is_unlinked)
-    (subst (λ (s : Gstate). LossLeavesCleanly m.history c.drop_pair_at.new.thread.kept.history (LeftByDrop m (c.args.gone - 1) s)) c.none.ensures c.drop_pair_at.ensures.stops)
+    (subst (λ (s : Gstate). CleanLossLeaves m.history c.drop_pair_at.new.thread.kept.history (LeftByDrop m (c.args.gone - 1) s)) c.none.ensures c.drop_pair_at.ensures.stops)
 
 pub returns-clause-alters : goal.returns-clause-alters
 returns-clause-alters g c =

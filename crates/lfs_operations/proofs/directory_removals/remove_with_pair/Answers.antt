@@ -1,4 +1,4 @@
-use Rattle.lfs_operations.proofs.Common.{ℕ, ◌≡◌, sym, subst, ◌∙◌, ◌-◌, ap, Err, on_ok_weaker, err_from_is_err_and, Gstate, zero_gstate, LossLeavesCleanly, KeptThread, ChangesThreadBlocks, thread_pair_at, address_blocks, addresses_blocks, move_view, CanDropAt, IsPairDropped, LeftByDrop, number_after_drop, tree_on_disk, tree_without_entry}
+use Rattle.lfs_operations.proofs.Common.{ℕ, ◌≡◌, sym, subst, ◌∙◌, ◌-◌, ap, Err, on_ok_weaker, err_from_is_err_and, Gstate, zero_gstate, CleanLossLeaves, KeptThread, ChangesThreadBlocks, thread_pair, address_blocks, addresses_blocks, move_view, CanDropAt, IsPairDropped, LeftByDrop, number_after_drop, disk_tree, tree_without_entry}
 use Rattle.lfs_operations.proofs.Putting.{survives_more, survives_step}
 use Rattle.lfs_operations.proofs.AlteredDrops.{whole_alters}
 use Rattle.lfs_operations.proofs.Removed.{reports_again}
@@ -30,15 +30,15 @@ returns-in_err-drop_pair_at-clause-errors g c =
 
 pub returns-in_err-drop_pair_at-clause-device : goal.returns-in_err-drop_pair_at-clause-device
 returns-in_err-drop_pair_at-clause-device g c =
-    subst (λ at. ChangesThreadBlocks (addresses_blocks at (thread_pair_at c.args.thread.now.kept (c.args.gone - 1)).at) c.args.thread.now.kept c.drop_pair_at.new.thread.kept) (sym (written_whole c.args.thread.now.kept c.args.pair c.args.first c.requires.goes))
-    (writes_first (thread_pair_at c.args.thread.now.kept (c.args.pair - 1)).at (thread_pair_at c.args.thread.now.kept (c.args.gone - 1)).at c.drop_pair_at.ensures.device)
+    subst (λ at. ChangesThreadBlocks (addresses_blocks at (thread_pair c.args.thread.now.kept (c.args.gone - 1)).at) c.args.thread.now.kept c.drop_pair_at.new.thread.kept) (sym (written_whole c.args.thread.now.kept c.args.pair c.args.first c.requires.goes))
+    (writes_first (thread_pair c.args.thread.now.kept (c.args.pair - 1)).at (thread_pair c.args.thread.now.kept (c.args.gone - 1)).at c.drop_pair_at.ensures.device)
 
 pub returns-in_err-drop_pair_at-clause-survives : goal.returns-in_err-drop_pair_at-clause-survives
 returns-in_err-drop_pair_at-clause-survives g c take =
     let t = c.args.thread.now.kept in
     let m = c.drop_pair_at.new.thread.kept in
     survives_step t.disk (whole_first t c.args.pair c.args.id c.args.first c.args.gone take (stands_whole t c.args.pair c.args.id c.args.first take.can take.begins c.requires.goes))
-    (subst (λ (s : Gstate). LossLeavesCleanly t.history m.history (LeftByDrop t (c.args.pair - 1) s)) c.sync_delta.ensures c.drop_pair_at.ensures.stops)
+    (subst (λ (s : Gstate). CleanLossLeaves t.history m.history (LeftByDrop t (c.args.pair - 1) s)) c.sync_delta.ensures c.drop_pair_at.ensures.stops)
 
 pub returns-clause-is_removed : goal.returns-clause-is_removed
 returns-clause-is_removed g c = on_ok_weaker c.drop_pair_at-2.result (λ is take. whole_removed c.args.thread.now.kept c.args.pair c.args.id c.args.first c.args.gone take (stands_whole c.args.thread.now.kept c.args.pair c.args.id c.args.first take.can take.begins c.requires.goes) c.drop_pair_at.new.thread.kept
@@ -47,10 +47,10 @@ returns-clause-is_removed g c = on_ok_weaker c.drop_pair_at-2.result (λ is take
 
 pub returns-clause-device : goal.returns-clause-device
 returns-clause-device g c =
-    subst (λ at. ChangesThreadBlocks (addresses_blocks at (thread_pair_at c.args.thread.now.kept (c.args.gone - 1)).at) c.args.thread.now.kept c.drop_pair_at-2.new.thread.kept) (sym (written_whole c.args.thread.now.kept c.args.pair c.args.first c.requires.goes))
+    subst (λ at. ChangesThreadBlocks (addresses_blocks at (thread_pair c.args.thread.now.kept (c.args.gone - 1)).at) c.args.thread.now.kept c.drop_pair_at-2.new.thread.kept) (sym (written_whole c.args.thread.now.kept c.args.pair c.args.first c.requires.goes))
     (writes_whole c.args.thread.now.kept c.args.pair c.args.id c.args.first c.args.gone c.requires.can (stands_whole c.args.thread.now.kept c.args.pair c.args.id c.args.first c.requires.can.can c.requires.can.begins c.requires.goes) c.drop_pair_at.new.thread.kept c.drop_pair_at-2.new.thread.kept
     (subst (λ (s : Gstate). IsPairDropped c.args.thread.now.kept (c.args.pair - 1) s c.drop_pair_at.new.thread.kept) c.sync_delta.ensures c.in_ok-drop_pair_at.ensures.is_dropped)
-    c.drop_pair_at.ensures.device (subst (λ (i : ℕ). ChangesThreadBlocks (address_blocks (thread_pair_at c.drop_pair_at.new.thread.kept (i - 1)).at) c.drop_pair_at.new.thread.kept c.drop_pair_at-2.new.thread.kept) c.number_after_dropped.ensures c.drop_pair_at-2.ensures.device))
+    c.drop_pair_at.ensures.device (subst (λ (i : ℕ). ChangesThreadBlocks (address_blocks (thread_pair c.drop_pair_at.new.thread.kept (i - 1)).at) c.drop_pair_at.new.thread.kept c.drop_pair_at-2.new.thread.kept) c.number_after_dropped.ensures c.drop_pair_at-2.ensures.device))
 
 pub returns-clause-survives : goal.returns-clause-survives
 returns-clause-survives g c take =
@@ -58,12 +58,12 @@ returns-clause-survives g c take =
     let m = c.drop_pair_at.new.thread.kept in
     let new = c.drop_pair_at-2.new.thread.kept in
     let whole = stands_whole t c.args.pair c.args.id c.args.first take.can take.begins c.requires.goes in
-    survives_more (tree_on_disk t.disk t.pairs) (tree_without_entry t take.can.path take.can.name) c.drop_pair_at.ensures.device c.drop_pair_at-2.ensures.device
+    survives_more (disk_tree t.disk t.pairs) (tree_without_entry t take.can.path take.can.name) c.drop_pair_at.ensures.device c.drop_pair_at-2.ensures.device
     (survives_step t.disk (whole_first t c.args.pair c.args.id c.args.first c.args.gone take whole)
-    (subst (λ (s : Gstate). LossLeavesCleanly t.history m.history (LeftByDrop t (c.args.pair - 1) s)) c.sync_delta.ensures c.drop_pair_at.ensures.stops))
+    (subst (λ (s : Gstate). CleanLossLeaves t.history m.history (LeftByDrop t (c.args.pair - 1) s)) c.sync_delta.ensures c.drop_pair_at.ensures.stops))
     (whole_second t c.args.pair c.args.id c.args.first c.args.gone take whole m (subst (λ (s : Gstate). IsPairDropped t (c.args.pair - 1) s m) c.sync_delta.ensures c.in_ok-drop_pair_at.ensures.is_dropped))
-    (subst (λ (i : ℕ). LossLeavesCleanly m.history new.history (LeftByDrop m (i - 1) zero_gstate)) c.number_after_dropped.ensures
-    (subst (λ (s : Gstate). LossLeavesCleanly m.history new.history (LeftByDrop m (c.number_after_dropped.result - 1) s)) c.none.ensures c.drop_pair_at-2.ensures.stops))
+    (subst (λ (i : ℕ). CleanLossLeaves m.history new.history (LeftByDrop m (i - 1) zero_gstate)) c.number_after_dropped.ensures
+    (subst (λ (s : Gstate). CleanLossLeaves m.history new.history (LeftByDrop m (c.number_after_dropped.result - 1) s)) c.none.ensures c.drop_pair_at-2.ensures.stops))
 
 pub returns-clause-alters : goal.returns-clause-alters
 returns-clause-alters g c =

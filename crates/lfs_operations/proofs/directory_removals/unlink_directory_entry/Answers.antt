@@ -1,8 +1,8 @@
-use Rattle.lfs_operations.proofs.Common.{ap, ap₂, sym, subst, ◌∙◌, ◌≡◌, ◌∷◌, [], ℕ, LossLeavesCleanly, Delete, PutMove, Gstate, gstate_xor, sync_bit_delta, KeptThread, IsPairCommitted, LossLeavesPairChanged, thread_pair_at, unlink_changes, CanCommit, OnOk}
+use Rattle.lfs_operations.proofs.Common.{ap, ap₂, sym, subst, ◌∙◌, ◌≡◌, ◌∷◌, [], ℕ, CleanLossLeaves, Delete, PutMove, Gstate, gstate_xor, sync_bit_delta, KeptThread, IsPairCommitted, LossLeavesPair, thread_pair, unlink_changes, CanCommit, OnOk}
 use Rattle.lfs_operations.proofs.Unlinked.{can_unlink, unlink_not_refused}
 use Rattle.lfs_operations.proofs.directory_removals.unlink_directory_entry.Goals as goal
 
-changes_are : (t : KeptThread) (pair id : ℕ) (state delta bit : Gstate) → state ≡ gstate_xor delta bit → delta ≡ (thread_pair_at t pair).content.move → bit ≡ sync_bit_delta → Delete id ∷ PutMove state ∷ [] ≡ unlink_changes t pair id
+changes_are : (t : KeptThread) (pair id : ℕ) (state delta bit : Gstate) → state ≡ gstate_xor delta bit → delta ≡ (thread_pair t pair).content.move → bit ≡ sync_bit_delta → Delete id ∷ PutMove state ∷ [] ≡ unlink_changes t pair id
 changes_are t pair id state delta bit e f h = ap (λ m. Delete id ∷ PutMove m ∷ []) (e ∙ ap₂ gstate_xor f h)
 
 pub commit_fitting-requires-clause-can : goal.commit_fitting-requires-clause-can
@@ -15,5 +15,5 @@ returns-clause-is_unlinked g c = subst (λ changes. OnOk c.commit_fitting.result
     (changes_are c.args.thread.now.kept c.args.pair c.args.id _ _ _ c.gstate_xor_delta-state.ensures c.delta.ensures c.sync_delta.ensures) c.commit_fitting.ensures.is_changed
 
 pub returns-clause-stops : goal.returns-clause-stops
-returns-clause-stops g c = subst (λ changes. LossLeavesCleanly c.args.thread.now.kept.history c.commit_fitting.new.thread.kept.history (LossLeavesPairChanged c.args.thread.now.kept c.args.pair changes))
+returns-clause-stops g c = subst (λ changes. CleanLossLeaves c.args.thread.now.kept.history c.commit_fitting.new.thread.kept.history (LossLeavesPair c.args.thread.now.kept c.args.pair changes))
     (changes_are c.args.thread.now.kept c.args.pair c.args.id _ _ _ c.gstate_xor_delta-state.ensures c.delta.ensures c.sync_delta.ensures) c.commit_fitting.ensures.stops

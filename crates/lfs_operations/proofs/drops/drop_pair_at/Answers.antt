@@ -1,4 +1,4 @@
-use Rattle.lfs_operations.proofs.Common.{ℕ, ◌≡◌, ◌+◌, ◌-◌, ◌<◌, List, Some, length, Ok, Err, subst, sym, ap, ◌∙◌, arith, err_from_is_err_and, HoldsAtLosses-weaker, changes_view, PairChange, CanDropNext, IsNextDropped, LossLeavesPairChanged, RefusesChanges, complete_after, KeptThread, Gstate, Outcome, move_view, CanDropAt, IsPairDropped, dropping_changes, content_after_drop}
+use Rattle.lfs_operations.proofs.Common.{ℕ, ◌≡◌, ◌+◌, ◌-◌, ◌<◌, List, Some, length, Ok, Err, subst, sym, ap, ◌∙◌, arith, err_from_is_err_and, HoldsAtLosses-weaker, changes_view, PairChange, CanDropNext, IsNextDropped, LossLeavesPair, RefusesChanges, complete_after, KeptThread, Gstate, Outcome, move_view, CanDropAt, IsPairDropped, dropping_changes, content_after_drop}
 use Rattle.lfs_pair.specs.declared.commits.Outcome.TheVariants as outcome
 use Rattle.lfs_operations.proofs.DroppedTails.{can_drop, drop_not_refused, has_dropped, left_by_drop}
 use Rattle.lfs_operations.proofs.Removed.{reports_again}
@@ -30,7 +30,7 @@ returns-in_err-drop_next-clause-stops g c clean =
     let state = move_view c.args.state.now in
     let k = c.drop_changes_at-changes.ensures in
     HoldsAtLosses-weaker (λ left x. left_by_drop t (c.args.index - 1) state (below_there t c.args.index state c.requires.can) (made_there t c.args.index state (changes_view c.drop_changes_at-changes.result) k.are k.made) left
-    (subst (λ changes. LossLeavesPairChanged t (c.args.index - 1) changes left) k.are x)) (c.drop_next.ensures.stops clean)
+    (subst (λ changes. LossLeavesPair t (c.args.index - 1) changes left) k.are x)) (c.drop_next.ensures.stops clean)
 
 pub returns-clause-is_dropped : goal.returns-clause-is_dropped
 returns-clause-is_dropped g c = by c.in_ok-drop_next.field-0 c.in_ok-drop_next.was
@@ -59,4 +59,4 @@ returns-clause-stops g c clean =
     let state = move_view c.args.state.now in
     let k = c.drop_changes_at-changes.ensures in
     HoldsAtLosses-weaker (λ left x. left_by_drop t (c.args.index - 1) state (below_there t c.args.index state c.requires.can) (made_there t c.args.index state (changes_view c.drop_changes_at-changes.result) k.are k.made) left
-    (subst (λ changes. LossLeavesPairChanged t (c.args.index - 1) changes left) k.are x)) (c.drop_next.ensures.stops clean)
+    (subst (λ changes. LossLeavesPair t (c.args.index - 1) changes left) k.are x)) (c.drop_next.ensures.stops clean)

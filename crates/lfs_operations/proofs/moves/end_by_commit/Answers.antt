@@ -1,4 +1,4 @@
-use Rattle.lfs_operations.proofs.Common.{sym, subst, [], ◌∷◌, Delete, PutMove, AreWords, Gstate, LossLeavesCleanly, IsPairCommitted, LossLeavesPairChanged, CanCommit, on_ok_weaker}
+use Rattle.lfs_operations.proofs.Common.{sym, subst, [], ◌∷◌, Delete, PutMove, AreWords, Gstate, CleanLossLeaves, IsPairCommitted, LossLeavesPair, CanCommit, on_ok_weaker}
 use Rattle.lfs_operations.proofs.MovEnding.{can_end, end_not_refused, end_survives, has_ended}
 use Rattle.lfs_operations.proofs.moves.end_by_commit.Goals as goal
 
@@ -21,4 +21,4 @@ returns-clause-survives g c =
     let e = c.delta_without_move-state.ensures in
     let address = subst (λ (m : Gstate). AreWords m.pair) e.delta e.address in
     end_survives c.args.thread.now.kept c.args.pair c.args.id c.requires.can address c.commit_fitting.new.thread.kept.history
-    (subst (λ m. LossLeavesCleanly c.args.thread.now.kept.history c.commit_fitting.new.thread.kept.history (LossLeavesPairChanged c.args.thread.now.kept c.args.pair (Delete c.args.id ∷ PutMove m ∷ []))) e.delta c.commit_fitting.ensures.stops)
+    (subst (λ m. CleanLossLeaves c.args.thread.now.kept.history c.commit_fitting.new.thread.kept.history (LossLeavesPair c.args.thread.now.kept c.args.pair (Delete c.args.id ∷ PutMove m ∷ []))) e.delta c.commit_fitting.ensures.stops)

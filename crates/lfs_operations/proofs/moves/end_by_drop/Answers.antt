@@ -1,4 +1,4 @@
-use Rattle.lfs_operations.proofs.Common.{sym, subst, ◌-◌, on_ok_weaker, Gstate, LossLeavesCleanly, CanDropAt, IsPairDropped, LeftByDrop}
+use Rattle.lfs_operations.proofs.Common.{sym, subst, ◌-◌, on_ok_weaker, Gstate, CleanLossLeaves, CanDropAt, IsPairDropped, LeftByDrop}
 use Rattle.lfs_operations.proofs.MovEndGoes.{can_drop_moved, goes_survives, has_gone}
 use Rattle.lfs_operations.proofs.moves.end_by_drop.Goals as goal
 
@@ -15,4 +15,4 @@ returns-clause-ended g c =
 pub returns-clause-survives : goal.returns-clause-survives
 returns-clause-survives g c =
     goes_survives c.args.thread.now.kept c.args.pair c.args.id c.requires.can c.drop_pair_at.new.thread.kept.history
-    (subst (λ (s : Gstate). LossLeavesCleanly c.args.thread.now.kept.history c.drop_pair_at.new.thread.kept.history (LeftByDrop c.args.thread.now.kept (c.args.pair - 1) s)) c.settled_gstate-state.ensures c.drop_pair_at.ensures.stops)
+    (subst (λ (s : Gstate). CleanLossLeaves c.args.thread.now.kept.history c.drop_pair_at.new.thread.kept.history (LeftByDrop c.args.thread.now.kept (c.args.pair - 1) s)) c.settled_gstate-state.ensures c.drop_pair_at.ensures.stops)

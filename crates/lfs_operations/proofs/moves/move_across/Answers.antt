@@ -1,4 +1,4 @@
-use Rattle.lfs_operations.proofs.Common.{ap, sym, subst, ◌∙◌, ◌<◌, length, Err, on_ok_weaker, err_from_is_err_and, changes_view, written_at_end, IsPutEnded, SurvivesBothCommits, ReportsErrorsOfCommitsTakingBlocks, WritesTwoTwo, second_commit_pair, moving_changes, tree_across, tree_on_disk, with_blocks, HasEither, AreWords, thread_pair_at, drops_with_its_slot, subst₂, CanPutAndEnd}
+use Rattle.lfs_operations.proofs.Common.{ap, sym, subst, ◌∙◌, ◌<◌, length, Err, on_ok_weaker, err_from_is_err_and, changes_view, written_at_end, IsPutEnded, SurvivesCommits, ReportsTakingCommits, WritesPairsTwo, second_pair, moving_changes, tree_across, disk_tree, with_blocks, HasEither, AreWords, thread_pair, drops_with_its_slot, subst₂, CanPutAndEnd}
 use Rattle.lfs_device.specs.declared.error.Error.TheVariants as Error
 use Rattle.lfs_operations.proofs.MovLater.{aim, stands_across, changes_are, done_after_read, ends_after_read, survives_after_read, reports_after_read, reports_unmade, reports_unread, writes_after_read, writes_read}
 use Rattle.lfs_operations.proofs.MovPlaced.{ends_aimed, shows_aimed}
@@ -35,7 +35,7 @@ returns-in_err-copy-clause-device g c =
     let mid = c.copy_pair_slot.new.thread.kept in
     let only = c.copy_pair_slot.ensures.only in
     let to = c.args.route in
-    writes_read t mid (second_commit_pair t to.old_pair to.first) to.new_pair only
+    writes_read t mid (second_pair t to.old_pair to.first) to.new_pair only
 
 pub returns-in_err-copy-clause-survives : goal.returns-in_err-copy-clause-survives
 returns-in_err-copy-clause-survives g c rename =
@@ -63,7 +63,7 @@ returns-in_err-changes-clause-device g c =
     let mid = c.copy_pair_slot.new.thread.kept in
     let only = c.copy_pair_slot.ensures.only in
     let to = c.args.route in
-    writes_read t mid (second_commit_pair t to.old_pair to.first) to.new_pair only
+    writes_read t mid (second_pair t to.old_pair to.first) to.new_pair only
 
 pub returns-in_err-changes-clause-survives : goal.returns-in_err-changes-clause-survives
 returns-in_err-changes-clause-survives g c rename =
@@ -97,7 +97,7 @@ returns-clause-moved g c =
     let to = c.args.route in
     let are = changes_are t mid only c.args.replaces c.args.sync to.old_pair to.old_id to.new_pair to.new_id c.args.name.now (ap changes_view c.deref.ensures.value ∙ c.in_ok-changes.ensures) c.move_setting_delta-state.ensures.delta c.in_ok-copy.ensures.copied in
     record {
-      address = subst (λ k. AreWords (thread_pair_at k to.old_pair).at) (read_is t mid only) c.move_setting_delta-state.ensures.address;
+      address = subst (λ k. AreWords (thread_pair k to.old_pair).at) (read_is t mid only) c.move_setting_delta-state.ensures.address;
       done = subst (λ b. IsPutEnded t to.old_pair to.old_id b to.new_pair (moving_changes c.args.replaces c.args.sync t to.old_pair to.old_id to.new_pair to.new_id c.args.name.now) c.put_and_end.new.thread.kept) c.drops_with_slot-goes.ensures
           (done_after_read t mid only to.old_pair to.old_id c.drops_with_slot-goes.result to.new_pair (moving_changes c.args.replaces c.args.sync t to.old_pair to.old_id to.new_pair to.new_id c.args.name.now) c.put_and_end.new.thread.kept
           (subst (λ z. IsPutEnded mid to.old_pair to.old_id c.drops_with_slot-goes.result to.new_pair z c.put_and_end.new.thread.kept) are is));
@@ -113,7 +113,7 @@ returns-clause-errors g c =
     let are = changes_are t mid only c.args.replaces c.args.sync to.old_pair to.old_id to.new_pair to.new_id c.args.name.now (ap changes_view c.deref.ensures.value ∙ c.in_ok-changes.ensures) c.move_setting_delta-state.ensures.delta c.in_ok-copy.ensures.copied in
     reports_after_read c.args.thread.now c.copy_pair_slot.new.thread c.put_and_end.new.thread to.new_pair (moving_changes c.args.replaces c.args.sync t to.old_pair to.old_id to.new_pair to.new_id c.args.name.now)
     c.put_and_end.result only (c.copy_pair_slot.ensures.errors.no_fault (λ io. not_both c.copy_pair_slot.result c.in_ok-copy.copy Error.Io c.in_ok-copy.was io))
-    (subst (λ z. ReportsErrorsOfCommitsTakingBlocks c.copy_pair_slot.new.thread c.put_and_end.new.thread to.new_pair z c.put_and_end.result) are c.put_and_end.ensures.errors)
+    (subst (λ z. ReportsTakingCommits c.copy_pair_slot.new.thread c.put_and_end.new.thread to.new_pair z c.put_and_end.result) are c.put_and_end.ensures.errors)
 
 pub returns-clause-device : goal.returns-clause-device
 returns-clause-device g c =
@@ -121,7 +121,7 @@ returns-clause-device g c =
     let mid = c.copy_pair_slot.new.thread.kept in
     let only = c.copy_pair_slot.ensures.only in
     let to = c.args.route in
-    subst (λ b. WritesTwoTwo t (written_at_end to.old_pair b) to.new_pair c.put_and_end.new.thread.kept) c.drops_with_slot-goes.ensures
+    subst (λ b. WritesPairsTwo t (written_at_end to.old_pair b) to.new_pair c.put_and_end.new.thread.kept) c.drops_with_slot-goes.ensures
     (writes_after_read t mid c.put_and_end.new.thread.kept (written_at_end to.old_pair c.drops_with_slot-goes.result) to.new_pair only c.put_and_end.ensures.device)
 
 pub returns-clause-survives : goal.returns-clause-survives
@@ -134,5 +134,5 @@ returns-clause-survives g c rename =
     let at = aim t mid only c.args.replaces c.args.sync to.old_pair to.old_id to.first to.new_pair to.new_id c.args.name.now rename c.move_setting_delta-state.ensures.address in
     survives_after_read t mid only to.old_pair to.old_id c.drops_with_slot-goes.result to.new_pair (moving_changes c.args.replaces c.args.sync t to.old_pair to.old_id to.new_pair to.new_id c.args.name.now) (written_at_end to.old_pair c.drops_with_slot-goes.result) c.put_and_end.new.thread.kept
     (tree_across t c.args.replaces c.args.sync to.old_pair to.old_id to.first to.new_pair to.new_id c.args.name.now rename) c.put_and_end.ensures.device
-    (subst (λ z. SurvivesBothCommits mid to.new_pair z c.put_and_end.new.thread.kept) are c.put_and_end.ensures.survives) at.old.ready
-    (λ left l. subst (HasEither (with_blocks left t.disk) (tree_on_disk t.disk t.pairs)) at.is (left_tree at.aimed.way left l)) (λ last is. shows_aimed at.aimed last is ∙ at.is)
+    (subst (λ z. SurvivesCommits mid to.new_pair z c.put_and_end.new.thread.kept) are c.put_and_end.ensures.survives) at.old.ready
+    (λ left l. subst (HasEither (with_blocks left t.disk) (disk_tree t.disk t.pairs)) at.is (left_tree at.aimed.way left l)) (λ last is. shows_aimed at.aimed last is ∙ at.is)

@@ -1,4 +1,4 @@
-use Rattle.lfs_operations.proofs.Common.{inl, ℕ, ap, ap₂, length, sym, subst, ◌∙◌, ◌-◌, arith, Err, on_ok_weaker, err_from_is_err_and, changes_view, ChangesThreadBlocks, thread_pair_at, address_blocks, CanEndAt, HasEndedAt, written_at_end, ReportsErrorsOfCommitsTakingBlocks, number_after_insertion}
+use Rattle.lfs_operations.proofs.Common.{inl, ℕ, ap, ap₂, length, sym, subst, ◌∙◌, ◌-◌, arith, Err, on_ok_weaker, err_from_is_err_and, changes_view, ChangesThreadBlocks, thread_pair, address_blocks, CanEndAt, HasEndedAt, written_at_end, ReportsTakingCommits, number_after_insertion}
 use Rattle.lfs_operations.proofs.MovReporting.{not_io, survives_both, reports_of_end, writes_at_end, writes_first}
 use Rattle.lfs_operations.proofs.OntoWritten.{end_within, put_within}
 use Rattle.lfs_operations.proofs.moves.put_and_end.Goals as goal
@@ -7,7 +7,7 @@ pub returns-in_err-change_or_split-clause-errors : goal.returns-in_err-change_or
 returns-in_err-change_or_split-clause-errors g c =
     let p = err_from_is_err_and c.from_residual.result c.from_residual.ensures.1 in
     let e = c.change_or_split.ensures.errors in
-    subst (λ r. ReportsErrorsOfCommitsTakingBlocks c.args.thread.now c.change_or_split.new.thread c.args.route.new_pair (changes_view c.args.changes.now) r) (c.in_err-change_or_split.was ∙ ap Err (sym p.2) ∙ sym p.1)
+    subst (λ r. ReportsTakingCommits c.args.thread.now c.change_or_split.new.thread c.args.route.new_pair (changes_view c.args.changes.now) r) (c.in_err-change_or_split.was ∙ ap Err (sym p.2) ∙ sym p.1)
     (record {
       failed = inl e.reports.failed;
       errors = e.reports.reports.errors;
@@ -54,7 +54,7 @@ returns-clause-done g c =
       ended = ended;
       blocks = end_within c.args.thread.now.kept mid new (number_after_insertion c.args.route.old_pair c.args.route.new_pair (length mid.pairs - length c.args.thread.now.kept.pairs)) c.args.route.old_id c.args.goes
           (put_within c.args.thread.now.kept mid c.args.route.new_pair (changes_view c.args.changes.now) c.requires.can.turns.can.below c.in_ok-change_or_split.ensures.is_put c.change_or_split.ensures.device) ends.can.below ended
-          (subst (λ (i : ℕ). ChangesThreadBlocks (address_blocks (thread_pair_at mid (written_at_end i c.args.goes)).at) mid new) index c.end_move.ensures.device);
+          (subst (λ (i : ℕ). ChangesThreadBlocks (address_blocks (thread_pair mid (written_at_end i c.args.goes)).at) mid new) index c.end_move.ensures.device);
     })
     c.end_move.ensures.ended
 
@@ -68,7 +68,7 @@ returns-clause-device g c =
     let index = c.number_after_inserted-pair.ensures ∙ ap₂ (λ m n. number_after_insertion c.args.route.old_pair c.args.route.new_pair (m - n)) c.len.ensures c.len-before.ensures in
     writes_at_end c.args.thread.now.kept c.change_or_split.new.thread.kept c.end_move.new.thread.kept c.args.route.old_pair c.args.route.old_id c.args.goes c.args.route.new_pair (changes_view c.args.changes.now) c.in_ok-change_or_split.ensures.is_put c.requires.can.turns.can.below
     (c.requires.can.ends c.change_or_split.new.thread.kept c.in_ok-change_or_split.ensures.is_put) c.change_or_split.ensures.device
-    (subst (λ (i : ℕ). ChangesThreadBlocks (address_blocks (thread_pair_at c.change_or_split.new.thread.kept (written_at_end i c.args.goes)).at) c.change_or_split.new.thread.kept c.end_move.new.thread.kept) index c.end_move.ensures.device)
+    (subst (λ (i : ℕ). ChangesThreadBlocks (address_blocks (thread_pair c.change_or_split.new.thread.kept (written_at_end i c.args.goes)).at) c.change_or_split.new.thread.kept c.end_move.new.thread.kept) index c.end_move.ensures.device)
 
 pub returns-clause-survives : goal.returns-clause-survives
 returns-clause-survives g c =

@@ -1,4 +1,4 @@
-use Rattle.lfs_operations.proofs.Common.{ap, sym, subst, ◌∙◌, ◌≡◌, ◌∷◌, [], false, Some, Ok, Err, err_from_is_err_and, PutMove, PutTail, Gstate, array_address, with_sync_inverted, is_err, CanThreadIn, IsThreadedIn, complete_after, thread_pair_at, address_blocks, Outcome, move_view, threading_changes}
+use Rattle.lfs_operations.proofs.Common.{ap, sym, subst, ◌∙◌, ◌≡◌, ◌∷◌, [], false, Some, Ok, Err, err_from_is_err_and, PutMove, PutTail, Gstate, array_address, with_sync_inverted, is_err, CanThreadIn, IsThreadedIn, complete_after, thread_pair, address_blocks, Outcome, move_view, threading_changes}
 use Rattle.lfs_pair.specs.declared.commits.Outcome.TheVariants as outcome
 use Rattle.lfs_operations.proofs.MakingReported.{reported_again}
 use Rattle.lfs_operations.proofs.new_directories.link_pair_after.Goals as goal
@@ -19,7 +19,7 @@ returns-in_err-thread_in-clause-errors g c =
 pub returns-clause-is_joined : goal.returns-clause-is_joined
 returns-clause-is_joined g c = by c.in_ok-thread_in.field-0 c.in_ok-thread_in.was
   where
-    delta : move_view c.turned_sync_delta.result ≡ with_sync_inverted (thread_pair_at c.args.thread.now.kept c.args.last).content.move
+    delta : move_view c.turned_sync_delta.result ≡ with_sync_inverted (thread_pair c.args.thread.now.kept c.args.last).content.move
     delta = c.turned_sync_delta.ensures ∙ ap with_sync_inverted c.delta.ensures
 
     by : (o : Outcome) → c.thread_in.result ≡ Ok o → IsThreadedIn c.args.thread.now.kept c.args.last (array_address c.args.fresh) (threading_changes c.args.thread.now.kept c.args.last (array_address c.args.fresh)) c.thread_in.new.self.kept

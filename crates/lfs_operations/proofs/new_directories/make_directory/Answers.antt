@@ -1,4 +1,4 @@
-use Rattle.lfs_operations.proofs.Common.{CanLink, ap, sym, subst, ◌∙◌, arith, Err, on_ok_weaker, err_from_is_err_and, Disk, HasEither, array_address, tree_on_disk, LossLeavesCleanly, ThreadView, IoMeantFaultNoMemoryKeptOtherBlocks, IsThreadedIn, LossLeavesThreadedIn, ChangesThreadBlocks, thread_pair_at, address_blocks, addresses_blocks, map_taking_two, ReportsErrorsOfMakingDirectory, threading_changes, tree_with_directory}
+use Rattle.lfs_operations.proofs.Common.{CanLink, ap, sym, subst, ◌∙◌, arith, Err, on_ok_weaker, err_from_is_err_and, Disk, HasEither, array_address, disk_tree, CleanLossLeaves, ThreadView, ThreadReportsKeepingOthers, IsThreadedIn, LossLeavesThreaded, ChangesThreadBlocks, thread_pair, address_blocks, addresses_blocks, map_taking_two, ReportsMaking, threading_changes, tree_with_directory}
 use Rattle.lfs_device.specs.declared.error.Error.TheVariants as Error
 use Rattle.lfs_operations.proofs.MakingCounts.{no_room}
 use Rattle.lfs_operations.proofs.MakingReported.{reports_first, reports_second}
@@ -31,14 +31,14 @@ link_pair_after-requires-clause-can g c =
 pub returns-in_err-link_pair_after-clause-errors : goal.returns-in_err-link_pair_after-clause-errors
 returns-in_err-link_pair_after-clause-errors g c =
     let p = err_from_is_err_and c.from_residual.result c.from_residual.ensures.1 in
-    subst (λ r. ReportsErrorsOfMakingDirectory c.args.thread.now c.link_pair_after.new.thread r) (c.in_err-link_pair_after.was ∙ ap Err (sym p.2) ∙ sym p.1)
+    subst (λ r. ReportsMaking c.args.thread.now c.link_pair_after.new.thread r) (c.in_err-link_pair_after.was ∙ ap Err (sym p.2) ∙ sym p.1)
     (reports_first c.args.thread.now c.link_pair_after.new.thread (map_taking_two c.args.thread.now.kept.map (array_address c.in-Some.fresh)) (address_blocks (array_address c.in-Some.fresh)) c.link_pair_after.result c.link_pair_after.ensures.errors.failed
-    (subst (λ (s : ThreadView). IoMeantFaultNoMemoryKeptOtherBlocks (address_blocks (array_address c.in-Some.fresh)) s.kept c.link_pair_after.new.thread.kept c.link_pair_after.result) c.in-Some.ensures.taken c.link_pair_after.ensures.errors.reported))
+    (subst (λ (s : ThreadView). ThreadReportsKeepingOthers (address_blocks (array_address c.in-Some.fresh)) s.kept c.link_pair_after.new.thread.kept c.link_pair_after.result) c.in-Some.ensures.taken c.link_pair_after.ensures.errors.reported))
 
 pub returns-in_err-link_pair_after-clause-device : goal.returns-in_err-link_pair_after-clause-device
 returns-in_err-link_pair_after-clause-device g c =
     writes_first c.args.thread.now.kept c.args.pair c.last_directory_pair-last.result c.last_directory_pair-last.ensures (array_address c.in-Some.fresh) c.in-Some.ensures.were_free c.link_pair_after.new.thread.kept
-    (subst (λ (s : ThreadView). ChangesThreadBlocks (addresses_blocks (thread_pair_at s.kept c.last_directory_pair-last.result).at (array_address c.in-Some.fresh)) s.kept c.link_pair_after.new.thread.kept) c.in-Some.ensures.taken c.link_pair_after.ensures.device)
+    (subst (λ (s : ThreadView). ChangesThreadBlocks (addresses_blocks (thread_pair s.kept c.last_directory_pair-last.result).at (array_address c.in-Some.fresh)) s.kept c.link_pair_after.new.thread.kept) c.in-Some.ensures.taken c.link_pair_after.ensures.device)
 
 pub returns-in_err-link_pair_after-clause-survives : goal.returns-in_err-link_pair_after-clause-survives
 returns-in_err-link_pair_after-clause-survives g c can =
@@ -47,7 +47,7 @@ returns-in_err-link_pair_after-clause-survives g c can =
     let fresh = array_address c.in-Some.fresh in
     survives_step t.disk
     (left_by_threading t c.args.pair c.args.id c.args.name.now can last c.last_directory_pair-last.ensures fresh c.in-Some.ensures.were_free c.lemma_device_facts.ensures.bytes c.lemma_device_facts.ensures.count)
-    (subst (λ (s : ThreadView). LossLeavesCleanly s.kept.history c.link_pair_after.new.thread.kept.history (LossLeavesThreadedIn s.kept last fresh (threading_changes s.kept last fresh))) c.in-Some.ensures.taken c.link_pair_after.ensures.stops)
+    (subst (λ (s : ThreadView). CleanLossLeaves s.kept.history c.link_pair_after.new.thread.kept.history (LossLeavesThreaded s.kept last fresh (threading_changes s.kept last fresh))) c.in-Some.ensures.taken c.link_pair_after.ensures.stops)
 
 pub put_new_entry-requires-clause-can : goal.put_new_entry-requires-clause-can
 put_new_entry-requires-clause-can g c =
@@ -58,7 +58,7 @@ put_new_entry-requires-clause-can g c =
     can_enter t c.args.pair c.args.id c.args.name.now c.requires.can last c.last_directory_pair-last.ensures fresh c.in-Some.ensures.were_free c.lemma_device_facts.ensures.bytes c.lemma_device_facts.ensures.count m
     (threaded_now t c.args.pair c.args.id c.args.name.now c.requires.can last c.last_directory_pair-last.ensures fresh c.in-Some.ensures.were_free c.lemma_device_facts.ensures.bytes c.lemma_device_facts.ensures.count m
     (subst (λ (s : ThreadView). IsThreadedIn s.kept last fresh (threading_changes s.kept last fresh) m) c.in-Some.ensures.taken c.in_ok-link_pair_after.ensures.is_joined)
-    (subst (λ (s : ThreadView). ChangesThreadBlocks (addresses_blocks (thread_pair_at s.kept last).at fresh) s.kept m) c.in-Some.ensures.taken c.link_pair_after.ensures.device))
+    (subst (λ (s : ThreadView). ChangesThreadBlocks (addresses_blocks (thread_pair s.kept last).at fresh) s.kept m) c.in-Some.ensures.taken c.link_pair_after.ensures.device))
     c.lemma_device_facts-2.ensures.bytes
 
 pub returns-clause-made : goal.returns-clause-made
@@ -68,7 +68,7 @@ returns-clause-made g c =
     let m = c.link_pair_after.new.thread.kept in
     let last = c.last_directory_pair-last.result in
     let fresh = array_address c.in-Some.fresh in
-    let writes = subst (λ (s : ThreadView). ChangesThreadBlocks (addresses_blocks (thread_pair_at s.kept last).at fresh) s.kept m) c.in-Some.ensures.taken c.link_pair_after.ensures.device in
+    let writes = subst (λ (s : ThreadView). ChangesThreadBlocks (addresses_blocks (thread_pair s.kept last).at fresh) s.kept m) c.in-Some.ensures.taken c.link_pair_after.ensures.device in
     let h = threaded_now t c.args.pair c.args.id c.args.name.now can last c.last_directory_pair-last.ensures fresh c.in-Some.ensures.were_free c.lemma_device_facts.ensures.bytes c.lemma_device_facts.ensures.count m
     (subst (λ (s : ThreadView). IsThreadedIn s.kept last fresh (threading_changes s.kept last fresh) m) c.in-Some.ensures.taken c.in_ok-link_pair_after.ensures.is_joined) writes in
     made_is t c.args.pair c.args.id c.args.name.now can last c.last_directory_pair-last.ensures fresh c.in-Some.ensures.were_free c.lemma_device_facts.ensures.bytes c.lemma_device_facts.ensures.count m h c.lemma_device_facts-2.ensures.bytes
@@ -82,7 +82,7 @@ returns-clause-alters g c =
     let m = c.link_pair_after.new.thread.kept in
     let last = c.last_directory_pair-last.result in
     let fresh = array_address c.in-Some.fresh in
-    let writes = subst (λ (s : ThreadView). ChangesThreadBlocks (addresses_blocks (thread_pair_at s.kept last).at fresh) s.kept m) c.in-Some.ensures.taken c.link_pair_after.ensures.device in
+    let writes = subst (λ (s : ThreadView). ChangesThreadBlocks (addresses_blocks (thread_pair s.kept last).at fresh) s.kept m) c.in-Some.ensures.taken c.link_pair_after.ensures.device in
     let h = threaded_now t c.args.pair c.args.id c.args.name.now c.requires.can last c.last_directory_pair-last.ensures fresh c.in-Some.ensures.were_free c.lemma_device_facts.ensures.bytes c.lemma_device_facts.ensures.count m
     (subst (λ (s : ThreadView). IsThreadedIn s.kept last fresh (threading_changes s.kept last fresh) m) c.in-Some.ensures.taken c.in_ok-link_pair_after.ensures.is_joined) writes in
     made_alters t c.args.pair c.args.id c.args.name.now c.requires.can last c.last_directory_pair-last.ensures fresh c.in-Some.ensures.were_free c.lemma_device_facts.ensures.bytes c.lemma_device_facts.ensures.count m h c.lemma_device_facts-2.ensures.bytes
@@ -95,7 +95,7 @@ returns-clause-device g c =
     let m = c.link_pair_after.new.thread.kept in
     let last = c.last_directory_pair-last.result in
     let fresh = array_address c.in-Some.fresh in
-    let writes = subst (λ (s : ThreadView). ChangesThreadBlocks (addresses_blocks (thread_pair_at s.kept last).at fresh) s.kept m) c.in-Some.ensures.taken c.link_pair_after.ensures.device in
+    let writes = subst (λ (s : ThreadView). ChangesThreadBlocks (addresses_blocks (thread_pair s.kept last).at fresh) s.kept m) c.in-Some.ensures.taken c.link_pair_after.ensures.device in
     let h = threaded_now t c.args.pair c.args.id c.args.name.now c.requires.can last c.last_directory_pair-last.ensures fresh c.in-Some.ensures.were_free c.lemma_device_facts.ensures.bytes c.lemma_device_facts.ensures.count m
     (subst (λ (s : ThreadView). IsThreadedIn s.kept last fresh (threading_changes s.kept last fresh) m) c.in-Some.ensures.taken c.in_ok-link_pair_after.ensures.is_joined) writes in
     writes_both t c.args.pair last c.last_directory_pair-last.ensures fresh c.in-Some.ensures.were_free m c.put_new_entry.new.thread.kept writes h.map
@@ -108,16 +108,16 @@ returns-clause-survives g c can =
     let m = c.link_pair_after.new.thread.kept in
     let last = c.last_directory_pair-last.result in
     let fresh = array_address c.in-Some.fresh in
-    let writes = subst (λ (s : ThreadView). ChangesThreadBlocks (addresses_blocks (thread_pair_at s.kept last).at fresh) s.kept m) c.in-Some.ensures.taken c.link_pair_after.ensures.device in
+    let writes = subst (λ (s : ThreadView). ChangesThreadBlocks (addresses_blocks (thread_pair s.kept last).at fresh) s.kept m) c.in-Some.ensures.taken c.link_pair_after.ensures.device in
     let h = threaded_now t c.args.pair c.args.id c.args.name.now can last c.last_directory_pair-last.ensures fresh c.in-Some.ensures.were_free c.lemma_device_facts.ensures.bytes c.lemma_device_facts.ensures.count m
     (subst (λ (s : ThreadView). IsThreadedIn s.kept last fresh (threading_changes s.kept last fresh) m) c.in-Some.ensures.taken c.in_ok-link_pair_after.ensures.is_joined) writes in
     let new = c.put_new_entry.new.thread.kept in
-    let before = tree_on_disk t.disk t.pairs in
+    let before = disk_tree t.disk t.pairs in
     let after = tree_with_directory t can.path c.args.name.now in
     survives_both t c.args.pair last c.last_directory_pair-last.ensures fresh c.in-Some.ensures.were_free m new before after writes c.put_new_entry.ensures.device
     (survives_step t.disk
     (left_by_threading t c.args.pair c.args.id c.args.name.now can last c.last_directory_pair-last.ensures fresh c.in-Some.ensures.were_free c.lemma_device_facts.ensures.bytes c.lemma_device_facts.ensures.count)
-    (subst (λ (s : ThreadView). LossLeavesCleanly s.kept.history m.history (LossLeavesThreadedIn s.kept last fresh (threading_changes s.kept last fresh))) c.in-Some.ensures.taken c.link_pair_after.ensures.stops))
+    (subst (λ (s : ThreadView). CleanLossLeaves s.kept.history m.history (LossLeavesThreaded s.kept last fresh (threading_changes s.kept last fresh))) c.in-Some.ensures.taken c.link_pair_after.ensures.stops))
     (survives_step t.disk
     (left_by_entering t c.args.pair c.args.id c.args.name.now can last c.last_directory_pair-last.ensures fresh c.in-Some.ensures.were_free c.lemma_device_facts.ensures.bytes c.lemma_device_facts.ensures.count m h c.lemma_device_facts-2.ensures.bytes)
     c.put_new_entry.ensures.stops)
@@ -132,9 +132,9 @@ returns-in_err-link_pair_after-clause-stands g c memory can =
     let last = c.last_directory_pair-last.result in
     let fresh = array_address c.in-Some.fresh in
     let p = err_from_is_err_and c.from_residual.result c.from_residual.ensures.1 in
-    let reported = subst (λ (s : ThreadView). IoMeantFaultNoMemoryKeptOtherBlocks (address_blocks fresh) s.kept new c.link_pair_after.result) c.in-Some.ensures.taken c.link_pair_after.ensures.errors.reported in
+    let reported = subst (λ (s : ThreadView). ThreadReportsKeepingOthers (address_blocks fresh) s.kept new c.link_pair_after.result) c.in-Some.ensures.taken c.link_pair_after.ensures.errors.reported in
     left_unthreaded t c.args.pair c.args.id c.args.name.now can last c.last_directory_pair-last.ensures fresh c.in-Some.ensures.were_free c.lemma_device_facts.ensures.bytes c.lemma_device_facts.ensures.count new
-    (subst (λ (s : ThreadView). ChangesThreadBlocks (addresses_blocks (thread_pair_at s.kept last).at fresh) s.kept new) c.in-Some.ensures.taken c.link_pair_after.ensures.device)
+    (subst (λ (s : ThreadView). ChangesThreadBlocks (addresses_blocks (thread_pair s.kept last).at fresh) s.kept new) c.in-Some.ensures.taken c.link_pair_after.ensures.device)
     (reported.beside (c.in_err-link_pair_after.was ∙ ap Err (sym p.2) ∙ sym p.1 ∙ memory))
 
 pub returns-clause-errors : goal.returns-clause-errors
@@ -145,8 +145,8 @@ returns-clause-errors g c =
     let fresh = array_address c.in-Some.fresh in
     let h = threaded_now t c.args.pair c.args.id c.args.name.now c.requires.can last c.last_directory_pair-last.ensures fresh c.in-Some.ensures.were_free c.lemma_device_facts.ensures.bytes c.lemma_device_facts.ensures.count m
     (subst (λ (s : ThreadView). IsThreadedIn s.kept last fresh (threading_changes s.kept last fresh) m) c.in-Some.ensures.taken c.in_ok-link_pair_after.ensures.is_joined)
-    (subst (λ (s : ThreadView). ChangesThreadBlocks (addresses_blocks (thread_pair_at s.kept last).at fresh) s.kept m) c.in-Some.ensures.taken c.link_pair_after.ensures.device) in
-    let reported = subst (λ (s : ThreadView). IoMeantFaultNoMemoryKeptOtherBlocks (address_blocks fresh) s.kept m c.link_pair_after.result) c.in-Some.ensures.taken c.link_pair_after.ensures.errors.reported in
+    (subst (λ (s : ThreadView). ChangesThreadBlocks (addresses_blocks (thread_pair s.kept last).at fresh) s.kept m) c.in-Some.ensures.taken c.link_pair_after.ensures.device) in
+    let reported = subst (λ (s : ThreadView). ThreadReportsKeepingOthers (address_blocks fresh) s.kept m c.link_pair_after.result) c.in-Some.ensures.taken c.link_pair_after.ensures.errors.reported in
     reports_second c.args.thread.now c.link_pair_after.new.thread c.put_new_entry.new.thread c.put_new_entry.result
     (reported.no_fault (λ io. not_both c.link_pair_after.result c.in_ok-link_pair_after.field-0 Error.Io c.in_ok-link_pair_after.was io))
     (λ none. room_left t c.args.pair c.args.id c.args.name.now c.requires.can last c.last_directory_pair-last.ensures fresh c.in-Some.ensures.were_free c.lemma_device_facts.ensures.bytes c.lemma_device_facts.ensures.count m h
@@ -161,7 +161,7 @@ returns-clause-stands g c memory can =
     let fresh = array_address c.in-Some.fresh in
     let h = threaded_now t c.args.pair c.args.id c.args.name.now can last c.last_directory_pair-last.ensures fresh c.in-Some.ensures.were_free c.lemma_device_facts.ensures.bytes c.lemma_device_facts.ensures.count m
     (subst (λ (s : ThreadView). IsThreadedIn s.kept last fresh (threading_changes s.kept last fresh) m) c.in-Some.ensures.taken c.in_ok-link_pair_after.ensures.is_joined)
-    (subst (λ (s : ThreadView). ChangesThreadBlocks (addresses_blocks (thread_pair_at s.kept last).at fresh) s.kept m) c.in-Some.ensures.taken c.link_pair_after.ensures.device) in
+    (subst (λ (s : ThreadView). ChangesThreadBlocks (addresses_blocks (thread_pair s.kept last).at fresh) s.kept m) c.in-Some.ensures.taken c.link_pair_after.ensures.device) in
     let same = (c.put_new_entry.ensures.errors.reports.reports.unwritten memory).disk in
-    subst (λ (d : Disk). HasEither d (tree_on_disk t.disk t.pairs) (tree_with_directory t can.path c.args.name.now)) (sym same)
+    subst (λ (d : Disk). HasEither d (disk_tree t.disk t.pairs) (tree_with_directory t can.path c.args.name.now)) (sym same)
     (left_between t c.args.pair c.args.id c.args.name.now can last c.last_directory_pair-last.ensures fresh c.in-Some.ensures.were_free c.lemma_device_facts.ensures.bytes c.lemma_device_facts.ensures.count m h c.lemma_device_facts-2.ensures.bytes)

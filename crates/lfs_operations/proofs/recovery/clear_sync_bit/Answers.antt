@@ -1,4 +1,4 @@
-use Rattle.lfs_operations.proofs.Common.{◌≡◌, ◌+◌, ◌-◌, ap, sym, subst, ◌∙◌, length, arith, Some, on_ok_weaker, Gstate, LossLeavesCleanly, IsPairCommitted, LossLeavesPairChanged, complete_after, blocks_of_pairs, gstate_changes, content_reaching_gstate}
+use Rattle.lfs_operations.proofs.Common.{◌≡◌, ◌+◌, ◌-◌, ap, sym, subst, ◌∙◌, length, arith, Some, on_ok_weaker, Gstate, CleanLossLeaves, IsPairCommitted, LossLeavesPair, complete_after, pairs_blocks, gstate_changes, content_reaching_gstate}
 use Rattle.lfs_operations.proofs.RecoverEnd.{clear_survives, cleared, cleared_already, enough}
 use Rattle.lfs_operations.proofs.RecoverWrites.{two_fewer, writes_fewer, writes_none}
 use Rattle.lfs_operations.proofs.recovery.clear_sync_bit.Goals as goal
@@ -19,7 +19,7 @@ returns-then-state-clause-survives g c =
     let is : last + 1 ≡ length t.pairs = let e = enough t c.requires.can in let l = c.len-last.ensures in omega arith in
     clear_survives t c.requires.can last is c.set_gstate_in.new.thread.kept.history
     (subst (λ (x : Gstate). complete_after t last (gstate_changes t last x) ≡ Some (content_reaching_gstate t last x)) c.none.ensures c.set_gstate_in.ensures.made)
-    (subst (λ (x : Gstate). LossLeavesCleanly t.history c.set_gstate_in.new.thread.kept.history (LossLeavesPairChanged t last (gstate_changes t last x))) c.none.ensures c.set_gstate_in.ensures.stops)
+    (subst (λ (x : Gstate). CleanLossLeaves t.history c.set_gstate_in.new.thread.kept.history (LossLeavesPair t last (gstate_changes t last x))) c.none.ensures c.set_gstate_in.ensures.stops)
 
 pub returns-else-state-clause-is_cleared : goal.returns-else-state-clause-is_cleared
 returns-else-state-clause-is_cleared g c = cleared_already c.args.thread.now.kept c.requires.can (ap (λ (x : Gstate). x.sync) (sym c.state.ensures) ∙ c.if-state.false)
@@ -28,10 +28,10 @@ pub returns-then-state-clause-device : goal.returns-then-state-clause-device
 returns-then-state-clause-device g c =
     let t = c.args.thread.now.kept in
     let is : c.len-last.result - 1 + 1 ≡ length t.pairs = let e = enough t c.requires.can in let l = c.len-last.ensures in omega arith in
-    writes_fewer _ (blocks_of_pairs t.pairs) (two_fewer t.pairs (c.len-last.result - 1) (omega arith)) c.set_gstate_in.ensures.device
+    writes_fewer _ (pairs_blocks t.pairs) (two_fewer t.pairs (c.len-last.result - 1) (omega arith)) c.set_gstate_in.ensures.device
 
 pub returns-else-state-clause-device : goal.returns-else-state-clause-device
-returns-else-state-clause-device g c = writes_none (blocks_of_pairs c.args.thread.now.kept.pairs) c.args.thread.now.kept
+returns-else-state-clause-device g c = writes_none (pairs_blocks c.args.thread.now.kept.pairs) c.args.thread.now.kept
 
 pub returns-then-state-clause-nothing : goal.returns-then-state-clause-nothing
 returns-then-state-clause-nothing g c none = absurd (let e = sym c.if-state.true ∙ ap (λ (x : Gstate). x.sync) (c.state.ensures ∙ none) in cc)

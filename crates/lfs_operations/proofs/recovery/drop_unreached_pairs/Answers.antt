@@ -1,4 +1,4 @@
-use Rattle.lfs_operations.proofs.Common.{suc, ◌≡◌, ◌+◌, ◌-◌, ap, sym, subst, ◌∙◌, drop, length, arith, refl, Err, on_ok_weaker, err_from_is_err_and, blocks_of_pairs, pairs_gstate, KeptThread, slice_index_or, move_view}
+use Rattle.lfs_operations.proofs.Common.{suc, ◌≡◌, ◌+◌, ◌-◌, ap, sym, subst, ◌∙◌, drop, length, arith, refl, Err, on_ok_weaker, err_from_is_err_and, pairs_blocks, pairs_gstate, KeptThread, slice_index_or, move_view}
 use Rattle.lfs_operations.proofs.RecoverEnd.{can_end, end_survives, ends, none_reported, reports_steps}
 use Rattle.lfs_operations.proofs.RecoverUnderWay.{IsUnderWay, begins, can_take, drop_all, indexes, moves_on, next_at, stays_by, survives_on, wanted, way_at, writes_on}
 use Rattle.lfs_operations.proofs.RecoverWrites.{writes_fewer}
@@ -92,7 +92,7 @@ clear_sync_bit-requires-clause-can g c =
     (subst (IsUnderWay c.args.thread.now.kept c.loop-dropped.thread.kept c.loop-dropped.dropped) (drop_all c.loop-dropped.dropped c.args.unreached.now (omega (arith, past))) c.loop-dropped.invariant.way)
 
 pub returns-clause-device : goal.returns-clause-device
-returns-clause-device g c = writes_trans c.loop-dropped.invariant.way.writes (writes_fewer _ (blocks_of_pairs c.args.thread.now.kept.pairs) c.loop-dropped.invariant.way.fewer c.clear_sync_bit.ensures.device)
+returns-clause-device g c = writes_trans c.loop-dropped.invariant.way.writes (writes_fewer _ (pairs_blocks c.args.thread.now.kept.pairs) c.loop-dropped.invariant.way.fewer c.clear_sync_bit.ensures.device)
 
 pub returns-clause-recovered : goal.returns-clause-recovered
 returns-clause-recovered g c =
@@ -101,7 +101,7 @@ returns-clause-recovered g c =
     ends c.args.thread.now.kept c.loop-dropped.thread.kept c.loop-dropped.dropped
     (subst (IsUnderWay c.args.thread.now.kept c.loop-dropped.thread.kept c.loop-dropped.dropped) (drop_all c.loop-dropped.dropped c.args.unreached.now (omega (arith, past))) c.loop-dropped.invariant.way)
     c.requires.can.writable c.requires.can.large c.clear_sync_bit.new.thread.kept c.args.unreached.now c.requires.can.reported
-    (writes_trans c.loop-dropped.invariant.way.writes (writes_fewer _ (blocks_of_pairs c.args.thread.now.kept.pairs) c.loop-dropped.invariant.way.fewer c.clear_sync_bit.ensures.device)) (stays_by _ c.loop-dropped.thread.kept c.clear_sync_bit.new.thread.kept c.clear_sync_bit.ensures.device) is)
+    (writes_trans c.loop-dropped.invariant.way.writes (writes_fewer _ (pairs_blocks c.args.thread.now.kept.pairs) c.loop-dropped.invariant.way.fewer c.clear_sync_bit.ensures.device)) (stays_by _ c.loop-dropped.thread.kept c.clear_sync_bit.new.thread.kept c.clear_sync_bit.ensures.device) is)
     c.clear_sync_bit.ensures.is_cleared
 
 pub returns-clause-survives : goal.returns-clause-survives

@@ -1,4 +1,4 @@
-use Rattle.lfs_operations.proofs.Common.{sym, subst, ◌∙◌, ◌-◌, Gstate, zero_gstate, LossLeavesCleanly, CanDropAt, IsPairDropped, LeftByDrop, on_ok_weaker}
+use Rattle.lfs_operations.proofs.Common.{sym, subst, ◌∙◌, ◌-◌, Gstate, zero_gstate, CleanLossLeaves, CanDropAt, IsPairDropped, LeftByDrop, on_ok_weaker}
 use Rattle.lfs_operations.proofs.Removed.{can_delete, gone, not_refused, remove_survives}
 use Rattle.lfs_operations.proofs.Altered.{drop_alters}
 use Rattle.lfs_operations.proofs.RemovedWhole.{below_whole, can_drop_file, gone_whole, whole_survives}
@@ -21,7 +21,7 @@ returns-then-drops_with_slot-clause-alters g c = on_ok_weaker c.drop_pair_at.res
 pub returns-then-drops_with_slot-clause-survives : goal.returns-then-drops_with_slot-clause-survives
 returns-then-drops_with_slot-clause-survives g c take =
     whole_survives c.args.thread.now.kept c.args.pair c.args.id c.args.first take.can take.begins (sym c.drops_with_slot.ensures ∙ c.if-drops_with_slot.true) take.file c.drop_pair_at.new.thread.kept.history
-    (subst (λ (s : Gstate). LossLeavesCleanly c.args.thread.now.kept.history c.drop_pair_at.new.thread.kept.history (LeftByDrop c.args.thread.now.kept (c.args.pair - 1) s)) c.none.ensures c.drop_pair_at.ensures.stops)
+    (subst (λ (s : Gstate). CleanLossLeaves c.args.thread.now.kept.history c.drop_pair_at.new.thread.kept.history (LeftByDrop c.args.thread.now.kept (c.args.pair - 1) s)) c.none.ensures c.drop_pair_at.ensures.stops)
 
 pub commit_fitting-requires-clause-can : goal.commit_fitting-requires-clause-can
 commit_fitting-requires-clause-can g c = record { can = can_delete c.args.thread.now.kept c.args.pair c.args.id c.args.first c.requires.can (sym c.drops_with_slot.ensures ∙ c.if-drops_with_slot.false); fits = not_refused c.args.thread.now.kept c.args.pair c.args.id c.args.first c.requires.can (sym c.drops_with_slot.ensures ∙ c.if-drops_with_slot.false) }

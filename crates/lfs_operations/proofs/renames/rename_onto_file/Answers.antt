@@ -1,4 +1,4 @@
-use Rattle.lfs_operations.proofs.Common.{ap, sym, subst, ◌∙◌, ◌∷◌, Err, on_ok_weaker, err_from_is_err_and, Delete, changes_view, LossLeavesCleanly, CanTurn, LeftByTurn, IsTurned, ReportsErrorsOfChangeOrSplit, id_after_removal, onto_changes, tree_renamed, slot_changes}
+use Rattle.lfs_operations.proofs.Common.{ap, sym, subst, ◌∙◌, ◌∷◌, Err, on_ok_weaker, err_from_is_err_and, Delete, changes_view, CleanLossLeaves, CanPut, LeftByPut, ArePut, ReportsPut, id_after_removal, onto_changes, tree_renamed, slot_changes}
 use Rattle.lfs_device.specs.declared.error.Error.TheVariants as Error
 use Rattle.lfs_operations.proofs.Putting.{not_both}
 use Rattle.lfs_operations.proofs.RenameRead.{can_after_read, moves_after_read, moves_unread, put_after_read, read_survives, read_writes, stops_after_read, writes_after_read}
@@ -31,7 +31,7 @@ returns-in_err-changes-clause-survives g c rename =
 pub change_or_split-requires-clause-can : goal.change_or_split-requires-clause-can
 change_or_split-requires-clause-can g c =
     let are = ap changes_view c.deref.ensures.value ∙ c.in_ok-changes.ensures ∙ ap (λ z. Delete c.args.id ∷ Delete (id_after_removal c.args.id c.args.place) ∷ slot_changes (id_after_removal c.args.id c.args.place) c.args.name.now z) c.in_ok-copy.ensures.copied in
-    subst (CanTurn c.copy_pair_slot.new.thread.kept c.args.pair) (sym are)
+    subst (CanPut c.copy_pair_slot.new.thread.kept c.args.pair) (sym are)
     (can_after_read c.args.thread.now.kept c.copy_pair_slot.new.thread.kept c.args.pair (onto_changes c.args.thread.now.kept c.args.pair c.args.id c.args.place c.args.name.now) c.copy_pair_slot.ensures.only
     (can_put_replaced c.args.thread.now.kept c.args.pair c.args.id c.args.place c.args.name.now c.requires.can))
 
@@ -41,7 +41,7 @@ returns-clause-renamed g c =
     let are = ap changes_view c.deref.ensures.value ∙ c.in_ok-changes.ensures ∙ ap (λ z. Delete c.args.id ∷ Delete (id_after_removal c.args.id c.args.place) ∷ slot_changes (id_after_removal c.args.id c.args.place) c.args.name.now z) c.in_ok-copy.ensures.copied in
     renamed_onto c.args.thread.now.kept c.args.pair c.args.id c.args.place c.args.name.now rename c.change_or_split.new.thread.kept
     (put_after_read c.args.thread.now.kept c.copy_pair_slot.new.thread.kept c.change_or_split.new.thread.kept c.args.pair (onto_changes c.args.thread.now.kept c.args.pair c.args.id c.args.place c.args.name.now) c.copy_pair_slot.ensures.only
-    (subst (λ z. IsTurned c.copy_pair_slot.new.thread.kept c.args.pair z c.change_or_split.new.thread.kept) are is)))
+    (subst (λ z. ArePut c.copy_pair_slot.new.thread.kept c.args.pair z c.change_or_split.new.thread.kept) are is)))
     c.change_or_split.ensures.is_put
 
 pub returns-clause-errors : goal.returns-clause-errors
@@ -49,7 +49,7 @@ returns-clause-errors g c =
     let are = ap changes_view c.deref.ensures.value ∙ c.in_ok-changes.ensures ∙ ap (λ z. Delete c.args.id ∷ Delete (id_after_removal c.args.id c.args.place) ∷ slot_changes (id_after_removal c.args.id c.args.place) c.args.name.now z) c.in_ok-copy.ensures.copied in
     moves_after_read c.args.thread.now c.copy_pair_slot.new.thread c.change_or_split.new.thread c.args.pair (onto_changes c.args.thread.now.kept c.args.pair c.args.id c.args.place c.args.name.now) c.change_or_split.result c.copy_pair_slot.ensures.only
     (c.copy_pair_slot.ensures.errors.no_fault (λ io. not_both c.copy_pair_slot.result c.in_ok-copy.copy Error.Io c.in_ok-copy.was io))
-    (subst (λ z. ReportsErrorsOfChangeOrSplit c.copy_pair_slot.new.thread c.change_or_split.new.thread c.args.pair z c.change_or_split.result) are c.change_or_split.ensures.errors)
+    (subst (λ z. ReportsPut c.copy_pair_slot.new.thread c.change_or_split.new.thread c.args.pair z c.change_or_split.result) are c.change_or_split.ensures.errors)
 
 pub returns-clause-device : goal.returns-clause-device
 returns-clause-device g c = writes_after_read c.args.thread.now.kept c.copy_pair_slot.new.thread.kept c.change_or_split.new.thread.kept c.args.pair c.copy_pair_slot.ensures.only c.change_or_split.ensures.device
@@ -60,4 +60,4 @@ returns-clause-survives g c rename =
     onto_survives c.args.thread.now.kept c.args.pair c.args.id c.args.place c.args.name.now rename c.change_or_split.new.thread.kept.history
     (stops_after_read c.args.thread.now.kept c.copy_pair_slot.new.thread.kept c.change_or_split.new.thread.kept c.args.pair (onto_changes c.args.thread.now.kept c.args.pair c.args.id c.args.place c.args.name.now) c.copy_pair_slot.ensures.only
     rename.can.ready rename.can.first rename.can.stands.pair rename.can.stands.rest rename.can.stands.place c.change_or_split.ensures.device
-    (subst (λ z. LossLeavesCleanly c.copy_pair_slot.new.thread.kept.history c.change_or_split.new.thread.kept.history (LeftByTurn c.copy_pair_slot.new.thread.kept c.args.pair z)) are c.change_or_split.ensures.stops))
+    (subst (λ z. CleanLossLeaves c.copy_pair_slot.new.thread.kept.history c.change_or_split.new.thread.kept.history (LeftByPut c.copy_pair_slot.new.thread.kept c.args.pair z)) are c.change_or_split.ensures.stops))

@@ -1,4 +1,4 @@
-use Rattle.lfs_operations.proofs.Common.{ap, sym, subst, ◌∙◌, ◌-◌, Err, on_ok_weaker, err_from_is_err_and, Gstate, tree_on_disk, LossLeavesCleanly, thread_pair_at, CanDropAt, IsPairDropped, LeftByDrop, tree_renamed, ReportsErrorsOfReadThenCommits, replace_directory_changes}
+use Rattle.lfs_operations.proofs.Common.{ap, sym, subst, ◌∙◌, ◌-◌, Err, on_ok_weaker, err_from_is_err_and, Gstate, disk_tree, CleanLossLeaves, thread_pair, CanDropAt, IsPairDropped, LeftByDrop, tree_renamed, ReportsReadCommits, replace_directory_changes}
 use Rattle.lfs_operations.proofs.Putting.{survives_more}
 use Rattle.lfs_operations.proofs.AlteredOnto.{altered_within}
 use Rattle.lfs_operations.proofs.OntoReporting.{over_from, over_then}
@@ -10,11 +10,11 @@ use Rattle.lfs_operations.proofs.LastDrop.{can_drop_last}
 pub returns-in_err-rename_over_directory-clause-errors : goal.returns-in_err-rename_over_directory-clause-errors
 returns-in_err-rename_over_directory-clause-errors g c =
     let p = err_from_is_err_and c.from_residual.result c.from_residual.ensures.1 in
-    subst (λ r. ReportsErrorsOfReadThenCommits c.args.thread.now c.rename_over_directory.new.thread r) (c.in_err-rename_over_directory.was ∙ ap Err (sym p.2) ∙ sym p.1)
+    subst (λ r. ReportsReadCommits c.args.thread.now c.rename_over_directory.new.thread r) (c.in_err-rename_over_directory.was ∙ ap Err (sym p.2) ∙ sym p.1)
     (over_from c.args.thread.now c.rename_over_directory.new.thread c.rename_over_directory.result c.rename_over_directory.ensures.errors)
 
 pub returns-in_err-rename_over_directory-clause-device : goal.returns-in_err-rename_over_directory-clause-device
-returns-in_err-rename_over_directory-clause-device g c = writes_first (thread_pair_at c.args.thread.now.kept c.args.pair).at (thread_pair_at c.args.thread.now.kept (c.args.gone - 1)).at c.rename_over_directory.ensures.device
+returns-in_err-rename_over_directory-clause-device g c = writes_first (thread_pair c.args.thread.now.kept c.args.pair).at (thread_pair c.args.thread.now.kept (c.args.gone - 1)).at c.rename_over_directory.ensures.device
 
 pub returns-in_err-rename_over_directory-clause-survives : goal.returns-in_err-rename_over_directory-clause-survives
 returns-in_err-rename_over_directory-clause-survives g c rename = c.rename_over_directory.ensures.survives rename.over
@@ -46,9 +46,9 @@ returns-clause-device g c =
 pub returns-clause-survives : goal.returns-clause-survives
 returns-clause-survives g c rename =
     let t = c.args.thread.now.kept in
-    survives_more (tree_on_disk t.disk t.pairs) (tree_renamed t rename.over.can.path rename.over.can.name c.args.name.now) c.rename_over_directory.ensures.device c.drop_pair_at.ensures.device (c.rename_over_directory.ensures.survives rename.over)
+    survives_more (disk_tree t.disk t.pairs) (tree_renamed t rename.over.can.path rename.over.can.name c.args.name.now) c.rename_over_directory.ensures.device c.drop_pair_at.ensures.device (c.rename_over_directory.ensures.survives rename.over)
     (left_within t c.args.pair c.args.id c.args.place c.args.name.now c.args.gone rename c.rename_over_directory.new.thread.kept (c.in_ok-rename_over_directory.ensures.renamed rename.over).changed)
-    (subst (λ (s : Gstate). LossLeavesCleanly c.rename_over_directory.new.thread.kept.history c.drop_pair_at.new.thread.kept.history (LeftByDrop c.rename_over_directory.new.thread.kept (c.args.gone - 1) s)) c.none.ensures c.drop_pair_at.ensures.stops)
+    (subst (λ (s : Gstate). CleanLossLeaves c.rename_over_directory.new.thread.kept.history c.drop_pair_at.new.thread.kept.history (LeftByDrop c.rename_over_directory.new.thread.kept (c.args.gone - 1) s)) c.none.ensures c.drop_pair_at.ensures.stops)
 
 pub returns-clause-alters : goal.returns-clause-alters
 returns-clause-alters g c =

@@ -1,4 +1,4 @@
-use Rattle.lfs_operations.proofs.Common.{ap, ap₂, sym, subst, ◌∙◌, ◌∷◌, Err, err_from_is_err_and, Delete, PutMove, gstate_xor, sync_bit_delta, changes_view, LossLeavesCleanly, KeptThread, IsPairCommitted, LossLeavesPairChanged, ChangesThreadBlocks, thread_pair_at, address_blocks, id_after_removal, tree_renamed, replace_directory_changes, slot_changes, CanCommit, on_ok_weaker}
+use Rattle.lfs_operations.proofs.Common.{ap, ap₂, sym, subst, ◌∙◌, ◌∷◌, Err, err_from_is_err_and, Delete, PutMove, gstate_xor, sync_bit_delta, changes_view, CleanLossLeaves, KeptThread, IsPairCommitted, LossLeavesPair, ChangesThreadBlocks, thread_pair, address_blocks, id_after_removal, tree_renamed, replace_directory_changes, slot_changes, CanCommit, on_ok_weaker}
 use Rattle.lfs_device.specs.declared.error.Error.TheVariants as Error
 use Rattle.lfs_operations.proofs.Putting.{not_both, read_is}
 use Rattle.lfs_operations.proofs.RenameRead.{read_survives}
@@ -15,14 +15,14 @@ returns-in_err-copy-clause-errors g c =
     over_unread c.args.thread.now c.copy_pair_slot.new.thread p.0 c.copy_pair_slot.result c.from_residual.result (c.in_err-copy.was ∙ ap Err (sym p.2)) p.1 c.copy_pair_slot.ensures.works c.copy_pair_slot.ensures.only c.copy_pair_slot.ensures.errors
 
 pub returns-in_err-copy-clause-device : goal.returns-in_err-copy-clause-device
-returns-in_err-copy-clause-device g c = only_read_writes c.args.thread.now.kept c.copy_pair_slot.new.thread.kept (address_blocks (thread_pair_at c.args.thread.now.kept c.args.pair).at) c.copy_pair_slot.ensures.only
+returns-in_err-copy-clause-device g c = only_read_writes c.args.thread.now.kept c.copy_pair_slot.new.thread.kept (address_blocks (thread_pair c.args.thread.now.kept c.args.pair).at) c.copy_pair_slot.ensures.only
 
 pub returns-in_err-copy-clause-survives : goal.returns-in_err-copy-clause-survives
 returns-in_err-copy-clause-survives g c rename =
     read_survives c.args.thread.now.kept c.copy_pair_slot.new.thread.kept.history c.copy_pair_slot.ensures.only.reads rename.can.ready (tree_renamed c.args.thread.now.kept rename.can.path rename.can.name c.args.name.now)
 
 pub returns-in_err-changes-clause-device : goal.returns-in_err-changes-clause-device
-returns-in_err-changes-clause-device g c = only_read_writes c.args.thread.now.kept c.copy_pair_slot.new.thread.kept (address_blocks (thread_pair_at c.args.thread.now.kept c.args.pair).at) c.copy_pair_slot.ensures.only
+returns-in_err-changes-clause-device g c = only_read_writes c.args.thread.now.kept c.copy_pair_slot.new.thread.kept (address_blocks (thread_pair c.args.thread.now.kept c.args.pair).at) c.copy_pair_slot.ensures.only
 
 pub returns-in_err-changes-clause-survives : goal.returns-in_err-changes-clause-survives
 returns-in_err-changes-clause-survives g c rename =
@@ -33,7 +33,7 @@ commit_fitting-requires-clause-can g c =
     let t = c.args.thread.now.kept in
     let mid = c.copy_pair_slot.new.thread.kept in
     let only = c.copy_pair_slot.ensures.only in
-    let state = c.gstate_xor_delta-state.ensures ∙ ap₂ gstate_xor c.delta.ensures c.sync_delta.ensures ∙ ap (λ (k : KeptThread). gstate_xor (thread_pair_at k c.args.pair).content.move sync_bit_delta) (read_is t mid only) in
+    let state = c.gstate_xor_delta-state.ensures ∙ ap₂ gstate_xor c.delta.ensures c.sync_delta.ensures ∙ ap (λ (k : KeptThread). gstate_xor (thread_pair k c.args.pair).content.move sync_bit_delta) (read_is t mid only) in
     let are = ap changes_view c.deref.ensures.value ∙ c.in_ok-changes.ensures
     ∙ ap₂ (λ m z. PutMove m ∷ Delete c.args.id ∷ Delete (id_after_removal c.args.id c.args.place) ∷ slot_changes (id_after_removal c.args.id c.args.place) c.args.name.now z) state c.in_ok-copy.ensures.copied in
     let changes = replace_directory_changes t c.args.pair c.args.id c.args.place c.args.name.now in
@@ -47,7 +47,7 @@ returns-clause-renamed g c =
     let t = c.args.thread.now.kept in
     let mid = c.copy_pair_slot.new.thread.kept in
     let only = c.copy_pair_slot.ensures.only in
-    let state = c.gstate_xor_delta-state.ensures ∙ ap₂ gstate_xor c.delta.ensures c.sync_delta.ensures ∙ ap (λ (k : KeptThread). gstate_xor (thread_pair_at k c.args.pair).content.move sync_bit_delta) (read_is t mid only) in
+    let state = c.gstate_xor_delta-state.ensures ∙ ap₂ gstate_xor c.delta.ensures c.sync_delta.ensures ∙ ap (λ (k : KeptThread). gstate_xor (thread_pair k c.args.pair).content.move sync_bit_delta) (read_is t mid only) in
     let are = ap changes_view c.deref.ensures.value ∙ c.in_ok-changes.ensures
     ∙ ap₂ (λ m z. PutMove m ∷ Delete c.args.id ∷ Delete (id_after_removal c.args.id c.args.place) ∷ slot_changes (id_after_removal c.args.id c.args.place) c.args.name.now z) state c.in_ok-copy.ensures.copied in
     let changes = replace_directory_changes t c.args.pair c.args.id c.args.place c.args.name.now in
@@ -63,19 +63,19 @@ returns-clause-device g c =
     let t = c.args.thread.now.kept in
     let mid = c.copy_pair_slot.new.thread.kept in
     let only = c.copy_pair_slot.ensures.only in
-    blocks_after_read t mid c.commit_fitting.new.thread.kept (address_blocks (thread_pair_at t c.args.pair).at) only
-    (subst (λ (k : KeptThread). ChangesThreadBlocks (address_blocks (thread_pair_at k c.args.pair).at) mid c.commit_fitting.new.thread.kept) (read_is t mid only) c.commit_fitting.ensures.device)
+    blocks_after_read t mid c.commit_fitting.new.thread.kept (address_blocks (thread_pair t c.args.pair).at) only
+    (subst (λ (k : KeptThread). ChangesThreadBlocks (address_blocks (thread_pair k c.args.pair).at) mid c.commit_fitting.new.thread.kept) (read_is t mid only) c.commit_fitting.ensures.device)
 
 pub returns-clause-survives : goal.returns-clause-survives
 returns-clause-survives g c rename =
     let t = c.args.thread.now.kept in
     let mid = c.copy_pair_slot.new.thread.kept in
     let only = c.copy_pair_slot.ensures.only in
-    let state = c.gstate_xor_delta-state.ensures ∙ ap₂ gstate_xor c.delta.ensures c.sync_delta.ensures ∙ ap (λ (k : KeptThread). gstate_xor (thread_pair_at k c.args.pair).content.move sync_bit_delta) (read_is t mid only) in
+    let state = c.gstate_xor_delta-state.ensures ∙ ap₂ gstate_xor c.delta.ensures c.sync_delta.ensures ∙ ap (λ (k : KeptThread). gstate_xor (thread_pair k c.args.pair).content.move sync_bit_delta) (read_is t mid only) in
     let are = ap changes_view c.deref.ensures.value ∙ c.in_ok-changes.ensures
     ∙ ap₂ (λ m z. PutMove m ∷ Delete c.args.id ∷ Delete (id_after_removal c.args.id c.args.place) ∷ slot_changes (id_after_removal c.args.id c.args.place) c.args.name.now z) state c.in_ok-copy.ensures.copied in
     let changes = replace_directory_changes t c.args.pair c.args.id c.args.place c.args.name.now in
     over_survives t c.args.pair c.args.id c.args.place c.args.name.now rename c.commit_fitting.new.thread.kept.history
-    (change_stops_after_read t mid c.commit_fitting.new.thread.kept c.args.pair changes (address_blocks (thread_pair_at mid c.args.pair).at) only
+    (change_stops_after_read t mid c.commit_fitting.new.thread.kept c.args.pair changes (address_blocks (thread_pair mid c.args.pair).at) only
     rename.can.ready rename.can.first rename.can.stands.pair rename.can.stands.rest rename.can.stands.place c.commit_fitting.ensures.device
-    (subst (λ z. LossLeavesCleanly mid.history c.commit_fitting.new.thread.kept.history (LossLeavesPairChanged mid c.args.pair z)) are c.commit_fitting.ensures.stops))
+    (subst (λ z. CleanLossLeaves mid.history c.commit_fitting.new.thread.kept.history (LossLeavesPair mid c.args.pair z)) are c.commit_fitting.ensures.stops))

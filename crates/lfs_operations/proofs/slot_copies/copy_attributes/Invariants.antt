@@ -1,5 +1,4 @@
-use Rattle.lfs_operations.proofs.Common.{◌≡◌, map, take, attribute_copy}
-use Rattle.lfs_tag.specs.ContentView.{attribute_view}
+use Rattle.lfs_operations.proofs.Common.{◌≡◌, map, take, attribute_copy, attribute_view}
 use Rattle.lfs_operations.proofs.slot_copies.copy_attributes.Given as goal
 
 abbrev pub invariant-loop-attribute : goal.invariant-loop-attribute

@@ -1,8 +1,5 @@
 use Rattle.std.proofs.Common.{ap, sym, subst, ◌∙◌, ◌-◌, Err}
-use Rattle.lfs_operations.proofs.Common.{err_from_is_err_and, array_address, tree_on_disk, address_blocks, addresses_blocks, ChangesThreadBlocks, IoMeantFaultNoMemoryKeptOtherBlocks, LossLeavesCleanly, ThreadView, thread_pair_at}
-use Rattle.lfs_thread.specs.Moves.{CanMoveNext, IsNextMoved, LossLeavesNextMoved}
-use Rattle.lfs_operations.specs.Changing.{map_taking_two}
-use Rattle.lfs_operations.specs.Making.{ReportsErrorsOfMakingDirectory}
+use Rattle.lfs_operations.proofs.Common.{err_from_is_err_and, array_address, disk_tree, address_blocks, addresses_blocks, ChangesThreadBlocks, ThreadReportsKeepingOthers, CleanLossLeaves, ThreadView, thread_pair, CanMoveNext, IsNextMoved, LossLeavesNextMoved, map_taking_two, ReportsMaking}
 use Rattle.lfs_operations.proofs.MakingCounts.{no_room}
 use Rattle.lfs_operations.proofs.MakingReported.{reports_first}
 use Rattle.lfs_operations.proofs.Putting.{survives_step, with_map}
@@ -29,9 +26,9 @@ pub returns-in_err-move_next-clause-errors : goal.returns-in_err-move_next-claus
 returns-in_err-move_next-clause-errors g c =
     let fresh = array_address c.in-Some.fresh in
     let p = err_from_is_err_and c.from_residual.result c.from_residual.ensures.1 in
-    subst (λ r. ReportsErrorsOfMakingDirectory c.args.thread.now c.move_next.new.self r) (c.in_err-move_next.was ∙ ap Err (sym p.2) ∙ sym p.1)
+    subst (λ r. ReportsMaking c.args.thread.now c.move_next.new.self r) (c.in_err-move_next.was ∙ ap Err (sym p.2) ∙ sym p.1)
     (reports_first c.args.thread.now c.move_next.new.self (map_taking_two c.args.thread.now.kept.map fresh) (address_blocks fresh) c.move_next.result c.move_next.ensures.failed
-    (subst (λ (s : ThreadView). IoMeantFaultNoMemoryKeptOtherBlocks (address_blocks fresh) s.kept c.move_next.new.self.kept c.move_next.result) c.in-Some.ensures.taken c.move_next.ensures.errors))
+    (subst (λ (s : ThreadView). ThreadReportsKeepingOthers (address_blocks fresh) s.kept c.move_next.new.self.kept c.move_next.result) c.in-Some.ensures.taken c.move_next.ensures.errors))
 
 pub returns-in_err-move_next-clause-stands : goal.returns-in_err-move_next-clause-stands
 returns-in_err-move_next-clause-stands g c memory =
@@ -39,9 +36,9 @@ returns-in_err-move_next-clause-stands g c memory =
     let new = c.move_next.new.self.kept in
     let fresh = array_address c.in-Some.fresh in
     let p = err_from_is_err_and c.from_residual.result c.from_residual.ensures.1 in
-    let reported = subst (λ (s : ThreadView). IoMeantFaultNoMemoryKeptOtherBlocks (address_blocks fresh) s.kept new c.move_next.result) c.in-Some.ensures.taken c.move_next.ensures.errors in
+    let reported = subst (λ (s : ThreadView). ThreadReportsKeepingOthers (address_blocks fresh) s.kept new c.move_next.result) c.in-Some.ensures.taken c.move_next.ensures.errors in
     left_beside_on t c.args.index c.requires.can (pair_before t c.args.index c.requires.can) fresh c.in-Some.ensures.were_free new
-    (subst (λ (s : ThreadView). ChangesThreadBlocks (addresses_blocks (thread_pair_at s.kept (c.args.index - 1)).at fresh) s.kept new) c.in-Some.ensures.taken c.move_next.ensures.device.only)
+    (subst (λ (s : ThreadView). ChangesThreadBlocks (addresses_blocks (thread_pair s.kept (c.args.index - 1)).at fresh) s.kept new) c.in-Some.ensures.taken c.move_next.ensures.device.only)
     (reported.beside (c.in_err-move_next.was ∙ ap Err (sym p.2) ∙ sym p.1 ∙ memory))
 
 pub returns-in_err-move_next-clause-survives : goal.returns-in_err-move_next-clause-survives
@@ -50,7 +47,7 @@ returns-in_err-move_next-clause-survives g c =
     let fresh = array_address c.in-Some.fresh in
     survives_step t.disk
     (left_moved t c.args.index c.requires.can (pair_before t c.args.index c.requires.can) fresh c.in-Some.ensures.were_free)
-    (subst (λ (s : ThreadView). LossLeavesCleanly s.kept.history c.move_next.new.self.kept.history (LossLeavesNextMoved s.kept (c.args.index - 1) fresh)) c.in-Some.ensures.taken c.move_next.ensures.stops)
+    (subst (λ (s : ThreadView). CleanLossLeaves s.kept.history c.move_next.new.self.kept.history (LossLeavesNextMoved s.kept (c.args.index - 1) fresh)) c.in-Some.ensures.taken c.move_next.ensures.stops)
 
 pub returns-clause-moved : goal.returns-clause-moved
 returns-clause-moved g c =
@@ -59,7 +56,7 @@ returns-clause-moved g c =
     let fresh = array_address c.in-Some.fresh in
     moved_at t c.args.index c.requires.can (pair_before t c.args.index c.requires.can) fresh c.in-Some.ensures.were_free new
     (subst (λ (s : ThreadView). IsNextMoved s.kept (c.args.index - 1) fresh new) c.in-Some.ensures.taken c.in_ok-move_next.ensures.done)
-    (subst (λ (s : ThreadView). ChangesThreadBlocks (addresses_blocks (thread_pair_at s.kept (c.args.index - 1)).at fresh) s.kept new) c.in-Some.ensures.taken c.move_next.ensures.device.only)
+    (subst (λ (s : ThreadView). ChangesThreadBlocks (addresses_blocks (thread_pair s.kept (c.args.index - 1)).at fresh) s.kept new) c.in-Some.ensures.taken c.move_next.ensures.device.only)
 
 pub returns-clause-survives : goal.returns-clause-survives
 returns-clause-survives g c =
@@ -67,4 +64,4 @@ returns-clause-survives g c =
     let fresh = array_address c.in-Some.fresh in
     survives_step t.disk
     (left_moved t c.args.index c.requires.can (pair_before t c.args.index c.requires.can) fresh c.in-Some.ensures.were_free)
-    (subst (λ (s : ThreadView). LossLeavesCleanly s.kept.history c.move_next.new.self.kept.history (LossLeavesNextMoved s.kept (c.args.index - 1) fresh)) c.in-Some.ensures.taken c.move_next.ensures.stops)
+    (subst (λ (s : ThreadView). CleanLossLeaves s.kept.history c.move_next.new.self.kept.history (LossLeavesNextMoved s.kept (c.args.index - 1) fresh)) c.in-Some.ensures.taken c.move_next.ensures.stops)

@@ -1,8 +1,5 @@
 use Rattle.std.proofs.Common.{◌+◌, ◌∙◌, take, drop, ap}
-use Rattle.lfs_model.specs.format.Content.{content_after}
-use Rattle.lfs_model.specs.layers.Changes.{entries_of_changes, is_storable}
-use Rattle.lfs_tag.specs.ContentView.{content_view}
-use Rattle.lfs_pair.specs.ChangeView.{change_view, changes_view}
+use Rattle.lfs_pair.proofs.Common.{content_after, entries_of_changes, is_storable, content_view, change_view, changes_view}
 use Rattle.lfs_pair.proofs.Applied.{all_at, mapped_front, mapped_split, one_more, one_fails, fails_on}
 use Rattle.lfs_pair.proofs.change.apply_all_changes.Goals as goal
 

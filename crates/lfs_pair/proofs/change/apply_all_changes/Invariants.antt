@@ -1,8 +1,5 @@
 use Rattle.std.proofs.Common.{◌≡◌, take, Some}
-use Rattle.lfs_model.specs.format.Content.{content_after}
-use Rattle.lfs_model.specs.layers.Changes.{entries_of_changes}
-use Rattle.lfs_tag.specs.ContentView.{content_view}
-use Rattle.lfs_pair.specs.ChangeView.{changes_view}
+use Rattle.lfs_pair.proofs.Common.{content_after, entries_of_changes, content_view, changes_view}
 use Rattle.lfs_pair.proofs.change.apply_all_changes.Given as goal
 
 abbrev pub invariant-loop-change : goal.invariant-loop-change

@@ -1,9 +1,5 @@
 use Rattle.std.proofs.Common.{◌∙◌, Some, sym, ap, option_map}
-use Rattle.lfs_model.specs.format.Slots.{array_address}
-use Rattle.lfs_model.specs.format.Content.{content_after}
-use Rattle.lfs_model.specs.layers.Changes.{change_entries}
-use Rattle.lfs_tag.specs.ContentView.{content_view}
-use Rattle.lfs_pair.specs.ChangeView.{change_view}
+use Rattle.lfs_pair.proofs.Common.{array_address, content_after, change_entries, content_view, change_view}
 use Rattle.lfs_pair.proofs.Tails.{tail_changed}
 use Rattle.lfs_pair.proofs.change.apply_change.Goals as goal
 

@@ -1,26 +1,11 @@
-use Rattle.lfs_model.specs.format.Blocks.{SameExcept, block_bytes}
-use Rattle.lfs_model.specs.session.History.{AreUnprogrammed}
-use Rattle.lfs_model.specs.format.Thread.{address_blocks}
-use Rattle.lfs_model.specs.layers.Commit.{encoded_size, commit_end_aligned}
-use Rattle.lfs_tag.specs.Builder.{IsCommitOffset, padded_end_of}
-use Rattle.lfs_pair.specs.Writing.{BlockGetsCommit, LogGetsCommit, LossLeavesCommit}
+use Rattle.lfs_pair.proofs.Common.{SameExcept, block_bytes, AreUnprogrammed, address_blocks, encoded_size, aligned_end, IsCommitOffset, padded_end_of, LogGetsCommit, LossLeavesCommit, disk_of_blocks, array_address, entries_of_changes, HoldsAtLosses-weaker, PartialCommit, content_view, header_address, commit_with_more, KeepsFirstEntry, LossLeavesNew, changes_view, err_from_is_err_and}
+use Rattle.lfs_pair.specs.Writing.{BlockGetsCommit}
 use Rattle.lfs_pair.proofs.Anew.{nothing_more}
 use Rattle.std.proofs.Common.{rules, ◌≡◌, ◌+◌, ◌%◌, ◌<◌, inl, Ok, refl, sym, ap, ap₂, ◌∙◌, subst, arith, Some}
-use Rattle.lfs_device.specs.DeviceDisk.{disk_of_blocks}
 use Rattle.lfs_device.specs.declared.geometry.Geometry.{Geometry}
-use Rattle.lfs_model.specs.format.Slots.{array_address}
-use Rattle.lfs_model.specs.layers.Changes.{entries_of_changes}
-use Rattle.lfs_model.proofs.Histories.{HoldsAtLosses-weaker}
-use Rattle.lfs_tag.specs.Builder.{PartialCommit}
-use Rattle.lfs_tag.specs.ContentView.{content_view}
-use Rattle.lfs_pair.specs.Pair.{header_address}
-use Rattle.lfs_pair.specs.Writing.{commit_with_more}
-use Rattle.lfs_pair.specs.Commits.{KeepsFirstEntry, LossLeavesNew}
-use Rattle.lfs_pair.specs.ChangeView.{changes_view}
 use Rattle.lfs_pair.proofs.Asking.{asks_erases, asks_only, asks_programs, asks_reads, asks_stops, asks_then_few, asks_then_stops, known_after, left_alone, unknown}
 use Rattle.lfs_pair.proofs.Calls.{only_block, only_trans}
 use Rattle.lfs_pair.proofs.Changed.{IsIn, is_appending, appended, appended_first, active_among, active_below, now_holds, left_by_append, ends_in_block, made_is, some_same, gets_revision}
-use Rattle.std.proofs.lemmas.Result.{err_from_is_err_and}
 use Rattle.lfs_pair.proofs.Erring.{reports_ok, reports_on}
 use Rattle.lfs_pair.proofs.commits.append_changes.Goals as goal
 
@@ -88,7 +73,7 @@ returns-clause-ends g c = record {
       (subst (IsIn (disk_of_blocks (g.D.BlockDevice.geometry c.args.dev.now) (g.D.BlockDevice.blocks c.program_commit_at.new.dev)) (header_address c.args.pair.now) c.args.pair.now.active) (some_same new)
       (appended _ _ _ _ _ _ _ (g.D.BlockDevice.blocks c.program_commit_at.new.dev) ready others adds.commit)) in
       let gets = subst (λ (b : PartialCommit). LogGetsCommit b (block_bytes (g.D.BlockDevice.blocks c.args.dev.now) c.args.pair.now.active) (block_bytes (g.D.BlockDevice.blocks c.program_commit_at.new.dev) c.args.pair.now.active)) built adds.commit in
-      let ends = ap padded_end_of built ∙ ap (commit_end_aligned c.geometry-geometry.result.page) (nothing_more (encoded_size (entries_of_changes (changes_view c.args.changes.now)))) ∙ ap (λ (k : Geometry). commit_end_aligned k.page (encoded_size (entries_of_changes (changes_view c.args.changes.now)))) c.geometry-geometry.ensures in
+      let ends = ap padded_end_of built ∙ ap (aligned_end c.geometry-geometry.result.page) (nothing_more (encoded_size (entries_of_changes (changes_view c.args.changes.now)))) ∙ ap (λ (k : Geometry). aligned_end k.page (encoded_size (entries_of_changes (changes_view c.args.changes.now)))) c.geometry-geometry.ensures in
       record {
         holds = now_holds _ _ _ c.written.result c.args.pair.now.active _ holds
             (ap array_address c.written.ensures.blocks) c.written.ensures.active c.written.ensures.fetched

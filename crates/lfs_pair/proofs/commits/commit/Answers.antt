@@ -1,11 +1,6 @@
-use Rattle.std.proofs.lemmas.Result.{err_from_is_err_and}
+use Rattle.lfs_pair.proofs.Common.{err_from_is_err_and, disk_of_blocks, goes_on_by, HoldsAtLosses-read_count, HoldsAtLosses-weaker, AllCallsSince-behind, LeftByLoss-read, header_address, changes_view, LossLeavesChanged}
 use Rattle.lfs_pair.proofs.Erring.{fails_on}
 use Rattle.std.proofs.Common.{arith, ap₂, subst}
-use Rattle.lfs_device.specs.DeviceDisk.{disk_of_blocks}
-use Rattle.lfs_model.proofs.Histories.{goes_on_by, HoldsAtLosses-read_count, HoldsAtLosses-weaker, AllCallsSince-behind, LeftByLoss-read}
-use Rattle.lfs_pair.specs.Pair.{header_address}
-use Rattle.lfs_pair.specs.ChangeView.{changes_view}
-use Rattle.lfs_pair.specs.Commits.{LossLeavesChanged}
 use Rattle.lfs_pair.proofs.Calls.{few_at_error, few_by_read, reading_by_read, reading_trans}
 use Rattle.lfs_pair.proofs.Changed.{active_below, left_alone}
 use Rattle.lfs_pair.proofs.Behind.{commits_behind, full_behind}

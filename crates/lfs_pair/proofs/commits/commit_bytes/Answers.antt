@@ -1,25 +1,14 @@
 use Rattle.std.proofs.Common.{◌≡◌, ◌<◌, Err}
-use Rattle.std.proofs.lemmas.Result.{err_from_is_err_and}
+use Rattle.lfs_pair.proofs.Common.{err_from_is_err_and, fault_count, disk_of_blocks, AllCallsSince, HoldsAtLosses, ErasesCleanly, LeftByLoss, RawContentFits, HoldsAtLosses-weaker, content_view, header_address, changes_view, ChangesReadingFew, KeepsFirstEntry, HasWrittenContent, LossLeavesNew, address_blocks}
 use Rattle.lfs_device.specs.declared.geometry.Geometry.{Geometry}
-use Rattle.lfs_model.specs.session.History.{fault_count}
 use Rattle.lfs_pair.proofs.Behind.{is_full}
 use Rattle.lfs_pair.proofs.Erring.{fails_io, reports_io, reports_ok}
 use Rattle.std.proofs.Common.{◌∙◌, rules, Ok, Some, sym, ap, subst}
-use Rattle.lfs_device.specs.DeviceDisk.{disk_of_blocks}
-use Rattle.lfs_model.specs.session.History.{AllCallsSince, HoldsAtLosses}
-use Rattle.lfs_model.specs.crash.Stops.{ErasesCleanly, LeftByLoss}
-use Rattle.lfs_model.specs.layers.WrittenContent.{RawContentFits}
-use Rattle.lfs_model.proofs.Histories.{HoldsAtLosses-weaker}
-use Rattle.lfs_tag.specs.ContentView.{content_view}
-use Rattle.lfs_pair.specs.Pair.{header_address}
-use Rattle.lfs_pair.specs.ChangeView.{changes_view}
-use Rattle.lfs_pair.specs.Writing.{ChangesOnlyBlocksWithinReadLimit}
-use Rattle.lfs_pair.specs.Commits.{KeepsFirstEntry, IsPairRewritten, PairHas, LossLeavesNew}
+use Rattle.lfs_pair.specs.Commits.{IsPairRewritten}
 use Rattle.lfs_pair.proofs.Asking.{appends_until, kept_disk, kept_unread}
 use Rattle.lfs_pair.proofs.Calls.{reading_trans}
 use Rattle.lfs_pair.proofs.Changed.{ends_here, is_active, left_by_change, made_here}
 use Rattle.lfs_pair.proofs.commits.commit_bytes.Goals as goal
-use Rattle.lfs_model.specs.format.Thread.{address_blocks}
 
 pub returns-in_err-compact-clause-stops : goal.returns-in_err-compact-clause-stops
 returns-in_err-compact-clause-stops g c =
@@ -85,7 +74,7 @@ returns-clause-ends g c = record {
       let fits : RawContentFits (g.D.BlockDevice.geometry c.args.dev.now).block_size (g.D.BlockDevice.geometry c.args.dev.now).page (content_view c.in_ok-content.content) =
       subst (λ (k : Geometry). RawContentFits k.block_size k.page (content_view c.in_ok-content.content)) c.geometry-geometry.ensures
       (c.content_fits.ensures.0 (search rules)) in
-      let holds = subst (λ p. PairHas (disk_of_blocks (g.D.BlockDevice.geometry c.compact.new.dev) (g.D.BlockDevice.blocks c.compact.new.dev)) (g.D.BlockDevice.history c.compact.new.dev) (header_address p) c.compact.new.pair (content_view c.in_ok-content.content))
+      let holds = subst (λ p. HasWrittenContent (disk_of_blocks (g.D.BlockDevice.geometry c.compact.new.dev) (g.D.BlockDevice.blocks c.compact.new.dev)) (g.D.BlockDevice.history c.compact.new.dev) (header_address p) c.compact.new.pair (content_view c.in_ok-content.content))
       (c.in_ok-append_changes.ensures.ends.no_room (ap Ok c.if-branch.false)).pair c.in_ok-compact.ensures.done.holds in
       let moved = subst (λ p. KeepsFirstEntry (disk_of_blocks (g.D.BlockDevice.geometry c.append_changes.new.dev) (g.D.BlockDevice.blocks c.append_changes.new.dev)) (header_address p) (Some (content_view c.in_ok-content.content)) (disk_of_blocks (g.D.BlockDevice.geometry c.compact.new.dev) (g.D.BlockDevice.blocks c.compact.new.dev)))
       (c.in_ok-append_changes.ensures.ends.no_room (ap Ok c.if-branch.false)).pair c.in_ok-compact.ensures.done.first in
@@ -110,12 +99,12 @@ returns-clause-ends g c = record {
 
 pub returns-clause-device : goal.returns-clause-device
 returns-clause-device g c =
-    let moved = subst (λ p. ChangesOnlyBlocksWithinReadLimit g.D.BlockDevice 1 (address_blocks (header_address p)) c.append_changes.new.dev c.compact.new.dev) (c.in_ok-append_changes.ensures.ends.no_room (ap Ok c.if-branch.false)).pair (record { only = c.in_ok-compact.ensures.writes.device; few = c.in_ok-compact.ensures.writes.few }) in
+    let moved = subst (λ p. ChangesReadingFew g.D.BlockDevice 1 (address_blocks (header_address p)) c.append_changes.new.dev c.compact.new.dev) (c.in_ok-append_changes.ensures.ends.no_room (ap Ok c.if-branch.false)).pair (record { only = c.in_ok-compact.ensures.writes.device; few = c.in_ok-compact.ensures.writes.few }) in
     reading_trans (kept_unread g.D.BlockDevice (address_blocks (header_address c.args.pair.now)) (c.in_ok-append_changes.ensures.ends.no_room (ap Ok c.if-branch.false))) moved
 
 pub returns-in_err-compact-clause-device : goal.returns-in_err-compact-clause-device
 returns-in_err-compact-clause-device g c =
-    let moved = subst (λ p. ChangesOnlyBlocksWithinReadLimit g.D.BlockDevice 1 (address_blocks (header_address p)) c.append_changes.new.dev c.compact.new.dev) (c.in_ok-append_changes.ensures.ends.no_room (ap Ok c.if-branch.false)).pair (record { only = c.in_err-compact.ensures.writes.device; few = c.in_err-compact.ensures.writes.few }) in
+    let moved = subst (λ p. ChangesReadingFew g.D.BlockDevice 1 (address_blocks (header_address p)) c.append_changes.new.dev c.compact.new.dev) (c.in_ok-append_changes.ensures.ends.no_room (ap Ok c.if-branch.false)).pair (record { only = c.in_err-compact.ensures.writes.device; few = c.in_err-compact.ensures.writes.few }) in
     reading_trans (kept_unread g.D.BlockDevice (address_blocks (header_address c.args.pair.now)) (c.in_ok-append_changes.ensures.ends.no_room (ap Ok c.if-branch.false))) moved
 
 pub returns-then-not-content_fits-clause-ends : goal.returns-then-not-content_fits-clause-ends

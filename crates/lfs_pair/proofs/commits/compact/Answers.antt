@@ -1,13 +1,6 @@
-use Rattle.lfs_model.specs.format.Blocks.{block_bytes}
-use Rattle.lfs_pair.specs.Writing.{IsWrittenAnew}
+use Rattle.lfs_pair.proofs.Common.{block_bytes, IsWrittenAnew, disk_of_blocks, array_address, content_view, KeepsFirstEntry, HoldsAtLosses-weaker, header_address}
 use Rattle.std.proofs.Common.{rules, ℕ, ◌+◌, ◌%◌, ◌^◌, refl, sym, ap, ◌∙◌, subst, arith}
-use Rattle.lfs_device.specs.DeviceDisk.{disk_of_blocks}
-use Rattle.lfs_model.specs.format.Slots.{array_address}
-use Rattle.lfs_tag.specs.ContentView.{content_view}
 use Rattle.std.proofs.Common.{Some}
-use Rattle.lfs_pair.specs.Commits.{KeepsFirstEntry}
-use Rattle.lfs_model.proofs.Histories.{HoldsAtLosses-weaker}
-use Rattle.lfs_pair.specs.Pair.{header_address}
 use Rattle.lfs_pair.proofs.TwoBlocks.{other_is, below_count}
 use Rattle.lfs_pair.proofs.Calls.{only_block}
 use Rattle.lfs_pair.proofs.Changed.{IsIn, is_compacting, compacted, compacted_first, now_holds, left_by_compaction}

@@ -1,9 +1,8 @@
 use Rattle.std.proofs.Common.{rules, ◌≡◌, ◌+◌, ◌-◌, ◌≤◌, ℕ, Bool, true, false, List, Ok, Err, inl, inr, refl, sym, ap, ◌∙◌, subst, arith}
 use Rattle.lfs_device.specs.declared.geometry.Geometry.{Geometry}
-use Rattle.lfs_model.specs.session.History.{AreUnprogrammed, blank_count}
+use Rattle.lfs_pair.proofs.Common.{AreUnprogrammed, blank_count, OnlyAsksBlank}
 use Rattle.lfs_model.proofs.Histories.{is_unprogrammed_byte-blank}
 use Rattle.lfs_pair.specs.Commits.{IsEndBlank}
-use Rattle.lfs_pair.specs.Writing.{AsksAboutBlankBytes}
 use Rattle.lfs_pair.proofs.Changed.{active_below, ends_in_block}
 use Rattle.lfs_pair.proofs.commits.is_end_blank.Goals as goal
 
@@ -60,7 +59,7 @@ returns-clause-yes g c done =
 pub returns-clause-asks : goal.returns-clause-asks
 returns-clause-asks g c = go c.in_ok-is_blank.is_blank refl
   where
-    go : (yes : Bool) → c.in_ok-is_blank.is_blank ≡ yes → AsksAboutBlankBytes g.D.BlockDevice c.args.dev.now c.is_unprogrammed.new.self
+    go : (yes : Bool) → c.in_ok-is_blank.is_blank ≡ yes → OnlyAsksBlank g.D.BlockDevice c.args.dev.now c.is_unprogrammed.new.self
     go true is = record {
       same = c.in_ok-is_blank.ensures.same;
       geometry = c.in_ok-is_blank.ensures.geometry;

@@ -1,12 +1,6 @@
 use Rattle.std.proofs.Common.{◌≡◌, ◌∙◌, ap, arith, true, Some, sym}
 use Rattle.std.specs.Prelude.{is_some}
-use Rattle.std.specs.Option.{option_and_then}
-use Rattle.lfs_model.proofs.Logged.{logged}
-use Rattle.lfs_model.specs.format.Content.{content_after, empty_raw_content}
-use Rattle.lfs_model.specs.layers.Changes.{changed_content_of}
-use Rattle.lfs_model.specs.format.Log.{block_entries}
-use Rattle.lfs_tag.specs.ContentView.{content_view}
-use Rattle.lfs_pair.specs.ChangeView.{changes_view}
+use Rattle.lfs_pair.proofs.Common.{option_and_then, logged, content_after, empty_raw_content, changed_content_of, block_entries, content_view, changes_view}
 use Rattle.lfs_pair.proofs.Made.{logged_made}
 use Rattle.lfs_pair.proofs.contents.changed_content.Goals as goal
 

@@ -1,9 +1,5 @@
 use Rattle.std.proofs.Common.{◌∙◌, ap, sym}
-use Rattle.lfs_model.proofs.Logged.{nothing_logged}
-use Rattle.lfs_model.specs.format.Content.{empty_raw_content, content_after}
-use Rattle.lfs_model.specs.layers.Changes.{entries_of_changes}
-use Rattle.lfs_tag.specs.ContentView.{content_view}
-use Rattle.lfs_pair.specs.ChangeView.{changes_view}
+use Rattle.lfs_pair.proofs.Common.{nothing_logged, empty_raw_content, content_after, entries_of_changes, content_view, changes_view}
 use Rattle.lfs_pair.proofs.Made.{logged_made}
 use Rattle.lfs_pair.proofs.contents.content_of_changes.Goals as goal
 

@@ -1,9 +1,5 @@
 use Rattle.std.proofs.Common.{rules, arith, ◌∙◌, subst}
-use Rattle.lfs_device.specs.DeviceDisk.{disk_of_blocks}
-use Rattle.lfs_model.specs.format.Content.{RawContent}
-use Rattle.lfs_model.specs.layers.LoggedContent.{AreNamed}
-use Rattle.lfs_tag.specs.ContentView.{content_view}
-use Rattle.lfs_pair.specs.ChangeView.{changes_view}
+use Rattle.lfs_pair.proofs.Common.{disk_of_blocks, RawContent, AreNamed, content_view, changes_view}
 use Rattle.lfs_pair.proofs.Behind.{clears_behind}
 use Rattle.lfs_pair.proofs.Calls.{few_at_error, few_by_read, reading_by_read, reading_trans}
 use Rattle.lfs_pair.proofs.Changed.{active_below, content_made_here, made_here}

@@ -1,9 +1,6 @@
 use Rattle.std.proofs.Common.{arith, ◌∙◌, ◌*◌, ◌≡◌, ◌+◌, length, map, subst, sym, List}
-use Rattle.std.proofs.lemmas.Bool.{ltb-false, ltb-true}
-use Rattle.std.proofs.lemmas.List.{length-map}
-use Rattle.lfs_model.specs.format.Content.{RawSlot}
-use Rattle.lfs_tag.specs.ContentView.{slot_view}
-use Rattle.lfs_pair.specs.HalfCut.{IsHalfCut}
+use Rattle.lfs_pair.proofs.Common.{ltb-true, length-map, RawSlot, slot_view, IsHalfCut}
+use Rattle.std.proofs.lemmas.Bool.{ltb-false}
 use Rattle.lfs_pair.proofs.Cutting.{cut_at_end, cut_where_fits, cut_where_full, fits_more, nothing_in_front, passes_where_back, passes_where_small, sums_of, total_is}
 use Rattle.lfs_pair.proofs.cut.middle_cut.Goals as goal
 use Rattle.lfs_pair.proofs.cut.middle_cut.Goals.{then-not-fits_pair-via-then-not-fits_pair, then-not-fits_pair-via-else-not-fits_pair+then-longer-total, then-back_fits, else-back_fits}

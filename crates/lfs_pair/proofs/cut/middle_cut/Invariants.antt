@@ -1,6 +1,5 @@
 use Rattle.std.proofs.Common.{◌≡◌, map, take, sum_by}
-use Rattle.lfs_model.specs.layers.WrittenContent.{slot_size_raw}
-use Rattle.lfs_tag.specs.ContentView.{slot_view}
+use Rattle.lfs_pair.proofs.Common.{slot_size_raw, slot_view}
 use Rattle.lfs_pair.proofs.Cutting.{Fronts}
 use Rattle.lfs_pair.proofs.cut.middle_cut.Given as goal
 

@@ -1,4 +1,4 @@
-use Rattle.lfs_tag.specs.ContentView.{attribute_view}
+use Rattle.lfs_pair.proofs.Common.{attribute_view}
 use Rattle.lfs_pair.proofs.Pushed.{attributes_more, short_at}
 use Rattle.lfs_pair.proofs.entries.push_attributes.Goals as goal
 

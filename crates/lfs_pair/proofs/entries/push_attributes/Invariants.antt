@@ -1,7 +1,5 @@
 use Rattle.std.proofs.Common.{◌≡◌, take, map}
-use Rattle.lfs_model.specs.layers.WrittenContent.{attribute_entries}
-use Rattle.lfs_tag.specs.ContentView.{attribute_view}
-use Rattle.lfs_pair.specs.Writing.{commit_with_more}
+use Rattle.lfs_pair.proofs.Common.{attribute_entries, attribute_view, commit_with_more}
 use Rattle.lfs_pair.proofs.entries.push_attributes.Given as goal
 
 abbrev pub invariant-loop-attribute : goal.invariant-loop-attribute

@@ -1,5 +1,4 @@
-use Rattle.lfs_model.specs.layers.Changes.{change_entries, is_storable}
-use Rattle.lfs_pair.specs.ChangeView.{change_view}
+use Rattle.lfs_pair.proofs.Common.{change_entries, is_storable, change_view}
 use Rattle.lfs_pair.proofs.Applied.{all_at}
 use Rattle.lfs_pair.proofs.Pushed.{flat_more}
 use Rattle.lfs_pair.proofs.entries.push_changes.Goals as goal

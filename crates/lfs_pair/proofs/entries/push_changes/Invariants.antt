@@ -1,7 +1,5 @@
 use Rattle.std.proofs.Common.{◌≡◌, take}
-use Rattle.lfs_model.specs.layers.Changes.{entries_of_changes}
-use Rattle.lfs_pair.specs.ChangeView.{changes_view}
-use Rattle.lfs_pair.specs.Writing.{commit_with_more}
+use Rattle.lfs_pair.proofs.Common.{entries_of_changes, changes_view, commit_with_more}
 use Rattle.lfs_pair.proofs.entries.push_changes.Given as goal
 
 abbrev pub invariant-loop-change : goal.invariant-loop-change

@@ -1,5 +1,5 @@
 use Rattle.std.proofs.Common.{arith}
-use Rattle.lfs_tag.specs.ContentView.{slot_view}
+use Rattle.lfs_pair.proofs.Common.{slot_view}
 use Rattle.lfs_pair.proofs.Pushed.{slots_more, parts_at}
 use Rattle.lfs_pair.proofs.entries.push_slots.Goals as goal
 

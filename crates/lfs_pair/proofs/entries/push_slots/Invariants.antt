@@ -1,7 +1,5 @@
 use Rattle.std.proofs.Common.{◌≡◌, take, map}
-use Rattle.lfs_model.specs.layers.WrittenContent.{entries_of_slots}
-use Rattle.lfs_tag.specs.ContentView.{slot_view}
-use Rattle.lfs_pair.specs.Writing.{commit_with_more}
+use Rattle.lfs_pair.proofs.Common.{entries_of_slots, slot_view, commit_with_more}
 use Rattle.lfs_pair.proofs.entries.push_slots.Given as goal
 
 abbrev pub invariant-loop-slot : goal.invariant-loop-slot

@@ -1,9 +1,5 @@
 use Rattle.std.proofs.Common.{sym, ap, ◌∙◌, rules, ◌≡◌, true, false}
-use Rattle.lfs_device.specs.DeviceDisk.{disk_of_blocks}
-use Rattle.lfs_model.specs.format.Blocks.{block_bytes}
-use Rattle.lfs_model.specs.format.Content.{has_commit}
-use Rattle.lfs_model.specs.format.Disk.{Disk}
-use Rattle.lfs_model.specs.format.Slots.{array_address}
+use Rattle.lfs_pair.proofs.Common.{disk_of_blocks, block_bytes, has_commit, Disk, array_address}
 use Rattle.lfs_pair.proofs.Calls.{reads_trans}
 use Rattle.lfs_pair.proofs.FetchedBlock.{fetches, later_holds, other_holds}
 use Rattle.lfs_pair.proofs.fetches.fetch.Goals as goal

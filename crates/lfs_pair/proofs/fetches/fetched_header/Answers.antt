@@ -1,7 +1,5 @@
 use Rattle.std.proofs.Common.{◌∙◌, arith, ap, sym}
-use Rattle.lfs_model.proofs.Logged.{logged}
-use Rattle.lfs_model.specs.format.Log.{block_entries}
-use Rattle.lfs_model.specs.format.Content.{content_after, empty_raw_content}
+use Rattle.lfs_pair.proofs.Common.{logged, block_entries, content_after, empty_raw_content}
 use Rattle.lfs_pair.proofs.fetches.fetched_header.Goals as goal
 
 pub returns-clause-describes : goal.returns-clause-describes

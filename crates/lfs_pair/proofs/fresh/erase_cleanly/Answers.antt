@@ -1,12 +1,9 @@
 use Rattle.std.proofs.Common.{rules, ◌≡◌, ◌<◌, false, ◌∙◌, ap, sym, subst, arith}
 use Rattle.std.proofs.lemmas.List.{take-replicate}
 use Rattle.lfs_device.specs.declared.geometry.Geometry.{Geometry}
-use Rattle.lfs_model.specs.format.Blocks.{block_bytes}
-use Rattle.lfs_model.specs.format.Content.{has_commit}
-use Rattle.lfs_model.specs.session.History.{program_count, read_count}
+use Rattle.lfs_pair.proofs.Common.{block_bytes, has_commit, program_count, read_count, began, goes_on, AllCallsSince-only, AllCallsSince-until}
 use Rattle.lfs_model.proofs.Pages.{page_at_least, page_at_most}
 use Rattle.lfs_model.proofs.Zeroed.{no_commit-programmed}
-use Rattle.lfs_model.proofs.Histories.{began, goes_on, AllCallsSince-only, AllCallsSince-until}
 use Rattle.lfs_model.proofs.Overwrites.{slice_range_whole}
 use Rattle.lfs_pair.proofs.Calls.{block_by_erase, block_by_program, block_by_reads, block_trans, reads_one}
 use Rattle.lfs_pair.proofs.fresh.erase_cleanly.Goals as goal

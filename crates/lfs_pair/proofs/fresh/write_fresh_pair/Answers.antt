@@ -1,9 +1,5 @@
 use Rattle.std.proofs.Common.{rules, arith, ◌≡◌, false, inl, inr, refl, sym, ap, ◌∙◌}
-use Rattle.lfs_device.specs.DeviceDisk.{disk_of_blocks}
-use Rattle.lfs_model.specs.format.Blocks.{block_bytes}
-use Rattle.lfs_model.specs.format.Content.{has_commit}
-use Rattle.lfs_model.specs.format.Slots.{array_address}
-use Rattle.lfs_tag.specs.ContentView.{content_view}
+use Rattle.lfs_pair.proofs.Common.{disk_of_blocks, block_bytes, has_commit, array_address, content_view}
 use Rattle.lfs_pair.proofs.Changed.{first_in, now_holds}
 use Rattle.lfs_pair.proofs.Parted.{clears_more}
 use Rattle.lfs_pair.proofs.Calls.{only_block, only_trans}

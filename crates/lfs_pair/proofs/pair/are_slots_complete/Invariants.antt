@@ -1,7 +1,7 @@
 use Rattle.std.proofs.Common.{◌≡◌, drop, map}
 use Rattle.std.specs.Prelude.{is_some}
 use Rattle.lfs_model.specs.format.Content.{complete_slots}
-use Rattle.lfs_tag.specs.ContentView.{slot_view}
+use Rattle.lfs_pair.proofs.Common.{slot_view}
 use Rattle.lfs_pair.proofs.pair.are_slots_complete.Given as goal
 
 abbrev pub invariant-loop-slot : goal.invariant-loop-slot

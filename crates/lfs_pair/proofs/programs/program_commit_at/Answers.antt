@@ -1,13 +1,10 @@
 use Rattle.std.proofs.Common.{rules, ◌≡◌, ◌+◌, ◌-◌, ◌^◌, ◌≤◌, ℕ, refl, sym, ap, ◌∙◌, inl, arith, subst}
 use Rattle.std.specs.Prelude.{min, take}
 use Rattle.lfs_device.specs.declared.geometry.Geometry.{Geometry}
-use Rattle.lfs_model.specs.format.Blocks.{block_bytes, overwritten_at, programmed}
-use Rattle.lfs_model.specs.format.Geometry.{IsValidGeometry}
-use Rattle.lfs_model.specs.session.History.{AreUnprogrammed, blank_count, erase_count, program_count, read_count}
-use Rattle.lfs_tag.specs.Builder.{padded_end_of}
-use Rattle.lfs_pair.specs.Writing.{LogGetsCommit}
-use Rattle.lfs_model.proofs.Histories.{goes_on, HoldsAtLosses-read_count, LeftByLoss-read, AreUnprogrammed-read_count, AreUnprogrammed-part, is_unprogrammed_byte-program, blank_count-read_count, erase_count-read_count, program_count-read_count}
-use Rattle.lfs_model.proofs.Overwrites.{SameExcept-refl, block_bytes-programmed, take-overwritten}
+use Rattle.lfs_pair.proofs.Common.{block_bytes, overwritten_at, IsValidGeometry, AreUnprogrammed, blank_count, erase_count, program_count, read_count, padded_end_of, LogGetsCommit, goes_on, HoldsAtLosses-read_count, LeftByLoss-read, AreUnprogrammed-read_count, blank_count-read_count, erase_count-read_count, program_count-read_count, SameExcept-refl}
+use Rattle.lfs_model.specs.format.Blocks.{programmed}
+use Rattle.lfs_model.proofs.Histories.{AreUnprogrammed-part, is_unprogrammed_byte-program}
+use Rattle.lfs_model.proofs.Overwrites.{block_bytes-programmed, take-overwritten}
 use Rattle.lfs_pair.proofs.Committed.{gets_commit, goes_into, left_in_block}
 use Rattle.lfs_pair.proofs.Calls.{block_by_program, block_by_reads, block_trans}
 use Rattle.lfs_pair.proofs.programs.program_commit_at.Goals as goal

@@ -1,9 +1,6 @@
 use Rattle.std.proofs.Common.{rules, arith, ◌+◌, ◌≤◌, ap, sym, subst}
 use Rattle.lfs_device.specs.declared.geometry.Geometry.{Geometry}
-use Rattle.lfs_model.specs.format.Blocks.{block_bytes}
-use Rattle.lfs_model.specs.session.History.{read_count}
-use Rattle.lfs_tag.specs.Builder.{padded_end_of}
-use Rattle.lfs_tag.specs.ContentView.{content_view}
+use Rattle.lfs_pair.proofs.Common.{block_bytes, read_count, padded_end_of, content_view}
 use Rattle.lfs_pair.proofs.Anew.{is_anew, fits_sound, anew_room, anew_within, anew_holds, anew_end, leaves_erase, leaves_anew}
 use Rattle.lfs_pair.proofs.Calls.{block_by_erase, block_trans}
 use Rattle.lfs_pair.proofs.programs.write_block_anew.Goals as goal

@@ -1,6 +1,6 @@
 use Rattle.std.proofs.Common.{◌≡◌, ◌-◌, ◌^◌, take, map, min}
 use Rattle.lfs_model.specs.format.Slots.{attributes_size}
-use Rattle.lfs_tag.specs.ContentView.{attribute_view}
+use Rattle.lfs_pair.proofs.Common.{attribute_view}
 use Rattle.lfs_pair.proofs.size.attributes_size.Given as goal
 
 abbrev pub invariant-loop-attribute : goal.invariant-loop-attribute

@@ -1,6 +1,5 @@
 use Rattle.std.proofs.Common.{◌≡◌, ◌-◌, ◌^◌, take, map, min, sum_by}
-use Rattle.lfs_model.specs.layers.WrittenContent.{slot_size_raw}
-use Rattle.lfs_tag.specs.ContentView.{slot_view}
+use Rattle.lfs_pair.proofs.Common.{slot_size_raw, slot_view}
 use Rattle.lfs_pair.proofs.size.slots_size.Given as goal
 
 abbrev pub invariant-loop-slot : goal.invariant-loop-slot

@@ -1,13 +1,7 @@
 use Rattle.std.proofs.Common.{rules, arith, ◌∙◌}
-use Rattle.std.proofs.lemmas.Result.{err_from_is_err_and}
+use Rattle.lfs_pair.proofs.Common.{err_from_is_err_and, disk_of_blocks, array_address, goes_on_by, AllCallsSince-behind, HoldsAtLosses-read_count, HoldsAtLosses-weaker, LeftByLoss-read, header_address, changes_view, CanSplitPair, LossLeavesSplit}
 use Rattle.lfs_pair.proofs.Erring.{fails_on, reports_ok, reports_on}
 use Rattle.std.proofs.Common.{ap₂, sym, subst}
-use Rattle.lfs_device.specs.DeviceDisk.{disk_of_blocks}
-use Rattle.lfs_model.specs.format.Slots.{array_address}
-use Rattle.lfs_model.proofs.Histories.{goes_on_by, AllCallsSince-behind, HoldsAtLosses-read_count, HoldsAtLosses-weaker, LeftByLoss-read}
-use Rattle.lfs_pair.specs.Pair.{header_address}
-use Rattle.lfs_pair.specs.ChangeView.{changes_view}
-use Rattle.lfs_pair.specs.Split.{CanSplitPair, LossLeavesSplit}
 use Rattle.lfs_pair.proofs.Behind.{splits_behind}
 use Rattle.lfs_pair.proofs.Calls.{few_at_error, few_by_read, reading_by_read, reading_trans}
 use Rattle.lfs_pair.proofs.Changed.{active_below}

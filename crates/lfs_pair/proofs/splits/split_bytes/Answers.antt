@@ -1,14 +1,6 @@
 use Rattle.std.proofs.Common.{rules, arith, ◌+◌, ◌%◌, ◌^◌, Some, ap, sym, ◌∙◌, subst}
-use Rattle.lfs_model.specs.format.Blocks.{block_bytes}
-use Rattle.lfs_model.specs.format.Content.{RawContent, has_commit}
-use Rattle.lfs_pair.specs.Writing.{HasOneCommit}
-use Rattle.lfs_device.specs.DeviceDisk.{disk_of_blocks}
-use Rattle.lfs_model.specs.format.Slots.{array_address}
-use Rattle.lfs_model.proofs.Histories.{goes_on_by, AllCallsSince-behind, HoldsAtLosses-weaker, HoldsAtLosses-worst}
-use Rattle.lfs_tag.specs.ContentView.{content_view}
-use Rattle.lfs_pair.specs.Pair.{header_address}
-use Rattle.lfs_pair.specs.ChangeView.{changes_view}
-use Rattle.lfs_pair.specs.Commits.{HeaderSaysActive, KeepsFirstEntry, LossLeavesNew, PairHas}
+use Rattle.lfs_pair.proofs.Common.{block_bytes, RawContent, has_commit, HasOneCommit, disk_of_blocks, array_address, goes_on_by, AllCallsSince-behind, HoldsAtLosses-weaker, content_view, header_address, changes_view, HeaderSaysActive, KeepsFirstEntry, LossLeavesNew, HasWrittenContent}
+use Rattle.lfs_model.proofs.Histories.{HoldsAtLosses-worst}
 use Rattle.lfs_pair.proofs.Changed.{ends_here, is_active}
 use Rattle.lfs_pair.proofs.Stay.{HeaderSaysActive-stays, NowHolds-stays, active_elsewhere}
 use Rattle.lfs_pair.proofs.Calls.{only_trans, only_wider}
@@ -65,9 +57,9 @@ returns-clause-splits g c =
       logged = ready.logged;
       cut = ready.parts.cut;
       is_cut = ready.parts.is_cut;
-      front = subst (PairHas _ _ (header_address c.args.pair.now) c.compact.new.pair) ready.parts.front_is c.in_ok-compact.ensures.done.holds;
-      back = subst (PairHas _ _ (array_address c.args.fresh) c.in_ok-fresh_pair.fresh_pair) ready.parts.back_is
-          (subst (λ k. PairHas (disk_of_blocks k (g.D.BlockDevice.blocks c.compact.new.dev)) (g.D.BlockDevice.history c.compact.new.dev) (array_address c.args.fresh) c.in_ok-fresh_pair.fresh_pair (content_view c.in_ok-back.back)) (sym c.in_ok-compact.ensures.writes.device.geometry)
+      front = subst (HasWrittenContent _ _ (header_address c.args.pair.now) c.compact.new.pair) ready.parts.front_is c.in_ok-compact.ensures.done.holds;
+      back = subst (HasWrittenContent _ _ (array_address c.args.fresh) c.in_ok-fresh_pair.fresh_pair) ready.parts.back_is
+          (subst (λ k. HasWrittenContent (disk_of_blocks k (g.D.BlockDevice.blocks c.compact.new.dev)) (g.D.BlockDevice.history c.compact.new.dev) (array_address c.args.fresh) c.in_ok-fresh_pair.fresh_pair (content_view c.in_ok-back.back)) (sym c.in_ok-compact.ensures.writes.device.geometry)
           (NowHolds-stays {disk = disk_of_blocks (g.D.BlockDevice.geometry c.write_fresh_pair.new.dev) (g.D.BlockDevice.blocks c.write_fresh_pair.new.dev)} (fresh_elsewhere ready.apart) c.in_ok-compact.ensures.writes.device.others c.in_ok-compact.ensures.writes.device.elsewhere fresh.holds));
       first = subst (λ k. KeepsFirstEntry (disk_of_blocks (g.D.BlockDevice.geometry c.args.dev.now) (g.D.BlockDevice.blocks c.args.dev.now)) (header_address c.args.pair.now) (Some k) (disk_of_blocks (g.D.BlockDevice.geometry c.compact.new.dev) (g.D.BlockDevice.blocks c.compact.new.dev))) ready.parts.front_is
           (λ e h anew. c.in_ok-compact.ensures.done.first e (first_while_fresh (disk_of_blocks (g.D.BlockDevice.geometry c.args.dev.now) (g.D.BlockDevice.blocks c.args.dev.now)) (header_address c.args.pair.now) (array_address c.args.fresh) (g.D.BlockDevice.blocks c.write_fresh_pair.new.dev) ready.apart fresh.writes.device.others e h) anew);

@@ -1,10 +1,8 @@
 use Rattle.std.proofs.Common.{◌∙◌, drop, List, Some, true, map, sym, ap, subst}
 use Rattle.std.proofs.lemmas.List.{take-map, drop-map}
-use Rattle.lfs_model.specs.format.Slots.{Gstate, array_address}
+use Rattle.lfs_pair.proofs.Common.{array_address, RawSlot, slot_view, content_view, IsFittingSplit}
+use Rattle.lfs_model.specs.format.Slots.{Gstate}
 use Rattle.lfs_tag.specs.FieldsView.{move_view}
-use Rattle.lfs_model.specs.format.Content.{RawSlot}
-use Rattle.lfs_tag.specs.ContentView.{slot_view, content_view}
-use Rattle.lfs_pair.specs.HalfCut.{IsFittingSplit}
 use Rattle.lfs_pair.proofs.splits.split_off_back.Goals as goal
 
 pub returns-clause-parts : goal.returns-clause-parts

@@ -1,6 +1,6 @@
 use Rattle.std.proofs.Common.{◌+◌, ◌-◌, length, refl, ◌∙◌, arith}
 use Rattle.byteorder.specs.Endian.{big_bytes}
-use Rattle.lfs_model.specs.format.Blocks.{overwritten_at}
+use Rattle.lfs_tag.proofs.Common.{overwritten_at}
 use Rattle.lfs_tag.proofs.BuilderWrites.{put_mid-part, put_mid-front, overwritten_at-twice}
 use Rattle.lfs_tag.proofs.builder.put_entry.Goals as goal
 

@@ -1,8 +1,8 @@
 use Rattle.std.proofs.Common.{◌≡◌, ℕ, List, ◌+◌, ◌-◌, ◌≤◌, ◌<◌, ◌^◌, ◌++◌, length, take, drop, replicate, refl, ap, subst, ◌∙◌, arith}
-use Rattle.std.proofs.lemmas.List.{length-take, length-drop, length-replicate}
+use Rattle.lfs_tag.proofs.Common.{length-drop, length-replicate, overwritten_at}
+use Rattle.std.proofs.lemmas.List.{length-take}
 use Rattle.byteorder.specs.Endian.{big_bytes, little_bytes}
 use Rattle.lfs_model.specs.format.Crc.{crc_of}
-use Rattle.lfs_model.specs.format.Blocks.{overwritten_at}
 use Rattle.lfs_tag.proofs.BuilderWrites.{put_mid-part, put_mid-front, overwritten_at-twice, length-overwritten, take-overwritten}
 use borrow.Rule.Slice.PartMut.{put_mid}
 use Rattle.lfs_tag.proofs.builder.write_checksum.Goals as goal

@@ -1,7 +1,7 @@
 use Rattle.std.proofs.Common.{arith, sym, ◌∙◌, ap, ◌≡◌, ◌-◌, length, take, drop, take-append-drop}
-use Rattle.std.proofs.lemmas.List.{take_all, length-drop}
+use Rattle.lfs_tag.proofs.Common.{take_all, length-drop, crc-append}
 use Rattle.lfs_model.specs.format.Crc.{crc_of}
-use Rattle.lfs_model.proofs.Checksums.{crc-append, crc_is_remainder, one_checksum, crc_lt}
+use Rattle.lfs_model.proofs.Checksums.{crc_is_remainder, one_checksum, crc_lt}
 use Rattle.lfs_tag.proofs.checksum.crc.Goals as goal
 
 pub loop-rest-preserved : goal.loop-rest-preserved

@@ -1,5 +1,5 @@
 use Rattle.std.proofs.Common.{◌≡◌, ◌+◌, map, drop}
-use Rattle.lfs_tag.specs.ContentView.{attribute_view, index_for_attribute}
+use Rattle.lfs_tag.proofs.Common.{attribute_view, index_for_attribute}
 use Rattle.lfs_tag.proofs.content.attribute_index.Given as goal
 
 abbrev pub invariant-loop-i : goal.invariant-loop-i

@@ -1,10 +1,6 @@
 use Rattle.std.proofs.Common.{◌≡◌, ◌∙◌, sym, ap, refl, arith, eqb, map, true, false}
-use Rattle.lfs_model.specs.format.Slots.{Attributes}
-use Rattle.lfs_model.specs.format.Tag.{tag_length}
-use Rattle.lfs_model.specs.format.Content.{RawSlot, attributes_after}
+use Rattle.lfs_tag.proofs.Common.{Attributes, tag_length, RawSlot, attributes_after, slot_view, attribute_view, log_entry_view}
 use Rattle.lfs_tag.specs.declared.content.Slot.{Slot}
-use Rattle.lfs_tag.specs.ContentView.{slot_view, attribute_view}
-use Rattle.lfs_tag.specs.LogEntryView.{log_entry_view}
 use Rattle.lfs_tag.proofs.Places.{changed_is, without_is}
 use Rattle.lfs_tag.proofs.content.change_attribute.Goals as goal
 

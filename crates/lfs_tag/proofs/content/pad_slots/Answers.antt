@@ -1,6 +1,5 @@
 use Rattle.std.proofs.Common.{◌≡◌, ◌+◌, ◌-◌, ◌∙◌, ap, arith, map, length, [], ◌∷◌}
-use Rattle.std.proofs.lemmas.List.{map-append, length-append}
-use Rattle.lfs_tag.specs.ContentView.{slot_view}
+use Rattle.lfs_tag.proofs.Common.{map-append, length-append, slot_view}
 use Rattle.lfs_tag.proofs.Places.{one_more}
 use Rattle.lfs_tag.proofs.content.pad_slots.Goals as goal
 

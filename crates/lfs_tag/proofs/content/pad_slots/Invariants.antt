@@ -1,6 +1,5 @@
 use Rattle.std.proofs.Common.{◌≡◌, ◌+◌, ◌-◌, ◌≤◌, ◌++◌, map, length, replicate, max}
-use Rattle.lfs_model.specs.format.Content.{empty_slot}
-use Rattle.lfs_tag.specs.ContentView.{slot_view}
+use Rattle.lfs_tag.proofs.Common.{empty_slot, slot_view}
 use Rattle.lfs_tag.proofs.content.pad_slots.Given as goal
 
 abbrev pub invariant-loop-alloc : goal.invariant-loop-alloc

@@ -1,4 +1,4 @@
-use Rattle.lfs_tag.specs.ContentView.{slot_view}
+use Rattle.lfs_tag.proofs.Common.{slot_view}
 use Rattle.lfs_tag.proofs.Places.{map-remove}
 use Rattle.lfs_tag.proofs.content.remove_slot.Goals as goal
 

@@ -1,6 +1,5 @@
 use Rattle.std.proofs.Common.{◌≡◌, ◌<◌, ◌∙◌, sym, ap, refl, arith, map, length, get_or, ℕ, List}
-use Rattle.std.proofs.lemmas.List.{length-map, map-set, get_or-map}
-use Rattle.lfs_tag.specs.ContentView.{attribute_view, index_for_attribute}
+use Rattle.lfs_tag.proofs.Common.{length-map, map-set, get_or-map, attribute_view, index_for_attribute}
 use Rattle.lfs_tag.proofs.Places.{put_same, put_other, map-insert, first_within}
 use Rattle.lfs_tag.proofs.content.set_attribute.Goals as goal
 use Rattle.lfs_tag.proofs.content.set_attribute.Goals.{else-place-len-via-then-place-len+else-index-attribute, else-place-len-via-else-place-len}

@@ -1,7 +1,6 @@
 use Rattle.std.proofs.Common.{ap, ◌∙◌, refl, arith, List, Some}
 use Rattle.lfs_tag.specs.declared.content.Slot.{Slot}
-use Rattle.lfs_model.specs.format.Content.{RawSlot, changed_at}
-use Rattle.lfs_tag.specs.ContentView.{data_view}
+use Rattle.lfs_tag.proofs.Common.{RawSlot, changed_at, data_view}
 use Rattle.lfs_tag.proofs.Places.{changed_is}
 use Rattle.lfs_tag.proofs.content.set_slot_name.Goals as goal
 

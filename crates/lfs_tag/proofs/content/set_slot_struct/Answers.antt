@@ -1,6 +1,6 @@
 use Rattle.std.proofs.Common.{refl, arith, Some}
 use Rattle.lfs_tag.specs.declared.content.Slot.{Slot}
-use Rattle.lfs_tag.specs.ContentView.{data_view}
+use Rattle.lfs_tag.proofs.Common.{data_view}
 use Rattle.lfs_tag.proofs.Places.{changed_is}
 use Rattle.lfs_tag.proofs.content.set_slot_struct.Goals as goal
 

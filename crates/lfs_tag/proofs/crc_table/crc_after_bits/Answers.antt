@@ -1,5 +1,5 @@
 use Rattle.std.proofs.Common.{sym, ◌≡◌, ◌%◌, bit_and}
-use Rattle.std.proofs.lemmas.Nat.{and_mask}
+use Rattle.lfs_tag.proofs.Common.{and_mask}
 use Rattle.lfs_tag.proofs.Table.{by_low_byte}
 use Rattle.lfs_tag.proofs.crc_table.crc_after_bits.Goals as goal
 

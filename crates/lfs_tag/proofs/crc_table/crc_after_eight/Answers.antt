@@ -1,10 +1,9 @@
 use Rattle.std.proofs.Common.{arith, ℕ, sym, ap, ◌∙◌, ◌≡◌, ◌+◌, ◌-◌, take, drop, length}
-use Rattle.std.proofs.lemmas.List.{take_all, get_or-drop, length-drop}
+use Rattle.lfs_tag.proofs.Common.{take_all, length-drop, bit_xor, AreBytes, crc-append}
+use Rattle.std.proofs.lemmas.List.{get_or-drop}
 use Rattle.std.proofs.Math.Seq.{take-add}
-use Rattle.std.specs.Int.Bits.{bit_xor}
 use Rattle.byteorder.specs.Endian.{little_from}
 use Rattle.lfs_model.specs.format.Crc.{crc_of, next_bits}
-use Rattle.lfs_model.proofs.Checksums.{AreBytes, crc-append}
 use Rattle.lfs_tag.proofs.Words.{crc-number, next_bits-sum, next_bits-append}
 use Rattle.lfs_tag.proofs.crc_table.crc_after_eight.Goals as goal
 

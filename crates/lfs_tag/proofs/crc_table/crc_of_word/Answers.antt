@@ -1,5 +1,5 @@
 use Rattle.std.proofs.Common.{arith, sym, ◌≡◌, ◌+◌, ◌*◌, ◌/◌, ◌%◌, ◌^◌, bit_and}
-use Rattle.std.proofs.lemmas.Nat.{and_mask}
+use Rattle.lfs_tag.proofs.Common.{and_mask}
 use Rattle.lfs_tag.proofs.Words.{word_apart}
 use Rattle.lfs_tag.proofs.crc_table.crc_of_word.Goals as goal
 

@@ -1,8 +1,7 @@
 use Rattle.std.proofs.Common.{rules, ◌≡◌, sym, ap, ◌∙◌, Some, None, true, false}
-use Rattle.std.specs.Option.{option_map}
-use Rattle.lfs_model.specs.format.Log.{entry_at, is_checksum_entry, closes, commit_at, entry_end}
-use Rattle.lfs_tag.specs.LogEntryView.{log_entry_view}
-use Rattle.lfs_model.proofs.Chains.{stop, commit_none, commit_closed, commit_refused, commit_on, stop-with}
+use Rattle.lfs_tag.proofs.Common.{option_map, is_checksum_entry, commit_at, entry_end, log_entry_view, stop, commit_none}
+use Rattle.lfs_model.specs.format.Log.{entry_at, closes}
+use Rattle.lfs_model.proofs.Chains.{commit_closed, commit_refused, commit_on, stop-with}
 use Rattle.lfs_tag.proofs.log.commit_end.Goals as goal
 
 pub returns-then-is_valid_checksum-clause-value : goal.returns-then-is_valid_checksum-clause-value

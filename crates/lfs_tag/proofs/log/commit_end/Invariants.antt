@@ -1,7 +1,5 @@
 use Rattle.std.proofs.Common.{◌≡◌, ◌≤◌, ◌-◌, length}
-use Rattle.std.specs.Option.{option_map}
-use Rattle.lfs_model.specs.format.Log.{commit_at}
-use Rattle.lfs_model.proofs.Chains.{stop}
+use Rattle.lfs_tag.proofs.Common.{option_map, commit_at, stop}
 use Rattle.lfs_tag.proofs.log.commit_end.Given as goal
 
 abbrev pub invariant-loop-entry : goal.invariant-loop-entry

@@ -1,6 +1,5 @@
 use Rattle.std.proofs.Common.{◌≡◌, []}
-use Rattle.lfs_model.specs.format.Log.{block_entries}
-use Rattle.lfs_tag.specs.Find.{comparisons_after}
+use Rattle.lfs_tag.proofs.Common.{block_entries, comparisons_after}
 use Rattle.lfs_tag.proofs.lookup.comparisons_of_slots.Given as goal
 
 abbrev pub invariant-loop-entry : goal.invariant-loop-entry

@@ -1,6 +1,5 @@
 use Rattle.std.proofs.Common.{ap, sym, subst, ◌∙◌}
-use Rattle.lfs_model.specs.format.Log.{block_entries}
-use Rattle.lfs_tag.specs.FindView.{IsNameLookup, lookup_of_comparisons}
+use Rattle.lfs_tag.proofs.Common.{block_entries, IsNameLookup, lookup_of_comparisons}
 use Rattle.lfs_tag.proofs.Ranks.{ranked, lookup_is}
 use Rattle.lfs_tag.proofs.lookup.find.Goals as goal
 

@@ -1,9 +1,6 @@
 use Rattle.std.proofs.Common.{◌≡◌, ◌<◌, ◌≤◌, true, false, ltb, length, map, ap, ◌∙◌, arith}
-use Rattle.std.proofs.lemmas.Bool.Decides.{nat_tests}
-use Rattle.std.proofs.lemmas.List.{length-map}
-use Rattle.lfs_model.specs.format.Log.{block_entries}
+use Rattle.lfs_tag.proofs.Common.{nat_tests, length-map, block_entries, comparison_with_slot, first_wanted_slot}
 use Rattle.lfs_tag.specs.declared.lookup.Lookup.TheVariants.{Found, Place}
-use Rattle.lfs_tag.specs.Find.{comparison_with_slot, first_wanted_slot}
 use Rattle.lfs_tag.proofs.Counts.{counted}
 use Rattle.lfs_tag.proofs.lookup.find_by_ids.Goals as goal
 

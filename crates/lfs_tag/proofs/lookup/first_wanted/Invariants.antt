@@ -1,5 +1,5 @@
 use Rattle.std.proofs.Common.{◌≡◌, drop}
-use Rattle.lfs_tag.specs.Find.{first_wanted_slot}
+use Rattle.lfs_tag.proofs.Common.{first_wanted_slot}
 use Rattle.lfs_tag.proofs.lookup.first_wanted.Given as goal
 
 abbrev pub invariant-loop-id : goal.invariant-loop-id

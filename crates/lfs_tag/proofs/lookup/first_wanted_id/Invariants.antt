@@ -1,7 +1,5 @@
 use Rattle.std.proofs.Common.{◌≡◌, length, map, drop, Some}
-use Rattle.lfs_model.specs.format.Log.{block_entries}
-use Rattle.lfs_model.specs.format.Content.{RawContent, content_after, empty_raw_content}
-use Rattle.lfs_tag.specs.Find.{comparison_with_slot, first_wanted_slot}
+use Rattle.lfs_tag.proofs.Common.{block_entries, RawContent, content_after, empty_raw_content, comparison_with_slot, first_wanted_slot}
 use Rattle.lfs_tag.proofs.lookup.first_wanted_id.Given as goal
 
 abbrev pub invariant-loop-id : goal.invariant-loop-id

@@ -1,9 +1,8 @@
 use Rattle.std.proofs.Common.{◌≡◌, ◌∙◌, Less, Equal, Greater, refl, sym}
 use Rattle.std.specs.declared.cmp.Ordering.{Ordering}
-use Rattle.std.specs.Cmp.Lexicographic.{slice_cmp}
+use Rattle.lfs_tag.proofs.Common.{slice_cmp, is_equal}
 use Rattle.std.specs.Ordering.{is_eq, nat_cmp}
 use Rattle.std.proofs.lemmas.Map.Text.{is_eq-slice_cmp}
-use Rattle.lfs_model.specs.format.Names.{is_equal}
 use Rattle.lfs_tag.proofs.names.are_names_equal.Goals as goal
 
 equal : (o : Ordering) → is_eq o ≡ is_equal o

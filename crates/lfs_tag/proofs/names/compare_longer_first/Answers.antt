@@ -1,6 +1,5 @@
 use Rattle.std.proofs.Common.{◌≡◌, ◌⊎◌, length, ap₂, sym, ◌∙◌, arith, inl, inr}
-use Rattle.std.specs.Ordering.{ordering_then}
-use Rattle.std.proofs.lemmas.Bool.{cases_lt}
+use Rattle.lfs_tag.proofs.Common.{ordering_then, cases_lt}
 use Rattle.lfs_tag.proofs.Compared.{by_shared}
 use Rattle.lfs_tag.proofs.names.compare_longer_first.Goals as goal
 

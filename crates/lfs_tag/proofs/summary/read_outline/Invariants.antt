@@ -1,6 +1,5 @@
 use Rattle.std.proofs.Common.{◌≡◌}
-use Rattle.lfs_model.specs.format.Log.{block_entries}
-use Rattle.lfs_tag.specs.Summary.{outline_view, outline_after, empty_outline}
+use Rattle.lfs_tag.proofs.Common.{block_entries, outline_view, outline_after, empty_outline}
 use Rattle.lfs_tag.proofs.summary.read_outline.Given as goal
 
 abbrev pub invariant-loop-entry : goal.invariant-loop-entry

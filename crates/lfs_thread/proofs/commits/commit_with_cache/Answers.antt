@@ -1,13 +1,10 @@
 use Rattle.std.proofs.Common.{ℕ, ◌+◌, ◌∙◌, ap, sym, subst, Vec}
 use Rattle.std.specs.Prelude.{option_map}
 use Rattle.std.specs.declared.alloc.Global.{Global}
-use Rattle.lfs_pair.specs.Writing.{ChangesOnlyBlocksWithinReadLimit}
-use Rattle.lfs_thread.specs.CachedLog.{reads_unless_cached}
-use Rattle.lfs_pair.specs.Pair.{header_address}
+use Rattle.lfs_thread.proofs.Common.{ChangesReadingFew, reads_unless_cached, header_address, address_blocks}
 use Rattle.lfs_thread.proofs.Reported.{errors_of}
 use Rattle.lfs_thread.proofs.CachedLogs.{current_but_two, current_without}
 use Rattle.lfs_thread.proofs.commits.commit_with_cache.Goals as goal
-use Rattle.lfs_model.specs.format.Thread.{address_blocks}
 
 pub returns-in-Some-clause-current : goal.returns-in-Some-clause-current
 returns-in-Some-clause-current g c = current_but_two _ _ _ _ (header_address c.args.pair.now) (current_without _ _ c.args.pair.now.active c.requires.current) c.take_pair_blocks.ensures.gone c.commit_bytes.ensures.device.only.others
@@ -29,10 +26,10 @@ returns-in-None-clause-errors g c =
 
 pub returns-in-Some-clause-device : goal.returns-in-Some-clause-device
 returns-in-Some-clause-device g c =
-    subst (λ o. ChangesOnlyBlocksWithinReadLimit g.D.BlockDevice (1 + reads_unless_cached o) (address_blocks (header_address c.args.pair.now)) c.args.device.now c.commit_bytes.new.dev)
+    subst (λ o. ChangesReadingFew g.D.BlockDevice (1 + reads_unless_cached o) (address_blocks (header_address c.args.pair.now)) c.args.device.now c.commit_bytes.new.dev)
     (ap (option_map (λ (bytes : Vec ℕ Global). bytes.items)) (sym c.in-Some.is) ∙ c.take_pair_blocks.ensures.bytes) c.commit_bytes.ensures.device
 
 pub returns-in-None-clause-device : goal.returns-in-None-clause-device
 returns-in-None-clause-device g c =
-    subst (λ o. ChangesOnlyBlocksWithinReadLimit g.D.BlockDevice (1 + reads_unless_cached o) (address_blocks (header_address c.args.pair.now)) c.args.device.now c.commit.new.dev)
+    subst (λ o. ChangesReadingFew g.D.BlockDevice (1 + reads_unless_cached o) (address_blocks (header_address c.args.pair.now)) c.args.device.now c.commit.new.dev)
     (ap (option_map (λ (bytes : Vec ℕ Global). bytes.items)) (sym c.in-None.is) ∙ c.take_pair_blocks.ensures.bytes) c.commit.ensures.device

@@ -1,14 +1,10 @@
 use Rattle.std.proofs.Common.{ℕ, ◌+◌, ◌∙◌, ap, sym, subst, Vec}
 use Rattle.std.specs.Prelude.{option_map}
 use Rattle.std.specs.declared.alloc.Global.{Global}
-use Rattle.lfs_pair.specs.Writing.{ChangesOnlyBlocksWithinReadLimit}
-use Rattle.lfs_thread.specs.CachedLog.{reads_unless_cached}
-use Rattle.lfs_model.specs.format.Slots.{array_address}
-use Rattle.lfs_pair.specs.Pair.{header_address}
+use Rattle.lfs_thread.proofs.Common.{ChangesReadingFew, reads_unless_cached, array_address, header_address, addresses_blocks}
 use Rattle.lfs_thread.proofs.Reported.{errors_of}
 use Rattle.lfs_thread.proofs.CachedLogs.{current_but_four, current_without}
 use Rattle.lfs_thread.proofs.commits.split_with_cache.Goals as goal
-use Rattle.lfs_model.specs.format.Thread.{addresses_blocks}
 
 pub returns-in-Some-clause-current : goal.returns-in-Some-clause-current
 returns-in-Some-clause-current g c = current_but_four _ _ _ _ _ (header_address c.args.pair.now) (array_address c.args.fresh) (current_without _ _ c.args.pair.now.active c.requires.current)
@@ -32,10 +28,10 @@ returns-in-None-clause-errors g c =
 
 pub returns-in-Some-clause-device : goal.returns-in-Some-clause-device
 returns-in-Some-clause-device g c =
-    subst (λ o. ChangesOnlyBlocksWithinReadLimit g.D.BlockDevice (3 + reads_unless_cached o) (addresses_blocks (header_address c.args.pair.now) (array_address c.args.fresh)) c.args.device.now c.split_bytes.new.dev)
+    subst (λ o. ChangesReadingFew g.D.BlockDevice (3 + reads_unless_cached o) (addresses_blocks (header_address c.args.pair.now) (array_address c.args.fresh)) c.args.device.now c.split_bytes.new.dev)
     (ap (option_map (λ (bytes : Vec ℕ Global). bytes.items)) (sym c.in-Some.is) ∙ c.take_pair_blocks-held.ensures.bytes) c.split_bytes.ensures.device
 
 pub returns-in-None-clause-device : goal.returns-in-None-clause-device
 returns-in-None-clause-device g c =
-    subst (λ o. ChangesOnlyBlocksWithinReadLimit g.D.BlockDevice (3 + reads_unless_cached o) (addresses_blocks (header_address c.args.pair.now) (array_address c.args.fresh)) c.args.device.now c.split.new.dev)
+    subst (λ o. ChangesReadingFew g.D.BlockDevice (3 + reads_unless_cached o) (addresses_blocks (header_address c.args.pair.now) (array_address c.args.fresh)) c.args.device.now c.split.new.dev)
     (ap (option_map (λ (bytes : Vec ℕ Global). bytes.items)) (sym c.in-None.is) ∙ c.take_pair_blocks-held.ensures.bytes) c.split.ensures.device

@@ -1,6 +1,5 @@
 use Rattle.std.proofs.Common.{◌∙◌, sym, ap}
-use Rattle.lfs_model.specs.format.Slots.{Gstate, gstate_xor}
-use Rattle.lfs_tag.specs.FieldsView.{move_view}
+use Rattle.lfs_thread.proofs.Common.{Gstate, gstate_xor, move_view}
 use Rattle.lfs_thread.proofs.GlobalState.{joined_more}
 use Rattle.lfs_thread.proofs.deltas.headers_gstate.Goals as goal
 

@@ -1,7 +1,5 @@
 use Rattle.std.proofs.Common.{◌≡◌, map, take}
-use Rattle.std.specs.List.{fold}
-use Rattle.lfs_model.specs.format.Slots.{gstate_xor, zero_gstate}
-use Rattle.lfs_tag.specs.FieldsView.{move_view}
+use Rattle.lfs_thread.proofs.Common.{fold, gstate_xor, zero_gstate, move_view}
 use Rattle.lfs_thread.proofs.deltas.headers_gstate.Given as goal
 
 abbrev pub invariant-loop-pair : goal.invariant-loop-pair

@@ -1,16 +1,9 @@
 use Rattle.std.proofs.Common.{rules, length, ◌<◌, sym, ap, ap₂, subst, ◌∙◌, set, Ok}
-use Rattle.std.proofs.lemmas.List.{length-set}
-use Rattle.lfs_device.specs.DeviceDisk.{disk_of_blocks}
-use Rattle.lfs_model.specs.layers.BlockSets.{BlockStates, Free}
-use Rattle.lfs_model.proofs.Histories.{HoldsAtLosses-weaker}
-use Rattle.lfs_pair.specs.Pair.{header_address}
-use Rattle.lfs_thread.specs.Kept.{PairHeader}
-use Rattle.lfs_thread.specs.ThreadSteps.{map_freeing}
+use Rattle.lfs_thread.proofs.Common.{length-set, disk_of_blocks, BlockStates, Free, HoldsAtLosses-weaker, header_address, PairHeader, map_freeing, address_blocks}
 use Rattle.lfs_thread.proofs.CachedPair.{reading_there}
 use Rattle.lfs_thread.proofs.Changing.{can_commit, left_in_thread, full_kept, refused}
 use Rattle.lfs_thread.proofs.Dropped.{next_there, here_at, gone_is, next_used, device_dropped, device_is_dropped}
 use Rattle.lfs_thread.proofs.drops.drop_next_pair.Goals as goal
-use Rattle.lfs_model.specs.format.Thread.{address_blocks}
 
 pub commit_with_cache-requires : goal.commit_with_cache-requires
 commit_with_cache-requires g c = record {

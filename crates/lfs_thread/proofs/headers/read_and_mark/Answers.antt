@@ -1,11 +1,6 @@
 use Rattle.std.proofs.Common.{◌≡◌, ◌≢◌, ◌<◌, Err, ap, slice_set, true, rules, subst, sym}
-use Rattle.std.specs.Option.{option_and_then}
-use Rattle.lfs_model.specs.format.Slots.{array_address}
-use Rattle.lfs_model.specs.layers.BlockSets.{BlockStates, IsFree, Used}
-use Rattle.lfs_model.specs.format.Content.{complete_content}
+use Rattle.lfs_thread.proofs.Common.{option_and_then, array_address, BlockStates, IsFree, Used, complete_content, disk_of_device, IsThreadViolation}
 use Rattle.lfs_model.specs.declared.violations.Violation.TheVariants.{NoContent}
-use Rattle.lfs_thread.specs.Kept.{disk_of_device}
-use Rattle.lfs_thread.specs.MountErrors.{IsViolationTrue}
 use Rattle.lfs_thread.proofs.Begun.{fetched_header, fetched_incomplete, fetched_stands, on_disk}
 use Rattle.lfs_thread.proofs.MountErrors.{second_in_two, true_of}
 use Rattle.lfs_thread.proofs.headers.read_and_mark.Goals as goal
@@ -42,7 +37,7 @@ returns-in-Err-clause-broken g c before is =
     let first : (array_address c.args.at).0 < (g.D.BlockDevice.geometry c.args.device.now).block_count = search rules in
     let second : (array_address c.args.at).1 < (g.D.BlockDevice.geometry c.args.device.now).block_count = search rules in
     let on = on_disk (disk_of_device g.D.BlockDevice c.args.device.now) _ (array_address c.args.at) (g.met.D.BlockDevice.shape c.args.device.now).count apart first second in
-    subst (IsViolationTrue (disk_of_device g.D.BlockDevice c.args.device.now)) (sym c.of.ensures)
+    subst (IsThreadViolation (disk_of_device g.D.BlockDevice c.args.device.now)) (sym c.of.ensures)
     (true_of _ c.in-Err.error (NoContent c.args.at) c.in-Err.ensures.fails.errors
     (λ corrupt. ((before, is.begins), (on.first, on.second), ap (option_and_then complete_content) (c.in-Err.ensures.fails.corrupt (ap Err corrupt)))))
 

@@ -1,17 +1,10 @@
-use Rattle.std.proofs.lemmas.Result.{err_from_is_err_and}
+use Rattle.lfs_thread.proofs.Common.{err_from_is_err_and, option_map, disk_of_blocks, array_address, header_address, fetch_reads, IsThreadBeginning, disk_of_device, IsThreadViolation}
 use Rattle.lfs_thread.specs.declared.mount_error.MountError.TheVariants.{NoMemory}
 use Rattle.std.proofs.Common.{◌≡◌, ◌+◌, ◌<◌, ◌∙◌, Err, [], ◌∷◌, length, refl, sym, ap, ap₂, subst, arith, rules, length-append}
-use Rattle.std.specs.Option.{option_map}
-use Rattle.lfs_device.specs.DeviceDisk.{disk_of_blocks}
 use Rattle.lfs_device.specs.declared.geometry.Geometry.{Geometry}
-use Rattle.lfs_model.specs.format.Slots.{array_address}
 use Rattle.lfs_model.proofs.Histories.{began}
 use Rattle.std.specs.Prelude.{IfErr, sum_by}
-use Rattle.lfs_pair.specs.Pair.{header_address, fetch_reads}
 use Rattle.lfs_thread.proofs.HeaderReads.{more_reads}
-use Rattle.lfs_thread.specs.Begun.{IsThreadBeginning}
-use Rattle.lfs_thread.specs.Kept.{disk_of_device}
-use Rattle.lfs_thread.specs.MountErrors.{IsViolationTrue}
 use Rattle.lfs_thread.proofs.Begun.{begun_first, begun_next, begun_kept, begun_none_in_flight, begun_few, begun_before, read_on}
 use Rattle.lfs_thread.proofs.headers.read_thread_headers.Goals as goal
 
@@ -38,9 +31,9 @@ returns-in_err-pair-in-Some-clause-broken g c =
     let same : disk_of_device g.D.BlockDevice c.loop.device ≡ disk_of_device g.D.BlockDevice c.args.device.now = ap₂ disk_of_blocks c.loop.invariant.device.geometry c.loop.invariant.device.same in
     let before = begun_before _ _ _ _ _ (array_address c.in-Some.at) (ap (option_map array_address) c.in-Some.is) c.loop.invariant.begun in
     let broken = c.in_err-pair-in-Some.ensures.broken _ before in
-    subst (λ r. IfErr r (IsViolationTrue (disk_of_device g.D.BlockDevice c.args.device.now))) (sym p.1)
-    (subst (IsViolationTrue (disk_of_device g.D.BlockDevice c.args.device.now)) (sym p.2)
-    (subst (λ d. IsViolationTrue d c.in_err-pair-in-Some.field-0.0) same broken))
+    subst (λ r. IfErr r (IsThreadViolation (disk_of_device g.D.BlockDevice c.args.device.now))) (sym p.1)
+    (subst (IsThreadViolation (disk_of_device g.D.BlockDevice c.args.device.now)) (sym p.2)
+    (subst (λ d. IsThreadViolation d c.in_err-pair-in-Some.field-0.0) same broken))
 
 pub returns-in_err-pair-in-Some-clause-reported : goal.returns-in_err-pair-in-Some-clause-reported
 returns-in_err-pair-in-Some-clause-reported g c =

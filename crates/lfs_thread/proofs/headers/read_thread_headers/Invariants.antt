@@ -1,12 +1,7 @@
 use Rattle.std.proofs.Common.{◌≡◌, ◌+◌, length}
 use Rattle.std.specs.Prelude.{sum_by}
-use Rattle.std.specs.Option.{option_map}
-use Rattle.lfs_device.specs.DeviceDisk.{disk_of_blocks}
-use Rattle.lfs_device.specs.DeviceCalls.{ReadsOnly}
-use Rattle.lfs_model.specs.session.History.{fault_count, read_count}
-use Rattle.lfs_model.specs.format.Slots.{array_address}
-use Rattle.lfs_pair.specs.Pair.{header_address, fetch_reads}
-use Rattle.lfs_thread.specs.Begun.{IsThreadBeginning}
+use Rattle.lfs_thread.proofs.Common.{option_map, disk_of_blocks, ReadsOnly, read_count, array_address, header_address, fetch_reads, IsThreadBeginning}
+use Rattle.lfs_model.specs.session.History.{fault_count}
 use Rattle.lfs_thread.proofs.headers.read_thread_headers.Given as goal
 
 abbrev pub invariant-loop : goal.invariant-loop

@@ -1,18 +1,7 @@
 use Rattle.std.proofs.Common.{◌≤◌, ◌+◌, ◌∙◌, Err, Ok, List, ap, ap₂, arith, subst, sym, set, length, remove}
-use Rattle.std.proofs.lemmas.Result.{err_from_is_err_and}
-use Rattle.lfs_device.specs.DeviceDisk.{disk_of_blocks}
-use Rattle.lfs_model.specs.format.Blocks.{SameExceptThese}
-use Rattle.lfs_model.specs.layers.BlockSets.{BlockStates, IsInFlight, Used}
-use Rattle.lfs_model.specs.format.Slots.{array_address}
-use Rattle.lfs_model.proofs.Histories.{fault_count-since}
-use Rattle.lfs_pair.specs.ChangeView.{changes_view}
-use Rattle.lfs_pair.specs.Pair.{header_address}
-use Rattle.lfs_thread.specs.ThreadDevice.{IoMeansFaultNoMemoryWritesNothing}
-use Rattle.lfs_thread.specs.Kept.{PairHeader, IsKeptOnDisk, disk_of_device, kept_view, kept_of_device}
-use Rattle.lfs_thread.specs.ThreadSteps.{RefusesThreadingIn}
+use Rattle.lfs_thread.proofs.Common.{err_from_is_err_and, disk_of_blocks, SameExceptThese, BlockStates, IsInFlight, Used, array_address, fault_count-since, changes_view, header_address, ReportsErrorsWritingNothing, PairHeader, IsKeptOnDisk, disk_of_device, kept_view, kept_of_device, RefusesThreading, reads_unless_cached, address_blocks, addresses_blocks}
 use Rattle.lfs_thread.proofs.CachedLogs.{current_but_two}
 use Rattle.lfs_thread.proofs.Changing.{at_there}
-use Rattle.lfs_thread.specs.CachedLog.{reads_unless_cached}
 use Rattle.lfs_thread.proofs.Coming.{second_held}
 use Rattle.lfs_thread.proofs.CachedPair.{cached_beside, reading_there}
 use Rattle.lfs_thread.proofs.Joined.{fresh_can}
@@ -20,7 +9,6 @@ use Rattle.lfs_thread.proofs.Threaded.{device_can, device_left_beside, device_st
 use Rattle.lfs_thread.proofs.Parting.{placed}
 use Rattle.lfs_thread.proofs.Reported.{changes_by_fresh, changes_by_both}
 use Rattle.lfs_thread.proofs.joins.thread_in_pair.Goals as goal
-use Rattle.lfs_model.specs.format.Thread.{address_blocks, addresses_blocks}
 
 pub fresh-requires : goal.fresh-requires
 fresh-requires g c =
@@ -71,7 +59,7 @@ returns-in_err-outcome-clause-device g c =
 pub returns-in_err-outcome-clause-errors : goal.returns-in_err-outcome-clause-errors
 returns-in_err-outcome-clause-errors g c =
     let p = err_from_is_err_and c.from_residual-in_err-outcome.result c.from_residual-in_err-outcome.ensures.1 in
-    let t = subst (λ r. IoMeansFaultNoMemoryWritesNothing g.D.BlockDevice c.fresh.new.dev c.commit_with_cache.new.device r) (sym (p.1 ∙ ap Err p.2)) c.in_err-outcome.ensures.errors in
+    let t = subst (λ r. ReportsErrorsWritingNothing g.D.BlockDevice c.fresh.new.dev c.commit_with_cache.new.device r) (sym (p.1 ∙ ap Err p.2)) c.in_err-outcome.ensures.errors in
     let so_far = fault_count-since c.in_ok-fresh_pair.ensures.device.only.at_worst in
     record {
       errors = t.errors;
@@ -108,7 +96,7 @@ returns-in-Full-clause-full g c _ =
     let e = c.in_ok-fresh_pair.ensures in
     let full = (c.in_ok-outcome.ensures.ends.full (ap Ok c.in-Full.is)).device in
     let items = c.remove.ensures.items ∙ ap (λ (z : List PairHeader). remove z (c.args.index + 1)) c.in_ok-insert.ensures.items ∙ unplaced _ _ _ _ a in
-    subst (λ (z : List PairHeader). RefusesThreadingIn (kept_of_device g.D.BlockDevice c.args.device.now c.args.pairs.now.items c.args.map.now) c.args.index (array_address c.args.fresh) (changes_view c.args.changes.now) (kept_view (disk_of_device g.D.BlockDevice c.commit_with_cache.new.device) (g.D.BlockDevice.history c.commit_with_cache.new.device) z c.args.map.now)) (sym items)
+    subst (λ (z : List PairHeader). RefusesThreading (kept_of_device g.D.BlockDevice c.args.device.now c.args.pairs.now.items c.args.map.now) c.args.index (array_address c.args.fresh) (changes_view c.args.changes.now) (kept_view (disk_of_device g.D.BlockDevice c.commit_with_cache.new.device) (g.D.BlockDevice.history c.commit_with_cache.new.device) z c.args.map.now)) (sym items)
     (is_beside _ _ _ _ _ _ c.args.pairs.now.items c.args.map.now c.args.index c.index.result.now (array_address c.args.fresh) _ e.device.only.geometry a c.requires.kept c.requires.can e.device.only.others e.device.only.elsewhere _ (g.D.BlockDevice.history c.commit_with_cache.new.device) (ap₂ disk_of_blocks full.geometry full.same) (c.in_ok-outcome.ensures.ends.full (ap Ok c.in-Full.is)).completed)
 
 pub returns-in-Full-clause-device : goal.returns-in-Full-clause-device

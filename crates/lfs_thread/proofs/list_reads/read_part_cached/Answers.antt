@@ -1,5 +1,5 @@
 use Rattle.std.proofs.Common.{sym, subst}
-use Rattle.lfs_thread.specs.Kept.{IsCacheCurrent}
+use Rattle.lfs_thread.proofs.Common.{IsCacheCurrent}
 use Rattle.lfs_thread.proofs.CachedLogs.{current_at, current_read}
 use Rattle.lfs_thread.proofs.list_reads.read_part_cached.Goals as goal
 

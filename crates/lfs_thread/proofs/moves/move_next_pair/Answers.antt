@@ -1,16 +1,5 @@
 use Rattle.std.proofs.Common.{[], ◌≤◌, ◌<◌, ◌∙◌, Err, Ok, ap, arith, refl, subst, sym, set, length}
-use Rattle.std.proofs.lemmas.List.{length-set}
-use Rattle.std.proofs.lemmas.Result.{err_from_is_err_and}
-use Rattle.lfs_model.specs.format.Blocks.{SameExceptThese}
-use Rattle.lfs_model.specs.format.Slots.{array_address}
-use Rattle.lfs_model.specs.format.Thread.{address_blocks, addresses_blocks}
-use Rattle.lfs_model.specs.layers.BlockSets.{BlockStates, Free, IsInFlight, Used}
-use Rattle.lfs_model.proofs.Histories.{fault_count-since}
-use Rattle.lfs_pair.specs.Copies.{CanCopyPair}
-use Rattle.lfs_pair.specs.Pair.{header_address}
-use Rattle.lfs_thread.specs.CachedLog.{reads_unless_cached}
-use Rattle.lfs_thread.specs.Kept.{PairHeader, disk_of_device}
-use Rattle.lfs_thread.specs.ThreadSteps.{map_freeing, map_using}
+use Rattle.lfs_thread.proofs.Common.{length-set, err_from_is_err_and, SameExceptThese, array_address, address_blocks, addresses_blocks, BlockStates, Free, IsInFlight, Used, fault_count-since, CanCopyPair, header_address, reads_unless_cached, PairHeader, disk_of_device, map_freeing, map_using}
 use Rattle.lfs_thread.proofs.CachedLogs.{current_but_two}
 use Rattle.lfs_thread.proofs.CachedPair.{cached_beside, reading_there}
 use Rattle.lfs_thread.proofs.Coming.{second_held}

@@ -1,6 +1,5 @@
 use Rattle.std.proofs.Common.{◌≡◌, ◌≤◌, false, length, take}
-use Rattle.std.specs.List.{AllByRecursion}
-use Rattle.lfs_model.specs.format.Slots.{array_address, same_pair}
+use Rattle.lfs_thread.proofs.Common.{AllByRecursion, array_address, same_pair}
 use Rattle.lfs_thread.proofs.pair_numbers.number_at_address.Given as goal
 
 abbrev pub invariant-loop-index : goal.invariant-loop-index

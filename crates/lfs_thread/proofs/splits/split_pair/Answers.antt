@@ -1,16 +1,11 @@
 use Rattle.std.proofs.Common.{rules, ◌+◌, ◌∙◌, Err, List, ap, refl, subst, sym, set}
-use Rattle.std.proofs.lemmas.Result.{err_from_is_err_and}
-use Rattle.lfs_model.specs.layers.BlockSets.{BlockStates, IsInFlight, Used}
-use Rattle.lfs_model.specs.format.Slots.{array_address}
-use Rattle.lfs_model.proofs.Histories.{HoldsAtLosses-weaker}
-use Rattle.lfs_thread.specs.Kept.{PairHeader, disk_of_device}
+use Rattle.lfs_thread.proofs.Common.{err_from_is_err_and, BlockStates, IsInFlight, Used, array_address, HoldsAtLosses-weaker, PairHeader, disk_of_device, addresses_blocks}
 use Rattle.lfs_thread.proofs.Changing.{at_there}
 use Rattle.lfs_thread.proofs.Coming.{second_held}
 use Rattle.lfs_thread.proofs.CachedPair.{reading_there}
 use Rattle.lfs_thread.proofs.Parting.{can_split, device_split, device_is_split, left_by_split, placed}
 use Rattle.lfs_thread.proofs.Reported.{errors_again}
 use Rattle.lfs_thread.proofs.splits.split_pair.Goals as goal
-use Rattle.lfs_model.specs.format.Thread.{addresses_blocks}
 
 pub split_with_cache-requires : goal.split_with_cache-requires
 split_with_cache-requires g c = record {

@@ -1,8 +1,6 @@
 use Rattle.std.proofs.Common.{◌∙◌, ◌++◌, List, [], ◌∷◌, Some, ap, true}
-use Rattle.std.proofs.lemmas.List.{map-append}
-use Rattle.lfs_model.specs.format.Slots.{array_address}
-use Rattle.lfs_model.specs.layers.Changes.{PairChange, PutTail}
-use Rattle.lfs_pair.specs.ChangeView.{change_view, changes_view}
+use Rattle.lfs_thread.proofs.Common.{map-append, array_address, PairChange, PutTail, changes_view}
+use Rattle.lfs_pair.specs.ChangeView.{change_view}
 use Rattle.lfs_pair.specs.declared.change.Change.{Change}
 use Rattle.lfs_pair.specs.declared.change.Change.TheVariants as changes
 use Rattle.lfs_thread.proofs.Unloading.{map_replicate}

@@ -1,18 +1,6 @@
 use Rattle.std.proofs.Common.{◌≤◌, ◌+◌, ◌-◌, ◌∙◌, Ok, Err, List, [], ◌∷◌, ap, arith, subst, sym, set, length}
-use Rattle.std.proofs.lemmas.Result.{err_from_is_err_and}
-use Rattle.lfs_model.specs.format.Blocks.{SameExceptThese}
-use Rattle.lfs_model.specs.format.Slots.{Gstate, array_address}
-use Rattle.lfs_model.specs.format.Thread.{address_blocks, addresses_blocks}
-use Rattle.lfs_model.specs.layers.BlockSets.{BlockStates, IsInFlight, Used}
-use Rattle.lfs_model.specs.layers.Changes.{PairChange, PutMove}
-use Rattle.lfs_model.proofs.Histories.{fault_count-since}
-use Rattle.lfs_pair.specs.ChangeView.{changes_view}
-use Rattle.lfs_pair.specs.Commits.{CanCommit, CommitsChanges, LossLeavesChanged, RefusesCommit}
-use Rattle.lfs_pair.specs.Copies.{CanCopyPair, IsPairCopied}
-use Rattle.lfs_pair.specs.Pair.{header_address}
-use Rattle.lfs_thread.specs.CachedLog.{reads_unless_cached}
-use Rattle.lfs_thread.specs.Kept.{PairHeader, disk_of_device}
-use Rattle.lfs_thread.specs.ThreadDevice.{LossLeavesCleanly}
+use Rattle.lfs_thread.proofs.Common.{err_from_is_err_and, SameExceptThese, Gstate, array_address, address_blocks, addresses_blocks, BlockStates, IsInFlight, Used, PairChange, PutMove, fault_count-since, changes_view, CanCommit, CommitsChanges, LossLeavesChanged, CanCopyPair, IsPairCopied, header_address, reads_unless_cached, PairHeader, disk_of_device, CleanLossLeaves}
+use Rattle.lfs_pair.specs.Commits.{RefusesCommit}
 use Rattle.lfs_thread.proofs.CachedLogs.{current_but_two}
 use Rattle.lfs_thread.proofs.CachedPair.{cached_beside, count_there, reading_there}
 use Rattle.lfs_thread.proofs.Changing.{at_there}
@@ -144,7 +132,7 @@ returns-in_err-outcome-clause-stops g c =
     let copied = subst (λ (m : Gstate). IsPairCopied disk history (PutMove m ∷ []) h later then (array_address c.args.fresh) c.in_ok-loaded.loaded) c.none.ensures e.copied in
     device_unload_stops _ _ _ _ _ _ c.args.pairs.now.items c.args.map.now c.args.index h (array_address c.args.fresh) c.args.keep count few e.device.only.geometry a c.requires.kept c.requires.can counted e.device.only.others e.device.only.elsewhere _ copied
     _ e.device.only.at_worst k.device.only.at_worst
-    (subst (λ (changes : List PairChange). LossLeavesCleanly then (g.D.BlockDevice.history c.commit_with_cache.new.device) (LossLeavesChanged later (header_address h) changes)) made k.stops)
+    (subst (λ (changes : List PairChange). CleanLossLeaves then (g.D.BlockDevice.history c.commit_with_cache.new.device) (LossLeavesChanged later (header_address h) changes)) made k.stops)
 
 pub unreachable-requires : goal.unreachable-requires
 unreachable-requires g c =
@@ -265,4 +253,4 @@ returns-clause-stops g c =
     let copied = subst (λ (m : Gstate). IsPairCopied disk history (PutMove m ∷ []) h later then (array_address c.args.fresh) c.in_ok-loaded.loaded) c.none.ensures e.copied in
     device_unload_stops _ _ _ _ _ _ c.args.pairs.now.items c.args.map.now c.args.index h (array_address c.args.fresh) c.args.keep count few e.device.only.geometry a c.requires.kept c.requires.can counted e.device.only.others e.device.only.elsewhere _ copied
     _ e.device.only.at_worst k.device.only.at_worst
-    (subst (λ (changes : List PairChange). LossLeavesCleanly then (g.D.BlockDevice.history c.commit_with_cache.new.device) (LossLeavesChanged later (header_address h) changes)) made k.stops)
+    (subst (λ (changes : List PairChange). CleanLossLeaves then (g.D.BlockDevice.history c.commit_with_cache.new.device) (LossLeavesChanged later (header_address h) changes)) made k.stops)

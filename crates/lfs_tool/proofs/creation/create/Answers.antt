@@ -1,8 +1,6 @@
 use Rattle.std.proofs.Common.{List, ◌≡◌, ◌∙◌, subst, sym}
-use Rattle.std.proofs.lemmas.Result.{IfOk-weaker}
+use Rattle.lfs_tool.proofs.Common.{IfOk-weaker, ram_bytes, RefusesEntries}
 use Rattle.lfs_tool_folders.specs.declared.entries.SourceEntry.{SourceEntry}
-use Rattle.lfs_device.specs.RamDevice.{ram_bytes}
-use Rattle.lfs_tool.specs.MadeImages.{RefusesEntries}
 use Rattle.lfs_tool.proofs.Writers.{reports_written}
 use Rattle.lfs_tool.proofs.ImagesMade.{made, passed}
 use Rattle.lfs_tool.proofs.Walking.{carry_over}

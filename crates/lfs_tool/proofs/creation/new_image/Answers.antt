@@ -1,6 +1,5 @@
 use Rattle.std.proofs.Common.{refl}
-use Rattle.lfs_fs.specs.SessionView.{system_state}
-use Rattle.lfs_device.specs.RamDevice.{ram_bytes}
+use Rattle.lfs_tool.proofs.Common.{system_state, ram_bytes}
 use Rattle.lfs_tool.proofs.ImagesMade.{left, refused}
 use Rattle.lfs_tool.proofs.creation.new_image.Goals as goal
 

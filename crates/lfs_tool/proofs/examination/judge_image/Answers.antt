@@ -1,6 +1,5 @@
 use Rattle.std.proofs.Common.{subst}
-use Rattle.lfs_tool.specs.Verdict.{IsDiskVerdict}
-use Rattle.lfs_model.specs.format.Disk.{Disk}
+use Rattle.lfs_tool.proofs.Common.{IsDiskVerdict, Disk}
 use Rattle.lfs_tool.proofs.examination.judge_image.Goals as goal
 
 pub returns-in_ok-verdict-in-Ok-clause-judged : goal.returns-in_ok-verdict-in-Ok-clause-judged

@@ -1,5 +1,5 @@
 use Rattle.std.proofs.Common.{◌≤◌, ℕ, List, arith, length, subst, sym}
-use Rattle.lfs_tool.specs.CheckResults.{IsWrongNumber}
+use Rattle.lfs_tool.proofs.Common.{IsWrongNumber}
 use Rattle.lfs_tool.proofs.Checks.{number_or_none}
 use Rattle.lfs_tool.proofs.examination.result_of_bytes.Goals as goal
 

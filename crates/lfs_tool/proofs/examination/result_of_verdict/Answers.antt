@@ -1,6 +1,7 @@
 use Rattle.std.proofs.Common.{◌≡◌, Some, subst}
 use Rattle.lfs_tool.specs.declared.verdict.ImageVerdict.TheVariants as verdict
-use Rattle.lfs_tool.specs.CheckResults.{IsBytesVerdict, IsWrongNumber}
+use Rattle.lfs_tool.proofs.Common.{IsWrongNumber}
+use Rattle.lfs_tool.specs.CheckResults.{IsBytesVerdict}
 use Rattle.lfs_tool.proofs.examination.result_of_verdict.Goals as goal
 
 pub returns-in-Some-Accepted : goal.returns-in-Some-Accepted

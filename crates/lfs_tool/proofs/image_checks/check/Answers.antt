@@ -1,7 +1,6 @@
 use Rattle.std.proofs.Common.{◌∙◌, subst}
 use Rattle.std.proofs.lemmas.Option.{IfSome_then}
-use Rattle.std.specs.Io.KnownBytes.{Appends}
-use Rattle.lfs_tool.specs.KnownBytes.{AppendsBeginning}
+use Rattle.lfs_tool.proofs.Common.{Appends, AppendsBeginning}
 use Rattle.lfs_tool.proofs.image_checks.check.Goals as goal
 
 pub returns-in_err-write_and_flush-clause-beginning : goal.returns-in_err-write_and_flush-clause-beginning

@@ -1,11 +1,9 @@
 use Rattle.std.proofs.Common.{◌∙◌, Err, ap, arith, subst, sym}
 use Rattle.lfs_thread.specs.Kept.{disk_of_device}
-use Rattle.lfs_model.specs.format.Disk.{ordered_disk, Disk}
-use Rattle.lfs_model.specs.session.History.{OnlyReadsSince, fault_count}
+use Rattle.lfs_tool.proofs.Common.{ordered_disk, Disk, fault_count, IsAccepted, AreWalkItems, tree_items_view}
+use Rattle.lfs_model.specs.session.History.{OnlyReadsSince}
 use Rattle.lfs_model.specs.declared.order.NameOrder.TheVariants.{LongerFirst}
 use Rattle.lfs_model.proofs.Histories.{goes_on_by}
-use Rattle.lfs_model.specs.tree.View.{IsAccepted}
-use Rattle.lfs_lookup.specs.TreeWalk.{AreWalkItems, tree_items_view}
 use Rattle.lfs_tool.proofs.image_devices.tree_items_of.Goals as goal
 
 pub returns-in-Ok-clause-items : goal.returns-in-Ok-clause-items

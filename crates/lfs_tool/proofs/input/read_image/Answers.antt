@@ -1,5 +1,5 @@
 use Rattle.std.proofs.Common.{◌∙◌, ap, arith, refl, rules, subst, sym}
-use Rattle.lfs_tool.specs.Reports.{IsReadToEnd}
+use Rattle.lfs_tool.proofs.Common.{IsReadToEnd}
 use Rattle.lfs_tool.proofs.KnownBytes.{ended_behind, past_the_most, read_ended, read_full}
 use Rattle.lfs_tool.proofs.input.read_image.Goals as goal
 use Rattle.lfs_tool.proofs.input.read_image.Goals.{else-loop-buffer-test, then-loop-buffer-test+in-Ok-eq0}

@@ -1,5 +1,5 @@
 use Rattle.std.proofs.Common.{◌≡◌, ◌-◌, ◌≤◌, vec_len}
-use Rattle.std.specs.Io.KnownBytes.{Consumes}
+use Rattle.lfs_tool.proofs.Common.{Consumes}
 use Rattle.lfs_tool.proofs.input.read_image.Given as goal
 
 abbrev pub invariant-loop-buffer : goal.invariant-loop-buffer

@@ -1,8 +1,5 @@
 use Rattle.std.proofs.Common.{subst, sym}
-use Rattle.lfs_model.specs.format.Disk.{ordered_disk, Disk}
-use Rattle.lfs_model.specs.layers.BlockSets.{AreUsed}
-use Rattle.lfs_model.specs.tree.Shown.{used_blocks}
-use Rattle.lfs_model.specs.tree.View.{IsAccepted}
+use Rattle.lfs_tool.proofs.Common.{ordered_disk, Disk, AreUsed, used_blocks, IsAccepted}
 use Rattle.lfs_model.specs.declared.order.NameOrder.TheVariants.{LongerFirst}
 use Rattle.lfs_tool.proofs.judgement.accepted_summary.Goals as goal
 

@@ -1,5 +1,5 @@
 use Rattle.std.proofs.Common.{ap}
-use Rattle.lfs_thread.specs.MountErrors.{error_of_mount}
+use Rattle.lfs_tool.proofs.Common.{error_of_mount}
 use Rattle.lfs_tool.proofs.judgement.accepts_order.Goals as goal
 
 pub returns-in-Err-default-Corrupt : goal.returns-in-Err-default-Corrupt

@@ -1,12 +1,7 @@
 use Rattle.std.proofs.Common.{subst, sym, ap}
-use Rattle.std.proofs.lemmas.Result.{IfOk-weaker}
-use Rattle.lfs_model.specs.format.Disk.{ordered_disk, Disk}
-use Rattle.lfs_model.specs.layers.BlockSets.{AreUsed}
-use Rattle.lfs_model.specs.tree.Shown.{used_blocks}
-use Rattle.lfs_model.specs.tree.View.{IsAccepted}
+use Rattle.lfs_tool.proofs.Common.{IfOk-weaker, ordered_disk, Disk, AreUsed, used_blocks, IsAccepted, IsDiskVerdict, error_of_mount}
 use Rattle.lfs_model.specs.declared.order.NameOrder.TheVariants.{LongerFirst}
-use Rattle.lfs_tool.specs.Verdict.{IsSummarized, BreaksInSome, IsDiskVerdict}
-use Rattle.lfs_thread.specs.MountErrors.{error_of_mount}
+use Rattle.lfs_tool.specs.Verdict.{IsSummarized, BreaksInSome}
 use Rattle.lfs_tool.proofs.judgement.judge_device.Goals as goal
 
 pub judge_thread-requires-clause-used : goal.judge_thread-requires-clause-used

@@ -1,6 +1,5 @@
 use Rattle.std.proofs.Common.{◌∙◌, ap, subst, sym}
-use Rattle.lfs_model.specs.format.Disk.{ordered_disk, Disk}
-use Rattle.lfs_model.specs.tree.View.{IsAccepted}
+use Rattle.lfs_tool.proofs.Common.{ordered_disk, Disk, IsAccepted}
 use Rattle.lfs_model.specs.declared.order.NameOrder.{NameOrder}
 use Rattle.lfs_model.specs.declared.order.NameOrder.TheVariants.{LongerFirst}
 use Rattle.lfs_tool.specs.ImageSummaries.{HasAcceptedOrders, IsAcceptedInOrder}

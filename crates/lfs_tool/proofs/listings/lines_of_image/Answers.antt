@@ -1,4 +1,4 @@
-use Rattle.std.proofs.lemmas.Result.{IfErr-weaker, IfOk-weaker}
+use Rattle.lfs_tool.proofs.Common.{IfErr-weaker, IfOk-weaker}
 use Rattle.lfs_tool.proofs.Images.{lists_image, refuses_image}
 use Rattle.lfs_tool.proofs.listings.lines_of_image.Goals as goal
 

@@ -1,5 +1,5 @@
 use Rattle.std.proofs.Common.{sym, ◌∙◌}
-use Rattle.lfs_device.specs.RamDevice.{ram_blocks, ram_geometry}
+use Rattle.lfs_tool.proofs.Common.{ram_blocks, ram_geometry}
 use Rattle.lfs_device.specs.DeviceDisk.{disk_of_blocks as shown}
 use Rattle.lfs_tool.proofs.Mounts.{not_mounted}
 use Rattle.lfs_tool.proofs.listings.lines_of_ram.Goals as goal

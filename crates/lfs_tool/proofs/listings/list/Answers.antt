@@ -1,7 +1,5 @@
 use Rattle.std.proofs.Common.{List, ℕ, subst}
-use Rattle.std.proofs.lemmas.Result.{on_ok_weaker}
-use Rattle.std.specs.Io.KnownBytes.{Appends}
-use Rattle.lfs_tool.specs.KnownBytes.{AppendsBeginning}
+use Rattle.lfs_tool.proofs.Common.{on_ok_weaker, Appends, AppendsBeginning}
 use Rattle.lfs_tool.proofs.Images.{with_lines}
 use Rattle.lfs_tool.proofs.Writers.{reports_written}
 use Rattle.lfs_tool.proofs.listings.list.Goals as goal

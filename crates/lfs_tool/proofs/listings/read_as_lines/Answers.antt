@@ -1,5 +1,5 @@
 use Rattle.std.proofs.Common.{◌≡◌, subst}
-use Rattle.lfs_tool.specs.Listings.{RefusesToList}
+use Rattle.lfs_tool.proofs.Common.{RefusesToList}
 use Rattle.lfs_tool.proofs.Images.{kind_refused, lists_read, refuses_read}
 use Rattle.lfs_tool.proofs.listings.read_as_lines.Goals as goal
 

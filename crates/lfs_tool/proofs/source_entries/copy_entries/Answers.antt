@@ -1,8 +1,6 @@
 use Rattle.std.proofs.Common.{◌∙◌, ap, subst, sym, take}
-use Rattle.lfs_model.specs.session.History.{fault_count}
-use Rattle.lfs_fs.specs.SessionView.{system_state}
+use Rattle.lfs_tool.proofs.Common.{fault_count, system_state, AreApplied, IsRunToError, entry_copying}
 use Rattle.lfs_tool_folders.specs.declared.entries.SourceEntry.{SourceEntry}
-use Rattle.lfs_tool.specs.AppliedOperations.{AreApplied, IsRunToError, entry_copying}
 use Rattle.lfs_tool.proofs.Refusing.{first_refused, no_file}
 use Rattle.lfs_tool.proofs.Runs.{entry_more}
 use Rattle.lfs_tool.proofs.source_entries.copy_entries.Goals as goal

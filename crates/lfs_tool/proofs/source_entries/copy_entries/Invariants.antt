@@ -1,6 +1,5 @@
 use Rattle.std.proofs.Common.{take}
-use Rattle.lfs_fs.specs.SessionView.{system_state}
-use Rattle.lfs_tool.specs.AppliedOperations.{AreApplied, entries_copying}
+use Rattle.lfs_tool.proofs.Common.{system_state, AreApplied, entries_copying}
 use Rattle.lfs_tool.proofs.source_entries.copy_entries.Given as goal
 
 abbrev pub invariant-loop-entry : goal.invariant-loop-entry

@@ -1,9 +1,6 @@
 use Rattle.std.proofs.Common.{ap₂, List, ℕ, Option, subst, sym, refl}
-use Rattle.lfs_model.specs.layers.Listing.{node_copies}
+use Rattle.lfs_tool.proofs.Common.{node_copies, system_state, optional_view, AppliesUntilError, node_of_bytes}
 use Rattle.lfs_model.specs.session.Operations as ops
-use Rattle.lfs_fs.specs.SessionView.{system_state}
-use Rattle.lfs_tool_folders.specs.MemorySources.{optional_view}
-use Rattle.lfs_tool.specs.AppliedOperations.{AppliesUntilError, node_of_bytes}
 use Rattle.lfs_tool.proofs.Runs.{carries_one}
 use Rattle.lfs_tool.proofs.source_entries.copy_entry.Goals as goal
 

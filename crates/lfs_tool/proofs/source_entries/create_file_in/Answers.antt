@@ -1,4 +1,4 @@
-use Rattle.lfs_fs.specs.FlagsView.{flags_view}
+use Rattle.lfs_tool.proofs.Common.{flags_view}
 use Rattle.lfs_tool.proofs.Runs.{closes, fails_to_open, fails_to_write, opens, passed_on}
 use Rattle.lfs_tool.proofs.source_entries.create_file_in.Goals as goal
 

@@ -1,5 +1,5 @@
 use Rattle.std.proofs.Common.{ℕ, ap}
-use Rattle.lfs_fs.specs.FlagsView.{flags_view}
+use Rattle.lfs_tool.proofs.Common.{flags_view}
 use Rattle.lfs_fs.specs.declared.flags.OpenFlags.{OpenFlags}
 use Rattle.lfs_tool.proofs.source_entries.new_file_open.Goals as goal
 

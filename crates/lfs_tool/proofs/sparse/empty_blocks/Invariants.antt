@@ -1,5 +1,5 @@
 use Rattle.std.proofs.Common.{◌≡◌, length}
-use Rattle.lfs_tool.specs.LoadedBlocks.{AreLoadedOfSize}
+use Rattle.lfs_tool.proofs.Common.{AreLoadedOfSize}
 use Rattle.lfs_tool.proofs.sparse.empty_blocks.Given as goal
 
 abbrev pub invariant-loop : goal.invariant-loop

@@ -1,5 +1,5 @@
 use Rattle.std.proofs.Common.{◌≡◌, ◌≤◌, count_by, take}
-use Rattle.lfs_tool.specs.ImageSummaries.{is_file_item}
+use Rattle.lfs_tool.proofs.Common.{is_file_item}
 use Rattle.lfs_tool.proofs.summaries.count_files.Given as goal
 
 abbrev pub invariant-loop-item : goal.invariant-loop-item

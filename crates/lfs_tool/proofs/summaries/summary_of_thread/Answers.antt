@@ -1,11 +1,10 @@
 use Rattle.std.proofs.Common.{◌∙◌, ap, ap₂, arith, subst}
 use Rattle.lfs_model.proofs.BlockSets.{used_count-AreUsed}
 use Rattle.lfs_model.specs.layers.BlockSets.{BlockStates, used_count}
-use Rattle.lfs_model.specs.format.Disk.{Disk, block_count}
+use Rattle.lfs_tool.proofs.Common.{Disk, block_count, used_blocks, Pair, is_file_item}
 use Rattle.lfs_model.specs.layers.ProfileBreaches.{IsBreachIfAny}
-use Rattle.lfs_model.specs.tree.Shown.{used_blocks}
-use Rattle.lfs_model.specs.format.Thread.{Pair, pairs_gstate}
-use Rattle.lfs_tool.specs.ImageSummaries.{IsSuperblockTold, lesser_inline_max, is_file_item, is_half_done}
+use Rattle.lfs_model.specs.format.Thread.{pairs_gstate}
+use Rattle.lfs_tool.specs.ImageSummaries.{IsSuperblockTold, lesser_inline_max, is_half_done}
 use Rattle.lfs_tool.proofs.Counts.{as_many, files_alike}
 use Rattle.lfs_tool.proofs.ActionsDone.{only_trans}
 use Rattle.std.proofs.Common.{List, count_by}

@@ -1,7 +1,7 @@
 use Rattle.std.proofs.Common.{◌≡◌, ◌⊎◌, ◌<◌, inl, inr, ap, arith, sym, ◌∙◌, Err}
 use Rattle.lfs_device.specs.declared.error.Error.{Error}
 use Rattle.lfs_device.specs.declared.error.Error.TheVariants.{Io, NoMemory}
-use Rattle.lfs_model.specs.session.History.{CallEvent, fault_count}
+use Rattle.lfs_tool.proofs.Common.{CallEvent, fault_count}
 use Rattle.lfs_tool.specs.declared.errors.ToolError.TheVariants.{Fs}
 use Rattle.lfs_tool.proofs.unpacked_images.file_bytes.Goals as goal
 use Rattle.std.specs.Prelude.{List}

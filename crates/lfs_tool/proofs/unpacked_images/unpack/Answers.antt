@@ -1,4 +1,4 @@
-use Rattle.std.proofs.lemmas.Result.{IfErr-weaker, on_ok_weaker}
+use Rattle.lfs_tool.proofs.Common.{IfErr-weaker, on_ok_weaker}
 use Rattle.lfs_tool.proofs.Unpacks.{done_read, fails_known}
 use Rattle.lfs_tool.proofs.unpacked_images.unpack.Goals as goal
 

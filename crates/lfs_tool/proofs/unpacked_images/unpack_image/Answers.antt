@@ -1,8 +1,6 @@
-use Rattle.std.proofs.lemmas.Result.{IfErr-weaker, on_ok_weaker}
-use Rattle.lfs_device.specs.RamDevice.{ram_blocks, ram_geometry}
+use Rattle.lfs_tool.proofs.Common.{IfErr-weaker, on_ok_weaker, ram_blocks, ram_geometry, Disk}
 use Rattle.lfs_device.specs.DeviceDisk.{disk_of_blocks as shown}
 use Rattle.lfs_device.specs.declared.ram.RamDevice.{RamDevice}
-use Rattle.lfs_model.specs.format.Disk.{Disk}
 use Rattle.lfs_tool.proofs.Unpacks.{done_image, fails_image}
 use Rattle.lfs_tool.proofs.unpacked_images.unpack_image.Goals as goal
 

@@ -1,5 +1,5 @@
 use Rattle.std.proofs.Common.{◌≡◌, map}
-use Rattle.lfs_tool_folders.specs.SourceTrees.{IsSourceUnchanged}
+use Rattle.lfs_tool_folders.specs.SourceTrees.{IsUnchanged}
 use Rattle.lfs_tool_folders.specs.SourceEntries.{waiting_view}
 use Rattle.lfs_tool_folders.proofs.Reading.{AreFolders, Goes}
 use Rattle.lfs_tool_folders.proofs.entries.read_tree.Given as goal
@@ -8,6 +8,6 @@ abbrev pub invariant-loop : goal.invariant-loop
 invariant-loop g l = record {
   goes : Goes (g.S.Source.shown l.fn.source) (map waiting_view l.waiting.items) l.entries.items;
   folders : AreFolders (g.S.Source.shown l.fn.source) (map waiting_view l.waiting.items);
-  shown : IsSourceUnchanged (g.S.Source.shown l.fn.source) (g.S.Source.shown l.source);
+  shown : IsUnchanged (g.S.Source.shown l.fn.source) (g.S.Source.shown l.source);
   kept : g.S.Source.faults l.source ≡ g.S.Source.faults l.fn.source;
 }

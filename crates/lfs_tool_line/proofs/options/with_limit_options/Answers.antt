@@ -1,11 +1,11 @@
 use Rattle.std.proofs.Common.{◌∙◌, ap, codes}
 use Rattle.clap.specs.Words.{with_rule}
-use Rattle.lfs_tool_line.specs.Command.{limit_option_rule, with_limit_options}
+use Rattle.lfs_tool_line.specs.Command.{text_rule, with_limit_options}
 use Rattle.lfs_tool_line.proofs.options.with_limit_options.Goals as goal
 
 pub returns : goal.returns
 unfolding with_limit_options
 returns c =
-    let two = c.in_ok-command-2.ensures ∙ ap (λ a. with_rule a (limit_option_rule (codes "file_max") (codes "file-max"))) c.in_ok-command.ensures in
-    let three = c.in_ok-command-3.ensures ∙ ap (λ a. with_rule a (limit_option_rule (codes "attr_max") (codes "attr-max"))) two in
-    c.in_ok-command-4.ensures ∙ ap (λ a. with_rule a (limit_option_rule (codes "inline_max") (codes "inline-max"))) three
+    let two = c.in_ok-command-2.ensures ∙ ap (λ a. with_rule a (text_rule (codes "file_max") (codes "file-max"))) c.in_ok-command.ensures in
+    let three = c.in_ok-command-3.ensures ∙ ap (λ a. with_rule a (text_rule (codes "attr_max") (codes "attr-max"))) two in
+    c.in_ok-command-4.ensures ∙ ap (λ a. with_rule a (text_rule (codes "inline_max") (codes "inline-max"))) three

@@ -1,17 +1,11 @@
 use Rattle.std.proofs.Common.{subst, sym}
 use Rattle.std.specs.Prelude.{OnOk}
-use Rattle.std.proofs.lemmas.Result.{err_from_is_err_and}
-use Rattle.lfs_model.specs.format.Content.{attributes_without}
-use Rattle.lfs_operations.specs.Editing.{CanEditIn, HasRemovedAttribute, tree_with_attributes_set}
-use Rattle.lfs_thread.specs.ThreadSteps.{ChangesThreadBlocks, thread_pair_at}
-use Rattle.lfs_tree.specs.TreeChanges.{SurvivesEither}
+use Rattle.lfs_tree.proofs.Common.{err_from_is_err_and, attributes_without, CanEditIn, HasRemovedAttribute, tree_setting_attributes, ChangesThreadBlocks, thread_pair, SurvivesEither, answered, passed, address_blocks}
 use Rattle.lfs_tree.proofs.Carried.{read_is}
 use Rattle.lfs_tree.proofs.CarryEdited.{can_edit, clear_does, entry_to_clear, slot_for, slot_found}
 use Rattle.lfs_tree.proofs.ReportedFaults.{reported_by_reading}
 use Rattle.lfs_tree.proofs.Operated.{only_read_change, works_reported}
-use Rattle.lfs_lookup.proofs.Reading.{answered, passed}
 use Rattle.lfs_tree.proofs.attributes_at.remove_attr_at.Goals as goal
-use Rattle.lfs_model.specs.format.Thread.{address_blocks}
 
 pub found_entry_spot-slot-requires : goal.found_entry_spot-slot-requires
 found_entry_spot-slot-requires g c = slot_found c.args.thread.now.kept c.args.path.now c.in_ok-target.target.found (entry_to_clear c.args.thread.now.kept c.args.path.now c.args.kind c.requires.can) c.in_ok-target.ensures.target.leads
@@ -42,7 +36,7 @@ returns g c =
     let is = read_is t.kept mid.kept read.only in
     let e = c.remove_attribute.ensures in
     clear_does t c.args.root c.requires.rests c.args.path.now c.lemma_block_facts.ensures.large c.lemma_block_facts.ensures.bytes s slot mid.kept.history new c.remove_attribute.result c.args.kind c.lemma_path_bytes.ensures.0 c.lemma_path_bytes.ensures.1
-    read.same read.only.reads (subst (λ k. ChangesThreadBlocks (address_blocks (thread_pair_at k s.pair).at) k new.kept) is e.device)
+    read.same read.only.reads (subst (λ k. ChangesThreadBlocks (address_blocks (thread_pair k s.pair).at) k new.kept) is e.device)
     (subst (λ k. OnOk c.remove_attribute.result ((can : CanEditIn k s.pair s.id) → HasRemovedAttribute k new.kept can.path can.name c.args.kind)) is e.is_removed)
     (reported_by_reading mid.kept new.kept c.remove_attribute.result e.errors.reported) (works_reported new c.remove_attribute.result e.errors.failed)
-    (subst (λ k. (can : CanEditIn k s.pair s.id) → SurvivesEither k new.kept (tree_with_attributes_set k can.path can.name (attributes_without c.args.kind))) is e.survives)
+    (subst (λ k. (can : CanEditIn k s.pair s.id) → SurvivesEither k new.kept (tree_setting_attributes k can.path can.name (attributes_without c.args.kind))) is e.survives)

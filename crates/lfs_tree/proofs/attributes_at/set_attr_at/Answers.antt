@@ -1,18 +1,11 @@
 use Rattle.std.proofs.Common.{subst, sym}
 use Rattle.std.specs.Prelude.{OnOk}
-use Rattle.std.proofs.lemmas.Result.{err_from_is_err_and}
-use Rattle.lfs_model.specs.format.Content.{attributes_with}
-use Rattle.lfs_operations.specs.Changing.{WritesPairTwo}
-use Rattle.lfs_operations.specs.Editing.{CanSetAttribute, HasSetAttribute, tree_with_attributes_set}
-use Rattle.lfs_operations.specs.Making.{HasFreeBlocks}
-use Rattle.lfs_thread.specs.Kept.{KeptThread}
-use Rattle.lfs_tree.specs.TreeChanges.{SurvivesEither}
+use Rattle.lfs_tree.proofs.Common.{err_from_is_err_and, attributes_with, WritesPairTwo, CanSetAttribute, HasSetAttribute, tree_setting_attributes, HasFreeBlocks, KeptThread, SurvivesEither, answered, passed}
 use Rattle.lfs_tree.proofs.Carried.{read_is}
 use Rattle.lfs_tree.proofs.CarryEdited.{can_set, entry_to_set, set_does, slot_for, slot_found}
 use Rattle.lfs_tree.proofs.CarryRooms.{room_for}
 use Rattle.lfs_tree.proofs.ReportedFaults.{reported_with_room}
 use Rattle.lfs_tree.proofs.Operated.{only_read_change, works_put}
-use Rattle.lfs_lookup.proofs.Reading.{answered, passed}
 use Rattle.lfs_tree.proofs.attributes_at.set_attr_at.Goals as goal
 
 pub found_entry_spot-slot-requires : goal.found_entry_spot-slot-requires
@@ -47,4 +40,4 @@ returns g c =
     read.same read.only.reads (subst (λ k. WritesPairTwo k s.pair new.kept) is e.device)
     (subst (λ k. OnOk c.set_attribute.result ((set : CanSetAttribute k s.pair s.id c.args.kind c.args.bytes.now) → HasSetAttribute k new.kept set.can.path set.can.name c.args.kind c.args.bytes.now)) is e.is_set)
     (reported_with_room mid.kept new.kept c.set_attribute.result (subst (λ (k : KeptThread). HasFreeBlocks 2 k.map) (sym is) (room_for t.kept 2 c.requires.rests.held.sound c.requires.can.room)) e.errors.reports.reports) (works_put new c.set_attribute.result e.errors.reports.failed)
-    (subst (λ k. (set : CanSetAttribute k s.pair s.id c.args.kind c.args.bytes.now) → SurvivesEither k new.kept (tree_with_attributes_set k set.can.path set.can.name (attributes_with c.args.kind c.args.bytes.now))) is e.survives)
+    (subst (λ k. (set : CanSetAttribute k s.pair s.id c.args.kind c.args.bytes.now) → SurvivesEither k new.kept (tree_setting_attributes k set.can.path set.can.name (attributes_with c.args.kind c.args.bytes.now))) is e.survives)

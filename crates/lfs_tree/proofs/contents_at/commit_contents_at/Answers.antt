@@ -1,13 +1,5 @@
 use Rattle.std.proofs.Common.{◌∙◌, sym, subst, rules}
-use Rattle.std.proofs.lemmas.Result.{err_from_is_err_and}
-use Rattle.lfs_tree.specs.SettledFiles.{CanSettleFile, IsListSettled}
-use Rattle.lfs_operations.specs.Changing.{WritesPairTwo}
-use Rattle.lfs_operations.specs.Storing.{HasStoredContents, tree_with_contents}
-use Rattle.lfs_thread.specs.Kept.{KeptThread}
-use Rattle.lfs_tree.specs.TreeChanges.{SurvivesEither}
-use Rattle.lfs_tree.specs.OpenContents.{writer_contents_bytes}
-use Rattle.lfs_tree.specs.Stores.{CanPutContents}
-use Rattle.lfs_lookup.proofs.AtPaths.{sized_on}
+use Rattle.lfs_tree.proofs.Common.{err_from_is_err_and, CanSettleFile, IsListSettled, WritesPairTwo, HasStoredContents, tree_with_contents, KeptThread, SurvivesEither, writer_contents_bytes, CanPutContents, sized_on}
 use Rattle.lfs_tree.proofs.Carried.{read_is}
 use Rattle.lfs_tree.proofs.CarrySurvives.{survives_reading}
 use Rattle.lfs_tree.proofs.ReportedFaults.{called_by_writing}

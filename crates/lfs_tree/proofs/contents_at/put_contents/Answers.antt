@@ -1,5 +1,5 @@
 use Rattle.std.proofs.Common.{ap, sym, ◌∙◌}
-use Rattle.lfs_tree.specs.Stores.{finished_struct}
+use Rattle.lfs_tree.proofs.Common.{finished_struct}
 use Rattle.lfs_tree.proofs.PutContents.{held_part, held_struct, held_there, list_part, store_of, stored_from, reports_put}
 use Rattle.lfs_tree.proofs.contents_at.put_contents.Goals as goal
 

@@ -1,5 +1,5 @@
 use Rattle.std.proofs.Common.{refl}
-use Rattle.lfs_lookup.proofs.Reading.{answered, answers}
+use Rattle.lfs_tree.proofs.Common.{answered, answers}
 use Rattle.lfs_tree.proofs.creation_paths.creation_before_recovery.Goals as goal
 
 pub returns-clause-reading : goal.returns-clause-reading

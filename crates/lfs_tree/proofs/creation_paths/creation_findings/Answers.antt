@@ -1,7 +1,5 @@
 use Rattle.std.proofs.Common.{refl, ◌∙◌}
-use Rattle.lfs_lookup.proofs.AtPaths.{sized_on}
-use Rattle.lfs_lookup.proofs.Reading.{answered, answers}
-use Rattle.lfs_lookup.proofs.ShownFindings.{found_shown, in_entry}
+use Rattle.lfs_tree.proofs.Common.{sized_on, answered, answers, found_shown, in_entry}
 use Rattle.lfs_tree.proofs.RenamePaths.{shows_found}
 use Rattle.lfs_tree.proofs.creation_paths.creation_findings.Goals as goal
 

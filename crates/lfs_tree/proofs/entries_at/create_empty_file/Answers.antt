@@ -1,18 +1,12 @@
 use Rattle.std.proofs.Common.{arith, subst, sym}
 use Rattle.std.specs.Prelude.{OnOk}
-use Rattle.std.proofs.lemmas.Result.{err_from_is_err_and}
-use Rattle.lfs_operations.specs.Changing.{IsPairTouched, WritesPairTwo}
-use Rattle.lfs_operations.specs.Creating.{CanCreateIn, IsFileCreated, tree_with_file}
-use Rattle.lfs_operations.specs.Making.{HasFreeBlocks}
-use Rattle.lfs_thread.specs.Kept.{KeptThread}
-use Rattle.lfs_tree.specs.TreeChanges.{SurvivesEither}
+use Rattle.lfs_tree.proofs.Common.{err_from_is_err_and, IsPairTouched, WritesPairTwo, CanCreateIn, IsFileCreated, tree_with_file, HasFreeBlocks, KeptThread, SurvivesEither, answered, passed}
 use Rattle.lfs_tree.proofs.Carried.{read_is}
 use Rattle.lfs_tree.proofs.CarryCreated.{can_create, create_does, vacant_to}
 use Rattle.lfs_tree.proofs.CarryPlaces.{place_for, place_found}
 use Rattle.lfs_tree.proofs.CarryRooms.{room_for}
 use Rattle.lfs_tree.proofs.ReportedFaults.{reported_with_room}
 use Rattle.lfs_tree.proofs.Operated.{only_read_change, works_put}
-use Rattle.lfs_lookup.proofs.Reading.{answered, passed}
 use Rattle.lfs_tree.proofs.entries_at.create_empty_file.Goals as goal
 
 pub missing_name_spot-place-requires : goal.missing_name_spot-place-requires

@@ -1,6 +1,5 @@
 use Rattle.std.proofs.Common.{ap, map, subst, ◌∙◌}
-use Rattle.lfs_model.specs.session.TreeEdits.{last_name}
-use Rattle.lfs_lookup.specs.LookupPaths.{LeadsToResult}
+use Rattle.lfs_tree.proofs.Common.{last_name, LeadsToResult}
 use Rattle.lfs_lookup.proofs.RootPairs.{root_leads}
 use Rattle.lfs_tree.proofs.entries_at.find_at_path.Goals as goal
 

@@ -1,13 +1,10 @@
 use Rattle.std.proofs.Common.{arith, subst, sym}
 use Rattle.std.specs.Prelude.{OnOk}
-use Rattle.std.proofs.lemmas.Result.{err_from_is_err_and}
-use Rattle.lfs_operations.specs.Making.{AreBothAltered, CanMakeAt, IsDirectoryMade, WritesPairsFour, tree_with_directory}
-use Rattle.lfs_tree.specs.TreeChanges.{SurvivesEither}
+use Rattle.lfs_tree.proofs.Common.{err_from_is_err_and, AreBothTouched, CanMakeAt, IsDirectoryMade, WritesPairsFour, tree_with_directory, SurvivesEither, answered, passed}
 use Rattle.lfs_tree.proofs.Carried.{read_is}
 use Rattle.lfs_tree.proofs.CarryCreated.{can_make, make_does, vacant_to}
 use Rattle.lfs_tree.proofs.CarryPlaces.{place_for, place_found}
 use Rattle.lfs_tree.proofs.Operated.{only_read_change, works_reported}
-use Rattle.lfs_lookup.proofs.Reading.{answered, passed}
 use Rattle.lfs_tree.proofs.entries_at.make_directory_at.Goals as goal
 
 pub missing_name_spot-place-requires : goal.missing_name_spot-place-requires
@@ -44,6 +41,6 @@ returns g c =
     let e = c.make_directory.ensures in
     make_does t c.args.root c.requires.rests c.args.path.now c.lemma_valid_names.ensures c.lemma_block_facts.ensures.large c.lemma_block_facts.ensures.bytes 4 c.requires.can name spot place mid.kept.history new c.make_directory.result c.lemma_path_bytes.ensures.0 c.lemma_path_bytes.ensures.1
     (omega arith) read.same read.only.reads (subst (λ k. WritesPairsFour k spot.pair new.kept) is e.device)
-    (subst (λ k. OnOk c.make_directory.result ((can : CanMakeAt k spot.pair spot.id name) → IsDirectoryMade k new.kept can.path name)) is e.made) (subst (λ k. OnOk c.make_directory.result (AreBothAltered k spot.pair new.kept)) is e.alters)
+    (subst (λ k. OnOk c.make_directory.result ((can : CanMakeAt k spot.pair spot.id name) → IsDirectoryMade k new.kept can.path name)) is e.made) (subst (λ k. OnOk c.make_directory.result (AreBothTouched k spot.pair new.kept)) is e.alters)
     (record { errors = e.errors.errors; fault = e.errors.fault; no_fault = e.errors.no_fault }) (works_reported new c.make_directory.result e.errors.failed)
     (subst (λ k. (can : CanMakeAt k spot.pair spot.id name) → SurvivesEither k new.kept (tree_with_directory k can.path name)) is e.survives)

@@ -1,8 +1,5 @@
 use Rattle.std.proofs.Common.{rules, ap, ◌∙◌}
-use Rattle.lfs_model.specs.format.Disk.{ordered_disk}
-use Rattle.lfs_thread.specs.Kept.{disk_of_device}
-use Rattle.lfs_file.specs.Contents.{contents_bytes, contents_form}
-use Rattle.lfs_file.specs.Contents.{form_after_finish}
+use Rattle.lfs_tree.proofs.Common.{ordered_disk, disk_of_device, contents_bytes, contents_form, form_after_finish}
 use Rattle.lfs_tree.proofs.Standing.{holds_after, owned_after, finish_here}
 use Rattle.lfs_tree.proofs.files.finish_file.Goals as goal
 

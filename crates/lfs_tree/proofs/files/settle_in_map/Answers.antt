@@ -1,8 +1,5 @@
 use Rattle.std.proofs.Common.{rules, ap, subst, ◌∙◌}
-use Rattle.lfs_model.specs.layers.BlockSets.{BlockStates}
-use Rattle.lfs_thread.specs.Beside.{LeavesUsedBlocksOfPairsUnchangedAndUsed}
-use Rattle.lfs_model.specs.format.Disk.{ordered_disk}
-use Rattle.lfs_thread.specs.Kept.{disk_of_device}
+use Rattle.lfs_tree.proofs.Common.{BlockStates, KeepsPairBlocks, ordered_disk, disk_of_device}
 use Rattle.lfs_tree.proofs.Settled.{settle_here, settle_leaves, settled_after}
 use Rattle.lfs_tree.proofs.files.settle_in_map.Goals as goal
 
@@ -26,10 +23,10 @@ pub run_on_device-requires-clause-leaves : goal.run_on_device-requires-clause-le
 run_on_device-requires-clause-leaves g c device map x later later_map shows runs =
     let gh = g.D.BlockDevice in
     let t = c.args.thread.now.kept in
-    subst (λ d. LeavesUsedBlocksOfPairsUnchangedAndUsed gh t d map later later_map) runs.shows
-    (subst (λ (m : BlockStates). LeavesUsedBlocksOfPairsUnchangedAndUsed gh t runs.shown.now m later later_map) runs.shows_map
-    (subst (λ e. LeavesUsedBlocksOfPairsUnchangedAndUsed gh t runs.shown.now runs.shown_map.now e later_map) runs.leaves
-    (subst (λ (m : BlockStates). LeavesUsedBlocksOfPairsUnchangedAndUsed gh t runs.shown.now runs.shown_map.now runs.left.now m) runs.leaves_map
+    subst (λ d. KeepsPairBlocks gh t d map later later_map) runs.shows
+    (subst (λ (m : BlockStates). KeepsPairBlocks gh t runs.shown.now m later later_map) runs.shows_map
+    (subst (λ e. KeepsPairBlocks gh t runs.shown.now runs.shown_map.now e later_map) runs.leaves
+    (subst (λ (m : BlockStates). KeepsPairBlocks gh t runs.shown.now runs.shown_map.now runs.left.now m) runs.leaves_map
     (settle_leaves gh t runs.shown.now runs.shown_map.now
     (record { disk = ap (λ d. ordered_disk c.args.thread.now.kept.disk.order (disk_of_device gh d)) runs.shows ∙ shows.disk; history = ap gh.history runs.shows ∙ shows.history; map = runs.shows_map ∙ shows.map })
     (g.met.D.BlockDevice.shape runs.shown.now) c.args.before c.args.stored c.requires.can runs.left.now runs.left_map.now (search rules) (search rules)))))

@@ -1,8 +1,6 @@
 use Rattle.std.proofs.Common.{rules, ap, take, ◌∙◌}
-use Rattle.lfs_model.specs.session.Writers.{padded_with_zeros}
-use Rattle.lfs_model.specs.format.Disk.{ordered_disk}
-use Rattle.lfs_thread.specs.Kept.{disk_of_device}
-use Rattle.lfs_file.specs.Contents.{contents_bytes, contents_form}
+use Rattle.lfs_model.specs.session.Writers.{zero_padded}
+use Rattle.lfs_tree.proofs.Common.{ordered_disk, disk_of_device, contents_bytes, contents_form}
 use Rattle.lfs_file.specs.Form.{truncated_form}
 use Rattle.lfs_tree.proofs.Standing.{holds_after, owned_after, truncate_here}
 use Rattle.lfs_tree.proofs.files.truncate_file.Goals as goal
@@ -23,7 +21,7 @@ returns-clause-truncated g c =
     (record { disk = ap (λ d. ordered_disk c.args.thread.now.kept.disk.order (disk_of_device g.D.BlockDevice d)) run.shows ∙ ran.before.disk; history = ap g.D.BlockDevice.history run.shows ∙ ran.before.history; map = run.shows_map ∙ ran.before.map })
     (record { disk = ap (λ d. ordered_disk c.run_on_device.new.self.kept.disk.order (disk_of_device g.D.BlockDevice d)) run.leaves ∙ ran.after.disk; history = ap g.D.BlockDevice.history run.leaves ∙ ran.after.history; map = run.leaves_map ∙ ran.after.map })
     (g.met.D.BlockDevice.shape run.shown.now) (g.met.D.BlockDevice.shape run.left.now) (search rules)
-    (λ d n. take c.args.size (padded_with_zeros c.args.size (contents_bytes d n c.args.contents))) (truncated_form c.args.limit c.args.size (contents_form c.args.contents)) c.run_on_device.result
+    (λ d n. take c.args.size (zero_padded c.args.size (contents_bytes d n c.args.contents))) (truncated_form c.args.limit c.args.size (contents_form c.args.contents)) c.run_on_device.result
     (search rules)
 
 pub returns-clause-owned : goal.returns-clause-owned

@@ -1,8 +1,6 @@
 use Rattle.std.proofs.Common.{rules, ap, length, ◌∙◌}
 use Rattle.lfs_model.specs.session.Writers.{written_contents}
-use Rattle.lfs_model.specs.format.Disk.{ordered_disk}
-use Rattle.lfs_thread.specs.Kept.{disk_of_device}
-use Rattle.lfs_file.specs.Contents.{contents_bytes, contents_form}
+use Rattle.lfs_tree.proofs.Common.{ordered_disk, disk_of_device, contents_bytes, contents_form}
 use Rattle.lfs_file.specs.Form.{written_form}
 use Rattle.lfs_tree.proofs.Standing.{holds_after, owned_after, write_here}
 use Rattle.lfs_tree.proofs.files.write_file.Goals as goal

@@ -1,8 +1,5 @@
 use Rattle.std.proofs.Common.{[], ap, sym, subst, ◌∙◌}
-use Rattle.lfs_thread.specs.Kept.{kept_in_order}
-use Rattle.lfs_thread.specs.ThreadSteps.{ChangesThreadBlocks}
-use Rattle.lfs_model.specs.format.Thread.{anchor_address, address_blocks}
-use Rattle.lfs_tree.specs.Formats.{IsFormatted}
+use Rattle.lfs_tree.proofs.Common.{kept_in_order, ChangesThreadBlocks, anchor_address, address_blocks, IsFormatted}
 use Rattle.lfs_tree.proofs.Formatted.{shows_empty, empty_formatted, empty_kept, wrote}
 use Rattle.lfs_tree.proofs.formats.format.Goals as goal
 

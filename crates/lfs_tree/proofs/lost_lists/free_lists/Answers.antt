@@ -1,8 +1,7 @@
 use Rattle.std.proofs.Common.{◌∙◌, subst, sym, rules}
-use Rattle.lfs_tree.specs.LostLists.{CanFreeDropped}
+use Rattle.lfs_tree.proofs.Common.{CanFreeDropped, empty_list}
 use Rattle.lfs_tree.proofs.LostLists.{all_freed, besides_then, can_settle_first, first_flying, first_left, none_left, rest_left}
 use Rattle.lfs_tree.proofs.lost_lists.free_lists.Goals as goal
-use Rattle.lfs_tree.specs.Stores.{empty_list}
 
 pub settle_file-requires-clause-can : goal.settle_file-requires-clause-can
 settle_file-requires-clause-can g c =

@@ -1,8 +1,5 @@
 use Rattle.std.proofs.Common.{◌≡◌, drop, false}
-use Rattle.lfs_tree.specs.SettledFiles.{ChangesOnlyMap}
-use Rattle.lfs_model.specs.session.History.{fault_count}
-use Rattle.lfs_operations.specs.Dropping.{SameInFlight}
-use Rattle.lfs_tree.specs.LostLists.{CanFreeDropped}
+use Rattle.lfs_tree.proofs.Common.{ChangesOnlyMap, fault_count, SameInFlight, CanFreeDropped}
 use Rattle.lfs_tree.proofs.lost_lists.free_lists.Given as goal
 
 abbrev pub invariant-loop-list : goal.invariant-loop-list

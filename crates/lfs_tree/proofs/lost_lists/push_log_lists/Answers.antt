@@ -1,11 +1,9 @@
 use Rattle.std.proofs.Common.{◌∙◌, ◌++◌, map, sym, ap, subst}
-use Rattle.std.proofs.lemmas.Option.{same_Some}
+use Rattle.lfs_tree.proofs.Common.{same_Some, logged, slot_view, raw_slots_lists}
 use Rattle.lfs_model.specs.format.Content.{RawContent}
 use Rattle.lfs_model.specs.layers.LoggedContent.{AreWellFormed}
-use Rattle.lfs_model.proofs.Logged.{logged}
 use Rattle.lfs_model.proofs.Completed.{completed_parts}
-use Rattle.lfs_tag.specs.ContentView.{content_view, slot_view}
-use Rattle.lfs_tree.specs.LostLists.{raw_slots_lists}
+use Rattle.lfs_tag.specs.ContentView.{content_view}
 use Rattle.lfs_tree.proofs.LostLists.{typed_complete}
 use Rattle.lfs_tree.proofs.lost_lists.push_log_lists.Goals as goal
 

@@ -1,4 +1,4 @@
-use Rattle.lfs_tag.specs.ContentView.{slot_view}
+use Rattle.lfs_tree.proofs.Common.{slot_view}
 use Rattle.lfs_lookup.proofs.ItemsShown.{parts_at}
 use Rattle.lfs_tree.proofs.lost_lists.push_slot_lists.Goals as goal
 

@@ -1,6 +1,5 @@
 use Rattle.std.proofs.Common.{◌≡◌, ◌++◌, map, take}
-use Rattle.lfs_tag.specs.ContentView.{slot_view}
-use Rattle.lfs_tree.specs.LostLists.{raw_slots_lists}
+use Rattle.lfs_tree.proofs.Common.{slot_view, raw_slots_lists}
 use Rattle.lfs_tree.proofs.lost_lists.push_slot_lists.Given as goal
 
 abbrev pub invariant-loop-slot : goal.invariant-loop-slot

@@ -1,5 +1,5 @@
 use Rattle.std.proofs.Common.{◌∙◌, sym, rules}
-use Rattle.std.proofs.lemmas.Result.{err_from_is_err_and}
+use Rattle.lfs_tree.proofs.Common.{err_from_is_err_and}
 use Rattle.lfs_tree.proofs.CarryFreed.{shape_geometry, writes_then}
 use Rattle.lfs_tree.proofs.LostLists.{can_free_lists}
 use Rattle.lfs_tree.proofs.Recovered.{end_survives, freed, reading_survives, reports_given, reports_steps, reports_then, reports_work}

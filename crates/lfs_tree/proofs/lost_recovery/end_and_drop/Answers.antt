@@ -1,5 +1,5 @@
 use Rattle.std.proofs.Common.{◌∙◌, Err, ap, sym}
-use Rattle.std.proofs.lemmas.Result.{err_from_is_err_and}
+use Rattle.lfs_tree.proofs.Common.{err_from_is_err_and}
 use Rattle.lfs_tree.proofs.CarryFreed.{ok_both}
 use Rattle.lfs_tree.proofs.Operated.{failed_change}
 use Rattle.lfs_tree.proofs.Recovered.{called_then, called_writing, end_survives, recovered_whole, reports_steps}

@@ -1,13 +1,9 @@
 use Rattle.std.proofs.Common.{◌≡◌, ◌↔◌, Bool, true, false, not, List, Option, None, Some, is_some, refl, subst}
 use Rattle.std.specs.Prelude.{IsTrue}
-use Rattle.std.proofs.lemmas.Result.{err_from_is_err_and}
-use Rattle.lfs_model.specs.format.Disk.{Disk}
-use Rattle.lfs_model.specs.tree.Profile.{IsWritable}
+use Rattle.lfs_tree.proofs.Common.{err_from_is_err_and, Disk, IsWritable, Pair, answered, answers, both, further, passed}
 use Rattle.lfs_model.specs.layers.ProfileBreaches.{IsBreachIfAny}
-use Rattle.lfs_model.specs.format.Thread.{Pair}
 use Rattle.lfs_model.specs.declared.breaches.ProfileBreach.{ProfileBreach}
 use Rattle.lfs_model.proofs.KeptProfiles.{writable_breaks_none}
-use Rattle.lfs_lookup.proofs.Reading.{answered, answers, both, further, passed}
 use Rattle.lfs_tree.proofs.mounted_tree.root_and_profile.Goals as goal
 
 pub returns-in_err-breach-clause-reading : goal.returns-in_err-breach-clause-reading

@@ -1,5 +1,5 @@
 use Rattle.std.proofs.Common.{[], refl}
-use Rattle.lfs_model.specs.format.Slots.{Inline}
+use Rattle.lfs_tree.proofs.Common.{Inline}
 use Rattle.lfs_tree.proofs.OpenedFiles.{opened_in_memory}
 use Rattle.lfs_tree.proofs.opened_contents.contents_of_nothing.Goals as goal
 

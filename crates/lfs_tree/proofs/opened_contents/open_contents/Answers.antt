@@ -1,5 +1,5 @@
 use Rattle.std.proofs.Common.{sym, subst}
-use Rattle.lfs_tree.specs.Openings.{CanOpenSlot, AreOpenedContents, opened_form}
+use Rattle.lfs_tree.proofs.Common.{CanOpenSlot, AreOpenedContents, opened_form}
 use Rattle.lfs_lookup.specs.declared.entry.FileStorage.{FileStorage}
 use Rattle.lfs_tree.proofs.opened_contents.open_contents.Goals as goal
 

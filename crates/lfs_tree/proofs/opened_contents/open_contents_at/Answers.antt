@@ -1,16 +1,9 @@
 use Rattle.std.proofs.Common.{◌≡◌, ◌∙◌, length, refl, sym, subst}
 use Rattle.std.specs.Prelude.{IfOk}
-use Rattle.lfs_model.specs.session.TreeEdits.{file_bytes}
-use Rattle.lfs_model.specs.tree.Shown.{tree_on_disk}
-use Rattle.lfs_thread.specs.Kept.{KeptThread}
-use Rattle.lfs_tree.specs.OpenContents.{IsOpenedForm, OverThreadFile, writer_contents_bytes}
-use Rattle.lfs_tree.specs.Openings.{CanOpenSlot, AreOpenedContents, opened_form}
-use Rattle.lfs_lookup.proofs.AtPaths.{sized_on}
+use Rattle.lfs_tree.proofs.Common.{file_bytes, disk_tree, KeptThread, IsOpenedForm, AreThreadContents, writer_contents_bytes, CanOpenSlot, AreOpenedContents, opened_form, sized_on, only_read, answered, further}
 use Rattle.lfs_lookup.proofs.BytesAtSlots.{file_of_path, not_file}
 use Rattle.lfs_tree.proofs.Carried.{read_is}
 use Rattle.lfs_tree.proofs.OpenedFiles.{bytes_opened, can_be_opened, form_of_opened, form_opened, idle_is, over_opened}
-use Rattle.lfs_lookup.proofs.ReadOnly.{only_read}
-use Rattle.lfs_lookup.proofs.Reading.{answered, further}
 use Rattle.lfs_tree.proofs.opened_contents.open_contents_at.Goals as goal
 
 pub unreachable-requires : goal.unreachable-requires
@@ -39,7 +32,7 @@ returns-clause-over g c =
     let can = subst (λ (k : KeptThread). CanOpenSlot k c.in-Some.slot c.in-Some.contents f.held) (sym (read_is t mid c.look_up_path.ensures.reading.only))
     (can_be_opened t mid.history c.args.path.now c.in-Some.slot c.in-Some.contents f sound.accepted sound.used idle) in
     let is = read_is t new (only_read t mid new c.look_up_path.ensures.reading.only c.open_contents.ensures.reading.only) in
-    subst (λ (k : KeptThread). IfOk c.open_contents.result (OverThreadFile k c.args.path.now)) (sym is)
+    subst (λ (k : KeptThread). IfOk c.open_contents.result (AreThreadContents k c.args.path.now)) (sym is)
     (over_opened t mid.history c.args.path.now c.in-Some.slot c.in-Some.contents f sound.accepted sound.used idle c.requires.file new.history c.open_contents.result
     (subst (λ (k : KeptThread). IfOk c.open_contents.result (AreOpenedContents k f.held.struct (opened_form c.in-Some.contents))) is (c.open_contents.ensures.opened f.held can)))
 
@@ -54,7 +47,7 @@ returns-clause-bytes g c =
     let can = subst (λ (k : KeptThread). CanOpenSlot k c.in-Some.slot c.in-Some.contents f.held) (sym (read_is t mid c.look_up_path.ensures.reading.only))
     (can_be_opened t mid.history c.args.path.now c.in-Some.slot c.in-Some.contents f sound.accepted sound.used idle) in
     let is = read_is t new (only_read t mid new c.look_up_path.ensures.reading.only c.open_contents.ensures.reading.only) in
-    subst (λ (k : KeptThread). IfOk c.open_contents.result (λ x. writer_contents_bytes k x ≡ file_bytes (tree_on_disk t.disk t.pairs c.args.path.now))) (sym is)
+    subst (λ (k : KeptThread). IfOk c.open_contents.result (λ x. writer_contents_bytes k x ≡ file_bytes (disk_tree t.disk t.pairs c.args.path.now))) (sym is)
     (bytes_opened t mid.history c.args.path.now c.in-Some.slot c.in-Some.contents f sound.accepted sound.used idle c.requires.file new.history c.open_contents.result
     (subst (λ (k : KeptThread). IfOk c.open_contents.result (AreOpenedContents k f.held.struct (opened_form c.in-Some.contents))) is (c.open_contents.ensures.opened f.held can)))
 
@@ -70,7 +63,7 @@ returns-clause-form g c =
     (can_be_opened t mid.history c.args.path.now c.in-Some.slot c.in-Some.contents f sound.accepted sound.used idle) in
     let sized = sized_on g.D.BlockDevice device t.disk (g.D.BlockDevice.geometry device).block_count (c.device-device.ensures.disk ∙ c.look_up_path.ensures.reading.only.disk)
     (g.D.BlockDevice.geometry device).valid.no_smaller (g.met.D.BlockDevice.shape device) in
-    form_of_opened c.open_contents.new.thread.kept f.held.struct (opened_form c.in-Some.contents) c.open_contents.result (IsOpenedForm t.disk.profile t.disk.block_size (length (file_bytes (tree_on_disk t.disk t.pairs c.args.path.now))))
+    form_of_opened c.open_contents.new.thread.kept f.held.struct (opened_form c.in-Some.contents) c.open_contents.result (IsOpenedForm t.disk.profile t.disk.block_size (length (file_bytes (disk_tree t.disk t.pairs c.args.path.now))))
     (λ shape e. form_opened t c.args.path.now c.in-Some.slot c.in-Some.contents f (f.inline (sound.fits refl)) sized shape e) (c.open_contents.ensures.opened f.held can)
 
 pub returns-clause-reading : goal.returns-clause-reading

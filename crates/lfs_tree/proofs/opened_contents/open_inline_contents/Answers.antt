@@ -1,8 +1,5 @@
 use Rattle.std.proofs.Common.{◌∙◌, arith, ap, length, sym, subst}
-use Rattle.lfs_model.specs.layers.BlockSets.{BlockStates}
-use Rattle.lfs_model.specs.format.Disk.{Disk}
-use Rattle.lfs_thread.specs.Beside.{HasGeometryOf}
-use Rattle.lfs_file.specs.Contents.{NoneInFlight}
+use Rattle.lfs_tree.proofs.Common.{BlockStates, Disk, HasGeometry, NoneInFlight}
 use Rattle.lfs_tree.proofs.OpenedFiles.{all_taken, opened_in_memory}
 use Rattle.lfs_tree.proofs.opened_contents.open_inline_contents.Goals as goal
 
@@ -24,6 +21,6 @@ returns-clause-opened g c held can =
     let k = can.file.shows in
     let e = c.deref.ensures.value ∙ all_taken c.in_ok-bytes.bytes.items k.0 c.args.len k.1.1.0 (c.in_ok-bytes.ensures.bytes held k.0 can.file.there k.1.0) in
     opened_in_memory now c.geometry_of-geometry.result c.deref.result.now k.0 held.struct c.args.len c.contents_in_memory.result
-    (subst (λ (d : Disk). HasGeometryOf c.geometry_of-geometry.result d) (sym only.disk) c.geometry_of-geometry.ensures)
+    (subst (λ (d : Disk). HasGeometry c.geometry_of-geometry.result d) (sym only.disk) c.geometry_of-geometry.ensures)
     (subst (λ (d : Disk). NoneInFlight now.map d.blocks) (sym only.disk) (subst (λ (m : BlockStates). NoneInFlight m c.args.thread.now.kept.disk.blocks) (sym only.map) can.idle))
     e k.1.0 k.1.1.0 c.contents_in_memory.ensures.holds

@@ -1,6 +1,5 @@
 use Rattle.std.proofs.Common.{ap, arith, length}
-use Rattle.std.proofs.lemmas.Option.{slice_get_within}
-use Rattle.lfs_lookup.proofs.Roots.{root_begins}
+use Rattle.lfs_tree.proofs.Common.{slice_get_within, root_begins}
 use Rattle.lfs_tree.proofs.orphans.find_unreached_pairs.Goals as goal
 
 pub numbers_not_reached-requires-clause-few : goal.numbers_not_reached-requires-clause-few

@@ -1,6 +1,6 @@
 use Rattle.std.proofs.Common.{◌∙◌, ◌++◌, ◌∷◌, ◌-◌, [], ap, arith, length, length-append, take}
-use Rattle.std.proofs.lemmas.List.{map-append}
-use Rattle.lfs_lookup.specs.Items.{directory_item_view, directory_items_view}
+use Rattle.lfs_tree.proofs.Common.{map-append, directory_items_view}
+use Rattle.lfs_lookup.specs.Items.{directory_item_view}
 use Rattle.lfs_tree.proofs.Reached.{all_taken, none_taken, take_begins, taken_more}
 use Rattle.lfs_tree.proofs.orphans.mark_directories.Goals as goal
 

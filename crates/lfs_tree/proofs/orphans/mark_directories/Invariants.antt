@@ -1,5 +1,5 @@
 use Rattle.std.proofs.Common.{length}
-use Rattle.lfs_lookup.specs.Items.{directory_items_view}
+use Rattle.lfs_tree.proofs.Common.{directory_items_view}
 use Rattle.lfs_tree.proofs.Reached.{AreTaken}
 use Rattle.lfs_tree.proofs.orphans.mark_directories.Given as goal
 

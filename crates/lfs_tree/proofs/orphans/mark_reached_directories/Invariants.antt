@@ -1,7 +1,6 @@
 use Rattle.std.proofs.Common.{◌+◌, length}
-use Rattle.lfs_tree.specs.Orphans.{unmarked_count}
+use Rattle.lfs_tree.proofs.Common.{unmarked_count, HasRead}
 use Rattle.lfs_tree.proofs.Reached.{IsMarking}
-use Rattle.lfs_lookup.proofs.Reading.{HasRead}
 use Rattle.lfs_tree.proofs.orphans.mark_reached_directories.Given as goal
 
 abbrev pub invariant-loop-first : goal.invariant-loop-first

@@ -1,14 +1,9 @@
 use Rattle.std.proofs.Common.{◌≡◌, ◌<◌, ◌⊎◌, inl, inr, List, sym, ap, subst, subst₂, ◌∙◌}
 use Rattle.lfs_device.specs.declared.error.Error.TheVariants.{Io, NoMemory, Corrupt}
-use Rattle.lfs_model.specs.format.Disk.{Disk, ordered_disk}
-use Rattle.lfs_model.specs.session.History.{CallEvent, fault_count}
+use Rattle.lfs_tree.proofs.Common.{Disk, ordered_disk, CallEvent, fault_count, Pair, IsAccepted, KeptThread, IsMountedTree}
 use Rattle.lfs_model.specs.declared.order.NameOrder.{NameOrder}
 use Rattle.lfs_model.specs.declared.order.NameOrder.TheVariants.{LongerFirst}
-use Rattle.lfs_model.specs.format.Thread.{Pair}
-use Rattle.lfs_model.specs.tree.View.{IsAccepted}
 use Rattle.lfs_mount.specs.MountFaults.{IsErrorOfMount}
-use Rattle.lfs_thread.specs.Kept.{KeptThread}
-use Rattle.lfs_tree.specs.TreeState.{IsMountedTree}
 use Rattle.lfs_tree.proofs.remounts.mount_again.Goals as goal
 
 pub returns-in-Ok-clause-mounted : goal.returns-in-Ok-clause-mounted

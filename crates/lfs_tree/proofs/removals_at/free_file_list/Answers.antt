@@ -1,15 +1,11 @@
 use Rattle.std.proofs.Common.{ap, subst, sym}
 use Rattle.std.specs.Prelude.{OnOk}
-use Rattle.lfs_tree.specs.SettledFiles.{CanSettleFile, IsListSettled, thread_list_blocks}
-use Rattle.lfs_operations.specs.Dropping.{SameInFlight}
-use Rattle.lfs_operations.specs.Ready.{IsReadyImage}
-use Rattle.lfs_tree.specs.Stores.{list_in_storage}
+use Rattle.lfs_tree.proofs.Common.{CanSettleFile, IsListSettled, stored_list_blocks, SameInFlight, IsReadyImage, list_in_storage, empty_list}
 use Rattle.lfs_tree.proofs.CarryFreed.{can_settle, freed_flying, freed_ready, none_freed, ok_then}
 use Rattle.lfs_tree.proofs.removals_at.free_file_list.Goals as goal
-use Rattle.lfs_tree.specs.Stores.{empty_list}
 
 pub returns-in-Inline-clause-ready : goal.returns-in-Inline-clause-ready
-returns-in-Inline-clause-ready g c = none_freed c.args.thread.now.kept c.args.contents c.requires.can (ap (λ k. thread_list_blocks c.args.thread.now.kept (list_in_storage k)) c.in-Inline.is)
+returns-in-Inline-clause-ready g c = none_freed c.args.thread.now.kept c.args.contents c.requires.can (ap (λ k. stored_list_blocks c.args.thread.now.kept (list_in_storage k)) c.in-Inline.is)
 
 pub settle_file-requires-clause-can : goal.settle_file-requires-clause-can
 settle_file-requires-clause-can g c = subst (λ k. CanSettleFile c.args.thread.now.kept (list_in_storage k) empty_list) c.in-List.is (can_settle c.args.thread.now.kept c.args.contents c.requires.can)

@@ -1,15 +1,9 @@
 use Rattle.std.proofs.Common.{subst, sym}
-use Rattle.std.proofs.lemmas.Result.{err_from_is_err_and}
-use Rattle.lfs_model.specs.session.TreeEdits.{tree_removing}
-use Rattle.lfs_model.specs.tree.Shown.{tree_on_disk}
-use Rattle.lfs_operations.specs.MovingSteps.{WritesThreadFree}
-use Rattle.lfs_tree.specs.TreeChanges.{SurvivesEither}
-use Rattle.lfs_tree.specs.Removals.{CanRemoveFound, HasRemovedEntry, SparesInRemoval}
+use Rattle.lfs_tree.proofs.Common.{err_from_is_err_and, tree_removing, disk_tree, WritesThreadFree, SurvivesEither, CanRemoveFound, HasRemovedEntry, SparesInRemoval, answered, passed}
 use Rattle.lfs_tree.proofs.Carried.{read_is}
 use Rattle.lfs_tree.proofs.CarryFreed.{ok_then}
 use Rattle.lfs_tree.proofs.CarryGone.{can_go, entry_on, entry_to_remove, remove_does}
 use Rattle.lfs_tree.proofs.Operated.{only_read_change, works_reported}
-use Rattle.lfs_lookup.proofs.Reading.{answered, passed}
 use Rattle.lfs_tree.proofs.removals_at.remove_at.Goals as goal
 
 pub remove_found_entry-requires : goal.remove_found_entry-requires
@@ -51,4 +45,4 @@ returns g c =
     let spared = ok_then c.remove_found_entry.result _ _ (λ h. subst (λ k. SparesInRemoval k path new.kept) is (h path old)) e.alone in
     remove_does t c.args.root c.requires.rests path mid.kept.history new read.only.reads (subst (λ k. WritesThreadFree k new.kept) is e.device) c.remove_found_entry.result c.lemma_path_bytes.ensures.0 c.lemma_path_bytes.ensures.1
     read.same gone spared (record { errors = e.errors.errors; fault = e.errors.fault; no_fault = e.errors.no_fault }) (works_reported new c.remove_found_entry.result e.errors.failed)
-    (subst (λ k. SurvivesEither k new.kept (tree_removing path (tree_on_disk k.disk k.pairs))) is (e.survives path old))
+    (subst (λ k. SurvivesEither k new.kept (tree_removing path (disk_tree k.disk k.pairs))) is (e.survives path old))

@@ -1,10 +1,5 @@
 use Rattle.std.proofs.Common.{ap, sym, ◌∙◌, Err, rules}
-use Rattle.std.proofs.lemmas.Result.{err_from_is_err_and}
-use Rattle.lfs_model.specs.tree.Tree.{Path}
-use Rattle.lfs_operations.specs.Dropping.{SameInFlight}
-use Rattle.lfs_operations.specs.Editing.{editable_slot}
-use Rattle.lfs_operations.specs.Ready.{IsReadyImage}
-use Rattle.lfs_tree.specs.Removals.{CanRemoveFile, HasRemovedEntry, SparesInRemoval}
+use Rattle.lfs_tree.proofs.Common.{err_from_is_err_and, Path, SameInFlight, editable_slot, IsReadyImage, CanRemoveFile, HasRemovedEntry, SparesInRemoval}
 use Rattle.lfs_tree.proofs.CarryFreed.{can_free, file_writes, files_stay, ok_both, shape_geometry, writes_then}
 use Rattle.lfs_tree.proofs.CarryGone.{file_gone, freeing_survives, removal_survives, steps_both, steps_from}
 use Rattle.lfs_tree.proofs.CarrySpared.{file_spares}

@@ -1,8 +1,5 @@
 use Rattle.std.proofs.Common.{arith, refl}
-use Rattle.std.proofs.lemmas.List.Sums.{sum_by-append}
-use Rattle.std.proofs.lemmas.Result.{err_from_is_err_and}
-use Rattle.lfs_model.specs.crash.Frame.{pair_count_at, ancestor_paths}
-use Rattle.lfs_lookup.proofs.Reading.{answered, answers, both, further, passed}
+use Rattle.lfs_tree.proofs.Common.{sum_by-append, err_from_is_err_and, pair_count_at, ancestor_paths, answered, answers, both, further, passed}
 use Rattle.lfs_tree.proofs.RenamePaths.{few_since}
 use Rattle.lfs_tree.proofs.Shifted.{rests_still, target_back}
 use Rattle.lfs_tree.proofs.rename_paths.find_rename_targets.Goals as goal

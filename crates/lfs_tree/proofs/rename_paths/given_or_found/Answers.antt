@@ -1,7 +1,6 @@
 use Rattle.std.proofs.Common.{refl, subst}
 use Rattle.std.specs.Prelude.{IfSome}
-use Rattle.lfs_lookup.proofs.Reading.{answers, begun}
-use Rattle.lfs_tree.specs.RenameFindings.{AreRenameResults}
+use Rattle.lfs_tree.proofs.Common.{answers, begun, AreRenameResults}
 use Rattle.lfs_tree.proofs.rename_paths.given_or_found.Goals as goal
 
 pub returns-in-Some-clause-targets : goal.returns-in-Some-clause-targets

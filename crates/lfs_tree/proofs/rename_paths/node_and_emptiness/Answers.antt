@@ -1,8 +1,6 @@
 use Rattle.std.proofs.Common.{◌∙◌, arith, refl}
-use Rattle.std.proofs.lemmas.Result.{err_from_is_err_and}
-use Rattle.lfs_lookup.proofs.AtPaths.{sized_on}
-use Rattle.lfs_lookup.proofs.Reading.{answered, answers, passed}
-use Rattle.lfs_lookup.proofs.ShownFindings.{few_from, first_at, first_within, found_shown, has_beneath, in_entry}
+use Rattle.lfs_tree.proofs.Common.{err_from_is_err_and, sized_on, answered, answers, passed, found_shown, in_entry}
+use Rattle.lfs_lookup.proofs.ShownFindings.{few_from, first_at, first_within, has_beneath}
 use Rattle.lfs_tree.proofs.RenamePaths.{shows_found}
 use Rattle.lfs_tree.proofs.rename_paths.node_and_emptiness.Goals as goal
 

@@ -1,13 +1,5 @@
 use Rattle.std.proofs.Common.{◌++◌, ◌∷◌, [], arith, refl, subst, true, ◌≡◌}
-use Rattle.std.proofs.lemmas.List.Sums.{sum_by-append, sum_by-cons}
-use Rattle.std.proofs.lemmas.Result.{err_from_is_err_and}
-use Rattle.lfs_model.specs.crash.Frame.{pair_count_at, ancestor_paths}
-use Rattle.lfs_model.specs.session.TreeEdits.{node_attributes_of}
-use Rattle.lfs_model.specs.tree.Tree.{Tree}
-use Rattle.lfs_lookup.specs.AttributeAt.{IsAttributesSize}
-use Rattle.lfs_lookup.specs.Finds.{IsFoundNode, has_entry_beneath}
-use Rattle.lfs_lookup.proofs.ReadOnly.{only_read}
-use Rattle.lfs_lookup.proofs.Reading.{answered, answers, both, further, passed}
+use Rattle.lfs_tree.proofs.Common.{sum_by-append, sum_by-cons, err_from_is_err_and, pair_count_at, ancestor_paths, node_attributes_of, Tree, IsAttributesSize, IsFoundNode, has_entry_beneath, only_read, answered, answers, both, further, passed}
 use Rattle.lfs_tree.proofs.Asking.{rooted}
 use Rattle.lfs_tree.proofs.RenamePaths.{few_since, same_tree, sum_of_rename}
 use Rattle.lfs_tree.proofs.rename_paths.rename_before_recovery.Goals as goal

@@ -1,15 +1,5 @@
 use Rattle.std.proofs.Common.{arith, refl, subst, ◌≡◌, ◌∙◌}
-use Rattle.std.proofs.lemmas.List.Sums.{sum_by-append}
-use Rattle.std.proofs.lemmas.Result.{err_from_is_err_and}
-use Rattle.lfs_model.specs.crash.Frame.{pair_count_at, ancestor_paths}
-use Rattle.lfs_model.specs.session.TreeEdits.{node_attributes_of}
-use Rattle.lfs_model.specs.tree.Tree.{Tree}
-use Rattle.lfs_lookup.specs.AttributeAt.{IsAttributesSize}
-use Rattle.lfs_lookup.specs.Finds.{IsFoundNode, has_entry_beneath}
-use Rattle.lfs_lookup.proofs.AtPaths.{sized_on}
-use Rattle.lfs_lookup.proofs.ReadOnly.{only_read}
-use Rattle.lfs_lookup.proofs.Reading.{answered, answers, both, further, passed}
-use Rattle.lfs_lookup.proofs.ShownFindings.{found_shown, in_entry}
+use Rattle.lfs_tree.proofs.Common.{sum_by-append, err_from_is_err_and, pair_count_at, ancestor_paths, node_attributes_of, Tree, IsAttributesSize, IsFoundNode, has_entry_beneath, sized_on, only_read, answered, answers, both, further, passed, found_shown, in_entry}
 use Rattle.lfs_tree.proofs.RenamePaths.{few_since, leads_since, own_since, same_tree, shows_found, sum_of_rename}
 use Rattle.lfs_tree.proofs.Shifted.{rests_still}
 use Rattle.lfs_tree.proofs.rename_paths.rename_findings.Goals as goal

@@ -1,9 +1,5 @@
 use Rattle.std.proofs.Common.{ap, sym, ◌∙◌, Err, rules}
-use Rattle.std.proofs.lemmas.Result.{err_from_is_err_and}
-use Rattle.lfs_model.specs.tree.Tree.{Path}
-use Rattle.lfs_operations.specs.Dropping.{SameInFlight}
-use Rattle.lfs_operations.specs.Ready.{IsReadyImage}
-use Rattle.lfs_tree.specs.MovedEntries.{CanMoveOntoFile, HasMovedEntry}
+use Rattle.lfs_tree.proofs.Common.{err_from_is_err_and, Path, SameInFlight, IsReadyImage, CanMoveOntoFile, HasMovedEntry}
 use Rattle.lfs_tree.proofs.CarryFreed.{ok_both}
 use Rattle.lfs_tree.proofs.ShiftedFiles.{apart_then, onto_done, onto_survives, reported_of, reported_then}
 use Rattle.lfs_tree.proofs.renames_at.move_onto_file.Goals as goal

@@ -1,5 +1,5 @@
 use Rattle.std.proofs.Common.{subst}
-use Rattle.lfs_tree.specs.MovedEntries.{CanMoveOntoFound, CanMoveToVacant}
+use Rattle.lfs_tree.proofs.Common.{CanMoveOntoFound, CanMoveToVacant}
 use Rattle.lfs_tree.proofs.ShiftedSlots.{apart_within, if_both, if_done, rename_apart, rename_within, shifted_apart, survives_apart, reported_across, writes_apart, shifted_within, survives_within, reported_within}
 use Rattle.lfs_tree.proofs.renames_at.move_onto_found.Goals as goal
 

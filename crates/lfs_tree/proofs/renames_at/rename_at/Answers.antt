@@ -1,16 +1,10 @@
 use Rattle.std.proofs.Common.{◌∙◌, Err, ap, map, subst, sym}
-use Rattle.std.proofs.lemmas.Result.{err_from_is_err_and}
-use Rattle.lfs_model.specs.session.TreeEdits.{last_name, tree_renaming}
-use Rattle.lfs_model.specs.tree.Shown.{tree_on_disk}
-use Rattle.lfs_operations.specs.MovingSteps.{WritesThreadFree}
-use Rattle.lfs_tree.specs.TreeChanges.{IsResultAndName, SurvivesEither}
-use Rattle.lfs_tree.specs.MovedEntries.{CanMoveOntoFound, HasMovedEntry}
+use Rattle.lfs_tree.proofs.Common.{err_from_is_err_and, last_name, tree_renaming, disk_tree, WritesThreadFree, IsNamedResult, SurvivesEither, CanMoveOntoFound, HasMovedEntry, answered, begun, lacks_memory, passed}
 use Rattle.lfs_tree.proofs.Carried.{read_is}
 use Rattle.lfs_tree.proofs.CarryEdited.{slot_found}
 use Rattle.lfs_tree.proofs.CarryFreed.{ok_then}
 use Rattle.lfs_tree.proofs.Operated.{only_read_change}
 use Rattle.lfs_tree.proofs.Shifted.{entry_to_rename, rename_does, shift_found, source_for, reported_of_work}
-use Rattle.lfs_lookup.proofs.Reading.{answered, begun, lacks_memory, passed}
 use Rattle.lfs_tree.proofs.renames_at.rename_at.Goals as goal
 
 pub found_rename_source-source-requires : goal.found_rename_source-source-requires
@@ -24,7 +18,7 @@ move_onto_found-requires-clause-can g c =
     let targets = c.in_ok-targets.targets in
     let name = c.last_name_of.result.now in
     let are = c.in_ok-targets.ensures.targets in
-    let target : IsResultAndName t.kept c.args.to.now targets.target name = record { leads = are.target; named = c.last_name_of.ensures ∙ ap last_name (ap (map (λ name. name.now)) c.deref.ensures.value ∙ c.in_ok-names.ensures) } in
+    let target : IsNamedResult t.kept c.args.to.now targets.target name = record { leads = are.target; named = c.last_name_of.ensures ∙ ap last_name (ap (map (λ name. name.now)) c.deref.ensures.value ∙ c.in_ok-names.ensures) } in
     let read = answered t mid c.given_or_found.result targets c.in_ok-targets.was c.given_or_found.ensures.reading in
     let can = shift_found t c.args.root c.requires.rests c.args.from.now c.args.to.now c.lemma_valid_names.ensures c.lemma_block_facts.ensures.large c.lemma_block_facts.ensures.bytes c.requires.can c.requires.apart source
     (source_for t.kept c.args.from.now targets.entry source are.entry c.found_rename_source-source.ensures) mid.kept.history targets.target name target in
@@ -53,7 +47,7 @@ returns g c =
     let targets = c.in_ok-targets.targets in
     let name = c.last_name_of.result.now in
     let are = c.in_ok-targets.ensures.targets in
-    let target : IsResultAndName t.kept to targets.target name = record { leads = are.target; named = c.last_name_of.ensures ∙ ap last_name (ap (map (λ name. name.now)) c.deref.ensures.value ∙ c.in_ok-names.ensures) } in
+    let target : IsNamedResult t.kept to targets.target name = record { leads = are.target; named = c.last_name_of.ensures ∙ ap last_name (ap (map (λ name. name.now)) c.deref.ensures.value ∙ c.in_ok-names.ensures) } in
     let read = answered t mid c.given_or_found.result targets c.in_ok-targets.was c.given_or_found.ensures.reading in
     let can = shift_found t c.args.root c.requires.rests from to c.lemma_valid_names.ensures c.lemma_block_facts.ensures.large c.lemma_block_facts.ensures.bytes c.requires.can c.requires.apart source
     (source_for t.kept from targets.entry source are.entry c.found_rename_source-source.ensures) mid.kept.history targets.target name target in
@@ -63,4 +57,4 @@ returns g c =
     let shifted = ok_then c.move_onto_found.result _ _ (λ h. subst (λ k. HasMovedEntry k from to new.kept) is (h from to old)) e.shifted in
     rename_does t c.args.root c.requires.rests from to c.requires.apart mid.kept.history new read.only.reads (subst (λ k. WritesThreadFree k new.kept) is e.device) c.move_onto_found.result c.lemma_path_bytes.ensures.0 c.lemma_path_bytes-2.ensures.0 c.lemma_path_bytes.ensures.1 c.lemma_path_bytes-2.ensures.1
     read.same shifted (reported_of_work mid new c.move_onto_found.result e.errors) e.errors.works
-    (subst (λ k. SurvivesEither k new.kept (tree_renaming from to (tree_on_disk k.disk k.pairs))) is (e.survives from to old))
+    (subst (λ k. SurvivesEither k new.kept (tree_renaming from to (disk_tree k.disk k.pairs))) is (e.survives from to old))

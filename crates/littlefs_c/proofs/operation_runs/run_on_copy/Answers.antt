@@ -3,7 +3,7 @@ use Rattle.lfs_model.specs.session.History.{fault_count}
 use Rattle.lfs_model.specs.session.Run.{is_refusal}
 use Rattle.lfs_model.proofs.Performing.{performed_turns}
 use Rattle.lfs_fs.specs.SessionView.{system_state}
-use Rattle.lfs_fs.specs.OpView.{RefusesOnly, op_view, reply_view}
+use Rattle.lfs_fs.specs.OpView.{HasRefusalError, op_view, reply_view}
 use Rattle.littlefs_c.specs.FirstRefusals.{IsRefusalError}
 use Rattle.littlefs_c.proofs.Carrying.{first_refused, no_remount, run_ended, runs_these}
 use Rattle.littlefs_c.proofs.operation_runs.run_on_copy.Goals as goal
@@ -14,7 +14,7 @@ returns-in_err-answer-clause-err c =
     c.from_residual-in_err-answer.ensures.1 c.in_err-answer.ensures.ended (ap fault_count (sym c.device-device.ensures.history) ∙ c.device-device.result.now.no_fault) (no_remount c.args.ops.now c.requires)
 
 pub first_refusal_error-requires : goal.first_refusal_error-requires
-first_refusal_error-requires c = subst (All RefusesOnly) (sym c.deref.ensures.value) c.in_ok-answer.ensures.named
+first_refusal_error-requires c = subst (All HasRefusalError) (sym c.deref.ensures.value) c.in_ok-answer.ensures.named
 
 pub returns-in-Some-clause-err : goal.returns-in-Some-clause-err
 returns-in-Some-clause-err c =

@@ -1,5 +1,5 @@
 use Rattle.std.proofs.Common.{ap, ◌∙◌, ◌≡◌, None}
-use Rattle.lfs_model.specs.layers.Cache.{cached_bytes, cache_with_block}
+use Rattle.lfs_model.specs.layers.Cache.{cached_bytes, cache_with}
 use Rattle.lfs_blocks.specs.CacheView.{HasAtMostEight, cached_view}
 use Rattle.lfs_blocks.proofs.EntryLemmas.{IsCache-put, few-shown, shown-put}
 use Rattle.lfs_blocks.proofs.cache.Cache.add_uncached_block.Goals as goal
@@ -18,7 +18,7 @@ pub returns-clause-first : goal.returns-clause-first
 returns-clause-first c =
     ap (λ recent. cached_view recent.entries) c.in_ok-put.ensures.entries
     ∙ shown-put c.self.inside.recent c.args.block c.self.invariant (none c) c.args.bytes
-    ∙ ap (λ cache. cache_with_block cache c.args.block c.args.bytes.items) c.self.view_is
+    ∙ ap (λ cache. cache_with cache c.args.block c.args.bytes.items) c.self.view_is
 
 pub returns-clause-few : goal.returns-clause-few
 returns-clause-few c = few-shown c.put.new.self (kept c)

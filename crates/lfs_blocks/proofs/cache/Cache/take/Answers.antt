@@ -1,7 +1,7 @@
 use Rattle.std.proofs.Common.{ap, sym, ◌∙◌, ◌≡◌, ℕ, Vec, Global}
 use Rattle.std.specs.Option.{option_map}
 use Rattle.lru.specs.LruCache.{lru_cache}
-use Rattle.lfs_model.specs.layers.Cache.{cached_bytes, cache_without_block}
+use Rattle.lfs_model.specs.layers.Cache.{cached_bytes, cache_without}
 use Rattle.lfs_blocks.specs.CacheView.{cached_view}
 use Rattle.lfs_blocks.proofs.EntryLemmas.{cached_bytes-shown, HasAtMostEight-rest, remove_entry-distinct, rest, shown-rest}
 use Rattle.lfs_blocks.proofs.cache.Cache.take.Goals as goal
@@ -17,7 +17,7 @@ pub returns-clause-others : goal.returns-clause-others
 returns-clause-others c =
     ap (λ recent. cached_view recent.entries) (left c)
     ∙ shown-rest c.self.inside.recent.entries c.args.block
-    ∙ ap (λ cache. cache_without_block cache c.args.block) c.self.view_is
+    ∙ ap (λ cache. cache_without cache c.args.block) c.self.view_is
 
 pub returns-clause-bytes : goal.returns-clause-bytes
 returns-clause-bytes c =

@@ -2,7 +2,7 @@ use Rattle.std.proofs.Common.{◌≡◌, ◌∙◌, ap}
 use Rattle.lfs_model.specs.format.Blocks.{cut}
 use Rattle.lfs_model.proofs.Cuts.{HasBlockSizes-cut}
 use Rattle.lfs_model.proofs.Conformance.{conforms_erase, conforms_next}
-use Rattle.lfs_device.specs.Erased.{erased_device, erased_blocks}
+use Rattle.lfs_device.specs.Erased.{erased_range, blocks_after_erase}
 use Rattle.lfs_device.specs.RamDevice.{ram_blocks}
 use Rattle.lfs_device.proofs.Erasures.{cut-erased, SameExcept-erased, block_bytes-erased}
 use Rattle.lfs_device.proofs.Newest.{newest_call}
@@ -11,10 +11,10 @@ use Rattle.lfs_device.proofs.ram.RamDeviceBlockDevice.erase.Goals as goal
 
 -- the blocks after the erase
 after : (c : goal.After-self-1) → cut c.args.self.now.geometry.block_size c.args.self.now.geometry.block_count c.fill_erased.new.all.items
-    ≡ erased_blocks c.args.self.now.erased c.args.self.now.geometry.block_size (ram_blocks c.args.self.now) c.args.block
+    ≡ blocks_after_erase c.args.self.now.erased c.args.self.now.geometry.block_size (ram_blocks c.args.self.now) c.args.block
 after c =
     let d = c.args.self.now in
-    ap (cut d.geometry.block_size d.geometry.block_count) (c.fill_erased.ensures.erased ∙ ap (λ at. erased_device d.erased d.bytes.items at d.geometry.block_size) c.byte_index-start.ensures)
+    ap (cut d.geometry.block_size d.geometry.block_count) (c.fill_erased.ensures.erased ∙ ap (λ at. erased_range d.erased d.bytes.items at d.geometry.block_size) c.byte_index-start.ensures)
     ∙ cut-erased d.erased d.geometry.block_size d.geometry.block_count d.bytes.items c.args.block d.size c.requires
 
 pub returns-clause-bytes : goal.returns-clause-bytes
@@ -34,7 +34,7 @@ pub invariant_of-self-clause-newest : goal.invariant_of-self-clause-newest
 invariant_of-self-clause-newest c =
     let d = c.args.self.now in
     newest_call _ _ _ _ _ _ _ c.with_ghost_history-trace.ensures
-    (ap (cut d.geometry.block_size d.geometry.block_count) (c.fill_erased.ensures.erased ∙ ap (λ at. erased_device d.erased d.bytes.items at d.geometry.block_size) c.byte_index-start.ensures)
+    (ap (cut d.geometry.block_size d.geometry.block_count) (c.fill_erased.ensures.erased ∙ ap (λ at. erased_range d.erased d.bytes.items at d.geometry.block_size) c.byte_index-start.ensures)
     ∙ cut-erased d.erased d.geometry.block_size d.geometry.block_count d.bytes.items c.args.block d.size c.requires)
 
 pub invariant_of-self-clause-conforms : goal.invariant_of-self-clause-conforms

@@ -1,6 +1,5 @@
 use Rattle.std.proofs.Common.{ℕ, slice_index, ◌≡◌, ◌≢◌, ◌<◌, ◌-◌, ◌*◌, ◌%◌, ◌^◌, ap, subst, sym, ◌∙◌, arith, below_more}
-use Rattle.std.proofs.lemmas.Nat.{one_shl}
-use Rattle.lfs_file.specs.Known.{IsKnownIndex, index_row}
+use Rattle.lfs_file.proofs.Common.{one_shl, IsKnownIndex, index_row}
 use Rattle.lfs_file.proofs.Pointed.{pointer_reach, pointers_apart}
 use Rattle.lfs_file.proofs.block.FullBlocks.before_block.Goals as goal
 

@@ -1,6 +1,5 @@
 use Rattle.std.proofs.Common.{ℕ, List, ◌≡◌, ◌<◌, ◌-◌, ◌*◌, ◌^◌, slice_index}
-use Rattle.lfs_file.specs.Known.{OnlyBelowKnown, AreKnownBlocks, IsKnownIndex}
-use Rattle.lfs_model.specs.format.SkipLists.{pointer_count, word_at}
+use Rattle.lfs_file.proofs.Common.{OnlyBelowKnown, AreKnownBlocks, IsKnownIndex, pointer_count, word_at}
 use Rattle.lfs_file.proofs.block.FullBlocks.before_block.Given as goal
 
 abbrev pub invariant-loop-k : goal.invariant-loop-k

@@ -1,5 +1,5 @@
 use Rattle.std.proofs.Common.{sym, subst}
-use Rattle.lfs_file.specs.Known.{OnlyBelowKnown}
+use Rattle.lfs_file.proofs.Common.{OnlyBelowKnown}
 use Rattle.lfs_file.proofs.Pointed.{none_below}
 use Rattle.lfs_file.proofs.block.FullBlocks.new.Goals as goal
 

@@ -1,23 +1,12 @@
 use Rattle.std.proofs.Common.{rules, Global, Vec, refl, ℕ, ◌≡◌, ◌≤◌, ◌+◌, ◌-◌, ◌*◌, ◌++◌, ◌∷◌, ◌<◌, ◌^◌, List, [], length, length-append, subst, take, drop, sym, ap, ◌∙◌, arith, add-one, append_assoc}
-use Rattle.std.proofs.lemmas.Grind.{common_steps}
-use Rattle.std.specs.Vec.{with_items}
-use Rattle.std.proofs.lemmas.List.{length-take-le, append-nil, with_items_is}
+use Rattle.lfs_file.proofs.Common.{common_steps, with_items, length-take-le, append-nil, with_items_is, length-overwritten, Blocks, block_bytes, overwritten_at, pointer_count, bytes_before_block, blocks_to_head, FillsFew, further_pointers, AreConsistent, AreKnownBlocks, ArePointedKnown, ListHasBytes, IsExtender, growing_view, GrowingList, growing_bytes, growing_size, blocks_data}
 use Rattle.lfs_device.specs.declared.geometry.Geometry.{Geometry}
-use Rattle.lfs_model.proofs.Overwrites.{length-overwritten}
-use Rattle.lfs_model.specs.format.Blocks.{Blocks, block_bytes, overwritten_at}
-use Rattle.lfs_model.specs.format.SkipLists.{pointer_count, bytes_before_block, blocks_to_head}
 use Rattle.lfs_file.specs.declared.extender.ExtenderState.{ExtenderState}
 use Rattle.lfs_file.specs.declared.block.FullBlocks.{FullBlocks}
 use Rattle.lfs_file.specs.declared.known.KnownBlocks.{KnownBlocks}
-use Rattle.lfs_file.specs.FewReads.{FillsFew, further_pointers}
-use Rattle.lfs_file.specs.Filled.{AreConsistent}
-use Rattle.lfs_file.specs.Known.{AreKnownBlocks, ArePointedKnown}
 use Rattle.lfs_file.proofs.Chains.{length_back}
 use Rattle.lfs_file.proofs.Pointed.{next_pointers}
-use Rattle.lfs_file.specs.Extended.{ListHasBytes}
-use Rattle.lfs_file.specs.Extending.{IsDeviceBlockOutsideFullBlocksOfList}
-use Rattle.lfs_file.specs.Fields.{IsExtender, growing_view}
-use Rattle.lfs_file.specs.Growing.{GrowingList, growing_bytes, growing_size, blocks_data}
+use Rattle.lfs_file.specs.Extending.{CanFollowBlocks}
 use Rattle.lfs_file.proofs.Called.{not_read, only_read}
 use Rattle.lfs_file.proofs.Geometries.{shaped}
 use Rattle.lfs_file.specs.declared.rest.RestLocation.TheVariants.{Closed, Handed}
@@ -45,7 +34,7 @@ returns-then-start-n-clause-filled g c = record {
       let bytes : List ℕ = c.args.bytes.now in
       let old : Blocks = g.D.BlockDevice.blocks c.args.dev.now in
       let shape = g.met.D.BlockDevice.shape c.args.dev.now in
-      let follows = subst (λ (v : GrowingList). IsDeviceBlockOutsideFullBlocksOfList g.D.BlockDevice c.args.dev.now v.full v.head c.args.block) shown c.requires.follows in
+      let follows = subst (λ (v : GrowingList). CanFollowBlocks g.D.BlockDevice c.args.dev.now v.full v.head c.args.block) shown c.requires.follows in
       let known = subst (λ (v : GrowingList). AreKnownBlocks (blocks_to_head old v.full v.head) v.known) shown c.requires.known in
       let same = subst (λ (v : GrowingList). g.D.BlockDevice.geometry c.args.dev.now ≡ v.geometry) shown c.requires.geometry in
       let few : n ≤ length bytes = omega (arith, c.min-n.ensures) in
@@ -197,7 +186,7 @@ returns-clause-filled g c = record {
       let old : Blocks = g.D.BlockDevice.blocks c.args.dev.now in
       let new : Blocks = g.D.BlockDevice.blocks c.write_block.new.dev in
       let shape = g.met.D.BlockDevice.shape c.args.dev.now in
-      let follows = subst (λ (v : GrowingList). IsDeviceBlockOutsideFullBlocksOfList g.D.BlockDevice c.args.dev.now v.full v.head c.args.block) shown c.requires.follows in
+      let follows = subst (λ (v : GrowingList). CanFollowBlocks g.D.BlockDevice c.args.dev.now v.full v.head c.args.block) shown c.requires.follows in
       let same = subst (λ (v : GrowingList). g.D.BlockDevice.geometry c.args.dev.now ≡ v.geometry) shown c.requires.geometry in
       let geometry = ap (λ (k : Geometry). k.block_size) same in
       let sized : length (block_bytes new c.args.block) ≡ size = omega (arith, c.write_block.ensures.device.others.size, shape.sizes c.args.block follows.in_device, geometry) in

@@ -1,17 +1,11 @@
 use Rattle.std.specs.Prelude.{All}
 use Rattle.std.proofs.Common.{rules, ap, true, false, ◌≢◌, ℕ, ◌≡◌, ◌≤◌, ◌+◌, ◌++◌, ◌∙◌, List, [], ◌∷◌, length, take, sym, subst, arith}
-use Rattle.lfs_model.specs.session.History.{CallEvent}
+use Rattle.lfs_file.proofs.Common.{CallEvent, Blocks, HasBlockSizes, SameExcept, blocks_to_head, AreListBlocks, block_data, growing_view, GrowingList, growing_bytes, growing_blocks, growing_size, unwritten_block, rest_block, unwritten_rest_block, lacks_last_block, IsOnDisk, WritesOnce, IsListOf}
 use Rattle.lfs_device.specs.declared.geometry.Geometry.{Geometry}
-use Rattle.lfs_model.specs.format.Blocks.{Blocks, HasBlockSizes, SameExcept}
-use Rattle.lfs_model.specs.format.SkipLists.{blocks_to_head, AreListBlocks, block_data}
 use Rattle.lfs_file.specs.declared.extender.ExtenderState.{ExtenderState}
 use Rattle.lfs_file.specs.declared.rest.RestLocation.TheVariants.{Closed, Shared, Handed, Held}
-use Rattle.lfs_file.specs.Fields.{growing_view}
-use Rattle.lfs_file.specs.Growing.{GrowingList, growing_bytes, growing_blocks, growing_size, unwritten_block, rest_block, unwritten_after_full, lacks_last_block, IsOnDisk}
 use Rattle.lfs_file.proofs.Geometries.{shaped}
 use Rattle.lfs_file.proofs.Rests.{IsCounted, counted, lent}
-use Rattle.lfs_file.specs.Counts.{WritesOnce}
-use Rattle.lfs_file.specs.Finished.{IsListOf}
 use Rattle.lfs_file.specs.declared.rest.RestLocation.{RestLocation}
 use Rattle.lfs_file.proofs.Called.{changes_none, changes_one}
 use Rattle.lfs_file.proofs.Filling.{closed_end, shared_end, handed_end}
@@ -82,21 +76,21 @@ none_written v old none = record { erased = omega (arith, ap length none); progr
 pub returns-in-Closed-clause-calls : goal.returns-in-Closed-clause-calls
 returns-in-Closed-clause-calls g c = record {
   no_call = search rules;
-  writes = none_written c.args.self _ (ap unwritten_after_full (stood c.deref-state.result.now c.args.self Closed (ap growing_view c.deref-state.ensures ∙ c.self.view_is) c.in-Closed.is));
+  writes = none_written c.args.self _ (ap unwritten_rest_block (stood c.deref-state.result.now c.args.self Closed (ap growing_view c.deref-state.ensures ∙ c.self.view_is) c.in-Closed.is));
   few = search rules;
 }
 
 pub returns-in-Shared-clause-calls : goal.returns-in-Shared-clause-calls
 returns-in-Shared-clause-calls g c = record {
   no_call = search rules;
-  writes = none_written c.args.self _ (ap unwritten_after_full (stood c.deref-state.result.now c.args.self (Shared c.in-Shared.block) (ap growing_view c.deref-state.ensures ∙ c.self.view_is) c.in-Shared.is));
+  writes = none_written c.args.self _ (ap unwritten_rest_block (stood c.deref-state.result.now c.args.self (Shared c.in-Shared.block) (ap growing_view c.deref-state.ensures ∙ c.self.view_is) c.in-Shared.is));
   few = search rules;
 }
 
 pub returns-in-Held-clause-calls : goal.returns-in-Held-clause-calls
 returns-in-Held-clause-calls g c = record {
   no_call = search rules;
-  writes = none_written c.args.self _ (ap unwritten_after_full (stood c.deref-state.result.now c.args.self Held (ap growing_view c.deref-state.ensures ∙ c.self.view_is) c.in-Held.is));
+  writes = none_written c.args.self _ (ap unwritten_rest_block (stood c.deref-state.result.now c.args.self Held (ap growing_view c.deref-state.ensures ∙ c.self.view_is) c.in-Held.is));
   few = search rules;
 }
 
@@ -105,7 +99,7 @@ returns-clause-calls g c = record {
   no_call = search rules;
   writes =
       let one = c.in_ok-write_last_block-in-Handed.ensures.writes in
-      let count = ap (λ t. length (unwritten_after_full t)) (stood c.deref-state.result.now c.args.self (Handed c.in-Handed.block) (ap growing_view c.deref-state.ensures ∙ c.self.view_is) c.in-Handed.is) in
+      let count = ap (λ t. length (unwritten_rest_block t)) (stood c.deref-state.result.now c.args.self (Handed c.in-Handed.block) (ap growing_view c.deref-state.ensures ∙ c.self.view_is) c.in-Handed.is) in
       record { erased = omega (arith, one.erased, count); programmed = omega (arith, one.programmed, count) };
   few = search rules;
 }
@@ -120,8 +114,8 @@ pub returns-in-Held-clause-device : goal.returns-in-Held-clause-device
 returns-in-Held-clause-device g c = changes_none g.D.BlockDevice _ c.args.dev.now
 
 -- the block that waits is written
-written : (t : RestLocation) (b : ℕ) → t ≡ Handed b → (other : ℕ) → All (λ c. c ≢ other) (unwritten_after_full t) → b ≢ other
-written t b is other apart = (subst (λ k. All (λ c. c ≢ other) (unwritten_after_full k)) is apart) 0 0 (omega arith)
+written : (t : RestLocation) (b : ℕ) → t ≡ Handed b → (other : ℕ) → All (λ c. c ≢ other) (unwritten_rest_block t) → b ≢ other
+written t b is other apart = (subst (λ k. All (λ c. c ≢ other) (unwritten_rest_block k)) is apart) 0 0 (omega arith)
 
 pub returns-in_err-write_last_block-in-Handed-clause-device : goal.returns-in_err-write_last_block-in-Handed-clause-device
 returns-in_err-write_last_block-in-Handed-clause-device g c =

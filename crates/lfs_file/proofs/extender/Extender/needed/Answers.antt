@@ -1,16 +1,13 @@
 use Rattle.std.proofs.Common.{ℕ, suc, ◌≡◌, ◌+◌, ◌-◌, ◌*◌, ◌<◌, ◌≤◌, length, drop, sym, ap, subst, ◌∙◌, arith}
-use Rattle.std.proofs.lemmas.List.{length-take}
-use Rattle.lfs_model.specs.format.SkipLists.{pointer_count}
+use Rattle.lfs_file.proofs.Common.{length-take, pointer_count, IsExtender, growing_view, GrowingList, growing_size, appended_count, unwritten_rest_block}
 use Rattle.lfs_file.proofs.Sizes.{bytes_before_block-least, block_count_for-above, block_count_for-within}
 use Rattle.lfs_file.specs.declared.extender.ExtenderState.{ExtenderState}
-use Rattle.lfs_file.specs.Fields.{IsExtender, growing_view}
 use Rattle.lfs_file.specs.declared.rest.RestLocation.{RestLocation}
 use Rattle.lfs_file.specs.declared.rest.RestLocation.TheVariants.{Closed, Shared, Handed, Held}
-use Rattle.lfs_file.specs.Growing.{GrowingList, growing_size, appended_count, unwritten_after_full}
 use Rattle.lfs_file.proofs.extender.Extender.needed.Goals as goal
 use Rattle.lfs_file.proofs.extender.Extender.needed.Goals.{in-Handed, in_default}
 
-few_pending : (t : RestLocation) (full all : ℕ) → full < all → full + length (unwritten_after_full t) ≤ all
+few_pending : (t : RestLocation) (full all : ℕ) → full < all → full + length (unwritten_rest_block t) ≤ all
 few_pending Closed full all lt = omega arith
 few_pending (Shared b) full all lt = omega arith
 few_pending (Handed b) full all lt = omega arith
@@ -38,7 +35,7 @@ returns-clause-within c =
     let v : GrowingList = c.args.self.now in
     few_pending v.stand v.full _ (block_count_for-above v.geometry.block_size (growing_size v + c.args.n) v.full v.geometry.valid.no_smaller (let some = c.requires.some in omega arith))
 
-none_needed : (e : ExtenderState) (n : ℕ) → IsExtender e → length (unwritten_after_full e.stand) ≡ 1 → n ≤ e.geometry.block_size - e.filled → 0 ≡ appended_count (growing_view e) n
+none_needed : (e : ExtenderState) (n : ℕ) → IsExtender e → length (unwritten_rest_block e.stand) ≡ 1 → n ≤ e.geometry.block_size - e.filled → 0 ≡ appended_count (growing_view e) n
 none_needed e n has one fits =
     let step = has.in_step in
     let low = step.low in
@@ -52,7 +49,7 @@ returns-then-n-state-clause-count c =
     let test = c.if-begun-eq1.true in
     let same = c.deref-state.ensures in
     subst (λ (g : GrowingList). 0 ≡ appended_count g c.args.n) (ap growing_view same ∙ c.self.view_is)
-    (none_needed c.deref-state.result.now c.args.n (subst IsExtender (sym same) c.self.invariant) (elim c.match-state.branch [ in-Handed w ↦ ap (λ t. length (unwritten_after_full t)) w.in-Handed.is | in_default w ↦ absurd (omega (arith, w.begun-is)) ]) c.if-n-state.true)
+    (none_needed c.deref-state.result.now c.args.n (subst IsExtender (sym same) c.self.invariant) (elim c.match-state.branch [ in-Handed w ↦ ap (λ t. length (unwritten_rest_block t)) w.in-Handed.is | in_default w ↦ absurd (omega (arith, w.begun-is)) ]) c.if-n-state.true)
 
 pub returns-then-n-state-clause-within : goal.returns-then-n-state-clause-within
 returns-then-n-state-clause-within c =

@@ -1,20 +1,10 @@
 use Rattle.std.proofs.Common.{rules, ⊎_elim, ℕ, ◌≡◌, ◌≢◌, ◌≤◌, ◌<◌, ◌+◌, ◌-◌, ◌++◌, List, [], ◌∷◌, length, take, drop, refl, sym, ap, subst, ◌∙◌, arith, append_assoc, length-append, length-drop}
 use Rattle.std.specs.Prelude.{All}
-use Rattle.std.proofs.Math.Seq.{take-add}
-use Rattle.std.proofs.lemmas.Bool.{cases_lt}
-use Rattle.lfs_file.specs.FewReads.{FillsFew, further_pointers}
-use Rattle.lfs_file.specs.Known.{ArePointersKnown}
-use Rattle.lfs_model.specs.session.History.{CallEvent, read_count}
-use Rattle.std.proofs.lemmas.List.{append-nil, get_or_append_left, take_all, length-take-le, take-take}
-use Rattle.std.proofs.lemmas.List.Elements.{All-cons, All-nil}
-use Rattle.std.proofs.lemmas.Result.{err_from_is_err_and}
+use Rattle.lfs_file.proofs.Common.{take-add, cases_lt, FillsFew, further_pointers, ArePointersKnown, CallEvent, read_count, append-nil, get_or_append_left, take_all, length-take-le, take-take, All-cons, All-nil, err_from_is_err_and, Blocks, block_capacity, blocks_to_head, GrowingList, IsRestShort, growing_bytes, kept_blocks, unwritten_block, unwritten_rest_block, growing_size, block_for_next, growing_size_with, appended_count}
 use Rattle.lfs_file.proofs.Called.{changes_none, changes_one, quiet, reported_as, reported_on}
 use Rattle.lfs_file.proofs.Geometries.{shaped}
 use Rattle.lfs_file.proofs.Stands.{is_grown}
 use Rattle.lfs_device.specs.declared.geometry.Geometry.{Geometry}
-use Rattle.lfs_model.specs.format.Blocks.{Blocks}
-use Rattle.lfs_model.specs.format.SkipLists.{block_capacity, blocks_to_head}
-use Rattle.lfs_file.specs.Growing.{GrowingList, LastBytesShort, growing_bytes, kept_blocks, unwritten_block, unwritten_after_full, growing_size, block_for_next, growing_size_with, appended_count}
 use Rattle.lfs_file.specs.declared.rest.RestLocation.{RestLocation}
 use Rattle.lfs_file.proofs.Pushing.{next_among, next_inside, next_apart, next_some, next_kept, still_some, all_used}
 use Rattle.lfs_file.proofs.extender.Extender.push.Goals as goal
@@ -75,8 +65,8 @@ fill_current_block-requires g c = record {
 }
 
 -- the block is one of those handed in
-among : (was : GrowingList) (t : RestLocation) (blocks : List ℕ) (used block : ℕ) (next : ℕ × ℕ) → next ≡ block_for_next t blocks used → block ≡ next.0 → (unwritten_after_full t ≡ [] → used < length blocks)
-    → ((other : ℕ) → All (λ b. b ≢ other) (unwritten_block was ++ blocks) → All (λ b. b ≢ other) (unwritten_after_full t)) → (other : ℕ) → All (λ b. b ≢ other) (unwritten_block was ++ blocks) → block ≢ other
+among : (was : GrowingList) (t : RestLocation) (blocks : List ℕ) (used block : ℕ) (next : ℕ × ℕ) → next ≡ block_for_next t blocks used → block ≡ next.0 → (unwritten_rest_block t ≡ [] → used < length blocks)
+    → ((other : ℕ) → All (λ b. b ≢ other) (unwritten_block was ++ blocks) → All (λ b. b ≢ other) (unwritten_rest_block t)) → (other : ℕ) → All (λ b. b ≢ other) (unwritten_block was ++ blocks) → block ≢ other
 among was t blocks used block next e f some pending other apart =
     subst (λ b. b ≢ other) (sym (f ∙ ap (λ r. r.0) e)) (next_among t (unwritten_block was ++ blocks) (unwritten_block was) blocks used refl some pending other apart)
 
@@ -141,7 +131,7 @@ loop-done-preserved g c =
           ∙ ap (λ r. blocks_to_head (g.D.BlockDevice.blocks c.loop-done.dev) c.loop-done.self.full c.loop-done.self.head ++ r.0 ∷ []) next
           ∙ next_kept c.loop-done.self.stand _ _ c.args.blocks.now c.loop-done.used some inv.kept
           ∙ ap (λ r. kept_blocks (g.D.BlockDevice.blocks c.args.dev.now) c.args.self.now ++ take r.1 c.args.blocks.now) (sym next);
-      own = λ _. (now.blocks ∙ sym now.kept, (c.in_ok-done.ensures.waits.listed, subst (λ (k : Geometry). LastBytesShort k.block_size c.fill_current_block.new.self) (sym now.geometry) now.short));
+      own = λ _. (now.blocks ∙ sym now.kept, (c.in_ok-done.ensures.waits.listed, subst (λ (k : Geometry). IsRestShort k.block_size c.fill_current_block.new.self) (sym now.geometry) now.short));
       pending = λ other apart. c.in_ok-done.ensures.waits.pending other (All-cons (λ b. b ≢ other) _ [] (here other apart) (All-nil (λ b. b ≢ other)));
       same = now.geometry ∙ inv.same;
       device = changes_one g.D.BlockDevice here inv.device c.fill_current_block.ensures.device;

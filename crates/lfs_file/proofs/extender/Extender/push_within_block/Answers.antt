@@ -1,7 +1,5 @@
 use Rattle.std.proofs.Common.{◌≡◌, ◌+◌, ◌-◌, ◌*◌, ◌++◌, length, take, drop, ap, ◌∙◌, refl, arith}
-use Rattle.lfs_model.specs.format.SkipLists.{pointer_count}
-use Rattle.lfs_file.specs.Fields.{growing_view}
-use Rattle.lfs_file.specs.Growing.{GrowingList}
+use Rattle.lfs_file.proofs.Common.{pointer_count, growing_view, GrowingList}
 use Rattle.lfs_file.proofs.Filling.{rest_more}
 use Rattle.lfs_file.proofs.Rests.{lent}
 use Rattle.lfs_file.proofs.extender.Extender.push_within_block.Goals as goal

@@ -1,21 +1,13 @@
 use Rattle.std.proofs.Common.{refl, ℕ, ◌≡◌, ◌≤◌, ◌<◌, ◌+◌, ◌-◌, ◌*◌, ◌^◌, ◌++◌, ◌⊎◌, inl, inr, List, [], ◌∷◌, length, take, drop, slice_index, Result, Err, sym, ap, subst, ◌∙◌, arith, rules}
-use Rattle.std.specs.Vec.{with_items}
-use Rattle.std.proofs.lemmas.List.{append-nil, length-take, with_items_is}
-use Rattle.std.proofs.lemmas.Result.{IfOk-weaker, err_from_is_err_and}
+use Rattle.lfs_file.proofs.Common.{with_items, append-nil, length-take, with_items_is, IfOk-weaker, err_from_is_err_and, Blocks, HasBlockSizes, block_bytes, AreListBlocks, IsSkipList, IsBytePlace, pointer_count, bytes_before_block, blocks_to_head, block_count_for, list_bytes, word_at, OnlyBelowKnown, CallEvent, read_count, growing_view, AreConsistent, GrowingList, blocks_data, IsRestShared}
 use Rattle.lfs_device.specs.declared.error.Error.{Error}
 use Rattle.lfs_device.specs.declared.geometry.Geometry.{Geometry}
-use Rattle.lfs_model.specs.format.Blocks.{Blocks, HasBlockSizes, block_bytes}
-use Rattle.lfs_model.specs.format.SkipLists.{AreListBlocks, IsSkipList, IsBytePlace, pointer_count, bytes_before_block, blocks_to_head, block_count_for, list_bytes, word_at}
 use Rattle.lfs_file.specs.declared.block.FullBlocks.{FullBlocks}
 use Rattle.lfs_file.specs.declared.extender.ExtenderState.{ExtenderState}
 use Rattle.lfs_file.specs.declared.rest.RestLocation.TheVariants.{Closed, Shared}
 use Rattle.lfs_file.specs.Extending.{IsResumedList}
 use Rattle.lfs_file.specs.FewReads.{ResumesFew}
-use Rattle.lfs_file.specs.Known.{OnlyBelowKnown, WalksFew}
-use Rattle.lfs_model.specs.session.History.{CallEvent, read_count}
-use Rattle.lfs_file.specs.Fields.{growing_view}
-use Rattle.lfs_file.specs.Filled.{AreConsistent}
-use Rattle.lfs_file.specs.Growing.{GrowingList, blocks_data, LastBytesShared}
+use Rattle.lfs_file.specs.Known.{WalksFew}
 use Rattle.lfs_file.proofs.Sizes.{block_count_for-place, blocks_for-last, place-lt, pointer_count-le, place-le}
 use Rattle.lfs_file.proofs.Chains.{pointer_count-pos}
 use Rattle.lfs_file.proofs.Geometries.{last_is, chain, sized, shaped}
@@ -96,7 +88,7 @@ is_full d geometry made head size keep n i off block e is shape list some within
 -- a front that ends in one
 record IsOpen (d : Blocks) (geometry made : Geometry) (head size keep i off block before : ℕ) (rest : List ℕ) : Type 0 where
   chain_is : AreListBlocks d i before
-  shared : LastBytesShared d i before rest block
+  shared : IsRestShared d i before rest block
   kept : blocks_to_head d i before ++ [] ≡ take i (blocks_to_head d (block_count_for geometry.block_size size) head)
   content : blocks_data d (blocks_to_head d i before) ++ rest ≡ take keep (list_bytes d geometry.block_size head size)
   blocks_are : blocks_to_head d i before ++ block ∷ [] ≡ take (block_count_for geometry.block_size keep) (blocks_to_head d (block_count_for geometry.block_size size) head)

@@ -1,6 +1,6 @@
 use Rattle.std.proofs.Common.{◌≡◌, sym, subst}
 use Rattle.lfs_file.specs.declared.extender.ExtenderState.{ExtenderState}
-use Rattle.lfs_file.specs.Growing.{growing_size}
+use Rattle.lfs_file.proofs.Common.{growing_size}
 use Rattle.lfs_file.proofs.Rests.{counted}
 use Rattle.lfs_file.proofs.extender.Extender.size.Goals as goal
 

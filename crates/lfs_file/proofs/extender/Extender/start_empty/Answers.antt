@@ -1,6 +1,5 @@
 use Rattle.std.proofs.Common.{refl, ◌-◌, ◌*◌, length, take, drop, ap, sym, subst, arith}
-use Rattle.std.proofs.lemmas.Result.{IfOk-weaker}
-use Rattle.lfs_model.specs.format.SkipLists.{pointer_count}
+use Rattle.lfs_file.proofs.Common.{IfOk-weaker, pointer_count}
 use Rattle.lfs_file.specs.declared.block.FullBlocks.{FullBlocks}
 use Rattle.lfs_file.specs.Extending.{IsEmptyList}
 use Rattle.lfs_file.proofs.Stands.{grown_closed}

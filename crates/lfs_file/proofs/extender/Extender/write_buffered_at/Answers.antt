@@ -1,12 +1,7 @@
 use Rattle.std.proofs.Common.{refl, ℕ, ◌≡◌, ◌+◌, ◌-◌, ◌<◌, List, length, max, take, replicate, sym, ap, subst, ◌∙◌, arith}
-use Rattle.std.proofs.lemmas.List.{length-take}
-use Rattle.lfs_model.specs.format.Blocks.{overwritten_at}
-use Rattle.lfs_model.specs.format.SkipLists.{pointer_count}
+use Rattle.lfs_file.proofs.Common.{length-take, overwritten_at, pointer_count, HasBufferedBytes, IsExtender, growing_view, GrowingList, IsAllBuffered}
 use Rattle.lfs_model.specs.session.Writers.{written_contents as with_bytes}
 use Rattle.lfs_file.specs.declared.extender.ExtenderState.{ExtenderState}
-use Rattle.lfs_file.specs.Extending.{IsBufferOf}
-use Rattle.lfs_file.specs.Fields.{IsExtender, growing_view}
-use Rattle.lfs_file.specs.Growing.{GrowingList, IsAllBuffered}
 use Rattle.lfs_file.proofs.Memories.{put_bytes, rest_at}
 use Rattle.lfs_file.proofs.Stands.{is_holding}
 use Rattle.lfs_file.proofs.extender.Extender.write_buffered_at.Goals as goal
@@ -31,5 +26,5 @@ returns c =
     let new : GrowingList = growing_view (record e { buffer = c.overwrite_buffer_bytes.new.all; filled = filled; size = filled }) in
     let front = rest_at c.overwrite_buffer_bytes.new.all.items e.front.count filled held.none in
     let rest = front ∙ put_is e c.args.at _ _ c.args.bytes.now _ _ has held.none room c.max-from.ensures c.max-state.ensures c.fill_buffer_range.ensures c.overwrite_buffer_bytes.ensures in
-    subst (λ (v : GrowingList). IsBufferOf v.geometry new (with_bytes v.rest c.args.at c.args.bytes.now)) shown
+    subst (λ (v : GrowingList). HasBufferedBytes v.geometry new (with_bytes v.rest c.args.at c.args.bytes.now)) shown
     (is_holding e.geometry new _ refl (omega (arith, ap length front, ap pointer_count held.none, length-take filled c.overwrite_buffer_bytes.new.all.items, c.max-state.ensures, has.in_step.high, room)) rest (record { held = held.held; none = held.none }))

@@ -1,15 +1,7 @@
 use Rattle.std.proofs.Common.{Global, Vec, ℕ, ◌≡◌, ◌≤◌, ◌-◌, ◌*◌, List, length, take, drop, sym, ap, subst, ◌∙◌, arith, length-drop, replicate, rules}
-use Rattle.std.proofs.lemmas.Grind.{common_steps}
-use Rattle.std.specs.Vec.{with_items}
-use Rattle.std.proofs.lemmas.List.{length-take-le, length-replicate, take-take, with_items_is}
-use Rattle.lfs_model.proofs.Overwrites.{length-overwritten}
-use Rattle.lfs_model.specs.format.Blocks.{block_bytes, overwritten_at}
-use Rattle.lfs_model.specs.format.SkipLists.{blocks_to_head, pointer_count}
+use Rattle.lfs_file.proofs.Common.{common_steps, with_items, length-take-le, length-replicate, take-take, with_items_is, length-overwritten, block_bytes, overwritten_at, blocks_to_head, pointer_count, IsExtender, growing_view, GrowingList, AreKnownBlocks}
 use Rattle.lfs_file.specs.declared.extender.ExtenderState.{ExtenderState}
-use Rattle.lfs_file.specs.Fields.{IsExtender, growing_view}
-use Rattle.lfs_file.specs.Growing.{GrowingList}
 use Rattle.lfs_file.specs.FewReads.{WritesLastFew}
-use Rattle.lfs_file.specs.Known.{AreKnownBlocks}
 use Rattle.lfs_file.proofs.Rests.{after_write, lent}
 use Rattle.lfs_file.proofs.Filling.{rest_kept}
 use Rattle.lfs_file.proofs.extender.Extender.write_last_block.Goals as goal

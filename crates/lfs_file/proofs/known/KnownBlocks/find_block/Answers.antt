@@ -1,13 +1,7 @@
 use Rattle.std.proofs.Common.{ℕ, ◌≡◌, ◌≤◌, ◌<◌, ◌+◌, ◌-◌, ◌*◌, ◌%◌, ◌^◌, min, length, slice_index, refl, sym, ap, subst, ◌∙◌, arith}
-use Rattle.std.specs.Int.{w32, trailing_zeros}
-use Rattle.std.proofs.lemmas.Nat.{one_shl}
-use Rattle.std.proofs.Math.Nat.{one-le-pow}
+use Rattle.lfs_file.proofs.Common.{w32, trailing_zeros, one_shl, one-le-pow, err_from_is_err_and, Blocks, block_bytes, AreListBlocks, word_at, blocks_to_head, AreKnownBlocks}
 use Rattle.lfs_device.specs.declared.geometry.Geometry.{Geometry}
-use Rattle.std.proofs.lemmas.Result.{err_from_is_err_and}
 use lib.Pow.{pow_mono}
-use Rattle.lfs_model.specs.format.Blocks.{Blocks, block_bytes}
-use Rattle.lfs_model.specs.format.SkipLists.{AreListBlocks, word_at, blocks_to_head}
-use Rattle.lfs_file.specs.Known.{AreKnownBlocks}
 use Rattle.lfs_file.proofs.Back.{FewSteps, no_steps, step_back, few_steps}
 use Rattle.lfs_file.proofs.Called.{list_as, list_on, not_read, read_on, quiet}
 use Rattle.lfs_file.proofs.Chains.{head_of_back, in_range_at, length_back, pointer_at}

@@ -1,8 +1,5 @@
 use Rattle.std.proofs.Common.{ℕ, ◌≡◌, ◌≤◌, ◌<◌, ◌+◌, ◌^◌, slice_index}
-use Rattle.lfs_device.specs.DeviceCalls.{ReadsOnly}
-use Rattle.lfs_model.specs.session.History.{fault_count, read_count}
-use Rattle.lfs_model.specs.format.SkipLists.{AreListBlocks, blocks_to_head}
-use Rattle.lfs_file.specs.Known.{AreKnownBlocks, IsKnownIndex}
+use Rattle.lfs_file.proofs.Common.{ReadsOnly, fault_count, read_count, AreListBlocks, blocks_to_head, AreKnownBlocks, IsKnownIndex}
 use Rattle.lfs_file.proofs.Back.{FewSteps}
 use Rattle.lfs_file.proofs.known.KnownBlocks.find_block.Given as goal
 

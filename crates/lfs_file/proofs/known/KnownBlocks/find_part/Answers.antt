@@ -1,9 +1,7 @@
 use Rattle.std.proofs.Common.{ℕ, ◌≡◌, ◌<◌, ◌≤◌, ◌+◌, ◌-◌, ◌^◌, min, slice_index, slice_range, sym, ap, subst, ◌∙◌, arith}
 use Rattle.lfs_device.specs.declared.geometry.Geometry.{Geometry}
-use Rattle.lfs_model.specs.format.Blocks.{Blocks, block_bytes}
-use Rattle.lfs_model.specs.format.SkipLists.{IsBytePlace, list_bytes, block_count_for}
+use Rattle.lfs_file.proofs.Common.{Blocks, block_bytes, IsBytePlace, list_bytes, block_count_for, ReadsKnownList, index_row}
 use Rattle.lfs_file.specs.declared.known.KnownBlocks.{KnownBlocks}
-use Rattle.lfs_file.specs.Known.{ReadsKnownList, index_row}
 use Rattle.lfs_file.proofs.Geometries.{shaped, sized}
 use Rattle.lfs_file.proofs.OneBlock.{IsInKnownBlock, few_for_one, known_bytes}
 use Rattle.lfs_file.proofs.Recalled.{known_by}

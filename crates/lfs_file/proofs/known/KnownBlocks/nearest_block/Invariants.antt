@@ -1,5 +1,5 @@
 use Rattle.std.proofs.Common.{◌≡◌, ◌≤◌, ◌<◌, ◌+◌, ℕ, List, length, slice_index}
-use Rattle.lfs_file.specs.Known.{AreKnownBlocks}
+use Rattle.lfs_file.proofs.Common.{AreKnownBlocks}
 use Rattle.lfs_file.proofs.known.KnownBlocks.nearest_block.Given as goal
 
 abbrev pub invariant-loop-row : goal.invariant-loop-row

@@ -1,5 +1,5 @@
 use Rattle.std.proofs.Common.{◌≡◌, replicate, slice_index, arith}
-use Rattle.std.proofs.lemmas.List.{get_or-replicate}
+use Rattle.lfs_file.proofs.Common.{get_or-replicate}
 use Rattle.lfs_file.proofs.known.KnownBlocks.new.Goals as goal
 
 pub returns-clause-blocks : goal.returns-clause-blocks

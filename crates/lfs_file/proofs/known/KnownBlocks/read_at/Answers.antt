@@ -1,10 +1,6 @@
 use Rattle.std.proofs.Common.{suc, ℕ, Bool, false, ◌==◌, ◌≡◌, ◌≤◌, ◌<◌, ◌+◌, ◌-◌, ◌*◌, ◌++◌, min, List, length, length-append, length-drop, take, drop, slice_index, slice_range, refl, sym, ap, subst, ◌∙◌, arith}
-use Rattle.std.proofs.lemmas.Bool.Decides.{nat_tests}
-use Rattle.std.proofs.lemmas.List.{take_at}
-use Rattle.std.proofs.lemmas.Result.{err_from_is_err_and}
+use Rattle.lfs_file.proofs.Common.{nat_tests, take_at, err_from_is_err_and, Blocks, HasBlockSizes, block_bytes, IsBytePlace, IsSkipList, pointer_count, block_count_for, blocks_to_head, list_bytes, word_at}
 use Rattle.lfs_device.specs.declared.geometry.Geometry.{Geometry}
-use Rattle.lfs_model.specs.format.Blocks.{Blocks, HasBlockSizes, block_bytes}
-use Rattle.lfs_model.specs.format.SkipLists.{IsBytePlace, IsSkipList, pointer_count, block_count_for, blocks_to_head, list_bytes, word_at}
 use Rattle.lfs_file.proofs.Sizes.{blocks_for-last, place-lt, place_unique, place-mono, placed}
 use Rattle.lfs_file.proofs.Gathered.{IsPart, IsReadPass, filled, turn_bytes, turn_rest, turn_before, turn_index}
 use Rattle.lfs_file.proofs.Geometries.{count_by, last_is, chain, sized, shaped}

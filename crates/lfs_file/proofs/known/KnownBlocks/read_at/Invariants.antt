@@ -1,8 +1,5 @@
 use Rattle.std.proofs.Common.{ℕ, ◌≡◌, ◌≤◌, ◌<◌, ◌+◌, ◌-◌, ◌*◌, ◌++◌, min, length, drop, slice_index, slice_range}
-use Rattle.lfs_device.specs.DeviceCalls.{ReadsOnly}
-use Rattle.lfs_model.specs.session.History.{fault_count}
-use Rattle.lfs_model.specs.format.SkipLists.{IsSkipList, IsBytePlace, blocks_to_head, block_count_for, list_bytes}
-use Rattle.lfs_file.specs.Known.{AreKnownBlocks}
+use Rattle.lfs_file.proofs.Common.{ReadsOnly, fault_count, IsSkipList, IsBytePlace, blocks_to_head, block_count_for, list_bytes, AreKnownBlocks}
 use Rattle.lfs_file.proofs.Recalled.{FindsWithMoreReads}
 use Rattle.lfs_file.proofs.known.KnownBlocks.read_at.Given as goal
 

@@ -1,5 +1,5 @@
 use Rattle.std.proofs.Common.{◌≡◌, ◌<◌, ◌∙◌, length, subst, sym, ap, arith}
-use Rattle.lfs_fs.specs.FileView.{lowest_free, reader_if_any, readers_among, writer_if_any}
+use Rattle.lfs_fs.proofs.Common.{lowest_free, reader_if_any, readers_among, writer_if_any}
 use Rattle.lfs_fs.proofs.OpenFiles.{few_open, few_put, free_at_most}
 use Rattle.lfs_fs.proofs.files.Files.add_reader.Goals as goal
 

@@ -1,9 +1,5 @@
 use Rattle.std.proofs.Common.{◌∙◌, ap}
-use Rattle.std.specs.List.{list_any}
-use Rattle.lfs_model.specs.session.TreeEdits.{same_path}
-use Rattle.lfs_model.specs.session.Session.{has_file}
-use Rattle.lfs_model.specs.session.Refusals.{path_or_root}
-use Rattle.lfs_fs.specs.FileView.{files_view, is_open_where}
+use Rattle.lfs_fs.proofs.Common.{list_any, same_path, has_file, path_or_root, files_view, is_open_where}
 use Rattle.lfs_fs.proofs.OpenFiles.{open_at_is}
 use Rattle.lfs_fs.proofs.files.Files.is_open_at.Goals as goal
 

@@ -1,9 +1,6 @@
 use Rattle.std.proofs.Common.{◌∙◌, ap, sym}
 use Rattle.std.specs.Prelude.{◌||◌}
-use Rattle.lfs_model.specs.session.TreeEdits.{same_path}
-use Rattle.lfs_model.specs.session.Session.{has_file}
-use Rattle.lfs_model.specs.session.Refusals.{path_or_root}
-use Rattle.lfs_fs.specs.FileView.{files_view}
+use Rattle.lfs_fs.proofs.Common.{same_path, has_file, path_or_root, files_view}
 use Rattle.lfs_fs.proofs.files.Files.prevents_writer_at.Goals as goal
 
 pub returns-else-is_writing : goal.returns-else-is_writing

@@ -1,5 +1,5 @@
 use Rattle.std.proofs.Common.{◌≡◌, ◌∙◌, [], length, subst, sym, ap, arith}
-use Rattle.lfs_fs.specs.FileView.{lowest_free, reader_if_any, writer_if_any, writers_among}
+use Rattle.lfs_fs.proofs.Common.{lowest_free, reader_if_any, writer_if_any, writers_among}
 use Rattle.lfs_fs.proofs.OpenFiles.{few_put, few_with_none, free_at_most}
 use Rattle.lfs_fs.proofs.files.Files.reserve_number.Goals as goal
 

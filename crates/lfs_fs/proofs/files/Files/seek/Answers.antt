@@ -1,5 +1,5 @@
 use Rattle.std.proofs.Common.{◌≡◌, true, is_some, arith, subst, sym}
-use Rattle.lfs_fs.specs.FileView.{open_file_at, file_with_position, reader_if_any, writer_if_any}
+use Rattle.lfs_fs.proofs.Common.{open_file_at, file_with_position, reader_if_any, writer_if_any}
 use Rattle.lfs_fs.proofs.OpenFiles.{few_set, inside_is, less_changed, reader_moved, writer_moved}
 use Rattle.lfs_fs.proofs.files.Files.seek.Goals as goal
 

@@ -1,5 +1,5 @@
 use Rattle.std.proofs.Common.{◌≡◌, None, true, is_some, arith, subst, sym}
-use Rattle.lfs_fs.specs.FileView.{open_file_at, reader_if_any, writer_if_any}
+use Rattle.lfs_fs.proofs.Common.{open_file_at, reader_if_any, writer_if_any}
 use Rattle.lfs_fs.proofs.OpenFiles.{few_set, inside_is}
 use Rattle.lfs_fs.proofs.files.Files.take.Goals as goal
 

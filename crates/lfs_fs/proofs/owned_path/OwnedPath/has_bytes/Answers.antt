@@ -1,7 +1,5 @@
 use Rattle.std.proofs.Common.{◌∙◌, ap}
-use Rattle.lfs_model.specs.session.TreeEdits.{same_path}
-use Rattle.lfs_model.specs.format.Names.{same_name}
-use Rattle.lfs_model.specs.session.Refusals.{path_or_root}
+use Rattle.lfs_fs.proofs.Common.{same_path, same_name, path_or_root}
 use Rattle.lfs_fs.proofs.SamePaths.{same_bytes}
 use Rattle.lfs_fs.proofs.owned_path.OwnedPath.has_bytes.Goals as goal
 

@@ -1,7 +1,5 @@
 use Rattle.std.proofs.Common.{◌∙◌, ap, is_some, subst, sym, true, ◌≡◌}
-use Rattle.lfs_model.specs.session.TreeEdits.{without_prefix}
-use Rattle.lfs_model.specs.session.Operations.{parse_path}
-use Rattle.lfs_model.specs.session.Refusals.{path_or_root}
+use Rattle.lfs_fs.proofs.Common.{without_prefix, parse_path, path_or_root}
 use Rattle.lfs_fs.proofs.owned_path.OwnedPath.is_within.Goals as goal
 
 pub at_or_beneath-requires-clause-given : goal.at_or_beneath-requires-clause-given

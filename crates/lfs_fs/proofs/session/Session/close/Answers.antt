@@ -1,7 +1,6 @@
 use Rattle.std.proofs.Common.{refl, sym, Ok}
 use Rattle.lfs_model.specs.session.Operations as ops
-use Rattle.lfs_fs.specs.FileView.{files_view, open_file_at}
-use Rattle.lfs_fs.specs.SessionView.{view_of_session}
+use Rattle.lfs_fs.proofs.Common.{files_view, open_file_at, session_view}
 use Rattle.lfs_fs.proofs.Answered.{not_failed, sound_by}
 use Rattle.lfs_fs.proofs.Errors.{given_on}
 use Rattle.lfs_fs.proofs.Remounting.{closed_answers, closed_ready}
@@ -15,7 +14,7 @@ use Rattle.lfs_fs.proofs.session.Session.close.Goals as goal
 
 pub writer_after_saving-answer-requires : goal.writer_after_saving-answer-requires
 writer_after_saving-answer-requires g c =
-    let works = not_failed (view_of_session c.self.inside.tree c.self.inside.files) (ops.Close c.args.fd) c.in_ok-check_open.ensures.0 in
+    let works = not_failed (session_view c.self.inside.tree c.self.inside.files) (ops.Close c.args.fd) c.in_ok-check_open.ensures.0 in
     can_save c.self.inside.tree c.self.inside.files c.args.fd c.in-Some-Writing.writer works (c.self.invariant.ready works) (sym c.if-not-is_unsaved_at.ensures) (taken _ _ _ _ c.in-Some-Writing.is c.in-Some-Writing.field-0-is c.take.ensures.file)
 
 -- a check ends it
@@ -27,9 +26,9 @@ returns-in_err-check_open g c =
 pub returns-then-not-is_unsaved_at : goal.returns-then-not-is_unsaved_at
 returns-then-not-is_unsaved_at g c =
     still_call c.self.inside.tree c.self.inside.files _ (ops.Close c.args.fd) _ _ c.self.view_is c.self.invariant.ready refl refl refl
-    (answer_ends (view_of_session c.self.inside.tree c.self.inside.files) _ (ops.Close c.args.fd) ops.Done _ c.self.view_is c.in_ok-check_open.ensures.0 refl)
+    (answer_ends (session_view c.self.inside.tree c.self.inside.files) _ (ops.Close c.args.fd) ops.Done _ c.self.view_is c.in_ok-check_open.ensures.0 refl)
     (closed_answers c.self.inside.tree c.self.inside.files c.close.new.self _ c.args.fd c.self.view_is c.self.invariant.ready c.in_ok-check_open.ensures.0 c.in_ok-check_open.ensures.1 c.if-not-is_unsaved_at.ensures c.close.ensures)
-    (no_call (view_of_session c.self.inside.tree c.self.inside.files) _ (ops.Close c.args.fd) c.self.inside.tree c.self.view_is (sound_by c.self.inside.tree c.self.inside.files c.self.invariant.ready) refl)
+    (no_call (session_view c.self.inside.tree c.self.inside.files) _ (ops.Close c.args.fd) c.self.inside.tree c.self.view_is (sound_by c.self.inside.tree c.self.inside.files c.self.invariant.ready) refl)
 
 pub invariant_of-self : goal.invariant_of-self
 invariant_of-self g c = record {
@@ -47,7 +46,7 @@ invariant_of-self-2 g c = record {
 
 pub returns-in_err-answer : goal.returns-in_err-answer
 returns-in_err-answer g c =
-    let works = not_failed (view_of_session c.self.inside.tree c.self.inside.files) (ops.Close c.args.fd) c.in_ok-check_open.ensures.0 in
+    let works = not_failed (session_view c.self.inside.tree c.self.inside.files) (ops.Close c.args.fd) c.in_ok-check_open.ensures.0 in
     let can = can_save c.self.inside.tree c.self.inside.files c.args.fd c.in-Some-Writing.writer works (c.self.invariant.ready works) (sym c.if-not-is_unsaved_at.ensures) (taken _ _ _ _ c.in-Some-Writing.is c.in-Some-Writing.field-0-is c.take.ensures.file) in
     let is = taken _ _ _ _ c.in-Some-Writing.is c.in-Some-Writing.field-0-is c.take.ensures.file in
     saving_call c.self.inside.tree c.writer_after_saving-answer.new.tree c.self.inside.files (files_view c.writer_after_saving-answer.new.tree c.take.new.self) _ (ops.Close c.args.fd) (λ u. ops.Done) _ c.from_residual-in_err-answer.result _ c.self.view_is c.self.invariant c.in_ok-check_open.ensures.0 refl (close_asks c.self.inside.tree c.self.inside.files c.args.fd c.in-Some-Writing.writer (taken _ _ _ _ c.in-Some-Writing.is c.in-Some-Writing.field-0-is c.take.ensures.file)) refl refl refl
@@ -59,8 +58,8 @@ returns g c =
     changed_call {A = Unit {0}} c.self.inside.tree c.self.inside.files _ (ops.Close c.args.fd) (λ u. ops.Done) (Ok tt) _ c.self.view_is c.self.invariant c.lemma_calls_conform.ensures refl refl refl
     (stored_others c.self.inside.tree c.writer_after_saving-answer.new.tree c.self.inside.files _ (ops.Close c.args.fd) c.args.fd c.in-Some-Writing.writer _ c.self.view_is c.self.invariant.ready
     (taken _ _ _ _ c.in-Some-Writing.is c.in-Some-Writing.field-0-is c.take.ensures.file) (λ s. refl) c.in_ok-answer.ensures.stored)
-    (answer_ends (view_of_session c.self.inside.tree c.self.inside.files) _ (ops.Close c.args.fd) ops.Done _ c.self.view_is c.in_ok-check_open.ensures.0 c.in_ok-answer.ensures.stored.no_fault)
+    (answer_ends (session_view c.self.inside.tree c.self.inside.files) _ (ops.Close c.args.fd) ops.Done _ c.self.view_is c.in_ok-check_open.ensures.0 c.in_ok-answer.ensures.stored.no_fault)
     (close_answers c.self.inside.tree c.writer_after_saving-answer.new.tree c.self.inside.files c.take.new.self _ c.args.fd c.in-Some-Writing.writer c.self.view_is c.self.invariant.ready c.in_ok-check_open.ensures.0 (sym c.if-not-is_unsaved_at.ensures)
     (taken _ _ _ _ c.in-Some-Writing.is c.in-Some-Writing.field-0-is c.take.ensures.file) c.in_ok-answer.ensures.stored c.take.ensures.left)
-    (tree_changed (view_of_session c.self.inside.tree c.self.inside.files) _ (ops.Close c.args.fd) c.writer_after_saving-answer.new.tree _ c.self.view_is (sound_by c.self.inside.tree c.self.inside.files c.self.invariant.ready) c.in_ok-check_open.ensures.0 c.writer_after_saving-answer.ensures.survives
+    (tree_changed (session_view c.self.inside.tree c.self.inside.files) _ (ops.Close c.args.fd) c.writer_after_saving-answer.new.tree _ c.self.view_is (sound_by c.self.inside.tree c.self.inside.files c.self.invariant.ready) c.in_ok-check_open.ensures.0 c.writer_after_saving-answer.ensures.survives
     (saved_tree c.self.inside.tree c.self.inside.files c.args.fd c.in-Some-Writing.writer (sym c.if-not-is_unsaved_at.ensures) (taken _ _ _ _ c.in-Some-Writing.is c.in-Some-Writing.field-0-is c.take.ensures.file)))

@@ -2,7 +2,7 @@ use Rattle.std.proofs.Common.{◌∙◌, ap, refl, None}
 use Rattle.lfs_device.specs.declared.error.Error.TheVariants as error
 use Rattle.lfs_model.specs.session.Operations as ops
 use Rattle.lfs_fs.specs.GstateView.{disk_reply_gstate}
-use Rattle.lfs_fs.specs.SessionView.{view_of_session}
+use Rattle.lfs_fs.proofs.Common.{session_view}
 use Rattle.lfs_fs.proofs.Questions.{failed_by, works_by, refused_kept, question_kept}
 use Rattle.lfs_fs.proofs.Answered.{sound_by}
 use Rattle.lfs_fs.proofs.Sparing.{kept_asking}
@@ -12,12 +12,12 @@ use Rattle.lfs_fs.proofs.session.Session.gstate.Goals as goal
 pub returns-then-has_failed : goal.returns-then-has_failed
 returns-then-has_failed g c =
     kept_asking c.self.inside.tree c.self.inside.files _ ops.AskGstate _ c.self.view_is c.self.invariant.ready (λ s. refl) refl
-    (refused_ends (view_of_session c.self.inside.tree c.self.inside.files) _ ops.AskGstate ops.Failed c.self.view_is (failed_by (view_of_session c.self.inside.tree c.self.inside.files) ops.AskGstate c.if-has_failed.ensures))
-    (refused_kept (view_of_session c.self.inside.tree c.self.inside.files) _ (ops.AskGstate) error.Failed c.self.view_is (sound_by c.self.inside.tree c.self.inside.files c.self.invariant.ready) refl (failed_by (view_of_session c.self.inside.tree c.self.inside.files) (ops.AskGstate) c.if-has_failed.ensures))
+    (refused_ends (session_view c.self.inside.tree c.self.inside.files) _ ops.AskGstate ops.Failed c.self.view_is (failed_by (session_view c.self.inside.tree c.self.inside.files) ops.AskGstate c.if-has_failed.ensures))
+    (refused_kept (session_view c.self.inside.tree c.self.inside.files) _ (ops.AskGstate) error.Failed c.self.view_is (sound_by c.self.inside.tree c.self.inside.files c.self.invariant.ready) refl (failed_by (session_view c.self.inside.tree c.self.inside.files) (ops.AskGstate) c.if-has_failed.ensures))
 
 pub returns : goal.returns
 returns g c =
     kept_asking c.self.inside.tree c.self.inside.files _ ops.AskGstate _ c.self.view_is c.self.invariant.ready (λ s. refl) refl
-    (kept_ends (view_of_session c.self.inside.tree c.self.inside.files) _ ops.AskGstate _ c.self.view_is (works_by (view_of_session c.self.inside.tree c.self.inside.files) ops.AskGstate None c.if-has_failed.ensures refl))
-    (question_kept (view_of_session c.self.inside.tree c.self.inside.files) _ ops.AskGstate _ c.self.view_is (sound_by c.self.inside.tree c.self.inside.files c.self.invariant.ready) refl (works_by (view_of_session c.self.inside.tree c.self.inside.files) ops.AskGstate None c.if-has_failed.ensures refl)
+    (kept_ends (session_view c.self.inside.tree c.self.inside.files) _ ops.AskGstate _ c.self.view_is (works_by (session_view c.self.inside.tree c.self.inside.files) ops.AskGstate None c.if-has_failed.ensures refl))
+    (question_kept (session_view c.self.inside.tree c.self.inside.files) _ ops.AskGstate _ c.self.view_is (sound_by c.self.inside.tree c.self.inside.files c.self.invariant.ready) refl (works_by (session_view c.self.inside.tree c.self.inside.files) ops.AskGstate None c.if-has_failed.ensures refl)
     (c.gstate_from_move.ensures ∙ ap disk_reply_gstate c.gstate.ensures))

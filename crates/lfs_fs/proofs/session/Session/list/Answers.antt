@@ -1,8 +1,6 @@
 use Rattle.std.proofs.Common.{ap, map, refl, sym}
 use Rattle.lfs_model.specs.session.Operations as ops
-use Rattle.lfs_lookup.specs.Finds.{listed_item_view}
-use Rattle.lfs_fs.specs.Replies.{reply_from}
-use Rattle.lfs_fs.specs.SessionView.{view_of_session}
+use Rattle.lfs_fs.proofs.Common.{listed_item_view, reply_from, session_view}
 use Rattle.lfs_fs.proofs.Answered.{question_call, files_asked, asked_by_checks, sound_by}
 use Rattle.lfs_fs.proofs.Stopping.{only_read, reads_of_checks}
 use Rattle.lfs_fs.proofs.Sparing.{asking_call}
@@ -16,9 +14,9 @@ returns g c =
     (record { few = λ l. c.check_and_list.ensures.few; none = λ l. c.check_and_list.ensures.kept; hand = λ path reply is same accepted s at ps a small. absurd (cc) })
     (checked_ends c.self.inside.tree c.self.inside.files _ (ops.ListAll c.args.path.now) (λ items. ops.Items (map listed_item_view items.items)) _ c.check_and_list.result c.check_and_list.new.tree c.self.view_is refl c.check_and_list.ensures.checks)
     (files_asked c.args.self.now (ops.ListAll c.args.path.now) (reply_from (λ items. ops.Items (map listed_item_view items.items)) c.check_and_list.result) c.self.inside.tree c.check_and_list.new.tree c.self.inside.files (asked_by_checks c.self.inside.tree c.self.inside.files (ops.ListAll c.args.path.now) _ c.check_and_list.result c.check_and_list.new.tree c.check_and_list.ensures.checks)
-    (question_call (view_of_session c.self.inside.tree c.self.inside.files) _ (ops.ListAll c.args.path.now) (λ items. ops.Items (map listed_item_view items.items)) _ c.check_and_list.result c.check_and_list.new.tree c.self.view_is
+    (question_call (session_view c.self.inside.tree c.self.inside.files) _ (ops.ListAll c.args.path.now) (λ items. ops.Items (map listed_item_view items.items)) _ c.check_and_list.result c.check_and_list.new.tree c.self.view_is
     (sound_by c.self.inside.tree c.self.inside.files c.self.invariant.ready) refl refl (λ x p. ap ops.Items (sym p)) c.check_and_list.ensures.checks))
-    (only_read (view_of_session c.self.inside.tree c.self.inside.files) _ (ops.ListAll c.args.path.now) c.check_and_list.new.tree c.self.view_is (sound_by c.self.inside.tree c.self.inside.files c.self.invariant.ready) (reads_of_checks (view_of_session c.self.inside.tree c.self.inside.files) (ops.ListAll c.args.path.now) _ c.check_and_list.result c.check_and_list.new.tree c.check_and_list.ensures.checks))
+    (only_read (session_view c.self.inside.tree c.self.inside.files) _ (ops.ListAll c.args.path.now) c.check_and_list.new.tree c.self.view_is (sound_by c.self.inside.tree c.self.inside.files c.self.invariant.ready) (reads_of_checks (session_view c.self.inside.tree c.self.inside.files) (ops.ListAll c.args.path.now) _ c.check_and_list.result c.check_and_list.new.tree c.check_and_list.ensures.checks))
 
 pub invariant_of-self : goal.invariant_of-self
 invariant_of-self g c = between_checked c.self.inside.tree c.self.inside.files (ops.ListAll c.args.path.now) _ c.check_and_list.result c.check_and_list.new.tree c.self.invariant c.check_and_list.ensures.checks

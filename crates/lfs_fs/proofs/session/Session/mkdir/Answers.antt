@@ -1,19 +1,16 @@
 use Rattle.std.proofs.Common.{refl, sym, ap, ap₂, []}
 use Rattle.lfs_model.specs.session.Operations as ops
-use Rattle.lfs_fs.specs.SessionView.{view_of_session}
+use Rattle.lfs_fs.proofs.Common.{session_view, tree_creating, DirectoryNode, shown_tree}
 use Rattle.lfs_fs.proofs.Checked.{mkdir_can, passed_writable}
 use Rattle.lfs_fs.proofs.Errors.{given_on}
 use Rattle.lfs_fs.proofs.Staying.{mkdir_left}
-use Rattle.lfs_model.specs.session.TreeEdits.{tree_creating}
-use Rattle.lfs_model.specs.tree.Tree.{DirectoryNode}
-use Rattle.lfs_tree.specs.TreeState.{tree_view}
 use Rattle.lfs_fs.proofs.Called.{done_call, ended_as_call}
 use Rattle.lfs_fs.proofs.DeviceLaws.{between_checked}
 use Rattle.lfs_fs.proofs.session.Session.mkdir.Goals as goal
 
 pub mkdir-answer-requires : goal.mkdir-answer-requires
 mkdir-answer-requires g c =
-    mkdir_can (view_of_session c.self.inside.tree c.self.inside.files) c.args.path.now _ _ (λ works. c.lemma_files_stay.ensures.few c.self.inside.tree c.self.inside.files (c.self.invariant.ready works)) c.in_ok-path.ensures
+    mkdir_can (session_view c.self.inside.tree c.self.inside.files) c.args.path.now _ _ (λ works. c.lemma_files_stay.ensures.few c.self.inside.tree c.self.inside.files (c.self.invariant.ready works)) c.in_ok-path.ensures
 
 pub check_mkdir-requires : goal.check_mkdir-requires
 check_mkdir-requires g c = c.self.invariant.ready
@@ -25,7 +22,7 @@ pub invariant_of-self-2 : goal.invariant_of-self-2
 invariant_of-self-2 g c =
     let h = c.in_ok-path.ensures in
     record {
-      ready = λ works. (mkdir_left _ c.self.inside.tree c.check_mkdir.new.tree c.mkdir-answer.new.self c.self.inside.files c.args.path.now _ c.mkdir-answer.result c.lemma_files_stay.ensures.stay c.self.invariant.ready h.0 h.1 h.2 (mkdir_can (view_of_session c.self.inside.tree c.self.inside.files) c.args.path.now _ _ (λ works. c.lemma_files_stay.ensures.few c.self.inside.tree c.self.inside.files (c.self.invariant.ready works)) h) c.mkdir-answer.ensures.done (λ f. f (ops.Mkdir c.args.path.now) (c.args.path.now, (refl, sym h.2))) c.mkdir-answer.ensures.broken works).ready;
+      ready = λ works. (mkdir_left _ c.self.inside.tree c.check_mkdir.new.tree c.mkdir-answer.new.self c.self.inside.files c.args.path.now _ c.mkdir-answer.result c.lemma_files_stay.ensures.stay c.self.invariant.ready h.0 h.1 h.2 (mkdir_can (session_view c.self.inside.tree c.self.inside.files) c.args.path.now _ _ (λ works. c.lemma_files_stay.ensures.few c.self.inside.tree c.self.inside.files (c.self.invariant.ready works)) h) c.mkdir-answer.ensures.done (λ f. f (ops.Mkdir c.args.path.now) (c.args.path.now, (refl, sym h.2))) c.mkdir-answer.ensures.broken works).ready;
       reported = λ works. c.lemma_calls_conform.ensures;
     }
 
@@ -39,7 +36,7 @@ pub returns : goal.returns
 returns g c =
     let h = c.in_ok-path.ensures in
     done_call _ _ c.self.inside.tree c.check_mkdir.new.tree c.mkdir-answer.new.self c.self.inside.files _ (ops.Mkdir c.args.path.now) c.mkdir-answer.result _ c.self.view_is c.self.invariant h.0 h.1 refl refl refl refl refl refl refl refl refl refl refl
-    (passed_writable (view_of_session c.self.inside.tree c.self.inside.files) (ops.Mkdir c.args.path.now) _ refl h.1)
-    (mkdir_left _ c.self.inside.tree c.check_mkdir.new.tree c.mkdir-answer.new.self c.self.inside.files c.args.path.now _ c.mkdir-answer.result c.lemma_files_stay.ensures.stay c.self.invariant.ready h.0 h.1 h.2 (mkdir_can (view_of_session c.self.inside.tree c.self.inside.files) c.args.path.now _ _ (λ works. c.lemma_files_stay.ensures.few c.self.inside.tree c.self.inside.files (c.self.invariant.ready works)) h) c.mkdir-answer.ensures.done (λ f. f (ops.Mkdir c.args.path.now) (c.args.path.now, (refl, sym h.2))) c.mkdir-answer.ensures.broken) c.lemma_calls_conform.ensures
+    (passed_writable (session_view c.self.inside.tree c.self.inside.files) (ops.Mkdir c.args.path.now) _ refl h.1)
+    (mkdir_left _ c.self.inside.tree c.check_mkdir.new.tree c.mkdir-answer.new.self c.self.inside.files c.args.path.now _ c.mkdir-answer.result c.lemma_files_stay.ensures.stay c.self.invariant.ready h.0 h.1 h.2 (mkdir_can (session_view c.self.inside.tree c.self.inside.files) c.args.path.now _ _ (λ works. c.lemma_files_stay.ensures.few c.self.inside.tree c.self.inside.files (c.self.invariant.ready works)) h) c.mkdir-answer.ensures.done (λ f. f (ops.Mkdir c.args.path.now) (c.args.path.now, (refl, sym h.2))) c.mkdir-answer.ensures.broken) c.lemma_calls_conform.ensures
     c.mkdir-answer.ensures.done (λ f. f (ops.Mkdir c.args.path.now) (c.args.path.now, (refl, sym h.2))) c.mkdir-answer.ensures.alone (λ f. f (ops.Mkdir c.args.path.now) (c.args.path.now, (refl, sym h.2))) c.mkdir-answer.ensures.broken c.mkdir-answer.ensures.errors c.mkdir-answer.ensures.survives
-    (ap₂ (λ p t. tree_creating p (DirectoryNode [] []) t) h.2 (ap tree_view h.0.same))
+    (ap₂ (λ p t. tree_creating p (DirectoryNode [] []) t) h.2 (ap shown_tree h.0.same))

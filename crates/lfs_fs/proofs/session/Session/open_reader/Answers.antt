@@ -1,13 +1,9 @@
 use Rattle.std.proofs.Common.{ap, refl, ◌∙◌}
 use Rattle.lfs_model.specs.session.Operations as ops
-use Rattle.lfs_fs.specs.FileView.{files_view}
-use Rattle.lfs_fs.specs.FlagsView.{flags_view}
-use Rattle.lfs_fs.specs.SessionView.{view_of_session}
+use Rattle.lfs_fs.proofs.Common.{files_view, flags_view, session_view, fault_count, TreeState}
 use Rattle.lfs_fs.proofs.Errors.{given_on}
 use Rattle.lfs_fs.proofs.OpenFiles.{few_left}
 use Rattle.lfs_fs.proofs.OpenedReaders.{reader_opened, reader_ready}
-use Rattle.lfs_model.specs.session.History.{fault_count}
-use Rattle.lfs_tree.specs.TreeState.{TreeState}
 use Rattle.lfs_fs.proofs.Answered.{reader_fails, sound_by}
 use Rattle.lfs_fs.proofs.Called.{ended_as_call, still_call}
 use Rattle.lfs_fs.proofs.Ending.{granted_ends}
@@ -31,10 +27,10 @@ pub returns-then-is_err : goal.returns-then-is_err
 returns-then-is_err g c =
     let h = c.in_ok-contents.ensures in
     still_call c.self.inside.tree c.self.inside.files _ (ops.Open c.args.path.now (flags_view c.args.flags)) _ _ c.self.view_is c.self.invariant.ready refl refl (ap (λ (t : TreeState). t.disk) c.fail.ensures ∙ ap (λ (t : TreeState). t.disk) c.in_ok-contents.ensures.0.same)
-    (granted_ends (view_of_session c.self.inside.tree c.self.inside.files) _ (ops.Open c.args.path.now (flags_view c.args.flags)) ops.Opened c.add_reader-answer.result _ c.self.view_is h.1 refl (ap (λ (t : TreeState). fault_count t.history) c.fail.ensures ∙ h.0.no_fault) c.add_reader-answer.ensures.error)
-    (reader_fails (view_of_session c.self.inside.tree c.self.inside.files) _ c.args.path.now (flags_view c.args.flags) c.check_open_reader.new.tree c.fail.new.self (files_view c.fail.new.self c.add_reader-answer.new.self) c.add_reader-answer.result c.self.view_is
+    (granted_ends (session_view c.self.inside.tree c.self.inside.files) _ (ops.Open c.args.path.now (flags_view c.args.flags)) ops.Opened c.add_reader-answer.result _ c.self.view_is h.1 refl (ap (λ (t : TreeState). fault_count t.history) c.fail.ensures ∙ h.0.no_fault) c.add_reader-answer.ensures.error)
+    (reader_fails (session_view c.self.inside.tree c.self.inside.files) _ c.args.path.now (flags_view c.args.flags) c.check_open_reader.new.tree c.fail.new.self (files_view c.fail.new.self c.add_reader-answer.new.self) c.add_reader-answer.result c.self.view_is
     h.0 h.1 c.if-is_err.ensures.value c.add_reader-answer.ensures.error c.fail.ensures)
-    (only_read (view_of_session c.self.inside.tree c.self.inside.files) _ (ops.Open c.args.path.now (flags_view c.args.flags)) c.fail.new.self c.self.view_is (sound_by c.self.inside.tree c.self.inside.files c.self.invariant.ready) (reads_failing c.self.inside.tree c.check_open_reader.new.tree c.fail.new.self c.fail.ensures c.in_ok-contents.ensures.0.reads))
+    (only_read (session_view c.self.inside.tree c.self.inside.files) _ (ops.Open c.args.path.now (flags_view c.args.flags)) c.fail.new.self c.self.view_is (sound_by c.self.inside.tree c.self.inside.files c.self.invariant.ready) (reads_failing c.self.inside.tree c.check_open_reader.new.tree c.fail.new.self c.fail.ensures c.in_ok-contents.ensures.0.reads))
 
 -- it is opened
 pub invariant_of-self-else-is_err : goal.invariant_of-self-else-is_err
@@ -49,7 +45,7 @@ pub returns-else-is_err : goal.returns-else-is_err
 returns-else-is_err g c =
     let h = c.in_ok-contents.ensures in
     still_call c.self.inside.tree c.self.inside.files _ (ops.Open c.args.path.now (flags_view c.args.flags)) _ _ c.self.view_is c.self.invariant.ready refl refl (ap (λ (t : TreeState). t.disk) c.in_ok-contents.ensures.0.same)
-    (granted_ends (view_of_session c.self.inside.tree c.self.inside.files) _ (ops.Open c.args.path.now (flags_view c.args.flags)) ops.Opened c.add_reader-answer.result _ c.self.view_is h.1 refl h.0.no_fault c.add_reader-answer.ensures.error)
+    (granted_ends (session_view c.self.inside.tree c.self.inside.files) _ (ops.Open c.args.path.now (flags_view c.args.flags)) ops.Opened c.add_reader-answer.result _ c.self.view_is h.1 refl h.0.no_fault c.add_reader-answer.ensures.error)
     (reader_opened c.self.inside.tree c.check_open_reader.new.tree c.self.inside.files c.add_reader-answer.new.self _ c.args.path.now (flags_view c.args.flags) _ c.add_reader-answer.result c.self.view_is c.self.invariant.ready c.requires
     h.0 h.1 h.2.readable.there c.if-is_err.ensures.value c.add_reader-answer.ensures.number c.add_reader-answer.ensures.added)
-    (only_read (view_of_session c.self.inside.tree c.self.inside.files) _ (ops.Open c.args.path.now (flags_view c.args.flags)) c.check_open_reader.new.tree c.self.view_is (sound_by c.self.inside.tree c.self.inside.files c.self.invariant.ready) (c.in_ok-contents.ensures.0.reads))
+    (only_read (session_view c.self.inside.tree c.self.inside.files) _ (ops.Open c.args.path.now (flags_view c.args.flags)) c.check_open_reader.new.tree c.self.view_is (sound_by c.self.inside.tree c.self.inside.files c.self.invariant.ready) (c.in_ok-contents.ensures.0.reads))

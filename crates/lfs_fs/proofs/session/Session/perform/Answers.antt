@@ -1,5 +1,5 @@
 use Rattle.std.proofs.Common.{ap}
-use Rattle.lfs_fs.specs.OpView.{op_view}
+use Rattle.lfs_fs.proofs.Common.{op_view}
 use Rattle.lfs_fs.proofs.Sparing.{performed_call}
 use Rattle.lfs_fs.proofs.session.Session.perform.Goals as goal
 

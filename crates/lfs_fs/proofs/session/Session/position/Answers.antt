@@ -1,6 +1,5 @@
 use Rattle.std.proofs.Common.{◌∙◌}
-use Rattle.lfs_fs.specs.FileAnswers.{file_position}
-use Rattle.lfs_fs.specs.FileView.{open_file_at}
+use Rattle.lfs_fs.proofs.Common.{file_position, open_file_at}
 use Rattle.lfs_fs.proofs.FileAnswers.{answers_failed, answers_none, answers_some, position_found, position_none, position_seen}
 use Rattle.lfs_fs.proofs.session.Session.position.Goals as goal
 

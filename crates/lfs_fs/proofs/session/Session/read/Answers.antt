@@ -1,9 +1,7 @@
 use Rattle.std.proofs.Common.{◌≡◌, ◌+◌, true, is_some, sym, subst, arith}
 use Rattle.lfs_device.specs.declared.error.Error.TheVariants as error
 use Rattle.lfs_model.specs.session.Operations as ops
-use Rattle.lfs_fs.specs.FileView.{open_file_at, files_view, writers_paths}
-use Rattle.lfs_fs.specs.ReaderReads.{ReadsFew}
-use Rattle.lfs_fs.specs.SessionView.{view_of_session}
+use Rattle.lfs_fs.proofs.Common.{open_file_at, files_view, writers_paths, ReadsFew, session_view}
 use Rattle.lfs_fs.proofs.Errors.{given_on}
 use Rattle.lfs_fs.proofs.OpenFiles.{none_reader, reader_there}
 use Rattle.lfs_fs.proofs.Questions.{failed_by}
@@ -27,12 +25,12 @@ seek-requires g c =
 pub returns-then-has_failed-clause-call : goal.returns-then-has_failed-clause-call
 returns-then-has_failed-clause-call g c =
     refused_read c.self.inside.tree c.self.inside.files _ c.args.fd c.args.count c.self.view_is c.self.invariant.ready error.Failed
-    (failed_by (view_of_session c.self.inside.tree c.self.inside.files) (ops.Read c.args.fd c.args.count) c.if-has_failed.ensures)
+    (failed_by (session_view c.self.inside.tree c.self.inside.files) (ops.Read c.args.fd c.args.count) c.if-has_failed.ensures)
 
 pub returns-in_default-clause-call : goal.returns-in_default-clause-call
 returns-in_default-clause-call g c =
     refused_read c.self.inside.tree c.self.inside.files _ c.args.fd c.args.count c.self.view_is c.self.invariant.ready error.BadFile
-    (no_reader (view_of_session c.self.inside.tree c.self.inside.files) c.args.fd c.args.count c.if-has_failed.ensures (none_reader c.self.inside.tree c.self.inside.files c.args.fd c.in_default.ensures))
+    (no_reader (session_view c.self.inside.tree c.self.inside.files) c.args.fd c.args.count c.if-has_failed.ensures (none_reader c.self.inside.tree c.self.inside.files c.args.fd c.in_default.ensures))
 
 -- a call of the tree failed
 pub returns-in_err-bytes-clause-call : goal.returns-in_err-bytes-clause-call
@@ -55,5 +53,5 @@ returns-clause-call g c =
 pub returns-clause-few : goal.returns-clause-few
 returns-clause-few g c =
     let kept = kept_reader c.self.inside.tree c.self.inside.files c.args.fd c.in-Some.reader.now c.self.invariant.ready c.if-has_failed.ensures c.in-Some.ensures in
-    subst (λ h. ReadsFew h c.args.fd c.args.count (view_of_session c.bytes_for_reader.new.tree c.seek.new.self)) c.self.view_is
+    subst (λ h. ReadsFew h c.args.fd c.args.count (session_view c.bytes_for_reader.new.tree c.seek.new.self)) c.self.view_is
     (few_reads c.self.inside.tree c.bytes_for_reader.new.tree c.self.inside.files (files_view c.bytes_for_reader.new.tree c.seek.new.self) c.args.fd c.args.count c.in-Some.reader.now _ _ c.in-Some.ensures kept.contents c.in_ok-bytes.ensures.none c.in_ok-bytes.ensures.few)

@@ -1,18 +1,16 @@
 use Rattle.std.proofs.Common.{refl, sym, ap, ap₂}
 use Rattle.lfs_model.specs.session.Operations as ops
-use Rattle.lfs_fs.specs.SessionView.{view_of_session}
+use Rattle.lfs_fs.proofs.Common.{session_view, tree_removing, shown_tree}
 use Rattle.lfs_fs.proofs.Errors.{given_on}
 use Rattle.lfs_fs.proofs.RemoveAnswered.{removed_left}
 use Rattle.lfs_fs.proofs.RemoveChecks.{remove_can}
-use Rattle.lfs_model.specs.session.TreeEdits.{tree_removing}
-use Rattle.lfs_tree.specs.TreeState.{tree_view}
 use Rattle.lfs_fs.proofs.Checked.{passed_writable}
 use Rattle.lfs_fs.proofs.Called.{done_call, ended_as_call}
 use Rattle.lfs_fs.proofs.DeviceLaws.{between_checked}
 use Rattle.lfs_fs.proofs.session.Session.remove.Goals as goal
 
 pub remove-answer-requires : goal.remove-answer-requires
-remove-answer-requires g c = remove_can (view_of_session c.self.inside.tree c.self.inside.files) c.args.path.now _ _ c.in_ok-path.ensures
+remove-answer-requires g c = remove_can (session_view c.self.inside.tree c.self.inside.files) c.args.path.now _ _ c.in_ok-path.ensures
 
 pub invariant_of-self : goal.invariant_of-self
 invariant_of-self g c = between_checked c.self.inside.tree c.self.inside.files (ops.Remove c.args.path.now) _ c.check_remove.result c.check_remove.new.tree c.self.invariant c.check_remove.ensures
@@ -35,7 +33,7 @@ pub returns : goal.returns
 returns g c =
     let h = c.in_ok-path.ensures in
     done_call _ _ c.self.inside.tree c.check_remove.new.tree c.remove-answer.new.self c.self.inside.files _ (ops.Remove c.args.path.now) c.remove-answer.result _ c.self.view_is c.self.invariant h.0 h.1 refl refl refl refl refl refl refl refl refl refl refl
-    (passed_writable (view_of_session c.self.inside.tree c.self.inside.files) (ops.Remove c.args.path.now) _ refl h.1)
+    (passed_writable (session_view c.self.inside.tree c.self.inside.files) (ops.Remove c.args.path.now) _ refl h.1)
     (removed_left _ c.self.inside.tree c.check_remove.new.tree c.remove-answer.new.self c.self.inside.files c.args.path.now c.remove-answer.result c.lemma_files_stay.ensures.stay c.self.invariant.ready h.0 h.1 c.remove-answer.ensures.done (λ f. f (ops.Remove c.args.path.now) (c.args.path.now, (refl, sym h.2))) c.remove-answer.ensures.broken) c.lemma_calls_conform.ensures
     c.remove-answer.ensures.done (λ f. f (ops.Remove c.args.path.now) (c.args.path.now, (refl, sym h.2))) c.remove-answer.ensures.alone (λ f. f (ops.Remove c.args.path.now) (c.args.path.now, (refl, sym h.2))) c.remove-answer.ensures.broken c.remove-answer.ensures.errors c.remove-answer.ensures.survives
-    (ap₂ (λ p t. tree_removing p t) h.2 (ap tree_view h.0.same))
+    (ap₂ (λ p t. tree_removing p t) h.2 (ap shown_tree h.0.same))

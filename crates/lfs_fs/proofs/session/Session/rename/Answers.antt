@@ -1,12 +1,9 @@
 use Rattle.std.proofs.Common.{◌∙◌, ap₂, refl, sym, ap}
-use Rattle.lfs_model.specs.session.TreeEdits.{same_path, tree_renaming}
+use Rattle.lfs_fs.proofs.Common.{same_path, tree_renaming, session_view, path_or_root, TreeState, shown_tree}
 use Rattle.lfs_model.specs.session.Operations as ops
-use Rattle.lfs_fs.specs.SessionView.{view_of_session}
 use Rattle.lfs_fs.proofs.Errors.{given_on}
 use Rattle.lfs_fs.proofs.RenameAnswered.{renamed_left, same_answers}
 use Rattle.lfs_fs.proofs.RenameChecks.{rename_can}
-use Rattle.lfs_model.specs.session.Refusals.{path_or_root}
-use Rattle.lfs_tree.specs.TreeState.{TreeState, tree_view}
 use Rattle.lfs_fs.proofs.Checked.{passed_writable}
 use Rattle.lfs_fs.proofs.Answered.{sound_by}
 use Rattle.lfs_fs.proofs.Called.{done_call, ended_as_call, still_call}
@@ -18,7 +15,7 @@ use Rattle.lfs_fs.proofs.session.Session.rename.Goals as goal
 pub rename-answer-requires-clause-can : goal.rename-answer-requires-clause-can
 rename-answer-requires-clause-can g c =
     let h = c.in_ok-renaming.ensures in
-    rename_can (view_of_session c.self.inside.tree c.self.inside.files) c.args.from.now c.args.to.now _ _ c.check_rename.new.tree (λ works. c.lemma_files_stay.ensures.few c.self.inside.tree c.self.inside.files (c.self.invariant.ready works)) h.0 h.1 h.2.from h.2.to
+    rename_can (session_view c.self.inside.tree c.self.inside.files) c.args.from.now c.args.to.now _ _ c.check_rename.new.tree (λ works. c.lemma_files_stay.ensures.few c.self.inside.tree c.self.inside.files (c.self.invariant.ready works)) h.0 h.1 h.2.from h.2.to
 
 pub rename-answer-requires-clause-apart : goal.rename-answer-requires-clause-apart
 rename-answer-requires-clause-apart g c =
@@ -55,16 +52,16 @@ pub returns-then-renaming : goal.returns-then-renaming
 returns-then-renaming g c =
     let h = c.in_ok-renaming.ensures in
     still_call c.self.inside.tree c.self.inside.files _ (ops.Rename c.args.from.now c.args.to.now) _ _ c.self.view_is c.self.invariant.ready refl refl (ap (λ (t : TreeState). t.disk) h.0.same)
-    (answer_ends (view_of_session c.self.inside.tree c.self.inside.files) _ (ops.Rename c.args.from.now c.args.to.now) ops.Done _ c.self.view_is h.1 h.0.no_fault)
+    (answer_ends (session_view c.self.inside.tree c.self.inside.files) _ (ops.Rename c.args.from.now c.args.to.now) ops.Done _ c.self.view_is h.1 h.0.no_fault)
     (same_answers c.self.inside.tree c.check_rename.new.tree c.self.inside.files _ c.args.from.now c.args.to.now c.self.view_is c.self.invariant.ready h.0 h.1 (sym h.2.same ∙ c.if-renaming.true))
-    (only_read (view_of_session c.self.inside.tree c.self.inside.files) _ (ops.Rename c.args.from.now c.args.to.now) c.check_rename.new.tree c.self.view_is (sound_by c.self.inside.tree c.self.inside.files c.self.invariant.ready) h.0.reads)
+    (only_read (session_view c.self.inside.tree c.self.inside.files) _ (ops.Rename c.args.from.now c.args.to.now) c.check_rename.new.tree c.self.view_is (sound_by c.self.inside.tree c.self.inside.files c.self.invariant.ready) h.0.reads)
 
 -- the tree's call ends it
 pub returns : goal.returns
 returns g c =
     let h = c.in_ok-renaming.ensures in
     done_call _ _ c.self.inside.tree c.check_rename.new.tree c.rename-answer.new.self c.self.inside.files _ (ops.Rename c.args.from.now c.args.to.now) c.rename-answer.result _ c.self.view_is c.self.invariant h.0 h.1 refl refl refl refl refl refl refl refl refl refl (sym h.2.same ∙ c.if-renaming.false)
-    (passed_writable (view_of_session c.self.inside.tree c.self.inside.files) (ops.Rename c.args.from.now c.args.to.now) _ refl h.1)
+    (passed_writable (session_view c.self.inside.tree c.self.inside.files) (ops.Rename c.args.from.now c.args.to.now) _ refl h.1)
     (renamed_left _ c.self.inside.tree c.check_rename.new.tree c.rename-answer.new.self c.self.inside.files c.args.from.now c.args.to.now c.rename-answer.result c.lemma_files_stay.ensures.stay c.self.invariant.ready h.0 h.1 (sym h.2.same ∙ c.if-renaming.false) c.rename-answer.ensures.done (λ f. f (ops.Rename c.args.from.now c.args.to.now) (c.args.from.now, (c.args.to.now, (refl, (sym h.2.from, sym h.2.to))))) c.rename-answer.ensures.broken) c.lemma_calls_conform.ensures
     c.rename-answer.ensures.done (λ f. f (ops.Rename c.args.from.now c.args.to.now) (c.args.from.now, (c.args.to.now, (refl, (sym h.2.from, sym h.2.to))))) c.rename-answer.ensures.alone (λ f. f (ops.Rename c.args.from.now c.args.to.now) (c.args.from.now, (c.args.to.now, (refl, (sym h.2.from, sym h.2.to))))) c.rename-answer.ensures.broken c.rename-answer.ensures.errors c.rename-answer.ensures.survives
-    (ap₂ (λ p q. tree_renaming p q (tree_view c.check_rename.new.tree)) h.2.from h.2.to ∙ ap (λ t. tree_renaming (path_or_root c.args.from.now) (path_or_root c.args.to.now) (tree_view t)) h.0.same)
+    (ap₂ (λ p q. tree_renaming p q (shown_tree c.check_rename.new.tree)) h.2.from h.2.to ∙ ap (λ t. tree_renaming (path_or_root c.args.from.now) (path_or_root c.args.to.now) (shown_tree t)) h.0.same)

@@ -1,18 +1,15 @@
 use Rattle.std.proofs.Common.{rules, arith, ap, inl, inr, subst, sym}
-use Rattle.std.proofs.lemmas.List.Elements.{All-from_recursion}
-use Rattle.std.specs.List.{AllByRecursion}
+use Rattle.lfs_fs.proofs.Common.{All-from_recursion, AllByRecursion, SessionView, system_state, HasRefusalError}
 use Rattle.lfs_model.proofs.Performing.{performed_turns}
 use Rattle.lfs_model.proofs.Survived.{run_survives}
 use Rattle.lfs_model.proofs.Kept.{session_shows}
 use Rattle.lfs_model.proofs.SessionSteps.{session_steps_joined}
-use Rattle.lfs_fs.specs.SessionView.{SessionView, system_state}
-use Rattle.lfs_fs.specs.OpView.{RefusesOnly}
 use Rattle.lfs_fs.proofs.Failing.{memory_fails_now}
 use Rattle.lfs_fs.proofs.Running.{first_op, named_further, none_run, run_further, run_ended, run_cut, silent_few}
 use Rattle.lfs_fs.proofs.session.Session.run.Goals as goal
 
 pub loop-op-init : goal.loop-op-init
-loop-op-init g c = (none_run c.args.self.now c.new-replies.result.items c.new-replies.ensures.items, subst (AllByRecursion RefusesOnly) (sym c.new-replies.ensures.items) tt)
+loop-op-init g c = (none_run c.args.self.now c.new-replies.result.items c.new-replies.ensures.items, subst (AllByRecursion HasRefusalError) (sym c.new-replies.ensures.items) tt)
 
 pub loop-op-preserved : goal.loop-op-preserved
 loop-op-preserved g c = (
@@ -47,7 +44,7 @@ returns-clause-headline g c from done answers known session_steps =
     session_shows from (system_state c.loop-op.self) _ _ known (session_steps_joined _ _ _ _ from (system_state c.args.self.now) (system_state c.loop-op.self) session_steps run)
 
 pub returns-clause-named : goal.returns-clause-named
-returns-clause-named g c = All-from_recursion RefusesOnly c.loop-op.replies.items c.loop-op.invariant.1
+returns-clause-named g c = All-from_recursion HasRefusalError c.loop-op.replies.items c.loop-op.invariant.1
 
 pub returns-clause-no_fault : goal.returns-clause-no_fault
 returns-clause-no_fault g c = c.loop-op.invariant.0.no_fault

@@ -1,6 +1,6 @@
 use Rattle.std.proofs.Common.{refl}
 use Rattle.lfs_model.specs.session.Operations as ops
-use Rattle.lfs_fs.specs.SessionView.{view_of_session}
+use Rattle.lfs_fs.proofs.Common.{session_view}
 use Rattle.lfs_fs.proofs.Answered.{ended_kept, sound_by}
 use Rattle.lfs_fs.proofs.Errors.{given_on}
 use Rattle.lfs_fs.proofs.Moving.{moved_answers, moved_ready}
@@ -12,9 +12,9 @@ use Rattle.lfs_fs.proofs.session.Session.seek.Goals as goal
 pub returns : goal.returns
 returns g c =
     asking_call c.self.inside.tree c.self.inside.files _ (ops.Seek c.args.fd c.args.position) _ _ c.self.view_is c.self.invariant.ready (λ s. refl) (λ k. absurd (cc)) (asks_not _ _ _ _ refl)
-    (answer_ends (view_of_session c.self.inside.tree c.self.inside.files) _ (ops.Seek c.args.fd c.args.position) ops.Done _ c.self.view_is c.in_ok-check_seek.ensures.0 refl)
+    (answer_ends (session_view c.self.inside.tree c.self.inside.files) _ (ops.Seek c.args.fd c.args.position) ops.Done _ c.self.view_is c.in_ok-check_seek.ensures.0 refl)
     (moved_answers c.self.inside.tree c.self.inside.files c.seek.new.self _ c.args.fd c.args.position c.self.view_is c.self.invariant.ready c.in_ok-check_seek.ensures.0 c.in_ok-check_seek.ensures.1 c.seek.ensures)
-    (no_call (view_of_session c.self.inside.tree c.self.inside.files) _ (ops.Seek c.args.fd c.args.position) c.self.inside.tree c.self.view_is (sound_by c.self.inside.tree c.self.inside.files c.self.invariant.ready) refl)
+    (no_call (session_view c.self.inside.tree c.self.inside.files) _ (ops.Seek c.args.fd c.args.position) c.self.inside.tree c.self.view_is (sound_by c.self.inside.tree c.self.inside.files c.self.invariant.ready) refl)
 
 pub invariant_of-self : goal.invariant_of-self
 invariant_of-self g c = record {
@@ -25,6 +25,6 @@ invariant_of-self g c = record {
 pub returns-in_err-check_seek : goal.returns-in_err-check_seek
 returns-in_err-check_seek g c =
     kept_asking c.self.inside.tree c.self.inside.files _ (ops.Seek c.args.fd c.args.position) _ c.self.view_is c.self.invariant.ready (λ s. refl) refl
-    (unread_ends (view_of_session c.self.inside.tree c.self.inside.files) _ (ops.Seek c.args.fd c.args.position) (λ u. ops.Done) _ c.from_residual.result c.self.view_is c.in_err-check_seek.ensures (given_on _ c.from_residual.result c.from_residual.ensures.1))
-    (ended_kept (view_of_session c.self.inside.tree c.self.inside.files) _ (ops.Seek c.args.fd c.args.position) (λ u. ops.Done) _ c.from_residual.result c.self.view_is (sound_by c.self.inside.tree c.self.inside.files c.self.invariant.ready) refl c.in_err-check_seek.ensures
+    (unread_ends (session_view c.self.inside.tree c.self.inside.files) _ (ops.Seek c.args.fd c.args.position) (λ u. ops.Done) _ c.from_residual.result c.self.view_is c.in_err-check_seek.ensures (given_on _ c.from_residual.result c.from_residual.ensures.1))
+    (ended_kept (session_view c.self.inside.tree c.self.inside.files) _ (ops.Seek c.args.fd c.args.position) (λ u. ops.Done) _ c.from_residual.result c.self.view_is (sound_by c.self.inside.tree c.self.inside.files c.self.invariant.ready) refl c.in_err-check_seek.ensures
     (given_on _ c.from_residual.result c.from_residual.ensures.1))

@@ -1,19 +1,16 @@
 use Rattle.std.proofs.Common.{refl, sym, ap, ap₂}
 use Rattle.lfs_model.specs.session.Operations as ops
-use Rattle.lfs_fs.specs.SessionView.{view_of_session}
+use Rattle.lfs_fs.proofs.Common.{session_view, attributes_with, shown_tree, tree_with_attributes}
 use Rattle.lfs_fs.proofs.Errors.{given_on}
 use Rattle.lfs_fs.proofs.SetAttrChecks.{set_attr_can}
 use Rattle.lfs_fs.proofs.Staying.{set_attr_left}
-use Rattle.lfs_model.specs.format.Content.{attributes_with}
-use Rattle.lfs_tree.specs.TreeState.{tree_view}
-use Rattle.lfs_tree.specs.SlotChanges.{tree_with_attributes}
 use Rattle.lfs_fs.proofs.Checked.{passed_writable}
 use Rattle.lfs_fs.proofs.Called.{done_call, ended_as_call}
 use Rattle.lfs_fs.proofs.DeviceLaws.{between_checked}
 use Rattle.lfs_fs.proofs.session.Session.set_attr.Goals as goal
 
 pub set_attr-answer-requires : goal.set_attr-answer-requires
-set_attr-answer-requires g c = set_attr_can (view_of_session c.self.inside.tree c.self.inside.files) c.args.path.now c.args.kind c.args.value.now _ _ (λ works. c.lemma_files_stay.ensures.few c.self.inside.tree c.self.inside.files (c.self.invariant.ready works)) c.in_ok-path.ensures
+set_attr-answer-requires g c = set_attr_can (session_view c.self.inside.tree c.self.inside.files) c.args.path.now c.args.kind c.args.value.now _ _ (λ works. c.lemma_files_stay.ensures.few c.self.inside.tree c.self.inside.files (c.self.invariant.ready works)) c.in_ok-path.ensures
 
 pub check_set_attr-requires : goal.check_set_attr-requires
 check_set_attr-requires g c = c.self.invariant.ready
@@ -39,7 +36,7 @@ pub returns : goal.returns
 returns g c =
     let h = c.in_ok-path.ensures in
     done_call _ _ c.self.inside.tree c.check_set_attr.new.tree c.set_attr-answer.new.self c.self.inside.files _ (ops.SetAttr c.args.path.now c.args.kind c.args.value.now) c.set_attr-answer.result _ c.self.view_is c.self.invariant h.0 h.1 refl refl refl refl refl refl refl refl refl refl refl
-    (passed_writable (view_of_session c.self.inside.tree c.self.inside.files) (ops.SetAttr c.args.path.now c.args.kind c.args.value.now) _ refl h.1)
+    (passed_writable (session_view c.self.inside.tree c.self.inside.files) (ops.SetAttr c.args.path.now c.args.kind c.args.value.now) _ refl h.1)
     (set_attr_left _ c.self.inside.tree c.check_set_attr.new.tree c.set_attr-answer.new.self c.self.inside.files c.args.path.now c.args.kind c.args.value.now c.set_attr-answer.result c.lemma_files_stay.ensures.stay c.self.invariant.ready h.0 h.1 c.set_attr-answer.ensures.done (λ f. f (ops.SetAttr c.args.path.now c.args.kind c.args.value.now) (c.args.path.now, (refl, sym h.2))) c.set_attr-answer.ensures.broken) c.lemma_calls_conform.ensures
     c.set_attr-answer.ensures.done (λ f. f (ops.SetAttr c.args.path.now c.args.kind c.args.value.now) (c.args.path.now, (refl, sym h.2))) c.set_attr-answer.ensures.alone (λ f. f (ops.SetAttr c.args.path.now c.args.kind c.args.value.now) (c.args.path.now, (refl, sym h.2))) c.set_attr-answer.ensures.broken c.set_attr-answer.ensures.errors c.set_attr-answer.ensures.survives
-    (ap₂ (λ p t. tree_with_attributes p (attributes_with c.args.kind c.args.value.now) t) h.2 (ap tree_view h.0.same))
+    (ap₂ (λ p t. tree_with_attributes p (attributes_with c.args.kind c.args.value.now) t) h.2 (ap shown_tree h.0.same))

@@ -1,7 +1,6 @@
 use Rattle.std.proofs.Common.{sym}
 use Rattle.lfs_fs.specs.FileAnswers.{file_size}
-use Rattle.lfs_fs.specs.FileView.{open_file_at, writers_paths}
-use Rattle.lfs_fs.specs.SessionView.{IsCurrentReader}
+use Rattle.lfs_fs.proofs.Common.{open_file_at, writers_paths, IsCurrentReader}
 use Rattle.lfs_fs.specs.declared.files.OpenFile.TheVariants as file
 use Rattle.lfs_fs.proofs.FileAnswers.{a_reader_file, a_writer, answers_failed, answers_none, answers_some, no_file, writer_sized}
 use Rattle.lfs_fs.proofs.OpenReaders.{one_of_all}

@@ -1,8 +1,6 @@
 use Rattle.std.proofs.Common.{◌<◌, ◌∙◌, Some, length, ap, is_some, refl, sym, subst, Ok}
 use Rattle.lfs_model.specs.session.Operations as ops
-use Rattle.lfs_model.specs.session.Run.{IsStep}
-use Rattle.lfs_fs.specs.FileView.{open_file_at, files_view, writer_if_any, writer_view, writers_among}
-use Rattle.lfs_fs.specs.SessionView.{SessionView, IsReady, view_of_session, system_state}
+use Rattle.lfs_fs.proofs.Common.{IsStep, open_file_at, files_view, writer_if_any, writer_view, writers_among, SessionView, IsReady, session_view, system_state}
 use Rattle.lfs_fs.proofs.Answered.{sound_by, not_failed}
 use Rattle.lfs_fs.proofs.Errors.{given_on}
 use Rattle.lfs_fs.proofs.WriterPaths.{truncate_path}
@@ -48,9 +46,9 @@ returns-then-has_sized_writer g c =
     let h = c.in_ok-check_truncate.ensures in
     let w = some_writer c.self.inside.files c.args.fd h.1 in
     still_call c.self.inside.tree c.self.inside.files _ (ops.Truncate c.args.fd c.args.size) _ _ c.self.view_is c.self.invariant.ready refl refl (ap (λ (h : SessionView). h.tree.disk) (sym c.self.view_is))
-    (kept_ends (view_of_session c.self.inside.tree c.self.inside.files) _ (ops.Truncate c.args.fd c.args.size) ops.Done c.self.view_is c.in_ok-check_truncate.ensures.0)
+    (kept_ends (session_view c.self.inside.tree c.self.inside.files) _ (ops.Truncate c.args.fd c.args.size) ops.Done c.self.view_is c.in_ok-check_truncate.ensures.0)
     (same_size c.self.inside.tree c.self.inside.files c.args.fd c.args.size _ w.0 c.self.view_is c.self.invariant.ready h.0 w.1 (sym (c.has_sized_writer.ensures w.0 (ap writer_if_any w.1)) ∙ c.if-has_sized_writer.true))
-    (kept_call (view_of_session c.self.inside.tree c.self.inside.files) _ (ops.Truncate c.args.fd c.args.size) c.self.view_is (sound_by c.self.inside.tree c.self.inside.files c.self.invariant.ready))
+    (kept_call (session_view c.self.inside.tree c.self.inside.files) _ (ops.Truncate c.args.fd c.args.size) c.self.view_is (sound_by c.self.inside.tree c.self.inside.files c.self.invariant.ready))
 
 -- the tree's call ends it
 pub invariant_of-self-2 : goal.invariant_of-self-2
@@ -76,7 +74,7 @@ returns-in_err-writer g c =
     let can = can_now t fs c.args.fd c.args.size c.in-Some-Writing.writer e h.0 (c.self.invariant.ready (works_now t fs c.args.fd c.args.size c.in-Some-Writing.writer e h.0)) (sym (c.has_sized_writer.ensures c.in-Some-Writing.writer (ap writer_if_any e)) ∙ c.if-has_sized_writer.false) in
     saving_call c.self.inside.tree c.writer_after_truncating-answer.new.tree c.self.inside.files (files_view c.writer_after_truncating-answer.new.tree c.take.new.self) _ (ops.Truncate c.args.fd c.args.size) (λ u. ops.Done) _ c.from_residual-in_err-writer.result _ c.self.view_is c.self.invariant h.0 refl refl refl refl refl
     (other_needed t fs c.args.fd c.args.size c.in-Some-Writing.writer e can.can.written (sym (c.has_sized_writer.ensures c.in-Some-Writing.writer (ap writer_if_any e)) ∙ c.if-has_sized_writer.false)) can.can.written.writable c.lemma_calls_conform.ensures c.in_err-writer.ensures.broken c.in_err-writer.ensures.errors (given_on _ c.from_residual-in_err-writer.result c.from_residual-in_err-writer.ensures.1)
-    (c.writer_after_truncating-answer.ensures.survives (sound_by c.self.inside.tree c.self.inside.files c.self.invariant.ready (not_failed (view_of_session c.self.inside.tree c.self.inside.files) (ops.Truncate c.args.fd c.args.size) c.in_ok-check_truncate.ensures.0))) refl
+    (c.writer_after_truncating-answer.ensures.survives (sound_by c.self.inside.tree c.self.inside.files c.self.invariant.ready (not_failed (session_view c.self.inside.tree c.self.inside.files) (ops.Truncate c.args.fd c.args.size) c.in_ok-check_truncate.ensures.0))) refl
 
 pub returns : goal.returns
 returns g c =
@@ -86,8 +84,8 @@ returns g c =
     let fs = c.self.inside.files in
     changed_call {A = Unit {0}} c.self.inside.tree c.self.inside.files _ (ops.Truncate c.args.fd c.args.size) (λ u. ops.Done) (Ok tt) _ c.self.view_is c.self.invariant c.lemma_calls_conform.ensures refl refl refl
     (beside_others c.self.inside.tree c.writer_after_truncating-answer.new.tree c.self.inside.files _ (ops.Truncate c.args.fd c.args.size) c.self.view_is c.self.invariant.ready c.in_ok-writer.ensures.beside)
-    (answer_ends (view_of_session c.self.inside.tree c.self.inside.files) _ (ops.Truncate c.args.fd c.args.size) ops.Done _ c.self.view_is c.in_ok-check_truncate.ensures.0 c.in_ok-writer.ensures.beside.no_fault)
-    (subst (λ xs. IsStep (system_state c.args.self.now) (ops.Truncate c.args.fd c.args.size) ops.Done (system_state (view_of_session c.writer_after_truncating-answer.new.tree xs))) (sym (put_again fs c.take.new.self c.put_back_writer.new.self c.args.fd c.in_ok-writer.writer c.take.ensures.left c.put_back_writer.ensures))
+    (answer_ends (session_view c.self.inside.tree c.self.inside.files) _ (ops.Truncate c.args.fd c.args.size) ops.Done _ c.self.view_is c.in_ok-check_truncate.ensures.0 c.in_ok-writer.ensures.beside.no_fault)
+    (subst (λ xs. IsStep (system_state c.args.self.now) (ops.Truncate c.args.fd c.args.size) ops.Done (system_state (session_view c.writer_after_truncating-answer.new.tree xs))) (sym (put_again fs c.take.new.self c.put_back_writer.new.self c.args.fd c.in_ok-writer.writer c.take.ensures.left c.put_back_writer.ensures))
     (other_size t c.writer_after_truncating-answer.new.tree fs c.args.fd c.args.size _ c.in-Some-Writing.writer c.in_ok-writer.writer c.self.view_is c.self.invariant.ready h.0 e (sym (c.has_sized_writer.ensures c.in-Some-Writing.writer (ap writer_if_any e)) ∙ c.if-has_sized_writer.false) c.in_ok-writer.ensures.written c.in_ok-writer.ensures.beside))
-    (tree_changed (view_of_session c.self.inside.tree c.self.inside.files) _ (ops.Truncate c.args.fd c.args.size) c.writer_after_truncating-answer.new.tree _ c.self.view_is (sound_by c.self.inside.tree c.self.inside.files c.self.invariant.ready) c.in_ok-check_truncate.ensures.0
-    (c.writer_after_truncating-answer.ensures.survives (sound_by c.self.inside.tree c.self.inside.files c.self.invariant.ready (not_failed (view_of_session c.self.inside.tree c.self.inside.files) (ops.Truncate c.args.fd c.args.size) c.in_ok-check_truncate.ensures.0))) refl)
+    (tree_changed (session_view c.self.inside.tree c.self.inside.files) _ (ops.Truncate c.args.fd c.args.size) c.writer_after_truncating-answer.new.tree _ c.self.view_is (sound_by c.self.inside.tree c.self.inside.files c.self.invariant.ready) c.in_ok-check_truncate.ensures.0
+    (c.writer_after_truncating-answer.ensures.survives (sound_by c.self.inside.tree c.self.inside.files c.self.invariant.ready (not_failed (session_view c.self.inside.tree c.self.inside.files) (ops.Truncate c.args.fd c.args.size) c.in_ok-check_truncate.ensures.0))) refl)

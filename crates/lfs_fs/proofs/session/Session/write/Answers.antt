@@ -1,8 +1,6 @@
 use Rattle.std.proofs.Common.{rules, ◌∙◌, length, ap, refl, sym, subst, Ok}
 use Rattle.lfs_model.specs.session.Operations as ops
-use Rattle.lfs_model.specs.session.Run.{IsStep}
-use Rattle.lfs_fs.specs.FileView.{files_view, writer_view}
-use Rattle.lfs_fs.specs.SessionView.{SessionView, IsReady, view_of_session, system_state}
+use Rattle.lfs_fs.proofs.Common.{IsStep, files_view, writer_view, SessionView, IsReady, session_view, system_state}
 use Rattle.lfs_fs.proofs.Answered.{sound_by, not_failed}
 use Rattle.lfs_fs.proofs.Errors.{given_on}
 use Rattle.lfs_fs.proofs.WriterPaths.{write_path}
@@ -36,9 +34,9 @@ returns-then-is_empty g c =
     let h = c.in_ok-check_write.ensures in
     let w = some_writer c.self.inside.files c.args.fd h.1 in
     still_call c.self.inside.tree c.self.inside.files _ (ops.Write c.args.fd c.args.bytes.now) _ _ c.self.view_is c.self.invariant.ready refl refl (ap (λ (h : SessionView). h.tree.disk) (sym c.self.view_is))
-    (kept_ends (view_of_session c.self.inside.tree c.self.inside.files) _ (ops.Write c.args.fd c.args.bytes.now) (ops.Count 0) c.self.view_is c.in_ok-check_write.ensures.0)
+    (kept_ends (session_view c.self.inside.tree c.self.inside.files) _ (ops.Write c.args.fd c.args.bytes.now) (ops.Count 0) c.self.view_is c.in_ok-check_write.ensures.0)
     (nothing_put c.self.inside.tree c.self.inside.files c.args.fd c.args.bytes.now _ w.0 c.self.view_is c.self.invariant.ready h.0 w.1 (sym c.is_empty.ensures ∙ c.if-is_empty.true))
-    (kept_call (view_of_session c.self.inside.tree c.self.inside.files) _ (ops.Write c.args.fd c.args.bytes.now) c.self.view_is (sound_by c.self.inside.tree c.self.inside.files c.self.invariant.ready))
+    (kept_call (session_view c.self.inside.tree c.self.inside.files) _ (ops.Write c.args.fd c.args.bytes.now) c.self.view_is (sound_by c.self.inside.tree c.self.inside.files c.self.invariant.ready))
 
 -- the tree's call ends it
 pub invariant_of-self-2 : goal.invariant_of-self-2
@@ -49,7 +47,7 @@ invariant_of-self-2 g c =
     record {
       ready = λ f. subst (IsReady c.write-answer.new.tree) (sym h.only)
           (ready_with c.self.inside.tree c.write-answer.new.tree c.self.inside.files c.args.fd w.0 h.writer _ all h.holds c.in_ok-answer.ensures.beside (write_path (writer_view c.self.inside.tree w.0) c.args.bytes.now)
-          (c.self.invariant.ready (not_failed (view_of_session c.self.inside.tree c.self.inside.files) (ops.Write c.args.fd c.args.bytes.now) c.in_ok-check_write.ensures.0)));
+          (c.self.invariant.ready (not_failed (session_view c.self.inside.tree c.self.inside.files) (ops.Write c.args.fd c.args.bytes.now) c.in_ok-check_write.ensures.0)));
       reported = λ f. c.lemma_calls_conform.ensures;
     }
 
@@ -59,7 +57,7 @@ returns-in_err-answer g c =
     let can = can_now c.self.inside.tree c.self.inside.files c.args.fd c.args.bytes.now w.0 w.1 c.in_ok-check_write.ensures.0 c.self.invariant.ready (sym c.is_empty.ensures ∙ c.if-is_empty.false) in
     saving_call c.self.inside.tree c.write-answer.new.tree c.self.inside.files (files_view c.write-answer.new.tree c.write-answer.new.self) _ (ops.Write c.args.fd c.args.bytes.now) ops.Count _ c.from_residual-in_err-answer.result _ c.self.view_is c.self.invariant c.in_ok-check_write.ensures.0 refl refl refl refl refl
     (some_taken c.self.inside.tree c.self.inside.files c.args.fd c.args.bytes.now (sym c.is_empty.ensures ∙ c.if-is_empty.false)) can.can.written.writable c.lemma_calls_conform.ensures c.in_err-answer.ensures.broken c.in_err-answer.ensures.errors (given_on _ c.from_residual-in_err-answer.result c.from_residual-in_err-answer.ensures.1)
-    (c.write-answer.ensures.survives (sound_by c.self.inside.tree c.self.inside.files c.self.invariant.ready (not_failed (view_of_session c.self.inside.tree c.self.inside.files) (ops.Write c.args.fd c.args.bytes.now) c.in_ok-check_write.ensures.0))) refl
+    (c.write-answer.ensures.survives (sound_by c.self.inside.tree c.self.inside.files c.self.invariant.ready (not_failed (session_view c.self.inside.tree c.self.inside.files) (ops.Write c.args.fd c.args.bytes.now) c.in_ok-check_write.ensures.0))) refl
 
 pub returns : goal.returns
 returns g c =
@@ -67,9 +65,9 @@ returns g c =
     let h = c.in_ok-answer.ensures.written w.0 w.1 in
     changed_call c.self.inside.tree c.self.inside.files _ (ops.Write c.args.fd c.args.bytes.now) ops.Count (Ok (length c.args.bytes.now)) _ c.self.view_is c.self.invariant c.lemma_calls_conform.ensures refl refl refl
     (beside_others c.self.inside.tree c.write-answer.new.tree c.self.inside.files _ (ops.Write c.args.fd c.args.bytes.now) c.self.view_is c.self.invariant.ready c.in_ok-answer.ensures.beside)
-    (answer_ends (view_of_session c.self.inside.tree c.self.inside.files) _ (ops.Write c.args.fd c.args.bytes.now) (ops.Count (length c.args.bytes.now)) _ c.self.view_is c.in_ok-check_write.ensures.0 c.in_ok-answer.ensures.beside.no_fault)
-    (subst (λ xs. IsStep (system_state c.args.self.now) (ops.Write c.args.fd c.args.bytes.now) (ops.Count (length c.args.bytes.now)) (system_state (view_of_session c.write-answer.new.tree xs)))
+    (answer_ends (session_view c.self.inside.tree c.self.inside.files) _ (ops.Write c.args.fd c.args.bytes.now) (ops.Count (length c.args.bytes.now)) _ c.self.view_is c.in_ok-check_write.ensures.0 c.in_ok-answer.ensures.beside.no_fault)
+    (subst (λ xs. IsStep (system_state c.args.self.now) (ops.Write c.args.fd c.args.bytes.now) (ops.Count (length c.args.bytes.now)) (system_state (session_view c.write-answer.new.tree xs)))
     (sym h.only)
     (some_put c.self.inside.tree c.write-answer.new.tree c.self.inside.files c.args.fd c.args.bytes.now _ w.0 h.writer c.self.view_is c.self.invariant.ready c.in_ok-check_write.ensures.0 w.1 (sym c.is_empty.ensures ∙ c.if-is_empty.false) h.holds c.in_ok-answer.ensures.beside))
-    (tree_changed (view_of_session c.self.inside.tree c.self.inside.files) _ (ops.Write c.args.fd c.args.bytes.now) c.write-answer.new.tree _ c.self.view_is (sound_by c.self.inside.tree c.self.inside.files c.self.invariant.ready) c.in_ok-check_write.ensures.0
-    (c.write-answer.ensures.survives (sound_by c.self.inside.tree c.self.inside.files c.self.invariant.ready (not_failed (view_of_session c.self.inside.tree c.self.inside.files) (ops.Write c.args.fd c.args.bytes.now) c.in_ok-check_write.ensures.0))) refl)
+    (tree_changed (session_view c.self.inside.tree c.self.inside.files) _ (ops.Write c.args.fd c.args.bytes.now) c.write-answer.new.tree _ c.self.view_is (sound_by c.self.inside.tree c.self.inside.files c.self.invariant.ready) c.in_ok-check_write.ensures.0
+    (c.write-answer.ensures.survives (sound_by c.self.inside.tree c.self.inside.files c.self.invariant.ready (not_failed (session_view c.self.inside.tree c.self.inside.files) (ops.Write c.args.fd c.args.bytes.now) c.in_ok-check_write.ensures.0))) refl)

@@ -1,5 +1,5 @@
 use Rattle.std.proofs.Common.{◌∙◌, ap, arith, sym}
-use Rattle.lfs_model.specs.session.Refusals.{is_root_path}
+use Rattle.lfs_lookup.proofs.Common.{is_root_path}
 use Rattle.lfs_lookup.proofs.LastNames.{long_root}
 use Rattle.lfs_lookup.proofs.path.Path.is_root.Goals as goal
 

@@ -1,5 +1,5 @@
 use Rattle.std.proofs.Common.{◌∙◌, ap, length}
-use Rattle.lfs_model.specs.session.TreeEdits.{last_name}
+use Rattle.lfs_lookup.proofs.Common.{last_name}
 use Rattle.lfs_lookup.proofs.LastNames.{last_name_len}
 use Rattle.lfs_lookup.proofs.path.Path.name_len.Goals as goal
 

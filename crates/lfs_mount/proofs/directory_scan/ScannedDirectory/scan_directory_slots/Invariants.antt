@@ -1,8 +1,6 @@
 use Rattle.std.proofs.Common.{◌≡◌, map, drop}
 use Rattle.lfs_model.specs.declared.order.NameOrder.{NameOrder}
-use Rattle.lfs_tag.specs.ContentView.{slot_view}
-use Rattle.lfs_mount.specs.KnownView.{scan_view}
-use Rattle.lfs_mount.specs.Scanned.{scan_after_slots}
+use Rattle.lfs_mount.proofs.Common.{slot_view, scan_view, scan_after_slots}
 use Rattle.lfs_mount.proofs.directory_scan.ScannedDirectory.scan_directory_slots.Given as goal
 
 abbrev pub invariant-loop-slot : goal.invariant-loop-slot

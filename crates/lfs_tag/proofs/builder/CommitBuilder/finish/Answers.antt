@@ -1,8 +1,5 @@
 use Rattle.std.proofs.Common.{◌≡◌, ℕ, ◌+◌, ◌-◌, ap, ◌∙◌, arith}
-use Rattle.lfs_model.specs.format.Tag.{make_tag}
-use Rattle.lfs_model.specs.format.EntryTypes.{no_id}
-use Rattle.lfs_model.specs.layers.Commit.{checksum_type}
-use Rattle.lfs_tag.specs.Builder.{checksum_start, padded_end_of}
+use Rattle.lfs_tag.proofs.Common.{make_tag, no_id, checksum_type, checksum_start, padded_end_of}
 use Rattle.lfs_tag.proofs.BuilderChecksums.{padded}
 use Rattle.lfs_tag.proofs.BuilderPages.{committed}
 use Rattle.lfs_tag.proofs.BuilderEnds.{Sealed, are_pages}

@@ -1,7 +1,5 @@
 use Rattle.std.proofs.Common.{arith}
-use Rattle.std.proofs.lemmas.Bool.Decides.{nat_tests}
-use Rattle.lfs_model.specs.format.Log.{LogEntry}
-use Rattle.lfs_tag.specs.BuilderKeeps.{IsStorableEntry}
+use Rattle.lfs_tag.proofs.Common.{nat_tests, LogEntry, IsStorableEntry}
 use Rattle.lfs_tag.proofs.BuilderEntries.{push_keeps}
 use Rattle.lfs_tag.proofs.builder.CommitBuilder.push.Goals as goal
 

@@ -1,4 +1,4 @@
-use Rattle.lfs_tag.specs.Builder.{commit_adding_entry}
+use Rattle.lfs_tag.proofs.Common.{commit_adding_entry}
 use Rattle.lfs_tag.proofs.builder.CommitBuilder.push.Given as goal
 
 abbrev pub ghost-with_ghost_commit : goal.ghost-with_ghost_commit

@@ -1,6 +1,5 @@
 use Rattle.std.proofs.Common.{◌≡◌}
-use Rattle.lfs_model.specs.format.Log.{block_entries}
-use Rattle.lfs_model.specs.format.Content.{content_after, empty_raw_content}
+use Rattle.lfs_tag.proofs.Common.{block_entries, content_after, empty_raw_content}
 use Rattle.lfs_tag.specs.ContentView.{content_view}
 use Rattle.lfs_tag.proofs.content.Content.read_with_room.Given as goal
 

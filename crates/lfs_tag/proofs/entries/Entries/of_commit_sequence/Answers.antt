@@ -1,5 +1,6 @@
 use Rattle.std.proofs.Common.{arith}
-use Rattle.lfs_model.specs.format.Log.{chain_of, block_entries}
+use Rattle.lfs_tag.proofs.Common.{block_entries}
+use Rattle.lfs_model.specs.format.Log.{chain_of}
 use Rattle.lfs_tag.proofs.Runs.{all_run, all_is, run_count}
 use Rattle.lfs_tag.proofs.entries.Entries.of_commit_sequence.Goals as goal
 

@@ -1,5 +1,5 @@
 use Rattle.std.proofs.Common.{rules, length, sym, ap, ◌∙◌}
-use Rattle.lfs_tag.specs.LogEntryView.{log_entry_view}
+use Rattle.lfs_tag.proofs.Common.{log_entry_view}
 use Rattle.lfs_tag.proofs.Runs.{run_past, run_none, run_on, run_rest}
 use Rattle.lfs_tag.proofs.entries.EntriesIterator.next.Goals as goal
 

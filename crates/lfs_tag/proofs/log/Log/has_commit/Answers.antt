@@ -1,5 +1,5 @@
 use Rattle.std.proofs.Common.{◌∙◌, ap, ℕ, List, ltb}
-use Rattle.lfs_model.specs.format.Content.{has_commit}
+use Rattle.lfs_tag.proofs.Common.{has_commit}
 use Rattle.lfs_tag.proofs.Runs.{goes_on}
 use Rattle.lfs_tag.proofs.log.Log.has_commit.Goals as goal
 

@@ -1,5 +1,6 @@
 use Rattle.std.proofs.Common.{◌≡◌, ◌≤◌, ◌-◌, length}
-use Rattle.lfs_model.specs.format.Log.{longest_sequence, chain_of}
+use Rattle.lfs_tag.proofs.Common.{longest_sequence}
+use Rattle.lfs_model.specs.format.Log.{chain_of}
 use Rattle.lfs_model.proofs.Chains.{chain_stop}
 use Rattle.lfs_tag.proofs.log.Log.read.Given as goal
 

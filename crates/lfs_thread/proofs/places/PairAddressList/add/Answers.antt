@@ -1,10 +1,6 @@
 use Rattle.std.proofs.Common.{arith, ◌≡◌, ◌<◌, ◌^◌, ◌∷◌, ◌++◌, [], List, ℕ, false, Result, Ok, Err, nat_cmp, length, map, sym, ap, subst, ◌∙◌}
 use Rattle.std.specs.Prelude.{OnOk, is_err, nat_eq}
-use Rattle.std.specs.List.{IsDistinct}
-use Rattle.std.specs.BTreeMap.{get}
-use Rattle.std.proofs.lemmas.List.{length-map, map-append}
-use Rattle.lfs_model.specs.format.Slots.{array_address}
-use Rattle.lfs_thread.specs.PairPlaces.{FindsByLesser, blocks_of_addresses, lesser_of}
+use Rattle.lfs_thread.proofs.Common.{IsDistinct, get, length-map, map-append, array_address, FindsByLesser, blocks_of_addresses, lesser_of}
 use Rattle.lfs_thread.proofs.ByBlocks.{few_places, one_more_place, put_at}
 use Rattle.lfs_thread.proofs.places.PairAddressList.add.Goals as goal
 

@@ -1,9 +1,6 @@
 use Rattle.std.proofs.Common.{length, ℕ, ap, sym, ◌∙◌, map, option_map, refl, arith, List, nat_cmp}
-use Rattle.std.specs.BTreeMap.{get}
-use Rattle.std.proofs.lemmas.List.{length-map}
-use Rattle.std.proofs.lemmas.Option.{slice_get-map, slice_get_within, slice_get_read}
-use Rattle.lfs_model.specs.format.Slots.{array_address}
-use Rattle.lfs_thread.specs.PairPlaces.{index_of_address}
+use Rattle.lfs_thread.proofs.Common.{get, length-map, slice_get_within, array_address, address_index}
+use Rattle.std.proofs.lemmas.Option.{slice_get-map, slice_get_read}
 use Rattle.lfs_thread.proofs.ByBlocks.{found_place, no_place, other_place, place_none, place_some, place_within}
 use Rattle.lfs_thread.proofs.places.PairAddressList.find.Goals as goal
 
@@ -12,7 +9,7 @@ returns-in_default-clause-value c =
     let addresses = map array_address c.self.inside.addresses.items in
     let at = array_address c.args.pair in
     sym (no_place addresses (get nat_cmp c.self.inside.by_block) c.self.invariant at (ap (get nat_cmp c.self.inside.by_block) (sym c.lesser_block.ensures) ∙ sym c.in_default.ensures.value))
-    ∙ ap (λ (xs : List (ℕ × ℕ)). index_of_address xs at) c.self.view_is
+    ∙ ap (λ (xs : List (ℕ × ℕ)). address_index xs at) c.self.view_is
 
 pub index-requires : goal.index-requires
 index-requires c =
@@ -33,7 +30,7 @@ returns-then-greater_block-clause-value c =
     ∙ ap (option_map array_address) (slice_get_read c.self.inside.addresses.items _ c.in-Some.place.now c.index.result.now refl (omega (arith, within, length-map c.self.inside.addresses.items array_address)) c.index.ensures) in
     sym (found_place addresses (get nat_cmp c.self.inside.by_block) c.self.invariant at c.in-Some.place.now (array_address c.index.result.now) found here
     (sym c.greater_block.ensures ∙ c.if-greater_block.true ∙ c.greater_block-2.ensures))
-    ∙ ap (λ (xs : List (ℕ × ℕ)). index_of_address xs at) c.self.view_is
+    ∙ ap (λ (xs : List (ℕ × ℕ)). address_index xs at) c.self.view_is
 
 pub returns-else-greater_block-clause-value : goal.returns-else-greater_block-clause-value
 returns-else-greater_block-clause-value c =
@@ -46,7 +43,7 @@ returns-else-greater_block-clause-value c =
     ∙ ap (option_map array_address) (slice_get_read c.self.inside.addresses.items _ c.in-Some.place.now c.index.result.now refl (omega (arith, within, length-map c.self.inside.addresses.items array_address)) c.index.ensures) in
     sym (other_place addresses (get nat_cmp c.self.inside.by_block) c.self.invariant at c.in-Some.place.now (array_address c.index.result.now) found here
     (λ e. c.if-greater_block.false (c.greater_block.ensures ∙ e ∙ sym c.greater_block-2.ensures)))
-    ∙ ap (λ (xs : List (ℕ × ℕ)). index_of_address xs at) c.self.view_is
+    ∙ ap (λ (xs : List (ℕ × ℕ)). address_index xs at) c.self.view_is
 
 pub returns-then-greater_block-clause-within : goal.returns-then-greater_block-clause-within
 returns-then-greater_block-clause-within c =

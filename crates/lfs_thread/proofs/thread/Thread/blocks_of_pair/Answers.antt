@@ -1,7 +1,5 @@
 use Rattle.std.proofs.Common.{ap, sym, subst, ◌∙◌, ◌<◌, length}
-use Rattle.lfs_model.specs.format.Thread.{Pair}
-use Rattle.lfs_thread.specs.Kept.{ThreadView, disk_of_device}
-use Rattle.lfs_thread.specs.ThreadSteps.{thread_pair_at}
+use Rattle.lfs_thread.proofs.Common.{Pair, ThreadView, disk_of_device, thread_pair}
 use Rattle.lfs_thread.proofs.Changing.{at_there, pair_at_index}
 use Rattle.lfs_thread.proofs.thread.Thread.blocks_of_pair.Goals as goal
 
@@ -9,6 +7,6 @@ pub returns : goal.returns
 returns g c =
     let disk = disk_of_device g.D.BlockDevice c.self.inside.device in
     let below = subst (λ (v : ThreadView). c.args.index < length v.kept.pairs) (sym c.self.view_is) c.requires in
-    sym (ap (λ (v : ThreadView). (thread_pair_at v.kept c.args.index).at) (sym c.self.view_is)
+    sym (ap (λ (v : ThreadView). (thread_pair v.kept c.args.index).at) (sym c.self.view_is)
     ∙ ap (λ (p : Pair). p.at) (pair_at_index disk (g.D.BlockDevice.history c.self.inside.device) c.self.inside.pairs.items c.self.inside.map c.args.index c.index.result.now
     (at_there disk c.self.inside.pairs.items c.args.index c.index.result.now below c.index.ensures)))

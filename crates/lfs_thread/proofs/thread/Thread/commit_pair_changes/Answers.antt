@@ -1,17 +1,10 @@
 use Rattle.std.proofs.Common.{◌+◌, sym, ap, ap₂, subst, ◌∙◌, inl, inr, set}
-use Rattle.lfs_device.specs.DeviceDisk.{disk_of_blocks}
-use Rattle.lfs_pair.specs.ChangeView.{changes_view}
-use Rattle.lfs_model.proofs.Histories.{HoldsAtLosses-weaker}
-use Rattle.lfs_thread.specs.ThreadDevice.{LossLeavesCleanly}
-use Rattle.lfs_thread.specs.Kept.{ThreadView, disk_of_device, kept_in_order, kept_of_device}
-use Rattle.lfs_thread.specs.CachedLog.{cached_log, reads_unless_cached}
-use Rattle.lfs_thread.specs.ThreadSteps.{CanChangePair, IoMeantFaultNoMemoryWroteNothing, IsPairCommitted, LossLeavesPairChanged, RefusesChanges, ChangesWithinReads, thread_pair_at}
+use Rattle.lfs_thread.proofs.Common.{disk_of_blocks, changes_view, HoldsAtLosses-weaker, CleanLossLeaves, ThreadView, disk_of_device, kept_in_order, kept_of_device, cached_log, reads_unless_cached, CanChangePair, ThreadReportsErrors, IsPairCommitted, LossLeavesPair, RefusesChanges, ChangesWithinReads, thread_pair, address_blocks}
 use Rattle.lfs_thread.proofs.Changing.{at_there, can_commit, device_kept, device_changed, ok_outcome, full_kept, refused, left_in_thread}
 use Rattle.lfs_thread.proofs.CachedPair.{reading_there}
 use Rattle.lfs_thread.proofs.InOrder.{can_change, changed_in, left_changed_in, refused_in}
 use Rattle.lfs_thread.proofs.Reported.{reported_from, reading_from}
 use Rattle.lfs_thread.proofs.thread.Thread.commit_pair_changes.Goals as goal
-use Rattle.lfs_model.specs.format.Thread.{address_blocks}
 
 pub commit_with_cache-outcome-requires : goal.commit_with_cache-outcome-requires
 commit_with_cache-outcome-requires g c = record {
@@ -61,7 +54,7 @@ returns-clause-full g c full =
 
 pub returns-clause-errors : goal.returns-clause-errors
 returns-clause-errors g c =
-    subst (λ (v : ThreadView). IoMeantFaultNoMemoryWroteNothing v.kept (kept_in_order g.D.BlockDevice c.self.inside.order c.commit_with_cache-outcome.new.device (set c.self.inside.pairs.items c.args.index c.commit_with_cache-outcome.new.pair) c.self.inside.map) c.commit_with_cache-outcome.result) c.self.view_is
+    subst (λ (v : ThreadView). ThreadReportsErrors v.kept (kept_in_order g.D.BlockDevice c.self.inside.order c.commit_with_cache-outcome.new.device (set c.self.inside.pairs.items c.args.index c.commit_with_cache-outcome.new.pair) c.self.inside.map) c.commit_with_cache-outcome.result) c.self.view_is
     (reported_from g.D.BlockDevice c.self.inside.order c.self.inside.device c.commit_with_cache-outcome.new.device c.self.inside.pairs.items (set c.self.inside.pairs.items c.args.index c.commit_with_cache-outcome.new.pair) c.self.inside.map c.self.inside.map c.commit_with_cache-outcome.result c.commit_with_cache-outcome.ensures.errors)
 
 pub returns-clause-device : goal.returns-clause-device
@@ -73,7 +66,7 @@ returns-clause-device g c =
     let new = c.commit_with_cache-outcome.new in
     let reading = reading_there disk (g.D.BlockDevice.history c.self.inside.device) c.self.inside.pairs.items c.self.inside.map c.args.index c.index_mut.result.now a (c.self.invariant works).0
     g.D.BlockDevice c.self.inside.device new.device address_blocks 1 c.self.inside.cache c.commit_with_cache-outcome.ensures.device in
-    subst (λ (v : ThreadView). ChangesWithinReads (1 + reads_unless_cached (cached_log v c.args.index)) (address_blocks (thread_pair_at v.kept c.args.index).at) v.kept (kept_in_order g.D.BlockDevice c.self.inside.order new.device (set c.self.inside.pairs.items c.args.index new.pair) c.self.inside.map)) c.self.view_is
+    subst (λ (v : ThreadView). ChangesWithinReads (1 + reads_unless_cached (cached_log v c.args.index)) (address_blocks (thread_pair v.kept c.args.index).at) v.kept (kept_in_order g.D.BlockDevice c.self.inside.order new.device (set c.self.inside.pairs.items c.args.index new.pair) c.self.inside.map)) c.self.view_is
     (reading_from g.D.BlockDevice c.self.inside.order c.self.inside.device new.device c.self.inside.pairs.items (set c.self.inside.pairs.items c.args.index new.pair) c.self.inside.map c.self.inside.map _ reading)
 
 pub returns-clause-stops : goal.returns-clause-stops
@@ -81,7 +74,7 @@ returns-clause-stops g c cleanly =
     let works = ap (λ (v : ThreadView). v.failed) c.self.view_is ∙ c.requires.works in
     let can = can_change c.self.inside.order (kept_of_device g.D.BlockDevice c.self.inside.device c.self.inside.pairs.items c.self.inside.map) c.args.index (changes_view c.args.changes.now) (subst (λ (v : ThreadView). CanChangePair v.kept c.args.index (changes_view c.args.changes.now)) (sym c.self.view_is) c.requires.can) in
     let a = at_there (disk_of_device g.D.BlockDevice c.self.inside.device) c.self.inside.pairs.items c.args.index c.index_mut.result.now can.below c.index_mut.ensures.value in
-    subst (λ (v : ThreadView). LossLeavesCleanly v.kept.history (g.D.BlockDevice.history c.commit_with_cache-outcome.new.device) (LossLeavesPairChanged v.kept c.args.index (changes_view c.args.changes.now))) c.self.view_is
+    subst (λ (v : ThreadView). CleanLossLeaves v.kept.history (g.D.BlockDevice.history c.commit_with_cache-outcome.new.device) (LossLeavesPair v.kept c.args.index (changes_view c.args.changes.now))) c.self.view_is
     (λ clean. HoldsAtLosses-weaker (λ left l. left_changed_in c.self.inside.order (kept_of_device g.D.BlockDevice c.self.inside.device c.self.inside.pairs.items c.self.inside.map) c.args.index (changes_view c.args.changes.now) left
     (left_in_thread _ _ c.self.inside.pairs.items c.self.inside.map c.args.index _ _ left a (c.self.invariant works).0 can.content can.made l)) (c.commit_with_cache-outcome.ensures.stops clean))
     cleanly

@@ -1,13 +1,8 @@
 use Rattle.std.proofs.Common.{◌+◌, subst, sym}
-use Rattle.lfs_pair.specs.ChangeView.{changes_view}
-use Rattle.lfs_thread.specs.ThreadDevice.{LossLeavesCleanly}
-use Rattle.lfs_thread.specs.Kept.{ThreadView, kept_in_order, kept_of_device}
-use Rattle.lfs_thread.specs.CachedLog.{cached_log, reads_unless_cached}
-use Rattle.lfs_thread.specs.ThreadSteps.{IoMeantFaultNoMemoryWroteNothing, LossLeavesPairChanged, ChangesWithinReads, thread_pair_at, CanDropNext, IsNextDropped, RefusesChanges}
+use Rattle.lfs_thread.proofs.Common.{changes_view, CleanLossLeaves, ThreadView, kept_in_order, kept_of_device, cached_log, reads_unless_cached, ThreadReportsErrors, LossLeavesPair, ChangesWithinReads, thread_pair, CanDropNext, IsNextDropped, RefusesChanges, address_blocks}
 use Rattle.lfs_thread.proofs.InOrder.{can_drop, dropped_in, left_changed_in, refused_in, stops_in}
 use Rattle.lfs_thread.proofs.Reported.{reported_from, reading_from}
 use Rattle.lfs_thread.proofs.thread.Thread.drop_next.Goals as goal
-use Rattle.lfs_model.specs.format.Thread.{address_blocks}
 
 pub drop_next_pair-outcome-requires-clause-can : goal.drop_next_pair-outcome-requires-clause-can
 drop_next_pair-outcome-requires-clause-can g c =
@@ -27,16 +22,16 @@ returns-clause-full g c full =
 pub returns-clause-errors : goal.returns-clause-errors
 returns-clause-errors g c =
     let new = c.drop_next_pair-outcome.new in
-    subst (λ (v : ThreadView). IoMeantFaultNoMemoryWroteNothing v.kept (kept_in_order g.D.BlockDevice c.self.inside.order new.device new.pairs.items new.map) c.drop_next_pair-outcome.result) c.self.view_is
+    subst (λ (v : ThreadView). ThreadReportsErrors v.kept (kept_in_order g.D.BlockDevice c.self.inside.order new.device new.pairs.items new.map) c.drop_next_pair-outcome.result) c.self.view_is
     (reported_from g.D.BlockDevice c.self.inside.order c.self.inside.device new.device c.self.inside.pairs.items new.pairs.items c.self.inside.map new.map c.drop_next_pair-outcome.result c.drop_next_pair-outcome.ensures.errors)
 
 pub returns-clause-device : goal.returns-clause-device
 returns-clause-device g c =
     let new = c.drop_next_pair-outcome.new in
-    subst (λ (v : ThreadView). ChangesWithinReads (1 + reads_unless_cached (cached_log v c.args.index)) (address_blocks (thread_pair_at v.kept c.args.index).at) v.kept (kept_in_order g.D.BlockDevice c.self.inside.order new.device new.pairs.items new.map)) c.self.view_is
+    subst (λ (v : ThreadView). ChangesWithinReads (1 + reads_unless_cached (cached_log v c.args.index)) (address_blocks (thread_pair v.kept c.args.index).at) v.kept (kept_in_order g.D.BlockDevice c.self.inside.order new.device new.pairs.items new.map)) c.self.view_is
     (reading_from g.D.BlockDevice c.self.inside.order c.self.inside.device new.device c.self.inside.pairs.items new.pairs.items c.self.inside.map new.map _ c.drop_next_pair-outcome.ensures.device)
 
 pub returns-clause-stops : goal.returns-clause-stops
 returns-clause-stops g c =
-    subst (λ (v : ThreadView). LossLeavesCleanly v.kept.history (g.D.BlockDevice.history c.drop_next_pair-outcome.new.device) (LossLeavesPairChanged v.kept c.args.index (changes_view c.args.changes.now))) c.self.view_is
+    subst (λ (v : ThreadView). CleanLossLeaves v.kept.history (g.D.BlockDevice.history c.drop_next_pair-outcome.new.device) (LossLeavesPair v.kept c.args.index (changes_view c.args.changes.now))) c.self.view_is
     (stops_in (λ left l. left_changed_in c.self.inside.order (kept_of_device g.D.BlockDevice c.self.inside.device c.self.inside.pairs.items c.self.inside.map) c.args.index (changes_view c.args.changes.now) left l) c.drop_next_pair-outcome.ensures.stops)

@@ -1,10 +1,5 @@
 use Rattle.std.proofs.Common.{◌≡◌, Some, ap, sym, subst, ◌∙◌, ◌<◌, List, ℕ, length, arith}
-use Rattle.lfs_device.specs.Bytes.{ElementsAreBytes}
-use Rattle.lfs_model.specs.layers.Cache.{cached_bytes}
-use Rattle.lfs_model.specs.format.Content.{current_block}
-use Rattle.lfs_thread.specs.Kept.{ThreadView, disk_of_device}
-use Rattle.lfs_thread.specs.CachedLog.{IsContentLog, cached_log}
-use Rattle.lfs_thread.specs.ThreadSteps.{thread_pair_at}
+use Rattle.lfs_thread.proofs.Common.{ElementsAreBytes, cached_bytes, current_block, ThreadView, disk_of_device, IsContentLog, cached_log, thread_pair}
 use Rattle.lfs_thread.proofs.Changing.{at_there}
 use Rattle.lfs_thread.proofs.CachedPair.{active_is, active_there, block_there, end_there, holder_there, last_there}
 use Rattle.lfs_thread.proofs.thread.Thread.lend.Goals as goal
@@ -55,8 +50,8 @@ returns-in-Some-clause-holds g c =
     let size = shape.sizes c.index-pair.result.now.active (active_there disk (g.D.BlockDevice.history c.self.inside.device) c.self.inside.pairs.items c.self.inside.map c.args.index c.index-pair.result.now a (c.self.invariant works).0 _ shape.count) in
     let most = (g.D.BlockDevice.geometry c.self.inside.device).valid.no_larger in
     let is = (c.self.invariant works).1 c.index-pair.result.now.active c.in-Some.block.now (sym c.in-Some.ensures) in
-    subst (λ (b : List ℕ). IsContentLog b (thread_pair_at c.args.self.now.kept c.args.index).content) (sym c.with_known_end.ensures)
-    (subst (λ (v : ThreadView). IsContentLog c.in-Some.block.now (thread_pair_at v.kept c.args.index).content) c.self.view_is
+    subst (λ (b : List ℕ). IsContentLog b (thread_pair c.args.self.now.kept c.args.index).content) (sym c.with_known_end.ensures)
+    (subst (λ (v : ThreadView). IsContentLog c.in-Some.block.now (thread_pair v.kept c.args.index).content) c.self.view_is
     (block_there disk (g.D.BlockDevice.history c.self.inside.device) c.self.inside.pairs.items c.self.inside.map c.args.index c.index-pair.result.now a (c.self.invariant works).0
     c.in-Some.block.now is (let l = ap length is in omega arith) (subst ElementsAreBytes (sym is) (g.met.D.BlockDevice.bytes c.self.inside.device c.index-pair.result.now.active))))
 
@@ -66,6 +61,6 @@ returns-in-Some-clause-holder g c =
     let below = subst (λ (v : ThreadView). c.args.index < length v.kept.pairs) (sym c.self.view_is) c.requires.below in
     let disk = disk_of_device g.D.BlockDevice c.self.inside.device in
     let a = at_there disk c.self.inside.pairs.items c.args.index c.index-pair.result.now below c.index-pair.ensures in
-    subst (λ (v : ThreadView). current_block v.kept.disk (thread_pair_at v.kept c.args.index).at ≡ Some c.with_known_end.result) c.self.view_is
+    subst (λ (v : ThreadView). current_block v.kept.disk (thread_pair v.kept c.args.index).at ≡ Some c.with_known_end.result) c.self.view_is
     (holder_there disk (g.D.BlockDevice.history c.self.inside.device) c.self.inside.pairs.items c.self.inside.map c.args.index c.index-pair.result.now a (c.self.invariant works).0
     c.in-Some.block.now ((c.self.invariant works).1 c.index-pair.result.now.active c.in-Some.block.now (sym c.in-Some.ensures)) ∙ ap Some (sym c.with_known_end.ensures))

@@ -1,13 +1,9 @@
 use Rattle.std.proofs.Common.{ap, ap₂, sym, subst, ◌∙◌, ◌≡◌, ◌<◌, ◌≤◌, ◌+◌, length}
 use Rattle.std.specs.Prelude.{IsSome, OnOk}
-use Rattle.lfs_device.specs.DeviceDisk.{disk_of_blocks}
-use Rattle.lfs_model.specs.layers.Cache.{cached_bytes}
-use Rattle.lfs_thread.specs.Kept.{IsCacheCurrent, IsKeptOnDisk, ThreadView, disk_of_device, kept_in_order}
-use Rattle.lfs_thread.specs.CachedLog.{cached_log, loaded_cache}
+use Rattle.lfs_thread.proofs.Common.{disk_of_blocks, cached_bytes, IsCacheCurrent, IsKeptOnDisk, ThreadView, disk_of_device, kept_in_order, cached_log, read_count, ThreadReportsErrors}
+use Rattle.lfs_thread.specs.CachedLog.{loaded_cache}
 use Rattle.lfs_thread.proofs.CachedLogs.{current_filled, filled_front, filled_there}
 use Rattle.lfs_thread.proofs.Changing.{at_there, kept_read}
-use Rattle.lfs_model.specs.session.History.{read_count}
-use Rattle.lfs_thread.specs.ThreadSteps.{IoMeantFaultNoMemoryWroteNothing}
 use Rattle.lfs_thread.proofs.Reported.{reported_from}
 use Rattle.lfs_thread.proofs.CachedPair.{active_is, active_there, few_reads}
 use Rattle.lfs_thread.proofs.thread.Thread.load_pair.Goals as goal
@@ -61,7 +57,7 @@ returns-clause-few g c =
 pub returns-clause-errors : goal.returns-clause-errors
 returns-clause-errors g c =
     let e = c.fill.ensures in
-    subst (λ (v : ThreadView). IoMeantFaultNoMemoryWroteNothing v.kept (kept_in_order g.D.BlockDevice c.self.inside.order c.fill.new.device c.self.inside.pairs.items c.self.inside.map) c.fill.result) c.self.view_is
+    subst (λ (v : ThreadView). ThreadReportsErrors v.kept (kept_in_order g.D.BlockDevice c.self.inside.order c.fill.new.device c.self.inside.pairs.items c.self.inside.map) c.fill.result) c.self.view_is
     (reported_from g.D.BlockDevice c.self.inside.order c.self.inside.device c.fill.new.device c.self.inside.pairs.items c.self.inside.pairs.items c.self.inside.map c.self.inside.map c.fill.result (record { errors = e.reading.reports.errors; faults = e.reading.reports.faults; unwritten = λ no. e.reading.device }))
 
 pub returns-clause-recent : goal.returns-clause-recent

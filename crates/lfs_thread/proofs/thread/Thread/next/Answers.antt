@@ -1,7 +1,5 @@
 use Rattle.std.proofs.Common.{ℕ, ap, sym, subst, ◌∙◌, ◌+◌, ◌<◌, length, Bool, Option, None, Some, if◌then◌else◌}
-use Rattle.lfs_model.specs.format.Thread.{is_hard_tail}
-use Rattle.lfs_thread.specs.Kept.{ThreadView, disk_of_device}
-use Rattle.lfs_thread.specs.ThreadSteps.{thread_pair_at}
+use Rattle.lfs_thread.proofs.Common.{is_hard_tail, ThreadView, disk_of_device, thread_pair}
 use Rattle.lfs_thread.proofs.Changing.{at_there}
 use Rattle.lfs_thread.proofs.CachedPair.{next_there, tail_there}
 use Rattle.lfs_thread.proofs.thread.Thread.next.Goals as goal
@@ -14,7 +12,7 @@ returns-then-has_hard_tail-clause-next g c =
     let a = at_there disk c.self.inside.pairs.items c.args.index c.index.result.now below c.index.ensures in
     let is = c.has_hard_tail.ensures
     ∙ ap is_hard_tail (tail_there disk (g.D.BlockDevice.history c.self.inside.device) c.self.inside.pairs.items c.self.inside.map c.args.index c.index.result.now a (c.self.invariant works).0)
-    ∙ ap (λ (v : ThreadView). is_hard_tail (thread_pair_at v.kept c.args.index).content.tail) c.self.view_is in
+    ∙ ap (λ (v : ThreadView). is_hard_tail (thread_pair v.kept c.args.index).content.tail) c.self.view_is in
     let none : Option ℕ = None in
     ap (λ (b : Bool). if b then Some (c.args.index + 1) else none) (sym c.if-has_hard_tail.true ∙ is)
 
@@ -37,6 +35,6 @@ returns-else-has_hard_tail-clause-next g c =
     let a = at_there disk c.self.inside.pairs.items c.args.index c.index.result.now below c.index.ensures in
     let is = c.has_hard_tail.ensures
     ∙ ap is_hard_tail (tail_there disk (g.D.BlockDevice.history c.self.inside.device) c.self.inside.pairs.items c.self.inside.map c.args.index c.index.result.now a (c.self.invariant works).0)
-    ∙ ap (λ (v : ThreadView). is_hard_tail (thread_pair_at v.kept c.args.index).content.tail) c.self.view_is in
+    ∙ ap (λ (v : ThreadView). is_hard_tail (thread_pair v.kept c.args.index).content.tail) c.self.view_is in
     let none : Option ℕ = None in
     ap (λ (b : Bool). if b then Some (c.args.index + 1) else none) (sym c.if-has_hard_tail.false ∙ is)

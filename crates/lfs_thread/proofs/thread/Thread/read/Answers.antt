@@ -1,10 +1,5 @@
 use Rattle.std.proofs.Common.{◌≡◌, ◌+◌, ◌∙◌, ap, ap₂, refl, subst, sym}
-use Rattle.lfs_device.specs.DeviceDisk.{disk_of_blocks}
-use Rattle.lfs_model.specs.format.Content.{content_at}
-use Rattle.lfs_model.specs.format.Disk.{Disk, block_count}
-use Rattle.lfs_model.specs.session.History.{read_count}
-use Rattle.lfs_model.specs.format.Thread.{IsThread}
-use Rattle.lfs_thread.specs.Kept.{disk_of_device, pairs_of_headers}
+use Rattle.lfs_thread.proofs.Common.{disk_of_blocks, content_at, Disk, block_count, read_count, IsThread, disk_of_device, header_pairs}
 use Rattle.lfs_thread.proofs.HeaderReads.{header_reads_of}
 use Rattle.lfs_thread.proofs.Keeping.{kept_thread}
 use Rattle.lfs_thread.proofs.thread.Thread.read.Goals as goal
@@ -13,7 +8,7 @@ pub returns-in-Ok-read_thread_headers-clause-read : goal.returns-in-Ok-read_thre
 returns-in-Ok-read_thread_headers-clause-read g c =
     let reported = c.in-Ok-read_thread_headers.ensures.reported in
     let disk : Disk = disk_of_device g.D.BlockDevice c.args.device in
-    let ps = pairs_of_headers (disk_of_device g.D.BlockDevice c.read_thread_headers.new.device) c.read_thread_headers.new.pairs.items in
+    let ps = header_pairs (disk_of_device g.D.BlockDevice c.read_thread_headers.new.device) c.read_thread_headers.new.pairs.items in
     let same : disk_of_device g.D.BlockDevice c.read_thread_headers.new.device ≡ disk = ap₂ disk_of_blocks reported.device.geometry reported.device.same in
     let thread : IsThread (content_at disk) (g.D.BlockDevice.geometry c.args.device).block_count ps =
     subst (λ k. IsThread (content_at disk) k ps) (g.met.D.BlockDevice.shape c.args.device).count

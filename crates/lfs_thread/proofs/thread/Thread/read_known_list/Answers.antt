@@ -2,9 +2,7 @@ use Rattle.std.proofs.Common.{ℕ, ◌+◌, List, Result, Ok, Err, ap₂, length
 use Rattle.std.specs.Prelude.{OnOk}
 use Rattle.lfs_file.specs.declared.known.KnownBlocks.{KnownBlocks}
 use Rattle.lfs_file.specs.Known.{ReadsKnownList}
-use Rattle.lfs_device.specs.DeviceDisk.{disk_of_blocks}
-use Rattle.lfs_model.specs.session.History.{CallEvent}
-use Rattle.lfs_thread.specs.Kept.{IsCacheCurrent, IsKeptOnDisk, ThreadView}
+use Rattle.lfs_thread.proofs.Common.{disk_of_blocks, CallEvent, IsCacheCurrent, IsKeptOnDisk, ThreadView}
 use Rattle.lfs_thread.proofs.Changing.{kept_read}
 use Rattle.lfs_thread.proofs.thread.Thread.read_known_list.Goals as goal
 

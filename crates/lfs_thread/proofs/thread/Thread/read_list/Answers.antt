@@ -1,6 +1,5 @@
 use Rattle.std.proofs.Common.{ap₂, sym, subst}
-use Rattle.lfs_device.specs.DeviceDisk.{disk_of_blocks}
-use Rattle.lfs_thread.specs.Kept.{IsCacheCurrent, IsKeptOnDisk}
+use Rattle.lfs_thread.proofs.Common.{disk_of_blocks, IsCacheCurrent, IsKeptOnDisk}
 use Rattle.lfs_thread.proofs.Changing.{kept_read}
 use Rattle.lfs_thread.proofs.thread.Thread.read_list.Goals as goal
 

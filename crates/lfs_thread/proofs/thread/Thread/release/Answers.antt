@@ -1,6 +1,5 @@
 use Rattle.std.proofs.Common.{sym, subst}
-use Rattle.lfs_model.specs.layers.BlockSets.{Free, IsInFlight}
-use Rattle.lfs_thread.specs.Kept.{ThreadView}
+use Rattle.lfs_thread.proofs.Common.{Free, IsInFlight, ThreadView}
 use Rattle.lfs_thread.proofs.Coming.{in_flight_unused, kept_with}
 use Rattle.lfs_thread.proofs.thread.Thread.release.Goals as goal
 

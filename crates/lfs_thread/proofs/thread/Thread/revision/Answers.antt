@@ -1,7 +1,5 @@
 use Rattle.std.proofs.Common.{ap, sym, subst, ◌≡◌, ◌∙◌, ◌<◌, Some, length}
-use Rattle.lfs_thread.specs.Kept.{ThreadView, disk_of_device}
-use Rattle.lfs_thread.specs.Moves.{pair_revision}
-use Rattle.lfs_thread.specs.ThreadSteps.{thread_pair_at}
+use Rattle.lfs_thread.proofs.Common.{ThreadView, disk_of_device, pair_revision, thread_pair}
 use Rattle.lfs_thread.proofs.Changing.{at_there}
 use Rattle.lfs_thread.proofs.Moving.{revision_there}
 use Rattle.lfs_thread.proofs.thread.Thread.revision.Goals as goal
@@ -12,5 +10,5 @@ returns g c =
     let below = subst (λ (v : ThreadView). c.args.index < length v.kept.pairs) (sym c.self.view_is) c.requires.below in
     let disk = disk_of_device g.D.BlockDevice c.self.inside.device in
     let a = at_there disk c.self.inside.pairs.items c.args.index c.index.result.now below c.index.ensures in
-    subst (λ (v : ThreadView). pair_revision v.kept.disk (thread_pair_at v.kept c.args.index).at ≡ Some c.index.result.now.revision) c.self.view_is
+    subst (λ (v : ThreadView). pair_revision v.kept.disk (thread_pair v.kept c.args.index).at ≡ Some c.index.result.now.revision) c.self.view_is
     (revision_there disk (g.D.BlockDevice.history c.self.inside.device) c.self.inside.pairs.items c.self.inside.map c.args.index c.index.result.now a (c.self.invariant works).0)

@@ -1,8 +1,6 @@
 use Rattle.std.proofs.Common.{◌≡◌, refl, sym, ap, subst, ◌∙◌}
-use Rattle.lfs_thread.specs.Kept.{ThreadView, disk_of_device, kept_of_device}
+use Rattle.lfs_thread.proofs.Common.{ThreadView, disk_of_device, kept_of_device, ordered_disk, KeepsPairBlocks}
 use Rattle.lfs_thread.proofs.InOrder.{leaves_in}
-use Rattle.lfs_model.specs.format.Disk.{ordered_disk}
-use Rattle.lfs_thread.specs.Beside.{LeavesUsedBlocksOfPairsUnchangedAndUsed}
 use Rattle.lfs_thread.proofs.Beside.{kept_left, none_is_cached, pairs_left}
 use Rattle.lfs_thread.proofs.thread.Thread.run_on_device.Goals as goal
 
@@ -19,7 +17,7 @@ invariant_of-self g c _ =
     (record { disk = subst (λ (v : ThreadView). ordered_disk v.kept.disk.order (disk_of_device g.D.BlockDevice c.self.inside.device) ≡ v.kept.disk) c.self.view_is refl; history = ap (λ (v : ThreadView). v.kept.history) c.self.view_is; map = ap (λ (v : ThreadView). v.kept.map) c.self.view_is })
     (record { shown = _; shows = refl; shown_map = _; shows_map = refl; left = _; left_map = _; met = c.work.ensures; leaves = refl; leaves_map = refl }) in
     let here = leaves_in g.D.BlockDevice c.self.inside.order (kept_of_device g.D.BlockDevice c.self.inside.device c.self.inside.pairs.items c.self.inside.map) c.self.inside.device c.self.inside.map c.work.new.arg2 c.work.new.arg3
-    (subst (λ (v : ThreadView). LeavesUsedBlocksOfPairsUnchangedAndUsed g.D.BlockDevice v.kept c.self.inside.device c.self.inside.map c.work.new.arg2 c.work.new.arg3) (sym c.self.view_is) leaves) in (
+    (subst (λ (v : ThreadView). KeepsPairBlocks g.D.BlockDevice v.kept c.self.inside.device c.self.inside.map c.work.new.arg2 c.work.new.arg3) (sym c.self.view_is) leaves) in (
       kept_left g.D.BlockDevice c.self.inside.device c.self.inside.map c.work.new.arg2 c.work.new.arg3 c.self.inside.pairs.items (c.self.invariant works).0 here,
       none_is_cached (g.D.BlockDevice.blocks c.work.new.arg2) c.clear.new.self c.clear.ensures,
     )
@@ -43,6 +41,6 @@ returns-clause-pairs g c =
     (record { disk = subst (λ (v : ThreadView). ordered_disk v.kept.disk.order (disk_of_device g.D.BlockDevice c.self.inside.device) ≡ v.kept.disk) c.self.view_is refl; history = ap (λ (v : ThreadView). v.kept.history) c.self.view_is; map = ap (λ (v : ThreadView). v.kept.map) c.self.view_is })
     (record { shown = _; shows = refl; shown_map = _; shows_map = refl; left = _; left_map = _; met = c.work.ensures; leaves = refl; leaves_map = refl }) in
     let here = leaves_in g.D.BlockDevice c.self.inside.order (kept_of_device g.D.BlockDevice c.self.inside.device c.self.inside.pairs.items c.self.inside.map) c.self.inside.device c.self.inside.map c.work.new.arg2 c.work.new.arg3
-    (subst (λ (v : ThreadView). LeavesUsedBlocksOfPairsUnchangedAndUsed g.D.BlockDevice v.kept c.self.inside.device c.self.inside.map c.work.new.arg2 c.work.new.arg3) (sym c.self.view_is) leaves) in
+    (subst (λ (v : ThreadView). KeepsPairBlocks g.D.BlockDevice v.kept c.self.inside.device c.self.inside.map c.work.new.arg2 c.work.new.arg3) (sym c.self.view_is) leaves) in
     pairs_left g.D.BlockDevice c.self.inside.device c.self.inside.map c.work.new.arg2 c.work.new.arg3 c.self.inside.pairs.items (c.self.invariant works).0 here
     ∙ ap (λ (v : ThreadView). v.kept.pairs) c.self.view_is

@@ -1,6 +1,5 @@
 use Rattle.std.proofs.Common.{ap, sym, subst, ◌∙◌, ◌<◌, length}
-use Rattle.lfs_thread.specs.Kept.{ThreadView, disk_of_device}
-use Rattle.lfs_thread.specs.ThreadSteps.{thread_pair_at}
+use Rattle.lfs_thread.proofs.Common.{ThreadView, disk_of_device, thread_pair}
 use Rattle.lfs_thread.proofs.Changing.{at_there}
 use Rattle.lfs_thread.proofs.CachedPair.{count_there}
 use Rattle.lfs_thread.proofs.thread.Thread.slot_count.Goals as goal
@@ -12,4 +11,4 @@ returns g c =
     let disk = disk_of_device g.D.BlockDevice c.self.inside.device in
     let a = at_there disk c.self.inside.pairs.items c.args.index c.index.result.now below c.index.ensures in
     count_there disk (g.D.BlockDevice.history c.self.inside.device) c.self.inside.pairs.items c.self.inside.map c.args.index c.index.result.now a (c.self.invariant works).0
-    ∙ ap (λ (v : ThreadView). length (thread_pair_at v.kept c.args.index).content.slots) c.self.view_is
+    ∙ ap (λ (v : ThreadView). length (thread_pair v.kept c.args.index).content.slots) c.self.view_is

@@ -1,9 +1,5 @@
 use Rattle.std.proofs.Common.{List, ap, map, ◌∙◌}
-use Rattle.std.specs.List.{fold}
-use Rattle.lfs_model.specs.format.Slots.{gstate_xor, zero_gstate}
-use Rattle.lfs_tag.specs.FieldsView.{move_view}
-use Rattle.lfs_model.specs.format.Thread.{pairs_gstate}
-use Rattle.lfs_thread.specs.Kept.{PairHeader, ThreadView, disk_of_device}
+use Rattle.lfs_thread.proofs.Common.{fold, gstate_xor, zero_gstate, move_view, pairs_gstate, PairHeader, ThreadView, disk_of_device}
 use Rattle.lfs_thread.proofs.GlobalState.{state_is}
 use Rattle.lfs_thread.proofs.thread.Thread.state.Goals as goal
 

@@ -1,6 +1,5 @@
-use Rattle.lfs_model.proofs.Overwrites.{SameExcept-refl}
-use Rattle.lfs_model.proofs.Conformance.{conforms_erase, conforms_next}
-use Rattle.lfs_tool.specs.SparseView.{sparse_blocks}
+use Rattle.lfs_tool.proofs.Common.{SameExcept-refl, conforms_next, sparse_blocks}
+use Rattle.lfs_model.proofs.Conformance.{conforms_erase}
 use Rattle.lfs_tool.proofs.sparse.SparseDeviceBlockDevice.erase.Goals as goal
 
 pub invariant_of-self-clause-conforms : goal.invariant_of-self-clause-conforms

@@ -1,7 +1,6 @@
 use Rattle.std.proofs.Common.{◌∷◌, true}
-use Rattle.lfs_model.specs.session.History.{call_event}
+use Rattle.lfs_tool.proofs.Common.{call_event, sparse_blocks}
 use Rattle.lfs_model.specs.session.History.DeviceCall.{Erase}
-use Rattle.lfs_tool.specs.SparseView.{sparse_blocks}
 use Rattle.lfs_tool.proofs.sparse.SparseDeviceBlockDevice.erase.Given as goal
 
 abbrev pub ghost-with_ghost_history : goal.ghost-with_ghost_history

@@ -1,5 +1,6 @@
 use Rattle.std.proofs.Common.{refl}
-use Rattle.lfs_model.proofs.Conformance.{conforms_next, conforms_read}
+use Rattle.lfs_tool.proofs.Common.{conforms_next}
+use Rattle.lfs_model.proofs.Conformance.{conforms_read}
 use Rattle.lfs_tool.proofs.sparse.SparseDeviceBlockDevice.read.Goals as goal
 
 pub invariant_of-self-clause-conforms : goal.invariant_of-self-clause-conforms

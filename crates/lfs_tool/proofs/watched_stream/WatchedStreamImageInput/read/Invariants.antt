@@ -1,5 +1,5 @@
 use Rattle.std.proofs.Common.{◌≡◌}
-use Rattle.std.specs.Io.KnownBytes.{Keeps}
+use Rattle.lfs_tool.proofs.Common.{Keeps}
 use Rattle.lfs_tool.proofs.watched_stream.WatchedStreamImageInput.read.Given as goal
 
 abbrev pub invariant-loop : goal.invariant-loop

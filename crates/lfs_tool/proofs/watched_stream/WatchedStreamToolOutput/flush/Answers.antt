@@ -1,5 +1,5 @@
 use Rattle.std.proofs.Common.{refl}
-use Rattle.std.proofs.KnownBytes.{Keeps-refl, Keeps-trans}
+use Rattle.lfs_tool.proofs.Common.{Keeps-refl, Keeps-trans}
 use Rattle.lfs_tool.proofs.watched_stream.WatchedStreamToolOutput.flush.Goals as goal
 
 pub loop-init : goal.loop-init

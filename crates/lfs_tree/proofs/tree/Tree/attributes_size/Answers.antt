@@ -1,11 +1,6 @@
 use Rattle.std.proofs.Common.{subst, sym}
 use Rattle.std.specs.Prelude.{IfOk}
-use Rattle.lfs_model.specs.crash.Frame.{ancestor_paths}
-use Rattle.lfs_model.specs.session.TreeEdits.{node_attributes_of}
-use Rattle.lfs_lookup.specs.AttributeAt.{IsAttributesSize}
-use Rattle.lfs_tree.specs.TreeReads.{ReadsPairsOnce}
-use Rattle.lfs_tree.specs.TreeState.{TreeState, tree_view}
-use Rattle.lfs_thread.specs.Kept.{ThreadView}
+use Rattle.lfs_tree.proofs.Common.{ancestor_paths, node_attributes_of, IsAttributesSize, ReadsPairsOnce, TreeState, shown_tree, ThreadView}
 use Rattle.lfs_tree.proofs.Asking.{asking, held, rooted_held}
 use Rattle.lfs_tree.proofs.tree.Tree.attributes_size.Goals as goal
 
@@ -24,7 +19,7 @@ returns-clause-asks g c =
 
 pub returns-clause-size : goal.returns-clause-size
 returns-clause-size g c =
-    subst (λ (s : TreeState). IfOk c.attributes_size_at-size.result (IsAttributesSize (node_attributes_of (tree_view s c.args.path.now)))) c.self.view_is c.attributes_size_at-size.ensures.is
+    subst (λ (s : TreeState). IfOk c.attributes_size_at-size.result (IsAttributesSize (node_attributes_of (shown_tree s c.args.path.now)))) c.self.view_is c.attributes_size_at-size.ensures.is
 
 pub returns-clause-few : goal.returns-clause-few
 returns-clause-few g c =

@@ -1,12 +1,5 @@
 use Rattle.std.proofs.Common.{◌∙◌, ap, subst, sym}
-use Rattle.lfs_model.specs.session.Effects.{file_with_bytes}
-use Rattle.lfs_model.specs.tree.Shown.{tree_on_disk}
-use Rattle.lfs_model.specs.format.Thread.{pairs_gstate}
-use Rattle.lfs_model.specs.session.TreeEdits.{tree_with_change}
-use Rattle.lfs_tree.specs.RootedThreads.{SoundUnlessFailed, IsSoundWithRoot}
-use Rattle.lfs_tree.specs.OpenContents.{CanStoreAt, writer_contents_bytes}
-use Rattle.lfs_tree.specs.TreeState.{TreeState}
-use Rattle.lfs_tree.specs.Stores.{StoresBytesIn}
+use Rattle.lfs_tree.proofs.Common.{file_with_bytes, disk_tree, pairs_gstate, tree_with_change, SoundUnlessFailed, IsSoundWithRoot, CanStoreContents, writer_contents_bytes, TreeState, StoresThreadBytes}
 use Rattle.lfs_tree.proofs.Asking.{rooted_held, seen_working}
 use Rattle.lfs_tree.proofs.NotedErrors.{noted, noted_failed, noted_held}
 use Rattle.lfs_tree.proofs.StoreContents.{all_stored_working, survives_stored}
@@ -21,36 +14,36 @@ store_contents_at-stored-requires-clause-rests g c = record {
 
 pub store_contents_at-stored-requires-clause-can : goal.store_contents_at-stored-requires-clause-can
 store_contents_at-stored-requires-clause-can g c =
-    subst (λ s. CanStoreAt s c.args.path.now c.args.contents) (seen_working c.self.inside.thread c.self.inside.root c.self.inside.is_writable c.args.self.now c.self.invariant c.self.view_is c.requires.works c.requires.writable) c.requires
+    subst (λ s. CanStoreContents s c.args.path.now c.args.contents) (seen_working c.self.inside.thread c.self.inside.root c.self.inside.is_writable c.args.self.now c.self.invariant c.self.view_is c.requires.works c.requires.writable) c.requires
 
 pub invariant_of-self : goal.invariant_of-self
 invariant_of-self g c =
     let t = c.self.inside.thread in
     let writes = ap (λ (s : TreeState). s.writable) c.self.view_is ∙ c.requires.writable in
     subst (λ a. SoundUnlessFailed c.mark_failed.new.thread c.self.inside.root a) (sym writes)
-    (noted_held t c.store_contents_at-stored.new.thread c.mark_failed.new.thread (StoresBytesIn t.kept c.args.path.now (writer_contents_bytes t.kept c.args.contents)) (tree_with_change c.args.path.now (file_with_bytes (writer_contents_bytes t.kept c.args.contents)) (tree_on_disk t.kept.disk t.kept.pairs)) c.store_contents_at-stored.result c.store_contents_at-stored.ensures c.mark_failed.ensures c.self.inside.root
+    (noted_held t c.store_contents_at-stored.new.thread c.mark_failed.new.thread (StoresThreadBytes t.kept c.args.path.now (writer_contents_bytes t.kept c.args.contents)) (tree_with_change c.args.path.now (file_with_bytes (writer_contents_bytes t.kept c.args.contents)) (disk_tree t.kept.disk t.kept.pairs)) c.store_contents_at-stored.result c.store_contents_at-stored.ensures c.mark_failed.ensures c.self.inside.root
     (subst (λ a. IsSoundWithRoot c.self.inside.thread c.self.inside.root a) writes (rooted_held c.self.inside.thread c.self.inside.root c.self.inside.is_writable c.args.self.now c.self.invariant c.self.view_is c.requires.works)))
 
 pub returns-clause-stored : goal.returns-clause-stored
 returns-clause-stored g c =
     let t = c.self.inside.thread in
-    let w = noted t c.store_contents_at-stored.new.thread c.mark_failed.new.thread (StoresBytesIn t.kept c.args.path.now (writer_contents_bytes t.kept c.args.contents)) (tree_with_change c.args.path.now (file_with_bytes (writer_contents_bytes t.kept c.args.contents)) (tree_on_disk t.kept.disk t.kept.pairs)) c.store_contents_at-stored.result c.store_contents_at-stored.ensures c.mark_failed.ensures in
+    let w = noted t c.store_contents_at-stored.new.thread c.mark_failed.new.thread (StoresThreadBytes t.kept c.args.path.now (writer_contents_bytes t.kept c.args.contents)) (tree_with_change c.args.path.now (file_with_bytes (writer_contents_bytes t.kept c.args.contents)) (disk_tree t.kept.disk t.kept.pairs)) c.store_contents_at-stored.result c.store_contents_at-stored.ensures c.mark_failed.ensures in
     all_stored_working c.self.inside.thread c.self.inside.root c.self.inside.is_writable c.args.self.now c.self.invariant c.self.view_is c.requires.works c.requires.writable c.args.path.now c.args.contents c.store_contents_at-stored.result c.mark_failed.new.thread w.done w.works
 
 pub returns-clause-broken : goal.returns-clause-broken
 returns-clause-broken g c =
     let t = c.self.inside.thread in
-    let w = noted t c.store_contents_at-stored.new.thread c.mark_failed.new.thread (StoresBytesIn t.kept c.args.path.now (writer_contents_bytes t.kept c.args.contents)) (tree_with_change c.args.path.now (file_with_bytes (writer_contents_bytes t.kept c.args.contents)) (tree_on_disk t.kept.disk t.kept.pairs)) c.store_contents_at-stored.result c.store_contents_at-stored.ensures c.mark_failed.ensures in
-    breaks t c.self.inside.is_writable c.args.self.now c.self.view_is (StoresBytesIn t.kept c.args.path.now (writer_contents_bytes t.kept c.args.contents)) (tree_with_change c.args.path.now (file_with_bytes (writer_contents_bytes t.kept c.args.contents)) (tree_on_disk t.kept.disk t.kept.pairs)) c.store_contents_at-stored.result c.mark_failed.new.thread w (noted_failed t c.store_contents_at-stored.new.thread c.mark_failed.new.thread (StoresBytesIn t.kept c.args.path.now (writer_contents_bytes t.kept c.args.contents)) (tree_with_change c.args.path.now (file_with_bytes (writer_contents_bytes t.kept c.args.contents)) (tree_on_disk t.kept.disk t.kept.pairs)) c.store_contents_at-stored.result c.store_contents_at-stored.ensures c.mark_failed.ensures)
+    let w = noted t c.store_contents_at-stored.new.thread c.mark_failed.new.thread (StoresThreadBytes t.kept c.args.path.now (writer_contents_bytes t.kept c.args.contents)) (tree_with_change c.args.path.now (file_with_bytes (writer_contents_bytes t.kept c.args.contents)) (disk_tree t.kept.disk t.kept.pairs)) c.store_contents_at-stored.result c.store_contents_at-stored.ensures c.mark_failed.ensures in
+    breaks t c.self.inside.is_writable c.args.self.now c.self.view_is (StoresThreadBytes t.kept c.args.path.now (writer_contents_bytes t.kept c.args.contents)) (tree_with_change c.args.path.now (file_with_bytes (writer_contents_bytes t.kept c.args.contents)) (disk_tree t.kept.disk t.kept.pairs)) c.store_contents_at-stored.result c.mark_failed.new.thread w (noted_failed t c.store_contents_at-stored.new.thread c.mark_failed.new.thread (StoresThreadBytes t.kept c.args.path.now (writer_contents_bytes t.kept c.args.contents)) (tree_with_change c.args.path.now (file_with_bytes (writer_contents_bytes t.kept c.args.contents)) (disk_tree t.kept.disk t.kept.pairs)) c.store_contents_at-stored.result c.store_contents_at-stored.ensures c.mark_failed.ensures)
 
 pub returns-clause-errors : goal.returns-clause-errors
 returns-clause-errors g c =
     let t = c.self.inside.thread in
-    let w = noted t c.store_contents_at-stored.new.thread c.mark_failed.new.thread (StoresBytesIn t.kept c.args.path.now (writer_contents_bytes t.kept c.args.contents)) (tree_with_change c.args.path.now (file_with_bytes (writer_contents_bytes t.kept c.args.contents)) (tree_on_disk t.kept.disk t.kept.pairs)) c.store_contents_at-stored.result c.store_contents_at-stored.ensures c.mark_failed.ensures in
-    reports t c.self.inside.is_writable c.args.self.now c.self.view_is (StoresBytesIn t.kept c.args.path.now (writer_contents_bytes t.kept c.args.contents)) (tree_with_change c.args.path.now (file_with_bytes (writer_contents_bytes t.kept c.args.contents)) (tree_on_disk t.kept.disk t.kept.pairs)) c.store_contents_at-stored.result c.mark_failed.new.thread w
+    let w = noted t c.store_contents_at-stored.new.thread c.mark_failed.new.thread (StoresThreadBytes t.kept c.args.path.now (writer_contents_bytes t.kept c.args.contents)) (tree_with_change c.args.path.now (file_with_bytes (writer_contents_bytes t.kept c.args.contents)) (disk_tree t.kept.disk t.kept.pairs)) c.store_contents_at-stored.result c.store_contents_at-stored.ensures c.mark_failed.ensures in
+    reports t c.self.inside.is_writable c.args.self.now c.self.view_is (StoresThreadBytes t.kept c.args.path.now (writer_contents_bytes t.kept c.args.contents)) (tree_with_change c.args.path.now (file_with_bytes (writer_contents_bytes t.kept c.args.contents)) (disk_tree t.kept.disk t.kept.pairs)) c.store_contents_at-stored.result c.mark_failed.new.thread w
 
 pub returns-clause-survives : goal.returns-clause-survives
 returns-clause-survives g c =
     let t = c.self.inside.thread in
-    let w = noted t c.store_contents_at-stored.new.thread c.mark_failed.new.thread (StoresBytesIn t.kept c.args.path.now (writer_contents_bytes t.kept c.args.contents)) (tree_with_change c.args.path.now (file_with_bytes (writer_contents_bytes t.kept c.args.contents)) (tree_on_disk t.kept.disk t.kept.pairs)) c.store_contents_at-stored.result c.store_contents_at-stored.ensures c.mark_failed.ensures in
+    let w = noted t c.store_contents_at-stored.new.thread c.mark_failed.new.thread (StoresThreadBytes t.kept c.args.path.now (writer_contents_bytes t.kept c.args.contents)) (tree_with_change c.args.path.now (file_with_bytes (writer_contents_bytes t.kept c.args.contents)) (disk_tree t.kept.disk t.kept.pairs)) c.store_contents_at-stored.result c.store_contents_at-stored.ensures c.mark_failed.ensures in
     survives_stored c.self.inside.thread c.self.inside.root c.self.inside.is_writable c.args.self.now c.self.invariant c.self.view_is c.requires.works c.requires.writable c.args.path.now c.args.contents c.mark_failed.new.thread.kept.history w.survives

@@ -1,12 +1,8 @@
 use Rattle.std.proofs.Common.{◌∙◌, ap, arith, refl, subst}
-use Rattle.std.proofs.lemmas.Result.{err_from_is_err_and}
-use Rattle.lfs_model.specs.session.History.{read_count}
+use Rattle.lfs_tree.proofs.Common.{err_from_is_err_and, read_count, ThreadView, CanAddIn, TreeState, kept_thread}
 use Rattle.lfs_model.specs.session.Operations as ops
-use Rattle.lfs_thread.specs.Kept.{ThreadView}
-use Rattle.lfs_tree.specs.Permissions.{CanAddTo}
 use Rattle.lfs_tree.specs.TreeCalls as call
 use Rattle.lfs_tree.specs.TreeReads.{ReadsSixAtMost}
-use Rattle.lfs_tree.specs.TreeState.{TreeState, kept_thread}
 use Rattle.lfs_tree.proofs.CreationPaths.{creation_known_behind}
 use Rattle.lfs_tree.proofs.Operated.{plain_create}
 use Rattle.lfs_tree.proofs.RecoveredFirst.{add_after}
@@ -27,7 +23,7 @@ create_empty_file-created-requires-clause-rests g c = rests_behind c.args.self.n
 pub create_empty_file-created-requires-clause-can : goal.create_empty_file-created-requires-clause-can
 create_empty_file-created-requires-clause-can g c =
     add_after (kept_thread c.args.self.now) c.self.inside.thread.kept (settled_here c.args.self.now c.recover.new.self c.requires.can.works c.requires.can.writable (c.in_ok-recover.ensures.does.done ops.Recover refl) c.in_ok-recover.ensures.settled c.self.inside.thread c.self.inside.root c.self.inside.is_writable c.self.invariant c.self.view_is) c.args.path.now 2
-    (allowed c.args.self.now c.recover.new.self c.requires.can.works c.requires.can.writable (c.in_ok-recover.ensures.does.done ops.Recover refl) c.in_ok-recover.ensures.settled c.self.inside.thread c.self.inside.root c.self.inside.is_writable c.self.invariant c.self.view_is (λ s. CanAddTo s c.args.path.now 2) c.requires.can)
+    (allowed c.args.self.now c.recover.new.self c.requires.can.works c.requires.can.writable (c.in_ok-recover.ensures.does.done ops.Recover refl) c.in_ok-recover.ensures.settled c.self.inside.thread c.self.inside.root c.self.inside.is_writable c.self.invariant c.self.view_is (λ s. CanAddIn s c.args.path.now 2) c.requires.can)
 
 pub create_empty_file-created-requires-clause-known : goal.create_empty_file-created-requires-clause-known
 create_empty_file-created-requires-clause-known g c = creation_known_behind c.args.self.now c.recover.new.self c.self.inside.thread c.args.path.now c.args.known c.recover.ensures.idle (ap kept_thread c.self.view_is) c.requires.known

@@ -1,10 +1,6 @@
 use Rattle.std.proofs.Common.{◌≡◌, ◌∙◌, ap, sym, subst, true}
 use Rattle.std.specs.Prelude.{IfOk}
-use Rattle.lfs_model.specs.session.TreeEdits.{is_file}
-use Rattle.lfs_model.specs.layers.BlockSets.{in_flight_count}
-use Rattle.lfs_tree.specs.OpenContents.{OverThreadFile}
-use Rattle.lfs_tree.specs.TreeState.{TreeState, tree_view}
-use Rattle.lfs_thread.specs.Kept.{ThreadView}
+use Rattle.lfs_tree.proofs.Common.{is_file, in_flight_count, AreThreadContents, TreeState, shown_tree, ThreadView}
 use Rattle.lfs_tree.proofs.Asking.{rooted_held}
 use Rattle.lfs_tree.proofs.OpenedFiles.{idle_is, over_empty}
 use Rattle.lfs_tree.proofs.tree.Tree.empty_contents.Goals as goal
@@ -16,5 +12,5 @@ contents_of_nothing-contents-requires g c =
 
 pub returns-clause-over : goal.returns-clause-over
 returns-clause-over g c path file =
-    subst (λ (t : ThreadView). IfOk c.contents_of_nothing-contents.result (OverThreadFile t.kept path)) (sym c.mark_failed.ensures)
-    (over_empty c.self.inside.thread.kept path c.contents_of_nothing-contents.result (subst (λ (s : TreeState). is_file (tree_view s path) ≡ true) (sym c.self.view_is) file) c.contents_of_nothing-contents.ensures.opened)
+    subst (λ (t : ThreadView). IfOk c.contents_of_nothing-contents.result (AreThreadContents t.kept path)) (sym c.mark_failed.ensures)
+    (over_empty c.self.inside.thread.kept path c.contents_of_nothing-contents.result (subst (λ (s : TreeState). is_file (shown_tree s path) ≡ true) (sym c.self.view_is) file) c.contents_of_nothing-contents.ensures.opened)

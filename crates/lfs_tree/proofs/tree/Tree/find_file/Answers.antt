@@ -1,11 +1,7 @@
 use Rattle.std.proofs.Common.{subst, sym}
 use Rattle.std.specs.Prelude.{IfOk}
-use Rattle.lfs_model.specs.crash.Frame.{ancestor_paths}
-use Rattle.lfs_thread.specs.Kept.{ThreadView}
+use Rattle.lfs_tree.proofs.Common.{ancestor_paths, ThreadView, IsFoundNode, ReadsPairsOnce, TreeState, kept_thread, shown_tree}
 use Rattle.lfs_lookup.specs.FileContents.{AreContentsAt}
-use Rattle.lfs_lookup.specs.Finds.{IsFoundNode}
-use Rattle.lfs_tree.specs.TreeReads.{ReadsPairsOnce}
-use Rattle.lfs_tree.specs.TreeState.{TreeState, kept_thread, tree_view}
 use Rattle.lfs_tree.proofs.Asking.{asking, held, rooted_held}
 use Rattle.lfs_tree.proofs.tree.Tree.find_file.Goals as goal
 
@@ -33,4 +29,4 @@ returns-clause-few g c =
 
 pub returns-clause-found : goal.returns-clause-found
 returns-clause-found g c =
-    subst (λ (s : TreeState). IfOk c.find_file_contents-found.result (λ found. IsFoundNode (tree_view s) c.args.path.now found.finding)) c.self.view_is c.find_file_contents-found.ensures.found
+    subst (λ (s : TreeState). IfOk c.find_file_contents-found.result (λ found. IsFoundNode (shown_tree s) c.args.path.now found.finding)) c.self.view_is c.find_file_contents-found.ensures.found

@@ -1,12 +1,6 @@
 use Rattle.std.proofs.Common.{ap, subst, sym}
 use Rattle.std.specs.Prelude.{IfOk}
-use Rattle.lfs_model.specs.session.TreeEdits.{node_attributes_of}
-use Rattle.lfs_model.specs.tree.Shown.{tree_on_disk}
-use Rattle.lfs_model.specs.crash.Frame.{ancestor_paths}
-use Rattle.lfs_lookup.specs.Finds.{IsFoundNode}
-use Rattle.lfs_tree.specs.TreeReads.{ReadsPairsOnce}
-use Rattle.lfs_tree.specs.TreeState.{TreeState, tree_view}
-use Rattle.lfs_thread.specs.Kept.{ThreadView}
+use Rattle.lfs_tree.proofs.Common.{node_attributes_of, disk_tree, ancestor_paths, IsFoundNode, ReadsPairsOnce, TreeState, shown_tree, ThreadView}
 use Rattle.lfs_tree.proofs.Asking.{asking, held, rooted_held}
 use Rattle.lfs_lookup.proofs.AttributeAtSlots.{attribute_given, attribute_then}
 use Rattle.lfs_tree.proofs.tree.Tree.get_attr.Goals as goal
@@ -27,9 +21,9 @@ returns-clause-asks g c =
 pub returns-clause-bytes : goal.returns-clause-bytes
 returns-clause-bytes g c =
     let t = c.self.inside.thread.kept in
-    attribute_given c.args.kind (node_attributes_of (tree_view c.args.self.now c.args.path.now)) c.find_attribute-found.result
-    (attribute_then c.args.kind (node_attributes_of (tree_on_disk t.disk t.pairs c.args.path.now)) (node_attributes_of (tree_view c.args.self.now c.args.path.now)) c.find_attribute-found.result
-    (ap (λ (s : TreeState). node_attributes_of (tree_view s c.args.path.now)) c.self.view_is) c.find_attribute-found.ensures.is)
+    attribute_given c.args.kind (node_attributes_of (shown_tree c.args.self.now c.args.path.now)) c.find_attribute-found.result
+    (attribute_then c.args.kind (node_attributes_of (disk_tree t.disk t.pairs c.args.path.now)) (node_attributes_of (shown_tree c.args.self.now c.args.path.now)) c.find_attribute-found.result
+    (ap (λ (s : TreeState). node_attributes_of (shown_tree s c.args.path.now)) c.self.view_is) c.find_attribute-found.ensures.is)
     c.find_attribute-found.ensures.short
 
 pub returns-clause-few : goal.returns-clause-few
@@ -39,4 +33,4 @@ returns-clause-few g c =
 
 pub returns-clause-found : goal.returns-clause-found
 returns-clause-found g c =
-    subst (λ (s : TreeState). IfOk c.find_attribute-found.result (λ found. IsFoundNode (tree_view s) c.args.path.now found.finding)) c.self.view_is c.find_attribute-found.ensures.found
+    subst (λ (s : TreeState). IfOk c.find_attribute-found.result (λ found. IsFoundNode (shown_tree s) c.args.path.now found.finding)) c.self.view_is c.find_attribute-found.ensures.found

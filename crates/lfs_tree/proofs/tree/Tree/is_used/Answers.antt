@@ -1,7 +1,5 @@
 use Rattle.std.proofs.Common.{◌∙◌, ◌==◌, ap}
-use Rattle.std.specs.List.{list_any}
-use Rattle.lfs_model.specs.tree.Shown.{used_blocks}
-use Rattle.lfs_tree.specs.TreeState.{TreeState}
+use Rattle.lfs_tree.proofs.Common.{list_any, used_blocks, TreeState}
 use Rattle.lfs_tree.proofs.Asking.{rooted_held}
 use Rattle.lfs_tree.proofs.UsedBlocks.{used_is}
 use Rattle.lfs_tree.proofs.tree.Tree.is_used.Goals as goal

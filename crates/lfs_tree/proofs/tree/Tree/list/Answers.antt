@@ -1,8 +1,5 @@
 use Rattle.std.proofs.Common.{◌++◌, ◌∷◌, [], subst, sym}
-use Rattle.lfs_model.specs.crash.Frame.{ancestor_paths}
-use Rattle.lfs_tree.specs.TreeReads.{ReadsPairsOnce}
-use Rattle.lfs_tree.specs.TreeState.{TreeState}
-use Rattle.lfs_thread.specs.Kept.{ThreadView}
+use Rattle.lfs_tree.proofs.Common.{ancestor_paths, ReadsPairsOnce, TreeState, ThreadView}
 use Rattle.lfs_tree.proofs.Asking.{asking, held, rooted_held}
 use Rattle.lfs_tree.proofs.tree.Tree.list.Goals as goal
 

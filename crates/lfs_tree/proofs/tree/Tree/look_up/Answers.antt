@@ -1,12 +1,9 @@
 use Rattle.std.proofs.Common.{◌≡◌, None, subst, sym}
 use Rattle.std.specs.Prelude.{IfOk}
 use Rattle.lfs_model.specs.layers.Cache.{cache_limit}
-use Rattle.lfs_model.specs.crash.Frame.{ancestor_paths}
-use Rattle.lfs_lookup.specs.CachedPairs.{AreAllLastUsed, AreFewSmall}
-use Rattle.lfs_tree.specs.TreeReads.{ReadsPairsOnce}
-use Rattle.lfs_tree.specs.TreeState.{TreeState}
+use Rattle.lfs_tree.proofs.Common.{ancestor_paths, ReadsPairsOnce, TreeState, ThreadView}
+use Rattle.lfs_lookup.specs.CachedPairs.{AreDirectoriesRecent, AreFewSmall}
 use Rattle.lfs_lookup.proofs.LoadedDown.{hand_after}
-use Rattle.lfs_thread.specs.Kept.{ThreadView}
 use Rattle.lfs_tree.proofs.Asking.{asking, held, rooted_held}
 use Rattle.lfs_tree.proofs.tree.Tree.look_up.Goals as goal
 
@@ -30,6 +27,6 @@ returns-clause-few g c =
 
 pub returns-clause-hand : goal.returns-clause-hand
 returns-clause-hand g c = λ small.
-    subst (λ (t : ThreadView). IfOk c.find_node-found.result (λ found. found.fault ≡ None → AreAllLastUsed cache_limit t.kept.disk t.cache t.kept.pairs (ancestor_paths c.args.path.now))) (sym c.mark_failed.ensures)
+    subst (λ (t : ThreadView). IfOk c.find_node-found.result (λ found. found.fault ≡ None → AreDirectoriesRecent cache_limit t.kept.disk t.cache t.kept.pairs (ancestor_paths c.args.path.now))) (sym c.mark_failed.ensures)
     (hand_after c.self.inside.thread c.find_node-found.new.thread (λ found. found.fault ≡ None) (ancestor_paths c.args.path.now) c.find_node-found.result c.find_node-found.ensures.reads.loads c.find_node-found.ensures.reading.only
     (subst (λ (s : TreeState). AreFewSmall s.pairs (ancestor_paths c.args.path.now)) (sym c.self.view_is) small))

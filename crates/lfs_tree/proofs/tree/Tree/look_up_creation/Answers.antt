@@ -1,13 +1,6 @@
 use Rattle.std.proofs.Common.{◌≤◌, ◌+◌, ap, subst, sym, ◌∙◌}
 use Rattle.std.specs.Prelude.{IfOk, IfSome, sum_by}
-use Rattle.lfs_model.specs.crash.Frame.{ancestor_paths, pair_count_at}
-use Rattle.lfs_model.specs.session.History.{read_count}
-use Rattle.lfs_model.specs.format.Thread.{pairs_gstate}
-use Rattle.lfs_lookup.specs.Finds.{IsFoundNode}
-use Rattle.lfs_thread.specs.Kept.{ThreadView}
-use Rattle.lfs_tree.specs.RootedThreads.{IsSoundWithRoot}
-use Rattle.lfs_tree.specs.CreationPaths.{IsCreationResult}
-use Rattle.lfs_tree.specs.TreeState.{TreeState, tree_view}
+use Rattle.lfs_tree.proofs.Common.{ancestor_paths, pair_count_at, read_count, pairs_gstate, IsFoundNode, ThreadView, IsSoundWithRoot, IsCreationResult, TreeState, shown_tree}
 use Rattle.lfs_tree.proofs.Asking.{asking, held, rooted_held}
 use Rattle.lfs_tree.proofs.CreationPaths.{creation_since}
 use Rattle.lfs_tree.proofs.tree.Tree.look_up_creation.Goals as goal
@@ -27,7 +20,7 @@ returns-clause-asks g c =
 
 pub returns-clause-found : goal.returns-clause-found
 returns-clause-found g c =
-    subst (λ (s : TreeState). IfOk c.creation_path-found.result (λ found. IsFoundNode (tree_view s) c.args.path.now found.entry)) c.self.view_is c.creation_path-found.ensures.found
+    subst (λ (s : TreeState). IfOk c.creation_path-found.result (λ found. IsFoundNode (shown_tree s) c.args.path.now found.entry)) c.self.view_is c.creation_path-found.ensures.found
 
 pub returns-clause-target : goal.returns-clause-target
 returns-clause-target g c =

@@ -1,12 +1,6 @@
 use Rattle.std.proofs.Common.{◌≤◌, ◌+◌, ap, subst, sym, ◌∙◌}
 use Rattle.std.specs.Prelude.{IfOk, IfSome, sum_by}
-use Rattle.lfs_model.specs.crash.Frame.{pair_count_at}
-use Rattle.lfs_model.specs.session.History.{read_count}
-use Rattle.lfs_model.specs.format.Thread.{pairs_gstate}
-use Rattle.lfs_thread.specs.Kept.{ThreadView}
-use Rattle.lfs_tree.specs.RootedThreads.{IsSoundWithRoot}
-use Rattle.lfs_tree.specs.RenameFindings.{AreRenameResults, rename_directories}
-use Rattle.lfs_tree.specs.TreeState.{TreeState}
+use Rattle.lfs_tree.proofs.Common.{pair_count_at, read_count, pairs_gstate, ThreadView, IsSoundWithRoot, AreRenameResults, rename_directories, TreeState}
 use Rattle.lfs_tree.proofs.Asking.{asking, held, rooted_held}
 use Rattle.lfs_tree.proofs.RenamePaths.{found_since}
 use Rattle.lfs_tree.proofs.tree.Tree.look_up_rename.Goals as goal

@@ -1,9 +1,7 @@
 use Rattle.std.proofs.Common.{refl}
-use Rattle.std.proofs.lemmas.Result.{err_from_is_err_and}
+use Rattle.lfs_tree.proofs.Common.{err_from_is_err_and, CanAddIn, kept_thread}
 use Rattle.lfs_model.specs.session.Operations as ops
-use Rattle.lfs_tree.specs.Permissions.{CanAddTo}
 use Rattle.lfs_tree.specs.TreeCalls as call
-use Rattle.lfs_tree.specs.TreeState.{kept_thread}
 use Rattle.lfs_tree.proofs.Operated.{plain_mkdir}
 use Rattle.lfs_tree.proofs.RecoveredFirst.{add_after}
 use Rattle.lfs_tree.proofs.TreeCalls.{allowed, held_noted, operates_noted, recovery_failed, rests_behind, settled_here}
@@ -20,7 +18,7 @@ make_directory_at-made-requires-clause-rests g c = rests_behind c.args.self.now 
 pub make_directory_at-made-requires-clause-can : goal.make_directory_at-made-requires-clause-can
 make_directory_at-made-requires-clause-can g c =
     add_after (kept_thread c.args.self.now) c.self.inside.thread.kept (settled_here c.args.self.now c.recover.new.self c.requires.works c.requires.writable (c.in_ok-recover.ensures.does.done ops.Recover refl) c.in_ok-recover.ensures.settled c.self.inside.thread c.self.inside.root c.self.inside.is_writable c.self.invariant c.self.view_is) c.args.path.now 4
-    (allowed c.args.self.now c.recover.new.self c.requires.works c.requires.writable (c.in_ok-recover.ensures.does.done ops.Recover refl) c.in_ok-recover.ensures.settled c.self.inside.thread c.self.inside.root c.self.inside.is_writable c.self.invariant c.self.view_is (λ s. CanAddTo s c.args.path.now 4) c.requires)
+    (allowed c.args.self.now c.recover.new.self c.requires.works c.requires.writable (c.in_ok-recover.ensures.does.done ops.Recover refl) c.in_ok-recover.ensures.settled c.self.inside.thread c.self.inside.root c.self.inside.is_writable c.self.invariant c.self.view_is (λ s. CanAddIn s c.args.path.now 4) c.requires)
 
 pub invariant_of-self : goal.invariant_of-self
 invariant_of-self g c =

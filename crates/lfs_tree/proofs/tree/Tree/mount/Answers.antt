@@ -1,11 +1,7 @@
 use Rattle.std.proofs.Common.{sym, ap, subst, ◌∙◌}
-use Rattle.lfs_model.specs.format.Disk.{ordered_disk, Disk}
+use Rattle.lfs_tree.proofs.Common.{ordered_disk, Disk, disk_of_device, thread_state, IsMountedTree, answered}
 use Rattle.lfs_model.specs.declared.order.NameOrder.{NameOrder}
-use Rattle.lfs_thread.specs.Kept.{disk_of_device}
-use Rattle.lfs_tree.specs.RootedThreads.{thread_state}
-use Rattle.lfs_tree.specs.TreeState.{IsMountedTree}
 use Rattle.lfs_tree.proofs.Mounting.{mounted_rooted, mounted_tree, read_back}
-use Rattle.lfs_lookup.proofs.Reading.{answered}
 use Rattle.lfs_tree.proofs.tree.Tree.mount.Goals as goal
 
 pub invariant_of-result : goal.invariant_of-result

@@ -1,11 +1,7 @@
 use Rattle.std.proofs.Common.{◌≡◌, ap, drop, length, subst, sym, take}
 use Rattle.std.specs.Prelude.{IfOk, OnOk}
-use Rattle.lfs_model.specs.session.TreeEdits.{file_bytes}
-use Rattle.lfs_file.specs.Known.{AreKnownBlocks, ReadsKnownList}
-use Rattle.lfs_model.specs.tree.Shown.{struct_blocks}
-use Rattle.lfs_thread.specs.Kept.{ThreadView}
-use Rattle.lfs_lookup.specs.FileContents.{IsStorageAt, contents_struct}
-use Rattle.lfs_tree.specs.TreeState.{TreeState, tree_view}
+use Rattle.lfs_tree.proofs.Common.{file_bytes, AreKnownBlocks, struct_blocks, ThreadView, IsStorageAt, contents_struct, TreeState, shown_tree}
+use Rattle.lfs_file.specs.Known.{ReadsKnownList}
 use Rattle.lfs_tree.proofs.Asking.{asking, held, rooted_held}
 use Rattle.lfs_tree.proofs.ReadContents.{list_read}
 use Rattle.lfs_tree.proofs.tree.Tree.read.Goals as goal
@@ -30,7 +26,7 @@ returns-clause-asks g c =
 
 pub returns-clause-bytes : goal.returns-clause-bytes
 returns-clause-bytes g c path there =
-    subst (λ (s : TreeState). IfOk c.read_known_contents-count.result (λ n. take n c.read_known_contents-count.new.buf ≡ take (length c.args.buf.now) (drop c.args.position (file_bytes (tree_view s path))))) c.self.view_is
+    subst (λ (s : TreeState). IfOk c.read_known_contents-count.result (λ n. take n c.read_known_contents-count.new.buf ≡ take (length c.args.buf.now) (drop c.args.position (file_bytes (shown_tree s path))))) c.self.view_is
     (c.read_known_contents-count.ensures.bytes path (subst (λ (s : TreeState). IsStorageAt s.pairs path c.args.contents.now) (sym c.self.view_is) there))
 
 pub read_known_contents-count-requires-clause-blocks : goal.read_known_contents-count-requires-clause-blocks

@@ -1,11 +1,5 @@
 use Rattle.std.proofs.Common.{◌≡◌, ◌∙◌, ap, refl, subst, sym}
-use Rattle.lfs_model.specs.layers.WrittenContent.{is_zero}
-use Rattle.lfs_model.specs.format.Slots.{zero_gstate}
-use Rattle.lfs_model.specs.format.Thread.{pairs_gstate}
-use Rattle.lfs_model.specs.tree.Shown.{tree_on_disk}
-use Rattle.lfs_tree.specs.RootedThreads.{SoundUnlessFailed, IsSoundWithRoot}
-use Rattle.lfs_tree.specs.Recoveries.{HasRecovered}
-use Rattle.lfs_tree.specs.TreeState.{TreeState, kept_thread}
+use Rattle.lfs_tree.proofs.Common.{is_zero, zero_gstate, pairs_gstate, disk_tree, SoundUnlessFailed, IsSoundWithRoot, HasRecovered, TreeState, kept_thread}
 use Rattle.lfs_tree.proofs.Asking.{rooted_held, works_held}
 use Rattle.lfs_tree.proofs.NotedErrors.{noted, noted_failed, noted_held}
 use Rattle.lfs_tree.proofs.Recovered.{held_sound, nothing_set, something_set}
@@ -39,7 +33,7 @@ invariant_of-self g c =
     let t = c.self.inside.thread in
     let writes = ap (λ (s : TreeState). s.writable) c.self.view_is ∙ c.requires.writable in
     subst (λ a. SoundUnlessFailed c.mark_failed.new.thread c.self.inside.root a) (sym writes)
-    (noted_held t c.end_and_drop-recovered.new.thread c.mark_failed.new.thread (HasRecovered t.kept) (tree_on_disk t.kept.disk t.kept.pairs) c.end_and_drop-recovered.result c.end_and_drop-recovered.ensures c.mark_failed.ensures c.self.inside.root
+    (noted_held t c.end_and_drop-recovered.new.thread c.mark_failed.new.thread (HasRecovered t.kept) (disk_tree t.kept.disk t.kept.pairs) c.end_and_drop-recovered.result c.end_and_drop-recovered.ensures c.mark_failed.ensures c.self.inside.root
     (subst (λ a. IsSoundWithRoot c.self.inside.thread c.self.inside.root a) writes (rooted_held c.self.inside.thread c.self.inside.root c.self.inside.is_writable c.args.self.now c.self.invariant c.self.view_is c.requires.works)))
 
 pub returns-clause-does : goal.returns-clause-does
@@ -48,8 +42,8 @@ returns-clause-does g c =
     let left : pairs_gstate c.self.inside.thread.kept.pairs ≡ zero_gstate → ⊥ = λ none. something_set _ (sym c.is_none.ensures ∙ c.if-is_none.false) (c.gstate.ensures ∙ sym (ap (λ (s : TreeState). pairs_gstate s.pairs) c.self.view_is) ∙ none) in
     recovers t c.self.inside.is_writable c.args.self.now c.self.view_is (works_held t c.self.inside.root c.self.inside.is_writable c.args.self.now c.self.invariant c.self.view_is c.requires.works)
     (ap (λ (s : TreeState). s.writable) c.self.view_is ∙ c.requires.writable) left c.end_and_drop-recovered.result c.mark_failed.new.thread
-    (noted t c.end_and_drop-recovered.new.thread c.mark_failed.new.thread (HasRecovered t.kept) (tree_on_disk t.kept.disk t.kept.pairs) c.end_and_drop-recovered.result c.end_and_drop-recovered.ensures c.mark_failed.ensures)
-    (noted_failed t c.end_and_drop-recovered.new.thread c.mark_failed.new.thread (HasRecovered t.kept) (tree_on_disk t.kept.disk t.kept.pairs) c.end_and_drop-recovered.result c.end_and_drop-recovered.ensures c.mark_failed.ensures)
+    (noted t c.end_and_drop-recovered.new.thread c.mark_failed.new.thread (HasRecovered t.kept) (disk_tree t.kept.disk t.kept.pairs) c.end_and_drop-recovered.result c.end_and_drop-recovered.ensures c.mark_failed.ensures)
+    (noted_failed t c.end_and_drop-recovered.new.thread c.mark_failed.new.thread (HasRecovered t.kept) (disk_tree t.kept.disk t.kept.pairs) c.end_and_drop-recovered.result c.end_and_drop-recovered.ensures c.mark_failed.ensures)
 
 pub returns-clause-settled : goal.returns-clause-settled
 returns-clause-settled g c =
@@ -57,7 +51,7 @@ returns-clause-settled g c =
     let left : pairs_gstate c.self.inside.thread.kept.pairs ≡ zero_gstate → ⊥ = λ none. something_set _ (sym c.is_none.ensures ∙ c.if-is_none.false) (c.gstate.ensures ∙ sym (ap (λ (s : TreeState). pairs_gstate s.pairs) c.self.view_is) ∙ none) in
     settles_seen t c.self.inside.is_writable c.args.self.now c.self.view_is (works_held t c.self.inside.root c.self.inside.is_writable c.args.self.now c.self.invariant c.self.view_is c.requires.works)
     (ap (λ (s : TreeState). s.writable) c.self.view_is ∙ c.requires.writable) left c.end_and_drop-recovered.result c.mark_failed.new.thread
-    (noted t c.end_and_drop-recovered.new.thread c.mark_failed.new.thread (HasRecovered t.kept) (tree_on_disk t.kept.disk t.kept.pairs) c.end_and_drop-recovered.result c.end_and_drop-recovered.ensures c.mark_failed.ensures)
+    (noted t c.end_and_drop-recovered.new.thread c.mark_failed.new.thread (HasRecovered t.kept) (disk_tree t.kept.disk t.kept.pairs) c.end_and_drop-recovered.result c.end_and_drop-recovered.ensures c.mark_failed.ensures)
 
 pub returns-clause-idle : goal.returns-clause-idle
 returns-clause-idle g c settled = absurd (let z = sym c.if-is_none.false ∙ c.is_none.ensures ∙ ap is_zero (c.gstate.ensures ∙ settled) in cc)

@@ -1,9 +1,8 @@
 use Rattle.std.proofs.Common.{refl}
-use Rattle.std.proofs.lemmas.Result.{err_from_is_err_and}
+use Rattle.lfs_tree.proofs.Common.{err_from_is_err_and, kept_thread}
 use Rattle.lfs_model.specs.session.Operations as ops
 use Rattle.lfs_tree.specs.Permissions.{CanSetAttrIn}
 use Rattle.lfs_tree.specs.TreeCalls as call
-use Rattle.lfs_tree.specs.TreeState.{kept_thread}
 use Rattle.lfs_tree.proofs.Operated.{plain_set}
 use Rattle.lfs_tree.proofs.RecoveredFirst.{set_attr_after}
 use Rattle.lfs_tree.proofs.TreeCalls.{allowed, held_noted, operates_noted, recovery_failed, rests_behind, settled_here}

@@ -1,10 +1,8 @@
 use Rattle.std.proofs.Common.{◌≡◌, ◌≤◌, ◌+◌, Some, subst, sym}
 use Rattle.std.specs.Prelude.{IfOk}
-use Rattle.lfs_model.specs.session.History.{read_count}
+use Rattle.lfs_tree.proofs.Common.{read_count, TreeState, ThreadView}
 use Rattle.lfs_model.specs.tree.Profile.{image_fields}
 use Rattle.lfs_tag.specs.FieldsView.{superblock_view}
-use Rattle.lfs_tree.specs.TreeState.{TreeState}
-use Rattle.lfs_thread.specs.Kept.{ThreadView}
 use Rattle.lfs_tree.proofs.Asking.{asking, held, rooted_held}
 use Rattle.lfs_tree.proofs.tree.Tree.superblock.Goals as goal
 

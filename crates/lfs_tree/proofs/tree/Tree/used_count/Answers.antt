@@ -1,7 +1,5 @@
 use Rattle.std.proofs.Common.{◌∙◌, ap, false, length}
-use Rattle.lfs_model.specs.tree.Shown.{used_blocks}
-use Rattle.lfs_tree.specs.RootedThreads.{kept_state}
-use Rattle.lfs_tree.specs.TreeState.{TreeState}
+use Rattle.lfs_tree.proofs.Common.{used_blocks, kept_state, TreeState}
 use Rattle.lfs_tree.proofs.Asking.{rooted_held}
 use Rattle.lfs_tree.proofs.UsedBlocks.{count_is}
 use Rattle.lfs_tree.proofs.tree.Tree.used_count.Goals as goal

@@ -1,0 +1,80 @@
+-- The words of the definitions and the laws below that most proofs of this crate use.
+pub use Rattle.lfs_device.specs.DeviceDisk.{profiled_disk}
+pub use Rattle.lfs_file.specs.Contents.{contents_form}
+pub use Rattle.lfs_file.specs.Form.{ContentsForm, FormFitsWriter, IsWriterForm}
+pub use Rattle.lfs_file.specs.Known.{AreKnownBlocks, no_known_blocks}
+pub use Rattle.lfs_fs.specs.CallEffects.{IsCall, SparesOthers}
+pub use Rattle.lfs_fs.specs.CallEnds.{MeetsRules}
+pub use Rattle.lfs_fs.specs.DeviceLaws.{HasSessionInvariant, LeftConforming}
+pub use Rattle.lfs_fs.specs.EntryPaths.{entry_path}
+pub use Rattle.lfs_fs.specs.FileAnswers.{file_position}
+pub use Rattle.lfs_fs.specs.FileView.{RuntimeFiles, change_end, file_view, file_with_known, file_with_position, files_view, has_unsaved, is_open_where, is_unsaved_one, is_unsaved_turned, lowest_free, open_file_at, prepended, reader_if_any, reader_view, readers_among, reserved_by, reserved_by_writers, reserved_for, runtime_files_with, selected_files, unsaved_or_tree, writer_if_any, writer_view, writers_among, writers_paths}
+pub use Rattle.lfs_fs.specs.FlagsView.{flags_view}
+pub use Rattle.lfs_fs.specs.ImageLimits.{ReturnsUnchangedDevice}
+pub use Rattle.lfs_fs.specs.LookUps.{AddsNoReads, NothingIfCached, ReadsSearched}
+pub use Rattle.lfs_fs.specs.OpView.{HasRefusalError, op_view, reply_view}
+pub use Rattle.lfs_fs.specs.OpenFilesStay.{ConcernsNoFile, KeepFiles, KeepsWriters, StayReady}
+pub use Rattle.lfs_fs.specs.ReaderReads.{ReadsFew}
+pub use Rattle.lfs_fs.specs.RenamePaths.{prevents_rename}
+pub use Rattle.lfs_fs.specs.Replies.{reply_from, value_unless_refused}
+pub use Rattle.lfs_fs.specs.SessionView.{AreCurrentReaders, AreUnsavedContents, AreUnsavedIfAny, FailsChecks, HasKnownBlocks, IsChecksResult, IsCurrentReader, IsReadableFile, IsReady, IsWriterReady, PassesEarlyChecks, SessionFails, SessionView, StepsOrFails, refusal_by_checks, session_view, system_state, view_with_files, viewed_session}
+pub use Rattle.lfs_fs.specs.WriterChanges.{CanChangeWriter, CanOpenWriter, CanSaveWriter, CanTruncateBy, CanWriteBy, IsChangedWriter, IsOpenedWriter, IsSavedWriter, IsUnsavedForm}
+pub use Rattle.lfs_lookup.specs.AttributeAt.{IsAttributesSize}
+pub use Rattle.lfs_lookup.specs.CachedPairs.{AreFewSmall}
+pub use Rattle.lfs_lookup.specs.FileContents.{IsStorageAt, contents_struct}
+pub use Rattle.lfs_lookup.specs.Finds.{IsFoundNode, has_entry_beneath, is_absent, is_directory_node, is_file_node, listed_item_view, node_size_if_file, stat_view}
+pub use Rattle.lfs_lookup.specs.RefusalErrors.{error_refusal, is_refusal, refusal_error}
+pub use Rattle.lfs_model.proofs.BlockCounts.{few_flying, in_flight-freed}
+pub use Rattle.lfs_model.proofs.Committed.{recovered_from}
+pub use Rattle.lfs_model.proofs.Counts.{Each, each_weaker}
+pub use Rattle.lfs_model.proofs.Histories.{OnlyReadsSince-trans}
+pub use Rattle.lfs_model.proofs.Paths.{Names, alike, names, path_from_same, path_itself, unlike}
+pub use Rattle.lfs_model.proofs.SessionSteps.{not_remount}
+pub use Rattle.lfs_model.proofs.StepsMade.{completed_step, filled_step}
+pub use Rattle.lfs_model.proofs.Uniqueness.{one_thread}
+pub use Rattle.lfs_model.specs.crash.Frame.{LeavesOthers, ReadsEachOnce, ancestor_paths, answers_itself, is_early_refusal, is_look_up, needs_no_resource, pair_count_at, searched_directories}
+pub use Rattle.lfs_model.specs.crash.PowerLoss.{HasEither, SurvivesInCalls, SurvivesPowerLoss}
+pub use Rattle.lfs_model.specs.crash.ReadBounds.{ReadsOnceAlways}
+pub use Rattle.lfs_model.specs.crash.RepeatedPowerLoss.{IsMounted}
+pub use Rattle.lfs_model.specs.format.Blocks.{Blocks}
+pub use Rattle.lfs_model.specs.format.Content.{attribute_bytes, attributes_with, attributes_without, content_at}
+pub use Rattle.lfs_model.specs.format.Disk.{Disk, SameGeometry, attr_max_of, block_count, disk_block, file_max_of, inline_limit, name_max_of, ordered_disk}
+pub use Rattle.lfs_model.specs.format.Names.{is_component, same_name, slash_byte}
+pub use Rattle.lfs_model.specs.format.SkipLists.{block_count_for}
+pub use Rattle.lfs_model.specs.format.Slots.{Attributes, Branch, Ctz, Inline, Slot, Struct, attributes_size, zero_gstate}
+pub use Rattle.lfs_model.specs.format.Thread.{Pair, pairs_blocks, pairs_gstate}
+pub use Rattle.lfs_model.specs.layers.BlockSets.{IsInFlight, in_flight_count}
+pub use Rattle.lfs_model.specs.layers.Cache.{CachedBlocks}
+pub use Rattle.lfs_model.specs.layers.Keeping.{struct_at, takes_away}
+pub use Rattle.lfs_model.specs.session.Effects.{file_at_position, file_with_bytes, node_file_size, operation_effect, operation_result, tree_stored}
+pub use Rattle.lfs_model.specs.session.Headline.{is_query}
+pub use Rattle.lfs_model.specs.session.History.{AllCalls, CallEvent, IsRead, LeftByLatest, OnlyReadsSince, call_reads, fault_count, read_count}
+pub use Rattle.lfs_model.specs.session.Layout.{IsLayoutRecovered}
+pub use Rattle.lfs_model.specs.session.Operations.{Failed, FlagsOfOpen, Operation, Refusal, Reply, parse_path}
+pub use Rattle.lfs_model.specs.session.Refusals.{is_root_path, is_unusable, operation_refusal, path_or_root}
+pub use Rattle.lfs_model.specs.session.Run.{HealthyHasDiskTree, IsStep, SystemState, WriteNothing, is_dirty, is_read_only, needs_no_call, opens_existing, renames_itself, writes_or_truncates}
+pub use Rattle.lfs_model.specs.session.Session.{DiskSummary, OpenFilesByNumber, Reading, Session, Writing, all_readers, all_writers, are_allowed, exceeds_charge, file_numbered, file_reader, file_writer, files_with_file, first_refusal, free_number_of, has_file, has_long_name, lacks_free, overfills_disk, parents_refusal, refuse_if, reserved_for_writer, reserved_for_writers}
+pub use Rattle.lfs_model.specs.session.SlotEdits.{slot_of}
+pub use Rattle.lfs_model.specs.session.State.{HasFailed, Healthy, SessionHealth, is_remount, mounted_session}
+pub use Rattle.lfs_model.specs.session.TreeEdits.{directory_names, file_bytes, is_beneath, is_directory, is_file, last_name, names_with, names_without, node_attributes_of, node_with_names, parent_path, same_path, tree_creating, tree_removing, tree_renaming, tree_with_change, without_prefix}
+pub use Rattle.lfs_model.specs.session.Writers.{opened_writer, synced_writer, truncated_writer, turns_writer, write_position, written_contents, written_writer, zero_padded}
+pub use Rattle.lfs_model.specs.tree.Shown.{all_entries, all_unmoved_slots, disk_tree, struct_blocks, struct_list_bytes, used_blocks}
+pub use Rattle.lfs_model.specs.tree.Tree.{DirectoryNode, FileNode, Node, Path, Tree, struct_node}
+pub use Rattle.lfs_model.specs.tree.View.{DiskView, IsAccepted}
+pub use Rattle.lfs_thread.specs.Kept.{disk_of_device}
+pub use Rattle.lfs_tree.specs.CreationPaths.{IsCreationResult}
+pub use Rattle.lfs_tree.specs.KeptFiles.{KeepsOtherFiles}
+pub use Rattle.lfs_tree.specs.OpenContents.{AreTreeContents, InlineWithinLimit, KeepsImage, StoresBytesAt, writer_contents_bytes}
+pub use Rattle.lfs_tree.specs.Permissions.{CanCreateFile, CanMakeDirectory}
+pub use Rattle.lfs_tree.specs.RenameFindings.{AreRenameFindings}
+pub use Rattle.lfs_tree.specs.SlotChanges.{tree_with_attributes}
+pub use Rattle.lfs_tree.specs.TreeReads.{HasCachedDirectories}
+pub use Rattle.lfs_tree.specs.TreeState.{FailedByReading, HasErrorCause, HasMountCause, IsApplied, IsFailedTree, IsMountedTree, IsRemountedTree, IsSoundState, LeavesOthersAlone, OnlyReadsTree, SurvivesStops, TreeState, kept_thread, shown_tree, tree_summary}
+pub use Rattle.std.proofs.lemmas.Bool.{eq-eqb, eqb-true, le-leb, lt-ltb, ltb-false, ltb-true, ne_eqb}
+pub use Rattle.std.proofs.lemmas.Bool.Decides.{nat_tests}
+pub use Rattle.std.proofs.lemmas.List.{length-take, map-append, map-set, take_all}
+pub use Rattle.std.proofs.lemmas.List.Elements.{All-from_recursion}
+pub use Rattle.std.proofs.lemmas.Option.{same_Some}
+pub use Rattle.std.proofs.lemmas.Result.{err_from_is_err_and}
+pub use Rattle.std.specs.List.{AllByRecursion, list_all, list_any, onto_first, slice_split}
+pub use Rattle.std.specs.Option.{option_flatten, option_map, option_or}

@@ -1,0 +1,70 @@
+-- The words of the definitions and the laws below that most proofs of this crate use.
+pub use Rattle.lfs_device.specs.Bytes.{AreByteBlocks}
+pub use Rattle.lfs_lookup.specs.AtPath.{IsResult}
+pub use Rattle.lfs_lookup.specs.AttributeAt.{AreAttributesAt, IsAttributesSize, IsFoundCached}
+pub use Rattle.lfs_lookup.specs.ByName.{AreShorterFirst}
+pub use Rattle.lfs_lookup.specs.BytesAt.{spot_and_storage}
+pub use Rattle.lfs_lookup.specs.CachedPairs.{ArePairsCached, IsLastUsed, IsMovedFirst, KeepsCachedPairs, StayCached, pairs_at}
+pub use Rattle.lfs_lookup.specs.Entry.{IsStorage, IsStructEntry}
+pub use Rattle.lfs_lookup.specs.Finds.{IsFoundNode, listed_item_view}
+pub use Rattle.lfs_lookup.specs.Halves.{EndsWithoutTail, HaveSlots, PathsHaveSlots, ReadsBinarySearches, halving_count, pairs_halvings}
+pub use Rattle.lfs_lookup.specs.Items.{NamedStruct, directory_item_view, directory_items_view, named_struct, owned_view, raw_entries, slots_except}
+pub use Rattle.lfs_lookup.specs.ListAt.{AreInLimits, IsInLimits, listed_item}
+pub use Rattle.lfs_lookup.specs.Listed.{joined_count_from, joined_pairs, joined_pairs_from, pair_entries_from}
+pub use Rattle.lfs_lookup.specs.LookupPaths.{HidesMovedSlot, IsHiddenResult, IsNodeAt, IsUnmoved, LeadsToPair, ParentReached, parent_refusal}
+pub use Rattle.lfs_lookup.specs.LookupReading.{ReadsOrReports}
+pub use Rattle.lfs_lookup.specs.NameLengths.{length_after_slash}
+pub use Rattle.lfs_lookup.specs.NameSearch.{FindsInDirectory, FindsInPair, FindsUnhidden, HasNameUnskipped, HidesFrom, IsAbsent, IsAbsentExcept, IsNameAt, skipped_id}
+pub use Rattle.lfs_lookup.specs.ProfileChecks.{BreaksPair, BreaksSome, HasSuperblockStruct, IsWritablePair}
+pub use Rattle.lfs_lookup.specs.Root.{IsChainNext, IsInChain, next_pair}
+pub use Rattle.lfs_lookup.specs.TreeWalk.{ArePushed, HasFirstIfDirectory, PathStruct, PushesEntriesBelow, pairs_addresses, tree_items_view, walked_entries}
+pub use Rattle.lfs_model.proofs.Completed.{complete_length, complete_parts, completed_parts}
+pub use Rattle.lfs_model.proofs.Counts.{Each, each_append, each_joined, each_left, each_right, each_weaker}
+pub use Rattle.lfs_model.proofs.Found.{HasDirectory, chain_of_thread, led_directory}
+pub use Rattle.lfs_model.proofs.Listings.{Apart, IsRun, distinct_apart, distinct_right, entries_own, listing, run_directories}
+pub use Rattle.lfs_model.proofs.Logged.{logged}
+pub use Rattle.lfs_model.proofs.OneCommit.{slot_there}
+pub use Rattle.lfs_model.proofs.Pairs.{pair_back, pair_on}
+pub use Rattle.lfs_model.proofs.Searches.{begins_directory, plain_behind, run_length_is, same_number}
+pub use Rattle.lfs_model.proofs.Walks.{walk_append}
+pub use Rattle.lfs_model.specs.crash.Frame.{ancestor_paths, directory_pairs, pair_count_at}
+pub use Rattle.lfs_model.specs.format.Content.{RawContent, RawSlot, attribute_bytes, complete_content, complete_slot, complete_slots, kind_of_type, read_struct, slot_of_id}
+pub use Rattle.lfs_model.specs.format.Disk.{Disk, disk_block, ordered_disk}
+pub use Rattle.lfs_model.specs.format.EntryTypes.{directory_type, inline_type, read_address, superblock_fields}
+pub use Rattle.lfs_model.specs.format.Names.{Name, is_component, is_less, name_cmp, same_name, slash_byte, sorted_names}
+pub use Rattle.lfs_model.specs.format.Slots.{Attributes, Branch, Ctz, FitsInPair, Gstate, Inline, PairContent, Slot, Struct, array_address, attributes_size, is_superblock, names_superblock, same_pair}
+pub use Rattle.lfs_model.specs.format.Thread.{Pair, count_before_root, directory_slots, has_no_entry, has_superblock, is_hard_tail, may_continue, moved_id, pair_directories, pairs_blocks, pairs_from_root, pairs_gstate, root_address, slots_not_moved, starts_superblock, unmoved_entries}
+pub use Rattle.lfs_model.specs.layers.Cache.{CachedBlocks, cache_limit}
+pub use Rattle.lfs_model.specs.layers.LoggedContent.{AllowsIfSome, AreWellFormed, AttributesInOrder, IsAllowedPart, IsFormedSlot, IsWellFormed}
+pub use Rattle.lfs_model.specs.layers.Lookup.{part_bytes, slot_bytes}
+pub use Rattle.lfs_model.specs.layers.ProfileBreaches.{BreaksProfile}
+pub use Rattle.lfs_model.specs.session.Effects.{items_at, node_file_size}
+pub use Rattle.lfs_model.specs.session.History.{fault_count, read_count}
+pub use Rattle.lfs_model.specs.session.InDirectory.{AreJoined, BelongsAt, BelongsAtId, FirstIsGreater, HasHardTail, HasName, HaveNoSuperblock, IsDirectoryPair, IsPairAt, IsPlaceOf, all_slots, entry_slots, joined_count, last_joins}
+pub use Rattle.lfs_model.specs.session.Operations.{NoEnt, NotDir}
+pub use Rattle.lfs_model.specs.session.Refusals.{is_root_path}
+pub use Rattle.lfs_model.specs.session.Session.{directory_refusal, parents_refusal}
+pub use Rattle.lfs_model.specs.session.SlotEdits.{slot_of}
+pub use Rattle.lfs_model.specs.session.TreeEdits.{directory_names, is_file, last_name, node_attributes_of}
+pub use Rattle.lfs_model.specs.tree.Profile.{IsWritable, IsWritableSlot}
+pub use Rattle.lfs_model.specs.tree.Shown.{LeadsTo, all_entries, all_unmoved_slots, disk_tree, struct_list_bytes}
+pub use Rattle.lfs_model.specs.tree.Tree.{EntryMap, Path, Tree, branch_address, entry_named, names_at, root_slot, slot_at_path, struct_node}
+pub use Rattle.lfs_model.specs.tree.View.{BeginsWithSuperblock, IsAccepted, IsFormedList, IsTreeEntry}
+pub use Rattle.lfs_pair.specs.Pair.{active_block_at}
+pub use Rattle.lfs_tag.specs.ContentView.{attribute_view, content_view, slot_view}
+pub use Rattle.lfs_thread.specs.CachedLog.{IsContentLog, cached_log}
+pub use Rattle.lfs_thread.specs.Kept.{KeptThread, ThreadView, disk_of_device}
+pub use Rattle.lfs_thread.specs.PairPlaces.{SameAddressAt, blocks_of_addresses}
+pub use Rattle.lfs_thread.specs.ThreadSteps.{OnlyReadsThread, empty_anchor, thread_pair}
+pub use Rattle.std.proofs.Math.Seq.{drop-append_seam}
+pub use Rattle.std.proofs.lemmas.Bool.{false_from_ne_true, ne_eqb}
+pub use Rattle.std.proofs.lemmas.Iterator.Splits.{YieldsList-from_slice_split}
+pub use Rattle.std.proofs.lemmas.List.{append-nil, get_or-drop, get_or-take, length-map, length-take, map-append, reverse-append, take-append-drop, take_all}
+pub use Rattle.std.proofs.lemmas.List.Concat.{flat_map-append}
+pub use Rattle.std.proofs.lemmas.List.Elements.{filter-append, recursion_from_All}
+pub use Rattle.std.proofs.lemmas.List.Sums.{sum_by-append, sum_by-cons}
+pub use Rattle.std.proofs.lemmas.Option.{same_Some, slice_get-get_or, slice_get_within}
+pub use Rattle.std.proofs.lemmas.Result.{err_from_is_err_and}
+pub use Rattle.std.specs.List.{AllByRecursion, remove}
+pub use Rattle.std.specs.List.Sorted.{IsPermutation}
+pub use Rattle.std.specs.Option.{option_and_then, option_copied, option_map, option_map_or, option_or}

@@ -36,8 +36,10 @@ OBJECTIONS = [
     ("profile name-max 0x20", "word 3 is no decimal number up to 4294967295"),
     ("profile attr-max 5 also-2.1 inline-max -1", "word 6 is no decimal number up to 4294967295"),
     ("profile name-max 5 5", "from word 4 on there are no options of the command"),
-    ("profile name-max 1 file-max 2 attr-max 3 inline-max 4 also-2.1 name-max 5",
-     "too many words: profile [also-2.1] [name-max N] [file-max N] [attr-max N] [inline-max N]"),
+    ("profile pair-cycles", "from word 2 on there are no options of the command"),
+    ("profile pair-cycles -1", "word 3 is no decimal number up to 4294967295"),
+    ("profile name-max 1 file-max 2 attr-max 3 inline-max 4 also-2.1 pair-cycles 5 name-max 6",
+     "too many words: profile [also-2.1] [name-max N] [file-max N] [attr-max N] [inline-max N] [pair-cycles N]"),
 ]
 COMMANDS = """fresh image profile unmount mount format put bytes save calls compare compare-with open read write seek truncate sync close mkdir remove rename list
 stat get-attr set-attr remove-attr gstate is-used used-count recover remount""".split()
@@ -127,7 +129,8 @@ def limit_rows(tool, folder):
     """The same of limits, boards and versions."""
     rules = [(["--name-max", "0"], "--name-max is from 1 to 255"), (["--file-max", "2147483648"], "--file-max is from 1 to 2147483647"),
              (["--attr-max", "1023"], "--attr-max is from 1 to 1022"), (["--board", "esp"], "--board is esp8266, esp32, rp2040 or micropython"),
-             (["-b", "1024", "-p", "128", "--inline-max", "129"], "--inline-max is from 1 to 1022, and at most an eighth of -b")]
+             (["-b", "1024", "-p", "128", "--inline-max", "129"], "--inline-max is from 1 to 1022, and at most an eighth of -b"),
+             (["--pair-cycles", "3"], "--pair-cycles is for --put, --remove and --mkdir")]
     for words, rule in rules:
         yield " ".join(words), run(tool, ["-c", "some", *words, "x.img"], "", folder), (2, "", f"error: {rule}\n")
     write(folder, "named/four", b"hi")

@@ -92,6 +92,7 @@ typedef struct lfs_c_config {
     uint32_t file_max;   /* bytes of a file, 1 to 2,147,483,647 */
     uint32_t attr_max;   /* bytes of an attribute, 1 to 1,022 */
     uint32_t inline_max; /* bytes of a file that is kept beside its name, 1 to 1,022; never more than an eighth of a block */
+    uint32_t pair_cycles; /* after how many compactions a metadata pair moves to other blocks; 0: never. A session with it wears blocks evenly */
 } lfs_c_config;
 
 /* The on-disk versions that are accepted. littlefs writes 2.1 since its release 2.6. New images are of version 2.0. */
@@ -99,7 +100,7 @@ typedef struct lfs_c_config {
 #define LFS_C_ALSO_2_1 1
 
 #define LFS_C_CONFIG(block_size, page) \
-    { (block_size), (page), LFS_C_LONGER_FIRST, LFS_C_ONLY_2_0, 255, 2147483647, 1022, 1022 }
+    { (block_size), (page), LFS_C_LONGER_FIRST, LFS_C_ONLY_2_0, 255, 2147483647, 1022, 1022, 0 }
 
 /* Begins a session over a copy of an image, and answers 0. Where both orders of names fit, the longer names come first.
  * Refused: BUSY where there is a session; INVALID for a number out of range, or bytes that are no image of that geometry;

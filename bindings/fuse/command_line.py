@@ -23,6 +23,7 @@ def arguments(words):
     parser.add_argument("--also-2.1", dest="also_2_1", action="store_true", help="takes an image of version 2.1, too")
     for name in LIMITS:
         parser.add_argument("--" + name.replace("_", "-"), type=int, metavar="BYTES", help=f"the limit {name}; the superblock's, if it isn't given" if name != "inline_max" else "the longest file that is kept in its directory's entry: the firmware's cache_size")
+    parser.add_argument("--pair-cycles", type=int, default=0, metavar="COUNT", help="after how many compactions a metadata pair moves to other blocks; never, if it isn't given")
     parser.add_argument("--create", type=int, metavar="BYTES", help="makes an empty image of so many bytes, where no file is there")
     parser.add_argument("--save", choices=SAVES, default="close", help="when a change comes to the image's file: at each close of a file and within a second else, at each sync, or at the end alone. A sync always saves")
     parser.add_argument("-f", "--foreground", action="store_true", help="doesn't go to the background")
@@ -38,7 +39,7 @@ def take_option(parser, given, word):
     name, has_value, value = word.partition("=")
     if name in ("also_2.1", "also_2_1"):
         given.also_2_1 = True
-    elif name in ("block_size", "block_count", "page", "create", *LIMITS):
+    elif name in ("block_size", "block_count", "page", "create", "pair_cycles", *LIMITS):
         if not value.isdecimal():
             parser.error(f"-o {word}: a number is missing")
         setattr(given, name, int(value))
@@ -54,6 +55,7 @@ def take_option(parser, given, word):
 def geometry(found, given):
     """The sizes and limits by which an image is mounted: those that are given, those of its superblock, or the usual ones."""
     sizes = {"block_size": given.block_size or (found.block_size if found else 4096), "also_2_1": given.also_2_1}
+    sizes["pair_cycles"] = given.pair_cycles
     sizes["page"] = given.page or None
     for name in LIMITS:
         value = getattr(given, name) or getattr(found, name, None)

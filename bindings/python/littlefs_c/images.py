@@ -52,23 +52,27 @@ class Image:
     at a time is in a call."""
 
     def __init__(self, data: Any, block_size: int = 4096, page: Optional[int] = None, *, also_2_1: bool = False, name_max: int = 255,
-                 file_max: int = 2147483647, attr_max: int = 1022, inline_max: int = 1022):
+                 file_max: int = 2147483647, attr_max: int = 1022, inline_max: int = 1022, pair_cycles: int = 0):
         """Mounts a copy of these bytes. Without a page it is the largest one up to 256. Images of version 2.1 are accepted where
-        `also_2_1` says so. Only images whose limits are those that are given are written; without any they are littlefs's own. Raises
-        an `OSError`: EINVAL where the bytes are no image of that geometry or a number is out of range, and 84 where no image is
-        accepted in them."""
-        self._begin(data, None, (block_size, page, LONGER_FIRST, int(also_2_1), name_max, file_max, attr_max, inline_max))
+        `also_2_1` says so. Only images whose limits are those that are given are written; without any they are littlefs's own. A
+        metadata pair moves to other blocks after `pair_cycles` compactions, and never if that is 0. Raises an `OSError`: EINVAL where
+        the bytes are no image of that geometry or a number is out of range, and 84 where no image is accepted in them."""
+        numbers = LONGER_FIRST, int(also_2_1), name_max, file_max, attr_max, inline_max, pair_cycles
+        self._begin(data, None, (block_size, page, *numbers))
 
     @classmethod
     def format(cls, size: int, block_size: int = 4096, page: Optional[int] = None, order: int = LONGER_FIRST, *, also_2_1: bool = False,
-               name_max: int = 255, file_max: int = 2147483647, attr_max: int = 1022, inline_max: int = 1022) -> Image:
+               name_max: int = 255, file_max: int = 2147483647, attr_max: int = 1022, inline_max: int = 1022,
+               pair_cycles: int = 0) -> Image:
         """An empty image of so many bytes. littlefs's own code reads those whose order is `LONGER_FIRST`."""
         image = cls.__new__(cls)
-        image._begin(None, size, (block_size, page, order, int(also_2_1), name_max, file_max, attr_max, inline_max))
+        numbers = order, int(also_2_1), name_max, file_max, attr_max, inline_max, pair_cycles
+        image._begin(None, size, (block_size, page, *numbers))
         return image
 
     @classmethod
-    def by_superblock(cls, data: Any, page: Optional[int] = None, *, also_2_1: bool = False, inline_max: int = LARGEST.inline_max) -> Image:
+    def by_superblock(cls, data: Any, page: Optional[int] = None, *, also_2_1: bool = False, inline_max: int = LARGEST.inline_max,
+                      pair_cycles: int = 0) -> Image:
         """Mounts a copy of an image by the sizes and limits that are in its superblock. Bytes behind the image are left out. Raises an
         `OSError` with the number 84 where no superblock is found."""
         found = superblock(data)
@@ -76,7 +80,7 @@ class Image:
             raise refusal(CORRUPT)
         limits = {name: min(getattr(found, name), getattr(LARGEST, name)) for name in ("name_max", "file_max", "attr_max")}
         part = memoryview(data)[: found.block_count * found.block_size]
-        return cls(part, found.block_size, page, also_2_1=also_2_1, inline_max=inline_max, **limits)
+        return cls(part, found.block_size, page, also_2_1=also_2_1, inline_max=inline_max, pair_cycles=pair_cycles, **limits)
 
     def _begin(self, data: Any, size: Optional[int], numbers: tuple[Any, ...]) -> None:
         numbers = (numbers[0], usual_page(numbers[0]) if numbers[1] is None else numbers[1], *numbers[2:])

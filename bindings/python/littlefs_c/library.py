@@ -42,7 +42,8 @@ class Handle(ctypes.Structure):
 class Config(ctypes.Structure):
     """`lfs_c_config`."""
 
-    _fields_ = [(name, ctypes.c_uint32) for name in ("block_size", "page", "order", "versions", "name_max", "file_max", "attr_max", "inline_max")]
+    _fields_ = [(name, ctypes.c_uint32) for name in ("block_size", "page", "order", "versions", "name_max", "file_max", "attr_max", "inline_max",
+                                                  "pair_cycles")]
 
 
 class Change(ctypes.Structure):

@@ -3,7 +3,7 @@
 use crate::counting_device::{CountingDevice, Counts};
 use crate::files::{self, Measured, no_memory_error, write_new_file};
 use crate::{contents, wear};
-use lfs_device::{Error, Geometry, RamDevice};
+use lfs_device::{Error, Geometry, Profile, RamDevice};
 use lfs_fs::format;
 use std::alloc::Global;
 use std::io;
@@ -77,13 +77,27 @@ fn row_of_name(name: &str) -> Option<Row> {
     })
 }
 
-// Makes an empty file system on a device in memory, which may say which bytes are blank.
-fn formatted_session(alloc: Global, blocks: u32, checks_blanks: bool) -> Result<Measured, Error> {
-    let mut device = RamDevice::blank(alloc, Geometry::new(BLOCK, 256, blocks)?)?;
-    if checks_blanks {
+/// The device of a row.
+#[derive(Clone, Copy)]
+pub struct RowDevice {
+    /// How many blocks of 4,096 bytes it has.
+    pub blocks: u32,
+    /// How many compactions a metadata pair stays at its place for. At 0 it stays for good.
+    pub pair_cycles: u32,
+    /// Whether it says which bytes are blank.
+    pub checks_blanks: bool,
+}
+
+// Makes an empty file system on a device in memory.
+fn formatted_session(alloc: Global, row: RowDevice) -> Result<Measured, Error> {
+    let mut profile = Profile::new();
+    profile.pair_cycles = row.pair_cycles;
+    let geometry = Geometry::new(BLOCK, 256, row.blocks)?.with_profile(profile);
+    let mut device = RamDevice::blank(alloc, geometry)?;
+    if row.checks_blanks {
         device = device.with_blank_checks();
     }
-    let erase_counts = Vec::from_elem(alloc, 0u32, blocks as usize).map_err(no_memory_error)?;
+    let erase_counts = Vec::from_elem(alloc, 0u32, row.blocks as usize).map_err(no_memory_error)?;
     format(
         alloc,
         CountingDevice::with_erase_counts(device, erase_counts),
@@ -221,20 +235,19 @@ fn measure_benchmark_row(
     print_device_call_counts(rt, name, &counts, time.as_nanos())
 }
 
-/// Performs a row on a device of so many blocks of 4,096 bytes, with so many operations. Prints the
-/// row, its reads, bytes read, programs, bytes programmed, erases and nanoseconds. Of a row about
-/// wear it also prints how often each block was erased.
+/// Performs a row on a device, with so many operations. Prints the row, its reads, bytes read,
+/// programs, bytes programmed, erases and nanoseconds. Of a row about wear it also prints how often
+/// each block was erased.
 pub fn run_benchmark_row(
     rt: &HostRuntime,
     name: &str,
-    blocks: u32,
+    device: RowDevice,
     count: u32,
-    checks_blanks: bool,
 ) -> io::Result<()> {
     let Some(row) = row_of_name(name) else {
         return eprintln!(rt; "there is no such row");
     };
-    let mut session = match formatted_session(rt.alloc(), blocks, checks_blanks) {
+    let mut session = match formatted_session(rt.alloc(), device) {
         Ok(session) => session,
         Err(error) => return println!(rt; "{error:?}"),
     };

@@ -3,7 +3,8 @@
 //! list, the writes of a file over a session, and the rows that are measured beside littlefs's own code.
 //! The first word names one of them, none all but these rows. The second says how many rounds are timed,
 //! or how many pieces are written; for a row the words are its name, how many blocks the device has,
-//! how many operations are made, and `blanks` where the device says which bytes are blank.
+//! how many operations are made, for how many compactions a metadata pair stays at its place (0: for
+//! good), and `blanks` where the device says which bytes are blank.
 #![tactic(auto)]
 
 mod c_rows;
@@ -39,14 +40,17 @@ fn argument_number_or(words: &[String], place: usize, otherwise: u32) -> u32 {
 // The row that the words name.
 fn run_row_of_arguments(rt: &HostRuntime, words: &[String]) -> io::Result<()> {
     let Some(row) = words.get(2) else {
-        return eprintln!(rt; "row NAME BLOCKS COUNT [blanks]");
+        return eprintln!(rt; "row NAME BLOCKS COUNT [CYCLES [blanks]]");
     };
     c_rows::run_benchmark_row(
         rt,
         row.as_str(),
-        argument_number_or(words, 3, 0),
+        c_rows::RowDevice {
+            blocks: argument_number_or(words, 3, 0),
+            pair_cycles: argument_number_or(words, 5, 0),
+            checks_blanks: words.get(6).is_some(),
+        },
         argument_number_or(words, 4, 0),
-        words.get(5).is_some(),
     )
 }
 

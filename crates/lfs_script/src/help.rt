@@ -12,9 +12,11 @@ Devices:
                             a blank device of N blocks of B bytes in pages of P
   image B P FILE [fill XX | keep]  a device with the bytes of a file, mounted
   profile [also-2.1] [name-max N] [file-max N] [attr-max N] [inline-max N]
-                            what is accepted of the devices from here on, and
+      [pair-cycles N]       what is accepted of the devices from here on, and
                             the limits by which they are written, in bytes;
-                            without options version 2.0 and the format's own
+                            pairs move when they wear, after N compactions;
+                            without options version 2.0, the format's own
+                            limits, and pairs that stay at their places
   unmount                   ends the session
   mount [KIND N [stop] [torn K | whole]]  mounts the device; its N-th call of
                             KIND (any, read, program, erase) fails

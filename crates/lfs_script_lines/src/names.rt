@@ -78,8 +78,9 @@ impl CommandName {
         match self {
             CommandName::Fresh => "fresh B P N [longer-first | shorter-first] [fill XX | keep]",
             CommandName::Image => "image B P FILE [fill XX | keep]",
-            CommandName::Profile =>
-                "profile [also-2.1] [name-max N] [file-max N] [attr-max N] [inline-max N]",
+            CommandName::Profile => {
+                "profile [also-2.1] [name-max N] [file-max N] [attr-max N] [inline-max N] [pair-cycles N]"
+            }
             CommandName::Unmount => "unmount",
             CommandName::Mount => "mount [KIND N [stop] [torn K | whole]]",
             CommandName::Format => "format [KIND N [stop] [torn K | whole]]",
@@ -117,7 +118,7 @@ impl CommandName {
         match self {
             CommandName::Fresh => (3, 6),
             CommandName::Image | CommandName::Put => (3, 5),
-            CommandName::Profile => (0, 9),
+            CommandName::Profile => (0, 11),
             CommandName::Unmount
             | CommandName::Calls
             | CommandName::Gstate

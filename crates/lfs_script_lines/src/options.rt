@@ -118,17 +118,19 @@ pub(crate) fn fault_of_words(words: &[&[u8]]) -> Result<PlannedFault, LineError>
     }
 }
 
-// Returns the profile with another limit, if the word names one.
-fn with_limit(profile: Profile, name: &[u8], bytes: u32) -> Option<Profile> {
+// Returns the profile with another number, if the word names one.
+fn with_limit(profile: Profile, name: &[u8], number: u32) -> Option<Profile> {
     let mut profile = profile;
     if is_keyword(name, b"name-max") {
-        profile.name_max = bytes;
+        profile.name_max = number;
     } else if is_keyword(name, b"file-max") {
-        profile.file_max = bytes;
+        profile.file_max = number;
     } else if is_keyword(name, b"attr-max") {
-        profile.attr_max = bytes;
+        profile.attr_max = number;
     } else if is_keyword(name, b"inline-max") {
-        profile.inline_max = bytes;
+        profile.inline_max = number;
+    } else if is_keyword(name, b"pair-cycles") {
+        profile.pair_cycles = number;
     } else {
         return None;
     }
@@ -150,8 +152,8 @@ pub(crate) fn profile_of_words(words: &[&[u8]]) -> Result<Profile, LineError> {
             if behind == words.len() || with_limit(profile, word, 0).is_none() {
                 return Err(no_options(place));
             }
-            let bytes = number_at(words, behind)?;
-            profile = with_limit(profile, word, bytes).unwrap_or(profile);
+            let number = number_at(words, behind)?;
+            profile = with_limit(profile, word, number).unwrap_or(profile);
             is_number = true;
         }
     }

@@ -28,13 +28,18 @@ names_stream (Some text) = bytes_eq text (codes "-")
 abbrev pub is_standard_stream : Text → List Row → Bool
 is_standard_stream id rows = names_stream (first_of id rows)
 
--- the first option of those for sizes, times and files that has no meaning where it is given
+-- an image is to be changed in its place
+abbrev pub changes_image : List Row → Bool
+changes_image rows = is_given (codes "put") rows || (is_given (codes "remove") rows || is_given (codes "mkdir") rows)
+
+-- the first option of those for sizes, times, pairs and files that has no meaning where it is given
 abbrev pub misused_pair : List Row → Option Misuse
 misused_pair rows =
     if not (is_given (codes "create") rows) && is_option_auto (codes "size") rows then Some misuse.Size else
     (if is_given (codes "spare") rows && not (is_option_auto (codes "size") rows) then Some misuse.Spare else
     (if flag_in_rows (codes "times") rows && not (is_given (codes "create") rows || is_given (codes "unpack") rows) then Some misuse.Times else
-    (if is_standard_stream (codes "put") rows && is_standard_stream (codes "image") rows then Some misuse.Streams else None)))
+    (if is_given (codes "pair_cycles") rows && not (changes_image rows) then Some misuse.Cycles else
+    (if is_standard_stream (codes "put") rows && is_standard_stream (codes "image") rows then Some misuse.Streams else None))))
 
 -- the first option that has no meaning where it is given
 abbrev pub misused_option : List Row → Option Misuse
@@ -54,4 +59,5 @@ misuse_rule misuse.Json = codes "--json is for -l and --check"
 misuse_rule misuse.Size = codes "--size auto is for -c"
 misuse_rule misuse.Spare = codes "--spare is for -c with --size auto"
 misuse_rule misuse.Times = codes "--times is for -c and -u"
+misuse_rule misuse.Cycles = codes "--pair-cycles is for --put, --remove and --mkdir"
 misuse_rule misuse.Streams = codes "--put takes - as FILE or as IMAGE, not as both"

@@ -141,6 +141,7 @@ profile_given_or other rows = record other {
   file_max = number_or other.file_max (codes "file_max") rows;
   attr_max = number_or other.attr_max (codes "attr_max") rows;
   inline_max = number_or other.inline_max (codes "inline_max") rows;
+  pair_cycles = number_or other.pair_cycles (codes "pair_cycles") rows;
 }
 
 -- the profile, which is the board's where no limit and no version is given

@@ -68,6 +68,11 @@ Limits:
   folder: littlefs changes it only where its cache_size is no smaller. --check
   says by all four whether IMAGE may be changed.
 
+Wear:
+  --pair-cycles is for --put, --remove and --mkdir. With N above 0 a metadata
+  pair that has been compacted N times moves to other blocks, as littlefs's
+  block_cycles has it. With 0 each pair stays where it is.
+
 Boards:
   NAME stands for these numbers, and for --also-2.1. A number that is given
   comes before them.

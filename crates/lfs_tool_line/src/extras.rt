@@ -2,7 +2,7 @@
 
 ghost use Rattle.std.specs.Prelude.{◌≡◌, IfOk};
 ghost use Rattle.clap.specs.Words.{found_of, rows_of};
-ghost use Rattle.lfs_tool_line.specs.Extras.{AreExtrasOf, is_given, is_standard_stream, misused_option, misused_pair, misuse_rule};
+ghost use Rattle.lfs_tool_line.specs.Extras.{AreExtrasOf, changes_image, is_given, is_standard_stream, misused_option, misused_pair, misuse_rule};
 
 use crate::values::{argument_text, flag_value, is_auto, number_given_or};
 use clap::ArgMatches;
@@ -42,6 +42,8 @@ pub enum Misuse {
     Spare,
     /// Times, with neither `-c` nor `-u`.
     Times,
+    /// Pairs that move, without a change of an image.
+    Cycles,
     /// A file and an image that are both standard input.
     Streams,
 }
@@ -58,6 +60,7 @@ impl Misuse {
             Misuse::Size => "--size auto is for -c",
             Misuse::Spare => "--spare is for -c with --size auto",
             Misuse::Times => "--times is for -c and -u",
+            Misuse::Cycles => "--pair-cycles is for --put, --remove and --mkdir",
             Misuse::Streams => "--put takes - as FILE or as IMAGE, not as both",
         }
     }
@@ -80,7 +83,14 @@ fn is_standard_stream(matches: &ArgMatches<'_>, id: &str) -> bool
     }
 }
 
-// Returns the first option of those for sizes, times and files that has no meaning where it is given.
+// Returns whether an image is to be changed in its place.
+fn changes_image(matches: &ArgMatches<'_>) -> bool
+    ensures { result ≡ changes_image (rows_of (found_of matches.now)) }
+{
+    is_given(matches, "put") || is_given(matches, "remove") || is_given(matches, "mkdir")
+}
+
+// Returns the first option of those for sizes, times, pairs and files that has no meaning where it is given.
 fn misused_pair(matches: &ArgMatches<'_>) -> Option<Misuse>
     ensures { result ≡ misused_pair (rows_of (found_of matches.now)) }
 {
@@ -94,6 +104,9 @@ fn misused_pair(matches: &ArgMatches<'_>) -> Option<Misuse>
     }
     if flag_value(matches, "times") && !(creates || is_given(matches, "unpack")) {
         return Some(Misuse::Times);
+    }
+    if is_given(matches, "pair_cycles") && !changes_image(matches) {
+        return Some(Misuse::Cycles);
     }
     if is_standard_stream(matches, "put") && is_standard_stream(matches, "image") {
         return Some(Misuse::Streams);

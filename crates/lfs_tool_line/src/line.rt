@@ -195,10 +195,10 @@ fn line_of_matches<'a>(matches: &ArgMatches<'a>, choices: Choices<'a>) -> Result
 
 /// Reads the words of a command line, the program's name first:
 /// `mklittlefs (-c DIR | -u DIR | -l | --check | --cat PATH | --put FILE PATH | --remove PATH | --mkdir PATH) [-b N] [-p N] [-s N]
-/// [--spare N] [--offset N] [--order ORDER] [--name-max N] [--file-max N] [--attr-max N] [--inline-max N] [--board NAME] [--also-2.1]
-/// [--exclude PATTERN] [--follow-links] [--skip-links] [--times] [--json] [--explain] IMAGE`. The long names are `--create`, `--unpack`,
+/// [--spare N] [--offset N] [--order ORDER] [--name-max N] [--file-max N] [--attr-max N] [--inline-max N] [--pair-cycles N] [--board NAME]
+/// [--also-2.1] [--exclude PATTERN] [--follow-links] [--skip-links] [--times] [--json] [--explain] IMAGE`. The long names are `--create`, `--unpack`,
 /// `--list`, `--block`, `--page` and `--size`. `-b auto` and `--offset` go with the modes that write no image, and
-/// `-s auto` and `--spare` with `-c`.
+/// `-s auto` and `--spare` with `-c`, `--pair-cycles` with `--put`, `--remove` and `--mkdir`.
 ///
 /// A number is from 0 to 4294967295, as `4096`, `0x1000`, `4k` and `1.5M` are: decimal, hexadecimal, or in units of 1024
 /// or 1048576 bytes, where it may have a point. Where an option isn't given, a block has 4096 bytes, a

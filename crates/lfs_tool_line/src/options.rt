@@ -65,7 +65,7 @@ fn with_later_version<'a>(alloc: Global, command: Command<'a>) -> Result<Command
     command.arg(later_version_arg(alloc))
 }
 
-// Adds the options for the limits of an image.
+// Adds the options for the limits of an image, and for pairs that move.
 pub(crate) fn with_limit_options<'a>(
     alloc: Global,
     command: Command<'a>,
@@ -76,10 +76,12 @@ pub(crate) fn with_limit_options<'a>(
     let file = "Longest file in bytes, with -c [default: 2147483647]";
     let attr = "Longest attribute in bytes, with -c [default: 1022]";
     let inline = "Longest inline file in bytes, with -c [default: an eighth of -b]";
+    let cycles = "Compactions until a metadata pair moves, or 0 [default: 0]";
     let command = with_limit_option(alloc, command, "name_max", "name-max", name)?;
     let command = with_limit_option(alloc, command, "file_max", "file-max", file)?;
     let command = with_limit_option(alloc, command, "attr_max", "attr-max", attr)?;
     let command = with_limit_option(alloc, command, "inline_max", "inline-max", inline)?;
+    let command = with_limit_option(alloc, command, "pair_cycles", "pair-cycles", cycles)?;
     Ok(command)
 }
 

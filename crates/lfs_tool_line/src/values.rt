@@ -106,6 +106,9 @@ fn other_bad_number<'a>(matches: &ArgMatches<'a>) -> Option<(&'static str, &'a s
     if let Some(text) = bad_number(matches, "inline_max") {
         return Some(("inline-max", text));
     }
+    if let Some(text) = bad_number(matches, "pair_cycles") {
+        return Some(("pair-cycles", text));
+    }
     if let Some(text) = bad_number(matches, "spare") {
         return Some(("spare", text));
     }

@@ -18,7 +18,25 @@ const DEFAULT: Profile = Profile {
 };
 
 // The words of command lines, and what they say.
-const LINES: [(&[&str], Line<'static>); 10] = [
+const LINES: [(&[&str], Line<'static>); 11] = [
+    (
+        &["mklittlefs", "--mkdir=/d", "--pair-cycles", "101", "i"],
+        Line {
+            mode: Mode::Mkdir("/d"),
+            block_size: 4096,
+            is_auto: false,
+            offset: 0,
+            page: 256,
+            size: 65536,
+            order: NameOrder::LongerFirst,
+            explain: false,
+            profile: Profile {
+                pair_cycles: 101,
+                ..DEFAULT
+            },
+            image: "i",
+        },
+    ),
     (
         &["mklittlefs", "--list", "disk.img"],
         Line {
@@ -503,6 +521,7 @@ Options:
       --file-max <N>       Longest file in bytes, with -c [default: 2147483647]
       --attr-max <N>       Longest attribute in bytes, with -c [default: 1022]
       --inline-max <N>     Longest inline file in bytes, with -c [default: an eighth of -b]
+      --pair-cycles <N>    Compactions until a metadata pair moves, or 0 [default: 0]
       --board <NAME>       Take the numbers of a board where they aren't given
       --also-2.1           Read images of version 2.1, too
       --exclude <PATTERN>  Leave out the names that PATTERN fits, with -c
@@ -557,6 +576,11 @@ Limits:
   folder: littlefs changes it only where its cache_size is no smaller. --check
   says by all four whether IMAGE may be changed.
 
+Wear:
+  --pair-cycles is for --put, --remove and --mkdir. With N above 0 a metadata
+  pair that has been compacted N times moves to other blocks, as littlefs's
+  block_cycles has it. With 0 each pair stays where it is.
+
 Boards:
   NAME stands for these numbers, and for --also-2.1. A number that is given
   comes before them.
@@ -603,7 +627,9 @@ const TIMES: &str = "error: --times is for -c and -u\n";
 
 const STREAMS: &str = "error: --put takes - as FILE or as IMAGE, not as both\n";
 
-const REFUSED: [(&[&str], Option<&str>); 44] = [
+const CYCLES: &str = "error: --pair-cycles is for --put, --remove and --mkdir\n";
+
+const REFUSED: [(&[&str], Option<&str>); 48] = [
     // options that are for other modes
     (&["mklittlefs", "-l", "-sauto", "i"], Some(SIZE)),
     (&["mklittlefs", "-cd", "--spare=1", "i"], Some(SPARE)),
@@ -612,6 +638,19 @@ const REFUSED: [(&[&str], Option<&str>); 44] = [
     (&["mklittlefs", "--cat", "/a", "--times", "i"], Some(TIMES)),
     (&["mklittlefs", "--check", "--times", "i"], Some(TIMES)),
     (&["mklittlefs", "-l", "--times", "i"], Some(TIMES)),
+    (
+        &["mklittlefs", "-cd", "--pair-cycles", "101", "i"],
+        Some(CYCLES),
+    ),
+    (
+        &["mklittlefs", "--cat", "/a", "--pair-cycles=0", "i"],
+        Some(CYCLES),
+    ),
+    (&["mklittlefs", "--remove=/a", "--pair-cycles=x", "i"], None),
+    (
+        &["mklittlefs", "--put", "-", "/a", "--pair-cycles", "1", "-"],
+        Some(STREAMS),
+    ),
     (&["mklittlefs", "--put", "-", "/a", "-"], Some(STREAMS)),
     // a part of a file that is to be made
     (&["mklittlefs", "-cd", "-b", "auto", "i"], Some(PART)),

@@ -14,7 +14,7 @@ config_profile config = record {
   file_max = config.file_max;
   attr_max = config.attr_max;
   inline_max = config.inline_max;
-  pair_cycles = 0;
+  pair_cycles = config.pair_cycles;
 }
 
 abbrev pub config_order : Config → NameOrder

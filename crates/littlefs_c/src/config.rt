@@ -19,6 +19,8 @@ pub struct Config {
     pub file_max: u32,
     pub attr_max: u32,
     pub inline_max: u32,
+    /// How many compactions a metadata pair stays at its place for. At 0 it stays for good.
+    pub pair_cycles: u32,
 }
 
 impl Config {
@@ -36,7 +38,7 @@ impl Config {
             file_max: self.file_max,
             attr_max: self.attr_max,
             inline_max: self.inline_max,
-            pair_cycles: 0,
+            pair_cycles: self.pair_cycles,
         }
     }
 

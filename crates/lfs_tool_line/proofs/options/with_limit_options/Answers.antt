@@ -8,4 +8,5 @@ unfolding with_limit_options
 returns c =
     let two = c.in_ok-command-2.ensures ∙ ap (λ a. with_rule a (text_rule (codes "file_max") (codes "file-max"))) c.in_ok-command.ensures in
     let three = c.in_ok-command-3.ensures ∙ ap (λ a. with_rule a (text_rule (codes "attr_max") (codes "attr-max"))) two in
-    c.in_ok-command-4.ensures ∙ ap (λ a. with_rule a (text_rule (codes "inline_max") (codes "inline-max"))) three
+    let four = c.in_ok-command-4.ensures ∙ ap (λ a. with_rule a (text_rule (codes "inline_max") (codes "inline-max"))) three in
+    c.in_ok-command-5.ensures ∙ ap (λ a. with_rule a (text_rule (codes "pair_cycles") (codes "pair-cycles"))) four

@@ -19,6 +19,9 @@ each kind, but for long use, whose images are those of N operations each. --jobs
   NoSpace, and changes nothing: only a new file may be there, empty. littlefs says of a new name without room that it is too long;
 - long use: a logger in the root, and mixed operations, with a `block_cycles` of 3, 20, 100 and 500; an image at each unmount, some
   that a loss of power cut after it, and these when littlefs had gone on with them;
+- sessions: long use by sessions with a `pair_cycles` of 3, 7 and 101: a logger in the root, and mixed operations with attributes, on devices of
+  three geometries, with remounts between. There are 20 images of each, copies whose device stopped in a session behind them, copies that
+  littlefs changed, by which it moved pairs, too, and these after a session went on with them;
 - version: images written here that littlefs in its default version then wrote to;
 - later: images by littlefs in its default version, and in version 2.0 and then in that, after any operations, some of which a loss of
   power ended and it went on with;
@@ -28,7 +31,7 @@ each kind, but for long use, whose images are those of N operations each. --jobs
 Each is shown by littlefs, and compared with the plain tree that the operations make, where that is known. A session, the tool and the
 plain reader (image_reader.py) have to show the same. Of the last three kinds they have to where version 2.1 is accepted, as with
 `--also-2.1`. Where it isn't, an image of version 2.1 has to be refused, and one that wasn't written yet is listed as it was. Without
-SCRIPT and TOOL the reader alone is tried, on images by littlefs. GROUP is random, names, limits, caches, full, long, version, later or turns.
+SCRIPT and TOOL the reader alone is tried, on images by littlefs. GROUP is random, names, limits, caches, full, long, sessions, version, later or turns.
 
 Prints a table: how many images and entries there were; images refused here, with the cause; names that littlefs lists and doesn't find,
 or that it doesn't list; names that it lists twice; older trees that were listed here; and other differences. Cut images of a

@@ -1,14 +1,16 @@
 """The images that exchange.py compares: `all_cases(options)` makes them, and yields them a list at a time."""
 
 from dataclasses import dataclass, field
+import itertools
 import os
 import random
 import shutil
 import subprocess
 import zlib
 
-from exchange_operations import (ANY, Limits, a_few, answers_of, beside_a_log, carry_out, every_file, logging, mixed, scripted, some_changes, some_put,
-                                 some_tree, told)
+from exchange_operations import (ANY, Limits, a_few, answers_of, beside_a_log, carried, carry_attributes, carry_out, every_file, logging, mixed, scripted,
+                                 some_changes, some_put, some_tree, told, with_attributes)
+import image_reader
 from littlefs_code import EMPTY, NO_SPACE, NOT_FOUND, TOO_LONG, Driver, shown, summed
 from profiles import ALSO_2_1, DEFAULT, Profile
 
@@ -17,6 +19,9 @@ ROOMY = [(1024, 128, 256), (1024, 16, 256), (2048, 64, 128), (4096, 256, 64), (4
 WORN = (4096, 256, 64)
 CYCLES = [3, 20, 100, 500]
 EVERY = 250  # operations from an unmount to the next
+PAIR_CYCLES = [3, 7, 101]
+MOVED = [(1024, 128, 256), (2048, 64, 128), (4096, 256, 64)]  # devices of sessions whose pairs move
+POINTS = 20  # images of each such session
 GONE_ON = 6
 NO_ROOM = "refused NoSpace 28"  # by a session
 TURNS = 3  # by littlefs and by a session
@@ -48,6 +53,7 @@ class Case:
     geometry: tuple
     tree: dict = None  # what it has to show; None: what littlefs shows
     plain: dict = None  # the same with the files' bytes
+    attributes: dict = field(default_factory=dict)  # of each path that has some
     cycles: int = -1
     cut: bool = False  # a loss of power may have cut an operation
     code: str = None  # littlefs's own code that shows it; None: that which is set to version 2.0
@@ -426,6 +432,126 @@ def gone_on(options, rnd, cut, operate, plain):
     return case
 
 
+# Long use by sessions, whose pairs move as they wear
+
+
+def long_sessions(options):
+    """Images at points of a long use, copies of them whose device stopped in a session behind it, and copies after littlefs changed them. Then
+    the latter after a session went on with them."""
+    for what, first, operate in ("a logger", beside_a_log, logging), ("mixed", a_few, mixed):
+        for cycles in PAIR_CYCLES if options.script else []:
+            profile, kind = Profile(pair_cycles=cycles), f"{what} by sessions, pair_cycles {cycles}"
+            for geometry in MOVED:
+                made = session_history(options, kind, geometry, profile, first, with_attributes(operate))
+                stopped = options.each(lambda case: stopped_session(options, case, profile, with_attributes(operate)), made)
+                changed = options.each(lambda case: changed_in_turn(options, case, operate), made)
+                yield from [made, stopped, changed]
+                yield options.each(lambda case: session_gone_on(options, case, profile, with_attributes(operate)), changed)
+
+
+def coming(rnd, plain, attributes, operate, geometry, operations=()):
+    """These operations, and then others at random. What each changes is changed with it."""
+    more = (operate(rnd, plain, geometry) for _ in itertools.count())
+    for operation in itertools.chain(operations, more):
+        yield operation
+        carry_out(plain, operation)
+        carry_attributes(attributes, operation)
+
+
+def at_point(kind, image, geometry, plain, attributes, **more):
+    """A case with what is there at this point."""
+    attributes = {path: dict(kept) for path, kept in attributes.items()}
+    return Case(kind, image, geometry, summed(plain, attributes), dict(plain), attributes, **more)
+
+
+def session_history(options, kind, geometry, profile, first, operate):
+    """The images that a session leaves, with remounts between, which finds at each that a mount is the same."""
+    rnd, _, image = begin(options, f"{kind} {geometry[0]}", 0, [geometry])
+    plain, attributes, cases = {b"": None}, {}, []
+    script = [profile.line(), "fresh %d %d %d" % geometry]
+    every = max(1, options.operations // POINTS)
+    for number, operation in enumerate(coming(rnd, plain, attributes, operate, geometry, first(rnd))):
+        if number and number % every == 0:
+            cases.append(at_point(kind, image.replace(".img", f"_{number}.img"), geometry, plain, attributes))
+            script += ["compare", f"save {cases[-1].image}"]
+        if number >= options.operations:
+            break
+        script += scripted(operation) + ["remount"] * (rnd.randrange(50) == 0)
+    answers = answers_of(options.script, script)
+    wrong = refusals(answers) + [f"a session and its mount differ: {it}" for it in answers if it.startswith("differs")][:1]
+    cases[-1].wrong += wrong + ["no pair has moved"] * (profile.pair_cycles < 100 and not has_moved_root(cases[-1]))
+    return cases
+
+
+def has_moved_root(case):
+    """Whether the root directory begins behind the blocks 0 and 1."""
+    with open(case.image, "rb") as it:
+        pairs = image_reader.read_thread(image_reader.blocks_of(it.read(), case.geometry[0]))
+    return len(pairs) > 1 and pairs[0].tail[0] and all(slot.kind == image_reader.SUPERBLOCK for slot in pairs[0].slots)
+
+
+def stopped_session(options, case, profile, operate):
+    """A copy of the image after a session whose device stopped in an operation, perhaps in the middle of a move."""
+    image = case.image.replace(".img", "_stopped.img")
+    rnd, plain = random.Random(os.path.basename(image)), dict(case.plain)
+    attributes = {path: dict(kept) for path, kept in case.attributes.items()}
+    stop = f"mount {rnd.choice(['program', 'erase'])} {1 + rnd.randrange(60)} stop{rnd.choice(['', ' torn 1', f' torn {rnd.randrange(2000)}', ' whole'])}"
+    begun = [profile.line(), f"image {case.geometry[0]} {case.geometry[1]} {case.image}", "unmount", stop]
+    operations = list(itertools.islice(coming(rnd, dict(plain), {}, operate, case.geometry), 120))
+    answers = answers_of(options.script, begun + [line for it in operations for line in scripted(it)] + ["unmount", f"save {image}"])[len(begun) :]
+    left = Case(f"{case.kind}, stopped", image, case.geometry, cut=True)
+    for operation in operations:
+        count = len(scripted(operation))
+        if "error Io 5" in answers[:count]:
+            return left_in(options, left, operation, plain, attributes)
+        left.wrong += refusals(answers[:count])
+        answers = answers[count:]
+        carry_out(plain, operation)
+        carry_attributes(attributes, operation)
+    left.plain, left.tree = plain, summed(plain, attributes)
+    return left
+
+
+def left_in(options, left, operation, plain, attributes):
+    """The case of an image that was left in an operation: the tree is that from before it or behind it, or a new file is there, empty."""
+    after, its, begun = dict(plain), {path: dict(kept) for path, kept in attributes.items()}, dict(plain)
+    carry_out(after, operation)
+    carry_attributes(its, operation)
+    begun[operation[1]] = plain.get(operation[1], b"")
+    found = shown(options.code, left.image, left.geometry, ended=True)
+    trees = [summed(plain, attributes), summed(after, its), summed(begun, attributes)]
+    left.tree = next((tree for tree in trees if found and found.tree == tree), None)
+    left.wrong += ["the image has neither of the trees"] * (left.tree is None)
+    return left
+
+
+def changed_in_turn(options, case, operate):
+    """A copy of the image after littlefs went on with the same use, and moved pairs, too."""
+    image = case.image.replace(".img", "_changed.img")
+    rnd, plain = random.Random(os.path.basename(image)), dict(case.plain)
+    attributes = {path: dict(kept) for path, kept in case.attributes.items()}
+    shutil.copy(case.image, image)
+    changed, cycles = Case(f"{case.kind}, changed by littlefs", image, case.geometry), rnd.choice([-1, 3, 100])
+    driver = Driver(options.code, image, case.geometry, cycles=cycles)
+    operations = (operate(rnd, plain, case.geometry) for _ in range(60))
+    tell(driver, changed, carried(attributes, operations), plain)
+    driver.end(image)
+    changed.plain, changed.attributes, changed.tree = plain, attributes, summed(plain, attributes)
+    return changed
+
+
+def session_gone_on(options, case, profile, operate):
+    """A copy of the image after a session went on with it."""
+    image = case.image.replace(".img", "_gone_on.img")
+    rnd, plain = random.Random(os.path.basename(image)), dict(case.plain)
+    attributes = {path: dict(kept) for path, kept in case.attributes.items()}
+    script = [profile.line(), f"image {case.geometry[0]} {case.geometry[1]} {case.image}"]
+    for operation in itertools.islice(coming(rnd, plain, attributes, operate, case.geometry), 200):
+        script += scripted(operation)
+    wrong = refusals(answers_of(options.script, [*script, "compare", f"save {image}"]))
+    return at_point(f"{case.kind.replace(', changed', ', then')}, then by sessions", image, case.geometry, plain, attributes, wrong=wrong)
+
+
 # Version 2.1
 
 
@@ -526,5 +652,5 @@ def followed(case, plain, operations, answers):
     return plain
 
 
-GROUPS = {"random": at_random, "names": names, "limits": limits, "caches": caches, "full": full, "long": long_use, "version": version, "later": later,
+GROUPS = {"random": at_random, "names": names, "limits": limits, "caches": caches, "full": full, "long": long_use, "sessions": long_sessions, "version": version, "later": later,
           "turns": turns}

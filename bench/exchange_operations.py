@@ -2,7 +2,7 @@
 
 A tree has for each path a file's bytes, or None for a directory; the root's path is empty. An operation is a tuple of a word and
 its arguments: put PATH SIZE LETTER (a file has these bytes from then on), append PATH SIZE LETTER, write PATH AT SIZE LETTER,
-truncate PATH SIZE, read PATH, rename OLD NEW, remove PATH, mkdir PATH. Most names are the beginning of another one in their
+truncate PATH SIZE, read PATH, rename OLD NEW, remove PATH, mkdir PATH, and for sessions alone set-attr PATH TYPE BYTES. Most names are the beginning of another one in their
 directory, or begin with one.
 """
 
@@ -40,10 +40,29 @@ def carry_out(tree, operation):
         tree[path] = tree[path][: more[0]].ljust(more[0], b"\0")
     elif what == "mkdir":
         tree[path] = None
-    elif what != "read":
+    elif what not in ("read", "set-attr"):
         moved = {at: tree.pop(at) for at in beneath(tree, path)}
         if what == "rename":
             tree.update({more[0] + at[len(path) :]: node for at, node in moved.items()})
+
+
+def carry_attributes(attributes, operation):
+    """Changes the attributes of each path that has some."""
+    what, path, *more = operation
+    if what == "set-attr":
+        attributes.setdefault(path, {})[more[0]] = more[1]
+    elif what in ("rename", "remove"):
+        moved = {at: attributes.pop(at) for at in beneath(attributes, path)}
+        if what == "rename":
+            attributes.pop(more[0], None)
+            attributes.update({more[0] + at[len(path) :]: kept for at, kept in moved.items()})
+
+
+def carried(attributes, operations):
+    """The operations, with which the attributes are changed."""
+    for operation in operations:
+        yield operation
+        carry_attributes(attributes, operation)
 
 
 def beneath(tree, path):
@@ -67,6 +86,8 @@ def scripted(operation):
         return [f"open {word(path)} 2", f"truncate 0 {more[0]}", "close 0"]
     if what == "read":
         return []
+    if what == "set-attr":
+        return [f"set-attr {word(path)} {more[0]:x} {word(more[1])}"]
     return [f"{what} {word(path)} {word(more[0])}" if more else f"{what} {word(path)}"]
 
 
@@ -215,6 +236,16 @@ def mixed(rnd, tree, geometry):
     if kind == 9:
         return some_put(rnd, path, geometry[0])
     return ("append" if len(tree[path]) < 400 else "put", *short_put(rnd, path)[1:])
+
+
+def with_attributes(operate):
+    """The same, with attributes that are set now and then, of the types that littlefs's side shows."""
+    def operation(rnd, tree, geometry):
+        if len(tree) > 1 and rnd.random() < 0.1:
+            return "set-attr", rnd.choice([path for path in tree if path]), rnd.randrange(8), rnd.randbytes(rnd.randrange(1, 20))
+        return operate(rnd, tree, geometry)
+
+    return operation
 
 
 def blocks_of(tree, block_size):

@@ -66,9 +66,10 @@ def shown(code, image, geometry, ended=False):
     return Shown(tree, missing, {path for path, count in times.items() if count > 1})
 
 
-def summed(tree):
+def summed(tree, attributes={}):
     """A plain tree as littlefs would show it."""
-    return {path: (None if bytes_ is None else (len(bytes_), zlib.crc32(bytes_) ^ 0xFFFFFFFF), {}) for path, bytes_ in tree.items()}
+    sum_of = lambda bytes_: None if bytes_ is None else (len(bytes_), zlib.crc32(bytes_) ^ 0xFFFFFFFF)
+    return {path: (sum_of(bytes_), attributes.get(path, {})) for path, bytes_ in tree.items()}
 
 
 class Driver:

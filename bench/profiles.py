@@ -13,6 +13,7 @@ class Profile:
     file_max: int = LIMITS["file_max"]
     attr_max: int = LIMITS["attr_max"]
     inline_max: int = LIMITS["inline_max"]
+    pair_cycles: int = 0  # it is told to sessions alone
 
     def limits(self):
         """What a superblock says of them."""
@@ -38,7 +39,8 @@ class Profile:
     def line(self):
         """As a line of a script, for the devices of the lines behind it."""
         later = ["also-2.1"] * (TWO_ONE in self.versions)
-        return " ".join(["profile", *later, *(word for option in self.given() for word in option)])
+        cycles = ["pair-cycles", str(self.pair_cycles)] * (self.pair_cycles > 0)
+        return " ".join(["profile", *later, *(word for option in self.given() for word in option), *cycles])
 
 
 DEFAULT = Profile()

@@ -15,6 +15,10 @@ the mount on:
 - each allocation is refused: all answers are right, or one is NoMemory and the later ones Failed, and a remount finds one of
   these trees.
 
+In some stories metadata pairs move, as the profile's `pair_cycles` has it: the root's, first ones of directories, and those behind
+these. Which moved is read from the images behind each operation (image_reader.py). Whether the used blocks are right a session says
+that is compared with a mount.
+
 Last come N stories made at random (contents.py), each stopped at one call, and its recovery at one.
 
 Prints for each story how many there were of each. Fails where anything else came; the script of it is left in FOLDER.
@@ -30,6 +34,7 @@ import sys
 import tempfile
 
 from contents import made
+import image_reader
 from fail_alloc import Refusing
 from session_model import Model, Node, looks, seen
 
@@ -59,10 +64,13 @@ OTHER_ENTRIES = ["mkdir /x", "open /y 102", "write 0 *2000:y", "close 0"]
 
 
 class Story:
-    """What a device or an image begins as, operations with their answers, and the tree before each of them and behind the last."""
+    """What a device or an image begins as, operations with their answers, and the tree before each of them and behind the last.
 
-    def __init__(self, name, begin, ops, tree=None, extra=0, counted=True):
-        self.name, self.begin, self.ops, self.extra, self.counted = name, begin, ops, extra, counted
+    With a number of cycles pairs move, and `moves` says which: "root", "first" of a directory, "later" ones behind these."""
+
+    def __init__(self, name, begin, ops, tree=None, extra=0, counted=True, cycles=0, moves=()):
+        self.name, self.begin, self.ops, self.extra, self.counted = name, begin, ops, extra, counted and not cycles
+        self.opening, self.moves = [f"profile pair-cycles {cycles}"] * (cycles > 0), moves
         words = begin.split(" ")
         self.sizes = (int(words[1]), int(words[2]), int(words[3]) if words[0] == "fresh" else 16)
         model = Model(*self.sizes, tree, extra)
@@ -73,7 +81,7 @@ class Story:
             self.answers.append(model.answer(op))
             self.trees.append(model.tree)
         self.looks = looks(self.trees)
-        self.behind = self.looks + ["recover"] + self.looks + ["gstate", "used-count"]
+        self.behind = self.looks + ["recover"] + self.looks + ["gstate", "compare" if cycles else "used-count"]
 
     def trees_at(self, op):
         """Where an operation didn't end: its number, -1 for a mount, None where all ended."""
@@ -85,8 +93,35 @@ class Story:
 
     def answers_of(self, tree, answers):
         shown = seen(tree, self.looks)
-        used = f"count {Model(*self.sizes, tree, self.extra).used()}" if self.counted else (answers or [""])[-1]
+        used = f"count {Model(*self.sizes, tree, self.extra).used()}" if self.counted else "same" if self.opening else (answers or [""])[-1]
         return shown + ["done"] + shown + ["gstate 0 none", used]
+
+
+def written_anew(path, times):
+    return [line for time in range(times) for line in (f"open {path} 502", f"write 0 *{40 + time}:{'abcdefgh'[time % 8]}", "close 0")]
+
+
+# each of these entries is changed so often that the pair of its directory wears
+IN_ROOT = written_anew("/a", 16) + ["set-attr /a 41 x", "mkdir /d", "rename /a /b", "remove /d"] + written_anew("/b", 8)
+IN_DIRECTORY = ["mkdir /d"] + written_anew("/d/a", 16) + ["set-attr /d/a 41 x", "rename /d/a /d/b"] + written_anew("/d/b", 8) + ["rename /d/b /c", "remove /d"]
+IN_BOTH = ["mkdir /d", "mkdir /d/e"] + [line for time in range(8) for path in ("/a", "/d/a", "/d/e/a") for line in written_anew(path, 1 + time % 2)]
+IN_BOTH += ["rename /d/a /d/e/b", "rename /d/e /e", "remove /a", "remove /d", "set-attr /e 42 yy", "list /e"]
+AGAIN_AND_AGAIN = ["mkdir /d"] + [line for time in range(7) for line in written_anew("/d/a", 2) + ["remove /d/a"]] + ["remove /d"]
+SPLIT_AND_MOVED = SPLIT[: len(SPLIT) // 3 * 2] + written_anew("/a", 6) + SPLIT[len(SPLIT) // 3 * 2 :] + written_anew("/a", 6)
+
+
+def moving_stories():
+    for erased in "", " keep", " fill 00":
+        yield Story("pairs of the root that move", "fresh 1024 128 64" + erased, IN_ROOT, cycles=2, moves=("root", "later"))
+    for cycles in 2, 3:
+        yield Story(f"pairs of a directory that move, {cycles} cycles", "fresh 1024 128 64", IN_DIRECTORY, cycles=cycles)
+        yield Story(f"pairs of all that move, {cycles} cycles", "fresh 1024 128 64", IN_BOTH, cycles=cycles, moves=("root", "first", "later"))
+    yield Story("pairs that move after each operation", "fresh 1024 128 64", ENTRIES, cycles=1, moves=("root",))
+    yield Story("a directory's pair that moves and empties", "fresh 1024 128 64", AGAIN_AND_AGAIN, cycles=2)
+    yield Story("pairs that move, are split and dropped", "fresh 1024 128 64", SPLIT_AND_MOVED, cycles=2, moves=("root", "later"))
+    yield Story("pairs that move beside an open file", "fresh 1024 128 64", BESIDE, cycles=1, moves=("root",))
+    yield Story("pairs that move where a move was cut short", "image 4096 256 moving.img", ["mkdir /e"] + OTHER_ENTRIES, MOVING, cycles=1, moves=("root",))
+    yield Story("pairs that move where few blocks are free", "fresh 1024 128 8", written_anew("/a", 20), cycles=2)
 
 
 def stories():
@@ -109,6 +144,22 @@ def stories():
     yield Story("entries behind two superblocks", "image 4096 256 chain.img", ["mkdir /d"] + OTHER_ENTRIES, {b"": Node(), b"/a": HI}, extra=1)
 
 
+def moves_between(before, after):
+    """Which pairs an operation moved, by the pairs of the image before it and behind it: the root's where a fresh pair comes behind one that
+    keeps the superblock alone, the first one of a directory where a fresh pair comes behind one that keeps nothing, and a later one where
+    a pair names a fresh one in place of one that is gone."""
+    were, are = {pair.address: pair for pair in before}, {pair.address: pair for pair in after}
+    found = set()
+    for old, new in ((were[at], are[at]) for at in were.keys() & are.keys()):
+        if not new.tail[0] or new.tail[1] in were:
+            continue
+        if old.tail[0] and old.tail[1] not in are:
+            found.add("later")
+        elif old.slots and all(slot.kind == image_reader.SUPERBLOCK for slot in new.slots):
+            found.add("root" if new.slots else "first")
+    return found
+
+
 class Wrong(Exception):
     pass
 
@@ -118,11 +169,11 @@ def hold(fact, what):
         raise Wrong(what)
 
 
-def played(program, data, cases):
-    """The answers of each script, all played by one run."""
-    text = "\n".join(line for case in cases for line in case) + "\n"
+def played(program, data, cases, opening=()):
+    """The answers of each script, all played by one run with these lines before them."""
+    text = "\n".join([*opening, *(line for case in cases for line in case)]) + "\n"
     run = subprocess.run([program], cwd=data, input=text.encode(), capture_output=True, timeout=600)
-    answers = run.stdout.decode().split("\n")[:-1]
+    answers = run.stdout.decode().split("\n")[len(opening) : -1]
     if run.returncode or len(answers) != sum(map(len, cases)):
         sys.exit(f"a script isn't carried out: status {run.returncode}, {run.stderr!r}")
     at = 0
@@ -201,12 +252,12 @@ def sweep(options, story, cases, judge, batch=40):
         some = list(itertools.islice(cases, batch))
         if not some:
             return count, wrong
-        for case, answers in zip(some, played(options.program, options.data, some)):
+        for case, answers in zip(some, played(options.program, options.data, some, story.opening)):
             try:
                 if not judge(story, answers):
                     return count, wrong
             except Wrong as told:
-                kept(options, case, told)
+                kept(options, story.opening + case, told)
                 wrong += 1
             count += 1
 
@@ -222,6 +273,23 @@ def sweeps(options, story):
             count, more = sweep(options, story, (stopping_twice(story, nth, extent, second) for second in turns), judge_twice, 12)
             twice, wrong = twice + count, wrong + more
     return collections.Counter({"failed calls": calls, "stops": stops, "stops in a recovery": twice, "wrong": wrong})
+
+
+def has_moved(options, story, room):
+    """Whether the pairs move that have to, where nothing fails."""
+    paths = [os.path.join(room, f"{at}.img") for at in range(1 + len(story.ops))]
+    case = [story.begin, f"save {paths[0]}"] + [line for op, path in zip(story.ops, paths[1:]) for line in (op, f"save {path}")]
+    answers, threads, found = next(played(options.program, options.data, [case], story.opening)), [], set()
+    for path in paths:
+        with open(path, "rb") as it:
+            threads.append(image_reader.read_thread(image_reader.blocks_of(it.read(), story.sizes[0])))
+        os.unlink(path)
+    for before, after in zip(threads, threads[1:]):
+        found |= moves_between(before, after)
+    is_right = found == set(story.moves) and answers[2::2] == story.answers
+    if not is_right:
+        kept(options, story.opening + case, f"these pairs moved: {', '.join(sorted(found)) or 'none'}; or another answer")
+    return is_right
 
 
 # Stories at random
@@ -259,7 +327,7 @@ def without_memory(story):
 
 def judge_memory(story, run):
     """Whether the answers are right up to one that there is no memory, if there is one, and nothing is lost."""
-    case, answers = without_memory(story), run.stdout.decode().split("\n")[:-1]
+    case, answers = without_memory(story), run.stdout.decode().split("\n")[len(story.opening) : -1]
     count = 2 + len(story.ops)
     wanted = ["done", "done"] + story.answers + ["done"] + story.answers_of(story.trees[-1], answers)
     if run.returncode:
@@ -285,7 +353,7 @@ def judge_memory(story, run):
 def refusals(options, story, refusing):
     """How many allocations were refused in turn, and how many of these runs were wrong."""
     case, wrong = without_memory(story), 0
-    text = ("\n".join(case) + "\n").encode()
+    text = ("\n".join(story.opening + case) + "\n").encode()
     for nth in range(1, 1000000):
         run, is_refused = refusing.run([options.program], nth, cwd=options.data, input=text)
         if not is_refused:
@@ -293,7 +361,7 @@ def refusals(options, story, refusing):
         try:
             judge_memory(story, run)
         except Wrong as what:
-            kept(options, [f"# its allocation {nth} refused"] + case, what)
+            kept(options, [f"# its allocation {nth} refused"] + story.opening + case, what)
             wrong += 1
 
 
@@ -309,10 +377,11 @@ def main():
     wrong = 0
     with tempfile.TemporaryDirectory() as room:
         refusing = Refusing(room)
-        for story in stories():
+        for story in itertools.chain(stories(), moving_stories()):
             if options.only not in story.name:
                 continue
             counts = sweeps(options, story)
+            counts["wrong"] += not has_moved(options, story, room)
             counts["refused allocations"], more = refusals(options, story, refusing)
             counts["wrong"] += more
             wrong += counts["wrong"]

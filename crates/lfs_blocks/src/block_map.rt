@@ -79,6 +79,14 @@ impl BlockMap {
         self.state(block).is_in_flight()
     }
 
+    /// Returns whether a block is free.
+    pub fn is_free(&self, block: u32) -> bool
+        requires { block < length self.now }
+        ensures { IsTrue result ↔ IsFree self.now block }
+    {
+        self.state(block) == BlockUse::Free
+    }
+
     /// Returns how many blocks are used.
     pub fn used_count(&self) -> u32
         ensures { result ≡ used_count self.now }
@@ -141,6 +149,15 @@ impl BlockMap {
         let block = self.next_free(number)?;
         self.next = block;
         Some(block)
+    }
+
+    /// Takes a given block, which is free. It is in flight then. The search of
+    /// [`take`](BlockMap::take) goes on where it was.
+    pub fn take_at(&mut self, block: u32)
+        requires { IsFree self.old block }
+        ensures { self.new ≡ slice_set self.old block InFlight }
+    {
+        self.set_block_state(block, BlockUse::InFlight);
     }
 
     /// Makes a block free, whether it was used or in flight.

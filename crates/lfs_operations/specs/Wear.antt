@@ -1,19 +1,23 @@
 -- Worn pairs that move, in an image that may be written.
-use Rattle.std.specs.Prelude.{ℕ, ◌≡◌, ◌≤◌, ◌<◌, ◌+◌, ◌-◌, ◌*◌, ◌%◌, ◌^◌, true, false, option_map, length, All}
-use Rattle.lfs_model.specs.format.Disk.{Disk}
-use Rattle.lfs_model.specs.format.Thread.{has_slots, is_hard_tail, count_before_root}
+use Rattle.std.specs.Prelude.{ℕ, ◌≡◌, ◌≢◌, ◌≤◌, ◌<◌, ◌+◌, ◌-◌, ◌*◌, ◌%◌, ◌^◌, ◌⊎◌, true, false, List, ◌∷◌, ◌++◌, Some, option_map, length, All, Any, Contains}
+use Rattle.std.specs.List.{AllByRecursion}
+use Rattle.lfs_model.specs.format.Disk.{Disk, block_count}
+use Rattle.lfs_model.specs.format.Slots.{array_address, same_pair}
+use Rattle.lfs_model.specs.format.Thread.{Pair, has_slots, is_hard_tail, count_before_root, tail_target}
 use Rattle.lfs_model.specs.layers.BlockSets.{BlockStates, used_count}
 use Rattle.lfs_model.specs.layers.Steps.{KeepsStruct, SameFileBlocks}
-use Rattle.lfs_model.specs.session.Moved.{IsPairMoved, IsPairUnloaded, IsRootUnloaded, is_worn}
+use Rattle.lfs_model.specs.session.Moved.{IsMoved, IsPairMoved, IsPairUnloaded, IsRootUnloaded, is_worn}
 use Rattle.lfs_model.specs.session.SlotEdits.{slot_of}
 use Rattle.lfs_model.specs.tree.Shown.{all_unmoved_slots, disk_tree, used_blocks}
 use Rattle.lfs_model.specs.tree.Tree.{Path}
-use Rattle.lfs_thread.specs.Kept.{KeptThread}
+use Rattle.lfs_pair.specs.Split.{KeepsOutsideBoth}
+use Rattle.lfs_thread.specs.Kept.{KeptThread, ThreadView}
 use Rattle.lfs_thread.specs.Moves.{pair_revision}
 use Rattle.lfs_thread.specs.ThreadSteps.{thread_pair}
+use Rattle.lfs_operations.specs.Changing.{AreTwoFree}
 use Rattle.lfs_operations.specs.Dropping.{SameInFlight}
-use Rattle.lfs_operations.specs.Making.{HasFreeBlocks}
 use Rattle.lfs_operations.specs.Ready.{IsReadyImage, KeepsRootNumber}
+use Rattle.lfs_operations.specs.declared.wear.MovePlan.{MovePlan}
 
 -- The image may be changed again, and shows the same tree. Each file has the struct that it had, and the blocks of its list are
 -- unchanged. The same blocks are in flight.
@@ -24,37 +28,25 @@ pub record ShowsSameFiles (old new : KeptThread) : Type 0 where
   pub lists : All (λ s. SameFileBlocks old.disk new.disk s.struct) (all_unmoved_slots old.pairs)
   pub flying : SameInFlight old.map new.map
 
--- ---- which pair is worn
-
--- A worn pair of at least that number, and the first such one.
-pub record IsFirstWorn (t : KeptThread) (from index : ℕ) : Type 0 where
-  pub above : from ≤ index
-  pub below : index < length t.pairs
-  pub worn : is_worn t.disk (thread_pair t index) ≡ true
-  pub before : (i : ℕ) → from ≤ i → i < index → is_worn t.disk (thread_pair t i) ≡ false
-
--- no pair of at least that number is worn
-abbrev pub HasNoWorn : KeptThread → ℕ → Type 0
-HasNoWorn t from = (i : ℕ) → from ≤ i → i < length t.pairs → is_worn t.disk (thread_pair t i) ≡ false
+-- ---- a pair moves whole
 
 -- the pair at the new address goes on with the next revision
 abbrev pub RevisionGoesOn : Disk → ℕ × ℕ → Disk → ℕ × ℕ → Type 0
 RevisionGoesOn old from new to = pair_revision new to ≡ option_map (λ r. (r + 1) % 2 ^ 32) (pair_revision old from)
 
--- ---- a pair moves whole
-
--- The image may be changed. The pair is worn, and follows a hard tail. Two blocks are free.
-pub record CanMovePair (t : KeptThread) (index : ℕ) : Type 0 where
+-- The image may be changed. The pair is worn, and follows a hard tail. The two blocks are free.
+pub record CanMovePair (t : KeptThread) (index : ℕ) (fresh : ℕ × ℕ) : Type 0 where
   pub ready : IsReadyImage t
   pub above : 0 < index
   pub below : index < length t.pairs
   pub joined : is_hard_tail (thread_pair t (index - 1)).content.tail ≡ true
   pub worn : is_worn t.disk (thread_pair t index) ≡ true
-  pub room : HasFreeBlocks 2 t.map
+  pub free : AreTwoFree t.map fresh
 
--- The pair of that number is at two other blocks. As many blocks are used as before.
-pub record IsMovedAt (old : KeptThread) (index : ℕ) (new : KeptThread) : Type 0 where
+-- The pair of that number is at these two blocks. As many blocks are used as before.
+pub record IsMovedAt (old : KeptThread) (index : ℕ) (fresh : ℕ × ℕ) (new : KeptThread) : Type 0 where
   pub moved : IsPairMoved old.disk old.pairs new.pairs
+  pub to : moved.to ≡ fresh
   pub number : length moved.front + 1 ≡ index
   pub files : ShowsSameFiles old new
   pub revision : RevisionGoesOn old.disk moved.worn.at new.disk moved.to
@@ -63,41 +55,93 @@ pub record IsMovedAt (old : KeptThread) (index : ℕ) (new : KeptThread) : Type 
 
 -- ---- a pair gives its slots away
 
--- Two blocks are free. When they are used, an eighth of the blocks isn't.
-pub record HasRoomToUnload (sets : BlockStates) : Type 0 where
-  pub room : HasFreeBlocks 2 sets
-  pub eighth : 8 * (used_count sets + 2) ≤ 7 * length sets
+-- Two more blocks may be used. When they are, an eighth of the blocks isn't.
+pub record HasRoomToUnload (t : KeptThread) (limit : ℕ) : Type 0 where
+  pub within : used_count t.map + 2 ≤ limit
+  pub eighth : 8 * (used_count t.map + 2) ≤ 7 * block_count t.disk
 
--- The image may be changed. The pair is worn, has slots, and is the first of a directory behind the root.
-pub record CanUnloadPair (t : KeptThread) (index : ℕ) : Type 0 where
-  pub ready : IsReadyImage t
-  pub below : index < length t.pairs
-  pub root : count_before_root t.pairs < index
+-- the pair has slots, and is the first of a directory behind the root
+pub record BeginsBehindRoot (t : KeptThread) (root index : ℕ) : Type 0 where
+  pub root : root < index
   pub first : is_hard_tail (thread_pair t (index - 1)).content.tail ≡ false
   pub some : has_slots (thread_pair t index).content.slots ≡ true
-  pub worn : is_worn t.disk (thread_pair t index) ≡ true
-  pub room : HasRoomToUnload t.map
 
--- The slots of the pair of that number are in a pair behind it. Two more blocks are used.
-pub record IsUnloadedAt (old : KeptThread) (index : ℕ) (new : KeptThread) : Type 0 where
+-- The image may be changed. The pair is worn, and begins a directory behind the root. The two blocks are free.
+pub record CanUnloadPair (t : KeptThread) (index : ℕ) (fresh : ℕ × ℕ) : Type 0 where
+  pub ready : IsReadyImage t
+  pub below : index < length t.pairs
+  pub begins : BeginsBehindRoot t (count_before_root t.pairs) index
+  pub worn : is_worn t.disk (thread_pair t index) ≡ true
+  pub eighth : 8 * (used_count t.map + 2) ≤ 7 * block_count t.disk
+  pub free : AreTwoFree t.map fresh
+
+-- The slots of the pair of that number are in a pair behind it, at these two blocks. Two more blocks are used.
+pub record IsUnloadedAt (old : KeptThread) (index : ℕ) (fresh : ℕ × ℕ) (new : KeptThread) : Type 0 where
   pub unloaded : IsPairUnloaded old.disk old.pairs new.disk new.pairs
+  pub to : unloaded.to ≡ fresh
   pub number : length unloaded.front + 1 ≡ index
   pub files : ShowsSameFiles old new
   pub revision : RevisionGoesOn old.disk unloaded.worn.at new.disk unloaded.to
   pub two_more : length (used_blocks new.disk new.pairs) ≡ length (used_blocks old.disk old.pairs) + 2
   pub root : KeepsRootNumber old new
 
--- The image may be changed. The root directory begins with the thread's first pair, which is worn.
-pub record CanExpandRoot (t : KeptThread) : Type 0 where
+-- The image may be changed. The root directory begins with the thread's first pair, which is worn. The two blocks are free.
+pub record CanExpandRoot (t : KeptThread) (fresh : ℕ × ℕ) : Type 0 where
   pub ready : IsReadyImage t
   pub root : count_before_root t.pairs ≡ 0
   pub worn : is_worn t.disk (thread_pair t 0) ≡ true
-  pub room : HasRoomToUnload t.map
+  pub eighth : 8 * (used_count t.map + 2) ≤ 7 * block_count t.disk
+  pub free : AreTwoFree t.map fresh
 
--- The root directory begins with the second pair. Two more blocks are used.
-pub record IsRootExpanded (old new : KeptThread) : Type 0 where
+-- The root directory begins with the second pair, at these two blocks. Two more blocks are used.
+pub record IsRootExpanded (old : KeptThread) (fresh : ℕ × ℕ) (new : KeptThread) : Type 0 where
   pub unloaded : IsRootUnloaded old.disk old.pairs new.disk new.pairs
+  pub to : unloaded.to ≡ fresh
   pub files : ShowsSameFiles old new
   pub revision : RevisionGoesOn old.disk unloaded.worn.at new.disk unloaded.to
   pub two_more : length (used_blocks new.disk new.pairs) ≡ length (used_blocks old.disk old.pairs) + 2
   pub root : count_before_root new.pairs ≡ 1
+
+-- ---- at most one pair moves
+
+-- Before an operation that takes at most so many blocks: the two blocks are free, and a pair has the other two.
+pub record IsPlanFor (t : KeptThread) (room : ℕ) (plan : MovePlan) : Type 0 where
+  pub free : AreTwoFree t.map (array_address plan.fresh)
+  pub there : Any (λ p. p.at ≡ array_address plan.at) t.pairs
+  pub limit : plan.limit ≤ used_count t.map + room
+
+-- the map has the plan's two fresh blocks
+pub record HasPlanBlocks (sets : BlockStates) (plan : MovePlan) : Type 0 where
+  pub apart : (array_address plan.fresh).0 ≢ (array_address plan.fresh).1
+  pub first : (array_address plan.fresh).0 < length sets
+  pub second : (array_address plan.fresh).1 < length sets
+
+-- the image may be changed by the plan
+pub record CanRelocate (t : ThreadView) (root : ℕ) (plan : MovePlan) : Type 0 where
+  pub works : t.failed ≡ false
+  pub ready : IsReadyImage t.kept
+  pub root_is : root ≡ count_before_root t.kept.pairs
+  pub blocks : HasPlanBlocks t.kept.map plan
+
+-- The pair of the plan's blocks was written, and names a pair in the plan's fresh blocks. No other block changed, and all other
+-- pairs are as they were.
+pub record MovesByPlan (old : KeptThread) (plan : MovePlan) (new : KeptThread) : Type 0 where
+  pub front : List Pair
+  pub written : Pair
+  pub fresh : Pair
+  pub back : List Pair
+  pub is : new.pairs ≡ front ++ written ∷ fresh ∷ back
+  pub stay : AllByRecursion (Contains old.pairs) front
+  pub stay_behind : AllByRecursion (Contains old.pairs) back
+  pub next : tail_target written.content.tail ≡ Some fresh.at
+  pub at : same_pair written.at (array_address plan.at) ≡ true
+  pub to : fresh.at ≡ array_address plan.fresh
+  pub others : KeepsOutsideBoth written.at fresh.at old.disk.blocks new.disk.blocks
+
+-- Nothing changed, or a worn pair moved by the plan. The image shows the same files. No more blocks are used than before, or than
+-- the plan's limit. The root directory begins with that pair.
+pub record HasRelocated (old : KeptThread) (plan : MovePlan) (new : KeptThread) (root : ℕ) : Type 0 where
+  pub moved : (new ≡ old) ⊎ (IsMoved old.disk old.pairs new.disk new.pairs × MovesByPlan old plan new)
+  pub files : ShowsSameFiles old new
+  pub few : (length (used_blocks new.disk new.pairs) ≤ length (used_blocks old.disk old.pairs)) ⊎ (length (used_blocks new.disk new.pairs) ≤ plan.limit)
+  pub root_is : root ≡ count_before_root new.pairs

@@ -33,6 +33,15 @@ pub(crate) fn take_two_blocks<D: BlockDevice>(thread: &mut Thread<D>) -> Option<
     Some([first, second])
 }
 
+// Takes two given free blocks, which are in flight then.
+pub(crate) fn take_these<D: BlockDevice>(thread: &mut Thread<D>, blocks: [u32; 2])
+    requires { AreTwoFree thread.old.kept.map (array_address blocks) }
+    ensures { thread.new ≡ record thread.old { kept = record thread.old.kept { map = map_taking_two thread.old.kept.map (array_address blocks) } } }
+{
+    thread.take_at(blocks[0]);
+    thread.take_at(blocks[1]);
+}
+
 // Splits a pair into itself and a fresh pair in two free blocks. `NoSpace` where fewer than two are
 // free.
 fn split_in_two<D: BlockDevice>(

@@ -28,4 +28,4 @@ pub use removals::remove_file;
 pub use renames::{rename, rename_onto_file};
 pub use replacements::rename_onto_directory;
 pub use structs::set_struct;
-pub use wear::{expand_root, move_pair, unload_pair, worn_pair};
+pub use wear::{MovePlan, plan_move, relocate};

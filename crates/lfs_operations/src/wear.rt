@@ -1,18 +1,31 @@
 // Worn pairs that move to other blocks.
 
-ghost use Rattle.std.specs.Prelude.{◌≡◌, ◌<◌, ◌-◌, false, length, OnOk, IfSome, IfNone, Err};
-ghost use Rattle.lfs_model.specs.crash.PowerLoss.{HasEither, SurvivesLossSince};
+ghost use Rattle.std.specs.Prelude.{◌≡◌, ◌<◌, ◌-◌, Any, false, length, IfOk, IfSome, OnOk};
+ghost use Rattle.std.specs.Bool.{OnTrue};
+ghost use Rattle.lfs_model.specs.crash.PowerLoss.{SurvivesLossSince};
+ghost use Rattle.lfs_model.specs.format.Slots.{array_address};
 ghost use Rattle.lfs_model.specs.session.Moved.{is_worn};
 ghost use Rattle.lfs_model.specs.tree.Shown.{disk_tree};
 ghost use Rattle.lfs_thread.specs.ThreadSteps.{thread_pair};
-ghost use Rattle.lfs_operations.specs.Changing.{WritesPairTwo};
+ghost use Rattle.lfs_operations.specs.Changing.{AreTwoFree, WritesPairTwo, WritesThreadTwo};
 ghost use Rattle.lfs_operations.specs.Making.{ReportsMaking};
-ghost use Rattle.lfs_operations.specs.Wear.{CanMovePair, CanUnloadPair, CanExpandRoot, HasNoWorn, IsFirstWorn, IsMovedAt, IsUnloadedAt, IsRootExpanded};
+ghost use Rattle.lfs_operations.specs.Wear.{CanMovePair, CanUnloadPair, CanExpandRoot, CanRelocate, BeginsBehindRoot, HasRelocated, HasRoomToUnload, IsMovedAt, IsPlanFor, IsUnloadedAt, IsRootExpanded};
 
-use crate::changes::take_two_blocks;
+use crate::changes::{take_these, take_two_blocks};
 use lfs_device::{BlockDevice, Error};
-use lfs_thread::Thread;
+use lfs_thread::{Thread, number_at_address};
 use std::alloc::Global;
+
+/// What is noted before an operation, so that a worn pair may move after it.
+#[derive(Clone, Copy, Drop)]
+pub struct MovePlan {
+    /// Two free blocks, where the pair goes.
+    pub fresh: [u32; 2],
+    /// The blocks of the pair that the move commits to.
+    pub at: [u32; 2],
+    /// How many blocks may be used afterwards, where the move takes more.
+    pub limit: u32,
+}
 
 // Returns whether the revision of the pair's log is a multiple of the profile's `pair_cycles`.
 // Where these are 0, no pair is worn.
@@ -25,97 +38,203 @@ fn is_worn_pair<D: BlockDevice>(thread: &Thread<D>, index: usize) -> bool
     cycles != 0 && thread.revision(index) % cycles == 0
 }
 
-/// Returns the number of the first worn pair from the pair of number `first` on. A pair is worn
-/// where the revision of its log is a multiple of the profile's `pair_cycles` (`block_cycles` of
-/// littlefs). Returns None where there is none, as where `pair_cycles` is 0. The device isn't called.
-pub fn worn_pair<D: BlockDevice>(thread: &Thread<D>, first: usize) -> Option<usize>
+// Returns whether the pair is worn, or is so after one more erase.
+fn wears_soon<D: BlockDevice>(thread: &Thread<D>, index: usize) -> bool
     requires works { thread.now.failed ≡ false }
-    ensures worn { IfSome result (IsFirstWorn thread.now.kept first) }
-    ensures none { IfNone result (HasNoWorn thread.now.kept first) }
+    requires below { index < length thread.now.kept.pairs }
 {
-    for index in first..thread.len() {
-        if is_worn_pair(thread, index) {
-            return Some(index);
+    let cycles = thread.geometry().profile.pair_cycles;
+    cycles != 0 && (thread.revision(index) as u64 + 1) % cycles as u64 <= 1
+}
+
+// Returns whether two more blocks may be used, so that an eighth of the blocks still isn't.
+fn has_unload_room<D: BlockDevice>(thread: &Thread<D>, limit: u32) -> bool
+    ensures { OnTrue result (HasRoomToUnload thread.now.kept limit) }
+{
+    let used = thread.used_count() as u64 + 2;
+    used <= limit as u64 && 8 * used <= 7 * thread.geometry().block_count as u64
+}
+
+// Returns whether the pair has slots, and begins a directory behind the root.
+fn begins_behind_root<D: BlockDevice>(thread: &Thread<D>, root: usize, index: usize) -> bool
+    requires works { thread.now.failed ≡ false }
+    requires below { index < length thread.now.kept.pairs }
+    ensures { OnTrue result (BeginsBehindRoot thread.now.kept root index) }
+{
+    index > root && thread.next(index - 1).is_none() && thread.slot_count(index) > 0
+}
+
+// Returns the number of the pair that would be committed to, so that the pair of a number moves.
+// Returns None where that can't move.
+fn committed_by_move<D: BlockDevice>(
+    thread: &Thread<D>,
+    root: usize,
+    index: usize,
+) -> Option<usize>
+    requires works { thread.now.failed ≡ false }
+    requires below { index < length thread.now.kept.pairs }
+    ensures { IfSome result (λ committed. committed < length thread.now.kept.pairs) }
+{
+    if index > 0 && thread.next(index - 1).is_some() {
+        return Some(index - 1);
+    }
+    let unloads = index == 0 && root == 0 || begins_behind_root(thread, root, index);
+    if unloads && has_unload_room(thread, u32::MAX) {
+        Some(index)
+    } else {
+        None
+    }
+}
+
+// Returns the blocks of the pair that the move of the first pair commits to that wears soon.
+fn find_wearing<D: BlockDevice>(thread: &Thread<D>, root: usize) -> Option<[u32; 2]>
+    requires { thread.now.failed ≡ false }
+    ensures { IfSome result (λ at. Any (λ p. p.at ≡ array_address at) thread.now.kept.pairs) }
+{
+    for index in 0..thread.len() {
+        if wears_soon(thread, index) {
+            if let Some(committed) = committed_by_move(thread, root, index) {
+                return Some(thread.blocks_of_pair(committed));
+            }
         }
     }
     None
 }
 
-/// Moves a worn pair, whole, to two free blocks (DESIGN.md of littlefs, "Wear leveling"). The pair
-/// follows a hard tail, which then names its new place. So it isn't the first pair of its
-/// directory, or it is the root's behind the superblock's pairs. Its old blocks are free afterwards,
-/// and its revision goes on.
+/// Plans the move of a worn pair, before an operation that takes at most `room` blocks. Returns None
+/// where no pair is worn, or is so after one more erase. The device isn't called.
 ///
-/// Errors: `Io` where a call of the device failed, and `NoMemory` where memory for a pair's block
-/// isn't granted. The thread has failed then, and the image shows the same tree.
-pub fn move_pair<D: BlockDevice>(
+/// A pair is worn where the revision of its log is a multiple of the profile's `pair_cycles`
+/// (`block_cycles` of littlefs). Where these are 0, none is.
+pub fn plan_move<D: BlockDevice>(
+    thread: &mut Thread<D>,
+    root: usize,
+    room: u32,
+) -> Option<MovePlan>
+    requires works { thread.old.failed ≡ false }
+    ensures plan { IfSome result (IsPlanFor thread.old.kept room) }
+    ensures same { thread.new ≡ thread.old }
+{
+    let Some(at) = find_wearing(thread, root) else {
+        return None;
+    };
+    let Some(fresh) = take_two_blocks(thread) else {
+        return None;
+    };
+    thread.release(fresh[0]);
+    thread.release(fresh[1]);
+    let limit = thread.used_count().saturating_add(room);
+    Some(MovePlan { fresh, at, limit })
+}
+
+// Moves a worn pair, whole, to two free blocks. The pair follows a hard tail, which then names its
+// new place. So it isn't the first pair of its directory, or it is the root's behind the
+// superblock's pairs. Its old blocks are free afterwards, and its revision goes on.
+fn move_pair<D: BlockDevice>(
     alloc: Global,
     thread: &mut Thread<D>,
     index: usize,
+    fresh: [u32; 2],
 ) -> Result<(), Error>
     requires works { thread.old.failed ≡ false }
-    requires can { CanMovePair thread.old.kept index }
-    ensures moved { OnOk result (IsMovedAt thread.old.kept index thread.new.kept) }
+    requires can { CanMovePair thread.old.kept index (array_address fresh) }
+    ensures moved { OnOk result (IsMovedAt thread.old.kept index (array_address fresh) thread.new.kept) }
     ensures errors { ReportsMaking thread.old thread.new result }
     ensures device { WritesPairTwo thread.old.kept (index - 1) thread.new.kept }
-    ensures stands { result ≡ Err Error.NoMemory → HasEither thread.new.kept.disk
-        (disk_tree thread.old.kept.disk thread.old.kept.pairs) (disk_tree thread.old.kept.disk thread.old.kept.pairs) }
     ensures survives { SurvivesLossSince thread.old.kept.disk thread.old.kept.history thread.new.kept.history
         (disk_tree thread.old.kept.disk thread.old.kept.pairs) (disk_tree thread.old.kept.disk thread.old.kept.pairs) }
 {
-    let Some(fresh) = take_two_blocks(thread) else {
-        return Err(Error::NoSpace);
-    };
+    take_these(thread, fresh);
     thread.move_next(alloc, index - 1, fresh)?;
     Ok(())
 }
 
-/// Gives all slots of a worn pair to a pair behind it, in two free blocks. The worn pair is the
-/// first one of a directory that isn't the root, and stays without slots. The pair behind it can
-/// then move (`move_pair`).
-///
-/// Errors are those of [`move_pair`].
-pub fn unload_pair<D: BlockDevice>(
+// Gives all slots of a worn pair to a pair behind it, in two free blocks. The worn pair is the
+// first one of a directory that isn't the root, and stays without slots. The pair behind it can
+// then move.
+fn unload_pair<D: BlockDevice>(
     alloc: Global,
     thread: &mut Thread<D>,
     index: usize,
+    fresh: [u32; 2],
 ) -> Result<(), Error>
     requires works { thread.old.failed ≡ false }
-    requires can { CanUnloadPair thread.old.kept index }
-    ensures unloaded { OnOk result (IsUnloadedAt thread.old.kept index thread.new.kept) }
+    requires can { CanUnloadPair thread.old.kept index (array_address fresh) }
+    ensures unloaded { OnOk result (IsUnloadedAt thread.old.kept index (array_address fresh) thread.new.kept) }
     ensures errors { ReportsMaking thread.old thread.new result }
     ensures device { WritesPairTwo thread.old.kept index thread.new.kept }
-    ensures stands { result ≡ Err Error.NoMemory → HasEither thread.new.kept.disk
-        (disk_tree thread.old.kept.disk thread.old.kept.pairs) (disk_tree thread.old.kept.disk thread.old.kept.pairs) }
     ensures survives { SurvivesLossSince thread.old.kept.disk thread.old.kept.history thread.new.kept.history
         (disk_tree thread.old.kept.disk thread.old.kept.pairs) (disk_tree thread.old.kept.disk thread.old.kept.pairs) }
 {
-    let Some(fresh) = take_two_blocks(thread) else {
-        return Err(Error::NoSpace);
-    };
+    take_these(thread, fresh);
     thread.unload(alloc, index, fresh, 0)?;
     Ok(())
 }
 
-/// Lets the root directory begin behind the thread's first pair, which is worn, in two free blocks.
-/// All slots go there, with a copy of the superblock. The first pair keeps the superblock alone.
-/// The root's first pair can then move (`move_pair`).
-///
-/// Errors are those of [`move_pair`].
-pub fn expand_root<D: BlockDevice>(alloc: Global, thread: &mut Thread<D>) -> Result<(), Error>
+// Lets the root directory begin behind the thread's first pair, which is worn, in two free blocks.
+// All slots go there, with a copy of the superblock. The first pair keeps the superblock alone.
+// The root's first pair can then move.
+fn expand_root<D: BlockDevice>(
+    alloc: Global,
+    thread: &mut Thread<D>,
+    fresh: [u32; 2],
+) -> Result<(), Error>
     requires works { thread.old.failed ≡ false }
-    requires can { CanExpandRoot thread.old.kept }
-    ensures expanded { OnOk result (IsRootExpanded thread.old.kept thread.new.kept) }
+    requires can { CanExpandRoot thread.old.kept (array_address fresh) }
+    ensures expanded { OnOk result (IsRootExpanded thread.old.kept (array_address fresh) thread.new.kept) }
     ensures errors { ReportsMaking thread.old thread.new result }
     ensures device { WritesPairTwo thread.old.kept 0 thread.new.kept }
-    ensures stands { result ≡ Err Error.NoMemory → HasEither thread.new.kept.disk
-        (disk_tree thread.old.kept.disk thread.old.kept.pairs) (disk_tree thread.old.kept.disk thread.old.kept.pairs) }
     ensures survives { SurvivesLossSince thread.old.kept.disk thread.old.kept.history thread.new.kept.history
         (disk_tree thread.old.kept.disk thread.old.kept.pairs) (disk_tree thread.old.kept.disk thread.old.kept.pairs) }
 {
-    let Some(fresh) = take_two_blocks(thread) else {
-        return Err(Error::NoSpace);
-    };
+    take_these(thread, fresh);
     thread.unload(alloc, 0, fresh, 1)?;
     Ok(())
+}
+
+/// Moves at most one worn pair, after an operation before which the move was planned (DESIGN.md of
+/// littlefs, "Wear leveling"). Returns the number of the root directory's first pair, which is one
+/// more where the root directory begins behind the thread's first pair now.
+///
+/// A pair behind a hard tail goes to the two blocks whole. The first pair of a directory, and that of
+/// the thread, give their slots to a pair there, where an eighth of the blocks stays free.
+///
+/// Errors: `Io` where a call of the device failed, and `NoMemory` where memory for a pair's block
+/// isn't granted. The thread has failed then, and the image shows the same tree.
+pub fn relocate<D: BlockDevice>(
+    alloc: Global,
+    thread: &mut Thread<D>,
+    root: usize,
+    plan: MovePlan,
+) -> Result<usize, Error>
+    requires { CanRelocate thread.old root plan }
+    ensures done { IfOk result (HasRelocated thread.old.kept plan thread.new.kept) }
+    ensures errors { ReportsMaking thread.old thread.new result }
+    ensures device { WritesThreadTwo thread.old.kept thread.new.kept }
+    ensures survives { SurvivesLossSince thread.old.kept.disk thread.old.kept.history thread.new.kept.history
+        (disk_tree thread.old.kept.disk thread.old.kept.pairs) (disk_tree thread.old.kept.disk thread.old.kept.pairs) }
+{
+    let Some(index) = number_at_address(thread, plan.at) else {
+        return Ok(root);
+    };
+    if !thread.is_free(plan.fresh[0]) || !thread.is_free(plan.fresh[1]) {
+        return Ok(root);
+    }
+    if let Some(next) = thread.next(index) {
+        if is_worn_pair(thread, next) {
+            move_pair(alloc, thread, next, plan.fresh)?;
+            return Ok(root);
+        }
+    }
+    if !is_worn_pair(thread, index) || !has_unload_room(thread, plan.limit) {
+        return Ok(root);
+    }
+    if index == 0 && root == 0 {
+        expand_root(alloc, thread, plan.fresh)?;
+        return Ok(1);
+    }
+    if begins_behind_root(thread, root, index) {
+        unload_pair(alloc, thread, index, plan.fresh)?;
+    }
+    Ok(root)
 }

@@ -374,6 +374,14 @@ impl<D: BlockDevice> Thread<D> {
         }
     }
 
+    /// Takes a given block, which is free. It is in flight then.
+    pub fn take_at(&mut self, block: u32)
+        requires { IsFree self.old.kept.map block }
+        ensures { self.new ≡ record self.old { kept = record self.old.kept { map = slice_set self.old.kept.map block InFlight } } }
+    {
+        self.map.take_at(block);
+    }
+
     /// Makes a block in flight free again, which no commit names.
     pub fn release(&mut self, block: u32)
         requires { IsInFlight self.old.kept.map block }
@@ -649,6 +657,14 @@ impl<D: BlockDevice> Thread<D> {
         ensures { result ≡ used_count self.now.kept.map }
     {
         self.map.used_count()
+    }
+
+    /// Returns whether a block is free: neither used nor in flight.
+    pub fn is_free(&self, block: u32) -> bool
+        requires { block < length self.now.kept.map }
+        ensures { IsTrue result ↔ IsFree self.now.kept.map block }
+    {
+        self.map.is_free(block)
     }
 
     /// Returns whether a block is used. A block in flight isn't.

@@ -21,3 +21,4 @@ pub mod ThreadContents
 pub mod SettledFiles
 pub mod StructChanges
 pub mod Working
+pub mod Wear

@@ -1,5 +1,5 @@
 -- The contents of a file that is open for writing, beside the image.
-use Rattle.std.specs.Prelude.{ℕ, ◌≡◌, ◌+◌, ◌^◌, ◌<◌, ◌≤◌, ◌⊎◌, true, false, max, List, [], ◌∷◌, ◌++◌, length, Contains, Result, IfErr, OnErr, OnOk}
+use Rattle.std.specs.Prelude.{ℕ, ◌≡◌, ◌≢◌, ◌+◌, ◌^◌, ◌<◌, ◌≤◌, ◌⊎◌, true, false, max, List, [], ◌∷◌, ◌++◌, length, Contains, Result, IfErr, OnErr, OnOk}
 use Rattle.lfs_device.specs.declared.error.Error.{Error}
 use Rattle.lfs_model.specs.session.TreeEdits.{tree_with_change, is_file, same_path}
 use Rattle.lfs_model.specs.layers.BlockSets.{in_flight_count}
@@ -8,6 +8,7 @@ use Rattle.lfs_model.specs.declared.limits.Profile.{Profile}
 use Rattle.lfs_model.specs.format.Disk.{SameGeometry, disk_block, block_count, inline_limit}
 use Rattle.lfs_model.specs.session.History.{CallEvent, fault_count}
 use Rattle.lfs_model.specs.session.Layout.{IsLayoutRecovered}
+use Rattle.lfs_model.specs.session.Moved.{IsLayoutMoved}
 use Rattle.lfs_model.specs.session.Operations as ops
 use Rattle.lfs_model.specs.session.Operations.{Operation}
 use Rattle.lfs_model.specs.session.Recovery.{IsRecovered}
@@ -125,10 +126,15 @@ pub record WritesUnusedOrFails {X : Type 0} (old : TreeState) (result : Result X
   pub errors : IfErr result (HasErrorCause old new)
   pub survives : old.writable ≡ true → SurvivesStops old new (shown_tree old)
 
--- slots are where the operation on such a writer puts them
+-- Slots are where the operation on such a writer puts them.
 abbrev pub IsWriterLayoutRecovered : TreeState → Path → List ℕ → (ℕ → Operation) → TreeState → Type 0
 IsWriterLayoutRecovered old path bytes op new = (files : OpenFilesByNumber) (fd : ℕ) (writer : FileWriter) → IsDirtyWriter (record { tree = shown_tree old; files = files }) fd path bytes writer
     → IsLayoutRecovered old.disk old.pairs (record { tree = shown_tree old; files = files }) (op fd) new.disk new.pairs
+
+-- The same, and then a worn pair may have moved, by these calls.
+abbrev pub IsWriterLayoutMoved : TreeState → Path → List ℕ → (ℕ → Operation) → List CallEvent → TreeState → Type 0
+IsWriterLayoutMoved old path bytes op calls new = old.history ≢ [] → (files : OpenFilesByNumber) (fd : ℕ) (writer : FileWriter) → IsDirtyWriter (record { tree = shown_tree old; files = files }) fd path bytes writer
+    → IsLayoutMoved old.disk old.pairs (record { tree = shown_tree old; files = files }) (op fd) calls new.disk new.pairs
 
 -- the operation is about that path, as a sync or a close of its writer
 abbrev pub ConcernsOnlyPath : Session → Operation → Path → Type 0
@@ -149,8 +155,8 @@ pub record StoresImageBytes (old : TreeState) (path : Path) (bytes : List ℕ) (
   pub shows : shown_tree new ≡ tree_with_change path (file_with_bytes bytes) (shown_tree old)
   pub others : KeepsOtherFiles (shown_tree old) old.pairs path new.pairs
   pub lists : (q : Path) → is_file (shown_tree old q) ≡ true → same_path path q ≡ false → list_blocks_at (kept_thread new) q ≡ list_blocks_at (kept_thread old) q
-  pub synced : IsWriterLayoutRecovered old path bytes ops.Sync new
-  pub closed : IsWriterLayoutRecovered old path bytes ops.Close new
+  pub synced : IsWriterLayoutMoved old path bytes ops.Sync calls new
+  pub closed : IsWriterLayoutMoved old path bytes ops.Close calls new
   pub alone : (files : OpenFilesByNumber) (op : Operation) → ConcernsOnlyPath (record { tree = shown_tree old; files = files }) op path → LeavesOthers old.disk old.pairs (record { tree = shown_tree old; files = files }) op new.disk new.pairs
   pub none_in_flight : in_flight_count new.map ≡ 0
 

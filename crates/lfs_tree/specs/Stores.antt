@@ -24,7 +24,7 @@ use Rattle.lfs_thread.specs.Kept.{KeptThread}
 use Rattle.lfs_tree.specs.SlotChanges.{IsPathSpot}
 use Rattle.lfs_tree.specs.RootedThreads.{kept_state}
 use Rattle.lfs_tree.specs.KeptFiles.{KeepsOtherFiles}
-use Rattle.lfs_tree.specs.OpenContents.{AreThreadContents, StoresBytesAt, writer_contents_bytes}
+use Rattle.lfs_tree.specs.OpenContents.{AreThreadContents, IsWriterLayoutRecovered, StoresBytesAt, writer_contents_bytes}
 use Rattle.lfs_tree.specs.TreeState.{IsSoundState}
 use Rattle.lfs_lookup.specs.declared.entry.FileStorage.{FileStorage}
 use Rattle.lfs_lookup.specs.declared.entry.FileStorage.TheVariants as entry
@@ -126,6 +126,8 @@ pub record HasCommittedBytes (old : KeptThread) (path : Path) (bytes : List ℕ)
   pub alone : ChangesPathPair old.disk old.pairs path new.disk
   pub none_in_flight : in_flight_count new.map ≡ 0
 
--- the same, of a tree
-abbrev pub StoresThreadBytes : KeptThread → Path → List ℕ → KeptThread → Type 0
-StoresThreadBytes old path bytes new = StoresBytesAt (kept_state old true false) path bytes (kept_state new true false)
+-- the same, of a tree, and no pair moves after it
+pub record StoresThreadBytes (old : KeptThread) (path : Path) (bytes : List ℕ) (new : KeptThread) : Type 0 where
+  pub stored : StoresBytesAt (kept_state old true false) path bytes (kept_state new true false)
+  pub synced : IsWriterLayoutRecovered (kept_state old true false) path bytes ops.Sync (kept_state new true false)
+  pub closed : IsWriterLayoutRecovered (kept_state old true false) path bytes ops.Close (kept_state new true false)

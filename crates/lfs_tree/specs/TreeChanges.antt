@@ -8,7 +8,8 @@ use Rattle.lfs_model.specs.session.InDirectory.{BelongsAt}
 use Rattle.lfs_model.specs.format.Names.{Name}
 use Rattle.lfs_model.specs.session.Operations.{Operation}
 use Rattle.lfs_model.specs.crash.PowerLoss.{SurvivesLossSince}
-use Rattle.lfs_model.specs.session.Session.{parents_refusal}
+use Rattle.lfs_model.specs.session.Layout.{IsLayoutRecovered}
+use Rattle.lfs_model.specs.session.Session.{OpenFilesByNumber, parents_refusal}
 use Rattle.lfs_model.specs.format.Slots.{zero_gstate}
 use Rattle.lfs_model.specs.format.Thread.{Pair, pairs_gstate}
 use Rattle.lfs_model.specs.tree.Tree.{Path, Tree}
@@ -61,6 +62,11 @@ IsAbsentSpot _ spot = ⊥
 abbrev pub AppliesOperation : KeptThread → Operation → KeptThread → Type 0
 AppliesOperation old op new = IsApplied (kept_state old true false) op (kept_state new true false)
 
+-- the operation is applied, and no pair moves after it
+pub record AppliesInPlace (old : KeptThread) (op : Operation) (new : KeptThread) : Type 0 where
+  pub applied : AppliesOperation old op new
+  pub stays : (files : OpenFilesByNumber) → IsLayoutRecovered old.disk old.pairs (record { tree = disk_tree old.disk old.pairs; files = files }) op new.disk new.pairs
+
 -- the operation leaves the other blocks alone
 abbrev pub SparesOutsideOperation : KeptThread → Operation → KeptThread → Type 0
 SparesOutsideOperation old op new = LeavesOthersAlone (kept_state old true false) op (kept_state new true false)
@@ -101,7 +107,7 @@ pub record ChangesTreeOrFails {X : Type 0} (old : ThreadView) (Done : KeptThread
 
 -- the operation of the call is applied, and leaves the other blocks alone
 pub record HasAppliedCall (old : KeptThread) (call : TreeCall) (new : KeptThread) : Type 0 where
-  pub carries : (op : Operation) → IsOperationCall call op → AppliesOperation old op new
+  pub carries : (op : Operation) → IsOperationCall call op → AppliesInPlace old op new
   pub spares : (op : Operation) → IsOperationCall call op → SparesOutsideOperation old op new
 
 -- what a call promises over a thread that has nothing to recover

@@ -1,5 +1,5 @@
 -- What contracts see of a tree of files on a device.
-use Rattle.std.specs.Prelude.{ℕ, ◌≡◌, ◌≢◌, ◌⊎◌, ◌<◌, Bool, true, false, List, [], ◌++◌, length, Result, IfErr, OnErr, OnOk}
+use Rattle.std.specs.Prelude.{ℕ, ◌≡◌, ◌≢◌, ◌⊎◌, ◌<◌, ◌≤◌, ◌+◌, Bool, true, false, List, [], ◌++◌, length, Result, IfErr, OnErr, OnOk}
 use Rattle.lfs_device.specs.declared.error.Error.{Error}
 use Rattle.lfs_device.specs.declared.error.Error.TheVariants.{Io, NoMemory, Corrupt}
 use Rattle.lfs_model.specs.session.TreeEdits.{is_file}
@@ -11,7 +11,7 @@ use Rattle.lfs_model.specs.declared.order.NameOrder.TheVariants.{LongerFirst, Sh
 use Rattle.lfs_model.specs.format.Disk.{Disk, ordered_disk, SameGeometry, disk_block, block_count}
 use Rattle.lfs_model.specs.session.History.{CallEvent, OnlyReadsSince, fault_count, read_count, is_unprogrammed_byte}
 use Rattle.lfs_model.specs.layers.Keeping.{takes_away}
-use Rattle.lfs_model.specs.session.Layout.{IsLayoutRecovered}
+use Rattle.lfs_model.specs.session.Moved.{IsLayoutMoved}
 use Rattle.lfs_model.specs.session.Operations.{Operation}
 use Rattle.lfs_model.specs.crash.PowerLoss.{SurvivesLossSince}
 use Rattle.lfs_model.specs.session.Recovery.{IsRecovered}
@@ -25,7 +25,7 @@ use Rattle.lfs_model.specs.tree.View.{IsAccepted}
 use Rattle.lfs_model.specs.tree.Profile.{IsWritable}
 use Rattle.lfs_model.specs.tree.Shown.{disk_tree, used_blocks}
 use Rattle.lfs_thread.specs.Kept.{KeptThread}
-use Rattle.lfs_tree.specs.KeptFiles.{KeepsFileAt, KeepsListBytes}
+use Rattle.lfs_tree.specs.KeptFiles.{KeepsFileAt, KeepsListBytes, operation_room}
 
 -- The disk and its calls so far, its pairs, and the state of each block. Also whether the image is in the writing profile,
 -- whether a call failed, and which blocks are cached.
@@ -124,7 +124,7 @@ pub record KeepsInFlight (old new : TreeState) : Type 0 where
 abbrev pub SurvivesStops : TreeState → TreeState → Tree → Type 0
 SurvivesStops old new after = SurvivesLossSince old.disk old.history new.history (shown_tree old) after
 
--- the operation is applied without a fault of the device, whatever files are open
+-- The operation is applied without a fault of the device, whatever files are open. A worn pair may have moved after it.
 pub record IsAppliedTo (old : TreeState) (op : Operation) (new : TreeState) : Type 0 where
   pub works : new.failed ≡ false
   pub sound : IsSoundState new
@@ -136,12 +136,13 @@ pub record IsAppliedTo (old : TreeState) (op : Operation) (new : TreeState) : Ty
   pub fits : IsWritable new.disk new.pairs
   pub recovered : IsRecovered new.pairs
   pub shows : (around : DiskSummary) (files : OpenFilesByNumber) → shown_tree new ≡ (operation_effect around (record { tree = shown_tree old; files = files }) op).1.tree
-  pub arranged : (files : OpenFilesByNumber) → IsLayoutRecovered old.disk old.pairs (record { tree = shown_tree old; files = files }) op new.disk new.pairs
+  pub arranged : old.history ≢ [] → (files : OpenFilesByNumber) → IsLayoutMoved old.disk old.pairs (record { tree = shown_tree old; files = files }) op calls new.disk new.pairs
   pub itself : renames_itself op ≡ true → IsUntouched old.disk calls new.disk
   pub nothing_left : is_recover op ≡ true → IsRecovered old.pairs → IsUntouched old.disk calls new.disk
   pub flight : KeepsInFlight old new
   pub keeps : (path : Path) → is_file (shown_tree old path) ≡ true → takes_away op path ≡ false → KeepsFileAt (kept_thread old) (kept_thread new) path
   pub lists : pairs_gstate old.pairs ≡ zero_gstate → KeepsListBytes old.disk old.pairs new.disk
+  pub taken : length (tree_summary new).used ≤ length (tree_summary old).used + operation_room op
 
 abbrev pub IsApplied : TreeState → Operation → TreeState → Type 0
 IsApplied old op new = IsAppliedTo (without_cache old) op (without_cache new)

@@ -22,6 +22,7 @@ mod removals_at;
 mod rename_paths;
 mod renames_at;
 mod tree;
+mod wear;
 mod writers;
 
 pub use creation_paths::CreationFindings;

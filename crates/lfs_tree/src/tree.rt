@@ -54,6 +54,9 @@ use std::marker::Model;
 /// A mounted image: a file system of littlefs on a device, in a version that the device's profile
 /// accepts.
 ///
+/// After each change of the tree at most one metadata pair moves to other blocks, where the device's
+/// profile gives `pair_cycles` and the pair is worn.
+///
 /// After an error the tree has failed. Then the only useful call is [`remount`](Tree::remount).
 #[derive(Drop)]
 pub struct Tree<D: BlockDevice> {
@@ -338,14 +341,15 @@ impl<D: BlockDevice> Tree<D> {
         requires { CanMakeDirectory self.old path.now }
         ensures { AppliesCallOrFails self.old (call.Mkdir path.now) result self.new }
     {
+        let plan = self.plan_move(4);
         self.recover(alloc)?;
         let made = make_directory_at(alloc, &mut self.thread, self.root, path);
         mark_failed(&mut self.thread, &made);
-        made
+        self.relocate(alloc, plan, made)
     }
 
-    /// Makes an empty file where no entry is. Where nothing is to recover, the call takes at most six
-    /// reads.
+    /// Makes an empty file where no entry is. Where nothing is to recover and no pair may move, the
+    /// call takes at most six reads.
     ///
     /// `known` is where the path leads to, as [`look_up_creation`](Tree::look_up_creation) has just found
     /// it. It is None where something is to recover: a recovery comes first then, and the path is looked up
@@ -363,12 +367,13 @@ impl<D: BlockDevice> Tree<D> {
         requires known { IfSome known (IsCreationResult (kept_thread self.old) path.now) }
         requires looked_up { pairs_gstate self.old.pairs ≡ zero_gstate → IsSome known }
         ensures does { AppliesCallOrFails self.old (call.Create path.now) result self.new }
-        ensures few { ReadsSixAtMost self.old self.new.history }
+        ensures few { self.old.disk.profile.pair_cycles ≡ 0 → ReadsSixAtMost self.old self.new.history }
     {
+        let plan = self.plan_move(2);
         self.recover(alloc)?;
         let created = create_empty_file(alloc, &mut self.thread, self.root, path, known);
         mark_failed(&mut self.thread, &created);
-        created
+        self.relocate(alloc, plan, created)
     }
 
     /// Removes a file, or a directory without entries.
@@ -381,10 +386,11 @@ impl<D: BlockDevice> Tree<D> {
         requires { CanRemoveEntry self.old path.now }
         ensures { AppliesCallOrFails self.old (call.Remove path.now) result self.new }
     {
+        let plan = self.plan_move(0);
         self.recover(alloc)?;
         let removed = remove_at(alloc, &mut self.thread, self.root, path);
         mark_failed(&mut self.thread, &removed);
-        removed
+        self.relocate(alloc, plan, removed)
     }
 
     /// Sets an attribute of an entry, in place of the one of that type, if the entry has one.
@@ -403,10 +409,11 @@ impl<D: BlockDevice> Tree<D> {
         requires { CanSetAttr self.old path.now kind bytes.now }
         ensures { AppliesCallOrFails self.old (call.SetAttr path.now kind bytes.now) result self.new }
     {
+        let plan = self.plan_move(2);
         self.recover(alloc)?;
         let set = set_attr_at(alloc, &mut self.thread, self.root, path, kind, bytes);
         mark_failed(&mut self.thread, &set);
-        set
+        self.relocate(alloc, plan, set)
     }
 
     /// Ends what a loss of power left in the image: a set move, and directories that no path leads
@@ -440,9 +447,10 @@ impl<D: BlockDevice> Tree<D> {
         requires { CanRemoveAttr self.old path.now kind }
         ensures { AppliesCallOrFails self.old (call.RemoveAttr path.now kind) result self.new }
     {
+        let plan = self.plan_move(0);
         self.recover(alloc)?;
         let removed = remove_attr_at(alloc, &mut self.thread, self.root, path, kind);
         mark_failed(&mut self.thread, &removed);
-        removed
+        self.relocate(alloc, plan, removed)
     }
 }

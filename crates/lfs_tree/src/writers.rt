@@ -108,7 +108,8 @@ impl<D: BlockDevice> Tree<D> {
         truncated
     }
 
-    /// Commits a writer's contents. The file has them then, and no block is in flight any more.
+    /// Commits a writer's contents. The file has them then, and no block is in flight any more. A worn
+    /// pair may move after it.
     ///
     /// Errors are those of [`write`](Tree::write).
     pub fn commit_writer_contents(
@@ -123,8 +124,9 @@ impl<D: BlockDevice> Tree<D> {
         ensures errors { IfErr result (HasErrorCause self.old self.new) }
         ensures survives { SurvivesStops self.old self.new (tree_with_change path.now (file_with_bytes (writer_contents_bytes (kept_thread self.old) contents)) (shown_tree self.old)) }
     {
+        let plan = self.plan_move(2);
         let stored = store_contents_at(alloc, &mut self.thread, self.root, path, contents);
         mark_failed(&mut self.thread, &stored);
-        stored
+        self.relocate(alloc, plan, stored)
     }
 }

@@ -6,6 +6,11 @@ usage: against_c.py LITTLEFS PROGRAM [--rows ROW,ROW] [--repeat N]
 LITTLEFS has littlefs's code of version 2.7 or later (lfs.c or lfs2.c, and what goes with it), PROGRAM is a built lfs_bench. Both
 work on a device in memory with blocks of 4,096 bytes and pages of 256. Prints for each row what it takes by ours and by littlefs, built
 by gcc -O2, with caches of 4,096 and of 256 bytes; then the rows about wear. The times of a row are the quickest of some runs.
+
+Of wear there are the erases in all, those of the block that has most, the mean, their deviation divided by that, and the blocks that are never
+erased. Ours has pairs that stay and pairs that move, on a device that knows which bytes are blank and on one that doesn't. Fails where,
+with pairs that move, a block has more erases than MOST_ERASES says; where there are over 2 in 100 more erases in all than with
+pairs that stay; or where, with blank checks, a block has over 1.2 times the erases that it has with littlefs's `block_cycles` of 100.
 """
 
 import argparse
@@ -45,8 +50,12 @@ ROWS = [
     ("mount", 4096, 1000),
     ("mount", 16384, 10000),
 ]
-WEAR_ROWS = [("wear", 128, 5000), ("bootlog", 256, 2000), ("bootcount", 256, 2000)]
+WEAR_ROWS = [("wear", 128, 5000), ("bootlog", 256, 2000), ("bootlog", 256, 20000), ("bootcount", 256, 2000), ("bootcount", 256, 20000)]
 WEAR_CASES = [(4096, -1), (256, -1), (4096, 500), (4096, 100)]  # cache, block_cycles
+PAIR_CYCLES = 101
+# of one block, where the device knows blank bytes and where it doesn't, with pairs that move
+MOST_ERASES = {("wear", 5000): (70, 120), ("bootlog", 20000): (250, 450), ("bootcount", 20000): (80, 350)}
+MORE_IN_ALL, BESIDE_C = 1.02, 1.2
 HEAD = ["time ms", "ours is times", "reads", "bytes read", "programs", "bytes programmed", "erases", "peak heap"]
 
 here = os.path.dirname(os.path.abspath(__file__))
@@ -108,19 +117,37 @@ def show_row(options, room, row, blocks, count):
 
 
 def show_wear(options, room, row, blocks, count):
+    """Prints a row about wear. What of it isn't as it has to be."""
     print(f"{row}, {count} operations, {blocks} blocks")
     ours = [options.program, "row", row, blocks, count]
-    cases = [("ours", ours), ("ours, blank checks", [*ours, "blanks"])]
-    cases += [(f"C, cache {cache}, block_cycles {cycles}", [f"{room}/bench", row, blocks, count, cache, cycles]) for cache, cycles in WEAR_CASES]
-    for name, words in cases:
+    cases = {"ours": [*ours, 0], "ours, pairs move": [*ours, PAIR_CYCLES], "ours, blank checks": [*ours, 0, "blanks"],
+             "ours, blank checks, pairs move": [*ours, PAIR_CYCLES, "blanks"]}
+    for cache, cycles in WEAR_CASES:
+        cases[f"C, cache {cache}, block_cycles {cycles}"] = [f"{room}/bench", row, blocks, count, cache, cycles]
+    found = {}
+    for name, words in cases.items():
         told = output(*words).stdout
-        erases = [int(line) for line in told.splitlines() if line.isdigit()]
+        erases = found[name] = [int(line) for line in told.splitlines() if line.isdigit()]
         if len(erases) != blocks or "Err" in told:
             sys.exit(f"{row}: {told[:200]}")
         mean, spread = statistics.mean(erases), statistics.pstdev(erases)
         cells = [f"{sum(erases):,}", max(erases), f"{mean:.1f}", f"{spread / mean:.2f}", erases.count(0)]
         print(f"  {name:32}" + "".join(f"{cell:>10}" for cell in cells))
     sys.stdout.flush()
+    return [f"{row}, {count} operations: {what}" for what in too_many(found, MOST_ERASES.get((row, count)))]
+
+
+def too_many(found, most):
+    """Which erases are more than they may be, by each case's erases of each block."""
+    for at, blanks in enumerate(["ours, blank checks", "ours"]):
+        stay, move = found[blanks], found[f"{blanks}, pairs move"]
+        if most and max(move) > most[at]:
+            yield f"{blanks}: {max(move)} erases of a block, at most {most[at]} are wanted"
+        if sum(move) > MORE_IN_ALL * sum(stay):
+            yield f"{blanks}: {100 * sum(move) / sum(stay) - 100:.1f} in 100 more erases than with pairs that stay"
+    ours, its = max(found["ours, blank checks, pairs move"]), max(found["C, cache 4096, block_cycles 100"])
+    if ours > BESIDE_C * its:
+        yield f"{ours} erases of a block, where littlefs has {its}"
 
 
 def main():
@@ -130,7 +157,7 @@ def main():
     parser.add_argument("--rows", help="only these, separated by commas")
     parser.add_argument("--repeat", type=int, default=3, help="the quickest of so many runs is shown (3)")
     options = parser.parse_args()
-    known = [row for row, _, _ in ROWS + WEAR_ROWS]
+    known, wrong = [row for row, _, _ in ROWS + WEAR_ROWS], []
     wanted = options.rows.split(",") if options.rows else known
     if not set(wanted) <= set(known):
         parser.error("there is no row " + ", ".join(sorted(set(wanted) - set(known))))
@@ -145,8 +172,10 @@ def main():
             print(" " * 34 + "".join(f"{cell:>10}" for cell in ("erases", "most", "mean", "variation", "never")))
         for row in WEAR_ROWS:
             if row[0] in wanted:
-                show_wear(options, room, *row)
+                wrong += show_wear(options, room, *row)
+    print("".join(f"more erases than wanted: {what}\n" for what in wrong), end="")
+    return bool(wrong)
 
 
 if __name__ == "__main__":
-    main()
+    sys.exit(main())

@@ -445,8 +445,8 @@ def long_sessions(options):
                 made = session_history(options, kind, geometry, profile, first, with_attributes(operate))
                 stopped = options.each(lambda case: stopped_session(options, case, profile, with_attributes(operate)), made)
                 changed = options.each(lambda case: changed_in_turn(options, case, operate), made)
-                yield from [made, stopped, changed]
-                yield options.each(lambda case: session_gone_on(options, case, profile, with_attributes(operate)), changed)
+                gone_on = options.each(lambda case: session_gone_on(options, case, profile, with_attributes(operate)), changed)
+                yield from [made, stopped, changed, gone_on]
 
 
 def coming(rnd, plain, attributes, operate, geometry, operations=()):
@@ -549,7 +549,7 @@ def session_gone_on(options, case, profile, operate):
     for operation in itertools.islice(coming(rnd, plain, attributes, operate, case.geometry), 200):
         script += scripted(operation)
     wrong = refusals(answers_of(options.script, [*script, "compare", f"save {image}"]))
-    return at_point(f"{case.kind.replace(', changed', ', then')}, then by sessions", image, case.geometry, plain, attributes, wrong=wrong)
+    return at_point(f"{case.kind}, then by sessions", image, case.geometry, plain, attributes, wrong=wrong)
 
 
 # Version 2.1

@@ -121,7 +121,8 @@ def moving_stories():
     yield Story("pairs that move, are split and dropped", "fresh 1024 128 64", SPLIT_AND_MOVED, cycles=2, moves=("root", "later"))
     yield Story("pairs that move beside an open file", "fresh 1024 128 64", BESIDE, cycles=1, moves=("root",))
     yield Story("pairs that move where a move was cut short", "image 4096 256 moving.img", ["mkdir /e"] + OTHER_ENTRIES, MOVING, cycles=1, moves=("root",))
-    yield Story("pairs that move where few blocks are free", "fresh 1024 128 8", written_anew("/a", 20), cycles=2)
+    yield Story("pairs that move where few blocks are free", "fresh 1024 128 6", written_anew("/a", 20), cycles=2, moves=("root", "later"))
+    yield Story("pairs that stay where too few blocks are free", "fresh 1024 128 4", written_anew("/a", 20), cycles=2)
 
 
 def stories():

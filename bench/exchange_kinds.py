@@ -450,12 +450,12 @@ def long_sessions(options):
 
 
 def coming(rnd, plain, attributes, operate, geometry, operations=()):
-    """These operations, and then others at random. What each changes is changed with it."""
+    """These operations, and then others at random. What each changes is changed before it is given."""
     more = (operate(rnd, plain, geometry) for _ in itertools.count())
     for operation in itertools.chain(operations, more):
-        yield operation
         carry_out(plain, operation)
         carry_attributes(attributes, operation)
+        yield operation
 
 
 def at_point(kind, image, geometry, plain, attributes, **more):
@@ -470,13 +470,12 @@ def session_history(options, kind, geometry, profile, first, operate):
     plain, attributes, cases = {b"": None}, {}, []
     script = [profile.line(), "fresh %d %d %d" % geometry]
     every = max(1, options.operations // POINTS)
-    for number, operation in enumerate(coming(rnd, plain, attributes, operate, geometry, first(rnd))):
-        if number and number % every == 0:
+    operations = coming(rnd, plain, attributes, operate, geometry, first(rnd))
+    for number, operation in enumerate(itertools.islice(operations, max(POINTS, options.operations)), 1):
+        script += scripted(operation) + ["remount"] * (rnd.randrange(50) == 0)
+        if number % every == 0:
             cases.append(at_point(kind, image.replace(".img", f"_{number}.img"), geometry, plain, attributes))
             script += ["compare", f"save {cases[-1].image}"]
-        if number >= options.operations:
-            break
-        script += scripted(operation) + ["remount"] * (rnd.randrange(50) == 0)
     answers = answers_of(options.script, script)
     wrong = refusals(answers) + [f"a session and its mount differ: {it}" for it in answers if it.startswith("differs")][:1]
     cases[-1].wrong += wrong + ["no pair has moved"] * (profile.pair_cycles < 100 and not has_moved_root(cases[-1]))

@@ -20,7 +20,7 @@ each kind, but for long use, whose images are those of N operations each. --jobs
 - long use: a logger in the root, and mixed operations, with a `block_cycles` of 3, 20, 100 and 500; an image at each unmount, some
   that a loss of power cut after it, and these when littlefs had gone on with them;
 - sessions: long use by sessions with a `pair_cycles` of 3, 7 and 101: a logger in the root, and mixed operations with attributes, on devices of
-  three geometries, with remounts between. There are 20 images of each, copies whose device stopped in a session behind them, copies that
+  three geometries, with remounts between. There are 6 images of each, copies whose device stopped in a session behind them, copies that
   littlefs changed, by which it moved pairs, too, and these after a session went on with them;
 - version: images written here that littlefs in its default version then wrote to;
 - later: images by littlefs in its default version, and in version 2.0 and then in that, after any operations, some of which a loss of

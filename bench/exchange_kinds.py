@@ -651,5 +651,5 @@ def followed(case, plain, operations, answers):
     return plain
 
 
-GROUPS = {"random": at_random, "names": names, "limits": limits, "caches": caches, "full": full, "long": long_use, "sessions": long_sessions, "version": version, "later": later,
-          "turns": turns}
+GROUPS = {"random": at_random, "names": names, "limits": limits, "caches": caches, "full": full, "long": long_use, "sessions": long_sessions,
+          "version": version, "later": later, "turns": turns}

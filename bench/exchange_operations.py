@@ -2,8 +2,8 @@
 
 A tree has for each path a file's bytes, or None for a directory; the root's path is empty. An operation is a tuple of a word and
 its arguments: put PATH SIZE LETTER (a file has these bytes from then on), append PATH SIZE LETTER, write PATH AT SIZE LETTER,
-truncate PATH SIZE, read PATH, rename OLD NEW, remove PATH, mkdir PATH, and for sessions alone set-attr PATH TYPE BYTES. Most names are the beginning of another one in their
-directory, or begin with one.
+truncate PATH SIZE, read PATH, rename OLD NEW, remove PATH, mkdir PATH, and for sessions alone set-attr PATH TYPE BYTES. Most names are
+the beginning of another one in their directory, or begin with one.
 """
 
 from dataclasses import dataclass

@@ -103,7 +103,8 @@ def written_anew(path, times):
 
 # each of these entries is changed so often that the pair of its directory wears
 IN_ROOT = written_anew("/a", 16) + ["set-attr /a 41 x", "mkdir /d", "rename /a /b", "remove /d"] + written_anew("/b", 8)
-IN_DIRECTORY = ["mkdir /d"] + written_anew("/d/a", 16) + ["set-attr /d/a 41 x", "rename /d/a /d/b"] + written_anew("/d/b", 8) + ["rename /d/b /c", "remove /d"]
+IN_DIRECTORY = ["mkdir /d"] + written_anew("/d/a", 16) + ["set-attr /d/a 41 x", "rename /d/a /d/b"] + written_anew("/d/b", 8)
+IN_DIRECTORY += ["rename /d/b /c", "remove /d"]
 IN_BOTH = ["mkdir /d", "mkdir /d/e"] + [line for time in range(6) for path in ("/a", "/d/a", "/d/e/a") for line in written_anew(path, 1 + time % 2)]
 IN_BOTH += ["rename /d/a /d/e/b", "rename /d/e /e", "remove /a", "remove /d", "set-attr /e 42 yy", "list /e"]
 AGAIN_AND_AGAIN = ["mkdir /d"] + [line for time in range(7) for line in written_anew("/d/a", 2) + ["remove /d/a"]] + ["remove /d"]
@@ -119,7 +120,8 @@ def moving_stories():
     yield Story("a directory's pair that moves and empties", "fresh 1024 128 64", AGAIN_AND_AGAIN, cycles=2, moves=("first",))
     yield Story("pairs that move, are split and dropped", "fresh 1024 128 64", SPLIT_AND_MOVED, cycles=2, moves=("root", "later"))
     yield Story("pairs that move beside an open file", "fresh 1024 128 64", BESIDE, cycles=1, moves=("root", "later"))
-    yield Story("pairs that move where a move was cut short", "image 4096 256 moving.img", ["mkdir /e"] + OTHER_ENTRIES, MOVING, cycles=1, moves=("root", "later"))
+    yield Story("pairs that move where a move was cut short", "image 4096 256 moving.img", ["mkdir /e"] + OTHER_ENTRIES, MOVING, cycles=1,
+                moves=("root", "later"))
     yield Story("pairs that move where few blocks are free", "fresh 1024 128 6", written_anew("/a", 20), cycles=2, moves=("root", "later"))
     yield Story("pairs that stay where too few blocks are free", "fresh 1024 128 4", written_anew("/a", 20), cycles=2)
 

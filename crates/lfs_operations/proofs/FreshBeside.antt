@@ -1,10 +1,10 @@
 -- A step that writes one pair and two free blocks: what is on the device then, and that the image stays where the pair does.
-use Rattle.std.proofs.Common.{ℕ, ◌≡◌, ◌+◌, ◌≤◌, nat_eq, List, [], ◌∷◌, ◌++◌, length, Some, inl, refl, sym, ap, ap₂, subst, ◌∙◌, arith, flat_map}
+use Rattle.std.proofs.Common.{ℕ, ◌≡◌, ◌+◌, nat_eq, List, [], ◌∷◌, ◌++◌, length, Some, inl, refl, sym, ap, subst, ◌∙◌, arith}
 use Rattle.std.specs.Prelude.{Contains}
-use Rattle.lfs_operations.proofs.Common.{All-from_recursion, Each, IsDistinct, recursion_from_All, number_occurrences-Contains, once_from_distinct, Blocks, SameExceptThese, IsFree, IsInFlight, content_at, current_block, current_of_two, Disk, disk_block, HasEither, with_blocks, PairContent, FitsInPair, Slot, Pair, pairs_blocks, pairs_gstate, zero_gstate, address_blocks, addresses_blocks, BeginsWith, superblock_entry, IsAccepted, IsWritable, all_unmoved_slots, struct_blocks, disk_tree, used_blocks, each_right, number_occurrences, count_append, count_here, HasNoMove, no_move_from, Site, HasFirst, KeepsOutsideBoth, KeptThread, SameGeometryAs, HasOldPair, ChangesThreadBlocks, BeginWithSuperblock, map_using, thread_pair, content_same, KeepsSuperblockFirst, AreTwoFree, map_taking_two, SameInFlight, IsReadyImage}
+use Rattle.lfs_operations.proofs.Common.{All-from_recursion, Each, IsDistinct, recursion_from_All, number_occurrences-Contains, Blocks, IsFree, IsInFlight, content_at, current_block, Disk, HasEither, with_blocks, PairContent, FitsInPair, Pair, pairs_gstate, zero_gstate, BeginsWith, superblock_entry, IsAccepted, IsWritable, disk_tree, used_blocks, each_right, HasNoMove, no_move_from, Site, HasFirst, KeepsOutsideBoth, KeptThread, SameGeometryAs, HasOldPair, BeginWithSuperblock, map_using, thread_pair, KeepsSuperblockFirst, AreTwoFree, map_taking_two, SameInFlight, IsReadyImage}
 use Rattle.lfs_model.specs.session.Moved.{AreUnused}
-use Rattle.lfs_operations.proofs.Owning.{count_pairs, none_comes_now, not_used, stay_taken}
-use Rattle.lfs_operations.proofs.Placing.{IsPlaced, all_apart, device, left_still}
+use Rattle.lfs_operations.proofs.Owning.{none_comes_now, not_used, stay_taken}
+use Rattle.lfs_operations.proofs.Placing.{IsPlaced, device, left_still}
 use Rattle.lfs_operations.proofs.Putting.{with_map}
 use Rattle.lfs_operations.proofs.Threads as threads
 
@@ -74,36 +74,3 @@ module _ (t : KeptThread) (ready : IsReadyImage t) (index : ℕ) (ahead : List P
       → HasEither (with_blocks left t.disk) (disk_tree t.disk t.pairs) (disk_tree t.disk t.pairs)
   left_old left others b = still_shows left (threads.placed_still t index pair_site p is place (with_blocks left t.disk) fresh
       (record { block_size = refl; page = refl; order = refl; profile = refl; count = others.count }) others (record { holds = b.holds; first = b.first }))
-
-  -- only the two blocks may differ
-  left_beside : (left : Blocks) → SameExceptThese (address_blocks fresh) t.disk.blocks left → HasEither (with_blocks left t.disk) (disk_tree t.disk t.pairs) (disk_tree t.disk t.pairs)
-  left_beside left others = still_shows left (record {
-    geometry = record { block_size = refl; page = refl; order = refl; profile = refl; count = others.count };
-    same = λ b none. others.others b (all_apart own b (omega arith));
-    contents = (content_same t.disk (with_blocks left t.disk) p.at first_same second_same ∙ held_there.0, tt);
-    first = λ h b. subst (λ o. BeginsWith o superblock_entry) (sym (ap₂ current_of_two first_same second_same)) b;
-  })
-    where
-      held_there : Each (λ (z : Pair). content_at t.disk z.at ≡ Some z.content) (p ∷ back)
-      held_there = each_right (λ (z : Pair). content_at t.disk z.at ≡ Some z.content) ahead (p ∷ back)
-          (recursion_from_All (λ (z : Pair). content_at t.disk z.at ≡ Some z.content) ps accepted.thread.contents)
-
-      same_used : (b : ℕ) → 1 ≤ number_occurrences b (pairs_blocks (p ∷ [])) → disk_block (with_blocks left t.disk) b ≡ disk_block t.disk b
-      same_used b some = others.others b (all_apart own b (
-          let n = once_from_distinct (fresh.0 ∷ fresh.1 ∷ used_blocks t.disk ps) distinct b in
-          let k = count_append b (pairs_blocks ps) (flat_map (λ (s : Slot). struct_blocks t.disk s.struct) (all_unmoved_slots ps)) in
-          let i = count_pairs b pair_site (p ∷ []) in
-          omega arith))
-
-      first_same : disk_block (with_blocks left t.disk) p.at.0 ≡ disk_block t.disk p.at.0
-      first_same = same_used p.at.0 (let h = count_here p.at.0 (p.at.1 ∷ []) in omega arith)
-
-      second_same : disk_block (with_blocks left t.disk) p.at.1 ≡ disk_block t.disk p.at.1
-      second_same = same_used p.at.1 (let h = count_here p.at.1 [] in omega arith)
-
-  pub left_beside_on : (new : KeptThread) → ChangesThreadBlocks (addresses_blocks (thread_pair t index).at fresh) (with_map t (map_taking_two t.map fresh)) new → SameExceptThese (address_blocks fresh) t.disk.blocks new.disk.blocks
-      → HasEither new.disk (disk_tree t.disk t.pairs) (disk_tree t.disk t.pairs)
-  left_beside_on new writes others = subst (λ (d : Disk). HasEither d (disk_tree t.disk t.pairs) (disk_tree t.disk t.pairs)) same_disk (left_beside new.disk.blocks others)
-    where
-      same_disk : with_blocks new.disk.blocks t.disk ≡ new.disk
-      same_disk = λ j. record { block_size = sym writes.shape.block_size j; page = sym writes.shape.page j; order = sym writes.shape.order j; profile = sym writes.shape.profile j; blocks = new.disk.blocks }

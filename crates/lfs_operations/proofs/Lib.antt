@@ -94,3 +94,4 @@ pub mod FreshBeside
 pub mod WornPair
 pub mod WornMoves
 pub mod WornUnloads
+pub mod WornRelocated

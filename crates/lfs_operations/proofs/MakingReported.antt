@@ -1,6 +1,6 @@
 -- What the steps of a mkdir tell, together.
 use Rattle.lfs_operations.proofs.Common.{ℕ, ◌≡◌, ◌⊎◌, inl, inr, List, Result, Ok, Err, arith, refl, sym, ap, subst, ◌∙◌, BlockStates, fault_count, KeptThread, ThreadView, ThreadReportsKeepingOthers, IfErr, is_err, Error, Io, NoMemory, NoSpace, ReportsTakingCommit, has_failed_after, ReportsMaking}
-use Rattle.lfs_operations.proofs.Putting.{with_map, same_err}
+use Rattle.lfs_operations.proofs.Putting.{not_both, with_map, same_err}
 
 -- the same answer, passed on
 pub reported_again : {X Y : Type 0} (bs : List ℕ) (old new : KeptThread) (e : Error) (result : Result X Error) (given : Result Y Error) → result ≡ Err e → given ≡ Err e → ThreadReportsKeepingOthers bs old new result
@@ -16,6 +16,23 @@ reported_again bs old new e result given is same reported = record {
 pub reports_first : {X : Type 0} (old new : ThreadView) (sets : BlockStates) (bs : List ℕ) (result : Result X Error) → new.failed ≡ is_err result → ThreadReportsKeepingOthers bs (with_map old.kept sets) new.kept result
     → ReportsMaking old new result
 reports_first old new sets bs result failed reported = record { failed = failed; errors = reported.errors; fault = reported.fault; no_fault = reported.no_fault }
+
+-- a step's answer, passed on with another value
+pub makes_again : {X Y : Type 0} (old new : ThreadView) (e : Error) (result : Result X Error) (given : Result Y Error) → result ≡ Err e → given ≡ Err e → ReportsMaking old new result → ReportsMaking old new given
+makes_again old new e result given is same reported = record {
+  failed = reported.failed ∙ ap is_err is ∙ sym (ap is_err same);
+  errors = subst (λ r. IfErr r (λ x. (x ≡ Io) ⊎ (x ≡ NoMemory))) (sym same) (subst (λ r. IfErr r (λ x. (x ≡ Io) ⊎ (x ≡ NoMemory))) is reported.errors);
+  fault = λ io. reported.fault (is ∙ ap Err (same_err e Io given same io));
+  no_fault = λ other. reported.no_fault (λ io. other (same ∙ ap Err (same_err e Io result is io)));
+}
+
+pub makes_done : {X Y : Type 0} (old new : ThreadView) (x : X) (y : Y) (result : Result X Error) → result ≡ Ok x → ReportsMaking old new result → ReportsMaking old new (Ok y)
+makes_done old new x y result is reported = record {
+  failed = reported.failed ∙ ap is_err is;
+  errors = tt;
+  fault = λ io. absurd (cc);
+  no_fault = λ other. reported.no_fault (not_both result x Io is);
+}
 
 -- the second one tells, and never that there is no space
 pub reports_second : {X : Type 0} (old mid new : ThreadView) (result : Result X Error) → fault_count mid.kept.history ≡ fault_count old.kept.history → (result ≡ Err NoSpace → ⊥) → ReportsTakingCommit mid new result → ReportsMaking old new result

@@ -71,18 +71,26 @@ writes_one t m one other l k w =
           (both_of (address_blocks (thread_pair t one).at) w.fresh cs (pair_of t one w.fresh l) (fresh_of t w.fresh)))) w.writes;
     }
 
+-- those of one pair
+pub writes_of_pair : (t m : KeptThread) (index : ℕ) → index < length t.pairs → WritesPairTwo t index m → WritesThreadTwo t m
+writes_of_pair t m index l w =
+    let at = (thread_pair t index).at in
+    let cs = pairs_blocks t.pairs ++ w.fresh in
+    record {
+      fresh = w.fresh;
+      few = w.few;
+      free = w.free;
+      writes = writes_wider cs (apart_wider (address_blocks at ++ w.fresh) cs (both_of (address_blocks at) w.fresh cs (pair_of t index w.fresh l) (fresh_of t w.fresh))) w.writes;
+    }
+
 -- those of a pair that is changed, or cut in two
 pub put_within : (old mid : KeptThread) (index : ℕ) (changes : List PairChange) → index < length old.pairs → ArePut old index changes mid → WritesPairTwo old index mid → TakesAtMostTwo old mid
+unfolding writes_of_pair
 put_within old mid index changes l (inl is) w =
     let at = (thread_pair old index).at in
     let cs = pairs_blocks old.pairs ++ w.fresh in
     record {
-      written = record {
-        fresh = w.fresh;
-        few = w.few;
-        free = w.free;
-        writes = writes_wider cs (apart_wider (address_blocks at ++ w.fresh) cs (both_of (address_blocks at) w.fresh cs (pair_of old index w.fresh l) (fresh_of old w.fresh))) w.writes;
-      };
+      written = writes_of_pair old mid index l w;
       within = λ b h.
           let k = number_occurrences-Contains (pairs_blocks mid.pairs) b h in
           let same = ap (λ z. number_occurrences b (pairs_blocks z)) is.pairs ∙ ap (number_occurrences b) (blocks_set old.pairs index (record { at = at; content = is.content }) empty_anchor refl) in

@@ -1,5 +1,5 @@
 -- A pair that is changed, or split into two free blocks.
-use Rattle.lfs_operations.proofs.Common.{ℕ, ◌≡◌, ◌≢◌, ◌∙◌, ◌≤◌, ◌⊎◌, Option, None, Some, inl, inr, List, [], ◌∷◌, Result, Ok, Err, arith, refl, sym, set, Blocks, BlockStates, Free, InFlight, PairChange, Disk, PairContent, CallEvent, OnlyReadsSince, fault_count, slice_get-set_same, slice_get-set_other, HoldsAtLosses-weaker, HoldsAtLosses-trans, StayUnprogrammed-refl, StayUnprogrammed-trans, AllCallsSince-until, AllCallsSince-behind, OnlyReadsSince-trans, StayUnprogrammed-read_count, HoldsAtLosses-read_count, LossLeavesAtWorst-read, CleanLossLeaves, KeptThread, thread_pair, BothOnDisk, PartsFit, CanSplitAt, LossLeavesPair, HasOldPair, LossLeavesBoth, OnlyReadsThread, HasSplit, ChangesThreadBlocks, addresses_blocks, SameExceptThese-trans, SameExceptThese-wider, StayUnprogrammed-wider, All, Error, FreshInFlight, AreTwoFree, CanPut, IsPairSplit, IsSplitInto, LeftByPut, OverfillsPair, LeftBySplit, ReportsSpaceErrors, WritesPairTwo, map_taking_two, Tree, HasEither, with_blocks, SurvivesLossSince, survives_then}
+use Rattle.lfs_operations.proofs.Common.{ℕ, ◌≡◌, ◌≢◌, ◌∙◌, ◌≤◌, ◌⊎◌, Option, None, Some, inl, inr, List, [], ◌∷◌, ◌++◌, pairs_blocks, Result, Ok, Err, arith, refl, sym, set, Blocks, BlockStates, Free, InFlight, PairChange, Disk, PairContent, CallEvent, OnlyReadsSince, fault_count, slice_get-set_same, slice_get-set_other, HoldsAtLosses-weaker, HoldsAtLosses-trans, StayUnprogrammed-refl, StayUnprogrammed-trans, AllCallsSince-until, AllCallsSince-behind, OnlyReadsSince-trans, StayUnprogrammed-read_count, HoldsAtLosses-read_count, LossLeavesAtWorst-read, CleanLossLeaves, KeptThread, thread_pair, BothOnDisk, PartsFit, CanSplitAt, LossLeavesPair, HasOldPair, LossLeavesBoth, OnlyReadsThread, HasSplit, ChangesThreadBlocks, addresses_blocks, SameExceptThese-trans, SameExceptThese-wider, StayUnprogrammed-wider, All, Error, FreshInFlight, AreTwoFree, CanPut, IsPairSplit, IsSplitInto, LeftByPut, OverfillsPair, LeftBySplit, ReportsSpaceErrors, WritesPairTwo, WritesThreadTwo, map_taking_two, Tree, HasEither, with_blocks, SurvivesLossSince, survives_then}
 use Rattle.lfs_model.proofs.Histories.{began}
 use Rattle.lfs_thread.specs.CachedLog.{reads_unless_cached}
 use Rattle.lfs_operations.proofs.Taking.{within}
@@ -119,18 +119,19 @@ not_both r a e h k = absurd (cc)
 
 -- ---- nothing was done
 
-pub writes_none : (t : KeptThread) (index : ℕ) → WritesPairTwo t index t
-writes_none t index = record {
-  fresh = [];
-  few = omega arith;
-  free = tt;
-  writes = record {
-    others = record { count = refl; sizes = λ b. refl; others = λ b apart. refl };
-    elsewhere = StayUnprogrammed-refl ((thread_pair t index).at.0 ∷ (thread_pair t index).at.1 ∷ []) t.history;
-    shape = record { block_size = refl; page = refl; order = refl; profile = refl; count = refl };
-    at_worst = began;
-  };
+none_change : (bs : List ℕ) (t : KeptThread) → ChangesThreadBlocks bs t t
+none_change bs t = record {
+  others = record { count = refl; sizes = λ b. refl; others = λ b apart. refl };
+  elsewhere = StayUnprogrammed-refl bs t.history;
+  shape = record { block_size = refl; page = refl; order = refl; profile = refl; count = refl };
+  at_worst = began;
 }
+
+pub writes_none : (t : KeptThread) (index : ℕ) → WritesPairTwo t index t
+writes_none t index = record { fresh = []; few = omega arith; free = tt; writes = none_change ((thread_pair t index).at.0 ∷ (thread_pair t index).at.1 ∷ []) t }
+
+pub thread_stays : (t : KeptThread) → WritesThreadTwo t t
+thread_stays t = record { fresh = []; few = omega arith; free = tt; writes = none_change (pairs_blocks t.pairs ++ []) t }
 
 -- ---- after reads
 

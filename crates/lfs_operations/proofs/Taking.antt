@@ -1,5 +1,5 @@
 -- Two free blocks that are taken.
-use Rattle.lfs_operations.proofs.Common.{ℕ, zero, suc, ◌≡◌, ◌≢◌, ◌<◌, Bool, true, false, nat_eq, [], ◌∷◌, length, Some, refl, sym, ap, subst, ◌∙◌, arith, set, slice_get, eqb-true, eq-eqb, same_Some, BlockState, BlockStates, IsFree, Free, InFlight, slice_get-set_same, slice_get-set_other, AreTwoFree}
+use Rattle.lfs_operations.proofs.Common.{ℕ, zero, suc, ◌≡◌, ◌≢◌, ◌<◌, Bool, true, false, nat_eq, [], ◌∷◌, length, Some, refl, sym, ap, subst, ◌∙◌, arith, set, slice_get, eqb-true, eq-eqb, same_Some, BlockState, BlockStates, IsFree, Free, InFlight, slice_get-set_same, slice_get-set_other, AreTwoFree, map_taking_two}
 
 pub within : (sets : BlockStates) (b : ℕ) (s : BlockState) → slice_get sets b ≡ Some s → b < length sets
 within [] b s e = absurd (cc)
@@ -33,3 +33,9 @@ not_two sets a none fresh two = go (nat_eq fresh.0 a) refl
     go : (t : Bool) → nat_eq fresh.0 a ≡ t → ⊥
     go false e = none fresh.0 (slice_get-set_other sets a fresh.0 InFlight (λ k. absurd (let z = sym (eq-eqb fresh.0 a k) ∙ e in cc)) ∙ two.first)
     go true e = none fresh.1 (slice_get-set_other sets a fresh.1 InFlight (λ k. two.apart (eqb-true fresh.0 a e ∙ sym k)) ∙ two.second)
+
+-- both are made free again, the last one first
+pub both_back : (sets : BlockStates) (fresh : ℕ × ℕ) → AreTwoFree sets fresh → set (set (map_taking_two sets fresh) fresh.1 Free) fresh.0 Free ≡ sets
+both_back sets fresh two =
+    ap (λ z. set z fresh.0 Free) (put_back (set sets fresh.0 InFlight) fresh.1 InFlight Free (slice_get-set_other sets fresh.0 fresh.1 InFlight (λ e. two.apart (sym e)) ∙ two.second))
+    ∙ put_back sets fresh.0 InFlight Free two.first

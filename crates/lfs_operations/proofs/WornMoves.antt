@@ -1,7 +1,7 @@
 -- A worn pair behind a hard tail is at two other blocks: the image shows the same tree, also at a stop.
-use Rattle.std.proofs.Common.{ℕ, suc, ◌≡◌, ◌+◌, ◌-◌, ◌%◌, ◌^◌, ◌<◌, ◌≤◌, ◌⊎◌, inl, inr, true, cond, nat_eq, List, [], ◌∷◌, ◌++◌, length, Some, refl, sym, ap, ap₂, subst, subst₂, ◌∙◌, arith, append_assoc, length-append, set, take, drop, ◌&&◌}
+use Rattle.std.proofs.Common.{ℕ, suc, ◌≡◌, ◌+◌, ◌-◌, ◌%◌, ◌^◌, ◌<◌, ◌≤◌, ◌⊎◌, inl, inr, true, cond, nat_eq, List, [], ◌∷◌, ◌++◌, length, Some, refl, sym, ap, ap₂, subst, subst₂, ◌∙◌, arith, set, ◌&&◌}
 use Rattle.std.specs.Prelude.{All}
-use Rattle.lfs_operations.proofs.Common.{All-from_recursion, IsDistinct, recursion_from_All, take-append-drop, once_from_distinct, Blocks, SameExceptThese, AreUsed, BlockStates, content_at, current_block, Disk, HasEither, with_blocks, FitsInPair, Slot, Pair, pairs_gstate, is_hard_tail, address_blocks, addresses_blocks, first_address, first_pair_slots, has_superblock, count_before_root, pairs_from_root, starts_superblock, BeginsWith, superblock_entry, IsAccepted, IsWritable, all_unmoved_slots, disk_tree, used_blocks, Each, each_right, HasNoMove, zero_gstate, no_move_from, IsChain, pairs_behind, Site, IsDevice, KeepsOutsideBoth, KeptThread, SameGeometryAs, HasOldPair, ChangesThreadBlocks, map_freeing, map_using, thread_pair, option_map, from_first_slots, has_slots, has_no_entry, KeepsStruct, slot_of, is_worn, pair_joined_to, device_from, IsSameWritable, CanMoveNext, IsNextMoved, LossLeavesNextMoved, pair_revision, KeepsSuperblockFirst, AreTwoFree, map_taking_two, SameInFlight}
+use Rattle.lfs_operations.proofs.Common.{All-from_recursion, IsDistinct, recursion_from_All, once_from_distinct, Blocks, AreUsed, BlockStates, content_at, current_block, Disk, HasEither, with_blocks, FitsInPair, Pair, pairs_gstate, is_hard_tail, addresses_blocks, first_address, has_superblock, count_before_root, BeginsWith, superblock_entry, IsAccepted, IsWritable, all_unmoved_slots, disk_tree, used_blocks, Each, each_right, HasNoMove, zero_gstate, no_move_from, Site, IsDevice, KeepsOutsideBoth, KeptThread, SameGeometryAs, HasOldPair, ChangesThreadBlocks, map_freeing, map_using, thread_pair, option_map, from_first_slots, has_no_entry, KeepsStruct, slot_of, is_worn, pair_joined_to, device_from, IsSameWritable, CanMoveNext, IsNextMoved, LossLeavesNextMoved, pair_revision, KeepsSuperblockFirst, AreTwoFree, map_taking_two, SameInFlight}
 use Rattle.lfs_model.specs.format.Thread.{starts_or_later}
 use Rattle.lfs_model.specs.layers.Steps.{SameFileBlocks}
 use Rattle.lfs_model.proofs.MovedBlocks.{relocated_blocks, relocated_length}
@@ -47,7 +47,10 @@ record IsThere (t : KeptThread) (front : ℕ) (p x : Pair) (fresh : ℕ × ℕ) 
   first : KeepsSuperblockFirst t.disk (thread_pair t front).at (pair_joined_to fresh p.content.slots p).content disk
   anew : BeginsWithAnySuperblock (record x { at = fresh }) disk
 
-module _ (t : KeptThread) (index : ℕ) (can : CanMovePair t index) (at : TwoAt t.pairs (index - 1)) (fresh : ℕ × ℕ) (two : AreTwoFree t.map fresh) where
+module _ (t : KeptThread) (index : ℕ) (fresh : ℕ × ℕ) (can : CanMovePair t index fresh) (at : TwoAt t.pairs (index - 1)) where
+  abbrev two : AreTwoFree t.map fresh
+  two = can.free
+
   abbrev front : ℕ
   front = index - 1
 
@@ -173,10 +176,6 @@ module _ (t : KeptThread) (index : ℕ) (can : CanMovePair t index) (at : TwoAt 
         anew = subst (λ (z : Pair). BeginsWithAnySuperblock (record z { at = fresh }) (with_blocks left t.disk)) next_there n.anew;
       })
 
-  pub left_beside_on : (new : KeptThread) → ChangesThreadBlocks (addresses_blocks (thread_pair t (index - 1)).at fresh) (with_map t (map_taking_two t.map fresh)) new → SameExceptThese (address_blocks fresh) t.disk.blocks new.disk.blocks
-      → HasEither new.disk (disk_tree t.disk t.pairs) (disk_tree t.disk t.pairs)
-  left_beside_on new writes others = beside.left_beside_on t can.ready front at.ahead p (x ∷ at.back) at.is place fresh two new writes others
-
   -- ---- it was done
 
   module _ (new : KeptThread) (is : IsNextMoved (with_map t (map_taking_two t.map fresh)) (index - 1) fresh new)
@@ -221,7 +220,7 @@ module _ (t : KeptThread) (index : ℕ) (can : CanMovePair t index) (at : TwoAt 
     flying : SameInFlight t.map new.map
     flying b = let f = beside.flying t can.ready front at.ahead p (x ∷ at.back) at.is place fresh two b in ((λ h. f.0 ((now.flying b).0 h)), (λ h. (now.flying b).1 (f.1 h)))
 
-    pub moved_at : IsMovedAt t index new
+    pub moved_at : IsMovedAt t index fresh new
     moved_at = record {
       moved = record {
         front = at.ahead;
@@ -235,6 +234,7 @@ module _ (t : KeptThread) (index : ℕ) (can : CanMovePair t index) (at : TwoAt 
         unused = beside.unused t can.ready front at.ahead p (x ∷ at.back) at.is place fresh two;
         due = ap (is_worn t.disk) (sym worn_there) ∙ can.worn;
       };
+      to = refl;
       number = let n = at.number in let a = can.above in omega arith;
       files = record {
         ready = record {
@@ -250,6 +250,7 @@ module _ (t : KeptThread) (index : ℕ) (can : CanMovePair t index) (at : TwoAt 
         lists = subst (λ z. All (λ s. SameFileBlocks t.disk new.disk s.struct) (all_unmoved_slots z)) (sym at.is) (relocated new.disk there).device.files;
         flying = flying;
       };
+      others = subst (λ (z : Pair). KeepsOutsideBoth z.at fresh t.disk.blocks new.disk.blocks) front_there writes.others;
       revision = is.revision ∙ ap (λ (z : Pair). option_map (λ r. (r + 1) % 2 ^ 32) (pair_revision t.disk z.at)) next_there;
       as_many = ap (λ z. length (used_blocks new.disk z)) pairs ∙ relocated_length t.disk new.disk at.ahead p x q y at.back no_move (relocated new.disk there)
           ∙ ap (λ z. length (used_blocks t.disk z)) (sym at.is);
@@ -259,5 +260,5 @@ module _ (t : KeptThread) (index : ℕ) (can : CanMovePair t index) (at : TwoAt 
 -- ---- in the operation's words
 
 -- the pair before the worn one, and the worn one
-pub pair_before : (t : KeptThread) (index : ℕ) → CanMovePair t index → TwoAt t.pairs (index - 1)
-pair_before t index can = two_at t.pairs (index - 1) (let a = can.above in let b = can.below in omega arith)
+pub pair_before : (t : KeptThread) (index : ℕ) (fresh : ℕ × ℕ) → CanMovePair t index fresh → TwoAt t.pairs (index - 1)
+pair_before t index fresh can = two_at t.pairs (index - 1) (let a = can.above in let b = can.below in omega arith)

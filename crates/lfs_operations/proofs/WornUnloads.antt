@@ -1,8 +1,10 @@
 -- A worn pair gives its slots to a fresh pair behind it, and keeps its first ones: the image shows the same tree, also at a stop.
-use Rattle.std.proofs.Common.{ℕ, ◌≡◌, ◌≢◌, ◌+◌, ◌-◌, ◌%◌, ◌^◌, ◌<◌, ◌≤◌, ◌⊎◌, inl, inr, Bool, true, false, cond, List, [], ◌∷◌, ◌++◌, length, Some, refl, sym, ap, ap₂, subst, subst₂, ◌∙◌, arith, append_assoc, length-append, slice_get, take, drop}
+use Rattle.std.proofs.Common.{ℕ, ◌≡◌, ◌≢◌, ◌+◌, ◌-◌, ◌*◌, ◌%◌, ◌^◌, ◌<◌, ◌≤◌, ◌⊎◌, inl, inr, Bool, true, false, cond, List, [], ◌∷◌, ◌++◌, length, Some, refl, sym, ap, ap₂, subst, subst₂, ◌∙◌, arith, append_assoc, length-append, slice_get, take, drop}
 use Rattle.std.specs.Prelude.{All}
 use Rattle.std.proofs.lemmas.Bool.{and_from}
-use Rattle.lfs_operations.proofs.Common.{All-from_recursion, recursion_from_All, take-append-drop, Blocks, SameExceptThese, AreUsed, content_at, Disk, FitsInPair, IsWritable, HasNoMove, no_move_from, HasEither, with_blocks, Slot, Pair, pairs_gstate, is_hard_tail, address_blocks, addresses_blocks, has_superblock, may_continue, count_before_root, starts_superblock, IsAccepted, all_unmoved_slots, disk_tree, used_blocks, Each, each_right, IsChain, HasFirst, file_blocks, KeptThread, SameGeometryAs, HasOldPair, ChangesThreadBlocks, BeginWithSuperblock, thread_pair, KeepsOutsideBoth, option_map, length-take-le, from_first_slots, has_slots, has_no_entry, KeepsStruct, is_worn, pair_joined_to, slot_of, first_slot_name, IsTreeEntry, IsSameWritable, Unthreads, pair_revision, KeepsSuperblockFirst, pairs_split, CanUnload, IsUnloaded, LossLeavesUnloaded, AreTwoFree, map_taking_two, SameInFlight, IsReadyImage}
+use Rattle.lfs_operations.proofs.Common.{All-from_recursion, recursion_from_All, take-append-drop, Blocks, AreUsed, content_at, Disk, FitsInPair, IsWritable, HasNoMove, no_move_from, HasEither, with_blocks, Slot, Pair, pairs_gstate, is_hard_tail, addresses_blocks, has_superblock, may_continue, count_before_root, starts_superblock, IsAccepted, all_unmoved_slots, disk_tree, used_blocks, Each, each_right, IsChain, HasFirst, file_blocks, KeptThread, SameGeometryAs, HasOldPair, ChangesThreadBlocks, BeginWithSuperblock, thread_pair, KeepsOutsideBoth, option_map, length-take-le, from_first_slots, has_slots, has_no_entry, KeepsStruct, is_worn, pair_joined_to, slot_of, first_slot_name, IsTreeEntry, IsSameWritable, Unthreads, pair_revision, KeepsSuperblockFirst, pairs_split, CanUnload, IsUnloaded, LossLeavesUnloaded, AreTwoFree, map_taking_two, SameInFlight, IsReadyImage}
+use Rattle.lfs_model.specs.format.Disk.{block_count}
+use Rattle.lfs_model.specs.layers.BlockSets.{used_count}
 use Rattle.lfs_model.specs.layers.Steps.{SameFileBlocks, ends_joined}
 use Rattle.lfs_model.specs.session.Moved.{LeavesEighth, pair_behind}
 use Rattle.lfs_model.specs.tree.View.{HasStruct, IsSuperblockFirst}
@@ -13,7 +15,7 @@ use Rattle.lfs_model.proofs.RootSteps.{kept_bare, root_unloads}
 use Rattle.lfs_model.proofs.Superblocks.{StructMark, hold_each, hold_from_rules, meets_starting, starts, starts_not}
 use Rattle.lfs_model.proofs.Unloaded.{unload}
 use Rattle.lfs_thread.specs.Unloads.{UnloadedOnDisk}
-use Rattle.lfs_operations.specs.Wear.{CanExpandRoot, CanUnloadPair, IsRootExpanded, IsUnloadedAt, HasRoomToUnload, ShowsSameFiles}
+use Rattle.lfs_operations.specs.Wear.{CanExpandRoot, CanUnloadPair, IsRootExpanded, IsUnloadedAt, ShowsSameFiles}
 use Rattle.lfs_operations.proofs.DroppedTails.{TwoAt, front_is, two_at}
 use Rattle.lfs_operations.proofs.FreshBeside as beside
 use Rattle.lfs_operations.proofs.Owning.{length_now, used_more}
@@ -131,14 +133,15 @@ module _ (t : KeptThread) (ready : IsReadyImage t) (index : ℕ) (ahead : List P
         let l = unloaded_length t.disk new.disk ahead x q y back (take keep x.content.slots) (beside.no_move t ready index ahead x back is place fresh two) (unloaded new.disk there_now) (law.bare new.disk (unloaded new.disk there_now)) in
         ap (λ z. length (used_blocks new.disk z)) pairs ∙ (let e = ap (λ z. length (used_blocks t.disk z)) is in omega arith)
 
-    eighth : HasRoomToUnload t.map → LeavesEighth new.disk new.pairs
+    eighth : 8 * (used_count t.map + 2) ≤ 7 * block_count t.disk → LeavesEighth new.disk new.pairs
     eighth room =
         let e = used_count-AreUsed t.map (used_blocks t.disk t.pairs) ready.accepted.owned_once ready.used in
-        let r = room.eighth in
-        let s = ready.size in
         let c = writes.shape.count in
         let l = two_more in
         omega arith
+
+    others : KeepsOutsideBoth x.at fresh t.disk.blocks new.disk.blocks
+    others = subst (λ (z : Pair). KeepsOutsideBoth z.at fresh t.disk.blocks new.disk.blocks) there writes.others
 
     revision_now : pair_revision new.disk fresh ≡ option_map (λ r. (r + 1) % 2 ^ 32) (pair_revision t.disk x.at)
     revision_now = done.revision ∙ ap (λ (z : Pair). option_map (λ r. (r + 1) % 2 ^ 32) (pair_revision t.disk z.at)) there
@@ -190,7 +193,10 @@ has_root ahead n few = go (drop n ahead) refl
     go [] e = absurd (let t = ap length (take-append-drop n ahead) in let l = length-append (take n ahead) (drop n ahead) in let k = length-take-le n ahead (omega arith) in let d = ap length e in omega arith)
     go (f ∷ rest) e = record { chain = take n ahead; first = f; rest = rest; is = sym (take-append-drop n ahead) ∙ ap (λ z. take n ahead ++ z) e; count = length-take-le n ahead (omega arith) }
 
-module _ (t : KeptThread) (index : ℕ) (can : CanUnloadPair t index) (at : TwoAt t.pairs (index - 1)) (fresh : ℕ × ℕ) (two : AreTwoFree t.map fresh) where
+module _ (t : KeptThread) (index : ℕ) (fresh : ℕ × ℕ) (can : CanUnloadPair t index fresh) (at : TwoAt t.pairs (index - 1)) where
+  abbrev two : AreTwoFree t.map fresh
+  two = can.free
+
   abbrev pairs_ahead : List Pair
   pairs_ahead = at.ahead ++ at.one ∷ []
 
@@ -198,7 +204,7 @@ module _ (t : KeptThread) (index : ℕ) (can : CanUnloadPair t index) (at : TwoA
   pairs_are = at.is ∙ sym (append_assoc at.ahead (at.one ∷ []) (at.other ∷ at.back))
 
   number_is : index ≡ length (at.ahead ++ at.one ∷ []) + 0
-  number_is = let l = length-append at.ahead (at.one ∷ []) in let n = at.number in let r = can.root in omega arith
+  number_is = let l = length-append at.ahead (at.one ∷ []) in let n = at.number in let r = can.begins.behind in omega arith
 
   one_there : thread_pair t (index - 1) ≡ at.one
   one_there = front_is t (index - 1) at.ahead at.one at.other at.back at.is at.number
@@ -207,13 +213,13 @@ module _ (t : KeptThread) (index : ℕ) (can : CanUnloadPair t index) (at : TwoA
   worn_there = beside.pair_there t can.ready index pairs_ahead at.other at.back pairs_are number_is fresh two
 
   soft : is_hard_tail at.one.content.tail ≡ false
-  soft = ap (λ (z : Pair). is_hard_tail z.content.tail) (sym one_there) ∙ can.first
+  soft = ap (λ (z : Pair). is_hard_tail z.content.tail) (sym one_there) ∙ can.begins.first
 
   some : has_slots at.other.content.slots ≡ true
-  some = ap (λ (z : Pair). has_slots z.content.slots) (sym worn_there) ∙ can.some
+  some = ap (λ (z : Pair). has_slots z.content.slots) (sym worn_there) ∙ can.begins.some
 
   r : HasRoot (at.ahead ++ at.one ∷ []) (count_before_root t.pairs)
-  r = has_root pairs_ahead (count_before_root t.pairs) (let n = number_is in let c = can.root in omega arith)
+  r = has_root pairs_ahead (count_before_root t.pairs) (let n = number_is in let c = can.begins.behind in omega arith)
 
   there_is : (zs : List Pair) → (at.ahead ++ at.one ∷ []) ++ zs ≡ r.chain ++ (r.first ∷ r.rest ++ zs)
   there_is zs = ap (λ z. z ++ zs) r.is ∙ append_assoc r.chain (r.first ∷ r.rest) zs
@@ -277,13 +283,9 @@ module _ (t : KeptThread) (index : ℕ) (can : CanUnloadPair t index) (at : TwoA
   pub pair_left : (left : Blocks) → LossLeavesUnloaded (with_map t (map_taking_two t.map fresh)) index fresh 0 left → HasEither (with_blocks left t.disk) (disk_tree t.disk t.pairs) (disk_tree t.disk t.pairs)
   pair_left left l = left_unloaded t can.ready index pairs_ahead at.other at.back pairs_are number_is 0 fresh two (count_before_root t.pairs) pair_law left l
 
-  pub pair_beside : (new : KeptThread) → ChangesThreadBlocks (addresses_blocks (thread_pair t index).at fresh) (with_map t (map_taking_two t.map fresh)) new → SameExceptThese (address_blocks fresh) t.disk.blocks new.disk.blocks
-      → HasEither new.disk (disk_tree t.disk t.pairs) (disk_tree t.disk t.pairs)
-  pair_beside new writes others = beside.left_beside_on t can.ready index pairs_ahead at.other at.back pairs_are number_is fresh two new writes others
-
   module _ (new : KeptThread) (done : IsUnloaded (with_map t (map_taking_two t.map fresh)) index fresh 0 new)
       (writes : ChangesThreadBlocks (addresses_blocks (thread_pair t index).at fresh) (with_map t (map_taking_two t.map fresh)) new) where
-    pub unloaded_at : IsUnloadedAt t index new
+    pub unloaded_at : IsUnloadedAt t index fresh new
     unloaded_at = record {
       unloaded = record {
         front = at.ahead;
@@ -296,11 +298,13 @@ module _ (t : KeptThread) (index : ℕ) (can : CanUnloadPair t index) (at : TwoA
         some = some;
         is = pairs t can.ready index pairs_ahead at.other at.back pairs_are number_is 0 fresh two (count_before_root t.pairs) pair_law new done writes ∙ append_assoc at.ahead (at.one ∷ []) (pair_joined_to fresh [] at.other ∷ pair_behind fresh at.other ∷ at.back);
         unused = beside.unused t can.ready index pairs_ahead at.other at.back pairs_are number_is fresh two;
-        room = eighth t can.ready index pairs_ahead at.other at.back pairs_are number_is 0 fresh two (count_before_root t.pairs) pair_law new done writes can.room;
+        room = eighth t can.ready index pairs_ahead at.other at.back pairs_are number_is 0 fresh two (count_before_root t.pairs) pair_law new done writes can.eighth;
         due = ap (is_worn t.disk) (sym worn_there) ∙ can.worn;
       };
-      number = let n = at.number in let c = can.root in omega arith;
+      to = refl;
+      number = let n = at.number in let c = can.begins.behind in omega arith;
       files = files t can.ready index pairs_ahead at.other at.back pairs_are number_is 0 fresh two (count_before_root t.pairs) pair_law new done writes;
+      others = others t can.ready index pairs_ahead at.other at.back pairs_are number_is 0 fresh two (count_before_root t.pairs) pair_law new done writes;
       revision = revision_now t can.ready index pairs_ahead at.other at.back pairs_are number_is 0 fresh two (count_before_root t.pairs) pair_law new done writes;
       two_more = two_more t can.ready index pairs_ahead at.other at.back pairs_are number_is 0 fresh two (count_before_root t.pairs) pair_law new done writes;
       root = root_now t can.ready index pairs_ahead at.other at.back pairs_are number_is 0 fresh two (count_before_root t.pairs) pair_law new done writes;
@@ -330,7 +334,10 @@ pub record HasFirstPair (ps : List Pair) : Type 0 where
   pub others : List Pair
   pub is : ps ≡ first ∷ others
 
-module _ (t : KeptThread) (can : CanExpandRoot t) (at : HasFirstPair t.pairs) (fresh : ℕ × ℕ) (two : AreTwoFree t.map fresh) where
+module _ (t : KeptThread) (fresh : ℕ × ℕ) (can : CanExpandRoot t fresh) (at : HasFirstPair t.pairs) where
+  abbrev free : AreTwoFree t.map fresh
+  free = can.free
+
   root_accepted : IsAccepted t.disk (at.first ∷ at.others)
   root_accepted = subst (IsAccepted t.disk) at.is can.ready.accepted
 
@@ -366,18 +373,14 @@ module _ (t : KeptThread) (can : CanExpandRoot t) (at : HasFirstPair t.pairs) (f
           (and_from (has_no_entry (take 1 at.first.content.slots)) true (take_bare at.first.content.slots root_starts) refl)) root_number
 
   pub root_can : CanUnload (with_map t (map_taking_two t.map fresh)) 0 fresh 1
-  root_can = can_unload t can.ready 0 [] at.first at.others at.is refl 1 fresh two 1 root_law
+  root_can = can_unload t can.ready 0 [] at.first at.others at.is refl 1 fresh free 1 root_law
 
   pub root_left : (left : Blocks) → LossLeavesUnloaded (with_map t (map_taking_two t.map fresh)) 0 fresh 1 left → HasEither (with_blocks left t.disk) (disk_tree t.disk t.pairs) (disk_tree t.disk t.pairs)
-  root_left left l = left_unloaded t can.ready 0 [] at.first at.others at.is refl 1 fresh two 1 root_law left l
-
-  pub root_beside : (new : KeptThread) → ChangesThreadBlocks (addresses_blocks (thread_pair t 0).at fresh) (with_map t (map_taking_two t.map fresh)) new → SameExceptThese (address_blocks fresh) t.disk.blocks new.disk.blocks
-      → HasEither new.disk (disk_tree t.disk t.pairs) (disk_tree t.disk t.pairs)
-  root_beside new writes others = beside.left_beside_on t can.ready 0 [] at.first at.others at.is refl fresh two new writes others
+  root_left left l = left_unloaded t can.ready 0 [] at.first at.others at.is refl 1 fresh free 1 root_law left l
 
   module _ (new : KeptThread) (done : IsUnloaded (with_map t (map_taking_two t.map fresh)) 0 fresh 1 new)
       (writes : ChangesThreadBlocks (addresses_blocks (thread_pair t 0).at fresh) (with_map t (map_taking_two t.map fresh)) new) where
-    pub root_expanded : IsRootExpanded t new
+    pub root_expanded : IsRootExpanded t fresh new
     root_expanded = record {
       unloaded = record {
         worn = at.first;
@@ -385,24 +388,26 @@ module _ (t : KeptThread) (can : CanExpandRoot t) (at : HasFirstPair t.pairs) (f
         to = fresh;
         was = at.is;
         root = can.root;
-        is = pairs t can.ready 0 [] at.first at.others at.is refl 1 fresh two 1 root_law new done writes;
-        unused = beside.unused t can.ready 0 [] at.first at.others at.is refl fresh two;
-        room = eighth t can.ready 0 [] at.first at.others at.is refl 1 fresh two 1 root_law new done writes can.room;
-        due = ap (is_worn t.disk) (sym (beside.pair_there t can.ready 0 [] at.first at.others at.is refl fresh two)) ∙ can.worn;
+        is = pairs t can.ready 0 [] at.first at.others at.is refl 1 fresh free 1 root_law new done writes;
+        unused = beside.unused t can.ready 0 [] at.first at.others at.is refl fresh free;
+        room = eighth t can.ready 0 [] at.first at.others at.is refl 1 fresh free 1 root_law new done writes can.eighth;
+        due = ap (is_worn t.disk) (sym (beside.pair_there t can.ready 0 [] at.first at.others at.is refl fresh free)) ∙ can.worn;
       };
-      files = files t can.ready 0 [] at.first at.others at.is refl 1 fresh two 1 root_law new done writes;
-      revision = revision_now t can.ready 0 [] at.first at.others at.is refl 1 fresh two 1 root_law new done writes;
-      two_more = two_more t can.ready 0 [] at.first at.others at.is refl 1 fresh two 1 root_law new done writes;
-      root = root_now t can.ready 0 [] at.first at.others at.is refl 1 fresh two 1 root_law new done writes;
+      to = refl;
+      files = files t can.ready 0 [] at.first at.others at.is refl 1 fresh free 1 root_law new done writes;
+      others = others t can.ready 0 [] at.first at.others at.is refl 1 fresh free 1 root_law new done writes;
+      revision = revision_now t can.ready 0 [] at.first at.others at.is refl 1 fresh free 1 root_law new done writes;
+      two_more = two_more t can.ready 0 [] at.first at.others at.is refl 1 fresh free 1 root_law new done writes;
+      root = root_now t can.ready 0 [] at.first at.others at.is refl 1 fresh free 1 root_law new done writes;
     }
 
-pub root_begins : (t : KeptThread) → CanExpandRoot t → HasFirstPair t.pairs
-root_begins t can = go t.pairs refl
+pub root_begins : (t : KeptThread) (fresh : ℕ × ℕ) → CanExpandRoot t fresh → HasFirstPair t.pairs
+root_begins t fresh can = go t.pairs refl
   where
     go : (ps : List Pair) → t.pairs ≡ ps → HasFirstPair t.pairs
     go [] e = absurd (let k = ap (λ z. first_slot_name (from_first_slots z)) (sym e) ∙ can.ready.accepted.named in cc)
     go (p ∷ ps) e = record { first = p; others = ps; is = e }
 
 -- the pair before the worn one, and the worn one
-pub pair_before : (t : KeptThread) (index : ℕ) → CanUnloadPair t index → TwoAt t.pairs (index - 1)
-pair_before t index can = two_at t.pairs (index - 1) (let a = can.root in let b = can.below in omega arith)
+pub pair_before : (t : KeptThread) (index : ℕ) (fresh : ℕ × ℕ) → CanUnloadPair t index fresh → TwoAt t.pairs (index - 1)
+pair_before t index fresh can = two_at t.pairs (index - 1) (let a = can.begins.behind in let b = can.below in omega arith)

@@ -43,12 +43,14 @@ pub record CanMovePair (t : KeptThread) (index : ℕ) (fresh : ℕ × ℕ) : Typ
   pub worn : is_worn t.disk (thread_pair t index) ≡ true
   pub free : AreTwoFree t.map fresh
 
--- The pair of that number is at these two blocks. As many blocks are used as before.
+-- The pair of that number is at these two blocks. No other block changed but those of the pair before it. As many blocks are used
+-- as before.
 pub record IsMovedAt (old : KeptThread) (index : ℕ) (fresh : ℕ × ℕ) (new : KeptThread) : Type 0 where
   pub moved : IsPairMoved old.disk old.pairs new.pairs
   pub to : moved.to ≡ fresh
   pub number : length moved.front + 1 ≡ index
   pub files : ShowsSameFiles old new
+  pub others : KeepsOutsideBoth moved.before.at fresh old.disk.blocks new.disk.blocks
   pub revision : RevisionGoesOn old.disk moved.worn.at new.disk moved.to
   pub as_many : length (used_blocks new.disk new.pairs) ≡ length (used_blocks old.disk old.pairs)
   pub root : KeepsRootNumber old new
@@ -62,7 +64,7 @@ pub record HasRoomToUnload (t : KeptThread) (limit : ℕ) : Type 0 where
 
 -- the pair has slots, and is the first of a directory behind the root
 pub record BeginsBehindRoot (t : KeptThread) (root index : ℕ) : Type 0 where
-  pub root : root < index
+  pub behind : root < index
   pub first : is_hard_tail (thread_pair t (index - 1)).content.tail ≡ false
   pub some : has_slots (thread_pair t index).content.slots ≡ true
 
@@ -75,12 +77,14 @@ pub record CanUnloadPair (t : KeptThread) (index : ℕ) (fresh : ℕ × ℕ) : T
   pub eighth : 8 * (used_count t.map + 2) ≤ 7 * block_count t.disk
   pub free : AreTwoFree t.map fresh
 
--- The slots of the pair of that number are in a pair behind it, at these two blocks. Two more blocks are used.
+-- The slots of the pair of that number are in a pair behind it, at these two blocks. No other block changed but the pair's own. Two
+-- more blocks are used.
 pub record IsUnloadedAt (old : KeptThread) (index : ℕ) (fresh : ℕ × ℕ) (new : KeptThread) : Type 0 where
   pub unloaded : IsPairUnloaded old.disk old.pairs new.disk new.pairs
   pub to : unloaded.to ≡ fresh
   pub number : length unloaded.front + 1 ≡ index
   pub files : ShowsSameFiles old new
+  pub others : KeepsOutsideBoth unloaded.worn.at fresh old.disk.blocks new.disk.blocks
   pub revision : RevisionGoesOn old.disk unloaded.worn.at new.disk unloaded.to
   pub two_more : length (used_blocks new.disk new.pairs) ≡ length (used_blocks old.disk old.pairs) + 2
   pub root : KeepsRootNumber old new
@@ -93,11 +97,13 @@ pub record CanExpandRoot (t : KeptThread) (fresh : ℕ × ℕ) : Type 0 where
   pub eighth : 8 * (used_count t.map + 2) ≤ 7 * block_count t.disk
   pub free : AreTwoFree t.map fresh
 
--- The root directory begins with the second pair, at these two blocks. Two more blocks are used.
+-- The root directory begins with the second pair, at these two blocks. No other block changed but those of the first pair. Two more
+-- blocks are used.
 pub record IsRootExpanded (old : KeptThread) (fresh : ℕ × ℕ) (new : KeptThread) : Type 0 where
   pub unloaded : IsRootUnloaded old.disk old.pairs new.disk new.pairs
   pub to : unloaded.to ≡ fresh
   pub files : ShowsSameFiles old new
+  pub others : KeepsOutsideBoth unloaded.worn.at fresh old.disk.blocks new.disk.blocks
   pub revision : RevisionGoesOn old.disk unloaded.worn.at new.disk unloaded.to
   pub two_more : length (used_blocks new.disk new.pairs) ≡ length (used_blocks old.disk old.pairs) + 2
   pub root : count_before_root new.pairs ≡ 1

@@ -66,11 +66,7 @@ fn begins_behind_root<D: BlockDevice>(thread: &Thread<D>, root: usize, index: us
 
 // Returns the number of the pair that would be committed to, so that the pair of a number moves.
 // Returns None where that can't move.
-fn committed_by_move<D: BlockDevice>(
-    thread: &Thread<D>,
-    root: usize,
-    index: usize,
-) -> Option<usize>
+fn committed_by_move<D: BlockDevice>(thread: &Thread<D>, root: usize, index: usize) -> Option<usize>
     requires works { thread.now.failed ≡ false }
     requires below { index < length thread.now.kept.pairs }
     ensures { IfSome result (λ committed. committed < length thread.now.kept.pairs) }
@@ -101,16 +97,25 @@ fn find_wearing<D: BlockDevice>(thread: &Thread<D>, root: usize) -> Option<[u32;
     None
 }
 
+// Finds two free blocks, which stay free. Returns None where fewer than two are free.
+fn find_two_free<D: BlockDevice>(thread: &mut Thread<D>) -> Option<[u32; 2]>
+    ensures free { IfSome result (λ fresh. AreTwoFree thread.old.kept.map (array_address fresh)) }
+    ensures same { thread.new ≡ thread.old }
+{
+    let Some(fresh) = take_two_blocks(thread) else {
+        return None;
+    };
+    thread.release(fresh[1]);
+    thread.release(fresh[0]);
+    Some(fresh)
+}
+
 /// Plans the move of a worn pair, before an operation that takes at most `room` blocks. Returns None
 /// where no pair is worn, or is so after one more erase. The device isn't called.
 ///
 /// A pair is worn where the revision of its log is a multiple of the profile's `pair_cycles`
 /// (`block_cycles` of littlefs). Where these are 0, none is.
-pub fn plan_move<D: BlockDevice>(
-    thread: &mut Thread<D>,
-    root: usize,
-    room: u32,
-) -> Option<MovePlan>
+pub fn plan_move<D: BlockDevice>(thread: &mut Thread<D>, root: usize, room: u32) -> Option<MovePlan>
     requires works { thread.old.failed ≡ false }
     ensures plan { IfSome result (IsPlanFor thread.old.kept room) }
     ensures same { thread.new ≡ thread.old }
@@ -118,11 +123,9 @@ pub fn plan_move<D: BlockDevice>(
     let Some(at) = find_wearing(thread, root) else {
         return None;
     };
-    let Some(fresh) = take_two_blocks(thread) else {
+    let Some(fresh) = find_two_free(thread) else {
         return None;
     };
-    thread.release(fresh[0]);
-    thread.release(fresh[1]);
     let limit = thread.used_count().saturating_add(room);
     Some(MovePlan { fresh, at, limit })
 }

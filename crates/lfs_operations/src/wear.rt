@@ -111,7 +111,8 @@ fn find_two_free<D: BlockDevice>(thread: &mut Thread<D>) -> Option<[u32; 2]>
 }
 
 /// Plans the move of a worn pair, before an operation that takes at most `room` blocks. Returns None
-/// where no pair is worn, or is so after one more erase. The device isn't called.
+/// where no pair is worn, or is so after one more erase. So it does where such a pair can't move, and
+/// where fewer than two blocks are free. The device isn't called.
 ///
 /// A pair is worn where the revision of its log is a multiple of the profile's `pair_cycles`
 /// (`block_cycles` of littlefs). Where these are 0, none is.

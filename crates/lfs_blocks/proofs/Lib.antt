@@ -1,3 +1,4 @@
 pub mod EntryLemmas
 pub mod MarkLemmas
 pub mod SetLemmas
+pub mod UsedLemmas

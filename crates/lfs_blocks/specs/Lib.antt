@@ -3,3 +3,4 @@ pub mod CacheView
 pub mod Marks
 pub mod Next
 pub mod BlockReads
+pub mod UsedBlocks

@@ -1,11 +1,14 @@
-ghost use Rattle.std.specs.Prelude.{◌≡◌, ◌⊎◌, ◌<◌, ◌≤◌, ◌+◌, ℕ, List, [], is_some, length, slice_range, unwrap_or, IfErr, IfOk, IfSome, None, OnErr, OnOk, option_copied, option_map};
+ghost use Rattle.std.specs.Prelude.{◌≡◌, ◌⊎◌, ◌<◌, ◌≤◌, ◌+◌, ℕ, List, [], is_some, length, slice_range, unwrap_or, IfErr, IfOk, IfSome, None, OnErr, OnOk, option_copied, option_map, true, IfNone};
 ghost use Rattle.std.specs.Bool.{OnFalse, OnTrue};
 ghost use Rattle.lfs_model.specs.format.Blocks.{block_bytes};
 ghost use Rattle.lfs_model.specs.layers.Cache.{cache_limit, cached_bytes, cache_with, cache_without};
 ghost use Rattle.lfs_device.specs.DeviceCalls.{ReadsOrIo, ReadsOrNoMemory, ReadsOnly, ReportsFaults};
 ghost use Rattle.lfs_model.specs.session.History.{read_count};
+ghost use Rattle.lfs_model.specs.layers.BlockSets.{IsUsedBlock};
+ghost use Rattle.lfs_blocks.specs.UsedBlocks.{AreCachedUsed, KeepsUsed};
 ghost use Rattle.lfs_blocks.specs.BlockReads.{ReadsUnlessCached, ReadsOnceUncached};
 
+use crate::block_map::BlockMap;
 use lfs_device::{BlockDevice, Error, read_block};
 use lru::LruCache;
 use std::alloc::Global;
@@ -145,6 +148,32 @@ impl Cache {
         self.recent.clear();
     }
 
+    /// Takes the blocks out of the cache that aren't used by the map, and drops their bytes. The
+    /// call takes no memory and makes no call of the device.
+    pub fn forget_unused(&mut self, map: &BlockMap)
+        ensures { KeepsUsed map.now self.old self.new }
+    {
+        for _ in 0..8 {
+            match self.find_unused(map) {
+                Some(block) => self.forget(block),
+                None => return,
+            }
+        }
+        self.clear();
+    }
+
+    // Returns a cached block that isn't used by the map, if there is one.
+    fn find_unused(&self, map: &BlockMap) -> Option<u32>
+        ensures { IfNone result (AreCachedUsed map.now self.now) }
+    {
+        for entry in self.recent.iter() {
+            if !is_used_among(map, *entry.0) {
+                return Some(*entry.0);
+            }
+        }
+        None
+    }
+
     // Makes a cached block the most recent one. Returns whether the block is cached.
     fn promote(&mut self, block: u32) -> bool
         ensures cached_log { result ≡ is_some (cached_bytes self.old block) }
@@ -178,6 +207,13 @@ impl Cache {
             Err(_) => {}
         }
     }
+}
+
+// Returns whether a block is used. The map may have no such block.
+fn is_used_among(map: &BlockMap, block: u32) -> bool
+    ensures { result ≡ true → IsUsedBlock map.now block }
+{
+    block < map.block_count() && map.is_used(block)
 }
 
 // Copies bytes from an offset on into the buffer.

@@ -1,9 +1,10 @@
 -- What is kept of a thread, where no block of its pairs changes.
 use Rattle.std.proofs.Common.{ℕ, ◌≡◌, ◌≤◌, List, [], ◌∷◌, length, Some, None, refl, sym, ap, ap₂, subst, ◌∙◌, arith}
 use Rattle.std.specs.Prelude.{unwrap_or}
-use Rattle.lfs_thread.proofs.Common.{option_and_then, disk_of_blocks, Blocks, block_bytes, BlockStates, IsUsedBlock, CachedBlocks, cached_bytes, complete_content, Disk, CallEvent, zero_gstate, AreLinked, anchor_address, pairs_blocks, Contains-number_occurrences, number_occurrences, count_here, IsSameAt, raw_same, header_address, AllBlocksUsed, AreHeaders, PairHeader, IsCacheCurrent, disk_pair_at, header_pairs, kept_of_device, disk_of_device, KeepsPairBlocks}
+use Rattle.lfs_thread.proofs.Common.{option_and_then, disk_of_blocks, Blocks, block_bytes, BlockStates, IsUsedBlock, CachedBlocks, complete_content, Disk, CallEvent, zero_gstate, AreLinked, anchor_address, pairs_blocks, Contains-number_occurrences, number_occurrences, count_here, IsSameAt, raw_same, header_address, AllBlocksUsed, AreHeaders, PairHeader, IsCacheCurrent, disk_pair_at, header_pairs, kept_of_device, disk_of_device, KeepsPairBlocks}
 use Rattle.lfs_device.specs.declared.device.BlockDevice.{Ghosts}
 use Rattle.lfs_device.specs.declared.geometry.Geometry.{Geometry}
+use Rattle.lfs_blocks.specs.UsedBlocks.{KeepsUsed}
 use Rattle.lfs_thread.specs.Kept.{IsKept}
 use Rattle.lfs_thread.proofs.Coming.{used_at}
 use Rattle.lfs_thread.proofs.Keeping.{IsAsItWas, header_same}
@@ -55,7 +56,7 @@ module _ {D : Type 0} (g : Ghosts D) (device : D) (map : BlockStates) (later : D
 
   was : (b : ℕ) → 1 ≤ number_occurrences b bs → IsAsItWas (g.blocks device) (g.blocks later) (g.history device) (g.history later) b
   was b k = let u = used_at map b bs kept.used k in let in_pairs = Contains-number_occurrences bs b k in record {
-    same = leaves.same b in_pairs u;
+    same = leaves.same b u;
     stays = λ k. leaves.stays b k in_pairs u;
   }
 
@@ -75,6 +76,7 @@ module _ {D : Type 0} (g : Ghosts D) (device : D) (map : BlockStates) (later : D
         (used_beside map later_map bs kept.used (λ b k u. leaves.used b (Contains-number_occurrences bs b k) u));
   }
 
--- an empty cache is current
-pub none_is_cached : (blocks : Blocks) (cache : CachedBlocks) → cache ≡ [] → IsCacheCurrent blocks cache
-none_is_cached blocks cache empty b bytes has = absurd (let e : None ≡ Some bytes = ap (λ c. cached_bytes c b) (sym empty) ∙ has in cc)
+-- used blocks that don't change stay current in the cache
+pub used_stay_current : (blocks later : Blocks) (map : BlockStates) (old new : CachedBlocks) → KeepsUsed map old new → IsCacheCurrent blocks old
+    → ((b : ℕ) → IsUsedBlock map b → block_bytes later b ≡ block_bytes blocks b) → IsCacheCurrent later new
+used_stay_current blocks later map old new keeps current same b bytes has = current b bytes (keeps.same b bytes has) ∙ sym (same b (keeps.used b bytes has))

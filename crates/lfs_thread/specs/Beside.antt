@@ -44,11 +44,11 @@ pub record WorkMayReturn {F D X : Type 0} (call : DeviceWork F D X) (work : F) (
   pub leaves : left.now ≡ later
   pub leaves_map : left_map.now ≡ later_map
 
--- No used block of the thread's pairs changes, its unprogrammed bytes stay so, and it stays used.
+-- No used block changes. Of one of the thread's pairs the unprogrammed bytes stay so, and it stays used.
 pub record KeepsPairBlocks {D : Type 0} (g : Ghosts D) (t : KeptThread) (device : D) (map : BlockStates) (later : D) (later_map : BlockStates) : Type 0 where
   pub geometry : g.geometry later ≡ g.geometry device
   pub count : length (g.blocks later) ≡ length (g.blocks device)
-  pub same : (b : ℕ) → Contains (pairs_blocks t.pairs) b → IsUsedBlock map b → block_bytes (g.blocks later) b ≡ block_bytes (g.blocks device) b
+  pub same : (b : ℕ) → IsUsedBlock map b → block_bytes (g.blocks later) b ≡ block_bytes (g.blocks device) b
   pub stays : (b k : ℕ) → Contains (pairs_blocks t.pairs) b → IsUsedBlock map b → is_unprogrammed_byte (g.history device) b k ≡ true → is_unprogrammed_byte (g.history later) b k ≡ true
   pub size : length later_map ≡ length map
   pub used : (b : ℕ) → Contains (pairs_blocks t.pairs) b → IsUsedBlock map b → IsUsedBlock later_map b

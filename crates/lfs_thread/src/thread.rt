@@ -13,6 +13,7 @@ ghost use Rattle.lfs_model.specs.format.Thread.{pairs_gstate, is_hard_tail, addr
 ghost use Rattle.lfs_tag.specs.ContentView.{tail_view};
 ghost use Rattle.lfs_tag.specs.FieldsView.{move_view};
 ghost use Rattle.lfs_pair.specs.ChangeView.{changes_view};
+ghost use Rattle.lfs_blocks.specs.UsedBlocks.{KeepsUsed};
 ghost use Rattle.lfs_thread.specs.Beside.{CanRunWork, HasRunWork, HasGeometry, KeepsPairBlocks, WorkMayReturn, BelongToThread};
 ghost use Rattle.lfs_thread.specs.ThreadDevice.{GivesDeviceBack, CleanLossLeaves};
 ghost use Rattle.lfs_thread.specs.Kept.{IsCacheCurrent, IsKept, WasKeptOnDevice, disk_of_device, kept_in_order};
@@ -599,9 +600,9 @@ impl<D: BlockDevice> Thread<D> {
         result
     }
 
-    /// Lends the device and the map to `work`, which leaves the blocks of the pairs as they are,
-    /// and used. Such work writes a file's list into free blocks or blocks in flight, or settles it
-    /// in the map. The cache is empty afterwards.
+    /// Lends the device and the map to `work`, which leaves used blocks as they are, and those of the
+    /// pairs used. Such work writes a file's list into free blocks or blocks in flight, or settles
+    /// it in the map. Blocks that weren't used before aren't cached afterwards.
     pub fn run_on_device<X, F: FnOnce(&mut D, &mut BlockMap) -> X>(&mut self, work: F) -> X
         requires works { self.old.failed ≡ false }
         requires can { (device : D) (map : BlockMap) → BelongToThread D.BlockDevice self.old.kept device map → CanRunWork F.FnOnce work device map }
@@ -610,9 +611,9 @@ impl<D: BlockDevice> Thread<D> {
         ensures ran { HasRunWork D.BlockDevice F.FnOnce work self.old.kept result self.new.kept }
         ensures pairs { self.new.kept.pairs ≡ self.old.kept.pairs }
         ensures works { self.new.failed ≡ false }
-        ensures cache { self.new.cache ≡ [] }
+        ensures cache { KeepsUsed self.old.kept.map self.old.cache self.new.cache }
     {
-        self.cache.clear();
+        self.cache.forget_unused(&self.map);
         work(&mut self.device, &mut self.map)
     }
 

@@ -41,7 +41,7 @@ module _ {D : Type 0} (g : Ghosts D) (t : KeptThread) (device : D) (map : BlockS
   settle_leaves later later_map only keeps = record {
     geometry = only.geometry;
     count = ap length only.same;
-    same = λ b _ _. ap (λ (d : Blocks). block_bytes d b) only.same;
+    same = λ b _. ap (λ (d : Blocks). block_bytes d b) only.same;
     stays = λ b k _ _ was. is_unprogrammed_byte-read_count b k only.reads ∙ was;
     size = keeps.count;
     used = λ b has used. keeps.others b (λ in_lists. can.apart b has

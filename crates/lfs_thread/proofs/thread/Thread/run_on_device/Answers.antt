@@ -1,7 +1,8 @@
 use Rattle.std.proofs.Common.{◌≡◌, refl, sym, ap, subst, ◌∙◌}
 use Rattle.lfs_thread.proofs.Common.{ThreadView, disk_of_device, kept_of_device, ordered_disk, KeepsPairBlocks}
+use Rattle.lfs_blocks.specs.UsedBlocks.{KeepsUsed}
 use Rattle.lfs_thread.proofs.InOrder.{leaves_in}
-use Rattle.lfs_thread.proofs.Beside.{kept_left, none_is_cached, pairs_left}
+use Rattle.lfs_thread.proofs.Beside.{kept_left, pairs_left, used_stay_current}
 use Rattle.lfs_thread.proofs.thread.Thread.run_on_device.Goals as goal
 
 pub work-requires : goal.work-requires
@@ -19,7 +20,8 @@ invariant_of-self g c _ =
     let here = leaves_in g.D.BlockDevice c.self.inside.order (kept_of_device g.D.BlockDevice c.self.inside.device c.self.inside.pairs.items c.self.inside.map) c.self.inside.device c.self.inside.map c.work.new.arg2 c.work.new.arg3
     (subst (λ (v : ThreadView). KeepsPairBlocks g.D.BlockDevice v.kept c.self.inside.device c.self.inside.map c.work.new.arg2 c.work.new.arg3) (sym c.self.view_is) leaves) in (
       kept_left g.D.BlockDevice c.self.inside.device c.self.inside.map c.work.new.arg2 c.work.new.arg3 c.self.inside.pairs.items (c.self.invariant works).0 here,
-      none_is_cached (g.D.BlockDevice.blocks c.work.new.arg2) c.clear.new.self c.clear.ensures,
+      used_stay_current (g.D.BlockDevice.blocks c.self.inside.device) (g.D.BlockDevice.blocks c.work.new.arg2) c.self.inside.map c.self.inside.cache c.forget_unused.new.self
+          c.forget_unused.ensures (c.self.invariant works).1 leaves.same,
     )
 
 pub returns-clause-ran : goal.returns-clause-ran
@@ -44,3 +46,6 @@ returns-clause-pairs g c =
     (subst (λ (v : ThreadView). KeepsPairBlocks g.D.BlockDevice v.kept c.self.inside.device c.self.inside.map c.work.new.arg2 c.work.new.arg3) (sym c.self.view_is) leaves) in
     pairs_left g.D.BlockDevice c.self.inside.device c.self.inside.map c.work.new.arg2 c.work.new.arg3 c.self.inside.pairs.items (c.self.invariant works).0 here
     ∙ ap (λ (v : ThreadView). v.kept.pairs) c.self.view_is
+
+pub returns-clause-cache : goal.returns-clause-cache
+returns-clause-cache g c = subst (λ (v : ThreadView). KeepsUsed v.kept.map v.cache c.forget_unused.new.self) c.self.view_is c.forget_unused.ensures

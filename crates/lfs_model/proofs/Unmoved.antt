@@ -1,9 +1,9 @@
 -- Whether a pair moves after an operation: after most none does, and never where the profile gives no cycles.
 use Rattle.std.proofs.Common.{ℕ, ◌≡◌, inl, inr, true, false, List, [], ◌∷◌, ◌++◌, append_assoc, Option, Some, None, refl, sym, ap, subst, ◌∙◌}
-use Rattle.lfs_model.proofs.Common.{Disk, SameGeometry, current_block, Pair, IsAccepted, IsWritable, disk_tree, CallEvent, LeftByLatest, IsRecovered, operation_effect, Operation, Session, DiskSummary, IsLayoutRecovered, is_worn_block, is_worn}
+use Rattle.lfs_model.proofs.Common.{Blocks, Disk, SameGeometry, current_block, Pair, IsAccepted, IsWritable, disk_tree, CallEvent, LeftByLatest, IsRecovered, operation_effect, Operation, Session, DiskSummary, IsLayoutRecovered, is_worn_block, is_worn}
 use Rattle.lfs_model.specs.declared.limits.Profile.{Profile}
 use Rattle.lfs_model.proofs.Counts.{Each}
-use Rattle.lfs_model.proofs.Sites.{any_from, among_right}
+use Rattle.lfs_model.proofs.Sites.{any_from, among_from, among_left, among_right}
 use Rattle.lfs_model.proofs.Committed.{recovered_from}
 use Rattle.lfs_model.proofs.Arranged.{IsFinished}
 use Rattle.lfs_model.proofs.RootSteps.{IsSameWritable}
@@ -12,6 +12,24 @@ use Rattle.lfs_model.specs.session.Moved.{IsMoved, IsWearSpread, HadBlocks, IsLa
 pub nothing_moves : (disk : Disk) (ps : List Pair) (s : Session) (op : Operation) (calls : List CallEvent) (new : Disk) (qs : List Pair) → SameGeometry disk new → IsAccepted new qs →
     IsLayoutRecovered disk ps s op new qs → IsLayoutMoved disk ps s op calls new qs
 nothing_moves disk ps s op calls new qs geometry ok laid = record { done = new; after = qs; had = inr (inl refl); geometry = geometry; accepted = ok; operation = laid; spread = inl (refl, refl) }
+
+-- after more calls, which came before these, the layout is the same
+pub moved_behind : (disk : Disk) (ps : List Pair) (s : Session) (op : Operation) (calls earlier : List CallEvent) (new : Disk) (qs : List Pair) → IsLayoutMoved disk ps s op calls new qs → IsLayoutMoved disk ps s op (calls ++ earlier) new qs
+moved_behind disk ps s op calls earlier new qs h = record {
+  done = h.done;
+  after = h.after;
+  had = had_behind disk calls earlier new h.done.blocks h.had;
+  geometry = h.geometry;
+  accepted = h.accepted;
+  operation = h.operation;
+  spread = h.spread;
+}
+  where
+    had_behind : (disk : Disk) (calls earlier : List CallEvent) (new : Disk) (blocks : Blocks) → HadBlocks disk calls new blocks → HadBlocks disk (calls ++ earlier) new blocks
+    had_behind disk calls earlier new blocks (inl e) = inl e
+    had_behind disk calls earlier new blocks (inr (inl e)) = inr (inl e)
+    had_behind disk calls earlier new blocks (inr (inr h)) =
+        inr (inr (any_from (λ e. e.after ≡ blocks) (calls ++ earlier) (among_left (λ e. e.after ≡ blocks) calls earlier (among_from (λ e. e.after ≡ blocks) calls h))))
 
 never_worn : (cycles : ℕ) (block : Option (List ℕ)) → cycles ≡ 0 → is_worn_block cycles block ≡ true → ⊥
 never_worn cycles None e h = absurd (cc)
@@ -66,8 +84,8 @@ finished_unmoved disk ps s op calls new qs geometry h = record {
 }
 
 -- the newest call left the blocks that the operation left, or there was none
-pub had_latest : (disk mid new : Disk) (later calls old : List CallEvent) → LeftByLatest (calls ++ old) mid.blocks → (calls ≡ [] → mid ≡ disk) → HadBlocks disk (later ++ calls) new mid.blocks
-had_latest disk mid new later [] old latest still = inl (ap (λ (d : Disk). d.blocks) (still refl))
+pub had_latest : (disk mid new : Disk) (later calls old : List CallEvent) → LeftByLatest (calls ++ old) mid.blocks → (calls ≡ [] → mid.blocks ≡ disk.blocks) → HadBlocks disk (later ++ calls) new mid.blocks
+had_latest disk mid new later [] old latest still = inl (still refl)
 had_latest disk mid new later (e ∷ calls) old latest still = inr (inr (any_from (λ c. c.after ≡ mid.blocks) (later ++ e ∷ calls) (among_right (λ c. c.after ≡ mid.blocks) later (e ∷ calls) (inl (latest e (calls ++ old) refl)))))
 
 -- The operation is finished on the disk between, and then a pair moves or none does.

@@ -1,10 +1,12 @@
 -- An operation that is carried out, by what its steps say.
 use Rattle.std.proofs.Common.{ℕ, zero, suc, ◌≡◌, ◌≢◌, ◌⊎◌, inl, inr, ◌<◌, ◌≤◌, ◌∙◌, true, false, List, [], ◌∷◌, ◌++◌, length, refl, sym, ap, subst, append_assoc, length-append, slice_index_or, arith}
 use Rattle.std.specs.Prelude.{All, Contains, slice_get}
-use Rattle.lfs_tree.proofs.Common.{AllByRecursion, All-from_recursion, same_Some, is_file, AreUsed, BlockStates, IsFree, IsInFlight, IsUsedBlock, Free, InFlight, Used, Disk, disk_block, CallEvent, OnlyReadsSince, fault_count, IsDirectoryPair, struct_at, Operation, is_recover, renames_itself, OpenFilesByNumber, Slot, zero_gstate, Pair, pairs_blocks, pairs_gstate, Path, IsAccepted, IsWritable, all_unmoved_slots, struct_blocks, disk_tree, used_blocks, arranged_settled, Contains-head, Contains-tail, Contains-number_occurrences, number_occurrences-Contains, CompletesOperation, recovered_from, Each, number_occurrences, count_append, each_from_counted, each_pieces, each_weaker, once_from_distinct, is_unprogrammed_byte-read_count, file_blocks, WritesThreadFree, IsReadyImage, KeptThread, OnlyReadsThread, ChangesThreadBlocks, empty_anchor, thread_pair, AppliesOperation, KeepsFileAt, KeepsListBytes}
+use Rattle.lfs_tree.proofs.Common.{AllByRecursion, All-from_recursion, same_Some, is_file, AreUsed, BlockStates, IsFree, IsInFlight, IsUsedBlock, Free, InFlight, Used, Disk, disk_block, CallEvent, OnlyReadsSince, fault_count, IsDirectoryPair, struct_at, Operation, is_recover, renames_itself, OpenFilesByNumber, Slot, zero_gstate, Pair, pairs_blocks, pairs_gstate, Path, IsAccepted, IsWritable, all_unmoved_slots, struct_blocks, disk_tree, used_blocks, arranged_settled, Contains-head, Contains-tail, SameGeometry, IsLayoutRecovered, Contains-number_occurrences, number_occurrences-Contains, CompletesOperation, recovered_from, Each, number_occurrences, count_append, each_from_counted, each_pieces, each_weaker, once_from_distinct, is_unprogrammed_byte-read_count, file_blocks, WritesThreadFree, IsReadyImage, KeptThread, OnlyReadsThread, ChangesThreadBlocks, empty_anchor, thread_pair, AppliesInPlace, AppliesOperation, KeepsFileAt, KeepsListBytes}
 use Rattle.lfs_model.proofs.KeptStructs.{none_stored}
+use Rattle.lfs_model.proofs.Unmoved.{nothing_moves}
 use Rattle.lfs_tree.specs.KeptFiles.{list_blocks_at}
 use Rattle.lfs_tree.proofs.KeptFiles.{keeps_by, list_used, no_pairs}
+use Rattle.lfs_tree.proofs.TakenEdits.{room_taken}
 
 -- the same thread, after other calls
 abbrev pub with_history : KeptThread → List CallEvent → KeptThread
@@ -49,7 +51,7 @@ pub among_two : (t : KeptThread) (index last : ℕ) (fresh : List ℕ) → index
 among_two t index last fresh below within free = let k = pair_blocks t.pairs index below in (inl k.0, (inl k.1, among_one t last fresh within free))
 
 -- no block that is in flight is one of them
-apart_flying : (t : KeptThread) (bs : List ℕ) → AreUsed t.map (used_blocks t.disk t.pairs) → AllByRecursion (IsPairsOrFree t) bs → (b : ℕ) → IsInFlight t.map b → All (λ c. c ≢ b) bs
+pub apart_flying : (t : KeptThread) (bs : List ℕ) → AreUsed t.map (used_blocks t.disk t.pairs) → AllByRecursion (IsPairsOrFree t) bs → (b : ℕ) → IsInFlight t.map b → All (λ c. c ≢ b) bs
 apart_flying t bs used each b flies = All-from_recursion (λ c. c ≢ b) bs (each_weaker (IsPairsOrFree t) (λ c. c ≢ b) other bs each)
   where
     other : (c : ℕ) → IsPairsOrFree t c → c ≢ b
@@ -129,32 +131,45 @@ pub record IsWorked (a : KeptThread) (h : List CallEvent) (op : Operation) (c : 
   pub writes : WritesThreadFree (with_history a h) c
   pub no_fault : fault_count c.history ≡ fault_count a.history
 
-pub carried : (a : KeptThread) (h : List CallEvent) (op : Operation) (c : KeptThread) → IsWorked a h op c → renames_itself op ≡ false → is_recover op ≡ false → AppliesOperation a op c
-carried a h op c w other asks = record {
-  works = refl;
-  sound = record { accepted = w.ready.accepted; fits = λ e. w.ready.writable; is_kept = λ k. refl; used = w.ready.used; size = w.ready.size };
-  writable = refl;
-  geometry = record { block_size = wrote.shape.block_size; page = wrote.shape.page; order = wrote.shape.order; profile = wrote.shape.profile; count = wrote.shape.count };
-  calls = wrote.at_worst.events ++ w.reads.events;
-  called = wrote.at_worst.extends ∙ ap (λ z. wrote.at_worst.events ++ z) w.reads.extends ∙ sym (append_assoc wrote.at_worst.events w.reads.events a.history);
-  no_fault = w.no_fault;
-  fits = w.ready.writable;
-  recovered = recovered_from c.disk c.pairs w.ready.accepted w.ready.settled;
-  shows = λ around files. (w.completed files).tree around;
-  arranged = λ files. arranged_settled a.disk a.pairs (record { tree = disk_tree a.disk a.pairs; files = files }) op c.disk c.pairs w.accepted w.writable w.settled (w.completed files).laid_out;
-  itself = λ e. let k = sym other ∙ e in absurd (cc);
-  nothing_left = λ e. let k = sym asks ∙ e in absurd (cc);
-  flight = record {
-    stay = w.stay;
-    none_comes = w.none_comes;
-    bytes = λ b flies. wrote.others.others b (apart_flying a w.writes.blocks w.used w.writes.each b flies);
-    unprogrammed_still = λ b k flies was. wrote.elsewhere.stays b k (apart_flying a w.writes.blocks w.used w.writes.each b flies) (is_unprogrammed_byte-read_count b k w.reads ∙ was);
-  };
-  keeps = λ path file away.
-      let k = keeps_writing (with_history a h) c w.writes.blocks w.accepted w.used w.writes.each wrote path file ((w.completed []).structs path file away (none_stored (disk_tree a.disk a.pairs) op path)) in
-      record { file = k.file; struct = k.struct; list = k.list; bytes = k.bytes };
-  lists = λ none. lists_stay (with_history a h) c w.writes.blocks w.accepted w.used w.writes.each wrote;
-}
+pub carried : (a : KeptThread) (h : List CallEvent) (op : Operation) (c : KeptThread) → IsWorked a h op c → renames_itself op ≡ false → is_recover op ≡ false → AppliesInPlace a op c
+carried a h op c w other asks = record { applied = applied; stays = stays }
   where
     wrote : ChangesThreadBlocks w.writes.blocks (with_history a h) c
     wrote = w.writes.writes
+
+    geometry : SameGeometry a.disk c.disk
+    geometry = record { block_size = wrote.shape.block_size; page = wrote.shape.page; order = wrote.shape.order; profile = wrote.shape.profile; count = wrote.shape.count }
+
+    calls : List CallEvent
+    calls = wrote.at_worst.events ++ w.reads.events
+
+    stays : (files : OpenFilesByNumber) → IsLayoutRecovered a.disk a.pairs (record { tree = disk_tree a.disk a.pairs; files = files }) op c.disk c.pairs
+    stays files = arranged_settled a.disk a.pairs (record { tree = disk_tree a.disk a.pairs; files = files }) op c.disk c.pairs w.accepted w.writable w.settled (w.completed files).laid_out
+
+    applied : AppliesOperation a op c
+    applied = record {
+      works = refl;
+      sound = record { accepted = w.ready.accepted; fits = λ e. w.ready.writable; is_kept = λ k. refl; used = w.ready.used; size = w.ready.size };
+      writable = refl;
+      geometry = geometry;
+      calls = calls;
+      called = wrote.at_worst.extends ∙ ap (λ z. wrote.at_worst.events ++ z) w.reads.extends ∙ sym (append_assoc wrote.at_worst.events w.reads.events a.history);
+      no_fault = w.no_fault;
+      fits = w.ready.writable;
+      recovered = recovered_from c.disk c.pairs w.ready.accepted w.ready.settled;
+      shows = λ around files. (w.completed files).tree around;
+      arranged = λ called files. nothing_moves a.disk a.pairs (record { tree = disk_tree a.disk a.pairs; files = files }) op calls c.disk c.pairs geometry w.ready.accepted (stays files);
+      itself = λ e. let k = sym other ∙ e in absurd (cc);
+      nothing_left = λ e. let k = sym asks ∙ e in absurd (cc);
+      flight = record {
+        stay = w.stay;
+        none_comes = w.none_comes;
+        bytes = λ b flies. wrote.others.others b (apart_flying a w.writes.blocks w.used w.writes.each b flies);
+        unprogrammed_still = λ b k flies was. wrote.elsewhere.stays b k (apart_flying a w.writes.blocks w.used w.writes.each b flies) (is_unprogrammed_byte-read_count b k w.reads ∙ was);
+      };
+      keeps = λ path file away.
+          let k = keeps_writing (with_history a h) c w.writes.blocks w.accepted w.used w.writes.each wrote path file ((w.completed []).structs path file away (none_stored (disk_tree a.disk a.pairs) op path)) in
+          record { file = k.file; struct = k.struct; list = k.list; bytes = k.bytes };
+      taken = room_taken a.disk c.disk a.pairs c.pairs (disk_tree a.disk a.pairs) op w.writable geometry (stays []);
+      lists = λ none. lists_stay (with_history a h) c w.writes.blocks w.accepted w.used w.writes.each wrote;
+    }

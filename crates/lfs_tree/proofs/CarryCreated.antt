@@ -1,6 +1,6 @@
 -- A file or a directory that comes to a path.
 use Rattle.std.proofs.Common.{ℕ, ◌≡◌, ◌≢◌, ◌≤◌, ◌∙◌, ◌++◌, inr, true, false, List, [], ◌∷◌, Result, Ok, Err, refl, sym, ap, subst, arith}
-use Rattle.lfs_tree.proofs.Common.{list_all, ltb-false, same_Some, AreByteBlocks, LeavesOthers, changed_paths, OpenFilesByNumber, Session, Pair, tree_creating, last_name, BlockStates, IsFree, IsInFlight, Free, InFlight, charge_limit, CallEvent, OnlyReadsSince, fault_count, Name, is_component, is_valid_name, FlagsOfOpen, Operation, entry_charge, path_or_root, Path, Tree, DirectoryNode, FileNode, disk_tree, each_weaker, last_is, here, WritesPairTwo, IsPairTouched, CanCreateIn, IsFileCreated, tree_with_file, AreBothTouched, CanMakeAt, IsDirectoryMade, WritesPairsFour, tree_with_directory, IsReadyImage, KeptThread, ThreadView, ChangesThreadBlocks, thread_pair, CanAddEntry, tree_after_call, AppliesOperation, HasAppliedCall, CanChangeRecovered, AppliesOrFails, IsNewSpot, IsVacantPath, HasSoundImage, SurvivesEither, kept_state, tree_summary}
+use Rattle.lfs_tree.proofs.Common.{list_all, ltb-false, same_Some, AreByteBlocks, LeavesOthers, changed_paths, OpenFilesByNumber, Session, Pair, tree_creating, last_name, BlockStates, IsFree, IsInFlight, Free, InFlight, charge_limit, CallEvent, OnlyReadsSince, fault_count, Name, is_component, is_valid_name, FlagsOfOpen, Operation, entry_charge, path_or_root, Path, Tree, DirectoryNode, FileNode, disk_tree, each_weaker, last_is, here, WritesPairTwo, IsPairTouched, CanCreateIn, IsFileCreated, tree_with_file, AreBothTouched, CanMakeAt, IsDirectoryMade, WritesPairsFour, tree_with_directory, IsReadyImage, KeptThread, ThreadView, ChangesThreadBlocks, thread_pair, CanAddEntry, tree_after_call, AppliesInPlace, HasAppliedCall, CanChangeRecovered, AppliesOrFails, IsNewSpot, IsVacantPath, HasSoundImage, SurvivesEither, kept_state, tree_summary}
 use Rattle.lfs_device.specs.declared.error.Error.{Error}
 use Rattle.lfs_model.specs.session.Operations as ops
 use Rattle.lfs_operations.specs.Ready.{KeepsTakenStates}
@@ -81,7 +81,7 @@ module _ (t : ThreadView) (root : ℕ) (rests : CanChangeRecovered t root) (path
   }
 
   created_at : (c : KeptThread) (given : List ℕ) (flags : FlagsOfOpen) → fault_count c.history ≡ fault_count t.kept.history → OnlyReadsSince t.kept.disk.blocks t.kept.history h → WritesPairTwo (with_history t.kept h) spot.pair c
-      → ((can : CanCreateIn (with_history t.kept h) spot.pair spot.id name) → IsFileCreated (with_history t.kept h) c can.path name) → path_or_root given ≡ path → AppliesOperation t.kept (ops.Open given flags) c
+      → ((can : CanCreateIn (with_history t.kept h) spot.pair spot.id name) → IsFileCreated (with_history t.kept h) c can.path name) → path_or_root given ≡ path → AppliesInPlace t.kept (ops.Open given flags) c
   unfolding can_create
   created_at c given flags quiet reads writes gives e =
       let is : IsFileCreated (with_history t.kept h) c place.above name = gives can_create in
@@ -115,7 +115,7 @@ module _ (t : ThreadView) (root : ℕ) (rests : CanChangeRecovered t root) (path
       (λ has n. alters (subst (Contains c.pairs) (sym is) has))
 
   made_at : (c : KeptThread) (given : List ℕ) → fault_count c.history ≡ fault_count t.kept.history → OnlyReadsSince t.kept.disk.blocks t.kept.history h → WritesPairsFour (with_history t.kept h) spot.pair c
-      → ((can : CanMakeAt (with_history t.kept h) spot.pair spot.id name) → IsDirectoryMade (with_history t.kept h) c can.path name) → 4 ≤ need → path_or_root given ≡ path → AppliesOperation t.kept (ops.Mkdir given) c
+      → ((can : CanMakeAt (with_history t.kept h) spot.pair spot.id name) → IsDirectoryMade (with_history t.kept h) c can.path name) → 4 ≤ need → path_or_root given ≡ path → AppliesInPlace t.kept (ops.Mkdir given) c
   unfolding can_make
   made_at c given quiet reads writes gives enough e =
       let is : IsDirectoryMade (with_history t.kept h) c place.above name = gives (can_make enough) in
@@ -176,7 +176,7 @@ module _ (t : ThreadView) (root : ℕ) (rests : CanChangeRecovered t root) (path
       go (Err e) gives alters same = tt
       go (Ok x) gives alters same = (
         record {
-          carries = does_create (λ op. AppliesOperation t.kept op new.kept) path (λ given flags e. created_at new.kept given flags same reads w gives e);
+          carries = does_create (λ op. AppliesInPlace t.kept op new.kept) path (λ given flags e. created_at new.kept given flags same reads w gives e);
           spares = λ op does none files. created_alone new.kept op files w alters;
         },
         create_stands t.kept new.kept path given any_flags can.nothing named (created_at new.kept given any_flags same reads w gives named) (gives can_create).now.root,
@@ -193,7 +193,7 @@ module _ (t : ThreadView) (root : ℕ) (rests : CanChangeRecovered t root) (path
       go (Err e) gives alters same = tt
       go (Ok x) gives alters same = (
         record {
-          carries = does_mkdir (λ op. AppliesOperation t.kept op new.kept) path (λ given e. made_at new.kept given same reads w gives enough e);
+          carries = does_mkdir (λ op. AppliesInPlace t.kept op new.kept) path (λ given e. made_at new.kept given same reads w gives enough e);
           spares = λ op does none files. made_alone new.kept op files w alters;
         },
         mkdir_stands t.kept new.kept path given named (made_at new.kept given same reads w gives enough named) (gives (can_make enough)).now.root,

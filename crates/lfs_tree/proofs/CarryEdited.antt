@@ -2,7 +2,7 @@
 use Rattle.std.proofs.Common.{ℕ, ◌≡◌, ◌<◌, ◌≤◌, ◌∙◌, ◌++◌, true, false, List, [], ◌∷◌, length, Some, None, Result, Ok, Err, refl, sym, ap, subst}
 use Rattle.std.specs.Prelude.{All, is_none, Any, OnOk}
 use Rattle.lfs_device.specs.declared.error.Error.{Error}
-use Rattle.lfs_tree.proofs.Common.{AllByRecursion, option_map, ltb-false, recursion_from_All, AreByteBlocks, IsFree, HasPathSlot, LeavesOthers, changed_paths, OpenFilesByNumber, node_attributes_of, last_name, attributes_with, attributes_without, charge_limit, inline_limit, CallEvent, OnlyReadsSince, fault_count, Name, Operation, is_recover, renames_itself, slot_of, Attributes, Slot, Struct, Inline, Ctz, Branch, entry_charge, path_or_root, is_root_path, Pair, address_blocks, Path, Tree, struct_node, IsWritableSlot, InlineBytesFit, struct_list_bytes, all_entries, disk_tree, Each, each_right, last_is, here, WritesPairTwo, CanEditIn, CanSetAttribute, HasRemovedAttribute, HasSetAttribute, tree_setting_attributes, KeptThread, ThreadView, ChangesThreadBlocks, thread_pair, CanRemoveAttr, CanSetAttr, tree_after_call, AppliesOperation, HasAppliedCall, CanChangeRecovered, AppliesOrFails, SparesOutsideOperation, HasSoundImage, SurvivesEither, HasPathEntry, IsPathSpot, is_entry_found, tree_with_attributes, kept_state, LeadsToResult, IsSlotBelow}
+use Rattle.lfs_tree.proofs.Common.{AllByRecursion, option_map, ltb-false, recursion_from_All, AreByteBlocks, IsFree, HasPathSlot, LeavesOthers, changed_paths, OpenFilesByNumber, node_attributes_of, last_name, attributes_with, attributes_without, charge_limit, inline_limit, CallEvent, OnlyReadsSince, fault_count, Name, Operation, is_recover, renames_itself, slot_of, Attributes, Slot, Struct, Inline, Ctz, Branch, entry_charge, path_or_root, is_root_path, Pair, address_blocks, Path, Tree, struct_node, IsWritableSlot, InlineBytesFit, struct_list_bytes, all_entries, disk_tree, Each, each_right, last_is, here, WritesPairTwo, CanEditIn, CanSetAttribute, HasRemovedAttribute, HasSetAttribute, tree_setting_attributes, KeptThread, ThreadView, ChangesThreadBlocks, thread_pair, CanRemoveAttr, CanSetAttr, tree_after_call, AppliesInPlace, HasAppliedCall, CanChangeRecovered, AppliesOrFails, SparesOutsideOperation, HasSoundImage, SurvivesEither, HasPathEntry, IsPathSpot, is_entry_found, tree_with_attributes, kept_state, LeadsToResult, IsSlotBelow}
 use Rattle.lfs_model.specs.session.Operations as ops
 use Rattle.lfs_operations.specs.Editing.{HasAttributesChanged}
 use Rattle.lfs_tree.proofs.LeftAlone.{about_one, holds_slot, rest_left_alone}
@@ -115,7 +115,7 @@ module _ (t : ThreadView) (root : ℕ) (rests : CanChangeRecovered t root) (path
   slot_below = behind_below t.kept.pairs slot.first spot.pair slot.stands.stands.pair slot.stands.stands.rest slot.stands.stands.place
 
   edited_at : (c : KeptThread) (f : Attributes → Attributes) (op : List ℕ → Operation) (given : List ℕ) (bs : List ℕ) → fault_count c.history ≡ fault_count t.kept.history → OnlyReadsSince t.kept.disk.blocks t.kept.history h → ChangesThreadBlocks bs (with_history t.kept h) c → AllByRecursion (IsPairsOrFree t.kept) bs
-      → HasAttributesChanged (with_history t.kept h) c slot.above slot.name f op → path_or_root given ≡ path → renames_itself (op given) ≡ false → is_recover (op given) ≡ false → AppliesOperation t.kept (op given) c
+      → HasAttributesChanged (with_history t.kept h) c slot.above slot.name f op → path_or_root given ≡ path → renames_itself (op given) ≡ false → is_recover (op given) ≡ false → AppliesInPlace t.kept (op given) c
   edited_at c f op given bs quiet reads writes among is e other asks = carried t.kept h (op given) c
       (record {
         accepted = rests.held.sound.accepted;
@@ -133,14 +133,14 @@ module _ (t : ThreadView) (root : ℕ) (rests : CanChangeRecovered t root) (path
 
   set_at : (c : KeptThread) (kind : ℕ) (bytes_given given : List ℕ) (bs : List ℕ) → CanSetAttr (kept_state t.kept true false) path kind bytes_given → fault_count c.history ≡ fault_count t.kept.history → OnlyReadsSince t.kept.disk.blocks t.kept.history h → ChangesThreadBlocks bs (with_history t.kept h) c
       → AllByRecursion (IsPairsOrFree t.kept) bs → ((set : CanSetAttribute (with_history t.kept h) spot.pair spot.id kind bytes_given) → HasSetAttribute (with_history t.kept h) c set.can.path set.can.name kind bytes_given)
-      → path_or_root given ≡ path → AppliesOperation t.kept (ops.SetAttr given kind bytes_given) c
+      → path_or_root given ≡ path → AppliesInPlace t.kept (ops.SetAttr given kind bytes_given) c
   unfolding can_set can_edit
   set_at c kind bytes_given given bs can quiet reads writes among gives e =
       let is : HasSetAttribute (with_history t.kept h) c slot.above slot.name kind bytes_given = gives (can_set kind bytes_given can) in
       edited_at c (attributes_with kind bytes_given) (λ z. ops.SetAttr z kind bytes_given) given bs quiet reads writes among is e refl refl
 
   cleared_at : (c : KeptThread) (kind : ℕ) (given : List ℕ) (bs : List ℕ) → fault_count c.history ≡ fault_count t.kept.history → OnlyReadsSince t.kept.disk.blocks t.kept.history h → ChangesThreadBlocks bs (with_history t.kept h) c → AllByRecursion (IsPairsOrFree t.kept) bs
-      → ((can : CanEditIn (with_history t.kept h) spot.pair spot.id) → HasRemovedAttribute (with_history t.kept h) c can.path can.name kind) → path_or_root given ≡ path → AppliesOperation t.kept (ops.RemoveAttr given kind) c
+      → ((can : CanEditIn (with_history t.kept h) spot.pair spot.id) → HasRemovedAttribute (with_history t.kept h) c can.path can.name kind) → path_or_root given ≡ path → AppliesInPlace t.kept (ops.RemoveAttr given kind) c
   unfolding can_edit
   cleared_at c kind given bs quiet reads writes among gives e =
       let is : HasRemovedAttribute (with_history t.kept h) c slot.above slot.name kind = gives can_edit in
@@ -191,10 +191,10 @@ module _ (t : ThreadView) (root : ℕ) (rests : CanChangeRecovered t root) (path
           → OnOk r (fault_count new.kept.history ≡ fault_count t.kept.history) → OnOk r (HasAppliedCall t.kept (call.SetAttr path kind value) new.kept × HasSoundImage t.kept (tree_after_call (call.SetAttr path kind value) before) new.kept)
       go (Err e) gives same = tt
       go (Ok x) gives same =
-          let at : (given : List ℕ) → path_or_root given ≡ path → AppliesOperation t.kept (ops.SetAttr given kind value) new.kept
+          let at : (given : List ℕ) → path_or_root given ≡ path → AppliesInPlace t.kept (ops.SetAttr given kind value) new.kept
           = λ given e. set_at new.kept kind value given _ can same reads w.writes (among_one t.kept spot.pair w.fresh slot_below w.free) gives e in (
             record {
-              carries = does_set (λ op. AppliesOperation t.kept op new.kept) path kind value at;
+              carries = does_set (λ op. AppliesInPlace t.kept op new.kept) path kind value at;
               spares = does_set (λ op. SparesOutsideOperation t.kept op new.kept) path kind value (λ given e none files. edited_alone new.kept (ops.SetAttr given kind value) files given w.fresh refl e w.free w.writes);
             },
             set_stands t.kept new.kept path kind value given named (at given named) (gives (can_set kind value can)).now.root,
@@ -212,10 +212,10 @@ module _ (t : ThreadView) (root : ℕ) (rests : CanChangeRecovered t root) (path
           → OnOk r (fault_count new.kept.history ≡ fault_count t.kept.history) → OnOk r (HasAppliedCall t.kept (call.RemoveAttr path kind) new.kept × HasSoundImage t.kept (tree_after_call (call.RemoveAttr path kind) before) new.kept)
       go (Err e) gives same = tt
       go (Ok x) gives same =
-          let at : (given : List ℕ) → path_or_root given ≡ path → AppliesOperation t.kept (ops.RemoveAttr given kind) new.kept
+          let at : (given : List ℕ) → path_or_root given ≡ path → AppliesInPlace t.kept (ops.RemoveAttr given kind) new.kept
           = λ given e. cleared_at new.kept kind given _ same reads w (among_one t.kept spot.pair [] slot_below tt) gives e in (
             record {
-              carries = does_clear (λ op. AppliesOperation t.kept op new.kept) path kind at;
+              carries = does_clear (λ op. AppliesInPlace t.kept op new.kept) path kind at;
               spares = does_clear (λ op. SparesOutsideOperation t.kept op new.kept) path kind (λ given e none files. edited_alone new.kept (ops.RemoveAttr given kind) files given [] refl e tt w);
             },
             clear_stands t.kept new.kept path kind given named (at given named) (gives can_edit).now.root,

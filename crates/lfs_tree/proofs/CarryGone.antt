@@ -1,7 +1,7 @@
 -- An entry that goes, at a path.
 use Rattle.std.proofs.Common.{ℕ, ◌≡◌, ◌≤◌, ◌-◌, ◌∙◌, ◌++◌, true, false, List, [], ◌∷◌, length, Some, None, ◌⊎◌, inl, Result, Ok, Err, refl, sym, ap, subst, arith}
 use Rattle.std.specs.Prelude.{nat_lt, IfErr, OnOk, is_err}
-use Rattle.lfs_tree.proofs.Common.{option_and_then, ltb-false, length-map, same_Some, slice_get_within, AreByteBlocks, ChangesOnlyMap, ThreadReportsFaults, directory_names, tree_removing, Disk, CallEvent, OnlyReadsSince, fault_count, Slot, Struct, Inline, Ctz, Branch, path_or_root, Pair, count_before_root, addresses_blocks, Path, Tree, branch_address, LeadsTo, all_entries, disk_tree, used_blocks, Contains-number_occurrences, number_occurrences-Contains, CompletesOperation, no_move_from, SameInFlight, IsReadyImage, IsReadyUnsettled, written_by_removal, CanRemoveDirectory, IsDirectoryRemoved, KeptThread, ThreadView, ChangesThreadBlocks, thread_pair, WritesThreadFree, CanRemoveEntry, tree_after_call, AppliesOperation, HasAppliedCall, CanChangeRecovered, AppliesOrFails, SparesOutsideOperation, HasSoundImage, SurvivesEither, HasPathEntry, IsPathSpot, is_entry_found, IsStorage, CanRemoveFound, HasRemovedEntry, SparesInRemoval, kept_state, LeadsToResult, IsSlotBelow, directory_at_path}
+use Rattle.lfs_tree.proofs.Common.{option_and_then, ltb-false, length-map, same_Some, slice_get_within, AreByteBlocks, ChangesOnlyMap, ThreadReportsFaults, directory_names, tree_removing, Disk, CallEvent, OnlyReadsSince, fault_count, Slot, Struct, Inline, Ctz, Branch, path_or_root, Pair, count_before_root, addresses_blocks, Path, Tree, branch_address, LeadsTo, all_entries, disk_tree, used_blocks, Contains-number_occurrences, number_occurrences-Contains, CompletesOperation, no_move_from, SameInFlight, IsReadyImage, IsReadyUnsettled, written_by_removal, CanRemoveDirectory, IsDirectoryRemoved, KeptThread, ThreadView, ChangesThreadBlocks, thread_pair, WritesThreadFree, CanRemoveEntry, tree_after_call, AppliesInPlace, HasAppliedCall, CanChangeRecovered, AppliesOrFails, SparesOutsideOperation, HasSoundImage, SurvivesEither, HasPathEntry, IsPathSpot, is_entry_found, IsStorage, CanRemoveFound, HasRemovedEntry, SparesInRemoval, kept_state, LeadsToResult, IsSlotBelow, directory_at_path}
 use Rattle.lfs_device.specs.declared.error.Error.{Error}
 use Rattle.lfs_device.specs.declared.error.Error.TheVariants.{Io, NoMemory}
 use Rattle.lfs_model.proofs.Orders.{length_in_order}
@@ -153,7 +153,7 @@ directory_writes old new pair id first gone take w = record {
 }
 
 module _ (t : ThreadView) (root : ℕ) (rests : CanChangeRecovered t root) (path : Path) (h : List CallEvent) (c : KeptThread) (reads : OnlyReadsSince t.kept.disk.blocks t.kept.history h) (w : WritesThreadFree (with_history t.kept h) c) where
-  removed_at : (given : List ℕ) → HasRemovedEntry (with_history t.kept h) path c → fault_count c.history ≡ fault_count t.kept.history → path_or_root given ≡ path → AppliesOperation t.kept (ops.Remove given) c
+  removed_at : (given : List ℕ) → HasRemovedEntry (with_history t.kept h) path c → fault_count c.history ≡ fault_count t.kept.history → path_or_root given ≡ path → AppliesInPlace t.kept (ops.Remove given) c
   removed_at given g quiet e = carried t.kept h (ops.Remove given) c
       (record {
         accepted = rests.held.sound.accepted;
@@ -224,7 +224,7 @@ module _ (t : ThreadView) (root : ℕ) (rests : CanChangeRecovered t root) (path
       go (Err e) gone spared same = tt
       go (Ok x) gone spared same = (
         record {
-          carries = does_remove (λ op. AppliesOperation t.kept op new.kept) path (λ given e. removed_at t root rests path h new.kept reads w given gone same e);
+          carries = does_remove (λ op. AppliesInPlace t.kept op new.kept) path (λ given e. removed_at t root rests path h new.kept reads w given gone same e);
           spares = does_remove (λ op. SparesOutsideOperation t.kept op new.kept) path (λ given e none files. spared (record { tree = disk_tree t.kept.disk t.kept.pairs; files = files }) given e);
         },
         remove_stands t.kept new.kept path given named (removed_at t root rests path h new.kept reads w given gone same named) gone.root,

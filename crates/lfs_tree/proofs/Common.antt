@@ -110,7 +110,7 @@ pub use Rattle.lfs_tree.specs.Stores.{CanCommitContents, CanPutContents, Changes
 pub use Rattle.lfs_tree.specs.StructChanges.{IsContentsStruct}
 pub use Rattle.lfs_tree.specs.ThreadContents.{AreOnThread, CanFinish, CanTruncate, CanWrite, HaveThreadForm, KeepsPairs, ThreadReportsFaults, contents_list_blocks}
 pub use Rattle.lfs_tree.specs.TreeCalls.{IsOperationCall, tree_after_call}
-pub use Rattle.lfs_tree.specs.TreeChanges.{AppliesOperation, AppliesOrFails, CanChangeRecovered, ChangesTreeOrFails, HasAppliedCall, HasFurtherCalls, HasSoundImage, HasThreadCause, IsNamedResult, IsNewSpot, IsVacantPath, SparesOutsideOperation, SurvivesEither}
+pub use Rattle.lfs_tree.specs.TreeChanges.{AppliesInPlace, AppliesOperation, AppliesOrFails, CanChangeRecovered, ChangesTreeOrFails, HasAppliedCall, HasFurtherCalls, HasSoundImage, HasThreadCause, IsNamedResult, IsNewSpot, IsVacantPath, SparesOutsideOperation, SurvivesEither}
 pub use Rattle.lfs_tree.specs.TreeReads.{ReadsPairsOnce}
 pub use Rattle.lfs_tree.specs.TreeState.{HasErrorCause, IsApplied, IsFailedTree, IsMountedTree, IsSoundState, KeepsInFlight, TreeState, kept_thread, shown_tree, tree_summary, without_cache}
 pub use Rattle.std.proofs.Math.Nat.{min-le_right}

@@ -38,11 +38,14 @@ pub mod BesideWritten
 pub mod OpenedFiles
 pub mod Operated
 pub mod NotedErrors
+pub mod Relocated
+pub mod SpreadWear
 pub mod TreeCalls
 pub mod PutContents
 pub mod CommitContents
 pub mod SettledContents
 pub mod StoreContents
+pub mod StoredMoving
 pub mod ContentsStay
 pub mod WritersStay
 pub mod TakenBlocks

@@ -1,13 +1,14 @@
 -- A recovery over a thread, step by step.
 use Rattle.std.proofs.Common.{ℕ, zero, suc, ◌≡◌, ◌≢◌, ◌+◌, ◌≤◌, ◌<◌, ◌⊎◌, ◌∙◌, ◌==◌, inl, inr, Bool, true, false, not, eqb-true, List, [], ◌∷◌, ◌++◌, length, take, get_or, Option, None, Result, Err, refl, sym, ap, ap₂, subst, subst₂, arith, append_assoc, flat_map, length-append}
 use Rattle.std.specs.Prelude.{All, IfErr}
-use Rattle.lfs_tree.proofs.Common.{All-from_recursion, same_Some, ChangesOnlyMap, ThreadReportsFaults, AreUsed, IsInFlight, IsUsedBlock, InFlight, Used, Disk, AllCalls, AllCallsSince, CallEvent, OnlyReadsSince, fault_count, struct_at, continued_address, HasEither, SurvivesLossSince, with_blocks, OpenFilesByNumber, Session, Gstate, zero_gstate, is_zero, Pair, pairs_blocks, pairs_from_root, pairs_gstate, count_before_root, Tree, IsAccepted, IsReachedBySome, all_unmoved_slots, struct_blocks, disk_tree, used_blocks, IsWritable, survives_then, arranged_after, arranged_settled, recovered_stays, Contains-number_occurrences, CompletesOperation, no_move_from, recovered_from, number_occurrences, count_append, chain_of_thread, HasNoMove, HoldsAtLosses-read_count, HoldsAtLosses-weaker, LeftByLoss-read, is_unprogrammed_byte-read_count, SameInFlight, IsReadyImage, AreUnreachedNumbers, AreUnreachedFrom, CanDropPairs, HasDroppedRecovered, HasEndedMove, KeptThread, ThreadView, ThreadReportsErrors, OnlyReadsThread, ChangesThreadBlocks, AppliesOperation, HasFurtherCalls, SurvivesEither, HasThreadCause, SoundUnlessFailed, IsSoundWithRoot, kept_state, thread_state, HasDroppedUnreached, IsApplied, IsSoundState, KeepsInFlight, TreeState, kept_thread, shown_tree}
+use Rattle.lfs_tree.proofs.Common.{All-from_recursion, same_Some, ChangesOnlyMap, ThreadReportsFaults, AreUsed, IsInFlight, IsUsedBlock, InFlight, Used, Disk, AllCalls, AllCallsSince, CallEvent, OnlyReadsSince, fault_count, struct_at, continued_address, IsLayoutRecovered, HasEither, SurvivesLossSince, with_blocks, OpenFilesByNumber, Session, Gstate, zero_gstate, is_zero, Pair, pairs_blocks, pairs_from_root, pairs_gstate, count_before_root, Tree, IsAccepted, IsReachedBySome, all_unmoved_slots, struct_blocks, disk_tree, used_blocks, IsWritable, survives_then, arranged_after, arranged_settled, recovered_stays, Contains-number_occurrences, CompletesOperation, no_move_from, recovered_from, number_occurrences, count_append, chain_of_thread, HasNoMove, HoldsAtLosses-read_count, HoldsAtLosses-weaker, LeftByLoss-read, is_unprogrammed_byte-read_count, SameInFlight, IsReadyImage, AreUnreachedNumbers, AreUnreachedFrom, CanDropPairs, HasDroppedRecovered, HasEndedMove, KeptThread, ThreadView, ThreadReportsErrors, OnlyReadsThread, ChangesThreadBlocks, AppliesOperation, HasFurtherCalls, SurvivesEither, HasThreadCause, SoundUnlessFailed, IsSoundWithRoot, kept_state, thread_state, HasDroppedUnreached, IsApplied, IsSoundState, KeepsInFlight, TreeState, kept_thread, shown_tree}
 use Rattle.lfs_device.specs.declared.error.Error.{Error}
 use Rattle.lfs_device.specs.declared.error.Error.TheVariants.{Io, NoMemory}
 use Rattle.lfs_model.specs.session.Operations as ops
 use Rattle.std.proofs.lemmas.Bool.{and_parts}
 use Rattle.lfs_model.proofs.KeptStructs.{struct_stays}
 use Rattle.lfs_model.proofs.LeftFiles.{same_leaves}
+use Rattle.lfs_model.proofs.Unmoved.{nothing_moves}
 use Rattle.lfs_operations.specs.Recovering.{ReportsRecovery}
 use Rattle.lfs_operations.specs.EndingMove.{CanEndMove}
 use Rattle.lfs_operations.proofs.RecoverMap.{count_used}
@@ -15,6 +16,7 @@ use Rattle.lfs_tree.specs.Recoveries.{CanDropUnreached}
 use Rattle.lfs_tree.proofs.Carried.{all_pairs, keeps_writing, lists_from, read_is, with_history}
 use Rattle.lfs_tree.proofs.CarryFreed.{none_there, writes_then}
 use Rattle.lfs_tree.proofs.SameErrors.{same_error}
+use Rattle.lfs_tree.proofs.TakenEdits.{room_taken}
 use Rattle.lfs_tree.proofs.KeptFiles.{keeps_same, keeps_then}
 
 -- ---- numbers of pairs
@@ -187,6 +189,11 @@ recovered_whole t root b c rooted left e w d called quiet =
     let all = called_then a b c (called_writing a b (pairs_blocks a.pairs) w) called in
     let completed : (files : OpenFilesByNumber) → CompletesOperation b.disk b.pairs (record { tree = disk_tree a.disk a.pairs; files = files }) ops.Recover c.disk c.pairs
     = λ files. d.completed (record { tree = disk_tree a.disk a.pairs; files = files }) (sym e.taken.follows.shows) in
+    let stays : (files : OpenFilesByNumber) → IsLayoutRecovered a.disk a.pairs (record { tree = disk_tree a.disk a.pairs; files = files }) ops.Recover c.disk c.pairs
+    = λ files.
+        let s : Session = record { tree = disk_tree a.disk a.pairs; files = files } in
+        let k = completed files in
+        arranged_after a.disk c.disk c.disk a.pairs c.pairs c.pairs s ops.Recover all.geometry k.accepted k.recovered (e.leads_on s c.disk c.pairs k.laid_out) (recovered_stays c.disk c.pairs s k.accepted d.ready.writable d.ready.settled) in
     record {
       works = refl;
       sound = record { accepted = d.ready.accepted; fits = λ z. d.ready.writable; is_kept = λ z. refl; used = d.ready.used; size = d.ready.size };
@@ -198,10 +205,7 @@ recovered_whole t root b c rooted left e w d called quiet =
       fits = d.ready.writable;
       recovered = (completed []).recovered;
       shows = λ around files. (completed files).tree around;
-      arranged = λ files.
-          let s : Session = record { tree = disk_tree a.disk a.pairs; files = files } in
-          let k = completed files in
-          arranged_after a.disk c.disk c.disk a.pairs c.pairs c.pairs s ops.Recover all.geometry k.accepted k.recovered (e.leads_on s c.disk c.pairs k.laid_out) (recovered_stays c.disk c.pairs s k.accepted d.ready.writable d.ready.settled);
+      arranged = λ was files. nothing_moves a.disk a.pairs (record { tree = disk_tree a.disk a.pairs; files = files }) ops.Recover all.calls c.disk c.pairs all.geometry d.ready.accepted (stays files);
       itself = λ z. absurd (cc);
       nothing_left = λ z done. absurd (left done.gstate);
       flight = leaves_then (kept_state a true false) (kept_state b true false) (kept_state c true false) (leaves_same a b rooted.sound.used e.flying w) d.flight;
@@ -210,6 +214,7 @@ recovered_whole t root b c rooted left e w d called quiet =
           let k = keeps_then a b c path first (d.keeps path first.file) in
           record { file = k.file; struct = k.struct; list = k.list; bytes = k.bytes };
       lists = λ none. absurd (left none);
+      taken = (let k = room_taken a.disk c.disk a.pairs c.pairs (disk_tree a.disk a.pairs) ops.Recover (rooted.sound.fits refl) all.geometry (stays []) in k);
     }
 
 -- ---- what it tells
@@ -256,14 +261,16 @@ recovered_already t works writable sound settled = record {
   fits = sound.fits writable;
   recovered = recovered_from t.disk t.pairs sound.accepted settled;
   shows = λ around files. refl;
-  arranged = λ files.
+  arranged = λ called files.
       let s : Session = record { tree = shown_tree t; files = files } in
-      arranged_settled t.disk t.pairs s ops.Recover t.disk t.pairs sound.accepted (sound.fits writable) settled (recovered_stays t.disk t.pairs s sound.accepted (sound.fits writable) settled);
+      nothing_moves t.disk t.pairs s ops.Recover [] t.disk t.pairs (record { block_size = refl; page = refl; order = refl; profile = refl; count = refl }) sound.accepted
+      (arranged_settled t.disk t.pairs s ops.Recover t.disk t.pairs sound.accepted (sound.fits writable) settled (recovered_stays t.disk t.pairs s sound.accepted (sound.fits writable) settled));
   itself = λ e. absurd (cc);
   nothing_left = λ e done. (refl, (refl, refl));
   flight = record { stay = λ b f. f; none_comes = λ b f. f; bytes = λ b f. refl; unprogrammed_still = λ b k f u. u };
   keeps = λ path file away. keeps_same (kept_thread t) path file;
   lists = λ none. lists_from t.disk t.disk t.pairs (λ b some. refl);
+  taken = omega arith;
 }
 
 pub none_survives : (t : TreeState) (after : Tree) → SurvivesLossSince t.disk t.history t.history (shown_tree t) after

@@ -1,11 +1,12 @@
 -- An operation behind a recovery is one on the image from before it.
 use Rattle.std.proofs.Common.{ℕ, suc, ◌≡◌, ◌+◌, ◌≤◌, ◌⊎◌, ◌∙◌, ◌&&◌, inl, inr, true, false, not, cond, List, [], ◌∷◌, length, Option, Some, None, refl, sym, ap, ap₂, subst, arith}
-use Rattle.lfs_tree.proofs.Common.{sum_by-cons, same_Some, node_attributes_of, is_file, last_name, directory_names, same_path, Blocks, attributes_with, Name, BlockStates, BlockState, IsInFlight, in_flight_count, state_in_flight, Free, InFlight, Used, SameGeometry, charge_limit, name_max_of, IsDirectoryGone, IsLayoutRecovered, Operation, HasEither, with_blocks, is_recover, renames_itself, Session, has_long_name, Attributes, entry_charge, zero_gstate, Pair, pairs_gstate, count_before_root, Path, Tree, disk_tree, used_blocks, survives_then, Contains-number_occurrences, number_occurrences-Contains, used_count-AreUsed, number_occurrences, HoldsAtLosses-weaker, HasEndedMove, KeepsRootNumber, KeptThread, ThreadView, CanAddEntry, CanRemoveEntry, CanRemoveAttr, CanRenamePath, CanSetAttr, HasNeededBlocks, AppliesOperation, HasFurtherCalls, SparesOutsideOperation, HasSoundImage, SurvivesEither, HasThreadCause, IsSoundWithRoot, kept_state, KeepsListBytes, HasDroppedUnreached, HasRecovered, IsSoundState, tree_summary, kept_thread}
+use Rattle.lfs_tree.proofs.Common.{sum_by-cons, same_Some, node_attributes_of, is_file, last_name, directory_names, same_path, Blocks, attributes_with, Name, BlockStates, BlockState, IsInFlight, in_flight_count, state_in_flight, Free, InFlight, Used, SameGeometry, charge_limit, name_max_of, IsDirectoryGone, IsLayoutRecovered, Operation, HasEither, with_blocks, is_recover, renames_itself, Session, has_long_name, Attributes, entry_charge, zero_gstate, Pair, pairs_gstate, count_before_root, Path, Tree, disk_tree, used_blocks, survives_then, Contains-number_occurrences, number_occurrences-Contains, used_count-AreUsed, number_occurrences, HoldsAtLosses-weaker, HasEndedMove, KeepsRootNumber, KeptThread, ThreadView, CanAddEntry, CanRemoveEntry, CanRemoveAttr, CanRenamePath, CanSetAttr, HasNeededBlocks, AppliesInPlace, AppliesOperation, HasFurtherCalls, SparesOutsideOperation, HasSoundImage, SurvivesEither, HasThreadCause, IsSoundWithRoot, OpenFilesByNumber, kept_state, KeepsListBytes, HasDroppedUnreached, HasRecovered, IsSoundState, tree_summary, kept_thread}
 use Rattle.std.specs.Prelude.{is_none, is_some, nat_lt}
 use Rattle.lfs_device.specs.declared.error.Error.{Error}
 use Rattle.lfs_model.specs.session.TreeEdits.{is_directory}
 use Rattle.lfs_model.specs.format.Content.{attribute_bytes}
 use Rattle.lfs_model.specs.session.Effects.{operation_effect}
+use Rattle.lfs_model.proofs.Unmoved.{nothing_moves}
 use Rattle.lfs_tree.proofs.RecoveredTwice.{recovers_through}
 use Rattle.lfs_model.specs.declared.limits.Profile.{Profile}
 use Rattle.lfs_model.specs.session.Operations as ops
@@ -37,7 +38,7 @@ settled_whole a b c left e d carries =
     }
 
 pub settled_stands : (a c : KeptThread) → HasRecovered a c → KeepsRootNumber a c → HasSoundImage a (disk_tree a.disk a.pairs) c
-settled_stands a c f root = record { sound = f.carries.sound; fits = f.carries.fits; root = root; shows = f.carries.shows (tree_summary (kept_state a true false)) []; no_fault = f.carries.no_fault }
+settled_stands a c f root = record { sound = f.carries.sound; fits = f.carries.fits; recovered = f.carries.recovered; root = root; shows = f.carries.shows (tree_summary (kept_state a true false)) []; no_fault = f.carries.no_fault }
 
 -- nothing was left
 pub settled_already : (t : ThreadView) (root : ℕ) → IsSoundWithRoot t root true → pairs_gstate t.kept.pairs ≡ zero_gstate → HasRecovered t.kept t.kept
@@ -89,7 +90,7 @@ both_fly Used y h = omega arith
 both_fly InFlight y h = let e = same_Some y InFlight (h refl) in subst (λ z. 1 ≤ cond (state_in_flight z) 1 0) (sym e) (omega arith)
 
 -- none more is in flight
-fewer_flying : (xs ys : BlockStates) → ((b : ℕ) → IsInFlight xs b → IsInFlight ys b) → in_flight_count xs ≤ in_flight_count ys
+pub fewer_flying : (xs ys : BlockStates) → ((b : ℕ) → IsInFlight xs b → IsInFlight ys b) → in_flight_count xs ≤ in_flight_count ys
 fewer_flying [] ys h = omega arith
 fewer_flying (x ∷ xs) [] h =
     let k = fewer_flying xs [] (λ b f. h (suc b) f) in
@@ -122,10 +123,21 @@ module _ (a b : KeptThread) (f : HasRecovered a b) where
   pub called_after : (c : KeptThread) → HasFurtherCalls b c → HasFurtherCalls a c
   called_after c k = called_then a b c (called_by a b ops.Recover f.carries) k
 
-  pub carried_after : (c : KeptThread) (op : Operation) → renames_itself op ≡ false → is_recover op ≡ false → AppliesOperation b op c → AppliesOperation a op c
-  carried_after c op apart other k =
-      let all = called_after c (called_by b c op k) in
-      record {
+  pub carried_after : (c : KeptThread) (op : Operation) → renames_itself op ≡ false → is_recover op ≡ false → AppliesInPlace b op c → AppliesInPlace a op c
+  carried_after c op apart other made = record { applied = applied; stays = stays }
+    where
+      k : AppliesOperation b op c
+      k = made.applied
+
+      all : HasFurtherCalls a c
+      all = called_after c (called_by b c op k)
+
+      stays : (files : OpenFilesByNumber) → IsLayoutRecovered a.disk a.pairs (record { tree = disk_tree a.disk a.pairs; files = files }) op c.disk c.pairs
+      stays files = arranged_through a b c (record { tree = disk_tree a.disk a.pairs; files = files }) op f.carries.geometry f.leads_on
+          (subst (λ t. IsLayoutRecovered b.disk b.pairs (record { tree = t; files = files }) op c.disk c.pairs) tree_is (made.stays files))
+
+      applied : AppliesOperation a op c
+      applied = record {
         works = k.works;
         sound = k.sound;
         writable = k.writable;
@@ -136,13 +148,13 @@ module _ (a b : KeptThread) (f : HasRecovered a b) where
         fits = k.fits;
         recovered = k.recovered;
         shows = λ around files. subst (λ t. disk_tree c.disk c.pairs ≡ (operation_effect around (record { tree = t; files = files }) op).1.tree) tree_is (k.shows around files);
-        arranged = λ files. arranged_through a b c (record { tree = disk_tree a.disk a.pairs; files = files }) op f.carries.geometry f.leads_on
-            (subst (λ t. IsLayoutRecovered b.disk b.pairs (record { tree = t; files = files }) op c.disk c.pairs) tree_is (k.arranged files));
+        arranged = λ called files. nothing_moves a.disk a.pairs (record { tree = disk_tree a.disk a.pairs; files = files }) op all.calls c.disk c.pairs all.geometry k.sound.accepted (stays files);
         itself = λ e. absurd (cc (apart, e));
         nothing_left = λ e. absurd (cc (other, e));
         flight = leaves_then (kept_state a true false) (kept_state b true false) (kept_state c true false) f.carries.flight k.flight;
         keeps = λ path file away. let first = f.carries.keeps path file refl in keeps_then (kept_thread (kept_state a true false)) (kept_thread (kept_state b true false)) (kept_thread (kept_state c true false)) path first (k.keeps path first.file away);
         lists = λ none. subst (λ (z : KeptThread). pairs_gstate z.pairs ≡ zero_gstate → KeepsListBytes z.disk z.pairs c.disk) (f.same none) k.lists none;
+        taken = (let t = k.taken in let r = f.room in omega arith);
       }
 
   pub spares_after : (c : KeptThread) (op : Operation) → SparesOutsideOperation b op c → SparesOutsideOperation a op c

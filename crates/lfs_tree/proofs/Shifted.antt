@@ -1,7 +1,7 @@
 -- An entry that gets another path: what is found for it, and what may be done.
 use Rattle.std.proofs.Common.{ℕ, ◌≡◌, ◌≤◌, ◌∙◌, ◌&&◌, ◌++◌, not, Bool, true, false, List, [], ◌∷◌, Option, Some, None, Result, Ok, Err, refl, sym, ap, ap₂, subst}
 use Rattle.std.specs.Prelude.{OnOk, is_some}
-use Rattle.lfs_tree.proofs.Common.{list_all, option_and_then, ltb-false, slice_get_within, AreByteBlocks, last_name, tree_renaming, without_prefix, same_path, charge_limit, CallEvent, OnlyReadsSince, fault_count, BelongsAt, Name, is_component, is_valid_name, Slot, entry_charge, path_or_root, is_root_path, Pair, pairs_gstate, count_before_root, Path, Tree, branch_address, LeadsTo, disk_tree, no_move_from, last_is, KeptThread, ThreadView, OnlyReadsThread, WritesThreadFree, CanRenamePath, tree_after_call, AppliesOperation, HasAppliedCall, CanChangeRecovered, AppliesOrFails, IsNamedResult, SparesOutsideOperation, HasSoundImage, SurvivesEither, HasPathEntry, kept_state, tree_summary, LeadsToPair, LeadsToResult, IsSlotBelow, CanMoveEntry, CanMoveOntoFound, CanMoveOntoFile, CanMoveOntoDirectory, CanMoveToVacant, HasMovedEntry, ThreadWorksOrReports}
+use Rattle.lfs_tree.proofs.Common.{list_all, option_and_then, ltb-false, slice_get_within, AreByteBlocks, last_name, tree_renaming, without_prefix, same_path, charge_limit, CallEvent, OnlyReadsSince, fault_count, BelongsAt, Name, is_component, is_valid_name, Slot, entry_charge, path_or_root, is_root_path, Pair, pairs_gstate, count_before_root, Path, Tree, branch_address, LeadsTo, disk_tree, no_move_from, last_is, KeptThread, ThreadView, OnlyReadsThread, WritesThreadFree, CanRenamePath, tree_after_call, AppliesInPlace, HasAppliedCall, CanChangeRecovered, AppliesOrFails, IsNamedResult, SparesOutsideOperation, HasSoundImage, SurvivesEither, HasPathEntry, kept_state, tree_summary, LeadsToPair, LeadsToResult, IsSlotBelow, CanMoveEntry, CanMoveOntoFound, CanMoveOntoFile, CanMoveOntoDirectory, CanMoveToVacant, HasMovedEntry, ThreadWorksOrReports}
 use Rattle.lfs_device.specs.declared.error.Error.{Error}
 use Rattle.lfs_model.specs.session.TreeEdits.{is_beneath}
 use Rattle.lfs_model.specs.session.Operations as ops
@@ -138,7 +138,7 @@ module _ (t : ThreadView) (root : ℕ) (rests : CanChangeRecovered t root) (from
 -- ---- what comes of it
 
 module _ (t : ThreadView) (root : ℕ) (rests : CanChangeRecovered t root) (from to : Path) (other : same_path from to ≡ false) (h : List CallEvent) (c : KeptThread) (reads : OnlyReadsSince t.kept.disk.blocks t.kept.history h) (w : WritesThreadFree (with_history t.kept h) c) where
-  shifted_at : (given to_given : List ℕ) → HasMovedEntry (with_history t.kept h) from to c → fault_count c.history ≡ fault_count t.kept.history → path_or_root given ≡ from → path_or_root to_given ≡ to → AppliesOperation t.kept (ops.Rename given to_given) c
+  shifted_at : (given to_given : List ℕ) → HasMovedEntry (with_history t.kept h) from to c → fault_count c.history ≡ fault_count t.kept.history → path_or_root given ≡ from → path_or_root to_given ≡ to → AppliesInPlace t.kept (ops.Rename given to_given) c
   shifted_at given to_given is quiet e f = carried t.kept h (ops.Rename given to_given) c
       (record {
         accepted = rests.held.sound.accepted;
@@ -170,7 +170,7 @@ module _ (t : ThreadView) (root : ℕ) (rests : CanChangeRecovered t root) (from
       go (Err e) shifted same = tt
       go (Ok x) shifted same = (
         record {
-          carries = does_rename (λ op. AppliesOperation t.kept op new.kept) from to (λ given to_given e f. shifted_at t root rests from to other h new.kept reads w given to_given shifted same e f);
+          carries = does_rename (λ op. AppliesInPlace t.kept op new.kept) from to (λ given to_given e f. shifted_at t root rests from to other h new.kept reads w given to_given shifted same e f);
           spares = does_rename (λ op. SparesOutsideOperation t.kept op new.kept) from to (λ given to_given e f none files. shifted.alone (record { tree = disk_tree t.kept.disk t.kept.pairs; files = files }) given to_given e f);
         },
         rename_stands t.kept new.kept from to given to_given named to_named (shifted_at t root rests from to other h new.kept reads w given to_given shifted same named to_named) shifted.root,

@@ -2,8 +2,9 @@
 use Rattle.std.proofs.Common.{ℕ, ◌≡◌, ◌≤◌, ◌+◌, ◌∙◌, Bool, true, false, List, [], ◌∷◌, ◌++◌, length, Result, Ok, Err, refl, sym, ap, ap₂, subst, arith, append_assoc}
 use Rattle.std.specs.Prelude.{IfErr, OnOk, Contains}
 use Rattle.lfs_device.specs.declared.error.Error.{Error}
-use Rattle.lfs_tree.proofs.Common.{HasPathSlot, tree_with_change, Blocks, used_count, Disk, block_count, inline_limit, AllCalls, AllCallsSince, CallEvent, fault_count, IsLayout, Operation, HasEither, SurvivesLossSince, with_blocks, Session, list_blocks_of, file_with_bytes, Pair, pairs_gstate, Path, Tree, IsAccepted, disk_tree, used_blocks, survives_then, arranged_after, recovered_stays, recovered_from, HoldsAtLosses-weaker, HoldsAtLosses-worst, CanFinish, HaveThreadForm, KeepsPairs, contents_list_blocks, KeptThread, ThreadView, HasFurtherCalls, CanChangeRecovered, SurvivesEither, HasThreadCause, SoundUnlessFailed, kept_state, thread_state, KeepsListBytes, CanStoreContents, writer_contents_bytes, IsSoundState, TreeState, shown_tree, CanCommitContents, HasCommittedBytes, StoresThreadBytes, IsFinishedForm, ChangesPathPair, contents_bytes, finish_room, form_after_finish, contents_form, ContentsForm, AreUsedAmong}
+use Rattle.lfs_tree.proofs.Common.{HasPathSlot, tree_with_change, Blocks, used_count, Disk, block_count, inline_limit, AllCalls, AllCallsSince, CallEvent, fault_count, IsLayout, Operation, HasEither, SurvivesLossSince, with_blocks, OpenFilesByNumber, Session, list_blocks_of, file_with_bytes, Pair, pairs_gstate, Path, Tree, IsAccepted, disk_tree, used_blocks, survives_then, arranged_after, recovered_stays, recovered_from, HoldsAtLosses-weaker, HoldsAtLosses-worst, CanFinish, HaveThreadForm, KeepsPairs, contents_list_blocks, KeptThread, ThreadView, HasFurtherCalls, CanChangeRecovered, SurvivesEither, HasThreadCause, SoundUnlessFailed, kept_state, thread_state, KeepsListBytes, CanStoreContents, writer_contents_bytes, IsSoundState, TreeState, shown_tree, CanCommitContents, HasCommittedBytes, StoresThreadBytes, IsFinishedForm, ChangesPathPair, contents_bytes, finish_room, form_after_finish, contents_form, ContentsForm, AreUsedAmong}
 use Rattle.lfs_model.specs.session.Operations as ops
+use Rattle.lfs_model.proofs.Unmoved.{nothing_moves}
 use Rattle.lfs_tree.proofs.LeftAlone.{files_of_alone, pair_of_alone}
 use Rattle.lfs_tree.proofs.Asking.{seen_working}
 use Rattle.lfs_tree.specs.KeptFiles.{KeepsOtherFiles}
@@ -124,24 +125,33 @@ module _ (t : ThreadView) (root : ℕ) (rests : CanChangeRecovered t root) (path
       lists_before new k = files_of_alone t.kept.disk new.disk t.kept.pairs [] path sound.accepted (changes_before new.disk k)
 
       stored_before : (new : KeptThread) → HasFurtherCalls t.kept new → fault_count new.history ≡ fault_count t.kept.history → HasCommittedBytes b.kept path (writer_contents_bytes b.kept c) new → StoresThreadBytes t.kept path (writer_contents_bytes t.kept contents) new
-      stored_before new called quiet k = record {
-        works = refl;
-        sound = k.sound;
-        writable = refl;
-        geometry = called.geometry;
-        calls = called.calls;
-        called = called.called;
-        no_fault = quiet;
-        fits = k.fits;
-        recovered = recovered_from new.disk new.pairs k.sound.accepted k.settled;
-        shows = k.shows ∙ turn_same;
-        others = others_before new k;
-        lists = λ q file apart. list_stays t.kept.disk new.disk t.kept.pairs new.pairs q sound.accepted called.geometry (lists_before new k.alone) (others_before new k q file apart);
-        synced = arranged_before new ops.Sync k.synced;
-        closed = arranged_before new ops.Close k.closed;
-        alone = λ files op. pair_of_alone t.kept.disk new.disk t.kept.pairs new.pairs path sound.accepted (changes_before new.disk k.alone) (record { tree = disk_tree t.kept.disk t.kept.pairs; files = files }) op;
-        none_in_flight = k.none_in_flight;
-      }
+      stored_before new called quiet k = record { stored = stored; synced = synced; closed = closed }
+        where
+          synced : IsWriterLayoutRecovered (kept_state t.kept true false) path (writer_contents_bytes t.kept contents) ops.Sync (kept_state new true false)
+          synced = arranged_before new ops.Sync k.synced
+
+          closed : IsWriterLayoutRecovered (kept_state t.kept true false) path (writer_contents_bytes t.kept contents) ops.Close (kept_state new true false)
+          closed = arranged_before new ops.Close k.closed
+
+          stored : StoresBytesAt (kept_state t.kept true false) path (writer_contents_bytes t.kept contents) (kept_state new true false)
+          stored = record {
+            works = refl;
+            sound = k.sound;
+            writable = refl;
+            geometry = called.geometry;
+            calls = called.calls;
+            called = called.called;
+            no_fault = quiet;
+            fits = k.fits;
+            recovered = recovered_from new.disk new.pairs k.sound.accepted k.settled;
+            shows = k.shows ∙ turn_same;
+            others = others_before new k;
+            lists = λ q file apart. list_stays t.kept.disk new.disk t.kept.pairs new.pairs q sound.accepted called.geometry (lists_before new k.alone) (others_before new k q file apart);
+            synced = λ was files fd writer wr. nothing_moves t.kept.disk t.kept.pairs (record { tree = disk_tree t.kept.disk t.kept.pairs; files = files }) (ops.Sync fd) called.calls new.disk new.pairs called.geometry k.sound.accepted (synced files fd writer wr);
+            closed = λ was files fd writer wr. nothing_moves t.kept.disk t.kept.pairs (record { tree = disk_tree t.kept.disk t.kept.pairs; files = files }) (ops.Close fd) called.calls new.disk new.pairs called.geometry k.sound.accepted (closed files fd writer wr);
+            alone = λ files op. pair_of_alone t.kept.disk new.disk t.kept.pairs new.pairs path sound.accepted (changes_before new.disk k.alone) (record { tree = disk_tree t.kept.disk t.kept.pairs; files = files }) op;
+            none_in_flight = k.none_in_flight;
+          }
 
       pub all_stored : (new : KeptThread) (r : Result (Unit {0}) Error) → HasFurtherCalls t.kept new → fault_count b.kept.history ≡ fault_count t.kept.history → OnOk r (fault_count new.history ≡ fault_count b.kept.history) → OnOk r (HasCommittedBytes b.kept path (writer_contents_bytes b.kept c) new) → OnOk r (StoresThreadBytes t.kept path (writer_contents_bytes t.kept contents) new)
       all_stored new (Ok u) called same quiet k = stored_before new called (quiet ∙ same) k
@@ -162,11 +172,11 @@ module _ (t : ThreadView) (root : ℕ) (rests : CanChangeRecovered t root) (path
 -- ---- seen from a tree
 
 module _ (thread : ThreadView) (root : ℕ) (writable : Bool) (now : TreeState) (kept : SoundUnlessFailed thread root writable) (view : thread_state thread writable ≡ now) (works : now.failed ≡ false) (may : now.writable ≡ true) (path : Path) (contents : WriterContents) where
-  stored_working : (new : ThreadView) → new.failed ≡ false → StoresThreadBytes thread.kept path (writer_contents_bytes thread.kept contents) new.kept → StoresBytesAt now path (writer_contents_bytes (kept_thread now) contents) (thread_state new writable)
+  pub stored_working : (new : ThreadView) → new.failed ≡ false → StoresThreadBytes thread.kept path (writer_contents_bytes thread.kept contents) new.kept → StoresBytesAt now path (writer_contents_bytes (kept_thread now) contents) (thread_state new writable)
   stored_working new still k =
       subst (λ a. StoresBytesAt now path (writer_contents_bytes (kept_thread now) contents) (kept_state new.kept a new.failed)) (sym (ap (λ (s : TreeState). s.writable) view ∙ may))
       (subst (λ b. StoresBytesAt now path (writer_contents_bytes (kept_thread now) contents) (kept_state new.kept true b)) (sym still)
-      (subst (λ (s : TreeState). StoresBytesAt s path (writer_contents_bytes (kept_thread s) contents) (kept_state new.kept true false)) (sym (seen_working thread root writable now kept view works may)) k))
+      (subst (λ (s : TreeState). StoresBytesAt s path (writer_contents_bytes (kept_thread s) contents) (kept_state new.kept true false)) (sym (seen_working thread root writable now kept view works may)) k.stored))
 
   pub all_stored_working : (r : Result (Unit {0}) Error) (new : ThreadView) → OnOk r (StoresThreadBytes thread.kept path (writer_contents_bytes thread.kept contents) new.kept) → OnOk r (new.failed ≡ false) → OnOk r (StoresBytesAt now path (writer_contents_bytes (kept_thread now) contents) (thread_state new writable))
   all_stored_working (Ok x) new k still = stored_working new still k

@@ -1,7 +1,7 @@
 -- How many blocks an operation takes: by its edits, and on the whole.
 use Rattle.std.proofs.Common.{ℕ, ◌≡◌, ◌≤◌, ◌+◌, ◌*◌, ◌∙◌, inr, true, List, [], ◌∷◌, ◌++◌, length, Option, Some, None, refl, sym, ap, subst, arith, flat_map, length-append}
 use Rattle.std.specs.Prelude.{sum_by}
-use Rattle.lfs_tree.proofs.Common.{recursion_from_All, sum_by-append, sum_by-cons, last_name, attributes_with, attributes_without, Disk, FitsPair, IsDirectoryGone, IsLayoutRecovered, IsLayout, Name, Operation, Session, slot_of, pair_with_slots, pairs_without_moved, FitsInPair, Slot, slot_size, path_or_root, Pair, pairs_gstate, count_before_root, Node, Path, Tree, Each, each_append, each_left, each_right, IsApplied, IsSoundState, TreeState, tree_summary, shown_tree}
+use Rattle.lfs_tree.proofs.Common.{recursion_from_All, sum_by-append, sum_by-cons, last_name, attributes_with, attributes_without, Disk, FitsPair, IsDirectoryGone, IsLayoutRecovered, IsLayout, Name, Operation, Session, slot_of, pair_with_slots, pairs_without_moved, FitsInPair, Slot, slot_size, path_or_root, Pair, pairs_gstate, count_before_root, Node, Path, Tree, Each, each_append, each_left, each_right, IsWritable, SameGeometry, used_blocks}
 use Rattle.lfs_model.specs.session.Operations as ops
 use Rattle.lfs_model.specs.session.SlotEdits.{RemovesSlot, AddsFile, EditsSlots, ReplacesSlots, AddsDirectory, MovesSlot, ReplacesSlot, directory_slot, file_slot}
 use Rattle.lfs_operations.proofs.RawSlots.{fewer_attributes}
@@ -245,11 +245,11 @@ module _ (disk : Disk) where
       let between = total_unmoved disk (pairs_gstate a.between) a.between in
       omega arith
 
-pub room_of : (old new : TreeState) (op : Operation) → IsSoundState old → old.writable ≡ true → IsApplied old op new → length (tree_summary new).used ≤ length (tree_summary old).used + operation_room op
-room_of old new op sound writable k =
-    let taken = taken_arranged old.disk new.disk old.pairs new.pairs (shown_tree old) op (k.arranged []) (recursion_from_All (λ (p : Pair). FitsInPair old.disk.block_size old.disk.page p.content) old.pairs (sound.fits writable).pairs) in
-    let before = used_total old.disk old.pairs in
-    let after = used_total new.disk new.pairs in
-    let unmoved = total_unmoved new.disk (pairs_gstate new.pairs) new.pairs in
-    let same = ap (λ n. total n new.pairs) k.geometry.block_size in
+pub room_taken : (disk new : Disk) (ps qs : List Pair) (tree : Tree) (op : Operation) → IsWritable disk ps → SameGeometry disk new → IsLayoutRecovered disk ps (record { tree = tree; files = [] }) op new qs → length (used_blocks new qs) ≤ length (used_blocks disk ps) + operation_room op
+room_taken disk new ps qs tree op fits geometry laid =
+    let taken = taken_arranged disk new ps qs tree op laid (recursion_from_All (λ (p : Pair). FitsInPair disk.block_size disk.page p.content) ps fits.pairs) in
+    let before = used_total disk ps in
+    let after = used_total new qs in
+    let unmoved = total_unmoved new (pairs_gstate qs) qs in
+    let same = ap (λ n. total n qs) geometry.block_size in
     omega arith

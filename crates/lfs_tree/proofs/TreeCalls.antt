@@ -1,17 +1,21 @@
 -- A call of a tree: what a loss of power left is ended first.
 use Rattle.std.proofs.Common.{ℕ, ◌≡◌, ◌∙◌, ◌||◌, Bool, false, true, Result, Ok, Err, refl, sym, ap, ap₂, subst}
-use Rattle.std.specs.Prelude.{IfErr, OnErr, OnOk, is_err}
+use Rattle.std.specs.Prelude.{Option, IfErr, OnErr, OnOk, is_err}
 use Rattle.lfs_device.specs.declared.error.Error.{Error}
 use Rattle.lfs_model.specs.session.Operations as ops
-use Rattle.lfs_tree.proofs.Common.{Operation, zero_gstate, pairs_gstate, Tree, disk_tree, KeptThread, ThreadView, IsOperationCall, tree_after_call, HasFurtherCalls, HasAppliedCall, CanChangeRecovered, ChangesTreeOrFails, AppliesOrFails, SurvivesEither, HasThreadCause, SoundUnlessFailed, IsSoundWithRoot, kept_state, thread_state, HasRecovered, IsFailedTree, IsApplied, HasErrorCause, IsSoundState, TreeState, without_cache, kept_thread, shown_tree}
+use Rattle.lfs_tree.proofs.Common.{Operation, zero_gstate, pairs_gstate, Tree, disk_tree, KeptThread, ThreadView, IsOperationCall, tree_after_call, HasFurtherCalls, HasSoundImage, HasAppliedCall, CanChangeRecovered, ChangesTreeOrFails, AppliesOrFails, SurvivesEither, HasThreadCause, SoundUnlessFailed, IsSoundWithRoot, kept_state, thread_state, HasRecovered, IsFailedTree, IsApplied, HasErrorCause, IsSoundState, TreeState, without_cache, kept_thread, shown_tree}
 use Rattle.lfs_tree.specs.TreeCalls as calls
 use Rattle.lfs_tree.specs.TreeCalls.{TreeCall, AppliesCallOrFails}
+use Rattle.lfs_operations.specs.declared.wear.MovePlan.{MovePlan}
+use Rattle.lfs_tree.specs.KeptFiles.{operation_room}
 use Rattle.lfs_tree.specs.TreeState.{IsAppliedTo, LeavesOthersAlone, SurvivesStops}
+use Rattle.lfs_tree.specs.Wear.{CanSpreadWear, IsPlanned, SpreadsAfter, SpreadsOrFails}
+use Rattle.lfs_tree.proofs.Relocated.{alone_moved, applied_moved, breaks_moved, can_spread, reports_moved, survives_moved}
 use Rattle.lfs_tree.proofs.NotedErrors.{noted, noted_failed, noted_held}
 use Rattle.lfs_tree.proofs.Operated.{IsPlain}
 use Rattle.lfs_tree.proofs.Carried.{lists_from}
 use Rattle.lfs_tree.proofs.Recovered.{none_survives, recovered_already}
-use Rattle.lfs_tree.proofs.RecoveredFirst.{called_after, carried_after, spares_after, survives_after, survives_before, reported_after}
+use Rattle.lfs_tree.proofs.RecoveredFirst.{called_after, carried_after, spares_after, survives_after, survives_before, reported_after, tree_is}
 
 -- ---- what a change of the thread is for who sees the tree
 
@@ -73,6 +77,13 @@ recovers_nothing t works may sound none r is = subst (λ (z : Result (Unit {0}) 
   survives = none_survives t (shown_tree t);
 })
 
+-- with another result
+pub recovers_with : {X Y : Type 0} (old mid : TreeState) (r : Result X Error) (x : X) (y : Y) → r ≡ Ok x → AppliesCallOrFails old calls.Recover r mid → (let s : Result Y Error = Ok y in AppliesCallOrFails old calls.Recover s mid)
+recovers_with {X} {Y} old mid r x y is k = go (subst (λ (z : Result X Error). AppliesCallOrFails old calls.Recover z mid) is k)
+  where
+    go : (let z : Result X Error = Ok x in AppliesCallOrFails old calls.Recover z mid) → (let s : Result Y Error = Ok y in AppliesCallOrFails old calls.Recover s mid)
+    go k = record { done = k.done; alone = k.alone; broken = tt; errors = tt; survives = k.survives }
+
 -- where it failed, so did the call
 pub recovery_failed : {X Y : Type 0} (old mid : TreeState) (call : TreeCall) (r : Result X Error) (s : Result Y Error) (e f : Error) → r ≡ Err e → s ≡ Err f → f ≡ e → AppliesCallOrFails old calls.Recover r mid → AppliesCallOrFails old call s mid
 recovery_failed {X} {Y} old mid call r s e f was is same k =
@@ -80,6 +91,26 @@ recovery_failed {X} {Y} old mid call r s e f was is same k =
   where
     go : (let z : Result X Error = Err e in AppliesCallOrFails old calls.Recover z mid) → (let z : Result Y Error = Err e in AppliesCallOrFails old call z mid)
     go k = record { done = tt; alone = tt; broken = k.broken; errors = k.errors; survives = survives_before (kept_thread old) (kept_thread mid) (tree_after_call call (shown_tree old)) k.survives }
+
+-- ---- how many blocks it takes
+
+abbrev pub call_room : TreeCall → ℕ
+call_room (calls.Mkdir path) = 4
+call_room (calls.Create path) = 2
+call_room (calls.Remove path) = 0
+call_room (calls.Rename from to) = 2
+call_room (calls.SetAttr path kind bytes) = 2
+call_room (calls.RemoveAttr path kind) = 0
+call_room calls.Recover = 0
+
+room_of_call : (call : TreeCall) (op : Operation) → IsOperationCall call op → operation_room op ≡ call_room call
+room_of_call (calls.Mkdir path) op d = ap operation_room d.1.0
+room_of_call (calls.Create path) op d = ap operation_room d.1.1.0
+room_of_call (calls.Remove path) op d = ap operation_room d.1.0
+room_of_call (calls.Rename from to) op d = ap operation_room d.1.1.0
+room_of_call (calls.SetAttr path kind bytes) op d = ap operation_room d.1.0
+room_of_call (calls.RemoveAttr path kind) op d = ap operation_room d.1.0
+room_of_call calls.Recover op d = ap operation_room d
 
 -- ---- what comes behind it
 
@@ -126,7 +157,7 @@ module _ (old mid : TreeState) (works : old.failed ≡ false) (may : old.writabl
         dones (Ok x) k still = λ op does.
             subst (λ (s : TreeState). IsAppliedTo s op (kept_state new.kept writable new.failed)) (sym bare_is)
             (subst (λ (s : TreeState). IsAppliedTo (kept_state (kept_thread old) true false) op s) (ap₂ (λ a b. kept_state new.kept a b) (sym writes) (sym still))
-            (carried_after (kept_thread old) t.kept settled_here new.kept op (plain op does).0 (plain op does).1 (k.carries op does)))
+            (carried_after (kept_thread old) t.kept settled_here new.kept op (plain op does).0 (plain op does).1 (k.carries op does)).applied)
 
         alone : (r : Result X Error) → OnOk r (HasAppliedCall t.kept call new.kept) → OnOk r ((op : Operation) → IsOperationCall call op → LeavesOthersAlone old op (thread_state new writable))
         alone (Err e) k = tt
@@ -146,3 +177,51 @@ module _ (old mid : TreeState) (works : old.failed ≡ false) (may : old.writabl
 
       pub held_noted : SoundUnlessFailed new root writable
       held_noted = subst (λ a. SoundUnlessFailed new root a) (sym writes) (noted_held t b new (HasAppliedCall t.kept call) (tree_after_call call (disk_tree t.kept.disk t.kept.pairs)) r w f root rests_behind.held)
+
+    -- a pair may move after it
+    module _ (b new : ThreadView) (r : Result (Unit {0}) Error) (w : AppliesOrFails t call r b) (f : new ≡ record b { failed = is_err r || b.failed })
+        (plan : Option MovePlan) (planned : IsPlanned old (call_room call) plan) where
+      abbrev seen : TreeState
+      seen = thread_state new writable
+
+      made : AppliesOrFails t call r new
+      made = noted t b new (HasAppliedCall t.kept call) (tree_after_call call (disk_tree t.kept.disk t.kept.pairs)) r w f
+
+      further : HasFurtherCalls (kept_thread old) new.kept
+      further = called_after (kept_thread old) t.kept settled_here new.kept made.called
+
+      sound_seen : new.failed ≡ false → IsSoundState (kept_state new.kept true false) → IsSoundState seen
+      sound_seen still k = subst IsSoundState (ap₂ (λ a c. kept_state new.kept a c) (sym writes) (sym still)) k
+
+      pub may_move : OnOk r (CanSpreadWear seen plan)
+      may_move = go r made.works made.stands
+        where
+          go : (r : Result (Unit {0}) Error) → OnOk r (new.failed ≡ false) → OnOk r (HasSoundImage t.kept (tree_after_call call (disk_tree t.kept.disk t.kept.pairs)) new.kept) → OnOk r (CanSpreadWear seen plan)
+          go (Err e) still k = tt
+          go (Ok x) still k = can_spread old seen plan (call_room call) planned.plan planned.sound (sound_seen still k.sound) further.geometry still writes k.recovered
+
+      pub operates_moving : (s : Result (Unit {0}) Error) (last : TreeState) → SpreadsAfter seen plan r s last → AppliesCallOrFails old call s last
+      operates_moving s last h = go r (operates_noted b new r w f) made.done made.stands h
+        where
+          moves : (u : Unit {0}) (s : Result (Unit {0}) Error) → (let z : Result (Unit {0}) Error = Ok u in AppliesCallOrFails old call z seen) → HasAppliedCall t.kept call new.kept → HasSoundImage t.kept (tree_after_call call (disk_tree t.kept.disk t.kept.pairs)) new.kept → SpreadsOrFails seen plan s last → AppliesCallOrFails old call s last
+          moves u (Err e) base does k m = record {
+            done = tt;
+            alone = tt;
+            broken = breaks_moved old seen last further.calls further.called further.geometry m.broken;
+            errors = reports_moved old seen last e (k.no_fault ∙ settled_here.carries.no_fault) m.errors;
+            survives = survives_moved old seen last (tree_after_call call (shown_tree old)) further.calls m.broken.calls further.called m.broken.called further.geometry
+                (k.shows ∙ ap (tree_after_call call) (tree_is (kept_thread old) t.kept settled_here)) base.survives m.survives;
+          }
+          moves u (Ok v) base does k m = record {
+            done = λ op is. applied_moved old seen last plan (call_room call) planned.plan planned.sound k.sound.accepted m.done op (room_of_call call op is) (plain op is).0 (plain op is).1 planned.newest m.newest (base.alone op is) (base.done op is)
+                (carried_after (kept_thread old) t.kept settled_here new.kept op (plain op is).0 (plain op is).1 (does.carries op is)).stays;
+            alone = λ op is. alone_moved old seen last plan (call_room call) planned.plan planned.sound k.sound.accepted m.done op (base.alone op is);
+            broken = tt;
+            errors = tt;
+            survives = survives_moved old seen last (tree_after_call call (shown_tree old)) further.calls m.done.calls further.called m.done.called further.geometry
+                (k.shows ∙ ap (tree_after_call call) (tree_is (kept_thread old) t.kept settled_here)) base.survives m.survives;
+          }
+
+          go : (r : Result (Unit {0}) Error) → AppliesCallOrFails old call r seen → OnOk r (HasAppliedCall t.kept call new.kept) → OnOk r (HasSoundImage t.kept (tree_after_call call (disk_tree t.kept.disk t.kept.pairs)) new.kept) → SpreadsAfter seen plan r s last → AppliesCallOrFails old call s last
+          go (Err e) base does k m = subst (λ (z : Result (Unit {0}) Error). AppliesCallOrFails old call z last) (sym m.0) (subst (λ (z : TreeState). let y : Result (Unit {0}) Error = Err e in AppliesCallOrFails old call y z) (sym m.1) base)
+          go (Ok u) base does k m = moves u s base does k m

@@ -9,6 +9,7 @@ use Rattle.lfs_model.specs.format.Names.{Name}
 use Rattle.lfs_model.specs.session.Operations.{Operation}
 use Rattle.lfs_model.specs.crash.PowerLoss.{SurvivesLossSince}
 use Rattle.lfs_model.specs.session.Layout.{IsLayoutRecovered}
+use Rattle.lfs_model.specs.session.Recovery.{IsRecovered}
 use Rattle.lfs_model.specs.session.Session.{OpenFilesByNumber, parents_refusal}
 use Rattle.lfs_model.specs.format.Slots.{zero_gstate}
 use Rattle.lfs_model.specs.format.Thread.{Pair, pairs_gstate}
@@ -87,10 +88,12 @@ SurvivesEither old new after = SurvivesLossSince old.disk old.history new.histor
 
 -- ---- what is said of it
 
--- the image is a sound one of the writing profile that shows the tree, the root directory begins where it did, and no call failed
+-- The image is a sound one of the writing profile that shows the tree, and nothing is left to recover. The root directory begins
+-- where it did, and no call failed.
 pub record HasSoundImage (old : KeptThread) (tree : Tree) (new : KeptThread) : Type 0 where
   pub sound : IsSoundState (kept_state new true false)
   pub fits : IsWritable new.disk new.pairs
+  pub recovered : IsRecovered new.pairs
   pub root : KeepsRootNumber old new
   pub shows : disk_tree new.disk new.pairs ≡ tree
   pub no_fault : fault_count new.history ≡ fault_count old.history

@@ -1,13 +1,20 @@
 -- A worn pair that moves after an operation of a tree.
-use Rattle.std.specs.Prelude.{◌≡◌, ◌⊎◌, ◌≤◌, List, ◌++◌, length, false, true, Option, Some, Result, Ok, Err, IfErr, IfSome, OnErr, OnOk}
+use Rattle.std.specs.Prelude.{ℕ, ◌≡◌, ◌⊎◌, ◌≤◌, List, ◌++◌, length, false, true, Option, Some, None, Result, Ok, Err, IfErr, IfSome, OnErr, OnOk}
 use Rattle.lfs_device.specs.declared.error.Error.{Error}
 use Rattle.lfs_model.specs.format.Disk.{SameGeometry}
 use Rattle.lfs_model.specs.session.History.{CallEvent, LeftByLatest, fault_count}
 use Rattle.lfs_model.specs.session.Moved.{IsMoved}
 use Rattle.lfs_model.specs.session.Recovery.{IsRecovered}
-use Rattle.lfs_operations.specs.Wear.{HasPlanBlocks, MovesByPlan, ShowsSameFiles}
+use Rattle.lfs_operations.specs.Wear.{HasPlanBlocks, IsPlanFor, MovesByPlan, ShowsSameFiles}
 use Rattle.lfs_operations.specs.declared.wear.MovePlan.{MovePlan}
-use Rattle.lfs_tree.specs.TreeState.{HasErrorCause, IsFailedTree, IsSoundState, SurvivesStops, TreeState, kept_thread, shown_tree, tree_summary}
+use Rattle.lfs_tree.specs.TreeState.{HasErrorCause, IsFailedTree, IsSoundState, KeepsInFlight, SurvivesStops, TreeState, kept_thread, shown_tree, tree_summary}
+
+-- A plan of a move, before an operation that takes at most so many blocks. None is made where the profile gives no cycles.
+pub record IsPlanned (t : TreeState) (room : ℕ) (given : Option MovePlan) : Type 0 where
+  pub sound : IsSoundState t
+  pub newest : LeftByLatest t.history t.disk.blocks
+  pub plan : IfSome given (IsPlanFor (kept_thread t) room)
+  pub none : t.disk.profile.pair_cycles ≡ 0 → given ≡ None
 
 -- the image may be changed, and has the blocks of the plan
 pub record CanSpreadWear (t : TreeState) (plan : Option MovePlan) : Type 0 where
@@ -35,7 +42,8 @@ pub record HasSpreadWear (old : TreeState) (plan : Option MovePlan) (new : TreeS
   pub called : new.history ≡ calls ++ old.history
   pub no_fault : fault_count new.history ≡ fault_count old.history
   pub files : ShowsSameFiles (kept_thread old) (kept_thread new)
-  pub spread : (new ≡ old) ⊎ HasMovedPair old plan new
+  pub flight : KeepsInFlight old new
+  pub spread : (kept_thread new ≡ kept_thread old) ⊎ HasMovedPair old plan new
 
 -- What a move after a change of the image promises. The image shows the same tree all along.
 pub record SpreadsOrFails (old : TreeState) (plan : Option MovePlan) (result : Result (Unit {0}) Error) (new : TreeState) : Type 0 where

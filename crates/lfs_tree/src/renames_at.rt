@@ -227,8 +227,7 @@ impl<D: BlockDevice> Tree<D> {
         requires looked_up { pairs_gstate self.old.pairs ≡ zero_gstate → IsSome known }
         ensures { AppliesCallOrFails self.old (call.Rename from.now to.now) result self.new }
     {
-        let plan = self.plan_move(2);
-        self.recover(alloc)?;
+        let plan = self.recover_planned(alloc, 2)?;
         let renamed = rename_at(alloc, &mut self.thread, self.root, from, to, known);
         mark_failed(&mut self.thread, &renamed);
         self.relocate(alloc, plan, renamed)

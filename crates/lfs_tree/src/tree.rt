@@ -341,8 +341,7 @@ impl<D: BlockDevice> Tree<D> {
         requires { CanMakeDirectory self.old path.now }
         ensures { AppliesCallOrFails self.old (call.Mkdir path.now) result self.new }
     {
-        let plan = self.plan_move(4);
-        self.recover(alloc)?;
+        let plan = self.recover_planned(alloc, 4)?;
         let made = make_directory_at(alloc, &mut self.thread, self.root, path);
         mark_failed(&mut self.thread, &made);
         self.relocate(alloc, plan, made)
@@ -369,8 +368,7 @@ impl<D: BlockDevice> Tree<D> {
         ensures does { AppliesCallOrFails self.old (call.Create path.now) result self.new }
         ensures few { self.old.disk.profile.pair_cycles ≡ 0 → ReadsSixAtMost self.old self.new.history }
     {
-        let plan = self.plan_move(2);
-        self.recover(alloc)?;
+        let plan = self.recover_planned(alloc, 2)?;
         let created = create_empty_file(alloc, &mut self.thread, self.root, path, known);
         mark_failed(&mut self.thread, &created);
         self.relocate(alloc, plan, created)
@@ -386,8 +384,7 @@ impl<D: BlockDevice> Tree<D> {
         requires { CanRemoveEntry self.old path.now }
         ensures { AppliesCallOrFails self.old (call.Remove path.now) result self.new }
     {
-        let plan = self.plan_move(0);
-        self.recover(alloc)?;
+        let plan = self.recover_planned(alloc, 0)?;
         let removed = remove_at(alloc, &mut self.thread, self.root, path);
         mark_failed(&mut self.thread, &removed);
         self.relocate(alloc, plan, removed)
@@ -409,8 +406,7 @@ impl<D: BlockDevice> Tree<D> {
         requires { CanSetAttr self.old path.now kind bytes.now }
         ensures { AppliesCallOrFails self.old (call.SetAttr path.now kind bytes.now) result self.new }
     {
-        let plan = self.plan_move(2);
-        self.recover(alloc)?;
+        let plan = self.recover_planned(alloc, 2)?;
         let set = set_attr_at(alloc, &mut self.thread, self.root, path, kind, bytes);
         mark_failed(&mut self.thread, &set);
         self.relocate(alloc, plan, set)
@@ -447,8 +443,7 @@ impl<D: BlockDevice> Tree<D> {
         requires { CanRemoveAttr self.old path.now kind }
         ensures { AppliesCallOrFails self.old (call.RemoveAttr path.now kind) result self.new }
     {
-        let plan = self.plan_move(0);
-        self.recover(alloc)?;
+        let plan = self.recover_planned(alloc, 0)?;
         let removed = remove_attr_at(alloc, &mut self.thread, self.root, path, kind);
         mark_failed(&mut self.thread, &removed);
         self.relocate(alloc, plan, removed)

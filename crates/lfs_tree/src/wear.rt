@@ -1,10 +1,13 @@
 // Worn pairs that move after an operation.
 
-ghost use Rattle.std.specs.Prelude.{◌≡◌, false, IfSome, OnOk};
-ghost use Rattle.lfs_model.specs.session.History.{LeftByLatest};
-ghost use Rattle.lfs_operations.specs.Wear.{IsPlanFor};
+ghost use Rattle.std.specs.Prelude.{◌≡◌, false, true, IfOk, None, OnOk};
+ghost use Rattle.lfs_model.specs.format.Slots.{zero_gstate};
+ghost use Rattle.lfs_model.specs.format.Thread.{pairs_gstate};
+ghost use Rattle.lfs_tree.specs.Recoveries.{HasRecovered};
+ghost use Rattle.lfs_tree.specs.TreeCalls as call;
+ghost use Rattle.lfs_tree.specs.TreeCalls.{AppliesCallOrFails};
 ghost use Rattle.lfs_tree.specs.TreeState.{kept_thread};
-ghost use Rattle.lfs_tree.specs.Wear.{CanSpreadWear, SpreadsAfter};
+ghost use Rattle.lfs_tree.specs.Wear.{CanSpreadWear, IsPlanned, SpreadsAfter};
 
 use crate::tree::Tree;
 use lfs_device::{BlockDevice, Error};
@@ -12,15 +15,36 @@ use lfs_operations::{MovePlan, plan_move, relocate};
 use std::alloc::Global;
 
 impl<D: BlockDevice> Tree<D> {
-    // Plans the move of a worn pair, before an operation that takes at most `room` blocks.
+    // Plans the move of a worn pair, before an operation that takes at most `room` blocks. None is
+    // planned where the profile gives no cycles.
     pub(crate) fn plan_move(&mut self, room: u32) -> Option<MovePlan>
-        requires works { self.old.failed ≡ false }
-        ensures plan { IfSome result (IsPlanFor (kept_thread self.old) room) }
+        requires { self.old.failed ≡ false }
+        ensures planned { IsPlanned self.old room result }
         ensures same { self.new ≡ self.old }
-        ensures newest { LeftByLatest self.old.history self.old.disk.blocks }
     {
-        let _device = self.thread.device();
+        let device = self.thread.device();
+        if device.geometry().profile.pair_cycles == 0 {
+            return None;
+        }
         plan_move(&mut self.thread, self.root, room)
+    }
+
+    // Plans a move, and then recovers.
+    pub(crate) fn recover_planned(
+        &mut self,
+        alloc: Global,
+        room: u32,
+    ) -> Result<Option<MovePlan>, Error>
+        requires works { self.old.failed ≡ false }
+        requires writable { self.old.writable ≡ true }
+        ensures does { AppliesCallOrFails self.old call.Recover result self.new }
+        ensures settled { OnOk result (HasRecovered (kept_thread self.old) (kept_thread self.new)) }
+        ensures idle { pairs_gstate self.old.pairs ≡ zero_gstate → self.new ≡ self.old }
+        ensures planned { IfOk result (IsPlanned self.old room) }
+    {
+        let plan = self.plan_move(room);
+        self.recover(alloc)?;
+        Ok(plan)
     }
 
     // Moves at most one worn pair after an operation, unless the operation itself failed. The
@@ -32,7 +56,8 @@ impl<D: BlockDevice> Tree<D> {
         done: Result<(), Error>,
     ) -> Result<(), Error>
         requires { OnOk done (CanSpreadWear self.old plan) }
-        ensures { SpreadsAfter self.old plan done result self.new }
+        ensures does { SpreadsAfter self.old plan done result self.new }
+        ensures idle { plan ≡ None → (result ≡ done) × (self.new ≡ self.old) }
     {
         done?;
         let _device = self.thread.device();

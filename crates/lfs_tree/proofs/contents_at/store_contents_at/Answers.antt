@@ -32,7 +32,7 @@ returns g c =
     record {
       done = done;
       works = c.commit_contents_at.ensures.reports.works;
-      stands = ok_both c.commit_contents_at.result _ _ _ (λ k committed. record { sound = k.sound; fits = k.fits; root = committed.root ∙ ap count_before_root c.finish_file.ensures.leaves.pairs; shows = k.shows; no_fault = k.no_fault }) done c.commit_contents_at.ensures.done;
+      stands = ok_both c.commit_contents_at.result _ _ _ (λ k committed. record { sound = k.stored.sound; fits = k.stored.fits; recovered = k.stored.recovered; root = committed.root ∙ ap count_before_root c.finish_file.ensures.leaves.pairs; shows = k.stored.shows; no_fault = k.stored.no_fault }) done c.commit_contents_at.ensures.done;
       called = called;
       errors = errors_then c.args.thread.now.kept c.finish_file.new.thread.kept c.commit_contents_at.new.thread.kept c.commit_contents_at.result quiet c.commit_contents_at.ensures.reports.errors;
       survives = survives_then_commit c.args.thread.now c.args.root c.requires.rests c.args.path.now c.args.contents c.requires.can c.finish_file.new.thread c.finish_file.ensures.works c.finish_file.ensures.leaves

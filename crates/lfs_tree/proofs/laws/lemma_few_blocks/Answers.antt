@@ -1,5 +1,4 @@
-use Rattle.lfs_tree.proofs.TakenEdits.{room_of}
 use Rattle.lfs_tree.proofs.laws.lemma_few_blocks.Goals as goal
 
 pub returns : goal.returns
-returns c = λ old new op sound writable carried. room_of old new op sound writable carried
+returns c = λ old new op sound writable carried. carried.taken

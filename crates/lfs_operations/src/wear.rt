@@ -38,13 +38,14 @@ fn is_worn_pair<D: BlockDevice>(thread: &Thread<D>, index: usize) -> bool
     cycles != 0 && thread.revision(index) % cycles == 0
 }
 
-// Returns whether the pair is worn, or is so after one more erase.
-fn wears_soon<D: BlockDevice>(thread: &Thread<D>, index: usize) -> bool
+// Returns whether the pair is worn, or with `soon` is so after one more erase.
+fn is_due<D: BlockDevice>(thread: &Thread<D>, index: usize, soon: bool) -> bool
     requires works { thread.now.failed ≡ false }
     requires below { index < length thread.now.kept.pairs }
 {
     let cycles = thread.geometry().profile.pair_cycles;
-    cycles != 0 && (thread.revision(index) as u64 + 1) % cycles as u64 <= 1
+    let revision = thread.revision(index) as u64 + soon as u64;
+    cycles != 0 && revision % cycles as u64 == 0
 }
 
 // Returns whether two more blocks may be used, so that an eighth of the blocks still isn't.
@@ -82,19 +83,53 @@ fn committed_by_move<D: BlockDevice>(thread: &Thread<D>, root: usize, index: usi
     }
 }
 
-// Returns the blocks of the pair that the move of the first pair commits to that wears soon.
-fn find_wearing<D: BlockDevice>(thread: &Thread<D>, root: usize) -> Option<[u32; 2]>
+// Returns the blocks of the pair that the move of a due pair commits to. The search begins with the
+// pair of number `start`, modulo their number.
+fn find_due<D: BlockDevice>(
+    thread: &Thread<D>,
+    root: usize,
+    start: usize,
+    soon: bool,
+) -> Option<[u32; 2]>
     requires { thread.now.failed ≡ false }
     ensures { IfSome result (λ at. Any (λ p. p.at ≡ array_address at) thread.now.kept.pairs) }
 {
-    for index in 0..thread.len() {
-        if wears_soon(thread, index) {
+    let count = thread.len();
+    for step in 0..count {
+        let index = start.wrapping_add(step) % count;
+        if is_due(thread, index, soon) {
             if let Some(committed) = committed_by_move(thread, root, index) {
                 return Some(thread.blocks_of_pair(committed));
             }
         }
     }
     None
+}
+
+// Returns a number that each compaction of a pair changes.
+fn revisions_sum<D: BlockDevice>(thread: &Thread<D>) -> usize
+    requires { thread.now.failed ≡ false }
+{
+    let mut sum = 0u32;
+    for index in 0..thread.len() {
+        sum = sum.wrapping_add(thread.revision(index));
+    }
+    sum as usize
+}
+
+// Returns the blocks of the pair that a move commits to. A worn pair comes first. Those that wear
+// soon come by turns, so that one which isn't written keeps no other from moving.
+fn find_wearing<D: BlockDevice>(thread: &Thread<D>, root: usize) -> Option<[u32; 2]>
+    requires { thread.now.failed ≡ false }
+    ensures { IfSome result (λ at. Any (λ p. p.at ≡ array_address at) thread.now.kept.pairs) }
+{
+    if thread.geometry().profile.pair_cycles == 0 {
+        return None;
+    }
+    match find_due(thread, root, 0, false) {
+        Some(at) => Some(at),
+        None => find_due(thread, root, revisions_sum(thread), true),
+    }
 }
 
 // Finds two free blocks, which stay free. Returns None where fewer than two are free.

@@ -1,5 +1,5 @@
 -- From which block on the map of a mounted image gives free ones.
-use Rattle.std.specs.Prelude.{ℕ, ◌+◌, ◌*◌, ◌/◌, ◌%◌, ◌^◌, List, sum_by}
+use Rattle.std.specs.Prelude.{ℕ, ◌+◌, ◌*◌, ◌/◌, ◌%◌, ◌^◌, List, bit_xor, sum_by}
 use Rattle.lfs_model.specs.layers.BlockSets.{BlockStates, used_count}
 use Rattle.lfs_thread.specs.Kept.{PairHeader}
 
@@ -7,9 +7,13 @@ use Rattle.lfs_thread.specs.Kept.{PairHeader}
 abbrev pub image_number : BlockStates → List PairHeader → ℕ
 image_number sets headers = (used_count sets + sum_by (λ h. h.revision) headers) % 2 ^ 32
 
--- the upper half of a product with an odd number near 2 ^ 32 divided by the golden ratio: equal steps come to numbers that lie apart
+-- as MurmurHash3 ends: equal steps come to numbers as if by chance
 abbrev pub mixed_number : ℕ → ℕ
-mixed_number number = number * 0x9e3779b1 % 2 ^ 32 / 2 ^ 16
+mixed_number number = folded 16 (folded 13 (folded 16 number * 0x85ebca6b % 2 ^ 32) * 0xc2b2ae35 % 2 ^ 32)
+  where
+    -- with its upper bits put over the lower ones
+    folded : ℕ → ℕ → ℕ
+    folded bits n = bit_xor n (n / 2 ^ bits)
 
 abbrev pub allocation_seed : BlockStates → List PairHeader → ℕ
 allocation_seed sets headers = mixed_number (image_number sets headers)

@@ -155,11 +155,14 @@ fn image_number(map: &BlockMap, pairs: &[Pair]) -> u32
     number
 }
 
-// The number mixed: numbers in equal steps, as those of mounts, come to blocks that lie apart.
+// The number mixed, as MurmurHash3 ends: numbers in equal steps, as those of mounts, come to blocks
+// as if by chance.
 fn mixed_number(number: u32) -> u32
     ensures { result ≡ mixed_number number }
 {
-    number.wrapping_mul(0x9e37_79b1) >> 16
+    let first = (number ^ (number >> 16)).wrapping_mul(0x85eb_ca6b);
+    let second = (first ^ (first >> 13)).wrapping_mul(0xc2b2_ae35);
+    second ^ (second >> 16)
 }
 
 // Lets the map hand out blocks from another one on after each mount, so that wear spreads, and

@@ -1,10 +1,11 @@
 -- From an operation's checks, and what the tree does, to its turn.
-use Rattle.std.proofs.Common.{◌∷◌, length, Option, inl, inr, ℕ, ◌≡◌, Bool, true, false, cond, List, [], ◌++◌, Some, None, Result, Ok, Err, refl, sym, ap, ap₂, subst, ◌∙◌, append_assoc, arith, ◌<◌, nat_le}
-use Rattle.lfs_fs.proofs.Common.{nat_tests, same_Some, CachedBlocks, CallEvent, Operation, Reply, Refusal, FlagsOfOpen, Failed, OpenFilesByNumber, Session, DiskSummary, Reading, Writing, free_number_of, files_with_file, opened_writer, path_or_root, operation_refusal, operation_effect, Healthy, is_remount, IsStep, is_read_only, opens_existing, writes_or_truncates, needs_no_call, renames_itself, completed_step, FileNode, file_bytes, is_file, is_query, not_remount, is_refusal, error_refusal, reply_from, TreeState, shown_tree, tree_summary, IsSoundState, OnlyReadsTree, IsFailedTree, HasErrorCause, IsApplied, IsInFlight, few_flying, in_flight-freed, RuntimeFiles, unsaved_or_tree, files_view, has_unsaved, reader_view, readers_among, writer_view, writers_among, writers_paths, takes_away, StayReady, KeepFiles, KeepsWriters, ConcernsNoFile, zero_gstate, pairs_gstate, Path, AllByRecursion, list_any, SessionView, IsReady, AreUnsavedIfAny, IsWriterReady, session_view, view_with_files, viewed_session, system_state, refusal_by_checks, FailsChecks, IsChecksResult, SessionFails, StepsOrFails}
+use Rattle.std.proofs.Common.{◌∷◌, length, Option, inl, inr, ℕ, ◌≡◌, ◌≢◌, Bool, true, false, cond, List, [], ◌++◌, Some, None, Result, Ok, Err, refl, sym, ap, ap₂, subst, ◌∙◌, append_assoc, arith, ◌<◌, nat_le}
+use Rattle.lfs_fs.proofs.Common.{nat_tests, same_Some, CachedBlocks, CallEvent, Operation, Reply, Refusal, FlagsOfOpen, Failed, OpenFilesByNumber, Session, DiskSummary, Reading, Writing, free_number_of, files_with_file, opened_writer, path_or_root, operation_refusal, operation_effect, Healthy, is_remount, IsStep, is_read_only, opens_existing, writes_or_truncates, needs_no_call, renames_itself, spread_step, FileNode, file_bytes, is_file, is_query, not_remount, is_refusal, error_refusal, reply_from, TreeState, shown_tree, tree_summary, IsSoundState, OnlyReadsTree, IsFailedTree, HasErrorCause, IsApplied, IsInFlight, few_flying, in_flight-freed, RuntimeFiles, unsaved_or_tree, files_view, has_unsaved, reader_view, readers_among, writer_view, writers_among, writers_paths, takes_away, StayReady, KeepFiles, KeepsWriters, ConcernsNoFile, zero_gstate, pairs_gstate, Path, AllByRecursion, list_any, SessionView, IsReady, AreUnsavedIfAny, IsWriterReady, session_view, view_with_files, viewed_session, system_state, refusal_by_checks, FailsChecks, IsChecksResult, SessionFails, StepsOrFails}
 use Rattle.lfs_model.specs.session.Operations as ops
 use Rattle.lfs_model.specs.session.Recovery.{recovers_first}
 use Rattle.lfs_model.specs.session.Run.{edits_slots}
 use Rattle.lfs_model.proofs.StepsMade.{IsOver, idle_step, refused_step, asked_step, failed_step}
+use Rattle.lfs_model.proofs.Unmoved.{moved_behind}
 use Rattle.std.specs.Prelude.{◌⊎◌, ◌||◌, OnOk, OnErr, IfOk, IfErr, is_err, is_none, is_some, not, if◌then◌else◌}
 use Rattle.lfs_model.specs.session.TreeEdits.{tree_creating as add_file}
 use Rattle.lfs_device.specs.declared.error.Error.{Error}
@@ -100,12 +101,12 @@ asked_answer old op tree files sound asked e other asks same none still silent =
     (ap (λ (s : Session). s.tree) same) none still (reads_write_nothing old.tree.disk.blocks events asked.reads.each) silent)))
 
 -- the tree carries it out
-pub carried_answer : (old : SessionView) (op : Operation) (mid new : TreeState) (files : OpenFilesByNumber) → (old.tree.failed ≡ false → IsSoundState old.tree) → OnlyReadsTree old.tree mid → refusal_by_checks old op ≡ None →
+pub carried_answer : (old : SessionView) (op : Operation) (mid new : TreeState) (files : OpenFilesByNumber) → (old.tree.failed ≡ false → IsSoundState old.tree) → (old.tree.failed ≡ false → old.tree.history ≢ []) → OnlyReadsTree old.tree mid → refusal_by_checks old op ≡ None →
     IsApplied mid op new → is_remount op ≡ false → is_read_only (viewed_session old) op ≡ false → writes_or_truncates op ≡ false → opens_existing (viewed_session old) op ≡ false → needs_no_call (viewed_session old) op ≡ false →
     (operation_effect (tree_summary old.tree) (viewed_session old) op).1.files ≡ files →
     IsStep (system_state old) op (operation_effect (tree_summary old.tree) (viewed_session old) op).0 (system_state (view_with_files new files))
 unfolding later
-carried_answer old op mid new files sound asked e carried other asks fill creates silent opened =
+carried_answer old op mid new files sound called asked e carried other asks fill creates silent opened =
     let works = not_failed old op e in
     let events = asked.reads.events in
     let c = subst (λ t. IsApplied t op new) (asked_later old.tree mid asked) carried in
@@ -115,7 +116,7 @@ carried_answer old op mid new files sound asked e carried other asks fill create
     let writes = reads_write_nothing old.tree.disk.blocks events asked.reads.each in
     subst (λ m. IsStep m op (operation_effect (tree_summary old.tree) (viewed_session old) op).0 (system_state (view_with_files new files))) (sym (healthy_system old works))
     (subst (λ m. IsStep (record { disk = old.tree.disk; calls = old.tree.history; state = Healthy (viewed_session old) }) op (operation_effect (tree_summary old.tree) (viewed_session old) op).0 m) (sym to)
-    (completed_step old.tree.disk old.tree.pairs (viewed_session old) (tree_summary old.tree) op new.disk new.pairs (c.calls ++ events) old.tree.history (is_over old.tree old.files (sound works)) (not_refused old op e)
+    (spread_step old.tree.disk old.tree.pairs (viewed_session old) (tree_summary old.tree) op new.disk new.pairs (c.calls ++ events) old.tree.history (is_over old.tree old.files (sound works)) (not_refused old op e)
     (record {
       geometry = c.geometry;
       other = other;
@@ -126,7 +127,13 @@ carried_answer old op mid new files sound asked e carried other asks fill create
       itself = λ h. ((c.itself h).0, nothing_written c.calls events (c.itself h).1 writes);
       nothing_left = λ h k. ((c.nothing_left h k).0, nothing_written c.calls events (c.nothing_left h k).1 writes);
     })
-    (record { accepted = c.sound.accepted; writable = c.fits; recovered = c.recovered; tree = λ around. c.shows around old.files; arranged = c.arranged old.files })))
+    (record {
+      accepted = c.sound.accepted;
+      writable = c.fits;
+      recovered = c.recovered;
+      tree = λ around. c.shows around old.files;
+      arranged = moved_behind old.tree.disk old.tree.pairs (viewed_session old) op c.calls events new.disk new.pairs (c.arranged (still_called old.tree.history (events ++ old.tree.history) events refl (called works)) old.files);
+    })))
 
 -- ---- calls
 
@@ -242,6 +249,9 @@ asked_ready old new files ready asked f = ready_later old new files (ready (sym 
 pub sound_by : (t : TreeState) (files : RuntimeFiles) → (t.failed ≡ false → IsReady t files) → t.failed ≡ false → IsSoundState t
 sound_by t files ready f = (ready f).sound
 
+pub called_before : (t : TreeState) (files : RuntimeFiles) → (t.failed ≡ false → IsReady t files) → t.failed ≡ false → t.history ≢ []
+called_before t files ready f = (ready f).called
+
 -- the checks leave a tree that is ready, or a broken one
 pub checked_ready : {A : Type 0} (t : TreeState) (files : RuntimeFiles) (op : Operation) (P : A → Type 0) (r : Result A Error) (tree : TreeState) → (t.failed ≡ false → IsReady t files) → IsChecksResult (session_view t files) op P r tree →
     tree.failed ≡ false → IsReady tree files
@@ -287,16 +297,16 @@ pub error_answers : (old : SessionView) (op : Operation) (e : Error) (new : Sess
 error_answers old op e new reply is fails = subst (λ b. StepsOrFails old op (cond b (Ok reply) (Err e)) new) (sym (no_refusal_io e is)) fails
 
 -- an operation that the tree carries out once no check refuses it
-pub done_answers : (K : Type 0) (old now : SessionView) (op : Operation) (mid new : TreeState) (r : Result (Unit {0}) Error) → old ≡ now → (old.tree.failed ≡ false → IsSoundState old.tree) → OnlyReadsTree old.tree mid → refusal_by_checks old op ≡ None →
+pub done_answers : (K : Type 0) (old now : SessionView) (op : Operation) (mid new : TreeState) (r : Result (Unit {0}) Error) → old ≡ now → (old.tree.failed ≡ false → IsSoundState old.tree) → (old.tree.failed ≡ false → old.tree.history ≢ []) → OnlyReadsTree old.tree mid → refusal_by_checks old op ≡ None →
     is_remount op ≡ false → is_read_only (viewed_session old) op ≡ false → writes_or_truncates op ≡ false → opens_existing (viewed_session old) op ≡ false → needs_no_call (viewed_session old) op ≡ false →
     (operation_effect (tree_summary old.tree) (viewed_session old) op).0 ≡ ops.Done → (operation_effect (tree_summary old.tree) (viewed_session old) op).1.files ≡ old.files → renames_itself op ≡ false → old.tree.writable ≡ true →
     OnOk r K → (K → IsApplied mid op new) → OnErr r (IsFailedTree mid new) → IfErr r (HasErrorCause mid new) → StepsOrFails now op (reply_from (λ u. ops.Done) r) (view_with_files new old.files)
-done_answers K old now op mid new r is sound asked e other asks fill creates silent done files itself writable carried from broken errors =
+done_answers K old now op mid new r is sound called asked e other asks fill creates silent done files itself writable carried from broken errors =
     subst (λ h. StepsOrFails h op (reply_from (λ u. ops.Done) r) (view_with_files new old.files)) is (go r carried broken errors)
   where
     go : (r : Result (Unit {0}) Error) → OnOk r K → OnErr r (IsFailedTree mid new) → IfErr r (HasErrorCause mid new) → StepsOrFails old op (reply_from (λ u. ops.Done) r) (view_with_files new old.files)
     go (Ok u) k broken errors =
-        subst (λ r. IsStep (system_state old) op r (system_state (view_with_files new old.files))) done (carried_answer old op mid new old.files sound asked e (from k) other asks fill creates silent files)
+        subst (λ r. IsStep (system_state old) op r (system_state (view_with_files new old.files))) done (carried_answer old op mid new old.files sound called asked e (from k) other asks fill creates silent files)
     go (Err error) k broken errors =
         error_answers old op error _ (ops.Refused (error_refusal error)) errors.errors (broken_fails error old op mid new old.files (not_failed old op e) other asks itself (sound (not_failed old op e)) writable asked broken errors)
 

@@ -4,7 +4,7 @@ use Rattle.std.specs.Prelude.{OnOk, OnErr, IfErr, is_err}
 use Rattle.lfs_device.specs.declared.error.Error.{Error}
 use Rattle.lfs_fs.proofs.Common.{answers_itself, is_look_up, needs_no_resource, operation_effect, Operation, Reply, SurvivesInCalls, SurvivesPowerLoss, HealthyHasDiskTree, opens_existing, writes_or_truncates, needs_no_call, is_read_only, renames_itself, OpenFilesByNumber, is_remount, Tree, is_refusal, error_refusal, OnlyReadsTree, IsFailedTree, IsApplied, HasErrorCause, LeavesOthersAlone, TreeState, SurvivesStops, tree_summary, RuntimeFiles, files_view, StepsOrFails, FailsChecks, SessionView, IsReady, session_view, view_with_files, system_state, refusal_by_checks, viewed_session, reply_from, StayReady, MeetsRules, IsCall, SparesOthers, HasSessionInvariant, LeftConforming}
 use Rattle.lfs_model.specs.session.Operations as ops
-use Rattle.lfs_fs.proofs.Answered.{asked_by_checks, done_answers, ended_call, ended_kept, files_asked, not_failed, sound_by, with_files}
+use Rattle.lfs_fs.proofs.Answered.{asked_by_checks, done_answers, ended_call, ended_kept, files_asked, not_failed, called_before, sound_by, with_files}
 use Rattle.lfs_fs.proofs.Ending.{broken_ends, carried_ends, ended_ends, unread_ends}
 use Rattle.lfs_fs.proofs.SavedSteps.{saving_fails}
 use Rattle.lfs_fs.proofs.Sparing.{asks_not, done_others, ok_others, untouched_others}
@@ -84,7 +84,7 @@ done_call C K t mid new fs now op r after is between asked e other asks fill cre
     (done_others C K t mid new fs now op r is between.ready asked c carried k rest)
     (carried_ends (session_view t fs) now op (λ u. ops.Done) mid new (files_view new fs) r is e takes asked c (λ x. (carried x).no_fault) errors)
     (with_files now op (reply_from (λ u. ops.Done) r) new (files_view t fs) (files_view new fs) (λ works. (left works).same)
-    (done_answers C (session_view t fs) now op mid new r is (sound_by t fs between.ready) asked e other asks fill creates silent done files itself writable c carried broken errors))
+    (done_answers C (session_view t fs) now op mid new r is (sound_by t fs between.ready) (called_before t fs between.ready) asked e other asks fill creates silent done files itself writable c carried broken errors))
     (asked_changed (session_view t fs) now op mid new after is (sound_by t fs between.ready) e asked (called_by op mid new r c carried broken) survives makes)
 
 -- what was written can't be brought to the device

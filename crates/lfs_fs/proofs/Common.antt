@@ -30,7 +30,7 @@ pub use Rattle.lfs_model.proofs.Counts.{Each, each_weaker}
 pub use Rattle.lfs_model.proofs.Histories.{OnlyReadsSince-trans}
 pub use Rattle.lfs_model.proofs.Paths.{Names, alike, names, path_from_same, path_itself, unlike}
 pub use Rattle.lfs_model.proofs.SessionSteps.{not_remount}
-pub use Rattle.lfs_model.proofs.StepsMade.{completed_step, filled_step}
+pub use Rattle.lfs_model.proofs.StepsMade.{filled_step, spread_step}
 pub use Rattle.lfs_model.proofs.Uniqueness.{one_thread}
 pub use Rattle.lfs_model.specs.crash.Frame.{LeavesOthers, ReadsEachOnce, ancestor_paths, answers_itself, is_early_refusal, is_look_up, needs_no_resource, pair_count_at, searched_directories}
 pub use Rattle.lfs_model.specs.crash.PowerLoss.{HasEither, SurvivesInCalls, SurvivesPowerLoss}

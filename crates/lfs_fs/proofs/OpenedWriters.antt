@@ -1,7 +1,7 @@
 -- A file that is opened for writing.
-use Rattle.std.proofs.Common.{append_assoc, ℕ, zero, suc, ◌≡◌, ◌∙◌, ◌+◌, ◌<◌, ◌≤◌, ◌||◌, ◌&&◌, Bool, true, false, not, nat_le, nat_lt, List, [], ◌∷◌, ◌++◌, length, map, set, Option, Some, None, Result, Ok, Err, refl, sym, ap, ap₂, subst, arith}
+use Rattle.std.proofs.Common.{append_assoc, ℕ, zero, suc, ◌≡◌, ◌≢◌, ◌∙◌, ◌+◌, ◌<◌, ◌≤◌, ◌||◌, ◌&&◌, Bool, true, false, not, nat_le, nat_lt, List, [], ◌∷◌, ◌++◌, length, map, set, Option, Some, None, Result, Ok, Err, refl, sym, ap, ap₂, subst, arith}
 use Rattle.std.specs.Prelude.{if◌then◌else◌, is_none, is_some}
-use Rattle.lfs_fs.proofs.Common.{AllByRecursion, list_any, lt-ltb, ltb-true, nat_tests, tree_creating, file_bytes, is_directory, last_name, same_path, in_flight_count, block_count, CachedBlocks, CallEvent, FlagsOfOpen, parse_path, IsStep, OpenFilesByNumber, Session, Reading, Writing, free_number_of, reserved_for_writers, has_long_name, has_file, exceeds_charge, lacks_free, overfills_disk, parents_refusal, files_with_file, all_readers, all_writers, opened_writer, Healthy, path_or_root, operation_effect, node_file_size, DirectoryNode, FileNode, Node, Path, recovered_from, completed_step, CanCreateFile, error_refusal, OnlyReadsTree, IsFailedTree, IsApplied, HasErrorCause, IsSoundState, TreeState, tree_summary, shown_tree, CanOpenWriter, IsOpenedWriter, RuntimeFiles, open_file_at, files_view, lowest_free, has_unsaved, runtime_files_with, readers_among, writer_if_any, writer_view, writers_among, StepsOrFails, AreCurrentReaders, HasKnownBlocks, SessionView, IsReady, IsWriterReady, session_view, view_with_files, system_state, refusal_by_checks, viewed_session, reply_from, KeepsWriters}
+use Rattle.lfs_fs.proofs.Common.{AllByRecursion, list_any, lt-ltb, ltb-true, nat_tests, tree_creating, file_bytes, is_directory, last_name, same_path, in_flight_count, block_count, CachedBlocks, CallEvent, FlagsOfOpen, parse_path, IsStep, OpenFilesByNumber, Session, Reading, Writing, free_number_of, reserved_for_writers, has_long_name, has_file, exceeds_charge, lacks_free, overfills_disk, parents_refusal, files_with_file, all_readers, all_writers, opened_writer, Healthy, path_or_root, operation_effect, node_file_size, DirectoryNode, FileNode, Node, Path, recovered_from, spread_step, CanCreateFile, error_refusal, OnlyReadsTree, IsFailedTree, IsApplied, HasErrorCause, IsSoundState, TreeState, tree_summary, shown_tree, CanOpenWriter, IsOpenedWriter, RuntimeFiles, open_file_at, files_view, lowest_free, has_unsaved, runtime_files_with, readers_among, writer_if_any, writer_view, writers_among, StepsOrFails, AreCurrentReaders, HasKnownBlocks, SessionView, IsReady, IsWriterReady, session_view, view_with_files, system_state, refusal_by_checks, viewed_session, reply_from, KeepsWriters}
 use Rattle.lfs_device.specs.declared.error.Error.{Error}
 use Rattle.lfs_device.specs.declared.error.Error.TheVariants.{NoMemory}
 use Rattle.lfs_model.specs.session.Operations as ops
@@ -9,12 +9,14 @@ use Rattle.lfs_model.specs.session.Session as session
 use Rattle.lfs_fs.specs.declared.files.OpenFile.{OpenFile}
 use Rattle.lfs_fs.specs.declared.files.OpenFile.TheVariants as file
 use Rattle.lfs_fs.specs.declared.files.Writer.{Writer}
-use Rattle.lfs_fs.proofs.Answered.{carried_answer, carried_ready, error_answers, is_over, kept_files, not_failed, not_refused, ready_later, sound_by}
+use Rattle.lfs_fs.proofs.Answered.{called_before, carried_answer, carried_ready, error_answers, is_over, kept_files, not_failed, not_refused, ready_later, sound_by}
 use Rattle.lfs_fs.proofs.Checked.{negated, neither, there, unrefused}
 use Rattle.lfs_fs.proofs.Failing.{broken_fails, healthy_system, memory_fails}
 use Rattle.lfs_fs.proofs.OpenFiles.{count_put, free_at_most, free_is, only, put_is, writer_count}
 use Rattle.lfs_fs.proofs.WriterOpens.{writes_anew}
-use Rattle.lfs_fs.proofs.WriterSteps.{there_arranged}
+use Rattle.lfs_fs.proofs.Calls.{still_called}
+use Rattle.lfs_model.proofs.Unmoved.{moved_behind}
+use Rattle.lfs_fs.proofs.WriterSteps.{there_moved}
 use Rattle.lfs_fs.proofs.FilesBeside.{no_reader_at}
 use Rattle.lfs_fs.proofs.OpenReaders.{read_opened}
 use Rattle.lfs_fs.proofs.ReadersKnow.{known_opened}
@@ -247,12 +249,12 @@ unfolding later
 asked_later old new asked = asked.same ∙ ap (λ history. record old { history = history; cache = new.cache }) asked.reads.extends
 
 -- a file that is there, once the image is recovered
-there_turn : (old : SessionView) (bytes : List ℕ) (flags : FlagsOfOpen) (mid new : TreeState) (files : OpenFilesByNumber) (n : Node) → (old.tree.failed ≡ false → IsSoundState old.tree) → OnlyReadsTree old.tree mid →
+there_turn : (old : SessionView) (bytes : List ℕ) (flags : FlagsOfOpen) (mid new : TreeState) (files : OpenFilesByNumber) (n : Node) → (old.tree.failed ≡ false → IsSoundState old.tree) → (old.tree.failed ≡ false → old.tree.history ≢ []) → OnlyReadsTree old.tree mid →
     refusal_by_checks old (ops.Open bytes flags) ≡ None → flags.write ≡ true → shown_tree old.tree (path_or_root bytes) ≡ Some n → IsApplied mid ops.Recover new →
     (operation_effect (tree_summary old.tree) (viewed_session old) (ops.Open bytes flags)).1.files ≡ files →
     IsStep (system_state old) (ops.Open bytes flags) (operation_effect (tree_summary old.tree) (viewed_session old) (ops.Open bytes flags)).0 (system_state (view_with_files new files))
 unfolding later
-there_turn old bytes flags mid new files n sound asked e write node carried opened =
+there_turn old bytes flags mid new files n sound called asked e write node carried opened =
     let op = ops.Open bytes flags in
     let works = not_failed old op e in
     let good = sound works in
@@ -265,7 +267,7 @@ there_turn old bytes flags mid new files n sound asked e write node carried open
     ∙ ap₂ (λ (calls : List CallEvent) (s : Session). record { disk = new.disk; calls = calls; state = Healthy s }) (c.called ∙ sym (append_assoc c.calls events old.tree.history)) is in
     subst (λ m. IsStep m op (operation_effect (tree_summary old.tree) (viewed_session old) op).0 (system_state (view_with_files new files))) (sym (healthy_system old works))
     (subst (λ m. IsStep (record { disk = old.tree.disk; calls = old.tree.history; state = Healthy (viewed_session old) }) op (operation_effect (tree_summary old.tree) (viewed_session old) op).0 m) (sym to)
-    (completed_step old.tree.disk old.tree.pairs (viewed_session old) (tree_summary old.tree) op new.disk new.pairs (c.calls ++ events) old.tree.history (is_over old.tree old.files good) (not_refused old op e)
+    (spread_step old.tree.disk old.tree.pairs (viewed_session old) (tree_summary old.tree) op new.disk new.pairs (c.calls ++ events) old.tree.history (is_over old.tree old.files good) (not_refused old op e)
     (record {
       geometry = c.geometry;
       other = refl;
@@ -281,7 +283,8 @@ there_turn old bytes flags mid new files n sound asked e write node carried open
       writable = c.fits;
       recovered = c.recovered;
       tree = λ around. c.shows around old.files ∙ kept;
-      arranged = there_arranged old.tree.disk new.disk old.tree.pairs new.pairs (viewed_session old) bytes flags n node (c.arranged old.files);
+      arranged = there_moved old.tree.disk new.disk old.tree.pairs new.pairs (viewed_session old) bytes flags n (c.calls ++ events) node
+          (moved_behind old.tree.disk old.tree.pairs (viewed_session old) ops.Recover c.calls events new.disk new.pairs (c.arranged (still_called old.tree.history (events ++ old.tree.history) events refl (called works)) old.files));
     })))
 
 file_node : (n : Option Node) (size : ℕ) → node_file_size n ≡ Some size → (m : Node) × (n ≡ Some m)
@@ -300,7 +303,7 @@ opened_there t mid new fs bytes flags w p size ready asked e write is sizes carr
       ready = carried_ready mid new fs ops.Recover (λ p. refl) (ready_later t mid fs (ready passed.works) asked) (none_saved fs none) (keeps_none mid new fs none) carried;
       begun = subst (λ (z : TreeState). IsOpenedWriter new (opened_writer (path_or_root bytes) flags (file_bytes (shown_tree z (path_or_root bytes)))) w) asked.same
           (subst (λ q. IsOpenedWriter new (opened_writer q flags (file_bytes (shown_tree mid q))) w) is begun);
-      turn = λ files opened. there_turn (session_view t fs) bytes flags mid new files node.0 (sound_by t fs ready) asked e write node.1 carried opened;
+      turn = λ files opened. there_turn (session_view t fs) bytes flags mid new files node.0 (sound_by t fs ready) (called_before t fs ready) asked e write node.1 carried opened;
     }
 
 pub opened_new : (t mid new : TreeState) (fs : RuntimeFiles) (bytes : List ℕ) (flags : FlagsOfOpen) (w : Writer) (p : Path) → (t.failed ≡ false → IsReady t fs) → OnlyReadsTree t mid →
@@ -314,7 +317,7 @@ opened_new t mid new fs bytes flags w p ready asked e write is sizes carried beg
       unread = no_reader_at t fs (same_path (path_or_root bytes)) passed.closed;
       ready = carried_ready mid new fs (ops.Open bytes flags) (λ p. refl) (ready_later t mid fs (ready passed.works) asked) (none_saved fs none) (keeps_none mid new fs none) carried;
       begun = subst (λ n. IsOpenedWriter new (opened_writer (path_or_root bytes) flags (file_bytes n)) w) (sym node) (subst (λ q. IsOpenedWriter new (opened_writer q flags []) w) is begun);
-      turn = λ files opened. carried_answer (session_view t fs) (ops.Open bytes flags) mid new files (sound_by t fs ready) asked e carried refl (ap not write) refl (ap is_some node) refl opened;
+      turn = λ files opened. carried_answer (session_view t fs) (ops.Open bytes flags) mid new files (sound_by t fs ready) (called_before t fs ready) asked e carried refl (ap not write) refl (ap is_some node) refl opened;
     }
 
 -- ---- answers

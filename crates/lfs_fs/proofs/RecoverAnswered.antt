@@ -4,7 +4,7 @@ use Rattle.std.specs.Prelude.{OnErr, OnOk, IfErr}
 use Rattle.lfs_device.specs.declared.error.Error.{Error}
 use Rattle.lfs_model.specs.session.Operations as ops
 use Rattle.lfs_fs.proofs.Common.{Tree, TreeState, IsFailedTree, IsApplied, HasErrorCause, tree_summary, shown_tree, RuntimeFiles, files_view, readers_among, writers_among, StepsOrFails, SessionView, IsReady, session_view, refusal_by_checks, reply_from, StayReady, KeepFiles}
-use Rattle.lfs_fs.proofs.Answered.{KeepsFiles, done_answers, done_left, keeps_writers, none_concerned, not_refused, nothing_asked, sound_by, with_files}
+use Rattle.lfs_fs.proofs.Answered.{KeepsFiles, done_answers, done_left, keeps_writers, none_concerned, not_refused, nothing_asked, called_before, sound_by, with_files}
 use Rattle.lfs_fs.proofs.OpenReaders.{none_read}
 use Rattle.lfs_fs.proofs.Checked.{negated, unrefused}
 use Rattle.lfs_fs.proofs.Staying.{SameFile}
@@ -31,5 +31,5 @@ pub recover_answers : (t new : TreeState) (files : RuntimeFiles) (now : SessionV
 recover_answers t new files now r stay same ready e done broken errors =
     with_files now ops.Recover (reply_from (λ u. ops.Done) r) new (files_view t files) (files_view new files)
     (λ works. (recovered_left t new files r stay ready e done broken works).same)
-    (done_answers (IsApplied t ops.Recover new) (session_view t files) now ops.Recover t new r same (sound_by t files ready) (nothing_asked t) e refl refl refl refl refl refl refl refl
+    (done_answers (IsApplied t ops.Recover new) (session_view t files) now ops.Recover t new r same (sound_by t files ready) (called_before t files ready) (nothing_asked t) e refl refl refl refl refl refl refl refl
     (negated t.writable (unrefused (not t.writable) ops.ReadOnly (not_refused (session_view t files) ops.Recover e))) done (λ k. k) broken errors)

@@ -1,8 +1,9 @@
 -- The turns of a sync and of a close.
 use Rattle.std.proofs.Common.{arith, ◌≡◌, ◌<◌, ◌≤◌, ◌||◌, map, true, false, cond, not, set, List, [], ◌∷◌, ◌++◌, length, Option, Some, None, is_some, nat_lt, Result, Ok, Err, ℕ, suc, zero, refl, sym, ap, ap₂, subst, ◌∙◌}
-use Rattle.lfs_fs.proofs.Common.{AllByRecursion, list_any, option_flatten, option_map, map-set, tree_with_change, same_path, CallEvent, IsLayoutRecovered, Operation, IsStep, opens_existing, writes_or_truncates, is_dirty, needs_no_call, is_read_only, renames_itself, OpenFilesByNumber, Session, DiskSummary, Reading, Writing, file_numbered, files_with_file, file_reader, synced_writer, Healthy, is_remount, tree_stored, operation_effect, file_with_bytes, Path, completed_step, StoresBytesAt, error_refusal, TreeState, IsFailedTree, HasErrorCause, IsSoundState, tree_summary, shown_tree, CanSaveWriter, IsSavedWriter, RuntimeFiles, unsaved_or_tree, open_file_at, file_view, files_view, is_unsaved_one, readers_among, writer_view, writers_among, StepsOrFails, AreCurrentReaders, HasKnownBlocks, IsCurrentReader, SessionView, IsReady, IsWriterReady, session_view, view_with_files, system_state, refusal_by_checks, viewed_session, reply_from, KeepsWriters}
+use Rattle.lfs_fs.proofs.Common.{AllByRecursion, list_any, option_flatten, option_map, map-set, tree_with_change, same_path, CallEvent, Operation, IsStep, opens_existing, writes_or_truncates, is_dirty, needs_no_call, is_read_only, renames_itself, OpenFilesByNumber, Session, DiskSummary, Reading, Writing, file_numbered, files_with_file, file_reader, synced_writer, Healthy, is_remount, tree_stored, operation_effect, file_with_bytes, Path, spread_step, StoresBytesAt, error_refusal, TreeState, IsFailedTree, HasErrorCause, IsSoundState, tree_summary, shown_tree, CanSaveWriter, IsSavedWriter, RuntimeFiles, unsaved_or_tree, open_file_at, file_view, files_view, is_unsaved_one, readers_among, writer_view, writers_among, StepsOrFails, AreCurrentReaders, HasKnownBlocks, IsCurrentReader, SessionView, IsReady, IsWriterReady, session_view, view_with_files, system_state, refusal_by_checks, viewed_session, reply_from, KeepsWriters}
 use Rattle.std.proofs.lemmas.List.{length-map, length-set, set-set}
 use Rattle.lfs_device.specs.declared.error.Error.{Error}
+use Rattle.lfs_model.specs.session.Moved.{IsLayoutMoved}
 use Rattle.lfs_model.specs.session.Operations as ops
 use Rattle.lfs_model.specs.session.Run.{is_recover}
 use Rattle.lfs_model.specs.session.Session as session
@@ -71,10 +72,10 @@ back_is t s fs fd w v is o =
 
 -- ---- the turn
 
-stored_step : (t new : TreeState) (fs : RuntimeFiles) (files : OpenFilesByNumber) (op : Operation) (path : Path) (bytes : List ℕ) → IsSoundState t → t.failed ≡ false → refusal_by_checks (session_view t fs) op ≡ None → StoresBytesAt t path bytes new →
+stored_step : (t new : TreeState) (fs : RuntimeFiles) (files : OpenFilesByNumber) (op : Operation) (path : Path) (bytes : List ℕ) → IsSoundState t → t.failed ≡ false → refusal_by_checks (session_view t fs) op ≡ None → (stored : StoresBytesAt t path bytes new) →
     is_remount op ≡ false → is_read_only (viewed_session (session_view t fs)) op ≡ false → writes_or_truncates op ≡ false → opens_existing (viewed_session (session_view t fs)) op ≡ false → needs_no_call (viewed_session (session_view t fs)) op ≡ false →
     renames_itself op ≡ false → is_recover op ≡ false →
-    ((around : DiskSummary) → shown_tree new ≡ (operation_effect around (viewed_session (session_view t fs)) op).1.tree) → IsLayoutRecovered t.disk t.pairs (viewed_session (session_view t fs)) op new.disk new.pairs →
+    ((around : DiskSummary) → shown_tree new ≡ (operation_effect around (viewed_session (session_view t fs)) op).1.tree) → IsLayoutMoved t.disk t.pairs (viewed_session (session_view t fs)) op stored.calls new.disk new.pairs →
     (operation_effect (tree_summary t) (viewed_session (session_view t fs)) op).1.files ≡ files →
     IsStep (system_state (session_view t fs)) op (operation_effect (tree_summary t) (viewed_session (session_view t fs)) op).0 (system_state (view_with_files new files))
 stored_step t new fs files op path bytes sound works e stored other asks fill creates silent itself left shows arranged opened =
@@ -84,7 +85,7 @@ stored_step t new fs files op path bytes sound works e stored other asks fill cr
     ∙ ap₂ (λ (calls : List CallEvent) (s : Session). record { disk = new.disk; calls = calls; state = Healthy s }) stored.called is in
     subst (λ m. IsStep m op (operation_effect (tree_summary t) (viewed_session old) op).0 (system_state (view_with_files new files))) (sym (healthy_system old works))
     (subst (λ m. IsStep (record { disk = t.disk; calls = t.history; state = Healthy (viewed_session old) }) op (operation_effect (tree_summary t) (viewed_session old) op).0 m) (sym to)
-    (completed_step t.disk t.pairs (viewed_session old) (tree_summary t) op new.disk new.pairs stored.calls t.history (is_over t (files_view t fs) sound) (not_refused old op e)
+    (spread_step t.disk t.pairs (viewed_session old) (tree_summary t) op new.disk new.pairs stored.calls t.history (is_over t (files_view t fs) sound) (not_refused old op e)
     (record {
       geometry = stored.geometry;
       other = other;
@@ -121,7 +122,7 @@ sync_step : (t new : TreeState) (fs : RuntimeFiles) (fd : ℕ) (w v : Writer) �
     IsStep (system_state (session_view t fs)) (ops.Sync fd) ops.Done (system_state (session_view new (set (set fs fd None) fd (Some (file.Writing v)))))
 sync_step t new fs fd w v ready e is dirty stored saved =
     stored_step t new fs (files_view new (set (set fs fd None) fd (Some (file.Writing v)))) (ops.Sync fd) w.path (unsaved_or_tree t w.path w.unsaved) ready.sound (not_failed (session_view t fs) (ops.Sync fd) e) e stored
-    refl refl refl refl (dirty_at t fs fd w is dirty) refl refl (λ around. committed_is t new fs fd w is dirty stored) (stored.synced (files_view t fs) fd (writer_view t w) (writer_at t fs fd w is dirty))
+    refl refl refl refl (dirty_at t fs fd w is dirty) refl refl (λ around. committed_is t new fs fd w is dirty stored) (stored.synced ready.called (files_view t fs) fd (writer_view t w) (writer_at t fs fd w is dirty))
     (ap (λ f. files_with_file (files_view t fs) fd (file_after_sync f)) (file_at t fs fd w is)
     ∙ ap (λ x. files_with_file (files_view t fs) fd (Some (Writing x))) (sym saved.seen)
     ∙ sym (back_is t new fs fd w v is (only fs fd w (sym is) ready.one)))
@@ -196,7 +197,7 @@ close_step : (t new : TreeState) (fs : RuntimeFiles) (fd : ℕ) (w : Writer) →
 close_step t new fs fd w ready e is dirty stored =
     stored_step t new fs (files_view new (set fs fd None)) (ops.Close fd) w.path (unsaved_or_tree t w.path w.unsaved) ready.sound (not_failed (session_view t fs) (ops.Close fd) e) e stored
     refl (ap (λ f. is_some (file_reader f)) (file_at t fs fd w is)) refl refl (dirty_at t fs fd w is dirty) refl refl (λ around. committed_is t new fs fd w is dirty stored)
-    (stored.closed (files_view t fs) fd (writer_view t w) (writer_at t fs fd w is dirty))
+    (stored.closed ready.called (files_view t fs) fd (writer_view t w) (writer_at t fs fd w is dirty))
     (sym (left_is t new fs fd w is (only fs fd w (sym is) ready.one)))
 
 pub close_answers : (t new : TreeState) (fs gs : RuntimeFiles) (now : SessionView) (fd : ℕ) (w : Writer) → session_view t fs ≡ now → (t.failed ≡ false → IsReady t fs) → refusal_by_checks (session_view t fs) (ops.Close fd) ≡ None →

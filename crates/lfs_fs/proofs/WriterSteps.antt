@@ -1,10 +1,11 @@
 -- Where slots stand once a file is opened for writing that is there.
 use Rattle.std.proofs.Common.{ℕ, ◌≡◌, List, Some}
-use Rattle.lfs_fs.proofs.Common.{Disk, IsLayoutRecovered, FlagsOfOpen, Session, path_or_root, Pair, Node}
+use Rattle.lfs_fs.proofs.Common.{CallEvent, Disk, IsLayoutRecovered, FlagsOfOpen, Session, path_or_root, Pair, Node}
+use Rattle.lfs_model.specs.session.Moved.{IsLayoutMoved}
 use Rattle.lfs_model.specs.session.Operations as ops
 
 -- they stand where a recovery leaves them
-pub there_arranged : (disk new : Disk) (ps qs : List Pair) (s : Session) (bytes : List ℕ) (flags : FlagsOfOpen) (n : Node) → s.tree (path_or_root bytes) ≡ Some n → IsLayoutRecovered disk ps s ops.Recover new qs →
+there_arranged : (disk new : Disk) (ps qs : List Pair) (s : Session) (bytes : List ℕ) (flags : FlagsOfOpen) (n : Node) → s.tree (path_or_root bytes) ≡ Some n → IsLayoutRecovered disk ps s ops.Recover new qs →
     IsLayoutRecovered disk ps s (ops.Open bytes flags) new qs
 there_arranged disk new ps qs s bytes flags n there a = record {
   middle = a.middle;
@@ -23,4 +24,17 @@ there_arranged disk new ps qs s bytes flags n there a = record {
     joined = a.operation.joined;
     is = a.operation.is;
   };
+}
+
+-- and a pair may have moved after it
+pub there_moved : (disk new : Disk) (ps qs : List Pair) (s : Session) (bytes : List ℕ) (flags : FlagsOfOpen) (n : Node) (calls : List CallEvent) → s.tree (path_or_root bytes) ≡ Some n → IsLayoutMoved disk ps s ops.Recover calls new qs →
+    IsLayoutMoved disk ps s (ops.Open bytes flags) calls new qs
+there_moved disk new ps qs s bytes flags n calls there a = record {
+  done = a.done;
+  after = a.after;
+  had = a.had;
+  geometry = a.geometry;
+  accepted = a.accepted;
+  operation = there_arranged disk a.done ps a.after s bytes flags n there a.operation;
+  spread = a.spread;
 }

@@ -281,6 +281,11 @@ def rows(tool, folder):
     run(tool, f"-c files {SHORT} image", top)
     made = open(os.path.join(top, "image"), "rb").read()
     yield "an image to standard output", run(tool, f"-c files {SHORT} -", top), (0, made, b"")
+    os.mkfifo(os.path.join(top, "pipe"))
+    for words, lines in ("-l", b"f 5 /a\nf 0 /b\n"), ("-u other", b""):
+        with subprocess.Popen(["sh", "-c", "cat image > pipe"], cwd=top):
+            yield f"{words} of a pipe whose writer is gone", run(tool, f"{words} -b auto -p 128 pipe", top), (0, lines, b"")
+    os.remove(os.path.join(top, "pipe"))
     with open("/dev/full", "wb") as full:
         came = run(tool, "-c files --explain -", top, stdout=full)
     yield "a standard output that is full", came, (3, None, b"error: output\n-: No space left on device (os error 28)\n")

@@ -67,7 +67,6 @@ impl From<AllocError> for ToolError {
 }
 
 impl ToolError {
-    // Returns the line for the error.
     fn error_line_text(self) -> LineText
         ensures { result.bytes ≡ error_line_of self }
     {
@@ -78,7 +77,6 @@ impl ToolError {
         }
     }
 
-    // Returns the status with which the program ends.
     fn exit_status(self) -> u8
         ensures { result ≡ error_status self }
     {
@@ -92,7 +90,6 @@ impl ToolError {
 // A line of the tool's own.
 type LineText = ArrayString<96>;
 
-// Makes the line of an error that has these words.
 fn line_of_words(words: &str) -> LineText
     requires { length words.now ≤ 80 }
     ensures { result.bytes ≡ codes "error: " ++ words.now ++ newline }
@@ -104,7 +101,6 @@ fn line_of_words(words: &str) -> LineText
     line
 }
 
-// Returns the line for an error of the file system.
 fn text_of_error(error: Error) -> LineText
     ensures { result.bytes ≡ error_line error }
 {

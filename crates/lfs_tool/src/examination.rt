@@ -51,7 +51,6 @@ fn refused_check_result(
     }
 }
 
-// Returns the result for the bytes.
 fn result_of_verdict(
     stated: Option<WrongNumber>,
     verdict: Option<ImageVerdict>,
@@ -72,7 +71,6 @@ fn result_of_verdict(
     }
 }
 
-// Returns the result for bytes that an image may have.
 fn result_of_bytes(alloc: Global, image: Vec<u8>, layout: ImageLayout) -> Result<CheckResult, Error>
     requires { length image.items ≤ 268_435_456 }
     ensures checked { IfOk result (IsCheckResult layout image.items) }

@@ -20,17 +20,6 @@ pub(crate) fn escaped_name(alloc: Global, name: &[u8]) -> Result<String, AllocEr
     String::from_utf8_lossy(alloc, &text)
 }
 
-// Returns whether the second block of a pair holds. Returns None where neither does.
-fn does_second_hold(first: &[u8], second: &[u8]) -> Option<bool> {
-    let (first, second) = (Log::read(first), Log::read(second));
-    let is_later = is_later_than(first.revision(), second.revision());
-    match (first.has_commit(), second.has_commit()) {
-        (true, true) => Some(is_later),
-        (false, false) => None,
-        (_, holds) => Some(holds),
-    }
-}
-
 // Returns the block of a pair that holds, if it has one and both are on the device.
 pub(crate) fn current_block(
     alloc: Global,
@@ -44,10 +33,12 @@ pub(crate) fn current_block(
     }
     let first = read_block(alloc, device, first)?;
     let second = read_block(alloc, device, second)?;
-    match does_second_hold(&first, &second) {
-        Some(true) => Ok(Some(second)),
-        Some(false) => Ok(Some(first)),
-        None => Ok(None),
+    let (one, two) = (Log::read(&first), Log::read(&second));
+    let is_later = is_later_than(one.revision(), two.revision());
+    match (one.has_commit(), two.has_commit()) {
+        (false, false) => Ok(None),
+        (true, holds) if !holds || !is_later => Ok(Some(first)),
+        _ => Ok(Some(second)),
     }
 }
 
@@ -83,7 +74,6 @@ impl FoundSlot {
     }
 }
 
-// Neighbours in a directory.
 #[derive(Clone, Copy, Drop)]
 pub(crate) struct Neighbours<'a> {
     before: &'a FoundSlot,
@@ -104,7 +94,6 @@ impl Neighbours<'_> {
     }
 }
 
-// What a thread has.
 #[derive(Drop)]
 pub(crate) struct FoundThread {
     pub alloc: Global,
@@ -218,12 +207,10 @@ impl FoundThread {
         !is_moved && !slot.kind.is_superblock()
     }
 
-    // Returns whether a slot is an entry of the directory at an address.
     pub(crate) fn is_entry_in(&self, slot: &FoundSlot, directory: [u32; 2]) -> bool {
         is_same_pair(slot.directory, directory) && self.is_entry(slot)
     }
 
-    // Returns whether a directory begins at an address.
     pub(crate) fn has_directory(&self, at: [u32; 2]) -> bool {
         self.directories
             .iter()

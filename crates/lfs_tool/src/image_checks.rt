@@ -15,7 +15,6 @@ use crate::{ImageInput, ImageLayout, ToolError, ToolOutput};
 use lfs_device::Error;
 use std::alloc::Global;
 
-// Returns whether the image was accepted.
 fn is_result_accepted(checked: &CheckResult) -> bool
     ensures { result ≡ is_accepted_result checked.now }
 {
@@ -57,10 +56,7 @@ pub fn check<R: ImageInput, W: ToolOutput>(
     ensures read { ¬ IsErrOf result ToolError.Input → ¬ IsErrOf result (ToolError.Fs Error.NoMemory) → IsReadToEnd (R.remaining image.old) (R.remaining image.new) }
 {
     let checked = result_of_image(alloc, image, layout)?;
-    let text = match check_result_lines(alloc, &checked) {
-        Ok(text) => text,
-        Err(_) => return Err(ToolError::Fs(Error::NoMemory)),
-    };
+    let text = check_result_lines(alloc, &checked)?;
     write_and_flush(out, text.as_slice())?;
     Ok(is_result_accepted(&checked))
 }

@@ -17,25 +17,20 @@ ghost use Rattle.lfs_tool.specs.SparseView.{sparse_geometry};
 ghost use Rattle.lfs_tool.specs.Listings.{IsWalkedThread, IsMountError};
 ghost use Rattle.lfs_lookup.specs.TreeWalk.{tree_items_view};
 
-use crate::{ImageLayout, SparseDevice};
+use crate::{ImageLayout, SparseDevice, geometry_of_sizes};
 use lfs_device::{BlockDevice, Error, Geometry, RamDevice};
 use lfs_lookup::{TreeItem, walk_tree};
 use lfs_mount::mount;
 use lfs_thread::Thread;
 use std::alloc::Global;
 
-// Returns the geometry of an image of so many bytes.
 fn geometry_of_length(len: usize, layout: ImageLayout) -> Result<Geometry, Error>
     requires { len < 2 ^ 32 }
     ensures sizes { IfOk result (λ g. (g.block_size ≡ layout.block_size) × (g.page ≡ layout.page) × (g.profile ≡ layout.profile)) }
     ensures count { IfOk result (λ g. (g.block_count ≡ len / layout.block_size) × (len % layout.block_size ≡ 0)) }
     ensures err { IfErr result (λ e. (e ≡ Error.Invalid) × (len % layout.block_size ≡ 0 → ¬ IsValidGeometry layout.block_size layout.page (len / layout.block_size))) }
 {
-    let size = layout.block_size as usize;
-    if size == 0 || len % size != 0 {
-        return Err(Error::Invalid);
-    }
-    let geometry = Geometry::new(layout.block_size, layout.page, (len / size) as u32)?;
+    let geometry = geometry_of_sizes(len as u32, layout.block_size, layout.page)?;
     Ok(geometry.with_profile(layout.profile))
 }
 
@@ -82,8 +77,7 @@ fn mount_thread<D: BlockDevice>(alloc: Global, device: D) -> Result<Thread<D>, (
     }
 }
 
-// Returns the thread of an image that is accepted in one of the orders of names, and all entries of
-// the image.
+// Returns the thread of an image that is accepted in one of the orders of names, and all its entries.
 pub(crate) fn tree_items_of<D: BlockDevice>(
     alloc: Global,
     device: D,
@@ -100,7 +94,6 @@ pub(crate) fn tree_items_of<D: BlockDevice>(
     }
 }
 
-// Returns the thread and the entries of a device in memory.
 pub(crate) fn ram_tree_items(
     alloc: Global,
     device: RamDevice,

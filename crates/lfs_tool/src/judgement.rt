@@ -24,7 +24,6 @@ use lfs_mount::{MountError, mount, mount_in_order};
 use lfs_thread::Thread;
 use std::alloc::Global;
 
-// Returns whether the image of a device is accepted with its names in that order.
 fn accepts_order<D: BlockDevice + Drop>(
     alloc: Global,
     device: D,
@@ -39,8 +38,7 @@ fn accepts_order<D: BlockDevice + Drop>(
     }
 }
 
-// Returns in which orders of names the image of a device is accepted. The order `first` is one of
-// these.
+// Returns in which orders of names the image of a device is accepted. The order `first` is one of these.
 fn accepted_name_orders<D: BlockDevice + Drop>(
     alloc: Global,
     device: D,
@@ -74,8 +72,7 @@ fn rule_to_tell(longer: Violation, shorter: Violation) -> Violation
     }
 }
 
-// Returns the rule that the image of a device breaks. It is accepted in neither order of names, and with longer
-// names first it breaks the rule `longer`.
+// Returns the rule that the image of a device breaks. With longer names first it breaks the rule `longer`.
 fn broken_rule_of(alloc: Global, device: RamDevice, longer: Violation) -> Result<BrokenRule, Error>
     requires refused { IsInNoOrder (disk_of_blocks (ram_geometry device) (ram_blocks device)) }
     requires longer { Breaks (ordered_disk LongerFirst (disk_of_blocks (ram_geometry device) (ram_blocks device))) longer }

@@ -39,7 +39,7 @@ pub use image_devices::{ram_device_of, sparse_device_of};
 pub use image_layout::{ImageLayout, geometry_of_sizes};
 pub use input::read_image;
 pub use judgement::{accepted_summary, judge_device};
-pub use lfs_lookup::push_escaped_path;
+pub use lfs_lookup::{OwnedStruct, push_escaped_path};
 pub use lfs_tool_line::{
     Extras, Limit, Line, LineError, Misuse, Mode, Request, read_line, read_request,
 };
@@ -50,7 +50,9 @@ pub use progress::{FilesAndBytes, FollowsProgress, ProgressLine};
 pub use reader::ImageInput;
 pub use sparse::SparseDevice;
 pub use superblocks::{image_superblock_at, image_wrong_number};
-pub use unpacked_images::unpack;
+pub use unpacked_images::{
+    counts_of_items, entries_of_device, target_tool_error, unpack, unpack_entry,
+};
 pub use verdict::{
     AcceptedOrders, BrokenRule, CheckResult, GivenSizes, ImageSummary, ImageVerdict, RefusalReason,
     WrongNumber,

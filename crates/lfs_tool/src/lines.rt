@@ -8,7 +8,6 @@ use lfs_lookup::{OwnedStruct, TreeItem, push_escaped_path};
 use std::alloc::{AllocError, Global};
 use std::io::Write;
 
-// Adds the line of a file, with its size in bytes.
 fn push_file_line(text: &mut Vec<u8>, size: usize, path: &[u8]) -> Result<(), AllocError>
     ensures { OnOk result (text.new.items ≡ text.old.items ++ path_line (Some size) path.now) }
 {
@@ -20,7 +19,6 @@ fn push_file_line(text: &mut Vec<u8>, size: usize, path: &[u8]) -> Result<(), Al
     Ok(())
 }
 
-// Adds the line of a directory.
 fn push_directory_line(text: &mut Vec<u8>, path: &[u8]) -> Result<(), AllocError>
     ensures { OnOk result (text.new.items ≡ text.old.items ++ path_line None path.now) }
 {
@@ -30,7 +28,6 @@ fn push_directory_line(text: &mut Vec<u8>, path: &[u8]) -> Result<(), AllocError
     Ok(())
 }
 
-// Adds the line of an entry that was found.
 fn push_item_text(text: &mut Vec<u8>, found: &TreeItem) -> Result<(), AllocError>
     ensures { OnOk result (text.new.items ≡ text.old.items ++ place_line (tree_item_view found.now)) }
 {
@@ -41,7 +38,6 @@ fn push_item_text(text: &mut Vec<u8>, found: &TreeItem) -> Result<(), AllocError
     }
 }
 
-// Returns the lines of the entries, in order.
 pub(crate) fn tree_item_lines(alloc: Global, found: &[TreeItem]) -> Result<Vec<u8>, AllocError>
     ensures { IfOk result (λ text. text.items ≡ place_lines (tree_items_view found.now)) }
 {

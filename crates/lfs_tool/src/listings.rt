@@ -45,7 +45,6 @@ pub fn lines_of_device<D: BlockDevice + Drop>(
     }
 }
 
-// Returns the lines of a device in memory.
 fn lines_of_ram(alloc: Global, device: RamDevice) -> Result<Vec<u8>, Error>
     ensures lines { IfOk result (λ text. (order : NameOrder) × IsDiskListing (ordered_disk order (shown (ram_geometry device) (ram_blocks device))) text.items) }
     ensures err { IfErr result (IsMountError (shown (ram_geometry device) (ram_blocks device))) }
@@ -56,7 +55,6 @@ fn lines_of_ram(alloc: Global, device: RamDevice) -> Result<Vec<u8>, Error>
     }
 }
 
-// Returns the lines of the bytes of an image.
 fn lines_of_image(alloc: Global, image: Vec<u8>, layout: ImageLayout) -> Result<Vec<u8>, Error>
     requires { length image.items < 2 ^ 32 }
     ensures ok { IfOk result (λ text. IsImageListing layout image.items text.items) }
@@ -68,7 +66,6 @@ fn lines_of_image(alloc: Global, image: Vec<u8>, layout: ImageLayout) -> Result<
     }
 }
 
-// Returns the lines of an image.
 fn read_as_lines<R: ImageInput>(
     alloc: Global,
     image: &mut R,

@@ -13,7 +13,6 @@ pub struct LoadedBlock {
 impl LoadedBlock {
     ghost use Rattle.lfs_tool.specs.LoadedBlocks.{loaded_bytes};
 
-    // Makes a block of this size that begins with these bytes.
     pub(crate) fn new(size: usize, bytes: Vec<u8>) -> LoadedBlock
         requires { length bytes.items ≤ size }
         ensures size { result.size ≡ size }
@@ -22,7 +21,6 @@ impl LoadedBlock {
         LoadedBlock { size, bytes }
     }
 
-    // Returns the bytes that are loaded.
     pub(crate) fn bytes(&self) -> &[u8] {
         &self.bytes
     }

@@ -12,7 +12,6 @@ pub struct FilesAndBytes {
 }
 
 impl FilesAndBytes {
-    // Returns one file of that size in bytes.
     pub(crate) fn one_file(bytes: usize) -> FilesAndBytes {
         FilesAndBytes { files: 1, bytes }
     }
@@ -109,7 +108,6 @@ impl<W: Write + Drop, C: Clock + Drop> ProgressLine<W, C> {
         }
     }
 
-    // Writes the line, where it is time.
     fn write_if_due(&mut self) {
         let Some(began) = self.began else {
             return;

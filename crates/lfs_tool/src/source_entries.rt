@@ -25,7 +25,6 @@ fn new_file_open() -> OpenFlags
     flags
 }
 
-// Makes a file with these bytes.
 fn create_file_in(
     alloc: Global,
     session: &mut Session<RamDevice>,
@@ -55,7 +54,6 @@ fn copy_entry(
     }
 }
 
-// Returns what an entry is of the whole.
 fn counts_of_entry(entry: &SourceEntry) -> FilesAndBytes {
     match &entry.bytes {
         Some(bytes) => FilesAndBytes::one_file(bytes.len()),
@@ -63,7 +61,6 @@ fn counts_of_entry(entry: &SourceEntry) -> FilesAndBytes {
     }
 }
 
-// Returns the whole of all entries.
 fn counts_of_entries(entries: &[SourceEntry]) -> FilesAndBytes {
     let mut whole = FilesAndBytes::default();
     for entry in entries {

@@ -24,7 +24,6 @@ pub struct SparseDevice {
     ghost conforms: { CallsConform trace.events },
 }
 
-// Makes blocks of which nothing is loaded.
 fn empty_blocks(alloc: Global, count: u32, size: u32) -> Result<Vec<LoadedBlock>, Error>
     ensures count { IfOk result (λ blocks. length blocks.items ≡ count) }
     ensures sizes { IfOk result (λ blocks. AreLoadedOfSize size blocks.items) }

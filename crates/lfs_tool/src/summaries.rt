@@ -29,7 +29,6 @@ fn is_file(structure: &OwnedStruct) -> bool
     }
 }
 
-// Returns how many of the items are files.
 fn count_files(items: &[TreeItem]) -> usize
     ensures count { result ≡ count_by is_file_item items.now }
     ensures below { result ≤ length items.now }
@@ -43,7 +42,6 @@ fn count_files(items: &[TreeItem]) -> usize
     count
 }
 
-// Returns whether a global state has an operation to end.
 fn has_unfinished_operation(state: &MoveState) -> bool
     ensures { result ≡ is_half_done (move_view state.now) }
 {
@@ -55,11 +53,8 @@ fn lesser_inline_max(geometry: &Geometry) -> Option<u32>
     ensures { result ≡ lesser_inline_max geometry.now.profile geometry.now.block_size }
 {
     let most = (geometry.block_size / 8).min(1022);
-    if geometry.profile.inline_max < most {
-        Some(geometry.profile.inline_max)
-    } else {
-        None
-    }
+    let inline_max = geometry.profile.inline_max;
+    (inline_max < most).then_some(inline_max)
 }
 
 fn is_default_profile(profile: &Profile) -> bool
@@ -84,13 +79,10 @@ fn superblock_to_tell<D: BlockDevice>(
     if is_default_profile(&geometry.profile) {
         return Ok(None);
     }
-    match superblock(alloc, thread, root) {
-        Ok(superblock) => Ok(Some(superblock)),
-        Err(error) => Err(error),
-    }
+    let superblock = superblock(alloc, thread, root)?;
+    Ok(Some(superblock))
 }
 
-// Returns what the image has.
 pub(crate) fn summary_of_thread<D: BlockDevice>(
     alloc: Global,
     thread: &mut Thread<D>,

@@ -11,11 +11,15 @@ ghost use Rattle.lfs_lookup.specs.FileBytes.{struct_file_bytes};
 ghost use Rattle.lfs_lookup.specs.Items.{owned_view};
 ghost use Rattle.lfs_lookup.specs.TreeWalk.{tree_item_view, tree_items_view};
 ghost use Rattle.lfs_tool.specs.Reports.{IsReadToEnd, ReportsOneFault};
+ghost use Rattle.lfs_tool.specs.Listings.{IsWalkedThread};
+ghost use Rattle.lfs_model.specs.format.Disk.{Disk};
+ghost use Rattle.lfs_thread.specs.Kept.{ThreadView, disk_of_device};
 
-use crate::image_devices::{ram_device_of, ram_tree_items};
+use crate::image_devices::{ram_device_of, ram_tree_items, tree_items_of};
 use crate::input::read_image;
 use crate::{FilesAndBytes, FollowsProgress, ImageInput, ImageLayout, ToolError};
-use lfs_device::{Error, RamDevice};
+use lfs_device::{BlockDevice, Error, RamDevice};
+use lfs_file::{read_at, walk};
 use lfs_lookup::{OwnedStruct, TreeItem, read_struct_bytes};
 use lfs_thread::Thread;
 use lfs_tool_folders::{Target, TargetError};
@@ -44,8 +48,8 @@ fn file_bytes(
     }
 }
 
-// Returns the tool's error for a target's error.
-fn target_tool_error(error: TargetError) -> ToolError
+/// Returns the tool's error for a target's error.
+pub fn target_tool_error(error: TargetError) -> ToolError
     ensures { (error ≡ TargetError.Fault × (result ≡ ToolError.Output)) ⊎ (error ≡ TargetError.NoMemory × (result ≡ ToolError.Fs Error.NoMemory)) }
 {
     match error {
@@ -54,7 +58,27 @@ fn target_tool_error(error: TargetError) -> ToolError
     }
 }
 
-// Does the action of one item.
+// Does the action of an item. These are the bytes, if it is a file.
+fn put_item_bytes<T: Target>(
+    alloc: Global,
+    item: &TreeItem,
+    bytes: &[u8],
+    target: &mut T,
+) -> Result<(), ToolError>
+    ensures done { (disk : Disk) → bytes.now ≡ struct_file_bytes disk (owned_view item.now.structure) → OnOk result (AddsAction (T.done target.old) (T.done target.new) (place_action disk (tree_item_view item.now))) }
+    ensures undone { OnErr result (T.done target.new ≡ T.done target.old) }
+    ensures reports { ReportsTargetFaults (T.faults target.old) (T.faults target.new) result }
+{
+    let result = match &item.structure {
+        OwnedStruct::Branch(_) => target.make_folder(alloc, &item.path),
+        _ => target.put_file(alloc, &item.path, bytes),
+    };
+    match result {
+        Ok(()) => Ok(()),
+        Err(error) => Err(target_tool_error(error)),
+    }
+}
+
 fn put_tree_item<T: Target>(
     alloc: Global,
     thread: &mut Thread<RamDevice>,
@@ -68,20 +92,10 @@ fn put_tree_item<T: Target>(
     ensures only { (OnlyReadsThread thread.old.kept thread.new.kept) × (thread.new.failed ≡ false) }
     ensures reports { ReportsTargetFaults (T.faults target.old) (T.faults target.new) result }
 {
-    let result = match &item.structure {
-        OwnedStruct::Branch(_) => target.make_folder(alloc, &item.path),
-        structure => {
-            let bytes = file_bytes(alloc, thread, structure)?;
-            target.put_file(alloc, &item.path, &bytes)
-        }
-    };
-    match result {
-        Ok(()) => Ok(()),
-        Err(error) => Err(target_tool_error(error)),
-    }
+    let bytes = file_bytes(alloc, thread, &item.structure)?;
+    put_item_bytes(alloc, item, &bytes, target)
 }
 
-// Returns what an item is of the whole.
 fn counts_of_item(item: &TreeItem) -> FilesAndBytes {
     match &item.structure {
         OwnedStruct::Inline(bytes) => FilesAndBytes::one_file(bytes.len()),
@@ -90,8 +104,8 @@ fn counts_of_item(item: &TreeItem) -> FilesAndBytes {
     }
 }
 
-// Returns the whole of all items.
-fn counts_of_items(items: &[TreeItem]) -> FilesAndBytes {
+/// Returns how many files there are among the items, and how many bytes they have.
+pub fn counts_of_items(items: &[TreeItem]) -> FilesAndBytes {
     let mut whole = FilesAndBytes::default();
     for item in items {
         whole = whole.plus(counts_of_item(item));
@@ -99,7 +113,6 @@ fn counts_of_items(items: &[TreeItem]) -> FilesAndBytes {
     whole
 }
 
-// Does the actions of the items, in order.
 fn put_tree_items<T: Target, F: FollowsProgress>(
     alloc: Global,
     thread: &mut Thread<RamDevice>,
@@ -121,7 +134,6 @@ fn put_tree_items<T: Target, F: FollowsProgress>(
     Ok(())
 }
 
-// Unpacks a device in memory.
 fn unpack_ram_device<T: Target, F: FollowsProgress>(
     alloc: Global,
     device: RamDevice,
@@ -138,7 +150,6 @@ fn unpack_ram_device<T: Target, F: FollowsProgress>(
     }
 }
 
-// Unpacks an image.
 fn unpack_image<T: Target, F: FollowsProgress>(
     alloc: Global,
     image: Vec<u8>,
@@ -193,4 +204,58 @@ pub fn unpack<R: ImageInput, T: Target, F: FollowsProgress>(
 {
     let bytes = read_image(alloc, image)?;
     unpack_image(alloc, bytes, layout, target, progress)
+}
+
+/// Returns the entries of a device's image, depth first and in name order. Of a device that is a part of an image only what
+/// was read counts. Returns None where it isn't accepted, memory isn't granted, or a read failed.
+pub fn entries_of_device<D: BlockDevice + Drop>(alloc: Global, device: D) -> Option<Vec<TreeItem>>
+    ensures { IfSome result (λ items. (t : ThreadView) × IsWalkedThread (disk_of_device D.BlockDevice device) t (tree_items_view items.items)) }
+{
+    match tree_items_of(alloc, device) {
+        Ok((_thread, items)) => Some(items),
+        Err(_) => None,
+    }
+}
+
+// Returns the bytes of a file, whose list is checked.
+fn checked_file_bytes<D: BlockDevice>(
+    alloc: Global,
+    device: &mut D,
+    structure: &OwnedStruct,
+) -> Result<Vec<u8>, Error>
+    ensures { IfOk result (λ bytes. bytes.items ≡ struct_file_bytes (disk_of_device D.BlockDevice device.old) (owned_view structure.now)) }
+{
+    match structure {
+        OwnedStruct::Inline(bytes) => Ok(Vec::from_slice(alloc, bytes)?),
+        OwnedStruct::Ctz { head, size } => {
+            walk(device, *head, *size, &mut |_block: u32| {})?;
+            let mut bytes = Vec::from_elem(alloc, 0u8, *size as usize)?;
+            read_at(device, *head, *size, 0, &mut bytes)?;
+            Ok(bytes)
+        }
+        OwnedStruct::Branch(_) => Ok(Vec::new(alloc)),
+    }
+}
+
+/// Unpacks an entry of a device's image into a target: makes a folder, or puts a file of the bytes that its list has. Of a
+/// device that is a part of an image only what is read counts. `progress` is told the files and bytes that are done.
+///
+/// # Errors
+/// - `Fs(Corrupt)` where the list isn't well formed, and `Fs(Io)` where a read failed.
+/// - `Fs(NoMemory)` where memory isn't granted.
+/// - `Output` where the target failed.
+pub fn unpack_entry<D: BlockDevice, T: Target, F: FollowsProgress>(
+    alloc: Global,
+    device: &mut D,
+    entry: &TreeItem,
+    target: &mut T,
+    progress: &mut F,
+) -> Result<(), ToolError>
+    ensures done { OnOk result (AddsAction (T.done target.old) (T.done target.new) (place_action (disk_of_device D.BlockDevice device.old) (tree_item_view entry.now))) }
+    ensures undone { OnErr result (T.done target.new ≡ T.done target.old) }
+{
+    let bytes = checked_file_bytes(alloc, device, &entry.structure)?;
+    put_item_bytes(alloc, entry, &bytes, target)?;
+    progress.add(counts_of_item(entry));
+    Ok(())
 }

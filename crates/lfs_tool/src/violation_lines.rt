@@ -1,5 +1,4 @@
-// The line that says which rule an image breaks, and where. Names, and what else the line tells, are
-// looked for in the image once more.
+// The line that says which rule an image breaks, and where. What it tells is looked for in the image once more.
 
 ghost use Rattle.std.specs.Prelude.{◌≡◌, IfErr, IfOk};
 
@@ -18,8 +17,7 @@ use std::alloc::{AllocError, Global};
 
 // ---- rules of one pair
 
-// Returns for what a pair holds no content: it has no commit, its log is malformed, or a slot lacks its name or its
-// struct.
+// Returns for what a pair holds no content.
 fn no_content_line(alloc: Global, device: &mut RamDevice, pair: [u32; 2]) -> Result<String, Error> {
     let at = PairText(pair);
     let Some(block) = current_block(alloc, device, pair)? else {
@@ -73,12 +71,8 @@ fn has_list_block(
         return Ok(false);
     };
     let mut met = false;
-    match walk(
-        device,
-        *head,
-        *size,
-        &mut |block: u32| met = met || block == wanted,
-    ) {
+    let visit = &mut |block: u32| met = met || block == wanted;
+    match walk(device, *head, *size, visit) {
         Ok(()) => Ok(met),
         Err(Error::Corrupt) => Ok(false),
         Err(error) => Err(error),
@@ -86,32 +80,19 @@ fn has_list_block(
 }
 
 impl FoundThread {
-    // Returns which number of the superblock in a pair's slot is wrong for the image, as a line.
-    fn wrong_number_line(
-        &self,
-        pair: [u32; 2],
-        slot: &FoundSlot,
-    ) -> Result<Option<String>, AllocError> {
+    // Returns which number of the superblock in a slot is wrong for the image.
+    fn wrong_number(&self, slot: &FoundSlot) -> Option<WrongNumberText> {
         let OwnedStruct::Inline(bytes) = &slot.structure else {
-            return Ok(None);
+            return None;
         };
-        let Ok(bytes) = <&[u8; 24]>::try_from(bytes.as_slice()) else {
-            return Ok(None);
-        };
-        let geometry = self.geometry;
-        let blocks = geometry.block_count as usize;
-        let versions = geometry.profile.versions;
-        let fields = superblock_of(bytes);
-        let Some(stated) = wrong_number_in(geometry.block_size, blocks, versions, &fields) else {
-            return Ok(None);
-        };
-        let layout = ImageLayout::new(geometry.block_size, geometry.page);
-        let given = GivenSizes::of(geometry.block_size as usize * blocks, layout);
-        let number = WrongNumberText { given, stated };
-        Ok(Some(format!(in self.alloc; "{}, {number}", PairText(pair))?))
+        let fields = superblock_of(<&[u8; 24]>::try_from(bytes.as_slice()).ok()?);
+        let (size, blocks) = (self.geometry.block_size, self.geometry.block_count as usize);
+        let stated = wrong_number_in(size, blocks, self.geometry.profile.versions, &fields)?;
+        let layout = ImageLayout::new(size, self.geometry.page);
+        let given = GivenSizes::of(size as usize * blocks, layout);
+        Some(WrongNumberText { given, stated })
     }
 
-    // Returns what is wrong with the first superblock.
     fn first_superblock_line(&self, pair: [u32; 2]) -> Result<String, AllocError> {
         let slot = match self.slot_at(pair, 0) {
             Some(slot) if slot.kind.is_superblock() => slot,
@@ -120,21 +101,22 @@ impl FoundThread {
         if slot.name.as_slice() != b"littlefs".as_slice() {
             return format!(in self.alloc; "{slot} isn't the name of a superblock");
         }
-        match self.wrong_number_line(pair, slot)? {
-            Some(line) => Ok(line),
-            None => format!(in self.alloc; "{}, slot 0: no superblock's struct", PairText(pair)),
+        let at = PairText(pair);
+        match self.wrong_number(slot) {
+            Some(number) => format!(in self.alloc; "{at}, {number}"),
+            None => format!(in self.alloc; "{at}, slot 0: no superblock's struct"),
         }
     }
 
     // Returns which number of a later superblock is wrong, or that it differs from the one before it.
     fn other_superblock_line(&self, pair: [u32; 2]) -> Result<String, AllocError> {
+        let at = PairText(pair);
         if let Some(slot) = self.slot_at(pair, 0) {
-            if let Some(line) = self.wrong_number_line(pair, slot)? {
-                return Ok(line);
+            if let Some(number) = self.wrong_number(slot) {
+                return format!(in self.alloc; "{at}, {number}");
             }
         }
-        let first = self.slots.first().map_or(pair, |slot| slot.pair);
-        let (at, first) = (PairText(pair), PairText(first));
+        let first = PairText(self.slots.first().map_or(pair, |slot| slot.pair));
         format!(in self.alloc; "{at}, superblock: another one than in {first}")
     }
 
@@ -187,7 +169,6 @@ impl FoundThread {
         }
     }
 
-    // Returns the first pair that has a block.
     fn pair_with_block(&self, block: u32) -> Option<[u32; 2]> {
         self.pairs.iter().copied().find(|p| p.contains(&block))
     }
@@ -238,8 +219,7 @@ impl FoundThread {
     }
 }
 
-// Returns the line of a rule for which the thread is read once more. In the other order of names the image breaks
-// the rule `other`.
+// Returns the line of a rule for which the thread is read once more.
 fn thread_line(
     alloc: Global,
     device: &mut RamDevice,
@@ -303,8 +283,7 @@ fn rule_line(
     Ok(line)
 }
 
-// Returns a rule that the image of a device breaks, with its line. In the other order of names the image
-// breaks the rule `other`.
+// Returns a rule that the image of a device breaks, with its line. In the other order it breaks the rule `other`.
 pub(crate) fn broken_rule(
     alloc: Global,
     device: RamDevice,

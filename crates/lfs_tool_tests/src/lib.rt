@@ -17,6 +17,8 @@ mod images;
 #[cfg(test)]
 mod lines;
 #[cfg(test)]
+mod loaded_images;
+#[cfg(test)]
 mod profiles;
 #[cfg(test)]
 mod progress;

@@ -41,6 +41,13 @@ superblock: block size 4096, given 8192
 status 1
 image: 16384
 
+$ -c runs/long -b 1024 -p 128 -s 8192 runs/image
+$ -u runs/other -b 1024 -p 128 runs/image
+$ -c runs/other -b 1024 -p 128 -s 8192 runs/image
+$ --cat /c -b 1024 -p 128 runs/image
+01234567890123456789012345678901234567890123456789012345678901234567890123456789012345678901234567890123456789012345678901234567890123456789012345678901234567890123456789012345678901234567890123456789%
+image: 8192
+
 $ -c runs/empty runs/image
 $ -u runs/other runs/image
 $ -c runs/other -s 32768 runs/image
@@ -162,9 +169,15 @@ pub fn make_files(rt: &HostRuntime) -> io::Result<()> {
     fs::create_dir_all(rt, "runs/files")?;
     fs::create_dir(rt, "runs/empty")?;
     fs::create_dir(rt, "runs/links")?;
+    fs::create_dir(rt, "runs/long")?;
     symlink(rt, "..", "runs/links/up")?;
     fs::write(rt, "runs/files/a", b"hello")?;
     fs::write(rt, "runs/files/b", b"")?;
+    fs::write(
+        rt,
+        "runs/long/c",
+        b"01234567890123456789012345678901234567890123456789012345678901234567890123456789012345678901234567890123456789012345678901234567890123456789012345678901234567890123456789012345678901234567890123456789",
+    )?;
     fs::write(rt, "runs/image", b"an older image")
 }
 

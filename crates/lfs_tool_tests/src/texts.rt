@@ -81,7 +81,20 @@ fn push_unpacked_entry(text: &mut Vec<u8>, done: &TargetAction) -> Result<(), Al
     Ok(())
 }
 
-// What is done where an image is unpacked, a line for each action.
+// What was done to a target, a line for each action, and behind it the line of an error.
+pub(crate) fn target_text(
+    alloc: Global,
+    target: &MemoryTarget,
+    answer: Result<(), ToolError>,
+) -> Result<Vec<u8>, AllocError> {
+    let mut text = Vec::new(alloc);
+    for done in &target.done {
+        push_unpacked_entry(&mut text, done)?;
+    }
+    with_error_line(alloc, text, answer)
+}
+
+// What is done where an image is unpacked.
 pub(crate) fn unpack_text<R: ImageInput>(
     alloc: Global,
     image: &mut R,
@@ -90,10 +103,6 @@ pub(crate) fn unpack_text<R: ImageInput>(
     let mut target = MemoryTarget {
         done: Vec::new(alloc),
     };
-    let result = unpack(alloc, image, layout, &mut target, &mut ());
-    let mut text = Vec::new(alloc);
-    for done in &target.done {
-        push_unpacked_entry(&mut text, done)?;
-    }
-    with_error_line(alloc, text, result)
+    let answer = unpack(alloc, image, layout, &mut target, &mut ());
+    target_text(alloc, &target, answer)
 }

@@ -44,7 +44,6 @@ pub(crate) fn image_of_entries<F: FollowsProgress>(
     }
 }
 
-// Returns whether an image of so many blocks holds the entries.
 fn are_blocks_enough(
     host: Host<'_>,
     line: &Line<'_>,
@@ -59,7 +58,6 @@ fn are_blocks_enough(
     }
 }
 
-// Returns the most blocks of this size that an image has.
 fn most_blocks(block_size: u32) -> u32 {
     let most = IMAGE_MAX.checked_div(block_size).unwrap_or(0);
     most.min(BLOCKS_MAX)

@@ -61,7 +61,6 @@ fn push_path_in_image(line: &Line<'_>, error: Error, text: &mut Vec<u8>) -> Resu
     }
 }
 
-// The sizes of the line's image.
 fn sizes_of_image(host: Host<'_>, line: &Line<'_>) -> Result<Sizes, ToolError> {
     if let Mode::Create(_) = line.mode {
         return Ok(Sizes {
@@ -174,7 +173,6 @@ fn push_new_image(
     Ok(text.extend_from_slice(words.as_bytes())?)
 }
 
-// Adds the lines that say why a line ended in this error.
 fn push_explanation(
     host: Host<'_>,
     line: &Line<'_>,

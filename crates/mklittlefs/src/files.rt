@@ -30,6 +30,22 @@ pub(crate) struct Host<'a> {
 }
 
 impl<'a> Host<'a> {
+    /// The system, of which nothing is requested yet.
+    pub(crate) fn new(
+        rt: &'a HostRuntime,
+        log: &'a FaultLog,
+        fault_of_lines: &'a Cell<Option<ErrorKind>>,
+    ) -> Host<'a> {
+        Host {
+            rt,
+            log,
+            explains: false,
+            rules: FolderRules::new(),
+            times: false,
+            fault_of_lines,
+        }
+    }
+
     pub(crate) fn alloc(self) -> Global {
         self.rt.alloc()
     }
@@ -51,10 +67,7 @@ impl<'a> Host<'a> {
         error: ToolError,
     ) -> Result<T, ToolError> {
         self.note_error(path, &called);
-        match called {
-            Ok(value) => Ok(value),
-            Err(_) => Err(error),
-        }
+        called.map_err(|_| error)
     }
 }
 
@@ -87,7 +100,6 @@ impl Write for Lines<'_> {
     }
 }
 
-/// Returns whether a path names a standard stream.
 pub(crate) fn is_standard_stream(path: &str) -> bool {
     path == "-"
 }

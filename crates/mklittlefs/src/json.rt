@@ -63,7 +63,6 @@ fn text_of_lines(lines: &[u8]) -> &str {
     str::from_utf8(lines).unwrap_or("")
 }
 
-// Returns the error of a write to memory.
 fn memory_error(_error: io::Error) -> ToolError {
     ToolError::Fs(Error::NoMemory)
 }
@@ -77,18 +76,15 @@ pub(crate) fn json_of_list(alloc: Global, lines: &[u8]) -> Result<Vec<u8>, ToolE
     Ok(text)
 }
 
-// Adds a further member, which is a string.
 fn push_text_member(text: &mut Vec<u8>, key: &str, value: &str) -> io::Result<()> {
     write!(text, ", \"{key}\": ")?;
     push_string(text, value.as_bytes())
 }
 
-// Adds a further member, which is a number.
 fn push_number_member(text: &mut Vec<u8>, key: &str, digits: &str) -> io::Result<()> {
     write!(text, ", \"{key}\": {digits}")
 }
 
-// Adds the members of a line of a check.
 fn push_members(text: &mut Vec<u8>, line: &str) -> io::Result<()> {
     let (key, value) = split_at_space(line);
     let (first, rest) = split_at_space(value);
@@ -109,7 +105,6 @@ fn push_members(text: &mut Vec<u8>, line: &str) -> io::Result<()> {
     }
 }
 
-// Returns the object of the lines of a check.
 fn json_of_check(alloc: Global, lines: &str) -> io::Result<Vec<u8>> {
     let mut text = Vec::new(alloc);
     let is_ok = lines.starts_with("ok\n");

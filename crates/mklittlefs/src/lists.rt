@@ -1,34 +1,39 @@
-// The lines of a list, and of a check of an accepted image. Of an image in a file only what these need is read.
+// What is listed, checked and unpacked of an image. Of one in a file only what that takes is read.
 
 use crate::files::{Host, is_standard_stream};
 use crate::json::memory_answer;
 use crate::parts::{ImagePart, open_part};
-use lfs_device::{BlockDevice, Error};
+use lfs_device::BlockDevice;
 use lfs_file::blocks_for;
 use lfs_tag::{Content, Log, Struct, is_later_than};
 use lfs_tool::{
-    CheckResult, ImageLayout, Line, SparseDevice, ToolError, WatchedStream, accepted_summary,
-    check_result_lines, lines_of_device, list, sparse_device_of,
+    CheckResult, FollowsProgress, ImageLayout, Line, OwnedStruct, SparseDevice, ToolError,
+    WatchedStream, accepted_summary, check_result_lines, counts_of_items, entries_of_device,
+    lines_of_device, list, sparse_device_of, unpack_entry,
 };
-use std::alloc::{AllocError, Global};
+use lfs_tool_folders::Target;
+use std::alloc::Global;
+use std::fs;
 use std::fs::File;
 use std::os::unix::fs::FileExt;
 
 // The most bytes of a block that are pointers of a list.
 const POINTERS_MAX: u32 = 128;
 
-// An image in a file.
+// So many bytes of files are loaded together, unless one has more.
+const LOADED_MAX: u32 = 1_048_576;
+
+/// An image in a file of which parts are read.
 #[derive(Drop)]
-struct ImageFile<'a> {
+pub(crate) struct ImageFile<'a> {
     host: Host<'a>,
     line: Line<'a>,
     file: File,
-    len: u64,
+    len: u32,
     layout: ImageLayout,
 }
 
 impl ImageFile<'_> {
-    // Reads the beginning of a block.
     fn read_block(&self, block: u32, len: u32) -> Result<Vec<u8>, ToolError> {
         let before = u64::from(block).saturating_mul(u64::from(self.layout.block_size));
         let mut bytes = Vec::from_elem(self.host.alloc(), 0u8, len as usize)?;
@@ -48,24 +53,22 @@ struct NamedBlocks {
 }
 
 // Returns what the log of a block names, if it has one.
-fn blocks_in_log(alloc: Global, block: &[u8]) -> Result<Option<NamedBlocks>, AllocError> {
+fn blocks_in_log(alloc: Global, block: &[u8]) -> Option<NamedBlocks> {
     let log = Log::read(block);
     if !log.has_commit() {
-        return Ok(None);
+        return None;
     }
-    let Ok(content) = Content::read(alloc, &log) else {
-        return Ok(None);
-    };
+    let content = Content::read(alloc, &log).ok()?;
     let mut lists = Vec::new(alloc);
     for slot in content.slots.iter() {
         if let Some(part) = &slot.structure {
             if let Some(Struct::Ctz { head, size }) = Struct::of(part) {
-                lists.push((head, size))?;
+                lists.push((head, size)).ok()?;
             }
         }
     }
     let tail = content.tail.map(|tail| tail.pair);
-    Ok(Some(NamedBlocks { lists, tail }))
+    Some(NamedBlocks { lists, tail })
 }
 
 // The word at the beginning of bytes: a revision, or a pointer.
@@ -76,22 +79,22 @@ fn first_word(bytes: &[u8]) -> u32 {
     }
 }
 
-// Loads the pointers of a file's list, up to a block that is loaded.
+// Loads the beginnings of a list's blocks from an index on, up to a block that is loaded.
 fn load_list(
     image: &ImageFile<'_>,
     mut device: SparseDevice,
     list: (u32, u32),
+    first: u32,
+    len: u32,
 ) -> Result<SparseDevice, ToolError> {
     let (mut block, size) = list;
-    let count = device.geometry().block_count;
-    if image.layout.block_size < 1024 {
-        return Ok(device);
-    }
-    for _ in 1..blocks_for(image.layout.block_size, size).min(count) {
+    let geometry = device.geometry();
+    let count = geometry.block_count;
+    for _ in first..blocks_for(geometry.block_size, size).min(count) {
         if block >= count || !device.loaded(block).is_empty() {
             break;
         }
-        let bytes = image.read_block(block, POINTERS_MAX)?;
+        let bytes = image.read_block(block, len)?;
         let before = first_word(&bytes);
         device = device.load(block, bytes);
         block = before;
@@ -115,13 +118,13 @@ fn load_pair(
         (first, second, two)
     };
     let bytes = image.read_block(later, image.layout.block_size)?;
-    let named = blocks_in_log(alloc, &bytes)?;
+    let named = blocks_in_log(alloc, &bytes);
     let device = device.load(later, bytes);
     if named.is_some() {
         return Ok((device.load(other, rest), named));
     }
     let bytes = image.read_block(other, image.layout.block_size)?;
-    let named = blocks_in_log(alloc, &bytes)?;
+    let named = blocks_in_log(alloc, &bytes);
     Ok((device.load(other, bytes), named))
 }
 
@@ -144,68 +147,56 @@ fn load_thread(image: &ImageFile<'_>, device: SparseDevice) -> Result<SparseDevi
             break;
         };
         for list in lists.iter() {
-            device = load_list(image, device, *list)?;
+            device = load_list(image, device, *list, 1, POINTERS_MAX)?;
         }
         next = tail;
     }
     Ok(device)
 }
 
-// Opens the image of a line as a file of which parts are read. What is no file has no such parts.
-fn open_image_file<'a>(
+/// Opens the image of a line as a file of which parts are read. What is no file has no such parts.
+pub(crate) fn open_image_file<'a>(
     host: Host<'a>,
     line: &Line<'a>,
-    layout: ImageLayout,
-    most: u64,
+    part: &ImagePart<'_>,
 ) -> Option<ImageFile<'a>> {
-    if is_standard_stream(line.image) {
+    // A pipe isn't opened again: that could wait for a writer that is gone.
+    let metadata = fs::metadata(host.rt, line.image).ok()?;
+    if is_standard_stream(line.image) || !metadata.is_file() {
         return None;
     }
     let file = File::open(host.rt, line.image).ok()?;
-    let metadata = file.metadata().ok()?;
-    if !metadata.is_file() {
-        return None;
-    }
     let len = metadata.len().saturating_sub(u64::from(line.offset));
     Some(ImageFile {
         host,
         line: *line,
         file,
-        len: len.min(most),
-        layout,
+        len: u32::try_from(len.min(part.stream.inner().limit())).ok()?,
+        layout: part.layout,
     })
 }
 
-// Loads what a list needs of an image.
-fn load_image(image: &ImageFile<'_>) -> Result<SparseDevice, ToolError> {
-    let Ok(len) = u32::try_from(image.len) else {
-        return Err(ToolError::Fs(Error::Invalid));
-    };
-    let blank = sparse_device_of(image.host.alloc(), len, image.layout)?;
-    load_thread(image, blank)
+fn blank_device(image: &ImageFile<'_>) -> Result<SparseDevice, ToolError> {
+    Ok(sparse_device_of(image.host.alloc(), image.len, image.layout)?)
 }
 
-// Returns the lines of an image in a file. There are none where a list needs more than was loaded.
-fn file_list_lines(image: &ImageFile<'_>) -> Result<Option<Vec<u8>>, ToolError> {
-    let device = load_image(image)?;
-    match lines_of_device(image.host.alloc(), device) {
-        Ok(lines) => Ok(Some(lines)),
-        Err((_device, Error::Io)) => Ok(None),
-        Err((_device, error)) => Err(ToolError::Fs(error)),
-    }
+// Loads what a list needs of an image. There is nothing where a read failed, or memory isn't granted.
+fn load_image(image: &ImageFile<'_>) -> Option<SparseDevice> {
+    load_thread(image, blank_device(image).ok()?).ok()
 }
 
 /// Returns the lines that list the image of a line. They are proved to list what is loaded of it: that all that was read
 /// of it was loaded, and is what the file has, is read in the code here and tested.
 pub(crate) fn list_lines(host: Host<'_>, line: &Line<'_>) -> Result<Vec<u8>, ToolError> {
-    let ImagePart { mut stream, layout } = open_part(host, line)?;
-    if let Some(image) = open_image_file(host, line, layout, stream.inner().limit()) {
-        if let Some(lines) = file_list_lines(&image)? {
+    let mut part = open_part(host, line)?;
+    let image = open_image_file(host, line, &part);
+    if let Some(device) = image.and_then(|image| load_image(&image)) {
+        if let Ok(lines) = lines_of_device(host.alloc(), device) {
             return Ok(lines);
         }
     }
     let mut lines = WatchedStream::new(Vec::new(host.alloc()));
-    memory_answer(list(host.alloc(), &mut stream, layout, &mut lines))?;
+    memory_answer(list(host.alloc(), &mut part.stream, part.layout, &mut lines))?;
     Ok(lines.into_inner())
 }
 
@@ -214,11 +205,41 @@ pub(crate) fn list_lines(host: Host<'_>, line: &Line<'_>) -> Result<Vec<u8>, Too
 pub(crate) fn accepted_lines(
     host: Host<'_>,
     line: &Line<'_>,
-    layout: ImageLayout,
-    most: u64,
+    part: &ImagePart<'_>,
 ) -> Option<Vec<u8>> {
-    let image = open_image_file(host, line, layout, most)?;
-    let device = load_image(&image).ok()?;
+    let device = load_image(&open_image_file(host, line, part)?)?;
     let (summary, orders) = accepted_summary(host.alloc(), device)?;
     check_result_lines(host.alloc(), &CheckResult::Accepted { summary, orders }).ok()
+}
+
+/// Unpacks an image in a file, whose files are loaded one after another. Returns false where it isn't accepted, or a read
+/// failed before that was known: nothing is done then, and the whole image is wanted.
+pub(crate) fn unpack_parts<T: Target, F: FollowsProgress>(
+    image: &ImageFile<'_>,
+    target: &mut T,
+    progress: &mut F,
+) -> Result<bool, ToolError> {
+    let alloc = image.host.alloc();
+    let entries = load_image(image).and_then(|device| entries_of_device(alloc, device));
+    let Some(entries) = entries else {
+        return Ok(false);
+    };
+    progress.begin(counts_of_items(&entries));
+    let mut device = blank_device(image)?;
+    let mut loaded = 0u32;
+    for entry in entries.iter() {
+        if let OwnedStruct::Ctz { head, size } = &entry.structure {
+            if loaded > LOADED_MAX {
+                device = blank_device(image)?;
+                loaded = 0;
+            }
+            loaded = loaded.saturating_add(*size);
+            let len = size
+                .saturating_add(POINTERS_MAX)
+                .min(image.layout.block_size);
+            device = load_list(image, device, (*head, *size), 0, len)?;
+        }
+        unpack_entry(alloc, &mut device, entry, target, progress)?;
+    }
+    Ok(true)
 }

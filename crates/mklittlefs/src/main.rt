@@ -18,7 +18,7 @@ mod times;
 use crate::files::{Host, Lines};
 use crate::run::run_words;
 use lfs_tool::WatchedStream;
-use lfs_tool_folders::{FaultLog, FolderRules};
+use lfs_tool_folders::FaultLog;
 use std::cell::Cell;
 use std::process::ExitCode;
 use std::{env, io};
@@ -28,24 +28,16 @@ fn read_command_line_words(rt: &HostRuntime) -> io::Result<Vec<String>> {
     Ok(env::args(rt)?.collect(rt.alloc())?)
 }
 
-// Whether the environment wants each error with its cause.
 fn is_explanation_wanted(rt: &HostRuntime) -> bool {
-    match env::var(rt, "MKLITTLEFS_EXPLAIN") {
-        Ok(value) => value.as_str() == "1",
-        Err(_) => false,
-    }
+    env::var(rt, "MKLITTLEFS_EXPLAIN").is_ok_and(|value| value.as_str() == "1")
 }
 
 fn main(rt: HostRuntime) -> ExitCode {
     let log = FaultLog::new();
     let fault = Cell::new(None);
     let host = Host {
-        rt: &rt,
-        log: &log,
         explains: is_explanation_wanted(&rt),
-        rules: FolderRules::new(),
-        times: false,
-        fault_of_lines: &fault,
+        ..Host::new(&rt, &log, &fault)
     };
     let mut out = WatchedStream::new(Lines {
         stream: rt.stdout(),

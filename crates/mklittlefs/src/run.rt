@@ -4,17 +4,18 @@ use crate::blocks::{fit_size, image_of_entries};
 use crate::explain::write_explanation;
 use crate::files::{Host, NotedWriter};
 use crate::json::{check_as_json, json_of_list};
-use crate::lists::{accepted_lines, list_lines};
-use crate::parts::{ImagePart, open_part, skip_bytes};
+use crate::lists::{ImageFile, accepted_lines, list_lines, open_image_file, unpack_parts};
+use crate::parts::{open_part, skip_bytes};
 use crate::session::{cat_file, change_image};
 use crate::times::set_times;
 use lfs_device::{Error, Geometry};
 use lfs_tool::{
     Extras, Fault, ImageInput, ImageLayout, Line, LineError, Mode, ProgressLine, Request,
     ToolError, ToolOutput, WatchedStream, check, create, geometry_of_sizes, ram_device_of,
-    read_image, read_request, read_source_entries, report, unpack, write_and_flush,
+    read_image, read_request, read_source_entries, report, target_tool_error, unpack,
+    write_and_flush,
 };
-use lfs_tool_folders::{Folder, FolderRules, Links, Target, TargetError, TargetFolder};
+use lfs_tool_folders::{Folder, FolderRules, Links, Target, TargetFolder};
 use std::io;
 use std::io::{ErrorKind, IsTerminal, Stderr};
 
@@ -53,7 +54,6 @@ fn progress_at_terminal(rt: &HostRuntime) -> ProgressLine<Stderr, HostRuntime> {
     ProgressLine::new(rt.stderr(), *rt, rt.stderr().is_terminal())
 }
 
-// Writes the image of a folder.
 fn write_image(
     host: Host<'_>,
     line: &Line<'_>,
@@ -89,34 +89,39 @@ fn create_image(host: Host<'_>, line: &Line<'_>, folder: &str) -> Result<(), Too
     image.into_inner().place()
 }
 
-// Unpacks an image into a folder.
-fn unpack_stream<R: ImageInput>(
+// Unpacks an image into a folder. It is read as a whole where no parts of a file are enough.
+fn unpack_into<R: ImageInput>(
     host: Host<'_>,
+    parts: Option<ImageFile<'_>>,
     image: &mut R,
     layout: ImageLayout,
     folder: &str,
 ) -> Result<(), ToolError> {
     let mut target = TargetFolder::new(host.rt, host.log, folder)?;
     let mut progress = progress_at_terminal(host.rt);
-    unpack(host.alloc(), image, layout, &mut target, &mut progress)?;
-    // An empty image has no action that makes the folder.
-    match target.make_folder(host.alloc(), b"") {
-        Ok(()) => Ok(()),
-        Err(TargetError::Fault) => Err(ToolError::Output),
-        Err(TargetError::NoMemory) => Err(ToolError::Fs(Error::NoMemory)),
+    let is_unpacked = match parts {
+        Some(parts) => unpack_parts(&parts, &mut target, &mut progress)?,
+        None => false,
+    };
+    if !is_unpacked {
+        unpack(host.alloc(), image, layout, &mut target, &mut progress)?;
     }
+    // An empty image has no action that makes the folder.
+    let made = target.make_folder(host.alloc(), b"");
+    made.map_err(target_tool_error)
 }
 
 // Unpacks the line's image into a folder, and sets the times there where these are wanted.
 fn unpack_image(host: Host<'_>, line: &Line<'_>, folder: &str) -> Result<(), ToolError> {
-    let ImagePart { mut stream, layout } = open_part(host, line)?;
+    let mut part = open_part(host, line)?;
     if !host.times {
-        return unpack_stream(host, &mut stream, layout, folder);
+        let parts = open_image_file(host, line, &part);
+        return unpack_into(host, parts, &mut part.stream, part.layout, folder);
     }
-    let bytes = read_image(host.alloc(), &mut stream)?;
+    let bytes = read_image(host.alloc(), &mut part.stream)?;
     let mut image = WatchedStream::new(bytes.as_slice());
-    unpack_stream(host, &mut image, layout, folder)?;
-    set_times(host, folder, ram_device_of(bytes, layout)?)
+    unpack_into(host, None, &mut image, part.layout, folder)?;
+    set_times(host, folder, ram_device_of(bytes, part.layout)?)
 }
 
 /// Checks the image. With `-b auto` it is said how many bytes are behind it.
@@ -125,18 +130,18 @@ pub(crate) fn check_image<W: ToolOutput>(
     line: &Line<'_>,
     out: &mut W,
 ) -> Result<bool, ToolError> {
-    let ImagePart { mut stream, layout } = open_part(host, line)?;
-    let is_accepted = match accepted_lines(host, line, layout, stream.inner().limit()) {
+    let mut part = open_part(host, line)?;
+    let is_accepted = match accepted_lines(host, line, &part) {
         Some(lines) => {
             write_and_flush(out, lines.as_slice())?;
             true
         }
-        None => check(host.alloc(), &mut stream, layout, out)?,
+        None => check(host.alloc(), &mut part.stream, part.layout, out)?,
     };
     if line.is_auto {
-        let mut part = stream.into_inner();
-        let _part = skip_bytes(&mut part, u64::MAX)?;
-        let count = skip_bytes(&mut part.into_inner(), u64::MAX)?;
+        let mut image = part.stream.into_inner();
+        let _image = skip_bytes(&mut image, u64::MAX)?;
+        let count = skip_bytes(&mut image.into_inner(), u64::MAX)?;
         let behind = format!(in host.alloc(); "behind {count} bytes\n")?;
         write_and_flush(out, behind.as_bytes())?;
     }

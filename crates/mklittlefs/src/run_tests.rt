@@ -3,14 +3,13 @@
 use crate::files::Host;
 use crate::run::run_words;
 use lfs_tool::WatchedStream;
-use lfs_tool_folders::{FaultLog, FolderRules};
+use lfs_tool_folders::FaultLog;
 use lfs_tool_tests::{RUNS, make_files, program_words, seconds_at, set_seconds, time_in_image};
 use std::cell::Cell;
 use std::io::Write;
 use std::test::Fail;
 use std::{fs, io};
 
-// Adds a run's lines, and its status.
 fn push_run(
     rt: &HostRuntime,
     words: io::Result<Vec<String>>,
@@ -20,15 +19,7 @@ fn push_run(
     let mut out = WatchedStream::new(Vec::new(rt.alloc()));
     let mut err = WatchedStream::new(Vec::new(rt.alloc()));
     let fault = Cell::new(None);
-    let host = Host {
-        rt,
-        log: &log,
-        explains: false,
-        rules: FolderRules::new(),
-        times: false,
-        fault_of_lines: &fault,
-    };
-    let status = run_words(host, words, &mut out, &mut err);
+    let status = run_words(Host::new(rt, &log, &fault), words, &mut out, &mut err);
     for lines in [out.into_inner(), err.into_inner()] {
         text.extend_from_slice(lines.as_slice())?;
         if lines.last().is_some_and(|byte| *byte != b'\n') {

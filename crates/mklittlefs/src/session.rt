@@ -11,7 +11,6 @@ use lfs_tool::{
 /// A session over an image in memory.
 pub(crate) type RamSession = Session<RamDevice>;
 
-/// Mounts an image in memory.
 pub(crate) fn mount_image(host: Host<'_>, image: RamDevice) -> Result<RamSession, ToolError> {
     mount(host.alloc(), image).map_err(|(_device, error)| ToolError::Fs(error))
 }

@@ -13,7 +13,6 @@ use std::{fs, io};
 // The type of the attribute. Its four bytes are the seconds since 1970, the lowest byte first.
 const TIME: u8 = b't';
 
-// Returns the paths of all that is in an image.
 fn paths_in_image(host: Host<'_>, session: &mut RamSession) -> Result<Vec<String>, ToolError> {
     let alloc = host.alloc();
     let mut paths = Vec::new(alloc);
@@ -67,7 +66,6 @@ pub(crate) fn keep_times(
     Ok(session.unmount())
 }
 
-// Sets the time at which what is at a path was modified.
 fn set_time(host: Host<'_>, path: &str, bytes: [u8; 4]) -> io::Result<()> {
     let since = Duration::from_secs(u64::from(u32::from_le_bytes(bytes)));
     match UNIX_EPOCH.checked_add(since) {

@@ -191,9 +191,9 @@ recovered_whole t root b c rooted left e w d called quiet =
     = λ files. d.completed (record { tree = disk_tree a.disk a.pairs; files = files }) (sym e.taken.follows.shows) in
     let stays : (files : OpenFilesByNumber) → IsLayoutRecovered a.disk a.pairs (record { tree = disk_tree a.disk a.pairs; files = files }) ops.Recover c.disk c.pairs
     = λ files.
-        let s : Session = record { tree = disk_tree a.disk a.pairs; files = files } in
-        let k = completed files in
-        arranged_after a.disk c.disk c.disk a.pairs c.pairs c.pairs s ops.Recover all.geometry k.accepted k.recovered (e.leads_on s c.disk c.pairs k.laid_out) (recovered_stays c.disk c.pairs s k.accepted d.ready.writable d.ready.settled) in
+    let s : Session = record { tree = disk_tree a.disk a.pairs; files = files } in
+    let k = completed files in
+    arranged_after a.disk c.disk c.disk a.pairs c.pairs c.pairs s ops.Recover all.geometry k.accepted k.recovered (e.leads_on s c.disk c.pairs k.laid_out) (recovered_stays c.disk c.pairs s k.accepted d.ready.writable d.ready.settled) in
     record {
       works = refl;
       sound = record { accepted = d.ready.accepted; fits = λ z. d.ready.writable; is_kept = λ z. refl; used = d.ready.used; size = d.ready.size };

@@ -1,6 +1,6 @@
 -- A worn pair that moves after an operation: both come to what the operation comes to, with a pair elsewhere.
-use Rattle.std.proofs.Common.{ℕ, zero, suc, ◌≡◌, ◌≢◌, ◌≤◌, ◌<◌, ◌+◌, ◌⊎◌, ◌∙◌, ◌==◌, ◌&&◌, inl, inr, Bool, true, false, cond, List, [], ◌∷◌, ◌++◌, length, Option, Some, None, Result, Ok, Err, refl, sym, ap, ap₂, subst, arith, eqb-true, append_assoc, flat_map}
-use Rattle.std.specs.Prelude.{All, Any, Contains, IfErr, IfSome, OnErr, OnOk, nat_eq, slice_get}
+use Rattle.std.proofs.Common.{ℕ, zero, suc, ◌≡◌, ◌≢◌, ◌≤◌, ◌+◌, ◌⊎◌, ◌∙◌, ◌==◌, ◌&&◌, inl, inr, Bool, true, false, cond, List, [], ◌∷◌, ◌++◌, length, Option, Some, None, refl, sym, ap, subst, arith, eqb-true, append_assoc, flat_map}
+use Rattle.std.specs.Prelude.{Contains, IfSome, nat_eq}
 use Rattle.std.proofs.lemmas.Bool.{and_parts, or_cases}
 use Rattle.lfs_device.specs.declared.error.Error.{Error}
 use Rattle.lfs_model.proofs.AfterStops.{survives_after}
@@ -16,9 +16,9 @@ use Rattle.lfs_model.specs.session.Recovery.{IsRecovered}
 use Rattle.lfs_operations.specs.Changing.{AreTwoFree}
 use Rattle.lfs_operations.specs.Wear.{HasPlanBlocks, IsPlanFor}
 use Rattle.lfs_operations.specs.declared.wear.MovePlan.{MovePlan}
-use Rattle.lfs_tree.proofs.Common.{All-contains, All-from_recursion, AllByRecursion, AnyByRecursion, AreUsed, BlockStates, CallEvent, Contains-number_occurrences, Disk, Each, Free, HasEither, HoldsAtLosses-weaker, IsAccepted, IsApplied, IsFailedTree, HasErrorCause, Blocks, once_from_distinct, recursion_from_All, IsFree, IsLayoutRecovered, IsSoundState, IsUsedBlock, KeepsFileAt, KeepsInFlight, KeptThread, LeavesOthers, OpenFilesByNumber, Operation, Pair, Path, SameFileBlocks, SameGeometry, Session, Slot, SurvivesLossSince, Tree, TreeState, Used, all_unmoved_slots, block_count, count_append, count_here, disk_block, disk_tree, fault_count, is_file, is_recover, kept_thread, number_occurrences, pairs_blocks, pairs_gstate, recovered_from, renames_itself, same_Some, same_pair, shown_tree, slice_get_within, slot_blocks, slot_of, struct_blocks, tree_summary, used_blocks, used_count, with_blocks, without_cache, zero_gstate}
-use Rattle.lfs_tree.specs.KeptFiles.{list_blocks_at, operation_room}
-use Rattle.lfs_tree.specs.TreeState.{IsAppliedTo, LeavesOthersAlone, SurvivesStops}
+use Rattle.lfs_tree.proofs.Common.{All-contains, All-from_recursion, AllByRecursion, AnyByRecursion, AreUsed, BlockStates, CallEvent, Contains-number_occurrences, Disk, Free, HasEither, HoldsAtLosses-weaker, IsAccepted, IsApplied, IsFailedTree, HasErrorCause, Blocks, once_from_distinct, recursion_from_All, IsFree, IsLayoutRecovered, IsSoundState, IsUsedBlock, KeepsFileAt, KeepsInFlight, KeptThread, LeavesOthers, OpenFilesByNumber, Operation, Pair, Path, SameFileBlocks, SameGeometry, Session, Slot, Tree, TreeState, Used, all_unmoved_slots, count_append, count_here, disk_block, fault_count, is_file, is_recover, kept_thread, number_occurrences, pairs_blocks, recovered_from, renames_itself, same_Some, same_pair, shown_tree, slice_get_within, slot_blocks, slot_of, struct_blocks, tree_summary, used_blocks, with_blocks, without_cache}
+use Rattle.lfs_tree.specs.KeptFiles.{operation_room}
+use Rattle.lfs_tree.specs.TreeState.{LeavesOthersAlone, SurvivesStops}
 use Rattle.lfs_tree.specs.Wear.{CanSpreadWear, HasMovedPair, HasSpreadWear}
 use Rattle.lfs_tree.proofs.CarryFreed.{none_there}
 use Rattle.lfs_tree.proofs.KeptFiles.{keeps_by, keeps_then}
@@ -51,9 +51,9 @@ same_own a at b same some = go (or_cases (a.0 == at.0 && a.1 == at.1) (a.0 == at
 at_counted : (at : ℕ × ℕ) (ps : List Pair) → AnyByRecursion (λ (p : Pair). p.at ≡ at) ps → (1 ≤ number_occurrences at.0 (pairs_blocks ps)) × (1 ≤ number_occurrences at.1 (pairs_blocks ps))
 at_counted at [] h = absurd h
 at_counted at (p ∷ ps) (inl e) = subst (λ (a : ℕ × ℕ). (1 ≤ number_occurrences a.0 (pairs_blocks (p ∷ ps))) × (1 ≤ number_occurrences a.1 (pairs_blocks (p ∷ ps)))) e (
-    (let k = count_here p.at.0 (p.at.1 ∷ pairs_blocks ps) in omega arith),
-    (let k = count_here p.at.1 (pairs_blocks ps) in let c = count_append p.at.1 (p.at.0 ∷ []) (p.at.1 ∷ pairs_blocks ps) in omega arith),
-  )
+  (let k = count_here p.at.0 (p.at.1 ∷ pairs_blocks ps) in omega arith),
+  (let k = count_here p.at.1 (pairs_blocks ps) in let c = count_append p.at.1 (p.at.0 ∷ []) (p.at.1 ∷ pairs_blocks ps) in omega arith),
+)
 at_counted at (p ∷ ps) (inr h) =
     let k = at_counted at ps h in (
       (let a = k.0 in let c = count_append at.0 (p.at.0 ∷ p.at.1 ∷ []) (pairs_blocks ps) in omega arith),
@@ -134,7 +134,7 @@ module _ (old mid new : TreeState) (plan : Option MovePlan) (room : ℕ) (planne
   list_bytes path None e b has = absurd (omega (arith, has.1))
   list_bytes path (Some s) e b has =
       let same : AllByRecursion (λ x. disk_block new.disk x ≡ disk_block mid.disk x) (struct_blocks mid.disk s.struct) =
-          slot_has (λ (x : Slot). SameFileBlocks mid.disk new.disk x.struct) mid.disk mid.pairs between (recursion_from_All (λ (x : Slot). SameFileBlocks mid.disk new.disk x.struct) (all_unmoved_slots mid.pairs) moved.files.lists) tt path s e in
+      slot_has (λ (x : Slot). SameFileBlocks mid.disk new.disk x.struct) mid.disk mid.pairs between (recursion_from_All (λ (x : Slot). SameFileBlocks mid.disk new.disk x.struct) (all_unmoved_slots mid.pairs) moved.files.lists) tt path s e in
       All-contains (λ x. disk_block new.disk x ≡ disk_block mid.disk x) (struct_blocks mid.disk s.struct) b (All-from_recursion (λ x. disk_block new.disk x ≡ disk_block mid.disk x) (struct_blocks mid.disk s.struct) same) has
 
   pub keeps_moved : (path : Path) → is_file (shown_tree mid path) ≡ true → KeepsFileAt (kept_thread mid) (kept_thread new) path

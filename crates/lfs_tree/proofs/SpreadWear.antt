@@ -1,6 +1,6 @@
 -- A worn pair that moves in a tree, or none that does.
-use Rattle.std.proofs.Common.{ℕ, ◌≡◌, ◌≢◌, ◌≤◌, ◌<◌, ◌+◌, ◌⊎◌, ◌∙◌, inl, inr, Bool, true, false, List, [], ◌++◌, length, Option, Some, None, Result, Ok, Err, refl, sym, ap, subst}
-use Rattle.std.specs.Prelude.{IfErr, IfOk, IfSome, OnErr, OnOk, is_err}
+use Rattle.std.proofs.Common.{ℕ, ◌≡◌, ◌≤◌, ◌+◌, ◌⊎◌, ◌∙◌, inl, inr, Bool, true, false, List, [], ◌++◌, Option, Some, Result, Ok, Err, refl, sym, ap, subst}
+use Rattle.std.specs.Prelude.{IfErr, IfOk, IfSome, is_err}
 use Rattle.lfs_device.specs.declared.error.Error.{Error}
 use Rattle.lfs_device.specs.declared.error.Error.TheVariants.{Io, NoMemory}
 use Rattle.lfs_model.specs.session.History.{LeftByLatest}
@@ -9,9 +9,8 @@ use Rattle.lfs_operations.specs.Changing.{WritesThreadTwo}
 use Rattle.lfs_operations.specs.Making.{ReportsMaking}
 use Rattle.lfs_operations.specs.Wear.{CanRelocate, HasPlanBlocks, HasRelocated, MovesByPlan, ShowsSameFiles}
 use Rattle.lfs_operations.specs.declared.wear.MovePlan.{MovePlan}
-use Rattle.lfs_tree.proofs.Common.{All-from_recursion, AllByRecursion, Blocks, CallEvent, IsFree, IsReadyImage, IsSoundState, KeepsInFlight, KeptThread, SameFileBlocks, SameGeometry, Slot, SoundUnlessFailed, SurvivesLossSince, ThreadView, TreeState, all_unmoved_slots, disk_block, disk_tree, each_append, each_from_counted, each_pieces, each_weaker, fault_count, kept_thread, pairs_blocks, pairs_gstate, shown_tree, struct_blocks, thread_state}
-use Rattle.lfs_tree.specs.TreeState.{HasErrorCause, IsFailedTree, SurvivesStops}
-use Rattle.lfs_tree.specs.Wear.{CanSpreadWear, HasMovedPair, HasSpreadWear, SpreadsAfter, SpreadsOrFails}
+use Rattle.lfs_tree.proofs.Common.{All-from_recursion, AllByRecursion, Blocks, CallEvent, IsFree, IsReadyImage, IsSoundState, KeptThread, SameFileBlocks, SameGeometry, Slot, SoundUnlessFailed, SurvivesLossSince, ThreadView, TreeState, all_unmoved_slots, disk_block, disk_tree, each_append, each_from_counted, each_pieces, each_weaker, kept_thread, pairs_blocks, pairs_gstate, shown_tree, struct_blocks, thread_state}
+use Rattle.lfs_tree.specs.Wear.{CanSpreadWear, HasMovedPair, SpreadsAfter, SpreadsOrFails}
 use Rattle.lfs_tree.proofs.Carried.{IsPairsOrFree, all_pairs, apart_flying}
 use Rattle.lfs_tree.proofs.Recovered.{held_sound, none_survives}
 use Rattle.lfs_tree.proofs.SameErrors.{same_error}

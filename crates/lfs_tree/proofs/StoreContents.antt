@@ -2,7 +2,7 @@
 use Rattle.std.proofs.Common.{ℕ, ◌≡◌, ◌≤◌, ◌+◌, ◌∙◌, Bool, true, false, List, [], ◌∷◌, ◌++◌, length, Result, Ok, Err, refl, sym, ap, ap₂, subst, arith, append_assoc}
 use Rattle.std.specs.Prelude.{IfErr, OnOk, Contains}
 use Rattle.lfs_device.specs.declared.error.Error.{Error}
-use Rattle.lfs_tree.proofs.Common.{HasPathSlot, tree_with_change, Blocks, used_count, Disk, block_count, inline_limit, AllCalls, AllCallsSince, CallEvent, fault_count, IsLayout, Operation, HasEither, SurvivesLossSince, with_blocks, OpenFilesByNumber, Session, list_blocks_of, file_with_bytes, Pair, pairs_gstate, Path, Tree, IsAccepted, disk_tree, used_blocks, survives_then, arranged_after, recovered_stays, recovered_from, HoldsAtLosses-weaker, HoldsAtLosses-worst, CanFinish, HaveThreadForm, KeepsPairs, contents_list_blocks, KeptThread, ThreadView, HasFurtherCalls, CanChangeRecovered, SurvivesEither, HasThreadCause, SoundUnlessFailed, kept_state, thread_state, KeepsListBytes, CanStoreContents, writer_contents_bytes, IsSoundState, TreeState, shown_tree, CanCommitContents, HasCommittedBytes, StoresThreadBytes, IsFinishedForm, ChangesPathPair, contents_bytes, finish_room, form_after_finish, contents_form, ContentsForm, AreUsedAmong}
+use Rattle.lfs_tree.proofs.Common.{HasPathSlot, tree_with_change, Blocks, used_count, Disk, block_count, inline_limit, AllCalls, AllCallsSince, CallEvent, fault_count, IsLayout, Operation, HasEither, SurvivesLossSince, with_blocks, Session, list_blocks_of, file_with_bytes, Pair, pairs_gstate, Path, Tree, IsAccepted, disk_tree, used_blocks, survives_then, arranged_after, recovered_stays, recovered_from, HoldsAtLosses-weaker, HoldsAtLosses-worst, CanFinish, HaveThreadForm, KeepsPairs, contents_list_blocks, KeptThread, ThreadView, HasFurtherCalls, CanChangeRecovered, SurvivesEither, HasThreadCause, SoundUnlessFailed, kept_state, thread_state, KeepsListBytes, CanStoreContents, writer_contents_bytes, IsSoundState, TreeState, shown_tree, CanCommitContents, HasCommittedBytes, StoresThreadBytes, IsFinishedForm, ChangesPathPair, contents_bytes, finish_room, form_after_finish, contents_form, ContentsForm, AreUsedAmong}
 use Rattle.lfs_model.specs.session.Operations as ops
 use Rattle.lfs_model.proofs.Unmoved.{nothing_moves}
 use Rattle.lfs_tree.proofs.LeftAlone.{files_of_alone, pair_of_alone}

@@ -1,5 +1,5 @@
 -- Contents that are committed, and a worn pair that may move then.
-use Rattle.std.proofs.Common.{ℕ, ◌≡◌, ◌∙◌, ◌||◌, Bool, true, false, List, ◌++◌, Option, Some, Result, Ok, Err, refl, sym, ap, subst, if◌then◌else◌, arith}
+use Rattle.std.proofs.Common.{ℕ, ◌≡◌, ◌∙◌, ◌||◌, Bool, true, false, List, ◌++◌, Option, Result, Ok, Err, sym, ap, subst, if◌then◌else◌, arith}
 use Rattle.std.specs.Prelude.{IfErr, OnErr, OnOk, is_err}
 use Rattle.lfs_device.specs.declared.error.Error.{Error}
 use Rattle.lfs_file.specs.declared.contents.WriterContents.{WriterContents}
@@ -7,14 +7,14 @@ use Rattle.lfs_model.proofs.KeptStructs.{struct_stays}
 use Rattle.lfs_model.specs.session.History.{LeftByLatest}
 use Rattle.lfs_model.specs.session.Operations as ops
 use Rattle.lfs_operations.specs.declared.wear.MovePlan.{MovePlan}
-use Rattle.lfs_tree.proofs.Common.{ChangesTreeOrFails, HasErrorCause, IsFailedTree, IsSoundState, KeptThread, Operation, Path, SoundUnlessFailed, StoresThreadBytes, ThreadView, Tree, TreeState, disk_tree, file_with_bytes, in_flight_count, is_file, kept_state, kept_thread, option_map, recovered_from, same_path, shown_tree, struct_at, thread_state, tree_with_change, writer_contents_bytes}
+use Rattle.lfs_tree.proofs.Common.{ChangesTreeOrFails, HasErrorCause, IsFailedTree, KeptThread, Operation, Path, SoundUnlessFailed, StoresThreadBytes, ThreadView, Tree, TreeState, disk_tree, file_with_bytes, is_file, kept_state, kept_thread, option_map, recovered_from, same_path, shown_tree, thread_state, tree_with_change, writer_contents_bytes}
 use Rattle.lfs_tree.specs.OpenContents.{IsWriterLayoutRecovered, StoresBytesAt}
 use Rattle.lfs_tree.specs.TreeState.{SurvivesStops}
 use Rattle.lfs_tree.specs.Wear.{CanSpreadWear, HasSpreadWear, IsPlanned, SpreadsAfter, SpreadsOrFails}
 use Rattle.lfs_tree.proofs.NotedErrors.{noted, noted_failed}
 use Rattle.lfs_tree.proofs.RecoveredFirst.{fewer_flying}
 use Rattle.lfs_tree.proofs.Relocated.{arranged_moved, breaks_moved, called_moved, can_spread, geometry_moved, keeps_moved, left_moved, reports_moved, survives_moved}
-use Rattle.lfs_tree.proofs.StoreContents.{all_stored_working, stored_working, survives_stored}
+use Rattle.lfs_tree.proofs.StoreContents.{all_stored_working, survives_stored}
 use Rattle.lfs_tree.proofs.TreeCalls.{breaks, reports}
 
 -- ---- the image

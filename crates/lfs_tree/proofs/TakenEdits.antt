@@ -1,5 +1,5 @@
 -- How many blocks an operation takes: by its edits, and on the whole.
-use Rattle.std.proofs.Common.{ℕ, ◌≡◌, ◌≤◌, ◌+◌, ◌*◌, ◌∙◌, inr, true, List, [], ◌∷◌, ◌++◌, length, Option, Some, None, refl, sym, ap, subst, arith, flat_map, length-append}
+use Rattle.std.proofs.Common.{ℕ, ◌≡◌, ◌≤◌, ◌+◌, ◌*◌, ◌∙◌, inr, List, [], ◌∷◌, ◌++◌, length, Option, Some, None, refl, sym, ap, subst, arith, flat_map, length-append}
 use Rattle.std.specs.Prelude.{sum_by}
 use Rattle.lfs_tree.proofs.Common.{recursion_from_All, sum_by-append, sum_by-cons, last_name, attributes_with, attributes_without, Disk, FitsPair, IsDirectoryGone, IsLayoutRecovered, IsLayout, Name, Operation, Session, slot_of, pair_with_slots, pairs_without_moved, FitsInPair, Slot, slot_size, path_or_root, Pair, pairs_gstate, count_before_root, Node, Path, Tree, Each, each_append, each_left, each_right, IsWritable, SameGeometry, used_blocks}
 use Rattle.lfs_model.specs.session.Operations as ops

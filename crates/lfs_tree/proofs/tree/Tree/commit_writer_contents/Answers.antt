@@ -1,7 +1,7 @@
 use Rattle.std.proofs.Common.{◌∙◌, ap, subst, sym}
 use Rattle.lfs_tree.proofs.Common.{file_with_bytes, disk_tree, pairs_gstate, tree_with_change, SoundUnlessFailed, IsSoundWithRoot, CanStoreContents, writer_contents_bytes, TreeState, StoresThreadBytes}
 use Rattle.lfs_tree.proofs.Asking.{rooted_held, seen_working}
-use Rattle.lfs_tree.proofs.NotedErrors.{noted, noted_failed, noted_held}
+use Rattle.lfs_tree.proofs.NotedErrors.{noted_held}
 use Rattle.lfs_tree.proofs.StoredMoving.{may_move_stored, stores_moving}
 use Rattle.lfs_tree.proofs.tree.Tree.commit_writer_contents.Goals as goal
 

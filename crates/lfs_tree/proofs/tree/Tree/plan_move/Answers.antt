@@ -1,4 +1,4 @@
-use Rattle.std.proofs.Common.{ℕ, ◌≡◌, ◌∙◌, ap, refl, subst}
+use Rattle.std.proofs.Common.{◌≡◌, ◌∙◌, ap, refl, subst}
 use Rattle.std.specs.Prelude.{IfSome}
 use Rattle.lfs_device.specs.declared.geometry.Geometry.{Geometry}
 use Rattle.lfs_model.specs.session.History.{LeftByLatest}
@@ -23,7 +23,7 @@ pub returns-clause-planned : goal.returns-clause-planned
 returns-clause-planned g c =
     let device = c.device-device.result.now in
     let cycles : c.geometry.result.profile.pair_cycles ≡ c.args.self.now.disk.profile.pair_cycles =
-        ap (λ (x : Geometry). x.profile.pair_cycles) c.geometry.ensures ∙ ap (λ (d : Disk). d.profile.pair_cycles) c.device-device.ensures.disk ∙ ap (λ (s : TreeState). s.disk.profile.pair_cycles) c.self.view_is in
+    ap (λ (x : Geometry). x.profile.pair_cycles) c.geometry.ensures ∙ ap (λ (d : Disk). d.profile.pair_cycles) c.device-device.ensures.disk ∙ ap (λ (s : TreeState). s.disk.profile.pair_cycles) c.self.view_is in
     record {
       sound = held_sound c.self.inside.thread c.self.inside.root c.self.inside.is_writable c.args.self.now c.self.invariant c.self.view_is c.requires;
       newest = subst (λ (s : TreeState). LeftByLatest s.history s.disk.blocks) c.self.view_is

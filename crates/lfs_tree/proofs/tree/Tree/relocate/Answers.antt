@@ -1,4 +1,4 @@
-use Rattle.std.proofs.Common.{◌≡◌, ◌≤◌, ◌∙◌, Result, Ok, Err, ap, subst, sym}
+use Rattle.std.proofs.Common.{◌≤◌, ◌∙◌, Result, Err, ap, subst, sym}
 use Rattle.std.specs.Prelude.{OnOk}
 use Rattle.lfs_device.specs.declared.error.Error.{Error}
 use Rattle.lfs_tree.proofs.Common.{Disk, err_from_is_err_and, thread_state}

@@ -1,5 +1,5 @@
 -- A directory without entries, but the root, has one pair without slots.
-use Rattle.std.proofs.Common.{ℕ, ◌≡◌, ◌<◌, ◌≤◌, ◌+◌, ◌-◌, ◌∙◌, zero, suc, true, false, cond, not, List, [], ◌∷◌, ◌++◌, length, drop, get_or, slice_get, None, Some, refl, sym, ap, subst, arith, flat_map}
+use Rattle.std.proofs.Common.{ℕ, ◌≡◌, ◌≤◌, ◌+◌, ◌-◌, ◌∙◌, zero, suc, true, false, cond, not, List, [], ◌∷◌, ◌++◌, length, drop, get_or, slice_get, None, Some, refl, sym, ap, subst, arith, flat_map}
 use Rattle.std.proofs.lemmas.List.{drop-drop}
 use Rattle.std.proofs.lemmas.Option.{get_or_from_slice_get}
 use Rattle.std.proofs.Math.Seq.{drop-append_seam}

@@ -4,22 +4,20 @@ use Rattle.lfs_device.specs.declared.device.BlockDevice.{Ghosts}
 use Rattle.lfs_device.specs.declared.error.Error.{Error}
 use Rattle.lfs_device.specs.declared.error.Error.TheVariants.{Io, NoMemory}
 use Rattle.lfs_device.specs.DeviceCalls.{ChangesTheseBlocks}
-use Rattle.lfs_model.specs.format.Disk.{ordered_disk, Disk, SameGeometry, disk_block, block_count}
-use Rattle.lfs_model.specs.format.Blocks.{SameExceptThese}
-use Rattle.lfs_model.specs.declared.order.NameOrder.{NameOrder}
+use Rattle.lfs_model.specs.format.Disk.{Disk, disk_block, block_count}
 use Rattle.lfs_model.specs.layers.BlockSets.{AreInFlight, AreUsed, BlockStates}
 use Rattle.lfs_model.specs.layers.Changes.{PairChange, Create, PutStruct}
 use Rattle.lfs_model.specs.format.Content.{RawContent, has_commit}
 use Rattle.lfs_model.specs.format.EntryTypes.{inline_type, superblock_name_type}
 use Rattle.lfs_model.specs.tree.Fresh.{IsFreshDisk, empty_tree, fresh_pair, superblock_bytes}
-use Rattle.lfs_model.specs.session.History.{LossLeavesAtWorst, CallEvent, HoldsAtLosses, StayUnprogrammed, erase_count, fault_count}
+use Rattle.lfs_model.specs.session.History.{CallEvent, erase_count, fault_count}
 use Rattle.lfs_model.specs.format.Slots.{zero_gstate}
 use Rattle.lfs_model.specs.format.Thread.{anchor_address, address_blocks}
 use Rattle.lfs_model.specs.tree.View.{IsAccepted, disk_view}
 use Rattle.lfs_model.specs.tree.Profile.{IsWritable}
 use Rattle.lfs_pair.specs.Pair.{header_address}
 use Rattle.lfs_pair.specs.Writing.{HasOneCommit}
-use Rattle.lfs_thread.specs.Kept.{PairHeader, IsHeader, KeptThread, disk_of_device}
+use Rattle.lfs_thread.specs.Kept.{PairHeader, IsHeader, KeptThread}
 use Rattle.lfs_thread.specs.ThreadSteps.{ChangesThreadBlocks}
 
 -- the changes that put a superblock with that struct into slot 0

@@ -187,7 +187,7 @@ fn load_image(image: &ImageFile<'_>) -> Option<SparseDevice> {
 
 /// Returns the lines that list the image of a line. They are proved to list what is loaded of it: that all that was read
 /// of it was loaded, and is what the file has, is read in the code here and tested.
-pub(crate) fn list_lines(host: Host<'_>, line: &Line<'_>) -> Result<Vec<u8>, ToolError> {
+pub(crate) fn list_lines<'a>(host: Host<'a>, line: &Line<'a>) -> Result<Vec<u8>, ToolError> {
     let mut part = open_part(host, line)?;
     let image = open_image_file(host, line, &part);
     if let Some(device) = image.and_then(|image| load_image(&image)) {

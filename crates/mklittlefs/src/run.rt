@@ -107,12 +107,14 @@ fn unpack_into<R: ImageInput>(
         unpack(host.alloc(), image, layout, &mut target, &mut progress)?;
     }
     // An empty image has no action that makes the folder.
-    let made = target.make_folder(host.alloc(), b"");
-    made.map_err(target_tool_error)
+    match target.make_folder(host.alloc(), b"") {
+        Ok(()) => Ok(()),
+        Err(error) => Err(target_tool_error(error)),
+    }
 }
 
 // Unpacks the line's image into a folder, and sets the times there where these are wanted.
-fn unpack_image(host: Host<'_>, line: &Line<'_>, folder: &str) -> Result<(), ToolError> {
+fn unpack_image<'a>(host: Host<'a>, line: &Line<'a>, folder: &str) -> Result<(), ToolError> {
     let mut part = open_part(host, line)?;
     if !host.times {
         let parts = open_image_file(host, line, &part);
@@ -125,9 +127,9 @@ fn unpack_image(host: Host<'_>, line: &Line<'_>, folder: &str) -> Result<(), Too
 }
 
 /// Checks the image. With `-b auto` it is said how many bytes are behind it.
-pub(crate) fn check_image<W: ToolOutput>(
-    host: Host<'_>,
-    line: &Line<'_>,
+pub(crate) fn check_image<'a, W: ToolOutput>(
+    host: Host<'a>,
+    line: &Line<'a>,
     out: &mut W,
 ) -> Result<bool, ToolError> {
     let mut part = open_part(host, line)?;

@@ -158,7 +158,8 @@ fn load_thread(image: &ImageFile<'_>, device: SparseDevice) -> Result<SparseDevi
 pub(crate) fn open_image_file<'a>(
     host: Host<'a>,
     line: &Line<'a>,
-    part: &ImagePart<'_>,
+    layout: ImageLayout,
+    limit: u64,
 ) -> Option<ImageFile<'a>> {
     // A pipe isn't opened again: that could wait for a writer that is gone.
     let metadata = fs::metadata(host.rt, line.image).ok()?;
@@ -171,8 +172,8 @@ pub(crate) fn open_image_file<'a>(
         host,
         line: *line,
         file,
-        len: u32::try_from(len.min(part.stream.inner().limit())).ok()?,
-        layout: part.layout,
+        len: u32::try_from(len.min(limit)).ok()?,
+        layout,
     })
 }
 
@@ -185,29 +186,28 @@ fn load_image(image: &ImageFile<'_>) -> Option<SparseDevice> {
     load_thread(image, blank_device(image).ok()?).ok()
 }
 
-/// Returns the lines that list the image of a line. They are proved to list what is loaded of it: that all that was read
-/// of it was loaded, and is what the file has, is read in the code here and tested.
+/// Returns the lines that list an image. They are proved of what is loaded of it; that this is what its file has is tested.
 pub(crate) fn list_lines<'a>(host: Host<'a>, line: &Line<'a>) -> Result<Vec<u8>, ToolError> {
-    let mut part = open_part(host, line)?;
-    let image = open_image_file(host, line, &part);
+    let ImagePart { mut stream, layout } = open_part(host, line)?;
+    let image = open_image_file(host, line, layout, stream.inner().limit());
     if let Some(device) = image.and_then(|image| load_image(&image)) {
         if let Ok(lines) = lines_of_device(host.alloc(), device) {
             return Ok(lines);
         }
     }
     let mut lines = WatchedStream::new(Vec::new(host.alloc()));
-    memory_answer(list(host.alloc(), &mut part.stream, part.layout, &mut lines))?;
+    memory_answer(list(host.alloc(), &mut stream, layout, &mut lines))?;
     Ok(lines.into_inner())
 }
 
-/// Returns the lines of a check of the image of a line, where that is in a file and accepted. They are proved of what is
-/// loaded of it, as those of a list. Else, and where a read failed, the check wants the whole image.
+/// Returns the lines of a check of an image that is in a file and accepted. Else the check wants the whole image.
 pub(crate) fn accepted_lines(
     host: Host<'_>,
     line: &Line<'_>,
-    part: &ImagePart<'_>,
+    layout: ImageLayout,
+    limit: u64,
 ) -> Option<Vec<u8>> {
-    let device = load_image(&open_image_file(host, line, part)?)?;
+    let device = load_image(&open_image_file(host, line, layout, limit)?)?;
     let (summary, orders) = accepted_summary(host.alloc(), device)?;
     check_result_lines(host.alloc(), &CheckResult::Accepted { summary, orders }).ok()
 }

@@ -5,7 +5,7 @@ use crate::explain::write_explanation;
 use crate::files::{Host, NotedWriter};
 use crate::json::{check_as_json, json_of_list};
 use crate::lists::{ImageFile, accepted_lines, list_lines, open_image_file, unpack_parts};
-use crate::parts::{open_part, skip_bytes};
+use crate::parts::{ImagePart, open_part, skip_bytes};
 use crate::session::{cat_file, change_image};
 use crate::times::set_times;
 use lfs_device::{Error, Geometry};
@@ -115,15 +115,15 @@ fn unpack_into<R: ImageInput>(
 
 // Unpacks the line's image into a folder, and sets the times there where these are wanted.
 fn unpack_image<'a>(host: Host<'a>, line: &Line<'a>, folder: &str) -> Result<(), ToolError> {
-    let mut part = open_part(host, line)?;
+    let ImagePart { mut stream, layout } = open_part(host, line)?;
     if !host.times {
-        let parts = open_image_file(host, line, &part);
-        return unpack_into(host, parts, &mut part.stream, part.layout, folder);
+        let parts = open_image_file(host, line, layout, stream.inner().limit());
+        return unpack_into(host, parts, &mut stream, layout, folder);
     }
-    let bytes = read_image(host.alloc(), &mut part.stream)?;
+    let bytes = read_image(host.alloc(), &mut stream)?;
     let mut image = WatchedStream::new(bytes.as_slice());
-    unpack_into(host, None, &mut image, part.layout, folder)?;
-    set_times(host, folder, ram_device_of(bytes, part.layout)?)
+    unpack_into(host, None, &mut image, layout, folder)?;
+    set_times(host, folder, ram_device_of(bytes, layout)?)
 }
 
 /// Checks the image. With `-b auto` it is said how many bytes are behind it.
@@ -132,16 +132,16 @@ pub(crate) fn check_image<'a, W: ToolOutput>(
     line: &Line<'a>,
     out: &mut W,
 ) -> Result<bool, ToolError> {
-    let mut part = open_part(host, line)?;
-    let is_accepted = match accepted_lines(host, line, &part) {
+    let ImagePart { mut stream, layout } = open_part(host, line)?;
+    let is_accepted = match accepted_lines(host, line, layout, stream.inner().limit()) {
         Some(lines) => {
             write_and_flush(out, lines.as_slice())?;
             true
         }
-        None => check(host.alloc(), &mut part.stream, part.layout, out)?,
+        None => check(host.alloc(), &mut stream, layout, out)?,
     };
     if line.is_auto {
-        let mut image = part.stream.into_inner();
+        let mut image = stream.into_inner();
         let _image = skip_bytes(&mut image, u64::MAX)?;
         let count = skip_bytes(&mut image.into_inner(), u64::MAX)?;
         let behind = format!(in host.alloc(); "behind {count} bytes\n")?;

@@ -16,18 +16,18 @@ abbrev pub AddsNoFault : {D : Type 0} → Ghosts D → D → D → Type 0
 AddsNoFault g old new = fault_count (g.history new) ≡ fault_count (g.history old)
 
 -- Of a program the first bytes are stored (`programmed_part` gives them). Another call does nothing.
-abbrev pub LeavesUnlessProgram : {D : Type 0} → Ghosts D → DeviceCall → D → D → Type 0
-LeavesUnlessProgram g (Program b off bytes) old new = Unit {0}
-LeavesUnlessProgram g (Read b off len) old new = new ≡ old
-LeavesUnlessProgram g (Erase b) old new = new ≡ old
-LeavesUnlessProgram g (Blank b off len) old new = new ≡ old
+abbrev pub PassesOnlyProgram : {D : Type 0} → Ghosts D → DeviceCall → D → D → Type 0
+PassesOnlyProgram g (Program b off bytes) old new = Unit {0}
+PassesOnlyProgram g (Read b off len) old new = new ≡ old
+PassesOnlyProgram g (Erase b) old new = new ≡ old
+PassesOnlyProgram g (Blank b off len) old new = new ≡ old
 
 -- A call that isn't due to fail is passed on, and fails only as the device below does. A call that is due fails, after the given
 -- part of it was done.
 abbrev pub PassesCallOrFails : {D : Type 0} → Ghosts D → Option FaultExtent → DeviceCall → Bool → D → D → Type 0
 PassesCallOrFails g None call failed old new = PassesCall g call failed old new
 PassesCallOrFails g (Some Nothing) call failed old new = (failed ≡ true) × (new ≡ old)
-PassesCallOrFails g (Some (FirstBytes k)) call failed old new = (failed ≡ true) × LeavesUnlessProgram g call old new
+PassesCallOrFails g (Some (FirstBytes k)) call failed old new = (failed ≡ true) × PassesOnlyProgram g call old new
 PassesCallOrFails g (Some Whole) call failed old new = (failed ≡ true) × (AddsNoFault g old new → PassesCall g call false old new)
 
 -- the fact holds where the call is Ok, and where it failed after all of it was done below without a fault

@@ -5,10 +5,10 @@ use Rattle.lfs_model.specs.session.History.{fault_count}
 use Rattle.lfs_model.specs.crash.Premises.{MeetsPremises}
 
 -- no call of the device fails, and each meets the premises
-pub record DeviceMeetsPremises {D : Type 0} (g : Ghosts D) (device : D) : Type 0 where
+pub record MeetsPremisesFaultless {D : Type 0} (g : Ghosts D) (device : D) : Type 0 where
   pub no_fault : fault_count (g.history device) ≡ 0
   pub premises : MeetsPremises (g.history device)
 
 -- the same of each device of the type
-abbrev pub DevicesMeetPremises : {D : Type 0} → Ghosts D → Type 0
-DevicesMeetPremises {D} g = (device : D) → DeviceMeetsPremises g device
+abbrev pub DevicesMeetPremisesFaultless : {D : Type 0} → Ghosts D → Type 0
+DevicesMeetPremisesFaultless {D} g = (device : D) → MeetsPremisesFaultless g device

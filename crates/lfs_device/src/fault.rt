@@ -6,7 +6,7 @@ ghost use Rattle.lfs_model.specs.crash.Conformance.{CallsConform};
 ghost use Rattle.lfs_model.specs.crash.Premises.{MeetsPremises};
 ghost use Rattle.lfs_device.specs.BlockCalls.{CanProgram, IsWithinBlock, Programs};
 ghost use Rattle.lfs_device.specs.Fault.{call_count, extent_if_due, failing_extent, have_due_failed, is_partial, unplanned_faults};
-ghost use Rattle.lfs_device.specs.DevicePremises.{DevicesMeetPremises};
+ghost use Rattle.lfs_device.specs.DevicePremises.{DevicesMeetPremisesFaultless};
 ghost use Rattle.lfs_device.specs.CallsBelow.{AddsNoFault, PassesCallOrFails, programmed_part};
 
 use crate::partial::{erase_as_planned, program_as_planned, read_as_planned};
@@ -68,7 +68,7 @@ pub struct FaultDevice<D: BlockDevice> {
     ghost conforms: { CallsConform trace.events },
     ghost below: { (block byte : ℕ) → is_unprogrammed_byte trace.events block byte ≡ true → is_unprogrammed_byte (D.history inner) block byte ≡ true },
     ghost untorn: { tears ≡ false → is_partial fault.extent ≡ false },
-    pub ghost premises: { tears ≡ false → DevicesMeetPremises ⟦<D as BlockDevice>⟧ → ∥ MeetsPremises trace.events ∥₁ },
+    pub ghost premises: { tears ≡ false → DevicesMeetPremisesFaultless ⟦<D as BlockDevice>⟧ → ∥ MeetsPremises trace.events ∥₁ },
 }
 
 impl<D: BlockDevice> FaultDevice<D> {
@@ -183,7 +183,7 @@ impl<D: BlockDevice> FaultDevice<D> {
     /// Shows a proof the premises of contracts about a loss of power. The device meets them where
     /// no program is torn and the devices below are reliable. The call does nothing at run time.
     pub fn lemma_premises_hold(&self)
-        ensures { can_tear self.now ≡ false → DevicesMeetPremises ⟦<D as BlockDevice>⟧ → MeetsPremises (fault_history self.now) }
+        ensures { can_tear self.now ≡ false → DevicesMeetPremisesFaultless ⟦<D as BlockDevice>⟧ → MeetsPremises (fault_history self.now) }
     {}
 
     // Returns how much of the next call is done before it fails, if it is due to fail. `counts`

@@ -5,7 +5,7 @@ ghost use Rattle.lfs_model.specs.session.History.DeviceCall.{Read, Program, Eras
 ghost use Rattle.lfs_model.specs.crash.Conformance.{CallsConform};
 ghost use Rattle.lfs_model.specs.crash.Premises.{MeetsPremises};
 ghost use Rattle.lfs_device.specs.Bytes.{ElementsAreBytes};
-ghost use Rattle.lfs_device.specs.DevicePremises.{DevicesMeetPremises};
+ghost use Rattle.lfs_device.specs.DevicePremises.{DevicesMeetPremisesFaultless};
 ghost use Rattle.lfs_device.specs.Erased.{FillIsByte, erased_bytes, erased_range};
 
 use crate::{BlockDevice, Error, Geometry, Trace};
@@ -85,7 +85,7 @@ impl RamDevice {
     }
 
     /// Returns the same device, in which an erase leaves other bytes from now on.
-    pub fn erased_as(self, erased: Erased) -> RamDevice
+    pub fn with_erased(self, erased: Erased) -> RamDevice
         ensures geometry { ram_geometry result ≡ ram_geometry self }
         ensures bytes { ram_bytes result ≡ ram_bytes self }
         ensures erased { erase_setting result ≡ erased }
@@ -161,7 +161,7 @@ impl RamDevice {
 /// erase leaves no log or the one that was there, and no call fails. The call does nothing at run
 /// time.
 pub fn lemma_ram_premises()
-    ensures { DevicesMeetPremises ⟦<RamDevice as BlockDevice>⟧ }
+    ensures { DevicesMeetPremisesFaultless ⟦<RamDevice as BlockDevice>⟧ }
 {}
 
 // Writes bytes over those from an offset on.

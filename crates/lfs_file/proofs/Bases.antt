@@ -1,10 +1,10 @@
 -- A list whose blocks stay as they are.
 use Rattle.std.proofs.Common.{ℕ, ◌≡◌, get_or, List, take, ap, ◌∙◌, flat_map}
 use Rattle.std.specs.Prelude.{All}
-use Rattle.lfs_file.proofs.Common.{enumerate_from, recursion_from_All, Blocks, block_bytes, BlockStates, block_count_for, IsSkipList, block_data, list_bytes, Same, back_same, data_same, IsTakenWritten, KeepsTakenBytes, blocks_of_list}
+use Rattle.lfs_file.proofs.Common.{enumerate_from, recursion_from_All, Blocks, block_bytes, BlockStates, block_count_for, IsSkipList, block_data, list_bytes, Same, back_same, data_same, IsTakenNotPending, KeepsTakenBytes, blocks_of_list}
 use Rattle.lfs_model.proofs.Files.{list_same}
 
-module _ (map : BlockStates) (pending : List ℕ) (d e : Blocks) (block_size head size : ℕ) (spares : KeepsTakenBytes map pending d e) (apart : All (IsTakenWritten map pending) (blocks_of_list d block_size head size)) where
+module _ (map : BlockStates) (pending : List ℕ) (d e : Blocks) (block_size head size : ℕ) (spares : KeepsTakenBytes map pending d e) (apart : All (IsTakenNotPending map pending) (blocks_of_list d block_size head size)) where
   same : Same d e (blocks_of_list d block_size head size)
   same = recursion_from_All (λ b. block_bytes e b ≡ block_bytes d b) (blocks_of_list d block_size head size) (λ k x l. spares.same (get_or (blocks_of_list d block_size head size) k x) (apart k x l))
 

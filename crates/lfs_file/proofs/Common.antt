@@ -3,10 +3,10 @@ pub use Rattle.lfs_device.specs.DeviceCalls.{ChangesTheseBlocks, ReadsOnly, Repo
 pub use Rattle.lfs_file.specs.BaseRoom.{in_flight_limit}
 pub use Rattle.lfs_file.specs.Bases.{IsListOrEmpty, blocks_of_list}
 pub use Rattle.lfs_file.specs.BlockOwners.{AreUsedAmong, KeepsStoredBlocks, contents_blocks, stored_blocks}
-pub use Rattle.lfs_file.specs.BlocksApart.{GrowsInFree, HasBlocksTaken, IsTakenWritten, KeepsTakenBytes, TakenStayUnprogrammed}
-pub use Rattle.lfs_file.specs.Contents.{HaveForm, buffered_bytes, contents_form, truncation_room, write_room}
+pub use Rattle.lfs_file.specs.BlocksApart.{GrowsInFree, HasBlocksTaken, IsTakenNotPending, KeepsTakenBytes, TakenStayUnprogrammed}
+pub use Rattle.lfs_file.specs.Contents.{HaveBytesInForm, buffered_bytes, contents_form, truncation_room, write_room}
 pub use Rattle.lfs_file.specs.ContentsCalls.{CallKeepsUsed, KeepsTakenBlocks}
-pub use Rattle.lfs_file.specs.Counts.{WritesOnce}
+pub use Rattle.lfs_file.specs.Counts.{WritesEachOnce}
 pub use Rattle.lfs_file.specs.Extended.{ListHasBytes}
 pub use Rattle.lfs_file.specs.Extending.{HasBufferedBytes}
 pub use Rattle.lfs_file.specs.Extensions.{CanEndAlone}
@@ -14,14 +14,14 @@ pub use Rattle.lfs_file.specs.FewReads.{FillsFew, further_pointers}
 pub use Rattle.lfs_file.specs.Fields.{IsExtender, growing_view}
 pub use Rattle.lfs_file.specs.Filled.{AreConsistent}
 pub use Rattle.lfs_file.specs.Finished.{IsListOf}
-pub use Rattle.lfs_file.specs.Form.{ContentsForm, Finished, InHand, InMemory, IsWriterForm, form_after_inner, form_size, shortened_form, truncated_form, written_form}
-pub use Rattle.lfs_file.specs.Growing.{GrowingList, IsAllBuffered, IsOnDisk, IsRestAt, IsRestShared, IsRestShort, appended_count, block_for_next, blocks_data, growing_blocks, growing_bytes, growing_size, growing_size_with, kept_blocks, lacks_last_block, rest_block, rest_lacks_block, unwritten_block, unwritten_rest_block}
+pub use Rattle.lfs_file.specs.Form.{ContentsForm, Finished, InHand, InMemory, IsWriterForm, form_written_within, form_size, shortened_form, truncated_form, written_form}
+pub use Rattle.lfs_file.specs.Growing.{GrowingList, IsAllBuffered, IsOnDisk, IsRestAt, IsRestShared, IsRestShort, appended_count, block_for_next, blocks_data, growing_blocks, growing_bytes, growing_size, growing_size_with, lasting_blocks, lacks_last_block, rest_block, rest_lacks_block, unwritten_block, unwritten_rest_block}
 pub use Rattle.lfs_file.specs.Hand.{CanEndOver, IsFinishedList, KeepsUsedBlocks, KeepsUsedBytes, SharesFirstBlocks, stored_list_bytes}
 pub use Rattle.lfs_file.specs.HandWrites.{CanEndUnfinished, EndsInZeros, IsUnfinishedTo, unfinished_bytes, unfinished_length}
 pub use Rattle.lfs_file.specs.Known.{AreKnownBlocks, ArePointedKnown, ArePointersKnown, IsKnownIndex, OnlyBelowKnown, ReadsKnownList, index_row}
 pub use Rattle.lfs_file.specs.Releases.{ReleasesInFlight}
 pub use Rattle.lfs_file.specs.Right.{ArePointersCopied, LaterPointersName}
-pub use Rattle.lfs_file.specs.SettledMaps.{KeepsOtherStates, PutsInState, SettlesList, used_or_free}
+pub use Rattle.lfs_file.specs.SettledMaps.{KeepsOtherStates, SetsState, SettlesList, used_or_free}
 pub use Rattle.lfs_file.specs.SharedBlocks.{IsSharedCount}
 pub use Rattle.lfs_file.specs.TakenBlocks.{ChangesOnlyFree, TakesFreeBlocks}
 pub use Rattle.lfs_file.specs.Way.{HasNotedPointers, HasNotedWalk, IsIndexVisited, visit_count}

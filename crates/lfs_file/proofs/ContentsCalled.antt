@@ -1,6 +1,6 @@
 -- What calls of a device one behind the other say of its faults and of what they leave alone.
 use Rattle.std.proofs.Common.{ℕ, ◌≡◌, Bool, List, ◌∷◌, Result, Ok, Err, refl, sym, subst, ◌∙◌, arith}
-use Rattle.lfs_file.proofs.Common.{ChangesTheseBlocks, ReadsOnly, ReportsFaults, Blocks, BlockStates, call_event, fault_count, Read, LossLeavesAtWorst-read, HoldsAtLosses-read_count, OnlyReadsSince-trans, began, goes_on, GrowingList, unwritten_block, IsTakenWritten, HasBlocksTaken, KeepsTakenBytes, KeepsTakenBlocks, CallKeepsUsed, KeepsUsedBlocks, KeepsUsedBytes}
+use Rattle.lfs_file.proofs.Common.{ChangesTheseBlocks, ReadsOnly, ReportsFaults, Blocks, BlockStates, call_event, fault_count, Read, LossLeavesAtWorst-read, HoldsAtLosses-read_count, OnlyReadsSince-trans, began, goes_on, GrowingList, unwritten_block, IsTakenNotPending, HasBlocksTaken, KeepsTakenBytes, KeepsTakenBlocks, CallKeepsUsed, KeepsUsedBlocks, KeepsUsedBytes}
 use Rattle.lfs_device.specs.DeviceCalls.{ReportsIoNoMemory}
 use Rattle.lfs_device.specs.declared.device.BlockDevice.{Ghosts}
 use Rattle.lfs_device.specs.declared.error.Error.{Error}
@@ -69,7 +69,7 @@ module _ {D : Type 0} (g : Ghosts D) where
     at_worst = stops_end map pending (g.blocks old) (g.history old) (g.history new) changes.at_worst;
   }
 
-  pub apart_on : {map later : BlockStates} {pending then : List ℕ} {old mid new : D} → ((k : ℕ) → IsTakenWritten map pending k → IsTakenWritten later then k) → KeepsTakenBlocks g map pending old mid → KeepsTakenBlocks g later then mid new
+  pub apart_on : {map later : BlockStates} {pending then : List ℕ} {old mid new : D} → ((k : ℕ) → IsTakenNotPending map pending k → IsTakenNotPending later then k) → KeepsTakenBlocks g map pending old mid → KeepsTakenBlocks g later then mid new
       → KeepsTakenBlocks g map pending old new
   apart_on {map} {later} {pending} {then} {old} {mid} {new} apart first second = record {
     spared = Spares-trans map later pending then (g.blocks old) (g.blocks mid) (g.blocks new) apart first.spared second.spared;

@@ -1,6 +1,6 @@
 -- Contents in memory that are written, also where they move to a list.
 use Rattle.std.proofs.Common.{ℕ, ◌≢◌, ap₂, refl, subst, inl, ◌≡◌, ◌+◌, ◌-◌, ◌≤◌, ⊎_elim, Bool, true, false, [], if◌then◌else◌, List, ◌++◌, length, take, drop, max, min, replicate, sym, ap, ◌∙◌, arith, length-append, append_assoc}
-use Rattle.lfs_file.proofs.Common.{cases_lt, append-nil, take_all, drop_all, length-replicate, length-take-le, replicate-append-replicate, take_at, take-append-le, take-take, written_contents, zero_padded, take-add, Blocks, BlockStates, IsFree, IsInFlight, AreListBlocks, IsSkipList, blocks_to_head, block_count_for, bytes_before_block, list_bytes, GrowingList, IsOnDisk, IsAllBuffered, IsRestAt, growing_bytes, lacks_last_block, blocks_data, kept_blocks, unwritten_rest_block, unwritten_block, growing_size_with, growing_size, IsListOrEmpty, blocks_of_list, buffered_bytes, IsUnfinishedTo, in_flight_limit, block_count_for-more}
+use Rattle.lfs_file.proofs.Common.{cases_lt, append-nil, take_all, drop_all, length-replicate, length-take-le, replicate-append-replicate, take_at, take-append-le, take-take, written_contents, zero_padded, take-add, Blocks, BlockStates, IsFree, IsInFlight, AreListBlocks, IsSkipList, blocks_to_head, block_count_for, bytes_before_block, list_bytes, GrowingList, IsOnDisk, IsAllBuffered, IsRestAt, growing_bytes, lacks_last_block, blocks_data, lasting_blocks, unwritten_rest_block, unwritten_block, growing_size_with, growing_size, IsListOrEmpty, blocks_of_list, buffered_bytes, IsUnfinishedTo, in_flight_limit, block_count_for-more}
 use Rattle.lfs_model.specs.format.Blocks.{overwritten_at as in_block}
 use Rattle.lfs_device.specs.declared.geometry.Geometry.{Geometry}
 use Rattle.std.specs.Prelude.{All, Contains, slice_range}
@@ -122,7 +122,7 @@ held_growing disk g held = record {
   stand = never g.stand g.full held.held held.none disk g.head g.rest;
 }
 
-pub held_kept : (disk : Blocks) (g : GrowingList) → IsAllBuffered g → kept_blocks disk g ≡ []
+pub held_kept : (disk : Blocks) (g : GrowingList) → IsAllBuffered g → lasting_blocks disk g ≡ []
 held_kept disk g held = ap₂ (λ n (p : List ℕ). blocks_to_head disk n g.head ++ p) held.none (held_pending g held)
 
 pub held_content : (disk : Blocks) (g : GrowingList) → IsAllBuffered g → growing_bytes disk g ≡ g.rest
@@ -138,7 +138,7 @@ pub begins_none : (map : BlockStates) (d : Blocks) (now : Geometry) (e : Growing
 begins_none map d now e quiet =
     let g : GrowingList = e in
     let held = quiet.resting.held in
-    let none : kept_blocks d g ≡ [] = held_kept d g held in
+    let none : lasting_blocks d g ≡ [] = held_kept d g held in
     let block_size : ℕ = e.geometry.block_size in
     record {
       begun = record {

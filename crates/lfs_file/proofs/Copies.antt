@@ -1,7 +1,7 @@
 -- Bytes that are read and then appended.
 use Rattle.std.proofs.Common.{ℕ, ◌≡◌, ◌+◌, ◌-◌, ◌≤◌, ◌⊎◌, inl, inr, List, ◌++◌, length, take, drop, Result, Err, sym, ap, ◌∙◌, subst, arith, append_assoc}
 use Rattle.std.specs.Prelude.{All, slice_range}
-use Rattle.lfs_file.proofs.Common.{enumerate_from, take-append-drop, drop-drop, length-take, drop_all, append-nil, Blocks, BlockStates, IsSkipList, blocks_to_head, block_count_for, list_bytes, block_data, GrowingList, growing_size_with, GrowsInFree, IsTakenWritten, KeepsTakenBytes, IsListOrEmpty, blocks_of_list, ChangesOnlyFree}
+use Rattle.lfs_file.proofs.Common.{enumerate_from, take-append-drop, drop-drop, length-take, drop_all, append-nil, Blocks, BlockStates, IsSkipList, blocks_to_head, block_count_for, list_bytes, block_data, GrowingList, growing_size_with, GrowsInFree, IsTakenNotPending, KeepsTakenBytes, IsListOrEmpty, blocks_of_list, ChangesOnlyFree}
 use Rattle.std.specs.List.{flat_map}
 use Rattle.lfs_device.specs.declared.error.Error.{Error}
 use Rattle.lfs_device.specs.declared.geometry.Geometry.{Geometry}
@@ -34,13 +34,13 @@ none_behind d block_size head size end content le =
     ap (λ (l : List ℕ). content ++ l) (drop_all end (list_bytes d block_size head size) (let few = few_bytes size (flat_map (block_data d) (enumerate_from 0 (blocks_to_head d (block_count_for block_size size) head))) in omega arith)) ∙ append-nil content
 
 -- the base is a list still, with the same bytes, also by another name of the geometry
-pub listed : (map : BlockStates) (pending : List ℕ) (d e : Blocks) (geometry now : Geometry) (head size : ℕ) → now ≡ geometry → KeepsTakenBytes map pending d e → All (IsTakenWritten map pending) (blocks_of_list d geometry.block_size head size)
+pub listed : (map : BlockStates) (pending : List ℕ) (d e : Blocks) (geometry now : Geometry) (head size : ℕ) → now ≡ geometry → KeepsTakenBytes map pending d e → All (IsTakenNotPending map pending) (blocks_of_list d geometry.block_size head size)
     → 1 ≤ size → IsListOrEmpty d geometry.block_size head size → IsSkipList e now.block_size head size
 listed map pending d e geometry now head size same spared apart some base =
     subst (λ (k : Geometry). IsSkipList e k.block_size head size) (sym same) (list_stays map pending d e geometry.block_size head size spared apart (base_list d geometry.block_size head size some base))
 
 pub read_bytes : (map : BlockStates) (pending : List ℕ) (d e : Blocks) (geometry now : Geometry) (head size from to : ℕ) (taken : List ℕ) → now ≡ geometry → KeepsTakenBytes map pending d e
-    → All (IsTakenWritten map pending) (blocks_of_list d geometry.block_size head size) → taken ≡ slice_range (list_bytes e now.block_size head size) from to → taken ≡ slice_range (list_bytes d geometry.block_size head size) from to
+    → All (IsTakenNotPending map pending) (blocks_of_list d geometry.block_size head size) → taken ≡ slice_range (list_bytes e now.block_size head size) from to → taken ≡ slice_range (list_bytes d geometry.block_size head size) from to
 read_bytes map pending d e geometry now head size from to taken same spared apart is =
     is ∙ ap (λ (k : Geometry). slice_range (list_bytes e k.block_size head size) from to) same ∙ ap (λ (l : List ℕ). slice_range l from to) (bytes_stay map pending d e geometry.block_size head size spared apart)
 

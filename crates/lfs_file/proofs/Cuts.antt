@@ -1,7 +1,7 @@
 -- A finished list that is cut.
 use Rattle.std.proofs.Common.{ℕ, ◌≡◌, ◌≢◌, inl, inr, ⊎_elim, get_or, List, [], take, drop, sym, ◌∙◌, subst, arith, length-drop}
 use Rattle.std.specs.Prelude.{All, Contains}
-use Rattle.lfs_file.proofs.Common.{take-take, length-take, All-contains, All-contains_itself, All-take, Blocks, SameExceptThese, BlockStates, IsFree, IsInFlight, IsSkipList, IsTakenWritten, IsListOrEmpty, blocks_of_list, IsFinishedList, ReleasesInFlight}
+use Rattle.lfs_file.proofs.Common.{take-take, length-take, All-contains, All-contains_itself, All-take, Blocks, SameExceptThese, BlockStates, IsFree, IsInFlight, IsSkipList, IsTakenNotPending, IsListOrEmpty, blocks_of_list, IsFinishedList, ReleasesInFlight}
 use Rattle.lfs_file.specs.declared.stored_list.StoredList.{StoredList}
 use Rattle.lfs_file.proofs.Bases.{blocks_stay, list_stays}
 use Rattle.lfs_file.proofs.Ends.{base_distinct, gone_of, still_apart, still_flying}
@@ -12,7 +12,7 @@ module _ (map : BlockStates) (d f : Blocks) (block_size : ℕ) (stored : StoredL
   abbrev bb : List ℕ
   bb = blocks_of_list d block_size stored.head stored.size
 
-  apart : All (IsTakenWritten map pending) (blocks_of_list d block_size stored.head stored.size)
+  apart : All (IsTakenNotPending map pending) (blocks_of_list d block_size stored.head stored.size)
   apart k x l = (is.marked k x l, subst (All (λ p. p ≢ get_or (blocks_of_list d block_size stored.head stored.size) k x)) (sym none) (λ i y m. absurd (omega (arith, m))))
 
   stay : blocks_of_list f block_size stored.head stored.size ≡ blocks_of_list d block_size stored.head stored.size

@@ -2,7 +2,7 @@
 use Rattle.std.proofs.Common.{ℕ, ◌≡◌, ◌≢◌, ◌⊎◌, inl, inr, ⊎_elim, Bool, true, false, if◌then◌else◌, nat_eq, get_or, List, [], take, drop, Some, refl, sym, ap, ◌∙◌, subst, arith}
 use Rattle.std.specs.Prelude.{All, Contains}
 use Rattle.std.specs.List.{IsDistinct}
-use Rattle.lfs_file.proofs.Common.{take-append-drop, All-contains, All-contains_itself, Contains-append_cases, Blocks, SameExceptThese, BlockStates, IsFree, IsInFlight, Free, Used, block_count_for, AreListBlocks, IsSkipList, GrowingList, growing_blocks, kept_blocks, unwritten_block, IsListOrEmpty, blocks_of_list, CanEndOver, IsFinishedList, KeepsUsedBlocks, ReleasesInFlight, ChangesOnlyFree}
+use Rattle.lfs_file.proofs.Common.{take-append-drop, All-contains, All-contains_itself, Contains-append_cases, Blocks, SameExceptThese, BlockStates, IsFree, IsInFlight, Free, Used, block_count_for, AreListBlocks, IsSkipList, GrowingList, growing_blocks, lasting_blocks, unwritten_block, IsListOrEmpty, blocks_of_list, CanEndOver, IsFinishedList, KeepsUsedBlocks, ReleasesInFlight, ChangesOnlyFree}
 use Rattle.std.proofs.lemmas.List.Elements.{All-drop}
 use Rattle.lfs_device.specs.declared.geometry.Geometry.{Geometry}
 use Rattle.lfs_file.specs.declared.stored_list.StoredList.{StoredList}
@@ -56,7 +56,7 @@ module _ (map later : BlockStates) (e f : Blocks) (block_size : ℕ) (h : Growin
   out : ReleasesInFlight map later (gone_of base.in_flight shared (blocks_of_list e block_size base.head base.size))
   out = subst (λ (l : List ℕ). ReleasesInFlight map later (gone_of base.in_flight shared l)) stay released
 
-  kept_is : blocks_of_list f block_size head size ≡ kept_blocks e h
+  kept_is : blocks_of_list f block_size head size ≡ lasting_blocks e h
   kept_is = blocks ∙ hand.own
 
   pub ends : IsFinishedList later f block_size (record { head = head; size = size; in_flight = true })
@@ -64,12 +64,12 @@ module _ (map later : BlockStates) (e f : Blocks) (block_size : ℕ) (h : Growin
     base = inr list;
     count = released.count ∙ hand.begun.marked.count ∙ sym others.count;
     marked = subst (All (λ b. ¬ (IsFree later b))) (sym kept_is) (λ k x l free.
-        hand.begun.marked.kept k x l (sym (out.others (get_or (kept_blocks e h) k x) (still_apart shared (kept_blocks e h) (blocks_of_list e block_size base.head base.size) (get_or (kept_blocks e h) k x) base.in_flight
-        (base_distinct e block_size base.head base.size hand.begun.list) hand.begun.front hand.begun.behind (All-contains_itself (kept_blocks e h) k x l))) ∙ free));
+        hand.begun.marked.kept k x l (sym (out.others (get_or (lasting_blocks e h) k x) (still_apart shared (lasting_blocks e h) (blocks_of_list e block_size base.head base.size) (get_or (lasting_blocks e h) k x) base.in_flight
+        (base_distinct e block_size base.head base.size hand.begun.list) hand.begun.front hand.begun.behind (All-contains_itself (lasting_blocks e h) k x l))) ∙ free));
     flying = λ b is. (
       refl,
       subst (λ (l : List ℕ). Contains l b) (sym kept_is)
-          (still_flying map later shared (kept_blocks e h) (blocks_of_list e block_size base.head base.size) b base.in_flight hand.begun.front out (hand.begun.flying b) is),
+          (still_flying map later shared (lasting_blocks e h) (blocks_of_list e block_size base.head base.size) b base.in_flight hand.begun.front out (hand.begun.flying b) is),
     );
   }
 

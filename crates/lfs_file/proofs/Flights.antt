@@ -1,7 +1,7 @@
 -- How many blocks are in flight, and what a write makes of the contents.
 use Rattle.std.proofs.Common.{ℕ, ◌≡◌, ◌≢◌, ◌+◌, ◌*◌, ◌-◌, ◌≤◌, inl, inr, ⊎_elim, Bool, true, false, if◌then◌else◌, List, [], ◌++◌, length, take, drop, max, min, replicate, refl, sym, ap, ◌∙◌, subst, arith, length-append, length-drop}
 use Rattle.std.specs.Prelude.{Contains}
-use Rattle.lfs_file.proofs.Common.{drop-append-add, cases_eq, cases_lt, Contains-append_left, Contains-append_right, append-nil, take_all, drop_all, length-replicate, length-take, length-take-le, replicate-append-replicate, take_at, drop-drop, Blocks, HasBlockSizes, BlockStates, in_flight_count, written_contents, zero_padded, blocks_to_head, block_count_for, list_bytes, GrowingList, IsOnDisk, growing_bytes, blocks_data, kept_blocks, unwritten_block, growing_size_with, KeepsTakenBytes, IsListOrEmpty, blocks_of_list, SharesFirstBlocks, IsFinishedList, stored_list_bytes, in_flight_limit, length_back, block_count_for-more}
+use Rattle.lfs_file.proofs.Common.{drop-append-add, cases_eq, cases_lt, Contains-append_left, Contains-append_right, append-nil, take_all, drop_all, length-replicate, length-take, length-take-le, replicate-append-replicate, take_at, drop-drop, Blocks, HasBlockSizes, BlockStates, in_flight_count, written_contents, zero_padded, blocks_to_head, block_count_for, list_bytes, GrowingList, IsOnDisk, growing_bytes, blocks_data, lasting_blocks, unwritten_block, growing_size_with, KeepsTakenBytes, IsListOrEmpty, blocks_of_list, SharesFirstBlocks, IsFinishedList, stored_list_bytes, in_flight_limit, length_back, block_count_for-more}
 use Rattle.lfs_model.specs.format.Blocks.{overwritten_at as in_block}
 use Rattle.lfs_model.proofs.Overwrites.{overwritten_next, overwritten_none}
 use Rattle.lfs_device.specs.declared.geometry.Geometry.{Geometry}
@@ -53,14 +53,14 @@ stored_flying map d block_size s stored =
     let few = few_flying (lent s.in_flight bb) map (λ b is. in_lent s.in_flight bb b (stored.flying b is).0 (stored.flying b is).1) in
     omega (arith, few, length-lent d block_size s s.in_flight)
 
-pub begun_flying : (map : BlockStates) (d : Blocks) (block_size : ℕ) (g : GrowingList) (base : StoredList) (shared : ℕ) → SharesFirstBlocks map d block_size g base shared → in_flight_count map ≤ length (kept_blocks d g) + in_flight_limit block_size base
+pub begun_flying : (map : BlockStates) (d : Blocks) (block_size : ℕ) (g : GrowingList) (base : StoredList) (shared : ℕ) → SharesFirstBlocks map d block_size g base shared → in_flight_count map ≤ length (lasting_blocks d g) + in_flight_limit block_size base
 begun_flying map d block_size g base shared begun =
     let bb : List ℕ = blocks_of_list d block_size base.head base.size in
-    let few = few_flying (kept_blocks d g ++ lent base.in_flight bb) map (λ b is. ⊎_elim
-    (λ has. Contains-append_left (kept_blocks d g) (lent base.in_flight bb) b has)
-    (λ both. Contains-append_right (kept_blocks d g) (lent base.in_flight bb) b (in_lent base.in_flight bb b both.0 both.1))
+    let few = few_flying (lasting_blocks d g ++ lent base.in_flight bb) map (λ b is. ⊎_elim
+    (λ has. Contains-append_left (lasting_blocks d g) (lent base.in_flight bb) b has)
+    (λ both. Contains-append_right (lasting_blocks d g) (lent base.in_flight bb) b (in_lent base.in_flight bb b both.0 both.1))
     (begun.flying b is)) in
-    omega (arith, few, length-append (kept_blocks d g) (lent base.in_flight bb), length-lent d block_size base base.in_flight)
+    omega (arith, few, length-append (lasting_blocks d g) (lent base.in_flight bb), length-lent d block_size base base.in_flight)
 
 -- ---- a list in hand that grows, also under another name of the geometry
 

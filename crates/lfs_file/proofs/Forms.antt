@@ -1,10 +1,10 @@
 -- Each call of a writer leaves its contents where its form says, and its held number has room for their blocks.
 use Rattle.std.proofs.Common.{ℕ, ◌≡◌, ◌≢◌, ◌+◌, ◌*◌, ◌-◌, ◌<◌, ◌≤◌, ⊎_elim, Bool, true, false, not, if◌then◌else◌, max, min, List, ◌∷◌, ◌++◌, length, take, drop, replicate, Option, Some, None, is_some, refl, sym, ap, ◌∙◌, subst, arith, length-append, length-drop}
 use Rattle.std.specs.Prelude.{nat_le, nat_lt, ◌==◌, ◌||◌}
-use Rattle.lfs_file.proofs.Common.{eqb-true, eqb-false, ltb-true, ne_eqb, eq-eqb, cases_eq, lt-leb, le-leb, length-take, length-replicate, inline_limit, block_count_for, FileWriter, reserved_for_writer, written_writer, truncated_writer, written_contents, write_position, zero_padded, ContentsForm, InMemory, Finished, InHand, form_size, form_after_inner, shortened_form, written_form, truncated_form, IsWriterForm, block_count_for-more}
+use Rattle.lfs_file.proofs.Common.{eqb-true, eqb-false, ltb-true, ne_eqb, eq-eqb, cases_eq, lt-leb, le-leb, length-take, length-replicate, inline_limit, block_count_for, FileWriter, reserved_for_writer, written_writer, truncated_writer, written_contents, write_position, zero_padded, ContentsForm, InMemory, Finished, InHand, form_size, form_written_within, shortened_form, written_form, truncated_form, IsWriterForm, block_count_for-more}
 use Rattle.std.proofs.lemmas.Bool.{or_left, or_right, leb-true, leb-false, ltb-false}
 use Rattle.lfs_model.specs.declared.limits.Profile.{Profile}
-use Rattle.lfs_model.specs.session.Session.{list_blocks_of}
+use Rattle.lfs_model.specs.session.Session.{list_block_count}
 use Rattle.lfs_model.specs.session.Writers.{synced_writer, opened_writer, turns_writer}
 use Rattle.lfs_model.specs.session.Operations.{FlagsOfOpen}
 use Rattle.lfs_model.specs.tree.Tree.{Path}
@@ -35,7 +35,7 @@ turned_or : (t : Bool) (P : Type 0) → (t ≡ true → P) → (t ≡ false → 
 turned_or true P first second = first refl
 turned_or false P first second = second refl
 
-kept_grown : (profile : Profile) (block_size : ℕ) (w v : FileWriter) (begin stop : ℕ) → Grew w v begin stop → inline_limit profile block_size < length v.contents → begin ≤ stop → (form : ContentsForm) → IsWriterForm profile block_size form w → IsWriterForm profile block_size (form_after_inner begin stop form) v
+kept_grown : (profile : Profile) (block_size : ℕ) (w v : FileWriter) (begin stop : ℕ) → Grew w v begin stop → inline_limit profile block_size < length v.contents → begin ≤ stop → (form : ContentsForm) → IsWriterForm profile block_size form w → IsWriterForm profile block_size (form_written_within begin stop form) v
 kept_grown profile block_size w v begin stop grew large le (InMemory size) kept =
     let few : size ≤ inline_limit profile block_size = kept.fits in
     let is : size ≡ length w.contents = kept.size in
@@ -121,7 +121,7 @@ kept_written profile block_size form w byte bytes kept =
     let v : FileWriter = written_writer w (byte ∷ bytes) in
     let is : size ≡ length w.contents = kept.size in
     let long : length v.contents ≡ max (length w.contents) stop = length-written w.contents place (byte ∷ bytes) in
-    either profile block_size (nat_le (max size stop) (inline_limit profile block_size)) (InMemory (max size stop)) (form_after_inner (min place size) stop form) v
+    either profile block_size (nat_le (max size stop) (inline_limit profile block_size)) (InMemory (max size stop)) (form_written_within (min place size) stop form) v
     (λ fits. record { size = omega arith; fits = leb-true (max size stop) (inline_limit profile block_size) fits })
     (λ exceeds.
     let large : inline_limit profile block_size < max size stop = leb-false (max size stop) (inline_limit profile block_size) exceeds in
@@ -154,13 +154,13 @@ module _ (profile : Profile) (block_size : ℕ) (form : ContentsForm) (w : FileW
   some_turned end at = or_right w.turned (is_some w.last_end) (ap is_some at)
 
   abbrev other : ContentsForm
-  other = if nat_lt (form_size form) size then form_after_inner (form_size form) size form else shortened_form size form
+  other = if nat_lt (form_size form) size then form_written_within (form_size form) size form else shortened_form size form
 
   kept_other : inline_limit profile block_size < size → IsWriterForm profile block_size other resized
   kept_other large =
       let is : form_size form ≡ length w.contents = kept.size in
       let now = long in
-      either profile block_size (nat_lt (form_size form) size) (form_after_inner (form_size form) size form) (shortened_form size form) resized
+      either profile block_size (nat_lt (form_size form) size) (form_written_within (form_size form) size form) (shortened_form size form) resized
       (λ longer.
       let more : form_size form < size = ltb-true (form_size form) size longer in
       kept_grown profile block_size w resized (form_size form) size
@@ -193,7 +193,7 @@ pub kept_truncated : (profile : Profile) (block_size : ℕ) (form : ContentsForm
 kept_truncated profile block_size form w size kept = ⊎_elim
     (λ e.
     let first : truncated_form (inline_limit profile block_size) size form ≡ form =
-    ap (λ (t : Bool). if t then form else (if nat_le size (inline_limit profile block_size) then InMemory size else (if nat_lt (form_size form) size then form_after_inner (form_size form) size form else shortened_form size form))) (eq-eqb size (form_size form) (e ∙ sym kept.size)) in
+    ap (λ (t : Bool). if t then form else (if nat_le size (inline_limit profile block_size) then InMemory size else (if nat_lt (form_size form) size then form_written_within (form_size form) size form else shortened_form size form))) (eq-eqb size (form_size form) (e ∙ sym kept.size)) in
     let second : truncated_writer w size ≡ w = ap (λ (t : Bool). if t then w else resized_to size w) (eq-eqb size (length w.contents) e) in
     subst (λ (f : ContentsForm). IsWriterForm profile block_size f (truncated_writer w size)) (sym first) (subst (λ (v : FileWriter). IsWriterForm profile block_size form v) (sym second) kept))
     (λ ne. kept_truncated_ne profile block_size form w size kept ne)
@@ -233,7 +233,7 @@ kept_opened_list profile block_size path flags bytes = record {
 held_dirty : (profile : Profile) (block_size : ℕ) (w : FileWriter) → w.dirty ≡ true → inline_limit profile block_size < length w.contents → reserved_for_writer profile block_size w ≡ 2 + (if w.turned then 2 else 1) * block_count_for block_size (length w.contents)
 held_dirty profile block_size w dirty large =
     let n : ℕ = length w.contents in
-    let first : reserved_for_writer profile block_size w ≡ 2 + (if w.turned then 2 else 1) * list_blocks_of profile block_size n = ap (λ (t : Bool). if not t then 0 else 2 + (if w.turned then 2 else 1) * list_blocks_of profile block_size n) dirty in
+    let first : reserved_for_writer profile block_size w ≡ 2 + (if w.turned then 2 else 1) * list_block_count profile block_size n = ap (λ (t : Bool). if not t then 0 else 2 + (if w.turned then 2 else 1) * list_block_count profile block_size n) dirty in
     let outside : nat_le n (inline_limit profile block_size) ≡ false = lt-leb n (inline_limit profile block_size) large in
     first ∙ ap (λ (t : Bool). 2 + (if w.turned then 2 else 1) * (if t then 0 else block_count_for block_size n)) outside
 
@@ -309,11 +309,11 @@ room_ended profile block_size end base false w used all kept room =
 
 pub written_few : (limit place count : ℕ) (form : ContentsForm) → max (form_size form) (place + count) ≤ limit → written_form limit place count form ≡ InMemory (max (form_size form) (place + count))
 written_few limit place count form few =
-    ap (λ (t : Bool). if t then InMemory (max (form_size form) (place + count)) else form_after_inner (min place (form_size form)) (place + count) form) (le-leb (max (form_size form) (place + count)) limit few)
+    ap (λ (t : Bool). if t then InMemory (max (form_size form) (place + count)) else form_written_within (min place (form_size form)) (place + count) form) (le-leb (max (form_size form) (place + count)) limit few)
 
-pub written_many : (limit place count : ℕ) (form : ContentsForm) → limit < max (form_size form) (place + count) → written_form limit place count form ≡ form_after_inner (min place (form_size form)) (place + count) form
+pub written_many : (limit place count : ℕ) (form : ContentsForm) → limit < max (form_size form) (place + count) → written_form limit place count form ≡ form_written_within (min place (form_size form)) (place + count) form
 written_many limit place count form many =
-    ap (λ (t : Bool). if t then InMemory (max (form_size form) (place + count)) else form_after_inner (min place (form_size form)) (place + count) form) (lt-leb (max (form_size form) (place + count)) limit many)
+    ap (λ (t : Bool). if t then InMemory (max (form_size form) (place + count)) else form_written_within (min place (form_size form)) (place + count) form) (lt-leb (max (form_size form) (place + count)) limit many)
 
 -- a write to contents in hand, by what it makes of the list and its base
 pub written_hand : (limit place count end base : ℕ) (flying : Bool) (size under : ℕ) (waits : Bool) → limit < max end base → size ≡ place + count

@@ -1,7 +1,7 @@
 -- Growth in steps.
 use Rattle.std.proofs.Common.{ℕ, ◌≡◌, ◌+◌, ◌⊎◌, inl, inr, ⊎_elim, get_or, List, ◌++◌, length, take, drop, Option, Some, None, refl, sym, ap, ◌∙◌, subst, arith, append_assoc, length-drop}
 use Rattle.std.specs.Prelude.{All, Contains}
-use Rattle.lfs_file.proofs.Common.{slice_get, take_all, take_at, take-append-drop, drop-append-add, All-append, Contains-append_left, Blocks, BlockState, BlockStates, IsFree, IsInFlight, Free, InFlight, Used, CallEvent, LossLeavesAtWorst, HoldsAtLosses, goes_on_by, AllCallsSince-weaker, GrowingList, kept_blocks, GrowsInFree, IsTakenWritten, KeepsTakenBytes, TakenStayUnprogrammed, ChangesOnlyFree}
+use Rattle.lfs_file.proofs.Common.{slice_get, take_all, take_at, take-append-drop, drop-append-add, All-append, Contains-append_left, Blocks, BlockState, BlockStates, IsFree, IsInFlight, Free, InFlight, Used, CallEvent, LossLeavesAtWorst, HoldsAtLosses, goes_on_by, AllCallsSince-weaker, GrowingList, lasting_blocks, GrowsInFree, IsTakenNotPending, KeepsTakenBytes, TakenStayUnprogrammed, ChangesOnlyFree}
 
 -- whether a block is free
 pub cases_free : (sets : BlockStates) (b : ℕ) → IsFree sets b ⊎ (¬ (IsFree sets b))
@@ -39,18 +39,18 @@ free_before a b k keeps free = ⊎_elim (λ was. was) (λ nf. absurd (nf (sym (k
 pub Spares-refl : (map : BlockStates) (pending : List ℕ) (d : Blocks) → KeepsTakenBytes map pending d d
 Spares-refl map pending d = record { count = refl; sizes = λ b. refl; same = λ b apart. refl }
 
-pub Spares-trans : (map later : BlockStates) (pending then : List ℕ) (a b c : Blocks) → ((k : ℕ) → IsTakenWritten map pending k → IsTakenWritten later then k) → KeepsTakenBytes map pending a b → KeepsTakenBytes later then b c → KeepsTakenBytes map pending a c
+pub Spares-trans : (map later : BlockStates) (pending then : List ℕ) (a b c : Blocks) → ((k : ℕ) → IsTakenNotPending map pending k → IsTakenNotPending later then k) → KeepsTakenBytes map pending a b → KeepsTakenBytes later then b c → KeepsTakenBytes map pending a c
 Spares-trans map later pending then a b c apart first second = record {
   count = second.count ∙ first.count;
   sizes = λ k. second.sizes k ∙ first.sizes k;
   same = λ k here. second.same k (apart k here) ∙ first.same k here;
 }
 
-pub TakenStayUnprogrammed-trans : (map later : BlockStates) (pending then : List ℕ) (a b c : List CallEvent) → ((k : ℕ) → IsTakenWritten map pending k → IsTakenWritten later then k) → TakenStayUnprogrammed map pending a b → TakenStayUnprogrammed later then b c → TakenStayUnprogrammed map pending a c
+pub TakenStayUnprogrammed-trans : (map later : BlockStates) (pending then : List ℕ) (a b c : List CallEvent) → ((k : ℕ) → IsTakenNotPending map pending k → IsTakenNotPending later then k) → TakenStayUnprogrammed map pending a b → TakenStayUnprogrammed later then b c → TakenStayUnprogrammed map pending a c
 TakenStayUnprogrammed-trans map later pending then a b c apart first second = record { stays = λ k i here was. second.stays k i (apart k here) (first.stays k i here was) }
 
 -- a stop in either of two stretches
-pub stops_trans : (map later : BlockStates) (pending then : List ℕ) (from to : Blocks) (a b c : List CallEvent) → ((k : ℕ) → IsTakenWritten map pending k → IsTakenWritten later then k)
+pub stops_trans : (map later : BlockStates) (pending then : List ℕ) (from to : Blocks) (a b c : List CallEvent) → ((k : ℕ) → IsTakenNotPending map pending k → IsTakenNotPending later then k)
     → HoldsAtLosses LossLeavesAtWorst a b (KeepsTakenBytes map pending from) → KeepsTakenBytes map pending from to → HoldsAtLosses LossLeavesAtWorst b c (KeepsTakenBytes later then to) → HoldsAtLosses LossLeavesAtWorst a c (KeepsTakenBytes map pending from)
 stops_trans map later pending then from to a b c apart first between second =
     goes_on_by first (AllCallsSince-weaker (λ e all left stop. Spares-trans map later pending then from to left apart between (all left stop)) second)
@@ -61,8 +61,8 @@ pub GrowsInFree-refl : (map : BlockStates) (d : Blocks) (g : GrowingList) → Gr
 GrowsInFree-refl map d g = record {
   apart = λ b here. here;
   flying = λ b is. inl is;
-  front = take_all (length (kept_blocks d g)) (kept_blocks d g) (omega arith);
-  fresh = λ k x l. absurd (omega (arith, l, length-drop (length (kept_blocks d g)) (kept_blocks d g)));
+  front = take_all (length (lasting_blocks d g)) (lasting_blocks d g) (omega arith);
+  fresh = λ k x l. absurd (omega (arith, l, length-drop (length (lasting_blocks d g)) (lasting_blocks d g)));
   count = refl;
 }
 
@@ -79,9 +79,9 @@ drop_front front rest = ap (λ n. drop n (front ++ rest)) (let z : length front 
 
 pub GrowsInFree-trans : (a b c : BlockStates) (d e f : Blocks) (g h i : GrowingList) → ChangesOnlyFree a b → GrowsInFree a d g b e h → GrowsInFree b e h c f i → GrowsInFree a d g c f i
 GrowsInFree-trans a b c d e f g h i keeps first second =
-    let x : List ℕ = kept_blocks d g in
-    let y : List ℕ = kept_blocks e h in
-    let z : List ℕ = kept_blocks f i in
+    let x : List ℕ = lasting_blocks d g in
+    let y : List ℕ = lasting_blocks e h in
+    let z : List ℕ = lasting_blocks f i in
     let all : z ≡ x ++ (drop (length x) y ++ drop (length y) z) =
     split y z second.front ∙ ap (λ (l : List ℕ). l ++ drop (length y) z) (split x y first.front) ∙ append_assoc x (drop (length x) y) (drop (length y) z) in
     record {

@@ -2,7 +2,7 @@
 use Rattle.std.proofs.Common.{ℕ, false, ◌≡◌, ◌≢◌, ◌+◌, ◌≤◌, inl, inr, ⊎_elim, nat_eq, get_or, List, [], ◌++◌, length, take, drop, Some, refl, sym, ap, ◌∙◌, subst, arith, length-drop}
 use Rattle.std.specs.Prelude.{All, Contains}
 use Rattle.std.specs.List.{IsDistinct}
-use Rattle.lfs_file.proofs.Common.{eqb-false, take-take, take-append-le, drop-append-le, take-append-drop, length-take, length-take-le, get_or-take, get_or-drop, All-append, All-contains, All-take, Contains-append_left, Contains-append_cases, apart_from_distinct, Blocks, BlockStates, IsFree, Free, Used, block_count_for, GrowingList, IsOnDisk, growing_blocks, rest_lacks_block, kept_blocks, unwritten_block, growing_size_with, unwritten_rest_block, GrowsInFree, IsTakenWritten, HasBlocksTaken, KeepsTakenBytes, blocks_of_list, SharesFirstBlocks, CanEndOver, IsFinishedList, ChangesOnlyFree, length_back}
+use Rattle.lfs_file.proofs.Common.{eqb-false, take-take, take-append-le, drop-append-le, take-append-drop, length-take, length-take-le, get_or-take, get_or-drop, All-append, All-contains, All-take, Contains-append_left, Contains-append_cases, apart_from_distinct, Blocks, BlockStates, IsFree, Free, Used, block_count_for, GrowingList, IsOnDisk, growing_blocks, rest_lacks_block, lasting_blocks, unwritten_block, growing_size_with, unwritten_rest_block, GrowsInFree, IsTakenNotPending, HasBlocksTaken, KeepsTakenBytes, blocks_of_list, SharesFirstBlocks, CanEndOver, IsFinishedList, ChangesOnlyFree, length_back}
 use Rattle.std.proofs.lemmas.Grind.{get_or_default_zero}
 use Rattle.lfs_file.specs.declared.rest.RestLocation.{RestLocation}
 use Rattle.lfs_file.specs.declared.rest.RestLocation.TheVariants.{Closed, Shared, Handed, Held}
@@ -36,12 +36,12 @@ distinct_parts n xs b distinct (i, lt, is) k x l same =
 -- ---- growth
 
 pub hand_grows : (map later : BlockStates) (d e : Blocks) (block_size : ℕ) (g h : GrowingList) (base : StoredList) (shared : ℕ) → SharesFirstBlocks map d block_size g base shared → KeepsTakenBytes map (unwritten_block g) d e → ChangesOnlyFree map later
-    → GrowsInFree map d g later e h → IsOnDisk e h → HasBlocksTaken later e h → growing_blocks e h ≡ kept_blocks e h → length (kept_blocks e h) ≡ block_count_for block_size (growing_size_with block_size h) → rest_lacks_block h ≡ false → CanEndOver later e block_size h base shared
+    → GrowsInFree map d g later e h → IsOnDisk e h → HasBlocksTaken later e h → growing_blocks e h ≡ lasting_blocks e h → length (lasting_blocks e h) ≡ block_count_for block_size (growing_size_with block_size h) → rest_lacks_block h ≡ false → CanEndOver later e block_size h base shared
 hand_grows map later d e block_size g h base shared begun spared keeps grown growing marked own many listed =
     let bb : List ℕ = blocks_of_list d block_size base.head base.size in
     let stay : blocks_of_list e block_size base.head base.size ≡ bb = blocks_stay map (unwritten_block g) d e block_size base.head base.size spared begun.apart in
-    let x : List ℕ = kept_blocks d g in
-    let y : List ℕ = kept_blocks e h in
+    let x : List ℕ = lasting_blocks d g in
+    let y : List ℕ = lasting_blocks e h in
     let all : y ≡ x ++ drop (length x) y = split x y grown.front in
     let size : length (take shared x) ≡ length (take shared bb) = ap length begun.front in
     let long = length_back d (block_count_for block_size base.size) base.head in
@@ -51,7 +51,7 @@ hand_grows map later d e block_size g h base shared begun spared keeps grown gro
         growing = growing;
         marked = marked;
         list = ⊎_elim (λ none. inl none) (λ list. inr (list_stays map (unwritten_block g) d e block_size base.head base.size spared begun.apart list)) begun.list;
-        apart = subst (All (IsTakenWritten later (unwritten_block h))) (sym stay) (λ k v l. grown.apart (get_or bb k v) (begun.apart k v l));
+        apart = subst (All (IsTakenNotPending later (unwritten_block h))) (sym stay) (λ k v l. grown.apart (get_or bb k v) (begun.apart k v l));
         few = begun.few;
         front = ap (take shared) all ∙ take-append-le shared x (drop (length x) y) few ∙ begun.front ∙ ap (take shared) (sym stay);
         behind = subst (λ (l : List ℕ). All (λ b. All (λ c. c ≢ b) l) (drop shared y)) (sym stay)
@@ -77,7 +77,7 @@ hand_grows map later d e block_size g h base shared begun spared keeps grown gro
 -- ---- the beginning
 
 pub begins : (map : BlockStates) (d : Blocks) (block_size : ℕ) (g : GrowingList) (base : StoredList) (full : ℕ) → IsFinishedList map d block_size base → IsOnDisk d g → unwritten_block g ≡ []
-    → kept_blocks d g ≡ take full (blocks_of_list d block_size base.head base.size) → g.full ≡ full → SharesFirstBlocks map d block_size g base full
+    → lasting_blocks d g ≡ take full (blocks_of_list d block_size base.head base.size) → g.full ≡ full → SharesFirstBlocks map d block_size g base full
 begins map d block_size g base full stored growing none kept is =
     let bb : List ℕ = blocks_of_list d block_size base.head base.size in
     let long = length_back d (block_count_for block_size base.size) base.head in
@@ -96,7 +96,7 @@ begins map d block_size g base full stored growing none kept is =
       apart = λ k x l. (stored.marked k x l, λ i y m. absurd (omega (arith, m)));
       few = omega arith;
       front = ap (take full) kept ∙ take-take full full bb (omega arith);
-      behind = λ k x l. absurd (omega (arith, l, length-drop full (kept_blocks d g), ap length kept));
+      behind = λ k x l. absurd (omega (arith, l, length-drop full (lasting_blocks d g), ap length kept));
       taken = λ b has used. Contains-take full bb b (subst (λ (l : List ℕ). Contains l b) kept has);
       flying = λ b flying. inr (stored.flying b flying);
     }
@@ -107,7 +107,7 @@ pending_none (Shared b) e = refl
 pending_none (Handed b) e = absurd (omega (arith, e))
 pending_none Held e = refl
 
-pub none_pending : (d : Blocks) (g : GrowingList) → kept_blocks d g ≡ [] → (unwritten_block g ≡ []) × (g.full ≡ 0)
+pub none_pending : (d : Blocks) (g : GrowingList) → lasting_blocks d g ≡ [] → (unwritten_block g ≡ []) × (g.full ≡ 0)
 none_pending d g none =
     let many = length-kept d g in
     let empty = ap length none in

@@ -1,10 +1,10 @@
 -- Blocks that aren't among those of a list.
 use Rattle.std.proofs.Common.{ℕ, ◌∙◌, ⊎_elim, List, ◌++◌, take, drop, subst}
 use Rattle.std.specs.Prelude.{Contains}
-use Rattle.lfs_file.proofs.Common.{take-append-drop, Contains-append_left, Contains-append_right, BlockState, BlockStates, KeepsOtherStates, PutsInState}
+use Rattle.lfs_file.proofs.Common.{take-append-drop, Contains-append_left, Contains-append_right, BlockState, BlockStates, KeepsOtherStates, SetsState}
 use Rattle.lfs_file.proofs.Takings.{member}
 
-pub puts_others : {state : BlockState} {old new : BlockStates} {bs : List ℕ} → PutsInState state old new bs → KeepsOtherStates old new bs
+pub puts_others : {state : BlockState} {old new : BlockStates} {bs : List ℕ} → SetsState state old new bs → KeepsOtherStates old new bs
 puts_others {bs = bs} puts = record {
   count = puts.count;
   others = λ b not. ⊎_elim (λ has. absurd (not has)) (λ apart. puts.others b apart) (member bs b);

@@ -1,7 +1,7 @@
 -- Which blocks of lists are used.
 use Rattle.std.proofs.Common.{ℕ, ◌≡◌, ⊎_elim, true, List, [], ◌++◌, refl, sym, ap, ◌∙◌, subst}
 use Rattle.std.specs.Prelude.{Contains}
-use Rattle.lfs_file.proofs.Common.{Contains-append_cases, Contains-append_right, Blocks, BlockStates, SharesFirstBlocks, CanEndOver, KeepsUsedBlocks, GrowingList, kept_blocks, unwritten_block, KeepsTakenBytes, blocks_of_list, AreUsedAmong, KeepsStoredBlocks, contents_blocks, stored_blocks, CanEndUnfinished}
+use Rattle.lfs_file.proofs.Common.{Contains-append_cases, Contains-append_right, Blocks, BlockStates, SharesFirstBlocks, CanEndOver, KeepsUsedBlocks, GrowingList, lasting_blocks, unwritten_block, KeepsTakenBytes, blocks_of_list, AreUsedAmong, KeepsStoredBlocks, contents_blocks, stored_blocks, CanEndUnfinished}
 use Rattle.lfs_device.specs.declared.geometry.Geometry.{Geometry}
 use Rattle.lfs_file.specs.BlockOwners.{AreFromBase}
 use Rattle.lfs_file.specs.declared.contents.WriterContents.TheVariants.{InHand}
@@ -56,7 +56,7 @@ owned_kept map later geometry now e f t u own same keeps first list =
 
 -- a list that ended over a base
 pub ends_over : (map later : BlockStates) (d e f : Blocks) (geometry now : Geometry) (h : GrowingList) (base : StoredList) (shared : ℕ) (s : StoredList) → now ≡ geometry → CanEndOver map e geometry.block_size h base shared → KeepsUsedBlocks map later
-    → blocks_of_list e geometry.block_size base.head base.size ≡ blocks_of_list d geometry.block_size base.head base.size → blocks_of_list f geometry.block_size s.head s.size ≡ kept_blocks e h → s.in_flight ≡ true
+    → blocks_of_list e geometry.block_size base.head base.size ≡ blocks_of_list d geometry.block_size base.head base.size → blocks_of_list f geometry.block_size s.head s.size ≡ lasting_blocks e h → s.in_flight ≡ true
     → AreFromBase later now.block_size d base f s
 ends_over map later d e f geometry now h base shared s same hand keeps stay list flying =
     subst (λ (k : Geometry). AreFromBase later k.block_size d base f s) (sym same)

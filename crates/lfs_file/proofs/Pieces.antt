@@ -1,7 +1,7 @@
 -- The bytes of a list, read from its blocks one after another.
 use Rattle.std.proofs.Common.{ℕ, ◌≡◌, ◌+◌, ◌-◌, ◌<◌, ◌≤◌, get_or, min, List, length, take, drop, slice_index, sym, ap, ◌∙◌, subst, arith, length-drop}
 use Rattle.std.specs.Prelude.{All, slice_range}
-use Rattle.lfs_file.proofs.Common.{get_or-drop, Blocks, HasBlockSizes, block_bytes, BlockStates, IsBytePlace, IsSkipList, block_count_for, list_bytes, length_back, IsTakenWritten, KeepsTakenBytes, blocks_of_list, part_of_bytes, place-lt}
+use Rattle.lfs_file.proofs.Common.{get_or-drop, Blocks, HasBlockSizes, block_bytes, BlockStates, IsBytePlace, IsSkipList, block_count_for, list_bytes, length_back, IsTakenNotPending, KeepsTakenBytes, blocks_of_list, part_of_bytes, place-lt}
 use Rattle.lfs_device.specs.declared.geometry.Geometry.{Geometry}
 use Rattle.lfs_model.proofs.ListSizes.{pointer_count-le}
 use Rattle.lfs_model.proofs.ListParts.{place-mono}
@@ -34,7 +34,7 @@ module _ (d : Blocks) (block_size count head size : ℕ) (large : 1024 ≤ block
       omega (arith, within, is, shape.count)
 
   -- what was read from a block that stands apart
-  pub piece : (map : BlockStates) (pending : List ℕ) (e : Blocks) (pos n i off block : ℕ) (taken : List ℕ) → KeepsTakenBytes map pending d e → All (IsTakenWritten map pending) (blocks_of_list d block_size head size)
+  pub piece : (map : BlockStates) (pending : List ℕ) (e : Blocks) (pos n i off block : ℕ) (taken : List ℕ) → KeepsTakenBytes map pending d e → All (IsTakenNotPending map pending) (blocks_of_list d block_size head size)
       → IsBytePlace block_size pos i off → pos < size → n ≡ min (block_size - off) (size - pos) → block ≡ slice_index (blocks_of_list d block_size head size) i
       → taken ≡ slice_range (block_bytes e block) off (off + n) → taken ≡ slice_range (list_bytes d block_size head size) pos (pos + n)
   piece map pending e pos n i off block taken spared apart place lt many is read =

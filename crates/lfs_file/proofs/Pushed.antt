@@ -1,16 +1,16 @@
 -- A list that grows by blocks that were taken for it.
 use Rattle.std.proofs.Common.{ℕ, ◌≡◌, ◌≢◌, ◌+◌, inl, inr, ⊎_elim, get_or, List, ◌++◌, length, take, drop, Some, refl, sym, ap, ◌∙◌, subst, arith, length-append}
 use Rattle.std.specs.Prelude.{All, Contains}
-use Rattle.lfs_file.proofs.Common.{take_at, drop-append-add, All-append, Contains-append_right, Blocks, SameExceptThese, BlockStates, IsFree, IsInFlight, in_flight_count, Free, InFlight, CallEvent, LossLeavesAtWorst, HoldsAtLosses, StayUnprogrammed, blocks_to_head, AllCallsSince-weaker, length_back, ChangesTheseBlocks, KeepsTakenBlocks, GrowingList, kept_blocks, unwritten_block, GrowsInFree, IsTakenWritten, HasBlocksTaken, KeepsTakenBytes, TakenStayUnprogrammed, TakesFreeBlocks}
+use Rattle.lfs_file.proofs.Common.{take_at, drop-append-add, All-append, Contains-append_right, Blocks, SameExceptThese, BlockStates, IsFree, IsInFlight, in_flight_count, Free, InFlight, CallEvent, LossLeavesAtWorst, HoldsAtLosses, StayUnprogrammed, blocks_to_head, AllCallsSince-weaker, length_back, ChangesTheseBlocks, KeepsTakenBlocks, GrowingList, lasting_blocks, unwritten_block, GrowsInFree, IsTakenNotPending, HasBlocksTaken, KeepsTakenBytes, TakenStayUnprogrammed, TakesFreeBlocks}
 use Rattle.lfs_device.specs.declared.device.BlockDevice.{Ghosts}
 use Rattle.lfs_file.proofs.Growth.{cases_in_flight}
 use Rattle.lfs_file.proofs.Takings.{came, others_stay}
 
-pub length-kept : (d : Blocks) (g : GrowingList) → length (kept_blocks d g) ≡ g.full + length (unwritten_block g)
+pub length-kept : (d : Blocks) (g : GrowingList) → length (lasting_blocks d g) ≡ g.full + length (unwritten_block g)
 length-kept d g = omega (arith, length-append (blocks_to_head d g.full g.head) (unwritten_block g), length_back d g.full g.head)
 
 -- what stands apart isn't among the blocks that are written
-apart_these : (map later : BlockStates) (pending blocks : List ℕ) → TakesFreeBlocks map later blocks → (b : ℕ) → IsTakenWritten map pending b → All (λ x. x ≢ b) (pending ++ blocks)
+apart_these : (map later : BlockStates) (pending blocks : List ℕ) → TakesFreeBlocks map later blocks → (b : ℕ) → IsTakenNotPending map pending b → All (λ x. x ≢ b) (pending ++ blocks)
 apart_these map later pending blocks takes b apart = All-append (λ x. x ≢ b) pending blocks apart.1 (λ k x l e. apart.0 (subst (IsFree map) e (takes.free k x l)))
 
 pub spares_by : (map later : BlockStates) (pending blocks : List ℕ) (d e : Blocks) → TakesFreeBlocks map later blocks → SameExceptThese (pending ++ blocks) d e → KeepsTakenBytes map pending d e
@@ -27,17 +27,17 @@ pub stops_by : (map later : BlockStates) (pending blocks : List ℕ) (d : Blocks
 stops_by map later pending blocks d a b takes leaves = AllCallsSince-weaker (λ e all left stop. spares_by map later pending blocks d left takes (all left stop)) leaves
 
 module _ (map later : BlockStates) (d e : Blocks) (g h : GrowingList) (blocks : List ℕ) (takes : TakesFreeBlocks map later blocks) (marked : HasBlocksTaken map d g)
-    (pending : (other : ℕ) → All (λ b. b ≢ other) (unwritten_block g ++ blocks) → All (λ b. b ≢ other) (unwritten_block h)) (kept : kept_blocks e h ≡ kept_blocks d g ++ blocks) where
+    (pending : (other : ℕ) → All (λ b. b ≢ other) (unwritten_block g ++ blocks) → All (λ b. b ≢ other) (unwritten_block h)) (kept : lasting_blocks e h ≡ lasting_blocks d g ++ blocks) where
   not_free : (b : ℕ) → ¬ (IsFree map b) → ¬ (IsFree later b)
   not_free b nf free = nf (sym (others_stay map later blocks takes b nf) ∙ free)
 
   pub grows : in_flight_count later ≡ in_flight_count map + length blocks → GrowsInFree map d g later e h
   grows flying = record {
     apart = λ b here. (not_free b here.0, pending b (apart_these map later (unwritten_block g) blocks takes b here));
-    flying = λ b is. ⊎_elim (λ was. inl was) (λ has. inr (subst (λ (l : List ℕ). Contains l b) (sym kept) (Contains-append_right (kept_blocks d g) blocks b has))) (came map later blocks takes b is);
-    front = ap (take (length (kept_blocks d g))) kept ∙ take_at (kept_blocks d g) blocks (length (kept_blocks d g)) refl;
-    fresh = subst (All (IsFree map)) (sym (ap (drop (length (kept_blocks d g))) kept ∙ ap (λ n. drop n (kept_blocks d g ++ blocks)) (let z : length (kept_blocks d g) ≡ length (kept_blocks d g) + 0 = omega arith in z) ∙ drop-append-add (kept_blocks d g) blocks 0)) takes.free;
-    count = omega (arith, flying, ap length kept, length-append (kept_blocks d g) blocks);
+    flying = λ b is. ⊎_elim (λ was. inl was) (λ has. inr (subst (λ (l : List ℕ). Contains l b) (sym kept) (Contains-append_right (lasting_blocks d g) blocks b has))) (came map later blocks takes b is);
+    front = ap (take (length (lasting_blocks d g))) kept ∙ take_at (lasting_blocks d g) blocks (length (lasting_blocks d g)) refl;
+    fresh = subst (All (IsFree map)) (sym (ap (drop (length (lasting_blocks d g))) kept ∙ ap (λ n. drop n (lasting_blocks d g ++ blocks)) (let z : length (lasting_blocks d g) ≡ length (lasting_blocks d g) + 0 = omega arith in z) ∙ drop-append-add (lasting_blocks d g) blocks 0)) takes.free;
+    count = omega (arith, flying, ap length kept, length-append (lasting_blocks d g) blocks);
   }
 
   flies : (b : ℕ) → IsInFlight map b → IsInFlight later b
@@ -47,8 +47,8 @@ module _ (map later : BlockStates) (d e : Blocks) (g h : GrowingList) (blocks : 
   marks count = record {
     count = takes.count ∙ marked.count ∙ sym count;
     kept = subst (All (λ b. ¬ (IsFree later b))) (sym kept)
-        (All-append (λ b. ¬ (IsFree later b)) (kept_blocks d g) blocks
-        (λ k x l. not_free (get_or (kept_blocks d g) k x) (marked.kept k x l))
+        (All-append (λ b. ¬ (IsFree later b)) (lasting_blocks d g) blocks
+        (λ k x l. not_free (get_or (lasting_blocks d g) k x) (marked.kept k x l))
         (λ k x l free. let both : Some Free ≡ Some InFlight = sym free ∙ takes.taken k x l in cc));
     pending = λ k x l. ⊎_elim
         (λ is. is)

@@ -2,7 +2,7 @@
 use Rattle.std.proofs.Common.{ℕ, false, suc, ◌≡◌, ◌≢◌, ◌+◌, ◌-◌, ◌<◌, ◌≤◌, ⊎_elim, nat_eq, get_or, List, [], ◌∷◌, ◌++◌, length, take, slice_index, refl, sym, ap, subst, ◌∙◌, arith, append_assoc, length-append}
 use Rattle.std.specs.Prelude.{All}
 use Rattle.std.specs.List.{IsDistinct}
-use Rattle.lfs_file.proofs.Common.{cases_lt, eqb-false, append-nil, get_or_append_left, get_or-take, length-take-le, take_more, get_or_default, All-cons, All-nil, apart_from_distinct, Blocks, CallEvent, StayUnprogrammed, StayUnprogrammed-trans, block_capacity, blocks_to_head, block_count_for, GrowingList, unwritten_rest_block, rest_block, rest_lacks_block, lacks_last_block, unwritten_block, kept_blocks, growing_blocks, growing_size_with, block_for_next, IsRestAt, IsOnDisk}
+use Rattle.lfs_file.proofs.Common.{cases_lt, eqb-false, append-nil, get_or_append_left, get_or-take, length-take-le, take_more, get_or_default, All-cons, All-nil, apart_from_distinct, Blocks, CallEvent, StayUnprogrammed, StayUnprogrammed-trans, block_capacity, blocks_to_head, block_count_for, GrowingList, unwritten_rest_block, rest_block, rest_lacks_block, lacks_last_block, unwritten_block, lasting_blocks, growing_blocks, growing_size_with, block_for_next, IsRestAt, IsOnDisk}
 use Rattle.std.proofs.lemmas.List.{get_or-append-add}
 use Rattle.lfs_model.proofs.Histories.{StayUnprogrammed-wider}
 use Rattle.lfs_file.specs.declared.rest.RestLocation.{RestLocation}
@@ -83,7 +83,7 @@ next_kept Held back front blocks used some is = one_used back front blocks used 
 -- ---- how many are used
 
 -- the full blocks and the pending one
-pub kept_count : (d e : Blocks) (was now : GrowingList) (blocks : List ℕ) (used : ℕ) → used ≤ length blocks → kept_blocks e now ≡ kept_blocks d was ++ take used blocks
+pub kept_count : (d e : Blocks) (was now : GrowingList) (blocks : List ℕ) (used : ℕ) → used ≤ length blocks → lasting_blocks e now ≡ lasting_blocks d was ++ take used blocks
     → now.full + length (unwritten_block now) ≡ was.full + length (unwritten_block was) + used
 kept_count d e was now blocks used le is =
     omega (
@@ -91,14 +91,14 @@ kept_count d e was now blocks used le is =
       ap length is,
       length-append (blocks_to_head e now.full now.head) (unwritten_block now),
       length-append (blocks_to_head d was.full was.head) (unwritten_block was),
-      length-append (kept_blocks d was) (take used blocks),
+      length-append (lasting_blocks d was) (take used blocks),
       length_back e now.full now.head,
       length_back d was.full was.head,
       length-take-le used blocks le,
     )
 
 -- while bytes are left and no block is pending there is one to take
-pub still_some : (d e : Blocks) (block_size : ℕ) (was now : GrowingList) (blocks : List ℕ) (used done total : ℕ) → 1024 ≤ block_size → used ≤ length blocks → kept_blocks e now ≡ kept_blocks d was ++ take used blocks
+pub still_some : (d e : Blocks) (block_size : ℕ) (was now : GrowingList) (blocks : List ℕ) (used done total : ℕ) → 1024 ≤ block_size → used ≤ length blocks → lasting_blocks e now ≡ lasting_blocks d was ++ take used blocks
     → length blocks ≡ block_count_for block_size (growing_size_with block_size was + total) - (was.full + length (unwritten_block was)) → growing_size_with block_size now ≡ growing_size_with block_size was + done → done < total → unwritten_block now ≡ [] → used < length blocks
 still_some d e block_size was now blocks used done total large le is count sum less none =
     let counted = kept_count d e was now blocks used le is in
@@ -106,7 +106,7 @@ still_some d e block_size was now blocks used done total large le is count sum l
     omega (arith, counted, more, count, ap length none)
 
 -- at the end all are used
-size_fits : (d : Blocks) (block_size : ℕ) (g : GrowingList) → 1024 ≤ block_size → IsOnDisk d g → length g.rest < block_capacity block_size g.full → growing_blocks d g ≡ kept_blocks d g → rest_lacks_block g ≡ false
+size_fits : (d : Blocks) (block_size : ℕ) (g : GrowingList) → 1024 ≤ block_size → IsOnDisk d g → length g.rest < block_capacity block_size g.full → growing_blocks d g ≡ lasting_blocks d g → rest_lacks_block g ≡ false
     → block_count_for block_size (growing_size_with block_size g) ≤ g.full + length (unwritten_block g)
 size_fits d block_size g large held short own listed = go g.stand held.stand listed own
   where
@@ -118,8 +118,8 @@ size_fits d block_size g large held short own listed = go g.stand held.stand lis
     go (Handed b) handed out e = let w = block_count_for-within block_size (growing_size_with block_size g) (suc g.full) large (omega arith) in omega arith
     go Held none out e = absurd (cc)
 
-pub all_used : (d e : Blocks) (block_size : ℕ) (was now : GrowingList) (blocks : List ℕ) (used total : ℕ) → 1024 ≤ block_size → used ≤ length blocks → kept_blocks e now ≡ kept_blocks d was ++ take used blocks
-    → length blocks ≡ block_count_for block_size (growing_size_with block_size was + total) - (was.full + length (unwritten_block was)) → growing_size_with block_size now ≡ growing_size_with block_size was + total → IsOnDisk e now → length now.rest < block_capacity block_size now.full → growing_blocks e now ≡ kept_blocks e now
+pub all_used : (d e : Blocks) (block_size : ℕ) (was now : GrowingList) (blocks : List ℕ) (used total : ℕ) → 1024 ≤ block_size → used ≤ length blocks → lasting_blocks e now ≡ lasting_blocks d was ++ take used blocks
+    → length blocks ≡ block_count_for block_size (growing_size_with block_size was + total) - (was.full + length (unwritten_block was)) → growing_size_with block_size now ≡ growing_size_with block_size was + total → IsOnDisk e now → length now.rest < block_capacity block_size now.full → growing_blocks e now ≡ lasting_blocks e now
     → rest_lacks_block now ≡ false → length blocks ≤ used
 all_used d e block_size was now blocks used total large le is count sum held short own listed =
     let counted = kept_count d e was now blocks used le is in

@@ -1,7 +1,7 @@
 -- What a writer holds is room for its next write, for a truncation, and for ending its list.
 use Rattle.std.proofs.Common.{ℕ, ◌≡◌, ◌+◌, ◌*◌, ◌<◌, ◌≤◌, ⊎_elim, Bool, true, false, if◌then◌else◌, max, min, List, ◌∷◌, length, sym, ap, subst, arith}
 use Rattle.std.specs.Prelude.{◌==◌}
-use Rattle.lfs_file.proofs.Common.{cases_lt, inline_limit, block_count_for, FileWriter, reserved_for_writer, truncated_writer, written_writer, write_position, ContentsForm, InMemory, Finished, InHand, form_size, form_after_inner, IsWriterForm, truncation_room, write_room}
+use Rattle.lfs_file.proofs.Common.{cases_lt, inline_limit, block_count_for, FileWriter, reserved_for_writer, truncated_writer, written_writer, write_position, ContentsForm, InMemory, Finished, InHand, form_size, form_written_within, IsWriterForm, truncation_room, write_room}
 use Rattle.lfs_model.specs.declared.limits.Profile.{Profile}
 use Rattle.lfs_file.specs.Contents.{FormFitsInline, NeedsTruncateRoom, finish_room}
 use Rattle.lfs_file.proofs.Forms.{kept_truncated, kept_written, room_ended, room_grown, room_turned, written_many}
@@ -28,7 +28,7 @@ either_room : (profile : Profile) (t : Bool) (block_size stop end base : ℕ) (f
 either_room profile true block_size stop end base flying v used all kept room = let e = room_grown profile block_size stop base flying v used all kept room in omega arith
 either_room profile false block_size stop end base flying v used all kept room = room_turned profile block_size stop (max end base) v used all kept room
 
-grown_room : (profile : Profile) (block_size place count : ℕ) (form : ContentsForm) (v : FileWriter) (used all : ℕ) → IsWriterForm profile block_size (form_after_inner (min place (form_size form)) (place + count) form) v → used + reserved_for_writer profile block_size v ≤ all → used + write_room block_size place count form ≤ all
+grown_room : (profile : Profile) (block_size place count : ℕ) (form : ContentsForm) (v : FileWriter) (used all : ℕ) → IsWriterForm profile block_size (form_written_within (min place (form_size form)) (place + count) form) v → used + reserved_for_writer profile block_size v ≤ all → used + write_room block_size place count form ≤ all
 grown_room profile block_size place count (InMemory size) v used all kept room = let e = room_grown profile block_size (place + count) 0 false v used all kept room in omega arith
 grown_room profile block_size place count (Finished size flying) v used all kept room = let e = room_grown profile block_size (place + count) size flying v used all kept room in omega arith
 grown_room profile block_size place count (InHand end base flying) v used all kept room = either_room profile (end == min place (max end base)) block_size (place + count) end base flying v used all kept room

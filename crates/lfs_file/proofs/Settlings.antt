@@ -1,6 +1,6 @@
 -- Blocks of a list that take another state, one after another.
 use Rattle.std.proofs.Common.{ℕ, suc, ◌≡◌, ◌≢◌, ◌+◌, ◌-◌, ◌<◌, ◌⊎◌, inl, inr, ⊎_elim, get_or, set, List, [], ◌∷◌, length, drop, Some, Result, Err, slice_index, refl, sym, ap, ◌∙◌, subst, arith}
-use Rattle.lfs_file.proofs.Common.{slice_get, cases_eq, length-set, slice_get-get_or, All-cons, All-contains, Blocks, BlockState, BlockStates, IsUsedBlock, Free, InFlight, Used, blocks_to_head, slice_get-set_same, slice_get-set_other, head_of_back, SettlesList, PutsInState}
+use Rattle.lfs_file.proofs.Common.{slice_get, cases_eq, length-set, slice_get-get_or, All-cons, All-contains, Blocks, BlockState, BlockStates, IsUsedBlock, Free, InFlight, Used, blocks_to_head, slice_get-set_same, slice_get-set_other, head_of_back, SettlesList, SetsState}
 use Rattle.lfs_device.specs.declared.error.Error.{Error}
 use Rattle.lfs_file.proofs.Releasings.{drop_here}
 
@@ -16,11 +16,11 @@ never_corrupt x (inl is) other = is
 never_corrupt x (inr is) other = absurd (other (ap Err is))
 
 module _ (state : BlockState) where
-  pub puts_none : (sets : BlockStates) → PutsInState state sets sets []
+  pub puts_none : (sets : BlockStates) → SetsState state sets sets []
   puts_none sets = record { count = refl; put = λ k x l. absurd (omega (arith, l)); others = λ b apart. refl }
 
   -- a block is set to it
-  pub puts_one : (sets new : BlockStates) (b : ℕ) → b < length sets → new ≡ set sets b state → PutsInState state sets new (b ∷ [])
+  pub puts_one : (sets new : BlockStates) (b : ℕ) → b < length sets → new ≡ set sets b state → SetsState state sets new (b ∷ [])
   puts_one sets new b lt is = record {
     count = ap length is ∙ length-set sets b state;
     put = All-cons (λ x. slice_get new x ≡ Some state) b [] (ap (λ m. slice_get m b) is ∙ slice_get-set_same sets b state lt) (λ k x l. absurd (omega (arith, l)));
@@ -28,7 +28,7 @@ module _ (state : BlockState) where
   }
 
   -- a block is in it already
-  pub puts_kept : (sets new : BlockStates) (b : ℕ) → slice_get sets b ≡ Some state → new ≡ sets → PutsInState state sets new (b ∷ [])
+  pub puts_kept : (sets new : BlockStates) (b : ℕ) → slice_get sets b ≡ Some state → new ≡ sets → SetsState state sets new (b ∷ [])
   puts_kept sets new b here is = record {
     count = ap length is;
     put = All-cons (λ x. slice_get new x ≡ Some state) b [] (ap (λ m. slice_get m b) is ∙ here) (λ k x l. absurd (omega (arith, l)));
@@ -36,7 +36,7 @@ module _ (state : BlockState) where
   }
 
   -- one more
-  pub puts_more : (old mid new : BlockStates) (b : ℕ) (bs : List ℕ) → PutsInState state old mid bs → PutsInState state mid new (b ∷ []) → PutsInState state old new (b ∷ bs)
+  pub puts_more : (old mid new : BlockStates) (b : ℕ) (bs : List ℕ) → SetsState state old mid bs → SetsState state mid new (b ∷ []) → SetsState state old new (b ∷ bs)
   puts_more old mid new b bs first second =
       let here : slice_get new b ≡ Some state = second.put 0 0 (omega arith) in
       let there : (other : ℕ) → other ≢ b → slice_get new other ≡ slice_get mid other = λ other ne. second.others other (All-cons (λ x. x ≢ other) b [] (λ e. ne (sym e)) (λ k x l. absurd (omega (arith, l)))) in
@@ -51,13 +51,13 @@ module _ (state : BlockState) where
 
   -- a block more of a list
   pub puts_here : (old mid new : BlockStates) (d : Blocks) (count head index block : ℕ) → index < count → block ≡ slice_index (blocks_to_head d count head) index
-      → PutsInState state old mid (drop (index + 1) (blocks_to_head d count head)) → PutsInState state mid new (block ∷ []) → PutsInState state old new (drop index (blocks_to_head d count head))
+      → SetsState state old mid (drop (index + 1) (blocks_to_head d count head)) → SetsState state mid new (block ∷ []) → SetsState state old new (drop index (blocks_to_head d count head))
   puts_here old mid new d count head index block lt is first second =
-      subst (λ (l : List ℕ). PutsInState state old new l) (ap (λ b. b ∷ drop (index + 1) (blocks_to_head d count head)) is ∙ sym (drop_here d count head index lt))
+      subst (λ (l : List ℕ). SetsState state old new l) (ap (λ b. b ∷ drop (index + 1) (blocks_to_head d count head)) is ∙ sym (drop_here d count head index lt))
       (puts_more old mid new block (drop (index + 1) (blocks_to_head d count head)) first second)
 
 -- one list is freed, and then another one used
-pub settles : (old mid new : BlockStates) (gone kept : List ℕ) → PutsInState Free old mid gone → PutsInState Used mid new kept → SettlesList old new gone kept
+pub settles : (old mid new : BlockStates) (gone kept : List ℕ) → SetsState Free old mid gone → SetsState Used mid new kept → SettlesList old new gone kept
 settles old mid new gone kept first second = record {
   count = second.count ∙ first.count;
   used = second.put;

@@ -1,7 +1,7 @@
 -- What two lists of blocks share.
 use Rattle.std.proofs.Common.{ℕ, zero, suc, ◌≡◌, ◌≢◌, ◌+◌, ◌-◌, ◌<◌, ◌≤◌, nat_eq, ⊎_elim, get_or, List, [], ◌∷◌, ◌++◌, take, drop, Some, slice_index, refl, sym, ap, ◌∙◌, subst, arith, length-drop}
 use Rattle.std.specs.Prelude.{All, Contains}
-use Rattle.lfs_file.proofs.Common.{slice_get, cases_lt, get_or-take, take-append-drop, take_more, All-contains, Contains-append_cases, Contains-append_left, Blocks, block_bytes, BlockStates, IsUsedBlock, Free, Used, AreListBlocks, blocks_to_head, word_at, number_occurrences-Contains, number_occurrences, length_back, SettlesList, PutsInState, IsSharedCount}
+use Rattle.lfs_file.proofs.Common.{slice_get, cases_lt, get_or-take, take-append-drop, take_more, All-contains, Contains-append_cases, Contains-append_left, Blocks, block_bytes, BlockStates, IsUsedBlock, Free, Used, AreListBlocks, blocks_to_head, word_at, number_occurrences-Contains, number_occurrences, length_back, SettlesList, SetsState, IsSharedCount}
 use Rattle.std.specs.List.{IsDistinct}
 use Rattle.std.proofs.lemmas.List.Elements.{Contains-get_or}
 use Rattle.lfs_model.proofs.Counts.{count_append, once_from_distinct}
@@ -105,7 +105,7 @@ not_behind n xs b distinct front =
     (λ away. away) (member (drop n xs) b)
 
 module _ (old mid new : BlockStates) (gone kept : List ℕ) (n : ℕ) (distinct : IsDistinct nat_eq gone) (same : take n gone ≡ take n kept) (shared : AreSharedUsed old gone kept)
-    (first : PutsInState Free old mid (drop n gone)) (second : PutsInState Used mid new (drop n kept)) where
+    (first : SetsState Free old mid (drop n gone)) (second : SetsState Used mid new (drop n kept)) where
   used_at : (b : ℕ) → Contains kept b → IsUsedBlock new b
   used_at b has =
       ⊎_elim

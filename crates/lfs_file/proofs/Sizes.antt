@@ -8,7 +8,7 @@ use lib.Count.{ones, ones_step, ones-le, count_trailing_zeros, trailing_le}
 pub use Rattle.lfs_model.proofs.ListSizes.{block_capacity-pos, pointer_count-le}
 pub use Rattle.lfs_model.proofs.ListParts.{bytes_before_block-more, place-lt, place-mono}
 use Rattle.lfs_file.proofs.TrailingZeros.{zeros_even, zeros_odd}
-use Rattle.lfs_model.specs.format.SkipLists.{blocks_from_index}
+use Rattle.lfs_model.specs.format.SkipLists.{block_count_from}
 
 -- ---- the ones of a number and of the next one differ by its zeros behind
 
@@ -113,39 +113,39 @@ bytes_before_block-least block_size (suc i) large =
     let one = block_capacity-pos block_size i large in
     omega arith
 
-blocks_from_index-none : (steps block_size i : ℕ) → blocks_from_index steps block_size i 0 ≡ 0
-blocks_from_index-none zero block_size i = refl
-blocks_from_index-none (suc steps) block_size i = refl
+block_count_from-none : (steps block_size i : ℕ) → block_count_from steps block_size i 0 ≡ 0
+block_count_from-none zero block_size i = refl
+block_count_from-none (suc steps) block_size i = refl
 
-blocks_from_index-some : (steps block_size i size : ℕ) → 1 ≤ size → blocks_from_index (suc steps) block_size i size ≡ 1 + blocks_from_index steps block_size (i + 1) (size - block_capacity block_size i)
-blocks_from_index-some steps block_size i size some =
+block_count_from-some : (steps block_size i size : ℕ) → 1 ≤ size → block_count_from (suc steps) block_size i size ≡ 1 + block_count_from steps block_size (i + 1) (size - block_capacity block_size i)
+block_count_from-some steps block_size i size some =
     let no : (size == 0) ≡ false = grind (arith, nat_tests) in
-    ap (λ t. if t then 0 else 1 + blocks_from_index steps block_size (i + 1) (size - block_capacity block_size i)) no
+    ap (λ t. if t then 0 else 1 + block_count_from steps block_size (i + 1) (size - block_capacity block_size i)) no
 
 -- counted from block i on, up to the block n in which the last byte stands
-blocks_from_index-last : (block_size n total : ℕ) → 1024 ≤ block_size → bytes_before_block block_size n < total → total ≤ bytes_before_block block_size n + block_capacity block_size n
-    → (steps i rest : ℕ) → i ≤ n → rest ≤ steps → bytes_before_block block_size i + rest ≡ total → i + blocks_from_index steps block_size i rest ≡ suc n
-blocks_from_index-last block_size n total large above within steps i zero le enough is = let more = bytes_before_block-more block_size i n le in absurd (omega arith)
-blocks_from_index-last block_size n total large above within zero i (suc rest) le enough is = absurd (omega arith)
-blocks_from_index-last block_size n total large above within (suc steps) i (suc rest) le enough is =
+block_count_from-last : (block_size n total : ℕ) → 1024 ≤ block_size → bytes_before_block block_size n < total → total ≤ bytes_before_block block_size n + block_capacity block_size n
+    → (steps i rest : ℕ) → i ≤ n → rest ≤ steps → bytes_before_block block_size i + rest ≡ total → i + block_count_from steps block_size i rest ≡ suc n
+block_count_from-last block_size n total large above within steps i zero le enough is = let more = bytes_before_block-more block_size i n le in absurd (omega arith)
+block_count_from-last block_size n total large above within zero i (suc rest) le enough is = absurd (omega arith)
+block_count_from-last block_size n total large above within (suc steps) i (suc rest) le enough is =
     ⊎_elim
     (λ inside.
     let more = bytes_before_block-more block_size (suc i) n (omega arith) in
     let one = block_capacity-pos block_size i large in
-    let next : suc i + blocks_from_index steps block_size (suc i) (suc rest - block_capacity block_size i) ≡ suc n =
-    blocks_from_index-last block_size n total large above within steps (suc i) (suc rest - block_capacity block_size i) (omega arith) (omega arith) (omega arith) in
-    omega (arith, blocks_from_index-some steps block_size i (suc rest) (omega arith), ap (λ k. blocks_from_index steps block_size k (suc rest - block_capacity block_size i)) (add-one i)))
+    let next : suc i + block_count_from steps block_size (suc i) (suc rest - block_capacity block_size i) ≡ suc n =
+    block_count_from-last block_size n total large above within steps (suc i) (suc rest - block_capacity block_size i) (omega arith) (omega arith) (omega arith) in
+    omega (arith, block_count_from-some steps block_size i (suc rest) (omega arith), ap (λ k. block_count_from steps block_size k (suc rest - block_capacity block_size i)) (add-one i)))
     (λ last.
     let same : i ≡ n = omega arith in
     let here : suc rest ≤ block_capacity block_size i = subst (λ k. bytes_before_block block_size k + suc rest ≡ total → suc rest ≤ block_capacity block_size k) (sym same) (λ e. omega arith) is in
     let none : suc rest - block_capacity block_size i ≡ 0 = omega arith in
-    omega (arith, blocks_from_index-some steps block_size i (suc rest) (omega arith), ap (blocks_from_index steps block_size (i + 1)) none, blocks_from_index-none steps block_size (i + 1)))
+    omega (arith, block_count_from-some steps block_size i (suc rest) (omega arith), ap (block_count_from steps block_size (i + 1)) none, block_count_from-none steps block_size (i + 1)))
     (cases_lt i n)
 
 -- the byte before the end is in the last block
 pub block_count_for-place : (block_size size index offset : ℕ) → 1024 ≤ block_size → 1 ≤ size → IsBytePlace block_size (size - 1) index offset → block_count_for block_size size ≡ index + 1
 block_count_for-place block_size size index offset large some is =
-    let counted = blocks_from_index-last block_size index size large (omega arith) (omega arith) size 0 size (omega arith) (omega arith) (omega arith) in
+    let counted = block_count_from-last block_size index size large (omega arith) (omega arith) size 0 size (omega arith) (omega arith) (omega arith) in
     omega arith
 
 -- a list has fewer blocks than bytes

@@ -1,10 +1,10 @@
 -- Used blocks, which stand apart from each list in hand.
 use Rattle.std.proofs.Common.{ℕ, ◌≡◌, List, Some, refl, sym, ◌∙◌, subst}
-use Rattle.lfs_file.proofs.Common.{Blocks, SameExceptThese, BlockStates, IsInFlight, IsUsedBlock, Free, InFlight, Used, CallEvent, LossLeavesAtWorst, HoldsAtLosses, StayUnprogrammed, AllCallsSince-weaker, goes_on_by, GrowingList, unwritten_block, IsTakenWritten, HasBlocksTaken, KeepsTakenBytes, TakenStayUnprogrammed, KeepsUsedBlocks, KeepsUsedBytes, ReleasesInFlight, ChangesOnlyFree}
+use Rattle.lfs_file.proofs.Common.{Blocks, SameExceptThese, BlockStates, IsInFlight, IsUsedBlock, Free, InFlight, Used, CallEvent, LossLeavesAtWorst, HoldsAtLosses, StayUnprogrammed, AllCallsSince-weaker, goes_on_by, GrowingList, unwritten_block, IsTakenNotPending, HasBlocksTaken, KeepsTakenBytes, TakenStayUnprogrammed, KeepsUsedBlocks, KeepsUsedBytes, ReleasesInFlight, ChangesOnlyFree}
 use Rattle.lfs_file.specs.Hand.{UsedStayUnprogrammed}
 
 module _ (map : BlockStates) (at : Blocks) (g : GrowingList) (marked : HasBlocksTaken map at g) where
-  used_apart : (b : ℕ) → IsUsedBlock map b → IsTakenWritten map (unwritten_block g) b
+  used_apart : (b : ℕ) → IsUsedBlock map b → IsTakenNotPending map (unwritten_block g) b
   used_apart b used = (
     λ free. let both : Some Free ≡ Some Used = sym free ∙ used in cc,
     λ k x l same. let both : Some InFlight ≡ Some Used = sym (subst (IsInFlight map) same (marked.pending k x l)) ∙ used in cc,

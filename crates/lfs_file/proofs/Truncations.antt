@@ -1,7 +1,7 @@
 -- What a truncation makes of the contents, and which form it leaves.
 use Rattle.std.proofs.Common.{ℕ, ◌≡◌, ◌≢◌, ◌+◌, ◌*◌, ◌-◌, ◌<◌, ◌≤◌, ⊎_elim, Bool, true, false, if◌then◌else◌, max, min, List, [], length, take, replicate, sym, ap, ◌∙◌, arith}
 use Rattle.std.specs.Prelude.{nat_le, nat_lt, ◌==◌}
-use Rattle.lfs_file.proofs.Common.{cases_eq, cases_lt, eq-eqb, ne_eqb, le-leb, lt-leb, append-nil, length-replicate, length-take-le, take_all, block_count_for, written_contents, zero_padded, truncation_room, ContentsForm, InMemory, Finished, InHand, form_size, form_after_inner, shortened_form, truncated_form}
+use Rattle.lfs_file.proofs.Common.{cases_eq, cases_lt, eq-eqb, ne_eqb, le-leb, lt-leb, append-nil, length-replicate, length-take-le, take_all, block_count_for, written_contents, zero_padded, truncation_room, ContentsForm, InMemory, Finished, InHand, form_size, form_written_within, shortened_form, truncated_form}
 use Rattle.std.proofs.lemmas.Bool.{lt-ltb, le-ltb}
 use Rattle.std.proofs.Common.{length-append}
 use Rattle.lfs_file.proofs.Flights.{at_end, zeros_not}
@@ -37,15 +37,15 @@ resized_none old size is = sym (take_all size old (omega arith)) ∙ shortened_b
 
 pub truncated_same : (limit size : ℕ) (form : ContentsForm) → size ≡ form_size form → form ≡ truncated_form limit size form
 truncated_same limit size form is =
-    sym (ap (λ (t : Bool). if t then form else (if nat_le size limit then InMemory size else (if nat_lt (form_size form) size then form_after_inner (form_size form) size form else shortened_form size form))) (eq-eqb size (form_size form) is))
+    sym (ap (λ (t : Bool). if t then form else (if nat_le size limit then InMemory size else (if nat_lt (form_size form) size then form_written_within (form_size form) size form else shortened_form size form))) (eq-eqb size (form_size form) is))
 
-truncated_other : (limit size : ℕ) (form : ContentsForm) → size ≢ form_size form → truncated_form limit size form ≡ (if nat_le size limit then InMemory size else (if nat_lt (form_size form) size then form_after_inner (form_size form) size form else shortened_form size form))
+truncated_other : (limit size : ℕ) (form : ContentsForm) → size ≢ form_size form → truncated_form limit size form ≡ (if nat_le size limit then InMemory size else (if nat_lt (form_size form) size then form_written_within (form_size form) size form else shortened_form size form))
 truncated_other limit size form ne =
-    ap (λ (t : Bool). if t then form else (if nat_le size limit then InMemory size else (if nat_lt (form_size form) size then form_after_inner (form_size form) size form else shortened_form size form))) (ne_eqb size (form_size form) ne)
+    ap (λ (t : Bool). if t then form else (if nat_le size limit then InMemory size else (if nat_lt (form_size form) size then form_written_within (form_size form) size form else shortened_form size form))) (ne_eqb size (form_size form) ne)
 
 pub truncated_few : (limit size : ℕ) (form : ContentsForm) → size ≢ form_size form → size ≤ limit → InMemory size ≡ truncated_form limit size form
 truncated_few limit size form ne few =
-    sym (truncated_other limit size form ne ∙ ap (λ (t : Bool). if t then InMemory size else (if nat_lt (form_size form) size then form_after_inner (form_size form) size form else shortened_form size form)) (le-leb size limit few))
+    sym (truncated_other limit size form ne ∙ ap (λ (t : Bool). if t then InMemory size else (if nat_lt (form_size form) size then form_written_within (form_size form) size form else shortened_form size form)) (le-leb size limit few))
 
 pub truncated_held : (limit size old : ℕ) → size ≤ limit → InMemory size ≡ truncated_form limit size (InMemory old)
 truncated_held limit size old few = ⊎_elim
@@ -53,17 +53,17 @@ truncated_held limit size old few = ⊎_elim
     (λ ne. truncated_few limit size (InMemory old) ne few)
     (cases_eq size old)
 
-truncated_many : (limit size : ℕ) (form : ContentsForm) → size ≢ form_size form → limit < size → truncated_form limit size form ≡ (if nat_lt (form_size form) size then form_after_inner (form_size form) size form else shortened_form size form)
+truncated_many : (limit size : ℕ) (form : ContentsForm) → size ≢ form_size form → limit < size → truncated_form limit size form ≡ (if nat_lt (form_size form) size then form_written_within (form_size form) size form else shortened_form size form)
 truncated_many limit size form ne many =
-    truncated_other limit size form ne ∙ ap (λ (t : Bool). if t then InMemory size else (if nat_lt (form_size form) size then form_after_inner (form_size form) size form else shortened_form size form)) (lt-leb size limit many)
+    truncated_other limit size form ne ∙ ap (λ (t : Bool). if t then InMemory size else (if nat_lt (form_size form) size then form_written_within (form_size form) size form else shortened_form size form)) (lt-leb size limit many)
 
-pub truncated_longer : (limit size : ℕ) (form : ContentsForm) → form_size form < size → limit < size → form_after_inner (form_size form) size form ≡ truncated_form limit size form
+pub truncated_longer : (limit size : ℕ) (form : ContentsForm) → form_size form < size → limit < size → form_written_within (form_size form) size form ≡ truncated_form limit size form
 truncated_longer limit size form more many =
-    sym (truncated_many limit size form (omega arith) many ∙ ap (λ (t : Bool). if t then form_after_inner (form_size form) size form else shortened_form size form) (lt-ltb (form_size form) size more))
+    sym (truncated_many limit size form (omega arith) many ∙ ap (λ (t : Bool). if t then form_written_within (form_size form) size form else shortened_form size form) (lt-ltb (form_size form) size more))
 
 pub truncated_cut : (limit size : ℕ) (form : ContentsForm) → size < form_size form → limit < size → shortened_form size form ≡ truncated_form limit size form
 truncated_cut limit size form less many =
-    sym (truncated_many limit size form (omega arith) many ∙ ap (λ (t : Bool). if t then form_after_inner (form_size form) size form else shortened_form size form) (le-ltb (form_size form) size (omega arith)))
+    sym (truncated_many limit size form (omega arith) many ∙ ap (λ (t : Bool). if t then form_written_within (form_size form) size form else shortened_form size form) (le-ltb (form_size form) size (omega arith)))
 
 -- contents in hand are ended where they are cut
 pub truncated_ended : (limit size end base : ℕ) (flying : Bool) → size < max end base → truncated_form limit size (Finished (max end base) true) ≡ truncated_form limit size (InHand end base flying)

@@ -1,6 +1,6 @@
 -- Bytes that are written in memory, in the block that waits for them.
 use Rattle.std.proofs.Common.{ℕ, suc, ◌≡◌, ◌+◌, ◌<◌, true, List, ◌++◌, length, drop, refl, sym, ap, ◌∙◌, subst, arith, length-append, append_assoc}
-use Rattle.lfs_file.proofs.Common.{and_parts, ltb-true, Blocks, HasBlockSizes, BlockStates, block_capacity, block_count_for, blocks_to_head, written_contents, block_count_for-more, IsRestAt, growing_bytes, blocks_data, growing_size, unwritten_rest_block, unwritten_block, AreUsedAmong, contents_blocks, HaveForm, contents_form, written_form, stored_list_bytes, CanEndUnfinished, unfinished_bytes, unfinished_length}
+use Rattle.lfs_file.proofs.Common.{and_parts, ltb-true, Blocks, HasBlockSizes, BlockStates, block_capacity, block_count_for, blocks_to_head, written_contents, block_count_for-more, IsRestAt, growing_bytes, blocks_data, growing_size, unwritten_rest_block, unwritten_block, AreUsedAmong, contents_blocks, HaveBytesInForm, contents_form, written_form, stored_list_bytes, CanEndUnfinished, unfinished_bytes, unfinished_length}
 use Rattle.lfs_device.specs.declared.geometry.Geometry.{Geometry}
 use Rattle.lfs_file.specs.Growing.{fits_unwritten_block}
 use Rattle.lfs_file.specs.declared.contents.WriterContents.TheVariants.{InHand}
@@ -85,7 +85,7 @@ module _ (map : BlockStates) (d : Blocks) (now : Geometry) (hand : PendingList) 
       ∙ written_on (growing_bytes d hand.list) base bytes (growing_size hand.list) (length-content d hand.list.geometry.block_size count hand.list hand.list.geometry.valid.no_smaller here going.list.begun.growing)
 
   pub written_within : (limit place count : ℕ) → HasBlockSizes now.block_size count d → growing_size hand.list ≡ place → limit < unfinished_length hand
-      → HaveForm map d now (InHand (longer_hand hand bytes)) (written_contents (unfinished_bytes d hand) place bytes) (written_form limit place (length bytes) (contents_form (InHand hand)))
+      → HaveBytesInForm map d now (InHand (longer_hand hand bytes)) (written_contents (unfinished_bytes d hand) place bytes) (written_form limit place (length bytes) (contents_form (InHand hand)))
   written_within limit place count shape at large = record {
     stands = going_on;
     has = bytes_on count shape ∙ ap (λ n. written_contents (unfinished_bytes d hand) n bytes) at;

@@ -7,7 +7,7 @@ use Rattle.lfs_model.specs.format.SkipLists.{block_count_for}
 use Rattle.lfs_file.specs.Bases.{IsBaseApart}
 use Rattle.lfs_file.specs.BlocksApart.{HasBlocksTaken}
 use Rattle.lfs_file.specs.Extensions.{CanEndAlone}
-use Rattle.lfs_file.specs.Growing.{GrowingList, IsOnDisk, kept_blocks, unwritten_block}
+use Rattle.lfs_file.specs.Growing.{GrowingList, IsOnDisk, lasting_blocks, unwritten_block}
 use Rattle.lfs_file.specs.declared.stored_list.StoredList.{StoredList}
 
 -- A list in hand of this device can be ended, and changes no block of the base. There are as many free blocks as the base has.
@@ -17,7 +17,7 @@ pub record CanAppendBase (map : BlockStates) (disk : Blocks) (now : Geometry) (l
   pub marked : HasBlocksTaken map disk list
   pub own : CanEndAlone disk list
   pub apart : IsBaseApart map (unwritten_block list) disk list.geometry.block_size base.head base.size
-  pub room : used_count map + in_flight_count map + block_count_for list.geometry.block_size base.size ≤ length map + length (kept_blocks disk list)
+  pub room : used_count map + in_flight_count map + block_count_for list.geometry.block_size base.size ≤ length map + length (lasting_blocks disk list)
 
 -- The buffer begins with so many bytes of the block, at least one, from an offset on: all of them, or `most`.
 pub record HasBlockBytes (disk : Blocks) (block_size block off most : ℕ) (buffer : List ℕ) (count : ℕ) : Type 0 where

@@ -8,7 +8,7 @@ abbrev pub in_flight_limit : ℕ → StoredList → ℕ
 in_flight_limit block_size s = if s.in_flight then block_count_for block_size s.size else 0
 
 -- A list may grow from one size to another, a greater one: there are as many free blocks as it has then, besides so many in flight.
-pub record HasLongerRoom (map : BlockStates) (block_size from to in_flight : ℕ) : Type 0 where
+pub record HasGrowthRoom (map : BlockStates) (block_size from to in_flight : ℕ) : Type 0 where
   pub longer : from < to
   pub small : to < 2 ^ 31
   pub room : used_count map + block_count_for block_size to + in_flight ≤ length map

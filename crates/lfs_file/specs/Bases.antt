@@ -2,7 +2,7 @@
 use Rattle.std.specs.Prelude.{ℕ, ◌≡◌, ◌⊎◌, All, List}
 use Rattle.lfs_model.specs.format.Blocks.{Blocks}
 use Rattle.lfs_model.specs.layers.BlockSets.{BlockStates}
-use Rattle.lfs_file.specs.BlocksApart.{IsTakenWritten}
+use Rattle.lfs_file.specs.BlocksApart.{IsTakenNotPending}
 use Rattle.lfs_model.specs.format.SkipLists.{IsSkipList, blocks_to_head, block_count_for}
 
 abbrev pub IsListOrEmpty : Blocks → ℕ → ℕ → ℕ → Type 0
@@ -15,4 +15,4 @@ blocks_of_list disk block_size head size = blocks_to_head disk (block_count_for 
 -- the base is apart from the blocks that the list in hand writes
 pub record IsBaseApart (map : BlockStates) (pending : List ℕ) (disk : Blocks) (block_size head size : ℕ) : Type 0 where
   pub base : IsListOrEmpty disk block_size head size
-  pub apart : All (IsTakenWritten map pending) (blocks_of_list disk block_size head size)
+  pub apart : All (IsTakenNotPending map pending) (blocks_of_list disk block_size head size)

@@ -8,7 +8,7 @@ use Rattle.lfs_model.specs.session.History.{CallEvent, read_count}
 use Rattle.lfs_file.specs.declared.block.FullBlocks.{FullBlocks}
 use Rattle.lfs_file.specs.declared.known.KnownBlocks.{KnownBlocks}
 use Rattle.lfs_file.specs.Appended.{IsBlockAppended}
-use Rattle.lfs_file.specs.Counts.{WritesOnce}
+use Rattle.lfs_file.specs.Counts.{WritesEachOnce}
 use Rattle.lfs_file.specs.Extended.{ListHasBytes}
 use Rattle.lfs_file.specs.FewReads.{FillsFew, WritesLastFew}
 use Rattle.lfs_file.specs.Front.{ReadsUnknownPointers}
@@ -17,7 +17,7 @@ use Rattle.lfs_file.specs.Known.{AreKnownBlocks, IsKnownIndex}
 use Rattle.lfs_file.specs.Right.{LaterPointersName}
 
 -- the buffer begins with the pointers of the next block at Ok, and stays as it is behind them
-pub record PutsPointers (disk : Blocks) (front : FullBlocks) (old new : List ℕ) (result : Result Unit Error) : Type 0 where
+pub record BuffersPointers (disk : Blocks) (front : FullBlocks) (old new : List ℕ) (result : Result Unit Error) : Type 0 where
   pub pointers : OnOk result ((k : ℕ) → k < pointer_count front.count → word_at new (4 * k) ≡ slice_index (blocks_to_head disk front.count front.head) (front.count - 2 ^ k))
   pub rest : drop (4 * pointer_count front.count) new ≡ drop (4 * pointer_count front.count) old
 
@@ -27,8 +27,8 @@ pub record IsAppendedWith (old new : Blocks) (count head b size : ℕ) (bytes : 
   pub held : take size (drop (4 * pointer_count count) (block_bytes new b)) ≡ bytes
 
 -- one erase and one program, and a read of each pointer that wasn't known
-pub record WritesOneBlock (front later : FullBlocks) (before after : List CallEvent) : Type 0 where
-  pub writes : WritesOnce 0 1 before after
+pub record WritesBlockOnce (front later : FullBlocks) (before after : List CallEvent) : Type 0 where
+  pub writes : WritesEachOnce 0 1 before after
   pub few : ReadsUnknownPointers front later before after
 
 -- a list has the first `n` of these bytes more, and this block
@@ -39,12 +39,12 @@ pub record HasFilledBlock (old new : Blocks) (list later : GrowingList) (b n : �
 -- the erases and programs of the blocks that became full, and few reads
 pub record FillsOneBlock (list later : GrowingList) (before after : List CallEvent) : Type 0 where
   pub few : FillsFew list later before after
-  pub writes : WritesOnce list.full later.full before after
+  pub writes : WritesEachOnce list.full later.full before after
 
 -- the end of a list takes no call where nothing waits; else it writes the block that waits, with few reads
 pub record FinishCalls (list : GrowingList) (old new : Blocks) (before after : List CallEvent) (result : Result (ℕ × ℕ) Error) : Type 0 where
   pub no_call : unwritten_block list ≡ [] → (after ≡ before) × (new ≡ old)
-  pub writes : OnOk result (WritesOnce 0 (length (unwritten_block list)) before after)
+  pub writes : OnOk result (WritesEachOnce 0 (length (unwritten_block list)) before after)
   pub few : OnOk result (WritesLastFew list before after)
 
 -- in a list whose known blocks are right, the block at the index is found, and what is known then is right

@@ -2,7 +2,7 @@
 use Rattle.std.specs.Prelude.{ℕ, ◌≡◌, ◌++◌, true, Contains, List, []}
 use Rattle.lfs_model.specs.format.Blocks.{Blocks}
 use Rattle.lfs_model.specs.layers.BlockSets.{BlockStates, IsUsedBlock}
-use Rattle.lfs_file.specs.Growing.{kept_blocks}
+use Rattle.lfs_file.specs.Growing.{lasting_blocks}
 use Rattle.lfs_file.specs.Bases.{blocks_of_list}
 use Rattle.lfs_file.specs.declared.contents.WriterContents.{WriterContents}
 use Rattle.lfs_file.specs.declared.contents.WriterContents.TheVariants.{InMemory, Finished, InHand}
@@ -19,7 +19,7 @@ stored_blocks disk block_size s = blocks_of_list disk block_size s.head s.size
 abbrev pub contents_blocks : Blocks → ℕ → WriterContents → List ℕ
 contents_blocks disk block_size (InMemory list) = []
 contents_blocks disk block_size (Finished stored) = stored_blocks disk block_size stored
-contents_blocks disk block_size (InHand hand) = kept_blocks disk hand.list ++ stored_blocks disk block_size hand.base
+contents_blocks disk block_size (InHand hand) = lasting_blocks disk hand.list ++ stored_blocks disk block_size hand.base
 
 -- the same list, in the same blocks
 pub record KeepsStoredBlocks (block_size : ℕ) (old : Blocks) (was : StoredList) (new : Blocks) (now : StoredList) : Type 0 where

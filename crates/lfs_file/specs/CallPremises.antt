@@ -11,7 +11,7 @@ use Rattle.lfs_file.specs.declared.writes.PendingList.{PendingList}
 use Rattle.lfs_file.specs.BaseRoom.{in_flight_limit}
 use Rattle.lfs_file.specs.BlocksApart.{HasBlocksTaken}
 use Rattle.lfs_file.specs.Extending.{CanFollowBlocks}
-use Rattle.lfs_file.specs.Growing.{GrowingList, IsOnDisk, growing_size, kept_blocks}
+use Rattle.lfs_file.specs.Growing.{GrowingList, IsOnDisk, growing_size, lasting_blocks}
 use Rattle.lfs_file.specs.HandWrites.{IsUnfinishedList, unfinished_length}
 use Rattle.lfs_file.specs.Known.{AreKnownBlocks}
 use Rattle.lfs_file.specs.Way.{HasNotedPointers}
@@ -27,7 +27,7 @@ pub record IsFrontSize (keep size : ℕ) : Type 0 where
   pub within : keep ≤ size
 
 -- the number of a pointer, and the index of the block that it names
-pub record IsPointerTo (k n : ℕ) : Type 0 where
+pub record IsPointerInRange (k n : ℕ) : Type 0 where
   pub pointer : k ≤ 32
   pub index : n < 2 ^ 32 - 1
 
@@ -47,7 +47,7 @@ pub record CanCopyPointers (disk : Blocks) (count b last n : ℕ) (words : List 
   pub way : HasNotedPointers disk last 0 noted
 
 -- the pointers of the next block can be put into a buffer: the full blocks are a list's, and those that are known are right
-pub record CanPutPointers (disk : Blocks) (front : FullBlocks) (len : ℕ) : Type 0 where
+pub record CanWritePointers (disk : Blocks) (front : FullBlocks) (len : ℕ) : Type 0 where
   pub chain : AreListBlocks disk front.count front.head
   pub known : AreKnownBlocks (blocks_to_head disk front.count front.head) front.known
   pub room : 1024 ≤ len
@@ -83,7 +83,7 @@ pub record CanExtendList (map : BlockStates) (disk : Blocks) (now : Geometry) (l
   pub some : 1 ≤ count
   pub small : growing_size list + count < 2 ^ 31
   pub marked : HasBlocksTaken map disk list
-  pub room : used_count map + in_flight_count map + block_count_for list.geometry.block_size (growing_size list + count) ≤ length map + length (kept_blocks disk list)
+  pub room : used_count map + in_flight_count map + block_count_for list.geometry.block_size (growing_size list + count) ≤ length map + length (lasting_blocks disk list)
 
 -- so many zeros can be written at the end of a list in hand
 pub record CanWriteZeros (map : BlockStates) (disk : Blocks) (now : Geometry) (hand : PendingList) (count : ℕ) : Type 0 where

@@ -47,7 +47,7 @@ AreSoundContents map disk now (Finished stored) = IsFinishedList map disk now.bl
 AreSoundContents map disk now (InHand hand) = CanEndUnfinished map disk now hand
 
 -- the contents are in that form, with these bytes
-pub record HaveForm (map : BlockStates) (disk : Blocks) (now : Geometry) (contents : WriterContents) (bytes : List ℕ) (shape : ContentsForm) : Type 0 where
+pub record HaveBytesInForm (map : BlockStates) (disk : Blocks) (now : Geometry) (contents : WriterContents) (bytes : List ℕ) (shape : ContentsForm) : Type 0 where
   pub stands : AreSoundContents map disk now contents
   pub has : contents_bytes disk now.block_size contents ≡ bytes
   pub form : contents_form contents ≡ shape

@@ -7,7 +7,7 @@ use Rattle.lfs_model.specs.format.Blocks.{Blocks}
 use Rattle.lfs_model.specs.format.SkipLists.{AreListBlocks, IsSkipList, blocks_to_head, block_count_for, list_bytes}
 use Rattle.lfs_file.specs.Extended.{ListHasBytes}
 use Rattle.lfs_file.specs.Known.{ArePointersKnown, ArePointedKnown}
-use Rattle.lfs_file.specs.Growing.{GrowingList, IsOnDisk, IsAllBuffered, HasUnwrittenAmong, growing_bytes, growing_size, rest_lacks_block, kept_blocks, appended_count, unwritten_block}
+use Rattle.lfs_file.specs.Growing.{GrowingList, IsOnDisk, IsAllBuffered, HasUnwrittenAmong, growing_bytes, growing_size, rest_lacks_block, lasting_blocks, appended_count, unwritten_block}
 
 -- an empty list of a device
 pub record IsEmptyList (divided : Geometry) (list : GrowingList) : Type 0 where
@@ -55,12 +55,12 @@ pub record CanPushBytes {D : Type 0} (g : Ghosts D) (dev : D) (list : GrowingLis
   pub count : length blocks ≡ appended_count list (length bytes)
   pub in_device : All (λ b. b < (g.geometry dev).block_count) blocks
   pub distinct : IsDistinct nat_eq blocks
-  pub apart : All (λ b. All (λ c. c ≢ b) (kept_blocks (g.blocks dev) list)) blocks
+  pub apart : All (λ b. All (λ c. c ≢ b) (lasting_blocks (g.blocks dev) list)) blocks
 
 -- the bytes were appended, and the blocks are the list's
 pub record HasPushedBytes (disk : Blocks) (list : GrowingList) (bytes blocks : List ℕ) (later : Blocks) (longer : GrowingList) : Type 0 where
   pub grown : ListHasBytes list.geometry later longer (growing_bytes disk list ++ bytes) (growing_size list + length bytes)
-      (kept_blocks disk list ++ blocks) (kept_blocks disk list ++ blocks)
+      (lasting_blocks disk list ++ blocks) (lasting_blocks disk list ++ blocks)
   pub waits : HasUnwrittenAmong (unwritten_block list ++ blocks) longer
 
 -- a list has a byte, and its bytes don't all stand in memory for no block

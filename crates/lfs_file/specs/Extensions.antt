@@ -3,13 +3,13 @@ use Rattle.std.specs.Prelude.{ℕ, ◌≡◌, false, List, length}
 use Rattle.lfs_model.specs.format.Blocks.{Blocks}
 use Rattle.lfs_model.specs.layers.BlockSets.{BlockStates}
 use Rattle.lfs_model.specs.format.SkipLists.{block_count_for}
-use Rattle.lfs_file.specs.Growing.{IsOnDisk, growing_blocks, growing_bytes, rest_lacks_block, kept_blocks, growing_size, GrowingList}
+use Rattle.lfs_file.specs.Growing.{IsOnDisk, growing_blocks, growing_bytes, rest_lacks_block, lasting_blocks, growing_size, GrowingList}
 use Rattle.lfs_file.specs.BlocksApart.{GrowsInFree, HasBlocksTaken}
 
 -- the list's blocks are its own, as many as its bytes need, and it can be ended
 pub record CanEndAlone (disk : Blocks) (list : GrowingList) : Type 0 where
-  pub own : growing_blocks disk list ≡ kept_blocks disk list
-  pub many : length (kept_blocks disk list) ≡ block_count_for list.geometry.block_size (growing_size list)
+  pub own : growing_blocks disk list ≡ lasting_blocks disk list
+  pub many : length (lasting_blocks disk list) ≡ block_count_for list.geometry.block_size (growing_size list)
   pub listed : rest_lacks_block list ≡ false
 
 -- A list grew to these bytes, so many, in blocks that were free before.

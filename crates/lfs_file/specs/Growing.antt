@@ -48,8 +48,8 @@ abbrev pub unwritten_block : GrowingList → List ℕ
 unwritten_block g = unwritten_rest_block g.stand
 
 -- the blocks that stay the list's when it grows: full ones, and the pending one
-abbrev pub kept_blocks : Blocks → GrowingList → List ℕ
-kept_blocks disk g = blocks_to_head disk g.full g.head ++ unwritten_block g
+abbrev pub lasting_blocks : Blocks → GrowingList → List ℕ
+lasting_blocks disk g = blocks_to_head disk g.full g.head ++ unwritten_block g
 
 -- the blocks of the list as it is
 abbrev pub growing_blocks : Blocks → GrowingList → List ℕ
@@ -117,7 +117,7 @@ block_for_next Held blocks used = (slice_index blocks used, used + 1)
 pub record SameListLater (disk later : Blocks) (g : GrowingList) : Type 0 where
   pub growing : IsOnDisk later g
   pub content : growing_bytes later g ≡ growing_bytes disk g
-  pub kept : kept_blocks later g ≡ kept_blocks disk g
+  pub kept : lasting_blocks later g ≡ lasting_blocks disk g
   pub blocks : growing_blocks later g ≡ growing_blocks disk g
 
 -- all bytes are in memory, and none in a block

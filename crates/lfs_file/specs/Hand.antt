@@ -4,8 +4,8 @@ use Rattle.lfs_model.specs.format.Blocks.{Blocks, block_bytes}
 use Rattle.lfs_model.specs.layers.BlockSets.{BlockStates, IsFree, IsInFlight, IsUsedBlock, used_count}
 use Rattle.lfs_model.specs.session.History.{CallEvent, is_unprogrammed_byte}
 use Rattle.lfs_model.specs.format.SkipLists.{block_count_for, list_bytes}
-use Rattle.lfs_file.specs.Growing.{GrowingList, IsOnDisk, growing_blocks, growing_bytes, rest_lacks_block, kept_blocks, unwritten_block, growing_size_with}
-use Rattle.lfs_file.specs.BlocksApart.{IsTakenWritten, HasBlocksTaken}
+use Rattle.lfs_file.specs.Growing.{GrowingList, IsOnDisk, growing_blocks, growing_bytes, rest_lacks_block, lasting_blocks, unwritten_block, growing_size_with}
+use Rattle.lfs_file.specs.BlocksApart.{IsTakenNotPending, HasBlocksTaken}
 use Rattle.lfs_file.specs.Bases.{IsListOrEmpty, blocks_of_list}
 use Rattle.lfs_file.specs.declared.stored_list.StoredList.{StoredList}
 
@@ -22,18 +22,18 @@ pub record SharesFirstBlocks (map : BlockStates) (disk : Blocks) (block_size : �
   pub growing : IsOnDisk disk g
   pub marked : HasBlocksTaken map disk g
   pub list : IsListOrEmpty disk block_size base.head base.size
-  pub apart : All (IsTakenWritten map (unwritten_block g)) (blocks_of_list disk block_size base.head base.size)
+  pub apart : All (IsTakenNotPending map (unwritten_block g)) (blocks_of_list disk block_size base.head base.size)
   pub few : shared ≤ block_count_for block_size base.size
-  pub front : take shared (kept_blocks disk g) ≡ take shared (blocks_of_list disk block_size base.head base.size)
-  pub behind : All (λ b. All (λ c. c ≢ b) (blocks_of_list disk block_size base.head base.size)) (drop shared (kept_blocks disk g))
-  pub taken : (b : ℕ) → Contains (kept_blocks disk g) b → IsUsedBlock map b → Contains (blocks_of_list disk block_size base.head base.size) b
-  pub flying : (b : ℕ) → IsInFlight map b → Contains (kept_blocks disk g) b ⊎ ((base.in_flight ≡ true) × Contains (blocks_of_list disk block_size base.head base.size) b)
+  pub front : take shared (lasting_blocks disk g) ≡ take shared (blocks_of_list disk block_size base.head base.size)
+  pub behind : All (λ b. All (λ c. c ≢ b) (blocks_of_list disk block_size base.head base.size)) (drop shared (lasting_blocks disk g))
+  pub taken : (b : ℕ) → Contains (lasting_blocks disk g) b → IsUsedBlock map b → Contains (blocks_of_list disk block_size base.head base.size) b
+  pub flying : (b : ℕ) → IsInFlight map b → Contains (lasting_blocks disk g) b ⊎ ((base.in_flight ≡ true) × Contains (blocks_of_list disk block_size base.head base.size) b)
 
 -- All blocks of the list are its own, as many as its bytes need, and it can be ended.
 pub record CanEndOver (map : BlockStates) (disk : Blocks) (block_size : ℕ) (g : GrowingList) (base : StoredList) (shared : ℕ) : Type 0 where
   pub begun : SharesFirstBlocks map disk block_size g base shared
-  pub own : growing_blocks disk g ≡ kept_blocks disk g
-  pub many : length (kept_blocks disk g) ≡ block_count_for block_size (growing_size_with block_size g)
+  pub own : growing_blocks disk g ≡ lasting_blocks disk g
+  pub many : length (lasting_blocks disk g) ≡ block_count_for block_size (growing_size_with block_size g)
   pub listed : rest_lacks_block g ≡ false
 
 -- the contents

@@ -13,7 +13,7 @@ used_or_free true = Used
 used_or_free false = Free
 
 -- each of these blocks is in that state, and the others are as they were
-pub record PutsInState (state : BlockState) (old new : BlockStates) (bs : List ℕ) : Type 0 where
+pub record SetsState (state : BlockState) (old new : BlockStates) (bs : List ℕ) : Type 0 where
   pub count : length new ≡ length old
   pub put : All (λ b. slice_get new b ≡ Some state) bs
   pub others : (b : ℕ) → All (λ x. x ≢ b) bs → slice_get new b ≡ slice_get old b

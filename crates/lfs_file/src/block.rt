@@ -4,8 +4,8 @@ ghost use Rattle.lfs_device.specs.DeviceCalls.{ChangesOneBlock, ReadsOnly, Repor
 ghost use Rattle.lfs_file.specs.Front.{KeepsFullBlocks, ReadsUnknownPointers};
 ghost use Rattle.lfs_file.specs.Known.{ArePointersKnown, OnlyBelowKnown, AreKnownBlocks, ArePointedKnown};
 ghost use Rattle.lfs_model.specs.format.SkipLists.{blocks_to_head, pointer_count, word_at};
-ghost use Rattle.lfs_file.specs.CallPremises.{CanPutPointers, CanWriteBlock};
-ghost use Rattle.lfs_file.specs.BlockCalls.{IsAppendedWith, PutsPointers, WritesOneBlock};
+ghost use Rattle.lfs_file.specs.CallPremises.{CanWritePointers, CanWriteBlock};
+ghost use Rattle.lfs_file.specs.BlockCalls.{IsAppendedWith, BuffersPointers, WritesBlockOnce};
 
 use crate::known::KnownBlocks;
 use crate::read::pointer_count_at;
@@ -38,7 +38,7 @@ impl FullBlocks {
 
     // Makes the full blocks of a list before the block at an index. The bytes begin with the pointers
     // of that block, and those lead to known blocks.
-    pub(crate) fn before_block(index: u32, bytes: &[u8]) -> FullBlocks
+    pub(crate) fn full_before_block(index: u32, bytes: &[u8]) -> FullBlocks
         requires { 4 * pointer_count index ≤ length bytes.now }
         ensures made { result ≡ record { count = index; head = result.head; known = result.known } }
         ensures head { 0 < index → result.head ≡ word_at bytes.now 0 }
@@ -74,7 +74,7 @@ impl FullBlocks {
 }
 
 // Writes a word over four bytes.
-fn put_word(buf: &mut [u8], at: usize, word: u32)
+fn write_word(buf: &mut [u8], at: usize, word: u32)
     requires { at + 4 ≤ length buf.old }
     ensures { buf.new ≡ take at buf.old ++ (little_bytes 4 word ++ drop (at + 4) buf.old) }
 {
@@ -88,8 +88,8 @@ fn write_pointers<D: BlockDevice>(
     front: &mut FullBlocks,
     buf: &mut [u8],
 ) -> Result<(), Error>
-    requires { CanPutPointers (D.blocks dev.old) front.old (length buf.old) }
-    ensures puts { PutsPointers (D.blocks dev.old) front.old buf.old buf.new result }
+    requires { CanWritePointers (D.blocks dev.old) front.old (length buf.old) }
+    ensures puts { BuffersPointers (D.blocks dev.old) front.old buf.old buf.new result }
     ensures front { KeepsFullBlocks (blocks_to_head (D.blocks dev.old) front.old.count front.old.head) front.old front.new }
     ensures few { OnOk result (ReadsUnknownPointers front.old front.new (D.history dev.old) (D.history dev.new)) }
     ensures device { ReadsOnly D.BlockDevice dev.old dev.new }
@@ -100,10 +100,10 @@ fn write_pointers<D: BlockDevice>(
         return Ok(());
     }
     let mut to = front.head;
-    put_word(buf, 0, to);
+    write_word(buf, 0, to);
     for k in 0..index.trailing_zeros() {
         to = front.known.block_at_pointer(dev, to, k, index - (2 << k))?;
-        put_word(buf, 4 * (k + 1) as usize, to);
+        write_word(buf, 4 * (k + 1) as usize, to);
     }
     Ok(())
 }
@@ -121,7 +121,7 @@ pub(crate) fn write_block<D: BlockDevice>(
     ensures block { OnOk result (IsAppendedWith (D.blocks dev.old) (D.blocks dev.new) front.old.count front.old.head block
         (end - 4 * pointer_count front.old.count) (take (end - 4 * pointer_count front.old.count) (drop (4 * pointer_count front.old.count) buf.old))) }
     ensures front { KeepsFullBlocks (blocks_to_head (D.blocks dev.old) front.old.count front.old.head) front.old front.new }
-    ensures calls { OnOk result (WritesOneBlock front.old front.new (D.history dev.old) (D.history dev.new)) }
+    ensures calls { OnOk result (WritesBlockOnce front.old front.new (D.history dev.old) (D.history dev.new)) }
     ensures device { ChangesOneBlock D.BlockDevice block dev.old dev.new }
     ensures io { ReportsOnlyIo D.BlockDevice dev.old dev.new result }
 {

@@ -4,7 +4,7 @@ ghost use Rattle.std.specs.Prelude.{ℕ, IfOk};
 ghost use Rattle.lfs_model.specs.layers.BlockSets.{IsInFlight};
 ghost use Rattle.lfs_device.specs.DeviceCalls.{ReportsIoNoMemory};
 ghost use Rattle.lfs_file.specs.ContentsCalls.{CallKeepsUsed};
-ghost use Rattle.lfs_file.specs.Contents.{CanFinishContents, HaveForm, contents_bytes, form_after_finish, contents_form};
+ghost use Rattle.lfs_file.specs.Contents.{CanFinishContents, HaveBytesInForm, contents_bytes, form_after_finish, contents_form};
 ghost use Rattle.lfs_file.specs.Hand.{KeepsUsedBlocks};
 ghost use Rattle.lfs_file.specs.BlockOwners.{AreUsedAmong, contents_blocks};
 
@@ -29,7 +29,7 @@ pub fn finish_contents<D: BlockDevice>(
     contents: WriterContents,
 ) -> Result<WriterContents, Error>
     requires { CanFinishContents map.old (D.blocks dev.old) (D.geometry dev.old) contents }
-    ensures finished { IfOk result (λ c. HaveForm map.new (D.blocks dev.new) (D.geometry dev.old) c
+    ensures finished { IfOk result (λ c. HaveBytesInForm map.new (D.blocks dev.new) (D.geometry dev.old) c
         (contents_bytes (D.blocks dev.old) (D.geometry dev.old).block_size contents) (form_after_finish (contents_form contents))) }
     ensures owned { IfOk result (λ c. AreUsedAmong map.new (contents_blocks (D.blocks dev.old) (D.geometry dev.old).block_size contents) (contents_blocks (D.blocks dev.new) (D.geometry dev.old).block_size c)) }
     ensures map { KeepsUsedBlocks map.old map.new }

@@ -6,7 +6,7 @@ ghost use Rattle.lfs_model.specs.layers.BlockSets.{BlockStates};
 ghost use Rattle.lfs_model.specs.session.Writers.{written_contents};
 ghost use Rattle.lfs_device.specs.DeviceCalls.{ReportsIoNoMemory};
 ghost use Rattle.lfs_file.specs.ContentsCalls.{CallKeepsUsed};
-ghost use Rattle.lfs_file.specs.Contents.{CanWriteContents, HaveForm, NoneInFlight, contents_bytes, contents_form, buffered_bytes};
+ghost use Rattle.lfs_file.specs.Contents.{CanWriteContents, HaveBytesInForm, NoneInFlight, contents_bytes, contents_form, buffered_bytes};
 ghost use Rattle.lfs_file.specs.FinishedWrites.{CanOverwriteFinished};
 ghost use Rattle.lfs_file.specs.Form as form;
 ghost use Rattle.lfs_file.specs.Form.{written_form};
@@ -16,10 +16,10 @@ ghost use Rattle.lfs_file.specs.BlockOwners.{AreUsedAmong, KeepsStoredBlocks, co
 
 use crate::Extender;
 use crate::list_starts::begin_over_finished;
-use crate::memory::{load_first_bytes, move_to_list};
+use crate::memory::{begin_from_memory, load_first_bytes};
 use crate::other_places::write_at_position;
 use crate::stored_list::StoredList;
-use crate::writes::{PendingList, fill_and_write, write_within_block};
+use crate::writes::{PendingList, buffer_within_block, fill_and_write};
 use lfs_blocks::BlockMap;
 use lfs_device::{BlockDevice, Error, Geometry};
 use std::alloc::Global;
@@ -47,7 +47,7 @@ pub fn contents_in_memory(
     bytes: &[u8],
 ) -> Result<WriterContents, Error>
     requires { length bytes.now < geometry.block_size }
-    ensures holds { IfOk result (λ c. (map : BlockStates) (disk : Blocks) → NoneInFlight map disk → HaveForm map disk geometry c bytes.now (form.InMemory (length bytes.now))) }
+    ensures holds { IfOk result (λ c. (map : BlockStates) (disk : Blocks) → NoneInFlight map disk → HaveBytesInForm map disk geometry c bytes.now (form.InMemory (length bytes.now))) }
     ensures errors { IfErr result (λ e. e ≡ Error.NoMemory) }
 {
     let mut list = Extender::start_empty(alloc, geometry)?;
@@ -66,7 +66,7 @@ fn write_in_memory<D: BlockDevice>(
     bytes: &[u8],
 ) -> Result<WriterContents, Error>
     requires { CanWriteContents map.old (D.blocks dev.old) (D.geometry dev.old) (WriterContents.InMemory list) limit place (length bytes.now) }
-    ensures written { IfOk result (λ c. HaveForm map.new (D.blocks dev.new) (D.geometry dev.old) c
+    ensures written { IfOk result (λ c. HaveBytesInForm map.new (D.blocks dev.new) (D.geometry dev.old) c
         (written_contents (buffered_bytes list) place bytes.now) (written_form limit place (length bytes.now) (form.InMemory (length (buffered_bytes list))))) }
     ensures owned { IfOk result (λ c. AreUsedAmong map.new (contents_blocks (D.blocks dev.old) (D.geometry dev.old).block_size (WriterContents.InMemory list)) (contents_blocks (D.blocks dev.new) (D.geometry dev.old).block_size c)) }
     ensures map { KeepsUsedBlocks map.old map.new }
@@ -79,7 +79,7 @@ fn write_in_memory<D: BlockDevice>(
         list.write_buffered_at(place, bytes);
         return Ok(WriterContents::InMemory(list));
     }
-    let hand = move_to_list(alloc, dev, map, list, place, bytes)?;
+    let hand = begin_from_memory(alloc, dev, map, list, place, bytes)?;
     Ok(WriterContents::InHand(hand))
 }
 
@@ -117,7 +117,7 @@ fn write_over_finished<D: BlockDevice>(
     bytes: &[u8],
 ) -> Result<WriterContents, Error>
     requires { CanWriteContents map.old (D.blocks dev.old) (D.geometry dev.old) (WriterContents.Finished stored) limit place (length bytes.now) }
-    ensures written { IfOk result (λ c. HaveForm map.new (D.blocks dev.new) (D.geometry dev.old) c
+    ensures written { IfOk result (λ c. HaveBytesInForm map.new (D.blocks dev.new) (D.geometry dev.old) c
         (written_contents (stored_list_bytes (D.blocks dev.old) (D.geometry dev.old).block_size stored) place bytes.now) (written_form limit place (length bytes.now) (form.Finished stored.size stored.in_flight))) }
     ensures owned { IfOk result (λ c. AreUsedAmong map.new (contents_blocks (D.blocks dev.old) (D.geometry dev.old).block_size (WriterContents.Finished stored)) (contents_blocks (D.blocks dev.new) (D.geometry dev.old).block_size c)) }
     ensures map { KeepsUsedBlocks map.old map.new }
@@ -145,7 +145,7 @@ fn write_to_unfinished<D: BlockDevice>(
     bytes: &[u8],
 ) -> Result<WriterContents, Error>
     requires { CanWriteContents map.old (D.blocks dev.old) (D.geometry dev.old) (WriterContents.InHand hand) limit place (length bytes.now) }
-    ensures written { IfOk result (λ c. HaveForm map.new (D.blocks dev.new) (D.geometry dev.old) c
+    ensures written { IfOk result (λ c. HaveBytesInForm map.new (D.blocks dev.new) (D.geometry dev.old) c
         (written_contents (unfinished_bytes (D.blocks dev.old) hand) place bytes.now) (written_form limit place (length bytes.now) (contents_form (WriterContents.InHand hand)))) }
     ensures owned { IfOk result (λ c. AreUsedAmong map.new (contents_blocks (D.blocks dev.old) (D.geometry dev.old).block_size (WriterContents.InHand hand)) (contents_blocks (D.blocks dev.new) (D.geometry dev.old).block_size c)) }
     ensures map { KeepsUsedBlocks map.old map.new }
@@ -153,7 +153,7 @@ fn write_to_unfinished<D: BlockDevice>(
     ensures reports { ReportsIoNoMemory D.BlockDevice dev.old dev.new result }
 {
     let mut hand = hand;
-    if write_within_block(&mut hand, place, bytes) {
+    if buffer_within_block(&mut hand, place, bytes) {
         return Ok(WriterContents::InHand(hand));
     }
     let hand = write_at_position(alloc, dev, map, hand, place, bytes)?;
@@ -177,7 +177,7 @@ pub fn write_contents<D: BlockDevice>(
     bytes: &[u8],
 ) -> Result<WriterContents, Error>
     requires { CanWriteContents map.old (D.blocks dev.old) (D.geometry dev.old) contents limit place (length bytes.now) }
-    ensures written { IfOk result (λ c. HaveForm map.new (D.blocks dev.new) (D.geometry dev.old) c
+    ensures written { IfOk result (λ c. HaveBytesInForm map.new (D.blocks dev.new) (D.geometry dev.old) c
         (written_contents (contents_bytes (D.blocks dev.old) (D.geometry dev.old).block_size contents) place bytes.now) (written_form limit place (length bytes.now) (contents_form contents))) }
     ensures owned { IfOk result (λ c. AreUsedAmong map.new (contents_blocks (D.blocks dev.old) (D.geometry dev.old).block_size contents) (contents_blocks (D.blocks dev.new) (D.geometry dev.old).block_size c)) }
     ensures map { KeepsUsedBlocks map.old map.new }

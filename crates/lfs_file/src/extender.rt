@@ -1,7 +1,7 @@
 ghost use Rattle.std.specs.Prelude.{◌≡◌, ◌≤◌, ◌<◌, ◌+◌, ◌-◌, ◌*◌, ◌^◌, ◌++◌, ◌∷◌, [], length, take, replicate, OnOk, IfOk, IfErr};
 ghost use Rattle.std.specs.Bool.{OnFalse, OnTrue};
 ghost use Rattle.lfs_device.specs.DeviceCalls.{ChangesTheseBlocks, ChangesOneBlock, ReadsOnly, ReportsIoNoMemory, ReportsOnlyIo};
-ghost use Rattle.lfs_file.specs.Counts.{WritesOnce};
+ghost use Rattle.lfs_file.specs.Counts.{WritesEachOnce};
 ghost use Rattle.lfs_file.specs.Extending.{CanFinishList, CanPushBytes, CanResumeList, HasBufferedBytes, HasPushedBytes, IsResumedList, IsEmptyList};
 ghost use Rattle.lfs_file.specs.FewReads.{FillsFew, ResumesFew, WritesLastFew};
 ghost use Rattle.lfs_file.specs.Fields.{IsExtender, growing_view};
@@ -139,7 +139,7 @@ impl Extender {
             return Extender::of_state(alloc, state);
         }
         read_into_range(dev, block, 0, buffer.as_mut_slice(), 0, off + 1)?;
-        let front = FullBlocks::before_block(index, buffer.as_slice());
+        let front = FullBlocks::full_before_block(index, buffer.as_slice());
         let state = ExtenderState {
             geometry,
             buffer,
@@ -331,7 +331,7 @@ impl Extender {
         requires { CanPushBytes D.BlockDevice dev.old self.old bytes.now blocks.now }
         ensures pushed { OnOk result (HasPushedBytes (D.blocks dev.old) self.old bytes.now blocks.now (D.blocks dev.new) self.new) }
         // A block that fills is erased once and programmed once.
-        ensures writes { OnOk result (WritesOnce self.old.full self.new.full (D.history dev.old) (D.history dev.new)) }
+        ensures writes { OnOk result (WritesEachOnce self.old.full self.new.full (D.history dev.old) (D.history dev.new)) }
         ensures few { OnOk result (FillsFew self.old self.new (D.history dev.old) (D.history dev.new)) }
         ensures device { ChangesTheseBlocks D.BlockDevice (unwritten_block self.old ++ blocks.now) dev.old dev.new }
         ensures io { ReportsOnlyIo D.BlockDevice dev.old dev.new result }
@@ -350,7 +350,7 @@ impl Extender {
     fn write_last_block<D: BlockDevice>(&mut self, dev: &mut D, block: u32) -> Result<(), Error>
         requires { CanWriteLastBlock D.BlockDevice dev.old self.old block }
         ensures block { OnOk result (IsAppendedWith (D.blocks dev.old) (D.blocks dev.new) self.old.full self.old.head block (length self.old.rest) self.old.rest) }
-        ensures writes { OnOk result (WritesOnce 0 1 (D.history dev.old) (D.history dev.new)) }
+        ensures writes { OnOk result (WritesEachOnce 0 1 (D.history dev.old) (D.history dev.new)) }
         ensures few { OnOk result (WritesLastFew self.old (D.history dev.old) (D.history dev.new)) }
         ensures device { ChangesOneBlock D.BlockDevice block dev.old dev.new }
         ensures io { ReportsOnlyIo D.BlockDevice dev.old dev.new result }

@@ -6,7 +6,7 @@ ghost use Rattle.lfs_model.specs.session.History.{CallEvent, read_count};
 ghost use Rattle.lfs_model.specs.format.SkipLists.{AreListBlocks, IsSkipList, blocks_to_head, block_count_for, list_bytes, word_at};
 ghost use Rattle.lfs_file.specs.FileCalls.{ReadsOrCorrupt};
 ghost use Rattle.lfs_file.specs.Known.{OnlyBelowKnown, AreKnownBlocks, FindsFew, IsKnownIndex, ReadsKnownList, no_known_blocks, index_row as row_seen};
-ghost use Rattle.lfs_file.specs.CallPremises.{HasBlockBefore, IsPointerTo};
+ghost use Rattle.lfs_file.specs.CallPremises.{HasBlockBefore, IsPointerInRange};
 ghost use Rattle.lfs_file.specs.BlockCalls.{FindsKnownBlock, ReadsUnlessKnown};
 
 use crate::part::BlockPart;
@@ -63,7 +63,7 @@ impl KnownBlocks {
 
     // Returns the index and the block of the nearest one from an index on: one that is known, or
     // the head.
-    fn nearest_block(&self, head: u32, last: u32, index: u32) -> (u32, u32)
+    fn nearest_known_block(&self, head: u32, last: u32, index: u32) -> (u32, u32)
         requires { index ≤ last }
         ensures low { index ≤ result.0 }
         ensures high { result.0 ≤ last }
@@ -98,7 +98,7 @@ impl KnownBlocks {
         ensures reading { ReadsOrCorrupt D.BlockDevice dev.old dev.new result }
         ensures few { OnOk result (FindsFew self.old last index self.new (D.history dev.old) (D.history dev.new)) }
     {
-        let (mut at, mut block) = self.nearest_block(head, last, index);
+        let (mut at, mut block) = self.nearest_known_block(head, last, index);
         while at > index {
             let skip = at.trailing_zeros().min((at - index).ilog2());
             block = read_block_pointer(dev, block, skip)?;
@@ -121,7 +121,7 @@ impl KnownBlocks {
         k: u32,
         index: u32,
     ) -> Result<u32, Error>
-        requires { IsPointerTo k index }
+        requires { IsPointerInRange k index }
         ensures found { (all : List ℕ) → AreKnownBlocks all self.old → index < length all → word_at (block_bytes (D.blocks dev.old) block) (4 * k) ≡ slice_index all index → IfOk result (λ b. b ≡ slice_index all index) × AreKnownBlocks all self.new }
         ensures below { (count : ℕ) → index < count → OnlyBelowKnown count self.old → OnlyBelowKnown count self.new }
         ensures corrupt { IsErrOf result Error.Corrupt → (D.geometry dev.old).block_count ≤ block }
@@ -166,7 +166,7 @@ impl KnownBlocks {
     /// Returns where the bytes of a file from position `pos` on are, as many as there is room for and
     /// the `size` allows. Returns None where they aren't all in one block, or it isn't known. The
     /// known blocks are the list's. The call makes no call of the device.
-    pub fn find_part<D: BlockDevice>(
+    pub fn find_known_part<D: BlockDevice>(
         &self,
         dev: &D,
         size: u32,

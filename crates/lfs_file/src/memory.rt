@@ -5,7 +5,7 @@ ghost use Rattle.lfs_model.specs.format.Blocks.{Blocks};
 ghost use Rattle.lfs_model.specs.layers.BlockSets.{BlockStates};
 ghost use Rattle.lfs_model.specs.session.Writers.{written_contents};
 ghost use Rattle.lfs_device.specs.declared.geometry.Geometry.{Geometry};
-ghost use Rattle.lfs_file.specs.BaseRoom.{HasLongerRoom};
+ghost use Rattle.lfs_file.specs.BaseRoom.{HasGrowthRoom};
 ghost use Rattle.lfs_device.specs.DeviceCalls.{ReadsOrNoMemory};
 ghost use Rattle.lfs_file.specs.Outcomes.{WritesUnusedBlocks};
 ghost use Rattle.lfs_file.specs.Bases.{IsListOrEmpty};
@@ -74,7 +74,7 @@ pub(crate) fn list_without_base(list: Extender) -> PendingList
 /// The caller's condition is that there are as many free blocks as the bytes take.
 ///
 /// Errors: `NoMemory` where memory isn't granted. `Io` where the device failed.
-pub(crate) fn move_to_list<D: BlockDevice>(
+pub(crate) fn begin_from_memory<D: BlockDevice>(
     alloc: Global,
     dev: &mut D,
     map: &mut BlockMap,
@@ -84,7 +84,7 @@ pub(crate) fn move_to_list<D: BlockDevice>(
 ) -> Result<PendingList, Error>
     requires quiet { IsInMemory map.old (D.blocks dev.old) (D.geometry dev.old) list }
     requires behind { length (buffered_bytes list) ≤ place + length bytes.now }
-    requires room { HasLongerRoom map.old (D.geometry dev.old).block_size place (place + length bytes.now) 0 }
+    requires room { HasGrowthRoom map.old (D.geometry dev.old).block_size place (place + length bytes.now) 0 }
     ensures written { IfOk result (λ h. IsWrittenTo map.new (D.blocks dev.new) (D.geometry dev.old) h (place + length bytes.now) (written_contents (buffered_bytes list) place bytes.now)) }
     ensures base { IfOk result (λ h. (h.base.size ≡ 0) × (h.base.in_flight ≡ false)) }
     ensures writing { WritesUnusedBlocks D.BlockDevice map.old map.new dev.old dev.new result }

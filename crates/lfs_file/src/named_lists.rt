@@ -7,7 +7,7 @@ ghost use Rattle.lfs_model.specs.format.SkipLists.{AreListBlocks, blocks_to_head
 ghost use Rattle.lfs_file.specs.BlockOwners.{stored_blocks};
 ghost use Rattle.lfs_device.specs.DeviceCalls.{ReadsOrIo};
 ghost use Rattle.lfs_file.specs.Outcomes.{ReadsAtMost};
-ghost use Rattle.lfs_file.specs.SettledMaps.{CanSettleList, SettlesList, KeepsOtherStates, PutsInState, used_or_free};
+ghost use Rattle.lfs_file.specs.SettledMaps.{CanSettleList, SettlesList, KeepsOtherStates, SetsState, used_or_free};
 ghost use Rattle.lfs_file.specs.SharedBlocks.{IsSharedCount, unshared_count};
 
 use crate::shared_blocks::shared_block_count;
@@ -19,7 +19,7 @@ use lfs_device::{BlockDevice, Error};
 // Makes a block used, whatever its state.
 fn make_block_used(map: &mut BlockMap, block: u32)
     requires { block < length map.old }
-    ensures { PutsInState Used map.old map.new (block ∷ []) }
+    ensures { SetsState Used map.old map.new (block ∷ []) }
 {
     if map.is_in_flight(block) {
         map.settle(block);
@@ -29,9 +29,9 @@ fn make_block_used(map: &mut BlockMap, block: u32)
 }
 
 // Makes a block used, or free.
-fn set_taken(map: &mut BlockMap, block: u32, used: bool)
+fn set_used(map: &mut BlockMap, block: u32, used: bool)
     requires { block < length map.old }
-    ensures { PutsInState (used_or_free used) map.old map.new (block ∷ []) }
+    ensures { SetsState (used_or_free used) map.old map.new (block ∷ []) }
 {
     if used {
         make_block_used(map, block);
@@ -52,14 +52,14 @@ fn set_list_from<D: BlockDevice>(
     requires chain { AreListBlocks (D.blocks dev.old) count head }
     requires map { length map.old ≡ length (D.blocks dev.old) }
     requires within { from ≤ count }
-    ensures put { OnOk result (PutsInState (used_or_free used) map.old map.new (drop from (blocks_to_head (D.blocks dev.old) count head))) }
+    ensures put { OnOk result (SetsState (used_or_free used) map.old map.new (drop from (blocks_to_head (D.blocks dev.old) count head))) }
     ensures others { KeepsOtherStates map.old map.new (blocks_to_head (D.blocks dev.old) count head) }
     ensures reading { ReadsAtMost D.BlockDevice dev.old dev.new (count - from) result }
 {
     let mut block = head;
     let mut index = count;
     'putting: while index > from {
-        set_taken(map, block, used);
+        set_used(map, block, used);
         index -= 1;
         block = head_before_block(dev, block, index - from)?;
     }

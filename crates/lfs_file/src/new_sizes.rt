@@ -6,11 +6,11 @@ ghost use Rattle.lfs_model.specs.session.Writers.{zero_padded};
 ghost use Rattle.lfs_device.specs.DeviceCalls.{ReadsOrNoMemory, ReportsIoNoMemory};
 ghost use Rattle.lfs_file.specs.Outcomes.{WritesUnusedBlocks};
 ghost use Rattle.lfs_file.specs.ContentsCalls.{CallKeepsUsed};
-ghost use Rattle.lfs_file.specs.Contents.{CanTruncateContents, HaveForm, IsInMemory, contents_bytes, contents_form, buffered_bytes, truncation_room};
+ghost use Rattle.lfs_file.specs.Contents.{CanTruncateContents, HaveBytesInForm, IsInMemory, contents_bytes, contents_form, buffered_bytes, truncation_room};
 ghost use Rattle.lfs_file.specs.Form as form;
 ghost use Rattle.lfs_file.specs.Form.{truncated_form};
 ghost use Rattle.lfs_file.specs.Hand.{IsFinishedList, KeepsUsedBlocks, stored_list_bytes};
-ghost use Rattle.lfs_file.specs.BaseRoom.{HasLongerRoom, in_flight_limit};
+ghost use Rattle.lfs_file.specs.BaseRoom.{HasGrowthRoom, in_flight_limit};
 ghost use Rattle.lfs_file.specs.HandWrites.{IsWrittenTo, CanEndUnfinished, TakesOldBase, unfinished_bytes, unfinished_length};
 ghost use Rattle.lfs_file.specs.BlockOwners.{AreUsedAmong, KeepsStoredBlocks, contents_blocks};
 
@@ -38,7 +38,7 @@ fn fill_memory_contents<D: BlockDevice>(
     size: u32,
 ) -> Result<PendingList, Error>
     requires quiet { IsInMemory map.old (D.blocks dev.old) (D.geometry dev.old) list }
-    requires room { HasLongerRoom map.old (D.geometry dev.old).block_size (length (buffered_bytes list)) size 0 }
+    requires room { HasGrowthRoom map.old (D.geometry dev.old).block_size (length (buffered_bytes list)) size 0 }
     ensures filled { IfOk result (λ h. IsWrittenTo map.new (D.blocks dev.new) (D.geometry dev.old) h size (take size (zero_padded size (buffered_bytes list)))) }
     ensures base { IfOk result (λ h. (h.base.size ≡ 0) × (h.base.in_flight ≡ false)) }
     ensures writing { WritesUnusedBlocks D.BlockDevice map.old map.new dev.old dev.new result }
@@ -59,7 +59,7 @@ fn truncate_in_memory<D: BlockDevice>(
     size: u32,
 ) -> Result<WriterContents, Error>
     requires { CanTruncateContents map.old (D.blocks dev.old) (D.geometry dev.old) (WriterContents.InMemory list) limit size }
-    ensures truncated { IfOk result (λ c. HaveForm map.new (D.blocks dev.new) (D.geometry dev.old) c
+    ensures truncated { IfOk result (λ c. HaveBytesInForm map.new (D.blocks dev.new) (D.geometry dev.old) c
         (take size (zero_padded size (buffered_bytes list))) (truncated_form limit size (form.InMemory (length (buffered_bytes list))))) }
     ensures owned { IfOk result (λ c. AreUsedAmong map.new (contents_blocks (D.blocks dev.old) (D.geometry dev.old).block_size (WriterContents.InMemory list)) (contents_blocks (D.blocks dev.new) (D.geometry dev.old).block_size c)) }
     ensures writing { WritesUnusedBlocks D.BlockDevice map.old map.new dev.old dev.new result }
@@ -97,7 +97,7 @@ fn shorten_to_memory<D: BlockDevice>(
 }
 
 // Fills a finished list with zeros up to a size, in a list in hand over it.
-fn fill_finished<D: BlockDevice>(
+fn fill_finished_list<D: BlockDevice>(
     alloc: Global,
     dev: &mut D,
     map: &mut BlockMap,
@@ -105,7 +105,7 @@ fn fill_finished<D: BlockDevice>(
     size: u32,
 ) -> Result<PendingList, Error>
     requires stored { IsFinishedList map.old (D.blocks dev.old) (D.geometry dev.old).block_size stored }
-    requires room { HasLongerRoom map.old (D.geometry dev.old).block_size stored.size size (in_flight_limit (D.geometry dev.old).block_size stored) }
+    requires room { HasGrowthRoom map.old (D.geometry dev.old).block_size stored.size size (in_flight_limit (D.geometry dev.old).block_size stored) }
     ensures filled { IfOk result (λ h. IsWrittenTo map.new (D.blocks dev.new) (D.geometry dev.old) h size
         (take size (zero_padded size (stored_list_bytes (D.blocks dev.old) (D.geometry dev.old).block_size stored)))) }
     ensures base { IfOk result (λ h. KeepsStoredBlocks (D.geometry dev.old).block_size (D.blocks dev.old) stored (D.blocks dev.new) h.base) }
@@ -127,7 +127,7 @@ fn truncate_finished_list<D: BlockDevice>(
     size: u32,
 ) -> Result<WriterContents, Error>
     requires { CanTruncateContents map.old (D.blocks dev.old) (D.geometry dev.old) (WriterContents.Finished stored) limit size }
-    ensures truncated { IfOk result (λ c. HaveForm map.new (D.blocks dev.new) (D.geometry dev.old) c
+    ensures truncated { IfOk result (λ c. HaveBytesInForm map.new (D.blocks dev.new) (D.geometry dev.old) c
         (take size (zero_padded size (stored_list_bytes (D.blocks dev.old) (D.geometry dev.old).block_size stored))) (truncated_form limit size (form.Finished stored.size stored.in_flight))) }
     ensures owned { IfOk result (λ c. AreUsedAmong map.new (contents_blocks (D.blocks dev.old) (D.geometry dev.old).block_size (WriterContents.Finished stored)) (contents_blocks (D.blocks dev.new) (D.geometry dev.old).block_size c)) }
     ensures writing { WritesUnusedBlocks D.BlockDevice map.old map.new dev.old dev.new result }
@@ -140,7 +140,7 @@ fn truncate_finished_list<D: BlockDevice>(
         return Ok(WriterContents::InMemory(list));
     }
     if stored.size < size {
-        let hand = fill_finished(alloc, dev, map, stored, size)?;
+        let hand = fill_finished_list(alloc, dev, map, stored, size)?;
         return Ok(WriterContents::InHand(hand));
     }
     let cut = shorten_stored_list(dev, map, stored, size)?;
@@ -181,7 +181,7 @@ fn shorten_unfinished_list<D: BlockDevice>(
 ) -> Result<WriterContents, Error>
     requires can { CanTruncateContents map.old (D.blocks dev.old) (D.geometry dev.old) (WriterContents.InHand hand) limit size }
     requires shorter { size < unfinished_length hand }
-    ensures truncated { IfOk result (λ c. HaveForm map.new (D.blocks dev.new) (D.geometry dev.old) c
+    ensures truncated { IfOk result (λ c. HaveBytesInForm map.new (D.blocks dev.new) (D.geometry dev.old) c
         (take size (zero_padded size (unfinished_bytes (D.blocks dev.old) hand))) (truncated_form limit size (form.Finished (unfinished_length hand) true))) }
     ensures owned { IfOk result (λ c. AreUsedAmong map.new (contents_blocks (D.blocks dev.old) (D.geometry dev.old).block_size (WriterContents.InHand hand)) (contents_blocks (D.blocks dev.new) (D.geometry dev.old).block_size c)) }
     ensures writing { WritesUnusedBlocks D.BlockDevice map.old map.new dev.old dev.new result }
@@ -201,7 +201,7 @@ fn truncate_unfinished_list<D: BlockDevice>(
     size: u32,
 ) -> Result<WriterContents, Error>
     requires { CanTruncateContents map.old (D.blocks dev.old) (D.geometry dev.old) (WriterContents.InHand hand) limit size }
-    ensures truncated { IfOk result (λ c. HaveForm map.new (D.blocks dev.new) (D.geometry dev.old) c
+    ensures truncated { IfOk result (λ c. HaveBytesInForm map.new (D.blocks dev.new) (D.geometry dev.old) c
         (take size (zero_padded size (unfinished_bytes (D.blocks dev.old) hand))) (truncated_form limit size (contents_form (WriterContents.InHand hand)))) }
     ensures owned { IfOk result (λ c. AreUsedAmong map.new (contents_blocks (D.blocks dev.old) (D.geometry dev.old).block_size (WriterContents.InHand hand)) (contents_blocks (D.blocks dev.new) (D.geometry dev.old).block_size c)) }
     ensures writing { WritesUnusedBlocks D.BlockDevice map.old map.new dev.old dev.new result }
@@ -234,7 +234,7 @@ pub fn truncate_contents<D: BlockDevice>(
     size: u32,
 ) -> Result<WriterContents, Error>
     requires { CanTruncateContents map.old (D.blocks dev.old) (D.geometry dev.old) contents limit size }
-    ensures truncated { IfOk result (λ c. HaveForm map.new (D.blocks dev.new) (D.geometry dev.old) c
+    ensures truncated { IfOk result (λ c. HaveBytesInForm map.new (D.blocks dev.new) (D.geometry dev.old) c
         (take size (zero_padded size (contents_bytes (D.blocks dev.old) (D.geometry dev.old).block_size contents))) (truncated_form limit size (contents_form contents))) }
     ensures owned { IfOk result (λ c. AreUsedAmong map.new (contents_blocks (D.blocks dev.old) (D.geometry dev.old).block_size contents) (contents_blocks (D.blocks dev.new) (D.geometry dev.old).block_size c)) }
     ensures map { KeepsUsedBlocks map.old map.new }

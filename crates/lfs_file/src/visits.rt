@@ -34,7 +34,7 @@ fn named_by_later(words: &[u8], block: u32, index: u32, last: u32) -> bool
 // Returns the block that pointer 0 of a block names, and notes the block's pointers. The call takes
 // one read, or none where the block is on the way. Returns `Corrupt` where the block isn't one of
 // the device, or isn't the one that the pointers to its place name.
-fn check_and_step<D: BlockDevice>(
+fn check_and_follow<D: BlockDevice>(
     dev: &mut D,
     block: u32,
     index: u32,
@@ -97,7 +97,7 @@ pub fn walk<D: BlockDevice, F: FnMut(u32)>(
     let mut block = head;
     let mut index = last;
     while index > 0 {
-        let before = check_and_step(dev, block, index, last, &way, &mut words)?;
+        let before = check_and_follow(dev, block, index, last, &way, &mut words)?;
         if block == first {
             return Err(Error::Corrupt);
         }

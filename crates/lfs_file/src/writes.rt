@@ -33,7 +33,7 @@ pub struct PendingList {
 /// then. Returns whether it did; otherwise nothing changes.
 ///
 /// The caller's condition is that the bytes end before 2,147,483,648.
-pub(crate) fn write_within_block(hand: &mut PendingList, place: u32, bytes: &[u8]) -> bool
+pub(crate) fn buffer_within_block(hand: &mut PendingList, place: u32, bytes: &[u8]) -> bool
     requires { place + length bytes.now < 2 ^ 31 }
     ensures fits { result ≡ ((growing_size hand.old.list == place) && fits_unwritten_block hand.old.list (length bytes.now)) }
     ensures written { OnTrue result (hand.new ≡ record hand.old { list = record hand.old.list { rest = hand.old.list.rest ++ bytes.now } }) }

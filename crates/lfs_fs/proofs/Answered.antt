@@ -1,6 +1,6 @@
 -- From an operation's checks, and what the tree does, to its turn.
 use Rattle.std.proofs.Common.{◌∷◌, length, Option, inl, inr, ℕ, ◌≡◌, ◌≢◌, Bool, true, false, cond, List, [], ◌++◌, Some, None, Result, Ok, Err, refl, sym, ap, ap₂, subst, ◌∙◌, append_assoc, arith, ◌<◌, nat_le}
-use Rattle.lfs_fs.proofs.Common.{nat_tests, same_Some, CachedBlocks, CallEvent, Operation, Reply, Refusal, FlagsOfOpen, Failed, OpenFilesByNumber, Session, DiskSummary, Reading, Writing, free_number_of, files_with_file, opened_writer, path_or_root, operation_refusal, operation_effect, Healthy, is_remount, IsStep, is_read_only, opens_existing, writes_or_truncates, needs_no_call, renames_itself, spread_step, FileNode, file_bytes, is_file, is_query, not_remount, is_refusal, error_refusal, reply_from, TreeState, shown_tree, tree_summary, IsSoundState, OnlyReadsTree, IsFailedTree, HasErrorCause, IsApplied, IsInFlight, few_flying, in_flight-freed, RuntimeFiles, unsaved_or_tree, files_view, has_unsaved, reader_view, readers_among, writer_view, writers_among, writers_paths, takes_away, StayReady, KeepFiles, KeepsWriters, ConcernsNoFile, zero_gstate, pairs_gstate, Path, AllByRecursion, list_any, SessionView, IsReady, AreUnsavedIfAny, IsWriterReady, session_view, view_with_files, viewed_session, system_state, refusal_by_checks, FailsChecks, IsChecksResult, SessionFails, StepsOrFails}
+use Rattle.lfs_fs.proofs.Common.{nat_tests, same_Some, CachedBlocks, CallEvent, Operation, Reply, Refusal, FlagsOfOpen, Failed, OpenFilesByNumber, Session, DiskSummary, Reading, Writing, free_number_of, files_with_file, opened_writer, path_or_root, operation_refusal, operation_effect, Healthy, is_remount, IsStep, is_read_only, opens_existing, writes_or_truncates, needs_no_device, renames_itself, spread_step, FileNode, file_bytes, is_file, is_query, not_remount, is_refusal, error_refusal, reply_from, TreeState, shown_tree, tree_summary, IsSoundState, OnlyReadsTree, IsFailedTree, HasErrorCause, IsApplied, IsInFlight, few_flying, in_flight-freed, RuntimeFiles, unsaved_or_tree, files_view, has_unsaved, reader_view, readers_among, writer_view, writers_among, writers_paths, takes_away, StayReady, KeepFiles, KeepsWriters, ConcernsNoFile, zero_gstate, pairs_gstate, Path, AllByRecursion, list_any, SessionView, IsReady, AreUnsavedIfAny, IsWriterReady, session_view, view_with_files, viewed_session, system_state, refusal_by_checks, FailsChecks, IsChecksResult, SessionFails, StepsOrFails}
 use Rattle.lfs_model.specs.session.Operations as ops
 use Rattle.lfs_model.specs.session.Recovery.{recovers_first}
 use Rattle.lfs_model.specs.session.Run.{edits_slots}
@@ -69,7 +69,7 @@ not_refused h op e = sym (ap (λ b. cond b (Some Failed) (operation_refusal (tre
 -- by reads alone, where there is nothing to do
 pub idle_answer : (old : SessionView) (op : Operation) (tree : TreeState) (files : OpenFilesByNumber) → (old.tree.failed ≡ false → IsSoundState old.tree) → (asked : OnlyReadsTree old.tree tree) → refusal_by_checks old op ≡ None →
     is_remount op ≡ false → (operation_effect (tree_summary old.tree) (viewed_session old) op).1 ≡ record { tree = shown_tree old.tree; files = files } →
-    recovers_first op ≡ false → edits_slots (viewed_session old) op ≡ false → (needs_no_call (viewed_session old) op ≡ true → asked.reads.events ≡ []) →
+    recovers_first op ≡ false → edits_slots (viewed_session old) op ≡ false → (needs_no_device (viewed_session old) op ≡ true → asked.reads.events ≡ []) →
     IsStep (system_state old) op (operation_effect (tree_summary old.tree) (viewed_session old) op).0 (system_state (view_with_files tree files))
 unfolding later
 idle_answer old op tree files sound asked e other same none still silent =
@@ -86,7 +86,7 @@ idle_answer old op tree files sound asked e other same none still silent =
 -- by reads alone
 pub asked_answer : (old : SessionView) (op : Operation) (tree : TreeState) (files : OpenFilesByNumber) → (old.tree.failed ≡ false → IsSoundState old.tree) → (asked : OnlyReadsTree old.tree tree) → refusal_by_checks old op ≡ None →
     is_remount op ≡ false → is_read_only (viewed_session old) op ≡ true → (operation_effect (tree_summary old.tree) (viewed_session old) op).1 ≡ record { tree = shown_tree old.tree; files = files } →
-    recovers_first op ≡ false → edits_slots (viewed_session old) op ≡ false → (needs_no_call (viewed_session old) op ≡ true → asked.reads.events ≡ []) →
+    recovers_first op ≡ false → edits_slots (viewed_session old) op ≡ false → (needs_no_device (viewed_session old) op ≡ true → asked.reads.events ≡ []) →
     IsStep (system_state old) op (operation_effect (tree_summary old.tree) (viewed_session old) op).0 (system_state (view_with_files tree files))
 unfolding later
 asked_answer old op tree files sound asked e other asks same none still silent =
@@ -102,7 +102,7 @@ asked_answer old op tree files sound asked e other asks same none still silent =
 
 -- the tree carries it out
 pub carried_answer : (old : SessionView) (op : Operation) (mid new : TreeState) (files : OpenFilesByNumber) → (old.tree.failed ≡ false → IsSoundState old.tree) → (old.tree.failed ≡ false → old.tree.history ≢ []) → OnlyReadsTree old.tree mid → refusal_by_checks old op ≡ None →
-    IsApplied mid op new → is_remount op ≡ false → is_read_only (viewed_session old) op ≡ false → writes_or_truncates op ≡ false → opens_existing (viewed_session old) op ≡ false → needs_no_call (viewed_session old) op ≡ false →
+    IsApplied mid op new → is_remount op ≡ false → is_read_only (viewed_session old) op ≡ false → writes_or_truncates op ≡ false → opens_existing (viewed_session old) op ≡ false → needs_no_device (viewed_session old) op ≡ false →
     (operation_effect (tree_summary old.tree) (viewed_session old) op).1.files ≡ files →
     IsStep (system_state old) op (operation_effect (tree_summary old.tree) (viewed_session old) op).0 (system_state (view_with_files new files))
 unfolding later
@@ -193,7 +193,7 @@ question_lays_nothing s _ e = absurd (cc)
 
 -- a question that reads alone answer
 pub question_answers : {A : Type 0} (old : SessionView) (op : Operation) (reply : A → Reply) (P : A → Type 0) (checked : Result A Error) (tree : TreeState) → (old.tree.failed ≡ false → IsSoundState old.tree) →
-    is_query op ≡ true → needs_no_call (viewed_session old) op ≡ false → ((x : A) → P x → reply x ≡ (operation_effect (tree_summary old.tree) (viewed_session old) op).0) →
+    is_query op ≡ true → needs_no_device (viewed_session old) op ≡ false → ((x : A) → P x → reply x ≡ (operation_effect (tree_summary old.tree) (viewed_session old) op).0) →
     IsChecksResult old op P checked tree → StepsOrFails old op (reply_from reply checked) (view_with_files tree old.files)
 question_answers old op reply P (Err e) tree sound asks silent answer h = ended old op e tree sound (not_remount op asks) h
 question_answers old op reply P (Ok x) tree sound asks silent answer h =
@@ -298,7 +298,7 @@ error_answers old op e new reply is fails = subst (λ b. StepsOrFails old op (co
 
 -- an operation that the tree carries out once no check refuses it
 pub done_answers : (K : Type 0) (old now : SessionView) (op : Operation) (mid new : TreeState) (r : Result (Unit {0}) Error) → old ≡ now → (old.tree.failed ≡ false → IsSoundState old.tree) → (old.tree.failed ≡ false → old.tree.history ≢ []) → OnlyReadsTree old.tree mid → refusal_by_checks old op ≡ None →
-    is_remount op ≡ false → is_read_only (viewed_session old) op ≡ false → writes_or_truncates op ≡ false → opens_existing (viewed_session old) op ≡ false → needs_no_call (viewed_session old) op ≡ false →
+    is_remount op ≡ false → is_read_only (viewed_session old) op ≡ false → writes_or_truncates op ≡ false → opens_existing (viewed_session old) op ≡ false → needs_no_device (viewed_session old) op ≡ false →
     (operation_effect (tree_summary old.tree) (viewed_session old) op).0 ≡ ops.Done → (operation_effect (tree_summary old.tree) (viewed_session old) op).1.files ≡ old.files → renames_itself op ≡ false → old.tree.writable ≡ true →
     OnOk r K → (K → IsApplied mid op new) → OnErr r (IsFailedTree mid new) → IfErr r (HasErrorCause mid new) → StepsOrFails now op (reply_from (λ u. ops.Done) r) (view_with_files new old.files)
 done_answers K old now op mid new r is sound called asked e other asks fill creates silent done files itself writable carried from broken errors =
@@ -312,14 +312,14 @@ done_answers K old now op mid new r is sound called asked e other asks fill crea
 
 -- a question's call
 pub question_call : {A : Type 0} (old now : SessionView) (op : Operation) (reply : A → Reply) (P : A → Type 0) (checked : Result A Error) (tree : TreeState) → old ≡ now →
-    (old.tree.failed ≡ false → IsSoundState old.tree) → is_query op ≡ true → needs_no_call (viewed_session old) op ≡ false → ((x : A) → P x → reply x ≡ (operation_effect (tree_summary old.tree) (viewed_session old) op).0) →
+    (old.tree.failed ≡ false → IsSoundState old.tree) → is_query op ≡ true → needs_no_device (viewed_session old) op ≡ false → ((x : A) → P x → reply x ≡ (operation_effect (tree_summary old.tree) (viewed_session old) op).0) →
     IsChecksResult old op P checked tree → StepsOrFails now op (reply_from reply checked) (view_with_files tree old.files)
 question_call old now op reply P checked tree same sound asks silent answer h =
     subst (λ z. StepsOrFails z op (reply_from reply checked) (view_with_files tree old.files)) same (question_answers old op reply P checked tree sound asks silent answer h)
 
 -- an operation by reads alone that changes the open files
 pub files_answers : (old now : SessionView) (op : Operation) (tree : TreeState) (files : OpenFilesByNumber) (reply : Reply) → old ≡ now → (old.tree.failed ≡ false → IsSoundState old.tree) → OnlyReadsTree old.tree tree → refusal_by_checks old op ≡ None →
-    is_remount op ≡ false → is_read_only (viewed_session old) op ≡ true → recovers_first op ≡ false → edits_slots (viewed_session old) op ≡ false → needs_no_call (viewed_session old) op ≡ false →
+    is_remount op ≡ false → is_read_only (viewed_session old) op ≡ true → recovers_first op ≡ false → edits_slots (viewed_session old) op ≡ false → needs_no_device (viewed_session old) op ≡ false →
     operation_effect (tree_summary old.tree) (viewed_session old) op ≡ (reply, record { tree = shown_tree old.tree; files = files }) → StepsOrFails now op (Ok reply) (view_with_files tree files)
 files_answers old now op tree files reply same sound asked e other asks none still silent is =
     subst (λ z. StepsOrFails z op (Ok reply) (view_with_files tree files)) same
@@ -339,7 +339,7 @@ ended_kept old now op reply e r same sound other h is =
 
 -- an operation without a call that changes the open files
 pub files_kept : (old now : SessionView) (op : Operation) (files : OpenFilesByNumber) (reply : Reply) → old ≡ now → (old.tree.failed ≡ false → IsSoundState old.tree) → refusal_by_checks old op ≡ None →
-    is_remount op ≡ false → is_read_only (viewed_session old) op ≡ true → recovers_first op ≡ false → edits_slots (viewed_session old) op ≡ false → needs_no_call (viewed_session old) op ≡ false →
+    is_remount op ≡ false → is_read_only (viewed_session old) op ≡ true → recovers_first op ≡ false → edits_slots (viewed_session old) op ≡ false → needs_no_device (viewed_session old) op ≡ false →
     operation_effect (tree_summary old.tree) (viewed_session old) op ≡ (reply, record { tree = shown_tree old.tree; files = files }) → StepsOrFails now op (Ok reply) (view_with_files old.tree files)
 files_kept old now op files reply same sound e = files_answers old now op old.tree files reply same sound (nothing_asked old.tree) e
 

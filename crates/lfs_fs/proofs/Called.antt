@@ -2,7 +2,7 @@
 use Rattle.std.proofs.Common.{◌≡◌, Bool, true, false, Some, None, Result, Err, sym, ap, subst, ◌∙◌}
 use Rattle.std.specs.Prelude.{OnOk, OnErr, IfErr, is_err}
 use Rattle.lfs_device.specs.declared.error.Error.{Error}
-use Rattle.lfs_fs.proofs.Common.{answers_itself, is_look_up, needs_no_resource, operation_effect, Operation, Reply, SurvivesInCalls, SurvivesPowerLoss, HealthyHasDiskTree, opens_existing, writes_or_truncates, needs_no_call, is_read_only, renames_itself, OpenFilesByNumber, is_remount, Tree, is_refusal, error_refusal, OnlyReadsTree, IsFailedTree, IsApplied, HasErrorCause, LeavesOthersAlone, TreeState, SurvivesStops, tree_summary, RuntimeFiles, files_view, StepsOrFails, FailsChecks, SessionView, IsReady, session_view, view_with_files, system_state, refusal_by_checks, viewed_session, reply_from, StayReady, MeetsRules, IsCall, SparesOthers, HasSessionInvariant, LeftConforming}
+use Rattle.lfs_fs.proofs.Common.{answers_itself, is_look_up, needs_session_alone, operation_effect, Operation, Reply, SurvivesInCalls, SurvivesPowerLoss, HealthyHasDiskTree, opens_existing, writes_or_truncates, needs_no_device, is_read_only, renames_itself, OpenFilesByNumber, is_remount, Tree, is_refusal, error_refusal, OnlyReadsTree, IsFailedTree, IsApplied, HasErrorCause, KeepsOthersIfRecovered, TreeState, SurvivesStops, tree_summary, RuntimeFiles, files_view, StepsOrFails, FailsChecks, SessionView, IsReady, session_view, view_with_files, system_state, refusal_by_checks, viewed_session, reply_from, StayReady, MeetsReplyRules, IsCall, SparesOthers, HasSessionInvariant, DeviceConforms}
 use Rattle.lfs_model.specs.session.Operations as ops
 use Rattle.lfs_fs.proofs.Answered.{asked_by_checks, done_answers, ended_call, ended_kept, files_asked, not_failed, called_before, sound_by, with_files}
 use Rattle.lfs_fs.proofs.Ending.{broken_ends, carried_ends, ended_ends, unread_ends}
@@ -13,7 +13,7 @@ use Rattle.lfs_fs.proofs.Surviving.{call_survives_loss, ready_agrees, untouched_
 
 -- no question
 unasked_call : (now : SessionView) (op : Operation) (r : Result Reply Error) (new : SessionView) → answers_itself op ≡ false → is_look_up op ≡ false → SurvivesPowerLoss (system_state now) op (system_state new) → (is_err r ≡ false → SparesOthers (system_state now) op (system_state new)) →
-    MeetsRules now op r new → StepsOrFails now op r new → IsCall now op r new
+    MeetsReplyRules now op r new → StepsOrFails now op r new → IsCall now op r new
 unasked_call now op r new kept looks survives_loss alone ends answers = record {
   answers = answers;
   ends = ends;
@@ -29,15 +29,15 @@ unasked_call now op r new kept looks survives_loss alone ends answers = record {
 
 -- the disk is as it was
 pub still_call : (t : TreeState) (fs : RuntimeFiles) (now : SessionView) (op : Operation) (r : Result Reply Error) (new : SessionView) → session_view t fs ≡ now → (t.failed ≡ false → IsReady t fs) → answers_itself op ≡ false → is_look_up op ≡ false → new.tree.disk ≡ t.disk →
-    MeetsRules now op r new → StepsOrFails now op r new → SurvivesInCalls (system_state now) op (system_state new) → IsCall now op r new
+    MeetsReplyRules now op r new → StepsOrFails now op r new → SurvivesInCalls (system_state now) op (system_state new) → IsCall now op r new
 still_call t fs now op r new is ready kept looks same ends answers survives =
     let stays : new.tree.disk ≡ now.tree.disk = same ∙ ap (λ (h : SessionView). h.tree.disk) is in
     let agrees : HealthyHasDiskTree now.tree.disk (system_state now).state = subst (λ (h : SessionView). HealthyHasDiskTree h.tree.disk (system_state h).state) is (ready_agrees t fs ready) in
     unasked_call now op r new kept looks (untouched_survives_loss (system_state now) op (system_state new) agrees stays survives) (λ e. untouched_others (system_state now) op (system_state new) stays) ends answers
 
 -- the disk may have changed
-pub changed_call : {A : Type 0} (t : TreeState) (fs : RuntimeFiles) (now : SessionView) (op : Operation) (reply : A → Reply) (r : Result A Error) (new : SessionView) → session_view t fs ≡ now → HasSessionInvariant t fs → LeftConforming new.tree → is_remount op ≡ false → answers_itself op ≡ false → is_look_up op ≡ false →
-    OnOk r (SparesOthers (system_state now) op (system_state new)) → MeetsRules now op (reply_from reply r) new → StepsOrFails now op (reply_from reply r) new → SurvivesInCalls (system_state now) op (system_state new) → IsCall now op (reply_from reply r) new
+pub changed_call : {A : Type 0} (t : TreeState) (fs : RuntimeFiles) (now : SessionView) (op : Operation) (reply : A → Reply) (r : Result A Error) (new : SessionView) → session_view t fs ≡ now → HasSessionInvariant t fs → DeviceConforms new.tree → is_remount op ≡ false → answers_itself op ≡ false → is_look_up op ≡ false →
+    OnOk r (SparesOthers (system_state now) op (system_state new)) → MeetsReplyRules now op (reply_from reply r) new → StepsOrFails now op (reply_from reply r) new → SurvivesInCalls (system_state now) op (system_state new) → IsCall now op (reply_from reply r) new
 changed_call t fs now op reply r new is between reported other kept looks alone ends answers survives =
     unasked_call now op (reply_from reply r) new kept looks (call_survives_loss t fs now op (reply_from reply r) new is between reported other answers survives) (λ e. ok_others now op reply r new answers alone e) ends answers
 
@@ -55,7 +55,7 @@ disk_of_ended h op e tree k = go (is_refusal e) k
     go false k = k.0.disk
 
 pub ended_as_call : {B : Type 0} (t : TreeState) (fs : RuntimeFiles) (now : SessionView) (op : Operation) (reply : B → Reply) (e : Error) (tree : TreeState) (r : Result B Error) → session_view t fs ≡ now → (t.failed ≡ false → IsReady t fs) → is_remount op ≡ false → answers_itself op ≡ false → is_look_up op ≡ false →
-    needs_no_resource (viewed_session (session_view t fs)) op ≡ false → FailsChecks (is_refusal e) (session_view t fs) op e tree → r ≡ Err e → IsCall now op (reply_from reply r) (session_view tree fs)
+    needs_session_alone (viewed_session (session_view t fs)) op ≡ false → FailsChecks (is_refusal e) (session_view t fs) op e tree → r ≡ Err e → IsCall now op (reply_from reply r) (session_view tree fs)
 ended_as_call t fs now op reply e tree r is ready other kept looks takes h given =
     still_call t fs now op (reply_from reply r) (session_view tree fs) is ready kept looks (disk_of_ended (session_view t fs) op e tree h)
     (ended_ends t fs now op reply e tree r is takes h given)
@@ -75,9 +75,9 @@ unread_call t fs now op reply e r is ready other kept looks h given =
 
 -- the tree carries the operation out behind reads, or its call fails
 pub done_call : (C K : Type 0) (t mid new : TreeState) (fs : RuntimeFiles) (now : SessionView) (op : Operation) (r : Result (Unit {0}) Error) (after : Tree) → session_view t fs ≡ now → HasSessionInvariant t fs → OnlyReadsTree t mid → refusal_by_checks (session_view t fs) op ≡ None →
-    is_remount op ≡ false → is_read_only (viewed_session (session_view t fs)) op ≡ false → writes_or_truncates op ≡ false → opens_existing (viewed_session (session_view t fs)) op ≡ false → needs_no_call (viewed_session (session_view t fs)) op ≡ false →
-    (operation_effect (tree_summary t) (viewed_session (session_view t fs)) op).0 ≡ ops.Done → (operation_effect (tree_summary t) (viewed_session (session_view t fs)) op).1.files ≡ files_view t fs → answers_itself op ≡ false → is_look_up op ≡ false → needs_no_resource (viewed_session (session_view t fs)) op ≡ false →
-    renames_itself op ≡ false → t.writable ≡ true → (new.failed ≡ false → StayReady t new fs) → LeftConforming new → OnOk r C → (C → IsApplied mid op new) → OnOk r K → (K → LeavesOthersAlone mid op new) → OnErr r (IsFailedTree mid new) → IfErr r (HasErrorCause mid new) →
+    is_remount op ≡ false → is_read_only (viewed_session (session_view t fs)) op ≡ false → writes_or_truncates op ≡ false → opens_existing (viewed_session (session_view t fs)) op ≡ false → needs_no_device (viewed_session (session_view t fs)) op ≡ false →
+    (operation_effect (tree_summary t) (viewed_session (session_view t fs)) op).0 ≡ ops.Done → (operation_effect (tree_summary t) (viewed_session (session_view t fs)) op).1.files ≡ files_view t fs → answers_itself op ≡ false → is_look_up op ≡ false → needs_session_alone (viewed_session (session_view t fs)) op ≡ false →
+    renames_itself op ≡ false → t.writable ≡ true → (new.failed ≡ false → StayReady t new fs) → DeviceConforms new → OnOk r C → (C → IsApplied mid op new) → OnOk r K → (K → KeepsOthersIfRecovered mid op new) → OnErr r (IsFailedTree mid new) → IfErr r (HasErrorCause mid new) →
     SurvivesStops mid new after → after ≡ (operation_effect (tree_summary t) (viewed_session (session_view t fs)) op).1.tree → IsCall now op (reply_from (λ u. ops.Done) r) (session_view new fs)
 done_call C K t mid new fs now op r after is between asked e other asks fill creates silent done files kept looks takes itself writable left reported c carried k rest broken errors survives makes =
     changed_call t fs now op (λ u. ops.Done) r (session_view new fs) is between reported other kept looks
@@ -89,8 +89,8 @@ done_call C K t mid new fs now op r after is between asked e other asks fill cre
 
 -- what was written can't be brought to the device
 pub saving_call : {B : Type 0} (t new : TreeState) (fs : RuntimeFiles) (files : OpenFilesByNumber) (now : SessionView) (op : Operation) (reply : B → Reply) (e : Error) (r : Result B Error) (after : Tree) → session_view t fs ≡ now → HasSessionInvariant t fs → refusal_by_checks (session_view t fs) op ≡ None →
-    is_remount op ≡ false → is_read_only (viewed_session (session_view t fs)) op ≡ false → renames_itself op ≡ false → answers_itself op ≡ false → is_look_up op ≡ false → needs_no_resource (viewed_session (session_view t fs)) op ≡ false → t.writable ≡ true →
-    LeftConforming new → IsFailedTree t new → HasErrorCause t new e → r ≡ Err e → SurvivesStops t new after → after ≡ (operation_effect (tree_summary t) (viewed_session (session_view t fs)) op).1.tree → IsCall now op (reply_from reply r) (view_with_files new files)
+    is_remount op ≡ false → is_read_only (viewed_session (session_view t fs)) op ≡ false → renames_itself op ≡ false → answers_itself op ≡ false → is_look_up op ≡ false → needs_session_alone (viewed_session (session_view t fs)) op ≡ false → t.writable ≡ true →
+    DeviceConforms new → IsFailedTree t new → HasErrorCause t new e → r ≡ Err e → SurvivesStops t new after → after ≡ (operation_effect (tree_summary t) (viewed_session (session_view t fs)) op).1.tree → IsCall now op (reply_from reply r) (view_with_files new files)
 saving_call t new fs files now op reply e r after is between accepted other asks itself kept looks takes writable reported broken error given survives makes =
     changed_call t fs now op reply r (view_with_files new files) is between reported other kept looks
     (failed_others now op (view_with_files new files) r given)

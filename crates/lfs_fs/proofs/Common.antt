@@ -4,14 +4,14 @@ pub use Rattle.lfs_file.specs.Contents.{contents_form}
 pub use Rattle.lfs_file.specs.Form.{ContentsForm, FormFitsWriter, IsWriterForm}
 pub use Rattle.lfs_file.specs.Known.{AreKnownBlocks, no_known_blocks}
 pub use Rattle.lfs_fs.specs.CallEffects.{IsCall, SparesOthers}
-pub use Rattle.lfs_fs.specs.CallEnds.{MeetsRules}
-pub use Rattle.lfs_fs.specs.DeviceLaws.{HasSessionInvariant, LeftConforming}
+pub use Rattle.lfs_fs.specs.CallEnds.{MeetsReplyRules}
+pub use Rattle.lfs_fs.specs.DeviceLaws.{HasSessionInvariant, DeviceConforms}
 pub use Rattle.lfs_fs.specs.EntryPaths.{entry_path}
 pub use Rattle.lfs_fs.specs.FileAnswers.{file_position}
-pub use Rattle.lfs_fs.specs.FileView.{RuntimeFiles, change_end, file_view, file_with_known, file_with_position, files_view, has_unsaved, is_open_where, is_unsaved_one, is_unsaved_turned, lowest_free, open_file_at, prepended, reader_if_any, reader_view, readers_among, reserved_by, reserved_by_writers, reserved_for, runtime_files_with, selected_files, unsaved_or_tree, writer_if_any, writer_view, writers_among, writers_paths}
+pub use Rattle.lfs_fs.specs.FileView.{RuntimeFiles, last_change_end, file_view, file_with_known, file_with_position, files_view, has_unsaved, is_open_where, is_unsaved_writer, is_unsaved_turned, lowest_free, open_file_at, prepended, reader_if_any, reader_view, readers_among, reserved_by, reserved_by_writers, reserved_for, runtime_files_with, selected_files, unsaved_or_tree, writer_if_any, writer_view, writers_among, writers_paths}
 pub use Rattle.lfs_fs.specs.FlagsView.{flags_view}
 pub use Rattle.lfs_fs.specs.ImageLimits.{ReturnsUnchangedDevice}
-pub use Rattle.lfs_fs.specs.LookUps.{AddsNoReads, NothingIfCached, ReadsSearched}
+pub use Rattle.lfs_fs.specs.LookUps.{AddsNoReads, NoReadsIfCached, ReadsSearched}
 pub use Rattle.lfs_fs.specs.OpView.{HasRefusalError, op_view, reply_view}
 pub use Rattle.lfs_fs.specs.OpenFilesStay.{ConcernsNoFile, KeepFiles, KeepsWriters, StayReady}
 pub use Rattle.lfs_fs.specs.ReaderReads.{ReadsFew}
@@ -32,8 +32,8 @@ pub use Rattle.lfs_model.proofs.Paths.{Names, alike, names, path_from_same, path
 pub use Rattle.lfs_model.proofs.SessionSteps.{not_remount}
 pub use Rattle.lfs_model.proofs.StepsMade.{filled_step, spread_step}
 pub use Rattle.lfs_model.proofs.Uniqueness.{one_thread}
-pub use Rattle.lfs_model.specs.crash.Frame.{LeavesOthers, ReadsEachOnce, ancestor_paths, answers_itself, is_early_refusal, is_look_up, needs_no_resource, pair_count_at, searched_directories}
-pub use Rattle.lfs_model.specs.crash.PowerLoss.{HasEither, SurvivesInCalls, SurvivesPowerLoss}
+pub use Rattle.lfs_model.specs.crash.Frame.{KeepsOthers, ReadsEachOnce, ancestor_paths, answers_itself, refused_before_search, is_look_up, needs_session_alone, pair_count_at, searched_directories}
+pub use Rattle.lfs_model.specs.crash.PowerLoss.{HasEitherTree, SurvivesInCalls, SurvivesPowerLoss}
 pub use Rattle.lfs_model.specs.crash.ReadBounds.{ReadsOnceAlways}
 pub use Rattle.lfs_model.specs.crash.RepeatedPowerLoss.{IsMounted}
 pub use Rattle.lfs_model.specs.format.Blocks.{Blocks}
@@ -46,13 +46,13 @@ pub use Rattle.lfs_model.specs.format.Thread.{Pair, pairs_blocks, pairs_gstate}
 pub use Rattle.lfs_model.specs.layers.BlockSets.{IsInFlight, in_flight_count}
 pub use Rattle.lfs_model.specs.layers.Cache.{CachedBlocks}
 pub use Rattle.lfs_model.specs.layers.Keeping.{struct_at, takes_away}
-pub use Rattle.lfs_model.specs.session.Effects.{file_at_position, file_with_bytes, node_file_size, operation_effect, operation_result, tree_stored}
+pub use Rattle.lfs_model.specs.session.Effects.{file_at_position, file_with_bytes, node_file_size, operation_effect, operation_result, tree_after_storing}
 pub use Rattle.lfs_model.specs.session.Headline.{is_query}
 pub use Rattle.lfs_model.specs.session.History.{AllCalls, CallEvent, IsRead, LeftByLatest, OnlyReadsSince, call_reads, fault_count, read_count}
 pub use Rattle.lfs_model.specs.session.Layout.{IsLayoutRecovered}
 pub use Rattle.lfs_model.specs.session.Operations.{Failed, FlagsOfOpen, Operation, Refusal, Reply, parse_path}
 pub use Rattle.lfs_model.specs.session.Refusals.{is_root_path, is_unusable, operation_refusal, path_or_root}
-pub use Rattle.lfs_model.specs.session.Run.{HealthyHasDiskTree, IsStep, SystemState, WriteNothing, is_dirty, is_read_only, needs_no_call, opens_existing, renames_itself, writes_or_truncates}
+pub use Rattle.lfs_model.specs.session.Run.{HealthyHasDiskTree, IsStep, SystemState, WriteNothing, is_dirty, is_read_only, needs_no_device, opens_existing, renames_itself, writes_or_truncates}
 pub use Rattle.lfs_model.specs.session.Session.{DiskSummary, OpenFilesByNumber, Reading, Session, Writing, all_readers, all_writers, are_allowed, exceeds_charge, file_numbered, file_reader, file_writer, files_with_file, first_refusal, free_number_of, has_file, has_long_name, lacks_free, overfills_disk, parents_refusal, refuse_if, reserved_for_writer, reserved_for_writers}
 pub use Rattle.lfs_model.specs.session.SlotEdits.{slot_of}
 pub use Rattle.lfs_model.specs.session.State.{HasFailed, Healthy, SessionHealth, is_remount, mounted_session}
@@ -69,7 +69,7 @@ pub use Rattle.lfs_tree.specs.Permissions.{CanCreateFile, CanMakeDirectory}
 pub use Rattle.lfs_tree.specs.RenameFindings.{AreRenameFindings}
 pub use Rattle.lfs_tree.specs.SlotChanges.{tree_with_attributes}
 pub use Rattle.lfs_tree.specs.TreeReads.{HasCachedDirectories}
-pub use Rattle.lfs_tree.specs.TreeState.{FailedByReading, HasErrorCause, HasMountCause, IsApplied, IsFailedTree, IsMountedTree, IsRemountedTree, IsSoundState, LeavesOthersAlone, OnlyReadsTree, SurvivesStops, TreeState, kept_thread, shown_tree, tree_summary}
+pub use Rattle.lfs_tree.specs.TreeState.{FailedByReading, HasErrorCause, HasMountCause, IsApplied, IsFailedTree, IsMountedTree, IsRemountedTree, IsSoundState, KeepsOthersIfRecovered, OnlyReadsTree, SurvivesStops, TreeState, kept_thread, shown_tree, tree_summary}
 pub use Rattle.std.proofs.lemmas.Bool.{eq-eqb, eqb-true, le-leb, lt-ltb, ltb-false, ltb-true, ne_eqb}
 pub use Rattle.std.proofs.lemmas.Bool.Decides.{nat_tests}
 pub use Rattle.std.proofs.lemmas.List.{length-take, map-append, map-set, take_all}

@@ -2,13 +2,13 @@
 use Rattle.std.proofs.Common.{◌≡◌, false, List, [], ◌∷◌, ◌++◌, Result, refl, sym, ap, subst, ◌∙◌}
 use Rattle.lfs_device.specs.declared.device.BlockDevice.{Ghosts}
 use Rattle.lfs_device.specs.declared.error.Error.{Error}
-use Rattle.lfs_fs.proofs.Common.{Blocks, Disk, CallEvent, AllCalls, LeftByLatest, IsRead, OnlyReadsSince, call_reads, Operation, OnlyReadsTree, TreeState, RuntimeFiles, IsChecksResult, session_view, HasSessionInvariant, LeftConforming}
+use Rattle.lfs_fs.proofs.Common.{Blocks, Disk, CallEvent, AllCalls, LeftByLatest, IsRead, OnlyReadsSince, call_reads, Operation, OnlyReadsTree, TreeState, RuntimeFiles, IsChecksResult, session_view, HasSessionInvariant, DeviceConforms}
 use Rattle.lfs_model.specs.crash.Conformance.{CallsConform, ConformsTo}
 use Rattle.lfs_model.proofs.Conformance.{conforms_next}
 use Rattle.lfs_fs.proofs.Answered.{asked_by_checks, checked_ready}
 
 -- of the device that is lent
-pub laws_met : {D : Type 0} (g : Ghosts D) (device : D) (t : TreeState) → g.blocks device ≡ t.disk.blocks → g.history device ≡ t.history → LeftByLatest (g.history device) (g.blocks device) → CallsConform (g.history device) → LeftConforming t
+pub laws_met : {D : Type 0} (g : Ghosts D) (device : D) (t : TreeState) → g.blocks device ≡ t.disk.blocks → g.history device ≡ t.history → LeftByLatest (g.history device) (g.blocks device) → CallsConform (g.history device) → DeviceConforms t
 laws_met g device t blocks history newest conforms = record {
   newest = subst (λ (bs : Blocks). LeftByLatest t.history bs) blocks (subst (λ (h : List CallEvent). LeftByLatest h (g.blocks device)) history newest);
   conforms = subst CallsConform history conforms;
@@ -29,7 +29,7 @@ abbrev left_by : List CallEvent → Blocks
 left_by [] = []
 left_by (e ∷ older) = e.after
 
-reported_later : (t new : TreeState) → LeftConforming t → OnlyReadsSince t.disk.blocks t.history new.history → new.disk ≡ t.disk → LeftConforming new
+reported_later : (t new : TreeState) → DeviceConforms t → OnlyReadsSince t.disk.blocks t.history new.history → new.disk ≡ t.disk → DeviceConforms new
 reported_later t new reported reads same = record {
   newest = subst (λ (d : Disk). LeftByLatest new.history d.blocks) (sym same) (subst (λ h. LeftByLatest h t.disk.blocks) (sym reads.extends) (newest_on reads.events reads.each));
   conforms = subst CallsConform (sym reads.extends) (conforming_on reads.events reads.each);
@@ -43,7 +43,7 @@ reported_later t new reported reads same = record {
     conforming_on [] each = reported.conforms
     conforming_on (e ∷ events) each = conforms_next refl (conforming_reads t.disk.blocks e each.0) (conforming_on events each.1)
 
-pub reported_asked : (t new : TreeState) → (t.failed ≡ false → LeftConforming t) → OnlyReadsTree t new → new.failed ≡ false → LeftConforming new
+pub reported_asked : (t new : TreeState) → (t.failed ≡ false → DeviceConforms t) → OnlyReadsTree t new → new.failed ≡ false → DeviceConforms new
 reported_asked t new reported asked works = reported_later t new (reported (sym (ap (λ (s : TreeState). s.failed) asked.same) ∙ works)) asked.reads (ap (λ (s : TreeState). s.disk) asked.same)
 
 -- behind checks

@@ -5,7 +5,7 @@ use Rattle.std.specs.Prelude.{Err, Ok}
 use Rattle.lfs_device.specs.declared.error.Error.TheVariants.{BadFile, Failed}
 use Rattle.lfs_model.specs.session.Session as session
 use Rattle.lfs_fs.specs.FileAnswers.{FileAnswersOf}
-use Rattle.lfs_fs.specs.FileView.{kept_position}
+use Rattle.lfs_fs.specs.FileView.{own_position}
 use Rattle.lfs_fs.specs.declared.files.OpenFile.{OpenFile}
 use Rattle.lfs_fs.specs.declared.files.OpenFile.TheVariants as file
 use Rattle.lfs_fs.specs.declared.files.Reader.{Reader}
@@ -56,14 +56,14 @@ answers_some number t fs now fd n o seen works some is =
     (sym works, ap (option_map (number (session_view t fs))) (file_is t fs fd ∙ ap (option_map (file_view t)) some) ∙ ap Some is)
 
 -- a position that was found, if there is a file
-pub position_found : (o : Option OpenFile) (n : ℕ) → Some n ≡ option_map kept_position o → (f : OpenFile) × ((o ≡ Some f) × (kept_position f ≡ n))
+pub position_found : (o : Option OpenFile) (n : ℕ) → Some n ≡ option_map own_position o → (f : OpenFile) × ((o ≡ Some f) × (own_position f ≡ n))
 position_found None n e = absurd (cc)
-position_found (Some f) n e = (f, (refl, sym (same_Some n (kept_position f) e)))
+position_found (Some f) n e = (f, (refl, sym (same_Some n (own_position f) e)))
 
-pub position_none : (o : Option OpenFile) → None ≡ option_map kept_position o → o ≡ None
+pub position_none : (o : Option OpenFile) → None ≡ option_map own_position o → o ≡ None
 position_none None e = refl
 position_none (Some f) e = absurd (cc)
 
-pub position_seen : (h : SessionView) (t : TreeState) (f : OpenFile) → file_position h (file_view t f) ≡ kept_position f
+pub position_seen : (h : SessionView) (t : TreeState) (f : OpenFile) → file_position h (file_view t f) ≡ own_position f
 position_seen h t (file.Reading r) = refl
 position_seen h t (file.Writing w) = refl

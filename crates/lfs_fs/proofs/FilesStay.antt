@@ -1,7 +1,7 @@
 -- The open files stay while the tree changes beside them.
 use Rattle.std.proofs.Common.{ℕ, ◌≡◌, ◌+◌, ◌-◌, ◌≤◌, ◌⊎◌, ◌∙◌, inl, inr, Bool, true, false, List, [], ◌∷◌, length, Option, Some, None, is_none, is_some, refl, sym, ap, ap₂, subst, arith}
 use Rattle.std.specs.Prelude.{◌||◌, if◌then◌else◌, sum_by}
-use Rattle.lfs_fs.proofs.Common.{AllByRecursion, list_any, file_bytes, is_file, IsInFlight, in_flight_count, block_count, inline_limit, Operation, Reading, Writing, reserved_for_writers, reserved_for_writer, Path, few_flying, in_flight-freed, AreTreeContents, InlineWithinLimit, writer_contents_bytes, IsApplied, IsSoundState, TreeState, tree_summary, shown_tree, contents_form, ContentsForm, IsWriterForm, RuntimeFiles, unsaved_or_tree, change_end, files_view, has_unsaved, reserved_by_writers, reserved_by, reserved_for, reader_view, readers_among, is_unsaved_turned, writer_view, writers_among, writers_paths, AreUnsavedContents, IsReady, AreUnsavedIfAny, IsWriterReady, takes_away, StayReady, KeepsWriters, ConcernsNoFile}
+use Rattle.lfs_fs.proofs.Common.{AllByRecursion, list_any, file_bytes, is_file, IsInFlight, in_flight_count, block_count, inline_limit, Operation, Reading, Writing, reserved_for_writers, reserved_for_writer, Path, few_flying, in_flight-freed, AreTreeContents, InlineWithinLimit, writer_contents_bytes, IsApplied, IsSoundState, TreeState, tree_summary, shown_tree, contents_form, ContentsForm, IsWriterForm, RuntimeFiles, unsaved_or_tree, last_change_end, files_view, has_unsaved, reserved_by_writers, reserved_by, reserved_for, reader_view, readers_among, is_unsaved_turned, writer_view, writers_among, writers_paths, AreUnsavedContents, IsReady, AreUnsavedIfAny, IsWriterReady, takes_away, StayReady, KeepsWriters, ConcernsNoFile}
 use Rattle.lfs_model.specs.declared.limits.Profile.{Profile}
 use Rattle.lfs_model.specs.session.Session as session
 use Rattle.lfs_tree.specs.OpenContents.{kept_thread}
@@ -41,7 +41,7 @@ module _ (over : (old new : TreeState) (op : Operation) (path : Path) (c : Write
   same_writer w h off stays = ap make (same_bytes w w.unsaved h.changed off stays)
     where
       make : List ℕ → session.FileWriter
-      make xs = record { path = w.path; contents = xs; position = w.position; append = w.appends; dirty = is_some w.unsaved; turned = is_unsaved_turned w.unsaved; last_end = change_end w.unsaved }
+      make xs = record { path = w.path; contents = xs; position = w.position; append = w.appends; dirty = is_some w.unsaved; turned = is_unsaved_turned w.unsaved; last_end = last_change_end w.unsaved }
 
   abbrev HasRoom : Writer → Type 0
   HasRoom w = (operation_room op ≡ 0) ⊎ (length (tree_summary old).used + reserved_by old.disk.profile old.disk.block_size w + operation_room op ≤ block_count old.disk)

@@ -3,7 +3,7 @@ use Rattle.std.proofs.Common.{ℕ, ◌≡◌, ◌<◌, ◌∙◌, inl, inr, Bool
 use Rattle.std.specs.Prelude.{All, IfErr, IfOk, OnOk, nat_eq}
 use Rattle.std.specs.List.{IsDistinct}
 use Rattle.std.proofs.lemmas.List.Elements.{All-weaker}
-use Rattle.lfs_fs.proofs.Common.{profiled_disk, ordered_disk, Disk, block_count, OnlyReadsSince-trans, one_thread, content_at, CallEvent, OnlyReadsSince, fault_count, IsMounted, OpenFilesByNumber, SessionHealth, all_unmoved_slots, struct_blocks, used_blocks, Slot, Struct, Inline, Ctz, Branch, Pair, pairs_blocks, IsAccepted, disk_of_device, TreeState, OnlyReadsTree, RuntimeFiles, files_view, HasSessionInvariant, LeftConforming, ReturnsUnchangedDevice, SessionView, session_view, view_with_files, system_state}
+use Rattle.lfs_fs.proofs.Common.{profiled_disk, ordered_disk, Disk, block_count, OnlyReadsSince-trans, one_thread, content_at, CallEvent, OnlyReadsSince, fault_count, IsMounted, OpenFilesByNumber, SessionHealth, all_unmoved_slots, struct_blocks, used_blocks, Slot, Struct, Inline, Ctz, Branch, Pair, pairs_blocks, IsAccepted, disk_of_device, TreeState, OnlyReadsTree, RuntimeFiles, files_view, HasSessionInvariant, DeviceConforms, ReturnsUnchangedDevice, SessionView, session_view, view_with_files, system_state}
 use Rattle.lfs_device.specs.declared.device.BlockDevice.{Ghosts}
 use Rattle.lfs_device.specs.declared.error.Error.{Error}
 use Rattle.lfs_device.specs.declared.error.Error.TheVariants.{Corrupt}
@@ -28,7 +28,7 @@ pub read_if_ok : {A : Type 0} (t new : TreeState) (files : RuntimeFiles) (now : 
 read_if_ok t new files now (Ok x) is works asked = was_read t new files now is works asked
 read_if_ok t new files now (Err e) is works asked = tt
 
-pub ready_if_read : {A : Type 0} (t new : TreeState) (files : RuntimeFiles) (r : Result A Error) → HasSessionInvariant t files → ReadsTreeOrFails t r new → LeftConforming new → HasSessionInvariant new files
+pub ready_if_read : {A : Type 0} (t new : TreeState) (files : RuntimeFiles) (r : Result A Error) → HasSessionInvariant t files → ReadsTreeOrFails t r new → DeviceConforms new → HasSessionInvariant new files
 ready_if_read t new files (Ok x) between reads left = record { ready = asked_ready t new files between.ready reads.asked; reported = λ works. left }
 ready_if_read t new files (Err e) between reads left = record { ready = λ works. absurd (let k = sym reads.broken.failed ∙ works in cc); reported = λ works. left }
 

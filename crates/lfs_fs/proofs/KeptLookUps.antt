@@ -1,11 +1,11 @@
 -- Look-ups in directories that are cached, and a stat that has just brought them there.
 use Rattle.std.proofs.Common.{ℕ, ◌≡◌, List, [], ◌∷◌, Option, Some, None, Result, Ok, Err, unwrap_or, refl, sym, ap, subst, arith}
 use Rattle.std.specs.Prelude.{Contains, OnOk}
-use Rattle.lfs_fs.proofs.Common.{All-from_recursion, pair_count_at, searched_directories, read_count, Operation, Refusal, parse_path, path_or_root, first_refusal, Pair, Path, each_weaker, AreFewSmall, HasCachedDirectories, TreeState, AddsNoReads, NothingIfCached, value_unless_refused}
+use Rattle.lfs_fs.proofs.Common.{All-from_recursion, pair_count_at, searched_directories, read_count, Operation, Refusal, parse_path, path_or_root, first_refusal, Pair, Path, each_weaker, AreFewSmall, HasCachedDirectories, TreeState, AddsNoReads, NoReadsIfCached, value_unless_refused}
 use Rattle.std.proofs.lemmas.List.Elements.{All-contains, recursion_from_All}
 use Rattle.lfs_device.specs.declared.error.Error.{Error}
 use Rattle.lfs_model.specs.layers.Cache.{cache_limit}
-use Rattle.lfs_model.specs.crash.Frame.{SearchesAgain}
+use Rattle.lfs_model.specs.crash.Frame.{SearchesSameDirectories}
 use Rattle.lfs_lookup.specs.CachedPairs.{AreLastUsed, pairs_at}
 use Rattle.lfs_fs.proofs.FewReads.{reads_over}
 
@@ -36,7 +36,7 @@ pub hand_failed : {A : Type 0} (r : Result A Error) (e : Error) (P : Type 0) →
 hand_failed {A = A} r e P is = subst (λ (z : Result A Error). OnOk z P) (sym is) tt
 
 -- by the calls that came
-pub reads_none : (old new : TreeState) (op : Operation) → AddsNoReads old op new → NothingIfCached old op new
+pub reads_none : (old new : TreeState) (op : Operation) → AddsNoReads old op new → NoReadsIfCached old op new
 reads_none old new op none there calls is =
     let e = ap read_count is in
     let k = reads_over calls old.history in
@@ -45,7 +45,7 @@ reads_none old new op none there calls is =
 
 -- ---- behind a stat
 
-module _ (ps : List Pair) (before op : Operation) (k : SearchesAgain ps before op) where
+module _ (ps : List Pair) (before op : Operation) (k : SearchesSameDirectories ps before op) where
   -- the directories that it searched are small
   pub kept_small : AreFewSmall ps (searched_directories before)
   kept_small = record { few = k.few; small = recursion_from_All (λ p. pair_count_at ps p ≡ 1) (searched_directories before) k.small }

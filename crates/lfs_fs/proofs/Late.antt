@@ -1,6 +1,6 @@
 -- Where the checks that ask nothing pass, the refusals that are left come behind a look-up.
 use Rattle.std.proofs.Common.{ℕ, ◌≡◌, ◌&&◌, ◌||◌, Bool, true, false, not, List, [], ◌∷◌, ◌++◌, Option, Some, None, is_none, is_some, length, nat_le, nat_lt, refl, sym, subst, ◌∙◌}
-use Rattle.lfs_fs.proofs.Common.{list_any, option_or, attribute_bytes, attributes_with, is_early_refusal, attr_max_of, FlagsOfOpen, Operation, Refusal, parse_path, path_or_root, writes_or_truncates, first_refusal, are_allowed, has_long_name, has_file, exceeds_charge, lacks_free, overfills_disk, parents_refusal, all_readers, refuse_if, all_writers, Node, FileNode, DirectoryNode, Path, Tree, node_attributes_of, file_bytes, is_beneath, is_directory, is_file, last_name, directory_names, without_prefix, same_path, opened_writer, tree_summary, shown_tree, entry_path, PassesEarlyChecks, SessionView, refusal_by_checks}
+use Rattle.lfs_fs.proofs.Common.{list_any, option_or, attribute_bytes, attributes_with, refused_before_search, attr_max_of, FlagsOfOpen, Operation, Refusal, parse_path, path_or_root, writes_or_truncates, first_refusal, are_allowed, has_long_name, has_file, exceeds_charge, lacks_free, overfills_disk, parents_refusal, all_readers, refuse_if, all_writers, Node, FileNode, DirectoryNode, Path, Tree, node_attributes_of, file_bytes, is_beneath, is_directory, is_file, last_name, directory_names, without_prefix, same_path, opened_writer, tree_summary, shown_tree, entry_path, PassesEarlyChecks, SessionView, refusal_by_checks}
 use Rattle.lfs_model.specs.session.Operations as ops
 use Rattle.lfs_model.specs.session.Session.{directory_refusal}
 use Rattle.lfs_fs.proofs.EntryPaths.{is_entry, root_false}
@@ -8,7 +8,7 @@ use Rattle.lfs_fs.proofs.EntryPaths.{is_entry, root_false}
 -- refusals, those of them that are any, that don't come at once
 abbrev IsLate : Operation → Option Refusal → Type 0
 IsLate op None = Unit {0}
-IsLate op (Some r) = is_early_refusal op r ≡ false
+IsLate op (Some r) = refused_before_search op r ≡ false
 
 abbrev AreLate : Operation → List (Option Refusal) → Type 0
 AreLate op [] = Unit {0}
@@ -20,7 +20,7 @@ first_late op (None ∷ rs) h = first_late op rs h.1
 first_late op (Some r ∷ rs) h = h.0
 
 -- a check
-late : (op : Operation) (b : Bool) (e : Refusal) → is_early_refusal op e ≡ false → IsLate op (refuse_if b e)
+late : (op : Operation) (b : Bool) (e : Refusal) → refused_before_search op e ≡ false → IsLate op (refuse_if b e)
 late op true e h = h
 late op false e h = tt
 

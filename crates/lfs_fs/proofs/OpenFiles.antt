@@ -1,7 +1,7 @@
 -- Open files, as they are kept and as the definitions have them.
 use Rattle.std.proofs.Common.{ℕ, zero, suc, fold, unwrap_or, ◌≡◌, ◌+◌, ◌<◌, ◌≤◌, ◌||◌, Bool, true, false, cond, not, List, [], ◌∷◌, ◌++◌, length, map, set, Option, Some, None, is_some, is_none, nat_le, nat_lt, refl, sym, ap, ap₂, subst, ◌∙◌, arith}
 use Rattle.std.specs.Prelude.{slice_get, sum_by}
-use Rattle.lfs_fs.proofs.Common.{AllByRecursion, list_any, option_flatten, option_map, lt-ltb, ltb-true, same_Some, inline_limit, contents_form, FormFitsWriter, ContentsForm, IsWriterForm, nat_tests, map-set, map-append, same_path, Path, has_file, Reading, file_numbered, free_number_of, reserved_for_writers, reserved_for_writer, files_with_file, file_reader, all_readers, all_writers, path_or_root, file_at_position, parse_path, block_count, lacks_free, TreeState, OnlyReadsTree, tree_summary, RuntimeFiles, prepended, selected_files, unsaved_or_tree, open_file_at, file_view, files_view, lowest_free, has_unsaved, is_open_where, is_unsaved_one, reserved_by_writers, reserved_by, reserved_for, file_with_known, file_with_position, runtime_files_with, reader_if_any, reader_view, readers_among, is_unsaved_turned, writer_if_any, writer_view, writers_among, writers_paths, HasKnownBlocks, IsCurrentReader, IsReady, AreUnsavedIfAny, IsWriterReady}
+use Rattle.lfs_fs.proofs.Common.{AllByRecursion, list_any, option_flatten, option_map, lt-ltb, ltb-true, same_Some, inline_limit, contents_form, FormFitsWriter, ContentsForm, IsWriterForm, nat_tests, map-set, map-append, same_path, Path, has_file, Reading, file_numbered, free_number_of, reserved_for_writers, reserved_for_writer, files_with_file, file_reader, all_readers, all_writers, path_or_root, file_at_position, parse_path, block_count, lacks_free, TreeState, OnlyReadsTree, tree_summary, RuntimeFiles, prepended, selected_files, unsaved_or_tree, open_file_at, file_view, files_view, lowest_free, has_unsaved, is_open_where, is_unsaved_writer, reserved_by_writers, reserved_by, reserved_for, file_with_known, file_with_position, runtime_files_with, reader_if_any, reader_view, readers_among, is_unsaved_turned, writer_if_any, writer_view, writers_among, writers_paths, HasKnownBlocks, IsCurrentReader, IsReady, AreUnsavedIfAny, IsWriterReady}
 use Rattle.lfs_model.specs.declared.limits.Profile.{Profile}
 use Rattle.lfs_file.specs.Form as form
 use Rattle.std.proofs.lemmas.Option.{slice_get-map}
@@ -220,7 +220,7 @@ neither : (a b : Bool) → (a || b) ≡ false → (a ≡ false) × (b ≡ false)
 neither true b e = absurd (cc)
 neither false b e = (refl, e)
 
-pub saved_is : (o : Option OpenFile) → is_unsaved_one o ≡ false → is_saved o ≡ true
+pub saved_is : (o : Option OpenFile) → is_unsaved_writer o ≡ false → is_saved o ≡ true
 saved_is None e = refl
 saved_is (Some (file.Reading r)) e = refl
 saved_is (Some (file.Writing w)) e = none w.unsaved e

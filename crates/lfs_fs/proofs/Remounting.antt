@@ -3,7 +3,7 @@ use Rattle.std.proofs.Common.{arith, ◌≡◌, inl, inr, true, false, cond, set
 use Rattle.std.specs.Prelude.{◌⊎◌, OnOk, OnErr, IfErr}
 use Rattle.lfs_device.specs.declared.error.Error.{Error}
 use Rattle.lfs_device.specs.declared.error.Error.TheVariants.{Io, NoMemory, Corrupt}
-use Rattle.lfs_fs.proofs.Common.{Disk, SameGeometry, ordered_disk, CallEvent, OpenFilesByNumber, Healthy, mounted_session, tree_stored, file_with_bytes, tree_with_change, option_map, Tree, IsAccepted, disk_tree, SystemState, IsStep, WriteNothing, is_dirty, is_refusal, error_refusal, TreeState, shown_tree, tree_summary, kept_thread, FailedByReading, HasMountCause, IsMountedTree, IsRemountedTree, IsSoundState, reply_from, RuntimeFiles, unsaved_or_tree, open_file_at, is_unsaved_one, file_view, files_view, SessionView, IsReady, session_view, view_with_files, system_state, refusal_by_checks, SessionFails, StepsOrFails}
+use Rattle.lfs_fs.proofs.Common.{Disk, SameGeometry, ordered_disk, CallEvent, OpenFilesByNumber, Healthy, mounted_session, tree_after_storing, file_with_bytes, tree_with_change, option_map, Tree, IsAccepted, disk_tree, SystemState, IsStep, WriteNothing, is_dirty, is_refusal, error_refusal, TreeState, shown_tree, tree_summary, kept_thread, FailedByReading, HasMountCause, IsMountedTree, IsRemountedTree, IsSoundState, reply_from, RuntimeFiles, unsaved_or_tree, open_file_at, is_unsaved_writer, file_view, files_view, SessionView, IsReady, session_view, view_with_files, system_state, refusal_by_checks, SessionFails, StepsOrFails}
 use Rattle.lfs_model.specs.session.Operations as ops
 use Rattle.std.specs.List.{IsDistinct}
 use Rattle.lfs_model.specs.session.Run.{ShowsTree}
@@ -25,7 +25,7 @@ not_some : (u : Option UnsavedContents) → is_none u ≡ true → is_some u ≡
 not_some None e = refl
 not_some (Some u) e = absurd (cc)
 
-pub no_tree_change : (t : TreeState) (f : Option kept.OpenFile) (tree : Tree) → is_saved f ≡ true → tree_stored (option_map (file_view t) f) tree ≡ tree
+pub no_tree_change : (t : TreeState) (f : Option kept.OpenFile) (tree : Tree) → is_saved f ≡ true → tree_after_storing (option_map (file_view t) f) tree ≡ tree
 no_tree_change t None tree e = refl
 no_tree_change t (Some (file.Reading r)) tree e = refl
 no_tree_change t (Some (file.Writing w)) tree e = ap (λ b. cond b (tree_with_change w.path (file_with_bytes (unsaved_or_tree t w.path w.unsaved)) tree) tree) (not_some w.unsaved e)
@@ -41,14 +41,14 @@ pub closed : (t : TreeState) (fs : RuntimeFiles) (now : SessionView) (fd : ℕ) 
 closed t fs now fd same ready e there nothing =
     kept_answer (session_view t fs) now (ops.Close fd) (files_view t (set fs fd None)) ops.Done same (sound_by t fs ready) e refl refl
     (ap is_dirty (file_is t fs fd) ∙ not_dirty t (open_file_at fs fd) nothing)
-    (ap₂ (λ t f. (ops.Done, record { tree = t; files = f })) (ap (λ f. tree_stored f (shown_tree t)) (file_is t fs fd) ∙ no_tree_change t (open_file_at fs fd) (shown_tree t) nothing) (sym (set_is t fs fd None there)))
+    (ap₂ (λ t f. (ops.Done, record { tree = t; files = f })) (ap (λ f. tree_after_storing f (shown_tree t)) (file_is t fs fd) ∙ no_tree_change t (open_file_at fs fd) (shown_tree t) nothing) (sym (set_is t fs fd None there)))
 
 pub closed_answers : (t : TreeState) (fs gs : RuntimeFiles) (now : SessionView) (fd : ℕ) → session_view t fs ≡ now → (t.failed ≡ false → IsReady t fs) → refusal_by_checks (session_view t fs) (ops.Close fd) ≡ None → is_some (open_file_at fs fd) ≡ true →
-    false ≡ is_unsaved_one (open_file_at fs fd) → gs ≡ set fs fd None → StepsOrFails now (ops.Close fd) (Ok ops.Done) (session_view t gs)
+    false ≡ is_unsaved_writer (open_file_at fs fd) → gs ≡ set fs fd None → StepsOrFails now (ops.Close fd) (Ok ops.Done) (session_view t gs)
 closed_answers t fs gs now fd same ready e there saved is =
     subst (λ z. StepsOrFails now (ops.Close fd) (Ok ops.Done) (session_view t z)) (sym is) (closed t fs now fd same ready e there (saved_is (open_file_at fs fd) (sym saved)))
 
-pub closed_ready : (t : TreeState) (fs gs : RuntimeFiles) (fd : ℕ) → false ≡ is_unsaved_one (open_file_at fs fd) → (t.failed ≡ false → IsReady t fs) → gs ≡ set fs fd None → t.failed ≡ false → IsReady t gs
+pub closed_ready : (t : TreeState) (fs gs : RuntimeFiles) (fd : ℕ) → false ≡ is_unsaved_writer (open_file_at fs fd) → (t.failed ≡ false → IsReady t fs) → gs ≡ set fs fd None → t.failed ≡ false → IsReady t gs
 closed_ready t fs gs fd saved ready is works = subst (IsReady t) (sym is) (ready_closed t fs fd (saved_is (open_file_at fs fd) (sym saved)) (ready works))
 
 -- ---- a remount

@@ -8,7 +8,7 @@ use Rattle.lfs_tree.specs.Permissions.{CanRenamePath}
 use Rattle.lfs_tree.specs.RenameFindings.{AreRenameResults}
 use Rattle.lfs_lookup.specs.declared.found_entries.FoundNode.{FoundNode}
 use Rattle.lfs_tree.specs.declared.rename_paths.RenameFindings.{RenameFindings}
-use Rattle.lfs_fs.specs.RenamePaths.{IsRefusedAnyway, IsPermitted, PassesRename}
+use Rattle.lfs_fs.specs.RenamePaths.{IsRefusedAnyway, IsPermittedRename, PassesRename}
 use Rattle.lfs_fs.specs.declared.rename_checks.RenamePaths.{RenamePaths}
 use Rattle.lfs_fs.specs.declared.rename_checks.PermittedRename.{PermittedRename}
 use Rattle.lfs_fs.proofs.Answered.{not_failed, not_refused, nothing_asked}
@@ -103,9 +103,9 @@ alone None = refl
 alone (Some x) = refl
 
 pub rename_checked : (t : TreeState) (files : RuntimeFiles) (old new : List ℕ) (paths : RenamePaths) (tree : TreeState) (refusal : Option Refusal) (x : PermittedRename) (r : Result PermittedRename Error) → PassesRename t old new paths → OnlyReadsTree t tree →
-    refusal ≡ refusal_by_checks (session_view tree files) (ops.Rename old new) → IsPermitted tree old new x → r ≡ value_unless_refused (first_refusal (refusal ∷ [])) x → IsChecksResult (session_view t files) (ops.Rename old new) (IsPermitted tree old new) r tree
+    refusal ≡ refusal_by_checks (session_view tree files) (ops.Rename old new) → IsPermittedRename tree old new x → r ≡ value_unless_refused (first_refusal (refusal ∷ [])) x → IsChecksResult (session_view t files) (ops.Rename old new) (IsPermittedRename tree old new) r tree
 rename_checked t files old new paths tree refusal x r passes asked refusal_is x_is r_is =
-    decided (session_view t files) (ops.Rename old new) (IsPermitted tree old new) x _ tree r asked (passes_late t files old new paths passes)
+    decided (session_view t files) (ops.Rename old new) (IsPermittedRename tree old new) x _ tree r asked (passes_late t files old new paths passes)
     (sym (alone refusal ∙ refusal_is ∙ ap (λ z. refusal_by_checks (session_view z files) (ops.Rename old new)) asked.same)) (λ none. x_is) r_is
 
 -- ---- what no check refuses
@@ -197,7 +197,7 @@ rename_can h old new from to tree idle asked e is are =
       room = can.room;
     })))
 
-pub renaming_is : (t tree : TreeState) (old new : List ℕ) (paths : RenamePaths) (x : PermittedRename) → PassesRename t old new paths → x.from ≡ paths.from → x.to ≡ paths.to → x.is_same ≡ paths.is_same → IfSome x.targets (AreRenameResults (kept_thread tree) x.from x.to) → (pairs_gstate tree.pairs ≡ zero_gstate → IsSome x.targets) → IsPermitted tree old new x
+pub renaming_is : (t tree : TreeState) (old new : List ℕ) (paths : RenamePaths) (x : PermittedRename) → PassesRename t old new paths → x.from ≡ paths.from → x.to ≡ paths.to → x.is_same ≡ paths.is_same → IfSome x.targets (AreRenameResults (kept_thread tree) x.from x.to) → (pairs_gstate tree.pairs ≡ zero_gstate → IsSome x.targets) → IsPermittedRename tree old new x
 renaming_is t tree old new paths x passes from to same targets handed_on = record {
   from = from ∙ sym (ap (λ o. unwrap_or o []) (is_entry old paths.from (sym passes.from)).0);
   to = to ∙ sym (ap (λ o. unwrap_or o []) (is_entry new paths.to (sym passes.to)).0);

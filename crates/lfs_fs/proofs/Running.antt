@@ -5,8 +5,8 @@ use Rattle.std.proofs.Common.{Ok, ℕ, ◌≡◌, ◌+◌, ◌<◌, ◌≤◌, B
 use Rattle.std.proofs.lemmas.List.{append_cancel_right, take_more, take-append-drop}
 use Rattle.lfs_device.specs.declared.error.Error.{Error}
 use Rattle.lfs_model.specs.session.Operations as ops
-use Rattle.lfs_model.specs.crash.Performed.{AreSafeSteps}
-use Rattle.lfs_model.specs.crash.ReadBounds.{IsLocal, ReadsNothing, accepted_operation}
+use Rattle.lfs_model.specs.crash.Performed.{ArePerformed}
+use Rattle.lfs_model.specs.crash.ReadBounds.{SparesAndBoundsReads, RepeatReadsNothing, accepted_operation}
 use Rattle.lfs_model.proofs.Performing.{last_accepted, last_further, performed_further}
 use Rattle.lfs_fs.specs.SessionView.{FailsRun}
 use Rattle.lfs_fs.proofs.KeptLookUps.{kept_hand, kept_small}
@@ -27,7 +27,7 @@ IsWarm None h = Unit {0}
 IsWarm (Some before) h = (path : List ℕ) → before ≡ ops.Stat path → (s : Session) → (system_state h).state ≡ Healthy s → (ps : List Pair) → IsAccepted h.tree.disk ps → AreFewSmall ps (searched_directories before) → HasCachedDirectories h.tree (searched_directories before)
 
 call_within_read_bounds : (before : Option Operation) (old : SessionView) (op : Operation) (reply : ops.Reply) (new : SessionView) → IsWarm before old → IsCall old op (Ok reply) new → (turn : IsStep (system_state old) op reply (system_state new)) →
-    IsLocal before (system_state old) op turn.calls (system_state new)
+    SparesAndBoundsReads before (system_state old) op turn.calls (system_state new)
 call_within_read_bounds before old op reply new warm call turn = record {
   alone = call.alone refl;
   asked = λ k. append_cancel_right turn.calls [] old.tree.history (sym turn.called ∙ ap (λ (h : SessionView). h.tree.history) (call.asks.asked k));
@@ -35,7 +35,7 @@ call_within_read_bounds before old op reply new warm call turn = record {
   kept = λ s at ps a. go before warm s at ps a;
 }
   where
-    go : (b : Option Operation) → IsWarm b old → (s : Session) → (system_state old).state ≡ Healthy s → (ps : List Pair) → IsAccepted old.tree.disk ps → ReadsNothing ps b op turn.calls
+    go : (b : Option Operation) → IsWarm b old → (s : Session) → (system_state old).state ≡ Healthy s → (ps : List Pair) → IsAccepted old.tree.disk ps → RepeatReadsNothing ps b op turn.calls
     go None w s at ps a = tt
     go (Some b) w s at ps a = λ k. call.asks.none k.again (kept_hand ps b op k old.tree (w k.path k.stat s at ps a (kept_small ps b op k))) turn.calls turn.called
 
@@ -50,7 +50,7 @@ warm_behind old op reply new call = go (model.is_refusal reply) refl
 
 -- they are performed, and met no fault
 pub record HaveRun (from : SystemState) (operations : List Operation) (replies : List ops.Reply) (to : SessionView) : Type 0 where
-  pub performed : AreSafeSteps None from operations replies (system_state to)
+  pub performed : ArePerformed None from operations replies (system_state to)
   pub no_fault : fault_count to.tree.history ≡ fault_count from.calls
   pub warm : IsWarm (last_accepted None operations replies) to
 

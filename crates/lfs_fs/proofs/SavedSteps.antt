@@ -1,6 +1,6 @@
 -- The turns of a sync and of a close.
 use Rattle.std.proofs.Common.{arith, ◌≡◌, ◌<◌, ◌≤◌, ◌||◌, map, true, false, cond, not, set, List, [], ◌∷◌, ◌++◌, length, Option, Some, None, is_some, nat_lt, Result, Ok, Err, ℕ, suc, zero, refl, sym, ap, ap₂, subst, ◌∙◌}
-use Rattle.lfs_fs.proofs.Common.{AllByRecursion, list_any, option_flatten, option_map, map-set, tree_with_change, same_path, CallEvent, Operation, IsStep, opens_existing, writes_or_truncates, is_dirty, needs_no_call, is_read_only, renames_itself, OpenFilesByNumber, Session, DiskSummary, Reading, Writing, file_numbered, files_with_file, file_reader, synced_writer, Healthy, is_remount, tree_stored, operation_effect, file_with_bytes, Path, spread_step, StoresBytesAt, error_refusal, TreeState, IsFailedTree, HasErrorCause, IsSoundState, tree_summary, shown_tree, CanSaveWriter, IsSavedWriter, RuntimeFiles, unsaved_or_tree, open_file_at, file_view, files_view, is_unsaved_one, readers_among, writer_view, writers_among, StepsOrFails, AreCurrentReaders, HasKnownBlocks, IsCurrentReader, SessionView, IsReady, IsWriterReady, session_view, view_with_files, system_state, refusal_by_checks, viewed_session, reply_from, KeepsWriters}
+use Rattle.lfs_fs.proofs.Common.{AllByRecursion, list_any, option_flatten, option_map, map-set, tree_with_change, same_path, CallEvent, Operation, IsStep, opens_existing, writes_or_truncates, is_dirty, needs_no_device, is_read_only, renames_itself, OpenFilesByNumber, Session, DiskSummary, Reading, Writing, file_numbered, files_with_file, file_reader, synced_writer, Healthy, is_remount, tree_after_storing, operation_effect, file_with_bytes, Path, spread_step, StoresBytesAt, error_refusal, TreeState, IsFailedTree, HasErrorCause, IsSoundState, tree_summary, shown_tree, CanSaveWriter, IsSavedWriter, RuntimeFiles, unsaved_or_tree, open_file_at, file_view, files_view, is_unsaved_writer, readers_among, writer_view, writers_among, StepsOrFails, AreCurrentReaders, HasKnownBlocks, IsCurrentReader, SessionView, IsReady, IsWriterReady, session_view, view_with_files, system_state, refusal_by_checks, viewed_session, reply_from, KeepsWriters}
 use Rattle.std.proofs.lemmas.List.{length-map, length-set, set-set}
 use Rattle.lfs_device.specs.declared.error.Error.{Error}
 use Rattle.lfs_model.specs.session.Moved.{IsLayoutMoved}
@@ -23,13 +23,13 @@ use Rattle.lfs_fs.proofs.WriterPaths.{sync_path}
 
 -- ---- the writer that has changes
 
-pub unsaved_writer : (o : Option OpenFile) (w : Writer) → is_unsaved_one o ≡ true → Some (file.Writing w) ≡ o → is_some w.unsaved ≡ true
-unsaved_writer o w e is = ap is_unsaved_one is ∙ e
+pub unsaved_writer : (o : Option OpenFile) (w : Writer) → is_unsaved_writer o ≡ true → Some (file.Writing w) ≡ o → is_some w.unsaved ≡ true
+unsaved_writer o w e is = ap is_unsaved_writer is ∙ e
 
 pub entry_written : (t : TreeState) (fs : RuntimeFiles) (fd : ℕ) (w : Writer) → Some (file.Writing w) ≡ open_file_at fs fd → IsReady t fs → IsWriterReady t w
 entry_written t fs fd w is ready = (subst (AllByRecursion (IsWriterReady t)) (only fs fd w (sym is) ready.one).writers ready.written).0
 
-pub can_save : (t : TreeState) (fs : RuntimeFiles) (fd : ℕ) (w : Writer) → t.failed ≡ false → IsReady t fs → is_unsaved_one (open_file_at fs fd) ≡ true → Some (file.Writing w) ≡ open_file_at fs fd → CanSaveWriter t w
+pub can_save : (t : TreeState) (fs : RuntimeFiles) (fd : ℕ) (w : Writer) → t.failed ≡ false → IsReady t fs → is_unsaved_writer (open_file_at fs fd) ≡ true → Some (file.Writing w) ≡ open_file_at fs fd → CanSaveWriter t w
 can_save t fs fd w works ready e is = record {
   works = works;
   written = entry_written t fs fd w is ready;
@@ -73,7 +73,7 @@ back_is t s fs fd w v is o =
 -- ---- the turn
 
 stored_step : (t new : TreeState) (fs : RuntimeFiles) (files : OpenFilesByNumber) (op : Operation) (path : Path) (bytes : List ℕ) → IsSoundState t → t.failed ≡ false → refusal_by_checks (session_view t fs) op ≡ None → (stored : StoresBytesAt t path bytes new) →
-    is_remount op ≡ false → is_read_only (viewed_session (session_view t fs)) op ≡ false → writes_or_truncates op ≡ false → opens_existing (viewed_session (session_view t fs)) op ≡ false → needs_no_call (viewed_session (session_view t fs)) op ≡ false →
+    is_remount op ≡ false → is_read_only (viewed_session (session_view t fs)) op ≡ false → writes_or_truncates op ≡ false → opens_existing (viewed_session (session_view t fs)) op ≡ false → needs_no_device (viewed_session (session_view t fs)) op ≡ false →
     renames_itself op ≡ false → is_recover op ≡ false →
     ((around : DiskSummary) → shown_tree new ≡ (operation_effect around (viewed_session (session_view t fs)) op).1.tree) → IsLayoutMoved t.disk t.pairs (viewed_session (session_view t fs)) op stored.calls new.disk new.pairs →
     (operation_effect (tree_summary t) (viewed_session (session_view t fs)) op).1.files ≡ files →
@@ -102,10 +102,10 @@ file_at : (t : TreeState) (fs : RuntimeFiles) (fd : ℕ) (w : Writer) → Some (
 file_at t fs fd w is = file_is t fs fd ∙ ap (option_map (file_view t)) (sym is)
 
 committed_is : (t new : TreeState) (fs : RuntimeFiles) (fd : ℕ) (w : Writer) → Some (file.Writing w) ≡ open_file_at fs fd → is_some w.unsaved ≡ true → StoresBytesAt t w.path (unsaved_or_tree t w.path w.unsaved) new →
-    shown_tree new ≡ tree_stored (file_numbered (files_view t fs) fd) (shown_tree t)
+    shown_tree new ≡ tree_after_storing (file_numbered (files_view t fs) fd) (shown_tree t)
 committed_is t new fs fd w is dirty stored =
     stored.shows
-    ∙ sym (ap (λ f. tree_stored f (shown_tree t)) (file_at t fs fd w is)
+    ∙ sym (ap (λ f. tree_after_storing f (shown_tree t)) (file_at t fs fd w is)
     ∙ ap (λ b. cond b (tree_with_change w.path (file_with_bytes (unsaved_or_tree t w.path w.unsaved)) (shown_tree t)) (shown_tree t)) dirty)
 
 pub dirty_at : (t : TreeState) (fs : RuntimeFiles) (fd : ℕ) (w : Writer) → Some (file.Writing w) ≡ open_file_at fs fd → is_some w.unsaved ≡ true → not (is_dirty (file_numbered (files_view t fs) fd)) ≡ false
@@ -128,7 +128,7 @@ sync_step t new fs fd w v ready e is dirty stored saved =
     ∙ sym (back_is t new fs fd w v is (only fs fd w (sym is) ready.one)))
 
 pub sync_answers : (t new : TreeState) (fs mid gs : RuntimeFiles) (now : SessionView) (fd : ℕ) (w v : Writer) → session_view t fs ≡ now → (t.failed ≡ false → IsReady t fs) → refusal_by_checks (session_view t fs) (ops.Sync fd) ≡ None →
-    is_unsaved_one (open_file_at fs fd) ≡ true → Some (file.Writing w) ≡ open_file_at fs fd → StoresBytesAt t w.path (unsaved_or_tree t w.path w.unsaved) new → IsSavedWriter new (synced_writer (writer_view t w)) v →
+    is_unsaved_writer (open_file_at fs fd) ≡ true → Some (file.Writing w) ≡ open_file_at fs fd → StoresBytesAt t w.path (unsaved_or_tree t w.path w.unsaved) new → IsSavedWriter new (synced_writer (writer_view t w)) v →
     mid ≡ set fs fd None → gs ≡ set mid fd (Some (file.Writing v)) → StepsOrFails now (ops.Sync fd) (Ok ops.Done) (session_view new gs)
 sync_answers t new fs mid gs now fd w v same ready e unsaved is stored saved left back =
     subst (λ z. IsStep (system_state z) (ops.Sync fd) ops.Done (system_state (session_view new gs))) same
@@ -169,17 +169,17 @@ put_same (g ∷ gs) (suc n) h = ap (λ z. g ∷ z) (put_same gs n h)
 
 -- nothing is to be saved
 pub sync_idle : (t : TreeState) (fs : RuntimeFiles) (now : SessionView) (fd : ℕ) → session_view t fs ≡ now → (t.failed ≡ false → IsReady t fs) → refusal_by_checks (session_view t fs) (ops.Sync fd) ≡ None → is_some (open_file_at fs fd) ≡ true →
-    is_unsaved_one (open_file_at fs fd) ≡ false → StepsOrFails now (ops.Sync fd) (Ok ops.Done) now
+    is_unsaved_writer (open_file_at fs fd) ≡ false → StepsOrFails now (ops.Sync fd) (Ok ops.Done) now
 sync_idle t fs now fd same ready e there saved =
     subst (λ z. StepsOrFails now (ops.Sync fd) (Ok ops.Done) z) same
     (kept_answer (session_view t fs) now (ops.Sync fd) (files_view t fs) ops.Done same (sound_by t fs ready) e refl refl
     (ap is_dirty (file_is t fs fd) ∙ not_dirty t (open_file_at fs fd) nothing)
-    (ap₂ (λ t f. (ops.Done, record { tree = t; files = f })) (ap (λ f. tree_stored f (shown_tree t)) (file_is t fs fd) ∙ no_tree_change t (open_file_at fs fd) (shown_tree t) nothing) files))
+    (ap₂ (λ t f. (ops.Done, record { tree = t; files = f })) (ap (λ f. tree_after_storing f (shown_tree t)) (file_is t fs fd) ∙ no_tree_change t (open_file_at fs fd) (shown_tree t) nothing) files))
   where
     nothing : is_saved (open_file_at fs fd) ≡ true
     nothing = saved_is (open_file_at fs fd) saved
 
-    clean : (o : Option OpenFile) → is_unsaved_one o ≡ false → file_after_sync (option_map (file_view t) o) ≡ option_map (file_view t) o
+    clean : (o : Option OpenFile) → is_unsaved_writer o ≡ false → file_after_sync (option_map (file_view t) o) ≡ option_map (file_view t) o
     clean None h = refl
     clean (Some (file.Reading r)) h = refl
     clean (Some (file.Writing w)) h = ap (λ b. Some (Writing (cond b (record (writer_view t w) { dirty = false; turned = false; last_end = None }) (writer_view t w)))) h
@@ -201,7 +201,7 @@ close_step t new fs fd w ready e is dirty stored =
     (sym (left_is t new fs fd w is (only fs fd w (sym is) ready.one)))
 
 pub close_answers : (t new : TreeState) (fs gs : RuntimeFiles) (now : SessionView) (fd : ℕ) (w : Writer) → session_view t fs ≡ now → (t.failed ≡ false → IsReady t fs) → refusal_by_checks (session_view t fs) (ops.Close fd) ≡ None →
-    is_unsaved_one (open_file_at fs fd) ≡ true → Some (file.Writing w) ≡ open_file_at fs fd → StoresBytesAt t w.path (unsaved_or_tree t w.path w.unsaved) new → gs ≡ set fs fd None → StepsOrFails now (ops.Close fd) (Ok ops.Done) (session_view new gs)
+    is_unsaved_writer (open_file_at fs fd) ≡ true → Some (file.Writing w) ≡ open_file_at fs fd → StoresBytesAt t w.path (unsaved_or_tree t w.path w.unsaved) new → gs ≡ set fs fd None → StepsOrFails now (ops.Close fd) (Ok ops.Done) (session_view new gs)
 close_answers t new fs gs now fd w same ready e unsaved is stored left =
     subst (λ z. IsStep (system_state z) (ops.Close fd) ops.Done (system_state (session_view new gs))) same
     (subst (λ z. IsStep (system_state (session_view t fs)) (ops.Close fd) ops.Done (system_state (session_view new z))) (sym left)

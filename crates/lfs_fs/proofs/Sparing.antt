@@ -1,13 +1,13 @@
 -- What a session's calls leave alone.
 use Rattle.std.proofs.Common.{ℕ, ◌≡◌, Bool, true, false, cond, List, [], Some, Result, Ok, Err, refl, sym, ap, subst, ◌∙◌}
 use Rattle.std.specs.Prelude.{All, OnOk, is_err}
-use Rattle.lfs_fs.proofs.Common.{All-from_recursion, content_at, LeavesOthers, ReadsEachOnce, answers_itself, is_look_up, searched_directories, Disk, ordered_disk, disk_block, block_count, CallEvent, Operation, Reply, HasEither, SurvivesInCalls, SurvivesPowerLoss, operation_result, HealthyHasDiskTree, IsStep, SystemState, is_read_only, Session, file_numbered, all_unmoved_slots, struct_blocks, Slot, zero_gstate, Healthy, is_remount, Pair, pairs_gstate, IsAccepted, recovered_from, one_thread, StoresBytesAt, KeepsImage, is_refusal, error_refusal, OnlyReadsTree, IsApplied, IsSoundState, LeavesOthersAlone, TreeState, option_map, RuntimeFiles, open_file_at, file_view, files_view, MeetsRules, StepsOrFails, SessionView, IsReady, session_view, view_with_files, system_state, viewed_session, ReadsSearched, AddsNoReads, NothingIfCached, reply_from, ReadsOnceAlways, IsCall, SparesOthers, AreFewSmall, HasCachedDirectories}
+use Rattle.lfs_fs.proofs.Common.{All-from_recursion, content_at, KeepsOthers, ReadsEachOnce, answers_itself, is_look_up, searched_directories, Disk, ordered_disk, disk_block, block_count, CallEvent, Operation, Reply, HasEitherTree, SurvivesInCalls, SurvivesPowerLoss, operation_result, HealthyHasDiskTree, IsStep, SystemState, is_read_only, Session, file_numbered, all_unmoved_slots, struct_blocks, Slot, zero_gstate, Healthy, is_remount, Pair, pairs_gstate, IsAccepted, recovered_from, one_thread, StoresBytesAt, KeepsImage, is_refusal, error_refusal, OnlyReadsTree, IsApplied, IsSoundState, KeepsOthersIfRecovered, TreeState, option_map, RuntimeFiles, open_file_at, file_view, files_view, MeetsReplyRules, StepsOrFails, SessionView, IsReady, session_view, view_with_files, system_state, viewed_session, ReadsSearched, AddsNoReads, NoReadsIfCached, reply_from, ReadsOnceAlways, IsCall, SparesOthers, AreFewSmall, HasCachedDirectories}
 use Rattle.lfs_device.specs.declared.error.Error.{Error}
 use Rattle.lfs_model.specs.declared.order.NameOrder.{NameOrder}
 use Rattle.lfs_model.specs.crash.Frame.{paths_of_file, changed_paths}
 use Rattle.lfs_model.specs.session.Operations as ops
 use Rattle.lfs_model.specs.session.Run as model
-use Rattle.lfs_model.specs.session.Run.{IsEffect}
+use Rattle.lfs_model.specs.session.Run.{IsDiskEffect}
 use Rattle.lfs_model.proofs.Counts.{each_always}
 use Rattle.lfs_model.proofs.Surviving.{session_step_survives_loss}
 use Rattle.lfs_fs.specs.declared.files.OpenFile.TheVariants as file
@@ -24,8 +24,8 @@ use Rattle.lfs_fs.proofs.Surviving.{ready_agrees, stood_before}
 -- ---- where the disk is as it was
 
 -- also where a remount found its names in another order
-same_alone : (disk new : Disk) (order : NameOrder) (ps qs : List Pair) (s : Session) (op : Operation) → new ≡ ordered_disk order disk → LeavesOthers disk ps s op new qs
-same_alone disk new order ps qs s op e = subst (λ z. LeavesOthers disk ps s op z qs) (sym e) (record {
+same_alone : (disk new : Disk) (order : NameOrder) (ps qs : List Pair) (s : Session) (op : Operation) → new ≡ ordered_disk order disk → KeepsOthers disk ps s op new qs
+same_alone disk new order ps qs s op e = subst (λ z. KeepsOthers disk ps s op z qs) (sym e) (record {
   files = All-from_recursion (λ t. All (λ b. disk_block disk b ≡ disk_block disk b) (struct_blocks disk t.struct)) (all_unmoved_slots ps)
       (each_always (λ (t : Slot). All (λ b. disk_block disk b ≡ disk_block disk b) (struct_blocks disk t.struct))
       (λ t. All-from_recursion (λ b. disk_block disk b ≡ disk_block disk b) (struct_blocks disk t.struct) (each_always (λ b. disk_block disk b ≡ disk_block disk b) (λ b. refl) (struct_blocks disk t.struct))) (all_unmoved_slots ps));
@@ -44,12 +44,12 @@ in_found_order false disk new e = in_its_order disk new e
 
 -- the turn tells that nothing was written, where nothing was to be recovered
 abbrev pub WritesNothing : SystemState → Operation → SystemState → Type 0
-WritesNothing from op to = (s : Session) → from.state ≡ Healthy s → (ps qs : List Pair) (calls : List CallEvent) → IsAccepted from.disk ps → pairs_gstate ps ≡ zero_gstate → IsEffect from.disk ps s op calls to.disk qs → to.disk ≡ ordered_disk to.disk.order from.disk
+WritesNothing from op to = (s : Session) → from.state ≡ Healthy s → (ps qs : List Pair) (calls : List CallEvent) → IsAccepted from.disk ps → pairs_gstate ps ≡ zero_gstate → IsDiskEffect from.disk ps s op calls to.disk qs → to.disk ≡ ordered_disk to.disk.order from.disk
 
 turn_others : (from : SystemState) (op : Operation) (reply : Reply) (to : SystemState) → IsStep from op reply to → WritesNothing from op to → SparesOthers from op to
 turn_others from op reply to turn nothing s at ps qs a b none = go (model.is_refusal reply) refl
   where
-    go : (x : Bool) → model.is_refusal reply ≡ x → LeavesOthers from.disk ps s op to.disk qs
+    go : (x : Bool) → model.is_refusal reply ≡ x → KeepsOthers from.disk ps s op to.disk qs
     go true e = same_alone from.disk to.disk from.disk.order ps qs s op (turn.refused e).0
     go false e = same_alone from.disk to.disk to.disk.order ps qs s op (nothing s at ps qs turn.calls a none (turn.effect_on_disk e s at ps qs a b))
 
@@ -63,7 +63,7 @@ recovered_others old r new answers = turned_others old ops.Recover (λ u. ops.Do
 -- ---- where the tree tells it
 
 others_from : (t new : TreeState) (fs : RuntimeFiles) (now : SessionView) (op : Operation) → session_view t fs ≡ now → (t.failed ≡ false → IsReady t fs) → IsSoundState new →
-    (IsSoundState t → pairs_gstate t.pairs ≡ zero_gstate → LeavesOthers t.disk t.pairs (viewed_session (session_view t fs)) op new.disk new.pairs) → SparesOthers (system_state now) op (system_state (view_with_files new []))
+    (IsSoundState t → pairs_gstate t.pairs ≡ zero_gstate → KeepsOthers t.disk t.pairs (viewed_session (session_view t fs)) op new.disk new.pairs) → SparesOthers (system_state now) op (system_state (view_with_files new []))
 others_from t new fs now op same ready after alone = subst (λ (z : SessionView). SparesOthers (system_state z) op (system_state (view_with_files new []))) same here
   where
     here : SparesOthers (system_state (session_view t fs)) op (system_state (view_with_files new []))
@@ -71,17 +71,17 @@ others_from t new fs now op same ready after alone = subst (λ (z : SessionView)
         let sound = (ready (works_at (session_view t fs) s at)).sound in
         let p = one_thread (content_at t.disk) (block_count t.disk) t.pairs ps sound.accepted.thread a.thread in
         let q = one_thread (content_at new.disk) (block_count new.disk) new.pairs qs after.accepted.thread b.thread in
-        subst (λ z. LeavesOthers t.disk ps z op new.disk qs) (session_at (session_view t fs) s at)
-        (subst (λ z. LeavesOthers t.disk z (viewed_session (session_view t fs)) op new.disk qs) p
-        (subst (λ z. LeavesOthers t.disk t.pairs (viewed_session (session_view t fs)) op new.disk z) q (alone sound (subst (λ z. pairs_gstate z ≡ zero_gstate) (sym p) none))))
+        subst (λ z. KeepsOthers t.disk ps z op new.disk qs) (session_at (session_view t fs) s at)
+        (subst (λ z. KeepsOthers t.disk z (viewed_session (session_view t fs)) op new.disk qs) p
+        (subst (λ z. KeepsOthers t.disk t.pairs (viewed_session (session_view t fs)) op new.disk z) q (alone sound (subst (λ z. pairs_gstate z ≡ zero_gstate) (sym p) none))))
 
 -- an operation of the tree behind reads
-pub rest_others : (t mid new : TreeState) (fs : RuntimeFiles) (now : SessionView) (op : Operation) → session_view t fs ≡ now → (t.failed ≡ false → IsReady t fs) → OnlyReadsTree t mid → IsSoundState new → LeavesOthersAlone mid op new → SparesOthers (system_state now) op (system_state (view_with_files new []))
-rest_others t mid new fs now op same ready asked after rest = others_from t new fs now op same ready after (λ sound none. subst (λ (z : TreeState). LeavesOthersAlone z op new) asked.same rest none (session_view t fs).files)
+pub rest_others : (t mid new : TreeState) (fs : RuntimeFiles) (now : SessionView) (op : Operation) → session_view t fs ≡ now → (t.failed ≡ false → IsReady t fs) → OnlyReadsTree t mid → IsSoundState new → KeepsOthersIfRecovered mid op new → SparesOthers (system_state now) op (system_state (view_with_files new []))
+rest_others t mid new fs now op same ready asked after rest = others_from t new fs now op same ready after (λ sound none. subst (λ (z : TreeState). KeepsOthersIfRecovered z op new) asked.same rest none (session_view t fs).files)
 
 -- the same, where it was carried out
 pub done_others : (C K : Type 0) (t mid new : TreeState) (fs : RuntimeFiles) (now : SessionView) (op : Operation) (r : Result (Unit {0}) Error) → session_view t fs ≡ now → (t.failed ≡ false → IsReady t fs) → OnlyReadsTree t mid → OnOk r C → (C → IsApplied mid op new) →
-    OnOk r K → (K → LeavesOthersAlone mid op new) → OnOk r (SparesOthers (system_state now) op (system_state (view_with_files new [])))
+    OnOk r K → (K → KeepsOthersIfRecovered mid op new) → OnOk r (SparesOthers (system_state now) op (system_state (view_with_files new [])))
 done_others C K t mid new fs now op (Ok u) same ready asked c carried k rest = rest_others t mid new fs now op same ready asked (carried c).sound (rest k)
 done_others C K t mid new fs now op (Err e) same ready asked c carried k rest = tt
 
@@ -116,7 +116,7 @@ asking_stands : (old : SessionView) (op : Operation) (r : Result Reply Error) (n
 asking_stands old op (Ok reply) new agrees asks turn survives = session_step_survives_loss (system_state old) op reply (system_state new) agrees turn survives
 asking_stands old op (Err e) new agrees asks fails survives = record {
   stops = survives;
-  stands = λ s ps around work clean stopped. subst (λ d. HasEither d s.tree (operation_result around s op).1.tree) (sym (fails.fails.asks s work.healthy (asks s)).0) (stood_before (system_state old) op agrees s ps around work);
+  stands = λ s ps around work clean stopped. subst (λ d. HasEitherTree d s.tree (operation_result around s op).1.tree) (sym (fails.fails.asks s work.healthy (asks s)).0) (stood_before (system_state old) op agrees s ps around work);
 }
 
 pub ok_others : {A : Type 0} (old : SessionView) (op : Operation) (reply : A → Reply) (r : Result A Error) (new : SessionView) → StepsOrFails old op (reply_from reply r) new → OnOk r (SparesOthers (system_state old) op (system_state new)) → is_err (reply_from reply r) ≡ false → SparesOthers (system_state old) op (system_state new)
@@ -170,7 +170,7 @@ asks_not t op r new silent = record {
 
 -- a call that asks only
 pub asking_call : (t : TreeState) (fs : RuntimeFiles) (now : SessionView) (op : Operation) (r : Result Reply Error) (new : SessionView) → session_view t fs ≡ now → (t.failed ≡ false → IsReady t fs) → ((s : Session) → is_read_only s op ≡ true) →
-    (answers_itself op ≡ true → new ≡ now) → AsksBy t op r new → MeetsRules now op r new → StepsOrFails now op r new → SurvivesInCalls (system_state now) op (system_state new) → IsCall now op r new
+    (answers_itself op ≡ true → new ≡ now) → AsksBy t op r new → MeetsReplyRules now op r new → StepsOrFails now op r new → SurvivesInCalls (system_state now) op (system_state new) → IsCall now op r new
 asking_call t fs now op r new same ready asks kept by ends answers survives = record {
   answers = answers;
   ends = ends;
@@ -179,13 +179,13 @@ asking_call t fs now op r new same ready asks kept by ends answers survives = re
   asks = record {
     asked = kept;
     few = subst (λ (z : SessionView). ReadsOnceAlways (system_state z) op (system_state new)) same (few_asked t new.tree fs op (λ w. (ready w).sound) by.few);
-    none = λ l. subst (λ (z : SessionView). NothingIfCached z.tree op new.tree) same (reads_none t new.tree op (by.none l));
+    none = λ l. subst (λ (z : SessionView). NoReadsIfCached z.tree op new.tree) same (reads_none t new.tree op (by.none l));
     hand = by.hand;
   };
 }
 
 -- the same where no call is made
-pub kept_asking : (t : TreeState) (fs : RuntimeFiles) (now : SessionView) (op : Operation) (r : Result Reply Error) → session_view t fs ≡ now → (t.failed ≡ false → IsReady t fs) → ((s : Session) → is_read_only s op ≡ true) → is_look_up op ≡ false → MeetsRules now op r now → StepsOrFails now op r now → IsCall now op r now
+pub kept_asking : (t : TreeState) (fs : RuntimeFiles) (now : SessionView) (op : Operation) (r : Result Reply Error) → session_view t fs ≡ now → (t.failed ≡ false → IsReady t fs) → ((s : Session) → is_read_only s op ≡ true) → is_look_up op ≡ false → MeetsReplyRules now op r now → StepsOrFails now op r now → IsCall now op r now
 kept_asking t fs now op r same ready asks silent ends answers =
     asking_call t fs now op r now same ready asks (λ k. refl) (asks_not t op r now silent) ends answers (kept_call (session_view t fs) now op same (λ w. (ready w).sound))
 

@@ -1,7 +1,7 @@
 -- A loss of power in each of a session's calls.
 use Rattle.std.proofs.Common.{ℕ, ◌≡◌, true, false, cond, List, [], ◌++◌, Option, Some, None, Result, Ok, Err, is_none, refl, sym, ap, ap₂, subst, ◌∙◌}
 use Rattle.std.specs.Prelude.{OnOk, OnErr, if◌then◌else◌}
-use Rattle.lfs_fs.proofs.Common.{option_map, tree_creating, tree_with_change, is_directory, CallEvent, OnlyReadsSince, FlagsOfOpen, file_numbered, path_or_root, tree_stored, node_file_size, file_with_bytes, DirectoryNode, FileNode, Node, Path, OnlyReadsSince-trans, writer_contents_bytes, OnlyReadsTree, FailedByReading, IsRemountedTree, IsSoundState, TreeState, SurvivesStops, shown_tree, RuntimeFiles, unsaved_or_tree, open_file_at, file_view, files_view, is_unsaved_one, SessionView, IsReady, session_view, view_with_files, system_state, refusal_by_checks, SurvivesInCalls}
+use Rattle.lfs_fs.proofs.Common.{option_map, tree_creating, tree_with_change, is_directory, CallEvent, OnlyReadsSince, FlagsOfOpen, file_numbered, path_or_root, tree_after_storing, node_file_size, file_with_bytes, DirectoryNode, FileNode, Node, Path, OnlyReadsSince-trans, writer_contents_bytes, OnlyReadsTree, FailedByReading, IsRemountedTree, IsSoundState, TreeState, SurvivesStops, shown_tree, RuntimeFiles, unsaved_or_tree, open_file_at, file_view, files_view, is_unsaved_writer, SessionView, IsReady, session_view, view_with_files, system_state, refusal_by_checks, SurvivesInCalls}
 use Rattle.lfs_device.specs.declared.error.Error.{Error}
 use Rattle.lfs_model.specs.session.Operations as ops
 use Rattle.lfs_tree.specs.OpenContents.{kept_thread}
@@ -39,10 +39,10 @@ store_left t new w u path is same left =
     (subst (λ p. SurvivesStops t new (tree_with_change p (file_with_bytes (writer_contents_bytes (kept_thread t) u.contents)) (shown_tree t))) same left)
 
 -- what a sync or a close makes of the tree
-pub saved_tree : (t : TreeState) (fs : RuntimeFiles) (fd : ℕ) (w : Writer) → is_unsaved_one (open_file_at fs fd) ≡ true → Some (file.Writing w) ≡ open_file_at fs fd →
-    tree_with_change w.path (file_with_bytes (unsaved_or_tree t w.path w.unsaved)) (shown_tree t) ≡ tree_stored (file_numbered (files_view t fs) fd) (shown_tree t)
+pub saved_tree : (t : TreeState) (fs : RuntimeFiles) (fd : ℕ) (w : Writer) → is_unsaved_writer (open_file_at fs fd) ≡ true → Some (file.Writing w) ≡ open_file_at fs fd →
+    tree_with_change w.path (file_with_bytes (unsaved_or_tree t w.path w.unsaved)) (shown_tree t) ≡ tree_after_storing (file_numbered (files_view t fs) fd) (shown_tree t)
 saved_tree t fs fd w unsaved is =
-    sym (ap (λ f. tree_stored f (shown_tree t)) (file_is t fs fd ∙ ap (option_map (file_view t)) (sym is))
+    sym (ap (λ f. tree_after_storing f (shown_tree t)) (file_is t fs fd ∙ ap (option_map (file_view t)) (sym is))
     ∙ ap (λ b. cond b (tree_with_change w.path (file_with_bytes (unsaved_or_tree t w.path w.unsaved)) (shown_tree t)) (shown_tree t)) (unsaved_writer (open_file_at fs fd) w unsaved is))
 
 -- ---- a file that is opened for writing, and made

@@ -2,7 +2,7 @@
 use Rattle.std.proofs.Common.{◌≡◌, inl, inr, Bool, true, false, List, [], ◌∷◌, ◌++◌, None, Result, Ok, Err, refl, sym, ap, subst, ◌∙◌, append_assoc}
 use Rattle.std.specs.Prelude.{◌⊎◌, OnOk, OnErr}
 use Rattle.lfs_device.specs.declared.error.Error.{Error}
-use Rattle.lfs_fs.proofs.Common.{Blocks, content_at, Disk, SameGeometry, block_count, CallEvent, AllCalls, OnlyReadsSince, Operation, HasEither, SurvivesInCalls, SystemState, Session, HasFailed, Healthy, SessionHealth, operation_result, operation_effect, Tree, disk_tree, one_thread, is_refusal, OnlyReadsTree, IsFailedTree, IsApplied, IsSoundState, TreeState, SurvivesStops, tree_summary, shown_tree, IsChecksResult, FailsChecks, SessionView, view_with_files, system_state, refusal_by_checks, viewed_session}
+use Rattle.lfs_fs.proofs.Common.{Blocks, content_at, Disk, SameGeometry, block_count, CallEvent, AllCalls, OnlyReadsSince, Operation, HasEitherTree, SurvivesInCalls, SystemState, Session, HasFailed, Healthy, SessionHealth, operation_result, operation_effect, Tree, disk_tree, one_thread, is_refusal, OnlyReadsTree, IsFailedTree, IsApplied, IsSoundState, TreeState, SurvivesStops, tree_summary, shown_tree, IsChecksResult, FailsChecks, SessionView, view_with_files, system_state, refusal_by_checks, viewed_session}
 use Rattle.lfs_model.specs.session.History.{AllCallsSince}
 use Rattle.lfs_model.specs.crash.PowerLoss.{SurvivesLossSince, with_blocks}
 use Rattle.lfs_model.specs.session.Effects.{unless_refused}
@@ -65,7 +65,7 @@ pub same_blocks : (disk new : Disk) (blocks : Blocks) → SameGeometry disk new 
 same_blocks disk new blocks g = λ j. record { block_size = g.block_size j; page = g.page j; order = g.order j; profile = g.profile j; blocks = blocks }
 
 -- the tree from before is left, so it is also one of two
-left_still : (before after : Tree) (left : Disk) → HasEither left before before → HasEither left before after
+left_still : (before after : Tree) (left : Disk) → HasEitherTree left before before → HasEitherTree left before after
 left_still before after left h = record { pairs = h.pairs; accepted = h.accepted; writable = h.writable; tree = inl (one h.tree) }
   where
     one : (disk_tree left h.pairs ≡ before) ⊎ (disk_tree left h.pairs ≡ before) → disk_tree left h.pairs ≡ before
@@ -78,7 +78,7 @@ pub then_changes : (t m : TreeState) (calls history : List CallEvent) (after : T
 then_changes t m calls history after k called survives =
     survives_then t.disk t.history m.history history (shown_tree t) after (some_since k.calls t.history m.history k.called) (some_since calls m.history history called)
     (survives_weaker t.disk t.history m.history (shown_tree t) (shown_tree t) (shown_tree t) after (left_still (shown_tree t) after) k.survives)
-    (λ clean. HoldsAtLosses-weaker (λ blocks left. subst (λ d. HasEither d (shown_tree t) after) (same_blocks t.disk m.disk blocks k.geometry) (subst (λ z. HasEither (with_blocks blocks m.disk) z after) k.tree left)) (survives clean))
+    (λ clean. HoldsAtLosses-weaker (λ blocks left. subst (λ d. HasEitherTree d (shown_tree t) after) (same_blocks t.disk m.disk blocks k.geometry) (subst (λ z. HasEitherTree (with_blocks blocks m.disk) z after) k.tree left)) (survives clean))
 
 -- then reads
 pub then_reads : (t m : TreeState) (history : List CallEvent) (after : Tree) → KeepsTree t m → OnlyReadsSince m.disk.blocks m.history history → SurvivesLossSince t.disk t.history history (shown_tree t) after

@@ -1,7 +1,7 @@
 -- A truncation of an open writer, and its turn.
 use Rattle.std.proofs.Common.{ℕ, zero, suc, ◌≡◌, ◌==◌, ◌<◌, ◌&&◌, ◌||◌, ◌++◌, Bool, true, false, not, cond, List, [], ◌∷◌, length, length-set, set, nat_lt, Option, Some, None, Ok, is_some, refl, sym, ap, ap₂, subst, ◌∙◌, arith}
 use Rattle.std.specs.Prelude.{◌==◌}
-use Rattle.lfs_fs.proofs.Common.{AllByRecursion, list_any, option_map, eq-eqb, lt-ltb, ltb-false, map-set, file_max_of, Operation, needs_no_resource, IsStep, Session, DiskSummary, Writing, file_numbered, first_refusal, overfills_disk, files_with_file, refuse_if, file_writer, truncated_writer, Healthy, operation_effect, Tree, DiskView, recovered_from, filled_step, KeepsImage, TreeState, tree_summary, shown_tree, CanTruncateBy, IsChangedWriter, RuntimeFiles, unsaved_or_tree, open_file_at, file_view, files_view, writers_paths, reader_view, readers_among, writer_if_any, writer_view, writers_among, StepsOrFails, SessionView, IsReady, IsWriterReady, session_view, system_state, refusal_by_checks, viewed_session}
+use Rattle.lfs_fs.proofs.Common.{AllByRecursion, list_any, option_map, eq-eqb, lt-ltb, ltb-false, map-set, file_max_of, Operation, needs_session_alone, IsStep, Session, DiskSummary, Writing, file_numbered, first_refusal, overfills_disk, files_with_file, refuse_if, file_writer, truncated_writer, Healthy, operation_effect, Tree, DiskView, recovered_from, filled_step, KeepsImage, TreeState, tree_summary, shown_tree, CanTruncateBy, IsChangedWriter, RuntimeFiles, unsaved_or_tree, open_file_at, file_view, files_view, writers_paths, reader_view, readers_among, writer_if_any, writer_view, writers_among, StepsOrFails, SessionView, IsReady, IsWriterReady, session_view, system_state, refusal_by_checks, viewed_session}
 use Rattle.lfs_model.specs.session.Operations as ops
 use Rattle.lfs_model.specs.session.Run.{has_size}
 use Rattle.lfs_model.specs.session.Session as session
@@ -123,7 +123,7 @@ inside_put t fs fd x e = ap (λ b. cond b (set (files_view t fs) fd (Some x)) (f
         mapped (f ∷ fs) = ap suc (mapped fs)
 
 -- another size is to be made
-pub other_needed : (t : TreeState) (fs : RuntimeFiles) (fd size : ℕ) (w : Writer) → open_file_at fs fd ≡ Some (file.Writing w) → IsWriterReady t w → (size == w.size) ≡ false → needs_no_resource (viewed_session (session_view t fs)) (ops.Truncate fd size) ≡ false
+pub other_needed : (t : TreeState) (fs : RuntimeFiles) (fd size : ℕ) (w : Writer) → open_file_at fs fd ≡ Some (file.Writing w) → IsWriterReady t w → (size == w.size) ≡ false → needs_session_alone (viewed_session (session_view t fs)) (ops.Truncate fd size) ≡ false
 other_needed t fs fd size w e written other = ap (λ o. has_size o size) (the_writer t fs fd (Some w) (sym (ap writer_if_any e))) ∙ ap (λ n. size == n) written.size ∙ other
 
 pub other_size : (t new : TreeState) (fs : RuntimeFiles) (fd size : ℕ) (now : SessionView) (w v : Writer) → session_view t fs ≡ now → (t.failed ≡ false → IsReady t fs) → refusal_by_checks (session_view t fs) (ops.Truncate fd size) ≡ None → open_file_at fs fd ≡ Some (file.Writing w) → (size == w.size) ≡ false →

@@ -1,7 +1,7 @@
 -- The checks of a writer's calls.
 use Rattle.std.proofs.Common.{ℕ, zero, suc, if◌then◌else◌, ◌≡◌, ◌+◌, ◌≤◌, Bool, true, false, not, max, min, List, [], ◌∷◌, Option, Some, None, length, take, nat_lt, ◌&&◌, ◌||◌, is_some, refl, sym, ap, ap₂, subst, ◌∙◌, arith}
 use Rattle.std.specs.Prelude.{◌==◌}
-use Rattle.lfs_fs.proofs.Common.{eq-eqb, eqb-true, ne_eqb, lt-ltb, same_Some, AllByRecursion, option_map, block_count, file_max_of, truncated_writer, written_writer, written_contents, zero_padded, turns_writer, write_position, file_numbered, first_refusal, overfills_disk, refuse_if, file_writer, TreeState, tree_summary, RuntimeFiles, unsaved_or_tree, change_end, open_file_at, files_view, reserved_for, is_unsaved_turned, writer_if_any, writer_view, writers_among, IsWriterReady, session_view, refusal_by_checks}
+use Rattle.lfs_fs.proofs.Common.{eq-eqb, eqb-true, ne_eqb, lt-ltb, same_Some, AllByRecursion, option_map, block_count, file_max_of, truncated_writer, written_writer, written_contents, zero_padded, turns_writer, write_position, file_numbered, first_refusal, overfills_disk, refuse_if, file_writer, TreeState, tree_summary, RuntimeFiles, unsaved_or_tree, last_change_end, open_file_at, files_view, reserved_for, is_unsaved_turned, writer_if_any, writer_view, writers_among, IsWriterReady, session_view, refusal_by_checks}
 use Rattle.lfs_model.specs.session.Operations as ops
 use Rattle.lfs_model.specs.session.Session as session
 use Rattle.lfs_fs.specs.declared.files.OpenFile.{OpenFile}
@@ -62,7 +62,7 @@ overfills_is : (t : TreeState) (w v : session.FileWriter) (turned : Bool) (size 
 overfills_is t w v turned size dirty turns_writer long = rw (dirty, turns_writer, long) refl
 
 pub write_fits : (t : TreeState) (fs : RuntimeFiles) (fd : ℕ) (bytes : List ℕ) (w : Writer) (place begin size : ℕ) (turned full : Bool) → false ≡ t.failed → IsWriterReady t w → Some w ≡ writer_if_any (open_file_at fs fd) → nat_lt 0 (length bytes) ≡ true → 1 ≤ length bytes →
-    place ≡ (if w.appends then w.size else w.position) → nat_lt (file_max_of t.disk.profile) (place + length bytes) ≡ false → begin ≡ min place w.size → turned ≡ (is_unsaved_turned w.unsaved || turns_writer (change_end w.unsaved) begin) → size ≡ max w.size (place + length bytes) →
+    place ≡ (if w.appends then w.size else w.position) → nat_lt (file_max_of t.disk.profile) (place + length bytes) ≡ false → begin ≡ min place w.size → turned ≡ (is_unsaved_turned w.unsaved || turns_writer (last_change_end w.unsaved) begin) → size ≡ max w.size (place + length bytes) →
     full ≡ nat_lt (block_count t.disk) (length (tree_summary t).used + reserved_for t.disk.profile t.disk.block_size turned size) → refusal_by_checks (session_view t fs) (ops.Write fd bytes) ≡ refuse_if full ops.NoSpace
 write_fits t fs fd bytes w place begin size turned full works written is some one at small begin_is turned_is size_is full_is =
     write_refused t fs fd bytes (writer_view t w) false full works (the_writer t fs fd (Some w) is)
@@ -77,13 +77,13 @@ write_fits t fs fd bytes w place begin size turned full works written is some on
       contents = written_contents (unsaved_or_tree t w.path w.unsaved) (write_position (writer_view t w)) bytes;
       position = write_position (writer_view t w) + length bytes;
       dirty = true;
-      turned = is_unsaved_turned w.unsaved || turns_writer (change_end w.unsaved) (min (write_position (writer_view t w)) (length (unsaved_or_tree t w.path w.unsaved)));
+      turned = is_unsaved_turned w.unsaved || turns_writer (last_change_end w.unsaved) (min (write_position (writer_view t w)) (length (unsaved_or_tree t w.path w.unsaved)));
       last_end = Some (write_position (writer_view t w) + length bytes);
     }
     after = after_write_is (writer_view t w) bytes one
 
-    turn : (is_unsaved_turned w.unsaved || turns_writer (change_end w.unsaved) (min (write_position (writer_view t w)) (length (unsaved_or_tree t w.path w.unsaved)))) ≡ turned
-    turn = ap₂ (λ p n. is_unsaved_turned w.unsaved || turns_writer (change_end w.unsaved) (min p n)) (sym p_is) written.size ∙ ap (λ b. is_unsaved_turned w.unsaved || turns_writer (change_end w.unsaved) b) (sym begin_is) ∙ sym turned_is
+    turn : (is_unsaved_turned w.unsaved || turns_writer (last_change_end w.unsaved) (min (write_position (writer_view t w)) (length (unsaved_or_tree t w.path w.unsaved)))) ≡ turned
+    turn = ap₂ (λ p n. is_unsaved_turned w.unsaved || turns_writer (last_change_end w.unsaved) (min p n)) (sym p_is) written.size ∙ ap (λ b. is_unsaved_turned w.unsaved || turns_writer (last_change_end w.unsaved) b) (sym begin_is) ∙ sym turned_is
 
     long : length (written_contents (unsaved_or_tree t w.path w.unsaved) (write_position (writer_view t w)) bytes) ≡ size
     long = length-written (unsaved_or_tree t w.path w.unsaved) (write_position (writer_view t w)) bytes ∙ ap₂ (λ m p. max m (p + length bytes)) written.size (sym p_is) ∙ sym size_is
@@ -111,7 +111,7 @@ truncate_same t fs fd size w works written is small same =
     (ap (λ b. not b && overfills_disk (tree_summary t) (truncated_writer (writer_view t w) size)) (eq-eqb size (length (unsaved_or_tree t w.path w.unsaved)) (same ∙ sym written.size)))
 
 pub truncate_fits : (t : TreeState) (fs : RuntimeFiles) (fd size : ℕ) (w : Writer) (turned full : Bool) → false ≡ t.failed → IsWriterReady t w → Some w ≡ writer_if_any (open_file_at fs fd) → nat_lt (file_max_of t.disk.profile) size ≡ false → (size ≡ w.size → ⊥) →
-    turned ≡ (is_unsaved_turned w.unsaved || is_some (change_end w.unsaved)) → full ≡ nat_lt (block_count t.disk) (length (tree_summary t).used + reserved_for t.disk.profile t.disk.block_size turned size) →
+    turned ≡ (is_unsaved_turned w.unsaved || is_some (last_change_end w.unsaved)) → full ≡ nat_lt (block_count t.disk) (length (tree_summary t).used + reserved_for t.disk.profile t.disk.block_size turned size) →
     refusal_by_checks (session_view t fs) (ops.Truncate fd size) ≡ refuse_if full ops.NoSpace
 truncate_fits t fs fd size w turned full works written is small other turned_is full_is =
     truncate_refused t fs fd size (writer_view t w) false full works (the_writer t fs fd (Some w) is) small
@@ -125,8 +125,8 @@ truncate_fits t fs fd size w turned full works written is small other turned_is 
     after : truncated_writer (writer_view t w) size ≡ record (writer_view t w) {
       contents = take size (zero_padded size (unsaved_or_tree t w.path w.unsaved));
       dirty = true;
-      turned = is_unsaved_turned w.unsaved || is_some (change_end w.unsaved);
-      last_end = if nat_lt (length (unsaved_or_tree t w.path w.unsaved)) size then Some size else change_end w.unsaved;
+      turned = is_unsaved_turned w.unsaved || is_some (last_change_end w.unsaved);
+      last_end = if nat_lt (length (unsaved_or_tree t w.path w.unsaved)) size then Some size else last_change_end w.unsaved;
     }
     after = after_truncate_is (writer_view t w) size differs
 

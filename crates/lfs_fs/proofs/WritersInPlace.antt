@@ -2,7 +2,7 @@
 use Rattle.std.proofs.Common.{ℕ, zero, suc, ◌≡◌, ◌≤◌, List, [], ◌∷◌, length, Option, Some, sym, ap, subst, ◌∙◌, arith, slice_index_or}
 use Rattle.std.specs.Prelude.{slice_set}
 use Rattle.lfs_fs.proofs.Common.{same_Some, RuntimeFiles, unsaved_or_tree, open_file_at, writer_if_any, CanChangeWriter, IsUnsavedForm, TreeState, contents_form}
-use Rattle.lfs_fs.specs.WriterChanges.{HasFileUnder, ChangesWriterAt}
+use Rattle.lfs_fs.specs.WriterChanges.{HasWriterFile, ChangesWriterAt}
 use Rattle.lfs_fs.specs.declared.files.OpenFile.{OpenFile}
 use Rattle.lfs_fs.specs.declared.files.OpenFile.TheVariants as file
 use Rattle.lfs_fs.specs.declared.files.UnsavedContents.{UnsavedContents}
@@ -29,8 +29,8 @@ pub as_many : (fs : RuntimeFiles) (fd : ℕ) (v w : Writer) → open_file_at fs 
 as_many fs fd v w e = subst (λ o. one_of (writer_if_any (Some (file.Writing v))) ≤ one_of (writer_if_any o)) (sym e) (omega arith)
 
 -- the contents of a writer whose changes were taken out
-pub has_contents : (t : TreeState) (w : Writer) (unsaved : Option UnsavedContents) → CanChangeWriter t w → unsaved ≡ w.unsaved → HasFileUnder t w.path unsaved
-has_contents t w unsaved can is = subst (λ u. HasFileUnder t w.path u) (sym is) (record {
+pub has_contents : (t : TreeState) (w : Writer) (unsaved : Option UnsavedContents) → CanChangeWriter t w → unsaved ≡ w.unsaved → HasWriterFile t w.path unsaved
+has_contents t w unsaved can is = subst (λ u. HasWriterFile t w.path u) (sym is) (record {
   works = can.works;
   writable = can.written.writable;
   file = can.written.there;

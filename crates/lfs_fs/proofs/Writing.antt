@@ -2,16 +2,16 @@
 use Rattle.std.proofs.Common.{ℕ, ◌*◌, ◌≡◌, ◌+◌, ◌-◌, ◌<◌, ◌≤◌, inl, inr, Bool, true, false, cond, max, min, List, [], ◌∷◌, ◌++◌, length, take, drop, replicate, Option, Some, None, Result, Ok, Err, is_some, refl, sym, ap, ap₂, subst, ◌∙◌, arith, length-append, length-drop, append_assoc}
 use Rattle.lfs_device.specs.declared.error.Error.{Error}
 use Rattle.std.specs.Prelude.{OnErr, ◌||◌, ◌==◌, nat_le, nat_lt, if◌then◌else◌}
-use Rattle.lfs_fs.proofs.Common.{eqb-true, ne_eqb, length-take, file_bytes, tree_with_change, is_file, file_with_bytes, path_itself, option_map, SameGeometry, block_count, inline_limit, synced_writer, truncated_writer, written_writer, written_contents, turns_writer, write_position, zero_padded, reserved_for_writer, zero_gstate, pairs_gstate, Node, FileNode, DirectoryNode, Path, Tree, StoresBytesAt, AreTreeContents, InlineWithinLimit, KeepsImage, writer_contents_bytes, TreeState, OnlyReadsTree, IsFailedTree, tree_summary, shown_tree, contents_form, FormFitsWriter, ContentsForm, IsWriterForm, CanChangeWriter, CanSaveWriter, IsSavedWriter, CanTruncateBy, CanWriteBy, IsUnsavedForm, IsChangedWriter, unsaved_or_tree, change_end, reserved_by, reserved_for, is_unsaved_turned, writer_view, AreUnsavedContents, AreUnsavedIfAny, IsWriterReady}
+use Rattle.lfs_fs.proofs.Common.{eqb-true, ne_eqb, length-take, file_bytes, tree_with_change, is_file, file_with_bytes, path_itself, option_map, SameGeometry, block_count, inline_limit, synced_writer, truncated_writer, written_writer, written_contents, turns_writer, write_position, zero_padded, reserved_for_writer, zero_gstate, pairs_gstate, Node, FileNode, DirectoryNode, Path, Tree, StoresBytesAt, AreTreeContents, InlineWithinLimit, KeepsImage, writer_contents_bytes, TreeState, OnlyReadsTree, IsFailedTree, tree_summary, shown_tree, contents_form, FormFitsWriter, ContentsForm, IsWriterForm, CanChangeWriter, CanSaveWriter, IsSavedWriter, CanTruncateBy, CanWriteBy, IsUnsavedForm, IsChangedWriter, unsaved_or_tree, last_change_end, reserved_by, reserved_for, is_unsaved_turned, writer_view, AreUnsavedContents, AreUnsavedIfAny, IsWriterReady}
 use Rattle.std.proofs.lemmas.Bool.{leb-false}
 use Rattle.std.proofs.lemmas.List.{length-replicate}
 use Rattle.lfs_model.specs.declared.limits.Profile.{Profile}
 use Rattle.lfs_model.specs.session.Session as session
-use Rattle.lfs_model.specs.session.Session.{list_blocks_of}
+use Rattle.lfs_model.specs.session.Session.{list_block_count}
 use Rattle.lfs_tree.specs.OpenContents.{CanStoreContents, CanTruncateIn, CanWriteIn, kept_thread}
 use Rattle.lfs_file.specs.Contents.{FormFitsInline, finish_room, NeedsTruncateRoom, truncation_room, write_room}
 use Rattle.lfs_file.specs.Form as shape_of
-use Rattle.lfs_file.specs.Form.{form_size, form_after_inner, shortened_form, truncated_form, written_form}
+use Rattle.lfs_file.specs.Form.{form_size, form_written_within, shortened_form, truncated_form, written_form}
 use Rattle.lfs_file.specs.declared.contents.WriterContents.{WriterContents}
 use Rattle.lfs_fs.specs.WriterChanges.{HasWriterRoom}
 use Rattle.lfs_fs.specs.declared.files.UnsavedContents.{UnsavedContents}
@@ -66,7 +66,7 @@ settle_of limit (shape_of.InMemory size) v e h = h
 settle_of limit (shape_of.Finished size flying) v e h = absurd (cc)
 settle_of limit (shape_of.InHand stop base flying) v e h = h.large
 
-unfinished_grown : (begin stop : ℕ) (f : ContentsForm) → is_finished (form_after_inner begin stop f) ≡ false
+unfinished_grown : (begin stop : ℕ) (f : ContentsForm) → is_finished (form_written_within begin stop f) ≡ false
 unfinished_grown begin stop (shape_of.InMemory size) = refl
 unfinished_grown begin stop (shape_of.Finished size flying) = refl
 unfinished_grown begin stop (shape_of.InHand end base flying) = go (end == begin)
@@ -78,7 +78,7 @@ unfinished_grown begin stop (shape_of.InHand end base flying) = go (end == begin
 pub settle_written : (limit place count : ℕ) (f : ContentsForm) (v : session.FileWriter) → FormFitsWriter limit (written_form limit place count f) v → InlineWithinLimit limit (written_form limit place count f)
 settle_written limit place count f v h = settle_of limit (written_form limit place count f) v (go (nat_le (max (form_size f) (place + count)) limit)) h
   where
-    go : (b : Bool) → is_finished (cond b (shape_of.InMemory (max (form_size f) (place + count))) (form_after_inner (min place (form_size f)) (place + count) f)) ≡ false
+    go : (b : Bool) → is_finished (cond b (shape_of.InMemory (max (form_size f) (place + count))) (form_written_within (min place (form_size f)) (place + count) f)) ≡ false
     go true = refl
     go false = unfinished_grown (min place (form_size f)) (place + count) f
 
@@ -90,12 +90,12 @@ settle_truncated limit size f v other h = first (size == form_size f) refl
     short (shape_of.Finished old flying) e h = leb-false size limit e
     short (shape_of.InHand stop base flying) e h = leb-false size limit e
 
-    third : (b : Bool) → nat_le size limit ≡ false → FormFitsWriter limit (cond b (form_after_inner (form_size f) size f) (shortened_form size f)) v → InlineWithinLimit limit (cond b (form_after_inner (form_size f) size f) (shortened_form size f))
-    third true e h = settle_of limit (form_after_inner (form_size f) size f) v (unfinished_grown (form_size f) size f) h
+    third : (b : Bool) → nat_le size limit ≡ false → FormFitsWriter limit (cond b (form_written_within (form_size f) size f) (shortened_form size f)) v → InlineWithinLimit limit (cond b (form_written_within (form_size f) size f) (shortened_form size f))
+    third true e h = settle_of limit (form_written_within (form_size f) size f) v (unfinished_grown (form_size f) size f) h
     third false e h = short f e h
 
-    second : (b : Bool) → nat_le size limit ≡ b → FormFitsWriter limit (cond b (shape_of.InMemory size) (cond (nat_lt (form_size f) size) (form_after_inner (form_size f) size f) (shortened_form size f))) v →
-        InlineWithinLimit limit (cond b (shape_of.InMemory size) (cond (nat_lt (form_size f) size) (form_after_inner (form_size f) size f) (shortened_form size f)))
+    second : (b : Bool) → nat_le size limit ≡ b → FormFitsWriter limit (cond b (shape_of.InMemory size) (cond (nat_lt (form_size f) size) (form_written_within (form_size f) size f) (shortened_form size f))) v →
+        InlineWithinLimit limit (cond b (shape_of.InMemory size) (cond (nat_lt (form_size f) size) (form_written_within (form_size f) size f) (shortened_form size f)))
     second true e h = h
     second false e h = third (nat_lt (form_size f) size) e h
 
@@ -103,8 +103,8 @@ settle_truncated limit size f v other h = first (size == form_size f) refl
     first true e = absurd (other (eqb-true size (form_size f) e))
     first false e = rw e (second (nat_le size limit) refl (rwd h))
       where
-        rwd : FormFitsWriter limit (truncated_form limit size f) v → FormFitsWriter limit (cond (nat_le size limit) (shape_of.InMemory size) (cond (nat_lt (form_size f) size) (form_after_inner (form_size f) size f) (shortened_form size f))) v
-        rwd k = subst (λ b. FormFitsWriter limit (cond b f (cond (nat_le size limit) (shape_of.InMemory size) (cond (nat_lt (form_size f) size) (form_after_inner (form_size f) size f) (shortened_form size f)))) v) e k
+        rwd : FormFitsWriter limit (truncated_form limit size f) v → FormFitsWriter limit (cond (nat_le size limit) (shape_of.InMemory size) (cond (nat_lt (form_size f) size) (form_written_within (form_size f) size f) (shortened_form size f))) v
+        rwd k = subst (λ b. FormFitsWriter limit (cond b f (cond (nat_le size limit) (shape_of.InMemory size) (cond (nat_lt (form_size f) size) (form_written_within (form_size f) size f) (shortened_form size f)))) v) e k
 
 -- ---- the contents before
 
@@ -184,7 +184,7 @@ as_writer old new path position size appends turned end c v b writable settled t
 
 -- the one that wrote bytes
 pub wrote : (old new : TreeState) (w : Writer) (bytes : List ℕ) (place end size : ℕ) (turned : Bool) (c : WriterContents) → KeepsImage old new → IsWriterReady old w → 1 ≤ length bytes → HasWriterRoom old (written_writer (writer_view old w) bytes) →
-    place ≡ write_position (writer_view old w) → end ≡ place + length bytes → size ≡ max w.size end → turned ≡ (is_unsaved_turned w.unsaved || turns_writer (change_end w.unsaved) (min place w.size)) →
+    place ≡ write_position (writer_view old w) → end ≡ place + length bytes → size ≡ max w.size end → turned ≡ (is_unsaved_turned w.unsaved || turns_writer (last_change_end w.unsaved) (min place w.size)) →
     AreTreeContents new w.path c → writer_contents_bytes (kept_thread new) c ≡ written_contents (unsaved_or_tree old w.path w.unsaved) place bytes → IsWriterForm old.disk.profile old.disk.block_size (contents_form c) (written_writer (writer_view old w) bytes) →
     InlineWithinLimit (inline_limit old.disk.profile old.disk.block_size) (contents_form c) →
     IsChangedWriter new (written_writer (writer_view old w) bytes) (record { path = w.path; position = end; size = size; appends = w.appends; unsaved = Some (record { contents = c; has_turned = turned; last_end = Some end }) })
@@ -204,12 +204,12 @@ wrote old new w bytes place end size turned c b opened some room at stop long tu
         ap (λ xs. make xs end turned) (are ∙ ap (λ p. written_contents (unsaved_or_tree old w.path w.unsaved) p bytes) at)
         ∙ ap (λ e. make (written_contents (unsaved_or_tree old w.path w.unsaved) place' bytes) e turned) (stop ∙ ap (λ p. p + length bytes) at)
         ∙ ap (λ z. make (written_contents (unsaved_or_tree old w.path w.unsaved) place' bytes) (place' + length bytes) z)
-        (turns_is ∙ ap₂ (λ p n. is_unsaved_turned w.unsaved || turns_writer (change_end w.unsaved) (min p n)) at (sym opened.size))
+        (turns_is ∙ ap₂ (λ p n. is_unsaved_turned w.unsaved || turns_writer (last_change_end w.unsaved) (min p n)) at (sym opened.size))
         ∙ sym (after_write_is (writer_view old w) bytes some)
 
 -- the one whose contents have another size
 pub cut : (old new : TreeState) (w : Writer) (size : ℕ) (turned : Bool) (end : Option ℕ) (c : WriterContents) → KeepsImage old new → IsWriterReady old w → (size == length (unsaved_or_tree old w.path w.unsaved)) ≡ false →
-    HasWriterRoom old (truncated_writer (writer_view old w) size) → turned ≡ (is_unsaved_turned w.unsaved || is_some (change_end w.unsaved)) → end ≡ (if nat_lt w.size size then Some size else change_end w.unsaved) →
+    HasWriterRoom old (truncated_writer (writer_view old w) size) → turned ≡ (is_unsaved_turned w.unsaved || is_some (last_change_end w.unsaved)) → end ≡ (if nat_lt w.size size then Some size else last_change_end w.unsaved) →
     AreTreeContents new w.path c → writer_contents_bytes (kept_thread new) c ≡ take size (zero_padded size (unsaved_or_tree old w.path w.unsaved)) → IsWriterForm old.disk.profile old.disk.block_size (contents_form c) (truncated_writer (writer_view old w) size) →
     InlineWithinLimit (inline_limit old.disk.profile old.disk.block_size) (contents_form c) →
     IsChangedWriter new (truncated_writer (writer_view old w) size) (record { path = w.path; position = w.position; size = size; appends = w.appends; unsaved = Some (record { contents = c; has_turned = turned; last_end = end }) })
@@ -225,8 +225,8 @@ cut old new w size turned end c b opened other room turns_is end_is over are kep
     seen =
         ap (λ xs. make xs turned end) are
         ∙ ap (λ t. make (take size (zero_padded size (unsaved_or_tree old w.path w.unsaved))) t end) turns_is
-        ∙ ap (λ e. make (take size (zero_padded size (unsaved_or_tree old w.path w.unsaved))) (is_unsaved_turned w.unsaved || is_some (change_end w.unsaved)) e)
-        (end_is ∙ ap (λ n. if nat_lt n size then Some size else change_end w.unsaved) (sym opened.size))
+        ∙ ap (λ e. make (take size (zero_padded size (unsaved_or_tree old w.path w.unsaved))) (is_unsaved_turned w.unsaved || is_some (last_change_end w.unsaved)) e)
+        (end_is ∙ ap (λ n. if nat_lt n size then Some size else last_change_end w.unsaved) (sym opened.size))
         ∙ sym (after_truncate_is (writer_view old w) size other)
 
 -- ---- room, and what the laws of forms give
@@ -282,11 +282,11 @@ pub has_written : (old mid new : TreeState) (w : Writer) (bytes : List ℕ) (pla
     place ≡ (if w.appends then w.size else w.position) → AreTreeContents mid path c → path ≡ w.path → IsUnsavedForm old.disk.profile old.disk.block_size w.unsaved (length (unsaved_or_tree old path w.unsaved)) (contents_form c) →
     writer_contents_bytes (kept_thread mid) c ≡ unsaved_or_tree old path w.unsaved → WrittenLaw → KeepsImage mid new → ((p : Path) → AreTreeContents mid p c → AreTreeContents new p d) →
     writer_contents_bytes (kept_thread new) d ≡ written_contents (writer_contents_bytes (kept_thread mid) c) place bytes → contents_form d ≡ written_form (inline_limit mid.disk.profile mid.disk.block_size) place (length bytes) (contents_form c) →
-    begin ≡ min place w.size → turned ≡ (is_unsaved_turned w.unsaved || turns_writer (change_end w.unsaved) begin) → size ≡ max w.size (place + length bytes) →
+    begin ≡ min place w.size → turned ≡ (is_unsaved_turned w.unsaved || turns_writer (last_change_end w.unsaved) begin) → size ≡ max w.size (place + length bytes) →
     IsChangedWriter new (written_writer (writer_view old w) bytes) (record { path = w.path; position = place + length bytes; size = size; appends = w.appends; unsaved = Some (record { contents = d; has_turned = turned; last_end = Some (place + length bytes) }) })
 has_written old mid new w bytes place begin size turned c d path can asked at over same shape had law beside overs wrote_is form_is begin_is turned_is size_is =
     wrote old new w bytes place (place + length bytes) size turned d (beside_later old mid new asked beside) can.can.written can.some can.room is refl size_is
-    (turned_is ∙ ap (λ b. is_unsaved_turned w.unsaved || turns_writer (change_end w.unsaved) b) begin_is)
+    (turned_is ∙ ap (λ b. is_unsaved_turned w.unsaved || turns_writer (last_change_end w.unsaved) b) begin_is)
     (subst (λ p. AreTreeContents new p d) same (overs path over))
     (wrote_is ∙ ap (λ xs. written_contents xs place bytes) (had ∙ ap (λ p. unsaved_or_tree old p w.unsaved) same))
     kept (subst (InlineWithinLimit (inline_limit old.disk.profile old.disk.block_size)) (sym form_at)
@@ -334,7 +334,7 @@ pub has_truncated : (old mid new : TreeState) (w : Writer) (size : ℕ) (turned 
     AreTreeContents mid path c → path ≡ w.path → IsUnsavedForm old.disk.profile old.disk.block_size w.unsaved (length (unsaved_or_tree old path w.unsaved)) (contents_form c) →
     writer_contents_bytes (kept_thread mid) c ≡ unsaved_or_tree old path w.unsaved → TruncatedLaw → KeepsImage mid new → ((p : Path) → AreTreeContents mid p c → AreTreeContents new p d) →
     writer_contents_bytes (kept_thread new) d ≡ take size (zero_padded size (writer_contents_bytes (kept_thread mid) c)) → contents_form d ≡ truncated_form (inline_limit mid.disk.profile mid.disk.block_size) size (contents_form c) →
-    turned ≡ (is_unsaved_turned w.unsaved || is_some (change_end w.unsaved)) → end ≡ (if nat_lt w.size size then Some size else change_end w.unsaved) →
+    turned ≡ (is_unsaved_turned w.unsaved || is_some (last_change_end w.unsaved)) → end ≡ (if nat_lt w.size size then Some size else last_change_end w.unsaved) →
     IsChangedWriter new (truncated_writer (writer_view old w) size) (record { path = w.path; position = w.position; size = size; appends = w.appends; unsaved = Some (record { contents = d; has_turned = turned; last_end = end }) })
 has_truncated old mid new w size turned end c d path can asked over same shape had law beside overs cut_is form_is turned_is end_is =
     cut old new w size turned end d (beside_later old mid new asked beside) can.can.written
@@ -373,8 +373,8 @@ can_store t w u path can is same law =
       form = changed.form;
       end = law t.disk.profile t.disk.block_size (contents_form u.contents) (writer_view t w) (length (tree_summary t).used) (block_count t.disk) changed.kept
           (subst (λ n. length (tree_summary t).used + n ≤ block_count t.disk) (held_one t.disk.profile t.disk.block_size t w can.written.size) held);
-      room = subst (λ n. length (tree_summary t).used + list_blocks_of t.disk.profile t.disk.block_size n + 2 ≤ block_count t.disk) (sym long)
-          (room_to_store (length (tree_summary t).used) (block_count t.disk) (list_blocks_of t.disk.profile t.disk.block_size w.size) u.has_turned changed.room);
+      room = subst (λ n. length (tree_summary t).used + list_block_count t.disk.profile t.disk.block_size n + 2 ≤ block_count t.disk) (sym long)
+          (room_to_store (length (tree_summary t).used) (block_count t.disk) (list_block_count t.disk.profile t.disk.block_size w.size) u.has_turned changed.room);
     })
   where
     changed : AreUnsavedContents t w u

@@ -1,7 +1,7 @@
 -- Where no block in use changed, the operation left alone all that it isn't about.
 use Rattle.std.proofs.Common.{ℕ, zero, suc, ◌≡◌, ◌≤◌, [], ◌∷◌, List, ap, arith}
 use Rattle.std.specs.Prelude.{All, Contains}
-use Rattle.lfs_fs.proofs.Common.{All-from_recursion, LeavesOthers, Disk, disk_block, Operation, Session, all_unmoved_slots, struct_blocks, used_blocks, Slot, Pair, pairs_blocks, Each, each_weaker}
+use Rattle.lfs_fs.proofs.Common.{All-from_recursion, KeepsOthers, Disk, disk_block, Operation, Session, all_unmoved_slots, struct_blocks, used_blocks, Slot, Pair, pairs_blocks, Each, each_weaker}
 use Rattle.lfs_model.specs.format.Thread.{address_blocks}
 use Rattle.lfs_model.proofs.BlockSets.{Contains-number_occurrences}
 use Rattle.lfs_model.proofs.Counts.{number_occurrences, count_append, count_here, each_from_counted, each_pieces}
@@ -25,7 +25,7 @@ module _ (disk new : Disk) (ps : List Pair) (stay : (b : ℕ) → Contains (used
   of_files = each_pieces IsSame (λ (s : Slot). struct_blocks disk s.struct) (all_unmoved_slots ps) (each_from_counted IsSame (file_blocks disk (all_unmoved_slots ps))
       (λ b some. stay b (Contains-number_occurrences (used_blocks disk ps) b (let e = count_append b (pairs_blocks ps) (file_blocks disk (all_unmoved_slots ps)) in omega arith))))
 
-  pub written_alone : (qs : List Pair) (s : Session) (op : Operation) → LeavesOthers disk ps s op new qs
+  pub written_alone : (qs : List Pair) (s : Session) (op : Operation) → KeepsOthers disk ps s op new qs
   written_alone qs s op = record {
     files = All-from_recursion (λ (s : Slot). All IsSame (struct_blocks disk s.struct)) (all_unmoved_slots ps)
         (each_weaker (λ (s : Slot). Each IsSame (struct_blocks disk s.struct)) (λ (s : Slot). All IsSame (struct_blocks disk s.struct)) (λ s h. All-from_recursion IsSame (struct_blocks disk s.struct) h) (all_unmoved_slots ps) of_files);

@@ -1,7 +1,7 @@
 -- A write of an open writer, and its turn.
 use Rattle.std.proofs.Common.{ℕ, ◌≡◌, ◌==◌, ◌+◌, ◌<◌, ◌^◌, ◌&&◌, ◌||◌, ◌++◌, Bool, true, false, List, [], ◌∷◌, length, set, nat_lt, Some, None, Ok, is_some, refl, sym, ap, ap₂, subst, ◌∙◌, arith}
 use Rattle.std.specs.Prelude.{◌==◌}
-use Rattle.lfs_fs.proofs.Common.{list_any, option_map, eqb-true, ltb-false, file_max_of, Operation, needs_no_resource, IsStep, needs_no_call, Session, DiskSummary, Writing, file_numbered, first_refusal, overfills_disk, files_with_file, refuse_if, file_writer, written_writer, write_position, Healthy, operation_effect, Tree, DiskView, recovered_from, filled_step, KeepsImage, TreeState, tree_summary, shown_tree, CanWriteBy, IsChangedWriter, RuntimeFiles, open_file_at, files_view, writer_if_any, writer_view, StepsOrFails, SessionView, IsReady, session_view, system_state, refusal_by_checks, viewed_session}
+use Rattle.lfs_fs.proofs.Common.{list_any, option_map, eqb-true, ltb-false, file_max_of, Operation, needs_session_alone, IsStep, needs_no_device, Session, DiskSummary, Writing, file_numbered, first_refusal, overfills_disk, files_with_file, refuse_if, file_writer, written_writer, write_position, Healthy, operation_effect, Tree, DiskView, recovered_from, filled_step, KeepsImage, TreeState, tree_summary, shown_tree, CanWriteBy, IsChangedWriter, RuntimeFiles, open_file_at, files_view, writer_if_any, writer_view, StepsOrFails, SessionView, IsReady, session_view, system_state, refusal_by_checks, viewed_session}
 use Rattle.lfs_model.specs.session.Operations as ops
 use Rattle.lfs_fs.specs.declared.files.OpenFile.TheVariants as file
 use Rattle.lfs_fs.specs.declared.files.Writer.{Writer}
@@ -88,11 +88,11 @@ nothing_put t fs fd bytes now w same invariant accepted e none =
 
 -- ---- some bytes
 
-some_needed : (s : Session) (fd : ℕ) (bytes : List ℕ) → (length bytes == 0) ≡ false → needs_no_call s (ops.Write fd bytes) ≡ false
+some_needed : (s : Session) (fd : ℕ) (bytes : List ℕ) → (length bytes == 0) ≡ false → needs_no_device s (ops.Write fd bytes) ≡ false
 some_needed s fd [] e = absurd (cc)
 some_needed s fd (b ∷ bytes) e = refl
 
-pub some_taken : (t : TreeState) (fs : RuntimeFiles) (fd : ℕ) (bytes : List ℕ) → (length bytes == 0) ≡ false → needs_no_resource (viewed_session (session_view t fs)) (ops.Write fd bytes) ≡ false
+pub some_taken : (t : TreeState) (fs : RuntimeFiles) (fd : ℕ) (bytes : List ℕ) → (length bytes == 0) ≡ false → needs_session_alone (viewed_session (session_view t fs)) (ops.Write fd bytes) ≡ false
 some_taken t fs fd bytes some = some_needed (viewed_session (session_view t fs)) fd bytes some
 
 pub some_put : (t new : TreeState) (fs : RuntimeFiles) (fd : ℕ) (bytes : List ℕ) (now : SessionView) (w v : Writer) → session_view t fs ≡ now → (t.failed ≡ false → IsReady t fs) → refusal_by_checks (session_view t fs) (ops.Write fd bytes) ≡ None → open_file_at fs fd ≡ Some (file.Writing w) → (length bytes == 0) ≡ false →

@@ -2,7 +2,7 @@
 -- many reads it takes.
 use Rattle.std.specs.Prelude.{ℕ, ◌≡◌, true, false, List, Result, Ok, is_err}
 use Rattle.lfs_device.specs.declared.error.Error.{Error}
-use Rattle.lfs_model.specs.crash.Frame.{LeavesOthers, answers_itself, is_look_up, searched_directories}
+use Rattle.lfs_model.specs.crash.Frame.{KeepsOthers, answers_itself, is_look_up, searched_directories}
 use Rattle.lfs_model.specs.session.Operations as ops
 use Rattle.lfs_model.specs.session.Operations.{Operation, Reply}
 use Rattle.lfs_model.specs.crash.PowerLoss.{SurvivesPowerLoss}
@@ -15,14 +15,14 @@ use Rattle.lfs_model.specs.crash.ReadBounds.{ReadsOnceAlways}
 use Rattle.lfs_model.specs.tree.View.{IsAccepted}
 use Rattle.lfs_lookup.specs.CachedPairs.{AreFewSmall}
 use Rattle.lfs_tree.specs.TreeReads.{HasCachedDirectories}
-use Rattle.lfs_fs.specs.CallEnds.{MeetsRules}
+use Rattle.lfs_fs.specs.CallEnds.{MeetsReplyRules}
 use Rattle.lfs_fs.specs.SessionView.{StepsOrFails, SessionView, system_state}
-use Rattle.lfs_fs.specs.LookUps.{NothingIfCached}
+use Rattle.lfs_fs.specs.LookUps.{NoReadsIfCached}
 
 -- where nothing was to recover, the operation left alone what it isn't about
 abbrev pub SparesOthers : SystemState → Operation → SystemState → Type 0
 SparesOthers from op to = (s : Session) → from.state ≡ Healthy s → (ps qs : List Pair) → IsAccepted from.disk ps → IsAccepted to.disk qs → pairs_gstate ps ≡ zero_gstate
-    → LeavesOthers from.disk ps s op to.disk qs
+    → KeepsOthers from.disk ps s op to.disk qs
 
 -- after an accepted stat the directories that it searched are cached, if they are small
 abbrev pub StatCaches : Operation → Result Reply Error → SessionView → Type 0
@@ -33,13 +33,13 @@ StatCaches op r new = (path : List ℕ) (reply : Reply) → op ≡ ops.Stat path
 pub record BoundsCallReads (old : SessionView) (op : Operation) (r : Result Reply Error) (new : SessionView) : Type 0 where
   pub asked : answers_itself op ≡ true → new ≡ old
   pub few : ReadsOnceAlways (system_state old) op (system_state new)
-  pub none : is_look_up op ≡ true → NothingIfCached old.tree op new.tree
+  pub none : is_look_up op ≡ true → NoReadsIfCached old.tree op new.tree
   pub hand : StatCaches op r new
 
 -- A call that ends in that reply or error.
 pub record IsCall (old : SessionView) (op : Operation) (r : Result Reply Error) (new : SessionView) : Type 0 where
   pub answers : StepsOrFails old op r new
-  pub ends : MeetsRules old op r new
+  pub ends : MeetsReplyRules old op r new
   pub survives_loss : SurvivesPowerLoss (system_state old) op (system_state new)
   pub alone : is_err r ≡ false → SparesOthers (system_state old) op (system_state new)
   pub asks : BoundsCallReads old op r new

@@ -1,7 +1,7 @@
 -- How a session's call ends: what a reply and an error mean for the session and its device.
 use Rattle.std.specs.Prelude.{◌≡◌, true, false, Some, Result, Ok, is_err}
 use Rattle.lfs_device.specs.declared.error.Error.{Error}
-use Rattle.lfs_model.specs.crash.Frame.{is_early_refusal, needs_no_resource}
+use Rattle.lfs_model.specs.crash.Frame.{refused_before_search, needs_session_alone}
 use Rattle.lfs_model.specs.session.History.{fault_count}
 use Rattle.lfs_model.specs.session.Operations as ops
 use Rattle.lfs_model.specs.session.Operations.{Failed, Operation, Refusal, Reply}
@@ -11,8 +11,8 @@ use Rattle.lfs_fs.specs.SessionView.{SessionView, system_state, refusal_by_check
 
 -- A session that has failed replies `Failed` to all but a remount. A reply, a refusal among them, comes without a fault of the
 -- device. An operation that takes nothing gets a reply. A refusal that comes at once leaves all as it is.
-pub record MeetsRules (old : SessionView) (op : Operation) (r : Result Reply Error) (new : SessionView) : Type 0 where
+pub record MeetsReplyRules (old : SessionView) (op : Operation) (r : Result Reply Error) (new : SessionView) : Type 0 where
   pub failed : old.tree.failed ≡ true → is_remount op ≡ false → r ≡ Ok (ops.Refused Failed)
   pub no_fault : is_err r ≡ false → fault_count new.tree.history ≡ fault_count old.tree.history
-  pub answered : (s : Session) → (system_state old).state ≡ Healthy s → needs_no_resource s op ≡ true → is_err r ≡ false
-  pub at_once : (e : Refusal) → refusal_by_checks old op ≡ Some e → is_early_refusal op e ≡ true → new ≡ old
+  pub answered : (s : Session) → (system_state old).state ≡ Healthy s → needs_session_alone s op ≡ true → is_err r ≡ false
+  pub at_once : (e : Refusal) → refusal_by_checks old op ≡ Some e → refused_before_search op e ≡ true → new ≡ old

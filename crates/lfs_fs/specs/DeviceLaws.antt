@@ -7,11 +7,11 @@ use Rattle.lfs_fs.specs.FileView.{RuntimeFiles}
 use Rattle.lfs_fs.specs.SessionView.{IsReady}
 
 -- The newest call left the disk as it is, and each call that didn't fail conforms.
-pub record LeftConforming (t : TreeState) : Type 0 where
+pub record DeviceConforms (t : TreeState) : Type 0 where
   pub newest : LeftByLatest t.history t.disk.blocks
   pub conforms : CallsConform t.history
 
 -- What a session that works keeps between its calls: it is ready for the next one, and its device meets the laws of its calls.
 pub record HasSessionInvariant (t : TreeState) (files : RuntimeFiles) : Type 0 where
   pub ready : t.failed ≡ false → IsReady t files
-  pub reported : t.failed ≡ false → LeftConforming t
+  pub reported : t.failed ≡ false → DeviceConforms t

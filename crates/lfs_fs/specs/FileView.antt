@@ -5,7 +5,7 @@ use Rattle.std.specs.Option.{option_flatten, option_map}
 use Rattle.lfs_model.specs.declared.limits.Profile.{Profile}
 use Rattle.lfs_model.specs.session.TreeEdits.{file_bytes}
 use Rattle.lfs_model.specs.session.Session as session
-use Rattle.lfs_model.specs.session.Session.{list_blocks_of}
+use Rattle.lfs_model.specs.session.Session.{list_block_count}
 use Rattle.lfs_file.specs.declared.known.KnownBlocks.{KnownBlocks}
 use Rattle.lfs_model.specs.format.Disk.{Disk}
 use Rattle.lfs_model.specs.tree.Tree.{Path, Tree}
@@ -30,9 +30,9 @@ abbrev pub is_unsaved_turned : Option UnsavedContents → Bool
 is_unsaved_turned None = false
 is_unsaved_turned (Some u) = u.has_turned
 
-abbrev pub change_end : Option UnsavedContents → Option ℕ
-change_end None = None
-change_end (Some u) = u.last_end
+abbrev pub last_change_end : Option UnsavedContents → Option ℕ
+last_change_end None = None
+last_change_end (Some u) = u.last_end
 
 -- the bytes of a writer: those of the file, where none were changed
 abbrev pub writer_bytes : Disk → Tree → Path → Option UnsavedContents → List ℕ
@@ -47,7 +47,7 @@ writer_over_tree disk tree w = record {
   append = w.appends;
   dirty = is_some w.unsaved;
   turned = is_unsaved_turned w.unsaved;
-  last_end = change_end w.unsaved;
+  last_end = last_change_end w.unsaved;
 }
 
 abbrev pub file_over_tree : Disk → Tree → OpenFile → session.OpenFile
@@ -71,9 +71,9 @@ files_view t files = map (option_map (file_over_tree t.disk (shown_tree t))) fil
 abbrev pub open_file_at : RuntimeFiles → ℕ → Option OpenFile
 open_file_at files fd = option_flatten (slice_get files fd)
 
-abbrev pub kept_position : OpenFile → ℕ
-kept_position (file.Reading r) = r.position
-kept_position (file.Writing w) = w.position
+abbrev pub own_position : OpenFile → ℕ
+own_position (file.Reading r) = r.position
+own_position (file.Writing w) = w.position
 
 abbrev pub reader_if_any : Option OpenFile → Option Reader
 reader_if_any None = None
@@ -120,7 +120,7 @@ file_with_known known (file.Writing w) = file.Writing w
 
 -- how many blocks are held for contents of so many bytes that were changed
 abbrev pub reserved_for : Profile → ℕ → Bool → ℕ → ℕ
-reserved_for profile block_size turned size = 2 + (if turned then 2 else 1) * list_blocks_of profile block_size size
+reserved_for profile block_size turned size = 2 + (if turned then 2 else 1) * list_block_count profile block_size size
 
 -- how many blocks are held for a writer, by its size
 abbrev pub reserved_by : Profile → ℕ → Writer → ℕ
@@ -139,7 +139,7 @@ is_open_where p None = false
 is_open_where p (Some (file.Reading r)) = p r.path
 is_open_where p (Some (file.Writing w)) = p w.path
 
-abbrev pub is_unsaved_one : Option OpenFile → Bool
-is_unsaved_one None = false
-is_unsaved_one (Some (file.Reading r)) = false
-is_unsaved_one (Some (file.Writing w)) = is_some w.unsaved
+abbrev pub is_unsaved_writer : Option OpenFile → Bool
+is_unsaved_writer None = false
+is_unsaved_writer (Some (file.Reading r)) = false
+is_unsaved_writer (Some (file.Writing w)) = is_some w.unsaved

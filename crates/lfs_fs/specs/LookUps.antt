@@ -19,8 +19,8 @@ abbrev pub AddsNoReads : TreeState → Operation → TreeState → Type 0
 AddsNoReads old op new = HasCachedDirectories old (searched_directories op) → read_count new.history ≡ read_count old.history
 
 -- the same, of the calls since then
-abbrev pub NothingIfCached : TreeState → Operation → TreeState → Type 0
-NothingIfCached old op new = HasCachedDirectories old (searched_directories op) → (calls : List CallEvent) → new.history ≡ calls ++ old.history → read_count calls ≡ 0
+abbrev pub NoReadsIfCached : TreeState → Operation → TreeState → Type 0
+NoReadsIfCached old op new = HasCachedDirectories old (searched_directories op) → (calls : List CallEvent) → new.history ≡ calls ++ old.history → read_count calls ≡ 0
 
 -- at most eight directories of one pair each are cached after a search
 abbrev pub CachesSearched : {A : Type 0} → TreeState → Operation → Result A Error → TreeState → Type 0

@@ -43,7 +43,7 @@ abbrev pub IsRefusedAnyway : TreeState → Operation → Error → Type 0
 IsRefusedAnyway t op e = (files : RuntimeFiles) → (is_refusal e ≡ true) × (refusal_by_checks (session_view t files) op ≡ Some (error_refusal e))
 
 -- the paths of these bytes, whether they are the same, and where they lead to, if nothing is to recover
-pub record IsPermitted (t : TreeState) (old new : List ℕ) (r : PermittedRename) : Type 0 where
+pub record IsPermittedRename (t : TreeState) (old new : List ℕ) (r : PermittedRename) : Type 0 where
   pub from : r.from ≡ path_or_root old
   pub to : r.to ≡ path_or_root new
   pub same : r.is_same ≡ same_path (path_or_root old) (path_or_root new)

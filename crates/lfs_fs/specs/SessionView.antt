@@ -3,7 +3,7 @@ use Rattle.std.specs.Prelude.{ℕ, ◌+◌, ◌≤◌, nat_le, length, is_none, 
 use Rattle.lfs_device.specs.declared.error.Error.{Error}
 use Rattle.lfs_device.specs.declared.error.Error.TheVariants.{Io, NoMemory, Corrupt}
 use Rattle.lfs_model.specs.layers.BlockSets.{in_flight_count}
-use Rattle.lfs_model.specs.crash.Frame.{is_early_refusal}
+use Rattle.lfs_model.specs.crash.Frame.{refused_before_search}
 use Rattle.lfs_model.specs.session.History.{CallEvent, OnlyReadsSince, fault_count}
 use Rattle.lfs_model.specs.format.Disk.{Disk, block_count, inline_limit}
 use Rattle.lfs_model.specs.tree.View.{IsAccepted}
@@ -132,11 +132,11 @@ refusal_by_checks h op = if h.tree.failed then Some Failed else operation_refusa
 
 -- no check refuses the operation, of those that make no call
 abbrev pub PassesEarlyChecks : SessionView → Operation → Type 0
-PassesEarlyChecks h op = (r : Refusal) → refusal_by_checks h op ≡ Some r → is_early_refusal op r ≡ false
+PassesEarlyChecks h op = (r : Refusal) → refusal_by_checks h op ≡ Some r → refused_before_search op r ≡ false
 
 -- what the checks leave where they end in that error: a refusal, or a call that failed
 abbrev pub FailsChecks : Bool → SessionView → Operation → Error → TreeState → Type 0
-FailsChecks true h op e tree = OnlyReadsTree h.tree tree × (refusal_by_checks h op ≡ Some (error_refusal e)) × (is_early_refusal op (error_refusal e) ≡ true → tree ≡ h.tree)
+FailsChecks true h op e tree = OnlyReadsTree h.tree tree × (refusal_by_checks h op ≡ Some (error_refusal e)) × (refused_before_search op (error_refusal e) ≡ true → tree ≡ h.tree)
 FailsChecks false h op e tree = FailedByReading h.tree tree × (h.tree.failed ≡ false) × HasErrorCause h.tree tree e × PassesEarlyChecks h op
 
 -- An operation's checks by reads alone. The operation passes, and then the value has P; or it is refused; or a read failed.
@@ -145,9 +145,9 @@ IsChecksResult h op P (Ok a) tree = OnlyReadsTree h.tree tree × (refusal_by_che
 IsChecksResult h op P (Err e) tree = FailsChecks (is_refusal e) h op e tree
 
 -- The same of checks that read nothing.
-abbrev pub IsUnreadResult : {A : Type 0} → SessionView → Operation → (A → Type 0) → Result A Error → Type 0
-IsUnreadResult h op P (Ok a) = (refusal_by_checks h op ≡ None) × P a
-IsUnreadResult h op P (Err e) = (is_refusal e ≡ true) × (refusal_by_checks h op ≡ Some (error_refusal e))
+abbrev pub IsReadlessResult : {A : Type 0} → SessionView → Operation → (A → Type 0) → Result A Error → Type 0
+IsReadlessResult h op P (Ok a) = (refusal_by_checks h op ≡ None) × P a
+IsReadlessResult h op P (Err e) = (is_refusal e ≡ true) × (refusal_by_checks h op ≡ Some (error_refusal e))
 
 -- a path that may be opened for reading
 pub record CanOpenReader (t : Tree) (files : OpenFilesByNumber) (bytes : List ℕ) : Type 0 where

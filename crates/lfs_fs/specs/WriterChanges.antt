@@ -20,7 +20,7 @@ use Rattle.lfs_fs.specs.declared.files.UnsavedContents.{UnsavedContents}
 use Rattle.lfs_fs.specs.declared.files.Writer.{Writer}
 
 -- a file is there, whose contents were changed so, or not
-pub record HasFileUnder (t : TreeState) (path : Path) (unsaved : Option UnsavedContents) : Type 0 where
+pub record HasWriterFile (t : TreeState) (path : Path) (unsaved : Option UnsavedContents) : Type 0 where
   pub works : t.failed ≡ false
   pub writable : t.writable ≡ true
   pub file : is_file (shown_tree t path) ≡ true

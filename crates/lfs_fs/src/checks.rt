@@ -11,7 +11,7 @@ ghost use Rattle.lfs_fs.specs.FlagsView.{flags_view};
 ghost use Rattle.lfs_model.specs.session.TreeEdits.{node_attributes_of};
 ghost use Rattle.lfs_model.specs.format.Content.{attribute_bytes};
 ghost use Rattle.lfs_fs.specs.EntryPaths.{entry_path};
-ghost use Rattle.lfs_fs.specs.SessionView.{IsChecksResult, IsUnreadResult, IsFoundWritable, IsReadableFile, IsReady, session_view};
+ghost use Rattle.lfs_fs.specs.SessionView.{IsChecksResult, IsReadlessResult, IsFoundWritable, IsReadableFile, IsReady, session_view};
 ghost use Rattle.lfs_fs.specs.LookUps.{ReadsSearched, AddsNoReads, CachesSearched};
 ghost use Rattle.lfs_lookup.specs.Finds.{listed_item_view, stat_view};
 ghost use Rattle.lfs_tree.specs.TreeState.{tree_summary, shown_tree};
@@ -146,7 +146,7 @@ pub fn check_seek<D: BlockDevice>(
     fd: u32,
     position: u32,
 ) -> Result<(), Error>
-    ensures { IsUnreadResult (session_view tree.now files.now) (ops.Seek fd position) (λ _. is_some (open_file_at files.now fd) ≡ true) result }
+    ensures { IsReadlessResult (session_view tree.now files.now) (ops.Seek fd position) (λ _. is_some (open_file_at files.now fd) ≡ true) result }
 {
     if tree.has_failed() {
         return Err(Error::Failed);
@@ -464,7 +464,7 @@ pub fn check_write<D: BlockDevice>(
     bytes: &[u8],
 ) -> Result<(), Error>
     requires { tree.now.failed ≡ false → IsReady tree.now files.now }
-    ensures { IsUnreadResult (session_view tree.now files.now) (ops.Write fd bytes.now) (λ _. is_some (writer_if_any (open_file_at files.now fd)) ≡ true) result }
+    ensures { IsReadlessResult (session_view tree.now files.now) (ops.Write fd bytes.now) (λ _. is_some (writer_if_any (open_file_at files.now fd)) ≡ true) result }
 {
     if tree.has_failed() {
         return Err(Error::Failed);
@@ -494,7 +494,7 @@ pub fn check_truncate<D: BlockDevice>(
     size: u32,
 ) -> Result<(), Error>
     requires { tree.now.failed ≡ false → IsReady tree.now files.now }
-    ensures { IsUnreadResult (session_view tree.now files.now) (ops.Truncate fd size) (λ _. is_some (writer_if_any (open_file_at files.now fd)) ≡ true) result }
+    ensures { IsReadlessResult (session_view tree.now files.now) (ops.Truncate fd size) (λ _. is_some (writer_if_any (open_file_at files.now fd)) ≡ true) result }
 {
     if tree.has_failed() {
         return Err(Error::Failed);
@@ -512,8 +512,8 @@ pub fn check_truncate<D: BlockDevice>(
 }
 
 /// Checks whether a file is open under the number.
-pub fn check_open<D: BlockDevice>(tree: &Tree<D>, files: &Files, fd: u32) -> Result<(), Error>
-    ensures { IsUnreadResult (session_view tree.now files.now) (ops.Close fd) (λ _. is_some (open_file_at files.now fd) ≡ true) result }
+pub fn check_is_open<D: BlockDevice>(tree: &Tree<D>, files: &Files, fd: u32) -> Result<(), Error>
+    ensures { IsReadlessResult (session_view tree.now files.now) (ops.Close fd) (λ _. is_some (open_file_at files.now fd) ≡ true) result }
 {
     if tree.has_failed() {
         return Err(Error::Failed);
@@ -526,7 +526,7 @@ pub fn check_open<D: BlockDevice>(tree: &Tree<D>, files: &Files, fd: u32) -> Res
 
 /// Checks whether a file is open under the number, for a sync.
 pub fn check_sync_file<D: BlockDevice>(tree: &Tree<D>, files: &Files, fd: u32) -> Result<(), Error>
-    ensures { IsUnreadResult (session_view tree.now files.now) (ops.Sync fd) (λ _. is_some (open_file_at files.now fd) ≡ true) result }
+    ensures { IsReadlessResult (session_view tree.now files.now) (ops.Sync fd) (λ _. is_some (open_file_at files.now fd) ≡ true) result }
 {
     if tree.has_failed() {
         return Err(Error::Failed);

@@ -1,6 +1,6 @@
 // What a session knows of its device.
 
-ghost use Rattle.lfs_fs.specs.DeviceLaws.{LeftConforming};
+ghost use Rattle.lfs_fs.specs.DeviceLaws.{DeviceConforms};
 
 use lfs_device::BlockDevice;
 use lfs_tree::Tree;
@@ -8,7 +8,7 @@ use lfs_tree::Tree;
 // Shows a proof that the tree's device meets the laws of its calls. The call does nothing at run
 // time.
 pub(crate) fn lemma_calls_conform<D: BlockDevice>(tree: &Tree<D>)
-    ensures { LeftConforming tree.now }
+    ensures { DeviceConforms tree.now }
 {
     let _device = tree.device();
 }

@@ -14,7 +14,7 @@ ghost use Rattle.lfs_tree.specs.OpenContents.{KeepsImage};
 ghost use Rattle.lfs_tree.specs.TreeState.{HasErrorCause, IsFailedTree, IsSoundState, SurvivesStops, TreeState, shown_tree};
 ghost use Rattle.lfs_fs.specs.WriterChanges.{CanWriteBy, ChangesWriterAt, IsChangedWriter};
 ghost use Rattle.lfs_fs.specs.declared.files.Writer.{Writer as WriterSeen};
-ghost use Rattle.lfs_fs.specs.FileView.{change_end, open_file_at, files_view, is_open_where, is_unsaved_one, lowest_free, reserved_by_writers, reserved_by, reserved_for, file_with_known, file_with_position, runtime_files_with, reader_if_any, readers_among, is_unsaved_turned, writer_if_any, writer_view, writers_among, kept_position};
+ghost use Rattle.lfs_fs.specs.FileView.{last_change_end, open_file_at, files_view, is_open_where, is_unsaved_writer, lowest_free, reserved_by_writers, reserved_by, reserved_for, file_with_known, file_with_position, runtime_files_with, reader_if_any, readers_among, is_unsaved_turned, writer_if_any, writer_view, writers_among, own_position};
 
 use crate::owned_path::OwnedPath;
 use crate::writers::write_by_writer;
@@ -83,17 +83,17 @@ impl Writer {
 
     /// Returns whether the writer is nonsequential after a change that begins there.
     pub fn turns_by_change(&self, begin: u32) -> bool
-        ensures { result ≡ (is_unsaved_turned self.now.unsaved || turns_writer (change_end self.now.unsaved) begin) }
+        ensures { result ≡ (is_unsaved_turned self.now.unsaved || turns_writer (last_change_end self.now.unsaved) begin) }
     {
         match &self.unsaved {
-            Some(unsaved) => unsaved.has_turned || leaves_last_end(unsaved.last_end, begin),
+            Some(unsaved) => unsaved.has_turned || begins_elsewhere(unsaved.last_end, begin),
             None => false,
         }
     }
 
     /// Returns whether the writer is nonsequential after its contents get another size.
     pub fn turns_by_resize(&self) -> bool
-        ensures { result ≡ (is_unsaved_turned self.now.unsaved || is_some (change_end self.now.unsaved)) }
+        ensures { result ≡ (is_unsaved_turned self.now.unsaved || is_some (last_change_end self.now.unsaved)) }
     {
         match &self.unsaved {
             Some(unsaved) => unsaved.has_turned || unsaved.last_end.is_some(),
@@ -103,7 +103,7 @@ impl Writer {
 
     /// Returns where the last change ends after the contents get that size.
     pub fn change_end_resized(&self, new_size: u32) -> Option<u32>
-        ensures { result ≡ (if nat_lt self.now.size new_size then Some new_size else change_end self.now.unsaved) }
+        ensures { result ≡ (if nat_lt self.now.size new_size then Some new_size else last_change_end self.now.unsaved) }
     {
         match &self.unsaved {
             Some(unsaved) => resized_change_end(self.size, new_size, unsaved.last_end),
@@ -133,7 +133,7 @@ fn resized_change_end(size: u32, new_size: u32, last_end: Option<u32>) -> Option
     }
 }
 
-fn leaves_last_end(last_end: Option<u32>, begin: u32) -> bool
+fn begins_elsewhere(last_end: Option<u32>, begin: u32) -> bool
     ensures { result ≡ turns_writer last_end begin }
 {
     match last_end {
@@ -234,7 +234,7 @@ impl Files {
 
     // Returns the position of the file of that number.
     pub(crate) fn position(&self, fd: u32) -> Option<u32>
-        ensures { result ≡ option_map kept_position (open_file_at self.now fd) }
+        ensures { result ≡ option_map own_position (open_file_at self.now fd) }
     {
         match self.entries.get(fd as usize) {
             Some(Some(OpenFile::Reading(reader))) => Some(reader.position),
@@ -322,7 +322,7 @@ impl Files {
 
     /// Returns whether the file of that number has changes that aren't in the tree.
     pub fn is_unsaved_at(&self, fd: u32) -> bool
-        ensures { result ≡ is_unsaved_one (open_file_at self.now fd) }
+        ensures { result ≡ is_unsaved_writer (open_file_at self.now fd) }
     {
         match self.entries.get(fd as usize) {
             Some(entry) => is_unsaved(entry),
@@ -491,7 +491,7 @@ pub(crate) fn reserved_for_bytes(geometry: Geometry, has_turned: bool, size: u32
 }
 
 fn is_unsaved(entry: &Option<OpenFile>) -> bool
-    ensures { result ≡ is_unsaved_one entry.now }
+    ensures { result ≡ is_unsaved_writer entry.now }
 {
     match entry {
         Some(OpenFile::Writing(writer)) => writer.unsaved.is_some(),
@@ -528,7 +528,7 @@ fn is_writer_at(entry: &Option<OpenFile>, path: &[u8]) -> bool
     ensures { result ≡ list_any (λ w. same_path (path_or_root path.now) w.path) (writers_among (entry.now ∷ [])) }
 {
     match entry {
-        Some(OpenFile::Writing(writer)) => writer.path.has_bytes(path),
+        Some(OpenFile::Writing(writer)) => writer.path.is_of_bytes(path),
         _ => false,
     }
 }
@@ -550,8 +550,8 @@ fn is_path_open(entry: &Option<OpenFile>, path: &[u8]) -> bool
     ensures { result ≡ is_open_where (same_path (path_or_root path.now)) entry.now }
 {
     match entry {
-        Some(OpenFile::Reading(reader)) => reader.path.has_bytes(path),
-        Some(OpenFile::Writing(writer)) => writer.path.has_bytes(path),
+        Some(OpenFile::Reading(reader)) => reader.path.is_of_bytes(path),
+        Some(OpenFile::Writing(writer)) => writer.path.is_of_bytes(path),
         None => false,
     }
 }
@@ -633,8 +633,10 @@ fn file_prevents_rename(entry: &Option<OpenFile>, from: &[u8], to: &[u8]) -> boo
     ensures { result ≡ is_open_where (prevents_rename (path_or_root from.now) (path_or_root to.now)) entry.now }
 {
     match entry {
-        Some(OpenFile::Reading(reader)) => reader.path.is_within(from) || reader.path.has_bytes(to),
-        Some(OpenFile::Writing(writer)) => writer.path.is_within(from) || writer.path.has_bytes(to),
+        Some(OpenFile::Reading(reader)) => reader.path.is_within(from)
+            || reader.path.is_of_bytes(to),
+        Some(OpenFile::Writing(writer)) => writer.path.is_within(from)
+            || writer.path.is_of_bytes(to),
         None => false,
     }
 }

@@ -54,7 +54,7 @@ impl OwnedPath {
     }
 
     // Returns whether this is the path of these bytes.
-    pub(crate) fn has_bytes(&self, bytes: &[u8]) -> bool
+    pub(crate) fn is_of_bytes(&self, bytes: &[u8]) -> bool
         requires { is_some (parse_path bytes.now) ≡ true }
         ensures { result ≡ same_path (path_or_root bytes.now) self.now }
     {

@@ -10,7 +10,7 @@ ghost use Rattle.lfs_lookup.specs.RefusalErrors.{is_refusal, error_refusal};
 ghost use Rattle.lfs_tree.specs.RenameFindings.{AreRenameFindings};
 ghost use Rattle.lfs_tree.specs.TreeState.{shown_tree};
 ghost use Rattle.lfs_fs.specs.SessionView.{IsChecksResult, IsReady, refusal_by_checks, session_view};
-ghost use Rattle.lfs_fs.specs.RenamePaths.{IsRefusedAnyway, IsPermitted, PassesRename, is_path_prefix};
+ghost use Rattle.lfs_fs.specs.RenamePaths.{IsRefusedAnyway, IsPermittedRename, PassesRename, is_path_prefix};
 
 use crate::check_order::{are_both_true, find_first_refusal, value_or_refusal};
 use crate::checks::{entry_overflows, lacks_blocks, name_is_long, parse_entry_path};
@@ -160,7 +160,7 @@ pub fn check_rename<'a, D: BlockDevice>(
     new: &'a [u8],
 ) -> Result<PermittedRename<'a>, Error>
     requires { tree.old.failed ≡ false → IsReady tree.old files.now }
-    ensures { IsChecksResult (session_view tree.old files.now) (ops.Rename old.now new.now) (IsPermitted tree.new old.now new.now) result tree.new }
+    ensures { IsChecksResult (session_view tree.old files.now) (ops.Rename old.now new.now) (IsPermittedRename tree.new old.now new.now) result tree.new }
 {
     let paths = check_rename_paths(tree, old, new)?;
     let found = tree.look_up_rename(alloc, &paths.from, &paths.to)?;

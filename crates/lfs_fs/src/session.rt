@@ -10,7 +10,7 @@ ghost use Rattle.lfs_model.specs.session.History.{fault_count, read_count};
 ghost use Rattle.lfs_model.specs.tree.Profile.{image_fields};
 ghost use Rattle.lfs_model.specs.session.State.{Healthy, mounted_session};
 ghost use Rattle.lfs_model.specs.session.Run.{AreSteps, SystemState};
-ghost use Rattle.lfs_model.specs.crash.Performed.{AreSafeSteps};
+ghost use Rattle.lfs_model.specs.crash.Performed.{ArePerformed};
 ghost use Rattle.lfs_model.specs.crash.RepeatedPowerLoss.{IsMounted, MeetsRunPremises, CrashSafe};
 ghost use Rattle.lfs_model.specs.crash.PowerLoss.{SurvivesPowerLoss};
 ghost use Rattle.lfs_model.specs.declared.order.NameOrder.{NameOrder};
@@ -34,7 +34,7 @@ ghost use Rattle.lfs_fs.specs.ReaderReads.{ReadsFew};
 ghost use Rattle.lfs_fs.specs.FileAnswers.{FileAnswersOf, file_position, file_size};
 
 use crate::checks::{
-    check_and_list, check_and_stat, check_get_attr, check_mkdir, check_open, check_open_reader,
+    check_and_list, check_and_stat, check_get_attr, check_is_open, check_mkdir, check_open_reader,
     check_open_writer, check_remove, check_remove_attr, check_seek, check_set_attr,
     check_sync_file, check_truncate, check_write,
 };
@@ -560,7 +560,7 @@ impl<D: BlockDevice> Session<D> {
     pub fn close(&mut self, alloc: Global, fd: Fd) -> Result<(), Error>
         ensures { IsCall self.old (ops.Close fd) (reply_from (λ _. ops.Done) result) self.new }
     {
-        check_open(&self.tree, &self.files, fd)?;
+        check_is_open(&self.tree, &self.files, fd)?;
         if !self.files.is_unsaved_at(fd) {
             self.files.close(fd);
             return Ok(());
@@ -682,7 +682,7 @@ impl<D: BlockDevice> Session<D> {
     /// `Io`, `NoMemory` and, from a remount, `Corrupt`. The operations before it were applied, and
     /// the session has failed.
     pub fn run(&mut self, alloc: Global, ops: &[Op<'_>]) -> Result<Vec<Reply>, Error>
-        ensures performed { IfOk result (λ replies. AreSafeSteps None (system_state self.old) (map op_view ops.now) (map reply_view replies.items) (system_state self.new)) }
+        ensures performed { IfOk result (λ replies. ArePerformed None (system_state self.old) (map op_view ops.now) (map reply_view replies.items) (system_state self.new)) }
         ensures named { IfOk result (λ replies. All HasRefusalError replies.items) }
         ensures no_fault { OnOk result (fault_count self.new.tree.history ≡ fault_count self.old.tree.history) }
         ensures headline { IfOk result (λ replies. (from : SystemState) (done : List Operation) (answers : List Answer) → HasDiskTree from → AreSteps from done answers (system_state self.old)

@@ -3,9 +3,9 @@
 ghost use Rattle.std.specs.Prelude.{ℕ, List, [], true, ◌≡◌, length, IfErr, IfOk, IfSome, IsSome, OnErr, OnOk};
 ghost use Rattle.lfs_model.specs.session.Writers.{opened_writer, synced_writer, truncated_writer, written_writer};
 ghost use Rattle.lfs_tree.specs.OpenContents.{AreTreeContents, StoresBytesAt, KeepsImage, writer_contents_bytes, kept_thread};
-ghost use Rattle.lfs_tree.specs.TreeState.{shown_tree, OnlyReadsTree, IsFailedTree, IsApplied, FailedByReading, HasErrorCause, IsSoundState, LeavesOthersAlone, SurvivesStops};
+ghost use Rattle.lfs_tree.specs.TreeState.{shown_tree, OnlyReadsTree, IsFailedTree, IsApplied, FailedByReading, HasErrorCause, IsSoundState, KeepsOthersIfRecovered, SurvivesStops};
 ghost use Rattle.lfs_file.specs.Contents.{contents_form};
-ghost use Rattle.lfs_fs.specs.WriterChanges.{CanOpenWriter, IsOpenedWriter, CanSaveWriter, CanTruncateBy, CanWriteBy, HasFileUnder, IsUnsavedForm, IsSavedWriter, IsChangedWriter};
+ghost use Rattle.lfs_fs.specs.WriterChanges.{CanOpenWriter, IsOpenedWriter, CanSaveWriter, CanTruncateBy, CanWriteBy, HasWriterFile, IsUnsavedForm, IsSavedWriter, IsChangedWriter};
 ghost use Rattle.lfs_fs.specs.FileView.{unsaved_or_tree, writer_view};
 ghost use Rattle.lfs_fs.specs.FlagsView.{flags_view};
 ghost use Rattle.lfs_model.specs.session.TreeEdits.{tree_creating, file_bytes, tree_with_change};
@@ -37,7 +37,7 @@ fn contents_of_writer<D: BlockDevice>(
     size: u32,
     unsaved: Option<UnsavedContents>,
 ) -> Result<WriterContents, Error>
-    requires file { HasFileUnder tree.old path.now unsaved }
+    requires file { HasWriterFile tree.old path.now unsaved }
     requires size { length (unsaved_or_tree tree.old path.now unsaved) ≡ size }
     ensures asked { OnOk result (OnlyReadsTree tree.old tree.new) }
     ensures over { IfOk result (AreTreeContents tree.new path.now) }
@@ -213,7 +213,7 @@ pub(crate) fn create_and_open<D: BlockDevice>(
     requires can { CanCreateFile tree.old path }
     requires known { IfSome known (IsCreationResult (kept_thread tree.old) path) }
     requires looked_up { pairs_gstate tree.old.pairs ≡ zero_gstate → IsSome known }
-    ensures made { OnOk result ((bytes : List ℕ) (flags : FlagsOfOpen) → path_or_root bytes ≡ path → flags.write ≡ true → IsApplied tree.old (ops.Open bytes flags) tree.new × LeavesOthersAlone tree.old (ops.Open bytes flags) tree.new) }
+    ensures made { OnOk result ((bytes : List ℕ) (flags : FlagsOfOpen) → path_or_root bytes ≡ path → flags.write ≡ true → IsApplied tree.old (ops.Open bytes flags) tree.new × KeepsOthersIfRecovered tree.old (ops.Open bytes flags) tree.new) }
     ensures begun { IfOk result (IsOpenedWriter tree.new (opened_writer path (flags_view flags) [])) }
     ensures broken { OnErr result (IsFailedTree tree.old tree.new) }
     ensures errors { IfErr result (HasErrorCause tree.old tree.new) }

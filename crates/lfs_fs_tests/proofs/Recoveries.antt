@@ -11,7 +11,7 @@ use Rattle.lfs_model.specs.session.Effects.{operation_result, unless_refused}
 use Rattle.lfs_model.specs.session.History.{CallEvent}
 use Rattle.lfs_model.specs.session.Operations as ops
 use Rattle.lfs_model.specs.session.Operations.{Operation, Reply, ReadOnly}
-use Rattle.lfs_model.specs.crash.PowerLoss.{IsHealthySession, HasEither}
+use Rattle.lfs_model.specs.crash.PowerLoss.{IsHealthySession, HasEitherTree}
 use Rattle.lfs_model.specs.crash.Premises.{MeetsPremises}
 use Rattle.lfs_model.specs.crash.RepeatedPowerLoss.{IsMounted, KeepsTree, SameBytes}
 use Rattle.lfs_model.specs.session.Run.{SystemState, IsStep, ShowsTree}
@@ -61,7 +61,7 @@ called_in old new op (Err e) by = (by.fails.calls, by.fails.called)
 
 -- what a call leaves, however it ended, where the device met what is supposed of it
 pub left_by_call : (old new : SessionView) (op : Operation) (r : Result Reply Error) → IsCall old op r new → (s : Session) (ps : List Pair) (around : DiskSummary)
-    → IsHealthySession (system_state old) s ps around → MeetsPremises new.tree.history → HasEither new.tree.disk s.tree (operation_result around s op).1.tree
+    → IsHealthySession (system_state old) s ps around → MeetsPremises new.tree.history → HasEitherTree new.tree.disk s.tree (operation_result around s op).1.tree
 left_by_call old new op r call s ps around work met =
     let since = called_in old new op r call.answers in
     call.survives_loss.stands s ps around work (since_of_each since.0 since.1 met.erases) (since_of_each since.0 since.1 met.failed)

@@ -3,7 +3,7 @@
 ghost use Rattle.std.specs.Prelude.{◌≡◌};
 ghost use Rattle.lfs_model.specs.format.Disk.{Disk, ordered_disk};
 ghost use Rattle.lfs_model.specs.session.Operations as ops;
-ghost use Rattle.lfs_model.specs.crash.PowerLoss.{HasEither};
+ghost use Rattle.lfs_model.specs.crash.PowerLoss.{HasEitherTree};
 ghost use Rattle.lfs_model.specs.crash.Premises.{MeetsPremises};
 ghost use Rattle.lfs_model.specs.crash.RepeatedPowerLoss.{IsMounted, SameBytes};
 ghost use Rattle.lfs_model.specs.tree.Tree.{Tree};
@@ -23,7 +23,7 @@ fn recover_session(
     alloc: Global,
     mut session: Session<RamDevice>,
 ) -> Result<Session<RamDevice>, Error>
-    ensures { (left other : Disk) (before after : Tree) → HasEither left before after → SameBytes left other → IsMounted other (system_state session)
+    ensures { (left other : Disk) (before after : Tree) → HasEitherTree left before after → SameBytes left other → IsMounted other (system_state session)
         → RecoversEitherTree before after result }
 {
     power_loss_leaves_disk_with_safe_tree();
@@ -35,7 +35,7 @@ fn recover_session(
 
 // A session over a device with an image, with nothing left to recover.
 fn recover_device(alloc: Global, device: RamDevice) -> Result<Session<RamDevice>, Error>
-    ensures { (order : NameOrder) (before after : Tree) → HasEither (ordered_disk order (disk_of_blocks (ram_geometry device) (ram_blocks device))) before after
+    ensures { (order : NameOrder) (before after : Tree) → HasEitherTree (ordered_disk order (disk_of_blocks (ram_geometry device) (ram_blocks device))) before after
         → RecoversEitherTree before after result }
 {
     match mount(alloc, device) {
@@ -54,7 +54,7 @@ pub fn recover_from_stop(
     alloc: Global,
     session: Session<FaultDevice<RamDevice>>,
 ) -> Result<Session<RamDevice>, Error>
-    ensures { (before after : Tree) → (MeetsPremises session.tree.history → HasEither session.tree.disk before after) → RecoversEitherTree before after result }
+    ensures { (before after : Tree) → (MeetsPremises session.tree.history → HasEitherTree session.tree.disk before after) → RecoversEitherTree before after result }
 {
     lemma_ram_premises();
     let device = session.unmount();

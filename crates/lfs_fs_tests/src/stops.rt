@@ -29,7 +29,7 @@ fn device_copy_with_fault(
     nth: u64,
     stops: bool,
 ) -> Result<Faulty, Error> {
-    let copy = copy_device(alloc, device)?.erased_as(erased);
+    let copy = copy_device(alloc, device)?.with_erased(erased);
     Ok(FaultDevice::new(copy, CountedCalls::Any, nth, stops))
 }
 

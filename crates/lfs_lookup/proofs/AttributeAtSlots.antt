@@ -1,7 +1,7 @@
 -- What a slot says of its attributes.
 use Rattle.std.proofs.Common.{ℕ, zero, suc, ◌≡◌, ◌+◌, ◌/◌, ◌%◌, ◌^◌, ◌<◌, ◌≤◌, ◌==◌, ◌∙◌, Bool, true, false, cond, List, [], ◌∷◌, length, slice_get, slice_index_or, Option, Some, None, Result, Ok, Err, Vec, Global, Bor, refl, sym, ap, ap₂, subst, arith}
 use Rattle.std.specs.Prelude.{IfOk, IfSome, IsSome, find}
-use Rattle.lfs_lookup.proofs.Common.{option_and_then, option_copied, option_map, same_Some, node_attributes_of, RawSlot, attribute_bytes, complete_slot, kind_of_type, slot_of_id, read_struct, Disk, AttributesInOrder, IsFormedSlot, AreWellFormed, slot_bytes, part_bytes, Attributes, Slot, Struct, Inline, Ctz, Branch, slot_of, Pair, Path, struct_node, struct_list_bytes, all_entries, disk_tree, KeptThread, ThreadView, cached_log, empty_anchor, IsResult, AreAttributesAt, IsFoundCached, IsUnmoved}
+use Rattle.lfs_lookup.proofs.Common.{option_and_then, option_copied, option_map, same_Some, node_attributes_of, RawSlot, attribute_bytes, complete_slot, kind_of_type, slot_of_id, read_struct, Disk, AttributesInOrder, IsFormedSlot, AreWellFormed, slot_bytes, part_bytes, Attributes, Slot, Struct, Inline, Ctz, Branch, slot_of, Pair, Path, struct_node, struct_list_bytes, all_entries, disk_tree, KeptThread, ThreadView, cached_log, empty_anchor, IsLookupResult, AreAttributesAt, IsFoundCached, IsUnmovedSpot}
 use Rattle.lfs_device.specs.declared.error.Error.{Error}
 use Rattle.lfs_model.specs.session.Operations as ops
 use Rattle.lfs_lookup.specs.AttributeAt.{IsAttribute, AttributeFits, lookup_spot}
@@ -62,10 +62,10 @@ short_copy (Some x) (Some v) e h = subst (λ b. length b ≤ 1022) (sym (same_So
 
 -- ---- at a path
 
-pub is_slot_of : (t : KeptThread) (path : Path) (x : VisiblePathLookup) (slot : SlotPosition) → IsResult t path x → lookup_spot x ≡ Some slot → (moved : Option SlotPosition) × IsUnmoved t.pairs moved path slot
+pub is_slot_of : (t : KeptThread) (path : Path) (x : VisiblePathLookup) (slot : SlotPosition) → IsLookupResult t path x → lookup_spot x ≡ Some slot → (moved : Option SlotPosition) × IsUnmovedSpot t.pairs moved path slot
 is_slot_of t path shown.Root slot s e = absurd (cc)
-is_slot_of t path (shown.Directory at first) slot s e = (s.moved, subst (λ z. IsUnmoved t.pairs s.moved path z) (same_Some at slot e) s.shows.1.0)
-is_slot_of t path (shown.File at contents) slot s e = (s.moved, subst (λ z. IsUnmoved t.pairs s.moved path z) (same_Some at slot e) s.shows.1.0)
+is_slot_of t path (shown.Directory at first) slot s e = (s.moved, subst (λ z. IsUnmovedSpot t.pairs s.moved path z) (same_Some at slot e) s.shows.1.0)
+is_slot_of t path (shown.File at contents) slot s e = (s.moved, subst (λ z. IsUnmovedSpot t.pairs s.moved path z) (same_Some at slot e) s.shows.1.0)
 is_slot_of t path shown.Nothing slot s e = absurd (cc)
 is_slot_of t path shown.ParentIsFile slot s e = absurd (cc)
 is_slot_of t path shown.ParentIsMissing slot s e = absurd (cc)
@@ -86,7 +86,7 @@ pub record IsSlotFor (t : KeptThread) (path : Path) (slot : SlotPosition) : Type
   pub there : IsSpotSlot t slot held
   pub attributes : held.attributes ≡ node_attributes_of (disk_tree t.disk t.pairs path)
 
-pub slot_for : (t : KeptThread) (path : Path) (x : VisiblePathLookup) (slot : SlotPosition) → IsResult t path x → lookup_spot x ≡ Some slot → IsSlotFor t path slot
+pub slot_for : (t : KeptThread) (path : Path) (x : VisiblePathLookup) (slot : SlotPosition) → IsLookupResult t path x → lookup_spot x ≡ Some slot → IsSlotFor t path slot
 slot_for t path x slot shows e =
     let s = (is_slot_of t path x slot shows e).1 in
     record {
@@ -96,7 +96,7 @@ slot_for t path x slot shows e =
       attributes = attributes_at t.disk t.pairs path s.stands.stands.slot s.slot;
     }
 
-pub no_slot : (t : KeptThread) (path : Path) (x : VisiblePathLookup) → IsResult t path x → lookup_spot x ≡ None → node_attributes_of (disk_tree t.disk t.pairs path) ≡ []
+pub no_slot : (t : KeptThread) (path : Path) (x : VisiblePathLookup) → IsLookupResult t path x → lookup_spot x ≡ None → node_attributes_of (disk_tree t.disk t.pairs path) ≡ []
 no_slot t path shown.Root s e = ap (λ p. node_attributes_of (disk_tree t.disk t.pairs p)) s.shows
 no_slot t path (shown.Directory at first) s e = absurd (cc)
 no_slot t path (shown.File at contents) s e = absurd (cc)
@@ -105,7 +105,7 @@ no_slot t path shown.ParentIsFile s e = ap node_attributes_of (nothing_at t.disk
 no_slot t path shown.ParentIsMissing s e = ap node_attributes_of (nothing_at t.disk t.pairs path (refused_none t.disk t.pairs path [] ops.NoEnt s.shows))
 
 -- the attributes of what is shown at a path are those of its slot
-pub are_held : (t : KeptThread) (path : Path) (x : VisiblePathLookup) (slot : Option SlotPosition) → IsResult t path x → slot ≡ lookup_spot x → AreAttributesAt t slot (node_attributes_of (disk_tree t.disk t.pairs path))
+pub are_held : (t : KeptThread) (path : Path) (x : VisiblePathLookup) (slot : Option SlotPosition) → IsLookupResult t path x → slot ≡ lookup_spot x → AreAttributesAt t slot (node_attributes_of (disk_tree t.disk t.pairs path))
 are_held t path x None s e = no_slot t path x s (sym e)
 are_held t path x (Some spot) s e = let f = slot_for t path x spot s (sym e) in (f.held, (f.there, f.attributes))
 
@@ -113,7 +113,7 @@ pub held_later : (a b : KeptThread) (slot : Option SlotPosition) (attributes : A
 held_later a b None attributes e h = h
 held_later a b (Some spot) attributes e h = (h.0, (subst (λ ps. slice_get (slice_index_or ps spot.pair empty_anchor).content.slots spot.id ≡ Some h.0) (sym e) h.1.0, h.1.1))
 
-pub slot_within : (t : KeptThread) (path : Path) (x : VisiblePathLookup) (slot : Option SlotPosition) (now : List Pair) → IsResult t path x → slot ≡ lookup_spot x → now ≡ t.pairs → IfSome slot (λ s. s.pair < length now)
+pub slot_within : (t : KeptThread) (path : Path) (x : VisiblePathLookup) (slot : Option SlotPosition) (now : List Pair) → IsLookupResult t path x → slot ≡ lookup_spot x → now ≡ t.pairs → IfSome slot (λ s. s.pair < length now)
 slot_within t path x None now s e same = tt
 slot_within t path x (Some spot) now s e same = subst (λ ps. spot.pair < length ps) (sym same) (slot_for t path x spot s (sym e)).below
 

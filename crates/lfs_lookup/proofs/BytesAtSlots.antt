@@ -1,7 +1,7 @@
 -- What a file's slot says of its bytes.
 use Rattle.std.proofs.Common.{ℕ, zero, suc, ◌≡◌, ◌+◌, ◌^◌, ◌<◌, ◌==◌, ◌∙◌, Bool, true, false, cond, List, [], ◌∷◌, ◌++◌, length, length-append, take, Option, Some, None, refl, sym, ap, ap₂, subst, slice_get, get_or, arith, append_assoc}
 use Rattle.std.specs.List.{enumerate_from, flat_map}
-use Rattle.lfs_lookup.proofs.Common.{option_and_then, option_map, length-take, same_Some, is_file, RawSlot, complete_slot, complete_slots, kind_of_type, slot_of_id, read_struct, inline_type, directory_type, read_address, Disk, IsDirectoryPair, IsPlaceOf, slot_bytes, part_bytes, Name, Slot, Struct, Inline, Ctz, Branch, slot_of, Pair, Path, struct_node, recursion_from_All, Each, each_right, IsWritableSlot, IsWritable, IsAccepted, IsFormedList, struct_list_bytes, all_entries, disk_tree, complete_parts, KeptThread, empty_anchor, IsResult, spot_and_storage, IsStorage, IsUnmoved}
+use Rattle.lfs_lookup.proofs.Common.{option_and_then, option_map, length-take, same_Some, is_file, RawSlot, complete_slot, complete_slots, kind_of_type, slot_of_id, read_struct, inline_type, directory_type, read_address, Disk, IsDirectoryPair, IsPlaceOf, slot_bytes, part_bytes, Name, Slot, Struct, Inline, Ctz, Branch, slot_of, Pair, Path, struct_node, recursion_from_All, Each, each_right, IsWritableSlot, IsWritable, IsAccepted, IsFormedList, struct_list_bytes, all_entries, disk_tree, complete_parts, KeptThread, empty_anchor, IsLookupResult, spot_and_storage, IsStorage, IsUnmovedSpot}
 use Rattle.lfs_model.specs.session.TreeEdits.{file_bytes}
 use Rattle.lfs_model.specs.format.Disk.{inline_limit}
 use Rattle.lfs_model.specs.format.SkipLists.{block_data, blocks_to_head, block_count_for}
@@ -78,7 +78,7 @@ slot_stands ps first name index id s =
 -- ---- at a path
 
 module _ (t : KeptThread) (path : Path) (ok : IsAccepted t.disk t.pairs) (moved : Option SlotPosition) (spot : SlotPosition) (contents : FileStorage) where
-  pub file_stands : (s : IsUnmoved t.pairs moved path spot) → IsStorage contents s.stands.stands.slot.struct → IsFileAt t spot contents s.stands.stands.slot
+  pub file_stands : (s : IsUnmovedSpot t.pairs moved path spot) → IsStorage contents s.stands.stands.slot.struct → IsFileAt t spot contents s.stands.stands.slot
   file_stands s k = record {
     below = behind_below t.pairs s.first spot.pair s.stands.pair s.stands.rest s.stands.place;
     there = slot_stands t.pairs s.first s.name spot.pair spot.id s.stands;
@@ -119,7 +119,7 @@ is_file_of shown.ParentIsMissing slot contents e = absurd (cc)
 
 -- no file is there where none is found
 module _ (t : KeptThread) (path : Path) where
-  pub not_file : (x : VisiblePathLookup) → IsResult t path x → spot_and_storage x ≡ None → is_file (disk_tree t.disk t.pairs path) ≡ false
+  pub not_file : (x : VisiblePathLookup) → IsLookupResult t path x → spot_and_storage x ≡ None → is_file (disk_tree t.disk t.pairs path) ≡ false
   not_file shown.Root s e = ap (λ p. is_file (disk_tree t.disk t.pairs p)) s.shows
   not_file (shown.Directory slot first) s e = ap is_file (directory_at_path t.disk t.pairs path s.shows.1.1.at s.shows.1.1.leads).is
   not_file (shown.File slot contents) s e = absurd (cc)
@@ -146,9 +146,9 @@ pub record IsFileOf (t : KeptThread) (path : Path) (slot : SlotPosition) (conten
   pub at : slot_of t.pairs path ≡ Some held
   pub inline : IsWritable t.disk t.pairs → InlineBytesFit (inline_limit t.disk.profile t.disk.block_size) held.struct
 
-pub file_of_path : (t : KeptThread) (path : Path) (x : VisiblePathLookup) (slot : SlotPosition) (contents : FileStorage) → IsAccepted t.disk t.pairs → IsResult t path x → spot_and_storage x ≡ Some (slot, contents) → IsFileOf t path slot contents
+pub file_of_path : (t : KeptThread) (path : Path) (x : VisiblePathLookup) (slot : SlotPosition) (contents : FileStorage) → IsAccepted t.disk t.pairs → IsLookupResult t path x → spot_and_storage x ≡ Some (slot, contents) → IsFileOf t path slot contents
 file_of_path t path x slot contents ok shows e =
-    let found = subst (λ z. IsResult t path z) (is_file_of x slot contents e) shows in
+    let found = subst (λ z. IsLookupResult t path z) (is_file_of x slot contents e) shows in
     let (h, (s, k)) = found.shows in
     let file = file_stands t path ok found.moved slot contents s k in
     record {

@@ -1,7 +1,7 @@
 -- Down a path, a directory at a time.
 use Rattle.std.proofs.Common.{subst₂, ℕ, zero, suc, ◌≡◌, ◌<◌, ◌≤◌, ◌+◌, List, [], ◌∷◌, ◌++◌, length, map, take, drop, Option, Some, None, Result, Ok, Err, refl, sym, ap, ap₂, subst, ◌∙◌, arith, append_assoc, append-nil, slice_get, slice_index_or}
 use Rattle.std.specs.Prelude.{sum_by, IfOk}
-use Rattle.lfs_lookup.proofs.Common.{option_and_then, option_map, option_or, map-append, sum_by-append, sum_by-cons, Disk, pair_count_at, ancestor_paths, read_count, joined_count, Name, directory_refusal, parents_refusal, slot_of, Slot, Struct, Inline, Ctz, Branch, pairs_gstate, Path, Tree, branch_address, struct_node, IsAccepted, LeadsTo, struct_list_bytes, all_entries, disk_tree, KeptThread, OnlyReadsThread, LeadsToPair, ParentReached, IsNodeAt, HidesMovedSlot, IsHiddenResult, HidesFrom, run_length_is}
+use Rattle.lfs_lookup.proofs.Common.{option_and_then, option_map, option_or, map-append, sum_by-append, sum_by-cons, Disk, pair_count_at, ancestor_paths, read_count, joined_count, Name, directory_refusal, parents_refusal, slot_of, Slot, Struct, Inline, Ctz, Branch, pairs_gstate, Path, Tree, branch_address, struct_node, IsAccepted, LeadsTo, struct_list_bytes, all_entries, disk_tree, KeptThread, OnlyReadsThread, LeadsToPair, ParentReached, IsParentAt, HidesMovedSlot, IsHiddenResult, HidesOnlySlot, run_length_is}
 use Rattle.lfs_device.specs.declared.error.Error.{Error}
 use Rattle.lfs_model.specs.session.Operations.{Refusal}
 use Rattle.lfs_lookup.specs.LookupPaths.{IsVisibleEntry, IsNamedEntry, LeadsToResult}
@@ -139,7 +139,7 @@ some_at f (y ∷ xs) (suc i) l = some_at f xs i (omega arith)
 pub begins_same : (a b : KeptThread) → OnlyReadsThread a b → (path : Path) (first : ℕ) → LeadsToPair a.pairs path first → LeadsToPair b.pairs path first
 begins_same a b r path first on = subst (λ ps. LeadsToPair ps path first) (sym r.pairs) on
 
-pub enters_same : (a b : KeptThread) → OnlyReadsThread a b → (path : Path) (p : Parent) → IsNodeAt b path p → IsNodeAt a path p
+pub enters_same : (a b : KeptThread) → OnlyReadsThread a b → (path : Path) (p : Parent) → IsParentAt b path p → IsParentAt a path p
 enters_same a b r path (parent.Directory first) e = subst (λ ps. LeadsToPair ps path first) r.pairs e
 enters_same a b r path parent.File e = ap₂ (λ d ps. directory_refusal (disk_tree d ps path)) (sym r.disk) (sym r.pairs) ∙ e
 enters_same a b r path parent.Nothing e = ap₂ (λ d ps. directory_refusal (disk_tree d ps path)) (sym r.disk) (sym r.pairs) ∙ e
@@ -195,5 +195,5 @@ showed_in t next moved r above n first (Ok s) on answer path is fault =
 pub hiding_same : (a b : KeptThread) (moved : Option SlotPosition) → OnlyReadsThread a b → HidesMovedSlot a moved → HidesMovedSlot b moved
 hiding_same a b moved r h = record {
   accepted = subst (λ d. IsAccepted d b.pairs) (sym r.disk) (subst (IsAccepted a.disk) (sym r.pairs) h.accepted);
-  hides = subst (λ ps. HidesFrom (pairs_gstate ps) moved 0 ps) (sym r.pairs) h.hides;
+  hides = subst (λ ps. HidesOnlySlot (pairs_gstate ps) moved 0 ps) (sym r.pairs) h.hides;
 }

@@ -1,7 +1,7 @@
 -- From a directory on a path to what one of its names leads to.
 use Rattle.std.proofs.Common.{refl, ℕ, ◌≡◌, ◌+◌, false, List, [], ◌∷◌, ◌++◌, drop, Option, Some, None, sym, ap, subst, ◌∙◌, arith, rules}
 use Rattle.std.specs.Prelude.{IfNone, IsSome}
-use Rattle.lfs_lookup.proofs.Common.{AllByRecursion, option_and_then, option_map, BelongsAt, HaveNoSuperblock, IsPlaceOf, Name, NoEnt, NotDir, directory_refusal, slot_of, Slot, Branch, same_pair, Pair, pairs_from_root, Path, branch_address, struct_node, IsAccepted, LeadsTo, struct_list_bytes, all_entries, disk_tree, each_right, chain_of_thread, led_directory, begins_directory, plain_behind, KeptThread, IsStorage, LeadsToPair, HidesMovedSlot, HidesFrom, IsAbsent, IsNameAt}
+use Rattle.lfs_lookup.proofs.Common.{AllByRecursion, option_and_then, option_map, BelongsAt, HaveNoSuperblock, IsPlaceOf, Name, NoEnt, NotDir, directory_refusal, slot_of, Slot, Branch, same_pair, Pair, pairs_from_root, Path, branch_address, struct_node, IsAccepted, LeadsTo, struct_list_bytes, all_entries, disk_tree, each_right, chain_of_thread, led_directory, begins_directory, plain_behind, KeptThread, IsStorage, LeadsToPair, HidesMovedSlot, HidesOnlySlot, IsAbsent, IsNameAt}
 use Rattle.lfs_model.specs.format.Slots.{zero_gstate}
 use Rattle.lfs_model.proofs.Committed.{no_move_from}
 use Rattle.lfs_model.proofs.Indexes.{nothing_there}
@@ -74,9 +74,9 @@ module _ (t : KeptThread) (moved : Option SlotPosition) (h : HidesMovedSlot t mo
 
 -- ---- nothing is to be recovered, so no slot counts as deleted
 
-hides_none : (index : ℕ) (ps : List Pair) → HidesFrom zero_gstate None index ps
+hides_none : (index : ℕ) (ps : List Pair) → HidesOnlySlot zero_gstate None index ps
 hides_none index [] = tt
 hides_none index (p ∷ ps) = (refl, hides_none (index + 1) ps)
 
 pub hiding_none : (t : KeptThread) → IsAcceptedRecovered t → HidesMovedSlot t None
-hiding_none t ok = record { accepted = ok.accepted; hides = subst (λ g. HidesFrom g None 0 t.pairs) (sym ok.settled) (hides_none 0 t.pairs) }
+hiding_none t ok = record { accepted = ok.accepted; hides = subst (λ g. HidesOnlySlot g None 0 t.pairs) (sym ok.settled) (hides_none 0 t.pairs) }

@@ -1,6 +1,6 @@
 -- A search by halves among the pairs of a directory: what is known of the pairs before and behind those that are left.
 use Rattle.std.proofs.Common.{ℕ, zero, suc, ◌≡◌, ◌≢◌, ◌⊎◌, inl, inr, ◌+◌, ◌-◌, ◌<◌, ◌≤◌, Bool, true, false, cond, not, List, [], ◌∷◌, ◌++◌, length, take, drop, refl, sym, ap, ap₂, subst, ◌∙◌, arith, append_assoc, append-nil, length-append, get_or, Less}
-use Rattle.lfs_lookup.proofs.Common.{AllByRecursion, get_or-drop, length-take, take-append-drop, flat_map-append, filter-append, drop-append_seam, BelongsAt, FirstIsGreater, HaveNoSuperblock, HasHardTail, BelongsAtId, AreJoined, IsPlaceOf, HasName, entry_slots, last_joins, joined_count, all_slots, Name, name_cmp, Slot, is_superblock, Pair, is_hard_tail, starts_superblock, each_left, each_right, IsStructEntry, EndsWithoutTail, joined_pairs}
+use Rattle.lfs_lookup.proofs.Common.{AllByRecursion, get_or-drop, length-take, take-append-drop, flat_map-append, filter-append, drop-append_seam, BelongsAt, FirstIsGreater, HaveNoSuperblock, HasHardTail, BelongsAtId, AreJoined, IsPlaceOf, HasName, entry_slots, last_joins, joined_count, all_slots, Name, name_cmp, Slot, is_superblock, Pair, is_hard_tail, superblock_first, each_left, each_right, IsStructEntry, EndsWithoutTail, joined_pairs}
 use Rattle.std.proofs.lemmas.List.{get_or_append_left}
 use Rattle.lfs_model.specs.declared.order.NameOrder.{NameOrder}
 use Rattle.lfs_lookup.specs.declared.entry.FileOrDirectory.{FileOrDirectory}
@@ -178,7 +178,7 @@ pub record HasGreater (by : NameOrder) (run : List Pair) (first : ℕ) (name : N
   pub parts : run ≡ before ++ pair ∷ behind
   pub number : first + length before ≡ high
   pub above : FirstIsGreater by name (entry_slots pair.content.slots)
-  pub fronted : starts_superblock pair.content.slots ≡ false
+  pub fronted : superblock_first pair.content.slots ≡ false
 
 pub data IsHigh (by : NameOrder) (run : List Pair) (first : ℕ) (name : Name) (high : ℕ) : Type 0 where
   ends : high ≡ first + length run → IsHigh by run first name high
@@ -246,7 +246,7 @@ module _ (by : NameOrder) (ps : List Pair) (first : ℕ) (name : Name) (index : 
     parts = a.parts;
     number = a.number;
     above = go pl.greater;
-    fronted = subst (λ z. starts_superblock z ≡ false) (sym is) pl.fronted;
+    fronted = subst (λ z. superblock_first z ≡ false) (sym is) pl.fronted;
   }
     where
       whole : (left : List Slot) → q.content.slots ≡ left ++ pl.right → length left ≡ id → q.content.slots ≡ pl.right

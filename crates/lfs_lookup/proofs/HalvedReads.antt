@@ -1,7 +1,7 @@
 -- How often a search by halves reads, and what it leaves in the cache.
 use Rattle.std.proofs.Common.{ℕ, zero, suc, ◌≡◌, ◌+◌, ◌-◌, ◌*◌, ◌/◌, ◌^◌, ◌<◌, ◌≤◌, List, [], ◌∷◌, ◌++◌, length, Result, Ok, refl, sym, ap, subst, ◌∙◌, arith, length-append}
 use Rattle.std.specs.Prelude.{OnOk}
-use Rattle.lfs_lookup.proofs.Common.{AllByRecursion, Pair, each_right, active_block_at, ThreadView, ArePairsCached, KeepsCachedPairs, IsMovedFirst, HaveSlots, halving_count}
+use Rattle.lfs_lookup.proofs.Common.{AllByRecursion, Pair, each_right, active_block_at, ThreadView, ArePairsCached, KeepsCachedPairs, BecomesMostRecent, HaveSlots, halving_count}
 use Rattle.std.proofs.Math.Nat.{mul-div-le, lt-div-mul-add, pow-succ'}
 use Rattle.lfs_device.specs.declared.error.Error.{Error}
 use Rattle.lfs_lookup.specs.Halves.{halvings_within}
@@ -79,7 +79,7 @@ has_slot run first index q a slots = (each_right (λ (p : Pair). 0 < length p.co
 -- A directory of one pair is still to be looked at, or its pair is loaded.
 pub data IsLone (run : List Pair) (first low high : ℕ) (old now : ThreadView) : Type 0 where
   waits : low ≡ first → first < high → now.cache ≡ old.cache → IsLone run first low high old now
-  done : high ≤ low → AllByRecursion (λ p. IsMovedFirst (active_block_at old.kept.disk p.at) old.cache now.cache) run → IsLone run first low high old now
+  done : high ≤ low → AllByRecursion (λ p. BecomesMostRecent (active_block_at old.kept.disk p.at) old.cache now.cache) run → IsLone run first low high old now
 
 pub record HasLoaded (run : List Pair) (first low high : ℕ) (old now : ThreadView) : Type 0 where
   pub kept : HasKept run run old now
@@ -149,6 +149,6 @@ loads_all {X = X} run first low high old now s x is h none = record {
     back : (P : Type 0) → P → OnOk s P
     back P p = subst (λ (z : Result X Error). OnOk z P) (sym is) p
 
-    go : IsLone run first low high old now → AllByRecursion (λ p. IsMovedFirst (active_block_at old.kept.disk p.at) old.cache now.cache) run
+    go : IsLone run first low high old now → AllByRecursion (λ p. BecomesMostRecent (active_block_at old.kept.disk p.at) old.cache now.cache) run
     go (waits e f k) = absurd (omega arith)
     go (done l k) = k

@@ -1,6 +1,6 @@
 -- A directory whose names rise: a name that belongs at a place in it is nowhere in it. In an accepted image names rise.
 use Rattle.std.proofs.Common.{ℕ, zero, suc, ◌≡◌, ◌≢◌, ◌⊎◌, inl, inr, ◌+◌, ◌==◌, ◌&&◌, Bool, true, false, cond, not, List, [], ◌∷◌, ◌++◌, filter, flat_map, take, drop, remove, slice_get, Option, Some, None, refl, sym, ap, ap₂, subst, ◌∙◌, arith, append_assoc, Less}
-use Rattle.lfs_lookup.proofs.Common.{AllByRecursion, take-append-drop, flat_map-append, filter-append, same_Some, drop-append_seam, FirstIsGreater, BelongsAt, HasHardTail, AreJoined, entry_slots, last_joins, all_slots, Name, name_cmp, Gstate, Slot, is_superblock, same_pair, Pair, pairs_gstate, is_hard_tail, unmoved_entries, moved_id, Path, Each, each_append, each_left, each_right, each_weaker, begins_directory, plain_behind, KeptThread, joined_pairs, LeadsToPair, HidesMovedSlot, HidesFrom, IsAbsent, IsNameAt, FindsInDirectory, skipped_id}
+use Rattle.lfs_lookup.proofs.Common.{AllByRecursion, take-append-drop, flat_map-append, filter-append, same_Some, drop-append_seam, FirstIsGreater, BelongsAt, HasHardTail, AreJoined, entry_slots, last_joins, all_slots, Name, name_cmp, Gstate, Slot, is_superblock, same_pair, Pair, pairs_gstate, is_hard_tail, unmoved_entries, moved_id, Path, Each, each_append, each_left, each_right, each_weaker, begins_directory, plain_behind, KeptThread, joined_pairs, LeadsToPair, HidesMovedSlot, HidesOnlySlot, IsAbsent, IsNameAt, FindsInDirectory, skipped_id}
 use Rattle.lfs_model.specs.declared.order.NameOrder.{NameOrder}
 use Rattle.lfs_model.proofs.Indexes.{greater_behind, less_before, rise_right}
 use Rattle.lfs_model.proofs.Names.{Rise}
@@ -141,7 +141,7 @@ nothing_shown by ps moved first name spot none h found = subst (λ m. IsAbsent m
 
 -- ---- in an accepted image
 
-hides_each : (g : Gstate) (index : ℕ) (ps : List Pair) → HidesFrom g None index ps → Each (λ p. moved_id g p ≡ None) ps
+hides_each : (g : Gstate) (index : ℕ) (ps : List Pair) → HidesOnlySlot g None index ps → Each (λ p. moved_id g p ≡ None) ps
 hides_each g index [] h = tt
 hides_each g index (p ∷ ps) h = (sym h.0, hides_each g (index + 1) ps h.1)
 

@@ -1,7 +1,7 @@
 -- The directories of a path, as their pairs are brought in turn.
 use Rattle.std.proofs.Common.{ℕ, zero, suc, ◌≡◌, ◌<◌, ◌≤◌, ◌+◌, List, [], ◌∷◌, ◌++◌, length, map, take, drop, slice_get, Option, Some, None, Result, Ok, Err, refl, sym, ap, subst, ◌∙◌, arith, length-append}
 use Rattle.std.specs.Prelude.{IfOk}
-use Rattle.lfs_lookup.proofs.Common.{AllByRecursion, option_map_or, length-map, CachedBlocks, cache_limit, directory_pairs, pair_count_at, ancestor_paths, Disk, read_count, Name, all_entries, Pair, root_address, Path, IsAccepted, each_append, each_left, each_right, each_weaker, active_block_at, KeptThread, ThreadView, OnlyReadsThread, ArePairsCached, KeepsCachedPairs, IsMovedFirst, IsLastUsed, StayCached, pairs_at, joined_pairs, joined_pairs_from, LeadsToPair}
+use Rattle.lfs_lookup.proofs.Common.{AllByRecursion, option_map_or, length-map, CachedBlocks, cache_limit, directory_pairs, pair_count_at, ancestor_paths, Disk, read_count, Name, all_entries, Pair, root_address, Path, IsAccepted, each_append, each_left, each_right, each_weaker, active_block_at, KeptThread, ThreadView, OnlyReadsThread, ArePairsCached, KeepsCachedPairs, BecomesMostRecent, IsLastUsed, StayCached, pairs_at, joined_pairs, joined_pairs_from, LeadsToPair}
 use Rattle.lfs_device.specs.declared.error.Error.{Error}
 use Rattle.lfs_model.specs.tree.Tree.{address_at_path}
 use Rattle.lfs_lookup.specs.CachedPairs.{AreDirectoriesCached, AreLastUsed, AreDirectoriesRecent, AreFewSmall, KeepsCachedDirectories}
@@ -57,12 +57,12 @@ module _ (disk : Disk) (ps : List Pair) (q : Path) (run : List Pair) (is : run �
     one_is : length run ≡ 1
     one_is = ap length is ∙ length-pairs_on ps q ∙ small
 
-    last_of : (qs : List Pair) → length qs ≡ 1 → AllByRecursion (λ p. IsMovedFirst (active_block_at now.kept.disk p.at) now.cache new.cache) qs → AreLastUsed (suc n) now.kept.disk new.cache qs
+    last_of : (qs : List Pair) → length qs ≡ 1 → AllByRecursion (λ p. BecomesMostRecent (active_block_at now.kept.disk p.at) now.cache new.cache) qs → AreLastUsed (suc n) now.kept.disk new.cache qs
     last_of [] e h = absurd (omega (arith, e))
     last_of (p ∷ []) e h = (wider 1 (suc n) _ new.cache (omega arith) h.0.first, tt)
     last_of (p ∷ (r ∷ qs)) e h = absurd (omega (arith, e))
 
-    further_of : (qs : List Pair) → length qs ≡ 1 → AllByRecursion (λ p. IsMovedFirst (active_block_at now.kept.disk p.at) now.cache new.cache) qs → (c : ℕ) → IsLastUsed n now.cache c → IsLastUsed (suc n) new.cache c
+    further_of : (qs : List Pair) → length qs ≡ 1 → AllByRecursion (λ p. BecomesMostRecent (active_block_at now.kept.disk p.at) now.cache new.cache) qs → (c : ℕ) → IsLastUsed n now.cache c → IsLastUsed (suc n) new.cache c
     further_of [] e h = absurd (omega (arith, e))
     further_of (p ∷ qs) e h = λ c k. h.0.others n c few k
 

@@ -1,7 +1,7 @@
 -- What a search among the slots of a log says of the slots of its content.
 use Rattle.std.proofs.Common.{ℕ, zero, suc, ◌≡◌, ◌⊎◌, inl, inr, ◌<◌, ◌==◌, ◌&&◌, Bool, true, false, cond, not, List, [], ◌∷◌, ◌++◌, length, length-append, rules, Option, Some, None, T, refl, sym, ap, ap₂, slice_get, subst, ◌∙◌, arith, eqb-true, Ordering, Less, Equal, Greater}
 use Rattle.std.specs.Prelude.{IsSome}
-use Rattle.lfs_lookup.proofs.Common.{option_and_then, option_map, option_map_or, AllByRecursion, ne_eqb, same_Some, Name, name_cmp, same_name, is_less, Slot, PairContent, is_superblock, names_superblock, RawSlot, RawContent, complete_content, complete_slot, complete_slots, slot_of_id, kind_of_type, read_struct, starts_superblock, IsAllowedPart, AllowsIfSome, IsFormedSlot, AreWellFormed, IsWellFormed, complete_parts, completed_parts, entry_slots, HasName, FirstIsGreater, BelongsAtId, IsAbsentExcept}
+use Rattle.lfs_lookup.proofs.Common.{option_and_then, option_map, option_map_or, AllByRecursion, ne_eqb, same_Some, Name, name_cmp, same_name, is_less, Slot, PairContent, is_superblock, is_superblock_kind, RawSlot, RawContent, complete_content, complete_slot, complete_slots, slot_of_id, kind_of_type, read_struct, superblock_first, IsAllowedPart, AllowsIfSome, IsFormedSlot, AreWellFormed, IsWellFormed, complete_parts, completed_parts, entry_slots, HasName, FirstIsGreater, BelongsAtId, IsAbsentExcept}
 use Rattle.std.specs.Ordering.{ordering_reverse}
 use Rattle.std.proofs.Math.Dec.{eqb_refl}
 use Rattle.lfs_model.proofs.Orders.{name_order, same_by}
@@ -11,7 +11,7 @@ use Rattle.lfs_model.specs.format.EntryTypes.{file_name_type, directory_name_typ
 use Rattle.lfs_model.specs.layers.Lookup.{entry_name, passes_name_test, comes_after, IsLeastId, IsNewId}
 use Rattle.lfs_model.proofs.Paths.{name_from_same, same_itself}
 use Rattle.lfs_model.proofs.FirstEntries.{superblock_type}
-use Rattle.lfs_tag.specs.ContentView.{data_view}
+use Rattle.lfs_tag.specs.ContentView.{part_view}
 use Rattle.lfs_tag.specs.declared.content.NameOrStruct.{NameOrStruct}
 
 -- ---- one slot
@@ -28,16 +28,16 @@ entry_is s t h e = go s.name s.struct h.name e
         ∙ ap (λ (x : Slot). cond (is_superblock x) None (Some x.name)) (same_Some (record { kind = kind_of_type n.0; name = n.1; struct = read_struct p.0 p.1; attributes = s.attributes }) t f)
       where
         by_type : (a b : Bool) → (n.0 == file_name_type) ≡ a → (n.0 == directory_name_type) ≡ b →
-            cond (n.0 == superblock_name_type) None (Some n.1) ≡ cond (names_superblock (kind_of_type n.0)) None (Some n.1)
+            cond (n.0 == superblock_name_type) None (Some n.1) ≡ cond (is_superblock_kind (kind_of_type n.0)) None (Some n.1)
         by_type true b ea eb =
             let is = eqb-true n.0 file_name_type ea in
-            ap (λ x. cond (x == superblock_name_type) None (Some n.1)) is ∙ sym (ap (λ x. cond (names_superblock (kind_of_type x)) None (Some n.1)) is)
+            ap (λ x. cond (x == superblock_name_type) None (Some n.1)) is ∙ sym (ap (λ x. cond (is_superblock_kind (kind_of_type x)) None (Some n.1)) is)
         by_type false true ea eb =
             let is = eqb-true n.0 directory_name_type eb in
-            ap (λ x. cond (x == superblock_name_type) None (Some n.1)) is ∙ sym (ap (λ x. cond (names_superblock (kind_of_type x)) None (Some n.1)) is)
+            ap (λ x. cond (x == superblock_name_type) None (Some n.1)) is ∙ sym (ap (λ x. cond (is_superblock_kind (kind_of_type x)) None (Some n.1)) is)
         by_type false false ea eb =
             let is = superblock_type n.0 n.1 k ea eb in
-            ap (λ x. cond (x == superblock_name_type) None (Some n.1)) is ∙ sym (ap (λ x. cond (names_superblock (kind_of_type x)) None (Some n.1)) is)
+            ap (λ x. cond (x == superblock_name_type) None (Some n.1)) is ∙ sym (ap (λ x. cond (is_superblock_kind (kind_of_type x)) None (Some n.1)) is)
 
 -- ---- a test of the slot at an id
 
@@ -120,12 +120,12 @@ belongs {by} name raw slots zero h e p = record { left = []; right = slots; held
           above = is_below (name_cmp by name p.first.name) ok.named;
         })
 
-    plain : (raw : List RawSlot) (slots : List Slot) → AreWellFormed raw → complete_slots raw ≡ Some slots → (0 < length raw → passes_name_test (comes_after by name) None raw 0 ≡ true) → starts_superblock slots ≡ false
-    plain [] slots h e k = ap starts_superblock (sym (same_Some [] slots e))
+    plain : (raw : List RawSlot) (slots : List Slot) → AreWellFormed raw → complete_slots raw ≡ Some slots → (0 < length raw → passes_name_test (comes_after by name) None raw 0 ≡ true) → superblock_first slots ≡ false
+    plain [] slots h e k = ap superblock_first (sym (same_Some [] slots e))
     plain (s ∷ raw) slots h e k =
         let p = complete_parts s raw slots e in
         let ok = passed (comes_after by name) p.first (sym (named_first (comes_after by name) s raw p.first h.0 p.is_first) ∙ k (omega arith)) in
-        ap starts_superblock p.all_are ∙ ok.entry
+        ap superblock_first p.all_are ∙ ok.entry
 belongs {by} name [] slots (suc id) h e p = absurd (let w = p.within in omega arith)
 belongs {by} name (s ∷ raw) slots (suc id) h e p =
     let c = complete_parts s raw slots e in
@@ -245,9 +245,9 @@ module _ (by : NameOrder) (content : PairContent) (name : Name) (skip : Option �
 
 -- ---- a part that is read
 
-pub some_part : (o : Option NameOrStruct) (held : Option (ℕ × List ℕ)) (part : ℕ × List ℕ) → option_map data_view o ≡ held → held ≡ Some part → IsSome o
+pub some_part : (o : Option NameOrStruct) (held : Option (ℕ × List ℕ)) (part : ℕ × List ℕ) → option_map part_view o ≡ held → held ≡ Some part → IsSome o
 some_part None held part e f = absurd (let k = e ∙ f in cc)
 some_part (Some p) held part e f = search rules
 
-pub part_is : (o : Option NameOrStruct) (p : NameOrStruct) (held : Option (ℕ × List ℕ)) (part : ℕ × List ℕ) → o ≡ Some p → option_map data_view o ≡ held → held ≡ Some part → data_view p ≡ part
-part_is o p held part is e f = same_Some (data_view p) part (sym (ap (option_map data_view) is) ∙ e ∙ f)
+pub part_is : (o : Option NameOrStruct) (p : NameOrStruct) (held : Option (ℕ × List ℕ)) (part : ℕ × List ℕ) → o ≡ Some p → option_map part_view o ≡ held → held ≡ Some part → part_view p ≡ part
+part_is o p held part is e f = same_Some (part_view p) part (sym (ap (option_map part_view) is) ∙ e ∙ f)

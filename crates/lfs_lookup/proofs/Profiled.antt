@@ -1,7 +1,7 @@
 -- From the pairs one by one to the writing profile.
 use Rattle.std.proofs.Common.{ℕ, zero, suc, ◌≡◌, ◌≢◌, ◌<◌, ◌≤◌, ◌+◌, ◌-◌, ◌∙◌, ◌&&◌, ◌⊎◌, inl, inr, Bool, true, false, List, [], ◌∷◌, length, take, drop, refl, sym, ap, subst, lt-ltb, ltb→lt, T, arith}
 use Rattle.std.specs.Prelude.{All, MatchOption, None, Option, nat_lt, map, slice_get, slice_index_or, Some}
-use Rattle.lfs_lookup.proofs.Common.{get_or-drop, get_or-take, length-map, length-take, slice_get-get_or, slice_get_within, RawSlot, complete_slot, complete_slots, Disk, BreaksProfile, FitsInPair, Inline, PairContent, Slot, is_superblock, names_superblock, array_address, Pair, is_hard_tail, count_before_root, IsWritableSlot, IsWritable, BeginsWithSuperblock, IsAccepted, IsTreeEntry, complete_length, complete_parts, empty_anchor, BreaksPair, IsWritablePair, HasSuperblockStruct}
+use Rattle.lfs_lookup.proofs.Common.{get_or-drop, get_or-take, length-map, length-take, slice_get-get_or, slice_get_within, RawSlot, complete_slot, complete_slots, Disk, BreaksProfile, FitsInPair, Inline, PairContent, Slot, is_superblock, is_superblock_kind, array_address, Pair, is_hard_tail, count_before_root, IsWritableSlot, IsWritable, BeginsWithSuperblock, IsAccepted, IsTreeEntry, complete_length, complete_parts, empty_anchor, BreaksPair, IsWritablePair, HasSuperblockStruct}
 use Rattle.std.proofs.lemmas.List.{get_or_default, length-drop}
 use Rattle.std.proofs.lemmas.Option.{get_or_from_slice_get}
 use Rattle.lfs_device.specs.declared.geometry.Geometry.{Geometry}
@@ -84,7 +84,7 @@ below_or_not (suc a) (suc b) = go (below_or_not a b)
 shaped_entry : (s : Slot) → IsTreeEntry s → HasSuperblockStruct s
 shaped_entry s e k = go s.kind k e.struct
   where
-    go : (kind : SlotKind) → names_superblock kind ≡ true → HasKind kind s.struct → (bytes : List ℕ) × ((s.struct ≡ Inline bytes) × (length bytes ≡ 24))
+    go : (kind : SlotKind) → is_superblock_kind kind ≡ true → HasKind kind s.struct → (bytes : List ℕ) × ((s.struct ≡ Inline bytes) × (length bytes ≡ 24))
     go File k e = absurd (cc)
     go Directory k e = absurd (cc)
     go Superblock k e = absurd e

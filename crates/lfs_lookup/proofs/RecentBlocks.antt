@@ -1,7 +1,7 @@
 -- The blocks that were used last, as one more is brought.
 use Rattle.std.proofs.Common.{ℕ, zero, suc, ◌≡◌, ◌<◌, ◌≤◌, Bool, true, false, cond, not, nat_eq, List, [], ◌∷◌, length, take, Option, Some, None, Result, Ok, Err, refl, sym, ap, subst, ◌∙◌, arith, eqb-true, is_some}
 use Rattle.std.specs.Prelude.{IsSome, OnOk}
-use Rattle.lfs_lookup.proofs.Common.{AllByRecursion, CachedBlocks, cache_limit, disk_block, read_count, Pair, active_block_at, KeptThread, ThreadView, cached_log, thread_pair, ArePairsCached, KeepsCachedPairs, IsMovedFirst, IsLastUsed, StayCached}
+use Rattle.lfs_lookup.proofs.Common.{AllByRecursion, CachedBlocks, cache_limit, disk_block, read_count, Pair, active_block_at, KeptThread, ThreadView, cached_log, thread_pair, ArePairsCached, KeepsCachedPairs, BecomesMostRecent, IsLastUsed, StayCached}
 use Rattle.std.proofs.lemmas.List.{take-take}
 use Rattle.lfs_device.specs.declared.error.Error.{Error}
 use Rattle.lfs_model.specs.layers.Cache.{cached_bytes, cache_with, cache_without}
@@ -90,7 +90,7 @@ module _ (cache : CachedBlocks) (b : ℕ) (bytes : List ℕ) where
       go true is = refl
       go false is = subst (λ es. IsSome (cached_bytes es c)) (sym (take-take n 7 (cache_without cache b) (omega (arith, few)))) (h is)
 
-  pub brought : IsMovedFirst b cache (cache_with cache b bytes)
+  pub brought : BecomesMostRecent b cache (cache_with cache b bytes)
   brought = record {
     first = here (nat_eq b b) bytes None (same b);
     others = λ n c few h. front n c few (λ other. past b c other n cache h);
@@ -131,7 +131,7 @@ pub loads_one : {X : Type 0} (old new : ThreadView) (index : ℕ) (s : Result X 
 loads_one old new index s no_call was = record {
   none = λ there. ap (λ (t : KeptThread). read_count t.history) (no_call (is_cached cache_limit b old.cache there.0));
   stay = λ there. after s (λ e. subst (StayCached old.cache) (sym e) (stay_loaded old.cache b (disk_block old.kept.disk b) there.0)) was;
-  one = λ e. after s (λ e. (subst (IsMovedFirst b old.cache) (sym e) (brought old.cache b (disk_block old.kept.disk b)), tt)) was;
+  one = λ e. after s (λ e. (subst (BecomesMostRecent b old.cache) (sym e) (brought old.cache b (disk_block old.kept.disk b)), tt)) was;
 }
   where
     b : ℕ
@@ -184,9 +184,9 @@ module _ {X : Type 0} (run rest more : List Pair) (p : Pair) (old now new : Thre
     none = none_on run rest more p old now new r h.kept is b;
     stay = λ there. pass _ (stay_on run rest more p old now new r h.kept is b there);
     one = λ e. let g = h.begun e in let are = sym g.1 ∙ is in let one = ap length are in
-        pass _ (subst (λ qs. OnOk r (AllByRecursion (λ q. IsMovedFirst (active_block_at old.kept.disk q.at) old.cache new.cache) qs)) (sym (are ∙ ap (λ qs. p ∷ qs) (no_more more (omega (arith, one, e)))))
-        (subst (λ c. OnOk r (AllByRecursion (λ q. IsMovedFirst (active_block_at old.kept.disk q.at) c new.cache) (p ∷ []))) g.0
-        (subst (λ d. OnOk r (AllByRecursion (λ q. IsMovedFirst (active_block_at d q.at) now.cache new.cache) (p ∷ []))) h.kept.disk (b.one refl))));
+        pass _ (subst (λ qs. OnOk r (AllByRecursion (λ q. BecomesMostRecent (active_block_at old.kept.disk q.at) old.cache new.cache) qs)) (sym (are ∙ ap (λ qs. p ∷ qs) (no_more more (omega (arith, one, e)))))
+        (subst (λ c. OnOk r (AllByRecursion (λ q. BecomesMostRecent (active_block_at old.kept.disk q.at) c new.cache) (p ∷ []))) g.0
+        (subst (λ d. OnOk r (AllByRecursion (λ q. BecomesMostRecent (active_block_at d q.at) now.cache new.cache) (p ∷ []))) h.kept.disk (b.one refl))));
   }
     where
       no_more : (qs : List Pair) → length qs ≡ 0 → qs ≡ []

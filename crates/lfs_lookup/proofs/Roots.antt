@@ -1,7 +1,7 @@
 -- The root directory's entries stand in the pairs that hard tails join from the first pair of the thread on.
 use Rattle.std.proofs.Common.{ℕ, zero, suc, ◌≡◌, ◌<◌, ◌+◌, ◌∙◌, Bool, true, false, cond, not, ◌&&◌, ◌==◌, List, [], ◌∷◌, ◌++◌, length, map, filter, flat_map, drop, remove, slice_get, Some, refl, sym, ap, arith}
 use Rattle.std.proofs.lemmas.Bool.{and_parts}
-use Rattle.lfs_lookup.proofs.Common.{Disk, Slot, Gstate, is_superblock, same_pair, Pair, pairs_from_root, pairs_gstate, has_no_entry, is_hard_tail, may_continue, has_superblock, root_address, count_before_root, unmoved_entries, IsPairAt, IsAccepted, all_entries, led_directory, named_struct, joined_pairs, pair_entries_from}
+use Rattle.lfs_lookup.proofs.Common.{Disk, Slot, Gstate, is_superblock, same_pair, Pair, pairs_from_root, pairs_gstate, has_no_entry, is_hard_tail, chain_may_continue, has_superblock, root_address, count_before_root, unmoved_entries, IsPairAt, IsAccepted, all_entries, led_directory, named_struct, joined_pairs, pair_entries_from}
 use Rattle.lfs_model.specs.format.Thread.{first_address}
 use Rattle.lfs_model.proofs.Pairs.{pair_itself}
 use Rattle.lfs_lookup.proofs.Directories.{own_run}
@@ -35,12 +35,12 @@ bare_shows g p (s ∷ []) e h = go (g.kind == 0x4ff && same_pair g.pair p.at)
 -- the superblock's pairs in front of the root directory show nothing
 chain_shows : (g : Gstate) (ps : List Pair) → flat_map (unmoved_entries g) (joined_pairs ps) ≡ flat_map (unmoved_entries g) (joined_pairs (drop (count_before_root ps) ps))
 chain_shows g [] = refl
-chain_shows g (p ∷ ps) = go (has_superblock ps && may_continue p) refl (chain_shows g ps)
+chain_shows g (p ∷ ps) = go (has_superblock ps && chain_may_continue p) refl (chain_shows g ps)
   where
-    go : (b : Bool) → (has_superblock ps && may_continue p) ≡ b → (flat_map (unmoved_entries g) (joined_pairs ps) ≡ flat_map (unmoved_entries g) (joined_pairs (drop (count_before_root ps) ps))) → flat_map (unmoved_entries g) (joined_pairs (p ∷ ps)) ≡ flat_map (unmoved_entries g) (joined_pairs (drop (cond b (1 + count_before_root ps) 0) (p ∷ ps)))
+    go : (b : Bool) → (has_superblock ps && chain_may_continue p) ≡ b → (flat_map (unmoved_entries g) (joined_pairs ps) ≡ flat_map (unmoved_entries g) (joined_pairs (drop (count_before_root ps) ps))) → flat_map (unmoved_entries g) (joined_pairs (p ∷ ps)) ≡ flat_map (unmoved_entries g) (joined_pairs (drop (cond b (1 + count_before_root ps) 0) (p ∷ ps)))
     go false e later = refl
     go true e later =
-        let leads = and_parts (has_no_entry p.content.slots) (is_hard_tail p.content.tail) (and_parts (has_superblock ps) (may_continue p) e).1 in
+        let leads = and_parts (has_no_entry p.content.slots) (is_hard_tail p.content.tail) (and_parts (has_superblock ps) (chain_may_continue p) e).1 in
         let one : 1 + count_before_root ps ≡ suc (count_before_root ps) = omega arith in
         ap (λ b. flat_map (unmoved_entries g) (p ∷ cond b (joined_pairs ps) [])) leads.1
         ∙ ap (λ z. z ++ flat_map (unmoved_entries g) (joined_pairs ps)) (bare_shows g p p.content.slots refl leads.0)

@@ -6,21 +6,21 @@ use Rattle.lfs_lookup.specs.declared.search.SlotPosition.{SlotPosition}
 use Rattle.lfs_lookup.proofs.Walked.{at_index, begun_here}
 
 -- the pair of that number is one of the directory's
-pub record IsReached (ps : List Pair) (first index : ℕ) (q : Pair) : Type 0 where
+pub record LeadsFromFresh (ps : List Pair) (first index : ℕ) (q : Pair) : Type 0 where
   pub rest : List Pair
   pub behind : IsDirectoryPair ps first index q rest
 
-pub reached_first : (ps : List Pair) (first : ℕ) (d : Pair) → first < length ps → IsReached ps first first (get_or ps first d)
+pub reached_first : (ps : List Pair) (first : ℕ) (d : Pair) → first < length ps → LeadsFromFresh ps first first (get_or ps first d)
 reached_first ps first d below = let a = at_index ps first d below in record { rest = a.rest; behind = begun_here ps first first (get_or ps first d) a refl }
 
 get_behind : (xs : List Pair) (y : Pair) (ys : List Pair) (d : Pair) → get_or (xs ++ y ∷ ys) (length xs) d ≡ y
 get_behind [] y ys d = refl
 get_behind (x ∷ xs) y ys d = get_behind xs y ys d
 
-pub reached_next : (ps : List Pair) (first index : ℕ) (q d : Pair) → IsReached ps first index q → HasHardTail q → index + 1 < length ps → IsReached ps first (index + 1) (get_or ps (index + 1) d)
+pub reached_next : (ps : List Pair) (first index : ℕ) (q d : Pair) → LeadsFromFresh ps first index q → HasHardTail q → index + 1 < length ps → LeadsFromFresh ps first (index + 1) (get_or ps (index + 1) d)
 reached_next ps first index q d r hard below = go r.rest r.behind
   where
-    go : (rest : List Pair) → IsDirectoryPair ps first index q rest → IsReached ps first (index + 1) (get_or ps (index + 1) d)
+    go : (rest : List Pair) → IsDirectoryPair ps first index q rest → LeadsFromFresh ps first (index + 1) (get_or ps (index + 1) d)
     go [] b = absurd (
         let l = ap length b.parts in
         let m = length-append b.front (b.left ++ q ∷ []) in
@@ -35,7 +35,7 @@ reached_next ps first index q d r hard below = go r.rest r.behind
         let n = b.number in
         let count : length (b.front ++ (b.left ++ q ∷ [])) ≡ index + 1 = omega (arith, m, k, n) in
         let is : get_or ps (index + 1) d ≡ p = ap (λ z. get_or z (index + 1) d) whole ∙ ap (λ (i : ℕ). get_or ((b.front ++ (b.left ++ q ∷ [])) ++ p ∷ rest) i d) (sym count) ∙ get_behind (b.front ++ (b.left ++ q ∷ [])) p rest d in
-        subst (IsReached ps first (index + 1)) (sym is) (record {
+        subst (LeadsFromFresh ps first (index + 1)) (sym is) (record {
           rest = rest;
           behind = record {
             front = b.front;
@@ -48,7 +48,7 @@ reached_next ps first index q d r hard below = go r.rest r.behind
         })
 
 -- it stands here
-pub shown_here : (ps : List Pair) (moved : Option SlotPosition) (first : ℕ) (name : Name) (spot : SlotPosition) (q : Pair) (entry : FileOrDirectory) → IsReached ps first spot.pair q
+pub shown_here : (ps : List Pair) (moved : Option SlotPosition) (first : ℕ) (name : Name) (spot : SlotPosition) (q : Pair) (entry : FileOrDirectory) → LeadsFromFresh ps first spot.pair q
     → HasNameUnskipped (skipped_id moved spot.pair) q.content.slots name spot.id entry → IsNameAt ps moved first name spot entry
 shown_here ps moved first name spot q entry r s = record { stands = record { pair = q; rest = r.rest; place = r.behind; stands = s.stands }; shows = s.shows; kept = s.kept }
 

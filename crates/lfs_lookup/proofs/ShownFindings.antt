@@ -1,12 +1,12 @@
 -- What a look-up says of what is shown at a path.
 use Rattle.std.proofs.Common.{ℕ, ◌≡◌, ◌<◌, ◌≤◌, ◌+◌, ◌∙◌, Bool, nat_lt, List, [], ◌∷◌, ◌++◌, length, drop, map, Option, Some, None, Ok, Err, option_map, sym, ap, subst, arith}
 use Rattle.std.specs.Prelude.{IfOk, IfSome, Result, sum_by}
-use Rattle.lfs_lookup.proofs.Common.{length-map, sum_by-append, sum_by-cons, AreByteBlocks, sorted_names, pair_count_at, ancestor_paths, items_at, node_file_size, joined_count, Name, parents_refusal, slot_of, Gstate, Slot, Struct, Pair, pairs_gstate, count_before_root, Path, names_at, struct_node, directory_names, IsAccepted, struct_list_bytes, all_entries, disk_tree, run_length_is, KeptThread, IsResult, IsStorage, IsFoundNode, IsPermutation, AreShorterFirst, NamedStruct, named_struct, AreInLimits, listed_item, joined_count_from, pair_entries_from, LeadsToPair, IsHiddenResult, HidesFrom}
+use Rattle.lfs_lookup.proofs.Common.{length-map, sum_by-append, sum_by-cons, AreByteBlocks, sorted_names, pair_count_at, ancestor_paths, items_at, node_file_size, joined_count, Name, parents_refusal, slot_of, Gstate, Slot, Struct, Pair, pairs_gstate, count_before_root, Path, names_at, struct_node, directory_names, IsAccepted, struct_list_bytes, all_entries, disk_tree, run_length_is, KeptThread, IsLookupResult, IsStorage, IsFoundNode, IsPermutation, AreShorterFirst, NamedStruct, named_struct, AreInLimits, listed_item, joined_count_from, pair_entries_from, LeadsToPair, IsHiddenResult, HidesOnlySlot}
 use Rattle.lfs_device.specs.declared.error.Error.{Error}
 use Rattle.lfs_model.proofs.Orders.{length_in_order}
 use Rattle.lfs_model.specs.declared.order.NameOrder.TheVariants.{ShorterFirst}
 use Rattle.lfs_model.specs.session.Operations as ops
-use Rattle.lfs_lookup.specs.AtPath.{FoundInlineFits, node_or_refusal, found_pair, has_entries_from}
+use Rattle.lfs_lookup.specs.AtPath.{FoundInlineFits, node_or_refusal, found_pair_number, has_entries_from}
 use Rattle.lfs_lookup.specs.Finds.{has_entry_beneath}
 use Rattle.lfs_lookup.specs.declared.entry.FileStorage.{FileStorage}
 use Rattle.lfs_lookup.specs.declared.entry.FileStorage.TheVariants as contents
@@ -31,16 +31,16 @@ pub few_own : (f : Path → ℕ) (path : Path) → sum_by f (ancestor_paths path
 few_own f path = let a = sum_by-append f (ancestor_paths path) (path ∷ []) in let b = sum_by-cons f path [] in omega (arith, a, b)
 
 -- what is shown where that slot counts as deleted which the global state names
-pub shows_at : (t : KeptThread) (names path : Path) (g : Gstate) (moved : Option SlotPosition) (r : Result VisiblePathLookup Error) → names ≡ path → g ≡ pairs_gstate t.pairs → HidesFrom g moved 0 t.pairs → IfOk r (IsHiddenResult t moved names) → IfOk r (IsResult t path)
+pub shows_at : (t : KeptThread) (names path : Path) (g : Gstate) (moved : Option SlotPosition) (r : Result VisiblePathLookup Error) → names ≡ path → g ≡ pairs_gstate t.pairs → HidesOnlySlot g moved 0 t.pairs → IfOk r (IsHiddenResult t moved names) → IfOk r (IsLookupResult t path)
 shows_at t names path g moved (Ok x) e is hides shows = record {
   moved = moved;
-  hides = subst (λ (z : Gstate). HidesFrom z moved 0 t.pairs) is hides;
+  hides = subst (λ (z : Gstate). HidesOnlySlot z moved 0 t.pairs) is hides;
   shows = subst (λ p. IsHiddenResult t moved p x) e shows;
 }
 shows_at t names path g moved (Err x) e is hides shows = tt
 
 -- inline bytes stand in the entry
-pub in_entry : (t : KeptThread) (path : Path) (s : VisiblePathLookup) → IsResult t path s → FoundInlineFits s
+pub in_entry : (t : KeptThread) (path : Path) (s : VisiblePathLookup) → IsLookupResult t path s → FoundInlineFits s
 in_entry t path shown.Root h = tt
 in_entry t path (shown.Directory spot first) h = tt
 in_entry t path (shown.File spot (contents.Inline len)) h = let (fault, (s, (bytes, (is, (l, short))))) = h.shows in short
@@ -57,7 +57,7 @@ module _ (t : KeptThread) (path : Path) (ok : IsAccepted t.disk t.pairs) where
       let d = directory_at_path t.disk t.pairs path on.at on.leads in
       subst (λ z. IsFoundNode (disk_tree t.disk t.pairs) path z) (sym k) (finds_directory (disk_tree t.disk t.pairs) path d.attributes (sorted_names ShorterFirst (names_at (all_entries t.pairs) on.at)) d.is h)
 
-  pub found_shown : (root : ℕ) (s : VisiblePathLookup) (f : FoundNode) → root ≡ count_before_root t.pairs → SizedLists t.disk → IsResult t path s → f ≡ node_or_refusal s → IsFoundNode (disk_tree t.disk t.pairs) path f
+  pub found_shown : (root : ℕ) (s : VisiblePathLookup) (f : FoundNode) → root ≡ count_before_root t.pairs → SizedLists t.disk → IsLookupResult t path s → f ≡ node_or_refusal s → IsFoundNode (disk_tree t.disk t.pairs) path f
   found_shown root shown.Root f r sized s k =
       found_begun root f (subst (λ (p : Path). LeadsToPair t.pairs p root) (sym s.shows) (root_leads t.disk t.pairs root ok r)) (ap (parents_refusal (disk_tree t.disk t.pairs) []) s.shows) k
   found_shown root (shown.Directory spot first) f r sized s k = found_begun first f s.shows.1.1 s.shows.0 k
@@ -77,7 +77,7 @@ module _ (t : KeptThread) (path : Path) (ok : IsAccepted t.disk t.pairs) where
       ap (λ o. directory_names (option_map (λ (f : Slot). struct_node (struct_list_bytes t.disk) (all_entries t.pairs) f.attributes f.struct) o)) e
       ∙ ap (λ (z : Struct). directory_names (Some (struct_node (struct_list_bytes t.disk) (all_entries t.pairs) x.attributes z))) k
 
-  first_is : (root : ℕ) (s : VisiblePathLookup) → root ≡ count_before_root t.pairs → IsResult t path s → IsFirstAt t path (found_pair root s)
+  first_is : (root : ℕ) (s : VisiblePathLookup) → root ≡ count_before_root t.pairs → IsLookupResult t path s → IsFirstAt t path (found_pair_number root s)
   first_is root shown.Root r s = subst (λ (p : Path). LeadsToPair t.pairs p root) (sym s.shows) (root_leads t.disk t.pairs root ok r)
   first_is root (shown.Directory spot first) r s = s.shows.1.1
   first_is root (shown.File spot contents) r s = let (h, (at, k)) = s.shows in nameless at.stands.stands.slot contents at.slot k
@@ -85,7 +85,7 @@ module _ (t : KeptThread) (path : Path) (ok : IsAccepted t.disk t.pairs) where
   first_is root shown.ParentIsFile r s = ap directory_names (nothing_at t.disk t.pairs path (refused_none t.disk t.pairs path [] ops.NotDir s.shows))
   first_is root shown.ParentIsMissing r s = ap directory_names (nothing_at t.disk t.pairs path (refused_none t.disk t.pairs path [] ops.NoEnt s.shows))
 
-  pub first_at : (root : ℕ) (s : VisiblePathLookup) (from : Option ℕ) → root ≡ count_before_root t.pairs → IsResult t path s → from ≡ found_pair root s → IsFirstAt t path from
+  pub first_at : (root : ℕ) (s : VisiblePathLookup) (from : Option ℕ) → root ≡ count_before_root t.pairs → IsLookupResult t path s → from ≡ found_pair_number root s → IsFirstAt t path from
   first_at root s from r h e = subst (IsFirstAt t path) (sym e) (first_is root s r h)
 
   pub first_within : (now : List Pair) (from : Option ℕ) → now ≡ t.pairs → IsFirstAt t path from → IfSome from (λ first. first < length now)

@@ -5,7 +5,7 @@ use Rattle.lfs_model.specs.tree.Tree.{Path}
 use Rattle.lfs_thread.specs.Kept.{KeptThread}
 use Rattle.lfs_lookup.specs.Listed.{pair_entries_from}
 use Rattle.lfs_lookup.specs.LookupPaths.{IsHiddenResult}
-use Rattle.lfs_lookup.specs.NameSearch.{HidesFrom}
+use Rattle.lfs_lookup.specs.NameSearch.{HidesOnlySlot}
 use Rattle.lfs_lookup.specs.declared.entry.FileStorage.{FileStorage}
 use Rattle.lfs_lookup.specs.declared.entry.FileStorage.TheVariants as contents
 use Rattle.lfs_lookup.specs.declared.found_entries.FoundNode.{FoundNode}
@@ -16,9 +16,9 @@ use Rattle.lfs_lookup.specs.declared.paths.VisiblePathLookup.TheVariants as show
 use Rattle.lfs_lookup.specs.declared.search.SlotPosition.{SlotPosition}
 
 -- where the slot that a set move names counts as deleted, and no other
-pub record IsResult (t : KeptThread) (path : Path) (shown : VisiblePathLookup) : Type 0 where
+pub record IsLookupResult (t : KeptThread) (path : Path) (shown : VisiblePathLookup) : Type 0 where
   pub moved : Option SlotPosition
-  pub hides : HidesFrom (pairs_gstate t.pairs) moved 0 t.pairs
+  pub hides : HidesOnlySlot (pairs_gstate t.pairs) moved 0 t.pairs
   pub shows : IsHiddenResult t moved path shown
 
 -- whether the directory that begins with the pair of that number has an entry, if there is one
@@ -26,10 +26,10 @@ abbrev pub has_entries_from : List Pair → Option ℕ → Bool
 has_entries_from ps from = nat_lt 0 (length (pair_entries_from ps from))
 
 -- the number of the first pair of the directory that was found
-abbrev pub found_pair : ℕ → VisiblePathLookup → Option ℕ
-found_pair root shown.Root = Some root
-found_pair root (shown.Directory slot first) = Some first
-found_pair root _ = None
+abbrev pub found_pair_number : ℕ → VisiblePathLookup → Option ℕ
+found_pair_number root shown.Root = Some root
+found_pair_number root (shown.Directory slot first) = Some first
+found_pair_number root _ = None
 
 abbrev pub storage_size : FileStorage → ℕ
 storage_size (contents.Inline len) = len

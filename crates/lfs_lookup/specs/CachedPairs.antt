@@ -31,7 +31,7 @@ StayCached old new = (b : ℕ) → IsLastUsed cache_limit old b → IsLastUsed c
 -- ---- along the pairs of a directory
 
 -- the block was used last, and each block that was used before is one place further back
-pub record IsMovedFirst (b : ℕ) (old new : CachedBlocks) : Type 0 where
+pub record BecomesMostRecent (b : ℕ) (old new : CachedBlocks) : Type 0 where
   pub first : IsLastUsed 1 new b
   pub others : (n c : ℕ) → n < cache_limit → IsLastUsed n old c → IsLastUsed (suc n) new c
 
@@ -39,7 +39,7 @@ pub record IsMovedFirst (b : ℕ) (old new : CachedBlocks) : Type 0 where
 pub record KeepsCachedPairs {X : Type 0} (ps : List Pair) (old new : ThreadView) (result : Result X Error) : Type 0 where
   pub none : ArePairsCached old ps → read_count new.kept.history ≡ read_count old.kept.history
   pub stay : ArePairsCached old ps → OnOk result (StayCached old.cache new.cache)
-  pub one : length ps ≡ 1 → OnOk result (AllByRecursion (λ p. IsMovedFirst (active_block_at old.kept.disk p.at) old.cache new.cache) ps)
+  pub one : length ps ≡ 1 → OnOk result (AllByRecursion (λ p. BecomesMostRecent (active_block_at old.kept.disk p.at) old.cache new.cache) ps)
 
 -- ---- down the directories of a path
 

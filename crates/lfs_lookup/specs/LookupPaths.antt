@@ -13,7 +13,7 @@ use Rattle.lfs_model.specs.tree.View.{IsAccepted}
 use Rattle.lfs_model.specs.tree.Shown.{LeadsTo, disk_tree}
 use Rattle.lfs_thread.specs.Kept.{KeptThread}
 use Rattle.lfs_lookup.specs.Entry.{IsStorage}
-use Rattle.lfs_lookup.specs.NameSearch.{HidesFrom, skipped_id}
+use Rattle.lfs_lookup.specs.NameSearch.{HidesOnlySlot, skipped_id}
 use Rattle.lfs_lookup.specs.declared.paths.PathLookup.{PathLookup}
 use Rattle.lfs_lookup.specs.declared.paths.PathLookup.TheVariants as found
 use Rattle.lfs_lookup.specs.declared.paths.VisiblePathLookup.{VisiblePathLookup}
@@ -30,7 +30,7 @@ pub record IsAcceptedRecovered (t : KeptThread) : Type 0 where
 -- the image is accepted, and that slot and no other counts as deleted
 pub record HidesMovedSlot (t : KeptThread) (moved : Option SlotPosition) : Type 0 where
   pub accepted : IsAccepted t.disk t.pairs
-  pub hides : HidesFrom (pairs_gstate t.pairs) moved 0 t.pairs
+  pub hides : HidesOnlySlot (pairs_gstate t.pairs) moved 0 t.pairs
 
 -- the path leads to a directory that begins with the pair of number `first`
 pub record LeadsToPair (ps : List Pair) (path : Path) (first : ℕ) : Type 0 where
@@ -39,10 +39,10 @@ pub record LeadsToPair (ps : List Pair) (path : Path) (first : ℕ) : Type 0 whe
   pub begins : IsPairAt ps at first
 
 -- the entry at a path, where a directory is wanted
-abbrev pub IsNodeAt : KeptThread → Path → Parent → Type 0
-IsNodeAt t path (parent.Directory first) = LeadsToPair t.pairs path first
-IsNodeAt t path parent.File = directory_refusal (disk_tree t.disk t.pairs path) ≡ Some NotDir
-IsNodeAt t path parent.Nothing = directory_refusal (disk_tree t.disk t.pairs path) ≡ Some NoEnt
+abbrev pub IsParentAt : KeptThread → Path → Parent → Type 0
+IsParentAt t path (parent.Directory first) = LeadsToPair t.pairs path first
+IsParentAt t path parent.File = directory_refusal (disk_tree t.disk t.pairs path) ≡ Some NotDir
+IsParentAt t path parent.Nothing = directory_refusal (disk_tree t.disk t.pairs path) ≡ Some NoEnt
 
 -- the refusal of a path for the component before its last
 abbrev pub parent_refusal : Parent → Option Refusal
@@ -112,7 +112,7 @@ pub record LeadsToResult (t : KeptThread) (path : Path) (found : PathLookup) : T
 
 -- The last name of the path is at the spot, in the directory at the path above, and not in the slot that counts as deleted. This
 -- slot is the slot of the path.
-pub record IsUnmoved (ps : List Pair) (moved : Option SlotPosition) (path : Path) (spot : SlotPosition) : Type 0 where
+pub record IsUnmovedSpot (ps : List Pair) (moved : Option SlotPosition) (path : Path) (spot : SlotPosition) : Type 0 where
   pub above : Path
   pub name : Name
   pub is : path ≡ above ++ name ∷ []
@@ -124,8 +124,8 @@ pub record IsUnmoved (ps : List Pair) (moved : Option SlotPosition) (path : Path
 
 -- the entry at a path below the root
 abbrev pub IsVisibleEntry : List Pair → Option SlotPosition → Path → VisiblePathLookup → Type 0
-IsVisibleEntry ps moved path (shown.Directory spot first) = IsUnmoved ps moved path spot × LeadsToPair ps path first
-IsVisibleEntry ps moved path (shown.File spot contents) = (s : IsUnmoved ps moved path spot) × IsStorage contents s.stands.stands.slot.struct
+IsVisibleEntry ps moved path (shown.Directory spot first) = IsUnmovedSpot ps moved path spot × LeadsToPair ps path first
+IsVisibleEntry ps moved path (shown.File spot contents) = (s : IsUnmovedSpot ps moved path spot) × IsStorage contents s.stands.stands.slot.struct
 IsVisibleEntry ps moved path shown.Nothing = slot_of ps path ≡ None
 IsVisibleEntry ps moved path shown.Root = ⊥
 IsVisibleEntry ps moved path shown.ParentIsFile = ⊥

@@ -79,6 +79,6 @@ FindsUnhidden ps moved first name (Some found) = IsNameAt ps moved first name fo
 FindsUnhidden ps moved first name None = IsAbsent moved first (drop first ps) name
 
 -- in these pairs, from number `index` on, that slot and no other counts as deleted
-abbrev pub HidesFrom : Gstate → Option SlotPosition → ℕ → List Pair → Type 0
-HidesFrom g moved index [] = Unit {0}
-HidesFrom g moved index (p ∷ ps) = (skipped_id moved index ≡ moved_id g p) × HidesFrom g moved (index + 1) ps
+abbrev pub HidesOnlySlot : Gstate → Option SlotPosition → ℕ → List Pair → Type 0
+HidesOnlySlot g moved index [] = Unit {0}
+HidesOnlySlot g moved index (p ∷ ps) = (skipped_id moved index ≡ moved_id g p) × HidesOnlySlot g moved (index + 1) ps

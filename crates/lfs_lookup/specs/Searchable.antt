@@ -13,7 +13,7 @@ pub record CanReadPair (t : ThreadView) (index : ℕ) : Type 0 where
   pub below : index < length t.kept.pairs
 
 -- The thread works. Where there is a slot, its pair is in the thread, and cached.
-pub record CanReadCached (t : ThreadView) (slot : Option SlotPosition) : Type 0 where
+pub record CanReadCachedSlot (t : ThreadView) (slot : Option SlotPosition) : Type 0 where
   pub works : t.failed ≡ false
   pub below : IfSome slot (λ s. s.pair < length t.kept.pairs)
   pub cached_log : IfSome slot (λ s. IsSome (cached_log t s.pair))

@@ -14,9 +14,9 @@ ghost use Rattle.lfs_lookup.specs.Finds.{IsFoundNode};
 ghost use Rattle.lfs_lookup.specs.LookupReading.{ReadsOrReports};
 ghost use Rattle.lfs_lookup.specs.NameSearch.{HasCompleteLog};
 ghost use Rattle.lfs_lookup.specs.Reads.{ReadsPathsOnce};
-ghost use Rattle.lfs_lookup.specs.Searchable.{CanReadPair, CanReadCached, CanSearchFromRoot};
+ghost use Rattle.lfs_lookup.specs.Searchable.{CanReadPair, CanReadCachedSlot, CanSearchFromRoot};
 
-use crate::by_path::{found_node, look_up_path};
+use crate::by_path::{finding_shown, look_up_path};
 use crate::found_entries::FoundAttribute;
 use crate::path::Path;
 use crate::paths::VisiblePathLookup;
@@ -51,7 +51,7 @@ fn copy_optional_bytes(alloc: Global, bytes: Option<&[u8]>) -> Result<Option<Vec
 }
 
 // Copies an attribute of a slot of a log.
-fn attribute_from_log(
+fn copy_log_attribute(
     alloc: Global,
     log: &Log<'_>,
     kind: u8,
@@ -81,7 +81,7 @@ fn attribute_of_slot<D: BlockDevice>(
     ensures reading { ReadsOrReports thread.old thread.new result }
 {
     thread.load_pair(slot.pair)?;
-    attribute_from_log(alloc, &thread.lend(slot.pair).unwrap(), kind, slot.id)
+    copy_log_attribute(alloc, &thread.lend(slot.pair).unwrap(), kind, slot.id)
 }
 
 // Returns the slot of a file or of a directory. The root has none.
@@ -102,7 +102,7 @@ fn attribute_if_slot<D: BlockDevice>(
     slot: Option<SlotPosition>,
     kind: u8,
 ) -> Result<Option<Vec<u8>>, Error>
-    requires { CanReadCached thread.old slot }
+    requires { CanReadCachedSlot thread.old slot }
     ensures short { IfOk result AttributeFits }
     ensures is { (attributes : Attributes) → AreAttributesAt thread.old.kept slot attributes → IfOk result (IsAttribute kind attributes) }
     ensures no_call { thread.new.kept ≡ thread.old.kept }
@@ -140,7 +140,7 @@ pub fn find_attribute<D: BlockDevice>(
     // By the sizes of its blocks a list has as many bytes as its entry says.
     let _device = thread.device();
     Ok(FoundAttribute {
-        finding: found_node(shown),
+        finding: finding_shown(shown),
         bytes,
     })
 }

@@ -6,7 +6,7 @@ ghost use Rattle.lfs_model.specs.session.History.{read_count};
 ghost use Rattle.lfs_model.specs.format.Slots.{zero_gstate};
 ghost use Rattle.lfs_model.specs.format.Thread.{pairs_gstate};
 ghost use Rattle.lfs_model.specs.tree.Shown.{disk_tree};
-ghost use Rattle.lfs_lookup.specs.AtPath.{InlineFitsTag, FoundInlineFits, ParentsAllowLookup, IsResult, node_or_refusal, found_pair, storage_size};
+ghost use Rattle.lfs_lookup.specs.AtPath.{InlineFitsTag, FoundInlineFits, ParentsAllowLookup, IsLookupResult, node_or_refusal, found_pair_number, storage_size};
 ghost use Rattle.lfs_lookup.specs.AttributeAt.{IsFoundCached};
 ghost use Rattle.lfs_lookup.specs.Finds.{IsFoundNode, has_entry_beneath};
 ghost use Rattle.lfs_lookup.specs.declared.found_entries.Node.TheVariants.{Directory, File, Nothing};
@@ -40,7 +40,7 @@ pub fn look_up_path<D: BlockDevice>(
     path: &Path<'_>,
 ) -> Result<VisiblePathLookup, Error>
     requires { CanSearchFromRoot thread.old root }
-    ensures shown { IfOk result (IsResult thread.old.kept path.now) }
+    ensures shown { IfOk result (IsLookupResult thread.old.kept path.now) }
     ensures cached_log { IfOk result (IsFoundCached thread.new) }
     ensures reads { ReadsDirectoriesOnce (pairs_gstate thread.old.kept.pairs ≡ zero_gstate) ParentsAllowLookup (ancestor_paths path.now) thread.old thread.new result }
     ensures reading { ReadsOrReports thread.old thread.new result }
@@ -63,7 +63,7 @@ fn contents_size(contents: FileStorage) -> u32
 }
 
 // Makes the finding of a file.
-fn file_found(contents: FileStorage) -> FoundNode
+fn finding_of_file(contents: FileStorage) -> FoundNode
     requires { InlineFitsTag contents }
     ensures { result ≡ record { fault = None; node = File (storage_size contents) } }
 {
@@ -76,7 +76,7 @@ fn file_found(contents: FileStorage) -> FoundNode
 }
 
 // Makes the finding of no entry, where a parent may refuse the path.
-fn nothing_found(fault: Option<Refusal>) -> FoundNode
+fn finding_of_nothing(fault: Option<Refusal>) -> FoundNode
     ensures { result ≡ record { fault = fault; node = Nothing } }
 {
     FoundNode {
@@ -86,7 +86,7 @@ fn nothing_found(fault: Option<Refusal>) -> FoundNode
 }
 
 // Makes the finding of a directory.
-fn directory_found() -> FoundNode
+fn finding_of_directory() -> FoundNode
     ensures { result ≡ record { fault = None; node = Directory } }
 {
     FoundNode {
@@ -96,24 +96,24 @@ fn directory_found() -> FoundNode
 }
 
 /// Returns the finding of what was shown: the parent's refusal, or the entry.
-pub fn found_node(shown: VisiblePathLookup) -> FoundNode
+pub fn finding_shown(shown: VisiblePathLookup) -> FoundNode
     requires { FoundInlineFits shown }
     ensures { result ≡ node_or_refusal shown }
 {
     match shown {
-        VisiblePathLookup::Root => directory_found(),
-        VisiblePathLookup::Directory { .. } => directory_found(),
-        VisiblePathLookup::File { contents, .. } => file_found(contents),
-        VisiblePathLookup::Nothing => nothing_found(None),
-        VisiblePathLookup::ParentIsFile => nothing_found(Some(to_refusal(Error::NotDir))),
-        VisiblePathLookup::ParentIsMissing => nothing_found(Some(to_refusal(Error::NoEnt))),
+        VisiblePathLookup::Root => finding_of_directory(),
+        VisiblePathLookup::Directory { .. } => finding_of_directory(),
+        VisiblePathLookup::File { contents, .. } => finding_of_file(contents),
+        VisiblePathLookup::Nothing => finding_of_nothing(None),
+        VisiblePathLookup::ParentIsFile => finding_of_nothing(Some(to_refusal(Error::NotDir))),
+        VisiblePathLookup::ParentIsMissing => finding_of_nothing(Some(to_refusal(Error::NoEnt))),
     }
 }
 
 /// Returns the number of the first pair of the directory that was shown. `root` is the number of
 /// the root directory's first pair.
 pub fn first_pair_found(root: usize, shown: VisiblePathLookup) -> Option<usize>
-    ensures { result ≡ found_pair root shown }
+    ensures { result ≡ found_pair_number root shown }
 {
     match shown {
         VisiblePathLookup::Root => Some(root),
@@ -143,7 +143,7 @@ pub fn find_node<D: BlockDevice>(
     let shown = look_up_path(alloc, thread, root, path)?;
     // By the sizes of its blocks a list has as many bytes as its entry says.
     let _device = thread.device();
-    Ok(found_node(shown))
+    Ok(finding_shown(shown))
 }
 
 /// Looks up a path, and returns whether it leads to a directory that has entries. The call reads no
@@ -169,7 +169,7 @@ pub fn path_has_entries<D: BlockDevice>(
     // By the sizes of its blocks a list has as many bytes as its entry says.
     let _device = thread.device();
     Ok(NodeAndEmptiness {
-        finding: found_node(shown),
+        finding: finding_shown(shown),
         has_entries,
     })
 }

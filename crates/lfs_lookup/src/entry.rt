@@ -2,7 +2,7 @@
 
 ghost use Rattle.lfs_model.specs.format.Content.{read_struct};
 ghost use Rattle.lfs_model.specs.layers.LoggedContent.{IsAllowedPart};
-ghost use Rattle.lfs_tag.specs.ContentView.{data_view};
+ghost use Rattle.lfs_tag.specs.ContentView.{part_view};
 ghost use Rattle.lfs_lookup.specs.Entry.{IsStructEntry};
 
 use lfs_tag::{NameOrStruct, Struct};
@@ -27,7 +27,7 @@ pub enum FileOrDirectory {
 /// Returns the entry of a slot's struct: where a file's bytes are, or the address of a directory's
 /// first pair (SPEC.md of littlefs, "0x2xx LFS_TYPE_STRUCT").
 pub fn entry_of_struct(structure: &NameOrStruct<'_>) -> FileOrDirectory
-    requires { IsAllowedPart 2 (data_view structure.now) }
+    requires { IsAllowedPart 2 (part_view structure.now) }
     ensures { IsStructEntry result (read_struct structure.now.kind structure.now.bytes.now) }
 {
     match Struct::of(structure).unwrap() {

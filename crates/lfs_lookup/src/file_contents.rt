@@ -12,7 +12,7 @@ ghost use Rattle.lfs_lookup.specs.LookupReading.{ReadsOrReports};
 ghost use Rattle.lfs_lookup.specs.Reads.{ReadsPathsOnce};
 ghost use Rattle.lfs_lookup.specs.Searchable.{CanSearchFromRoot};
 
-use crate::by_path::{found_node, look_up_path};
+use crate::by_path::{finding_shown, look_up_path};
 use crate::bytes::{read_inline_at, spot_of_file};
 use crate::entry::FileStorage;
 use crate::found_entries::FoundNode;
@@ -83,7 +83,7 @@ pub fn find_file_contents<D: BlockDevice>(
     let shown = look_up_path(alloc, thread, root, path)?;
     // By the sizes of its blocks a list has as many bytes as its entry says.
     let _device = thread.device();
-    let finding = found_node(shown);
+    let finding = finding_shown(shown);
     let Some((slot, contents)) = spot_of_file(shown) else {
         return Ok(FoundFile {
             finding,

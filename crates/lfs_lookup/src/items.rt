@@ -6,7 +6,7 @@ ghost use Rattle.lfs_model.specs.format.Slots.{PairContent as ModelContent};
 ghost use Rattle.lfs_model.specs.format.Content.{read_struct};
 ghost use Rattle.lfs_model.specs.layers.LoggedContent.{IsFormedSlot, AreWellFormed, IsAllowedPart};
 ghost use Rattle.lfs_thread.specs.CachedLog.{IsContentLog};
-ghost use Rattle.lfs_tag.specs.ContentView.{data_view, slot_view};
+ghost use Rattle.lfs_tag.specs.ContentView.{part_view, slot_view};
 ghost use Rattle.lfs_lookup.specs.ByName.{AreShorterFirst};
 ghost use Rattle.lfs_lookup.specs.Items.{directory_item_view, directory_items_view, optional_entry_list, entries_without_moved, raw_entries, raw_entry, owned_view, slots_except};
 
@@ -37,7 +37,7 @@ pub struct NameAndOwnedStruct {
 
 /// Returns the struct of a slot's part, with a copy of a file's bytes.
 pub fn owned_struct(alloc: Global, part: &NameOrStruct<'_>) -> Result<OwnedStruct, AllocError>
-    requires { IsAllowedPart 2 (data_view part.now) }
+    requires { IsAllowedPart 2 (part_view part.now) }
     ensures { IfOk result (λ s. owned_view s ≡ read_struct part.now.kind part.now.bytes.now) }
 {
     match Struct::of(part).unwrap() {

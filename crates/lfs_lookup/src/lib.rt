@@ -28,7 +28,7 @@ mod walks;
 
 pub use attribute_sizes::attributes_size_at;
 pub use attributes::find_attribute;
-pub use by_path::{find_node, first_pair_found, found_node, look_up_path, path_has_entries};
+pub use by_path::{find_node, finding_shown, first_pair_found, look_up_path, path_has_entries};
 pub use bytes::{read_inline_at, spot_of_file};
 pub use directory::{directory_items, directory_pair_entries, has_entries, unmoved_pair_items};
 pub use entry::{FileOrDirectory, FileStorage, entry_of_struct};

@@ -12,7 +12,7 @@ ghost use Rattle.lfs_lookup.specs.ListAt.{AreInLimits, StructFitsTag, IsInLimits
 ghost use Rattle.lfs_lookup.specs.LookupReading.{ReadsOrReports};
 ghost use Rattle.lfs_lookup.specs.Searchable.{CanSearchFromRoot};
 
-use crate::by_path::{first_pair_found, found_node, look_up_path};
+use crate::by_path::{finding_shown, first_pair_found, look_up_path};
 use crate::directory::items_if_directory;
 use crate::found_entries::Listing;
 use crate::items::{NameAndOwnedStruct, OwnedStruct, sort_shorter_first};
@@ -92,7 +92,7 @@ pub fn list_directory<D: BlockDevice>(
     let _device = thread.device();
     let listed = to_list_items(alloc, items)?;
     Ok(Listing {
-        finding: found_node(shown),
+        finding: finding_shown(shown),
         items: listed,
     })
 }

@@ -12,8 +12,8 @@ ghost use Rattle.lfs_lookup.specs.AtPath.{ParentsAllowLookup};
 ghost use Rattle.lfs_lookup.specs.AttributeAt.{IsFoundCached};
 ghost use Rattle.lfs_lookup.specs.Halves.{ReadsBinarySearches, ReadsBinarySearch};
 ghost use Rattle.lfs_lookup.specs.LookupReading.{ReadsOrReports};
-ghost use Rattle.lfs_lookup.specs.NameSearch.{HidesFrom};
-ghost use Rattle.lfs_lookup.specs.LookupPaths.{LeadsToPair, ParentReached, IsNodeAt, IsVisibleEntry, IsNamedEntry, LeadsToResult, IsHiddenResult, parent_refusal};
+ghost use Rattle.lfs_lookup.specs.NameSearch.{HidesOnlySlot};
+ghost use Rattle.lfs_lookup.specs.LookupPaths.{LeadsToPair, ParentReached, IsParentAt, IsVisibleEntry, IsNamedEntry, LeadsToResult, IsHiddenResult, parent_refusal};
 ghost use Rattle.lfs_lookup.specs.Reads.{ReadsDirectoryOnce, ReadsDirectoriesOnce};
 ghost use Rattle.lfs_lookup.specs.Searchable.{CanSearchRecovered, CanSearchHidden};
 
@@ -95,7 +95,7 @@ pub(crate) fn moved_slot_spot<D: BlockDevice>(
     state: &MoveState,
 ) -> Option<SlotPosition>
     requires { IsAccepted thread.now.kept.disk thread.now.kept.pairs }
-    ensures hides { HidesFrom (move_view state.now) result 0 thread.now.kept.pairs }
+    ensures hides { HidesOnlySlot (move_view state.now) result 0 thread.now.kept.pairs }
     ensures none { move_view state.now ≡ zero_gstate → result ≡ None }
 {
     if state.kind != DELETE {
@@ -116,7 +116,7 @@ fn find_subdirectory<D: BlockDevice>(
 ) -> Result<Parent, Error>
     requires can { CanSearchHidden thread.old moved }
     requires reached { (path : Path) × LeadsToPair thread.old.kept.pairs path first }
-    ensures answer { IfOk result (λ parent. (path : Path) → LeadsToPair thread.old.kept.pairs path first → IsNodeAt thread.old.kept (path ++ name.now ∷ []) parent) }
+    ensures answer { IfOk result (λ parent. (path : Path) → LeadsToPair thread.old.kept.pairs path first → IsParentAt thread.old.kept (path ++ name.now ∷ []) parent) }
     ensures reads { ReadsDirectoryOnce moved first thread.old thread.new result }
     ensures reading { ReadsOrReports thread.old thread.new result }
 {

@@ -3,12 +3,12 @@
 ghost use Rattle.std.specs.Prelude.{◌≡◌, ◌≤◌, ◌+◌, ◌<◌, false, length, IfErr, IfOk, IfSome};
 ghost use Rattle.lfs_model.specs.session.History.{read_count};
 ghost use Rattle.lfs_model.specs.format.Slots.{PairContent as ModelContent};
-ghost use Rattle.lfs_model.specs.format.Thread.{starts_superblock, count_before_root};
+ghost use Rattle.lfs_model.specs.format.Thread.{superblock_first, count_before_root};
 ghost use Rattle.lfs_model.specs.tree.View.{IsAccepted};
 ghost use Rattle.lfs_thread.specs.CachedLog.{IsContentLog};
 ghost use Rattle.lfs_thread.specs.ThreadSteps.{thread_pair};
 ghost use Rattle.lfs_lookup.specs.LookupReading.{ReadsOrReports};
-ghost use Rattle.lfs_lookup.specs.Root.{IsInChain, IsChainNext, next_pair};
+ghost use Rattle.lfs_lookup.specs.Root.{IsInChain, IsChainNext, next_chain_pair};
 
 use lfs_device::{BlockDevice, Error};
 use lfs_tag::{Content, Log};
@@ -16,9 +16,9 @@ use lfs_thread::Thread;
 use std::alloc::Global;
 
 // Returns whether the first slot of a log is a superblock's.
-fn starts_superblock(alloc: Global, log: &Log<'_>) -> Result<bool, Error>
+fn superblock_first(alloc: Global, log: &Log<'_>) -> Result<bool, Error>
     requires { (content : ModelContent) × IsContentLog log.now content }
-    ensures is { (content : ModelContent) → IsContentLog log.now content → IfOk result (λ b. b ≡ starts_superblock content.slots) }
+    ensures is { (content : ModelContent) → IsContentLog log.now content → IfOk result (λ b. b ≡ superblock_first content.slots) }
     ensures errors { IfErr result (λ e. e ≡ Error.NoMemory) }
 {
     let content = Content::read(alloc, log)?;
@@ -36,12 +36,12 @@ fn begins_with_superblock<D: BlockDevice>(
 ) -> Result<bool, Error>
     requires works { thread.old.failed ≡ false }
     requires below { index < length thread.old.kept.pairs }
-    ensures is { IfOk result (λ b. b ≡ starts_superblock (thread_pair thread.old.kept index).content.slots) }
+    ensures is { IfOk result (λ b. b ≡ superblock_first (thread_pair thread.old.kept index).content.slots) }
     ensures few { read_count thread.new.kept.history ≤ read_count thread.old.kept.history + 1 }
     ensures reading { ReadsOrReports thread.old thread.new result }
 {
     thread.load_pair(index)?;
-    starts_superblock(alloc, &thread.lend(index).unwrap())
+    superblock_first(alloc, &thread.lend(index).unwrap())
 }
 
 // Returns the pair after one, where the chain may continue: the one has at most one slot, and a
@@ -49,7 +49,7 @@ fn begins_with_superblock<D: BlockDevice>(
 fn next_in_chain<D: BlockDevice>(thread: &Thread<D>, index: usize) -> Option<usize>
     requires works { thread.now.failed ≡ false }
     requires below { index < length thread.now.kept.pairs }
-    ensures next { result ≡ next_pair thread.now.kept index }
+    ensures next { result ≡ next_chain_pair thread.now.kept index }
     ensures below { IfSome result (λ next. next < length thread.now.kept.pairs) }
 {
     if thread.slot_count(index) > 1 {

@@ -17,7 +17,7 @@ ghost use Rattle.lfs_lookup.specs.Searchable.{CanReadPair};
 use crate::entry::{FileOrDirectory, entry_of_struct};
 use lfs_device::{BlockDevice, Error};
 use lfs_model::NameOrder;
-use lfs_tag::{Log, Lookup, Steps, find, find_slot_struct};
+use lfs_tag::{Log, Lookup, Steps, find, struct_of_slot};
 use lfs_thread::Thread;
 
 /// A slot, or the place of one: a pair's number in the thread and an id in the pair.
@@ -55,7 +55,7 @@ fn find_in_log(
 {
     match find(log, order, name, skip) {
         Lookup::Found(id) => {
-            let structure = find_slot_struct(log, id, &mut Steps::new()).unwrap();
+            let structure = struct_of_slot(log, id, &mut Steps::new()).unwrap();
             NamePositionInPair::Found(id, entry_of_struct(&structure))
         }
         Lookup::Place(id) => NamePositionInPair::Place(id),

@@ -1,7 +1,7 @@
 -- An image is accepted where tests say so, which compute on a literal image.
 use Rattle.std.proofs.Common.{ℕ, ◌≡◌, ◌<◌, inl, inr, Bool, true, false, not, ◌&&◌, ◌||◌, ◌==◌, nat_eq, List, [], ◌∷◌, Option, Some, None, refl, ap, AllPairs, arith, option_and_then, length, eqb-true, ltb-true, ◌⊎◌, ap₂, drop}
 use Rattle.std.specs.Prelude.{All, Any, nat_lt, slice_get, codes}
-use Rattle.lfs_model.proofs.Common.{AllByRecursion, list_all, option_map_or, and_parts, and_from, or_cases, All-from_recursion, All-head, All-tail, Disk, block_count, Name, name_cmp, same_name, is_less, is_valid_name, Slot, SlotKind, File, Directory, Superblock, Struct, Inline, Ctz, Branch, Gstate, same_pair, is_superblock, content_at, current_block, Pair, anchor_address, AreLinked, pairs_blocks, pairs_from_root, first_address, from_first_slots, pairs_gstate, root_address, starts_superblock, Path, root_slot, branch_address, slot_at_path, address_at_path, names_at, accepts_version, first_slot_name, first_pair_slots, IsAccepted, BeginsWith, IsSuperblock, BeginsWithSuperblock, SameExceptVersion, IsTreeEntry, HasKind, IsFormedList, HasValidMove, IsThreadEntry, IsEntry, superblock_entry, chain_pairs, after_chain, LeadsTo, IsReachedBySome, all_directories, all_entries, all_unmoved_slots, used_blocks, same_path}
+use Rattle.lfs_model.proofs.Common.{AllByRecursion, list_all, option_map_or, and_parts, and_from, or_cases, All-from_recursion, All-head, All-tail, Disk, block_count, Name, name_cmp, same_name, is_less, is_valid_name, Slot, SlotKind, File, Directory, Superblock, Struct, Inline, Ctz, Branch, Gstate, same_pair, is_superblock, content_at, current_block, Pair, anchor_address, AreLinked, pairs_blocks, pairs_from_root, first_address, pairs_from_filled, pairs_gstate, root_address, superblock_first, Path, root_slot, branch_address, slot_at_path, address_at_path, names_at, accepts_version, first_slot_name, first_pair_slots, IsAccepted, BeginsWith, IsSuperblock, BeginsWithSuperblock, SameExceptVersion, IsTreeEntry, HasKind, IsFormedList, HasValidMove, IsThreadEntry, IsEntry, superblock_entry, chain_pairs, after_chain, LeadsTo, IsReachedBySome, all_directories, all_entries, all_unmoved_slots, used_blocks, same_path}
 use Rattle.std.specs.List.{list_any, IsDistinct}
 use Rattle.std.specs.declared.cmp.Ordering.{Ordering}
 use Rattle.std.specs.declared.cmp.Ordering.TheVariants.{Less, Equal, Greater}
@@ -233,15 +233,15 @@ tests disk ps bytes k =
     ∷ ((pairs_gstate ps).sync || list_all (λ d. list_any (λ f. leads_to ps d.at f.0) (outline_in k ps)) (all_directories ps))
     ∷ is_move ps (pairs_gstate ps)
     ∷ are_apart (used_blocks disk ps)
-    ∷ starts_superblock (first_pair_slots (pairs_from_root ps))
+    ∷ superblock_first (first_pair_slots (pairs_from_root ps))
     ∷ []
 
 -- these pairs are on the disk, and the tests pass
 pub record IsImage (disk : Disk) (ps : List Pair) (bytes : List ℕ) (k : ℕ) : Type 0 where
   pub links : AreLinked (Some anchor_address) ps
   pub contents : AllByRecursion (λ p. content_at disk p.at ≡ Some p.content) ps
-  pub first : BeginsWith (current_block disk (first_address (from_first_slots ps))) superblock_entry
-  pub named : first_slot_name (from_first_slots ps) ≡ Some (codes "littlefs")
+  pub first : BeginsWith (current_block disk (first_address (pairs_from_filled ps))) superblock_entry
+  pub named : first_slot_name (pairs_from_filled ps) ≡ Some (codes "littlefs")
   pub lists : AllByRecursion (λ s. IsFormedList disk s.struct) (all_unmoved_slots ps)
   pub pass : list_all (λ b. b) (tests disk ps bytes k) ≡ true
 

@@ -1,7 +1,7 @@
 -- An image breaks a rule, by tests that compute on a literal image.
 use Rattle.std.proofs.Common.{ℕ, ◌≡◌, ◌<◌, true, false, not, List, Some, refl, sym, ap, ◌∙◌, ltb-true, true≢false}
 use Rattle.std.specs.Prelude.{AllPairs, nat_lt}
-use Rattle.lfs_model.proofs.Common.{AllByRecursion, list_all, All-from_recursion, list_any-from_Any, content_at, Disk, block_count, Name, name_cmp, IsReachedBySome, all_directories, all_entries, Inline, Slot, same_pair, AreLinked, BeginsAt, IsThread, Pair, anchor_address, pairs_blocks, pairs_gstate, root_address, Path, root_slot, same_path, HasStruct, HasValidMove, IsTreeEntry, IsFormedList, accepts_version, AreFirstPairs, IsDiskSuperblock, LeadsByTails, superblock_fields}
+use Rattle.lfs_model.proofs.Common.{AllByRecursion, list_all, All-from_recursion, list_any-from_Any, content_at, Disk, block_count, Name, name_cmp, IsReachedBySome, all_directories, all_entries, Inline, Slot, same_pair, AreLinked, BeginsAt, IsThread, Pair, anchor_address, pairs_blocks, pairs_gstate, root_address, Path, root_slot, same_path, RepeatsSuperblockStruct, HasValidMove, IsTreeEntry, IsFormedList, accepts_version, AreFirstPairs, IsDiskSuperblock, LeadsByTails, superblock_fields}
 use Rattle.std.specs.declared.cmp.Ordering.TheVariants.{Less}
 use Rattle.lfs_model.specs.declared.limits.AcceptedVersions.{AcceptedVersions}
 use Rattle.lfs_model.specs.declared.order.NameOrder.{NameOrder}
@@ -34,7 +34,7 @@ no_superblock_of_disk disk s bytes is fails h =
     let e = struct_to disk h.bytes h.bytes h.struct (record { len = refl; version = h.struct.version; rest = refl }) in
     true≢false (sym e ∙ ap (is_struct disk) held ∙ fails)
 
-pub no_same_superblock : (versions : AcceptedVersions) (bytes : List ℕ) (s : Slot) → accepts_version versions (superblock_fields bytes).version ≡ true → is_inline versions bytes s.struct ≡ false → ¬ HasStruct versions bytes s
+pub no_same_superblock : (versions : AcceptedVersions) (bytes : List ℕ) (s : Slot) → accepts_version versions (superblock_fields bytes).version ≡ true → is_inline versions bytes s.struct ≡ false → ¬ RepeatsSuperblockStruct versions bytes s
 no_same_superblock versions bytes s accepted fails (own, (is, same)) = true≢false (sym (inline_to versions bytes bytes (record { len = refl; version = accepted; rest = refl }) s.struct own is same) ∙ fails)
 
 pub no_entry : (s : Slot) → is_entry s ≡ false → ¬ IsTreeEntry s

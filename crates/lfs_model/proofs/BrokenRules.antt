@@ -2,7 +2,7 @@
 use Rattle.std.proofs.Common.{ℕ, zero, suc, ◌≡◌, ◌≢◌, ◌+◌, ◌<◌, ◌≤◌, ◌⊎◌, ◌&&◌, ◌==◌, ◌∙◌, inl, inr, Bool, true, false, cond, List, [], ◌∷◌, ◌++◌, Contains, length, take, drop, remove, get_or, nat_eq, option_map, Option, Some, None, refl, sym, ap, subst, true≢false, arith}
 use Rattle.std.specs.Prelude.{All, codes, slice_get}
 use Rattle.std.specs.List.{IsDistinct}
-use Rattle.lfs_model.proofs.Common.{cases_lt, drop-drop, flat_map-append, All-contains, All-head, All-tail, recursion_from_All, get_or_from_slice_get, none-some, same_Some, slice_get_within, content_at, current_block, Disk, block_count, ordered_disk, read_address, IsReachedBySome, all_unmoved_slots, all_directories, Gstate, Inline, PairContent, Slot, set_move_kind, is_superblock, array_address, same_pair, AreLinked, IsThread, Pair, ThreadDirectory, anchor_address, pairs_blocks, pairs_gstate, has_slots, tail_target, count_before_root, from_first_slots, slots_not_moved, starts_superblock, BeginsWith, BeginsWithSuperblock, HasStruct, IsAccepted, IsTreeEntry, SameExceptVersion, IsFormedList, IsSuperblock, first_pair_slots, first_slot_name, superblock_entry, AreFirstPairs, IsDiskSuperblock, LeadsByTails}
+use Rattle.lfs_model.proofs.Common.{cases_lt, drop-drop, flat_map-append, All-contains, All-head, All-tail, recursion_from_All, get_or_from_slice_get, none-some, same_Some, slice_get_within, content_at, current_block, Disk, block_count, ordered_disk, read_address, IsReachedBySome, all_unmoved_slots, all_directories, Gstate, Inline, PairContent, Slot, set_move_kind, is_superblock, array_address, same_pair, AreLinked, IsThread, Pair, ThreadDirectory, anchor_address, pairs_blocks, pairs_gstate, has_slots, tail_target, count_before_root, pairs_from_filled, slots_not_moved, superblock_first, BeginsWith, BeginsWithSuperblock, RepeatsSuperblockStruct, IsAccepted, IsTreeEntry, SameExceptVersion, IsFormedList, IsSuperblock, first_pair_slots, first_slot_name, superblock_entry, AreFirstPairs, IsDiskSuperblock, LeadsByTails}
 use Rattle.std.proofs.lemmas.List.Elements.{Contains-append_right}
 use Rattle.std.proofs.lemmas.Map.Keys.{IsDistinct-tail}
 use Rattle.lfs_model.specs.format.Thread.{moved_id}
@@ -166,9 +166,9 @@ other_struct disk bytes own is same = record {
 }
 
 -- slot 0 of a pair of the chain is a superblock with that struct
-first_of_chain : (v : AcceptedVersions) (bytes : List ℕ) (slots : List Slot) (s : Slot) → BeginsWithSuperblock v bytes slots → slice_get slots 0 ≡ Some s → (is_superblock s ≡ true) × HasStruct v bytes s
+first_of_chain : (v : AcceptedVersions) (bytes : List ℕ) (slots : List Slot) (s : Slot) → BeginsWithSuperblock v bytes slots → slice_get slots 0 ≡ Some s → (is_superblock s ≡ true) × RepeatsSuperblockStruct v bytes s
 first_of_chain v bytes [] s h e = absurd (cc)
-first_of_chain v bytes (t ∷ slots) s h e = subst (λ (x : Slot). (is_superblock x ≡ true) × HasStruct v bytes x) (same_Some t s e) (h.0, h.1)
+first_of_chain v bytes (t ∷ slots) s h e = subst (λ (x : Slot). (is_superblock x ≡ true) × RepeatsSuperblockStruct v bytes x) (same_Some t s e) (h.0, h.1)
 
 -- and the slots behind it are entries
 entry_behind : (v : AcceptedVersions) (bytes : List ℕ) (slots : List Slot) (id : ℕ) (s : Slot) → BeginsWithSuperblock v bytes slots → slice_get slots id ≡ Some s → 0 < id → IsTreeEntry s
@@ -176,12 +176,12 @@ entry_behind v bytes [] id s h e l = absurd (cc)
 entry_behind v bytes (t ∷ slots) zero s h e l = absurd (omega (arith, l))
 entry_behind v bytes (t ∷ slots) (suc id) s h e l = holds_at IsTreeEntry slots id s h.2 e
 
-bare : (slots : List Slot) → has_slots slots ≡ false → starts_superblock slots ≡ true → ⊥
+bare : (slots : List Slot) → has_slots slots ≡ false → superblock_first slots ≡ true → ⊥
 bare [] none starts = cc
 bare (s ∷ slots) none starts = cc
 
 -- where pair n begins with a superblock, the first pair that has a slot is one of the pairs up to it
-slot_of_first : (P : Slot → Type 0) (ps : List Pair) (n m : ℕ) (s : Slot) → starts_superblock (first_pair_slots (drop n ps)) ≡ true → n < m
+slot_of_first : (P : Slot → Type 0) (ps : List Pair) (n m : ℕ) (s : Slot) → superblock_first (first_pair_slots (drop n ps)) ≡ true → n < m
     → All (λ (p : Pair). (t : Slot) → slice_get p.content.slots 0 ≡ Some t → P t) (take m ps) → HasFirstSlot ps s → P s
 slot_of_first P [] zero m s starts l all first = absurd (cc)
 slot_of_first P [] (suc n) m s starts l all first = absurd (cc)
@@ -191,9 +191,9 @@ slot_of_first P (p ∷ ps) n (suc m) s starts l all first = go (λ k. slot_of_fi
     Q : Pair → Type 0
     Q q = (t : Slot) → slice_get q.content.slots 0 ≡ Some t → P t
 
-    go : ((k : ℕ) → starts_superblock (first_pair_slots (drop k ps)) ≡ true → k < m → All Q (take m ps) → HasFirstSlot ps s → P s)
-        → (n : ℕ) (b : Bool) → has_slots p.content.slots ≡ b → starts_superblock (first_pair_slots (drop n (p ∷ ps))) ≡ true → n < suc m
-        → slice_get (first_pair_slots (cond b (p ∷ ps) (from_first_slots ps))) 0 ≡ Some s → P s
+    go : ((k : ℕ) → superblock_first (first_pair_slots (drop k ps)) ≡ true → k < m → All Q (take m ps) → HasFirstSlot ps s → P s)
+        → (n : ℕ) (b : Bool) → has_slots p.content.slots ≡ b → superblock_first (first_pair_slots (drop n (p ∷ ps))) ≡ true → n < suc m
+        → slice_get (first_pair_slots (cond b (p ∷ ps) (pairs_from_filled ps))) 0 ≡ Some s → P s
     go later n true e k l first = All-head Q p (take m ps) all s first
     go later zero false e k l first = absurd (bare p.content.slots e k)
     go later (suc n) false e k l first = later n k (omega (arith, l)) (All-tail Q p (take m ps) all) first
@@ -219,9 +219,9 @@ module _ (disk : Disk) (ps : List Pair) (ok : IsAccepted disk ps) where
       go (inr within) (inl behind) = absurd (omega (arith, within, behind))
       go (inr within) (inr later) = entry_behind disk.profile.versions ok.superblock.0 p.content.slots id s (chain_pair index p there within) slot later
 
-  first_superblock : (s : Slot) → HasFirstSlot ps s → (is_superblock s ≡ true) × HasStruct disk.profile.versions ok.superblock.0 s
+  first_superblock : (s : Slot) → HasFirstSlot ps s → (is_superblock s ≡ true) × RepeatsSuperblockStruct disk.profile.versions ok.superblock.0 s
   first_superblock s first =
-      slot_of_first (λ t. (is_superblock t ≡ true) × HasStruct disk.profile.versions ok.superblock.0 t) ps (count_before_root ps) (count_before_root ps + 1) s ok.root (omega arith)
+      slot_of_first (λ t. (is_superblock t ≡ true) × RepeatsSuperblockStruct disk.profile.versions ok.superblock.0 t) ps (count_before_root ps) (count_before_root ps + 1) s ok.root (omega arith)
       (λ k d l t e. first_of_chain disk.profile.versions ok.superblock.0 (get_or (take (count_before_root ps + 1) ps) k d).content.slots t (ok.superblock.1.1 k d l) e)
       first
 
@@ -231,7 +231,7 @@ module _ (disk : Disk) (ps : List Pair) (ok : IsAccepted disk ps) where
       let (kind, (own, (is, same))) = first_superblock s first in
       record {
         kind = kind;
-        name = same_Some s.name (codes "littlefs") (sym (name_of_first (from_first_slots ps) s first) ∙ ok.named);
+        name = same_Some s.name (codes "littlefs") (sym (name_of_first (pairs_from_filled ps) s first) ∙ ok.named);
         bytes = own;
         inline = is;
         struct = other_struct disk ok.superblock.0 own ok.superblock.1.0 same;

@@ -3,7 +3,7 @@ use Rattle.std.proofs.Common.{◌≡◌, ℕ, zero, suc, ◌+◌, ◌-◌, ◌^�
 use Rattle.lfs_model.proofs.Common.{option_map, option_and_then, ltb-false, nat_tests, length-take, length-drop, tag_data_size, LogEntry, entry_end, is_checksum_entry, CommitSequence, with_entry, commit_at, IsCommit, AreAdjacent}
 use Rattle.std.proofs.lemmas.Option.{cond_some}
 use Rattle.lfs_model.specs.format.Tag.{tag_before_next}
-use Rattle.lfs_model.specs.format.Log.{tag_at, entry_at, closes, Commit, with_commit, commit_within, or_empty, chain_within, longest_sequence}
+use Rattle.lfs_model.specs.format.Log.{tag_at, entry_at, closes, Commit, with_commit, commit_within, chain_or_empty, chain_within, longest_sequence}
 
 -- where a commit ends, and what its last tag carries
 abbrev pub stop : Commit → ℕ × ℕ
@@ -165,7 +165,7 @@ chain_fuel (suc n) (suc m) block start at before p q =
     ] refl
   where
     step : ℕ → Option Commit → CommitSequence
-    step k o = or_empty at before (option_map (λ c. with_commit c.entries (chain_within k block c.end c.end c.last)) o)
+    step k o = chain_or_empty at before (option_map (λ c. with_commit c.entries (chain_within k block c.end c.end c.last)) o)
 
 chain_more : (block : List ℕ) (start at before : ℕ) → longest_sequence block start at before ≡ chain_within (suc (length block - at)) block start at before
 chain_more block start at before = chain_fuel (length block - at) (suc (length block - at)) block start at before (omega arith) (omega arith)
@@ -194,7 +194,7 @@ chain_sound (suc n) block start at before =
     ] refl
   where
     step : Option Commit → CommitSequence
-    step o = or_empty at before (option_map (λ c. with_commit c.entries (chain_within n block c.end c.end c.last)) o)
+    step o = chain_or_empty at before (option_map (λ c. with_commit c.entries (chain_within n block c.end c.end c.last)) o)
 
 -- no chain is longer
 pub chain_longest : (block : List ℕ) (start at before : ℕ) (cs : List (List LogEntry)) (end last : ℕ) → AreAdjacent block start at before cs end last → length cs ≤ length (longest_sequence block start at before).commits

@@ -5,7 +5,7 @@ use Rattle.lfs_model.proofs.Common.{xor_assoc, xor_self, flat_map, cases_lt, nat
 use Rattle.std.specs.Int.Bits.{bit_xor, xor_zero_l, xor_zero_r, xor_shifted}
 use Rattle.std.proofs.lemmas.Nat.{xor_lt, xor_block, xor_shr, xor_mod, pow-add, pow_pos, same_from_place, mul-add-lt}
 use Rattle.std.specs.Prelude.{All}
-use Rattle.lfs_model.specs.format.Crc.{generator_polynomial, low_bits, polynomial, times_generator, IsRemainder, message_polynomial, IsCrcFrom, crc_after_bit, next_bits, crc_of}
+use Rattle.lfs_model.specs.format.Crc.{generator_polynomial, low_bits, polynomial, times_generator, IsRemainder, message_polynomial, IsCrcFrom, crc_after_bit, checksum_after_bits, crc_of}
 
 -- ---- sums
 
@@ -225,19 +225,19 @@ next_bit_lt x lt = by_test (eqb (x % 2) 1)
     by_test true = xor_lt 32 (x / 2) 0xedb88320 (omega arith) (lit< tt)
     by_test false = omega arith
 
-pub next_bits_lt : (n x : ℕ) → x < 2 ^ 32 → next_bits n x < 2 ^ 32
-unfolding next_bits
+pub next_bits_lt : (n x : ℕ) → x < 2 ^ 32 → checksum_after_bits n x < 2 ^ 32
+unfolding checksum_after_bits
 next_bits_lt zero x lt = lt
 next_bits_lt (suc n) x lt = next_bits_lt n (crc_after_bit x) (next_bit_lt x lt)
 
-steps : (n x : ℕ) → x < 2 ^ 32 → IsMultiple (bit_xor (turned 32 x * 2 ^ n) (turned 32 (next_bits n x)))
-unfolding next_bits
+steps : (n x : ℕ) → x < 2 ^ 32 → IsMultiple (bit_xor (turned 32 x * 2 ^ n) (turned 32 (checksum_after_bits n x)))
+unfolding checksum_after_bits
 steps zero x lt = let e : turned 32 x * 2 ^ zero ≡ turned 32 x = omega arith in rw (e, xor_self (turned 32 x)) none
 steps (suc n) x lt =
     let first = shifted (bit_xor (2 * turned 32 x) (turned 32 (crc_after_bit x))) n (one_step x (eqb (x % 2) 1) lt refl) in
     let moved = rw (xor-mul_pow (2 * turned 32 x) (turned 32 (crc_after_bit x)) n) at first in
     let e : turned 32 x * 2 ^ suc n ≡ 2 * turned 32 x * 2 ^ n = rw pow-suc (turn (turned 32 x) (2 ^ n)) in
-    rw e (through (2 * turned 32 x * 2 ^ n) (turned 32 (crc_after_bit x) * 2 ^ n) (turned 32 (next_bits n (crc_after_bit x))) moved (steps n (crc_after_bit x) (next_bit_lt x lt)))
+    rw e (through (2 * turned 32 x * 2 ^ n) (turned 32 (crc_after_bit x) * 2 ^ n) (turned 32 (checksum_after_bits n (crc_after_bit x))) moved (steps n (crc_after_bit x) (next_bit_lt x lt)))
   where
     turn : (t p : ℕ) → t * (p * 2) ≡ 2 * t * p
     turn t p = omega arith
@@ -270,7 +270,7 @@ message_lt (b ∷ bs) =
 abbrev dividend : ℕ → List ℕ → ℕ
 dividend start bytes = bit_xor (message_polynomial bytes * 2 ^ 32) (turned 32 start * 2 ^ (8 * length bytes))
 
-byte_step : (x b : ℕ) (bs : List ℕ) → x < 2 ^ 32 → b < 2 ^ 8 → IsMultiple (bit_xor (dividend x (b ∷ bs)) (dividend (next_bits 8 (bit_xor x b)) bs))
+byte_step : (x b : ℕ) (bs : List ℕ) → x < 2 ^ 32 → b < 2 ^ 8 → IsMultiple (bit_xor (dividend x (b ∷ bs)) (dividend (checksum_after_bits 8 (bit_xor x b)) bs))
 byte_step x b bs lt small =
     let k = 8 * length bs in
     let a = turned 8 b in
@@ -278,7 +278,7 @@ byte_step x b bs lt small =
     let w = turned 32 x in
     let mixed = bit_xor x b in
     let mixed_lt : mixed < 2 ^ 32 = xor_lt 32 x b lt (omega arith) in
-    let after = turned 32 (next_bits 8 mixed) in
+    let after = turned 32 (checksum_after_bits 8 mixed) in
     let len : 8 * length (b ∷ bs) ≡ 8 + k = omega arith in
     let front : message_polynomial (b ∷ bs) * 2 ^ 32 ≡ bit_xor (a * 2 ^ 24 * 2 ^ 8 * 2 ^ k) m =
     ap (λ (t : ℕ). t * 2 ^ 32) (message_polynomial-more b bs ∙ sym (xor_shifted a k (message_polynomial bs) (message_lt bs))) ∙ xor-mul_pow (a * 2 ^ k) (message_polynomial bs) 32 ∙ ap (λ (t : ℕ). bit_xor t m) (moved a (2 ^ k)) in
@@ -309,7 +309,7 @@ AreBytes-rest b bs h i = h (suc i)
 pub crc_lt : (x : ℕ) (bytes : List ℕ) → x < 2 ^ 32 → AreBytes bytes → crc_of x bytes < 2 ^ 32
 unfolding crc_of
 crc_lt x [] lt fits = lt
-crc_lt x (b ∷ bs) lt fits = crc_lt (next_bits 8 (bit_xor x b)) bs (next_bits_lt 8 (bit_xor x b) (xor_lt 32 x b lt (omega (arith, fits 0)))) (AreBytes-rest b bs fits)
+crc_lt x (b ∷ bs) lt fits = crc_lt (checksum_after_bits 8 (bit_xor x b)) bs (next_bits_lt 8 (bit_xor x b) (xor_lt 32 x b lt (omega (arith, fits 0)))) (AreBytes-rest b bs fits)
 
 crc_multiple : (x : ℕ) (bytes : List ℕ) → x < 2 ^ 32 → AreBytes bytes → IsMultiple (bit_xor (dividend x bytes) (turned 32 (crc_of x bytes)))
 unfolding crc_of polynomial
@@ -318,7 +318,7 @@ crc_multiple x [] lt fits =
     rw (e, xor_self (turned 32 x)) none
 crc_multiple x (b ∷ bs) lt fits =
     let mixed_lt : bit_xor x b < 2 ^ 32 = xor_lt 32 x b lt (omega (arith, fits 0)) in
-    let next = next_bits 8 (bit_xor x b) in
+    let next = checksum_after_bits 8 (bit_xor x b) in
     through (dividend x (b ∷ bs)) (dividend next bs) (turned 32 (crc_of next bs)) (byte_step x b bs lt (fits 0))
     (crc_multiple next bs (next_bits_lt 8 (bit_xor x b) mixed_lt) (AreBytes-rest b bs fits))
 
@@ -335,9 +335,9 @@ one_checksum start bytes x y p q a b = turned_same 32 x y p q (one_remainder (di
 pub crc-append : (start : ℕ) (xs ys : List ℕ) → crc_of start (xs ++ ys) ≡ crc_of (crc_of start xs) ys
 unfolding crc_of
 crc-append start [] ys = refl
-crc-append start (x ∷ xs) ys = crc-append (next_bits 8 (bit_xor start x)) xs ys
+crc-append start (x ∷ xs) ys = crc-append (checksum_after_bits 8 (bit_xor start x)) xs ys
 
 -- one more byte of those that are left
-pub crc-drop : (x i : ℕ) (bytes : List ℕ) → i < length bytes → crc_of x (drop i bytes) ≡ crc_of (next_bits 8 (bit_xor x (get_or bytes i 0))) (drop (i + 1) bytes)
+pub crc-drop : (x i : ℕ) (bytes : List ℕ) → i < length bytes → crc_of x (drop i bytes) ≡ crc_of (checksum_after_bits 8 (bit_xor x (get_or bytes i 0))) (drop (i + 1) bytes)
 unfolding crc_of
 crc-drop x i bytes lt = rw (add-one, drop-cons bytes i 0) refl

@@ -1,7 +1,7 @@
 -- Slots with a name and a struct, when one comes, goes or changes; and the bytes that they take.
 use Rattle.std.proofs.Common.{ℕ, zero, suc, ◌≡◌, ◌+◌, ◌/◌, ◌^◌, ◌<◌, ◌≤◌, ◌==◌, ◌&&◌, Bool, true, false, cond, List, [], ◌∷◌, ◌++◌, length, take, drop, Option, Some, None, refl, sym, ap, ap₂, subst, ◌∙◌, arith, eqb-true}
 use Rattle.std.specs.Prelude.{slice_set, sum_by}
-use Rattle.lfs_model.proofs.Common.{insert, remove, option_and_then, option_map, same_Some, ne_eqb, sum_by-cons, make_tag, tag_type, tag_length, abstract_type, pair_capacity, slots_limit, Slot, Inline, Ctz, Branch, struct_len, attributes_size, slot_size, PairContent, FitsInPair, RawSlot, RawContent, complete_slot, complete_slots, complete_content, kind_of_type, read_struct, read_address, is_known_tag, is_attribute_removal, allows_any_length, requires_eight_bytes, requires_no_bytes, move_type, create_tag_type, delete_tag_type, inline_type, directory_type, file_name_type, directory_name_type, slot_size_raw, raw_slots_size, data_size, RawContentFits, IsAllowedPart, AllowsIfSome, IsFormedSlot, AreWellFormed, IsWellFormed}
+use Rattle.lfs_model.proofs.Common.{insert, remove, option_and_then, option_map, same_Some, ne_eqb, sum_by-cons, make_tag, tag_type, tag_length, abstract_type, pair_capacity, slots_limit, Slot, Inline, Ctz, Branch, struct_len, attributes_size, slot_size, PairContent, FitsInPair, RawSlot, RawContent, complete_slot, complete_slots, complete_content, kind_of_type, read_struct, read_address, is_known_tag, is_attribute_removal, allows_any_length, requires_eight_bytes, requires_no_bytes, move_type, create_tag_type, delete_tag_type, inline_type, directory_type, file_name_type, directory_name_type, slot_size_raw, raw_slots_size, part_size, RawContentFits, IsAllowedPart, AllowsIfSome, IsFormedSlot, AreWellFormed, IsWellFormed}
 use Rattle.byteorder.specs.Endian.{little_number}
 use Rattle.lfs_model.specs.format.Slots.{slots_size}
 use Rattle.lfs_model.proofs.WrittenAnew.{tag_type-make_tag, tag_length-make_tag}
@@ -112,7 +112,7 @@ slot_size_is s t h e = go s.name s.struct h.struct e
   where
     go : (n p : Option (ℕ × List ℕ)) → AllowsIfSome 2 p →
         option_and_then (λ name. option_map (λ struct. record { kind = kind_of_type name.0; name = name.1; struct = read_struct struct.0 struct.1; attributes = s.attributes }) p) n ≡ Some t →
-        slot_size t ≡ data_size n + data_size p + attributes_size s.attributes
+        slot_size t ≡ part_size n + part_size p + attributes_size s.attributes
     go None p k f = absurd (cc)
     go (Some n) None k f = absurd (cc)
     go (Some n) (Some p) k f =

@@ -1,7 +1,7 @@
 -- The types of names, and the first entry of a log that is written anew.
 use Rattle.std.proofs.Common.{ℕ, ◌≡◌, ◌==◌, ◌/◌, ◌^◌, ◌<◌, ◌⊎◌, inl, inr, Bool, true, false, cond, List, [], ◌∷◌, ◌++◌, length, Option, Some, None, refl, sym, ap, ap₂, subst, ◌∙◌, arith, eqb-true}
 use Rattle.std.specs.Prelude.{slice_get, codes}
-use Rattle.lfs_model.proofs.Common.{option_and_then, option_map, ne_eqb, same_Some, Slot, SlotKind, PairContent, File, Directory, Superblock, names_superblock, make_tag, tag_type, tag_length, IsAllowedPart, AllowsIfSome, IsFormedSlot, AreWellFormed, RawSlot, RawContent, complete_slot, complete_slots, complete_content, kind_of_type, read_struct, is_known_tag, allows_any_length, requires_eight_bytes, requires_no_bytes, is_attribute_removal, file_name_type, directory_name_type, inline_type, directory_type, hard_tail_type, create_tag_type, delete_tag_type, move_type, content_entries, entries_of_slots, log_entry, tail_entries, move_state_entries, starts_superblock, superblock_entry}
+use Rattle.lfs_model.proofs.Common.{option_and_then, option_map, ne_eqb, same_Some, Slot, SlotKind, PairContent, File, Directory, Superblock, is_superblock_kind, make_tag, tag_type, tag_length, IsAllowedPart, AllowsIfSome, IsFormedSlot, AreWellFormed, RawSlot, RawContent, complete_slot, complete_slots, complete_content, kind_of_type, read_struct, is_known_tag, allows_any_length, requires_eight_bytes, requires_no_bytes, is_attribute_removal, file_name_type, directory_name_type, inline_type, directory_type, hard_tail_type, create_tag_type, delete_tag_type, move_type, content_entries, entries_of_slots, log_entry, tail_entries, move_state_entries, superblock_first, superblock_entry}
 use Rattle.lfs_model.specs.format.EntryTypes.{superblock_name_type, ctz_type, soft_tail_type}
 use Rattle.lfs_model.proofs.Completed.{complete_parts, completed_parts}
 use Rattle.lfs_model.proofs.WrittenAnew.{tag_type-make_tag, tag_length-make_tag}
@@ -108,18 +108,18 @@ named_anew raw c t have h at = go raw.slots refl c.slots refl
         ∙ ap (λ (o : Option (ℕ × List ℕ)). slice_get (entries_of_slots 0 (record s { name = o } ∷ slots) ++ tail_entries raw.tail ++ move_state_entries raw.move) 0) n.is
 
 -- with the superblock in slot 0, it begins with the superblock's entry
-pub superblock_anew : (raw : RawContent) (c : PairContent) → AreWellFormed raw.slots → complete_content raw ≡ Some c → starts_superblock c.slots ≡ true → option_map (λ s. s.name) (slice_get c.slots 0) ≡ Some (codes "littlefs")
+pub superblock_anew : (raw : RawContent) (c : PairContent) → AreWellFormed raw.slots → complete_content raw ≡ Some c → superblock_first c.slots ≡ true → option_map (λ s. s.name) (slice_get c.slots 0) ≡ Some (codes "littlefs")
     → slice_get (content_entries raw) 0 ≡ Some superblock_entry
 superblock_anew raw c have h first name = go c.slots refl
   where
-    kind_is : (k : SlotKind) → names_superblock k ≡ true → k ≡ Superblock
+    kind_is : (k : SlotKind) → is_superblock_kind k ≡ true → k ≡ Superblock
     kind_is File e = absurd (cc)
     kind_is Directory e = absurd (cc)
     kind_is Superblock e = refl
 
     go : (all : List Slot) → c.slots ≡ all → slice_get (content_entries raw) 0 ≡ Some superblock_entry
-    go [] f = absurd (let k : starts_superblock [] ≡ true = ap starts_superblock (sym f) ∙ first in cc)
+    go [] f = absurd (let k : superblock_first [] ≡ true = ap superblock_first (sym f) ∙ first in cc)
     go (t ∷ ts) f =
-        let kind : t.kind ≡ Superblock = kind_is t.kind (ap starts_superblock (sym f) ∙ first) in
+        let kind : t.kind ≡ Superblock = kind_is t.kind (ap superblock_first (sym f) ∙ first) in
         let called : t.name ≡ codes "littlefs" = same_Some t.name (codes "littlefs") (ap (λ (z : List Slot). option_map (λ (x : Slot). x.name) (slice_get z 0)) (sym f) ∙ name) in
         named_anew raw c t have h (ap (λ (z : List Slot). slice_get z 0) f) ∙ ap₂ (λ k (b : List ℕ). Some (log_entry (type_of k) 0 b)) kind called

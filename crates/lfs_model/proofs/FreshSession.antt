@@ -1,7 +1,7 @@
 -- A session on a fresh disk, for examples: its disk's pairs, and what a loss of power leaves before the first call.
 use Rattle.std.proofs.Common.{ℕ, ◌≡◌, ◌<◌, inl, true, List, [], ◌∷◌, Some, refl, sym, ap, ◌∙◌, arith}
 use Rattle.std.specs.Prelude.{All, slice_index}
-use Rattle.lfs_model.proofs.Common.{Disk, ordered_disk, disk_block, block_count, default_profile, content_at, zero_gstate, Pair, AreLinked, anchor_address, pairs_blocks, Tree, IsAccepted, IsWritableDisk, disk_tree, fresh_pair, empty_tree, Operation, Session, DiskSummary, IsSummary, SessionHealth, HasFailed, Healthy, mounted_session, operation_result, HasEither, IsHealthySession, SurvivesPowerLoss, small_image, two_commit_image, fresh_state, blockless_disk}
+use Rattle.lfs_model.proofs.Common.{Disk, ordered_disk, disk_block, block_count, default_profile, content_at, zero_gstate, Pair, AreLinked, anchor_address, pairs_blocks, Tree, IsAccepted, IsWritableDisk, disk_tree, fresh_pair, empty_tree, Operation, Session, DiskSummary, IsSummary, SessionHealth, HasFailed, Healthy, mounted_session, operation_result, HasEitherTree, IsHealthySession, SurvivesPowerLoss, small_image, two_commit_image, fresh_state, blockless_disk}
 use Rattle.lfs_model.specs.declared.order.NameOrder.{NameOrder}
 use Rattle.lfs_model.proofs.Uniqueness.{one_thread}
 use Rattle.lfs_model.proofs.Fresh.{accepted, writable, shows}
@@ -32,7 +32,7 @@ surrounds = record { profile = refl; block_size = refl; page = refl; block_count
 pub is_at_work : IsHealthySession fresh_state (mounted_session empty_tree) pairs around
 is_at_work = record { healthy = refl; accepted = are_accepted; writable = writable small_image fresh; surrounds = surrounds }
 
-pub still_there : (before after : Tree) → before ≡ empty_tree → HasEither small_image before after
+pub still_there : (before after : Tree) → before ≡ empty_tree → HasEitherTree small_image before after
 still_there before after e = record { pairs = pairs; accepted = are_accepted; writable = writable small_image fresh; tree = inl (shows small_image ∙ sym e) }
 
 -- a disk without blocks has no thread

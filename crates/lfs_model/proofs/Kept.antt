@@ -1,8 +1,8 @@
 -- What runs of a session keep: the session that the accepted operations define, the writing profile, and nothing to recover.
 use Rattle.std.proofs.Common.{◌≡◌, Bool, true, false, cond, List, [], ◌∷◌, Option, Some, None, refl, sym, ap, subst, ◌∙◌}
-use Rattle.lfs_model.proofs.Common.{same_Some, Disk, block_count, ordered_disk, content_at, Pair, Tree, IsAccepted, IsWritable, disk_tree, CallEvent, Operation, Reply, Refusal, Session, DiskSummary, operation_result, operation_effect, unless_refused, operation_refusal, SessionHealth, HasFailed, Healthy, is_remount, remount_result, other_result, mounted_session, IsFreshDisk, fresh_pair, empty_tree, IsRecovered, SystemState, ShowsTree, HealthyHasDiskTree, is_refusal, IsEffect, IsStep, AreSteps, HasDiskTree, IsMounted}
+use Rattle.lfs_model.proofs.Common.{same_Some, Disk, block_count, ordered_disk, content_at, Pair, Tree, IsAccepted, IsWritable, disk_tree, CallEvent, Operation, Reply, Refusal, Session, DiskSummary, operation_result, operation_effect, unless_refused, operation_refusal, SessionHealth, HasFailed, Healthy, is_remount, remount_result, other_result, mounted_session, IsFreshDisk, fresh_pair, empty_tree, IsRecovered, SystemState, ShowsTree, HealthyHasDiskTree, is_refusal, IsDiskEffect, IsStep, AreSteps, HasDiskTree, IsMounted}
 use Rattle.lfs_model.specs.session.Operations as ops
-use Rattle.lfs_model.specs.session.Headline.{IsReached, session_after, session_after_all, IsRecoveredDisk, SessionMatchesDisk}
+use Rattle.lfs_model.specs.session.Headline.{LeadsFromFresh, session_after, session_after_all, IsRecoveredDisk, SessionMatchesDisk}
 use Rattle.lfs_model.proofs.Uniqueness.{one_thread}
 use Rattle.lfs_model.proofs.OtherOrder.{same_tree}
 use Rattle.lfs_model.proofs.Fresh.{accepted, writable}
@@ -74,7 +74,7 @@ ArePairs Q disk = (ps : List Pair) × (IsAccepted disk ps × Q disk ps)
 
 -- each operation that is applied keeps it
 abbrev pub StaysCarried : (Disk → List Pair → Type 0) → Type 0
-StaysCarried Q = (disk new : Disk) (ps qs : List Pair) (s : Session) (op : Operation) (calls : List CallEvent) → IsEffect disk ps s op calls new qs → Q disk ps → Q new qs
+StaysCarried Q = (disk new : Disk) (ps qs : List Pair) (s : Session) (op : Operation) (calls : List CallEvent) → IsDiskEffect disk ps s op calls new qs → Q disk ps → Q new qs
 
 pub turn_keeps : (Q : Disk → List Pair → Type 0) → StaysCarried Q → (from to : SystemState) (op : Operation) (reply : Reply) → IsStep from op reply to → IsHealthy from.state → ArePairs Q from.disk →
     ArePairs Q to.disk
@@ -157,15 +157,15 @@ remount_mounts from to turn = go turn.answered.shown turn.answered.answers
 
 -- ---- from a fresh disk
 
-fresh_shows : (operations : List Operation) (replies : List Reply) (at : SystemState) (c : IsReached operations replies at) → SessionMatchesDisk c.from operations replies at
+fresh_shows : (operations : List Operation) (replies : List Reply) (at : SystemState) (c : LeadsFromFresh operations replies at) → SessionMatchesDisk c.from operations replies at
 fresh_shows operations replies at c = session_shows c.from at operations replies (fresh_begins c.from c.fresh c.mounts).0 c.session_steps
 
-pub fresh_true : (operations : List Operation) (replies : List Reply) (at : SystemState) → IsReached operations replies at → HasDiskTree at
+pub fresh_true : (operations : List Operation) (replies : List Reply) (at : SystemState) → LeadsFromFresh operations replies at → HasDiskTree at
 fresh_true operations replies at c = (fresh_shows operations replies at c).shows
 
-pub fresh_defined : (operations : List Operation) (replies : List Reply) (at : SystemState) (around : DiskSummary) → IsReached operations replies at →
+pub fresh_defined : (operations : List Operation) (replies : List Reply) (at : SystemState) (around : DiskSummary) → LeadsFromFresh operations replies at →
     at.state ≡ Healthy (session_after_all around (mounted_session empty_tree) operations replies)
 fresh_defined operations replies at around c = (fresh_shows operations replies at c).defined around (mounted_session empty_tree) c.mounts
 
-pub fresh_settled : (operations : List Operation) (replies : List Reply) (at : SystemState) → IsReached operations replies at → IsRecoveredDisk at.disk
+pub fresh_settled : (operations : List Operation) (replies : List Reply) (at : SystemState) → LeadsFromFresh operations replies at → IsRecoveredDisk at.disk
 fresh_settled operations replies at c = (fresh_shows operations replies at c).settled (fresh_begins c.from c.fresh c.mounts).1

@@ -4,16 +4,16 @@ use Rattle.std.specs.Prelude.{All, slice_index}
 use Rattle.lfs_model.proofs.Common.{enumerate_from, ne_eqb, length-take-le, Blocks, HasBlockSizes, block_bytes, word_at, pointer_count, block_capacity, bytes_before_block, block_count_for, blocks_to_head, IsSkipList, block_data, list_bytes}
 use Rattle.std.proofs.lemmas.List.{get_or_at}
 use lib.Count.{trailing_le}
-use Rattle.lfs_model.specs.format.SkipLists.{blocks_from_index}
+use Rattle.lfs_model.specs.format.SkipLists.{block_count_from}
 use Rattle.lfs_model.proofs.Files.{length_back}
 
 -- ---- blocks
 
-one_more : (m block_size i a : ℕ) → blocks_from_index (suc m) block_size i (suc a) ≡ 1 + blocks_from_index m block_size (i + 1) (suc a - block_capacity block_size i)
-one_more m block_size i a = ap (λ (t : Bool). if t then 0 else 1 + blocks_from_index m block_size (i + 1) (suc a - block_capacity block_size i)) (ne_eqb (suc a) 0 (λ e. absurd (omega (arith, e))))
+one_more : (m block_size i a : ℕ) → block_count_from (suc m) block_size i (suc a) ≡ 1 + block_count_from m block_size (i + 1) (suc a - block_capacity block_size i)
+one_more m block_size i a = ap (λ (t : Bool). if t then 0 else 1 + block_count_from m block_size (i + 1) (suc a - block_capacity block_size i)) (ne_eqb (suc a) 0 (λ e. absurd (omega (arith, e))))
 
 -- more bytes take no fewer blocks
-fewer : (m n block_size i a b : ℕ) → m ≤ n → a ≤ b → blocks_from_index m block_size i a ≤ blocks_from_index n block_size i b
+fewer : (m n block_size i a b : ℕ) → m ≤ n → a ≤ b → block_count_from m block_size i a ≤ block_count_from n block_size i b
 fewer zero n block_size i a b le few = omega arith
 fewer (suc m) zero block_size i a b le few = absurd (omega arith)
 fewer (suc m) (suc n) block_size i zero b le few = omega arith
@@ -42,21 +42,21 @@ pub block_capacity-pos : (block_size i : ℕ) → 1024 ≤ block_size → 892 �
 block_capacity-pos block_size i large = let few = pointer_count-le i in omega arith
 
 -- the blocks of a list, from block i on, hold all its bytes
-enough_from : (block_size steps i size : ℕ) → 1024 ≤ block_size → size ≤ steps → bytes_before_block block_size i + size ≤ bytes_before_block block_size (i + blocks_from_index steps block_size i size)
+enough_from : (block_size steps i size : ℕ) → 1024 ≤ block_size → size ≤ steps → bytes_before_block block_size i + size ≤ bytes_before_block block_size (i + block_count_from steps block_size i size)
 enough_from block_size steps i zero large le = go steps
   where
     none : bytes_before_block block_size i + 0 ≤ bytes_before_block block_size (i + 0)
     none = let e : i + 0 ≡ i = omega arith in omega (arith, ap (bytes_before_block block_size) e)
 
-    go : (steps : ℕ) → bytes_before_block block_size i + 0 ≤ bytes_before_block block_size (i + blocks_from_index steps block_size i 0)
+    go : (steps : ℕ) → bytes_before_block block_size i + 0 ≤ bytes_before_block block_size (i + block_count_from steps block_size i 0)
     go zero = none
     go (suc n) = none
 enough_from block_size zero i (suc size) large le = absurd (omega arith)
 enough_from block_size (suc steps) i (suc size) large le =
     let one = block_capacity-pos block_size i large in
-    let count : ℕ = blocks_from_index steps block_size (i + 1) (suc size - block_capacity block_size i) in
+    let count : ℕ = block_count_from steps block_size (i + 1) (suc size - block_capacity block_size i) in
     let behind : bytes_before_block block_size (i + 1) + (suc size - block_capacity block_size i) ≤ bytes_before_block block_size (i + 1 + count) = enough_from block_size steps (i + 1) (suc size - block_capacity block_size i) large (omega arith) in
-    let e : i + blocks_from_index (suc steps) block_size i (suc size) ≡ i + 1 + count = omega (arith, one_more steps block_size i size) in
+    let e : i + block_count_from (suc steps) block_size i (suc size) ≡ i + 1 + count = omega (arith, one_more steps block_size i size) in
     omega (arith, behind, ap (bytes_before_block block_size) e, ap (bytes_before_block block_size) (add-one i))
 
 pub block_count_for-enough : (block_size size : ℕ) → 1024 ≤ block_size → size ≤ bytes_before_block block_size (block_count_for block_size size)

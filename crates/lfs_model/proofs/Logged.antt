@@ -1,6 +1,6 @@
 -- What a log comes to can be written again.
 use Rattle.std.proofs.Common.{ℕ, zero, suc, ◌≡◌, ◌≢◌, ◌+◌, ◌-◌, ◌^◌, ◌<◌, ◌≤◌, ◌==◌, ◌&&◌, Bool, true, false, cond, not, List, [], ◌∷◌, ◌++◌, length, take, drop, flat_map, inl, inr, Option, Some, None, refl, sym, ap, subst, ◌∙◌, arith, replicate, eqb-true, get_or-drop}
-use Rattle.lfs_model.proofs.Common.{length-take, get_or_past, insert, remove, option_and_then, option_map, same_Some, cases_lt, ne_eqb, ltb-false, ltb-true, make_tag, tag_type, tag_id, tag_length, abstract_type, tag_chunk, tag_data_size, LogEntry, entry_end, IsCommit, AreAdjacent, block_entries, Attributes, RawSlot, RawContent, content_after_one, content_after, slots_after, changed_at, padded_slots, empty_slot, slot_of_id, attributes_with, attributes_without, empty_raw_content, is_known_tag, has_needed_id, is_attribute_removal, create_tag_type, delete_tag_type, read_address, read_gstate, hard_tail_type, IsAllowedPart, AttributesInOrder, IsFormedSlot, AreWellFormed, IsWellFormed, HasLength, HaveLengths, AreWords, IsAllowedTail, MoveStateFits}
+use Rattle.lfs_model.proofs.Common.{length-take, get_or_past, insert, remove, option_and_then, option_map, same_Some, cases_lt, ne_eqb, ltb-false, ltb-true, make_tag, tag_type, tag_id, tag_length, abstract_type, tag_chunk, tag_data_size, LogEntry, entry_end, IsCommit, AreAdjacent, block_entries, Attributes, RawSlot, RawContent, content_after_one, content_after, slots_after, changed_at, padded_slots, empty_slot, slot_of_id, attributes_with, attributes_without, empty_raw_content, is_known_tag, has_needed_id, is_attribute_removal, create_tag_type, delete_tag_type, read_address, read_gstate, hard_tail_type, IsAllowedPart, AttributesInOrder, IsFormedSlot, AreWellFormed, IsWellFormed, HasTagLength, HaveTagLengths, AreWords, IsAllowedTail, MoveStateFits}
 use Rattle.std.proofs.lemmas.List.{get_or-take}
 use Rattle.std.specs.Prelude.{slice_set, slice_index, nat_lt, nat_le, is_some}
 use Rattle.std.proofs.lemmas.Bool.{eqb-false}
@@ -76,10 +76,10 @@ changed_parts f slots i h g = set_parts slots i (f (slot_of_id slots i)) h (g (s
 -- ---- an entry
 
 -- the bytes of an entry that removes nothing are as many as its length says
-stored_length : (e : LogEntry) → HasLength e → is_attribute_removal e.tag ≡ false → length e.bytes ≡ tag_length e.tag
+stored_length : (e : LogEntry) → HasTagLength e → is_attribute_removal e.tag ≡ false → length e.bytes ≡ tag_length e.tag
 stored_length e h r = h.size ∙ ap (λ b. cond b 0 (tag_length e.tag)) r
 
-stored_short : (e : LogEntry) → HasLength e → length e.bytes < 0x3ff
+stored_short : (e : LogEntry) → HasTagLength e → length e.bytes < 0x3ff
 stored_short e h = go (is_attribute_removal e.tag) refl
   where
     go : (b : Bool) → is_attribute_removal e.tag ≡ b → length e.bytes < 0x3ff
@@ -91,7 +91,7 @@ stored_short e h = go (is_attribute_removal e.tag) refl
         omega arith
 
 -- a name or a struct is a part
-part_of : (e : LogEntry) (class : ℕ) → HasLength e → class ≢ 3 → abstract_type e.tag ≡ class → is_known_tag e.tag ≡ true → IsAllowedPart class (tag_type e.tag, e.bytes)
+part_of : (e : LogEntry) (class : ℕ) → HasTagLength e → class ≢ 3 → abstract_type e.tag ≡ class → is_known_tag e.tag ≡ true → IsAllowedPart class (tag_type e.tag, e.bytes)
 part_of e class h n c t = go (is_attribute_removal e.tag) refl
   where
     go : (b : Bool) → is_attribute_removal e.tag ≡ b → IsAllowedPart class (tag_type e.tag, e.bytes)
@@ -117,7 +117,7 @@ one_of false false false low lower true structs a b c d e new ha hb hc hd he is 
 one_of false false false low lower false true a b c d e new ha hb hc hd he is = subst AreWellFormed (same_Some d new is) (hd refl)
 one_of false false false low lower false false a b c d e new ha hb hc hd he is = subst AreWellFormed (same_Some e new is) he
 
-with_attribute_ascends : (e : LogEntry) (attributes : Attributes) → HasLength e → AttributesInOrder 0 attributes → AttributesInOrder 0 (attributes_after e attributes)
+with_attribute_ascends : (e : LogEntry) (attributes : Attributes) → HasTagLength e → AttributesInOrder 0 attributes → AttributesInOrder 0 (attributes_after e attributes)
 with_attribute_ascends e attributes h up = go (is_attribute_removal e.tag)
   where
     go : (b : Bool) → AttributesInOrder 0 (cond b (attributes_without (tag_chunk e.tag) attributes) (attributes_with (tag_chunk e.tag) e.bytes attributes))
@@ -125,7 +125,7 @@ with_attribute_ascends e attributes h up = go (is_attribute_removal e.tag)
     go false = put_ascends 0 (tag_chunk e.tag) e.bytes attributes (omega arith) (omega arith) (stored_short e h) up
 
 -- the slots after an entry
-slots_parts : (slots : List RawSlot) (e : LogEntry) (new : List RawSlot) → AreWellFormed slots → HasLength e → is_known_tag e.tag ≡ true → slots_after slots e ≡ Some new → AreWellFormed new
+slots_parts : (slots : List RawSlot) (e : LogEntry) (new : List RawSlot) → AreWellFormed slots → HasTagLength e → is_known_tag e.tag ≡ true → slots_after slots e ≡ Some new → AreWellFormed new
 slots_parts slots e new h stored t is =
     one_of (abstract_type e.tag == 0) (tag_type e.tag == create_tag_type) (tag_type e.tag == delete_tag_type) (nat_le (tag_id e.tag) (length slots)) (nat_lt (tag_id e.tag) (length slots))
     (not (is_some (slot_of_id slots (tag_id e.tag)).name)) (abstract_type e.tag == 2)
@@ -159,7 +159,7 @@ move_parts bytes h = record { kind = omega arith; id = omega arith; pair = addre
 
 -- ---- a log
 
-logged_after : (c : RawContent) (e : LogEntry) (d : RawContent) → IsWellFormed c → HasLength e → content_after_one c e ≡ Some d → IsWellFormed d
+logged_after : (c : RawContent) (e : LogEntry) (d : RawContent) → IsWellFormed c → HasTagLength e → content_after_one c e ≡ Some d → IsWellFormed d
 logged_after c e d h stored is = go (abstract_type e.tag == 5) (is_known_tag e.tag) (has_needed_id e.tag) (abstract_type e.tag == 6) (abstract_type e.tag == 7) (slots_after c.slots e) refl refl refl refl is
   where
     go : (five t i six seven : Bool) (slots : Option (List RawSlot)) → is_known_tag e.tag ≡ t → (abstract_type e.tag == 6) ≡ six → (abstract_type e.tag == 7) ≡ seven → slots_after c.slots e ≡ slots
@@ -173,7 +173,7 @@ logged_after c e d h stored is = go (abstract_type e.tag == 5) (is_known_tag e.t
     go false true true false false None u v w s f = absurd (cc)
     go false true true false false (Some all) u v w s f = subst IsWellFormed (same_Some _ d f) (record { slots = slots_parts c.slots e all h.slots stored u s; tail = h.tail; move = h.move })
 
-pub logged_after_all : (c : RawContent) (es : List LogEntry) (d : RawContent) → IsWellFormed c → HaveLengths es → content_after c es ≡ Some d → IsWellFormed d
+pub logged_after_all : (c : RawContent) (es : List LogEntry) (d : RawContent) → IsWellFormed c → HaveTagLengths es → content_after c es ≡ Some d → IsWellFormed d
 logged_after_all c [] d h stored is = subst IsWellFormed (same_Some c d is) h
 logged_after_all c (e ∷ es) d h stored is = go (content_after_one c e) refl is (λ b s. logged_after_all b es d s stored.1)
   where
@@ -187,7 +187,7 @@ nothing_logged = record { slots = tt; tail = tt; move = record { kind = omega ar
 
 -- ---- entries that are stored
 
-pub stored_append : (xs ys : List LogEntry) → HaveLengths xs → HaveLengths ys → HaveLengths (xs ++ ys)
+pub stored_append : (xs ys : List LogEntry) → HaveTagLengths xs → HaveTagLengths ys → HaveTagLengths (xs ++ ys)
 stored_append [] ys h k = k
 stored_append (x ∷ xs) ys h k = (h.0, stored_append xs ys h.1 k)
 
@@ -197,22 +197,22 @@ byte_of_part block n at i h = elim (cases_lt i n) [
   | inr le ↦ rw (get_or_past (take n (drop at block)) i 0 (omega (arith, length-take n (drop at block)))) (omega arith)
 ]
 
-stored_entry : (block : List ℕ) (at before : ℕ) (e : LogEntry) → ((i : ℕ) → slice_index block i < 256) → entry_at block at before ≡ Some e → HasLength e
+stored_entry : (block : List ℕ) (at before : ℕ) (e : LogEntry) → ((i : ℕ) → slice_index block i < 256) → entry_at block at before ≡ Some e → HasTagLength e
 stored_entry block at before e h is =
     let l = lies block at before e is in
     record { size = l.size; bytes = λ _ i. rw l.bytes (byte_of_part block (tag_data_size e.tag) (at + 4) i h) }
 
-stored_commit : (block : List ℕ) (start at before : ℕ) (es : List LogEntry) (end last : ℕ) → ((i : ℕ) → slice_index block i < 256) → IsCommit block start at before es end last → HaveLengths es
+stored_commit : (block : List ℕ) (start at before : ℕ) (es : List LogEntry) (end last : ℕ) → ((i : ℕ) → slice_index block i < 256) → IsCommit block start at before es end last → HaveTagLengths es
 stored_commit block start at before [] end last h c = absurd c
 stored_commit block start at before (e ∷ []) end last h c = (stored_entry block at before e h c.0, tt)
 stored_commit block start at before (e ∷ f ∷ es) end last h c = (stored_entry block at before e h c.0, stored_commit block start (entry_end at e) e.tag (f ∷ es) end last h c.2)
 
-stored_chain : (block : List ℕ) (start at before : ℕ) (cs : List (List LogEntry)) (end last : ℕ) → ((i : ℕ) → slice_index block i < 256) → AreAdjacent block start at before cs end last → HaveLengths (flat_map (λ c. c) cs)
+stored_chain : (block : List ℕ) (start at before : ℕ) (cs : List (List LogEntry)) (end last : ℕ) → ((i : ℕ) → slice_index block i < 256) → AreAdjacent block start at before cs end last → HaveTagLengths (flat_map (λ c. c) cs)
 stored_chain block start at before [] end last h c = tt
 stored_chain block start at before (es ∷ cs) end last h (mid, carry, commit, rest) =
     stored_append es (flat_map (λ c. c) cs) (stored_commit block start at before es mid carry h commit) (stored_chain block mid mid carry cs end last h rest)
 
-pub stored_log : (block : List ℕ) → ((i : ℕ) → slice_index block i < 256) → HaveLengths (block_entries block)
+pub stored_log : (block : List ℕ) → ((i : ℕ) → slice_index block i < 256) → HaveTagLengths (block_entries block)
 unfolding chain_of
 stored_log block h = stored_chain block 0 4 0xffffffff _ _ _ h (chain_sound (length block - 4) block 0 4 0xffffffff)
 

@@ -3,7 +3,7 @@ use Rattle.std.proofs.Common.{◌≡◌, true, [], ◌∷◌, ◌++◌, Some, No
 use Rattle.std.specs.Prelude.{codes, nat_eq}
 use Rattle.std.specs.List.{IsDistinct}
 use Rattle.lfs_model.proofs.Common.{All-from_recursion, default_profile, content_at, current_block, Slot, zero_gstate, Pair, anchor_address, BeginsWith, superblock_entry, used_blocks, IsFreshDisk, fresh_pair, superblock_slot, file_slot, Session, DiskSummary, mounted_session, empty_tree, operation_effect, IsStep, creating_flags, large_image, large_fresh_state, state_after_open}
-use Rattle.lfs_model.specs.format.Crc.{crc_of, next_bits}
+use Rattle.lfs_model.specs.format.Crc.{crc_of, checksum_after_bits}
 use Rattle.lfs_model.specs.format.Log.{chain_of, chain_within, commit_within, entry_at, closes}
 use Rattle.lfs_model.specs.session.Operations as ops
 use Rattle.lfs_model.specs.examples.Runs.{image_after_open}
@@ -38,7 +38,7 @@ abbrev site : Site
 site = record { chain = []; before = []; left = []; right = []; after = [] }
 
 pub fresh : IsFreshDisk large_image
-unfolding chain_of chain_within commit_within entry_at closes crc_of next_bits
+unfolding chain_of chain_within commit_within entry_at closes crc_of checksum_after_bits
 fresh = record {
   geometry = record { power = refl; pages = omega arith; no_smaller = omega arith; no_larger = omega arith; whole_pages = refl; no_fewer = omega arith; no_more = omega arith; bytes = omega arith };
   content = refl;
@@ -46,11 +46,11 @@ fresh = record {
 }
 
 holds : content_at image_after_open anchor_address ≡ Some next.content
-unfolding chain_of chain_within commit_within entry_at closes crc_of next_bits
+unfolding chain_of chain_within commit_within entry_at closes crc_of checksum_after_bits
 holds = refl
 
 begins : BeginsWith (current_block image_after_open anchor_address) superblock_entry
-unfolding chain_of chain_within commit_within entry_at closes crc_of next_bits
+unfolding chain_of chain_within commit_within entry_at closes crc_of checksum_after_bits
 begins = refl
 
 distinct : IsDistinct nat_eq (([] ++ []) ++ used_blocks large_image (pair ∷ []))

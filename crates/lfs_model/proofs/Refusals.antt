@@ -1,7 +1,7 @@
 -- An image is refused where a rule fails, by tests that compute on a literal image.
 use Rattle.std.proofs.Common.{ℕ, suc, ◌≡◌, ◌<◌, inl, inr, Bool, true, false, not, ◌&&◌, ◌==◌, nat_eq, List, [], ◌∷◌, ◌++◌, Option, Some, None, refl, sym, ap, subst, ◌∙◌, AllPairs, arith, length, drop, eq-eqb, lt-ltb, get_or}
 use Rattle.std.specs.Prelude.{All, slice_get, nat_lt}
-use Rattle.lfs_model.proofs.Common.{AllByRecursion, list_all, and_from, or_left, or_right, same_Some, slice_get_within, get_or_from_slice_get, All-from_recursion, All-head, All-tail, list_any-from_Any, drop-drop, Disk, block_count, disk_block, Name, name_cmp, is_less, is_valid_name, same_name, PairContent, Slot, SlotKind, File, Directory, Superblock, Struct, Inline, Ctz, Branch, Gstate, same_pair, content_at, has_commit, Pair, anchor_address, AreLinked, tail_target, pairs_blocks, pairs_from_root, starts_superblock, pairs_gstate, root_address, ThreadDirectory, Path, root_slot, names_at, same_path, IsAccepted, first_pair_slots, HasValidMove, IsThreadEntry, IsEntry, IsTreeEntry, HasKind, BeginsWithSuperblock, SameExceptVersion, IsSuperblock, chain_pairs, after_chain, IsFormedList, IsWritable, IsWritableSlot, LeadsTo, IsReachedBySome, all_directories, all_entries, used_blocks, all_unmoved_slots}
+use Rattle.lfs_model.proofs.Common.{AllByRecursion, list_all, and_from, or_left, or_right, same_Some, slice_get_within, get_or_from_slice_get, All-from_recursion, All-head, All-tail, list_any-from_Any, drop-drop, Disk, block_count, disk_block, Name, name_cmp, is_less, is_valid_name, same_name, PairContent, Slot, SlotKind, File, Directory, Superblock, Struct, Inline, Ctz, Branch, Gstate, same_pair, content_at, has_commit, Pair, anchor_address, AreLinked, tail_target, pairs_blocks, pairs_from_root, superblock_first, pairs_gstate, root_address, ThreadDirectory, Path, root_slot, names_at, same_path, IsAccepted, first_pair_slots, HasValidMove, IsThreadEntry, IsEntry, IsTreeEntry, HasKind, BeginsWithSuperblock, SameExceptVersion, IsSuperblock, chain_pairs, after_chain, IsFormedList, IsWritable, IsWritableSlot, LeadsTo, IsReachedBySome, all_directories, all_entries, used_blocks, all_unmoved_slots}
 use Rattle.std.specs.List.{IsDistinct}
 use Rattle.std.specs.declared.cmp.Ordering.TheVariants.{Less}
 use Rattle.byteorder.specs.Endian.{little_number}
@@ -159,7 +159,7 @@ pub fails_slots : (disk : Disk) (ps : List Pair) → list_all (λ p. list_all is
 fails_slots disk ps fails a = let e = all_to (λ p. list_all is_entry p.content.slots) (λ p. All IsTreeEntry p.content.slots) (λ p. all_to is_entry IsTreeEntry entry_to p.content.slots) (after_chain ps) a.slots in cc
 
 -- the root directory doesn't begin with a superblock
-pub fails_root : (disk : Disk) (ps : List Pair) → starts_superblock (first_pair_slots (pairs_from_root ps)) ≡ false → IsAccepted disk ps → ⊥
+pub fails_root : (disk : Disk) (ps : List Pair) → superblock_first (first_pair_slots (pairs_from_root ps)) ≡ false → IsAccepted disk ps → ⊥
 fails_root disk ps fails a = let e = sym a.root ∙ fails in cc
 
 same_to : (xs ys : List ℕ) → xs ≡ ys → same_name xs ys ≡ true

@@ -1,7 +1,7 @@
 -- A pair that a hard tail names is at two other blocks, for the step that moves a worn pair: nothing else changes.
 use Rattle.std.proofs.Common.{◌≡◌, ◌<◌, ◌≤◌, true, false, List, [], ◌∷◌, ◌++◌, length, Some, refl, sym, ap, ap₂, subst, ◌∙◌, arith, append_assoc, append-nil, length-append}
 use Rattle.std.specs.Prelude.{All}
-use Rattle.lfs_model.proofs.Common.{recursion_from_All, Disk, Slot, PairContent, zero_gstate, FitsInPair, gstate_xor, Pair, address_blocks, is_hard_tail, pairs_gstate, starts_superblock, count_before_root, IsAccepted, IsWritableSlot, HasNoEmpties, IsWritable, ends_joined, IsWritableChange}
+use Rattle.lfs_model.proofs.Common.{recursion_from_All, Disk, Slot, PairContent, zero_gstate, FitsInPair, gstate_xor, Pair, address_blocks, is_hard_tail, pairs_gstate, superblock_first, count_before_root, IsAccepted, IsWritableSlot, HasNoEmpties, IsWritable, ends_joined, IsWritableChange}
 use Rattle.lfs_model.proofs.Counts.{Each, each_right}
 use Rattle.lfs_model.proofs.Global.{HasNoMove, gstate_cons, gstate_kept, gstate_right}
 use Rattle.lfs_model.proofs.Listings.{IsRun}
@@ -157,7 +157,7 @@ relocate disk new chain front p x q y back r c = record { taken = taken; ready =
       still_none = subst HasNoMove (sym still) no_move;
       device = subst (λ z. IsDevice disk new z (thread_at w (q ∷ y ∷ []))) old_end (subst (IsDevice disk new ((chain ++ front) ++ p ∷ x ∷ back)) new_end c.device);
       free = subst (λ z. AreFree disk z (address_blocks y.at) []) old_end c.free;
-      shape = move_shape p x q y c.at c.tail (ap (λ (z : PairContent). z.tail) c.same) (λ e. ap starts_superblock c.slots ∙ e);
+      shape = move_shape p x q y c.at c.tail (ap (λ (z : PairContent). z.tail) c.same) (λ e. ap superblock_first c.slots ∙ e);
       was = sym (append-nil (all_slots (p ∷ x ∷ [])));
       is = slots_are ∙ sym (append-nil (all_slots (p ∷ x ∷ [])));
       splice = record { front = λ e. refl; entries = tt; lists = tt; blocks = λ b. omega arith };

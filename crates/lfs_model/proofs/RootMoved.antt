@@ -1,7 +1,7 @@
 -- The root directory begins at another pair, for the step that moves a worn one: the image shows the same tree.
 use Rattle.std.proofs.Common.{ℕ, ◌≡◌, inl, inr, ◌+◌, ◌<◌, ◌≤◌, Bool, true, false, cond, not, nat_eq, ◌&&◌, List, [], ◌∷◌, ◌++◌, length, Some, refl, sym, ap, ap₂, subst, ◌∙◌, arith, filter, option_and_then, AllPairs, Less}
 use Rattle.std.specs.Prelude.{All}
-use Rattle.lfs_model.proofs.Common.{option_map, false_from_ne_true, and_parts, All-from_recursion, recursion_from_All, flat_map-append, Disk, SameGeometry, block_count, Name, name_cmp, superblock_fields, Slot, Inline, Ctz, Branch, Gstate, is_superblock, same_pair, content_at, current_block, Pair, anchor_address, AreLinked, from_first_slots, is_hard_tail, has_no_entry, may_continue, has_superblock, count_before_root, IsThread, pairs_blocks, pairs_gstate, pairs_from_root, root_address, first_address, slots_not_moved, unmoved_entries, ThreadDirectory, directories_with_pair, pair_directories, directory_slots, BeginsAt, Path, EntryMap, entry_named, branch_address, slot_at_path, root_slot, address_at_path, names_at, struct_node, beneath_slot, beneath_root, all_directories, all_entries, LeadsTo, IsReachedBySome, struct_list_bytes, struct_blocks, disk_tree, all_unmoved_slots, used_blocks, accepts_version, IsSuperblock, BeginsWith, superblock_entry, IsSuperblockFirst, SuperblockFirstIfAny, HasStruct, BeginsWithSuperblock, first_slot_name, chain_pairs, IsFormedList, IsAccepted, slot_of, number_occurrences, AnyByRecursion, KeepsStruct}
+use Rattle.lfs_model.proofs.Common.{option_map, false_from_ne_true, and_parts, All-from_recursion, recursion_from_All, flat_map-append, Disk, SameGeometry, block_count, Name, name_cmp, superblock_fields, Slot, Inline, Ctz, Branch, Gstate, is_superblock, same_pair, content_at, current_block, Pair, anchor_address, AreLinked, pairs_from_filled, is_hard_tail, has_no_entry, chain_may_continue, has_superblock, count_before_root, IsThread, pairs_blocks, pairs_gstate, pairs_from_root, root_address, first_address, slots_not_moved, unmoved_entries, ThreadDirectory, directories_with_pair, pair_directories, directory_slots, BeginsAt, Path, EntryMap, entry_named, branch_address, slot_at_path, root_slot, address_at_path, names_at, struct_node, beneath_slot, beneath_root, all_directories, all_entries, LeadsTo, IsReachedBySome, struct_list_bytes, struct_blocks, disk_tree, all_unmoved_slots, used_blocks, accepts_version, IsSuperblock, BeginsWith, superblock_entry, IsSuperblockFirst, SuperblockFirstIfAny, RepeatsSuperblockStruct, BeginsWithSuperblock, first_slot_name, chain_pairs, IsFormedList, IsAccepted, slot_of, number_occurrences, AnyByRecursion, KeepsStruct}
 use Rattle.std.specs.List.{IsDistinct}
 use Rattle.lfs_model.specs.declared.limits.AcceptedVersions.{AcceptedVersions}
 use Rattle.lfs_model.specs.declared.limits.Profile.{Profile}
@@ -21,17 +21,17 @@ use Rattle.lfs_model.proofs.Splices.{all_slots, file_blocks, unmoved_in, count_f
 
 pub chain_bare : (chain dirs : List Pair) → IsChain chain dirs → Each (λ q. has_no_entry q.content.slots ≡ true) chain
 chain_bare [] dirs h = tt
-chain_bare (c ∷ chain) dirs h = go (has_superblock (chain ++ dirs) && may_continue c) refl h (chain_bare chain dirs)
+chain_bare (c ∷ chain) dirs h = go (has_superblock (chain ++ dirs) && chain_may_continue c) refl h (chain_bare chain dirs)
   where
-    go : (t : Bool) → (has_superblock (chain ++ dirs) && may_continue c) ≡ t → cond t (1 + count_before_root (chain ++ dirs)) 0 ≡ length (c ∷ chain) →
+    go : (t : Bool) → (has_superblock (chain ++ dirs) && chain_may_continue c) ≡ t → cond t (1 + count_before_root (chain ++ dirs)) 0 ≡ length (c ∷ chain) →
         (IsChain chain dirs → Each (λ q. has_no_entry q.content.slots ≡ true) chain) → Each (λ q. has_no_entry q.content.slots ≡ true) (c ∷ chain)
-    go true e k next = ((and_parts (has_no_entry c.content.slots) (is_hard_tail c.content.tail) (and_parts (has_superblock (chain ++ dirs)) (may_continue c) e).1).0, next (omega arith))
+    go true e k next = ((and_parts (has_no_entry c.content.slots) (is_hard_tail c.content.tail) (and_parts (has_superblock (chain ++ dirs)) (chain_may_continue c) e).1).0, next (omega arith))
     go false e k next = absurd (omega arith)
 
 abbrev IsInline : Slot → Type 0
 IsInline u = (own : List ℕ) × (u.struct ≡ Inline own)
 
-inline_slots : (versions : AcceptedVersions) (bytes : List ℕ) (slots : List Slot) → has_no_entry slots ≡ true → SuperblockFirstIfAny (HasStruct versions bytes) slots → Each IsInline slots
+inline_slots : (versions : AcceptedVersions) (bytes : List ℕ) (slots : List Slot) → has_no_entry slots ≡ true → SuperblockFirstIfAny (RepeatsSuperblockStruct versions bytes) slots → Each IsInline slots
 inline_slots versions bytes [] e h = tt
 inline_slots versions bytes (u ∷ []) e h = ((h.1.0, h.1.1.0), tt)
 inline_slots versions bytes (u ∷ v ∷ slots) e h = absurd (cc)
@@ -81,7 +81,7 @@ pairs_count b xs ys = ap (number_occurrences b) (flat_map-append (λ (p : Pair).
 pub record IsRootMoved (disk new : Disk) (chain : List Pair) (r : Pair) (now : List Pair) (s : Pair) (rest : List Pair) (extra : List ℕ) : Type 0 where
   pub geometry : SameGeometry disk new
   pub contents : All (λ p. content_at new p.at ≡ Some p.content) (now ++ s ∷ rest)
-  pub first : BeginsWith (current_block new (first_address (from_first_slots (now ++ s ∷ rest)))) superblock_entry
+  pub first : BeginsWith (current_block new (first_address (pairs_from_filled (now ++ s ∷ rest)))) superblock_entry
   pub files : All (λ u. SameFileBlocks disk new u.struct) (all_unmoved_slots (chain ++ r ∷ rest))
   pub links : AreLinked (Some anchor_address) (now ++ s ∷ rest)
   pub slots : s.content.slots ≡ r.content.slots
@@ -90,7 +90,7 @@ pub record IsRootMoved (disk new : Disk) (chain : List Pair) (r : Pair) (now : L
   -- the superblock's pairs
   pub is_chain : IsChain now (s ∷ rest)
   pub marked : (m : Mark) → Each (λ q. SuperblockFirstIfAny (HasMark m) q.content.slots) chain → IsSuperblockFirst (HasMark m) r.content.slots → Each (λ q. SuperblockFirstIfAny (HasMark m) q.content.slots) now
-  pub named : first_slot_name (from_first_slots (now ++ s ∷ rest)) ≡ first_slot_name (from_first_slots (chain ++ r ∷ rest))
+  pub named : first_slot_name (pairs_from_filled (now ++ s ∷ rest)) ≡ first_slot_name (pairs_from_filled (chain ++ r ∷ rest))
   -- blocks
   pub blocks : (b : ℕ) → number_occurrences b (pairs_blocks (now ++ s ∷ [])) ≤ number_occurrences b extra + number_occurrences b (pairs_blocks (chain ++ r ∷ []))
   pub free : AreFree disk (chain ++ r ∷ rest) extra []
@@ -129,7 +129,7 @@ module _ (disk new : Disk) (chain : List Pair) (r : Pair) (now : List Pair) (s :
   held = hold_from_rules (StructMark disk.profile.versions bytes) chain r rest was_chain ok.superblock.1.1 ok.root ok.slots
 
   held_now : HoldSlots (StructMark disk.profile.versions bytes) true (s ∷ rest)
-  held_now = (subst (IsSuperblockFirst (HasStruct disk.profile.versions bytes)) (sym c.slots) held.1.0, held.1.1)
+  held_now = (subst (IsSuperblockFirst (RepeatsSuperblockStruct disk.profile.versions bytes)) (sym c.slots) held.1.0, held.1.1)
 
   marked_now : Each (λ q. BeginsWithSuperblock disk.profile.versions bytes q.content.slots) now
   marked_now = c.marked (StructMark disk.profile.versions bytes) held.0 held.1.0

@@ -2,7 +2,7 @@
 -- the superblock's, or leaves the superblock's pair.
 use Rattle.std.proofs.Common.{ℕ, ◌≡◌, ◌+◌, ◌≤◌, true, false, cond, ◌&&◌, List, [], ◌∷◌, ◌++◌, length, take, drop, slice_get, zero, suc, ◌<◌, ◌-◌, take-append-drop, length-take, length-drop, option_map, Some, refl, sym, ap, ap₂, subst, ◌∙◌, arith, append_assoc, length-append}
 use Rattle.std.specs.Prelude.{All, sum_by}
-use Rattle.lfs_model.proofs.Common.{and_from, drop-append-add, sum_by-cons, All-from_recursion, recursion_from_All, Disk, SameGeometry, pair_capacity, slots_limit, Slot, PairContent, slot_size, FitsInPair, content_at, current_block, Pair, pairs_blocks, anchor_address, AreLinked, address_blocks, from_first_slots, first_address, has_slots, is_hard_tail, starts_superblock, starts_or_later, has_no_entry, may_continue, has_superblock, count_before_root, pairs_gstate, pairs_from_root, BeginsWith, superblock_entry, IsSuperblockFirst, SuperblockFirstIfAny, HasStruct, IsTreeEntry, first_slot_name, first_pair_slots, IsAccepted, IsWritableSlot, HasNoEmpties, IsWritable, SameFileBlocks, struct_blocks, all_unmoved_slots}
+use Rattle.lfs_model.proofs.Common.{and_from, drop-append-add, sum_by-cons, All-from_recursion, recursion_from_All, Disk, SameGeometry, pair_capacity, slots_limit, Slot, PairContent, slot_size, FitsInPair, content_at, current_block, Pair, pairs_blocks, anchor_address, AreLinked, address_blocks, pairs_from_filled, first_address, has_slots, is_hard_tail, superblock_first, superblock_or_later, has_no_entry, chain_may_continue, has_superblock, count_before_root, pairs_gstate, pairs_from_root, BeginsWith, superblock_entry, IsSuperblockFirst, SuperblockFirstIfAny, RepeatsSuperblockStruct, IsTreeEntry, first_slot_name, first_pair_slots, IsAccepted, IsWritableSlot, HasNoEmpties, IsWritable, SameFileBlocks, struct_blocks, all_unmoved_slots}
 use Rattle.lfs_model.specs.declared.limits.Profile.{Profile}
 use Rattle.lfs_model.proofs.Counts.{number_occurrences, Each}
 use Rattle.lfs_model.proofs.Global.{HasNoMove}
@@ -65,7 +65,7 @@ superblock_alike : (ps qs : List Pair) → SameOutlines ps qs → has_superblock
 superblock_alike [] [] h = refl
 superblock_alike [] (q ∷ qs) h = absurd h
 superblock_alike (p ∷ ps) [] h = absurd h
-superblock_alike (p ∷ ps) (q ∷ qs) h = ap₂ (λ slots b. starts_or_later slots b) h.0 (ap₂ (λ x y. x && y) h.1 (superblock_alike ps qs h.2))
+superblock_alike (p ∷ ps) (q ∷ qs) h = ap₂ (λ slots b. superblock_or_later slots b) h.0 (ap₂ (λ x y. x && y) h.1 (superblock_alike ps qs h.2))
 
 count_alike : (ps qs : List Pair) → SameOutlines ps qs → count_before_root qs ≡ count_before_root ps
 count_alike [] [] h = refl
@@ -74,19 +74,19 @@ count_alike (p ∷ ps) [] h = absurd h
 count_alike (p ∷ ps) (q ∷ qs) h =
     ap₂ (λ b n. cond b (1 + n) 0) (ap₂ (λ x y. x && y) (superblock_alike ps qs h.2) (ap₂ (λ slots b. has_no_entry slots && b) h.0 h.1)) (count_alike ps qs h.2)
 
-named_alike : (ps qs : List Pair) → SameOutlines ps qs → first_slot_name (from_first_slots qs) ≡ first_slot_name (from_first_slots ps)
+named_alike : (ps qs : List Pair) → SameOutlines ps qs → first_slot_name (pairs_from_filled qs) ≡ first_slot_name (pairs_from_filled ps)
 named_alike [] [] h = refl
 named_alike [] (q ∷ qs) h = absurd h
 named_alike (p ∷ ps) [] h = absurd h
 named_alike (p ∷ ps) (q ∷ qs) h = go p.content.slots q.content.slots h.0 refl refl (named_alike ps qs h.2)
   where
-    go : (s t : List Slot) → t ≡ s → p.content.slots ≡ s → q.content.slots ≡ t → first_slot_name (from_first_slots qs) ≡ first_slot_name (from_first_slots ps) →
-        first_slot_name (from_first_slots (q ∷ qs)) ≡ first_slot_name (from_first_slots (p ∷ ps))
-    go [] [] e f k next = ap (λ z. first_slot_name (cond (has_slots z) (q ∷ qs) (from_first_slots qs))) k ∙ next ∙ sym (ap (λ z. first_slot_name (cond (has_slots z) (p ∷ ps) (from_first_slots ps))) f)
+    go : (s t : List Slot) → t ≡ s → p.content.slots ≡ s → q.content.slots ≡ t → first_slot_name (pairs_from_filled qs) ≡ first_slot_name (pairs_from_filled ps) →
+        first_slot_name (pairs_from_filled (q ∷ qs)) ≡ first_slot_name (pairs_from_filled (p ∷ ps))
+    go [] [] e f k next = ap (λ z. first_slot_name (cond (has_slots z) (q ∷ qs) (pairs_from_filled qs))) k ∙ next ∙ sym (ap (λ z. first_slot_name (cond (has_slots z) (p ∷ ps) (pairs_from_filled ps))) f)
     go [] (y ∷ t) e f k next = absurd (cc)
     go (x ∷ s) [] e f k next = absurd (cc)
-    go (x ∷ s) (y ∷ t) e f k next = ap (λ z. first_slot_name (cond (has_slots z) (q ∷ qs) (from_first_slots qs))) k ∙ ap (λ z. first_slot_name (record { at = q.at; content = record { slots = z; tail = q.content.tail; move = q.content.move } } ∷ qs)) h.0
-        ∙ sym (ap (λ z. first_slot_name (cond (has_slots z) (p ∷ ps) (from_first_slots ps))) f)
+    go (x ∷ s) (y ∷ t) e f k next = ap (λ z. first_slot_name (cond (has_slots z) (q ∷ qs) (pairs_from_filled qs))) k ∙ ap (λ z. first_slot_name (record { at = q.at; content = record { slots = z; tail = q.content.tail; move = q.content.move } } ∷ qs)) h.0
+        ∙ sym (ap (λ z. first_slot_name (cond (has_slots z) (p ∷ ps) (pairs_from_filled ps))) f)
 
 each_alike : (P : List Slot → Type 0) (ps qs : List Pair) → SameOutlines ps qs → Each (λ r. P r.content.slots) ps → Each (λ r. P r.content.slots) qs
 each_alike P [] [] h k = tt
@@ -128,13 +128,13 @@ record HasPair (ps : List Pair) : Type 0 where
   others : List Pair
   is : ps ≡ first ∷ others
 
-has_pair : (ps : List Pair) → starts_superblock (first_pair_slots ps) ≡ true → HasPair ps
+has_pair : (ps : List Pair) → superblock_first (first_pair_slots ps) ≡ true → HasPair ps
 has_pair [] e = absurd (cc)
 has_pair (p ∷ ps) e = record { first = p; others = ps; is = refl }
 
 module _ (disk new : Disk) (front : List Pair) (p x q y : Pair) (back : List Pair) (ok : IsAccepted disk (front ++ p ∷ x ∷ back)) (fits : IsWritable disk (front ++ p ∷ x ∷ back))
     (none : HasNoMove (pairs_gstate (front ++ p ∷ x ∷ back))) (many : length front < count_before_root (front ++ p ∷ x ∷ back)) (c : IsRelocated disk new front p x q y back)
-    (first : BeginsWith (current_block new (first_address (from_first_slots (front ++ q ∷ y ∷ back)))) superblock_entry) where
+    (first : BeginsWith (current_block new (first_address (pairs_from_filled (front ++ q ∷ y ∷ back)))) superblock_entry) where
   abbrev old : List Pair
   old = front ++ p ∷ x ∷ back
 
@@ -168,7 +168,7 @@ module _ (disk new : Disk) (front : List Pair) (p x q y : Pair) (back : List Pai
       go (suc j) e =
           let count : count_before_root old ≡ length front + suc (suc j) = omega (arith, e) in
           let there : pairs_from_root old ≡ drop j back = ap (λ n. drop n old) count ∙ drop-append-add front (p ∷ x ∷ back) (suc (suc j)) in
-          let more = has_pair (drop j back) (ap (λ z. starts_superblock (first_pair_slots z)) (sym there) ∙ ok.root) in
+          let more = has_pair (drop j back) (ap (λ z. superblock_first (first_pair_slots z)) (sym there) ∙ ok.root) in
           let all : back ≡ take j back ++ more.first ∷ more.others = sym (take-append-drop j back) ∙ ap (λ z. take j back ++ z) more.is in
           record {
             chain = front ++ p ∷ x ∷ take j back;
@@ -197,7 +197,7 @@ module _ (disk new : Disk) (front : List Pair) (p x q y : Pair) (back : List Pai
   is_chain = count_alike (parted.chain ++ parted.r ∷ parted.rest) (parted.now ++ parted.s ∷ parted.rest) outlines_parted ∙ was_chain ∙ sym parted.alike
 
   shape : IsShape p (x ∷ []) q (y ∷ []) (y.at.0 ∷ y.at.1 ∷ [])
-  shape = move_shape p x q y c.at c.tail (ap (λ (z : PairContent). z.tail) c.same) (λ e. ap starts_superblock c.slots ∙ e)
+  shape = move_shape p x q y c.at c.tail (ap (λ (z : PairContent). z.tail) c.same) (λ e. ap superblock_first c.slots ∙ e)
 
   blocks_old : (b : ℕ) → number_occurrences b (pairs_blocks old) ≡ number_occurrences b (pairs_blocks (parted.chain ++ parted.r ∷ [])) + number_occurrences b (pairs_blocks parted.rest)
   blocks_old b = omega (arith, ap (λ z. number_occurrences b (pairs_blocks z)) parted.was, pairs_count b parted.chain (parted.r ∷ parted.rest), pairs_count b (parted.r ∷ []) parted.rest, pairs_count b parted.chain (parted.r ∷ []))
@@ -209,7 +209,7 @@ module _ (disk new : Disk) (front : List Pair) (p x q y : Pair) (back : List Pai
   moved = record {
     geometry = c.device.geometry;
     contents = subst (All (λ r. content_at new r.at ≡ Some r.content)) parted.is c.device.contents;
-    first = subst (λ z. BeginsWith (current_block new (first_address (from_first_slots z))) superblock_entry) parted.is first;
+    first = subst (λ z. BeginsWith (current_block new (first_address (pairs_from_filled z))) superblock_entry) parted.is first;
     files = subst (λ z. All (λ u. SameFileBlocks disk new u.struct) (all_unmoved_slots z)) parted.was c.device.files;
     links = subst (AreLinked (Some anchor_address)) parted.is (links_changed front (p ∷ x ∷ back) (q ∷ y ∷ back) (shape.links back) (Some anchor_address) ok.thread.links);
     slots = parted.slots;
@@ -241,7 +241,7 @@ headed : (P : Slot → Type 0) (slots : List Slot) → IsSuperblockFirst P slots
 headed P [] h = absurd h
 headed P (s ∷ slots) h = h
 
-take_bare : (slots : List Slot) → starts_superblock slots ≡ true → has_no_entry (take 1 slots) ≡ true
+take_bare : (slots : List Slot) → superblock_first slots ≡ true → has_no_entry (take 1 slots) ≡ true
 take_bare [] e = refl
 take_bare (s ∷ slots) e = e
 
@@ -264,7 +264,7 @@ module _ (disk new : Disk) (x q y : Pair) (back : List Pair) (ok : IsAccepted di
   bytes = ok.superblock.0
 
   -- the superblock comes first
-  held : IsSuperblockFirst (HasStruct disk.profile.versions bytes) x.content.slots
+  held : IsSuperblockFirst (RepeatsSuperblockStruct disk.profile.versions bytes) x.content.slots
   held = (hold_from_rules (StructMark disk.profile.versions bytes) [] x back number ok.superblock.1.1 ok.root ok.slots).1.0
 
   kept_marked : (m : Mark) → IsSuperblockFirst (HasMark m) x.content.slots → IsSuperblockFirst (HasMark m) q.content.slots
@@ -274,17 +274,17 @@ module _ (disk new : Disk) (x q y : Pair) (back : List Pair) (ok : IsAccepted di
   pub kept_bare : file_blocks new (take 1 x.content.slots) ≡ []
   kept_bare = go x.content.slots held
     where
-      go : (slots : List Slot) → IsSuperblockFirst (HasStruct disk.profile.versions bytes) slots → file_blocks new (take 1 slots) ≡ []
+      go : (slots : List Slot) → IsSuperblockFirst (RepeatsSuperblockStruct disk.profile.versions bytes) slots → file_blocks new (take 1 slots) ≡ []
       go [] h = absurd h
       go (s ∷ slots) h = ap (λ t. struct_blocks new t ++ []) h.1.1.0
 
-  x_starts : starts_superblock x.content.slots ≡ true
+  x_starts : superblock_first x.content.slots ≡ true
   x_starts = starts x.content.slots (StructMark disk.profile.versions bytes) held
 
-  old_front : from_first_slots (x ∷ back) ≡ x ∷ back
+  old_front : pairs_from_filled (x ∷ back) ≡ x ∷ back
   old_front = from_held (StructMark disk.profile.versions bytes) x back held
 
-  new_front : from_first_slots (q ∷ y ∷ back) ≡ q ∷ y ∷ back
+  new_front : pairs_from_filled (q ∷ y ∷ back) ≡ q ∷ y ∷ back
   new_front = from_held (StructMark disk.profile.versions bytes) q (y ∷ back) (kept_marked (StructMark disk.profile.versions bytes) held)
 
   split : IsShape x [] q (y ∷ []) (y.at.0 ∷ y.at.1 ∷ [])
@@ -295,7 +295,7 @@ module _ (disk new : Disk) (x q y : Pair) (back : List Pair) (ok : IsAccepted di
 
   expanded_chain : IsChain (q ∷ []) (y ∷ back)
   expanded_chain = ap₂ (λ b n. cond b (1 + n) 0)
-      (and_from (has_superblock (y ∷ back)) (may_continue q) (meets_starting y back (ap starts_superblock c.slots ∙ x_starts))
+      (and_from (has_superblock (y ∷ back)) (chain_may_continue q) (meets_starting y back (ap superblock_first c.slots ∙ x_starts))
       (and_from (has_no_entry q.content.slots) (is_hard_tail q.content.tail) (ap has_no_entry c.kept ∙ take_bare x.content.slots x_starts) (ap is_hard_tail c.tail)))
       behind_root
 

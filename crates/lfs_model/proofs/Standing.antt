@@ -1,7 +1,7 @@
 -- What is on a device's disk after its last call, also after one that failed.
 use Rattle.std.proofs.Common.{◌≡◌, ◌≢◌, Bool, true, false, List, [], ◌∷◌, ◌++◌, refl, sym, ap, subst, ◌∙◌}
-use Rattle.lfs_model.proofs.Common.{append_cancel_right, All-head, Blocks, Disk, CallEvent, AllCalls, AllCallsSince, LeftByLatest, HoldsAtLosses, ConformsTo, CallsConform, LeftByLoss, ErasesCleanly, FailLikeLossSince, Operation, FailsLikeLoss, IsHealthySession, HasEither, SurvivesInCalls, SurvivesPowerLoss, with_blocks, HealthyHasDiskTree, SystemState, Session, DiskSummary, operation_result, disk_tree, Pair, Tree}
-use Rattle.lfs_model.specs.crash.Standing.{AreConforming}
+use Rattle.lfs_model.proofs.Common.{append_cancel_right, All-head, Blocks, Disk, CallEvent, AllCalls, AllCallsSince, LeftByLatest, HoldsAtLosses, ConformsTo, CallsConform, LeftByLoss, ErasesCleanly, FailLikeLossSince, Operation, FailsLikeLoss, IsHealthySession, HasEitherTree, SurvivesInCalls, SurvivesPowerLoss, with_blocks, HealthyHasDiskTree, SystemState, Session, DiskSummary, operation_result, disk_tree, Pair, Tree}
+use Rattle.lfs_model.specs.crash.Standing.{SameConformingDevice}
 use Rattle.lfs_model.proofs.AfterStops.{left_before}
 use Rattle.lfs_model.proofs.Kept.{one_tree}
 use Rattle.lfs_model.proofs.Conformance.{conforming_stops}
@@ -49,7 +49,7 @@ stands_since {P} {old} {new} first last called then now conforms since cleanly f
 
 -- two states of a device that had been called before
 pub one_device : (from to : SystemState) → from.calls ≢ [] → LeftByLatest from.calls from.disk.blocks → LeftByLatest to.calls to.disk.blocks → CallsConform to.calls
-    → to.disk ≡ with_blocks to.disk.blocks from.disk → AreConforming from to
+    → to.disk ≡ with_blocks to.disk.blocks from.disk → SameConformingDevice from to
 one_device from to called then now conforms same = record {
   stays = λ silent. same ∙ ap (λ (blocks : Blocks). with_blocks blocks from.disk)
       (sym (same_blocks from.calls from.disk.blocks to.disk.blocks called then (subst (λ (history : List CallEvent). LeftByLatest history to.disk.blocks) silent now)));
@@ -58,16 +58,16 @@ one_device from to called then now conforms same = record {
   conforms = conforms;
 }
 
-pub device_survives_loss : (from to : SystemState) (op : Operation) → HealthyHasDiskTree from.disk from.state → AreConforming from to → SurvivesInCalls from op to → SurvivesPowerLoss from op to
+pub device_survives_loss : (from to : SystemState) (op : Operation) → HealthyHasDiskTree from.disk from.state → SameConformingDevice from to → SurvivesInCalls from op to → SurvivesPowerLoss from op to
 device_survives_loss from to op agrees device survives = record { stops = survives; stands = behind }
   where
     behind : (s : Session) (ps : List Pair) (around : DiskSummary) → IsHealthySession from s ps around
-        → AllCallsSince ErasesCleanly from.calls to.calls → AllCallsSince FailsLikeLoss from.calls to.calls → HasEither to.disk s.tree (operation_result around s op).1.tree
+        → AllCallsSince ErasesCleanly from.calls to.calls → AllCallsSince FailsLikeLoss from.calls to.calls → HasEitherTree to.disk s.tree (operation_result around s op).1.tree
     behind s ps around work cleanly fails =
         let after : Tree = (operation_result around s op).1.tree in
         let tree = one_tree from.disk (disk_tree from.disk ps) s.tree (ps, (work.accepted, refl)) (subst (HealthyHasDiskTree from.disk) work.healthy agrees) in
         let here = left_before from.disk ps s.tree after work.accepted work.writable tree in
-        subst (λ (disk : Disk). HasEither disk s.tree after) (sym device.same)
-        (stands {P = λ blocks. HasEither (with_blocks blocks from.disk) s.tree after} to.disk.blocks
-        (λ silent. subst (λ (disk : Disk). HasEither disk s.tree after) (sym (device.stays silent) ∙ device.same) here)
+        subst (λ (disk : Disk). HasEitherTree disk s.tree after) (sym device.same)
+        (stands {P = λ blocks. HasEitherTree (with_blocks blocks from.disk) s.tree after} to.disk.blocks
+        (λ silent. subst (λ (disk : Disk). HasEitherTree disk s.tree after) (sym (device.stays silent) ∙ device.same) here)
         device.newest device.conforms (survives s ps around work cleanly) cleanly fails)

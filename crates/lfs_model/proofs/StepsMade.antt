@@ -1,12 +1,12 @@
 -- From what an operation does to the disk to its step in a run.
 use Rattle.std.proofs.Common.{◌≡◌, true, false, cond, List, [], ◌++◌, Option, Some, None, refl, sym, ap, subst, ◌∙◌}
-use Rattle.lfs_model.proofs.Common.{Disk, SameGeometry, block_count, ordered_disk, content_at, zero_gstate, Pair, pairs_gstate, IsAccepted, DiskView, HasDiskView, disk_view, disk_tree, IsWritable, CallEvent, Operation, Reply, Refusal, Session, DiskSummary, FileReader, file_reader, file_numbered, operation_refusal, operation_effect, read_effect, unless_refused, IsSummary, SessionHealth, HasFailed, Healthy, is_remount, remount_result, other_result, mounted_session, IsRecovered, is_refusal, IsEffect, IsStep}
+use Rattle.lfs_model.proofs.Common.{Disk, SameGeometry, block_count, ordered_disk, content_at, zero_gstate, Pair, pairs_gstate, IsAccepted, DiskView, HasDiskView, disk_view, disk_tree, IsWritable, CallEvent, Operation, Reply, Refusal, Session, DiskSummary, FileReader, file_reader, file_numbered, operation_refusal, operation_effect, read_effect, unless_refused, IsSummary, SessionHealth, HasFailed, Healthy, is_remount, remount_result, other_result, mounted_session, IsRecovered, is_refusal, IsDiskEffect, IsStep}
 use Rattle.lfs_model.specs.declared.order.NameOrder.{NameOrder}
 use Rattle.lfs_model.specs.declared.order.NameOrder.TheVariants.{LongerFirst, ShorterFirst}
 use Rattle.lfs_model.specs.session.Operations as ops
 use Rattle.lfs_model.specs.session.Operations.{Failed}
 use Rattle.lfs_model.specs.session.Recovery.{recovers_first}
-use Rattle.lfs_model.specs.session.Run.{IsReply, is_read_only, opens_existing, writes_or_truncates, needs_no_call, renames_itself, is_recover, edits_slots, WriteNothing, IsUntouched, disk_read_by}
+use Rattle.lfs_model.specs.session.Run.{IsReply, is_read_only, opens_existing, writes_or_truncates, needs_no_device, renames_itself, is_recover, edits_slots, WriteNothing, IsUntouched, disk_read_by}
 use Rattle.lfs_model.proofs.Uniqueness.{one_thread}
 use Rattle.lfs_model.proofs.OtherOrder.{same_pairs, writable_in_order}
 use Rattle.lfs_model.proofs.Arranged.{IsFinished}
@@ -43,12 +43,12 @@ same_geometry : (op : Operation) (disk new : Disk) → is_remount op ≡ false �
 same_geometry op disk new other geometry = subst (λ d. SameGeometry d new) (sym (same_disk_read op new.order disk other)) geometry
 
 -- what an applied operation does is said of any pairs, and those of an accepted disk are known
-carried_any : (disk new : Disk) (ps qs : List Pair) (s : Session) (op : Operation) (calls : List CallEvent) → IsAccepted disk ps → IsAccepted new qs → IsEffect disk ps s op calls new qs →
-    (t : Session) → Healthy s ≡ Healthy t → (xs ys : List Pair) → IsAccepted disk xs → IsAccepted new ys → IsEffect disk xs t op calls new ys
+carried_any : (disk new : Disk) (ps qs : List Pair) (s : Session) (op : Operation) (calls : List CallEvent) → IsAccepted disk ps → IsAccepted new qs → IsDiskEffect disk ps s op calls new qs →
+    (t : Session) → Healthy s ≡ Healthy t → (xs ys : List Pair) → IsAccepted disk xs → IsAccepted new ys → IsDiskEffect disk xs t op calls new ys
 carried_any disk new ps qs s op calls a b c t e xs ys x y =
-    subst (λ z. IsEffect disk xs z op calls new ys) (same_session s t e)
-    (subst (λ z. IsEffect disk z s op calls new ys) (one_thread (content_at disk) (block_count disk) ps xs a.thread x.thread)
-    (subst (IsEffect disk ps s op calls new) (one_thread (content_at new) (block_count new) qs ys b.thread y.thread) c))
+    subst (λ z. IsDiskEffect disk xs z op calls new ys) (same_session s t e)
+    (subst (λ z. IsDiskEffect disk z s op calls new ys) (one_thread (content_at disk) (block_count disk) ps xs a.thread x.thread)
+    (subst (IsDiskEffect disk ps s op calls new) (one_thread (content_at new) (block_count new) qs ys b.thread y.thread) c))
 
 -- an operation that is applied isn't answered by a refusal
 pub no_refusal : (around : DiskSummary) (s : Session) (op : Operation) → is_refusal (operation_effect around s op).0 ≡ false
@@ -85,7 +85,7 @@ pub record IsProper (disk : Disk) (ps : List Pair) (s : Session) (op : Operation
   pub asks : is_read_only s op ≡ false
   pub fills : writes_or_truncates op ≡ false
   pub opens : opens_existing s op ≡ true → pairs_gstate ps ≡ zero_gstate → new ≡ disk
-  pub silent : needs_no_call s op ≡ true → (new ≡ disk) × (calls ≡ [])
+  pub silent : needs_no_device s op ≡ true → (new ≡ disk) × (calls ≡ [])
   pub itself : renames_itself op ≡ true → IsUntouched disk calls new
   pub nothing_left : is_recover op ≡ true → IsRecovered ps → IsUntouched disk calls new
 
@@ -108,7 +108,7 @@ spread_step disk ps s around op new qs calls old over accepted proper done = rec
     never : is_refusal (operation_effect around s op).0 ≡ true → ⊥
     never h = let k = sym (no_refusal around s op) ∙ h in absurd (cc)
 
-    carried : IsEffect disk ps s op calls new qs
+    carried : IsDiskEffect disk ps s op calls new qs
     carried = record {
       asks = λ e. absurd (let k = sym proper.asks ∙ e in cc);
       opens = proper.opens;
@@ -131,7 +131,7 @@ completed_step disk ps s around op new qs calls old over accepted proper done =
 -- ---- an operation that leaves the disk: a question, or one that finds nothing to do
 
 pub idle_step : (disk : Disk) (ps : List Pair) (s : Session) (around : DiskSummary) (op : Operation) (calls old : List CallEvent) → IsOver disk ps s around → operation_refusal around s op ≡ None →
-    is_remount op ≡ false → (operation_effect around s op).1.tree ≡ s.tree → recovers_first op ≡ false → edits_slots s op ≡ false → WriteNothing calls → (needs_no_call s op ≡ true → calls ≡ []) →
+    is_remount op ≡ false → (operation_effect around s op).1.tree ≡ s.tree → recovers_first op ≡ false → edits_slots s op ≡ false → WriteNothing calls → (needs_no_device s op ≡ true → calls ≡ []) →
     IsStep (record { disk = disk; calls = old; state = Healthy s }) op (operation_effect around s op).0 (record { disk = disk; calls = calls ++ old; state = Healthy (operation_effect around s op).1 })
 idle_step disk ps s around op calls old over accepted other same none still writes silent = record {
   answered = answered_by disk disk.order ps s around op (operation_effect around s op).0 (operation_effect around s op).1 over other (ap (λ r. unless_refused r s (operation_effect around s op)) accepted);
@@ -145,7 +145,7 @@ idle_step disk ps s around op calls old over accepted other same none still writ
   effect_on_disk = λ h t e xs ys x y. carried_any disk disk ps ps s op calls over.accepted over.accepted carried t e xs ys x y;
 }
   where
-    carried : IsEffect disk ps s op calls disk ps
+    carried : IsDiskEffect disk ps s op calls disk ps
     carried = record {
       asks = λ e. (sym (same_disk_read op disk.order disk other), writes);
       opens = λ e f. refl;
@@ -160,14 +160,14 @@ idle_step disk ps s around op calls old over accepted other same none still writ
     }
 
 pub asked_step : (disk : Disk) (ps : List Pair) (s : Session) (around : DiskSummary) (op : Operation) (calls old : List CallEvent) → IsOver disk ps s around → operation_refusal around s op ≡ None →
-    is_remount op ≡ false → is_read_only s op ≡ true → (operation_effect around s op).1.tree ≡ s.tree → recovers_first op ≡ false → edits_slots s op ≡ false → WriteNothing calls → (needs_no_call s op ≡ true → calls ≡ []) →
+    is_remount op ≡ false → is_read_only s op ≡ true → (operation_effect around s op).1.tree ≡ s.tree → recovers_first op ≡ false → edits_slots s op ≡ false → WriteNothing calls → (needs_no_device s op ≡ true → calls ≡ []) →
     IsStep (record { disk = disk; calls = old; state = Healthy s }) op (operation_effect around s op).0 (record { disk = disk; calls = calls ++ old; state = Healthy (operation_effect around s op).1 })
 asked_step disk ps s around op calls old over accepted other asks same none still writes silent = idle_step disk ps s around op calls old over accepted other same none still writes silent
 
 -- ---- a write or a truncate: blocks that the view doesn't show
 
 pub filled_step : (disk : Disk) (ps : List Pair) (s : Session) (around : DiskSummary) (op : Operation) (new : Disk) (qs : List Pair) (calls old : List CallEvent) → IsOver disk ps s around →
-    operation_refusal around s op ≡ None → writes_or_truncates op ≡ true → needs_no_call s op ≡ false → SameGeometry disk new → IsAccepted new qs → qs ≡ ps → disk_view new qs ≡ disk_view disk ps → IsRecovered qs → (IsWritable disk ps → IsWritable new qs) →
+    operation_refusal around s op ≡ None → writes_or_truncates op ≡ true → needs_no_device s op ≡ false → SameGeometry disk new → IsAccepted new qs → qs ≡ ps → disk_view new qs ≡ disk_view disk ps → IsRecovered qs → (IsWritable disk ps → IsWritable new qs) →
     IsStep (record { disk = disk; calls = old; state = Healthy s }) op (operation_effect around s op).0 (record { disk = new; calls = calls ++ old; state = Healthy (operation_effect around s op).1 })
 filled_step disk ps s around op new qs calls old over accepted fill needs geometry ok pairs same recovered profile = record {
   answered = answered_by disk new.order ps s around op (operation_effect around s op).0 (operation_effect around s op).1 over (other op fill) (ap (λ r. unless_refused r s (operation_effect around s op)) accepted);
@@ -196,7 +196,7 @@ filled_step disk ps s around op new qs calls old over accepted fill needs geomet
         let k = one_thread (content_at disk) (block_count disk) h.0 ps h.1.0.thread over.accepted.thread in
         (qs, (ok, h.1.1 ∙ ap (disk_view disk) k ∙ sym same))
 
-    carried : (op : Operation) → writes_or_truncates op ≡ true → needs_no_call s op ≡ false → IsEffect disk ps s op calls new qs
+    carried : (op : Operation) → writes_or_truncates op ≡ true → needs_no_device s op ≡ false → IsDiskEffect disk ps s op calls new qs
     carried (ops.Write fd bytes) e needs = record {
       asks = λ f. absurd (cc);
       opens = λ f. absurd (cc);
@@ -267,7 +267,7 @@ remounted_step disk order ps around state calls old surrounds ok longer writes =
   effect_on_disk = λ h t e xs ys x y. carried_of t xs ys x y;
 }
   where
-    carried_of : (t : Session) (xs ys : List Pair) → IsAccepted disk xs → IsAccepted (ordered_disk order disk) ys → IsEffect disk xs t ops.Remount calls (ordered_disk order disk) ys
+    carried_of : (t : Session) (xs ys : List Pair) → IsAccepted disk xs → IsAccepted (ordered_disk order disk) ys → IsDiskEffect disk xs t ops.Remount calls (ordered_disk order disk) ys
     carried_of t xs ys x y =
         let same = same_pairs order disk xs ys x y in
         record {

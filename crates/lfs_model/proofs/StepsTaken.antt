@@ -1,7 +1,7 @@
 -- A step of an operation leads to an accepted disk in the writing profile, with the tree from before the operation or the one from after it.
 use Rattle.std.proofs.Common.{ℕ, ◌≡◌, ◌≢◌, inl, Bool, true, false, List, [], ◌∷◌, ◌++◌, Option, Some, None, arith, sym, subst, ◌∙◌, append-nil}
 use Rattle.std.specs.Prelude.{All}
-use Rattle.lfs_model.proofs.Common.{All-from_recursion, recursion_from_All, Disk, Slot, Tail, same_pair, FitsInPair, Pair, is_hard_tail, Path, Tree, IsWritable, IsWritableSlot, HasNoEmpties, LeadsTo, disk_tree, pair_with_slots, FitsPair, HasEither, IsWritableChange}
+use Rattle.lfs_model.proofs.Common.{All-from_recursion, recursion_from_All, Disk, Slot, Tail, same_pair, FitsInPair, Pair, is_hard_tail, Path, Tree, IsWritable, IsWritableSlot, HasNoEmpties, LeadsTo, disk_tree, pair_with_slots, FitsPair, HasEitherTree, IsWritableChange}
 use Rattle.lfs_model.proofs.Counts.{Each, each_append, each_left, each_right, each_pieces}
 use Rattle.lfs_model.proofs.Laws.{PathAddresses}
 use Rattle.lfs_model.proofs.Changes.{IsChangedImage}
@@ -28,7 +28,7 @@ pub taken_then : (a b c : Disk) (ps qs rs : List Pair) (f g : Tree → Tree) (v 
 taken_then a b c ps qs rs f g v w parts first second = record { follows = follows_then a b c ps qs rs f g v w parts first.follows second.follows; writable = second.writable }
 
 -- the tree is still the one from before, or already the one from after it
-pub taken_before : (disk : Disk) (ps : List Pair) (new : Disk) (qs : List Pair) (walk : PathAddresses → PathAddresses) (after : Tree) → IsWritableChange disk ps new qs (λ t. t) walk → HasEither new (disk_tree disk ps) after
+pub taken_before : (disk : Disk) (ps : List Pair) (new : Disk) (qs : List Pair) (walk : PathAddresses → PathAddresses) (after : Tree) → IsWritableChange disk ps new qs (λ t. t) walk → HasEitherTree new (disk_tree disk ps) after
 taken_before disk ps new qs walk after step = record { pairs = qs; accepted = step.follows.accepted; writable = step.writable; tree = inl step.follows.shows }
 
 -- ---- the profile of a pair that changes
@@ -82,10 +82,10 @@ module _ (disk : Disk) (w : Site) (p q : Pair) (more : List Pair) (l olds news r
   }
 
   -- the first step of a rename across pairs: the slot comes, and a set move names the old one
-  pub set_taken : (new : Disk) (wo : Site) (o : Pair) (lo : List Slot) (u : Slot) (ro : List Slot) (extra : List ℕ) (v : Slot) (change : Tree → Tree) (walk : PathAddresses → PathAddresses)
+  pub set_used : (new : Disk) (wo : Site) (o : Pair) (lo : List Slot) (u : Slot) (ro : List Slot) (extra : List ℕ) (v : Slot) (change : Tree → Tree) (walk : PathAddresses → PathAddresses)
       → IsMoveSet disk new wo o lo u ro w p [] q more extra l olds v r → IsChangedImage disk (thread_at w (p ∷ [])) new (thread_at w (q ∷ more)) change walk
       → IsWritableChange disk (thread_at w (p ∷ [])) new (thread_at w (q ∷ more)) change walk
-  set_taken new wo o lo u ro extra v change walk step follows = record {
+  set_used new wo o lo u ro extra v change walk step follows = record {
     follows = follows;
     writable = set_writable disk new wo o lo u ro w p [] q more extra l olds v r step c.writable put_within put_filled;
   }

@@ -1,7 +1,7 @@
 -- What a loss of power in a run leaves, and what a mount and a recovery make of it. So it is for any number of them.
 use Rattle.std.proofs.Common.{◌≡◌, ◌⊎◌, inl, inr, ℕ, Bool, true, false, cond, not, List, [], ◌∷◌, ◌++◌, Option, Some, None, refl, sym, ap, ap₂, subst, ◌∙◌, append_assoc}
 use Rattle.std.specs.Prelude.{All, Any}
-use Rattle.lfs_model.proofs.Common.{recursion_from_All, same_Some, append_cancel_right, Blocks, Disk, SameGeometry, block_count, ordered_disk, content_at, Pair, pairs_gstate, Tree, IsAccepted, IsWritable, IsWritableDisk, disk_tree, used_blocks, Operation, Reply, Session, DiskSummary, refuse_if, operation_result, unless_refused, SessionHealth, Healthy, is_remount, other_result, mounted_session, IsRecovered, SystemState, ShowsTree, HealthyHasDiskTree, is_refusal, IsStep, HasDiskTree, LeftByLoss, ErasesCleanly, HasEither, with_blocks, IsHealthySession, SurvivesPowerLoss, IsSafeStep, AreSafeSteps, IsRun, IsMounted, KeepsTree, LossAfterRun, SurvivesLoss, CallEvent, AllCalls, AllCallsSince, HoldsAtLosses, accepted_operation}
+use Rattle.lfs_model.proofs.Common.{recursion_from_All, same_Some, append_cancel_right, Blocks, Disk, SameGeometry, block_count, ordered_disk, content_at, Pair, pairs_gstate, Tree, IsAccepted, IsWritable, IsWritableDisk, disk_tree, used_blocks, Operation, Reply, Session, DiskSummary, refuse_if, operation_result, unless_refused, SessionHealth, Healthy, is_remount, other_result, mounted_session, IsRecovered, SystemState, ShowsTree, HealthyHasDiskTree, is_refusal, IsStep, HasDiskTree, LeftByLoss, ErasesCleanly, HasEitherTree, with_blocks, IsHealthySession, SurvivesPowerLoss, IsPerformed, ArePerformed, IsRun, IsMounted, KeepsTree, LossAfterRun, SurvivesLoss, CallEvent, AllCalls, AllCallsSince, HoldsAtLosses, accepted_operation}
 use Rattle.lfs_model.proofs.Counts.{Each, each_left}
 use Rattle.lfs_model.specs.declared.order.NameOrder.{NameOrder}
 use Rattle.lfs_model.specs.declared.limits.Profile.{Profile}
@@ -104,7 +104,7 @@ safe_with disk ps ok fits = record {
 shows_tree : (at : SystemState) (s : Session) → HasDiskTree at → at.state ≡ Healthy s → ShowsTree at.disk (Some s.tree)
 shows_tree at s agrees healthy = subst (HealthyHasDiskTree at.disk) (sym agrees.healthy ∙ healthy) agrees.shows
 
-stays : (at : SystemState) (s : Session) (ps : List Pair) (around : DiskSummary) (after : Tree) → HasDiskTree at → IsHealthySession at s ps around → HasEither at.disk s.tree after
+stays : (at : SystemState) (s : Session) (ps : List Pair) (around : DiskSummary) (after : Tree) → HasDiskTree at → IsHealthySession at s ps around → HasEitherTree at.disk s.tree after
 stays at s ps around after agrees work = left_before at.disk ps s.tree after work.accepted work.writable
     (one_tree at.disk (disk_tree at.disk ps) s.tree (ps, (work.accepted, refl)) (shows_tree at s agrees work.healthy))
 
@@ -130,17 +130,17 @@ stopped_has P old new blocks all since =
     among (e ∷ events) h (inr k) = among events h.1 k
 
 stop_leaves : (from to : SystemState) (op : Operation) (s : Session) (ps : List Pair) (around : DiskSummary) (left : Disk) → HasDiskTree from → IsHealthySession from s ps around → SurvivesPowerLoss from op to →
-    AllCallsSince ErasesCleanly from.calls to.calls → LeftBetween from to left → HasEither left s.tree (operation_result around s op).1.tree
+    AllCallsSince ErasesCleanly from.calls to.calls → LeftBetween from to left → HasEitherTree left s.tree (operation_result around s op).1.tree
 stop_leaves from to op s ps around left agrees work survives_loss cleanly stop = go stop
   where
     after : Tree
     after = (operation_result around s op).1.tree
 
-    go : LeftBetween from to left → HasEither left s.tree (operation_result around s op).1.tree
-    go (inl e) = subst (λ d. HasEither d s.tree after) (sym e) (stays from s ps around after agrees work)
-    go (inr (inl (blocks, (e, since)))) = subst (λ d. HasEither d s.tree after) (sym e)
-        (stopped_has (λ b. HasEither (with_blocks b from.disk) s.tree after) from.calls to.calls blocks (survives_loss.stops s ps around work cleanly) since)
-    go (inr (inr (e, fails))) = subst (λ d. HasEither d s.tree after) (sym e) (survives_loss.stands s ps around work cleanly fails)
+    go : LeftBetween from to left → HasEitherTree left s.tree (operation_result around s op).1.tree
+    go (inl e) = subst (λ d. HasEitherTree d s.tree after) (sym e) (stays from s ps around after agrees work)
+    go (inr (inl (blocks, (e, since)))) = subst (λ d. HasEitherTree d s.tree after) (sym e)
+        (stopped_has (λ b. HasEitherTree (with_blocks b from.disk) s.tree after) from.calls to.calls blocks (survives_loss.stops s ps around work cleanly) since)
+    go (inr (inr (e, fails))) = subst (λ d. HasEitherTree d s.tree after) (sym e) (survives_loss.stands s ps around work cleanly fails)
 
 -- ---- a stop in a run
 
@@ -170,7 +170,7 @@ in_one NoRemount from next op left agrees profile survives_loss cleanly stop =
 at_end : (NoRemount : Type 0) (at : SystemState) (left : Disk) → HasDiskTree at → IsWritableDisk at.disk → LeftBetween at at left → IsSurvivedWith (LossAfterRun at) NoRemount left
 at_end NoRemount at left agrees profile stop =
     let work = at_work at agrees profile in
-    let k = subst (λ d. HasEither d agrees.session.tree agrees.session.tree) (sym (here stop)) (stays at agrees.session profile.0 (around_of at.disk profile.0) agrees.session.tree agrees work) in
+    let k = subst (λ d. HasEitherTree d agrees.session.tree agrees.session.tree) (sym (here stop)) (stays at agrees.session profile.0 (around_of at.disk profile.0) agrees.session.tree agrees work) in
     record {
       order = left.order;
       stays = λ none. refl;
@@ -226,7 +226,7 @@ order_stays false disk new g e = g.order
 -- ---- the run
 
 -- one operation before others that are survived
-further : (before : Option Operation) (op : Operation) (reply : Reply) (Others : Disk → Tree → Type 0) (NoRemount : Type 0) (from next to : SystemState) (left : Disk) → IsSafeStep before from op reply next → AllCallsSince IsAny next.calls to.calls →
+further : (before : Option Operation) (op : Operation) (reply : Reply) (Others : Disk → Tree → Type 0) (NoRemount : Type 0) (from next to : SystemState) (left : Disk) → IsPerformed before from op reply next → AllCallsSince IsAny next.calls to.calls →
     (MeetsRunPremises next to → (left : Disk) → LeftBetween next to left → IsSurvivedWith Others NoRemount left) → MeetsRunPremises from to → LeftBetween from to left →
     IsSurvivedWith (λ disk tree. LossInOperation from op next disk tree ⊎ Others disk tree) ((is_remount op ≡ false) × NoRemount) left
 further before op reply Others NoRemount from next to left one second last may stop = go stop
@@ -280,7 +280,7 @@ abbrev NoRemountAmong : List Operation → Type 0
 NoRemountAmong operations = Each (λ op. is_remount op ≡ false) operations
 
 -- what comes after these operations is survived, so they are
-run_survived : (before : Option Operation) (operations : List Operation) (replies : List Reply) (AtEnd : Disk → Tree → Type 0) (from at to : SystemState) (left : Disk) (h : AreSafeSteps before from operations replies at) → AllCallsSince IsAny at.calls to.calls →
+run_survived : (before : Option Operation) (operations : List Operation) (replies : List Reply) (AtEnd : Disk → Tree → Type 0) (from at to : SystemState) (left : Disk) (h : ArePerformed before from operations replies at) → AllCallsSince IsAny at.calls to.calls →
     (MeetsRunPremises at to → (left : Disk) → LeftBetween at to left → IsSurvivedWith AtEnd (NoRemountAmong []) left) → MeetsRunPremises from to → LeftBetween from to left →
     IsSurvivedWith (λ disk tree. LossInOperations before from operations replies at h disk tree (AtEnd disk tree)) (NoRemountAmong operations) left
 run_survived before [] [] AtEnd from at to left h tail last may stop = last (subst (λ m. MeetsRunPremises m to) h may) left (subst (λ m. LeftBetween m to left) h stop)

@@ -1,7 +1,7 @@
 -- Session steps that survive stops survive them.
 use Rattle.std.proofs.Common.{ℕ, ◌≡◌, Bool, true, false, cond, List, Option, Some, refl, sym, ap, ap₂, subst, ◌∙◌}
 use Rattle.lfs_model.specs.declared.limits.Profile.{Profile}
-use Rattle.lfs_model.proofs.Common.{content_at, Disk, block_count, ordered_disk, Operation, Reply, IsHealthySession, HasEither, SurvivesInCalls, SurvivesPowerLoss, HealthyHasDiskTree, ShowsTree, IsStep, SystemState, is_refusal, Session, DiskSummary, Gstate, Healthy, SessionHealth, IsSummary, other_result, is_remount, remount_result, operation_result, Pair, IsAccepted, disk_tree, IsWritable}
+use Rattle.lfs_model.proofs.Common.{content_at, Disk, block_count, ordered_disk, Operation, Reply, IsHealthySession, HasEitherTree, SurvivesInCalls, SurvivesPowerLoss, HealthyHasDiskTree, ShowsTree, IsStep, SystemState, is_refusal, Session, DiskSummary, Gstate, Healthy, SessionHealth, IsSummary, other_result, is_remount, remount_result, operation_result, Pair, IsAccepted, disk_tree, IsWritable}
 use Rattle.lfs_model.proofs.AfterStops.{left_after, left_before}
 use Rattle.lfs_model.proofs.Kept.{one_tree}
 use Rattle.lfs_model.proofs.OtherOrder.{same_pairs, same_tree, writable_in_order}
@@ -33,26 +33,26 @@ same_surroundings disk ps qs a b one other around about =
 pub session_step_survives_loss : (from : SystemState) (op : Operation) (reply : Reply) (to : SystemState) → HealthyHasDiskTree from.disk from.state → IsStep from op reply to → SurvivesInCalls from op to → SurvivesPowerLoss from op to
 session_step_survives_loss from op reply to agrees turn survives = record { stops = survives; stands = λ s ps around work clean fails. stands s ps around work }
   where
-    stands : (s : Session) (ps : List Pair) (around : DiskSummary) → IsHealthySession from s ps around → HasEither to.disk s.tree (operation_result around s op).1.tree
+    stands : (s : Session) (ps : List Pair) (around : DiskSummary) → IsHealthySession from s ps around → HasEitherTree to.disk s.tree (operation_result around s op).1.tree
     stands s ps around work = by_op (is_remount op) refl
       where
-        untouched : to.disk ≡ from.disk → HasEither to.disk s.tree (operation_result around s op).1.tree
-        untouched e = subst (λ d. HasEither d s.tree (operation_result around s op).1.tree) (sym e)
+        untouched : to.disk ≡ from.disk → HasEitherTree to.disk s.tree (operation_result around s op).1.tree
+        untouched e = subst (λ d. HasEitherTree d s.tree (operation_result around s op).1.tree) (sym e)
             (left_before from.disk ps s.tree (operation_result around s op).1.tree work.accepted work.writable
             (one_tree from.disk (disk_tree from.disk ps) s.tree (ps, (work.accepted, refl)) (subst (HealthyHasDiskTree from.disk) work.healthy agrees)))
 
         -- by a remount, in the order that it found
-        read_anew : to.disk ≡ ordered_disk to.disk.order from.disk → HasEither to.disk s.tree (operation_result around s op).1.tree
+        read_anew : to.disk ≡ ordered_disk to.disk.order from.disk → HasEitherTree to.disk s.tree (operation_result around s op).1.tree
         read_anew e =
             let known = true_from to (session_step_is_healthy from to op reply turn (subst IsHealthy (sym work.healthy) tt)) turn.agrees in
             let shown = subst (λ d. ShowsTree d (Some known.session.tree)) e known.shows in
             let pairs = same_pairs to.disk.order from.disk ps shown.0 work.accepted shown.1.0 in
-            subst (λ d. HasEither d s.tree (operation_result around s op).1.tree) (sym e)
+            subst (λ d. HasEitherTree d s.tree (operation_result around s op).1.tree) (sym e)
             (left_before (ordered_disk to.disk.order from.disk) shown.0 s.tree (operation_result around s op).1.tree shown.1.0
             (writable_in_order to.disk.order from.disk shown.0 (subst (IsWritable from.disk) pairs work.writable))
             (same_tree to.disk.order from.disk (disk_tree from.disk shown.0) s.tree (shown.0, (shown.1.0, refl)) (subst (HealthyHasDiskTree from.disk) work.healthy agrees)))
 
-        done : is_remount op ≡ false → is_refusal reply ≡ false → HasEither to.disk s.tree (operation_result around s op).1.tree
+        done : is_remount op ≡ false → is_refusal reply ≡ false → HasEitherTree to.disk s.tree (operation_result around s op).1.tree
         done other accepted =
             let a = turn.answered in
             let about = a.surrounds s work.healthy in
@@ -64,10 +64,10 @@ session_step_survives_loss from op reply to agrees turn survives = record { stop
             left_after to.disk shown.0 s.tree (operation_result around s op).1.tree shown.1.0
             ((turn.effect_on_disk accepted s work.healthy ps shown.0 work.accepted shown.1.0).profile work.writable) (sym shown.1.1)
 
-        by_reply : (b : Bool) → is_refusal reply ≡ b → is_remount op ≡ false → HasEither to.disk s.tree (operation_result around s op).1.tree
+        by_reply : (b : Bool) → is_refusal reply ≡ b → is_remount op ≡ false → HasEitherTree to.disk s.tree (operation_result around s op).1.tree
         by_reply true e other = untouched (turn.refused e).0
         by_reply false e other = done other e
 
-        by_op : (b : Bool) → is_remount op ≡ b → HasEither to.disk s.tree (operation_result around s op).1.tree
+        by_op : (b : Bool) → is_remount op ≡ b → HasEitherTree to.disk s.tree (operation_result around s op).1.tree
         by_op true e = read_anew (turn.remounted e).untouched.0
         by_op false e = by_reply (is_refusal reply) refl e

@@ -1,7 +1,7 @@
 -- A disk that has the same thread and files is accepted too, and shows the same tree. What the first pair has.
 use Rattle.std.proofs.Common.{ℕ, ◌≡◌, ◌<◌, true, List, [], ◌∷◌, ◌++◌, Some, refl, sym, ap, subst, ◌∙◌, arith}
 use Rattle.std.specs.Prelude.{slice_get, codes}
-use Rattle.lfs_model.proofs.Common.{option_map, All-from_recursion, recursion_from_All, flat_map-append, Disk, block_count, Slot, Pair, pairs_blocks, from_first_slots, pairs_gstate, starts_superblock, slots_not_moved, IsFormedList, IsAccepted, first_slot_name, all_unmoved_slots, used_blocks, slot_of}
+use Rattle.lfs_model.proofs.Common.{option_map, All-from_recursion, recursion_from_All, flat_map-append, Disk, block_count, Slot, Pair, pairs_blocks, pairs_from_filled, pairs_gstate, superblock_first, slots_not_moved, IsFormedList, IsAccepted, first_slot_name, all_unmoved_slots, used_blocks, slot_of}
 use Rattle.lfs_model.proofs.Counts.{Each, each_always, each_both, each_right, number_occurrences}
 use Rattle.lfs_model.proofs.LeftFiles.{stays_same}
 use Rattle.lfs_model.proofs.Changes.{IsChangedImage, SameFiles, rearranged_follows, owned_same}
@@ -14,23 +14,23 @@ use Rattle.lfs_model.proofs.Uses.{accepted_sound}
 
 -- it has the superblock, by its name, in slot 0
 pub record HasFirst (slots : List Slot) : Type 0 where
-  pub kind : starts_superblock slots ≡ true
+  pub kind : superblock_first slots ≡ true
   pub name : option_map (λ s. s.name) (slice_get slots 0) ≡ Some (codes "littlefs")
 
 -- some pair has a slot
 pub record HasFilled (ps : List Pair) : Type 0 where
   pub pair : Pair
   pub rest : List Pair
-  pub is : from_first_slots ps ≡ pair ∷ rest
+  pub is : pairs_from_filled ps ≡ pair ∷ rest
 
 pub accepted_filled : (disk : Disk) (ps : List Pair) → IsAccepted disk ps → HasFilled ps
-accepted_filled disk ps ok = go (from_first_slots ps) refl ok.named
+accepted_filled disk ps ok = go (pairs_from_filled ps) refl ok.named
   where
-    go : (qs : List Pair) → from_first_slots ps ≡ qs → first_slot_name qs ≡ Some (codes "littlefs") → HasFilled ps
+    go : (qs : List Pair) → pairs_from_filled ps ≡ qs → first_slot_name qs ≡ Some (codes "littlefs") → HasFilled ps
     go [] e k = absurd (cc)
     go (p ∷ rest) e k = record { pair = p; rest = rest; is = e }
 
-pub accepted_first : (disk : Disk) (ps : List Pair) (p : Pair) (rest : List Pair) → IsAccepted disk ps → from_first_slots ps ≡ p ∷ rest → HasFirst p.content.slots
+pub accepted_first : (disk : Disk) (ps : List Pair) (p : Pair) (rest : List Pair) → IsAccepted disk ps → pairs_from_filled ps ≡ p ∷ rest → HasFirst p.content.slots
 accepted_first disk ps p rest ok is = record { kind = meets_first ps p rest is (meets_from ps ok.root); name = ap first_slot_name (sym is) ∙ ok.named }
 
 -- ---- the global state

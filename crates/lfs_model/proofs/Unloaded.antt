@@ -1,7 +1,7 @@
 -- A directory's first pair that isn't the root's gives all its slots to a pair behind it, for the step that moves a worn pair.
 use Rattle.std.proofs.Common.{◌≡◌, ◌≢◌, ◌<◌, ◌≤◌, false, List, [], ◌∷◌, ◌++◌, length, drop, refl, sym, ap, ap₂, subst, ◌∙◌, arith, append_assoc, append-nil, length-append, drop_at}
 use Rattle.std.specs.Prelude.{All, sum_by}
-use Rattle.lfs_model.proofs.Common.{All-from_recursion, Disk, pair_capacity, slots_limit, Slot, slot_size, Pair, address_blocks, is_hard_tail, starts_superblock, pairs_gstate, count_before_root, IsTreeEntry, IsAccepted, IsWritableSlot, HasNoEmpties, IsWritable, ends_joined, IsWritableChange}
+use Rattle.lfs_model.proofs.Common.{All-from_recursion, Disk, pair_capacity, slots_limit, Slot, slot_size, Pair, address_blocks, is_hard_tail, superblock_first, pairs_gstate, count_before_root, IsTreeEntry, IsAccepted, IsWritableSlot, HasNoEmpties, IsWritable, ends_joined, IsWritableChange}
 use Rattle.lfs_model.proofs.Counts.{Each, each_right}
 use Rattle.lfs_model.proofs.Global.{HasNoMove}
 use Rattle.lfs_model.proofs.Superblocks.{StructMark, hold_each, hold_from_rules, starts_not}
@@ -51,7 +51,7 @@ unload disk new chain f front x q y back r c soft some = record { taken = taken;
     dirs_before = sym (drop_at at.site.chain (at.site.before ++ at.site.left) (length chain) chain_length) ∙ ap (drop (length chain)) same.front ∙ drop_at chain (f ∷ front) (length chain) refl
 
     -- only the root's first pair has a superblock
-    no_superblock : starts_superblock x.content.slots ≡ false
+    no_superblock : superblock_first x.content.slots ≡ false
     no_superblock = starts_not x.content.slots (each_right (λ z. All IsTreeEntry z.content.slots) front (x ∷ back) (hold_each (StructMark disk.profile.versions r.accepted.superblock.0) (front ++ x ∷ back)
         (hold_from_rules (StructMark disk.profile.versions r.accepted.superblock.0) chain f (front ++ x ∷ back) r.is_chain r.accepted.superblock.1.1 r.accepted.root r.accepted.slots).1.1)).0
 

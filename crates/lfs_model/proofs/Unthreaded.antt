@@ -1,7 +1,7 @@
 -- The pair after another begins a directory that no path leads to, and goes from the thread. So may any number of pairs, in their
 -- order.
 use Rattle.std.proofs.Common.{ℕ, ◌≡◌, ◌<◌, ◌≤◌, true, false, List, [], ◌∷◌, ◌++◌, length, refl, sym, ap, ap₂, subst, ◌∙◌, arith, append_assoc, append-nil, length-append}
-use Rattle.lfs_model.proofs.Common.{Disk, same_pair, Pair, is_hard_tail, pairs_gstate, count_before_root, starts_superblock, Path, IsAccepted, IsWritable, LeadsTo}
+use Rattle.lfs_model.proofs.Common.{Disk, same_pair, Pair, is_hard_tail, pairs_gstate, count_before_root, superblock_first, Path, IsAccepted, IsWritable, LeadsTo}
 use Rattle.lfs_model.proofs.Global.{HasNoMove}
 use Rattle.lfs_model.proofs.Superblocks.{IsChain}
 use Rattle.lfs_model.proofs.Listings.{IsRun}
@@ -116,7 +116,7 @@ unthread disk new chain front p o q back r c = record { taken = taken; ready = r
       device = subst (λ z. IsDevice disk new z (thread_at (last_site at.site.chain at.site.before at.site.left back) (q ∷ []))) old_is
           (subst (IsDevice disk new (chain ++ (front ++ p ∷ o ∷ back))) new_is c.device);
       free = record { distinct = (subst (IsAccepted disk) old_is r.accepted).owned_once; in_range = λ k d l. absurd (omega arith) };
-      shape = unthread_shape p o q c.at c.tail (λ e. ap starts_superblock c.slots ∙ e);
+      shape = unthread_shape p o q c.at c.tail (λ e. ap superblock_first c.slots ∙ e);
       was = refl;
       is = append-nil q.content.slots ∙ c.slots ∙ sym (append-nil p.content.slots);
       splice = record { front = λ e. refl; entries = tt; lists = tt; blocks = λ b. omega arith };

@@ -2,8 +2,8 @@
 -- one for the superblock's pair.
 use Rattle.std.proofs.Common.{ℕ, Option, Some, None, option_map, zero, suc, nat_eq, eqb-true, ap₂, ◌≡◌, ◌≢◌, ◌⊎◌, inl, inr, ◌+◌, ◌<◌, ◌≤◌, Bool, true, false, cond, ◌&&◌, List, [], ◌∷◌, ◌++◌, length, take, drop, refl, sym, ap, subst, ◌∙◌, arith, append_assoc, length-take, take-append-drop}
 use Rattle.std.specs.Prelude.{Contains}
-use Rattle.lfs_model.proofs.Common.{cases_lt, All-from_recursion, recursion_from_All, Disk, block_count, Slot, Struct, Inline, Ctz, Branch, PairContent, zero_gstate, content_at, current_block, Pair, address_blocks, from_first_slots, first_address, has_slots, has_no_entry, has_superblock, may_continue, is_hard_tail, starts_superblock, pairs_gstate, count_before_root, BeginsWith, superblock_entry, IsAccepted, IsWritable, all_entries, struct_list_bytes, used_blocks, EntryMap, struct_node, is_file, Operation, Session, slot_of, KeepsStructs, is_worn, AreUnused, ends_joined, IsWritableChange}
-use Rattle.lfs_model.specs.session.Moved.{LeavesEighth, pair_joined_to, pair_behind, IsPairMoved, IsPairUnloaded, IsRootUnloaded}
+use Rattle.lfs_model.proofs.Common.{cases_lt, All-from_recursion, recursion_from_All, Disk, block_count, Slot, Struct, Inline, Ctz, Branch, PairContent, zero_gstate, content_at, current_block, Pair, address_blocks, pairs_from_filled, first_address, has_slots, has_no_entry, has_superblock, chain_may_continue, is_hard_tail, superblock_first, pairs_gstate, count_before_root, BeginsWith, superblock_entry, IsAccepted, IsWritable, all_entries, struct_list_bytes, used_blocks, EntryMap, struct_node, is_file, Operation, Session, slot_of, KeepsStructs, is_worn, AreUnused, ends_joined, IsWritableChange}
+use Rattle.lfs_model.specs.session.Moved.{EighthFree, pair_joined_to, pair_behind, IsPairMoved, IsPairUnloaded, IsRootUnloaded}
 use Rattle.lfs_model.proofs.Counts.{Each, each_append, each_left, each_right, number_occurrences, count_append, count_here, once_from_distinct, distinct_from_once}
 use Rattle.lfs_model.proofs.BlockSets.{number_occurrences-Contains, Contains-number_occurrences}
 use Rattle.lfs_model.proofs.Global.{HasNoMove}
@@ -26,42 +26,42 @@ from_change disk new ps qs h e = record {
 
 -- it is that of the same pair, or of the one that moved
 first_moved : (disk new : Disk) (front : List Pair) (p x q y : Pair) (back : List Pair) → IsAccepted disk (front ++ p ∷ x ∷ back) → IsRelocated disk new front p x q y back →
-    (HasFirst y.content.slots → BeginsWith (current_block new y.at) superblock_entry) → BeginsWith (current_block new (first_address (from_first_slots (front ++ q ∷ y ∷ back)))) superblock_entry
+    (HasFirst y.content.slots → BeginsWith (current_block new y.at) superblock_entry) → BeginsWith (current_block new (first_address (pairs_from_filled (front ++ q ∷ y ∷ back)))) superblock_entry
 first_moved disk new front p x q y back ok c begins = go (from_front front)
   where
     Begins : List Pair → Type 0
     Begins ps = BeginsWith (current_block new (first_address ps)) superblock_entry
 
-    x_slots : (slots : List Slot) → x.content.slots ≡ slots → ((ps : List Pair) → from_first_slots (front ++ ps) ≡ from_first_slots ps) → p.content.slots ≡ [] → Begins (from_first_slots (q ∷ y ∷ back))
+    x_slots : (slots : List Slot) → x.content.slots ≡ slots → ((ps : List Pair) → pairs_from_filled (front ++ ps) ≡ pairs_from_filled ps) → p.content.slots ≡ [] → Begins (pairs_from_filled (q ∷ y ∷ back))
     x_slots slots f all e = by_slots slots f
       where
-        old_is : from_first_slots (front ++ p ∷ x ∷ back) ≡ cond (has_slots x.content.slots) (x ∷ back) (from_first_slots back)
-        old_is = all (p ∷ x ∷ back) ∙ ap (λ z. cond (has_slots z) (p ∷ x ∷ back) (from_first_slots (x ∷ back))) e
+        old_is : pairs_from_filled (front ++ p ∷ x ∷ back) ≡ cond (has_slots x.content.slots) (x ∷ back) (pairs_from_filled back)
+        old_is = all (p ∷ x ∷ back) ∙ ap (λ z. cond (has_slots z) (p ∷ x ∷ back) (pairs_from_filled (x ∷ back))) e
 
-        new_is : from_first_slots (q ∷ y ∷ back) ≡ cond (has_slots y.content.slots) (y ∷ back) (from_first_slots back)
-        new_is = ap (λ z. cond (has_slots z) (q ∷ y ∷ back) (from_first_slots (y ∷ back))) (c.slots ∙ e)
+        new_is : pairs_from_filled (q ∷ y ∷ back) ≡ cond (has_slots y.content.slots) (y ∷ back) (pairs_from_filled back)
+        new_is = ap (λ z. cond (has_slots z) (q ∷ y ∷ back) (pairs_from_filled (y ∷ back))) (c.slots ∙ e)
 
         slots_same : y.content.slots ≡ x.content.slots
         slots_same = ap (λ (z : PairContent). z.slots) c.same
 
-        by_slots : (slots : List Slot) → x.content.slots ≡ slots → Begins (from_first_slots (q ∷ y ∷ back))
+        by_slots : (slots : List Slot) → x.content.slots ≡ slots → Begins (pairs_from_filled (q ∷ y ∷ back))
         by_slots (s ∷ slots) f =
-            let was : from_first_slots (front ++ p ∷ x ∷ back) ≡ x ∷ back = old_is ∙ ap (λ z. cond (has_slots z) (x ∷ back) (from_first_slots back)) f in
-            let is : from_first_slots (q ∷ y ∷ back) ≡ y ∷ back = new_is ∙ ap (λ z. cond (has_slots z) (y ∷ back) (from_first_slots back)) (slots_same ∙ f) in
+            let was : pairs_from_filled (front ++ p ∷ x ∷ back) ≡ x ∷ back = old_is ∙ ap (λ z. cond (has_slots z) (x ∷ back) (pairs_from_filled back)) f in
+            let is : pairs_from_filled (q ∷ y ∷ back) ≡ y ∷ back = new_is ∙ ap (λ z. cond (has_slots z) (y ∷ back) (pairs_from_filled back)) (slots_same ∙ f) in
             subst Begins (sym is) (begins (subst HasFirst (sym slots_same) (accepted_first disk (front ++ p ∷ x ∷ back) x back ok was)))
         by_slots [] f =
-            let was : from_first_slots (front ++ p ∷ x ∷ back) ≡ from_first_slots back = old_is ∙ ap (λ z. cond (has_slots z) (x ∷ back) (from_first_slots back)) f in
-            let is : from_first_slots (q ∷ y ∷ back) ≡ from_first_slots back = new_is ∙ ap (λ z. cond (has_slots z) (y ∷ back) (from_first_slots back)) (slots_same ∙ f) in
+            let was : pairs_from_filled (front ++ p ∷ x ∷ back) ≡ pairs_from_filled back = old_is ∙ ap (λ z. cond (has_slots z) (x ∷ back) (pairs_from_filled back)) f in
+            let is : pairs_from_filled (q ∷ y ∷ back) ≡ pairs_from_filled back = new_is ∙ ap (λ z. cond (has_slots z) (y ∷ back) (pairs_from_filled back)) (slots_same ∙ f) in
             subst Begins (was ∙ sym is) c.device.first
 
-    p_slots : (slots : List Slot) → p.content.slots ≡ slots → ((ps : List Pair) → from_first_slots (front ++ ps) ≡ from_first_slots ps) → Begins (from_first_slots (q ∷ y ∷ back))
+    p_slots : (slots : List Slot) → p.content.slots ≡ slots → ((ps : List Pair) → pairs_from_filled (front ++ ps) ≡ pairs_from_filled ps) → Begins (pairs_from_filled (q ∷ y ∷ back))
     p_slots (s ∷ slots) e all =
-        let was : from_first_slots (front ++ p ∷ x ∷ back) ≡ p ∷ x ∷ back = all (p ∷ x ∷ back) ∙ ap (λ z. cond (has_slots z) (p ∷ x ∷ back) (from_first_slots (x ∷ back))) e in
-        let is : from_first_slots (q ∷ y ∷ back) ≡ q ∷ y ∷ back = ap (λ z. cond (has_slots z) (q ∷ y ∷ back) (from_first_slots (y ∷ back))) (c.slots ∙ e) in
+        let was : pairs_from_filled (front ++ p ∷ x ∷ back) ≡ p ∷ x ∷ back = all (p ∷ x ∷ back) ∙ ap (λ z. cond (has_slots z) (p ∷ x ∷ back) (pairs_from_filled (x ∷ back))) e in
+        let is : pairs_from_filled (q ∷ y ∷ back) ≡ q ∷ y ∷ back = ap (λ z. cond (has_slots z) (q ∷ y ∷ back) (pairs_from_filled (y ∷ back))) (c.slots ∙ e) in
         subst (λ a. BeginsWith (current_block new a) superblock_entry) (ap first_address was ∙ sym c.at ∙ sym (ap first_address is)) c.device.first
     p_slots [] e all = x_slots x.content.slots refl all e
 
-    go : FromSlots front → Begins (from_first_slots (front ++ q ∷ y ∷ back))
+    go : FromSlots front → Begins (pairs_from_filled (front ++ q ∷ y ∷ back))
     go (InFront r rest is all) = subst (λ a. BeginsWith (current_block new a) superblock_entry) (ap first_address (all (p ∷ x ∷ back)) ∙ sym (ap first_address (all (q ∷ y ∷ back)))) c.device.first
     go (Behind bare all) = subst Begins (sym (all (q ∷ y ∷ back))) (p_slots p.content.slots refl all)
 
@@ -79,7 +79,7 @@ soft_behind [] p back e = go (has_superblock back) (has_no_entry p.content.slots
     go true true false k = omega arith
     go true false t k = omega arith
     go false b t k = omega arith
-soft_behind (f ∷ front) p back e = go (has_superblock (front ++ p ∷ back) && may_continue f) (soft_behind front p back e)
+soft_behind (f ∷ front) p back e = go (has_superblock (front ++ p ∷ back) && chain_may_continue f) (soft_behind front p back e)
   where
     go : (t : Bool) → count_before_root (front ++ p ∷ back) ≤ length front → cond t (1 + count_before_root (front ++ p ∷ back)) 0 ≤ length (f ∷ front)
     go true k = omega arith
@@ -220,7 +220,7 @@ moved_by_step disk new front p x q y back c due = record {
 }
 
 pub unloaded_by_step : (disk new : Disk) (front : List Pair) (p x q y : Pair) (back : List Pair) → IsUnloaded disk new (front ++ p ∷ []) x q y back [] → is_hard_tail p.content.tail ≡ false → has_slots x.content.slots ≡ true →
-    LeavesEighth new (front ++ p ∷ q ∷ y ∷ back) → is_worn disk x ≡ true → IsPairUnloaded disk (front ++ p ∷ x ∷ back) new (front ++ p ∷ q ∷ y ∷ back)
+    EighthFree new (front ++ p ∷ q ∷ y ∷ back) → is_worn disk x ≡ true → IsPairUnloaded disk (front ++ p ∷ x ∷ back) new (front ++ p ∷ q ∷ y ∷ back)
 unloaded_by_step disk new front p x q y back c soft some room due = record {
   front = front;
   before = p;
@@ -236,7 +236,7 @@ unloaded_by_step disk new front p x q y back c soft some room due = record {
   due = due;
 }
 
-pub root_by_step : (disk new : Disk) (x q y : Pair) (back : List Pair) → IsUnloaded disk new [] x q y back (take 1 x.content.slots) → count_before_root (x ∷ back) ≡ 0 → LeavesEighth new (q ∷ y ∷ back) → is_worn disk x ≡ true →
+pub root_by_step : (disk new : Disk) (x q y : Pair) (back : List Pair) → IsUnloaded disk new [] x q y back (take 1 x.content.slots) → count_before_root (x ∷ back) ≡ 0 → EighthFree new (q ∷ y ∷ back) → is_worn disk x ≡ true →
     IsRootUnloaded disk (x ∷ back) new (q ∷ y ∷ back)
 root_by_step disk new x q y back c number room due = record {
   worn = x;

@@ -1,7 +1,7 @@
 -- A compacted block holds what was written to it.
 use Rattle.std.proofs.Common.{ℕ, ◌≡◌, ◌+◌, ◌-◌, ◌*◌, ◌/◌, ◌%◌, ◌^◌, ◌<◌, ◌≤◌, ◌==◌, Bool, true, false, cond, not, List, [], ◌∷◌, ◌++◌, length, Option, Some, None, refl, sym, ap, ap₂, ◌∙◌, arith, length-append, append_assoc, eq-eqb, eqb-true}
 use Rattle.std.specs.Prelude.{nat_lt, nat_le, is_some}
-use Rattle.lfs_model.proofs.Common.{option_and_then, option_map, ne_eqb, or_right, le-ltb, le-leb, and_parts, append-nil, set-append_seam, get_or-append_seam, make_tag, tag_type, tag_id, tag_length, abstract_type, tag_chunk, LogEntry, Attributes, Tail, Gstate, zero_gstate, RawSlot, RawContent, content_after_one, content_after, slots_after, attributes_with, empty_raw_content, is_known_tag, has_needed_id, no_id, create_tag_type, delete_tag_type, is_attribute_removal, read_address, tail_to_pair, read_gstate, move_type, log_entry, data_entries, attribute_entries, slot_entries, entries_of_slots, address_bytes, tail_entries, bytes_of_move_state, move_state_entries, is_zero, content_entries, IsAllowedPart, AllowsIfSome, AttributesInOrder, IsFormedSlot, AreWellFormed, AreWords, IsAllowedTail, MoveStateFits}
+use Rattle.lfs_model.proofs.Common.{option_and_then, option_map, ne_eqb, or_right, le-ltb, le-leb, and_parts, append-nil, set-append_seam, get_or-append_seam, make_tag, tag_type, tag_id, tag_length, abstract_type, tag_chunk, LogEntry, Attributes, Tail, Gstate, zero_gstate, RawSlot, RawContent, content_after_one, content_after, slots_after, attributes_with, empty_raw_content, is_known_tag, has_needed_id, no_id, create_tag_type, delete_tag_type, is_attribute_removal, read_address, tail_to_pair, read_gstate, move_type, log_entry, part_entries, attribute_entries, slot_entries, entries_of_slots, address_bytes, tail_entries, bytes_of_move_state, move_state_entries, is_zero, content_entries, IsAllowedPart, AllowsIfSome, AttributesInOrder, IsFormedSlot, AreWellFormed, AreWords, IsAllowedTail, MoveStateFits}
 use Rattle.std.proofs.lemmas.Bool.{lt-leb}
 use Rattle.byteorder.specs.Endian.{little_number, little_bytes}
 use Rattle.byteorder.specs.Numbers.{little_number-reads_back}
@@ -169,7 +169,7 @@ attributes_written c slots s low (a ∷ rest) named n below up =
 
 -- a struct, if there is one, after a name
 struct_part_written : (c : RawContent) (slots : List RawSlot) (s : RawSlot) (part : Option (ℕ × List ℕ)) → s.struct ≡ None → is_some s.name ≡ true → length slots < 0x3ff → AllowsIfSome 2 part
-    → content_after (record c { slots = last slots s }) (data_entries (length slots) part) ≡ Some (record c { slots = last slots (record s { struct = part }) })
+    → content_after (record c { slots = last slots s }) (part_entries (length slots) part) ≡ Some (record c { slots = last slots (record s { struct = part }) })
 struct_part_written c slots s None none named n h = ap (λ z. Some (record c { slots = last slots (record s { struct = z }) })) none
 struct_part_written c slots s (Some part) none named n h = ap (option_and_then (λ d. content_after d [])) (struct_written c slots s part named n h)
 
@@ -177,18 +177,18 @@ struct_part_written c slots s (Some part) none named n h = ap (option_and_then (
 pub slot_written : (c : RawContent) (s : RawSlot) → length c.slots < 0x3ff → is_some s.name ≡ true → IsFormedSlot s
     → content_after c (slot_entries (length c.slots) s) ≡ Some (record c { slots = last c.slots s })
 slot_written c s n has_name h =
-    then c (record c { slots = last c.slots (named s.struct) }) (data_entries (length c.slots) s.name ++ data_entries (length c.slots) s.struct) (attribute_entries (length c.slots) s.attributes) _
-    (then c (record c { slots = last c.slots (named None) }) (data_entries (length c.slots) s.name) (data_entries (length c.slots) s.struct) _ front
+    then c (record c { slots = last c.slots (named s.struct) }) (part_entries (length c.slots) s.name ++ part_entries (length c.slots) s.struct) (attribute_entries (length c.slots) s.attributes) _
+    (then c (record c { slots = last c.slots (named None) }) (part_entries (length c.slots) s.name) (part_entries (length c.slots) s.struct) _ front
     (struct_part_written c c.slots (named None) s.struct refl has_name n h.struct))
     (attributes_written c c.slots (named s.struct) 0 s.attributes has_name n tt h.attributes)
   where
     named : Option (ℕ × List ℕ) → RawSlot
     named struct = record { name = s.name; struct = struct; attributes = [] }
 
-    front : content_after c (data_entries (length c.slots) s.name) ≡ Some (record c { slots = last c.slots (named None) })
+    front : content_after c (part_entries (length c.slots) s.name) ≡ Some (record c { slots = last c.slots (named None) })
     front = go s.name has_name h.name
       where
-        go : (o : Option (ℕ × List ℕ)) → is_some o ≡ true → AllowsIfSome 0 o → content_after c (data_entries (length c.slots) o) ≡ Some (record c { slots = last c.slots (record { name = o; struct = None; attributes = [] }) })
+        go : (o : Option (ℕ × List ℕ)) → is_some o ≡ true → AllowsIfSome 0 o → content_after c (part_entries (length c.slots) o) ≡ Some (record c { slots = last c.slots (record { name = o; struct = None; attributes = [] }) })
         go None e p = absurd (cc)
         go (Some part) e p = ap (option_and_then (λ d. content_after d [])) (name_written c part n p)
 

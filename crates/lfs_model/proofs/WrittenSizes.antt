@@ -1,13 +1,13 @@
 -- How many bytes a content takes when it is written anew.
 use Rattle.std.proofs.Common.{ℕ, ◌≡◌, ◌+◌, ◌≤◌, Bool, true, false, cond, List, [], ◌∷◌, ◌++◌, length, Option, Some, None, refl, arith}
 use Rattle.std.specs.Prelude.{sum_by}
-use Rattle.lfs_model.proofs.Common.{sum_by-append, sum_by-cons, Attributes, Tail, Gstate, attributes_size, LogEntry, RawSlot, RawContent, log_entry, first_attribute_type, data_entries, attribute_entries, slot_entries, entries_of_slots, tail_entries, move_state_entries, is_zero, content_entries, data_size, slot_size_raw, raw_slots_size}
+use Rattle.lfs_model.proofs.Common.{sum_by-append, sum_by-cons, Attributes, Tail, Gstate, attributes_size, LogEntry, RawSlot, RawContent, log_entry, first_attribute_type, part_entries, attribute_entries, slot_entries, entries_of_slots, tail_entries, move_state_entries, is_zero, content_entries, part_size, slot_size_raw, raw_slots_size}
 use Rattle.lfs_model.specs.layers.WrittenContent.{move_entry}
 
 abbrev entry_size : LogEntry → ℕ
 entry_size e = 4 + length e.bytes
 
-part_entries_size : (id : ℕ) (part : Option (ℕ × List ℕ)) → sum_by entry_size (data_entries id part) ≡ data_size part
+part_entries_size : (id : ℕ) (part : Option (ℕ × List ℕ)) → sum_by entry_size (part_entries id part) ≡ part_size part
 part_entries_size id None = refl
 part_entries_size id (Some part) = omega arith
 
@@ -21,8 +21,8 @@ attribute_entries_size id (a ∷ attributes) =
 
 slot_size_written : (id : ℕ) (s : RawSlot) → sum_by entry_size (slot_entries id s) ≡ slot_size_raw s
 slot_size_written id s =
-    let all = sum_by-append entry_size (data_entries id s.name ++ data_entries id s.struct) (attribute_entries id s.attributes) in
-    let front = sum_by-append entry_size (data_entries id s.name) (data_entries id s.struct) in
+    let all = sum_by-append entry_size (part_entries id s.name ++ part_entries id s.struct) (attribute_entries id s.attributes) in
+    let front = sum_by-append entry_size (part_entries id s.name) (part_entries id s.struct) in
     let name = part_entries_size id s.name in
     let struct = part_entries_size id s.struct in
     let attributes = attribute_entries_size id s.attributes in

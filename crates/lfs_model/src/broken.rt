@@ -9,13 +9,13 @@ ghost use Rattle.lfs_model.specs.declared.violations.Violation.TheVariants as vi
 ghost use Rattle.lfs_model.specs.format.Disk.{Disk};
 ghost use Rattle.lfs_model.specs.tree.Fresh.{IsFreshDisk};
 ghost use Rattle.lfs_model.specs.layers.Violations.{Breaks};
-ghost use Rattle.lfs_model.specs.examples.Violations.{HasBreach, absent_block_image, same_blocks_image, root_again_image, unwritten_pair_image, later_version_image, bad_move_image, create_first_image, dot_name_image, empty_list_image, empty_pair_image, falling_names_image, joined_branches_image, large_entry_image, unwritable_inline_image, loose_branch_image, shared_block_image, short_names_image, two_sizes_image, unnamed_pair_image, no_superblock_image};
+ghost use Rattle.lfs_model.specs.examples.Violations.{HasBreach, absent_block_image, same_blocks_image, tail_to_root_image, unwritten_pair_image, later_version_image, bad_move_image, create_first_image, dot_name_image, empty_list_image, empty_pair_image, falling_names_image, joined_branches_image, large_entry_image, unwritable_inline_image, loose_branch_image, shared_block_image, short_names_image, two_sizes_image, unnamed_pair_image, no_superblock_image};
 
 /// Images whose thread can't be followed.
 pub fn broken_thread_rules()
     ensures out_of_range { Breaks absent_block_image (violation.OutOfRange (2 ∷ 16 ∷ [])) }
     ensures one_block { Breaks same_blocks_image (violation.OneBlock (2 ∷ 2 ∷ [])) }
-    ensures two_pairs { Breaks root_again_image (violation.TwoPairs (0 ∷ 1 ∷ []) 0) }
+    ensures two_pairs { Breaks tail_to_root_image (violation.TwoPairs (0 ∷ 1 ∷ []) 0) }
     ensures no_content { Breaks unwritten_pair_image (violation.NoContent (2 ∷ 3 ∷ [])) }
 
     // A fresh image breaks no rule.

@@ -6,7 +6,7 @@ ghost use Rattle.lfs_model.specs.session.Operations as ops;
 ghost use Rattle.lfs_model.specs.session.Operations.{NoEnt, BadFile, Exist, NotDir, IsDir, Invalid, NoSpace, ReadOnly, NameTooLong, NotEmpty, NoAttr, EntryFull};
 ghost use Rattle.lfs_model.specs.session.State.{mounted_session};
 ghost use Rattle.lfs_model.specs.tree.Fresh.{empty_tree};
-ghost use Rattle.lfs_model.specs.crash.Frame.{is_early_refusal, needs_no_resource};
+ghost use Rattle.lfs_model.specs.crash.Frame.{refused_before_search, needs_session_alone};
 ghost use Rattle.lfs_model.specs.examples.Runs.{all_refusals, with_writer};
 ghost use Rattle.lfs_model.specs.examples.Sessions.{writable_summary, all_replies, fresh_replies, with_used_count, read_flags, write_flags, creating_flags};
 
@@ -23,10 +23,10 @@ pub fn read_only_is_checked_first()
 
 /// Which refusals need no look-up, and which operations take neither the device nor memory.
 pub fn some_refusals_need_no_look_up()
-    ensures made { filter (is_early_refusal (ops.Mkdir (codes "/d"))) all_refusals ≡ BadFile ∷ Invalid ∷ ReadOnly ∷ ops.Failed ∷ [] }
-    ensures written { filter (is_early_refusal (ops.Write 0 [])) all_refusals ≡ all_refusals }
-    ensures remounted { is_early_refusal ops.Remount ops.Failed ≡ false }
-    ensures moved { filter (needs_no_resource (with_writer [] true [])) (ops.Seek 0 1 ∷ ops.Read 0 1 ∷ ops.Write 0 [] ∷ ops.Sync 0 ∷ ops.UsedCount ∷ [])
+    ensures made { filter (refused_before_search (ops.Mkdir (codes "/d"))) all_refusals ≡ BadFile ∷ Invalid ∷ ReadOnly ∷ ops.Failed ∷ [] }
+    ensures written { filter (refused_before_search (ops.Write 0 [])) all_refusals ≡ all_refusals }
+    ensures remounted { refused_before_search ops.Remount ops.Failed ≡ false }
+    ensures moved { filter (needs_session_alone (with_writer [] true [])) (ops.Seek 0 1 ∷ ops.Read 0 1 ∷ ops.Write 0 [] ∷ ops.Sync 0 ∷ ops.UsedCount ∷ [])
         ≡ ops.Seek 0 1 ∷ ops.Write 0 [] ∷ ops.UsedCount ∷ [] }
 {}
 

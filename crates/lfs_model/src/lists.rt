@@ -3,7 +3,7 @@
 ghost use Rattle.std.specs.Prelude.{◌≡◌, ℕ, [], ◌∷◌, ◌++◌, map, replicate};
 ghost use Rattle.lfs_model.specs.format.Disk.{default_profile};
 ghost use Rattle.lfs_model.specs.format.SkipLists.{IsBytePlace, IsSkipList, block_count_for, blocks_to_head, list_bytes, pointer_count, block_capacity};
-ghost use Rattle.lfs_model.specs.session.Session.{list_blocks_of};
+ghost use Rattle.lfs_model.specs.session.Session.{list_block_count};
 ghost use Rattle.lfs_model.specs.examples.Images.{three_blocks, three_blocks_with, endless_blocks};
 
 /// How many blocks a list of some bytes has, and how many bytes each block holds after its pointers.
@@ -17,7 +17,7 @@ pub fn skip_list_size_gives_block_count()
     ensures places { IsBytePlace 1024 1023 0 1023 × IsBytePlace 1024 1024 1 4 × IsBytePlace 1024 2043 1 1023 × IsBytePlace 1024 2044 2 8 × IsBytePlace 1024 4080 4 12 }
 
     // A file of at most an eighth of a block has no list.
-    ensures inline { map (list_blocks_of default_profile 1024) (128 ∷ 129 ∷ []) ≡ 0 ∷ 1 ∷ [] }
+    ensures inline { map (list_block_count default_profile 1024) (128 ∷ 129 ∷ []) ≡ 0 ∷ 1 ∷ [] }
 {}
 
 /// A list of 2,045 bytes in the blocks 5, 6 and 7.

@@ -12,8 +12,8 @@ ghost use Rattle.lfs_model.specs.session.Operations.{Operation, Reply};
 ghost use Rattle.lfs_model.specs.session.Run.{HealthyHasDiskTree, IsStep, SystemState};
 ghost use Rattle.lfs_model.specs.crash.Failure.{FailsIn};
 ghost use Rattle.lfs_model.specs.crash.Performed.{FailsDuringRun, IsRun};
-ghost use Rattle.lfs_model.specs.crash.PowerLoss.{HasEither, SurvivesLossSince, SurvivesInCalls, SurvivesPowerLoss, with_blocks};
-ghost use Rattle.lfs_model.specs.crash.Standing.{AreConforming};
+ghost use Rattle.lfs_model.specs.crash.PowerLoss.{HasEitherTree, SurvivesLossSince, SurvivesInCalls, SurvivesPowerLoss, with_blocks};
+ghost use Rattle.lfs_model.specs.crash.Standing.{SameConformingDevice};
 ghost use Rattle.lfs_model.specs.crash.Stops.{ErasesCleanly};
 ghost use Rattle.lfs_model.specs.tree.Tree.{Tree};
 ghost use Rattle.lfs_model.specs.crash.RepeatedPowerLoss.{RecoversTree, KeepsTree, LeftInCall, SurvivesLoss, LeftAfterMount, LeftByLosses, MeetsRunPremises, CrashSafe};
@@ -43,7 +43,7 @@ pub fn power_loss_leaves_disk_with_safe_tree()
     ensures other_tree { RecoversTree (λ path. None) ops.Done small_image → ⊥ }
 
     // The same holds for what a stop in any call leaves.
-    ensures left { (disk : Disk) (before after : Tree) → HasEither disk before after
+    ensures left { (disk : Disk) (before after : Tree) → HasEitherTree disk before after
         → (tree : Tree) × (((tree ≡ before) ⊎ (tree ≡ after)) × KeepsTree tree disk) }
 {}
 
@@ -84,12 +84,12 @@ pub fn operation_surviving_stopped_calls_survives_power_loss()
 pub fn disk_after_last_call_is_power_loss_outcome()
     ensures left { (disk : Disk) (old new : List CallEvent) (first last : Blocks) (before after : Tree) → old ≢ [] → LeftByLatest old first → LeftByLatest new last → CallsConform new
         → SurvivesLossSince disk old new before after → AllCallsSince ErasesCleanly old new → FailLikeLossSince old new
-        → HasEither (with_blocks first disk) before after → HasEither (with_blocks last disk) before after }
+        → HasEitherTree (with_blocks first disk) before after → HasEitherTree (with_blocks last disk) before after }
     ensures called { (from to : SystemState) → from.calls ≢ [] → LeftByLatest from.calls from.disk.blocks → LeftByLatest to.calls to.disk.blocks → CallsConform to.calls
-        → to.disk ≡ with_blocks to.disk.blocks from.disk → AreConforming from to }
-    ensures survives_loss { (from to : SystemState) (op : Operation) → HealthyHasDiskTree from.disk from.state → AreConforming from to → SurvivesInCalls from op to → SurvivesPowerLoss from op to }
+        → to.disk ≡ with_blocks to.disk.blocks from.disk → SameConformingDevice from to }
+    ensures survives_loss { (from to : SystemState) (op : Operation) → HealthyHasDiskTree from.disk from.state → SameConformingDevice from to → SurvivesInCalls from op to → SurvivesPowerLoss from op to }
 
     // A device that isn't called stays as it is.
-    ensures silent { AreConforming fresh_state failed_state }
-    ensures lost { AreConforming fresh_state (record fresh_state { disk = blockless_disk }) → ⊥ }
+    ensures silent { SameConformingDevice fresh_state failed_state }
+    ensures lost { SameConformingDevice fresh_state (record fresh_state { disk = blockless_disk }) → ⊥ }
 {}

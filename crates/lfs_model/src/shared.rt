@@ -16,11 +16,11 @@ ghost use Rattle.lfs_model.specs.session.InDirectory.{IsPairAt, IsPlaceOf, Belon
 ghost use Rattle.lfs_model.specs.format.SkipLists.{block_count_for, blocks_to_head, IsSkipList, list_bytes};
 ghost use Rattle.lfs_model.specs.layers.LoggedContent.{IsAllowedPart, AreWellFormed, IsWellFormed};
 ghost use Rattle.lfs_model.specs.format.Names.{Name};
-ghost use Rattle.lfs_model.specs.crash.PowerLoss.{HasEither, SurvivesLossSince, with_blocks};
+ghost use Rattle.lfs_model.specs.crash.PowerLoss.{HasEitherTree, SurvivesLossSince, with_blocks};
 ghost use Rattle.lfs_model.specs.session.SlotEdits.{slot_of};
 ghost use Rattle.lfs_model.specs.format.Slots.{Slot, PairContent, FitsInPair, zero_gstate};
 ghost use Rattle.lfs_model.specs.crash.Stops.{LeftByLoss, ErasesCleanly};
-ghost use Rattle.lfs_model.specs.format.Thread.{Pair, pairs_gstate, starts_superblock};
+ghost use Rattle.lfs_model.specs.format.Thread.{Pair, pairs_gstate, superblock_first};
 ghost use Rattle.lfs_model.specs.tree.Tree.{Path, Tree};
 ghost use Rattle.lfs_model.specs.declared.limits.Profile.{Profile};
 ghost use Rattle.lfs_model.specs.tree.Profile.{IsWritableEntry};
@@ -49,16 +49,16 @@ pub fn full_pair_can_be_split()
 /// A name's type is a file's, a directory's or a superblock's. What is written anew with the superblock in slot 0 begins with its entry.
 pub fn superblock_is_written_first()
     ensures types { (kind : ℕ) (bytes : List ℕ) → IsAllowedPart 0 (kind, bytes) → (kind ≡ file_name_type) ⊎ ((kind ≡ directory_name_type) ⊎ (kind ≡ superblock_name_type)) }
-    ensures first { (raw : RawContent) (c : PairContent) → AreWellFormed raw.slots → complete_content raw ≡ Some c → starts_superblock c.slots ≡ true
+    ensures first { (raw : RawContent) (c : PairContent) → AreWellFormed raw.slots → complete_content raw ≡ Some c → superblock_first c.slots ≡ true
         → option_map (λ (s : Slot). s.name) (slice_get c.slots 0) ≡ Some (codes "littlefs") → slice_get (content_entries raw) 0 ≡ Some superblock_entry }
 {}
 
 /// After a failed call the device holds what a stop leaves, where failed calls leave what stops in them may.
 pub fn failed_call_leaves_what_power_loss_leaves()
     ensures newest { (disk : Disk) (old new : List CallEvent) (blocks : Blocks) (before after : Tree) → SurvivesLossSince disk old new before after → AllCallsSince ErasesCleanly old new
-        → fault_count old < fault_count new → LeftByLatestLoss LeftByLoss new blocks → HasEither (with_blocks blocks disk) before after }
+        → fault_count old < fault_count new → LeftByLatestLoss LeftByLoss new blocks → HasEitherTree (with_blocks blocks disk) before after }
     ensures failed { (disk : Disk) (old new : List CallEvent) (blocks : Blocks) (before after : Tree) → SurvivesLossSince disk old new before after → AllCallsSince ErasesCleanly old new
-        → FailLikeLossSince old new → fault_count old < fault_count new → LeftByFailure new blocks → HasEither (with_blocks blocks disk) before after }
+        → FailLikeLossSince old new → fault_count old < fault_count new → LeftByFailure new blocks → HasEitherTree (with_blocks blocks disk) before after }
 {}
 
 /// A list has as many bytes as its size gives. It keeps them where only other blocks change.

@@ -18,10 +18,10 @@ ghost use Rattle.lfs_model.specs.session.Layout.{removed_addresses, IsPairAfter,
 ghost use Rattle.lfs_model.specs.session.Moved.{IsPairMoved, IsPairUnloaded, IsRootUnloaded, IsMoved, IsLayoutMoved};
 ghost use Rattle.lfs_model.specs.crash.Frame.{answers_itself};
 ghost use Rattle.lfs_model.specs.layers.Keeping.{takes_away, may_store_at, struct_at, KeepsStructs};
-ghost use Rattle.lfs_model.specs.session.Run.{is_read_only, writes_or_truncates, needs_no_call, renames_itself, edits_slots};
+ghost use Rattle.lfs_model.specs.session.Run.{is_read_only, writes_or_truncates, needs_no_device, renames_itself, edits_slots};
 ghost use Rattle.lfs_model.specs.examples.Sessions.{creating_flags, read_flags};
 ghost use Rattle.lfs_model.specs.examples.Images.{small_disk_with, small_image, large_image};
-ghost use Rattle.lfs_model.specs.examples.Runs.{pair_with_tail, tail_to_address, root_with_d, image_of_two, root_and_directory, root_and_two, root_with_file, long_attribute_slot, slot_with_list, each_operation, with_reader, with_writer};
+ghost use Rattle.lfs_model.specs.examples.Runs.{pair_with_tail, tail_to_address, root_with_d, worn_pairs_image, root_and_directory, root_and_two, root_with_file, long_attribute_slot, slot_with_list, each_operation, with_reader, with_writer};
 
 /// Which operations recover first, which change where slots are, and which leave the disk alone.
 pub fn operations_are_classified_by_disk_effect()
@@ -39,9 +39,9 @@ pub fn operations_are_classified_by_disk_effect()
 /// A dirty file is committed by a sync and by a close. A file that isn't dirty isn't committed.
 pub fn operations_on_open_file_are_classified()
     ensures dirty { filter (edits_slots (with_writer [] true [])) (ops.Sync 0 ∷ ops.Close 0 ∷ ops.Write 0 [] ∷ ops.Sync 1 ∷ []) ≡ ops.Sync 0 ∷ ops.Close 0 ∷ [] }
-    ensures clean { filter (needs_no_call (with_writer [] false [])) each_operation
+    ensures clean { filter (needs_no_device (with_writer [] false [])) each_operation
         ≡ ops.Write 0 [] ∷ ops.Sync 0 ∷ ops.Close 0 ∷ ops.AskGstate ∷ ops.IsUsed 0 ∷ ops.UsedCount ∷ [] }
-    ensures sized { filter (needs_no_call (with_writer [] true (codes "hi"))) (ops.Truncate 0 2 ∷ ops.Truncate 0 3 ∷ ops.Truncate 1 2 ∷ ops.Write 0 (codes "!") ∷ []) ≡ ops.Truncate 0 2 ∷ [] }
+    ensures sized { filter (needs_no_device (with_writer [] true (codes "hi"))) (ops.Truncate 0 2 ∷ ops.Truncate 0 3 ∷ ops.Truncate 1 2 ∷ ops.Write 0 (codes "!") ∷ []) ≡ ops.Truncate 0 2 ∷ [] }
 {}
 
 /// What each operation makes of the slots.
@@ -109,21 +109,21 @@ pub fn pairs_stay_without_cycles()
 
 /// A worn pair moves whole, or all its slots go to a pair behind it. A pair that isn't worn stays.
 pub fn worn_pair_moves()
-    ensures moved { IsPairMoved (image_of_two 1) root_and_two
+    ensures moved { IsPairMoved (worn_pairs_image 1) root_and_two
         (root_with_d ∷ pair_with_tail (4, 5) (file_slot (codes "a") ∷ []) (tail_to_address true (8, 9)) ∷ pair_with_tail (8, 9) (file_slot (codes "z") ∷ []) None ∷ []) }
-    ensures unloaded { (new : Disk) → block_count new ≡ 16 → IsPairUnloaded (image_of_two 1) root_and_two new
+    ensures unloaded { (new : Disk) → block_count new ≡ 16 → IsPairUnloaded (worn_pairs_image 1) root_and_two new
         (root_with_d ∷ pair_with_tail (4, 5) [] (tail_to_address true (8, 9)) ∷ pair_with_tail (8, 9) (file_slot (codes "a") ∷ []) (tail_to_address true (6, 7)) ∷ pair_with_tail (6, 7) (file_slot (codes "z") ∷ []) None ∷ []) }
 
     // A superblock stays in the first pair, and another one goes with the entries.
-    ensures root { (new : Disk) → block_count new ≡ 16 → IsRootUnloaded (image_of_two 1) root_and_two new
+    ensures root { (new : Disk) → block_count new ≡ 16 → IsRootUnloaded (worn_pairs_image 1) root_and_two new
         (pair_with_tail (0, 1) (superblock_slot default_profile 4096 16 ∷ []) (tail_to_address true (8, 9)) ∷ record root_with_d { at = (8, 9) }
         ∷ pair_with_tail (4, 5) (file_slot (codes "a") ∷ []) (tail_to_address true (6, 7)) ∷ pair_with_tail (6, 7) (file_slot (codes "z") ∷ []) None ∷ []) }
 
     // Eight of nine blocks would be used.
-    ensures no_room { (new : Disk) → block_count new ≡ 9 → IsPairUnloaded (image_of_two 1) root_and_two new
+    ensures no_room { (new : Disk) → block_count new ≡ 9 → IsPairUnloaded (worn_pairs_image 1) root_and_two new
         (root_with_d ∷ pair_with_tail (4, 5) [] (tail_to_address true (8, 9)) ∷ pair_with_tail (8, 9) (file_slot (codes "a") ∷ []) (tail_to_address true (6, 7)) ∷ pair_with_tail (6, 7) (file_slot (codes "z") ∷ []) None ∷ []) → ⊥ }
-    ensures not_worn { (new : Disk) (qs : List Pair) → IsMoved (image_of_two 2) root_and_two new qs → ⊥ }
-    ensures no_cycles { (new : Disk) (qs : List Pair) → IsMoved (image_of_two 0) root_and_two new qs → ⊥ }
+    ensures not_worn { (new : Disk) (qs : List Pair) → IsMoved (worn_pairs_image 2) root_and_two new qs → ⊥ }
+    ensures no_cycles { (new : Disk) (qs : List Pair) → IsMoved (worn_pairs_image 0) root_and_two new qs → ⊥ }
 {}
 
 /// A directory is dropped where it is removed, or where a rename replaces it.
@@ -143,7 +143,7 @@ pub fn only_files_of_operation_are_stored_or_moved()
 {}
 
 /// A sync and a close are about the file that is open, and no other operation stores one.
-pub fn only_open_file_is_stored()
+pub fn only_sync_stores()
     ensures stored { filter (λ op. may_store_at (with_writer (codes "b" ∷ []) true []) op (codes "b" ∷ [])) each_operation ≡ ops.Sync 0 ∷ ops.Close 0 ∷ [] }
     ensures elsewhere { may_store_at (with_writer (codes "b" ∷ []) true []) (ops.Sync 0) (codes "a" ∷ []) ≡ false }
     ensures not_open { may_store_at (with_writer (codes "b" ∷ []) true []) (ops.Sync 1) (codes "b" ∷ []) ≡ false }

@@ -1,12 +1,12 @@
 -- A pair that breaks a rule: the thread's pairs break it.
 use Rattle.std.proofs.Common.{ℕ, zero, suc, ◌≡◌, ◌⊎◌, inl, inr, ◌+◌, ◌<◌, ◌≤◌, ◌==◌, ◌&&◌, Bool, true, false, cond, not, List, [], ◌∷◌, ◌++◌, length, take, drop, filter, Option, Some, None, refl, sym, ap, subst, ◌∙◌, arith, append-nil, slice_get, nat_eq, eqb-true, flat_map, option_and_then, option_map}
-use Rattle.lfs_mount.proofs.Common.{cons_option, and_parts, take-append-drop, take_more, flat_map-append, filter_map-append, recursion_from_All, get_or_from_slice_get, option_and_then_some, same_Some, slice_get_within, BlockStates, RawContent, RawSlot, content_after, empty_raw_content, complete_content, raw_content, complete_slot, complete_slots, Disk, disk_block, block_count, block_entries, AreWellFormed, IsFormedSlot, all_unmoved_slots, struct_blocks, used_blocks, block_count_for, blocks_to_head, Name, Branch, Ctz, Gstate, Inline, Slot, Struct, is_superblock, array_address, same_pair, Pair, pairs_blocks, unmoved_entries, pairs_gstate, moved_id, count_before_root, slots_not_moved, starts_superblock, HasValidMove, IsFormedList, IsEntry, BreaksPairs, Contains-number_occurrences, complete_parts, Each, count_append, each_counted, number_occurrences, logged, AreByteBlocks, BreaksDescribedPair, BreaksKeptList, BreaksList, BreaksMovedSlot, raw_block_slots, IsDescribedThread, AreDescriptions, IsDescription, raw_slot_entry, struct_reference, named_reference, HasUsedBlocks, raw_slot_lists, blocks_last_first, list_of_entry, Vertex, AddsPair, kept_slot_number, unmoved_raw_slots, after_superblock, raw_entry_slots}
+use Rattle.lfs_mount.proofs.Common.{cons_option, and_parts, take-append-drop, take_more, flat_map-append, filter_map-append, recursion_from_All, get_or_from_slice_get, option_and_then_some, same_Some, slice_get_within, BlockStates, RawContent, RawSlot, content_after, empty_raw_content, complete_content, raw_content, complete_slot, complete_slots, Disk, disk_block, block_count, block_entries, AreWellFormed, IsFormedSlot, all_unmoved_slots, struct_blocks, used_blocks, block_count_for, blocks_to_head, Name, Branch, Ctz, Gstate, Inline, Slot, Struct, is_superblock, array_address, same_pair, Pair, pairs_blocks, unmoved_entries, pairs_gstate, moved_id, count_before_root, slots_not_moved, superblock_first, HasValidMove, IsFormedList, IsEntry, BreaksPairs, Contains-number_occurrences, complete_parts, Each, count_append, each_counted, number_occurrences, logged, AreByteBlocks, BreaksDescribedPair, BreaksEntryList, BreaksList, BreaksMovedSlot, raw_block_slots, IsDescribedThread, AreDescriptions, IsDescription, raw_slot_entry, struct_reference, named_reference, HasUsedBlocks, raw_slot_lists, blocks_last_first, list_of_entry, Vertex, ScansPair, entry_slot_number, unmoved_raw_slots, after_superblock, raw_entry_slots}
 use Rattle.std.specs.List.{IsDistinct}
 use Rattle.lfs_model.specs.layers.Violations.{IsUsedTwice, IsSlotAt, IsUnmovedAt}
 use Rattle.lfs_model.specs.declared.violations.Violation.{Violation}
 use Rattle.lfs_model.specs.declared.violations.Violation.TheVariants as violation
 use Rattle.lfs_model.proofs.Completed.{complete_take}
-use Rattle.lfs_mount.specs.Broken.{BreaksKeptEntry, BreaksBlockSlots, HasTakenBlock, IsSlotList, IsSuperblockOrNone, LacksSuperblock, list_blocks_before}
+use Rattle.lfs_mount.specs.Broken.{BreaksEntrySlot, BreaksBlockSlots, HasTakenBlock, IsSlotList, IsSuperblockOrNone, LacksSuperblock, list_blocks_before}
 use Rattle.lfs_mount.specs.declared.pass.PairBeforeSlotsAreRead.{PairBeforeSlotsAreRead}
 use Rattle.lfs_mount.proofs.Accepts.{number_occurrences-flat_map, number_occurrences-reverse}
 use Rattle.lfs_mount.proofs.FirstSlots.{made_of, slot_named}
@@ -224,7 +224,7 @@ module _ (disk : Disk) (chain dirs : List Pair) (k : ℕ) (first : Bool) (p : Pa
   starts : (t : Slot) → slice_get p.content.slots 0 ≡ Some t → first ≡ true → is_superblock t ≡ true
   starts t e is = go p.content.slots e (h.describes.starts is)
     where
-      go : (slots : List Slot) → slice_get slots 0 ≡ Some t → starts_superblock slots ≡ true → is_superblock t ≡ true
+      go : (slots : List Slot) → slice_get slots 0 ≡ Some t → superblock_first slots ≡ true → is_superblock t ≡ true
       go [] e s = absurd (cc)
       go (x ∷ slots) e s = ap is_superblock (sym (same_Some x t e)) ∙ s
 
@@ -284,17 +284,17 @@ module _ (disk : Disk) (chain dirs : List Pair) (k : ℕ) (first : Bool) (p : Pa
           → after_superblock b mid ≡ None → ⊥
       go false mid f c entry n = absurd (cc)
       go true [] f c entry n =
-          absurd (let clash : false ≡ true = ap starts_superblock (same_Some [] (without (moved_id g p) p.content.slots) c) ∙ starts_without (moved_id g p) p.content.slots entry (h.describes.starts f) in cc)
+          absurd (let clash : false ≡ true = ap superblock_first (same_Some [] (without (moved_id g p) p.content.slots) c) ∙ starts_without (moved_id g p) p.content.slots entry (h.describes.starts f) in cc)
       go true (x ∷ mid) f c entry n = absurd (cc)
 
   -- ---- slots that are kept
 
-  first_low : (index : ℕ) → first ≡ true → 0 < kept_slot_number m index
+  first_low : (index : ℕ) → first ≡ true → 0 < entry_slot_number m index
   first_low index f = number_behind m index (h.describes.first ∙ f)
 
-  kept_entry_breaks : (v : Violation) (raws kept : List RawSlot) → AreSlotsOfPair raws → raw_entry_slots m raws ≡ Some kept → BreaksKeptEntry m kept v → BreaksPairs disk ps v
+  kept_entry_breaks : (v : Violation) (raws kept : List RawSlot) → AreSlotsOfPair raws → raw_entry_slots m raws ≡ Some kept → BreaksEntrySlot m kept v → BreaksPairs disk ps v
   kept_entry_breaks v raws kept are e (index, (is, (s, (there, none)))) =
-      subst (BreaksPairs disk ps) (sym is) (entry_breaks raws (kept_slot_number m index) s are (kept_number m raws kept index s e there).there none (first_low index))
+      subst (BreaksPairs disk ps) (sym is) (entry_breaks raws (entry_slot_number m index) s are (kept_number m raws kept index s e there).there none (first_low index))
 
   kept_complete : (raws kept : List RawSlot) → AreSlotsOfPair raws → raw_entry_slots m raws ≡ Some kept → complete_slots kept ≡ Some (behind first (slots_not_moved g p))
   kept_complete raws kept are e =
@@ -343,12 +343,12 @@ module _ (disk : Disk) (chain dirs : List Pair) (k : ℕ) (first : Bool) (p : Pa
       let same = number_occurrences-reverse b back in
       each_counted P back (recursion_from_All P back (λ i d lt. let r = taken.0.blocks.in_range i d lt in omega arith)) b (omega arith)
 
-  kept_list_breaks : (v : Violation) (raws kept : List RawSlot) (sets : BlockStates) → AreMarked disk chain dirs k sets → AreSlotsOfPair raws → raw_entry_slots m raws ≡ Some kept → BreaksKeptList disk m sets kept v → BreaksPairs disk ps v
+  kept_list_breaks : (v : Violation) (raws kept : List RawSlot) (sets : BlockStates) → AreMarked disk chain dirs k sets → AreSlotsOfPair raws → raw_entry_slots m raws ≡ Some kept → BreaksEntryList disk m sets kept v → BreaksPairs disk ps v
   unfolding slot_there
   kept_list_breaks v raws kept sets a are e broken = go broken.breaks
     where
       number : ℕ
-      number = kept_slot_number m broken.index
+      number = entry_slot_number m broken.index
 
       n : IsNumberOf raws m.moved number broken.is.slot
       n = kept_number m raws kept broken.index broken.is.slot e broken.is.there
@@ -398,7 +398,7 @@ module _ (disk : Disk) (chain dirs : List Pair) (k : ℕ) (first : Bool) (p : Pa
   pair_breaks v sets a (inr (kept, (is, broken))) =
       option_and_then_some (raw_entry_slots m) (raw_block_slots block) kept is (λ raws held e. go raws (slots_of raws held) e broken)
     where
-      go : (raws : List RawSlot) → AreSlotsOfPair raws → raw_entry_slots m raws ≡ Some kept → BreaksKeptEntry m kept v ⊎ BreaksKeptList disk m sets kept v → BreaksPairs disk ps v
+      go : (raws : List RawSlot) → AreSlotsOfPair raws → raw_entry_slots m raws ≡ Some kept → BreaksEntrySlot m kept v ⊎ BreaksEntryList disk m sets kept v → BreaksPairs disk ps v
       go raws are e (inl entry) = kept_entry_breaks v raws kept are e entry
       go raws are e (inr list) = kept_list_breaks v raws kept sets a are e list
 
@@ -429,7 +429,7 @@ module _ (disk : Disk) (sets : BlockStates) (firsts : List (ℕ × ℕ)) (ms : L
     d : IsDescribedAt disk (pairs_gstate (chain ++ p ∷ rest)) true (p ∷ rest) k m
     d = described_at disk (pairs_gstate (chain ++ p ∷ rest)) true (p ∷ rest) ms k m t.described is
 
-    pub marked_next : (known new : Name × Vertex) (marked : BlockStates) → AddsPair disk firsts m known mid new marked → AreMarked disk chain (p ∷ rest) (k + 1) marked
+    pub marked_next : (known new : Name × Vertex) (marked : BlockStates) → ScansPair disk firsts m known mid new marked → AreMarked disk chain (p ∷ rest) (k + 1) marked
     marked_next known new marked adds =
         more_marked disk firsts chain (p ∷ rest) k d.is_first d.p known new mid marked d.there a (taken_rules disk firsts (pairs_gstate (chain ++ p ∷ rest)) d.is_first d.p m known mid new marked d.describes adds)
 

@@ -22,7 +22,7 @@ pub use Rattle.lfs_model.specs.format.Log.{block_entries}
 pub use Rattle.lfs_model.specs.format.Names.{Name, is_valid_name, name_cmp}
 pub use Rattle.lfs_model.specs.format.SkipLists.{IsSkipList, block_count_for, blocks_to_head}
 pub use Rattle.lfs_model.specs.format.Slots.{Branch, Ctz, Gstate, Inline, Slot, Struct, array_address, is_superblock, same_pair, zero_gstate}
-pub use Rattle.lfs_model.specs.format.Thread.{AreLinked, BeginsAt, IsThread, Pair, ThreadDirectory, anchor_address, count_before_root, directories_with_pair, directory_slots, first_address, has_no_entry, has_superblock, is_hard_tail, moved_id, pair_directories, pairs_blocks, pairs_from_root, pairs_gstate, root_address, slots_not_moved, starts_superblock, unmoved_entries}
+pub use Rattle.lfs_model.specs.format.Thread.{AreLinked, BeginsAt, IsThread, Pair, ThreadDirectory, anchor_address, count_before_root, directories_with_pair, directory_slots, first_address, has_no_entry, has_superblock, is_hard_tail, moved_id, pair_directories, pairs_blocks, pairs_from_root, pairs_gstate, root_address, slots_not_moved, superblock_first, unmoved_entries}
 pub use Rattle.lfs_model.specs.layers.BlockSets.{AreInFlight, AreUsed, BlockState, BlockStates, IsFree}
 pub use Rattle.lfs_model.specs.layers.BlockSets.BlockState.{Free, InFlight, Used}
 pub use Rattle.lfs_model.specs.layers.LoggedContent.{AreWellFormed, IsFormedSlot}
@@ -31,13 +31,13 @@ pub use Rattle.lfs_model.specs.layers.Violations.{Breaks, BreaksPairs}
 pub use Rattle.lfs_model.specs.session.History.{CallEvent, OnlyReadsSince, fault_count, read_count}
 pub use Rattle.lfs_model.specs.tree.Shown.{IsReachedBySome, all_directories, all_unmoved_slots, struct_blocks, used_blocks}
 pub use Rattle.lfs_model.specs.tree.Tree.{Path, address_from_slot, branch_address, entry_named, root_slot}
-pub use Rattle.lfs_model.specs.tree.View.{HasStruct, HasValidMove, IsAccepted, IsEntry, IsFormedList, IsSuperblock, IsSuperblockFirst, IsTreeEntry}
+pub use Rattle.lfs_model.specs.tree.View.{RepeatsSuperblockStruct, HasValidMove, IsAccepted, IsEntry, IsFormedList, IsSuperblock, IsSuperblockFirst, IsTreeEntry}
 pub use Rattle.lfs_mount.specs.Accepted.{IsHeadersVerdict, IsThreadVerdict, MapUsesBlocks}
-pub use Rattle.lfs_mount.specs.Broken.{BreaksDescribedPair, BreaksKeptList, BreaksList, BreaksMovedSlot, kept_block_slots, raw_block_slots}
+pub use Rattle.lfs_mount.specs.Broken.{BreaksDescribedPair, BreaksEntryList, BreaksList, BreaksMovedSlot, block_entry_slots, raw_block_slots}
 pub use Rattle.lfs_mount.specs.Checked.{FirstHasStruct, HasNoEntries, HasSuperblockAlone, IsDescribedThread}
 pub use Rattle.lfs_mount.specs.Described.{AreDescriptions, IsDescription}
 pub use Rattle.lfs_mount.specs.Directories.{BreaksGraphRule, IsDirectoryTree, IsThreadGraph}
-pub use Rattle.lfs_mount.specs.DirectoryEntries.{Below, HoldsNoneAt, InList, InSlot, NamedReference, comes_after_name, empty_scan, named_reference, raw_slot_entry, scan_with_entries, scan_with_entry, struct_reference, vertex_with_branch}
+pub use Rattle.lfs_mount.specs.DirectoryEntries.{Below, HoldsNoEntryAt, InList, InSlot, NamedReference, comes_after_name, empty_scan, named_reference, raw_slot_entry, scan_with_entries, scan_with_entry, struct_reference, vertex_with_branch}
 pub use Rattle.lfs_mount.specs.DirectoryPlaces.{DescribesSlots, IsDirectoryGraph, IsPathReached, directory_index, slot_branches}
 pub use Rattle.lfs_mount.specs.DirectoryView.{graph_view, vertex_view}
 pub use Rattle.lfs_mount.specs.KnownView.{scan_view}
@@ -52,7 +52,7 @@ pub use Rattle.lfs_mount.specs.Reaching.{AreFoundMarks, AreReachedMarks, Directo
 pub use Rattle.lfs_mount.specs.Scanned.{scan_after_slots}
 pub use Rattle.lfs_mount.specs.Start.{image_number}
 pub use Rattle.lfs_mount.specs.SuperblockChain.{AreThreadHeaders, BreaksFirstSuperblock, HasChain, first_filled, first_repeats_superblock, first_slot_struct}
-pub use Rattle.lfs_mount.specs.Taken.{AddsPair, after_superblock, kept_slot_number, raw_entry_slots, unmoved_raw_slots}
+pub use Rattle.lfs_mount.specs.Taken.{ScansPair, after_superblock, entry_slot_number, raw_entry_slots, unmoved_raw_slots}
 pub use Rattle.lfs_pair.specs.Pair.{header_address}
 pub use Rattle.lfs_tag.specs.ContentView.{slot_view, tail_view}
 pub use Rattle.lfs_tag.specs.FieldsView.{move_view}

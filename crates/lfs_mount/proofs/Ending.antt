@@ -2,7 +2,7 @@
 use Rattle.std.proofs.Common.{ℕ, zero, suc, ◌≡◌, inl, inr, Bool, true, false, List, [], ◌∷◌, ◌++◌, Option, Some, None, refl, sym, ap, subst, subst₂, ◌∙◌, arith, nat_eq, flat_map}
 use Rattle.std.specs.Prelude.{All}
 use Rattle.std.specs.List.{IsDistinct}
-use Rattle.lfs_mount.proofs.Common.{flat_map-append, All-from_recursion, recursion_from_All, BlockStates, content_at, Disk, block_count, IsSkipList, Slot, Gstate, Pair, IsThread, pairs_blocks, pairs_gstate, slots_not_moved, unmoved_entries, moved_id, IsTreeEntry, IsSuperblockFirst, HasStruct, IsFormedList, HasValidMove, IsAccepted, struct_blocks, all_unmoved_slots, used_blocks, all_directories, Each, each_append, number_occurrences, count_append, once_from_distinct, distinct_from_once, IsChain, pairs_behind, StructMark, HoldSlots, DirectoryGraph, IsDirectoryTree, IsThreadGraph, empty_scan, HasUsedBlocks, MarksLists, blocks_last_first, AreDescriptions, FirstHasStruct, HasSuperblockAlone, HasNoEntries, IsDescribedThread, IsEntryOrNone, NamesMovedEntry, ScansPairs, MapUsesBlocks, directory_addresses}
+use Rattle.lfs_mount.proofs.Common.{flat_map-append, All-from_recursion, recursion_from_All, BlockStates, content_at, Disk, block_count, IsSkipList, Slot, Gstate, Pair, IsThread, pairs_blocks, pairs_gstate, slots_not_moved, unmoved_entries, moved_id, IsTreeEntry, IsSuperblockFirst, RepeatsSuperblockStruct, IsFormedList, HasValidMove, IsAccepted, struct_blocks, all_unmoved_slots, used_blocks, all_directories, Each, each_append, number_occurrences, count_append, once_from_distinct, distinct_from_once, IsChain, pairs_behind, StructMark, HoldSlots, DirectoryGraph, IsDirectoryTree, IsThreadGraph, empty_scan, HasUsedBlocks, MarksLists, blocks_last_first, AreDescriptions, FirstHasStruct, HasSuperblockAlone, HasNoEntries, IsDescribedThread, IsEntryOrNone, NamesMovedEntry, ScansPairs, MapUsesBlocks, directory_addresses}
 use Rattle.lfs_model.specs.declared.limits.AcceptedVersions.{AcceptedVersions}
 use Rattle.lfs_model.specs.tree.View.{SuperblockFirstIfAny}
 use Rattle.lfs_model.proofs.Counts.{each_weaker}
@@ -13,15 +13,15 @@ use Rattle.lfs_mount.proofs.Owned.{owned_more, has_only}
 use Rattle.lfs_mount.proofs.Rules.{behind, without, unmoved-without, IsMovedEntry, lists_of, HaveEntries, passed_rules, thread_shows}
 use Rattle.lfs_mount.proofs.Accepts.{IsInline, Starting, starts_so, slots_right, no_blocks, no_lists, counted, listed}
 
-bare_headed : (v : AcceptedVersions) (bytes : List ℕ) (chain : List Pair) → Each (HasNoEntries v bytes) chain → Each (λ q. SuperblockFirstIfAny (HasStruct v bytes) q.content.slots) chain
+bare_headed : (v : AcceptedVersions) (bytes : List ℕ) (chain : List Pair) → Each (HasNoEntries v bytes) chain → Each (λ q. SuperblockFirstIfAny (RepeatsSuperblockStruct v bytes) q.content.slots) chain
 bare_headed v bytes [] h = tt
 bare_headed v bytes (q ∷ chain) h = (go h.0, bare_headed v bytes chain h.1)
   where
-    go : HasNoEntries v bytes q → SuperblockFirstIfAny (HasStruct v bytes) q.content.slots
-    go (inl none) = subst (SuperblockFirstIfAny (HasStruct v bytes)) (sym none) tt
-    go (inr alone) = subst (SuperblockFirstIfAny (HasStruct v bytes)) (sym alone.slots) (alone.superblock, alone.struct, (λ k d lt. absurd (omega arith)))
+    go : HasNoEntries v bytes q → SuperblockFirstIfAny (RepeatsSuperblockStruct v bytes) q.content.slots
+    go (inl none) = subst (SuperblockFirstIfAny (RepeatsSuperblockStruct v bytes)) (sym none) tt
+    go (inr alone) = subst (SuperblockFirstIfAny (RepeatsSuperblockStruct v bytes)) (sym alone.slots) (alone.superblock, alone.struct, (λ k d lt. absurd (omega arith)))
 
-inline_slot : (v : AcceptedVersions) (bytes : List ℕ) (s : Slot) → HasStruct v bytes s → IsInline s.struct
+inline_slot : (v : AcceptedVersions) (bytes : List ℕ) (s : Slot) → RepeatsSuperblockStruct v bytes s → IsInline s.struct
 inline_slot v bytes s h = subst IsInline (sym h.1.0) tt
 
 -- whatever the global state names
@@ -56,7 +56,7 @@ others_hold : (g : Gstate) (m : Mark) (ps : List Pair) → HaveEntries g false p
 others_hold g m [] h k = tt
 others_hold g m (p ∷ ps) h k = (slots_right g false p k.0 (λ e. absurd (cc)) h.0, others_hold g m ps h.1 k.1)
 
-headed : (v : AcceptedVersions) (bytes : List ℕ) (slots : List Slot) → FirstHasStruct v bytes slots → All IsTreeEntry (behind true slots) → IsSuperblockFirst (HasStruct v bytes) slots
+headed : (v : AcceptedVersions) (bytes : List ℕ) (slots : List Slot) → FirstHasStruct v bytes slots → All IsTreeEntry (behind true slots) → IsSuperblockFirst (RepeatsSuperblockStruct v bytes) slots
 headed v bytes [] h entries = absurd h
 headed v bytes (s ∷ slots) h entries = (h.0, h.1, entries)
 

@@ -1,6 +1,6 @@
 -- The first slot of a pair: whether it is a superblock's, and its struct.
 use Rattle.std.proofs.Common.{ℕ, ◌≡◌, ◌==◌, ◌&&◌, Bool, true, false, cond, List, [], ◌∷◌, length, drop, slice_get, Option, Some, None, codes, refl, sym, ap, subst, ◌∙◌, eqb-true, eq-eqb, option_and_then, option_map}
-use Rattle.lfs_mount.proofs.Common.{and_parts, and_from, same_Some, RawSlot, complete_slot, complete_slots, kind_of_type, read_struct, inline_type, directory_type, Disk, block_count, Slot, Struct, Inline, Ctz, Branch, is_superblock, starts_superblock, HasStruct, IsSuperblock, complete_parts, FirstHasStruct, first_slot_struct, first_repeats_superblock}
+use Rattle.lfs_mount.proofs.Common.{and_parts, and_from, same_Some, RawSlot, complete_slot, complete_slots, kind_of_type, read_struct, inline_type, directory_type, Disk, block_count, Slot, Struct, Inline, Ctz, Branch, is_superblock, superblock_first, RepeatsSuperblockStruct, IsSuperblock, complete_parts, FirstHasStruct, first_slot_struct, first_repeats_superblock}
 use Rattle.std.proofs.lemmas.Slice.Eq.{bytes_eq-Decides}
 use Rattle.lfs_model.specs.format.EntryTypes.{superblock_fields}
 use Rattle.lfs_model.specs.layers.Violations.{IsDiskSuperblock}
@@ -91,34 +91,34 @@ module _ (versions : AcceptedVersions) (bytes : List ℕ) where
       let p = complete_parts s raws slots c in
       subst (FirstHasStruct versions bytes) (sym p.all_are) (go p.first (made_of s p.first p.is_first) (is_superblock_tag s.name) refl e)
     where
-      go : (t : Slot) → IsMadeOf s t → (b : Bool) → is_superblock_tag s.name ≡ b → cond b (if_repeated_struct versions bytes (inline_bytes s.struct)) (Some false) ≡ Some true → (is_superblock t ≡ true) × HasStruct versions bytes t
+      go : (t : Slot) → IsMadeOf s t → (b : Bool) → is_superblock_tag s.name ≡ b → cond b (if_repeated_struct versions bytes (inline_bytes s.struct)) (Some false) ≡ Some true → (is_superblock t ≡ true) × RepeatsSuperblockStruct versions bytes t
       go t m true n k = let f = same_from (inline_bytes s.struct) k in (slot_named s t m ∙ n, (f.0, (slot_struct s t f.0 m f.1.0, f.1.1)))
       go t m false n k = absurd (cc)
 
-  pub repeats_false : (raws : List RawSlot) (slots : List Slot) → complete_slots raws ≡ Some slots → first_repeats_superblock versions bytes raws ≡ Some false → starts_superblock slots ≡ false
-  repeats_false [] slots c e = ap starts_superblock (sym (same_Some [] slots c))
+  pub repeats_false : (raws : List RawSlot) (slots : List Slot) → complete_slots raws ≡ Some slots → first_repeats_superblock versions bytes raws ≡ Some false → superblock_first slots ≡ false
+  repeats_false [] slots c e = ap superblock_first (sym (same_Some [] slots c))
   repeats_false (s ∷ raws) slots c e =
       let p = complete_parts s raws slots c in
-      ap starts_superblock p.all_are ∙ slot_named s p.first (made_of s p.first p.is_first) ∙ go (is_superblock_tag s.name) refl e
+      ap superblock_first p.all_are ∙ slot_named s p.first (made_of s p.first p.is_first) ∙ go (is_superblock_tag s.name) refl e
     where
       go : (b : Bool) → is_superblock_tag s.name ≡ b → cond b (if_repeated_struct versions bytes (inline_bytes s.struct)) (Some false) ≡ Some false → b ≡ false
       go true n k = absurd (never_false (inline_bytes s.struct) k)
       go false n k = refl
 
   pub repeats_none : (raws : List RawSlot) (slots : List Slot) → complete_slots raws ≡ Some slots → first_repeats_superblock versions bytes raws ≡ None
-      → (starts_superblock slots ≡ true) × (FirstHasStruct versions bytes slots → ⊥)
+      → (superblock_first slots ≡ true) × (FirstHasStruct versions bytes slots → ⊥)
   repeats_none [] slots c e = absurd (cc)
   repeats_none (s ∷ raws) slots c e =
       let p = complete_parts s raws slots c in
       let m = made_of s p.first p.is_first in
       let k = go (is_superblock_tag s.name) refl e in
-      (ap starts_superblock p.all_are ∙ slot_named s p.first m ∙ k.0, λ h. other p.first m k.1 (subst (FirstHasStruct versions bytes) p.all_are h).1)
+      (ap superblock_first p.all_are ∙ slot_named s p.first m ∙ k.0, λ h. other p.first m k.1 (subst (FirstHasStruct versions bytes) p.all_are h).1)
     where
       go : (b : Bool) → is_superblock_tag s.name ≡ b → cond b (if_repeated_struct versions bytes (inline_bytes s.struct)) (Some false) ≡ None → (b ≡ true) × (if_repeated_struct versions bytes (inline_bytes s.struct) ≡ None)
       go true n k = (refl, k)
       go false n k = absurd (cc)
 
-      other : (t : Slot) → IsMadeOf s t → if_repeated_struct versions bytes (inline_bytes s.struct) ≡ None → HasStruct versions bytes t → ⊥
+      other : (t : Slot) → IsMadeOf s t → if_repeated_struct versions bytes (inline_bytes s.struct) ≡ None → RepeatsSuperblockStruct versions bytes t → ⊥
       other t m none (own, (is, same)) = differs (inline_bytes s.struct) own none (slot_inline s t own m is) same
 
 -- ---- the superblock itself

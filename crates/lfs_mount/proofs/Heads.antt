@@ -1,11 +1,11 @@
 -- How many pairs of the superblock's chain stand in front of the root's first one.
 use Rattle.std.proofs.Common.{ℕ, zero, suc, ◌≡◌, ◌⊎◌, inl, inr, ◌==◌, ◌&&◌, ◌||◌, ◌+◌, ◌-◌, ◌<◌, ◌≤◌, Bool, true, false, cond, List, [], ◌∷◌, ◌++◌, length, drop, slice_get, slice_index_or, Option, Some, None, refl, sym, ap, ap₂, subst, ◌∙◌, arith, eqb-true, option_and_then, option_map}
-use Rattle.lfs_mount.proofs.Common.{and_from, and_parts, length-map, same_Some, slice_get_read, slice_get_within, Blocks, current_block, Disk, disk_block, block_count, CallEvent, Slot, Inline, array_address, Pair, first_address, has_no_entry, is_hard_tail, has_superblock, starts_superblock, count_before_root, pairs_from_root, HasStruct, IsSuperblock, BreaksPairs, Each, tail_view, AreHeaders, PairHeader, header_pairs, FirstHasStruct, HasSuperblockAlone, HasNoEntries, AreThreadHeaders, BreaksFirstSuperblock, HasChain, first_filled, first_repeats_superblock, first_slot_struct}
+use Rattle.lfs_mount.proofs.Common.{and_from, and_parts, length-map, same_Some, slice_get_read, slice_get_within, Blocks, current_block, Disk, disk_block, block_count, CallEvent, Slot, Inline, array_address, Pair, first_address, has_no_entry, is_hard_tail, has_superblock, superblock_first, count_before_root, pairs_from_root, RepeatsSuperblockStruct, IsSuperblock, BreaksPairs, Each, tail_view, AreHeaders, PairHeader, header_pairs, FirstHasStruct, HasSuperblockAlone, HasNoEntries, AreThreadHeaders, BreaksFirstSuperblock, HasChain, first_filled, first_repeats_superblock, first_slot_struct}
 use Rattle.std.proofs.lemmas.Bool.{and_right, eqb-false}
 use Rattle.lfs_device.specs.declared.geometry.Geometry.{Geometry}
 use Rattle.lfs_model.specs.format.Blocks.{block_bytes}
 use Rattle.lfs_model.specs.format.Thread as Thread
-use Rattle.lfs_model.specs.format.Thread.{from_first_slots, has_slots, starts_or_later}
+use Rattle.lfs_model.specs.format.Thread.{pairs_from_filled, has_slots, superblock_or_later}
 use Rattle.lfs_model.specs.tree.View.{BeginsWith, first_pair_slots, first_slot_name, superblock_entry}
 use Rattle.lfs_model.specs.layers.Violations.{HasFirstSlot, first_filled_address}
 use Rattle.lfs_model.specs.declared.limits.AcceptedVersions.{AcceptedVersions}
@@ -34,7 +34,7 @@ Led v bytes k [] = ⊥
 Led v bytes zero (p ∷ ps) = FirstHasStruct v bytes p.content.slots
 Led v bytes (suc k) (p ∷ ps) = IsLink v bytes p × Led v bytes k ps
 
-starts_so : (v : AcceptedVersions) (bytes : List ℕ) (slots : List Slot) → FirstHasStruct v bytes slots → starts_superblock slots ≡ true
+starts_so : (v : AcceptedVersions) (bytes : List ℕ) (slots : List Slot) → FirstHasStruct v bytes slots → superblock_first slots ≡ true
 starts_so v bytes [] h = absurd h
 starts_so v bytes (s ∷ slots) h = h.0
 
@@ -45,15 +45,15 @@ link_bare : (v : AcceptedVersions) (bytes : List ℕ) (p : Pair) → HasNoEntrie
 link_bare v bytes p (inl none) = ap has_no_entry none
 link_bare v bytes p (inr alone) = ap has_no_entry alone.slots ∙ alone.superblock
 
-link_leads : (v : AcceptedVersions) (bytes : List ℕ) (p : Pair) → IsLink v bytes p → Thread.may_continue p ≡ true
+link_leads : (v : AcceptedVersions) (bytes : List ℕ) (p : Pair) → IsLink v bytes p → Thread.chain_may_continue p ≡ true
 link_leads v bytes p h = and_from (has_no_entry p.content.slots) (is_hard_tail p.content.tail) (link_bare v bytes p h.0) h.1
 
 link_meets : (v : AcceptedVersions) (bytes : List ℕ) (p : Pair) (ps : List Pair) → IsLink v bytes p → has_superblock ps ≡ true → has_superblock (p ∷ ps) ≡ true
-link_meets v bytes p ps (inl none, hard) e = ap (λ z. starts_or_later z (is_hard_tail p.content.tail && has_superblock ps)) none ∙ and_from (is_hard_tail p.content.tail) (has_superblock ps) hard e
+link_meets v bytes p ps (inl none, hard) e = ap (λ z. superblock_or_later z (is_hard_tail p.content.tail && has_superblock ps)) none ∙ and_from (is_hard_tail p.content.tail) (has_superblock ps) hard e
 link_meets v bytes p ps (inr alone, hard) e = meets_starting p ps (starts_so v bytes p.content.slots (alone_start v bytes p alone))
 
 before_link : (v : AcceptedVersions) (bytes : List ℕ) (p : Pair) (ps : List Pair) → IsLink v bytes p → has_superblock ps ≡ true → count_before_root (p ∷ ps) ≡ suc (count_before_root ps)
-before_link v bytes p ps h e = ap (λ b. cond b (1 + count_before_root ps) 0) (and_from (has_superblock ps) (Thread.may_continue p) e (link_leads v bytes p h)) ∙ (let n = count_before_root ps in omega arith)
+before_link v bytes p ps h e = ap (λ b. cond b (1 + count_before_root ps) 0) (and_from (has_superblock ps) (Thread.chain_may_continue p) e (link_leads v bytes p h)) ∙ (let n = count_before_root ps in omega arith)
 
 linked_meets : (v : AcceptedVersions) (bytes : List ℕ) (k : ℕ) (ps : List Pair) → Linked v bytes k ps → has_superblock (drop k ps) ≡ true → has_superblock ps ≡ true
 linked_meets v bytes zero ps h e = e
@@ -106,7 +106,7 @@ pub record IsWalked (v : AcceptedVersions) (bytes : List ℕ) (ps : List Pair) (
   pub linked : Linked v bytes index ps
   pub below : root ≤ index
   pub bare : (p : Pair) → slice_get ps index ≡ Some p → (p.content.slots ≡ []) ⊎ FirstHasStruct v bytes p.content.slots
-  pub ends : (p : Pair) → slice_get ps index ≡ Some p → (has_superblock (drop (suc index) ps) && Thread.may_continue p) ≡ false → count_before_root ps ≡ root
+  pub ends : (p : Pair) → slice_get ps index ≡ Some p → (has_superblock (drop (suc index) ps) && Thread.chain_may_continue p) ≡ false → count_before_root ps ≡ root
 
 walked_at : (v : AcceptedVersions) (bytes : List ℕ) (k : ℕ) (ps : List Pair) → Led v bytes k ps → IsWalked v bytes ps k k
 walked_at v bytes k ps l = record {
@@ -143,14 +143,14 @@ many_slots (s ∷ []) f = absurd (let clash : true ≡ false = f in cc)
 many_slots (s ∷ t ∷ slots) f = refl
 
 -- the chain stops at a pair that doesn't lead on
-stops : (p : Pair) → ((length p.content.slots == 0 || length p.content.slots == 1) && is_hard_tail p.content.tail) ≡ false → Thread.may_continue p ≡ false
+stops : (p : Pair) → ((length p.content.slots == 0 || length p.content.slots == 1) && is_hard_tail p.content.tail) ≡ false → Thread.chain_may_continue p ≡ false
 stops p e = go (length p.content.slots == 0 || length p.content.slots == 1) refl e
   where
-    go : (b : Bool) → (length p.content.slots == 0 || length p.content.slots == 1) ≡ b → (b && is_hard_tail p.content.tail) ≡ false → Thread.may_continue p ≡ false
+    go : (b : Bool) → (length p.content.slots == 0 || length p.content.slots == 1) ≡ b → (b && is_hard_tail p.content.tail) ≡ false → Thread.chain_may_continue p ≡ false
     go false f k = ap (λ b. b && is_hard_tail p.content.tail) (many_slots p.content.slots f)
     go true f k = and_right (has_no_entry p.content.slots) (is_hard_tail p.content.tail) k
 
-meets_slots : (slots : List Slot) (later : Bool) → (slots ≡ [] → ⊥) → starts_or_later slots later ≡ starts_superblock slots
+meets_slots : (slots : List Slot) (later : Bool) → (slots ≡ [] → ⊥) → superblock_or_later slots later ≡ superblock_first slots
 meets_slots [] later some = absurd (some refl)
 meets_slots (s ∷ slots) later some = refl
 
@@ -182,13 +182,13 @@ some_first : (slots : List Slot) → (slots ≡ [] → ⊥) → (s : Slot) × (s
 some_first [] some = absurd (some refl)
 some_first (s ∷ slots) some = (s, refl)
 
-starting_some : (slots : List Slot) → starts_superblock slots ≡ true → slots ≡ [] → ⊥
+starting_some : (slots : List Slot) → superblock_first slots ≡ true → slots ≡ [] → ⊥
 starting_some [] h e = cc
 starting_some (s ∷ slots) h e = cc
 
-starting_so : (v : AcceptedVersions) (bytes : List ℕ) (slots : List Slot) (s : Slot) → slice_get slots 0 ≡ Some s → starts_superblock slots ≡ true → HasStruct v bytes s → FirstHasStruct v bytes slots
+starting_so : (v : AcceptedVersions) (bytes : List ℕ) (slots : List Slot) (s : Slot) → slice_get slots 0 ≡ Some s → superblock_first slots ≡ true → RepeatsSuperblockStruct v bytes s → FirstHasStruct v bytes slots
 starting_so v bytes [] s e starts h = absurd (cc)
-starting_so v bytes (x ∷ slots) s e starts h = (starts, subst (HasStruct v bytes) (sym (same_Some x s e)) h)
+starting_so v bytes (x ∷ slots) s e starts h = (starts, subst (RepeatsSuperblockStruct v bytes) (sym (same_Some x s e)) h)
 
 -- ---- headers
 
@@ -223,7 +223,7 @@ record IsFilled (disk : Disk) (hs : List PairHeader) (k : ℕ) (bytes : List ℕ
   some : (pair_of disk header).content.slots ≡ [] → ⊥
   linked : Linked disk.profile.versions bytes k (header_pairs disk hs)
   rest : List Pair
-  from : from_first_slots (header_pairs disk hs) ≡ pair_of disk header ∷ rest
+  from : pairs_from_filled (header_pairs disk hs) ≡ pair_of disk header ∷ rest
 
 no_slots : (slots : List Slot) → length slots ≡ 0 → slots ≡ []
 no_slots [] e = refl
@@ -249,7 +249,7 @@ filled disk history bytes (x ∷ hs) k each e =
       some = some;
       linked = tt;
       rest = header_pairs disk hs;
-      from = ap (λ t. cond t (pair_of disk x ∷ header_pairs disk hs) (from_first_slots (header_pairs disk hs))) (filled_slots (pair_of disk x).content.slots some);
+      from = ap (λ t. cond t (pair_of disk x ∷ header_pairs disk hs) (pairs_from_filled (header_pairs disk hs))) (filled_slots (pair_of disk x).content.slots some);
     })
       where
         some : (pair_of disk x).content.slots ≡ [] → ⊥
@@ -262,7 +262,7 @@ filled disk history bytes (x ∷ hs) k each e =
       some = (next j f).some;
       linked = ((inl empty, sym seen.hard ∙ hard), (next j f).linked);
       rest = (next j f).rest;
-      from = ap (λ z. cond (has_slots z) (pair_of disk x ∷ header_pairs disk hs) (from_first_slots (header_pairs disk hs))) empty ∙ (next j f).from;
+      from = ap (λ z. cond (has_slots z) (pair_of disk x ∷ header_pairs disk hs) (pairs_from_filled (header_pairs disk hs))) empty ∙ (next j f).from;
     })
       where
         empty : (pair_of disk x).content.slots ≡ []
@@ -282,11 +282,11 @@ none_filled disk history (x ∷ hs) each e = go (x.slot_count == 0) refl (is_har
     go true n true hard None f is next = empty ∙ ap (λ b. is_hard_tail (pair_of disk x).content.tail && b) (next f) ∙ and_right (is_hard_tail (pair_of disk x).content.tail) false refl
       where
         empty : has_superblock (header_pairs disk (x ∷ hs)) ≡ (is_hard_tail (pair_of disk x).content.tail && has_superblock (header_pairs disk hs))
-        empty = ap (λ z. starts_or_later z (is_hard_tail (pair_of disk x).content.tail && has_superblock (header_pairs disk hs))) (no_slots (pair_of disk x).content.slots (sym seen.count ∙ eqb-true x.slot_count 0 n))
+        empty = ap (λ z. superblock_or_later z (is_hard_tail (pair_of disk x).content.tail && has_superblock (header_pairs disk hs))) (no_slots (pair_of disk x).content.slots (sym seen.count ∙ eqb-true x.slot_count 0 n))
     go true n false hard o f is next = empty ∙ ap (λ b. b && has_superblock (header_pairs disk hs)) (sym seen.hard ∙ hard)
       where
         empty : has_superblock (header_pairs disk (x ∷ hs)) ≡ (is_hard_tail (pair_of disk x).content.tail && has_superblock (header_pairs disk hs))
-        empty = ap (λ z. starts_or_later z (is_hard_tail (pair_of disk x).content.tail && has_superblock (header_pairs disk hs))) (no_slots (pair_of disk x).content.slots (sym seen.count ∙ eqb-true x.slot_count 0 n))
+        empty = ap (λ z. superblock_or_later z (is_hard_tail (pair_of disk x).content.tail && has_superblock (header_pairs disk hs))) (no_slots (pair_of disk x).content.slots (sym seen.count ∙ eqb-true x.slot_count 0 n))
 
 with_true : (b : Bool) → (b && true) ≡ b
 with_true true = refl
@@ -313,7 +313,7 @@ module _ (disk : Disk) (history : List CallEvent) (hs : List PairHeader) (has : 
   -- the chain stops at a pair that doesn't lead on
   pub halts : (bytes : List ℕ) (root index : ℕ) (h : PairHeader) → slice_get hs index ≡ Some h → IsWalked v bytes ps root index → may_continue_after h ≡ false → count_before_root ps ≡ root
   halts bytes root index h here w e = w.ends (pair_of disk h) (pair_at disk hs index h here)
-      (and_right (has_superblock (drop (suc index) ps)) (Thread.may_continue (pair_of disk h)) (stops (pair_of disk h) (sym (leads_seen h (header_at disk history hs index h has.each here)) ∙ e)))
+      (and_right (has_superblock (drop (suc index) ps)) (Thread.chain_may_continue (pair_of disk h)) (stops (pair_of disk h) (sym (leads_seen h (header_at disk history hs index h has.each here)) ∙ e)))
 
   module _ (bytes : List ℕ) (root index : ℕ) (h next : PairHeader) (s : IsStep hs index h next) (walked : IsWalked v bytes ps root (index - 1)) where
     abbrev p : Pair
@@ -355,10 +355,10 @@ module _ (disk : Disk) (history : List CallEvent) (hs : List PairHeader) (has : 
       linked : Linked v bytes (suc s.k) ps
       linked = linked_more v bytes s.k ps p w.linked p_at link
 
-      goes : (has_superblock (drop (suc s.k) ps) && Thread.may_continue p) ≡ has_superblock (drop (suc s.k) ps)
+      goes : (has_superblock (drop (suc s.k) ps) && Thread.chain_may_continue p) ≡ has_superblock (drop (suc s.k) ps)
       goes = ap (λ b. has_superblock (drop (suc s.k) ps) && b) (link_leads v bytes p link) ∙ with_true (has_superblock (drop (suc s.k) ps))
 
-      meets : has_superblock (drop (suc s.k) ps) ≡ starts_or_later q.content.slots (is_hard_tail q.content.tail && has_superblock (drop (suc (suc s.k)) ps))
+      meets : has_superblock (drop (suc s.k) ps) ≡ superblock_or_later q.content.slots (is_hard_tail q.content.tail && has_superblock (drop (suc (suc s.k)) ps))
       meets = ap has_superblock (dropped ps (suc s.k) q q_at)
 
       -- no slot
@@ -368,9 +368,9 @@ module _ (disk : Disk) (history : List CallEvent) (hs : List PairHeader) (has : 
         linked = linked;
         below = (let b = w.below in omega arith);
         bare = λ x e. inl (subst (λ (z : Pair). z.content.slots ≡ []) (same_Some q x (sym q_at ∙ e)) empty);
-        ends = λ x e k. w.ends p p_at (goes ∙ meets ∙ ap (λ z. starts_or_later z (is_hard_tail q.content.tail && has_superblock (drop (suc (suc s.k)) ps))) empty ∙ turned (is_hard_tail q.content.tail) (has_superblock (drop (suc (suc s.k)) ps))
+        ends = λ x e k. w.ends p p_at (goes ∙ meets ∙ ap (λ z. superblock_or_later z (is_hard_tail q.content.tail && has_superblock (drop (suc (suc s.k)) ps))) empty ∙ turned (is_hard_tail q.content.tail) (has_superblock (drop (suc (suc s.k)) ps))
             ∙ ap (λ z. has_superblock (drop (suc (suc s.k)) ps) && (has_no_entry z && is_hard_tail q.content.tail)) (sym empty)
-            ∙ ap (λ (z : Pair). has_superblock (drop (suc (suc s.k)) ps) && Thread.may_continue z) (same_Some q x (sym q_at ∙ e)) ∙ k);
+            ∙ ap (λ (z : Pair). has_superblock (drop (suc (suc s.k)) ps) && Thread.chain_may_continue z) (same_Some q x (sym q_at ∙ e)) ∙ k);
       })
         where
           empty : q.content.slots ≡ []
@@ -413,9 +413,9 @@ module _ (disk : Disk) (history : List CallEvent) (hs : List PairHeader) (has : 
   -- ---- the first header of a pair that has a slot, as it is read
 
   pub no_superblock : first_filled hs ≡ None → BreaksPairs disk ps violation.NoSuperblock
-  no_superblock none = go (starts_superblock (first_pair_slots (pairs_from_root ps))) refl
+  no_superblock none = go (superblock_first (first_pair_slots (pairs_from_root ps))) refl
     where
-      go : (b : Bool) → starts_superblock (first_pair_slots (pairs_from_root ps)) ≡ b → b ≡ false
+      go : (b : Bool) → superblock_first (first_pair_slots (pairs_from_root ps)) ≡ b → b ≡ false
       go true starts = absurd (let e = sym (meets_from ps starts) ∙ none_filled disk history hs has.each none in cc)
       go false starts = refl
 
@@ -448,13 +448,13 @@ module _ (disk : Disk) (history : List CallEvent) (hs : List PairHeader) (has : 
       linked_first : (bytes : List ℕ) → Linked v bytes k ps
       linked_first bytes = (f bytes).linked
 
-      from : from_first_slots ps ≡ pair_of disk h ∷ (f []).rest
+      from : pairs_from_filled ps ≡ pair_of disk h ∷ (f []).rest
       from = (f []).from ∙ ap (λ (x : PairHeader). pair_of disk x ∷ (f []).rest) (same_header [])
 
       some_slot : (pair_of disk h).content.slots ≡ [] → ⊥
       some_slot = subst (λ (x : PairHeader). (pair_of disk x).content.slots ≡ [] → ⊥) (same_header []) (f []).some
 
-      held_first : current_block disk (first_address (from_first_slots ps)) ≡ Some (disk_block disk h.active)
+      held_first : current_block disk (first_address (pairs_from_filled ps)) ≡ Some (disk_block disk h.active)
       held_first = ap (λ (qs : List Pair). current_block disk (first_address qs)) from ∙ first_seen.holds
 
       -- the superblock that its block has
@@ -526,9 +526,9 @@ module _ (disk : Disk) (history : List CallEvent) (hs : List PairHeader) (has : 
             before = before;
             bytes = bytes;
             head = record {
-              first = subst (λ (qs : List Pair). BeginsWith (current_block disk (first_address (from_first_slots qs))) superblock_entry) apart.parts
+              first = subst (λ (qs : List Pair). BeginsWith (current_block disk (first_address (pairs_from_filled qs))) superblock_entry) apart.parts
                   (subst (λ o. BeginsWith o superblock_entry) (sym held_first) s.begins);
-              named = ap (λ (qs : List Pair). first_slot_name (from_first_slots qs)) (sym apart.parts) ∙ ap first_slot_name from ∙ d.named;
+              named = ap (λ (qs : List Pair). first_slot_name (pairs_from_filled qs)) (sym apart.parts) ∙ ap first_slot_name from ∙ d.named;
               struct = struct_read bytes s;
               bare = apart.bare;
               start = apart.start;
@@ -554,5 +554,5 @@ module _ (disk : Disk) (history : List CallEvent) (hs : List PairHeader) (has : 
           beyond (x ∷ qs) (suc n) l e = beyond qs n (omega arith) e
 
           go : (o : Option Pair) → slice_get ps index ≡ o → count_before_root ps ≡ root
-          go (Some p) e = w.ends p e (ap (λ (qs : List Pair). has_superblock qs && Thread.may_continue p) (none_behind ps (let l = length-map hs (pair_of disk) in omega arith)))
+          go (Some p) e = w.ends p e (ap (λ (qs : List Pair). has_superblock qs && Thread.chain_may_continue p) (none_behind ps (let l = length-map hs (pair_of disk) in omega arith)))
           go None e = absurd (beyond ps index (let l = length-map hs (pair_of disk) in omega arith) e)

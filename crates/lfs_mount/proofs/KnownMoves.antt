@@ -2,10 +2,10 @@
 use Rattle.std.proofs.Common.{ℕ, zero, suc, ◌≡◌, ◌⊎◌, inl, inr, ◌==◌, ◌&&◌, ◌||◌, ◌+◌, Bool, true, false, cond, List, [], ◌∷◌, ◌++◌, length, map, drop, slice_get, Some, None, refl, sym, ap, ap₂, subst, ◌∙◌, arith, eqb-true, eq-eqb, drop_at, fold, length-append, ◌<◌}
 use Rattle.lfs_mount.proofs.Common.{and_parts, and_from, drop-map, length-map, Disk, CallEvent, Gstate, Slot, zero_gstate, same_pair, Pair, pairs_gstate, has_no_entry, is_hard_tail, has_superblock, count_before_root, moved_id, IsTreeEntry, HasValidMove, IsEntry, BreaksPairs, Each, AnyByRecursion, among_from, any_from, IsChain, entry_is_other, move_view, header_address, AreHeaders, PairHeader, header_pairs, AreThreadHeaders, HasChain, HaveGstate, IsEntryOrNone, NamesMovedEntry, is_among_addresses}
 use Rattle.lfs_model.specs.format.Slots.{gstate_xor}
-use Rattle.lfs_model.specs.format.Thread.{may_continue}
+use Rattle.lfs_model.specs.format.Thread.{chain_may_continue}
 use Rattle.lfs_model.specs.declared.violations.Violation.TheVariants as violation
 use Rattle.lfs_model.proofs.Sites.{among_parts, among_right}
-use Rattle.lfs_mount.specs.MoveChecks.{gstate_of_headers, is_move_within}
+use Rattle.lfs_mount.specs.MoveChecks.{gstate_of_headers, is_move_inside}
 use Rattle.lfs_mount.proofs.Headers.{pair_of, seen_from}
 
 -- ---- the global state
@@ -57,7 +57,7 @@ no_move g e =
     let c = and_parts (g.pair.0 == 0) (g.pair.1 == 0) a.1 in
     (eqb-true g.kind 0 b.0, eqb-true g.id 0 b.1, ap₂ (λ (x y : ℕ). (x, y)) (eqb-true g.pair.0 0 c.0) (eqb-true g.pair.1 0 c.1))
 
-move_right : (g : Gstate) (chain dirs : List Pair) → is_move_within g (map (λ q. q.at) dirs) ≡ true → NamesMovedEntry g dirs → HasValidMove (chain ++ dirs) g
+move_right : (g : Gstate) (chain dirs : List Pair) → is_move_inside g (map (λ q. q.at) dirs) ≡ true → NamesMovedEntry g dirs → HasValidMove (chain ++ dirs) g
 move_right g chain dirs e h = go (is_none g) refl e
   where
     go : (b : Bool) → is_none g ≡ b → (b || (g.kind == 0x4ff && is_among_addresses g.pair (map (λ q. q.at) dirs))) ≡ true → HasValidMove (chain ++ dirs) g
@@ -67,20 +67,20 @@ move_right g chain dirs e h = go (is_none g) refl e
         let kind = eqb-true g.kind 0x4ff both.0 in
         inr (kind, any_from (Named g) (chain ++ dirs) (among_right (Named g) chain dirs (among_named g dirs kind both.1 h)))
 
-pub known_right : (g : Gstate) (headers : List PairHeader) (chain : List Pair) (p : Pair) (rest : List Pair) → HaveGstate g headers chain p rest → is_move_within g (map header_address headers) ≡ true
+pub known_right : (g : Gstate) (headers : List PairHeader) (chain : List Pair) (p : Pair) (rest : List Pair) → HaveGstate g headers chain p rest → is_move_inside g (map header_address headers) ≡ true
     → NamesMovedEntry g (p ∷ rest) → HasValidMove (chain ++ p ∷ rest) g
-known_right g headers chain p rest has e h = move_right g chain (p ∷ rest) (ap (is_move_within g) has.at ∙ e) h
+known_right g headers chain p rest has e h = move_right g chain (p ∷ rest) (ap (is_move_inside g) has.at ∙ e) h
 
 -- ---- a valid move names one of the directories' pairs
 
 -- a pair of the superblock's chain in front of the root's first one has no slot, or the superblock alone
 have_bare : (chain : List Pair) (p : Pair) (rest : List Pair) → IsChain chain (p ∷ rest) → Each (λ q. has_no_entry q.content.slots ≡ true) chain
 have_bare [] p rest h = tt
-have_bare (c ∷ chain) p rest h = go (has_superblock (chain ++ p ∷ rest) && may_continue c) refl h (have_bare chain p rest)
+have_bare (c ∷ chain) p rest h = go (has_superblock (chain ++ p ∷ rest) && chain_may_continue c) refl h (have_bare chain p rest)
   where
-    go : (b : Bool) → (has_superblock (chain ++ p ∷ rest) && may_continue c) ≡ b → cond b (1 + count_before_root (chain ++ p ∷ rest)) 0 ≡ length (c ∷ chain)
+    go : (b : Bool) → (has_superblock (chain ++ p ∷ rest) && chain_may_continue c) ≡ b → cond b (1 + count_before_root (chain ++ p ∷ rest)) 0 ≡ length (c ∷ chain)
         → (IsChain chain (p ∷ rest) → Each (λ q. has_no_entry q.content.slots ≡ true) chain) → Each (λ q. has_no_entry q.content.slots ≡ true) (c ∷ chain)
-    go true e k next = ((and_parts (has_no_entry c.content.slots) (is_hard_tail c.content.tail) (and_parts (has_superblock (chain ++ p ∷ rest)) (may_continue c) e).1).0, next (omega arith))
+    go true e k next = ((and_parts (has_no_entry c.content.slots) (is_hard_tail c.content.tail) (and_parts (has_superblock (chain ++ p ∷ rest)) (chain_may_continue c) e).1).0, next (omega arith))
     go false e k next = absurd (omega arith)
 
 no_other : (slots : List Slot) (id : ℕ) → has_no_entry slots ≡ true → IsEntry (slice_get slots id) → ⊥
@@ -94,14 +94,14 @@ none_named g [] bare k = k
 none_named g (c ∷ chain) bare (inl k) = no_other c.content.slots g.id bare.0 k.1
 none_named g (c ∷ chain) bare (inr k) = none_named g chain bare.1 k
 
-move_known : (g : Gstate) (chain : List Pair) (p : Pair) (rest : List Pair) → IsChain chain (p ∷ rest) → HasValidMove (chain ++ p ∷ rest) g → is_move_within g (map (λ q. q.at) (p ∷ rest)) ≡ true
+move_known : (g : Gstate) (chain : List Pair) (p : Pair) (rest : List Pair) → IsChain chain (p ∷ rest) → HasValidMove (chain ++ p ∷ rest) g → is_move_inside g (map (λ q. q.at) (p ∷ rest)) ≡ true
 move_known g chain p rest is valid = go valid
   where
     named : AnyByRecursion (Named g) chain ⊎ AnyByRecursion (Named g) (p ∷ rest) → is_among_addresses g.pair (map (λ q. q.at) (p ∷ rest)) ≡ true
     named (inl k) = absurd (none_named g chain (have_bare chain p rest is) k)
     named (inr k) = names_among g (p ∷ rest) k
 
-    go : HasValidMove (chain ++ p ∷ rest) g → is_move_within g (map (λ q. q.at) (p ∷ rest)) ≡ true
+    go : HasValidMove (chain ++ p ∷ rest) g → is_move_inside g (map (λ q. q.at) (p ∷ rest)) ≡ true
     go (inl k) =
         ap (λ b. b || (g.kind == 0x4ff && is_among_addresses g.pair (map (λ q. q.at) (p ∷ rest))))
         (and_from (g.kind == 0 && g.id == 0) (g.pair.0 == 0 && g.pair.1 == 0) (and_from (g.kind == 0) (g.id == 0) (eq-eqb g.kind 0 k.0) (eq-eqb g.id 0 k.1))
@@ -114,11 +114,11 @@ move_known g chain p rest is valid = go valid
         either true y f = refl
         either false y f = f
 
-pub unknown_breaks : (g : Gstate) (headers : List PairHeader) (disk : Disk) (chain : List Pair) (p : Pair) (rest : List Pair) → HaveGstate g headers chain p rest → is_move_within g (map header_address headers) ≡ false
+pub unknown_breaks : (g : Gstate) (headers : List PairHeader) (disk : Disk) (chain : List Pair) (p : Pair) (rest : List Pair) → HaveGstate g headers chain p rest → is_move_inside g (map header_address headers) ≡ false
     → BreaksPairs disk (chain ++ p ∷ rest) violation.Move
 unknown_breaks g headers disk chain p rest has e = λ valid. absurd (
     let known = move_known g chain p rest has.chain_is (subst (HasValidMove (chain ++ p ∷ rest)) has.global valid) in
-    let clash : true ≡ false = sym known ∙ ap (is_move_within g) has.at ∙ e in cc)
+    let clash : true ≡ false = sym known ∙ ap (is_move_inside g) has.at ∙ e in cc)
 
 -- ---- the headers of the directories' pairs are those behind the superblock's
 

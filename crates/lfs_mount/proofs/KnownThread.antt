@@ -2,7 +2,7 @@
 use Rattle.std.proofs.Common.{ℕ, zero, suc, ◌≡◌, ◌<◌, Bool, true, false, cond, not, nat_eq, List, [], ◌∷◌, ◌++◌, length, drop, Some, refl, sym, ap, subst, ◌∙◌, arith, slice_get, drop_at, get_or}
 use Rattle.std.specs.Prelude.{Contains}
 use Rattle.std.specs.List.{IsDistinct}
-use Rattle.lfs_mount.proofs.Common.{drop-map, distinct_right, slice_get-get_or, AreInFlight, AreUsed, BlockState, BlockStates, Free, InFlight, Used, Disk, block_count, content_at, CallEvent, Gstate, IsThread, ThreadDirectory, Pair, pairs_blocks, pair_directories, pairs_gstate, is_hard_tail, directories_with_pair, starts_superblock, count_before_root, unmoved_entries, all_directories, Contains-number_occurrences, number_occurrences-Contains, pairs_behind, header_address, AreHeaders, PairHeader, header_pairs, AreDescriptions, IsDescription, HasChain, HasUsedBlocks, AreThreadDirectories, IsThreadRead, IsHeaderThread, directory_beginnings, has_tail_header, header_descriptions, directory_addresses}
+use Rattle.lfs_mount.proofs.Common.{drop-map, distinct_right, slice_get-get_or, AreInFlight, AreUsed, BlockState, BlockStates, Free, InFlight, Used, Disk, block_count, content_at, CallEvent, Gstate, IsThread, ThreadDirectory, Pair, pairs_blocks, pair_directories, pairs_gstate, is_hard_tail, directories_with_pair, superblock_first, count_before_root, unmoved_entries, all_directories, Contains-number_occurrences, number_occurrences-Contains, pairs_behind, header_address, AreHeaders, PairHeader, header_pairs, AreDescriptions, IsDescription, HasChain, HasUsedBlocks, AreThreadDirectories, IsThreadRead, IsHeaderThread, directory_beginnings, has_tail_header, header_descriptions, directory_addresses}
 use Rattle.lfs_mount.specs.Members.{header_description}
 use Rattle.lfs_mount.proofs.Accepts.{starts_so}
 use Rattle.lfs_mount.proofs.Begins.{begins_distinct}
@@ -11,7 +11,7 @@ use Rattle.lfs_mount.proofs.Owned.{counted_place, placed_count}
 
 -- ---- members
 
-member_is : (disk : Disk) (history : List CallEvent) (g : Gstate) (first : Bool) (h : PairHeader) → AreHeaders disk history (h ∷ []) → (first ≡ true → starts_superblock (pair_of disk h).content.slots ≡ true)
+member_is : (disk : Disk) (history : List CallEvent) (g : Gstate) (first : Bool) (h : PairHeader) → AreHeaders disk history (h ∷ []) → (first ≡ true → superblock_first (pair_of disk h).content.slots ≡ true)
     → IsDescription disk g first (pair_of disk h) (header_description g first h)
 member_is disk history g first h are starts =
     let s = seen_from disk history h are.0 in
@@ -23,7 +23,7 @@ members_are disk history g (h ∷ hs) are = (member_is disk history g false h (a
 
 abbrev Starts : List Pair → Type 0
 Starts [] = Unit {0}
-Starts (p ∷ ps) = starts_superblock p.content.slots ≡ true
+Starts (p ∷ ps) = superblock_first p.content.slots ≡ true
 
 described : (disk : Disk) (history : List CallEvent) (g : Gstate) (hs : List PairHeader) → AreHeaders disk history hs → Starts (header_pairs disk hs) → AreDescriptions disk g true (header_pairs disk hs) (header_descriptions g true hs)
 described disk history g [] are starts = tt

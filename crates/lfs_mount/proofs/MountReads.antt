@@ -1,7 +1,7 @@
 -- How many reads the check of an image takes, by what its thread shows.
 use Rattle.std.proofs.Common.{ℕ, ◌≡◌, ◌≤◌, ◌<◌, ◌+◌, not, Bool, true, false, cond, List, [], ◌∷◌, ◌++◌, length, drop, filter, Some, sym, ap, subst, ◌∙◌, arith, refl, length-append}
 use Rattle.std.specs.Prelude.{All, sum_by}
-use Rattle.lfs_mount.proofs.Common.{cons_option, flat_map, flat_map-append, same_Some, AreByteBlocks, BlockStates, Disk, disk_block, CallEvent, Name, Branch, Ctz, Gstate, Inline, Slot, Struct, is_superblock, AreLinked, Pair, anchor_address, pairs_gstate, slots_not_moved, unmoved_entries, moved_id, IsAccepted, IsTreeEntry, PairHeader, header_pairs, AreDescriptions, IsDescription, empty_scan, struct_reference, HasChain, list_of_entry, IsThreadRead, IsHeaderThread, header_descriptions, ScansPairs, scan_after_tail, DirectoryGraph, Vertex, list_reads, described_lists, mount_reads, pair_reads, AddsPair, after_superblock, unmoved_raw_slots}
+use Rattle.lfs_mount.proofs.Common.{cons_option, flat_map, flat_map-append, same_Some, AreByteBlocks, BlockStates, Disk, disk_block, CallEvent, Name, Branch, Ctz, Gstate, Inline, Slot, Struct, is_superblock, AreLinked, Pair, anchor_address, pairs_gstate, slots_not_moved, unmoved_entries, moved_id, IsAccepted, IsTreeEntry, PairHeader, header_pairs, AreDescriptions, IsDescription, empty_scan, struct_reference, HasChain, list_of_entry, IsThreadRead, IsHeaderThread, header_descriptions, ScansPairs, scan_after_tail, DirectoryGraph, Vertex, list_reads, described_lists, mount_reads, pair_reads, ScansPair, after_superblock, unmoved_raw_slots}
 use Rattle.std.proofs.lemmas.List.Sums.{sum_by-append, sum_by-cons}
 use Rattle.lfs_model.specs.format.Content.{has_commit}
 use Rattle.lfs_pair.specs.Pair.{fetch_reads, later_block_first}
@@ -52,7 +52,7 @@ fewer_read f q (s ∷ slots) = go (q s) (fewer_read f q slots)
 
 -- the lists of a pair that can be taken are those of its visible slots
 taken_lists : (disk : Disk) (firsts : List (ℕ × ℕ)) (g : Gstate) (first : Bool) (p : Pair) (m : PairBeforeSlotsAreRead) (known : Name × Vertex) (sets : BlockStates) (new : Name × Vertex) (marked : BlockStates)
-    → IsDescription disk g first p m → AddsPair disk firsts m known sets new marked → described_lists disk m ≡ lists_of (unmoved_entries g p)
+    → IsDescription disk g first p m → ScansPair disk firsts m known sets new marked → described_lists disk m ≡ lists_of (unmoved_entries g p)
 taken_lists disk firsts g first p m known sets new marked h t =
     let all = held_slots disk g first p m t.held h t.content in
     let parts = kept_parts m t.held.slots t.entries t.kept in

@@ -1,7 +1,7 @@
 -- Pairs that keep the rules can be taken.
 use Rattle.std.proofs.Common.{ℕ, zero, suc, ◌≡◌, Bool, true, false, cond, List, [], ◌∷◌, remove, filter, slice_get, Option, Some, None, is_some, refl, sym, ap, ap₂, subst, ◌∙◌, option_and_then, flat_map, not}
 use Rattle.std.specs.Prelude.{All}
-use Rattle.lfs_mount.proofs.Common.{same_Some, Disk, disk_block, block_entries, Name, BlockStates, RawSlot, RawContent, complete_slots, complete_content, content_after, empty_raw_content, raw_content, AreWellFormed, Slot, Gstate, is_superblock, Pair, starts_superblock, slots_not_moved, unmoved_entries, moved_id, IsTreeEntry, complete_parts, Each, logged, Vertex, DirectoryGraph, NamedReference, raw_slot_entry, scan_after_slots, MarksLists, AddsPair, unmoved_raw_slots, after_superblock, IsDescription, AreDescriptions, AreByteBlocks, scan_after_tail, graph_with_directory, ScansPairs}
+use Rattle.lfs_mount.proofs.Common.{same_Some, Disk, disk_block, block_entries, Name, BlockStates, RawSlot, RawContent, complete_slots, complete_content, content_after, empty_raw_content, raw_content, AreWellFormed, Slot, Gstate, is_superblock, Pair, superblock_first, slots_not_moved, unmoved_entries, moved_id, IsTreeEntry, complete_parts, Each, logged, Vertex, DirectoryGraph, NamedReference, raw_slot_entry, scan_after_slots, MarksLists, ScansPair, unmoved_raw_slots, after_superblock, IsDescription, AreDescriptions, AreByteBlocks, scan_after_tail, graph_with_directory, ScansPairs}
 use Rattle.lfs_model.specs.declared.order.NameOrder.{NameOrder}
 use Rattle.lfs_mount.specs.declared.pass.PairBeforeSlotsAreRead.{PairBeforeSlotsAreRead}
 use Rattle.lfs_mount.proofs.Scans.{entry_none, scan_none}
@@ -50,10 +50,10 @@ can_unmove : (moved : Option ℕ) (raws : List RawSlot) (slots : List Slot) → 
 can_unmove None raws slots h c entry = (raws, refl)
 can_unmove (Some id) raws slots h c (t, (e, entry)) = (remove raws id, ap (λ b. cond b (Some (remove raws id)) None) (is_entry_at raws slots id t h c e entry))
 
-can_go_behind : (first : Bool) (raws : List RawSlot) (slots : List Slot) → complete_slots raws ≡ Some slots → (first ≡ true → starts_superblock slots ≡ true)
+can_go_behind : (first : Bool) (raws : List RawSlot) (slots : List Slot) → complete_slots raws ≡ Some slots → (first ≡ true → superblock_first slots ≡ true)
     → (kept : List RawSlot) × (after_superblock first raws ≡ Some kept)
 can_go_behind false raws slots c s = (raws, refl)
-can_go_behind true [] slots c s = absurd (let e : starts_superblock [] ≡ true = ap starts_superblock (same_Some [] slots c) ∙ s refl in cc)
+can_go_behind true [] slots c s = absurd (let e : superblock_first [] ≡ true = ap superblock_first (same_Some [] slots c) ∙ s refl in cc)
 can_go_behind true (r ∷ raws) slots c s = (raws, refl)
 
 can_scan : (by : NameOrder) (firsts : List (ℕ × ℕ)) (known : Name × Vertex) (raws : List RawSlot) (slots : List Slot) → AreWellFormed raws → complete_slots raws ≡ Some slots → All IsTreeEntry slots
@@ -68,7 +68,7 @@ can_scan by firsts known raws slots h c entries = go (scan_after_slots by firsts
 
 pub can_take : (disk : Disk) (firsts : List (ℕ × ℕ)) (g : Gstate) (first : Bool) (p : Pair) (m : PairBeforeSlotsAreRead) (known : Name × Vertex) (sets marked : BlockStates)
     → AreByteBlocks disk.blocks → IsDescription disk g first p m → All IsTreeEntry (behind first (slots_not_moved g p)) → IsMovedEntry (moved_id g p) p.content.slots → MarksLists disk sets (lists_of (unmoved_entries g p)) marked
-    → (new : Name × Vertex) × AddsPair disk firsts m known sets new marked
+    → (new : Name × Vertex) × ScansPair disk firsts m known sets new marked
 can_take disk firsts g first p m known sets marked bytes h entries moved lists = go (content_after empty_raw_content (block_entries (disk_block disk m.active))) refl
   where
     held_of : raw_content disk p.at ≡ content_after empty_raw_content (block_entries (disk_block disk m.active))
@@ -77,13 +77,13 @@ can_take disk firsts g first p m known sets marked bytes h entries moved lists =
     right : All IsTreeEntry (behind first (without (moved_id g p) p.content.slots))
     right = subst (λ ss. All IsTreeEntry (behind first ss)) (unmoved-without g p) entries
 
-    with_held : (held : RawContent) → content_after empty_raw_content (block_entries (disk_block disk m.active)) ≡ Some held → (new : Name × Vertex) × AddsPair disk firsts m known sets new marked
+    with_held : (held : RawContent) → content_after empty_raw_content (block_entries (disk_block disk m.active)) ≡ Some held → (new : Name × Vertex) × ScansPair disk firsts m known sets new marked
     with_held held e =
         let parts : AreWellFormed held.slots = (logged (disk_block disk m.active) held (bytes m.active) e).slots in
         let all = held_slots disk g first p m held h e in
         let u = can_unmove (moved_id g p) held.slots p.content.slots parts all moved in
         let w = without_moved (moved_id g p) held.slots u.0 p.content.slots all u.1 in
-        let starts : first ≡ true → starts_superblock (without (moved_id g p) p.content.slots) ≡ true = λ t. starts_without (moved_id g p) p.content.slots moved (h.starts t) in
+        let starts : first ≡ true → superblock_first (without (moved_id g p) p.content.slots) ≡ true = λ t. starts_without (moved_id g p) p.content.slots moved (h.starts t) in
         let k = can_go_behind first u.0 (without (moved_id g p) p.content.slots) w.are starts in
         let are = without_superblock first u.0 k.0 (without (moved_id g p) p.content.slots) w.are k.1 in
         let kept_parts : AreWellFormed k.0 = parts_behind first u.0 k.0 (parts_moved (moved_id g p) held.slots u.0 parts u.1) k.1 in
@@ -101,7 +101,7 @@ can_take disk firsts g first p m known sets marked bytes h entries moved lists =
           },
         )
 
-    go : (o : Option RawContent) → content_after empty_raw_content (block_entries (disk_block disk m.active)) ≡ o → (new : Name × Vertex) × AddsPair disk firsts m known sets new marked
+    go : (o : Option RawContent) → content_after empty_raw_content (block_entries (disk_block disk m.active)) ≡ o → (new : Name × Vertex) × ScansPair disk firsts m known sets new marked
     go None e = absurd (let clash : None ≡ Some p.content = sym (ap (option_and_then complete_content) (held_of ∙ e)) ∙ h.content in cc)
     go (Some held) e = with_held held e
 

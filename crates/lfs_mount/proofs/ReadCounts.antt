@@ -1,7 +1,7 @@
 -- How many reads lists and pairs take.
 use Rattle.std.proofs.Common.{ℕ, ◌≡◌, ◌+◌, ◌<◌, List, [], ◌∷◌, length, set, take, get_or, Option, Some, None, sym, ap, ◌∙◌, slice_get, option_and_then, append-nil}
 use Rattle.std.specs.Prelude.{sum_by}
-use Rattle.lfs_mount.proofs.Common.{option_map_or, length-set, take_more, BlockStates, Used, RawContent, Disk, Name, lists_view, MarksUsed, raw_slot_lists, Vertex, list_reads, described_lists, pair_reads, AddsPair, raw_entry_slots}
+use Rattle.lfs_mount.proofs.Common.{option_map_or, length-set, take_more, BlockStates, Used, RawContent, Disk, Name, lists_view, MarksUsed, raw_slot_lists, Vertex, list_reads, described_lists, pair_reads, ScansPair, raw_entry_slots}
 use Rattle.std.proofs.lemmas.List.Sums.{sum_by_push}
 use Rattle.lfs_tag.specs.declared.content.Slot.{Slot}
 use Rattle.lfs_mount.specs.declared.pass.PairBeforeSlotsAreRead.{PairBeforeSlotsAreRead}
@@ -26,7 +26,7 @@ reads_more block_size slots i s l e f =
 
 -- ---- pairs
 
-pub takes_lists : (disk : Disk) (firsts : List (ℕ × ℕ)) (member : PairBeforeSlotsAreRead) (known new : Name × Vertex) (sets marked : BlockStates) → (t : AddsPair disk firsts member known sets new marked)
+pub takes_lists : (disk : Disk) (firsts : List (ℕ × ℕ)) (member : PairBeforeSlotsAreRead) (known new : Name × Vertex) (sets marked : BlockStates) → (t : ScansPair disk firsts member known sets new marked)
     → described_lists disk member ≡ raw_slot_lists t.entries
 takes_lists disk firsts member known new sets marked t =
     ap (λ (o : Option RawContent). option_map_or raw_slot_lists (option_and_then (λ c. raw_entry_slots member c.slots) o) []) t.content ∙ ap (λ o. option_map_or raw_slot_lists o []) t.kept

@@ -2,7 +2,7 @@
 use Rattle.std.proofs.Common.{ℕ, zero, suc, ◌≡◌, inl, inr, ◌+◌, ◌<◌, ◌==◌, ◌&&◌, Bool, true, false, cond, List, [], ◌∷◌, ◌++◌, length, remove, reverse, slice_get, Option, Some, None, refl, sym, ap, subst, ◌∙◌, arith, nat_eq, flat_map, eqb-true}
 use Rattle.std.specs.Prelude.{All}
 use Rattle.std.specs.List.{IsDistinct}
-use Rattle.lfs_mount.proofs.Common.{and_parts, same_Some, flat_map-append, All-from_recursion, recursion_from_All, BlockStates, Disk, block_count, IsSkipList, blocks_to_head, block_count_for, Slot, Struct, Inline, Ctz, Branch, Gstate, is_superblock, same_pair, Pair, pairs_blocks, pairs_gstate, slots_not_moved, unmoved_entries, moved_id, IsTreeEntry, IsSuperblockFirst, HasStruct, IsFormedList, HasValidMove, IsEntry, IsAccepted, struct_blocks, all_unmoved_slots, used_blocks, Each, each_append, each_left, each_right, number_occurrences, count_append, each_counted, once_from_distinct, distinct_from_once, pair_back, pair_on, AnyByRecursion, among_from, StructMark, HoldSlots, entry_is_other, DirectoryGraph, HasUsedBlocks, blocks_last_first, cons_option, IsChain, struct_reference, empty_scan, list_of_entry, AreDescriptions, AreByteBlocks, FirstHasStruct, ScansPairs}
+use Rattle.lfs_mount.proofs.Common.{and_parts, same_Some, flat_map-append, All-from_recursion, recursion_from_All, BlockStates, Disk, block_count, IsSkipList, blocks_to_head, block_count_for, Slot, Struct, Inline, Ctz, Branch, Gstate, is_superblock, same_pair, Pair, pairs_blocks, pairs_gstate, slots_not_moved, unmoved_entries, moved_id, IsTreeEntry, IsSuperblockFirst, RepeatsSuperblockStruct, IsFormedList, HasValidMove, IsEntry, IsAccepted, struct_blocks, all_unmoved_slots, used_blocks, Each, each_append, each_left, each_right, number_occurrences, count_append, each_counted, once_from_distinct, distinct_from_once, pair_back, pair_on, AnyByRecursion, among_from, StructMark, HoldSlots, entry_is_other, DirectoryGraph, HasUsedBlocks, blocks_last_first, cons_option, IsChain, struct_reference, empty_scan, list_of_entry, AreDescriptions, AreByteBlocks, FirstHasStruct, ScansPairs}
 use Rattle.lfs_model.specs.declared.limits.AcceptedVersions.{AcceptedVersions}
 use Rattle.lfs_model.proofs.Counts.{each_from_counted}
 use Rattle.lfs_model.proofs.Listings.{blocks_avoid}
@@ -134,7 +134,7 @@ others_start : (v : AcceptedVersions) (bytes : List ℕ) (qs : List Pair) → St
 others_start v bytes [] = tt
 others_start v bytes (q ∷ qs) = ((λ e. absurd (cc)), others_start v bytes qs)
 
-begins : (v : AcceptedVersions) (bytes : List ℕ) (slots : List Slot) → IsSuperblockFirst (HasStruct v bytes) slots → FirstHasStruct v bytes slots
+begins : (v : AcceptedVersions) (bytes : List ℕ) (slots : List Slot) → IsSuperblockFirst (RepeatsSuperblockStruct v bytes) slots → FirstHasStruct v bytes slots
 begins v bytes [] h = absurd h
 begins v bytes (s ∷ slots) h = (h.0, h.1)
 

@@ -1,7 +1,7 @@
 -- Pairs that can be taken keep the rules, and what is known of them draws the directories.
 use Rattle.std.proofs.Common.{ℕ, zero, suc, ◌≡◌, ◌==◌, ◌&&◌, not, Bool, true, false, cond, List, [], ◌∷◌, map, drop, remove, filter, slice_get, Option, Some, None, is_some, refl, sym, ap, ap₂, subst, ◌∙◌, arith, option_and_then}
 use Rattle.std.specs.Prelude.{All}
-use Rattle.lfs_mount.proofs.Common.{filter_map, cons_option, same_Some, All-head, All-tail, Disk, disk_block, block_entries, Name, BlockStates, RawSlot, RawContent, complete_slots, complete_content, content_after, empty_raw_content, Slot, Gstate, is_superblock, same_pair, Pair, starts_superblock, slots_not_moved, unmoved_entries, is_hard_tail, moved_id, IsTreeEntry, AreComplete, complete_parts, completed_parts, Each, entry_is_other, Vertex, DirectoryGraph, NamedReference, named_reference, raw_slot_entry, scan_with_entries, scan_with_entry, empty_scan, scan_after_slots, MarksLists, list_of_entry, raw_slot_lists, AddsPair, unmoved_raw_slots, after_superblock, raw_entry_slots, IsDescription, AreDescriptions, scan_after_tail, graph_with_directory, ScansPairs, flat_map, block_count, content_at, anchor_address, AreLinked, IsThread, pairs_gstate, count_before_root, pairs_from_root, pair_directories, all_directories, Ends, IsDirectoryGraph, IsThreadGraph, directory_addresses}
+use Rattle.lfs_mount.proofs.Common.{filter_map, cons_option, same_Some, All-head, All-tail, Disk, disk_block, block_entries, Name, BlockStates, RawSlot, RawContent, complete_slots, complete_content, content_after, empty_raw_content, Slot, Gstate, is_superblock, same_pair, Pair, superblock_first, slots_not_moved, unmoved_entries, is_hard_tail, moved_id, IsTreeEntry, AreComplete, complete_parts, completed_parts, Each, entry_is_other, Vertex, DirectoryGraph, NamedReference, named_reference, raw_slot_entry, scan_with_entries, scan_with_entry, empty_scan, scan_after_slots, MarksLists, list_of_entry, raw_slot_lists, ScansPair, unmoved_raw_slots, after_superblock, raw_entry_slots, IsDescription, AreDescriptions, scan_after_tail, graph_with_directory, ScansPairs, flat_map, block_count, content_at, anchor_address, AreLinked, IsThread, pairs_gstate, count_before_root, pairs_from_root, pair_directories, all_directories, Ends, IsDirectoryGraph, IsThreadGraph, directory_addresses}
 use Rattle.lfs_model.specs.declared.order.NameOrder.{NameOrder}
 use Rattle.lfs_model.proofs.Completed.{complete_remove}
 use Rattle.lfs_mount.specs.declared.pass.PairBeforeSlotsAreRead.{PairBeforeSlotsAreRead}
@@ -72,16 +72,16 @@ all_visible (s ∷ slots) h =
     ap (λ b. cond (not b) (s ∷ filter (λ x. not (is_superblock x)) slots) (filter (λ x. not (is_superblock x)) slots)) (entry_is_other s (All-head IsTreeEntry s slots h))
     ∙ ap (λ ss. s ∷ ss) (all_visible slots (All-tail IsTreeEntry s slots h))
 
-starts_still : (slots : List Slot) (id : ℕ) (t : Slot) → starts_superblock slots ≡ true → slice_get slots id ≡ Some t → IsTreeEntry t → starts_superblock (remove slots id) ≡ true
+starts_still : (slots : List Slot) (id : ℕ) (t : Slot) → superblock_first slots ≡ true → slice_get slots id ≡ Some t → IsTreeEntry t → superblock_first (remove slots id) ≡ true
 starts_still [] id t s e h = absurd (cc)
 starts_still (x ∷ slots) zero t s e h = absurd (let other = entry_is_other t h in let same = ap is_superblock (same_Some x t e) in let clash : true ≡ false = sym s ∙ same ∙ other in cc)
 starts_still (x ∷ slots) (suc id) t s e h = s
 
-pub starts_without : (moved : Option ℕ) (slots : List Slot) → IsMovedEntry moved slots → starts_superblock slots ≡ true → starts_superblock (without moved slots) ≡ true
+pub starts_without : (moved : Option ℕ) (slots : List Slot) → IsMovedEntry moved slots → superblock_first slots ≡ true → superblock_first (without moved slots) ≡ true
 starts_without None slots h s = s
 starts_without (Some id) slots (t, (e, h)) s = starts_still slots id t s e h
 
-pub visible_behind : (first : Bool) (slots : List Slot) → (first ≡ true → starts_superblock slots ≡ true) → All IsTreeEntry (behind first slots) → filter (λ s. not (is_superblock s)) slots ≡ behind first slots
+pub visible_behind : (first : Bool) (slots : List Slot) → (first ≡ true → superblock_first slots ≡ true) → All IsTreeEntry (behind first slots) → filter (λ s. not (is_superblock s)) slots ≡ behind first slots
 visible_behind false slots s h = all_visible slots h
 visible_behind true [] s h = refl
 visible_behind true (x ∷ slots) s h =
@@ -144,7 +144,7 @@ held_slots disk g first p m held h e =
     (ap (option_and_then complete_content) (sym (ap (option_and_then (λ block. content_after empty_raw_content (block_entries block))) h.active ∙ e)) ∙ h.content)).slots
 
 pub taken_rules : (disk : Disk) (firsts : List (ℕ × ℕ)) (g : Gstate) (first : Bool) (p : Pair) (m : PairBeforeSlotsAreRead) (known : Name × Vertex) (sets : BlockStates) (new : Name × Vertex) (marked : BlockStates)
-    → IsDescription disk g first p m → AddsPair disk firsts m known sets new marked → IsTaken disk firsts g first p known sets new marked
+    → IsDescription disk g first p m → ScansPair disk firsts m known sets new marked → IsTaken disk firsts g first p known sets new marked
 taken_rules disk firsts g first p m known sets new marked h t =
     let all = held_slots disk g first p m t.held h t.content in
     let parts = kept_parts m t.held.slots t.entries t.kept in

@@ -1,7 +1,7 @@
 -- What a scan of slots finds: they are entries of a directory, or they aren't.
 use Rattle.std.proofs.Common.{ℕ, suc, ◌≡◌, ◌/◌, ◌^◌, ◌<◌, ◌==◌, ◌&&◌, ◌||◌, ⊎_elim, Bool, true, false, cond, List, [], ◌∷◌, length, map, Option, Some, None, refl, sym, ap, ap₂, subst, subst₂, ◌∙◌, arith, eqb-true, eq-eqb, option_and_then, option_map, true≢false}
 use Rattle.std.specs.Prelude.{All}
-use Rattle.lfs_mount.proofs.Common.{and_parts, or_cases, All-head, All-tail, All-cons, same_Some, Name, is_valid_name, Slot, inline_type, directory_type, RawSlot, complete_slot, complete_slots, kind_of_type, read_struct, IsFormedSlot, AreWellFormed, IsTreeEntry, AreComplete, complete_parts, Vertex, HoldsNoneAt, InSlot, InList, Below, struct_reference, NamedReference, named_reference, raw_slot_entry, scan_with_entry, scan_with_entries, scan_after_slots}
+use Rattle.lfs_mount.proofs.Common.{and_parts, or_cases, All-head, All-tail, All-cons, same_Some, Name, is_valid_name, Slot, inline_type, directory_type, RawSlot, complete_slot, complete_slots, kind_of_type, read_struct, IsFormedSlot, AreWellFormed, IsTreeEntry, AreComplete, complete_parts, Vertex, HoldsNoEntryAt, InSlot, InList, Below, struct_reference, NamedReference, named_reference, raw_slot_entry, scan_with_entry, scan_with_entries, scan_after_slots}
 use Rattle.std.proofs.lemmas.Bool.{ne_eqb}
 use Rattle.lfs_model.specs.declared.order.NameOrder.{NameOrder}
 use Rattle.lfs_model.specs.format.Tag.{make_tag, tag_type, tag_length, abstract_type}
@@ -232,11 +232,11 @@ scan_none by firsts known (s ∷ raws) parts e slots are entries = go (raw_slot_
     go (Some x) f g next = next x g
 
 -- where they aren't all entries, one isn't
-pub scan_none_at : (by : NameOrder) (firsts : List (ℕ × ℕ)) (known : Name × Vertex) (raws : List RawSlot) → scan_after_slots by firsts known raws ≡ None → (index : ℕ) × HoldsNoneAt raws index
+pub scan_none_at : (by : NameOrder) (firsts : List (ℕ × ℕ)) (known : Name × Vertex) (raws : List RawSlot) → scan_after_slots by firsts known raws ≡ None → (index : ℕ) × HoldsNoEntryAt raws index
 scan_none_at by firsts known [] e = absurd (cc)
 scan_none_at by firsts known (s ∷ raws) e = go (raw_slot_entry s) refl e (λ x. scan_none_at by firsts (scan_with_entry by firsts known x) raws)
   where
     go : (o : Option NamedReference) → raw_slot_entry s ≡ o → option_and_then (λ x. scan_after_slots by firsts (scan_with_entry by firsts known x) raws) o ≡ None
-        → ((x : NamedReference) → scan_after_slots by firsts (scan_with_entry by firsts known x) raws ≡ None → (index : ℕ) × HoldsNoneAt raws index) → (index : ℕ) × HoldsNoneAt (s ∷ raws) index
+        → ((x : NamedReference) → scan_after_slots by firsts (scan_with_entry by firsts known x) raws ≡ None → (index : ℕ) × HoldsNoEntryAt raws index) → (index : ℕ) × HoldsNoEntryAt (s ∷ raws) index
     go None f g next = (0, (s, (refl, f)))
     go (Some x) f g next = let r = next x g in (suc r.0, r.1)

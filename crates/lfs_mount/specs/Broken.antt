@@ -10,9 +10,9 @@ use Rattle.lfs_model.specs.format.SkipLists.{IsSkipList}
 use Rattle.lfs_model.specs.declared.violations.Violation.{Violation}
 use Rattle.lfs_model.specs.declared.violations.Violation.TheVariants as violation
 use Rattle.lfs_tag.specs.KindView.{is_superblock_tag}
-use Rattle.lfs_mount.specs.DirectoryEntries.{HoldsNoneAt, raw_slot_entry}
+use Rattle.lfs_mount.specs.DirectoryEntries.{HoldsNoEntryAt, raw_slot_entry}
 use Rattle.lfs_mount.specs.Marking.{MarksUsed, MeetsTaken, raw_slot_lists, blocks_last_first, list_of_entry}
-use Rattle.lfs_mount.specs.Taken.{kept_slot_number, unmoved_raw_slots, after_superblock, raw_entry_slots}
+use Rattle.lfs_mount.specs.Taken.{entry_slot_number, unmoved_raw_slots, after_superblock, raw_entry_slots}
 use Rattle.lfs_mount.specs.declared.pass.PairBeforeSlotsAreRead.{PairBeforeSlotsAreRead}
 
 -- ---- slots before some are removed
@@ -20,8 +20,8 @@ use Rattle.lfs_mount.specs.declared.pass.PairBeforeSlotsAreRead.{PairBeforeSlots
 abbrev pub raw_block_slots : List ℕ → Option (List RawSlot)
 raw_block_slots block = option_map (λ c. c.slots) (content_after empty_raw_content (block_entries block))
 
-abbrev pub kept_block_slots : PairBeforeSlotsAreRead → List ℕ → Option (List RawSlot)
-kept_block_slots m block = option_and_then (raw_entry_slots m) (raw_block_slots block)
+abbrev pub block_entry_slots : PairBeforeSlotsAreRead → List ℕ → Option (List RawSlot)
+block_entry_slots m block = option_and_then (raw_entry_slots m) (raw_block_slots block)
 
 abbrev pub IsSuperblockOrNone : Option RawSlot → Type 0
 IsSuperblockOrNone None = Unit {0}
@@ -50,8 +50,8 @@ BreaksBlockSlots m block v = (raw_block_slots block ≡ None)
 -- ---- slots that are kept
 
 -- the kept slot at an index is no entry
-abbrev pub BreaksKeptEntry : PairBeforeSlotsAreRead → List RawSlot → Violation → Type 0
-BreaksKeptEntry m kept v = (index : ℕ) × ((v ≡ violation.Entry m.at (kept_slot_number m index)) × HoldsNoneAt kept index)
+abbrev pub BreaksEntrySlot : PairBeforeSlotsAreRead → List RawSlot → Violation → Type 0
+BreaksEntrySlot m kept v = (index : ℕ) × ((v ≡ violation.Entry m.at (entry_slot_number m index)) × HoldsNoEntryAt kept index)
 
 -- the kept slot at an index has that list
 pub record IsSlotList (kept : List RawSlot) (index : ℕ) (l : ℕ × ℕ) : Type 0 where
@@ -73,17 +73,17 @@ BreaksList disk old l at slot v = ((v ≡ violation.List at slot) × ¬ IsSkipLi
     ⊎ ((block : ℕ) × ((v ≡ violation.TwoOwners at slot block) × HasTakenBlock disk old l block))
 
 -- the same of a kept slot, behind the lists of those before it
-pub record BreaksKeptList (disk : Disk) (m : PairBeforeSlotsAreRead) (old : BlockStates) (kept : List RawSlot) (v : Violation) : Type 0 where
+pub record BreaksEntryList (disk : Disk) (m : PairBeforeSlotsAreRead) (old : BlockStates) (kept : List RawSlot) (v : Violation) : Type 0 where
   pub index : ℕ
   pub l : ℕ × ℕ
   pub is : IsSlotList kept index l
   pub mid : BlockStates
   pub before : MarksUsed old (list_blocks_before disk kept index) mid
-  pub breaks : BreaksList disk mid l m.at (kept_slot_number m index) v
+  pub breaks : BreaksList disk mid l m.at (entry_slot_number m index) v
 
 -- ---- a pair
 
 -- A pair breaks the rule, where the blocks that `sets` has were marked before.
 abbrev pub BreaksDescribedPair : Disk → PairBeforeSlotsAreRead → BlockStates → Violation → Type 0
 BreaksDescribedPair disk m sets v = BreaksBlockSlots m (disk_block disk m.active) v
-    ⊎ ((kept : List RawSlot) × ((kept_block_slots m (disk_block disk m.active) ≡ Some kept) × (BreaksKeptEntry m kept v ⊎ BreaksKeptList disk m sets kept v)))
+    ⊎ ((kept : List RawSlot) × ((block_entry_slots m (disk_block disk m.active) ≡ Some kept) × (BreaksEntrySlot m kept v ⊎ BreaksEntryList disk m sets kept v)))

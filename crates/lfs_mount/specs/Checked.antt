@@ -5,8 +5,8 @@ use Rattle.lfs_model.specs.layers.BlockSets.{BlockStates}
 use Rattle.lfs_model.specs.format.Content.{current_block, content_at}
 use Rattle.lfs_model.specs.format.Disk.{Disk, block_count}
 use Rattle.lfs_model.specs.format.Slots.{Slot, is_superblock}
-use Rattle.lfs_model.specs.format.Thread.{Pair, IsThread, pairs_blocks, first_address, from_first_slots, pairs_gstate, count_before_root}
-use Rattle.lfs_model.specs.tree.View.{HasStruct, BeginsWith, superblock_entry, IsSuperblock, first_slot_name}
+use Rattle.lfs_model.specs.format.Thread.{Pair, IsThread, pairs_blocks, first_address, pairs_from_filled, pairs_gstate, count_before_root}
+use Rattle.lfs_model.specs.tree.View.{RepeatsSuperblockStruct, BeginsWith, superblock_entry, IsSuperblock, first_slot_name}
 use Rattle.lfs_model.specs.declared.limits.AcceptedVersions.{AcceptedVersions}
 use Rattle.lfs_model.specs.tree.Shown.{all_directories}
 use Rattle.lfs_mount.specs.Marking.{HasUsedBlocks}
@@ -17,14 +17,14 @@ use Rattle.lfs_model.specs.layers.Steps.{directory_addresses}
 -- the first slot is a superblock's, with this struct but for an accepted version
 abbrev pub FirstHasStruct : AcceptedVersions → List ℕ → List Slot → Type 0
 FirstHasStruct versions bytes [] = ⊥
-FirstHasStruct versions bytes (s ∷ slots) = (is_superblock s ≡ true) × HasStruct versions bytes s
+FirstHasStruct versions bytes (s ∷ slots) = (is_superblock s ≡ true) × RepeatsSuperblockStruct versions bytes s
 
 -- the pair has the superblock's slot and no other
 pub record HasSuperblockAlone (versions : AcceptedVersions) (bytes : List ℕ) (p : Pair) : Type 0 where
   pub slot : Slot
   pub slots : p.content.slots ≡ slot ∷ []
   pub superblock : is_superblock slot ≡ true
-  pub struct : HasStruct versions bytes slot
+  pub struct : RepeatsSuperblockStruct versions bytes slot
 
 -- a pair of the superblock's chain before the root's first one: no slot, or the superblock's slot alone
 abbrev pub HasNoEntries : AcceptedVersions → List ℕ → Pair → Type 0
@@ -32,8 +32,8 @@ HasNoEntries versions bytes p = (p.content.slots ≡ []) ⊎ HasSuperblockAlone 
 
 -- the superblock's chain up to the root's first pair
 pub record HasSuperblockChain (disk : Disk) (chain : List Pair) (p : Pair) (rest : List Pair) (bytes : List ℕ) : Type 0 where
-  pub first : BeginsWith (current_block disk (first_address (from_first_slots (chain ++ p ∷ rest)))) superblock_entry
-  pub named : first_slot_name (from_first_slots (chain ++ p ∷ rest)) ≡ Some (codes "littlefs")
+  pub first : BeginsWith (current_block disk (first_address (pairs_from_filled (chain ++ p ∷ rest)))) superblock_entry
+  pub named : first_slot_name (pairs_from_filled (chain ++ p ∷ rest)) ≡ Some (codes "littlefs")
   pub struct : IsSuperblock disk bytes
   pub bare : AllByRecursion (HasNoEntries disk.profile.versions bytes) chain
   pub start : FirstHasStruct disk.profile.versions bytes p.content.slots

@@ -3,7 +3,7 @@ use Rattle.std.specs.Prelude.{◌≡◌, ◌<◌, Bool, true, false, List, [], �
 use Rattle.lfs_model.specs.format.Disk.{Disk, disk_block, block_count}
 use Rattle.lfs_model.specs.format.Content.{current_block, content_at}
 use Rattle.lfs_model.specs.format.Slots.{Gstate, array_address}
-use Rattle.lfs_model.specs.format.Thread.{Pair, is_hard_tail, starts_superblock, moved_id}
+use Rattle.lfs_model.specs.format.Thread.{Pair, is_hard_tail, superblock_first, moved_id}
 use Rattle.lfs_mount.specs.declared.pass.PairBeforeSlotsAreRead.{PairBeforeSlotsAreRead}
 
 -- The pair is on the disk, and this is what is known of it. The first pair has the superblock.
@@ -14,7 +14,7 @@ pub record IsDescription (disk : Disk) (g : Gstate) (is_first : Bool) (p : Pair)
   pub active : current_block disk p.at ≡ Some (disk_block disk m.active)
   pub hard : m.is_hard ≡ is_hard_tail p.content.tail
   pub first : m.has_superblock ≡ is_first
-  pub starts : is_first ≡ true → starts_superblock p.content.slots ≡ true
+  pub starts : is_first ≡ true → superblock_first p.content.slots ≡ true
   pub moved : m.moved ≡ moved_id g p
 
 abbrev pub AreDescriptions : Disk → Gstate → Bool → List Pair → List PairBeforeSlotsAreRead → Type 0

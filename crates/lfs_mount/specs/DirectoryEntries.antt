@@ -41,8 +41,8 @@ raw_slot_entry s = option_and_then (λ name. option_and_then (λ struct.
     if is_valid_name name.1 then option_map (λ stand. (name.1, stand)) (raw_reference name.0 struct) else None) s.struct) s.name
 
 -- the slot at an index holds no entry
-abbrev pub HoldsNoneAt : List RawSlot → ℕ → Type 0
-HoldsNoneAt slots index = (s : RawSlot) × ((slice_get slots index ≡ Some s) × (raw_slot_entry s ≡ None))
+abbrev pub HoldsNoEntryAt : List RawSlot → ℕ → Type 0
+HoldsNoEntryAt slots index = (s : RawSlot) × ((slice_get slots index ≡ Some s) × (raw_slot_entry s ≡ None))
 
 -- ---- one entry more
 

@@ -18,8 +18,8 @@ is_among_addresses pair [] = false
 is_among_addresses pair (at ∷ ats) = same_pair pair at || is_among_addresses pair ats
 
 -- whether no move is set, or one of a slot in one of the pairs at these addresses
-abbrev pub is_move_within : Gstate → List (ℕ × ℕ) → Bool
-is_move_within g ats = (g.kind == 0 && g.id == 0 && (g.pair.0 == 0 && g.pair.1 == 0)) || (g.kind == 0x4ff && is_among_addresses g.pair ats)
+abbrev pub is_move_inside : Gstate → List (ℕ × ℕ) → Bool
+is_move_inside g ats = (g.kind == 0 && g.id == 0 && (g.pair.0 == 0 && g.pair.1 == 0)) || (g.kind == 0x4ff && is_among_addresses g.pair ats)
 
 -- these are the headers of the directories' pairs in a thread with that global state
 pub record HaveGstate (g : Gstate) (headers : List PairHeader) (chain : List Pair) (p : Pair) (rest : List Pair) : Type 0 where

@@ -24,7 +24,7 @@ ghost use Rattle.lfs_mount.specs.MountReads.{check_reads, pair_reads};
 ghost use Rattle.lfs_mount.specs.Start.{allocation_seed, image_number, mixed_number};
 
 use crate::check::check_and_mark;
-use crate::members::{directory_pairs_of, first_addresses};
+use crate::members::{describe_headers, directory_start_addresses};
 use crate::moves::check_move;
 use crate::orders::OrderViolations;
 use crate::superblock_chain::superblock_chain_length;
@@ -203,10 +203,10 @@ fn check_directories<D: BlockDevice>(
     ensures device { ReadsReportingFaults D.BlockDevice device.old device.new result }
     ensures few { OnOk result (read_count (D.history device.new) ≤ read_count (D.history device.old) + sum_by (pair_reads (disk_of_device D.BlockDevice device.old)) (header_descriptions (move_view state.now) true pairs.now)) }
 {
-    let Ok(members) = directory_pairs_of(alloc, state, pairs) else {
+    let Ok(members) = describe_headers(alloc, state, pairs) else {
         return Err(MountError::NoMemory);
     };
-    let Ok(places) = first_addresses(alloc, pairs) else {
+    let Ok(places) = directory_start_addresses(alloc, pairs) else {
         return Err(MountError::NoMemory);
     };
     check_and_mark(alloc, device, map, &places, &members, state.sync)

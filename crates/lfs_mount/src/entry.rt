@@ -2,9 +2,9 @@
 
 ghost use Rattle.std.specs.Prelude.{ℕ, ◌≡◌, ◌≤◌, is_some, length, map};
 ghost use Rattle.std.specs.Option.{option_map};
-ghost use Rattle.lfs_tag.specs.ContentView.{data_view, slot_view};
+ghost use Rattle.lfs_tag.specs.ContentView.{part_view, slot_view};
 ghost use Rattle.lfs_tag.specs.StructView.{struct_view};
-ghost use Rattle.lfs_mount.specs.DirectoryEntries.{HoldsNoneAt, raw_slot_entry, raw_reference, struct_reference};
+ghost use Rattle.lfs_mount.specs.DirectoryEntries.{HoldsNoEntryAt, raw_slot_entry, raw_reference, struct_reference};
 ghost use Rattle.lfs_mount.specs.EntryView.{entry_view};
 
 use lfs_tag::{NameOrStruct, Slot, SlotNameKind, Struct, is_name};
@@ -18,7 +18,7 @@ pub(crate) struct NamedStruct<'a> {
 
 // Returns what a struct says, where it suits the type of the name.
 fn suited_struct<'a>(name: &NameOrStruct<'_>, structure: &NameOrStruct<'a>) -> Option<Struct<'a>>
-    ensures { option_map (λ s. struct_reference (struct_view s)) result ≡ raw_reference name.now.kind (data_view structure.now) }
+    ensures { option_map (λ s. struct_reference (struct_view s)) result ≡ raw_reference name.now.kind (part_view structure.now) }
 {
     let Some(target) = Struct::of(structure) else {
         return None;
@@ -60,7 +60,7 @@ pub(crate) fn is_tree_entry(slot: &Slot<'_>) -> bool
 
 // Returns the index of the first slot that holds no entry, where there is one, else the slots' count.
 pub(crate) fn first_non_entry(slots: &[Slot<'_>]) -> usize
-    ensures holds { (other : ℕ) → HoldsNoneAt (map slot_view slots.now) other → HoldsNoneAt (map slot_view slots.now) result }
+    ensures holds { (other : ℕ) → HoldsNoEntryAt (map slot_view slots.now) other → HoldsNoEntryAt (map slot_view slots.now) result }
     ensures within { result ≤ length slots.now }
 {
     for index in 0..slots.len() {

@@ -10,7 +10,7 @@ ghost use Rattle.lfs_model.specs.declared.violations.Violation.{Violation};
 ghost use Rattle.lfs_thread.specs.Kept.{disk_of_device};
 ghost use Rattle.lfs_thread.specs.MountErrors.{ReadsReportingFaults};
 ghost use Rattle.lfs_thread.specs.declared.mount_error.MountError.TheVariants.{Corrupt};
-ghost use Rattle.lfs_mount.specs.Broken.{BreaksKeptList, BreaksList};
+ghost use Rattle.lfs_mount.specs.Broken.{BreaksEntryList, BreaksList};
 ghost use Rattle.lfs_mount.specs.DirectoryEntries.{raw_slot_entry};
 ghost use Rattle.lfs_mount.specs.ListsView.{lists_view, raw_slots_view};
 ghost use Rattle.lfs_mount.specs.Marking.{MarksList, MarksLists, MarksIfFree, list_of_entry};
@@ -100,13 +100,13 @@ pub(crate) fn mark_slot_lists<D: BlockDevice>(
 ) -> Result<(), MountError>
     requires { length slots.now < 2 ^ 31 }
     ensures marked { OnOk result (MarksLists (disk_of_device D.BlockDevice device.old) map.old (lists_view slots.now) map.new) }
-    ensures broken { (v : Violation) → result ≡ Err (Corrupt v) → BreaksKeptList (disk_of_device D.BlockDevice device.old) member.now map.old (raw_slots_view slots.now) v }
+    ensures broken { (v : Violation) → result ≡ Err (Corrupt v) → BreaksEntryList (disk_of_device D.BlockDevice device.old) member.now map.old (raw_slots_view slots.now) v }
     ensures reading { ReadsReportingFaults D.BlockDevice device.old device.new result }
     ensures few { OnOk result (read_count (D.history device.new) ≤ read_count (D.history device.old) + sum_by (list_reads (D.geometry device.old).block_size) (lists_view slots.now)) }
 {
     for index in 0..slots.len() {
         if let Some(list) = list_of_slot(&slots[index]) {
-            let number = member.kept_slot_number(index);
+            let number = member.entry_slot_number(index);
             mark_slot_list(device, map, member.at, number, list)?;
         }
     }

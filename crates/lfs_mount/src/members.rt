@@ -27,7 +27,7 @@ fn moved_slot_at(state: &MoveState, at: [u32; 2]) -> Option<u32>
     }
 }
 
-fn directory_pair_of(state: &MoveState, is_first: bool, pair: &Pair) -> PairBeforeSlotsAreRead
+fn describe_header(state: &MoveState, is_first: bool, pair: &Pair) -> PairBeforeSlotsAreRead
     ensures { result ≡ header_description (move_view state.now) is_first pair.now }
 {
     PairBeforeSlotsAreRead {
@@ -40,7 +40,7 @@ fn directory_pair_of(state: &MoveState, is_first: bool, pair: &Pair) -> PairBefo
 }
 
 // Returns what is known of these pairs, from the root's first one on.
-pub(crate) fn directory_pairs_of(
+pub(crate) fn describe_headers(
     alloc: Global,
     state: &MoveState,
     pairs: &[Pair],
@@ -51,13 +51,16 @@ pub(crate) fn directory_pairs_of(
     let mut members = Vec::new(alloc);
     for pair in pairs {
         let is_first = members.is_empty();
-        members.push(directory_pair_of(state, is_first, pair))?;
+        members.push(describe_header(state, is_first, pair))?;
     }
     Ok(members)
 }
 
 // Returns the addresses of the directories of these pairs, from the root's first pair on.
-pub(crate) fn first_addresses(alloc: Global, pairs: &[Pair]) -> Result<PairAddressList, Error>
+pub(crate) fn directory_start_addresses(
+    alloc: Global,
+    pairs: &[Pair],
+) -> Result<PairAddressList, Error>
     requires { IsDistinct nat_eq (blocks_of_addresses (directory_beginnings true pairs.now)) }
     ensures places { IfOk result (λ places. places ≡ directory_beginnings true pairs.now) }
     ensures error { IfErr result (λ e. e ≡ Error.NoMemory) }

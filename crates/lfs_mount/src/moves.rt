@@ -9,7 +9,7 @@ ghost use Rattle.lfs_model.specs.layers.Violations.{BreaksPairs};
 ghost use Rattle.lfs_model.specs.declared.violations.Violation.{Violation};
 ghost use Rattle.lfs_pair.specs.Pair.{header_address};
 ghost use Rattle.lfs_tag.specs.FieldsView.{move_view};
-ghost use Rattle.lfs_mount.specs.MoveChecks.{HaveGstate, NamesMovedEntry, is_move_within, is_among_addresses};
+ghost use Rattle.lfs_mount.specs.MoveChecks.{HaveGstate, NamesMovedEntry, is_move_inside, is_among_addresses};
 
 use lfs_model::Violation;
 use lfs_pair::{Pair, is_same_pair};
@@ -18,7 +18,7 @@ use lfs_tag::kinds::DELETE;
 use lfs_thread::MountError;
 
 // Returns whether one of the pairs is at an address.
-fn is_any_address(address: [u32; 2], pairs: &[Pair]) -> bool
+fn has_pair_at(address: [u32; 2], pairs: &[Pair]) -> bool
     ensures { result ≡ is_among_addresses (array_address address) (map header_address pairs.now) }
 {
     for pair in pairs {
@@ -36,14 +36,14 @@ fn is_any_address(address: [u32; 2], pairs: &[Pair]) -> bool
 //
 // Errors: `Corrupt` exactly where the move is neither, with the rule of the move. The image breaks it.
 pub(crate) fn check_move(state: &MoveState, pairs: &[Pair]) -> Result<(), MountError>
-    ensures ok { OnOk result (is_move_within (move_view state.now) (map header_address pairs.now) ≡ true) }
-    ensures corrupt { IfErr result (λ e. (e ≡ MountError.Corrupt Violation.Move) × (is_move_within (move_view state.now) (map header_address pairs.now) ≡ false)) }
+    ensures ok { OnOk result (is_move_inside (move_view state.now) (map header_address pairs.now) ≡ true) }
+    ensures corrupt { IfErr result (λ e. (e ≡ MountError.Corrupt Violation.Move) × (is_move_inside (move_view state.now) (map header_address pairs.now) ≡ false)) }
     ensures right { OnOk result ((chain : List ThreadPair) (p : ThreadPair) (rest : List ThreadPair)
         → HaveGstate (move_view state.now) pairs.now chain p rest → NamesMovedEntry (move_view state.now) (p ∷ rest) → HasValidMove (chain ++ p ∷ rest) (move_view state.now)) }
     ensures broken { (v : Violation) → result ≡ Err (MountError.Corrupt v) → (disk : Disk) (chain : List ThreadPair) (p : ThreadPair) (rest : List ThreadPair)
         → HaveGstate (move_view state.now) pairs.now chain p rest → BreaksPairs disk (chain ++ p ∷ rest) v }
 {
-    if moves_within(state, pairs) {
+    if moves_inside(state, pairs) {
         Ok(())
     } else {
         Err(MountError::Corrupt(Violation::Move))
@@ -51,9 +51,9 @@ pub(crate) fn check_move(state: &MoveState, pairs: &[Pair]) -> Result<(), MountE
 }
 
 // Returns whether no move is set, or one of a slot in one of these pairs.
-fn moves_within(state: &MoveState, pairs: &[Pair]) -> bool
-    ensures { result ≡ is_move_within (move_view state.now) (map header_address pairs.now) }
+fn moves_inside(state: &MoveState, pairs: &[Pair]) -> bool
+    ensures { result ≡ is_move_inside (move_view state.now) (map header_address pairs.now) }
 {
     let is_none = state.kind == 0 && state.id == 0 && state.pair[0] == 0 && state.pair[1] == 0;
-    is_none || (state.kind == DELETE && is_any_address(state.pair, pairs))
+    is_none || (state.kind == DELETE && has_pair_at(state.pair, pairs))
 }

@@ -9,14 +9,14 @@ ghost use Rattle.lfs_model.specs.layers.Violations.{BreaksPairs};
 ghost use Rattle.lfs_model.specs.declared.order.NameOrder.{NameOrder};
 ghost use Rattle.lfs_model.specs.declared.violations.Violation.{Violation};
 ghost use Rattle.lfs_model.specs.declared.violations.Violation.TheVariants.{NoSuperblock};
-ghost use Rattle.lfs_mount.specs.Broken.{BreaksDescribedPair, BreaksMovedSlot, BreaksBlockSlots, kept_block_slots};
+ghost use Rattle.lfs_mount.specs.Broken.{BreaksDescribedPair, BreaksMovedSlot, BreaksBlockSlots, block_entry_slots};
 ghost use Rattle.lfs_mount.specs.Checked.{IsDescribedThread};
 ghost use Rattle.lfs_mount.specs.DirectoryView.{graph_view};
 ghost use Rattle.lfs_mount.specs.DirectoryEntries.{empty_scan};
 ghost use Rattle.lfs_mount.specs.KnownView.{scan_view};
 ghost use Rattle.lfs_mount.specs.Passed.{ScansPairs};
 ghost use Rattle.lfs_mount.specs.MountReads.{pair_reads};
-ghost use Rattle.lfs_mount.specs.Taken.{AddsPair, unmoved_raw_slots, after_superblock};
+ghost use Rattle.lfs_mount.specs.Taken.{ScansPair, unmoved_raw_slots, after_superblock};
 ghost use Rattle.lfs_tag.specs.ContentView.{slot_view};
 ghost use Rattle.lfs_thread.specs.Kept.{disk_of_device};
 ghost use Rattle.lfs_thread.specs.MountErrors.{ReadsReportingFaults};
@@ -50,12 +50,12 @@ pub(crate) struct PairBeforeSlotsAreRead {
 
 impl PairBeforeSlotsAreRead {
     ghost use Rattle.std.specs.Prelude.{◌≡◌, ◌<◌, ◌^◌};
-    ghost use Rattle.lfs_mount.specs.Taken.{kept_slot_number};
+    ghost use Rattle.lfs_mount.specs.Taken.{entry_slot_number};
 
     // Returns the number in the pair of a slot that is kept, by its index among those.
-    pub fn kept_slot_number(&self, index: usize) -> u32
+    pub fn entry_slot_number(&self, index: usize) -> u32
         requires { index < 2 ^ 31 }
-        ensures { result ≡ kept_slot_number self.now index }
+        ensures { result ≡ entry_slot_number self.now index }
     {
         let behind = u32::from(self.has_superblock);
         let number = index as u32 + behind;
@@ -114,12 +114,12 @@ fn remove_superblock_slot(slots: &mut Vec<Slot<'_>>, has_superblock: bool) -> Re
 //
 // Errors: `Corrupt` where the log is malformed, the slot that the move names is no entry, or there
 // is no superblock to remove. `NoMemory` where memory for slots isn't granted.
-fn read_kept_slots<'a>(
+fn read_entry_slots<'a>(
     alloc: Global,
     log: &Log<'a>,
     member: &PairBeforeSlotsAreRead,
 ) -> Result<Vec<Slot<'a>>, MountError>
-    ensures kept { IfOk result (λ slots. kept_block_slots member.now log.now ≡ Some (map slot_view slots.items)) }
+    ensures kept { IfOk result (λ slots. block_entry_slots member.now log.now ≡ Some (map slot_view slots.items)) }
     ensures few { length log.now ≤ 2 ^ 16 → IfOk result (λ slots. length slots.items < 2 ^ 15) }
     ensures broken { (v : Violation) → result ≡ Err (Corrupt v) → BreaksBlockSlots member.now log.now v }
     ensures error { IfErr result (λ e. e ≢ Io) }
@@ -170,15 +170,15 @@ fn scan_pair<D: BlockDevice>(
     member: &PairBeforeSlotsAreRead,
 ) -> Result<(), MountError>
     requires { member.now.active < (D.geometry device.old).block_count }
-    ensures taken { OnOk result ((order : NameOrder) → AddsPair (ordered_disk order (disk_of_device D.BlockDevice device.old)) places.now member.now (scan_view order known.old) map.old (scan_view order known.new) map.new) }
+    ensures taken { OnOk result ((order : NameOrder) → ScansPair (ordered_disk order (disk_of_device D.BlockDevice device.old)) places.now member.now (scan_view order known.old) map.old (scan_view order known.new) map.new) }
     ensures broken { (v : Violation) → result ≡ Err (Corrupt v) → (order : NameOrder) → BreaksDescribedPair (ordered_disk order (disk_of_device D.BlockDevice device.old)) member.now map.old v }
     ensures reading { ReadsReportingFaults D.BlockDevice device.old device.new result }
     ensures few { OnOk result (read_count (D.history device.new) ≤ read_count (D.history device.old) + pair_reads (disk_of_device D.BlockDevice device.old) member.now) }
 {
     let bytes = read_active_block(alloc, device, member)?;
-    let slots = read_kept_slots(alloc, &Log::read(&bytes), member)?;
+    let slots = read_entry_slots(alloc, &Log::read(&bytes), member)?;
     if let Err(error) = known.scan_directory_slots(places, &slots) {
-        let slot = member.kept_slot_number(first_non_entry(&slots));
+        let slot = member.entry_slot_number(first_non_entry(&slots));
         return Err(MountError::of(
             error,
             Violation::Entry {

@@ -1,5 +1,5 @@
 -- What the steps of a rename across pairs leave with what it held.
-use Rattle.lfs_operations.proofs.Common.{ℕ, ◌≡◌, ◌-◌, ◌<◌, ◌≤◌, ◌⊎◌, inl, inr, Bool, true, false, List, [], ◌∷◌, ◌++◌, length, None, refl, sym, ap, subst, ◌∙◌, arith, append_assoc, AllByRecursion, IsFree, PairChange, Name, pair_with_slots, Slot, gstate_xor, Pair, pairs_blocks, address_blocks, Path, IsAccepted, all_unmoved_slots, used_blocks, SameSlots, Each, number_occurrences, count_append, count_here, each_weaker, once_from_distinct, AnyByRecursion, Site, among_right, dirs_at, file_blocks, two, KeptThread, thread_pair, Contains, IsTouchedBlock, IsPairTouched, HasEndedAt, written_at_end, gstate_naming, CanEndSecond, second_pair, number_after_insertion, drops_with_its_slot}
+use Rattle.lfs_operations.proofs.Common.{ℕ, ◌≡◌, ◌-◌, ◌<◌, ◌≤◌, ◌⊎◌, inl, inr, Bool, true, false, List, [], ◌∷◌, ◌++◌, length, None, refl, sym, ap, subst, ◌∙◌, arith, append_assoc, AllByRecursion, IsFree, PairChange, Name, pair_with_slots, Slot, gstate_xor, Pair, pairs_blocks, address_blocks, Path, IsAccepted, all_unmoved_slots, used_blocks, SameSlots, Each, number_occurrences, count_append, count_here, each_weaker, once_from_distinct, AnyByRecursion, Site, among_right, dirs_at, file_blocks, two, KeptThread, thread_pair, Contains, IsTouchedBlock, IsPairTouched, HasEndedAt, written_by_ending, gstate_naming, CanEndAfterPut, second_pair, number_after_insertion, drops_with_its_slot}
 use Rattle.lfs_model.proofs.BlockSets.{Contains-head, Contains-tail}
 use Rattle.lfs_operations.proofs.AlteredBehind.{entered_alters, gone_alters}
 use Rattle.lfs_operations.proofs.MovAcross.{Arranged}
@@ -57,7 +57,7 @@ module _ {t : KeptThread} {sync : Bool} {old_pair : ℕ} {goes : Bool} {new_pair
 -- ---- the pair in front of the old one
 
 -- the old one is gone
-pub ended_alters : (t mid m new : KeptThread) (old_pair old_id new_pair : ℕ) → 0 < old_pair → old_pair < length t.pairs → IsAccepted t.disk t.pairs → CanEndSecond t old_pair old_id true new_pair mid
+pub ended_alters : (t mid m new : KeptThread) (old_pair old_id new_pair : ℕ) → 0 < old_pair → old_pair < length t.pairs → IsAccepted t.disk t.pairs → CanEndAfterPut t old_pair old_id true new_pair mid
     → HasEndedAt mid (number_after_insertion old_pair new_pair (length mid.pairs - length t.pairs)) old_id true m → IsAccepted new.disk new.pairs → ((b : ℕ) → number_occurrences b (used_blocks new.disk new.pairs) ≤ number_occurrences b (used_blocks m.disk m.pairs)) → IsPairTouched t (old_pair - 1) new
 ended_alters t mid m new old_pair old_id new_pair some low ok ends ended now fewer =
     let b = (thread_pair t old_pair).at.0 in
@@ -78,7 +78,7 @@ pub front_altered : (t new : KeptThread) (old_pair first : ℕ) → old_pair < l
     → (b : ℕ) → Contains (address_blocks (thread_pair t (second_pair t old_pair first)).at) b → IsKnown t new bs b
 front_altered t new old_pair first low alters bs within b = go (drops_with_its_slot t old_pair first) refl
   where
-    go : (g : Bool) → drops_with_its_slot t old_pair first ≡ g → Contains (address_blocks (thread_pair t (written_at_end old_pair g)).at) b → IsKnown t new bs b
+    go : (g : Bool) → drops_with_its_slot t old_pair first ≡ g → Contains (address_blocks (thread_pair t (written_by_ending old_pair g)).at) b → IsKnown t new bs b
     go true whole own = inr (inl (record { index = old_pair - 1; below = omega (arith, low); own = own; alters = alters whole }))
     go false stays own = inl (within b own)
 

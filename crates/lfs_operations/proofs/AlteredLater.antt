@@ -1,5 +1,5 @@
 -- What a rename across pairs leaves with what it held.
-use Rattle.lfs_operations.proofs.Common.{ℕ, ◌≡◌, ◌-◌, ◌<◌, ◌≤◌, inl, inr, Bool, false, true, List, ◌∷◌, ◌++◌, length, Option, subst, arith, AllByRecursion, Name, Pair, Path, Site, Slot, used_blocks, IsAccepted, Contains-number_occurrences, number_occurrences-Contains, number_occurrences, count_append, KeptThread, thread_pair, address_blocks, addresses_blocks, Contains, WritesTouchedFree, IsPairTouched, HasEndedAt, CanEndSecond, IsPutEnded, WritesPairsTwo, second_pair, number_after_insertion, CanEditIn, CanRenameAcross, moving_changes, IsMovedAcross, CanReplaceEntryAcross, CanReplaceFileAcross, drops_with_its_slot}
+use Rattle.lfs_operations.proofs.Common.{ℕ, ◌≡◌, ◌-◌, ◌<◌, ◌≤◌, inl, inr, Bool, false, true, List, ◌∷◌, ◌++◌, length, Option, subst, arith, AllByRecursion, Name, Pair, Path, Site, Slot, used_blocks, IsAccepted, Contains-number_occurrences, number_occurrences-Contains, number_occurrences, count_append, KeptThread, thread_pair, address_blocks, addresses_blocks, Contains, WritesTouchedFree, IsPairTouched, HasEndedAt, CanEndAfterPut, ArePutAndEnded, WritesPairsTwo, second_pair, number_after_insertion, CanEditIn, CanRenameAcross, moving_changes, IsMovedAcross, CanReplaceEntryAcross, CanReplaceFileAcross, drops_with_its_slot}
 use Rattle.lfs_operations.proofs.AlteredAcross.{IsKnown, ended_alters, two_altered}
 use Rattle.lfs_operations.proofs.Held.{below}
 use Rattle.lfs_operations.proofs.MovPlaced.{IsAimed, ends_aimed}
@@ -18,10 +18,10 @@ old_low {t = t} {pair = pair} can = below t can.ready can.first pair can.stands.
 
 -- the pair in front of the old one doesn't stay, where the old one is dropped
 front_altered : {t : KeptThread} {old_pair old_id first new_pair new_id : ℕ} {name : Name} {replaces sync : Bool} {old : CanEditIn t old_pair old_id} {path : Path} {w : Site} {p : Pair} {l : List Slot} {target : Option Slot} {r : List Slot}
-    → old.first ≡ first → IsAimed t replaces sync old_pair old_id first new_pair new_id name old path w p l target r → {m : KeptThread} → IsPutEnded t old_pair old_id (drops_with_its_slot t old_pair first) new_pair (moving_changes replaces sync t old_pair old_id new_pair new_id name) m
+    → old.first ≡ first → IsAimed t replaces sync old_pair old_id first new_pair new_id name old path w p l target r → {m : KeptThread} → ArePutAndEnded t old_pair old_id (drops_with_its_slot t old_pair first) new_pair (moving_changes replaces sync t old_pair old_id new_pair new_id name) m
     → (new : KeptThread) → IsAccepted new.disk new.pairs → ((b : ℕ) → number_occurrences b (used_blocks new.disk new.pairs) ≤ number_occurrences b (used_blocks m.disk m.pairs)) → drops_with_its_slot t old_pair first ≡ true → IsPairTouched t (old_pair - 1) new
 front_altered {t = t} {old_pair = old_pair} {old_id = old_id} {first = first} {new_pair = new_pair} {old = old} begins a {m = m} is new now fewer whole = ended_alters t is.mid m new old_pair old_id new_pair (can_drop_file t old_pair old_id first old begins whole).above (old_low old) old.ready.accepted
-    (subst (λ b. CanEndSecond t old_pair old_id b new_pair is.mid) whole (ends_aimed a is.mid is.put))
+    (subst (λ b. CanEndAfterPut t old_pair old_id b new_pair is.mid) whole (ends_aimed a is.mid is.put))
     (subst (λ b. HasEndedAt is.mid (number_after_insertion old_pair new_pair (length is.mid.pairs - length t.pairs)) old_id b m) whole is.ended) now fewer
 
 -- ---- to a name that is new there

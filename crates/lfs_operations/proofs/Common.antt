@@ -46,7 +46,7 @@ pub use Rattle.lfs_model.proofs.Searches.{avoids_behind, avoids_front, is_site, 
 pub use Rattle.lfs_model.proofs.Segments.{drafts_of, parts_of}
 pub use Rattle.lfs_model.proofs.Sites.{AnyByRecursion, IsSite, Site, among_from, among_left, among_parts, among_right, any_from, begin_of, dirs_at, run_changed, shown_at, thread_at}
 pub use Rattle.lfs_model.proofs.Splices.{AreFree, IsDevice, IsSplice, all_slots, count_files, drop_shape, entry_slots, file_blocks, stays_shape, unmoved_in, visible_in}
-pub use Rattle.lfs_model.proofs.StepsTaken.{IsPut, IsPutBeside, IsWritableChange, beside_taken, commit_taken, drop_taken, end_drop_taken, end_taken, put_filled, put_within, set_taken, taken_before, taken_then, within_at, within_same}
+pub use Rattle.lfs_model.proofs.StepsTaken.{IsPut, IsPutBeside, IsWritableChange, beside_taken, commit_taken, drop_taken, end_drop_taken, end_taken, put_filled, put_within, set_used, taken_before, taken_then, within_at, within_same}
 pub use Rattle.lfs_model.proofs.StoredChanges.{logged_changed}
 pub use Rattle.lfs_model.proofs.Superblocks.{IsChain, pairs_behind}
 pub use Rattle.lfs_model.proofs.TwoPlaces.{OldStays, from_old, two}
@@ -54,15 +54,15 @@ pub use Rattle.lfs_model.proofs.Unchanged.{HasFirst}
 pub use Rattle.lfs_model.proofs.Unthreaded.{IsReady, IsUnthreaded, Unthreads, same_parts}
 pub use Rattle.lfs_model.proofs.Writable.{ends_joined}
 pub use Rattle.lfs_model.proofs.WrittenAnew.{tag_length-make_tag, tag_type-make_tag}
-pub use Rattle.lfs_model.specs.crash.PowerLoss.{HasEither, SurvivesLossSince, with_blocks}
+pub use Rattle.lfs_model.specs.crash.PowerLoss.{HasEitherTree, SurvivesLossSince, with_blocks}
 pub use Rattle.lfs_model.specs.format.Blocks.{Blocks, SameExceptThese}
 pub use Rattle.lfs_model.specs.format.Content.{RawContent, RawSlot, attributes_with, attributes_without, changed_at, complete_content, complete_slot, complete_slots, content_after, content_at, current_block, current_of_two, empty_raw_content, empty_slot, has_commit, is_later, kind_of_type, raw_content, read_struct, slot_of_id}
 pub use Rattle.lfs_model.specs.format.Disk.{Disk, SameGeometry, block_count, charge_limit, disk_block}
 pub use Rattle.lfs_model.specs.format.EntryTypes.{directory_name_type, directory_type, file_name_type}
 pub use Rattle.lfs_model.specs.format.Log.{block_entries, block_revision}
 pub use Rattle.lfs_model.specs.format.Names.{Name, is_valid_name}
-pub use Rattle.lfs_model.specs.format.Slots.{Attributes, Branch, Ctz, Directory, File, FitsInPair, Gstate, Inline, PairContent, Slot, SlotKind, Struct, Superblock, Tail, array_address, attributes_size, entry_charge, gstate_xor, is_superblock, names_superblock, no_move_kind, null_address, same_pair, set_move_kind, slot_size, struct_len, zero_gstate}
-pub use Rattle.lfs_model.specs.format.Thread.{AreLinked, BeginsAt, Pair, ThreadDirectory, address_blocks, addresses_blocks, anchor_address, count_before_root, directories_with_pair, directory_slots, first_address, from_first_slots, has_no_entry, has_slots, has_superblock, is_hard_tail, may_continue, pair_directories, pairs_blocks, pairs_from_root, pairs_gstate, root_address, slots_not_moved, starts_superblock, tail_target, unmoved_entries}
+pub use Rattle.lfs_model.specs.format.Slots.{Attributes, Branch, Ctz, Directory, File, FitsInPair, Gstate, Inline, PairContent, Slot, SlotKind, Struct, Superblock, Tail, array_address, attributes_size, entry_charge, gstate_xor, is_superblock, is_superblock_kind, no_move_kind, null_address, same_pair, set_move_kind, slot_size, struct_len, zero_gstate}
+pub use Rattle.lfs_model.specs.format.Thread.{AreLinked, BeginsAt, Pair, ThreadDirectory, address_blocks, addresses_blocks, anchor_address, count_before_root, directories_with_pair, directory_slots, first_address, pairs_from_filled, has_no_entry, has_slots, has_superblock, is_hard_tail, chain_may_continue, pair_directories, pairs_blocks, pairs_from_root, pairs_gstate, root_address, slots_not_moved, superblock_first, tail_target, unmoved_entries}
 pub use Rattle.lfs_model.specs.layers.BlockSets.{AreUsed, BlockState, BlockStates, IsFree, IsInFlight, IsUsedBlock}
 pub use Rattle.lfs_model.specs.layers.BlockSets.BlockState.{Free, InFlight, Used}
 pub use Rattle.lfs_model.specs.layers.Changes.{Delete, PairChange, PutAttribute, PutMove, PutStruct, PutTail, changed_content_of}
@@ -72,7 +72,7 @@ pub use Rattle.lfs_model.specs.layers.Steps.{KeepsStruct, PathAddresses}
 pub use Rattle.lfs_model.specs.layers.WrittenContent.{address_bytes}
 pub use Rattle.lfs_model.specs.session.History.{AllCallsSince, CallEvent, OnlyReadsSince, fault_count}
 pub use Rattle.lfs_model.specs.session.InDirectory.{BelongsAt, HasName, IsDirectoryPair, IsPairAt, IsPlaceOf, joined_count}
-pub use Rattle.lfs_model.specs.session.Layout.{FitsPair, IsDirectoryGone, continued_address, directory_address}
+pub use Rattle.lfs_model.specs.session.Layout.{FitsPair, IsUnreachedOrRemoved, continued_address, directory_address}
 pub use Rattle.lfs_model.specs.session.Moved.{is_worn, pair_joined_to}
 pub use Rattle.lfs_model.specs.session.Operations.{Operation}
 pub use Rattle.lfs_model.specs.session.Refusals.{path_or_root}
@@ -87,23 +87,23 @@ pub use Rattle.lfs_operations.specs.Altering.{IsTouchedBlock, WritesTouchedFree}
 pub use Rattle.lfs_operations.specs.Changing.{ArePut, AreTwoFree, CanCommit, CanPut, HasTwoFree, IsPairSplit, IsPairTouched, IsSplitInto, LeftByPut, LeftBySplit, OverfillsPair, ReportsPut, ReportsSpaceErrors, ReportsTakingCommit, TakesAtMostTwo, WritesPairTwo, WritesThreadTwo, has_failed_after, map_taking_two}
 pub use Rattle.lfs_operations.specs.Creating.{CanCreateIn, IsFileCreated, creation_changes, tree_with_file}
 pub use Rattle.lfs_operations.specs.Deltas.{CanSetGstate, content_reaching_gstate, delta_reaching_gstate, gstate_changes, tail_is_hard}
-pub use Rattle.lfs_operations.specs.Dropping.{CanDropAt, IsPairDropped, LeftByDrop, SameInFlight, ShowsDroppedTree, content_after_drop, delta_after_drop, dropping_changes, tail_after_drop, tail_over_drop}
+pub use Rattle.lfs_operations.specs.Dropping.{CanDropAt, IsPairDropped, LeftByDrop, SameInFlight, ShowsDroppedTree, content_after_drop, delta_after_drop, dropping_changes, tail_after_drop, tail_past_drop}
 pub use Rattle.lfs_operations.specs.Editing.{CanEditIn, CanSetAttribute, HasRemovedAttribute, HasSetAttribute, editable_slot, tree_setting_attributes}
 pub use Rattle.lfs_operations.specs.EndingMove.{CanEndMove, HasEndedMove, HasMovedSlot, KeepsRecoveryLayouts, drops_when_emptied, gstate_without_move}
-pub use Rattle.lfs_operations.specs.Making.{AreBothTouched, CanLink, CanMakeAt, FitsNewTail, HasFreeBlocks, IsDirectoryMade, IsRunEnd, ReportsMaking, WritesPairsFour, directory_entry_changes, entry_changes, threading_changes, tree_with_directory}
-pub use Rattle.lfs_operations.specs.MoveEnds.{CanEndAt, HasEndedAt, content_move_ended, continues_directory, delta_without_move, dropped_at_end, ending_changes, gstate_naming, gstate_without_sync, map_move_ended, pairs_move_ended, written_at_end}
+pub use Rattle.lfs_operations.specs.Making.{AreBothTouched, CanLinkPairAfter, CanMakeAt, FitsNewTail, HasFreeBlocks, IsDirectoryMade, IsDirectoryEnd, ReportsMaking, WritesPairsFour, directory_entry_changes, entry_changes, threading_changes, tree_with_directory}
+pub use Rattle.lfs_operations.specs.MoveEnds.{CanEndAt, HasEndedAt, content_move_ended, continues_directory, delta_without_move, dropped_by_ending, ending_changes, gstate_naming, gstate_without_sync, map_move_ended, pairs_move_ended, written_by_ending}
 pub use Rattle.lfs_operations.specs.MovingAcross.{CanRenameAcross, IsRenamedAcross, clearing_changes, moving_changes, tree_moved}
 pub use Rattle.lfs_operations.specs.MovingOnto.{CanMoveAcross, CanReplaceDirectoryAcross, CanReplaceEntryAcross, CanReplaceFileAcross, IsFileReplaced, IsMovedAcross, entry_across_changes, tree_across}
-pub use Rattle.lfs_operations.specs.MovingSteps.{CanEndSecond, CanPutAndEnd, IsPutEnded, ReportsTakingCommits, SurvivesCommits, WritesPairsTwo, WritesThreadFree, number_after_insertion, second_pair}
-pub use Rattle.lfs_operations.specs.Ready.{AreUsedUnsettled, HasNoneNew, IsRawFormed, IsReadyImage, KeepsRootNumber, KeepsTakenStates, ShowsReadyTree, ShowsUnsettledTree}
+pub use Rattle.lfs_operations.specs.MovingSteps.{CanEndAfterPut, CanPutAndEnd, ArePutAndEnded, ReportsTakingCommits, SurvivesCommits, WritesPairsTwo, WritesThreadFree, number_after_insertion, second_pair}
+pub use Rattle.lfs_operations.specs.Ready.{AreUsedUnsettled, AddsNoneInFlight, IsRawFormed, IsReadyImage, KeepsRootNumber, KeepsTakenStates, ShowsReadyTree, ShowsUnsettledTree}
 pub use Rattle.lfs_operations.specs.Recovering.{AreUnreachedFrom, AreUnreachedNumbers, CanClearSync, CanDropPairs, HasDroppedRecovered, IsSyncCleared, ReportsRecovery, gstate_while_dropping, numbered_list_blocks, numbered_slots}
 pub use Rattle.lfs_operations.specs.Removing.{CanRemoveIn, IsFileRemoved, ReportsCommit, drops_with_its_slot, tree_without_entry, written_by_removal}
 pub use Rattle.lfs_operations.specs.Renaming.{CanRenameOnto, CanRenameWithin, CompletesRename, IsRenamedOnto, IsRenamedWithin, ReportsReadPut, id_after_removal, onto_changes, tree_renamed, within_changes}
 pub use Rattle.lfs_operations.specs.RenamingOver.{CanRenameOver, CanReplaceDirectory, IsDirectoryReplaced, IsRenamedOver, ReportsReadCommit, ReportsReadCommits, replace_directory_changes}
 pub use Rattle.lfs_operations.specs.RenamingSlots.{HasSlot, NamelessSlot, attribute_changes, nameless_at, nameless_of, slot_changes}
-pub use Rattle.lfs_operations.specs.RenamingView.{attribute_copy}
+pub use Rattle.lfs_operations.specs.RenamingView.{attribute_copy_view}
 pub use Rattle.lfs_operations.specs.Storing.{CanSetStruct, HasStoredContents, tree_with_contents}
-pub use Rattle.lfs_operations.specs.Unlinking.{AreFrontsTouched, CanRemoveDirectory, IsDirectoryRemoved, ReportsCommits, number_after_drop, unlink_changes}
+pub use Rattle.lfs_operations.specs.Unlinking.{ArePairsBeforeTouched, CanRemoveDirectory, IsDirectoryRemoved, ReportsCommits, number_after_drop, unlink_changes}
 pub use Rattle.lfs_pair.specs.ChangeView.{changes_view}
 pub use Rattle.lfs_pair.specs.Commits.{changed_pair}
 pub use Rattle.lfs_pair.specs.Split.{KeepsOutsideBoth}

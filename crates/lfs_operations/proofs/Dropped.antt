@@ -1,5 +1,5 @@
 -- A pair that went from the thread, in an accepted image: what the device holds then, and which blocks the image uses.
-use Rattle.lfs_operations.proofs.Common.{ℕ, ◌≡◌, ◌≢◌, ◌⊎◌, inl, inr, ◌+◌, ◌-◌, ◌≤◌, Bool, true, false, cond, nat_eq, eqb-true, eq-eqb, List, [], ◌∷◌, ◌++◌, length, Option, Some, refl, sym, ap, ap₂, subst, subst₂, ◌∙◌, arith, append_assoc, length-append, length-set, set, slice_get, All-from_recursion, recursion_from_All, same_Some, AreUsed, BlockStates, BlockState, IsInFlight, IsUsedBlock, Free, InFlight, Used, Blocks, content_at, Disk, MoveStateFits, HasEither, with_blocks, IsWritable, Gstate, FitsInPair, PairContent, Slot, Pair, pairs_blocks, pairs_gstate, address_blocks, Tree, IsAccepted, all_unmoved_slots, disk_tree, used_blocks, Contains-number_occurrences, number_occurrences-Contains, slice_get-set_other, slice_get-set_same, SameFiles, slots_files, Each, number_occurrences, count_append, count_here, each_append, each_left, each_right, once_from_distinct, SameFileBlocks, HasNoMove, Site, thread_at, IsDevice, count_files, file_blocks, all_slots, unmoved_in, KeptThread, IsPairWritten, BeginWithSuperblock, thread_pair, map_freeing, Contains, ◌↔◌, CanDropAt, SameInFlight, LeftByDrop, IsPairDropped, content_after_drop, tail_over_drop, dropped_at_end, map_move_ended}
+use Rattle.lfs_operations.proofs.Common.{ℕ, ◌≡◌, ◌≢◌, ◌⊎◌, inl, inr, ◌+◌, ◌-◌, ◌≤◌, Bool, true, false, cond, nat_eq, eqb-true, eq-eqb, List, [], ◌∷◌, ◌++◌, length, Option, Some, refl, sym, ap, ap₂, subst, subst₂, ◌∙◌, arith, append_assoc, length-append, length-set, set, slice_get, All-from_recursion, recursion_from_All, same_Some, AreUsed, BlockStates, BlockState, IsInFlight, IsUsedBlock, Free, InFlight, Used, Blocks, content_at, Disk, MoveStateFits, HasEitherTree, with_blocks, IsWritable, Gstate, FitsInPair, PairContent, Slot, Pair, pairs_blocks, pairs_gstate, address_blocks, Tree, IsAccepted, all_unmoved_slots, disk_tree, used_blocks, Contains-number_occurrences, number_occurrences-Contains, slice_get-set_other, slice_get-set_same, SameFiles, slots_files, Each, number_occurrences, count_append, count_here, each_append, each_left, each_right, once_from_distinct, SameFileBlocks, HasNoMove, Site, thread_at, IsDevice, count_files, file_blocks, all_slots, unmoved_in, KeptThread, IsPairWritten, BeginWithSuperblock, thread_pair, map_freeing, Contains, ◌↔◌, CanDropAt, SameInFlight, LeftByDrop, IsPairDropped, content_after_drop, tail_past_drop, dropped_by_ending, map_move_ended}
 use Rattle.lfs_operations.proofs.DroppedTails.{front_is, gone_is, gstate_is, without_is}
 use Rattle.lfs_operations.proofs.Placing.{blocks_append, device, left_still}
 use Rattle.lfs_operations.proofs.Taking.{within}
@@ -152,7 +152,7 @@ module _ (sets : BlockStates) (at : ℕ × ℕ) (us vs : List ℕ) (used : AreUs
 
 -- the map after the end of a move, which frees the pair or not
 pub map_ended : (t : KeptThread) (index : ℕ) (goes : Bool) (us vs : List ℕ) → AreUsed t.map us → ((b : ℕ) → number_occurrences b us ≤ 1)
-    → ((b : ℕ) → number_occurrences b vs + number_occurrences b (dropped_at_end t index goes) ≡ number_occurrences b us) → (new : BlockStates) → new ≡ map_move_ended t index goes → HasMapWithout t.map new vs
+    → ((b : ℕ) → number_occurrences b vs + number_occurrences b (dropped_by_ending t index goes) ≡ number_occurrences b us) → (new : BlockStates) → new ≡ map_move_ended t index goes → HasMapWithout t.map new vs
 map_ended t index true us vs used once less new is = map_without t.map (thread_pair t index).at us vs used once less new is
 map_ended t index false us vs used once less new is = subst (λ z. HasMapWithout t.map z vs) (sym is) (record { used = used_same t.map us vs (λ b. let e = less b in omega arith) used; size = refl; flying = λ b. ((λ h. h), (λ h. h)) })
 
@@ -212,8 +212,8 @@ module _ {t : KeptThread} {index : ℕ} {state : Gstate} {w : Site} {x o : Pair}
   pub slots_left : (content_after_drop t (index - 1) state).slots ≡ x.content.slots
   slots_left = ap (λ (z : Pair). z.content.slots) front_there
 
-  pub tail_left : (content_after_drop t (index - 1) state).tail ≡ tail_over_drop x.content.tail o.content.tail
-  tail_left = ap₂ (λ (y z : Pair). tail_over_drop y.content.tail z.content.tail) front_there gone_there
+  pub tail_left : (content_after_drop t (index - 1) state).tail ≡ tail_past_drop x.content.tail o.content.tail
+  tail_left = ap₂ (λ (y z : Pair). tail_past_drop y.content.tail z.content.tail) front_there gone_there
 
   pub state_left : pairs_gstate (thread_at w (record { at = x.at; content = content_after_drop t (index - 1) state } ∷ [])) ≡ state
   state_left = ap pairs_gstate (grouped (pair_left ∷ [])) ∙ gstate_is t (index - 1) ahead x o back is number state pair_left refl
@@ -227,11 +227,11 @@ module _ {t : KeptThread} {index : ℕ} {state : Gstate} {w : Site} {x o : Pair}
 
   -- a stop leaves the pairs as they were, or without that one
   pub left_dropped : {before after : Tree} → (disk_tree t.disk t.pairs ≡ before) ⊎ (disk_tree t.disk t.pairs ≡ after)
-      → ((disk : Disk) → IsPairWritten t (index - 1) (content_after_drop t (index - 1) state) disk → HasEither disk before after)
-      → (left : Blocks) → LeftByDrop t (index - 1) state left → HasEither (with_blocks left t.disk) before after
+      → ((disk : Disk) → IsPairWritten t (index - 1) (content_after_drop t (index - 1) state) disk → HasEitherTree disk before after)
+      → (left : Blocks) → LeftByDrop t (index - 1) state left → HasEitherTree (with_blocks left t.disk) before after
   left_dropped {before = before} {after = after} shows then left l = go l.is
     where
-      go : (l.content ≡ (thread_pair t (index - 1)).content) ⊎ (l.content ≡ content_after_drop t (index - 1) state) → HasEither (with_blocks left t.disk) before after
+      go : (l.content ≡ (thread_pair t (index - 1)).content) ⊎ (l.content ≡ content_after_drop t (index - 1) state) → HasEitherTree (with_blocks left t.disk) before after
       go (inl e) = left_still t.disk left t.pairs k.accepted k.writable (subst (λ z. IsDevice t.disk (with_blocks left t.disk) z z) (sym is)
           (device_kept t (index - 1) ahead x o back is number accepted_is (with_blocks left t.disk) x.content refl
           (subst (λ y. IsPairWritten t (index - 1) y (with_blocks left t.disk)) (e ∙ ap (λ (z : Pair). z.content) front_there) l.written))) shows

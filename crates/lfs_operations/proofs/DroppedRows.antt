@@ -1,20 +1,20 @@
 -- Rows of what a pair that goes leaves to the one in front of it, and of numbers once a pair is gone.
-use Rattle.lfs_operations.proofs.Common.{◌≡◌, true, false, Some, None, refl, tail_over_drop, number_after_drop}
+use Rattle.lfs_operations.proofs.Common.{◌≡◌, true, false, Some, None, refl, tail_past_drop, number_after_drop}
 
 -- inside a directory
-goes_on : tail_over_drop (Some (record { hard = true; to = (6, 7) })) (Some (record { hard = true; to = (8, 9) })) ≡ Some (record { hard = true; to = (8, 9) })
+goes_on : tail_past_drop (Some (record { hard = true; to = (6, 7) })) (Some (record { hard = true; to = (8, 9) })) ≡ Some (record { hard = true; to = (8, 9) })
 goes_on = refl
 
 -- at its end
-ends : tail_over_drop (Some (record { hard = true; to = (6, 7) })) (Some (record { hard = false; to = (8, 9) })) ≡ Some (record { hard = false; to = (8, 9) })
+ends : tail_past_drop (Some (record { hard = true; to = (6, 7) })) (Some (record { hard = false; to = (8, 9) })) ≡ Some (record { hard = false; to = (8, 9) })
 ends = refl
 
 -- a first pair of a directory that went on
-not_joined : tail_over_drop (Some (record { hard = false; to = (6, 7) })) (Some (record { hard = true; to = (8, 9) })) ≡ Some (record { hard = false; to = (8, 9) })
+not_joined : tail_past_drop (Some (record { hard = false; to = (6, 7) })) (Some (record { hard = true; to = (8, 9) })) ≡ Some (record { hard = false; to = (8, 9) })
 not_joined = refl
 
 -- at the end of the thread
-last : tail_over_drop (Some (record { hard = true; to = (6, 7) })) None ≡ None
+last : tail_past_drop (Some (record { hard = true; to = (6, 7) })) None ≡ None
 last = refl
 
 behind : number_after_drop 2 5 ≡ 4

@@ -1,7 +1,7 @@
 -- A step that writes one pair and two free blocks: what is on the device then, and that the image stays where the pair does.
 use Rattle.std.proofs.Common.{ℕ, ◌≡◌, ◌+◌, nat_eq, List, [], ◌∷◌, ◌++◌, length, Some, inl, refl, sym, ap, subst, ◌∙◌, arith}
 use Rattle.std.specs.Prelude.{Contains}
-use Rattle.lfs_operations.proofs.Common.{All-from_recursion, Each, IsDistinct, recursion_from_All, number_occurrences-Contains, Blocks, IsFree, IsInFlight, content_at, current_block, Disk, HasEither, with_blocks, PairContent, FitsInPair, Pair, pairs_gstate, zero_gstate, BeginsWith, superblock_entry, IsAccepted, IsWritable, disk_tree, used_blocks, each_right, HasNoMove, no_move_from, Site, HasFirst, KeepsOutsideBoth, KeptThread, SameGeometryAs, HasOldPair, BeginWithSuperblock, map_using, thread_pair, KeepsSuperblockFirst, AreTwoFree, map_taking_two, SameInFlight, IsReadyImage}
+use Rattle.lfs_operations.proofs.Common.{All-from_recursion, Each, IsDistinct, recursion_from_All, number_occurrences-Contains, Blocks, IsFree, IsInFlight, content_at, current_block, Disk, HasEitherTree, with_blocks, PairContent, FitsInPair, Pair, pairs_gstate, zero_gstate, BeginsWith, superblock_entry, IsAccepted, IsWritable, disk_tree, used_blocks, each_right, HasNoMove, no_move_from, Site, HasFirst, KeepsOutsideBoth, KeptThread, SameGeometryAs, HasOldPair, BeginWithSuperblock, map_using, thread_pair, KeepsSuperblockFirst, AreTwoFree, map_taking_two, SameInFlight, IsReadyImage}
 use Rattle.lfs_model.specs.session.Moved.{AreUnused}
 use Rattle.lfs_operations.proofs.Owning.{none_comes_now, not_used, stay_taken}
 use Rattle.lfs_operations.proofs.Placing.{IsPlaced, device, left_still}
@@ -67,10 +67,10 @@ module _ (t : KeptThread) (ready : IsReadyImage t) (index : ℕ) (ahead : List P
 
   -- ---- the pair stays
 
-  still_shows : (left : Blocks) → IsPlaced t.disk (with_blocks left t.disk) p p [] own → HasEither (with_blocks left t.disk) (disk_tree t.disk t.pairs) (disk_tree t.disk t.pairs)
+  still_shows : (left : Blocks) → IsPlaced t.disk (with_blocks left t.disk) p p [] own → HasEitherTree (with_blocks left t.disk) (disk_tree t.disk t.pairs) (disk_tree t.disk t.pairs)
   still_shows left still = left_still t.disk left ps accepted writable (device t.disk (with_blocks left t.disk) pair_site p p [] own accepted distinct still) (inl (ap (disk_tree t.disk) (sym is)))
 
   pub left_old : (left : Blocks) → KeepsOutsideBoth (thread_pair t index).at fresh t.disk.blocks left → HasOldPair (with_map t (map_taking_two t.map fresh)) index (with_blocks left t.disk)
-      → HasEither (with_blocks left t.disk) (disk_tree t.disk t.pairs) (disk_tree t.disk t.pairs)
+      → HasEitherTree (with_blocks left t.disk) (disk_tree t.disk t.pairs) (disk_tree t.disk t.pairs)
   left_old left others b = still_shows left (threads.placed_still t index pair_site p is place (with_blocks left t.disk) fresh
       (record { block_size = refl; page = refl; order = refl; profile = refl; count = others.count }) others (record { holds = b.holds; first = b.first }))

@@ -1,5 +1,5 @@
 -- The last step of an operation drops a pair that no path leads to any more.
-use Rattle.lfs_operations.proofs.Common.{ℕ, ◌≡◌, inr, ◌+◌, ◌-◌, ◌≤◌, false, List, [], ◌∷◌, ◌++◌, length, refl, sym, ap, subst, ◌∙◌, arith, Blocks, AreUsed, Disk, block_count, HasEither as IsLeftOf, with_blocks, PairContent, zero_gstate, Pair, pairs_blocks, pairs_gstate, is_hard_tail, root_address, count_before_root, address_blocks, Tree, IsAccepted, PathAddresses, all_unmoved_slots, disk_tree, used_blocks, SameSlots, alike_append, alike_itself, number_occurrences, count_append, count_here, once_from_distinct, HasNoMove, IsGone, file_blocks, IsWritableChange, IsChain, KeptThread, SameGeometryAs, IsPairWritten, thread_pair, CanDropAt, IsPairDropped, ShowsDroppedTree, LeftByDrop, SameInFlight, content_after_drop, IsReadyImage, KeepsRootNumber}
+use Rattle.lfs_operations.proofs.Common.{ℕ, ◌≡◌, inr, ◌+◌, ◌-◌, ◌≤◌, false, List, [], ◌∷◌, ◌++◌, length, refl, sym, ap, subst, ◌∙◌, arith, Blocks, AreUsed, Disk, block_count, HasEitherTree as IsLeftOf, with_blocks, PairContent, zero_gstate, Pair, pairs_blocks, pairs_gstate, is_hard_tail, root_address, count_before_root, address_blocks, Tree, IsAccepted, PathAddresses, all_unmoved_slots, disk_tree, used_blocks, SameSlots, alike_append, alike_itself, number_occurrences, count_append, count_here, once_from_distinct, HasNoMove, IsGone, file_blocks, IsWritableChange, IsChain, KeptThread, SameGeometryAs, IsPairWritten, thread_pair, CanDropAt, IsPairDropped, ShowsDroppedTree, LeftByDrop, SameInFlight, content_after_drop, IsReadyImage, KeepsRootNumber}
 use Rattle.lfs_operations.proofs.Dropped.{HasMapWithout, IsToBeDropped, can_drop_pair, device_left, front_there, gone_there, left_dropped, map_dropped, pairs_left, slots_left, state_left, tail_left, used_left}
 use Rattle.lfs_operations.proofs.DroppedTails.{no_move_state}
 use Rattle.lfs_operations.proofs.Placing.{left_after}

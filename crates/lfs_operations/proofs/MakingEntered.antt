@@ -1,5 +1,5 @@
 -- A directory's slot comes into a pair, and the sync bit goes: what a change or a split comes to, and what a stop in it leaves.
-use Rattle.lfs_operations.proofs.Common.{ℕ, ◌≡◌, ◌+◌, ◌⊎◌, inl, inr, true, false, List, [], ◌∷◌, ◌++◌, length, Some, refl, sym, ap, subst, ◌∙◌, arith, append-nil, ⊎_elim, Blocks, AreUsed, PairChange, Disk, block_count, Name, with_blocks, Slot, PairContent, zero_gstate, gstate_xor, pair_with_slots, directory_slot, Pair, pairs_blocks, pairs_gstate, starts_superblock, IsAccepted, IsTreeEntry, IsWritable, IsWritableSlot, used_blocks, became_front, became_shape, no_move_from, number_occurrences, count_append, HasNoMove, gstate_append, gstate_cons, gstate_kept, gstate_right, IsStep, some_filled, Site, thread_at, IsSite, IsDevice, KeptThread, complete_after, BeginWithSuperblock, LeftByPut, ArePut, HasNoneNew, KeepsTakenStates}
+use Rattle.lfs_operations.proofs.Common.{ℕ, ◌≡◌, ◌+◌, ◌⊎◌, inl, inr, true, false, List, [], ◌∷◌, ◌++◌, length, Some, refl, sym, ap, subst, ◌∙◌, arith, append-nil, ⊎_elim, Blocks, AreUsed, PairChange, Disk, block_count, Name, with_blocks, Slot, PairContent, zero_gstate, gstate_xor, pair_with_slots, directory_slot, Pair, pairs_blocks, pairs_gstate, superblock_first, IsAccepted, IsTreeEntry, IsWritable, IsWritableSlot, used_blocks, became_front, became_shape, no_move_from, number_occurrences, count_append, HasNoMove, gstate_append, gstate_cons, gstate_kept, gstate_right, IsStep, some_filled, Site, thread_at, IsSite, IsDevice, KeptThread, complete_after, BeginWithSuperblock, LeftByPut, ArePut, AddsNoneInFlight, KeepsTakenStates}
 use Rattle.lfs_model.proofs.StepsTaken as taken
 use Rattle.lfs_operations.proofs.MakingCounts.{used_count_now}
 use Rattle.lfs_operations.proofs.Owning.{used_same}
@@ -23,7 +23,7 @@ pub record IsEntering (t : KeptThread) (index : ℕ) (changes : List PairChange)
   pub still : pairs_gstate (thread_at w (record { at = p.at; content = content } ∷ [])) ≡ zero_gstate
   pub was : p.content.slots ≡ l ++ r
   pub now : content.slots ≡ l ++ directory_slot name to ∷ r
-  pub front : l ≡ [] → starts_superblock r ≡ false
+  pub front : l ≡ [] → superblock_first r ≡ false
   pub entry : IsTreeEntry (directory_slot name to)
   pub fit : IsWritableSlot t.disk.profile t.disk.block_size t.disk.page (directory_slot name to)
 
@@ -47,7 +47,7 @@ pub record HasEntered (t : KeptThread) (w : Site) (p : Pair) (l : List Slot) (na
   pub used : AreUsed new.map (used_blocks new.disk new.pairs)
   pub size : length new.map ≡ block_count new.disk
   pub stays : KeepsTakenStates t.map new.map
-  pub none_comes : HasNoneNew t.map new.map
+  pub none_comes : AddsNoneInFlight t.map new.map
 
 module _ (t : KeptThread) (index : ℕ) (changes : List PairChange) (w : Site) (p : Pair) (l : List Slot) (name : Name) (to : ℕ × ℕ) (r : List Slot) (k : IsEntering t index changes w p l name to r) where
   abbrev u : Slot
@@ -71,14 +71,14 @@ module _ (t : KeptThread) (index : ℕ) (changes : List PairChange) (w : Site) (
   }
     where
       -- the superblock stays in slot 0
-      go : (l : List Slot) → (l ≡ [] → starts_superblock r ≡ false) → BeginWithSuperblock (l ++ r) → BeginWithSuperblock (l ++ directory_slot name to ∷ r)
+      go : (l : List Slot) → (l ≡ [] → superblock_first r ≡ false) → BeginWithSuperblock (l ++ r) → BeginWithSuperblock (l ++ directory_slot name to ∷ r)
       go [] f e = absurd (let z = sym (f refl) ∙ e.0 in cc)
       go (s ∷ l) f e = e
 
-  front_kept : (l : List Slot) → (l ≡ [] → starts_superblock r ≡ false) → (slots : List Slot) → slots ≡ l ++ r → starts_superblock slots ≡ true
-      → starts_superblock (l ++ directory_slot name to ∷ r) ≡ true
-  front_kept [] f slots e h = absurd (let z = sym h ∙ ap starts_superblock e ∙ f refl in cc)
-  front_kept (s ∷ l) f slots e h = sym (ap starts_superblock e) ∙ h
+  front_kept : (l : List Slot) → (l ≡ [] → superblock_first r ≡ false) → (slots : List Slot) → slots ≡ l ++ r → superblock_first slots ≡ true
+      → superblock_first (l ++ directory_slot name to ∷ r) ≡ true
+  front_kept [] f slots e h = absurd (let z = sym h ∙ ap superblock_first e ∙ f refl in cc)
+  front_kept (s ∷ l) f slots e h = sym (ap superblock_first e) ∙ h
 
   -- ---- the commit
 

@@ -1,5 +1,5 @@
 -- Where the two steps of a mkdir change a directory: behind its last pair, and in the pair where the name belongs, which may be that one.
-use Rattle.lfs_operations.proofs.Common.{ℕ, ◌≡◌, ◌⊎◌, inl, inr, ◌+◌, true, cond, List, [], ◌∷◌, ◌++◌, length, drop, refl, sym, ap, subst, ◌∙◌, arith, append_assoc, length-append, Disk, joined_count, Name, Session, Slot, zero_gstate, same_pair, directory_slot, path_or_root, Pair, pairs_blocks, first_address, pairs_gstate, Path, LeadsTo, all_entries, disk_tree, last_site, CompletesOperation, IsRun, IsStep, place_at, IsPlace, AnyByRecursion, Site, among_right, begin_of, dirs_at, run_changed, thread_at, IsSite, IsChain, KeptThread, IsRunEnd}
+use Rattle.lfs_operations.proofs.Common.{ℕ, ◌≡◌, ◌⊎◌, inl, inr, ◌+◌, true, cond, List, [], ◌∷◌, ◌++◌, length, drop, refl, sym, ap, subst, ◌∙◌, arith, append_assoc, length-append, Disk, joined_count, Name, Session, Slot, zero_gstate, same_pair, directory_slot, path_or_root, Pair, pairs_blocks, first_address, pairs_gstate, Path, LeadsTo, all_entries, disk_tree, last_site, CompletesOperation, IsRun, IsStep, place_at, IsPlace, AnyByRecursion, Site, among_right, begin_of, dirs_at, run_changed, thread_at, IsSite, IsChain, KeptThread, IsDirectoryEnd}
 use Rattle.lfs_model.specs.session.Operations as ops
 use Rattle.lfs_model.proofs.MkdirSteps.{mkdir_in_two_completed}
 use Rattle.lfs_model.proofs.StepsTaken as taken
@@ -21,7 +21,7 @@ run_right [] p right h = h
 run_right (x ∷ []) p right h = h.1
 run_right (x ∷ y ∷ left) p right h = run_right (y ∷ left) p right h.1
 
-pub last_number : (t : KeptThread) (index last : ℕ) (w : Site) (p : Pair) → t.pairs ≡ thread_at w (p ∷ []) → index ≡ length w.chain + length (w.before ++ w.left) → IsSite w (p ∷ []) → IsRunEnd t.pairs index last
+pub last_number : (t : KeptThread) (index last : ℕ) (w : Site) (p : Pair) → t.pairs ≡ thread_at w (p ∷ []) → index ≡ length w.chain + length (w.before ++ w.left) → IsSite w (p ∷ []) → IsDirectoryEnd t.pairs index last
     → last ≡ index + length w.right
 last_number t index last w p there place site is =
     let whole : t.pairs ≡ (w.chain ++ (w.before ++ w.left)) ++ (p ∷ (w.right ++ w.after)) = there ∙ sym (append_assoc w.chain (w.before ++ w.left) (p ∷ (w.right ++ w.after))) in
@@ -90,7 +90,7 @@ pub record IsRoute (t : KeptThread) (last : ℕ) (w : Site) (p : Pair) (fresh : 
   pub which : IsOne p x p2 fresh ⊎ IsAhead p x p2 right fresh
   pub completed : Completes t.disk w left x fresh right p2 l r P name
 
-module _ (t : KeptThread) (index last : ℕ) (w : Site) (p : Pair) (there : t.pairs ≡ thread_at w (p ∷ [])) (place : index ≡ length w.chain + length (w.before ++ w.left)) (site : IsSite w (p ∷ [])) (is_last : IsRunEnd t.pairs index last)
+module _ (t : KeptThread) (index last : ℕ) (w : Site) (p : Pair) (there : t.pairs ≡ thread_at w (p ∷ [])) (place : index ≡ length w.chain + length (w.before ++ w.left)) (site : IsSite w (p ∷ [])) (is_last : IsDirectoryEnd t.pairs index last)
     (fresh : ℕ × ℕ) (l r : List Slot) (P : Path) (name : Name) where
   number : last ≡ index + length w.right
   number = last_number t index last w p there place site is_last

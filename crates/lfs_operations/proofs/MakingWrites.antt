@@ -1,5 +1,5 @@
 -- Which blocks the two steps of a mkdir write, together.
-use Rattle.lfs_operations.proofs.Common.{ℕ, ◌≡◌, ◌≢◌, List, [], ◌∷◌, subst, arith, All-from_recursion, recursion_from_All, IsFree, SurvivesLossSince, Tree, survives_then, each_weaker, KeptThread, ChangesThreadBlocks, thread_pair, map_using, addresses_blocks, All, AreTwoFree, WritesPairTwo, map_taking_two, IsRunEnd, WritesPairsFour}
+use Rattle.lfs_operations.proofs.Common.{ℕ, ◌≡◌, ◌≢◌, List, [], ◌∷◌, subst, arith, All-from_recursion, recursion_from_All, IsFree, SurvivesLossSince, Tree, survives_then, each_weaker, KeptThread, ChangesThreadBlocks, thread_pair, map_using, addresses_blocks, All, AreTwoFree, WritesPairTwo, map_taking_two, IsDirectoryEnd, WritesPairsFour}
 use Rattle.lfs_operations.proofs.MakingCounts.{freed}
 use Rattle.lfs_operations.proofs.Putting.{with_map, writes_trans, writes_wider}
 
@@ -7,7 +7,7 @@ use Rattle.lfs_operations.proofs.Putting.{with_map, writes_trans, writes_wider}
 abbrev Covers : List ℕ → List ℕ → Type 0
 Covers cs bs = (b : ℕ) → All (λ c. c ≢ b) cs → All (λ c. c ≢ b) bs
 
-module _ (t : KeptThread) (index last : ℕ) (is_last : IsRunEnd t.pairs index last) (fresh : ℕ × ℕ) (two : AreTwoFree t.map fresh) where
+module _ (t : KeptThread) (index last : ℕ) (is_last : IsDirectoryEnd t.pairs index last) (fresh : ℕ × ℕ) (two : AreTwoFree t.map fresh) where
   abbrev own : List ℕ → List ℕ
   own more = (thread_pair t index).at.0 ∷ (thread_pair t index).at.1 ∷ (thread_pair t last).at.0 ∷ (thread_pair t last).at.1 ∷ fresh.0 ∷ fresh.1 ∷ more
 

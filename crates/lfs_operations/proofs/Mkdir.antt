@@ -1,5 +1,5 @@
 -- A directory that comes, as two steps of the thread.
-use Rattle.lfs_operations.proofs.Common.{ℕ, ◌≡◌, ◌+◌, ◌<◌, ◌≤◌, ◌^◌, ◌⊎◌, inl, inr, true, List, [], ◌∷◌, ◌++◌, length, Some, refl, sym, ap, ap₂, subst, ◌∙◌, arith, append_assoc, length-append, insert, slice_get, recursion_from_All, tree_creating, Blocks, SameExceptThese, IsFree, IsInFlight, Free, content_at, Disk, block_count, charge_limit, BelongsAt, AreWords, Name, HasEither as IsLeftOf, with_blocks, PairContent, FitsInPair, Gstate, Slot, zero_gstate, gstate_xor, same_pair, directory_slot, pair_with_slots, Pair, pairs_blocks, pairs_gstate, is_hard_tail, tail_target, count_before_root, address_blocks, addresses_blocks, DirectoryNode, IsWritableEntry, IsWritable, IsAccepted, LeadsTo, all_entries, disk_tree, Became, last_site, chain_now, InTwo, mkdir_in_two, CompletesOperation, no_move_from, recovered_from, each_right, HasNoMove, gstate_assoc, gstate_cons, gstate_moved, gstate_self, sync_bit_delta, with_sync_inverted, turned_is, entry_small, place_at, insert_here, IsPlace, step_writable, site, place_of_belongs, AnyByRecursion, Site, among_left, among_right, begin_of, dirs_at, thread_at, IsSite, IsChain, KeptThread, CanThreadIn, IsThreadedIn, LossLeavesThreaded, ChangesThreadBlocks, thread_pair, complete_after, All, Contains, AreByteBlocks, entry_charge, IsPairTouched, AreTwoFree, CanPut, HasTwoFree, LeftByPut, ArePut, map_taking_two, AreBothTouched, CanMakeAt, FitsNewTail, HasFreeBlocks, IsRunEnd, IsDirectoryMade, directory_entry_changes, threading_changes, tree_with_directory}
+use Rattle.lfs_operations.proofs.Common.{ℕ, ◌≡◌, ◌+◌, ◌<◌, ◌≤◌, ◌^◌, ◌⊎◌, inl, inr, true, List, [], ◌∷◌, ◌++◌, length, Some, refl, sym, ap, ap₂, subst, ◌∙◌, arith, append_assoc, length-append, insert, slice_get, recursion_from_All, tree_creating, Blocks, SameExceptThese, IsFree, IsInFlight, Free, content_at, Disk, block_count, charge_limit, BelongsAt, AreWords, Name, HasEitherTree as IsLeftOf, with_blocks, PairContent, FitsInPair, Gstate, Slot, zero_gstate, gstate_xor, same_pair, directory_slot, pair_with_slots, Pair, pairs_blocks, pairs_gstate, is_hard_tail, tail_target, count_before_root, address_blocks, addresses_blocks, DirectoryNode, IsWritableEntry, IsWritable, IsAccepted, LeadsTo, all_entries, disk_tree, Became, last_site, chain_now, InTwo, mkdir_in_two, CompletesOperation, no_move_from, recovered_from, each_right, HasNoMove, gstate_assoc, gstate_cons, gstate_moved, gstate_self, sync_bit_delta, with_sync_inverted, turned_is, entry_small, place_at, insert_here, IsPlace, step_writable, site, place_of_belongs, AnyByRecursion, Site, among_left, among_right, begin_of, dirs_at, thread_at, IsSite, IsChain, KeptThread, CanThreadIn, IsThreadedIn, LossLeavesThreaded, ChangesThreadBlocks, thread_pair, complete_after, All, Contains, AreByteBlocks, entry_charge, IsPairTouched, AreTwoFree, CanPut, HasTwoFree, LeftByPut, ArePut, map_taking_two, AreBothTouched, CanMakeAt, FitsNewTail, HasFreeBlocks, IsDirectoryEnd, IsDirectoryMade, directory_entry_changes, threading_changes, tree_with_directory}
 use Rattle.lfs_model.specs.declared.limits.Profile.{Profile}
 use Rattle.lfs_model.specs.session.Operations as ops
 use Rattle.lfs_model.proofs.Beside.{change}
@@ -29,7 +29,7 @@ holds_at t index w p there place ok =
     (each_right (λ (x : Pair). content_at t.disk x.at ≡ Some x.content) w.chain (dirs_at w (p ∷ []))
     (recursion_from_All (λ (x : Pair). content_at t.disk x.at ≡ Some x.content) (thread_at w (p ∷ [])) (subst (λ z. All (λ (x : Pair). content_at t.disk x.at ≡ Some x.content) z) there ok.thread.contents)))).0
 
-module _ (t : KeptThread) (index id : ℕ) (name : Name) (can : CanMakeAt t index id name) (last : ℕ) (is_last : IsRunEnd t.pairs index last) (fresh : ℕ × ℕ) (two : AreTwoFree t.map fresh)
+module _ (t : KeptThread) (index id : ℕ) (name : Name) (can : CanMakeAt t index id name) (last : ℕ) (is_last : IsDirectoryEnd t.pairs index last) (fresh : ℕ × ℕ) (two : AreTwoFree t.map fresh)
     (bytes : AreByteBlocks t.disk.blocks) (many : block_count t.disk < 2 ^ 32) where
   abbrev b : BelongsAt t.disk.order t.pairs can.first name index id
   b = can.belongs
@@ -301,7 +301,7 @@ module _ (t : KeptThread) (index id : ℕ) (name : Name) (can : CanMakeAt t inde
             end_goes z h at tail has =
                 other_tail t z x fresh can.ready two.first x_was (run_right way.left x [] way.end.site.run) (thread_at v (e.q ∷ e.more)) ok.thread.distinct h at tail (subst (λ ps. Contains ps x) e.pairs has)
 
-            end_alters : (Contains new.pairs x → ⊥) → (i : ℕ) → IsRunEnd t.pairs index i → IsPairTouched t i new
+            end_alters : (Contains new.pairs x → ⊥) → (i : ℕ) → IsDirectoryEnd t.pairs index i → IsPairTouched t i new
             end_alters gone i is_i =
                 let a = is_i.is in
                 let b = is_last.is in

@@ -1,5 +1,5 @@
 -- A set move ends: the slot that it hides goes.
-use Rattle.lfs_operations.proofs.Common.{ℕ, ◌≡◌, ◌≢◌, ◌+◌, true, false, cond, nat_eq, ◌&&◌, List, [], ◌∷◌, ◌++◌, length, refl, sym, ap, ap₂, subst, ◌∙◌, arith, flat_map, append_assoc, append-nil, remove, IsDistinct, flat_map-append, recursion_from_All, Disk, Slot, Gstate, is_superblock, same_pair, gstate_xor, pair_with_slots, pairs_without_moved, Pair, pairs_blocks, pairs_gstate, starts_superblock, slots_not_moved, is_hard_tail, count_before_root, all_directories, used_blocks, all_unmoved_slots, set_move_kind, IsAccepted, IsWritable, became_front, became_shape, slots_files, chain_now, Each, each_append, each_left, each_right, each_weaker, number_occurrences, count_append, SameFileBlocks, HasNoMove, gstate_cons, gstate_right, flip_false, remove_here, pair_back, IsMoveEnd, move_ends, site_gstate_moved, unmoved_elsewhere, end_change, avoids_front, avoids_behind, Site, thread_at, IsSite, all_slots, file_blocks, unmoved_in, IsWritableChange, IsPut, ends_joined, directory_addresses, end_taken, gstate_without_sync, gstate_without_move}
+use Rattle.lfs_operations.proofs.Common.{ℕ, ◌≡◌, ◌≢◌, ◌+◌, true, false, cond, nat_eq, ◌&&◌, List, [], ◌∷◌, ◌++◌, length, refl, sym, ap, ap₂, subst, ◌∙◌, arith, flat_map, append_assoc, append-nil, remove, IsDistinct, flat_map-append, recursion_from_All, Disk, Slot, Gstate, is_superblock, same_pair, gstate_xor, pair_with_slots, pairs_without_moved, Pair, pairs_blocks, pairs_gstate, superblock_first, slots_not_moved, is_hard_tail, count_before_root, all_directories, used_blocks, all_unmoved_slots, set_move_kind, IsAccepted, IsWritable, became_front, became_shape, slots_files, chain_now, Each, each_append, each_left, each_right, each_weaker, number_occurrences, count_append, SameFileBlocks, HasNoMove, gstate_cons, gstate_right, flip_false, remove_here, pair_back, IsMoveEnd, move_ends, site_gstate_moved, unmoved_elsewhere, end_change, avoids_front, avoids_behind, Site, thread_at, IsSite, all_slots, file_blocks, unmoved_in, IsWritableChange, IsPut, ends_joined, directory_addresses, end_taken, gstate_without_sync, gstate_without_move}
 use Rattle.std.specs.Int.Bits.{xor_self}
 use Rattle.lfs_operations.proofs.MovSet.{HasTurned}
 use Rattle.lfs_operations.proofs.MovFirsts.{end_firsts}
@@ -125,9 +125,9 @@ module _ (disk : Disk) (w : Site) (p : Pair) (l : List Slot) (u : Slot) (r : Lis
     still_none : HasNoMove (pairs_gstate qs)
     still_none = record { kind = ap (λ (z : Gstate). z.kind) ended_state; id = ap (λ (z : Gstate). z.id) ended_state; pair = ap (λ (z : Gstate). z.pair) ended_state }
 
-    front_kept : (l : List Slot) → (slots : List Slot) → slots ≡ l ++ u ∷ r → starts_superblock slots ≡ true → starts_superblock (l ++ r) ≡ true
-    front_kept [] slots e h = absurd (let z = sym h ∙ ap starts_superblock e ∙ k.other in cc)
-    front_kept (s ∷ l) slots e h = sym (ap starts_superblock e) ∙ h
+    front_kept : (l : List Slot) → (slots : List Slot) → slots ≡ l ++ u ∷ r → superblock_first slots ≡ true → superblock_first (l ++ r) ≡ true
+    front_kept [] slots e h = absurd (let z = sym h ∙ ap superblock_first e ∙ k.other in cc)
+    front_kept (s ∷ l) slots e h = sym (ap superblock_first e) ∙ h
 
     pub end_step : IsMoveEnd disk new w p [] q [] l u r
     end_step = record {

@@ -1,5 +1,5 @@
 -- A set move ends where the slot that it hides is all that its pair holds: the pair goes with it, and the one in front of it takes over its tail.
-use Rattle.lfs_operations.proofs.Common.{ℕ, ◌≡◌, ◌+◌, true, false, cond, nat_eq, ◌&&◌, List, [], ◌∷◌, ◌++◌, sym, ap, ap₂, subst, ◌∙◌, arith, flat_map, append_assoc, remove, length, length-append, IsDistinct, Disk, Slot, Gstate, is_superblock, same_pair, Pair, pairs_blocks, pairs_gstate, starts_superblock, slots_not_moved, is_hard_tail, count_before_root, IsAccepted, IsWritable, all_directories, used_blocks, set_move_kind, Each, each_append, each_left, each_right, each_weaker, number_occurrences, HasNoMove, flip_false, pair_back, IsMoveEnd, move_ends, unmoved_elsewhere, avoids_behind, avoids_front, Site, thread_at, IsSite, drop_shape, IsDevice, IsWritableChange, directory_addresses, IsDirectoryGone, pair_with_slots, pairs_without_moved, KeptThread, end_drop_taken, gstate_without_move, KeepsRecoveryLayouts}
+use Rattle.lfs_operations.proofs.Common.{ℕ, ◌≡◌, ◌+◌, true, false, cond, nat_eq, ◌&&◌, List, [], ◌∷◌, ◌++◌, sym, ap, ap₂, subst, ◌∙◌, arith, flat_map, append_assoc, remove, length, length-append, IsDistinct, Disk, Slot, Gstate, is_superblock, same_pair, Pair, pairs_blocks, pairs_gstate, superblock_first, slots_not_moved, is_hard_tail, count_before_root, IsAccepted, IsWritable, all_directories, used_blocks, set_move_kind, Each, each_append, each_left, each_right, each_weaker, number_occurrences, HasNoMove, flip_false, pair_back, IsMoveEnd, move_ends, unmoved_elsewhere, avoids_behind, avoids_front, Site, thread_at, IsSite, drop_shape, IsDevice, IsWritableChange, directory_addresses, IsUnreachedOrRemoved, pair_with_slots, pairs_without_moved, KeptThread, end_drop_taken, gstate_without_move, KeepsRecoveryLayouts}
 use Rattle.lfs_model.specs.session.Operations as ops
 use Rattle.lfs_operations.proofs.MovFirsts.{end_firsts}
 use Rattle.lfs_operations.proofs.MovEnd.{end_count, end_chain}
@@ -74,7 +74,7 @@ module _ (disk : Disk) (w : Site) (p o : Pair) (u : Slot) (k : IsEndingWhole dis
       site = k.site;
       still_none = still_none;
       device = x.device;
-      shape = drop_shape p o q x.at x.tail (λ e. ap starts_superblock x.slots ∙ e);
+      shape = drop_shape p o q x.at x.tail (λ e. ap superblock_first x.slots ∙ e);
       was = ap (λ z. p.content.slots ++ (z ++ [])) k.held;
       is = ap (λ z. z ++ []) x.slots;
       other = k.other;
@@ -94,7 +94,7 @@ module _ (disk : Disk) (w : Site) (p o : Pair) (u : Slot) (k : IsEndingWhole dis
     whole_chain = end_chain disk new w p (o ∷ []) q p.content.slots u [] whole_step
 
     -- a recovery may go on
-    pub whole_leads : (old next : KeptThread) → GoAlike old.disk next.disk (IsDirectoryGone old.pairs ops.Recover) (IsDirectoryGone next.pairs ops.Recover) → HasNoMove (pairs_gstate next.pairs) → count_before_root next.pairs ≡ count_before_root old.pairs
+    pub whole_leads : (old next : KeptThread) → GoAlike old.disk next.disk (IsUnreachedOrRemoved old.pairs ops.Recover) (IsUnreachedOrRemoved next.pairs ops.Recover) → HasNoMove (pairs_gstate next.pairs) → count_before_root next.pairs ≡ count_before_root old.pairs
         → old.pairs ≡ thread_at w (p ∷ o ∷ []) → next.pairs ≡ thread_at w (q ∷ []) → is_hard_tail p.content.tail ≡ true → KeepsRecoveryLayouts old next
     whole_leads old next alike none root was is hard = laid_out_gap old next alike none root
         (hidden g (w.chain ++ ahead)) (pair_with_slots (slots_not_moved g p) p) (pair_with_slots (slots_not_moved g o) o) (hidden g back) (w.chain ++ ahead) q back

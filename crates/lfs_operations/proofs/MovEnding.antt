@@ -1,5 +1,5 @@
 -- The end of a set move, as a step of the thread.
-use Rattle.lfs_operations.proofs.Common.{ℕ, zero, suc, ◌≡◌, ◌≢◌, ◌-◌, ◌<◌, ◌⊎◌, inl, inr, true, false, take, List, [], ◌∷◌, Option, ◌++◌, length, Some, refl, sym, ap, ap₂, subst, ◌∙◌, arith, length-append, remove, get_or, slice_get, sum_by, subst₂, xor_lt, same_Some, recursion_from_All, sum_by-append, sum_by-cons, Blocks, Delete, PutMove, changed_content_of, RawContent, content_at, raw_content, complete_content, Disk, CallEvent, AreWords, MoveStateFits, HasEither as IsLeftOf, SurvivesLossSince, with_blocks, Slot, FitsInPair, Gstate, Tail, gstate_xor, same_pair, slot_size, Pair, pairs_gstate, tail_target, count_before_root, IsAccepted, IsWritable, all_directories, disk_tree, used_blocks, SameSlots, alike_itself, IsCompleted, complete_length, complete_remove, completed_parts, completed_from, Each, each_right, number_occurrences, deletes, does_first, does_nothing, puts_move, HoldsAtLosses-weaker, HasSite, site_of_number, directory_addresses, remove_here, AnyByRecursion, Site, among_left, among_parts, among_right, dirs_at, thread_at, IsWritableChange, pairs_behind, ends_joined, CleanLossLeaves, KeptThread, CanChangePair, IsPairCommitted, LossLeavesPair, RefusesChanges, BeginWithSuperblock, complete_after, empty_anchor, thread_pair, pairs_with, pairs_without_moved, HasNoMove, option_and_then, CanEndAt, HasEndedAt, content_move_ended, ending_changes, continues_directory, gstate_without_sync, delta_without_move, gstate_without_move}
+use Rattle.lfs_operations.proofs.Common.{ℕ, zero, suc, ◌≡◌, ◌≢◌, ◌-◌, ◌<◌, ◌⊎◌, inl, inr, true, false, take, List, [], ◌∷◌, Option, ◌++◌, length, Some, refl, sym, ap, ap₂, subst, ◌∙◌, arith, length-append, remove, get_or, slice_get, sum_by, subst₂, xor_lt, same_Some, recursion_from_All, sum_by-append, sum_by-cons, Blocks, Delete, PutMove, changed_content_of, RawContent, content_at, raw_content, complete_content, Disk, CallEvent, AreWords, MoveStateFits, HasEitherTree as IsLeftOf, SurvivesLossSince, with_blocks, Slot, FitsInPair, Gstate, Tail, gstate_xor, same_pair, slot_size, Pair, pairs_gstate, tail_target, count_before_root, IsAccepted, IsWritable, all_directories, disk_tree, used_blocks, SameSlots, alike_itself, IsCompleted, complete_length, complete_remove, completed_parts, completed_from, Each, each_right, number_occurrences, deletes, does_first, does_nothing, puts_move, HoldsAtLosses-weaker, HasSite, site_of_number, directory_addresses, remove_here, AnyByRecursion, Site, among_left, among_parts, among_right, dirs_at, thread_at, IsWritableChange, pairs_behind, ends_joined, CleanLossLeaves, KeptThread, CanChangePair, IsPairCommitted, LossLeavesPair, RefusesChanges, BeginWithSuperblock, complete_after, empty_anchor, thread_pair, pairs_with, pairs_without_moved, HasNoMove, option_and_then, CanEndAt, HasEndedAt, content_move_ended, ending_changes, continues_directory, gstate_without_sync, delta_without_move, gstate_without_move}
 use Rattle.lfs_operations.proofs.Held.{CompletesTo, completes_to}
 use Rattle.lfs_operations.proofs.MovEnd.{IsEnding, ended, ended_count, ended_firsts, ended_state, ended_chain, ended_kin}
 use Rattle.lfs_operations.proofs.MovSet.{HasTurned}

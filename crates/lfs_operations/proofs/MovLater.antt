@@ -1,5 +1,5 @@
 -- A rename across pairs after the old slot was read.
-use Rattle.lfs_operations.proofs.Common.{ℕ, ◌≡◌, ◌⊎◌, ◌<◌, length, inl, inr, Bool, true, false, List, ◌∷◌, ◌++◌, Option, None, Some, Result, Err, refl, sym, ap, ap₂, subst, ◌∙◌, arith, PairChange, PutMove, Disk, Blocks, Slot, Pair, Site, Gstate, Path, Tree, gstate_xor, pairs_blocks, with_blocks, HasEither, fault_count, Name, SurvivesLossSince, disk_tree, AreWords, survives_then, LossLeavesAtWorst-read, HoldsAtLosses-read_count, HoldsAtLosses-trans, HoldsAtLosses-weaker, OnlyReadsSince-trans, StayUnprogrammed-read_count, StayUnprogrammed-trans, KeptThread, ThreadView, ThreadReportsErrors, OnlyReadsThread, thread_pair, IfErr, Error, Io, NoMemory, NoSpace, ArePut, LeftByPut, OverfillsPair, HasTwoFree, has_failed_after, CanEditIn, CanEndSecond, IsPutEnded, SurvivesCommits, ReportsTakingCommits, WritesPairsTwo, tree_moved, CanMoveAcross, clearing_changes, moving_changes, tree_across, gstate_naming, IsReadyImage, nameless_at, NamelessSlot, slot_changes}
+use Rattle.lfs_operations.proofs.Common.{ℕ, ◌≡◌, ◌⊎◌, ◌<◌, length, inl, inr, Bool, true, false, List, ◌∷◌, ◌++◌, Option, None, Some, Result, Err, refl, sym, ap, ap₂, subst, ◌∙◌, arith, PairChange, PutMove, Disk, Blocks, Slot, Pair, Site, Gstate, Path, Tree, gstate_xor, pairs_blocks, with_blocks, HasEitherTree, fault_count, Name, SurvivesLossSince, disk_tree, AreWords, survives_then, LossLeavesAtWorst-read, HoldsAtLosses-read_count, HoldsAtLosses-trans, HoldsAtLosses-weaker, OnlyReadsSince-trans, StayUnprogrammed-read_count, StayUnprogrammed-trans, KeptThread, ThreadView, ThreadReportsErrors, OnlyReadsThread, thread_pair, IfErr, Error, Io, NoMemory, NoSpace, ArePut, LeftByPut, OverfillsPair, HasTwoFree, has_failed_after, CanEditIn, CanEndAfterPut, ArePutAndEnded, SurvivesCommits, ReportsTakingCommits, WritesPairsTwo, tree_moved, CanMoveAcross, clearing_changes, moving_changes, tree_across, gstate_naming, IsReadyImage, nameless_at, NamelessSlot, slot_changes}
 use Rattle.lfs_operations.proofs.Held.{below}
 use Rattle.lfs_operations.proofs.MovPlaced.{IsAimed}
 use Rattle.lfs_operations.proofs.MovRename.{aimed_new}
@@ -18,13 +18,13 @@ changes_are t mid only replaces sync old_pair old_id new_pair new_id name are mo
     (move ∙ ap (λ k. gstate_xor (gstate_naming sync (thread_pair k old_pair).at old_id) (thread_pair k new_pair).content.move) (read_is t mid only)) parts
 
 module _ (t mid : KeptThread) (only : OnlyReadsThread t mid) (old_pair old_id : ℕ) (goes : Bool) (new_pair : ℕ) (changes : List PairChange) where
-  pub ends_after_read : (last : KeptThread) → CanEndSecond t old_pair old_id goes new_pair last → CanEndSecond mid old_pair old_id goes new_pair last
-  ends_after_read last x = subst (λ k. CanEndSecond k old_pair old_id goes new_pair last) (sym (read_is t mid only)) (record { apart = x.apart; grown = x.grown; can = x.can; at = x.at })
+  pub ends_after_read : (last : KeptThread) → CanEndAfterPut t old_pair old_id goes new_pair last → CanEndAfterPut mid old_pair old_id goes new_pair last
+  ends_after_read last x = subst (λ k. CanEndAfterPut k old_pair old_id goes new_pair last) (sym (read_is t mid only)) (record { apart = x.apart; grown = x.grown; can = x.can; at = x.at })
 
-  pub done_after_read : (new : KeptThread) → IsPutEnded mid old_pair old_id goes new_pair changes new → IsPutEnded t old_pair old_id goes new_pair changes new
-  done_after_read new is = earlier (subst (λ k. IsPutEnded k old_pair old_id goes new_pair changes new) (read_is t mid only) is)
+  pub done_after_read : (new : KeptThread) → ArePutAndEnded mid old_pair old_id goes new_pair changes new → ArePutAndEnded t old_pair old_id goes new_pair changes new
+  done_after_read new is = earlier (subst (λ k. ArePutAndEnded k old_pair old_id goes new_pair changes new) (read_is t mid only) is)
     where
-      earlier : IsPutEnded (with_history t mid.history) old_pair old_id goes new_pair changes new → IsPutEnded t old_pair old_id goes new_pair changes new
+      earlier : ArePutAndEnded (with_history t mid.history) old_pair old_id goes new_pair changes new → ArePutAndEnded t old_pair old_id goes new_pair changes new
       earlier f = record {
         mid = f.mid;
         put = put_earlier t mid.history only.reads new_pair changes f.mid f.put;
@@ -41,7 +41,7 @@ module _ (t mid : KeptThread) (only : OnlyReadsThread t mid) (old_pair old_id : 
       }
 
   pub survives_after_read : (one : ℕ) (new : KeptThread) (after : Tree) → WritesPairsTwo mid one new_pair new → SurvivesCommits mid new_pair changes new → IsReadyImage t
-      → ((left : Blocks) → LeftByPut t new_pair changes left → HasEither (with_blocks left t.disk) (disk_tree t.disk t.pairs) after) → ((last : KeptThread) → ArePut t new_pair changes last → disk_tree last.disk last.pairs ≡ after)
+      → ((left : Blocks) → LeftByPut t new_pair changes left → HasEitherTree (with_blocks left t.disk) (disk_tree t.disk t.pairs) after) → ((last : KeptThread) → ArePut t new_pair changes last → disk_tree last.disk last.pairs ≡ after)
       → SurvivesLossSince t.disk t.history new.history (disk_tree t.disk t.pairs) after
   survives_after_read one new after w both ready left shows =
       survives_then t.disk t.history mid.history new.history (disk_tree t.disk t.pairs) after only.reads w.writes.at_worst (read_survives t mid.history only.reads ready after)

@@ -1,5 +1,5 @@
 -- An entry that goes to a place in another pair, by a move that is set first.
-use Rattle.lfs_operations.proofs.Common.{◌≢◌, nat_eq, Bool, ℕ, ◌≡◌, ◌+◌, ◌<◌, ◌⊎◌, inl, inr, true, false, List, [], ◌∷◌, ◌++◌, length, Some, refl, sym, ap, subst, ◌∙◌, arith, append-nil, Option, ◌-◌, ◌≤◌, IsDistinct, PairChange, Disk, IsPairAt, Name, is_valid_name, Slot, gstate_xor, same_pair, Pair, pairs_blocks, pairs_gstate, starts_superblock, count_before_root, Path, tree_renaming, IsWritableEntry, IsWritable, IsAccepted, IsTreeEntry, slot_of, IsChangedImage, no_move_from, Each, each_right, last_is, is_site, number_is, same, site, slot_of_stands, thread_is, Site, begin_of, thread_at, IsSite, ends_joined, KeptThread, BeginWithSuperblock, complete_after, thread_pair, IsNoDirectory, target_slots, CanEditIn, gstate_naming, IsRawFormed, drops_with_its_slot, CanPut, ArePut, moving_changes, CanEndAt, HasEndedAt, CanEndSecond, IsPutEnded, number_after_insertion, tree_moved, disk_tree, ShowsDroppedTree, file_blocks, used_blocks, number_occurrences, Session, path_or_root, CompletesOperation}
+use Rattle.lfs_operations.proofs.Common.{◌≢◌, nat_eq, Bool, ℕ, ◌≡◌, ◌+◌, ◌<◌, ◌⊎◌, inl, inr, true, false, List, [], ◌∷◌, ◌++◌, length, Some, refl, sym, ap, subst, ◌∙◌, arith, append-nil, Option, ◌-◌, ◌≤◌, IsDistinct, PairChange, Disk, IsPairAt, Name, is_valid_name, Slot, gstate_xor, same_pair, Pair, pairs_blocks, pairs_gstate, superblock_first, count_before_root, Path, tree_renaming, IsWritableEntry, IsWritable, IsAccepted, IsTreeEntry, slot_of, IsChangedImage, no_move_from, Each, each_right, last_is, is_site, number_is, same, site, slot_of_stands, thread_is, Site, begin_of, thread_at, IsSite, ends_joined, KeptThread, BeginWithSuperblock, complete_after, thread_pair, IsNoDirectory, target_slots, CanEditIn, gstate_naming, IsRawFormed, drops_with_its_slot, CanPut, ArePut, moving_changes, CanEndAt, HasEndedAt, CanEndAfterPut, ArePutAndEnded, number_after_insertion, tree_moved, disk_tree, ShowsDroppedTree, file_blocks, used_blocks, number_occurrences, Session, path_or_root, CompletesOperation}
 use Rattle.lfs_operations.proofs.Held.{IsEntryIfOther, each_pair, here, other_entries}
 use Rattle.lfs_operations.proofs.MovSet.{HasTurned, IsSetting, chain_same, walk_by}
 use Rattle.lfs_operations.proofs.MovStep.{IsFirst, first_turned, grown, mid_ends, mid_shows, rename_becomes, rename_completed, rename_once, same_at}
@@ -15,7 +15,7 @@ pub record IsPlaceInOtherPair (t : KeptThread) (old_pair old_id new_pair : ℕ) 
   pub site : IsSite w (p ∷ [])
   pub apart : old_pair ≢ new_pair
   pub was : p.content.slots ≡ l ++ (target_slots target ++ r)
-  pub front : l ≡ [] → starts_superblock (target_slots target ++ r) ≡ false
+  pub front : l ≡ [] → superblock_first (target_slots target ++ r) ≡ false
   pub named : is_valid_name name ≡ true
   pub fits : IsWritableEntry t.disk.profile t.disk.block_size t.disk.page (record can.stands.stands.slot { name = name })
 
@@ -32,7 +32,7 @@ pub record IsAimed (t : KeptThread) (replaces sync : Bool) (old_pair old_id firs
 
 module _ {t : KeptThread} {replaces sync : Bool} {old_pair old_id first new_pair new_id : ℕ} {name : Name} {old : CanEditIn t old_pair old_id} {path : Path} {w : Site} {p : Pair} {l : List Slot} {target : Option Slot} {r : List Slot}
     (a : IsAimed t replaces sync old_pair old_id first new_pair new_id name old path w p l target r) where
-  pub ends_aimed : (mid : KeptThread) → ArePut t new_pair (moving_changes replaces sync t old_pair old_id new_pair new_id name) mid → CanEndSecond t old_pair old_id (drops_with_its_slot t old_pair first) new_pair mid
+  pub ends_aimed : (mid : KeptThread) → ArePut t new_pair (moving_changes replaces sync t old_pair old_id new_pair new_id name) mid → CanEndAfterPut t old_pair old_id (drops_with_its_slot t old_pair first) new_pair mid
   ends_aimed mid is =
       let x = first_turned a.way mid is in
       record {
@@ -45,7 +45,7 @@ module _ {t : KeptThread} {replaces sync : Bool} {old_pair old_id first new_pair
   pub shows_aimed : (mid : KeptThread) → ArePut t new_pair (moving_changes replaces sync t old_pair old_id new_pair new_id name) mid → disk_tree mid.disk mid.pairs ≡ tree_moved t old.path old.name path name
   shows_aimed mid is = mid_shows a.way mid (first_turned a.way mid is)
 
-  module _ {new : KeptThread} (is : IsPutEnded t old_pair old_id (drops_with_its_slot t old_pair first) new_pair (moving_changes replaces sync t old_pair old_id new_pair new_id name) new) where
+  module _ {new : KeptThread} (is : ArePutAndEnded t old_pair old_id (drops_with_its_slot t old_pair first) new_pair (moving_changes replaces sync t old_pair old_id new_pair new_id name) new) where
     pub ended_aimed : HasEndedAt is.mid (number_after_insertion old_pair new_pair (length is.mid.pairs - length t.pairs)) (length old.stands.stands.left) (drops_with_its_slot t old_pair first) new
     ended_aimed = subst (λ i. HasEndedAt is.mid (number_after_insertion old_pair new_pair (length is.mid.pairs - length t.pairs)) i (drops_with_its_slot t old_pair first) new) (sym old.stands.stands.number) is.ended
 
@@ -117,7 +117,7 @@ module _ (t : KeptThread) (old_pair old_id first new_pair : ℕ) (can : CanEditI
         fit = ((λ e. absurd (let z = sym can.stands.stands.entry ∙ e in cc)), (λ e. k.fits));
       }
 
-  first_kept : (l olds : List Slot) → (l ≡ [] → starts_superblock (olds ++ r) ≡ false) → BeginWithSuperblock (l ++ (olds ++ r)) → BeginWithSuperblock (l ++ v ∷ r)
+  first_kept : (l olds : List Slot) → (l ≡ [] → superblock_first (olds ++ r) ≡ false) → BeginWithSuperblock (l ++ (olds ++ r)) → BeginWithSuperblock (l ++ v ∷ r)
   first_kept [] olds f e = absurd (let z = sym (f refl) ∙ e.0 in cc)
   first_kept (x ∷ l) olds f e = e
 

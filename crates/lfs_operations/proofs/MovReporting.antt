@@ -1,5 +1,5 @@
 -- What two steps tell, one after the other, and what a stop in them leaves.
-use Rattle.lfs_operations.proofs.Common.{ℕ, zero, suc, ◌≡◌, ◌≢◌, ◌+◌, ◌-◌, ◌<◌, ◌≤◌, ◌⊎◌, inl, inr, Bool, true, false, cond, List, [], ◌∷◌, length, Result, Ok, Err, refl, sym, ap, subst, ◌∙◌, arith, get_or, insert, length-set, set, take, cases_lt, le-ltb, lt-ltb, All-from_recursion, recursion_from_All, PairChange, Disk, CallEvent, AllCallsSince, fault_count, Blocks, HasEither as IsLeftOf, SurvivesLossSince, with_blocks, Pair, pairs_from_root, count_before_root, address_blocks, addresses_blocks, disk_tree, survives_then, HoldsAtLosses-weaker, ends_joined, CleanLossLeaves, KeptThread, ThreadView, SameGeometryAs, IsPairCommitted, ChangesThreadBlocks, back_pair, front_pair, empty_anchor, thread_pair, All, IfErr, IsErrOf, is_err, nat_lt, Error, Io, NoMemory, NoSpace, AreTwoFree, IsSplitInto, LeftByPut, ArePut, WritesPairTwo, has_failed_after, written_at_end, continues_directory, CanEndSecond, SurvivesCommits, ReportsTakingCommits, WritesPairsTwo, number_after_insertion, ReportsCommit}
+use Rattle.lfs_operations.proofs.Common.{ℕ, zero, suc, ◌≡◌, ◌≢◌, ◌+◌, ◌-◌, ◌<◌, ◌≤◌, ◌⊎◌, inl, inr, Bool, true, false, cond, List, [], ◌∷◌, length, Result, Ok, Err, refl, sym, ap, subst, ◌∙◌, arith, get_or, insert, length-set, set, take, cases_lt, le-ltb, lt-ltb, All-from_recursion, recursion_from_All, PairChange, Disk, CallEvent, AllCallsSince, fault_count, Blocks, HasEitherTree as IsLeftOf, SurvivesLossSince, with_blocks, Pair, pairs_from_root, count_before_root, address_blocks, addresses_blocks, disk_tree, survives_then, HoldsAtLosses-weaker, ends_joined, CleanLossLeaves, KeptThread, ThreadView, SameGeometryAs, IsPairCommitted, ChangesThreadBlocks, back_pair, front_pair, empty_anchor, thread_pair, All, IfErr, IsErrOf, is_err, nat_lt, Error, Io, NoMemory, NoSpace, AreTwoFree, IsSplitInto, LeftByPut, ArePut, WritesPairTwo, has_failed_after, written_by_ending, continues_directory, CanEndAfterPut, SurvivesCommits, ReportsTakingCommits, WritesPairsTwo, number_after_insertion, ReportsCommit}
 use Rattle.lfs_operations.proofs.Putting.{writes_trans, writes_wider}
 
 failing : (e : Error) → (e ≡ Io) ⊎ (e ≡ NoMemory) → has_failed_after {X = Unit {0}} (Err e) ≡ true
@@ -203,8 +203,8 @@ not_first ps zero e = absurd (let z : ends_joined false (take (0 - count_before_
     let w = sym z ∙ ap (λ (i : ℕ). ends_joined false (take i (pairs_from_root ps))) k in cc)
 not_first ps (suc n) e = omega arith
 
-pub writes_at_end : (old mid new : KeptThread) (old_pair old_id : ℕ) (goes : Bool) (new_pair : ℕ) (changes : List PairChange) → ArePut old new_pair changes mid → new_pair < length old.pairs → CanEndSecond old old_pair old_id goes new_pair mid
-    → WritesPairTwo old new_pair mid → ChangesThreadBlocks (address_blocks (thread_pair mid (written_at_end (number_after_insertion old_pair new_pair (length mid.pairs - length old.pairs)) goes)).at) mid new → WritesPairsTwo old (written_at_end old_pair goes) new_pair new
+pub writes_at_end : (old mid new : KeptThread) (old_pair old_id : ℕ) (goes : Bool) (new_pair : ℕ) (changes : List PairChange) → ArePut old new_pair changes mid → new_pair < length old.pairs → CanEndAfterPut old old_pair old_id goes new_pair mid
+    → WritesPairTwo old new_pair mid → ChangesThreadBlocks (address_blocks (thread_pair mid (written_by_ending (number_after_insertion old_pair new_pair (length mid.pairs - length old.pairs)) goes)).at) mid new → WritesPairsTwo old (written_by_ending old_pair goes) new_pair new
 unfolding writes_both
 writes_at_end old mid new old_pair old_id false new_pair changes put below ends first second =
     writes_both old mid new old_pair new_pair (number_after_insertion old_pair new_pair (length mid.pairs - length old.pairs)) ends.at first second

@@ -1,5 +1,5 @@
 -- The first step of a rename across pairs: the slot comes under its new name, and a set move hides the old one.
-use Rattle.lfs_operations.proofs.Common.{ℕ, ◌≡◌, ◌≢◌, ◌+◌, inl, inr, Bool, true, false, cond, nat_eq, List, [], ◌∷◌, ◌++◌, length, None, refl, sym, ap, ap₂, subst, ◌∙◌, arith, flat_map, append_assoc, append-nil, remove, slice_get, IsDistinct, recursion_from_All, flat_map-append, Disk, disk_block, Slot, Gstate, is_superblock, same_pair, zero_gstate, gstate_xor, pair_with_slots, Pair, pairs_blocks, pairs_gstate, starts_superblock, count_before_root, slots_not_moved, Path, Tree, branch_address, without_prefix, tree_with_subtree, tree_renaming, all_entries, LeadsTo, used_blocks, struct_blocks, all_unmoved_slots, IsTreeEntry, HasValidMove, IsEntry, IsAccepted, IsWritable, IsWritableSlot, Became, became_front, became_shape, IsChangedImage, SameFiles, slots_files, no_move_from, recovered_from, Each, each_append, each_left, each_right, each_weaker, each_pieces, number_occurrences, count_append, once_from_distinct, distinct_from_once, SameFileBlocks, gstate_cons, gstate_right, flip_false, place_at, get_here, remove_here, IsMoveSet, IsPlace, some_filled, pair_itself, site_gstate_moved, unmoved_elsewhere, avoids_front, avoids_behind, Site, dirs_at, thread_at, IsSite, begin_of, AnyByRecursion, among_right, among_left, all_slots, file_blocks, count_files, unmoved_in, IsDevice, IsWritableChange, IsPut, All, PathAddresses, move_sets, move_sets_onto, any_from, AreFree, set_taken, gstate_naming}
+use Rattle.lfs_operations.proofs.Common.{ℕ, ◌≡◌, ◌≢◌, ◌+◌, inl, inr, Bool, true, false, cond, nat_eq, List, [], ◌∷◌, ◌++◌, length, None, refl, sym, ap, ap₂, subst, ◌∙◌, arith, flat_map, append_assoc, append-nil, remove, slice_get, IsDistinct, recursion_from_All, flat_map-append, Disk, disk_block, Slot, Gstate, is_superblock, same_pair, zero_gstate, gstate_xor, pair_with_slots, Pair, pairs_blocks, pairs_gstate, superblock_first, count_before_root, slots_not_moved, Path, Tree, branch_address, without_prefix, tree_with_subtree, tree_renaming, all_entries, LeadsTo, used_blocks, struct_blocks, all_unmoved_slots, IsTreeEntry, HasValidMove, IsEntry, IsAccepted, IsWritable, IsWritableSlot, Became, became_front, became_shape, IsChangedImage, SameFiles, slots_files, no_move_from, recovered_from, Each, each_append, each_left, each_right, each_weaker, each_pieces, number_occurrences, count_append, once_from_distinct, distinct_from_once, SameFileBlocks, gstate_cons, gstate_right, flip_false, place_at, get_here, remove_here, IsMoveSet, IsPlace, some_filled, pair_itself, site_gstate_moved, unmoved_elsewhere, avoids_front, avoids_behind, Site, dirs_at, thread_at, IsSite, begin_of, AnyByRecursion, among_right, among_left, all_slots, file_blocks, count_files, unmoved_in, IsDevice, IsWritableChange, IsPut, All, PathAddresses, move_sets, move_sets_onto, any_from, AreFree, set_used, gstate_naming}
 use Rattle.lfs_operations.proofs.MovPlaces.{SameParts, same_parts, InTurn, ahead, behind, in_turn, hidden_place}
 use Rattle.lfs_operations.proofs.Placing.{blocks_append}
 
@@ -28,7 +28,7 @@ pub record IsSetting (disk : Disk) (wo : Site) (o : Pair) (lo : List Slot) (u : 
   pub other : is_superblock u ≡ false
   pub apart : length (w.before ++ w.left) ≢ length (wo.before ++ wo.left)
   pub was : p.content.slots ≡ l ++ (olds ++ r)
-  pub front : l ≡ [] → starts_superblock (olds ++ r) ≡ false
+  pub front : l ≡ [] → superblock_first (olds ++ r) ≡ false
   pub entry : IsTreeEntry v
   pub struct : v.struct ≡ u.struct
   pub fit : IsWritableSlot disk.profile disk.block_size disk.page v
@@ -130,9 +130,9 @@ module _ (disk : Disk) (wo : Site) (o : Pair) (lo : List Slot) (u : Slot) (ro : 
     named_far : (ss : List Pair) → Each Far ss → Each (λ s. same_pair (pairs_gstate (thread_at w (q ∷ more))).pair s.at ≡ false) ss
     named_far ss h = subst (λ (g : Gstate). Each (λ s. same_pair g.pair s.at ≡ false) ss) (sym state_is) h
 
-    front_kept : (l : List Slot) → (l ≡ [] → starts_superblock (olds ++ r) ≡ false) → (slots : List Slot) → slots ≡ l ++ (olds ++ r) → starts_superblock slots ≡ true → starts_superblock (l ++ v ∷ r) ≡ true
-    front_kept [] f slots e h = absurd (let z = sym h ∙ ap starts_superblock e ∙ f refl in cc)
-    front_kept (s ∷ l) f slots e h = sym (ap starts_superblock e) ∙ h
+    front_kept : (l : List Slot) → (l ≡ [] → superblock_first (olds ++ r) ≡ false) → (slots : List Slot) → slots ≡ l ++ (olds ++ r) → superblock_first slots ≡ true → superblock_first (l ++ v ∷ r) ≡ true
+    front_kept [] f slots e h = absurd (let z = sym h ∙ ap superblock_first e ∙ f refl in cc)
+    front_kept (s ∷ l) f slots e h = sym (ap superblock_first e) ∙ h
 
     pub set_step : IsMoveSet disk new wo o lo u ro w p [] q more (pairs_blocks more) l olds v r
     set_step = record {
@@ -176,7 +176,7 @@ module _ (disk : Disk) (wo : Site) (o : Pair) (lo : List Slot) (u : Slot) (ro : 
 
     pub taken_by : (change : Tree → Tree) (walk : PathAddresses → PathAddresses) → IsChangedImage disk (thread_at w (p ∷ [])) new (thread_at w (q ∷ more)) change walk
         → IsWritableChange disk (thread_at w (p ∷ [])) new (thread_at w (q ∷ more)) change walk
-    taken_by change walk follows = set_taken disk w p q more l olds (v ∷ []) r set_put new wo o lo u ro (pairs_blocks more) v change walk set_step follows
+    taken_by change walk follows = set_used disk w p q more l olds (v ∷ []) r set_put new wo o lo u ro (pairs_blocks more) v change walk set_step follows
 
     -- ---- the blocks that the image uses
 

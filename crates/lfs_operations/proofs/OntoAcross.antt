@@ -1,5 +1,5 @@
 -- A rename across pairs onto an empty directory: where the directory's pair stands after the move, and what the last step comes to.
-use Rattle.lfs_operations.proofs.Common.{ℕ, zero, suc, ◌≡◌, ◌≢◌, ◌<◌, ◌⊎◌, inl, inr, ◌-◌, Bool, true, false, cond, nat_eq, slice_get, take, List, [], ◌∷◌, ◌++◌, length, map, Some, None, sym, ap, ap₂, subst, ◌∙◌, arith, append_assoc, append-nil, refl, AllByRecursion, IsDistinct, recursion_from_All, same_Some, last_name, tree_renaming, without_prefix, Blocks, PairChange, IsPairAt, IsPlaceOf, FitsPair, IsDirectoryGone, Name, HasEither as IsLeftOf, with_blocks, slot_of, pair_with_slots, Branch, Ctz, Inline, Slot, Struct, gstate_xor, zero_gstate, same_pair, path_or_root, ThreadDirectory, Pair, anchor_address, pairs_blocks, pairs_from_root, first_address, pairs_gstate, root_address, count_before_root, Path, branch_address, address_at_path, HasNoEmpties, IsWritable, IsAccepted, IsReachedBySome, LeadsTo, all_directories, all_entries, disk_tree, used_blocks, SameSlots, IsChangedImage, CompletesOperation, no_move_from, recovered_from, Each, number_occurrences, count_append, each_right, each_weaker, HasDirectory, chain_of_thread, site_shows, NoneGoes, joined_parts, none_where, rest_all, entry_only, get_here, place_at, shown_before, shown_behind, some_filled, pair_itself, pair_on, last_is, Gains, Keeps, Piece, Stays, olds_of, segment_of, renamed_addresses, IsReplaced, avoids_behind, avoids_front, same, site, slot_of_stands, drafts_of, parts_of, AnyByRecursion, Site, begin_of, dirs_at, thread_at, file_blocks, IsWritableChange, IsChain, pairs_behind, OldStays, from_old, two, KeptThread, empty_anchor, thread_pair, HasNoMove, Any, BeginsAt, all_at_firsts, begins_at_firsts, CanDropAt, IsPairDropped, LeftByDrop, CanEditIn, HasEndedAt, gstate_naming, IsPutEnded, number_after_insertion, IsRenamedAcross, tree_moved, CanReplaceDirectoryAcross, IsMovedAcross, entry_across_changes, drops_with_its_slot}
+use Rattle.lfs_operations.proofs.Common.{ℕ, zero, suc, ◌≡◌, ◌≢◌, ◌<◌, ◌⊎◌, inl, inr, ◌-◌, Bool, true, false, cond, nat_eq, slice_get, take, List, [], ◌∷◌, ◌++◌, length, map, Some, None, sym, ap, ap₂, subst, ◌∙◌, arith, append_assoc, append-nil, refl, AllByRecursion, IsDistinct, recursion_from_All, same_Some, last_name, tree_renaming, without_prefix, Blocks, PairChange, IsPairAt, IsPlaceOf, FitsPair, IsUnreachedOrRemoved, Name, HasEitherTree as IsLeftOf, with_blocks, slot_of, pair_with_slots, Branch, Ctz, Inline, Slot, Struct, gstate_xor, zero_gstate, same_pair, path_or_root, ThreadDirectory, Pair, anchor_address, pairs_blocks, pairs_from_root, first_address, pairs_gstate, root_address, count_before_root, Path, branch_address, address_at_path, HasNoEmpties, IsWritable, IsAccepted, IsReachedBySome, LeadsTo, all_directories, all_entries, disk_tree, used_blocks, SameSlots, IsChangedImage, CompletesOperation, no_move_from, recovered_from, Each, number_occurrences, count_append, each_right, each_weaker, HasDirectory, chain_of_thread, site_shows, NoneGoes, joined_parts, none_where, rest_all, entry_only, get_here, place_at, shown_before, shown_behind, some_filled, pair_itself, pair_on, last_is, Gains, Keeps, Piece, Stays, olds_of, segment_of, renamed_addresses, IsReplaced, avoids_behind, avoids_front, same, site, slot_of_stands, drafts_of, parts_of, AnyByRecursion, Site, begin_of, dirs_at, thread_at, file_blocks, IsWritableChange, IsChain, pairs_behind, OldStays, from_old, two, KeptThread, empty_anchor, thread_pair, HasNoMove, Any, BeginsAt, all_at_firsts, begins_at_firsts, CanDropAt, IsPairDropped, LeftByDrop, CanEditIn, HasEndedAt, gstate_naming, ArePutAndEnded, number_after_insertion, IsRenamedAcross, tree_moved, CanReplaceDirectoryAcross, IsMovedAcross, entry_across_changes, drops_with_its_slot}
 use Rattle.lfs_model.specs.session.TreeEdits.{same_path}
 use Rattle.lfs_model.specs.session.Layout.{slot_addresses, removed_addresses}
 use Rattle.lfs_model.specs.session.Operations as ops
@@ -40,7 +40,7 @@ new_below t old_pair old_id first new_pair new_id name gone rename = below t ren
 
 module _ (t : KeptThread) (old_pair old_id first new_pair new_id : ℕ) (name : Name) (gone : ℕ) (rename : CanReplaceDirectoryAcross t old_pair old_id first new_pair new_id name gone)
     (m : KeptThread) (h : IsMovedAcross t true true old_pair old_id first new_pair new_id name m) where
-  abbrev is : IsPutEnded t old_pair old_id (drops_with_its_slot t old_pair first) new_pair (entry_across_changes true t old_pair old_id new_pair new_id name) m
+  abbrev is : ArePutAndEnded t old_pair old_id (drops_with_its_slot t old_pair first) new_pair (entry_across_changes true t old_pair old_id new_pair new_id name) m
   is = h.done
 
   abbrev can : CanEditIn t old_pair old_id
@@ -366,8 +366,8 @@ module _ (t : KeptThread) (old_pair old_id first new_pair new_id : ℕ) (name : 
             (slot_of_stands t.disk t.pairs can.path can.at can.ready.accepted can.leads can.first old_pair old_id can.name (no_move_from t.pairs can.ready.settled) can.stands can.begins);
         to_slot = ap (slot_of ps) to_is ∙ to_slot;
         to_name = ap last_name to_is ∙ last_is rename.path name;
-        stood = subst (λ k. Stood t.disk (IsDirectoryGone ps (ops.Rename given to_given)) k None (w.chain ++ two a.b a.front (pair_with_slots (lo ++ ro) q0 ∷ []) a.mid (pair_with_slots (l ++ v ∷ r) p ∷ []) a.back) new.pairs) (sym two_chain)
-            (subst (λ z. Stood t.disk (IsDirectoryGone ps (ops.Rename given to_given)) (length w.chain) None (w.chain ++ z) new.pairs) (cut.drafts ∙ drafts a.b)
+        stood = subst (λ k. Stood t.disk (IsUnreachedOrRemoved ps (ops.Rename given to_given)) k None (w.chain ++ two a.b a.front (pair_with_slots (lo ++ ro) q0 ∷ []) a.mid (pair_with_slots (l ++ v ∷ r) p ∷ []) a.back) new.pairs) (sym two_chain)
+            (subst (λ z. Stood t.disk (IsUnreachedOrRemoved ps (ops.Rename given to_given)) (length w.chain) None (w.chain ++ z) new.pairs) (cut.drafts ∙ drafts a.b)
             (subst (λ ds. Stood t.disk (λ y. (IsReachedBySome ps y → ⊥) ⊎ Any (λ at. same_pair y at ≡ true) ds) (length w.chain) None (w.chain ++ drafts_of (map segment_of cut.all)) new.pairs) (sym (removes given to_given given_is to_is)) stood));
       }
 

@@ -1,5 +1,5 @@
 -- What the steps of a rename onto a directory tell, write and leave, one after the other.
-use Rattle.lfs_operations.proofs.Common.{ℕ, ◌≡◌, ◌<◌, ◌⊎◌, inl, inr, Bool, true, false, List, length, arith, Result, Ok, sym, ap, subst, ◌∙◌, fault_count, PairChange, KeptThread, ThreadView, OnlyReadsThread, Error, has_failed_after, written_at_end, ReportsTakingCommits, second_pair, ReportsCommit, drops_with_its_slot, ReportsReadCommit, ReportsReadCommits}
+use Rattle.lfs_operations.proofs.Common.{ℕ, ◌≡◌, ◌<◌, ◌⊎◌, inl, inr, Bool, true, false, List, length, arith, Result, Ok, sym, ap, subst, ◌∙◌, fault_count, PairChange, KeptThread, ThreadView, OnlyReadsThread, Error, has_failed_after, written_by_ending, ReportsTakingCommits, second_pair, ReportsCommit, drops_with_its_slot, ReportsReadCommit, ReportsReadCommits}
 
 pub over_from : {X : Type 0} (old new : ThreadView) (result : Result X Error) → ReportsReadCommit old new result → ReportsReadCommits old new result
 over_from old new result h = record { failed = h.failed; errors = h.reported.errors; fault = h.reported.fault; no_fault = h.reported.no_fault }
@@ -26,6 +26,6 @@ works_after old new index changes r x h is = go h.failed
 pub left_below : (t : KeptThread) (pair first : ℕ) → pair < length t.pairs → second_pair t pair first < length t.pairs
 left_below t pair first l = go (drops_with_its_slot t pair first)
   where
-    go : (b : Bool) → written_at_end pair b < length t.pairs
+    go : (b : Bool) → written_by_ending pair b < length t.pairs
     go true = omega arith
     go false = l

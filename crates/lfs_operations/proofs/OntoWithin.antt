@@ -1,5 +1,5 @@
 -- A rename onto an empty directory within a pair: where the directory's pair stands, and what the two steps come to.
-use Rattle.lfs_operations.proofs.Common.{subst₂, ℕ, ◌≡◌, ◌-◌, slice_get, List, [], ◌∷◌, ◌++◌, length, Some, None, refl, sym, ap, subst, ◌∙◌, arith, append-nil, length-append, recursion_from_All, tree_renaming, without_prefix, AreUsed, Blocks, Name, HasEither as IsLeftOf, with_blocks, slot_of, pair_with_slots, Slot, gstate_xor, zero_gstate, Pair, pairs_gstate, root_address, count_before_root, Path, address_at_path, IsAccepted, IsWritable, all_unmoved_slots, all_directories, all_entries, disk_tree, used_blocks, SameSlots, fits_same, IsChangedImage, SameFiles, SameFileBlocks, CompletesOperation, no_move_from, number_occurrences, IsStep, entry_only, get_here, place_at, shown_before, shown_behind, site_shows, last_is, renamed_addresses, sibling_apart, IsReplaced, step_chain, site, slot_of_stands, Site, dirs_at, thread_at, file_blocks, IsWritableChange, IsChain, KeptThread, IsPairCommitted, thread_pair, sync_bit_delta, HasNoMove, some_filled, All, step_each, IsPairDropped, LeftByDrop, SameInFlight, CanEditIn, tree_renamed, CanRenameOver, CanReplaceDirectory, IsRenamedOver, replace_directory_changes}
+use Rattle.lfs_operations.proofs.Common.{subst₂, ℕ, ◌≡◌, ◌-◌, slice_get, List, [], ◌∷◌, ◌++◌, length, Some, None, refl, sym, ap, subst, ◌∙◌, arith, append-nil, length-append, recursion_from_All, tree_renaming, without_prefix, AreUsed, Blocks, Name, HasEitherTree as IsLeftOf, with_blocks, slot_of, pair_with_slots, Slot, gstate_xor, zero_gstate, Pair, pairs_gstate, root_address, count_before_root, Path, address_at_path, IsAccepted, IsWritable, all_unmoved_slots, all_directories, all_entries, disk_tree, used_blocks, SameSlots, fits_same, IsChangedImage, SameFiles, SameFileBlocks, CompletesOperation, no_move_from, number_occurrences, IsStep, entry_only, get_here, place_at, shown_before, shown_behind, site_shows, last_is, renamed_addresses, sibling_apart, IsReplaced, step_chain, site, slot_of_stands, Site, dirs_at, thread_at, file_blocks, IsWritableChange, IsChain, KeptThread, IsPairCommitted, thread_pair, sync_bit_delta, HasNoMove, some_filled, All, step_each, IsPairDropped, LeftByDrop, SameInFlight, CanEditIn, tree_renamed, CanRenameOver, CanReplaceDirectory, IsRenamedOver, replace_directory_changes}
 use Rattle.lfs_model.specs.session.Operations as ops
 use Rattle.lfs_model.proofs.RenamedWithinOnto.{IsRenameWithinOnto, within_onto_completed}
 use Rattle.lfs_operations.proofs.OntoGone.{replaced_by, replaced_drops}

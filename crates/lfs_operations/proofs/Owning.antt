@@ -1,5 +1,5 @@
 -- Which blocks an image uses after a commit: those that it used, and those of a pair that came.
-use Rattle.lfs_operations.proofs.Common.{ℕ, ◌≡◌, ◌≢◌, ◌+◌, ◌≤◌, Bool, true, false, cond, eqb-true, eq-eqb, nat_eq, List, [], ◌∷◌, ◌++◌, length, Some, refl, sym, ap, subst, ◌∙◌, arith, append-nil, set, slice_get, length-set, zero, suc, flat_map, recursion_from_All, flat_map-append, Disk, AreUsed, BlockStates, IsFree, IsInFlight, IsUsedBlock, Free, InFlight, Used, Slot, Pair, pairs_blocks, pairs_gstate, all_unmoved_slots, struct_blocks, used_blocks, number_occurrences-Contains, Contains-number_occurrences, slice_get-set_same, slice_get-set_other, SameFiles, slots_files, IsCommit, no_move_from, each_left, each_right, number_occurrences, count_append, SameFileBlocks, HasNoMove, Site, thread_at, IsDevice, file_blocks, all_slots, unmoved_in, count_files, map_using, Contains, ◌↔◌, AreTwoFree, map_taking_two, HasNoneNew, KeepsTakenStates}
+use Rattle.lfs_operations.proofs.Common.{ℕ, ◌≡◌, ◌≢◌, ◌+◌, ◌≤◌, Bool, true, false, cond, eqb-true, eq-eqb, nat_eq, List, [], ◌∷◌, ◌++◌, length, Some, refl, sym, ap, subst, ◌∙◌, arith, append-nil, set, slice_get, length-set, zero, suc, flat_map, recursion_from_All, flat_map-append, Disk, AreUsed, BlockStates, IsFree, IsInFlight, IsUsedBlock, Free, InFlight, Used, Slot, Pair, pairs_blocks, pairs_gstate, all_unmoved_slots, struct_blocks, used_blocks, number_occurrences-Contains, Contains-number_occurrences, slice_get-set_same, slice_get-set_other, SameFiles, slots_files, IsCommit, no_move_from, each_left, each_right, number_occurrences, count_append, SameFileBlocks, HasNoMove, Site, thread_at, IsDevice, file_blocks, all_slots, unmoved_in, count_files, map_using, Contains, ◌↔◌, AreTwoFree, map_taking_two, AddsNoneInFlight, KeepsTakenStates}
 use Rattle.lfs_operations.proofs.Placing.{blocks_append}
 use Rattle.lfs_operations.proofs.Taking.{within}
 
@@ -160,7 +160,7 @@ module _ (sets : BlockStates) (fresh : ℕ × ℕ) (two : AreTwoFree sets fresh)
   pub stay_taken : KeepsTakenStates sets now
   stay_taken b taken = elsewhere b (λ e. taken (subst (IsFree sets) (sym e) two.first)) (λ e. taken (subst (IsFree sets) (sym e) two.second))
 
-  pub none_comes_now : HasNoneNew sets now
+  pub none_comes_now : AddsNoneInFlight sets now
   none_comes_now b flies = go (nat_eq b fresh.0) (nat_eq b fresh.1) refl refl
     where
       used_there : slice_get now b ≡ Some Used → ⊥

@@ -1,5 +1,5 @@
 -- At a site of an accepted image a pair becomes others, on a disk where only its blocks and some that nobody owned differ.
-use Rattle.lfs_operations.proofs.Common.{ℕ, ◌≡◌, ◌≢◌, ◌⊎◌, inl, inr, ◌+◌, ◌≤◌, true, cond, nat_eq, List, [], ◌∷◌, ◌++◌, take, Some, refl, sym, ap, subst, ◌∙◌, arith, append_assoc, IsDistinct, flat_map, All-from_recursion, flat_map-append, Disk, disk_block, SameGeometry, Blocks, HasEither, with_blocks, IsWritableSlot, IsWritable, FitsInPair, Slot, PathAddresses, Tree, content_at, current_block, Pair, pairs_blocks, first_address, count_before_root, pairs_from_root, starts_superblock, BeginsWith, superblock_entry, IsAccepted, first_pair_slots, all_unmoved_slots, disk_tree, used_blocks, struct_blocks, Each, number_occurrences, count_append, once_from_distinct, each_from_counted, Site, thread_at, IsDevice, IsChangedImage, chain_of_thread, IsChain, HasFirst, All, append-nil, from_first_slots, has_slots, first_slot_name, device_from}
+use Rattle.lfs_operations.proofs.Common.{ℕ, ◌≡◌, ◌≢◌, ◌⊎◌, inl, inr, ◌+◌, ◌≤◌, true, cond, nat_eq, List, [], ◌∷◌, ◌++◌, take, Some, refl, sym, ap, subst, ◌∙◌, arith, append_assoc, IsDistinct, flat_map, All-from_recursion, flat_map-append, Disk, disk_block, SameGeometry, Blocks, HasEitherTree, with_blocks, IsWritableSlot, IsWritable, FitsInPair, Slot, PathAddresses, Tree, content_at, current_block, Pair, pairs_blocks, first_address, count_before_root, pairs_from_root, superblock_first, BeginsWith, superblock_entry, IsAccepted, first_pair_slots, all_unmoved_slots, disk_tree, used_blocks, struct_blocks, Each, number_occurrences, count_append, once_from_distinct, each_from_counted, Site, thread_at, IsDevice, IsChangedImage, chain_of_thread, IsChain, HasFirst, All, append-nil, pairs_from_filled, has_slots, first_slot_name, device_from}
 use Rattle.lfs_model.specs.declared.limits.Profile.{Profile}
 use Rattle.lfs_model.specs.layers.Steps.{IsWritableChange}
 use Rattle.lfs_model.proofs.Devices.{first_same}
@@ -48,7 +48,7 @@ module _ (old disk : Disk) (w : Site) (p q : Pair) (more : List Pair) (extra : L
   Begins at = BeginsWith (current_block disk at) superblock_entry
 
   -- a pair of the others, whose blocks are none that changed
-  other_first : (c : Pair) → first_address (from_first_slots ps) ≡ c.at → 1 ≤ number_occurrences c.at.0 (pairs_blocks front) + number_occurrences c.at.0 (pairs_blocks back) → 1 ≤ number_occurrences c.at.1 (pairs_blocks front) + number_occurrences c.at.1 (pairs_blocks back) → Begins (first_address (from_first_slots ps))
+  other_first : (c : Pair) → first_address (pairs_from_filled ps) ≡ c.at → 1 ≤ number_occurrences c.at.0 (pairs_blocks front) + number_occurrences c.at.0 (pairs_blocks back) → 1 ≤ number_occurrences c.at.1 (pairs_blocks front) + number_occurrences c.at.1 (pairs_blocks back) → Begins (first_address (pairs_from_filled ps))
   other_first c e f s = subst Begins (sym e) (first_same old disk c.at (still c.at.0 f) (still c.at.1 s) (subst (λ at. BeginsWith (current_block old at) superblock_entry) e ok.first))
     where
       still : (b : ℕ) → 1 ≤ number_occurrences b (pairs_blocks front) + number_occurrences b (pairs_blocks back) → disk_block disk b ≡ disk_block old b
@@ -61,25 +61,25 @@ module _ (old disk : Disk) (w : Site) (p q : Pair) (more : List Pair) (extra : L
           let none = a (omega arith) in
           omega arith)
 
-  still_first : Begins (first_address (from_first_slots ps))
+  still_first : Begins (first_address (pairs_from_filled ps))
   still_first = go (from_front front)
     where
-      is_front : (qs : List Pair) → from_first_slots (front ++ p ∷ back) ≡ qs → from_first_slots ps ≡ qs
-      is_front qs e = ap from_first_slots grouped ∙ e
+      is_front : (qs : List Pair) → pairs_from_filled (front ++ p ∷ back) ≡ qs → pairs_from_filled ps ≡ qs
+      is_front qs e = ap pairs_from_filled grouped ∙ e
 
-      behind : ((qs : List Pair) → from_first_slots (front ++ qs) ≡ from_first_slots qs) → (slots : List Slot) → p.content.slots ≡ slots → FromSlots back → Begins (first_address (from_first_slots ps))
+      behind : ((qs : List Pair) → pairs_from_filled (front ++ qs) ≡ pairs_from_filled qs) → (slots : List Slot) → p.content.slots ≡ slots → FromSlots back → Begins (first_address (pairs_from_filled ps))
       behind all (s ∷ slots) e f =
-          let here = is_front (p ∷ back) (all (p ∷ back) ∙ ap (λ z. cond (has_slots z) (p ∷ back) (from_first_slots back)) e) in
+          let here = is_front (p ∷ back) (all (p ∷ back) ∙ ap (λ z. cond (has_slots z) (p ∷ back) (pairs_from_filled back)) e) in
           subst Begins (sym (ap first_address here)) (is.first (accepted_first old ps p back ok here) (subst (λ at. BeginsWith (current_block old at) superblock_entry) (ap first_address here) ok.first))
       behind all [] e (InFront c rest there more) =
-          let here = is_front (c ∷ rest) (all (p ∷ back) ∙ ap (λ z. cond (has_slots z) (p ∷ back) (from_first_slots back)) e ∙ there) in
+          let here = is_front (c ∷ rest) (all (p ∷ back) ∙ ap (λ z. cond (has_slots z) (p ∷ back) (pairs_from_filled back)) e ∙ there) in
           let n = first_counted back c rest there in
           other_first c (ap first_address here) (let l = n.0 in omega arith) (let l = n.1 in omega arith)
       behind all [] e (Behind none more) =
-          let here = is_front [] (all (p ∷ back) ∙ ap (λ z. cond (has_slots z) (p ∷ back) (from_first_slots back)) e ∙ ap from_first_slots (sym (append-nil back)) ∙ more []) in
+          let here = is_front [] (all (p ∷ back) ∙ ap (λ z. cond (has_slots z) (p ∷ back) (pairs_from_filled back)) e ∙ ap pairs_from_filled (sym (append-nil back)) ∙ more []) in
           absurd (let k = ap first_slot_name (sym here) ∙ ok.named in cc)
 
-      go : FromSlots front → Begins (first_address (from_first_slots ps))
+      go : FromSlots front → Begins (first_address (pairs_from_filled ps))
       go (InFront c rest there all) =
           let n = first_counted front c rest there in
           other_first c (ap first_address (is_front (c ∷ rest ++ p ∷ back) (all (p ∷ back)))) (let l = n.0 in omega arith) (let l = n.1 in omega arith)
@@ -95,7 +95,7 @@ module _ (old disk : Disk) (w : Site) (p q : Pair) (more : List Pair) (extra : L
 pub nothing_came : (old disk : Disk) (ps : List Pair) → IsAccepted old ps → IsDevice old disk ps ps → IsChangedImage old ps disk ps (λ t. t) (λ d. d)
 nothing_came old disk ps ok device = go (take (count_before_root ps) ps) (pairs_from_root ps) (chain_of_thread ps).0 (chain_of_thread ps).1 ok.root
   where
-    go : (chain rest : List Pair) → ps ≡ chain ++ rest → IsChain chain rest → starts_superblock (first_pair_slots rest) ≡ true → IsChangedImage old ps disk ps (λ t. t) (λ d. d)
+    go : (chain rest : List Pair) → ps ≡ chain ++ rest → IsChain chain rest → superblock_first (first_pair_slots rest) ≡ true → IsChangedImage old ps disk ps (λ t. t) (λ d. d)
     go chain [] e is_chain root = absurd (cc)
     go chain (x ∷ rest) e is_chain root = subst (λ z. IsChangedImage old z disk z (λ t. t) (λ d. d)) (sym e)
         (same_follows old disk chain x rest is_chain (subst (IsAccepted old) e ok) (subst (λ z. IsDevice old disk z z) e device))
@@ -116,10 +116,10 @@ either f g (inr b) = inr (g b)
 
 -- what is left has the thread after the step
 pub left_after : {old new : Disk} {ps qs : List Pair} {change : Tree → Tree} {walk : PathAddresses → PathAddresses} {before after : Tree} → IsWritableChange old ps new qs change walk
-    → (change (disk_tree old ps) ≡ before) ⊎ (change (disk_tree old ps) ≡ after) → HasEither new before after
+    → (change (disk_tree old ps) ≡ before) ⊎ (change (disk_tree old ps) ≡ after) → HasEitherTree new before after
 left_after {qs = qs} f shows = record { pairs = qs; accepted = f.follows.accepted; writable = f.writable; tree = either (λ e. f.follows.shows ∙ e) (λ e. f.follows.shows ∙ e) shows }
 
 -- or the thread that was there
 pub left_still : (old : Disk) (left : Blocks) (ps : List Pair) {before after : Tree} → IsAccepted old ps → IsWritable old ps → IsDevice old (with_blocks left old) ps ps → (disk_tree old ps ≡ before) ⊎ (disk_tree old ps ≡ after)
-    → HasEither (with_blocks left old) before after
+    → HasEitherTree (with_blocks left old) before after
 left_still old left ps ok writable device = left_after (record { follows = nothing_came old (with_blocks left old) ps ok device; writable = profile_same old (with_blocks left old) ps refl refl refl writable })

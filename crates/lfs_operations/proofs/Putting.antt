@@ -1,5 +1,5 @@
 -- A pair that is changed, or split into two free blocks.
-use Rattle.lfs_operations.proofs.Common.{ℕ, ◌≡◌, ◌≢◌, ◌∙◌, ◌≤◌, ◌⊎◌, Option, None, Some, inl, inr, List, [], ◌∷◌, ◌++◌, pairs_blocks, Result, Ok, Err, arith, refl, sym, set, Blocks, BlockStates, Free, InFlight, PairChange, Disk, PairContent, CallEvent, OnlyReadsSince, fault_count, slice_get-set_same, slice_get-set_other, HoldsAtLosses-weaker, HoldsAtLosses-trans, StayUnprogrammed-refl, StayUnprogrammed-trans, AllCallsSince-until, AllCallsSince-behind, OnlyReadsSince-trans, StayUnprogrammed-read_count, HoldsAtLosses-read_count, LossLeavesAtWorst-read, CleanLossLeaves, KeptThread, thread_pair, BothOnDisk, PartsFit, CanSplitAt, LossLeavesPair, HasOldPair, LossLeavesBoth, OnlyReadsThread, HasSplit, ChangesThreadBlocks, addresses_blocks, SameExceptThese-trans, SameExceptThese-wider, StayUnprogrammed-wider, All, Error, FreshInFlight, AreTwoFree, CanPut, IsPairSplit, IsSplitInto, LeftByPut, OverfillsPair, LeftBySplit, ReportsSpaceErrors, WritesPairTwo, WritesThreadTwo, map_taking_two, Tree, HasEither, with_blocks, SurvivesLossSince, survives_then}
+use Rattle.lfs_operations.proofs.Common.{ℕ, ◌≡◌, ◌≢◌, ◌∙◌, ◌≤◌, ◌⊎◌, Option, None, Some, inl, inr, List, [], ◌∷◌, ◌++◌, pairs_blocks, Result, Ok, Err, arith, refl, sym, set, Blocks, BlockStates, Free, InFlight, PairChange, Disk, PairContent, CallEvent, OnlyReadsSince, fault_count, slice_get-set_same, slice_get-set_other, HoldsAtLosses-weaker, HoldsAtLosses-trans, StayUnprogrammed-refl, StayUnprogrammed-trans, AllCallsSince-until, AllCallsSince-behind, OnlyReadsSince-trans, StayUnprogrammed-read_count, HoldsAtLosses-read_count, LossLeavesAtWorst-read, CleanLossLeaves, KeptThread, thread_pair, BothOnDisk, PartsFit, CanSplitAt, LossLeavesPair, HasOldPair, LossLeavesBoth, OnlyReadsThread, HasSplit, ChangesThreadBlocks, addresses_blocks, SameExceptThese-trans, SameExceptThese-wider, StayUnprogrammed-wider, All, Error, FreshInFlight, AreTwoFree, CanPut, IsPairSplit, IsSplitInto, LeftByPut, OverfillsPair, LeftBySplit, ReportsSpaceErrors, WritesPairTwo, WritesThreadTwo, map_taking_two, Tree, HasEitherTree, with_blocks, SurvivesLossSince, survives_then}
 use Rattle.lfs_model.proofs.Histories.{began}
 use Rattle.lfs_thread.specs.CachedLog.{reads_unless_cached}
 use Rattle.lfs_operations.proofs.Taking.{within}
@@ -31,12 +31,12 @@ writes_trans first second = record {
 -- ---- atomic steps, one after another
 
 -- a step that leaves one of two trees at a stop
-pub survives_step : (disk : Disk) {old new : List CallEvent} {before after : Tree} {P : Blocks → Type 0} → ((left : Blocks) → P left → HasEither (with_blocks left disk) before after) → CleanLossLeaves old new P → SurvivesLossSince disk old new before after
+pub survives_step : (disk : Disk) {old new : List CallEvent} {before after : Tree} {P : Blocks → Type 0} → ((left : Blocks) → P left → HasEitherTree (with_blocks left disk) before after) → CleanLossLeaves old new P → SurvivesLossSince disk old new before after
 survives_step disk left stops clean = HoldsAtLosses-weaker left (stops clean)
 
 -- and one more, after steps that left one of them
 pub survives_more : {t mid new : KeptThread} {bs cs : List ℕ} (before after : Tree) {P : Blocks → Type 0} → ChangesThreadBlocks bs t mid → ChangesThreadBlocks cs mid new → SurvivesLossSince t.disk t.history mid.history before after
-    → ((left : Blocks) → P left → HasEither (with_blocks left t.disk) before after) → CleanLossLeaves mid.history new.history P → SurvivesLossSince t.disk t.history new.history before after
+    → ((left : Blocks) → P left → HasEitherTree (with_blocks left t.disk) before after) → CleanLossLeaves mid.history new.history P → SurvivesLossSince t.disk t.history new.history before after
 survives_more {t = t} {mid = mid} {new = new} before after one two first left stops =
     survives_then t.disk t.history mid.history new.history before after one.at_worst two.at_worst first (λ clean. HoldsAtLosses-weaker left (stops clean))
 

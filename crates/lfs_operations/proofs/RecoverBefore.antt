@@ -1,5 +1,5 @@
 -- Where slots stand after a recovery of an image whose set move was ended, they stand after one of the image from before.
-use Rattle.lfs_operations.proofs.Common.{ℕ, zero, suc, ◌≡◌, ◌≤◌, inl, inr, Bool, true, false, cond, List, [], ◌∷◌, ◌++◌, map, length, Option, Some, None, refl, sym, ap, ap₂, subst, ◌∙◌, arith, Disk, FitsPair, IsDirectoryGone, directory_address, continued_address, pair_with_slots, pairs_without_moved, FitsInPair, Gstate, same_pair, Pair, pairs_gstate, is_hard_tail, count_before_root, slots_not_moved, IsReachedBySome, fits_same, IsChangedImage, Each, HasNoMove, unmoved_all, joined_parts, unmoved_elsewhere, KeptThread, SameGeometryAs, is_none, KeepsRecoveryLayouts}
+use Rattle.lfs_operations.proofs.Common.{ℕ, zero, suc, ◌≡◌, ◌≤◌, inl, inr, Bool, true, false, cond, List, [], ◌∷◌, ◌++◌, map, length, Option, Some, None, refl, sym, ap, ap₂, subst, ◌∙◌, arith, Disk, FitsPair, IsUnreachedOrRemoved, directory_address, continued_address, pair_with_slots, pairs_without_moved, FitsInPair, Gstate, same_pair, Pair, pairs_gstate, is_hard_tail, count_before_root, slots_not_moved, IsReachedBySome, fits_same, IsChangedImage, Each, HasNoMove, unmoved_all, joined_parts, unmoved_elsewhere, KeptThread, SameGeometryAs, is_none, KeepsRecoveryLayouts}
 use Rattle.lfs_model.specs.session.Layout.{ArePairsAfter, IsPairAfter}
 use Rattle.lfs_model.specs.session.Operations as ops
 
@@ -143,7 +143,7 @@ hidden_in_none g (p ∷ ps) n = ap₂ (λ (s : Pair) (z : List Pair). s ∷ z) (
 -- ---- of two threads
 
 -- paths lead to the same directories
-pub go_alike : (old new : KeptThread) (walk : IsChangedImage old.disk old.pairs new.disk new.pairs (λ t. t) (λ d. d)) → SameGeometryAs old.disk new.disk → GoAlike old.disk new.disk (IsDirectoryGone old.pairs ops.Recover) (IsDirectoryGone new.pairs ops.Recover)
+pub go_alike : (old new : KeptThread) (walk : IsChangedImage old.disk old.pairs new.disk new.pairs (λ t. t) (λ d. d)) → SameGeometryAs old.disk new.disk → GoAlike old.disk new.disk (IsUnreachedOrRemoved old.pairs ops.Recover) (IsUnreachedOrRemoved new.pairs ops.Recover)
 go_alike old new walk shape = record { block_size = shape.block_size; page = shape.page; there = there; back = back }
   where
     on : (a : ℕ × ℕ) → IsReachedBySome old.pairs a → IsReachedBySome new.pairs a
@@ -152,19 +152,19 @@ go_alike old new walk shape = record { block_size = shape.block_size; page = sha
     off : (a : ℕ × ℕ) → IsReachedBySome new.pairs a → IsReachedBySome old.pairs a
     off a (path, at, (l, s)) = (path, at, (ap (λ z. z path) (sym walk.leads) ∙ l, s))
 
-    there : (a : ℕ × ℕ) → IsDirectoryGone new.pairs ops.Recover a → IsDirectoryGone old.pairs ops.Recover a
+    there : (a : ℕ × ℕ) → IsUnreachedOrRemoved new.pairs ops.Recover a → IsUnreachedOrRemoved old.pairs ops.Recover a
     there a (inl n) = inl (λ r. n (on a r))
     there a (inr k) = inr k
 
-    back : (a : ℕ × ℕ) → IsDirectoryGone old.pairs ops.Recover a → IsDirectoryGone new.pairs ops.Recover a
+    back : (a : ℕ × ℕ) → IsUnreachedOrRemoved old.pairs ops.Recover a → IsUnreachedOrRemoved new.pairs ops.Recover a
     back a (inl n) = inl (λ r. n (off a r))
     back a (inr k) = inr k
 
-module _ (old new : KeptThread) (alike : GoAlike old.disk new.disk (IsDirectoryGone old.pairs ops.Recover) (IsDirectoryGone new.pairs ops.Recover)) (none : HasNoMove (pairs_gstate new.pairs)) (same : count_before_root new.pairs ≡ count_before_root old.pairs) where
-  stand_now : (drafts : List Pair) (parts : List (List Pair)) → drafts ≡ pairs_without_moved new.pairs → ArePairsAfter new.disk (IsDirectoryGone new.pairs ops.Recover) (count_before_root new.pairs) None drafts parts
-      → ArePairsAfter new.disk (IsDirectoryGone new.pairs ops.Recover) (count_before_root old.pairs) None new.pairs parts
-  stand_now drafts parts e s = subst (λ n. ArePairsAfter new.disk (IsDirectoryGone new.pairs ops.Recover) n None new.pairs parts) same
-      (subst (λ z. ArePairsAfter new.disk (IsDirectoryGone new.pairs ops.Recover) (count_before_root new.pairs) None z parts) (e ∙ hidden_in_none (pairs_gstate new.pairs) new.pairs none) s)
+module _ (old new : KeptThread) (alike : GoAlike old.disk new.disk (IsUnreachedOrRemoved old.pairs ops.Recover) (IsUnreachedOrRemoved new.pairs ops.Recover)) (none : HasNoMove (pairs_gstate new.pairs)) (same : count_before_root new.pairs ≡ count_before_root old.pairs) where
+  stand_now : (drafts : List Pair) (parts : List (List Pair)) → drafts ≡ pairs_without_moved new.pairs → ArePairsAfter new.disk (IsUnreachedOrRemoved new.pairs ops.Recover) (count_before_root new.pairs) None drafts parts
+      → ArePairsAfter new.disk (IsUnreachedOrRemoved new.pairs ops.Recover) (count_before_root old.pairs) None new.pairs parts
+  stand_now drafts parts e s = subst (λ n. ArePairsAfter new.disk (IsUnreachedOrRemoved new.pairs ops.Recover) n None new.pairs parts) same
+      (subst (λ z. ArePairsAfter new.disk (IsUnreachedOrRemoved new.pairs ops.Recover) (count_before_root new.pairs) None z parts) (e ∙ hidden_in_none (pairs_gstate new.pairs) new.pairs none) s)
 
   pub laid_out_kin : AreKin (pairs_without_moved old.pairs) new.pairs → KeepsRecoveryLayouts old new
   laid_out_kin kin s disk qs h = record {
@@ -174,7 +174,7 @@ module _ (old new : KeptThread) (alike : GoAlike old.disk new.disk (IsDirectoryG
     fresh = h.fresh;
     back = h.back;
     edits = (h.edits.0, refl);
-    stand = stand_kin old.disk new.disk (IsDirectoryGone old.pairs ops.Recover) (IsDirectoryGone new.pairs ops.Recover) alike (count_before_root old.pairs) None (pairs_without_moved old.pairs) new.pairs h.parts kin (stand_now h.drafts h.parts h.edits.1 h.stand);
+    stand = stand_kin old.disk new.disk (IsUnreachedOrRemoved old.pairs ops.Recover) (IsUnreachedOrRemoved new.pairs ops.Recover) alike (count_before_root old.pairs) None (pairs_without_moved old.pairs) new.pairs h.parts kin (stand_now h.drafts h.parts h.edits.1 h.stand);
     joined = h.joined;
     is = h.is;
   }
@@ -182,8 +182,8 @@ module _ (old new : KeptThread) (alike : GoAlike old.disk new.disk (IsDirectoryG
   pub laid_out_gap : (xs : List Pair) (d x : Pair) (ds ys : List Pair) (e : Pair) (es : List Pair) → pairs_without_moved old.pairs ≡ xs ++ d ∷ x ∷ ds → new.pairs ≡ ys ++ e ∷ es → count_before_root old.pairs ≤ length xs
       → AreKin xs ys → IsGap d x e → AreKin ds es → KeepsRecoveryLayouts old new
   laid_out_gap xs d x ds ys e es was is low k gap l s disk qs h =
-      let now = subst (λ z. ArePairsAfter new.disk (IsDirectoryGone new.pairs ops.Recover) (count_before_root old.pairs) None z h.parts) is (stand_now h.drafts h.parts h.edits.1 h.stand) in
-      let r = stand_gap old.disk new.disk (IsDirectoryGone old.pairs ops.Recover) (IsDirectoryGone new.pairs ops.Recover) alike (count_before_root old.pairs) None xs d x ds ys e es h.parts low k gap l now in
+      let now = subst (λ z. ArePairsAfter new.disk (IsUnreachedOrRemoved new.pairs ops.Recover) (count_before_root old.pairs) None z h.parts) is (stand_now h.drafts h.parts h.edits.1 h.stand) in
+      let r = stand_gap old.disk new.disk (IsUnreachedOrRemoved old.pairs ops.Recover) (IsUnreachedOrRemoved new.pairs ops.Recover) alike (count_before_root old.pairs) None xs d x ds ys e es h.parts low k gap l now in
       record {
         drafts = pairs_without_moved old.pairs;
         parts = r.parts;
@@ -191,7 +191,7 @@ module _ (old new : KeptThread) (alike : GoAlike old.disk new.disk (IsDirectoryG
         fresh = h.fresh;
         back = h.back;
         edits = (h.edits.0, refl);
-        stand = subst (λ z. ArePairsAfter old.disk (IsDirectoryGone old.pairs ops.Recover) (count_before_root old.pairs) None z r.parts) (sym was) r.stand;
+        stand = subst (λ z. ArePairsAfter old.disk (IsUnreachedOrRemoved old.pairs ops.Recover) (count_before_root old.pairs) None z r.parts) (sym was) r.stand;
         joined = r.same ∙ h.joined;
         is = h.is;
       }

@@ -1,5 +1,5 @@
 -- The end of a recovery: every pair was seen, and the sync bit is cleared.
-use Rattle.lfs_operations.proofs.Common.{ℕ, suc, ◌≡◌, ◌+◌, ◌<◌, ◌≤◌, ◌⊎◌, ◌&&◌, inl, inr, Bool, true, false, cond, List, [], ◌∷◌, ◌++◌, length, take, Option, Some, None, Result, Err, refl, sym, ap, subst, subst₂, ◌∙◌, arith, append-nil, same_Some, All-from_recursion, recursion_from_All, Blocks, SameGeometry, disk_block, CallEvent, fault_count, HasEither as IsLeftOf, SurvivesLossSince, with_blocks, continued_address, Gstate, Slot, zero_gstate, AreLinked, ThreadDirectory, Pair, anchor_address, pairs_blocks, pairs_from_root, pairs_gstate, may_continue, has_superblock, count_before_root, IsAccepted, IsReachedBySome, all_unmoved_slots, all_directories, struct_blocks, disk_tree, IsWritable, survives_then, SameSlots, alike_itself, SameFiles, Each, number_occurrences, each_always, each_weaker, SameFileBlocks, chain_of_thread, HasNoMove, HoldsAtLosses-weaker, NoneGoes, none_where, rest_all, AllReached, thread_at, IsWritableChange, pairs_behind, CleanLossLeaves, KeptThread, ThreadView, IsPairCommitted, LossLeavesPair, IsPairWritten, ChangesThreadBlocks, pairs_with, complete_after, All, Error, recovery_ends, gstate_changes, content_reaching_gstate, AreUnreachedNumbers, AreUnreachedFrom, CanClearSync, HasDroppedRecovered, IsSyncCleared, ReportsRecovery, numbered_list_blocks, numbered_slots, SameInFlight, ReportsCommit}
+use Rattle.lfs_operations.proofs.Common.{ℕ, suc, ◌≡◌, ◌+◌, ◌<◌, ◌≤◌, ◌⊎◌, ◌&&◌, inl, inr, Bool, true, false, cond, List, [], ◌∷◌, ◌++◌, length, take, Option, Some, None, Result, Err, refl, sym, ap, subst, subst₂, ◌∙◌, arith, append-nil, same_Some, All-from_recursion, recursion_from_All, Blocks, SameGeometry, disk_block, CallEvent, fault_count, HasEitherTree as IsLeftOf, SurvivesLossSince, with_blocks, continued_address, Gstate, Slot, zero_gstate, AreLinked, ThreadDirectory, Pair, anchor_address, pairs_blocks, pairs_from_root, pairs_gstate, chain_may_continue, has_superblock, count_before_root, IsAccepted, IsReachedBySome, all_unmoved_slots, all_directories, struct_blocks, disk_tree, IsWritable, survives_then, SameSlots, alike_itself, SameFiles, Each, number_occurrences, each_always, each_weaker, SameFileBlocks, chain_of_thread, HasNoMove, HoldsAtLosses-weaker, NoneGoes, none_where, rest_all, AllReached, thread_at, IsWritableChange, pairs_behind, CleanLossLeaves, KeptThread, ThreadView, IsPairCommitted, LossLeavesPair, IsPairWritten, ChangesThreadBlocks, pairs_with, complete_after, All, Error, recovery_ends, gstate_changes, content_reaching_gstate, AreUnreachedNumbers, AreUnreachedFrom, CanClearSync, HasDroppedRecovered, IsSyncCleared, ReportsRecovery, numbered_list_blocks, numbered_slots, SameInFlight, ReportsCommit}
 use Rattle.lfs_model.specs.session.Recovery.{IsRecovered}
 use Rattle.lfs_model.proofs.Changes.{follows_itself}
 use Rattle.lfs_operations.proofs.Removed.{reports_again}
@@ -15,7 +15,7 @@ use Rattle.lfs_operations.proofs.RootStays.{alike_stays}
 
 fewer : (p : Pair) (ps : List Pair) → count_before_root (p ∷ ps) < length (p ∷ ps)
 fewer p [] = omega arith
-fewer p (q ∷ ps) = go (has_superblock (q ∷ ps) && may_continue p) (fewer q ps)
+fewer p (q ∷ ps) = go (has_superblock (q ∷ ps) && chain_may_continue p) (fewer q ps)
   where
     go : (b : Bool) → count_before_root (q ∷ ps) < length (q ∷ ps) → cond b (1 + count_before_root (q ∷ ps)) 0 < length (p ∷ q ∷ ps)
     go true l = omega arith

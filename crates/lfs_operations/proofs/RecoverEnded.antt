@@ -1,12 +1,12 @@
 -- A recovery ends a set move: which pair the step is about, and what it comes to.
-use Rattle.lfs_operations.proofs.Common.{ℕ, ◌≡◌, ◌≢◌, ◌≤◌, ◌<◌, ◌+◌, ◌-◌, ◌⊎◌, inl, inr, ◌&&◌, ◌==◌, Bool, true, false, List, [], ◌∷◌, ◌++◌, length, take, refl, sym, ap, ap₂, subst, ◌∙◌, arith, append_assoc, length-append, eqb-true, eq-eqb, nat_lt, and_parts, cases_lt, lt-ltb, recursion_from_All, used_blocks, Pair, pairs_gstate, is_hard_tail, count_before_root, BeginsWithSuperblock, once_from_distinct, HasNoMove, HasSite, site_of_number, pair_back, ends_joined, KeptThread, thread_pair, tail_is_hard, CanEndMove, HasEndedMove, HasMovedSlot, drops_when_emptied, CanEndAt, HasEndedAt, continues_directory, written_at_end, IsRawFormed}
+use Rattle.lfs_operations.proofs.Common.{ℕ, ◌≡◌, ◌≢◌, ◌≤◌, ◌<◌, ◌+◌, ◌-◌, ◌⊎◌, inl, inr, ◌&&◌, ◌==◌, Bool, true, false, List, [], ◌∷◌, ◌++◌, length, take, refl, sym, ap, ap₂, subst, ◌∙◌, arith, append_assoc, length-append, eqb-true, eq-eqb, nat_lt, and_parts, cases_lt, lt-ltb, recursion_from_All, used_blocks, Pair, pairs_gstate, is_hard_tail, count_before_root, BeginsWithSuperblock, once_from_distinct, HasNoMove, HasSite, site_of_number, pair_back, ends_joined, KeptThread, thread_pair, tail_is_hard, CanEndMove, HasEndedMove, HasMovedSlot, drops_when_emptied, CanEndAt, HasEndedAt, continues_directory, written_by_ending, IsRawFormed}
 use Rattle.lfs_operations.proofs.Dropped.{HasMapWithout, map_ended}
 use Rattle.lfs_operations.proofs.DroppedTails.{front_is}
 use Rattle.lfs_operations.proofs.MovEnding.{led_is}
 use Rattle.lfs_operations.proofs.RecoverMoved.{heads, in_directory}
 use Rattle.lfs_operations.proofs.RemovedWhole.{last_pair, flag_last, only_slot}
 
-pub written_below : (t : KeptThread) (index : ℕ) (goes : Bool) → index < length t.pairs → written_at_end index goes < length t.pairs
+pub written_below : (t : KeptThread) (index : ℕ) (goes : Bool) → index < length t.pairs → written_by_ending index goes < length t.pairs
 written_below t index true low = omega arith
 written_below t index false low = low
 

@@ -1,5 +1,5 @@
 -- The pair whose slot a set move names.
-use Rattle.lfs_operations.proofs.Common.{ℕ, suc, zero, ◌≡◌, ◌+◌, ◌<◌, ◌≤◌, ◌⊎◌, ◌&&◌, inl, inr, Bool, true, false, cond, List, [], ◌∷◌, ◌++◌, length, take, Option, Some, None, refl, sym, ap, subst, ◌∙◌, arith, get_or, slice_get, AllByRecursion, and_parts, cases_lt, same_Some, IsPairAt, Gstate, Slot, is_superblock, same_pair, Pair, pairs_gstate, is_hard_tail, may_continue, has_superblock, count_before_root, IsAccepted, HasValidMove, IsEntry, set_move_kind, Each, HasNoMove, pair_back, pair_on, same_number, AnyByRecursion, KeptThread, empty_anchor, thread_pair, IfNone, IfSome, has_no_entry, IsThreadEntry, no_move_kind, among_from, HasMovedSlot}
+use Rattle.lfs_operations.proofs.Common.{ℕ, suc, zero, ◌≡◌, ◌+◌, ◌<◌, ◌≤◌, ◌⊎◌, ◌&&◌, inl, inr, Bool, true, false, cond, List, [], ◌∷◌, ◌++◌, length, take, Option, Some, None, refl, sym, ap, subst, ◌∙◌, arith, get_or, slice_get, AllByRecursion, and_parts, cases_lt, same_Some, IsPairAt, Gstate, Slot, is_superblock, same_pair, Pair, pairs_gstate, is_hard_tail, chain_may_continue, has_superblock, count_before_root, IsAccepted, HasValidMove, IsEntry, set_move_kind, Each, HasNoMove, pair_back, pair_on, same_number, AnyByRecursion, KeptThread, empty_anchor, thread_pair, IfNone, IfSome, has_no_entry, IsThreadEntry, no_move_kind, among_from, HasMovedSlot}
 
 -- ---- no move, or one that names a slot
 
@@ -75,12 +75,12 @@ not_nowhere t ok kind none = go t.pairs none (among_from (λ (p : Pair). (same_p
 
 chain_bare : (ps : List Pair) (i : ℕ) → i < count_before_root ps → has_no_entry (get_or ps i empty_anchor).content.slots ≡ true
 chain_bare [] i low = absurd (omega arith)
-chain_bare (p ∷ ps) i low = go (has_superblock ps && may_continue p) refl i low (chain_bare ps)
+chain_bare (p ∷ ps) i low = go (has_superblock ps && chain_may_continue p) refl i low (chain_bare ps)
   where
-    go : (t : Bool) → (has_superblock ps && may_continue p) ≡ t → (i : ℕ) → i < cond t (1 + count_before_root ps) 0 → ((k : ℕ) → k < count_before_root ps → has_no_entry (get_or ps k empty_anchor).content.slots ≡ true) →
+    go : (t : Bool) → (has_superblock ps && chain_may_continue p) ≡ t → (i : ℕ) → i < cond t (1 + count_before_root ps) 0 → ((k : ℕ) → k < count_before_root ps → has_no_entry (get_or ps k empty_anchor).content.slots ≡ true) →
         has_no_entry (get_or (p ∷ ps) i empty_anchor).content.slots ≡ true
     go false e i l next = absurd (omega arith)
-    go true e zero l next = (and_parts (has_no_entry p.content.slots) (is_hard_tail p.content.tail) (and_parts (has_superblock ps) (may_continue p) e).1).0
+    go true e zero l next = (and_parts (has_no_entry p.content.slots) (is_hard_tail p.content.tail) (and_parts (has_superblock ps) (chain_may_continue p) e).1).0
     go true e (suc i) l next = next i (omega arith)
 
 -- no slot of theirs is an entry

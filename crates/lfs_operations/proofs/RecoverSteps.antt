@@ -1,5 +1,5 @@
 -- The steps of a recovery, on the disk that they write and on those that a stop leaves.
-use Rattle.lfs_operations.proofs.Common.{ℕ, ◌≡◌, ◌<◌, ◌≤◌, ◌+◌, ◌-◌, ◌⊎◌, inl, inr, true, false, List, [], ◌∷◌, ◌++◌, length, Some, refl, sym, ap, subst, ◌∙◌, arith, length-append, same_Some, Blocks, Disk, HasEither as IsLeftOf, with_blocks, FitsInPair, Gstate, gstate_xor, zero_gstate, same_pair, Pair, pairs_gstate, is_hard_tail, count_before_root, Path, IsAccepted, IsWritable, LeadsTo, disk_tree, SameSlots, alike_append, alike_itself, HasNoMove, gstate_assoc, gstate_cons, gstate_right, gstate_self, HasSite, site_of_number, AllReached, AllReachedBut, IsStep, step_writable, site_gstate_moved, Site, thread_at, IsDevice, stays_shape, IsWritableChange, taken_before, within_at, IsReady, IsUnthreaded, KeptThread, LossLeavesPair, IsPairWritten, complete_after, thread_pair, pairs_with, within_same, gstate_changes, delta_reaching_gstate, content_reaching_gstate, LeftByDrop, content_after_drop, Unthreads}
+use Rattle.lfs_operations.proofs.Common.{ℕ, ◌≡◌, ◌<◌, ◌≤◌, ◌+◌, ◌-◌, ◌⊎◌, inl, inr, true, false, List, [], ◌∷◌, ◌++◌, length, Some, refl, sym, ap, subst, ◌∙◌, arith, length-append, same_Some, Blocks, Disk, HasEitherTree as IsLeftOf, with_blocks, FitsInPair, Gstate, gstate_xor, zero_gstate, same_pair, Pair, pairs_gstate, is_hard_tail, count_before_root, Path, IsAccepted, IsWritable, LeadsTo, disk_tree, SameSlots, alike_append, alike_itself, HasNoMove, gstate_assoc, gstate_cons, gstate_right, gstate_self, HasSite, site_of_number, AllReached, AllReachedBut, IsStep, step_writable, site_gstate_moved, Site, thread_at, IsDevice, stays_shape, IsWritableChange, taken_before, within_at, IsReady, IsUnthreaded, KeptThread, LossLeavesPair, IsPairWritten, complete_after, thread_pair, pairs_with, within_same, gstate_changes, delta_reaching_gstate, content_reaching_gstate, LeftByDrop, content_after_drop, Unthreads}
 use Rattle.lfs_model.proofs.Rests.{slots_stay}
 use Rattle.lfs_model.proofs.Unthreaded.{unthread}
 use Rattle.lfs_operations.proofs.Threads.{one_now, pair_is, placed_one}

@@ -1,5 +1,5 @@
 -- How far a recovery is, from its beginning to its end.
-use Rattle.lfs_operations.proofs.Common.{ℕ, suc, zero, ◌≡◌, ◌≢◌, ◌+◌, ◌-◌, ◌<◌, ◌≤◌, ◌⊎◌, inl, inr, true, false, cond, nat_eq, eq-eqb, List, [], ◌∷◌, ◌++◌, length, take, drop, Option, Some, None, refl, sym, ap, ap₂, subst, ◌∙◌, arith, append_assoc, length-append, slice_get, ne_eqb, Blocks, Disk, directory_address, continued_address, AllCallsSince, HasEither as IsLeftOf, SurvivesLossSince, with_blocks, Gstate, zero_gstate, same_pair, Pair, pairs_blocks, pairs_from_root, first_address, pairs_gstate, count_before_root, address_blocks, IsAccepted, IsReachedBySome, disk_tree, used_blocks, IsWritable, survives_then, number_occurrences, count_append, once_from_distinct, HasDirectory, chain_of_thread, led_directory, HasNoMove, HoldsAtLosses-weaker, joined_singles, onward_all, Ends, pair_back, pair_itself, pair_on, same_number, file_blocks, all_slots, IsReady, IsUnthreaded, same_parts, CleanLossLeaves, KeptThread, SameGeometryAs, ChangesThreadBlocks, empty_anchor, thread_pair, is_some, slice_index_or, recovery_begins, AreUnreachedNumbers, AreUnreachedFrom, CanDropPairs, numbered_list_blocks, gstate_while_dropping, SameInFlight, CanDropAt, LeftByDrop, IsPairDropped, content_after_drop}
+use Rattle.lfs_operations.proofs.Common.{ℕ, suc, zero, ◌≡◌, ◌≢◌, ◌+◌, ◌-◌, ◌<◌, ◌≤◌, ◌⊎◌, inl, inr, true, false, cond, nat_eq, eq-eqb, List, [], ◌∷◌, ◌++◌, length, take, drop, Option, Some, None, refl, sym, ap, ap₂, subst, ◌∙◌, arith, append_assoc, length-append, slice_get, ne_eqb, Blocks, Disk, directory_address, continued_address, AllCallsSince, HasEitherTree as IsLeftOf, SurvivesLossSince, with_blocks, Gstate, zero_gstate, same_pair, Pair, pairs_blocks, pairs_from_root, first_address, pairs_gstate, count_before_root, address_blocks, IsAccepted, IsReachedBySome, disk_tree, used_blocks, IsWritable, survives_then, number_occurrences, count_append, once_from_distinct, HasDirectory, chain_of_thread, led_directory, HasNoMove, HoldsAtLosses-weaker, joined_singles, onward_all, Ends, pair_back, pair_itself, pair_on, same_number, file_blocks, all_slots, IsReady, IsUnthreaded, same_parts, CleanLossLeaves, KeptThread, SameGeometryAs, ChangesThreadBlocks, empty_anchor, thread_pair, is_some, slice_index_or, recovery_begins, AreUnreachedNumbers, AreUnreachedFrom, CanDropPairs, numbered_list_blocks, gstate_while_dropping, SameInFlight, CanDropAt, LeftByDrop, IsPairDropped, content_after_drop}
 use Rattle.lfs_model.proofs.Histories.{AllCallsSince-weaker, goes_on_by}
 use Rattle.lfs_operations.proofs.RecoverLists.{lists_kept, lists_more, numbered}
 use Rattle.lfs_operations.proofs.RecoverLoop.{FirstsOnly, IsAtDrop, IsAtEnd, IsOnWay, all_but, drops, goes_to, ready, soft, stands, sync_set, unled}

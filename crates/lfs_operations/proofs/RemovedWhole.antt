@@ -1,5 +1,5 @@
 -- A file that goes with its pair, which held nothing else and isn't the first of its directory, as a step of the thread.
-use Rattle.lfs_operations.proofs.Common.{◌<◌, ℕ, ◌≡◌, ◌≢◌, inl, inr, ◌+◌, ◌-◌, ◌≤◌, ◌&&◌, not, Bool, true, false, nat_eq, eqb-true, slice_get, List, [], ◌∷◌, ◌++◌, length, Option, Some, None, refl, sym, ap, subst, ◌∙◌, arith, append_assoc, length-append, IsDistinct, eqb-false, tree_removing, Blocks, Disk, CallEvent, IsPairAt, HasEither as IsLeftOf, SurvivesLossSince, with_blocks, PairContent, Slot, Tail, zero_gstate, same_pair, Pair, pairs_blocks, first_address, pairs_gstate, is_hard_tail, count_before_root, Tree, branch_address, IsAccepted, IsWritable, LeadsTo, struct_blocks, disk_tree, used_blocks, IsChangedImage, CompletesOperation, no_move_from, recovered_from, number_occurrences, count_append, once_from_distinct, HasNoMove, HoldsAtLosses-weaker, IsRun, file_goes, same_number, site, pair_back, pair_on, IsSite, Site, begin_of, dirs_at, thread_at, file_blocks, IsChain, ends_joined, CleanLossLeaves, KeptThread, IsPairWritten, thread_pair, CanDropAt, IsPairDropped, ShowsDroppedTree, LeftByDrop, tail_over_drop, content_after_drop, CanEditIn, editable_slot, IsFileRemoved, drops_with_its_slot, tree_without_entry}
+use Rattle.lfs_operations.proofs.Common.{◌<◌, ℕ, ◌≡◌, ◌≢◌, inl, inr, ◌+◌, ◌-◌, ◌≤◌, ◌&&◌, not, Bool, true, false, nat_eq, eqb-true, slice_get, List, [], ◌∷◌, ◌++◌, length, Option, Some, None, refl, sym, ap, subst, ◌∙◌, arith, append_assoc, length-append, IsDistinct, eqb-false, tree_removing, Blocks, Disk, CallEvent, IsPairAt, HasEitherTree as IsLeftOf, SurvivesLossSince, with_blocks, PairContent, Slot, Tail, zero_gstate, same_pair, Pair, pairs_blocks, first_address, pairs_gstate, is_hard_tail, count_before_root, Tree, branch_address, IsAccepted, IsWritable, LeadsTo, struct_blocks, disk_tree, used_blocks, IsChangedImage, CompletesOperation, no_move_from, recovered_from, number_occurrences, count_append, once_from_distinct, HasNoMove, HoldsAtLosses-weaker, IsRun, file_goes, same_number, site, pair_back, pair_on, IsSite, Site, begin_of, dirs_at, thread_at, file_blocks, IsChain, ends_joined, CleanLossLeaves, KeptThread, IsPairWritten, thread_pair, CanDropAt, IsPairDropped, ShowsDroppedTree, LeftByDrop, tail_past_drop, content_after_drop, CanEditIn, editable_slot, IsFileRemoved, drops_with_its_slot, tree_without_entry}
 use Rattle.lfs_model.specs.session.Operations as ops
 use Rattle.lfs_model.proofs.Dropped.{IsDrop, drop_completed, drop_step, drop_writable}
 use Rattle.lfs_operations.proofs.Dropped.{HasMapWithout, IsToBeDropped, can_drop_pair, device_left, left_dropped, map_dropped, pairs_left, slots_left, state_left, tail_left, used_left}
@@ -85,7 +85,7 @@ stands_behind ps v o index is at number some = record {
     hard = run_hard l.front l.last o v.right run
 
 -- a hard tail takes over what comes
-pub over_hard : (f g : Option Tail) → is_hard_tail f ≡ true → tail_over_drop f g ≡ g
+pub over_hard : (f g : Option Tail) → is_hard_tail f ≡ true → tail_past_drop f g ≡ g
 over_hard f None h = refl
 over_hard f (Some t) h = ap (λ b. Some (record { hard = b && t.hard; to = t.to })) h
 

@@ -1,5 +1,5 @@
 -- Slots that are replaced by the same ones, of which one has another name, or for fewer.
-use Rattle.lfs_operations.proofs.Common.{ℕ, ◌≡◌, ◌+◌, false, List, [], ◌∷◌, ◌++◌, length, Some, sym, ap, subst, ◌∙◌, arith, take, drop, take-append-drop, recursion_from_All, PairChange, Disk, SameGeometry, PairContent, Slot, is_superblock, Pair, pairs_gstate, starts_superblock, count_before_root, IsWritableEntry, IsWritableSlot, BeginsWithSuperblock, IsAccepted, IsTreeEntry, IsFormedList, all_unmoved_slots, struct_blocks, SameFiles, slots_files, no_move_from, Each, number_occurrences, count_append, each_append, each_left, each_pieces, each_right, each_weaker, SameFileBlocks, is_list_same, Site, IsSite, dirs_at, thread_at, count_files, file_blocks, unmoved_in, KeptThread, complete_after, All, IsReadyImage}
+use Rattle.lfs_operations.proofs.Common.{ℕ, ◌≡◌, ◌+◌, false, List, [], ◌∷◌, ◌++◌, length, Some, sym, ap, subst, ◌∙◌, arith, take, drop, take-append-drop, recursion_from_All, PairChange, Disk, SameGeometry, PairContent, Slot, is_superblock, Pair, pairs_gstate, superblock_first, count_before_root, IsWritableEntry, IsWritableSlot, BeginsWithSuperblock, IsAccepted, IsTreeEntry, IsFormedList, all_unmoved_slots, struct_blocks, SameFiles, slots_files, no_move_from, Each, number_occurrences, count_append, each_append, each_left, each_pieces, each_right, each_weaker, SameFileBlocks, is_list_same, Site, IsSite, dirs_at, thread_at, count_files, file_blocks, unmoved_in, KeptThread, complete_after, All, IsReadyImage}
 use Rattle.lfs_model.specs.declared.limits.AcceptedVersions.{AcceptedVersions}
 use Rattle.lfs_model.proofs.Counts.{each_both}
 use Rattle.lfs_operations.proofs.Splicing.{IsSplicing}
@@ -41,12 +41,12 @@ carries_ahead u name gone passed = record {
 
 -- slots from one on that isn't a superblock's are entries
 abbrev HasRests : List Slot → Type 0
-HasRests slots = (l xs : List Slot) → slots ≡ l ++ xs → starts_superblock xs ≡ false → Each IsTreeEntry xs
+HasRests slots = (l xs : List Slot) → slots ≡ l ++ xs → superblock_first xs ≡ false → Each IsTreeEntry xs
 
 headed_rests : (versions : AcceptedVersions) (bytes : List ℕ) (slots : List Slot) → BeginsWithSuperblock versions bytes slots → HasRests slots
 headed_rests versions bytes [] h [] xs e f = subst (Each IsTreeEntry) e tt
 headed_rests versions bytes [] h (x ∷ l) xs e f = absurd (cc)
-headed_rests versions bytes (s ∷ slots) h [] xs e f = absurd (let z = sym f ∙ ap starts_superblock (sym e) ∙ h.0 in cc)
+headed_rests versions bytes (s ∷ slots) h [] xs e f = absurd (let z = sym f ∙ ap superblock_first (sym e) ∙ h.0 in cc)
 headed_rests versions bytes (s ∷ slots) h (x ∷ l) xs e f = each_right IsTreeEntry l xs (subst (Each IsTreeEntry) (rest e) (recursion_from_All IsTreeEntry slots h.2))
   where
     rest : {a b : Slot} {us vs : List Slot} → a ∷ us ≡ b ∷ vs → us ≡ vs
@@ -76,7 +76,7 @@ pub record IsPlaced (t : KeptThread) (index : ℕ) (changes : List PairChange) (
   pub tail : content.tail ≡ p.content.tail
   pub was : p.content.slots ≡ l ++ (olds ++ r)
   pub now : content.slots ≡ l ++ (news ++ r)
-  pub front : starts_superblock (olds ++ r) ≡ false
+  pub front : superblock_first (olds ++ r) ≡ false
   pub carries : MovesSlots olds news gone u moved
   pub entry : IsTreeEntry u → IsTreeEntry moved
   pub struct : moved.struct ≡ u.struct

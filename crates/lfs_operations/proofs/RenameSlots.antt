@@ -1,6 +1,6 @@
 -- What the changes make that put a slot at an id.
 use Rattle.std.specs.List.{insert}
-use Rattle.lfs_operations.proofs.Common.{ℕ, ◌≡◌, ◌⊎◌, inl, inr, ◌+◌, ◌<◌, ◌≤◌, ◌==◌, Bool, true, false, cond, take, drop, List, [], ◌∷◌, ◌++◌, length, Option, Some, None, refl, sym, ap, ap₂, subst, ◌∙◌, arith, append_assoc, append-nil, eqb-true, le-ltb, ne_eqb, same_Some, PutAttribute, changed_content_of, RawSlot, RawContent, complete_slot, changed_at, empty_slot, kind_of_type, attributes_with, slot_of_id, read_struct, file_name_type, directory_name_type, IsFormedSlot, IsAllowedPart, Name, is_valid_name, Attributes, Slot, File, Directory, Superblock, is_superblock, Each, each_append, each_weaker, creates_with_struct, does_first, puts_attribute, tag_type-make_tag, tag_length-make_tag, nat_lt, nat_le, ◌&&◌, is_some, length-take-le, AttributesInOrder, AllowsIfSome, names_superblock, changed_inserted, with_attribute_put, NamelessSlot, attribute_changes, nameless_of, slot_changes}
+use Rattle.lfs_operations.proofs.Common.{ℕ, ◌≡◌, ◌⊎◌, inl, inr, ◌+◌, ◌<◌, ◌≤◌, ◌==◌, Bool, true, false, cond, take, drop, List, [], ◌∷◌, ◌++◌, length, Option, Some, None, refl, sym, ap, ap₂, subst, ◌∙◌, arith, append_assoc, append-nil, eqb-true, le-ltb, ne_eqb, same_Some, PutAttribute, changed_content_of, RawSlot, RawContent, complete_slot, changed_at, empty_slot, kind_of_type, attributes_with, slot_of_id, read_struct, file_name_type, directory_name_type, IsFormedSlot, IsAllowedPart, Name, is_valid_name, Attributes, Slot, File, Directory, Superblock, is_superblock, Each, each_append, each_weaker, creates_with_struct, does_first, puts_attribute, tag_type-make_tag, tag_length-make_tag, nat_lt, nat_le, ◌&&◌, is_some, length-take-le, AttributesInOrder, AllowsIfSome, is_superblock_kind, changed_inserted, with_attribute_put, NamelessSlot, attribute_changes, nameless_of, slot_changes}
 use Rattle.std.proofs.lemmas.Bool.{leb-true}
 use Rattle.std.proofs.Math.Seq.{get_or-append_seam}
 use Rattle.lfs_model.specs.format.Names.{is_component}
@@ -93,10 +93,10 @@ pub record IsOf (s : RawSlot) (u : Slot) : Type 0 where
   pub are : AreParts (nameless_of s)
   pub complete : (name : Name) → complete_slot (slot_of_parts name (nameless_of s)) ≡ Some (record u { name = name })
 
-kind_of_entry : (type : ℕ) → names_superblock (kind_of_type type) ≡ false → (type ≡ file_name_type) ⊎ (type ≡ directory_name_type)
+kind_of_entry : (type : ℕ) → is_superblock_kind (kind_of_type type) ≡ false → (type ≡ file_name_type) ⊎ (type ≡ directory_name_type)
 kind_of_entry type h = go (type == file_name_type) (type == directory_name_type) refl refl h
   where
-    go : (a b : Bool) → (type == file_name_type) ≡ a → (type == directory_name_type) ≡ b → names_superblock (cond a File (cond b Directory Superblock)) ≡ false → (type ≡ file_name_type) ⊎ (type ≡ directory_name_type)
+    go : (a b : Bool) → (type == file_name_type) ≡ a → (type == directory_name_type) ≡ b → is_superblock_kind (cond a File (cond b Directory Superblock)) ≡ false → (type ≡ file_name_type) ⊎ (type ≡ directory_name_type)
     go true b e f k = inl (eqb-true type file_name_type e)
     go false true e f k = inr (eqb-true type directory_name_type f)
     go false false e f k = absurd (cc)

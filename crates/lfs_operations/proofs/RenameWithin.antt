@@ -1,5 +1,5 @@
 -- A rename within one pair to a name that is new.
-use Rattle.lfs_operations.proofs.Common.{ℕ, ◌≡◌, ◌⊎◌, inl, inr, ◌-◌, ◌<◌, ◌≤◌, cond, List, [], ◌∷◌, ◌++◌, length, Some, refl, sym, ap, subst, ◌∙◌, arith, append_assoc, append-nil, length-append, le-ltb, lt-ltb, tree_renaming, Delete, raw_content, CallEvent, BelongsAt, HasName, Name, SurvivesLossSince, FitsInPair, Slot, Pair, starts_superblock, IsTreeEntry, all_entries, disk_tree, IsChangedImage, no_move_from, place_at, IsPlace, some_filled, renamed_addresses, place_of_belongs, site, Site, thread_at, CleanLossLeaves, KeptThread, thread_pair, CanPut, LeftByPut, ArePut, CanEditIn, CanRenameWithin, IsRenamedWithin, id_after_removal, within_changes, tree_renamed, HasSlot}
+use Rattle.lfs_operations.proofs.Common.{ℕ, ◌≡◌, ◌⊎◌, inl, inr, ◌-◌, ◌<◌, ◌≤◌, cond, List, [], ◌∷◌, ◌++◌, length, Some, refl, sym, ap, subst, ◌∙◌, arith, append_assoc, append-nil, length-append, le-ltb, lt-ltb, tree_renaming, Delete, raw_content, CallEvent, BelongsAt, HasName, Name, SurvivesLossSince, FitsInPair, Slot, Pair, superblock_first, IsTreeEntry, all_entries, disk_tree, IsChangedImage, no_move_from, place_at, IsPlace, some_filled, renamed_addresses, place_of_belongs, site, Site, thread_at, CleanLossLeaves, KeptThread, thread_pair, CanPut, LeftByPut, ArePut, CanEditIn, CanRenameWithin, IsRenamedWithin, id_after_removal, within_changes, tree_renamed, HasSlot}
 use Rattle.lfs_model.proofs.RenameSteps.{ahead_follows, behind_follows, renamed_ahead_completed, renamed_behind_completed}
 use Rattle.lfs_operations.proofs.Held.{CompletesTo, below, fits_there, here, raw_there}
 use Rattle.lfs_operations.proofs.RenameMade as made
@@ -181,7 +181,7 @@ module _ (t : KeptThread) (index id place : ℕ) (name : Name) (rename : CanRena
         tail = refl;
         was = b.held ∙ ap (λ z. b.left ++ z) (d.back ∙ sym (append_assoc d.passed (u ∷ []) s.right));
         now = refl;
-        front = ap starts_superblock (append_assoc d.passed (u ∷ []) s.right ∙ sym d.back) ∙ b.fronted;
+        front = ap superblock_first (append_assoc d.passed (u ∷ []) s.right ∙ sym d.back) ∙ b.fronted;
         carries = carries_ahead u name [] d.passed;
         entry = entry_again;
         struct = refl;

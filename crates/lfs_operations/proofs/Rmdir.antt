@@ -1,5 +1,5 @@
 -- The entry of an empty directory goes, and then its pair: what each of the two steps comes to, in an accepted image.
-use Rattle.lfs_operations.proofs.Common.{ℕ, ◌≡◌, ◌≢◌, ◌&&◌, true, false, List, [], ◌∷◌, ◌++◌, length, Option, Some, None, refl, sym, ap, subst, ◌∙◌, arith, recursion_from_All, tree_with_subtree, tree_removing, Disk, Session, slot_of, Branch, Slot, Tail, is_superblock, zero_gstate, same_pair, path_or_root, Pair, pairs_gstate, is_hard_tail, count_before_root, Path, IsAccepted, IsWritable, LeadsTo, all_unmoved_slots, all_entries, disk_tree, used_blocks, alike_itself, SameSlots, alike_append, IsChangedImage, SameFiles, slots_files, CompletesOperation, number_occurrences, each_left, each_right, softened, SameFileBlocks, HasNoMove, onward_all, IsStep, IsRmdir, rmdir_completed, IsGone, rmdir_named, rmdir_taken, Site, begin_of, dirs_at, thread_at, IsDevice, count_files, file_blocks, all_slots, unmoved_in, IsWritableChange, some_filled, is_some, tail_over_drop}
+use Rattle.lfs_operations.proofs.Common.{ℕ, ◌≡◌, ◌≢◌, ◌&&◌, true, false, List, [], ◌∷◌, ◌++◌, length, Option, Some, None, refl, sym, ap, subst, ◌∙◌, arith, recursion_from_All, tree_with_subtree, tree_removing, Disk, Session, slot_of, Branch, Slot, Tail, is_superblock, zero_gstate, same_pair, path_or_root, Pair, pairs_gstate, is_hard_tail, count_before_root, Path, IsAccepted, IsWritable, LeadsTo, all_unmoved_slots, all_entries, disk_tree, used_blocks, alike_itself, SameSlots, alike_append, IsChangedImage, SameFiles, slots_files, CompletesOperation, number_occurrences, each_left, each_right, softened, SameFileBlocks, HasNoMove, onward_all, IsStep, IsRmdir, rmdir_completed, IsGone, rmdir_named, rmdir_taken, Site, begin_of, dirs_at, thread_at, IsDevice, count_files, file_blocks, all_slots, unmoved_in, IsWritableChange, some_filled, is_some, tail_past_drop}
 use Rattle.lfs_model.specs.session.Operations as ops
 use Rattle.lfs_operations.proofs.Owning.{count_used, slots_append}
 use Rattle.lfs_operations.proofs.Placing.{blocks_append}
@@ -90,7 +90,7 @@ module _ (disk middle : Disk) (w : Site) (p q : Pair) (l r : List Slot) (u : Slo
 
 -- ---- the tail
 
-pub over_soft : (f g : Option Tail) → is_hard_tail f ≡ false → tail_over_drop f g ≡ softened g
+pub over_soft : (f g : Option Tail) → is_hard_tail f ≡ false → tail_past_drop f g ≡ softened g
 over_soft f None h = refl
 over_soft f (Some t) h = ap (λ b. Some (record { hard = b && t.hard; to = t.to })) h
 

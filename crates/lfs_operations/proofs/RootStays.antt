@@ -1,5 +1,5 @@
 -- The root directory stays where it is: as many pairs stand in front of it as before.
-use Rattle.lfs_operations.proofs.Common.{ℕ, zero, suc, ◌≡◌, true, List, [], ◌∷◌, ◌++◌, length, drop, Option, Some, refl, sym, ap, subst, ◌∙◌, slice_get, same_Some, Disk, same_pair, AreLinked, Pair, anchor_address, pairs_from_root, first_address, tail_target, root_address, starts_superblock, count_before_root, IsAccepted, first_pair_slots, pair_itself, same_number, IsChain, pairs_behind}
+use Rattle.lfs_operations.proofs.Common.{ℕ, zero, suc, ◌≡◌, true, List, [], ◌∷◌, ◌++◌, length, drop, Option, Some, refl, sym, ap, subst, ◌∙◌, slice_get, same_Some, Disk, same_pair, AreLinked, Pair, anchor_address, pairs_from_root, first_address, tail_target, root_address, superblock_first, count_before_root, IsAccepted, first_pair_slots, pair_itself, same_number, IsChain, pairs_behind}
 use Rattle.lfs_model.specs.layers.Steps.{SameSlots}
 use Rattle.lfs_operations.proofs.Threads.{get_behind}
 
@@ -19,7 +19,7 @@ root_there : (disk : Disk) (ps : List Pair) → IsAccepted disk ps → HasAddres
 root_there disk ps ok = go (pairs_from_root ps) refl
   where
     go : (ds : List Pair) → pairs_from_root ps ≡ ds → HasAddress ps (count_before_root ps) (root_address ps)
-    go [] e = absurd (let k = ap (λ z. starts_superblock (first_pair_slots z)) (sym e) ∙ ok.root in cc)
+    go [] e = absurd (let k = ap (λ z. superblock_first (first_pair_slots z)) (sym e) ∙ ok.root in cc)
     go (d ∷ ds) e = (d, (get_dropped ps (count_before_root ps) d ds e, ap first_address (sym e)))
 
 number_of_root : (disk : Disk) (ps : List Pair) (n : ℕ) → IsAccepted disk ps → HasAddress ps n (root_address ps) → count_before_root ps ≡ n
@@ -33,7 +33,7 @@ two_links : (at : Option (ℕ × ℕ)) (chain dirs news : List Pair) → AreLink
 two_links at [] dirs news l m = (at, (l, m))
 two_links at (c ∷ chain) dirs news l m = two_links (tail_target c.content.tail) chain dirs news l.1 m.1
 
-first_there : (chain : List Pair) (to : Option (ℕ × ℕ)) (dirs news : List Pair) → AreLinked to dirs → AreLinked to news → starts_superblock (first_pair_slots dirs) ≡ true → HasAddress (chain ++ news) (length chain) (first_address dirs)
+first_there : (chain : List Pair) (to : Option (ℕ × ℕ)) (dirs news : List Pair) → AreLinked to dirs → AreLinked to news → superblock_first (first_pair_slots dirs) ≡ true → HasAddress (chain ++ news) (length chain) (first_address dirs)
 first_there chain to [] news l m e = absurd (cc)
 first_there chain to (d ∷ dirs) [] l m e = absurd (let k = sym m ∙ l.0 in cc)
 first_there chain to (d ∷ dirs) (n ∷ news) l m e = (n, (get_behind chain n news, same_Some n.at d.at (sym m.0 ∙ l.0)))
@@ -43,7 +43,7 @@ pub root_stays : (disk new : Disk) (chain dirs news : List Pair) → IsChain cha
 root_stays disk new chain dirs news is_chain ok now same =
     let l = two_links (Some anchor_address) chain dirs news ok.thread.links now.thread.links in
     let dirs_are = pairs_behind chain dirs is_chain in
-    let first = first_there chain l.0 dirs news l.1.0 l.1.1 (ap (λ z. starts_superblock (first_pair_slots z)) (sym dirs_are) ∙ ok.root) in
+    let first = first_there chain l.0 dirs news l.1.0 l.1.1 (ap (λ z. superblock_first (first_pair_slots z)) (sym dirs_are) ∙ ok.root) in
     number_of_root new (chain ++ news) (length chain) now (first.0, (first.1.0, first.1.1 ∙ ap first_address (sym dirs_are) ∙ sym same)) ∙ sym is_chain
 
 -- ---- pairs of the same addresses

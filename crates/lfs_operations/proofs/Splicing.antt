@@ -1,5 +1,5 @@
 -- A pair of an accepted image in which some slots are replaced by others, as a commit of the laws.
-use Rattle.lfs_operations.proofs.Common.{ℕ, zero, suc, ◌≡◌, ◌+◌, ◌<◌, ◌≤◌, false, nat_eq, List, [], ◌∷◌, ◌++◌, length, Some, refl, sym, ap, subst, ◌∙◌, arith, ◌⊎◌, inl, inr, IsDistinct, flat_map, recursion_from_All, BlockStates, IsFree, IsInFlight, Free, InFlight, PairChange, Disk, disk_block, SameGeometry, Slot, PairContent, gstate_xor, Pair, pairs_blocks, pairs_gstate, starts_superblock, struct_blocks, all_unmoved_slots, used_blocks, IsAccepted, IsTreeEntry, IsFormedList, IsWritable, IsWritableSlot, SameFiles, IsCommit, Each, each_counted, each_from_counted, number_occurrences, count_append, once_from_distinct, distinct_from_once, SameFileBlocks, gstate_append, gstate_cons, gstate_kept, gstate_right, Site, thread_at, IsSite, file_blocks, KeptThread, complete_after, BeginWithSuperblock, cases_lt, IsReadyImage}
+use Rattle.lfs_operations.proofs.Common.{ℕ, zero, suc, ◌≡◌, ◌+◌, ◌<◌, ◌≤◌, false, nat_eq, List, [], ◌∷◌, ◌++◌, length, Some, refl, sym, ap, subst, ◌∙◌, arith, ◌⊎◌, inl, inr, IsDistinct, flat_map, recursion_from_All, BlockStates, IsFree, IsInFlight, Free, InFlight, PairChange, Disk, disk_block, SameGeometry, Slot, PairContent, gstate_xor, Pair, pairs_blocks, pairs_gstate, superblock_first, struct_blocks, all_unmoved_slots, used_blocks, IsAccepted, IsTreeEntry, IsFormedList, IsWritable, IsWritableSlot, SameFiles, IsCommit, Each, each_counted, each_from_counted, number_occurrences, count_append, once_from_distinct, distinct_from_once, SameFileBlocks, gstate_append, gstate_cons, gstate_kept, gstate_right, Site, thread_at, IsSite, file_blocks, KeptThread, complete_after, BeginWithSuperblock, cases_lt, IsReadyImage}
 use Rattle.lfs_operations.proofs.MovTurned.{IsTurn}
 use Rattle.lfs_operations.proofs.MovSet.{HasTurned}
 use Rattle.lfs_operations.proofs.Owning.{count_pairs}
@@ -22,7 +22,7 @@ pub record IsSplicing (t : KeptThread) (index : ℕ) (changes : List PairChange)
   pub move : content.move ≡ p.content.move
   pub was : p.content.slots ≡ l ++ (olds ++ r)
   pub now : content.slots ≡ l ++ (news ++ r)
-  pub front : l ≡ [] → starts_superblock (olds ++ r) ≡ false
+  pub front : l ≡ [] → superblock_first (olds ++ r) ≡ false
   pub entries : Each IsTreeEntry news
   pub fit : Each (IsWritableSlot t.disk.profile t.disk.block_size t.disk.page) news
   -- blocks that come are in flight; they name these now, and those that are gone no more
@@ -64,7 +64,7 @@ module _ (t : KeptThread) (index : ℕ) (changes : List PairChange) (w : Site) (
   }
     where
       -- the superblock stays in slot 0
-      go : (l : List Slot) → (l ≡ [] → starts_superblock (olds ++ r) ≡ false) → BeginWithSuperblock (l ++ (olds ++ r)) → BeginWithSuperblock (l ++ (news ++ r))
+      go : (l : List Slot) → (l ≡ [] → superblock_first (olds ++ r) ≡ false) → BeginWithSuperblock (l ++ (olds ++ r)) → BeginWithSuperblock (l ++ (news ++ r))
       go [] f e = absurd (let z = sym (f refl) ∙ e.0 in cc)
       go (s ∷ l) f e = e
 

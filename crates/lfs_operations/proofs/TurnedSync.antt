@@ -1,5 +1,5 @@
 -- A pair of an image with nothing to recover, whose commit turns the sync bit: the step, and what a stop leaves.
-use Rattle.lfs_operations.proofs.Common.{ℕ, ◌≡◌, ◌≢◌, ◌⊎◌, inl, inr, ◌+◌, true, false, List, [], ◌∷◌, ◌++◌, length, Some, refl, sym, ap, subst, ◌∙◌, arith, append-nil, recursion_from_All, Blocks, PairChange, Disk, SameGeometry, HasEither as IsLeftOf, with_blocks, IsWritableSlot, IsWritable, all_unmoved_slots, disk_tree, pair_with_slots, FitsInPair, Slot, gstate_xor, zero_gstate, PathAddresses, Pair, pairs_gstate, starts_superblock, Tree, IsAccepted, fits_same, IsChangedImage, SameFiles, no_move_from, Each, SameFileBlocks, HasNoMove, sync_bit_delta, IsStep, IsSite, Site, thread_at, IsDevice, stays_shape, IsWritableChange, ends_joined, KeptThread, LossLeavesPair, BeginWithSuperblock, complete_after, IsSplice, commit_taken, IsReadyImage}
+use Rattle.lfs_operations.proofs.Common.{ℕ, ◌≡◌, ◌≢◌, ◌⊎◌, inl, inr, ◌+◌, true, false, List, [], ◌∷◌, ◌++◌, length, Some, refl, sym, ap, subst, ◌∙◌, arith, append-nil, recursion_from_All, Blocks, PairChange, Disk, SameGeometry, HasEitherTree as IsLeftOf, with_blocks, IsWritableSlot, IsWritable, all_unmoved_slots, disk_tree, pair_with_slots, FitsInPair, Slot, gstate_xor, zero_gstate, PathAddresses, Pair, pairs_gstate, superblock_first, Tree, IsAccepted, fits_same, IsChangedImage, SameFiles, no_move_from, Each, SameFileBlocks, HasNoMove, sync_bit_delta, IsStep, IsSite, Site, thread_at, IsDevice, stays_shape, IsWritableChange, ends_joined, KeptThread, LossLeavesPair, BeginWithSuperblock, complete_after, IsSplice, commit_taken, IsReadyImage}
 use Rattle.lfs_operations.proofs.MovSet.{HasTurned}
 use Rattle.lfs_operations.proofs.MovTurned.{IsTurn, content_with, left_alone}
 use Rattle.lfs_operations.proofs.Placing.{left_after, left_still}
@@ -15,7 +15,7 @@ pub record IsSyncTurn (t : KeptThread) (index : ℕ) (changes : List PairChange)
   pub fits : FitsInPair t.disk.block_size t.disk.page (content_with p slots (gstate_xor p.content.move sync_bit_delta))
   pub was : p.content.slots ≡ l ++ (olds ++ r)
   pub now : slots ≡ l ++ (news ++ r)
-  pub front : l ≡ [] → starts_superblock (olds ++ r) ≡ false
+  pub front : l ≡ [] → superblock_first (olds ++ r) ≡ false
   pub fit : Each (IsWritableSlot t.disk.profile t.disk.block_size t.disk.page) news
   pub filled : ends_joined false (w.before ++ w.left) ≡ true → l ++ (news ++ r) ≢ []
   pub splice : (disk : Disk) → SameGeometry t.disk disk → SameFiles t.disk disk (all_unmoved_slots t.pairs) → IsSplice t.disk disk [] l olds news r
@@ -46,14 +46,14 @@ module _ {t : KeptThread} {index : ℕ} {changes : List PairChange} {w : Site} {
   pub turn_of : IsTurn t index changes w p slots (gstate_xor p.content.move sync_bit_delta)
   turn_of = record { accepted = k.ready.accepted; there = k.there; place = k.place; site = k.site; made = k.made; first = λ h. subst BeginWithSuperblock (sym k.now) (go l k.front (subst BeginWithSuperblock k.was (h.kind, h.name))) }
     where
-      go : (l : List Slot) → (l ≡ [] → starts_superblock (olds ++ r) ≡ false) → BeginWithSuperblock (l ++ (olds ++ r)) → BeginWithSuperblock (l ++ (news ++ r))
+      go : (l : List Slot) → (l ≡ [] → superblock_first (olds ++ r) ≡ false) → BeginWithSuperblock (l ++ (olds ++ r)) → BeginWithSuperblock (l ++ (news ++ r))
       go [] f e = absurd (let z = sym (f refl) ∙ e.0 in cc)
       go (s ∷ l) f e = e
 
-  starts : starts_superblock p.content.slots ≡ true → starts_superblock slots ≡ true
-  starts e = ap starts_superblock k.now ∙ go l k.front (sym (ap starts_superblock k.was) ∙ e)
+  starts : superblock_first p.content.slots ≡ true → superblock_first slots ≡ true
+  starts e = ap superblock_first k.now ∙ go l k.front (sym (ap superblock_first k.was) ∙ e)
     where
-      go : (l : List Slot) → (l ≡ [] → starts_superblock (olds ++ r) ≡ false) → starts_superblock (l ++ (olds ++ r)) ≡ true → starts_superblock (l ++ (news ++ r)) ≡ true
+      go : (l : List Slot) → (l ≡ [] → superblock_first (olds ++ r) ≡ false) → superblock_first (l ++ (olds ++ r)) ≡ true → superblock_first (l ++ (news ++ r)) ≡ true
       go [] f e = absurd (let z = sym (f refl) ∙ e in cc)
       go (s ∷ l) f e = e
 

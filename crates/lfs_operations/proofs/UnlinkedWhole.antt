@@ -1,6 +1,6 @@
 -- An empty directory that goes in two steps of the thread, the first of which drops its entry's pair.
 use Rattle.std.proofs.lemmas.Bool.{ltb-false, ltb-true}
-use Rattle.lfs_operations.proofs.Common.{ℕ, ◌≡◌, ◌⊎◌, inl, inr, ◌+◌, ◌-◌, ◌<◌, ◌≤◌, Bool, true, false, cond, List, [], ◌∷◌, ◌++◌, length, refl, sym, ap, ap₂, subst, ◌∙◌, arith, append_assoc, append-nil, length-append, None, tree_removing, tree_with_subtree, Blocks, Disk, HasEither as IsLeftOf, with_blocks, PairContent, Gstate, Slot, zero_gstate, Pair, pairs_gstate, starts_superblock, count_before_root, Path, IsAccepted, IsWritable, LeadsTo, disk_tree, used_blocks, CompletesOperation, no_move_from, number_occurrences, HasNoMove, sync_bit_delta, IsStep, directory_goes, step_chain, Site, dirs_at, thread_at, drop_shape, file_blocks, IsWritableChange, KeptThread, IsPairWritten, thread_pair, IsChain, nat_lt, drop_taken, CanDropAt, IsPairDropped, LeftByDrop, content_after_drop, ShowsDroppedTree, CanEditIn, tree_without_entry, CanRemoveDirectory, IsDirectoryRemoved, number_after_drop}
+use Rattle.lfs_operations.proofs.Common.{ℕ, ◌≡◌, ◌⊎◌, inl, inr, ◌+◌, ◌-◌, ◌<◌, ◌≤◌, Bool, true, false, cond, List, [], ◌∷◌, ◌++◌, length, refl, sym, ap, ap₂, subst, ◌∙◌, arith, append_assoc, append-nil, length-append, None, tree_removing, tree_with_subtree, Blocks, Disk, HasEitherTree as IsLeftOf, with_blocks, PairContent, Gstate, Slot, zero_gstate, Pair, pairs_gstate, superblock_first, count_before_root, Path, IsAccepted, IsWritable, LeadsTo, disk_tree, used_blocks, CompletesOperation, no_move_from, number_occurrences, HasNoMove, sync_bit_delta, IsStep, directory_goes, step_chain, Site, dirs_at, thread_at, drop_shape, file_blocks, IsWritableChange, KeptThread, IsPairWritten, thread_pair, IsChain, nat_lt, drop_taken, CanDropAt, IsPairDropped, LeftByDrop, content_after_drop, ShowsDroppedTree, CanEditIn, tree_without_entry, CanRemoveDirectory, IsDirectoryRemoved, number_after_drop}
 use Rattle.lfs_model.specs.session.Operations as ops
 use Rattle.lfs_operations.proofs.Dropped.{HasMapWithout, IsToBeDropped, can_drop_pair, device_left, front_there, left_dropped, map_dropped, pairs_left, slots_left, state_left, tail_left}
 use Rattle.lfs_operations.proofs.DroppedTails.{front_is}
@@ -90,7 +90,7 @@ module _ (t : KeptThread) (index id first gone : ℕ) (take : CanRemoveDirectory
     still_none = no_move_middle;
     device = device_left dropping disk h;
     free = record { distinct = accepted.owned_once; in_range = λ k d x. absurd (omega arith) };
-    shape = drop_shape x0 e q refl tail_same (λ k. ap starts_superblock (slots_left dropping) ∙ k);
+    shape = drop_shape x0 e q refl tail_same (λ k. ap superblock_first (slots_left dropping) ∙ k);
     was = ap (λ z. x0.content.slots ++ (z ++ [])) s.held;
     is = append-nil q.content.slots ∙ (slots_left dropping) ∙ sym (append-nil x0.content.slots);
     splice = record { front = λ k. can.stands.stands.entry; entries = tt; lists = tt; blocks = λ b. omega arith };

@@ -1,8 +1,8 @@
 -- A worn pair behind a hard tail is at two other blocks: the image shows the same tree, also at a stop.
 use Rattle.std.proofs.Common.{ℕ, suc, ◌≡◌, ◌+◌, ◌-◌, ◌%◌, ◌^◌, ◌<◌, ◌≤◌, ◌⊎◌, inl, inr, true, cond, nat_eq, List, [], ◌∷◌, ◌++◌, length, Some, refl, sym, ap, ap₂, subst, subst₂, ◌∙◌, arith, set, ◌&&◌}
 use Rattle.std.specs.Prelude.{All}
-use Rattle.lfs_operations.proofs.Common.{All-from_recursion, IsDistinct, recursion_from_All, once_from_distinct, Blocks, AreUsed, BlockStates, content_at, current_block, Disk, HasEither, with_blocks, FitsInPair, Pair, pairs_gstate, is_hard_tail, addresses_blocks, first_address, has_superblock, count_before_root, BeginsWith, superblock_entry, IsAccepted, IsWritable, all_unmoved_slots, disk_tree, used_blocks, Each, each_right, HasNoMove, zero_gstate, no_move_from, Site, IsDevice, KeepsOutsideBoth, KeptThread, SameGeometryAs, HasOldPair, ChangesThreadBlocks, map_freeing, map_using, thread_pair, option_map, from_first_slots, has_no_entry, KeepsStruct, slot_of, is_worn, pair_joined_to, device_from, IsSameWritable, CanMoveNext, IsNextMoved, LossLeavesNextMoved, pair_revision, KeepsSuperblockFirst, AreTwoFree, map_taking_two, SameInFlight}
-use Rattle.lfs_model.specs.format.Thread.{starts_or_later}
+use Rattle.lfs_operations.proofs.Common.{All-from_recursion, IsDistinct, recursion_from_All, once_from_distinct, Blocks, AreUsed, BlockStates, content_at, current_block, Disk, HasEitherTree, with_blocks, FitsInPair, Pair, pairs_gstate, is_hard_tail, addresses_blocks, first_address, has_superblock, count_before_root, BeginsWith, superblock_entry, IsAccepted, IsWritable, all_unmoved_slots, disk_tree, used_blocks, Each, each_right, HasNoMove, zero_gstate, no_move_from, Site, IsDevice, KeepsOutsideBoth, KeptThread, SameGeometryAs, HasOldPair, ChangesThreadBlocks, map_freeing, map_using, thread_pair, option_map, pairs_from_filled, has_no_entry, KeepsStruct, slot_of, is_worn, pair_joined_to, device_from, IsSameWritable, CanMoveNext, IsNextMoved, LossLeavesNextMoved, pair_revision, KeepsSuperblockFirst, AreTwoFree, map_taking_two, SameInFlight}
+use Rattle.lfs_model.specs.format.Thread.{superblock_or_later}
 use Rattle.lfs_model.specs.layers.Steps.{SameFileBlocks}
 use Rattle.lfs_model.proofs.MovedBlocks.{relocated_blocks, relocated_length}
 use Rattle.lfs_model.proofs.Relocated.{IsRelocated}
@@ -29,8 +29,8 @@ set_next (z ∷ xs) q x ys y =
 -- as many pairs come before the root directory's first one
 module _ (p x : Pair) (to : ℕ × ℕ) (back : List Pair) (hard : is_hard_tail p.content.tail ≡ true) where
   superblock_same : (ahead : List Pair) → has_superblock (ahead ++ pair_joined_to to p.content.slots p ∷ record x { at = to } ∷ back) ≡ has_superblock (ahead ++ p ∷ x ∷ back)
-  superblock_same [] = ap (λ b. starts_or_later p.content.slots (b && has_superblock (x ∷ back))) (sym hard)
-  superblock_same (z ∷ ahead) = ap (λ b. starts_or_later z.content.slots (is_hard_tail z.content.tail && b)) (superblock_same ahead)
+  superblock_same [] = ap (λ b. superblock_or_later p.content.slots (b && has_superblock (x ∷ back))) (sym hard)
+  superblock_same (z ∷ ahead) = ap (λ b. superblock_or_later z.content.slots (is_hard_tail z.content.tail && b)) (superblock_same ahead)
 
   count_same : (ahead : List Pair) → count_before_root (ahead ++ pair_joined_to to p.content.slots p ∷ record x { at = to } ∷ back) ≡ count_before_root (ahead ++ p ∷ x ∷ back)
   count_same [] = ap (λ b. cond (has_superblock (x ∷ back) && (has_no_entry p.content.slots && b)) (1 + count_before_root (x ∷ back)) 0) (sym hard)
@@ -127,7 +127,7 @@ module _ (t : KeptThread) (index : ℕ) (fresh : ℕ × ℕ) (can : CanMovePair 
     placed : IsPlaced t.disk disk p q [] own
     placed = beside.placed t can.ready front at.ahead p (x ∷ at.back) at.is place fresh two disk q.content [] is.shape is.others is.leads tt is.first (λ h. (h.kind, h.name))
 
-    old_first : BeginsWith (current_block disk (first_address (from_first_slots ps))) superblock_entry
+    old_first : BeginsWith (current_block disk (first_address (pairs_from_filled ps))) superblock_entry
     old_first = (placing.device t.disk disk w p q [] own accepted distinct placed).first
 
     device : IsDevice t.disk disk ps qs
@@ -153,19 +153,19 @@ module _ (t : KeptThread) (index : ℕ) (fresh : ℕ × ℕ) (can : CanMovePair 
   -- ---- at a stop
 
   -- with an accepted image of the same tree
-  shows_same : (disk : Disk) → IsThere t (index - 1) at.one at.other fresh disk → HasEither disk (disk_tree t.disk t.pairs) (disk_tree t.disk t.pairs)
+  shows_same : (disk : Disk) → IsThere t (index - 1) at.one at.other fresh disk → HasEitherTree disk (disk_tree t.disk t.pairs) (disk_tree t.disk t.pairs)
   shows_same disk is =
       let s = same_writable disk is in
       record { pairs = qs; accepted = s.same.accepted; writable = s.writable; tree = inl (s.same.shows ∙ ap (disk_tree t.disk) (sym at.is)) }
 
-  pub left_moved : (left : Blocks) → LossLeavesNextMoved (with_map t (map_taking_two t.map fresh)) (index - 1) fresh left → HasEither (with_blocks left t.disk) (disk_tree t.disk t.pairs) (disk_tree t.disk t.pairs)
+  pub left_moved : (left : Blocks) → LossLeavesNextMoved (with_map t (map_taking_two t.map fresh)) (index - 1) fresh left → HasEitherTree (with_blocks left t.disk) (disk_tree t.disk t.pairs) (disk_tree t.disk t.pairs)
   left_moved left l = go l.content
     where
       shape : SameGeometryAs t.disk (with_blocks left t.disk)
       shape = record { block_size = refl; page = refl; order = refl; profile = refl; count = l.others.count }
 
       go : HasOldPair (with_map t (map_taking_two t.map fresh)) (index - 1) (with_blocks left t.disk) ⊎ NextMovedOnDisk (with_map t (map_taking_two t.map fresh)) (index - 1) fresh (with_blocks left t.disk)
-          → HasEither (with_blocks left t.disk) (disk_tree t.disk t.pairs) (disk_tree t.disk t.pairs)
+          → HasEitherTree (with_blocks left t.disk) (disk_tree t.disk t.pairs) (disk_tree t.disk t.pairs)
       go (inl b) = beside.left_old t can.ready front at.ahead p (x ∷ at.back) at.is place fresh two left l.others b
       go (inr n) = shows_same (with_blocks left t.disk) (record {
         shape = shape;

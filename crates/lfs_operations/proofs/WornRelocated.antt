@@ -4,7 +4,7 @@ use Rattle.std.proofs.lemmas.List.Elements.{All-contains_itself}
 use Rattle.lfs_model.specs.session.Moved.{pair_behind}
 use Rattle.lfs_model.proofs.BlockSets.{used_count-AreUsed}
 use Rattle.std.specs.Bool.{OnTrue}
-use Rattle.lfs_operations.specs.Wear.{CanMovePair, HasRelocated, HasRoomToUnload, IsMovedAt, IsRootExpanded, IsUnloadedAt, ShowsSameFiles}
+use Rattle.lfs_operations.specs.Wear.{CanMovePair, HasRelocated, HasUnloadRoom, IsMovedAt, IsRootExpanded, IsUnloadedAt, ShowsSameFiles}
 use Rattle.lfs_operations.specs.declared.wear.MovePlan.{MovePlan}
 
 -- ---- the pairs that stay
@@ -101,13 +101,13 @@ module _ (t : KeptThread) (root : ℕ) (index : ℕ) (plan : MovePlan) (ready : 
     root_is = root_is ∙ sym m.root;
   }
 
-  few_used : (limit : ℕ) → HasRoomToUnload t limit → length (used_blocks new.disk new.pairs) ≡ length (used_blocks t.disk t.pairs) + 2 → length (used_blocks new.disk new.pairs) ≤ limit
+  few_used : (limit : ℕ) → HasUnloadRoom t limit → length (used_blocks new.disk new.pairs) ≡ length (used_blocks t.disk t.pairs) + 2 → length (used_blocks new.disk new.pairs) ≤ limit
   few_used limit room more =
       let e = used_count-AreUsed t.map (used_blocks t.disk t.pairs) ready.accepted.owned_once ready.used in
       let w = room.within in
       omega (arith, e, w, more)
 
-  pub slots_go : HasRoomToUnload t plan.limit → IsUnloadedAt t index (array_address plan.fresh) new → HasRelocated t plan new root
+  pub slots_go : HasUnloadRoom t plan.limit → IsUnloadedAt t index (array_address plan.fresh) new → HasRelocated t plan new root
   slots_go room m = record {
     moved = inr (
       inr (inl m.unloaded),
@@ -134,7 +134,7 @@ module _ (t : KeptThread) (root : ℕ) (index : ℕ) (plan : MovePlan) (ready : 
       pairs_were : t.pairs ≡ (m.unloaded.front ++ m.unloaded.before ∷ []) ++ m.unloaded.worn ∷ m.unloaded.back
       pairs_were = m.unloaded.was ∙ sym (append_assoc m.unloaded.front (m.unloaded.before ∷ []) (m.unloaded.worn ∷ m.unloaded.back))
 
-  pub root_goes : index ≡ 0 → HasRoomToUnload t plan.limit → IsRootExpanded t (array_address plan.fresh) new → HasRelocated t plan new 1
+  pub root_goes : index ≡ 0 → HasUnloadRoom t plan.limit → IsRootExpanded t (array_address plan.fresh) new → HasRelocated t plan new 1
   root_goes first room m = record {
     moved = inr (
       inr (inr m.unloaded),

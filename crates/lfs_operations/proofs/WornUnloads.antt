@@ -2,12 +2,12 @@
 use Rattle.std.proofs.Common.{ℕ, ◌≡◌, ◌≢◌, ◌+◌, ◌-◌, ◌*◌, ◌%◌, ◌^◌, ◌<◌, ◌≤◌, ◌⊎◌, inl, inr, Bool, true, false, cond, List, [], ◌∷◌, ◌++◌, length, Some, refl, sym, ap, ap₂, subst, subst₂, ◌∙◌, arith, append_assoc, length-append, slice_get, take, drop}
 use Rattle.std.specs.Prelude.{All}
 use Rattle.std.proofs.lemmas.Bool.{and_from}
-use Rattle.lfs_operations.proofs.Common.{All-from_recursion, recursion_from_All, take-append-drop, Blocks, AreUsed, content_at, Disk, FitsInPair, IsWritable, HasNoMove, no_move_from, HasEither, with_blocks, Slot, Pair, pairs_gstate, is_hard_tail, addresses_blocks, has_superblock, may_continue, count_before_root, starts_superblock, IsAccepted, all_unmoved_slots, disk_tree, used_blocks, Each, each_right, IsChain, HasFirst, file_blocks, KeptThread, SameGeometryAs, HasOldPair, ChangesThreadBlocks, BeginWithSuperblock, thread_pair, KeepsOutsideBoth, option_map, length-take-le, from_first_slots, has_slots, has_no_entry, KeepsStruct, is_worn, pair_joined_to, slot_of, first_slot_name, IsTreeEntry, IsSameWritable, Unthreads, pair_revision, KeepsSuperblockFirst, pairs_split, CanUnload, IsUnloaded, LossLeavesUnloaded, AreTwoFree, map_taking_two, SameInFlight, IsReadyImage}
+use Rattle.lfs_operations.proofs.Common.{All-from_recursion, recursion_from_All, take-append-drop, Blocks, AreUsed, content_at, Disk, FitsInPair, IsWritable, HasNoMove, no_move_from, HasEitherTree, with_blocks, Slot, Pair, pairs_gstate, is_hard_tail, addresses_blocks, has_superblock, chain_may_continue, count_before_root, superblock_first, IsAccepted, all_unmoved_slots, disk_tree, used_blocks, Each, each_right, IsChain, HasFirst, file_blocks, KeptThread, SameGeometryAs, HasOldPair, ChangesThreadBlocks, BeginWithSuperblock, thread_pair, KeepsOutsideBoth, option_map, length-take-le, pairs_from_filled, has_slots, has_no_entry, KeepsStruct, is_worn, pair_joined_to, slot_of, first_slot_name, IsTreeEntry, IsSameWritable, Unthreads, pair_revision, KeepsSuperblockFirst, pairs_split, CanUnload, IsUnloaded, LossLeavesUnloaded, AreTwoFree, map_taking_two, SameInFlight, IsReadyImage}
 use Rattle.lfs_model.specs.format.Disk.{block_count}
 use Rattle.lfs_model.specs.layers.BlockSets.{used_count}
 use Rattle.lfs_model.specs.layers.Steps.{SameFileBlocks, ends_joined}
-use Rattle.lfs_model.specs.session.Moved.{LeavesEighth, pair_behind}
-use Rattle.lfs_model.specs.tree.View.{HasStruct, IsSuperblockFirst}
+use Rattle.lfs_model.specs.session.Moved.{EighthFree, pair_behind}
+use Rattle.lfs_model.specs.tree.View.{RepeatsSuperblockStruct, IsSuperblockFirst}
 use Rattle.lfs_model.proofs.BlockSets.{used_count-AreUsed}
 use Rattle.lfs_model.proofs.MovedBlocks.{unloaded_blocks, unloaded_length}
 use Rattle.lfs_model.proofs.Relocated as laws
@@ -88,11 +88,11 @@ module _ (t : KeptThread) (ready : IsReadyImage t) (index : ℕ) (ahead : List P
     same_writable : IsSameWritable t.disk ps disk qs
     same_writable = (law.taken disk unloaded).0
 
-  left_unloaded : (left : Blocks) → LossLeavesUnloaded (with_map t (map_taking_two t.map fresh)) index fresh keep left → HasEither (with_blocks left t.disk) (disk_tree t.disk t.pairs) (disk_tree t.disk t.pairs)
+  left_unloaded : (left : Blocks) → LossLeavesUnloaded (with_map t (map_taking_two t.map fresh)) index fresh keep left → HasEitherTree (with_blocks left t.disk) (disk_tree t.disk t.pairs) (disk_tree t.disk t.pairs)
   left_unloaded left l = go l.content
     where
       go : HasOldPair (with_map t (map_taking_two t.map fresh)) index (with_blocks left t.disk) ⊎ UnloadedOnDisk (with_map t (map_taking_two t.map fresh)) index fresh keep (with_blocks left t.disk)
-          → HasEither (with_blocks left t.disk) (disk_tree t.disk t.pairs) (disk_tree t.disk t.pairs)
+          → HasEitherTree (with_blocks left t.disk) (disk_tree t.disk t.pairs) (disk_tree t.disk t.pairs)
       go (inl b) = beside.left_old t ready index ahead x back is place fresh two left l.others b
       go (inr n) =
           let s = same_writable (with_blocks left t.disk) (record {
@@ -133,7 +133,7 @@ module _ (t : KeptThread) (ready : IsReadyImage t) (index : ℕ) (ahead : List P
         let l = unloaded_length t.disk new.disk ahead x q y back (take keep x.content.slots) (beside.no_move t ready index ahead x back is place fresh two) (unloaded new.disk there_now) (law.bare new.disk (unloaded new.disk there_now)) in
         ap (λ z. length (used_blocks new.disk z)) pairs ∙ (let e = ap (λ z. length (used_blocks t.disk z)) is in omega arith)
 
-    eighth : 8 * (used_count t.map + 2) ≤ 7 * block_count t.disk → LeavesEighth new.disk new.pairs
+    eighth : 8 * (used_count t.map + 2) ≤ 7 * block_count t.disk → EighthFree new.disk new.pairs
     eighth room =
         let e = used_count-AreUsed t.map (used_blocks t.disk t.pairs) ready.accepted.owned_once ready.used in
         let c = writes.shape.count in
@@ -231,7 +231,7 @@ module _ (t : KeptThread) (index : ℕ) (fresh : ℕ × ℕ) (can : CanUnloadPai
   ok = subst (IsAccepted t.disk) (pairs_are ∙ there_is (at.other ∷ at.back)) can.ready.accepted
 
   -- only the root's first pair has a superblock
-  no_superblock : starts_superblock at.other.content.slots ≡ false
+  no_superblock : superblock_first at.other.content.slots ≡ false
   no_superblock = starts_not at.other.content.slots (each_right (λ z. All IsTreeEntry z.content.slots) r.rest (at.other ∷ at.back) (hold_each (StructMark t.disk.profile.versions ok.superblock.0) (r.rest ++ at.other ∷ at.back)
       (hold_from_rules (StructMark t.disk.profile.versions ok.superblock.0) r.chain r.first (r.rest ++ at.other ∷ at.back) is_chain ok.superblock.1.1 ok.root ok.slots).1.1)).0
 
@@ -280,7 +280,7 @@ module _ (t : KeptThread) (index : ℕ) (fresh : ℕ × ℕ) (can : CanUnloadPai
   pub pair_can : CanUnload (with_map t (map_taking_two t.map fresh)) index fresh 0
   pair_can = can_unload t can.ready index pairs_ahead at.other at.back pairs_are number_is 0 fresh two (count_before_root t.pairs) pair_law
 
-  pub pair_left : (left : Blocks) → LossLeavesUnloaded (with_map t (map_taking_two t.map fresh)) index fresh 0 left → HasEither (with_blocks left t.disk) (disk_tree t.disk t.pairs) (disk_tree t.disk t.pairs)
+  pub pair_left : (left : Blocks) → LossLeavesUnloaded (with_map t (map_taking_two t.map fresh)) index fresh 0 left → HasEitherTree (with_blocks left t.disk) (disk_tree t.disk t.pairs) (disk_tree t.disk t.pairs)
   pair_left left l = left_unloaded t can.ready index pairs_ahead at.other at.back pairs_are number_is 0 fresh two (count_before_root t.pairs) pair_law left l
 
   module _ (new : KeptThread) (done : IsUnloaded (with_map t (map_taking_two t.map fresh)) index fresh 0 new)
@@ -316,15 +316,15 @@ take_named : (slots : List Slot) → option_map (λ s. s.name) (slice_get (take 
 take_named [] = refl
 take_named (s ∷ slots) = refl
 
-take_started : (slots : List Slot) → starts_superblock (take 1 slots) ≡ starts_superblock slots
+take_started : (slots : List Slot) → superblock_first (take 1 slots) ≡ superblock_first slots
 take_started [] = refl
 take_started (s ∷ slots) = refl
 
-take_bare : (slots : List Slot) → starts_superblock slots ≡ true → has_no_entry (take 1 slots) ≡ true
+take_bare : (slots : List Slot) → superblock_first slots ≡ true → has_no_entry (take 1 slots) ≡ true
 take_bare [] e = refl
 take_bare (s ∷ slots) e = e
 
-take_few : (slots : List Slot) → starts_superblock slots ≡ true → 1 ≤ length slots
+take_few : (slots : List Slot) → superblock_first slots ≡ true → 1 ≤ length slots
 take_few [] e = absurd (cc)
 take_few (s ∷ slots) e = omega arith
 
@@ -350,10 +350,10 @@ module _ (t : KeptThread) (fresh : ℕ × ℕ) (can : CanExpandRoot t fresh) (at
   root_number : count_before_root (at.first ∷ at.others) ≡ 0
   root_number = ap count_before_root (sym at.is) ∙ can.root
 
-  root_held : IsSuperblockFirst (HasStruct t.disk.profile.versions root_accepted.superblock.0) at.first.content.slots
+  root_held : IsSuperblockFirst (RepeatsSuperblockStruct t.disk.profile.versions root_accepted.superblock.0) at.first.content.slots
   root_held = (hold_from_rules (StructMark t.disk.profile.versions root_accepted.superblock.0) [] at.first at.others root_number root_accepted.superblock.1.1 root_accepted.root root_accepted.slots).1.0
 
-  root_starts : starts_superblock at.first.content.slots ≡ true
+  root_starts : superblock_first at.first.content.slots ≡ true
   root_starts = starts at.first.content.slots (StructMark t.disk.profile.versions root_accepted.superblock.0) root_held
 
   root_law : IsLaw t [] at.first at.others 1 fresh 1
@@ -369,13 +369,13 @@ module _ (t : KeptThread) (fresh : ℕ × ℕ) (can : CanExpandRoot t fresh) (at
     where
       root_next : count_before_root (pair_joined_to fresh (take 1 at.first.content.slots) at.first ∷ pair_behind fresh at.first ∷ at.others) ≡ 1
       root_next = ap₂ (λ b n. cond b (1 + n) 0)
-          (and_from (has_superblock (pair_behind fresh at.first ∷ at.others)) (may_continue (pair_joined_to fresh (take 1 at.first.content.slots) at.first)) (meets_starting (pair_behind fresh at.first) at.others root_starts)
+          (and_from (has_superblock (pair_behind fresh at.first ∷ at.others)) (chain_may_continue (pair_joined_to fresh (take 1 at.first.content.slots) at.first)) (meets_starting (pair_behind fresh at.first) at.others root_starts)
           (and_from (has_no_entry (take 1 at.first.content.slots)) true (take_bare at.first.content.slots root_starts) refl)) root_number
 
   pub root_can : CanUnload (with_map t (map_taking_two t.map fresh)) 0 fresh 1
   root_can = can_unload t can.ready 0 [] at.first at.others at.is refl 1 fresh free 1 root_law
 
-  pub root_left : (left : Blocks) → LossLeavesUnloaded (with_map t (map_taking_two t.map fresh)) 0 fresh 1 left → HasEither (with_blocks left t.disk) (disk_tree t.disk t.pairs) (disk_tree t.disk t.pairs)
+  pub root_left : (left : Blocks) → LossLeavesUnloaded (with_map t (map_taking_two t.map fresh)) 0 fresh 1 left → HasEitherTree (with_blocks left t.disk) (disk_tree t.disk t.pairs) (disk_tree t.disk t.pairs)
   root_left left l = left_unloaded t can.ready 0 [] at.first at.others at.is refl 1 fresh free 1 root_law left l
 
   module _ (new : KeptThread) (done : IsUnloaded (with_map t (map_taking_two t.map fresh)) 0 fresh 1 new)
@@ -405,7 +405,7 @@ pub root_begins : (t : KeptThread) (fresh : ℕ × ℕ) → CanExpandRoot t fres
 root_begins t fresh can = go t.pairs refl
   where
     go : (ps : List Pair) → t.pairs ≡ ps → HasFirstPair t.pairs
-    go [] e = absurd (let k = ap (λ z. first_slot_name (from_first_slots z)) (sym e) ∙ can.ready.accepted.named in cc)
+    go [] e = absurd (let k = ap (λ z. first_slot_name (pairs_from_filled z)) (sym e) ∙ can.ready.accepted.named in cc)
     go (p ∷ ps) e = record { first = p; others = ps; is = e }
 
 -- the pair before the worn one, and the worn one

@@ -17,16 +17,16 @@ use Rattle.lfs_operations.specs.Ready.{IsReadyUnsettled, KeepsRootNumber}
 
 -- The tail that the pair before a dropped one gets. It is hard only where both tails are. Else the pair after the dropped one
 -- would continue another directory.
-abbrev pub tail_over_drop : Option Tail → Option Tail → Option Tail
-tail_over_drop front None = None
-tail_over_drop front (Some t) = Some (record { hard = is_hard_tail front && t.hard; to = t.to })
+abbrev pub tail_past_drop : Option Tail → Option Tail → Option Tail
+tail_past_drop front None = None
+tail_past_drop front (Some t) = Some (record { hard = is_hard_tail front && t.hard; to = t.to })
 
 -- the delta that the pair of that number gets, so that the global state is g once the pair after it is dropped
 abbrev pub delta_after_drop : KeptThread → ℕ → Gstate → Gstate
 delta_after_drop t front state = gstate_xor (gstate_xor (thread_pair t front).content.move (thread_pair t (front + 1)).content.move) (gstate_xor (pairs_gstate t.pairs) state)
 
 abbrev pub tail_after_drop : KeptThread → ℕ → Option Tail
-tail_after_drop t front = tail_over_drop (thread_pair t front).content.tail (thread_pair t (front + 1)).content.tail
+tail_after_drop t front = tail_past_drop (thread_pair t front).content.tail (thread_pair t (front + 1)).content.tail
 
 -- what the pair before the dropped one then holds: its slots, the dropped pair's tail, and that delta
 abbrev pub content_after_drop : KeptThread → ℕ → Gstate → PairContent

@@ -29,7 +29,7 @@ use Rattle.lfs_operations.specs.Ready.{ShowsReadyTree, IsReadyImage}
 -- ---- the last pair
 
 -- hard tails lead from the pair of the first number to that of the second, whose own tail isn't hard
-pub record IsRunEnd (ps : List Pair) (index last : ℕ) : Type 0 where
+pub record IsDirectoryEnd (ps : List Pair) (index last : ℕ) : Type 0 where
   pub below : last < length ps
   pub is : last + 1 ≡ index + joined_count (drop index ps)
 
@@ -72,12 +72,12 @@ abbrev pub FitsNewTail : KeptThread → ℕ → ℕ × ℕ → Type 0
 FitsNewTail t last fresh = (content : PairContent) → complete_after t last (threading_changes t last fresh) ≡ Some content → FitsInPair t.disk.block_size t.disk.page content
 
 -- The fresh pair can come into the thread after the last one, and what that pair then holds fits it.
-pub record CanLink (t : KeptThread) (last : ℕ) (fresh : ℕ × ℕ) : Type 0 where
+pub record CanLinkPairAfter (t : KeptThread) (last : ℕ) (fresh : ℕ × ℕ) : Type 0 where
   pub can : CanThreadIn t last fresh (threading_changes t last fresh)
   pub fits : FitsNewTail t last fresh
 
 -- what the first step reports, and whether the thread has failed after it
-pub record ReportsErrorsOfLink {X : Type 0} (old new : ThreadView) (fresh : ℕ × ℕ) (result : Result X Error) : Type 0 where
+pub record ReportsPairLink {X : Type 0} (old new : ThreadView) (fresh : ℕ × ℕ) (result : Result X Error) : Type 0 where
   pub failed : new.failed ≡ is_err result
   pub reported : ThreadReportsKeepingOthers (address_blocks fresh) old.kept new.kept result
 
@@ -96,7 +96,7 @@ pub record IsDirectoryMade (old new : KeptThread) (path : Path) (name : Name) : 
 -- Neither the pair nor the directory's last pair stays with what it held.
 pub record AreBothTouched (old : KeptThread) (pair : ℕ) (new : KeptThread) : Type 0 where
   pub entry : IsPairTouched old pair new
-  pub end : (last : ℕ) → IsRunEnd old.pairs pair last → IsPairTouched old last new
+  pub end : (last : ℕ) → IsDirectoryEnd old.pairs pair last → IsPairTouched old last new
 
 -- `Io` comes with a fault of the device, and any other result with none. After an error the thread has failed.
 pub record ReportsMaking {X : Type 0} (old new : ThreadView) (result : Result X Error) : Type 0 where
@@ -108,7 +108,7 @@ pub record ReportsMaking {X : Type 0} (old new : ThreadView) (result : Result X 
 -- No block changed but those of the pair and of the directory's last pair, and at most four that were free.
 pub record WritesPairsFour (old : KeptThread) (pair : ℕ) (new : KeptThread) : Type 0 where
   pub last : ℕ
-  pub is_last : IsRunEnd old.pairs pair last
+  pub is_last : IsDirectoryEnd old.pairs pair last
   pub fresh : List ℕ
   pub few : length fresh ≤ 4
   pub free : AllByRecursion (IsFree old.map) fresh

@@ -61,14 +61,14 @@ content_move_ended t pair id = record {
 }
 
 -- the pair that is written: the slot's, or the one before it where that is dropped
-abbrev pub written_at_end : ℕ → Bool → ℕ
-written_at_end pair goes = if goes then pair - 1 else pair
+abbrev pub written_by_ending : ℕ → Bool → ℕ
+written_by_ending pair goes = if goes then pair - 1 else pair
 
 abbrev pub pairs_move_ended : KeptThread → ℕ → ℕ → Bool → List Pair
 pairs_move_ended t pair id goes = if goes then remove t.pairs pair else pairs_with t pair (content_move_ended t pair id)
 
-abbrev pub dropped_at_end : KeptThread → ℕ → Bool → List ℕ
-dropped_at_end t pair goes = if goes then address_blocks (thread_pair t pair).at else []
+abbrev pub dropped_by_ending : KeptThread → ℕ → Bool → List ℕ
+dropped_by_ending t pair goes = if goes then address_blocks (thread_pair t pair).at else []
 
 abbrev pub map_move_ended : KeptThread → ℕ → Bool → BlockStates
 map_move_ended t pair goes = if goes then map_freeing t.map (thread_pair t pair).at else t.map
@@ -80,7 +80,7 @@ pub record HasEndedAt (old : KeptThread) (pair id : ℕ) (goes : Bool) (new : Ke
   pub state : pairs_gstate new.pairs ≡ gstate_without_move (pairs_gstate old.pairs)
   pub alike : SameSlots (pairs_move_ended old pair id goes) new.pairs
   pub map : new.map ≡ map_move_ended old pair goes
-  pub blocks : (b : ℕ) → number_occurrences b (used_blocks new.disk new.pairs) + number_occurrences b (dropped_at_end old pair goes) ≡ number_occurrences b (used_blocks old.disk old.pairs)
+  pub blocks : (b : ℕ) → number_occurrences b (used_blocks new.disk new.pairs) + number_occurrences b (dropped_by_ending old pair goes) ≡ number_occurrences b (used_blocks old.disk old.pairs)
   pub shape : SameGeometryAs old.disk new.disk
   -- The directories begin where they did. A pair without slots that ends its directory stays as it is. A recovery may go on.
   pub begins : directory_addresses (all_directories new.pairs) ≡ directory_addresses (all_directories old.pairs)

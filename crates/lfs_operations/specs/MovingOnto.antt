@@ -20,7 +20,7 @@ use Rattle.lfs_operations.specs.Editing.{CanEditIn, editable_slot}
 use Rattle.lfs_operations.specs.Dropping.{ShowsDroppedTree}
 use Rattle.lfs_operations.specs.Ready.{IsRawFormed}
 use Rattle.lfs_operations.specs.Removing.{drops_with_its_slot}
-use Rattle.lfs_operations.specs.MovingSteps.{IsPutEnded}
+use Rattle.lfs_operations.specs.MovingSteps.{ArePutAndEnded}
 use Rattle.lfs_operations.specs.MovingAcross.{CanRenameAcross, moving_changes, tree_moved}
 
 -- the changes to the new pair onto an entry: the slot that was there is removed; the sync bit is set or not
@@ -77,7 +77,7 @@ tree_across t true sync old_pair old_id first new_pair new_id name rename = tree
 -- A copy of the slot was put in, and then the move ended.
 pub record IsMovedAcross (old : KeptThread) (replaces sync : Bool) (old_pair old_id first new_pair new_id : ℕ) (name : Name) (new : KeptThread) : Type 0 where
   pub address : AreWords (thread_pair old old_pair).at
-  pub done : IsPutEnded old old_pair old_id (drops_with_its_slot old old_pair first) new_pair (moving_changes replaces sync old old_pair old_id new_pair new_id name) new
+  pub done : ArePutAndEnded old old_pair old_id (drops_with_its_slot old old_pair first) new_pair (moving_changes replaces sync old old_pair old_id new_pair new_id name) new
 
 -- The tree has the entry in the file's place. So a rename of its path onto the file's is completed. The blocks of the file's list
 -- are `gone`, each once, and none of them is the image's.

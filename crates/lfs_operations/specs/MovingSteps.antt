@@ -16,14 +16,14 @@ use Rattle.lfs_thread.specs.ThreadDevice.{CleanLossLeaves}
 use Rattle.lfs_thread.specs.ThreadSteps.{OnlyReadsThread, ChangesThreadBlocks, thread_pair}
 use Rattle.lfs_operations.specs.Changing.{CanPut, HasTwoFree, LeftByPut, ArePut, OverfillsPair, TakesAtMostTwo, has_failed_after}
 use Rattle.lfs_operations.specs.Removing.{drops_with_its_slot}
-use Rattle.lfs_operations.specs.MoveEnds.{CanEndAt, written_at_end, HasEndedAt}
+use Rattle.lfs_operations.specs.MoveEnds.{CanEndAt, written_by_ending, HasEndedAt}
 
 -- the number of a pair after so many were put in after another one
 abbrev pub number_after_insertion : ℕ → ℕ → ℕ → ℕ
 number_after_insertion pair other fresh = if nat_lt pair other then pair else pair + fresh
 
 -- after the first step the move can end at the old pair
-pub record CanEndSecond (old : KeptThread) (old_pair old_id : ℕ) (goes : Bool) (new_pair : ℕ) (mid : KeptThread) : Type 0 where
+pub record CanEndAfterPut (old : KeptThread) (old_pair old_id : ℕ) (goes : Bool) (new_pair : ℕ) (mid : KeptThread) : Type 0 where
   pub apart : old_pair ≢ new_pair
   pub grown : length old.pairs ≤ length mid.pairs
   pub can : CanEndAt mid (number_after_insertion old_pair new_pair (length mid.pairs - length old.pairs)) old_id goes
@@ -32,10 +32,10 @@ pub record CanEndSecond (old : KeptThread) (old_pair old_id : ℕ) (goes : Bool)
 -- The changes can be put into the new pair, and then the move can end at the old one.
 pub record CanPutAndEnd (t : KeptThread) (old_pair old_id : ℕ) (goes : Bool) (new_pair : ℕ) (changes : List PairChange) : Type 0 where
   pub turns : CanPut t new_pair changes
-  pub ends : (mid : KeptThread) → ArePut t new_pair changes mid → CanEndSecond t old_pair old_id goes new_pair mid
+  pub ends : (mid : KeptThread) → ArePut t new_pair changes mid → CanEndAfterPut t old_pair old_id goes new_pair mid
 
 -- The changes were put into the new pair, and then the move ended. Pairs have no new blocks but at most two that were free.
-pub record IsPutEnded (old : KeptThread) (old_pair old_id : ℕ) (goes : Bool) (new_pair : ℕ) (changes : List PairChange) (new : KeptThread) : Type 0 where
+pub record ArePutAndEnded (old : KeptThread) (old_pair old_id : ℕ) (goes : Bool) (new_pair : ℕ) (changes : List PairChange) (new : KeptThread) : Type 0 where
   pub mid : KeptThread
   pub put : ArePut old new_pair changes mid
   pub ended : HasEndedAt mid (number_after_insertion old_pair new_pair (length mid.pairs - length old.pairs)) old_id goes new
@@ -43,7 +43,7 @@ pub record IsPutEnded (old : KeptThread) (old_pair old_id : ℕ) (goes : Bool) (
 
 -- the pair that the second step writes: the old one, or the one before it where that is dropped with its slot
 abbrev pub second_pair : KeptThread → ℕ → ℕ → ℕ
-second_pair t pair first = written_at_end pair (drops_with_its_slot t pair first)
+second_pair t pair first = written_by_ending pair (drops_with_its_slot t pair first)
 
 -- If a stop in the first step leaves a disk with one of two trees, and the first step leads to the second tree, then a stop in
 -- either step leaves one of them.

@@ -28,8 +28,8 @@ abbrev pub KeepsTakenStates : BlockStates → BlockStates → Type 0
 KeepsTakenStates old new = (b : ℕ) → (IsFree old b → ⊥) → slice_get new b ≡ slice_get old b
 
 -- a block that is in flight was so before
-abbrev pub HasNoneNew : BlockStates → BlockStates → Type 0
-HasNoneNew old new = (b : ℕ) → IsInFlight new b → IsInFlight old b
+abbrev pub AddsNoneInFlight : BlockStates → BlockStates → Type 0
+AddsNoneInFlight old new = (b : ℕ) → IsInFlight new b → IsInFlight old b
 
 -- as many pairs as before come before the root directory's first one
 abbrev pub KeepsRootNumber : KeptThread → KeptThread → Type 0
@@ -45,7 +45,7 @@ pub record ShowsReadyTree (old new : KeptThread) (tree : Tree) : Type 0 where
   pub ready : IsReadyImage new
   pub shows : disk_tree new.disk new.pairs ≡ tree
   pub stays : KeepsTakenStates old.map new.map
-  pub none_comes : HasNoneNew old.map new.map
+  pub none_comes : AddsNoneInFlight old.map new.map
   pub root : KeepsRootNumber old new
 
 -- The map's used blocks are `used` without `come` and with `gone`.
@@ -67,5 +67,5 @@ pub record ShowsUnsettledTree (old new : KeptThread) (tree : Tree) (gone come : 
   pub ready : IsReadyUnsettled new gone come
   pub shows : disk_tree new.disk new.pairs ≡ tree
   pub stays : KeepsTakenStates old.map new.map
-  pub none_comes : HasNoneNew old.map new.map
+  pub none_comes : AddsNoneInFlight old.map new.map
   pub root : KeepsRootNumber old new

@@ -53,7 +53,7 @@ pub record IsDirectoryRemoved (old new : KeptThread) (path : Path) (name : Name)
 
 -- The pair before the directory's own one doesn't stay with what it held. Nor does the one before the entry's pair, where that is
 -- dropped too.
-pub record AreFrontsTouched (old : KeptThread) (pair first gone : ℕ) (new : KeptThread) : Type 0 where
+pub record ArePairsBeforeTouched (old : KeptThread) (pair first gone : ℕ) (new : KeptThread) : Type 0 where
   pub front : IsPairTouched old (gone - 1) new
   pub entry : drops_with_its_slot old pair first ≡ true → IsPairTouched old (pair - 1) new
 

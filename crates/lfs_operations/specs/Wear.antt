@@ -31,8 +31,8 @@ pub record ShowsSameFiles (old new : KeptThread) : Type 0 where
 -- ---- a pair moves whole
 
 -- the pair at the new address goes on with the next revision
-abbrev pub RevisionGoesOn : Disk → ℕ × ℕ → Disk → ℕ × ℕ → Type 0
-RevisionGoesOn old from new to = pair_revision new to ≡ option_map (λ r. (r + 1) % 2 ^ 32) (pair_revision old from)
+abbrev pub ContinuesRevision : Disk → ℕ × ℕ → Disk → ℕ × ℕ → Type 0
+ContinuesRevision old from new to = pair_revision new to ≡ option_map (λ r. (r + 1) % 2 ^ 32) (pair_revision old from)
 
 -- The image may be changed. The pair is worn, and follows a hard tail. The two blocks are free.
 pub record CanMovePair (t : KeptThread) (index : ℕ) (fresh : ℕ × ℕ) : Type 0 where
@@ -51,14 +51,14 @@ pub record IsMovedAt (old : KeptThread) (index : ℕ) (fresh : ℕ × ℕ) (new 
   pub number : length moved.front + 1 ≡ index
   pub files : ShowsSameFiles old new
   pub others : KeepsOutsideBoth moved.before.at fresh old.disk.blocks new.disk.blocks
-  pub revision : RevisionGoesOn old.disk moved.worn.at new.disk moved.to
+  pub revision : ContinuesRevision old.disk moved.worn.at new.disk moved.to
   pub as_many : length (used_blocks new.disk new.pairs) ≡ length (used_blocks old.disk old.pairs)
   pub root : KeepsRootNumber old new
 
 -- ---- a pair gives its slots away
 
 -- Two more blocks may be used. When they are, an eighth of the blocks isn't.
-pub record HasRoomToUnload (t : KeptThread) (limit : ℕ) : Type 0 where
+pub record HasUnloadRoom (t : KeptThread) (limit : ℕ) : Type 0 where
   pub within : used_count t.map + 2 ≤ limit
   pub eighth : 8 * (used_count t.map + 2) ≤ 7 * block_count t.disk
 
@@ -85,7 +85,7 @@ pub record IsUnloadedAt (old : KeptThread) (index : ℕ) (fresh : ℕ × ℕ) (n
   pub number : length unloaded.front + 1 ≡ index
   pub files : ShowsSameFiles old new
   pub others : KeepsOutsideBoth unloaded.worn.at fresh old.disk.blocks new.disk.blocks
-  pub revision : RevisionGoesOn old.disk unloaded.worn.at new.disk unloaded.to
+  pub revision : ContinuesRevision old.disk unloaded.worn.at new.disk unloaded.to
   pub two_more : length (used_blocks new.disk new.pairs) ≡ length (used_blocks old.disk old.pairs) + 2
   pub root : KeepsRootNumber old new
 
@@ -104,7 +104,7 @@ pub record IsRootExpanded (old : KeptThread) (fresh : ℕ × ℕ) (new : KeptThr
   pub to : unloaded.to ≡ fresh
   pub files : ShowsSameFiles old new
   pub others : KeepsOutsideBoth unloaded.worn.at fresh old.disk.blocks new.disk.blocks
-  pub revision : RevisionGoesOn old.disk unloaded.worn.at new.disk unloaded.to
+  pub revision : ContinuesRevision old.disk unloaded.worn.at new.disk unloaded.to
   pub two_more : length (used_blocks new.disk new.pairs) ≡ length (used_blocks old.disk old.pairs) + 2
   pub root : count_before_root new.pairs ≡ 1
 

@@ -9,7 +9,7 @@ ghost use Rattle.lfs_thread.specs.ThreadDevice.{CleanLossLeaves};
 ghost use Rattle.lfs_thread.specs.ThreadSteps.{IsPairCommitted, LossLeavesPair, ChangesThreadBlocks, thread_pair};
 ghost use Rattle.lfs_operations.specs.Editing.{CanEditIn};
 ghost use Rattle.lfs_operations.specs.Removing.{ReportsCommit, drops_with_its_slot, tree_without_entry, written_by_removal};
-ghost use Rattle.lfs_operations.specs.Unlinking.{AreFrontsTouched, CanRemoveDirectory, IsDirectoryRemoved, ReportsCommits, unlink_changes, number_after_drop};
+ghost use Rattle.lfs_operations.specs.Unlinking.{ArePairsBeforeTouched, CanRemoveDirectory, IsDirectoryRemoved, ReportsCommits, unlink_changes, number_after_drop};
 ghost use Rattle.lfs_model.specs.format.Thread.{address_blocks, addresses_blocks};
 
 use crate::changes::commit_fitting;
@@ -22,7 +22,7 @@ use lfs_thread::{Thread, gstate_xor_delta};
 use std::alloc::Global;
 
 // Returns the delta that turns the sync bit.
-pub(crate) fn sync_delta() -> MoveState
+pub(crate) fn delta_turning_sync() -> MoveState
     ensures { move_view result ≡ sync_bit_delta }
 {
     MoveState {
@@ -48,7 +48,7 @@ fn unlink_directory_entry<D: BlockDevice>(
     ensures device { ChangesThreadBlocks (address_blocks (thread_pair thread.old.kept pair).at) thread.old.kept thread.new.kept }
     ensures stops { CleanLossLeaves thread.old.kept.history thread.new.kept.history (LossLeavesPair thread.old.kept pair (unlink_changes thread.old.kept pair id)) }
 {
-    let state = gstate_xor_delta(&thread.delta(pair), &sync_delta());
+    let state = gstate_xor_delta(&thread.delta(pair), &delta_turning_sync());
     let changes = [Change::Delete { id }, Change::Move { state }];
     // What is left fits, so the commit is never refused.
     commit_fitting(alloc, thread, pair, &changes)
@@ -74,7 +74,7 @@ fn remove_keeping_pair<D: BlockDevice>(
     requires can { CanRemoveDirectory thread.old.kept pair id first gone }
     requires stays { drops_with_its_slot thread.old.kept pair first ≡ false }
     ensures is_removed { OnOk result ((take : CanRemoveDirectory thread.old.kept pair id first gone) → IsDirectoryRemoved thread.old.kept thread.new.kept take.can.path take.can.name) }
-    ensures alters { OnOk result (AreFrontsTouched thread.old.kept pair first gone thread.new.kept) }
+    ensures alters { OnOk result (ArePairsBeforeTouched thread.old.kept pair first gone thread.new.kept) }
     ensures errors { ReportsCommits thread.old thread.new result }
     ensures device { ChangesThreadBlocks (addresses_blocks (written_by_removal thread.old.kept pair first) (thread_pair thread.old.kept (gone - 1)).at) thread.old.kept thread.new.kept }
     ensures survives { (take : CanRemoveDirectory thread.old.kept pair id first gone) → SurvivesLossSince thread.old.kept.disk thread.old.kept.history thread.new.kept.history
@@ -97,13 +97,13 @@ fn remove_with_pair<D: BlockDevice>(
     requires can { CanRemoveDirectory thread.old.kept pair id first gone }
     requires goes { drops_with_its_slot thread.old.kept pair first ≡ true }
     ensures is_removed { OnOk result ((take : CanRemoveDirectory thread.old.kept pair id first gone) → IsDirectoryRemoved thread.old.kept thread.new.kept take.can.path take.can.name) }
-    ensures alters { OnOk result (AreFrontsTouched thread.old.kept pair first gone thread.new.kept) }
+    ensures alters { OnOk result (ArePairsBeforeTouched thread.old.kept pair first gone thread.new.kept) }
     ensures errors { ReportsCommits thread.old thread.new result }
     ensures device { ChangesThreadBlocks (addresses_blocks (written_by_removal thread.old.kept pair first) (thread_pair thread.old.kept (gone - 1)).at) thread.old.kept thread.new.kept }
     ensures survives { (take : CanRemoveDirectory thread.old.kept pair id first gone) → SurvivesLossSince thread.old.kept.disk thread.old.kept.history thread.new.kept.history
         (disk_tree thread.old.kept.disk thread.old.kept.pairs) (tree_without_entry thread.old.kept take.can.path take.can.name) }
 {
-    drop_pair_at(alloc, thread, pair, &sync_delta())?;
+    drop_pair_at(alloc, thread, pair, &delta_turning_sync())?;
     drop_pair_at(
         alloc,
         thread,
@@ -132,7 +132,7 @@ pub fn remove_directory<D: BlockDevice>(
     requires works { thread.old.failed ≡ false }
     requires can { CanRemoveDirectory thread.old.kept pair id first gone }
     ensures is_removed { OnOk result ((take : CanRemoveDirectory thread.old.kept pair id first gone) → IsDirectoryRemoved thread.old.kept thread.new.kept take.can.path take.can.name) }
-    ensures alters { OnOk result (AreFrontsTouched thread.old.kept pair first gone thread.new.kept) }
+    ensures alters { OnOk result (ArePairsBeforeTouched thread.old.kept pair first gone thread.new.kept) }
     ensures errors { ReportsCommits thread.old thread.new result }
     ensures device { ChangesThreadBlocks (addresses_blocks (written_by_removal thread.old.kept pair first) (thread_pair thread.old.kept (gone - 1)).at) thread.old.kept thread.new.kept }
     ensures survives { (take : CanRemoveDirectory thread.old.kept pair id first gone) → SurvivesLossSince thread.old.kept.disk thread.old.kept.history thread.new.kept.history

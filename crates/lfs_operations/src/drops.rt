@@ -8,7 +8,7 @@ ghost use Rattle.lfs_tag.specs.ContentView.{tail_view};
 ghost use Rattle.lfs_tag.specs.FieldsView.{move_view};
 ghost use Rattle.lfs_thread.specs.ThreadDevice.{CleanLossLeaves};
 ghost use Rattle.lfs_thread.specs.ThreadSteps.{ChangesThreadBlocks, complete_after, thread_pair, tail_change};
-ghost use Rattle.lfs_operations.specs.Dropping.{CanDropAt, IsPairDropped, LeftByDrop, delta_after_drop, tail_over_drop, dropping_changes, content_after_drop};
+ghost use Rattle.lfs_operations.specs.Dropping.{CanDropAt, IsPairDropped, LeftByDrop, delta_after_drop, tail_past_drop, dropping_changes, content_after_drop};
 ghost use Rattle.lfs_operations.specs.Removing.{ReportsCommit};
 
 use lfs_device::{BlockDevice, Error};
@@ -18,8 +18,8 @@ use lfs_thread::{Thread, gstate_xor_delta};
 use std::alloc::Global;
 
 // Returns the change that gives a pair with the tail `front` the tail of a dropped pair, `gone`.
-fn tail_over_dropped(front: Option<Tail>, gone: Option<Tail>) -> Change<'static>
-    ensures { change_view result ≡ tail_change (tail_over_drop (option_map tail_view front) (option_map tail_view gone)) }
+fn tail_past_dropped(front: Option<Tail>, gone: Option<Tail>) -> Change<'static>
+    ensures { change_view result ≡ tail_change (tail_past_drop (option_map tail_view front) (option_map tail_view gone)) }
 {
     match gone {
         None => Change::Tail {
@@ -51,7 +51,7 @@ fn delta_before_dropped<D: BlockDevice>(
 }
 
 // Returns the changes by which the pair before the dropped one takes over its tail and its delta.
-fn drop_changes_at<D: BlockDevice>(
+fn changes_for_drop<D: BlockDevice>(
     thread: &Thread<D>,
     index: usize,
     state: &MoveState,
@@ -64,7 +64,7 @@ fn drop_changes_at<D: BlockDevice>(
     // A device holds bytes, so what its logs say can be written again.
     let _device = thread.device();
     [
-        tail_over_dropped(thread.tail_of_pair(index - 1), thread.tail_of_pair(index)),
+        tail_past_dropped(thread.tail_of_pair(index - 1), thread.tail_of_pair(index)),
         Change::Move {
             state: delta_before_dropped(thread, index, state),
         },
@@ -90,7 +90,7 @@ pub(crate) fn drop_pair_at<D: BlockDevice>(
     ensures device { ChangesThreadBlocks (address_blocks (thread_pair thread.old.kept (index - 1)).at) thread.old.kept thread.new.kept }
     ensures stops { CleanLossLeaves thread.old.kept.history thread.new.kept.history (LeftByDrop thread.old.kept (index - 1) (move_view state.now)) }
 {
-    let changes = drop_changes_at(thread, index, state);
+    let changes = changes_for_drop(thread, index, state);
     // The slots stay, and a pair has room of its own for tail and delta. So the commit is never
     // refused.
     thread.drop_next(alloc, index - 1, &changes)?;

@@ -3,7 +3,7 @@
 ghost use Rattle.std.specs.Prelude.{◌≡◌, ◌<◌, ◌-◌, ◌^◌, ◌∷◌, ◌++◌, true, false, length, IfOk, OnOk};
 ghost use Rattle.lfs_model.specs.layers.Changes.{PutMove};
 ghost use Rattle.lfs_model.specs.format.Slots.{gstate_xor};
-ghost use Rattle.lfs_operations.specs.RenamingView.{slot_copy};
+ghost use Rattle.lfs_operations.specs.RenamingView.{slot_copy_view};
 ghost use Rattle.lfs_operations.specs.RenamingSlots.{slot_changes};
 ghost use Rattle.lfs_model.specs.layers.LoggedContent.{AreWords};
 ghost use Rattle.lfs_model.specs.crash.PowerLoss.{SurvivesLossSince};
@@ -14,8 +14,8 @@ ghost use Rattle.lfs_thread.specs.ThreadSteps.{ChangesThreadBlocks, thread_pair}
 ghost use Rattle.lfs_pair.specs.ChangeView.{changes_view};
 ghost use Rattle.lfs_operations.specs.Altering.{WritesTouchedFree};
 ghost use Rattle.lfs_operations.specs.Changing.{WritesThreadTwo};
-ghost use Rattle.lfs_operations.specs.MoveEnds.{CanEndAt, HasEndedAt, written_at_end, gstate_naming, delta_without_move};
-ghost use Rattle.lfs_operations.specs.MovingSteps.{CanPutAndEnd, IsPutEnded, SurvivesCommits, ReportsTakingCommits, WritesPairsTwo, second_pair, number_after_insertion};
+ghost use Rattle.lfs_operations.specs.MoveEnds.{CanEndAt, HasEndedAt, written_by_ending, gstate_naming, delta_without_move};
+ghost use Rattle.lfs_operations.specs.MovingSteps.{CanPutAndEnd, ArePutAndEnded, SurvivesCommits, ReportsTakingCommits, WritesPairsTwo, second_pair, number_after_insertion};
 ghost use Rattle.lfs_operations.specs.MovingAcross.{CanRenameAcross, IsRenamedAcross, across_changes, clearing_changes, moving_changes, tree_moved};
 ghost use Rattle.lfs_operations.specs.MovingOnto.{CanMoveAcross, CanReplaceFileAcross, CanReplaceDirectoryAcross, IsMovedAcross, IsFileReplaced, entry_across_changes, file_across_changes, tree_across};
 ghost use Rattle.lfs_operations.specs.Removing.{ReportsCommit};
@@ -82,7 +82,7 @@ fn end_by_commit<D: BlockDevice>(
 }
 
 // Returns the global state without the move that is set.
-fn settled_gstate<D: BlockDevice>(thread: &Thread<D>) -> MoveState
+fn moveless_gstate<D: BlockDevice>(thread: &Thread<D>) -> MoveState
     requires { thread.now.failed ≡ false }
     ensures { move_view result ≡ gstate_without_move (pairs_gstate thread.now.kept.pairs) }
 {
@@ -106,7 +106,7 @@ fn end_by_drop<D: BlockDevice>(
     ensures survives { SurvivesLossSince thread.old.kept.disk thread.old.kept.history thread.new.kept.history
         (disk_tree thread.old.kept.disk thread.old.kept.pairs) (disk_tree thread.old.kept.disk thread.old.kept.pairs) }
 {
-    let state = settled_gstate(thread);
+    let state = moveless_gstate(thread);
     drop_pair_at(alloc, thread, pair, &state)
 }
 
@@ -123,7 +123,7 @@ pub(crate) fn end_move<D: BlockDevice>(
     requires can { CanEndAt thread.old.kept pair id goes }
     ensures ended { OnOk result (HasEndedAt thread.old.kept pair id goes thread.new.kept) }
     ensures errors { ReportsCommit thread.old thread.new result }
-    ensures device { ChangesThreadBlocks (address_blocks (thread_pair thread.old.kept (written_at_end pair goes)).at) thread.old.kept thread.new.kept }
+    ensures device { ChangesThreadBlocks (address_blocks (thread_pair thread.old.kept (written_by_ending pair goes)).at) thread.old.kept thread.new.kept }
     ensures survives { SurvivesLossSince thread.old.kept.disk thread.old.kept.history thread.new.kept.history
         (disk_tree thread.old.kept.disk thread.old.kept.pairs) (disk_tree thread.old.kept.disk thread.old.kept.pairs) }
 {
@@ -153,9 +153,9 @@ fn put_and_end<D: BlockDevice>(
 ) -> Result<(), Error>
     requires works { thread.old.failed ≡ false }
     requires can { CanPutAndEnd thread.old.kept route.old_pair route.old_id goes route.new_pair (changes_view changes.now) }
-    ensures done { OnOk result (IsPutEnded thread.old.kept route.old_pair route.old_id goes route.new_pair (changes_view changes.now) thread.new.kept) }
+    ensures done { OnOk result (ArePutAndEnded thread.old.kept route.old_pair route.old_id goes route.new_pair (changes_view changes.now) thread.new.kept) }
     ensures errors { ReportsTakingCommits thread.old thread.new route.new_pair (changes_view changes.now) result }
-    ensures device { WritesPairsTwo thread.old.kept (written_at_end route.old_pair goes) route.new_pair thread.new.kept }
+    ensures device { WritesPairsTwo thread.old.kept (written_by_ending route.old_pair goes) route.new_pair thread.new.kept }
     ensures survives { SurvivesCommits thread.old.kept route.new_pair (changes_view changes.now) thread.new.kept }
 {
     let before = thread.len();
@@ -186,7 +186,7 @@ fn move_setting_delta<D: BlockDevice>(thread: &Thread<D>, route: Route, sync: bo
 }
 
 // Adds the change that removes the slot at an id, if that slot is replaced.
-fn push_clearing<'a>(
+fn push_slot_removal<'a>(
     changes: &mut Vec<Change<'a>>,
     replaces: bool,
     id: u16,
@@ -209,11 +209,11 @@ fn moving_changes<'a>(
     name: &'a [u8],
     copy: &'a SlotCopy,
 ) -> Result<Vec<Change<'a>>, AllocError>
-    ensures { IfOk result (λ changes. changes_view changes.items ≡ PutMove (move_view state) ∷ (clearing_changes replaces id ++ slot_changes id name.now (slot_copy copy.now))) }
+    ensures { IfOk result (λ changes. changes_view changes.items ≡ PutMove (move_view state) ∷ (clearing_changes replaces id ++ slot_changes id name.now (slot_copy_view copy.now))) }
 {
     let mut changes = Vec::new(alloc);
     changes.push(Change::Move { state })?;
-    push_clearing(&mut changes, replaces, id)?;
+    push_slot_removal(&mut changes, replaces, id)?;
     push_slot_changes(&mut changes, id, name, copy)?;
     Ok(changes)
 }

@@ -3,7 +3,7 @@
 ghost use Rattle.std.specs.Prelude.{◌≡◌, ◌<◌, ◌^◌, ℕ, false, length, Err, OnOk};
 ghost use Rattle.lfs_device.specs.Bytes.{AreByteBlocks};
 ghost use Rattle.lfs_model.specs.format.Disk.{block_count};
-ghost use Rattle.lfs_model.specs.crash.PowerLoss.{HasEither, SurvivesLossSince};
+ghost use Rattle.lfs_model.specs.crash.PowerLoss.{HasEitherTree, SurvivesLossSince};
 ghost use Rattle.lfs_model.specs.format.Slots.{array_address};
 ghost use Rattle.lfs_model.specs.tree.Shown.{disk_tree};
 ghost use Rattle.lfs_model.specs.layers.Steps.{with_sync_inverted};
@@ -11,7 +11,7 @@ ghost use Rattle.lfs_tag.specs.FieldsView.{move_view};
 ghost use Rattle.lfs_thread.specs.ThreadDevice.{CleanLossLeaves};
 ghost use Rattle.lfs_thread.specs.ThreadSteps.{IsThreadedIn, LossLeavesThreaded, ChangesThreadBlocks, thread_pair};
 ghost use Rattle.lfs_operations.specs.Changing.{CanPut, LeftByPut, ArePut, ReportsPut, WritesPairTwo};
-ghost use Rattle.lfs_operations.specs.Making.{AreBothTouched, CanLink, CanMakeAt, IsRunEnd, IsDirectoryMade, ReportsErrorsOfLink, ReportsMaking, WritesPairsFour, entry_changes, directory_entry_changes, threading_changes, tree_with_directory};
+ghost use Rattle.lfs_operations.specs.Making.{AreBothTouched, CanLinkPairAfter, CanMakeAt, IsDirectoryEnd, IsDirectoryMade, ReportsPairLink, ReportsMaking, WritesPairsFour, entry_changes, directory_entry_changes, threading_changes, tree_with_directory};
 ghost use Rattle.lfs_model.specs.format.Thread.{address_blocks, addresses_blocks};
 
 use crate::changes::{change_or_split, take_two_blocks};
@@ -36,7 +36,7 @@ pub(crate) fn lemma_device_facts<D: BlockDevice>(thread: &Thread<D>)
 fn last_directory_pair<D: BlockDevice>(thread: &Thread<D>, index: usize) -> usize
     requires works { thread.now.failed ≡ false }
     requires below { index < length thread.now.kept.pairs }
-    ensures { IsRunEnd thread.now.kept.pairs index result }
+    ensures { IsDirectoryEnd thread.now.kept.pairs index result }
 {
     let mut last = index;
     while let Some(next) = thread.next(last) {
@@ -67,9 +67,9 @@ fn link_pair_after<D: BlockDevice>(
     fresh: [u32; 2],
 ) -> Result<(), Error>
     requires works { thread.old.failed ≡ false }
-    requires can { CanLink thread.old.kept last (array_address fresh) }
+    requires can { CanLinkPairAfter thread.old.kept last (array_address fresh) }
     ensures is_joined { OnOk result (IsThreadedIn thread.old.kept last (array_address fresh) (threading_changes thread.old.kept last (array_address fresh)) thread.new.kept) }
-    ensures errors { ReportsErrorsOfLink thread.old thread.new (array_address fresh) result }
+    ensures errors { ReportsPairLink thread.old thread.new (array_address fresh) result }
     ensures device { ChangesThreadBlocks (addresses_blocks (thread_pair thread.old.kept last).at (array_address fresh)) thread.old.kept thread.new.kept }
     ensures stops { CleanLossLeaves thread.old.kept.history thread.new.kept.history (LossLeavesThreaded thread.old.kept last (array_address fresh) (threading_changes thread.old.kept last (array_address fresh))) }
 {
@@ -122,7 +122,7 @@ fn put_directory_entry<'a, D: BlockDevice>(
 }
 
 // Puts the entry of the directory that begins at an address into a pair, and clears the sync bit.
-fn put_new_entry<D: BlockDevice>(
+fn put_branch_entry<D: BlockDevice>(
     alloc: Global,
     thread: &mut Thread<D>,
     pair: usize,
@@ -163,7 +163,7 @@ pub fn make_directory<D: BlockDevice>(
     ensures alters { OnOk result (AreBothTouched thread.old.kept pair thread.new.kept) }
     ensures errors { ReportsMaking thread.old thread.new result }
     ensures device { WritesPairsFour thread.old.kept pair thread.new.kept }
-    ensures stands { result ≡ Err Error.NoMemory → (can : CanMakeAt thread.old.kept pair id name.now) → HasEither thread.new.kept.disk
+    ensures stands { result ≡ Err Error.NoMemory → (can : CanMakeAt thread.old.kept pair id name.now) → HasEitherTree thread.new.kept.disk
         (disk_tree thread.old.kept.disk thread.old.kept.pairs) (tree_with_directory thread.old.kept can.path name.now) }
     ensures survives { (can : CanMakeAt thread.old.kept pair id name.now) → SurvivesLossSince thread.old.kept.disk thread.old.kept.history thread.new.kept.history
         (disk_tree thread.old.kept.disk thread.old.kept.pairs) (tree_with_directory thread.old.kept can.path name.now) }
@@ -175,5 +175,5 @@ pub fn make_directory<D: BlockDevice>(
     };
     link_pair_after(alloc, thread, last, fresh)?;
     lemma_device_facts(thread);
-    put_new_entry(alloc, thread, pair, id, name, fresh)
+    put_branch_entry(alloc, thread, pair, id, name, fresh)
 }

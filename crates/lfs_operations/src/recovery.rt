@@ -28,7 +28,7 @@ use lfs_thread::{Thread, gstate_xor_delta, number_at_address};
 use std::alloc::Global;
 
 // Returns the delta that a pair gets, so that the global state becomes `wanted`.
-fn delta_to_gstate<D: BlockDevice>(
+fn delta_for_gstate<D: BlockDevice>(
     thread: &Thread<D>,
     index: usize,
     wanted: &MoveState,
@@ -42,7 +42,7 @@ fn delta_to_gstate<D: BlockDevice>(
 }
 
 // Returns whether a pair's tail is a hard one.
-fn follows_tail<D: BlockDevice>(thread: &Thread<D>, index: usize) -> bool
+fn is_tail_hard<D: BlockDevice>(thread: &Thread<D>, index: usize) -> bool
     requires works { thread.now.failed ≡ false }
     requires below { index < length thread.now.kept.pairs }
     ensures { result ≡ tail_is_hard thread.now.kept index }
@@ -66,7 +66,7 @@ fn set_gstate_in<D: BlockDevice>(
     ensures stops { CleanLossLeaves thread.old.kept.history thread.new.kept.history (LossLeavesPair thread.old.kept index (gstate_changes thread.old.kept index (move_view wanted.now))) }
 {
     lemma_device_facts(thread);
-    let state = delta_to_gstate(thread, index, wanted);
+    let state = delta_for_gstate(thread, index, wanted);
     // The pair has the slots that it had, so the commit is never refused.
     commit_fitting(alloc, thread, index, &[Change::Move { state }])
 }
@@ -149,12 +149,12 @@ fn moved_slot_pair<D: BlockDevice>(thread: &Thread<D>, state: &MoveState) -> Opt
 }
 
 // Returns whether a pair has one slot, and a hard tail names the pair.
-fn one_after_tail<D: BlockDevice>(thread: &Thread<D>, index: usize) -> bool
+fn drops_if_emptied<D: BlockDevice>(thread: &Thread<D>, index: usize) -> bool
     requires works { thread.now.failed ≡ false }
     requires below { index < length thread.now.kept.pairs }
     ensures { result ≡ drops_when_emptied thread.now.kept index }
 {
-    index > 0 && thread.slot_count(index) == 1 && follows_tail(thread, index - 1)
+    index > 0 && thread.slot_count(index) == 1 && is_tail_hard(thread, index - 1)
 }
 
 /// Ends a set move in one commit: the slot that the move names is removed (DESIGN.md of littlefs,
@@ -177,7 +177,7 @@ pub fn end_move<D: BlockDevice>(alloc: Global, thread: &mut Thread<D>) -> Result
     let Some(index) = moved_slot_pair(thread, &state) else {
         return Ok(());
     };
-    let goes = one_after_tail(thread, index);
+    let goes = drops_if_emptied(thread, index);
     lemma_device_facts(thread);
     moves::end_move(alloc, thread, index, state.id, goes)
 }

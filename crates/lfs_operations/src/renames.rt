@@ -7,7 +7,7 @@ ghost use Rattle.lfs_model.specs.tree.Shown.{disk_tree};
 ghost use Rattle.lfs_pair.specs.ChangeView.{changes_view};
 ghost use Rattle.lfs_operations.specs.Changing.{WritesPairTwo};
 ghost use Rattle.lfs_operations.specs.Renaming.{CanRenameWithin, CanRenameOnto, IsRenamedWithin, IsRenamedOnto, ReportsReadPut, id_after_removal, within_changes, onto_changes, tree_renamed};
-ghost use Rattle.lfs_operations.specs.RenamingView.{slot_copy};
+ghost use Rattle.lfs_operations.specs.RenamingView.{slot_copy_view};
 ghost use Rattle.lfs_operations.specs.RenamingSlots.{slot_changes};
 
 use crate::changes::change_or_split;
@@ -32,7 +32,7 @@ fn renaming_changes<'a>(
     name: &'a [u8],
     copy: &'a SlotCopy,
 ) -> Result<Vec<Change<'a>>, AllocError>
-    ensures { IfOk result (λ changes. changes_view changes.items ≡ Delete id ∷ slot_changes (id_after_removal id place) name.now (slot_copy copy.now)) }
+    ensures { IfOk result (λ changes. changes_view changes.items ≡ Delete id ∷ slot_changes (id_after_removal id place) name.now (slot_copy_view copy.now)) }
 {
     let mut changes = Vec::new(alloc);
     changes.push(Change::Delete { id })?;
@@ -80,7 +80,7 @@ fn renaming_onto_changes<'a>(
     name: &'a [u8],
     copy: &'a SlotCopy,
 ) -> Result<Vec<Change<'a>>, AllocError>
-    ensures { IfOk result (λ changes. changes_view changes.items ≡ Delete id ∷ Delete (id_after_removal id place) ∷ slot_changes (id_after_removal id place) name.now (slot_copy copy.now)) }
+    ensures { IfOk result (λ changes. changes_view changes.items ≡ Delete id ∷ Delete (id_after_removal id place) ∷ slot_changes (id_after_removal id place) name.now (slot_copy_view copy.now)) }
 {
     let place = id_after_removed(id, place);
     let mut changes = Vec::new(alloc);

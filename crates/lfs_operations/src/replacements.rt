@@ -10,12 +10,12 @@ ghost use Rattle.lfs_thread.specs.ThreadSteps.{ChangesThreadBlocks, thread_pair}
 ghost use Rattle.lfs_operations.specs.Altering.{WritesTouchedFree};
 ghost use Rattle.lfs_operations.specs.Renaming.{id_after_removal, tree_renamed};
 ghost use Rattle.lfs_operations.specs.RenamingOver.{CanRenameOver, CanReplaceDirectory, IsRenamedOver, IsDirectoryReplaced, ReportsReadCommit, ReportsReadCommits};
-ghost use Rattle.lfs_operations.specs.RenamingView.{slot_copy};
+ghost use Rattle.lfs_operations.specs.RenamingView.{slot_copy_view};
 ghost use Rattle.lfs_operations.specs.RenamingSlots.{slot_changes};
 ghost use Rattle.lfs_model.specs.format.Thread.{address_blocks, addresses_blocks};
 
 use crate::changes::commit_fitting;
-use crate::directory_removals::sync_delta;
+use crate::directory_removals::delta_turning_sync;
 use crate::drops::drop_pair_at;
 use crate::renames::id_after_removed;
 use crate::slot_copies::{SlotCopy, copy_pair_slot, push_slot_changes};
@@ -35,7 +35,7 @@ fn changes_replacing_directory<'a>(
     name: &'a [u8],
     copy: &'a SlotCopy,
 ) -> Result<Vec<Change<'a>>, AllocError>
-    ensures { IfOk result (λ changes. changes_view changes.items ≡ PutMove (move_view state) ∷ Delete id ∷ Delete (id_after_removal id place) ∷ slot_changes (id_after_removal id place) name.now (slot_copy copy.now)) }
+    ensures { IfOk result (λ changes. changes_view changes.items ≡ PutMove (move_view state) ∷ Delete id ∷ Delete (id_after_removal id place) ∷ slot_changes (id_after_removal id place) name.now (slot_copy_view copy.now)) }
 {
     let place = id_after_removed(id, place);
     let mut changes = Vec::new(alloc);
@@ -70,7 +70,7 @@ pub(crate) fn rename_over_directory<D: BlockDevice>(
         (disk_tree thread.old.kept.disk thread.old.kept.pairs) (tree_renamed thread.old.kept rename.can.path rename.can.name name.now) }
 {
     let copy = copy_pair_slot(alloc, thread, pair, id)?;
-    let state = gstate_xor_delta(&thread.delta(pair), &sync_delta());
+    let state = gstate_xor_delta(&thread.delta(pair), &delta_turning_sync());
     let changes = changes_replacing_directory(alloc, state, id, place, name, &copy)?;
     // Two slots are replaced by one, with the name of the one and the rest of the other. So the
     // commit is never refused.

@@ -5,11 +5,11 @@ ghost use Rattle.lfs_model.specs.format.Content.{RawContent, content_after, empt
 ghost use Rattle.lfs_model.specs.format.Log.{block_entries};
 ghost use Rattle.lfs_model.specs.format.Slots.{PairContent as ModelContent};
 ghost use Rattle.lfs_pair.specs.ChangeView.{changes_view};
-ghost use Rattle.lfs_tag.specs.ContentView.{attribute_view, data_view, slot_view};
+ghost use Rattle.lfs_tag.specs.ContentView.{attribute_view, part_view, slot_view};
 ghost use Rattle.lfs_thread.specs.CachedLog.{IsContentLog};
 ghost use Rattle.lfs_thread.specs.ThreadSteps.{ThreadReportsErrors, OnlyReadsThread};
 ghost use Rattle.lfs_operations.specs.RenamingSlots.{HasSlot, attribute_changes, nameless_at, nameless_of, slot_changes};
-ghost use Rattle.lfs_operations.specs.RenamingView.{attribute_copy, slot_copy, struct_copy};
+ghost use Rattle.lfs_operations.specs.RenamingView.{attribute_copy_view, slot_copy_view, struct_copy_view};
 
 use lfs_device::{BlockDevice, Error};
 use lfs_pair::Change;
@@ -40,7 +40,7 @@ pub(crate) struct SlotCopy {
 }
 
 fn copy_struct(alloc: Global, part: &NameOrStruct<'_>) -> Result<StructCopy, AllocError>
-    ensures { IfOk result (λ copy. struct_copy copy ≡ data_view part.now) }
+    ensures { IfOk result (λ copy. struct_copy_view copy ≡ part_view part.now) }
 {
     let bytes = Vec::from_slice(alloc, part.bytes)?;
     Ok(StructCopy {
@@ -50,7 +50,7 @@ fn copy_struct(alloc: Global, part: &NameOrStruct<'_>) -> Result<StructCopy, All
 }
 
 fn copy_attribute(alloc: Global, attribute: &Attribute<'_>) -> Result<AttributeCopy, AllocError>
-    ensures { IfOk result (λ copy. attribute_copy copy ≡ attribute_view attribute.now) }
+    ensures { IfOk result (λ copy. attribute_copy_view copy ≡ attribute_view attribute.now) }
 {
     let bytes = Vec::from_slice(alloc, attribute.bytes)?;
     Ok(AttributeCopy {
@@ -63,7 +63,7 @@ fn copy_attributes(
     alloc: Global,
     attributes: &[Attribute<'_>],
 ) -> Result<Vec<AttributeCopy>, AllocError>
-    ensures { IfOk result (λ copies. map attribute_copy copies.items ≡ map attribute_view attributes.now) }
+    ensures { IfOk result (λ copies. map attribute_copy_view copies.items ≡ map attribute_view attributes.now) }
 {
     let mut copies = Vec::new(alloc);
     for attribute in attributes {
@@ -76,7 +76,7 @@ fn copy_attributes(
 fn copy_slot(alloc: Global, slot: &Slot<'_>) -> Result<SlotCopy, AllocError>
     requires named { IsSome slot.now.name }
     requires structured { IsSome slot.now.structure }
-    ensures { IfOk result (λ copy. slot_copy copy ≡ nameless_of (slot_view slot.now)) }
+    ensures { IfOk result (λ copy. slot_copy_view copy ≡ nameless_of (slot_view slot.now)) }
 {
     let name_kind = slot.name.unwrap().kind;
     let structure = copy_struct(alloc, &slot.structure.unwrap())?;
@@ -91,7 +91,7 @@ fn copy_slot(alloc: Global, slot: &Slot<'_>) -> Result<SlotCopy, AllocError>
 // Copies the slot at an id of a log.
 fn copy_log_slot(alloc: Global, log: &Log<'_>, id: u16) -> Result<SlotCopy, Error>
     requires { (content : ModelContent) × (IsContentLog log.now content × (id < length content.slots)) }
-    ensures copied { (raw : RawContent) → content_after empty_raw_content (block_entries log.now) ≡ Some raw → IfOk result (λ copy. slot_copy copy ≡ nameless_of (slot_of_id raw.slots id)) }
+    ensures copied { (raw : RawContent) → content_after empty_raw_content (block_entries log.now) ≡ Some raw → IfOk result (λ copy. slot_copy_view copy ≡ nameless_of (slot_of_id raw.slots id)) }
     ensures errors { IfErr result (λ e. e ≡ Error.NoMemory) }
 {
     let content = Content::read(alloc, log)?;
@@ -108,7 +108,7 @@ pub(crate) fn copy_pair_slot<D: BlockDevice>(
 ) -> Result<SlotCopy, Error>
     requires works { thread.old.failed ≡ false }
     requires there { HasSlot thread.old.kept pair id }
-    ensures copied { IfOk result (λ copy. slot_copy copy ≡ nameless_at thread.old.kept pair id) }
+    ensures copied { IfOk result (λ copy. slot_copy_view copy ≡ nameless_at thread.old.kept pair id) }
     ensures only { OnlyReadsThread thread.old.kept thread.new.kept }
     ensures works { thread.new.failed ≡ false }
     ensures errors { ThreadReportsErrors thread.old.kept thread.new.kept result }
@@ -125,7 +125,7 @@ pub(crate) fn push_slot_changes<'a>(
     name: &'a [u8],
     copy: &'a SlotCopy,
 ) -> Result<(), AllocError>
-    ensures { OnOk result (changes_view changes.new.items ≡ changes_view changes.old.items ++ slot_changes id name.now (slot_copy copy.now)) }
+    ensures { OnOk result (changes_view changes.new.items ≡ changes_view changes.old.items ++ slot_changes id name.now (slot_copy_view copy.now)) }
 {
     changes.push(Change::Create {
         id,
@@ -146,7 +146,7 @@ fn push_attribute_changes<'a>(
     id: u16,
     attributes: &'a [AttributeCopy],
 ) -> Result<(), AllocError>
-    ensures { OnOk result (changes_view changes.new.items ≡ changes_view changes.old.items ++ attribute_changes id (map attribute_copy attributes.now)) }
+    ensures { OnOk result (changes_view changes.new.items ≡ changes_view changes.old.items ++ attribute_changes id (map attribute_copy_view attributes.now)) }
 {
     for attribute in attributes {
         changes.push(Change::Attr {

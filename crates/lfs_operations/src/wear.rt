@@ -9,7 +9,7 @@ ghost use Rattle.lfs_model.specs.tree.Shown.{disk_tree};
 ghost use Rattle.lfs_thread.specs.ThreadSteps.{thread_pair};
 ghost use Rattle.lfs_operations.specs.Changing.{AreTwoFree, WritesPairTwo, WritesThreadTwo};
 ghost use Rattle.lfs_operations.specs.Making.{ReportsMaking};
-ghost use Rattle.lfs_operations.specs.Wear.{CanMovePair, CanUnloadPair, CanExpandRoot, CanRelocate, BeginsBehindRoot, HasRelocated, HasRoomToUnload, IsMovedAt, IsPlanFor, IsUnloadedAt, IsRootExpanded};
+ghost use Rattle.lfs_operations.specs.Wear.{CanMovePair, CanUnloadPair, CanExpandRoot, CanRelocate, BeginsBehindRoot, HasRelocated, HasUnloadRoom, IsMovedAt, IsPlanFor, IsUnloadedAt, IsRootExpanded};
 
 use crate::changes::{take_these, take_two_blocks};
 use lfs_device::{BlockDevice, Error};
@@ -50,7 +50,7 @@ fn is_due<D: BlockDevice>(thread: &Thread<D>, index: usize, soon: bool) -> bool
 
 // Returns whether two more blocks may be used, so that an eighth of the blocks still isn't.
 fn has_unload_room<D: BlockDevice>(thread: &Thread<D>, limit: u32) -> bool
-    ensures { OnTrue result (HasRoomToUnload thread.now.kept limit) }
+    ensures { OnTrue result (HasUnloadRoom thread.now.kept limit) }
 {
     let used = thread.used_count() as u64 + 2;
     used <= limit as u64 && 8 * used <= 7 * thread.geometry().block_count as u64

@@ -76,7 +76,7 @@ pub record HeaderSaysActive (disk : Disk) (pair : Pair) : Type 0 where
   pub revision_is : pair.revision ≡ block_revision (disk_block disk pair.active)
 
 -- The premises of a commit to a pair whose active block has these bytes.
-pub record CanCommitBytes (disk : Disk) (history : List CallEvent) (pair : Pair) (changes : List PairChange) (bytes : List ℕ) : Type 0 where
+pub record CanCommitFromBytes (disk : Disk) (history : List CallEvent) (pair : Pair) (changes : List PairChange) (bytes : List ℕ) : Type 0 where
   pub can : CanCommit disk history pair changes
   pub block : bytes ≡ block_bytes disk.blocks pair.active
 

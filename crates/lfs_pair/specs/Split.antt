@@ -32,7 +32,7 @@ pub record CanSplitPair (disk : Disk) (history : List CallEvent) (pair : Pair) (
   pub cut : CanSplit disk.block_size disk.page commit.new.slots
 
 -- The premises of a split of a pair whose active block has these bytes.
-pub record CanSplitBytes (disk : Disk) (history : List CallEvent) (pair : Pair) (fresh : ℕ × ℕ) (changes : List PairChange) (bytes : List ℕ) : Type 0 where
+pub record CanSplitFromBytes (disk : Disk) (history : List CallEvent) (pair : Pair) (fresh : ℕ × ℕ) (changes : List PairChange) (bytes : List ℕ) : Type 0 where
   pub can : CanSplitPair disk history pair fresh changes
   pub block : bytes ≡ block_bytes disk.blocks pair.active
 

@@ -115,7 +115,7 @@ pub record ChangesReadingFew {D : Type 0} (g : Ghosts D) (most : ℕ) (bs : List
 
 -- No block is written but this one, and the device is read at most so often. The only error is `Io`, which comes with a fault of
 -- the device.
-pub record WritesOneBlock {D X : Type 0} (g : Ghosts D) (most b : ℕ) (old new : D) (result : Result X Error) : Type 0 where
+pub record WritesOnlyBlock {D X : Type 0} (g : Ghosts D) (most b : ℕ) (old new : D) (result : Result X Error) : Type 0 where
   pub device : ChangesOneBlock g b old new
   pub few : read_count (g.history new) ≤ read_count (g.history old) + most
   pub errors : IfErr result (λ e. e ≡ Io)

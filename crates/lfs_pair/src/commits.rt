@@ -9,7 +9,7 @@ ghost use Rattle.lfs_tag.specs.ContentView.{content_view};
 ghost use Rattle.lfs_model.specs.format.Content.{RawContent};
 ghost use Rattle.lfs_pair.specs.Pair.{IsTrueHeader, header_address};
 ghost use Rattle.lfs_pair.specs.ChangeView.{changes_view};
-ghost use Rattle.lfs_pair.specs.Commits.{IsPairAddress, CanAppendContent, CanCommit, CanCommitBytes, CanCompact, CompactsTo, CommitFails, IsEndBlank, LossLeavesChanged, LossLeavesNew};
+ghost use Rattle.lfs_pair.specs.Commits.{IsPairAddress, CanAppendContent, CanCommit, CanCommitFromBytes, CanCompact, CompactsTo, CommitFails, IsEndBlank, LossLeavesChanged, LossLeavesNew};
 ghost use Rattle.lfs_pair.specs.Endings.{AppendEnds, CommitEnds};
 ghost use Rattle.lfs_pair.specs.Writing.{OnlyAsksBlank, ChangesReadingFew, WritesTheseBlocks};
 ghost use Rattle.lfs_model.specs.format.Thread.{address_blocks};
@@ -70,7 +70,7 @@ pub fn commit<D: BlockDevice>(
         → HoldsAtLosses LeftByLoss (D.history dev.old) (D.history dev.new) (LossLeavesChanged (disk_of_blocks (D.geometry dev.old) (D.blocks dev.old)) (header_address pair.old) (changes_view changes.now)) }
 {
     let block = read_block(alloc, dev, pair.active)?;
-    let outcome = commit_bytes(alloc, dev, pair, &block, changes)?;
+    let outcome = commit_from_bytes(alloc, dev, pair, &block, changes)?;
     Ok(outcome)
 }
 
@@ -79,14 +79,14 @@ pub fn commit<D: BlockDevice>(
 ///
 /// The caller's conditions are those of [`commit`], and that the active block has the bytes of
 /// `block`. Errors are those of [`commit`], but memory is wanted for one block and the slots.
-pub fn commit_bytes<'a, 'b: 'a, D: BlockDevice>(
+pub fn commit_from_bytes<'a, 'b: 'a, D: BlockDevice>(
     alloc: Global,
     dev: &mut D,
     pair: &mut Pair,
     block: &'a [u8],
     changes: &[Change<'b>],
 ) -> Result<Outcome, Error>
-    requires { CanCommitBytes (disk_of_blocks (D.geometry dev.old) (D.blocks dev.old)) (D.history dev.old) pair.old (changes_view changes.now) block.now }
+    requires { CanCommitFromBytes (disk_of_blocks (D.geometry dev.old) (D.blocks dev.old)) (D.history dev.old) pair.old (changes_view changes.now) block.now }
 
     ensures ends { CommitEnds D.BlockDevice (changes_view changes.now) dev.old dev.new pair.old pair.new result }
     ensures error { IfErr result (λ e. CommitFails D.BlockDevice dev.old dev.new pair.old pair.new e) }

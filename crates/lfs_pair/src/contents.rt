@@ -27,7 +27,7 @@ fn empty_content<'a>(alloc: Global) -> Content<'a>
 }
 
 // Makes the content that the changes make of an empty log.
-pub(crate) fn content_of_changes<'a>(
+pub(crate) fn content_from_empty<'a>(
     alloc: Global,
     changes: &[Change<'a>],
 ) -> Result<Content<'a>, Error>

@@ -5,9 +5,9 @@ ghost use Rattle.std.specs.List.{list_all};
 ghost use Rattle.std.specs.Option.{option_map};
 ghost use Rattle.lfs_model.specs.format.Slots.{array_address};
 ghost use Rattle.lfs_model.specs.layers.LoggedContent.{AttributesInOrder, IsFormedSlot, AreWellFormed, IsWellFormed, MoveStateFits, AllowsIfSome};
-ghost use Rattle.lfs_model.specs.layers.WrittenContent.{data_entries, attribute_entries, slot_entries, entries_of_slots, tail_entries, tail_entry, move_entry, move_state_entries, content_entries, log_entry};
+ghost use Rattle.lfs_model.specs.layers.WrittenContent.{part_entries, attribute_entries, slot_entries, entries_of_slots, tail_entries, tail_entry, move_entry, move_state_entries, content_entries, log_entry};
 ghost use Rattle.lfs_model.specs.layers.Changes.{change_entries, entries_of_changes, is_storable, RemoveAttribute};
-ghost use Rattle.lfs_tag.specs.ContentView.{data_view, attribute_view, slot_view, tail_view, content_view};
+ghost use Rattle.lfs_tag.specs.ContentView.{part_view, attribute_view, slot_view, tail_view, content_view};
 ghost use Rattle.lfs_tag.specs.FieldsView.{move_view};
 ghost use Rattle.lfs_pair.specs.ChangeView.{change_view, changes_view};
 ghost use Rattle.lfs_pair.specs.Writing.{commit_with_more};
@@ -91,11 +91,11 @@ pub(crate) fn push_changes(builder: &mut CommitBuilder<'_>, changes: &[Change<'_
 // ---- contents
 
 // Adds a name or a struct, if there is one.
-fn push_data(builder: &mut CommitBuilder<'_>, id: u16, part: &Option<NameOrStruct<'_>>, class: u16)
+fn push_part(builder: &mut CommitBuilder<'_>, id: u16, part: &Option<NameOrStruct<'_>>, class: u16)
     requires id { id < 2 ^ 10 }
     requires class { class < 5 }
-    requires part { AllowsIfSome class (option_map data_view part.now) }
-    ensures { builder.new ≡ commit_with_more (data_entries id (option_map data_view part.now)) builder.old }
+    requires part { AllowsIfSome class (option_map part_view part.now) }
+    ensures { builder.new ≡ commit_with_more (part_entries id (option_map part_view part.now)) builder.old }
 {
     if let Some(part) = part {
         push_log_entry(builder, part.kind, id, part.bytes);
@@ -124,8 +124,8 @@ fn push_slot(builder: &mut CommitBuilder<'_>, id: u16, slot: &Slot<'_>)
     requires parts { IsFormedSlot (slot_view slot.now) }
     ensures { builder.new ≡ commit_with_more (slot_entries id (slot_view slot.now)) builder.old }
 {
-    push_data(builder, id, &slot.name, 0);
-    push_data(builder, id, &slot.structure, 2);
+    push_part(builder, id, &slot.name, 0);
+    push_part(builder, id, &slot.structure, 2);
     push_attributes(builder, id, &slot.attributes);
 }
 

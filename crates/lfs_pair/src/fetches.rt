@@ -9,7 +9,7 @@ ghost use Rattle.lfs_model.specs.format.Slots.{array_address};
 ghost use Rattle.lfs_model.specs.format.Log.{block_revision};
 ghost use Rattle.lfs_model.specs.format.Content.{RawContent};
 ghost use Rattle.lfs_pair.specs.Pair.{AreTwoBlocks, FetchFinds, HeaderDescribesLog, later_block_first};
-ghost use Rattle.lfs_pair.specs.Fetching.{FetchFails, FetchReads, HeaderFails, IsHeadOf, ReadsTwice};
+ghost use Rattle.lfs_pair.specs.Fetching.{FetchFails, FetchReads, HeaderFails, IsCandidateOf, ReadsTwice};
 
 use crate::block_logs::ActiveBlockCandidate;
 use crate::pair::Pair;
@@ -26,7 +26,7 @@ fn fetched_header(
     head: ActiveBlockCandidate,
     bytes: &[u8],
 ) -> Result<Pair, Error>
-    requires { IsHeadOf bytes.now head }
+    requires { IsCandidateOf bytes.now head }
     ensures describes { IfOk result (λ pair. (held : RawContent) × HeaderDescribesLog bytes.now pair held) }
     ensures blocks { IfOk result (λ pair. pair.blocks ≡ blocks) }
     ensures active { IfOk result (λ pair. pair.active ≡ active) }

@@ -9,12 +9,12 @@ ghost use Rattle.lfs_model.specs.format.Slots.{array_address};
 ghost use Rattle.lfs_tag.specs.ContentView.{content_view};
 ghost use Rattle.lfs_pair.specs.ChangeView.{changes_view};
 ghost use Rattle.lfs_pair.specs.Commits.{HasWrittenContent};
-ghost use Rattle.lfs_pair.specs.Writing.{ChangesReadingFew, WritesOneBlock, WritesTheseBlocks};
+ghost use Rattle.lfs_pair.specs.Writing.{ChangesReadingFew, WritesOnlyBlock, WritesTheseBlocks};
 ghost use Rattle.lfs_pair.specs.FreshPair.{CanWriteFresh, CanWriteFreshContent, ErasedOneMore, IsWriteError, HasFreshContent, IsFreshPair};
 ghost use Rattle.lfs_model.specs.format.Thread.{address_blocks};
 
 use crate::change::Change;
-use crate::contents::content_of_changes;
+use crate::contents::content_from_empty;
 use crate::pair::Pair;
 use crate::programs::write_block_anew;
 use lfs_device::{BlockDevice, Error};
@@ -35,7 +35,7 @@ fn erase_cleanly<D: BlockDevice>(dev: &mut D, block: u32, buf: &mut [u8]) -> Res
     ensures cleared { OnOk result (has_commit (block_bytes (D.blocks dev.new) block) ≡ false) }
     ensures buf { length buf.new ≡ length buf.old }
     ensures clears { OnOk result (ErasedOneMore 0 (D.history dev.old) (D.history dev.new)) }
-    ensures writes { WritesOneBlock D.BlockDevice 1 block dev.old dev.new result }
+    ensures writes { WritesOnlyBlock D.BlockDevice 1 block dev.old dev.new result }
 {
     let page = dev.geometry().page as usize;
     dev.erase(block)?;
@@ -96,7 +96,7 @@ impl Pair {
         ensures device { ChangesReadingFew D.BlockDevice 2 (address_blocks (array_address blocks)) dev.old dev.new }
         ensures faults { ReportsFaults D.BlockDevice dev.old dev.new result }
     {
-        let content = content_of_changes(alloc, changes)?;
+        let content = content_from_empty(alloc, changes)?;
         let block_size = dev.geometry().block_size as usize;
         let mut buf = Vec::from_elem(alloc, 0u8, block_size)?;
         let pair = write_fresh_pair(dev, blocks, FIRST_REVISION, &content, &mut buf)?;

@@ -9,7 +9,7 @@ ghost use Rattle.lfs_model.specs.layers.Commit.{encoded_size, four_bytes_at, ali
 ghost use Rattle.lfs_model.specs.crash.Stops.{ErasesCleanly, LeftByLoss};
 ghost use Rattle.lfs_model.specs.layers.WrittenContent.{content_entries};
 ghost use Rattle.lfs_tag.specs.ContentView.{content_view};
-ghost use Rattle.lfs_pair.specs.Writing.{BlockGetsCommit, CanProgramCommit, CanWriteAnew, IsWrittenAnew, EndsBeforeUnprogrammed, LossLeavesCommit, LossLeavesRewritten, DiffersInBlock, ProgramsOnce, WritesOneBlock};
+ghost use Rattle.lfs_pair.specs.Writing.{BlockGetsCommit, CanProgramCommit, CanWriteAnew, IsWrittenAnew, EndsBeforeUnprogrammed, LossLeavesCommit, LossLeavesRewritten, DiffersInBlock, ProgramsOnce, WritesOnlyBlock};
 
 use crate::entries::push_content;
 use lfs_device::{BlockDevice, Error};
@@ -56,7 +56,7 @@ pub(crate) fn program_commit_at<D: BlockDevice>(
 
     ensures adds { IfOk result (λ written. BlockGetsCommit builder.entry at written.end (block_bytes (D.blocks dev.old) block) (block_bytes (D.blocks dev.new) block)) }
     ensures written { IfOk result (λ written. EndsBeforeUnprogrammed (disk_of_blocks (D.geometry dev.new) (D.blocks dev.new)) (D.history dev.new) block written.end written.last) }
-    ensures writes { WritesOneBlock D.BlockDevice 1 block dev.old dev.new result }
+    ensures writes { WritesOnlyBlock D.BlockDevice 1 block dev.old dev.new result }
     ensures programs { OnOk result (ProgramsOnce (D.history dev.old) (D.history dev.new)) }
     ensures stops { HoldsAtLosses LeftByLoss (D.history dev.old) (D.history dev.new) (DiffersInBlock block (LossLeavesCommit builder.entry at) (D.blocks dev.old)) }
 {
@@ -85,7 +85,7 @@ pub(crate) fn write_block_anew<D: BlockDevice>(
     ensures size { IfOk result (λ written. written.end ≡ aligned_end (D.geometry dev.old).page (4 + encoded_size (content_entries (content_view content.now)))) }
     ensures written { IfOk result (λ written. EndsBeforeUnprogrammed (disk_of_blocks (D.geometry dev.new) (D.blocks dev.new)) (D.history dev.new) block written.end written.last) }
     ensures anew { OnOk result (IsWrittenAnew revision (content_view content.now) (block_bytes (D.blocks dev.new) block) (D.history dev.old) (D.history dev.new)) }
-    ensures writes { WritesOneBlock D.BlockDevice 1 block dev.old dev.new result }
+    ensures writes { WritesOnlyBlock D.BlockDevice 1 block dev.old dev.new result }
     ensures stops { AllCallsSince ErasesCleanly (D.history dev.old) (D.history dev.new)
         → HoldsAtLosses LeftByLoss (D.history dev.old) (D.history dev.new) (DiffersInBlock block (LossLeavesRewritten revision (content_view content.now)) (D.blocks dev.old)) }
 {

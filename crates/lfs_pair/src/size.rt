@@ -4,16 +4,16 @@ ghost use Rattle.std.specs.Prelude.{◌≡◌, ℕ, ◌+◌, ◌-◌, ◌^◌, �
 ghost use Rattle.std.specs.Option.{option_map};
 ghost use Rattle.lfs_model.specs.format.Disk.{pair_capacity, slots_limit};
 ghost use Rattle.lfs_model.specs.format.Slots.{attributes_size};
-ghost use Rattle.lfs_model.specs.layers.WrittenContent.{data_size, slot_size_raw, RawContentFits};
-ghost use Rattle.lfs_tag.specs.ContentView.{data_view, attribute_view, slot_view, content_view};
+ghost use Rattle.lfs_model.specs.layers.WrittenContent.{part_size, slot_size_raw, RawContentFits};
+ghost use Rattle.lfs_tag.specs.ContentView.{part_view, attribute_view, slot_view, content_view};
 
 use lfs_device::Geometry;
 use lfs_tag::{Attribute, Content, NameOrStruct, Slot};
 
 // Returns how many bytes a name or a struct takes with its tag, or the greatest number where there
 // are more. None takes no bytes.
-fn data_size_of(part: &Option<NameOrStruct<'_>>) -> u64
-    ensures { result ≡ min (data_size (option_map data_view part.now)) (2 ^ 64 - 1) }
+fn part_size_of(part: &Option<NameOrStruct<'_>>) -> u64
+    ensures { result ≡ min (part_size (option_map part_view part.now)) (2 ^ 64 - 1) }
 {
     match part {
         None => 0,
@@ -38,8 +38,8 @@ pub fn attributes_size(attributes: &[Attribute<'_>]) -> u64
 pub(crate) fn slot_size(slot: &Slot<'_>) -> u64
     ensures { result ≡ min (slot_size_raw (slot_view slot.now)) (2 ^ 64 - 1) }
 {
-    data_size_of(&slot.name)
-        .saturating_add(data_size_of(&slot.structure))
+    part_size_of(&slot.name)
+        .saturating_add(part_size_of(&slot.structure))
         .saturating_add(attributes_size(&slot.attributes))
 }
 

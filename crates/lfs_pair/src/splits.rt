@@ -12,7 +12,7 @@ ghost use Rattle.lfs_pair.specs.Commits.{CommitFails};
 ghost use Rattle.lfs_pair.specs.ChangeView.{changes_view};
 ghost use Rattle.lfs_pair.specs.HalfCut.{CanSplit};
 ghost use Rattle.lfs_pair.specs.Writing.{ChangesReadingFew};
-ghost use Rattle.lfs_pair.specs.Split.{CanSplitBytes, CanSplitPair, SplitsPair, LossLeavesSplit, IsContentCut};
+ghost use Rattle.lfs_pair.specs.Split.{CanSplitFromBytes, CanSplitPair, SplitsPair, LossLeavesSplit, IsContentCut};
 ghost use Rattle.lfs_model.specs.format.Thread.{addresses_blocks};
 
 use crate::change::Change;
@@ -60,7 +60,7 @@ pub fn split<D: BlockDevice>(
         → HoldsAtLosses LeftByLoss (D.history dev.old) (D.history dev.new) (LossLeavesSplit (disk_of_blocks (D.geometry dev.old) (D.blocks dev.old)) (header_address pair.old) (array_address fresh) (changes_view changes.now)) }
 {
     let block = read_block(alloc, dev, pair.active)?;
-    let fresh_pair = split_bytes(alloc, dev, pair, fresh, &block, changes)?;
+    let fresh_pair = split_from_bytes(alloc, dev, pair, fresh, &block, changes)?;
     Ok(fresh_pair)
 }
 
@@ -69,7 +69,7 @@ pub fn split<D: BlockDevice>(
 ///
 /// The caller's conditions are those of [`split`], and that the active block has the bytes of
 /// `block`. Errors are those of [`split`], but memory is wanted for one block and the slots.
-pub fn split_bytes<'a, 'b: 'a, D: BlockDevice>(
+pub fn split_from_bytes<'a, 'b: 'a, D: BlockDevice>(
     alloc: Global,
     dev: &mut D,
     pair: &mut Pair,
@@ -77,7 +77,7 @@ pub fn split_bytes<'a, 'b: 'a, D: BlockDevice>(
     block: &'a [u8],
     changes: &[Change<'b>],
 ) -> Result<Pair, Error>
-    requires { CanSplitBytes (disk_of_blocks (D.geometry dev.old) (D.blocks dev.old)) (D.history dev.old) pair.old (array_address fresh) (changes_view changes.now) block.now }
+    requires { CanSplitFromBytes (disk_of_blocks (D.geometry dev.old) (D.blocks dev.old)) (D.history dev.old) pair.old (array_address fresh) (changes_view changes.now) block.now }
 
     ensures splits { IfOk result (λ fresh_pair. SplitsPair (disk_of_blocks (D.geometry dev.old) (D.blocks dev.old)) (D.history dev.old) (changes_view changes.now) pair.old (array_address fresh)
         (disk_of_blocks (D.geometry dev.new) (D.blocks dev.new)) (D.history dev.new) pair.new fresh_pair) }

@@ -115,7 +115,7 @@ impl<'a, R: Files + AllocGlobal> Script<'a, R> {
             Err(error) => return Answer::Error(error),
         };
         match RamDevice::blank(self.rt.alloc(), geometry) {
-            Ok(device) => self.format(device.erased_as(erased), order, NO_FAULT),
+            Ok(device) => self.format(device.with_erased(erased), order, NO_FAULT),
             Err(error) => Answer::Error(error),
         }
     }
@@ -125,7 +125,7 @@ impl<'a, R: Files + AllocGlobal> Script<'a, R> {
             return Answer::Input;
         };
         match device_of_bytes(bytes, block_size, page, self.profile) {
-            Ok(device) => self.mount(device.erased_as(erased), NO_FAULT),
+            Ok(device) => self.mount(device.with_erased(erased), NO_FAULT),
             Err(error) => Answer::Error(error),
         }
     }
@@ -151,7 +151,7 @@ impl<'a, R: Files + AllocGlobal> Script<'a, R> {
         };
         match RamDevice::from_bytes(geometry, bytes) {
             Ok(device) => {
-                let device = device.erased_as(erased);
+                let device = device.with_erased(erased);
                 self.hand = ScriptDevice::Device(device_with_planned_fault(device, NO_FAULT));
                 answer
             }

@@ -5,7 +5,7 @@ use Rattle.std.specs.Int.Bits.{xor_self}
 use Rattle.byteorder.specs.Endian.{big_number, big_bytes, little_number, little_bytes}
 use Rattle.byteorder.specs.Numbers.{big_number-reads_back, little_number-reads_back}
 use Rattle.lfs_model.specs.format.Crc.{crc_of}
-use Rattle.lfs_model.specs.format.Tag.{is_forward}
+use Rattle.lfs_model.specs.format.Tag.{is_forward_checksum}
 use Rattle.lfs_model.specs.format.Log.{entry_at, closes}
 use Rattle.lfs_tag.proofs.Local.{from_lies}
 use Rattle.lfs_tag.proofs.BuilderEntries.{carried_other}
@@ -61,7 +61,7 @@ class_of_kind tag (inl h) = ap (λ (k : ℕ). k / 2 ^ 8) h
 class_of_kind tag (inr h) = ap (λ (k : ℕ). k / 2 ^ 8) h
 
 -- a checksum is no forward checksum
-pub not_forward : (tag : ℕ) → IsChecksumKind tag → is_forward tag ≡ false
+pub not_forward : (tag : ℕ) → IsChecksumKind tag → is_forward_checksum tag ≡ false
 not_forward tag (inl h) = rw h refl
 not_forward tag (inr h) = rw h refl
 

@@ -14,13 +14,13 @@ pub use Rattle.lfs_model.specs.layers.Commit.{checksum_type, encoded_entries, en
 pub use Rattle.lfs_model.specs.layers.Lookup.{part_bytes}
 pub use Rattle.lfs_tag.specs.Builder.{PartialCommit, checksum_start, checksum_tag, commit_adding_entry, entries_start, padded_end_of}
 pub use Rattle.lfs_tag.specs.BuilderKeeps.{AreStorableEntries, BuildsCommit, IsStorableEntry, carried_tag, checksummed_bytes, revision_bytes}
-pub use Rattle.lfs_tag.specs.ContentView.{attribute_view, data_view, index_for_attribute, slot_view}
+pub use Rattle.lfs_tag.specs.ContentView.{attribute_view, part_view, index_for_attribute, slot_view}
 pub use Rattle.lfs_tag.specs.EntrySearch.{found_in_entries, searched_count}
 pub use Rattle.lfs_tag.specs.Find.{comparison_with_slot, comparisons_after, first_wanted_slot}
 pub use Rattle.lfs_tag.specs.FindView.{IsNameLookup, lookup_of_comparisons}
 pub use Rattle.lfs_tag.specs.LogEntryView.{log_entry_view}
 pub use Rattle.lfs_tag.specs.SlotCount.{count_after}
-pub use Rattle.lfs_tag.specs.Summary.{empty_outline, has_both, outline_after, outline_view, slot_mark}
+pub use Rattle.lfs_tag.specs.Summary.{empty_outline, is_complete_mark, outline_after, outline_view, slot_mark}
 pub use Rattle.std.proofs.Math.Seq.{drop-append_seam, take-append_seam}
 pub use Rattle.std.proofs.lemmas.Bool.{cases_lt, cases_order, eqb-true, le-ltb}
 pub use Rattle.std.proofs.lemmas.Bool.Decides.{nat_tests}

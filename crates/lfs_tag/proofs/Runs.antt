@@ -4,16 +4,16 @@ use Rattle.lfs_tag.proofs.Common.{option_map_or, bit_xor, xor_zero_r, xor_mod, n
 use Rattle.byteorder.specs.Endian.{big_number}
 use Rattle.lfs_model.specs.format.Tag.{is_commit_end}
 use Rattle.std.specs.List.{flat_map}
-use Rattle.lfs_model.specs.format.Log.{entry_at, chain_of, AreEntriesBetween, run_within, entries_between}
+use Rattle.lfs_model.specs.format.Log.{entry_at, chain_of, AreEntriesBetween, entries_within, entries_between}
 use Rattle.lfs_model.proofs.Checksums.{xor_cancel}
 
-run_zero : (n : ℕ) (block : List ℕ) (at before end : ℕ) → end ≤ at → run_within n block at before end ≡ []
-unfolding run_within
+run_zero : (n : ℕ) (block : List ℕ) (at before end : ℕ) → end ≤ at → entries_within n block at before end ≡ []
+unfolding entries_within
 run_zero zero block at before end le = refl
 run_zero (suc n) block at before end le = let done : ltb at end ≡ false = grind (arith, nat_tests) in rw done refl
 
-run_fuel : (n m : ℕ) (block : List ℕ) (at before end : ℕ) → end - at ≤ n → end - at ≤ m → run_within n block at before end ≡ run_within m block at before end
-unfolding run_within
+run_fuel : (n m : ℕ) (block : List ℕ) (at before end : ℕ) → end - at ≤ n → end - at ≤ m → entries_within n block at before end ≡ entries_within m block at before end
+unfolding entries_within
 run_fuel zero m block at before end p q = sym (run_zero m block at before end (omega arith))
 run_fuel (suc n) zero block at before end p q = run_zero (suc n) block at before end (omega arith)
 run_fuel (suc n) (suc m) block at before end p q =
@@ -23,16 +23,16 @@ run_fuel (suc n) (suc m) block at before end p q =
     ]
   where
     step : ℕ → Option LogEntry → List LogEntry
-    step k o = cond (ltb at end) (option_map_or (λ e. e ∷ run_within k block (entry_end at e) (tag_before_next e.tag) end) o []) []
+    step k o = cond (ltb at end) (option_map_or (λ e. e ∷ entries_within k block (entry_end at e) (tag_before_next e.tag) end) o []) []
 
-run_more : (block : List ℕ) (at before end : ℕ) → entries_between block at before end ≡ run_within (suc (end - at)) block at before end
+run_more : (block : List ℕ) (at before end : ℕ) → entries_between block at before end ≡ entries_within (suc (end - at)) block at before end
 run_more block at before end = run_fuel (end - at) (suc (end - at)) block at before end (omega arith) (omega arith)
 
 pub run_past : (block : List ℕ) (at before end : ℕ) → end ≤ at → entries_between block at before end ≡ []
 run_past block at before end le = run_zero (end - at) block at before end le
 
 pub run_none : (block : List ℕ) (at before end : ℕ) → entry_at block at before ≡ None → entries_between block at before end ≡ []
-unfolding run_within
+unfolding entries_within
 run_none block at before end is = run_more block at before end ∙ rw is (either (ltb at end))
   where
     either : (b : Bool) → cond b (let none : List LogEntry = [] in none) [] ≡ []
@@ -41,7 +41,7 @@ run_none block at before end is = run_more block at before end ∙ rw is (either
 
 pub run_on : (block : List ℕ) (at before end : ℕ) (e : LogEntry) → at < end → entry_at block at before ≡ Some e
     → entries_between block at before end ≡ e ∷ entries_between block (entry_end at e) (tag_before_next e.tag) end
-unfolding run_within
+unfolding entries_within
 run_on block at before end e lt is =
     let inside : ltb at end ≡ true = grind (arith, nat_tests) in
     run_more block at before end ∙ rw (inside, is) (ap (λ (es : List LogEntry). e ∷ es) (run_fuel (end - at) (end - entry_end at e) block (entry_end at e) (tag_before_next e.tag) end (omega arith) (omega arith)))

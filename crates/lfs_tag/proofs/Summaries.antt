@@ -1,6 +1,6 @@
 -- What is kept of a log without its slots is kept of its content.
 use Rattle.std.proofs.Common.{◌≡◌, ℕ, zero, suc, ◌+◌, ◌-◌, Bool, true, false, ◌&&◌, not, cond, eqb, leb, ltb, is_some, List, [], ◌∷◌, ◌++◌, length, map, replicate, insert, remove, Option, Some, None, refl, sym, ap, ap₂, ◌∙◌}
-use Rattle.lfs_tag.proofs.Common.{option_map, option_and_then, list_all, map-append, length-map, same_Some, tag_type, tag_id, abstract_type, LogEntry, block_entries, RawSlot, RawContent, empty_slot, slot_of_id, changed_at, padded_slots, type_and_bytes, attributes_after, slots_after, content_after_one, content_after, empty_raw_content, is_known_tag, has_needed_id, create_tag_type, delete_tag_type, slot_mark, has_both, outline_after, empty_outline}
+use Rattle.lfs_tag.proofs.Common.{option_map, option_and_then, list_all, map-append, length-map, same_Some, tag_type, tag_id, abstract_type, LogEntry, block_entries, RawSlot, RawContent, empty_slot, slot_of_id, changed_at, padded_slots, type_and_bytes, attributes_after, slots_after, content_after_one, content_after, empty_raw_content, is_known_tag, has_needed_id, create_tag_type, delete_tag_type, slot_mark, is_complete_mark, outline_after, empty_outline}
 use Rattle.lfs_model.specs.format.Slots.{Slot, PairContent}
 use Rattle.lfs_model.specs.format.Content.{kind_of_type, read_struct, complete_slots, complete_content}
 use Rattle.lfs_model.specs.format.EntryTypes.{entry_tail, read_gstate}
@@ -109,18 +109,18 @@ outlined c (e ∷ es) = go (content_after_one c e) (λ d. outlined d es) ∙ ap 
 
 -- ---- complete slots
 
-whole_slots : (slots : List RawSlot) → list_all has_both (map slot_mark slots) ≡ is_some (complete_slots slots)
+whole_slots : (slots : List RawSlot) → list_all is_complete_mark (map slot_mark slots) ≡ is_some (complete_slots slots)
 whole_slots [] = refl
 whole_slots (s ∷ slots) = by_parts (λ name struct. record { kind = kind_of_type name.0; name = name.1; struct = read_struct struct.0 struct.1; attributes = s.attributes }) s.name s.struct (complete_slots slots) (whole_slots slots)
   where
-    by_parts : (make : ℕ × List ℕ → ℕ × List ℕ → Slot) (name struct : Option (ℕ × List ℕ)) (others : Option (List Slot)) → list_all has_both (map slot_mark slots) ≡ is_some others
-        → ((is_some name && is_some struct) && list_all has_both (map slot_mark slots)) ≡ is_some (option_and_then (λ t. option_map (λ ts. t ∷ ts) others) (option_and_then (λ n. option_map (λ p. make n p) struct) name))
+    by_parts : (make : ℕ × List ℕ → ℕ × List ℕ → Slot) (name struct : Option (ℕ × List ℕ)) (others : Option (List Slot)) → list_all is_complete_mark (map slot_mark slots) ≡ is_some others
+        → ((is_some name && is_some struct) && list_all is_complete_mark (map slot_mark slots)) ≡ is_some (option_and_then (λ t. option_map (λ ts. t ∷ ts) others) (option_and_then (λ n. option_map (λ p. make n p) struct) name))
     by_parts make None struct others same = refl
     by_parts make (Some n) None others same = refl
     by_parts make (Some n) (Some p) None same = same
     by_parts make (Some n) (Some p) (Some ts) same = same
 
-pub whole_content : (c : RawContent) → list_all has_both (map slot_mark c.slots) ≡ is_some (complete_content c)
+pub whole_content : (c : RawContent) → list_all is_complete_mark (map slot_mark c.slots) ≡ is_some (complete_content c)
 whole_content c = whole_slots c.slots ∙ go (complete_slots c.slots)
   where
     the_content : List Slot → PairContent

@@ -11,16 +11,16 @@ use Rattle.lfs_tag.specs.declared.content.Tail.{Tail}
 use Rattle.lfs_tag.specs.declared.content.Content.{Content}
 use Rattle.lfs_tag.specs.FieldsView.{move_view}
 
-abbrev pub data_view : NameOrStruct → ℕ × List ℕ
-data_view p = (p.kind, p.bytes.now)
+abbrev pub part_view : NameOrStruct → ℕ × List ℕ
+part_view p = (p.kind, p.bytes.now)
 
 abbrev pub attribute_view : Attribute → ℕ × List ℕ
 attribute_view a = (a.kind, a.bytes.now)
 
 abbrev pub slot_view : Slot → RawSlot
 slot_view s = record {
-  name = option_map data_view s.name;
-  struct = option_map data_view s.structure;
+  name = option_map part_view s.name;
+  struct = option_map part_view s.structure;
   attributes = map attribute_view s.attributes.items;
 }
 

@@ -1,7 +1,7 @@
 -- What the code makes of a name's type, in the words of the definitions.
 use Rattle.std.specs.Prelude.{ℕ, Bool, false, List, Option, Some, None}
 use Rattle.lfs_model.specs.format.Content.{kind_of_type}
-use Rattle.lfs_model.specs.format.Slots.{names_superblock}
+use Rattle.lfs_model.specs.format.Slots.{is_superblock_kind}
 use Rattle.lfs_model.specs.format.Slots as slots
 use Rattle.lfs_tag.specs.declared.slot_kind.SlotNameKind.{SlotNameKind}
 use Rattle.lfs_tag.specs.declared.slot_kind.SlotNameKind.TheVariants as variant
@@ -14,4 +14,4 @@ name_kind_view variant.Superblock = slots.Superblock
 -- whether a name is a superblock's
 abbrev pub is_superblock_tag : Option (ℕ × List ℕ) → Bool
 is_superblock_tag None = false
-is_superblock_tag (Some name) = names_superblock (kind_of_type name.0)
+is_superblock_tag (Some name) = is_superblock_kind (kind_of_type name.0)

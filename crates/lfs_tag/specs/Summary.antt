@@ -50,8 +50,8 @@ marks_with_change f marks id = slice_set marks id (f (id_mark marks id))
 abbrev pub padded_marks : List SlotSummary → ℕ → List SlotSummary
 padded_marks marks id = marks ++ replicate (id + 1 - length marks) empty_mark
 
-abbrev pub has_both : SlotSummary → Bool
-has_both m = m.has_name && m.has_struct
+abbrev pub is_complete_mark : SlotSummary → Bool
+is_complete_mark m = m.has_name && m.has_struct
 
 -- the marks after an entry, or none where the entry isn't allowed there
 abbrev pub marks_after_entry : List SlotSummary → LogEntry → Option (List SlotSummary)

@@ -59,7 +59,7 @@ fn write_revision(buf: &mut [u8], revision: u32) -> usize
 }
 
 // Writes a stored tag and the bytes after it.
-fn put_entry(buf: &mut [u8], at: usize, stored: u32, bytes: &[u8])
+fn store_entry(buf: &mut [u8], at: usize, stored: u32, bytes: &[u8])
     requires { at + 4 + length bytes.now ≤ length buf.old }
     ensures { buf.new ≡ overwritten_at buf.old at (big_bytes 4 stored ++ bytes.now) }
 {
@@ -78,7 +78,7 @@ fn write_entry(buf: &mut [u8], at: usize, stored: u32, bytes: &[u8]) -> usize
 {
     let end = at.saturating_add(4).saturating_add(bytes.len());
     if end <= buf.len() {
-        put_entry(buf, at, stored, bytes);
+        store_entry(buf, at, stored, bytes);
     }
     end
 }

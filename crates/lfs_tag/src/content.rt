@@ -7,7 +7,7 @@ ghost use Rattle.lfs_model.specs.format.EntryTypes.{is_known_tag, has_needed_id,
 ghost use Rattle.lfs_model.specs.format.Content.{attributes_with, attributes_after, empty_slot, slot_of_id, changed_at, padded_slots, slots_after, content_after_one, content_after, empty_raw_content};
 ghost use Rattle.lfs_model.specs.format.Thread.{is_hard_tail};
 ghost use Rattle.lfs_tag.specs.LogEntryView.{log_entry_view};
-ghost use Rattle.lfs_tag.specs.ContentView.{data_view, attribute_view, slot_view, tail_view, content_view, index_for_attribute};
+ghost use Rattle.lfs_tag.specs.ContentView.{part_view, attribute_view, slot_view, tail_view, content_view, index_for_attribute};
 ghost use Rattle.lfs_tag.specs.ContentGives.{GivesWithMemory};
 
 use crate::entry::Entry;
@@ -197,7 +197,7 @@ fn set_slot_name<'a>(
     part: NameOrStruct<'a>,
 ) -> Result<(), AllocError>
     requires { id < 1024 }
-    ensures { OnOk result (map slot_view slots.new.items ≡ changed_at (λ s. record s { name = Some (data_view part.entry) }) (padded_slots (map slot_view slots.old.items) id) id) }
+    ensures { OnOk result (map slot_view slots.new.items ≡ changed_at (λ s. record s { name = Some (part_view part.entry) }) (padded_slots (map slot_view slots.old.items) id) id) }
 {
     pad_slots(alloc, slots, id)?;
     let slot = &mut slots[id];
@@ -208,7 +208,7 @@ fn set_slot_name<'a>(
 // Gives a slot its struct.
 fn set_slot_struct<'a>(slots: &mut Vec<Slot<'a>>, id: usize, part: NameOrStruct<'a>)
     requires { id < vec_len slots.old }
-    ensures { map slot_view slots.new.items ≡ changed_at (λ s. record s { struct = Some (data_view part.entry) }) (map slot_view slots.old.items) id }
+    ensures { map slot_view slots.new.items ≡ changed_at (λ s. record s { struct = Some (part_view part.entry) }) (map slot_view slots.old.items) id }
 {
     let slot = &mut slots[id];
     slot.structure = Some(part);

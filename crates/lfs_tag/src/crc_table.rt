@@ -1,7 +1,7 @@
 // What the steps of the checksum make of a byte, a word and eight bytes.
 
 ghost use Rattle.std.specs.Prelude.{◌≡◌, ◌+◌, ◌*◌, ◌<◌, ◌≤◌, length, take, slice_index};
-ghost use Rattle.lfs_model.specs.format.Crc.{next_bits, crc_of};
+ghost use Rattle.lfs_model.specs.format.Crc.{checksum_after_bits, crc_of};
 
 use byteorder::{ByteOrder, LittleEndian};
 
@@ -277,14 +277,14 @@ fn table_word(place: usize) -> u32
 fn crc_of_byte(row: usize, byte: u32) -> u32
     requires row { row < 8 }
     requires byte { byte < 256 }
-    ensures { result ≡ next_bits (8 * (row + 1)) byte }
+    ensures { result ≡ checksum_after_bits (8 * (row + 1)) byte }
 {
     table_word(row * 256 + byte as usize)
 }
 
 // Makes eight steps.
 pub(crate) fn crc_after_bits(x: u32) -> u32
-    ensures { result ≡ next_bits 8 x }
+    ensures { result ≡ checksum_after_bits 8 x }
 {
     (x >> 8) ^ crc_of_byte(0, x & 0xff)
 }
@@ -292,7 +292,7 @@ pub(crate) fn crc_after_bits(x: u32) -> u32
 // Returns the result of 32 steps, and eight for each row before this one, of a word.
 fn crc_of_word(row: usize, word: u32) -> u32
     requires { row ≤ 4 }
-    ensures { result ≡ next_bits (8 * row + 32) word }
+    ensures { result ≡ checksum_after_bits (8 * row + 32) word }
 {
     crc_of_byte(row + 3, word & 0xff)
         ^ crc_of_byte(row + 2, word >> 8 & 0xff)

@@ -81,7 +81,7 @@ impl Superblock {
     }
 
     /// Returns whether the limits are those that are written on a device of this geometry.
-    pub fn has_limits(&self, geometry: &Geometry) -> bool
+    pub fn has_geometry_limits(&self, geometry: &Geometry) -> bool
         ensures { IsTrue result ↔ ((self.now.name_max ≡ name_max_of geometry.now.profile) × (self.now.file_max ≡ file_max_of geometry.now.profile) × (self.now.attr_max ≡ attr_max_of geometry.now.profile)) }
     {
         self.name_max == geometry.name_max()
@@ -100,7 +100,7 @@ impl Superblock {
 
     /// Returns the profile with the superblock's limits. Where one is 0 or above the format's own,
     /// the profile stays as it is.
-    pub fn limits_over(&self, profile: Profile) -> Profile
+    pub fn apply_limits(&self, profile: Profile) -> Profile
         ensures { result ≡ with_limits (superblock_view self.now) profile }
     {
         if !self.has_usable_limits() {

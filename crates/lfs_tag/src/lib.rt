@@ -35,7 +35,7 @@ pub use log::Log;
 pub use lookup::{Lookup, find};
 pub use names::{is_name, is_valid_component, name_cmp};
 pub use revision::is_later_than;
-pub use search::{find_slot_name, find_slot_struct, get};
+pub use search::{get, name_of_slot, struct_of_slot};
 pub use slot_kind::SlotNameKind;
 pub use steps::Steps;
 pub use structure::Struct;

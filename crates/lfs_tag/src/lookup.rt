@@ -13,7 +13,7 @@ use crate::entry::Entry;
 use crate::kinds::{CREATE, NAME_CLASS, SPLICE_CLASS, SUPERBLOCK_NAME};
 use crate::log::Log;
 use crate::names::name_cmp;
-use crate::search::find_slot_name;
+use crate::search::name_of_slot;
 use crate::slot_count::slot_count;
 use crate::steps::Steps;
 use arrayvec::ArrayVec;
@@ -61,14 +61,14 @@ pub fn find(log: &Log<'_>, order: NameOrder, name: &[u8], skip: Option<u16>) -> 
     }
     let mut ranks = Ranks::new();
     if comparisons_of_slots(&mut ranks, log, order, name) {
-        find_in_ranks(&ranks, skip)
+        find_by_comparisons(&ranks, skip)
     } else {
         find_by_ids(log, order, name, skip)
     }
 }
 
 // Returns where the wanted name is, or belongs, by the ranks of all slots.
-fn find_in_ranks(ranks: &[NameComparison], skip: Option<u16>) -> Lookup
+fn find_by_comparisons(ranks: &[NameComparison], skip: Option<u16>) -> Lookup
     requires { length ranks.now < 2 ^ 16 }
     ensures { result ≡ lookup_of_comparisons skip ranks.now }
 {
@@ -109,7 +109,7 @@ fn first_wanted_id(
     ensures within { result ≤ count }
 {
     for id in 0..count {
-        let rank = rank_of_slot(log, order, name, id as u16);
+        let rank = compare_slot_name(log, order, name, id as u16);
         if named_as_wanted(same, skip, id, rank) {
             return id;
         }
@@ -118,10 +118,10 @@ fn first_wanted_id(
 }
 
 // Returns how a slot's name compares with the wanted one.
-fn rank_of_slot(log: &Log<'_>, order: NameOrder, name: &[u8], id: u16) -> NameComparison
+fn compare_slot_name(log: &Log<'_>, order: NameOrder, name: &[u8], id: u16) -> NameComparison
     ensures { (c : RawContent) → content_after empty_raw_content (block_entries log.now) ≡ Some c → result ≡ comparison_with_slot order name.now (slot_of_id c.slots id) }
 {
-    match find_slot_name(log, id, &mut Steps::new()) {
+    match name_of_slot(log, id, &mut Steps::new()) {
         Some(part) if part.kind != SUPERBLOCK_NAME => comparison_by_ordering(name_cmp(
             order, name, part.bytes,
         )),
@@ -150,7 +150,7 @@ fn apply_to_comparisons(ranks: &mut Ranks, order: NameOrder, name: &[u8], entry:
     let class = entry.tag.class();
     if class == NAME_CLASS {
         let rank = compare_with_entry(order, name, entry);
-        put_comparison(ranks, usize::from(entry.tag.id()), rank);
+        set_comparison(ranks, usize::from(entry.tag.id()), rank);
         true
     } else if class == SPLICE_CLASS {
         splice_comparisons(ranks, entry)
@@ -182,7 +182,7 @@ fn comparison_by_ordering(ordering: Ordering) -> NameComparison
 }
 
 // Ranks a slot, which may be past the end.
-fn put_comparison(ranks: &mut Ranks, id: usize, rank: NameComparison)
+fn set_comparison(ranks: &mut Ranks, id: usize, rank: NameComparison)
     requires { id < 1024 }
     ensures { ranks.new.items ≡ slice_set (padded_comparisons ranks.old.items id) id rank }
 {

@@ -13,7 +13,7 @@ pub fn is_valid_component(name: &[u8]) -> bool
     ensures { result ≡ is_component name.now }
 {
     !name.is_empty()
-        && has_name_bytes(name)
+        && has_allowed_bytes(name)
         && !are_names_equal(name, b".")
         && !are_names_equal(name, b"..")
 }
@@ -32,7 +32,7 @@ fn are_names_equal(name: &[u8], other: &[u8]) -> bool
 }
 
 // Returns whether neither 0 nor '/' is among the bytes.
-fn has_name_bytes(name: &[u8]) -> bool
+fn has_allowed_bytes(name: &[u8]) -> bool
     ensures { result ≡ list_all (λ b. not (b == 0 || b == slash_byte)) name.now }
 {
     name.iter().all(|byte| !(*byte == 0 || *byte == b'/'))

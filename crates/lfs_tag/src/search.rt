@@ -5,7 +5,7 @@ ghost use Rattle.std.specs.Option.{option_copied, option_map};
 ghost use Rattle.lfs_model.specs.format.Log.{block_entries};
 ghost use Rattle.lfs_model.specs.format.Content.{RawContent, content_after, empty_raw_content, slot_of_id};
 ghost use Rattle.lfs_model.specs.layers.Lookup.{bytes_at, part_bytes};
-ghost use Rattle.lfs_tag.specs.ContentView.{data_view};
+ghost use Rattle.lfs_tag.specs.ContentView.{part_view};
 ghost use Rattle.lfs_tag.specs.EntrySearch.{splice_effect_of, slot_effect, found_in_entries, searched_count};
 ghost use Rattle.lfs_tag.specs.VerdictView.{entry_effect_view};
 ghost use Rattle.lfs_tag.specs.LogEntryView.{log_entry_view};
@@ -76,7 +76,7 @@ fn search_newest<'a>(
     mut id: u64,
 ) -> (Option<NameOrStruct<'a>>, u64)
     requires { id + length entries < 2 ^ 63 }
-    ensures found { option_map data_view result.0 ≡ found_in_entries (reverse entries.entry) kind id }
+    ensures found { option_map part_view result.0 ≡ found_in_entries (reverse entries.entry) kind id }
     ensures looks { result.1 ≡ searched_count (reverse entries.entry) kind id }
 {
     let mut looks = 0;
@@ -98,7 +98,7 @@ fn newest_of_slot<'a>(
     id: u16,
     steps: &mut Steps,
 ) -> Option<NameOrStruct<'a>>
-    ensures found { option_map data_view result ≡ found_in_entries (reverse (block_entries log.now)) kind id }
+    ensures found { option_map part_view result ≡ found_in_entries (reverse (block_entries log.now)) kind id }
     ensures steps { steps.new ≡ min (steps.old + searched_count (reverse (block_entries log.now)) kind id) (2 ^ 64 - 1) }
     ensures bound { steps.new ≤ steps.old + length (block_entries log.now) }
 {
@@ -109,7 +109,7 @@ fn newest_of_slot<'a>(
 
 // Returns the bytes of a part, where the part has that type.
 fn matching_bytes<'a>(part: Option<NameOrStruct<'a>>, kind: u16) -> Option<&'a [u8]>
-    ensures { option_copied result ≡ part_bytes kind (option_map data_view part.entry) }
+    ensures { option_copied result ≡ part_bytes kind (option_map part_view part.entry) }
 {
     match part {
         Some(part) if part.kind == kind => Some(part.bytes),
@@ -131,8 +131,8 @@ pub fn get<'a>(log: &Log<'a>, kind: u16, id: u16, steps: &mut Steps) -> Option<&
 
 /// Returns the name of a slot, its type and bytes. Returns None where the slot has none or isn't
 /// there. The log isn't malformed. `steps` counts as in [`get`].
-pub fn find_slot_name<'a>(log: &Log<'a>, id: u16, steps: &mut Steps) -> Option<NameOrStruct<'a>>
-    ensures held { (c : RawContent) → content_after empty_raw_content (block_entries log.now) ≡ Some c → option_map data_view result ≡ (slot_of_id c.slots id).name }
+pub fn name_of_slot<'a>(log: &Log<'a>, id: u16, steps: &mut Steps) -> Option<NameOrStruct<'a>>
+    ensures held { (c : RawContent) → content_after empty_raw_content (block_entries log.now) ≡ Some c → option_map part_view result ≡ (slot_of_id c.slots id).name }
     ensures steps { steps.new ≡ min (steps.old + searched_count (reverse (block_entries log.now)) 0 id) (2 ^ 64 - 1) }
     ensures bound { steps.new ≤ steps.old + length (block_entries log.now) }
 {
@@ -141,8 +141,8 @@ pub fn find_slot_name<'a>(log: &Log<'a>, id: u16, steps: &mut Steps) -> Option<N
 
 /// Returns the struct of a slot, its type and bytes. Returns None where the slot has none or isn't
 /// there. The log isn't malformed. `steps` counts as in [`get`].
-pub fn find_slot_struct<'a>(log: &Log<'a>, id: u16, steps: &mut Steps) -> Option<NameOrStruct<'a>>
-    ensures held { (c : RawContent) → content_after empty_raw_content (block_entries log.now) ≡ Some c → option_map data_view result ≡ (slot_of_id c.slots id).struct }
+pub fn struct_of_slot<'a>(log: &Log<'a>, id: u16, steps: &mut Steps) -> Option<NameOrStruct<'a>>
+    ensures held { (c : RawContent) → content_after empty_raw_content (block_entries log.now) ≡ Some c → option_map part_view result ≡ (slot_of_id c.slots id).struct }
     ensures steps { steps.new ≡ min (steps.old + searched_count (reverse (block_entries log.now)) 0x200 id) (2 ^ 64 - 1) }
     ensures bound { steps.new ≤ steps.old + length (block_entries log.now) }
 {

@@ -2,7 +2,7 @@
 
 ghost use Rattle.std.specs.Prelude.{◌≡◌, Some};
 ghost use Rattle.lfs_model.specs.format.Content.{complete_slot, kind_of_type};
-ghost use Rattle.lfs_model.specs.format.Slots.{Slot as ModelSlot, is_superblock, names_superblock};
+ghost use Rattle.lfs_model.specs.format.Slots.{Slot as ModelSlot, is_superblock, is_superblock_kind};
 ghost use Rattle.lfs_tag.specs.ContentView.{slot_view};
 ghost use Rattle.lfs_tag.specs.KindView.{name_kind_view, is_superblock_tag};
 
@@ -32,7 +32,7 @@ impl SlotNameKind {
 
     /// Whether it is a superblock's.
     pub fn is_superblock(self) -> bool
-        ensures { result ≡ names_superblock (name_kind_view self) }
+        ensures { result ≡ is_superblock_kind (name_kind_view self) }
     {
         match self {
             SlotNameKind::Superblock => true,

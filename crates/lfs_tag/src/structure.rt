@@ -4,7 +4,7 @@ ghost use Rattle.std.specs.Prelude.{◌≡◌, Some};
 ghost use Rattle.std.specs.Option.{option_map};
 ghost use Rattle.lfs_model.specs.format.Content.{read_struct};
 ghost use Rattle.lfs_model.specs.layers.LoggedContent.{IsAllowedPart};
-ghost use Rattle.lfs_tag.specs.ContentView.{data_view};
+ghost use Rattle.lfs_tag.specs.ContentView.{part_view};
 
 use crate::content::NameOrStruct;
 use crate::fields::{ctz_of, pair_of};
@@ -28,8 +28,8 @@ impl<'a> Struct<'a> {
     /// What a part says as a slot's struct. `None` exactly where its type is no struct's, or where
     /// a list or a pair isn't named in 8 bytes. No log that has a content holds such a struct.
     pub fn of(part: &NameOrStruct<'a>) -> Option<Struct<'a>>
-        ensures says { IsAllowedPart 2 (data_view part.now) → option_map struct_view result ≡ Some (read_struct part.now.kind part.now.bytes.now) }
-        ensures only { option_map struct_view result ≡ struct_if_matching (data_view part.now) }
+        ensures says { IsAllowedPart 2 (part_view part.now) → option_map struct_view result ≡ Some (read_struct part.now.kind part.now.bytes.now) }
+        ensures only { option_map struct_view result ≡ struct_if_matching (part_view part.now) }
     {
         match (part.kind, <&[u8; 8]>::try_from(part.bytes)) {
             (INLINE_STRUCT, _) => Some(Struct::Inline(part.bytes)),

@@ -6,7 +6,7 @@ ghost use Rattle.lfs_model.specs.format.Log.{block_entries};
 ghost use Rattle.lfs_model.specs.format.Content.{RawContent, content_after, empty_raw_content};
 ghost use Rattle.lfs_tag.specs.LogEntryView.{log_entry_view};
 ghost use Rattle.lfs_tag.specs.ContentGives.{GivesWithMemory};
-ghost use Rattle.lfs_tag.specs.Summary.{IsLogSummary, empty_mark, id_mark, marks_with_change, padded_marks, has_both, marks_after_entry, outline_view, outline_after_entry, outline_after, empty_outline};
+ghost use Rattle.lfs_tag.specs.Summary.{IsLogSummary, empty_mark, id_mark, marks_with_change, padded_marks, is_complete_mark, marks_after_entry, outline_view, outline_after_entry, outline_after, empty_outline};
 
 use crate::content::{ContentError, Tail, has_needed_slot, is_known_entry, tail_set_by};
 use crate::entry::Entry;
@@ -85,7 +85,7 @@ fn read_outline(alloc: Global, log: &Log<'_>) -> Result<PartialSummary, ContentE
 }
 
 fn all_complete(marks: &[SlotSummary]) -> bool
-    ensures { result ≡ list_all has_both marks.now }
+    ensures { result ≡ list_all is_complete_mark marks.now }
 {
     marks.iter().all(|mark| mark.has_name && mark.has_struct)
 }

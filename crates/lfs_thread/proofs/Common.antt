@@ -41,7 +41,7 @@ pub use Rattle.lfs_thread.specs.Kept.{AllBlocksUsed, AreHeaders, IsCacheCurrent,
 pub use Rattle.lfs_thread.specs.MountErrors.{IsThreadViolation}
 pub use Rattle.lfs_thread.specs.Moves.{CanMoveNext, IsNextMoved, LossLeavesNextMoved, NextMovedOnDisk, pair_revision}
 pub use Rattle.lfs_thread.specs.PairPlaces.{FindsByLesser, address_index, blocks_of_addresses, lesser_of}
-pub use Rattle.lfs_thread.specs.ThreadDevice.{CleanLossLeaves, ReportsErrorsWritingNothing}
+pub use Rattle.lfs_thread.specs.ThreadDevice.{CleanLossLeaves, ReportsWritingNothing}
 pub use Rattle.lfs_thread.specs.ThreadSteps.{BothOnDisk, CanChangePair, CanDropNext, CanSplitAt, CanThreadIn, ChangesWithinReads, FreshInFlight, HasOldPair, HasSplit, HasSuperblock, IsNextDropped, IsPairCommitted, IsPairWritten, IsThreadedIn, KeepsSuperblockFirst, LossLeavesBoth, LossLeavesPair, LossLeavesThreaded, PartsFit, RefusesChanges, RefusesThreading, ThreadReportsErrors, ThreadReportsKeepingOthers, ThreadedOnDisk, complete_after, empty_anchor, map_freeing, map_using, pairs_split, pairs_with, tail_change, thread_pair}
 pub use Rattle.lfs_thread.specs.Unloads.{CanUnload, IsUnloaded, LossLeavesUnloaded, UnloadedOnDisk}
 pub use Rattle.std.proofs.Math.Seq.{set-append_seam}

@@ -6,21 +6,21 @@ use Rattle.lfs_device.specs.declared.device.BlockDevice.{Ghosts}
 use Rattle.lfs_device.specs.declared.error.Error.{Error}
 use Rattle.lfs_device.specs.declared.error.Error.TheVariants.{Io, NoMemory}
 use Rattle.lfs_device.specs.declared.geometry.Geometry.{Geometry}
-use Rattle.lfs_thread.proofs.Common.{ReadsOnly, disk_of_blocks, Blocks, SameExceptThese, BlockStates, ordered_disk, HoldsAtLosses-weaker, goes_on_by, ChangesReadingFew, ReportsErrorsWritingNothing, PairHeader, kept_in_order, ThreadReportsErrors, ThreadReportsKeepingOthers, ChangesWithinReads, address_blocks, addresses_blocks}
+use Rattle.lfs_thread.proofs.Common.{ReadsOnly, disk_of_blocks, Blocks, SameExceptThese, BlockStates, ordered_disk, HoldsAtLosses-weaker, goes_on_by, ChangesReadingFew, ReportsWritingNothing, PairHeader, kept_in_order, ThreadReportsErrors, ThreadReportsKeepingOthers, ChangesWithinReads, address_blocks, addresses_blocks}
 use Rattle.lfs_device.specs.DeviceCalls.{ChangesTheseBlocks}
 use Rattle.lfs_model.specs.declared.order.NameOrder.{NameOrder}
 use Rattle.lfs_model.proofs.Histories.{StayUnprogrammed-trans, StayUnprogrammed-wider}
 use Rattle.lfs_model.proofs.Overwrites.{SameExceptThese-trans, SameExceptThese-wider}
 use Rattle.lfs_pair.specs.declared.pair.Pair.{Pair}
 use Rattle.lfs_pair.specs.Commits.{CommitFails}
-use Rattle.lfs_thread.specs.ThreadDevice.{ReportsErrorsKeepingOthers}
+use Rattle.lfs_thread.specs.ThreadDevice.{ReportsKeepingOthers}
 use Rattle.lfs_thread.specs.ThreadSteps.{OnlyReadsDevice, ChangesThreadBlocks}
 
 module _ {D : Type 0} (g : Ghosts D) (order : NameOrder) (old new : D) (hs now_hs : List PairHeader) (sets now_sets : BlockStates) where
   pub unwritten_from : ReadsOnly g old new → OnlyReadsDevice (kept_in_order g order old hs sets) (kept_in_order g order new now_hs now_sets)
   unwritten_from r = record { disk = ap₂ (λ k bs. ordered_disk order (disk_of_blocks k bs)) r.geometry r.same; reads = r.reads }
 
-  pub reported_from : {X : Type 0} (result : Result X Error) → ReportsErrorsWritingNothing g old new result → ThreadReportsErrors (kept_in_order g order old hs sets) (kept_in_order g order new now_hs now_sets) result
+  pub reported_from : {X : Type 0} (result : Result X Error) → ReportsWritingNothing g old new result → ThreadReportsErrors (kept_in_order g order old hs sets) (kept_in_order g order new now_hs now_sets) result
   reported_from result t = record {
     errors = t.errors;
     fault = t.faults.fault;
@@ -28,7 +28,7 @@ module _ {D : Type 0} (g : Ghosts D) (order : NameOrder) (old new : D) (hs now_h
     unwritten = λ (e : result ≡ Err NoMemory). unwritten_from (t.unwritten e);
   }
 
-  pub reported_beside_from : {X : Type 0} (bs : List ℕ) (result : Result X Error) → ReportsErrorsKeepingOthers g bs old new result → ThreadReportsKeepingOthers bs (kept_in_order g order old hs sets) (kept_in_order g order new now_hs now_sets) result
+  pub reported_beside_from : {X : Type 0} (bs : List ℕ) (result : Result X Error) → ReportsKeepingOthers g bs old new result → ThreadReportsKeepingOthers bs (kept_in_order g order old hs sets) (kept_in_order g order new now_hs now_sets) result
   reported_beside_from bs result t = record { errors = t.errors; fault = t.faults.fault; no_fault = t.faults.no_fault; beside = t.beside }
 
   pub writes_from : (bs : List ℕ) → ChangesTheseBlocks g bs old new → ChangesThreadBlocks bs (kept_in_order g order old hs sets) (kept_in_order g order new now_hs now_sets)
@@ -96,7 +96,7 @@ errors_of was now {result = Ok x} h = record { errors = tt; unwritten = λ e. ab
 errors_of {X = X} was now {result = Err e} h = record { errors = h.errors; unwritten = λ same. h.no_memory (same_error X e NoMemory same) }
 
 -- an error that is passed on
-pub errors_again : {D X Y : Type 0} {g : Ghosts D} {old new : D} (e : Error) (first : Result X Error) (second : Result Y Error) → first ≡ Err e → second ≡ Err e → ReportsErrorsWritingNothing g old new first → ReportsErrorsWritingNothing g old new second
+pub errors_again : {D X Y : Type 0} {g : Ghosts D} {old new : D} (e : Error) (first : Result X Error) (second : Result Y Error) → first ≡ Err e → second ≡ Err e → ReportsWritingNothing g old new first → ReportsWritingNothing g old new second
 errors_again {X = X} {Y = Y} e first second is now t = record {
   errors = subst (λ (r : Result Y Error). IfErr r (λ e. (e ≡ Io) ⊎ (e ≡ NoMemory))) (sym now) (subst (λ (r : Result X Error). IfErr r (λ e. (e ≡ Io) ⊎ (e ≡ NoMemory))) is t.errors);
   faults = record {

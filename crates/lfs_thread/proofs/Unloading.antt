@@ -9,7 +9,7 @@ use Rattle.lfs_device.specs.declared.geometry.Geometry.{Geometry}
 use Rattle.lfs_model.specs.format.Slots.{slot_size}
 use Rattle.lfs_model.specs.layers.Changes.{Delete}
 use Rattle.lfs_model.proofs.Effects.{deletes, puts_move}
-use Rattle.lfs_thread.specs.Unloads.{changes_of_unload, loaded_pair, unloaded_pair}
+use Rattle.lfs_thread.specs.Unloads.{changes_of_unload, pair_behind_unloaded, unloaded_pair}
 use Rattle.lfs_thread.proofs.Changing.{IsAt, completes, header_at_index, pair_at_index}
 use Rattle.lfs_thread.proofs.Coming.{SettlesTwo, held_address, settles_two}
 use Rattle.lfs_thread.proofs.Joined.{joined_kept, joined_pairs}
@@ -146,7 +146,7 @@ module _ (disk : Disk) (history : List CallEvent) (hs : List PairHeader) (sets :
       same_new : copied.new ≡ record is_header.held { move = zero_gstate }
       same_new = same_Some copied.new (record is_header.held { move = zero_gstate }) (sym copied.made ∙ ap (λ r. changed_if_any r drops) is_header.raw ∙ without_delta is_header.held)
 
-      abbrev copy_is : IsCopyHeader beside then f fresh (loaded_pair old index fresh).content
+      abbrev copy_is : IsCopyHeader beside then f fresh (pair_behind_unloaded old index fresh).content
       copy_is = record {
         header = record {
           address = subst (IsPairAddress beside) (sym copied.holds.same) (record {
@@ -175,7 +175,7 @@ module _ (disk : Disk) (history : List CallEvent) (hs : List PairHeader) (sets :
         content = sides l.content;
       }
         where
-          behind : content_at (record disk { blocks = left }) fresh ≡ Some (loaded_pair old index fresh).content
+          behind : content_at (record disk { blocks = left }) fresh ≡ Some (pair_behind_unloaded old index fresh).content
           behind = ap (content_at (record disk { blocks = left })) (sym copied.holds.same)
               ∙ ap (λ r. option_and_then complete_content r) (raw_content-stays beside f_elsewhere l.others)
               ∙ header_content beside then f copy_is.header ∙ ap Some copy_is.content
@@ -202,7 +202,7 @@ module _ (disk : Disk) (history : List CallEvent) (hs : List PairHeader) (sets :
         made_there : complete_after (kept_view beside then hs sets) index changes ≡ Some can_leave.content
         made_there = still_made disk history hs sets index h fresh changes a kept can_leave mid then others stay
 
-        tail_is : (loaded_pair old index fresh).content.tail ≡ (disk_pair_at beside (header_address h)).content.tail
+        tail_is : (pair_behind_unloaded old index fresh).content.tail ≡ (disk_pair_at beside (header_address h)).content.tail
         tail_is = ap (λ (p : Pair). p.content.tail) (was_pair ∙ sym (disk_pair_at-stays disk (header_address h) (pair_elsewhere apart_from) others))
 
         same_at : thread_pair (kept_view beside then hs sets) index ≡ thread_pair old index
@@ -212,12 +212,12 @@ module _ (disk : Disk) (history : List CallEvent) (hs : List PairHeader) (sets :
         headers = insert (set hs index new) (index + 1) f
 
         pub unloaded_kept : IsKeptOnDisk left after headers (map_using sets fresh)
-        unloaded_kept = joined_kept beside then blocks after hs sets (map_using sets fresh) index h new f fresh changes can_leave.content a mid_kept made_there refl commits keeps stays copy_is.header copy_is.at (loaded_pair old index fresh).content copy_is.content tail_is uses
+        unloaded_kept = joined_kept beside then blocks after hs sets (map_using sets fresh) index h new f fresh changes can_leave.content a mid_kept made_there refl commits keeps stays copy_is.header copy_is.at (pair_behind_unloaded old index fresh).content copy_is.content tail_is uses
 
         pub is_unloaded : IsUnloaded old index fresh keep (kept_view left after headers (map_using sets fresh))
         is_unloaded = record {
-          pairs = joined_pairs beside then blocks after hs sets (map_using sets fresh) index h new f fresh changes can_leave.content a mid_kept made_there refl commits keeps stays copy_is.header copy_is.at (loaded_pair old index fresh).content copy_is.content tail_is uses
-              ∙ ap₂ (λ (ps : List Pair) (p : Pair). pairs_split ps index (record { at = p.at; content = can_leave.content }) (loaded_pair old index fresh)) mid_pairs same_at;
+          pairs = joined_pairs beside then blocks after hs sets (map_using sets fresh) index h new f fresh changes can_leave.content a mid_kept made_there refl commits keeps stays copy_is.header copy_is.at (pair_behind_unloaded old index fresh).content copy_is.content tail_is uses
+              ∙ ap₂ (λ (ps : List Pair) (p : Pair). pairs_split ps index (record { at = p.at; content = can_leave.content }) (pair_behind_unloaded old index fresh)) mid_pairs same_at;
           thread = kept_thread left after headers (map_using sets fresh) unloaded_kept;
           first = first_made disk history hs sets index h fresh changes a kept can_leave mid then others stay blocks commits.new commits.made commits.logged commits.first;
           revision = ap (pair_revision left) (sym copied.holds.same) ∙ revision_at left after f (header-stays f f_elsewhere keeps stays copy_is.header) ∙ ap Some copied.fresh_is.revision_is

@@ -10,13 +10,13 @@ use Rattle.lfs_model.specs.session.History.{CallEvent, AllCallsSince, HoldsAtLos
 use Rattle.lfs_model.specs.crash.Stops.{ErasesCleanly, LeftByLoss}
 
 -- `Io` comes with a fault of the device, and any other result with none. At `NoMemory` nothing was written.
-pub record ReportsErrorsWritingNothing {D X : Type 0} (g : Ghosts D) (old new : D) (result : Result X Error) : Type 0 where
+pub record ReportsWritingNothing {D X : Type 0} (g : Ghosts D) (old new : D) (result : Result X Error) : Type 0 where
   pub errors : IfErr result (λ e. (e ≡ Io) ⊎ (e ≡ NoMemory))
   pub faults : ReportsFaults g old new result
   pub unwritten : result ≡ Err NoMemory → ReadsOnly g old new
 
 -- `Io` comes with a fault of the device, and any other result with none. At `NoMemory` no block was written but these.
-pub record ReportsErrorsKeepingOthers {D X : Type 0} (g : Ghosts D) (bs : List ℕ) (old new : D) (result : Result X Error) : Type 0 where
+pub record ReportsKeepingOthers {D X : Type 0} (g : Ghosts D) (bs : List ℕ) (old new : D) (result : Result X Error) : Type 0 where
   pub errors : IfErr result (λ e. (e ≡ Io) ⊎ (e ≡ NoMemory))
   pub faults : ReportsFaults g old new result
   pub beside : result ≡ Err NoMemory → SameExceptThese bs (g.blocks old) (g.blocks new)

@@ -10,7 +10,7 @@ use Rattle.lfs_model.specs.session.History.{LossLeavesAtWorst, HoldsAtLosses, On
 use Rattle.lfs_model.specs.format.Slots.{PairContent, FitsInPair, Slot, Tail, zero_gstate}
 use Rattle.lfs_model.specs.format.Content.{RawContent, content_at, complete_content, current_block}
 use Rattle.lfs_model.specs.layers.Changes.{PairChange, PutTail}
-use Rattle.lfs_model.specs.format.Thread.{Pair, anchor_address, IsThread, tail_target, starts_superblock}
+use Rattle.lfs_model.specs.format.Thread.{Pair, anchor_address, IsThread, tail_target, superblock_first}
 use Rattle.lfs_pair.specs.Commits.{changed_pair, KeepsOutsidePair}
 use Rattle.lfs_model.specs.tree.View.{BeginsWith, superblock_entry}
 use Rattle.lfs_model.specs.layers.BlockSets.{Free, Used, BlockStates, IsInFlight}
@@ -91,7 +91,7 @@ pairs_with t index c = slice_set t.pairs index (record { at = (thread_pair t ind
 
 -- slot 0 is the superblock
 abbrev pub BeginWithSuperblock : List Slot → Type 0
-BeginWithSuperblock slots = (starts_superblock slots ≡ true) × (option_map (λ s. s.name) (slice_get slots 0) ≡ Some (codes "littlefs"))
+BeginWithSuperblock slots = (superblock_first slots ≡ true) × (option_map (λ s. s.name) (slice_get slots 0) ≡ Some (codes "littlefs"))
 
 abbrev pub HasSuperblock : PairContent → Type 0
 HasSuperblock c = BeginWithSuperblock c.slots

@@ -27,12 +27,12 @@ abbrev pub unloaded_pair : KeptThread → ℕ → ℕ × ℕ → ℕ → Pair
 unloaded_pair t index fresh keep = let p = thread_pair t index in record p { content = record p.content { slots = take keep p.content.slots; tail = Some (record { hard = true; to = fresh }) } }
 
 -- a pair in the two blocks with all slots and the tail of the pair at an index
-abbrev pub loaded_pair : KeptThread → ℕ → ℕ × ℕ → Pair
-loaded_pair t index fresh = record { at = fresh; content = record (thread_pair t index).content { move = zero_gstate } }
+abbrev pub pair_behind_unloaded : KeptThread → ℕ → ℕ × ℕ → Pair
+pair_behind_unloaded t index fresh = record { at = fresh; content = record (thread_pair t index).content { move = zero_gstate } }
 
 -- A pair is unloaded: the fresh pair comes after it, and has all of its slots, its tail and the next revision.
 pub record IsUnloaded (old : KeptThread) (index : ℕ) (fresh : ℕ × ℕ) (keep : ℕ) (new : KeptThread) : Type 0 where
-  pub pairs : new.pairs ≡ pairs_split old.pairs index (unloaded_pair old index fresh keep) (loaded_pair old index fresh)
+  pub pairs : new.pairs ≡ pairs_split old.pairs index (unloaded_pair old index fresh keep) (pair_behind_unloaded old index fresh)
   pub thread : IsThread (content_at new.disk) (block_count new.disk) new.pairs
   pub first : KeepsSuperblockFirst old.disk (thread_pair old index).at (unloaded_pair old index fresh keep).content new.disk
   pub revision : pair_revision new.disk fresh ≡ option_map (λ r. (r + 1) % 2 ^ 32) (pair_revision old.disk (thread_pair old index).at)
@@ -41,7 +41,7 @@ pub record IsUnloaded (old : KeptThread) (index : ℕ) (fresh : ℕ × ℕ) (kee
 -- on the disk, the pair at the index has its first slots, and the fresh pair has all
 pub record UnloadedOnDisk (old : KeptThread) (index : ℕ) (fresh : ℕ × ℕ) (keep : ℕ) (disk : Disk) : Type 0 where
   pub keeps : content_at disk (thread_pair old index).at ≡ Some (unloaded_pair old index fresh keep).content
-  pub behind : content_at disk fresh ≡ Some (loaded_pair old index fresh).content
+  pub behind : content_at disk fresh ≡ Some (pair_behind_unloaded old index fresh).content
   pub first : KeepsSuperblockFirst old.disk (thread_pair old index).at (unloaded_pair old index fresh keep).content disk
 
 -- What a stop leaves: the pair with its old content, or unloaded.

@@ -10,14 +10,14 @@ ghost use Rattle.lfs_pair.specs.Split.{LossLeavesSplit, SplitsPair};
 ghost use Rattle.lfs_pair.specs.Writing.{ChangesReadingFew};
 ghost use Rattle.lfs_thread.specs.Kept.{IsCacheCurrent, disk_of_device};
 ghost use Rattle.lfs_thread.specs.CachedLog.{reads_unless_cached};
-ghost use Rattle.lfs_thread.specs.ThreadDevice.{CleanLossLeaves, ReportsErrorsWritingNothing};
+ghost use Rattle.lfs_thread.specs.ThreadDevice.{CleanLossLeaves, ReportsWritingNothing};
 ghost use Rattle.lfs_model.specs.format.Thread.{address_blocks, addresses_blocks};
 ghost use Rattle.lfs_thread.specs.CachedCalls.{CanCommitCached, CanSplitCached};
 ghost use Rattle.lfs_pair.specs.Endings.{CommitEnds};
 
 use lfs_blocks::Cache;
 use lfs_device::{BlockDevice, Error};
-use lfs_pair::{Change, Outcome, Pair, commit, commit_bytes, split, split_bytes};
+use lfs_pair::{Change, Outcome, Pair, commit, commit_from_bytes, split, split_from_bytes};
 use std::alloc::Global;
 
 // Commits changes to a pair. The active block isn't read where it is cached. Afterwards neither
@@ -33,12 +33,12 @@ pub(crate) fn commit_with_cache<D: BlockDevice>(
     ensures ends { CommitEnds D.BlockDevice (changes_view changes.now) device.old device.new pair.old pair.new result }
     ensures current { IsCacheCurrent (D.blocks device.new) cache.new }
     ensures device { ChangesReadingFew D.BlockDevice (1 + reads_unless_cached (cached_bytes cache.old pair.old.active)) (address_blocks (header_address pair.old)) device.old device.new }
-    ensures errors { ReportsErrorsWritingNothing D.BlockDevice device.old device.new result }
+    ensures errors { ReportsWritingNothing D.BlockDevice device.old device.new result }
     ensures stops { CleanLossLeaves (D.history device.old) (D.history device.new)
         (LossLeavesChanged (disk_of_device D.BlockDevice device.old) (header_address pair.old) (changes_view changes.now)) }
 {
-    match take_pair_blocks(cache, pair.blocks, pair.active) {
-        Some(block) => commit_bytes(alloc, device, pair, &block, changes),
+    match take_cached_pair(cache, pair.blocks, pair.active) {
+        Some(block) => commit_from_bytes(alloc, device, pair, &block, changes),
         None => commit(alloc, device, pair, changes),
     }
 }
@@ -58,21 +58,21 @@ pub(crate) fn split_with_cache<D: BlockDevice>(
         (disk_of_device D.BlockDevice device.new) (D.history device.new) pair.new fresh_pair) }
     ensures current { IsCacheCurrent (D.blocks device.new) cache.new }
     ensures device { ChangesReadingFew D.BlockDevice (3 + reads_unless_cached (cached_bytes cache.old pair.old.active)) (addresses_blocks (header_address pair.old) (array_address fresh)) device.old device.new }
-    ensures errors { ReportsErrorsWritingNothing D.BlockDevice device.old device.new result }
+    ensures errors { ReportsWritingNothing D.BlockDevice device.old device.new result }
     ensures stops { CleanLossLeaves (D.history device.old) (D.history device.new)
         (LossLeavesSplit (disk_of_device D.BlockDevice device.old) (header_address pair.old) (array_address fresh) (changes_view changes.now)) }
 {
-    let held = take_pair_blocks(cache, pair.blocks, pair.active);
+    let held = take_cached_pair(cache, pair.blocks, pair.active);
     forget_cached_pair(cache, fresh);
     match held {
-        Some(block) => split_bytes(alloc, device, pair, fresh, &block, changes),
+        Some(block) => split_from_bytes(alloc, device, pair, fresh, &block, changes),
         None => split(alloc, device, pair, fresh, changes),
     }
 }
 
 // Takes both blocks of a pair out of the cache. Returns the active block's bytes, if they are at
 // hand.
-fn take_pair_blocks(cache: &mut Cache, blocks: [u32; 2], active: u32) -> Option<Vec<u8>>
+fn take_cached_pair(cache: &mut Cache, blocks: [u32; 2], active: u32) -> Option<Vec<u8>>
     ensures bytes { option_map (λ bytes. bytes.items) result ≡ cached_bytes cache.old active }
     ensures gone { cache.new ≡ cache_without (cache_without (cache_without cache.old active) (array_address blocks).0) (array_address blocks).1 }
 {

@@ -3,7 +3,7 @@
 ghost use Rattle.std.specs.Prelude.{◌≡◌, ◌+◌, OnOk};
 ghost use Rattle.lfs_pair.specs.Writing.{ChangesReadingFew};
 ghost use Rattle.lfs_pair.specs.ChangeView.{changes_view};
-ghost use Rattle.lfs_thread.specs.ThreadDevice.{CleanLossLeaves, ReportsErrorsWritingNothing};
+ghost use Rattle.lfs_thread.specs.ThreadDevice.{CleanLossLeaves, ReportsWritingNothing};
 ghost use Rattle.lfs_thread.specs.Kept.{IsCacheCurrent, IsKept, kept_of_device};
 ghost use Rattle.lfs_thread.specs.CachedLog.{cached_block_log, reads_unless_cached};
 ghost use Rattle.lfs_thread.specs.ThreadSteps.{CanDropNext, IsNextDropped, LossLeavesPair, RefusesChanges, thread_pair};
@@ -37,7 +37,7 @@ pub(crate) fn drop_next_pair<D: BlockDevice>(
     ensures full { result ≡ Ok Outcome.Full → RefusesChanges (kept_of_device D.BlockDevice device.old pairs.old.items map.old) index (changes_view changes.now)
         (kept_of_device D.BlockDevice device.new pairs.new.items map.new) }
     ensures device { ChangesReadingFew D.BlockDevice (1 + reads_unless_cached (cached_block_log (kept_of_device D.BlockDevice device.old pairs.old.items map.old) cache.old index)) (address_blocks (thread_pair (kept_of_device D.BlockDevice device.old pairs.old.items map.old) index).at) device.old device.new }
-    ensures errors { ReportsErrorsWritingNothing D.BlockDevice device.old device.new result }
+    ensures errors { ReportsWritingNothing D.BlockDevice device.old device.new result }
     ensures stops { CleanLossLeaves (D.history device.old) (D.history device.new)
         (LossLeavesPair (kept_of_device D.BlockDevice device.old pairs.old.items map.old) index (changes_view changes.now)) }
 {

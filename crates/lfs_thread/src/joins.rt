@@ -6,7 +6,7 @@ ghost use Rattle.lfs_model.specs.format.Slots.{array_address};
 ghost use Rattle.lfs_tag.specs.ContentView.{tail_view};
 ghost use Rattle.lfs_pair.specs.Writing.{ChangesReadingFew};
 ghost use Rattle.lfs_pair.specs.ChangeView.{change_view, changes_view};
-ghost use Rattle.lfs_thread.specs.ThreadDevice.{CleanLossLeaves, ReportsErrorsKeepingOthers};
+ghost use Rattle.lfs_thread.specs.ThreadDevice.{CleanLossLeaves, ReportsKeepingOthers};
 ghost use Rattle.lfs_thread.specs.Kept.{IsCacheCurrent, IsKept, kept_of_device};
 ghost use Rattle.lfs_thread.specs.CachedLog.{cached_block_log, reads_unless_cached};
 ghost use Rattle.lfs_thread.specs.ThreadSteps.{CanThreadIn, RefusesThreading, IsThreadedIn, LossLeavesThreaded, tail_change, thread_pair};
@@ -43,7 +43,7 @@ pub(crate) fn thread_in_pair<D: BlockDevice>(
     ensures full { result ≡ Ok Outcome.Full → RefusesThreading (kept_of_device D.BlockDevice device.old pairs.old.items map.old) index (array_address fresh) (changes_view changes.now)
         (kept_of_device D.BlockDevice device.new pairs.new.items map.new) }
     ensures device { ChangesReadingFew D.BlockDevice (3 + reads_unless_cached (cached_block_log (kept_of_device D.BlockDevice device.old pairs.old.items map.old) cache.old index)) (addresses_blocks (thread_pair (kept_of_device D.BlockDevice device.old pairs.old.items map.old) index).at (array_address fresh)) device.old device.new }
-    ensures errors { ReportsErrorsKeepingOthers D.BlockDevice (address_blocks (array_address fresh)) device.old device.new result }
+    ensures errors { ReportsKeepingOthers D.BlockDevice (address_blocks (array_address fresh)) device.old device.new result }
     ensures stops { CleanLossLeaves (D.history device.old) (D.history device.new)
         (LossLeavesThreaded (kept_of_device D.BlockDevice device.old pairs.old.items map.old) index (array_address fresh) (changes_view changes.now)) }
 {

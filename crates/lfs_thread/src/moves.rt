@@ -7,7 +7,7 @@ ghost use Rattle.lfs_pair.specs.Writing.{ChangesReadingFew};
 ghost use Rattle.lfs_thread.specs.CachedLog.{cached_block_log, reads_unless_cached};
 ghost use Rattle.lfs_thread.specs.Kept.{IsCacheCurrent, IsKept, kept_of_device};
 ghost use Rattle.lfs_thread.specs.Moves.{CanMoveNext, IsNextMoved, LossLeavesNextMoved};
-ghost use Rattle.lfs_thread.specs.ThreadDevice.{CleanLossLeaves, ReportsErrorsKeepingOthers};
+ghost use Rattle.lfs_thread.specs.ThreadDevice.{CleanLossLeaves, ReportsKeepingOthers};
 ghost use Rattle.lfs_thread.specs.ThreadSteps.{thread_pair};
 
 use crate::commits::{commit_with_cache, forget_cached_pair};
@@ -36,7 +36,7 @@ pub(crate) fn move_next_pair<D: BlockDevice>(
     ensures is_moved { OnOk result (IsNextMoved (kept_of_device D.BlockDevice device.old pairs.old.items map.old) index (array_address fresh)
         (kept_of_device D.BlockDevice device.new pairs.new.items map.new)) }
     ensures device { ChangesReadingFew D.BlockDevice (4 + reads_unless_cached (cached_block_log (kept_of_device D.BlockDevice device.old pairs.old.items map.old) cache.old index)) (addresses_blocks (thread_pair (kept_of_device D.BlockDevice device.old pairs.old.items map.old) index).at (array_address fresh)) device.old device.new }
-    ensures errors { ReportsErrorsKeepingOthers D.BlockDevice (address_blocks (array_address fresh)) device.old device.new result }
+    ensures errors { ReportsKeepingOthers D.BlockDevice (address_blocks (array_address fresh)) device.old device.new result }
     ensures stops { CleanLossLeaves (D.history device.old) (D.history device.new)
         (LossLeavesNextMoved (kept_of_device D.BlockDevice device.old pairs.old.items map.old) index (array_address fresh)) }
 {

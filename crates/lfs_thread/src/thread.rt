@@ -98,7 +98,7 @@ impl<D: BlockDevice> Thread<D> {
     {
         let block_count = device.geometry().block_count;
         let mut pairs = Vec::new(alloc);
-        let (cache, mut map) = match new_cache_map(alloc, block_count) {
+        let (cache, mut map) = match cache_and_map(alloc, block_count) {
             Ok(parts) => parts,
             Err(_) => return Err((device, MountError::NoMemory)),
         };
@@ -352,7 +352,7 @@ impl<D: BlockDevice> Thread<D> {
     {
         let goes_on = known.end == pos;
         known.end = pos + buf.len().min(size.saturating_sub(pos) as usize) as u32;
-        if let Some(part) = known.find_part(&self.device, size, pos, buf.len()) {
+        if let Some(part) = known.find_known_part(&self.device, size, pos, buf.len()) {
             let is_cached = self.cache.lend(part.block).is_some();
             if goes_on || is_cached {
                 return read_part_cached(&mut self.device, &mut self.cache, part, buf);
@@ -678,7 +678,7 @@ impl<D: BlockDevice> Thread<D> {
 }
 
 // Makes an empty cache, and a map of so many free blocks.
-fn new_cache_map(alloc: Global, block_count: u32) -> Result<(Cache, BlockMap), Error>
+fn cache_and_map(alloc: Global, block_count: u32) -> Result<(Cache, BlockMap), Error>
     ensures empty { IfOk result (λ parts. parts.0 ≡ []) }
     ensures free { IfOk result (λ parts. parts.1 ≡ replicate block_count Free) }
     ensures error { IfErr result (λ e. e ≡ Error.NoMemory) }

@@ -7,7 +7,7 @@ ghost use Rattle.lfs_pair.specs.ChangeView.{changes_view};
 ghost use Rattle.lfs_pair.specs.Writing.{ChangesReadingFew};
 ghost use Rattle.lfs_thread.specs.CachedLog.{cached_block_log, reads_unless_cached};
 ghost use Rattle.lfs_thread.specs.Kept.{IsCacheCurrent, IsKept, kept_of_device};
-ghost use Rattle.lfs_thread.specs.ThreadDevice.{CleanLossLeaves, ReportsErrorsKeepingOthers};
+ghost use Rattle.lfs_thread.specs.ThreadDevice.{CleanLossLeaves, ReportsKeepingOthers};
 ghost use Rattle.lfs_thread.specs.ThreadSteps.{thread_pair};
 ghost use Rattle.lfs_thread.specs.Unloads.{CanUnload, IsUnloaded, LossLeavesUnloaded, changes_of_unload};
 
@@ -39,7 +39,7 @@ pub(crate) fn unload_pair<D: BlockDevice>(
     ensures is_unloaded { OnOk result (IsUnloaded (kept_of_device D.BlockDevice device.old pairs.old.items map.old) index (array_address fresh) keep
         (kept_of_device D.BlockDevice device.new pairs.new.items map.new)) }
     ensures device { ChangesReadingFew D.BlockDevice (4 + reads_unless_cached (cached_block_log (kept_of_device D.BlockDevice device.old pairs.old.items map.old) cache.old index)) (addresses_blocks (thread_pair (kept_of_device D.BlockDevice device.old pairs.old.items map.old) index).at (array_address fresh)) device.old device.new }
-    ensures errors { ReportsErrorsKeepingOthers D.BlockDevice (address_blocks (array_address fresh)) device.old device.new result }
+    ensures errors { ReportsKeepingOthers D.BlockDevice (address_blocks (array_address fresh)) device.old device.new result }
     ensures stops { CleanLossLeaves (D.history device.old) (D.history device.new)
         (LossLeavesUnloaded (kept_of_device D.BlockDevice device.old pairs.old.items map.old) index (array_address fresh) keep) }
 {

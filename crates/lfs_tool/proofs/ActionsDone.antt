@@ -1,7 +1,7 @@
 -- What was done of the items that are unpacked.
 use Rattle.std.proofs.Common.{ℕ, zero, suc, ◌≡◌, ◌<◌, ◌+◌, ◌∙◌, ◌++◌, List, [], ◌∷◌, Option, Some, None, Result, Ok, Err, ap, add-one, append_assoc, arith, get_or, length, refl, subst, sym, take}
 use Rattle.std.specs.Prelude.{OnErr}
-use Rattle.lfs_tool.proofs.Common.{Disk, UnpackingAction, IsFormedList, OnlyReadsThread, owned_view, tree_items_view, HaveFormedLists, HasBegun, HasDone, place_action, place_actions}
+use Rattle.lfs_tool.proofs.Common.{Disk, UnpackingAction, IsFormedList, OnlyReadsThread, owned_view, tree_items_view, HaveFormedLists, HasBegunActions, HasDoneActions, place_action, place_actions}
 use Rattle.lfs_model.proofs.Histories.{OnlyReadsSince-trans}
 use Rattle.lfs_thread.specs.Kept.{KeptThread}
 use Rattle.lfs_lookup.specs.TreeWalk.{tree_item_view}
@@ -25,18 +25,18 @@ actions_more disk [] i d l = absurd (omega arith)
 actions_more disk (x ∷ xs) zero d l = refl
 actions_more disk (x ∷ xs) (suc i) d l = ap (λ more. place_action disk (tree_item_view x) ∷ more) (actions_more disk xs i d (omega arith))
 
-done_more : (first mid last : Option (List UnpackingAction)) (some : List UnpackingAction) (a : UnpackingAction) → HasDone first mid some → AddsAction mid last a → HasDone first last (some ++ a ∷ [])
+done_more : (first mid last : Option (List UnpackingAction)) (some : List UnpackingAction) (a : UnpackingAction) → HasDoneActions first mid some → AddsAction mid last a → HasDoneActions first last (some ++ a ∷ [])
 done_more None mid last some a h more = tt
 done_more (Some old) None last some a h more = absurd h
 done_more (Some old) (Some m) None some a h more = absurd more
 done_more (Some old) (Some m) (Some l) some a h more = more ∙ ap (λ xs. xs ++ a ∷ []) h ∙ append_assoc old some (a ∷ [])
 
 pub done_item : (disk now : Disk) (items : List TreeItem) (i : ℕ) (x : TreeItem) (first mid last : Option (List UnpackingAction)) → now ≡ disk → i < length items → x ≡ get_or items i x
-    → HasDone first mid (place_actions disk (tree_items_view (take i items))) → AddsAction mid last (place_action now (tree_item_view x)) → HasDone first last (place_actions disk (tree_items_view (take (i + 1) items)))
+    → HasDoneActions first mid (place_actions disk (tree_items_view (take i items))) → AddsAction mid last (place_action now (tree_item_view x)) → HasDoneActions first last (place_actions disk (tree_items_view (take (i + 1) items)))
 done_item disk now items i x first mid last same l at h more =
     let here = subst (λ d. AddsAction mid last (place_action d (tree_item_view x))) same more in
     let there = subst (λ z. AddsAction mid last (place_action disk (tree_item_view z))) at here in
-    subst (HasDone first last) (sym (ap (λ k. place_actions disk (tree_items_view (take k items))) (add-one i) ∙ actions_more disk items i x l)) (done_more first mid last _ _ h there)
+    subst (HasDoneActions first last) (sym (ap (λ k. place_actions disk (tree_items_view (take k items))) (add-one i) ∙ actions_more disk items i x l)) (done_more first mid last _ _ h there)
 
 -- ---- a beginning
 
@@ -46,10 +46,10 @@ actions_take disk [] (suc i) = refl
 actions_take disk (x ∷ xs) zero = refl
 actions_take disk (x ∷ xs) (suc i) = ap (λ more. place_action disk (tree_item_view x) ∷ more) (actions_take disk xs i)
 
-pub begun_item : (disk : Disk) (items : List TreeItem) (i : ℕ) (first mid last : Option (List UnpackingAction)) → HasDone first mid (place_actions disk (tree_items_view (take i items))) → last ≡ mid
-    → HasBegun first last (place_actions disk (tree_items_view items))
+pub begun_item : (disk : Disk) (items : List TreeItem) (i : ℕ) (first mid last : Option (List UnpackingAction)) → HasDoneActions first mid (place_actions disk (tree_items_view (take i items))) → last ≡ mid
+    → HasBegunActions first last (place_actions disk (tree_items_view items))
 begun_item disk items i first mid last h same =
-    (i, subst (HasDone first last) (sym (actions_take disk items i)) (subst (λ o. HasDone first o (place_actions disk (tree_items_view (take i items)))) (sym same) h))
+    (i, subst (HasDoneActions first last) (sym (actions_take disk items i)) (subst (λ o. HasDoneActions first o (place_actions disk (tree_items_view (take i items)))) (sym same) h))
 
 pub at_error : {X E : Type 0} (r : Result X E) (P : Type 0) → P → OnErr r P
 at_error (Ok x) P h = tt

@@ -41,11 +41,11 @@ pub use Rattle.lfs_tool.specs.LoadedBlocks.{AreLoadedOfSize, blocks_as_loaded}
 pub use Rattle.lfs_tool.specs.MadeImages.{RefusesEntries}
 pub use Rattle.lfs_tool.specs.Reports.{IsReadToEnd}
 pub use Rattle.lfs_tool.specs.SparseView.{sparse_blocks}
-pub use Rattle.lfs_tool.specs.Unpackings.{HasBegun, HasDone, HaveFormedLists, place_action, place_actions}
+pub use Rattle.lfs_tool.specs.Unpackings.{HasBegunActions, HasDoneActions, HaveFormedLists, place_action, place_actions}
 pub use Rattle.lfs_tool.specs.Verdict.{IsDiskVerdict}
 pub use Rattle.lfs_tool.specs.WrongNumbers.{HasSizesVersion, NoneIsWrong}
-pub use Rattle.lfs_tool_folders.specs.MemorySources.{optional_view}
-pub use Rattle.lfs_tool_folders.specs.SourceEntries.{AreDepthFirst, AreFolderNames, AreSourceEntries, HasSourceContents, PathKind, paths_in_folder}
+pub use Rattle.lfs_tool_folders.specs.MemorySources.{optional_bytes_view}
+pub use Rattle.lfs_tool_folders.specs.SourceEntries.{AreDepthFirst, AreSortedFolderNames, AreSourceEntries, HasSourceContents, PathAndKind, paths_in_folder}
 pub use Rattle.std.proofs.KnownBytes.{Keeps-refl, Keeps-trans}
 pub use Rattle.std.proofs.lemmas.Grind.{flat_map-append}
 pub use Rattle.std.proofs.lemmas.List.{append-nil, length-take, take_all}

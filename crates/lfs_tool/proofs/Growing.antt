@@ -1,6 +1,6 @@
 -- Entries come into a tree one after another, each folder before what stands in it. What they make is the source's tree.
 use Rattle.std.proofs.Common.{ℕ, zero, suc, ◌≡◌, ◌∙◌, ◌≤◌, ◌++◌, Bool, true, false, cond, List, [], ◌∷◌, length, Option, Some, None, refl, sym, ap, subst, arith, append_assoc, append-nil, length-append, option_and_then, option_map}
-use Rattle.lfs_tool.proofs.Common.{IsPermutation-map, recursion_from_All, Name, is_component, name_cmp, Path, FileNode, DirectoryNode, Tree, tree_creating, names_with, node_with_names, empty_tree, path_bytes, AFile, AFolder, IsSourceTree, IsSourceNode, TreeSource, is_named_folder, source_names, path_in_folder, node_at, path_or_root, Each, each_append, each_both, each_weaker, append_step, not_longer, optional_view, AreSourceEntries, AreDepthFirst, AreFolderNames, HasSourceContents, PathKind, paths_in_folder, node_of_bytes}
+use Rattle.lfs_tool.proofs.Common.{IsPermutation-map, recursion_from_All, Name, is_component, name_cmp, Path, FileNode, DirectoryNode, Tree, tree_creating, names_with, node_with_names, empty_tree, path_bytes, AFile, AFolder, IsSourceTree, IsSourceNode, TreeSource, is_named_folder, source_names, path_in_folder, node_at, path_or_root, Each, each_append, each_both, each_weaker, append_step, not_longer, optional_bytes_view, AreSourceEntries, AreDepthFirst, AreSortedFolderNames, HasSourceContents, PathAndKind, paths_in_folder, node_of_bytes}
 use Rattle.std.specs.declared.cmp.Ordering.TheVariants.{Less}
 use Rattle.lfs_model.specs.declared.order.NameOrder.TheVariants.{ShorterFirst}
 use Rattle.lfs_model.specs.layers.Source.{SourceNode, file_at_end}
@@ -12,7 +12,7 @@ use Rattle.lfs_tool.proofs.PathPlaces.{AreComponents, added_above, added_aside, 
 -- ---- entries that come
 
 abbrev pub grown : SourceEntry → Tree → Tree
-grown e t = tree_creating (path_or_root e.path.items) (node_of_bytes (optional_view e.bytes)) t
+grown e t = tree_creating (path_or_root e.path.items) (node_of_bytes (optional_bytes_view e.bytes)) t
 
 abbrev pub tree_after : List SourceEntry → Tree → Tree
 tree_after [] t = t
@@ -33,21 +33,21 @@ new_append (e ∷ xs) ys t h k = (h.0, new_append xs ys (grown e t) h.1 k)
 
 -- ---- what was read, in two parts
 
-record Parted (known : Option TreeSource) (ps qs : List PathKind) (es : List SourceEntry) : Type 0 where
+record Parted (known : Option TreeSource) (ps qs : List PathAndKind) (es : List SourceEntry) : Type 0 where
   front : List SourceEntry
   back : List SourceEntry
   joined : es ≡ front ++ back
   first : AreDepthFirst known ps front
   second : AreDepthFirst known qs back
 
-parted : (known : Option TreeSource) (ps qs : List PathKind) (es : List SourceEntry) → AreDepthFirst known (ps ++ qs) es → Parted known ps qs es
+parted : (known : Option TreeSource) (ps qs : List PathAndKind) (es : List SourceEntry) → AreDepthFirst known (ps ++ qs) es → Parted known ps qs es
 parted known [] qs es h = record { front = []; back = es; joined = refl; first = tt; second = h }
 parted known (p ∷ ps) qs [] h = absurd h
 parted known (p ∷ ps) qs (e ∷ es) (path, (within, (holds, rest))) =
     let k = parted known (paths_in_folder p.0 within ++ ps) qs es (subst (λ xs. AreDepthFirst known xs es) (sym (append_assoc (paths_in_folder p.0 within) ps qs)) rest) in
     record { front = e ∷ k.front; back = k.back; joined = ap (λ z. e ∷ z) k.joined; first = (path, (within, (holds, k.first))); second = k.second }
 
-none_read : (known : Option TreeSource) (ps : List PathKind) (es : List SourceEntry) → ps ≡ [] → AreDepthFirst known ps es → es ≡ []
+none_read : (known : Option TreeSource) (ps : List PathAndKind) (es : List SourceEntry) → ps ≡ [] → AreDepthFirst known ps es → es ≡ []
 none_read known [] [] e h = refl
 none_read known [] (x ∷ es) e h = absurd h
 none_read known (p ∷ ps) es e h = absurd (cc)
@@ -67,7 +67,7 @@ record IsWholeImage (s : TreeSource) (f : Path) (within : List (Name × Bool)) (
   below : Each (ShowsName s f new) within
   nothing : (m : Name) (rest : Path) → Each (λ g. m ≡ g.0 → ⊥) within → new (f ++ m ∷ rest) ≡ None
 
-whole_shows : (s : TreeSource) (f : Path) (within : List (Name × Bool)) (new : Tree) → AreFolderNames (Some s) (path_bytes f) within → IsWholeImage s f within new → (rest : Path) → IsSourceNode (node_at s (path_bytes f) rest) (new (f ++ rest))
+whole_shows : (s : TreeSource) (f : Path) (within : List (Name × Bool)) (new : Tree) → AreSortedFolderNames (Some s) (path_bytes f) within → IsWholeImage s f within new → (rest : Path) → IsSourceNode (node_at s (path_bytes f) rest) (new (f ++ rest))
 whole_shows s f within new w h [] = subst (IsSourceNode (Some (AFolder (source_names (s.names (path_bytes f)))))) (sym (ap new (append-nil f) ∙ h.folder))
     (refl, IsPermutation-map (λ (g : Name × Bool). g.0) (s.names (path_bytes f)) within w.names, w.order.rise)
 whole_shows s f within new w h (m ∷ rest) =
@@ -170,18 +170,18 @@ module _ (n : ℕ) (ih : Grows n) (s : TreeSource) (f : Path) (ns : List Name) (
   abbrev one : Tree
   one = grown e t
 
-  one_is : one ≡ tree_creating p (node_of_bytes (optional_view e.bytes)) t
-  one_is = ap (λ q. tree_creating q (node_of_bytes (optional_view e.bytes)) t) at
+  one_is : one ≡ tree_creating p (node_of_bytes (optional_bytes_view e.bytes)) t
+  one_is = ap (λ q. tree_creating q (node_of_bytes (optional_bytes_view e.bytes)) t) at
 
-  there : one p ≡ Some (node_of_bytes (optional_view e.bytes))
-  there = ap (λ (u : Tree). u p) one_is ∙ added_there p (node_of_bytes (optional_view e.bytes)) t
+  there : one p ≡ Some (node_of_bytes (optional_bytes_view e.bytes))
+  there = ap (λ (u : Tree). u p) one_is ∙ added_there p (node_of_bytes (optional_bytes_view e.bytes)) t
 
   above : one f ≡ Some (DirectoryNode [] (ns ++ g.0 ∷ []))
-  above = ap (λ (u : Tree). u f) one_is ∙ added_above f g.0 (node_of_bytes (optional_view e.bytes)) t ∙ ap (option_map (node_with_names (names_with g.0))) b.folder
+  above = ap (λ (u : Tree). u f) one_is ∙ added_above f g.0 (node_of_bytes (optional_bytes_view e.bytes)) t ∙ ap (option_map (node_with_names (names_with g.0))) b.folder
       ∙ ap (λ xs. Some (DirectoryNode [] xs)) (name_at_end g.0 ns (before_it ns g.0 (source_names gs) b.rising))
 
   aside : (q : Path) → (q ≡ f → ⊥) → (q ≡ p → ⊥) → one q ≡ t q
-  aside q x y = ap (λ (u : Tree). u q) one_is ∙ added_aside f g.0 (node_of_bytes (optional_view e.bytes)) t q x y
+  aside q x y = ap (λ (u : Tree). u q) one_is ∙ added_aside f g.0 (node_of_bytes (optional_bytes_view e.bytes)) t q x y
 
   beyond : (m : Name) (rest : Path) → one (p ++ m ∷ rest) ≡ None
   beyond m rest = aside (p ++ m ∷ rest) (λ x. not_longer f g.0 (m ∷ rest) (sym x ∙ append_step f g.0 (m ∷ rest))) (λ x. not_longer p m rest (sym x)) ∙ ap t (append_step f g.0 (m ∷ rest)) ∙ b.empty.0 (m ∷ rest)
@@ -193,7 +193,7 @@ module _ (n : ℕ) (ih : Grows n) (s : TreeSource) (f : Path) (ns : List Name) (
   back_few = omega (arith, few, ap length k.joined, length-append k.front k.back)
 
   comes : HasCome s p g.1 k.front one
-  comes = come n ih s p g.1 (optional_view e.bytes) within k.front one front_few (subst (λ x. HasSourceContents (Some s) x g.1 (optional_view e.bytes) within) spelled_path b.read.1.1.0)
+  comes = come n ih s p g.1 (optional_bytes_view e.bytes) within k.front one front_few (subst (λ x. HasSourceContents (Some s) x g.1 (optional_bytes_view e.bytes) within) spelled_path b.read.1.1.0)
       (subst (λ x. AreDepthFirst (Some s) (paths_in_folder x within) k.front) spelled_path k.first) components there beyond
 
   abbrev two : Tree

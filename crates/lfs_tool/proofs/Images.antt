@@ -10,7 +10,7 @@ use Rattle.lfs_tool.specs.KnownBytes.{IsListingRefusal}
 use Rattle.lfs_tool.proofs.Walked.{HasSizes, listed_from}
 use Rattle.lfs_device.specs.declared.error.Error.{Error}
 use Rattle.lfs_device.specs.declared.error.Error.TheVariants.{Corrupt, Invalid, NoMemory}
-use Rattle.lfs_tool.specs.Listings.{IsInNeitherOrder, IsImageListing}
+use Rattle.lfs_tool.specs.Listings.{ImageAcceptedInNeither, IsImageListing}
 
 -- ---- of its disk
 
@@ -64,7 +64,7 @@ image_read block_size page bytes items read is =
 refuses_bytes : (layout : ImageLayout) (bytes items : List ℕ) (e : Error) → items ≡ take most bytes → RefusesToList layout items e → RefusesToList layout bytes e
 refuses_bytes layout bytes items Invalid read h = λ is. h (image_read layout.block_size layout.page bytes items read is)
 refuses_bytes layout bytes items NoMemory read h = tt
-refuses_bytes layout bytes items Corrupt read h = subst (λ (i : List ℕ). IsInNeitherOrder layout i) (all_read layout.block_size layout.page bytes items read h.0) h
+refuses_bytes layout bytes items Corrupt read h = subst (λ (i : List ℕ). ImageAcceptedInNeither layout i) (all_read layout.block_size layout.page bytes items read h.0) h
 refuses_bytes layout bytes items e read h = absurd h
 
 pub refuses_read : (known : Option (List ℕ)) (layout : ImageLayout) (items : List ℕ) (e : Error) → IfSome known (λ bytes. items ≡ take most bytes) → RefusesToList layout items e

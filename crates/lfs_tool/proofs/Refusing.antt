@@ -1,11 +1,11 @@
 -- In a run from a fresh disk in memory each error but want of memory is a refusal, the first.
 use Rattle.std.proofs.Common.{ℕ, ◌≡◌, ◌≢◌, ◌∙◌, ◌+◌, ◌<◌, ◌++◌, ◌⊎◌, inl, inr, Bool, true, false, List, [], ◌∷◌, length, take, drop, get_or, Option, Some, None, refl, sym, ap, subst, add-one, append_assoc, arith, drop-cons, flat_map}
-use Rattle.lfs_tool.proofs.Common.{flat_map-append, recursion_from_All, IsFreshDisk, empty_tree, session_after_all, fault_count, node_copies, Operation, SystemState, is_refusal, DiskSummary, Healthy, is_remount, mounted_session, Each, each_right, fresh_defined, EndsInError, optional_view, AreApplied, IsRunToError, HealthyWithoutFiles, IsFirstRefusal, node_of_bytes, entry_copying}
+use Rattle.lfs_tool.proofs.Common.{flat_map-append, recursion_from_All, IsFreshDisk, empty_tree, session_after_all, fault_count, node_copies, Operation, SystemState, is_refusal, DiskSummary, Healthy, is_remount, mounted_session, Each, each_right, fresh_defined, EndsInError, optional_bytes_view, AreApplied, IsRunToError, HealthyWithoutFiles, IsFirstRefusal, node_of_bytes, entry_copying}
 use Rattle.std.proofs.lemmas.List.{take-append-drop}
 use Rattle.lfs_device.specs.declared.error.Error.{Error}
 use Rattle.lfs_device.specs.declared.error.Error.TheVariants.{Io, NoMemory, Corrupt}
 use Rattle.lfs_model.specs.format.Disk.{default_profile}
-use Rattle.lfs_model.specs.session.Headline.{IsReached}
+use Rattle.lfs_model.specs.session.Headline.{LeadsFromFresh}
 use Rattle.lfs_model.specs.session.Run.{ShowsTree}
 use Rattle.lfs_model.specs.format.Slots.{zero_gstate}
 use Rattle.lfs_fs.specs.SessionView.{SessionFails}
@@ -20,7 +20,7 @@ pub record IsFromFresh (from : SystemState) : Type 0 where
   pub fresh : IsFreshDisk from.disk
   pub mounts : from.state ≡ Healthy (mounted_session empty_tree)
 
-pub comes : (from to : SystemState) (operations : List Operation) (f : IsFromFresh from) (c : AreApplied from operations to) → IsReached operations c.replies to
+pub comes : (from to : SystemState) (operations : List Operation) (f : IsFromFresh from) (c : AreApplied from operations to) → LeadsFromFresh operations c.replies to
 comes from to operations f c = record { from = from; fresh = f.fresh; mounts = f.mounts; session_steps = c.session_steps }
 
 -- any surroundings: what accepted operations leave doesn't depend on them
@@ -41,7 +41,7 @@ no_file from to es f c = record {
 -- ---- errors
 
 pub no_remount : (e : SourceEntry) → Each (λ op. is_remount op ≡ false) (entry_copying e)
-no_remount e = go (optional_view e.bytes)
+no_remount e = go (optional_bytes_view e.bytes)
   where
     go : (o : Option (List ℕ)) → Each (λ op. is_remount op ≡ false) (node_copies e.path.items (node_of_bytes o))
     go None = (refl, tt)

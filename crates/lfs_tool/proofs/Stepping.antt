@@ -1,13 +1,13 @@
 -- What the operations of entries make of a session, where each is accepted.
 use Rattle.std.proofs.Common.{ℕ, ◌≡◌, ◌∙◌, ◌+◌, ◌++◌, Bool, true, false, cond, List, [], ◌∷◌, length, Option, Some, None, drop, is_none, refl, sym, ap, ap₂, subst, append-nil, flat_map, option_map}
 use Rattle.std.proofs.Math.Seq.{drop-nil}
-use Rattle.lfs_tool.proofs.Common.{same_Some, tree_creating, same_path, new_flags, node_copies, Operation, Reply, Session, DiskSummary, path_or_root, Healthy, SessionHealth, Path, FileNode, DirectoryNode, Tree, IsStep, SystemState, is_refusal, session_after_all, Each, optional_view, node_of_bytes, entry_copying}
+use Rattle.lfs_tool.proofs.Common.{same_Some, tree_creating, same_path, new_flags, node_copies, Operation, Reply, Session, DiskSummary, path_or_root, Healthy, SessionHealth, Path, FileNode, DirectoryNode, Tree, IsStep, SystemState, is_refusal, session_after_all, Each, optional_bytes_view, node_of_bytes, entry_copying}
 use Rattle.lfs_model.specs.session.TreeEdits.{file_bytes, tree_with_change}
 use Rattle.lfs_model.specs.session.Operations as ops
 use Rattle.lfs_model.specs.session.Operations.{Refusal}
 use Rattle.lfs_model.specs.session.Session.{OpenFilesByNumber, FileWriter, Writing, free_number_of}
 use Rattle.lfs_model.specs.session.Writers.{written_writer, opened_writer}
-use Rattle.lfs_model.specs.session.Effects.{operation_result, tree_stored, operation_effect, unless_refused, file_with_bytes}
+use Rattle.lfs_model.specs.session.Effects.{operation_result, tree_after_storing, operation_effect, unless_refused, file_with_bytes}
 use Rattle.lfs_model.specs.session.Refusals.{operation_refusal}
 use Rattle.lfs_model.specs.session.State.{other_result}
 use Rattle.lfs_model.specs.session.Run.{AreSteps}
@@ -37,7 +37,7 @@ abbrev tree_opened : Tree → Path → Tree
 tree_opened t p = cond (is_none (t p)) (tree_creating p (FileNode [] []) t) t
 
 abbrev tree_closed : Tree → Path → List ℕ → Tree
-tree_closed t p bytes = tree_stored (Some (Writing (written_writer (opened t p) bytes))) (tree_opened t p)
+tree_closed t p bytes = tree_after_storing (Some (Writing (written_writer (opened t p) bytes))) (tree_opened t p)
 
 changed_added : (p : Path) (bytes : List ℕ) (t : Tree) → tree_with_change p (file_with_bytes bytes) (tree_creating p (FileNode [] []) t) ≡ tree_creating p (FileNode [] bytes) t
 changed_added p bytes t = λ i q. at q i
@@ -141,7 +141,7 @@ pub carried_from : (around : DiskSummary) (es : List SourceEntry) (t : Tree) (fi
 carried_from around [] t files [] from to closed accepted h = record { closed = closed; tree = λ e. refl }
 carried_from around [] t files (reply ∷ replies) from to closed accepted h = absurd h
 carried_from around (e ∷ es) t files replies from to closed accepted h =
-    let k = stepped around e.path.items (optional_view e.bytes) (flat_map entry_copying es) t files replies from to closed accepted h in
+    let k = stepped around e.path.items (optional_bytes_view e.bytes) (flat_map entry_copying es) t files replies from to closed accepted h in
     let c = carried_from around es k.tree k.left_open k.left k.between to k.closed k.accepted k.session_steps in
     record {
       closed = subst (λ (s : Session). AllFilesClosed s.files) (sym k.is) c.closed;

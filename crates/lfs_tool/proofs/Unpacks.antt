@@ -2,7 +2,7 @@
 use Rattle.std.proofs.Common.{ℕ, ◌≡◌, ◌⊎◌, ◌∙◌, inl, inr, List, [], ◌∷◌, Option, Some, None, Result, Ok, Err, ap, ap₂, map, refl, subst, sym, take}
 use Rattle.std.specs.Prelude.{◌≢◌, IfErr, IfSome, OnErr}
 use Rattle.lfs_tool.specs.declared.image_layout.ImageLayout.{ImageLayout}
-use Rattle.lfs_tool.proofs.Common.{Disk, IsWholeImage, disk_of_image, ordered_disk, UnpackingAction, PathNode, Branch, Ctz, Inline, Struct, Pair, Node, HasDiskView, IsAccepted, IsFormedList, disk_view, AreTreeItems, AreWalkItems, PathStruct, IsTreeItem, IsStructNode, RefusesToList, HaveFormedLists, HasBegun, HasDone, place_action, place_actions}
+use Rattle.lfs_tool.proofs.Common.{Disk, IsWholeImage, disk_of_image, ordered_disk, UnpackingAction, PathNode, Branch, Ctz, Inline, Struct, Pair, Node, HasDiskView, IsAccepted, IsFormedList, disk_view, AreTreeItems, AreWalkItems, PathStruct, IsTreeItem, IsStructNode, RefusesToList, HaveFormedLists, HasBegunActions, HasDoneActions, place_action, place_actions}
 use Rattle.lfs_model.specs.layers.Listing.{node_action, entry_actions}
 use Rattle.lfs_model.specs.declared.order.NameOrder.{NameOrder}
 use Rattle.lfs_model.specs.declared.order.NameOrder.TheVariants.{LongerFirst}
@@ -50,11 +50,11 @@ module _ (disk now : Disk) (order : NameOrder) (ps : List Pair) (places : List P
       let (entries, (walk, shows)) = walked in
       (disk_view (ordered_disk order disk) ps, ((order, (ps, (accepted, refl))), (entries, (walk, actions_shown (ordered_disk order disk) places entries shows))))
 
-  pub done_of : (old new : Option (List UnpackingAction)) → HasDone old new (place_actions now places) → HasUnpackedDisk disk old new
-  done_of old new h = (place_actions (ordered_disk order disk) places, (unpacks, subst (λ d. HasDone old new (place_actions d places)) same h))
+  pub done_of : (old new : Option (List UnpackingAction)) → HasDoneActions old new (place_actions now places) → HasUnpackedDisk disk old new
+  done_of old new h = (place_actions (ordered_disk order disk) places, (unpacks, subst (λ d. HasDoneActions old new (place_actions d places)) same h))
 
-  pub begun_of : (old new : Option (List UnpackingAction)) → HasBegun old new (place_actions now places) → HasBegunDisk disk old new
-  begun_of old new h = (place_actions (ordered_disk order disk) places, (unpacks, subst (λ d. HasBegun old new (place_actions d places)) same h))
+  pub begun_of : (old new : Option (List UnpackingAction)) → HasBegunActions old new (place_actions now places) → HasBegunDisk disk old new
+  begun_of old new h = (place_actions (ordered_disk order disk) places, (unpacks, subst (λ d. HasBegunActions old new (place_actions d places)) same h))
 
 pub fails_begun : {X : Type 0} (disk : Disk) (old new : Option (List UnpackingAction)) (was now : ℕ) (r : Result X ToolError) (begun : Type 0) → OnErr r begun → (begun → HasBegunDisk disk old new)
     → ReportsTargetFaults was now r → IfErr r (FailsOnDisk disk old new)

@@ -1,7 +1,7 @@
 -- The entries that were read are a walk of the source's tree, so their operations carry it over.
 use Rattle.std.proofs.Common.{ℕ, ◌≡◌, ◌∙◌, ◌++◌, ◌⊎◌, inl, inr, Bool, true, false, List, [], ◌∷◌, map, Option, Some, None, refl, sym, ap, ap₂, subst, append-nil, flat_map, option_and_then}
 use Rattle.std.specs.Prelude.{Contains}
-use Rattle.lfs_tool.proofs.Common.{IsPermutation, All-contains, All-contains_itself, All-from_recursion, recursion_from_All, Contains-permutation, IsPermutation-map, IsPermutation-sym, empty_tree, node_copies, Name, name_cmp, Operation, path_bytes, AFile, AFolder, IsSourceTree, IsSourceNode, TreeSource, is_named_folder, source_names, path_in_folder, node_at, Path, Node, FileNode, DirectoryNode, Tree, Each, each_weaker, greater, append_step, AreSourceEntries, AreDepthFirst, AreFolderNames, HasSourceContents, PathKind, paths_in_folder, optional_view, node_of_bytes, entry_copying, entries_copying}
+use Rattle.lfs_tool.proofs.Common.{IsPermutation, All-contains, All-contains_itself, All-from_recursion, recursion_from_All, Contains-permutation, IsPermutation-map, IsPermutation-sym, empty_tree, node_copies, Name, name_cmp, Operation, path_bytes, AFile, AFolder, IsSourceTree, IsSourceNode, TreeSource, is_named_folder, source_names, path_in_folder, node_at, Path, Node, FileNode, DirectoryNode, Tree, Each, each_weaker, greater, append_step, AreSourceEntries, AreDepthFirst, AreSortedFolderNames, HasSourceContents, PathAndKind, paths_in_folder, optional_bytes_view, node_of_bytes, entry_copying, entries_copying}
 use Rattle.std.specs.declared.cmp.Ordering.TheVariants.{Less}
 use Rattle.lfs_model.specs.declared.order.NameOrder.TheVariants.{ShorterFirst}
 use Rattle.lfs_model.specs.session.TreeEdits as apply
@@ -62,17 +62,17 @@ same_rising (x ∷ xs) (y ∷ ys) r s h k =
 -- ---- places and their paths
 
 -- what stands at the path is what stands at the place
-record Stands (s : TreeSource) (q : Path) (p : PathKind) : Type 0 where
+record Stands (s : TreeSource) (q : Path) (p : PathAndKind) : Type 0 where
   bytes : path_bytes q ≡ p.0
   leads : (rest : Path) → node_at s [] (q ++ rest) ≡ beneath s p.0 rest p.1
 
-abbrev AllStand : TreeSource → List Path → List PathKind → Type 0
+abbrev AllStand : TreeSource → List Path → List PathAndKind → Type 0
 AllStand s [] [] = Unit {0}
 AllStand s [] (p ∷ ps) = ⊥
 AllStand s (q ∷ qs) [] = ⊥
 AllStand s (q ∷ qs) (p ∷ ps) = Stands s q p × AllStand s qs ps
 
-stand_append : (s : TreeSource) (qs rs : List Path) (ps os : List PathKind) → AllStand s qs ps → AllStand s rs os → AllStand s (qs ++ rs) (ps ++ os)
+stand_append : (s : TreeSource) (qs rs : List Path) (ps os : List PathAndKind) → AllStand s qs ps → AllStand s rs os → AllStand s (qs ++ rs) (ps ++ os)
 stand_append s [] rs [] os h k = k
 stand_append s [] rs (p ∷ ps) os h k = absurd h
 stand_append s (q ∷ qs) rs [] os h k = absurd h
@@ -89,7 +89,7 @@ below_stand s q folder (g ∷ given) at leads kinds = (
   below_stand s q folder given at leads kinds.1,
 )
 
-kinds_within : (s : TreeSource) (folder : List ℕ) (within : List (Name × Bool)) → AreFolderNames (Some s) folder within → Each (λ g. is_named_folder g.0 (s.names folder) ≡ Some g.1) within
+kinds_within : (s : TreeSource) (folder : List ℕ) (within : List (Name × Bool)) → AreSortedFolderNames (Some s) folder within → Each (λ g. is_named_folder g.0 (s.names folder) ≡ Some g.1) within
 kinds_within s folder within w =
     let rising = rising_from (source_names within) w.order.rise in
     each_weaker (λ (g : Name × Bool). is_named_folder g.0 within ≡ Some g.1) (λ (g : Name × Bool). is_named_folder g.0 (s.names folder) ≡ Some g.1)
@@ -103,7 +103,7 @@ record IsWalked (tree : Tree) (qs : List Path) (es : List SourceEntry) : Type 0 
   same : flat_map entry_copying es ≡ flat_map listing.entry_copies entries
 
 -- what the tree has at a place, and the operations that bring it
-record IsMet (s : TreeSource) (tree : Tree) (q : Path) (p : PathKind) (o : Option (List ℕ)) (within : List (Name × Bool)) : Type 0 where
+record IsMet (s : TreeSource) (tree : Tree) (q : Path) (p : PathAndKind) (o : Option (List ℕ)) (within : List (Name × Bool)) : Type 0 where
   node : Node
   there : tree q ≡ Some node
   operations : node_copies p.0 (node_of_bytes o) ≡ node_copies (path_bytes q) node
@@ -116,12 +116,12 @@ met_file s tree q folder bytes within (Some (FileNode attributes shown)) e at is
   node = FileNode attributes shown;
   there = e;
   operations = ap₂ (λ f xs. node_copies f (FileNode [] xs)) (sym at) (is ∙ sym h.1);
-  below = subst (λ (ps : List PathKind). AllStand s (entry_paths tree q) ps) (ap (paths_in_folder folder) (sym none)) (subst (λ (u : Option Node). AllStand s (map (λ name. q ++ name ∷ []) (apply.directory_names u)) []) (sym e) tt);
+  below = subst (λ (ps : List PathAndKind). AllStand s (entry_paths tree q) ps) (ap (paths_in_folder folder) (sym none)) (subst (λ (u : Option Node). AllStand s (map (λ name. q ++ name ∷ []) (apply.directory_names u)) []) (sym e) tt);
 }
 met_file s tree q folder bytes within (Some (DirectoryNode attributes shown)) e at is none h = absurd h
 
 met_folder : (s : TreeSource) (tree : Tree) (q : Path) (folder : List ℕ) (within : List (Name × Bool)) (o : Option Node) → tree q ≡ o → path_bytes q ≡ folder → ((rest : Path) → node_at s [] (q ++ rest) ≡ node_at s folder rest)
-    → AreFolderNames (Some s) folder within → IsSourceNode (Some (AFolder (source_names (s.names folder)))) o → IsMet s tree q (folder, true) None within
+    → AreSortedFolderNames (Some s) folder within → IsSourceNode (Some (AFolder (source_names (s.names folder)))) o → IsMet s tree q (folder, true) None within
 met_folder s tree q folder within None e at leads w h = absurd h
 met_folder s tree q folder within (Some (FileNode attributes shown)) e at leads w h = absurd h
 met_folder s tree q folder within (Some (DirectoryNode attributes shown)) e at leads w h =
@@ -146,19 +146,19 @@ met s tree q folder true None within shows stands holds =
     met_folder s tree q folder within (tree q) refl stands.bytes stands.leads holds (subst (λ x. IsSourceNode x (tree q)) (ap (node_at s []) (sym (append-nil q)) ∙ stands.leads []) (shows q))
 met s tree q folder true (Some bytes) within shows stands holds = absurd holds
 
-walked : (s : TreeSource) (tree : Tree) → IsSourceTree s tree → (es : List SourceEntry) (qs : List Path) (ps : List PathKind) → AllStand s qs ps → AreDepthFirst (Some s) ps es → IsWalked tree qs es
+walked : (s : TreeSource) (tree : Tree) → IsSourceTree s tree → (es : List SourceEntry) (qs : List Path) (ps : List PathAndKind) → AllStand s qs ps → AreDepthFirst (Some s) ps es → IsWalked tree qs es
 walked s tree shows [] [] [] h read = record { entries = []; walk = tt; same = refl }
 walked s tree shows [] (q ∷ qs) [] h read = absurd h
 walked s tree shows [] qs (p ∷ ps) h read = absurd read
 walked s tree shows (e ∷ es) qs [] h read = absurd read
 walked s tree shows (e ∷ es) [] (p ∷ ps) h read = absurd h
 walked s tree shows (e ∷ es) (q ∷ qs) (p ∷ ps) h (path, (within, (holds, rest))) =
-    let m = met s tree q p.0 p.1 (optional_view e.bytes) within shows h.0 holds in
+    let m = met s tree q p.0 p.1 (optional_bytes_view e.bytes) within shows h.0 holds in
     let w = walked s tree shows es (entry_paths tree q ++ qs) (paths_in_folder p.0 within ++ ps) (stand_append s (entry_paths tree q) qs (paths_in_folder p.0 within) ps m.below h.1) rest in
     record {
       entries = record { path = q; node = m.node } ∷ w.entries;
       walk = (refl, m.there, w.walk);
-      same = ap₂ (λ (xs ys : List Operation). xs ++ ys) (ap (λ f. node_copies f (node_of_bytes (optional_view e.bytes))) path ∙ m.operations) w.same;
+      same = ap₂ (λ (xs ys : List Operation). xs ++ ys) (ap (λ f. node_copies f (node_of_bytes (optional_bytes_view e.bytes))) path ∙ m.operations) w.same;
     }
 
 pub carry_over : (known : Option TreeSource) (es : List SourceEntry) → AreSourceEntries known es → CopySource known (entries_copying es)

@@ -12,7 +12,7 @@ use Rattle.lfs_model.specs.session.State.{Healthy}
 use Rattle.lfs_model.specs.tree.Tree.{Node, FileNode, DirectoryNode}
 use Rattle.lfs_fs.specs.SessionView.{EndsInError}
 use Rattle.lfs_lookup.specs.RefusalErrors.{is_refusal, error_refusal}
-use Rattle.lfs_tool_folders.specs.MemorySources.{optional_view}
+use Rattle.lfs_tool_folders.specs.MemorySources.{optional_bytes_view}
 use Rattle.lfs_tool_folders.specs.declared.entries.SourceEntry.{SourceEntry}
 
 -- ---- the operations
@@ -24,7 +24,7 @@ node_of_bytes (Some bytes) = FileNode [] bytes
 
 -- the operations that copy an entry
 abbrev pub entry_copying : SourceEntry → List Operation
-entry_copying e = node_copies e.path.items (node_of_bytes (optional_view e.bytes))
+entry_copying e = node_copies e.path.items (node_of_bytes (optional_bytes_view e.bytes))
 
 abbrev pub entries_copying : List SourceEntry → List Operation
 entries_copying entries = flat_map entry_copying entries

@@ -2,7 +2,7 @@
 use Rattle.std.specs.Prelude.{ℕ, ◌≡◌, ◌<◌, ◌≤◌, ◌/◌, Bool, true, false, List, length, Option, Some, None}
 use Rattle.lfs_tool.specs.declared.image_layout.ImageLayout.{ImageLayout}
 use Rattle.lfs_tool.specs.WrongNumbers.{NoneIsWrong, IsWrongIn}
-use Rattle.lfs_tool.specs.Verdict.{BreaksInSome, IsSummarized, IsInNoOrder, IsDiskVerdict}
+use Rattle.lfs_tool.specs.Verdict.{BreaksInSomeOrder, IsSummarized, IsAcceptedInNeither, IsDiskVerdict}
 use Rattle.lfs_tool.specs.declared.verdict.ImageVerdict.{ImageVerdict}
 use Rattle.lfs_model.specs.format.Disk.{Disk, IsWholeImage, disk_of_image}
 use Rattle.lfs_model.specs.declared.order.NameOrder.TheVariants.{LongerFirst}
@@ -34,7 +34,7 @@ IsWrongNumber layout image (Some stated) = IsShortEnough image × IsWrongIn imag
 abbrev pub IsRefusalReason : ImageLayout → List ℕ → RefusalReason → Type 0
 IsRefusalReason layout image (reason.WrongNumber stated) = IsWrongNumber layout image (Some stated)
 IsRefusalReason layout image reason.NoImage = IsWrongNumber layout image None × ¬ IsWholeImage layout.block_size layout.page image
-IsRefusalReason layout image (reason.Broken rule) = IsWrongNumber layout image None × HoldsOfImage layout image (λ disk. BreaksInSome disk rule.violation)
+IsRefusalReason layout image (reason.Broken rule) = IsWrongNumber layout image None × HoldsOfImage layout image (λ disk. BreaksInSomeOrder disk rule.violation)
 
 -- the sizes are those that were given; there are so many bytes and whole blocks, unless the bytes are more than an image may have
 pub record AreGivenSizes (layout : ImageLayout) (image : List ℕ) (given : GivenSizes) : Type 0 where
@@ -46,7 +46,7 @@ pub record AreGivenSizes (layout : ImageLayout) (image : List ℕ) (given : Give
 
 -- the bytes aren't an image that is accepted, in either order of names
 abbrev pub AreRefusedBytes : ImageLayout → List ℕ → Type 0
-AreRefusedBytes layout image = IsWholeImage layout.block_size layout.page image → IsInNoOrder (disk_of_image layout.block_size layout.page layout.profile LongerFirst image)
+AreRefusedBytes layout image = IsWholeImage layout.block_size layout.page image → IsAcceptedInNeither (disk_of_image layout.block_size layout.page layout.profile LongerFirst image)
 
 -- The bytes are an accepted image, in these orders of names, and have that; or they are refused, and why.
 abbrev pub IsCheckResult : ImageLayout → List ℕ → CheckResult → Type 0

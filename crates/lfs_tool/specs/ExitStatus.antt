@@ -26,10 +26,10 @@ parser_outcome kind.DisplayHelp = help
 parser_outcome kind.DisplayVersion = help
 parser_outcome _ = mistake
 
-abbrev pub parser_outcome_status : ParserOutcome → ℕ
-parser_outcome_status memory = 1
-parser_outcome_status help = 0
-parser_outcome_status mistake = 2
+abbrev pub outcome_status : ParserOutcome → ℕ
+outcome_status memory = 1
+outcome_status help = 0
+outcome_status mistake = 2
 
 abbrev pub failure_status : Fault → ℕ
 failure_status (Line Modes) = 2
@@ -39,13 +39,13 @@ failure_status (Line (line_error.Limit limit)) = 2
 failure_status (Line (line_error.Misuse misuse)) = 2
 failure_status (Line line_error.Part) = 2
 failure_status (Line NotUtf8) = 2
-failure_status (Line (Parser e)) = parser_outcome_status (parser_outcome (kind_of e))
+failure_status (Line (Parser e)) = outcome_status (parser_outcome (kind_of e))
 failure_status (Tool e) = error_status e
 
-abbrev pub parser_outcome_line : ParserOutcome → Option (List ℕ)
-parser_outcome_line memory = Some (error_line NoMemory)
-parser_outcome_line help = None
-parser_outcome_line mistake = None
+abbrev pub outcome_line : ParserOutcome → Option (List ℕ)
+outcome_line memory = Some (error_line NoMemory)
+outcome_line help = None
+outcome_line mistake = None
 
 -- the line that says which rule a limit breaks
 abbrev pub broken_limit_line : Limit → List ℕ
@@ -60,7 +60,7 @@ failure_line (Line (line_error.Limit limit)) = Some (broken_limit_line limit)
 failure_line (Line (line_error.Misuse misuse)) = Some (codes "error: " ++ misuse_rule misuse ++ newline)
 failure_line (Line line_error.Part) = Some (codes "error: -b auto and --offset are for -l, -u, --check and --cat" ++ newline)
 failure_line (Line NotUtf8) = Some (codes "error: the command line is not UTF-8" ++ newline)
-failure_line (Line (Parser e)) = parser_outcome_line (parser_outcome (kind_of e))
+failure_line (Line (Parser e)) = outcome_line (parser_outcome (kind_of e))
 failure_line (Tool e) = Some (error_line_of e)
 
 abbrev pub is_help_outcome : ParserOutcome → Bool

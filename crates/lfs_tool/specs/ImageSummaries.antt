@@ -53,7 +53,7 @@ abbrev pub lesser_inline_max : Profile → ℕ → Option ℕ
 lesser_inline_max profile block_size = if nat_lt profile.inline_max (min (block_size / 8) data_limit) then Some profile.inline_max else None
 
 -- what the image of these pairs has: all entries beneath its root are files or directories
-pub record HasImageSummary (disk : Disk) (ps : List Pair) (c : ImageSummary) : Type 0 where
+pub record HasSummary (disk : Disk) (ps : List Pair) (c : ImageSummary) : Type 0 where
   pub entries : List PathNode
   pub walk : IsWalk (disk_tree disk ps) entries
   pub files : c.files ≡ count_by is_file_entry entries

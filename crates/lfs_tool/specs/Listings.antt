@@ -20,14 +20,14 @@ abbrev pub IsImageListing : ImageLayout → List ℕ → List ℕ → Type 0
 IsImageListing layout image text = IsWholeImage layout.block_size layout.page image × ((view : DiskView) × (IsImageView layout image view × IsListing view.tree text))
 
 -- the bytes are an image that isn't accepted, in either order of names
-abbrev pub IsInNeitherOrder : ImageLayout → List ℕ → Type 0
-IsInNeitherOrder layout image = IsWholeImage layout.block_size layout.page image × ((view : DiskView) → ¬ IsImageView layout image view)
+abbrev pub ImageAcceptedInNeither : ImageLayout → List ℕ → Type 0
+ImageAcceptedInNeither layout image = IsWholeImage layout.block_size layout.page image × ((view : DiskView) → ¬ IsImageView layout image view)
 
 -- why bytes aren't listed; memory may run out at any
 abbrev pub RefusesToList : ImageLayout → List ℕ → Error → Type 0
 RefusesToList layout image Invalid = ¬ IsWholeImage layout.block_size layout.page image
 RefusesToList layout image NoMemory = Unit {0}
-RefusesToList layout image Corrupt = IsInNeitherOrder layout image
+RefusesToList layout image Corrupt = ImageAcceptedInNeither layout image
 RefusesToList layout image other = ⊥
 
 -- the line of a file of that size, or of a directory, at a path

@@ -10,7 +10,7 @@ use Rattle.lfs_device.specs.declared.error.Error.{Error}
 use Rattle.lfs_device.specs.declared.error.Error.TheVariants.{Corrupt, Invalid, NoMemory}
 use Rattle.lfs_tool.specs.declared.errors.ToolError.{ToolError}
 use Rattle.lfs_tool.specs.declared.errors.ToolError.TheVariants.{Fs, Output}
-use Rattle.lfs_tool.specs.Listings.{IsInNeitherOrder, IsMountError, RefusesToList}
+use Rattle.lfs_tool.specs.Listings.{ImageAcceptedInNeither, IsMountError, RefusesToList}
 use Rattle.lfs_tool.specs.EitherOrder.{IsImageView, IsEitherView}
 use Rattle.lfs_lookup.specs.FileBytes.{struct_file_bytes}
 use Rattle.lfs_lookup.specs.TreeWalk.{PathStruct}
@@ -24,14 +24,14 @@ abbrev pub UnpackImage : ImageLayout → List ℕ → List UnpackingAction → T
 UnpackImage layout image actions = IsWholeImage layout.block_size layout.page image × ((view : DiskView) × (IsImageView layout image view × Unpack view.tree actions))
 
 -- these actions more were done, where what was done is known
-abbrev pub HasDone : Option (List UnpackingAction) → Option (List UnpackingAction) → List UnpackingAction → Type 0
-HasDone None new actions = Unit {0}
-HasDone (Some old) None actions = ⊥
-HasDone (Some old) (Some new) actions = new ≡ old ++ actions
+abbrev pub HasDoneActions : Option (List UnpackingAction) → Option (List UnpackingAction) → List UnpackingAction → Type 0
+HasDoneActions None new actions = Unit {0}
+HasDoneActions (Some old) None actions = ⊥
+HasDoneActions (Some old) (Some new) actions = new ≡ old ++ actions
 
 -- a beginning of them was done
-abbrev pub HasBegun : Option (List UnpackingAction) → Option (List UnpackingAction) → List UnpackingAction → Type 0
-HasBegun old new actions = (n : ℕ) × HasDone old new (take n actions)
+abbrev pub HasBegunActions : Option (List UnpackingAction) → Option (List UnpackingAction) → List UnpackingAction → Type 0
+HasBegunActions old new actions = (n : ℕ) × HasDoneActions old new (take n actions)
 
 -- ---- the actions of what was found
 
@@ -65,11 +65,11 @@ ReportsTargetFaults old new (Err e) = IsTargetError old new e
 
 -- the disk is accepted, and all that it shows was done
 abbrev pub HasUnpackedDisk : Disk → Option (List UnpackingAction) → Option (List UnpackingAction) → Type 0
-HasUnpackedDisk disk old new = (actions : List UnpackingAction) × (UnpackDisk disk actions × HasDone old new actions)
+HasUnpackedDisk disk old new = (actions : List UnpackingAction) × (UnpackDisk disk actions × HasDoneActions old new actions)
 
 -- the same of a beginning of it
 abbrev pub HasBegunDisk : Disk → Option (List UnpackingAction) → Option (List UnpackingAction) → Type 0
-HasBegunDisk disk old new = (actions : List UnpackingAction) × (UnpackDisk disk actions × HasBegun old new actions)
+HasBegunDisk disk old new = (actions : List UnpackingAction) × (UnpackDisk disk actions × HasBegunActions old new actions)
 
 -- why a disk in memory isn't unpacked, and what was done then
 abbrev pub FailsOnDisk : Disk → Option (List UnpackingAction) → Option (List UnpackingAction) → ToolError → Type 0
@@ -79,14 +79,14 @@ FailsOnDisk disk old new Output = HasBegunDisk disk old new
 FailsOnDisk disk old new other = ⊥
 
 abbrev pub HasUnpackedImage : ImageLayout → List ℕ → Option (List UnpackingAction) → Option (List UnpackingAction) → Type 0
-HasUnpackedImage layout image old new = (actions : List UnpackingAction) × (UnpackImage layout image actions × HasDone old new actions)
+HasUnpackedImage layout image old new = (actions : List UnpackingAction) × (UnpackImage layout image actions × HasDoneActions old new actions)
 
 abbrev pub HasBegunImage : ImageLayout → List ℕ → Option (List UnpackingAction) → Option (List UnpackingAction) → Type 0
-HasBegunImage layout image old new = (actions : List UnpackingAction) × (UnpackImage layout image actions × HasBegun old new actions)
+HasBegunImage layout image old new = (actions : List UnpackingAction) × (UnpackImage layout image actions × HasBegunActions old new actions)
 
 -- the same of an image
 abbrev pub FailsOnImage : ImageLayout → List ℕ → Option (List UnpackingAction) → Option (List UnpackingAction) → ToolError → Type 0
-FailsOnImage layout image old new (Fs Corrupt) = IsInNeitherOrder layout image × (new ≡ old)
+FailsOnImage layout image old new (Fs Corrupt) = ImageAcceptedInNeither layout image × (new ≡ old)
 FailsOnImage layout image old new (Fs Invalid) = (¬ IsWholeImage layout.block_size layout.page image) × (new ≡ old)
 FailsOnImage layout image old new (Fs NoMemory) = (new ≡ old) ⊎ HasBegunImage layout image old new
 FailsOnImage layout image old new Output = HasBegunImage layout image old new

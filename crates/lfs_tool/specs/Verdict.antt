@@ -6,7 +6,7 @@ use Rattle.lfs_model.specs.tree.View.{IsAccepted}
 use Rattle.lfs_model.specs.declared.order.NameOrder.{NameOrder}
 use Rattle.lfs_model.specs.layers.Violations.{Breaks}
 use Rattle.lfs_model.specs.declared.violations.Violation.{Violation}
-use Rattle.lfs_tool.specs.ImageSummaries.{HasAcceptedOrders, HasImageSummary}
+use Rattle.lfs_tool.specs.ImageSummaries.{HasAcceptedOrders, HasSummary}
 use Rattle.lfs_tool.specs.declared.verdict.AcceptedOrders.{AcceptedOrders}
 use Rattle.lfs_tool.specs.declared.verdict.ImageSummary.{ImageSummary}
 use Rattle.lfs_tool.specs.declared.verdict.ImageVerdict.{ImageVerdict}
@@ -17,18 +17,18 @@ pub record IsSummarized (disk : Disk) (summary : ImageSummary) (orders : Accepte
   pub order : NameOrder
   pub pairs : List Pair
   pub accepted : IsAccepted (ordered_disk order disk) pairs
-  pub has : HasImageSummary (ordered_disk order disk) pairs summary
+  pub has : HasSummary (ordered_disk order disk) pairs summary
   pub fits : HasAcceptedOrders disk orders
 
 -- it is accepted in neither order of names
-abbrev pub IsInNoOrder : Disk → Type 0
-IsInNoOrder disk = (order : NameOrder) (ps : List Pair) → ¬ IsAccepted (ordered_disk order disk) ps
+abbrev pub IsAcceptedInNeither : Disk → Type 0
+IsAcceptedInNeither disk = (order : NameOrder) (ps : List Pair) → ¬ IsAccepted (ordered_disk order disk) ps
 
 -- it breaks the rule in one of them
-abbrev pub BreaksInSome : Disk → Violation → Type 0
-BreaksInSome disk violation = (order : NameOrder) × Breaks (ordered_disk order disk) violation
+abbrev pub BreaksInSomeOrder : Disk → Violation → Type 0
+BreaksInSomeOrder disk violation = (order : NameOrder) × Breaks (ordered_disk order disk) violation
 
 -- accepted, and with what; or refused, and the rule that is broken there
 abbrev pub IsDiskVerdict : Disk → ImageVerdict → Type 0
 IsDiskVerdict disk (verdict.Accepted summary orders) = IsSummarized disk summary orders
-IsDiskVerdict disk (verdict.Refused rule) = IsInNoOrder disk × BreaksInSome disk rule.violation
+IsDiskVerdict disk (verdict.Refused rule) = IsAcceptedInNeither disk × BreaksInSomeOrder disk rule.violation

@@ -9,7 +9,7 @@ ghost use Rattle.lfs_mount.specs.TrueViolation.{IsTrueViolation};
 ghost use Rattle.lfs_thread.specs.Kept.{disk_of_device};
 ghost use Rattle.lfs_thread.specs.MountErrors.{error_of_mount};
 ghost use Rattle.lfs_tool.specs.ImageSummaries.{HasAcceptedOrders, IsAcceptedInOrder};
-ghost use Rattle.lfs_tool.specs.Verdict.{BreaksInSome, IsInNoOrder, IsDiskVerdict, IsSummarized};
+ghost use Rattle.lfs_tool.specs.Verdict.{BreaksInSomeOrder, IsAcceptedInNeither, IsDiskVerdict, IsSummarized};
 ghost use Rattle.lfs_model.specs.layers.BlockSets.{AreUsed};
 ghost use Rattle.lfs_model.specs.tree.Shown.{used_blocks};
 ghost use Rattle.lfs_model.specs.tree.View.{IsAccepted};
@@ -74,9 +74,9 @@ fn rule_to_tell(longer: Violation, shorter: Violation) -> Violation
 
 // Returns the rule that the image of a device breaks. With longer names first it breaks the rule `longer`.
 fn broken_rule_of(alloc: Global, device: RamDevice, longer: Violation) -> Result<BrokenRule, Error>
-    requires refused { IsInNoOrder (disk_of_blocks (ram_geometry device) (ram_blocks device)) }
+    requires refused { IsAcceptedInNeither (disk_of_blocks (ram_geometry device) (ram_blocks device)) }
     requires longer { Breaks (ordered_disk LongerFirst (disk_of_blocks (ram_geometry device) (ram_blocks device))) longer }
-    ensures broken { IfOk result (λ rule. BreaksInSome (disk_of_blocks (ram_geometry device) (ram_blocks device)) rule.violation) }
+    ensures broken { IfOk result (λ rule. BreaksInSomeOrder (disk_of_blocks (ram_geometry device) (ram_blocks device)) rule.violation) }
     ensures err { IfErr result (λ e. e ≡ Error.NoMemory) }
 {
     match mount_in_order(alloc, device, NameOrder::ShorterFirst) {

@@ -17,7 +17,7 @@ use lfs_tool_folders::SourceEntry;
 use std::alloc::Global;
 
 // Returns the flags of a file that is to be made.
-fn new_file_open() -> OpenFlags
+fn new_file_flags() -> OpenFlags
     ensures { flags_view result ≡ new_flags }
 {
     let mut flags = OpenFlags::WRITE;
@@ -34,7 +34,7 @@ fn create_file_in(
     requires { HealthyWithoutFiles (system_state session.old) }
     ensures { AppliesUntilError (system_state session.old) (node_copies path.now (FileNode [] bytes.now)) result (system_state session.new) }
 {
-    let fd = session.open(alloc, path, new_file_open())?;
+    let fd = session.open(alloc, path, new_file_flags())?;
     session.write(alloc, fd, bytes)?;
     session.close(alloc, fd)
 }

@@ -10,7 +10,7 @@ ghost use Rattle.lfs_model.specs.tree.View.{IsAccepted};
 ghost use Rattle.lfs_tag.specs.FieldsView.{move_view};
 ghost use Rattle.lfs_thread.specs.ThreadSteps.{OnlyReadsThread};
 ghost use Rattle.lfs_lookup.specs.Items.{owned_view};
-ghost use Rattle.lfs_tool.specs.ImageSummaries.{HasImageSummary, IsSuperblockTold, lesser_inline_max, is_file_item, is_file_struct, is_half_done};
+ghost use Rattle.lfs_tool.specs.ImageSummaries.{HasSummary, IsSuperblockTold, lesser_inline_max, is_file_item, is_file_struct, is_half_done};
 
 use crate::verdict::ImageSummary;
 use lfs_device::{BlockDevice, Error, Geometry, Profile};
@@ -90,7 +90,7 @@ pub(crate) fn summary_of_thread<D: BlockDevice>(
     requires works { thread.old.failed ≡ false }
     requires accepted { IsAccepted thread.old.kept.disk thread.old.kept.pairs }
     requires used { AreUsed thread.old.kept.map (used_blocks thread.old.kept.disk thread.old.kept.pairs) }
-    ensures summary { IfOk result (HasImageSummary thread.old.kept.disk thread.old.kept.pairs) }
+    ensures summary { IfOk result (HasSummary thread.old.kept.disk thread.old.kept.pairs) }
     ensures only { OnOk result (OnlyReadsThread thread.old.kept thread.new.kept) }
 {
     let items = walk_tree(alloc, thread)?;

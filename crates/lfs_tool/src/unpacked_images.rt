@@ -5,7 +5,7 @@ ghost use Rattle.lfs_device.specs.RamDevice.{ram_blocks, ram_geometry};
 ghost use Rattle.lfs_device.specs.DeviceDisk.{disk_of_blocks as shown};
 ghost use Rattle.lfs_model.specs.tree.View.{IsFormedList};
 ghost use Rattle.lfs_tool_folders.specs.Actions.{AddsAction};
-ghost use Rattle.lfs_tool.specs.Unpackings.{HaveFormedLists, FailsOnDisk, FailsOnImage, HasBegun, HasDone, FailsOnKnown, HasUnpackedDisk, HasUnpackedImage, ReportsTargetFaults, place_action, place_actions};
+ghost use Rattle.lfs_tool.specs.Unpackings.{HaveFormedLists, FailsOnDisk, FailsOnImage, HasBegunActions, HasDoneActions, FailsOnKnown, HasUnpackedDisk, HasUnpackedImage, ReportsTargetFaults, place_action, place_actions};
 ghost use Rattle.lfs_thread.specs.ThreadSteps.{OnlyReadsThread};
 ghost use Rattle.lfs_lookup.specs.FileBytes.{struct_file_bytes};
 ghost use Rattle.lfs_lookup.specs.Items.{owned_view};
@@ -79,7 +79,7 @@ fn put_item_bytes<T: Target>(
     }
 }
 
-fn put_tree_item<T: Target>(
+fn unpack_tree_item<T: Target>(
     alloc: Global,
     thread: &mut Thread<RamDevice>,
     item: &TreeItem,
@@ -113,7 +113,7 @@ pub fn counts_of_items(items: &[TreeItem]) -> FilesAndBytes {
     whole
 }
 
-fn put_tree_items<T: Target, F: FollowsProgress>(
+fn unpack_tree_items<T: Target, F: FollowsProgress>(
     alloc: Global,
     thread: &mut Thread<RamDevice>,
     items: &[TreeItem],
@@ -122,13 +122,13 @@ fn put_tree_items<T: Target, F: FollowsProgress>(
 ) -> Result<(), ToolError>
     requires works { thread.old.failed ≡ false }
     requires lists { HaveFormedLists thread.old.kept.disk (tree_items_view items.now) }
-    ensures done { OnOk result (HasDone (T.done target.old) (T.done target.new) (place_actions thread.old.kept.disk (tree_items_view items.now))) }
-    ensures begun { OnErr result (HasBegun (T.done target.old) (T.done target.new) (place_actions thread.old.kept.disk (tree_items_view items.now))) }
+    ensures done { OnOk result (HasDoneActions (T.done target.old) (T.done target.new) (place_actions thread.old.kept.disk (tree_items_view items.now))) }
+    ensures begun { OnErr result (HasBegunActions (T.done target.old) (T.done target.new) (place_actions thread.old.kept.disk (tree_items_view items.now))) }
     ensures reports { ReportsTargetFaults (T.faults target.old) (T.faults target.new) result }
 {
     progress.begin(counts_of_items(items));
     for item in items {
-        put_tree_item(alloc, thread, item, target)?;
+        unpack_tree_item(alloc, thread, item, target)?;
         progress.add(counts_of_item(item));
     }
     Ok(())
@@ -145,7 +145,7 @@ fn unpack_ram_device<T: Target, F: FollowsProgress>(
     ensures output { ReportsOneFault ToolError.Output (T.faults target.old) (T.faults target.new) result }
 {
     match ram_tree_items(alloc, device) {
-        Ok((mut thread, items)) => put_tree_items(alloc, &mut thread, &items, target, progress),
+        Ok((mut thread, items)) => unpack_tree_items(alloc, &mut thread, &items, target, progress),
         Err(error) => Err(ToolError::Fs(error)),
     }
 }

@@ -6,20 +6,20 @@ use Rattle.std.specs.List.{list_any}
 use Rattle.std.specs.Str.{bytes_eq}
 use Rattle.std.proofs.lemmas.List.{get_or-map, length-map, map-append, take-map, take_more}
 use Rattle.std.proofs.lemmas.List.Elements.{filter_more}
-use Rattle.lfs_tool_folders.specs.MemorySources.{memory_view, PathBytes, memory_entry_name, is_directly_in, name_in_folder, names_in_folder}
+use Rattle.lfs_tool_folders.specs.MemorySources.{memory_view, PathAndBytes, memory_entry_name, is_directly_in, name_in_folder, names_in_folder}
 use Rattle.lfs_tool_folders.specs.declared.source_memory.MemorySourceEntry.{MemorySourceEntry}
 
-one_name : (path : List ℕ) (e : PathBytes) → map (memory_entry_name path) (cond (is_directly_in path e.0) (e ∷ []) []) ≡ name_in_folder path e
+one_name : (path : List ℕ) (e : PathAndBytes) → map (memory_entry_name path) (cond (is_directly_in path e.0) (e ∷ []) []) ≡ name_in_folder path e
 one_name path e = go (is_directly_in path e.0)
   where
     go : (b : Bool) → map (memory_entry_name path) (cond b (e ∷ []) []) ≡ cond b (memory_entry_name path e ∷ []) []
     go true = refl
     go false = refl
 
-tree_more : (path : List ℕ) (t : List PathBytes) (i : ℕ) (e : PathBytes) → i < length t
+tree_more : (path : List ℕ) (t : List PathAndBytes) (i : ℕ) (e : PathAndBytes) → i < length t
     → names_in_folder (take (i + 1) t) path ≡ names_in_folder (take i t) path ++ name_in_folder path (get_or t i e)
 tree_more path t i e lt =
-    ap (map (memory_entry_name path)) (filter_more (λ (x : PathBytes). is_directly_in path x.0) t i e lt)
+    ap (map (memory_entry_name path)) (filter_more (λ (x : PathAndBytes). is_directly_in path x.0) t i e lt)
     ∙ map-append (memory_entry_name path) (filter (λ x. is_directly_in path x.0) (take i t)) _ ∙ ap (λ ns. names_in_folder (take i t) path ++ ns) (one_name path (get_or t i e))
 
 pub names_more : (path : List ℕ) (xs : List MemorySourceEntry) (i : ℕ) (h : MemorySourceEntry) → i < length xs
@@ -47,7 +47,7 @@ found_here path (x ∷ xs) (suc i) h lt at none hit = go (bytes_eq x.path.items 
         cc
     go false e rest = rw e (rest (rw e at none) hit)
 
-find_past : (path : List ℕ) (es : List PathBytes) (e : PathBytes) → find (λ x. bytes_eq x.0 path) es ≡ None → bytes_eq e.0 path ≡ false
+find_past : (path : List ℕ) (es : List PathAndBytes) (e : PathAndBytes) → find (λ x. bytes_eq x.0 path) es ≡ None → bytes_eq e.0 path ≡ false
     → find (λ x. bytes_eq x.0 path) (es ++ e ∷ []) ≡ None
 find_past path [] e none miss = rw miss refl
 find_past path (x ∷ xs) e none miss = step (bytes_eq x.0 path) refl (λ rest. find_past path xs e rest miss)

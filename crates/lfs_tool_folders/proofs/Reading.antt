@@ -9,8 +9,8 @@ use Rattle.lfs_model.specs.format.Names.{Name}
 use Rattle.lfs_model.specs.layers.Source.{HaveBadName, TreeSource, source_names, path_in_folder}
 use Rattle.lfs_model.proofs.Counts.{Each, each_append, each_left, each_right}
 use Rattle.lfs_tool_folders.specs.SourceTrees.{IsUnchanged, listed_view}
-use Rattle.lfs_tool_folders.specs.MemorySources.{optional_view}
-use Rattle.lfs_tool_folders.specs.SourceEntries.{AreSourceEntries, AreRising, AreDepthFirst, AreFolderNames, HasBadNames, HasSourceContents, IsSourceFolder, IsFolderReached, PathKind, listed_bytes, paths_in_folder}
+use Rattle.lfs_tool_folders.specs.MemorySources.{optional_bytes_view}
+use Rattle.lfs_tool_folders.specs.SourceEntries.{AreSourceEntries, AreRising, AreDepthFirst, AreSortedFolderNames, HasBadNames, HasSourceContents, IsSourceFolder, IsFolderReached, PathAndKind, listed_bytes, paths_in_folder}
 use Rattle.lfs_tool_folders.specs.declared.source.ListedName.{ListedName}
 use Rattle.lfs_tool_folders.specs.declared.entries.SourceEntry.{SourceEntry}
 use Rattle.lfs_tool_folders.proofs.Order.{names_given}
@@ -28,7 +28,7 @@ along P None b x p = tt
 along P (Some t) None x p = absurd x
 along P (Some t) (Some u) x p = subst P x p
 
-pub within_along : (a b : Option TreeSource) (folder : List ℕ) (within : List (Name × Bool)) → IsUnchanged a b → AreFolderNames b folder within → AreFolderNames a folder within
+pub within_along : (a b : Option TreeSource) (folder : List ℕ) (within : List (Name × Bool)) → IsUnchanged a b → AreSortedFolderNames b folder within → AreSortedFolderNames a folder within
 within_along a b folder within x h = record { order = h.order; names = along (λ s. IsPermutation (s.names folder) within) a b x h.names }
 
 pub holds_along : (a b : Option TreeSource) (path : List ℕ) (is_folder : Bool) (bytes : Option (List ℕ)) (within : List (Name × Bool)) → IsUnchanged a b → HasSourceContents b path is_folder bytes within
@@ -41,7 +41,7 @@ holds_along a b path true (Some bytes) within x h = absurd h
 -- ---- names in a folder
 
 pub within_sorted : (known : Option TreeSource) (folder : List ℕ) (xs ys : List ListedName) → IfSome known (λ s. map listed_view xs ≡ s.names folder) → IsPermutation xs ys → AreRising (map listed_bytes ys)
-    → AreFolderNames known folder (map listed_view ys)
+    → AreSortedFolderNames known folder (map listed_view ys)
 within_sorted known folder xs ys e p o = record { order = subst AreRising (sym (names_given ys)) o; names = go known e }
   where
     go : (known : Option TreeSource) → IfSome known (λ s. map listed_view xs ≡ s.names folder) → IfSome known (λ s. IsPermutation (s.names folder) (map listed_view ys))
@@ -60,29 +60,29 @@ places_reversed folder xs ys e =
 -- ---- entries in turn
 
 -- what is read at the places that wait ends the entries
-abbrev pub Goes : Option TreeSource → List PathKind → List SourceEntry → Type 0
+abbrev pub Goes : Option TreeSource → List PathAndKind → List SourceEntry → Type 0
 Goes known places entries = (rest : List SourceEntry) → AreDepthFirst known (reverse places) rest → AreSourceEntries known (entries ++ rest)
 
-pub begins : (known : Option TreeSource) (top : List (Name × Bool)) (places : List PathKind) → AreFolderNames known [] top → places ≡ reverse (paths_in_folder [] top) → Goes known places []
+pub begins : (known : Option TreeSource) (top : List (Name × Bool)) (places : List PathAndKind) → AreSortedFolderNames known [] top → places ≡ reverse (paths_in_folder [] top) → Goes known places []
 begins known top places w e = λ rest r. (top, (w, subst (λ ps. AreDepthFirst known ps rest) (ap reverse e ∙ reverse-reverse (paths_in_folder [] top)) r))
 
-pub goes_on : (known : Option TreeSource) (front : List PathKind) (p : PathKind) (places : List PathKind) (es fs : List SourceEntry) (e : SourceEntry) (within : List (Name × Bool)) → Goes known (front ++ p ∷ []) es
-    → e.path.items ≡ p.0 → HasSourceContents known p.0 p.1 (optional_view e.bytes) within → places ≡ front ++ reverse (paths_in_folder p.0 within) → fs ≡ es ++ e ∷ [] → Goes known places fs
+pub goes_on : (known : Option TreeSource) (front : List PathAndKind) (p : PathAndKind) (places : List PathAndKind) (es fs : List SourceEntry) (e : SourceEntry) (within : List (Name × Bool)) → Goes known (front ++ p ∷ []) es
+    → e.path.items ≡ p.0 → HasSourceContents known p.0 p.1 (optional_bytes_view e.bytes) within → places ≡ front ++ reverse (paths_in_folder p.0 within) → fs ≡ es ++ e ∷ [] → Goes known places fs
 goes_on known front p places es fs e within h path holds after more = λ rest r.
     let turned : reverse places ≡ paths_in_folder p.0 within ++ reverse front = ap reverse after ∙ reverse-append front (reverse (paths_in_folder p.0 within)) ∙ ap (λ ps. ps ++ reverse front) (reverse-reverse (paths_in_folder p.0 within)) in
     let here : AreDepthFirst known (p ∷ reverse front) (e ∷ rest) = (path, (within, (holds, subst (λ ps. AreDepthFirst known ps rest) turned r))) in
     let all : AreSourceEntries known (es ++ e ∷ rest) = h (e ∷ rest) (subst (λ ps. AreDepthFirst known ps (e ∷ rest)) (sym (reverse-append front (p ∷ []))) here) in
     subst (AreSourceEntries known) (sym (ap (λ xs. xs ++ rest) more ∙ append_assoc es (e ∷ []) rest)) all
 
-pub all_of : (known : Option TreeSource) (places : List PathKind) (es : List SourceEntry) → Goes known places es → places ≡ [] → AreSourceEntries known es
+pub all_of : (known : Option TreeSource) (places : List PathAndKind) (es : List SourceEntry) → Goes known places es → places ≡ [] → AreSourceEntries known es
 all_of known places es h none = subst (AreSourceEntries known) (append-nil es) (h [] (subst (λ ps. AreDepthFirst known (reverse ps) []) (sym none) tt))
 
 -- ---- folders that wait
 
-abbrev pub LeadsHere : TreeSource → PathKind → Type 0
+abbrev pub LeadsHere : TreeSource → PathAndKind → Type 0
 LeadsHere s p = p.1 ≡ true → IsSourceFolder s p.0
 
-abbrev pub AreFolders : Option TreeSource → List PathKind → Type 0
+abbrev pub AreFolders : Option TreeSource → List PathAndKind → Type 0
 AreFolders known places = IfSome known (λ s. Each (LeadsHere s) places)
 
 leads_on : (s : TreeSource) (folder : List ℕ) (names : List Name) (to : List ℕ) (name : Name) → IsFolderReached s folder names to → Contains (s.names to) (name, true) → IsFolderReached s folder (names ++ name ∷ []) (path_in_folder to name)
@@ -104,18 +104,18 @@ inside : (s : TreeSource) (folder : List ℕ) (gs : List (Name × Bool)) → IsS
 inside s folder gs f p = each_reversed (LeadsHere s) (paths_in_folder folder gs)
     (each_leads s folder gs f (recursion_from_All (Contains (s.names folder)) gs (All-permutation (Contains (s.names folder)) (s.names folder) gs p (All-contains_itself (s.names folder)))))
 
-pub top_folders : (known : Option TreeSource) (top : List (Name × Bool)) (places : List PathKind) → AreFolderNames known [] top → places ≡ reverse (paths_in_folder [] top) → AreFolders known places
+pub top_folders : (known : Option TreeSource) (top : List (Name × Bool)) (places : List PathAndKind) → AreSortedFolderNames known [] top → places ≡ reverse (paths_in_folder [] top) → AreFolders known places
 top_folders None top places w e = tt
 top_folders (Some s) top places w e = subst (Each (LeadsHere s)) (sym e) (inside s [] top ([], refl) w.names)
 
-within_folders : (s : TreeSource) (p : PathKind) (is_folder : Bool) (bytes : Option (List ℕ)) (within : List (Name × Bool)) → p.1 ≡ is_folder → LeadsHere s p → HasSourceContents (Some s) p.0 is_folder bytes within
+within_folders : (s : TreeSource) (p : PathAndKind) (is_folder : Bool) (bytes : Option (List ℕ)) (within : List (Name × Bool)) → p.1 ≡ is_folder → LeadsHere s p → HasSourceContents (Some s) p.0 is_folder bytes within
     → Each (LeadsHere s) (reverse (paths_in_folder p.0 within))
 within_folders s p false None within is f h = absurd h
 within_folders s p false (Some bytes) within is f h = subst (λ gs. Each (LeadsHere s) (reverse (paths_in_folder p.0 gs))) (sym h.1) tt
 within_folders s p true None within is f h = inside s p.0 within (f is) h.names
 within_folders s p true (Some bytes) within is f h = absurd h
 
-pub folders_on : (known : Option TreeSource) (front : List PathKind) (p : PathKind) (places : List PathKind) (bytes : Option (List ℕ)) (within : List (Name × Bool)) → AreFolders known (front ++ p ∷ [])
+pub folders_on : (known : Option TreeSource) (front : List PathAndKind) (p : PathAndKind) (places : List PathAndKind) (bytes : Option (List ℕ)) (within : List (Name × Bool)) → AreFolders known (front ++ p ∷ [])
     → HasSourceContents known p.0 p.1 bytes within → places ≡ front ++ reverse (paths_in_folder p.0 within) → AreFolders known places
 folders_on None front p places bytes within h holds after = tt
 folders_on (Some s) front p places bytes within h holds after =
@@ -125,7 +125,7 @@ folders_on (Some s) front p places bytes within h holds after =
 
 -- ---- faults
 
-pub bad_below : (known now : Option TreeSource) (front : List PathKind) (p : PathKind) → AreFolders known (front ++ p ∷ []) → IsUnchanged known now → p.1 ≡ true → IfSome now (λ s. HaveBadName (source_names (s.names p.0)))
+pub bad_below : (known now : Option TreeSource) (front : List PathAndKind) (p : PathAndKind) → AreFolders known (front ++ p ∷ []) → IsUnchanged known now → p.1 ≡ true → IfSome now (λ s. HaveBadName (source_names (s.names p.0)))
     → IfSome known HasBadNames
 bad_below None now front p h x is bad = tt
 bad_below (Some s) None front p h x is bad = absurd x

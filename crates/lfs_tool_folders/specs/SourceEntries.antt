@@ -6,7 +6,7 @@ use Rattle.lfs_model.specs.declared.order.NameOrder.TheVariants.{ShorterFirst}
 use Rattle.lfs_model.specs.format.Names.{Name, name_cmp, is_component, is_less}
 use Rattle.lfs_model.specs.layers.Source.{HaveBadName, TreeSource, source_names, path_in_folder}
 use Rattle.lfs_tool_folders.specs.SourceTrees.{is_folder}
-use Rattle.lfs_tool_folders.specs.MemorySources.{optional_view}
+use Rattle.lfs_tool_folders.specs.MemorySources.{optional_bytes_view}
 use Rattle.lfs_tool_folders.specs.declared.source.ListedName.{ListedName}
 use Rattle.lfs_tool_folders.specs.declared.entries.SourceEntry.{SourceEntry}
 use Rattle.lfs_tool_folders.specs.declared.entries.WaitingEntry.{WaitingEntry}
@@ -30,40 +30,40 @@ pub record AreRising (names : List Name) : Type 0 where
   pub rise : AllPairs (λ a b. name_cmp ShorterFirst a b ≡ Less) names
 
 -- These names, each with whether it is a folder's, are in order. They are all names in a folder of the source's known tree.
-pub record AreFolderNames (known : Option TreeSource) (folder : List ℕ) (given : List (Name × Bool)) : Type 0 where
+pub record AreSortedFolderNames (known : Option TreeSource) (folder : List ℕ) (given : List (Name × Bool)) : Type 0 where
   pub order : AreRising (source_names given)
   pub names : IfSome known (λ s. IsPermutation (s.names folder) given)
 
 -- ---- entries
 
 -- a path, and whether a folder is there
-abbrev pub PathKind : Type 0
-PathKind = List ℕ × Bool
+abbrev pub PathAndKind : Type 0
+PathAndKind = List ℕ × Bool
 
-abbrev pub waiting_view : WaitingEntry → PathKind
+abbrev pub waiting_view : WaitingEntry → PathAndKind
 waiting_view w = (w.path.items, is_folder w.kind)
 
-abbrev pub paths_in_folder : List ℕ → List (Name × Bool) → List PathKind
+abbrev pub paths_in_folder : List ℕ → List (Name × Bool) → List PathAndKind
 paths_in_folder folder given = map (λ g. (path_in_folder folder g.0, g.1)) given
 
 -- a file has its bytes, and nothing within; a folder has no bytes, and these names within
 abbrev pub HasSourceContents : Option TreeSource → List ℕ → Bool → Option (List ℕ) → List (Name × Bool) → Type 0
 HasSourceContents known path false None within = ⊥
 HasSourceContents known path false (Some bytes) within = IfSome known (λ s. bytes ≡ s.bytes path) × (within ≡ [])
-HasSourceContents known path true None within = AreFolderNames known path within
+HasSourceContents known path true None within = AreSortedFolderNames known path within
 HasSourceContents known path true (Some bytes) within = ⊥
 
 -- The entries at these places, in order, each followed by the entries beneath it.
-abbrev pub AreDepthFirst : Option TreeSource → List PathKind → List SourceEntry → Type 0
+abbrev pub AreDepthFirst : Option TreeSource → List PathAndKind → List SourceEntry → Type 0
 AreDepthFirst known [] [] = Unit {0}
 AreDepthFirst known [] (e ∷ es) = ⊥
 AreDepthFirst known (p ∷ ps) [] = ⊥
 AreDepthFirst known (p ∷ ps) (e ∷ es) =
-    (e.path.items ≡ p.0) × ((within : List (Name × Bool)) × (HasSourceContents known p.0 p.1 (optional_view e.bytes) within × AreDepthFirst known (paths_in_folder p.0 within ++ ps) es))
+    (e.path.items ≡ p.0) × ((within : List (Name × Bool)) × (HasSourceContents known p.0 p.1 (optional_bytes_view e.bytes) within × AreDepthFirst known (paths_in_folder p.0 within ++ ps) es))
 
 -- all that the source has, depth first and in name order
 abbrev pub AreSourceEntries : Option TreeSource → List SourceEntry → Type 0
-AreSourceEntries known entries = (top : List (Name × Bool)) × (AreFolderNames known [] top × AreDepthFirst known (paths_in_folder [] top) entries)
+AreSourceEntries known entries = (top : List (Name × Bool)) × (AreSortedFolderNames known [] top × AreDepthFirst known (paths_in_folder [] top) entries)
 
 -- ---- faults
 

@@ -1,10 +1,10 @@
 ghost use Rattle.std.specs.Prelude.{◌≡◌, ◌++◌, ◌∷◌, [], IfOk, IfSome, IsErrOf, OnOk, map, reverse, true};
 ghost use Rattle.lfs_model.specs.layers.Source.{HaveBadName, source_names, path_in_folder};
 ghost use Rattle.lfs_tool_folders.specs.SourceTrees.{IsUnchanged, is_folder, listed_view};
-ghost use Rattle.lfs_tool_folders.specs.MemorySources.{optional_view};
-ghost use Rattle.lfs_tool_folders.specs.SourceEntries.{AreSourceEntries, AreFolderNames, HasFaultOr, HasBadNames, HasSourceContents, waiting_view, paths_in_folder};
+ghost use Rattle.lfs_tool_folders.specs.MemorySources.{optional_bytes_view};
+ghost use Rattle.lfs_tool_folders.specs.SourceEntries.{AreSourceEntries, AreSortedFolderNames, HasFaultOr, HasBadNames, HasSourceContents, waiting_view, paths_in_folder};
 
-use crate::names::{names_in_order, sort_names};
+use crate::names::{are_names_allowed, sort_names};
 use crate::{ListedName, Source, SourceError, SourceKind};
 use std::alloc::Global;
 
@@ -46,7 +46,7 @@ fn sorted_names<S: Source>(
     source: &mut S,
     folder: &[u8],
 ) -> Result<Vec<ListedName>, SourceError>
-    ensures names { IfOk result (λ v. AreFolderNames (S.shown source.old) folder.now (map listed_view v.items)) }
+    ensures names { IfOk result (λ v. AreSortedFolderNames (S.shown source.old) folder.now (map listed_view v.items)) }
     ensures shown { IsUnchanged (S.shown source.old) (S.shown source.new) }
     ensures kept { OnOk result (S.faults source.new ≡ S.faults source.old) }
     ensures fault { IsErrOf result SourceError.Fault
@@ -55,7 +55,7 @@ fn sorted_names<S: Source>(
 {
     let mut names = source.list(alloc, folder)?;
     sort_names(&mut names);
-    if !names_in_order(names.as_slice()) {
+    if !are_names_allowed(names.as_slice()) {
         return Err(SourceError::Fault);
     }
     Ok(names)
@@ -93,7 +93,7 @@ fn push_folder_names<S: Source>(
     folder: &[u8],
     waiting: &mut Vec<WaitingEntry>,
 ) -> Result<(), SourceError>
-    ensures within { OnOk result ((within : _) × (AreFolderNames (S.shown source.old) folder.now within
+    ensures within { OnOk result ((within : _) × (AreSortedFolderNames (S.shown source.old) folder.now within
         × (map waiting_view waiting.new.items ≡ map waiting_view waiting.old.items ++ reverse (paths_in_folder folder.now within)))) }
     ensures shown { IsUnchanged (S.shown source.old) (S.shown source.new) }
     ensures kept { OnOk result (S.faults source.new ≡ S.faults source.old) }
@@ -114,7 +114,7 @@ fn read_waiting_entry<S: Source>(
     one: &WaitingEntry,
     waiting: &mut Vec<WaitingEntry>,
 ) -> Result<Option<Vec<u8>>, SourceError>
-    ensures holds { IfOk result (λ bytes. (within : _) × (HasSourceContents (S.shown source.old) one.now.path.items (is_folder one.now.kind) (optional_view bytes) within
+    ensures holds { IfOk result (λ bytes. (within : _) × (HasSourceContents (S.shown source.old) one.now.path.items (is_folder one.now.kind) (optional_bytes_view bytes) within
         × (map waiting_view waiting.new.items ≡ map waiting_view waiting.old.items ++ reverse (paths_in_folder one.now.path.items within)))) }
     ensures shown { IsUnchanged (S.shown source.old) (S.shown source.new) }
     ensures kept { OnOk result (S.faults source.new ≡ S.faults source.old) }

@@ -83,7 +83,7 @@ impl<'a> FolderRules<'a> {
     }
 
     // Returns whether a name is left out, whose path below the folder is this.
-    pub(crate) fn leave_out(self, path: &[u8], name: &[u8]) -> bool {
+    pub(crate) fn is_left_out(self, path: &[u8], name: &[u8]) -> bool {
         for pattern in self.exclude {
             let pattern = pattern.as_bytes();
             let with = if pattern.contains(&b'/') { path } else { name };

@@ -17,7 +17,7 @@ pub(crate) fn sort_names(names: &mut Vec<ListedName>)
 }
 
 // Returns whether each name is allowed in a folder, and comes once.
-pub(crate) fn names_in_order(names: &[ListedName]) -> bool
+pub(crate) fn are_names_allowed(names: &[ListedName]) -> bool
     requires { IsSortedBy is_listed_before names.now }
     ensures good { result ≡ true → AreRising (map listed_bytes names.now) }
     ensures bad { result ≡ false → HaveBadName (map listed_bytes names.now) }

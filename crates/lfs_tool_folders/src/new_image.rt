@@ -71,7 +71,7 @@ impl<'a, R: Files> NewImage<'a, R> {
     }
 
     // Makes the file.
-    fn create_kept_file(&mut self) -> io::Result<()>
+    fn create_own_file(&mut self) -> io::Result<()>
         ensures path { self.new.paths.path ≡ self.old.paths.path }
         ensures beside { OnOk result (self.new.is_beside ≡ true → IsNumberedPath (string_bytes self.old.paths.path) (string_bytes self.new.paths.beside)) }
         ensures err { IfErr result (λ _. (self.new.file ≡ self.old.file) × (self.new.is_beside ≡ self.old.is_beside)) }
@@ -106,7 +106,7 @@ impl<'a, R: Files> Write for NewImage<'a, R> {
         ensures path { self.new.paths.path ≡ self.old.paths.path }
     {
         if self.file.is_none() {
-            self.create_kept_file()?;
+            self.create_own_file()?;
         }
         match &mut self.file {
             Some(file) => file.write(buf),

@@ -99,7 +99,7 @@ impl<'a, R: Files + AllocGlobal + Clone + Drop> Folder<'a, R> {
     ) -> io::Result<Option<ListedName>> {
         let alloc = self.rt.alloc();
         let path = joined_path(alloc, "", folder, name)?;
-        if self.rules.leave_out(path.as_slice(), name) {
+        if self.rules.is_left_out(path.as_slice(), name) {
             return Ok(None);
         }
         let metadata = match own {

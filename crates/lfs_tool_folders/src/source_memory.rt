@@ -2,7 +2,7 @@ ghost use Rattle.std.specs.Prelude.{◌≡◌, ◌+◌, ◌++◌, ◌∷◌, [],
 ghost use Rattle.std.specs.List.{list_any};
 ghost use Rattle.lfs_model.specs.format.Names.{slash_byte};
 ghost use Rattle.lfs_tool_folders.specs.SourceTrees.{is_folder, listed_view};
-ghost use Rattle.lfs_tool_folders.specs.MemorySources.{file_bytes_at, are_absent, is_directly_in, memory_view, name_in_folder, names_in_folder, memory_source};
+ghost use Rattle.lfs_tool_folders.specs.MemorySources.{file_bytes_at, has_no_bytes, is_directly_in, memory_view, name_in_folder, names_in_folder, memory_source};
 
 use crate::{ListedName, Source, SourceError, SourceKind, Tally};
 use std::alloc::Global;
@@ -68,7 +68,7 @@ fn copy_bytes(alloc: Global, bytes: &[u8]) -> Result<Vec<u8>, SourceError>
 }
 
 fn memory_entry_kind(held: &MemorySourceEntry) -> SourceKind
-    ensures { is_folder result ≡ are_absent (memory_view held.now).1 }
+    ensures { is_folder result ≡ has_no_bytes (memory_view held.now).1 }
 {
     match &held.bytes {
         Some(_) => SourceKind::File,

@@ -3,17 +3,17 @@ use Rattle.std.proofs.Common.{◌≡◌, ◌∙◌, ap, sym, List, Option, Some,
 use Rattle.clap.specs.Words.{Row}
 use Rattle.lfs_tool_line.specs.Boards.{board_block_size, board_profile}
 use Rattle.lfs_tool_line.specs.Limits.{first_broken_limit}
-use Rattle.lfs_tool_line.specs.Matches.{broken_limit, given_block_size, given_board, profile_given_or, given_profile}
+use Rattle.lfs_tool_line.specs.Matches.{broken_limit, given_block_size, board_in_rows, profile_given_or, given_profile}
 use Rattle.lfs_tool_line.specs.Values.{number_or}
 use Rattle.lfs_tool_line.specs.declared.board.Board.{Board}
 use Rattle.lfs_tool_line.specs.declared.board.Board.TheVariants.{Unnamed}
 use Rattle.lfs_tool_line.specs.declared.limits.Limit.{Limit}
 
-pub block_size_with_board : (rows : List Row) (board : Board) → given_board rows ≡ Some board
+pub block_size_with_board : (rows : List Row) (board : Board) → board_in_rows rows ≡ Some board
     → given_block_size rows ≡ number_or (board_block_size board) (codes "block_size") rows
 block_size_with_board rows board is = ap (λ (o : Option Board). number_or (board_block_size (unwrap_or o Unnamed)) (codes "block_size") rows) is
 
-pub profile_with_board : (rows : List Row) (board : Board) → given_board rows ≡ Some board
+pub profile_with_board : (rows : List Row) (board : Board) → board_in_rows rows ≡ Some board
     → given_profile rows ≡ profile_given_or (board_profile board) rows
 profile_with_board rows board is = ap (λ (o : Option Board). profile_given_or (board_profile (unwrap_or o Unnamed)) rows) is
 

@@ -3,7 +3,7 @@ use Rattle.std.proofs.Common.{◌≡◌, ◌<◌, ◌+◌, ◌*◌, ◌/◌, ◌
 use Rattle.std.proofs.lemmas.Bool.{ltb-false}
 use Rattle.std.proofs.Math.Nat.{add-mul-mod_self_right, add-mul-div_right, le-mul_of_pos_right}
 use Rattle.std.specs.Char.{digit_value}
-use Rattle.lfs_tool_line.specs.Numbers.{parts_bytes, number_after, number_of_digits, pointed_number, fits_word}
+use Rattle.lfs_tool_line.specs.Numbers.{parts_bytes, number_after, number_of_digits, fractional_number, fits_word}
 use Rattle.lfs_tool_line.proofs.Digits.{large_within}
 use Rattle.lfs_tool_line.proofs.Fractions.{digits_behind, power_some}
 
@@ -39,7 +39,7 @@ units_and_bytes unit None more = None
 units_and_bytes unit (Some n) more = option_map (λ q. n * unit + q) more
 
 pub pointed_is : (unit : ℕ) (whole fraction : List ℕ) → 0 < length fraction
-    → pointed_number unit whole fraction ≡ units_and_bytes unit (number_of_digits 10 whole) (parts_bytes unit (10 ^ length fraction) (number_after 10 0 fraction))
+    → fractional_number unit whole fraction ≡ units_and_bytes unit (number_of_digits 10 whole) (parts_bytes unit (10 ^ length fraction) (number_after 10 0 fraction))
 pointed_is unit whole [] some = absurd (omega arith)
 pointed_is unit [] (d ∷ ds) some = refl
 pointed_is unit (c ∷ cs) (d ∷ ds) some =
@@ -70,14 +70,14 @@ none_with_more unit (Some n) (Some q) some is = go (nat_lt n (2 ^ 32)) refl is
     go false e h = sym (large_within (n * unit + q) (omega (arith, ltb-false n (2 ^ 32) e, le-mul_of_pos_right {m = unit} n some)))
 
 pub none_of_units : (unit : ℕ) (whole fraction : List ℕ) → 0 < unit → 0 < length fraction → None ≡ fits_word (number_of_digits 10 whole)
-    → None ≡ fits_word (pointed_number unit whole fraction)
+    → None ≡ fits_word (fractional_number unit whole fraction)
 none_of_units unit whole fraction some digit is =
     none_with_more unit (number_of_digits 10 whole) (parts_bytes unit (10 ^ length fraction) (number_after 10 0 fraction)) some is
     ∙ sym (ap fits_word (pointed_is unit whole fraction digit))
 
 pub units_of_pointed : (unit : ℕ) (whole fraction : List ℕ) (n : ℕ) (more : Option ℕ) → 0 < length fraction → Some n ≡ fits_word (number_of_digits 10 whole)
     → more ≡ parts_bytes unit (10 ^ length fraction) (number_after 10 0 fraction)
-    → fits_word (option_map (λ q. n * unit + q) more) ≡ fits_word (pointed_number unit whole fraction)
+    → fits_word (option_map (λ q. n * unit + q) more) ≡ fits_word (fractional_number unit whole fraction)
 units_of_pointed unit whole fraction n more digit is parts =
     ap fits_word (ap (option_map (λ q. n * unit + q)) parts
     ∙ (sym (ap (λ o. units_and_bytes unit o (parts_bytes unit (10 ^ length fraction) (number_after 10 0 fraction))) (within_some (number_of_digits 10 whole) n is))

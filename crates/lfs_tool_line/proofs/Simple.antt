@@ -9,7 +9,7 @@ use Rattle.clap.specs.declared.error.Error.{Error}
 use Rattle.clap.specs.declared.parser.ArgMatches.{ArgMatches}
 use Rattle.lfs_tool_line.specs.Command.{mklittlefs, with_board_options, with_extra_options, with_limit_options, with_mode_options, with_common_options, with_path_modes, with_size_options}
 use Rattle.lfs_tool_line.specs.Matches.{faults, rows}
-use Rattle.lfs_tool_line.specs.Values.{first_bad_text, number_faults}
+use Rattle.lfs_tool_line.specs.Values.{first_bad_text, number_errors}
 
 is_simple_command : is_simple mklittlefs ≡ true
 unfolding mklittlefs with_common_options with_mode_options with_path_modes with_size_options with_limit_options with_board_options with_extra_options
@@ -44,15 +44,15 @@ pub refused_words : (words : List Text) (e : Error) → HasKind (fault_of mklitt
 unfolding faults
 refused_words words e refused = go (fault_of mklittlefs words) refused
   where
-    go : (ks : Kinds) → HasKind ks e → HasKind (or_else ks (number_faults (rows words))) e
+    go : (ks : Kinds) → HasKind ks e → HasKind (or_else ks (number_errors (rows words))) e
     go [] (inl memory) = inl memory
     go [] (inr none) = absurd none
     go (k ∷ ks) h = h
 
 -- where clap takes the words, the numbers decide
-faults_of_numbers : (words : List Text) (found : List Row) → fault_of mklittlefs words ≡ [] → found ≡ rows words → faults words ≡ number_faults found
+faults_of_numbers : (words : List Text) (found : List Row) → fault_of mklittlefs words ≡ [] → found ≡ rows words → faults words ≡ number_errors found
 unfolding faults
-faults_of_numbers words found taken same = ap (λ (ks : Kinds). or_else ks (number_faults (rows words))) taken ∙ ap number_faults (sym same)
+faults_of_numbers words found taken same = ap (λ (ks : Kinds). or_else ks (number_errors (rows words))) taken ∙ ap number_errors (sym same)
 
 pub bad_number_refused : (words : List Text) (found : List Row) (text : Text) (e : Error) → fault_of mklittlefs words ≡ [] → found ≡ rows words
     → Some text ≡ first_bad_text found → kind_of e ≡ ValueValidation → HasKind (faults words) e

@@ -33,8 +33,8 @@ abbrev pub changes_image : List Row → Bool
 changes_image rows = is_given (codes "put") rows || (is_given (codes "remove") rows || is_given (codes "mkdir") rows)
 
 -- the first option of those for sizes, times, pairs and files that has no meaning where it is given
-abbrev pub misused_pair : List Row → Option Misuse
-misused_pair rows =
+abbrev pub misused_extra : List Row → Option Misuse
+misused_extra rows =
     if not (is_given (codes "create") rows) && is_option_auto (codes "size") rows then Some misuse.Size else
     (if is_given (codes "spare") rows && not (is_option_auto (codes "size") rows) then Some misuse.Spare else
     (if flag_in_rows (codes "times") rows && not (is_given (codes "create") rows || is_given (codes "unpack") rows) then Some misuse.Times else
@@ -49,7 +49,7 @@ misused_option rows =
     then Some misuse.Folder else
     (if flag_in_rows (codes "follow-links") rows && flag_in_rows (codes "skip-links") rows then Some misuse.Links else
     (if flag_in_rows (codes "json") rows && not (flag_in_rows (codes "list") rows || flag_in_rows (codes "check") rows)
-    then Some misuse.Json else misused_pair rows))
+    then Some misuse.Json else misused_extra rows))
 
 -- where the option has a meaning
 abbrev pub misuse_rule : Misuse → List ℕ

@@ -14,7 +14,7 @@ use Rattle.lfs_tool_line.specs.Boards.{board_block_size, board_named, board_prof
 use Rattle.lfs_tool_line.specs.Command.{mklittlefs}
 use Rattle.lfs_tool_line.specs.Extras.{AreExtrasOf, misused_option}
 use Rattle.lfs_tool_line.specs.Limits.{first_broken_limit}
-use Rattle.lfs_tool_line.specs.Values.{flag_in_rows, is_option_auto, number_faults, number_or}
+use Rattle.lfs_tool_line.specs.Values.{flag_in_rows, is_option_auto, number_errors, number_or}
 use Rattle.lfs_tool_line.specs.declared.board.Board.{Board}
 use Rattle.lfs_tool_line.specs.declared.board.Board.TheVariants.{Unnamed}
 use Rattle.lfs_tool_line.specs.declared.limits.Limit.{Limit}
@@ -34,7 +34,7 @@ rows words = matches_of mklittlefs words
 
 -- the error with which the words are refused: that of clap, or that of a number; empty where they are taken
 unfoldable pub faults : List Text → Kinds
-faults words = or_else (fault_of mklittlefs words) (number_faults (rows words))
+faults words = or_else (fault_of mklittlefs words) (number_errors (rows words))
 
 abbrev pub ParserAccepts : List Text → Type 0
 ParserAccepts words = faults words ≡ []
@@ -54,18 +54,18 @@ folder_flags rows = is_some (first_of (codes "create") rows)
     ∷ is_some (first_of (codes "unpack") rows) ∷ asks_list rows ∷ asks_check rows ∷ []
 
 -- the two texts of a list of two
-abbrev pub only_pair : Option (List Text) → Option (Text × Text)
-only_pair (Some (first ∷ second ∷ [])) = Some (first, second)
-only_pair _ = None
+abbrev pub exactly_two_texts : Option (List Text) → Option (Text × Text)
+exactly_two_texts (Some (first ∷ second ∷ [])) = Some (first, second)
+exactly_two_texts _ = None
 
 -- the two texts of an option
-abbrev pub given_pair : Text → List Row → Option (Text × Text)
-given_pair id rows = only_pair (all_of id rows)
+abbrev pub given_two_texts : Text → List Row → Option (Text × Text)
+given_two_texts id rows = exactly_two_texts (all_of id rows)
 
 -- whether each of --cat, --put, --remove and --mkdir is given
 abbrev pub path_flags : List Row → List Bool
 path_flags rows = is_some (first_of (codes "cat") rows)
-    ∷ is_some (given_pair (codes "put") rows) ∷ is_some (first_of (codes "remove") rows) ∷ is_some (first_of (codes "mkdir") rows) ∷ []
+    ∷ is_some (given_two_texts (codes "put") rows) ∷ is_some (first_of (codes "remove") rows) ∷ is_some (first_of (codes "mkdir") rows) ∷ []
 
 -- how many of these are given
 abbrev pub given_count : List Bool → ℕ
@@ -85,7 +85,7 @@ IsModeOf rows (mode.Unpack dir) = first_of (codes "unpack") rows ≡ Some dir.no
 IsModeOf rows mode.List = asks_list rows ≡ true
 IsModeOf rows mode.Check = asks_check rows ≡ true
 IsModeOf rows (mode.Cat path) = first_of (codes "cat") rows ≡ Some path.now
-IsModeOf rows (mode.Put file path) = given_pair (codes "put") rows ≡ Some (file.now, path.now)
+IsModeOf rows (mode.Put file path) = given_two_texts (codes "put") rows ≡ Some (file.now, path.now)
 IsModeOf rows (mode.Remove path) = first_of (codes "remove") rows ≡ Some path.now
 IsModeOf rows (mode.Mkdir path) = first_of (codes "mkdir") rows ≡ Some path.now
 
@@ -103,27 +103,27 @@ abbrev pub order_if_present : Option Text → Option NameOrder
 order_if_present None = None
 order_if_present (Some text) = order_named text
 
-abbrev pub given_order : List Row → Option NameOrder
-given_order rows = order_if_present (first_of (codes "order") rows)
+abbrev pub order_in_rows : List Row → Option NameOrder
+order_in_rows rows = order_if_present (first_of (codes "order") rows)
 
 -- the order that is given is one
 abbrev pub HasValidOrder : List Row → Type 0
-HasValidOrder rows = is_some (given_order rows) ≡ true
+HasValidOrder rows = is_some (order_in_rows rows) ≡ true
 
 -- the board that is given
 abbrev pub board_if_present : Option Text → Option Board
 board_if_present None = Some Unnamed
 board_if_present (Some text) = board_named text
 
-abbrev pub given_board : List Row → Option Board
-given_board rows = board_if_present (first_of (codes "board") rows)
+abbrev pub board_in_rows : List Row → Option Board
+board_in_rows rows = board_if_present (first_of (codes "board") rows)
 
 -- the board that is given is one
 abbrev pub KnownBoard : List Row → Type 0
-KnownBoard rows = is_some (given_board rows) ≡ true
+KnownBoard rows = is_some (board_in_rows rows) ≡ true
 
 abbrev pub board_or_none : List Row → Board
-board_or_none rows = unwrap_or (given_board rows) Unnamed
+board_or_none rows = unwrap_or (board_in_rows rows) Unnamed
 
 -- the size of a block, which is the board's where none is given
 abbrev pub given_block_size : List Row → ℕ
@@ -162,7 +162,7 @@ pub record IsLineOf (rows : List Row) (line : Line) : Type 0 where
   pub offset : number_or 0 (codes "offset") rows ≡ line.offset
   pub page : number_or 256 (codes "page") rows ≡ line.page
   pub size : number_or 65536 (codes "size") rows ≡ line.size
-  pub order : given_order rows ≡ Some line.order
+  pub order : order_in_rows rows ≡ Some line.order
   pub explain : asks_explanation rows ≡ line.explain
   pub limits : broken_limit rows ≡ None
   pub profile : given_profile rows ≡ line.profile

@@ -41,15 +41,15 @@ parts_bytes unit parts None = None
 parts_bytes unit parts (Some n) = if (n * unit) % parts == 0 then Some (n * unit / parts) else None
 
 -- the number of digits on both sides of a point: 1.25 of a unit is 125 of its hundred parts
-abbrev pub pointed_number : ℕ → List ℕ → List ℕ → Option ℕ
-pointed_number unit [] fraction = None
-pointed_number unit (c ∷ cs) [] = None
-pointed_number unit (c ∷ cs) (d ∷ ds) = parts_bytes unit (10 ^ length (d ∷ ds)) (number_of_digits 10 ((c ∷ cs) ++ (d ∷ ds)))
+abbrev pub fractional_number : ℕ → List ℕ → List ℕ → Option ℕ
+fractional_number unit [] fraction = None
+fractional_number unit (c ∷ cs) [] = None
+fractional_number unit (c ∷ cs) (d ∷ ds) = parts_bytes unit (10 ^ length (d ∷ ds)) (number_of_digits 10 ((c ∷ cs) ++ (d ∷ ds)))
 
 -- the number that the text before a unit's letter names, with its first point at this place
 abbrev pub number_by_point : ℕ → List ℕ → Option ℕ → Option ℕ
 number_by_point unit text None = option_map (λ n. n * unit) (number_of_digits 10 text)
-number_by_point unit text (Some i) = pointed_number unit (take i text) (drop (i + 1) text)
+number_by_point unit text (Some i) = fractional_number unit (take i text) (drop (i + 1) text)
 
 -- the number that a text names whose last letter is that of this unit, or of none
 abbrev pub number_by_unit : List ℕ → Option ℕ → Option ℕ

@@ -56,8 +56,8 @@ first_bad_text rows = text_or_next (bad_option_size (codes "block_size") rows)
     (text_or_next (bad_option_size (codes "size") rows) (first_bad_number other_numbers rows)))
 
 -- the error of a text that names no number; empty where each names one
-abbrev pub number_faults : List Row → Kinds
-number_faults rows = if is_some (first_bad_text rows) then ValueValidation ∷ [] else []
+abbrev pub number_errors : List Row → Kinds
+number_errors rows = if is_some (first_bad_text rows) then ValueValidation ∷ [] else []
 
 -- the flag's text, which clap gives as true or false
 abbrev pub is_true : Option Text → Bool

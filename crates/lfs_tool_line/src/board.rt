@@ -37,7 +37,7 @@ fn firmware_profile(name_max: u32, inline_max: u32) -> Profile
 
 impl Board {
     // Returns the board of this name.
-    pub(crate) fn with_name(text: &str) -> Option<Board>
+    pub(crate) fn of_name(text: &str) -> Option<Board>
         ensures { result ≡ board_named text.now }
     {
         if text == "esp8266" {

@@ -2,7 +2,7 @@
 
 ghost use Rattle.std.specs.Prelude.{◌≡◌, IfOk};
 ghost use Rattle.clap.specs.Words.{found_of, rows_of};
-ghost use Rattle.lfs_tool_line.specs.Extras.{AreExtrasOf, changes_image, is_given, is_standard_stream, misused_option, misused_pair, misuse_rule};
+ghost use Rattle.lfs_tool_line.specs.Extras.{AreExtrasOf, changes_image, is_given, is_standard_stream, misused_option, misused_extra, misuse_rule};
 
 use crate::values::{argument_text, flag_value, is_auto, number_given_or};
 use clap::ArgMatches;
@@ -91,8 +91,8 @@ fn changes_image(matches: &ArgMatches<'_>) -> bool
 }
 
 // Returns the first option of those for sizes, times, pairs and files that has no meaning where it is given.
-fn misused_pair(matches: &ArgMatches<'_>) -> Option<Misuse>
-    ensures { result ≡ misused_pair (rows_of (found_of matches.now)) }
+fn misused_extra(matches: &ArgMatches<'_>) -> Option<Misuse>
+    ensures { result ≡ misused_extra (rows_of (found_of matches.now)) }
 {
     let creates = is_given(matches, "create");
     let is_size_auto = is_auto(matches, "size");
@@ -131,7 +131,7 @@ pub(crate) fn misused_option(matches: &ArgMatches<'_>) -> Option<Misuse>
     if flag_value(matches, "json") && !shows {
         return Some(Misuse::Json);
     }
-    misused_pair(matches)
+    misused_extra(matches)
 }
 
 // Returns what the matches request beside the image.

@@ -1,7 +1,7 @@
 ghost use Rattle.std.specs.Prelude.{◌≡◌, List, IfErr, IfOk, Some, false, map};
 ghost use Rattle.clap.specs.Words.{Text, found_of, rows_of};
 ghost use Rattle.lfs_tool_line.specs.Choices.{AreChoicesOf};
-ghost use Rattle.lfs_tool_line.specs.Matches.{HasImage, IsLineError, IsLineOf, IsRequestOf, ParserAccepts, makes_part, broken_limit, given_board, given_order, order_named, rows};
+ghost use Rattle.lfs_tool_line.specs.Matches.{HasImage, IsLineError, IsLineOf, IsRequestOf, ParserAccepts, makes_part, broken_limit, board_in_rows, order_in_rows, order_named, rows};
 
 use crate::board::Board;
 use crate::command::parse_words;
@@ -120,7 +120,7 @@ fn order_of_text(text: &str) -> Option<NameOrder>
 
 // Returns the order that is given, or the default.
 fn order_of_matches(matches: &ArgMatches<'_>) -> Option<NameOrder>
-    ensures { result ≡ given_order (rows_of (found_of matches.now)) }
+    ensures { result ≡ order_in_rows (rows_of (found_of matches.now)) }
 {
     match argument_text(matches, "order") {
         Some(text) => order_of_text(text),
@@ -130,10 +130,10 @@ fn order_of_matches(matches: &ArgMatches<'_>) -> Option<NameOrder>
 
 // Returns the board that is given, or none.
 fn board_of_matches(matches: &ArgMatches<'_>) -> Option<Board>
-    ensures { result ≡ given_board (rows_of (found_of matches.now)) }
+    ensures { result ≡ board_in_rows (rows_of (found_of matches.now)) }
 {
     match argument_text(matches, "board") {
-        Some(text) => Board::with_name(text),
+        Some(text) => Board::of_name(text),
         None => Some(Board::Unnamed),
     }
 }

@@ -2,7 +2,7 @@
 
 ghost use Rattle.std.specs.Prelude.{◌≡◌, MatchOption, Some, map, option_map};
 ghost use Rattle.clap.specs.Words.{found_of, rows_of};
-ghost use Rattle.lfs_tool_line.specs.Matches.{AreGivenModes, OneMode, IsModeOf, folder_flags, given_pair, only_pair, path_flags};
+ghost use Rattle.lfs_tool_line.specs.Matches.{AreGivenModes, OneMode, IsModeOf, folder_flags, given_two_texts, exactly_two_texts, path_flags};
 
 use crate::line::Mode;
 use crate::values::{argument_text, flag_value};
@@ -36,7 +36,7 @@ fn given_folder_modes<'a>(matches: &ArgMatches<'a>) -> GivenModes<'a>
 
 // Returns the texts of a list of two.
 fn two_texts<'a>(texts: &[&'a str]) -> Option<(&'a str, &'a str)>
-    ensures { option_map (λ two. (two.0.now, two.1.now)) result ≡ only_pair (Some (map (λ t. t.now) texts.now)) }
+    ensures { option_map (λ two. (two.0.now, two.1.now)) result ≡ exactly_two_texts (Some (map (λ t. t.now) texts.now)) }
 {
     if texts.len() == 2 {
         Some((texts[0], texts[1]))
@@ -47,7 +47,7 @@ fn two_texts<'a>(texts: &[&'a str]) -> Option<(&'a str, &'a str)>
 
 // Returns the two texts of an option.
 fn pair_of_texts<'a>(matches: &ArgMatches<'a>, id: &str) -> Option<(&'a str, &'a str)>
-    ensures { option_map (λ two. (two.0.now, two.1.now)) result ≡ given_pair id.now (rows_of (found_of matches.now)) }
+    ensures { option_map (λ two. (two.0.now, two.1.now)) result ≡ given_two_texts id.now (rows_of (found_of matches.now)) }
 {
     match matches.get_strs(id) {
         Some(texts) => two_texts(texts),

@@ -1,7 +1,7 @@
 // The numbers of a command line.
 
 ghost use Rattle.std.specs.Prelude.{◌≡◌, ◌≤◌, ◌<◌, ◌^◌, ◌*◌, ◌+◌, ◌==◌, IfSome, Some, length, position};
-ghost use Rattle.lfs_tool_line.specs.Numbers.{parts_bytes, bytes_of_unit, decimal_number, number_after, number_by_point, number_in_text, number_of_digits, pointed_number, fits_word};
+ghost use Rattle.lfs_tool_line.specs.Numbers.{parts_bytes, bytes_of_unit, decimal_number, number_after, number_by_point, number_in_text, number_of_digits, fractional_number, fits_word};
 
 // Returns the number that digits name, one or more.
 fn number_of_digits(digits: &[u8], radix: u32) -> Option<u32>
@@ -89,10 +89,10 @@ fn bytes_of_units(count: u32, unit: u32, more: u32) -> Option<u32>
 }
 
 // Returns the number of digits on both sides of a point.
-fn pointed_number(whole: &[u8], fraction: &[u8], unit: u32) -> Option<u32>
+fn fractional_number(whole: &[u8], fraction: &[u8], unit: u32) -> Option<u32>
     requires some { 0 < unit }
     requires most { unit ≤ 1048576 }
-    ensures { result ≡ fits_word (pointed_number unit whole.now fraction.now) }
+    ensures { result ≡ fits_word (fractional_number unit whole.now fraction.now) }
 {
     if fraction.is_empty() {
         return None;
@@ -107,7 +107,7 @@ fn pointed_number(whole: &[u8], fraction: &[u8], unit: u32) -> Option<u32>
 }
 
 // Returns the place of the first point.
-fn point_of(text: &[u8]) -> Option<usize>
+fn first_point(text: &[u8]) -> Option<usize>
     ensures first { result ≡ position (λ c. c == 46) text.now }
     ensures within { IfSome result (λ point. point < length text.now) }
 {
@@ -120,8 +120,8 @@ fn number_of_units(text: &[u8], unit: u32) -> Option<u32>
     requires most { unit ≤ 1048576 }
     ensures { result ≡ fits_word (number_by_point unit text.now (position (λ c. c == 46) text.now)) }
 {
-    match point_of(text) {
-        Some(point) => pointed_number(&text[..point], &text[point + 1..], unit),
+    match first_point(text) {
+        Some(point) => fractional_number(&text[..point], &text[point + 1..], unit),
         None => match number_of_digits(text, 10) {
             Some(count) => bytes_of_units(count, unit, 0),
             None => None,

@@ -11,7 +11,7 @@ use std::os::unix::fs::PermissionsExt;
 
 // What stands under a name. A link is written through, and has no end.
 #[derive(Clone, Copy, PartialEq, Eq, Debug, Drop)]
-pub(crate) enum PathKind {
+pub(crate) enum PathAndKind {
     File,
     ReadOnly,
     Link,
@@ -21,7 +21,7 @@ pub(crate) enum PathKind {
 #[derive(Drop)]
 pub(crate) struct DiskNode {
     pub(crate) name: Vec<u8>,
-    pub(crate) kind: PathKind,
+    pub(crate) kind: PathAndKind,
     pub(crate) bytes: Vec<u8>,
     // The permissions that it was given.
     pub(crate) mode: u32,
@@ -69,7 +69,7 @@ impl MemoryFileSystem {
         &self,
         alloc: Global,
         name: &str,
-        kind: PathKind,
+        kind: PathAndKind,
         bytes: &[u8],
     ) -> io::Result<usize> {
         let node = DiskNode {
@@ -124,10 +124,10 @@ impl MemoryFileSystem {
         }
     }
 
-    fn kind(&self, number: usize) -> PathKind {
+    fn kind(&self, number: usize) -> PathAndKind {
         match self.nodes.try_borrow() {
             Ok(nodes) if number < nodes.len() => nodes[number].kind,
-            _ => PathKind::Link,
+            _ => PathAndKind::Link,
         }
     }
 
@@ -287,7 +287,7 @@ impl<'a> DiskFiles<'a> {
         if how.asks_create_new() {
             return io_error_of_kind(ErrorKind::AlreadyExists);
         }
-        if how.asks_write() && self.disk.kind(number) == PathKind::ReadOnly {
+        if how.asks_write() && self.disk.kind(number) == PathAndKind::ReadOnly {
             return io_error_of_kind(ErrorKind::PermissionDenied);
         }
         if how.asks_truncate() {
@@ -303,7 +303,9 @@ impl<'a> DiskFiles<'a> {
         if self.disk.habit == DiskHabit::NoNewNames {
             return io_error_of_kind(ErrorKind::PermissionDenied);
         }
-        let number = self.disk.add_node(self.alloc, path, PathKind::File, b"")?;
+        let number = self
+            .disk
+            .add_node(self.alloc, path, PathAndKind::File, b"")?;
         Ok(self.open_node(number))
     }
 }
@@ -343,7 +345,9 @@ impl<'a> Files for DiskFiles<'a> {
 
     fn symlink_metadata(&self, path: &str) -> io::Result<Metadata> {
         match self.disk.find(path) {
-            Some(number) if self.disk.kind(number) == PathKind::Link => Ok(Metadata::of_symlink(1)),
+            Some(number) if self.disk.kind(number) == PathAndKind::Link => Ok(Metadata::of_symlink(
+                1,
+            )),
             Some(number) => Ok(Metadata::of_file(self.disk.len(number) as u64)),
             None => io_error_of_kind(ErrorKind::NotFound),
         }

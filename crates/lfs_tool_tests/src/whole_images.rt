@@ -1,6 +1,6 @@
 // Images that are written whole or not at all.
 
-use crate::disk::{DiskFiles, DiskHabit, MemoryFileSystem, PathKind};
+use crate::disk::{DiskFiles, DiskHabit, MemoryFileSystem, PathAndKind};
 use lfs_tool_folders::NewImage;
 use std::alloc::Global;
 use std::fs::Files;
@@ -17,7 +17,7 @@ const OLD: &[u8] = b"an old image";
 // What stands at the path, how many bytes are free, what the file system does, whether the image is made, what stands
 // at the path then, and how many names there are.
 const ROWS: [(
-    Option<PathKind>,
+    Option<PathAndKind>,
     usize,
     DiskHabit,
     bool,
@@ -27,7 +27,7 @@ const ROWS: [(
     (None, 24, DiskHabit::Plain, true, Some(IMAGE), 1),
     (None, 23, DiskHabit::Plain, false, None, 0),
     (
-        Some(PathKind::File),
+        Some(PathAndKind::File),
         24,
         DiskHabit::Plain,
         true,
@@ -35,7 +35,7 @@ const ROWS: [(
         1,
     ),
     (
-        Some(PathKind::File),
+        Some(PathAndKind::File),
         23,
         DiskHabit::Plain,
         false,
@@ -43,7 +43,7 @@ const ROWS: [(
         1,
     ),
     (
-        Some(PathKind::File),
+        Some(PathAndKind::File),
         0,
         DiskHabit::Plain,
         false,
@@ -51,7 +51,7 @@ const ROWS: [(
         1,
     ),
     (
-        Some(PathKind::ReadOnly),
+        Some(PathAndKind::ReadOnly),
         99,
         DiskHabit::Plain,
         false,
@@ -59,7 +59,7 @@ const ROWS: [(
         1,
     ),
     (
-        Some(PathKind::Link),
+        Some(PathAndKind::Link),
         99,
         DiskHabit::Plain,
         true,
@@ -67,7 +67,7 @@ const ROWS: [(
         1,
     ),
     (
-        Some(PathKind::Link),
+        Some(PathAndKind::Link),
         8,
         DiskHabit::Plain,
         false,
@@ -76,7 +76,7 @@ const ROWS: [(
     ),
     (None, 99, DiskHabit::NoNewNames, false, None, 0),
     (
-        Some(PathKind::File),
+        Some(PathAndKind::File),
         99,
         DiskHabit::NoNewNames,
         true,
@@ -84,7 +84,7 @@ const ROWS: [(
         1,
     ),
     (
-        Some(PathKind::File),
+        Some(PathAndKind::File),
         99,
         DiskHabit::NoNewPlaces,
         true,
@@ -92,7 +92,7 @@ const ROWS: [(
         1,
     ),
     (
-        Some(PathKind::File),
+        Some(PathAndKind::File),
         23,
         DiskHabit::NoNewPlaces,
         false,
@@ -104,7 +104,7 @@ const ROWS: [(
 // A disk on which that stands at the path.
 fn disk_with_old_image(
     alloc: Global,
-    kind: Option<PathKind>,
+    kind: Option<PathAndKind>,
     room: usize,
     habit: DiskHabit,
 ) -> io::Result<MemoryFileSystem> {
@@ -154,7 +154,7 @@ fn images_are_whole_or_not_there(rt: HostRuntime) -> Result<(), Fail> {
 // An image that isn't put in its place leaves what was there.
 #[test]
 fn images_that_are_dropped_leave_the_old_one(rt: HostRuntime) -> Result<(), Fail> {
-    let disk = disk_with_old_image(rt.alloc(), Some(PathKind::File), 99, DiskHabit::Plain)?;
+    let disk = disk_with_old_image(rt.alloc(), Some(PathAndKind::File), 99, DiskHabit::Plain)?;
     let files = DiskFiles {
         alloc: rt.alloc(),
         disk: &disk,
@@ -169,8 +169,13 @@ fn images_that_are_dropped_leave_the_old_one(rt: HostRuntime) -> Result<(), Fail
 // Names that are taken are left alone, and the permissions of the old file are kept.
 #[test]
 fn other_names_are_left_alone(rt: HostRuntime) -> Result<(), Fail> {
-    let disk = disk_with_old_image(rt.alloc(), Some(PathKind::File), 99, DiskHabit::Plain)?;
-    disk.add_node(rt.alloc(), "out/.mklittlefs-0", PathKind::File, b"another")?;
+    let disk = disk_with_old_image(rt.alloc(), Some(PathAndKind::File), 99, DiskHabit::Plain)?;
+    disk.add_node(
+        rt.alloc(),
+        "out/.mklittlefs-0",
+        PathAndKind::File,
+        b"another",
+    )?;
     let files = DiskFiles {
         alloc: rt.alloc(),
         disk: &disk,

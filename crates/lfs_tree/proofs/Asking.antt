@@ -3,7 +3,7 @@ use Rattle.std.proofs.Common.{ℕ, ◌≡◌, ◌∙◌, ◌||◌, Bool, false, 
 use Rattle.std.specs.Prelude.{IfErr, OnErr, OnOk, is_err}
 use Rattle.lfs_device.specs.declared.error.Error.{Error}
 use Rattle.lfs_device.specs.declared.error.Error.TheVariants.{Io}
-use Rattle.lfs_tree.proofs.Common.{BlockStates, CachedBlocks, Disk, CallEvent, Pair, count_before_root, ThreadView, SoundUnlessFailed, IsSoundWithRoot, kept_state, thread_state, ReadsOrReports, TreeState, without_cache, HasErrorCause}
+use Rattle.lfs_tree.proofs.Common.{BlockStates, CachedBlocks, Disk, CallEvent, Pair, count_before_root, ThreadView, SoundUnlessFailed, IsSoundWithRoot, uncached_state, thread_state, ReadsOrReports, TreeState, without_cache, HasErrorCause}
 use Rattle.lfs_tree.specs.TreeState.{OnlyReadsTree, ReadsTreeOrFails, FailedByReading}
 use Rattle.lfs_tree.proofs.Mounting.{sound_read}
 use Rattle.lfs_tree.proofs.SameErrors.{same_error}
@@ -67,5 +67,5 @@ module _ (thread : ThreadView) (root : ℕ) (writable : Bool) (now : TreeState) 
   rooted_held e = kept (works_held e)
 
   -- what works and may be written, is seen so
-  pub seen_working : now.failed ≡ false → now.writable ≡ true → without_cache now ≡ kept_state thread.kept true false
-  seen_working e w = ap without_cache (sym view) ∙ ap₂ (λ a b. kept_state thread.kept a b) (ap (λ (s : TreeState). s.writable) view ∙ w) (works_held e)
+  pub seen_working : now.failed ≡ false → now.writable ≡ true → without_cache now ≡ uncached_state thread.kept true false
+  seen_working e w = ap without_cache (sym view) ∙ ap₂ (λ a b. uncached_state thread.kept a b) (ap (λ (s : TreeState). s.writable) view ∙ w) (works_held e)

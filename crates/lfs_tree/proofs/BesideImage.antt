@@ -4,7 +4,7 @@ use Rattle.std.specs.Prelude.{All, Contains}
 use Rattle.lfs_tree.proofs.Common.{flat_map, All-from_recursion, recursion_from_All, slice_get_within, current_block, Disk, SameGeometry, disk_block, FitsInPair, Slot, Pair, pairs_blocks, pairs_from_root, first_address, count_before_root, BeginsWith, IsAccepted, superblock_entry, IsWritableSlot, IsWritable, all_unmoved_slots, struct_blocks, used_blocks, Contains-number_occurrences, IsChangedImage, slots_files, Each, number_occurrences, count_append, count_here, each_from_counted, each_pieces, SameFileBlocks, chain_of_thread, root_begins}
 use Rattle.lfs_model.specs.format.Content.{content_at}
 use Rattle.lfs_model.specs.declared.limits.Profile.{Profile}
-use Rattle.lfs_model.specs.format.Thread.{from_first_slots}
+use Rattle.lfs_model.specs.format.Thread.{pairs_from_filled}
 use Rattle.lfs_model.proofs.Devices.{content_same, first_same}
 use Rattle.lfs_model.proofs.Splices.{IsDevice}
 use Rattle.lfs_model.proofs.Superblocks.{IsChain, first_counted}
@@ -33,7 +33,7 @@ contents_still disk new (p ∷ ps) same was = (
 )
 
 first_still : (disk new : Disk) (ps : List Pair) → IsAccepted disk ps → ((b : ℕ) → 1 ≤ number_occurrences b (pairs_blocks ps) → disk_block new b ≡ disk_block disk b)
-    → BeginsWith (current_block new (first_address (from_first_slots ps))) superblock_entry
+    → BeginsWith (current_block new (first_address (pairs_from_filled ps))) superblock_entry
 first_still disk new ps ok same =
     let f = accepted_filled disk ps ok in
     let n = first_counted ps f.pair f.rest f.is in

@@ -1,6 +1,6 @@
 -- Contents of a writer that are written beside an image.
 use Rattle.std.proofs.Common.{ℕ, ◌≡◌, ◌<◌, ◌≤◌, ◌+◌, ◌/◌, ◌∙◌, Bool, true, false, List, length, min, max, Option, Some, None, Result, Ok, Err, inl, refl, sym, ap, subst, arith}
-use Rattle.lfs_tree.proofs.Common.{min-le_right, is_file, AreUsed, used_count, SameGeometry, disk_block, block_count, inline_limit, DiskSummary, slot_of, Slot, Pair, pairs_gstate, count_before_root, Path, Tree, IsAccepted, IsWritable, disk_tree, used_blocks, Blocks, CachedBlocks, HasEither, SurvivesLossSince, with_blocks, IsChangedImage, HoldsAtLosses-weaker, HoldsAtLosses-worst, SameFileBlocks, file_blocks_same, CanTruncate, CanWrite, HaveThreadForm, KeepsPairs, ThreadReportsFaults, contents_list_blocks, KeptThread, ThreadView, SoundUnlessFailed, IsSoundWithRoot, kept_state, thread_state, CanTruncateIn, CanWriteIn, AreThreadContents, slot_blocks, writer_contents_bytes, list_blocks_at, IsFailedTree, HasErrorCause, IsSoundState, TreeState, contents_bytes, contents_form, ContentsForm, AreUsedAmong}
+use Rattle.lfs_tree.proofs.Common.{min-le_right, is_file, AreUsed, used_count, SameGeometry, disk_block, block_count, inline_limit, DiskSummary, slot_of, Slot, Pair, pairs_gstate, count_before_root, Path, Tree, IsAccepted, IsWritable, disk_tree, used_blocks, Blocks, CachedBlocks, HasEitherTree, SurvivesLossSince, with_blocks, IsChangedImage, HoldsAtLosses-weaker, HoldsAtLosses-worst, SameFileBlocks, file_blocks_same, CanTruncate, CanWrite, HaveThreadForm, KeepsPairs, ThreadReportsFaults, contents_list_blocks, KeptThread, ThreadView, SoundUnlessFailed, IsSoundWithRoot, uncached_state, thread_state, CanTruncateIn, CanWriteIn, AreThreadContents, slot_blocks, writer_contents_bytes, list_blocks_at, IsFailedTree, HasErrorCause, IsSoundState, TreeState, contents_bytes, contents_form, ContentsForm, AreUsedAmong}
 use Rattle.std.specs.Prelude.{Contains, IfErr, IfOk, OnErr, OnOk}
 use Rattle.lfs_device.specs.declared.error.Error.{Error}
 use Rattle.lfs_device.specs.declared.error.Error.TheVariants.{Io}
@@ -62,7 +62,7 @@ module _ (a b : KeptThread) (leaves : KeepsPairs a b) (accepted : IsAccepted a.d
     };
   }
 
-sound_beside : (a b : KeptThread) (writable : Bool) → KeepsPairs a b → IsSoundState (kept_state a writable false) → IsSoundState (kept_state b writable false)
+sound_beside : (a b : KeptThread) (writable : Bool) → KeepsPairs a b → IsSoundState (uncached_state a writable false) → IsSoundState (uncached_state b writable false)
 sound_beside a b writable leaves s = record {
   accepted = accepted_beside a b leaves s.accepted s.used;
   fits = λ e. subst (IsWritable b.disk) (sym leaves.pairs) (writable_on a.disk b.disk a.pairs (geometry_beside a b leaves) (s.fits e));
@@ -78,7 +78,7 @@ around_is writable profile profile_now block_size page count block_size_now page
 
 -- a disk of which no used block changed
 pub left_beside : (t : KeptThread) (blocks : Blocks) {after : Tree} → IsAccepted t.disk t.pairs → IsWritable t.disk t.pairs → AreUsed t.map (used_blocks t.disk t.pairs) → KeepsUsedBytes t.map t.disk.blocks blocks
-    → HasEither (with_blocks blocks t.disk) (disk_tree t.disk t.pairs) after
+    → HasEitherTree (with_blocks blocks t.disk) (disk_tree t.disk t.pairs) after
 left_beside t blocks accepted fits used spared =
     let same : SameGeometry t.disk (with_blocks blocks t.disk) = record { block_size = refl; page = refl; order = refl; profile = refl; count = spared.count } in
     let f = still_follows t.disk (with_blocks blocks t.disk) t.pairs accepted same (λ x has. spared.same x ((used x).1 has)) in
@@ -86,7 +86,7 @@ left_beside t blocks accepted fits used spared =
 
 -- the calls of a tree
 module _ (a b : ThreadView) (root : ℕ) (writable : Bool) (h : IsSoundWithRoot a root writable) (still : b.failed ≡ false) (leaves : KeepsPairs a.kept b.kept) where
-  abbrev sound : IsSoundState (kept_state a.kept writable false)
+  abbrev sound : IsSoundState (uncached_state a.kept writable false)
   sound = h.sound
 
   pub rooted_beside : IsSoundWithRoot b root writable
@@ -154,11 +154,11 @@ limit_short profile block_size limit large e =
     let n = min-le_right (block_size / 8) 1022 in
     omega arith
 
-module _ (t : KeptThread) (writable : Bool) (limit : ℕ) (sound : IsSoundState (kept_state t writable false)) (large : 1024 ≤ t.disk.block_size) (is : limit ≡ inline_limit t.disk.profile t.disk.block_size) where
+module _ (t : KeptThread) (writable : Bool) (limit : ℕ) (sound : IsSoundState (uncached_state t writable false)) (large : 1024 ≤ t.disk.block_size) (is : limit ≡ inline_limit t.disk.profile t.disk.block_size) where
   room_is : (need : ℕ) → length (used_blocks t.disk t.pairs) + need ≤ block_count t.disk → used_count t.map + need ≤ length t.map
-  room_is need room = let e = count_is (kept_state t writable false) sound in let s = sound.size in omega arith
+  room_is need room = let e = count_is (uncached_state t writable false) sound in let s = sound.size in omega arith
 
-  pub can_write : {cache : CachedBlocks} (failed : Bool) (contents : WriterContents) (place count : ℕ) → CanWriteIn (record (kept_state t writable failed) { cache = cache }) contents place count → CanWrite t contents limit place count
+  pub can_write : {cache : CachedBlocks} (failed : Bool) (contents : WriterContents) (place count : ℕ) → CanWriteIn (record (uncached_state t writable failed) { cache = cache }) contents place count → CanWrite t contents limit place count
   can_write failed contents place count can = record {
     stands = can.stands;
     fits = record {
@@ -170,7 +170,7 @@ module _ (t : KeptThread) (writable : Bool) (limit : ℕ) (sound : IsSoundState 
     };
   }
 
-  pub can_truncate : {cache : CachedBlocks} (failed : Bool) (contents : WriterContents) (size : ℕ) → CanTruncateIn (record (kept_state t writable failed) { cache = cache }) contents size → CanTruncate t contents limit size
+  pub can_truncate : {cache : CachedBlocks} (failed : Bool) (contents : WriterContents) (size : ℕ) → CanTruncateIn (record (uncached_state t writable failed) { cache = cache }) contents size → CanTruncate t contents limit size
   can_truncate failed contents size can = record {
     stands = can.stands;
     fits = record {

@@ -1,6 +1,6 @@
 -- A file or a directory that comes to a path.
 use Rattle.std.proofs.Common.{ℕ, ◌≡◌, ◌≢◌, ◌≤◌, ◌∙◌, ◌++◌, inr, true, false, List, [], ◌∷◌, Result, Ok, Err, refl, sym, ap, subst, arith}
-use Rattle.lfs_tree.proofs.Common.{list_all, ltb-false, same_Some, AreByteBlocks, LeavesOthers, changed_paths, OpenFilesByNumber, Session, Pair, tree_creating, last_name, BlockStates, IsFree, IsInFlight, Free, InFlight, charge_limit, CallEvent, OnlyReadsSince, fault_count, Name, is_component, is_valid_name, FlagsOfOpen, Operation, entry_charge, path_or_root, Path, Tree, DirectoryNode, FileNode, disk_tree, each_weaker, last_is, here, WritesPairTwo, IsPairTouched, CanCreateIn, IsFileCreated, tree_with_file, AreBothTouched, CanMakeAt, IsDirectoryMade, WritesPairsFour, tree_with_directory, IsReadyImage, KeptThread, ThreadView, ChangesThreadBlocks, thread_pair, CanAddEntry, tree_after_call, AppliesInPlace, HasAppliedCall, CanChangeRecovered, AppliesOrFails, IsNewSpot, IsVacantPath, HasSoundImage, SurvivesEither, kept_state, tree_summary}
+use Rattle.lfs_tree.proofs.Common.{list_all, ltb-false, same_Some, AreByteBlocks, KeepsOthers, changed_paths, OpenFilesByNumber, Session, Pair, tree_creating, last_name, BlockStates, IsFree, IsInFlight, Free, InFlight, charge_limit, CallEvent, OnlyReadsSince, fault_count, Name, is_component, is_valid_name, FlagsOfOpen, Operation, entry_charge, path_or_root, Path, Tree, DirectoryNode, FileNode, disk_tree, each_weaker, last_is, here, WritesPairTwo, IsPairTouched, CanCreateIn, IsFileCreated, tree_with_file, AreBothTouched, CanMakeAt, IsDirectoryMade, WritesPairsFour, tree_with_directory, IsReadyImage, KeptThread, ThreadView, ChangesThreadBlocks, thread_pair, CanAddEntry, tree_after_call, AppliesInPlace, HasAppliedCall, CanChangeRecovered, AppliesOrFails, IsNewSpot, IsVacantPath, HasSoundImage, SurvivesEither, uncached_state, tree_summary}
 use Rattle.lfs_device.specs.declared.error.Error.{Error}
 use Rattle.lfs_model.specs.session.Operations as ops
 use Rattle.lfs_operations.specs.Ready.{KeepsTakenStates}
@@ -25,7 +25,7 @@ ready_to t root h rests large = record {
   large = large;
 }
 
-pub vacant_to : (t : KeptThread) (path : Path) (need : ℕ) → CanAddEntry (kept_state t true false) path need → IsVacantPath (disk_tree t.disk t.pairs) path
+pub vacant_to : (t : KeptThread) (path : Path) (need : ℕ) → CanAddEntry (uncached_state t true false) path need → IsVacantPath (disk_tree t.disk t.pairs) path
 vacant_to t path need can = record { parents = can.parents; nothing = can.nothing }
 
 pub stay_in_flight : (old new : BlockStates) → KeepsTakenStates old new → (b : ℕ) → IsInFlight old b → IsInFlight new b
@@ -35,7 +35,7 @@ any_flags : FlagsOfOpen
 any_flags = record { read = false; write = true; create = true; exclusive = false; truncate = false; append = false; unknown = false }
 
 module _ (t : ThreadView) (root : ℕ) (rests : CanChangeRecovered t root) (path : Path) (components : list_all is_component path ≡ true) (large : 1024 ≤ t.kept.disk.block_size) (bytes : AreByteBlocks t.kept.disk.blocks)
-    (need : ℕ) (can : CanAddEntry (kept_state t.kept true false) path need) (name : Name) (spot : SlotPosition) (place : IsNewSpot t.kept.disk.order t.kept.pairs path name spot) (h : List CallEvent) where
+    (need : ℕ) (can : CanAddEntry (uncached_state t.kept true false) path need) (name : Name) (spot : SlotPosition) (place : IsNewSpot t.kept.disk.order t.kept.pairs path name spot) (h : List CallEvent) where
   name_is : last_name path ≡ name
   name_is = ap last_name place.is ∙ last_is place.above name
 
@@ -47,7 +47,7 @@ module _ (t : ThreadView) (root : ℕ) (rests : CanChangeRecovered t root) (path
       none (x ∷ xs) k = absurd (cc)
 
   named : is_valid_name name ≡ true
-  named = subst (λ n. is_valid_name n ≡ true) name_is (last_is_name (tree_summary (kept_state t.kept true false)) path has_some components can.name)
+  named = subst (λ n. is_valid_name n ≡ true) name_is (last_is_name (tree_summary (uncached_state t.kept true false)) path has_some components can.name)
 
   fits : entry_charge t.kept.disk.profile t.kept.disk.block_size name [] ≤ charge_limit t.kept.disk.block_size t.kept.disk.page
   fits = subst (λ n. entry_charge t.kept.disk.profile t.kept.disk.block_size n [] ≤ charge_limit t.kept.disk.block_size t.kept.disk.page) name_is (ltb-false _ _ can.fits)
@@ -105,7 +105,7 @@ module _ (t : ThreadView) (root : ℕ) (rests : CanChangeRecovered t root) (path
       }) refl refl
 
   created_alone : (c : KeptThread) (op : Operation) (files : OpenFilesByNumber) → WritesPairTwo (with_history t.kept h) spot.pair c → IsPairTouched (with_history t.kept h) spot.pair c
-      → LeavesOthers t.kept.disk t.kept.pairs (record { tree = disk_tree t.kept.disk t.kept.pairs; files = files }) op c.disk c.pairs
+      → KeepsOthers t.kept.disk t.kept.pairs (record { tree = disk_tree t.kept.disk t.kept.pairs; files = files }) op c.disk c.pairs
   created_alone c op files w alters =
       let b = place.belongs in
       let is : thread_pair t.kept spot.pair ≡ b.pair = here (with_history t.kept h) (ready_to t root h rests large) place.first spot.pair b.pair (b.later ++ b.rest) b.place in
@@ -139,7 +139,7 @@ module _ (t : ThreadView) (root : ℕ) (rests : CanChangeRecovered t root) (path
       }) refl refl
 
   made_alone : (c : KeptThread) (op : Operation) (files : OpenFilesByNumber) → WritesPairsFour (with_history t.kept h) spot.pair c → AreBothTouched (with_history t.kept h) spot.pair c
-      → LeavesOthers t.kept.disk t.kept.pairs (record { tree = disk_tree t.kept.disk t.kept.pairs; files = files }) op c.disk c.pairs
+      → KeepsOthers t.kept.disk t.kept.pairs (record { tree = disk_tree t.kept.disk t.kept.pairs; files = files }) op c.disk c.pairs
   made_alone c op files w alters =
       let s : Session = record { tree = disk_tree t.kept.disk t.kept.pairs; files = files } in
       let old = with_history t.kept h in

@@ -2,7 +2,7 @@
 use Rattle.std.proofs.Common.{ℕ, ◌≡◌, ◌<◌, ◌≤◌, ◌∙◌, ◌++◌, true, false, List, [], ◌∷◌, length, Some, None, Result, Ok, Err, refl, sym, ap, subst}
 use Rattle.std.specs.Prelude.{All, is_none, Any, OnOk}
 use Rattle.lfs_device.specs.declared.error.Error.{Error}
-use Rattle.lfs_tree.proofs.Common.{AllByRecursion, option_map, ltb-false, recursion_from_All, AreByteBlocks, IsFree, HasPathSlot, LeavesOthers, changed_paths, OpenFilesByNumber, node_attributes_of, last_name, attributes_with, attributes_without, charge_limit, inline_limit, CallEvent, OnlyReadsSince, fault_count, Name, Operation, is_recover, renames_itself, slot_of, Attributes, Slot, Struct, Inline, Ctz, Branch, entry_charge, path_or_root, is_root_path, Pair, address_blocks, Path, Tree, struct_node, IsWritableSlot, InlineBytesFit, struct_list_bytes, all_entries, disk_tree, Each, each_right, last_is, here, WritesPairTwo, CanEditIn, CanSetAttribute, HasRemovedAttribute, HasSetAttribute, tree_setting_attributes, KeptThread, ThreadView, ChangesThreadBlocks, thread_pair, CanRemoveAttr, CanSetAttr, tree_after_call, AppliesInPlace, HasAppliedCall, CanChangeRecovered, AppliesOrFails, SparesOutsideOperation, HasSoundImage, SurvivesEither, HasPathEntry, IsPathSpot, is_entry_found, tree_with_attributes, kept_state, LeadsToResult, IsSlotBelow}
+use Rattle.lfs_tree.proofs.Common.{AllByRecursion, option_map, ltb-false, recursion_from_All, AreByteBlocks, IsFree, HasPathSlot, KeepsOthers, changed_paths, OpenFilesByNumber, node_attributes_of, last_name, attributes_with, attributes_without, charge_limit, inline_limit, CallEvent, OnlyReadsSince, fault_count, Name, Operation, is_recover, renames_itself, slot_of, Attributes, Slot, Struct, Inline, Ctz, Branch, entry_charge, path_or_root, is_root_path, Pair, address_blocks, Path, Tree, struct_node, IsWritableSlot, InlineBytesFit, struct_list_bytes, all_entries, disk_tree, Each, each_right, last_is, here, WritesPairTwo, CanEditIn, CanSetAttribute, HasRemovedAttribute, HasSetAttribute, tree_setting_attributes, KeptThread, ThreadView, ChangesThreadBlocks, thread_pair, CanRemoveAttr, CanSetAttr, tree_after_call, AppliesInPlace, HasAppliedCall, CanChangeRecovered, AppliesOrFails, SparesOutsideOperation, HasSoundImage, SurvivesEither, HasPathEntry, IsPathSpot, is_entry_found, tree_with_attributes, uncached_state, LeadsToResult, IsSlotBelow}
 use Rattle.lfs_model.specs.session.Operations as ops
 use Rattle.lfs_operations.specs.Editing.{HasAttributesChanged}
 use Rattle.lfs_tree.proofs.LeftAlone.{about_one, holds_slot, rest_left_alone}
@@ -43,10 +43,10 @@ slot_for t path (found.Nothing parent place) spot l h = absurd h
 slot_for t path (found.Directory parent slot first) spot l h = slot_is t.pairs path l.there.above l.there.name parent slot spot l.there.is l.there.there.0 h
 slot_for t path (found.File parent slot contents) spot l h = slot_is t.pairs path l.there.above l.there.name parent slot spot l.there.is l.there.there.0 h
 
-pub entry_to_set : (t : KeptThread) (path : Path) (kind : ℕ) (bytes : List ℕ) → CanSetAttr (kept_state t true false) path kind bytes → HasPathEntry (disk_tree t.disk t.pairs) path
+pub entry_to_set : (t : KeptThread) (path : Path) (kind : ℕ) (bytes : List ℕ) → CanSetAttr (uncached_state t true false) path kind bytes → HasPathEntry (disk_tree t.disk t.pairs) path
 entry_to_set t path kind bytes can = record { entry = can.entry; parents = can.parents; something = can.something }
 
-pub entry_to_clear : (t : KeptThread) (path : Path) (kind : ℕ) → CanRemoveAttr (kept_state t true false) path kind → HasPathEntry (disk_tree t.disk t.pairs) path
+pub entry_to_clear : (t : KeptThread) (path : Path) (kind : ℕ) → CanRemoveAttr (uncached_state t true false) path kind → HasPathEntry (disk_tree t.disk t.pairs) path
 entry_to_clear t path kind can = record { entry = can.entry; parents = can.parents; something = can.something }
 
 -- ---- what may be changed
@@ -99,7 +99,7 @@ module _ (t : ThreadView) (root : ℕ) (rests : CanChangeRecovered t root) (path
       let fit = (each_right Fit stands.left (stands.slot ∷ stands.right) (subst (Each Fit) stands.held (recursion_from_All Fit pair.content.slots one))).0 in
       (fit.1 stands.entry).inline
 
-  pub can_set : (kind : ℕ) (given : List ℕ) → CanSetAttr (kept_state t.kept true false) path kind given → CanSetAttribute (with_history t.kept h) spot.pair spot.id kind given
+  pub can_set : (kind : ℕ) (given : List ℕ) → CanSetAttr (uncached_state t.kept true false) path kind given → CanSetAttribute (with_history t.kept h) spot.pair spot.id kind given
   unfolding can_edit
   can_set kind given can = record {
     can = can_edit;
@@ -131,7 +131,7 @@ module _ (t : ThreadView) (root : ℕ) (rests : CanChangeRecovered t root) (path
         no_fault = quiet;
       }) other asks
 
-  set_at : (c : KeptThread) (kind : ℕ) (bytes_given given : List ℕ) (bs : List ℕ) → CanSetAttr (kept_state t.kept true false) path kind bytes_given → fault_count c.history ≡ fault_count t.kept.history → OnlyReadsSince t.kept.disk.blocks t.kept.history h → ChangesThreadBlocks bs (with_history t.kept h) c
+  set_at : (c : KeptThread) (kind : ℕ) (bytes_given given : List ℕ) (bs : List ℕ) → CanSetAttr (uncached_state t.kept true false) path kind bytes_given → fault_count c.history ≡ fault_count t.kept.history → OnlyReadsSince t.kept.disk.blocks t.kept.history h → ChangesThreadBlocks bs (with_history t.kept h) c
       → AllByRecursion (IsPairsOrFree t.kept) bs → ((set : CanSetAttribute (with_history t.kept h) spot.pair spot.id kind bytes_given) → HasSetAttribute (with_history t.kept h) c set.can.path set.can.name kind bytes_given)
       → path_or_root given ≡ path → AppliesInPlace t.kept (ops.SetAttr given kind bytes_given) c
   unfolding can_set can_edit
@@ -149,7 +149,7 @@ module _ (t : ThreadView) (root : ℕ) (rests : CanChangeRecovered t root) (path
   -- the pair holds the slot of the path
   edited_alone : (c : KeptThread) (op : Operation) (files : OpenFilesByNumber) (given : List ℕ) (fresh : List ℕ) → changed_paths (record { tree = disk_tree t.kept.disk t.kept.pairs; files = files }) op ≡ path_or_root given ∷ [] → path_or_root given ≡ path
       → AllByRecursion (IsFree t.kept.map) fresh → ChangesThreadBlocks ((thread_pair t.kept spot.pair).at.0 ∷ (thread_pair t.kept spot.pair).at.1 ∷ fresh) (with_history t.kept h) c
-      → LeavesOthers t.kept.disk t.kept.pairs (record { tree = disk_tree t.kept.disk t.kept.pairs; files = files }) op c.disk c.pairs
+      → KeepsOthers t.kept.disk t.kept.pairs (record { tree = disk_tree t.kept.disk t.kept.pairs; files = files }) op c.disk c.pairs
   edited_alone c op files given fresh about e free w =
       let s = slot.stands.stands in
       let is : thread_pair t.kept spot.pair ≡ s.pair = here (with_history t.kept h) (ready_to t root h rests large) slot.first spot.pair s.pair s.rest s.place in
@@ -165,7 +165,7 @@ module _ (t : ThreadView) (root : ℕ) (rests : CanChangeRecovered t root) (path
   edit_survives c f bs reads writes k =
       subst (λ p. SurvivesEither t.kept c (tree_with_attributes p f (disk_tree t.kept.disk t.kept.pairs))) (sym slot.is) (survives_behind t root rests h c bs (tree_setting_attributes t.kept slot.above slot.name f) reads writes k)
 
-  set_survives : (c : KeptThread) (kind : ℕ) (bytes_given : List ℕ) (bs : List ℕ) → CanSetAttr (kept_state t.kept true false) path kind bytes_given → OnlyReadsSince t.kept.disk.blocks t.kept.history h → ChangesThreadBlocks bs (with_history t.kept h) c
+  set_survives : (c : KeptThread) (kind : ℕ) (bytes_given : List ℕ) (bs : List ℕ) → CanSetAttr (uncached_state t.kept true false) path kind bytes_given → OnlyReadsSince t.kept.disk.blocks t.kept.history h → ChangesThreadBlocks bs (with_history t.kept h) c
       → ((set : CanSetAttribute (with_history t.kept h) spot.pair spot.id kind bytes_given) → SurvivesEither (with_history t.kept h) c (tree_setting_attributes (with_history t.kept h) set.can.path set.can.name (attributes_with kind bytes_given)))
       → SurvivesEither t.kept c (tree_with_attributes path (attributes_with kind bytes_given) (disk_tree t.kept.disk t.kept.pairs))
   unfolding can_set can_edit
@@ -179,7 +179,7 @@ module _ (t : ThreadView) (root : ℕ) (rests : CanChangeRecovered t root) (path
 
   -- ---- all that is said of it
 
-  pub set_does : (new : ThreadView) (r : Result (Unit {0}) Error) (kind : ℕ) (value given : List ℕ) → path_or_root given ≡ path → CanSetAttr (kept_state t.kept true false) path kind value → fault_count h ≡ fault_count t.kept.history → OnlyReadsSince t.kept.disk.blocks t.kept.history h
+  pub set_does : (new : ThreadView) (r : Result (Unit {0}) Error) (kind : ℕ) (value given : List ℕ) → path_or_root given ≡ path → CanSetAttr (uncached_state t.kept true false) path kind value → fault_count h ≡ fault_count t.kept.history → OnlyReadsSince t.kept.disk.blocks t.kept.history h
       → WritesPairTwo (with_history t.kept h) spot.pair new.kept → OnOk r ((set : CanSetAttribute (with_history t.kept h) spot.pair spot.id kind value) → HasSetAttribute (with_history t.kept h) new.kept set.can.path set.can.name kind value)
       → ReportsFaultsSince h new.kept.history r → OnOk r (new.failed ≡ false)
       → ((set : CanSetAttribute (with_history t.kept h) spot.pair spot.id kind value) → SurvivesEither (with_history t.kept h) new.kept (tree_setting_attributes (with_history t.kept h) set.can.path set.can.name (attributes_with kind value)))

@@ -1,7 +1,7 @@
 -- An entry that goes, at a path.
 use Rattle.std.proofs.Common.{ℕ, ◌≡◌, ◌≤◌, ◌-◌, ◌∙◌, ◌++◌, true, false, List, [], ◌∷◌, length, Some, None, ◌⊎◌, inl, Result, Ok, Err, refl, sym, ap, subst, arith}
 use Rattle.std.specs.Prelude.{nat_lt, IfErr, OnOk, is_err}
-use Rattle.lfs_tree.proofs.Common.{option_and_then, ltb-false, length-map, same_Some, slice_get_within, AreByteBlocks, ChangesOnlyMap, ThreadReportsFaults, directory_names, tree_removing, Disk, CallEvent, OnlyReadsSince, fault_count, Slot, Struct, Inline, Ctz, Branch, path_or_root, Pair, count_before_root, addresses_blocks, Path, Tree, branch_address, LeadsTo, all_entries, disk_tree, used_blocks, Contains-number_occurrences, number_occurrences-Contains, CompletesOperation, no_move_from, SameInFlight, IsReadyImage, IsReadyUnsettled, written_by_removal, CanRemoveDirectory, IsDirectoryRemoved, KeptThread, ThreadView, ChangesThreadBlocks, thread_pair, WritesThreadFree, CanRemoveEntry, tree_after_call, AppliesInPlace, HasAppliedCall, CanChangeRecovered, AppliesOrFails, SparesOutsideOperation, HasSoundImage, SurvivesEither, HasPathEntry, IsPathSpot, is_entry_found, IsStorage, CanRemoveFound, HasRemovedEntry, SparesInRemoval, kept_state, LeadsToResult, IsSlotBelow, directory_at_path}
+use Rattle.lfs_tree.proofs.Common.{option_and_then, ltb-false, length-map, same_Some, slice_get_within, AreByteBlocks, ChangesOnlyMap, ThreadReportsFaults, directory_names, tree_removing, Disk, CallEvent, OnlyReadsSince, fault_count, Slot, Struct, Inline, Ctz, Branch, path_or_root, Pair, count_before_root, addresses_blocks, Path, Tree, branch_address, LeadsTo, all_entries, disk_tree, used_blocks, Contains-number_occurrences, number_occurrences-Contains, CompletesOperation, no_move_from, SameInFlight, IsReadyImage, IsReadyUnsettled, written_by_removal, CanRemoveDirectory, IsDirectoryRemoved, KeptThread, ThreadView, ChangesThreadBlocks, thread_pair, WritesThreadFree, CanRemoveEntry, tree_after_call, AppliesInPlace, HasAppliedCall, CanChangeRecovered, AppliesOrFails, SparesOutsideOperation, HasSoundImage, SurvivesEither, HasPathEntry, IsPathSpot, is_entry_found, IsStorage, CanRemoveFound, HasRemovedEntry, SparesInRemoval, uncached_state, LeadsToResult, IsSlotBelow, directory_at_path}
 use Rattle.lfs_device.specs.declared.error.Error.{Error}
 use Rattle.lfs_device.specs.declared.error.Error.TheVariants.{Io, NoMemory}
 use Rattle.lfs_model.proofs.Orders.{length_in_order}
@@ -38,7 +38,7 @@ entry_on t path f v l = go f l (slot_found t path f v l)
     go (found.Directory parent slot first) l e = record { ends = l.there; has = e }
     go (found.File parent slot contents) l e = record { ends = l.there; has = e }
 
-pub entry_to_remove : (t : KeptThread) (path : Path) → CanRemoveEntry (kept_state t true false) path → HasPathEntry (disk_tree t.disk t.pairs) path
+pub entry_to_remove : (t : KeptThread) (path : Path) → CanRemoveEntry (uncached_state t true false) path → HasPathEntry (disk_tree t.disk t.pairs) path
 entry_to_remove t path can = record { entry = can.entry; parents = can.parents; something = can.something }
 
 file_branch : (c : FileStorage) (s : Struct) → IsStorage c s → branch_address s ≡ None
@@ -65,7 +65,7 @@ none_entered t path bare at leads =
     empty [] l = refl
     empty (x ∷ xs) l = absurd (omega arith)
 
-module _ (t : ThreadView) (root : ℕ) (rests : CanChangeRecovered t root) (path : Path) (large : 1024 ≤ t.kept.disk.block_size) (bytes : AreByteBlocks t.kept.disk.blocks) (can : CanRemoveEntry (kept_state t.kept true false) path) (h : List CallEvent) where
+module _ (t : ThreadView) (root : ℕ) (rests : CanChangeRecovered t root) (path : Path) (large : 1024 ≤ t.kept.disk.block_size) (bytes : AreByteBlocks t.kept.disk.blocks) (can : CanRemoveEntry (uncached_state t.kept true false) path) (h : List CallEvent) where
   no_entries : (at : ℕ × ℕ) → LeadsTo t.kept.pairs path at → all_entries t.kept.pairs at ≡ []
   no_entries at leads = none_entered t.kept path can.empty at leads
 

@@ -1,7 +1,7 @@
 -- What the checks of an operation have shown, as its steps ask for it.
 use Rattle.std.proofs.Common.{ℕ, ◌≡◌, ◌≢◌, ◌<◌, ◌∙◌, ◌&&◌, Bool, true, false, zero, suc, [], ◌∷◌, length, Some, refl, sym, ap₂, subst, arith, set, length-set}
 use Rattle.std.specs.Prelude.{slice_get}
-use Rattle.lfs_tree.proofs.Common.{list_all, min-le_right, ltb-false, same_Some, last_name, BlockStates, IsFree, state_in_flight, Free, InFlight, is_component, is_valid_name, name_max_of, DiskSummary, has_long_name, Path, slice_get-set_other, slice_get-set_same, used_count-AreUsed, HasTwoFree, HasFreeBlocks, KeptThread, HasNeededBlocks, kept_state, IsSoundState}
+use Rattle.lfs_tree.proofs.Common.{list_all, min-le_right, ltb-false, same_Some, last_name, BlockStates, IsFree, state_in_flight, Free, InFlight, is_component, is_valid_name, name_max_of, DiskSummary, has_long_name, Path, slice_get-set_other, slice_get-set_same, used_count-AreUsed, HasTwoFree, HasFreeBlocks, KeptThread, HasNeededBlocks, uncached_state, IsSoundState}
 use Rattle.std.proofs.lemmas.Bool.{le-leb}
 use Rattle.lfs_model.specs.layers.BlockSets.{is_used}
 use Rattle.lfs_model.proofs.BlockSets.{count_by-set, counts_from_none_free}
@@ -9,7 +9,7 @@ use Rattle.lfs_operations.specs.Changing.{AreTwoFree}
 
 -- ---- room
 
-pub room_for : (t : KeptThread) (need : ℕ) → IsSoundState (kept_state t true false) → HasNeededBlocks (kept_state t true false) need → HasFreeBlocks need t.map
+pub room_for : (t : KeptThread) (need : ℕ) → IsSoundState (uncached_state t true false) → HasNeededBlocks (uncached_state t true false) need → HasFreeBlocks need t.map
 room_for t need sound room =
     let e = used_count-AreUsed t.map _ sound.accepted.owned_once sound.used in
     let l = sound.size in

@@ -1,7 +1,7 @@
 -- A removal leaves the blocks of files and of pairs alone that it doesn't concern.
 use Rattle.std.proofs.Common.{ℕ, ◌≡◌, ◌∙◌, ◌-◌, ◌<◌, ◌++◌, Bool, cond, true, false, List, [], ◌∷◌, length, inl, inr, refl, sym, subst, arith}
 use Rattle.std.specs.Prelude.{Any, Contains}
-use Rattle.lfs_tree.proofs.Common.{ChangesOnlyMap, HasPathSlot, path_or_root, Pair, address_blocks, addresses_blocks, Path, here, IsPairTouched, CanEditIn, drops_with_its_slot, written_by_removal, AreFrontsTouched, CanRemoveDirectory, KeptThread, ChangesThreadBlocks, thread_pair, SparesInRemoval}
+use Rattle.lfs_tree.proofs.Common.{ChangesOnlyMap, HasPathSlot, path_or_root, Pair, address_blocks, addresses_blocks, Path, here, IsPairTouched, CanEditIn, drops_with_its_slot, written_by_removal, ArePairsBeforeTouched, CanRemoveDirectory, KeptThread, ChangesThreadBlocks, thread_pair, SparesInRemoval}
 use Rattle.lfs_model.specs.session.Operations as ops
 use Rattle.lfs_operations.specs.Removing.{CanRemoveIn}
 use Rattle.lfs_tree.proofs.Carried.{behind_below}
@@ -42,7 +42,7 @@ file_spares old mid new path pair id first take is alters w only s given e =
     concerned_alone old new s (ops.Remove given) (address_blocks (written_by_removal old pair first)) take.can.ready.accepted take.can.ready.used (k.0, (k.1, tt)) (writes_then old mid new (address_blocks (written_by_removal old pair first)) w only)
 
 -- a directory without entries, with its pair
-pub directory_spares : (old new : KeptThread) (path : Path) (pair id first gone : ℕ) (take : CanRemoveDirectory old pair id first gone) → path ≡ take.can.path ++ take.can.name ∷ [] → AreFrontsTouched old pair first gone new
+pub directory_spares : (old new : KeptThread) (path : Path) (pair id first gone : ℕ) (take : CanRemoveDirectory old pair id first gone) → path ≡ take.can.path ++ take.can.name ∷ [] → ArePairsBeforeTouched old pair first gone new
     → ChangesThreadBlocks (addresses_blocks (written_by_removal old pair first) (thread_pair old (gone - 1)).at) old new → SparesInRemoval old path new
 directory_spares old new path pair id first gone take is alters w s given e =
     let low = take.below in

@@ -1,7 +1,7 @@
 -- A loss of power in an operation on a path, behind calls that only read.
 use Rattle.std.proofs.Common.{ℕ, ◌≡◌, inl, inr, false, if◌then◌else◌, Option, Some, None, List, [], refl, sym, subst}
 use Rattle.std.specs.Prelude.{is_none, is_some}
-use Rattle.lfs_tree.proofs.Common.{tree_creating, Disk, SameGeometry, CallEvent, AllCallsSince, OnlyReadsSince, HasEither, SurvivesLossSince, with_blocks, FileNode, Node, Path, Tree, IsAccepted, IsWritable, disk_tree, survives_then, HoldsAtLosses-read_count, LeftByLoss-read, KeptThread, ThreadView, ChangesThreadBlocks, CanChangeRecovered, SurvivesEither}
+use Rattle.lfs_tree.proofs.Common.{tree_creating, Disk, SameGeometry, CallEvent, AllCallsSince, OnlyReadsSince, HasEitherTree, SurvivesLossSince, with_blocks, FileNode, Node, Path, Tree, IsAccepted, IsWritable, disk_tree, survives_then, HoldsAtLosses-read_count, LeftByLoss-read, KeptThread, ThreadView, ChangesThreadBlocks, CanChangeRecovered, SurvivesEither}
 use Rattle.lfs_tree.proofs.Carried.{with_history}
 
 pub survives_reading : (t : ThreadView) (root : ℕ) → CanChangeRecovered t root → (h : List CallEvent) → OnlyReadsSince t.kept.disk.blocks t.kept.history h → (after : Tree) →
@@ -18,7 +18,7 @@ pub survives_left : {P : CallEvent → Type 0} (t c : KeptThread) (h : List Call
     → disk_tree c.disk c.pairs ≡ after → OnlyReadsSince c.disk.blocks c.history h → SurvivesEither t c after → SurvivesLossSince t.disk t.history h (disk_tree t.disk t.pairs) after
 survives_left t c h after geometry since accepted fits shows reads k =
     survives_then t.disk t.history c.history h (disk_tree t.disk t.pairs) after since reads k
-    (λ clean. HoldsAtLosses-read_count LeftByLoss-read reads (subst (λ disk. HasEither disk (disk_tree t.disk t.pairs) after) (sym (same_disk t.disk c.disk geometry))
+    (λ clean. HoldsAtLosses-read_count LeftByLoss-read reads (subst (λ disk. HasEitherTree disk (disk_tree t.disk t.pairs) after) (sym (same_disk t.disk c.disk geometry))
     (record { pairs = c.pairs; accepted = accepted; writable = fits; tree = inr shows })))
   where
     same_disk : (disk new : Disk) → SameGeometry disk new → with_blocks new.blocks disk ≡ new

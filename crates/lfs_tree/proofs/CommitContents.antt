@@ -1,7 +1,7 @@
 -- A commit of finished contents: the file gets them, and its lists are settled.
 use Rattle.std.proofs.Common.{ℕ, ◌≡◌, ◌<◌, ◌≤◌, inl, inr, ⊎_elim, nat_eq, nat_le, leb-true, Bool, true, false, cond, List, [], length, Option, Some, refl, sym, ap, subst, arith}
 use Rattle.std.specs.Prelude.{Contains}
-use Rattle.lfs_tree.proofs.Common.{flat_map, cases_lt, All-contains, All-from_recursion, recursion_from_All, AreUsed, IsFree, IsInFlight, IsUsedBlock, in_flight_count, Disk, inline_limit, CallEvent, block_count_for, list_bytes, list_blocks_of, slot_of, Slot, Struct, Inline, Ctz, Branch, pairs_blocks, Path, IsAccepted, IsFormedList, all_unmoved_slots, struct_blocks, used_blocks, few_flying, Contains-number_occurrences, number_occurrences-Contains, Each, number_occurrences, count_append, each_from_counted, each_pieces, once_from_distinct, length_back, IsContentsStruct, stored_list_blocks, AreOnThread, HasFreeBlocks, KeptThread, AreThreadContents, slot_blocks, writer_contents_bytes, CanCommitContents, IsFinishedForm, finished_list, list_in_struct, finished_struct, SizedLists, IsListOrEmpty, contents_form}
+use Rattle.lfs_tree.proofs.Common.{flat_map, cases_lt, All-contains, All-from_recursion, recursion_from_All, AreUsed, IsFree, IsInFlight, IsUsedBlock, in_flight_count, Disk, inline_limit, CallEvent, block_count_for, list_bytes, list_block_count, slot_of, Slot, Struct, Inline, Ctz, Branch, pairs_blocks, Path, IsAccepted, IsFormedList, all_unmoved_slots, struct_blocks, used_blocks, few_flying, Contains-number_occurrences, number_occurrences-Contains, Each, number_occurrences, count_append, each_from_counted, each_pieces, once_from_distinct, length_back, IsContentsStruct, stored_list_blocks, AreOnThread, HasFreeBlocks, KeptThread, AreThreadContents, slot_blocks, writer_contents_bytes, CanCommitContents, IsFinishedForm, finished_list, list_in_struct, finished_struct, SizedLists, IsListOrEmpty, contents_form}
 use Rattle.std.specs.List.{IsDistinct}
 use Rattle.lfs_tree.proofs.Coming.{inline_comes, list_comes}
 use Rattle.lfs_tree.proofs.Carried.{with_history}
@@ -112,15 +112,15 @@ module _ (t : KeptThread) (path : Path) (u : Slot) (ok : IsAccepted t.disk t.pai
       (cases_lt 0 (number_occurrences b (pairs_blocks t.pairs)))
   coming_apart (InHand hand) over never b some = absurd never
 
-  list_room : (c : WriterContents) → AreThreadContents t path c → IsFinishedForm (inline_limit t.disk.profile t.disk.block_size) (contents_form c) → in_flight_count t.map ≤ list_blocks_of t.disk.profile t.disk.block_size (length (writer_contents_bytes t c))
+  list_room : (c : WriterContents) → AreThreadContents t path c → IsFinishedForm (inline_limit t.disk.profile t.disk.block_size) (contents_form c) → in_flight_count t.map ≤ list_block_count t.disk.profile t.disk.block_size (length (writer_contents_bytes t c))
   list_room (InMemory list) over few = let e = no_flight t.map (λ b. over.stands.stands.idle.none b) in omega arith
   list_room (Finished s) over large =
       let size = size_of_list s (inline_limit t.disk.profile t.disk.block_size) large over.stands in
       let few = few_flying (stored_list_blocks t s) t.map (λ b flies. ((stored_of s over.stands).flying b flies).1) in
       let l = length_back t.disk.blocks (block_count_for t.disk.block_size s.size) s.head in
-      let k : list_blocks_of t.disk.profile t.disk.block_size s.size ≡ block_count_for t.disk.block_size s.size
+      let k : list_block_count t.disk.profile t.disk.block_size s.size ≡ block_count_for t.disk.block_size s.size
       = ap (λ b. cond b 0 (block_count_for t.disk.block_size s.size)) (past s.size (inline_limit t.disk.profile t.disk.block_size) large) in
-      let m = ap (list_blocks_of t.disk.profile t.disk.block_size) size in
+      let m = ap (list_block_count t.disk.profile t.disk.block_size) size in
       omega arith
     where
       past : (n limit : ℕ) → limit < n → nat_le n limit ≡ false

@@ -2,8 +2,8 @@
 pub use Rattle.lfs_device.specs.Bytes.{AreByteBlocks}
 pub use Rattle.lfs_file.specs.Bases.{IsListOrEmpty, blocks_of_list}
 pub use Rattle.lfs_file.specs.BlockOwners.{AreUsedAmong, contents_blocks}
-pub use Rattle.lfs_file.specs.BlocksApart.{IsTakenWritten}
-pub use Rattle.lfs_file.specs.Contents.{AreSoundContents, HaveForm, NoneInFlight, contents_bytes, contents_form, finish_room, form_after_finish}
+pub use Rattle.lfs_file.specs.BlocksApart.{IsTakenNotPending}
+pub use Rattle.lfs_file.specs.Contents.{AreSoundContents, HaveBytesInForm, NoneInFlight, contents_bytes, contents_form, finish_room, form_after_finish}
 pub use Rattle.lfs_file.specs.Form.{ContentsForm}
 pub use Rattle.lfs_file.specs.Growing.{GrowingList, growing_size_with, unwritten_block}
 pub use Rattle.lfs_file.specs.Hand.{CanEndOver, IsFinishedList, bytes_over_base}
@@ -41,8 +41,8 @@ pub use Rattle.lfs_model.proofs.Paths.{last_is}
 pub use Rattle.lfs_model.proofs.Searches.{IsDirectory, begins_directory}
 pub use Rattle.lfs_model.proofs.Sites.{AnyByRecursion, among_right}
 pub use Rattle.lfs_model.proofs.Splices.{file_blocks, unmoved_in}
-pub use Rattle.lfs_model.specs.crash.Frame.{HasPathSlot, LeavesOthers, ancestor_paths, changed_paths, pair_count_at}
-pub use Rattle.lfs_model.specs.crash.PowerLoss.{HasEither, SurvivesLossSince, with_blocks}
+pub use Rattle.lfs_model.specs.crash.Frame.{HasPathSlot, KeepsOthers, ancestor_paths, changed_paths, pair_count_at}
+pub use Rattle.lfs_model.specs.crash.PowerLoss.{HasEitherTree, SurvivesLossSince, with_blocks}
 pub use Rattle.lfs_model.specs.format.Blocks.{Blocks, HasBlockSizes, block_bytes}
 pub use Rattle.lfs_model.specs.format.Content.{attributes_with, attributes_without, current_block, current_of_two, empty_raw_content, has_commit, is_later, read_struct}
 pub use Rattle.lfs_model.specs.format.Disk.{Disk, SameGeometry, block_count, charge_limit, disk_block, inline_limit, name_max_of, ordered_disk}
@@ -60,11 +60,11 @@ pub use Rattle.lfs_model.specs.layers.WrittenContent.{is_zero}
 pub use Rattle.lfs_model.specs.session.Effects.{file_with_bytes}
 pub use Rattle.lfs_model.specs.session.History.{AllCalls, AllCallsSince, CallEvent, OnlyReadsSince, fault_count, read_count}
 pub use Rattle.lfs_model.specs.session.InDirectory.{BelongsAt, HasHardTail, IsDirectoryPair, IsPairAt, IsPlaceOf}
-pub use Rattle.lfs_model.specs.session.Layout.{ArePairsAfter, FitsPair, IsDirectoryGone, IsLayout, IsLayoutRecovered, continued_address, directory_address}
+pub use Rattle.lfs_model.specs.session.Layout.{ArePairsAfter, FitsPair, IsUnreachedOrRemoved, IsLayout, IsLayoutRecovered, continued_address, directory_address}
 pub use Rattle.lfs_model.specs.session.Operations.{FlagsOfOpen, Operation}
 pub use Rattle.lfs_model.specs.session.Refusals.{is_root_path, path_or_root}
 pub use Rattle.lfs_model.specs.session.Run.{is_recover, renames_itself}
-pub use Rattle.lfs_model.specs.session.Session.{DiskSummary, OpenFilesByNumber, Session, has_long_name, list_blocks_of}
+pub use Rattle.lfs_model.specs.session.Session.{DiskSummary, OpenFilesByNumber, Session, has_long_name, list_block_count}
 pub use Rattle.lfs_model.specs.session.SlotEdits.{pair_with_slots, pairs_without_moved, slot_of}
 pub use Rattle.lfs_model.specs.session.TreeEdits.{directory_names, file_bytes, is_file, last_name, node_attributes_of, same_path, tree_creating, tree_removing, tree_renaming, tree_with_change, without_prefix}
 pub use Rattle.lfs_model.specs.tree.Profile.{HasNoEmpties, InlineBytesFit, IsWritable, IsWritableSlot}
@@ -86,7 +86,7 @@ pub use Rattle.lfs_operations.specs.Recovering.{AreUnreachedFrom, AreUnreachedNu
 pub use Rattle.lfs_operations.specs.Removing.{drops_with_its_slot, written_by_removal}
 pub use Rattle.lfs_operations.specs.Renaming.{tree_renamed}
 pub use Rattle.lfs_operations.specs.Storing.{HasStoredContents, tree_with_contents}
-pub use Rattle.lfs_operations.specs.Unlinking.{AreFrontsTouched, CanRemoveDirectory, IsDirectoryRemoved}
+pub use Rattle.lfs_operations.specs.Unlinking.{ArePairsBeforeTouched, CanRemoveDirectory, IsDirectoryRemoved}
 pub use Rattle.lfs_tag.specs.ContentView.{slot_view}
 pub use Rattle.lfs_thread.specs.Beside.{BelongToThread, HasGeometry, KeepsPairBlocks}
 pub use Rattle.lfs_thread.specs.Kept.{KeptThread, ThreadView, disk_of_device, kept_in_order}
@@ -94,19 +94,19 @@ pub use Rattle.lfs_thread.specs.ThreadSteps.{ChangesThreadBlocks, OnlyReadsThrea
 pub use Rattle.lfs_tree.specs.CreationPaths.{IsCreationResult}
 pub use Rattle.lfs_tree.specs.Formats.{IsEmptyWritable, IsFormatted}
 pub use Rattle.lfs_tree.specs.KeptFiles.{KeepsFileAt, KeepsListBytes}
-pub use Rattle.lfs_tree.specs.LostLists.{CanFreeDropped, raw_slots_lists, slots_lists}
+pub use Rattle.lfs_tree.specs.LostLists.{CanFreeLists, raw_slots_lists, slots_lists}
 pub use Rattle.lfs_tree.specs.MovedEntries.{CanMoveEntry, CanMoveOntoDirectory, CanMoveOntoFile, CanMoveOntoFound, CanMoveToVacant, HasMovedEntry, ThreadWorksOrReports}
 pub use Rattle.lfs_tree.specs.OpenContents.{AreThreadContents, AreTreeContents, CanStoreContents, CanTruncateIn, CanWriteIn, IsOpenedForm, list_blocks_at, slot_blocks, writer_contents_bytes}
 pub use Rattle.lfs_tree.specs.Openings.{AreOpenedContents, CanOpenSlot, opened_form}
-pub use Rattle.lfs_tree.specs.Orphans.{DirectoriesBegin, IsNamedPair, IsStructPair, MarkReached, QueuesMarked, unmarked_count}
+pub use Rattle.lfs_tree.specs.Orphans.{DirectoriesBegin, IsNamedPair, IsStructPair, MarkReached, MarksAndQueues, unmarked_count}
 pub use Rattle.lfs_tree.specs.Permissions.{CanAddEntry, CanAddIn, CanRemoveAttr, CanRemoveEntry, CanRenamePath, CanSetAttr, HasNeededBlocks}
 pub use Rattle.lfs_tree.specs.Recoveries.{HasDroppedUnreached, HasRecovered}
 pub use Rattle.lfs_tree.specs.Removals.{CanRemoveFile, CanRemoveFound, HasRemovedEntry, SparesInRemoval}
 pub use Rattle.lfs_tree.specs.RenameFindings.{AreRenameResults, rename_directories}
-pub use Rattle.lfs_tree.specs.RootedThreads.{IsSoundWithRoot, SoundUnlessFailed, kept_state, thread_state}
+pub use Rattle.lfs_tree.specs.RootedThreads.{IsSoundWithRoot, SoundUnlessFailed, uncached_state, thread_state}
 pub use Rattle.lfs_tree.specs.SettledFiles.{CanSettleFile, ChangesOnlyMap, IsListSettled, stored_list_blocks}
 pub use Rattle.lfs_tree.specs.SlotChanges.{HasPathEntry, IsPathSpot, is_entry_found, tree_with_attributes}
-pub use Rattle.lfs_tree.specs.Stores.{CanCommitContents, CanPutContents, ChangesPathPair, HasCommittedBytes, IsFinishedForm, IsPathFile, StoresThreadBytes, empty_list, finished_list, finished_struct, list_in_storage, list_in_struct}
+pub use Rattle.lfs_tree.specs.Stores.{CanCommitContents, CanPutContents, ChangesPathPair, HasCommittedBytes, IsFinishedForm, IsPathFile, StoresOnThread, empty_list, finished_list, finished_struct, list_in_storage, list_in_struct}
 pub use Rattle.lfs_tree.specs.StructChanges.{IsContentsStruct}
 pub use Rattle.lfs_tree.specs.ThreadContents.{AreOnThread, CanFinish, CanTruncate, CanWrite, HaveThreadForm, KeepsPairs, ThreadReportsFaults, contents_list_blocks}
 pub use Rattle.lfs_tree.specs.TreeCalls.{IsOperationCall, tree_after_call}

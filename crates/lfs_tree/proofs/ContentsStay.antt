@@ -1,10 +1,10 @@
 -- The contents of an open writer where only other blocks change.
 use Rattle.std.proofs.Common.{ℕ, ◌≡◌, ◌≢◌, ◌<◌, ⊎_elim, inl, inr, List, [], ◌∷◌, ◌++◌, drop, length, take, slice_get, sym, ap, ◌∙◌, subst, arith, length-append}
 use Rattle.std.specs.Prelude.{All, Contains}
-use Rattle.lfs_tree.proofs.Common.{All-from_recursion, Contains-append_left, Contains-append_right, Blocks, block_bytes, BlockStates, IsFree, IsInFlight, blocks_to_head, block_count_for, Contains-number_occurrences, number_occurrences-Contains, each_from_counted, Each, recursion_from_All, AreKnownBlocks, GrowingList, unwritten_block, growing_size_with, IsTakenWritten, IsListOrEmpty, blocks_of_list, CanEndOver, IsFinishedList, bytes_over_base}
+use Rattle.lfs_tree.proofs.Common.{All-from_recursion, Contains-append_left, Contains-append_right, Blocks, block_bytes, BlockStates, IsFree, IsInFlight, blocks_to_head, block_count_for, Contains-number_occurrences, number_occurrences-Contains, each_from_counted, Each, recursion_from_All, AreKnownBlocks, GrowingList, unwritten_block, growing_size_with, IsTakenNotPending, IsListOrEmpty, blocks_of_list, CanEndOver, IsFinishedList, bytes_over_base}
 use Rattle.lfs_model.proofs.Counts.{each_counted}
 use Rattle.lfs_model.proofs.Files.{Same, back_same, bytes_same, chain_same, data_same, list_same}
-use Rattle.lfs_file.specs.Growing.{IsRestAt, SameListLater, growing_bytes, blocks_data, kept_blocks, rest_block, unwritten_rest_block}
+use Rattle.lfs_file.specs.Growing.{IsRestAt, SameListLater, growing_bytes, blocks_data, lasting_blocks, rest_block, unwritten_rest_block}
 use Rattle.lfs_file.specs.declared.rest.RestLocation.{RestLocation}
 use Rattle.lfs_file.specs.declared.rest.RestLocation.TheVariants.{Closed, Shared, Handed, Held}
 use Rattle.lfs_file.specs.Hand.{stored_list_bytes}
@@ -79,18 +79,18 @@ module _ (map later : BlockStates) (d e : Blocks) (block_size : ℕ) (s : Stored
 -- ---- a list in hand, over its base
 
 module _ (map later : BlockStates) (d e : Blocks) (block_size : ℕ) (g : GrowingList) (base : StoredList) (shared : ℕ) (hand : CanEndOver map d block_size g base shared)
-    (stay : StayAs map d (kept_blocks d g ++ blocks_of_list d block_size base.head base.size) later e) where
+    (stay : StayAs map d (lasting_blocks d g ++ blocks_of_list d block_size base.head base.size) later e) where
   abbrev own : List ℕ
-  own = kept_blocks d g
+  own = lasting_blocks d g
 
   abbrev bb : List ℕ
   bb = blocks_of_list d block_size base.head base.size
 
-  stay_own : StayAs map d (kept_blocks d g) later e
-  stay_own = stay_left map later d e (kept_blocks d g) (blocks_of_list d block_size base.head base.size) stay
+  stay_own : StayAs map d (lasting_blocks d g) later e
+  stay_own = stay_left map later d e (lasting_blocks d g) (blocks_of_list d block_size base.head base.size) stay
 
   stay_base : StayAs map d (blocks_of_list d block_size base.head base.size) later e
-  stay_base = stay_right map later d e (kept_blocks d g) (blocks_of_list d block_size base.head base.size) stay
+  stay_base = stay_right map later d e (lasting_blocks d g) (blocks_of_list d block_size base.head base.size) stay
 
   full_same : Same d e (blocks_to_head d g.full g.head)
   full_same = each_of (λ b. block_bytes e b ≡ block_bytes d b) (blocks_to_head d g.full g.head) (λ b has. stay_own.same b (Contains-append_left (blocks_to_head d g.full g.head) (unwritten_block g) b has))
@@ -131,11 +131,11 @@ module _ (map later : BlockStates) (d e : Blocks) (block_size : ℕ) (g : Growin
         pending = all_of (IsInFlight later) (unwritten_block g) (λ b has. stay_own.states b (Contains-append_right _ (unwritten_block g) b has) ∙ of_all (IsInFlight map) (unwritten_block g) hand.begun.marked.pending b has);
       };
       list = base_stays map later d e block_size base stay_base hand.begun.list;
-      apart = subst (All (IsTakenWritten later (unwritten_block g))) (sym base_list)
-          (all_of (IsTakenWritten later (unwritten_block g)) bb (λ b has. let k = of_all (IsTakenWritten map (unwritten_block g)) bb hand.begun.apart b has in (not_free map later b (stay_base.states b has) k.0, k.1)));
+      apart = subst (All (IsTakenNotPending later (unwritten_block g))) (sym base_list)
+          (all_of (IsTakenNotPending later (unwritten_block g)) bb (λ b has. let k = of_all (IsTakenNotPending map (unwritten_block g)) bb hand.begun.apart b has in (not_free map later b (stay_base.states b has) k.0, k.1)));
       few = hand.begun.few;
       front = ap (take shared) hand_still.kept ∙ hand.begun.front ∙ ap (take shared) (sym base_list);
-      behind = subst (λ (l : List ℕ). All (λ b. All (λ c. c ≢ b) l) (drop shared (kept_blocks e g))) (sym base_list)
+      behind = subst (λ (l : List ℕ). All (λ b. All (λ c. c ≢ b) l) (drop shared (lasting_blocks e g))) (sym base_list)
           (subst (λ (l : List ℕ). All (λ b. All (λ c. c ≢ b) bb) (drop shared l)) (sym hand_still.kept) hand.begun.behind);
       taken = λ b has used.
           let was : Contains own b = subst (λ (l : List ℕ). Contains l b) hand_still.kept has in

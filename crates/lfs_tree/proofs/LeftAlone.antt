@@ -1,7 +1,7 @@
 -- Blocks of pairs that an operation doesn't concern.
 use Rattle.std.proofs.Common.{ℕ, zero, suc, ◌+◌, ◌<◌, ◌≤◌, ◌≢◌, length, ◌≡◌, ◌⊎◌, inl, inr, ◌∙◌, true, false, cond, List, [], ◌∷◌, ◌++◌, Some, slice_get, slice_index_or, nat_eq, refl, sym, ap, subst, arith, append_assoc}
 use Rattle.std.specs.Prelude.{All, Any, Contains}
-use Rattle.lfs_tree.proofs.Common.{AllByRecursion, All-from_recursion, same_Some, Contains-number_occurrences, file_blocks, AreUsed, IsFree, HasPathSlot, LeavesOthers, changed_paths, Disk, disk_block, IsPairAt, IsDirectoryPair, HasHardTail, IsPlaceOf, Name, same_name, Operation, Session, LeadsTo, all_unmoved_slots, struct_blocks, used_blocks, Slot, same_pair, Pair, pairs_blocks, Path, last_name, IsAccepted, Each, number_occurrences, count_append, count_here, each_from_counted, each_pieces, each_weaker, once_from_distinct, last_is, AnyByRecursion, among_right, KeptThread, ChangesThreadBlocks, empty_anchor, thread_pair, KeepsListBytes, ChangesPathPair}
+use Rattle.lfs_tree.proofs.Common.{AllByRecursion, All-from_recursion, same_Some, Contains-number_occurrences, file_blocks, AreUsed, IsFree, HasPathSlot, KeepsOthers, changed_paths, Disk, disk_block, IsPairAt, IsDirectoryPair, HasHardTail, IsPlaceOf, Name, same_name, Operation, Session, LeadsTo, all_unmoved_slots, struct_blocks, used_blocks, Slot, same_pair, Pair, pairs_blocks, Path, last_name, IsAccepted, Each, number_occurrences, count_append, count_here, each_from_counted, each_pieces, each_weaker, once_from_distinct, last_is, AnyByRecursion, among_right, KeptThread, ChangesThreadBlocks, empty_anchor, thread_pair, KeepsListBytes, ChangesPathPair}
 use Rattle.std.specs.List.{IsDistinct}
 use Rattle.lfs_model.specs.crash.Frame.{HasEntryName, directory_pairs, tail_pairs}
 use Rattle.lfs_model.proofs.Alone.{left_alone, others_left_alone, own_blocks}
@@ -82,7 +82,7 @@ about_one P given path e h = (0, given, omega arith, refl, subst P (sym e) h)
 -- and blocks that were free; it changed what it holds, or holds a slot that the operation is about
 pub rest_left_alone : (t c : KeptThread) (first index : ℕ) (p : Pair) (rest : List Pair) (fresh : List ℕ) (s : Session) (op : Operation) → IsAccepted t.disk t.pairs → AreUsed t.map (used_blocks t.disk t.pairs)
     → IsDirectoryPair t.pairs first index p rest → AllByRecursion (IsFree t.map) fresh → ChangesThreadBlocks (p.at.0 ∷ p.at.1 ∷ fresh) t c → (Contains c.pairs p → (Any (HasPathSlot t.pairs p) (changed_paths s op) → ⊥) → ⊥)
-    → LeavesOthers t.disk t.pairs s op c.disk c.pairs
+    → KeepsOthers t.disk t.pairs s op c.disk c.pairs
 rest_left_alone t c first index p rest fresh s op accepted used place free w changed =
     others_left_alone t.disk c.disk t.pairs c.pairs (place.front ++ place.left) rest p s op (p.at.0 ∷ p.at.1 ∷ fresh) accepted (place.parts ∙ sym (append_assoc place.front place.left (p ∷ rest))) (
       inl refl,
@@ -131,7 +131,7 @@ module _ (disk new : Disk) (ps qs : List Pair) (path : Path) (ok : IsAccepted di
   files_of_alone = lists_from disk new ps (λ b some. k.others b (Contains-number_occurrences (used_blocks disk ps) b (let u = parts b in omega arith)) (of_file b k.pair.at.0 (first_owned k.pair) some) (of_file b k.pair.at.1 (second_owned k.pair) some))
 
   -- an operation on the path leaves the rest alone
-  pub pair_of_alone : (s : Session) (op : Operation) → changed_paths s op ≡ path ∷ [] → LeavesOthers disk ps s op new qs
+  pub pair_of_alone : (s : Session) (op : Operation) → changed_paths s op ≡ path ∷ [] → KeepsOthers disk ps s op new qs
   pair_of_alone s op about = record {
     files = files_of_alone;
     pairs = λ x a b n.
@@ -189,7 +189,7 @@ module _ (t c : KeptThread) (s : Session) (op : Operation) (bs : List ℕ) (ok :
           let k = among_used x b a own in
           absurd (omega arith)
 
-  pub concerned_alone : LeavesOthers t.disk t.pairs s op c.disk c.pairs
+  pub concerned_alone : KeepsOthers t.disk t.pairs s op c.disk c.pairs
   concerned_alone = left_alone t.disk c.disk t.pairs c.pairs s op bs w.others
       (each_pieces (λ b. All (λ y. y ≢ b) bs) (λ (u : Slot). struct_blocks t.disk u.struct) (all_unmoved_slots t.pairs)
       (each_from_counted (λ b. All (λ y. y ≢ b) bs) (file_blocks t.disk (all_unmoved_slots t.pairs))

@@ -2,7 +2,7 @@
 use Rattle.std.proofs.Common.{ℕ, zero, suc, ◌≡◌, ◌≢◌, ◌⊎◌, inl, inr, ◌<◌, ◌≤◌, ◌+◌, ◌∙◌, List, [], ◌∷◌, ◌++◌, length, Option, Some, None, refl, sym, ap, ap₂, subst, arith, add-one, append-nil, drop, drop-cons, take}
 use Rattle.std.proofs.Math.Seq.{take-suc}
 use Rattle.std.proofs.lemmas.List.Concat.{flat_map-append}
-use Rattle.lfs_tree.proofs.Common.{AllByRecursion, option_and_then, option_map, cases_lt, All-from_recursion, recursion_from_All, same_Some, CanSettleFile, ChangesOnlyMap, IsListSettled, stored_list_blocks, AreUsed, BlockStates, IsInFlight, read_struct, Disk, SameGeometry, CallEvent, OnlyReadsSince-trans, Slot, Struct, Inline, Ctz, Branch, Pair, pairs_blocks, pairs_gstate, IsAccepted, IsFormedList, all_unmoved_slots, struct_blocks, used_blocks, Contains-number_occurrences, number_occurrences-Contains, Each, number_occurrences, count_append, each_append, slots_files, SameFileBlocks, is_list_same, HasNoMove, file_blocks, unmoved_in, SameInFlight, IsReadyImage, IsReadyUnsettled, HasDroppedRecovered, numbered_slots, KeptThread, empty_anchor, CanFreeDropped, slots_lists, raw_slots_lists, IsListOrEmpty, SettlesList, empty_list}
+use Rattle.lfs_tree.proofs.Common.{AllByRecursion, option_and_then, option_map, cases_lt, All-from_recursion, recursion_from_All, same_Some, CanSettleFile, ChangesOnlyMap, IsListSettled, stored_list_blocks, AreUsed, BlockStates, IsInFlight, read_struct, Disk, SameGeometry, CallEvent, OnlyReadsSince-trans, Slot, Struct, Inline, Ctz, Branch, Pair, pairs_blocks, pairs_gstate, IsAccepted, IsFormedList, all_unmoved_slots, struct_blocks, used_blocks, Contains-number_occurrences, number_occurrences-Contains, Each, number_occurrences, count_append, each_append, slots_files, SameFileBlocks, is_list_same, HasNoMove, file_blocks, unmoved_in, SameInFlight, IsReadyImage, IsReadyUnsettled, HasDroppedRecovered, numbered_slots, KeptThread, empty_anchor, CanFreeLists, slots_lists, raw_slots_lists, IsListOrEmpty, SettlesList, empty_list}
 use Rattle.std.specs.Prelude.{Contains, ◌↔◌, slice_index_or}
 use Rattle.lfs_model.specs.format.Content.{RawSlot, complete_slot, complete_slots, kind_of_type}
 use Rattle.lfs_model.proofs.Completed.{complete_parts}
@@ -86,15 +86,15 @@ module _ (old : KeptThread) (numbers : List ℕ) (new : KeptThread) (ok : IsAcce
   stand = each_both (λ (s : Slot). SameFileBlocks old.disk new.disk s.struct) (λ (s : Slot). IsFormedList old.disk s.struct) (λ (s : Slot). IsFormedList new.disk s.struct)
       (λ s h k. is_list_same old.disk new.disk s.struct geometry h k) slots same stood
 
-  can_free : CanFreeDropped new (slots_lists (numbered_slots old.pairs numbers))
+  can_free : CanFreeLists new (slots_lists (numbered_slots old.pairs numbers))
   can_free = record {
     ready = subst (λ z. IsReadyUnsettled new z []) (sym blocks_are) r.ready;
     once = λ b. let e = ap (number_occurrences b) blocks_are in let o = r.once b in omega arith;
     stand = stand_named new slots stand;
   }
 
-  pub can_free_lists : (lists : List StoredList) → lists ≡ slots_lists (numbered_slots old.pairs numbers) → CanFreeDropped new lists
-  can_free_lists lists are = subst (CanFreeDropped new) (sym are) can_free
+  pub can_free_lists : (lists : List StoredList) → lists ≡ slots_lists (numbered_slots old.pairs numbers) → CanFreeLists new lists
+  can_free_lists lists are = subst (CanFreeLists new) (sym are) can_free
 
 -- ---- which are left
 
@@ -114,10 +114,10 @@ none_left [] (suc i) l = refl
 none_left (x ∷ lists) zero l = absurd (omega arith)
 none_left (x ∷ lists) (suc i) l = none_left lists i (omega arith)
 
-pub all_freed : (t : KeptThread) (lists : List StoredList) → lists ≡ [] → CanFreeDropped t lists → IsReadyImage t
-all_freed t lists none can = go (subst (CanFreeDropped t) none can)
+pub all_freed : (t : KeptThread) (lists : List StoredList) → lists ≡ [] → CanFreeLists t lists → IsReadyImage t
+all_freed t lists none can = go (subst (CanFreeLists t) none can)
   where
-    go : CanFreeDropped t [] → IsReadyImage t
+    go : CanFreeLists t [] → IsReadyImage t
     go h = record {
       accepted = h.ready.accepted;
       writable = h.ready.writable;
@@ -136,7 +136,7 @@ abbrev pub IsExact : Type 0
 IsExact = (sets later : BlockStates) (owned used before now gone come : List ℕ) → AreUsed sets owned → ((b : ℕ) → number_occurrences b owned ≤ 1) → ((b : ℕ) → number_occurrences b owned + number_occurrences b come ≡ number_occurrences b used + number_occurrences b gone)
     → ((b : ℕ) → number_occurrences b now + number_occurrences b gone ≡ number_occurrences b come + number_occurrences b before) → ((b : ℕ) → Contains now b → Contains used b) → SettlesList sets later before now → AreUsed later used
 
-module _ (t : KeptThread) (list : StoredList) (rest : List StoredList) (can : CanFreeDropped t (list ∷ rest)) where
+module _ (t : KeptThread) (list : StoredList) (rest : List StoredList) (can : CanFreeLists t (list ∷ rest)) where
   both : (b : ℕ) → number_occurrences b (blocks_of_lists t (list ∷ rest)) ≡ number_occurrences b (stored_list_blocks t list) + number_occurrences b (blocks_of_lists t rest)
   both b = count_append b (stored_list_blocks t list) (blocks_of_lists t rest)
 
@@ -162,7 +162,7 @@ module _ (t : KeptThread) (list : StoredList) (rest : List StoredList) (can : Ca
         (λ b. let e = can.ready.used.same b in let k = both b in let c = count_append b (used_blocks t.disk t.pairs) (blocks_of_lists t rest) in omega arith)
         (λ b. omega arith) (λ b h. let k = number_occurrences-Contains [] b h in absurd (omega arith)) settled
 
-    rest_here : CanFreeDropped (with_map t history map) rest
+    rest_here : CanFreeLists (with_map t history map) rest
     rest_here = record {
       ready = record {
         accepted = can.ready.accepted;
@@ -199,8 +199,8 @@ module _ (t : KeptThread) (list : StoredList) (rest : List StoredList) (can : Ca
     here : IsListSettled t list empty_list (with_map t new.history new.map)
     here = settled
 
-    pub rest_left : CanFreeDropped new rest
-    rest_left = subst (λ z. CanFreeDropped z rest) (sym (beside_is t new only)) (rest_here new.history new.map here law)
+    pub rest_left : CanFreeLists new rest
+    rest_left = subst (λ z. CanFreeLists z rest) (sym (beside_is t new only)) (rest_here new.history new.map here law)
 
     pub first_flying : SameInFlight t.map new.map
     first_flying = flying_here new.history new.map here law

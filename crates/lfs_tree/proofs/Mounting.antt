@@ -4,7 +4,7 @@ use Rattle.std.specs.List.{IsDistinct}
 use Rattle.std.specs.Prelude.{◌↔◌, IsTrue}
 use Rattle.lfs_device.specs.declared.device.BlockDevice.{Ghosts}
 use Rattle.lfs_device.specs.declared.error.Error.{Error}
-use Rattle.lfs_tree.proofs.Common.{ordered_disk, Disk, block_count, AreInFlight, AreUsed, BlockStates, CallEvent, OnlyReadsSince, fault_count, read_count, Pair, count_before_root, IsAccepted, IsWritable, used_blocks, OnlyReadsSince-trans, KeptThread, ThreadView, disk_of_device, OnlyReadsThread, IsFormatted, IsEmptyWritable, IsSoundWithRoot, kept_state, thread_state, ReadsOrReports, IsMountedTree, IsSoundState, HasRead}
+use Rattle.lfs_tree.proofs.Common.{ordered_disk, Disk, block_count, AreInFlight, AreUsed, BlockStates, CallEvent, OnlyReadsSince, fault_count, read_count, Pair, count_before_root, IsAccepted, IsWritable, used_blocks, OnlyReadsSince-trans, KeptThread, ThreadView, disk_of_device, OnlyReadsThread, IsFormatted, IsEmptyWritable, IsSoundWithRoot, uncached_state, thread_state, ReadsOrReports, IsMountedTree, IsSoundState, HasRead}
 use Rattle.lfs_device.specs.declared.error.Error.TheVariants.{Io}
 use Rattle.lfs_model.specs.tree.View.{DiskView}
 use Rattle.lfs_model.proofs.BlockSets.{in_flight_count-AreInFlight}
@@ -16,7 +16,7 @@ use Rattle.lfs_thread.specs.ThreadDevice.{GivesDeviceBack}
 use Rattle.lfs_tree.proofs.SameErrors.{same_error}
 
 -- what is sound stays so where it was only read
-pub sound_read : (a b : KeptThread) (writable failed now : Bool) → OnlyReadsThread a b → IsSoundState (kept_state a writable failed) → IsSoundState (kept_state b writable now)
+pub sound_read : (a b : KeptThread) (writable failed now : Bool) → OnlyReadsThread a b → IsSoundState (uncached_state a writable failed) → IsSoundState (uncached_state b writable now)
 sound_read a b writable failed now r s = record {
   accepted = subst (λ (d : Disk). IsAccepted d b.pairs) (sym r.disk) (subst (λ (ps : List Pair). IsAccepted a.disk ps) (sym r.pairs) s.accepted);
   fits = λ e. subst (λ (d : Disk). IsWritable d b.pairs) (sym r.disk) (subst (λ (ps : List Pair). IsWritable a.disk ps) (sym r.pairs) (s.fits e));
@@ -32,7 +32,7 @@ none_twice = tt
 
 module _ (disk : Disk) (history : List CallEvent) (a b : ThreadView) (root : ℕ) (writable : Bool) (m : IsMountedOn disk history a) (r : HasRead a b)
     (is : root ≡ count_before_root a.kept.pairs) (fits : IsTrue writable ↔ IsWritable a.kept.disk a.kept.pairs) where
-  sound_now : IsSoundState (kept_state b.kept writable false)
+  sound_now : IsSoundState (uncached_state b.kept writable false)
   sound_now = sound_read a.kept b.kept writable false false r.only (record {
     accepted = subst (λ (d : Disk). IsAccepted d a.kept.pairs) (sym m.disk_is) m.accepted;
     fits = λ e. fits.0 e;
@@ -68,7 +68,7 @@ read_back {X = X} g old back order now a b r e m is read same later = record {
 
 -- a fresh image as a tree
 module _ (t : ThreadView) (works : t.failed ≡ false) (f : IsFormatted t.kept) (s : IsEmptyWritable t.kept) where
-  pub fresh_sound : IsSoundState (kept_state t.kept true false)
+  pub fresh_sound : IsSoundState (uncached_state t.kept true false)
   fresh_sound = record {
     accepted = s.accepted;
     fits = λ e. s.writable;

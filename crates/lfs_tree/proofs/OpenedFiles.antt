@@ -2,7 +2,7 @@
 use Rattle.std.proofs.Common.{ℕ, ◌≡◌, ◌≤◌, ◌∙◌, inl, inr, true, false, List, [], ◌∷◌, length, take, drop, Option, Some, Result, Ok, Err, refl, sym, ap, subst, arith}
 use Rattle.std.proofs.Math.Seq.{take-length}
 use Rattle.std.specs.Prelude.{All, Contains, IfOk}
-use Rattle.lfs_tree.proofs.Common.{flat_map, All-from_recursion, same_Some, file_bytes, is_file, Blocks, AreUsed, BlockStates, IsFree, IsInFlight, IsUsedBlock, in_flight_count, Free, Used, inline_limit, CallEvent, IsSkipList, list_bytes, slot_of, Slot, Struct, Inline, Ctz, pairs_blocks, Path, InlineBytesFit, IsAccepted, IsFormedList, all_unmoved_slots, struct_blocks, disk_tree, used_blocks, few_flying, Contains-number_occurrences, Each, count_append, each_from_counted, each_pieces, contents_list_blocks, HasGeometry, KeptThread, IsOpenedForm, AreThreadContents, slot_blocks, writer_contents_bytes, list_blocks_at, CanOpenSlot, AreOpenedContents, opened_form, SizedLists, HaveForm, NoneInFlight, contents_form, ContentsForm, IsFinishedList}
+use Rattle.lfs_tree.proofs.Common.{flat_map, All-from_recursion, same_Some, file_bytes, is_file, Blocks, AreUsed, BlockStates, IsFree, IsInFlight, IsUsedBlock, in_flight_count, Free, Used, inline_limit, CallEvent, IsSkipList, list_bytes, slot_of, Slot, Struct, Inline, Ctz, pairs_blocks, Path, InlineBytesFit, IsAccepted, IsFormedList, all_unmoved_slots, struct_blocks, disk_tree, used_blocks, few_flying, Contains-number_occurrences, Each, count_append, each_from_counted, each_pieces, contents_list_blocks, HasGeometry, KeptThread, IsOpenedForm, AreThreadContents, slot_blocks, writer_contents_bytes, list_blocks_at, CanOpenSlot, AreOpenedContents, opened_form, SizedLists, HaveBytesInForm, NoneInFlight, contents_form, ContentsForm, IsFinishedList}
 use Rattle.lfs_device.specs.declared.error.Error.{Error}
 use Rattle.lfs_device.specs.declared.geometry.Geometry.{Geometry}
 use Rattle.lfs_model.proofs.BlockCounts.{in_flight-freed}
@@ -38,7 +38,7 @@ owns_nothing t (Finished stored) size own e b has = absurd (cc)
 owns_nothing t (InHand hand) size own e b has = absurd (cc)
 
 pub opened_in_memory : (t : KeptThread) (geometry : Geometry) (xs bytes : List ℕ) (s : Struct) (size : ℕ) (r : Result WriterContents Error) → HasGeometry geometry t.disk → NoneInFlight t.map t.disk.blocks → xs ≡ bytes → s ≡ Inline bytes → length bytes ≡ size
-    → IfOk r (λ c. (map : BlockStates) (disk : Blocks) → NoneInFlight map disk → HaveForm map disk geometry c xs (form.InMemory (length xs))) → IfOk r (AreOpenedContents t s (form.InMemory size))
+    → IfOk r (λ c. (map : BlockStates) (disk : Blocks) → NoneInFlight map disk → HaveBytesInForm map disk geometry c xs (form.InMemory (length xs))) → IfOk r (AreOpenedContents t s (form.InMemory size))
 opened_in_memory t geometry xs bytes s size (Err x) divided idle same e l h = tt
 opened_in_memory t geometry xs bytes s size (Ok c) divided idle same e l h =
     let has = h t.map t.disk.blocks idle in

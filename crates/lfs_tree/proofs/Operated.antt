@@ -3,7 +3,7 @@ use Rattle.std.proofs.Common.{ℕ, ◌≡◌, ◌∙◌, false, true, List, [], 
 use Rattle.std.specs.Prelude.{IfErr, OnOk, is_err, is_some}
 use Rattle.lfs_device.specs.declared.error.Error.{Error}
 use Rattle.lfs_device.specs.declared.error.Error.TheVariants.{Io}
-use Rattle.lfs_tree.proofs.Common.{attributes_with, attributes_without, CallEvent, OnlyReadsSince, fault_count, FlagsOfOpen, Operation, path_or_root, is_recover, renames_itself, disk_tree, DirectoryNode, Path, Tree, tree_creating, tree_removing, tree_renaming, same_path, has_failed_after, KeepsRootNumber, KeptThread, ThreadView, ChangesThreadBlocks, IsOperationCall, tree_after_call, AppliesInPlace, HasFurtherCalls, CanChangeRecovered, ChangesTreeOrFails, HasSoundImage, SurvivesEither, HasThreadCause, tree_with_attributes, kept_state, tree_summary, ReadsOrReports}
+use Rattle.lfs_tree.proofs.Common.{attributes_with, attributes_without, CallEvent, OnlyReadsSince, fault_count, FlagsOfOpen, Operation, path_or_root, is_recover, renames_itself, disk_tree, DirectoryNode, Path, Tree, tree_creating, tree_removing, tree_renaming, same_path, has_failed_after, KeepsRootNumber, KeptThread, ThreadView, ChangesThreadBlocks, IsOperationCall, tree_after_call, AppliesInPlace, HasFurtherCalls, CanChangeRecovered, ChangesTreeOrFails, HasSoundImage, SurvivesEither, HasThreadCause, tree_with_attributes, uncached_state, tree_summary, ReadsOrReports}
 use Rattle.lfs_model.specs.session.Operations as ops
 use Rattle.lfs_tree.specs.TreeCalls as call
 use Rattle.lfs_tree.proofs.SameErrors.{same_error}
@@ -60,22 +60,22 @@ module _ (a c : KeptThread) where
   stands tree op k root shows = record { sound = k.applied.sound; fits = k.applied.fits; recovered = k.applied.recovered; root = root; shows = shows; no_fault = k.applied.no_fault }
 
   pub mkdir_stands : (path : Path) (given : List ℕ) → path_or_root given ≡ path → AppliesInPlace a (ops.Mkdir given) c → KeepsRootNumber a c → HasSoundImage a (tree_after_call (call.Mkdir path) (disk_tree a.disk a.pairs)) c
-  mkdir_stands path given e k root = stands _ (ops.Mkdir given) k root (k.applied.shows (tree_summary (kept_state a true false)) [] ∙ ap (λ p. tree_creating p (DirectoryNode [] []) (disk_tree a.disk a.pairs)) e)
+  mkdir_stands path given e k root = stands _ (ops.Mkdir given) k root (k.applied.shows (tree_summary (uncached_state a true false)) [] ∙ ap (λ p. tree_creating p (DirectoryNode [] []) (disk_tree a.disk a.pairs)) e)
 
   pub create_stands : (path : Path) (given : List ℕ) (flags : FlagsOfOpen) → is_some (disk_tree a.disk a.pairs path) ≡ false → path_or_root given ≡ path → AppliesInPlace a (ops.Open given flags) c → KeepsRootNumber a c → HasSoundImage a (tree_after_call (call.Create path) (disk_tree a.disk a.pairs)) c
-  create_stands path given flags nothing e k root = stands _ (ops.Open given flags) k root (k.applied.shows (tree_summary (kept_state a true false)) [] ∙ created_shows (disk_tree a.disk a.pairs) path (path_or_root given) e nothing)
+  create_stands path given flags nothing e k root = stands _ (ops.Open given flags) k root (k.applied.shows (tree_summary (uncached_state a true false)) [] ∙ created_shows (disk_tree a.disk a.pairs) path (path_or_root given) e nothing)
 
   pub remove_stands : (path : Path) (given : List ℕ) → path_or_root given ≡ path → AppliesInPlace a (ops.Remove given) c → KeepsRootNumber a c → HasSoundImage a (tree_after_call (call.Remove path) (disk_tree a.disk a.pairs)) c
-  remove_stands path given e k root = stands _ (ops.Remove given) k root (k.applied.shows (tree_summary (kept_state a true false)) [] ∙ ap (λ p. tree_removing p (disk_tree a.disk a.pairs)) e)
+  remove_stands path given e k root = stands _ (ops.Remove given) k root (k.applied.shows (tree_summary (uncached_state a true false)) [] ∙ ap (λ p. tree_removing p (disk_tree a.disk a.pairs)) e)
 
   pub rename_stands : (from to : Path) (given to_given : List ℕ) → path_or_root given ≡ from → path_or_root to_given ≡ to → AppliesInPlace a (ops.Rename given to_given) c → KeepsRootNumber a c → HasSoundImage a (tree_after_call (call.Rename from to) (disk_tree a.disk a.pairs)) c
-  rename_stands from to given to_given e f k root = stands _ (ops.Rename given to_given) k root (k.applied.shows (tree_summary (kept_state a true false)) [] ∙ ap₂ (λ p q. tree_renaming p q (disk_tree a.disk a.pairs)) e f)
+  rename_stands from to given to_given e f k root = stands _ (ops.Rename given to_given) k root (k.applied.shows (tree_summary (uncached_state a true false)) [] ∙ ap₂ (λ p q. tree_renaming p q (disk_tree a.disk a.pairs)) e f)
 
   pub set_stands : (path : Path) (kind : ℕ) (bytes given : List ℕ) → path_or_root given ≡ path → AppliesInPlace a (ops.SetAttr given kind bytes) c → KeepsRootNumber a c → HasSoundImage a (tree_after_call (call.SetAttr path kind bytes) (disk_tree a.disk a.pairs)) c
-  set_stands path kind bytes given e k root = stands _ (ops.SetAttr given kind bytes) k root (k.applied.shows (tree_summary (kept_state a true false)) [] ∙ ap (λ p. tree_with_attributes p (attributes_with kind bytes) (disk_tree a.disk a.pairs)) e)
+  set_stands path kind bytes given e k root = stands _ (ops.SetAttr given kind bytes) k root (k.applied.shows (tree_summary (uncached_state a true false)) [] ∙ ap (λ p. tree_with_attributes p (attributes_with kind bytes) (disk_tree a.disk a.pairs)) e)
 
   pub clear_stands : (path : Path) (kind : ℕ) (given : List ℕ) → path_or_root given ≡ path → AppliesInPlace a (ops.RemoveAttr given kind) c → KeepsRootNumber a c → HasSoundImage a (tree_after_call (call.RemoveAttr path kind) (disk_tree a.disk a.pairs)) c
-  clear_stands path kind given e k root = stands _ (ops.RemoveAttr given kind) k root (k.applied.shows (tree_summary (kept_state a true false)) [] ∙ ap (λ p. tree_with_attributes p (attributes_without kind) (disk_tree a.disk a.pairs)) e)
+  clear_stands path kind given e k root = stands _ (ops.RemoveAttr given kind) k root (k.applied.shows (tree_summary (uncached_state a true false)) [] ∙ ap (λ p. tree_with_attributes p (attributes_without kind) (disk_tree a.disk a.pairs)) e)
 
 -- ---- what the steps told
 

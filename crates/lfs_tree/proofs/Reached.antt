@@ -2,7 +2,7 @@
 use Rattle.std.proofs.Common.{ℕ, zero, suc, ◌≡◌, ◌+◌, ◌<◌, ◌⊎◌, ◌∙◌, inl, inr, Bool, true, false, cond, nat_eq, eqb-true, List, [], ◌∷◌, ◌++◌, length, map, get_or, set, slice_get, Option, Some, None, option_and_then, refl, sym, ap, subst, arith, append-nil, append_assoc, length-append, length-set, replicate}
 use Rattle.std.specs.Prelude.{Contains}
 use Rattle.std.specs.List.{IsDistinct}
-use Rattle.lfs_tree.proofs.Common.{eqb-false, Contains-append_cases, Contains-append_left, Contains-append_right, same_Some, slice_get_within, Disk, IsPairAt, Name, same_name, slot_of, Slot, Struct, Inline, Ctz, Branch, same_pair, Pair, pairs_blocks, root_address, count_before_root, Path, branch_address, entry_named, root_slot, slot_at_path, IsAccepted, LeadsTo, all_entries, slice_get-set_other, slice_get-set_same, Each, each_right, pair_back, pair_on, AnyByRecursion, pair_entries_from, LeadsToPair, DirectoriesBegin, MarkReached, QueuesMarked, IsStructPair, IsNamedPair, unmarked_count, HasFirstIfDirectory, root_begins}
+use Rattle.lfs_tree.proofs.Common.{eqb-false, Contains-append_cases, Contains-append_left, Contains-append_right, same_Some, slice_get_within, Disk, IsPairAt, Name, same_name, slot_of, Slot, Struct, Inline, Ctz, Branch, same_pair, Pair, pairs_blocks, root_address, count_before_root, Path, branch_address, entry_named, root_slot, slot_at_path, IsAccepted, LeadsTo, all_entries, slice_get-set_other, slice_get-set_same, Each, each_right, pair_back, pair_on, AnyByRecursion, pair_entries_from, LeadsToPair, DirectoriesBegin, MarkReached, MarksAndQueues, IsStructPair, IsNamedPair, unmarked_count, HasFirstIfDirectory, root_begins}
 use Rattle.lfs_model.specs.tree.Tree.{EntryMap, address_from_slot}
 use Rattle.lfs_model.proofs.OneCommit.{slot_there}
 use Rattle.lfs_model.proofs.Searches.{same_number}
@@ -34,7 +34,7 @@ contains_one n = (0, omega arith, refl)
 none_in : (k : ℕ) → Contains [] k → ⊥
 none_in k h = let l : h.0 < 0 = h.1 in absurd (omega arith)
 
-pub mark_new : (m : List Bool) (p : List ℕ) (n : ℕ) → slice_get m n ≡ Some false → QueuesMarked (λ k. k ≡ n) m p (set m n true) (p ++ n ∷ [])
+pub mark_new : (m : List Bool) (p : List ℕ) (n : ℕ) → slice_get m n ≡ Some false → MarksAndQueues (λ k. k ≡ n) m p (set m n true) (p ++ n ∷ [])
 mark_new m p n e = record {
   len = length-set m n true;
   stay = λ k h. stay k h (nat_eq k n) refl;
@@ -60,7 +60,7 @@ mark_new m p n e = record {
     pend k (inl h) = inl h
     pend k (inr h) = inr (subst (λ z. slice_get (set m n true) z ≡ Some true) (sym (one_of n k h)) here)
 
-pub mark_old : (m : List Bool) (p : List ℕ) (n : ℕ) → slice_get m n ≡ Some true → QueuesMarked (λ k. k ≡ n) m p m p
+pub mark_old : (m : List Bool) (p : List ℕ) (n : ℕ) → slice_get m n ≡ Some true → MarksAndQueues (λ k. k ≡ n) m p m p
 mark_old m p n e = record {
   len = refl;
   stay = λ k h. h;
@@ -71,7 +71,7 @@ mark_old m p n e = record {
   less = omega arith;
 }
 
-pub mark_none : (P : ℕ → Type 0) (m : List Bool) (p : List ℕ) → ((k : ℕ) → P k → ⊥) → QueuesMarked P m p m p
+pub mark_none : (P : ℕ → Type 0) (m : List Bool) (p : List ℕ) → ((k : ℕ) → P k → ⊥) → MarksAndQueues P m p m p
 mark_none P m p none = record {
   len = refl;
   stay = λ k h. h;
@@ -82,7 +82,7 @@ mark_none P m p none = record {
   less = omega arith;
 }
 
-pub mark_as : (P Q : ℕ → Type 0) (m n : List Bool) (p q : List ℕ) → ((k : ℕ) → Q k → P k) → ((k : ℕ) → P k → Q k) → QueuesMarked P m p n q → QueuesMarked Q m p n q
+pub mark_as : (P Q : ℕ → Type 0) (m n : List Bool) (p q : List ℕ) → ((k : ℕ) → Q k → P k) → ((k : ℕ) → P k → Q k) → MarksAndQueues P m p n q → MarksAndQueues Q m p n q
 mark_as P Q m n p q back there h = record {
   len = h.len;
   stay = h.stay;
@@ -98,7 +98,7 @@ mark_as P Q m n p q back there h = record {
     go k (inr x) = inr (there k x.0, x.1)
 
 -- one after another
-pub mark_then : (P Q : ℕ → Type 0) (m n o : List Bool) (p q r : List ℕ) → QueuesMarked P m p n q → QueuesMarked Q n q o r → QueuesMarked (λ k. Q k ⊎ P k) m p o r
+pub mark_then : (P Q : ℕ → Type 0) (m n o : List Bool) (p q r : List ℕ) → MarksAndQueues P m p n q → MarksAndQueues Q n q o r → MarksAndQueues (λ k. Q k ⊎ P k) m p o r
 mark_then P Q m n o p q r h g = record {
   len = g.len ∙ h.len;
   stay = λ k x. g.stay k (h.stay k x);
@@ -134,7 +134,7 @@ mark_then P Q m n o p q r h g = record {
 pub begins_same : (ps : List Pair) (a : ℕ × ℕ) (i j : ℕ) → IsDistinct nat_eq (pairs_blocks ps) → IsPairAt ps a i → IsPairAt ps a j → i ≡ j
 begins_same ps a i j distinct b c = same_number ps i j b.pair c.pair distinct b.there c.there (pair_on b.pair.at a c.pair.at b.same (pair_back c.pair.at a c.same))
 
-pub mark_named : (disk : Disk) (ps : List Pair) (to : ℕ × ℕ) (number : ℕ) (m n : List Bool) (p q : List ℕ) → IsAccepted disk ps → IsPairAt ps to number → QueuesMarked (λ k. k ≡ number) m p n q → QueuesMarked (IsStructPair ps (Branch to)) m p n q
+pub mark_named : (disk : Disk) (ps : List Pair) (to : ℕ × ℕ) (number : ℕ) (m n : List Bool) (p q : List ℕ) → IsAccepted disk ps → IsPairAt ps to number → MarksAndQueues (λ k. k ≡ number) m p n q → MarksAndQueues (IsStructPair ps (Branch to)) m p n q
 mark_named disk ps to number m n p q ok b h = mark_as (λ k. k ≡ number) (IsStructPair ps (Branch to)) m n p q
     (λ k x. begins_same ps to k number ok.thread.distinct x b) (λ k x. subst (λ z. IsPairAt ps to z) (sym x) b) h
 
@@ -192,7 +192,7 @@ module _ (disk : Disk) (ps : List Pair) (ok : IsAccepted disk ps) where
 pub record AreTaken (ps : List Pair) (all left : List NamedStruct) (old : List Bool) (waiting : List ℕ) (new : List Bool) (pending : List ℕ) : Type 0 where
   pub done : List NamedStruct
   pub are : all ≡ left ++ done
-  pub so_far : QueuesMarked (IsNamedPair ps done) old waiting new pending
+  pub so_far : MarksAndQueues (IsNamedPair ps done) old waiting new pending
 
 pub none_taken : (ps : List Pair) (all : List NamedStruct) (m : List Bool) (p : List ℕ) → AreTaken ps all all m p m p
 none_taken ps all m p = record { done = []; are = sym (append-nil all); so_far = mark_none (IsNamedPair ps []) m p (λ k h. h) }
@@ -204,15 +204,15 @@ module _ (ps : List Pair) (all left rest : List NamedStruct) (s : NamedStruct) w
   pub take_begins : (m n : List Bool) (p q : List ℕ) → left ≡ rest ++ s ∷ [] → AreTaken ps all left m p n q → DirectoriesBegin ps all → HasFirstIfDirectory ps s.struct
   take_begins m n p q e t h = (each_right (λ (s : NamedStruct). HasFirstIfDirectory ps s.struct) rest (s ∷ t.done) (subst (DirectoriesBegin ps) (split e t.done t.are) h)).0
 
-  pub taken_more : (m n o : List Bool) (p q r : List ℕ) → left ≡ rest ++ s ∷ [] → AreTaken ps all left m p n q → QueuesMarked (IsStructPair ps s.struct) n q o r → AreTaken ps all rest m p o r
+  pub taken_more : (m n o : List Bool) (p q r : List ℕ) → left ≡ rest ++ s ∷ [] → AreTaken ps all left m p n q → MarksAndQueues (IsStructPair ps s.struct) n q o r → AreTaken ps all rest m p o r
   taken_more m n o p q r e t h = record {
     done = s ∷ t.done;
     are = split e t.done t.are;
     so_far = mark_then (IsNamedPair ps t.done) (IsStructPair ps s.struct) m n o p q r t.so_far h;
   }
 
-pub all_taken : (ps : List Pair) (all left : List NamedStruct) (m n : List Bool) (p q : List ℕ) → left ≡ [] → AreTaken ps all left m p n q → QueuesMarked (IsNamedPair ps all) m p n q
-all_taken ps all left m n p q e t = subst (λ z. QueuesMarked (IsNamedPair ps z) m p n q) (sym (t.are ∙ ap (λ z. z ++ t.done) e)) t.so_far
+pub all_taken : (ps : List Pair) (all left : List NamedStruct) (m n : List Bool) (p q : List ℕ) → left ≡ [] → AreTaken ps all left m p n q → MarksAndQueues (IsNamedPair ps all) m p n q
+all_taken ps all left m n p q e t = subst (λ z. MarksAndQueues (IsNamedPair ps z) m p n q) (sym (t.are ∙ ap (λ z. z ++ t.done) e)) t.so_far
 
 -- ---- marking
 
@@ -223,13 +223,13 @@ pub record IsMarking (ps : List Pair) (marks : List Bool) (pending : List ℕ) :
   pub rooted : IsMarkedReached marks (count_before_root ps)
   pub closed : (n : ℕ) → IsMarkedReached marks n → Contains pending n ⊎ ((k : ℕ) → IsNamedPair ps (pair_entries_from ps (Some n)) k → IsMarkedReached marks k)
 
-unset_marks : (len n : ℕ) → IsMarkedReached (replicate len false) n → ⊥
-unset_marks zero n e = absurd (cc)
-unset_marks (suc len) zero e = absurd (let f : false ≡ true = same_Some false true e in cc)
-unset_marks (suc len) (suc n) e = unset_marks len n e
+fresh_marks : (len n : ℕ) → IsMarkedReached (replicate len false) n → ⊥
+fresh_marks zero n e = absurd (cc)
+fresh_marks (suc len) zero e = absurd (let f : false ≡ true = same_Some false true e in cc)
+fresh_marks (suc len) (suc n) e = fresh_marks len n e
 
 pub marking_begun : (disk : Disk) (ps : List Pair) (len root : ℕ) (marks : List Bool) (pending : List ℕ) → IsAccepted disk ps → len ≡ length ps → length (replicate len false) ≡ len → root ≡ count_before_root ps
-    → QueuesMarked (λ k. k ≡ root) (replicate len false) [] marks pending → IsMarking ps marks pending
+    → MarksAndQueues (λ k. k ≡ root) (replicate len false) [] marks pending → IsMarking ps marks pending
 marking_begun disk ps len root marks pending ok e sized is h = record {
   len = h.len ∙ sized ∙ e;
   sound = λ n x. sound n (h.from n x);
@@ -239,7 +239,7 @@ marking_begun disk ps len root marks pending ok e sized is h = record {
 }
   where
     sound : (n : ℕ) → IsMarkedReached (replicate len false) n ⊎ ((n ≡ root) × Contains pending n) → (path : Path) × LeadsToPair ps path n
-    sound n (inl x) = absurd (unset_marks len n x)
+    sound n (inl x) = absurd (fresh_marks len n x)
     sound n (inr x) = ([], record { at = root_address ps; leads = refl; begins = subst (λ z. IsPairAt ps (root_address ps) z) (sym (x.0 ∙ is)) (root_begins disk ps ok) })
 
     pend : (n : ℕ) → Contains [] n ⊎ IsMarkedReached marks n → IsMarkedReached marks n
@@ -247,7 +247,7 @@ marking_begun disk ps len root marks pending ok e sized is h = record {
     pend n (inr x) = x
 
     closed : (n : ℕ) → IsMarkedReached (replicate len false) n ⊎ ((n ≡ root) × Contains pending n) → Contains pending n ⊎ ((k : ℕ) → IsNamedPair ps (pair_entries_from ps (Some n)) k → IsMarkedReached marks k)
-    closed n (inl x) = absurd (unset_marks len n x)
+    closed n (inl x) = absurd (fresh_marks len n x)
     closed n (inr x) = inl x.1
 
 -- the next directory to be visited
@@ -264,7 +264,7 @@ module _ (disk : Disk) (ps : List Pair) (ok : IsAccepted disk ps) (marks : List 
   pub first_begin : DirectoriesBegin ps (pair_entries_from ps (Some first))
   first_begin = all_begin disk ps ok first first_on.0 first_on.1
 
-  pub marking_on : (new : List Bool) (more : List ℕ) → QueuesMarked (IsNamedPair ps (pair_entries_from ps (Some first))) marks rest new more → IsMarking ps new more
+  pub marking_on : (new : List Bool) (more : List ℕ) → MarksAndQueues (IsNamedPair ps (pair_entries_from ps (Some first))) marks rest new more → IsMarking ps new more
   marking_on new more h = record {
     len = h.len ∙ m.len;
     sound = λ n x. sound n (h.from n x);

@@ -1,7 +1,7 @@
 -- A recovery over a thread, step by step.
 use Rattle.std.proofs.Common.{ℕ, zero, suc, ◌≡◌, ◌≢◌, ◌+◌, ◌≤◌, ◌<◌, ◌⊎◌, ◌∙◌, ◌==◌, inl, inr, Bool, true, false, not, eqb-true, List, [], ◌∷◌, ◌++◌, length, take, get_or, Option, None, Result, Err, refl, sym, ap, ap₂, subst, subst₂, arith, append_assoc, flat_map, length-append}
 use Rattle.std.specs.Prelude.{All, IfErr}
-use Rattle.lfs_tree.proofs.Common.{All-from_recursion, same_Some, ChangesOnlyMap, ThreadReportsFaults, AreUsed, IsInFlight, IsUsedBlock, InFlight, Used, Disk, AllCalls, AllCallsSince, CallEvent, OnlyReadsSince, fault_count, struct_at, continued_address, IsLayoutRecovered, HasEither, SurvivesLossSince, with_blocks, OpenFilesByNumber, Session, Gstate, zero_gstate, is_zero, Pair, pairs_blocks, pairs_from_root, pairs_gstate, count_before_root, Tree, IsAccepted, IsReachedBySome, all_unmoved_slots, struct_blocks, disk_tree, used_blocks, IsWritable, survives_then, arranged_after, arranged_settled, recovered_stays, Contains-number_occurrences, CompletesOperation, no_move_from, recovered_from, number_occurrences, count_append, chain_of_thread, HasNoMove, HoldsAtLosses-read_count, HoldsAtLosses-weaker, LeftByLoss-read, is_unprogrammed_byte-read_count, SameInFlight, IsReadyImage, AreUnreachedNumbers, AreUnreachedFrom, CanDropPairs, HasDroppedRecovered, HasEndedMove, KeptThread, ThreadView, ThreadReportsErrors, OnlyReadsThread, ChangesThreadBlocks, AppliesOperation, HasFurtherCalls, SurvivesEither, HasThreadCause, SoundUnlessFailed, IsSoundWithRoot, kept_state, thread_state, HasDroppedUnreached, IsApplied, IsSoundState, KeepsInFlight, TreeState, kept_thread, shown_tree}
+use Rattle.lfs_tree.proofs.Common.{All-from_recursion, same_Some, ChangesOnlyMap, ThreadReportsFaults, AreUsed, IsInFlight, IsUsedBlock, InFlight, Used, Disk, AllCalls, AllCallsSince, CallEvent, OnlyReadsSince, fault_count, struct_at, continued_address, IsLayoutRecovered, HasEitherTree, SurvivesLossSince, with_blocks, OpenFilesByNumber, Session, Gstate, zero_gstate, is_zero, Pair, pairs_blocks, pairs_from_root, pairs_gstate, count_before_root, Tree, IsAccepted, IsReachedBySome, all_unmoved_slots, struct_blocks, disk_tree, used_blocks, IsWritable, survives_then, arranged_after, arranged_settled, recovered_stays, Contains-number_occurrences, CompletesOperation, no_move_from, recovered_from, number_occurrences, count_append, chain_of_thread, HasNoMove, HoldsAtLosses-read_count, HoldsAtLosses-weaker, LeftByLoss-read, is_unprogrammed_byte-read_count, SameInFlight, IsReadyImage, AreUnreachedNumbers, AreUnreachedFrom, CanDropPairs, HasDroppedRecovered, HasEndedMove, KeptThread, ThreadView, ThreadReportsErrors, OnlyReadsThread, ChangesThreadBlocks, AppliesOperation, HasFurtherCalls, SurvivesEither, HasThreadCause, SoundUnlessFailed, IsSoundWithRoot, uncached_state, thread_state, HasDroppedUnreached, IsApplied, IsSoundState, KeepsInFlight, TreeState, kept_thread, shown_tree}
 use Rattle.lfs_device.specs.declared.error.Error.{Error}
 use Rattle.lfs_device.specs.declared.error.Error.TheVariants.{Io, NoMemory}
 use Rattle.lfs_model.specs.session.Operations as ops
@@ -52,7 +52,7 @@ apart_pairs t used b flies = All-from_recursion (λ c. c ≢ b) (pairs_blocks t.
         let wrong : InFlight ≡ Used = same_Some InFlight Used (sym flies ∙ here) in
         absurd (cc)
 
-leaves_same : (a c : KeptThread) → AreUsed a.map (used_blocks a.disk a.pairs) → SameInFlight a.map c.map → ChangesThreadBlocks (pairs_blocks a.pairs) a c → KeepsInFlight (kept_state a true false) (kept_state c true false)
+leaves_same : (a c : KeptThread) → AreUsed a.map (used_blocks a.disk a.pairs) → SameInFlight a.map c.map → ChangesThreadBlocks (pairs_blocks a.pairs) a c → KeepsInFlight (uncached_state a true false) (uncached_state c true false)
 leaves_same a c used same w = record {
   stay = λ b flies. (same b).1 flies;
   none_comes = λ b flies. (same b).0 flies;
@@ -68,7 +68,7 @@ leaves_then a b c f g = record {
   unprogrammed_still = λ x k flies was. g.unprogrammed_still x k (f.stay x flies) (f.unprogrammed_still x k flies was);
 }
 
-leaves_reading : (t : KeptThread) (h : List CallEvent) → OnlyReadsSince t.disk.blocks t.history h → KeepsInFlight (kept_state t true false) (kept_state (with_history t h) true false)
+leaves_reading : (t : KeptThread) (h : List CallEvent) → OnlyReadsSince t.disk.blocks t.history h → KeepsInFlight (uncached_state t true false) (uncached_state (with_history t h) true false)
 leaves_reading t h reads = record {
   stay = λ b flies. flies;
   none_comes = λ b flies. flies;
@@ -116,7 +116,7 @@ dropped_behind t h d reads k = record {
   completed = k.completed;
   fewer = k.fewer;
   keeps = λ path file. let keeps = k.keeps path file in record { file = keeps.file; struct = keeps.struct; list = keeps.list; bytes = keeps.bytes };
-  flight = leaves_then (kept_state t true false) (kept_state (with_history t h) true false) (kept_state d true false) (leaves_reading t h reads) k.flight;
+  flight = leaves_then (uncached_state t true false) (uncached_state (with_history t h) true false) (uncached_state d true false) (leaves_reading t h reads) k.flight;
 }
 
 pub dropped : (t m d : KeptThread) → OnlyReadsThread t m → HasDroppedUnreached m d → HasDroppedUnreached t d
@@ -148,9 +148,9 @@ pub end_survives : (a b : KeptThread) (h : List CallEvent) → ChangesThreadBloc
     → SurvivesLossSince a.disk a.history h (disk_tree a.disk a.pairs) (disk_tree a.disk a.pairs)
 end_survives a b h w shows calls called first second =
     survives_then a.disk a.history b.history h (disk_tree a.disk a.pairs) (disk_tree a.disk a.pairs) w.at_worst (some_since calls b.history h called) first
-    (λ clean. HoldsAtLosses-weaker (λ left x. subst (λ z. HasEither z (disk_tree a.disk a.pairs) (disk_tree a.disk a.pairs))
+    (λ clean. HoldsAtLosses-weaker (λ left x. subst (λ z. HasEitherTree z (disk_tree a.disk a.pairs) (disk_tree a.disk a.pairs))
     (λ j. record { block_size = w.shape.block_size j; page = w.shape.page j; order = w.shape.order j; profile = w.shape.profile j; blocks = left })
-    (subst (λ z. HasEither (with_blocks left b.disk) z z) shows x)) (second clean))
+    (subst (λ z. HasEitherTree (with_blocks left b.disk) z z) shows x)) (second clean))
 
 -- ---- calls
 
@@ -208,7 +208,7 @@ recovered_whole t root b c rooted left e w d called quiet =
       arranged = λ was files. nothing_moves a.disk a.pairs (record { tree = disk_tree a.disk a.pairs; files = files }) ops.Recover all.calls c.disk c.pairs all.geometry d.ready.accepted (stays files);
       itself = λ z. absurd (cc);
       nothing_left = λ z done. absurd (left done.gstate);
-      flight = leaves_then (kept_state a true false) (kept_state b true false) (kept_state c true false) (leaves_same a b rooted.sound.used e.flying w) d.flight;
+      flight = leaves_then (uncached_state a true false) (uncached_state b true false) (uncached_state c true false) (leaves_same a b rooted.sound.used e.flying w) d.flight;
       keeps = λ path file away.
           let first = keeps_writing a b (pairs_blocks a.pairs) rooted.sound.accepted rooted.sound.used (all_pairs a) w path file (struct_stays a.disk a.pairs b.pairs path file (e.taken.follows.stays path (same_leaves path))) in
           let k = keeps_then a b c path first (d.keeps path first.file) in

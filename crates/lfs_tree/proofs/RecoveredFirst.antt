@@ -1,6 +1,6 @@
 -- An operation behind a recovery is one on the image from before it.
 use Rattle.std.proofs.Common.{ℕ, suc, ◌≡◌, ◌+◌, ◌≤◌, ◌⊎◌, ◌∙◌, ◌&&◌, inl, inr, true, false, not, cond, List, [], ◌∷◌, length, Option, Some, None, refl, sym, ap, ap₂, subst, arith}
-use Rattle.lfs_tree.proofs.Common.{sum_by-cons, same_Some, node_attributes_of, is_file, last_name, directory_names, same_path, Blocks, attributes_with, Name, BlockStates, BlockState, IsInFlight, in_flight_count, state_in_flight, Free, InFlight, Used, SameGeometry, charge_limit, name_max_of, IsDirectoryGone, IsLayoutRecovered, Operation, HasEither, with_blocks, is_recover, renames_itself, Session, has_long_name, Attributes, entry_charge, zero_gstate, Pair, pairs_gstate, count_before_root, Path, Tree, disk_tree, used_blocks, survives_then, Contains-number_occurrences, number_occurrences-Contains, used_count-AreUsed, number_occurrences, HoldsAtLosses-weaker, HasEndedMove, KeepsRootNumber, KeptThread, ThreadView, CanAddEntry, CanRemoveEntry, CanRemoveAttr, CanRenamePath, CanSetAttr, HasNeededBlocks, AppliesInPlace, AppliesOperation, HasFurtherCalls, SparesOutsideOperation, HasSoundImage, SurvivesEither, HasThreadCause, IsSoundWithRoot, OpenFilesByNumber, kept_state, KeepsListBytes, HasDroppedUnreached, HasRecovered, IsSoundState, tree_summary, kept_thread}
+use Rattle.lfs_tree.proofs.Common.{sum_by-cons, same_Some, node_attributes_of, is_file, last_name, directory_names, same_path, Blocks, attributes_with, Name, BlockStates, BlockState, IsInFlight, in_flight_count, state_in_flight, Free, InFlight, Used, SameGeometry, charge_limit, name_max_of, IsUnreachedOrRemoved, IsLayoutRecovered, Operation, HasEitherTree, with_blocks, is_recover, renames_itself, Session, has_long_name, Attributes, entry_charge, zero_gstate, Pair, pairs_gstate, count_before_root, Path, Tree, disk_tree, used_blocks, survives_then, Contains-number_occurrences, number_occurrences-Contains, used_count-AreUsed, number_occurrences, HoldsAtLosses-weaker, HasEndedMove, KeepsRootNumber, KeptThread, ThreadView, CanAddEntry, CanRemoveEntry, CanRemoveAttr, CanRenamePath, CanSetAttr, HasNeededBlocks, AppliesInPlace, AppliesOperation, HasFurtherCalls, SparesOutsideOperation, HasSoundImage, SurvivesEither, HasThreadCause, IsSoundWithRoot, OpenFilesByNumber, uncached_state, KeepsListBytes, HasDroppedUnreached, HasRecovered, IsSoundState, tree_summary, kept_thread}
 use Rattle.std.specs.Prelude.{is_none, is_some, nat_lt}
 use Rattle.lfs_device.specs.declared.error.Error.{Error}
 use Rattle.lfs_model.specs.session.TreeEdits.{is_directory}
@@ -20,7 +20,7 @@ use Rattle.lfs_tree.proofs.Recovered.{called_then, leaves_then, recovered_alread
 -- ---- the recovery
 
 -- no more blocks are used
-fewer_used : (c : KeptThread) (used : List ℕ) → IsSoundState (kept_state c true false) → ((b : ℕ) → number_occurrences b (used_blocks c.disk c.pairs) ≤ number_occurrences b used) → length (used_blocks c.disk c.pairs) ≤ length used
+fewer_used : (c : KeptThread) (used : List ℕ) → IsSoundState (uncached_state c true false) → ((b : ℕ) → number_occurrences b (used_blocks c.disk c.pairs) ≤ number_occurrences b used) → length (used_blocks c.disk c.pairs) ≤ length used
 fewer_used c used sound fewer =
     let e = used_count-AreUsed c.map (used_blocks c.disk c.pairs) sound.accepted.owned_once sound.used in
     let f = few_used used c.map (λ b is. Contains-number_occurrences used b (let k = number_occurrences-Contains (used_blocks c.disk c.pairs) b ((sound.used b).0 is) in let l = fewer b in omega arith)) in
@@ -38,12 +38,12 @@ settled_whole a b c left e d carries =
     }
 
 pub settled_stands : (a c : KeptThread) → HasRecovered a c → KeepsRootNumber a c → HasSoundImage a (disk_tree a.disk a.pairs) c
-settled_stands a c f root = record { sound = f.carries.sound; fits = f.carries.fits; recovered = f.carries.recovered; root = root; shows = f.carries.shows (tree_summary (kept_state a true false)) []; no_fault = f.carries.no_fault }
+settled_stands a c f root = record { sound = f.carries.sound; fits = f.carries.fits; recovered = f.carries.recovered; root = root; shows = f.carries.shows (tree_summary (uncached_state a true false)) []; no_fault = f.carries.no_fault }
 
 -- nothing was left
 pub settled_already : (t : ThreadView) (root : ℕ) → IsSoundWithRoot t root true → pairs_gstate t.kept.pairs ≡ zero_gstate → HasRecovered t.kept t.kept
 settled_already t root r e = record {
-  carries = recovered_already (kept_state t.kept true false) refl refl r.sound e;
+  carries = recovered_already (uncached_state t.kept true false) refl refl r.sound e;
   leads_on = λ s disk qs h. h;
   room = omega arith;
   same = λ none. refl;
@@ -69,7 +69,7 @@ arranged_through a b c s op g leads k = record {
     fresh = k.operation.fresh;
     back = k.operation.back;
     edits = k.operation.edits;
-    stand = stand_kin a.disk b.disk (IsDirectoryGone k.between op) (IsDirectoryGone k.between op) (record { block_size = g.block_size; page = g.page; there = λ x y. y; back = λ x y. y })
+    stand = stand_kin a.disk b.disk (IsUnreachedOrRemoved k.between op) (IsUnreachedOrRemoved k.between op) (record { block_size = g.block_size; page = g.page; there = λ x y. y; back = λ x y. y })
         (count_before_root k.between) None k.operation.drafts k.operation.drafts k.operation.parts (kin_itself k.operation.drafts) k.operation.stand;
     joined = k.operation.joined;
     is = k.operation.is;
@@ -118,7 +118,7 @@ called_by a b op k = record { geometry = k.geometry; calls = k.calls; called = k
 
 module _ (a b : KeptThread) (f : HasRecovered a b) where
   pub tree_is : disk_tree b.disk b.pairs ≡ disk_tree a.disk a.pairs
-  tree_is = f.carries.shows (tree_summary (kept_state a true false)) []
+  tree_is = f.carries.shows (tree_summary (uncached_state a true false)) []
 
   pub called_after : (c : KeptThread) → HasFurtherCalls b c → HasFurtherCalls a c
   called_after c k = called_then a b c (called_by a b ops.Recover f.carries) k
@@ -151,8 +151,8 @@ module _ (a b : KeptThread) (f : HasRecovered a b) where
         arranged = λ called files. nothing_moves a.disk a.pairs (record { tree = disk_tree a.disk a.pairs; files = files }) op all.calls c.disk c.pairs all.geometry k.sound.accepted (stays files);
         itself = λ e. absurd (cc (apart, e));
         nothing_left = λ e. absurd (cc (other, e));
-        flight = leaves_then (kept_state a true false) (kept_state b true false) (kept_state c true false) f.carries.flight k.flight;
-        keeps = λ path file away. let first = f.carries.keeps path file refl in keeps_then (kept_thread (kept_state a true false)) (kept_thread (kept_state b true false)) (kept_thread (kept_state c true false)) path first (k.keeps path first.file away);
+        flight = leaves_then (uncached_state a true false) (uncached_state b true false) (uncached_state c true false) f.carries.flight k.flight;
+        keeps = λ path file away. let first = f.carries.keeps path file refl in keeps_then (kept_thread (uncached_state a true false)) (kept_thread (uncached_state b true false)) (kept_thread (uncached_state c true false)) path first (k.keeps path first.file away);
         lists = λ none. subst (λ (z : KeptThread). pairs_gstate z.pairs ≡ zero_gstate → KeepsListBytes z.disk z.pairs c.disk) (f.same none) k.lists none;
         taken = (let t = k.taken in let r = f.room in omega arith);
       }
@@ -169,26 +169,26 @@ module _ (a b : KeptThread) (f : HasRecovered a b) where
   survives_after c change called first second =
       survives_then a.disk a.history b.history c.history (disk_tree a.disk a.pairs) (change (disk_tree a.disk a.pairs)) (some_since f.carries.calls a.history b.history f.carries.called) (some_since called.calls b.history c.history called.called)
       (survives_before a b (change (disk_tree a.disk a.pairs)) first)
-      (λ clean. HoldsAtLosses-weaker (λ left x. subst (λ d. HasEither d (disk_tree a.disk a.pairs) (change (disk_tree a.disk a.pairs))) (left_on left) (subst (λ t. HasEither (with_blocks left b.disk) t (change t)) tree_is x)) (second clean))
+      (λ clean. HoldsAtLosses-weaker (λ left x. subst (λ d. HasEitherTree d (disk_tree a.disk a.pairs) (change (disk_tree a.disk a.pairs))) (left_on left) (subst (λ t. HasEitherTree (with_blocks left b.disk) t (change t)) tree_is x)) (second clean))
 
   -- ---- what its checks have shown
 
-  charge_is : (name : Name) (attributes : Attributes) → exceeds_charge (tree_summary (kept_state b true false)) name attributes ≡ exceeds_charge (tree_summary (kept_state a true false)) name attributes
+  charge_is : (name : Name) (attributes : Attributes) → exceeds_charge (tree_summary (uncached_state b true false)) name attributes ≡ exceeds_charge (tree_summary (uncached_state a true false)) name attributes
   charge_is name attributes =
       ap₂ (λ (size page : ℕ). nat_lt (charge_limit size page) (entry_charge b.disk.profile size name attributes)) f.carries.geometry.block_size f.carries.geometry.page
       ∙ ap (λ (profile : Profile). nat_lt (charge_limit a.disk.block_size a.disk.page) (entry_charge profile a.disk.block_size name attributes)) f.carries.geometry.profile
 
-  long_is : (path : Path) → has_long_name (tree_summary (kept_state b true false)) path ≡ has_long_name (tree_summary (kept_state a true false)) path
+  long_is : (path : Path) → has_long_name (tree_summary (uncached_state b true false)) path ≡ has_long_name (tree_summary (uncached_state a true false)) path
   long_is path = ap (λ (profile : Profile). nat_lt (name_max_of profile) (length (last_name path))) f.carries.geometry.profile
 
-  room_is : (need : ℕ) → HasNeededBlocks (kept_state a true false) need → HasNeededBlocks (kept_state b true false) need
+  room_is : (need : ℕ) → HasNeededBlocks (uncached_state a true false) need → HasNeededBlocks (uncached_state b true false) need
   room_is need room =
       let few = fewer_flying b.map a.map f.carries.flight.none_comes in
       let used = f.room in
       let number_occurrences = f.carries.geometry.count in
       omega (arith, room)
 
-  pub add_after : (path : Path) (need : ℕ) → CanAddEntry (kept_state a true false) path need → CanAddEntry (kept_state b true false) path need
+  pub add_after : (path : Path) (need : ℕ) → CanAddEntry (uncached_state a true false) path need → CanAddEntry (uncached_state b true false) path need
   add_after path need can = record {
     works = refl;
     writable = refl;
@@ -199,7 +199,7 @@ module _ (a b : KeptThread) (f : HasRecovered a b) where
     room = room_is need can.room;
   }
 
-  pub remove_after : (path : Path) → CanRemoveEntry (kept_state a true false) path → CanRemoveEntry (kept_state b true false) path
+  pub remove_after : (path : Path) → CanRemoveEntry (uncached_state a true false) path → CanRemoveEntry (uncached_state b true false) path
   remove_after path can = record {
     works = refl;
     writable = refl;
@@ -209,7 +209,7 @@ module _ (a b : KeptThread) (f : HasRecovered a b) where
     empty = subst (λ (t : Tree). nat_lt 0 (length (directory_names (t path))) ≡ false) (sym tree_is) can.empty;
   }
 
-  pub set_attr_after : (path : Path) (kind : ℕ) (bytes : List ℕ) → CanSetAttr (kept_state a true false) path kind bytes → CanSetAttr (kept_state b true false) path kind bytes
+  pub set_attr_after : (path : Path) (kind : ℕ) (bytes : List ℕ) → CanSetAttr (uncached_state a true false) path kind bytes → CanSetAttr (uncached_state b true false) path kind bytes
   set_attr_after path kind bytes can = record {
     works = refl;
     writable = refl;
@@ -217,12 +217,12 @@ module _ (a b : KeptThread) (f : HasRecovered a b) where
     parents = subst (λ t. parents_refusal t [] path ≡ None) (sym tree_is) can.parents;
     something = subst (λ (t : Tree). is_none (t path) ≡ false) (sym tree_is) can.something;
     len = can.len;
-    fits = subst (λ (t : Tree). exceeds_charge (tree_summary (kept_state b true false)) (last_name path) (attributes_with kind bytes (node_attributes_of (t path))) ≡ false) (sym tree_is)
+    fits = subst (λ (t : Tree). exceeds_charge (tree_summary (uncached_state b true false)) (last_name path) (attributes_with kind bytes (node_attributes_of (t path))) ≡ false) (sym tree_is)
         (charge_is (last_name path) (attributes_with kind bytes (node_attributes_of (disk_tree a.disk a.pairs path))) ∙ can.fits);
     room = room_is 2 can.room;
   }
 
-  pub remove_attr_after : (path : Path) (kind : ℕ) → CanRemoveAttr (kept_state a true false) path kind → CanRemoveAttr (kept_state b true false) path kind
+  pub remove_attr_after : (path : Path) (kind : ℕ) → CanRemoveAttr (uncached_state a true false) path kind → CanRemoveAttr (uncached_state b true false) path kind
   remove_attr_after path kind can = record {
     works = refl;
     writable = refl;
@@ -232,7 +232,7 @@ module _ (a b : KeptThread) (f : HasRecovered a b) where
     there = subst (λ (t : Tree). is_none (attribute_bytes kind (node_attributes_of (t path))) ≡ false) (sym tree_is) can.there;
   }
 
-  pub rename_after : (from to : Path) → CanRenamePath (kept_state a true false) from to → CanRenamePath (kept_state b true false) from to
+  pub rename_after : (from to : Path) → CanRenamePath (uncached_state a true false) from to → CanRenamePath (uncached_state b true false) from to
   rename_after from to can = record {
     works = refl;
     writable = refl;
@@ -246,7 +246,7 @@ module _ (a b : KeptThread) (f : HasRecovered a b) where
     directory = subst (λ (t : Tree). (not (same_path from to) && is_directory (t from) && is_file (t to)) ≡ false) (sym tree_is) can.directory;
     file = subst (λ (t : Tree). (not (same_path from to) && is_file (t from) && is_directory (t to)) ≡ false) (sym tree_is) can.file;
     empty = subst (λ (t : Tree). (not (same_path from to) && nat_lt 0 (length (directory_names (t to)))) ≡ false) (sym tree_is) can.empty;
-    fits = subst (λ (t : Tree). (not (same_path from to) && exceeds_charge (tree_summary (kept_state b true false)) (last_name to) (node_attributes_of (t from))) ≡ false) (sym tree_is)
+    fits = subst (λ (t : Tree). (not (same_path from to) && exceeds_charge (tree_summary (uncached_state b true false)) (last_name to) (node_attributes_of (t from))) ≡ false) (sym tree_is)
         (ap (λ x. not (same_path from to) && x) (charge_is (last_name to) (node_attributes_of (disk_tree a.disk a.pairs from))) ∙ can.fits);
     room = room_is 2 can.room;
   }

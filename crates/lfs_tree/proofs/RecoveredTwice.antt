@@ -1,7 +1,7 @@
 -- A recovery where nothing is left to recover changes no slots, so where they stand behind it they stand behind the one before.
 use Rattle.std.proofs.Common.{ℕ, ◌≡◌, ◌⊎◌, ◌∙◌, inl, inr, true, false, List, [], ◌∷◌, ◌++◌, length, take, Option, None, refl, sym, ap, subst, append-nil}
 use Rattle.std.specs.Prelude.{is_none, is_some}
-use Rattle.lfs_tree.proofs.Common.{recursion_from_All, Disk, ArePairsAfter, FitsPair, IsDirectoryGone, IsLayout, directory_address, continued_address, Session, zero_gstate, Pair, pairs_from_root, pairs_gstate, count_before_root, HasNoEmpties, IsWritable, IsAccepted, recovered_from, Each, each_left, each_right, chain_of_thread, onward_some}
+use Rattle.lfs_tree.proofs.Common.{recursion_from_All, Disk, ArePairsAfter, FitsPair, IsUnreachedOrRemoved, IsLayout, directory_address, continued_address, Session, zero_gstate, Pair, pairs_from_root, pairs_gstate, count_before_root, HasNoEmpties, IsWritable, IsAccepted, recovered_from, Each, each_left, each_right, chain_of_thread, onward_some}
 use Rattle.lfs_model.specs.session.Operations as ops
 use Rattle.lfs_model.proofs.Alike.{SameSlots, stood_alike}
 use Rattle.lfs_model.proofs.Committed.{none_goes, nothing_moved}
@@ -58,14 +58,14 @@ stays_alike disk ps s new qs ok fits e h =
     dirs = pairs_from_root ps
 
     goes : ℕ × ℕ → Type 0
-    goes = IsDirectoryGone ps ops.Recover
+    goes = IsUnreachedOrRemoved ps ops.Recover
 
 -- so where slots stand behind a further recovery they stand behind the first one
 pub recovers_through : (disk : Disk) (ps : List Pair) (s : Session) (mid : Disk) (qs : List Pair) (r : Session) (new : Disk) (rs : List Pair) → IsLayout disk ps s ops.Recover mid qs → IsAccepted mid qs → IsWritable mid qs
     → pairs_gstate qs ≡ zero_gstate → IsLayout mid qs r ops.Recover new rs → IsLayout disk ps r ops.Recover new rs
 recovers_through disk ps s mid qs r new rs h ok fits e k =
     let alike = subst (λ z. SameSlots z rs) (sym (joined_is disk ps s mid qs h)) (stays_alike mid qs r new rs ok fits e k) in
-    let stood = stood_alike disk (IsDirectoryGone ps ops.Recover) (count_before_root ps) None h.drafts h.parts rs h.stand alike in
+    let stood = stood_alike disk (IsUnreachedOrRemoved ps ops.Recover) (count_before_root ps) None h.drafts h.parts rs h.stand alike in
     record {
       drafts = h.drafts;
       parts = stood.parts;

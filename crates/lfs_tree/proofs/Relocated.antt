@@ -16,9 +16,9 @@ use Rattle.lfs_model.specs.session.Recovery.{IsRecovered}
 use Rattle.lfs_operations.specs.Changing.{AreTwoFree}
 use Rattle.lfs_operations.specs.Wear.{HasPlanBlocks, IsPlanFor}
 use Rattle.lfs_operations.specs.declared.wear.MovePlan.{MovePlan}
-use Rattle.lfs_tree.proofs.Common.{All-contains, All-from_recursion, AllByRecursion, AnyByRecursion, AreUsed, BlockStates, CallEvent, Contains-number_occurrences, Disk, Free, HasEither, HoldsAtLosses-weaker, IsAccepted, IsApplied, IsFailedTree, HasErrorCause, Blocks, once_from_distinct, recursion_from_All, IsFree, IsLayoutRecovered, IsSoundState, IsUsedBlock, KeepsFileAt, KeepsInFlight, KeptThread, LeavesOthers, OpenFilesByNumber, Operation, Pair, Path, SameFileBlocks, SameGeometry, Session, Slot, Tree, TreeState, Used, all_unmoved_slots, count_append, count_here, disk_block, fault_count, is_file, is_recover, kept_thread, number_occurrences, pairs_blocks, recovered_from, renames_itself, same_Some, same_pair, shown_tree, slice_get_within, slot_blocks, slot_of, struct_blocks, tree_summary, used_blocks, with_blocks, without_cache}
+use Rattle.lfs_tree.proofs.Common.{All-contains, All-from_recursion, AllByRecursion, AnyByRecursion, AreUsed, BlockStates, CallEvent, Contains-number_occurrences, Disk, Free, HasEitherTree, HoldsAtLosses-weaker, IsAccepted, IsApplied, IsFailedTree, HasErrorCause, Blocks, once_from_distinct, recursion_from_All, IsFree, IsLayoutRecovered, IsSoundState, IsUsedBlock, KeepsFileAt, KeepsInFlight, KeptThread, KeepsOthers, OpenFilesByNumber, Operation, Pair, Path, SameFileBlocks, SameGeometry, Session, Slot, Tree, TreeState, Used, all_unmoved_slots, count_append, count_here, disk_block, fault_count, is_file, is_recover, kept_thread, number_occurrences, pairs_blocks, recovered_from, renames_itself, same_Some, same_pair, shown_tree, slice_get_within, slot_blocks, slot_of, struct_blocks, tree_summary, used_blocks, with_blocks, without_cache}
 use Rattle.lfs_tree.specs.KeptFiles.{operation_room}
-use Rattle.lfs_tree.specs.TreeState.{LeavesOthersAlone, SurvivesStops}
+use Rattle.lfs_tree.specs.TreeState.{KeepsOthersIfRecovered, SurvivesStops}
 use Rattle.lfs_tree.specs.Wear.{CanSpreadWear, HasMovedPair, HasSpreadWear}
 use Rattle.lfs_tree.proofs.CarryFreed.{none_there}
 use Rattle.lfs_tree.proofs.KeptFiles.{keeps_by, keeps_then}
@@ -104,14 +104,14 @@ module _ (old mid new : TreeState) (plan : Option MovePlan) (room : ℕ) (planne
       go (inr e) = once (subst (λ x. 1 ≤ number_occurrences x (pairs_blocks old.pairs)) (sym e) there.1)
 
   -- what the operation left alone, the move does, too
-  pub left_moved : (s : Session) (op : Operation) → LeavesOthers old.disk old.pairs s op mid.disk mid.pairs → LeavesOthers old.disk old.pairs s op new.disk new.pairs
+  pub left_moved : (s : Session) (op : Operation) → KeepsOthers old.disk old.pairs s op mid.disk mid.pairs → KeepsOthers old.disk old.pairs s op new.disk new.pairs
   left_moved s op k = go moved.spread
     where
-      go : (kept_thread new ≡ kept_thread mid) ⊎ HasMovedPair mid plan new → LeavesOthers old.disk old.pairs s op new.disk new.pairs
-      go (inl same) = subst (λ (t : KeptThread). LeavesOthers old.disk old.pairs s op t.disk t.pairs) (sym same) k
+      go : (kept_thread new ≡ kept_thread mid) ⊎ HasMovedPair mid plan new → KeepsOthers old.disk old.pairs s op new.disk new.pairs
+      go (inl same) = subst (λ (t : KeptThread). KeepsOthers old.disk old.pairs s op t.disk t.pairs) (sym same) k
       go (inr m) =
           let w = m.writes in
-          subst (LeavesOthers old.disk old.pairs s op new.disk) (sym w.is)
+          subst (KeepsOthers old.disk old.pairs s op new.disk) (sym w.is)
           (moved_left_alone old.disk mid.disk new.disk old.pairs mid.pairs w.front w.written w.fresh w.back s op (record {
             old = sound.accepted;
             now = subst (IsAccepted new.disk) w.is moved.files.ready.accepted;
@@ -125,7 +125,7 @@ module _ (old mid new : TreeState) (plan : Option MovePlan) (room : ℕ) (planne
             no_file = no_file m;
           }) k)
 
-  pub alone_moved : (op : Operation) → LeavesOthersAlone old op mid → LeavesOthersAlone old op new
+  pub alone_moved : (op : Operation) → KeepsOthersIfRecovered old op mid → KeepsOthersIfRecovered old op new
   alone_moved op k none files = left_moved (record { tree = shown_tree old; files = files }) op (k none files)
 
   -- ---- files
@@ -194,7 +194,7 @@ module _ (old mid new : TreeState) (plan : Option MovePlan) (room : ℕ) (planne
   flight_moved : KeepsInFlight (without_cache mid) (without_cache new)
   flight_moved = record { stay = moved.flight.stay; none_comes = moved.flight.none_comes; bytes = moved.flight.bytes; unprogrammed_still = moved.flight.unprogrammed_still }
 
-  pub applied_moved : (op : Operation) → operation_room op ≡ room → renames_itself op ≡ false → is_recover op ≡ false → LeftByLatest old.history old.disk.blocks → LeftByLatest mid.history mid.disk.blocks → LeavesOthersAlone old op mid → IsApplied old op mid
+  pub applied_moved : (op : Operation) → operation_room op ≡ room → renames_itself op ≡ false → is_recover op ≡ false → LeftByLatest old.history old.disk.blocks → LeftByLatest mid.history mid.disk.blocks → KeepsOthersIfRecovered old op mid → IsApplied old op mid
       → ((files : OpenFilesByNumber) → IsLayoutRecovered old.disk old.pairs (record { tree = shown_tree old; files = files }) op mid.disk mid.pairs) → IsApplied old op new
   applied_moved op takes apart other was now spares k stays = record {
     works = moved.works;
@@ -222,7 +222,7 @@ pub survives_moved : (old mid new : TreeState) (after : Tree) (calls later : Lis
     → SurvivesStops old mid after → SurvivesStops mid new (shown_tree mid) → SurvivesStops old new after
 survives_moved old mid new after calls later called further geometry shows first second =
     survives_after old.disk old.history mid.history new.history (shown_tree old) after (some_since calls old.history mid.history called) (some_since later mid.history new.history further) first
-    (λ clean. HoldsAtLosses-weaker (λ left x. subst (λ (d : Disk). HasEither d after after) (left_on left) (subst (λ (t : Tree). HasEither (with_blocks left mid.disk) t t) shows x)) (second clean))
+    (λ clean. HoldsAtLosses-weaker (λ left x. subst (λ (d : Disk). HasEitherTree d after after) (left_on left) (subst (λ (t : Tree). HasEitherTree (with_blocks left mid.disk) t t) shows x)) (second clean))
   where
     left_on : (blocks : Blocks) → with_blocks blocks mid.disk ≡ with_blocks blocks old.disk
     left_on blocks = λ j. record { block_size = geometry.block_size j; page = geometry.page j; order = geometry.order j; profile = geometry.profile j; blocks = blocks }

@@ -3,8 +3,8 @@ use Rattle.std.proofs.Common.{ℕ, ◌≡◌, ◌≤◌, ◌+◌, ◌∙◌, ◌
 use Rattle.std.specs.Prelude.{IfOk, IfSome, sum_by}
 use Rattle.lfs_tree.proofs.Common.{sum_by-append, sum_by-cons, Disk, pair_count_at, ancestor_paths, CallEvent, read_count, Name, slot_of, zero_gstate, Pair, pairs_gstate, Path, IsAccepted, disk_tree, KeptThread, ThreadView, OnlyReadsThread, LeadsToPair, IsSlotBelow, LeadsToResult, AreRenameResults, rename_directories, TreeState, kept_thread}
 use Rattle.lfs_device.specs.declared.error.Error.{Error}
-use Rattle.lfs_lookup.specs.AtPath.{IsResult}
-use Rattle.lfs_lookup.specs.LookupPaths.{IsUnmoved, IsHiddenResult}
+use Rattle.lfs_lookup.specs.AtPath.{IsLookupResult}
+use Rattle.lfs_lookup.specs.LookupPaths.{IsUnmovedSpot, IsHiddenResult}
 use Rattle.lfs_lookup.specs.declared.paths.PathLookup.{PathLookup}
 use Rattle.lfs_lookup.specs.declared.paths.PathLookup.TheVariants as found
 use Rattle.lfs_lookup.specs.declared.paths.VisiblePathLookup.{VisiblePathLookup}
@@ -59,7 +59,7 @@ known_behind old mid t from to (Some x) idle is k = subst (λ z. AreRenameResult
 not_deleted : (id : ℕ) → ◌≡◌ {A = Option ℕ} None (Some id) → ⊥
 not_deleted id k = absurd (cc)
 
-abbrev spot_of_shown_entry : (ps : List Pair) (path above : Path) (name : Name) (parent : ℕ) (slot : SlotPosition) → path ≡ above ++ name ∷ [] → IsSlotBelow ps above name parent slot → IsUnmoved ps None path slot
+abbrev spot_of_shown_entry : (ps : List Pair) (path above : Path) (name : Name) (parent : ℕ) (slot : SlotPosition) → path ≡ above ++ name ∷ [] → IsSlotBelow ps above name parent slot → IsUnmovedSpot ps None path slot
 spot_of_shown_entry ps path above name parent slot e s = record {
   above = above;
   name = name;
@@ -80,9 +80,9 @@ shows_to t path (found.Directory parent slot first) l =
     (l.parents, (spot_of_shown_entry t.pairs path l.there.above l.there.name parent slot l.there.is l.there.there.0, subst (λ (p : Path). LeadsToPair t.pairs p first) (sym l.there.is) l.there.there.1))
 shows_to t path (found.File parent slot contents) l = (l.parents, (spot_of_shown_entry t.pairs path l.there.above l.there.name parent slot l.there.is l.there.there.0, l.there.there.1))
 
-pub shows_found : (t : KeptThread) (path : Path) (f : PathLookup) (s : VisiblePathLookup) → IsAccepted t.disk t.pairs → pairs_gstate t.pairs ≡ zero_gstate → LeadsToResult t path f → s ≡ lookup_without_parent f → IsResult t path s
+pub shows_found : (t : KeptThread) (path : Path) (f : PathLookup) (s : VisiblePathLookup) → IsAccepted t.disk t.pairs → pairs_gstate t.pairs ≡ zero_gstate → LeadsToResult t path f → s ≡ lookup_without_parent f → IsLookupResult t path s
 shows_found t path f s ok settled l is =
-    subst (λ z. IsResult t path z) (sym is) (record { moved = None; hides = (hiding_none t (record { accepted = ok; settled = settled })).hides; shows = shows_to t path f l })
+    subst (λ z. IsLookupResult t path z) (sym is) (record { moved = None; hides = (hiding_none t (record { accepted = ok; settled = settled })).hides; shows = shows_to t path f l })
 
 -- ---- how many reads that takes
 

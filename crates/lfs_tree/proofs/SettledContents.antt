@@ -1,7 +1,7 @@
 -- What stands behind a commit of contents, before and after their lists are settled.
 use Rattle.std.proofs.Common.{ℕ, ◌≡◌, ◌≢◌, ◌<◌, ◌≤◌, ◌+◌, ◌∙◌, inl, inr, ⊎_elim, List, [], ◌∷◌, ◌++◌, length, None, Some, true, false, refl, sym, ap, subst, arith, append_assoc}
 use Rattle.std.specs.Prelude.{All, Contains}
-use Rattle.lfs_tree.proofs.Common.{cases_lt, All-contains, All-from_recursion, same_Some, AreByteBlocks, AnyByRecursion, among_right, HasPathSlot, tree_with_change, same_path, AreUsed, IsFree, IsInFlight, IsUsedBlock, Free, InFlight, Used, Disk, SameGeometry, disk_block, block_count, CallEvent, OnlyReadsSince, IsLayout, Name, struct_at, Session, HasEither, with_blocks, slot_of, Slot, file_with_bytes, Pair, pairs_blocks, pairs_gstate, count_before_root, Path, IsAccepted, IsWritable, struct_blocks, disk_tree, used_blocks, survives_then, Contains-number_occurrences, number_occurrences-Contains, number_occurrences, count_append, each_from_counted, each_weaker, once_from_distinct, SameFileBlocks, file_blocks_same, is_list_same, HoldsAtLosses-read_count, HoldsAtLosses-trans, HoldsAtLosses-weaker, HoldsAtLosses-worst, LeftByLoss-read, IsContentsStruct, CanSettleFile, ChangesOnlyMap, IsListSettled, stored_list_blocks, here, WritesPairTwo, HasStoredContents, tree_with_contents, KeptThread, ThreadView, thread_pair, ChangesThreadBlocks, HasFurtherCalls, CanChangeRecovered, SurvivesEither, writer_contents_bytes, CanCommitContents, CanPutContents, HasCommittedBytes, IsPathFile, finished_list, list_in_struct, finished_struct, ChangesPathPair, SizedLists}
+use Rattle.lfs_tree.proofs.Common.{cases_lt, All-contains, All-from_recursion, same_Some, AreByteBlocks, AnyByRecursion, among_right, HasPathSlot, tree_with_change, same_path, AreUsed, IsFree, IsInFlight, IsUsedBlock, Free, InFlight, Used, Disk, SameGeometry, disk_block, block_count, CallEvent, OnlyReadsSince, IsLayout, Name, struct_at, Session, HasEitherTree, with_blocks, slot_of, Slot, file_with_bytes, Pair, pairs_blocks, pairs_gstate, count_before_root, Path, IsAccepted, IsWritable, struct_blocks, disk_tree, used_blocks, survives_then, Contains-number_occurrences, number_occurrences-Contains, number_occurrences, count_append, each_from_counted, each_weaker, once_from_distinct, SameFileBlocks, file_blocks_same, is_list_same, HoldsAtLosses-read_count, HoldsAtLosses-trans, HoldsAtLosses-weaker, HoldsAtLosses-worst, LeftByLoss-read, IsContentsStruct, CanSettleFile, ChangesOnlyMap, IsListSettled, stored_list_blocks, here, WritesPairTwo, HasStoredContents, tree_with_contents, KeptThread, ThreadView, thread_pair, ChangesThreadBlocks, HasFurtherCalls, CanChangeRecovered, SurvivesEither, writer_contents_bytes, CanCommitContents, CanPutContents, HasCommittedBytes, IsPathFile, finished_list, list_in_struct, finished_struct, ChangesPathPair, SizedLists}
 use Rattle.lfs_model.specs.session.History.{HoldsAtLosses}
 use Rattle.lfs_model.specs.session.Operations as ops
 use Rattle.lfs_model.specs.session.Session.{FileWriter, Writing}
@@ -234,7 +234,7 @@ module _ (t : ThreadView) (root : ℕ) (rests : CanChangeRecovered t root) (path
           let first : HoldsAtLosses LeftByLoss t.kept.history new.history (λ d. Unit {0}) = HoldsAtLosses-trans (HoldsAtLosses-read_count LeftByLoss-read reads tt) (HoldsAtLosses-weaker (λ d p. tt) (HoldsAtLosses-worst w.writes.at_worst)) in
           survives_then t.kept.disk t.kept.history new.history later.history (disk_tree t.kept.disk t.kept.pairs) after first only.reads k
           (λ clean. HoldsAtLosses-read_count LeftByLoss-read only.reads
-          (subst (λ (d : Disk). HasEither d (disk_tree t.kept.disk t.kept.pairs) (tree_with_change path (file_with_bytes (writer_contents_bytes t.kept c)) (disk_tree t.kept.disk t.kept.pairs))) disk_is
+          (subst (λ (d : Disk). HasEitherTree d (disk_tree t.kept.disk t.kept.pairs) (tree_with_change path (file_with_bytes (writer_contents_bytes t.kept c)) (disk_tree t.kept.disk t.kept.pairs))) disk_is
           (record {
             pairs = new.pairs;
             accepted = is.now.ready.accepted;

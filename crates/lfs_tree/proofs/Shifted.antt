@@ -1,7 +1,7 @@
 -- An entry that gets another path: what is found for it, and what may be done.
 use Rattle.std.proofs.Common.{ℕ, ◌≡◌, ◌≤◌, ◌∙◌, ◌&&◌, ◌++◌, not, Bool, true, false, List, [], ◌∷◌, Option, Some, None, Result, Ok, Err, refl, sym, ap, ap₂, subst}
 use Rattle.std.specs.Prelude.{OnOk, is_some}
-use Rattle.lfs_tree.proofs.Common.{list_all, option_and_then, ltb-false, slice_get_within, AreByteBlocks, last_name, tree_renaming, without_prefix, same_path, charge_limit, CallEvent, OnlyReadsSince, fault_count, BelongsAt, Name, is_component, is_valid_name, Slot, entry_charge, path_or_root, is_root_path, Pair, pairs_gstate, count_before_root, Path, Tree, branch_address, LeadsTo, disk_tree, no_move_from, last_is, KeptThread, ThreadView, OnlyReadsThread, WritesThreadFree, CanRenamePath, tree_after_call, AppliesInPlace, HasAppliedCall, CanChangeRecovered, AppliesOrFails, IsNamedResult, SparesOutsideOperation, HasSoundImage, SurvivesEither, HasPathEntry, kept_state, tree_summary, LeadsToPair, LeadsToResult, IsSlotBelow, CanMoveEntry, CanMoveOntoFound, CanMoveOntoFile, CanMoveOntoDirectory, CanMoveToVacant, HasMovedEntry, ThreadWorksOrReports}
+use Rattle.lfs_tree.proofs.Common.{list_all, option_and_then, ltb-false, slice_get_within, AreByteBlocks, last_name, tree_renaming, without_prefix, same_path, charge_limit, CallEvent, OnlyReadsSince, fault_count, BelongsAt, Name, is_component, is_valid_name, Slot, entry_charge, path_or_root, is_root_path, Pair, pairs_gstate, count_before_root, Path, Tree, branch_address, LeadsTo, disk_tree, no_move_from, last_is, KeptThread, ThreadView, OnlyReadsThread, WritesThreadFree, CanRenamePath, tree_after_call, AppliesInPlace, HasAppliedCall, CanChangeRecovered, AppliesOrFails, IsNamedResult, SparesOutsideOperation, HasSoundImage, SurvivesEither, HasPathEntry, uncached_state, tree_summary, LeadsToPair, LeadsToResult, IsSlotBelow, CanMoveEntry, CanMoveOntoFound, CanMoveOntoFile, CanMoveOntoDirectory, CanMoveToVacant, HasMovedEntry, ThreadWorksOrReports}
 use Rattle.lfs_device.specs.declared.error.Error.{Error}
 use Rattle.lfs_model.specs.session.TreeEdits.{is_beneath}
 use Rattle.lfs_model.specs.session.Operations as ops
@@ -40,7 +40,7 @@ source_for t path (found.File parent slot contents) source l h = source_is t.pai
 
 -- ---- what may be done
 
-pub entry_to_rename : (t : KeptThread) (from to : Path) → CanRenamePath (kept_state t true false) from to → HasPathEntry (disk_tree t.disk t.pairs) from
+pub entry_to_rename : (t : KeptThread) (from to : Path) → CanRenamePath (uncached_state t true false) from to → HasPathEntry (disk_tree t.disk t.pairs) from
 entry_to_rename t from to can = record { entry = can.entry; parents = can.parents; something = can.something }
 
 -- what isn't beneath it, and is another path, doesn't begin with it
@@ -57,12 +57,12 @@ checked_apart true b e f = absurd (cc)
 checked_apart false b e f = f
 
 module _ (t : ThreadView) (root : ℕ) (rests : CanChangeRecovered t root) (from to : Path) (components : list_all is_component to ≡ true) (large : 1024 ≤ t.kept.disk.block_size) (bytes : AreByteBlocks t.kept.disk.blocks)
-    (can : CanRenamePath (kept_state t.kept true false) from to) (other : same_path from to ≡ false) (source : RenameSource) (is : IsSourceAt t.kept.pairs from source) (h : List CallEvent) where
+    (can : CanRenamePath (uncached_state t.kept true false) from to) (other : same_path from to ≡ false) (source : RenameSource) (is : IsSourceAt t.kept.pairs from source) (h : List CallEvent) where
   pub elsewhere : without_prefix from to ≡ None
   elsewhere = goes_elsewhere from to can.apart other
 
   named : is_valid_name (last_name to) ≡ true
-  named = last_is_name (tree_summary (kept_state t.kept true false)) to (λ e. let k = sym can.target ∙ ap is_root_path e in absurd (cc)) components can.name
+  named = last_is_name (tree_summary (uncached_state t.kept true false)) to (λ e. let k = sym can.target ∙ ap is_root_path e in absurd (cc)) components can.name
 
   pub fits_there : IsWritableEntry t.kept.disk.profile t.kept.disk.block_size t.kept.disk.page (record is.slot.stands.stands.stands.slot { name = last_name to })
   fits_there = record {

@@ -1,7 +1,7 @@
 -- A rename leaves alone what it doesn't concern.
 use Rattle.std.proofs.Common.{ℕ, ◌≡◌, ◌≤◌, ◌<◌, ◌⊎◌, inl, inr, ◌∙◌, List, [], ◌∷◌, length, refl, sym, subst, arith}
 use Rattle.std.specs.Prelude.{Any, Contains}
-use Rattle.lfs_tree.proofs.Common.{cases_lt, IsFree, HasPathSlot, LeavesOthers, IsPlaceOf, Name, path_or_root, Session, Pair, address_blocks, addresses_blocks, Path, Contains-number_occurrences, number_occurrences-Contains, number_occurrences, count_append, each_weaker, here, WritesTouchedFree, WritesPairTwo, KeptThread, thread_pair, CanMoveEntry}
+use Rattle.lfs_tree.proofs.Common.{cases_lt, IsFree, HasPathSlot, KeepsOthers, IsPlaceOf, Name, path_or_root, Session, Pair, address_blocks, addresses_blocks, Path, Contains-number_occurrences, number_occurrences-Contains, number_occurrences, count_append, each_weaker, here, WritesTouchedFree, WritesPairTwo, KeptThread, thread_pair, CanMoveEntry}
 use Rattle.lfs_model.specs.session.Operations as ops
 use Rattle.lfs_operations.specs.Altering.{IsTouchedBlock}
 use Rattle.lfs_tree.specs.MovedEntries.{SparesInRename}
@@ -60,7 +60,7 @@ module _ (t new : KeptThread) (from to : Path) (source : RenameSource) (name : N
   target_concerned slot there = concerned slot.pair (behind_below t.pairs can.first slot.pair there.pair there.rest there.place) (target_holds slot there)
 
   -- the source's pair alone is written
-  within_alone : WritesPairTwo t source.slot.pair new → LeavesOthers t.disk t.pairs s (ops.Rename given to_given) new.disk new.pairs
+  within_alone : WritesPairTwo t source.slot.pair new → KeepsOthers t.disk t.pairs s (ops.Rename given to_given) new.disk new.pairs
   within_alone w =
       let p = thread_pair t source.slot.pair in
       concerned_alone t new s (ops.Rename given to_given) (p.at.0 ∷ p.at.1 ∷ w.fresh) can.old.ready.accepted can.old.ready.used (
@@ -70,7 +70,7 @@ module _ (t new : KeptThread) (from to : Path) (source : RenameSource) (name : N
       w.writes
 
   -- pairs that don't stay are written beside the two
-  rest_alone : (bs : List ℕ) → ((b : ℕ) → Contains bs b → Concerned b) → WritesTouchedFree t bs new → LeavesOthers t.disk t.pairs s (ops.Rename given to_given) new.disk new.pairs
+  rest_alone : (bs : List ℕ) → ((b : ℕ) → Contains bs b → Concerned b) → WritesTouchedFree t bs new → KeepsOthers t.disk t.pairs s (ops.Rename given to_given) new.disk new.pairs
   rest_alone bs known w = concerned_alone t new s (ops.Rename given to_given) w.blocks can.old.ready.accepted can.old.ready.used
       (each_weaker (λ b. Contains bs b ⊎ (IsTouchedBlock t new b ⊎ IsFree t.map b)) (IsConcernedOrFree t (path_or_root given ∷ path_or_root to_given ∷ []) new.pairs) each w.blocks w.each) w.writes
     where

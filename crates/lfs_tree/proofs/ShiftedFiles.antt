@@ -3,7 +3,7 @@ use Rattle.std.proofs.Common.{ℕ, ◌≡◌, ◌≢◌, ◌⊎◌, ◌<◌, ◌
 use Rattle.std.specs.Prelude.{IfErr, OnOk, is_err}
 use Rattle.lfs_device.specs.declared.error.Error.{Error}
 use Rattle.lfs_device.specs.declared.error.Error.TheVariants.{Io, NoMemory}
-use Rattle.lfs_tree.proofs.Common.{ChangesOnlyMap, ThreadReportsFaults, LeavesOthers, count_before_root, addresses_blocks, tree_renaming, without_prefix, IsPlaceOf, Name, Struct, Path, branch_address, disk_tree, CompletesOperation, WritesTouchedFree, WritesPairTwo, SameInFlight, CanEditIn, WritesPairsTwo, second_pair, WritesThreadFree, tree_moved, IsReadyImage, tree_renamed, KeptThread, ThreadView, thread_pair, SurvivesEither, IsStorage, CanMoveEntry, CanMoveOntoFile, HasMovedEntry, ThreadWorksOrReports}
+use Rattle.lfs_tree.proofs.Common.{ChangesOnlyMap, ThreadReportsFaults, KeepsOthers, count_before_root, addresses_blocks, tree_renaming, without_prefix, IsPlaceOf, Name, Struct, Path, branch_address, disk_tree, CompletesOperation, WritesTouchedFree, WritesPairTwo, SameInFlight, CanEditIn, WritesPairsTwo, second_pair, WritesThreadFree, tree_moved, IsReadyImage, tree_renamed, KeptThread, ThreadView, thread_pair, SurvivesEither, IsStorage, CanMoveEntry, CanMoveOntoFile, HasMovedEntry, ThreadWorksOrReports}
 use Rattle.lfs_model.specs.session.Operations as ops
 use Rattle.lfs_operations.specs.MovingOnto.{CanReplaceFileAcross, IsFileReplaced}
 use Rattle.lfs_operations.specs.Renaming.{CanRenameOnto, IsRenamedOnto}
@@ -156,8 +156,8 @@ onto_done t mid new from to contents is only ready flying = record {
       subst (λ ps. CompletesOperation t.disk t.pairs s (ops.Rename given to_given) new.disk ps) (sym only.pairs)
       (subst (λ disk. CompletesOperation t.disk t.pairs s (ops.Rename given to_given) disk mid.pairs) (sym only.disk) (is.completed s given to_given tree f k));
   alone = λ s given to_given f k.
-      subst (λ ps. LeavesOthers t.disk t.pairs s (ops.Rename given to_given) new.disk ps) (sym only.pairs)
-      (subst (λ disk. LeavesOthers t.disk t.pairs s (ops.Rename given to_given) disk mid.pairs) (sym only.disk) (is.alone s given to_given f k));
+      subst (λ ps. KeepsOthers t.disk t.pairs s (ops.Rename given to_given) new.disk ps) (sym only.pairs)
+      (subst (λ disk. KeepsOthers t.disk t.pairs s (ops.Rename given to_given) disk mid.pairs) (sym only.disk) (is.alone s given to_given f k));
 }
 
 pub apart_then : (t mid new : KeptThread) → WritesThreadFree t mid → ChangesOnlyMap mid new → WritesThreadFree t new

@@ -4,7 +4,7 @@ use Rattle.std.specs.Prelude.{IfErr, OnOk, slice_get}
 use Rattle.lfs_tree.proofs.Common.{AllByRecursion, All-from_recursion, same_Some, tree_renaming, without_prefix, IsFree, IsUsedBlock, Free, Used, PairChange, disk_block, BelongsAt, IsDirectoryPair, Name, Slot, pairs_blocks, address_blocks, Path, all_unmoved_slots, struct_blocks, disk_tree, used_blocks, Contains-number_occurrences, number_occurrences-Contains, Each, number_occurrences, count_append, each_from_counted, each_weaker, SameFileBlocks, file_blocks, WritesTouchedFree, HasTwoFree, WritesPairTwo, has_failed_after, CanEditIn, editable_slot, HasFreeBlocks, WritesPairsTwo, second_pair, WritesThreadFree, IsRenamedAcross, tree_moved, IsReadyImage, IsReadyUnsettled, drops_with_its_slot, tree_renamed, KeptThread, ThreadView, ChangesThreadBlocks, thread_pair, SurvivesEither, CanMoveEntry, CanMoveToVacant, HasMovedEntry, ThreadWorksOrReports}
 use Rattle.lfs_device.specs.declared.error.Error.{Error}
 use Rattle.lfs_device.specs.declared.error.Error.TheVariants.{Io, NoMemory, NoSpace}
-use Rattle.lfs_operations.specs.MoveEnds.{written_at_end}
+use Rattle.lfs_operations.specs.MoveEnds.{written_by_ending}
 use Rattle.lfs_operations.specs.MovingSteps.{ReportsTakingCommits}
 use Rattle.lfs_operations.specs.MovingAcross.{CanRenameAcross}
 use Rattle.lfs_operations.specs.Renaming.{CanRenameWithin, IsRenamedWithin, ReportsReadPut}
@@ -88,7 +88,7 @@ within_written t from to source name new can w = let k = in_pair t source.slot.p
 left_below : (t : KeptThread) (index first : ℕ) → index < length t.pairs → second_pair t index first < length t.pairs
 left_below t index first below = go (drops_with_its_slot t index first)
   where
-    go : (b : Bool) → written_at_end index b < length t.pairs
+    go : (b : Bool) → written_by_ending index b < length t.pairs
     go true = omega arith
     go false = below
 

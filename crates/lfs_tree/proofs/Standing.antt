@@ -4,7 +4,7 @@ use Rattle.std.specs.Prelude.{IfOk}
 use Rattle.lfs_device.specs.declared.error.Error.{Error}
 use Rattle.lfs_device.specs.declared.device.BlockDevice.{Ghosts}
 use Rattle.lfs_device.specs.declared.geometry.Geometry.{Geometry}
-use Rattle.lfs_tree.proofs.Common.{Blocks, HasBlockSizes, BlockStates, used_count, Disk, HasGeometry, BelongToThread, KeptThread, HaveForm, AreSoundContents, finish_room, contents_form, ContentsForm, AreUsedAmong, contents_blocks, CanFinish, CanTruncate, CanWrite, HaveThreadForm, AreOnThread, contents_list_blocks}
+use Rattle.lfs_tree.proofs.Common.{Blocks, HasBlockSizes, BlockStates, used_count, Disk, HasGeometry, BelongToThread, KeptThread, HaveBytesInForm, AreSoundContents, finish_room, contents_form, ContentsForm, AreUsedAmong, contents_blocks, CanFinish, CanTruncate, CanWrite, HaveThreadForm, AreOnThread, contents_list_blocks}
 use Rattle.lfs_file.specs.Contents.{CanFinishContents, CanTruncateContents, CanWriteContents, HasTruncationRoom, HasWriteRoom}
 use Rattle.lfs_file.specs.declared.contents.WriterContents.{WriterContents}
 use Rattle.lfs_file.proofs.ContentsGeometries.{geometry_is}
@@ -30,13 +30,13 @@ module _ {D : Type 0} (g : Ghosts D) (t : KeptThread) (device : D) (map : BlockS
       (subst (λ (x : Geometry). AreSoundContents t.map t.disk.blocks x contents) (sym (geometry_here is.geometry is.divided)) is.stands))
 
   -- contents that a call left there
-  pub holds_here : (x : Geometry) (contents : WriterContents) (bytes : List ℕ) (form : ContentsForm) → x ≡ g.geometry device → HaveForm map (g.blocks device) x contents bytes form → HaveThreadForm t contents bytes form
+  pub holds_here : (x : Geometry) (contents : WriterContents) (bytes : List ℕ) (form : ContentsForm) → x ≡ g.geometry device → HaveBytesInForm map (g.blocks device) x contents bytes form → HaveThreadForm t contents bytes form
   holds_here x contents bytes form is has = record {
     geometry = g.geometry device;
     divided = divided_here;
-    has = subst (λ (y : Geometry). HaveForm t.map t.disk.blocks y contents bytes form) is
-        (subst (λ (m : BlockStates). HaveForm m t.disk.blocks x contents bytes form) shows.map
-        (subst (λ (d : Blocks). HaveForm map d x contents bytes form) blocks_here has));
+    has = subst (λ (y : Geometry). HaveBytesInForm t.map t.disk.blocks y contents bytes form) is
+        (subst (λ (m : BlockStates). HaveBytesInForm m t.disk.blocks x contents bytes form) shows.map
+        (subst (λ (d : Blocks). HaveBytesInForm map d x contents bytes form) blocks_here has));
   }
 
   -- a write there
@@ -64,7 +64,7 @@ module _ {D : Type 0} (g : Ghosts D) (t : KeptThread) (device : D) (map : BlockS
 -- what a call answers, seen from the thread
 pub holds_after : {D : Type 0} (g : Ghosts D) (old new : KeptThread) (d e : D) (m n : BlockStates) → BelongToThread g old d m → BelongToThread g new e n → HasBlockSizes (g.geometry d).block_size (g.geometry d).block_count (g.blocks d)
     → HasBlockSizes (g.geometry e).block_size (g.geometry e).block_count (g.blocks e) → g.geometry e ≡ g.geometry d → (bytes : Blocks → ℕ → List ℕ) (form : ContentsForm) (r : Result WriterContents Error)
-    → IfOk r (λ c. HaveForm n (g.blocks e) (g.geometry d) c (bytes (g.blocks d) (g.geometry d).block_size) form) → IfOk r (λ c. HaveThreadForm new c (bytes old.disk.blocks old.disk.block_size) form)
+    → IfOk r (λ c. HaveBytesInForm n (g.blocks e) (g.geometry d) c (bytes (g.blocks d) (g.geometry d).block_size) form) → IfOk r (λ c. HaveThreadForm new c (bytes old.disk.blocks old.disk.block_size) form)
 holds_after g old new d e m n before after shape later geometry bytes form (Ok c) has =
     subst (λ (x : Blocks). HaveThreadForm new c (bytes x old.disk.block_size) form) (blocks_here g old d m before shape)
     (subst (λ (k : ℕ). HaveThreadForm new c (bytes (g.blocks d) k) form) (size_here g old d m before shape)

@@ -2,7 +2,7 @@
 use Rattle.std.proofs.Common.{ℕ, ◌≡◌, ◌≤◌, ◌+◌, ◌∙◌, Bool, true, false, List, [], ◌∷◌, ◌++◌, length, Result, Ok, Err, refl, sym, ap, ap₂, subst, arith, append_assoc}
 use Rattle.std.specs.Prelude.{IfErr, OnOk, Contains}
 use Rattle.lfs_device.specs.declared.error.Error.{Error}
-use Rattle.lfs_tree.proofs.Common.{HasPathSlot, tree_with_change, Blocks, used_count, Disk, block_count, inline_limit, AllCalls, AllCallsSince, CallEvent, fault_count, IsLayout, Operation, HasEither, SurvivesLossSince, with_blocks, Session, list_blocks_of, file_with_bytes, Pair, pairs_gstate, Path, Tree, IsAccepted, disk_tree, used_blocks, survives_then, arranged_after, recovered_stays, recovered_from, HoldsAtLosses-weaker, HoldsAtLosses-worst, CanFinish, HaveThreadForm, KeepsPairs, contents_list_blocks, KeptThread, ThreadView, HasFurtherCalls, CanChangeRecovered, SurvivesEither, HasThreadCause, SoundUnlessFailed, kept_state, thread_state, KeepsListBytes, CanStoreContents, writer_contents_bytes, IsSoundState, TreeState, shown_tree, CanCommitContents, HasCommittedBytes, StoresThreadBytes, IsFinishedForm, ChangesPathPair, contents_bytes, finish_room, form_after_finish, contents_form, ContentsForm, AreUsedAmong}
+use Rattle.lfs_tree.proofs.Common.{HasPathSlot, tree_with_change, Blocks, used_count, Disk, block_count, inline_limit, AllCalls, AllCallsSince, CallEvent, fault_count, IsLayout, Operation, HasEitherTree, SurvivesLossSince, with_blocks, Session, list_block_count, file_with_bytes, Pair, pairs_gstate, Path, Tree, IsAccepted, disk_tree, used_blocks, survives_then, arranged_after, recovered_stays, recovered_from, HoldsAtLosses-weaker, HoldsAtLosses-worst, CanFinish, HaveThreadForm, KeepsPairs, contents_list_blocks, KeptThread, ThreadView, HasFurtherCalls, CanChangeRecovered, SurvivesEither, HasThreadCause, SoundUnlessFailed, uncached_state, thread_state, KeepsListBytes, CanStoreContents, writer_contents_bytes, IsSoundState, TreeState, shown_tree, CanCommitContents, HasCommittedBytes, StoresOnThread, IsFinishedForm, ChangesPathPair, contents_bytes, finish_room, form_after_finish, contents_form, ContentsForm, AreUsedAmong}
 use Rattle.lfs_model.specs.session.Operations as ops
 use Rattle.lfs_model.proofs.Unmoved.{nothing_moves}
 use Rattle.lfs_tree.proofs.LeftAlone.{files_of_alone, pair_of_alone}
@@ -42,16 +42,16 @@ errors_then a b c (Err e) same t = record {
 
 -- ---- what is asked for
 
-room_on : (t : KeptThread) → IsSoundState (kept_state t true false) → (need : ℕ) → length (used_blocks t.disk t.pairs) + need ≤ block_count t.disk → used_count t.map + need ≤ length t.map
-room_on t sound need room = let e = count_is (kept_state t true false) sound in let s = sound.size in omega arith
+room_on : (t : KeptThread) → IsSoundState (uncached_state t true false) → (need : ℕ) → length (used_blocks t.disk t.pairs) + need ≤ block_count t.disk → used_count t.map + need ≤ length t.map
+room_on t sound need room = let e = count_is (uncached_state t true false) sound in let s = sound.size in omega arith
 
 finished_form : (limit : ℕ) (f : ContentsForm) → InlineWithinLimit limit f → IsFinishedForm limit (form_after_finish f)
 finished_form limit (form.InMemory size) h = h
 finished_form limit (form.Finished size flying) h = h
 finished_form limit (form.InHand stop base flying) h = h
 
-module _ (t : ThreadView) (root : ℕ) (rests : CanChangeRecovered t root) (path : Path) (contents : WriterContents) (can : CanStoreContents (kept_state t.kept true false) path contents) where
-  abbrev sound : IsSoundState (kept_state t.kept true false)
+module _ (t : ThreadView) (root : ℕ) (rests : CanChangeRecovered t root) (path : Path) (contents : WriterContents) (can : CanStoreContents (uncached_state t.kept true false) path contents) where
+  abbrev sound : IsSoundState (uncached_state t.kept true false)
   sound = rests.held.sound
 
   pub can_finish : CanFinish t.kept contents
@@ -74,11 +74,11 @@ module _ (t : ThreadView) (root : ℕ) (rests : CanChangeRecovered t root) (path
         over = over_beside t.kept b.kept leaves sound.accepted sound.used path contents c _ _ can.over holds owned;
         finished = subst (λ (f : ContentsForm). IsFinishedForm (inline_limit b.kept.disk.profile b.kept.disk.block_size) f) (sym holds.has.form)
             (subst (λ (n : ℕ). IsFinishedForm n (form_after_finish (contents_form contents))) (sym (ap₂ (λ p n. inline_limit p n) leaves.shape.profile leaves.shape.block_size)) (finished_form (inline_limit t.kept.disk.profile t.kept.disk.block_size) (contents_form contents) can.form));
-        room = (let l : list_blocks_of b.kept.disk.profile b.kept.disk.block_size (length (writer_contents_bytes b.kept c)) ≡ list_blocks_of t.kept.disk.profile t.kept.disk.block_size (length (writer_contents_bytes t.kept contents))
-            = ap₂ (λ p n. list_blocks_of p n (length (writer_contents_bytes b.kept c))) leaves.shape.profile leaves.shape.block_size ∙ ap (λ z. list_blocks_of t.kept.disk.profile t.kept.disk.block_size (length z)) bytes_same in
+        room = (let l : list_block_count b.kept.disk.profile b.kept.disk.block_size (length (writer_contents_bytes b.kept c)) ≡ list_block_count t.kept.disk.profile t.kept.disk.block_size (length (writer_contents_bytes t.kept contents))
+            = ap₂ (λ p n. list_block_count p n (length (writer_contents_bytes b.kept c))) leaves.shape.profile leaves.shape.block_size ∙ ap (λ z. list_block_count t.kept.disk.profile t.kept.disk.block_size (length z)) bytes_same in
             let r = can.room in
-            let k : length (used_blocks t.kept.disk t.kept.pairs) + (list_blocks_of t.kept.disk.profile t.kept.disk.block_size (length (writer_contents_bytes t.kept contents)) + 2) ≤ block_count t.kept.disk = omega arith in
-            let m = room_on t.kept sound (list_blocks_of t.kept.disk.profile t.kept.disk.block_size (length (writer_contents_bytes t.kept contents)) + 2) k in
+            let k : length (used_blocks t.kept.disk t.kept.pairs) + (list_block_count t.kept.disk.profile t.kept.disk.block_size (length (writer_contents_bytes t.kept contents)) + 2) ≤ block_count t.kept.disk = omega arith in
+            let m = room_on t.kept sound (list_block_count t.kept.disk.profile t.kept.disk.block_size (length (writer_contents_bytes t.kept contents)) + 2) k in
             let u = leaves.map.used in
             let n = leaves.map.count in
             omega arith);
@@ -94,7 +94,7 @@ module _ (t : ThreadView) (root : ℕ) (rests : CanChangeRecovered t root) (path
       turn_same = ap (λ (x : Tree). tree_with_change path (file_with_bytes (writer_contents_bytes b.kept c)) x) tree_same ∙ ap (λ z. tree_with_change path (file_with_bytes z) (disk_tree t.kept.disk t.kept.pairs)) bytes_same
 
       -- seen from before the end of the list
-      arranged_before : (new : KeptThread) (op : ℕ → Operation) → IsWriterLayout b.kept path (writer_contents_bytes b.kept c) op new → IsWriterLayoutRecovered (kept_state t.kept true false) path (writer_contents_bytes t.kept contents) op (kept_state new true false)
+      arranged_before : (new : KeptThread) (op : ℕ → Operation) → IsWriterLayout b.kept path (writer_contents_bytes b.kept c) op new → IsWriterLayoutRecovered (uncached_state t.kept true false) path (writer_contents_bytes t.kept contents) op (uncached_state new true false)
       arranged_before new op laid files fd writer wr =
           let s : Session = record { tree = disk_tree t.kept.disk t.kept.pairs; files = files } in
           let stays = recovered_stays t.kept.disk t.kept.pairs (record { tree = disk_tree t.kept.disk t.kept.pairs; files = files }) sound.accepted (sound.fits refl) rests.settled in
@@ -124,16 +124,16 @@ module _ (t : ThreadView) (root : ℕ) (rests : CanChangeRecovered t root) (path
       lists_before : (new : KeptThread) → ChangesPathPair b.kept.disk b.kept.pairs path new.disk → KeepsListBytes t.kept.disk t.kept.pairs new.disk
       lists_before new k = files_of_alone t.kept.disk new.disk t.kept.pairs [] path sound.accepted (changes_before new.disk k)
 
-      stored_before : (new : KeptThread) → HasFurtherCalls t.kept new → fault_count new.history ≡ fault_count t.kept.history → HasCommittedBytes b.kept path (writer_contents_bytes b.kept c) new → StoresThreadBytes t.kept path (writer_contents_bytes t.kept contents) new
+      stored_before : (new : KeptThread) → HasFurtherCalls t.kept new → fault_count new.history ≡ fault_count t.kept.history → HasCommittedBytes b.kept path (writer_contents_bytes b.kept c) new → StoresOnThread t.kept path (writer_contents_bytes t.kept contents) new
       stored_before new called quiet k = record { stored = stored; synced = synced; closed = closed }
         where
-          synced : IsWriterLayoutRecovered (kept_state t.kept true false) path (writer_contents_bytes t.kept contents) ops.Sync (kept_state new true false)
+          synced : IsWriterLayoutRecovered (uncached_state t.kept true false) path (writer_contents_bytes t.kept contents) ops.Sync (uncached_state new true false)
           synced = arranged_before new ops.Sync k.synced
 
-          closed : IsWriterLayoutRecovered (kept_state t.kept true false) path (writer_contents_bytes t.kept contents) ops.Close (kept_state new true false)
+          closed : IsWriterLayoutRecovered (uncached_state t.kept true false) path (writer_contents_bytes t.kept contents) ops.Close (uncached_state new true false)
           closed = arranged_before new ops.Close k.closed
 
-          stored : StoresBytesAt (kept_state t.kept true false) path (writer_contents_bytes t.kept contents) (kept_state new true false)
+          stored : StoresBytesAt (uncached_state t.kept true false) path (writer_contents_bytes t.kept contents) (uncached_state new true false)
           stored = record {
             works = refl;
             sound = k.sound;
@@ -153,7 +153,7 @@ module _ (t : ThreadView) (root : ℕ) (rests : CanChangeRecovered t root) (path
             none_in_flight = k.none_in_flight;
           }
 
-      pub all_stored : (new : KeptThread) (r : Result (Unit {0}) Error) → HasFurtherCalls t.kept new → fault_count b.kept.history ≡ fault_count t.kept.history → OnOk r (fault_count new.history ≡ fault_count b.kept.history) → OnOk r (HasCommittedBytes b.kept path (writer_contents_bytes b.kept c) new) → OnOk r (StoresThreadBytes t.kept path (writer_contents_bytes t.kept contents) new)
+      pub all_stored : (new : KeptThread) (r : Result (Unit {0}) Error) → HasFurtherCalls t.kept new → fault_count b.kept.history ≡ fault_count t.kept.history → OnOk r (fault_count new.history ≡ fault_count b.kept.history) → OnOk r (HasCommittedBytes b.kept path (writer_contents_bytes b.kept c) new) → OnOk r (StoresOnThread t.kept path (writer_contents_bytes t.kept contents) new)
       all_stored new (Ok u) called same quiet k = stored_before new called (quiet ∙ same) k
       all_stored new (Err e) called same quiet k = tt
 
@@ -165,20 +165,20 @@ module _ (t : ThreadView) (root : ℕ) (rests : CanChangeRecovered t root) (path
           let same : (blocks : Blocks) → with_blocks blocks b.kept.disk ≡ with_blocks blocks t.kept.disk = λ blocks. λ i. record { block_size = leaves.shape.block_size i; page = leaves.shape.page i; order = leaves.shape.order i; profile = leaves.shape.profile i; blocks = blocks } in
           survives_then t.kept.disk t.kept.history b.kept.history new.history (disk_tree t.kept.disk t.kept.pairs) after leaves.at_worst second (survives_beside after)
           (λ clean. HoldsAtLosses-weaker (λ blocks left.
-          subst (λ (d : Disk). HasEither d (disk_tree t.kept.disk t.kept.pairs) (tree_with_change path (file_with_bytes (writer_contents_bytes t.kept contents)) (disk_tree t.kept.disk t.kept.pairs))) (same blocks)
-          (subst (λ (x : Tree). HasEither (with_blocks blocks b.kept.disk) x (tree_with_change path (file_with_bytes (writer_contents_bytes t.kept contents)) (disk_tree t.kept.disk t.kept.pairs))) tree_same
-          (subst (λ (x : Tree). HasEither (with_blocks blocks b.kept.disk) (disk_tree b.kept.disk b.kept.pairs) x) turn_same left))) (k clean))
+          subst (λ (d : Disk). HasEitherTree d (disk_tree t.kept.disk t.kept.pairs) (tree_with_change path (file_with_bytes (writer_contents_bytes t.kept contents)) (disk_tree t.kept.disk t.kept.pairs))) (same blocks)
+          (subst (λ (x : Tree). HasEitherTree (with_blocks blocks b.kept.disk) x (tree_with_change path (file_with_bytes (writer_contents_bytes t.kept contents)) (disk_tree t.kept.disk t.kept.pairs))) tree_same
+          (subst (λ (x : Tree). HasEitherTree (with_blocks blocks b.kept.disk) (disk_tree b.kept.disk b.kept.pairs) x) turn_same left))) (k clean))
 
 -- ---- seen from a tree
 
 module _ (thread : ThreadView) (root : ℕ) (writable : Bool) (now : TreeState) (kept : SoundUnlessFailed thread root writable) (view : thread_state thread writable ≡ now) (works : now.failed ≡ false) (may : now.writable ≡ true) (path : Path) (contents : WriterContents) where
-  pub stored_working : (new : ThreadView) → new.failed ≡ false → StoresThreadBytes thread.kept path (writer_contents_bytes thread.kept contents) new.kept → StoresBytesAt now path (writer_contents_bytes (kept_thread now) contents) (thread_state new writable)
+  pub stored_working : (new : ThreadView) → new.failed ≡ false → StoresOnThread thread.kept path (writer_contents_bytes thread.kept contents) new.kept → StoresBytesAt now path (writer_contents_bytes (kept_thread now) contents) (thread_state new writable)
   stored_working new still k =
-      subst (λ a. StoresBytesAt now path (writer_contents_bytes (kept_thread now) contents) (kept_state new.kept a new.failed)) (sym (ap (λ (s : TreeState). s.writable) view ∙ may))
-      (subst (λ b. StoresBytesAt now path (writer_contents_bytes (kept_thread now) contents) (kept_state new.kept true b)) (sym still)
-      (subst (λ (s : TreeState). StoresBytesAt s path (writer_contents_bytes (kept_thread s) contents) (kept_state new.kept true false)) (sym (seen_working thread root writable now kept view works may)) k.stored))
+      subst (λ a. StoresBytesAt now path (writer_contents_bytes (kept_thread now) contents) (uncached_state new.kept a new.failed)) (sym (ap (λ (s : TreeState). s.writable) view ∙ may))
+      (subst (λ b. StoresBytesAt now path (writer_contents_bytes (kept_thread now) contents) (uncached_state new.kept true b)) (sym still)
+      (subst (λ (s : TreeState). StoresBytesAt s path (writer_contents_bytes (kept_thread s) contents) (uncached_state new.kept true false)) (sym (seen_working thread root writable now kept view works may)) k.stored))
 
-  pub all_stored_working : (r : Result (Unit {0}) Error) (new : ThreadView) → OnOk r (StoresThreadBytes thread.kept path (writer_contents_bytes thread.kept contents) new.kept) → OnOk r (new.failed ≡ false) → OnOk r (StoresBytesAt now path (writer_contents_bytes (kept_thread now) contents) (thread_state new writable))
+  pub all_stored_working : (r : Result (Unit {0}) Error) (new : ThreadView) → OnOk r (StoresOnThread thread.kept path (writer_contents_bytes thread.kept contents) new.kept) → OnOk r (new.failed ≡ false) → OnOk r (StoresBytesAt now path (writer_contents_bytes (kept_thread now) contents) (thread_state new writable))
   all_stored_working (Ok x) new k still = stored_working new still k
   all_stored_working (Err e) new k still = tt
 

@@ -7,7 +7,7 @@ use Rattle.lfs_model.proofs.KeptStructs.{struct_stays}
 use Rattle.lfs_model.specs.session.History.{LeftByLatest}
 use Rattle.lfs_model.specs.session.Operations as ops
 use Rattle.lfs_operations.specs.declared.wear.MovePlan.{MovePlan}
-use Rattle.lfs_tree.proofs.Common.{ChangesTreeOrFails, HasErrorCause, IsFailedTree, KeptThread, Operation, Path, SoundUnlessFailed, StoresThreadBytes, ThreadView, Tree, TreeState, disk_tree, file_with_bytes, is_file, kept_state, kept_thread, option_map, recovered_from, same_path, shown_tree, thread_state, tree_with_change, writer_contents_bytes}
+use Rattle.lfs_tree.proofs.Common.{ChangesTreeOrFails, HasErrorCause, IsFailedTree, KeptThread, Operation, Path, SoundUnlessFailed, StoresOnThread, ThreadView, Tree, TreeState, disk_tree, file_with_bytes, is_file, uncached_state, kept_thread, option_map, recovered_from, same_path, shown_tree, thread_state, tree_with_change, writer_contents_bytes}
 use Rattle.lfs_tree.specs.OpenContents.{IsWriterLayoutRecovered, StoresBytesAt}
 use Rattle.lfs_tree.specs.TreeState.{SurvivesStops}
 use Rattle.lfs_tree.specs.Wear.{CanSpreadWear, HasSpreadWear, IsPlanned, SpreadsAfter, SpreadsOrFails}
@@ -54,10 +54,10 @@ pub record StoresOrFails (old : TreeState) (path : Path) (bytes : List ℕ) (res
   pub survives : SurvivesStops old new (tree_with_change path (file_with_bytes bytes) (shown_tree old))
 
 module _ (t : ThreadView) (root : ℕ) (writable : Bool) (now : TreeState) (kept : SoundUnlessFailed t root writable) (view : thread_state t writable ≡ now) (works : now.failed ≡ false) (may : now.writable ≡ true) (path : Path) (contents : WriterContents)
-    (b new : ThreadView) (r : Result (Unit {0}) Error) (w : ChangesTreeOrFails t (StoresThreadBytes t.kept path (writer_contents_bytes t.kept contents)) (tree_with_change path (file_with_bytes (writer_contents_bytes t.kept contents)) (disk_tree t.kept.disk t.kept.pairs)) r b)
+    (b new : ThreadView) (r : Result (Unit {0}) Error) (w : ChangesTreeOrFails t (StoresOnThread t.kept path (writer_contents_bytes t.kept contents)) (tree_with_change path (file_with_bytes (writer_contents_bytes t.kept contents)) (disk_tree t.kept.disk t.kept.pairs)) r b)
     (f : new ≡ record b { failed = is_err r || b.failed }) (plan : Option MovePlan) (planned : IsPlanned now 2 plan) where
   abbrev Stores : KeptThread → Type 0
-  Stores = StoresThreadBytes t.kept path (writer_contents_bytes t.kept contents)
+  Stores = StoresOnThread t.kept path (writer_contents_bytes t.kept contents)
 
   abbrev turn : Tree
   turn = tree_with_change path (file_with_bytes (writer_contents_bytes t.kept contents)) (disk_tree t.kept.disk t.kept.pairs)
@@ -87,7 +87,7 @@ module _ (t : ThreadView) (root : ℕ) (writable : Bool) (now : TreeState) (kept
       go (Ok u) k = can_spread now seen plan 2 planned.plan planned.sound k.sound k.geometry k.works k.writable k.recovered
 
   -- where the slots are, seen from the tree
-  laid : (op : ℕ → Operation) → IsWriterLayoutRecovered (kept_state t.kept true false) path (writer_contents_bytes t.kept contents) op (kept_state new.kept true false) → IsWriterLayoutRecovered now path bytes op seen
+  laid : (op : ℕ → Operation) → IsWriterLayoutRecovered (uncached_state t.kept true false) path (writer_contents_bytes t.kept contents) op (uncached_state new.kept true false) → IsWriterLayoutRecovered now path bytes op seen
   laid op k = subst (λ (s : TreeState). IsWriterLayoutRecovered s path (writer_contents_bytes (kept_thread s) contents) op seen) view k
 
   pub stores_moving : (s : Result (Unit {0}) Error) (last : TreeState) → SpreadsAfter seen plan r s last → StoresOrFails now path bytes s last

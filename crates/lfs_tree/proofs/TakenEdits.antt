@@ -1,7 +1,7 @@
 -- How many blocks an operation takes: by its edits, and on the whole.
 use Rattle.std.proofs.Common.{ℕ, ◌≡◌, ◌≤◌, ◌+◌, ◌*◌, ◌∙◌, inr, List, [], ◌∷◌, ◌++◌, length, Option, Some, None, refl, sym, ap, subst, arith, flat_map, length-append}
 use Rattle.std.specs.Prelude.{sum_by}
-use Rattle.lfs_tree.proofs.Common.{recursion_from_All, sum_by-append, sum_by-cons, last_name, attributes_with, attributes_without, Disk, FitsPair, IsDirectoryGone, IsLayoutRecovered, IsLayout, Name, Operation, Session, slot_of, pair_with_slots, pairs_without_moved, FitsInPair, Slot, slot_size, path_or_root, Pair, pairs_gstate, count_before_root, Node, Path, Tree, Each, each_append, each_left, each_right, IsWritable, SameGeometry, used_blocks}
+use Rattle.lfs_tree.proofs.Common.{recursion_from_All, sum_by-append, sum_by-cons, last_name, attributes_with, attributes_without, Disk, FitsPair, IsUnreachedOrRemoved, IsLayoutRecovered, IsLayout, Name, Operation, Session, slot_of, pair_with_slots, pairs_without_moved, FitsInPair, Slot, slot_size, path_or_root, Pair, pairs_gstate, count_before_root, Node, Path, Tree, Each, each_append, each_left, each_right, IsWritable, SameGeometry, used_blocks}
 use Rattle.lfs_model.specs.session.Operations as ops
 use Rattle.lfs_model.specs.session.SlotEdits.{RemovesSlot, AddsFile, EditsSlots, ReplacesSlots, AddsDirectory, MovesSlot, ReplacesSlot, directory_slot, file_slot}
 use Rattle.lfs_operations.proofs.RawSlots.{fewer_attributes}
@@ -224,7 +224,7 @@ module _ (disk : Disk) where
     pub taken_laid_out : total size qs ≤ total size (pairs_without_moved ps) + operation_room op
     taken_laid_out =
         let d = drafted new ps tree op laid.fresh (pairs_without_moved ps) laid.drafts fit_here laid.edits in
-        let few = all_few disk (IsDirectoryGone ps op) (count_before_root ps) None laid.drafts laid.parts laid.stand d.cuts d.few in
+        let few = all_few disk (IsUnreachedOrRemoved ps op) (count_before_root ps) None laid.drafts laid.parts laid.stand d.cuts d.few in
         let same = d.same in
         let taken = d.taken in
         let all = parts_total in
@@ -233,7 +233,7 @@ module _ (disk : Disk) where
   -- a recovery adds no pair, and cuts none
   pub recovered_fit : (new : Disk) (ps qs : List Pair) (tree : Tree) → IsLayout disk ps (asked_in tree) ops.Recover new qs → Each (FitsPair disk) qs
   recovered_fit new ps qs tree laid =
-      let parts = parts_fit disk (IsDirectoryGone ps ops.Recover) (count_before_root ps) None laid.drafts laid.parts laid.stand in
+      let parts = parts_fit disk (IsUnreachedOrRemoved ps ops.Recover) (count_before_root ps) None laid.drafts laid.parts laid.stand in
       let joined = subst (Each (FitsPair disk)) laid.joined parts in
       let none = laid.edits.0 in
       subst (Each (FitsPair disk)) (sym (laid.is ∙ ap (λ (z : List Pair). laid.front ++ (z ++ laid.back)) none)) joined

@@ -3,12 +3,12 @@ use Rattle.std.proofs.Common.{ℕ, ◌≡◌, ◌∙◌, ◌||◌, Bool, false, 
 use Rattle.std.specs.Prelude.{Option, IfErr, OnErr, OnOk, is_err}
 use Rattle.lfs_device.specs.declared.error.Error.{Error}
 use Rattle.lfs_model.specs.session.Operations as ops
-use Rattle.lfs_tree.proofs.Common.{Operation, zero_gstate, pairs_gstate, Tree, disk_tree, KeptThread, ThreadView, IsOperationCall, tree_after_call, HasFurtherCalls, HasSoundImage, HasAppliedCall, CanChangeRecovered, ChangesTreeOrFails, AppliesOrFails, SurvivesEither, HasThreadCause, SoundUnlessFailed, IsSoundWithRoot, kept_state, thread_state, HasRecovered, IsFailedTree, IsApplied, HasErrorCause, IsSoundState, TreeState, without_cache, kept_thread, shown_tree}
+use Rattle.lfs_tree.proofs.Common.{Operation, zero_gstate, pairs_gstate, Tree, disk_tree, KeptThread, ThreadView, IsOperationCall, tree_after_call, HasFurtherCalls, HasSoundImage, HasAppliedCall, CanChangeRecovered, ChangesTreeOrFails, AppliesOrFails, SurvivesEither, HasThreadCause, SoundUnlessFailed, IsSoundWithRoot, uncached_state, thread_state, HasRecovered, IsFailedTree, IsApplied, HasErrorCause, IsSoundState, TreeState, without_cache, kept_thread, shown_tree}
 use Rattle.lfs_tree.specs.TreeCalls as calls
 use Rattle.lfs_tree.specs.TreeCalls.{TreeCall, AppliesCallOrFails}
 use Rattle.lfs_operations.specs.declared.wear.MovePlan.{MovePlan}
 use Rattle.lfs_tree.specs.KeptFiles.{operation_room}
-use Rattle.lfs_tree.specs.TreeState.{IsAppliedTo, LeavesOthersAlone, SurvivesStops}
+use Rattle.lfs_tree.specs.TreeState.{IsAppliedTo, KeepsOthersIfRecovered, SurvivesStops}
 use Rattle.lfs_tree.specs.Wear.{CanSpreadWear, IsPlanned, SpreadsAfter, SpreadsOrFails}
 use Rattle.lfs_tree.proofs.Relocated.{alone_moved, applied_moved, breaks_moved, can_spread, reports_moved, survives_moved}
 use Rattle.lfs_tree.proofs.NotedErrors.{noted, noted_failed, noted_held}
@@ -51,10 +51,10 @@ module _ (t : ThreadView) (writable : Bool) (now : TreeState) (view : thread_sta
       done (Err e) k still = tt
       done (Ok x) k still = λ op is.
           subst (λ o. IsApplied (thread_state t writable) o (thread_state new writable)) (sym is)
-          (subst (λ (s : TreeState). IsAppliedTo s ops.Recover (kept_state new.kept writable new.failed)) (ap₂ (λ a b. kept_state t.kept a b) (sym may) (sym works))
-          (subst (λ (s : TreeState). IsAppliedTo (kept_state t.kept true false) ops.Recover s) (ap₂ (λ a b. kept_state new.kept a b) (sym may) (sym still)) k.carries))
+          (subst (λ (s : TreeState). IsAppliedTo s ops.Recover (uncached_state new.kept writable new.failed)) (ap₂ (λ a b. uncached_state t.kept a b) (sym may) (sym works))
+          (subst (λ (s : TreeState). IsAppliedTo (uncached_state t.kept true false) ops.Recover s) (ap₂ (λ a b. uncached_state new.kept a b) (sym may) (sym still)) k.carries))
 
-      alone : (r : Result X Error) → OnOk r ((op : Operation) → IsOperationCall calls.Recover op → LeavesOthersAlone (thread_state t writable) op (thread_state new writable))
+      alone : (r : Result X Error) → OnOk r ((op : Operation) → IsOperationCall calls.Recover op → KeepsOthersIfRecovered (thread_state t writable) op (thread_state new writable))
       alone (Err e) = tt
       alone (Ok x) = λ op is none. absurd (left none)
 
@@ -62,7 +62,7 @@ module _ (t : ThreadView) (writable : Bool) (now : TreeState) (view : thread_sta
   settles_seen = subst (λ (s : TreeState). OnOk r (HasRecovered (kept_thread s) new.kept)) view w.done
 
 -- where nothing is left nothing is done
-leaves_itself : (t : TreeState) (op : Operation) → LeavesOthersAlone t op t
+leaves_itself : (t : TreeState) (op : Operation) → KeepsOthersIfRecovered t op t
 leaves_itself t op none files = record {
   files = lists_from t.disk t.disk t.pairs (λ b some. refl);
   pairs = λ p here there other. (refl, refl);
@@ -125,11 +125,11 @@ module _ (old mid : TreeState) (works : old.failed ≡ false) (may : old.writabl
   pub settled_here : HasRecovered (kept_thread old) t.kept
   settled_here = subst (λ (k : KeptThread). HasRecovered (kept_thread old) k) (sym kept_is) settled
 
-  bare_is : without_cache old ≡ kept_state (kept_thread old) true false
-  bare_is = ap₂ (λ a b. kept_state (kept_thread old) a b) may works
+  bare_is : without_cache old ≡ uncached_state (kept_thread old) true false
+  bare_is = ap₂ (λ a b. uncached_state (kept_thread old) a b) may works
 
   -- what is asked for
-  pub allowed : (P : TreeState → Type 0) → P (without_cache old) → P (kept_state (kept_thread old) true false)
+  pub allowed : (P : TreeState → Type 0) → P (without_cache old) → P (uncached_state (kept_thread old) true false)
   allowed P h = subst P bare_is h
 
   pub rests_behind : CanChangeRecovered t root
@@ -155,11 +155,11 @@ module _ (old mid : TreeState) (works : old.failed ≡ false) (may : old.writabl
         dones : (r : Result X Error) → OnOk r (HasAppliedCall t.kept call new.kept) → OnOk r (new.failed ≡ false) → OnOk r ((op : Operation) → IsOperationCall call op → IsApplied old op (thread_state new writable))
         dones (Err e) k still = tt
         dones (Ok x) k still = λ op does.
-            subst (λ (s : TreeState). IsAppliedTo s op (kept_state new.kept writable new.failed)) (sym bare_is)
-            (subst (λ (s : TreeState). IsAppliedTo (kept_state (kept_thread old) true false) op s) (ap₂ (λ a b. kept_state new.kept a b) (sym writes) (sym still))
+            subst (λ (s : TreeState). IsAppliedTo s op (uncached_state new.kept writable new.failed)) (sym bare_is)
+            (subst (λ (s : TreeState). IsAppliedTo (uncached_state (kept_thread old) true false) op s) (ap₂ (λ a b. uncached_state new.kept a b) (sym writes) (sym still))
             (carried_after (kept_thread old) t.kept settled_here new.kept op (plain op does).0 (plain op does).1 (k.carries op does)).applied)
 
-        alone : (r : Result X Error) → OnOk r (HasAppliedCall t.kept call new.kept) → OnOk r ((op : Operation) → IsOperationCall call op → LeavesOthersAlone old op (thread_state new writable))
+        alone : (r : Result X Error) → OnOk r (HasAppliedCall t.kept call new.kept) → OnOk r ((op : Operation) → IsOperationCall call op → KeepsOthersIfRecovered old op (thread_state new writable))
         alone (Err e) k = tt
         alone (Ok x) k = λ op does. spares_after (kept_thread old) t.kept settled_here new.kept op (k.spares op does)
 
@@ -190,8 +190,8 @@ module _ (old mid : TreeState) (works : old.failed ≡ false) (may : old.writabl
       further : HasFurtherCalls (kept_thread old) new.kept
       further = called_after (kept_thread old) t.kept settled_here new.kept made.called
 
-      sound_seen : new.failed ≡ false → IsSoundState (kept_state new.kept true false) → IsSoundState seen
-      sound_seen still k = subst IsSoundState (ap₂ (λ a c. kept_state new.kept a c) (sym writes) (sym still)) k
+      sound_seen : new.failed ≡ false → IsSoundState (uncached_state new.kept true false) → IsSoundState seen
+      sound_seen still k = subst IsSoundState (ap₂ (λ a c. uncached_state new.kept a c) (sym writes) (sym still)) k
 
       pub may_move : OnOk r (CanSpreadWear seen plan)
       may_move = go r made.works made.stands

@@ -1,9 +1,9 @@
 -- The contents of an open writer over a file that an operation keeps.
 use Rattle.std.proofs.Common.{ℕ, ◌≡◌, ◌≤◌, ◌<◌, ◌⊎◌, ⊎_elim, inl, inr, false, List, [], ◌++◌, length, get_or, slice_get, Some, refl, sym, ap, ◌∙◌, subst, arith}
 use Rattle.std.specs.Prelude.{Contains}
-use Rattle.lfs_tree.proofs.Common.{Contains-append_cases, slice_get-get_or, GrowingList, unwritten_block, growing_size_with, contents_list_blocks, Blocks, block_bytes, BlockStates, BlockState, IsFree, IsInFlight, IsUsedBlock, in_flight_count, Free, InFlight, Used, SameGeometry, blocks_to_head, block_count_for, Operation, Path, few_flying, KeepsFileAt, AreTreeContents, writer_contents_bytes, IsApplied, IsSoundState, KeepsInFlight, TreeState, without_cache, kept_thread, IsTakenWritten, IsListOrEmpty, blocks_of_list, AreSoundContents, contents_bytes, contents_form, CanEndOver, bytes_over_base, contents_blocks}
+use Rattle.lfs_tree.proofs.Common.{Contains-append_cases, slice_get-get_or, GrowingList, unwritten_block, growing_size_with, contents_list_blocks, Blocks, block_bytes, BlockStates, BlockState, IsFree, IsInFlight, IsUsedBlock, in_flight_count, Free, InFlight, Used, SameGeometry, blocks_to_head, block_count_for, Operation, Path, few_flying, KeepsFileAt, AreTreeContents, writer_contents_bytes, IsApplied, IsSoundState, KeepsInFlight, TreeState, without_cache, kept_thread, IsTakenNotPending, IsListOrEmpty, blocks_of_list, AreSoundContents, contents_bytes, contents_form, CanEndOver, bytes_over_base, contents_blocks}
 use Rattle.lfs_device.specs.declared.geometry.Geometry.{Geometry}
-use Rattle.lfs_file.specs.Growing.{kept_blocks as blocks_kept, growing_size}
+use Rattle.lfs_file.specs.Growing.{lasting_blocks as blocks_kept, growing_size}
 use Rattle.lfs_model.specs.layers.Keeping.{takes_away}
 use Rattle.lfs_tree.proofs.ContentsStay.{StayAs, base_list, bytes_stay, hand_bytes_stay, hand_stays, hand_still, list_stays, of_all, stored_stays}
 use Rattle.lfs_tree.proofs.KeptFiles.{list_used}
@@ -93,7 +93,7 @@ held_states map d now (InHand hand) is b has =
     let list : CanEndOver map d now.block_size hand.list hand.base hand.shared = subst (λ (k : Geometry). CanEndOver map d k.block_size hand.list hand.base hand.shared) (sym is.geometry) is.list in
     ⊎_elim (own_state map d now.block_size hand.list hand.base hand.shared list b)
     (λ base. state_of map b (let l = base_below d now.block_size hand.base list.begun.list b base in omega (arith, l, list.begun.marked.count))
-    (of_all (λ x. IsTakenWritten map (unwritten_block hand.list) x) (blocks_of_list d now.block_size hand.base.head hand.base.size) list.begun.apart b base).0)
+    (of_all (λ x. IsTakenNotPending map (unwritten_block hand.list) x) (blocks_of_list d now.block_size hand.base.head hand.base.size) list.begun.apart b base).0)
     (Contains-append_cases (blocks_kept d hand.list) (blocks_of_list d now.block_size hand.base.head hand.base.size) b has)
 
 -- ---- the contents of a writer

@@ -35,7 +35,7 @@ abbrev pub blocks_of_lists : KeptThread → List StoredList → List ℕ
 blocks_of_lists t lists = flat_map (stored_list_blocks t) lists
 
 -- The image hasn't the files of these lists any more. The lists are on the disk, and their blocks are still used.
-pub record CanFreeDropped (t : KeptThread) (lists : List StoredList) : Type 0 where
+pub record CanFreeLists (t : KeptThread) (lists : List StoredList) : Type 0 where
   pub ready : IsReadyUnsettled t (blocks_of_lists t lists) []
   pub once : (b : ℕ) → number_occurrences b (used_blocks t.disk t.pairs) + number_occurrences b (blocks_of_lists t lists) ≤ 1
   pub stand : AllByRecursion (λ list. IsListOrEmpty t.disk.blocks t.disk.block_size list.head list.size) lists

@@ -2,7 +2,7 @@
 use Rattle.std.specs.Prelude.{ℕ, ◌≡◌, ◌⊎◌, ◌<◌, true, false, List, [], ◌∷◌, ◌++◌, length, None, Result, IfErr, IsErrOf, OnOk}
 use Rattle.lfs_device.specs.declared.error.Error.{Error}
 use Rattle.lfs_device.specs.declared.error.Error.TheVariants.{Io, NoMemory}
-use Rattle.lfs_model.specs.crash.Frame.{LeavesOthers}
+use Rattle.lfs_model.specs.crash.Frame.{KeepsOthers}
 use Rattle.lfs_model.specs.session.TreeEdits.{tree_renaming, without_prefix}
 use Rattle.lfs_model.specs.session.History.{fault_count}
 use Rattle.lfs_model.specs.session.InDirectory.{BelongsAt, IsPlaceOf}
@@ -93,7 +93,7 @@ CanMoveOntoFound t from to source _ name = ⊥
 
 -- the rename left alone the blocks of files and of pairs that it doesn't concern
 abbrev pub SparesInRename : KeptThread → Path → Path → KeptThread → Type 0
-SparesInRename old from to new = (s : Session) (given to_given : List ℕ) → path_or_root given ≡ from → path_or_root to_given ≡ to → LeavesOthers old.disk old.pairs s (ops.Rename given to_given) new.disk new.pairs
+SparesInRename old from to new = (s : Session) (given to_given : List ℕ) → path_or_root given ≡ from → path_or_root to_given ≡ to → KeepsOthers old.disk old.pairs s (ops.Rename given to_given) new.disk new.pairs
 
 -- The tree has the entry at the other path, the other slots are where they should be, and the blocks are the image's again. So a
 -- rename of the one path to the other is completed. The root directory begins where it did.

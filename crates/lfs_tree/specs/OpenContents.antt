@@ -3,7 +3,7 @@ use Rattle.std.specs.Prelude.{ℕ, ◌≡◌, ◌≢◌, ◌+◌, ◌^◌, ◌<�
 use Rattle.lfs_device.specs.declared.error.Error.{Error}
 use Rattle.lfs_model.specs.session.TreeEdits.{tree_with_change, is_file, same_path}
 use Rattle.lfs_model.specs.layers.BlockSets.{in_flight_count}
-use Rattle.lfs_model.specs.crash.Frame.{LeavesOthers, changed_paths}
+use Rattle.lfs_model.specs.crash.Frame.{KeepsOthers, changed_paths}
 use Rattle.lfs_model.specs.declared.limits.Profile.{Profile}
 use Rattle.lfs_model.specs.format.Disk.{SameGeometry, disk_block, block_count, inline_limit}
 use Rattle.lfs_model.specs.session.History.{CallEvent, fault_count}
@@ -12,7 +12,7 @@ use Rattle.lfs_model.specs.session.Moved.{IsLayoutMoved}
 use Rattle.lfs_model.specs.session.Operations as ops
 use Rattle.lfs_model.specs.session.Operations.{Operation}
 use Rattle.lfs_model.specs.session.Recovery.{IsRecovered}
-use Rattle.lfs_model.specs.session.Session.{OpenFilesByNumber, Session, FileWriter, list_blocks_of}
+use Rattle.lfs_model.specs.session.Session.{OpenFilesByNumber, Session, FileWriter, list_block_count}
 use Rattle.lfs_model.specs.format.Slots.{zero_gstate}
 use Rattle.lfs_model.specs.session.Effects.{file_with_bytes}
 use Rattle.lfs_model.specs.format.Thread.{pairs_gstate}
@@ -36,7 +36,7 @@ abbrev pub writer_contents_bytes : KeptThread → WriterContents → List ℕ
 writer_contents_bytes t contents = contents_bytes t.disk.blocks t.disk.block_size contents
 
 -- a writer's contents have these bytes, in that form
-pub record HasFormBytes (t : TreeState) (these : List ℕ) (shape : ContentsForm) (contents : WriterContents) : Type 0 where
+pub record HasBytesInForm (t : TreeState) (these : List ℕ) (shape : ContentsForm) (contents : WriterContents) : Type 0 where
   pub bytes : writer_contents_bytes (kept_thread t) contents ≡ these
   pub form : contents_form contents ≡ shape
 
@@ -92,7 +92,7 @@ pub record CanStoreContentsIn (t : TreeState) (path : Path) (contents : WriterCo
   pub over : AreTreeContents t path contents
   pub form : InlineWithinLimit (inline_limit t.disk.profile t.disk.block_size) (contents_form contents)
   pub end : length (tree_summary t).used + finish_room t.disk.block_size (contents_form contents) ≤ block_count t.disk
-  pub room : length (tree_summary t).used + list_blocks_of t.disk.profile t.disk.block_size (length (writer_contents_bytes (kept_thread t) contents)) + 2 ≤ block_count t.disk
+  pub room : length (tree_summary t).used + list_block_count t.disk.profile t.disk.block_size (length (writer_contents_bytes (kept_thread t) contents)) + 2 ≤ block_count t.disk
 
 abbrev pub CanStoreContents : TreeState → Path → WriterContents → Type 0
 CanStoreContents t path contents = CanStoreContentsIn (without_cache t) path contents
@@ -142,7 +142,7 @@ ConcernsOnlyPath s op path = changed_paths s op ≡ path ∷ []
 
 -- The file at the path has these bytes, without a fault of the device, and nothing is in flight any more. Other pairs and all
 -- lists keep their bytes.
-pub record StoresImageBytes (old : TreeState) (path : Path) (bytes : List ℕ) (new : TreeState) : Type 0 where
+pub record StoresFileBytes (old : TreeState) (path : Path) (bytes : List ℕ) (new : TreeState) : Type 0 where
   pub works : new.failed ≡ false
   pub sound : IsSoundState new
   pub writable : new.writable ≡ true
@@ -157,8 +157,8 @@ pub record StoresImageBytes (old : TreeState) (path : Path) (bytes : List ℕ) (
   pub lists : (q : Path) → is_file (shown_tree old q) ≡ true → same_path path q ≡ false → list_blocks_at (kept_thread new) q ≡ list_blocks_at (kept_thread old) q
   pub synced : IsWriterLayoutMoved old path bytes ops.Sync calls new
   pub closed : IsWriterLayoutMoved old path bytes ops.Close calls new
-  pub alone : (files : OpenFilesByNumber) (op : Operation) → ConcernsOnlyPath (record { tree = shown_tree old; files = files }) op path → LeavesOthers old.disk old.pairs (record { tree = shown_tree old; files = files }) op new.disk new.pairs
+  pub alone : (files : OpenFilesByNumber) (op : Operation) → ConcernsOnlyPath (record { tree = shown_tree old; files = files }) op path → KeepsOthers old.disk old.pairs (record { tree = shown_tree old; files = files }) op new.disk new.pairs
   pub none_in_flight : in_flight_count new.map ≡ 0
 
 abbrev pub StoresBytesAt : TreeState → Path → List ℕ → TreeState → Type 0
-StoresBytesAt old path bytes new = StoresImageBytes (without_cache old) path bytes (without_cache new)
+StoresBytesAt old path bytes new = StoresFileBytes (without_cache old) path bytes (without_cache new)

@@ -31,7 +31,7 @@ abbrev pub DirectoriesBegin : List Pair → List NamedStruct → Type 0
 DirectoriesBegin ps shapes = AllByRecursion (λ (s : NamedStruct). HasFirstIfDirectory ps s.struct) shapes
 
 -- The numbers that have P are marked now, and those of them that weren't before are pending.
-pub record QueuesMarked (P : ℕ → Type 0) (old : List Bool) (waiting : List ℕ) (new : List Bool) (pending : List ℕ) : Type 0 where
+pub record MarksAndQueues (P : ℕ → Type 0) (old : List Bool) (waiting : List ℕ) (new : List Bool) (pending : List ℕ) : Type 0 where
   pub len : length new ≡ length old
   pub stay : (n : ℕ) → IsMarkedReached old n → IsMarkedReached new n
   pub marked : (n : ℕ) → P n → IsMarkedReached new n

@@ -16,7 +16,7 @@ use Rattle.lfs_operations.specs.Ready.{IsReadyImage, KeepsRootNumber}
 use Rattle.lfs_operations.specs.EndingMove.{KeepsRecoveryLayouts}
 use Rattle.lfs_thread.specs.Kept.{KeptThread}
 use Rattle.lfs_tree.specs.TreeChanges.{AppliesOperation}
-use Rattle.lfs_tree.specs.RootedThreads.{kept_state}
+use Rattle.lfs_tree.specs.RootedThreads.{uncached_state}
 use Rattle.lfs_tree.specs.KeptFiles.{KeepsFileAt}
 use Rattle.lfs_tree.specs.TreeState.{KeepsInFlight}
 
@@ -37,7 +37,7 @@ pub record HasDroppedUnreached (old new : KeptThread) : Type 0 where
   pub completed : (s : Session) → s.tree ≡ disk_tree old.disk old.pairs → CompletesOperation old.disk old.pairs s ops.Recover new.disk new.pairs
   pub fewer : (b : ℕ) → number_occurrences b (used_blocks new.disk new.pairs) ≤ number_occurrences b (used_blocks old.disk old.pairs)
   pub keeps : (path : Path) → is_file (disk_tree old.disk old.pairs path) ≡ true → KeepsFileAt old new path
-  pub flight : KeepsInFlight (kept_state old true false) (kept_state new true false)
+  pub flight : KeepsInFlight (uncached_state old true false) (uncached_state new true false)
 
 -- What a loss of power left is ended, without a fault of the device. Slots that are laid out after a further recovery are laid
 -- out after one of the old image, and no more blocks are used. So an operation on the new image is one on the old. Where nothing

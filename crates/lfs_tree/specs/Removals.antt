@@ -2,7 +2,7 @@
 use Rattle.std.specs.Prelude.{ℕ, ◌≡◌, ◌≤◌, ◌+◌, true, List, [], ◌∷◌, ◌++◌}
 use Rattle.lfs_tree.specs.SettledFiles.{stored_list_blocks}
 use Rattle.lfs_model.specs.declared.order.NameOrder.{NameOrder}
-use Rattle.lfs_model.specs.crash.Frame.{LeavesOthers}
+use Rattle.lfs_model.specs.crash.Frame.{KeepsOthers}
 use Rattle.lfs_model.specs.session.Operations as ops
 use Rattle.lfs_model.specs.session.Session.{Session}
 use Rattle.lfs_model.specs.session.Refusals.{path_or_root}
@@ -72,4 +72,4 @@ pub record HasRemovedEntry (old : KeptThread) (path : Path) (new : KeptThread) :
 
 -- the removal left alone the blocks of files and of pairs that it doesn't concern
 abbrev pub SparesInRemoval : KeptThread → Path → KeptThread → Type 0
-SparesInRemoval old path new = (s : Session) (given : List ℕ) → path_or_root given ≡ path → LeavesOthers old.disk old.pairs s (ops.Remove given) new.disk new.pairs
+SparesInRemoval old path new = (s : Session) (given : List ℕ) → path_or_root given ≡ path → KeepsOthers old.disk old.pairs s (ops.Remove given) new.disk new.pairs

@@ -5,16 +5,16 @@ use Rattle.lfs_thread.specs.Kept.{KeptThread, ThreadView}
 use Rattle.lfs_tree.specs.TreeState.{TreeState, IsSoundState}
 
 -- with nothing cached
-abbrev pub kept_state : KeptThread → Bool → Bool → TreeState
-kept_state t writable failed = record { disk = t.disk; history = t.history; pairs = t.pairs; map = t.map; writable = writable; failed = failed; cache = [] }
+abbrev pub uncached_state : KeptThread → Bool → Bool → TreeState
+uncached_state t writable failed = record { disk = t.disk; history = t.history; pairs = t.pairs; map = t.map; writable = writable; failed = failed; cache = [] }
 
 abbrev pub thread_state : ThreadView → Bool → TreeState
-thread_state t writable = record (kept_state t.kept writable t.failed) { cache = t.cache }
+thread_state t writable = record (uncached_state t.kept writable t.failed) { cache = t.cache }
 
 -- the thread works, and is that of an accepted image, whose root directory begins with that pair
 pub record IsSoundWithRoot (t : ThreadView) (root : ℕ) (writable : Bool) : Type 0 where
   pub works : t.failed ≡ false
-  pub sound : IsSoundState (kept_state t.kept writable false)
+  pub sound : IsSoundState (uncached_state t.kept writable false)
   pub root_is : root ≡ count_before_root t.kept.pairs
 
 -- so, unless it has failed

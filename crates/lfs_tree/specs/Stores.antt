@@ -7,7 +7,7 @@ use Rattle.lfs_model.specs.format.Disk.{Disk, disk_block, inline_limit}
 use Rattle.lfs_model.specs.session.Layout.{IsLayout}
 use Rattle.lfs_model.specs.session.Operations as ops
 use Rattle.lfs_model.specs.session.Operations.{Operation}
-use Rattle.lfs_model.specs.session.Session.{OpenFilesByNumber, FileWriter, list_blocks_of}
+use Rattle.lfs_model.specs.session.Session.{OpenFilesByNumber, FileWriter, list_block_count}
 use Rattle.lfs_model.specs.format.Slots.{Struct, Inline, Ctz, Branch, zero_gstate}
 use Rattle.lfs_model.specs.session.Effects.{file_with_bytes}
 use Rattle.lfs_model.specs.format.Thread.{Pair, pairs_gstate}
@@ -22,7 +22,7 @@ use Rattle.lfs_operations.specs.Making.{HasFreeBlocks}
 use Rattle.lfs_operations.specs.Storing.{IsDirtyWriter}
 use Rattle.lfs_thread.specs.Kept.{KeptThread}
 use Rattle.lfs_tree.specs.SlotChanges.{IsPathSpot}
-use Rattle.lfs_tree.specs.RootedThreads.{kept_state}
+use Rattle.lfs_tree.specs.RootedThreads.{uncached_state}
 use Rattle.lfs_tree.specs.KeptFiles.{KeepsOtherFiles}
 use Rattle.lfs_tree.specs.OpenContents.{AreThreadContents, IsWriterLayoutRecovered, StoresBytesAt, writer_contents_bytes}
 use Rattle.lfs_tree.specs.TreeState.{IsSoundState}
@@ -99,7 +99,7 @@ pub record CanPutContents (t : KeptThread) (spot : SlotPosition) (contents : Wri
 pub record CanCommitContents (t : KeptThread) (path : Path) (contents : WriterContents) : Type 0 where
   pub over : AreThreadContents t path contents
   pub finished : IsFinishedForm (inline_limit t.disk.profile t.disk.block_size) (contents_form contents)
-  pub room : used_count t.map + list_blocks_of t.disk.profile t.disk.block_size (length (writer_contents_bytes t contents)) + 2 ≤ length t.map
+  pub room : used_count t.map + list_block_count t.disk.profile t.disk.block_size (length (writer_contents_bytes t contents)) + 2 ≤ length t.map
 
 -- slots are where the operation on a dirty writer of the file, with these contents, puts them
 abbrev pub IsWriterLayout : KeptThread → Path → List ℕ → (ℕ → Operation) → KeptThread → Type 0
@@ -115,7 +115,7 @@ pub record ChangesPathPair (disk : Disk) (ps : List Pair) (path : Path) (new : D
 
 -- the file at the path has these bytes, nothing is in flight, and the root directory begins where it did
 pub record HasCommittedBytes (old : KeptThread) (path : Path) (bytes : List ℕ) (new : KeptThread) : Type 0 where
-  pub sound : IsSoundState (kept_state new true false)
+  pub sound : IsSoundState (uncached_state new true false)
   pub fits : IsWritable new.disk new.pairs
   pub settled : pairs_gstate new.pairs ≡ zero_gstate
   pub root : KeepsRootNumber old new
@@ -127,7 +127,7 @@ pub record HasCommittedBytes (old : KeptThread) (path : Path) (bytes : List ℕ)
   pub none_in_flight : in_flight_count new.map ≡ 0
 
 -- the same, of a tree, and no pair moves after it
-pub record StoresThreadBytes (old : KeptThread) (path : Path) (bytes : List ℕ) (new : KeptThread) : Type 0 where
-  pub stored : StoresBytesAt (kept_state old true false) path bytes (kept_state new true false)
-  pub synced : IsWriterLayoutRecovered (kept_state old true false) path bytes ops.Sync (kept_state new true false)
-  pub closed : IsWriterLayoutRecovered (kept_state old true false) path bytes ops.Close (kept_state new true false)
+pub record StoresOnThread (old : KeptThread) (path : Path) (bytes : List ℕ) (new : KeptThread) : Type 0 where
+  pub stored : StoresBytesAt (uncached_state old true false) path bytes (uncached_state new true false)
+  pub synced : IsWriterLayoutRecovered (uncached_state old true false) path bytes ops.Sync (uncached_state new true false)
+  pub closed : IsWriterLayoutRecovered (uncached_state old true false) path bytes ops.Close (uncached_state new true false)

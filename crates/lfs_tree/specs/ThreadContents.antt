@@ -8,7 +8,7 @@ use Rattle.lfs_model.specs.session.History.{LossLeavesAtWorst, HoldsAtLosses, fa
 use Rattle.lfs_thread.specs.Beside.{HasGeometry}
 use Rattle.lfs_thread.specs.Kept.{KeptThread}
 use Rattle.lfs_thread.specs.ThreadSteps.{SameGeometryAs}
-use Rattle.lfs_file.specs.Contents.{HasTruncationRoom, HasWriteRoom, HaveForm, AreSoundContents, finish_room, contents_form}
+use Rattle.lfs_file.specs.Contents.{HasTruncationRoom, HasWriteRoom, HaveBytesInForm, AreSoundContents, finish_room, contents_form}
 use Rattle.lfs_file.specs.Form.{ContentsForm}
 use Rattle.lfs_file.specs.Hand.{KeepsUsedBlocks, KeepsUsedBytes, UsedStayUnprogrammed}
 use Rattle.lfs_file.specs.BlockOwners.{contents_blocks}
@@ -24,7 +24,7 @@ pub record AreOnThread (t : KeptThread) (contents : WriterContents) : Type 0 whe
 pub record HaveThreadForm (t : KeptThread) (contents : WriterContents) (bytes : List ℕ) (shape : ContentsForm) : Type 0 where
   pub geometry : Geometry
   pub divided : HasGeometry geometry t.disk
-  pub has : HaveForm t.map t.disk.blocks geometry contents bytes shape
+  pub has : HaveBytesInForm t.map t.disk.blocks geometry contents bytes shape
 
 -- bytes may be written there
 pub record CanWrite (t : KeptThread) (contents : WriterContents) (limit place count : ℕ) : Type 0 where

@@ -8,7 +8,7 @@ use Rattle.lfs_model.specs.session.Refusals.{path_or_root}
 use Rattle.lfs_model.specs.tree.Tree.{DirectoryNode, FileNode, Path, Tree}
 use Rattle.lfs_model.specs.session.TreeEdits.{tree_creating, tree_removing, tree_renaming}
 use Rattle.lfs_tree.specs.SlotChanges.{tree_with_attributes}
-use Rattle.lfs_tree.specs.TreeState.{IsFailedTree, IsApplied, HasErrorCause, LeavesOthersAlone, TreeState, SurvivesStops, shown_tree}
+use Rattle.lfs_tree.specs.TreeState.{IsFailedTree, IsApplied, HasErrorCause, KeepsOthersIfRecovered, TreeState, SurvivesStops, shown_tree}
 
 pub data TreeCall : Type 0 where
   Mkdir : (path : Path) → TreeCall
@@ -43,7 +43,7 @@ tree_after_call Recover t = t
 -- call leaves the tree from before, or that of the call.
 pub record AppliesCallOrFails {X : Type 0} (old : TreeState) (call : TreeCall) (result : Result X Error) (new : TreeState) : Type 0 where
   pub done : OnOk result ((op : Operation) → IsOperationCall call op → IsApplied old op new)
-  pub alone : OnOk result ((op : Operation) → IsOperationCall call op → LeavesOthersAlone old op new)
+  pub alone : OnOk result ((op : Operation) → IsOperationCall call op → KeepsOthersIfRecovered old op new)
   pub broken : OnErr result (IsFailedTree old new)
   pub errors : IfErr result (HasErrorCause old new)
   pub survives : SurvivesStops old new (tree_after_call call (shown_tree old))

@@ -20,9 +20,9 @@ use Rattle.lfs_model.specs.tree.Shown.{disk_tree}
 use Rattle.lfs_operations.specs.Ready.{KeepsRootNumber}
 use Rattle.lfs_thread.specs.Kept.{KeptThread, ThreadView}
 use Rattle.lfs_tree.specs.TreeCalls.{TreeCall, IsOperationCall, tree_after_call}
-use Rattle.lfs_tree.specs.RootedThreads.{IsSoundWithRoot, kept_state}
+use Rattle.lfs_tree.specs.RootedThreads.{IsSoundWithRoot, uncached_state}
 use Rattle.lfs_lookup.specs.LookupPaths.{LeadsToPair, LeadsToResult}
-use Rattle.lfs_tree.specs.TreeState.{IsApplied, HasErrorCause, IsSoundState, LeavesOthersAlone}
+use Rattle.lfs_tree.specs.TreeState.{IsApplied, HasErrorCause, IsSoundState, KeepsOthersIfRecovered}
 use Rattle.lfs_lookup.specs.declared.paths.PathLookup.{PathLookup}
 use Rattle.lfs_lookup.specs.declared.paths.PathLookup.TheVariants as found
 use Rattle.lfs_lookup.specs.declared.search.SlotPosition.{SlotPosition}
@@ -61,7 +61,7 @@ IsAbsentSpot _ spot = ⊥
 
 -- the operation is applied
 abbrev pub AppliesOperation : KeptThread → Operation → KeptThread → Type 0
-AppliesOperation old op new = IsApplied (kept_state old true false) op (kept_state new true false)
+AppliesOperation old op new = IsApplied (uncached_state old true false) op (uncached_state new true false)
 
 -- the operation is applied, and no pair moves after it
 pub record AppliesInPlace (old : KeptThread) (op : Operation) (new : KeptThread) : Type 0 where
@@ -70,7 +70,7 @@ pub record AppliesInPlace (old : KeptThread) (op : Operation) (new : KeptThread)
 
 -- the operation leaves the other blocks alone
 abbrev pub SparesOutsideOperation : KeptThread → Operation → KeptThread → Type 0
-SparesOutsideOperation old op new = LeavesOthersAlone (kept_state old true false) op (kept_state new true false)
+SparesOutsideOperation old op new = KeepsOthersIfRecovered (uncached_state old true false) op (uncached_state new true false)
 
 -- the device is divided as before, and had further calls
 pub record HasFurtherCalls (old new : KeptThread) : Type 0 where
@@ -80,7 +80,7 @@ pub record HasFurtherCalls (old new : KeptThread) : Type 0 where
 
 -- `Io` comes with a fault of the device, and `NoMemory` without one
 abbrev pub HasThreadCause : KeptThread → KeptThread → Error → Type 0
-HasThreadCause old new e = HasErrorCause (kept_state old true false) (kept_state new true true) e
+HasThreadCause old new e = HasErrorCause (uncached_state old true false) (uncached_state new true true) e
 
 -- a loss of power during the call leaves the tree from before, or that one
 abbrev pub SurvivesEither : KeptThread → KeptThread → Tree → Type 0
@@ -91,7 +91,7 @@ SurvivesEither old new after = SurvivesLossSince old.disk old.history new.histor
 -- The image is a sound one of the writing profile that shows the tree, and nothing is left to recover. The root directory begins
 -- where it did, and no call failed.
 pub record HasSoundImage (old : KeptThread) (tree : Tree) (new : KeptThread) : Type 0 where
-  pub sound : IsSoundState (kept_state new true false)
+  pub sound : IsSoundState (uncached_state new true false)
   pub fits : IsWritable new.disk new.pairs
   pub recovered : IsRecovered new.pairs
   pub root : KeepsRootNumber old new

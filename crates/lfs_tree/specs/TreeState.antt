@@ -5,7 +5,7 @@ use Rattle.lfs_device.specs.declared.error.Error.TheVariants.{Io, NoMemory, Corr
 use Rattle.lfs_model.specs.session.TreeEdits.{is_file}
 use Rattle.lfs_model.specs.layers.BlockSets.{AreUsed, BlockStates, IsInFlight, in_flight_count}
 use Rattle.lfs_model.specs.layers.Cache.{CachedBlocks}
-use Rattle.lfs_model.specs.crash.Frame.{LeavesOthers}
+use Rattle.lfs_model.specs.crash.Frame.{KeepsOthers}
 use Rattle.lfs_model.specs.declared.order.NameOrder.{NameOrder}
 use Rattle.lfs_model.specs.declared.order.NameOrder.TheVariants.{LongerFirst, ShorterFirst}
 use Rattle.lfs_model.specs.format.Disk.{Disk, ordered_disk, SameGeometry, disk_block, block_count}
@@ -148,8 +148,8 @@ abbrev pub IsApplied : TreeState → Operation → TreeState → Type 0
 IsApplied old op new = IsAppliedTo (without_cache old) op (without_cache new)
 
 -- Where nothing was to recover, the blocks of files keep their bytes. So do blocks of pairs that the operation isn't about.
-abbrev pub LeavesOthersAlone : TreeState → Operation → TreeState → Type 0
-LeavesOthersAlone old op new = pairs_gstate old.pairs ≡ zero_gstate → (files : OpenFilesByNumber) → LeavesOthers old.disk old.pairs (record { tree = shown_tree old; files = files }) op new.disk new.pairs
+abbrev pub KeepsOthersIfRecovered : TreeState → Operation → TreeState → Type 0
+KeepsOthersIfRecovered old op new = pairs_gstate old.pairs ≡ zero_gstate → (files : OpenFilesByNumber) → KeepsOthers old.disk old.pairs (record { tree = shown_tree old; files = files }) op new.disk new.pairs
 
 -- The image of a disk that was only read, at least once and without a fault. The tree works, and no block is in flight.
 pub record IsMountedTree (disk : Disk) (history : List CallEvent) (t : TreeState) : Type 0 where

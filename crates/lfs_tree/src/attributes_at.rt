@@ -5,7 +5,7 @@ ghost use Rattle.lfs_tree.specs.Permissions.{CanRemoveAttr, CanSetAttr};
 ghost use Rattle.lfs_tree.specs.TreeCalls as call;
 ghost use Rattle.lfs_tree.specs.TreeChanges.{CanChangeRecovered, AppliesOrFails};
 ghost use Rattle.lfs_tree.specs.SlotChanges.{IsFoundSpot, is_entry_found};
-ghost use Rattle.lfs_tree.specs.RootedThreads.{kept_state};
+ghost use Rattle.lfs_tree.specs.RootedThreads.{uncached_state};
 
 use crate::entries_at::{find_at_path, lemma_block_facts};
 use lfs_device::{BlockDevice, Error};
@@ -37,7 +37,7 @@ pub(crate) fn set_attr_at<D: BlockDevice>(
     bytes: &[u8],
 ) -> Result<(), Error>
     requires rests { CanChangeRecovered thread.old root }
-    requires can { CanSetAttr (kept_state thread.old.kept true false) path.now kind bytes.now }
+    requires can { CanSetAttr (uncached_state thread.old.kept true false) path.now kind bytes.now }
     ensures { AppliesOrFails thread.old (call.SetAttr path.now kind bytes.now) result thread.new }
 {
     path.lemma_path_bytes();
@@ -58,7 +58,7 @@ pub(crate) fn remove_attr_at<D: BlockDevice>(
     kind: u8,
 ) -> Result<(), Error>
     requires rests { CanChangeRecovered thread.old root }
-    requires can { CanRemoveAttr (kept_state thread.old.kept true false) path.now kind }
+    requires can { CanRemoveAttr (uncached_state thread.old.kept true false) path.now kind }
     ensures { AppliesOrFails thread.old (call.RemoveAttr path.now kind) result thread.new }
 {
     path.lemma_path_bytes();

@@ -8,9 +8,9 @@ ghost use Rattle.lfs_model.specs.tree.Shown.{disk_tree};
 ghost use Rattle.lfs_operations.specs.Changing.{WritesPairTwo};
 ghost use Rattle.lfs_operations.specs.Storing.{HasStoredContents, tree_with_contents};
 ghost use Rattle.lfs_tree.specs.TreeChanges.{HasFurtherCalls, CanChangeRecovered, ChangesTreeOrFails, SurvivesEither};
-ghost use Rattle.lfs_tree.specs.RootedThreads.{kept_state};
+ghost use Rattle.lfs_tree.specs.RootedThreads.{uncached_state};
 ghost use Rattle.lfs_tree.specs.OpenContents.{CanStoreContents, writer_contents_bytes};
-ghost use Rattle.lfs_tree.specs.Stores.{CanCommitContents, CanPutContents, HasCommittedBytes, StoresThreadBytes, IsFoundFile, is_file_found, finished_list, list_in_storage, empty_list};
+ghost use Rattle.lfs_tree.specs.Stores.{CanCommitContents, CanPutContents, HasCommittedBytes, StoresOnThread, IsFoundFile, is_file_found, finished_list, list_in_storage, empty_list};
 ghost use Rattle.lfs_tree.specs.Working.{IsWorkingWhere, WorksOrReportsFault};
 
 use crate::entries_at::{find_at_path, lemma_block_facts};
@@ -152,8 +152,8 @@ pub(crate) fn store_contents_at<D: BlockDevice>(
     contents: WriterContents,
 ) -> Result<(), Error>
     requires rests { CanChangeRecovered thread.old root }
-    requires can { CanStoreContents (kept_state thread.old.kept true false) path.now contents }
-    ensures { ChangesTreeOrFails thread.old (StoresThreadBytes thread.old.kept path.now (writer_contents_bytes thread.old.kept contents))
+    requires can { CanStoreContents (uncached_state thread.old.kept true false) path.now contents }
+    ensures { ChangesTreeOrFails thread.old (StoresOnThread thread.old.kept path.now (writer_contents_bytes thread.old.kept contents))
         (tree_with_change path.now (file_with_bytes (writer_contents_bytes thread.old.kept contents)) (disk_tree thread.old.kept.disk thread.old.kept.pairs)) result thread.new }
 {
     let finished = finish_file(alloc, thread, contents)?;

@@ -15,10 +15,10 @@ ghost use Rattle.lfs_tree.specs.TreeState.{ReadsTreeOrFails, kept_thread, shown_
 
 use crate::answers::mark_failed;
 use crate::entries_at::find_at_path;
-use crate::rename_paths::found_alone;
+use crate::rename_paths::found_without_parent;
 use crate::tree::Tree;
 use lfs_device::{BlockDevice, Error};
-use lfs_lookup::{FoundNode, Path, PathLookup, find_node, found_node};
+use lfs_lookup::{FoundNode, Path, PathLookup, find_node, finding_shown};
 use lfs_thread::Thread;
 use std::alloc::Global;
 
@@ -49,7 +49,7 @@ fn creation_findings<D: BlockDevice>(
     // By the sizes of its blocks a list has as many bytes as its entry says.
     let _device = thread.device();
     Ok(CreationFindings {
-        entry: found_node(found_alone(target.found)),
+        entry: finding_shown(found_without_parent(target.found)),
         target: Some(target.found),
     })
 }
@@ -75,7 +75,7 @@ fn creation_before_recovery<D: BlockDevice>(
 }
 
 // Looks up the path.
-fn creation_path<D: BlockDevice>(
+fn find_creation_path<D: BlockDevice>(
     alloc: Global,
     thread: &mut Thread<D>,
     root: usize,
@@ -115,7 +115,7 @@ impl<D: BlockDevice> Tree<D> {
         ensures handed_on { pairs_gstate self.old.pairs ≡ zero_gstate → IfOk result (λ found. IsSome found.target) }
         ensures few { read_count self.new.history ≤ read_count self.old.history + sum_by (pair_count_at self.old.pairs) (ancestor_paths path.now) }
     {
-        let found = creation_path(alloc, &mut self.thread, self.root, path);
+        let found = find_creation_path(alloc, &mut self.thread, self.root, path);
         mark_failed(&mut self.thread, &found);
         found
     }

@@ -9,7 +9,7 @@ ghost use Rattle.lfs_tree.specs.Permissions.{CanCreateFile, CanMakeDirectory};
 ghost use Rattle.lfs_tree.specs.CreationPaths.{IsCreationResult};
 ghost use Rattle.lfs_tree.specs.TreeCalls as call;
 ghost use Rattle.lfs_tree.specs.TreeChanges.{CanChangeRecovered, AppliesOrFails, IsAbsentSpot, IsNamedResult, is_nothing_found};
-ghost use Rattle.lfs_tree.specs.RootedThreads.{kept_state};
+ghost use Rattle.lfs_tree.specs.RootedThreads.{uncached_state};
 ghost use Rattle.lfs_lookup.specs.LookupReading.{ReadsOrReports};
 
 use lfs_device::{BlockDevice, Error};
@@ -109,7 +109,7 @@ pub(crate) fn create_empty_file<D: BlockDevice>(
     known: Option<PathLookup>,
 ) -> Result<(), Error>
     requires rests { CanChangeRecovered thread.old root }
-    requires can { CanCreateFile (kept_state thread.old.kept true false) path.now }
+    requires can { CanCreateFile (uncached_state thread.old.kept true false) path.now }
     requires known { IfSome known (IsCreationResult thread.old.kept path.now) }
     ensures does { AppliesOrFails thread.old (call.Create path.now) result thread.new }
     ensures few { IsSome known → read_count thread.new.kept.history ≤ read_count thread.old.kept.history + 6 }
@@ -132,7 +132,7 @@ pub(crate) fn make_directory_at<D: BlockDevice>(
     path: &Path<'_>,
 ) -> Result<(), Error>
     requires rests { CanChangeRecovered thread.old root }
-    requires can { CanMakeDirectory (kept_state thread.old.kept true false) path.now }
+    requires can { CanMakeDirectory (uncached_state thread.old.kept true false) path.now }
     ensures { AppliesOrFails thread.old (call.Mkdir path.now) result thread.new }
 {
     path.lemma_path_bytes();

@@ -76,7 +76,7 @@ fn write_root_thread<D: BlockDevice>(
 }
 
 // Makes an empty cache, and a map of so many blocks, of which the first two are used.
-fn format_cache_map(alloc: Global, block_count: u32) -> Result<(Cache, BlockMap), Error>
+fn map_after_format(alloc: Global, block_count: u32) -> Result<(Cache, BlockMap), Error>
     requires { 2 ≤ block_count }
     ensures empty { IfOk result (λ parts. parts.0 ≡ []) }
     ensures map { IfOk result (λ parts. IsFormattedMap block_count parts.1) }
@@ -116,7 +116,7 @@ pub fn format<D: BlockDevice>(
 {
     let block_count = device.geometry().block_count;
     let mut pairs = Vec::new(alloc);
-    let (cache, map) = match format_cache_map(alloc, block_count) {
+    let (cache, map) = match map_after_format(alloc, block_count) {
         Ok(parts) => parts,
         Err(error) => return Err((device, error)),
     };

@@ -12,7 +12,7 @@ ghost use Rattle.lfs_operations.specs.Recovering.{AreUnreachedNumbers, numbered_
 ghost use Rattle.lfs_tag.specs.ContentView.{slot_view};
 ghost use Rattle.lfs_thread.specs.CachedLog.{IsContentLog};
 ghost use Rattle.lfs_thread.specs.ThreadSteps.{thread_pair};
-ghost use Rattle.lfs_tree.specs.LostLists.{CanFreeDropped, raw_struct_lists, slots_lists, raw_slots_lists};
+ghost use Rattle.lfs_tree.specs.LostLists.{CanFreeLists, raw_struct_lists, slots_lists, raw_slots_lists};
 ghost use Rattle.lfs_lookup.specs.LookupReading.{ReadsOrReports};
 ghost use Rattle.lfs_lookup.specs.NameSearch.{HasCompleteLog};
 ghost use Rattle.lfs_tree.specs.Working.{IsWorkingWhere};
@@ -110,7 +110,7 @@ pub(crate) fn free_lists<D: BlockDevice>(
     thread: &mut Thread<D>,
     lists: &[StoredList],
 ) -> Result<(), Error>
-    requires { IsWorkingWhere thread.old (λ t. CanFreeDropped t lists.now) }
+    requires { IsWorkingWhere thread.old (λ t. CanFreeLists t lists.now) }
     ensures ready { OnOk result (IsReadyImage thread.new.kept) }
     ensures flying { OnOk result (SameInFlight thread.old.kept.map thread.new.kept.map) }
     ensures only { ChangesOnlyMap thread.old.kept thread.new.kept }

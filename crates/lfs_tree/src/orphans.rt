@@ -7,7 +7,7 @@ ghost use Rattle.lfs_operations.specs.Recovering.{AreUnreachedNumbers};
 ghost use Rattle.lfs_lookup.specs.Items.{directory_item_view, directory_items_view};
 ghost use Rattle.lfs_lookup.specs.ProfileChecks.{follows_tail_at};
 ghost use Rattle.lfs_lookup.specs.LookupReading.{ReadsOrReports};
-ghost use Rattle.lfs_tree.specs.Orphans.{DirectoriesBegin, MarkReached, QueuesMarked, IsStructPair, IsNamedPair};
+ghost use Rattle.lfs_tree.specs.Orphans.{DirectoriesBegin, MarkReached, MarksAndQueues, IsStructPair, IsNamedPair};
 ghost use Rattle.lfs_lookup.specs.TreeWalk.{HasFirstIfDirectory};
 
 use lfs_device::{BlockDevice, Error};
@@ -16,7 +16,7 @@ use lfs_thread::{Thread, number_at_address};
 use std::alloc::{AllocError, Global};
 
 // Makes so many marks that aren't set.
-fn unset_marks(alloc: Global, count: usize) -> Result<Vec<bool>, AllocError>
+fn fresh_marks(alloc: Global, count: usize) -> Result<Vec<bool>, AllocError>
     ensures { IfOk result (λ marks. marks.items ≡ replicate count false) }
 {
     vec![in alloc; false; count]
@@ -29,7 +29,7 @@ fn mark_reached(
     number: usize,
 ) -> Result<(), AllocError>
     requires { number < length marks.old.items }
-    ensures { OnOk result (QueuesMarked (λ n. n ≡ number) marks.old.items pending.old.items marks.new.items pending.new.items) }
+    ensures { OnOk result (MarksAndQueues (λ n. n ≡ number) marks.old.items pending.old.items marks.new.items pending.new.items) }
 {
     if !marks[number] {
         marks[number] = true;
@@ -48,7 +48,7 @@ fn mark_directory<D: BlockDevice>(
     requires accepted { IsAccepted thread.now.kept.disk thread.now.kept.pairs }
     requires begins { HasFirstIfDirectory thread.now.kept.pairs (directory_item_view item.now).struct }
     requires len { length marks.old.items ≡ length thread.now.kept.pairs }
-    ensures { OnOk result (QueuesMarked (IsStructPair thread.now.kept.pairs (directory_item_view item.now).struct) marks.old.items pending.old.items marks.new.items pending.new.items) }
+    ensures { OnOk result (MarksAndQueues (IsStructPair thread.now.kept.pairs (directory_item_view item.now).struct) marks.old.items pending.old.items marks.new.items pending.new.items) }
 {
     if let OwnedStruct::Branch(to) = item.structure {
         let number = number_at_address(thread, to).unwrap();
@@ -67,7 +67,7 @@ fn mark_directories<D: BlockDevice>(
     requires accepted { IsAccepted thread.now.kept.disk thread.now.kept.pairs }
     requires begin { DirectoriesBegin thread.now.kept.pairs (directory_items_view items.items) }
     requires len { length marks.old.items ≡ length thread.now.kept.pairs }
-    ensures { OnOk result (QueuesMarked (IsNamedPair thread.now.kept.pairs (directory_items_view items.items)) marks.old.items pending.old.items marks.new.items pending.new.items) }
+    ensures { OnOk result (MarksAndQueues (IsNamedPair thread.now.kept.pairs (directory_items_view items.items)) marks.old.items pending.old.items marks.new.items pending.new.items) }
 {
     while let Some(item) = items.pop() {
         mark_directory(thread, &item, marks, pending)?;
@@ -88,7 +88,7 @@ fn mark_reached_directories<D: BlockDevice>(
     ensures reading { ReadsOrReports thread.old thread.new result }
 {
     let state = thread.state();
-    let mut marks = unset_marks(alloc, thread.len())?;
+    let mut marks = fresh_marks(alloc, thread.len())?;
     let mut pending = Vec::new(alloc);
     mark_reached(&mut marks, &mut pending, root)?;
     while let Some(first) = pending.pop() {

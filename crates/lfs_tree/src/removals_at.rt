@@ -14,7 +14,7 @@ ghost use Rattle.lfs_tree.specs.Permissions.{CanRemoveEntry};
 ghost use Rattle.lfs_tree.specs.TreeCalls as call;
 ghost use Rattle.lfs_tree.specs.TreeChanges.{CanChangeRecovered, AppliesOrFails, SurvivesEither};
 ghost use Rattle.lfs_tree.specs.Removals.{CanFreeList, CanRemoveFound, CanRemoveFile, HasRemovedEntry, SparesInRemoval};
-ghost use Rattle.lfs_tree.specs.RootedThreads.{kept_state};
+ghost use Rattle.lfs_tree.specs.RootedThreads.{uncached_state};
 ghost use Rattle.lfs_tree.specs.Working.{IsWorkingWhere};
 
 use crate::entries_at::{find_at_path, lemma_block_facts};
@@ -117,7 +117,7 @@ pub(crate) fn remove_at<D: BlockDevice>(
     path: &Path<'_>,
 ) -> Result<(), Error>
     requires rests { CanChangeRecovered thread.old root }
-    requires can { CanRemoveEntry (kept_state thread.old.kept true false) path.now }
+    requires can { CanRemoveEntry (uncached_state thread.old.kept true false) path.now }
     ensures { AppliesOrFails thread.old (call.Remove path.now) result thread.new }
 {
     path.lemma_path_bytes();

@@ -20,7 +20,7 @@ use crate::tree::Tree;
 use lfs_device::{BlockDevice, Error};
 use lfs_lookup::{
     FoundNode, NodeAndEmptiness, Path, PathLookup, VisiblePathLookup, attributes_size_at,
-    find_node, first_pair_found, found_node, has_entries, path_has_entries,
+    find_node, finding_shown, first_pair_found, has_entries, path_has_entries,
 };
 use lfs_thread::Thread;
 use std::alloc::Global;
@@ -48,7 +48,7 @@ pub struct RenameFindings {
 }
 
 // Returns what was found, but for where a name belongs and in which directory it is.
-pub(crate) fn found_alone(found: PathLookup) -> VisiblePathLookup
+pub(crate) fn found_without_parent(found: PathLookup) -> VisiblePathLookup
     ensures { result ≡ lookup_without_parent found }
 {
     match found {
@@ -118,12 +118,12 @@ fn node_and_emptiness<D: BlockDevice>(
     ensures few { read_count thread.new.kept.history ≤ read_count thread.old.kept.history + pair_count_at thread.old.kept.pairs _path.now }
     ensures reading { ReadsOrReports thread.old thread.new result }
 {
-    let shown = found_alone(found);
+    let shown = found_without_parent(found);
     let has_entries = has_entries(alloc, thread, first_pair_found(root, shown))?;
     // By the sizes of its blocks a list has as many bytes as its entry says.
     let _device = thread.device();
     Ok(NodeAndEmptiness {
-        finding: found_node(shown),
+        finding: finding_shown(shown),
         has_entries,
     })
 }
@@ -149,7 +149,7 @@ fn rename_findings<D: BlockDevice>(
     // By the sizes of its blocks a list has as many bytes as its entry says.
     let _device = thread.device();
     Ok(RenameFindings {
-        entry: found_node(found_alone(targets.entry)),
+        entry: finding_shown(found_without_parent(targets.entry)),
         target,
         attributes_size,
         targets: Some(targets),

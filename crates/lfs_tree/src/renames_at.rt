@@ -12,7 +12,7 @@ ghost use Rattle.lfs_tree.specs.TreeCalls as call;
 ghost use Rattle.lfs_tree.specs.TreeCalls.{AppliesCallOrFails};
 ghost use Rattle.lfs_tree.specs.TreeChanges.{CanChangeRecovered, AppliesOrFails, SurvivesEither};
 ghost use Rattle.lfs_tree.specs.SlotChanges.{is_entry_found};
-ghost use Rattle.lfs_tree.specs.RootedThreads.{kept_state};
+ghost use Rattle.lfs_tree.specs.RootedThreads.{uncached_state};
 ghost use Rattle.lfs_tree.specs.MovedEntries.{CanMoveOntoFound, CanMoveOntoFile, CanMoveOntoDirectory, HasMovedEntry, HasMovedOnto, IsFoundSource, ThreadWorksOrReports};
 ghost use Rattle.lfs_tree.specs.RenameFindings.{AreRenameResults};
 ghost use Rattle.lfs_tree.specs.TreeState.{kept_thread};
@@ -189,7 +189,7 @@ pub(crate) fn rename_at<D: BlockDevice>(
     known: Option<RenameTargets>,
 ) -> Result<(), Error>
     requires rests { CanChangeRecovered thread.old root }
-    requires can { CanRenamePath (kept_state thread.old.kept true false) from.now to.now }
+    requires can { CanRenamePath (uncached_state thread.old.kept true false) from.now to.now }
     requires apart { same_path from.now to.now ≡ false }
     requires known { IfSome known (AreRenameResults thread.old.kept from.now to.now) }
     ensures { AppliesOrFails thread.old (call.Rename from.now to.now) result thread.new }

@@ -7,7 +7,7 @@ ghost use Rattle.lfs_model.specs.format.Disk.{inline_limit};
 ghost use Rattle.lfs_model.specs.session.Writers.{written_contents, zero_padded};
 ghost use Rattle.lfs_model.specs.session.Effects.{file_with_bytes};
 ghost use Rattle.lfs_model.specs.tree.Tree.{Path as ModelPath};
-ghost use Rattle.lfs_tree.specs.OpenContents.{CanOpenWriterOf, CanStoreContents, CanTruncateIn, CanWriteIn, HasFormBytes, IsOpenedForm, AreTreeContents, StoresBytesAt, WritesUnusedOrFails, writer_contents_bytes, kept_thread};
+ghost use Rattle.lfs_tree.specs.OpenContents.{CanOpenWriterOf, CanStoreContents, CanTruncateIn, CanWriteIn, HasBytesInForm, IsOpenedForm, AreTreeContents, StoresBytesAt, WritesUnusedOrFails, writer_contents_bytes, kept_thread};
 ghost use Rattle.lfs_tree.specs.TreeState.{ReadsTreeOrFails, IsFailedTree, FailedByReading, HasErrorCause, SurvivesStops, shown_tree};
 ghost use Rattle.lfs_file.specs.Contents.{contents_form};
 ghost use Rattle.lfs_file.specs.Form as form;
@@ -77,7 +77,7 @@ impl<D: BlockDevice> Tree<D> {
     ) -> Result<WriterContents, Error>
         requires { CanWriteIn self.old contents place (length bytes.now) }
         ensures over { (path : ModelPath) → AreTreeContents self.old path contents → IfOk result (AreTreeContents self.new path) }
-        ensures written { IfOk result (HasFormBytes self.new (written_contents (writer_contents_bytes (kept_thread self.old) contents) place bytes.now)
+        ensures written { IfOk result (HasBytesInForm self.new (written_contents (writer_contents_bytes (kept_thread self.old) contents) place bytes.now)
             (written_form (inline_limit self.old.disk.profile self.old.disk.block_size) place (length bytes.now) (contents_form contents))) }
         ensures writes { WritesUnusedOrFails self.old result self.new }
     {
@@ -98,7 +98,7 @@ impl<D: BlockDevice> Tree<D> {
     ) -> Result<WriterContents, Error>
         requires { CanTruncateIn self.old contents size }
         ensures over { (path : ModelPath) → AreTreeContents self.old path contents → IfOk result (AreTreeContents self.new path) }
-        ensures truncated { IfOk result (HasFormBytes self.new (take size (zero_padded size (writer_contents_bytes (kept_thread self.old) contents)))
+        ensures truncated { IfOk result (HasBytesInForm self.new (take size (zero_padded size (writer_contents_bytes (kept_thread self.old) contents)))
             (truncated_form (inline_limit self.old.disk.profile self.old.disk.block_size) size (contents_form contents))) }
         ensures writes { WritesUnusedOrFails self.old result self.new }
     {

@@ -15,9 +15,9 @@ use Rattle.lfs_model.specs.declared.order.NameOrder.{NameOrder}
 use Rattle.lfs_model.specs.declared.order.NameOrder.TheVariants.{LongerFirst, ShorterFirst}
 use Rattle.lfs_fs.specs.ImageLimits.{BeginsLimited}
 use Rattle.lfs_fs.specs.SessionView.{BeginsByMount, SessionView, system_state}
-use Rattle.littlefs_c.specs.ImageCalls.{IsSessionError, IsImageSession, IsImageDevice}
+use Rattle.littlefs_c.specs.ImageCalls.{PreventsSession, IsImageSession, IsImageDevice}
 use Rattle.littlefs_c.specs.Configs.{IsValidConfig, config_profile}
-use Rattle.littlefs_c.specs.Mounts.{IsMountedWithin}
+use Rattle.littlefs_c.specs.Mounts.{IsMountedLimited}
 use Rattle.littlefs_c.specs.declared.config.Config.{Config}
 use Rattle.littlefs_c.proofs.Images.{disk_by_profile, mounts, prevented}
 
@@ -31,13 +31,13 @@ module _ (block_size page : ℕ) (profile : Profile) (image : List ℕ) (d : Ram
   mounted_by by history h b longer = mounts block_size page by image (disk_seen by d) history h is.whole (λ order. disk_by_profile block_size page profile image d by order is) b longer
 
   pub prevented_by : (by : Profile) (e : Error) → (e ≡ Io) ⊎ ((e ≡ Corrupt) ⊎ (e ≡ NoMemory)) → (e ≡ Io → ⊥) → (e ≡ Corrupt → (order : NameOrder) (ps : List Pair) → ¬ IsAccepted (ordered_disk order (disk_seen by d)) ps)
-      → IsSessionError block_size page by image e
+      → PreventsSession block_size page by image e
   prevented_by by e errors no_fault corrupt = prevented block_size page by image (disk_seen by d) e (λ order. disk_by_profile block_size page profile image d by order is) errors no_fault corrupt
 
 -- a mount by the limits of the image
 pub mounted_with_limits : (config : Config) (image : List ℕ) (d : RamDevice) (given : Profile) (history : List CallEvent) (h : SessionView) → IsValidConfig config
     → IsImageDevice config.block_size config.page (config_profile config) image d → given ≡ config_profile config → BeginsLimited (disk_of_blocks (ram_geometry d) (ram_blocks d)) history given h
-    → (h.tree.disk.order ≡ ShorterFirst → (ps : List Pair) → ¬ IsAccepted (ordered_disk LongerFirst (disk_seen h.tree.disk.profile d)) ps) → IsMountedWithin config image (system_state h)
+    → (h.tree.disk.order ≡ ShorterFirst → (ps : List Pair) → ¬ IsAccepted (ordered_disk LongerFirst (disk_seen h.tree.disk.profile d)) ps) → IsMountedLimited config image (system_state h)
 mounted_with_limits config image d given history h valid is by b longer = record {
   valid = valid;
   pairs = h.tree.pairs;

@@ -10,16 +10,16 @@ change_call (change.Program block off bytes) = Program block off bytes.items
 change_call (change.Erase block) = Erase block
 
 -- a call that is a program or an erase
-abbrev pub write_if_any : DeviceCall → List DeviceCall
-write_if_any (Read block off len) = []
-write_if_any (Program block off bytes) = Program block off bytes ∷ []
-write_if_any (Erase block) = Erase block ∷ []
-write_if_any (Blank block off len) = []
+abbrev pub call_if_writing : DeviceCall → List DeviceCall
+call_if_writing (Read block off len) = []
+call_if_writing (Program block off bytes) = Program block off bytes ∷ []
+call_if_writing (Erase block) = Erase block ∷ []
+call_if_writing (Blank block off len) = []
 
 -- the programs and erases of a history, the oldest first
 abbrev pub history_writes : List CallEvent → List DeviceCall
 history_writes [] = []
-history_writes (e ∷ older) = history_writes older ++ write_if_any e.call
+history_writes (e ∷ older) = history_writes older ++ call_if_writing e.call
 
 -- The changes that are kept are the calls from a number on, all of them and in order.
 abbrev pub AreNoted : ℕ → List Change → List DeviceCall → Type 0

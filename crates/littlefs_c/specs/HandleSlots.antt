@@ -32,9 +32,9 @@ abbrev pub held_session_row : RattleType
 held_session_row = session_row device_row device_ghosts
 
 -- a box at the pointer with this session, or nothing
-abbrev pub slot_owns : Global → Ptr → Option SessionView → Fml
-slot_owns alloc p None = ftrue
-slot_owns alloc p (Some x) = box_owns (ghosts.dealloc_token alloc) held_session_row p x
+abbrev pub handle_owns : Global → Ptr → Option SessionView → Fml
+handle_owns alloc p None = ftrue
+handle_owns alloc p (Some x) = box_owns (ghosts.dealloc_token alloc) held_session_row p x
 
 -- 1 where there is a session
 abbrev pub session_count : Option SessionView → ℕ

@@ -45,16 +45,16 @@ BeginsSession block_size page image = (from : SystemState) × IsImageSession blo
 
 -- What keeps a call from running an operation: the bytes are no image of that geometry, the image isn't accepted, or memory
 -- wasn't granted.
-abbrev pub IsSessionError : ℕ → ℕ → Profile → List ℕ → Error → Type 0
-IsSessionError block_size page profile image Invalid = ¬ IsWholeImage block_size page image
-IsSessionError block_size page profile image Corrupt = (order : NameOrder) (ps : List Pair) → ¬ IsAccepted (disk_of_image block_size page profile order image) ps
-IsSessionError block_size page profile image NoMemory = Unit {0}
-IsSessionError block_size page profile image other = ⊥
+abbrev pub PreventsSession : ℕ → ℕ → Profile → List ℕ → Error → Type 0
+PreventsSession block_size page profile image Invalid = ¬ IsWholeImage block_size page image
+PreventsSession block_size page profile image Corrupt = (order : NameOrder) (ps : List Pair) → ¬ IsAccepted (disk_of_image block_size page profile order image) ps
+PreventsSession block_size page profile image NoMemory = Unit {0}
+PreventsSession block_size page profile image other = ⊥
 
 -- the image is accepted, or the error has its cause
 abbrev pub AcceptsOrReports : {X : Type 0} → ℕ → ℕ → List ℕ → Result X Error → Type 0
 AcceptsOrReports block_size page image (Ok x) = BeginsSession block_size page image
-AcceptsOrReports block_size page image (Err e) = IsSessionError block_size page default_profile image e
+AcceptsOrReports block_size page image (Err e) = PreventsSession block_size page default_profile image e
 
 -- ---- operations
 
@@ -82,7 +82,7 @@ pub record RefusesLater (block_size page : ℕ) (image : List ℕ) (operations :
   pub refusal : is_refusal e ≡ true
 
 abbrev pub RefusesEither : ℕ → ℕ → List ℕ → List Operation → Error → Type 0
-RefusesEither block_size page image operations e = IsSessionError block_size page default_profile image e ⊎ RefusesLater block_size page image operations e
+RefusesEither block_size page image operations e = PreventsSession block_size page default_profile image e ⊎ RefusesLater block_size page image operations e
 
 -- ---- results
 
@@ -93,7 +93,7 @@ RepliesOrRefuses block_size page image operations reply (Ok x) =
 RepliesOrRefuses block_size page image operations reply (Err e) = RefusesEither block_size page image operations e
 
 -- The new image is the disk that the operations leave.
-pub record LeavesImage (block_size page : ℕ) (old : List ℕ) (operations : List Operation) (new : List ℕ) : Type 0 where
+pub record MakesImage (block_size page : ℕ) (old : List ℕ) (operations : List Operation) (new : List ℕ) : Type 0 where
   pub to : SystemState
   pub runs : RunsOnImage block_size page old operations to
   pub len : length new ≡ length old
@@ -101,5 +101,5 @@ pub record LeavesImage (block_size page : ℕ) (old : List ℕ) (operations : Li
 
 -- the image is what the operations leave, or it is as it was, and the error has its cause
 abbrev pub ChangesOrRefuses : {X : Type 0} → ℕ → ℕ → List ℕ → List Operation → Result X Error → List ℕ → Type 0
-ChangesOrRefuses block_size page old operations (Ok x) new = LeavesImage block_size page old operations new
+ChangesOrRefuses block_size page old operations (Ok x) new = MakesImage block_size page old operations new
 ChangesOrRefuses block_size page old operations (Err e) new = (new ≡ old) × RefusesEither block_size page old operations e

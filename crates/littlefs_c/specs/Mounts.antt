@@ -16,7 +16,7 @@ use Rattle.lfs_model.specs.session.State.{Healthy, mounted_session}
 use Rattle.lfs_model.specs.format.Thread.{Pair}
 use Rattle.lfs_model.specs.tree.View.{IsAccepted}
 use Rattle.lfs_fs.specs.SessionView.{SessionView, system_state}
-use Rattle.littlefs_c.specs.ImageCalls.{IsSessionError, IsImageSession}
+use Rattle.littlefs_c.specs.ImageCalls.{PreventsSession, IsImageSession}
 use Rattle.littlefs_c.specs.Codes.{result_code}
 use Rattle.littlefs_c.specs.Configs.{IsValidConfig, config_order, config_profile}
 use Rattle.littlefs_c.specs.declared.config.Config.{Config}
@@ -28,7 +28,7 @@ abbrev pub IsMountedBy : Config → List ℕ → SystemState → Type 0
 IsMountedBy config image from = IsValidConfig config × IsImageSession config.block_size config.page (config_profile config) image from
 
 -- A session as a mount of the image by that configuration begins it, with the limits of the image in place of the configuration's.
-pub record IsMountedWithin (config : Config) (image : List ℕ) (from : SystemState) : Type 0 where
+pub record IsMountedLimited (config : Config) (image : List ℕ) (from : SystemState) : Type 0 where
   pub valid : IsValidConfig config
   pub pairs : List Pair
   pub accepted : IsAccepted from.disk pairs
@@ -38,7 +38,7 @@ pub record IsMountedWithin (config : Config) (image : List ℕ) (from : SystemSt
 
 -- a number of the configuration is out of range, or the image has no session by it, or memory wasn't granted
 abbrev pub PreventsMount : Config → List ℕ → Error → Type 0
-PreventsMount config image e = ((e ≡ Invalid) × (¬ IsValidConfig config)) ⊎ IsSessionError config.block_size config.page (config_profile config) image e
+PreventsMount config image e = ((e ≡ Invalid) × (¬ IsValidConfig config)) ⊎ PreventsSession config.block_size config.page (config_profile config) image e
 
 -- ---- a format
 

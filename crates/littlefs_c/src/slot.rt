@@ -2,7 +2,7 @@
 
 ghost use Rattle.std.specs.Prelude.{◌≡◌, Option, None, Some, IsSome};
 ghost use Rattle.lfs_fs.specs.SessionView.{SessionView};
-ghost use Rattle.littlefs_c.specs.HandleSlots.{slot_owns};
+ghost use Rattle.littlefs_c.specs.HandleSlots.{handle_owns};
 
 use crate::noted::HeldDevice;
 use crate::parts::Parts;
@@ -19,7 +19,7 @@ pub struct Slot {
 }
 
 impl Model for Slot {
-    ghost also_owns = { λ s. slot_owns s.alloc s.at s.session };
+    ghost also_owns = { λ s. handle_owns s.alloc s.at s.session };
 }
 
 unsafe impl Send for Slot {}

@@ -4,7 +4,7 @@ ghost use Rattle.std.specs.Prelude.{◌≡◌, pos, None, IfOk, IfErr};
 ghost use Rattle.lfs_fs.specs.SessionView.{system_state};
 ghost use Rattle.littlefs_c.specs.ImageCalls.{IsImageDevice};
 ghost use Rattle.littlefs_c.specs.Configs.{IsValidConfig, config_profile};
-ghost use Rattle.littlefs_c.specs.Mounts.{BeginsInHandle, IsBlankDevice, IsBeginningCode, IsFormattedBy, IsMountedBy, IsMountedWithin, PreventsFormat, PreventsMount};
+ghost use Rattle.littlefs_c.specs.Mounts.{BeginsInHandle, IsBlankDevice, IsBeginningCode, IsFormattedBy, IsMountedBy, IsMountedLimited, PreventsFormat, PreventsMount};
 
 use crate::codes::unit_code;
 use crate::config::Config;
@@ -60,7 +60,7 @@ fn mount_by_limits(
     config: &Config,
     image: &[u8],
 ) -> Result<Session<HeldDevice>, Error>
-    ensures ok { IfOk result (λ s. IsMountedWithin config.now image.now (system_state s)) }
+    ensures ok { IfOk result (λ s. IsMountedLimited config.now image.now (system_state s)) }
     ensures err { IfErr result (PreventsMount config.now image.now) }
 {
     let ram = copy_of_image(alloc, config, image)?;
@@ -117,7 +117,7 @@ fn begin_by_limits(
     config: &Config,
     image: &[u8],
 ) -> Result<(), Error>
-    ensures { BeginsInHandle (λ s. IsMountedWithin config.now image.now (system_state s)) (PreventsMount config.now image.now) result session.old.slot.session session.new.slot.session }
+    ensures { BeginsInHandle (λ s. IsMountedLimited config.now image.now (system_state s)) (PreventsMount config.now image.now) result session.old.slot.session session.new.slot.session }
 {
     if let Some(open) = take_session(alloc, session) {
         put_session(session, open);
@@ -143,7 +143,7 @@ pub extern "C" fn lfs_c_mount_with_limits(
     config: &Config,
     image: &[u8],
 ) -> i64
-    ensures { IsBeginningCode (λ s. IsMountedWithin config.now image.now (system_state s)) (PreventsMount config.now image.now) result session.old.slot.session session.new.slot.session }
+    ensures { IsBeginningCode (λ s. IsMountedLimited config.now image.now (system_state s)) (PreventsMount config.now image.now) result session.old.slot.session session.new.slot.session }
 {
     unit_code(begin_by_limits(alloc, session, config, image))
 }

@@ -13,7 +13,7 @@ use Rattle.lfs_model.specs.session.Operations.{Operation, Refusal, BadFile, Inva
 use Rattle.lfs_model.specs.session.Session.{Session, OpenFile, file_path, file_numbered}
 use Rattle.lfs_model.specs.session.Refusals.{path_or_root, is_root_path}
 use Rattle.lfs_model.specs.session.State.{is_remount}
-use Rattle.lfs_model.specs.session.Run.{writes_or_truncates, needs_no_call}
+use Rattle.lfs_model.specs.session.Run.{writes_or_truncates, needs_no_device}
 
 -- ---- the pairs of a directory
 
@@ -59,7 +59,7 @@ SamePairBlocks disk new p = (disk_block new p.at.0 ≡ disk_block disk p.at.0) �
 
 -- Every block of a file's list keeps its bytes. So do both blocks of a pair that stays with what it holds. Excepted are pairs
 -- that hold a slot that the operation is about.
-pub record LeavesOthers (disk : Disk) (ps : List Pair) (s : Session) (op : Operation) (new : Disk) (qs : List Pair) : Type 0 where
+pub record KeepsOthers (disk : Disk) (ps : List Pair) (s : Session) (op : Operation) (new : Disk) (qs : List Pair) : Type 0 where
   pub files : All (λ t. All (λ b. disk_block new b ≡ disk_block disk b) (struct_blocks disk t.struct)) (all_unmoved_slots ps)
   pub pairs : (p : Pair) → Contains ps p → Contains qs p → (Any (HasPathSlot ps p) (changed_paths s op) → ⊥) → SamePairBlocks disk new p
 
@@ -103,7 +103,7 @@ answers_itself ops.UsedCount = true
 answers_itself _ = false
 
 -- The operation looks up in directories that the one before has just searched, at most eight of one pair each.
-pub record SearchesAgain (ps : List Pair) (before op : Operation) : Type 0 where
+pub record SearchesSameDirectories (ps : List Pair) (before op : Operation) : Type 0 where
   pub path : List ℕ
   pub stat : before ≡ ops.Stat path
   pub below : is_root_path (path_or_root path) ≡ false
@@ -115,14 +115,14 @@ pub record SearchesAgain (ps : List Pair) (before op : Operation) : Type 0 where
 -- ---- what comes at once
 
 -- The operation takes neither the device nor memory. The session answers it from its own state, or nothing else changes.
-abbrev pub needs_no_resource : Session → Operation → Bool
-needs_no_resource s (ops.Seek fd position) = true
-needs_no_resource s op = needs_no_call s op
+abbrev pub needs_session_alone : Session → Operation → Bool
+needs_session_alone s (ops.Seek fd position) = true
+needs_session_alone s op = needs_no_device s op
 
 -- a refusal with this error needs no look-up, and none of a write or a truncate does
-abbrev pub is_early_refusal : Operation → Refusal → Bool
-is_early_refusal op Failed = not (is_remount op)
-is_early_refusal op ReadOnly = true
-is_early_refusal op BadFile = true
-is_early_refusal op Invalid = true
-is_early_refusal op _ = writes_or_truncates op
+abbrev pub refused_before_search : Operation → Refusal → Bool
+refused_before_search op Failed = not (is_remount op)
+refused_before_search op ReadOnly = true
+refused_before_search op BadFile = true
+refused_before_search op Invalid = true
+refused_before_search op _ = writes_or_truncates op

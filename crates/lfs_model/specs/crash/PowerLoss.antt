@@ -18,7 +18,7 @@ use Rattle.lfs_model.specs.crash.Stops.{LeftByLoss, ErasesCleanly}
 -- ---- the disk that is left
 
 -- an accepted disk in the writing profile, with the tree from before an operation or the one from after it
-pub record HasEither (disk : Disk) (before after : Tree) : Type 0 where
+pub record HasEitherTree (disk : Disk) (before after : Tree) : Type 0 where
   pub pairs : List Pair
   pub accepted : IsAccepted disk pairs
   pub writable : IsWritable disk pairs
@@ -30,7 +30,7 @@ with_blocks blocks disk = record disk { blocks = blocks }
 -- Each erase leaves no log, or the one that was there. Then a stop at any time since the old history leaves such a disk.
 abbrev pub SurvivesLossSince : Disk → List CallEvent → List CallEvent → Tree → Tree → Type 0
 SurvivesLossSince disk old new before after =
-    AllCallsSince ErasesCleanly old new → HoldsAtLosses LeftByLoss old new (λ blocks. HasEither (with_blocks blocks disk) before after)
+    AllCallsSince ErasesCleanly old new → HoldsAtLosses LeftByLoss old new (λ blocks. HasEitherTree (with_blocks blocks disk) before after)
 
 -- a call that failed left what a stop in it may leave
 abbrev pub FailsLikeLoss : CallEvent → Type 0
@@ -56,4 +56,4 @@ pub record SurvivesPowerLoss (from : SystemState) (op : Operation) (to : SystemS
   pub stops : SurvivesInCalls from op to
   pub stands : (s : Session) (ps : List Pair) (around : DiskSummary) → IsHealthySession from s ps around
       → AllCallsSince ErasesCleanly from.calls to.calls → AllCallsSince FailsLikeLoss from.calls to.calls
-      → HasEither to.disk s.tree (operation_result around s op).1.tree
+      → HasEitherTree to.disk s.tree (operation_result around s op).1.tree

@@ -7,21 +7,21 @@ use Rattle.lfs_model.specs.session.History.{CallEvent, read_count}
 use Rattle.lfs_model.specs.session.Operations.{Operation, Reply}
 use Rattle.lfs_model.specs.session.Session.{Session}
 use Rattle.lfs_model.specs.session.State.{Healthy}
-use Rattle.lfs_model.specs.crash.Frame.{LeavesOthers, answers_itself, ReadsEachOnce, SearchesAgain}
+use Rattle.lfs_model.specs.crash.Frame.{KeepsOthers, answers_itself, ReadsEachOnce, SearchesSameDirectories}
 use Rattle.lfs_model.specs.session.Run.{SystemState, is_refusal}
 
 -- the operation read nothing, if the one before was a look-up in the same directories
-abbrev pub ReadsNothing : List Pair → Option Operation → Operation → List CallEvent → Type 0
-ReadsNothing ps None op calls = Unit {0}
-ReadsNothing ps (Some before) op calls = SearchesAgain ps before op → read_count calls ≡ 0
+abbrev pub RepeatReadsNothing : List Pair → Option Operation → Operation → List CallEvent → Type 0
+RepeatReadsNothing ps None op calls = Unit {0}
+RepeatReadsNothing ps (Some before) op calls = SearchesSameDirectories ps before op → read_count calls ≡ 0
 
 -- What an operation by these calls leaves alone and may read, after the operation before, if that was accepted.
-pub record IsLocal (before : Option Operation) (from : SystemState) (op : Operation) (calls : List CallEvent) (to : SystemState) : Type 0 where
+pub record SparesAndBoundsReads (before : Option Operation) (from : SystemState) (op : Operation) (calls : List CallEvent) (to : SystemState) : Type 0 where
   pub alone : (s : Session) → from.state ≡ Healthy s → (ps qs : List Pair) → IsAccepted from.disk ps → IsAccepted to.disk qs → pairs_gstate ps ≡ zero_gstate
-      → LeavesOthers from.disk ps s op to.disk qs
+      → KeepsOthers from.disk ps s op to.disk qs
   pub asked : answers_itself op ≡ true → calls ≡ []
   pub few : (s : Session) → from.state ≡ Healthy s → (ps : List Pair) → IsAccepted from.disk ps → ReadsEachOnce ps op calls
-  pub kept : (s : Session) → from.state ≡ Healthy s → (ps : List Pair) → IsAccepted from.disk ps → ReadsNothing ps before op calls
+  pub kept : (s : Session) → from.state ≡ Healthy s → (ps : List Pair) → IsAccepted from.disk ps → RepeatReadsNothing ps before op calls
 
 -- by any of its calls a look-up reads no more pairs than its directories have, also where it meets an error
 abbrev pub ReadsOnceAlways : SystemState → Operation → SystemState → Type 0

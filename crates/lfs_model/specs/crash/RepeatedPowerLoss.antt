@@ -19,7 +19,7 @@ use Rattle.lfs_model.specs.session.State.{Healthy, is_remount, mounted_session}
 use Rattle.lfs_model.specs.session.Recovery.{IsRecovered}
 use Rattle.lfs_model.specs.session.Run.{SystemState, ShowsTree, IsStep}
 use Rattle.lfs_model.specs.session.Headline.{HasDiskTree}
-use Rattle.lfs_model.specs.crash.Performed.{AreSafeSteps, IsRun}
+use Rattle.lfs_model.specs.crash.Performed.{ArePerformed, IsRun}
 use Rattle.lfs_model.specs.crash.ReadBounds.{accepted_operation}
 use Rattle.lfs_model.specs.crash.PowerLoss.{with_blocks, FailsLikeLoss, IsHealthySession}
 
@@ -88,7 +88,7 @@ pub record LossAfterRun (at : SystemState) (left : Disk) (tree : Tree) : Type 0 
   pub is : tree ≡ session.tree
 
 -- Power was lost in one of the operations that were performed, or after all of them.
-abbrev pub LossInOperations : (before : Option Operation) (from : SystemState) (operations : List Operation) (replies : List Reply) (to : SystemState) → AreSafeSteps before from operations replies to → Disk → Tree → Type 0 → Type 0
+abbrev pub LossInOperations : (before : Option Operation) (from : SystemState) (operations : List Operation) (replies : List Reply) (to : SystemState) → ArePerformed before from operations replies to → Disk → Tree → Type 0 → Type 0
 LossInOperations before from [] replies to steps left tree AtEnd = AtEnd
 LossInOperations before from (op ∷ operations) [] to steps left tree AtEnd = ⊥
 LossInOperations before from (op ∷ operations) (reply ∷ replies) to (next, (one, others)) left tree AtEnd =

@@ -21,8 +21,8 @@ abbrev pub same_blocks_image : Disk
 same_blocks_image = blocks_image (root_block_with (tail_entry false (Some (2, 2)) ∷ []) 0x7b687562 192) (pair_block_with [] 0x43f29ceb 244 ∷ [])
 
 -- the root's tail names the root
-abbrev pub root_again_image : Disk
-root_again_image = blocks_image (root_block_with (tail_entry false (Some (0, 1)) ∷ []) 0x19dcec1e 192) []
+abbrev pub tail_to_root_image : Disk
+tail_to_root_image = blocks_image (root_block_with (tail_entry false (Some (0, 1)) ∷ []) 0x19dcec1e 192) []
 
 -- nothing was written to blocks 2 and 3
 abbrev pub unwritten_pair_image : Disk

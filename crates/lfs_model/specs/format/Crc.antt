@@ -48,11 +48,11 @@ abbrev pub crc_after_bit : ℕ → ℕ
 crc_after_bit x = if x % 2 == 1 then bit_xor (x / 2) 0xedb88320 else x / 2
 
 -- its next n bits
-unfoldable pub next_bits : ℕ → ℕ → ℕ
-next_bits zero x = x
-next_bits (suc n) x = next_bits n (crc_after_bit x)
+unfoldable pub checksum_after_bits : ℕ → ℕ → ℕ
+checksum_after_bits zero x = x
+checksum_after_bits (suc n) x = checksum_after_bits n (crc_after_bit x)
 
 -- the checksum of bytes that follow those with the checksum `start`
 unfoldable pub crc_of : ℕ → List ℕ → ℕ
 crc_of start [] = start
-crc_of start (b ∷ bs) = crc_of (next_bits 8 (bit_xor start b)) bs
+crc_of start (b ∷ bs) = crc_of (checksum_after_bits 8 (bit_xor start b)) bs

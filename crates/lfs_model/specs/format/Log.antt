@@ -86,15 +86,15 @@ commit_within (suc n) block start at before =
 abbrev pub commit_at : List ℕ → ℕ → ℕ → ℕ → Option Commit
 commit_at block start at before = commit_within (length block - at) block start at before
 
-abbrev pub or_empty : ℕ → ℕ → Option CommitSequence → CommitSequence
-or_empty at before None = record { commits = []; end = at; last = before }
-or_empty at before (Some c) = c
+abbrev pub chain_or_empty : ℕ → ℕ → Option CommitSequence → CommitSequence
+chain_or_empty at before None = record { commits = []; end = at; last = before }
+chain_or_empty at before (Some c) = c
 
 -- the longest chain that begins so, among at most n commits
 unfoldable pub chain_within : ℕ → List ℕ → ℕ → ℕ → ℕ → CommitSequence
 chain_within zero block start at before = record { commits = []; end = at; last = before }
 chain_within (suc n) block start at before =
-    or_empty at before (option_map (λ c. with_commit c.entries (chain_within n block c.end c.end c.last)) (commit_at block start at before))
+    chain_or_empty at before (option_map (λ c. with_commit c.entries (chain_within n block c.end c.end c.last)) (commit_at block start at before))
 
 abbrev pub longest_sequence : List ℕ → ℕ → ℕ → ℕ → CommitSequence
 longest_sequence block start at before = chain_within (length block - at) block start at before
@@ -131,10 +131,10 @@ AreEntriesBetween block at before [] end last = (at ≡ end) × (before ≡ last
 AreEntriesBetween block at before (e ∷ es) end last = (entry_at block at before ≡ Some e) × AreEntriesBetween block (entry_end at e) (tag_before_next e.tag) es end last
 
 -- the entries from `at` to `end`, at most n
-unfoldable pub run_within : ℕ → List ℕ → ℕ → ℕ → ℕ → List LogEntry
-run_within zero block at before end = []
-run_within (suc n) block at before end =
-    if nat_lt at end then option_map_or (λ e. e ∷ run_within n block (entry_end at e) (tag_before_next e.tag) end) (entry_at block at before) [] else []
+unfoldable pub entries_within : ℕ → List ℕ → ℕ → ℕ → ℕ → List LogEntry
+entries_within zero block at before end = []
+entries_within (suc n) block at before end =
+    if nat_lt at end then option_map_or (λ e. e ∷ entries_within n block (entry_end at e) (tag_before_next e.tag) end) (entry_at block at before) [] else []
 
 abbrev pub entries_between : List ℕ → ℕ → ℕ → ℕ → List LogEntry
-entries_between block at before end = run_within (end - at) block at before end
+entries_between block at before end = entries_within (end - at) block at before end

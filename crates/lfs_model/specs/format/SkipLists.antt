@@ -28,13 +28,13 @@ pub record IsBytePlace (block_size pos index offset : ℕ) : Type 0 where
   pub at : offset ≡ 4 * pointer_count index + (pos - bytes_before_block block_size index)
 
 -- the least number of blocks that hold size bytes, from block i on; steps bounds it
-abbrev pub blocks_from_index : ℕ → ℕ → ℕ → ℕ → ℕ
-blocks_from_index zero block_size i size = 0
-blocks_from_index (suc steps) block_size i size =
-    if size == 0 then 0 else 1 + blocks_from_index steps block_size (i + 1) (size - block_capacity block_size i)
+abbrev pub block_count_from : ℕ → ℕ → ℕ → ℕ → ℕ
+block_count_from zero block_size i size = 0
+block_count_from (suc steps) block_size i size =
+    if size == 0 then 0 else 1 + block_count_from steps block_size (i + 1) (size - block_capacity block_size i)
 
 abbrev pub block_count_for : ℕ → ℕ → ℕ
-block_count_for block_size size = blocks_from_index size block_size 0 size
+block_count_for block_size size = block_count_from size block_size 0 size
 
 -- count blocks back from the head by pointer 0, the first block of the file first
 abbrev pub blocks_to_head : Blocks → ℕ → ℕ → List ℕ

@@ -75,13 +75,13 @@ gstate_xor a b = record {
 abbrev pub same_pair : ℕ × ℕ → ℕ × ℕ → Bool
 same_pair a b = (a.0 == b.0 && a.1 == b.1) || (a.0 == b.1 && a.1 == b.0)
 
-abbrev pub names_superblock : SlotKind → Bool
-names_superblock Superblock = true
-names_superblock File = false
-names_superblock Directory = false
+abbrev pub is_superblock_kind : SlotKind → Bool
+is_superblock_kind Superblock = true
+is_superblock_kind File = false
+is_superblock_kind Directory = false
 
 abbrev pub is_superblock : Slot → Bool
-is_superblock s = names_superblock s.kind
+is_superblock s = is_superblock_kind s.kind
 
 -- sizes in bytes, as they count in a pair
 

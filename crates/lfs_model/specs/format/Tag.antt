@@ -41,12 +41,12 @@ abbrev pub forward_checksum_type : ℕ
 forward_checksum_type = 0x5ff
 
 -- a forward checksum, of any length: an entry without meaning
-abbrev pub is_forward : ℕ → Bool
-is_forward tag = tag_type tag == forward_checksum_type && nat_le (tag_length tag) data_limit
+abbrev pub is_forward_checksum : ℕ → Bool
+is_forward_checksum tag = tag_type tag == forward_checksum_type && nat_le (tag_length tag) data_limit
 
 -- the tag ends a commit, or spoils it: any tag of class 5 but a forward checksum
 abbrev pub is_commit_end : ℕ → Bool
-is_commit_end tag = abstract_type tag == 5 && not (is_forward tag)
+is_commit_end tag = abstract_type tag == 5 && not (is_forward_checksum tag)
 
 -- the tag as the next one is decoded with it: the lowest chunk bit of a checksum is added to the top bit
 abbrev pub tag_before_next : ℕ → ℕ

@@ -53,9 +53,9 @@ is_hard_tail (Some t) = t.hard
 -- with a superblock. It is the longest such beginning of the thread, and the root directory begins at its last pair. Where a pair
 -- of it wears, littlefs's own code moves the slots into a pair after it. Up to release 2.8 it leaves no slot before them, and
 -- from 2.9 on a copy of the superblock.
-abbrev pub starts_superblock : List Slot → Bool
-starts_superblock [] = false
-starts_superblock (s ∷ slots) = is_superblock s
+abbrev pub superblock_first : List Slot → Bool
+superblock_first [] = false
+superblock_first (s ∷ slots) = is_superblock s
 
 abbrev pub has_slots : List Slot → Bool
 has_slots [] = false
@@ -68,32 +68,32 @@ has_no_entry (s ∷ []) = is_superblock s
 has_no_entry (s ∷ t ∷ slots) = false
 
 -- the chain may continue after the pair
-abbrev pub may_continue : Pair → Bool
-may_continue p = has_no_entry p.content.slots && is_hard_tail p.content.tail
+abbrev pub chain_may_continue : Pair → Bool
+chain_may_continue p = has_no_entry p.content.slots && is_hard_tail p.content.tail
 
 -- slot 0 is a superblock, or there is no slot and `later` is true
-abbrev pub starts_or_later : List Slot → Bool → Bool
-starts_or_later [] later = later
-starts_or_later (s ∷ slots) later = is_superblock s
+abbrev pub superblock_or_later : List Slot → Bool → Bool
+superblock_or_later [] later = later
+superblock_or_later (s ∷ slots) later = is_superblock s
 
 -- the first pair that has a slot begins with a superblock, and the pairs before it have hard tails
 abbrev pub has_superblock : List Pair → Bool
 has_superblock [] = false
-has_superblock (p ∷ ps) = starts_or_later p.content.slots (is_hard_tail p.content.tail && has_superblock ps)
+has_superblock (p ∷ ps) = superblock_or_later p.content.slots (is_hard_tail p.content.tail && has_superblock ps)
 
 -- how many pairs are before the root directory
 abbrev pub count_before_root : List Pair → ℕ
 count_before_root [] = 0
-count_before_root (p ∷ ps) = if has_superblock ps && may_continue p then 1 + count_before_root ps else 0
+count_before_root (p ∷ ps) = if has_superblock ps && chain_may_continue p then 1 + count_before_root ps else 0
 
 -- the pairs of all directories, the root's first
 abbrev pub pairs_from_root : List Pair → List Pair
 pairs_from_root ps = drop (count_before_root ps) ps
 
 -- the pairs from the first one that has a slot on
-abbrev pub from_first_slots : List Pair → List Pair
-from_first_slots [] = []
-from_first_slots (p ∷ ps) = if has_slots p.content.slots then p ∷ ps else from_first_slots ps
+abbrev pub pairs_from_filled : List Pair → List Pair
+pairs_from_filled [] = []
+pairs_from_filled (p ∷ ps) = if has_slots p.content.slots then p ∷ ps else pairs_from_filled ps
 
 abbrev pub first_address : List Pair → ℕ × ℕ
 first_address [] = anchor_address

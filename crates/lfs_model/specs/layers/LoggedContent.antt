@@ -63,10 +63,10 @@ pub record IsStorable (c : RawContent) : Type 0 where
   pub few : length c.slots < no_id
 
 -- an entry as it is in a block: as many bytes as its tag says, and in a tail or a move state each below 256
-pub record HasLength (e : LogEntry) : Type 0 where
+pub record HasTagLength (e : LogEntry) : Type 0 where
   pub size : length e.bytes ≡ tag_data_size e.tag
   pub bytes : 6 ≤ abstract_type e.tag → (i : ℕ) → slice_index e.bytes i < 256
 
-abbrev pub HaveLengths : List LogEntry → Type 0
-HaveLengths [] = Unit {0}
-HaveLengths (e ∷ es) = HasLength e × HaveLengths es
+abbrev pub HaveTagLengths : List LogEntry → Type 0
+HaveTagLengths [] = Unit {0}
+HaveTagLengths (e ∷ es) = HasTagLength e × HaveTagLengths es

@@ -6,9 +6,9 @@ use Rattle.lfs_model.specs.format.Disk.{Disk, block_count}
 use Rattle.lfs_model.specs.format.Names.{Name, name_cmp}
 use Rattle.lfs_model.specs.tree.Shown.{IsReachedBySome, LeadsTo, all_directories, all_entries, struct_blocks, used_blocks}
 use Rattle.lfs_model.specs.format.Slots.{Inline, Slot, is_superblock, array_address, same_pair}
-use Rattle.lfs_model.specs.format.Thread.{BeginsAt, IsThread, Pair, ThreadDirectory, anchor_address, pairs_blocks, first_address, pairs_gstate, moved_id, tail_target, count_before_root, from_first_slots, pairs_from_root, starts_superblock}
+use Rattle.lfs_model.specs.format.Thread.{BeginsAt, IsThread, Pair, ThreadDirectory, anchor_address, pairs_blocks, first_address, pairs_gstate, moved_id, tail_target, count_before_root, pairs_from_filled, pairs_from_root, superblock_first}
 use Rattle.lfs_model.specs.tree.Tree.{Path, names_at}
-use Rattle.lfs_model.specs.tree.View.{BeginsWith, HasStruct, HasValidMove, IsTreeEntry, IsFormedList, IsSuperblock, first_pair_slots, superblock_entry}
+use Rattle.lfs_model.specs.tree.View.{BeginsWith, RepeatsSuperblockStruct, HasValidMove, IsTreeEntry, IsFormedList, IsSuperblock, first_pair_slots, superblock_entry}
 use Rattle.lfs_model.specs.declared.violations.Violation.{Violation}
 use Rattle.lfs_model.specs.declared.violations.Violation.TheVariants as violation
 
@@ -53,11 +53,11 @@ pub record IsDiskSuperblock (disk : Disk) (s : Slot) : Type 0 where
 
 -- the address of the first pair that has a slot
 abbrev pub first_filled_address : List Pair → ℕ × ℕ
-first_filled_address ps = first_address (from_first_slots ps)
+first_filled_address ps = first_address (pairs_from_filled ps)
 
 -- slot 0 of the first pair that has a slot
 abbrev pub HasFirstSlot : List Pair → Slot → Type 0
-HasFirstSlot ps s = slice_get (first_pair_slots (from_first_slots ps)) 0 ≡ Some s
+HasFirstSlot ps s = slice_get (first_pair_slots (pairs_from_filled ps)) 0 ≡ Some s
 
 -- a pair of the superblock's chain begins with another superblock than the first one
 pub record IsOtherSuperblock (disk : Disk) (ps : List Pair) (at : ℕ × ℕ) : Type 0 where
@@ -72,7 +72,7 @@ pub record IsOtherSuperblock (disk : Disk) (ps : List Pair) (at : ℕ × ℕ) : 
   pub first_is : HasFirstSlot ps first
   pub bytes : List ℕ
   pub inline : first.struct ≡ Inline bytes
-  pub differs : ¬ HasStruct disk.profile.versions bytes slot
+  pub differs : ¬ RepeatsSuperblockStruct disk.profile.versions bytes slot
 
 -- ---- slots
 
@@ -165,7 +165,7 @@ BreaksThread disk _ = ⊥
 
 -- the pairs of the thread break a rule
 abbrev pub BreaksPairs : Disk → List Pair → Violation → Type 0
-BreaksPairs disk ps violation.NoSuperblock = starts_superblock (first_pair_slots (pairs_from_root ps)) ≡ false
+BreaksPairs disk ps violation.NoSuperblock = superblock_first (first_pair_slots (pairs_from_root ps)) ≡ false
 BreaksPairs disk ps (violation.FirstEntry pair) = (first_filled_address ps ≡ array_address pair) × ¬ BeginsWith (current_block disk (array_address pair)) superblock_entry
 BreaksPairs disk ps (violation.Superblock pair) = (first_filled_address ps ≡ array_address pair) × (s : Slot) × (HasFirstSlot ps s × ¬ IsDiskSuperblock disk s)
 BreaksPairs disk ps (violation.OtherSuperblock pair) = IsOtherSuperblock disk ps (array_address pair)

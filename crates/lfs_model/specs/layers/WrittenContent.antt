@@ -51,15 +51,15 @@ move_entry g = log_entry move_type no_id (bytes_of_move_state g)
 -- ---- what a pair holds, written anew
 
 -- a name or a struct
-abbrev pub data_entries : ℕ → Option (ℕ × List ℕ) → List LogEntry
-data_entries id None = []
-data_entries id (Some part) = log_entry part.0 id part.1 ∷ []
+abbrev pub part_entries : ℕ → Option (ℕ × List ℕ) → List LogEntry
+part_entries id None = []
+part_entries id (Some part) = log_entry part.0 id part.1 ∷ []
 
 abbrev pub attribute_entries : ℕ → Attributes → List LogEntry
 attribute_entries id attributes = map (λ a. log_entry (first_attribute_type + a.0) id a.1) attributes
 
 abbrev pub slot_entries : ℕ → RawSlot → List LogEntry
-slot_entries id s = data_entries id s.name ++ data_entries id s.struct ++ attribute_entries id s.attributes
+slot_entries id s = part_entries id s.name ++ part_entries id s.struct ++ attribute_entries id s.attributes
 
 -- the slots from an id on
 abbrev pub entries_of_slots : ℕ → List RawSlot → List LogEntry
@@ -83,12 +83,12 @@ content_entries c = entries_of_slots 0 c.slots ++ tail_entries c.tail ++ move_st
 
 -- ---- sizes
 
-abbrev pub data_size : Option (ℕ × List ℕ) → ℕ
-data_size None = 0
-data_size (Some part) = 4 + length part.1
+abbrev pub part_size : Option (ℕ × List ℕ) → ℕ
+part_size None = 0
+part_size (Some part) = 4 + length part.1
 
 abbrev pub slot_size_raw : RawSlot → ℕ
-slot_size_raw s = data_size s.name + data_size s.struct + attributes_size s.attributes
+slot_size_raw s = part_size s.name + part_size s.struct + attributes_size s.attributes
 
 -- the bytes that the slots take
 abbrev pub raw_slots_size : RawContent → ℕ

@@ -27,10 +27,10 @@ file_with_bytes bytes (FileNode attributes old) = FileNode attributes bytes
 file_with_bytes bytes (DirectoryNode attributes names) = DirectoryNode attributes names
 
 -- the tree after a commit of a dirty writer's contents
-abbrev pub tree_stored : Option OpenFile → Tree → Tree
-tree_stored None t = t
-tree_stored (Some (Reading r)) t = t
-tree_stored (Some (Writing w)) t = if w.dirty then tree_with_change w.path (file_with_bytes w.contents) t else t
+abbrev pub tree_after_storing : Option OpenFile → Tree → Tree
+tree_after_storing None t = t
+tree_after_storing (Some (Reading r)) t = t
+tree_after_storing (Some (Writing w)) t = if w.dirty then tree_with_change w.path (file_with_bytes w.contents) t else t
 
 abbrev pub file_after_sync : Option OpenFile → Option OpenFile
 file_after_sync None = None
@@ -91,14 +91,14 @@ operation_effect around s (ops.Truncate fd size) = (
 operation_effect around s (ops.Sync fd) = (
   ops.Done,
   record {
-    tree = tree_stored (file_numbered s.files fd) s.tree;
+    tree = tree_after_storing (file_numbered s.files fd) s.tree;
     files = files_with_file s.files fd (file_after_sync (file_numbered s.files fd));
   },
 )
 operation_effect around s (ops.Close fd) = (
   ops.Done,
   record {
-    tree = tree_stored (file_numbered s.files fd) s.tree;
+    tree = tree_after_storing (file_numbered s.files fd) s.tree;
     files = files_with_file s.files fd None;
   },
 )

@@ -17,7 +17,7 @@ use Rattle.lfs_model.specs.session.Recovery.{IsRecovered}
 use Rattle.lfs_model.specs.session.Run.{SystemState, ShowsTree, is_refusal, IsStep, AreSteps}
 
 -- these operations lead from a fresh disk, just mounted, to this state
-pub record IsReached (operations : List Operation) (replies : List Reply) (at : SystemState) : Type 0 where
+pub record LeadsFromFresh (operations : List Operation) (replies : List Reply) (at : SystemState) : Type 0 where
   pub from : SystemState
   pub fresh : IsFreshDisk from.disk
   pub mounts : from.state ≡ Healthy (mounted_session empty_tree)

@@ -5,7 +5,7 @@ use Rattle.std.specs.declared.cmp.Ordering.TheVariants.{Less}
 use Rattle.lfs_model.specs.declared.order.NameOrder.{NameOrder}
 use Rattle.lfs_model.specs.format.Names.{Name, name_cmp}
 use Rattle.lfs_model.specs.format.Slots.{Slot, is_superblock, same_pair}
-use Rattle.lfs_model.specs.format.Thread.{Pair, is_hard_tail, starts_superblock}
+use Rattle.lfs_model.specs.format.Thread.{Pair, is_hard_tail, superblock_first}
 
 -- ---- in one pair
 
@@ -42,7 +42,7 @@ pub record BelongsAtId (order : NameOrder) (slots : List Slot) (name : Name) (id
   pub number : length left ≡ id
   pub less : AllByRecursion (λ s. name_cmp order s.name name ≡ Less) (entry_slots left)
   pub greater : (right ≡ []) ⊎ FirstIsGreater order name (entry_slots right)
-  pub fronted : starts_superblock right ≡ false
+  pub fronted : superblock_first right ≡ false
 
 -- ---- in a directory
 
@@ -102,7 +102,7 @@ pub record BelongsAt (order : NameOrder) (ps : List Pair) (first : ℕ) (name : 
   pub held : pair.content.slots ≡ left ++ right
   pub number : length left ≡ id
   pub less : AllByRecursion (λ s. name_cmp order s.name name ≡ Less) (entry_slots left)
-  pub fronted : starts_superblock right ≡ false
+  pub fronted : superblock_first right ≡ false
   pub not_before : (place.left ≡ []) ⊎ (entry_slots left ≢ [])
   pub not_behind : FirstIsGreater order name (entry_slots (right ++ all_slots later))
       ⊎ ((entry_slots (right ++ all_slots later) ≡ []) × (last_joins pair later ≡ false))

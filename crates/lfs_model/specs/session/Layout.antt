@@ -34,8 +34,8 @@ removed_addresses ps (ops.Rename from to) = if same_path (path_or_root from) (pa
 removed_addresses ps _ = []
 
 -- no path leads to the directory that begins there, or the operation removes it
-abbrev pub IsDirectoryGone : List Pair → Operation → ℕ × ℕ → Type 0
-IsDirectoryGone ps op begin = (IsReachedBySome ps begin → ⊥) ⊎ Any (λ at. same_pair begin at ≡ true) (removed_addresses ps op)
+abbrev pub IsUnreachedOrRemoved : List Pair → Operation → ℕ × ℕ → Type 0
+IsUnreachedOrRemoved ps op begin = (IsReachedBySome ps begin → ⊥) ⊎ Any (λ at. same_pair begin at ≡ true) (removed_addresses ps op)
 
 -- ---- what stands for each pair
 
@@ -77,7 +77,7 @@ pub record IsLayout (disk : Disk) (ps : List Pair) (s : Session) (op : Operation
   pub fresh : List Pair
   pub back : List Pair
   pub edits : EditsSlots new ps s op fresh (pairs_without_moved ps) drafts
-  pub stand : ArePairsAfter disk (IsDirectoryGone ps op) (count_before_root ps) None drafts parts
+  pub stand : ArePairsAfter disk (IsUnreachedOrRemoved ps op) (count_before_root ps) None drafts parts
   pub joined : flat_map (λ part. part) parts ≡ front ++ back
   pub is : qs ≡ front ++ (fresh ++ back)
 

@@ -31,8 +31,8 @@ abbrev pub AreUnused : Disk → List Pair → ℕ × ℕ → Type 0
 AreUnused disk ps at = All (λ b. Contains (used_blocks disk ps) b → ⊥) (address_blocks at)
 
 -- at least an eighth of the blocks isn't used
-abbrev pub LeavesEighth : Disk → List Pair → Type 0
-LeavesEighth disk ps = 8 * length (used_blocks disk ps) ≤ 7 * block_count disk
+abbrev pub EighthFree : Disk → List Pair → Type 0
+EighthFree disk ps = 8 * length (used_blocks disk ps) ≤ 7 * block_count disk
 
 -- the pair with these slots, and a hard tail to that address
 abbrev pub pair_joined_to : ℕ × ℕ → List Slot → Pair → Pair
@@ -68,7 +68,7 @@ pub record IsPairUnloaded (disk : Disk) (ps : List Pair) (new : Disk) (qs : List
   pub some : has_slots worn.content.slots ≡ true
   pub is : qs ≡ front ++ before ∷ pair_joined_to to [] worn ∷ pair_behind to worn ∷ back
   pub unused : AreUnused disk ps to
-  pub room : LeavesEighth new qs
+  pub room : EighthFree new qs
   pub due : is_worn disk worn ≡ true
 
 -- The thread's first pair, with which the root directory begins, stays with its superblock. The root directory begins behind it,
@@ -81,7 +81,7 @@ pub record IsRootUnloaded (disk : Disk) (ps : List Pair) (new : Disk) (qs : List
   pub root : count_before_root ps ≡ 0
   pub is : qs ≡ pair_joined_to to (take 1 worn.content.slots) worn ∷ pair_behind to worn ∷ back
   pub unused : AreUnused disk ps to
-  pub room : LeavesEighth new qs
+  pub room : EighthFree new qs
   pub due : is_worn disk worn ≡ true
 
 abbrev pub IsMoved : Disk → List Pair → Disk → List Pair → Type 0

@@ -89,15 +89,15 @@ has_size (Some w) size = size == length w.contents
 
 -- The operation has nothing to do on the device. It writes no bytes, the size is there already, the file isn't dirty, or the
 -- session has the answer.
-abbrev pub needs_no_call : Session → Operation → Bool
-needs_no_call s (ops.Write fd []) = true
-needs_no_call s (ops.Truncate fd size) = has_size (file_writer (file_numbered s.files fd)) size
-needs_no_call s (ops.Sync fd) = not (is_dirty (file_numbered s.files fd))
-needs_no_call s (ops.Close fd) = not (is_dirty (file_numbered s.files fd))
-needs_no_call s ops.AskGstate = true
-needs_no_call s (ops.IsUsed block) = true
-needs_no_call s ops.UsedCount = true
-needs_no_call s _ = false
+abbrev pub needs_no_device : Session → Operation → Bool
+needs_no_device s (ops.Write fd []) = true
+needs_no_device s (ops.Truncate fd size) = has_size (file_writer (file_numbered s.files fd)) size
+needs_no_device s (ops.Sync fd) = not (is_dirty (file_numbered s.files fd))
+needs_no_device s (ops.Close fd) = not (is_dirty (file_numbered s.files fd))
+needs_no_device s ops.AskGstate = true
+needs_no_device s (ops.IsUsed block) = true
+needs_no_device s ops.UsedCount = true
+needs_no_device s _ = false
 
 abbrev pub renames_itself : Operation → Bool
 renames_itself (ops.Rename old new) = same_path (path_or_root old) (path_or_root new)
@@ -125,20 +125,20 @@ abbrev pub disk_read_by : Operation → NameOrder → Disk → Disk
 disk_read_by op order disk = if is_remount op then ordered_disk order disk else disk
 
 -- A remount found the order of the names, and wrote nothing. Where both orders fit, the longer names come first.
-pub record IsReadAnew (disk : Disk) (calls : List CallEvent) (new : Disk) : Type 0 where
+pub record IsRemountedDisk (disk : Disk) (calls : List CallEvent) (new : Disk) : Type 0 where
   pub untouched : IsUntouched (ordered_disk new.order disk) calls new
   pub longer : new.order ≡ ShorterFirst → (ps : List Pair) → IsAccepted (ordered_disk LongerFirst disk) ps → ⊥
 
 -- ---- an operation
 
 -- What an accepted operation of a healthy session does to a disk, by these calls.
-pub record IsEffect (disk : Disk) (ps : List Pair) (s : Session) (op : Operation) (calls : List CallEvent) (new : Disk) (qs : List Pair) : Type 0 where
+pub record IsDiskEffect (disk : Disk) (ps : List Pair) (s : Session) (op : Operation) (calls : List CallEvent) (new : Disk) (qs : List Pair) : Type 0 where
   -- where nothing is written
   pub asks : is_read_only s op ≡ true → IsUntouched (disk_read_by op new.order disk) calls new
   pub opens : opens_existing s op ≡ true → pairs_gstate ps ≡ zero_gstate → new ≡ disk
   pub itself : renames_itself op ≡ true → IsUntouched disk calls new
   pub nothing_left : is_recover op ≡ true → IsRecovered ps → IsUntouched disk calls new
-  pub silent : needs_no_call s op ≡ true → (new ≡ disk) × (calls ≡ [])
+  pub silent : needs_no_device s op ≡ true → (new ≡ disk) × (calls ≡ [])
   -- no pair changes, and what the disk shows stays
   pub fills : writes_or_truncates op ≡ true → (qs ≡ ps) × ((view : DiskView) → HasDiskView disk view → HasDiskView new view)
   -- what is left to recover
@@ -156,10 +156,10 @@ pub record IsStep (from : SystemState) (op : Operation) (reply : Reply) (to : Sy
   pub calls : List CallEvent
   pub called : to.calls ≡ calls ++ from.calls
   pub refused : is_refusal reply ≡ true → IsUntouched from.disk calls to.disk
-  pub remounted : is_remount op ≡ true → IsReadAnew from.disk calls to.disk
+  pub remounted : is_remount op ≡ true → IsRemountedDisk from.disk calls to.disk
   pub failed : is_remount op ≡ false → from.state ≡ HasFailed → calls ≡ []
   pub effect_on_disk : is_refusal reply ≡ false → (s : Session) → from.state ≡ Healthy s → (ps qs : List Pair)
-      → IsAccepted from.disk ps → IsAccepted to.disk qs → IsEffect from.disk ps s op calls to.disk qs
+      → IsAccepted from.disk ps → IsAccepted to.disk qs → IsDiskEffect from.disk ps s op calls to.disk qs
 
 -- operations in order, with their replies
 abbrev pub AreSteps : SystemState → List Operation → List Reply → SystemState → Type 0

@@ -49,15 +49,15 @@ pub record DiskSummary : Type 0 where
 
 -- space
 
-abbrev pub list_blocks_of : Profile → ℕ → ℕ → ℕ
-list_blocks_of profile block_size n = if nat_le n (inline_limit profile block_size) then 0 else block_count_for block_size n
+abbrev pub list_block_count : Profile → ℕ → ℕ → ℕ
+list_block_count profile block_size n = if nat_le n (inline_limit profile block_size) then 0 else block_count_for block_size n
 
 -- open files
 
 abbrev pub reserved_for_writer : Profile → ℕ → FileWriter → ℕ
 reserved_for_writer profile block_size w =
     if not w.dirty then 0
-    else 2 + (if w.turned then 2 else 1) * list_blocks_of profile block_size (length w.contents)
+    else 2 + (if w.turned then 2 else 1) * list_block_count profile block_size (length w.contents)
 
 abbrev pub file_numbered : OpenFilesByNumber → ℕ → Option OpenFile
 file_numbered files fd = option_flatten (slice_get files fd)

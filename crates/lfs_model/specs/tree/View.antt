@@ -13,7 +13,7 @@ use Rattle.lfs_model.specs.format.Slots.{Slot, SlotKind, File, Directory, Superb
 use Rattle.lfs_model.specs.format.Content.{current_block, content_at}
 use Rattle.lfs_model.specs.format.EntryTypes.{superblock_name_type, superblock_fields}
 use Rattle.lfs_model.specs.format.SkipLists.{IsSkipList}
-use Rattle.lfs_model.specs.format.Thread.{Pair, IsThread, pairs_from_root, first_address, from_first_slots, pairs_gstate, starts_superblock, count_before_root, BeginsAt}
+use Rattle.lfs_model.specs.format.Thread.{Pair, IsThread, pairs_from_root, first_address, pairs_from_filled, pairs_gstate, superblock_first, count_before_root, BeginsAt}
 use Rattle.lfs_model.specs.tree.Tree.{Path, Tree, names_at}
 use Rattle.lfs_model.specs.tree.Shown.{all_directories, all_entries, LeadsTo, IsReachedBySome, disk_tree, all_unmoved_slots, used_blocks}
 
@@ -71,11 +71,11 @@ pub record SameExceptVersion (versions : AcceptedVersions) (bytes own : List ℕ
   pub version : accepts_version versions (superblock_fields own).version ≡ true
   pub rest : drop 4 own ≡ drop 4 bytes
 
-abbrev pub HasStruct : AcceptedVersions → List ℕ → Slot → Type 0
-HasStruct versions bytes s = (own : List ℕ) × ((s.struct ≡ Inline own) × SameExceptVersion versions bytes own)
+abbrev pub RepeatsSuperblockStruct : AcceptedVersions → List ℕ → Slot → Type 0
+RepeatsSuperblockStruct versions bytes s = (own : List ℕ) × ((s.struct ≡ Inline own) × SameExceptVersion versions bytes own)
 
 abbrev pub BeginsWithSuperblock : AcceptedVersions → List ℕ → List Slot → Type 0
-BeginsWithSuperblock versions bytes slots = SuperblockFirstIfAny (HasStruct versions bytes) slots
+BeginsWithSuperblock versions bytes slots = SuperblockFirstIfAny (RepeatsSuperblockStruct versions bytes) slots
 
 -- the name in slot 0 of the first of these pairs
 abbrev pub first_slot_name : List Pair → Option Name
@@ -116,10 +116,10 @@ pub record IsAccepted (disk : Disk) (ps : List Pair) : Type 0 where
   -- every pair of the thread has a well formed log; it ends, its addresses are in range, no block comes twice
   pub thread : IsThread (content_at disk) (block_count disk) ps
   -- in the first pair that has a slot the superblock is the first entry, and keeps its name
-  pub first : BeginsWith (current_block disk (first_address (from_first_slots ps))) superblock_entry
-  pub named : first_slot_name (from_first_slots ps) ≡ Some (codes "littlefs")
+  pub first : BeginsWith (current_block disk (first_address (pairs_from_filled ps))) superblock_entry
+  pub named : first_slot_name (pairs_from_filled ps) ≡ Some (codes "littlefs")
   -- the root directory begins with a superblock, and all those of its chain have the same struct but for an accepted version
-  pub root : starts_superblock (first_pair_slots (pairs_from_root ps)) ≡ true
+  pub root : superblock_first (first_pair_slots (pairs_from_root ps)) ≡ true
   pub superblock : (bytes : List ℕ) × (IsSuperblock disk bytes × All (λ p. BeginsWithSuperblock disk.profile.versions bytes p.content.slots) (chain_pairs ps))
   -- every other slot is a file or a directory, with a name and a struct that match
   pub slots : All (λ p. All IsTreeEntry p.content.slots) (after_chain ps)

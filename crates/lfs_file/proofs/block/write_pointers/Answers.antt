@@ -48,9 +48,9 @@ loop-k-init g c =
     let many = pointer_count-pos index (omega arith) in
     record {
       at = is;
-      words = λ j less. words_more c.args.buf.now c.put_word.new.buf head 0 (λ i. slice_index (blocks_to_head old index head) (index - 2 ^ i)) c.put_word.ensures (omega (arith, c.requires.room)) (omega arith) is (λ i none. absurd (omega arith)) j (omega arith);
-      rest = ap (λ (b : List ℕ). drop (4 * pointer_count index) b) c.put_word.ensures ∙ drop-with_word c.args.buf.now 0 head (4 * pointer_count index) (omega (arith, c.requires.room)) (omega arith);
-      len = c.put_word.auto.buf;
+      words = λ j less. words_more c.args.buf.now c.write_word.new.buf head 0 (λ i. slice_index (blocks_to_head old index head) (index - 2 ^ i)) c.write_word.ensures (omega (arith, c.requires.room)) (omega arith) is (λ i none. absurd (omega arith)) j (omega arith);
+      rest = ap (λ (b : List ℕ). drop (4 * pointer_count index) b) c.write_word.ensures ∙ drop-with_word c.args.buf.now 0 head (4 * pointer_count index) (omega (arith, c.requires.room)) (omega arith);
+      len = c.write_word.auto.buf;
       front = record { count = refl; head = refl; known = c.requires.known; below = λ below. below };
       few = omega arith;
       none = λ all. (refl, refl);
@@ -140,9 +140,9 @@ loop-k-preserved g c =
     let one = c.block_at_pointer.ensures.calls.few in
     record {
       at = is;
-      words = words_more c.loop-k.buf c.put_word-in-loop-k.new.buf c.in_ok-to.to (k + 1) (λ i. slice_index (blocks_to_head old index head) (index - 2 ^ i)) c.put_word-in-loop-k.ensures (omega arith) (omega arith) is inv.words;
-      rest = ap (λ (b : List ℕ). drop (4 * pointer_count index) b) c.put_word-in-loop-k.ensures ∙ drop-with_word c.loop-k.buf (4 * (k + 1)) c.in_ok-to.to (4 * pointer_count index) (omega arith) (omega arith) ∙ inv.rest;
-      len = c.put_word-in-loop-k.auto.buf ∙ inv.len;
+      words = words_more c.loop-k.buf c.write_word-in-loop-k.new.buf c.in_ok-to.to (k + 1) (λ i. slice_index (blocks_to_head old index head) (index - 2 ^ i)) c.write_word-in-loop-k.ensures (omega arith) (omega arith) is inv.words;
+      rest = ap (λ (b : List ℕ). drop (4 * pointer_count index) b) c.write_word-in-loop-k.ensures ∙ drop-with_word c.loop-k.buf (4 * (k + 1)) c.in_ok-to.to (4 * pointer_count index) (omega arith) (omega arith) ∙ inv.rest;
+      len = c.write_word-in-loop-k.auto.buf ∙ inv.len;
       front = record {
         count = inv.front.count;
         head = inv.front.head;

@@ -1,5 +1,5 @@
 use Rattle.std.proofs.Common.{rules, ℕ, inl, ◌≡◌, ◌+◌, ◌-◌, ◌<◌, ◌≤◌, get_or, List, ◌++◌, length, min, take, drop, slice_index, refl, sym, ap, ◌∙◌, subst, arith}
-use Rattle.lfs_file.proofs.Common.{length-take-le, err_from_is_err_and, Blocks, HasBlockSizes, IsBytePlace, IsSkipList, blocks_to_head, block_count_for, list_bytes, block_count_for-more, IsOnDisk, growing_bytes, kept_blocks, growing_size_with, GrowsInFree, HasBlocksTaken, blocks_of_list, CanEndAlone, place-lt}
+use Rattle.lfs_file.proofs.Common.{length-take-le, err_from_is_err_and, Blocks, HasBlockSizes, IsBytePlace, IsSkipList, blocks_to_head, block_count_for, list_bytes, block_count_for-more, IsOnDisk, growing_bytes, lasting_blocks, growing_size_with, GrowsInFree, HasBlocksTaken, blocks_of_list, CanEndAlone, place-lt}
 use Rattle.std.proofs.lemmas.List.{get_or_read}
 use Rattle.lfs_device.specs.declared.geometry.Geometry.{Geometry}
 use Rattle.lfs_file.proofs.ContentsCalled.{apart_on, apart_read, apart_reads, quiet, reported_as, reported_on}
@@ -165,7 +165,7 @@ extend_list-requires g c = record {
       let long : length (take n c.read_from_block.new.buf) ≡ n = length-take-le n c.read_from_block.new.buf c.in_ok-count.ensures.read.within in
       let more = block_count_for-more block_size (growing_size_with block_size now + length (take n c.read_from_block.new.buf)) c.args.base.size (omega arith) in
       let same = ap (λ (k : Geometry). block_count_for k.block_size (growing_size_with k.block_size now + length (take n c.read_from_block.new.buf))) inv.same in
-      let kept = ap (λ (x : Blocks). length (kept_blocks x now)) c.read_from_block.ensures.reading.device.same in
+      let kept = ap (λ (x : Blocks). length (lasting_blocks x now)) c.read_from_block.ensures.reading.device.same in
       let count = inv.grown.count in
       let states = inv.map.count in
       let used = inv.map.used in

@@ -24,8 +24,8 @@ returns-then-size-limit-clause-written g c =
       form = ap InMemory long ∙ sym (written_few c.args.limit c.args.place n (InMemory (length old)) (omega arith));
     }
 
-pub move_to_list-requires-clause-room : goal.move_to_list-requires-clause-room
-move_to_list-requires-clause-room g c =
+pub begin_from_memory-requires-clause-room : goal.begin_from_memory-requires-clause-room
+begin_from_memory-requires-clause-room g c =
     let m = c.max-size.ensures in
     let size = c.size.ensures in
     let all = held_size c.args.list c.requires.stands.resting.held in

@@ -1,5 +1,5 @@
 use Rattle.std.proofs.Common.{ℕ, ◌≡◌, ◌+◌, ◌-◌, ◌≤◌, List, length, sym, ap, ◌∙◌, subst, arith, length-append}
-use Rattle.lfs_file.proofs.Common.{slice_get_within, BlockStates, IsFree, Free, block_count_for, kept_blocks, unwritten_block, growing_size_with, TakesFreeBlocks}
+use Rattle.lfs_file.proofs.Common.{slice_get_within, BlockStates, IsFree, Free, block_count_for, lasting_blocks, unwritten_block, growing_size_with, TakesFreeBlocks}
 use Rattle.lfs_device.specs.declared.geometry.Geometry.{Geometry}
 use Rattle.lfs_file.proofs.Pushed.{length-kept, leaves_apart, grows, marks}
 use Rattle.lfs_file.proofs.extensions.extend_list.Goals as goal
@@ -60,7 +60,7 @@ returns-clause-extended g c =
     let count = c.needed-count.ensures.count in
     let len = ap length c.as_slice.ensures.value in
     let all = ap length pushed.kept in
-    let sum = length-append (kept_blocks d was) c.as_slice.result.now in
+    let sum = length-append (lasting_blocks d was) c.as_slice.result.now in
     let taken = c.in_ok-blocks.ensures.count in
     let size : growing_size_with now.geometry.block_size now ≡ growing_size_with c.args.list.now.geometry.block_size was + length c.args.bytes.now =
     ap (λ (k : Geometry). growing_size_with k.block_size now) pushed.geometry ∙ pushed.sum in
@@ -71,7 +71,7 @@ returns-clause-extended g c =
       sum = size;
       own = record {
         own = pushed.blocks ∙ sym pushed.kept;
-        many = many c.args.list.now.geometry now.geometry _ (growing_size_with c.args.list.now.geometry.block_size was + length c.args.bytes.now) _ (length (kept_blocks d was)) c.needed-count.result (length c.as_slice.result.now)
+        many = many c.args.list.now.geometry now.geometry _ (growing_size_with c.args.list.now.geometry.block_size was + length c.args.bytes.now) _ (length (lasting_blocks d was)) c.needed-count.result (length c.as_slice.result.now)
             pushed.geometry size (omega arith) (omega arith) (omega arith) (omega arith);
         listed = waits.listed;
       };

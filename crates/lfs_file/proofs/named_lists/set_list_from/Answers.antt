@@ -1,5 +1,5 @@
 use Rattle.std.proofs.Common.{ℕ, ◌≡◌, ◌+◌, ◌-◌, List, drop, slice_index, refl, sym, ap, ◌∙◌, subst, arith}
-use Rattle.lfs_file.proofs.Common.{drop_all, err_from_is_err_and, Blocks, blocks_to_head, length_back, PutsInState, used_or_free}
+use Rattle.lfs_file.proofs.Common.{drop_all, err_from_is_err_and, Blocks, blocks_to_head, length_back, SetsState, used_or_free}
 use Rattle.lfs_device.specs.declared.geometry.Geometry.{Geometry}
 use Rattle.lfs_file.proofs.ContentsCalled.{not_read, quiet, read_on, reported_as, reported_on}
 use Rattle.lfs_file.proofs.Releasings.{in_range_at, next_is, next_there}
@@ -14,14 +14,14 @@ putting-init g c =
       high = omega arith;
       low = c.requires.within;
       here = λ some. head_is d c.args.count c.args.head (omega arith);
-      done = subst (λ (l : List ℕ). PutsInState (used_or_free c.args.used) c.args.map.now c.args.map.now l) (sym (drop_all c.args.count (blocks_to_head d c.args.count c.args.head) (let l = length_back d c.args.count c.args.head in omega arith))) (puts_none (used_or_free c.args.used) c.args.map.now);
+      done = subst (λ (l : List ℕ). SetsState (used_or_free c.args.used) c.args.map.now c.args.map.now l) (sym (drop_all c.args.count (blocks_to_head d c.args.count c.args.head) (let l = length_back d c.args.count c.args.head in omega arith))) (puts_none (used_or_free c.args.used) c.args.map.now);
       device = not_read g.D.BlockDevice c.args.dev.now;
       quiet = refl;
       few = omega arith;
     }
 
-pub set_taken-requires : goal.set_taken-requires
-set_taken-requires g c =
+pub set_used-requires : goal.set_used-requires
+set_used-requires g c =
     let inv = c.putting.invariant in
     let d : Blocks = g.D.BlockDevice.blocks c.args.dev.now in
     let test = c.putting-test.true in
@@ -61,15 +61,15 @@ putting-preserved g c =
     let high = inv.high in
     let here : c.putting.block ≡ slice_index (blocks_to_head d count head) (index - 1) = inv.here (omega arith) in
     let next : index - 1 + 1 ≡ index = omega arith in
-    let one = c.set_taken.ensures in
+    let one = c.set_used.ensures in
     let few = inv.few in
     let more = c.in_ok-block.ensures.few in
     record {
       high = omega arith;
       low = omega arith;
       here = λ some. next_is d _ count head (index - 1) c.putting.block _ inv.device.same c.requires.chain (omega arith) (omega arith) here (c.in_ok-block.ensures.word (omega arith));
-      done = puts_here (used_or_free c.args.used) c.args.map.now c.putting.map c.set_taken.new.map d count head (index - 1) c.putting.block (omega arith) here
-          (subst (λ n. PutsInState (used_or_free c.args.used) c.args.map.now c.putting.map (drop n (blocks_to_head d count head))) (sym next) inv.done) one;
+      done = puts_here (used_or_free c.args.used) c.args.map.now c.putting.map c.set_used.new.map d count head (index - 1) c.putting.block (omega arith) here
+          (subst (λ n. SetsState (used_or_free c.args.used) c.args.map.now c.putting.map (drop n (blocks_to_head d count head))) (sym next) inv.done) one;
       device = read_on g.D.BlockDevice inv.device c.head_before_block.ensures.reading.device;
       quiet = quiet g.D.BlockDevice c.in_ok-block.ensures.reading.faults ∙ inv.quiet;
       few = omega arith;
@@ -81,7 +81,7 @@ returns-clause-put g c =
     let low = inv.low in
     let test = c.putting-test.false in
     let same : c.putting.index ≡ c.args.from = omega arith in
-    subst (λ n. PutsInState (used_or_free c.args.used) c.args.map.now c.putting.map (drop n (blocks_to_head (g.D.BlockDevice.blocks c.args.dev.now) c.args.count c.args.head))) same inv.done
+    subst (λ n. SetsState (used_or_free c.args.used) c.args.map.now c.putting.map (drop n (blocks_to_head (g.D.BlockDevice.blocks c.args.dev.now) c.args.count c.args.head))) same inv.done
 
 pub returns-clause-reading : goal.returns-clause-reading
 returns-clause-reading g c =
@@ -107,7 +107,7 @@ returns-in_err-block-clause-others g c =
     let here : c.putting.block ≡ slice_index (blocks_to_head d count head) (index - 1) = inv.here (omega arith) in
     let next : index - 1 + 1 ≡ index = omega arith in
     let within = in_range_at d count head (index - 1) c.requires.chain (omega arith) in
-    let one = c.set_taken.ensures in
+    let one = c.set_used.ensures in
     others_drop _ _ (index - 1) (blocks_to_head d count head)
-    (puts_others (puts_here (used_or_free c.args.used) c.args.map.now c.putting.map c.set_taken.new.map d count head (index - 1) c.putting.block (omega arith) here
-    (subst (λ n. PutsInState (used_or_free c.args.used) c.args.map.now c.putting.map (drop n (blocks_to_head d count head))) (sym next) inv.done) one))
+    (puts_others (puts_here (used_or_free c.args.used) c.args.map.now c.putting.map c.set_used.new.map d count head (index - 1) c.putting.block (omega arith) here
+    (subst (λ n. SetsState (used_or_free c.args.used) c.args.map.now c.putting.map (drop n (blocks_to_head d count head))) (sym next) inv.done) one))

@@ -1,5 +1,5 @@
 use Rattle.std.proofs.Common.{ℕ, ◌≡◌, drop, length, refl, sym, ap, ◌∙◌, subst, arith}
-use Rattle.lfs_file.proofs.Common.{err_from_is_err_and, Blocks, BlockState, BlockStates, Free, Used, AreListBlocks, blocks_to_head, block_count_for, length_back, KeepsOtherStates, PutsInState, IsSharedCount}
+use Rattle.lfs_file.proofs.Common.{err_from_is_err_and, Blocks, BlockState, BlockStates, Free, Used, AreListBlocks, blocks_to_head, block_count_for, length_back, KeepsOtherStates, SetsState, IsSharedCount}
 use Rattle.lfs_device.specs.declared.geometry.Geometry.{Geometry}
 use Rattle.lfs_file.proofs.ContentsCalled.{quiet, read_on, reported_as, reported_on}
 use Rattle.lfs_file.proofs.Ends.{base_chain}
@@ -8,10 +8,10 @@ use Rattle.lfs_file.proofs.SharedFronts.{apart_is, settles_apart, shared_once}
 use Rattle.lfs_file.proofs.named_lists.settle_list.Goals as goal
 
 -- what is said of the blocks that were read is said of those from before, by the number that the list has
-puts_in : (state : BlockState) (old new : BlockStates) (d e : Blocks) (head n m from : ℕ) → e ≡ d → n ≡ m → PutsInState state old new (drop from (blocks_to_head e n head)) → PutsInState state old new (drop from (blocks_to_head d m head))
+puts_in : (state : BlockState) (old new : BlockStates) (d e : Blocks) (head n m from : ℕ) → e ≡ d → n ≡ m → SetsState state old new (drop from (blocks_to_head e n head)) → SetsState state old new (drop from (blocks_to_head d m head))
 puts_in state old new d e head n m from same count puts =
-    subst (λ k. PutsInState state old new (drop from (blocks_to_head d k head))) count
-    (subst (λ (x : Blocks). PutsInState state old new (drop from (blocks_to_head x n head))) same puts)
+    subst (λ k. SetsState state old new (drop from (blocks_to_head d k head))) count
+    (subst (λ (x : Blocks). SetsState state old new (drop from (blocks_to_head x n head))) same puts)
 
 keeps_in : (old new : BlockStates) (d e : Blocks) (head n m : ℕ) → e ≡ d → n ≡ m → KeepsOtherStates old new (blocks_to_head e n head) → KeepsOtherStates old new (blocks_to_head d m head)
 keeps_in old new d e head n m same count keeps =

@@ -38,11 +38,11 @@ shorten_to_memory-requires-clause-stored g c = c.requires.stands
 pub shorten_to_memory-requires-clause-short : goal.shorten_to_memory-requires-clause-short
 shorten_to_memory-requires-clause-short g c = omega (arith, c.if-size-limit.true, c.requires.fits.short)
 
-pub fill_finished-requires-clause-stored : goal.fill_finished-requires-clause-stored
-fill_finished-requires-clause-stored g c = c.requires.stands
+pub fill_finished_list-requires-clause-stored : goal.fill_finished_list-requires-clause-stored
+fill_finished_list-requires-clause-stored g c = c.requires.stands
 
-pub fill_finished-requires-clause-room : goal.fill_finished-requires-clause-room
-fill_finished-requires-clause-room g c =
+pub fill_finished_list-requires-clause-room : goal.fill_finished_list-requires-clause-room
+fill_finished_list-requires-clause-room g c =
     let n : ℕ = (g.D.BlockDevice.geometry c.args.dev.now).block_size in
     let longer : c.args.stored.size < c.args.size = c.if-stored-size.true in
     let room : used_count c.args.map.now + (block_count_for n c.args.size + in_flight_limit n c.args.stored) ≤ length c.args.map.now = c.requires.fits.room (c.if-size-limit.false, longer) in
@@ -120,4 +120,4 @@ returns-clause-truncated g c =
 
 pub returns-then-stored-size-clause-owned : goal.returns-then-stored-size-clause-owned
 returns-then-stored-size-clause-owned g c =
-    hand_owned c.fill_finished.new.map (g.D.BlockDevice.blocks c.fill_finished.new.dev) (g.D.BlockDevice.geometry c.args.dev.now) c.in_ok-hand.hand _ c.in_ok-hand.ensures.filled.going (owned_is _ c.in_ok-hand.ensures.base.blocks)
+    hand_owned c.fill_finished_list.new.map (g.D.BlockDevice.blocks c.fill_finished_list.new.dev) (g.D.BlockDevice.geometry c.args.dev.now) c.in_ok-hand.hand _ c.in_ok-hand.ensures.filled.going (owned_is _ c.in_ok-hand.ensures.base.blocks)

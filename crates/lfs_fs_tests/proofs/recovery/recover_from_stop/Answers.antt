@@ -4,7 +4,7 @@ use Rattle.lfs_device.specs.RamDevice.{ram_geometry, ram_blocks}
 use Rattle.lfs_device.specs.DeviceDisk.{disk_of_blocks}
 use Rattle.lfs_device.specs.declared.ram.RamDevice.{RamDevice}
 use Rattle.lfs_model.specs.format.Disk.{ordered_disk}
-use Rattle.lfs_model.specs.crash.PowerLoss.{HasEither}
+use Rattle.lfs_model.specs.crash.PowerLoss.{HasEitherTree}
 use Rattle.lfs_model.specs.crash.Premises.{MeetsPremises}
 use Rattle.lfs_fs_tests.proofs.recovery.recover_from_stop.Goals as goal
 
@@ -14,4 +14,4 @@ returns c = λ before after stop.
     let untorn : can_tear c.unmount-device.result ≡ false = search rules in
     let met = subst MeetsPremises c.unmount-device.ensures.history (c.lemma_premises_hold.ensures untorn c.lemma_ram_premises.ensures) in
     let same = ap (λ (r : RamDevice). ordered_disk session.tree.disk.order (disk_of_blocks (ram_geometry r) (ram_blocks r))) c.into_inner.ensures ∙ c.unmount-device.ensures.disk in
-    c.recover_device.ensures session.tree.disk.order before after (subst (λ d. HasEither d before after) (sym same) (stop met))
+    c.recover_device.ensures session.tree.disk.order before after (subst (λ d. HasEitherTree d before after) (sym same) (stop met))

@@ -5,7 +5,7 @@ use Rattle.lfs_lookup.proofs.attributes.attribute_of_slot.Goals as goal
 
 pub returns-clause-is : goal.returns-clause-is
 returns-clause-is g c held there =
-    c.attribute_from_log.ensures.is (thread_pair c.load_pair.new.self.kept c.args.slot.pair).content held
+    c.copy_log_attribute.ensures.is (thread_pair c.load_pair.new.self.kept c.args.slot.pair).content held
     (subst (λ o. IfSome o (λ log. IsContentLog log (thread_pair c.load_pair.new.self.kept c.args.slot.pair).content)) c.unwrap.ensures c.lend.ensures.holds)
     (subst (λ (ps : List Pair). slice_get (slice_index_or ps c.args.slot.pair empty_anchor).content.slots c.args.slot.id ≡ Some held) (sym c.load_pair.ensures.only.pairs) there)
 

@@ -34,17 +34,17 @@ returns-in_err-bytes-clause-reads g c = record {
   kept = λ there. ap (λ (t : KeptThread). read_count t.history) c.attribute_if_slot.ensures.no_call ∙ c.look_up_path.ensures.reads.loads.none there;
 }
 
-pub found_node-requires : goal.found_node-requires
-found_node-requires g c = in_entry c.args.thread.now.kept c.args.path.now c.in_ok-shown.shown c.in_ok-shown.ensures.shown
+pub finding_shown-requires : goal.finding_shown-requires
+finding_shown-requires g c = in_entry c.args.thread.now.kept c.args.path.now c.in_ok-shown.shown c.in_ok-shown.ensures.shown
 
 pub returns-clause-found : goal.returns-clause-found
 returns-clause-found g c =
     let t = c.args.thread.now.kept in
     let device = c.device-device.result.now in
-    found_shown t c.args.path.now c.requires.accepted c.args.root c.in_ok-shown.shown c.found_node.result c.requires.root
+    found_shown t c.args.path.now c.requires.accepted c.args.root c.in_ok-shown.shown c.finding_shown.result c.requires.root
     (sized_on g.D.BlockDevice device t.disk (g.D.BlockDevice.geometry device).block_count (c.device-device.ensures.disk ∙ c.attribute_if_slot.ensures.reading.only.disk ∙ c.look_up_path.ensures.reading.only.disk)
     (g.D.BlockDevice.geometry device).valid.no_smaller (g.met.D.BlockDevice.shape device))
-    c.in_ok-shown.ensures.shown c.found_node.ensures
+    c.in_ok-shown.ensures.shown c.finding_shown.ensures
 
 pub returns-clause-is : goal.returns-clause-is
 returns-clause-is g c =

@@ -7,8 +7,8 @@ use Rattle.lfs_lookup.proofs.Reading.{answered, answers, both, further, passed}
 use Rattle.lfs_lookup.proofs.ShownFindings.{found_shown, in_entry}
 use Rattle.lfs_lookup.proofs.file_contents.find_file_contents.Goals as goal
 
-pub found_node-finding-requires : goal.found_node-finding-requires
-found_node-finding-requires g c = in_entry c.args.thread.now.kept c.args.path.now c.in_ok-shown.shown c.in_ok-shown.ensures.shown
+pub finding_shown-finding-requires : goal.finding_shown-finding-requires
+finding_shown-finding-requires g c = in_entry c.args.thread.now.kept c.args.path.now c.in_ok-shown.shown c.in_ok-shown.ensures.shown
 
 pub contents_of_slot-requires-clause-file : goal.contents_of_slot-requires-clause-file
 contents_of_slot-requires-clause-file g c =
@@ -36,19 +36,19 @@ pub returns-clause-found : goal.returns-clause-found
 returns-clause-found g c =
     let t = c.args.thread.now.kept in
     let device = c.device-device.result.now in
-    found_shown t c.args.path.now c.requires.accepted c.args.root c.in_ok-shown.shown c.found_node-finding.result c.requires.root
+    found_shown t c.args.path.now c.requires.accepted c.args.root c.in_ok-shown.shown c.finding_shown-finding.result c.requires.root
     (sized_on g.D.BlockDevice device t.disk (g.D.BlockDevice.geometry device).block_count (c.device-device.ensures.disk ∙ c.look_up_path.ensures.reading.only.disk)
     (g.D.BlockDevice.geometry device).valid.no_smaller (g.met.D.BlockDevice.shape device))
-    c.in_ok-shown.ensures.shown c.found_node-finding.ensures
+    c.in_ok-shown.ensures.shown c.finding_shown-finding.ensures
 
 pub returns-in_default-clause-found : goal.returns-in_default-clause-found
 returns-in_default-clause-found g c =
     let t = c.args.thread.now.kept in
     let device = c.device-device.result.now in
-    found_shown t c.args.path.now c.requires.accepted c.args.root c.in_ok-shown.shown c.found_node-finding.result c.requires.root
+    found_shown t c.args.path.now c.requires.accepted c.args.root c.in_ok-shown.shown c.finding_shown-finding.result c.requires.root
     (sized_on g.D.BlockDevice device t.disk (g.D.BlockDevice.geometry device).block_count (c.device-device.ensures.disk ∙ c.look_up_path.ensures.reading.only.disk)
     (g.D.BlockDevice.geometry device).valid.no_smaller (g.met.D.BlockDevice.shape device))
-    c.in_ok-shown.ensures.shown c.found_node-finding.ensures
+    c.in_ok-shown.ensures.shown c.finding_shown-finding.ensures
 
 pub returns-clause-reads : goal.returns-clause-reads
 returns-clause-reads g c = record {

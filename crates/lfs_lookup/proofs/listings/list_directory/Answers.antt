@@ -60,17 +60,17 @@ returns-in_err-listed-clause-few g c =
     let s = few_own (pair_count_at t.pairs) c.args.path.now in
     omega (arith, f, n, k, s)
 
-pub found_node-requires : goal.found_node-requires
-found_node-requires g c = in_entry c.args.thread.now.kept c.args.path.now c.in_ok-shown.shown c.in_ok-shown.ensures.shown
+pub finding_shown-requires : goal.finding_shown-requires
+finding_shown-requires g c = in_entry c.args.thread.now.kept c.args.path.now c.in_ok-shown.shown c.in_ok-shown.ensures.shown
 
 pub returns-clause-found : goal.returns-clause-found
 returns-clause-found g c =
     let t = c.args.thread.now.kept in
     let device = c.device-device.result.now in
-    found_shown t c.args.path.now c.requires.accepted c.args.root c.in_ok-shown.shown c.found_node.result c.requires.root
+    found_shown t c.args.path.now c.requires.accepted c.args.root c.in_ok-shown.shown c.finding_shown.result c.requires.root
     (sized_on g.D.BlockDevice device t.disk (g.D.BlockDevice.geometry device).block_count (c.device-device.ensures.disk ∙ c.items_if_directory.ensures.reading.only.disk ∙ c.look_up_path.ensures.reading.only.disk)
     (g.D.BlockDevice.geometry device).valid.no_smaller (g.met.D.BlockDevice.shape device))
-    c.in_ok-shown.ensures.shown c.found_node.ensures
+    c.in_ok-shown.ensures.shown c.finding_shown.ensures
 
 pub returns-clause-items : goal.returns-clause-items
 returns-clause-items g c =

@@ -1,5 +1,5 @@
 use Rattle.std.proofs.Common.{◌≡◌, None, ap, map, take, subst, ◌∙◌, arith, refl}
-use Rattle.lfs_lookup.proofs.Common.{err_from_is_err_and, length-map, ancestor_paths, pair_count_at, NoEnt, NotDir, IsNodeAt, parent_refusal}
+use Rattle.lfs_lookup.proofs.Common.{err_from_is_err_and, length-map, ancestor_paths, pair_count_at, NoEnt, NotDir, IsParentAt, parent_refusal}
 use Rattle.std.specs.Prelude.{sum_by}
 use Rattle.lfs_lookup.specs.declared.paths.Parent.TheVariants as parent
 use Rattle.lfs_lookup.proofs.ReadOnly.{only_read, reported_on}
@@ -58,7 +58,7 @@ returns-in-File-clause-answer g c =
     let names = map (λ name. name.now) c.args.path.now in
     let at = name_at (λ name. name.now) c.args.path.now c.loop-name.name-index _ c.loop-name-test.true in
     let on = begins_same t c.loop-name.thread.kept inv.only (take c.loop-name.name-index names) c.loop-name.first d.begins in
-    let e = enters_same t c.loop-name.thread.kept inv.only _ parent.File (subst (IsNodeAt c.loop-name.thread.kept _) c.in-File.is (c.in_ok-next.ensures.answer (take c.loop-name.name-index names) on)) in
+    let e = enters_same t c.loop-name.thread.kept inv.only _ parent.File (subst (IsParentAt c.loop-name.thread.kept _) c.in-File.is (c.in_ok-next.ensures.answer (take c.loop-name.name-index names) on)) in
     record { fault = stops_at t c.loop-name.thread.kept c.find_subdirectory.new.thread.kept names c.loop-name.name-index c.loop-name.first _ d at NotDir e; begins = tt }
 
 pub returns-in-File-clause-reads : goal.returns-in-File-clause-reads
@@ -103,7 +103,7 @@ returns-in-Nothing-clause-answer g c =
     let names = map (λ name. name.now) c.args.path.now in
     let at = name_at (λ name. name.now) c.args.path.now c.loop-name.name-index _ c.loop-name-test.true in
     let on = begins_same t c.loop-name.thread.kept inv.only (take c.loop-name.name-index names) c.loop-name.first d.begins in
-    let e = enters_same t c.loop-name.thread.kept inv.only _ parent.Nothing (subst (IsNodeAt c.loop-name.thread.kept _) c.in-Nothing.is (c.in_ok-next.ensures.answer (take c.loop-name.name-index names) on)) in
+    let e = enters_same t c.loop-name.thread.kept inv.only _ parent.Nothing (subst (IsParentAt c.loop-name.thread.kept _) c.in-Nothing.is (c.in_ok-next.ensures.answer (take c.loop-name.name-index names) on)) in
     record { fault = stops_at t c.loop-name.thread.kept c.find_subdirectory.new.thread.kept names c.loop-name.name-index c.loop-name.first _ d at NoEnt e; begins = tt }
 
 pub returns-in-Nothing-clause-reads : goal.returns-in-Nothing-clause-reads
@@ -150,7 +150,7 @@ loop-name-preserved g c =
     let few = c.find_subdirectory.ensures.reads.few in
     let same = few_same t c.loop-name.thread.kept c.requires.can.hiding.accepted inv.only (take c.loop-name.name-index names) c.loop-name.first d.begins in
     let on = begins_same t c.loop-name.thread.kept inv.only (take c.loop-name.name-index names) c.loop-name.first d.begins in
-    let e = enters_same t c.loop-name.thread.kept inv.only _ (parent.Directory c.in-Directory.next) (subst (IsNodeAt c.loop-name.thread.kept _) c.in-Directory.is (c.in_ok-next.ensures.answer (take c.loop-name.name-index names) on)) in
+    let e = enters_same t c.loop-name.thread.kept inv.only _ (parent.Directory c.in-Directory.next) (subst (IsParentAt c.loop-name.thread.kept _) c.in-Directory.is (c.in_ok-next.ensures.answer (take c.loop-name.name-index names) on)) in
     let below = c.loop-name-test.true in
     let name = some_at (λ name. name.now) c.args.path.now c.loop-name.name-index c.loop-name-test.true in
     let l = length-map c.args.path.now (λ name. name.now) in

@@ -1,5 +1,5 @@
 use Rattle.std.proofs.Common.{◌∙◌, ◌≡◌, ◌<◌, None, Some, true, false, arith, rules, length, ap, sym, refl, subst}
-use Rattle.lfs_lookup.proofs.Common.{err_from_is_err_and, read_count, starts_superblock, ThreadView, thread_pair, ReadsOrReports, next_pair}
+use Rattle.lfs_lookup.proofs.Common.{err_from_is_err_and, read_count, superblock_first, ThreadView, thread_pair, ReadsOrReports, next_chain_pair}
 use Rattle.lfs_lookup.proofs.Reading.{HasRead, answered, answers, begun, passed}
 use Rattle.lfs_lookup.proofs.RootPairs.{walked_first, walked_found, walked_on, walked_other, walked_stops}
 use Rattle.lfs_lookup.proofs.root.next_superblock_pair.Goals as goal
@@ -17,7 +17,7 @@ pub returns-in_default-clause-next : goal.returns-in_default-clause-next
 returns-in_default-clause-next g c =
     let none : c.next_in_chain.result ≡ None = search rules in
     walked_stops c.args.thread.now.kept c.args.superblock c.loop-index.index c.loop-index.invariant.walked
-    (ap (λ (s : ThreadView). next_pair s.kept c.loop-index.index) (sym c.loop-index.invariant.same) ∙ sym c.next_in_chain.ensures.next ∙ none)
+    (ap (λ (s : ThreadView). next_chain_pair s.kept c.loop-index.index) (sym c.loop-index.invariant.same) ∙ sym c.next_in_chain.ensures.next ∙ none)
 
 pub returns-in_default-clause-few : goal.returns-in_default-clause-few
 returns-in_default-clause-few g c = let same = ap (λ (s : ThreadView). read_count s.kept.history) c.loop-index.invariant.same in omega (arith, same)
@@ -47,11 +47,11 @@ pub returns-then-not-branch-clause-next : goal.returns-then-not-branch-clause-ne
 returns-then-not-branch-clause-next g c =
     let t = c.args.thread.now.kept in
     let is_next : c.next_in_chain.result ≡ Some c.in-Some.next = search rules in
-    let leads = ap (λ (s : ThreadView). next_pair s.kept c.loop-index.index) (sym c.loop-index.invariant.same) ∙ sym c.next_in_chain.ensures.next ∙ is_next in
+    let leads = ap (λ (s : ThreadView). next_chain_pair s.kept c.loop-index.index) (sym c.loop-index.invariant.same) ∙ sym c.next_in_chain.ensures.next ∙ is_next in
     let within = subst (λ (s : ThreadView). c.in-Some.next < length s.kept.pairs) c.loop-index.invariant.same c.in-Some.ensures.below in
     walked_other t c.args.superblock c.loop-index.index c.in-Some.next c.loop-index.invariant.walked leads within
     (subst (λ (s : ThreadView). 0 < length (thread_pair s.kept c.in-Some.next).content.slots) c.loop-index.invariant.same (let n = c.slot_count.ensures in let some = c.if-slot_count-gt0.true in omega (arith, n, some)))
-    (subst (λ (s : ThreadView). starts_superblock (thread_pair s.kept c.in-Some.next).content.slots ≡ false) c.loop-index.invariant.same (sym c.in_ok-begins_with_superblock.ensures.is ∙ c.if-not-branch.true))
+    (subst (λ (s : ThreadView). superblock_first (thread_pair s.kept c.in-Some.next).content.slots ≡ false) c.loop-index.invariant.same (sym c.in_ok-begins_with_superblock.ensures.is ∙ c.if-not-branch.true))
 
 pub returns-then-not-branch-clause-few : goal.returns-then-not-branch-clause-few
 returns-then-not-branch-clause-few g c =
@@ -67,11 +67,11 @@ pub returns-then-slot_count-gt0-clause-next : goal.returns-then-slot_count-gt0-c
 returns-then-slot_count-gt0-clause-next g c =
     let t = c.args.thread.now.kept in
     let is_next : c.next_in_chain.result ≡ Some c.in-Some.next = search rules in
-    let leads = ap (λ (s : ThreadView). next_pair s.kept c.loop-index.index) (sym c.loop-index.invariant.same) ∙ sym c.next_in_chain.ensures.next ∙ is_next in
+    let leads = ap (λ (s : ThreadView). next_chain_pair s.kept c.loop-index.index) (sym c.loop-index.invariant.same) ∙ sym c.next_in_chain.ensures.next ∙ is_next in
     let within = subst (λ (s : ThreadView). c.in-Some.next < length s.kept.pairs) c.loop-index.invariant.same c.in-Some.ensures.below in
     walked_found t c.args.superblock c.loop-index.index c.in-Some.next c.loop-index.invariant.walked leads within
     (subst (λ (s : ThreadView). 0 < length (thread_pair s.kept c.in-Some.next).content.slots) c.loop-index.invariant.same (let n = c.slot_count.ensures in let some = c.if-slot_count-gt0.true in omega (arith, n, some)))
-    (subst (λ (s : ThreadView). starts_superblock (thread_pair s.kept c.in-Some.next).content.slots ≡ true) c.loop-index.invariant.same (sym c.in_ok-begins_with_superblock.ensures.is ∙ c.if-not-branch.false))
+    (subst (λ (s : ThreadView). superblock_first (thread_pair s.kept c.in-Some.next).content.slots ≡ true) c.loop-index.invariant.same (sym c.in_ok-begins_with_superblock.ensures.is ∙ c.if-not-branch.false))
 
 pub returns-then-slot_count-gt0-clause-few : goal.returns-then-slot_count-gt0-clause-few
 returns-then-slot_count-gt0-clause-few g c =
@@ -87,7 +87,7 @@ pub loop-index-preserved : goal.loop-index-preserved
 loop-index-preserved g c =
     let t = c.args.thread.now.kept in
     let is_next : c.next_in_chain.result ≡ Some c.in-Some.next = search rules in
-    let leads = ap (λ (s : ThreadView). next_pair s.kept c.loop-index.index) (sym c.loop-index.invariant.same) ∙ sym c.next_in_chain.ensures.next ∙ is_next in
+    let leads = ap (λ (s : ThreadView). next_chain_pair s.kept c.loop-index.index) (sym c.loop-index.invariant.same) ∙ sym c.next_in_chain.ensures.next ∙ is_next in
     let within = subst (λ (s : ThreadView). c.in-Some.next < length s.kept.pairs) c.loop-index.invariant.same c.in-Some.ensures.below in
     record {
       end = c.loop-index.invariant.end;

@@ -5,7 +5,7 @@ use Rattle.lfs_lookup.proofs.Reading.{answered, answers, both}
 use Rattle.lfs_lookup.proofs.ReadOnly.{only_read, only_itself, reported_on}
 use Rattle.lfs_lookup.proofs.RecentBlocks.{loads_on, loads_to_here, loaded_none, on_ok, passes_none}
 use Rattle.lfs_lookup.proofs.Walked.{run_on, run_some, leads_on, leads_nowhere}
-use Rattle.lfs_lookup.proofs.ShownAlong.{IsReached, reached_first, reached_next, shown_here, absent_on, absent_end}
+use Rattle.lfs_lookup.proofs.ShownAlong.{LeadsFromFresh, reached_first, reached_next, shown_here, absent_on, absent_end}
 use Rattle.lfs_lookup.proofs.search.find_along_tails.Goals as goal
 
 pub loop-id-init : goal.loop-id-init
@@ -122,7 +122,7 @@ loop-id-preserved g c =
           c.in_ok-id.field-0 c.in_ok-id.was c.find_in_pair.ensures.reading.only.disk (run_some_on ps c.in-Some.next empty_anchor behind);
       from = omega (arith, from, next);
       below = behind;
-      reached = subst (λ (n : ℕ). IsReached ps c.args.first n (slice_index_or ps n empty_anchor)) (sym next)
+      reached = subst (λ (n : ℕ). LeadsFromFresh ps c.args.first n (slice_index_or ps n empty_anchor)) (sym next)
           (reached_next ps c.args.first c.loop-id.pair (slice_index_or ps c.loop-id.pair empty_anchor) empty_anchor inv.reached hard (omega (arith, behind, next)));
       absent = λ rest. absent_on ps c.args.moved c.loop-id.pair c.args.name.now empty_anchor (IsAbsent c.args.moved c.args.first (drop c.args.first ps) c.args.name.now) inv.below inv.absent b
           (subst (λ (n : ℕ). IsAbsent c.args.moved n (drop n ps) c.args.name.now) next rest);

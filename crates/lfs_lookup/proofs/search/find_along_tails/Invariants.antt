@@ -1,7 +1,7 @@
 use Rattle.std.proofs.Common.{◌≡◌, ◌<◌, ◌≤◌, ◌+◌, ◌-◌, length, drop, false, get_or}
 use Rattle.lfs_lookup.proofs.Common.{fault_count, read_count, joined_count, OnlyReadsThread, empty_anchor, joined_pairs, IsAbsent}
 use Rattle.lfs_lookup.proofs.RecentBlocks.{HasBrought}
-use Rattle.lfs_lookup.proofs.ShownAlong.{IsReached}
+use Rattle.lfs_lookup.proofs.ShownAlong.{LeadsFromFresh}
 use Rattle.lfs_lookup.proofs.search.find_along_tails.Given as goal
 
 abbrev pub invariant-loop-id : goal.invariant-loop-id
@@ -13,7 +13,7 @@ invariant-loop-id g l = record {
   along : HasBrought (joined_pairs (drop l.fn.first l.fn.thread.kept.pairs)) (joined_pairs (drop l.pair l.fn.thread.kept.pairs)) l.fn.thread l.thread;
   from : l.fn.first ≤ l.pair;
   below : l.pair < length l.fn.thread.kept.pairs;
-  reached : IsReached l.fn.thread.kept.pairs l.fn.first l.pair (get_or l.fn.thread.kept.pairs l.pair empty_anchor);
+  reached : LeadsFromFresh l.fn.thread.kept.pairs l.fn.first l.pair (get_or l.fn.thread.kept.pairs l.pair empty_anchor);
   absent : IsAbsent l.fn.moved l.pair (drop l.pair l.fn.thread.kept.pairs) l.fn.name → IsAbsent l.fn.moved l.fn.first (drop l.fn.first l.fn.thread.kept.pairs) l.fn.name;
 }
 

@@ -10,7 +10,7 @@ unwrap-structure-requires c =
     let sound = logged c.args.log.now is.raw is.bytes is.log in
     let s = stands_in c.args.order content c.args.name.now c.args.skip is.raw sound is.complete c.in-Found.id (subst (IsNameLookup c.args.order c.args.name.now c.args.skip is.raw.slots) c.in-Found.is (c.find.ensures is.raw is.log is.short)) in
     let r = read_there c.args.order content c.args.name.now c.args.skip is.raw sound is.complete c.in-Found.id s in
-    some_part c.find_slot_struct.result _ r.part (c.find_slot_struct.ensures.held is.raw is.log) r.is
+    some_part c.struct_of_slot.result _ r.part (c.struct_of_slot.ensures.held is.raw is.log) r.is
 
 pub entry_of_struct-requires : goal.entry_of_struct-requires
 entry_of_struct-requires c =
@@ -18,14 +18,14 @@ entry_of_struct-requires c =
     let sound = logged c.args.log.now is.raw is.bytes is.log in
     let s = stands_in c.args.order content c.args.name.now c.args.skip is.raw sound is.complete c.in-Found.id (subst (IsNameLookup c.args.order c.args.name.now c.args.skip is.raw.slots) c.in-Found.is (c.find.ensures is.raw is.log is.short)) in
     let r = read_there c.args.order content c.args.name.now c.args.skip is.raw sound is.complete c.in-Found.id s in
-    subst (IsAllowedPart 2) (sym (part_is c.find_slot_struct.result c.unwrap-structure.result _ r.part c.unwrap-structure.ensures (c.find_slot_struct.ensures.held is.raw is.log) r.is)) r.is_part
+    subst (IsAllowedPart 2) (sym (part_is c.struct_of_slot.result c.unwrap-structure.result _ r.part c.unwrap-structure.ensures (c.struct_of_slot.ensures.held is.raw is.log) r.is)) r.is_part
 
 pub returns-in-Found : goal.returns-in-Found
 returns-in-Found c content is =
     let sound = logged c.args.log.now is.raw is.bytes is.log in
     let s = stands_in c.args.order content c.args.name.now c.args.skip is.raw sound is.complete c.in-Found.id (subst (IsNameLookup c.args.order c.args.name.now c.args.skip is.raw.slots) c.in-Found.is (c.find.ensures is.raw is.log is.short)) in
     let r = read_there c.args.order content c.args.name.now c.args.skip is.raw sound is.complete c.in-Found.id s in
-    let same = part_is c.find_slot_struct.result c.unwrap-structure.result _ r.part c.unwrap-structure.ensures (c.find_slot_struct.ensures.held is.raw is.log) r.is in
+    let same = part_is c.struct_of_slot.result c.unwrap-structure.result _ r.part c.unwrap-structure.ensures (c.struct_of_slot.ensures.held is.raw is.log) r.is in
     record {
       stands = s;
       shows = subst (IsStructEntry c.entry_of_struct.result) (ap (λ (p : ℕ × List ℕ). read_struct p.0 p.1) same ∙ sym r.struct) c.entry_of_struct.ensures;

@@ -1,6 +1,6 @@
 use Rattle.std.proofs.Common.{[], ◌∷◌, List, None, inr, refl, arith}
 use Rattle.std.specs.Prelude.{codes}
-use Rattle.lfs_model.specs.format.Crc.{crc_of, next_bits}
+use Rattle.lfs_model.specs.format.Crc.{crc_of, checksum_after_bits}
 use Rattle.lfs_model.specs.format.Log.{chain_of, chain_within, commit_within, entry_at, closes}
 use Rattle.lfs_model.proofs.Common.{Slot, zero_gstate, Pair}
 use Rattle.lfs_model.specs.declared.order.NameOrder.TheVariants.{ShorterFirst}
@@ -14,7 +14,7 @@ abbrev root : List Slot → Pair
 root slots = pair (0, 1) (large_superblock ∷ slots) None zero_gstate
 
 pub returns-clause-entry : goal.returns-clause-entry
-unfolding chain_of chain_within commit_within entry_at closes crc_of next_bits
+unfolding chain_of chain_within commit_within entry_at closes crc_of checksum_after_bits
 returns-clause-entry c = inr (
   root (file (codes ".") [] ∷ []) ∷ [],
   (
@@ -29,7 +29,7 @@ returns-clause-entry c = inr (
 )
 
 pub returns-clause-names : goal.returns-clause-names
-unfolding chain_of chain_within commit_within entry_at closes crc_of next_bits
+unfolding chain_of chain_within commit_within entry_at closes crc_of checksum_after_bits
 returns-clause-names c = inr (
   root (file (codes "b") [] ∷ file (codes "a") [] ∷ []) ∷ [],
   (
@@ -42,7 +42,7 @@ abbrev loose : List Pair
 loose = root (folder (codes "d") (2, 3) ∷ []) ∷ []
 
 pub returns-clause-branch : goal.returns-clause-branch
-unfolding chain_of chain_within commit_within entry_at closes crc_of next_bits
+unfolding chain_of chain_within commit_within entry_at closes crc_of checksum_after_bits
 returns-clause-branch c = inr (
   loose,
   (
@@ -52,7 +52,7 @@ returns-clause-branch c = inr (
 )
 
 pub returns-clause-two_paths : goal.returns-clause-two_paths
-unfolding chain_of chain_within commit_within entry_at closes crc_of next_bits
+unfolding chain_of chain_within commit_within entry_at closes crc_of checksum_after_bits
 returns-clause-two_paths c = inr (
   pair (0, 1) (large_superblock ∷ folder (codes "d") (2, 3) ∷ folder (codes "e") (2, 3) ∷ []) (soft (2, 3)) zero_gstate ∷ pair (2, 3) [] None zero_gstate ∷ [],
   (
@@ -73,7 +73,7 @@ abbrev unnamed : List Pair
 unnamed = pair (0, 1) (large_superblock ∷ []) (soft (2, 3)) zero_gstate ∷ pair (2, 3) [] None zero_gstate ∷ []
 
 pub returns-clause-no_path : goal.returns-clause-no_path
-unfolding chain_of chain_within commit_within entry_at closes crc_of next_bits
+unfolding chain_of chain_within commit_within entry_at closes crc_of checksum_after_bits
 returns-clause-no_path c = inr (
   unnamed,
   (

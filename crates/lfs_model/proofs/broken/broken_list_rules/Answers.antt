@@ -1,6 +1,6 @@
 use Rattle.std.proofs.Common.{ℕ, [], ◌∷◌, ◌≡◌, List, None, Some, false, inr, refl, arith}
 use Rattle.std.specs.Prelude.{codes}
-use Rattle.lfs_model.specs.format.Crc.{crc_of, next_bits}
+use Rattle.lfs_model.specs.format.Crc.{crc_of, checksum_after_bits}
 use Rattle.lfs_model.specs.format.Log.{chain_of, chain_within, commit_within, entry_at, closes}
 use Rattle.lfs_model.proofs.Common.{Slot, zero_gstate, Pair}
 use Rattle.lfs_model.specs.examples.Violations.{bad_move_image, empty_list_image, shared_block_image}
@@ -12,7 +12,7 @@ abbrev moving : List Pair
 moving = pair (0, 1) (large_superblock ∷ []) None (record { sync = false; kind = 0; id = 1; pair = (0, 0) }) ∷ []
 
 pub returns-clause-set_move : goal.returns-clause-set_move
-unfolding chain_of chain_within commit_within entry_at closes crc_of next_bits
+unfolding chain_of chain_within commit_within entry_at closes crc_of checksum_after_bits
 returns-clause-set_move c = inr (moving, (is_thread bad_move_image _ (refl, refl) (refl, tt) refl refl, no_valid_move moving refl))
 
 -- a root with these slots behind its superblock
@@ -23,7 +23,7 @@ none_some : (id : ℕ) → None ≡ Some id → ⊥
 none_some id e = cc
 
 pub returns-clause-list : goal.returns-clause-list
-unfolding chain_of chain_within commit_within entry_at closes crc_of next_bits lib.Count.count_trailing_zeros
+unfolding chain_of chain_within commit_within entry_at closes crc_of checksum_after_bits lib.Count.count_trailing_zeros
 returns-clause-list c = inr (
   root (long_file (codes "a") 2 0 ∷ []) ∷ [],
   (
@@ -39,7 +39,7 @@ returns-clause-list c = inr (
 )
 
 pub returns-clause-two_owners : goal.returns-clause-two_owners
-unfolding chain_of chain_within commit_within entry_at closes crc_of next_bits lib.Count.count_trailing_zeros
+unfolding chain_of chain_within commit_within entry_at closes crc_of checksum_after_bits lib.Count.count_trailing_zeros
 returns-clause-two_owners c = inr (
   root (long_file (codes "a") 2 10 ∷ long_file (codes "b") 2 10 ∷ []) ∷ [],
   (

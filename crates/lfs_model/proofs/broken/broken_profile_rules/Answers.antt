@@ -1,7 +1,7 @@
 use Rattle.std.proofs.Common.{ℕ, ◌≡◌, ◌≤◌, [], ◌∷◌, None, refl, subst, arith, replicate}
 use Rattle.std.specs.Prelude.{codes}
 use Rattle.lfs_model.proofs.Common.{content_at, block_count, default_profile, fresh_pair, superblock_bytes, InlineBytesFit, IsWritable, IsSmallEnough, Inline, Slot, zero_gstate, Pair, struct_bytes_with}
-use Rattle.lfs_model.specs.format.Crc.{crc_of, next_bits}
+use Rattle.lfs_model.specs.format.Crc.{crc_of, checksum_after_bits}
 use Rattle.lfs_model.specs.format.Log.{chain_of, chain_within, commit_within, entry_at, closes}
 use Rattle.lfs_model.specs.examples.Violations.{empty_pair_image, large_entry_image, unwritable_inline_image, short_names_image}
 use Rattle.lfs_model.proofs.Acceptance.{image_is_accepted}
@@ -22,7 +22,7 @@ other_number : ◌≡◌ {A = ℕ} 32 255 → ⊥
 other_number e = omega (arith, e)
 
 pub returns-clause-other_limits : goal.returns-clause-other_limits
-unfolding chain_of chain_within commit_within entry_at closes crc_of next_bits
+unfolding chain_of chain_within commit_within entry_at closes crc_of checksum_after_bits
 returns-clause-other_limits c = (
   limited_pair ∷ [],
   (
@@ -47,7 +47,7 @@ too_long : InlineBytesFit 512 long.struct → ⊥
 too_long fits = let inline : 600 ≤ 512 = fits in omega arith
 
 pub returns-clause-long_inline : goal.returns-clause-long_inline
-unfolding chain_of chain_within commit_within entry_at closes crc_of next_bits
+unfolding chain_of chain_within commit_within entry_at closes crc_of checksum_after_bits
 returns-clause-long_inline c = (
   long_pair ∷ [],
   (
@@ -63,7 +63,7 @@ abbrev empty : Pair
 empty = pair (2, 3) [] None zero_gstate
 
 pub returns-clause-empty_pair : goal.returns-clause-empty_pair
-unfolding chain_of chain_within commit_within entry_at closes crc_of next_bits
+unfolding chain_of chain_within commit_within entry_at closes crc_of checksum_after_bits
 returns-clause-empty_pair c = (
   rooted ∷ empty ∷ [],
   (
@@ -82,7 +82,7 @@ too_much : IsSmallEnough default_profile 4096 256 charged_pair.content → ⊥
 too_much small = let charge : 1951 ≤ 1900 = small.entries 1 charged (omega arith) refl in omega arith
 
 pub returns-clause-too_large : goal.returns-clause-too_large
-unfolding chain_of chain_within commit_within entry_at closes crc_of next_bits
+unfolding chain_of chain_within commit_within entry_at closes crc_of checksum_after_bits
 returns-clause-too_large c = (
   charged_pair ∷ [],
   (

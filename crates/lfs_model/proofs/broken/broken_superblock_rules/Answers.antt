@@ -1,6 +1,6 @@
 use Rattle.std.proofs.Common.{◌+◌, ◌≡◌, [], ◌∷◌, List, None, Option, Some, ap, inr, refl, arith}
 use Rattle.std.specs.Prelude.{codes, unwrap_or}
-use Rattle.lfs_model.specs.format.Crc.{crc_of, next_bits}
+use Rattle.lfs_model.specs.format.Crc.{crc_of, checksum_after_bits}
 use Rattle.lfs_model.proofs.Common.{default_profile, superblock_slot, superblock_bytes, LogEntry, Inline, Slot, zero_gstate, Pair, count_before_root, superblock_entry, struct_bytes_with}
 use Rattle.lfs_model.specs.format.Log.{chain_of, chain_within, commit_within, entry_at, closes}
 use Rattle.lfs_model.specs.declared.limits.AcceptedVersions.TheVariants.{OnlyTwoZero}
@@ -10,14 +10,14 @@ use Rattle.lfs_model.proofs.Examples.{file, hard, large_superblock, pair}
 use Rattle.lfs_model.proofs.broken.broken_superblock_rules.Goals as goal
 
 pub returns-clause-no_superblock : goal.returns-clause-no_superblock
-unfolding chain_of chain_within commit_within entry_at closes crc_of next_bits
+unfolding chain_of chain_within commit_within entry_at closes crc_of checksum_after_bits
 returns-clause-no_superblock c = inr (pair (0, 1) [] None zero_gstate ∷ [], (is_thread no_superblock_image _ (refl, refl) (refl, tt) refl refl, refl))
 
 other_entry : Some (record { tag = 0x40100000; bytes = [] }) ≡ Some superblock_entry → ⊥
 other_entry e = let tags : 0x40100000 + 0 ≡ 0x0ff00008 = ap (λ (o : Option LogEntry). (unwrap_or o superblock_entry).tag) e in omega arith
 
 pub returns-clause-first_entry : goal.returns-clause-first_entry
-unfolding chain_of chain_within commit_within entry_at closes crc_of next_bits
+unfolding chain_of chain_within commit_within entry_at closes crc_of checksum_after_bits
 returns-clause-first_entry c = inr (pair (0, 1) (large_superblock ∷ []) None zero_gstate ∷ [], (is_thread create_first_image _ (refl, refl) (refl, tt) refl refl, (refl, λ e. other_entry e)))
 
 -- a superblock of version 2.1
@@ -25,7 +25,7 @@ abbrev newer : Slot
 newer = record large_superblock { struct = Inline (struct_bytes_with 0x00020001 4096 255) }
 
 pub returns-clause-superblock : goal.returns-clause-superblock
-unfolding chain_of chain_within commit_within entry_at closes crc_of next_bits
+unfolding chain_of chain_within commit_within entry_at closes crc_of checksum_after_bits
 returns-clause-superblock c = inr (
   pair (0, 1) (newer ∷ []) None zero_gstate ∷ [],
   (
@@ -45,7 +45,7 @@ abbrev two_pairs : List Pair
 two_pairs = pair (0, 1) (large_superblock ∷ []) (hard (2, 3)) zero_gstate ∷ second ∷ []
 
 pub returns-clause-other_superblock : goal.returns-clause-other_superblock
-unfolding chain_of chain_within commit_within entry_at closes crc_of next_bits
+unfolding chain_of chain_within commit_within entry_at closes crc_of checksum_after_bits
 returns-clause-other_superblock c = inr (
   two_pairs,
   (

@@ -1,11 +1,11 @@
 use Rattle.std.proofs.Common.{refl, ap}
-use Rattle.lfs_model.proofs.Common.{All-nil, Disk, ConformsTo, HasEither, with_blocks}
+use Rattle.lfs_model.proofs.Common.{All-nil, Disk, ConformsTo, HasEitherTree, with_blocks}
 use Rattle.lfs_model.proofs.Standing.{stands_since, one_device, device_survives_loss}
 use Rattle.lfs_model.proofs.losses.disk_after_last_call_is_power_loss_outcome.Goals as goal
 
 pub returns-clause-left : goal.returns-clause-left
 returns-clause-left c = λ disk old new first last before after called then now conforms survives cleanly fails here.
-    stands_since {P = λ blocks. HasEither (with_blocks blocks disk) before after} first last called then now conforms (survives cleanly) cleanly fails here
+    stands_since {P = λ blocks. HasEitherTree (with_blocks blocks disk) before after} first last called then now conforms (survives cleanly) cleanly fails here
 
 pub returns-clause-called : goal.returns-clause-called
 returns-clause-called c = one_device

@@ -1,5 +1,5 @@
 use Rattle.std.proofs.Common.{◌≡◌, ◌⊎◌, true, [], ◌∷◌, None, inl, inr, refl, sym, ap, subst, ◌∙◌, append-nil}
-use Rattle.lfs_model.proofs.Common.{Tree, disk_tree, fresh_pair, CallEvent, Read, call_event, AllCalls, LeftByLoss, Blocks, HasEither, with_blocks, SurvivesLossSince, small_image}
+use Rattle.lfs_model.proofs.Common.{Tree, disk_tree, fresh_pair, CallEvent, Read, call_event, AllCalls, LeftByLoss, Blocks, HasEitherTree, with_blocks, SurvivesLossSince, small_image}
 use Rattle.lfs_model.proofs.Fresh.{accepted, writable, shows}
 use Rattle.lfs_model.proofs.Example.{fresh}
 use Rattle.lfs_model.proofs.FreshSession.{tree_is_empty, none_accepted}
@@ -17,14 +17,14 @@ read = call_event (Read 0 0 4) [] [] true
 lost : (before after : Tree) → SurvivesLossSince small_image [] (read ∷ []) before after → ⊥
 lost before after h =
     let r = h (record { events = read ∷ []; extends = refl; each = (tt, tt) }) in
-    let left = (subst (AllCalls (λ e. (disk : Blocks) → LeftByLoss e disk → HasEither (with_blocks disk small_image) before after)) (sym (r.extends ∙ append-nil r.events)) r.each).0 [] refl in
+    let left = (subst (AllCalls (λ e. (disk : Blocks) → LeftByLoss e disk → HasEitherTree (with_blocks disk small_image) before after)) (sym (r.extends ∙ append-nil r.events)) r.each).0 [] refl in
     none_accepted left.pairs left.accepted
 
 pub returns-clause-lost : goal.returns-clause-lost
 returns-clause-lost c = lost
 
 -- it shows the empty tree
-other : (left : HasEither small_image (λ path. None) (λ path. None)) → (disk_tree small_image left.pairs ≡ (λ path. None)) ⊎ (disk_tree small_image left.pairs ≡ (λ path. None)) → ⊥
+other : (left : HasEitherTree small_image (λ path. None) (λ path. None)) → (disk_tree small_image left.pairs ≡ (λ path. None)) ⊎ (disk_tree small_image left.pairs ≡ (λ path. None)) → ⊥
 other left (inl e) = absurd (let k = ap (λ (t : Tree). t []) (sym (tree_is_empty left.pairs left.accepted) ∙ e) in cc)
 other left (inr e) = absurd (let k = ap (λ (t : Tree). t []) (sym (tree_is_empty left.pairs left.accepted) ∙ e) in cc)
 

@@ -2,10 +2,10 @@ use Rattle.std.proofs.Common.{ℕ, ◌≡◌, [], ◌∷◌, refl, arith}
 use Rattle.std.specs.Prelude.{codes, Contains}
 use Rattle.lfs_model.proofs.Common.{All-from_recursion, pair_count_at, root_and_two}
 use Rattle.lfs_model.specs.session.Operations as ops
-use Rattle.lfs_model.specs.crash.Frame.{SearchesAgain, searched_directories}
+use Rattle.lfs_model.specs.crash.Frame.{SearchesSameDirectories, searched_directories}
 use Rattle.lfs_model.proofs.runs.second_look_up_reads_nothing.Goals as goal
 
-kept : SearchesAgain root_and_two (ops.Stat (codes "/d")) (ops.Stat (codes "/e"))
+kept : SearchesSameDirectories root_and_two (ops.Stat (codes "/d")) (ops.Stat (codes "/e"))
 kept = record {
   path = codes "/d";
   stat = refl;
@@ -16,7 +16,7 @@ kept = record {
   small = All-from_recursion (λ p. pair_count_at root_and_two p ≡ 1) ([] ∷ []) (refl, tt);
 }
 
-not_kept : SearchesAgain root_and_two (ops.Stat (codes "/d/a")) (ops.ListAll (codes "/d")) → ⊥
+not_kept : SearchesSameDirectories root_and_two (ops.Stat (codes "/d/a")) (ops.ListAll (codes "/d")) → ⊥
 not_kept h = apart (pair_count_at root_and_two (codes "d" ∷ [])) refl (h.small 1 [] (omega arith))
   where
     apart : (n : ℕ) → n ≡ 2 → n ≡ 1 → ⊥

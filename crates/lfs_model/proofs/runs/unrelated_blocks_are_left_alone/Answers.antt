@@ -1,11 +1,11 @@
 use Rattle.std.proofs.Common.{ℕ, ◌≡◌, List, [], ◌∷◌, refl, sym, ap, arith}
 use Rattle.std.specs.Prelude.{codes, slice_index}
-use Rattle.lfs_model.proofs.Common.{disk_block, fresh_pair, empty_tree, mounted_session, HasPathSlot, LeavesOthers, small_image, two_commit_image}
+use Rattle.lfs_model.proofs.Common.{disk_block, fresh_pair, empty_tree, mounted_session, HasPathSlot, KeepsOthers, small_image, two_commit_image}
 use Rattle.lfs_model.specs.session.Operations as ops
 use Rattle.lfs_model.proofs.Sites.{among_from}
 use Rattle.lfs_model.proofs.runs.unrelated_blocks_are_left_alone.Goals as goal
 
-not_same : LeavesOthers small_image (fresh_pair small_image ∷ []) (mounted_session empty_tree) (ops.Stat (codes "/")) two_commit_image (fresh_pair small_image ∷ []) → ⊥
+not_same : KeepsOthers small_image (fresh_pair small_image ∷ []) (mounted_session empty_tree) (ops.Stat (codes "/")) two_commit_image (fresh_pair small_image ∷ []) → ⊥
 not_same h =
     let same = h.pairs (fresh_pair small_image) (0, omega arith, refl) (0, omega arith, refl) (λ a. among_from (HasPathSlot (fresh_pair small_image ∷ []) (fresh_pair small_image)) [] a) in
     apart (slice_index (disk_block small_image 0) 128) (slice_index (disk_block two_commit_image 0) 128) refl refl (sym (ap (λ (b : List ℕ). slice_index b 128) same.0))

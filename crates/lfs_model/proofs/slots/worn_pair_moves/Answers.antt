@@ -1,9 +1,9 @@
 use Rattle.std.proofs.Common.{ℕ, ◌≡◌, ◌≤◌, ◌*◌, true, [], ◌∷◌, Some, None, Contains, refl, sym, subst, arith}
 use Rattle.std.specs.Prelude.{codes}
 use Rattle.lfs_model.proofs.Common.{All-from_recursion, Pair, address_blocks, file_slot, used_blocks, is_worn_block, is_worn, AreUnused, pair_with_tail, root_and_two}
-use Rattle.lfs_model.specs.format.Crc.{crc_of, next_bits}
+use Rattle.lfs_model.specs.format.Crc.{crc_of, checksum_after_bits}
 use Rattle.lfs_model.specs.format.Log.{chain_of, chain_within, commit_within, entry_at, closes}
-use Rattle.lfs_model.specs.examples.Runs.{tail_to_address, root_with_d, image_of_two}
+use Rattle.lfs_model.specs.examples.Runs.{tail_to_address, root_with_d, worn_pairs_image}
 use Rattle.lfs_model.proofs.BlockSets.{number_occurrences-Contains}
 use Rattle.lfs_model.proofs.Counts.{Each}
 use Rattle.lfs_model.proofs.Unmoved.{none_moves, only_worn_moves}
@@ -15,15 +15,15 @@ directory_pair = pair_with_tail (4, 5) (file_slot (codes "a") ∷ []) (tail_to_a
 abbrev last_pair : Pair
 last_pair = pair_with_tail (6, 7) (file_slot (codes "z") ∷ []) None
 
-unused : AreUnused (image_of_two 1) root_and_two (8, 9)
-unused = All-from_recursion (λ b. Contains (used_blocks (image_of_two 1) root_and_two) b → ⊥) (address_blocks (8, 9)) (
+unused : AreUnused (worn_pairs_image 1) root_and_two (8, 9)
+unused = All-from_recursion (λ b. Contains (used_blocks (worn_pairs_image 1) root_and_two) b → ⊥) (address_blocks (8, 9)) (
   (λ has. let k : 1 ≤ 0 = number_occurrences-Contains (0 ∷ 1 ∷ 4 ∷ 5 ∷ 6 ∷ 7 ∷ []) 8 has in omega arith),
   ((λ has. let k : 1 ≤ 0 = number_occurrences-Contains (0 ∷ 1 ∷ 4 ∷ 5 ∷ 6 ∷ 7 ∷ []) 9 has in omega arith), tt),
 )
 
 -- each has the revision 1
-worn : (cycles : ℕ) → Each (λ p. is_worn (image_of_two cycles) p ≡ is_worn_block cycles (Some (1 ∷ 0 ∷ 0 ∷ 0 ∷ []))) root_and_two
-unfolding chain_of chain_within commit_within entry_at closes crc_of next_bits
+worn : (cycles : ℕ) → Each (λ p. is_worn (worn_pairs_image cycles) p ≡ is_worn_block cycles (Some (1 ∷ 0 ∷ 0 ∷ 0 ∷ []))) root_and_two
+unfolding chain_of chain_within commit_within entry_at closes crc_of checksum_after_bits
 worn cycles = (refl, (refl, (refl, tt)))
 
 pub returns-clause-moved : goal.returns-clause-moved
@@ -73,7 +73,7 @@ pub returns-clause-no_room : goal.returns-clause-no_room
 returns-clause-no_room c = λ new e h. let k : 8 * 8 ≤ 7 * 9 = subst (λ n. 8 * 8 ≤ 7 * n) e h.room in omega arith
 
 pub returns-clause-not_worn : goal.returns-clause-not_worn
-returns-clause-not_worn c = λ new qs. only_worn_moves (image_of_two 2) root_and_two new qs (worn 2)
+returns-clause-not_worn c = λ new qs. only_worn_moves (worn_pairs_image 2) root_and_two new qs (worn 2)
 
 pub returns-clause-no_cycles : goal.returns-clause-no_cycles
-returns-clause-no_cycles c = λ new qs. none_moves (image_of_two 0) root_and_two new qs refl
+returns-clause-no_cycles c = λ new qs. none_moves (worn_pairs_image 0) root_and_two new qs refl

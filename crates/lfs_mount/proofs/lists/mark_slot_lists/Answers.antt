@@ -30,7 +30,7 @@ returns-in_err-mark_slot_list-clause-broken g c = λ v is.
       mid = c.loop-index.map;
       before = subst (λ ss. MarksUsed c.args.map.now (flat_map (blocks_last_first disk) (raw_slot_lists ss)) c.loop-index.map) (sym (take-map slot_view c.loop-index.index c.args.slots.now)) c.loop-index.invariant.marked.marked;
       breaks = first_on g.D.BlockDevice c.args.device.now c.loop-index.device c.loop-index.invariant.device c.loop-index.map c.in-Some.list c.args.member.now.at _ v
-          (subst (λ n. BreaksList (disk_of_device g.D.BlockDevice c.loop-index.device) c.loop-index.map c.in-Some.list c.args.member.now.at n v) c.kept_slot_number-number.ensures
+          (subst (λ n. BreaksList (disk_of_device g.D.BlockDevice c.loop-index.device) c.loop-index.map c.in-Some.list c.args.member.now.at n v) c.entry_slot_number-number.ensures
           (c.in_err-mark_slot_list.ensures.broken v (ap Err (same_error p.1 p.2 is))));
     }
 

@@ -1,6 +1,6 @@
 use Rattle.std.proofs.Common.{ℕ, List, Err, inl, inr, refl, arith, ◌≡◌, ◌≤◌, ◌+◌, sym, ap, ap₂, ◌∙◌, length, map, subst}
 use Rattle.std.specs.Prelude.{sum_by}
-use Rattle.lfs_mount.proofs.Common.{err_from_is_err_and, ReadsOnly, disk_of_blocks, BlockStates, RawSlot, ordered_disk, Disk, disk_block, read_count, slot_view, disk_of_device, BreaksKeptList, kept_block_slots, HoldsNoneAt, scan_view, lists_view, MarksLists, list_reads, described_lists, scan_after_slots}
+use Rattle.lfs_mount.proofs.Common.{err_from_is_err_and, ReadsOnly, disk_of_blocks, BlockStates, RawSlot, ordered_disk, Disk, disk_block, read_count, slot_view, disk_of_device, BreaksEntryList, block_entry_slots, HoldsNoEntryAt, scan_view, lists_view, MarksLists, list_reads, described_lists, scan_after_slots}
 use Rattle.lfs_device.specs.declared.device.BlockDevice.{Ghosts}
 use Rattle.lfs_device.specs.declared.geometry.Geometry.{Geometry}
 use Rattle.lfs_model.specs.declared.order.NameOrder.{NameOrder}
@@ -15,10 +15,10 @@ use Rattle.lfs_mount.proofs.Scans.{scan_none_at}
 use Rattle.lfs_mount.proofs.pass.scan_pair.Goals as goal
 
 -- whatever the order of names, on the device as it was before
-lists_first_on : {D : Type 0} (g : Ghosts D) (old mid : D) → ReadsOnly g old mid → (order : NameOrder) (m : PairBeforeSlotsAreRead) (sets : BlockStates) (slots : List RawSlot) (v : Violation) → BreaksKeptList (disk_of_device g mid) m sets slots v
-    → BreaksKeptList (ordered_disk order (disk_of_device g old)) m sets slots v
+lists_first_on : {D : Type 0} (g : Ghosts D) (old mid : D) → ReadsOnly g old mid → (order : NameOrder) (m : PairBeforeSlotsAreRead) (sets : BlockStates) (slots : List RawSlot) (v : Violation) → BreaksEntryList (disk_of_device g mid) m sets slots v
+    → BreaksEntryList (ordered_disk order (disk_of_device g old)) m sets slots v
 lists_first_on g old mid reads order m sets slots v broken =
-    let b = subst (λ (d : Disk). BreaksKeptList d m sets slots v) (ap₂ disk_of_blocks reads.geometry reads.same) broken in
+    let b = subst (λ (d : Disk). BreaksEntryList d m sets slots v) (ap₂ disk_of_blocks reads.geometry reads.same) broken in
     record { index = b.index; l = b.l; is = b.is; mid = b.mid; before = b.before; breaks = b.breaks }
 
 lists_in_order : (order : NameOrder) (disk : Disk) {old new : BlockStates} {all : List (ℕ × ℕ)} → MarksLists disk old all new → MarksLists (ordered_disk order disk) old all new
@@ -31,16 +31,16 @@ returns-in-Err-clause-broken g c = λ v is order.
     let none = c.in-Err.ensures.corrupt (ap Err from.0) order in
     let at = scan_none_at order c.args.places.now (scan_view order c.args.known.now) (map slot_view c.deref-2.result.now) none in
     let same = ap (map slot_view) (c.deref-2.ensures.value ∙ sym c.deref-in-Err.ensures.value) in
-    let first = c.first_non_entry.ensures.holds at.0 (subst (λ ss. HoldsNoneAt ss at.0) same at.1) in
+    let first = c.first_non_entry.ensures.holds at.0 (subst (λ ss. HoldsNoEntryAt ss at.0) same at.1) in
     inr (
       map slot_view c.in_ok-slots.slots.items,
       (
-        ap (kept_block_slots c.args.member.now) (sym log) ∙ c.in_ok-slots.ensures.kept,
+        ap (block_entry_slots c.args.member.now) (sym log) ∙ c.in_ok-slots.ensures.kept,
         inl (
           c.first_non_entry.result,
           (
-            sym from.1 ∙ ap (violation.Entry c.args.member.now.at) c.kept_slot_number-slot.ensures,
-            subst (λ ss. HoldsNoneAt ss c.first_non_entry.result) (ap (map slot_view) c.deref-in-Err.ensures.value) first,
+            sym from.1 ∙ ap (violation.Entry c.args.member.now.at) c.entry_slot_number-slot.ensures,
+            subst (λ ss. HoldsNoEntryAt ss c.first_non_entry.result) (ap (map slot_view) c.deref-in-Err.ensures.value) first,
           ),
         ),
       ),
@@ -64,8 +64,8 @@ returns-in_err-mark_slot_lists-clause-broken g c = λ v is order.
     inr (
       map slot_view c.in_ok-slots.slots.items,
       (
-        ap (kept_block_slots c.args.member.now) (sym log) ∙ c.in_ok-slots.ensures.kept,
-        inr (subst (λ ss. BreaksKeptList (ordered_disk order (disk_of_device g.D.BlockDevice c.args.device.now)) c.args.member.now c.args.map.now ss v) (ap (map slot_view) c.deref-3.ensures.value) broken),
+        ap (block_entry_slots c.args.member.now) (sym log) ∙ c.in_ok-slots.ensures.kept,
+        inr (subst (λ ss. BreaksEntryList (ordered_disk order (disk_of_device g.D.BlockDevice c.args.device.now)) c.args.member.now c.args.map.now ss v) (ap (map slot_view) c.deref-3.ensures.value) broken),
       ),
     )
 
@@ -78,7 +78,7 @@ pub returns-clause-taken : goal.returns-clause-taken
 returns-clause-taken g c = λ order.
     let disk = disk_of_device g.D.BlockDevice c.args.device.now in
     let log = c.read.ensures ∙ c.deref.ensures.value ∙ c.in_ok-bytes.ensures.bytes in
-    let held = held_kept c.args.member.now (disk_block disk c.args.member.now.active) (map slot_view c.in_ok-slots.slots.items) (ap (kept_block_slots c.args.member.now) (sym log) ∙ c.in_ok-slots.ensures.kept) in
+    let held = held_kept c.args.member.now (disk_block disk c.args.member.now.active) (map slot_view c.in_ok-slots.slots.items) (ap (block_entry_slots c.args.member.now) (sym log) ∙ c.in_ok-slots.ensures.kept) in
     record {
       held = held.0;
       content = held.1.0;

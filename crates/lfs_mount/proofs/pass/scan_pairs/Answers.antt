@@ -1,5 +1,5 @@
 use Rattle.std.proofs.Common.{refl, ◌≤◌, ◌+◌, ◌++◌, ◌∷◌, [], Err, drop, get_or, sym, ap, ap₂, subst, subst₂, ◌∙◌, arith, false, None}
-use Rattle.lfs_mount.proofs.Common.{map-append, slice_get-get_or, err_from_is_err_and, read_count, disk_of_device, pair_reads, ReadsOnly, disk_of_blocks, ordered_disk, Disk, BlockStates, BreaksDescribedPair, vertex_view, graph_view, scan_view, Vertex, DirectoryGraph, AddsPair}
+use Rattle.lfs_mount.proofs.Common.{map-append, slice_get-get_or, err_from_is_err_and, read_count, disk_of_device, pair_reads, ReadsOnly, disk_of_blocks, ordered_disk, Disk, BlockStates, BreaksDescribedPair, vertex_view, graph_view, scan_view, Vertex, DirectoryGraph, ScansPair}
 use Rattle.std.proofs.Math.ListN.{drop_of_length-le}
 use Rattle.lfs_device.specs.declared.device.BlockDevice.{Ghosts}
 use Rattle.lfs_model.specs.declared.violations.Violation.{Violation}
@@ -61,9 +61,9 @@ returns-in_err-push-clause-reading g c =
 pub loop-member-preserved : goal.loop-member-preserved
 loop-member-preserved g c =
     let disk = disk_of_device g.D.BlockDevice c.args.device.now in
-    let takes : (order : NameOrder) → AddsPair (ordered_disk order disk) c.args.places.now (get_or c.args.members.now c.loop-member.member-index none) (scan_view order c.loop-member.known) c.loop-member.map (scan_view order c.scan_pair.new.known) c.scan_pair.new.map =
+    let takes : (order : NameOrder) → ScansPair (ordered_disk order disk) c.args.places.now (get_or c.args.members.now c.loop-member.member-index none) (scan_view order c.loop-member.known) c.loop-member.map (scan_view order c.scan_pair.new.known) c.scan_pair.new.map =
     λ order.
-    subst (λ (d : Disk). AddsPair (ordered_disk order d) c.args.places.now (get_or c.args.members.now c.loop-member.member-index none) (scan_view order c.loop-member.known) c.loop-member.map (scan_view order c.scan_pair.new.known) c.scan_pair.new.map)
+    subst (λ (d : Disk). ScansPair (ordered_disk order d) c.args.places.now (get_or c.args.members.now c.loop-member.member-index none) (scan_view order c.loop-member.known) c.loop-member.map (scan_view order c.scan_pair.new.known) c.scan_pair.new.map)
     (ap₂ disk_of_blocks c.loop-member.invariant.device.geometry c.loop-member.invariant.device.same) (c.in_ok-scan_pair.ensures.taken order) in
     record {
       way = λ order. elim c.if-not-member.branch [

@@ -13,14 +13,14 @@ then_dropped m i j s new e f h = subst (λ (k : ℕ). IsPairDropped m (k - 1) ze
 
 pub drop_pair_at-requires-clause-can : goal.drop_pair_at-requires-clause-can
 drop_pair_at-requires-clause-can g c =
-    subst (CanDropAt c.args.thread.now.kept c.args.pair) (sym c.sync_delta.ensures) (can_drop_entry c.args.thread.now.kept c.args.pair c.args.id c.args.first c.args.gone c.requires.can (stands_whole c.args.thread.now.kept c.args.pair c.args.id c.args.first c.requires.can.can c.requires.can.begins c.requires.goes))
+    subst (CanDropAt c.args.thread.now.kept c.args.pair) (sym c.delta_turning_sync.ensures) (can_drop_entry c.args.thread.now.kept c.args.pair c.args.id c.args.first c.args.gone c.requires.can (stands_whole c.args.thread.now.kept c.args.pair c.args.id c.args.first c.requires.can.can c.requires.can.begins c.requires.goes))
 
 pub drop_pair_at-requires-2-clause-can : goal.drop_pair_at-requires-2-clause-can
 drop_pair_at-requires-2-clause-can g c =
     subst (CanDropAt c.drop_pair_at.new.thread.kept c.number_after_dropped.result) (sym c.none.ensures)
     (subst (λ (i : ℕ). CanDropAt c.drop_pair_at.new.thread.kept i zero_gstate) (sym c.number_after_dropped.ensures)
     (can_drop_last (may_go c.args.thread.now.kept c.args.pair c.args.id c.args.first c.args.gone c.requires.can (stands_whole c.args.thread.now.kept c.args.pair c.args.id c.args.first c.requires.can.can c.requires.can.begins c.requires.goes) c.drop_pair_at.new.thread.kept
-    (subst (λ (s : Gstate). IsPairDropped c.args.thread.now.kept (c.args.pair - 1) s c.drop_pair_at.new.thread.kept) c.sync_delta.ensures c.in_ok-drop_pair_at.ensures.is_dropped))))
+    (subst (λ (s : Gstate). IsPairDropped c.args.thread.now.kept (c.args.pair - 1) s c.drop_pair_at.new.thread.kept) c.delta_turning_sync.ensures c.in_ok-drop_pair_at.ensures.is_dropped))))
 
 pub returns-in_err-drop_pair_at-clause-errors : goal.returns-in_err-drop_pair_at-clause-errors
 returns-in_err-drop_pair_at-clause-errors g c =
@@ -38,18 +38,18 @@ returns-in_err-drop_pair_at-clause-survives g c take =
     let t = c.args.thread.now.kept in
     let m = c.drop_pair_at.new.thread.kept in
     survives_step t.disk (whole_first t c.args.pair c.args.id c.args.first c.args.gone take (stands_whole t c.args.pair c.args.id c.args.first take.can take.begins c.requires.goes))
-    (subst (λ (s : Gstate). CleanLossLeaves t.history m.history (LeftByDrop t (c.args.pair - 1) s)) c.sync_delta.ensures c.drop_pair_at.ensures.stops)
+    (subst (λ (s : Gstate). CleanLossLeaves t.history m.history (LeftByDrop t (c.args.pair - 1) s)) c.delta_turning_sync.ensures c.drop_pair_at.ensures.stops)
 
 pub returns-clause-is_removed : goal.returns-clause-is_removed
 returns-clause-is_removed g c = on_ok_weaker c.drop_pair_at-2.result (λ is take. whole_removed c.args.thread.now.kept c.args.pair c.args.id c.args.first c.args.gone take (stands_whole c.args.thread.now.kept c.args.pair c.args.id c.args.first take.can take.begins c.requires.goes) c.drop_pair_at.new.thread.kept
-    (subst (λ (s : Gstate). IsPairDropped c.args.thread.now.kept (c.args.pair - 1) s c.drop_pair_at.new.thread.kept) c.sync_delta.ensures c.in_ok-drop_pair_at.ensures.is_dropped)
+    (subst (λ (s : Gstate). IsPairDropped c.args.thread.now.kept (c.args.pair - 1) s c.drop_pair_at.new.thread.kept) c.delta_turning_sync.ensures c.in_ok-drop_pair_at.ensures.is_dropped)
     c.drop_pair_at-2.new.thread.kept (then_dropped c.drop_pair_at.new.thread.kept c.number_after_dropped.result (number_after_drop c.args.pair c.args.gone) (move_view c.none.result) c.drop_pair_at-2.new.thread.kept c.number_after_dropped.ensures c.none.ensures is)) c.drop_pair_at-2.ensures.is_dropped
 
 pub returns-clause-device : goal.returns-clause-device
 returns-clause-device g c =
     subst (λ at. ChangesThreadBlocks (addresses_blocks at (thread_pair c.args.thread.now.kept (c.args.gone - 1)).at) c.args.thread.now.kept c.drop_pair_at-2.new.thread.kept) (sym (written_whole c.args.thread.now.kept c.args.pair c.args.first c.requires.goes))
     (writes_whole c.args.thread.now.kept c.args.pair c.args.id c.args.first c.args.gone c.requires.can (stands_whole c.args.thread.now.kept c.args.pair c.args.id c.args.first c.requires.can.can c.requires.can.begins c.requires.goes) c.drop_pair_at.new.thread.kept c.drop_pair_at-2.new.thread.kept
-    (subst (λ (s : Gstate). IsPairDropped c.args.thread.now.kept (c.args.pair - 1) s c.drop_pair_at.new.thread.kept) c.sync_delta.ensures c.in_ok-drop_pair_at.ensures.is_dropped)
+    (subst (λ (s : Gstate). IsPairDropped c.args.thread.now.kept (c.args.pair - 1) s c.drop_pair_at.new.thread.kept) c.delta_turning_sync.ensures c.in_ok-drop_pair_at.ensures.is_dropped)
     c.drop_pair_at.ensures.device (subst (λ (i : ℕ). ChangesThreadBlocks (address_blocks (thread_pair c.drop_pair_at.new.thread.kept (i - 1)).at) c.drop_pair_at.new.thread.kept c.drop_pair_at-2.new.thread.kept) c.number_after_dropped.ensures c.drop_pair_at-2.ensures.device))
 
 pub returns-clause-survives : goal.returns-clause-survives
@@ -60,8 +60,8 @@ returns-clause-survives g c take =
     let whole = stands_whole t c.args.pair c.args.id c.args.first take.can take.begins c.requires.goes in
     survives_more (disk_tree t.disk t.pairs) (tree_without_entry t take.can.path take.can.name) c.drop_pair_at.ensures.device c.drop_pair_at-2.ensures.device
     (survives_step t.disk (whole_first t c.args.pair c.args.id c.args.first c.args.gone take whole)
-    (subst (λ (s : Gstate). CleanLossLeaves t.history m.history (LeftByDrop t (c.args.pair - 1) s)) c.sync_delta.ensures c.drop_pair_at.ensures.stops))
-    (whole_second t c.args.pair c.args.id c.args.first c.args.gone take whole m (subst (λ (s : Gstate). IsPairDropped t (c.args.pair - 1) s m) c.sync_delta.ensures c.in_ok-drop_pair_at.ensures.is_dropped))
+    (subst (λ (s : Gstate). CleanLossLeaves t.history m.history (LeftByDrop t (c.args.pair - 1) s)) c.delta_turning_sync.ensures c.drop_pair_at.ensures.stops))
+    (whole_second t c.args.pair c.args.id c.args.first c.args.gone take whole m (subst (λ (s : Gstate). IsPairDropped t (c.args.pair - 1) s m) c.delta_turning_sync.ensures c.in_ok-drop_pair_at.ensures.is_dropped))
     (subst (λ (i : ℕ). CleanLossLeaves m.history new.history (LeftByDrop m (i - 1) zero_gstate)) c.number_after_dropped.ensures
     (subst (λ (s : Gstate). CleanLossLeaves m.history new.history (LeftByDrop m (c.number_after_dropped.result - 1) s)) c.none.ensures c.drop_pair_at-2.ensures.stops))
 
@@ -69,7 +69,7 @@ pub returns-clause-alters : goal.returns-clause-alters
 returns-clause-alters g c =
     on_ok_weaker c.drop_pair_at-2.result (λ is.
     whole_alters c.args.thread.now.kept c.args.pair c.args.id c.args.first c.args.gone c.requires.can (stands_whole c.args.thread.now.kept c.args.pair c.args.id c.args.first c.requires.can.can c.requires.can.begins c.requires.goes) c.drop_pair_at.new.thread.kept
-    (subst (λ (s : Gstate). IsPairDropped c.args.thread.now.kept (c.args.pair - 1) s c.drop_pair_at.new.thread.kept) c.sync_delta.ensures c.in_ok-drop_pair_at.ensures.is_dropped)
+    (subst (λ (s : Gstate). IsPairDropped c.args.thread.now.kept (c.args.pair - 1) s c.drop_pair_at.new.thread.kept) c.delta_turning_sync.ensures c.in_ok-drop_pair_at.ensures.is_dropped)
     c.drop_pair_at-2.new.thread.kept (then_dropped c.drop_pair_at.new.thread.kept c.number_after_dropped.result (number_after_drop c.args.pair c.args.gone) (move_view c.none.result) c.drop_pair_at-2.new.thread.kept c.number_after_dropped.ensures c.none.ensures is))
     c.drop_pair_at-2.ensures.is_dropped
 

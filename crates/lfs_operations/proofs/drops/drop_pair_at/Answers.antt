@@ -15,9 +15,9 @@ pub drop_next-requires-clause-can : goal.drop_next-requires-clause-can
 drop_next-requires-clause-can g c =
     let t = c.args.thread.now.kept in
     let state = move_view c.args.state.now in
-    let k = c.drop_changes_at-changes.ensures in
+    let k = c.changes_for_drop-changes.ensures in
     subst (CanDropNext t (c.args.index - 1)) (sym k.are)
-    (can_drop t (c.args.index - 1) state (below_there t c.args.index state c.requires.can) (made_there t c.args.index state (changes_view c.drop_changes_at-changes.result) k.are k.made))
+    (can_drop t (c.args.index - 1) state (below_there t c.args.index state c.requires.can) (made_there t c.args.index state (changes_view c.changes_for_drop-changes.result) k.are k.made))
 
 pub returns-in_err-drop_next-clause-errors : goal.returns-in_err-drop_next-clause-errors
 returns-in_err-drop_next-clause-errors g c =
@@ -28,8 +28,8 @@ pub returns-in_err-drop_next-clause-stops : goal.returns-in_err-drop_next-clause
 returns-in_err-drop_next-clause-stops g c clean =
     let t = c.args.thread.now.kept in
     let state = move_view c.args.state.now in
-    let k = c.drop_changes_at-changes.ensures in
-    HoldsAtLosses-weaker (λ left x. left_by_drop t (c.args.index - 1) state (below_there t c.args.index state c.requires.can) (made_there t c.args.index state (changes_view c.drop_changes_at-changes.result) k.are k.made) left
+    let k = c.changes_for_drop-changes.ensures in
+    HoldsAtLosses-weaker (λ left x. left_by_drop t (c.args.index - 1) state (below_there t c.args.index state c.requires.can) (made_there t c.args.index state (changes_view c.changes_for_drop-changes.result) k.are k.made) left
     (subst (λ changes. LossLeavesPair t (c.args.index - 1) changes left) k.are x)) (c.drop_next.ensures.stops clean)
 
 pub returns-clause-is_dropped : goal.returns-clause-is_dropped
@@ -42,21 +42,21 @@ returns-clause-is_dropped g c = by c.in_ok-drop_next.field-0 c.in_ok-drop_next.w
     state = move_view c.args.state.now
 
     made : complete_after t (c.args.index - 1) (dropping_changes t (c.args.index - 1) state) ≡ Some (content_after_drop t (c.args.index - 1) state)
-    made = let k = c.drop_changes_at-changes.ensures in made_there t c.args.index state (changes_view c.drop_changes_at-changes.result) k.are k.made
+    made = let k = c.changes_for_drop-changes.ensures in made_there t c.args.index state (changes_view c.changes_for_drop-changes.result) k.are k.made
 
     below : c.args.index - 1 + 1 < length t.pairs
     below = below_there t c.args.index state c.requires.can
 
     by : (o : Outcome) → c.drop_next.result ≡ Ok o → IsPairDropped t (c.args.index - 1) state c.drop_next.new.self.kept
     by outcome.Done is = has_dropped t (c.args.index - 1) state below made c.drop_next.new.self.kept
-        (subst (λ changes. IsNextDropped t (c.args.index - 1) changes c.drop_next.new.self.kept) c.drop_changes_at-changes.ensures.are (c.drop_next.ensures.done is))
+        (subst (λ changes. IsNextDropped t (c.args.index - 1) changes c.drop_next.new.self.kept) c.changes_for_drop-changes.ensures.are (c.drop_next.ensures.done is))
     by outcome.Full is = absurd (drop_not_refused t (c.args.index - 1) state below made c.requires.can.fits c.drop_next.new.self.kept
-        (subst (λ changes. RefusesChanges t (c.args.index - 1) changes c.drop_next.new.self.kept) c.drop_changes_at-changes.ensures.are (c.drop_next.ensures.full is)))
+        (subst (λ changes. RefusesChanges t (c.args.index - 1) changes c.drop_next.new.self.kept) c.changes_for_drop-changes.ensures.are (c.drop_next.ensures.full is)))
 
 pub returns-clause-stops : goal.returns-clause-stops
 returns-clause-stops g c clean =
     let t = c.args.thread.now.kept in
     let state = move_view c.args.state.now in
-    let k = c.drop_changes_at-changes.ensures in
-    HoldsAtLosses-weaker (λ left x. left_by_drop t (c.args.index - 1) state (below_there t c.args.index state c.requires.can) (made_there t c.args.index state (changes_view c.drop_changes_at-changes.result) k.are k.made) left
+    let k = c.changes_for_drop-changes.ensures in
+    HoldsAtLosses-weaker (λ left x. left_by_drop t (c.args.index - 1) state (below_there t c.args.index state c.requires.can) (made_there t c.args.index state (changes_view c.changes_for_drop-changes.result) k.are k.made) left
     (subst (λ changes. LossLeavesPair t (c.args.index - 1) changes left) k.are x)) (c.drop_next.ensures.stops clean)

@@ -1,4 +1,4 @@
-use Rattle.lfs_operations.proofs.Common.{ap, sym, subst, ◌∙◌, ◌<◌, length, Err, on_ok_weaker, err_from_is_err_and, changes_view, written_at_end, IsPutEnded, SurvivesCommits, ReportsTakingCommits, WritesPairsTwo, second_pair, moving_changes, tree_across, disk_tree, with_blocks, HasEither, AreWords, thread_pair, drops_with_its_slot, subst₂, CanPutAndEnd}
+use Rattle.lfs_operations.proofs.Common.{ap, sym, subst, ◌∙◌, ◌<◌, length, Err, on_ok_weaker, err_from_is_err_and, changes_view, written_by_ending, ArePutAndEnded, SurvivesCommits, ReportsTakingCommits, WritesPairsTwo, second_pair, moving_changes, tree_across, disk_tree, with_blocks, HasEitherTree, AreWords, thread_pair, drops_with_its_slot, subst₂, CanPutAndEnd}
 use Rattle.lfs_device.specs.declared.error.Error.TheVariants as Error
 use Rattle.lfs_operations.proofs.MovLater.{aim, stands_across, changes_are, done_after_read, ends_after_read, survives_after_read, reports_after_read, reports_unmade, reports_unread, writes_after_read, writes_read}
 use Rattle.lfs_operations.proofs.MovPlaced.{ends_aimed, shows_aimed}
@@ -98,9 +98,9 @@ returns-clause-moved g c =
     let are = changes_are t mid only c.args.replaces c.args.sync to.old_pair to.old_id to.new_pair to.new_id c.args.name.now (ap changes_view c.deref.ensures.value ∙ c.in_ok-changes.ensures) c.move_setting_delta-state.ensures.delta c.in_ok-copy.ensures.copied in
     record {
       address = subst (λ k. AreWords (thread_pair k to.old_pair).at) (read_is t mid only) c.move_setting_delta-state.ensures.address;
-      done = subst (λ b. IsPutEnded t to.old_pair to.old_id b to.new_pair (moving_changes c.args.replaces c.args.sync t to.old_pair to.old_id to.new_pair to.new_id c.args.name.now) c.put_and_end.new.thread.kept) c.drops_with_slot-goes.ensures
+      done = subst (λ b. ArePutAndEnded t to.old_pair to.old_id b to.new_pair (moving_changes c.args.replaces c.args.sync t to.old_pair to.old_id to.new_pair to.new_id c.args.name.now) c.put_and_end.new.thread.kept) c.drops_with_slot-goes.ensures
           (done_after_read t mid only to.old_pair to.old_id c.drops_with_slot-goes.result to.new_pair (moving_changes c.args.replaces c.args.sync t to.old_pair to.old_id to.new_pair to.new_id c.args.name.now) c.put_and_end.new.thread.kept
-          (subst (λ z. IsPutEnded mid to.old_pair to.old_id c.drops_with_slot-goes.result to.new_pair z c.put_and_end.new.thread.kept) are is));
+          (subst (λ z. ArePutAndEnded mid to.old_pair to.old_id c.drops_with_slot-goes.result to.new_pair z c.put_and_end.new.thread.kept) are is));
     })
     c.put_and_end.ensures.done
 
@@ -121,8 +121,8 @@ returns-clause-device g c =
     let mid = c.copy_pair_slot.new.thread.kept in
     let only = c.copy_pair_slot.ensures.only in
     let to = c.args.route in
-    subst (λ b. WritesPairsTwo t (written_at_end to.old_pair b) to.new_pair c.put_and_end.new.thread.kept) c.drops_with_slot-goes.ensures
-    (writes_after_read t mid c.put_and_end.new.thread.kept (written_at_end to.old_pair c.drops_with_slot-goes.result) to.new_pair only c.put_and_end.ensures.device)
+    subst (λ b. WritesPairsTwo t (written_by_ending to.old_pair b) to.new_pair c.put_and_end.new.thread.kept) c.drops_with_slot-goes.ensures
+    (writes_after_read t mid c.put_and_end.new.thread.kept (written_by_ending to.old_pair c.drops_with_slot-goes.result) to.new_pair only c.put_and_end.ensures.device)
 
 pub returns-clause-survives : goal.returns-clause-survives
 returns-clause-survives g c rename =
@@ -132,7 +132,7 @@ returns-clause-survives g c rename =
     let to = c.args.route in
     let are = changes_are t mid only c.args.replaces c.args.sync to.old_pair to.old_id to.new_pair to.new_id c.args.name.now (ap changes_view c.deref.ensures.value ∙ c.in_ok-changes.ensures) c.move_setting_delta-state.ensures.delta c.in_ok-copy.ensures.copied in
     let at = aim t mid only c.args.replaces c.args.sync to.old_pair to.old_id to.first to.new_pair to.new_id c.args.name.now rename c.move_setting_delta-state.ensures.address in
-    survives_after_read t mid only to.old_pair to.old_id c.drops_with_slot-goes.result to.new_pair (moving_changes c.args.replaces c.args.sync t to.old_pair to.old_id to.new_pair to.new_id c.args.name.now) (written_at_end to.old_pair c.drops_with_slot-goes.result) c.put_and_end.new.thread.kept
+    survives_after_read t mid only to.old_pair to.old_id c.drops_with_slot-goes.result to.new_pair (moving_changes c.args.replaces c.args.sync t to.old_pair to.old_id to.new_pair to.new_id c.args.name.now) (written_by_ending to.old_pair c.drops_with_slot-goes.result) c.put_and_end.new.thread.kept
     (tree_across t c.args.replaces c.args.sync to.old_pair to.old_id to.first to.new_pair to.new_id c.args.name.now rename) c.put_and_end.ensures.device
     (subst (λ z. SurvivesCommits mid to.new_pair z c.put_and_end.new.thread.kept) are c.put_and_end.ensures.survives) at.old.ready
-    (λ left l. subst (HasEither (with_blocks left t.disk) (disk_tree t.disk t.pairs)) at.is (left_tree at.aimed.way left l)) (λ last is. shows_aimed at.aimed last is ∙ at.is)
+    (λ left l. subst (HasEitherTree (with_blocks left t.disk) (disk_tree t.disk t.pairs)) at.is (left_tree at.aimed.way left l)) (λ last is. shows_aimed at.aimed last is ∙ at.is)

@@ -1,4 +1,4 @@
-use Rattle.lfs_operations.proofs.Common.{CanLink, ap, sym, subst, ◌∙◌, arith, Err, on_ok_weaker, err_from_is_err_and, Disk, HasEither, array_address, disk_tree, CleanLossLeaves, ThreadView, ThreadReportsKeepingOthers, IsThreadedIn, LossLeavesThreaded, ChangesThreadBlocks, thread_pair, address_blocks, addresses_blocks, map_taking_two, ReportsMaking, threading_changes, tree_with_directory}
+use Rattle.lfs_operations.proofs.Common.{CanLinkPairAfter, ap, sym, subst, ◌∙◌, arith, Err, on_ok_weaker, err_from_is_err_and, Disk, HasEitherTree, array_address, disk_tree, CleanLossLeaves, ThreadView, ThreadReportsKeepingOthers, IsThreadedIn, LossLeavesThreaded, ChangesThreadBlocks, thread_pair, address_blocks, addresses_blocks, map_taking_two, ReportsMaking, threading_changes, tree_with_directory}
 use Rattle.lfs_device.specs.declared.error.Error.TheVariants as Error
 use Rattle.lfs_operations.proofs.MakingCounts.{no_room}
 use Rattle.lfs_operations.proofs.MakingReported.{reports_first, reports_second}
@@ -23,7 +23,7 @@ link_pair_after-requires-clause-can g c =
     let fresh = array_address c.in-Some.fresh in
     let free = c.in-Some.ensures.were_free in
     let facts = c.lemma_device_facts.ensures in
-    subst (λ (s : ThreadView). CanLink s.kept last.result fresh) (sym c.in-Some.ensures.taken) (record {
+    subst (λ (s : ThreadView). CanLinkPairAfter s.kept last.result fresh) (sym c.in-Some.ensures.taken) (record {
       can = can_thread t c.args.pair c.args.id c.args.name.now c.requires.can last.result last.ensures fresh free facts.bytes facts.count;
       fits = thread_fits t c.args.pair c.args.id c.args.name.now c.requires.can last.result last.ensures fresh free facts.bytes facts.count;
     })
@@ -49,8 +49,8 @@ returns-in_err-link_pair_after-clause-survives g c can =
     (left_by_threading t c.args.pair c.args.id c.args.name.now can last c.last_directory_pair-last.ensures fresh c.in-Some.ensures.were_free c.lemma_device_facts.ensures.bytes c.lemma_device_facts.ensures.count)
     (subst (λ (s : ThreadView). CleanLossLeaves s.kept.history c.link_pair_after.new.thread.kept.history (LossLeavesThreaded s.kept last fresh (threading_changes s.kept last fresh))) c.in-Some.ensures.taken c.link_pair_after.ensures.stops)
 
-pub put_new_entry-requires-clause-can : goal.put_new_entry-requires-clause-can
-put_new_entry-requires-clause-can g c =
+pub put_branch_entry-requires-clause-can : goal.put_branch_entry-requires-clause-can
+put_branch_entry-requires-clause-can g c =
     let t = c.args.thread.now.kept in
     let m = c.link_pair_after.new.thread.kept in
     let last = c.last_directory_pair-last.result in
@@ -63,7 +63,7 @@ put_new_entry-requires-clause-can g c =
 
 pub returns-clause-made : goal.returns-clause-made
 returns-clause-made g c =
-    on_ok_weaker c.put_new_entry.result (λ is can.
+    on_ok_weaker c.put_branch_entry.result (λ is can.
     let t = c.args.thread.now.kept in
     let m = c.link_pair_after.new.thread.kept in
     let last = c.last_directory_pair-last.result in
@@ -72,12 +72,12 @@ returns-clause-made g c =
     let h = threaded_now t c.args.pair c.args.id c.args.name.now can last c.last_directory_pair-last.ensures fresh c.in-Some.ensures.were_free c.lemma_device_facts.ensures.bytes c.lemma_device_facts.ensures.count m
     (subst (λ (s : ThreadView). IsThreadedIn s.kept last fresh (threading_changes s.kept last fresh) m) c.in-Some.ensures.taken c.in_ok-link_pair_after.ensures.is_joined) writes in
     made_is t c.args.pair c.args.id c.args.name.now can last c.last_directory_pair-last.ensures fresh c.in-Some.ensures.were_free c.lemma_device_facts.ensures.bytes c.lemma_device_facts.ensures.count m h c.lemma_device_facts-2.ensures.bytes
-    c.put_new_entry.new.thread.kept is)
-    c.put_new_entry.ensures.is_put
+    c.put_branch_entry.new.thread.kept is)
+    c.put_branch_entry.ensures.is_put
 
 pub returns-clause-alters : goal.returns-clause-alters
 returns-clause-alters g c =
-    on_ok_weaker c.put_new_entry.result (λ is.
+    on_ok_weaker c.put_branch_entry.result (λ is.
     let t = c.args.thread.now.kept in
     let m = c.link_pair_after.new.thread.kept in
     let last = c.last_directory_pair-last.result in
@@ -86,8 +86,8 @@ returns-clause-alters g c =
     let h = threaded_now t c.args.pair c.args.id c.args.name.now c.requires.can last c.last_directory_pair-last.ensures fresh c.in-Some.ensures.were_free c.lemma_device_facts.ensures.bytes c.lemma_device_facts.ensures.count m
     (subst (λ (s : ThreadView). IsThreadedIn s.kept last fresh (threading_changes s.kept last fresh) m) c.in-Some.ensures.taken c.in_ok-link_pair_after.ensures.is_joined) writes in
     made_alters t c.args.pair c.args.id c.args.name.now c.requires.can last c.last_directory_pair-last.ensures fresh c.in-Some.ensures.were_free c.lemma_device_facts.ensures.bytes c.lemma_device_facts.ensures.count m h c.lemma_device_facts-2.ensures.bytes
-    c.put_new_entry.new.thread.kept is)
-    c.put_new_entry.ensures.is_put
+    c.put_branch_entry.new.thread.kept is)
+    c.put_branch_entry.ensures.is_put
 
 pub returns-clause-device : goal.returns-clause-device
 returns-clause-device g c =
@@ -98,9 +98,9 @@ returns-clause-device g c =
     let writes = subst (λ (s : ThreadView). ChangesThreadBlocks (addresses_blocks (thread_pair s.kept last).at fresh) s.kept m) c.in-Some.ensures.taken c.link_pair_after.ensures.device in
     let h = threaded_now t c.args.pair c.args.id c.args.name.now c.requires.can last c.last_directory_pair-last.ensures fresh c.in-Some.ensures.were_free c.lemma_device_facts.ensures.bytes c.lemma_device_facts.ensures.count m
     (subst (λ (s : ThreadView). IsThreadedIn s.kept last fresh (threading_changes s.kept last fresh) m) c.in-Some.ensures.taken c.in_ok-link_pair_after.ensures.is_joined) writes in
-    writes_both t c.args.pair last c.last_directory_pair-last.ensures fresh c.in-Some.ensures.were_free m c.put_new_entry.new.thread.kept writes h.map
+    writes_both t c.args.pair last c.last_directory_pair-last.ensures fresh c.in-Some.ensures.were_free m c.put_branch_entry.new.thread.kept writes h.map
     (at_still t c.args.pair c.args.id c.args.name.now c.requires.can last c.last_directory_pair-last.ensures fresh c.in-Some.ensures.were_free c.lemma_device_facts.ensures.bytes c.lemma_device_facts.ensures.count m h c.lemma_device_facts-2.ensures.bytes)
-    c.put_new_entry.ensures.device
+    c.put_branch_entry.ensures.device
 
 pub returns-clause-survives : goal.returns-clause-survives
 returns-clause-survives g c can =
@@ -111,16 +111,16 @@ returns-clause-survives g c can =
     let writes = subst (λ (s : ThreadView). ChangesThreadBlocks (addresses_blocks (thread_pair s.kept last).at fresh) s.kept m) c.in-Some.ensures.taken c.link_pair_after.ensures.device in
     let h = threaded_now t c.args.pair c.args.id c.args.name.now can last c.last_directory_pair-last.ensures fresh c.in-Some.ensures.were_free c.lemma_device_facts.ensures.bytes c.lemma_device_facts.ensures.count m
     (subst (λ (s : ThreadView). IsThreadedIn s.kept last fresh (threading_changes s.kept last fresh) m) c.in-Some.ensures.taken c.in_ok-link_pair_after.ensures.is_joined) writes in
-    let new = c.put_new_entry.new.thread.kept in
+    let new = c.put_branch_entry.new.thread.kept in
     let before = disk_tree t.disk t.pairs in
     let after = tree_with_directory t can.path c.args.name.now in
-    survives_both t c.args.pair last c.last_directory_pair-last.ensures fresh c.in-Some.ensures.were_free m new before after writes c.put_new_entry.ensures.device
+    survives_both t c.args.pair last c.last_directory_pair-last.ensures fresh c.in-Some.ensures.were_free m new before after writes c.put_branch_entry.ensures.device
     (survives_step t.disk
     (left_by_threading t c.args.pair c.args.id c.args.name.now can last c.last_directory_pair-last.ensures fresh c.in-Some.ensures.were_free c.lemma_device_facts.ensures.bytes c.lemma_device_facts.ensures.count)
     (subst (λ (s : ThreadView). CleanLossLeaves s.kept.history m.history (LossLeavesThreaded s.kept last fresh (threading_changes s.kept last fresh))) c.in-Some.ensures.taken c.link_pair_after.ensures.stops))
     (survives_step t.disk
     (left_by_entering t c.args.pair c.args.id c.args.name.now can last c.last_directory_pair-last.ensures fresh c.in-Some.ensures.were_free c.lemma_device_facts.ensures.bytes c.lemma_device_facts.ensures.count m h c.lemma_device_facts-2.ensures.bytes)
-    c.put_new_entry.ensures.stops)
+    c.put_branch_entry.ensures.stops)
 
 pub returns-in_default-clause-stands : goal.returns-in_default-clause-stands
 returns-in_default-clause-stands g c = let room = c.requires.can.room in absurd (no_room c.args.thread.now.kept.map c.in_default.ensures.none (omega arith))
@@ -147,11 +147,11 @@ returns-clause-errors g c =
     (subst (λ (s : ThreadView). IsThreadedIn s.kept last fresh (threading_changes s.kept last fresh) m) c.in-Some.ensures.taken c.in_ok-link_pair_after.ensures.is_joined)
     (subst (λ (s : ThreadView). ChangesThreadBlocks (addresses_blocks (thread_pair s.kept last).at fresh) s.kept m) c.in-Some.ensures.taken c.link_pair_after.ensures.device) in
     let reported = subst (λ (s : ThreadView). ThreadReportsKeepingOthers (address_blocks fresh) s.kept m c.link_pair_after.result) c.in-Some.ensures.taken c.link_pair_after.ensures.errors.reported in
-    reports_second c.args.thread.now c.link_pair_after.new.thread c.put_new_entry.new.thread c.put_new_entry.result
+    reports_second c.args.thread.now c.link_pair_after.new.thread c.put_branch_entry.new.thread c.put_branch_entry.result
     (reported.no_fault (λ io. not_both c.link_pair_after.result c.in_ok-link_pair_after.field-0 Error.Io c.in_ok-link_pair_after.was io))
     (λ none. room_left t c.args.pair c.args.id c.args.name.now c.requires.can last c.last_directory_pair-last.ensures fresh c.in-Some.ensures.were_free c.lemma_device_facts.ensures.bytes c.lemma_device_facts.ensures.count m h
-    (c.put_new_entry.ensures.errors.reports.reports.no_space none))
-    c.put_new_entry.ensures.errors.reports
+    (c.put_branch_entry.ensures.errors.reports.reports.no_space none))
+    c.put_branch_entry.ensures.errors.reports
 
 pub returns-clause-stands : goal.returns-clause-stands
 returns-clause-stands g c memory can =
@@ -162,6 +162,6 @@ returns-clause-stands g c memory can =
     let h = threaded_now t c.args.pair c.args.id c.args.name.now can last c.last_directory_pair-last.ensures fresh c.in-Some.ensures.were_free c.lemma_device_facts.ensures.bytes c.lemma_device_facts.ensures.count m
     (subst (λ (s : ThreadView). IsThreadedIn s.kept last fresh (threading_changes s.kept last fresh) m) c.in-Some.ensures.taken c.in_ok-link_pair_after.ensures.is_joined)
     (subst (λ (s : ThreadView). ChangesThreadBlocks (addresses_blocks (thread_pair s.kept last).at fresh) s.kept m) c.in-Some.ensures.taken c.link_pair_after.ensures.device) in
-    let same = (c.put_new_entry.ensures.errors.reports.reports.unwritten memory).disk in
-    subst (λ (d : Disk). HasEither d (disk_tree t.disk t.pairs) (tree_with_directory t can.path c.args.name.now)) (sym same)
+    let same = (c.put_branch_entry.ensures.errors.reports.reports.unwritten memory).disk in
+    subst (λ (d : Disk). HasEitherTree d (disk_tree t.disk t.pairs) (tree_with_directory t can.path c.args.name.now)) (sym same)
     (left_between t c.args.pair c.args.id c.args.name.now can last c.last_directory_pair-last.ensures fresh c.in-Some.ensures.were_free c.lemma_device_facts.ensures.bytes c.lemma_device_facts.ensures.count m h c.lemma_device_facts-2.ensures.bytes)

@@ -33,7 +33,7 @@ commit_fitting-requires-clause-can g c =
     let t = c.args.thread.now.kept in
     let mid = c.copy_pair_slot.new.thread.kept in
     let only = c.copy_pair_slot.ensures.only in
-    let state = c.gstate_xor_delta-state.ensures ∙ ap₂ gstate_xor c.delta.ensures c.sync_delta.ensures ∙ ap (λ (k : KeptThread). gstate_xor (thread_pair k c.args.pair).content.move sync_bit_delta) (read_is t mid only) in
+    let state = c.gstate_xor_delta-state.ensures ∙ ap₂ gstate_xor c.delta.ensures c.delta_turning_sync.ensures ∙ ap (λ (k : KeptThread). gstate_xor (thread_pair k c.args.pair).content.move sync_bit_delta) (read_is t mid only) in
     let are = ap changes_view c.deref.ensures.value ∙ c.in_ok-changes.ensures
     ∙ ap₂ (λ m z. PutMove m ∷ Delete c.args.id ∷ Delete (id_after_removal c.args.id c.args.place) ∷ slot_changes (id_after_removal c.args.id c.args.place) c.args.name.now z) state c.in_ok-copy.ensures.copied in
     let changes = replace_directory_changes t c.args.pair c.args.id c.args.place c.args.name.now in
@@ -47,7 +47,7 @@ returns-clause-renamed g c =
     let t = c.args.thread.now.kept in
     let mid = c.copy_pair_slot.new.thread.kept in
     let only = c.copy_pair_slot.ensures.only in
-    let state = c.gstate_xor_delta-state.ensures ∙ ap₂ gstate_xor c.delta.ensures c.sync_delta.ensures ∙ ap (λ (k : KeptThread). gstate_xor (thread_pair k c.args.pair).content.move sync_bit_delta) (read_is t mid only) in
+    let state = c.gstate_xor_delta-state.ensures ∙ ap₂ gstate_xor c.delta.ensures c.delta_turning_sync.ensures ∙ ap (λ (k : KeptThread). gstate_xor (thread_pair k c.args.pair).content.move sync_bit_delta) (read_is t mid only) in
     let are = ap changes_view c.deref.ensures.value ∙ c.in_ok-changes.ensures
     ∙ ap₂ (λ m z. PutMove m ∷ Delete c.args.id ∷ Delete (id_after_removal c.args.id c.args.place) ∷ slot_changes (id_after_removal c.args.id c.args.place) c.args.name.now z) state c.in_ok-copy.ensures.copied in
     let changes = replace_directory_changes t c.args.pair c.args.id c.args.place c.args.name.now in
@@ -71,7 +71,7 @@ returns-clause-survives g c rename =
     let t = c.args.thread.now.kept in
     let mid = c.copy_pair_slot.new.thread.kept in
     let only = c.copy_pair_slot.ensures.only in
-    let state = c.gstate_xor_delta-state.ensures ∙ ap₂ gstate_xor c.delta.ensures c.sync_delta.ensures ∙ ap (λ (k : KeptThread). gstate_xor (thread_pair k c.args.pair).content.move sync_bit_delta) (read_is t mid only) in
+    let state = c.gstate_xor_delta-state.ensures ∙ ap₂ gstate_xor c.delta.ensures c.delta_turning_sync.ensures ∙ ap (λ (k : KeptThread). gstate_xor (thread_pair k c.args.pair).content.move sync_bit_delta) (read_is t mid only) in
     let are = ap changes_view c.deref.ensures.value ∙ c.in_ok-changes.ensures
     ∙ ap₂ (λ m z. PutMove m ∷ Delete c.args.id ∷ Delete (id_after_removal c.args.id c.args.place) ∷ slot_changes (id_after_removal c.args.id c.args.place) c.args.name.now z) state c.in_ok-copy.ensures.copied in
     let changes = replace_directory_changes t c.args.pair c.args.id c.args.place c.args.name.now in

@@ -1,6 +1,6 @@
 use Rattle.lfs_model.proofs.Histories.{began}
 use Rattle.lfs_operations.proofs.Common.{◌≡◌, ◌<◌, ◌-◌, ◌∙◌, true, length, sym, ap, subst, arith, Err, err_from_is_err_and, array_address, thread_pair, is_worn, is_hard_tail, AreTwoFree}
-use Rattle.lfs_operations.specs.Wear.{BeginsBehindRoot, HasRoomToUnload}
+use Rattle.lfs_operations.specs.Wear.{BeginsBehindRoot, HasUnloadRoom}
 use Rattle.lfs_operations.proofs.MakingReported.{makes_again, makes_done}
 use Rattle.lfs_operations.proofs.OntoWritten.{writes_of_pair}
 use Rattle.lfs_operations.proofs.Putting.{thread_stays}
@@ -57,7 +57,7 @@ returns-then-is_worn_pair-clause-done g c =
 pub expand_root-requires-clause-can : goal.expand_root-requires-clause-can
 expand_root-requires-clause-can g c =
     let two : AreTwoFree c.args.thread.now.kept.map (array_address c.args.plan.fresh) = record { apart = c.requires.blocks.apart; first = c.is_free.ensures.0 c.if-not-is_free.false; second = c.is_free-else-not-is_free.ensures.0 c.if-not-is_free-2.false } in
-    let room : HasRoomToUnload c.args.thread.now.kept c.args.plan.limit = known_there c.has_unload_room.result (HasRoomToUnload c.args.thread.now.kept c.args.plan.limit) c.has_unload_room.ensures c.if-not-has_unload_room.false in
+    let room : HasUnloadRoom c.args.thread.now.kept c.args.plan.limit = known_there c.has_unload_room.result (HasUnloadRoom c.args.thread.now.kept c.args.plan.limit) c.has_unload_room.ensures c.if-not-has_unload_room.false in
     record {
       ready = c.requires.ready;
       root = sym c.requires.root_is ∙ c.if-root-eq0.true;
@@ -79,7 +79,7 @@ returns-then-root-eq0-clause-device g c = writes_of_pair c.args.thread.now.kept 
 
 pub returns-then-root-eq0-clause-done : goal.returns-then-root-eq0-clause-done
 returns-then-root-eq0-clause-done g c =
-    let room : HasRoomToUnload c.args.thread.now.kept c.args.plan.limit = known_there c.has_unload_room.result (HasRoomToUnload c.args.thread.now.kept c.args.plan.limit) c.has_unload_room.ensures c.if-not-has_unload_room.false in
+    let room : HasUnloadRoom c.args.thread.now.kept c.args.plan.limit = known_there c.has_unload_room.result (HasUnloadRoom c.args.thread.now.kept c.args.plan.limit) c.has_unload_room.ensures c.if-not-has_unload_room.false in
     root_goes c.args.thread.now.kept c.args.root c.in-Some.index c.args.plan c.requires.ready c.requires.root_is c.in-Some.ensures.there c.expand_root.new.thread.kept c.if-index-eq0.true room c.in_ok-expand_root.ensures.expanded
 
 pub returns-then-root-eq0-clause-errors : goal.returns-then-root-eq0-clause-errors
@@ -88,7 +88,7 @@ returns-then-root-eq0-clause-errors g c = makes_done c.args.thread.now c.expand_
 pub unload_pair-requires-clause-can : goal.unload_pair-requires-clause-can
 unload_pair-requires-clause-can g c =
     let two : AreTwoFree c.args.thread.now.kept.map (array_address c.args.plan.fresh) = record { apart = c.requires.blocks.apart; first = c.is_free.ensures.0 c.if-not-is_free.false; second = c.is_free-else-not-is_free.ensures.0 c.if-not-is_free-2.false } in
-    let room : HasRoomToUnload c.args.thread.now.kept c.args.plan.limit = known_there c.has_unload_room.result (HasRoomToUnload c.args.thread.now.kept c.args.plan.limit) c.has_unload_room.ensures c.if-not-has_unload_room.false in
+    let room : HasUnloadRoom c.args.thread.now.kept c.args.plan.limit = known_there c.has_unload_room.result (HasUnloadRoom c.args.thread.now.kept c.args.plan.limit) c.has_unload_room.ensures c.if-not-has_unload_room.false in
     record {
       ready = c.requires.ready;
       below = is_below c.args.thread.now.kept.pairs (array_address c.args.plan.at) c.in-Some.index c.in-Some.ensures.there;
@@ -111,5 +111,5 @@ returns-in_ok-unload_pair-clause-device g c = writes_of_pair c.args.thread.now.k
 
 pub returns-in_ok-unload_pair-clause-done : goal.returns-in_ok-unload_pair-clause-done
 returns-in_ok-unload_pair-clause-done g c =
-    let room : HasRoomToUnload c.args.thread.now.kept c.args.plan.limit = known_there c.has_unload_room.result (HasRoomToUnload c.args.thread.now.kept c.args.plan.limit) c.has_unload_room.ensures c.if-not-has_unload_room.false in
+    let room : HasUnloadRoom c.args.thread.now.kept c.args.plan.limit = known_there c.has_unload_room.result (HasUnloadRoom c.args.thread.now.kept c.args.plan.limit) c.has_unload_room.ensures c.if-not-has_unload_room.false in
     slots_go c.args.thread.now.kept c.args.root c.in-Some.index c.args.plan c.requires.ready c.requires.root_is c.in-Some.ensures.there c.unload_pair.new.thread.kept room c.in_ok-unload_pair.ensures.unloaded

@@ -14,8 +14,8 @@ read_block-requires g c = active_below _ _ c.args.pair.now c.requires.commit.hel
 pub returns-in_err-block-clause-stops : goal.returns-in_err-block-clause-stops
 returns-in_err-block-clause-stops g c cleanly = HoldsAtLosses-read_count LeftByLoss-read c.in_err-block.ensures.device.reads (left_before _ _ _ _)
 
-pub split_bytes-requires : goal.split_bytes-requires
-split_bytes-requires g c = record {
+pub split_from_bytes-requires : goal.split_from_bytes-requires
+split_from_bytes-requires g c = record {
   can =
       let read = c.in_ok-block.ensures.device in
       subst (λ disk. CanSplitPair disk (g.D.BlockDevice.history c.read_block.new.device) c.args.pair.now (array_address c.args.fresh) (changes_view c.args.changes.now)) (sym (ap₂ disk_of_blocks read.geometry read.same))

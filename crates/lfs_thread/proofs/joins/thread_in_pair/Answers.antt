@@ -1,5 +1,5 @@
 use Rattle.std.proofs.Common.{◌≤◌, ◌+◌, ◌∙◌, Err, Ok, List, ap, ap₂, arith, subst, sym, set, length, remove}
-use Rattle.lfs_thread.proofs.Common.{err_from_is_err_and, disk_of_blocks, SameExceptThese, BlockStates, IsInFlight, Used, array_address, fault_count-since, changes_view, header_address, ReportsErrorsWritingNothing, PairHeader, IsKeptOnDisk, disk_of_device, kept_view, kept_of_device, RefusesThreading, reads_unless_cached, address_blocks, addresses_blocks}
+use Rattle.lfs_thread.proofs.Common.{err_from_is_err_and, disk_of_blocks, SameExceptThese, BlockStates, IsInFlight, Used, array_address, fault_count-since, changes_view, header_address, ReportsWritingNothing, PairHeader, IsKeptOnDisk, disk_of_device, kept_view, kept_of_device, RefusesThreading, reads_unless_cached, address_blocks, addresses_blocks}
 use Rattle.lfs_thread.proofs.CachedLogs.{current_but_two}
 use Rattle.lfs_thread.proofs.Changing.{at_there}
 use Rattle.lfs_thread.proofs.Coming.{second_held}
@@ -59,7 +59,7 @@ returns-in_err-outcome-clause-device g c =
 pub returns-in_err-outcome-clause-errors : goal.returns-in_err-outcome-clause-errors
 returns-in_err-outcome-clause-errors g c =
     let p = err_from_is_err_and c.from_residual-in_err-outcome.result c.from_residual-in_err-outcome.ensures.1 in
-    let t = subst (λ r. ReportsErrorsWritingNothing g.D.BlockDevice c.fresh.new.dev c.commit_with_cache.new.device r) (sym (p.1 ∙ ap Err p.2)) c.in_err-outcome.ensures.errors in
+    let t = subst (λ r. ReportsWritingNothing g.D.BlockDevice c.fresh.new.dev c.commit_with_cache.new.device r) (sym (p.1 ∙ ap Err p.2)) c.in_err-outcome.ensures.errors in
     let so_far = fault_count-since c.in_ok-fresh_pair.ensures.device.only.at_worst in
     record {
       errors = t.errors;

@@ -1,7 +1,7 @@
 use Rattle.std.proofs.Common.{subst, sym, ap}
 use Rattle.lfs_tool.proofs.Common.{IfOk-weaker, ordered_disk, Disk, AreUsed, used_blocks, IsAccepted, IsDiskVerdict, error_of_mount}
 use Rattle.lfs_model.specs.declared.order.NameOrder.TheVariants.{LongerFirst}
-use Rattle.lfs_tool.specs.Verdict.{IsSummarized, BreaksInSome}
+use Rattle.lfs_tool.specs.Verdict.{IsSummarized, BreaksInSomeOrder}
 use Rattle.lfs_tool.proofs.judgement.judge_device.Goals as goal
 
 pub judge_thread-requires-clause-used : goal.judge_thread-requires-clause-used
@@ -24,5 +24,5 @@ pub returns-in_ok-rule-in-Corrupt-clause-verdict : goal.returns-in_ok-rule-in-Co
 returns-in_ok-rule-in-Corrupt-clause-verdict c =
     let rule = c.in_ok-rule-in-Corrupt in (
       λ order ps a. c.in-Err.ensures.corrupt (ap error_of_mount c.in-Corrupt.is) order ps a,
-      subst (λ (d : Disk). BreaksInSome d rule.rule.violation) c.in-Err.ensures.back.disk rule.ensures.broken,
+      subst (λ (d : Disk). BreaksInSomeOrder d rule.rule.violation) c.in-Err.ensures.back.disk rule.ensures.broken,
     )

@@ -3,18 +3,18 @@ use Rattle.lfs_tree.proofs.Common.{sized_on, answered, answers, found_shown, in_
 use Rattle.lfs_tree.proofs.RenamePaths.{shows_found}
 use Rattle.lfs_tree.proofs.creation_paths.creation_findings.Goals as goal
 
-pub found_node-requires : goal.found_node-requires
-found_node-requires g c =
+pub finding_shown-requires : goal.finding_shown-requires
+finding_shown-requires g c =
     let t = c.args.thread.now.kept in
-    in_entry t c.args.path.now c.found_alone.result (shows_found t c.args.path.now c.in_ok-target.target.found c.found_alone.result c.requires.held.sound.accepted c.requires.settled c.in_ok-target.ensures.target.leads c.found_alone.ensures)
+    in_entry t c.args.path.now c.found_without_parent.result (shows_found t c.args.path.now c.in_ok-target.target.found c.found_without_parent.result c.requires.held.sound.accepted c.requires.settled c.in_ok-target.ensures.target.leads c.found_without_parent.ensures)
 
 pub returns-clause-found : goal.returns-clause-found
 returns-clause-found g c =
     let t = c.args.thread.now.kept in
     let device = c.device-device.result.now in
-    found_shown t c.args.path.now c.requires.held.sound.accepted c.args.root c.found_alone.result c.found_node.result c.requires.held.root_is
+    found_shown t c.args.path.now c.requires.held.sound.accepted c.args.root c.found_without_parent.result c.finding_shown.result c.requires.held.root_is
     (sized_on g.D.BlockDevice device t.disk (g.D.BlockDevice.geometry device).block_count (c.device-device.ensures.disk ∙ c.find_at_path.ensures.reading.only.disk) (g.D.BlockDevice.geometry device).valid.no_smaller (g.met.D.BlockDevice.shape device))
-    (shows_found t c.args.path.now c.in_ok-target.target.found c.found_alone.result c.requires.held.sound.accepted c.requires.settled c.in_ok-target.ensures.target.leads c.found_alone.ensures) c.found_node.ensures
+    (shows_found t c.args.path.now c.in_ok-target.target.found c.found_without_parent.result c.requires.held.sound.accepted c.requires.settled c.in_ok-target.ensures.target.leads c.found_without_parent.ensures) c.finding_shown.ensures
 
 pub returns-clause-target : goal.returns-clause-target
 returns-clause-target g c = record { settled = c.requires.settled; leads = c.in_ok-target.ensures.target.leads }

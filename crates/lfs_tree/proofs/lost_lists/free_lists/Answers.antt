@@ -1,12 +1,12 @@
 use Rattle.std.proofs.Common.{◌∙◌, subst, sym, rules}
-use Rattle.lfs_tree.proofs.Common.{CanFreeDropped, empty_list}
+use Rattle.lfs_tree.proofs.Common.{CanFreeLists, empty_list}
 use Rattle.lfs_tree.proofs.LostLists.{all_freed, besides_then, can_settle_first, first_flying, first_left, none_left, rest_left}
 use Rattle.lfs_tree.proofs.lost_lists.free_lists.Goals as goal
 
 pub settle_file-requires-clause-can : goal.settle_file-requires-clause-can
 settle_file-requires-clause-can g c =
     can_settle_first c.loop-list.thread.kept _ _
-    (subst (CanFreeDropped c.loop-list.thread.kept) (first_left c.args.lists.now c.loop-list.list-index empty_list c.loop-list-test.true) c.loop-list.invariant.can)
+    (subst (CanFreeLists c.loop-list.thread.kept) (first_left c.args.lists.now c.loop-list.list-index empty_list c.loop-list-test.true) c.loop-list.invariant.can)
 
 pub returns-in_err-settle_file-clause-only : goal.returns-in_err-settle_file-clause-only
 returns-in_err-settle_file-clause-only g c = besides_then _ _ _ c.loop-list.invariant.only c.settle_file.ensures.only
@@ -14,7 +14,7 @@ returns-in_err-settle_file-clause-only g c = besides_then _ _ _ c.loop-list.inva
 pub loop-list-preserved : goal.loop-list-preserved
 loop-list-preserved g c =
     let inv = c.loop-list.invariant in
-    let can = subst (CanFreeDropped c.loop-list.thread.kept) (first_left c.args.lists.now c.loop-list.list-index empty_list c.loop-list-test.true) inv.can in
+    let can = subst (CanFreeLists c.loop-list.thread.kept) (first_left c.args.lists.now c.loop-list.list-index empty_list c.loop-list-test.true) inv.can in
     let only = c.settle_file.ensures.only in
     let settled = c.in_ok-settle_file.ensures.settled in
     let flying = first_flying c.loop-list.thread.kept _ _ can c.settle_file.new.thread.kept only settled c.lemma_settled_map.ensures in

@@ -1,10 +1,10 @@
 use Rattle.std.proofs.Common.{◌≡◌, drop, false}
-use Rattle.lfs_tree.proofs.Common.{ChangesOnlyMap, fault_count, SameInFlight, CanFreeDropped}
+use Rattle.lfs_tree.proofs.Common.{ChangesOnlyMap, fault_count, SameInFlight, CanFreeLists}
 use Rattle.lfs_tree.proofs.lost_lists.free_lists.Given as goal
 
 abbrev pub invariant-loop-list : goal.invariant-loop-list
 invariant-loop-list g l = record {
-  can : CanFreeDropped l.thread.kept (drop l.list-index l.lists);
+  can : CanFreeLists l.thread.kept (drop l.list-index l.lists);
   works : l.thread.failed ≡ false;
   flying : SameInFlight l.fn.thread.kept.map l.thread.kept.map;
   only : ChangesOnlyMap l.fn.thread.kept l.thread.kept;

@@ -1,6 +1,6 @@
 use Rattle.std.proofs.Common.{sym, subst, arith}
 use Rattle.std.specs.Prelude.{IfSome}
-use Rattle.lfs_tree.proofs.Common.{IsPairAt, QueuesMarked, IsStructPair, HasFirstIfDirectory}
+use Rattle.lfs_tree.proofs.Common.{IsPairAt, MarksAndQueues, IsStructPair, HasFirstIfDirectory}
 use Rattle.lfs_model.specs.format.Slots.{array_address}
 use Rattle.lfs_lookup.specs.Items.{owned_view}
 use Rattle.lfs_lookup.proofs.Directories.{number_some, number_within}
@@ -21,6 +21,6 @@ mark_reached-requires g c =
 pub returns-in_ok-mark_reached : goal.returns-in_ok-mark_reached
 returns-in_ok-mark_reached g c =
     let ps = c.args.thread.now.kept.pairs in
-    subst (λ s. QueuesMarked (IsStructPair c.args.thread.now.kept.pairs (owned_view s)) c.args.marks.now.items c.args.pending.now.items c.mark_reached.new.marks.items c.mark_reached.new.pending.items) (sym c.in-Branch.is)
+    subst (λ s. MarksAndQueues (IsStructPair c.args.thread.now.kept.pairs (owned_view s)) c.args.marks.now.items c.args.pending.now.items c.mark_reached.new.marks.items c.mark_reached.new.pending.items) (sym c.in-Branch.is)
     (mark_named c.args.thread.now.kept.disk ps (array_address c.in-Branch.to) c.unwrap-number.result c.args.marks.now.items c.mark_reached.new.marks.items c.args.pending.now.items c.mark_reached.new.pending.items c.requires.accepted
     (subst (λ o. IfSome o (IsPairAt ps (array_address c.in-Branch.to))) c.unwrap-number.ensures c.number_at_address.ensures.there) c.in_ok-mark_reached.ensures)

@@ -1,5 +1,5 @@
 use Rattle.std.proofs.Common.{◌≡◌, ◌<◌, ◌∙◌, ◌++◌, ◌∷◌, ◌-◌, [], Err, List, Some, ap, arith, false, length, length-append, refl, subst, subst₂, sym, take}
-use Rattle.lfs_tree.proofs.Common.{length-replicate, slice_get_within, err_from_is_err_and, Disk, Pair, pairs_gstate, IsAccepted, directory_items_view, pair_entries_from, DirectoriesBegin, QueuesMarked, IsNamedPair, answered, answers, begun, both, further, lacks_memory, passed, root_begins}
+use Rattle.lfs_tree.proofs.Common.{length-replicate, slice_get_within, err_from_is_err_and, Disk, Pair, pairs_gstate, IsAccepted, directory_items_view, pair_entries_from, DirectoriesBegin, MarksAndQueues, IsNamedPair, answered, answers, begun, both, further, lacks_memory, passed, root_begins}
 use Rattle.lfs_tree.proofs.Reached.{IsMarking, first_begin, marked_within, marking_begun, marking_on, next_marked, reach_marks}
 use Rattle.lfs_tree.proofs.orphans.mark_reached_directories.Goals as goal
 
@@ -18,7 +18,7 @@ pub loop-first-init : goal.loop-first-init
 loop-first-init g c = record {
   read = begun c.args.thread.now c.requires.works;
   marking = marking_begun c.args.thread.now.kept.disk c.args.thread.now.kept.pairs c.len.result c.args.root c.mark_reached.new.marks.items c.mark_reached.new.pending.items c.requires.accepted c.len.ensures (length-replicate c.len.result false) c.requires.root
-      (subst₂ (λ m p. QueuesMarked (λ n. n ≡ c.args.root) m p c.mark_reached.new.marks.items c.mark_reached.new.pending.items) c.in_ok-marks.ensures c.new-pending.ensures.items c.in_ok-mark_reached.ensures);
+      (subst₂ (λ m p. MarksAndQueues (λ n. n ≡ c.args.root) m p c.mark_reached.new.marks.items c.mark_reached.new.pending.items) c.in_ok-marks.ensures c.new-pending.ensures.items c.in_ok-mark_reached.ensures);
 }
 
 pub directory_items-requires-clause-can : goal.directory_items-requires-clause-can
@@ -77,8 +77,8 @@ loop-first-preserved g c =
       read = read;
       marking = marking_on c.args.thread.now.kept.disk ps c.requires.accepted c.loop-first.marks.items c.loop-first.pending.items c.pop.new.self.items c.in-Some.first c.in-Some.ensures.items inv.marking
           c.mark_directories.new.marks.items c.mark_directories.new.pending.items
-          (subst (λ s. QueuesMarked (IsNamedPair ps s) c.loop-first.marks.items c.pop.new.self.items c.mark_directories.new.marks.items c.mark_directories.new.pending.items) shapes
-          (subst (λ (qs : List Pair). QueuesMarked (IsNamedPair qs (directory_items_view c.in_ok-items.items.items)) c.loop-first.marks.items c.pop.new.self.items c.mark_directories.new.marks.items c.mark_directories.new.pending.items) read.only.pairs c.in_ok-mark_directories.ensures));
+          (subst (λ s. MarksAndQueues (IsNamedPair ps s) c.loop-first.marks.items c.pop.new.self.items c.mark_directories.new.marks.items c.mark_directories.new.pending.items) shapes
+          (subst (λ (qs : List Pair). MarksAndQueues (IsNamedPair qs (directory_items_view c.in_ok-items.items.items)) c.loop-first.marks.items c.pop.new.self.items c.mark_directories.new.marks.items c.mark_directories.new.pending.items) read.only.pairs c.in_ok-mark_directories.ensures));
     }
 
 pub returns-in_err-mark_directories-clause-reading : goal.returns-in_err-mark_directories-clause-reading

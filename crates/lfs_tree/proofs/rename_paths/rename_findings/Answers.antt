@@ -65,10 +65,10 @@ returns-in_err-target-clause-reading g c =
     (answered _ _ c.attributes_size_at.result c.in_ok-attributes_size.attributes_size c.in_ok-attributes_size.was c.attributes_size_at.ensures.reading))
     c.node_and_emptiness.ensures.reading)
 
-pub found_node-requires : goal.found_node-requires
-found_node-requires g c =
+pub finding_shown-requires : goal.finding_shown-requires
+finding_shown-requires g c =
     let t = c.args.thread.now.kept in
-    in_entry t c.args.from.now c.found_alone.result (shows_found t c.args.from.now c.in_ok-targets.targets.entry c.found_alone.result c.requires.held.sound.accepted c.requires.settled c.in_ok-targets.ensures.targets.entry c.found_alone.ensures)
+    in_entry t c.args.from.now c.found_without_parent.result (shows_found t c.args.from.now c.in_ok-targets.targets.entry c.found_without_parent.result c.requires.held.sound.accepted c.requires.settled c.in_ok-targets.ensures.targets.entry c.found_without_parent.ensures)
 
 pub returns-clause-found : goal.returns-clause-found
 returns-clause-found g c =
@@ -81,9 +81,9 @@ returns-clause-found g c =
     let second = only_read t one two first c.attributes_size_at.ensures.reading.only in
     let third = only_read t two three second c.node_and_emptiness.ensures.reading.only in
     record {
-      entry = found_shown t c.args.from.now c.requires.held.sound.accepted c.args.root c.found_alone.result c.found_node.result c.requires.held.root_is
+      entry = found_shown t c.args.from.now c.requires.held.sound.accepted c.args.root c.found_without_parent.result c.finding_shown.result c.requires.held.root_is
           (sized_on g.D.BlockDevice device t.disk (g.D.BlockDevice.geometry device).block_count (c.device-device.ensures.disk ∙ third.disk) (g.D.BlockDevice.geometry device).valid.no_smaller (g.met.D.BlockDevice.shape device))
-          (shows_found t c.args.from.now c.in_ok-targets.targets.entry c.found_alone.result c.requires.held.sound.accepted c.requires.settled c.in_ok-targets.ensures.targets.entry c.found_alone.ensures) c.found_node.ensures;
+          (shows_found t c.args.from.now c.in_ok-targets.targets.entry c.found_without_parent.result c.requires.held.sound.accepted c.requires.settled c.in_ok-targets.ensures.targets.entry c.found_without_parent.ensures) c.finding_shown.ensures;
       target = subst (λ (z : Tree). IsFoundNode z c.args.to.now c.in_ok-target.target.finding) (same_tree t two second) c.in_ok-target.ensures.found;
       has = subst (λ (z : Tree). c.in_ok-target.target.has_entries ≡ has_entry_beneath z c.args.to.now) (same_tree t two second) c.in_ok-target.ensures.has;
       size = subst (λ (z : Tree). IsAttributesSize (node_attributes_of (z c.args.from.now)) c.in_ok-attributes_size.attributes_size) (same_tree t one first) c.in_ok-attributes_size.ensures.is;

@@ -1,6 +1,6 @@
 use Rattle.std.proofs.Common.{inr, subst, sym}
 use Rattle.lfs_device.specs.RamDevice.{ram_history}
-use Rattle.littlefs_c.specs.ImageCalls.{IsSessionError, IsImageDevice}
+use Rattle.littlefs_c.specs.ImageCalls.{PreventsSession, IsImageDevice}
 use Rattle.littlefs_c.specs.Configs.{config_profile}
 use Rattle.littlefs_c.proofs.Images.{none_below}
 use Rattle.littlefs_c.proofs.Mountings.{mounted_with_limits, prevented_by}
@@ -18,7 +18,7 @@ returns-in-Err-clause-err c =
     let k = c.args.config.now in
     let d = c.new.result.inner in
     inr
-    (subst (λ p. IsSessionError k.block_size k.page p c.args.image.now c.in-Err.error) c.profile-profile.ensures
+    (subst (λ p. PreventsSession k.block_size k.page p c.args.image.now c.in-Err.error) c.profile-profile.ensures
     (prevented_by k.block_size k.page (config_profile k) c.args.image.now d
     (subst (IsImageDevice k.block_size k.page (config_profile k) c.args.image.now) (sym c.new.ensures) c.in_ok-ram.ensures.ok.1) c.profile-profile.result c.in-Err.error c.in-Err.ensures.errors
     (λ io. none_below _ _ (c.in-Err.ensures.back.fault io) c.in-Err._device.inner.no_fault) c.in-Err.ensures.corrupt))

@@ -1,6 +1,6 @@
 use Rattle.std.specs.Prelude.{All}
 use Rattle.std.proofs.Common.{rules, ap, true, false, ◌≢◌, ℕ, ◌≡◌, ◌≤◌, ◌+◌, ◌++◌, ◌∙◌, List, [], ◌∷◌, length, take, sym, subst, arith}
-use Rattle.lfs_file.proofs.Common.{CallEvent, Blocks, HasBlockSizes, SameExcept, blocks_to_head, AreListBlocks, block_data, growing_view, GrowingList, growing_bytes, growing_blocks, growing_size, unwritten_block, rest_block, unwritten_rest_block, lacks_last_block, IsOnDisk, WritesOnce, IsListOf}
+use Rattle.lfs_file.proofs.Common.{CallEvent, Blocks, HasBlockSizes, SameExcept, blocks_to_head, AreListBlocks, block_data, growing_view, GrowingList, growing_bytes, growing_blocks, growing_size, unwritten_block, rest_block, unwritten_rest_block, lacks_last_block, IsOnDisk, WritesEachOnce, IsListOf}
 use Rattle.lfs_device.specs.declared.geometry.Geometry.{Geometry}
 use Rattle.lfs_file.specs.declared.extender.ExtenderState.{ExtenderState}
 use Rattle.lfs_file.specs.declared.rest.RestLocation.TheVariants.{Closed, Shared, Handed, Held}
@@ -70,7 +70,7 @@ pub returns-in-Held-clause-finished : goal.returns-in-Held-clause-finished
 returns-in-Held-clause-finished g c = absurd (never_held c.args.self.stand c.requires.listed (stood c.deref-state.result.now c.args.self Held (ap growing_view c.deref-state.ensures ∙ c.self.view_is) c.in-Held.is))
 
 -- where no block waits, none is written
-none_written : (v : GrowingList) (old : List CallEvent) → unwritten_block v ≡ [] → WritesOnce 0 (length (unwritten_block v)) old old
+none_written : (v : GrowingList) (old : List CallEvent) → unwritten_block v ≡ [] → WritesEachOnce 0 (length (unwritten_block v)) old old
 none_written v old none = record { erased = omega (arith, ap length none); programmed = omega (arith, ap length none) }
 
 pub returns-in-Closed-clause-calls : goal.returns-in-Closed-clause-calls

@@ -1,6 +1,6 @@
 use Rattle.std.proofs.Common.{rules, ⊎_elim, ℕ, ◌≡◌, ◌≢◌, ◌≤◌, ◌<◌, ◌+◌, ◌-◌, ◌++◌, List, [], ◌∷◌, length, take, drop, refl, sym, ap, subst, ◌∙◌, arith, append_assoc, length-append, length-drop}
 use Rattle.std.specs.Prelude.{All}
-use Rattle.lfs_file.proofs.Common.{take-add, cases_lt, FillsFew, further_pointers, ArePointersKnown, CallEvent, read_count, append-nil, get_or_append_left, take_all, length-take-le, take-take, All-cons, All-nil, err_from_is_err_and, Blocks, block_capacity, blocks_to_head, GrowingList, IsRestShort, growing_bytes, kept_blocks, unwritten_block, unwritten_rest_block, growing_size, block_for_next, growing_size_with, appended_count}
+use Rattle.lfs_file.proofs.Common.{take-add, cases_lt, FillsFew, further_pointers, ArePointersKnown, CallEvent, read_count, append-nil, get_or_append_left, take_all, length-take-le, take-take, All-cons, All-nil, err_from_is_err_and, Blocks, block_capacity, blocks_to_head, GrowingList, IsRestShort, growing_bytes, lasting_blocks, unwritten_block, unwritten_rest_block, growing_size, block_for_next, growing_size_with, appended_count}
 use Rattle.lfs_file.proofs.Called.{changes_none, changes_one, quiet, reported_as, reported_on}
 use Rattle.lfs_file.proofs.Geometries.{shaped}
 use Rattle.lfs_file.proofs.Stands.{is_grown}
@@ -34,7 +34,7 @@ loop-done-init g c = record {
 sum_by : (geometry now : Geometry) (g : GrowingList) (n : ℕ) → now ≡ geometry → growing_size_with now.block_size g ≡ n → growing_size_with geometry.block_size g ≡ n
 sum_by geometry now g n e is = subst (λ (k : Geometry). growing_size_with k.block_size g ≡ n) e is
 
-still : (d e : Blocks) (was now : GrowingList) (blocks : List ℕ) (used done total : ℕ) → now.geometry ≡ was.geometry → used ≤ length blocks → kept_blocks e now ≡ kept_blocks d was ++ take used blocks
+still : (d e : Blocks) (was now : GrowingList) (blocks : List ℕ) (used done total : ℕ) → now.geometry ≡ was.geometry → used ≤ length blocks → lasting_blocks e now ≡ lasting_blocks d was ++ take used blocks
     → length blocks ≡ appended_count was total → growing_size now ≡ growing_size was + done → done < total
     → unwritten_block now ≡ [] → used < length blocks
 still d e was now blocks used done total same le is count sum lt none =
@@ -130,7 +130,7 @@ loop-done-preserved g c =
       kept = now.kept
           ∙ ap (λ r. blocks_to_head (g.D.BlockDevice.blocks c.loop-done.dev) c.loop-done.self.full c.loop-done.self.head ++ r.0 ∷ []) next
           ∙ next_kept c.loop-done.self.stand _ _ c.args.blocks.now c.loop-done.used some inv.kept
-          ∙ ap (λ r. kept_blocks (g.D.BlockDevice.blocks c.args.dev.now) c.args.self.now ++ take r.1 c.args.blocks.now) (sym next);
+          ∙ ap (λ r. lasting_blocks (g.D.BlockDevice.blocks c.args.dev.now) c.args.self.now ++ take r.1 c.args.blocks.now) (sym next);
       own = λ _. (now.blocks ∙ sym now.kept, (c.in_ok-done.ensures.waits.listed, subst (λ (k : Geometry). IsRestShort k.block_size c.fill_current_block.new.self) (sym now.geometry) now.short));
       pending = λ other apart. c.in_ok-done.ensures.waits.pending other (All-cons (λ b. b ≢ other) _ [] (here other apart) (All-nil (λ b. b ≢ other)));
       same = now.geometry ∙ inv.same;
@@ -162,7 +162,7 @@ returns-clause-pushed g c =
     let sum = sum_by was.geometry now.geometry now _ inv.same (inv.sum ∙ ap (λ n. growing_size was + n) all) in
     let short = subst (λ (k : Geometry). length now.rest < block_capacity k.block_size now.full) inv.same own.1.1 in
     let used = all_used _ _ was.geometry.block_size was now c.args.blocks.now c.loop-done.used _ was.geometry.valid.no_smaller inv.some inv.kept c.requires.count sum inv.growing short own.0 own.1.0 in
-    let kept = inv.kept ∙ ap (λ (l : List ℕ). kept_blocks (g.D.BlockDevice.blocks c.args.dev.now) was ++ l) (take_all c.loop-done.used c.args.blocks.now used) in
+    let kept = inv.kept ∙ ap (λ (l : List ℕ). lasting_blocks (g.D.BlockDevice.blocks c.args.dev.now) was ++ l) (take_all c.loop-done.used c.args.blocks.now used) in
     record {
       grown =
           is_grown was.geometry _ now _ _ _ _ _ (shaped _ _ was.geometry (sym (inv.device.geometry ∙ c.requires.stands.geometry)) (g.met.D.BlockDevice.shape c.loop-done.dev)) inv.same own.1.1 inv.growing

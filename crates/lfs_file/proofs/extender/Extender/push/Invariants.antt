@@ -1,6 +1,6 @@
 use Rattle.std.proofs.Common.{ℕ, false, ◌≡◌, ◌≢◌, ◌≤◌, ◌+◌, ◌-◌, ◌++◌, length, take}
 use Rattle.std.specs.Prelude.{All}
-use Rattle.lfs_file.proofs.Common.{FillsFew, WritesOnce, ChangesTheseBlocks, fault_count, IsOnDisk, IsRestShort, growing_blocks, growing_bytes, growing_size, rest_lacks_block, kept_blocks, unwritten_block}
+use Rattle.lfs_file.proofs.Common.{FillsFew, WritesEachOnce, ChangesTheseBlocks, fault_count, IsOnDisk, IsRestShort, growing_blocks, growing_bytes, growing_size, rest_lacks_block, lasting_blocks, unwritten_block}
 use Rattle.lfs_file.proofs.extender.Extender.push.Given as goal
 
 abbrev pub invariant-loop-done : goal.invariant-loop-done
@@ -17,12 +17,12 @@ invariant-loop-done g l =
       growing : IsOnDisk (blocks l.dev) now;
       bytes : growing_bytes (blocks l.dev) now ≡ growing_bytes (blocks old) was ++ take l.done l.fn.bytes;
       sum : growing_size now ≡ growing_size was + l.done;
-      kept : kept_blocks (blocks l.dev) now ≡ kept_blocks (blocks old) was ++ take l.used l.fn.blocks;
-      own : 1 ≤ l.done → (growing_blocks (blocks l.dev) now ≡ kept_blocks (blocks l.dev) now) × ((rest_lacks_block now ≡ false) × IsRestShort now.geometry.block_size now);
+      kept : lasting_blocks (blocks l.dev) now ≡ lasting_blocks (blocks old) was ++ take l.used l.fn.blocks;
+      own : 1 ≤ l.done → (growing_blocks (blocks l.dev) now ≡ lasting_blocks (blocks l.dev) now) × ((rest_lacks_block now ≡ false) × IsRestShort now.geometry.block_size now);
       pending : (other : ℕ) → All (λ b. b ≢ other) handed → All (λ b. b ≢ other) (unwritten_block now);
       same : now.geometry ≡ was.geometry;
       device : ChangesTheseBlocks g.D.BlockDevice handed old l.dev;
-      writes : WritesOnce was.full now.full (history old) (history l.dev);
+      writes : WritesEachOnce was.full now.full (history old) (history l.dev);
       few : FillsFew was now (history old) (history l.dev);
       quiet : fault_count (history l.dev) ≡ fault_count (history old);
     }

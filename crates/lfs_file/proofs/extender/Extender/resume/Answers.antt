@@ -173,8 +173,8 @@ pub of_state-requires-2 : goal.of_state-requires-2
 of_state-requires-2 g c = record {
   one_block = ap length (with_items_is c.in_ok-buffer.buffer c.read_into_range.new.buf (omega (arith, c.read_into_range.auto.buf, c.as_mut_slice.ensures.len, c.in_ok-buffer.buffer.ok.0)))
       ∙ omega (arith, c.read_into_range.auto.buf, ap length c.as_mut_slice.ensures.value, c.in_ok-buffer.ensures.len, c.in_ok-buffer.buffer.ok.0);
-  in_step = subst (λ (f : FullBlocks). AreConsistent c.geometry-geometry.result.block_size f.count (c.place-index.result.1 + 1) c.args.keep) (sym c.before_block-front.ensures.made) (search rules);
-  known = subst (λ (f : FullBlocks). OnlyBelowKnown f.count c.before_block-front.result.known) (sym c.before_block-front.ensures.made) c.before_block-front.ensures.below;
+  in_step = subst (λ (f : FullBlocks). AreConsistent c.geometry-geometry.result.block_size f.count (c.place-index.result.1 + 1) c.args.keep) (sym c.full_before_block-front.ensures.made) (search rules);
+  known = subst (λ (f : FullBlocks). OnlyBelowKnown f.count c.full_before_block-front.result.known) (sym c.full_before_block-front.ensures.made) c.full_before_block-front.ensures.below;
 }
 
 pub returns-then-off-block_size-clause-resumed : goal.returns-then-off-block_size-clause-resumed
@@ -238,11 +238,11 @@ word_is g c k lt =
     (omega arith) (4 * k) (let at = place.at in omega arith)
 
 opened : (g : _) (c : goal.After-of_state-2 g) → IsOpen (g.D.BlockDevice.blocks c.args.dev.now) (g.D.BlockDevice.geometry c.args.dev.now) c.geometry-geometry.result c.args.head c.args.size c.args.keep c.place-index.result.0 c.place-index.result.1
-    c.in_ok-block.block c.before_block-front.result.head (take (c.place-index.result.1 + 1 - 4 * pointer_count c.place-index.result.0) (drop (4 * pointer_count c.place-index.result.0) (with_items c.in_ok-buffer.buffer c.read_into_range.new.buf).items))
+    c.in_ok-block.block c.full_before_block-front.result.head (take (c.place-index.result.1 + 1 - 4 * pointer_count c.place-index.result.0) (drop (4 * pointer_count c.place-index.result.0) (with_items c.in_ok-buffer.buffer c.read_into_range.new.buf).items))
 opened g c =
     is_open _ _ _ _ _ _ _ _ _ _ _ _ c.geometry-geometry.ensures c.blocks_for.ensures (g.met.D.BlockDevice.shape c.args.dev.now) c.requires.list c.requires.some c.requires.within c.place-index.ensures c.in_ok-block.ensures.found
     (short_of c.geometry-geometry.result.block_size c.args.keep c.place-index.result.0 c.place-index.result.1 c.geometry-geometry.result.valid.no_smaller c.place-index.ensures c.if-off-block_size.false)
-    (λ more. c.before_block-front.ensures.head more ∙ word_is g c 0 (pointer_first _ more))
+    (λ more. c.full_before_block-front.ensures.head more ∙ word_is g c 0 (pointer_first _ more))
     (rest_is g c)
 
 pub returns-clause-resumed : goal.returns-clause-resumed
@@ -251,7 +251,7 @@ returns-clause-resumed g c =
     let made = c.geometry-geometry.ensures in
     let resumed : GrowingList → Type 0 = IsResumedList (g.D.BlockDevice.blocks c.args.dev.now) (g.D.BlockDevice.geometry c.args.dev.now) c.args.head c.args.size c.args.keep in
     let state : FullBlocks → ExtenderState = λ f. record { geometry = c.geometry-geometry.result; buffer = with_items c.in_ok-buffer.buffer c.read_into_range.new.buf; front = f; filled = c.place-index.result.1 + 1; size = c.args.keep; stand = Shared c.in_ok-block.block } in
-    let front : FullBlocks = record { count = c.place-index.result.0; head = c.before_block-front.result.head; known = c.before_block-front.result.known } in
+    let front : FullBlocks = record { count = c.place-index.result.0; head = c.full_before_block-front.result.head; known = c.full_before_block-front.result.known } in
     let all : resumed (growing_view (state front)) = record {
       grown =
           is_grown _ (g.D.BlockDevice.blocks c.args.dev.now) (growing_view (state front)) _ _ _ _ _ (g.met.D.BlockDevice.shape c.args.dev.now) made
@@ -262,11 +262,11 @@ returns-clause-resumed g c =
             pointer_count-le c.place-index.result.0,
             c.geometry-geometry.result.valid.no_smaller,
           ))
-          (record { chain = o.chain_is; known = c.before_block-front.ensures.known _ (λ k lt. word_is g c k lt ∙ o.leads k lt); stand = o.shared }) o.content (omega (arith, o.sum, ap (λ (k : Geometry). bytes_before_block k.block_size c.place-index.result.0) made)) o.kept o.blocks_are;
+          (record { chain = o.chain_is; known = c.full_before_block-front.ensures.known _ (λ k lt. word_is g c k lt ∙ o.leads k lt); stand = o.shared }) o.content (omega (arith, o.sum, ap (λ (k : Geometry). bytes_before_block k.block_size c.place-index.result.0) made)) o.kept o.blocks_are;
       waits = record { listed = refl; pending = λ other apart. apart };
-      known = λ some. c.before_block-front.ensures.pointers;
+      known = λ some. c.full_before_block-front.ensures.pointers;
     } in
-    IfOk-weaker c.of_state-2.result _ resumed (λ list is. subst resumed (sym is) (subst (λ f. resumed (growing_view (state f))) (sym c.before_block-front.ensures.made) all)) c.of_state-2.ensures.list
+    IfOk-weaker c.of_state-2.result _ resumed (λ list is. subst resumed (sym is) (subst (λ f. resumed (growing_view (state f))) (sym c.full_before_block-front.ensures.made) all)) c.of_state-2.ensures.list
 
 pub returns-then-off-block_size-clause-few : goal.returns-then-off-block_size-clause-few
 returns-then-off-block_size-clause-few g c =

@@ -13,16 +13,16 @@ outside d last head at block count len chain le is past = let lt = in_range_at d
 
 pub loop-at-init : goal.loop-at-init
 loop-at-init g c = record {
-  low = c.nearest_block-at.ensures.low;
-  high = c.nearest_block-at.ensures.high;
-  found = λ chain known. c.nearest_block-at.ensures.block (blocks_to_head (g.D.BlockDevice.blocks c.args.dev.now) (c.args.last + 1) c.args.head) known (length_back (g.D.BlockDevice.blocks c.args.dev.now) (c.args.last + 1) c.args.head)
+  low = c.nearest_known_block-at.ensures.low;
+  high = c.nearest_known_block-at.ensures.high;
+  found = λ chain known. c.nearest_known_block-at.ensures.block (blocks_to_head (g.D.BlockDevice.blocks c.args.dev.now) (c.args.last + 1) c.args.head) known (length_back (g.D.BlockDevice.blocks c.args.dev.now) (c.args.last + 1) c.args.head)
       (sym (head_of_back (g.D.BlockDevice.blocks c.args.dev.now) c.args.last c.args.head));
   known = λ chain known. known;
   device = not_read g.D.BlockDevice c.args.dev.now;
   quiet = refl;
-  few = λ m lt. (0, (omega arith, no_steps m c.nearest_block-at.result.0 c.args.index));
-  far = (let k = c.nearest_block-at.ensures.high in omega arith);
-  near = λ i known low high. (c.nearest_block-at.ensures.near i known low high, (let k = c.nearest_block-at.ensures.near i known low high in omega arith));
+  few = λ m lt. (0, (omega arith, no_steps m c.nearest_known_block-at.result.0 c.args.index));
+  far = (let k = c.nearest_known_block-at.ensures.high in omega arith);
+  near = λ i known low high. (c.nearest_known_block-at.ensures.near i known low high, (let k = c.nearest_known_block-at.ensures.near i known low high in omega arith));
 }
 
 pub returns-in_err-block-clause-reading : goal.returns-in_err-block-clause-reading

@@ -14,20 +14,20 @@ use Rattle.lfs_fs.proofs.session.Session.close.Goals as goal
 
 pub writer_after_saving-answer-requires : goal.writer_after_saving-answer-requires
 writer_after_saving-answer-requires g c =
-    let works = not_failed (session_view c.self.inside.tree c.self.inside.files) (ops.Close c.args.fd) c.in_ok-check_open.ensures.0 in
+    let works = not_failed (session_view c.self.inside.tree c.self.inside.files) (ops.Close c.args.fd) c.in_ok-check_is_open.ensures.0 in
     can_save c.self.inside.tree c.self.inside.files c.args.fd c.in-Some-Writing.writer works (c.self.invariant.ready works) (sym c.if-not-is_unsaved_at.ensures) (taken _ _ _ _ c.in-Some-Writing.is c.in-Some-Writing.field-0-is c.take.ensures.file)
 
 -- a check ends it
-pub returns-in_err-check_open : goal.returns-in_err-check_open
-returns-in_err-check_open g c =
-    unread_call c.self.inside.tree c.self.inside.files _ (ops.Close c.args.fd) (λ u. ops.Done) _ c.from_residual.result c.self.view_is c.self.invariant.ready refl refl refl c.in_err-check_open.ensures (given_on _ c.from_residual.result c.from_residual.ensures.1)
+pub returns-in_err-check_is_open : goal.returns-in_err-check_is_open
+returns-in_err-check_is_open g c =
+    unread_call c.self.inside.tree c.self.inside.files _ (ops.Close c.args.fd) (λ u. ops.Done) _ c.from_residual.result c.self.view_is c.self.invariant.ready refl refl refl c.in_err-check_is_open.ensures (given_on _ c.from_residual.result c.from_residual.ensures.1)
 
 -- there is nothing to save
 pub returns-then-not-is_unsaved_at : goal.returns-then-not-is_unsaved_at
 returns-then-not-is_unsaved_at g c =
     still_call c.self.inside.tree c.self.inside.files _ (ops.Close c.args.fd) _ _ c.self.view_is c.self.invariant.ready refl refl refl
-    (answer_ends (session_view c.self.inside.tree c.self.inside.files) _ (ops.Close c.args.fd) ops.Done _ c.self.view_is c.in_ok-check_open.ensures.0 refl)
-    (closed_answers c.self.inside.tree c.self.inside.files c.close.new.self _ c.args.fd c.self.view_is c.self.invariant.ready c.in_ok-check_open.ensures.0 c.in_ok-check_open.ensures.1 c.if-not-is_unsaved_at.ensures c.close.ensures)
+    (answer_ends (session_view c.self.inside.tree c.self.inside.files) _ (ops.Close c.args.fd) ops.Done _ c.self.view_is c.in_ok-check_is_open.ensures.0 refl)
+    (closed_answers c.self.inside.tree c.self.inside.files c.close.new.self _ c.args.fd c.self.view_is c.self.invariant.ready c.in_ok-check_is_open.ensures.0 c.in_ok-check_is_open.ensures.1 c.if-not-is_unsaved_at.ensures c.close.ensures)
     (no_call (session_view c.self.inside.tree c.self.inside.files) _ (ops.Close c.args.fd) c.self.inside.tree c.self.view_is (sound_by c.self.inside.tree c.self.inside.files c.self.invariant.ready) refl)
 
 pub invariant_of-self : goal.invariant_of-self
@@ -39,17 +39,17 @@ invariant_of-self g c = record {
 -- the tree's call ends it
 pub invariant_of-self-2 : goal.invariant_of-self-2
 invariant_of-self-2 g c = record {
-  ready = λ works. close_ready c.self.inside.tree c.writer_after_saving-answer.new.tree c.self.inside.files c.take.new.self c.args.fd c.in-Some-Writing.writer _ c.self.invariant.ready c.in_ok-check_open.ensures.0
+  ready = λ works. close_ready c.self.inside.tree c.writer_after_saving-answer.new.tree c.self.inside.files c.take.new.self c.args.fd c.in-Some-Writing.writer _ c.self.invariant.ready c.in_ok-check_is_open.ensures.0
       (taken _ _ _ _ c.in-Some-Writing.is c.in-Some-Writing.field-0-is c.take.ensures.file) c.in_ok-answer.ensures.stored c.take.ensures.left;
   reported = λ works. c.lemma_calls_conform.ensures;
 }
 
 pub returns-in_err-answer : goal.returns-in_err-answer
 returns-in_err-answer g c =
-    let works = not_failed (session_view c.self.inside.tree c.self.inside.files) (ops.Close c.args.fd) c.in_ok-check_open.ensures.0 in
+    let works = not_failed (session_view c.self.inside.tree c.self.inside.files) (ops.Close c.args.fd) c.in_ok-check_is_open.ensures.0 in
     let can = can_save c.self.inside.tree c.self.inside.files c.args.fd c.in-Some-Writing.writer works (c.self.invariant.ready works) (sym c.if-not-is_unsaved_at.ensures) (taken _ _ _ _ c.in-Some-Writing.is c.in-Some-Writing.field-0-is c.take.ensures.file) in
     let is = taken _ _ _ _ c.in-Some-Writing.is c.in-Some-Writing.field-0-is c.take.ensures.file in
-    saving_call c.self.inside.tree c.writer_after_saving-answer.new.tree c.self.inside.files (files_view c.writer_after_saving-answer.new.tree c.take.new.self) _ (ops.Close c.args.fd) (λ u. ops.Done) _ c.from_residual-in_err-answer.result _ c.self.view_is c.self.invariant c.in_ok-check_open.ensures.0 refl (close_asks c.self.inside.tree c.self.inside.files c.args.fd c.in-Some-Writing.writer (taken _ _ _ _ c.in-Some-Writing.is c.in-Some-Writing.field-0-is c.take.ensures.file)) refl refl refl
+    saving_call c.self.inside.tree c.writer_after_saving-answer.new.tree c.self.inside.files (files_view c.writer_after_saving-answer.new.tree c.take.new.self) _ (ops.Close c.args.fd) (λ u. ops.Done) _ c.from_residual-in_err-answer.result _ c.self.view_is c.self.invariant c.in_ok-check_is_open.ensures.0 refl (close_asks c.self.inside.tree c.self.inside.files c.args.fd c.in-Some-Writing.writer (taken _ _ _ _ c.in-Some-Writing.is c.in-Some-Writing.field-0-is c.take.ensures.file)) refl refl refl
     (dirty_at c.self.inside.tree c.self.inside.files c.args.fd c.in-Some-Writing.writer is (unsaved_writer (open_file_at c.self.inside.files c.args.fd) c.in-Some-Writing.writer (sym c.if-not-is_unsaved_at.ensures) is)) can.written.writable c.lemma_calls_conform.ensures c.in_err-answer.ensures.broken c.in_err-answer.ensures.errors (given_on _ c.from_residual-in_err-answer.result c.from_residual-in_err-answer.ensures.1)
     c.writer_after_saving-answer.ensures.survives (saved_tree c.self.inside.tree c.self.inside.files c.args.fd c.in-Some-Writing.writer (sym c.if-not-is_unsaved_at.ensures) (taken _ _ _ _ c.in-Some-Writing.is c.in-Some-Writing.field-0-is c.take.ensures.file))
 
@@ -58,8 +58,8 @@ returns g c =
     changed_call {A = Unit {0}} c.self.inside.tree c.self.inside.files _ (ops.Close c.args.fd) (λ u. ops.Done) (Ok tt) _ c.self.view_is c.self.invariant c.lemma_calls_conform.ensures refl refl refl
     (stored_others c.self.inside.tree c.writer_after_saving-answer.new.tree c.self.inside.files _ (ops.Close c.args.fd) c.args.fd c.in-Some-Writing.writer _ c.self.view_is c.self.invariant.ready
     (taken _ _ _ _ c.in-Some-Writing.is c.in-Some-Writing.field-0-is c.take.ensures.file) (λ s. refl) c.in_ok-answer.ensures.stored)
-    (answer_ends (session_view c.self.inside.tree c.self.inside.files) _ (ops.Close c.args.fd) ops.Done _ c.self.view_is c.in_ok-check_open.ensures.0 c.in_ok-answer.ensures.stored.no_fault)
-    (close_answers c.self.inside.tree c.writer_after_saving-answer.new.tree c.self.inside.files c.take.new.self _ c.args.fd c.in-Some-Writing.writer c.self.view_is c.self.invariant.ready c.in_ok-check_open.ensures.0 (sym c.if-not-is_unsaved_at.ensures)
+    (answer_ends (session_view c.self.inside.tree c.self.inside.files) _ (ops.Close c.args.fd) ops.Done _ c.self.view_is c.in_ok-check_is_open.ensures.0 c.in_ok-answer.ensures.stored.no_fault)
+    (close_answers c.self.inside.tree c.writer_after_saving-answer.new.tree c.self.inside.files c.take.new.self _ c.args.fd c.in-Some-Writing.writer c.self.view_is c.self.invariant.ready c.in_ok-check_is_open.ensures.0 (sym c.if-not-is_unsaved_at.ensures)
     (taken _ _ _ _ c.in-Some-Writing.is c.in-Some-Writing.field-0-is c.take.ensures.file) c.in_ok-answer.ensures.stored c.take.ensures.left)
-    (tree_changed (session_view c.self.inside.tree c.self.inside.files) _ (ops.Close c.args.fd) c.writer_after_saving-answer.new.tree _ c.self.view_is (sound_by c.self.inside.tree c.self.inside.files c.self.invariant.ready) c.in_ok-check_open.ensures.0 c.writer_after_saving-answer.ensures.survives
+    (tree_changed (session_view c.self.inside.tree c.self.inside.files) _ (ops.Close c.args.fd) c.writer_after_saving-answer.new.tree _ c.self.view_is (sound_by c.self.inside.tree c.self.inside.files c.self.invariant.ready) c.in_ok-check_is_open.ensures.0 c.writer_after_saving-answer.ensures.survives
     (saved_tree c.self.inside.tree c.self.inside.files c.args.fd c.in-Some-Writing.writer (sym c.if-not-is_unsaved_at.ensures) (taken _ _ _ _ c.in-Some-Writing.is c.in-Some-Writing.field-0-is c.take.ensures.file)))

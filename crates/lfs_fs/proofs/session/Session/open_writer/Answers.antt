@@ -1,7 +1,7 @@
 use Rattle.std.proofs.Common.{◌≡◌, ◌<◌, ◌∙◌, [], sym, refl, ap, subst, set, length, Some, None, Ok}
 use Rattle.std.specs.Prelude.{IfSome}
 use Rattle.lfs_model.specs.session.Operations as ops
-use Rattle.lfs_fs.proofs.Common.{node_file_size, IsCreationResult, TreeState, kept_thread, shown_tree, flags_view, open_file_at, writers_among, session_view, view_with_files, system_state, SurvivesInCalls, SparesOthers, fault_count, LeftConforming}
+use Rattle.lfs_fs.proofs.Common.{node_file_size, IsCreationResult, TreeState, kept_thread, shown_tree, flags_view, open_file_at, writers_among, session_view, view_with_files, system_state, SurvivesInCalls, SparesOthers, fault_count, DeviceConforms}
 use Rattle.lfs_fs.specs.declared.files.OpenFile.TheVariants as file
 use Rattle.lfs_fs.proofs.Errors.{given_on}
 use Rattle.lfs_fs.proofs.OpenedWriters.{IsOpenedBy, can_begin, can_create, no_writer, opened_new, opened_there, room_made, writer_breaks, writer_opened, writer_ready, writer_lacks_memory}
@@ -115,9 +115,9 @@ invariant_of-self-2 g c =
           (w.in_ok-writer-in-None.ensures.made c.args.path.now (flags_view c.args.flags) (sym c.in-Ok.ensures.path) c.requires).0 w.in_ok-writer-in-None.ensures.begun))
     ] in
     let room = (room_made c.self.inside.files c.reserve_number.new.self c.in-Ok-reserve_number.number (no_writer c.self.inside.tree c.self.inside.files c.args.path.now (flags_view c.args.flags) c.requires c.in_ok-found.ensures.1) c.in-Ok-reserve_number.ensures.number c.in-Ok-reserve_number.ensures.room) in
-    let reported : LeftConforming c.match-found.self-inside.tree = elim c.match-found.branch [
-      | in-Some+in_ok-writer-in-Some w ↦ subst (λ i. LeftConforming i.tree) (sym w.self-inside-is) w.lemma_calls_conform.ensures
-      | in-None+in_ok-writer-in-None w ↦ subst (λ i. LeftConforming i.tree) (sym w.self-inside-is) w.lemma_calls_conform-in-None.ensures
+    let reported : DeviceConforms c.match-found.self-inside.tree = elim c.match-found.branch [
+      | in-Some+in_ok-writer-in-Some w ↦ subst (λ i. DeviceConforms i.tree) (sym w.self-inside-is) w.lemma_calls_conform.ensures
+      | in-None+in_ok-writer-in-None w ↦ subst (λ i. DeviceConforms i.tree) (sym w.self-inside-is) w.lemma_calls_conform-in-None.ensures
     ] in
     record {
       ready = λ works. writer_ready c.self.inside.tree c.match-found.self-inside.tree c.self.inside.files c.put_back_writer.new.self c.args.path.now (flags_view c.args.flags) c.match-found.writer opened (no_writer c.self.inside.tree c.self.inside.files c.args.path.now (flags_view c.args.flags) c.requires c.in_ok-found.ensures.1) (room.alone c.match-found.writer)
@@ -138,9 +138,9 @@ returns g c =
           (w.in_ok-writer-in-None.ensures.made c.args.path.now (flags_view c.args.flags) (sym c.in-Ok.ensures.path) c.requires).0 w.in_ok-writer-in-None.ensures.begun))
     ] in
     let room = (room_made c.self.inside.files c.reserve_number.new.self c.in-Ok-reserve_number.number (no_writer c.self.inside.tree c.self.inside.files c.args.path.now (flags_view c.args.flags) c.requires c.in_ok-found.ensures.1) c.in-Ok-reserve_number.ensures.number c.in-Ok-reserve_number.ensures.room) in
-    let reported : LeftConforming c.match-found.self-inside.tree = elim c.match-found.branch [
-      | in-Some+in_ok-writer-in-Some w ↦ subst (λ i. LeftConforming i.tree) (sym w.self-inside-is) w.lemma_calls_conform.ensures
-      | in-None+in_ok-writer-in-None w ↦ subst (λ i. LeftConforming i.tree) (sym w.self-inside-is) w.lemma_calls_conform-in-None.ensures
+    let reported : DeviceConforms c.match-found.self-inside.tree = elim c.match-found.branch [
+      | in-Some+in_ok-writer-in-Some w ↦ subst (λ i. DeviceConforms i.tree) (sym w.self-inside-is) w.lemma_calls_conform.ensures
+      | in-None+in_ok-writer-in-None w ↦ subst (λ i. DeviceConforms i.tree) (sym w.self-inside-is) w.lemma_calls_conform-in-None.ensures
     ] in
     let calm : fault_count c.match-found.self-inside.tree.history ≡ fault_count c.self.inside.tree.history = elim c.match-found.branch [
       | in-Some+in_ok-writer-in-Some w ↦ ap (λ i. fault_count i.tree.history) w.self-inside-is ∙ w.in_ok-writer-in-Some.ensures.recovered.no_fault ∙ h.0.no_fault

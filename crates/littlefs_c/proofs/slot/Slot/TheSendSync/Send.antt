@@ -19,13 +19,13 @@ use Rattle.lfs_fs.proofs.session.Session.TheSendSync.{the_send as inner_send}
 use Rattle.lfs_device.proofs.ram.RamDevice.TheSendSync.{the_send as ram_send}
 use Rattle.lfs_device.proofs.profiled.Profiled.TheSendSync.{the_send as profiled_send}
 use Rattle.littlefs_c.proofs.noted.Noted.TheSendSync.{the_send as noted_send}
-use Rattle.littlefs_c.specs.HandleSlots.{device_ghosts, device_row, held_session_row, noted_ram_row, slot_owns}
+use Rattle.littlefs_c.specs.HandleSlots.{device_ghosts, device_row, held_session_row, noted_ram_row, handle_owns}
 use Rattle.littlefs_c.specs.contracts.slot.Slot.{the_row, the_type}
 
 sends : IsSend held_session_row
 sends = inner_send device_row device_ghosts (profiled_send noted_ram_row (noted_send ram_row ram_ghosts ram_send))
 
-keyless : (a : Global) (p : Ptr) (o : Option SessionView) → Keyless (slot_owns a p o)
+keyless : (a : Global) (p : Ptr) (o : Option SessionView) → Keyless (handle_owns a p o)
 keyless a p None = tt
 keyless a p (Some x) = (lies held_session_row sends p x, heap.frees.frees a (raw (lone held_session_row.mir)) p)
 

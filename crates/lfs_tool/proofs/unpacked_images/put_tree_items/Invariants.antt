@@ -1,9 +1,0 @@
-use Rattle.std.proofs.Common.{◌≡◌, false, take}
-use Rattle.lfs_tool.proofs.Common.{OnlyReadsThread, HasDone, place_actions, tree_items_view}
-use Rattle.lfs_tool.proofs.unpacked_images.put_tree_items.Given as goal
-
-abbrev pub invariant-loop-item : goal.invariant-loop-item
-invariant-loop-item g l =
-    (l.thread.failed ≡ false) × (OnlyReadsThread l.initial.thread.kept l.thread.kept)
-    × (HasDone (g.T.Target.done l.initial.target) (g.T.Target.done l.target) (place_actions l.initial.thread.kept.disk (tree_items_view (take l.item-index l.items))))
-    × (g.T.Target.faults l.target ≡ g.T.Target.faults l.initial.target)

@@ -123,12 +123,12 @@ some_entries (s ∷ left) right plain l e =
     let k : s ∷ entry_slots left ≡ [] = sym (ap (λ b. cond (not b) (s ∷ entry_slots left) (entry_slots left)) plain.0) ∙ e in
     absurd (cc)
 
--- the pair is the directory's first, or these slots of it have an entry
+-- no pair before has an entry, or these slots of the pair have one
 not_before_here : (ps : List Pair) (first index : ℕ) (q : Pair) (a : IsAt (joined_pairs (drop first ps)) first index q) → HaveNoSuperblock (drop (first + 1) ps) → (left right : List Slot) → q.content.slots ≡ left ++ right
-    → (index ≡ first) ⊎ (0 < length left) → (a.before ≡ []) ⊎ (entry_slots left ≢ [])
+    → (index ≡ first) ⊎ (0 < length left) → (entry_slots (all_slots a.before) ≡ []) ⊎ (entry_slots left ≢ [])
 not_before_here ps first index q a plain left right held why = go a.before a.parts a.number why
   where
-    go : (before : List Pair) → joined_pairs (drop first ps) ≡ before ++ q ∷ a.behind → first + length before ≡ index → (index ≡ first) ⊎ (0 < length left) → (before ≡ []) ⊎ (entry_slots left ≢ [])
+    go : (before : List Pair) → joined_pairs (drop first ps) ≡ before ++ q ∷ a.behind → first + length before ≡ index → (index ≡ first) ⊎ (0 < length left) → (entry_slots (all_slots before) ≡ []) ⊎ (entry_slots left ≢ [])
     go [] e n w = inl refl
     go (x ∷ before) e n (inl is) = absurd (omega arith)
     go (x ∷ before) e n (inr some) = inr (some_entries left right (subst (AllByRecursion (λ s. is_superblock s ≡ false)) held (plain_at ps first x before q a.behind plain e)) some)
@@ -146,7 +146,7 @@ nothing_behind : (slots left right : List Slot) → slots ≡ left ++ right → 
 nothing_behind slots left [] e l = refl
 nothing_behind slots left (r ∷ right) e l = absurd (let k = ap length e in let m = length-append left (r ∷ right) in omega arith)
 
-empty_list : {X : Type 0} (xs : List X) → length xs ≤ 0 → xs ≡ []
+pub empty_list : {X : Type 0} (xs : List X) → length xs ≤ 0 → xs ≡ []
 empty_list [] l = refl
 empty_list (x ∷ xs) l = absurd (omega arith)
 
@@ -163,7 +163,7 @@ pub record HasLess (by : NameOrder) (run : List Pair) (first : ℕ) (name : Name
   pub next : at + 1 + length empty ≡ low
   pub count : length pair.content.slots ≡ id
   pub less : AllByRecursion (λ s. name_cmp by s.name name ≡ Less) (entry_slots pair.content.slots)
-  pub not_before : (left ≡ []) ⊎ (entry_slots pair.content.slots ≢ [])
+  pub not_before : (entry_slots (all_slots left) ≡ []) ⊎ (entry_slots pair.content.slots ≢ [])
   pub none : all_slots empty ≡ []
 
 pub data IsLow (by : NameOrder) (run : List Pair) (first : ℕ) (name : Name) (at id low : ℕ) : Type 0 where

@@ -73,12 +73,12 @@ module _ (by : NameOrder) (ps : List Pair) (first : ℕ) (name : Name) (index id
     lesser xs h = each_weaker (λ s. name_cmp by s.name name ≡ Less) (IsOther name) (λ s l e. less_differs by s.name name l e) xs h
 
     none_before : Each (IsOther name) before
-    none_before = go b.place.left refl b.not_before (entry_slots b.left) refl b.less
+    none_before = go b.not_before (entry_slots b.left) refl b.less
       where
-        go : (left : List Pair) → b.place.left ≡ left → (b.place.left ≡ []) ⊎ (entry_slots b.left ≢ []) → (es : List Slot) → entry_slots b.left ≡ es → Each (λ s. name_cmp by s.name name ≡ Less) (entry_slots b.left) → Each (IsOther name) before
-        go left e (inl n) es f h = subst (λ z. Each (IsOther name) (entry_slots (all_slots z))) (sym n) tt
-        go left e (inr n) [] f h = absurd (n f)
-        go left e (inr n) (x ∷ es) f h =
+        go : (before ≡ []) ⊎ (entry_slots b.left ≢ []) → (es : List Slot) → entry_slots b.left ≡ es → Each (λ s. name_cmp by s.name name ≡ Less) (entry_slots b.left) → Each (IsOther name) before
+        go (inl n) es f h = subst (Each (IsOther name)) (sym n) tt
+        go (inr n) [] f h = absurd (n f)
+        go (inr n) (x ∷ es) f h =
             lesser before (less_before by before x (es ++ (behind ++ entry_slots (all_slots tail_pairs))) name (subst (λ z. Rise by (before ++ (z ++ (behind ++ entry_slots (all_slots tail_pairs))))) f rises)
             (subst (Each (λ s. name_cmp by s.name name ≡ Less)) f h).0)
 

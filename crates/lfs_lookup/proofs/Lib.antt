@@ -31,6 +31,7 @@ mod PairAddresses
 mod FileContentsAt
 mod Halved
 mod HalvedReads
+mod EmptyFirst
 mod InOrder
 mod HalvedDown
 pub mod Common

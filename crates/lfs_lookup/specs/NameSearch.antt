@@ -1,5 +1,5 @@
 -- What a search for a name returns.
-use Rattle.std.specs.Prelude.{ℕ, ◌≡◌, ◌+◌, ◌==◌, ◌&&◌, if◌then◌else◌, true, false, List, [], ◌∷◌, drop, map, slice_get, AllPairs, Option, None, Some, IsSome}
+use Rattle.std.specs.Prelude.{ℕ, ◌≡◌, ◌⊎◌, ◌<◌, ◌+◌, ◌==◌, if◌then◌else◌, true, false, List, [], ◌∷◌, drop, length, map, slice_get, AllPairs, Option, None, Some, IsSome}
 use Rattle.std.specs.declared.cmp.Ordering.TheVariants.{Less}
 use Rattle.lfs_model.specs.declared.order.NameOrder.{NameOrder}
 use Rattle.lfs_model.specs.format.Names.{Name, name_cmp}
@@ -7,7 +7,8 @@ use Rattle.lfs_model.specs.format.Slots.{Slot, PairContent, Gstate, is_superbloc
 use Rattle.lfs_model.specs.format.Thread.{Pair, is_hard_tail, moved_id}
 use Rattle.lfs_model.specs.session.InDirectory.{HasName, BelongsAtId, IsPlaceOf, BelongsAt, HaveNoSuperblock, entry_slots, all_slots}
 use Rattle.lfs_thread.specs.CachedLog.{IsContentLog, cached_log}
-use Rattle.lfs_thread.specs.Kept.{ThreadView}
+use Rattle.lfs_thread.specs.Kept.{KeptThread, ThreadView}
+use Rattle.lfs_thread.specs.ThreadSteps.{thread_pair}
 use Rattle.lfs_lookup.specs.declared.entry.FileOrDirectory.{FileOrDirectory}
 use Rattle.lfs_lookup.specs.declared.search.SlotPosition.{SlotPosition}
 use Rattle.lfs_lookup.specs.declared.search.NamePositionInDirectory.{NamePositionInDirectory}
@@ -45,6 +46,17 @@ FindsInPair order skip slots name (in_pair.Place id) = AbsentBelongsAt order ski
 abbrev pub FindsInDirectory : NameOrder → List Pair → ℕ → Name → NamePositionInDirectory → Type 0
 FindsInDirectory order ps first name (Found spot entry) = (s : IsPlaceOf ps first name spot.pair spot.id) × IsStructEntry entry s.stands.slot.struct
 FindsInDirectory order ps first name (Place spot) = BelongsAt order ps first name spot.pair spot.id
+
+-- the pair of number `first` has no slots, and its directory goes on with the pair of number `next`
+pub record PassesEmptyPair (t : KeptThread) (first next : ℕ) : Type 0 where
+  pub none : length (thread_pair t first).content.slots ≡ 0
+  pub hard : is_hard_tail (thread_pair t first).content.tail ≡ true
+  pub follows : next ≡ first + 1
+  pub below : next < length t.pairs
+
+-- the search begins with the pair of number `first`, or with the next one where that has no slots
+abbrev pub StartsSearch : KeptThread → ℕ → ℕ → Type 0
+StartsSearch t first start = (start ≡ first) ⊎ PassesEmptyPair t first start
 
 -- the block of the slot that was found is cached
 abbrev pub CachesFoundPair : ThreadView → NamePositionInDirectory → Type 0

@@ -10,7 +10,7 @@ ghost use Rattle.lfs_lookup.specs.CachedPairs.{KeepsCachedPairs};
 ghost use Rattle.lfs_lookup.specs.Listed.{joined_pairs};
 ghost use Rattle.lfs_lookup.specs.LookupReading.{ReadsOrReports};
 ghost use Rattle.lfs_lookup.specs.Halves.{EndsWithoutTail};
-ghost use Rattle.lfs_lookup.specs.NameSearch.{FindsInDirectory, FindsInPair, FindsUnhidden, HasCompleteLog, AreOrdered, CachesFoundPair, skipped_id};
+ghost use Rattle.lfs_lookup.specs.NameSearch.{FindsInDirectory, FindsInPair, FindsUnhidden, HasCompleteLog, AreOrdered, CachesFoundPair, StartsSearch, skipped_id};
 ghost use Rattle.lfs_lookup.specs.Reads.{ReadsDirectoryOnce};
 ghost use Rattle.lfs_lookup.specs.Searchable.{CanReadPair};
 
@@ -118,15 +118,20 @@ fn middle_pair_number<D: BlockDevice>(thread: &Thread<D>, low: usize, high: usiz
     }
 }
 
-// Finds where a name is among the entries of the directory that begins with the pair of number
-// `first`, or where it belongs. A set move is ignored here; `find_unhidden` regards it. The entries of
-// a directory are sorted by name along its pairs, so the search goes by halves. The call reads no
-// more pairs than the directory has. Where each pair has a slot these are 1 + log2 n of n pairs at
-// most.
-//
-// Errors: `Io` where a read failed. `NoMemory` where memory for a block isn't granted. The thread
-// works after either.
-pub(crate) fn find_name<D: BlockDevice>(
+// Returns the pair with which the search of a directory begins: its first one, or the next one where
+// the first has no slots. So a name that comes first isn't written to a pair that was emptied.
+fn search_start<D: BlockDevice>(thread: &Thread<D>, first: usize) -> usize
+    requires can { CanReadPair thread.now first }
+    ensures { StartsSearch thread.now.kept first result }
+{
+    match thread.next(first) {
+        Some(next) if thread.slot_count(first) == 0 => next,
+        _ => first,
+    }
+}
+
+// As `find_name`, of the directory's pairs from number `first` on.
+fn find_from<D: BlockDevice>(
     thread: &mut Thread<D>,
     first: usize,
     name: &[u8],
@@ -169,6 +174,30 @@ pub(crate) fn find_name<D: BlockDevice>(
         low = pair + 1;
     }
     Ok(NamePositionInDirectory::Place(spot))
+}
+
+// Finds where a name is among the entries of the directory that begins with the pair of number
+// `first`, or where it belongs. A set move is ignored here; `find_unhidden` regards it. The entries of
+// a directory are sorted by name along its pairs, so the search goes by halves. The call reads no
+// more pairs than the directory has. Where each pair has a slot these are 1 + log2 n of n pairs at
+// most.
+//
+// Errors: `Io` where a read failed. `NoMemory` where memory for a block isn't granted. The thread
+// works after either.
+pub(crate) fn find_name<D: BlockDevice>(
+    thread: &mut Thread<D>,
+    first: usize,
+    name: &[u8],
+) -> Result<NamePositionInDirectory, Error>
+    requires can { CanReadPair thread.old first }
+    requires entries { HaveNoSuperblock (drop (first + 1) thread.old.kept.pairs) }
+    ensures answer { IfOk result (FindsInDirectory thread.old.kept.disk.order thread.old.kept.pairs first name.now) }
+    ensures cached_log { IfOk result (CachesFoundPair thread.new) }
+    ensures reads { ReadsDirectoryOnce None first thread.old thread.new result }
+    ensures reading { ReadsOrReports thread.old thread.new result }
+{
+    let start = search_start(thread, first);
+    find_from(thread, start, name)
 }
 
 // Finds the entry of a name pair by pair, where the slot `moved` counts as deleted. The other

@@ -280,8 +280,8 @@ module _ (disk : Disk) (ps : List Pair) (P : Path) (a : ℕ × ℕ) (ok : IsAcce
       before_is : entry_slots (all_slots at_site.left ++ b.left) ≡ entry_slots (all_slots at_site.left) ++ entry_slots b.left
       before_is = filter-append (λ (s : Slot). not (is_superblock s)) (all_slots at_site.left) b.left
 
-      go : (b.place.left ≡ []) ⊎ (entry_slots b.left ≢ []) → Each (λ s. name_cmp disk.order s.name name ≡ Less) (entry_slots (all_slots at_site.left ++ b.left))
-      go (inl e) = subst (λ (z : List Pair). Each (λ s. name_cmp disk.order s.name name ≡ Less) (entry_slots (all_slots z ++ b.left))) (sym (left_is ∙ e)) b.less
+      go : (entry_slots (all_slots b.place.left) ≡ []) ⊎ (entry_slots b.left ≢ []) → Each (λ s. name_cmp disk.order s.name name ≡ Less) (entry_slots (all_slots at_site.left ++ b.left))
+      go (inl e) = subst (Each (λ s. name_cmp disk.order s.name name ≡ Less)) (sym (before_is ∙ ap (λ z. z ++ entry_slots b.left) (ap (λ z. entry_slots (all_slots z)) left_is ∙ e))) b.less
       go (inr n) =
           let l = last_of (entry_slots b.left) n in
           let f = entry_slots (all_slots at_site.left) in

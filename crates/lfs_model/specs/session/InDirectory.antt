@@ -89,8 +89,8 @@ pub record IsPlaceOf (ps : List Pair) (first : ℕ) (name : Name) (index id : �
   pub place : IsDirectoryPair ps first index pair rest
   pub stands : HasName pair.content.slots name id
 
--- The name belongs at this place. The pair is the directory's first or has an entry less than the name. After the place a greater
--- name comes first, in this pair or a later one, or no entry is left in the directory.
+-- The name belongs at this place. The pair has an entry less than the name, or no pair before has an entry. After the place a
+-- greater name comes first, in this pair or a later one, or no entry is left in the directory.
 pub record BelongsAt (order : NameOrder) (ps : List Pair) (first : ℕ) (name : Name) (index id : ℕ) : Type 0 where
   pub pair : Pair
   pub later : List Pair
@@ -103,6 +103,6 @@ pub record BelongsAt (order : NameOrder) (ps : List Pair) (first : ℕ) (name : 
   pub number : length left ≡ id
   pub less : AllByRecursion (λ s. name_cmp order s.name name ≡ Less) (entry_slots left)
   pub fronted : superblock_first right ≡ false
-  pub not_before : (place.left ≡ []) ⊎ (entry_slots left ≢ [])
+  pub not_before : (entry_slots (all_slots place.left) ≡ []) ⊎ (entry_slots left ≢ [])
   pub not_behind : FirstIsGreater order name (entry_slots (right ++ all_slots later))
       ⊎ ((entry_slots (right ++ all_slots later) ≡ []) × (last_joins pair later ≡ false))

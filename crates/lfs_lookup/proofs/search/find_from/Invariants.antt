@@ -3,7 +3,7 @@ use Rattle.lfs_lookup.proofs.Common.{read_count, joined_count, HaveSlots, halvin
 use Rattle.lfs_lookup.proofs.Halved.{IsHigh, IsLow}
 use Rattle.lfs_lookup.proofs.HalvedReads.{HasHalved, HasLoaded}
 use Rattle.lfs_lookup.proofs.Reading.{HasRead}
-use Rattle.lfs_lookup.proofs.search.find_name.Given as goal
+use Rattle.lfs_lookup.proofs.search.find_from.Given as goal
 
 abbrev pub invariant-loop-low : goal.invariant-loop-low
 invariant-loop-low g l = record {

@@ -4,9 +4,7 @@ use Rattle.lfs_model.proofs.Common.{Blocks, Disk, SameGeometry, current_block, P
 use Rattle.lfs_model.specs.declared.limits.Profile.{Profile}
 use Rattle.lfs_model.proofs.Counts.{Each}
 use Rattle.lfs_model.proofs.Sites.{any_from, among_from, among_left, among_right}
-use Rattle.lfs_model.proofs.Committed.{recovered_from}
 use Rattle.lfs_model.proofs.Arranged.{IsFinished}
-use Rattle.lfs_model.proofs.RootSteps.{IsSameWritable}
 use Rattle.lfs_model.specs.session.Moved.{IsMoved, IsWearSpread, HadBlocks, IsLayoutMoved}
 
 pub nothing_moves : (disk : Disk) (ps : List Pair) (s : Session) (op : Operation) (calls : List CallEvent) (new : Disk) (qs : List Pair) → SameGeometry disk new → IsAccepted new qs →
@@ -87,14 +85,3 @@ finished_unmoved disk ps s op calls new qs geometry h = record {
 pub had_latest : (disk mid new : Disk) (later calls old : List CallEvent) → LeftByLatest (calls ++ old) mid.blocks → (calls ≡ [] → mid.blocks ≡ disk.blocks) → HadBlocks disk (later ++ calls) new mid.blocks
 had_latest disk mid new later [] old latest still = inl (still refl)
 had_latest disk mid new later (e ∷ calls) old latest still = inr (inr (any_from (λ c. c.after ≡ mid.blocks) (later ++ e ∷ calls) (among_right (λ c. c.after ≡ mid.blocks) later (e ∷ calls) (inl (latest e (calls ++ old) refl)))))
-
--- The operation is finished on the disk between, and then a pair moves or none does.
-pub finished_moved : (disk : Disk) (ps : List Pair) (s : Session) (op : Operation) (calls : List CallEvent) (mid : Disk) (between : List Pair) (new : Disk) (qs : List Pair) → SameGeometry disk mid → HadBlocks disk calls new mid.blocks →
-    IsFinished disk ps s op mid between → IsWearSpread mid between new qs → IsSameWritable mid between new qs → IsSpread disk ps s op calls new qs
-finished_moved disk ps s op calls mid between new qs geometry had h spread k = record {
-  accepted = k.same.accepted;
-  writable = k.writable;
-  recovered = recovered_from new qs k.same.accepted (k.same.gstate ∙ h.recovered.gstate);
-  tree = λ around. k.same.shows ∙ h.tree around;
-  arranged = record { done = mid; after = between; had = had; geometry = geometry; accepted = h.accepted; operation = h.arranged; spread = spread };
-}

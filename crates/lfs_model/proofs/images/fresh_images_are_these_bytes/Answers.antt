@@ -1,7 +1,6 @@
 use Rattle.std.proofs.Common.{refl, arith}
 use Rattle.lfs_model.specs.format.Crc.{crc_of, checksum_after_bits}
 use Rattle.lfs_model.specs.format.Log.{chain_of, chain_within, commit_within, entry_at, closes}
-use Rattle.lfs_model.proofs.Fresh as fresh
 use Rattle.lfs_model.proofs.images.fresh_images_are_these_bytes.Goals as goal
 
 pub returns-clause-small : goal.returns-clause-small

@@ -1,6 +1,5 @@
-use Rattle.lfs_model.specs.session.Operations as ops
 use Rattle.lfs_model.proofs.SafeImage.{is_safe}
-use Rattle.lfs_model.proofs.FreshSession.{pairs, none_accepted}
+use Rattle.lfs_model.proofs.FreshSession.{none_accepted}
 use Rattle.lfs_model.proofs.losses.fresh_disk_keeps_its_tree.Goals as goal
 
 pub returns-clause-safe : goal.returns-clause-safe

@@ -3,7 +3,6 @@ use Rattle.lfs_model.proofs.Common.{small_image}
 use Rattle.lfs_model.proofs.Fresh.{writable}
 use Rattle.lfs_model.proofs.Example.{fresh}
 use Rattle.lfs_model.proofs.FreshSession.{pairs, are_accepted, none_accepted}
-use Rattle.lfs_model.proofs.AskedStep.{turn}
 use Rattle.lfs_model.proofs.runs.fresh_disk_is_recovered.Goals as goal
 
 pub returns-clause-settled : goal.returns-clause-settled

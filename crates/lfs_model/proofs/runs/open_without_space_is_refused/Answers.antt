@@ -1,10 +1,10 @@
 use Rattle.std.proofs.Common.{ℕ, ◌≡◌, ◌≤◌, ◌+◌, Bool, true, false, List, [], ◌∷◌, length, Option, Some, refl, sym, ap, subst, arith, ◌∙◌, append-nil}
-use Rattle.lfs_model.proofs.Common.{lt-ltb, block_count, program_count, Tree, used_blocks, Reply, empty_tree, DiskSummary, Healthy, SessionHealth, mounted_session, AreLinked, Pair, anchor_address, small_image}
+use Rattle.lfs_model.proofs.Common.{lt-ltb, program_count, Tree, used_blocks, Reply, empty_tree, DiskSummary, Healthy, SessionHealth, mounted_session, AreLinked, Pair, anchor_address, small_image}
 use Rattle.std.specs.Prelude.{codes}
 use Rattle.lfs_model.specs.session.Operations as ops
 use Rattle.lfs_model.specs.session.Session.{has_long_name, exceeds_charge, lacks_free}
 use Rattle.lfs_model.specs.session.State.{result_and_health}
-use Rattle.lfs_model.proofs.OpenedFile.{op, opened, turn}
+use Rattle.lfs_model.proofs.OpenedFile.{op}
 use Rattle.lfs_model.proofs.runs.open_without_space_is_refused.Goals as goal
 
 pub returns-clause-no_program : goal.returns-clause-no_program

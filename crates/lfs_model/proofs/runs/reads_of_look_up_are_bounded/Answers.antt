@@ -1,5 +1,4 @@
 use Rattle.std.proofs.Common.{refl}
-use Rattle.lfs_model.specs.session.Operations as ops
 use Rattle.lfs_model.proofs.Common.{fresh_state}
 use Rattle.lfs_model.proofs.AskedStep.{asked}
 use Rattle.lfs_model.proofs.runs.reads_of_look_up_are_bounded.Goals as goal

@@ -92,7 +92,7 @@ typedef struct lfs_c_config {
     uint32_t file_max;   /* bytes of a file, 1 to 2,147,483,647 */
     uint32_t attr_max;   /* bytes of an attribute, 1 to 1,022 */
     uint32_t inline_max; /* bytes of a file that is kept beside its name, 1 to 1,022; never more than an eighth of a block */
-    uint32_t pair_cycles; /* after how many compactions a metadata pair moves to other blocks; 0: never. A session with it wears blocks evenly */
+    uint32_t pair_cycles; /* after how many compactions a metadata pair moves to other blocks; 0: never. With it pairs that wear move, but not blocks 0 and 1, nor the first pair of a directory below the root */
 } lfs_c_config;
 
 /* The on-disk versions that are accepted. littlefs writes 2.1 since its release 2.6. New images are of version 2.0. */

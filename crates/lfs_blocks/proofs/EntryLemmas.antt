@@ -11,7 +11,7 @@ use Rattle.std.proofs.lemmas.Map.Keys.{IsDistinct-cons}
 use Rattle.std.proofs.lemmas.Map.Made.{IsDistinct-keys_filter}
 use Rattle.lru.specs.LruCache.{LruCache, lru_cache, promoted, put_entries}
 use Rattle.lfs_model.specs.layers.Cache.{cache_limit, cached_bytes, cache_with, cache_without}
-use Rattle.lfs_blocks.specs.CacheView.{HasAtMostEight, cached_view}
+use Rattle.lfs_blocks.specs.CacheView.{CachesAtMostEight, cached_view}
 
 module _ {V : Type 0} (b : ℕ) where
   -- the entries of other blocks
@@ -122,17 +122,17 @@ shown-rest (e ∷ es) b = go (not (nat_eq b e.0)) (shown-rest es b)
 
 -- ---- what is kept
 
-pub HasAtMostEight-rest : (recent : LruCache ℕ (Vec ℕ Global)) (b : ℕ) → HasAtMostEight recent → HasAtMostEight (lru_cache (rest b recent.entries) recent.cap)
-HasAtMostEight-rest recent b cache = record {
+pub CachesAtMostEight-rest : (recent : LruCache ℕ (Vec ℕ Global)) (b : ℕ) → CachesAtMostEight recent → CachesAtMostEight (lru_cache (rest b recent.entries) recent.cap)
+CachesAtMostEight-rest recent b cache = record {
   capacity = cache.capacity;
   few = omega (arith, cache.few, length-rest-le b recent.entries);
   distinct = IsDistinct-keys_filter nat_eq (λ e. not (nat_eq b e.0)) recent.entries cache.distinct;
 }
 
 -- without a block it is one too
-pub HasAtMostEight-none : (recent : LruCache ℕ (Vec ℕ Global)) → HasAtMostEight recent → HasAtMostEight (lru_cache [] recent.cap)
+pub CachesAtMostEight-none : (recent : LruCache ℕ (Vec ℕ Global)) → CachesAtMostEight recent → CachesAtMostEight (lru_cache [] recent.cap)
 unfolding IsDistinct
-HasAtMostEight-none recent cache = record { capacity = cache.capacity; few = omega (arith); distinct = tt }
+CachesAtMostEight-none recent cache = record { capacity = cache.capacity; few = omega (arith); distinct = tt }
 
 -- ---- a block that is made the most recent
 
@@ -148,7 +148,7 @@ is_some-option_map : {X Y : Type 0} (f : X → Y) (o : Option X) → is_some (op
 is_some-option_map f None = refl
 is_some-option_map f (Some x) = refl
 
-module _ (recent : LruCache ℕ (Vec ℕ Global)) (b : ℕ) (cache : HasAtMostEight recent) where
+module _ (recent : LruCache ℕ (Vec ℕ Global)) (b : ℕ) (cache : CachesAtMostEight recent) where
   pub is_some-cached : is_some (cached_bytes (cached_view recent.entries) b) ≡ is_some (lookup (nat_eq b) recent.entries)
   is_some-cached = ap is_some (cached_bytes-shown recent.entries b) ∙ is_some-option_map (λ v. v.items) (lookup (nat_eq b) recent.entries)
 
@@ -162,7 +162,7 @@ module _ (recent : LruCache ℕ (Vec ℕ Global)) (b : ℕ) (cache : HasAtMostEi
     few-found : length ((b, v) ∷ rest b recent.entries) ≤ cache_limit
     few-found = omega (arith, length-rest b recent.entries v cache.distinct has, cache.few)
 
-    IsCache-found : HasAtMostEight (lru_cache (promoted (nat_eq b) recent.entries) recent.cap)
+    IsCache-found : CachesAtMostEight (lru_cache (promoted (nat_eq b) recent.entries) recent.cap)
     IsCache-found = record {
       capacity = cache.capacity;
       few = rw promoted-found few-found;
@@ -187,8 +187,8 @@ module _ (recent : LruCache ℕ (Vec ℕ Global)) (b : ℕ) (cache : HasAtMostEi
         ap (λ o. option_map_or (λ e. (e.0, v) ∷ remove_entry (nat_eq b) recent.entries) o ((b, v) ∷ take (recent.cap - 1) recent.entries)) (lookup_entry-none b recent.entries none)
         ∙ ap (λ n. (b, v) ∷ take (n - 1) recent.entries) cache.capacity
 
-    HasAtMostEight-new : (v : Vec ℕ Global) → HasAtMostEight (lru_cache (put_entries nat_eq recent b v) recent.cap)
-    HasAtMostEight-new v = record {
+    CachesAtMostEight-new : (v : Vec ℕ Global) → CachesAtMostEight (lru_cache (put_entries nat_eq recent b v) recent.cap)
+    CachesAtMostEight-new v = record {
       capacity = cache.capacity;
       few = rw (put_entries-none v) (omega (arith, length-take 7 recent.entries));
       distinct = rw (put_entries-none v) (IsDistinct-cons nat_eq b (keys_of (take 7 recent.entries))
@@ -203,10 +203,10 @@ module _ (recent : LruCache ℕ (Vec ℕ Global)) (b : ℕ) (cache : HasAtMostEi
         ∙ ap (λ r. take cache_limit ((b, v.items) ∷ r)) (shown-rest recent.entries b)
 
   -- after `promote`
-  pub IsCache-promoted : HasAtMostEight (lru_cache (promoted (nat_eq b) recent.entries) recent.cap)
+  pub IsCache-promoted : CachesAtMostEight (lru_cache (promoted (nat_eq b) recent.entries) recent.cap)
   IsCache-promoted = go (is_some (lookup (nat_eq b) recent.entries)) refl
     where
-      go : (r : Bool) → is_some (lookup (nat_eq b) recent.entries) ≡ r → HasAtMostEight (lru_cache (promoted (nat_eq b) recent.entries) recent.cap)
+      go : (r : Bool) → is_some (lookup (nat_eq b) recent.entries) ≡ r → CachesAtMostEight (lru_cache (promoted (nat_eq b) recent.entries) recent.cap)
       go true is = let there = found (lookup (nat_eq b) recent.entries) is in IsCache-found there.0 there.1
       go false is = rw (promoted-none (not_found (lookup (nat_eq b) recent.entries) is)) cache
 
@@ -224,11 +224,11 @@ module _ (recent : LruCache ℕ (Vec ℕ Global)) (b : ℕ) (cache : HasAtMostEi
     lookup-none : lookup (nat_eq b) recent.entries ≡ None
     lookup-none = not_found (lookup (nat_eq b) recent.entries) (sym is_some-cached ∙ ap is_some none)
 
-    pub IsCache-put : HasAtMostEight (lru_cache (put_entries nat_eq recent b v) recent.cap)
-    IsCache-put = HasAtMostEight-new lookup-none v
+    pub IsCache-put : CachesAtMostEight (lru_cache (put_entries nat_eq recent b v) recent.cap)
+    IsCache-put = CachesAtMostEight-new lookup-none v
 
     pub shown-put : cached_view (put_entries nat_eq recent b v) ≡ cache_with (cached_view recent.entries) b v.items
     shown-put = shown-new lookup-none v
 
-pub few-shown : (recent : LruCache ℕ (Vec ℕ Global)) → HasAtMostEight recent → length (cached_view recent.entries) ≤ cache_limit
+pub few-shown : (recent : LruCache ℕ (Vec ℕ Global)) → CachesAtMostEight recent → length (cached_view recent.entries) ≤ cache_limit
 few-shown recent cache = omega (arith, cache.few, length-shown recent.entries)

@@ -11,7 +11,7 @@ abbrev pub cached_view : List (ℕ × Vec ℕ Global) → CachedBlocks
 cached_view entries = map (λ e. (e.0, e.1.items)) entries
 
 -- A cache has no block twice, and at most eight blocks.
-pub record HasAtMostEight (recent : LruCache ℕ (Vec ℕ Global)) : Type 0 where
+pub record CachesAtMostEight (recent : LruCache ℕ (Vec ℕ Global)) : Type 0 where
   pub capacity : recent.cap ≡ cache_limit
   pub few : length recent.entries ≤ cache_limit
   pub distinct : IsDistinct nat_eq (keys_of recent.entries)

@@ -7,10 +7,10 @@ use Rattle.lfs_blocks.specs.declared.marks.Marks.{Marks}
 use Rattle.lfs_blocks.specs.declared.marks.BlockUse.{BlockUse}
 use Rattle.lfs_blocks.specs.declared.marks.BlockUse.TheVariants as state
 
-abbrev pub use_state : BlockUse → BlockState
-use_state state.Free = Free
-use_state state.InFlight = InFlight
-use_state state.Used = Used
+abbrev pub use_view : BlockUse → BlockState
+use_view state.Free = Free
+use_view state.InFlight = InFlight
+use_view state.Used = Used
 
 -- the state of the block at a place
 abbrev pub state_at_bit : Marks → ℕ → BlockState

@@ -2,7 +2,7 @@ ghost use Rattle.std.specs.Prelude.{◌≡◌, ◌≤◌, ◌<◌, ◌↔◌, �
 ghost use Rattle.std.specs.Bool.{OnFalse, OnTrue};
 ghost use Rattle.lfs_model.specs.layers.BlockSets.{IsFree, IsInFlight, IsUsedBlock, used_count};
 ghost use Rattle.lfs_model.specs.layers.BlockSets.BlockState.{Free, InFlight, Used};
-ghost use Rattle.lfs_blocks.specs.Marks.{use_state};
+ghost use Rattle.lfs_blocks.specs.Marks.{use_view};
 ghost use Rattle.lfs_blocks.specs.Next.{IsNextFree};
 
 use crate::marks::{BlockUse, Marks};
@@ -178,14 +178,14 @@ impl BlockMap {
 
     fn state(&self, block: u32) -> BlockUse
         requires { block < length self.now }
-        ensures { slice_get self.now block ≡ Some (use_state result) }
+        ensures { slice_get self.now block ≡ Some (use_view result) }
     {
         self.marks[block as usize / 64].state(block % 64)
     }
 
     fn set_block_state(&mut self, block: u32, state: BlockUse)
         requires { block < length self.old }
-        ensures { self.new ≡ slice_set self.old block (use_state state) }
+        ensures { self.new ≡ slice_set self.old block (use_view state) }
     {
         let marks = &mut self.marks[block as usize / 64];
         let was = marks.state(block % 64);

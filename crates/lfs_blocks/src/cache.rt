@@ -28,13 +28,13 @@ pub struct Cache {
 
 impl Model for Cache {
     ghost use Rattle.std.specs.Prelude.{ℕ, List};
-    ghost use Rattle.lfs_blocks.specs.CacheView.{HasAtMostEight, cached_view};
+    ghost use Rattle.lfs_blocks.specs.CacheView.{CachesAtMostEight, cached_view};
 
     ghost Value = { List (ℕ × List ℕ) };
 
     ghost view = { λ cache. cached_view cache.recent.entries };
 
-    ghost invariant = { λ cache. HasAtMostEight cache.recent };
+    ghost invariant = { λ cache. CachesAtMostEight cache.recent };
 }
 
 impl Cache {

@@ -3,7 +3,7 @@
 ghost use Rattle.std.specs.Prelude.{◌≡◌, ◌≢◌, ℕ, ◌<◌, ◌≤◌, IfNone, IfSome};
 ghost use Rattle.lfs_model.specs.layers.BlockSets.{state_in_flight, is_used};
 ghost use Rattle.lfs_model.specs.layers.BlockSets.BlockState.{Free};
-ghost use Rattle.lfs_blocks.specs.Marks.{use_state, state_at_bit};
+ghost use Rattle.lfs_blocks.specs.Marks.{use_view, state_at_bit};
 
 /// The state of a block in the map.
 #[derive(Clone, Copy, PartialEq, Eq)]
@@ -15,13 +15,13 @@ pub enum BlockUse {
 
 impl BlockUse {
     pub fn is_used(self) -> bool
-        ensures { result ≡ is_used (use_state self) }
+        ensures { result ≡ is_used (use_view self) }
     {
         matches!(self, BlockUse::Used)
     }
 
     pub fn is_in_flight(self) -> bool
-        ensures { result ≡ state_in_flight (use_state self) }
+        ensures { result ≡ state_in_flight (use_view self) }
     {
         matches!(self, BlockUse::InFlight)
     }
@@ -47,7 +47,7 @@ impl Marks {
 
     pub fn state(self, place: u32) -> BlockUse
         requires { place < 64 }
-        ensures { use_state result ≡ state_at_bit self place }
+        ensures { use_view result ≡ state_at_bit self place }
     {
         let bit = 1u64 << place;
         if self.used & bit != 0 {
@@ -62,7 +62,7 @@ impl Marks {
     /// Returns the same marks with one block in another state.
     pub fn with_state(self, place: u32, state: BlockUse) -> Marks
         requires { place < 64 }
-        ensures here { state_at_bit result place ≡ use_state state }
+        ensures here { state_at_bit result place ≡ use_view state }
         ensures others { (other : ℕ) → other < 64 → other ≢ place → state_at_bit result other ≡ state_at_bit self other }
     {
         let bit = 1u64 << place;

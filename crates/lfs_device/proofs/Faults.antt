@@ -9,7 +9,7 @@ use Rattle.lfs_device.specs.declared.fault.PlannedFault.{PlannedFault}
 use Rattle.lfs_model.specs.format.Blocks.{Blocks}
 use Rattle.lfs_model.specs.session.History.{DeviceCall, Read, Program, Erase, Blank, CallEvent, call_event, fault_count, is_unprogrammed_byte, unprogrammed_after}
 use Rattle.lfs_device.specs.Fault.{is_counted, is_nth_call, has_stopped, is_to_fail, extent_if_due, have_due_failed, unplanned_faults}
-use Rattle.lfs_device.specs.CallsBelow.{PassesCallOrFails}
+use Rattle.lfs_device.specs.CallsBelow.{PassesUnlessDue}
 
 -- the two ways to say that a call is to fail
 is_to_fail-is_some : (fault : PlannedFault) (call : DeviceCall) (older : List CallEvent) → is_to_fail fault.which fault.nth fault.stops call older ≡ is_some (extent_if_due fault call older)
@@ -20,14 +20,14 @@ is_to_fail-is_some fault call older = either (is_nth_call (is_counted fault.whic
     either false true = refl
     either false false = refl
 
-fails_if_due : {D : Type 0} (g : Ghosts D) (o : Option FaultExtent) (call : DeviceCall) (failed : Bool) (old new : D) → PassesCallOrFails g o call failed old new → is_some o ≡ true → failed ≡ true
+fails_if_due : {D : Type 0} (g : Ghosts D) (o : Option FaultExtent) (call : DeviceCall) (failed : Bool) (old new : D) → PassesUnlessDue g o call failed old new → is_some o ≡ true → failed ≡ true
 fails_if_due g None call failed old new carried is = absurd (cc)
 fails_if_due g (Some Nothing) call failed old new carried is = carried.0
 fails_if_due g (Some (FirstBytes k)) call failed old new carried is = carried.0
 fails_if_due g (Some Whole) call failed old new carried is = carried.0
 
 pub have_due_failed-call : {D : Type 0} {call : DeviceCall} {failed : Bool} {before after : Blocks} {older later : List CallEvent} (g : Ghosts D) (fault : PlannedFault) (old new : D)
-    → PassesCallOrFails g (extent_if_due fault call older) call failed old new → later ≡ call_event call before after failed ∷ older
+    → PassesUnlessDue g (extent_if_due fault call older) call failed old new → later ≡ call_event call before after failed ∷ older
     → have_due_failed fault.which fault.nth fault.stops older ≡ true → have_due_failed fault.which fault.nth fault.stops later ≡ true
 have_due_failed-call {call = call} {failed = failed} {older = older} g fault old new carried is so_far =
     ap (have_due_failed fault.which fault.nth fault.stops) is
@@ -40,7 +40,7 @@ have_due_failed-call {call = call} {failed = failed} {older = older} g fault old
     here false failed of = refl
 
 -- how many faults a call adds that wasn't to fail
-adds_undue : {D : Type 0} (g : Ghosts D) (o : Option FaultExtent) (call : DeviceCall) (failed : Bool) (old new : D) → PassesCallOrFails g o call failed old new
+adds_undue : {D : Type 0} (g : Ghosts D) (o : Option FaultExtent) (call : DeviceCall) (failed : Bool) (old new : D) → PassesUnlessDue g o call failed old new
     → fault_count (g.history old) ≤ fault_count (g.history new) → fault_count (g.history old) + cond (failed && not (is_some o)) 1 0 ≤ fault_count (g.history new)
 adds_undue g None call true old new carried grow = let more : fault_count (g.history new) ≡ fault_count (g.history old) + 1 = ap fault_count carried in omega (arith, more)
 adds_undue g None call false old new carried grow = omega (arith, grow)
@@ -48,7 +48,7 @@ adds_undue g (Some extent) call true old new carried grow = omega (arith, grow)
 adds_undue g (Some extent) call false old new carried grow = omega (arith, grow)
 
 pub unplanned_faults-call : {D : Type 0} {call : DeviceCall} {failed : Bool} {before after : Blocks} {older later : List CallEvent} (g : Ghosts D) (fault : PlannedFault) (old new : D)
-    → PassesCallOrFails g (extent_if_due fault call older) call failed old new → later ≡ call_event call before after failed ∷ older → fault_count (g.history old) ≤ fault_count (g.history new)
+    → PassesUnlessDue g (extent_if_due fault call older) call failed old new → later ≡ call_event call before after failed ∷ older → fault_count (g.history old) ≤ fault_count (g.history new)
     → unplanned_faults fault.which fault.nth fault.stops older ≤ fault_count (g.history old) → unplanned_faults fault.which fault.nth fault.stops later ≤ fault_count (g.history new)
 unplanned_faults-call {call = call} {failed = failed} {older = older} {later = later} g fault old new carried is grow so_far =
     let u = unplanned_faults fault.which fault.nth fault.stops in

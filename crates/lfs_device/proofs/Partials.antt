@@ -11,7 +11,7 @@ use Rattle.lfs_model.proofs.Overwrites.{SameExcept-refl, SameExcept-trans, SameO
 use Rattle.lfs_model.specs.session.History.{DeviceCall, CallEvent, call_event, fault_count, Read, Program, is_unprogrammed_byte, unprogrammed_after}
 use Rattle.lfs_device.specs.declared.device.BlockDevice.{Ghosts}
 use Rattle.lfs_device.specs.declared.error.Error.{Error}
-use Rattle.lfs_device.specs.Partial.{StayUnprogrammedOutside, ChangesOnlyPart}
+use Rattle.lfs_device.specs.Partial.{StayUnprogrammedOutside, ChangesOnlyRange}
 
 pub keeps-trans : {b low high : ℕ} {old mid new : List CallEvent} → StayUnprogrammedOutside b low high old mid → StayUnprogrammedOutside b low high mid new → StayUnprogrammedOutside b low high old new
 keeps-trans first second = record {
@@ -57,8 +57,8 @@ more_faults {old} {failed = failed} is = subst (λ (h : List CallEvent). fault_c
 -- ---- a change of a part
 
 module _ {D : Type 0} (g : Ghosts D) where
-  pub ChangesOnlyPart-trans : {b low high : ℕ} {old mid new : D} → ChangesOnlyPart g b low high old mid → ChangesOnlyPart g b low high mid new → ChangesOnlyPart g b low high old new
-  ChangesOnlyPart-trans first second = record {
+  pub ChangesOnlyRange-trans : {b low high : ℕ} {old mid new : D} → ChangesOnlyRange g b low high old mid → ChangesOnlyRange g b low high mid new → ChangesOnlyRange g b low high old new
+  ChangesOnlyRange-trans first second = record {
     within = SameOutside-trans first.within second.within;
     others = SameExcept-trans first.others second.others;
     geometry = second.geometry ∙ first.geometry;
@@ -66,8 +66,8 @@ module _ {D : Type 0} (g : Ghosts D) where
     keeps = keeps-trans first.keeps second.keeps;
   }
 
-  pub ChangesOnlyPart-wider : {b low high : ℕ} {old new : D} (from to : ℕ) → ChangesOnlyPart g b low high old new → from ≤ low → high ≤ to → ChangesOnlyPart g b from to old new
-  ChangesOnlyPart-wider from to part before behind = record {
+  pub ChangesOnlyRange-wider : {b low high : ℕ} {old new : D} (from to : ℕ) → ChangesOnlyRange g b low high old new → from ≤ low → high ≤ to → ChangesOnlyRange g b from to old new
+  ChangesOnlyRange-wider from to part before behind = record {
     within = SameOutside-wider from to part.within before behind;
     others = part.others;
     geometry = part.geometry;
@@ -75,9 +75,9 @@ module _ {D : Type 0} (g : Ghosts D) where
     keeps = keeps-wider from to part.keeps before behind;
   }
 
-  pub ChangesOnlyPart-read : {old new : D} {block at len : ℕ} {failed : Bool} (b low high : ℕ) → g.history new ≡ call_event (Read block at len) (g.blocks old) (g.blocks new) failed ∷ g.history old
-      → g.blocks new ≡ g.blocks old → g.geometry new ≡ g.geometry old → ChangesOnlyPart g b low high old new
-  ChangesOnlyPart-read {old} b low high is same geometry = record {
+  pub ChangesOnlyRange-read : {old new : D} {block at len : ℕ} {failed : Bool} (b low high : ℕ) → g.history new ≡ call_event (Read block at len) (g.blocks old) (g.blocks new) failed ∷ g.history old
+      → g.blocks new ≡ g.blocks old → g.geometry new ≡ g.geometry old → ChangesOnlyRange g b low high old new
+  ChangesOnlyRange-read {old} b low high is same geometry = record {
     within = subst (λ (blocks : Blocks). SameOutside low high (block_bytes (g.blocks old) b) (block_bytes blocks b)) (sym same) (SameOutside-refl low high (block_bytes (g.blocks old) b));
     others = subst (SameExcept b (g.blocks old)) (sym same) (SameExcept-refl b (g.blocks old));
     geometry = geometry;
@@ -85,12 +85,12 @@ module _ {D : Type 0} (g : Ghosts D) where
     keeps = keeps-read b low high is;
   }
 
-  pub ChangesOnlyPart-program : {old new : D} {b off : ℕ} {bytes : List ℕ} (result : Result (Unit {0}) Error) → b < length (g.blocks old) → off ≤ length (block_bytes (g.blocks old) b)
+  pub ChangesOnlyRange-program : {old new : D} {b off : ℕ} {bytes : List ℕ} (result : Result (Unit {0}) Error) → b < length (g.blocks old) → off ≤ length (block_bytes (g.blocks old) b)
       → OnOk result (g.blocks new ≡ programmed (g.blocks old) b off bytes)
       → OnErr result (SameOutside off (off + length bytes) (block_bytes (g.blocks old) b) (block_bytes (g.blocks new) b))
       → SameExcept b (g.blocks old) (g.blocks new) → g.geometry new ≡ g.geometry old
-      → g.history new ≡ call_event (Program b off bytes) (g.blocks old) (g.blocks new) (is_err result) ∷ g.history old → ChangesOnlyPart g b off (off + length bytes) old new
-  ChangesOnlyPart-program {old} {new} {b} {off} {bytes} result there fits ok err others geometry is = record {
+      → g.history new ≡ call_event (Program b off bytes) (g.blocks old) (g.blocks new) (is_err result) ∷ g.history old → ChangesOnlyRange g b off (off + length bytes) old new
+  ChangesOnlyRange-program {old} {new} {b} {off} {bytes} result there fits ok err others geometry is = record {
     within = either result ok err;
     others = others;
     geometry = geometry;

@@ -14,7 +14,7 @@ use Rattle.lfs_device.specs.declared.fault.FaultExtent.TheVariants.{Nothing, Fir
 use Rattle.lfs_device.specs.declared.fault.PlannedFault.{PlannedFault}
 use Rattle.lfs_device.specs.declared.ram.Erased.{Erased}
 use Rattle.lfs_device.specs.declared.ram.Erased.TheVariants.{Fill, Keep}
-use Rattle.lfs_device.specs.CallsBelow.{PassesCallOrFails}
+use Rattle.lfs_device.specs.CallsBelow.{PassesUnlessDue}
 use Rattle.lfs_device.specs.Erased.{FillIsByte, erased_bytes}
 use Rattle.lfs_device.specs.Fault.{is_counted, extent_if_due, is_partial, is_nth_call, has_stopped}
 use Rattle.lfs_device.specs.DevicePremises.{DevicesMeetPremisesFaultless}
@@ -60,7 +60,7 @@ tears_none fault call older untorn = either (is_nth_call (is_counted fault.which
     either false true = refl
     either false false = refl
 
-meets_carried : {D : Type 0} (g : Ghosts D) (o : Option FaultExtent) (call : DeviceCall) (failed : Bool) (old new : D) → tears o ≡ false → PassesCallOrFails g o call failed old new
+meets_carried : {D : Type 0} (g : Ghosts D) (o : Option FaultExtent) (call : DeviceCall) (failed : Bool) (old new : D) → tears o ≡ false → PassesUnlessDue g o call failed old new
     → CallsConform (g.history new) → DevicesMeetPremisesFaultless g → Meets call failed (g.blocks old) (g.blocks new)
 meets_carried g None call failed old new untorn carried conforms reliable = premises_newest carried (reliable new).premises
 meets_carried g (Some Nothing) call failed old new untorn carried conforms reliable = rw (carried.0, carried.1) (meets_nothing call (g.blocks old))
@@ -69,7 +69,7 @@ meets_carried g (Some Whole) call failed old new untorn carried conforms reliabl
     rw carried.0 (meets_whole (carried.1 ((reliable new).no_fault ∙ sym (reliable old).no_fault)) conforms (reliable new).premises)
 
 pub premises_call : {D : Type 0} {call : DeviceCall} {failed : Bool} {older later : List CallEvent} (g : Ghosts D) (fault : PlannedFault) (old new : D)
-    → is_partial fault.extent ≡ false → PassesCallOrFails g (extent_if_due fault call older) call failed old new → later ≡ call_event call (g.blocks old) (g.blocks new) failed ∷ older
+    → is_partial fault.extent ≡ false → PassesUnlessDue g (extent_if_due fault call older) call failed old new → later ≡ call_event call (g.blocks old) (g.blocks new) failed ∷ older
     → CallsConform (g.history new) → DevicesMeetPremisesFaultless g → ∥ MeetsPremises older ∥₁ → ∥ MeetsPremises later ∥₁
 premises_call {call = call} {failed = failed} {older = older} g fault old new untorn carried is conforms reliable so_far =
     premises_after is (meets_carried g (extent_if_due fault call older) call failed old new (tears_none fault call older untorn) carried conforms reliable) so_far

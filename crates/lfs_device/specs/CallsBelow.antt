@@ -15,20 +15,20 @@ PassesCall g call failed old new = g.history new ≡ call_event call (g.blocks o
 abbrev pub AddsNoFault : {D : Type 0} → Ghosts D → D → D → Type 0
 AddsNoFault g old new = fault_count (g.history new) ≡ fault_count (g.history old)
 
--- Of a program the first bytes are stored (`programmed_part` gives them). Another call does nothing.
-abbrev pub PassesOnlyProgram : {D : Type 0} → Ghosts D → DeviceCall → D → D → Type 0
-PassesOnlyProgram g (Program b off bytes) old new = Unit {0}
-PassesOnlyProgram g (Read b off len) old new = new ≡ old
-PassesOnlyProgram g (Erase b) old new = new ≡ old
-PassesOnlyProgram g (Blank b off len) old new = new ≡ old
+-- Of a program the first bytes are stored (`programmed_bytes` gives them). Another call does nothing.
+abbrev pub PassesProgramPart : {D : Type 0} → Ghosts D → DeviceCall → D → D → Type 0
+PassesProgramPart g (Program b off bytes) old new = Unit {0}
+PassesProgramPart g (Read b off len) old new = new ≡ old
+PassesProgramPart g (Erase b) old new = new ≡ old
+PassesProgramPart g (Blank b off len) old new = new ≡ old
 
 -- A call that isn't due to fail is passed on, and fails only as the device below does. A call that is due fails, after the given
 -- part of it was done.
-abbrev pub PassesCallOrFails : {D : Type 0} → Ghosts D → Option FaultExtent → DeviceCall → Bool → D → D → Type 0
-PassesCallOrFails g None call failed old new = PassesCall g call failed old new
-PassesCallOrFails g (Some Nothing) call failed old new = (failed ≡ true) × (new ≡ old)
-PassesCallOrFails g (Some (FirstBytes k)) call failed old new = (failed ≡ true) × PassesOnlyProgram g call old new
-PassesCallOrFails g (Some Whole) call failed old new = (failed ≡ true) × (AddsNoFault g old new → PassesCall g call false old new)
+abbrev pub PassesUnlessDue : {D : Type 0} → Ghosts D → Option FaultExtent → DeviceCall → Bool → D → D → Type 0
+PassesUnlessDue g None call failed old new = PassesCall g call failed old new
+PassesUnlessDue g (Some Nothing) call failed old new = (failed ≡ true) × (new ≡ old)
+PassesUnlessDue g (Some (FirstBytes k)) call failed old new = (failed ≡ true) × PassesProgramPart g call old new
+PassesUnlessDue g (Some Whole) call failed old new = (failed ≡ true) × (AddsNoFault g old new → PassesCall g call false old new)
 
 -- the fact holds where the call is Ok, and where it failed after all of it was done below without a fault
 pub record IfDone {D X : Type 0} (g : Ghosts D) (due : Option FaultExtent) (old new : D) (result : Result X Error) (Fact : Type 0) : Type 0 where
@@ -36,7 +36,7 @@ pub record IfDone {D X : Type 0} (g : Ghosts D) (due : Option FaultExtent) (old 
   pub whole : due ≡ Some Whole → AddsNoFault g old new → Fact
 
 -- the bytes of a program that are stored
-abbrev pub programmed_part : FaultExtent → List ℕ → List ℕ
-programmed_part Nothing bytes = []
-programmed_part (FirstBytes k) bytes = take k bytes
-programmed_part Whole bytes = bytes
+abbrev pub programmed_bytes : FaultExtent → List ℕ → List ℕ
+programmed_bytes Nothing bytes = []
+programmed_bytes (FirstBytes k) bytes = take k bytes
+programmed_bytes Whole bytes = bytes

@@ -4,7 +4,7 @@ use Rattle.std.specs.Prelude.{◌≡◌, ◌<◌, ◌⊎◌, ℕ, true, false, L
 use Rattle.lfs_device.specs.declared.device.BlockDevice.{Ghosts}
 use Rattle.lfs_device.specs.declared.error.Error.{Error}
 use Rattle.lfs_device.specs.declared.error.Error.TheVariants.{Io, NoMemory}
-use Rattle.lfs_model.specs.format.Blocks.{SameExcept, SameExceptThese}
+use Rattle.lfs_model.specs.format.Blocks.{SameExcept, SameExceptBlocks}
 use Rattle.lfs_model.specs.session.History.{LossLeavesAtWorst, HoldsAtLosses, OnlyReadsSince, StayUnprogrammed, call_event, fault_count}
 use Rattle.lfs_model.specs.session.History.DeviceCall.{Read}
 
@@ -24,10 +24,10 @@ pub record ChangesOneBlock {D : Type 0} (g : Ghosts D) (b : ℕ) (old new : D) :
 
 -- the same of several blocks
 pub record ChangesTheseBlocks {D : Type 0} (g : Ghosts D) (bs : List ℕ) (old new : D) : Type 0 where
-  pub others : SameExceptThese bs (g.blocks old) (g.blocks new)
+  pub others : SameExceptBlocks bs (g.blocks old) (g.blocks new)
   pub elsewhere : StayUnprogrammed bs (g.history old) (g.history new)
   pub geometry : g.geometry new ≡ g.geometry old
-  pub at_worst : HoldsAtLosses LossLeavesAtWorst (g.history old) (g.history new) (SameExceptThese bs (g.blocks old))
+  pub at_worst : HoldsAtLosses LossLeavesAtWorst (g.history old) (g.history new) (SameExceptBlocks bs (g.blocks old))
 
 -- `Io` comes with a fault of the device, and any other result without one.
 pub record ReportsFaults {D X : Type 0} (g : Ghosts D) (old new : D) (result : Result X Error) : Type 0 where

@@ -14,7 +14,7 @@ pub record StayUnprogrammedOutside (b low high : ℕ) (old new : List CallEvent)
   pub above : (k : ℕ) → high ≤ k → is_unprogrammed_byte old b k ≡ true → is_unprogrammed_byte new b k ≡ true
 
 -- only bytes of this block in a range change, and the number of faults doesn't get less
-pub record ChangesOnlyPart {D : Type 0} (g : Ghosts D) (b low high : ℕ) (old new : D) : Type 0 where
+pub record ChangesOnlyRange {D : Type 0} (g : Ghosts D) (b low high : ℕ) (old new : D) : Type 0 where
   pub within : SameOutside low high (block_bytes (g.blocks old) b) (block_bytes (g.blocks new) b)
   pub others : SameExcept b (g.blocks old) (g.blocks new)
   pub geometry : g.geometry new ≡ g.geometry old

@@ -7,7 +7,7 @@ ghost use Rattle.lfs_model.specs.crash.Premises.{MeetsPremises};
 ghost use Rattle.lfs_device.specs.BlockCalls.{CanProgram, IsWithinBlock, Programs};
 ghost use Rattle.lfs_device.specs.Fault.{call_count, extent_if_due, failing_extent, have_due_failed, is_partial, unplanned_faults};
 ghost use Rattle.lfs_device.specs.DevicePremises.{DevicesMeetPremisesFaultless};
-ghost use Rattle.lfs_device.specs.CallsBelow.{AddsNoFault, PassesCallOrFails, programmed_part};
+ghost use Rattle.lfs_device.specs.CallsBelow.{AddsNoFault, PassesUnlessDue, programmed_bytes};
 
 use crate::partial::{erase_as_planned, program_as_planned, read_as_planned};
 use crate::{BlockDevice, Error, Geometry, Trace};
@@ -228,7 +228,7 @@ impl<D: BlockDevice> BlockDevice for FaultDevice<D> {
 
     fn read(&mut self, block: u32, off: u32, buf: &mut [u8]) -> Result<(), Error>
         requires within { IsWithinBlock (D.geometry (inner_device self.old)) block off (length buf.old) }
-        ensures carried { PassesCallOrFails ⟦<D as BlockDevice>⟧ (extent_if_due (planned_fault self.old) (Read block off (length buf.old)) (fault_history self.old))
+        ensures carried { PassesUnlessDue ⟦<D as BlockDevice>⟧ (extent_if_due (planned_fault self.old) (Read block off (length buf.old)) (fault_history self.old))
             (Read block off (length buf.old)) (is_err result) (inner_device self.old) (inner_device self.new) }
         ensures whole { extent_if_due (planned_fault self.old) (Read block off (length buf.old)) (fault_history self.old) ≡ Some FaultExtent.Whole
             → AddsNoFault ⟦<D as BlockDevice>⟧ (inner_device self.old) (inner_device self.new)
@@ -248,11 +248,11 @@ impl<D: BlockDevice> BlockDevice for FaultDevice<D> {
 
     fn prog(&mut self, block: u32, off: u32, bytes: &[u8]) -> Result<(), Error>
         requires can { CanProgram (D.geometry (inner_device self.old)) (fault_history self.old) block off (length bytes.now) }
-        ensures carried { PassesCallOrFails ⟦<D as BlockDevice>⟧ (extent_if_due (planned_fault self.old) (Program block off bytes.now) (fault_history self.old))
+        ensures carried { PassesUnlessDue ⟦<D as BlockDevice>⟧ (extent_if_due (planned_fault self.old) (Program block off bytes.now) (fault_history self.old))
             (Program block off bytes.now) (is_err result) (inner_device self.old) (inner_device self.new) }
         ensures stored { IfSome (extent_if_due (planned_fault self.old) (Program block off bytes.now) (fault_history self.old))
             (λ extent. AddsNoFault ⟦<D as BlockDevice>⟧ (inner_device self.old) (inner_device self.new)
-            → inner_blocks self.new ≡ programmed (inner_blocks self.old) block off (programmed_part extent bytes.now)) }
+            → inner_blocks self.new ≡ programmed (inner_blocks self.old) block off (programmed_bytes extent bytes.now)) }
         ensures programs { Programs block off bytes.now (inner_blocks self.old) (inner_blocks self.new) result }
         ensures noted { AddsCall (Program block off bytes.now) self.old self.new result }
     {
@@ -267,7 +267,7 @@ impl<D: BlockDevice> BlockDevice for FaultDevice<D> {
 
     fn erase(&mut self, block: u32) -> Result<(), Error>
         requires { block < (D.geometry (inner_device self.old)).block_count }
-        ensures carried { PassesCallOrFails ⟦<D as BlockDevice>⟧ (extent_if_due (planned_fault self.old) (Erase block) (fault_history self.old))
+        ensures carried { PassesUnlessDue ⟦<D as BlockDevice>⟧ (extent_if_due (planned_fault self.old) (Erase block) (fault_history self.old))
             (Erase block) (is_err result) (inner_device self.old) (inner_device self.new) }
         ensures others { SameExcept block (inner_blocks self.old) (inner_blocks self.new) }
         ensures noted { AddsCall (Erase block) self.old self.new result }

@@ -1,5 +1,5 @@
 ghost use Rattle.std.specs.Prelude.{◌≡◌, MatchResult};
-ghost use Rattle.lfs_model.specs.format.Disk.{pair_capacity, attr_max_of, charge_limit, default_profile, file_max_of, inline_limit, longest_struct, name_max_of, slots_limit};
+ghost use Rattle.lfs_model.specs.format.Disk.{pair_capacity, profile_attr_max, charge_limit, default_profile, profile_file_max, inline_limit, struct_max, profile_name_max, slots_limit};
 ghost use Rattle.lfs_model.specs.format.Geometry.{IsValidGeometry};
 
 use crate::Error;
@@ -95,28 +95,28 @@ impl Geometry {
     /// Returns the size in bytes of the longest struct of an entry: inline contents, or 8 bytes for
     /// a list or a directory.
     pub fn struct_limit(self) -> u32
-        ensures { result ≡ longest_struct self.profile self.block_size }
+        ensures { result ≡ struct_max self.profile self.block_size }
     {
         self.inline_limit().max(8)
     }
 
     /// Returns the longest name that is written, in bytes: at most 255.
     pub fn name_max(self) -> u32
-        ensures { result ≡ name_max_of self.profile }
+        ensures { result ≡ profile_name_max self.profile }
     {
         self.profile.name_max.min(255)
     }
 
     /// Returns the longest file that is written, in bytes: at most 2,147,483,647.
     pub fn file_max(self) -> u32
-        ensures { result ≡ file_max_of self.profile }
+        ensures { result ≡ profile_file_max self.profile }
     {
         self.profile.file_max.min(2_147_483_647)
     }
 
     /// Returns the longest attribute that is written, in bytes: at most 1,022.
     pub fn attr_max(self) -> u32
-        ensures { result ≡ attr_max_of self.profile }
+        ensures { result ≡ profile_attr_max self.profile }
     {
         self.profile.attr_max.min(1022)
     }

@@ -4,8 +4,8 @@ ghost use Rattle.lfs_model.specs.session.History.{fault_count};
 ghost use Rattle.lfs_model.specs.session.History.DeviceCall.{Read, Program, Erase};
 ghost use Rattle.lfs_device.specs.DeviceCalls.{ReadsOnly};
 ghost use Rattle.lfs_device.specs.BlockCalls.{CanProgram, IsWithinBlock};
-ghost use Rattle.lfs_device.specs.CallsBelow.{AddsNoFault, IfDone, PassesCallOrFails, programmed_part};
-ghost use Rattle.lfs_device.specs.Partial.{ChangesOnlyErasedBlock, ChangesOnlyPart, IsUnprogrammedPage};
+ghost use Rattle.lfs_device.specs.CallsBelow.{AddsNoFault, IfDone, PassesUnlessDue, programmed_bytes};
+ghost use Rattle.lfs_device.specs.Partial.{ChangesOnlyErasedBlock, ChangesOnlyRange, IsUnprogrammedPage};
 
 use crate::fault::FaultExtent;
 use crate::{BlockDevice, Error};
@@ -19,7 +19,7 @@ pub(crate) fn read_as_planned<D: BlockDevice>(
     buf: &mut [u8],
 ) -> Result<(), Error>
     requires within { IsWithinBlock (D.geometry device.old) block off (length buf.old) }
-    ensures carried { PassesCallOrFails ⟦<D as BlockDevice>⟧ due (Read block off (length buf.old)) (is_err result) device.old device.new }
+    ensures carried { PassesUnlessDue ⟦<D as BlockDevice>⟧ due (Read block off (length buf.old)) (is_err result) device.old device.new }
     ensures bytes { IfDone D.BlockDevice due device.old device.new result (buf.new ≡ slice_range (block_bytes (D.blocks device.old) block) off (off + length buf.old)) }
     ensures device { ReadsOnly D.BlockDevice device.old device.new }
     ensures error { IfErr result (λ e. e ≡ Error.Io) }
@@ -44,11 +44,11 @@ pub(crate) fn program_as_planned<D: BlockDevice>(
     bytes: &[u8],
 ) -> Result<(), Error>
     requires can { CanProgram (D.geometry device.old) (D.history device.old) block off (length bytes.now) }
-    ensures carried { PassesCallOrFails ⟦<D as BlockDevice>⟧ due (Program block off bytes.now) (is_err result) device.old device.new }
+    ensures carried { PassesUnlessDue ⟦<D as BlockDevice>⟧ due (Program block off bytes.now) (is_err result) device.old device.new }
     ensures stored { IfSome due (λ extent. AddsNoFault ⟦<D as BlockDevice>⟧ device.old device.new
-        → D.blocks device.new ≡ programmed (D.blocks device.old) block off (programmed_part extent bytes.now)) }
+        → D.blocks device.new ≡ programmed (D.blocks device.old) block off (programmed_bytes extent bytes.now)) }
     ensures ok { OnOk result (D.blocks device.new ≡ programmed (D.blocks device.old) block off bytes.now) }
-    ensures part { ChangesOnlyPart D.BlockDevice block off (off + length bytes.now) device.old device.new }
+    ensures part { ChangesOnlyRange D.BlockDevice block off (off + length bytes.now) device.old device.new }
     ensures error { IfErr result (λ e. e ≡ Error.Io) }
 {
     match due {
@@ -72,7 +72,7 @@ pub(crate) fn erase_as_planned<D: BlockDevice>(
     block: u32,
 ) -> Result<(), Error>
     requires { block < (D.geometry device.old).block_count }
-    ensures carried { PassesCallOrFails ⟦<D as BlockDevice>⟧ due (Erase block) (is_err result) device.old device.new }
+    ensures carried { PassesUnlessDue ⟦<D as BlockDevice>⟧ due (Erase block) (is_err result) device.old device.new }
     ensures block { ChangesOnlyErasedBlock D.BlockDevice block device.old device.new result }
     ensures error { IfErr result (λ e. e ≡ Error.Io) }
 {
@@ -97,7 +97,7 @@ pub(crate) fn program_first_bytes<D: BlockDevice>(
 ) -> Result<(), Error>
     requires can { CanProgram (D.geometry device.old) (D.history device.old) block off (length bytes.now) }
     ensures ok { OnOk result (D.blocks device.new ≡ programmed (D.blocks device.old) block off (take k bytes.now)) }
-    ensures part { ChangesOnlyPart D.BlockDevice block off (off + length bytes.now) device.old device.new }
+    ensures part { ChangesOnlyRange D.BlockDevice block off (off + length bytes.now) device.old device.new }
     ensures err { OnErr result (fault_count (D.history device.old) < fault_count (D.history device.new)) }
 {
     let stored = (k as usize).min(bytes.len());
@@ -120,7 +120,7 @@ fn program_page_part<D: BlockDevice>(
     requires in_page { length bytes.now ≤ (D.geometry device.old).page }
     requires page { IsUnprogrammedPage (D.geometry device.old) (D.history device.old) block off }
     ensures ok { OnOk result (D.blocks device.new ≡ programmed (D.blocks device.old) block off bytes.now) }
-    ensures part { ChangesOnlyPart D.BlockDevice block off (off + (D.geometry device.old).page) device.old device.new }
+    ensures part { ChangesOnlyRange D.BlockDevice block off (off + (D.geometry device.old).page) device.old device.new }
     ensures err { OnErr result (fault_count (D.history device.old) < fault_count (D.history device.new)) }
 {
     let mut buffer = [0u8; 512];

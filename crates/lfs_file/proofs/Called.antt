@@ -2,13 +2,13 @@
 use Rattle.std.proofs.Common.{ℕ, ◌≡◌, ◌≢◌, Bool, List, [], ◌∷◌, Result, Ok, Err, inl, inr, refl, sym, subst, ◌∙◌, arith}
 use Rattle.std.specs.Prelude.{All}
 use Rattle.lfs_file.specs.FileCalls.{ReadsOrCorrupt}
-use Rattle.lfs_file.proofs.Common.{ReadsOnly, ChangesTheseBlocks, ReportsFaults, SameExcept, call_event, fault_count, Read, began, goes_on, goes_on_by, AllCallsSince-weaker, OnlyReadsSince-trans, StayUnprogrammed-trans, SameExcept-refl, SameExcept-trans, SameExceptThese-refl}
+use Rattle.lfs_file.proofs.Common.{ReadsOnly, ChangesTheseBlocks, ReportsFaults, SameExcept, call_event, fault_count, Read, began, goes_on, goes_on_by, AllCallsSince-weaker, OnlyReadsSince-trans, StayUnprogrammed-trans, SameExcept-refl, SameExcept-trans, SameExceptBlocks-refl}
 use Rattle.lfs_device.specs.DeviceCalls.{ChangesOneBlock}
 use Rattle.lfs_device.specs.declared.device.BlockDevice.{Ghosts}
 use Rattle.lfs_device.specs.declared.error.Error.{Error}
 use Rattle.lfs_model.specs.session.History.DeviceCall.{Program, Erase}
 use Rattle.lfs_model.proofs.Histories.{StayUnprogrammed-erase, StayUnprogrammed-program, StayUnprogrammed-read_count, StayUnprogrammed-refl}
-use Rattle.lfs_model.proofs.Overwrites.{SameExceptThese-one}
+use Rattle.lfs_model.proofs.Overwrites.{SameExceptBlocks-one}
 use Rattle.lfs_file.proofs.Pushing.{stays_one}
 use Rattle.lfs_file.proofs.Readings.{reads_stop}
 
@@ -63,7 +63,7 @@ module _ {D : Type 0} (g : Ghosts D) where
 
   pub changes_none : (bs : List ℕ) (d : D) → ChangesTheseBlocks g bs d d
   changes_none bs d = record {
-    others = SameExceptThese-refl bs (g.blocks d);
+    others = SameExceptBlocks-refl bs (g.blocks d);
     elsewhere = StayUnprogrammed-refl bs (g.history d);
     geometry = refl;
     at_worst = began;
@@ -72,10 +72,10 @@ module _ {D : Type 0} (g : Ghosts D) where
   -- one of the blocks changes
   pub changes_one : {old mid new : D} {bs : List ℕ} {block : ℕ} → ((other : ℕ) → All (λ b. b ≢ other) bs → block ≢ other) → ChangesTheseBlocks g bs old mid → ChangesOneBlock g block mid new → ChangesTheseBlocks g bs old new
   changes_one {bs = bs} {block = block} among first second = record {
-    others = SameExceptThese-one bs block _ _ _ among first.others second.others;
+    others = SameExceptBlocks-one bs block _ _ _ among first.others second.others;
     elsewhere = stays_one bs block _ _ _ among first.elsewhere second.elsewhere;
     geometry = second.geometry ∙ first.geometry;
-    at_worst = goes_on_by first.at_worst (AllCallsSince-weaker (λ e from left stop. SameExceptThese-one bs block _ _ _ among first.others (from left stop)) second.at_worst);
+    at_worst = goes_on_by first.at_worst (AllCallsSince-weaker (λ e from left stop. SameExceptBlocks-one bs block _ _ _ among first.others (from left stop)) second.at_worst);
   }
 
   -- a call that succeeds has no fault

@@ -12,12 +12,12 @@ pub use Rattle.lfs_file.specs.Extending.{HasBufferedBytes}
 pub use Rattle.lfs_file.specs.Extensions.{CanEndAlone}
 pub use Rattle.lfs_file.specs.FewReads.{FillsFew, further_pointers}
 pub use Rattle.lfs_file.specs.Fields.{IsExtender, growing_view}
-pub use Rattle.lfs_file.specs.Filled.{AreConsistent}
-pub use Rattle.lfs_file.specs.Finished.{IsListOf}
+pub use Rattle.lfs_file.specs.Filled.{CountsAgree}
+pub use Rattle.lfs_file.specs.Finished.{ListHoldsBytes}
 pub use Rattle.lfs_file.specs.Form.{ContentsForm, Finished, InHand, InMemory, IsWriterForm, form_written_within, form_size, shortened_form, truncated_form, written_form}
-pub use Rattle.lfs_file.specs.Growing.{GrowingList, IsAllBuffered, IsOnDisk, IsRestAt, IsRestShared, IsRestShort, appended_count, block_for_next, blocks_data, growing_blocks, growing_bytes, growing_size, growing_size_with, lasting_blocks, lacks_last_block, rest_block, rest_lacks_block, unwritten_block, unwritten_rest_block}
+pub use Rattle.lfs_file.specs.Growing.{GrowingList, IsAllBuffered, DiskHasList, IsRestAt, IsRestShared, IsRestShort, appended_count, block_for_push, blocks_data, growing_blocks, growing_bytes, growing_size, growing_size_with, lasting_blocks, lacks_last_block, rest_block, rest_lacks_block, unwritten_block, unwritten_rest_block}
 pub use Rattle.lfs_file.specs.Hand.{CanEndOver, IsFinishedList, KeepsUsedBlocks, KeepsUsedBytes, SharesFirstBlocks, stored_list_bytes}
-pub use Rattle.lfs_file.specs.HandWrites.{CanEndUnfinished, EndsInZeros, IsUnfinishedTo, unfinished_bytes, unfinished_length}
+pub use Rattle.lfs_file.specs.HandWrites.{CanEndUnfinished, AreZerosWritten, IsUnfinishedTo, unfinished_bytes, unfinished_length}
 pub use Rattle.lfs_file.specs.Known.{AreKnownBlocks, ArePointedKnown, ArePointersKnown, IsKnownIndex, OnlyBelowKnown, ReadsKnownList, index_row}
 pub use Rattle.lfs_file.specs.Releases.{ReleasesInFlight}
 pub use Rattle.lfs_file.specs.Right.{ArePointersCopied, LaterPointersName}
@@ -31,8 +31,8 @@ pub use Rattle.lfs_model.proofs.Files.{Same, back_same, data_same, length_back}
 pub use Rattle.lfs_model.proofs.Histories.{AllCallsSince-weaker, HoldsAtLosses-read_count, LossLeavesAtWorst-read, OnlyReadsSince-trans, StayUnprogrammed-trans, began, goes_on, goes_on_by}
 pub use Rattle.lfs_model.proofs.ListParts.{part_of_bytes, place-lt}
 pub use Rattle.lfs_model.proofs.ListSizes.{AllSized, block_count_for-more, head_of_back}
-pub use Rattle.lfs_model.proofs.Overwrites.{SameExcept-refl, SameExcept-trans, SameExceptThese-refl, length-overwritten}
-pub use Rattle.lfs_model.specs.format.Blocks.{Blocks, HasBlockSizes, SameExcept, SameExceptThese, block_bytes, overwritten_at}
+pub use Rattle.lfs_model.proofs.Overwrites.{SameExcept-refl, SameExcept-trans, SameExceptBlocks-refl, length-overwritten}
+pub use Rattle.lfs_model.specs.format.Blocks.{Blocks, HasBlockSizes, SameExcept, SameExceptBlocks, block_bytes, overwritten_at}
 pub use Rattle.lfs_model.specs.format.Disk.{inline_limit}
 pub use Rattle.lfs_model.specs.format.SkipLists.{AreListBlocks, IsBytePlace, IsSkipList, block_capacity, block_count_for, block_data, blocks_to_head, bytes_before_block, list_bytes, pointer_count, word_at}
 pub use Rattle.lfs_model.specs.layers.BlockSets.{BlockState, BlockStates, IsFree, IsInFlight, IsUsedBlock, in_flight_count, is_used, used_count}

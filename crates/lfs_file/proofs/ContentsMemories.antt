@@ -1,6 +1,6 @@
 -- Contents in memory that are written, also where they move to a list.
 use Rattle.std.proofs.Common.{ℕ, ◌≢◌, ap₂, refl, subst, inl, ◌≡◌, ◌+◌, ◌-◌, ◌≤◌, ⊎_elim, Bool, true, false, [], if◌then◌else◌, List, ◌++◌, length, take, drop, max, min, replicate, sym, ap, ◌∙◌, arith, length-append, append_assoc}
-use Rattle.lfs_file.proofs.Common.{cases_lt, append-nil, take_all, drop_all, length-replicate, length-take-le, replicate-append-replicate, take_at, take-append-le, take-take, written_contents, zero_padded, take-add, Blocks, BlockStates, IsFree, IsInFlight, AreListBlocks, IsSkipList, blocks_to_head, block_count_for, bytes_before_block, list_bytes, GrowingList, IsOnDisk, IsAllBuffered, IsRestAt, growing_bytes, lacks_last_block, blocks_data, lasting_blocks, unwritten_rest_block, unwritten_block, growing_size_with, growing_size, IsListOrEmpty, blocks_of_list, buffered_bytes, IsUnfinishedTo, in_flight_limit, block_count_for-more}
+use Rattle.lfs_file.proofs.Common.{cases_lt, append-nil, take_all, drop_all, length-replicate, length-take-le, replicate-append-replicate, take_at, take-append-le, take-take, written_contents, zero_padded, take-add, Blocks, BlockStates, IsFree, IsInFlight, AreListBlocks, IsSkipList, blocks_to_head, block_count_for, bytes_before_block, list_bytes, GrowingList, DiskHasList, IsAllBuffered, IsRestAt, growing_bytes, lacks_last_block, blocks_data, lasting_blocks, unwritten_rest_block, unwritten_block, growing_size_with, growing_size, IsListOrEmpty, blocks_of_list, buffered_bytes, IsUnfinishedTo, in_flight_limit, block_count_for-more}
 use Rattle.lfs_model.specs.format.Blocks.{overwritten_at as in_block}
 use Rattle.lfs_device.specs.declared.geometry.Geometry.{Geometry}
 use Rattle.std.specs.Prelude.{All, Contains, slice_range}
@@ -115,7 +115,7 @@ pending_held Held held = refl
 pub held_pending : (g : GrowingList) → IsAllBuffered g → unwritten_block g ≡ []
 held_pending g held = pending_held g.stand held.held
 
-pub held_growing : (disk : Blocks) (g : GrowingList) → IsAllBuffered g → IsOnDisk disk g
+pub held_growing : (disk : Blocks) (g : GrowingList) → IsAllBuffered g → DiskHasList disk g
 held_growing disk g held = record {
   chain = subst (λ n. AreListBlocks disk n g.head) (sym held.none) (none_chain disk g.head);
   known = λ row lt small within. absurd (omega (arith, within, ap (λ n. length (blocks_to_head disk n g.head)) held.none));

@@ -1,14 +1,14 @@
 -- A finished list that is cut.
 use Rattle.std.proofs.Common.{ℕ, ◌≡◌, ◌≢◌, inl, inr, ⊎_elim, get_or, List, [], take, drop, sym, ◌∙◌, subst, arith, length-drop}
 use Rattle.std.specs.Prelude.{All, Contains}
-use Rattle.lfs_file.proofs.Common.{take-take, length-take, All-contains, All-contains_itself, All-take, Blocks, SameExceptThese, BlockStates, IsFree, IsInFlight, IsSkipList, IsTakenNotPending, IsListOrEmpty, blocks_of_list, IsFinishedList, ReleasesInFlight}
+use Rattle.lfs_file.proofs.Common.{take-take, length-take, All-contains, All-contains_itself, All-take, Blocks, SameExceptBlocks, BlockStates, IsFree, IsInFlight, IsSkipList, IsTakenNotPending, IsListOrEmpty, blocks_of_list, IsFinishedList, ReleasesInFlight}
 use Rattle.lfs_file.specs.declared.stored_list.StoredList.{StoredList}
 use Rattle.lfs_file.proofs.Bases.{blocks_stay, list_stays}
 use Rattle.lfs_file.proofs.Ends.{base_distinct, gone_of, still_apart, still_flying}
 use Rattle.lfs_file.proofs.Spared.{spares_end}
 use Rattle.lfs_file.proofs.Takings.{member}
 
-module _ (map : BlockStates) (d f : Blocks) (block_size : ℕ) (stored : StoredList) (pending : List ℕ) (is : IsFinishedList map d block_size stored) (none : pending ≡ []) (same : SameExceptThese pending d f) where
+module _ (map : BlockStates) (d f : Blocks) (block_size : ℕ) (stored : StoredList) (pending : List ℕ) (is : IsFinishedList map d block_size stored) (none : pending ≡ []) (same : SameExceptBlocks pending d f) where
   abbrev bb : List ℕ
   bb = blocks_of_list d block_size stored.head stored.size
 

@@ -2,7 +2,7 @@
 use Rattle.std.proofs.Common.{ℕ, ◌≡◌, ◌≢◌, ◌⊎◌, inl, inr, ⊎_elim, Bool, true, false, if◌then◌else◌, nat_eq, get_or, List, [], take, drop, Some, refl, sym, ap, ◌∙◌, subst, arith}
 use Rattle.std.specs.Prelude.{All, Contains}
 use Rattle.std.specs.List.{IsDistinct}
-use Rattle.lfs_file.proofs.Common.{take-append-drop, All-contains, All-contains_itself, Contains-append_cases, Blocks, SameExceptThese, BlockStates, IsFree, IsInFlight, Free, Used, block_count_for, AreListBlocks, IsSkipList, GrowingList, growing_blocks, lasting_blocks, unwritten_block, IsListOrEmpty, blocks_of_list, CanEndOver, IsFinishedList, KeepsUsedBlocks, ReleasesInFlight, ChangesOnlyFree}
+use Rattle.lfs_file.proofs.Common.{take-append-drop, All-contains, All-contains_itself, Contains-append_cases, Blocks, SameExceptBlocks, BlockStates, IsFree, IsInFlight, Free, Used, block_count_for, AreListBlocks, IsSkipList, GrowingList, growing_blocks, lasting_blocks, unwritten_block, IsListOrEmpty, blocks_of_list, CanEndOver, IsFinishedList, KeepsUsedBlocks, ReleasesInFlight, ChangesOnlyFree}
 use Rattle.std.proofs.lemmas.List.Elements.{All-drop}
 use Rattle.lfs_device.specs.declared.geometry.Geometry.{Geometry}
 use Rattle.lfs_file.specs.declared.stored_list.StoredList.{StoredList}
@@ -45,7 +45,7 @@ still_flying map later shared kept bb b in_flight front released was is = ⊎_el
     (was (sym (released.others b apart) ∙ is)))
     (member (gone_of in_flight shared bb) b)
 
-module _ (map later : BlockStates) (e f : Blocks) (block_size : ℕ) (h : GrowingList) (base : StoredList) (shared head size : ℕ) (hand : CanEndOver map e block_size h base shared) (others : SameExceptThese (unwritten_block h) e f)
+module _ (map later : BlockStates) (e f : Blocks) (block_size : ℕ) (h : GrowingList) (base : StoredList) (shared head size : ℕ) (hand : CanEndOver map e block_size h base shared) (others : SameExceptBlocks (unwritten_block h) e f)
     (list : IsSkipList f block_size head size) (blocks : blocks_of_list f block_size head size ≡ growing_blocks e h) (released : ReleasesInFlight map later (gone_of base.in_flight shared (blocks_of_list f block_size base.head base.size))) where
   bb : List ℕ
   bb = blocks_of_list e block_size base.head base.size
@@ -75,7 +75,7 @@ module _ (map later : BlockStates) (e f : Blocks) (block_size : ℕ) (h : Growin
 
 -- under other names of the geometry
 pub ends_by : (map later : BlockStates) (e f : Blocks) (geometry now device : Geometry) (h : GrowingList) (base : StoredList) (shared head size : ℕ) → now ≡ geometry → device ≡ geometry → CanEndOver map e geometry.block_size h base shared
-    → SameExceptThese (unwritten_block h) e f → IsSkipList f now.block_size head size → blocks_of_list f now.block_size head size ≡ growing_blocks e h
+    → SameExceptBlocks (unwritten_block h) e f → IsSkipList f now.block_size head size → blocks_of_list f now.block_size head size ≡ growing_blocks e h
     → ReleasesInFlight map later (gone_of base.in_flight shared (blocks_of_list f device.block_size base.head base.size)) → IsFinishedList later f geometry.block_size (record { head = head; size = size; in_flight = true })
 ends_by map later e f geometry now device h base shared head size same also hand others list blocks released =
     ends map later e f geometry.block_size h base shared head size hand others
@@ -109,7 +109,7 @@ base_chain d geometry now head size n same is (inr list) =
     subst (λ k. AreListBlocks d k head) (sym (is ∙ ap (λ (k : Geometry). block_count_for k.block_size size) same)) list.blocks
 
 -- a base stays while the list's last block is written
-pub base_end : (map : BlockStates) (e f : Blocks) (geometry device : Geometry) (h : GrowingList) (base : StoredList) (shared : ℕ) → device ≡ geometry → CanEndOver map e geometry.block_size h base shared → SameExceptThese (unwritten_block h) e f
+pub base_end : (map : BlockStates) (e f : Blocks) (geometry device : Geometry) (h : GrowingList) (base : StoredList) (shared : ℕ) → device ≡ geometry → CanEndOver map e geometry.block_size h base shared → SameExceptBlocks (unwritten_block h) e f
     → IsListOrEmpty f device.block_size base.head base.size
 base_end map e f geometry device h base shared same hand others =
     subst (λ (k : Geometry). IsListOrEmpty f k.block_size base.head base.size) (sym same)

@@ -2,7 +2,7 @@
 use Rattle.std.proofs.Common.{ℕ, zero, suc, get_or, subst, ◌^◌, ◌≡◌, ◌≢◌, ◌+◌, ◌*◌, ◌-◌, ◌<◌, ◌≤◌, List, [], ◌∷◌, ◌++◌, length, take, drop, refl, sym, ap, ◌∙◌, arith, append_assoc, length-append, length-drop}
 use Rattle.std.specs.Prelude.{All}
 use Rattle.std.specs.List.{IsDistinct}
-use Rattle.lfs_file.proofs.Common.{append-nil, take_at, take_all, take-take, drop-append-le, drop-take, length-take-le, take-append-add, Blocks, HasBlockSizes, SameExcept, block_bytes, overwritten_at, pointer_count, block_capacity, bytes_before_block, blocks_to_head, block_count_for, AreListBlocks, block_data, data_same, IsListOf, blocks_data, IsRestShared}
+use Rattle.lfs_file.proofs.Common.{append-nil, take_at, take_all, take-take, drop-append-le, drop-take, length-take-le, take-append-add, Blocks, HasBlockSizes, SameExcept, block_bytes, overwritten_at, pointer_count, block_capacity, bytes_before_block, blocks_to_head, block_count_for, AreListBlocks, block_data, data_same, ListHoldsBytes, blocks_data, IsRestShared}
 use Rattle.lfs_file.specs.Growing.{IsRestUnwritten}
 use Rattle.lfs_file.proofs.Chains.{length_back}
 use Rattle.lfs_file.proofs.Grown.{same_apart}
@@ -71,7 +71,7 @@ length-full d block_size count full head large shape chain =
 
 -- a list of so many blocks
 at_end : (d : Blocks) (block_size head size n : ℕ) (content : List ℕ) → 1 ≤ size → size < 2 ^ 31 → block_count_for block_size size ≡ n → AreListBlocks d n head → take size (blocks_data d (blocks_to_head d n head)) ≡ content
-    → IsListOf d block_size head size content (blocks_to_head d n head)
+    → ListHoldsBytes d block_size head size content (blocks_to_head d n head)
 at_end d block_size head size n content low high count chain is =
     let whole : AreListBlocks d (block_count_for block_size size) head = subst (λ k. AreListBlocks d k head) (sym count) chain in
     record {
@@ -82,7 +82,7 @@ at_end d block_size head size n content low high count chain is =
 
 -- with nothing after the full blocks
 pub end_closed : (d : Blocks) (block_size count full head size : ℕ) → 1024 ≤ block_size → HasBlockSizes block_size count d → AreListBlocks d full head → 1 ≤ size → size < 2 ^ 31 → size ≡ bytes_before_block block_size full
-    → IsListOf d block_size head size (blocks_data d (blocks_to_head d full head)) (blocks_to_head d full head)
+    → ListHoldsBytes d block_size head size (blocks_data d (blocks_to_head d full head)) (blocks_to_head d full head)
 end_closed d block_size count zero head size large shape chain low high is = absurd (omega arith)
 end_closed d block_size count (suc full) head size large shape chain low high is =
     let one = block_capacity-pos block_size full large in
@@ -95,7 +95,7 @@ end_closed d block_size count (suc full) head size large shape chain low high is
 pub end_open : (d e : Blocks) (block_size count full head block size : ℕ) (rest : List ℕ) → 1024 ≤ block_size → HasBlockSizes block_size count d → AreListBlocks d full head → AreListBlocks e (full + 1) block
     → blocks_data e (blocks_to_head e (full + 1) block) ≡ blocks_data d (blocks_to_head d full head) ++ block_data e (full, block) → take (length rest) (block_data e (full, block)) ≡ rest
     → 1 ≤ length rest → length rest ≤ block_capacity block_size full → size < 2 ^ 31 → size ≡ bytes_before_block block_size full + length rest
-    → IsListOf e block_size block size (blocks_data d (blocks_to_head d full head) ++ rest) (blocks_to_head e (full + 1) block)
+    → ListHoldsBytes e block_size block size (blocks_data d (blocks_to_head d full head) ++ rest) (blocks_to_head e (full + 1) block)
 end_open d e block_size count full head block size rest large shape chain more bytes begins some short high is =
     let all = length-full d block_size count full head large shape chain in
     let above = block_count_for-above block_size size full large (omega arith) in
@@ -109,7 +109,7 @@ end_open d e block_size count full head block size rest large shape chain more b
 
 -- the ends of a list that grows
 pub closed_end : (d : Blocks) (block_size count full head size : ℕ) (rest : List ℕ) → 1024 ≤ block_size → HasBlockSizes block_size count d → AreListBlocks d full head → rest ≡ []
-    → 1 ≤ size → size < 2 ^ 31 → size ≡ bytes_before_block block_size full + length rest → IsListOf d block_size head size (blocks_data d (blocks_to_head d full head) ++ rest) (blocks_to_head d full head ++ [])
+    → 1 ≤ size → size < 2 ^ 31 → size ≡ bytes_before_block block_size full + length rest → ListHoldsBytes d block_size head size (blocks_data d (blocks_to_head d full head) ++ rest) (blocks_to_head d full head ++ [])
 closed_end d block_size count full head size rest large shape chain none low high is =
     let end = end_closed d block_size count full head size large shape chain low high (omega (arith, is, ap length none)) in
     record {
@@ -120,7 +120,7 @@ closed_end d block_size count full head size rest large shape chain none low hig
 
 pub shared_end : (d : Blocks) (block_size count full head block size : ℕ) (rest : List ℕ) → 1024 ≤ block_size → HasBlockSizes block_size count d → AreListBlocks d full head → IsRestShared d full head rest block
     → length rest ≤ block_capacity block_size full → size < 2 ^ 31 → size ≡ bytes_before_block block_size full + length rest
-    → IsListOf d block_size block size (blocks_data d (blocks_to_head d full head) ++ rest) (blocks_to_head d full head ++ block ∷ [])
+    → ListHoldsBytes d block_size block size (blocks_data d (blocks_to_head d full head) ++ rest) (blocks_to_head d full head ++ block ∷ [])
 shared_end d block_size count full head block size rest large shape chain shared short high is =
     let end = end_open d d block_size count full head block size rest large shape chain shared.chain (joined_back d full head block shared.back) shared.begins shared.some short high is in
     record { list = end.list; bytes = end.bytes; blocks = end.blocks ∙ shared.back }
@@ -128,7 +128,7 @@ shared_end d block_size count full head block size rest large shape chain shared
 pub handed_end : (d e : Blocks) (block_size count full head block size : ℕ) (rest : List ℕ) → 1024 ≤ block_size → HasBlockSizes block_size count d → AreListBlocks d full head → IsRestUnwritten d full head rest block
     → AreListBlocks e (full + 1) block → blocks_to_head e (full + 1) block ≡ blocks_to_head d full head ++ block ∷ [] → SameExcept block d e → take (length rest) (block_data e (full, block)) ≡ rest
     → length rest ≤ block_capacity block_size full → size < 2 ^ 31 → size ≡ bytes_before_block block_size full + length rest
-    → IsListOf e block_size block size (blocks_data d (blocks_to_head d full head) ++ rest) (blocks_to_head d full head ++ block ∷ [])
+    → ListHoldsBytes e block_size block size (blocks_data d (blocks_to_head d full head) ++ rest) (blocks_to_head d full head ++ block ∷ [])
 handed_end d e block_size count full head block size rest large shape chain handed more back same begins short high is =
     let end = end_open d e block_size count full head block size rest large shape chain more (joined_grown d e full head block back same handed.apart) begins handed.some short high is in
     record { list = end.list; bytes = end.bytes; blocks = end.blocks ∙ back }

@@ -1,7 +1,7 @@
 -- How many blocks are in flight, and what a write makes of the contents.
 use Rattle.std.proofs.Common.{ℕ, ◌≡◌, ◌≢◌, ◌+◌, ◌*◌, ◌-◌, ◌≤◌, inl, inr, ⊎_elim, Bool, true, false, if◌then◌else◌, List, [], ◌++◌, length, take, drop, max, min, replicate, refl, sym, ap, ◌∙◌, subst, arith, length-append, length-drop}
 use Rattle.std.specs.Prelude.{Contains}
-use Rattle.lfs_file.proofs.Common.{drop-append-add, cases_eq, cases_lt, Contains-append_left, Contains-append_right, append-nil, take_all, drop_all, length-replicate, length-take, length-take-le, replicate-append-replicate, take_at, drop-drop, Blocks, HasBlockSizes, BlockStates, in_flight_count, written_contents, zero_padded, blocks_to_head, block_count_for, list_bytes, GrowingList, IsOnDisk, growing_bytes, blocks_data, lasting_blocks, unwritten_block, growing_size_with, KeepsTakenBytes, IsListOrEmpty, blocks_of_list, SharesFirstBlocks, IsFinishedList, stored_list_bytes, in_flight_limit, length_back, block_count_for-more}
+use Rattle.lfs_file.proofs.Common.{drop-append-add, cases_eq, cases_lt, Contains-append_left, Contains-append_right, append-nil, take_all, drop_all, length-replicate, length-take, length-take-le, replicate-append-replicate, take_at, drop-drop, Blocks, HasBlockSizes, BlockStates, in_flight_count, written_contents, zero_padded, blocks_to_head, block_count_for, list_bytes, GrowingList, DiskHasList, growing_bytes, blocks_data, lasting_blocks, unwritten_block, growing_size_with, KeepsTakenBytes, IsListOrEmpty, blocks_of_list, SharesFirstBlocks, IsFinishedList, stored_list_bytes, in_flight_limit, length_back, block_count_for-more}
 use Rattle.lfs_model.specs.format.Blocks.{overwritten_at as in_block}
 use Rattle.lfs_model.proofs.Overwrites.{overwritten_next, overwritten_none}
 use Rattle.lfs_device.specs.declared.geometry.Geometry.{Geometry}
@@ -18,7 +18,7 @@ pub shaped : (d : Blocks) (geometry now : Geometry) → geometry ≡ now → Has
 shaped d geometry now same shape = subst (λ (k : Geometry). HasBlockSizes k.block_size geometry.block_count d) same shape
 
 -- a list in hand has as many bytes as its size says
-pub length-content : (d : Blocks) (block_size count : ℕ) (g : GrowingList) → 1024 ≤ block_size → HasBlockSizes block_size count d → IsOnDisk d g → length (growing_bytes d g) ≡ growing_size_with block_size g
+pub length-content : (d : Blocks) (block_size count : ℕ) (g : GrowingList) → 1024 ≤ block_size → HasBlockSizes block_size count d → DiskHasList d g → length (growing_bytes d g) ≡ growing_size_with block_size g
 length-content d block_size count g large shape growing =
     omega (arith, length-append (blocks_data d (blocks_to_head d g.full g.head)) g.rest, length-back_data d block_size count g.full g.head large shape growing.chain.in_range)
 
@@ -127,7 +127,7 @@ more_zeros old now new part at size done n le so_far is zeros written =
     ∙ ap (written_contents old at) (replicate-append-replicate done n 0)
 
 -- the bytes in hand are among the contents
-pub in_hand : (d : Blocks) (block_size count : ℕ) (g : GrowingList) (base : StoredList) → 1024 ≤ block_size → HasBlockSizes block_size count d → IsOnDisk d g → growing_size_with block_size g ≤ length (bytes_over_base d block_size g base)
+pub in_hand : (d : Blocks) (block_size count : ℕ) (g : GrowingList) (base : StoredList) → 1024 ≤ block_size → HasBlockSizes block_size count d → DiskHasList d g → growing_size_with block_size g ≤ length (bytes_over_base d block_size g base)
 in_hand d block_size count g base large shape growing =
     omega (arith, length-content d block_size count g large shape growing, length-append (growing_bytes d g) (drop (growing_size_with block_size g) (stored_list_bytes d block_size base)))
 
@@ -148,7 +148,7 @@ length-base d block_size count head size large shape (inl none) = omega (arith, 
 length-base d block_size count head size large shape (inr list) = length-list_bytes d block_size count head size large shape list
 
 -- the contents are as long as the longer of both
-pub length-hand : (d : Blocks) (block_size count : ℕ) (g : GrowingList) (base : StoredList) → 1024 ≤ block_size → HasBlockSizes block_size count d → IsOnDisk d g → IsListOrEmpty d block_size base.head base.size → length (bytes_over_base d block_size g base) ≡ max (growing_size_with block_size g) base.size
+pub length-hand : (d : Blocks) (block_size count : ℕ) (g : GrowingList) (base : StoredList) → 1024 ≤ block_size → HasBlockSizes block_size count d → DiskHasList d g → IsListOrEmpty d block_size base.head base.size → length (bytes_over_base d block_size g base) ≡ max (growing_size_with block_size g) base.size
 length-hand d block_size count g base large shape growing based =
     omega (
       arith,

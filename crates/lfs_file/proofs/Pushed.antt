@@ -1,7 +1,7 @@
 -- A list that grows by blocks that were taken for it.
 use Rattle.std.proofs.Common.{ℕ, ◌≡◌, ◌≢◌, ◌+◌, inl, inr, ⊎_elim, get_or, List, ◌++◌, length, take, drop, Some, refl, sym, ap, ◌∙◌, subst, arith, length-append}
 use Rattle.std.specs.Prelude.{All, Contains}
-use Rattle.lfs_file.proofs.Common.{take_at, drop-append-add, All-append, Contains-append_right, Blocks, SameExceptThese, BlockStates, IsFree, IsInFlight, in_flight_count, Free, InFlight, CallEvent, LossLeavesAtWorst, HoldsAtLosses, StayUnprogrammed, blocks_to_head, AllCallsSince-weaker, length_back, ChangesTheseBlocks, KeepsTakenBlocks, GrowingList, lasting_blocks, unwritten_block, GrowsInFree, IsTakenNotPending, HasBlocksTaken, KeepsTakenBytes, TakenStayUnprogrammed, TakesFreeBlocks}
+use Rattle.lfs_file.proofs.Common.{take_at, drop-append-add, All-append, Contains-append_right, Blocks, SameExceptBlocks, BlockStates, IsFree, IsInFlight, in_flight_count, Free, InFlight, CallEvent, LossLeavesAtWorst, HoldsAtLosses, StayUnprogrammed, blocks_to_head, AllCallsSince-weaker, length_back, ChangesTheseBlocks, KeepsTakenBlocks, GrowingList, lasting_blocks, unwritten_block, GrowsInFree, IsTakenNotPending, HasBlocksTaken, KeepsTakenBytes, TakenStayUnprogrammed, TakesFreeBlocks}
 use Rattle.lfs_device.specs.declared.device.BlockDevice.{Ghosts}
 use Rattle.lfs_file.proofs.Growth.{cases_in_flight}
 use Rattle.lfs_file.proofs.Takings.{came, others_stay}
@@ -13,7 +13,7 @@ length-kept d g = omega (arith, length-append (blocks_to_head d g.full g.head) (
 apart_these : (map later : BlockStates) (pending blocks : List ℕ) → TakesFreeBlocks map later blocks → (b : ℕ) → IsTakenNotPending map pending b → All (λ x. x ≢ b) (pending ++ blocks)
 apart_these map later pending blocks takes b apart = All-append (λ x. x ≢ b) pending blocks apart.1 (λ k x l e. apart.0 (subst (IsFree map) e (takes.free k x l)))
 
-pub spares_by : (map later : BlockStates) (pending blocks : List ℕ) (d e : Blocks) → TakesFreeBlocks map later blocks → SameExceptThese (pending ++ blocks) d e → KeepsTakenBytes map pending d e
+pub spares_by : (map later : BlockStates) (pending blocks : List ℕ) (d e : Blocks) → TakesFreeBlocks map later blocks → SameExceptBlocks (pending ++ blocks) d e → KeepsTakenBytes map pending d e
 spares_by map later pending blocks d e takes same = record {
   count = same.count;
   sizes = same.sizes;
@@ -23,7 +23,7 @@ spares_by map later pending blocks d e takes same = record {
 pub pages_by : (map later : BlockStates) (pending blocks : List ℕ) (a b : List CallEvent) → TakesFreeBlocks map later blocks → StayUnprogrammed (pending ++ blocks) a b → TakenStayUnprogrammed map pending a b
 pages_by map later pending blocks a b takes stay = record { stays = λ k i apart was. stay.stays k i (apart_these map later pending blocks takes k apart) was }
 
-pub stops_by : (map later : BlockStates) (pending blocks : List ℕ) (d : Blocks) (a b : List CallEvent) → TakesFreeBlocks map later blocks → HoldsAtLosses LossLeavesAtWorst a b (SameExceptThese (pending ++ blocks) d) → HoldsAtLosses LossLeavesAtWorst a b (KeepsTakenBytes map pending d)
+pub stops_by : (map later : BlockStates) (pending blocks : List ℕ) (d : Blocks) (a b : List CallEvent) → TakesFreeBlocks map later blocks → HoldsAtLosses LossLeavesAtWorst a b (SameExceptBlocks (pending ++ blocks) d) → HoldsAtLosses LossLeavesAtWorst a b (KeepsTakenBytes map pending d)
 stops_by map later pending blocks d a b takes leaves = AllCallsSince-weaker (λ e all left stop. spares_by map later pending blocks d left takes (all left stop)) leaves
 
 module _ (map later : BlockStates) (d e : Blocks) (g h : GrowingList) (blocks : List ℕ) (takes : TakesFreeBlocks map later blocks) (marked : HasBlocksTaken map d g)

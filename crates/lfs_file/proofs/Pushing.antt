@@ -2,7 +2,7 @@
 use Rattle.std.proofs.Common.{ℕ, false, suc, ◌≡◌, ◌≢◌, ◌+◌, ◌-◌, ◌<◌, ◌≤◌, ⊎_elim, nat_eq, get_or, List, [], ◌∷◌, ◌++◌, length, take, slice_index, refl, sym, ap, subst, ◌∙◌, arith, append_assoc, length-append}
 use Rattle.std.specs.Prelude.{All}
 use Rattle.std.specs.List.{IsDistinct}
-use Rattle.lfs_file.proofs.Common.{cases_lt, eqb-false, append-nil, get_or_append_left, get_or-take, length-take-le, take_more, get_or_default, All-cons, All-nil, apart_from_distinct, Blocks, CallEvent, StayUnprogrammed, StayUnprogrammed-trans, block_capacity, blocks_to_head, block_count_for, GrowingList, unwritten_rest_block, rest_block, rest_lacks_block, lacks_last_block, unwritten_block, lasting_blocks, growing_blocks, growing_size_with, block_for_next, IsRestAt, IsOnDisk}
+use Rattle.lfs_file.proofs.Common.{cases_lt, eqb-false, append-nil, get_or_append_left, get_or-take, length-take-le, take_more, get_or_default, All-cons, All-nil, apart_from_distinct, Blocks, CallEvent, StayUnprogrammed, StayUnprogrammed-trans, block_capacity, blocks_to_head, block_count_for, GrowingList, unwritten_rest_block, rest_block, rest_lacks_block, lacks_last_block, unwritten_block, lasting_blocks, growing_blocks, growing_size_with, block_for_push, IsRestAt, DiskHasList}
 use Rattle.std.proofs.lemmas.List.{get_or-append-add}
 use Rattle.lfs_model.proofs.Histories.{StayUnprogrammed-wider}
 use Rattle.lfs_file.specs.declared.rest.RestLocation.{RestLocation}
@@ -22,7 +22,7 @@ among_handed pending blocks used lt other apart is =
 
 -- the block that takes the next bytes is among them
 pub next_among : (t : RestLocation) (handed pending blocks : List ℕ) (used : ℕ) → handed ≡ pending ++ blocks → (unwritten_rest_block t ≡ [] → used < length blocks)
-    → ((other : ℕ) → All (λ b. b ≢ other) handed → All (λ b. b ≢ other) (unwritten_rest_block t)) → (other : ℕ) → All (λ b. b ≢ other) handed → (block_for_next t blocks used).0 ≢ other
+    → ((other : ℕ) → All (λ b. b ≢ other) handed → All (λ b. b ≢ other) (unwritten_rest_block t)) → (other : ℕ) → All (λ b. b ≢ other) handed → (block_for_push t blocks used).0 ≢ other
 next_among Closed handed pending blocks used is some among other apart = among_handed pending blocks used (some refl) other (subst (All (λ b. b ≢ other)) is apart)
 next_among (Shared b) handed pending blocks used is some among other apart = among_handed pending blocks used (some refl) other (subst (All (λ b. b ≢ other)) is apart)
 next_among (Handed b) handed pending blocks used is some among other apart = among other apart 0 0 (omega arith)
@@ -45,7 +45,7 @@ apart_before back front blocks used lt is distinct apart k x l e =
     (cases_lt k (length front))
 
 pub next_apart : (d : Blocks) (full head : ℕ) (rest : List ℕ) (t : RestLocation) (front blocks : List ℕ) (used : ℕ) → IsRestAt d full head rest t → (unwritten_rest_block t ≡ [] → used < length blocks)
-    → blocks_to_head d full head ++ unwritten_rest_block t ≡ front ++ take used blocks → IsDistinct nat_eq blocks → All (λ b. All (λ c. c ≢ b) front) blocks → All (λ c. c ≢ (block_for_next t blocks used).0) (blocks_to_head d full head)
+    → blocks_to_head d full head ++ unwritten_rest_block t ≡ front ++ take used blocks → IsDistinct nat_eq blocks → All (λ b. All (λ c. c ≢ b) front) blocks → All (λ c. c ≢ (block_for_push t blocks used).0) (blocks_to_head d full head)
 next_apart d full head rest Closed front blocks used stand some is distinct apart = apart_before (blocks_to_head d full head) front blocks used (some refl) (sym (append-nil (blocks_to_head d full head)) ∙ is) distinct apart
 next_apart d full head rest (Shared b) front blocks used stand some is distinct apart =
     apart_before (blocks_to_head d full head) front blocks used (some refl) (sym (append-nil (blocks_to_head d full head)) ∙ is) distinct apart
@@ -55,13 +55,13 @@ next_apart d full head rest Held front blocks used stand some is distinct apart 
 
 -- and it is on the device
 pub next_inside : (d : Blocks) (full head : ℕ) (rest : List ℕ) (t : RestLocation) (blocks : List ℕ) (used n : ℕ) → length d ≡ n → IsRestAt d full head rest t → (unwritten_rest_block t ≡ [] → used < length blocks) → All (λ b. b < n) blocks
-    → (block_for_next t blocks used).0 < n
+    → (block_for_push t blocks used).0 < n
 next_inside d full head rest Closed blocks used n count stand some inside = inside used 0 (some refl)
 next_inside d full head rest (Shared b) blocks used n count stand some inside = inside used 0 (some refl)
 next_inside d full head rest (Handed b) blocks used n count stand some inside = omega (arith, stand.in_range, count)
 next_inside d full head rest Held blocks used n count stand some inside = inside used 0 (some refl)
 
-pub next_some : (t : RestLocation) (blocks : List ℕ) (used : ℕ) → (unwritten_rest_block t ≡ [] → used < length blocks) → used ≤ length blocks → (block_for_next t blocks used).1 ≤ length blocks
+pub next_some : (t : RestLocation) (blocks : List ℕ) (used : ℕ) → (unwritten_rest_block t ≡ [] → used < length blocks) → used ≤ length blocks → (block_for_push t blocks used).1 ≤ length blocks
 next_some Closed blocks used some le = let lt = some refl in omega arith
 next_some (Shared b) blocks used some le = let lt = some refl in omega arith
 next_some (Handed b) blocks used some le = le
@@ -74,7 +74,7 @@ one_used back front blocks used lt is =
     ∙ ap (λ (l : List ℕ). front ++ l) (sym (take_more blocks used 0 lt))
 
 pub next_kept : (t : RestLocation) (back front blocks : List ℕ) (used : ℕ) → (unwritten_rest_block t ≡ [] → used < length blocks) → back ++ unwritten_rest_block t ≡ front ++ take used blocks
-    → back ++ (block_for_next t blocks used).0 ∷ [] ≡ front ++ take (block_for_next t blocks used).1 blocks
+    → back ++ (block_for_push t blocks used).0 ∷ [] ≡ front ++ take (block_for_push t blocks used).1 blocks
 next_kept Closed back front blocks used some is = one_used back front blocks used (some refl) is
 next_kept (Shared b) back front blocks used some is = one_used back front blocks used (some refl) is
 next_kept (Handed b) back front blocks used some is = is
@@ -106,7 +106,7 @@ still_some d e block_size was now blocks used done total large le is count sum l
     omega (arith, counted, more, count, ap length none)
 
 -- at the end all are used
-size_fits : (d : Blocks) (block_size : ℕ) (g : GrowingList) → 1024 ≤ block_size → IsOnDisk d g → length g.rest < block_capacity block_size g.full → growing_blocks d g ≡ lasting_blocks d g → rest_lacks_block g ≡ false
+size_fits : (d : Blocks) (block_size : ℕ) (g : GrowingList) → 1024 ≤ block_size → DiskHasList d g → length g.rest < block_capacity block_size g.full → growing_blocks d g ≡ lasting_blocks d g → rest_lacks_block g ≡ false
     → block_count_for block_size (growing_size_with block_size g) ≤ g.full + length (unwritten_block g)
 size_fits d block_size g large held short own listed = go g.stand held.stand listed own
   where
@@ -119,7 +119,7 @@ size_fits d block_size g large held short own listed = go g.stand held.stand lis
     go Held none out e = absurd (cc)
 
 pub all_used : (d e : Blocks) (block_size : ℕ) (was now : GrowingList) (blocks : List ℕ) (used total : ℕ) → 1024 ≤ block_size → used ≤ length blocks → lasting_blocks e now ≡ lasting_blocks d was ++ take used blocks
-    → length blocks ≡ block_count_for block_size (growing_size_with block_size was + total) - (was.full + length (unwritten_block was)) → growing_size_with block_size now ≡ growing_size_with block_size was + total → IsOnDisk e now → length now.rest < block_capacity block_size now.full → growing_blocks e now ≡ lasting_blocks e now
+    → length blocks ≡ block_count_for block_size (growing_size_with block_size was + total) - (was.full + length (unwritten_block was)) → growing_size_with block_size now ≡ growing_size_with block_size was + total → DiskHasList e now → length now.rest < block_capacity block_size now.full → growing_blocks e now ≡ lasting_blocks e now
     → rest_lacks_block now ≡ false → length blocks ≤ used
 all_used d e block_size was now blocks used total large le is count sum held short own listed =
     let counted = kept_count d e was now blocks used le is in

@@ -1,6 +1,6 @@
 -- The bytes of an extender that do not fill a block.
 use Rattle.std.proofs.Common.{Global, Vec, ℕ, ◌≡◌, ◌<◌, ◌+◌, ◌-◌, ◌*◌, ◌^◌, length, drop, sym, subst, arith, length-drop}
-use Rattle.lfs_file.proofs.Common.{length-take-le, pointer_count, IsExtender, growing_view, AreConsistent, OnlyBelowKnown, GrowingList, IsRestShort, growing_size}
+use Rattle.lfs_file.proofs.Common.{length-take-le, pointer_count, IsExtender, growing_view, CountsAgree, OnlyBelowKnown, GrowingList, IsRestShort, growing_size}
 use Rattle.lfs_file.specs.declared.block.FullBlocks.{FullBlocks}
 use Rattle.lfs_file.specs.declared.extender.ExtenderState.{ExtenderState}
 
@@ -19,7 +19,7 @@ pub after_write : (e : ExtenderState) (buffer : Vec ℕ Global) (front : FullBlo
     → (OnlyBelowKnown e.front.count e.front.known → OnlyBelowKnown front.count front.known) → IsExtender (record e { buffer = buffer; front = front })
 after_write e buffer front has size same below = record {
   one_block = size;
-  in_step = subst (λ n. AreConsistent e.geometry.block_size n e.filled e.size) (sym same) has.in_step;
+  in_step = subst (λ n. CountsAgree e.geometry.block_size n e.filled e.size) (sym same) has.in_step;
   known = below has.known;
 }
 

@@ -2,7 +2,7 @@
 use Rattle.std.proofs.Common.{ℕ, zero, suc, ◌≡◌, ◌+◌, ◌*◌, ◌-◌, ◌<◌, ◌≤◌, ◌^◌, nat_eq, false, get_or, List, [], ◌∷◌, ◌++◌, length, take, drop, slice_index, refl, sym, ap, subst, ◌∙◌, arith, add-one, length-drop}
 use Rattle.std.specs.Prelude.{All}
 use Rattle.std.specs.List.{IsDistinct}
-use Rattle.lfs_file.proofs.Common.{one-le-pow, take-append-add, append-nil, take_at, take_more, drop_more, take-take, take-append-le, take-append-drop, get_or-take, length-take-le, IsDistinct-from_apart, apart_from_distinct, Blocks, HasBlockSizes, block_bytes, word_at, pointer_count, bytes_before_block, blocks_to_head, block_count_for, AreListBlocks, IsSkipList, IsBytePlace, block_data, list_bytes, IsListOf, blocks_data, IsRestShared, AllSized}
+use Rattle.lfs_file.proofs.Common.{one-le-pow, take-append-add, append-nil, take_at, take_more, drop_more, take-take, take-append-le, take-append-drop, get_or-take, length-take-le, IsDistinct-from_apart, apart_from_distinct, Blocks, HasBlockSizes, block_bytes, word_at, pointer_count, bytes_before_block, blocks_to_head, block_count_for, AreListBlocks, IsSkipList, IsBytePlace, block_data, list_bytes, ListHoldsBytes, blocks_data, IsRestShared, AllSized}
 use Rattle.lfs_file.proofs.Sizes.{pointer_count-le, block_count_for-place, place-lt}
 use Rattle.lfs_file.proofs.Chains.{length_back, back-pointer0}
 use Rattle.lfs_file.proofs.Filling.{none_chain}
@@ -75,7 +75,7 @@ module _ (d : Blocks) (block_size count head size keep i off block : ℕ) (large
       )
 
   -- it is a list
-  pub front_end : keep < 2 ^ 31 → IsListOf d block_size block keep (take keep (list_bytes d block_size head size)) (take (block_count_for block_size keep) bs)
+  pub front_end : keep < 2 ^ 31 → ListHoldsBytes d block_size block keep (take keep (list_bytes d block_size head size)) (take (block_count_for block_size keep) bs)
   front_end few =
       let split = joined_split (i + 1) (let l = low in omega arith) in
       let whole : AreListBlocks d (block_count_for block_size keep) block = subst (λ k. AreListBlocks d k block) (sym few_blocks) front_chain in

@@ -3,11 +3,11 @@ use Rattle.std.proofs.Common.{ℕ, ◌≡◌, ◌+◌, ◌*◌, ◌<◌, ◌≤�
 use Rattle.std.specs.Prelude.{◌==◌}
 use Rattle.lfs_file.proofs.Common.{cases_lt, inline_limit, block_count_for, FileWriter, reserved_for_writer, truncated_writer, written_writer, write_position, ContentsForm, InMemory, Finished, InHand, form_size, form_written_within, IsWriterForm, truncation_room, write_room}
 use Rattle.lfs_model.specs.declared.limits.Profile.{Profile}
-use Rattle.lfs_file.specs.Contents.{FormFitsInline, NeedsTruncateRoom, finish_room}
+use Rattle.lfs_file.specs.Contents.{FormFitsLimit, NeedsTruncateRoom, finish_room}
 use Rattle.lfs_file.proofs.Forms.{kept_truncated, kept_written, room_ended, room_grown, room_turned, written_many}
 use Rattle.lfs_file.proofs.Truncations.{longer_room, room_shorter, truncated_longer}
 
-pub kept_large : (profile : Profile) (block_size : ℕ) (form : ContentsForm) (w : FileWriter) → IsWriterForm profile block_size form w → FormFitsInline (inline_limit profile block_size) form
+pub kept_large : (profile : Profile) (block_size : ℕ) (form : ContentsForm) (w : FileWriter) → IsWriterForm profile block_size form w → FormFitsLimit (inline_limit profile block_size) form
 kept_large profile block_size (InMemory size) w kept = kept.fits
 kept_large profile block_size (Finished size flying) w kept = kept.fits.large
 kept_large profile block_size (InHand stop base flying) w kept = kept.fits.large

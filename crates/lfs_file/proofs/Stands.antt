@@ -1,7 +1,7 @@
 -- What a list that grows shows on a disk, and on one where the same bytes are in its blocks.
 use Rattle.std.proofs.Common.{ℕ, true, ◌≡◌, ◌≢◌, ◌+◌, ◌*◌, ◌-◌, ◌<◌, List, [], ◌∷◌, ◌++◌, length, take, drop, refl, sym, ap, ap₂, subst, ◌∙◌, arith, length-append}
 use Rattle.std.specs.Prelude.{All}
-use Rattle.lfs_file.proofs.Common.{recursion_from_All, Same, back_same, data_same, Blocks, HasBlockSizes, block_bytes, AreListBlocks, bytes_before_block, blocks_to_head, pointer_count, ListHasBytes, HasBufferedBytes, GrowingList, IsOnDisk, IsAllBuffered, IsRestAt, IsRestShort, growing_blocks, growing_bytes, lacks_last_block, blocks_data, lasting_blocks, rest_block, unwritten_rest_block, growing_size_with, AreKnownBlocks}
+use Rattle.lfs_file.proofs.Common.{recursion_from_All, Same, back_same, data_same, Blocks, HasBlockSizes, block_bytes, AreListBlocks, bytes_before_block, blocks_to_head, pointer_count, ListHasBytes, HasBufferedBytes, GrowingList, DiskHasList, IsAllBuffered, IsRestAt, IsRestShort, growing_blocks, growing_bytes, lacks_last_block, blocks_data, lasting_blocks, rest_block, unwritten_rest_block, growing_size_with, AreKnownBlocks}
 use Rattle.lfs_device.specs.declared.geometry.Geometry.{Geometry}
 use Rattle.lfs_model.proofs.Counts.{each_left, each_right}
 use Rattle.lfs_model.proofs.Files.{chain_same}
@@ -34,7 +34,7 @@ module _ (d later : Blocks) (count : length later ≡ length d) where
       }
   rest_same full head rest Held same is = is
 
-  pub still : (g : GrowingList) → All IsSame (growing_blocks d g) → IsOnDisk d g → SameListLater d later g
+  pub still : (g : GrowingList) → All IsSame (growing_blocks d g) → DiskHasList d g → SameListLater d later g
   still g same is =
       let each : Same d later (blocks_to_head d g.full g.head ++ rest_block g.stand) = recursion_from_All IsSame (growing_blocks d g) same in
       let front = each_left IsSame (blocks_to_head d g.full g.head) (rest_block g.stand) each in
@@ -48,7 +48,7 @@ module _ (d later : Blocks) (count : length later ≡ length d) where
 
 -- what a list shows, from what doesn't follow
 pub is_grown : (divided : Geometry) (d : Blocks) (e : GrowingList) (bytes : List ℕ) (size count : ℕ) (own all : List ℕ) → HasBlockSizes divided.block_size count d → e.geometry ≡ divided
-    → IsRestShort e.geometry.block_size e → IsOnDisk d e → growing_bytes d e ≡ bytes → growing_size_with divided.block_size e ≡ size → lasting_blocks d e ≡ own → growing_blocks d e ≡ all
+    → IsRestShort e.geometry.block_size e → DiskHasList d e → growing_bytes d e ≡ bytes → growing_size_with divided.block_size e ≡ size → lasting_blocks d e ≡ own → growing_blocks d e ≡ all
     → ListHasBytes divided d e bytes size own all
 is_grown divided d e bytes size count own all shape geometry short growing content sum kept blocks =
     let full = length-full d divided.block_size count e.full e.head divided.valid.no_smaller shape growing.chain in
@@ -75,7 +75,7 @@ module _ (divided : Geometry) (e : GrowingList) (bytes : List ℕ) (size : ℕ) 
   nothing : (d : Blocks) → blocks_to_head d e.full e.head ≡ []
   nothing d = ap (λ k. blocks_to_head d k e.head) none
 
-  alone : (d : Blocks) → IsOnDisk d e → lasting_blocks d e ≡ [] → growing_blocks d e ≡ [] → ListHasBytes divided d e bytes size [] []
+  alone : (d : Blocks) → DiskHasList d e → lasting_blocks d e ≡ [] → growing_blocks d e ≡ [] → ListHasBytes divided d e bytes size [] []
   alone d growing kept blocks = record {
     geometry = geometry;
     growing = growing;

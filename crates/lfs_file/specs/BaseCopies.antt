@@ -7,12 +7,12 @@ use Rattle.lfs_model.specs.format.SkipLists.{block_count_for}
 use Rattle.lfs_file.specs.Bases.{IsBaseApart}
 use Rattle.lfs_file.specs.BlocksApart.{HasBlocksTaken}
 use Rattle.lfs_file.specs.Extensions.{CanEndAlone}
-use Rattle.lfs_file.specs.Growing.{GrowingList, IsOnDisk, lasting_blocks, unwritten_block}
+use Rattle.lfs_file.specs.Growing.{GrowingList, DiskHasList, lasting_blocks, unwritten_block}
 use Rattle.lfs_file.specs.declared.stored_list.StoredList.{StoredList}
 
 -- A list in hand of this device can be ended, and changes no block of the base. There are as many free blocks as the base has.
 pub record CanAppendBase (map : BlockStates) (disk : Blocks) (now : Geometry) (list : GrowingList) (base : StoredList) : Type 0 where
-  pub growing : IsOnDisk disk list
+  pub growing : DiskHasList disk list
   pub geometry : now ≡ list.geometry
   pub marked : HasBlocksTaken map disk list
   pub own : CanEndAlone disk list

@@ -22,7 +22,7 @@ pub record BuffersPointers (disk : Blocks) (front : FullBlocks) (old new : List 
   pub rest : drop (4 * pointer_count front.count) new ≡ drop (4 * pointer_count front.count) old
 
 -- a list has this block more, which has these bytes behind its pointers
-pub record IsAppendedWith (old new : Blocks) (count head b size : ℕ) (bytes : List ℕ) : Type 0 where
+pub record HasAppendedBlock (old new : Blocks) (count head b size : ℕ) (bytes : List ℕ) : Type 0 where
   pub appended : IsBlockAppended old new count head b
   pub held : take size (drop (4 * pointer_count count) (block_bytes new b)) ≡ bytes
 

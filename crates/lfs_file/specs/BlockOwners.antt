@@ -32,6 +32,6 @@ pub record AreFromBase (map : BlockStates) (block_size : ℕ) (old : Blocks) (ba
   pub owned : AreUsedAmong map (stored_blocks old block_size base) (stored_blocks new block_size now)
 
 -- the first blocks of a list, in flight where that one is
-pub record IsFrontOf (block_size : ℕ) (old : Blocks) (was : StoredList) (new : Blocks) (now : StoredList) : Type 0 where
+pub record HasOnlyBlocksOf (block_size : ℕ) (old : Blocks) (was : StoredList) (new : Blocks) (now : StoredList) : Type 0 where
   pub flying : now.in_flight ≡ was.in_flight
   pub among : (b : ℕ) → Contains (stored_blocks new block_size now) b → Contains (stored_blocks old block_size was) b

@@ -11,7 +11,7 @@ use Rattle.lfs_file.specs.declared.writes.PendingList.{PendingList}
 use Rattle.lfs_file.specs.BaseRoom.{in_flight_limit}
 use Rattle.lfs_file.specs.BlocksApart.{HasBlocksTaken}
 use Rattle.lfs_file.specs.Extending.{CanFollowBlocks}
-use Rattle.lfs_file.specs.Growing.{GrowingList, IsOnDisk, growing_size, lasting_blocks}
+use Rattle.lfs_file.specs.Growing.{GrowingList, DiskHasList, growing_size, lasting_blocks}
 use Rattle.lfs_file.specs.HandWrites.{IsUnfinishedList, unfinished_length}
 use Rattle.lfs_file.specs.Known.{AreKnownBlocks}
 use Rattle.lfs_file.specs.Way.{HasNotedPointers}
@@ -27,12 +27,12 @@ pub record IsFrontSize (keep size : ℕ) : Type 0 where
   pub within : keep ≤ size
 
 -- the number of a pointer, and the index of the block that it names
-pub record IsPointerInRange (k n : ℕ) : Type 0 where
+pub record PointerInRange (k n : ℕ) : Type 0 where
   pub pointer : k ≤ 32
   pub index : n < 2 ^ 32 - 1
 
 -- The block at the index can be checked: the pointers of the way to the first block are noted, and there is room for its own.
-pub record CanCheckBlock (disk : Blocks) (last n : ℕ) (words : List ℕ) (noted : WalkedBlocks) : Type 0 where
+pub record CanFollowBlock (disk : Blocks) (last n : ℕ) (words : List ℕ) (noted : WalkedBlocks) : Type 0 where
   pub some : 0 < n
   pub order : n ≤ last
   pub room : length words ≡ 128
@@ -78,7 +78,7 @@ pub record CanFillBlock {D : Type 0} (g : Ghosts D) (dev : D) (list : GrowingLis
 
 -- So many bytes can be appended to a list: it is on the disk, its blocks are marked, and there are blocks for the bytes.
 pub record CanExtendList (map : BlockStates) (disk : Blocks) (now : Geometry) (list : GrowingList) (count : ℕ) : Type 0 where
-  pub growing : IsOnDisk disk list
+  pub growing : DiskHasList disk list
   pub geometry : now ≡ list.geometry
   pub some : 1 ≤ count
   pub small : growing_size list + count < 2 ^ 31

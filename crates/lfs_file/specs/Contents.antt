@@ -53,10 +53,10 @@ pub record HaveBytesInForm (map : BlockStates) (disk : Blocks) (now : Geometry) 
   pub form : contents_form contents ≡ shape
 
 -- only contents past the limit have blocks in flight
-abbrev pub FormFitsInline : ℕ → ContentsForm → Type 0
-FormFitsInline limit (form.InMemory size) = size ≤ limit
-FormFitsInline limit (form.Finished size flying) = flying ≡ true → limit < size
-FormFitsInline limit (form.InHand stop base flying) = limit < max stop base
+abbrev pub FormFitsLimit : ℕ → ContentsForm → Type 0
+FormFitsLimit limit (form.InMemory size) = size ≤ limit
+FormFitsLimit limit (form.Finished size flying) = flying ≡ true → limit < size
+FormFitsLimit limit (form.InHand stop base flying) = limit < max stop base
 
 -- how many blocks in flight a write past the limit may take
 abbrev pub write_room : ℕ → ℕ → ℕ → ContentsForm → ℕ
@@ -95,7 +95,7 @@ NeedsTruncateRoom limit size (form.InHand stop base flying) = size ≢ max stop 
 -- So many bytes, at least one, may be written at a place. Past the limit there is room for the blocks that the form of the
 -- contents takes.
 pub record HasWriteRoom (map : BlockStates) (block_size : ℕ) (shape : ContentsForm) (limit place count : ℕ) : Type 0 where
-  pub large : FormFitsInline limit shape
+  pub large : FormFitsLimit limit shape
   pub short : limit < block_size
   pub some : 1 ≤ count
   pub small : place + count < 2 ^ 31
@@ -103,7 +103,7 @@ pub record HasWriteRoom (map : BlockStates) (block_size : ℕ) (shape : Contents
 
 -- The contents may be cut or filled up to a size. Where the size changes there is room for the blocks that the form takes.
 pub record HasTruncationRoom (map : BlockStates) (block_size : ℕ) (shape : ContentsForm) (limit size : ℕ) : Type 0 where
-  pub large : FormFitsInline limit shape
+  pub large : FormFitsLimit limit shape
   pub short : limit < block_size
   pub small : size < 2 ^ 31
   pub room : NeedsTruncateRoom limit size shape → used_count map + truncation_room block_size size shape ≤ length map

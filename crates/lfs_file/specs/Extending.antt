@@ -7,7 +7,7 @@ use Rattle.lfs_model.specs.format.Blocks.{Blocks}
 use Rattle.lfs_model.specs.format.SkipLists.{AreListBlocks, IsSkipList, blocks_to_head, block_count_for, list_bytes}
 use Rattle.lfs_file.specs.Extended.{ListHasBytes}
 use Rattle.lfs_file.specs.Known.{ArePointersKnown, ArePointedKnown}
-use Rattle.lfs_file.specs.Growing.{GrowingList, IsOnDisk, IsAllBuffered, HasUnwrittenAmong, growing_bytes, growing_size, rest_lacks_block, lasting_blocks, appended_count, unwritten_block}
+use Rattle.lfs_file.specs.Growing.{GrowingList, DiskHasList, IsAllBuffered, HasUnwrittenAmong, growing_bytes, growing_size, rest_lacks_block, lasting_blocks, appended_count, unwritten_block}
 
 -- an empty list of a device
 pub record IsEmptyList (divided : Geometry) (list : GrowingList) : Type 0 where
@@ -38,7 +38,7 @@ pub record HasBufferedBytes (divided : Geometry) (list : GrowingList) (bytes : L
 
 -- the device holds a list as it was left
 pub record HasGrowingList {D : Type 0} (g : Ghosts D) (dev : D) (list : GrowingList) : Type 0 where
-  pub growing : IsOnDisk (g.blocks dev) list
+  pub growing : DiskHasList (g.blocks dev) list
   pub geometry : g.geometry dev ≡ list.geometry
 
 -- a block of the device can follow the full ones of a list, and is none of them

@@ -3,7 +3,7 @@ use Rattle.std.specs.Prelude.{ℕ, ◌≡◌, false, List, length}
 use Rattle.lfs_model.specs.format.Blocks.{Blocks}
 use Rattle.lfs_model.specs.layers.BlockSets.{BlockStates}
 use Rattle.lfs_model.specs.format.SkipLists.{block_count_for}
-use Rattle.lfs_file.specs.Growing.{IsOnDisk, growing_blocks, growing_bytes, rest_lacks_block, lasting_blocks, growing_size, GrowingList}
+use Rattle.lfs_file.specs.Growing.{DiskHasList, growing_blocks, growing_bytes, rest_lacks_block, lasting_blocks, growing_size, GrowingList}
 use Rattle.lfs_file.specs.BlocksApart.{GrowsInFree, HasBlocksTaken}
 
 -- the list's blocks are its own, as many as its bytes need, and it can be ended
@@ -15,7 +15,7 @@ pub record CanEndAlone (disk : Blocks) (list : GrowingList) : Type 0 where
 -- A list grew to these bytes, so many, in blocks that were free before.
 pub record IsExtended (map : BlockStates) (disk : Blocks) (list : GrowingList) (bytes : List ℕ) (size : ℕ) (later : BlockStates) (new : Blocks) (longer : GrowingList) : Type 0 where
   pub geometry : longer.geometry ≡ list.geometry
-  pub growing : IsOnDisk new longer
+  pub growing : DiskHasList new longer
   pub content : growing_bytes new longer ≡ bytes
   pub sum : growing_size longer ≡ size
   pub own : CanEndAlone new longer

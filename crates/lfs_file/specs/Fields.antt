@@ -1,7 +1,7 @@
 -- What an extender's fields are.
 use Rattle.std.specs.Prelude.{◌≡◌, ◌-◌, ◌*◌, length, take, drop}
 use Rattle.lfs_model.specs.format.SkipLists.{pointer_count}
-use Rattle.lfs_file.specs.Filled.{AreConsistent}
+use Rattle.lfs_file.specs.Filled.{CountsAgree}
 use Rattle.lfs_file.specs.Growing.{GrowingList}
 use Rattle.lfs_file.specs.Known.{OnlyBelowKnown}
 use Rattle.lfs_file.specs.declared.extender.ExtenderState.{ExtenderState}
@@ -12,5 +12,5 @@ growing_view e = record { geometry = e.geometry; full = e.front.count; head = e.
 -- the buffer is one block, the numbers agree, and only full blocks are known
 pub record IsExtender (e : ExtenderState) : Type 0 where
   pub one_block : length e.buffer.items ≡ e.geometry.block_size
-  pub in_step : AreConsistent e.geometry.block_size e.front.count e.filled e.size
+  pub in_step : CountsAgree e.geometry.block_size e.front.count e.filled e.size
   pub known : OnlyBelowKnown e.front.count e.front.known

@@ -101,21 +101,21 @@ IsRestAt disk full head rest (Handed b) = IsRestUnwritten disk full head rest b
 IsRestAt disk full head rest Held = full ≡ 0
 
 -- the disk holds the list's full blocks as they are
-pub record IsOnDisk (disk : Blocks) (g : GrowingList) : Type 0 where
+pub record DiskHasList (disk : Blocks) (g : GrowingList) : Type 0 where
   pub chain : AreListBlocks disk g.full g.head
   pub known : AreKnownBlocks (blocks_to_head disk g.full g.head) g.known
   pub stand : IsRestAt disk g.full g.head g.rest g.stand
 
 -- the block that takes the next bytes, and how many of the blocks that were handed in are used then
-abbrev pub block_for_next : RestLocation → List ℕ → ℕ → ℕ × ℕ
-block_for_next Closed blocks used = (slice_index blocks used, used + 1)
-block_for_next (Shared b) blocks used = (slice_index blocks used, used + 1)
-block_for_next (Handed b) blocks used = (b, used)
-block_for_next Held blocks used = (slice_index blocks used, used + 1)
+abbrev pub block_for_push : RestLocation → List ℕ → ℕ → ℕ × ℕ
+block_for_push Closed blocks used = (slice_index blocks used, used + 1)
+block_for_push (Shared b) blocks used = (slice_index blocks used, used + 1)
+block_for_push (Handed b) blocks used = (b, used)
+block_for_push Held blocks used = (slice_index blocks used, used + 1)
 
 -- the list on a disk that has the same bytes in its blocks
 pub record SameListLater (disk later : Blocks) (g : GrowingList) : Type 0 where
-  pub growing : IsOnDisk later g
+  pub growing : DiskHasList later g
   pub content : growing_bytes later g ≡ growing_bytes disk g
   pub kept : lasting_blocks later g ≡ lasting_blocks disk g
   pub blocks : growing_blocks later g ≡ growing_blocks disk g

@@ -4,7 +4,7 @@ use Rattle.lfs_model.specs.format.Blocks.{Blocks, block_bytes}
 use Rattle.lfs_model.specs.layers.BlockSets.{BlockStates, IsFree, IsInFlight, IsUsedBlock, used_count}
 use Rattle.lfs_model.specs.session.History.{CallEvent, is_unprogrammed_byte}
 use Rattle.lfs_model.specs.format.SkipLists.{block_count_for, list_bytes}
-use Rattle.lfs_file.specs.Growing.{GrowingList, IsOnDisk, growing_blocks, growing_bytes, rest_lacks_block, lasting_blocks, unwritten_block, growing_size_with}
+use Rattle.lfs_file.specs.Growing.{GrowingList, DiskHasList, growing_blocks, growing_bytes, rest_lacks_block, lasting_blocks, unwritten_block, growing_size_with}
 use Rattle.lfs_file.specs.BlocksApart.{IsTakenNotPending, HasBlocksTaken}
 use Rattle.lfs_file.specs.Bases.{IsListOrEmpty, blocks_of_list}
 use Rattle.lfs_file.specs.declared.stored_list.StoredList.{StoredList}
@@ -19,7 +19,7 @@ pub record IsFinishedList (map : BlockStates) (disk : Blocks) (block_size : ℕ)
 -- A list in hand has the first bytes, its base the others. Both share the first blocks; the other blocks in hand are none of the
 -- base's, and not used. No other block is in flight.
 pub record SharesFirstBlocks (map : BlockStates) (disk : Blocks) (block_size : ℕ) (g : GrowingList) (base : StoredList) (shared : ℕ) : Type 0 where
-  pub growing : IsOnDisk disk g
+  pub growing : DiskHasList disk g
   pub marked : HasBlocksTaken map disk g
   pub list : IsListOrEmpty disk block_size base.head base.size
   pub apart : All (IsTakenNotPending map (unwritten_block g)) (blocks_of_list disk block_size base.head base.size)

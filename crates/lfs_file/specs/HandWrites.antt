@@ -35,7 +35,7 @@ pub record IsUnfinishedTo (map : BlockStates) (disk : Blocks) (now : Geometry) (
   pub bytes : unfinished_bytes disk hand ≡ contents
 
 -- the list has bytes, ends there, and the contents are these
-pub record IsWrittenTo (map : BlockStates) (disk : Blocks) (now : Geometry) (hand : PendingList) (place : ℕ) (contents : List ℕ) : Type 0 where
+pub record EndsAtPlace (map : BlockStates) (disk : Blocks) (now : Geometry) (hand : PendingList) (place : ℕ) (contents : List ℕ) : Type 0 where
   pub going : CanEndUnfinished map disk now hand
   pub size : growing_size hand.list ≡ place
   pub bytes : unfinished_bytes disk hand ≡ contents
@@ -58,6 +58,6 @@ pub record IsFinishedOf (map : BlockStates) (disk : Blocks) (now : Geometry) (s 
   pub bytes : stored_list_bytes disk now.block_size s ≡ contents
 
 -- so many zeros were written at its end
-pub record EndsInZeros (map : BlockStates) (disk : Blocks) (now : Geometry) (hand : PendingList) (count place : ℕ) (contents : List ℕ) : Type 0 where
+pub record AreZerosWritten (map : BlockStates) (disk : Blocks) (now : Geometry) (hand : PendingList) (count place : ℕ) (contents : List ℕ) : Type 0 where
   pub at : IsUnfinishedTo map disk now hand place contents
   pub going : 1 ≤ count → CanEndUnfinished map disk now hand

@@ -5,7 +5,7 @@ ghost use Rattle.lfs_file.specs.Front.{KeepsFullBlocks, ReadsUnknownPointers};
 ghost use Rattle.lfs_file.specs.Known.{ArePointersKnown, OnlyBelowKnown, AreKnownBlocks, ArePointedKnown};
 ghost use Rattle.lfs_model.specs.format.SkipLists.{blocks_to_head, pointer_count, word_at};
 ghost use Rattle.lfs_file.specs.CallPremises.{CanWritePointers, CanWriteBlock};
-ghost use Rattle.lfs_file.specs.BlockCalls.{IsAppendedWith, BuffersPointers, WritesBlockOnce};
+ghost use Rattle.lfs_file.specs.BlockCalls.{HasAppendedBlock, BuffersPointers, WritesBlockOnce};
 
 use crate::known::KnownBlocks;
 use crate::read::pointer_count_at;
@@ -118,7 +118,7 @@ pub(crate) fn write_block<D: BlockDevice>(
     end: u32,
 ) -> Result<(), Error>
     requires { CanWriteBlock D.BlockDevice dev.old front.old block end (length buf.old) }
-    ensures block { OnOk result (IsAppendedWith (D.blocks dev.old) (D.blocks dev.new) front.old.count front.old.head block
+    ensures block { OnOk result (HasAppendedBlock (D.blocks dev.old) (D.blocks dev.new) front.old.count front.old.head block
         (end - 4 * pointer_count front.old.count) (take (end - 4 * pointer_count front.old.count) (drop (4 * pointer_count front.old.count) buf.old))) }
     ensures front { KeepsFullBlocks (blocks_to_head (D.blocks dev.old) front.old.count front.old.head) front.old front.new }
     ensures calls { OnOk result (WritesBlockOnce front.old front.new (D.history dev.old) (D.history dev.new)) }

@@ -11,7 +11,7 @@ ghost use Rattle.lfs_file.specs.FinishedWrites.{CanOverwriteFinished};
 ghost use Rattle.lfs_file.specs.Form as form;
 ghost use Rattle.lfs_file.specs.Form.{written_form};
 ghost use Rattle.lfs_file.specs.Hand.{KeepsUsedBlocks, stored_list_bytes};
-ghost use Rattle.lfs_file.specs.HandWrites.{IsWrittenTo, unfinished_bytes};
+ghost use Rattle.lfs_file.specs.HandWrites.{EndsAtPlace, unfinished_bytes};
 ghost use Rattle.lfs_file.specs.BlockOwners.{AreUsedAmong, KeepsStoredBlocks, contents_blocks};
 
 use crate::Extender;
@@ -93,7 +93,7 @@ fn begin_with_bytes<D: BlockDevice>(
     bytes: &[u8],
 ) -> Result<PendingList, Error>
     requires { CanOverwriteFinished map.old (D.blocks dev.old) (D.geometry dev.old).block_size stored place (length bytes.now) }
-    ensures written { IfOk result (λ h. IsWrittenTo map.new (D.blocks dev.new) (D.geometry dev.old) h (place + length bytes.now)
+    ensures written { IfOk result (λ h. EndsAtPlace map.new (D.blocks dev.new) (D.geometry dev.old) h (place + length bytes.now)
         (written_contents (stored_list_bytes (D.blocks dev.old) (D.geometry dev.old).block_size stored) place bytes.now)) }
     ensures base { IfOk result (λ h. KeepsStoredBlocks (D.geometry dev.old).block_size (D.blocks dev.old) stored (D.blocks dev.new) h.base) }
     ensures map { KeepsUsedBlocks map.old map.new }

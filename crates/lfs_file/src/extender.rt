@@ -5,13 +5,13 @@ ghost use Rattle.lfs_file.specs.Counts.{WritesEachOnce};
 ghost use Rattle.lfs_file.specs.Extending.{CanFinishList, CanPushBytes, CanResumeList, HasBufferedBytes, HasPushedBytes, IsResumedList, IsEmptyList};
 ghost use Rattle.lfs_file.specs.FewReads.{FillsFew, ResumesFew, WritesLastFew};
 ghost use Rattle.lfs_file.specs.Fields.{IsExtender, growing_view};
-ghost use Rattle.lfs_file.specs.Finished.{IsListOf};
-ghost use Rattle.lfs_file.specs.Growing.{IsAllBuffered, HasUnwrittenAmong, growing_blocks, fits_unwritten_block, growing_bytes, growing_size, appended_count, block_for_next, unwritten_block};
+ghost use Rattle.lfs_file.specs.Finished.{ListHoldsBytes};
+ghost use Rattle.lfs_file.specs.Growing.{IsAllBuffered, HasUnwrittenAmong, growing_blocks, fits_unwritten_block, growing_bytes, growing_size, appended_count, block_for_push, unwritten_block};
 ghost use Rattle.lfs_model.specs.format.Blocks.{overwritten_at};
 ghost use Rattle.lfs_model.specs.session.Writers.{written_contents as with_bytes};
 ghost use Rattle.lfs_model.specs.format.SkipLists.{block_count_for};
 ghost use Rattle.lfs_file.specs.CallPremises.{CanFillBlock, CanWriteLastBlock};
-ghost use Rattle.lfs_file.specs.BlockCalls.{FillsOneBlock, FinishCalls, HasFilledBlock, IsAppendedWith};
+ghost use Rattle.lfs_file.specs.BlockCalls.{FillsOneBlock, FinishCalls, HasFilledBlock, HasAppendedBlock};
 
 use crate::block::{FullBlocks, write_block};
 use crate::read::{find_block_at, pointer_count_at, read_into_range};
@@ -268,9 +268,9 @@ impl Extender {
 
     // Returns the block that takes the next bytes, and how many of the blocks that were handed in
     // are used then.
-    fn block_and_used(&self, blocks: &[u32], used: usize) -> (u32, usize)
+    fn next_push_block(&self, blocks: &[u32], used: usize) -> (u32, usize)
         requires { unwritten_block self.now ≡ [] → used < length blocks.now }
-        ensures { result ≡ block_for_next self.now.stand blocks.now used }
+        ensures { result ≡ block_for_push self.now.stand blocks.now used }
     {
         match self.state.stand {
             RestLocation::Handed(block) => (block, used),
@@ -339,7 +339,7 @@ impl Extender {
         let mut done = 0;
         let mut used = 0;
         while done < bytes.len() {
-            let (block, taken) = self.block_and_used(blocks, used);
+            let (block, taken) = self.next_push_block(blocks, used);
             done += self.fill_current_block(dev, &bytes[done..], block)?;
             used = taken;
         }
@@ -349,7 +349,7 @@ impl Extender {
     // Pads the current block to whole pages, and writes it.
     fn write_last_block<D: BlockDevice>(&mut self, dev: &mut D, block: u32) -> Result<(), Error>
         requires { CanWriteLastBlock D.BlockDevice dev.old self.old block }
-        ensures block { OnOk result (IsAppendedWith (D.blocks dev.old) (D.blocks dev.new) self.old.full self.old.head block (length self.old.rest) self.old.rest) }
+        ensures block { OnOk result (HasAppendedBlock (D.blocks dev.old) (D.blocks dev.new) self.old.full self.old.head block (length self.old.rest) self.old.rest) }
         ensures writes { OnOk result (WritesEachOnce 0 1 (D.history dev.old) (D.history dev.new)) }
         ensures few { OnOk result (WritesLastFew self.old (D.history dev.old) (D.history dev.new)) }
         ensures device { ChangesOneBlock D.BlockDevice block dev.old dev.new }
@@ -373,7 +373,7 @@ impl Extender {
     /// Errors: `Io` where the device failed.
     pub fn finish<D: BlockDevice>(mut self, dev: &mut D) -> Result<(u32, u32), Error>
         requires { CanFinishList D.BlockDevice dev.old self }
-        ensures finished { IfOk result (λ r. IsListOf (D.blocks dev.new) self.geometry.block_size r.0 r.1 (growing_bytes (D.blocks dev.old) self) (growing_blocks (D.blocks dev.old) self)) }
+        ensures finished { IfOk result (λ r. ListHoldsBytes (D.blocks dev.new) self.geometry.block_size r.0 r.1 (growing_bytes (D.blocks dev.old) self) (growing_blocks (D.blocks dev.old) self)) }
         ensures size { IfOk result (λ r. r.1 ≡ growing_size self) }
         ensures calls { FinishCalls self (D.blocks dev.old) (D.blocks dev.new) (D.history dev.old) (D.history dev.new) result }
         ensures device { ChangesTheseBlocks D.BlockDevice (unwritten_block self) dev.old dev.new }

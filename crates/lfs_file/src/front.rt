@@ -1,6 +1,6 @@
 ghost use Rattle.std.specs.Prelude.{◌≤◌, ◌<◌, ◌+◌, ◌*◌, ◌^◌, ℕ, take, OnOk, IfOk, IsErrOf};
 ghost use Rattle.lfs_file.specs.FileCalls.{ReadsOrCorrupt};
-ghost use Rattle.lfs_file.specs.Finished.{IsListOf};
+ghost use Rattle.lfs_file.specs.Finished.{ListHoldsBytes};
 ghost use Rattle.lfs_model.specs.session.History.{read_count};
 ghost use Rattle.lfs_model.specs.format.SkipLists.{IsSkipList, blocks_to_head, block_count_for, list_bytes};
 ghost use Rattle.lfs_file.specs.CallPremises.{IsFrontSize};
@@ -24,7 +24,7 @@ pub fn head_of_front<D: BlockDevice>(
 ) -> Result<u32, Error>
     requires { IsFrontSize keep size }
     ensures front { IsSkipList (D.blocks dev.old) (D.geometry dev.old).block_size head size →
-        IfOk result (λ h. IsListOf (D.blocks dev.old) (D.geometry dev.old).block_size h keep
+        IfOk result (λ h. ListHoldsBytes (D.blocks dev.old) (D.geometry dev.old).block_size h keep
         (take keep (list_bytes (D.blocks dev.old) (D.geometry dev.old).block_size head size))
         (take (block_count_for (D.geometry dev.old).block_size keep) (blocks_to_head (D.blocks dev.old) (block_count_for (D.geometry dev.old).block_size size) head))) }
     ensures in_range { IfOk result (λ h. h < (D.geometry dev.old).block_count) }

@@ -6,7 +6,7 @@ ghost use Rattle.lfs_model.specs.session.History.{CallEvent, read_count};
 ghost use Rattle.lfs_model.specs.format.SkipLists.{AreListBlocks, IsSkipList, blocks_to_head, block_count_for, list_bytes, word_at};
 ghost use Rattle.lfs_file.specs.FileCalls.{ReadsOrCorrupt};
 ghost use Rattle.lfs_file.specs.Known.{OnlyBelowKnown, AreKnownBlocks, FindsFew, IsKnownIndex, ReadsKnownList, no_known_blocks, index_row as row_seen};
-ghost use Rattle.lfs_file.specs.CallPremises.{HasBlockBefore, IsPointerInRange};
+ghost use Rattle.lfs_file.specs.CallPremises.{HasBlockBefore, PointerInRange};
 ghost use Rattle.lfs_file.specs.BlockCalls.{FindsKnownBlock, ReadsUnlessKnown};
 
 use crate::part::BlockPart;
@@ -121,7 +121,7 @@ impl KnownBlocks {
         k: u32,
         index: u32,
     ) -> Result<u32, Error>
-        requires { IsPointerInRange k index }
+        requires { PointerInRange k index }
         ensures found { (all : List ℕ) → AreKnownBlocks all self.old → index < length all → word_at (block_bytes (D.blocks dev.old) block) (4 * k) ≡ slice_index all index → IfOk result (λ b. b ≡ slice_index all index) × AreKnownBlocks all self.new }
         ensures below { (count : ℕ) → index < count → OnlyBelowKnown count self.old → OnlyBelowKnown count self.new }
         ensures corrupt { IsErrOf result Error.Corrupt → (D.geometry dev.old).block_count ≤ block }

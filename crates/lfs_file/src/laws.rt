@@ -11,7 +11,7 @@ ghost use Rattle.lfs_model.specs.session.Session.{FileWriter, reserved_for_write
 ghost use Rattle.lfs_model.specs.layers.Steps.{number_occurrences};
 ghost use Rattle.lfs_model.specs.session.Writers.{synced_writer, truncated_writer, written_writer, opened_writer, write_position};
 ghost use Rattle.lfs_model.specs.tree.Tree.{Path};
-ghost use Rattle.lfs_file.specs.Contents.{FormFitsInline, NeedsTruncateRoom, finish_room, truncation_room, write_room};
+ghost use Rattle.lfs_file.specs.Contents.{FormFitsLimit, NeedsTruncateRoom, finish_room, truncation_room, write_room};
 ghost use Rattle.lfs_file.specs.Form.{ContentsForm, InMemory, Finished, IsWriterForm, form_in_flight, form_size, synced_form, truncated_form, written_form};
 ghost use Rattle.lfs_file.specs.SettledMaps.{SettlesList};
 
@@ -30,7 +30,7 @@ pub fn lemma_forms_fit()
 /// The blocks that the session holds back for a writer are enough for each call.
 pub fn lemma_reserve_suffices()
     ensures covers { (profile : Profile) (block_size : ℕ) (form : ContentsForm) (w : FileWriter) → IsWriterForm profile block_size form w → form_in_flight block_size form ≤ reserved_for_writer profile block_size w - 2 }
-    ensures large { (profile : Profile) (block_size : ℕ) (form : ContentsForm) (w : FileWriter) → IsWriterForm profile block_size form w → FormFitsInline (inline_limit profile block_size) form }
+    ensures large { (profile : Profile) (block_size : ℕ) (form : ContentsForm) (w : FileWriter) → IsWriterForm profile block_size form w → FormFitsLimit (inline_limit profile block_size) form }
     ensures write { (profile : Profile) (block_size : ℕ) (form : ContentsForm) (w : FileWriter) (byte : ℕ) (bytes : List ℕ) (used all : ℕ) → IsWriterForm profile block_size form w → used + reserved_for_writer profile block_size (written_writer w (byte ∷ bytes)) ≤ all
         → inline_limit profile block_size < max (form_size form) (write_position w + length (byte ∷ bytes)) → used + write_room block_size (write_position w) (length (byte ∷ bytes)) form ≤ all }
     ensures truncate { (profile : Profile) (block_size : ℕ) (form : ContentsForm) (w : FileWriter) (size used all : ℕ) → IsWriterForm profile block_size form w → used + reserved_for_writer profile block_size w ≤ all → used + reserved_for_writer profile block_size (truncated_writer w size) ≤ all

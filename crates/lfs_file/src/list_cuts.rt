@@ -4,7 +4,7 @@ ghost use Rattle.std.specs.Prelude.{◌≤◌, take, IfOk};
 ghost use Rattle.lfs_device.specs.DeviceCalls.{ReadsOrIo};
 ghost use Rattle.lfs_file.specs.Hand.{IsFinishedList, KeepsUsedBlocks, stored_list_bytes};
 ghost use Rattle.lfs_file.specs.HandWrites.{IsFinishedOf};
-ghost use Rattle.lfs_file.specs.BlockOwners.{IsFrontOf};
+ghost use Rattle.lfs_file.specs.BlockOwners.{HasOnlyBlocksOf};
 
 use crate::list_ends::release_base_from;
 use crate::stored_list::StoredList;
@@ -28,7 +28,7 @@ pub(crate) fn shorten_stored_list<D: BlockDevice>(
     requires stored { IsFinishedList map.old (D.blocks dev.old) (D.geometry dev.old).block_size stored }
     requires length { (1 ≤ keep) × (keep ≤ stored.size) }
     ensures cut { IfOk result (λ s. IsFinishedOf map.new (D.blocks dev.new) (D.geometry dev.old) s keep (take keep (stored_list_bytes (D.blocks dev.old) (D.geometry dev.old).block_size stored))) }
-    ensures front { IfOk result (IsFrontOf (D.geometry dev.old).block_size (D.blocks dev.old) stored (D.blocks dev.new)) }
+    ensures front { IfOk result (HasOnlyBlocksOf (D.geometry dev.old).block_size (D.blocks dev.old) stored (D.blocks dev.new)) }
     ensures map { KeepsUsedBlocks map.old map.new }
     ensures reading { ReadsOrIo D.BlockDevice dev.old dev.new result }
 {

@@ -11,7 +11,7 @@ ghost use Rattle.lfs_file.specs.Outcomes.{WritesUnusedBlocks};
 ghost use Rattle.lfs_file.specs.Bases.{IsListOrEmpty};
 ghost use Rattle.lfs_file.specs.Contents.{IsInMemory, IsBuffered, buffered_bytes};
 ghost use Rattle.lfs_file.specs.Hand.{stored_list_bytes};
-ghost use Rattle.lfs_file.specs.HandWrites.{IsWrittenTo, IsUnfinishedTo};
+ghost use Rattle.lfs_file.specs.HandWrites.{EndsAtPlace, IsUnfinishedTo};
 
 use crate::stored_list::StoredList;
 use crate::writes::{PendingList, fill_and_write};
@@ -85,7 +85,7 @@ pub(crate) fn begin_from_memory<D: BlockDevice>(
     requires quiet { IsInMemory map.old (D.blocks dev.old) (D.geometry dev.old) list }
     requires behind { length (buffered_bytes list) ≤ place + length bytes.now }
     requires room { HasGrowthRoom map.old (D.geometry dev.old).block_size place (place + length bytes.now) 0 }
-    ensures written { IfOk result (λ h. IsWrittenTo map.new (D.blocks dev.new) (D.geometry dev.old) h (place + length bytes.now) (written_contents (buffered_bytes list) place bytes.now)) }
+    ensures written { IfOk result (λ h. EndsAtPlace map.new (D.blocks dev.new) (D.geometry dev.old) h (place + length bytes.now) (written_contents (buffered_bytes list) place bytes.now)) }
     ensures base { IfOk result (λ h. (h.base.size ≡ 0) × (h.base.in_flight ≡ false)) }
     ensures writing { WritesUnusedBlocks D.BlockDevice map.old map.new dev.old dev.new result }
 {

@@ -11,7 +11,7 @@ ghost use Rattle.lfs_file.specs.Form as form;
 ghost use Rattle.lfs_file.specs.Form.{truncated_form};
 ghost use Rattle.lfs_file.specs.Hand.{IsFinishedList, KeepsUsedBlocks, stored_list_bytes};
 ghost use Rattle.lfs_file.specs.BaseRoom.{HasGrowthRoom, in_flight_limit};
-ghost use Rattle.lfs_file.specs.HandWrites.{IsWrittenTo, CanEndUnfinished, TakesOldBase, unfinished_bytes, unfinished_length};
+ghost use Rattle.lfs_file.specs.HandWrites.{EndsAtPlace, CanEndUnfinished, TakesOldBase, unfinished_bytes, unfinished_length};
 ghost use Rattle.lfs_file.specs.BlockOwners.{AreUsedAmong, KeepsStoredBlocks, contents_blocks};
 
 use crate::Extender;
@@ -39,7 +39,7 @@ fn fill_memory_contents<D: BlockDevice>(
 ) -> Result<PendingList, Error>
     requires quiet { IsInMemory map.old (D.blocks dev.old) (D.geometry dev.old) list }
     requires room { HasGrowthRoom map.old (D.geometry dev.old).block_size (length (buffered_bytes list)) size 0 }
-    ensures filled { IfOk result (λ h. IsWrittenTo map.new (D.blocks dev.new) (D.geometry dev.old) h size (take size (zero_padded size (buffered_bytes list)))) }
+    ensures filled { IfOk result (λ h. EndsAtPlace map.new (D.blocks dev.new) (D.geometry dev.old) h size (take size (zero_padded size (buffered_bytes list)))) }
     ensures base { IfOk result (λ h. (h.base.size ≡ 0) × (h.base.in_flight ≡ false)) }
     ensures writing { WritesUnusedBlocks D.BlockDevice map.old map.new dev.old dev.new result }
 {
@@ -106,7 +106,7 @@ fn fill_finished_list<D: BlockDevice>(
 ) -> Result<PendingList, Error>
     requires stored { IsFinishedList map.old (D.blocks dev.old) (D.geometry dev.old).block_size stored }
     requires room { HasGrowthRoom map.old (D.geometry dev.old).block_size stored.size size (in_flight_limit (D.geometry dev.old).block_size stored) }
-    ensures filled { IfOk result (λ h. IsWrittenTo map.new (D.blocks dev.new) (D.geometry dev.old) h size
+    ensures filled { IfOk result (λ h. EndsAtPlace map.new (D.blocks dev.new) (D.geometry dev.old) h size
         (take size (zero_padded size (stored_list_bytes (D.blocks dev.old) (D.geometry dev.old).block_size stored)))) }
     ensures base { IfOk result (λ h. KeepsStoredBlocks (D.geometry dev.old).block_size (D.blocks dev.old) stored (D.blocks dev.new) h.base) }
     ensures writing { WritesUnusedBlocks D.BlockDevice map.old map.new dev.old dev.new result }
@@ -158,7 +158,7 @@ fn lengthen_unfinished_list<D: BlockDevice>(
     requires going { CanEndUnfinished map.old (D.blocks dev.old) (D.geometry dev.old) hand }
     requires longer { (unfinished_length hand < size) × (size < 2 ^ 31) }
     requires room { used_count map.old + truncation_room (D.geometry dev.old).block_size size (contents_form (WriterContents.InHand hand)) ≤ length map.old }
-    ensures lengthened { IfOk result (λ h. IsWrittenTo map.new (D.blocks dev.new) (D.geometry dev.old) h size
+    ensures lengthened { IfOk result (λ h. EndsAtPlace map.new (D.blocks dev.new) (D.geometry dev.old) h size
         (take size (zero_padded size (unfinished_bytes (D.blocks dev.old) hand)))) }
     ensures over { IfOk result (TakesOldBase map.new (D.geometry dev.old).block_size (D.blocks dev.old) hand (unfinished_length hand) (D.blocks dev.new)) }
     ensures writing { WritesUnusedBlocks D.BlockDevice map.old map.new dev.old dev.new result }

@@ -9,7 +9,7 @@ ghost use Rattle.lfs_file.specs.Contents.{write_room};
 ghost use Rattle.lfs_file.specs.Form as form;
 ghost use Rattle.lfs_file.specs.Growing.{growing_size};
 ghost use Rattle.lfs_file.specs.BaseRoom.{in_flight_limit};
-ghost use Rattle.lfs_file.specs.HandWrites.{IsWrittenTo, IsUnfinishedTo, CanEndUnfinished, TakesOldBase, unfinished_bytes, unfinished_length};
+ghost use Rattle.lfs_file.specs.HandWrites.{EndsAtPlace, IsUnfinishedTo, CanEndUnfinished, TakesOldBase, unfinished_bytes, unfinished_length};
 
 use crate::list_ends::end_unfinished_list;
 use crate::list_starts::begin_over_finished;
@@ -66,7 +66,7 @@ pub(crate) fn write_at_position<D: BlockDevice>(
     requires going { CanEndUnfinished map.old (D.blocks dev.old) (D.geometry dev.old) hand }
     requires bytes { (1 ≤ length bytes.now) × (place + length bytes.now < 2 ^ 31) }
     requires room { used_count map.old + write_room (D.geometry dev.old).block_size place (length bytes.now) (form.InHand (growing_size hand.list) hand.base.size hand.base.in_flight) ≤ length map.old }
-    ensures written { IfOk result (λ h. IsWrittenTo map.new (D.blocks dev.new) (D.geometry dev.old) h (place + length bytes.now)
+    ensures written { IfOk result (λ h. EndsAtPlace map.new (D.blocks dev.new) (D.geometry dev.old) h (place + length bytes.now)
         (written_contents (unfinished_bytes (D.blocks dev.old) hand) place bytes.now)) }
     ensures over { IfOk result (TakesOldBase map.new (D.geometry dev.old).block_size (D.blocks dev.old) hand (min place (unfinished_length hand)) (D.blocks dev.new)) }
     ensures writing { WritesUnusedBlocks D.BlockDevice map.old map.new dev.old dev.new result }

@@ -5,7 +5,7 @@ ghost use Rattle.lfs_model.specs.format.SkipLists.{IsSkipList, blocks_to_head, b
 ghost use Rattle.lfs_file.specs.FileCalls.{ReadsOrCorrupt};
 ghost use Rattle.lfs_file.specs.Right.{LaterPointersName, ArePointersCopied};
 ghost use Rattle.lfs_file.specs.Way.{ReadsUnlessNoted};
-ghost use Rattle.lfs_file.specs.CallPremises.{CanCheckBlock};
+ghost use Rattle.lfs_file.specs.CallPremises.{CanFollowBlock};
 ghost use Rattle.lfs_file.specs.BlockCalls.{ChecksBlock, IsListReadOnce};
 
 use crate::blocks_for;
@@ -34,7 +34,7 @@ fn named_by_later(words: &[u8], block: u32, index: u32, last: u32) -> bool
 // Returns the block that pointer 0 of a block names, and notes the block's pointers. The call takes
 // one read, or none where the block is on the way. Returns `Corrupt` where the block isn't one of
 // the device, or isn't the one that the pointers to its place name.
-fn check_and_follow<D: BlockDevice>(
+fn check_block<D: BlockDevice>(
     dev: &mut D,
     block: u32,
     index: u32,
@@ -42,7 +42,7 @@ fn check_and_follow<D: BlockDevice>(
     way: &WalkedBlocks,
     words: &mut [u8],
 ) -> Result<u32, Error>
-    requires { CanCheckBlock (D.blocks dev.old) last index words.old way.now }
+    requires { CanFollowBlock (D.blocks dev.old) last index words.old way.now }
     ensures word { IfOk result (λ word. word ≡ word_at (block_bytes (D.blocks dev.old) block) 0) }
     ensures noted { OnOk result (ArePointersCopied (D.blocks dev.old) block index words.old words.new) }
     ensures checks { ChecksBlock (D.geometry dev.old).block_count block last index words.old result }
@@ -97,7 +97,7 @@ pub fn walk<D: BlockDevice, F: FnMut(u32)>(
     let mut block = head;
     let mut index = last;
     while index > 0 {
-        let before = check_and_follow(dev, block, index, last, &way, &mut words)?;
+        let before = check_block(dev, block, index, last, &way, &mut words)?;
         if block == first {
             return Err(Error::Corrupt);
         }

@@ -7,7 +7,7 @@ ghost use Rattle.lfs_device.specs.DeviceCalls.{ReportsIoNoMemory};
 ghost use Rattle.lfs_file.specs.Growing.{fits_unwritten_block, growing_size};
 ghost use Rattle.lfs_file.specs.ContentsCalls.{CallKeepsUsed};
 ghost use Rattle.lfs_file.specs.Hand.{KeepsUsedBlocks};
-ghost use Rattle.lfs_file.specs.HandWrites.{IsWrittenTo, unfinished_bytes};
+ghost use Rattle.lfs_file.specs.HandWrites.{EndsAtPlace, unfinished_bytes};
 ghost use Rattle.lfs_file.specs.BlockOwners.{KeepsStoredBlocks};
 ghost use Rattle.lfs_file.specs.CallPremises.{CanAppendToUnfinished, CanFillAndWrite};
 
@@ -56,7 +56,7 @@ pub(crate) fn append_to_unfinished<D: BlockDevice>(
     bytes: &[u8],
 ) -> Result<(), Error>
     requires { CanAppendToUnfinished map.old (D.blocks dev.old) (D.geometry dev.old) hand.old (length bytes.now) }
-    ensures written { OnOk result (IsWrittenTo map.new (D.blocks dev.new) (D.geometry dev.old) hand.new (growing_size hand.old.list + length bytes.now)
+    ensures written { OnOk result (EndsAtPlace map.new (D.blocks dev.new) (D.geometry dev.old) hand.new (growing_size hand.old.list + length bytes.now)
         (written_contents (unfinished_bytes (D.blocks dev.old) hand.old) (growing_size hand.old.list) bytes.now)) }
     ensures base { KeepsStoredBlocks (D.geometry dev.old).block_size (D.blocks dev.old) hand.old.base (D.blocks dev.new) hand.new.base }
     ensures map { KeepsUsedBlocks map.old map.new }
@@ -83,7 +83,7 @@ pub(crate) fn fill_and_write<D: BlockDevice>(
     bytes: &[u8],
 ) -> Result<(), Error>
     requires { CanFillAndWrite map.old (D.blocks dev.old) (D.geometry dev.old) hand.old place (length bytes.now) }
-    ensures written { OnOk result (IsWrittenTo map.new (D.blocks dev.new) (D.geometry dev.old) hand.new (place + length bytes.now)
+    ensures written { OnOk result (EndsAtPlace map.new (D.blocks dev.new) (D.geometry dev.old) hand.new (place + length bytes.now)
         (written_contents (unfinished_bytes (D.blocks dev.old) hand.old) place bytes.now)) }
     ensures base { KeepsStoredBlocks (D.geometry dev.old).block_size (D.blocks dev.old) hand.old.base (D.blocks dev.new) hand.new.base }
     ensures map { KeepsUsedBlocks map.old map.new }

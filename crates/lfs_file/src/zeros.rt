@@ -6,7 +6,7 @@ ghost use Rattle.lfs_device.specs.DeviceCalls.{ReportsIoNoMemory};
 ghost use Rattle.lfs_file.specs.Growing.{growing_size};
 ghost use Rattle.lfs_file.specs.ContentsCalls.{CallKeepsUsed};
 ghost use Rattle.lfs_file.specs.Hand.{KeepsUsedBlocks};
-ghost use Rattle.lfs_file.specs.HandWrites.{EndsInZeros, unfinished_bytes};
+ghost use Rattle.lfs_file.specs.HandWrites.{AreZerosWritten, unfinished_bytes};
 ghost use Rattle.lfs_file.specs.BlockOwners.{KeepsStoredBlocks};
 ghost use Rattle.lfs_file.specs.CallPremises.{CanWriteZeros};
 
@@ -29,7 +29,7 @@ pub(crate) fn write_zeros<D: BlockDevice>(
     count: u32,
 ) -> Result<(), Error>
     requires { CanWriteZeros map.old (D.blocks dev.old) (D.geometry dev.old) hand.old count }
-    ensures zeroed { OnOk result (EndsInZeros map.new (D.blocks dev.new) (D.geometry dev.old) hand.new count (growing_size hand.old.list + count)
+    ensures zeroed { OnOk result (AreZerosWritten map.new (D.blocks dev.new) (D.geometry dev.old) hand.new count (growing_size hand.old.list + count)
         (written_contents (unfinished_bytes (D.blocks dev.old) hand.old) (growing_size hand.old.list) (replicate count 0))) }
     ensures base { KeepsStoredBlocks (D.geometry dev.old).block_size (D.blocks dev.old) hand.old.base (D.blocks dev.new) hand.new.base }
     ensures map { KeepsUsedBlocks map.old map.new }

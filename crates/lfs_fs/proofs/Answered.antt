@@ -1,6 +1,6 @@
 -- From an operation's checks, and what the tree does, to its turn.
 use Rattle.std.proofs.Common.{◌∷◌, length, Option, inl, inr, ℕ, ◌≡◌, ◌≢◌, Bool, true, false, cond, List, [], ◌++◌, Some, None, Result, Ok, Err, refl, sym, ap, ap₂, subst, ◌∙◌, append_assoc, arith, ◌<◌, nat_le}
-use Rattle.lfs_fs.proofs.Common.{nat_tests, same_Some, CachedBlocks, CallEvent, Operation, Reply, Refusal, FlagsOfOpen, Failed, OpenFilesByNumber, Session, DiskSummary, Reading, Writing, free_number_of, files_with_file, opened_writer, path_or_root, operation_refusal, operation_effect, Healthy, is_remount, IsStep, is_read_only, opens_existing, writes_or_truncates, needs_no_device, renames_itself, spread_step, FileNode, file_bytes, is_file, is_query, not_remount, is_refusal, error_refusal, reply_from, TreeState, shown_tree, tree_summary, IsSoundState, OnlyReadsTree, IsFailedTree, HasErrorCause, IsApplied, IsInFlight, few_flying, in_flight-freed, RuntimeFiles, unsaved_or_tree, files_view, has_unsaved, reader_view, readers_among, writer_view, writers_among, writers_paths, takes_away, StayReady, KeepFiles, KeepsWriters, ConcernsNoFile, zero_gstate, pairs_gstate, Path, AllByRecursion, list_any, SessionView, IsReady, AreUnsavedIfAny, IsWriterReady, session_view, view_with_files, viewed_session, system_state, refusal_by_checks, FailsChecks, IsChecksResult, SessionFails, StepsOrFails}
+use Rattle.lfs_fs.proofs.Common.{nat_tests, same_Some, CachedBlocks, CallEvent, Operation, Reply, Refusal, FlagsOfOpen, Failed, OpenFilesByNumber, Session, DiskSummary, Reading, Writing, free_number_of, files_with_file, opened_writer, path_or_root, operation_refusal, operation_effect, Healthy, is_remount, IsStep, is_read_only, opens_there, writes_or_truncates, needs_no_device, renames_itself, spread_step, FileNode, file_bytes, is_file, is_query, not_remount, is_refusal, error_refusal, reply_from, TreeState, shown_tree, tree_summary, IsSoundState, OnlyReadsTree, IsFailedTree, HasErrorCause, IsApplied, IsInFlight, few_flying, in_flight-freed, RuntimeFiles, unsaved_or_tree, files_view, has_unsaved, reader_view, readers_among, writer_view, writers_among, writers_paths, vacates_path, StayReady, KeepFiles, KeepsWriters, ConcernsNoFile, zero_gstate, pairs_gstate, Path, AllByRecursion, list_any, SessionView, IsReady, AreUnsavedIfAny, IsWriterReady, session_view, view_with_files, viewed_session, system_state, refusal_by_checks, FailsChecks, IsChecksResult, SessionFails, StepsOrFails}
 use Rattle.lfs_model.specs.session.Operations as ops
 use Rattle.lfs_model.specs.session.Recovery.{recovers_first}
 use Rattle.lfs_model.specs.session.Run.{edits_slots}
@@ -102,7 +102,7 @@ asked_answer old op tree files sound asked e other asks same none still silent =
 
 -- the tree carries it out
 pub carried_answer : (old : SessionView) (op : Operation) (mid new : TreeState) (files : OpenFilesByNumber) → (old.tree.failed ≡ false → IsSoundState old.tree) → (old.tree.failed ≡ false → old.tree.history ≢ []) → OnlyReadsTree old.tree mid → refusal_by_checks old op ≡ None →
-    IsApplied mid op new → is_remount op ≡ false → is_read_only (viewed_session old) op ≡ false → writes_or_truncates op ≡ false → opens_existing (viewed_session old) op ≡ false → needs_no_device (viewed_session old) op ≡ false →
+    IsApplied mid op new → is_remount op ≡ false → is_read_only (viewed_session old) op ≡ false → writes_or_truncates op ≡ false → opens_there (viewed_session old) op ≡ false → needs_no_device (viewed_session old) op ≡ false →
     (operation_effect (tree_summary old.tree) (viewed_session old) op).1.files ≡ files →
     IsStep (system_state old) op (operation_effect (tree_summary old.tree) (viewed_session old) op).0 (system_state (view_with_files new files))
 unfolding later
@@ -298,7 +298,7 @@ error_answers old op e new reply is fails = subst (λ b. StepsOrFails old op (co
 
 -- an operation that the tree carries out once no check refuses it
 pub done_answers : (K : Type 0) (old now : SessionView) (op : Operation) (mid new : TreeState) (r : Result (Unit {0}) Error) → old ≡ now → (old.tree.failed ≡ false → IsSoundState old.tree) → (old.tree.failed ≡ false → old.tree.history ≢ []) → OnlyReadsTree old.tree mid → refusal_by_checks old op ≡ None →
-    is_remount op ≡ false → is_read_only (viewed_session old) op ≡ false → writes_or_truncates op ≡ false → opens_existing (viewed_session old) op ≡ false → needs_no_device (viewed_session old) op ≡ false →
+    is_remount op ≡ false → is_read_only (viewed_session old) op ≡ false → writes_or_truncates op ≡ false → opens_there (viewed_session old) op ≡ false → needs_no_device (viewed_session old) op ≡ false →
     (operation_effect (tree_summary old.tree) (viewed_session old) op).0 ≡ ops.Done → (operation_effect (tree_summary old.tree) (viewed_session old) op).1.files ≡ old.files → renames_itself op ≡ false → old.tree.writable ≡ true →
     OnOk r K → (K → IsApplied mid op new) → OnErr r (IsFailedTree mid new) → IfErr r (HasErrorCause mid new) → StepsOrFails now op (reply_from (λ u. ops.Done) r) (view_with_files new old.files)
 done_answers K old now op mid new r is sound called asked e other asks fill creates silent done files itself writable carried from broken errors =
@@ -424,7 +424,7 @@ written_still t s (w ∷ ws) e writable settled k h =
     same n = ap (λ z. length (unsaved_or_tree s w.path z)) n ∙ ap (λ bs. length bs) k.0.1 ∙ sym (ap (λ z. length (unsaved_or_tree t w.path z)) n) ∙ h.0.size
 
 -- an operation leaves a session ready without a changed writer
-pub carried_ready : (old new : TreeState) (files : RuntimeFiles) (op : Operation) → ((p : Path) → takes_away op p ≡ false) → IsReady old files → has_unsaved files ≡ false → KeepsWriters old new (writers_among files) → IsApplied old op new → IsReady new files
+pub carried_ready : (old new : TreeState) (files : RuntimeFiles) (op : Operation) → ((p : Path) → vacates_path op p ≡ false) → IsReady old files → has_unsaved files ≡ false → KeepsWriters old new (writers_among files) → IsApplied old op new → IsReady new files
 carried_ready old new files op off ready e keeps carried = record {
   sound = carried.sound;
   called = still_called old.history new.history carried.calls carried.called ready.called;
@@ -457,6 +457,6 @@ done_left K old mid new files op (Ok u) stay ready asked e spares keeps k carrie
 done_left K old mid new files op (Err x) stay ready asked e spares keeps k carried broken works = absurd (let l = sym broken.failed ∙ works in cc)
 
 -- it is about no writer's file
-pub none_concerned : (op : Operation) → ((p : Path) → takes_away op p ≡ false) → (ws : List Writer) → AllByRecursion (λ w. takes_away op w.path ≡ false) ws
+pub none_concerned : (op : Operation) → ((p : Path) → vacates_path op p ≡ false) → (ws : List Writer) → AllByRecursion (λ w. vacates_path op w.path ≡ false) ws
 none_concerned op h [] = tt
 none_concerned op h (w ∷ ws) = (h w.path, none_concerned op h ws)

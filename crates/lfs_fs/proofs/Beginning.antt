@@ -1,6 +1,6 @@
 -- Writers that are opened.
 use Rattle.std.proofs.Common.{ℕ, ◌≡◌, ◌+◌, ◌*◌, ◌≤◌, Bool, true, false, cond, List, [], ◌∷◌, length, nat_lt, ◌&&◌, Option, Some, None, refl, sym, ap, ap₂, subst, ◌∙◌, arith}
-use Rattle.lfs_fs.proofs.Common.{le-leb, lt-ltb, file_bytes, is_file, block_count, inline_limit, block_count_for, FlagsOfOpen, zero_gstate, pairs_gstate, opened_writer, node_file_size, Node, FileNode, DirectoryNode, Path, AreTreeContents, InlineWithinLimit, writer_contents_bytes, IsApplied, TreeState, tree_summary, shown_tree, contents_form, IsWriterForm, CanOpenWriter, IsOpenedWriter, reserved_for, path_itself, tree_creating, tree_with_change, last_name, parent_path, names_with, node_with_names, path_or_root, Tree, CanCreateFile}
+use Rattle.lfs_fs.proofs.Common.{le-leb, lt-ltb, file_bytes, is_file, block_count, inline_limit, block_count_for, FlagsOfOpen, zero_gstate, pairs_gstate, opened_writer, node_file_size, Node, FileNode, DirectoryNode, Path, AreTreeContents, InlineWithinLimit, writer_contents_bytes, IsApplied, TreeState, tree_summary, shown_tree, contents_form, IsWriterForm, CanOpenWriter, IsOpenedWriter, contents_reserve, path_itself, tree_creating, tree_with_change, last_name, parent_path, names_with, node_with_names, path_or_root, Tree, CanCreateFile}
 use Rattle.lfs_model.specs.session.Session as session
 use Rattle.lfs_tree.specs.OpenContents.{kept_thread}
 use Rattle.lfs_file.specs.Form as shape_of
@@ -92,7 +92,7 @@ begun_anew t path size flags c can truncates some over none shape = record {
     kept : IsWriterForm t.disk.profile t.disk.block_size (shape_of.InMemory 0) (made (writer_contents_bytes (kept_thread t) c) true)
     kept = record { size = sym (ap (λ xs. length xs) none); fits = small }
 
-    two : reserved_for t.disk.profile t.disk.block_size false 0 ≡ 2
+    two : contents_reserve t.disk.profile t.disk.block_size false 0 ≡ 2
     two = ap (λ z. 2 + 1 * cond z 0 (block_count_for t.disk.block_size 0)) (le-leb 0 (inline_limit t.disk.profile t.disk.block_size) (omega arith))
 
     seen : made (writer_contents_bytes (kept_thread t) c) true ≡ made (cond flags.truncate [] (file_bytes (shown_tree t path))) (flags.truncate && nat_lt 0 (length (file_bytes (shown_tree t path))))

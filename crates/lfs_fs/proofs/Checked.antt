@@ -1,7 +1,7 @@
 -- From what a look-up found to an operation's checks.
 use Rattle.std.proofs.Common.{ℕ, ◌≡◌, ◌+◌, ◌≤◌, Bool, true, false, not, List, [], ◌∷◌, Option, Some, None, Result, Ok, Err, length, nat_lt, nat_le, ◌&&◌, ◌||◌, unwrap_or, is_some, is_none, refl, sym, ap, ap₂, subst, ◌∙◌, arith}
 use Rattle.std.specs.Prelude.{if◌then◌else◌}
-use Rattle.lfs_fs.proofs.Common.{list_any, option_or, nat_tests, block_count, name_max_of, Path, is_file, last_name, same_path, Operation, Refusal, FlagsOfOpen, parse_path, DiskSummary, are_allowed, has_long_name, parents_refusal, all_readers, all_writers, first_refusal, refuse_if, exceeds_charge, lacks_free, reserved_for_writers, path_or_root, operation_refusal, node_file_size, refusal_error, error_refusal, value_unless_refused, TreeState, shown_tree, tree_summary, OnlyReadsTree, FailedByReading, HasErrorCause, CanMakeDirectory, in_flight_count, IsStorageAt, IsFoundNode, is_absent, is_directory_node, is_file_node, node_size_if_file, SessionView, viewed_session, IsReadableFile, refusal_by_checks, PassesEarlyChecks, FailsChecks, IsChecksResult}
+use Rattle.lfs_fs.proofs.Common.{list_any, option_or, nat_tests, block_count, profile_name_max, Path, is_file, last_name, same_path, Operation, Refusal, FlagsOfOpen, parse_path, DiskSummary, flags_allowed, has_long_name, parents_refusal, all_readers, all_writers, first_refusal, refuse_if, exceeds_charge, lacks_room, reserved_for_writers, path_or_root, operation_refusal, node_file_size, refusal_error, error_refusal, result_unless_refused, TreeState, shown_tree, tree_summary, OnlyReadsTree, FailedByReading, HasErrorCause, CanMakeDirectory, in_flight_count, IsStorageAt, IsFoundNode, is_absent, is_directory_node, is_file_node, node_size_if_file, SessionView, viewed_session, IsReadableFile, refusal_by_checks, PassesEarlyChecks, FailsChecks, IsChecksResult}
 use Rattle.lfs_model.specs.session.Operations as ops
 use Rattle.lfs_device.specs.declared.error.Error.{Error}
 use Rattle.lfs_lookup.specs.declared.file_contents.FileContents.{FileContents}
@@ -21,7 +21,7 @@ lookup_failed h op P e tree r works broken error late is =
 
 -- the last checks decide
 pub decided : {A : Type 0} (h : SessionView) (op : Operation) (P : A → Type 0) (x : A) (first : Option Refusal) (tree : TreeState) (r : Result A Error) → OnlyReadsTree h.tree tree → PassesEarlyChecks h op → refusal_by_checks h op ≡ first → (first ≡ None → P x) →
-    r ≡ value_unless_refused first x → IsChecksResult h op P r tree
+    r ≡ result_unless_refused first x → IsChecksResult h op P r tree
 decided h op P x None tree r asked late e p is = subst (λ z. IsChecksResult h op P z tree) (sym is) (asked, e, p refl)
 decided h op P x (Some refusal) tree r asked late e p is =
     subst (λ z. IsChecksResult h op P z tree) (sym is)
@@ -49,7 +49,7 @@ size_found h bytes p found is f = ap (λ z. node_file_size (shown_tree h.tree (u
 
 pub stat_checked : {A : Type 0} (view : A → Option ℕ) (h : SessionView) (bytes : List ℕ) (p : Path) (found : FoundNode) (tree : TreeState) (absent : Bool) (a : Option Refusal) (x : A) (r : Result A Error) →
     false ≡ h.tree.failed → Some p ≡ parse_path bytes → OnlyReadsTree h.tree tree → IsFoundNode (shown_tree h.tree) p found →
-    absent ≡ is_absent found.node → a ≡ refuse_if absent ops.NoEnt → view x ≡ node_size_if_file found.node → r ≡ value_unless_refused (first_refusal (found.fault ∷ a ∷ [])) x →
+    absent ≡ is_absent found.node → a ≡ refuse_if absent ops.NoEnt → view x ≡ node_size_if_file found.node → r ≡ result_unless_refused (first_refusal (found.fault ∷ a ∷ [])) x →
     IsChecksResult h (ops.Stat bytes) (λ z. node_file_size (shown_tree h.tree (path_or_root bytes)) ≡ view z) r tree
 stat_checked view h bytes p found tree absent a x r works is asked f absent_is a_is size_is r_is =
     decided h (ops.Stat bytes) (λ z. node_file_size (shown_tree h.tree (path_or_root bytes)) ≡ view z) x _ tree r asked (stat_late h bytes p works is)
@@ -58,16 +58,16 @@ stat_checked view h bytes p found tree absent a x r works is asked f absent_is a
 
 mkdir_refused : (h : SessionView) (bytes : List ℕ) (p : Path) (found : FoundNode) → h.tree.failed ≡ false → h.tree.writable ≡ true → parse_path bytes ≡ Some p → IsFoundNode (shown_tree h.tree) p found →
     refusal_by_checks h (ops.Mkdir bytes) ≡ first_refusal (found.fault ∷ refuse_if (has_long_name (tree_summary h.tree) p) ops.NameTooLong ∷ refuse_if (not (is_absent found.node)) ops.Exist
-    ∷ refuse_if (exceeds_charge (tree_summary h.tree) (last_name p) []) ops.EntryFull ∷ refuse_if (lacks_free (tree_summary h.tree) h.files 4) ops.NoSpace ∷ [])
+    ∷ refuse_if (exceeds_charge (tree_summary h.tree) (last_name p) []) ops.EntryFull ∷ refuse_if (lacks_room (tree_summary h.tree) h.files 4) ops.NoSpace ∷ [])
 mkdir_refused h bytes p found works writable is f = rw (works, writable, is, f.parents, there (shown_tree h.tree p), f.nothing) refl
 
 pub mkdir_checked : (h : SessionView) (bytes : List ℕ) (p : Path) (found : FoundNode) (tree : TreeState) (len other : ℕ) (long absent over lack : Bool) (a b d e : Option Refusal) (r : Result Path Error) →
     false ≡ h.tree.failed → true ≡ h.tree.writable → Some p ≡ parse_path bytes → OnlyReadsTree h.tree tree → IsFoundNode (shown_tree h.tree) p found →
-    len ≡ length (last_name p) → long ≡ nat_lt (name_max_of tree.disk.profile) len → a ≡ refuse_if long ops.NameTooLong →
+    len ≡ length (last_name p) → long ≡ nat_lt (profile_name_max tree.disk.profile) len → a ≡ refuse_if long ops.NameTooLong →
     absent ≡ is_absent found.node → b ≡ refuse_if (not absent) ops.Exist →
     other ≡ length (last_name p) → ((name : List ℕ) → length name ≡ other → over ≡ exceeds_charge (tree_summary tree) name []) → d ≡ refuse_if over ops.EntryFull →
-    lack ≡ lacks_free (tree_summary tree) h.files 4 → e ≡ refuse_if lack ops.NoSpace →
-    r ≡ value_unless_refused (first_refusal (found.fault ∷ a ∷ b ∷ d ∷ e ∷ [])) p → IsChecksResult h (ops.Mkdir bytes) (λ path. path ≡ path_or_root bytes) r tree
+    lack ≡ lacks_room (tree_summary tree) h.files 4 → e ≡ refuse_if lack ops.NoSpace →
+    r ≡ result_unless_refused (first_refusal (found.fault ∷ a ∷ b ∷ d ∷ e ∷ [])) p → IsChecksResult h (ops.Mkdir bytes) (λ path. path ≡ path_or_root bytes) r tree
 mkdir_checked h bytes p found tree len other long absent over lack a b d e r works writable is asked f len_is long_is a_is absent_is b_is other_is over_is d_is lack_is e_is r_is =
     decided h (ops.Mkdir bytes) (λ path. path ≡ path_or_root bytes) p _ tree r asked (mkdir_late h bytes p works writable is)
     (mkdir_refused h bytes p found (sym works) (sym writable) (sym is) f ∙ ap first_refusal (sym lists))
@@ -77,10 +77,10 @@ mkdir_checked h bytes p found tree len other long absent over lack a b d e r wor
     same = ap tree_summary asked.same
 
     lists : (found.fault ∷ a ∷ b ∷ d ∷ e ∷ []) ≡ (found.fault ∷ refuse_if (has_long_name (tree_summary h.tree) p) ops.NameTooLong ∷ refuse_if (not (is_absent found.node)) ops.Exist
-        ∷ refuse_if (exceeds_charge (tree_summary h.tree) (last_name p) []) ops.EntryFull ∷ refuse_if (lacks_free (tree_summary h.tree) h.files 4) ops.NoSpace ∷ [])
-    lists = both refl (both (when ops.NameTooLong a_is (long_is ∙ ap₂ (λ (around : DiskSummary) n. nat_lt (name_max_of around.profile) n) same len_is)) (both (when ops.Exist b_is (ap not absent_is))
+        ∷ refuse_if (exceeds_charge (tree_summary h.tree) (last_name p) []) ops.EntryFull ∷ refuse_if (lacks_room (tree_summary h.tree) h.files 4) ops.NoSpace ∷ [])
+    lists = both refl (both (when ops.NameTooLong a_is (long_is ∙ ap₂ (λ (around : DiskSummary) n. nat_lt (profile_name_max around.profile) n) same len_is)) (both (when ops.Exist b_is (ap not absent_is))
         (both (when ops.EntryFull d_is (over_is (last_name p) (sym other_is) ∙ ap (λ around. exceeds_charge around (last_name p) []) same))
-        (both (when ops.NoSpace e_is (lack_is ∙ ap (λ around. lacks_free around h.files 4) same)) refl))))
+        (both (when ops.NoSpace e_is (lack_is ∙ ap (λ around. lacks_room around h.files 4) same)) refl))))
 
 -- ---- what no check refuses
 
@@ -104,7 +104,7 @@ pub room_left : (n m k f l : ℕ) → f ≤ k → nat_lt n (m + k + l) ≡ false
 room_left n m k f l few e = grind (arith, nat_tests)
 
 -- there is room beside what is held back
-pub mkdir_space : (h : SessionView) (bytes : List ℕ) → refusal_by_checks h (ops.Mkdir bytes) ≡ None → lacks_free (tree_summary h.tree) h.files 4 ≡ false
+pub mkdir_space : (h : SessionView) (bytes : List ℕ) → refusal_by_checks h (ops.Mkdir bytes) ≡ None → lacks_room (tree_summary h.tree) h.files 4 ≡ false
 mkdir_space h bytes e =
     let a = neither (refuse_if (not h.tree.writable) ops.ReadOnly) _ (not_refused h (ops.Mkdir bytes) e) in
     let b = neither (refuse_if (is_none (parse_path bytes)) ops.Invalid) _ a.1 in
@@ -112,8 +112,8 @@ mkdir_space h bytes e =
     let d = neither (refuse_if (has_long_name (tree_summary h.tree) (path_or_root bytes)) ops.NameTooLong) _ c.1 in
     let i = neither (refuse_if (is_some (shown_tree h.tree (path_or_root bytes))) ops.Exist) _ d.1 in
     let j = neither (refuse_if (exceeds_charge (tree_summary h.tree) (last_name (path_or_root bytes)) []) ops.EntryFull) _ i.1 in
-    let k = neither (refuse_if (lacks_free (tree_summary h.tree) h.files 4) ops.NoSpace) None j.1 in
-    unrefused (lacks_free (tree_summary h.tree) h.files 4) ops.NoSpace k.0
+    let k = neither (refuse_if (lacks_room (tree_summary h.tree) h.files 4) ops.NoSpace) None j.1 in
+    unrefused (lacks_room (tree_summary h.tree) h.files 4) ops.NoSpace k.0
 
 mkdir_passed : (h : SessionView) (bytes : List ℕ) → in_flight_count h.tree.map ≤ reserved_for_writers h.tree.disk.profile h.tree.disk.block_size h.files → refusal_by_checks h (ops.Mkdir bytes) ≡ None → CanMakeDirectory h.tree (path_or_root bytes)
 mkdir_passed h bytes flight e =
@@ -142,7 +142,7 @@ mkdir_can h bytes path tree ready c =
 
 -- ---- an open for reading
 
-no_writing : (f : FlagsOfOpen) → f.write ≡ false → are_allowed f ≡ true → (f.create ≡ false) × (f.exclusive ≡ false) × (f.truncate ≡ false)
+no_writing : (f : FlagsOfOpen) → f.write ≡ false → flags_allowed f ≡ true → (f.create ≡ false) × (f.exclusive ≡ false) × (f.truncate ≡ false)
 no_writing f = go f.unknown f.write f.read f.create f.exclusive f.truncate f.append
   where
     go : (u w r c e t a : Bool) → w ≡ false → (not u && (if w then not r && (c || not e) else r && not (c || e || t || a))) ≡ true → (c ≡ false) × (e ≡ false) × (t ≡ false)
@@ -157,7 +157,7 @@ no_writing f = go f.unknown f.write f.read f.create f.exclusive f.truncate f.app
 abbrev is_busy : SessionView → Path → Bool
 is_busy h p = list_any (λ w. same_path p w.path) (all_writers h.files) || nat_le 16 (length (all_readers h.files))
 
-open_refused : (h : SessionView) (bytes : List ℕ) (p : Path) (flags : FlagsOfOpen) (found : FoundNode) → h.tree.failed ≡ false → parse_path bytes ≡ Some p → flags.write ≡ false → are_allowed flags ≡ true → IsFoundNode (shown_tree h.tree) p found →
+open_refused : (h : SessionView) (bytes : List ℕ) (p : Path) (flags : FlagsOfOpen) (found : FoundNode) → h.tree.failed ≡ false → parse_path bytes ≡ Some p → flags.write ≡ false → flags_allowed flags ≡ true → IsFoundNode (shown_tree h.tree) p found →
     refusal_by_checks h (ops.Open bytes flags) ≡ first_refusal (found.fault ∷ refuse_if (is_absent found.node) ops.NoEnt ∷ refuse_if (is_directory_node found.node) ops.IsDir ∷ refuse_if (is_busy h p) ops.Busy ∷ [])
 open_refused h bytes p flags found works is write allowed f = go (is_none (shown_tree h.tree p)) refl
   where
@@ -170,9 +170,9 @@ open_refused h bytes p flags found works is write allowed f = go (is_none (shown
     go false e = rw (works, allowed, write, is, f.parents, e, sym f.nothing ∙ e, there (shown_tree h.tree p) ∙ ap not e, plain.1, plain.2, f.directories) refl
 
 pub open_checked : (h : SessionView) (bytes : List ℕ) (p : Path) (flags : FlagsOfOpen) (found : FoundNode) (tree : TreeState) (absent directory busy : Bool) (a b d : Option Refusal) (x : FileContents) (r : Result FileContents Error) →
-    (is_file (shown_tree h.tree p) ≡ true → IsStorageAt h.tree.pairs p x) → false ≡ h.tree.failed → Some p ≡ parse_path bytes → flags.write ≡ false → true ≡ are_allowed flags → OnlyReadsTree h.tree tree → IsFoundNode (shown_tree h.tree) p found →
+    (is_file (shown_tree h.tree p) ≡ true → IsStorageAt h.tree.pairs p x) → false ≡ h.tree.failed → Some p ≡ parse_path bytes → flags.write ≡ false → true ≡ flags_allowed flags → OnlyReadsTree h.tree tree → IsFoundNode (shown_tree h.tree) p found →
     absent ≡ is_absent found.node → a ≡ refuse_if absent ops.NoEnt → directory ≡ is_directory_node found.node → b ≡ refuse_if directory ops.IsDir → busy ≡ is_busy h p → d ≡ refuse_if busy ops.Busy →
-    r ≡ value_unless_refused (first_refusal (found.fault ∷ a ∷ b ∷ d ∷ [])) x →
+    r ≡ result_unless_refused (first_refusal (found.fault ∷ a ∷ b ∷ d ∷ [])) x →
     IsChecksResult h (ops.Open bytes flags) (IsReadableFile h.tree h.files bytes) r tree
 open_checked h bytes p flags found tree absent directory busy a b d x r has works is write allowed asked f absent_is a_is directory_is b_is busy_is d_is r_is =
     decided h (ops.Open bytes flags) (IsReadableFile h.tree h.files bytes) x _ tree r asked (reader_late h bytes p flags works is write allowed)

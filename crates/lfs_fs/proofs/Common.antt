@@ -8,7 +8,7 @@ pub use Rattle.lfs_fs.specs.CallEnds.{MeetsReplyRules}
 pub use Rattle.lfs_fs.specs.DeviceLaws.{HasSessionInvariant, DeviceConforms}
 pub use Rattle.lfs_fs.specs.EntryPaths.{entry_path}
 pub use Rattle.lfs_fs.specs.FileAnswers.{file_position}
-pub use Rattle.lfs_fs.specs.FileView.{RuntimeFiles, last_change_end, file_view, file_with_known, file_with_position, files_view, has_unsaved, is_open_where, is_unsaved_writer, is_unsaved_turned, lowest_free, open_file_at, prepended, reader_if_any, reader_view, readers_among, reserved_by, reserved_by_writers, reserved_for, runtime_files_with, selected_files, unsaved_or_tree, writer_if_any, writer_view, writers_among, writers_paths}
+pub use Rattle.lfs_fs.specs.FileView.{RuntimeFiles, last_change_end, file_view, file_with_known, file_with_position, files_view, has_unsaved, is_open_where, is_unsaved_writer, is_unsaved_turned, lowest_free, open_file_at, prepended, reader_if_any, reader_view, readers_among, writer_reserve, writers_reserve, contents_reserve, runtime_files_with, selected_files, unsaved_or_tree, writer_if_any, writer_view, writers_among, writers_paths}
 pub use Rattle.lfs_fs.specs.FlagsView.{flags_view}
 pub use Rattle.lfs_fs.specs.ImageLimits.{ReturnsUnchangedDevice}
 pub use Rattle.lfs_fs.specs.LookUps.{AddsNoReads, NoReadsIfCached, ReadsSearched}
@@ -16,7 +16,7 @@ pub use Rattle.lfs_fs.specs.OpView.{HasRefusalError, op_view, reply_view}
 pub use Rattle.lfs_fs.specs.OpenFilesStay.{ConcernsNoFile, KeepFiles, KeepsWriters, StayReady}
 pub use Rattle.lfs_fs.specs.ReaderReads.{ReadsFew}
 pub use Rattle.lfs_fs.specs.RenamePaths.{prevents_rename}
-pub use Rattle.lfs_fs.specs.Replies.{reply_from, value_unless_refused}
+pub use Rattle.lfs_fs.specs.Replies.{reply_from, result_unless_refused}
 pub use Rattle.lfs_fs.specs.SessionView.{AreCurrentReaders, AreUnsavedContents, AreUnsavedIfAny, FailsChecks, HasKnownBlocks, IsChecksResult, IsCurrentReader, IsReadableFile, IsReady, IsWriterReady, PassesEarlyChecks, SessionFails, SessionView, StepsOrFails, refusal_by_checks, session_view, system_state, view_with_files, viewed_session}
 pub use Rattle.lfs_fs.specs.WriterChanges.{CanChangeWriter, CanOpenWriter, CanSaveWriter, CanTruncateBy, CanWriteBy, IsChangedWriter, IsOpenedWriter, IsSavedWriter, IsUnsavedForm}
 pub use Rattle.lfs_lookup.specs.AttributeAt.{IsAttributesSize}
@@ -32,28 +32,28 @@ pub use Rattle.lfs_model.proofs.Paths.{Names, alike, names, path_from_same, path
 pub use Rattle.lfs_model.proofs.SessionSteps.{not_remount}
 pub use Rattle.lfs_model.proofs.StepsMade.{filled_step, spread_step}
 pub use Rattle.lfs_model.proofs.Uniqueness.{one_thread}
-pub use Rattle.lfs_model.specs.crash.Frame.{KeepsOthers, ReadsEachOnce, ancestor_paths, answers_itself, refused_before_search, is_look_up, needs_session_alone, pair_count_at, searched_directories}
-pub use Rattle.lfs_model.specs.crash.PowerLoss.{HasEitherTree, SurvivesInCalls, SurvivesPowerLoss}
+pub use Rattle.lfs_model.specs.crash.Frame.{KeepsOthers, ReadsEachOnce, ancestor_paths, asks_session, refused_before_search, is_look_up, needs_session_alone, directory_pair_count, searched_directories}
+pub use Rattle.lfs_model.specs.crash.PowerLoss.{HasEitherTree, SurvivesStoppedCalls, SurvivesPowerLoss}
 pub use Rattle.lfs_model.specs.crash.ReadBounds.{ReadsOnceAlways}
 pub use Rattle.lfs_model.specs.crash.RepeatedPowerLoss.{IsMounted}
 pub use Rattle.lfs_model.specs.format.Blocks.{Blocks}
 pub use Rattle.lfs_model.specs.format.Content.{attribute_bytes, attributes_with, attributes_without, content_at}
-pub use Rattle.lfs_model.specs.format.Disk.{Disk, SameGeometry, attr_max_of, block_count, disk_block, file_max_of, inline_limit, name_max_of, ordered_disk}
+pub use Rattle.lfs_model.specs.format.Disk.{Disk, SameGeometry, profile_attr_max, block_count, disk_block, profile_file_max, inline_limit, profile_name_max, ordered_disk}
 pub use Rattle.lfs_model.specs.format.Names.{is_component, same_name, slash_byte}
 pub use Rattle.lfs_model.specs.format.SkipLists.{block_count_for}
 pub use Rattle.lfs_model.specs.format.Slots.{Attributes, Branch, Ctz, Inline, Slot, Struct, attributes_size, zero_gstate}
 pub use Rattle.lfs_model.specs.format.Thread.{Pair, pairs_blocks, pairs_gstate}
 pub use Rattle.lfs_model.specs.layers.BlockSets.{IsInFlight, in_flight_count}
 pub use Rattle.lfs_model.specs.layers.Cache.{CachedBlocks}
-pub use Rattle.lfs_model.specs.layers.Keeping.{struct_at, takes_away}
-pub use Rattle.lfs_model.specs.session.Effects.{file_at_position, file_with_bytes, node_file_size, operation_effect, operation_result, tree_after_storing}
+pub use Rattle.lfs_model.specs.layers.Keeping.{struct_at, vacates_path}
+pub use Rattle.lfs_model.specs.session.Effects.{repositioned_file, node_with_bytes, node_file_size, operation_effect, operation_result, tree_after_storing}
 pub use Rattle.lfs_model.specs.session.Headline.{is_query}
 pub use Rattle.lfs_model.specs.session.History.{AllCalls, CallEvent, IsRead, LeftByLatest, OnlyReadsSince, call_reads, fault_count, read_count}
 pub use Rattle.lfs_model.specs.session.Layout.{IsLayoutRecovered}
 pub use Rattle.lfs_model.specs.session.Operations.{Failed, FlagsOfOpen, Operation, Refusal, Reply, parse_path}
-pub use Rattle.lfs_model.specs.session.Refusals.{is_root_path, is_unusable, operation_refusal, path_or_root}
-pub use Rattle.lfs_model.specs.session.Run.{HealthyHasDiskTree, IsStep, SystemState, WriteNothing, is_dirty, is_read_only, needs_no_device, opens_existing, renames_itself, writes_or_truncates}
-pub use Rattle.lfs_model.specs.session.Session.{DiskSummary, OpenFilesByNumber, Reading, Session, Writing, all_readers, all_writers, are_allowed, exceeds_charge, file_numbered, file_reader, file_writer, files_with_file, first_refusal, free_number_of, has_file, has_long_name, lacks_free, overfills_disk, parents_refusal, refuse_if, reserved_for_writer, reserved_for_writers}
+pub use Rattle.lfs_model.specs.session.Refusals.{is_root_path, path_unusable, operation_refusal, path_or_root}
+pub use Rattle.lfs_model.specs.session.Run.{HealthyHasDiskTree, IsStep, SystemState, WriteNothing, is_dirty, is_read_only, needs_no_device, opens_there, renames_itself, writes_or_truncates}
+pub use Rattle.lfs_model.specs.session.Session.{DiskSummary, OpenFilesByNumber, Reading, Session, Writing, all_readers, all_writers, flags_allowed, exceeds_charge, file_numbered, file_reader, file_writer, files_with_file, first_refusal, free_number_of, has_open_file, has_long_name, lacks_room, overfills_disk, parents_refusal, refuse_if, reserved_for_writer, reserved_for_writers}
 pub use Rattle.lfs_model.specs.session.SlotEdits.{slot_of}
 pub use Rattle.lfs_model.specs.session.State.{HasFailed, Healthy, SessionHealth, is_remount, mounted_session}
 pub use Rattle.lfs_model.specs.session.TreeEdits.{directory_names, file_bytes, is_beneath, is_directory, is_file, last_name, names_with, names_without, node_attributes_of, node_with_names, parent_path, same_path, tree_creating, tree_removing, tree_renaming, tree_with_change, without_prefix}
@@ -64,7 +64,7 @@ pub use Rattle.lfs_model.specs.tree.View.{DiskView, IsAccepted}
 pub use Rattle.lfs_thread.specs.Kept.{disk_of_device}
 pub use Rattle.lfs_tree.specs.CreationPaths.{IsCreationResult}
 pub use Rattle.lfs_tree.specs.KeptFiles.{KeepsOtherFiles}
-pub use Rattle.lfs_tree.specs.OpenContents.{AreTreeContents, InlineWithinLimit, KeepsImage, StoresBytesAt, writer_contents_bytes}
+pub use Rattle.lfs_tree.specs.OpenContents.{AreTreeContents, InlineWithinLimit, KeepsImage, AreBytesStored, writer_contents_bytes}
 pub use Rattle.lfs_tree.specs.Permissions.{CanCreateFile, CanMakeDirectory}
 pub use Rattle.lfs_tree.specs.RenameFindings.{AreRenameFindings}
 pub use Rattle.lfs_tree.specs.SlotChanges.{tree_with_attributes}

@@ -3,7 +3,7 @@ use Rattle.std.proofs.Common.{◌≡◌, false, List, [], ◌∷◌, ◌++◌, R
 use Rattle.lfs_device.specs.declared.device.BlockDevice.{Ghosts}
 use Rattle.lfs_device.specs.declared.error.Error.{Error}
 use Rattle.lfs_fs.proofs.Common.{Blocks, Disk, CallEvent, AllCalls, LeftByLatest, IsRead, OnlyReadsSince, call_reads, Operation, OnlyReadsTree, TreeState, RuntimeFiles, IsChecksResult, session_view, HasSessionInvariant, DeviceConforms}
-use Rattle.lfs_model.specs.crash.Conformance.{CallsConform, ConformsTo}
+use Rattle.lfs_model.specs.crash.Conformance.{CallsConform, CallConforms}
 use Rattle.lfs_model.proofs.Conformance.{conforms_next}
 use Rattle.lfs_fs.proofs.Answered.{asked_by_checks, checked_ready}
 
@@ -16,7 +16,7 @@ laws_met g device t blocks history newest conforms = record {
 
 -- ---- behind reads
 
-conforming_reads : (blocks : Blocks) (e : CallEvent) → IsRead blocks e → ConformsTo e
+conforming_reads : (blocks : Blocks) (e : CallEvent) → IsRead blocks e → CallConforms e
 conforming_reads blocks e read = record {
   reads = λ b o n is ok. read.after ∙ sym read.before;
   programs = λ b o bytes is ok. absurd (let k = sym (ap call_reads is) ∙ read.reads in cc);

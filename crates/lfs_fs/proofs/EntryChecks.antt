@@ -1,6 +1,6 @@
 -- Checks of operations on what stands at a path.
 use Rattle.std.proofs.Common.{ℕ, ◌≡◌, Bool, true, false, not, cond, List, [], ◌∷◌, Option, Some, None, Result, Ok, length, ◌==◌, unwrap_or, is_none, is_some, refl, sym, ap, subst, ◌∙◌, arith}
-use Rattle.lfs_fs.proofs.Common.{option_map, onto_first, slice_split, list_all, lt-ltb, is_component, slash_byte, node_attributes_of, attribute_bytes, Refusal, parse_path, first_refusal, refuse_if, path_or_root, is_unusable, is_root_path, Path, IsFoundNode, is_absent, is_file_node, TreeState, shown_tree, OnlyReadsTree, entry_path, value_unless_refused, SessionView, refusal_by_checks, IsChecksResult}
+use Rattle.lfs_fs.proofs.Common.{option_map, onto_first, slice_split, list_all, lt-ltb, is_component, slash_byte, node_attributes_of, attribute_bytes, Refusal, parse_path, first_refusal, refuse_if, path_or_root, path_unusable, is_root_path, Path, IsFoundNode, is_absent, is_file_node, TreeState, shown_tree, OnlyReadsTree, entry_path, result_unless_refused, SessionView, refusal_by_checks, IsChecksResult}
 use Rattle.lfs_device.specs.declared.error.Error.{Error}
 use Rattle.lfs_model.specs.session.Effects.{items_at}
 use Rattle.lfs_model.specs.session.Operations as ops
@@ -25,7 +25,7 @@ parts_root p (x ∷ xs) = go (p x) (slice_split p xs)
 pub other_entry : (bytes : List ℕ) → (length bytes ≡ 1 → ⊥) → parse_path bytes ≡ entry_path bytes
 other_entry [] h = refl
 other_entry (b ∷ []) h = absurd (h refl)
-other_entry (b ∷ c ∷ bytes) h = path_is ∙ go (b == slash_byte) (list_all is_component parts) parts (parts_root (λ x. x == slash_byte) (c ∷ bytes)) ∙ sym (ap (λ o. cond (is_unusable o) None o) path_is)
+other_entry (b ∷ c ∷ bytes) h = path_is ∙ go (b == slash_byte) (list_all is_component parts) parts (parts_root (λ x. x == slash_byte) (c ∷ bytes)) ∙ sym (ap (λ o. cond (path_unusable o) None o) path_is)
   where
     parts : Path
     parts = slice_split (λ x. x == slash_byte) (c ∷ bytes)
@@ -36,7 +36,7 @@ other_entry (b ∷ c ∷ bytes) h = path_is ∙ go (b == slash_byte) (list_all i
     path_is : parse_path (b ∷ c ∷ bytes) ≡ made (b == slash_byte) (list_all is_component parts) parts
     path_is = ap (λ z. cond (not (b == slash_byte)) None (cond z (cond (list_all is_component parts) (Some parts) None) (Some []))) (lt-ltb 0 (length (c ∷ bytes)) (omega arith))
 
-    go : (s l : Bool) (q : Path) → is_root_path q ≡ false → made s l q ≡ cond (is_unusable (made s l q)) None (made s l q)
+    go : (s l : Bool) (q : Path) → is_root_path q ≡ false → made s l q ≡ cond (path_unusable (made s l q)) None (made s l q)
     go false l q r = refl
     go true false q r = refl
     go true true q r = sym (ap (λ b. cond b None (Some q)) r)
@@ -50,7 +50,7 @@ list_refused h bytes p found works is f = rw (works, is, f.parents, f.nothing, f
 pub list_checked : {A : Type 0} (items : A → List ops.ListedEntry) (h : SessionView) (bytes : List ℕ) (p : Path) (found : FoundNode) (tree : TreeState) (absent file : Bool) (a b : Option Refusal) (x : A) (r : Result A Error) →
     false ≡ h.tree.failed → Some p ≡ parse_path bytes → OnlyReadsTree h.tree tree → IsFoundNode (shown_tree h.tree) p found → items x ≡ items_at (shown_tree h.tree) p →
     absent ≡ is_absent found.node → a ≡ refuse_if absent ops.NoEnt → file ≡ is_file_node found.node → b ≡ refuse_if file ops.NotDir →
-    r ≡ value_unless_refused (first_refusal (found.fault ∷ a ∷ b ∷ [])) x →
+    r ≡ result_unless_refused (first_refusal (found.fault ∷ a ∷ b ∷ [])) x →
     IsChecksResult h (ops.ListAll bytes) (λ z. items_at (shown_tree h.tree) (path_or_root bytes) ≡ items z) r tree
 list_checked items h bytes p found tree absent file a b x r works is asked f are absent_is a_is file_is b_is r_is =
     decided h (ops.ListAll bytes) (λ z. items_at (shown_tree h.tree) (path_or_root bytes) ≡ items z) x _ tree r asked (list_late h bytes p works is)
@@ -78,7 +78,7 @@ pub get_checked : {A : Type 0} (items : A → List ℕ) (h : SessionView) (bytes
     false ≡ h.tree.failed → Some p ≡ entry_path bytes → OnlyReadsTree h.tree tree → IsFoundNode (shown_tree h.tree) p found →
     option_map items attribute ≡ attribute_bytes kind (node_attributes_of (shown_tree h.tree p)) → unwrap_or (attribute_bytes kind (node_attributes_of (shown_tree h.tree p))) [] ≡ items x →
     absent ≡ is_absent found.node → a ≡ refuse_if absent ops.NoEnt → none ≡ is_none attribute → b ≡ refuse_if none ops.NoAttr →
-    r ≡ value_unless_refused (first_refusal (found.fault ∷ a ∷ b ∷ [])) x → IsChecksResult h (ops.GetAttr bytes kind) (λ v. unwrap_or (attribute_bytes kind (node_attributes_of (shown_tree h.tree (path_or_root bytes)))) [] ≡ items v) r tree
+    r ≡ result_unless_refused (first_refusal (found.fault ∷ a ∷ b ∷ [])) x → IsChecksResult h (ops.GetAttr bytes kind) (λ v. unwrap_or (attribute_bytes kind (node_attributes_of (shown_tree h.tree (path_or_root bytes)))) [] ≡ items v) r tree
 get_checked items h bytes kind p found tree attribute absent none a b x r works is asked f attr given absent_is a_is none_is b_is r_is =
     decided h (ops.GetAttr bytes kind) (λ v. unwrap_or (attribute_bytes kind (node_attributes_of (shown_tree h.tree (path_or_root bytes)))) [] ≡ items v) x _ tree r asked (get_late h bytes kind p works is)
     (get_refused h bytes kind p found (sym works) (is_entry bytes p is).0 (root_false bytes p is) f ∙ ap first_refusal (sym lists))
@@ -95,7 +95,7 @@ pub remove_attr_checked : {A : Type 0} (items : A → List ℕ) (h : SessionView
     false ≡ h.tree.failed → true ≡ h.tree.writable → Some p ≡ entry_path bytes → OnlyReadsTree h.tree tree → IsFoundNode (shown_tree h.tree) p found →
     option_map items attribute ≡ attribute_bytes kind (node_attributes_of (shown_tree h.tree p)) →
     absent ≡ is_absent found.node → a ≡ refuse_if absent ops.NoEnt → none ≡ is_none attribute → b ≡ refuse_if none ops.NoAttr →
-    r ≡ value_unless_refused (first_refusal (found.fault ∷ a ∷ b ∷ [])) p → IsChecksResult h (ops.RemoveAttr bytes kind) (λ path. path ≡ path_or_root bytes) r tree
+    r ≡ result_unless_refused (first_refusal (found.fault ∷ a ∷ b ∷ [])) p → IsChecksResult h (ops.RemoveAttr bytes kind) (λ path. path ≡ path_or_root bytes) r tree
 remove_attr_checked items h bytes kind p found tree attribute absent none a b r works writable is asked f attr absent_is a_is none_is b_is r_is =
     decided h (ops.RemoveAttr bytes kind) (λ path. path ≡ path_or_root bytes) p _ tree r asked (remove_attr_late h bytes kind p works writable is)
     (remove_attr_refused h bytes kind p found (sym works) (sym writable) (is_entry bytes p is).0 (root_false bytes p is) f ∙ ap first_refusal (sym lists))
@@ -104,7 +104,7 @@ remove_attr_checked items h bytes kind p found tree attribute absent none a b r 
     lists : (found.fault ∷ a ∷ b ∷ []) ≡ (found.fault ∷ refuse_if (is_absent found.node) ops.NoEnt ∷ refuse_if (is_none (attribute_bytes kind (node_attributes_of (shown_tree h.tree p)))) ops.NoAttr ∷ [])
     lists = both refl (both (when ops.NoEnt a_is absent_is) (both (when ops.NoAttr b_is (missing items attribute _ none attr none_is)) refl))
 
-pub good_root : (o : Option Path) → is_unusable o ≡ false → is_root_path (unwrap_or o []) ≡ false
+pub good_root : (o : Option Path) → path_unusable o ≡ false → is_root_path (unwrap_or o []) ≡ false
 good_root None e = absurd (cc)
 good_root (Some p) e = e
 

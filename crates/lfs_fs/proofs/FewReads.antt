@@ -1,13 +1,13 @@
 -- How many reads a look-up takes, by the calls that came.
 use Rattle.std.proofs.Common.{ℕ, ◌≡◌, ◌≤◌, ◌+◌, List, [], ◌∷◌, ◌++◌, Option, Some, unwrap_or, ap, arith}
 use Rattle.std.specs.Prelude.{sum_by}
-use Rattle.lfs_fs.proofs.Common.{ReadsEachOnce, pair_count_at, CallEvent, read_count, Operation, parse_path, path_or_root, Path, TreeState, ReadsSearched}
+use Rattle.lfs_fs.proofs.Common.{ReadsEachOnce, directory_pair_count, CallEvent, read_count, Operation, parse_path, path_or_root, Path, TreeState, ReadsSearched}
 
 -- a bound by the path of bytes
-pub few_given : (old new : TreeState) (f : Path → List Path) (bytes : List ℕ) (p : Path) → Some p ≡ parse_path bytes → read_count new.history ≤ read_count old.history + sum_by (pair_count_at old.pairs) (f p)
-    → read_count new.history ≤ read_count old.history + sum_by (pair_count_at old.pairs) (f (path_or_root bytes))
+pub few_given : (old new : TreeState) (f : Path → List Path) (bytes : List ℕ) (p : Path) → Some p ≡ parse_path bytes → read_count new.history ≤ read_count old.history + sum_by (directory_pair_count old.pairs) (f p)
+    → read_count new.history ≤ read_count old.history + sum_by (directory_pair_count old.pairs) (f (path_or_root bytes))
 few_given old new f bytes p is few =
-    let e = ap (λ (o : Option Path). sum_by (pair_count_at old.pairs) (f (unwrap_or o []))) is in
+    let e = ap (λ (o : Option Path). sum_by (directory_pair_count old.pairs) (f (unwrap_or o []))) is in
     omega (arith, e, few)
 
 pub reads_over : (calls older : List CallEvent) → read_count (calls ++ older) ≡ read_count calls + read_count older

@@ -1,10 +1,10 @@
 -- Files beside a path at which nothing has names.
 use Rattle.std.proofs.Common.{ℕ, ◌≡◌, ◌||◌, ◌++◌, ◌∙◌, Bool, true, false, cond, List, [], ◌∷◌, length, map, Option, Some, None, is_some, refl, sym, ap, arith, append-nil}
-use Rattle.lfs_fs.proofs.Common.{option_map, is_file, directory_names, without_prefix, same_path, Slot, Struct, Inline, Ctz, Branch, Path, struct_node, struct_list_bytes, all_entries, path_itself, AllByRecursion, has_file, TreeState, shown_tree, RuntimeFiles, files_view, readers_among}
+use Rattle.lfs_fs.proofs.Common.{option_map, is_file, directory_names, without_prefix, same_path, Slot, Struct, Inline, Ctz, Branch, Path, struct_node, struct_list_bytes, all_entries, path_itself, AllByRecursion, has_open_file, TreeState, shown_tree, RuntimeFiles, files_view, readers_among}
 use Rattle.std.specs.Option.{option_and_then}
 use Rattle.lfs_model.proofs.Orders.{length_in_order}
 use Rattle.lfs_model.specs.declared.order.NameOrder.TheVariants.{ShorterFirst}
-use Rattle.lfs_model.specs.tree.Tree.{EntryMap, branch_address, root_slot, slot_at_path, beneath_slot}
+use Rattle.lfs_model.specs.tree.Tree.{EntryMap, branch_address, root_slot, slot_at_path, slot_subtree}
 use Rattle.lfs_model.specs.format.Thread.{root_address}
 use Rattle.lfs_model.proofs.Paths.{rest_from}
 use Rattle.lfs_model.proofs.Walks.{IsLeaf, leaf_walk, walk_append}
@@ -22,7 +22,7 @@ module _ (c : ℕ → ℕ → List ℕ) (E : EntryMap) where
       bare [] ys e l = sym e
       bare (x ∷ xs) ys e l = absurd (omega arith)
 
-  pub bare_beneath : (s : Slot) (P : Path) (m : List ℕ) (r : Path) → length (directory_names (beneath_slot c E s P)) ≡ 0 → beneath_slot c E s (P ++ m ∷ r) ≡ None
+  pub bare_beneath : (s : Slot) (P : Path) (m : List ℕ) (r : Path) → length (directory_names (slot_subtree c E s P)) ≡ 0 → slot_subtree c E s (P ++ m ∷ r) ≡ None
   bare_beneath s P m r l = ap (option_map (λ u. struct_node c E u.attributes u.struct)) (walk_append E s P (m ∷ r) ∙ go (slot_at_path E s P) l)
     where
       go : (o : Option Slot) → length (directory_names (option_map (λ (u : Slot). struct_node c E u.attributes u.struct) o)) ≡ 0 → option_and_then (λ u. slot_at_path E u (m ∷ r)) o ≡ None
@@ -38,7 +38,7 @@ not_some true x e = absurd (cc)
 not_some false x e = refl
 
 -- where no file is open at such a path, no reader is
-pub no_reader_at : (t : TreeState) (files : RuntimeFiles) (p : Path → Bool) → has_file p (files_view t files) ≡ false → AllByRecursion (λ r. p r.path ≡ false) (readers_among files)
+pub no_reader_at : (t : TreeState) (files : RuntimeFiles) (p : Path → Bool) → has_open_file p (files_view t files) ≡ false → AllByRecursion (λ r. p r.path ≡ false) (readers_among files)
 no_reader_at t [] p e = tt
 no_reader_at t (None ∷ fs) p e = no_reader_at t fs p e
 no_reader_at t (Some (file.Reading r) ∷ fs) p e = let k = or_false _ _ e in (not_some _ _ k.0, no_reader_at t fs p k.1)

@@ -8,7 +8,7 @@ use Rattle.lfs_device.specs.declared.device.BlockDevice.{Ghosts}
 use Rattle.lfs_device.specs.declared.error.Error.{Error}
 use Rattle.lfs_device.specs.declared.error.Error.TheVariants.{Corrupt}
 use Rattle.lfs_model.specs.format.EntryTypes.{SuperblockFields, superblock_fields}
-use Rattle.lfs_model.specs.tree.Profile.{are_usable, with_limits, image_fields}
+use Rattle.lfs_model.specs.tree.Profile.{limits_usable, profile_with_limits, image_fields}
 use Rattle.lfs_model.specs.tree.View.{IsFormedList, BeginsWithSuperblock, accepts_version, chain_pairs}
 use Rattle.lfs_model.specs.declared.limits.Profile.{Profile}
 use Rattle.lfs_model.specs.declared.order.NameOrder.{NameOrder}
@@ -73,8 +73,8 @@ module _ (disk : Disk) (from to : Profile) (same : from.versions ≡ to.versions
         owned_once = subst (IsDistinct nat_eq) (used ps) ok.owned_once;
       }
 
-pub same_versions : (fields : SuperblockFields) (profile : Profile) → (with_limits fields profile).versions ≡ profile.versions
-same_versions fields profile = go (are_usable fields)
+pub same_versions : (fields : SuperblockFields) (profile : Profile) → (profile_with_limits fields profile).versions ≡ profile.versions
+same_versions fields profile = go (limits_usable fields)
   where
     limits : Profile
     limits = record profile { name_max = fields.name_max; file_max = fields.file_max; attr_max = fields.attr_max }
@@ -84,9 +84,9 @@ same_versions fields profile = go (are_usable fields)
     go false = refl
 
 -- where the superblock's limits are the profile's, so is all else
-pub same_limits : (fields : SuperblockFields) (profile limits : Profile) → limits ≡ with_limits fields profile → (limits.name_max ≡ profile.name_max) × (limits.file_max ≡ profile.file_max) × (limits.attr_max ≡ profile.attr_max) → limits ≡ profile
+pub same_limits : (fields : SuperblockFields) (profile limits : Profile) → limits ≡ profile_with_limits fields profile → (limits.name_max ≡ profile.name_max) × (limits.file_max ≡ profile.file_max) × (limits.attr_max ≡ profile.attr_max) → limits ≡ profile
 same_limits fields profile limits is same =
-    is ∙ go (are_usable fields) (sym (ap (λ (k : Profile). k.name_max) is) ∙ same.0) (sym (ap (λ (k : Profile). k.file_max) is) ∙ same.1) (sym (ap (λ (k : Profile). k.attr_max) is) ∙ same.2)
+    is ∙ go (limits_usable fields) (sym (ap (λ (k : Profile). k.name_max) is) ∙ same.0) (sym (ap (λ (k : Profile). k.file_max) is) ∙ same.1) (sym (ap (λ (k : Profile). k.attr_max) is) ∙ same.2)
   where
     made : ℕ → ℕ → ℕ → Profile
     made n f a = record profile { name_max = n; file_max = f; attr_max = a }
@@ -145,7 +145,7 @@ module _ {D : Type 0} (g : Ghosts D) (device : D) (profile : Profile) (s read : 
     is_below : below s.tree.disk.order profile ≡ below read.tree.disk.order read.tree.disk.profile
     is_below = ap₂ below (sym (ap (λ (t : TreeState). t.disk.order) only.tree.same)) (sym (ap (λ (t : TreeState). t.disk.profile) only.tree.same ∙ its_profile))
 
-    pub begun_at_once : (fields : SuperblockFields) (limits : Profile) → image_fields s.tree.pairs ≡ Some fields → limits ≡ with_limits fields profile → limits ≡ profile → BeginsLimited (disk_of_device g device) (g.history device) profile read
+    pub begun_at_once : (fields : SuperblockFields) (limits : Profile) → image_fields s.tree.pairs ≡ Some fields → limits ≡ profile_with_limits fields profile → limits ≡ profile → BeginsLimited (disk_of_device g device) (g.history device) profile read
     begun_at_once fields limits has limits_is same = record {
       fields = fields;
       superblock = ap (λ (t : TreeState). image_fields t.pairs) only.tree.same ∙ has;
@@ -209,7 +209,7 @@ module _ {D : Type 0} (g : Ghosts D) (device : D) (profile : Profile) (s read : 
     new_profile : (h : SessionView) → h.tree.disk ≡ first h.tree.disk.order → limits ≡ h.tree.disk.profile
     new_profile h is = sym (ap (λ (d : Disk). d.profile) is)
 
-    begun_again : (fields : SuperblockFields) (h : SessionView) → image_fields s.tree.pairs ≡ Some fields → limits ≡ with_limits fields profile → BeginsByMount (first h.tree.disk.order) (g.history back) h → BeginsLimited (disk_of_device g device) (g.history device) profile h
+    begun_again : (fields : SuperblockFields) (h : SessionView) → image_fields s.tree.pairs ≡ Some fields → limits ≡ profile_with_limits fields profile → BeginsByMount (first h.tree.disk.order) (g.history back) h → BeginsLimited (disk_of_device g device) (g.history device) profile h
     begun_again fields h has limits_is later =
         let earlier = begun_earlier h later in
         record {
@@ -219,7 +219,7 @@ module _ {D : Type 0} (g : Ghosts D) (device : D) (profile : Profile) (s read : 
           begun = subst (λ k. BeginsByMount (below h.tree.disk.order k) (g.history device) h) (new_profile h later.disk_is) earlier;
         }
 
-    pub begun_if_ok : {A : Type 0} (fields : SuperblockFields) (r : Result SessionView A) → image_fields s.tree.pairs ≡ Some fields → limits ≡ with_limits fields profile → IfOk r (λ h. BeginsByMount (first h.tree.disk.order) (g.history back) h) →
+    pub begun_if_ok : {A : Type 0} (fields : SuperblockFields) (r : Result SessionView A) → image_fields s.tree.pairs ≡ Some fields → limits ≡ profile_with_limits fields profile → IfOk r (λ h. BeginsByMount (first h.tree.disk.order) (g.history back) h) →
         IfOk r (BeginsLimited (disk_of_device g device) (g.history device) profile)
     begun_if_ok fields (Ok h) has limits_is later = begun_again fields h has limits_is later
     begun_if_ok fields (Err e) has limits_is later = tt
@@ -237,7 +237,7 @@ module _ {D : Type 0} (g : Ghosts D) (device : D) (profile : Profile) (s read : 
         longer short ps (subst (λ d. IsAccepted d ps) (sym (again.disk LongerFirst limits)) (subst (λ k. IsAccepted (below LongerFirst k) ps) (sym (new_profile h later.disk_is)) ok))
     longer_if_ok (Err e) later longer = tt
 
-    pub corrupt_if_err : {A : Type 0} (fields : SuperblockFields) (r : Result A (D × Error)) → limits ≡ with_limits fields profile → IfErr r (λ e. e.1 ≡ Corrupt → (order : NameOrder) (ps : List Pair) → IsAccepted (first order) ps → ⊥) →
+    pub corrupt_if_err : {A : Type 0} (fields : SuperblockFields) (r : Result A (D × Error)) → limits ≡ profile_with_limits fields profile → IfErr r (λ e. e.1 ≡ Corrupt → (order : NameOrder) (ps : List Pair) → IsAccepted (first order) ps → ⊥) →
         IfErr r (λ e. e.1 ≡ Corrupt → (order : NameOrder) (ps : List Pair) → IsAccepted (below order profile) ps → ⊥)
     corrupt_if_err fields (Ok x) limits_is corrupt = tt
     corrupt_if_err fields (Err e) limits_is corrupt = λ is order ps ok.

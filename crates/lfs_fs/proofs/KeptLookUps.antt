@@ -1,7 +1,7 @@
 -- Look-ups in directories that are cached, and a stat that has just brought them there.
 use Rattle.std.proofs.Common.{ℕ, ◌≡◌, List, [], ◌∷◌, Option, Some, None, Result, Ok, Err, unwrap_or, refl, sym, ap, subst, arith}
 use Rattle.std.specs.Prelude.{Contains, OnOk}
-use Rattle.lfs_fs.proofs.Common.{All-from_recursion, pair_count_at, searched_directories, read_count, Operation, Refusal, parse_path, path_or_root, first_refusal, Pair, Path, each_weaker, AreFewSmall, HasCachedDirectories, TreeState, AddsNoReads, NoReadsIfCached, value_unless_refused}
+use Rattle.lfs_fs.proofs.Common.{All-from_recursion, directory_pair_count, searched_directories, read_count, Operation, Refusal, parse_path, path_or_root, first_refusal, Pair, Path, each_weaker, AreFewSmall, HasCachedDirectories, TreeState, AddsNoReads, NoReadsIfCached, result_unless_refused}
 use Rattle.std.proofs.lemmas.List.Elements.{All-contains, recursion_from_All}
 use Rattle.lfs_device.specs.declared.error.Error.{Error}
 use Rattle.lfs_model.specs.layers.Cache.{cache_limit}
@@ -20,11 +20,11 @@ none_given old new f bytes p is h = subst (λ q. HasCachedDirectories old (f q) 
 
 -- what is found at the path passes the checks only where no parent refuses it
 pub hand_given : {A : Type 0} (old new : TreeState) (f : Path → List Path) (bytes : List ℕ) (p : Path) (fault : Option Refusal) (others : List (Option Refusal)) (x : A) (r : Result A Error) → Some p ≡ parse_path bytes
-    → r ≡ value_unless_refused (first_refusal (fault ∷ others)) x → (AreFewSmall old.pairs (f p) → fault ≡ None → HasCachedDirectories new (f p)) → AreFewSmall old.pairs (f (path_or_root bytes)) → OnOk r (HasCachedDirectories new (f (path_or_root bytes)))
+    → r ≡ result_unless_refused (first_refusal (fault ∷ others)) x → (AreFewSmall old.pairs (f p) → fault ≡ None → HasCachedDirectories new (f p)) → AreFewSmall old.pairs (f (path_or_root bytes)) → OnOk r (HasCachedDirectories new (f (path_or_root bytes)))
 hand_given {A = A} old new f bytes p fault others x r is passes h small =
     go fault passes (subst (λ q. AreFewSmall old.pairs (f q) → fault ≡ None → HasCachedDirectories new (f q)) (given bytes p is) h small)
   where
-    go : (o : Option Refusal) → r ≡ value_unless_refused (first_refusal (o ∷ others)) x → (o ≡ None → HasCachedDirectories new (f (path_or_root bytes))) → OnOk r (HasCachedDirectories new (f (path_or_root bytes)))
+    go : (o : Option Refusal) → r ≡ result_unless_refused (first_refusal (o ∷ others)) x → (o ≡ None → HasCachedDirectories new (f (path_or_root bytes))) → OnOk r (HasCachedDirectories new (f (path_or_root bytes)))
     go (Some refusal) e k = subst (λ (z : Result A Error). OnOk z (HasCachedDirectories new (f (path_or_root bytes)))) (sym e) tt
     go None e k = any r (k refl)
       where
@@ -48,7 +48,7 @@ reads_none old new op none there calls is =
 module _ (ps : List Pair) (before op : Operation) (k : SearchesSameDirectories ps before op) where
   -- the directories that it searched are small
   pub kept_small : AreFewSmall ps (searched_directories before)
-  kept_small = record { few = k.few; small = recursion_from_All (λ p. pair_count_at ps p ≡ 1) (searched_directories before) k.small }
+  kept_small = record { few = k.few; small = recursion_from_All (λ p. directory_pair_count ps p ≡ 1) (searched_directories before) k.small }
 
   -- and where they are cached so are those of the look-up behind it
   pub kept_hand : (t : TreeState) → HasCachedDirectories t (searched_directories before) → HasCachedDirectories t (searched_directories op)

@@ -1,7 +1,7 @@
 -- Open files, as they are kept and as the definitions have them.
 use Rattle.std.proofs.Common.{ℕ, zero, suc, fold, unwrap_or, ◌≡◌, ◌+◌, ◌<◌, ◌≤◌, ◌||◌, Bool, true, false, cond, not, List, [], ◌∷◌, ◌++◌, length, map, set, Option, Some, None, is_some, is_none, nat_le, nat_lt, refl, sym, ap, ap₂, subst, ◌∙◌, arith}
 use Rattle.std.specs.Prelude.{slice_get, sum_by}
-use Rattle.lfs_fs.proofs.Common.{AllByRecursion, list_any, option_flatten, option_map, lt-ltb, ltb-true, same_Some, inline_limit, contents_form, FormFitsWriter, ContentsForm, IsWriterForm, nat_tests, map-set, map-append, same_path, Path, has_file, Reading, file_numbered, free_number_of, reserved_for_writers, reserved_for_writer, files_with_file, file_reader, all_readers, all_writers, path_or_root, file_at_position, parse_path, block_count, lacks_free, TreeState, OnlyReadsTree, tree_summary, RuntimeFiles, prepended, selected_files, unsaved_or_tree, open_file_at, file_view, files_view, lowest_free, has_unsaved, is_open_where, is_unsaved_writer, reserved_by_writers, reserved_by, reserved_for, file_with_known, file_with_position, runtime_files_with, reader_if_any, reader_view, readers_among, is_unsaved_turned, writer_if_any, writer_view, writers_among, writers_paths, HasKnownBlocks, IsCurrentReader, IsReady, AreUnsavedIfAny, IsWriterReady}
+use Rattle.lfs_fs.proofs.Common.{AllByRecursion, list_any, option_flatten, option_map, lt-ltb, ltb-true, same_Some, inline_limit, contents_form, FormFitsWriter, ContentsForm, IsWriterForm, nat_tests, map-set, map-append, same_path, Path, has_open_file, Reading, file_numbered, free_number_of, reserved_for_writers, reserved_for_writer, files_with_file, file_reader, all_readers, all_writers, path_or_root, repositioned_file, parse_path, block_count, lacks_room, TreeState, OnlyReadsTree, tree_summary, RuntimeFiles, prepended, selected_files, unsaved_or_tree, open_file_at, file_view, files_view, lowest_free, has_unsaved, is_open_where, is_unsaved_writer, writers_reserve, writer_reserve, contents_reserve, file_with_known, file_with_position, runtime_files_with, reader_if_any, reader_view, readers_among, is_unsaved_turned, writer_if_any, writer_view, writers_among, writers_paths, HasKnownBlocks, IsCurrentReader, IsReady, AreUnsavedIfAny, IsWriterReady}
 use Rattle.lfs_model.specs.declared.limits.Profile.{Profile}
 use Rattle.lfs_file.specs.Form as form
 use Rattle.std.proofs.lemmas.Option.{slice_get-map}
@@ -75,21 +75,21 @@ busy t fs p = ap₂ (λ b n. b || nat_le 16 n) (sym (ap (list_any (λ w. same_pa
 
 -- ---- space
 
-pub held_one : (profile : Profile) (block_size : ℕ) (t : TreeState) (w : Writer) → length (unsaved_or_tree t w.path w.unsaved) ≡ w.size → reserved_by profile block_size w ≡ reserved_for_writer profile block_size (writer_view t w)
-held_one profile block_size t w e = sizes w.unsaved w.size ∙ ap (λ n. cond (not (is_some w.unsaved)) 0 (reserved_for profile block_size (is_unsaved_turned w.unsaved) n)) (sym e)
+pub held_one : (profile : Profile) (block_size : ℕ) (t : TreeState) (w : Writer) → length (unsaved_or_tree t w.path w.unsaved) ≡ w.size → writer_reserve profile block_size w ≡ reserved_for_writer profile block_size (writer_view t w)
+held_one profile block_size t w e = sizes w.unsaved w.size ∙ ap (λ n. cond (not (is_some w.unsaved)) 0 (contents_reserve profile block_size (is_unsaved_turned w.unsaved) n)) (sym e)
   where
-    sizes : (u : Option UnsavedContents) (n : ℕ) → cond (is_none u) 0 (reserved_for profile block_size (is_unsaved_turned u) n) ≡ cond (not (is_some u)) 0 (reserved_for profile block_size (is_unsaved_turned u) n)
+    sizes : (u : Option UnsavedContents) (n : ℕ) → cond (is_none u) 0 (contents_reserve profile block_size (is_unsaved_turned u) n) ≡ cond (not (is_some u)) 0 (contents_reserve profile block_size (is_unsaved_turned u) n)
     sizes None n = refl
     sizes (Some u) n = refl
 
 held_each : (profile : Profile) (block_size a : ℕ) (t : TreeState) (ws : List Writer) → AllByRecursion (IsWriterReady t) ws →
-    fold (λ a x. a + reserved_by profile block_size x) a ws ≡ fold (λ a x. a + reserved_for_writer profile block_size x) a (map (writer_view t) ws)
+    fold (λ a x. a + writer_reserve profile block_size x) a ws ≡ fold (λ a x. a + reserved_for_writer profile block_size x) a (map (writer_view t) ws)
 held_each profile block_size a t [] h = refl
 held_each profile block_size a t (w ∷ ws) h =
-    held_each profile block_size (a + reserved_by profile block_size w) t ws h.1
+    held_each profile block_size (a + writer_reserve profile block_size w) t ws h.1
     ∙ ap (λ n. fold (λ a x. a + reserved_for_writer profile block_size x) (a + n) (map (writer_view t) ws)) (held_one profile block_size t w h.0.size)
 
-pub held_is : (profile : Profile) (block_size : ℕ) (t : TreeState) (fs : RuntimeFiles) → IsReady t fs → reserved_by_writers profile block_size fs ≡ reserved_for_writers profile block_size (files_view t fs)
+pub held_is : (profile : Profile) (block_size : ℕ) (t : TreeState) (fs : RuntimeFiles) → IsReady t fs → writers_reserve profile block_size fs ≡ reserved_for_writers profile block_size (files_view t fs)
 held_is profile block_size t fs ready = held_each profile block_size 0 t (writers_among fs) ready.written ∙ sym (ap (sum_by (reserved_for_writer profile block_size)) (writers_are t fs))
 
 -- ---- numbers
@@ -137,12 +137,12 @@ pub set_is : (t : TreeState) (fs : RuntimeFiles) (fd : ℕ) (entry : Option Open
 set_is t fs fd entry e = sym (ap (λ b. files_view t (cond b (set fs fd entry) (fs ++ entry ∷ []))) (inside fs fd e)) ∙ put_is t fs fd entry
 
 pub moved_is : (t : TreeState) (fs : RuntimeFiles) (fd position : ℕ) → is_some (open_file_at fs fd) ≡ true →
-    files_view t (set fs fd (option_map (file_with_position position) (open_file_at fs fd))) ≡ files_with_file (files_view t fs) fd (option_map (file_at_position position) (file_numbered (files_view t fs) fd))
+    files_view t (set fs fd (option_map (file_with_position position) (open_file_at fs fd))) ≡ files_with_file (files_view t fs) fd (option_map (repositioned_file position) (file_numbered (files_view t fs) fd))
 moved_is t fs fd position e =
     set_is t fs fd (option_map (file_with_position position) (open_file_at fs fd)) e
-    ∙ ap (files_with_file (files_view t fs) fd) (moved (open_file_at fs fd) ∙ sym (ap (option_map (file_at_position position)) (file_is t fs fd)))
+    ∙ ap (files_with_file (files_view t fs) fd) (moved (open_file_at fs fd) ∙ sym (ap (option_map (repositioned_file position)) (file_is t fs fd)))
   where
-    moved : (o : Option OpenFile) → option_map (file_view t) (option_map (file_with_position position) o) ≡ option_map (file_at_position position) (option_map (file_view t) o)
+    moved : (o : Option OpenFile) → option_map (file_view t) (option_map (file_with_position position) o) ≡ option_map (repositioned_file position) (option_map (file_view t) o)
     moved None = refl
     moved (Some (file.Reading r)) = refl
     moved (Some (file.Writing w)) = refl
@@ -431,7 +431,7 @@ busy_at t fs bytes p b is e =
     e ∙ busy t fs (path_or_root bytes)
     ∙ ap (λ q. list_any (λ w. same_path q w.path) (all_writers (files_view t fs)) || nat_le 16 (length (all_readers (files_view t fs)))) (ap (λ z. unwrap_or z []) (sym is))
 
-pub lacks_is : (t : TreeState) (fs : RuntimeFiles) (need : ℕ) → IsReady t fs → nat_lt (block_count t.disk) (length (tree_summary t).used + reserved_by_writers t.disk.profile t.disk.block_size fs + need) ≡ lacks_free (tree_summary t) (files_view t fs) need
+pub lacks_is : (t : TreeState) (fs : RuntimeFiles) (need : ℕ) → IsReady t fs → nat_lt (block_count t.disk) (length (tree_summary t).used + writers_reserve t.disk.profile t.disk.block_size fs + need) ≡ lacks_room (tree_summary t) (files_view t fs) need
 lacks_is t fs need ready = ap (λ h. nat_lt (block_count t.disk) (length (tree_summary t).used + h + need)) (held_is t.disk.profile t.disk.block_size t fs ready)
 
 pub some_reader : (t : TreeState) (fs : RuntimeFiles) (fd : ℕ) (r : Reader) → Some r ≡ reader_if_any (open_file_at fs fd) → Some (reader_view r) ≡ file_reader (file_numbered (files_view t fs) fd)
@@ -448,7 +448,7 @@ chosen : (b : Bool) (o : session.OpenFile) → b ≡ is_some (cond b (Some o) No
 chosen true o = refl
 chosen false o = refl
 
-pub open_at_is : (t : TreeState) (p : Path → Bool) (fs : RuntimeFiles) → list_any (is_open_where p) fs ≡ has_file p (files_view t fs)
+pub open_at_is : (t : TreeState) (p : Path → Bool) (fs : RuntimeFiles) → list_any (is_open_where p) fs ≡ has_open_file p (files_view t fs)
 open_at_is t p [] = refl
 open_at_is t p (None ∷ fs) = open_at_is t p fs
 open_at_is t p (Some (file.Reading r) ∷ fs) = ap₂ (λ a b. a || b) (chosen (p r.path) (session.Reading (reader_view r))) (open_at_is t p fs)

@@ -1,6 +1,6 @@
 -- What the readers among open files keep.
 use Rattle.std.proofs.Common.{ℕ, zero, suc, ◌≡◌, ◌||◌, ◌∙◌, Bool, true, false, cond, List, [], ◌∷◌, ◌++◌, length, map, set, nat_lt, unwrap_or, Option, Some, None, refl, sym, ap, subst}
-use Rattle.lfs_fs.proofs.Common.{AllByRecursion, list_any, option_map, same_Some, Disk, takes_away, Operation, struct_list_bytes, all_entries, disk_tree, slot_of, Attributes, Slot, Pair, Path, struct_node, is_file, same_path, path_from_same, path_itself, IsStorageAt, contents_struct, KeepsOtherFiles, IsApplied, TreeState, kept_thread, shown_tree, RuntimeFiles, prepended, open_file_at, file_with_position, runtime_files_with, reader_if_any, readers_among, writers_among, writers_paths, AreCurrentReaders, IsCurrentReader}
+use Rattle.lfs_fs.proofs.Common.{AllByRecursion, list_any, option_map, same_Some, Disk, vacates_path, Operation, struct_list_bytes, all_entries, disk_tree, slot_of, Attributes, Slot, Pair, Path, struct_node, is_file, same_path, path_from_same, path_itself, IsStorageAt, contents_struct, KeepsOtherFiles, IsApplied, TreeState, kept_thread, shown_tree, RuntimeFiles, prepended, open_file_at, file_with_position, runtime_files_with, reader_if_any, readers_among, writers_among, writers_paths, AreCurrentReaders, IsCurrentReader}
 use Rattle.lfs_lookup.specs.FileContents.{AreContentsAt}
 use Rattle.lfs_lookup.specs.declared.file_contents.FileContents.{FileContents}
 use Rattle.lfs_lookup.specs.declared.file_contents.FileContents.TheVariants as contents
@@ -135,7 +135,7 @@ read_put ps fs fd r same k h =
     (all_put (IsCurrentReader ps (writers_paths fs)) fs fd (Some (file.Reading r)) (k, tt) h)
 
 -- in an operation that is about none of them
-pub read_carried : (old new : TreeState) (op : Operation) (written : List Path) (rs : List Reader) → IsApplied old op new → AllByRecursion (λ r. takes_away op r.path ≡ false) rs → AllByRecursion (IsCurrentReader old.pairs written) rs → AllByRecursion (IsCurrentReader new.pairs written) rs
+pub read_carried : (old new : TreeState) (op : Operation) (written : List Path) (rs : List Reader) → IsApplied old op new → AllByRecursion (λ r. vacates_path op r.path ≡ false) rs → AllByRecursion (IsCurrentReader old.pairs written) rs → AllByRecursion (IsCurrentReader new.pairs written) rs
 read_carried old new op written [] carried off h = tt
 read_carried old new op written (r ∷ rs) carried off h = (
   record {
@@ -148,7 +148,7 @@ read_carried old new op written (r ∷ rs) carried off h = (
   read_carried old new op written rs carried off.1 h.1,
 )
 
-pub none_read : (op : Operation) → ((p : Path) → takes_away op p ≡ false) → (rs : List Reader) → AllByRecursion (λ r. takes_away op r.path ≡ false) rs
+pub none_read : (op : Operation) → ((p : Path) → vacates_path op p ≡ false) → (rs : List Reader) → AllByRecursion (λ r. vacates_path op r.path ≡ false) rs
 none_read op h [] = tt
 none_read op h (r ∷ rs) = (h r.path, none_read op h rs)
 

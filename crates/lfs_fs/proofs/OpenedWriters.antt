@@ -1,7 +1,7 @@
 -- A file that is opened for writing.
 use Rattle.std.proofs.Common.{append_assoc, ℕ, zero, suc, ◌≡◌, ◌≢◌, ◌∙◌, ◌+◌, ◌<◌, ◌≤◌, ◌||◌, ◌&&◌, Bool, true, false, not, nat_le, nat_lt, List, [], ◌∷◌, ◌++◌, length, map, set, Option, Some, None, Result, Ok, Err, refl, sym, ap, ap₂, subst, arith}
 use Rattle.std.specs.Prelude.{if◌then◌else◌, is_none, is_some}
-use Rattle.lfs_fs.proofs.Common.{AllByRecursion, list_any, lt-ltb, ltb-true, nat_tests, tree_creating, file_bytes, is_directory, last_name, same_path, in_flight_count, block_count, CachedBlocks, CallEvent, FlagsOfOpen, parse_path, IsStep, OpenFilesByNumber, Session, Reading, Writing, free_number_of, reserved_for_writers, has_long_name, has_file, exceeds_charge, lacks_free, overfills_disk, parents_refusal, files_with_file, all_readers, all_writers, opened_writer, Healthy, path_or_root, operation_effect, node_file_size, DirectoryNode, FileNode, Node, Path, recovered_from, spread_step, CanCreateFile, error_refusal, OnlyReadsTree, IsFailedTree, IsApplied, HasErrorCause, IsSoundState, TreeState, tree_summary, shown_tree, CanOpenWriter, IsOpenedWriter, RuntimeFiles, open_file_at, files_view, lowest_free, has_unsaved, runtime_files_with, readers_among, writer_if_any, writer_view, writers_among, StepsOrFails, AreCurrentReaders, HasKnownBlocks, SessionView, IsReady, IsWriterReady, session_view, view_with_files, system_state, refusal_by_checks, viewed_session, reply_from, KeepsWriters}
+use Rattle.lfs_fs.proofs.Common.{AllByRecursion, list_any, lt-ltb, ltb-true, nat_tests, tree_creating, file_bytes, is_directory, last_name, same_path, in_flight_count, block_count, CachedBlocks, CallEvent, FlagsOfOpen, parse_path, IsStep, OpenFilesByNumber, Session, Reading, Writing, free_number_of, reserved_for_writers, has_long_name, has_open_file, exceeds_charge, lacks_room, overfills_disk, parents_refusal, files_with_file, all_readers, all_writers, opened_writer, Healthy, path_or_root, operation_effect, node_file_size, DirectoryNode, FileNode, Node, Path, recovered_from, spread_step, CanCreateFile, error_refusal, OnlyReadsTree, IsFailedTree, IsApplied, HasErrorCause, IsSoundState, TreeState, tree_summary, shown_tree, CanOpenWriter, IsOpenedWriter, RuntimeFiles, open_file_at, files_view, lowest_free, has_unsaved, runtime_files_with, readers_among, writer_if_any, writer_view, writers_among, StepsOrFails, AreCurrentReaders, HasKnownBlocks, SessionView, IsReady, IsWriterReady, session_view, view_with_files, system_state, refusal_by_checks, viewed_session, reply_from, KeepsWriters}
 use Rattle.lfs_device.specs.declared.error.Error.{Error}
 use Rattle.lfs_device.specs.declared.error.Error.TheVariants.{NoMemory}
 use Rattle.lfs_model.specs.session.Operations as ops
@@ -32,9 +32,9 @@ pub record IsPassed (h : SessionView) (bytes : List ℕ) (p : Path) (flags : Fla
   pub creates : (is_none (shown_tree h.tree p) && not flags.create) ≡ false
   pub directory : is_directory (shown_tree h.tree p) ≡ false
   pub few : nat_lt 0 (length (all_writers h.files)) ≡ false
-  pub closed : has_file (same_path p) h.files ≡ false
+  pub closed : has_open_file (same_path p) h.files ≡ false
   pub fits : (is_none (shown_tree h.tree p) && exceeds_charge (tree_summary h.tree) (last_name p) []) ≡ false
-  pub room : (is_none (shown_tree h.tree p) && lacks_free (tree_summary h.tree) h.files 2) ≡ false
+  pub room : (is_none (shown_tree h.tree p) && lacks_room (tree_summary h.tree) h.files 2) ≡ false
   pub anew : (flags.truncate && overfills_disk (tree_summary h.tree) (opened_writer p flags (file_bytes (shown_tree h.tree p)))) ≡ false
 
 both_false : (a b : Bool) → (a || b) ≡ false → (a ≡ false) × (b ≡ false)
@@ -62,9 +62,9 @@ open_passed h bytes flags write e =
       name = unrefused _ _ d.0;
       creates = unrefused _ _ i.0;
       directory = unrefused _ _ k.0;
-      few = (both_false (nat_lt 0 (length (all_writers h.files))) _ (sym (ap (λ w. if w then nat_lt 0 (length (all_writers h.files)) || has_file (same_path (path_or_root bytes)) h.files
+      few = (both_false (nat_lt 0 (length (all_writers h.files))) _ (sym (ap (λ w. if w then nat_lt 0 (length (all_writers h.files)) || has_open_file (same_path (path_or_root bytes)) h.files
           else list_any (λ x. same_path (path_or_root bytes) x.path) (all_writers h.files) || nat_le 16 (length (all_readers h.files))) write) ∙ unrefused _ _ l.0)).0;
-      closed = (both_false (nat_lt 0 (length (all_writers h.files))) _ (sym (ap (λ w. if w then nat_lt 0 (length (all_writers h.files)) || has_file (same_path (path_or_root bytes)) h.files
+      closed = (both_false (nat_lt 0 (length (all_writers h.files))) _ (sym (ap (λ w. if w then nat_lt 0 (length (all_writers h.files)) || has_open_file (same_path (path_or_root bytes)) h.files
           else list_any (λ x. same_path (path_or_root bytes) x.path) (all_writers h.files) || nat_le 16 (length (all_readers h.files))) write) ∙ unrefused _ _ l.0)).1;
       fits = unrefused _ _ m.0;
       room = unrefused _ _ n.0;
@@ -134,7 +134,7 @@ can_create t mid fs bytes flags p ready asked e write is sizes =
       nothing = ap is_some none;
       fits = sym (ap (λ x. x && exceeds_charge (tree_summary t) (last_name (path_or_root bytes)) []) absent) ∙ passed.fits;
       room = room_left (block_count t.disk) (length (tree_summary t).used) (reserved_for_writers t.disk.profile t.disk.block_size (files_view t fs)) (in_flight_count t.map) 2 ((ready passed.works).idle (none_saved fs (no_writer t fs bytes flags write e)))
-          (sym (ap (λ x. x && lacks_free (tree_summary t) (files_view t fs) 2) absent) ∙ passed.room);
+          (sym (ap (λ x. x && lacks_room (tree_summary t) (files_view t fs) 2) absent) ∙ passed.room);
     }))
   where
     passed : IsPassed (session_view t fs) bytes (path_or_root bytes) flags

@@ -1,6 +1,6 @@
 -- Whether a path lies beneath another, by their bytes.
 use Rattle.std.proofs.Common.{ℕ, ◌≤◌, nat_eq, take, subst, length-append, ◌<◌, nat_lt, ◌≡◌, ◌==◌, ◌&&◌, ◌++◌, Bool, true, false, not, cond, if◌then◌else◌, List, [], ◌∷◌, length, drop, get_or, Option, Some, None, is_some, unwrap_or, eqb-true, refl, sym, ap, ap₂, ◌∙◌, arith}
-use Rattle.lfs_fs.proofs.Common.{slice_split, list_all, onto_first, lt-ltb, ltb-true, ltb-false, without_prefix, is_component, same_name, slash_byte, parse_path, path_or_root, is_unusable, Path, Names, alike, unlike, names}
+use Rattle.lfs_fs.proofs.Common.{slice_split, list_all, onto_first, lt-ltb, ltb-true, ltb-false, without_prefix, is_component, same_name, slash_byte, parse_path, path_or_root, path_unusable, Path, Names, alike, unlike, names}
 use Rattle.std.specs.Cmp.Lexicographic.{pointwise}
 use Rattle.std.proofs.lemmas.Slice.Eq.{starts_is}
 use Rattle.std.proofs.lemmas.Bool.{and_parts}
@@ -114,16 +114,16 @@ parts_of b xs h = go (b == slash_byte) (nat_lt 0 (length xs)) (list_all is_compo
     go true true false e k = absurd (cc)
     go true true true e k = (eqb-true b slash_byte e, refl)
 
-good : (o : Option Path) → is_unusable o ≡ false → is_some o ≡ true
+good : (o : Option Path) → path_unusable o ≡ false → is_some o ≡ true
 good None e = absurd (cc)
 good (Some p) e = refl
 
 -- the path of the second bytes is that of the first, which is an entry's, or lies beneath it
-pub is_beneath_bytes : (xs ys : List ℕ) → is_unusable (parse_path xs) ≡ false → is_some (parse_path ys) ≡ true → is_path_prefix xs ys ≡ is_some (without_prefix (path_or_root xs) (path_or_root ys))
+pub is_beneath_bytes : (xs ys : List ℕ) → path_unusable (parse_path xs) ≡ false → is_some (parse_path ys) ≡ true → is_path_prefix xs ys ≡ is_some (without_prefix (path_or_root xs) (path_or_root ys))
 is_beneath_bytes [] ys e f = absurd (let k = good (parse_path []) e in cc)
 is_beneath_bytes (x ∷ []) ys e f = absurd (go (x == slash_byte) e)
   where
-    go : (s : Bool) → is_unusable (cond (not s) None (Some [])) ≡ false → ⊥
+    go : (s : Bool) → path_unusable (cond (not s) None (Some [])) ≡ false → ⊥
     go true k = absurd (cc)
     go false k = absurd (cc)
 is_beneath_bytes (x ∷ a ∷ xs) [] e f = absurd (cc)

@@ -1,6 +1,6 @@
 -- A session's read of an open file: what it comes to.
 use Rattle.std.proofs.Common.{ℕ, ◌≡◌, ◌∙◌, ◌+◌, true, false, List, drop, length, set, take, Some, is_some, Result, Ok, Err, refl, sym, ap, subst}
-use Rattle.lfs_fs.proofs.Common.{option_map, AreKnownBlocks, contents_struct, error_refusal, file_at_position, Reply, file_numbered, files_with_file, struct_blocks, file_bytes, HasErrorCause, FailedByReading, TreeState, OnlyReadsTree, shown_tree, IsCall, HasSessionInvariant, RuntimeFiles, open_file_at, file_with_known, file_with_position, files_view, writers_paths, reader_if_any, reader_view, reply_from, HasKnownBlocks, IsCurrentReader, IsReady, SessionView, refusal_by_checks, session_view}
+use Rattle.lfs_fs.proofs.Common.{option_map, AreKnownBlocks, contents_struct, error_refusal, repositioned_file, Reply, file_numbered, files_with_file, struct_blocks, file_bytes, HasErrorCause, FailedByReading, TreeState, OnlyReadsTree, shown_tree, IsCall, HasSessionInvariant, RuntimeFiles, open_file_at, file_with_known, file_with_position, files_view, writers_paths, reader_if_any, reader_view, reply_from, HasKnownBlocks, IsCurrentReader, IsReady, SessionView, refusal_by_checks, session_view}
 use Rattle.lfs_file.specs.declared.known.KnownBlocks.{KnownBlocks}
 use Rattle.lfs_device.specs.declared.error.Error.{Error}
 use Rattle.lfs_model.specs.session.Operations as ops
@@ -55,10 +55,10 @@ module _ (t tree : TreeState) (fs noted moved : RuntimeFiles) (fd position : ℕ
     reported = reported_asked t tree held.reported asked;
   }
 
-  files_then : files_view tree moved ≡ files_with_file (files_view t fs) fd (option_map (file_at_position position) (file_numbered (files_view t fs) fd))
+  files_then : files_view tree moved ≡ files_with_file (files_view t fs) fd (option_map (repositioned_file position) (file_numbered (files_view t fs) fd))
   files_then =
       ap (files_view tree) moves ∙ moved_is tree noted fd position still_there
-      ∙ ap (λ v. files_with_file v fd (option_map (file_at_position position) (file_numbered v fd)))
+      ∙ ap (λ v. files_with_file v fd (option_map (repositioned_file position) (file_numbered v fd)))
       (ap (files_view tree) notes ∙ view_noted known tree fs fd ∙ ap (λ z. files_view z fs) asked.same)
 
   pub done_read : (now : SessionView) (count : ℕ) (bytes : List ℕ) → session_view t fs ≡ now → bytes ≡ take count (drop r.position (file_bytes (shown_tree t r.path))) → position ≡ r.position + length bytes

@@ -1,6 +1,6 @@
 -- What an open reader gives.
 use Rattle.std.proofs.Common.{ℕ, ◌≡◌, ◌≤◌, ◌+◌, ◌-◌, ◌++◌, min, true, false, List, length, take, drop, Option, Some, None, is_none, Result, Ok, Err, refl, sym, ap, ap₂, subst, ◌∙◌, arith}
-use Rattle.lfs_fs.proofs.Common.{option_map, file_bytes, is_file, Operation, Reply, OpenFilesByNumber, Reading, Writing, file_numbered, files_with_file, file_reader, refuse_if, file_at_position, node_file_size, Node, FileNode, DirectoryNode, length-take, take_all, same_Some, IsStorageAt, contents_struct, CallEvent, read_count, struct_at, block_count_for, Ctz, Inline, Struct, RuntimeFiles, open_file_at, files_view, reader_if_any, reader_view, ReadsFew, TreeState, IsSoundState, shown_tree, OnlyReadsTree, SessionView, session_view, view_with_files, viewed_session, refusal_by_checks, StepsOrFails, error_refusal, FailedByReading, HasErrorCause, reply_from}
+use Rattle.lfs_fs.proofs.Common.{option_map, file_bytes, is_file, Operation, Reply, OpenFilesByNumber, Reading, Writing, file_numbered, files_with_file, file_reader, refuse_if, repositioned_file, node_file_size, Node, FileNode, DirectoryNode, length-take, take_all, same_Some, IsStorageAt, contents_struct, CallEvent, read_count, struct_at, block_count_for, Ctz, Inline, Struct, RuntimeFiles, open_file_at, files_view, reader_if_any, reader_view, ReadsFew, TreeState, IsSoundState, shown_tree, OnlyReadsTree, SessionView, session_view, view_with_files, viewed_session, refusal_by_checks, StepsOrFails, error_refusal, FailedByReading, HasErrorCause, reply_from}
 use Rattle.lfs_model.specs.session.Operations as ops
 use Rattle.lfs_model.specs.session.Session.{OpenFile, FileReader}
 use Rattle.lfs_model.specs.session.Effects.{read_effect}
@@ -32,7 +32,7 @@ a_reader h fd count r works e = works_by h (ops.Read fd count) None works (ap (�
 
 pub read_answers : (old now : SessionView) (fd count : ℕ) (r : FileReader) (tree : TreeState) (files : OpenFilesByNumber) (bytes : List ℕ) (position : ℕ) → old ≡ now → (old.tree.failed ≡ false → IsSoundState old.tree) → false ≡ old.tree.failed → OnlyReadsTree old.tree tree →
     Some r ≡ file_reader (file_numbered old.files fd) → bytes ≡ take count (drop r.position (file_bytes (shown_tree old.tree r.path))) → position ≡ r.position + length bytes →
-    files ≡ files_with_file old.files fd (option_map (file_at_position position) (file_numbered old.files fd)) → StepsOrFails now (ops.Read fd count) (Ok (ops.Bytes bytes)) (view_with_files tree files)
+    files ≡ files_with_file old.files fd (option_map (repositioned_file position) (file_numbered old.files fd)) → StepsOrFails now (ops.Read fd count) (Ok (ops.Bytes bytes)) (view_with_files tree files)
 read_answers old now fd count r tree files bytes position same ready works asked is bytes_are at files_are =
     files_answers old now (ops.Read fd count) tree files (ops.Bytes bytes) same ready asked (a_reader old fd count r works is) refl refl refl refl refl
     (ap (read_effect (viewed_session old) fd count) (sym is) ∙ ap₂ (λ b f. (ops.Bytes b, record { tree = shown_tree old.tree; files = f })) (sym bytes_are) moved)
@@ -42,7 +42,7 @@ read_answers old now fd count r tree files bytes position same ready works asked
 
     moved : files_with_file old.files fd (Some (Reading (record r { position = r.position + length given }))) ≡ files
     moved = ap (λ n. files_with_file old.files fd (Some (Reading (record r { position = n })))) (ap (λ b. r.position + length b) (sym bytes_are) ∙ sym at)
-        ∙ ap (λ f. files_with_file old.files fd (option_map (file_at_position position) f)) (sym (reading_is (file_numbered old.files fd) r is)) ∙ sym files_are
+        ∙ ap (λ f. files_with_file old.files fd (option_map (repositioned_file position) f)) (sym (reading_is (file_numbered old.files fd) r is)) ∙ sym files_are
 
 -- ---- into a buffer
 

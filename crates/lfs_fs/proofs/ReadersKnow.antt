@@ -1,6 +1,6 @@
 -- The blocks that open readers know.
 use Rattle.std.proofs.Common.{ℕ, zero, suc, ◌≡◌, ◌≤◌, ◌∙◌, true, false, List, [], ◌∷◌, length, map, replicate, set, slice_index, Option, Some, None, is_some, refl, sym, ap, subst, arith}
-use Rattle.lfs_fs.proofs.Common.{AllByRecursion, list_any, option_map, same_Some, AreKnownBlocks, no_known_blocks, Disk, takes_away, struct_at, Operation, struct_blocks, slot_of, Slot, Struct, Path, is_file, same_path, contents_struct, KeepsOtherFiles, IsApplied, TreeState, OnlyReadsTree, kept_thread, shown_tree, RuntimeFiles, open_file_at, file_with_known, file_with_position, file_view, files_view, runtime_files_with, reader_if_any, writers_paths, readers_among, writers_among, HasKnownBlocks, IsCurrentReader, IsReady, IsWriterReady}
+use Rattle.lfs_fs.proofs.Common.{AllByRecursion, list_any, option_map, same_Some, AreKnownBlocks, no_known_blocks, Disk, vacates_path, struct_at, Operation, struct_blocks, slot_of, Slot, Struct, Path, is_file, same_path, contents_struct, KeepsOtherFiles, IsApplied, TreeState, OnlyReadsTree, kept_thread, shown_tree, RuntimeFiles, open_file_at, file_with_known, file_with_position, file_view, files_view, runtime_files_with, reader_if_any, writers_paths, readers_among, writers_among, HasKnownBlocks, IsCurrentReader, IsReady, IsWriterReady}
 use Rattle.std.proofs.lemmas.List.{get_or-replicate}
 use Rattle.lfs_file.specs.declared.known.KnownBlocks.{KnownBlocks}
 use Rattle.lfs_lookup.specs.declared.file_contents.FileContents.{FileContents}
@@ -51,7 +51,7 @@ module _ (old new : TreeState) where
       subst (λ all. AreKnownBlocks all r.known) (sym (blocks_at_path old r.path (contents_struct r.contents) was) ∙ sym list ∙ blocks_at_path new r.path (contents_struct r.contents) (same ∙ was)) h
 
   -- in an operation that is about none of them
-  pub known_carried : (op : Operation) (written : List Path) (rs : List Reader) → IsApplied old op new → AllByRecursion (λ r. takes_away op r.path ≡ false) rs
+  pub known_carried : (op : Operation) (written : List Path) (rs : List Reader) → IsApplied old op new → AllByRecursion (λ r. vacates_path op r.path ≡ false) rs
       → AllByRecursion (IsCurrentReader old.pairs written) rs → AllByRecursion (HasKnownBlocks old.disk) rs → AllByRecursion (HasKnownBlocks new.disk) rs
   known_carried op written [] carried off read h = tt
   known_carried op written (r ∷ rs) carried off read h =

@@ -3,7 +3,7 @@ use Rattle.std.proofs.Common.{arith, ◌≡◌, inl, inr, true, false, cond, set
 use Rattle.std.specs.Prelude.{◌⊎◌, OnOk, OnErr, IfErr}
 use Rattle.lfs_device.specs.declared.error.Error.{Error}
 use Rattle.lfs_device.specs.declared.error.Error.TheVariants.{Io, NoMemory, Corrupt}
-use Rattle.lfs_fs.proofs.Common.{Disk, SameGeometry, ordered_disk, CallEvent, OpenFilesByNumber, Healthy, mounted_session, tree_after_storing, file_with_bytes, tree_with_change, option_map, Tree, IsAccepted, disk_tree, SystemState, IsStep, WriteNothing, is_dirty, is_refusal, error_refusal, TreeState, shown_tree, tree_summary, kept_thread, FailedByReading, HasMountCause, IsMountedTree, IsRemountedTree, IsSoundState, reply_from, RuntimeFiles, unsaved_or_tree, open_file_at, is_unsaved_writer, file_view, files_view, SessionView, IsReady, session_view, view_with_files, system_state, refusal_by_checks, SessionFails, StepsOrFails}
+use Rattle.lfs_fs.proofs.Common.{Disk, SameGeometry, ordered_disk, CallEvent, OpenFilesByNumber, Healthy, mounted_session, tree_after_storing, node_with_bytes, tree_with_change, option_map, Tree, IsAccepted, disk_tree, SystemState, IsStep, WriteNothing, is_dirty, is_refusal, error_refusal, TreeState, shown_tree, tree_summary, kept_thread, FailedByReading, HasMountCause, IsMountedTree, IsRemountedTree, IsSoundState, reply_from, RuntimeFiles, unsaved_or_tree, open_file_at, is_unsaved_writer, file_view, files_view, SessionView, IsReady, session_view, view_with_files, system_state, refusal_by_checks, SessionFails, StepsOrFails}
 use Rattle.lfs_model.specs.session.Operations as ops
 use Rattle.std.specs.List.{IsDistinct}
 use Rattle.lfs_model.specs.session.Run.{ShowsTree}
@@ -28,7 +28,7 @@ not_some (Some u) e = absurd (cc)
 pub no_tree_change : (t : TreeState) (f : Option kept.OpenFile) (tree : Tree) → is_saved f ≡ true → tree_after_storing (option_map (file_view t) f) tree ≡ tree
 no_tree_change t None tree e = refl
 no_tree_change t (Some (file.Reading r)) tree e = refl
-no_tree_change t (Some (file.Writing w)) tree e = ap (λ b. cond b (tree_with_change w.path (file_with_bytes (unsaved_or_tree t w.path w.unsaved)) tree) tree) (not_some w.unsaved e)
+no_tree_change t (Some (file.Writing w)) tree e = ap (λ b. cond b (tree_with_change w.path (node_with_bytes (unsaved_or_tree t w.path w.unsaved)) tree) tree) (not_some w.unsaved e)
 
 pub not_dirty : (t : TreeState) (f : Option kept.OpenFile) → is_saved f ≡ true → is_dirty (option_map (file_view t) f) ≡ false
 not_dirty t None e = refl

@@ -1,7 +1,7 @@
 -- What a remove leaves of the open files.
 use Rattle.std.proofs.Common.{inl, nat_lt, length, arith, ℕ, ◌≡◌, true, false, List, [], ◌∷◌, Some, None, Result, is_some, refl, sym, ap, subst}
 use Rattle.std.specs.Prelude.{OnErr, OnOk}
-use Rattle.lfs_fs.proofs.Common.{AllByRecursion, ltb-false, directory_names, is_file, file_bytes, last_name, parent_path, tree_removing, same_path, node_with_names, names_without, has_file, path_or_root, Path, Tree, TreeState, OnlyReadsTree, IsFailedTree, IsApplied, tree_summary, shown_tree, RuntimeFiles, files_view, readers_among, writers_among, writers_paths, IsCurrentReader, IsReady, IsWriterReady, session_view, refusal_by_checks, takes_away, StayReady, KeepFiles, KeepsWriters, ConcernsNoFile}
+use Rattle.lfs_fs.proofs.Common.{AllByRecursion, ltb-false, directory_names, is_file, file_bytes, last_name, parent_path, tree_removing, same_path, node_with_names, names_without, has_open_file, path_or_root, Path, Tree, TreeState, OnlyReadsTree, IsFailedTree, IsApplied, tree_summary, shown_tree, RuntimeFiles, files_view, readers_among, writers_among, writers_paths, IsCurrentReader, IsReady, IsWriterReady, session_view, refusal_by_checks, vacates_path, StayReady, KeepFiles, KeepsWriters, ConcernsNoFile}
 use Rattle.lfs_device.specs.declared.error.Error.{Error}
 use Rattle.lfs_model.specs.session.Operations as ops
 use Rattle.lfs_fs.specs.declared.files.OpenFile.TheVariants as file
@@ -16,7 +16,7 @@ use Rattle.lfs_fs.proofs.Staying.{SameFile, changed_same, named}
 -- ---- the writers' files
 
 -- where no file is open at a path, no writer is
-not_at : (t : TreeState) (files : RuntimeFiles) (p : Path) → has_file (same_path p) (files_view t files) ≡ false → AllByRecursion (λ w. same_path p w.path ≡ false) (writers_among files)
+not_at : (t : TreeState) (files : RuntimeFiles) (p : Path) → has_open_file (same_path p) (files_view t files) ≡ false → AllByRecursion (λ w. same_path p w.path ≡ false) (writers_among files)
 not_at t [] p e = tt
 not_at t (None ∷ fs) p e = not_at t fs p e
 not_at t (Some (file.Reading r) ∷ fs) p e = not_at t fs p (or_false _ _ e).1
@@ -37,13 +37,13 @@ remove_keeps old t s files bytes e ready carried =
 
 -- the remove is about none of them
 off : (t : TreeState) (bytes : List ℕ) → length (directory_names (shown_tree t (path_or_root bytes))) ≡ 0 → (ws : List Writer) → AllByRecursion (IsWriterReady t) ws → AllByRecursion (λ w. same_path (path_or_root bytes) w.path ≡ false) ws →
-    AllByRecursion (λ w. takes_away (ops.Remove bytes) w.path ≡ false) ws
+    AllByRecursion (λ w. vacates_path (ops.Remove bytes) w.path ≡ false) ws
 off t bytes bare [] written apart = tt
 off t bytes bare (w ∷ ws) written apart = (ap is_some (beside t (path_or_root bytes) w.path bare written.0.there apart.0), off t bytes bare ws written.1 apart.1)
 
 -- nor about a file that is read
 off_read : (t : TreeState) (bytes : List ℕ) (written : List Path) → length (directory_names (shown_tree t (path_or_root bytes))) ≡ 0 → (rs : List Reader) → AllByRecursion (IsCurrentReader t.pairs written) rs → AllByRecursion (λ r. same_path (path_or_root bytes) r.path ≡ false) rs →
-    AllByRecursion (λ r. takes_away (ops.Remove bytes) r.path ≡ false) rs
+    AllByRecursion (λ r. vacates_path (ops.Remove bytes) r.path ≡ false) rs
 off_read t bytes written bare [] read apart = tt
 off_read t bytes written bare (r ∷ rs) read apart =
     (ap is_some (beside t (path_or_root bytes) r.path bare (contents_are_file t.disk t.pairs r.path r.contents read.0.contents) apart.0), off_read t bytes written bare rs read.1 apart.1)

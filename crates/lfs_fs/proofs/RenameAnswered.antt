@@ -1,7 +1,7 @@
 -- What a rename leaves of the open files.
 use Rattle.std.proofs.Common.{ℕ, ◌≡◌, ◌&&◌, ◌||◌, ◌++◌, Bool, true, false, if◌then◌else◌, not, nat_lt, List, [], ◌∷◌, length, Some, None, Result, Ok, inr, is_some, refl, sym, ap, ap₂, subst, ◌∙◌, arith}
 use Rattle.std.specs.Prelude.{OnErr, OnOk}
-use Rattle.lfs_fs.proofs.Common.{AllByRecursion, ltb-false, file_bytes, tree_with_change, is_file, last_name, directory_names, parent_path, tree_renaming, without_prefix, same_path, names_with, node_with_names, names_without, has_file, path_or_root, Path, Tree, IsStep, TreeState, OnlyReadsTree, IsFailedTree, IsApplied, tree_summary, shown_tree, RuntimeFiles, files_view, readers_among, writers_among, writers_paths, StepsOrFails, SessionView, IsCurrentReader, IsReady, IsWriterReady, session_view, view_with_files, system_state, refusal_by_checks, prevents_rename, takes_away, StayReady, KeepFiles, KeepsWriters, ConcernsNoFile}
+use Rattle.lfs_fs.proofs.Common.{AllByRecursion, ltb-false, file_bytes, tree_with_change, is_file, last_name, directory_names, parent_path, tree_renaming, without_prefix, same_path, names_with, node_with_names, names_without, has_open_file, path_or_root, Path, Tree, IsStep, TreeState, OnlyReadsTree, IsFailedTree, IsApplied, tree_summary, shown_tree, RuntimeFiles, files_view, readers_among, writers_among, writers_paths, StepsOrFails, SessionView, IsCurrentReader, IsReady, IsWriterReady, session_view, view_with_files, system_state, refusal_by_checks, prevents_rename, vacates_path, StayReady, KeepFiles, KeepsWriters, ConcernsNoFile}
 use Rattle.lfs_device.specs.declared.error.Error.{Error}
 use Rattle.lfs_model.specs.session.TreeEdits.{tree_with_subtree}
 use Rattle.lfs_model.specs.session.Operations as ops
@@ -29,7 +29,7 @@ kept_elsewhere p q x t other off beside = rw (other, beside, off) both
         (b.0, b.1 ∙ a.1)
 
 -- where no file is open at such a path, no writer is
-no_writer : (t : TreeState) (files : RuntimeFiles) (p : Path → Bool) → has_file p (files_view t files) ≡ false → AllByRecursion (λ w. p w.path ≡ false) (writers_among files)
+no_writer : (t : TreeState) (files : RuntimeFiles) (p : Path → Bool) → has_open_file p (files_view t files) ≡ false → AllByRecursion (λ w. p w.path ≡ false) (writers_among files)
 no_writer t [] p e = tt
 no_writer t (None ∷ fs) p e = no_writer t fs p e
 no_writer t (Some (file.Reading r) ∷ fs) p e = no_writer t fs p (or_false _ _ e).1
@@ -58,7 +58,7 @@ rename_keeps old t s files a b asked e other ready carried =
 
 -- the rename is about none of them
 off_both : (t : TreeState) (a b : List ℕ) → length (directory_names (shown_tree t (path_or_root b))) ≡ 0 → (ws : List Writer) → AllByRecursion (IsWriterReady t) ws → AllByRecursion (λ w. prevents_rename (path_or_root a) (path_or_root b) w.path ≡ false) ws →
-    AllByRecursion (λ w. takes_away (ops.Rename a b) w.path ≡ false) ws
+    AllByRecursion (λ w. vacates_path (ops.Rename a b) w.path ≡ false) ws
 off_both t a b bare [] written apart = tt
 off_both t a b bare (w ∷ ws) written apart =
     let k = or_false _ _ apart.0 in
@@ -66,7 +66,7 @@ off_both t a b bare (w ∷ ws) written apart =
 
 -- nor about a file that is read
 off_read : (t : TreeState) (a b : List ℕ) (written : List Path) → length (directory_names (shown_tree t (path_or_root b))) ≡ 0 → (rs : List Reader) → AllByRecursion (IsCurrentReader t.pairs written) rs → AllByRecursion (λ r. prevents_rename (path_or_root a) (path_or_root b) r.path ≡ false) rs →
-    AllByRecursion (λ r. takes_away (ops.Rename a b) r.path ≡ false) rs
+    AllByRecursion (λ r. vacates_path (ops.Rename a b) r.path ≡ false) rs
 off_read t a b written bare [] read apart = tt
 off_read t a b written bare (r ∷ rs) read apart =
     let k = or_false _ _ apart.0 in

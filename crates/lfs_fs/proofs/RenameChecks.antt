@@ -2,7 +2,7 @@
 use Rattle.std.proofs.Common.{◌≤◌, ℕ, ◌≡◌, ◌&&◌, ◌||◌, Bool, true, false, not, List, [], ◌∷◌, length, nat_lt, Option, Some, None, Result, Err, unwrap_or, refl, sym, ap, ap₂, subst, ◌∙◌}
 use Rattle.std.specs.Prelude.{IfSome, IsSome}
 use Rattle.lfs_device.specs.declared.error.Error.{Error}
-use Rattle.lfs_fs.proofs.Common.{node_attributes_of, is_beneath, last_name, directory_names, same_path, in_flight_count, block_count, name_max_of, Operation, Refusal, parse_path, first_refusal, reserved_for_writers, has_long_name, has_file, exceeds_charge, lacks_free, refuse_if, Attributes, attributes_size, zero_gstate, pairs_gstate, path_or_root, is_root_path, Path, IsFoundNode, has_entry_beneath, is_absent, is_directory_node, is_file_node, AreRenameFindings, TreeState, kept_thread, tree_summary, shown_tree, OnlyReadsTree, RuntimeFiles, files_view, SessionView, session_view, refusal_by_checks, IsChecksResult, FailsChecks, PassesEarlyChecks, prevents_rename, value_unless_refused}
+use Rattle.lfs_fs.proofs.Common.{node_attributes_of, is_beneath, last_name, directory_names, same_path, in_flight_count, block_count, profile_name_max, Operation, Refusal, parse_path, first_refusal, reserved_for_writers, has_long_name, has_open_file, exceeds_charge, lacks_room, refuse_if, Attributes, attributes_size, zero_gstate, pairs_gstate, path_or_root, is_root_path, Path, IsFoundNode, has_entry_beneath, is_absent, is_directory_node, is_file_node, AreRenameFindings, TreeState, kept_thread, tree_summary, shown_tree, OnlyReadsTree, RuntimeFiles, files_view, SessionView, session_view, refusal_by_checks, IsChecksResult, FailsChecks, PassesEarlyChecks, prevents_rename, result_unless_refused}
 use Rattle.lfs_model.specs.session.Operations as ops
 use Rattle.lfs_tree.specs.Permissions.{CanRenamePath}
 use Rattle.lfs_tree.specs.RenameFindings.{AreRenameResults}
@@ -25,8 +25,8 @@ abbrev checks_of : SessionView → Path → Path → FoundNode → FoundNode →
 checks_of h p q entry target =
     entry.fault ∷ target.fault ∷ refuse_if (has_long_name (tree_summary h.tree) q) ops.NameTooLong ∷ refuse_if (is_absent entry.node) ops.NoEnt
     ∷ refuse_if (not (same_path p q) && is_directory_node entry.node && is_file_node target.node) ops.NotDir ∷ refuse_if (not (same_path p q) && is_file_node entry.node && is_directory_node target.node) ops.IsDir
-    ∷ refuse_if (not (same_path p q) && has_entry_beneath (shown_tree h.tree) q) ops.NotEmpty ∷ refuse_if (has_file (prevents_rename p q) h.files) ops.Busy
-    ∷ refuse_if (not (same_path p q) && exceeds_charge (tree_summary h.tree) (last_name q) (node_attributes_of (shown_tree h.tree p))) ops.EntryFull ∷ refuse_if (lacks_free (tree_summary h.tree) h.files 2) ops.NoSpace ∷ []
+    ∷ refuse_if (not (same_path p q) && has_entry_beneath (shown_tree h.tree) q) ops.NotEmpty ∷ refuse_if (has_open_file (prevents_rename p q) h.files) ops.Busy
+    ∷ refuse_if (not (same_path p q) && exceeds_charge (tree_summary h.tree) (last_name q) (node_attributes_of (shown_tree h.tree p))) ops.EntryFull ∷ refuse_if (lacks_room (tree_summary h.tree) h.files 2) ops.NoSpace ∷ []
 
 rename_refused : (h : SessionView) (old new : List ℕ) (p q : Path) (entry target : FoundNode) → h.tree.failed ≡ false → h.tree.writable ≡ true → parse_path old ≡ Some p → parse_path new ≡ Some q → is_root_path p ≡ false → is_root_path q ≡ false → is_beneath p q ≡ false →
     IsFoundNode (shown_tree h.tree) p entry → IsFoundNode (shown_tree h.tree) q target → refusal_by_checks h (ops.Rename old new) ≡ first_refusal (checks_of h p q entry target)
@@ -36,14 +36,14 @@ rename_refused h old new p q entry target works writable is are one two apart f 
 -- by what is at the two paths, the checks behind the look-up are those
 pub found_refused : (t : TreeState) (files : RuntimeFiles) (old new : List ℕ) (paths : RenamePaths) (found : RenameFindings) (len : ℕ) (long absent one two three over four lack busy : Bool)
     (a b c d e f i j : Option Refusal) → PassesRename t old new paths → AreRenameFindings (shown_tree t) paths.from paths.to found →
-    len ≡ length (last_name paths.to) → long ≡ nat_lt (name_max_of t.disk.profile) len → a ≡ refuse_if long ops.NameTooLong →
+    len ≡ length (last_name paths.to) → long ≡ nat_lt (profile_name_max t.disk.profile) len → a ≡ refuse_if long ops.NameTooLong →
     absent ≡ is_absent found.entry.node → b ≡ refuse_if absent ops.NoEnt →
     one ≡ (not paths.is_same && is_directory_node found.entry.node && is_file_node found.target.finding.node) → c ≡ refuse_if one ops.NotDir →
     two ≡ (not paths.is_same && is_file_node found.entry.node && is_directory_node found.target.finding.node) → d ≡ refuse_if two ops.IsDir →
     three ≡ (not paths.is_same && found.target.has_entries) → e ≡ refuse_if three ops.NotEmpty →
-    busy ≡ has_file (prevents_rename (path_or_root old) (path_or_root new)) (files_view t files) → f ≡ refuse_if busy ops.Busy →
+    busy ≡ has_open_file (prevents_rename (path_or_root old) (path_or_root new)) (files_view t files) → f ≡ refuse_if busy ops.Busy →
     ((name : List ℕ) (attributes : Attributes) → length name ≡ len → attributes_size attributes ≡ found.attributes_size → over ≡ exceeds_charge (tree_summary t) name attributes) → four ≡ (not paths.is_same && over) → i ≡ refuse_if four ops.EntryFull →
-    lack ≡ lacks_free (tree_summary t) (files_view t files) 2 → j ≡ refuse_if lack ops.NoSpace →
+    lack ≡ lacks_room (tree_summary t) (files_view t files) 2 → j ≡ refuse_if lack ops.NoSpace →
     first_refusal (found.entry.fault ∷ found.target.finding.fault ∷ a ∷ b ∷ c ∷ d ∷ e ∷ f ∷ i ∷ j ∷ []) ≡ refusal_by_checks (session_view t files) (ops.Rename old new)
 found_refused t files old new paths found len long absent one two three over four lack busy a b c d e f i j
     passes there len_is long_is a_is absent_is b_is one_is c_is two_is d_is three_is e_is busy_is f_is over_is four_is i_is lack_is j_is =
@@ -75,11 +75,11 @@ found_refused t files old new paths found len long absent one two three over fou
     other_is_not = ap not (passes.same ∙ ap₂ same_path from_path to_path)
 
     lists : (found.entry.fault ∷ found.target.finding.fault ∷ a ∷ b ∷ c ∷ d ∷ e ∷ f ∷ i ∷ j ∷ []) ≡ checks_of h p q found.entry found.target.finding
-    lists = both refl (both refl (both (when ops.NameTooLong a_is (long_is ∙ ap (nat_lt (name_max_of t.disk.profile)) len_is)) (both (when ops.NoEnt b_is absent_is)
+    lists = both refl (both refl (both (when ops.NameTooLong a_is (long_is ∙ ap (nat_lt (profile_name_max t.disk.profile)) len_is)) (both (when ops.NoEnt b_is absent_is)
         (both (when ops.NotDir c_is (one_is ∙ ap (λ z. z && is_directory_node found.entry.node && is_file_node found.target.finding.node) other_is_not))
         (both (when ops.IsDir d_is (two_is ∙ ap (λ z. z && is_file_node found.entry.node && is_directory_node found.target.finding.node) other_is_not))
         (both (when ops.NotEmpty e_is (three_is ∙ ap₂ (λ y z. y && z) other_is_not there.has))
-        (both (when ops.Busy f_is (busy_is ∙ ap₂ (λ y z. has_file (prevents_rename y z) h.files) from_path to_path))
+        (both (when ops.Busy f_is (busy_is ∙ ap₂ (λ y z. has_open_file (prevents_rename y z) h.files) from_path to_path))
         (both (when ops.EntryFull i_is (four_is ∙ ap₂ (λ y z. y && z) other_is_not (over_is (last_name q) (node_attributes_of (shown_tree t p)) (sym len_is) (sym there.size.is))))
         (both (when ops.NoSpace j_is lack_is) refl)))))))))
 
@@ -103,7 +103,7 @@ alone None = refl
 alone (Some x) = refl
 
 pub rename_checked : (t : TreeState) (files : RuntimeFiles) (old new : List ℕ) (paths : RenamePaths) (tree : TreeState) (refusal : Option Refusal) (x : PermittedRename) (r : Result PermittedRename Error) → PassesRename t old new paths → OnlyReadsTree t tree →
-    refusal ≡ refusal_by_checks (session_view tree files) (ops.Rename old new) → IsPermittedRename tree old new x → r ≡ value_unless_refused (first_refusal (refusal ∷ [])) x → IsChecksResult (session_view t files) (ops.Rename old new) (IsPermittedRename tree old new) r tree
+    refusal ≡ refusal_by_checks (session_view tree files) (ops.Rename old new) → IsPermittedRename tree old new x → r ≡ result_unless_refused (first_refusal (refusal ∷ [])) x → IsChecksResult (session_view t files) (ops.Rename old new) (IsPermittedRename tree old new) r tree
 rename_checked t files old new paths tree refusal x r passes asked refusal_is x_is r_is =
     decided (session_view t files) (ops.Rename old new) (IsPermittedRename tree old new) x _ tree r asked (passes_late t files old new paths passes)
     (sym (alone refusal ∙ refusal_is ∙ ap (λ z. refusal_by_checks (session_view z files) (ops.Rename old new)) asked.same)) (λ none. x_is) r_is
@@ -112,8 +112,8 @@ rename_checked t files old new paths tree refusal x r passes asked refusal_is x_
 
 record HasPassed (h : SessionView) (old new : List ℕ) : Type 0 where
   can : in_flight_count h.tree.map ≤ reserved_for_writers h.tree.disk.profile h.tree.disk.block_size h.files → CanRenamePath h.tree (path_or_root old) (path_or_root new)
-  closed : has_file (prevents_rename (path_or_root old) (path_or_root new)) h.files ≡ false
-  space : lacks_free (tree_summary h.tree) h.files 2 ≡ false
+  closed : has_open_file (prevents_rename (path_or_root old) (path_or_root new)) h.files ≡ false
+  space : lacks_room (tree_summary h.tree) h.files 2 ≡ false
   bare : (not (same_path (path_or_root old) (path_or_root new)) && nat_lt 0 (length (directory_names (shown_tree h.tree (path_or_root new))))) ≡ false
 
 pub none_of_three : (a b c : Bool) → (a || b || c) ≡ false → (a ≡ false) × (b ≡ false) × (c ≡ false)
@@ -167,10 +167,10 @@ passed h old new e =
       bare = bare;
     }
 
-pub rename_space : (h : SessionView) (old new : List ℕ) → refusal_by_checks h (ops.Rename old new) ≡ None → lacks_free (tree_summary h.tree) h.files 2 ≡ false
+pub rename_space : (h : SessionView) (old new : List ℕ) → refusal_by_checks h (ops.Rename old new) ≡ None → lacks_room (tree_summary h.tree) h.files 2 ≡ false
 rename_space h old new e = (passed h old new e).space
 
-pub rename_closed : (h : SessionView) (old new : List ℕ) → refusal_by_checks h (ops.Rename old new) ≡ None → has_file (prevents_rename (path_or_root old) (path_or_root new)) h.files ≡ false
+pub rename_closed : (h : SessionView) (old new : List ℕ) → refusal_by_checks h (ops.Rename old new) ≡ None → has_open_file (prevents_rename (path_or_root old) (path_or_root new)) h.files ≡ false
 rename_closed h old new e = (passed h old new e).closed
 
 pub rename_bare : (h : SessionView) (old new : List ℕ) → refusal_by_checks h (ops.Rename old new) ≡ None → (not (same_path (path_or_root old) (path_or_root new)) && nat_lt 0 (length (directory_names (shown_tree h.tree (path_or_root new))))) ≡ false

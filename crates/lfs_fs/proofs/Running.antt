@@ -1,5 +1,5 @@
 -- Operations in turn, by a loop.
-use Rattle.lfs_fs.proofs.Common.{AllByRecursion, take_all, map-append, fault_count, read_count, Operation, SurvivesPowerLoss, IsStep, SystemState, Session, Healthy, Pair, ReadsOnceAlways, IsAccepted, SessionFails, SessionView, system_state, HasRefusalError, op_view, reply_view, IsCall, AreFewSmall, HasCachedDirectories, pair_count_at, searched_directories}
+use Rattle.lfs_fs.proofs.Common.{AllByRecursion, take_all, map-append, fault_count, read_count, Operation, SurvivesPowerLoss, IsStep, SystemState, Session, Healthy, Pair, ReadsOnceAlways, IsAccepted, SessionFails, SessionView, system_state, HasRefusalError, op_view, reply_view, IsCall, AreFewSmall, HasCachedDirectories, directory_pair_count, searched_directories}
 use Rattle.std.specs.Prelude.{sum_by}
 use Rattle.std.proofs.Common.{Ok, ℕ, ◌≡◌, ◌+◌, ◌<◌, ◌≤◌, Bool, false, cond, List, [], ◌∷◌, ◌++◌, Option, None, Some, length, take, drop, map, get_or, refl, sym, ap, subst, ◌∙◌, drop-cons, add-one, true, arith}
 use Rattle.std.proofs.lemmas.List.{append_cancel_right, take_more, take-append-drop}
@@ -92,7 +92,7 @@ named_further replies new reply done one is = subst (AllByRecursion HasRefusalEr
 pub silent_few : (from : SystemState) (op : Operation) (to : SystemState) → to.calls ≡ from.calls → ReadsOnceAlways from op to
 silent_few from op to same s at ps a calls is looks =
     let none = append_cancel_right calls [] from.calls (sym is ∙ same) in
-    subst (λ z. read_count z ≤ sum_by (pair_count_at ps) (searched_directories op)) (sym none) (zero_least _)
+    subst (λ z. read_count z ≤ sum_by (directory_pair_count ps) (searched_directories op)) (sym none) (zero_least _)
   where
     zero_least : (n : ℕ) → 0 ≤ n
     zero_least n = omega arith

@@ -1,13 +1,13 @@
 -- The turns of a sync and of a close.
 use Rattle.std.proofs.Common.{arith, ◌≡◌, ◌<◌, ◌≤◌, ◌||◌, map, true, false, cond, not, set, List, [], ◌∷◌, ◌++◌, length, Option, Some, None, is_some, nat_lt, Result, Ok, Err, ℕ, suc, zero, refl, sym, ap, ap₂, subst, ◌∙◌}
-use Rattle.lfs_fs.proofs.Common.{AllByRecursion, list_any, option_flatten, option_map, map-set, tree_with_change, same_path, CallEvent, Operation, IsStep, opens_existing, writes_or_truncates, is_dirty, needs_no_device, is_read_only, renames_itself, OpenFilesByNumber, Session, DiskSummary, Reading, Writing, file_numbered, files_with_file, file_reader, synced_writer, Healthy, is_remount, tree_after_storing, operation_effect, file_with_bytes, Path, spread_step, StoresBytesAt, error_refusal, TreeState, IsFailedTree, HasErrorCause, IsSoundState, tree_summary, shown_tree, CanSaveWriter, IsSavedWriter, RuntimeFiles, unsaved_or_tree, open_file_at, file_view, files_view, is_unsaved_writer, readers_among, writer_view, writers_among, StepsOrFails, AreCurrentReaders, HasKnownBlocks, IsCurrentReader, SessionView, IsReady, IsWriterReady, session_view, view_with_files, system_state, refusal_by_checks, viewed_session, reply_from, KeepsWriters}
+use Rattle.lfs_fs.proofs.Common.{AllByRecursion, list_any, option_flatten, option_map, map-set, tree_with_change, same_path, CallEvent, Operation, IsStep, opens_there, writes_or_truncates, is_dirty, needs_no_device, is_read_only, renames_itself, OpenFilesByNumber, Session, DiskSummary, Reading, Writing, file_numbered, files_with_file, file_reader, synced_writer, Healthy, is_remount, tree_after_storing, operation_effect, node_with_bytes, Path, spread_step, AreBytesStored, error_refusal, TreeState, IsFailedTree, HasErrorCause, IsSoundState, tree_summary, shown_tree, CanSaveWriter, IsSavedWriter, RuntimeFiles, unsaved_or_tree, open_file_at, file_view, files_view, is_unsaved_writer, readers_among, writer_view, writers_among, StepsOrFails, AreCurrentReaders, HasKnownBlocks, IsCurrentReader, SessionView, IsReady, IsWriterReady, session_view, view_with_files, system_state, refusal_by_checks, viewed_session, reply_from, KeepsWriters}
 use Rattle.std.proofs.lemmas.List.{length-map, length-set, set-set}
 use Rattle.lfs_device.specs.declared.error.Error.{Error}
 use Rattle.lfs_model.specs.session.Moved.{IsLayoutMoved}
 use Rattle.lfs_model.specs.session.Operations as ops
 use Rattle.lfs_model.specs.session.Run.{is_recover}
 use Rattle.lfs_model.specs.session.Session as session
-use Rattle.lfs_model.specs.session.Effects.{file_after_sync}
+use Rattle.lfs_model.specs.session.Effects.{synced_file}
 use Rattle.lfs_model.proofs.BlockSets.{slice_get-set_same}
 use Rattle.lfs_fs.specs.declared.files.OpenFile.{OpenFile}
 use Rattle.lfs_fs.specs.declared.files.OpenFile.TheVariants as file
@@ -72,8 +72,8 @@ back_is t s fs fd w v is o =
 
 -- ---- the turn
 
-stored_step : (t new : TreeState) (fs : RuntimeFiles) (files : OpenFilesByNumber) (op : Operation) (path : Path) (bytes : List ℕ) → IsSoundState t → t.failed ≡ false → refusal_by_checks (session_view t fs) op ≡ None → (stored : StoresBytesAt t path bytes new) →
-    is_remount op ≡ false → is_read_only (viewed_session (session_view t fs)) op ≡ false → writes_or_truncates op ≡ false → opens_existing (viewed_session (session_view t fs)) op ≡ false → needs_no_device (viewed_session (session_view t fs)) op ≡ false →
+stored_step : (t new : TreeState) (fs : RuntimeFiles) (files : OpenFilesByNumber) (op : Operation) (path : Path) (bytes : List ℕ) → IsSoundState t → t.failed ≡ false → refusal_by_checks (session_view t fs) op ≡ None → (stored : AreBytesStored t path bytes new) →
+    is_remount op ≡ false → is_read_only (viewed_session (session_view t fs)) op ≡ false → writes_or_truncates op ≡ false → opens_there (viewed_session (session_view t fs)) op ≡ false → needs_no_device (viewed_session (session_view t fs)) op ≡ false →
     renames_itself op ≡ false → is_recover op ≡ false →
     ((around : DiskSummary) → shown_tree new ≡ (operation_effect around (viewed_session (session_view t fs)) op).1.tree) → IsLayoutMoved t.disk t.pairs (viewed_session (session_view t fs)) op stored.calls new.disk new.pairs →
     (operation_effect (tree_summary t) (viewed_session (session_view t fs)) op).1.files ≡ files →
@@ -101,12 +101,12 @@ stored_step t new fs files op path bytes sound works e stored other asks fill cr
 file_at : (t : TreeState) (fs : RuntimeFiles) (fd : ℕ) (w : Writer) → Some (file.Writing w) ≡ open_file_at fs fd → file_numbered (files_view t fs) fd ≡ Some (Writing (writer_view t w))
 file_at t fs fd w is = file_is t fs fd ∙ ap (option_map (file_view t)) (sym is)
 
-committed_is : (t new : TreeState) (fs : RuntimeFiles) (fd : ℕ) (w : Writer) → Some (file.Writing w) ≡ open_file_at fs fd → is_some w.unsaved ≡ true → StoresBytesAt t w.path (unsaved_or_tree t w.path w.unsaved) new →
+committed_is : (t new : TreeState) (fs : RuntimeFiles) (fd : ℕ) (w : Writer) → Some (file.Writing w) ≡ open_file_at fs fd → is_some w.unsaved ≡ true → AreBytesStored t w.path (unsaved_or_tree t w.path w.unsaved) new →
     shown_tree new ≡ tree_after_storing (file_numbered (files_view t fs) fd) (shown_tree t)
 committed_is t new fs fd w is dirty stored =
     stored.shows
     ∙ sym (ap (λ f. tree_after_storing f (shown_tree t)) (file_at t fs fd w is)
-    ∙ ap (λ b. cond b (tree_with_change w.path (file_with_bytes (unsaved_or_tree t w.path w.unsaved)) (shown_tree t)) (shown_tree t)) dirty)
+    ∙ ap (λ b. cond b (tree_with_change w.path (node_with_bytes (unsaved_or_tree t w.path w.unsaved)) (shown_tree t)) (shown_tree t)) dirty)
 
 pub dirty_at : (t : TreeState) (fs : RuntimeFiles) (fd : ℕ) (w : Writer) → Some (file.Writing w) ≡ open_file_at fs fd → is_some w.unsaved ≡ true → not (is_dirty (file_numbered (files_view t fs) fd)) ≡ false
 dirty_at t fs fd w is dirty = ap (λ f. not (is_dirty f)) (file_at t fs fd w is) ∙ ap not dirty
@@ -118,17 +118,17 @@ writer_at t fs fd w is dirty = (file_at t fs fd w is, (dirty, (refl, refl)))
 -- ---- a sync
 
 sync_step : (t new : TreeState) (fs : RuntimeFiles) (fd : ℕ) (w v : Writer) → IsReady t fs → refusal_by_checks (session_view t fs) (ops.Sync fd) ≡ None → Some (file.Writing w) ≡ open_file_at fs fd → is_some w.unsaved ≡ true →
-    StoresBytesAt t w.path (unsaved_or_tree t w.path w.unsaved) new → IsSavedWriter new (synced_writer (writer_view t w)) v →
+    AreBytesStored t w.path (unsaved_or_tree t w.path w.unsaved) new → IsSavedWriter new (synced_writer (writer_view t w)) v →
     IsStep (system_state (session_view t fs)) (ops.Sync fd) ops.Done (system_state (session_view new (set (set fs fd None) fd (Some (file.Writing v)))))
 sync_step t new fs fd w v ready e is dirty stored saved =
     stored_step t new fs (files_view new (set (set fs fd None) fd (Some (file.Writing v)))) (ops.Sync fd) w.path (unsaved_or_tree t w.path w.unsaved) ready.sound (not_failed (session_view t fs) (ops.Sync fd) e) e stored
     refl refl refl refl (dirty_at t fs fd w is dirty) refl refl (λ around. committed_is t new fs fd w is dirty stored) (stored.synced ready.called (files_view t fs) fd (writer_view t w) (writer_at t fs fd w is dirty))
-    (ap (λ f. files_with_file (files_view t fs) fd (file_after_sync f)) (file_at t fs fd w is)
+    (ap (λ f. files_with_file (files_view t fs) fd (synced_file f)) (file_at t fs fd w is)
     ∙ ap (λ x. files_with_file (files_view t fs) fd (Some (Writing x))) (sym saved.seen)
     ∙ sym (back_is t new fs fd w v is (only fs fd w (sym is) ready.one)))
 
 pub sync_answers : (t new : TreeState) (fs mid gs : RuntimeFiles) (now : SessionView) (fd : ℕ) (w v : Writer) → session_view t fs ≡ now → (t.failed ≡ false → IsReady t fs) → refusal_by_checks (session_view t fs) (ops.Sync fd) ≡ None →
-    is_unsaved_writer (open_file_at fs fd) ≡ true → Some (file.Writing w) ≡ open_file_at fs fd → StoresBytesAt t w.path (unsaved_or_tree t w.path w.unsaved) new → IsSavedWriter new (synced_writer (writer_view t w)) v →
+    is_unsaved_writer (open_file_at fs fd) ≡ true → Some (file.Writing w) ≡ open_file_at fs fd → AreBytesStored t w.path (unsaved_or_tree t w.path w.unsaved) new → IsSavedWriter new (synced_writer (writer_view t w)) v →
     mid ≡ set fs fd None → gs ≡ set mid fd (Some (file.Writing v)) → StepsOrFails now (ops.Sync fd) (Ok ops.Done) (session_view new gs)
 sync_answers t new fs mid gs now fd w v same ready e unsaved is stored saved left back =
     subst (λ z. IsStep (system_state z) (ops.Sync fd) ops.Done (system_state (session_view new gs))) same
@@ -140,7 +140,7 @@ sync_writers t fs mid gs fd w v ready is left back =
     ap (λ xs. writers_among xs) (back ∙ ap (λ z. set z fd (Some (file.Writing v))) left ∙ set-set fs fd None (Some (file.Writing v))) ∙ (only fs fd w (sym is) ready.one).with_other v
 
 pub sync_ready : (t new : TreeState) (fs mid gs : RuntimeFiles) (fd : ℕ) (w v : Writer) (bytes : List ℕ) → (t.failed ≡ false → IsReady t fs) → refusal_by_checks (session_view t fs) (ops.Sync fd) ≡ None →
-    Some (file.Writing w) ≡ open_file_at fs fd → StoresBytesAt t w.path bytes new → IsSavedWriter new (synced_writer (writer_view t w)) v → mid ≡ set fs fd None → gs ≡ set mid fd (Some (file.Writing v)) → IsReady new gs
+    Some (file.Writing w) ≡ open_file_at fs fd → AreBytesStored t w.path bytes new → IsSavedWriter new (synced_writer (writer_view t w)) v → mid ≡ set fs fd None → gs ≡ set mid fd (Some (file.Writing v)) → IsReady new gs
 sync_ready t new fs mid gs fd w v bytes ready e is stored saved left back =
     let was = ready (not_failed (session_view t fs) (ops.Sync fd) e) in
     let are = sync_writers t fs mid gs fd w v was is left back in
@@ -179,13 +179,13 @@ sync_idle t fs now fd same ready e there saved =
     nothing : is_saved (open_file_at fs fd) ≡ true
     nothing = saved_is (open_file_at fs fd) saved
 
-    clean : (o : Option OpenFile) → is_unsaved_writer o ≡ false → file_after_sync (option_map (file_view t) o) ≡ option_map (file_view t) o
+    clean : (o : Option OpenFile) → is_unsaved_writer o ≡ false → synced_file (option_map (file_view t) o) ≡ option_map (file_view t) o
     clean None h = refl
     clean (Some (file.Reading r)) h = refl
     clean (Some (file.Writing w)) h = ap (λ b. Some (Writing (cond b (record (writer_view t w) { dirty = false; turned = false; last_end = None }) (writer_view t w)))) h
 
-    files : files_with_file (files_view t fs) fd (file_after_sync (file_numbered (files_view t fs) fd)) ≡ files_view t fs
-    files = ap (λ f. files_with_file (files_view t fs) fd (file_after_sync f)) (file_is t fs fd)
+    files : files_with_file (files_view t fs) fd (synced_file (file_numbered (files_view t fs) fd)) ≡ files_view t fs
+    files = ap (λ f. files_with_file (files_view t fs) fd (synced_file f)) (file_is t fs fd)
         ∙ ap (files_with_file (files_view t fs) fd) (clean (open_file_at fs fd) saved)
         ∙ sym (set_is t fs fd (open_file_at fs fd) there)
         ∙ ap (files_view t) (put_same fs fd there)
@@ -193,7 +193,7 @@ sync_idle t fs now fd same ready e there saved =
 -- ---- a close
 
 close_step : (t new : TreeState) (fs : RuntimeFiles) (fd : ℕ) (w : Writer) → IsReady t fs → refusal_by_checks (session_view t fs) (ops.Close fd) ≡ None → Some (file.Writing w) ≡ open_file_at fs fd → is_some w.unsaved ≡ true →
-    StoresBytesAt t w.path (unsaved_or_tree t w.path w.unsaved) new → IsStep (system_state (session_view t fs)) (ops.Close fd) ops.Done (system_state (session_view new (set fs fd None)))
+    AreBytesStored t w.path (unsaved_or_tree t w.path w.unsaved) new → IsStep (system_state (session_view t fs)) (ops.Close fd) ops.Done (system_state (session_view new (set fs fd None)))
 close_step t new fs fd w ready e is dirty stored =
     stored_step t new fs (files_view new (set fs fd None)) (ops.Close fd) w.path (unsaved_or_tree t w.path w.unsaved) ready.sound (not_failed (session_view t fs) (ops.Close fd) e) e stored
     refl (ap (λ f. is_some (file_reader f)) (file_at t fs fd w is)) refl refl (dirty_at t fs fd w is dirty) refl refl (λ around. committed_is t new fs fd w is dirty stored)
@@ -201,14 +201,14 @@ close_step t new fs fd w ready e is dirty stored =
     (sym (left_is t new fs fd w is (only fs fd w (sym is) ready.one)))
 
 pub close_answers : (t new : TreeState) (fs gs : RuntimeFiles) (now : SessionView) (fd : ℕ) (w : Writer) → session_view t fs ≡ now → (t.failed ≡ false → IsReady t fs) → refusal_by_checks (session_view t fs) (ops.Close fd) ≡ None →
-    is_unsaved_writer (open_file_at fs fd) ≡ true → Some (file.Writing w) ≡ open_file_at fs fd → StoresBytesAt t w.path (unsaved_or_tree t w.path w.unsaved) new → gs ≡ set fs fd None → StepsOrFails now (ops.Close fd) (Ok ops.Done) (session_view new gs)
+    is_unsaved_writer (open_file_at fs fd) ≡ true → Some (file.Writing w) ≡ open_file_at fs fd → AreBytesStored t w.path (unsaved_or_tree t w.path w.unsaved) new → gs ≡ set fs fd None → StepsOrFails now (ops.Close fd) (Ok ops.Done) (session_view new gs)
 close_answers t new fs gs now fd w same ready e unsaved is stored left =
     subst (λ z. IsStep (system_state z) (ops.Close fd) ops.Done (system_state (session_view new gs))) same
     (subst (λ z. IsStep (system_state (session_view t fs)) (ops.Close fd) ops.Done (system_state (session_view new z))) (sym left)
     (close_step t new fs fd w (ready (not_failed (session_view t fs) (ops.Close fd) e)) e is (unsaved_writer (open_file_at fs fd) w unsaved is) stored))
 
 pub close_ready : (t new : TreeState) (fs gs : RuntimeFiles) (fd : ℕ) (w : Writer) (bytes : List ℕ) → (t.failed ≡ false → IsReady t fs) → refusal_by_checks (session_view t fs) (ops.Close fd) ≡ None →
-    Some (file.Writing w) ≡ open_file_at fs fd → StoresBytesAt t w.path bytes new → gs ≡ set fs fd None → IsReady new gs
+    Some (file.Writing w) ≡ open_file_at fs fd → AreBytesStored t w.path bytes new → gs ≡ set fs fd None → IsReady new gs
 close_ready t new fs gs fd w bytes ready e is stored left =
     let was = ready (not_failed (session_view t fs) (ops.Close fd) e) in
     let o = only fs fd w (sym is) was.one in

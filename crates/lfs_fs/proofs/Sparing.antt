@@ -1,10 +1,10 @@
 -- What a session's calls leave alone.
 use Rattle.std.proofs.Common.{ℕ, ◌≡◌, Bool, true, false, cond, List, [], Some, Result, Ok, Err, refl, sym, ap, subst, ◌∙◌}
 use Rattle.std.specs.Prelude.{All, OnOk, is_err}
-use Rattle.lfs_fs.proofs.Common.{All-from_recursion, content_at, KeepsOthers, ReadsEachOnce, answers_itself, is_look_up, searched_directories, Disk, ordered_disk, disk_block, block_count, CallEvent, Operation, Reply, HasEitherTree, SurvivesInCalls, SurvivesPowerLoss, operation_result, HealthyHasDiskTree, IsStep, SystemState, is_read_only, Session, file_numbered, all_unmoved_slots, struct_blocks, Slot, zero_gstate, Healthy, is_remount, Pair, pairs_gstate, IsAccepted, recovered_from, one_thread, StoresBytesAt, KeepsImage, is_refusal, error_refusal, OnlyReadsTree, IsApplied, IsSoundState, KeepsOthersIfRecovered, TreeState, option_map, RuntimeFiles, open_file_at, file_view, files_view, MeetsReplyRules, StepsOrFails, SessionView, IsReady, session_view, view_with_files, system_state, viewed_session, ReadsSearched, AddsNoReads, NoReadsIfCached, reply_from, ReadsOnceAlways, IsCall, SparesOthers, AreFewSmall, HasCachedDirectories}
+use Rattle.lfs_fs.proofs.Common.{All-from_recursion, content_at, KeepsOthers, ReadsEachOnce, asks_session, is_look_up, searched_directories, Disk, ordered_disk, disk_block, block_count, CallEvent, Operation, Reply, HasEitherTree, SurvivesStoppedCalls, SurvivesPowerLoss, operation_result, HealthyHasDiskTree, IsStep, SystemState, is_read_only, Session, file_numbered, all_unmoved_slots, struct_blocks, Slot, zero_gstate, Healthy, is_remount, Pair, pairs_gstate, IsAccepted, recovered_from, one_thread, AreBytesStored, KeepsImage, is_refusal, error_refusal, OnlyReadsTree, IsApplied, IsSoundState, KeepsOthersIfRecovered, TreeState, option_map, RuntimeFiles, open_file_at, file_view, files_view, MeetsReplyRules, StepsOrFails, SessionView, IsReady, session_view, view_with_files, system_state, viewed_session, ReadsSearched, AddsNoReads, NoReadsIfCached, reply_from, ReadsOnceAlways, IsCall, SparesOthers, AreFewSmall, HasCachedDirectories}
 use Rattle.lfs_device.specs.declared.error.Error.{Error}
 use Rattle.lfs_model.specs.declared.order.NameOrder.{NameOrder}
-use Rattle.lfs_model.specs.crash.Frame.{paths_of_file, changed_paths}
+use Rattle.lfs_model.specs.crash.Frame.{path_if_open, changed_paths}
 use Rattle.lfs_model.specs.session.Operations as ops
 use Rattle.lfs_model.specs.session.Run as model
 use Rattle.lfs_model.specs.session.Run.{IsDiskEffect}
@@ -93,10 +93,10 @@ begun_others t mid new fs now op same ready asked carried =
 
 -- the contents of a writer come into the tree
 pub stored_others : (t new : TreeState) (fs : RuntimeFiles) (now : SessionView) (op : Operation) (fd : ℕ) (w : Writer) (bytes : List ℕ) → session_view t fs ≡ now → (t.failed ≡ false → IsReady t fs) → Some (file.Writing w) ≡ open_file_at fs fd →
-    ((s : Session) → changed_paths s op ≡ paths_of_file (file_numbered s.files fd)) → StoresBytesAt t w.path bytes new → SparesOthers (system_state now) op (system_state (view_with_files new []))
+    ((s : Session) → changed_paths s op ≡ path_if_open (file_numbered s.files fd)) → AreBytesStored t w.path bytes new → SparesOthers (system_state now) op (system_state (view_with_files new []))
 stored_others t new fs now op fd w bytes same ready is about stored =
     others_from t new fs now op same ready stored.sound
-    (λ sound none. stored.alone (files_view t fs) op (about (viewed_session (session_view t fs)) ∙ ap paths_of_file (file_is t fs fd ∙ ap (option_map (file_view t)) (sym is))))
+    (λ sound none. stored.alone (files_view t fs) op (about (viewed_session (session_view t fs)) ∙ ap path_if_open (file_is t fs fd ∙ ap (option_map (file_view t)) (sym is))))
 
 -- contents are written beside the image
 pub beside_others : (t new : TreeState) (fs : RuntimeFiles) (now : SessionView) (op : Operation) → session_view t fs ≡ now → (t.failed ≡ false → IsReady t fs) → KeepsImage t new → SparesOthers (system_state now) op (system_state (view_with_files new []))
@@ -111,7 +111,7 @@ few_asked t new fs op sound few s at ps a calls is looks =
     subst (λ z. ReadsEachOnce z op calls) p (λ l. reads_few t new op (few l) calls is l) looks
 
 -- an error leaves the disk as it was, too
-asking_stands : (old : SessionView) (op : Operation) (r : Result Reply Error) (new : SessionView) → HealthyHasDiskTree old.tree.disk (system_state old).state → ((s : Session) → is_read_only s op ≡ true) → StepsOrFails old op r new → SurvivesInCalls (system_state old) op (system_state new) →
+asking_stands : (old : SessionView) (op : Operation) (r : Result Reply Error) (new : SessionView) → HealthyHasDiskTree old.tree.disk (system_state old).state → ((s : Session) → is_read_only s op ≡ true) → StepsOrFails old op r new → SurvivesStoppedCalls (system_state old) op (system_state new) →
     SurvivesPowerLoss (system_state old) op (system_state new)
 asking_stands old op (Ok reply) new agrees asks turn survives = session_step_survives_loss (system_state old) op reply (system_state new) agrees turn survives
 asking_stands old op (Err e) new agrees asks fails survives = record {
@@ -170,7 +170,7 @@ asks_not t op r new silent = record {
 
 -- a call that asks only
 pub asking_call : (t : TreeState) (fs : RuntimeFiles) (now : SessionView) (op : Operation) (r : Result Reply Error) (new : SessionView) → session_view t fs ≡ now → (t.failed ≡ false → IsReady t fs) → ((s : Session) → is_read_only s op ≡ true) →
-    (answers_itself op ≡ true → new ≡ now) → AsksBy t op r new → MeetsReplyRules now op r new → StepsOrFails now op r new → SurvivesInCalls (system_state now) op (system_state new) → IsCall now op r new
+    (asks_session op ≡ true → new ≡ now) → AsksBy t op r new → MeetsReplyRules now op r new → StepsOrFails now op r new → SurvivesStoppedCalls (system_state now) op (system_state new) → IsCall now op r new
 asking_call t fs now op r new same ready asks kept by ends answers survives = record {
   answers = answers;
   ends = ends;

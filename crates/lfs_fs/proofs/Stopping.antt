@@ -2,7 +2,7 @@
 use Rattle.std.proofs.Common.{◌≡◌, inl, inr, Bool, true, false, List, [], ◌∷◌, ◌++◌, None, Result, Ok, Err, refl, sym, ap, subst, ◌∙◌, append_assoc}
 use Rattle.std.specs.Prelude.{◌⊎◌, OnOk, OnErr}
 use Rattle.lfs_device.specs.declared.error.Error.{Error}
-use Rattle.lfs_fs.proofs.Common.{Blocks, content_at, Disk, SameGeometry, block_count, CallEvent, AllCalls, OnlyReadsSince, Operation, HasEitherTree, SurvivesInCalls, SystemState, Session, HasFailed, Healthy, SessionHealth, operation_result, operation_effect, Tree, disk_tree, one_thread, is_refusal, OnlyReadsTree, IsFailedTree, IsApplied, IsSoundState, TreeState, SurvivesStops, tree_summary, shown_tree, IsChecksResult, FailsChecks, SessionView, view_with_files, system_state, refusal_by_checks, viewed_session}
+use Rattle.lfs_fs.proofs.Common.{Blocks, content_at, Disk, SameGeometry, block_count, CallEvent, AllCalls, OnlyReadsSince, Operation, HasEitherTree, SurvivesStoppedCalls, SystemState, Session, HasFailed, Healthy, SessionHealth, operation_result, operation_effect, Tree, disk_tree, one_thread, is_refusal, OnlyReadsTree, IsFailedTree, IsApplied, IsSoundState, TreeState, SurvivesStops, tree_summary, shown_tree, IsChecksResult, FailsChecks, SessionView, view_with_files, system_state, refusal_by_checks, viewed_session}
 use Rattle.lfs_model.specs.session.History.{AllCallsSince}
 use Rattle.lfs_model.specs.crash.PowerLoss.{SurvivesLossSince, with_blocks}
 use Rattle.lfs_model.specs.session.Effects.{unless_refused}
@@ -32,7 +32,7 @@ session_at h s e = ap or_else (sym (ap (λ (m : SystemState). m.state) (healthy_
 -- The disk and the calls at its end are what matters of the later moment.
 survives_at_work : (old : SessionView) (op : Operation) (new : TreeState) → (old.tree.failed ≡ false → IsSoundState old.tree) →
     (old.tree.failed ≡ false → old.tree.writable ≡ true → SurvivesLossSince old.tree.disk old.tree.history new.history (shown_tree old.tree) (operation_result (tree_summary old.tree) (viewed_session old) op).1.tree) →
-    SurvivesInCalls (system_state old) op (system_state (view_with_files new []))
+    SurvivesStoppedCalls (system_state old) op (system_state (view_with_files new []))
 survives_at_work old op new sound leaves s ps around work =
     let works = works_at old s work.healthy in
     let ok = sound works in
@@ -114,37 +114,37 @@ kept_by_reads t m sound writable asked = still_asked t t m (nothing_yet t sound 
 -- ---- how a session's call ends
 
 -- it only read
-pub only_read : (old now : SessionView) (op : Operation) (new : TreeState) → old ≡ now → (old.tree.failed ≡ false → IsSoundState old.tree) → OnlyReadsSince old.tree.disk.blocks old.tree.history new.history → SurvivesInCalls (system_state now) op (system_state (view_with_files new []))
+pub only_read : (old now : SessionView) (op : Operation) (new : TreeState) → old ≡ now → (old.tree.failed ≡ false → IsSoundState old.tree) → OnlyReadsSince old.tree.disk.blocks old.tree.history new.history → SurvivesStoppedCalls (system_state now) op (system_state (view_with_files new []))
 only_read old now op new same sound reads =
-    subst (λ z. SurvivesInCalls (system_state z) op (system_state (view_with_files new []))) same
+    subst (λ z. SurvivesStoppedCalls (system_state z) op (system_state (view_with_files new []))) same
     (survives_at_work old op new sound (λ works writable. then_reads old.tree old.tree new.history (operation_result (tree_summary old.tree) (viewed_session old) op).1.tree (nothing_yet old.tree (sound works) writable) reads))
 
 -- no call was made
-pub no_call : (old now : SessionView) (op : Operation) (new : TreeState) → old ≡ now → (old.tree.failed ≡ false → IsSoundState old.tree) → new.history ≡ old.tree.history → SurvivesInCalls (system_state now) op (system_state (view_with_files new []))
+pub no_call : (old now : SessionView) (op : Operation) (new : TreeState) → old ≡ now → (old.tree.failed ≡ false → IsSoundState old.tree) → new.history ≡ old.tree.history → SurvivesStoppedCalls (system_state now) op (system_state (view_with_files new []))
 no_call old now op new same sound e = only_read old now op new same sound (record { events = []; extends = e; each = tt })
 
 -- the session is as it was
-pub kept_call : (old now : SessionView) (op : Operation) → old ≡ now → (old.tree.failed ≡ false → IsSoundState old.tree) → SurvivesInCalls (system_state now) op (system_state now)
-kept_call old now op same sound = subst (λ z. SurvivesInCalls (system_state z) op (system_state z)) same (no_call old old op old.tree refl sound refl)
+pub kept_call : (old now : SessionView) (op : Operation) → old ≡ now → (old.tree.failed ≡ false → IsSoundState old.tree) → SurvivesStoppedCalls (system_state now) op (system_state now)
+kept_call old now op same sound = subst (λ z. SurvivesStoppedCalls (system_state z) op (system_state z)) same (no_call old old op old.tree refl sound refl)
 
 -- the session failed without a call, whatever it had
-pub failing_survives : (old new : SessionView) (op : Operation) → new ≡ record old { tree = record old.tree { failed = true } } → SurvivesInCalls (system_state old) op (system_state new)
+pub failing_survives : (old new : SessionView) (op : Operation) → new ≡ record old { tree = record old.tree { failed = true } } → SurvivesStoppedCalls (system_state old) op (system_state new)
 failing_survives old new op is s ps around work clean = record { events = []; extends = ap (λ (h : SessionView). h.tree.history) is; each = tt }
 
 -- the tree was changed by a call of its own
 pub tree_changed : (old now : SessionView) (op : Operation) (new : TreeState) (after : Tree) → old ≡ now → (old.tree.failed ≡ false → IsSoundState old.tree) → refusal_by_checks old op ≡ None → SurvivesStops old.tree new after →
-    after ≡ (operation_effect (tree_summary old.tree) (viewed_session old) op).1.tree → SurvivesInCalls (system_state now) op (system_state (view_with_files new []))
+    after ≡ (operation_effect (tree_summary old.tree) (viewed_session old) op).1.tree → SurvivesStoppedCalls (system_state now) op (system_state (view_with_files new []))
 tree_changed old now op new after same sound e survives is =
-    subst (λ z. SurvivesInCalls (system_state z) op (system_state (view_with_files new []))) same
+    subst (λ z. SurvivesStoppedCalls (system_state z) op (system_state (view_with_files new []))) same
     (survives_at_work old op new sound (λ works writable.
     subst (SurvivesStops old.tree new) (is ∙ sym (ap (λ r. (unless_refused r (viewed_session old) (operation_effect (tree_summary old.tree) (viewed_session old) op)).1.tree) (not_refused old op e))) survives))
 
 -- a call of the tree came last, behind what kept the tree
 pub one_changed : (old now : SessionView) (op : Operation) (mid : TreeState) (new : TreeState) (after : Tree) → old ≡ now → (old.tree.failed ≡ false → IsSoundState old.tree) → refusal_by_checks old op ≡ None →
     (old.tree.failed ≡ false → old.tree.writable ≡ true → KeepsTree old.tree mid) → (calls : List CallEvent) × (new.history ≡ calls ++ mid.history) → SurvivesStops mid new after →
-    after ≡ (operation_effect (tree_summary old.tree) (viewed_session old) op).1.tree → SurvivesInCalls (system_state now) op (system_state (view_with_files new []))
+    after ≡ (operation_effect (tree_summary old.tree) (viewed_session old) op).1.tree → SurvivesStoppedCalls (system_state now) op (system_state (view_with_files new []))
 one_changed old now op mid new after same sound e keeps called survives is =
-    subst (λ z. SurvivesInCalls (system_state z) op (system_state (view_with_files new []))) same
+    subst (λ z. SurvivesStoppedCalls (system_state z) op (system_state (view_with_files new []))) same
     (survives_at_work old op new sound (λ works writable.
     subst (λ z. SurvivesLossSince old.tree.disk old.tree.history new.history (shown_tree old.tree) z) (is ∙ sym (ap (λ r. (unless_refused r (viewed_session old) (operation_effect (tree_summary old.tree) (viewed_session old) op)).1.tree) (not_refused old op e)))
     (then_changes old.tree mid called.0 new.history after (keeps works writable) called.1 survives)))
@@ -152,7 +152,7 @@ one_changed old now op mid new after same sound e keeps called survives is =
 -- the same behind reads
 pub asked_changed : (old now : SessionView) (op : Operation) (mid : TreeState) (new : TreeState) (after : Tree) → old ≡ now → (old.tree.failed ≡ false → IsSoundState old.tree) → refusal_by_checks old op ≡ None →
     OnlyReadsTree old.tree mid → (calls : List CallEvent) × (new.history ≡ calls ++ mid.history) → SurvivesStops mid new after →
-    after ≡ (operation_effect (tree_summary old.tree) (viewed_session old) op).1.tree → SurvivesInCalls (system_state now) op (system_state (view_with_files new []))
+    after ≡ (operation_effect (tree_summary old.tree) (viewed_session old) op).1.tree → SurvivesStoppedCalls (system_state now) op (system_state (view_with_files new []))
 asked_changed old now op mid new after same sound e asked called survives is =
     one_changed old now op mid new after same sound e (λ works writable. kept_by_reads old.tree mid (sound works) writable asked) called survives is
 

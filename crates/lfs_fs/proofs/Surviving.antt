@@ -1,7 +1,7 @@
 -- Runs whose operations survive stops.
 use Rattle.std.proofs.Common.{Result, Ok, Err, ◌≡◌, ◌≢◌, Bool, true, false, cond, List, [], refl, sym, ap, subst, ◌∙◌}
 use Rattle.lfs_device.specs.declared.error.Error.{Error}
-use Rattle.lfs_fs.proofs.Common.{HasEitherTree, SurvivesInCalls, SurvivesPowerLoss, SameGeometry, ordered_disk, operation_result, LeftByLatest, Operation, Session, DiskSummary, is_remount, disk_tree, Pair, HealthyHasDiskTree, SystemState, StepsOrFails, SessionView, IsReady, session_view, system_state, HasSessionInvariant, DeviceConforms, RuntimeFiles, TreeState}
+use Rattle.lfs_fs.proofs.Common.{HasEitherTree, SurvivesStoppedCalls, SurvivesPowerLoss, SameGeometry, ordered_disk, operation_result, LeftByLatest, Operation, Session, DiskSummary, is_remount, disk_tree, Pair, HealthyHasDiskTree, SystemState, StepsOrFails, SessionView, IsReady, session_view, system_state, HasSessionInvariant, DeviceConforms, RuntimeFiles, TreeState}
 use Rattle.lfs_model.specs.crash.PowerLoss.{IsHealthySession}
 use Rattle.lfs_model.specs.session.Operations as ops
 use Rattle.lfs_model.proofs.AfterStops.{left_before}
@@ -26,7 +26,7 @@ stood_before from op agrees s ps around work =
     (one_tree from.disk (disk_tree from.disk ps) s.tree (ps, (work.accepted, refl)) (subst (HealthyHasDiskTree from.disk) work.healthy agrees))
 
 -- what stands is what stood
-pub untouched_survives_loss : (from : SystemState) (op : Operation) (to : SystemState) → HealthyHasDiskTree from.disk from.state → to.disk ≡ from.disk → SurvivesInCalls from op to → SurvivesPowerLoss from op to
+pub untouched_survives_loss : (from : SystemState) (op : Operation) (to : SystemState) → HealthyHasDiskTree from.disk from.state → to.disk ≡ from.disk → SurvivesStoppedCalls from op to → SurvivesPowerLoss from op to
 untouched_survives_loss from op to agrees same survives = record {
   stops = survives;
   stands = λ s ps around work clean fails. subst (λ d. HasEitherTree d s.tree (operation_result around s op).1.tree) (sym same) (stood_before from op agrees s ps around work);
@@ -38,7 +38,7 @@ same_shape old op (Ok reply) new other turn = subst (λ b. SameGeometry (cond b 
 same_shape old op (Err e) new other fails = fails.fails.geometry
 
 -- What stands is what the newest call left.
-pub call_survives_loss : (t : TreeState) (fs : RuntimeFiles) (now : SessionView) (op : Operation) (r : Result ops.Reply Error) (new : SessionView) → session_view t fs ≡ now → HasSessionInvariant t fs → DeviceConforms new.tree → is_remount op ≡ false → StepsOrFails now op r new → SurvivesInCalls (system_state now) op (system_state new) →
+pub call_survives_loss : (t : TreeState) (fs : RuntimeFiles) (now : SessionView) (op : Operation) (r : Result ops.Reply Error) (new : SessionView) → session_view t fs ≡ now → HasSessionInvariant t fs → DeviceConforms new.tree → is_remount op ≡ false → StepsOrFails now op r new → SurvivesStoppedCalls (system_state now) op (system_state new) →
     SurvivesPowerLoss (system_state now) op (system_state new)
 call_survives_loss t fs now op r new is between reported other answers survives = go now.tree.failed refl
   where

@@ -2,14 +2,14 @@
 use Rattle.std.proofs.Common.{ℕ, ◌*◌, ◌≡◌, ◌+◌, ◌-◌, ◌<◌, ◌≤◌, inl, inr, Bool, true, false, cond, max, min, List, [], ◌∷◌, ◌++◌, length, take, drop, replicate, Option, Some, None, Result, Ok, Err, is_some, refl, sym, ap, ap₂, subst, ◌∙◌, arith, length-append, length-drop, append_assoc}
 use Rattle.lfs_device.specs.declared.error.Error.{Error}
 use Rattle.std.specs.Prelude.{OnErr, ◌||◌, ◌==◌, nat_le, nat_lt, if◌then◌else◌}
-use Rattle.lfs_fs.proofs.Common.{eqb-true, ne_eqb, length-take, file_bytes, tree_with_change, is_file, file_with_bytes, path_itself, option_map, SameGeometry, block_count, inline_limit, synced_writer, truncated_writer, written_writer, written_contents, turns_writer, write_position, zero_padded, reserved_for_writer, zero_gstate, pairs_gstate, Node, FileNode, DirectoryNode, Path, Tree, StoresBytesAt, AreTreeContents, InlineWithinLimit, KeepsImage, writer_contents_bytes, TreeState, OnlyReadsTree, IsFailedTree, tree_summary, shown_tree, contents_form, FormFitsWriter, ContentsForm, IsWriterForm, CanChangeWriter, CanSaveWriter, IsSavedWriter, CanTruncateBy, CanWriteBy, IsUnsavedForm, IsChangedWriter, unsaved_or_tree, last_change_end, reserved_by, reserved_for, is_unsaved_turned, writer_view, AreUnsavedContents, AreUnsavedIfAny, IsWriterReady}
+use Rattle.lfs_fs.proofs.Common.{eqb-true, ne_eqb, length-take, file_bytes, tree_with_change, is_file, node_with_bytes, path_itself, option_map, SameGeometry, block_count, inline_limit, synced_writer, truncated_writer, written_writer, written_contents, turns_writer, write_position, zero_padded, reserved_for_writer, zero_gstate, pairs_gstate, Node, FileNode, DirectoryNode, Path, Tree, AreBytesStored, AreTreeContents, InlineWithinLimit, KeepsImage, writer_contents_bytes, TreeState, OnlyReadsTree, IsFailedTree, tree_summary, shown_tree, contents_form, FormFitsWriter, ContentsForm, IsWriterForm, CanChangeWriter, CanSaveWriter, IsSavedWriter, CanTruncateBy, CanWriteBy, IsUnsavedForm, IsChangedWriter, unsaved_or_tree, last_change_end, writer_reserve, contents_reserve, is_unsaved_turned, writer_view, AreUnsavedContents, AreUnsavedIfAny, IsWriterReady}
 use Rattle.std.proofs.lemmas.Bool.{leb-false}
 use Rattle.std.proofs.lemmas.List.{length-replicate}
 use Rattle.lfs_model.specs.declared.limits.Profile.{Profile}
 use Rattle.lfs_model.specs.session.Session as session
 use Rattle.lfs_model.specs.session.Session.{list_block_count}
 use Rattle.lfs_tree.specs.OpenContents.{CanStoreContents, CanTruncateIn, CanWriteIn, kept_thread}
-use Rattle.lfs_file.specs.Contents.{FormFitsInline, finish_room, NeedsTruncateRoom, truncation_room, write_room}
+use Rattle.lfs_file.specs.Contents.{FormFitsLimit, finish_room, NeedsTruncateRoom, truncation_room, write_room}
 use Rattle.lfs_file.specs.Form as shape_of
 use Rattle.lfs_file.specs.Form.{form_size, form_written_within, shortened_form, truncated_form, written_form}
 use Rattle.lfs_file.specs.declared.contents.WriterContents.{WriterContents}
@@ -172,7 +172,7 @@ as_writer old new path position size appends turned end c v b writable settled t
       over = over;
       kept = subst (λ z. IsWriterForm new.disk.profile new.disk.block_size (contents_form c) z) (sym seen) (subst (λ a. IsWriterForm a.profile a.block_size (contents_form c) v) (sym b.around) kept);
       form = subst (λ a. InlineWithinLimit (inline_limit a.profile a.block_size) (contents_form c)) (sym b.around) settle;
-      room = subst (λ a. length a.used + reserved_for a.profile a.block_size turned size ≤ a.block_count) (sym b.around)
+      room = subst (λ a. length a.used + contents_reserve a.profile a.block_size turned size ≤ a.block_count) (sym b.around)
           (subst (λ n. length (tree_summary old).used + n ≤ block_count old.disk) (ap (reserved_for_writer old.disk.profile old.disk.block_size) (sym seen) ∙ sym (held_one old.disk.profile old.disk.block_size new w long)) room);
     };
   };
@@ -232,7 +232,7 @@ cut old new w size turned end c b opened other room turns_is end_is over are kep
 -- ---- room, and what the laws of forms give
 
 abbrev pub LargeLaw : Type 0
-LargeLaw = (profile : Profile) (block_size : ℕ) (shape : ContentsForm) (w : session.FileWriter) → IsWriterForm profile block_size shape w → FormFitsInline (inline_limit profile block_size) shape
+LargeLaw = (profile : Profile) (block_size : ℕ) (shape : ContentsForm) (w : session.FileWriter) → IsWriterForm profile block_size shape w → FormFitsLimit (inline_limit profile block_size) shape
 
 abbrev pub WriteLaw : Type 0
 WriteLaw = (profile : Profile) (block_size : ℕ) (shape : ContentsForm) (w : session.FileWriter) (byte : ℕ) (bytes : List ℕ) (used all : ℕ) → IsWriterForm profile block_size shape w → used + reserved_for_writer profile block_size (written_writer w (byte ∷ bytes)) ≤ all →
@@ -311,7 +311,7 @@ has_written old mid new w bytes place begin size turned c d path can asked at ov
 held_room : (t : TreeState) (w : Writer) → CanChangeWriter t w → length (tree_summary t).used ≤ block_count t.disk → length (tree_summary t).used + reserved_for_writer t.disk.profile t.disk.block_size (writer_view t w) ≤ block_count t.disk
 held_room t w can few = subst (λ n. length (tree_summary t).used + n ≤ block_count t.disk) (held_one t.disk.profile t.disk.block_size t w can.written.size) (go w.unsaved refl)
   where
-    go : (u : Option UnsavedContents) → w.unsaved ≡ u → length (tree_summary t).used + reserved_by t.disk.profile t.disk.block_size w ≤ block_count t.disk
+    go : (u : Option UnsavedContents) → w.unsaved ≡ u → length (tree_summary t).used + writer_reserve t.disk.profile t.disk.block_size w ≤ block_count t.disk
     go None e = rw e (omega (arith, few))
     go (Some u) e = rw e (changed_in t w u can.written.changed e).room
 
@@ -383,15 +383,15 @@ can_store t w u path can is same law =
     long : length (writer_contents_bytes (kept_thread t) u.contents) ≡ w.size
     long = sym (ap (λ z. length (unsaved_or_tree t w.path z)) is) ∙ can.written.size
 
-    held : length (tree_summary t).used + reserved_by t.disk.profile t.disk.block_size w ≤ block_count t.disk
+    held : length (tree_summary t).used + writer_reserve t.disk.profile t.disk.block_size w ≤ block_count t.disk
     held = rw is changed.room
 
-stored_node : (n : Option Node) (bytes : List ℕ) → is_file n ≡ true → (is_file (option_map (file_with_bytes bytes) n) ≡ true) × (file_bytes (option_map (file_with_bytes bytes) n) ≡ bytes)
+stored_node : (n : Option Node) (bytes : List ℕ) → is_file n ≡ true → (is_file (option_map (node_with_bytes bytes) n) ≡ true) × (file_bytes (option_map (node_with_bytes bytes) n) ≡ bytes)
 stored_node None bytes e = absurd (cc)
 stored_node (Some (FileNode attributes old)) bytes e = (refl, refl)
 stored_node (Some (DirectoryNode attributes names)) bytes e = absurd (cc)
 
-pub has_saved : (t new : TreeState) (w : Writer) (u : UnsavedContents) (path : Path) → CanSaveWriter t w → w.unsaved ≡ Some u → path ≡ w.path → StoresBytesAt t path (writer_contents_bytes (kept_thread t) u.contents) new →
+pub has_saved : (t new : TreeState) (w : Writer) (u : UnsavedContents) (path : Path) → CanSaveWriter t w → w.unsaved ≡ Some u → path ≡ w.path → AreBytesStored t path (writer_contents_bytes (kept_thread t) u.contents) new →
     IsSavedWriter new (synced_writer (writer_view t w)) (record { path = w.path; position = w.position; size = w.size; appends = w.appends; unsaved = None })
 has_saved t new w u path can is same stored = record {
   seen = ap (λ xs. saved xs) node.1 ∙ sym (rw is refl);
@@ -408,9 +408,9 @@ has_saved t new w u path can is same stored = record {
     saved : List ℕ → session.FileWriter
     saved xs = record { path = w.path; contents = xs; position = w.position; append = w.appends; dirty = false; turned = false; last_end = None }
 
-    at : shown_tree new w.path ≡ option_map (file_with_bytes (writer_contents_bytes (kept_thread t) u.contents)) (shown_tree t w.path)
-    at = ap (λ (z : Tree). z w.path) (stored.shows ∙ ap (λ p. tree_with_change p (file_with_bytes (writer_contents_bytes (kept_thread t) u.contents)) (shown_tree t)) same)
-        ∙ ap (λ b. cond b (option_map (file_with_bytes (writer_contents_bytes (kept_thread t) u.contents)) (shown_tree t w.path)) (shown_tree t w.path)) (path_itself w.path)
+    at : shown_tree new w.path ≡ option_map (node_with_bytes (writer_contents_bytes (kept_thread t) u.contents)) (shown_tree t w.path)
+    at = ap (λ (z : Tree). z w.path) (stored.shows ∙ ap (λ p. tree_with_change p (node_with_bytes (writer_contents_bytes (kept_thread t) u.contents)) (shown_tree t)) same)
+        ∙ ap (λ b. cond b (option_map (node_with_bytes (writer_contents_bytes (kept_thread t) u.contents)) (shown_tree t w.path)) (shown_tree t w.path)) (path_itself w.path)
 
     node : (is_file (shown_tree new w.path) ≡ true) × (file_bytes (shown_tree new w.path) ≡ writer_contents_bytes (kept_thread t) u.contents)
     node = rw at (stored_node (shown_tree t w.path) (writer_contents_bytes (kept_thread t) u.contents) can.written.there)

@@ -1,7 +1,7 @@
 -- A write of an open writer, and its turn.
 use Rattle.std.proofs.Common.{ℕ, ◌≡◌, ◌==◌, ◌+◌, ◌<◌, ◌^◌, ◌&&◌, ◌||◌, ◌++◌, Bool, true, false, List, [], ◌∷◌, length, set, nat_lt, Some, None, Ok, is_some, refl, sym, ap, ap₂, subst, ◌∙◌, arith}
 use Rattle.std.specs.Prelude.{◌==◌}
-use Rattle.lfs_fs.proofs.Common.{list_any, option_map, eqb-true, ltb-false, file_max_of, Operation, needs_session_alone, IsStep, needs_no_device, Session, DiskSummary, Writing, file_numbered, first_refusal, overfills_disk, files_with_file, refuse_if, file_writer, written_writer, write_position, Healthy, operation_effect, Tree, DiskView, recovered_from, filled_step, KeepsImage, TreeState, tree_summary, shown_tree, CanWriteBy, IsChangedWriter, RuntimeFiles, open_file_at, files_view, writer_if_any, writer_view, StepsOrFails, SessionView, IsReady, session_view, system_state, refusal_by_checks, viewed_session}
+use Rattle.lfs_fs.proofs.Common.{list_any, option_map, eqb-true, ltb-false, profile_file_max, Operation, needs_session_alone, IsStep, needs_no_device, Session, DiskSummary, Writing, file_numbered, first_refusal, overfills_disk, files_with_file, refuse_if, file_writer, written_writer, write_position, Healthy, operation_effect, Tree, DiskView, recovered_from, filled_step, KeepsImage, TreeState, tree_summary, shown_tree, CanWriteBy, IsChangedWriter, RuntimeFiles, open_file_at, files_view, writer_if_any, writer_view, StepsOrFails, SessionView, IsReady, session_view, system_state, refusal_by_checks, viewed_session}
 use Rattle.lfs_model.specs.session.Operations as ops
 use Rattle.lfs_fs.specs.declared.files.OpenFile.TheVariants as file
 use Rattle.lfs_fs.specs.declared.files.Writer.{Writer}
@@ -25,14 +25,14 @@ module _ (t : TreeState) (fs : RuntimeFiles) (fd : ℕ) (bytes : List ℕ) (w : 
   seen_there = the_writer t fs fd (Some w) is_writer
 
   checks_are : refusal_by_checks (session_view t fs) (ops.Write fd bytes)
-      ≡ first_refusal (refuse_if (nat_lt 0 (length bytes) && nat_lt (file_max_of t.disk.profile) (write_position (writer_view t w) + length bytes)) ops.TooBig ∷ refuse_if (nat_lt 0 (length bytes) && overfills_disk (tree_summary t) (written_writer (writer_view t w) bytes)) ops.NoSpace ∷ [])
+      ≡ first_refusal (refuse_if (nat_lt 0 (length bytes) && nat_lt (profile_file_max t.disk.profile) (write_position (writer_view t w) + length bytes)) ops.TooBig ∷ refuse_if (nat_lt 0 (length bytes) && overfills_disk (tree_summary t) (written_writer (writer_view t w) bytes)) ops.NoSpace ∷ [])
   checks_are = rw (works_now, seen_there) refl
 
   left : (a b : Bool) → a ≡ true → (a && b) ≡ false → b ≡ false
   left true b k h = h
   left false b k h = absurd (cc)
 
-  small_enough : nat_lt 0 (length bytes) ≡ true → nat_lt (file_max_of t.disk.profile) (write_position (writer_view t w) + length bytes) ≡ false
+  small_enough : nat_lt 0 (length bytes) ≡ true → nat_lt (profile_file_max t.disk.profile) (write_position (writer_view t w) + length bytes) ≡ false
   small_enough some = left (nat_lt 0 (length bytes)) _ some (unrefused _ ops.TooBig (neither _ _ (sym checks_are ∙ accepted)).0)
 
   has_room : nat_lt 0 (length bytes) ≡ true → overfills_disk (tree_summary t) (written_writer (writer_view t w) bytes) ≡ false
@@ -40,7 +40,7 @@ module _ (t : TreeState) (fs : RuntimeFiles) (fd : ℕ) (bytes : List ℕ) (w : 
 
   pub few_bytes : (length bytes == 0) ≡ false → length bytes < 2 ^ 32
   few_bytes some =
-      let l = ltb-false (file_max_of t.disk.profile) (write_position (writer_view t w) + length bytes) (small_enough (some_bytes (length bytes) some).0) in
+      let l = ltb-false (profile_file_max t.disk.profile) (write_position (writer_view t w) + length bytes) (small_enough (some_bytes (length bytes) some).0) in
       omega (arith, l)
 
   module _ (invariant : t.failed ≡ false → IsReady t fs) where
@@ -58,7 +58,7 @@ module _ (t : TreeState) (fs : RuntimeFiles) (fd : ℕ) (bytes : List ℕ) (w : 
         idle = λ saved. ready.idle (ap (list_any (λ v. is_some v.unsaved)) alone.writers ∙ ap (λ b. b || false) saved);
       };
       some = (some_bytes (length bytes) some).1;
-      small = (let l = ltb-false (file_max_of t.disk.profile) (write_position (writer_view t w) + length bytes) (small_enough (some_bytes (length bytes) some).0) in omega (arith, l));
+      small = (let l = ltb-false (profile_file_max t.disk.profile) (write_position (writer_view t w) + length bytes) (small_enough (some_bytes (length bytes) some).0) in omega (arith, l));
       room = ltb-false _ _ (has_room (some_bytes (length bytes) some).0);
     }
 

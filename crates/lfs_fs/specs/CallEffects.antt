@@ -2,7 +2,7 @@
 -- many reads it takes.
 use Rattle.std.specs.Prelude.{ℕ, ◌≡◌, true, false, List, Result, Ok, is_err}
 use Rattle.lfs_device.specs.declared.error.Error.{Error}
-use Rattle.lfs_model.specs.crash.Frame.{KeepsOthers, answers_itself, is_look_up, searched_directories}
+use Rattle.lfs_model.specs.crash.Frame.{KeepsOthers, asks_session, is_look_up, searched_directories}
 use Rattle.lfs_model.specs.session.Operations as ops
 use Rattle.lfs_model.specs.session.Operations.{Operation, Reply}
 use Rattle.lfs_model.specs.crash.PowerLoss.{SurvivesPowerLoss}
@@ -31,7 +31,7 @@ StatCaches op r new = (path : List ℕ) (reply : Reply) → op ≡ ops.Stat path
 
 -- How often a call reads: never where the session has the reply, seldom in a look-up.
 pub record BoundsCallReads (old : SessionView) (op : Operation) (r : Result Reply Error) (new : SessionView) : Type 0 where
-  pub asked : answers_itself op ≡ true → new ≡ old
+  pub asked : asks_session op ≡ true → new ≡ old
   pub few : ReadsOnceAlways (system_state old) op (system_state new)
   pub none : is_look_up op ≡ true → NoReadsIfCached old.tree op new.tree
   pub hand : StatCaches op r new

@@ -119,15 +119,15 @@ file_with_known known (file.Reading r) = file.Reading (record r { known = known 
 file_with_known known (file.Writing w) = file.Writing w
 
 -- how many blocks are held for contents of so many bytes that were changed
-abbrev pub reserved_for : Profile → ℕ → Bool → ℕ → ℕ
-reserved_for profile block_size turned size = 2 + (if turned then 2 else 1) * list_block_count profile block_size size
+abbrev pub contents_reserve : Profile → ℕ → Bool → ℕ → ℕ
+contents_reserve profile block_size turned size = 2 + (if turned then 2 else 1) * list_block_count profile block_size size
 
 -- how many blocks are held for a writer, by its size
-abbrev pub reserved_by : Profile → ℕ → Writer → ℕ
-reserved_by profile block_size w = if is_none w.unsaved then 0 else reserved_for profile block_size (is_unsaved_turned w.unsaved) w.size
+abbrev pub writer_reserve : Profile → ℕ → Writer → ℕ
+writer_reserve profile block_size w = if is_none w.unsaved then 0 else contents_reserve profile block_size (is_unsaved_turned w.unsaved) w.size
 
-abbrev pub reserved_by_writers : Profile → ℕ → RuntimeFiles → ℕ
-reserved_by_writers profile block_size files = sum_by (reserved_by profile block_size) (writers_among files)
+abbrev pub writers_reserve : Profile → ℕ → RuntimeFiles → ℕ
+writers_reserve profile block_size files = sum_by (writer_reserve profile block_size) (writers_among files)
 
 -- a writer has changes that aren't in the tree
 abbrev pub has_unsaved : RuntimeFiles → Bool

@@ -7,7 +7,7 @@ use Rattle.lfs_device.specs.declared.error.Error.{Error}
 use Rattle.lfs_device.specs.declared.error.Error.TheVariants.{Failed, Io}
 use Rattle.lfs_model.specs.format.EntryTypes.{SuperblockFields}
 use Rattle.lfs_model.specs.session.History.{CallEvent, OnlyReadsSince, fault_count}
-use Rattle.lfs_model.specs.tree.Profile.{with_limits, image_fields}
+use Rattle.lfs_model.specs.tree.Profile.{profile_with_limits, image_fields}
 use Rattle.lfs_model.specs.declared.limits.Profile.{Profile}
 use Rattle.lfs_model.specs.declared.order.NameOrder.{NameOrder}
 use Rattle.lfs_thread.specs.Kept.{disk_of_device}
@@ -32,7 +32,7 @@ FailedByRead old new e = ((old.tree.failed ≡ true) × (e ≡ Failed) × (new �
 pub record BeginsLimited (disk : Disk) (history : List CallEvent) (profile : Profile) (h : SessionView) : Type 0 where
   pub fields : SuperblockFields
   pub superblock : image_fields h.tree.pairs ≡ Some fields
-  pub limits : h.tree.disk.profile ≡ with_limits fields profile
+  pub limits : h.tree.disk.profile ≡ profile_with_limits fields profile
   pub begun : BeginsByMount (ordered_disk h.tree.disk.order (profiled_disk h.tree.disk.profile disk)) history h
 
 -- The device comes back with an error. It was only read, and by each order of names and each profile it is the same disk. `Io`

@@ -1,7 +1,7 @@
 -- How many reads a look-up of a session takes.
 use Rattle.std.specs.Prelude.{◌≡◌, ◌≤◌, ◌+◌, List, ◌++◌, sum_by, Result, OnOk}
 use Rattle.lfs_device.specs.declared.error.Error.{Error}
-use Rattle.lfs_model.specs.crash.Frame.{pair_count_at, searched_directories}
+use Rattle.lfs_model.specs.crash.Frame.{directory_pair_count, searched_directories}
 use Rattle.lfs_model.specs.session.History.{CallEvent, read_count}
 use Rattle.lfs_model.specs.session.Operations.{Operation}
 use Rattle.lfs_lookup.specs.CachedPairs.{AreFewSmall}
@@ -10,7 +10,7 @@ use Rattle.lfs_tree.specs.TreeState.{TreeState}
 
 -- no more reads came than there are pairs in the directories that the operation searches
 abbrev pub ReadsSearched : TreeState → Operation → TreeState → Type 0
-ReadsSearched old op new = read_count new.history ≤ read_count old.history + sum_by (pair_count_at old.pairs) (searched_directories op)
+ReadsSearched old op new = read_count new.history ≤ read_count old.history + sum_by (directory_pair_count old.pairs) (searched_directories op)
 
 -- ---- where the directories that it searches are cached
 

@@ -8,14 +8,14 @@ use Rattle.lfs_model.specs.session.Session.{reserved_for_writers}
 use Rattle.lfs_tree.specs.TreeState.{IsApplied, TreeState, tree_summary, shown_tree}
 use Rattle.lfs_fs.specs.FileView.{RuntimeFiles, files_view, readers_among, writers_among}
 use Rattle.lfs_fs.specs.SessionView.{IsReady}
-use Rattle.lfs_model.specs.layers.Keeping.{takes_away}
+use Rattle.lfs_model.specs.layers.Keeping.{vacates_path}
 use Rattle.lfs_tree.specs.KeptFiles.{operation_room}
 use Rattle.lfs_fs.specs.declared.files.Writer.{Writer}
 
 -- the operation is about no open file, and there is room for the blocks that it takes
 pub record ConcernsNoFile (t : TreeState) (op : Operation) (files : RuntimeFiles) : Type 0 where
-  pub apart : AllByRecursion (λ w. takes_away op w.path ≡ false) (writers_among files)
-  pub unread : AllByRecursion (λ r. takes_away op r.path ≡ false) (readers_among files)
+  pub apart : AllByRecursion (λ w. vacates_path op w.path ≡ false) (writers_among files)
+  pub unread : AllByRecursion (λ r. vacates_path op r.path ≡ false) (readers_among files)
   pub room : (operation_room op ≡ 0) ⊎ (length (tree_summary t).used + reserved_for_writers t.disk.profile t.disk.block_size (files_view t files) + operation_room op ≤ block_count t.disk)
 
 -- the files of the writers are there as before

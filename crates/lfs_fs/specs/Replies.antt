@@ -11,6 +11,6 @@ reply_from reply (Ok x) = Ok (reply x)
 reply_from reply (Err e) = if is_refusal e then Ok (ops.Refused (error_refusal e)) else Err e
 
 -- the refusal, or else the value
-abbrev pub value_unless_refused : {A : Type 0} → Option Refusal → A → Result A Error
-value_unless_refused (Some refusal) x = Err (refusal_error refusal)
-value_unless_refused None x = Ok x
+abbrev pub result_unless_refused : {A : Type 0} → Option Refusal → A → Result A Error
+result_unless_refused (Some refusal) x = Err (refusal_error refusal)
+result_unless_refused None x = Ok x

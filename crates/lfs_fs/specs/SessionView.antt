@@ -13,7 +13,7 @@ use Rattle.lfs_model.specs.format.Slots.{zero_gstate}
 use Rattle.lfs_model.specs.format.Thread.{Pair, pairs_gstate}
 use Rattle.lfs_model.specs.tree.Tree.{Path, Tree}
 use Rattle.lfs_model.specs.session.Session.{OpenFilesByNumber, Session, all_readers, all_writers}
-use Rattle.lfs_fs.specs.FileView.{RuntimeFiles, unsaved_or_tree, files_view, has_unsaved, reserved_for, readers_among, writer_view, writers_among, writers_paths}
+use Rattle.lfs_fs.specs.FileView.{RuntimeFiles, unsaved_or_tree, files_view, has_unsaved, contents_reserve, readers_among, writer_view, writers_among, writers_paths}
 use Rattle.lfs_fs.specs.declared.files.Reader.{Reader}
 use Rattle.lfs_fs.specs.declared.files.Writer.{Writer}
 use Rattle.std.specs.List.{AllByRecursion, list_any}
@@ -28,7 +28,7 @@ use Rattle.lfs_fs.specs.declared.checks.WritableFile.{WritableFile}
 use Rattle.lfs_fs.specs.declared.files.UnsavedContents.{UnsavedContents}
 use Rattle.lfs_model.specs.session.TreeEdits.{is_file, same_path}
 use Rattle.lfs_model.specs.session.Run.{SystemState, ShowsTree, IsStep}
-use Rattle.lfs_model.specs.crash.Failure.{FailsIn}
+use Rattle.lfs_model.specs.crash.Failure.{OperationFails}
 use Rattle.lfs_model.specs.crash.Performed.{FailsDuringRun}
 use Rattle.lfs_file.specs.Known.{AreKnownBlocks}
 use Rattle.lfs_model.specs.tree.Shown.{struct_blocks}
@@ -54,7 +54,7 @@ pub record AreUnsavedContents (t : TreeState) (w : Writer) (u : UnsavedContents)
   pub over : AreTreeContents t w.path u.contents
   pub kept : IsWriterForm t.disk.profile t.disk.block_size (contents_form u.contents) (writer_view t w)
   pub form : InlineWithinLimit (inline_limit t.disk.profile t.disk.block_size) (contents_form u.contents)
-  pub room : length (tree_summary t).used + reserved_for t.disk.profile t.disk.block_size u.has_turned w.size ≤ block_count t.disk
+  pub room : length (tree_summary t).used + contents_reserve t.disk.profile t.disk.block_size u.has_turned w.size ≤ block_count t.disk
 
 abbrev pub AreUnsavedIfAny : TreeState → Writer → Option UnsavedContents → Type 0
 AreUnsavedIfAny t w None = Unit {0}
@@ -105,7 +105,7 @@ system_state h = record {
 -- The session fails in an operation by that error. Only a remount fails with `Corrupt`, and then the disk isn't accepted,
 -- in either order of names.
 pub record SessionFails (e : Error) (from : SystemState) (op : Operation) (to : SystemState) : Type 0 where
-  pub fails : FailsIn from op to
+  pub fails : OperationFails from op to
   pub errors : (e ≡ Io) ⊎ ((e ≡ NoMemory) ⊎ ((e ≡ Corrupt) × (is_remount op ≡ true) × ShowsTree from.disk None))
   pub fault : e ≡ Io → fault_count from.calls < fault_count to.calls
   pub no_fault : e ≢ Io → fault_count to.calls ≡ fault_count from.calls

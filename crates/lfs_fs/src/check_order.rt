@@ -2,7 +2,7 @@
 
 ghost use Rattle.std.specs.Prelude.{◌≡◌, ◌&&◌};
 ghost use Rattle.lfs_model.specs.session.Session.{first_refusal};
-ghost use Rattle.lfs_fs.specs.Replies.{value_unless_refused};
+ghost use Rattle.lfs_fs.specs.Replies.{result_unless_refused};
 
 use lfs_device::Error;
 use lfs_lookup::Refusal;
@@ -21,7 +21,7 @@ pub(crate) fn find_first_refusal(checks: &[Option<Refusal>]) -> Option<Refusal>
 
 // Returns the value, unless a check fails.
 pub(crate) fn value_or_refusal<T: Drop>(checks: &[Option<Refusal>], value: T) -> Result<T, Error>
-    ensures { result ≡ value_unless_refused (first_refusal checks.now) value }
+    ensures { result ≡ result_unless_refused (first_refusal checks.now) value }
 {
     match find_first_refusal(checks) {
         Some(refusal) => Err(refusal.error()),

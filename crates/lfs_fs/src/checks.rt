@@ -3,8 +3,8 @@
 ghost use Rattle.std.specs.Prelude.{if◌then◌else◌, nat_lt, ◌+◌, ◌≡◌, ◌<◌, ◌^◌, ℕ, List, [], length, map, true, false, is_some, unwrap_or};
 ghost use Rattle.lfs_model.specs.session.Operations as ops;
 ghost use Rattle.lfs_model.specs.session.Session.{exceeds_charge};
-ghost use Rattle.lfs_model.specs.format.Disk.{block_count, attr_max_of, file_max_of, name_max_of};
-ghost use Rattle.lfs_fs.specs.FileView.{open_file_at, files_view, reserved_by_writers, reserved_for, writer_if_any};
+ghost use Rattle.lfs_model.specs.format.Disk.{block_count, profile_attr_max, profile_file_max, profile_name_max};
+ghost use Rattle.lfs_fs.specs.FileView.{open_file_at, files_view, writers_reserve, contents_reserve, writer_if_any};
 ghost use Rattle.lfs_model.specs.session.Refusals.{path_or_root};
 ghost use Rattle.lfs_model.specs.session.Effects.{items_at, node_file_size};
 ghost use Rattle.lfs_fs.specs.FlagsView.{flags_view};
@@ -52,14 +52,14 @@ pub(crate) fn entry_overflows<D: BlockDevice>(
 
 // Returns whether a name of that length is longer than the profile lets be written.
 pub(crate) fn name_is_long<D: BlockDevice>(tree: &Tree<D>, name_len: usize) -> bool
-    ensures { result ≡ nat_lt (name_max_of tree.now.disk.profile) name_len }
+    ensures { result ≡ nat_lt (profile_name_max tree.now.disk.profile) name_len }
 {
     name_len > tree.geometry().name_max() as usize
 }
 
 // Returns whether a file of that size is longer than the profile lets be written.
 fn file_is_long<D: BlockDevice>(tree: &Tree<D>, size: u64) -> bool
-    ensures longer { result ≡ nat_lt (file_max_of tree.now.disk.profile) size }
+    ensures longer { result ≡ nat_lt (profile_file_max tree.now.disk.profile) size }
     ensures small { result ≡ false → size < 2 ^ 31 }
 {
     size > u64::from(tree.geometry().file_max())
@@ -67,7 +67,7 @@ fn file_is_long<D: BlockDevice>(tree: &Tree<D>, size: u64) -> bool
 
 // Returns whether an attribute of that length is longer than the profile lets be written.
 fn attribute_is_long<D: BlockDevice>(tree: &Tree<D>, len: usize) -> bool
-    ensures { result ≡ nat_lt (attr_max_of tree.now.disk.profile) len }
+    ensures { result ≡ nat_lt (profile_attr_max tree.now.disk.profile) len }
 {
     len > tree.geometry().attr_max() as usize
 }
@@ -76,7 +76,7 @@ fn attribute_is_long<D: BlockDevice>(tree: &Tree<D>, len: usize) -> bool
 pub(crate) fn lacks_blocks<D: BlockDevice>(tree: &Tree<D>, files: &Files, need: u32) -> bool
     requires works { tree.now.failed ≡ false }
     requires small { need < 16 }
-    ensures { result ≡ nat_lt (block_count tree.now.disk) (length (tree_summary tree.now).used + reserved_by_writers tree.now.disk.profile tree.now.disk.block_size files.now + need) }
+    ensures { result ≡ nat_lt (block_count tree.now.disk) (length (tree_summary tree.now).used + writers_reserve tree.now.disk.profile tree.now.disk.block_size files.now + need) }
 {
     let geometry = tree.geometry();
     let held = files.reserved_block_count(geometry);
@@ -449,7 +449,7 @@ pub fn check_set_attr<'a, D: BlockDevice>(
 // Returns whether there is no room for the blocks that a writer would hold.
 fn lacks_writer_room<D: BlockDevice>(tree: &Tree<D>, has_turned: bool, size: u32) -> bool
     requires { tree.now.failed ≡ false }
-    ensures { result ≡ nat_lt (block_count tree.now.disk) (length (tree_summary tree.now).used + reserved_for tree.now.disk.profile tree.now.disk.block_size has_turned size) }
+    ensures { result ≡ nat_lt (block_count tree.now.disk) (length (tree_summary tree.now).used + contents_reserve tree.now.disk.profile tree.now.disk.block_size has_turned size) }
 {
     let geometry = tree.geometry();
     let held = reserved_for_bytes(geometry, has_turned, size);

@@ -5,16 +5,16 @@ ghost use Rattle.std.specs.List.{list_any};
 ghost use Rattle.std.specs.Option.{option_flatten, option_map};
 ghost use Rattle.lfs_model.specs.session.TreeEdits.{same_path};
 ghost use Rattle.lfs_model.specs.session.Operations.{parse_path};
-ghost use Rattle.lfs_model.specs.session.Session.{has_file};
+ghost use Rattle.lfs_model.specs.session.Session.{has_open_file};
 ghost use Rattle.lfs_model.specs.session.Writers.{turns_writer, written_writer};
-ghost use Rattle.lfs_model.specs.session.Refusals.{path_or_root, is_unusable};
+ghost use Rattle.lfs_model.specs.session.Refusals.{path_or_root, path_unusable};
 ghost use Rattle.lfs_file.specs.Known.{no_known_blocks};
 ghost use Rattle.lfs_fs.specs.RenamePaths.{prevents_rename};
 ghost use Rattle.lfs_tree.specs.OpenContents.{KeepsImage};
 ghost use Rattle.lfs_tree.specs.TreeState.{HasErrorCause, IsFailedTree, IsSoundState, SurvivesStops, TreeState, shown_tree};
 ghost use Rattle.lfs_fs.specs.WriterChanges.{CanWriteBy, ChangesWriterAt, IsChangedWriter};
 ghost use Rattle.lfs_fs.specs.declared.files.Writer.{Writer as WriterSeen};
-ghost use Rattle.lfs_fs.specs.FileView.{last_change_end, open_file_at, files_view, is_open_where, is_unsaved_writer, lowest_free, reserved_by_writers, reserved_by, reserved_for, file_with_known, file_with_position, runtime_files_with, reader_if_any, readers_among, is_unsaved_turned, writer_if_any, writer_view, writers_among, own_position};
+ghost use Rattle.lfs_fs.specs.FileView.{last_change_end, open_file_at, files_view, is_open_where, is_unsaved_writer, lowest_free, writers_reserve, writer_reserve, contents_reserve, file_with_known, file_with_position, runtime_files_with, reader_if_any, readers_among, is_unsaved_turned, writer_if_any, writer_view, writers_among, own_position};
 
 use crate::owned_path::OwnedPath;
 use crate::writers::write_by_writer;
@@ -113,7 +113,7 @@ impl Writer {
 
     // Returns how many blocks are held for the writer.
     fn reserved_block_count(&self, geometry: Geometry) -> u64
-        ensures held { result ≡ reserved_by geometry.profile geometry.block_size self.now }
+        ensures held { result ≡ writer_reserve geometry.profile geometry.block_size self.now }
         ensures few { result < 2 ^ 34 }
     {
         match &self.unsaved {
@@ -170,7 +170,7 @@ impl Files {
 
     // Returns how many blocks the open writer holds.
     pub(crate) fn reserved_block_count(&self, geometry: Geometry) -> u64
-        ensures held { result ≡ reserved_by_writers geometry.profile geometry.block_size self.now }
+        ensures held { result ≡ writers_reserve geometry.profile geometry.block_size self.now }
         ensures few { result < 2 ^ 34 }
     {
         blocks_reserved_among(&self.entries, geometry)
@@ -253,7 +253,7 @@ impl Files {
     // Returns whether another writer, or an open file at that path, prevents a writer.
     pub(crate) fn prevents_writer_at(&self, path: &[u8]) -> bool
         requires { is_some (parse_path path.now) ≡ true }
-        ensures { (t : TreeState) → result ≡ (nat_lt 0 (length (writers_among self.now)) || has_file (same_path (path_or_root path.now)) (files_view t self.now)) }
+        ensures { (t : TreeState) → result ≡ (nat_lt 0 (length (writers_among self.now)) || has_open_file (same_path (path_or_root path.now)) (files_view t self.now)) }
     {
         self.is_writing() || self.is_open_at(path)
     }
@@ -331,7 +331,7 @@ impl Files {
     }
 
     /// Returns whether a writer has that number, and contents of that size.
-    pub fn has_sized_writer(&self, fd: u32, size: u32) -> bool
+    pub fn writer_has_size(&self, fd: u32, size: u32) -> bool
         ensures { (w : _) → writer_if_any (open_file_at self.now fd) ≡ Some w → result ≡ (size == w.size) }
     {
         match self.writer(fd) {
@@ -343,7 +343,7 @@ impl Files {
     // Returns whether a file is open at the path of these bytes.
     pub(crate) fn is_open_at(&self, path: &[u8]) -> bool
         requires { is_some (parse_path path.now) ≡ true }
-        ensures { (t : TreeState) → result ≡ has_file (same_path (path_or_root path.now)) (files_view t self.now) }
+        ensures { (t : TreeState) → result ≡ has_open_file (same_path (path_or_root path.now)) (files_view t self.now) }
     {
         files_have_path(&self.entries, path)
     }
@@ -351,9 +351,9 @@ impl Files {
     // Returns whether an open file prevents a rename: one at the first path, which is an entry's,
     // or beneath it, or one at the second path.
     pub(crate) fn prevents_rename_of(&self, from: &[u8], to: &[u8]) -> bool
-        requires entry { is_unusable (parse_path from.now) ≡ false }
+        requires entry { path_unusable (parse_path from.now) ≡ false }
         requires given { is_some (parse_path to.now) ≡ true }
-        ensures { (t : TreeState) → result ≡ has_file (prevents_rename (path_or_root from.now) (path_or_root to.now)) (files_view t self.now) }
+        ensures { (t : TreeState) → result ≡ has_open_file (prevents_rename (path_or_root from.now) (path_or_root to.now)) (files_view t self.now) }
     {
         files_prevent_rename(&self.entries, from, to)
     }
@@ -463,7 +463,7 @@ fn close_in_table(entries: &mut Vec<Option<OpenFile>>, index: usize)
 // Returns how many blocks the writer holds, of which there is one at most.
 fn blocks_reserved_among(entries: &[Option<OpenFile>], geometry: Geometry) -> u64
     requires { length (writers_among entries.now) ≤ 1 }
-    ensures held { result ≡ reserved_by_writers geometry.profile geometry.block_size entries.now }
+    ensures held { result ≡ writers_reserve geometry.profile geometry.block_size entries.now }
     ensures few { result < 2 ^ 34 }
 {
     for entry in entries {
@@ -476,7 +476,7 @@ fn blocks_reserved_among(entries: &[Option<OpenFile>], geometry: Geometry) -> u6
 
 // Returns how many blocks are held for changed contents of so many bytes.
 pub(crate) fn reserved_for_bytes(geometry: Geometry, has_turned: bool, size: u32) -> u64
-    ensures held { result ≡ reserved_for geometry.profile geometry.block_size has_turned size }
+    ensures held { result ≡ contents_reserve geometry.profile geometry.block_size has_turned size }
     ensures few { result < 2 ^ 34 }
 {
     if size <= geometry.inline_limit() {
@@ -528,7 +528,7 @@ fn is_writer_at(entry: &Option<OpenFile>, path: &[u8]) -> bool
     ensures { result ≡ list_any (λ w. same_path (path_or_root path.now) w.path) (writers_among (entry.now ∷ [])) }
 {
     match entry {
-        Some(OpenFile::Writing(writer)) => writer.path.is_of_bytes(path),
+        Some(OpenFile::Writing(writer)) => writer.path.path_has_bytes(path),
         _ => false,
     }
 }
@@ -550,8 +550,8 @@ fn is_path_open(entry: &Option<OpenFile>, path: &[u8]) -> bool
     ensures { result ≡ is_open_where (same_path (path_or_root path.now)) entry.now }
 {
     match entry {
-        Some(OpenFile::Reading(reader)) => reader.path.is_of_bytes(path),
-        Some(OpenFile::Writing(writer)) => writer.path.is_of_bytes(path),
+        Some(OpenFile::Reading(reader)) => reader.path.path_has_bytes(path),
+        Some(OpenFile::Writing(writer)) => writer.path.path_has_bytes(path),
         None => false,
     }
 }
@@ -615,7 +615,7 @@ fn set_table_entry(
 // Returns whether an open file prevents a rename: one at the first path, which is an entry's, or
 // beneath it, or one at the second path.
 fn files_prevent_rename(entries: &[Option<OpenFile>], from: &[u8], to: &[u8]) -> bool
-    requires entry { is_unusable (parse_path from.now) ≡ false }
+    requires entry { path_unusable (parse_path from.now) ≡ false }
     requires given { is_some (parse_path to.now) ≡ true }
     ensures { result ≡ list_any (is_open_where (prevents_rename (path_or_root from.now) (path_or_root to.now))) entries.now }
 {
@@ -628,15 +628,15 @@ fn files_prevent_rename(entries: &[Option<OpenFile>], from: &[u8], to: &[u8]) ->
 }
 
 fn file_prevents_rename(entry: &Option<OpenFile>, from: &[u8], to: &[u8]) -> bool
-    requires entry { is_unusable (parse_path from.now) ≡ false }
+    requires entry { path_unusable (parse_path from.now) ≡ false }
     requires given { is_some (parse_path to.now) ≡ true }
     ensures { result ≡ is_open_where (prevents_rename (path_or_root from.now) (path_or_root to.now)) entry.now }
 {
     match entry {
         Some(OpenFile::Reading(reader)) => reader.path.is_within(from)
-            || reader.path.is_of_bytes(to),
+            || reader.path.path_has_bytes(to),
         Some(OpenFile::Writing(writer)) => writer.path.is_within(from)
-            || writer.path.is_of_bytes(to),
+            || writer.path.path_has_bytes(to),
         None => false,
     }
 }

@@ -71,7 +71,7 @@ pub fn mount_with_limits<D: BlockDevice>(
     let mut session = mount_with_profile(alloc, device, profile)?;
     match session.superblock(alloc) {
         Ok(superblock) => {
-            let limits = superblock.apply_limits(profile);
+            let limits = superblock.limit_profile(profile);
             if have_same_limits(&limits, &profile) {
                 return Ok(session);
             }

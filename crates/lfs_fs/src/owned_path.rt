@@ -2,7 +2,7 @@
 
 ghost use Rattle.std.specs.Prelude.{◌≡◌, false, true, IfOk, IfErr, is_some};
 ghost use Rattle.lfs_model.specs.session.Operations.{parse_path};
-ghost use Rattle.lfs_model.specs.session.Refusals.{path_or_root, is_unusable};
+ghost use Rattle.lfs_model.specs.session.Refusals.{path_or_root, path_unusable};
 ghost use Rattle.lfs_model.specs.session.TreeEdits.{without_prefix, same_path};
 ghost use Rattle.lfs_model.specs.format.Names.{same_name};
 
@@ -54,7 +54,7 @@ impl OwnedPath {
     }
 
     // Returns whether this is the path of these bytes.
-    pub(crate) fn is_of_bytes(&self, bytes: &[u8]) -> bool
+    pub(crate) fn path_has_bytes(&self, bytes: &[u8]) -> bool
         requires { is_some (parse_path bytes.now) ≡ true }
         ensures { result ≡ same_path (path_or_root bytes.now) self.now }
     {
@@ -63,7 +63,7 @@ impl OwnedPath {
 
     // Returns whether this is the path of these bytes, which are an entry's, or is beneath it.
     pub(crate) fn is_within(&self, bytes: &[u8]) -> bool
-        requires { is_unusable (parse_path bytes.now) ≡ false }
+        requires { path_unusable (parse_path bytes.now) ≡ false }
         ensures { result ≡ is_some (without_prefix (path_or_root bytes.now) self.now) }
     {
         at_or_beneath(bytes, self.bytes.as_slice())

@@ -4,7 +4,7 @@ ghost use Rattle.std.specs.Prelude.{◌≡◌, ◌&&◌, IfErr, IfOk, false, is_
 ghost use Rattle.lfs_model.specs.session.TreeEdits.{is_beneath, without_prefix, same_path};
 ghost use Rattle.lfs_model.specs.session.Operations as ops;
 ghost use Rattle.lfs_model.specs.session.Operations.{parse_path};
-ghost use Rattle.lfs_model.specs.session.Refusals.{path_or_root, is_unusable};
+ghost use Rattle.lfs_model.specs.session.Refusals.{path_or_root, path_unusable};
 ghost use Rattle.lfs_model.specs.session.Session.{refuse_if};
 ghost use Rattle.lfs_lookup.specs.RefusalErrors.{is_refusal, error_refusal};
 ghost use Rattle.lfs_tree.specs.RenameFindings.{AreRenameFindings};
@@ -34,7 +34,7 @@ fn is_path_prefix(bytes: &[u8], other: &[u8]) -> bool
 // Returns whether the path of the other bytes is that of these, which are an entry's, or is beneath
 // it.
 pub(crate) fn at_or_beneath(bytes: &[u8], other: &[u8]) -> bool
-    requires entry { is_unusable (parse_path bytes.now) ≡ false }
+    requires entry { path_unusable (parse_path bytes.now) ≡ false }
     requires given { is_some (parse_path other.now) ≡ true }
     ensures { result ≡ is_some (without_prefix (path_or_root bytes.now) (path_or_root other.now)) }
 {
@@ -52,7 +52,7 @@ fn is_same_path(bytes: &[u8], other: &[u8]) -> bool
 
 // Returns whether the path of the other bytes is beneath that of these, which are an entry's.
 fn is_strictly_beneath(bytes: &[u8], other: &[u8]) -> bool
-    requires entry { is_unusable (parse_path bytes.now) ≡ false }
+    requires entry { path_unusable (parse_path bytes.now) ≡ false }
     requires given { is_some (parse_path other.now) ≡ true }
     ensures { result ≡ is_beneath (path_or_root bytes.now) (path_or_root other.now) }
 {

@@ -51,7 +51,7 @@ use crate::run::{
     reply_of_items, reply_of_stat, reply_of_unit,
 };
 use crate::writers::{
-    create_and_open, existing_file_writer, writer_after_saving, writer_after_truncating,
+    create_and_open, open_existing_file, writer_after_saving, writer_after_truncating,
 };
 use bitflags::Flags;
 use lfs_device::{BlockDevice, Error};
@@ -330,7 +330,7 @@ impl<D: BlockDevice> Session<D> {
         };
         let writer = match found.size {
             Some(size) => {
-                let answer = existing_file_writer(alloc, &mut self.tree, owned, size, flags);
+                let answer = open_existing_file(alloc, &mut self.tree, owned, size, flags);
                 lemma_calls_conform(&self.tree);
                 answer?
             }
@@ -404,7 +404,7 @@ impl<D: BlockDevice> Session<D> {
         ensures { IsCall self.old (ops.Truncate fd size) (reply_from (λ _. ops.Done) result) self.new }
     {
         check_truncate(&self.tree, &self.files, fd, size)?;
-        if self.files.has_sized_writer(fd, size) {
+        if self.files.writer_has_size(fd, size) {
             return Ok(());
         }
         let Some(OpenFile::Writing(writer)) = self.files.take(fd) else {

@@ -2,7 +2,7 @@
 
 ghost use Rattle.std.specs.Prelude.{ℕ, List, [], true, ◌≡◌, length, IfErr, IfOk, IfSome, IsSome, OnErr, OnOk};
 ghost use Rattle.lfs_model.specs.session.Writers.{opened_writer, synced_writer, truncated_writer, written_writer};
-ghost use Rattle.lfs_tree.specs.OpenContents.{AreTreeContents, StoresBytesAt, KeepsImage, writer_contents_bytes, kept_thread};
+ghost use Rattle.lfs_tree.specs.OpenContents.{AreTreeContents, AreBytesStored, KeepsImage, writer_contents_bytes, kept_thread};
 ghost use Rattle.lfs_tree.specs.TreeState.{shown_tree, OnlyReadsTree, IsFailedTree, IsApplied, FailedByReading, HasErrorCause, IsSoundState, KeepsOthersIfRecovered, SurvivesStops};
 ghost use Rattle.lfs_file.specs.Contents.{contents_form};
 ghost use Rattle.lfs_fs.specs.WriterChanges.{CanOpenWriter, IsOpenedWriter, CanSaveWriter, CanTruncateBy, CanWriteBy, HasWriterFile, IsUnsavedForm, IsSavedWriter, IsChangedWriter};
@@ -12,7 +12,7 @@ ghost use Rattle.lfs_model.specs.session.TreeEdits.{tree_creating, file_bytes, t
 ghost use Rattle.lfs_model.specs.session.Operations as ops;
 ghost use Rattle.lfs_model.specs.session.Operations.{FlagsOfOpen};
 ghost use Rattle.lfs_model.specs.session.Refusals.{path_or_root};
-ghost use Rattle.lfs_model.specs.session.Effects.{file_with_bytes};
+ghost use Rattle.lfs_model.specs.session.Effects.{node_with_bytes};
 ghost use Rattle.lfs_model.specs.tree.Tree.{FileNode};
 ghost use Rattle.lfs_model.specs.format.Slots.{zero_gstate};
 ghost use Rattle.lfs_model.specs.format.Thread.{pairs_gstate};
@@ -132,11 +132,11 @@ pub(crate) fn writer_after_saving<D: BlockDevice>(
     writer: Writer,
 ) -> Result<Writer, Error>
     requires { CanSaveWriter tree.old writer }
-    ensures stored { OnOk result (StoresBytesAt tree.old writer.path (unsaved_or_tree tree.old writer.path writer.unsaved) tree.new) }
+    ensures stored { OnOk result (AreBytesStored tree.old writer.path (unsaved_or_tree tree.old writer.path writer.unsaved) tree.new) }
     ensures saved { IfOk result (IsSavedWriter tree.new (synced_writer (writer_view tree.old writer))) }
     ensures broken { OnErr result (IsFailedTree tree.old tree.new) }
     ensures errors { IfErr result (HasErrorCause tree.old tree.new) }
-    ensures survives { SurvivesStops tree.old tree.new (tree_with_change writer.path (file_with_bytes (unsaved_or_tree tree.old writer.path writer.unsaved)) (shown_tree tree.old)) }
+    ensures survives { SurvivesStops tree.old tree.new (tree_with_change writer.path (node_with_bytes (unsaved_or_tree tree.old writer.path writer.unsaved)) (shown_tree tree.old)) }
 {
     lemma_reserve_suffices();
     let Writer {
@@ -160,7 +160,7 @@ pub(crate) fn writer_after_saving<D: BlockDevice>(
 }
 
 // Opens a writer of a file that is there, at its beginning. A recovery comes first.
-pub(crate) fn existing_file_writer<D: BlockDevice>(
+pub(crate) fn open_existing_file<D: BlockDevice>(
     alloc: Global,
     tree: &mut Tree<D>,
     path: OwnedPath,

@@ -16,7 +16,7 @@ use Rattle.lfs_model.specs.crash.Premises.{MeetsPremises}
 use Rattle.lfs_model.specs.crash.RepeatedPowerLoss.{IsMounted, KeepsTree, SameBytes}
 use Rattle.lfs_model.specs.session.Run.{SystemState, IsStep, ShowsTree}
 use Rattle.lfs_model.specs.session.Session.{Session, DiskSummary, refuse_if}
-use Rattle.lfs_model.specs.session.State.{SessionHealth, Healthy, other_result, is_remount, mounted_session}
+use Rattle.lfs_model.specs.session.State.{SessionHealth, Healthy, nonremount_result, is_remount, mounted_session}
 use Rattle.lfs_model.specs.format.Thread.{Pair}
 use Rattle.lfs_model.specs.tree.Tree.{Tree}
 use Rattle.lfs_model.proofs.Premises.{since_of_each}
@@ -25,10 +25,10 @@ use Rattle.lfs_fs_tests.specs.Recovered.{IsRecoveredWithEither}
 -- ---- a recovery
 
 -- it leaves a session as it is
-state_stays : (around : DiskSummary) (s : Session) → (other_result around (Healthy s) ops.Recover).1 ≡ Healthy s
+state_stays : (around : DiskSummary) (s : Session) → (nonremount_result around (Healthy s) ops.Recover).1 ≡ Healthy s
 state_stays around s = go around.writable refl
   where
-    go : (w : Bool) → around.writable ≡ w → (other_result around (Healthy s) ops.Recover).1 ≡ Healthy s
+    go : (w : Bool) → around.writable ≡ w → (nonremount_result around (Healthy s) ops.Recover).1 ≡ Healthy s
     go true e = ap (λ b. Healthy (unless_refused (refuse_if (not b) ReadOnly) s (ops.Done, s)).1) e
     go false e = ap (λ b. Healthy (unless_refused (refuse_if (not b) ReadOnly) s (ops.Done, s)).1) e
 
@@ -40,7 +40,7 @@ shown_after before after tree left other from to either safe same mount step =
       tree = tree;
       either = either;
       restored = safe.recovers other from to ops.Done same mount step;
-      healthy = sym (ap (λ (z : Option Reply × SessionHealth). z.1) a.answers) ∙ ap (λ s. (other_result a.around s ops.Recover).1) (safe.mounts other from same mount)
+      healthy = sym (ap (λ (z : Option Reply × SessionHealth). z.1) a.answers) ∙ ap (λ s. (nonremount_result a.around s ops.Recover).1) (safe.mounts other from same mount)
           ∙ state_stays a.around (mounted_session tree);
     }
 

@@ -1,7 +1,7 @@
 -- What stands at a path, by what a look-up finds.
 use Rattle.std.proofs.Common.{ℕ, ◌≡◌, ◌≤◌, ◌∙◌, Bool, true, false, cond, List, [], ◌∷◌, ◌++◌, length, Option, Some, None, refl, sym, ap, subst, append_assoc}
 use Rattle.std.specs.Prelude.{is_none}
-use Rattle.lfs_lookup.proofs.Common.{option_and_then, option_map, option_or, same_Some, sorted_names, is_file, Disk, ordered_disk, Name, directory_refusal, parents_refusal, slot_of, Attributes, Slot, Struct, Inline, Ctz, Branch, node_file_size, Pair, root_address, Path, Tree, branch_address, entry_named, names_at, struct_node, root_slot, slot_at_path, IsAccepted, IsFormedList, LeadsTo, all_unmoved_slots, struct_list_bytes, all_entries, disk_tree, KeptThread, disk_of_device, walk_append, IsStorage, IsFoundNode, IsHiddenResult, recursion_from_All, same_name, Each}
+use Rattle.lfs_lookup.proofs.Common.{option_and_then, option_map, option_or, same_Some, sorted_names, is_file, Disk, ordered_disk, Name, directory_refusal, parents_refusal, slot_of, Attributes, Slot, Struct, Inline, Ctz, Branch, node_file_size, Pair, root_address, Path, Tree, branch_address, entry_named, names_at, struct_node, root_slot, slot_at_path, IsAccepted, IsFormedList, LeadsTo, all_unmoved_slots, struct_list_bytes, all_entries, disk_tree, KeptThread, disk_of_device, walk_append, IsStorage, IsFoundNode, IsUnhiddenResult, recursion_from_All, same_name, Each}
 use Rattle.lfs_model.specs.declared.order.NameOrder.{NameOrder}
 use Rattle.lfs_model.specs.declared.order.NameOrder.TheVariants.{ShorterFirst}
 use Rattle.lfs_model.specs.session.TreeEdits.{is_directory}
@@ -149,7 +149,7 @@ module _ (t : KeptThread) (path : Path) (ok : IsAccepted t.disk t.pairs) where
   pub refused_at : (r : ops.Refusal) (f : FoundNode) → parents_refusal (disk_tree t.disk t.pairs) [] path ≡ Some r → f ≡ record { fault = Some r; node = node.Nothing } → IsFoundNode (disk_tree t.disk t.pairs) path f
   refused_at r f h k = subst (λ z. IsFoundNode (disk_tree t.disk t.pairs) path z) (sym k) (finds_nothing (disk_tree t.disk t.pairs) path (Some r) (nothing_at t.disk t.pairs path (refused_none t.disk t.pairs path [] r h)) h)
 
-  pub file_at : (moved : Option SlotPosition) (spot : SlotPosition) (contents : FileStorage) (f : FoundNode) → IsHiddenResult t moved path (shown.File spot contents) → SizedLists t.disk → f ≡ record { fault = None; node = node.File (storage_size contents) }
+  pub file_at : (moved : Option SlotPosition) (spot : SlotPosition) (contents : FileStorage) (f : FoundNode) → IsUnhiddenResult t moved path (shown.File spot contents) → SizedLists t.disk → f ≡ record { fault = None; node = node.File (storage_size contents) }
       → IsFoundNode (disk_tree t.disk t.pairs) path f
   file_at moved spot contents f (h, (s, k)) sized e =
       subst (λ z. IsFoundNode (disk_tree t.disk t.pairs) path z) (sym e)

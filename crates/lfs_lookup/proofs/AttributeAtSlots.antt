@@ -1,7 +1,7 @@
 -- What a slot says of its attributes.
 use Rattle.std.proofs.Common.{ℕ, zero, suc, ◌≡◌, ◌+◌, ◌/◌, ◌%◌, ◌^◌, ◌<◌, ◌≤◌, ◌==◌, ◌∙◌, Bool, true, false, cond, List, [], ◌∷◌, length, slice_get, slice_index_or, Option, Some, None, Result, Ok, Err, Vec, Global, Bor, refl, sym, ap, ap₂, subst, arith}
 use Rattle.std.specs.Prelude.{IfOk, IfSome, IsSome, find}
-use Rattle.lfs_lookup.proofs.Common.{option_and_then, option_copied, option_map, same_Some, node_attributes_of, RawSlot, attribute_bytes, complete_slot, kind_of_type, slot_of_id, read_struct, Disk, AttributesInOrder, IsFormedSlot, AreWellFormed, slot_bytes, part_bytes, Attributes, Slot, Struct, Inline, Ctz, Branch, slot_of, Pair, Path, struct_node, struct_list_bytes, all_entries, disk_tree, KeptThread, ThreadView, cached_log, empty_anchor, IsLookupResult, AreAttributesAt, IsFoundCached, IsUnmovedSpot}
+use Rattle.lfs_lookup.proofs.Common.{option_and_then, option_copied, option_map, same_Some, node_attributes_of, RawSlot, attribute_bytes, complete_slot, kind_of_type, slot_of_id, decoded_struct, Disk, AttributesInOrder, IsFormedSlot, AreWellFormed, slot_bytes, part_bytes, Attributes, Slot, Struct, Inline, Ctz, Branch, slot_of, Pair, Path, struct_node, struct_list_bytes, all_entries, disk_tree, KeptThread, ThreadView, cached_log, empty_anchor, IsLookupResult, AreAttributesAt, IsFoundCached, IsUnhiddenSpot}
 use Rattle.lfs_device.specs.declared.error.Error.{Error}
 use Rattle.lfs_model.specs.session.Operations as ops
 use Rattle.lfs_lookup.specs.AttributeAt.{IsAttribute, AttributeFits, lookup_spot}
@@ -25,10 +25,10 @@ pub same_attributes : (s : RawSlot) (t : Slot) → complete_slot s ≡ Some t �
 same_attributes s t e = go s.name s.struct e
   where
     go : (n p : Option (ℕ × List ℕ)) →
-        option_and_then (λ name. option_map (λ struct. record { kind = kind_of_type name.0; name = name.1; struct = read_struct struct.0 struct.1; attributes = s.attributes }) p) n ≡ Some t → s.attributes ≡ t.attributes
+        option_and_then (λ name. option_map (λ struct. record { kind = kind_of_type name.0; name = name.1; struct = decoded_struct struct.0 struct.1; attributes = s.attributes }) p) n ≡ Some t → s.attributes ≡ t.attributes
     go None p k = absurd (cc)
     go (Some n) None k = absurd (cc)
-    go (Some n) (Some p) k = ap (λ (x : Slot). x.attributes) (same_Some (record { kind = kind_of_type n.0; name = n.1; struct = read_struct p.0 p.1; attributes = s.attributes }) t k)
+    go (Some n) (Some p) k = ap (λ (x : Slot). x.attributes) (same_Some (record { kind = kind_of_type n.0; name = n.1; struct = decoded_struct p.0 p.1; attributes = s.attributes }) t k)
 
 pub attribute_if_slot : (s : RawSlot) (t : Slot) (kind : ℕ) → kind < 2 ^ 8 → complete_slot s ≡ Some t → slot_bytes (0x300 + kind) s ≡ attribute_bytes kind t.attributes
 attribute_if_slot s t kind l e = attribute_kind s kind l ∙ ap (attribute_bytes kind) (same_attributes s t e)
@@ -62,10 +62,10 @@ short_copy (Some x) (Some v) e h = subst (λ b. length b ≤ 1022) (sym (same_So
 
 -- ---- at a path
 
-pub is_slot_of : (t : KeptThread) (path : Path) (x : VisiblePathLookup) (slot : SlotPosition) → IsLookupResult t path x → lookup_spot x ≡ Some slot → (moved : Option SlotPosition) × IsUnmovedSpot t.pairs moved path slot
+pub is_slot_of : (t : KeptThread) (path : Path) (x : VisiblePathLookup) (slot : SlotPosition) → IsLookupResult t path x → lookup_spot x ≡ Some slot → (moved : Option SlotPosition) × IsUnhiddenSpot t.pairs moved path slot
 is_slot_of t path shown.Root slot s e = absurd (cc)
-is_slot_of t path (shown.Directory at first) slot s e = (s.moved, subst (λ z. IsUnmovedSpot t.pairs s.moved path z) (same_Some at slot e) s.shows.1.0)
-is_slot_of t path (shown.File at contents) slot s e = (s.moved, subst (λ z. IsUnmovedSpot t.pairs s.moved path z) (same_Some at slot e) s.shows.1.0)
+is_slot_of t path (shown.Directory at first) slot s e = (s.moved, subst (λ z. IsUnhiddenSpot t.pairs s.moved path z) (same_Some at slot e) s.shows.1.0)
+is_slot_of t path (shown.File at contents) slot s e = (s.moved, subst (λ z. IsUnhiddenSpot t.pairs s.moved path z) (same_Some at slot e) s.shows.1.0)
 is_slot_of t path shown.Nothing slot s e = absurd (cc)
 is_slot_of t path shown.ParentIsFile slot s e = absurd (cc)
 is_slot_of t path shown.ParentIsMissing slot s e = absurd (cc)

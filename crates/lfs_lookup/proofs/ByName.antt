@@ -1,7 +1,7 @@
 -- Entries in the order of their names: the slots that they show, and the tree's names.
 use Rattle.std.proofs.Common.{ℕ, zero, suc, ◌≡◌, ◌<◌, ◌+◌, ◌∙◌, Bool, true, false, cond, List, [], ◌∷◌, length, map, refl, sym, ap, ap₂, subst, arith, get_or, set}
 use Rattle.std.specs.List.{swap}
-use Rattle.lfs_lookup.proofs.Common.{IsPermutation, length-map, recursion_from_All, Name, name_cmp, is_less, sorted_names, Slot, Each, AreShorterFirst, NamedStruct, directory_item_view, directory_items_view, named_struct}
+use Rattle.lfs_lookup.proofs.Common.{IsPermutation, length-map, recursion_from_All, Name, name_cmp, is_less, sorted_names, Slot, Each, AreShorterFirst, NamedStruct, item_view, items_view, named_struct}
 use Rattle.std.specs.List.Sorted.{IsSortedBy}
 use Rattle.std.specs.Cmp.Lexicographic.{slice_cmp}
 use Rattle.std.specs.Ordering.{is_lt, nat_cmp}
@@ -80,13 +80,13 @@ less_is Greater = refl
 abbrev pub is_named_before : NameAndOwnedStruct → NameAndOwnedStruct → Bool
 is_named_before a b = is_lt (slice_cmp nat_cmp a.name.items b.name.items)
 
-pub seen_by_name : (old new : List NameAndOwnedStruct) → IsPermutation old new → IsSortedBy is_named_before new → AreShorterFirst (directory_items_view old) (directory_items_view new)
+pub seen_by_name : (old new : List NameAndOwnedStruct) → IsPermutation old new → IsSortedBy is_named_before new → AreShorterFirst (items_view old) (items_view new)
 seen_by_name old new same_items rise = record {
-  permutation = IsPermutation-map directory_item_view old new same_items;
+  permutation = IsPermutation-map item_view old new same_items;
   sorted = λ k d l m.
-      let long = length-map new directory_item_view in
+      let long = length-map new item_view in
       let e : NameAndOwnedStruct = some_in new (omega (arith, m, long)) in
-      ap₂ precedes_shorter (get_or-map directory_item_view new (k + 1) e d (omega (arith, m, long))) (get_or-map directory_item_view new k e d (omega (arith, m, long)))
+      ap₂ precedes_shorter (get_or-map item_view new (k + 1) e d (omega (arith, m, long))) (get_or-map item_view new k e d (omega (arith, m, long)))
       ∙ less_is (slice_cmp nat_cmp (get_or new (k + 1) e).name.items (get_or new k e).name.items) ∙ rise k e l (omega (arith, m, long));
 }
 

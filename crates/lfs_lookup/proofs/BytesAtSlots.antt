@@ -1,7 +1,7 @@
 -- What a file's slot says of its bytes.
 use Rattle.std.proofs.Common.{ℕ, zero, suc, ◌≡◌, ◌+◌, ◌^◌, ◌<◌, ◌==◌, ◌∙◌, Bool, true, false, cond, List, [], ◌∷◌, ◌++◌, length, length-append, take, Option, Some, None, refl, sym, ap, ap₂, subst, slice_get, get_or, arith, append_assoc}
 use Rattle.std.specs.List.{enumerate_from, flat_map}
-use Rattle.lfs_lookup.proofs.Common.{option_and_then, option_map, length-take, same_Some, is_file, RawSlot, complete_slot, complete_slots, kind_of_type, slot_of_id, read_struct, inline_type, directory_type, read_address, Disk, IsDirectoryPair, IsPlaceOf, slot_bytes, part_bytes, Name, Slot, Struct, Inline, Ctz, Branch, slot_of, Pair, Path, struct_node, recursion_from_All, Each, each_right, IsWritableSlot, IsWritable, IsAccepted, IsFormedList, struct_list_bytes, all_entries, disk_tree, complete_parts, KeptThread, empty_anchor, IsLookupResult, spot_and_storage, IsStorage, IsUnmovedSpot}
+use Rattle.lfs_lookup.proofs.Common.{option_and_then, option_map, length-take, same_Some, is_file, RawSlot, complete_slot, complete_slots, kind_of_type, slot_of_id, decoded_struct, inline_type, directory_type, decoded_address, Disk, IsDirectoryPair, IsPlaceOf, slot_bytes, part_bytes, Name, Slot, Struct, Inline, Ctz, Branch, slot_of, Pair, Path, struct_node, recursion_from_All, Each, each_right, IsWritableSlot, IsWritable, IsAccepted, IsFormedList, struct_list_bytes, all_entries, disk_tree, complete_parts, KeptThread, empty_anchor, IsLookupResult, spot_and_storage, IsStorage, IsUnhiddenSpot}
 use Rattle.lfs_model.specs.session.TreeEdits.{file_bytes}
 use Rattle.lfs_model.specs.format.Disk.{inline_limit}
 use Rattle.lfs_model.specs.format.SkipLists.{block_data, blocks_to_head, block_count_for}
@@ -41,12 +41,12 @@ inline_held s t bytes e h = go s.name s.struct e
     by_type held to head size false false k = absurd (cc)
 
     go : (n p : Option (ℕ × List ℕ)) →
-        option_and_then (λ name. option_map (λ struct. record { kind = kind_of_type name.0; name = name.1; struct = read_struct struct.0 struct.1; attributes = s.attributes }) p) n ≡ Some t → part_bytes inline_type p ≡ Some bytes
+        option_and_then (λ name. option_map (λ struct. record { kind = kind_of_type name.0; name = name.1; struct = decoded_struct struct.0 struct.1; attributes = s.attributes }) p) n ≡ Some t → part_bytes inline_type p ≡ Some bytes
     go None p k = absurd (cc)
     go (Some n) None k = absurd (cc)
     go (Some n) (Some p) k =
-        by_type p.1 (read_address p.1) _ _ (p.0 == inline_type) (p.0 == directory_type)
-        (ap (λ (x : Slot). x.struct) (same_Some (record { kind = kind_of_type n.0; name = n.1; struct = read_struct p.0 p.1; attributes = s.attributes }) t k) ∙ h)
+        by_type p.1 (decoded_address p.1) _ _ (p.0 == inline_type) (p.0 == directory_type)
+        (ap (λ (x : Slot). x.struct) (same_Some (record { kind = kind_of_type n.0; name = n.1; struct = decoded_struct p.0 p.1; attributes = s.attributes }) t k) ∙ h)
 
 -- ---- in a pair
 
@@ -78,7 +78,7 @@ slot_stands ps first name index id s =
 -- ---- at a path
 
 module _ (t : KeptThread) (path : Path) (ok : IsAccepted t.disk t.pairs) (moved : Option SlotPosition) (spot : SlotPosition) (contents : FileStorage) where
-  pub file_stands : (s : IsUnmovedSpot t.pairs moved path spot) → IsStorage contents s.stands.stands.slot.struct → IsFileAt t spot contents s.stands.stands.slot
+  pub file_stands : (s : IsUnhiddenSpot t.pairs moved path spot) → IsStorage contents s.stands.stands.slot.struct → IsFileAt t spot contents s.stands.stands.slot
   file_stands s k = record {
     below = behind_below t.pairs s.first spot.pair s.stands.pair s.stands.rest s.stands.place;
     there = slot_stands t.pairs s.first s.name spot.pair spot.id s.stands;

@@ -7,15 +7,15 @@ pub use Rattle.lfs_lookup.specs.BytesAt.{spot_and_storage}
 pub use Rattle.lfs_lookup.specs.CachedPairs.{ArePairsCached, IsLastUsed, BecomesMostRecent, KeepsCachedPairs, StayCached, pairs_at}
 pub use Rattle.lfs_lookup.specs.Entry.{IsStorage, IsStructEntry}
 pub use Rattle.lfs_lookup.specs.Finds.{IsFoundNode, listed_item_view}
-pub use Rattle.lfs_lookup.specs.Halves.{EndsWithoutTail, HaveSlots, PathsHaveSlots, ReadsBinarySearches, halving_count, pairs_halvings}
-pub use Rattle.lfs_lookup.specs.Items.{NamedStruct, directory_item_view, directory_items_view, named_struct, owned_view, raw_entries, slots_except}
-pub use Rattle.lfs_lookup.specs.ListAt.{AreInLimits, IsInLimits, listed_item}
+pub use Rattle.lfs_lookup.specs.Halves.{EndsWithoutTail, EachHasSlot, PathsHaveSlots, ReadsBinarySearches, halving_count, pairs_halvings}
+pub use Rattle.lfs_lookup.specs.Items.{NamedStruct, item_view, items_view, named_struct, owned_view, raw_entries, slots_except}
+pub use Rattle.lfs_lookup.specs.ListAt.{AreInLimits, IsInLimits, name_and_size}
 pub use Rattle.lfs_lookup.specs.Listed.{joined_count_from, joined_pairs, joined_pairs_from, pair_entries_from}
-pub use Rattle.lfs_lookup.specs.LookupPaths.{HidesMovedSlot, IsHiddenResult, IsParentAt, IsUnmovedSpot, LeadsToPair, ParentReached, parent_refusal}
+pub use Rattle.lfs_lookup.specs.LookupPaths.{HidesMovedSlot, IsUnhiddenResult, IsParentAt, IsUnhiddenSpot, LeadsToPair, ParentReached, parent_refusal}
 pub use Rattle.lfs_lookup.specs.LookupReading.{ReadsOrReports}
 pub use Rattle.lfs_lookup.specs.NameLengths.{length_after_slash}
 pub use Rattle.lfs_lookup.specs.NameSearch.{FindsInDirectory, FindsInPair, FindsUnhidden, HasNameUnskipped, HidesOnlySlot, IsAbsent, IsAbsentExcept, IsNameAt, skipped_id}
-pub use Rattle.lfs_lookup.specs.ProfileChecks.{BreaksPair, BreaksSome, HasSuperblockStruct, IsWritablePair}
+pub use Rattle.lfs_lookup.specs.ProfileChecks.{BreaksPair, BreaksSlots, HasSuperblockStruct, IsWritablePair}
 pub use Rattle.lfs_lookup.specs.Root.{IsChainNext, IsInChain, next_chain_pair}
 pub use Rattle.lfs_lookup.specs.TreeWalk.{ArePushed, HasFirstIfDirectory, PathStruct, PushesEntriesBelow, pairs_addresses, tree_items_view, walked_entries}
 pub use Rattle.lfs_model.proofs.Completed.{complete_length, complete_parts, completed_parts}
@@ -27,15 +27,15 @@ pub use Rattle.lfs_model.proofs.OneCommit.{slot_there}
 pub use Rattle.lfs_model.proofs.Pairs.{pair_back, pair_on}
 pub use Rattle.lfs_model.proofs.Searches.{begins_directory, plain_behind, run_length_is, same_number}
 pub use Rattle.lfs_model.proofs.Walks.{walk_append}
-pub use Rattle.lfs_model.specs.crash.Frame.{ancestor_paths, directory_pairs, pair_count_at}
-pub use Rattle.lfs_model.specs.format.Content.{RawContent, RawSlot, attribute_bytes, complete_content, complete_slot, complete_slots, kind_of_type, read_struct, slot_of_id}
+pub use Rattle.lfs_model.specs.crash.Frame.{ancestor_paths, directory_pairs, directory_pair_count}
+pub use Rattle.lfs_model.specs.format.Content.{RawContent, RawSlot, attribute_bytes, complete_content, complete_slot, complete_slots, kind_of_type, decoded_struct, slot_of_id}
 pub use Rattle.lfs_model.specs.format.Disk.{Disk, disk_block, ordered_disk}
-pub use Rattle.lfs_model.specs.format.EntryTypes.{directory_type, inline_type, read_address, superblock_fields}
+pub use Rattle.lfs_model.specs.format.EntryTypes.{directory_type, inline_type, decoded_address, superblock_fields}
 pub use Rattle.lfs_model.specs.format.Names.{Name, is_component, is_less, name_cmp, same_name, slash_byte, sorted_names}
-pub use Rattle.lfs_model.specs.format.Slots.{Attributes, Branch, Ctz, FitsInPair, Gstate, Inline, PairContent, Slot, Struct, array_address, attributes_size, is_superblock, is_superblock_kind, same_pair}
+pub use Rattle.lfs_model.specs.format.Slots.{Attributes, Branch, Ctz, FitsInPair, Gstate, Inline, PairContent, Slot, Struct, address_view, attributes_size, is_superblock, is_superblock_kind, same_pair}
 pub use Rattle.lfs_model.specs.format.Thread.{Pair, count_before_root, directory_slots, has_no_entry, has_superblock, is_hard_tail, chain_may_continue, moved_id, pair_directories, pairs_blocks, pairs_from_root, pairs_gstate, root_address, slots_not_moved, superblock_first, unmoved_entries}
 pub use Rattle.lfs_model.specs.layers.Cache.{CachedBlocks, cache_limit}
-pub use Rattle.lfs_model.specs.layers.LoggedContent.{AllowsIfSome, AreWellFormed, AttributesInOrder, IsAllowedPart, IsFormedSlot, IsWellFormed}
+pub use Rattle.lfs_model.specs.layers.LoggedContent.{AllowedIfAny, AreWellFormed, AttributesInOrder, IsAllowedPart, IsFormedSlot, IsWellFormed}
 pub use Rattle.lfs_model.specs.layers.Lookup.{part_bytes, slot_bytes}
 pub use Rattle.lfs_model.specs.layers.ProfileBreaches.{BreaksProfile}
 pub use Rattle.lfs_model.specs.session.Effects.{items_at, node_file_size}

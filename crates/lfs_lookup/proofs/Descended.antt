@@ -1,7 +1,7 @@
 -- Down a path, a directory at a time.
 use Rattle.std.proofs.Common.{subst₂, ℕ, zero, suc, ◌≡◌, ◌<◌, ◌≤◌, ◌+◌, List, [], ◌∷◌, ◌++◌, length, map, take, drop, Option, Some, None, Result, Ok, Err, refl, sym, ap, ap₂, subst, ◌∙◌, arith, append_assoc, append-nil, slice_get, slice_index_or}
 use Rattle.std.specs.Prelude.{sum_by, IfOk}
-use Rattle.lfs_lookup.proofs.Common.{option_and_then, option_map, option_or, map-append, sum_by-append, sum_by-cons, Disk, pair_count_at, ancestor_paths, read_count, joined_count, Name, directory_refusal, parents_refusal, slot_of, Slot, Struct, Inline, Ctz, Branch, pairs_gstate, Path, Tree, branch_address, struct_node, IsAccepted, LeadsTo, struct_list_bytes, all_entries, disk_tree, KeptThread, OnlyReadsThread, LeadsToPair, ParentReached, IsParentAt, HidesMovedSlot, IsHiddenResult, HidesOnlySlot, run_length_is}
+use Rattle.lfs_lookup.proofs.Common.{option_and_then, option_map, option_or, map-append, sum_by-append, sum_by-cons, Disk, directory_pair_count, ancestor_paths, read_count, joined_count, Name, directory_refusal, parents_refusal, slot_of, Slot, Struct, Inline, Ctz, Branch, pairs_gstate, Path, Tree, branch_address, struct_node, IsAccepted, LeadsTo, struct_list_bytes, all_entries, disk_tree, KeptThread, OnlyReadsThread, LeadsToPair, ParentReached, IsParentAt, HidesMovedSlot, IsUnhiddenResult, HidesOnlySlot, run_length_is}
 use Rattle.lfs_device.specs.declared.error.Error.{Error}
 use Rattle.lfs_model.specs.session.Operations.{Refusal}
 use Rattle.lfs_lookup.specs.LookupPaths.{IsVisibleEntry, IsNamedEntry, LeadsToResult}
@@ -85,7 +85,7 @@ directory_is t path at leads = go (slot_of t.pairs path) leads
 pub record HasDescended (t now : KeptThread) (path : Path) (i first : ℕ) : Type 0 where
   pub begins : LeadsToPair t.pairs (take i path) first
   pub still : (name : Name) → parents_refusal (disk_tree t.disk t.pairs) [] (path ++ name ∷ []) ≡ parents_refusal (disk_tree t.disk t.pairs) (take i path) (drop i path ++ name ∷ [])
-  pub few : read_count now.history ≤ read_count t.history + sum_by (pair_count_at t.pairs) (ancestor_paths (take i path))
+  pub few : read_count now.history ≤ read_count t.history + sum_by (directory_pair_count t.pairs) (ancestor_paths (take i path))
 
 module _ (t now next : KeptThread) (path : Path) (i first : ℕ) (n : Name) (d : HasDescended t now path i first) (at : slice_get path i ≡ Some n) where
   pub refused_by : (name : Name) → parents_refusal (disk_tree t.disk t.pairs) [] (path ++ name ∷ [])
@@ -95,18 +95,18 @@ module _ (t now next : KeptThread) (path : Path) (i first : ℕ) (n : Name) (d :
   pub stops_at : (refusal : Refusal) → directory_refusal (disk_tree t.disk t.pairs (take i path ++ n ∷ [])) ≡ Some refusal → (name : Name) → parents_refusal (disk_tree t.disk t.pairs) [] (path ++ name ∷ []) ≡ Some refusal
   stops_at refusal e name = refused_by name ∙ ap (λ o. option_or o (parents_refusal (disk_tree t.disk t.pairs) (take i path ++ n ∷ []) (drop (i + 1) path ++ name ∷ []))) e
 
-  module _ (more : read_count next.history ≤ read_count now.history + pair_count_at t.pairs (take i path)) where
-    few_on : read_count next.history ≤ read_count t.history + sum_by (pair_count_at t.pairs) (ancestor_paths (take (i + 1) path))
+  module _ (more : read_count next.history ≤ read_count now.history + directory_pair_count t.pairs (take i path)) where
+    few_on : read_count next.history ≤ read_count t.history + sum_by (directory_pair_count t.pairs) (ancestor_paths (take (i + 1) path))
     few_on =
-        let e = sum_on (pair_count_at t.pairs) (take i path) n in
-        let s = ap (λ z. sum_by (pair_count_at t.pairs) (ancestor_paths z)) (take_on path i n at) in
+        let e = sum_on (directory_pair_count t.pairs) (take i path) n in
+        let s = ap (λ z. sum_by (directory_pair_count t.pairs) (ancestor_paths z)) (take_on path i n at) in
         let f = d.few in
         omega (arith, e, s, f, more)
 
-    pub few_whole : read_count next.history ≤ read_count t.history + sum_by (pair_count_at t.pairs) (ancestor_paths path)
+    pub few_whole : read_count next.history ≤ read_count t.history + sum_by (directory_pair_count t.pairs) (ancestor_paths path)
     few_whole =
-        let m = sum_more (pair_count_at t.pairs) (take (i + 1) path) (drop (i + 1) path) in
-        let s = ap (λ z. sum_by (pair_count_at t.pairs) (ancestor_paths z)) (take_drop (i + 1) path) in
+        let m = sum_more (directory_pair_count t.pairs) (take (i + 1) path) (drop (i + 1) path) in
+        let s = ap (λ z. sum_by (directory_pair_count t.pairs) (ancestor_paths z)) (take_drop (i + 1) path) in
         let f = few_on in
         omega (arith, m, s, f)
 
@@ -144,7 +144,7 @@ enters_same a b r path (parent.Directory first) e = subst (λ ps. LeadsToPair ps
 enters_same a b r path parent.File e = ap₂ (λ d ps. directory_refusal (disk_tree d ps path)) (sym r.disk) (sym r.pairs) ∙ e
 enters_same a b r path parent.Nothing e = ap₂ (λ d ps. directory_refusal (disk_tree d ps path)) (sym r.disk) (sym r.pairs) ∙ e
 
-pub few_same : (a b : KeptThread) → IsAccepted a.disk a.pairs → OnlyReadsThread a b → (path : Path) (first : ℕ) → LeadsToPair a.pairs path first → joined_count (drop first b.pairs) ≡ pair_count_at a.pairs path
+pub few_same : (a b : KeptThread) → IsAccepted a.disk a.pairs → OnlyReadsThread a b → (path : Path) (first : ℕ) → LeadsToPair a.pairs path first → joined_count (drop first b.pairs) ≡ directory_pair_count a.pairs path
 few_same a b ok r path first on = ap (λ ps. joined_count (drop first ps)) r.pairs ∙ run_length_is a.disk a.pairs path on.at first ok on.leads on.begins
 
 -- ---- the last name of a path
@@ -177,7 +177,7 @@ looked_in t next r above n first (Err e) on answer path is fault = tt
 looked_in t next r above n first (Ok found) on answer path is fault =
     leads_there t path above n is found fault (subst₂ (λ (d : Disk) ps. IsNamedEntry d.order ps above n found) r.disk r.pairs (answer above (begins_same t next r above first on)))
 
-shows_there : (t : KeptThread) (moved : Option SlotPosition) (path : Path) (s : VisiblePathLookup) → parents_refusal (disk_tree t.disk t.pairs) [] path ≡ None → IsVisibleEntry t.pairs moved path s → IsHiddenResult t moved path s
+shows_there : (t : KeptThread) (moved : Option SlotPosition) (path : Path) (s : VisiblePathLookup) → parents_refusal (disk_tree t.disk t.pairs) [] path ≡ None → IsVisibleEntry t.pairs moved path s → IsUnhiddenResult t moved path s
 shows_there t moved path (shown.Directory spot first) e there = (e, there)
 shows_there t moved path (shown.File spot contents) e there = (e, there)
 shows_there t moved path shown.Nothing e there = (e, there)
@@ -187,10 +187,10 @@ shows_there t moved path shown.ParentIsMissing e there = absurd there
 
 pub showed_in : (t next : KeptThread) (moved : Option SlotPosition) → OnlyReadsThread t next → (above : Path) (n : Name) (first : ℕ) (result : Result VisiblePathLookup Error) → LeadsToPair t.pairs above first
     → IfOk result (λ s. (above : Path) → LeadsToPair next.pairs above first → IsVisibleEntry next.pairs moved (above ++ n ∷ []) s) → (path : Path) → path ≡ above ++ n ∷ []
-    → parents_refusal (disk_tree t.disk t.pairs) [] (above ++ n ∷ []) ≡ None → IfOk result (IsHiddenResult t moved path)
+    → parents_refusal (disk_tree t.disk t.pairs) [] (above ++ n ∷ []) ≡ None → IfOk result (IsUnhiddenResult t moved path)
 showed_in t next moved r above n first (Err e) on answer path is fault = tt
 showed_in t next moved r above n first (Ok s) on answer path is fault =
-    subst (λ p. IsHiddenResult t moved p s) (sym is) (shows_there t moved (above ++ n ∷ []) s fault (subst (λ ps. IsVisibleEntry ps moved (above ++ n ∷ []) s) r.pairs (answer above (begins_same t next r above first on))))
+    subst (λ p. IsUnhiddenResult t moved p s) (sym is) (shows_there t moved (above ++ n ∷ []) s fault (subst (λ ps. IsVisibleEntry ps moved (above ++ n ∷ []) s) r.pairs (answer above (begins_same t next r above first on))))
 
 pub hiding_same : (a b : KeptThread) (moved : Option SlotPosition) → OnlyReadsThread a b → HidesMovedSlot a moved → HidesMovedSlot b moved
 hiding_same a b moved r h = record {

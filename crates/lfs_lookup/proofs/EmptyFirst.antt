@@ -2,7 +2,7 @@
 use Rattle.std.proofs.Common.{ℕ, ◌≡◌, ◌≢◌, ◌⊎◌, inl, inr, ◌+◌, ◌<◌, List, [], ◌∷◌, ◌++◌, length, take, drop, refl, sym, ap, ap₂, subst, ◌∙◌, arith, None, Result, IfOk}
 use Rattle.std.proofs.lemmas.List.{drop_more}
 use Rattle.std.proofs.lemmas.Result.{IfOk-weaker}
-use Rattle.lfs_lookup.proofs.Common.{length-take, take-append-drop, drop-append_seam, IsDirectoryPair, Name, Slot, Pair, all_slots, entry_slots, joined_count, joined_pairs, thread_pair, empty_anchor, ArePairsCached, FindsInDirectory, HaveNoSuperblock, HaveSlots, KeptThread, ThreadView}
+use Rattle.lfs_lookup.proofs.Common.{length-take, take-append-drop, drop-append_seam, IsDirectoryPair, Name, Slot, Pair, all_slots, entry_slots, joined_count, joined_pairs, thread_pair, empty_anchor, ArePairsCached, FindsInDirectory, HaveNoSuperblock, EachHasSlot, KeptThread, ThreadView}
 use Rattle.lfs_device.specs.declared.error.Error.{Error}
 use Rattle.lfs_model.specs.declared.order.NameOrder.{NameOrder}
 use Rattle.lfs_lookup.specs.NameSearch.{PassesEmptyPair, StartsSearch}
@@ -72,7 +72,7 @@ reads old new result first next p r = record {
       let same = ap (λ (n : ℕ). joined_count (drop n old.kept.pairs)) p.follows in
       omega (arith, few, more, same)
       );
-  halves = λ none slots. absurd (let s = (subst HaveSlots run slots).0 in let n = p.none in omega (arith, s, n));
+  halves = λ none slots. absurd (let s = (subst EachHasSlot run slots).0 in let n = p.none in omega (arith, s, n));
   loads = record {
     none = λ h. r.loads.none (subst (ArePairsCached old) run h).1;
     stay = λ h. r.loads.stay (subst (ArePairsCached old) run h).1;

@@ -1,16 +1,16 @@
 -- How often look-ups by halves read, down the directories of a path.
 use Rattle.std.proofs.Common.{ℕ, ◌≡◌, ◌+◌, ◌≤◌, [], ◌∷◌, ◌++◌, length, take, drop, slice_get, Some, sym, ap, subst, ◌∙◌, arith}
 use Rattle.std.specs.Prelude.{sum_by}
-use Rattle.lfs_lookup.proofs.Common.{take-append-drop, ancestor_paths, read_count, Name, Path, IsAccepted, each_left, each_right, ThreadView, OnlyReadsThread, pairs_at, HaveSlots, PathsHaveSlots, ReadsBinarySearches, halving_count, pairs_halvings, LeadsToPair}
+use Rattle.lfs_lookup.proofs.Common.{take-append-drop, ancestor_paths, read_count, Name, Path, IsAccepted, each_left, each_right, ThreadView, OnlyReadsThread, pairs_at, EachHasSlot, PathsHaveSlots, ReadsBinarySearches, halving_count, pairs_halvings, LeadsToPair}
 use Rattle.lfs_lookup.specs.Halves.{ReadsBinarySearch}
 use Rattle.lfs_lookup.proofs.Descended.{few_same, parents_on, sum_is, sum_more, sum_on, take_on, take_whole}
 use Rattle.lfs_lookup.proofs.LoadedDown.{parent_at, run_same}
 
 -- one directory more
 one_more : (old now new : ThreadView) (path : Path) (first : ℕ) → IsAccepted old.kept.disk old.kept.pairs → OnlyReadsThread old.kept now.kept → LeadsToPair old.kept.pairs path first
-    → HaveSlots (pairs_at old.kept.pairs path) → ReadsBinarySearch now new first → read_count new.kept.history ≤ read_count now.kept.history + pairs_halvings old.kept.pairs path
+    → EachHasSlot (pairs_at old.kept.pairs path) → ReadsBinarySearch now new first → read_count new.kept.history ≤ read_count now.kept.history + pairs_halvings old.kept.pairs path
 one_more old now new path first ok only on slots by =
-    let k = by (subst HaveSlots (sym (run_same old.kept now.kept path first ok only on)) slots) in
+    let k = by (subst EachHasSlot (sym (run_same old.kept now.kept path first ok only on)) slots) in
     let e = ap halving_count (few_same old.kept now.kept ok only path first on) in
     omega (arith, k, e)
 
@@ -20,7 +20,7 @@ module _ (old now new : ThreadView) (path : Path) (i first : ℕ) (n : Name) (ok
   pub halved_step : read_count new.kept.history ≤ read_count old.kept.history + sum_by (pairs_halvings old.kept.pairs) (ancestor_paths (take (i + 1) path))
   halved_step =
       let f = pairs_halvings old.kept.pairs in
-      let k = one_more old now new (take i path) first ok only on (parent_at (λ p. HaveSlots (pairs_at old.kept.pairs p)) path i n at slots) by in
+      let k = one_more old now new (take i path) first ok only on (parent_at (λ p. EachHasSlot (pairs_at old.kept.pairs p)) path i n at slots) by in
       let sum : sum_by (pairs_halvings old.kept.pairs) (ancestor_paths (take (i + 1) path)) ≡ sum_by (pairs_halvings old.kept.pairs) (ancestor_paths (take i path)) + pairs_halvings old.kept.pairs (take i path) =
       ap (λ p. sum_by (pairs_halvings old.kept.pairs) (ancestor_paths p)) (take_on path i n at) ∙ sum_on (pairs_halvings old.kept.pairs) (take i path) n in
       omega (arith, k, sum, before)
@@ -46,14 +46,14 @@ module _ (old mid : ThreadView) (path above : Path) (name : Name) (is : path ≡
 
   pub halved_short : ReadsBinarySearches old mid (ancestor_paths path)
   halved_short slots =
-      let k = by (each_left (λ p. HaveSlots (pairs_at old.kept.pairs p)) (ancestor_paths above) (above ∷ []) (both_slots slots)) in
+      let k = by (each_left (λ p. EachHasSlot (pairs_at old.kept.pairs p)) (ancestor_paths above) (above ∷ []) (both_slots slots)) in
       let s = sum_is (pairs_halvings old.kept.pairs) path above name is in
       omega (arith, k, s)
 
   pub halved_last : (new : ThreadView) (first : ℕ) → IsAccepted old.kept.disk old.kept.pairs → OnlyReadsThread old.kept mid.kept → LeadsToPair old.kept.pairs above first → ReadsBinarySearch mid new first → ReadsBinarySearches old new (ancestor_paths path)
   halved_last new first ok only on last slots =
-      let k = by (each_left (λ p. HaveSlots (pairs_at old.kept.pairs p)) (ancestor_paths above) (above ∷ []) (both_slots slots)) in
-      let here = (each_right (λ p. HaveSlots (pairs_at old.kept.pairs p)) (ancestor_paths above) (above ∷ []) (both_slots slots)).0 in
+      let k = by (each_left (λ p. EachHasSlot (pairs_at old.kept.pairs p)) (ancestor_paths above) (above ∷ []) (both_slots slots)) in
+      let here = (each_right (λ p. EachHasSlot (pairs_at old.kept.pairs p)) (ancestor_paths above) (above ∷ []) (both_slots slots)).0 in
       let m = one_more old mid new above first ok only on here last in
       let s = sum_is (pairs_halvings old.kept.pairs) path above name is in
       omega (arith, k, m, s)

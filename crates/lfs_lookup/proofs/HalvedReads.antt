@@ -1,7 +1,7 @@
 -- How often a search by halves reads, and what it leaves in the cache.
 use Rattle.std.proofs.Common.{ℕ, zero, suc, ◌≡◌, ◌+◌, ◌-◌, ◌*◌, ◌/◌, ◌^◌, ◌<◌, ◌≤◌, List, [], ◌∷◌, ◌++◌, length, Result, Ok, refl, sym, ap, subst, ◌∙◌, arith, length-append}
 use Rattle.std.specs.Prelude.{OnOk}
-use Rattle.lfs_lookup.proofs.Common.{AllByRecursion, Pair, each_right, active_block_at, ThreadView, ArePairsCached, KeepsCachedPairs, BecomesMostRecent, HaveSlots, halving_count}
+use Rattle.lfs_lookup.proofs.Common.{AllByRecursion, Pair, each_right, active_block_at, ThreadView, ArePairsCached, KeepsCachedPairs, BecomesMostRecent, EachHasSlot, halving_count}
 use Rattle.std.proofs.Math.Nat.{mul-div-le, lt-div-mul-add, pow-succ'}
 use Rattle.lfs_device.specs.declared.error.Error.{Error}
 use Rattle.lfs_lookup.specs.Halves.{halvings_within}
@@ -71,8 +71,8 @@ pub middle_below : (low high : ℕ) → low < high → low + (high - low) / 2 < 
 middle_below low high l = let h = halves_of (high - low) in omega (arith, h.0)
 
 -- a pair of a directory whose pairs all have slots
-pub has_slot : (run : List Pair) (first index : ℕ) (q : Pair) → IsAt run first index q → HaveSlots run → 0 < length q.content.slots
-has_slot run first index q a slots = (each_right (λ (p : Pair). 0 < length p.content.slots) a.before (q ∷ a.behind) (subst HaveSlots a.parts slots)).0
+pub has_slot : (run : List Pair) (first index : ℕ) (q : Pair) → IsAt run first index q → EachHasSlot run → 0 < length q.content.slots
+has_slot run first index q a slots = (each_right (λ (p : Pair). 0 < length p.content.slots) a.before (q ∷ a.behind) (subst EachHasSlot a.parts slots)).0
 
 -- ---- what is cached
 

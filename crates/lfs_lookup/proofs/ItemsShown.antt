@@ -2,7 +2,7 @@
 use Rattle.std.proofs.Common.{ℕ, zero, suc, ◌≡◌, ◌<◌, ◌≤◌, ◌∙◌, Bool, true, false, cond, not, List, [], ◌∷◌, ◌++◌, length, map, filter, get_or, remove, Option, Some, None, refl, sym, ap, ap₂, subst, arith}
 use Rattle.lfs_lookup.proofs.Common.{same_Some, Slot, is_superblock, RawSlot, complete_slots, IsFormedSlot, AreWellFormed, complete_parts, NamedStruct, named_struct, raw_entries, slots_except}
 use Rattle.lfs_model.proofs.Completed.{complete_remove}
-use Rattle.lfs_lookup.specs.Items.{optional_entry_list, entries_without_moved, entry_unless_superblock}
+use Rattle.lfs_lookup.specs.Items.{optional_entry_list, unhidden_entries, entry_unless_superblock}
 
 -- ---- parts
 
@@ -58,5 +58,5 @@ shown_complete (x ∷ xs) all h =
     option_shown None = None
     option_shown (Some s) = entry_unless_superblock s
 
-pub shown_shapes : (moved : Option ℕ) (raw : List RawSlot) (all : List Slot) → complete_slots raw ≡ Some all → raw_entries (slots_except moved raw) ≡ entries_without_moved moved all
+pub shown_shapes : (moved : Option ℕ) (raw : List RawSlot) (all : List Slot) → complete_slots raw ≡ Some all → raw_entries (slots_except moved raw) ≡ unhidden_entries moved all
 shown_shapes moved raw all h = shown_complete (slots_except moved raw) (slots_except moved all) (complete_without moved raw all h)

@@ -1,6 +1,6 @@
 -- What a list says of the entries of a directory is what the tree says.
 use Rattle.std.proofs.Common.{ℕ, suc, slice_get, ◌≡◌, ◌∙◌, List, [], ◌∷◌, ◌++◌, map, Some, option_map, refl, sym, ap, ap₂, subst}
-use Rattle.lfs_lookup.proofs.Common.{recursion_from_All, AreByteBlocks, directory_names, Disk, ordered_disk, slot_of, Slot, Struct, Inline, Ctz, Branch, items_at, node_file_size, Pair, Path, struct_node, IsAccepted, IsFormedList, LeadsTo, all_unmoved_slots, struct_list_bytes, all_entries, disk_tree, Each, slot_there, KeptThread, disk_of_device, AreShorterFirst, NamedStruct, named_struct, AreInLimits, IsInLimits, listed_item, pair_entries_from, LeadsToPair}
+use Rattle.lfs_lookup.proofs.Common.{recursion_from_All, AreByteBlocks, directory_names, Disk, ordered_disk, slot_of, Slot, Struct, Inline, Ctz, Branch, items_at, node_file_size, Pair, Path, struct_node, IsAccepted, IsFormedList, LeadsTo, all_unmoved_slots, struct_list_bytes, all_entries, disk_tree, Each, slot_there, KeptThread, disk_of_device, AreShorterFirst, NamedStruct, named_struct, AreInLimits, IsInLimits, name_and_size, pair_entries_from, LeadsToPair}
 use Rattle.lfs_device.specs.declared.device.BlockDevice.{Ghosts}
 use Rattle.lfs_model.specs.declared.order.NameOrder.{NameOrder}
 use Rattle.lfs_model.specs.session.Operations as ops
@@ -30,11 +30,11 @@ module _ (disk : Disk) (ps : List Pair) (path : Path) where
       go (Ctz head size) l = ap Some (lists head size l)
       go (Branch to) l = refl
 
-  rows : (slots : List Slot) → Each IsSized slots → map (λ name. let item : ops.ListedEntry = record { name = name; size = node_file_size (disk_tree disk ps (path ++ name ∷ [])) } in item) (map (λ (s : Slot). s.name) slots) ≡ map listed_item (map named_struct slots)
+  rows : (slots : List Slot) → Each IsSized slots → map (λ name. let item : ops.ListedEntry = record { name = name; size = node_file_size (disk_tree disk ps (path ++ name ∷ [])) } in item) (map (λ (s : Slot). s.name) slots) ≡ map name_and_size (map named_struct slots)
   rows [] h = refl
   rows (s ∷ slots) h = ap₂ (λ z zs. let item : ops.ListedEntry = record { name = s.name; size = z } in item ∷ zs) h.0 (rows slots h.1)
 
-  pub items_listed : (at : ℕ × ℕ) (slots : List Slot) → IsAccepted disk ps → LeadsTo ps path at → SizedLists disk → AreRows (all_entries ps at) slots → map listed_item (map named_struct slots) ≡ items_at (disk_tree disk ps) path
+  pub items_listed : (at : ℕ × ℕ) (slots : List Slot) → IsAccepted disk ps → LeadsTo ps path at → SizedLists disk → AreRows (all_entries ps at) slots → map name_and_size (map named_struct slots) ≡ items_at (disk_tree disk ps) path
   items_listed at slots ok leads lists r =
       let d = directory_at_path disk ps path at leads in
       sym (ap (λ o. map (λ name. let item : ops.ListedEntry = record { name = name; size = node_file_size (disk_tree disk ps (path ++ name ∷ [])) } in item) (directory_names o)) d.is
@@ -67,8 +67,8 @@ module _ (t : KeptThread) (path : Path) (ok : IsAccepted t.disk t.pairs) (now : 
       subst AreInLimits (sym is)
       (short_each slots (each_row (λ s. IsInLimits (named_struct s)) (all_entries t.pairs on.at) slots r (each_short (all_entries t.pairs on.at) (short_entries t.disk t.pairs path on.at bytes ok on.leads))))
 
-  pub listed_there : (listed : List ops.ListedEntry) → SizedLists t.disk → listed ≡ map listed_item shapes → listed ≡ items_at (disk_tree t.disk t.pairs) path
-  listed_there listed lists e = let (slots, (r, is)) = slots_there in e ∙ ap (map listed_item) is ∙ items_listed t.disk t.pairs path on.at slots ok on.leads lists r
+  pub listed_there : (listed : List ops.ListedEntry) → SizedLists t.disk → listed ≡ map name_and_size shapes → listed ≡ items_at (disk_tree t.disk t.pairs) path
+  listed_there listed lists e = let (slots, (r, is)) = slots_there in e ∙ ap (map name_and_size) is ∙ items_listed t.disk t.pairs path on.at slots ok on.leads lists r
 
 pub bytes_on : {D : Type 0} (g : Ghosts D) (d : D) (disk : Disk) {order : NameOrder} → ordered_disk order (disk_of_device g d) ≡ disk → AreByteBlocks (g.blocks d) → AreByteBlocks disk.blocks
 bytes_on g d disk e h = subst (λ (z : Disk). AreByteBlocks z.blocks) e h

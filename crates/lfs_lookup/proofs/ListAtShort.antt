@@ -1,6 +1,6 @@
 -- Contents that stand in an entry are short.
 use Rattle.std.proofs.Common.{ℕ, zero, suc, ◌≡◌, ◌<◌, ◌==◌, ◌&&◌, Bool, true, false, cond, not, List, [], ◌∷◌, length, map, Option, Some, None, option_and_then, option_map, refl, sym, subst}
-use Rattle.lfs_lookup.proofs.Common.{remove, same_Some, recursion_from_All, RawContent, RawSlot, complete_slot, complete_slots, complete_content, kind_of_type, read_struct, directory_type, inline_type, read_address, Disk, disk_block, IsFormedSlot, AreWellFormed, AllowsIfSome, Gstate, Slot, Inline, Ctz, Branch, same_pair, Pair, pairs_gstate, slots_not_moved, Path, IsAccepted, LeadsTo, all_entries, complete_parts, completed_parts, Each, each_joined, each_weaker, logged, AreByteBlocks, named_struct, AreInLimits, IsInLimits}
+use Rattle.lfs_lookup.proofs.Common.{remove, same_Some, recursion_from_All, RawContent, RawSlot, complete_slot, complete_slots, complete_content, kind_of_type, decoded_struct, directory_type, inline_type, decoded_address, Disk, disk_block, IsFormedSlot, AreWellFormed, AllowedIfAny, Gstate, Slot, Inline, Ctz, Branch, same_pair, Pair, pairs_gstate, slots_not_moved, Path, IsAccepted, LeadsTo, all_entries, complete_parts, completed_parts, Each, each_joined, each_weaker, logged, AreByteBlocks, named_struct, AreInLimits, IsInLimits}
 use Rattle.lfs_model.specs.format.Content.{content_after, content_at, has_commit, current_of_two, current_block, is_later, empty_raw_content}
 use Rattle.lfs_model.specs.format.Log.{block_entries, block_revision}
 use Rattle.lfs_device.specs.Bytes.{ElementsAreBytes}
@@ -18,18 +18,18 @@ short_of true b bytes to head size l = l
 short_of false true bytes to head size l = tt
 short_of false false bytes to head size l = tt
 
-short_typed : (kind : ℕ) (bytes : List ℕ) → length bytes < 0x3ff → StructFitsTag (read_struct kind bytes)
-short_typed kind bytes l = short_of (kind == inline_type) (kind == directory_type) bytes (read_address bytes) _ _ l
+short_typed : (kind : ℕ) (bytes : List ℕ) → length bytes < 0x3ff → StructFitsTag (decoded_struct kind bytes)
+short_typed kind bytes l = short_of (kind == inline_type) (kind == directory_type) bytes (decoded_address bytes) _ _ l
 
 short_complete : (s : RawSlot) (t : Slot) → IsFormedSlot s → complete_slot s ≡ Some t → short_slot t
 short_complete s t h e = go s.name s.struct h.struct e
   where
-    go : (n p : Option (ℕ × List ℕ)) → AllowsIfSome 2 p
-        → option_and_then (λ name. option_map (λ struct. record { kind = kind_of_type name.0; name = name.1; struct = read_struct struct.0 struct.1; attributes = s.attributes }) p) n ≡ Some t → short_slot t
+    go : (n p : Option (ℕ × List ℕ)) → AllowedIfAny 2 p
+        → option_and_then (λ name. option_map (λ struct. record { kind = kind_of_type name.0; name = name.1; struct = decoded_struct struct.0 struct.1; attributes = s.attributes }) p) n ≡ Some t → short_slot t
     go None p k f = absurd (cc)
     go (Some n) None k f = absurd (cc)
     go (Some n) (Some p) k f =
-        subst short_slot (same_Some (record { kind = kind_of_type n.0; name = n.1; struct = read_struct p.0 p.1; attributes = s.attributes }) t f) (short_typed p.0 p.1 k.short)
+        subst short_slot (same_Some (record { kind = kind_of_type n.0; name = n.1; struct = decoded_struct p.0 p.1; attributes = s.attributes }) t f) (short_typed p.0 p.1 k.short)
 
 short_all : (raw : List RawSlot) (all : List Slot) → AreWellFormed raw → complete_slots raw ≡ Some all → Each short_slot all
 short_all [] all h e = subst (Each short_slot) (same_Some [] all e) tt

@@ -1,7 +1,7 @@
 -- The directories of a path, as their pairs are brought in turn.
 use Rattle.std.proofs.Common.{ℕ, zero, suc, ◌≡◌, ◌<◌, ◌≤◌, ◌+◌, List, [], ◌∷◌, ◌++◌, length, map, take, drop, slice_get, Option, Some, None, Result, Ok, Err, refl, sym, ap, subst, ◌∙◌, arith, length-append}
 use Rattle.std.specs.Prelude.{IfOk}
-use Rattle.lfs_lookup.proofs.Common.{AllByRecursion, option_map_or, length-map, CachedBlocks, cache_limit, directory_pairs, pair_count_at, ancestor_paths, Disk, read_count, Name, all_entries, Pair, root_address, Path, IsAccepted, each_append, each_left, each_right, each_weaker, active_block_at, KeptThread, ThreadView, OnlyReadsThread, ArePairsCached, KeepsCachedPairs, BecomesMostRecent, IsLastUsed, StayCached, pairs_at, joined_pairs, joined_pairs_from, LeadsToPair}
+use Rattle.lfs_lookup.proofs.Common.{AllByRecursion, option_map_or, length-map, CachedBlocks, cache_limit, directory_pairs, directory_pair_count, ancestor_paths, Disk, read_count, Name, all_entries, Pair, root_address, Path, IsAccepted, each_append, each_left, each_right, each_weaker, active_block_at, KeptThread, ThreadView, OnlyReadsThread, ArePairsCached, KeepsCachedPairs, BecomesMostRecent, IsLastUsed, StayCached, pairs_at, joined_pairs, joined_pairs_from, LeadsToPair}
 use Rattle.lfs_device.specs.declared.error.Error.{Error}
 use Rattle.lfs_model.specs.tree.Tree.{address_at_path}
 use Rattle.lfs_lookup.specs.CachedPairs.{AreDirectoriesCached, AreLastUsed, AreDirectoriesRecent, AreFewSmall, KeepsCachedDirectories}
@@ -16,7 +16,7 @@ abbrev many_at : List Pair → Option (ℕ × ℕ) → ℕ
 many_at ps None = 0
 many_at ps (Some at) = length (directory_pairs ps at)
 
-pub length-pairs_on : (ps : List Pair) (path : Path) → length (pairs_at ps path) ≡ pair_count_at ps path
+pub length-pairs_on : (ps : List Pair) (path : Path) → length (pairs_at ps path) ≡ directory_pair_count ps path
 length-pairs_on ps path = go (address_at_path (all_entries ps) (root_address ps) path)
   where
     go : (o : Option (ℕ × ℕ)) → length (option_map_or (directory_pairs ps) o []) ≡ many_at ps o
@@ -53,7 +53,7 @@ module _ (disk : Disk) (ps : List Pair) (q : Path) (run : List Pair) (is : run �
       subst (ArePairsCached now) (sym is) (subst (λ d. AreLastUsed cache_limit d now.cache (pairs_at ps q)) (sym same)
       (each_weaker (λ (p : Pair). IsLastUsed cache_limit cache (active_block_at disk p.at)) (λ (p : Pair). IsLastUsed cache_limit now.cache (active_block_at disk p.at)) (λ p k. stay (active_block_at disk p.at) k) (pairs_at ps q) there))
 
-  module _ {X : Type 0} (new : ThreadView) (x : X) (b : KeepsCachedPairs run now new (Ok x)) (n : ℕ) (few : n < cache_limit) (small : pair_count_at ps q ≡ 1) where
+  module _ {X : Type 0} (new : ThreadView) (x : X) (b : KeepsCachedPairs run now new (Ok x)) (n : ℕ) (few : n < cache_limit) (small : directory_pair_count ps q ≡ 1) where
     one_is : length run ≡ 1
     one_is = ap length is ∙ length-pairs_on ps q ∙ small
 
@@ -113,7 +113,7 @@ module _ (old now : ThreadView) (path : Path) (i : ℕ) (name : Name) (at : slic
         let next : suc i ≡ i + 1 = omega arith in
         subst (λ n. AreDirectoriesRecent n old.kept.disk new.cache old.kept.pairs (ancestor_paths (take (i + 1) path))) next
         (subst (AreDirectoriesRecent (suc i) old.kept.disk new.cache old.kept.pairs) (sym (ap ancestor_paths (take_on path i name at) ∙ parents_on (take i path) name))
-        (recent_more old.kept.disk old.kept.pairs (take i path) run is now h.disk new x b i (omega (arith, l, f, within)) (parent_at (λ p. pair_count_at old.kept.pairs p ≡ 1) path i name at small.small) (ancestor_paths (take i path)) (h.recent small)))
+        (recent_more old.kept.disk old.kept.pairs (take i path) run is now h.disk new x b i (omega (arith, l, f, within)) (parent_at (λ p. directory_pair_count old.kept.pairs p ≡ 1) path i name at small.small) (ancestor_paths (take i path)) (h.recent small)))
         );
   }
 
@@ -160,8 +160,8 @@ down_last {Y = Y} enters through old mid new path above name x s run is a all sa
     ended small (Ok y) b = λ ends.
         let n = ap length parents_are ∙ length-append (ancestor_paths above) (above ∷ []) in
         let f = small.few in
-        let k = subst (AllByRecursion (λ p. pair_count_at old.kept.pairs p ≡ 1)) parents_are small.small in
-        let Q : Path → Type 0 = λ p. pair_count_at old.kept.pairs p ≡ 1 in
+        let k = subst (AllByRecursion (λ p. directory_pair_count old.kept.pairs p ≡ 1)) parents_are small.small in
+        let Q : Path → Type 0 = λ p. directory_pair_count old.kept.pairs p ≡ 1 in
         let first = a.recent (record { few = omega (arith, n, f); small = each_left Q (ancestor_paths above) (above ∷ []) k }) all in
         let e : suc (length (ancestor_paths above)) ≡ length (ancestor_paths path) = omega (arith, n) in
         subst (λ m. AreDirectoriesRecent m old.kept.disk new.cache old.kept.pairs (ancestor_paths path)) e

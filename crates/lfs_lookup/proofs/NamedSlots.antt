@@ -1,14 +1,14 @@
 -- What a search among the slots of a log says of the slots of its content.
 use Rattle.std.proofs.Common.{ℕ, zero, suc, ◌≡◌, ◌⊎◌, inl, inr, ◌<◌, ◌==◌, ◌&&◌, Bool, true, false, cond, not, List, [], ◌∷◌, ◌++◌, length, length-append, rules, Option, Some, None, T, refl, sym, ap, ap₂, slice_get, subst, ◌∙◌, arith, eqb-true, Ordering, Less, Equal, Greater}
 use Rattle.std.specs.Prelude.{IsSome}
-use Rattle.lfs_lookup.proofs.Common.{option_and_then, option_map, option_map_or, AllByRecursion, ne_eqb, same_Some, Name, name_cmp, same_name, is_less, Slot, PairContent, is_superblock, is_superblock_kind, RawSlot, RawContent, complete_content, complete_slot, complete_slots, slot_of_id, kind_of_type, read_struct, superblock_first, IsAllowedPart, AllowsIfSome, IsFormedSlot, AreWellFormed, IsWellFormed, complete_parts, completed_parts, entry_slots, HasName, FirstIsGreater, BelongsAtId, IsAbsentExcept}
+use Rattle.lfs_lookup.proofs.Common.{option_and_then, option_map, option_map_or, AllByRecursion, ne_eqb, same_Some, Name, name_cmp, same_name, is_less, Slot, PairContent, is_superblock, is_superblock_kind, RawSlot, RawContent, complete_content, complete_slot, complete_slots, slot_of_id, kind_of_type, decoded_struct, superblock_first, IsAllowedPart, AllowedIfAny, IsFormedSlot, AreWellFormed, IsWellFormed, complete_parts, completed_parts, entry_slots, HasName, FirstIsGreater, BelongsAtId, IsAbsentExcept}
 use Rattle.std.specs.Ordering.{ordering_reverse}
 use Rattle.std.proofs.Math.Dec.{eqb_refl}
 use Rattle.lfs_model.proofs.Orders.{name_order, same_by}
 use Rattle.lfs_model.specs.declared.order.NameOrder.{NameOrder}
 use Rattle.lfs_model.specs.format.Names.{is_equal}
 use Rattle.lfs_model.specs.format.EntryTypes.{file_name_type, directory_name_type, superblock_name_type}
-use Rattle.lfs_model.specs.layers.Lookup.{entry_name, passes_name_test, comes_after, IsLeastId, IsNewId}
+use Rattle.lfs_model.specs.layers.Lookup.{entry_name, passes_name_test, comes_after, IsNameId, IsInsertionId}
 use Rattle.lfs_model.proofs.Paths.{name_from_same, same_itself}
 use Rattle.lfs_model.proofs.FirstEntries.{superblock_type}
 use Rattle.lfs_tag.specs.ContentView.{part_view}
@@ -19,13 +19,13 @@ use Rattle.lfs_tag.specs.declared.content.NameOrStruct.{NameOrStruct}
 pub entry_is : (s : RawSlot) (t : Slot) → IsFormedSlot s → complete_slot s ≡ Some t → entry_name s ≡ cond (is_superblock t) None (Some t.name)
 entry_is s t h e = go s.name s.struct h.name e
   where
-    go : (n p : Option (ℕ × List ℕ)) → AllowsIfSome 0 n →
-        option_and_then (λ name. option_map (λ struct. record { kind = kind_of_type name.0; name = name.1; struct = read_struct struct.0 struct.1; attributes = s.attributes }) p) n ≡ Some t →
+    go : (n p : Option (ℕ × List ℕ)) → AllowedIfAny 0 n →
+        option_and_then (λ name. option_map (λ struct. record { kind = kind_of_type name.0; name = name.1; struct = decoded_struct struct.0 struct.1; attributes = s.attributes }) p) n ≡ Some t →
         option_and_then (λ name. cond (name.0 == superblock_name_type) None (Some name.1)) n ≡ cond (is_superblock t) None (Some t.name)
     go None p k f = absurd (cc)
     go (Some n) None k f = absurd (cc)
     go (Some n) (Some p) k f = by_type (n.0 == file_name_type) (n.0 == directory_name_type) refl refl
-        ∙ ap (λ (x : Slot). cond (is_superblock x) None (Some x.name)) (same_Some (record { kind = kind_of_type n.0; name = n.1; struct = read_struct p.0 p.1; attributes = s.attributes }) t f)
+        ∙ ap (λ (x : Slot). cond (is_superblock x) None (Some x.name)) (same_Some (record { kind = kind_of_type n.0; name = n.1; struct = decoded_struct p.0 p.1; attributes = s.attributes }) t f)
       where
         by_type : (a b : Bool) → (n.0 == file_name_type) ≡ a → (n.0 == directory_name_type) ≡ b →
             cond (n.0 == superblock_name_type) None (Some n.1) ≡ cond (is_superblock_kind (kind_of_type n.0)) None (Some n.1)
@@ -105,7 +105,7 @@ less_first by name t slots same behind rest = go (is_superblock t) refl
         let g = is_greater (name_cmp by name t.name) (same_by by name t.name ∙ not_passed (same_name name) t same e) (not_passed (comes_after by name) t behind e) in
         ((name_order by).antisymm t.name name ∙ ap ordering_reverse g, rest)
 
-pub belongs : {by : NameOrder} (name : Name) (raw : List RawSlot) (slots : List Slot) (id : ℕ) → AreWellFormed raw → complete_slots raw ≡ Some slots → IsNewId by name None raw id → BelongsAtId by slots name id
+pub belongs : {by : NameOrder} (name : Name) (raw : List RawSlot) (slots : List Slot) (id : ℕ) → AreWellFormed raw → complete_slots raw ≡ Some slots → IsInsertionId by name None raw id → BelongsAtId by slots name id
 belongs {by} name raw slots zero h e p = record { left = []; right = slots; held = refl; number = refl; less = tt; greater = go raw slots h e p.greater; fronted = plain raw slots h e p.greater }
   where
     go : (raw : List RawSlot) (slots : List Slot) → AreWellFormed raw → complete_slots raw ≡ Some slots → (0 < length raw → passes_name_test (comes_after by name) None raw 0 ≡ true) → (slots ≡ []) ⊎ FirstIsGreater by name (entry_slots slots)
@@ -152,20 +152,20 @@ pub record IsReadAt (raw : List RawSlot) (id : ℕ) (t : Slot) : Type 0 where
   pub part : ℕ × List ℕ
   pub is : (slot_of_id raw id).struct ≡ Some part
   pub is_part : IsAllowedPart 2 part
-  pub struct : t.struct ≡ read_struct part.0 part.1
+  pub struct : t.struct ≡ decoded_struct part.0 part.1
 
 read_first : (s : RawSlot) (raw : List RawSlot) (t : Slot) → IsFormedSlot s → complete_slot s ≡ Some t → IsReadAt (s ∷ raw) 0 t
 read_first s raw t h e = go s.name s.struct refl h.struct e
   where
-    go : (n p : Option (ℕ × List ℕ)) → s.struct ≡ p → AllowsIfSome 2 p
-        → option_and_then (λ name. option_map (λ struct. record { kind = kind_of_type name.0; name = name.1; struct = read_struct struct.0 struct.1; attributes = s.attributes }) p) n ≡ Some t → IsReadAt (s ∷ raw) 0 t
+    go : (n p : Option (ℕ × List ℕ)) → s.struct ≡ p → AllowedIfAny 2 p
+        → option_and_then (λ name. option_map (λ struct. record { kind = kind_of_type name.0; name = name.1; struct = decoded_struct struct.0 struct.1; attributes = s.attributes }) p) n ≡ Some t → IsReadAt (s ∷ raw) 0 t
     go None p is k f = absurd (cc)
     go (Some n) None is k f = absurd (cc)
     go (Some n) (Some p) is k f = record {
       part = p;
       is = is;
       is_part = k;
-      struct = ap (λ (x : Slot). x.struct) (sym (same_Some (record { kind = kind_of_type n.0; name = n.1; struct = read_struct p.0 p.1; attributes = s.attributes }) t f));
+      struct = ap (λ (x : Slot). x.struct) (sym (same_Some (record { kind = kind_of_type n.0; name = n.1; struct = decoded_struct p.0 p.1; attributes = s.attributes }) t f));
     }
 
 pub read_at : (raw : List RawSlot) (slots left : List Slot) (t : Slot) (right : List Slot) → AreWellFormed raw → complete_slots raw ≡ Some slots → slots ≡ left ++ t ∷ right → IsReadAt raw (length left) t
@@ -218,20 +218,20 @@ skip_false None id h = refl
 skip_false (Some k) id h = ne_eqb k id (λ e. h (ap Some e))
 
 module _ (by : NameOrder) (content : PairContent) (name : Name) (skip : Option ℕ) (raw : RawContent) (logged : IsWellFormed raw) (complete_slot : complete_content raw ≡ Some content) where
-  pub stands_in : (id : ℕ) → IsLeastId name skip raw.slots id → HasName content.slots name id
+  pub stands_in : (id : ℕ) → IsNameId name skip raw.slots id → HasName content.slots name id
   stands_in id found =
       let k = kept_from (option_map_or (same_name name) (entry_name (slot_of_id raw.slots id)) false) (option_map_or (λ k. k == id) skip false) found.named in
       stands name raw.slots content.slots id logged.slots (completed_parts raw content complete_slot).slots (and_true (option_map_or (same_name name) (entry_name (slot_of_id raw.slots id)) false) ∙ k.named)
 
-  pub kept_in : (id : ℕ) → IsLeastId name skip raw.slots id → skip ≡ Some id → ⊥
+  pub kept_in : (id : ℕ) → IsNameId name skip raw.slots id → skip ≡ Some id → ⊥
   kept_in id found is =
       let k = kept_from (option_map_or (same_name name) (entry_name (slot_of_id raw.slots id)) false) (option_map_or (λ k. k == id) skip false) found.named in
       not_skipped skip id k.kept is
 
-  pub belongs_in : (id : ℕ) → IsNewId by name skip raw.slots id → skip ≡ None → BelongsAtId by content.slots name id
-  belongs_in id place none = belongs name raw.slots content.slots id logged.slots (completed_parts raw content complete_slot).slots (subst (λ o. IsNewId by name o raw.slots id) none place)
+  pub belongs_in : (id : ℕ) → IsInsertionId by name skip raw.slots id → skip ≡ None → BelongsAtId by content.slots name id
+  belongs_in id place none = belongs name raw.slots content.slots id logged.slots (completed_parts raw content complete_slot).slots (subst (λ o. IsInsertionId by name o raw.slots id) none place)
 
-  pub absent_in : (id : ℕ) → IsNewId by name skip raw.slots id → IsAbsentExcept skip content.slots name
+  pub absent_in : (id : ℕ) → IsInsertionId by name skip raw.slots id → IsAbsentExcept skip content.slots name
   absent_in id place other s at entry not_passed same =
       let n = name_at_id raw.slots content.slots other s logged.slots (completed_parts raw content complete_slot).slots at in
       let m = ap (λ b. option_map_or (same_name name) (cond b None (Some s.name)) false) entry in

@@ -1,13 +1,13 @@
 -- From the pairs one by one to the writing profile.
 use Rattle.std.proofs.Common.{ℕ, zero, suc, ◌≡◌, ◌≢◌, ◌<◌, ◌≤◌, ◌+◌, ◌-◌, ◌∙◌, ◌&&◌, ◌⊎◌, inl, inr, Bool, true, false, List, [], ◌∷◌, length, take, drop, refl, sym, ap, subst, lt-ltb, ltb→lt, T, arith}
 use Rattle.std.specs.Prelude.{All, MatchOption, None, Option, nat_lt, map, slice_get, slice_index_or, Some}
-use Rattle.lfs_lookup.proofs.Common.{get_or-drop, get_or-take, length-map, length-take, slice_get-get_or, slice_get_within, RawSlot, complete_slot, complete_slots, Disk, BreaksProfile, FitsInPair, Inline, PairContent, Slot, is_superblock, is_superblock_kind, array_address, Pair, is_hard_tail, count_before_root, IsWritableSlot, IsWritable, BeginsWithSuperblock, IsAccepted, IsTreeEntry, complete_length, complete_parts, empty_anchor, BreaksPair, IsWritablePair, HasSuperblockStruct}
+use Rattle.lfs_lookup.proofs.Common.{get_or-drop, get_or-take, length-map, length-take, slice_get-get_or, slice_get_within, RawSlot, complete_slot, complete_slots, Disk, BreaksProfile, FitsInPair, Inline, PairContent, Slot, is_superblock, is_superblock_kind, address_view, Pair, is_hard_tail, count_before_root, IsWritableSlot, IsWritable, BeginsWithSuperblock, IsAccepted, IsTreeEntry, complete_length, complete_parts, empty_anchor, BreaksPair, IsWritablePair, HasSuperblockStruct}
 use Rattle.std.proofs.lemmas.List.{get_or_default, length-drop}
 use Rattle.std.proofs.lemmas.Option.{get_or_from_slice_get}
 use Rattle.lfs_device.specs.declared.geometry.Geometry.{Geometry}
 use Rattle.lfs_model.specs.declared.limits.AcceptedVersions.{AcceptedVersions}
 use Rattle.lfs_model.specs.declared.limits.Profile.{Profile}
-use Rattle.lfs_model.specs.layers.ProfileBreaches.{IsBreachIfAny, IsSmallEnough, IsEmptyPairAt, IsTooLarge}
+use Rattle.lfs_model.specs.layers.ProfileBreaches.{IsBreachIfAny, IsSmallContent, EmptyPairAt, IsTooLarge}
 use Rattle.lfs_model.specs.format.Slots.{Directory, File, SlotKind, Superblock}
 use Rattle.lfs_model.specs.tree.Profile.{HasNoEmpties}
 use Rattle.lfs_model.specs.tree.View.{HasKind}
@@ -172,12 +172,12 @@ broken N disk ps o b e h = subst (IsBreachIfAny disk ps) (sym e) (at_some N (Bre
 
 -- ---- what a pair breaks the image breaks
 
-charged : (profile : Profile) (block_size page : ℕ) (c : PairContent) (id : ℕ) (s : Slot) → slice_get c.slots id ≡ Some s → is_superblock s ≡ false → ¬ ChargeFits profile block_size page s → ¬ IsSmallEnough profile block_size page c
+charged : (profile : Profile) (block_size page : ℕ) (c : PairContent) (id : ℕ) (s : Slot) → slice_get c.slots id ≡ Some s → is_superblock s ≡ false → ¬ ChargeFits profile block_size page s → ¬ IsSmallContent profile block_size page c
 charged profile block_size page c id s there entry large small =
     large (subst (λ (t : Slot). is_superblock t ≡ false → ChargeFits profile block_size page t) (get_or_from_slice_get c.slots id s s there) (small.entries id s (slice_get_within c.slots id s there)) entry)
 
 empty_pair : (root : ℕ) (ps : List Pair) (i : ℕ) (at : ℕ × ℕ) → root ≡ count_before_root ps → i < length ps → at ≡ (slice_index_or ps i empty_anchor).at → follows_tail_at root ps i ≡ true
-    → (slice_index_or ps i empty_anchor).content.slots ≡ [] → IsEmptyPairAt ps at
+    → (slice_index_or ps i empty_anchor).content.slots ≡ [] → EmptyPairAt ps at
 empty_pair root ps i at is l same follows empty =
     let a = left (nat_lt root i) (is_hard_tail (slice_index_or ps (i - 1) empty_anchor).content.tail) follows in
     let less : root < i = ltb→lt root i (subst T (sym a) tt) in
@@ -205,7 +205,7 @@ slot_of_pair ps i at slot id s l same is there = record {
 }
 
 large_pair : (disk : Disk) (ps : List Pair) (i : ℕ) (at : ℕ × ℕ) → i < length ps → at ≡ (slice_index_or ps i empty_anchor).at
-    → ¬ IsSmallEnough disk.profile disk.block_size disk.page (slice_index_or ps i empty_anchor).content → IsTooLarge disk ps at
+    → ¬ IsSmallContent disk.profile disk.block_size disk.page (slice_index_or ps i empty_anchor).content → IsTooLarge disk ps at
 large_pair disk ps i at l same large = record {
   index = i;
   pair = slice_index_or ps i empty_anchor;
@@ -216,15 +216,15 @@ large_pair disk ps i at l same large = record {
 
 breaks_image : (disk : Disk) (root : ℕ) (ps : List Pair) (i : ℕ) (b : ProfileBreach) → root ≡ count_before_root ps → i < length ps
     → BreaksPair disk.profile disk.block_size disk.page (follows_tail_at root ps i) (slice_index_or ps i empty_anchor) b → BreaksProfile disk ps b
-breaks_image disk root ps i (breach.OtherLimits pair slot limit) is l (inl h) = (h.1.0, (slot_of_pair ps i (array_address pair) slot h.0 h.1.0 l h.1.1.1.0 h.1.1.1.1 h.1.1.0, h.1.1.1.2))
+breaks_image disk root ps i (breach.OtherLimits pair slot limit) is l (inl h) = (h.1.0, (slot_of_pair ps i (address_view pair) slot h.0 h.1.0 l h.1.1.1.0 h.1.1.1.1 h.1.1.0, h.1.1.1.2))
 breaks_image disk root ps i (breach.OtherLimits pair slot limit) is l (inr h) = absurd h
-breaks_image disk root ps i (breach.LongInline pair slot) is l (inl h) = (h.1.0, (slot_of_pair ps i (array_address pair) slot h.0 h.1.0 l h.1.1.1.0 h.1.1.1.1 h.1.1.0, h.1.1.1.2))
+breaks_image disk root ps i (breach.LongInline pair slot) is l (inl h) = (h.1.0, (slot_of_pair ps i (address_view pair) slot h.0 h.1.0 l h.1.1.1.0 h.1.1.1.1 h.1.1.0, h.1.1.1.2))
 breaks_image disk root ps i (breach.LongInline pair slot) is l (inr h) = absurd h
 breaks_image disk root ps i (breach.EmptyPair pair) is l (inl h) = absurd h.1.1.1
-breaks_image disk root ps i (breach.EmptyPair pair) is l (inr h) = empty_pair root ps i (array_address pair) is l h.0 h.1 h.2
+breaks_image disk root ps i (breach.EmptyPair pair) is l (inr h) = empty_pair root ps i (address_view pair) is l h.0 h.1 h.2
 breaks_image disk root ps i (breach.TooLarge pair) is l (inl h) =
-    large_pair disk ps i (array_address pair) l h.1.1.1.0 (charged disk.profile disk.block_size disk.page (slice_index_or ps i empty_anchor).content h.0 h.1.0 h.1.1.0 h.1.1.1.1 h.1.1.1.2)
-breaks_image disk root ps i (breach.TooLarge pair) is l (inr h) = large_pair disk ps i (array_address pair) l h.0 (λ small. h.1 small.pair)
+    large_pair disk ps i (address_view pair) l h.1.1.1.0 (charged disk.profile disk.block_size disk.page (slice_index_or ps i empty_anchor).content h.0 h.1.0 h.1.1.0 h.1.1.1.1 h.1.1.1.2)
+breaks_image disk root ps i (breach.TooLarge pair) is l (inr h) = large_pair disk ps i (address_view pair) l h.0 (λ small. h.1 small.pair)
 
 -- what a pair of the thread as it was read breaks, in the words of the thread before
 pub as_before : (disk : Disk) (root : ℕ) (qs ps : List Pair) (i : ℕ) (geometry : Geometry) (follows : Bool) → HasGeometry geometry disk → qs ≡ ps → follows ≡ follows_tail_at root qs i →

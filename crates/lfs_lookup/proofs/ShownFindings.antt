@@ -1,7 +1,7 @@
 -- What a look-up says of what is shown at a path.
 use Rattle.std.proofs.Common.{ℕ, ◌≡◌, ◌<◌, ◌≤◌, ◌+◌, ◌∙◌, Bool, nat_lt, List, [], ◌∷◌, ◌++◌, length, drop, map, Option, Some, None, Ok, Err, option_map, sym, ap, subst, arith}
 use Rattle.std.specs.Prelude.{IfOk, IfSome, Result, sum_by}
-use Rattle.lfs_lookup.proofs.Common.{length-map, sum_by-append, sum_by-cons, AreByteBlocks, sorted_names, pair_count_at, ancestor_paths, items_at, node_file_size, joined_count, Name, parents_refusal, slot_of, Gstate, Slot, Struct, Pair, pairs_gstate, count_before_root, Path, names_at, struct_node, directory_names, IsAccepted, struct_list_bytes, all_entries, disk_tree, run_length_is, KeptThread, IsLookupResult, IsStorage, IsFoundNode, IsPermutation, AreShorterFirst, NamedStruct, named_struct, AreInLimits, listed_item, joined_count_from, pair_entries_from, LeadsToPair, IsHiddenResult, HidesOnlySlot}
+use Rattle.lfs_lookup.proofs.Common.{length-map, sum_by-append, sum_by-cons, AreByteBlocks, sorted_names, directory_pair_count, ancestor_paths, items_at, node_file_size, joined_count, Name, parents_refusal, slot_of, Gstate, Slot, Struct, Pair, pairs_gstate, count_before_root, Path, names_at, struct_node, directory_names, IsAccepted, struct_list_bytes, all_entries, disk_tree, run_length_is, KeptThread, IsLookupResult, IsStorage, IsFoundNode, IsPermutation, AreShorterFirst, NamedStruct, named_struct, AreInLimits, name_and_size, joined_count_from, pair_entries_from, LeadsToPair, IsUnhiddenResult, HidesOnlySlot}
 use Rattle.lfs_device.specs.declared.error.Error.{Error}
 use Rattle.lfs_model.proofs.Orders.{length_in_order}
 use Rattle.lfs_model.specs.declared.order.NameOrder.TheVariants.{ShorterFirst}
@@ -31,11 +31,11 @@ pub few_own : (f : Path → ℕ) (path : Path) → sum_by f (ancestor_paths path
 few_own f path = let a = sum_by-append f (ancestor_paths path) (path ∷ []) in let b = sum_by-cons f path [] in omega (arith, a, b)
 
 -- what is shown where that slot counts as deleted which the global state names
-pub shows_at : (t : KeptThread) (names path : Path) (g : Gstate) (moved : Option SlotPosition) (r : Result VisiblePathLookup Error) → names ≡ path → g ≡ pairs_gstate t.pairs → HidesOnlySlot g moved 0 t.pairs → IfOk r (IsHiddenResult t moved names) → IfOk r (IsLookupResult t path)
+pub shows_at : (t : KeptThread) (names path : Path) (g : Gstate) (moved : Option SlotPosition) (r : Result VisiblePathLookup Error) → names ≡ path → g ≡ pairs_gstate t.pairs → HidesOnlySlot g moved 0 t.pairs → IfOk r (IsUnhiddenResult t moved names) → IfOk r (IsLookupResult t path)
 shows_at t names path g moved (Ok x) e is hides shows = record {
   moved = moved;
   hides = subst (λ (z : Gstate). HidesOnlySlot z moved 0 t.pairs) is hides;
-  shows = subst (λ p. IsHiddenResult t moved p x) e shows;
+  shows = subst (λ p. IsUnhiddenResult t moved p x) e shows;
 }
 shows_at t names path g moved (Err x) e is hides shows = tt
 
@@ -93,7 +93,7 @@ module _ (t : KeptThread) (path : Path) (ok : IsAccepted t.disk t.pairs) where
   first_within now (Some first) e on = subst (λ ps. first < length ps) (sym e) (within t.pairs on.at first on.begins)
 
   -- its pairs are those of the path's directory
-  pub few_from : (now : List Pair) (from : Option ℕ) → now ≡ t.pairs → IsFirstAt t path from → joined_count_from now from ≤ pair_count_at t.pairs path
+  pub few_from : (now : List Pair) (from : Option ℕ) → now ≡ t.pairs → IsFirstAt t path from → joined_count_from now from ≤ directory_pair_count t.pairs path
   few_from now None e h = omega arith
   few_from now (Some first) e on =
       let k = ap (λ ps. joined_count (drop first ps)) e ∙ run_length_is t.disk t.pairs path on.at first ok on.leads on.begins in
@@ -118,8 +118,8 @@ module _ (t : KeptThread) (path : Path) (ok : IsAccepted t.disk t.pairs) where
   short_from now (Some first) found shapes e on are by_name bytes = short_there t path ok now first found shapes e on are by_name bytes
 
   pub listed_from : (now : List Pair) (from : Option ℕ) (found shapes : List NamedStruct) (listed : List ops.ListedEntry) → now ≡ t.pairs → IsFirstAt t path from → found ≡ pair_entries_from now from
-      → AreShorterFirst found shapes → SizedLists t.disk → listed ≡ map listed_item shapes → listed ≡ items_at (disk_tree t.disk t.pairs) path
+      → AreShorterFirst found shapes → SizedLists t.disk → listed ≡ map name_and_size shapes → listed ≡ items_at (disk_tree t.disk t.pairs) path
   listed_from now None found shapes listed e h are by_name lists k =
-      k ∙ ap (map listed_item) (none_by_name found shapes are by_name)
+      k ∙ ap (map name_and_size) (none_by_name found shapes are by_name)
       ∙ sym (ap (map (λ name. let item : ops.ListedEntry = record { name = name; size = node_file_size (disk_tree t.disk t.pairs (path ++ name ∷ [])) } in item)) h)
   listed_from now (Some first) found shapes listed e on are by_name lists k = listed_there t path ok now first found shapes e on are by_name listed lists k

@@ -4,7 +4,7 @@ use Rattle.lfs_model.specs.format.Thread.{Pair, pairs_gstate}
 use Rattle.lfs_model.specs.tree.Tree.{Path}
 use Rattle.lfs_thread.specs.Kept.{KeptThread}
 use Rattle.lfs_lookup.specs.Listed.{pair_entries_from}
-use Rattle.lfs_lookup.specs.LookupPaths.{IsHiddenResult}
+use Rattle.lfs_lookup.specs.LookupPaths.{IsUnhiddenResult}
 use Rattle.lfs_lookup.specs.NameSearch.{HidesOnlySlot}
 use Rattle.lfs_lookup.specs.declared.entry.FileStorage.{FileStorage}
 use Rattle.lfs_lookup.specs.declared.entry.FileStorage.TheVariants as contents
@@ -19,7 +19,7 @@ use Rattle.lfs_lookup.specs.declared.search.SlotPosition.{SlotPosition}
 pub record IsLookupResult (t : KeptThread) (path : Path) (shown : VisiblePathLookup) : Type 0 where
   pub moved : Option SlotPosition
   pub hides : HidesOnlySlot (pairs_gstate t.pairs) moved 0 t.pairs
-  pub shows : IsHiddenResult t moved path shown
+  pub shows : IsUnhiddenResult t moved path shown
 
 -- whether the directory that begins with the pair of that number has an entry, if there is one
 abbrev pub has_entries_from : List Pair → Option ℕ → Bool

@@ -4,7 +4,7 @@ use Rattle.std.specs.List.{AllByRecursion}
 use Rattle.std.specs.Option.{option_map_or}
 use Rattle.lfs_device.specs.declared.error.Error.{Error}
 use Rattle.lfs_model.specs.layers.Cache.{CachedBlocks, cache_limit, cached_bytes}
-use Rattle.lfs_model.specs.crash.Frame.{directory_pairs, pair_count_at}
+use Rattle.lfs_model.specs.crash.Frame.{directory_pairs, directory_pair_count}
 use Rattle.lfs_model.specs.format.Disk.{Disk}
 use Rattle.lfs_model.specs.session.History.{read_count}
 use Rattle.lfs_model.specs.tree.Shown.{all_entries}
@@ -57,7 +57,7 @@ AreDirectoriesCached t paths = AreDirectoriesRecent cache_limit t.kept.disk t.ca
 -- at most eight directories of one pair each
 pub record AreFewSmall (ps : List Pair) (paths : List Path) : Type 0 where
   pub few : length paths ≤ cache_limit
-  pub small : AllByRecursion (λ p. pair_count_at ps p ≡ 1) paths
+  pub small : AllByRecursion (λ p. directory_pair_count ps p ≡ 1) paths
 
 -- Where all pairs of these directories are cached no block is read, and pairs that were cached still are. Small directories are
 -- the last that were used, where the way led through all of them.

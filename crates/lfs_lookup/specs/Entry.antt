@@ -1,6 +1,6 @@
 -- What a caller gets of a slot's struct.
 use Rattle.std.specs.Prelude.{ℕ, ◌≡◌, ◌<◌, List, length}
-use Rattle.lfs_model.specs.format.Slots.{Struct, Inline, Ctz, Branch, array_address}
+use Rattle.lfs_model.specs.format.Slots.{Struct, Inline, Ctz, Branch, address_view}
 use Rattle.lfs_lookup.specs.declared.entry.FileStorage.{FileStorage}
 use Rattle.lfs_lookup.specs.declared.entry.FileStorage.TheVariants as contents
 use Rattle.lfs_lookup.specs.declared.entry.FileOrDirectory.{FileOrDirectory}
@@ -12,4 +12,4 @@ IsStorage (contents.List head size) t = t ≡ Ctz head size
 
 abbrev pub IsStructEntry : FileOrDirectory → Struct → Type 0
 IsStructEntry (entry.File contents) t = IsStorage contents t
-IsStructEntry (entry.Directory at) t = t ≡ Branch (array_address at)
+IsStructEntry (entry.Directory at) t = t ≡ Branch (address_view at)

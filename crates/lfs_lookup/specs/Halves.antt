@@ -1,7 +1,7 @@
 -- How many reads a search by halves takes.
 use Rattle.std.specs.Prelude.{ℕ, zero, suc, ◌≡◌, ◌+◌, ◌/◌, ◌<◌, ◌≤◌, false, List, [], ◌∷◌, drop, length, sum_by}
 use Rattle.std.specs.List.{AllByRecursion}
-use Rattle.lfs_model.specs.crash.Frame.{pair_count_at}
+use Rattle.lfs_model.specs.crash.Frame.{directory_pair_count}
 use Rattle.lfs_model.specs.session.History.{read_count}
 use Rattle.lfs_model.specs.session.InDirectory.{last_joins, joined_count}
 use Rattle.lfs_model.specs.format.Thread.{Pair}
@@ -21,16 +21,16 @@ abbrev pub halving_count : ℕ → ℕ
 halving_count n = halvings_within n n
 
 -- each of these pairs has a slot
-abbrev pub HaveSlots : List Pair → Type 0
-HaveSlots ps = AllByRecursion (λ p. 0 < length p.content.slots) ps
+abbrev pub EachHasSlot : List Pair → Type 0
+EachHasSlot ps = AllByRecursion (λ p. 0 < length p.content.slots) ps
 
 -- each pair of the directories at these paths has a slot
 abbrev pub PathsHaveSlots : List Pair → List Path → Type 0
-PathsHaveSlots ps paths = AllByRecursion (λ p. HaveSlots (pairs_at ps p)) paths
+PathsHaveSlots ps paths = AllByRecursion (λ p. EachHasSlot (pairs_at ps p)) paths
 
 -- how often the pairs of the directory at a path can be halved
 abbrev pub pairs_halvings : List Pair → Path → ℕ
-pairs_halvings ps path = halving_count (pair_count_at ps path)
+pairs_halvings ps path = halving_count (directory_pair_count ps path)
 
 -- the last of these pairs, if there is one, has no hard tail
 abbrev pub EndsWithoutTail : List Pair → Type 0
@@ -43,4 +43,4 @@ ReadsBinarySearches old new paths = PathsHaveSlots old.kept.pairs paths → read
 
 -- Where each pair of the directory that begins with the pair of number `first` has a slot, the reads are at most its halvings.
 abbrev pub ReadsBinarySearch : ThreadView → ThreadView → ℕ → Type 0
-ReadsBinarySearch old new first = HaveSlots (joined_pairs (drop first old.kept.pairs)) → read_count new.kept.history ≤ read_count old.kept.history + halving_count (joined_count (drop first old.kept.pairs))
+ReadsBinarySearch old new first = EachHasSlot (joined_pairs (drop first old.kept.pairs)) → read_count new.kept.history ≤ read_count old.kept.history + halving_count (joined_count (drop first old.kept.pairs))

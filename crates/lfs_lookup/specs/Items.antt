@@ -4,7 +4,7 @@ use Rattle.std.specs.List.{flat_map, remove}
 use Rattle.std.specs.Option.{option_and_then}
 use Rattle.lfs_model.specs.format.Content.{RawSlot, complete_slot}
 use Rattle.lfs_model.specs.format.Names.{Name}
-use Rattle.lfs_model.specs.format.Slots.{Slot, Struct, array_address, is_superblock}
+use Rattle.lfs_model.specs.format.Slots.{Slot, Struct, address_view, is_superblock}
 use Rattle.lfs_model.specs.format.Slots as slots
 use Rattle.lfs_lookup.specs.declared.items.NameAndOwnedStruct.{NameAndOwnedStruct}
 use Rattle.lfs_lookup.specs.declared.items.OwnedStruct.{OwnedStruct}
@@ -21,13 +21,13 @@ named_struct s = record { name = s.name; struct = s.struct }
 abbrev pub owned_view : OwnedStruct → Struct
 owned_view (variant.Inline bytes) = slots.Inline bytes.items
 owned_view (variant.Ctz head size) = slots.Ctz head size
-owned_view (variant.Branch to) = slots.Branch (array_address to)
+owned_view (variant.Branch to) = slots.Branch (address_view to)
 
-abbrev pub directory_item_view : NameAndOwnedStruct → NamedStruct
-directory_item_view i = record { name = i.name.items; struct = owned_view i.structure }
+abbrev pub item_view : NameAndOwnedStruct → NamedStruct
+item_view i = record { name = i.name.items; struct = owned_view i.structure }
 
-abbrev pub directory_items_view : List NameAndOwnedStruct → List NamedStruct
-directory_items_view items = map directory_item_view items
+abbrev pub items_view : List NameAndOwnedStruct → List NamedStruct
+items_view items = map item_view items
 
 -- the entry of a slot, if it isn't the superblock's
 abbrev pub entry_unless_superblock : Slot → Option NamedStruct
@@ -50,5 +50,5 @@ slots_except None slots = slots
 slots_except (Some id) slots = remove slots id
 
 -- the entries among slots of which one may be moved away
-abbrev pub entries_without_moved : Option ℕ → List Slot → List NamedStruct
-entries_without_moved moved slots = map named_struct (filter (λ s. not (is_superblock s)) (slots_except moved slots))
+abbrev pub unhidden_entries : Option ℕ → List Slot → List NamedStruct
+unhidden_entries moved slots = map named_struct (filter (λ s. not (is_superblock s)) (slots_except moved slots))

@@ -11,8 +11,8 @@ listed_struct_size (Inline bytes) = Some (length bytes)
 listed_struct_size (Ctz head size) = Some size
 listed_struct_size (Branch to) = None
 
-abbrev pub listed_item : NamedStruct → ops.ListedEntry
-listed_item x = record { name = x.name; size = listed_struct_size x.struct }
+abbrev pub name_and_size : NamedStruct → ops.ListedEntry
+name_and_size x = record { name = x.name; size = listed_struct_size x.struct }
 
 -- inline bytes are in an entry
 abbrev pub StructFitsTag : Struct → Type 0

@@ -50,15 +50,15 @@ parent_refusal (parent.Directory first) = None
 parent_refusal parent.File = Some NotDir
 parent_refusal parent.Nothing = Some NoEnt
 
-abbrev pub IfParent : Parent → (ℕ → Type 0) → Type 0
-IfParent (parent.Directory first) P = P first
-IfParent parent.File P = Unit {0}
-IfParent parent.Nothing P = Unit {0}
+abbrev pub IfDirectory : Parent → (ℕ → Type 0) → Type 0
+IfDirectory (parent.Directory first) P = P first
+IfDirectory parent.File P = Unit {0}
+IfDirectory parent.Nothing P = Unit {0}
 
 -- what the directories of a path lead to
 pub record ParentReached (t : KeptThread) (path : Path) (parent : Parent) : Type 0 where
   pub fault : (name : Name) → parents_refusal (disk_tree t.disk t.pairs) [] (path ++ name ∷ []) ≡ parent_refusal parent
-  pub begins : IfParent parent (LeadsToPair t.pairs path)
+  pub begins : IfDirectory parent (LeadsToPair t.pairs path)
 
 -- ---- what is found
 
@@ -90,7 +90,7 @@ lookup_refusal found.ParentIsMissing = Some NoEnt
 lookup_refusal _ = None
 
 -- the last name of the path has that entry
-pub record IsLastEntry (order : NameOrder) (ps : List Pair) (path : Path) (found : PathLookup) : Type 0 where
+pub record IsPathEntry (order : NameOrder) (ps : List Pair) (path : Path) (found : PathLookup) : Type 0 where
   pub above : Path
   pub name : Name
   pub is : path ≡ above ++ name ∷ []
@@ -101,7 +101,7 @@ abbrev pub IsFoundOrRefused : KeptThread → Path → PathLookup → Type 0
 IsFoundOrRefused t path found.Root = path ≡ []
 IsFoundOrRefused t path found.ParentIsFile = Unit {0}
 IsFoundOrRefused t path found.ParentIsMissing = Unit {0}
-IsFoundOrRefused t path there = IsLastEntry t.disk.order t.pairs path there
+IsFoundOrRefused t path there = IsPathEntry t.disk.order t.pairs path there
 
 -- what a path leads to
 pub record LeadsToResult (t : KeptThread) (path : Path) (found : PathLookup) : Type 0 where
@@ -112,7 +112,7 @@ pub record LeadsToResult (t : KeptThread) (path : Path) (found : PathLookup) : T
 
 -- The last name of the path is at the spot, in the directory at the path above, and not in the slot that counts as deleted. This
 -- slot is the slot of the path.
-pub record IsUnmovedSpot (ps : List Pair) (moved : Option SlotPosition) (path : Path) (spot : SlotPosition) : Type 0 where
+pub record IsUnhiddenSpot (ps : List Pair) (moved : Option SlotPosition) (path : Path) (spot : SlotPosition) : Type 0 where
   pub above : Path
   pub name : Name
   pub is : path ≡ above ++ name ∷ []
@@ -124,16 +124,16 @@ pub record IsUnmovedSpot (ps : List Pair) (moved : Option SlotPosition) (path : 
 
 -- the entry at a path below the root
 abbrev pub IsVisibleEntry : List Pair → Option SlotPosition → Path → VisiblePathLookup → Type 0
-IsVisibleEntry ps moved path (shown.Directory spot first) = IsUnmovedSpot ps moved path spot × LeadsToPair ps path first
-IsVisibleEntry ps moved path (shown.File spot contents) = (s : IsUnmovedSpot ps moved path spot) × IsStorage contents s.stands.stands.slot.struct
+IsVisibleEntry ps moved path (shown.Directory spot first) = IsUnhiddenSpot ps moved path spot × LeadsToPair ps path first
+IsVisibleEntry ps moved path (shown.File spot contents) = (s : IsUnhiddenSpot ps moved path spot) × IsStorage contents s.stands.stands.slot.struct
 IsVisibleEntry ps moved path shown.Nothing = slot_of ps path ≡ None
 IsVisibleEntry ps moved path shown.Root = ⊥
 IsVisibleEntry ps moved path shown.ParentIsFile = ⊥
 IsVisibleEntry ps moved path shown.ParentIsMissing = ⊥
 
 -- what a path leads to; a parent refuses it, or not
-abbrev pub IsHiddenResult : KeptThread → Option SlotPosition → Path → VisiblePathLookup → Type 0
-IsHiddenResult t moved path shown.Root = path ≡ []
-IsHiddenResult t moved path shown.ParentIsFile = parents_refusal (disk_tree t.disk t.pairs) [] path ≡ Some NotDir
-IsHiddenResult t moved path shown.ParentIsMissing = parents_refusal (disk_tree t.disk t.pairs) [] path ≡ Some NoEnt
-IsHiddenResult t moved path there = (parents_refusal (disk_tree t.disk t.pairs) [] path ≡ None) × IsVisibleEntry t.pairs moved path there
+abbrev pub IsUnhiddenResult : KeptThread → Option SlotPosition → Path → VisiblePathLookup → Type 0
+IsUnhiddenResult t moved path shown.Root = path ≡ []
+IsUnhiddenResult t moved path shown.ParentIsFile = parents_refusal (disk_tree t.disk t.pairs) [] path ≡ Some NotDir
+IsUnhiddenResult t moved path shown.ParentIsMissing = parents_refusal (disk_tree t.disk t.pairs) [] path ≡ Some NoEnt
+IsUnhiddenResult t moved path there = (parents_refusal (disk_tree t.disk t.pairs) [] path ≡ None) × IsVisibleEntry t.pairs moved path there

@@ -1,10 +1,10 @@
 -- What of the writing profile a slot, a pair or an image breaks, as it is read.
 use Rattle.std.specs.Prelude.{ℕ, ◌≡◌, ◌≢◌, ◌⊎◌, ◌-◌, ◌≤◌, ◌&&◌, nat_lt, Bool, true, false, List, [], Option, Some, length, slice_get, slice_index_or, All, MatchOption}
-use Rattle.lfs_model.specs.format.Disk.{attr_max_of, charge_limit, file_max_of, inline_limit, name_max_of}
+use Rattle.lfs_model.specs.format.Disk.{profile_attr_max, charge_limit, profile_file_max, inline_limit, profile_name_max}
 use Rattle.lfs_model.specs.format.EntryTypes.{SuperblockFields}
 use Rattle.lfs_model.specs.tree.Profile.{IsWritableSlot}
 use Rattle.lfs_model.specs.layers.ProfileBreaches.{HasLongInline, HasOtherLimit}
-use Rattle.lfs_model.specs.format.Slots.{PairContent, FitsInPair, Inline, Slot, entry_charge, is_superblock, array_address}
+use Rattle.lfs_model.specs.format.Slots.{PairContent, FitsInPair, Inline, Slot, entry_charge, is_superblock, address_view}
 use Rattle.lfs_model.specs.format.Thread.{Pair, is_hard_tail}
 use Rattle.lfs_model.specs.declared.breaches.ProfileBreach.{ProfileBreach}
 use Rattle.lfs_model.specs.declared.breaches.ProfileBreach.TheVariants as breach
@@ -19,17 +19,17 @@ HasSuperblockStruct s = is_superblock s ≡ true → (bytes : List ℕ) × ((s.s
 
 -- these fields have the limits with which the profile writes
 abbrev pub HasProfileLimits : Profile → SuperblockFields → Type 0
-HasProfileLimits profile fields = (fields.name_max ≡ name_max_of profile) × (fields.file_max ≡ file_max_of profile) × (fields.attr_max ≡ attr_max_of profile)
+HasProfileLimits profile fields = (fields.name_max ≡ profile_name_max profile) × (fields.file_max ≡ profile_file_max profile) × (fields.attr_max ≡ profile_attr_max profile)
 
 abbrev pub ChargeFits : Profile → ℕ → ℕ → Slot → Type 0
 ChargeFits profile block_size page s = entry_charge profile block_size s.name s.attributes ≤ charge_limit block_size page
 
 -- the slot of that number in the pair at an address breaks that rule
 abbrev pub BreaksSlot : Profile → ℕ → ℕ → ℕ × ℕ → ℕ → Slot → ProfileBreach → Type 0
-BreaksSlot profile block_size page at id s (breach.OtherLimits pair slot limit) = (array_address pair ≡ at) × (slot ≡ id) × HasOtherLimit profile limit s
-BreaksSlot profile block_size page at id s (breach.LongInline pair slot) = (array_address pair ≡ at) × (slot ≡ id) × HasLongInline (inline_limit profile block_size) s
+BreaksSlot profile block_size page at id s (breach.OtherLimits pair slot limit) = (address_view pair ≡ at) × (slot ≡ id) × HasOtherLimit profile limit s
+BreaksSlot profile block_size page at id s (breach.LongInline pair slot) = (address_view pair ≡ at) × (slot ≡ id) × HasLongInline (inline_limit profile block_size) s
 BreaksSlot profile block_size page at id s (breach.EmptyPair pair) = ⊥
-BreaksSlot profile block_size page at id s (breach.TooLarge pair) = (array_address pair ≡ at) × (is_superblock s ≡ false) × ¬ ChargeFits profile block_size page s
+BreaksSlot profile block_size page at id s (breach.TooLarge pair) = (address_view pair ≡ at) × (is_superblock s ≡ false) × ¬ ChargeFits profile block_size page s
 
 -- the slot is in the profile, or breaks that rule
 abbrev pub IsSlotBreach : Profile → ℕ → ℕ → ℕ × ℕ → ℕ → Slot → Option ProfileBreach → Type 0
@@ -38,11 +38,11 @@ IsSlotBreach profile block_size page at id s b = MatchOption b (IsWritableSlot p
 -- ---- pairs
 
 -- one of the slots of the pair at an address breaks that rule
-abbrev pub BreaksSome : Profile → ℕ → ℕ → ℕ × ℕ → List Slot → ProfileBreach → Type 0
-BreaksSome profile block_size page at slots b = (id : ℕ) × ((s : Slot) × ((slice_get slots id ≡ Some s) × BreaksSlot profile block_size page at id s b))
+abbrev pub BreaksSlots : Profile → ℕ → ℕ → ℕ × ℕ → List Slot → ProfileBreach → Type 0
+BreaksSlots profile block_size page at slots b = (id : ℕ) × ((s : Slot) × ((slice_get slots id ≡ Some s) × BreaksSlot profile block_size page at id s b))
 
 abbrev pub IsSlotsBreach : Profile → ℕ → ℕ → ℕ × ℕ → List Slot → Option ProfileBreach → Type 0
-IsSlotsBreach profile block_size page at slots b = MatchOption b (All (IsWritableSlot profile block_size page) slots) (BreaksSome profile block_size page at slots)
+IsSlotsBreach profile block_size page at slots b = MatchOption b (All (IsWritableSlot profile block_size page) slots) (BreaksSlots profile block_size page at slots)
 
 -- A pair is in the profile; `follows` tells whether a hard tail names it.
 pub record IsWritablePair (profile : Profile) (block_size page : ℕ) (follows : Bool) (c : PairContent) : Type 0 where
@@ -52,13 +52,13 @@ pub record IsWritablePair (profile : Profile) (block_size page : ℕ) (follows :
 
 -- the pair as a whole breaks that rule
 abbrev pub BreaksWhole : ℕ → ℕ → Bool → Pair → ProfileBreach → Type 0
-BreaksWhole block_size page follows p (breach.EmptyPair pair) = (array_address pair ≡ p.at) × (follows ≡ true) × (p.content.slots ≡ [])
-BreaksWhole block_size page follows p (breach.TooLarge pair) = (array_address pair ≡ p.at) × ¬ FitsInPair block_size page p.content
+BreaksWhole block_size page follows p (breach.EmptyPair pair) = (address_view pair ≡ p.at) × (follows ≡ true) × (p.content.slots ≡ [])
+BreaksWhole block_size page follows p (breach.TooLarge pair) = (address_view pair ≡ p.at) × ¬ FitsInPair block_size page p.content
 BreaksWhole block_size page follows p _ = ⊥
 
 -- the pair, or a slot of it, breaks that rule
 abbrev pub BreaksPair : Profile → ℕ → ℕ → Bool → Pair → ProfileBreach → Type 0
-BreaksPair profile block_size page follows p b = BreaksSome profile block_size page p.at p.content.slots b ⊎ BreaksWhole block_size page follows p b
+BreaksPair profile block_size page follows p b = BreaksSlots profile block_size page p.at p.content.slots b ⊎ BreaksWhole block_size page follows p b
 
 -- the pair is in the profile, or breaks that rule
 abbrev pub IsPairBreach : Profile → ℕ → ℕ → Bool → Pair → Option ProfileBreach → Type 0

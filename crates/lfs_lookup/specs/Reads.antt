@@ -1,7 +1,7 @@
 -- How few pairs a search reads.
 use Rattle.std.specs.Prelude.{ℕ, ◌≡◌, ◌+◌, ◌≤◌, List, Option, None, Result, drop, sum_by}
 use Rattle.lfs_device.specs.declared.error.Error.{Error}
-use Rattle.lfs_model.specs.crash.Frame.{pair_count_at}
+use Rattle.lfs_model.specs.crash.Frame.{directory_pair_count}
 use Rattle.lfs_model.specs.session.History.{read_count}
 use Rattle.lfs_model.specs.session.InDirectory.{joined_count}
 use Rattle.lfs_model.specs.format.Slots.{zero_gstate}
@@ -23,12 +23,12 @@ pub record ReadsDirectoryOnce {X : Type 0} (moved : Option SlotPosition) (first 
 -- The search reads each pair of the directories at these paths at most once, and none where all are cached. Where it is settled
 -- that no slot is moved it goes by halves.
 pub record ReadsDirectoriesOnce {X : Type 0} (settled : Type 0) (through : X → Type 0) (paths : List Path) (old new : ThreadView) (result : Result X Error) : Type 0 where
-  pub few : read_count new.kept.history ≤ read_count old.kept.history + sum_by (pair_count_at old.kept.pairs) paths
+  pub few : read_count new.kept.history ≤ read_count old.kept.history + sum_by (directory_pair_count old.kept.pairs) paths
   pub halves : settled → ReadsBinarySearches old new paths
   pub loads : KeepsCachedDirectories through paths old new result
 
 -- The same of a search that says nothing of what it leaves cached. Where nothing is to be recovered it goes by halves.
 pub record ReadsPathsOnce (paths : List Path) (old new : ThreadView) : Type 0 where
-  pub few : read_count new.kept.history ≤ read_count old.kept.history + sum_by (pair_count_at old.kept.pairs) paths
+  pub few : read_count new.kept.history ≤ read_count old.kept.history + sum_by (directory_pair_count old.kept.pairs) paths
   pub halves : pairs_gstate old.kept.pairs ≡ zero_gstate → ReadsBinarySearches old new paths
   pub kept : AreDirectoriesCached old paths → read_count new.kept.history ≡ read_count old.kept.history

@@ -19,7 +19,7 @@ pub record CanReadCachedSlot (t : ThreadView) (slot : Option SlotPosition) : Typ
   pub cached_log : IfSome slot (λ s. IsSome (cached_log t s.pair))
 
 -- the thread works, its image is accepted, and that slot and no other counts as deleted
-pub record CanSearchHidden (t : ThreadView) (moved : Option SlotPosition) : Type 0 where
+pub record CanSearchUnhidden (t : ThreadView) (moved : Option SlotPosition) : Type 0 where
   pub works : t.failed ≡ false
   pub hiding : HidesMovedSlot t.kept moved
 

@@ -38,7 +38,7 @@ fn total_attributes_size(attributes: &[Attribute<'_>]) -> usize
 }
 
 // Returns the size of the attributes of the slot at an id. There is no slot past the last.
-fn size_in_slots(slots: &[Slot<'_>], id: u16) -> usize
+fn slot_attributes_size(slots: &[Slot<'_>], id: u16) -> usize
     requires { AreWellFormed (map slot_view slots.now) }
     ensures { result ≡ attributes_size (slot_of_id (map slot_view slots.now) id).attributes }
 {
@@ -49,17 +49,17 @@ fn size_in_slots(slots: &[Slot<'_>], id: u16) -> usize
 }
 
 // Returns the size of the attributes of a slot of a log.
-fn size_in_log(alloc: Global, log: &Log<'_>, id: u16) -> Result<usize, Error>
+fn log_attributes_size(alloc: Global, log: &Log<'_>, id: u16) -> Result<usize, Error>
     requires { HasCompleteLog log.now }
     ensures is { (content : ModelContent) (slot : ModelSlot) → IsContentLog log.now content → slice_get content.slots id ≡ Some slot → IfOk result (IsAttributesSize slot.attributes) }
     ensures errors { IfErr result (λ e. e ≡ Error.NoMemory) }
 {
     let content = Content::read(alloc, log)?;
-    Ok(size_in_slots(&content.slots, id))
+    Ok(slot_attributes_size(&content.slots, id))
 }
 
 // Returns the size of the attributes of a slot, whose block is loaded into the cache.
-fn attributes_size_in<D: BlockDevice>(
+fn cached_attributes_size<D: BlockDevice>(
     alloc: Global,
     thread: &mut Thread<D>,
     slot: SlotPosition,
@@ -72,7 +72,7 @@ fn attributes_size_in<D: BlockDevice>(
     ensures reading { ReadsOrReports thread.old thread.new result }
 {
     thread.load_pair(slot.pair)?;
-    size_in_log(alloc, &thread.lend(slot.pair).unwrap(), slot.id)
+    log_attributes_size(alloc, &thread.lend(slot.pair).unwrap(), slot.id)
 }
 
 /// Returns how many bytes the attributes of the entry at a path take in its pair, each with its tag
@@ -98,5 +98,5 @@ pub fn attributes_size_at<D: BlockDevice>(
     let Some(slot) = spot_if_found(shown) else {
         return Ok(0);
     };
-    attributes_size_in(alloc, thread, slot)
+    cached_attributes_size(alloc, thread, slot)
 }

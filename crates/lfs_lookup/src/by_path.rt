@@ -1,7 +1,7 @@
 // What paths lead to, in a thread.
 
 ghost use Rattle.std.specs.Prelude.{◌≡◌, ◌≤◌, ◌+◌, ◌++◌, [], ◌∷◌, IfOk, None, sum_by};
-ghost use Rattle.lfs_model.specs.crash.Frame.{pair_count_at, ancestor_paths};
+ghost use Rattle.lfs_model.specs.crash.Frame.{directory_pair_count, ancestor_paths};
 ghost use Rattle.lfs_model.specs.session.History.{read_count};
 ghost use Rattle.lfs_model.specs.format.Slots.{zero_gstate};
 ghost use Rattle.lfs_model.specs.format.Thread.{pairs_gstate};
@@ -18,7 +18,7 @@ use crate::directory::has_entries;
 use crate::entry::FileStorage;
 use crate::found_entries::{FoundNode, Node, NodeAndEmptiness};
 use crate::path::Path;
-use crate::paths::{VisiblePathLookup, look_up_unmoved, moved_slot_spot};
+use crate::paths::{VisiblePathLookup, look_up_unhidden, moved_slot_spot};
 use crate::refusal::{Refusal, to_refusal};
 use lfs_device::{BlockDevice, Error};
 use lfs_thread::Thread;
@@ -48,7 +48,7 @@ pub fn look_up_path<D: BlockDevice>(
     let names = path.names(alloc)?;
     let state = thread.state();
     let moved = moved_slot_spot(thread, &state);
-    look_up_unmoved(thread, root, &names, moved)
+    look_up_unhidden(thread, root, &names, moved)
 }
 
 // Returns how many bytes a file has.
@@ -161,7 +161,7 @@ pub fn path_has_entries<D: BlockDevice>(
     requires { CanSearchFromRoot thread.old root }
     ensures found { IfOk result (λ inside. IsFoundNode (disk_tree thread.old.kept.disk thread.old.kept.pairs) path.now inside.finding) }
     ensures has { IfOk result (λ inside. inside.has_entries ≡ has_entry_beneath (disk_tree thread.old.kept.disk thread.old.kept.pairs) path.now) }
-    ensures few { read_count thread.new.kept.history ≤ read_count thread.old.kept.history + sum_by (pair_count_at thread.old.kept.pairs) (ancestor_paths path.now ++ path.now ∷ []) }
+    ensures few { read_count thread.new.kept.history ≤ read_count thread.old.kept.history + sum_by (directory_pair_count thread.old.kept.pairs) (ancestor_paths path.now ++ path.now ∷ []) }
     ensures reading { ReadsOrReports thread.old thread.new result }
 {
     let shown = look_up_path(alloc, thread, root, path)?;

@@ -1,14 +1,14 @@
 // The entries of a pair and of a directory, and where a directory begins.
 
 ghost use Rattle.std.specs.Prelude.{◌≡◌, ◌<◌, ◌≤◌, ◌+◌, ◌∷◌, [], Some, IfOk, IfSome, drop, false, length, map};
-ghost use Rattle.lfs_model.specs.format.Slots.{array_address};
+ghost use Rattle.lfs_model.specs.format.Slots.{address_view};
 ghost use Rattle.lfs_model.specs.format.Thread.{pairs_gstate, unmoved_entries};
 ghost use Rattle.lfs_model.specs.session.History.{read_count};
 ghost use Rattle.lfs_tag.specs.FieldsView.{move_view};
 ghost use Rattle.lfs_thread.specs.ThreadSteps.{thread_pair};
 ghost use Rattle.lfs_lookup.specs.CachedPairs.{ArePairsCached, KeepsCachedPairs};
 ghost use Rattle.lfs_lookup.specs.AtPath.{has_entries_from};
-ghost use Rattle.lfs_lookup.specs.Items.{directory_items_view, named_struct};
+ghost use Rattle.lfs_lookup.specs.Items.{items_view, named_struct};
 ghost use Rattle.lfs_lookup.specs.Listed.{AreDirectoryEntries, joined_pairs, joined_count_from, moved_slot_id, joined_pairs_from, pair_entries_from};
 ghost use Rattle.lfs_lookup.specs.LookupReading.{ReadsOrReports};
 ghost use Rattle.lfs_lookup.specs.Searchable.{CanReadPair};
@@ -24,7 +24,7 @@ use std::alloc::Global;
 // Returns the id of the slot that a set move names in the pair at an address, if it names one
 // there.
 fn moved_id_in(state: &MoveState, at: [u32; 2]) -> Option<usize>
-    ensures { result ≡ moved_slot_id (move_view state.now) (array_address at) }
+    ensures { result ≡ moved_slot_id (move_view state.now) (address_view at) }
 {
     if state.kind == DELETE && is_same_pair(state.pair, at) {
         Some(usize::from(state.id))
@@ -42,7 +42,7 @@ fn pair_items<D: BlockDevice>(
 ) -> Result<Vec<NameAndOwnedStruct>, Error>
     requires can { CanReadPair thread.old index }
     requires state { move_view state.now ≡ pairs_gstate thread.old.kept.pairs }
-    ensures items { IfOk result (λ items. directory_items_view items.items ≡ map named_struct (unmoved_entries (pairs_gstate thread.old.kept.pairs) (thread_pair thread.old.kept index))) }
+    ensures items { IfOk result (λ items. items_view items.items ≡ map named_struct (unmoved_entries (pairs_gstate thread.old.kept.pairs) (thread_pair thread.old.kept index))) }
     ensures few { read_count thread.new.kept.history ≤ read_count thread.old.kept.history + 1 }
     ensures loads { KeepsCachedPairs (thread_pair thread.old.kept index ∷ []) thread.old thread.new result }
     ensures reading { ReadsOrReports thread.old thread.new result }
@@ -57,14 +57,14 @@ fn pair_items<D: BlockDevice>(
 ///
 /// Errors: `Io` where the read of the pair's block failed. `NoMemory` where memory for the block,
 /// its slots or the entries isn't granted.
-pub fn unmoved_pair_items<D: BlockDevice>(
+pub fn unhidden_pair_items<D: BlockDevice>(
     alloc: Global,
     thread: &mut Thread<D>,
     index: usize,
 ) -> Result<Vec<NameAndOwnedStruct>, Error>
     requires works { thread.old.failed ≡ false }
     requires below { index < length thread.old.kept.pairs }
-    ensures items { IfOk result (λ items. directory_items_view items.items ≡ map named_struct (unmoved_entries (pairs_gstate thread.old.kept.pairs) (thread_pair thread.old.kept index))) }
+    ensures items { IfOk result (λ items. items_view items.items ≡ map named_struct (unmoved_entries (pairs_gstate thread.old.kept.pairs) (thread_pair thread.old.kept index))) }
     ensures few { read_count thread.new.kept.history ≤ read_count thread.old.kept.history + 1 }
     ensures reading { ReadsOrReports thread.old thread.new result }
 {
@@ -85,7 +85,7 @@ pub fn directory_items<D: BlockDevice>(
 ) -> Result<Vec<NameAndOwnedStruct>, Error>
     requires can { CanReadPair thread.old first }
     requires state { move_view state.now ≡ pairs_gstate thread.old.kept.pairs }
-    ensures items { IfOk result (λ items. directory_items_view items.items ≡ pair_entries_from thread.old.kept.pairs (Some first)) }
+    ensures items { IfOk result (λ items. items_view items.items ≡ pair_entries_from thread.old.kept.pairs (Some first)) }
     ensures few { read_count thread.new.kept.history ≤ read_count thread.old.kept.history + joined_count_from thread.old.kept.pairs (Some first) }
     ensures kept { ArePairsCached thread.old (joined_pairs (drop first thread.old.kept.pairs)) → read_count thread.new.kept.history ≡ read_count thread.old.kept.history }
     ensures reading { ReadsOrReports thread.old thread.new result }
@@ -105,15 +105,15 @@ pub fn directory_items<D: BlockDevice>(
 /// LFS_TYPE_HARDTAIL"). In an accepted image they are in the disk's order of names. The call reads
 /// no more pairs than these, and none where all are cached.
 ///
-/// Errors are those of [`unmoved_pair_items`].
+/// Errors are those of [`unhidden_pair_items`].
 pub fn directory_pair_entries<D: BlockDevice>(
     alloc: Global,
     thread: &mut Thread<D>,
     first: usize,
 ) -> Result<Vec<NameAndOwnedStruct>, Error>
     requires { CanReadPair thread.old first }
-    ensures items { IfOk result (λ items. directory_items_view items.items ≡ pair_entries_from thread.old.kept.pairs (Some first)) }
-    ensures entries { IfOk result (λ items. AreDirectoryEntries thread.old.kept.disk thread.old.kept.pairs first (directory_items_view items.items)) }
+    ensures items { IfOk result (λ items. items_view items.items ≡ pair_entries_from thread.old.kept.pairs (Some first)) }
+    ensures entries { IfOk result (λ items. AreDirectoryEntries thread.old.kept.disk thread.old.kept.pairs first (items_view items.items)) }
     ensures few { read_count thread.new.kept.history ≤ read_count thread.old.kept.history + joined_count_from thread.old.kept.pairs (Some first) }
     ensures kept { ArePairsCached thread.old (joined_pairs (drop first thread.old.kept.pairs)) → read_count thread.new.kept.history ≡ read_count thread.old.kept.history }
     ensures reading { ReadsOrReports thread.old thread.new result }
@@ -131,7 +131,7 @@ pub(crate) fn items_if_directory<D: BlockDevice>(
 ) -> Result<Vec<NameAndOwnedStruct>, Error>
     requires works { thread.old.failed ≡ false }
     requires below { IfSome from (λ first. first < length thread.old.kept.pairs) }
-    ensures items { IfOk result (λ items. directory_items_view items.items ≡ pair_entries_from thread.old.kept.pairs from) }
+    ensures items { IfOk result (λ items. items_view items.items ≡ pair_entries_from thread.old.kept.pairs from) }
     ensures few { read_count thread.new.kept.history ≤ read_count thread.old.kept.history + joined_count_from thread.old.kept.pairs from }
     ensures kept { ArePairsCached thread.old (joined_pairs_from thread.old.kept.pairs from) → read_count thread.new.kept.history ≡ read_count thread.old.kept.history }
     ensures reading { ReadsOrReports thread.old thread.new result }
@@ -145,7 +145,7 @@ pub(crate) fn items_if_directory<D: BlockDevice>(
 /// Returns whether the directory that begins with the pair of number `from` has an entry. Without
 /// a number there is no directory. The call reads no more pairs than the directory has.
 ///
-/// Errors are those of [`unmoved_pair_items`].
+/// Errors are those of [`unhidden_pair_items`].
 pub fn has_entries<D: BlockDevice>(
     alloc: Global,
     thread: &mut Thread<D>,
@@ -159,7 +159,7 @@ pub fn has_entries<D: BlockDevice>(
 {
     let mut pair = from;
     while let Some(index) = pair {
-        let items = unmoved_pair_items(alloc, thread, index)?;
+        let items = unhidden_pair_items(alloc, thread, index)?;
         if items.len() > 0 {
             return Ok(true);
         }

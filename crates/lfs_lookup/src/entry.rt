@@ -1,6 +1,6 @@
 // The entry that a slot is.
 
-ghost use Rattle.lfs_model.specs.format.Content.{read_struct};
+ghost use Rattle.lfs_model.specs.format.Content.{decoded_struct};
 ghost use Rattle.lfs_model.specs.layers.LoggedContent.{IsAllowedPart};
 ghost use Rattle.lfs_tag.specs.ContentView.{part_view};
 ghost use Rattle.lfs_lookup.specs.Entry.{IsStructEntry};
@@ -28,7 +28,7 @@ pub enum FileOrDirectory {
 /// first pair (SPEC.md of littlefs, "0x2xx LFS_TYPE_STRUCT").
 pub fn entry_of_struct(structure: &NameOrStruct<'_>) -> FileOrDirectory
     requires { IsAllowedPart 2 (part_view structure.now) }
-    ensures { IsStructEntry result (read_struct structure.now.kind structure.now.bytes.now) }
+    ensures { IsStructEntry result (decoded_struct structure.now.kind structure.now.bytes.now) }
 {
     match Struct::of(structure).unwrap() {
         Struct::Inline(bytes) => FileOrDirectory::File(FileStorage::Inline { len: bytes.len() }),

@@ -3,12 +3,12 @@
 ghost use Rattle.std.specs.Prelude.{◌≡◌, ◌++◌, IfOk, IfErr, OnOk, map};
 ghost use Rattle.std.specs.Option.{option_map};
 ghost use Rattle.lfs_model.specs.format.Slots.{PairContent as ModelContent};
-ghost use Rattle.lfs_model.specs.format.Content.{read_struct};
+ghost use Rattle.lfs_model.specs.format.Content.{decoded_struct};
 ghost use Rattle.lfs_model.specs.layers.LoggedContent.{IsFormedSlot, AreWellFormed, IsAllowedPart};
 ghost use Rattle.lfs_thread.specs.CachedLog.{IsContentLog};
 ghost use Rattle.lfs_tag.specs.ContentView.{part_view, slot_view};
 ghost use Rattle.lfs_lookup.specs.ByName.{AreShorterFirst};
-ghost use Rattle.lfs_lookup.specs.Items.{directory_item_view, directory_items_view, optional_entry_list, entries_without_moved, raw_entries, raw_entry, owned_view, slots_except};
+ghost use Rattle.lfs_lookup.specs.Items.{item_view, items_view, optional_entry_list, unhidden_entries, raw_entries, raw_entry, owned_view, slots_except};
 
 use lfs_device::Error;
 use lfs_tag::{Content, Log, NameOrStruct, Slot, Struct};
@@ -38,7 +38,7 @@ pub struct NameAndOwnedStruct {
 /// Returns the struct of a slot's part, with a copy of a file's bytes.
 pub fn owned_struct(alloc: Global, part: &NameOrStruct<'_>) -> Result<OwnedStruct, AllocError>
     requires { IsAllowedPart 2 (part_view part.now) }
-    ensures { IfOk result (λ s. owned_view s ≡ read_struct part.now.kind part.now.bytes.now) }
+    ensures { IfOk result (λ s. owned_view s ≡ decoded_struct part.now.kind part.now.bytes.now) }
 {
     match Struct::of(part).unwrap() {
         Struct::Inline(bytes) => {
@@ -54,7 +54,7 @@ pub fn owned_struct(alloc: Global, part: &NameOrStruct<'_>) -> Result<OwnedStruc
 // name or a struct.
 fn item_of_slot(alloc: Global, slot: &Slot<'_>) -> Result<Option<NameAndOwnedStruct>, AllocError>
     requires { IsFormedSlot (slot_view slot.now) }
-    ensures { IfOk result (λ item. option_map directory_item_view item ≡ raw_entry (slot_view slot.now)) }
+    ensures { IfOk result (λ item. option_map item_view item ≡ raw_entry (slot_view slot.now)) }
 {
     let (Some(name), Some(part)) = (slot.name, slot.structure) else {
         return Ok(None);
@@ -74,7 +74,7 @@ fn push_slot_item(
     slot: &Slot<'_>,
 ) -> Result<(), AllocError>
     requires { IsFormedSlot (slot_view slot.now) }
-    ensures { OnOk result (directory_items_view items.new.items ≡ directory_items_view items.old.items ++ optional_entry_list (raw_entry (slot_view slot.now))) }
+    ensures { OnOk result (items_view items.new.items ≡ items_view items.old.items ++ optional_entry_list (raw_entry (slot_view slot.now))) }
 {
     if let Some(item) = item_of_slot(alloc, slot)? {
         items.push(item)?;
@@ -85,7 +85,7 @@ fn push_slot_item(
 // Returns the entries of slots.
 fn items_of_slots(alloc: Global, slots: &[Slot<'_>]) -> Result<Vec<NameAndOwnedStruct>, AllocError>
     requires { AreWellFormed (map slot_view slots.now) }
-    ensures { IfOk result (λ items. directory_items_view items.items ≡ raw_entries (map slot_view slots.now)) }
+    ensures { IfOk result (λ items. items_view items.items ≡ raw_entries (map slot_view slots.now)) }
 {
     let mut items = Vec::new(alloc);
     for slot in slots {
@@ -112,7 +112,7 @@ pub(crate) fn items_in_log(
     moved: Option<usize>,
 ) -> Result<Vec<NameAndOwnedStruct>, Error>
     requires { (content : ModelContent) × IsContentLog log.now content }
-    ensures items { (content : ModelContent) → IsContentLog log.now content → IfOk result (λ items. directory_items_view items.items ≡ entries_without_moved moved content.slots) }
+    ensures items { (content : ModelContent) → IsContentLog log.now content → IfOk result (λ items. items_view items.items ≡ unhidden_entries moved content.slots) }
     ensures errors { IfErr result (λ e. e ≡ Error.NoMemory) }
 {
     let mut content = Content::read(alloc, log)?;
@@ -123,7 +123,7 @@ pub(crate) fn items_in_log(
 
 // Sorts entries by their names, the shorter names first.
 pub(crate) fn sort_shorter_first(items: &mut Vec<NameAndOwnedStruct>)
-    ensures { AreShorterFirst (directory_items_view items.old.items) (directory_items_view items.new.items) }
+    ensures { AreShorterFirst (items_view items.old.items) (items_view items.new.items) }
 {
     items.sort_unstable_by(|a, b| a.name.cmp(&b.name));
 }

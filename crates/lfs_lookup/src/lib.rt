@@ -30,7 +30,7 @@ pub use attribute_sizes::attributes_size_at;
 pub use attributes::find_attribute;
 pub use by_path::{find_node, finding_shown, first_pair_found, look_up_path, path_has_entries};
 pub use bytes::{read_inline_at, spot_of_file};
-pub use directory::{directory_items, directory_pair_entries, has_entries, unmoved_pair_items};
+pub use directory::{directory_items, directory_pair_entries, has_entries, unhidden_pair_items};
 pub use entry::{FileOrDirectory, FileStorage, entry_of_struct};
 pub use escape::push_escaped_path;
 pub use file_bytes::read_struct_bytes;

@@ -1,14 +1,14 @@
 // The entries of the directory at a path, by name, kind and size.
 
 ghost use Rattle.std.specs.Prelude.{◌≡◌, ◌≤◌, ◌+◌, ◌++◌, ◌∷◌, [], IfOk, map, sum_by};
-ghost use Rattle.lfs_model.specs.crash.Frame.{pair_count_at, ancestor_paths};
+ghost use Rattle.lfs_model.specs.crash.Frame.{directory_pair_count, ancestor_paths};
 ghost use Rattle.lfs_model.specs.session.History.{read_count};
 ghost use Rattle.lfs_model.specs.session.Effects.{items_at};
 ghost use Rattle.lfs_model.specs.tree.Shown.{disk_tree};
 ghost use Rattle.lfs_lookup.specs.CachedPairs.{AreDirectoriesCached};
 ghost use Rattle.lfs_lookup.specs.Finds.{IsFoundNode, listed_item_view};
-ghost use Rattle.lfs_lookup.specs.Items.{directory_item_view, directory_items_view, owned_view};
-ghost use Rattle.lfs_lookup.specs.ListAt.{AreInLimits, StructFitsTag, IsInLimits, listed_item, listed_struct_size};
+ghost use Rattle.lfs_lookup.specs.Items.{item_view, items_view, owned_view};
+ghost use Rattle.lfs_lookup.specs.ListAt.{AreInLimits, StructFitsTag, IsInLimits, name_and_size, listed_struct_size};
 ghost use Rattle.lfs_lookup.specs.LookupReading.{ReadsOrReports};
 ghost use Rattle.lfs_lookup.specs.Searchable.{CanSearchFromRoot};
 
@@ -37,8 +37,8 @@ fn listed_size(structure: &OwnedStruct) -> Option<u32>
 
 // Returns an entry by name, kind and size.
 fn to_list_item(item: NameAndOwnedStruct) -> ListItem
-    requires { IsInLimits (directory_item_view item) }
-    ensures { listed_item_view result ≡ listed_item (directory_item_view item) }
+    requires { IsInLimits (item_view item) }
+    ensures { listed_item_view result ≡ name_and_size (item_view item) }
 {
     let stat = Stat::from_size(listed_size(&item.structure));
     match ArrayVec::try_from(item.name.as_slice()) {
@@ -53,8 +53,8 @@ fn to_list_item(item: NameAndOwnedStruct) -> ListItem
 
 // Returns entries by name, kind and size.
 fn to_list_items(alloc: Global, items: Vec<NameAndOwnedStruct>) -> Result<Vec<ListItem>, AllocError>
-    requires { AreInLimits (directory_items_view items.items) }
-    ensures { IfOk result (λ listed. map listed_item_view listed.items ≡ map listed_item (directory_items_view items.items)) }
+    requires { AreInLimits (items_view items.items) }
+    ensures { IfOk result (λ listed. map listed_item_view listed.items ≡ map name_and_size (items_view items.items)) }
 {
     let mut listed = Vec::new(alloc);
     for item in items {
@@ -80,7 +80,7 @@ pub fn list_directory<D: BlockDevice>(
     requires { CanSearchFromRoot thread.old root }
     ensures found { IfOk result (λ listing. IsFoundNode (disk_tree thread.old.kept.disk thread.old.kept.pairs) path.now listing.finding) }
     ensures items { IfOk result (λ listing. map listed_item_view listing.items.items ≡ items_at (disk_tree thread.old.kept.disk thread.old.kept.pairs) path.now) }
-    ensures few { read_count thread.new.kept.history ≤ read_count thread.old.kept.history + sum_by (pair_count_at thread.old.kept.pairs) (ancestor_paths path.now ++ path.now ∷ []) }
+    ensures few { read_count thread.new.kept.history ≤ read_count thread.old.kept.history + sum_by (directory_pair_count thread.old.kept.pairs) (ancestor_paths path.now ++ path.now ∷ []) }
     ensures kept { AreDirectoriesCached thread.old (ancestor_paths path.now ++ path.now ∷ []) → read_count thread.new.kept.history ≡ read_count thread.old.kept.history }
     ensures reading { ReadsOrReports thread.old thread.new result }
 {

@@ -1,7 +1,7 @@
 // Paths, from the root down.
 
 ghost use Rattle.std.specs.Prelude.{◌≡◌, None, ◌<◌, ◌≤◌, ◌+◌, IfOk, map, sum_by, ◌++◌, ◌∷◌, [], drop};
-ghost use Rattle.lfs_model.specs.crash.Frame.{pair_count_at, ancestor_paths};
+ghost use Rattle.lfs_model.specs.crash.Frame.{directory_pair_count, ancestor_paths};
 ghost use Rattle.lfs_model.specs.session.History.{read_count};
 ghost use Rattle.lfs_model.specs.session.InDirectory.{joined_count};
 ghost use Rattle.lfs_model.specs.format.Slots.{zero_gstate};
@@ -13,9 +13,9 @@ ghost use Rattle.lfs_lookup.specs.AttributeAt.{IsFoundCached};
 ghost use Rattle.lfs_lookup.specs.Halves.{ReadsBinarySearches, ReadsBinarySearch};
 ghost use Rattle.lfs_lookup.specs.LookupReading.{ReadsOrReports};
 ghost use Rattle.lfs_lookup.specs.NameSearch.{HidesOnlySlot};
-ghost use Rattle.lfs_lookup.specs.LookupPaths.{LeadsToPair, ParentReached, IsParentAt, IsVisibleEntry, IsNamedEntry, LeadsToResult, IsHiddenResult, parent_refusal};
+ghost use Rattle.lfs_lookup.specs.LookupPaths.{LeadsToPair, ParentReached, IsParentAt, IsVisibleEntry, IsNamedEntry, LeadsToResult, IsUnhiddenResult, parent_refusal};
 ghost use Rattle.lfs_lookup.specs.Reads.{ReadsDirectoryOnce, ReadsDirectoriesOnce};
-ghost use Rattle.lfs_lookup.specs.Searchable.{CanSearchRecovered, CanSearchHidden};
+ghost use Rattle.lfs_lookup.specs.Searchable.{CanSearchRecovered, CanSearchUnhidden};
 
 use crate::entry::{FileOrDirectory, FileStorage};
 use crate::search::{NamePositionInDirectory, SlotPosition, find_name, find_unhidden};
@@ -114,7 +114,7 @@ fn find_subdirectory<D: BlockDevice>(
     name: &[u8],
     moved: Option<SlotPosition>,
 ) -> Result<Parent, Error>
-    requires can { CanSearchHidden thread.old moved }
+    requires can { CanSearchUnhidden thread.old moved }
     requires reached { (path : Path) × LeadsToPair thread.old.kept.pairs path first }
     ensures answer { IfOk result (λ parent. (path : Path) → LeadsToPair thread.old.kept.pairs path first → IsParentAt thread.old.kept (path ++ name.now ∷ []) parent) }
     ensures reads { ReadsDirectoryOnce moved first thread.old thread.new result }
@@ -141,7 +141,7 @@ pub(crate) fn find_directory<D: BlockDevice>(
     path: &[&[u8]],
     moved: Option<SlotPosition>,
 ) -> Result<Parent, Error>
-    requires can { CanSearchHidden thread.old moved }
+    requires can { CanSearchUnhidden thread.old moved }
     requires root { LeadsToPair thread.old.kept.pairs [] root }
     ensures answer { IfOk result (ParentReached thread.old.kept (map (λ name. name.now) path.now)) }
     ensures reads { ReadsDirectoriesOnce (moved ≡ None) (λ parent. parent_refusal parent ≡ None) (ancestor_paths (map (λ name. name.now) path.now)) thread.old thread.new result }
@@ -205,7 +205,7 @@ pub fn look_up<D: BlockDevice>(
     requires can { CanSearchRecovered thread.old }
     requires root { LeadsToPair thread.old.kept.pairs [] root }
     ensures answer { IfOk result (LeadsToResult thread.old.kept (map (λ name. name.now) path.now)) }
-    ensures few { read_count thread.new.kept.history ≤ read_count thread.old.kept.history + sum_by (pair_count_at thread.old.kept.pairs) (ancestor_paths (map (λ name. name.now) path.now)) }
+    ensures few { read_count thread.new.kept.history ≤ read_count thread.old.kept.history + sum_by (directory_pair_count thread.old.kept.pairs) (ancestor_paths (map (λ name. name.now) path.now)) }
     ensures halves { ReadsBinarySearches thread.old thread.new (ancestor_paths (map (λ name. name.now) path.now)) }
     ensures reading { ReadsOrReports thread.old thread.new result }
 {
@@ -226,7 +226,7 @@ fn look_up_name<D: BlockDevice>(
     name: &[u8],
     moved: Option<SlotPosition>,
 ) -> Result<VisiblePathLookup, Error>
-    requires can { CanSearchHidden thread.old moved }
+    requires can { CanSearchUnhidden thread.old moved }
     requires reached { (above : Path) × LeadsToPair thread.old.kept.pairs above parent }
     ensures answer { IfOk result (λ shown. (above : Path) → LeadsToPair thread.old.kept.pairs above parent → IsVisibleEntry thread.old.kept.pairs moved (above ++ name.now ∷ []) shown) }
     ensures cached_log { IfOk result (IsFoundCached thread.new) }
@@ -251,15 +251,15 @@ fn look_up_name<D: BlockDevice>(
 // cached then.
 //
 // Errors are those of `find_name`.
-pub(crate) fn look_up_unmoved<D: BlockDevice>(
+pub(crate) fn look_up_unhidden<D: BlockDevice>(
     thread: &mut Thread<D>,
     root: usize,
     path: &[&[u8]],
     moved: Option<SlotPosition>,
 ) -> Result<VisiblePathLookup, Error>
-    requires can { CanSearchHidden thread.old moved }
+    requires can { CanSearchUnhidden thread.old moved }
     requires root { LeadsToPair thread.old.kept.pairs [] root }
-    ensures answer { IfOk result (IsHiddenResult thread.old.kept moved (map (λ name. name.now) path.now)) }
+    ensures answer { IfOk result (IsUnhiddenResult thread.old.kept moved (map (λ name. name.now) path.now)) }
     ensures cached_log { IfOk result (IsFoundCached thread.new) }
     ensures reads { ReadsDirectoriesOnce (moved ≡ None) ParentsAllowLookup (ancestor_paths (map (λ name. name.now) path.now)) thread.old thread.new result }
     ensures reading { ReadsOrReports thread.old thread.new result }

@@ -1,10 +1,10 @@
 // What of the writing profile an image breaks.
 
 ghost use Rattle.std.specs.Prelude.{List, ◌≡◌, ◌↔◌, ◌<◌, ◌⊎◌, IsTrue, All, IfOk, IfErr, IfSome, MatchOption, None, Some, false, length, map, true};
-ghost use Rattle.lfs_model.specs.format.Content.{complete_slot, complete_slots, read_struct};
+ghost use Rattle.lfs_model.specs.format.Content.{complete_slot, complete_slots, decoded_struct};
 ghost use Rattle.lfs_model.specs.format.EntryTypes.{superblock_fields};
 ghost use Rattle.lfs_model.specs.format.Disk.{inline_limit};
-ghost use Rattle.lfs_model.specs.format.Slots.{PairContent as ModelContent, Inline, Slot as ModelSlot, is_superblock, array_address};
+ghost use Rattle.lfs_model.specs.format.Slots.{PairContent as ModelContent, Inline, Slot as ModelSlot, is_superblock, address_view};
 ghost use Rattle.lfs_model.specs.format.Thread.{count_before_root};
 ghost use Rattle.lfs_model.specs.tree.Profile.{InlineBytesFit};
 ghost use Rattle.lfs_model.specs.layers.ProfileBreaches.{IsBreachIfAny, IsOtherLimit};
@@ -98,7 +98,7 @@ fn breach_of_superblock(
     structure: &NameOrStruct<'_>,
 ) -> Option<ProfileBreach>
     requires { length structure.now.bytes.now ≡ 24 }
-    ensures { (s : ModelSlot) → is_superblock s ≡ true → s.struct ≡ Inline structure.now.bytes.now → IsSlotBreach geometry.now.profile geometry.now.block_size geometry.now.page (array_address place.pair) place.slot s result }
+    ensures { (s : ModelSlot) → is_superblock s ≡ true → s.struct ≡ Inline structure.now.bytes.now → IsSlotBreach geometry.now.profile geometry.now.block_size geometry.now.page (address_view place.pair) place.slot s result }
 {
     let SlotPlace { pair, slot } = place;
     match other_limit_of(geometry, structure) {
@@ -109,7 +109,7 @@ fn breach_of_superblock(
 
 // Returns whether no more bytes are inline than the limit.
 fn inline_fits(geometry: &Geometry, structure: &NameOrStruct<'_>) -> bool
-    ensures { IsTrue result ↔ InlineBytesFit (inline_limit geometry.now.profile geometry.now.block_size) (read_struct structure.now.kind structure.now.bytes.now) }
+    ensures { IsTrue result ↔ InlineBytesFit (inline_limit geometry.now.profile geometry.now.block_size) (decoded_struct structure.now.kind structure.now.bytes.now) }
 {
     structure.kind != INLINE_STRUCT || structure.bytes.len() <= geometry.inline_limit() as usize
 }
@@ -133,8 +133,8 @@ fn breach_of_entry(
     structure: &NameOrStruct<'_>,
     attributes: &[Attribute<'_>],
 ) -> Option<ProfileBreach>
-    ensures { (s : ModelSlot) → is_superblock s ≡ false → s.name ≡ name.now.bytes.now → s.struct ≡ read_struct structure.now.kind structure.now.bytes.now → s.attributes ≡ map attribute_view attributes.now
-        → IsSlotBreach geometry.now.profile geometry.now.block_size geometry.now.page (array_address place.pair) place.slot s result }
+    ensures { (s : ModelSlot) → is_superblock s ≡ false → s.name ≡ name.now.bytes.now → s.struct ≡ decoded_struct structure.now.kind structure.now.bytes.now → s.attributes ≡ map attribute_view attributes.now
+        → IsSlotBreach geometry.now.profile geometry.now.block_size geometry.now.page (address_view place.pair) place.slot s result }
 {
     let SlotPlace { pair, slot } = place;
     if !inline_fits(geometry, structure) {
@@ -149,7 +149,7 @@ fn breach_of_entry(
 // Returns what of the writing profile a slot breaks.
 fn breach_of_slot(geometry: &Geometry, place: SlotPlace, slot: &Slot<'_>) -> Option<ProfileBreach>
     requires { (s : ModelSlot) × ((complete_slot (slot_view slot.now) ≡ Some s) × HasSuperblockStruct s) }
-    ensures { (s : ModelSlot) → complete_slot (slot_view slot.now) ≡ Some s → HasSuperblockStruct s → IsSlotBreach geometry.now.profile geometry.now.block_size geometry.now.page (array_address place.pair) place.slot s result }
+    ensures { (s : ModelSlot) → complete_slot (slot_view slot.now) ≡ Some s → HasSuperblockStruct s → IsSlotBreach geometry.now.profile geometry.now.block_size geometry.now.page (address_view place.pair) place.slot s result }
 {
     let (Some(name), Some(structure)) = (slot.name, slot.structure) else {
         return None;
@@ -163,7 +163,7 @@ fn breach_of_slot(geometry: &Geometry, place: SlotPlace, slot: &Slot<'_>) -> Opt
 // Returns what of the writing profile the slots of the pair at that address break.
 fn breach_of_slots(geometry: &Geometry, pair: [u32; 2], slots: &[Slot<'_>]) -> Option<ProfileBreach>
     requires { (all : List ModelSlot) × ((complete_slots (map slot_view slots.now) ≡ Some all) × All HasSuperblockStruct all) }
-    ensures { (all : List ModelSlot) → complete_slots (map slot_view slots.now) ≡ Some all → All HasSuperblockStruct all → IsSlotsBreach geometry.now.profile geometry.now.block_size geometry.now.page (array_address pair) all result }
+    ensures { (all : List ModelSlot) → complete_slots (map slot_view slots.now) ≡ Some all → All HasSuperblockStruct all → IsSlotsBreach geometry.now.profile geometry.now.block_size geometry.now.page (address_view pair) all result }
 {
     let mut found = None;
     for (id, slot) in slots.iter().enumerate() {
@@ -211,7 +211,7 @@ fn breach_of_log(
     follows: bool,
 ) -> Result<Option<ProfileBreach>, Error>
     requires { (content : ModelContent) × (IsContentLog log.now content × All HasSuperblockStruct content.slots) }
-    ensures is { (content : ModelContent) → IsContentLog log.now content → All HasSuperblockStruct content.slots → IfOk result (IsPairBreach geometry.now.profile geometry.now.block_size geometry.now.page follows (record { at = array_address pair; content = content })) }
+    ensures is { (content : ModelContent) → IsContentLog log.now content → All HasSuperblockStruct content.slots → IfOk result (IsPairBreach geometry.now.profile geometry.now.block_size geometry.now.page follows (record { at = address_view pair; content = content })) }
     ensures errors { IfErr result (λ e. e ≡ Error.NoMemory) }
 {
     let content = Content::read(alloc, log)?;

@@ -4,7 +4,7 @@ ghost use Rattle.std.specs.Prelude.{◌≡◌, ◌++◌, ◌<◌, IfOk, OnOk, fa
 ghost use Rattle.lfs_model.specs.format.Thread.{pairs_gstate};
 ghost use Rattle.lfs_model.specs.tree.View.{IsAccepted};
 ghost use Rattle.lfs_tag.specs.FieldsView.{move_view};
-ghost use Rattle.lfs_lookup.specs.Items.{directory_item_view, directory_items_view, owned_view};
+ghost use Rattle.lfs_lookup.specs.Items.{item_view, items_view, owned_view};
 ghost use Rattle.lfs_lookup.specs.LookupReading.{ReadsOrReports};
 ghost use Rattle.lfs_lookup.specs.TreeWalk.{PushesEntriesBelow, ArePushed, HasFirstIfDirectory, AreWalkItems, pairs_addresses, walked_entry, tree_item_view, tree_items_view, walked_entries};
 
@@ -31,7 +31,7 @@ fn tree_item_beneath(
     path: &[u8],
     item: NameAndOwnedStruct,
 ) -> Result<TreeItem, AllocError>
-    ensures { IfOk result (λ found. tree_item_view found ≡ walked_entry path.now (directory_item_view item)) }
+    ensures { IfOk result (λ found. tree_item_view found ≡ walked_entry path.now (item_view item)) }
 {
     let mut below = Vec::from_slice(alloc, path)?;
     below.push(b'/')?;
@@ -49,7 +49,7 @@ fn push_beneath_path(
     path: &[u8],
     mut items: Vec<NameAndOwnedStruct>,
 ) -> Result<(), AllocError>
-    ensures { OnOk result (tree_items_view pending.new.items ≡ tree_items_view pending.old.items ++ reverse (walked_entries path.now (directory_items_view items.items))) }
+    ensures { OnOk result (tree_items_view pending.new.items ≡ tree_items_view pending.old.items ++ reverse (walked_entries path.now (items_view items.items))) }
 {
     while let Some(item) = items.pop() {
         let found = tree_item_beneath(alloc, path, item)?;

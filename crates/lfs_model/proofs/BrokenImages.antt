@@ -1,7 +1,7 @@
 -- An image breaks a rule, by tests that compute on a literal image.
 use Rattle.std.proofs.Common.{ℕ, ◌≡◌, ◌<◌, true, false, not, List, Some, refl, sym, ap, ◌∙◌, ltb-true, true≢false}
 use Rattle.std.specs.Prelude.{AllPairs, nat_lt}
-use Rattle.lfs_model.proofs.Common.{AllByRecursion, list_all, All-from_recursion, list_any-from_Any, content_at, Disk, block_count, Name, name_cmp, IsReachedBySome, all_directories, all_entries, Inline, Slot, same_pair, AreLinked, BeginsAt, IsThread, Pair, anchor_address, pairs_blocks, pairs_gstate, root_address, Path, root_slot, same_path, RepeatsSuperblockStruct, HasValidMove, IsTreeEntry, IsFormedList, accepts_version, AreFirstPairs, IsDiskSuperblock, LeadsByTails, superblock_fields}
+use Rattle.lfs_model.proofs.Common.{AllByRecursion, list_all, All-from_recursion, list_any-from_Any, content_at, Disk, block_count, Name, name_cmp, IsReachedBySome, all_directories, all_entries, Inline, Slot, same_pair, AreLinked, BeginsDirectory, IsThread, Pair, anchor_address, pairs_blocks, pairs_gstate, root_address, Path, root_slot, same_path, RepeatsSuperblockStruct, HasValidMove, IsTreeEntry, IsFormedList, accepts_version, AreFirstPairs, IsDiskSuperblock, LeadsByTails, superblock_fields}
 use Rattle.std.specs.declared.cmp.Ordering.TheVariants.{Less}
 use Rattle.lfs_model.specs.declared.limits.AcceptedVersions.{AcceptedVersions}
 use Rattle.lfs_model.specs.declared.order.NameOrder.{NameOrder}
@@ -43,7 +43,7 @@ no_entry s fails h = true≢false (sym (entry_to s h) ∙ fails)
 pub no_rise : (order : NameOrder) (names : List Name) → rise order names ≡ false → ¬ AllPairs (λ a b. name_cmp order a b ≡ Less) names
 no_rise order names fails h = true≢false (sym (rise_to order names h) ∙ fails)
 
-pub no_directory_there : (ps : List Pair) (at : ℕ × ℕ) → begins ps at ≡ false → ¬ BeginsAt (all_directories ps) at
+pub no_directory_there : (ps : List Pair) (at : ℕ × ℕ) → begins ps at ≡ false → ¬ BeginsDirectory (all_directories ps) at
 no_directory_there ps at fails h = true≢false (sym (list_any-from_Any (λ d. same_pair d.at at) (all_directories ps) h) ∙ fails)
 
 pub paths_differ : (path other : Path) → same_path path other ≡ false → ¬ (path ≡ other)

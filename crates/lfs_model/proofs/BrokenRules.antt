@@ -2,11 +2,11 @@
 use Rattle.std.proofs.Common.{ℕ, zero, suc, ◌≡◌, ◌≢◌, ◌+◌, ◌<◌, ◌≤◌, ◌⊎◌, ◌&&◌, ◌==◌, ◌∙◌, inl, inr, Bool, true, false, cond, List, [], ◌∷◌, ◌++◌, Contains, length, take, drop, remove, get_or, nat_eq, option_map, Option, Some, None, refl, sym, ap, subst, true≢false, arith}
 use Rattle.std.specs.Prelude.{All, codes, slice_get}
 use Rattle.std.specs.List.{IsDistinct}
-use Rattle.lfs_model.proofs.Common.{cases_lt, drop-drop, flat_map-append, All-contains, All-head, All-tail, recursion_from_All, get_or_from_slice_get, none-some, same_Some, slice_get_within, content_at, current_block, Disk, block_count, ordered_disk, read_address, IsReachedBySome, all_unmoved_slots, all_directories, Gstate, Inline, PairContent, Slot, set_move_kind, is_superblock, array_address, same_pair, AreLinked, IsThread, Pair, ThreadDirectory, anchor_address, pairs_blocks, pairs_gstate, has_slots, tail_target, count_before_root, pairs_from_filled, slots_not_moved, superblock_first, BeginsWith, BeginsWithSuperblock, RepeatsSuperblockStruct, IsAccepted, IsTreeEntry, SameExceptVersion, IsFormedList, IsSuperblock, first_pair_slots, first_slot_name, superblock_entry, AreFirstPairs, IsDiskSuperblock, LeadsByTails}
+use Rattle.lfs_model.proofs.Common.{cases_lt, drop-drop, flat_map-append, All-contains, All-head, All-tail, recursion_from_All, get_or_from_slice_get, none-some, same_Some, slice_get_within, content_at, current_block, Disk, block_count, ordered_disk, decoded_address, IsReachedBySome, all_unmoved_slots, all_directories, Gstate, Inline, PairContent, Slot, set_move_kind, is_superblock, address_view, same_pair, AreLinked, IsThread, Pair, ThreadDirectory, anchor_address, pairs_blocks, pairs_gstate, has_slots, tail_target, count_before_root, pairs_from_filled, slots_not_moved, superblock_first, BeginsWith, BeginsWithSuperblock, RepeatsSuperblockStruct, IsAccepted, IsTreeEntry, SameExceptVersion, IsFormedList, IsSuperblock, first_pair_slots, first_slot_name, superblock_entry, AreFirstPairs, IsDiskSuperblock, LeadsByTails}
 use Rattle.std.proofs.lemmas.List.Elements.{Contains-append_right}
 use Rattle.std.proofs.lemmas.Map.Keys.{IsDistinct-tail}
 use Rattle.lfs_model.specs.format.Thread.{moved_id}
-use Rattle.lfs_model.specs.layers.Violations.{Breaks, BreaksPairs, BreaksThread, HasBlock, NamesFall, HasFirstSlot, BranchIsLoose, IsInTwoPairs, IsUsedTwice, IsNamed, NeverReached, IsNoEntryAt, IsOtherSuperblock, IsInRange, IsReachedTwice, IsUnmovedAt}
+use Rattle.lfs_model.specs.layers.Violations.{Breaks, PairsBreak, BreaksThread, HasBlock, NamesFall, HasFirstSlot, BranchIsLoose, InTwoPairs, IsUsedTwice, IsNamed, NeverReached, NoEntryAt, IsOtherSuperblock, IsInRange, IsReachedTwice, IsUnmovedAt}
 use Rattle.lfs_model.specs.declared.limits.AcceptedVersions.{AcceptedVersions}
 use Rattle.lfs_model.specs.declared.order.NameOrder.{NameOrder}
 use Rattle.lfs_model.specs.declared.violations.Violation.{Violation}
@@ -90,7 +90,7 @@ module _ (disk : Disk) (qs : List Pair) (thread : IsThread (content_at disk) (bl
   pub named_has_content : (at : ℕ × ℕ) → IsNamed disk at → content_at disk at ≢ None
   named_has_content at named none = let (content, is) = content_there at named in none-some content (sym none ∙ is)
 
-  pub no_block_in_two_pairs : (at : ℕ × ℕ) (block : ℕ) → IsInTwoPairs disk at block → ⊥
+  pub no_block_in_two_pairs : (at : ℕ × ℕ) (block : ℕ) → InTwoPairs disk at block → ⊥
   no_block_in_two_pairs at block two =
       let behind = pair_after two.before at two.begins in
       not_in_both (pairs_blocks two.before) (pairs_blocks (behind.pair ∷ behind.rest)) block
@@ -100,10 +100,10 @@ module _ (disk : Disk) (qs : List Pair) (thread : IsThread (content_at disk) (bl
 
 -- a disk that breaks a rule of the thread has no thread
 pub thread_breaks_none : (disk : Disk) (v : Violation) → BreaksThread disk v → (ps : List Pair) → IsThread (content_at disk) (block_count disk) ps → ⊥
-thread_breaks_none disk (violation.OutOfRange pair) (named, past) ps thread = past (named_in_range disk ps thread (array_address pair) named)
-thread_breaks_none disk (violation.OneBlock pair) (named, same) ps thread = named_has_two_blocks disk ps thread (array_address pair) named same
-thread_breaks_none disk (violation.TwoPairs pair block) two ps thread = no_block_in_two_pairs disk ps thread (array_address pair) block two
-thread_breaks_none disk (violation.NoContent pair) (named, within, none) ps thread = named_has_content disk ps thread (array_address pair) named none
+thread_breaks_none disk (violation.OutOfRange pair) (named, past) ps thread = past (named_in_range disk ps thread (address_view pair) named)
+thread_breaks_none disk (violation.OneBlock pair) (named, same) ps thread = named_has_two_blocks disk ps thread (address_view pair) named same
+thread_breaks_none disk (violation.TwoPairs pair block) two ps thread = no_block_in_two_pairs disk ps thread (address_view pair) block two
+thread_breaks_none disk (violation.NoContent pair) (named, within, none) ps thread = named_has_content disk ps thread (address_view pair) named none
 thread_breaks_none disk _ h ps thread = absurd h
 
 -- the thread breaks the same rule, whatever the order of names
@@ -117,10 +117,10 @@ thread_breaks_in_order order disk v h = go v h
     named at (ps, b) = (ps, begins ps at b)
 
     go : (w : Violation) → BreaksThread disk w → BreaksThread (ordered_disk order disk) w
-    go (violation.OutOfRange pair) (is, past) = (named (array_address pair) is, past)
-    go (violation.OneBlock pair) (is, same) = (named (array_address pair) is, same)
-    go (violation.TwoPairs pair block) two = record { before = two.before; begins = begins two.before (array_address pair) two.begins; own = two.own; earlier = two.earlier }
-    go (violation.NoContent pair) (is, within, none) = (named (array_address pair) is, within, none)
+    go (violation.OutOfRange pair) (is, past) = (named (address_view pair) is, past)
+    go (violation.OneBlock pair) (is, same) = (named (address_view pair) is, same)
+    go (violation.TwoPairs pair block) two = record { before = two.before; begins = begins two.before (address_view pair) two.begins; own = two.own; earlier = two.earlier }
+    go (violation.NoContent pair) (is, within, none) = (named (address_view pair) is, within, none)
     go _ k = absurd k
 
 -- ---- by number
@@ -161,8 +161,8 @@ other_struct : (disk : Disk) (bytes own : List ℕ) → IsSuperblock disk bytes 
 other_struct disk bytes own is same = record {
   len = same.len ∙ is.len;
   version = same.version;
-  block_size = ap (λ (b : List ℕ). (read_address b).0) same.rest ∙ is.block_size;
-  block_count = ap (λ (b : List ℕ). (read_address b).0) (sym (drop-drop 4 4 own) ∙ ap (drop 4) same.rest ∙ drop-drop 4 4 bytes) ∙ is.block_count;
+  block_size = ap (λ (b : List ℕ). (decoded_address b).0) same.rest ∙ is.block_size;
+  block_count = ap (λ (b : List ℕ). (decoded_address b).0) (sym (drop-drop 4 4 own) ∙ ap (drop 4) same.rest ∙ drop-drop 4 4 bytes) ∙ is.block_count;
 }
 
 -- slot 0 of a pair of the chain is a superblock with that struct
@@ -258,7 +258,7 @@ module _ (disk : Disk) (ps : List Pair) (ok : IsAccepted disk ps) where
       same_inline : (x y : List ℕ) → Inline x ≡ Inline y → x ≡ y
       same_inline x y e = cc
 
-  no_wrong_entry : (at : ℕ × ℕ) (id : ℕ) → IsNoEntryAt ps at id → ⊥
+  no_wrong_entry : (at : ℕ × ℕ) (id : ℕ) → NoEntryAt ps at id → ⊥
   no_wrong_entry at id h = h.refused (accepted_entry h.is.index h.is.pair id h.slot h.is.there h.is.slot h.behind)
 
 -- ---- the directories of an accepted image
@@ -323,19 +323,19 @@ no_wrong_list disk ps at id s ok h = unmoved_slot_has (λ (t : Slot). IsFormedLi
 -- ---- all of them
 
 -- the pairs of an accepted image break no rule
-pub pairs_break_none : (disk : Disk) (ps : List Pair) (v : Violation) → BreaksPairs disk ps v → IsAccepted disk ps → ⊥
+pub pairs_break_none : (disk : Disk) (ps : List Pair) (v : Violation) → PairsBreak disk ps v → IsAccepted disk ps → ⊥
 pairs_break_none disk ps violation.NoSuperblock h ok = true≢false (sym ok.root ∙ h)
 pairs_break_none disk ps (violation.FirstEntry pair) (is, other) ok = other (subst (λ (x : ℕ × ℕ). BeginsWith (current_block disk x) superblock_entry) is ok.first)
 pairs_break_none disk ps (violation.Superblock pair) (is, s, (first, other)) ok = other (accepted_superblock disk ps ok s first)
-pairs_break_none disk ps (violation.OtherSuperblock pair) h ok = no_other_superblock disk ps ok (array_address pair) h
-pairs_break_none disk ps (violation.Entry pair slot) h ok = no_wrong_entry disk ps ok (array_address pair) slot h
-pairs_break_none disk ps (violation.Names pair) h ok = no_falling_names disk ps (array_address pair) ok h
-pairs_break_none disk ps (violation.Branch pair) h ok = no_loose_branch disk ps (array_address pair) ok h
-pairs_break_none disk ps (violation.TwoPaths pair) h ok = none_reached_twice disk ps (array_address pair) ok h
-pairs_break_none disk ps (violation.NoPath pair) h ok = none_unreached disk ps (array_address pair) ok h
+pairs_break_none disk ps (violation.OtherSuperblock pair) h ok = no_other_superblock disk ps ok (address_view pair) h
+pairs_break_none disk ps (violation.Entry pair slot) h ok = no_wrong_entry disk ps ok (address_view pair) slot h
+pairs_break_none disk ps (violation.Names pair) h ok = no_falling_names disk ps (address_view pair) ok h
+pairs_break_none disk ps (violation.Branch pair) h ok = no_loose_branch disk ps (address_view pair) ok h
+pairs_break_none disk ps (violation.TwoPaths pair) h ok = none_reached_twice disk ps (address_view pair) ok h
+pairs_break_none disk ps (violation.NoPath pair) h ok = none_unreached disk ps (address_view pair) ok h
 pairs_break_none disk ps violation.Move h ok = h ok.move
-pairs_break_none disk ps (violation.List pair slot) (s, (there, wrong)) ok = wrong (no_wrong_list disk ps (array_address pair) slot s ok there)
-pairs_break_none disk ps (violation.TwoOwners pair slot block) h ok = let two : IsUsedTwice disk ps (array_address pair) slot block = h in not_twice _ two.i two.j block two.apart two.one two.other ok.owned_once
+pairs_break_none disk ps (violation.List pair slot) (s, (there, wrong)) ok = wrong (no_wrong_list disk ps (address_view pair) slot s ok there)
+pairs_break_none disk ps (violation.TwoOwners pair slot block) h ok = let two : IsUsedTwice disk ps (address_view pair) slot block = h in not_twice _ two.i two.j block two.apart two.one two.other ok.owned_once
 pairs_break_none disk ps _ h ok = absurd h
 
 -- an image that breaks a rule isn't accepted
@@ -343,4 +343,4 @@ pub accepted_breaks_none : (disk : Disk) (v : Violation) → Breaks disk v → (
 accepted_breaks_none disk v (inl broken) ps ok = thread_breaks_none disk v broken ps ok.thread
 accepted_breaks_none disk v (inr (qs, (thread, broken))) ps ok =
     let same : qs ≡ ps = one_thread (content_at disk) (block_count disk) qs ps thread ok.thread in
-    pairs_break_none disk ps v (subst (λ (xs : List Pair). BreaksPairs disk xs v) same broken) ok
+    pairs_break_none disk ps v (subst (λ (xs : List Pair). PairsBreak disk xs v) same broken) ok

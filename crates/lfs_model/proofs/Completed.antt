@@ -1,7 +1,7 @@
 -- Slots with a name and a struct, when one comes, goes or changes; and the bytes that they take.
 use Rattle.std.proofs.Common.{ℕ, zero, suc, ◌≡◌, ◌+◌, ◌/◌, ◌^◌, ◌<◌, ◌≤◌, ◌==◌, ◌&&◌, Bool, true, false, cond, List, [], ◌∷◌, ◌++◌, length, take, drop, Option, Some, None, refl, sym, ap, ap₂, subst, ◌∙◌, arith, eqb-true}
 use Rattle.std.specs.Prelude.{slice_set, sum_by}
-use Rattle.lfs_model.proofs.Common.{insert, remove, option_and_then, option_map, same_Some, ne_eqb, sum_by-cons, make_tag, tag_type, tag_length, abstract_type, pair_capacity, slots_limit, Slot, Inline, Ctz, Branch, struct_len, attributes_size, slot_size, PairContent, FitsInPair, RawSlot, RawContent, complete_slot, complete_slots, complete_content, kind_of_type, read_struct, read_address, is_known_tag, is_attribute_removal, allows_any_length, requires_eight_bytes, requires_no_bytes, move_type, create_tag_type, delete_tag_type, inline_type, directory_type, file_name_type, directory_name_type, slot_size_raw, raw_slots_size, part_size, RawContentFits, IsAllowedPart, AllowsIfSome, IsFormedSlot, AreWellFormed, IsWellFormed}
+use Rattle.lfs_model.proofs.Common.{insert, remove, option_and_then, option_map, same_Some, ne_eqb, sum_by-cons, make_tag, tag_type, tag_length, tag_class, pair_capacity, slots_limit, Slot, Inline, Ctz, Branch, struct_len, attributes_size, slot_size, PairContent, FitsInPair, RawSlot, RawContent, complete_slot, complete_slots, complete_content, kind_of_type, decoded_struct, decoded_address, is_known_tag, is_attribute_removal, allows_any_length, requires_eight_bytes, requires_no_bytes, move_type, create_tag_type, delete_tag_type, inline_type, directory_type, file_name_type, directory_name_type, slot_size_raw, raw_slots_size, part_size, RawContentFits, IsAllowedPart, AllowedIfAny, IsFormedSlot, AreWellFormed, IsWellFormed}
 use Rattle.byteorder.specs.Endian.{little_number}
 use Rattle.lfs_model.specs.format.Slots.{slots_size}
 use Rattle.lfs_model.proofs.WrittenAnew.{tag_type-make_tag, tag_length-make_tag}
@@ -69,11 +69,11 @@ complete_set (x ∷ xs) us (suc id) s t h e =
 
 -- what is in the table, no attribute and of none of the other lengths, has 8 bytes
 eight : (tag : ℕ) → is_known_tag tag ≡ true → is_attribute_removal tag ≡ false → allows_any_length tag ≡ false → requires_no_bytes tag ≡ false → (tag_type tag == move_type) ≡ false → tag_length tag ≡ 8
-eight tag h a b c d = go (requires_eight_bytes tag) (tag_length tag == 8) refl (ap (λ x. cond x (abstract_type tag == 3) (cond false true (cond (requires_eight_bytes tag) (tag_length tag == 8) (cond false (tag_length tag == 0) false)))) (sym a) ∙ rest)
+eight tag h a b c d = go (requires_eight_bytes tag) (tag_length tag == 8) refl (ap (λ x. cond x (tag_class tag == 3) (cond false true (cond (requires_eight_bytes tag) (tag_length tag == 8) (cond false (tag_length tag == 0) false)))) (sym a) ∙ rest)
   where
-    rest : cond (is_attribute_removal tag) (abstract_type tag == 3) (cond false true (cond (requires_eight_bytes tag) (tag_length tag == 8) (cond false (tag_length tag == 0) false))) ≡ true
-    rest = ap₂ (λ x y. cond (is_attribute_removal tag) (abstract_type tag == 3) (cond x true (cond (requires_eight_bytes tag) (tag_length tag == 8) (cond y (tag_length tag == 0) false)))) (sym b) (sym c)
-        ∙ ap (λ z. cond (is_attribute_removal tag) (abstract_type tag == 3) (cond (allows_any_length tag) true (cond (requires_eight_bytes tag) (tag_length tag == 8) (cond (requires_no_bytes tag) (tag_length tag == 0) (z && tag_length tag == 12))))) (sym d)
+    rest : cond (is_attribute_removal tag) (tag_class tag == 3) (cond false true (cond (requires_eight_bytes tag) (tag_length tag == 8) (cond false (tag_length tag == 0) false))) ≡ true
+    rest = ap₂ (λ x y. cond (is_attribute_removal tag) (tag_class tag == 3) (cond x true (cond (requires_eight_bytes tag) (tag_length tag == 8) (cond y (tag_length tag == 0) false)))) (sym b) (sym c)
+        ∙ ap (λ z. cond (is_attribute_removal tag) (tag_class tag == 3) (cond (allows_any_length tag) true (cond (requires_eight_bytes tag) (tag_length tag == 8) (cond (requires_no_bytes tag) (tag_length tag == 0) (z && tag_length tag == 12))))) (sym d)
         ∙ h
 
     go : (e l : Bool) → (tag_length tag == 8) ≡ l → cond e l (cond false (tag_length tag == 0) false) ≡ true → tag_length tag ≡ 8
@@ -81,7 +81,7 @@ eight tag h a b c d = go (requires_eight_bytes tag) (tag_length tag == 8) refl (
     go true false f g = absurd (cc)
     go false l f g = absurd (cc)
 
-pub struct_length : (type : ℕ) (bytes : List ℕ) → IsAllowedPart 2 (type, bytes) → struct_len (read_struct type bytes) ≡ length bytes
+pub struct_length : (type : ℕ) (bytes : List ℕ) → IsAllowedPart 2 (type, bytes) → struct_len (decoded_struct type bytes) ≡ length bytes
 struct_length type bytes h = go (type == inline_type) (type == directory_type) refl
   where
     of_class : type / 2 ^ 8 ≡ 2
@@ -102,7 +102,7 @@ struct_length type bytes h = go (type == inline_type) (type == directory_type) r
         (rw kind (rw (ne_eqb type create_tag_type (λ e. omega arith), ne_eqb type delete_tag_type (λ e. omega arith)) refl))
         (rw kind (ne_eqb type move_type (λ e. omega arith)))
 
-    go : (a b : Bool) → (type == inline_type) ≡ a → struct_len (cond a (Inline bytes) (cond b (Branch (read_address bytes)) (Ctz (little_number 4 bytes) (little_number 4 (drop 4 bytes))))) ≡ length bytes
+    go : (a b : Bool) → (type == inline_type) ≡ a → struct_len (cond a (Inline bytes) (cond b (Branch (decoded_address bytes)) (Ctz (little_number 4 bytes) (little_number 4 (drop 4 bytes))))) ≡ length bytes
     go true b e = refl
     go false true e = sym (fixed e)
     go false false e = sym (fixed e)
@@ -110,13 +110,13 @@ struct_length type bytes h = go (type == inline_type) (type == directory_type) r
 pub slot_size_is : (s : RawSlot) (t : Slot) → IsFormedSlot s → complete_slot s ≡ Some t → slot_size t ≡ slot_size_raw s
 slot_size_is s t h e = go s.name s.struct h.struct e
   where
-    go : (n p : Option (ℕ × List ℕ)) → AllowsIfSome 2 p →
-        option_and_then (λ name. option_map (λ struct. record { kind = kind_of_type name.0; name = name.1; struct = read_struct struct.0 struct.1; attributes = s.attributes }) p) n ≡ Some t →
+    go : (n p : Option (ℕ × List ℕ)) → AllowedIfAny 2 p →
+        option_and_then (λ name. option_map (λ struct. record { kind = kind_of_type name.0; name = name.1; struct = decoded_struct struct.0 struct.1; attributes = s.attributes }) p) n ≡ Some t →
         slot_size t ≡ part_size n + part_size p + attributes_size s.attributes
     go None p k f = absurd (cc)
     go (Some n) None k f = absurd (cc)
     go (Some n) (Some p) k f =
-        ap slot_size (sym (same_Some (record { kind = kind_of_type n.0; name = n.1; struct = read_struct p.0 p.1; attributes = s.attributes }) t f))
+        ap slot_size (sym (same_Some (record { kind = kind_of_type n.0; name = n.1; struct = decoded_struct p.0 p.1; attributes = s.attributes }) t f))
         ∙ ap (λ l. 4 + length n.1 + (4 + l) + attributes_size s.attributes) (struct_length p.0 p.1 k)
 
 pub slots_size_is : (slots : List RawSlot) (all : List Slot) → AreWellFormed slots → complete_slots slots ≡ Some all → sum_by slot_size all ≡ sum_by slot_size_raw slots

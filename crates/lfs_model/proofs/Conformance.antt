@@ -1,7 +1,7 @@
 -- Calls that conform: one more, and what they left, which is among what a stop in them may leave.
 use Rattle.std.proofs.Common.{◌≡◌, ℕ, Bool, false, List, [], ◌∷◌, length, inl, inr, refl, sym, ap, subst, ◌∙◌, arith}
 use Rattle.std.specs.Prelude.{Contains}
-use Rattle.lfs_model.proofs.Common.{cases_lt, get_or_past, All-cons, All-contains, Blocks, SameExcept, block_bytes, programmed, block_log, DeviceCall, Read, Program, Erase, Blank, CallEvent, call_event, ConformsTo, CallsConform, LeftByLoss, may_stop_leave, MayProgramLeave, ErasesCleanly, erases_cleanly}
+use Rattle.lfs_model.proofs.Common.{cases_lt, get_or_past, All-cons, All-contains, Blocks, SameExcept, block_bytes, programmed, block_log, DeviceCall, Read, Program, Erase, Blank, CallEvent, call_event, CallConforms, CallsConform, LeftByLoss, may_stop_leave, MayProgramLeave, ErasesCleanly, erases_cleanly}
 use Rattle.std.proofs.lemmas.List.Elements.{All-same}
 use Rattle.lfs_model.proofs.Overwrites.{block_bytes-programmed}
 
@@ -20,7 +20,7 @@ place_of (Program block off bytes) = block
 place_of (Erase block) = block
 place_of (Blank block off len) = block
 
-pub conforms_read : (block off len : ℕ) (before after : Blocks) (failed : Bool) → after ≡ before → ConformsTo (call_event (Read block off len) before after failed)
+pub conforms_read : (block off len : ℕ) (before after : Blocks) (failed : Bool) → after ≡ before → CallConforms (call_event (Read block off len) before after failed)
 conforms_read block off len before after failed same = record {
   reads = λ b o n is ok. same;
   programs = λ b o bytes is ok. absurd (cc);
@@ -29,7 +29,7 @@ conforms_read block off len before after failed same = record {
   blanks = λ b o n is ok. absurd (cc);
 }
 
-pub conforms_blank : (block off len : ℕ) (before after : Blocks) (failed : Bool) → after ≡ before → ConformsTo (call_event (Blank block off len) before after failed)
+pub conforms_blank : (block off len : ℕ) (before after : Blocks) (failed : Bool) → after ≡ before → CallConforms (call_event (Blank block off len) before after failed)
 conforms_blank block off len before after failed same = record {
   reads = λ b o n is ok. absurd (cc);
   programs = λ b o bytes is ok. absurd (cc);
@@ -39,7 +39,7 @@ conforms_blank block off len before after failed same = record {
 }
 
 pub conforms_program : (block off : ℕ) (bytes : List ℕ) (before after : Blocks) (failed : Bool) → (failed ≡ false → after ≡ programmed before block off bytes) → SameExcept block before after
-    → ConformsTo (call_event (Program block off bytes) before after failed)
+    → CallConforms (call_event (Program block off bytes) before after failed)
 conforms_program block off bytes before after failed done same = record {
   reads = λ b o n is ok. absurd (cc);
   programs = λ b o other is ok. done ok ∙ ap (λ call. written_by call before) is;
@@ -48,7 +48,7 @@ conforms_program block off bytes before after failed done same = record {
   blanks = λ b o n is ok. absurd (cc);
 }
 
-pub conforms_erase : (block : ℕ) (before after : Blocks) (failed : Bool) → SameExcept block before after → ConformsTo (call_event (Erase block) before after failed)
+pub conforms_erase : (block : ℕ) (before after : Blocks) (failed : Bool) → SameExcept block before after → CallConforms (call_event (Erase block) before after failed)
 conforms_erase block before after failed same = record {
   reads = λ b o n is ok. absurd (cc);
   programs = λ b o bytes is ok. absurd (cc);
@@ -57,8 +57,8 @@ conforms_erase block before after failed same = record {
   blanks = λ b o n is ok. absurd (cc);
 }
 
-pub conforms_next : {e : CallEvent} {older later : List CallEvent} → later ≡ e ∷ older → ConformsTo e → CallsConform older → CallsConform later
-conforms_next {e} {older} {later} is here so_far = All-same ConformsTo later (e ∷ older) is (All-cons ConformsTo e older here so_far)
+pub conforms_next : {e : CallEvent} {older later : List CallEvent} → later ≡ e ∷ older → CallConforms e → CallsConform older → CallsConform later
+conforms_next {e} {older} {later} is here so_far = All-same CallConforms later (e ∷ older) is (All-cons CallConforms e older here so_far)
 
 -- ---- what was left
 
@@ -69,7 +69,7 @@ left_by_program block off bytes before after same done = elim (cases_lt block (l
   | inr beyond ↦ let count = same.count in inl (ap block_log (get_or_past after block [] (omega arith) ∙ sym (get_or_past before block [] beyond)))
 ]
 
-pub conforming_stops : (e : CallEvent) → ConformsTo e → e.failed ≡ false → ErasesCleanly e → LeftByLoss e e.after
+pub conforming_stops : (e : CallEvent) → CallConforms e → e.failed ≡ false → ErasesCleanly e → LeftByLoss e e.after
 conforming_stops e conforms ok cleanly = go e.call refl cleanly
   where
     go : (call : DeviceCall) → e.call ≡ call → erases_cleanly call e.failed e.before e.after → may_stop_leave call e.before e.after
@@ -81,4 +81,4 @@ conforming_stops e conforms ok cleanly = go e.call refl cleanly
     go (Blank block off len) is clean = conforms.blanks block off len is ok
 
 pub conforming_stops_among : (history : List CallEvent) (e : CallEvent) → CallsConform history → Contains history e → e.failed ≡ false → ErasesCleanly e → LeftByLoss e e.after
-conforming_stops_among history e all among = conforming_stops e (All-contains ConformsTo history e all among)
+conforming_stops_among history e all among = conforming_stops e (All-contains CallConforms history e all among)

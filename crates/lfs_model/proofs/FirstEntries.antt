@@ -1,7 +1,7 @@
 -- The types of names, and the first entry of a log that is written anew.
 use Rattle.std.proofs.Common.{ℕ, ◌≡◌, ◌==◌, ◌/◌, ◌^◌, ◌<◌, ◌⊎◌, inl, inr, Bool, true, false, cond, List, [], ◌∷◌, ◌++◌, length, Option, Some, None, refl, sym, ap, ap₂, subst, ◌∙◌, arith, eqb-true}
 use Rattle.std.specs.Prelude.{slice_get, codes}
-use Rattle.lfs_model.proofs.Common.{option_and_then, option_map, ne_eqb, same_Some, Slot, SlotKind, PairContent, File, Directory, Superblock, is_superblock_kind, make_tag, tag_type, tag_length, IsAllowedPart, AllowsIfSome, IsFormedSlot, AreWellFormed, RawSlot, RawContent, complete_slot, complete_slots, complete_content, kind_of_type, read_struct, is_known_tag, allows_any_length, requires_eight_bytes, requires_no_bytes, is_attribute_removal, file_name_type, directory_name_type, inline_type, directory_type, hard_tail_type, create_tag_type, delete_tag_type, move_type, content_entries, entries_of_slots, log_entry, tail_entries, move_state_entries, superblock_first, superblock_entry}
+use Rattle.lfs_model.proofs.Common.{option_and_then, option_map, ne_eqb, same_Some, Slot, SlotKind, PairContent, File, Directory, Superblock, is_superblock_kind, make_tag, tag_type, tag_length, IsAllowedPart, AllowedIfAny, IsFormedSlot, AreWellFormed, RawSlot, RawContent, complete_slot, complete_slots, complete_content, kind_of_type, decoded_struct, is_known_tag, allows_any_length, requires_eight_bytes, requires_no_bytes, is_attribute_removal, file_name_type, directory_name_type, inline_type, directory_type, hard_tail_type, create_tag_type, delete_tag_type, move_type, content_entries, entries_of_slots, log_entry, tail_entries, move_state_entries, superblock_first, superblock_entry}
 use Rattle.lfs_model.specs.format.EntryTypes.{superblock_name_type, ctz_type, soft_tail_type}
 use Rattle.lfs_model.proofs.Completed.{complete_parts, completed_parts}
 use Rattle.lfs_model.proofs.WrittenAnew.{tag_type-make_tag, tag_length-make_tag}
@@ -68,7 +68,7 @@ name_types type bytes h = go (kind_of_type type) (type_is type bytes h)
 pub record IsNamed (s : RawSlot) (t : Slot) : Type 0 where
   pub is : s.name ≡ Some (type_of t.kind, t.name)
 
-part_some : (o : Option (ℕ × List ℕ)) (part : ℕ × List ℕ) → o ≡ Some part → AllowsIfSome 0 o → IsAllowedPart 0 part
+part_some : (o : Option (ℕ × List ℕ)) (part : ℕ × List ℕ) → o ≡ Some part → AllowedIfAny 0 o → IsAllowedPart 0 part
 part_some None part e k = absurd (cc)
 part_some (Some p) part e k = subst (IsAllowedPart 0) (same_Some p part e) k
 
@@ -78,13 +78,13 @@ is_named s t parts h = go s.name refl s.struct h
     go : (o : Option (ℕ × List ℕ)) → s.name ≡ o → (p : Option (ℕ × List ℕ)) → option_and_then (λ name. option_map (λ struct. record {
       kind = kind_of_type name.0;
       name = name.1;
-      struct = read_struct struct.0 struct.1;
+      struct = decoded_struct struct.0 struct.1;
       attributes = s.attributes;
     }) p) o ≡ Some t → IsNamed s t
     go None e p k = absurd (cc)
     go (Some n) e None k = absurd (cc)
     go (Some n) e (Some p) k =
-        let same = same_Some (record { kind = kind_of_type n.0; name = n.1; struct = read_struct p.0 p.1; attributes = s.attributes }) t k in
+        let same = same_Some (record { kind = kind_of_type n.0; name = n.1; struct = decoded_struct p.0 p.1; attributes = s.attributes }) t k in
         let type : n.0 ≡ type_of t.kind = type_is n.0 n.1 (part_some s.name n e parts.name) ∙ ap (λ (x : Slot). type_of x.kind) same in
         record { is = e ∙ ap₂ (λ a b. Some (a, b)) type (ap (λ (x : Slot). x.name) same) }
 

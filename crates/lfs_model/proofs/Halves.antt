@@ -3,15 +3,15 @@ use Rattle.std.proofs.Common.{ℕ, zero, suc, ◌≡◌, ◌+◌, ◌*◌, ◌<�
 use Rattle.lfs_model.proofs.Common.{insert, cases_lt, take_at, drop_at, take-append-drop, sum_by-cons, sum_by-append, pair_capacity, slots_limit, Slot, Struct, Inline, Ctz, Branch, slot_size, struct_len, attributes_size, PairContent, FitsInPair, RawSlot, RawContent, complete_content, complete_slot, complete_slots, slot_size_raw, RawContentFits, IsFormedSlot, AreWellFormed, IsWellFormed, InlineBytesFit}
 use Rattle.std.proofs.lemmas.List.Sums.{sum_by-take-drop}
 use Rattle.lfs_model.specs.declared.limits.Profile.{Profile}
-use Rattle.lfs_model.specs.format.Disk.{charge_limit, inline_limit, longest_struct}
-use Rattle.lfs_model.specs.layers.Cut.{SlotsFitPair, IsFittingSplit, CanSplit}
+use Rattle.lfs_model.specs.format.Disk.{charge_limit, inline_limit, struct_max}
+use Rattle.lfs_model.specs.layers.Cut.{SlotsFitPair, IsFittingSplit, AreSplittable}
 use Rattle.lfs_model.specs.tree.Profile.{IsWritableEntry}
 use Rattle.lfs_model.proofs.Completed.{complete_parts, completed_parts, complete_cons, complete_length, slot_size_is, slots_size_is, fits_pair}
 
 -- ---- slots of any log
 
 -- a cut between two parts that fit
-pub cut_between : (block_size page : ℕ) (front back : List RawSlot) → SlotsFitPair block_size page front → SlotsFitPair block_size page back → CanSplit block_size page (front ++ back)
+pub cut_between : (block_size page : ℕ) (front back : List RawSlot) → SlotsFitPair block_size page front → SlotsFitPair block_size page back → AreSplittable block_size page (front ++ back)
 cut_between block_size page front back f b = record {
   cut = length front;
   is_cut = record {
@@ -23,7 +23,7 @@ cut_between block_size page front back f b = record {
 
 -- It is cut before the slot or after it. After it only where there is room for one slot more.
 pub can_be_cut : (block_size page : ℕ) (front : List RawSlot) (s : RawSlot) (back : List RawSlot) → slot_size_raw s ≤ charge_limit block_size page
-    → sum_by slot_size_raw front + sum_by slot_size_raw back ≤ pair_capacity block_size page → length front + length back ≤ slots_limit → CanSplit block_size page (front ++ s ∷ back)
+    → sum_by slot_size_raw front + sum_by slot_size_raw back ≤ pair_capacity block_size page → length front + length back ≤ slots_limit → AreSplittable block_size page (front ++ s ∷ back)
 can_be_cut block_size page front s back small size count = ⊎_elim
     (λ few. ⊎_elim (λ light. behind light few) (λ heavy. in_front (omega (arith, sum_by-cons slot_size_raw s back)) (omega (arith, some front (omega arith)))) (cases_lt (2 * sum_by slot_size_raw front) (pair_capacity block_size page + 1)))
     (λ many. in_front (omega (arith, sum_by-cons slot_size_raw s back, ap (sum_by slot_size_raw) (none many))) (omega (arith, ap length (none many))))
@@ -40,11 +40,11 @@ can_be_cut block_size page front s back small size count = ⊎_elim
     none : slots_limit ≤ length front → back ≡ []
     none many = empty back (omega arith)
 
-    in_front : sum_by slot_size_raw (s ∷ back) ≤ pair_capacity block_size page → length back + 1 ≤ slots_limit → CanSplit block_size page (front ++ s ∷ back)
+    in_front : sum_by slot_size_raw (s ∷ back) ≤ pair_capacity block_size page → length back + 1 ≤ slots_limit → AreSplittable block_size page (front ++ s ∷ back)
     in_front fits few = cut_between block_size page front (s ∷ back) (record { size = omega arith; count = omega arith }) (record { size = fits; count = omega arith })
 
-    behind : 2 * sum_by slot_size_raw front < pair_capacity block_size page + 1 → length front < slots_limit → CanSplit block_size page (front ++ s ∷ back)
-    behind light few = subst (CanSplit block_size page) (append_assoc front (s ∷ []) back) (cut_between block_size page (front ++ s ∷ []) back
+    behind : 2 * sum_by slot_size_raw front < pair_capacity block_size page + 1 → length front < slots_limit → AreSplittable block_size page (front ++ s ∷ back)
+    behind light few = subst (AreSplittable block_size page) (append_assoc front (s ∷ []) back) (cut_between block_size page (front ++ s ∷ []) back
         (record { size = omega (arith, sum_by-append slot_size_raw front (s ∷ []), sum_by-cons slot_size_raw s []); count = omega (arith, length-append front (s ∷ [])) })
         (record { size = omega arith; count = omega arith }))
 
@@ -78,10 +78,10 @@ slots_fit block_size page raw fits = record { size = fits.size; count = fits.cou
 pub entry_small : (profile : Profile) (block_size page : ℕ) (s : Slot) → 1024 ≤ block_size → IsWritableEntry profile block_size page s → slot_size s ≤ charge_limit block_size page
 entry_small profile block_size page s large fits = go s.struct refl fits.inline
   where
-    charge : 4 + length s.name + (4 + longest_struct profile block_size) + attributes_size s.attributes ≤ charge_limit block_size page
+    charge : 4 + length s.name + (4 + struct_max profile block_size) + attributes_size s.attributes ≤ charge_limit block_size page
     charge = fits.charge
 
-    bounded : struct_len s.struct ≤ longest_struct profile block_size → slot_size s ≤ charge_limit block_size page
+    bounded : struct_len s.struct ≤ struct_max profile block_size → slot_size s ≤ charge_limit block_size page
     bounded l = omega arith
 
     go : (t : Struct) → s.struct ≡ t → InlineBytesFit (inline_limit profile block_size) t → slot_size s ≤ charge_limit block_size page
@@ -152,17 +152,17 @@ are_raw (x ∷ xs) (t ∷ front) s back h e =
 
 -- A content whose slots but one fit a pair can be cut in two.
 pub content_cut : (block_size page : ℕ) (raw : RawContent) (c : PairContent) (front : List Slot) (s : Slot) (back : List Slot) → IsWellFormed raw → complete_content raw ≡ Some c → c.slots ≡ front ++ s ∷ back
-    → slot_size s ≤ charge_limit block_size page → sum_by slot_size front + sum_by slot_size back ≤ pair_capacity block_size page → length front + length back ≤ slots_limit → CanSplit block_size page raw.slots
+    → slot_size s ≤ charge_limit block_size page → sum_by slot_size front + sum_by slot_size back ≤ pair_capacity block_size page → length front + length back ≤ slots_limit → AreSplittable block_size page raw.slots
 content_cut block_size page raw c front s back logged is slots small size count =
     let r = are_raw raw.slots front s back logged.slots ((completed_parts raw c is).slots ∙ ap Some slots) in
-    subst (CanSplit block_size page) (sym r.are) (can_be_cut block_size page r.before r.here r.behind
+    subst (AreSplittable block_size page) (sym r.are) (can_be_cut block_size page r.before r.here r.behind
     (omega (arith, slot_size_is r.here s r.here_parts r.here_is))
     (omega (arith, slots_size_is r.before front r.front_parts r.front_is, slots_size_is r.behind back r.back_parts r.back_is))
     (omega (arith, complete_length r.before front r.front_is, complete_length r.behind back r.back_is)))
 
 -- a slot comes into a pair that fitted
 pub insert_cut : (block_size page : ℕ) (raw : RawContent) (c old : PairContent) (id : ℕ) (s : Slot) → IsWellFormed raw → complete_content raw ≡ Some c → c.slots ≡ insert old.slots id s
-    → slot_size s ≤ charge_limit block_size page → FitsInPair block_size page old → CanSplit block_size page raw.slots
+    → slot_size s ≤ charge_limit block_size page → FitsInPair block_size page old → AreSplittable block_size page raw.slots
 insert_cut block_size page raw c old id s logged is slots small fits =
     content_cut block_size page raw c (take id old.slots) s (drop id old.slots) logged is slots small
     (omega (arith, sum_by-take-drop slot_size old.slots id, fits.size))
@@ -170,7 +170,7 @@ insert_cut block_size page raw c old id s logged is slots small fits =
 
 -- a slot of a pair that fitted changes
 pub set_cut : (block_size page : ℕ) (raw : RawContent) (c old : PairContent) (front : List Slot) (was s : Slot) (back : List Slot) → IsWellFormed raw → complete_content raw ≡ Some c
-    → old.slots ≡ front ++ was ∷ back → c.slots ≡ front ++ s ∷ back → slot_size s ≤ charge_limit block_size page → FitsInPair block_size page old → CanSplit block_size page raw.slots
+    → old.slots ≡ front ++ was ∷ back → c.slots ≡ front ++ s ∷ back → slot_size s ≤ charge_limit block_size page → FitsInPair block_size page old → AreSplittable block_size page raw.slots
 set_cut block_size page raw c old front was s back logged is before slots small fits =
     content_cut block_size page raw c front s back logged is slots small
     (omega (arith, ap (sum_by slot_size) before, sum_by-append slot_size front (was ∷ back), sum_by-cons slot_size was back, fits.size))

@@ -1,6 +1,6 @@
 -- What runs of a session keep: the session that the accepted operations define, the writing profile, and nothing to recover.
 use Rattle.std.proofs.Common.{◌≡◌, Bool, true, false, cond, List, [], ◌∷◌, Option, Some, None, refl, sym, ap, subst, ◌∙◌}
-use Rattle.lfs_model.proofs.Common.{same_Some, Disk, block_count, ordered_disk, content_at, Pair, Tree, IsAccepted, IsWritable, disk_tree, CallEvent, Operation, Reply, Refusal, Session, DiskSummary, operation_result, operation_effect, unless_refused, operation_refusal, SessionHealth, HasFailed, Healthy, is_remount, remount_result, other_result, mounted_session, IsFreshDisk, fresh_pair, empty_tree, IsRecovered, SystemState, ShowsTree, HealthyHasDiskTree, is_refusal, IsDiskEffect, IsStep, AreSteps, HasDiskTree, IsMounted}
+use Rattle.lfs_model.proofs.Common.{same_Some, Disk, block_count, ordered_disk, content_at, Pair, Tree, IsAccepted, IsWritable, disk_tree, CallEvent, Operation, Reply, Refusal, Session, DiskSummary, operation_result, operation_effect, unless_refused, operation_refusal, SessionHealth, HasFailed, Healthy, is_remount, remount_result, nonremount_result, mounted_session, IsFreshDisk, fresh_pair, empty_tree, IsRecovered, SystemState, ShowsTree, HealthyHasDiskTree, is_refusal, IsDiskEffect, IsStep, AreSteps, HasDiskTree, IsMounted}
 use Rattle.lfs_model.specs.session.Operations as ops
 use Rattle.lfs_model.specs.session.Headline.{LeadsFromFresh, session_after, session_after_all, IsRecoveredDisk, SessionMatchesDisk}
 use Rattle.lfs_model.proofs.Uniqueness.{one_thread}
@@ -34,7 +34,7 @@ one_tree disk t u (ps, (a, e)) (qs, (b, f)) = e ∙ ap (disk_tree disk) (one_thr
 defined_next : (around : DiskSummary) (from to : SystemState) (op : Operation) (reply : Reply) (s : Session) → from.state ≡ Healthy s → HealthyHasDiskTree from.disk from.state → IsStep from op reply to →
     to.state ≡ Healthy (session_after around s op reply)
 defined_next around from to op reply s healthy agrees turn =
-    go (is_remount op) refl (sym (ap (λ z. cond (is_remount op) (remount_result turn.answered.shown) (other_result turn.answered.around z op)) healthy) ∙ turn.answered.answers)
+    go (is_remount op) refl (sym (ap (λ z. cond (is_remount op) (remount_result turn.answered.shown) (nonremount_result turn.answered.around z op)) healthy) ∙ turn.answered.answers)
   where
     effect : Session
     effect = (operation_effect around s op).1
@@ -50,7 +50,7 @@ defined_next around from to op reply s healthy agrees turn =
         let same = same_tree to.disk.order from.disk tree s.tree h (subst (HealthyHasDiskTree from.disk) healthy agrees) in
         sym (ap (λ (z : Option Reply × SessionHealth). z.1) e) ∙ ap (λ t. Healthy (mounted_session t)) same ∙ ap (λ r. Healthy (cond (is_refusal r) s (mounted_session s.tree))) done
 
-    go : (b : Bool) → is_remount op ≡ b → cond b (remount_result turn.answered.shown) (other_result turn.answered.around (Healthy s) op) ≡ (Some reply, to.state) →
+    go : (b : Bool) → is_remount op ≡ b → cond b (remount_result turn.answered.shown) (nonremount_result turn.answered.around (Healthy s) op) ≡ (Some reply, to.state) →
         to.state ≡ Healthy (cond (is_refusal reply) s (cond b (mounted_session s.tree) (operation_effect around s op).1))
     go true is e = remount turn.answered.shown (turn.answered.shows is) e
     go false is e =

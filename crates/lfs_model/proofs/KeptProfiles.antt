@@ -1,8 +1,8 @@
 -- An image that breaks a rule of the writing profile may not be written.
 use Rattle.std.proofs.Common.{ℕ, zero, suc, ◌≡◌, ◌≢◌, ◌+◌, ◌≤◌, ◌∙◌, Bool, true, false, List, [], ◌∷◌, Some, drop, sym, ap, subst, arith}
 use Rattle.std.specs.Prelude.{All, slice_get}
-use Rattle.lfs_model.proofs.Common.{get_or_from_slice_get, none-some, same_Some, slice_get_within, Disk, superblock_fields, HasNoEmpties, IsWritableSlot, IsWritable, IsSmallEnough, FitsInPair, Slot, array_address, Pair, is_hard_tail, count_before_root}
-use Rattle.lfs_model.specs.format.Disk.{attr_max_of, file_max_of, name_max_of}
+use Rattle.lfs_model.proofs.Common.{get_or_from_slice_get, none-some, same_Some, slice_get_within, Disk, superblock_fields, HasNoEmpties, IsWritableSlot, IsWritable, IsSmallContent, FitsInPair, Slot, address_view, Pair, is_hard_tail, count_before_root}
+use Rattle.lfs_model.specs.format.Disk.{profile_attr_max, profile_file_max, profile_name_max}
 use Rattle.lfs_model.specs.format.EntryTypes.{SuperblockFields}
 use Rattle.lfs_model.specs.tree.Profile.{HasLimits}
 use Rattle.lfs_model.specs.layers.ProfileBreaches.{BreaksProfile, IsOtherLimit, HasOtherLimit}
@@ -17,7 +17,7 @@ use Rattle.lfs_model.specs.declared.limits.Profile.{Profile}
 holds_there : {X : Type 0} (P : X → Type 0) (xs : List X) (i : ℕ) (x : X) → All P xs → slice_get xs i ≡ Some x → P x
 holds_there P xs i x all there = subst P (get_or_from_slice_get xs i x x there) (all i x (slice_get_within xs i x there))
 
-no_other_field : (profile : Profile) (f : SuperblockFields) (other : OtherLimit) → f.name_max ≡ name_max_of profile → f.file_max ≡ file_max_of profile → f.attr_max ≡ attr_max_of profile → ¬ IsOtherLimit profile f other
+no_other_field : (profile : Profile) (f : SuperblockFields) (other : OtherLimit) → f.name_max ≡ profile_name_max profile → f.file_max ≡ profile_file_max profile → f.attr_max ≡ profile_attr_max profile → ¬ IsOtherLimit profile f other
 no_other_field profile f (limit.Name n) name file attr (is, differs) = differs (sym is ∙ name)
 no_other_field profile f (limit.File n) name file attr (is, differs) = differs (sym is ∙ file)
 no_other_field profile f (limit.Attr n) name file attr (is, differs) = differs (sym is ∙ attr)
@@ -47,7 +47,7 @@ module _ (disk : Disk) (ps : List Pair) (writable : IsWritable disk ps) where
       holds_there (IsWritableSlot disk.profile disk.block_size disk.page) is.pair.content.slots id s
       (holds_there (λ (p : Pair). All (IsWritableSlot disk.profile disk.block_size disk.page) p.content.slots) ps is.index is.pair writable.slots is.there) is.slot
 
-  small : (i : ℕ) (p : Pair) → slice_get ps i ≡ Some p → IsSmallEnough disk.profile disk.block_size disk.page p.content
+  small : (i : ℕ) (p : Pair) → slice_get ps i ≡ Some p → IsSmallContent disk.profile disk.block_size disk.page p.content
   small i p there = record {
     pair = holds_there (λ (q : Pair). FitsInPair disk.block_size disk.page q.content) ps i p writable.pairs there;
     entries = λ k d l entry. (((holds_there (λ (q : Pair). All (IsWritableSlot disk.profile disk.block_size disk.page) q.content.slots) ps i p writable.slots there) k d l).1 entry).charge;
@@ -55,8 +55,8 @@ module _ (disk : Disk) (ps : List Pair) (writable : IsWritable disk ps) where
 
 pub writable_breaks_none : (disk : Disk) (ps : List Pair) (b : ProfileBreach) → IsWritable disk ps → ¬ BreaksProfile disk ps b
 writable_breaks_none disk ps (breach.OtherLimits pair slot limit) writable (s, (is, broken)) =
-    no_other_limit disk.profile limit s ((slot_fits disk ps writable (array_address pair) slot s is).0 broken.kind) broken
-writable_breaks_none disk ps (breach.LongInline pair slot) writable (s, (is, (entry, long))) = long ((slot_fits disk ps writable (array_address pair) slot s is).1 entry).inline
+    no_other_limit disk.profile limit s ((slot_fits disk ps writable (address_view pair) slot s is).0 broken.kind) broken
+writable_breaks_none disk ps (breach.LongInline pair slot) writable (s, (is, (entry, long))) = long ((slot_fits disk ps writable (address_view pair) slot s is).1 entry).inline
 writable_breaks_none disk ps (breach.EmptyPair pair) writable e =
     let next : e.index + 1 ≡ suc e.index = omega arith in
     filled_behind (count_before_root ps) ps e.index e.before e.pair writable.no_empty_pair e.root e.first (ap (slice_get ps) (sym next) ∙ e.next) e.hard e.empty

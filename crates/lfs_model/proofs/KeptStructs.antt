@@ -1,9 +1,9 @@
 -- Files that an operation isn't about keep their structs.
 use Rattle.std.proofs.Common.{ℕ, ◌≡◌, Bool, true, false, ◌||◌, List, [], Option, Some, None, refl, sym, ap, ◌∙◌}
 use Rattle.std.specs.Prelude.{is_some}
-use Rattle.lfs_model.proofs.Common.{option_map, Disk, Slot, Struct, Inline, Ctz, Branch, Attributes, Pair, Path, Node, Tree, branch_address, struct_node, struct_list_bytes, all_entries, disk_tree, same_path, without_prefix, is_file, tree_creating, tree_removing, tree_renaming, tree_with_change, Operation, Session, Writing, FileWriter, file_numbered, path_or_root, file_with_bytes, slot_of, is_open_at, may_store_at, struct_at, KeepsStructs}
+use Rattle.lfs_model.proofs.Common.{option_map, Disk, Slot, Struct, Inline, Ctz, Branch, Attributes, Pair, Path, Node, Tree, branch_address, struct_node, struct_list_bytes, all_entries, disk_tree, same_path, without_prefix, is_file, tree_creating, tree_removing, tree_renaming, tree_with_change, Operation, Session, Writing, FileWriter, file_numbered, path_or_root, node_with_bytes, slot_of, is_open_at, may_store_at, struct_at, KeepsStructs}
 use Rattle.lfs_model.specs.session.Operations as ops
-use Rattle.lfs_model.specs.layers.Keeping.{takes_away}
+use Rattle.lfs_model.specs.layers.Keeping.{vacates_path}
 use Rattle.lfs_model.proofs.Paths.{Paths, path_alike, path_unlike, paths}
 use Rattle.lfs_model.proofs.Trees.{not_before}
 use Rattle.lfs_model.proofs.Laws.{PathAddresses}
@@ -12,7 +12,7 @@ use Rattle.lfs_model.proofs.Changes.{IsChangedImage}
 
 -- what the change makes of a tree leaves the bytes of the files that the operation isn't about
 abbrev pub LeavesFiles : Tree → Session → Operation → (Tree → Tree) → Type 0
-LeavesFiles t s op change = (q : Path) → is_file (t q) ≡ true → takes_away op q ≡ false → may_store_at s op q ≡ false → KeepsFileBytes change q
+LeavesFiles t s op change = (q : Path) → is_file (t q) ≡ true → vacates_path op q ≡ false → may_store_at s op q ≡ false → KeepsFileBytes change q
 
 -- where a tree shows a file there is a file's slot
 pub struct_stays : (disk : Disk) (ps qs : List Pair) (q : Path) → is_file (disk_tree disk ps q) ≡ true → KeepsStruct (slot_of ps q) (slot_of qs q) → struct_at qs q ≡ struct_at ps q
@@ -63,9 +63,9 @@ renaming_leaves t s old_bytes new_bytes old new old_is new_is q file off elsewhe
 
 -- a writer's contents come into its own slot
 pub storing_leaves : (s : Session) (fd : ℕ) (writer : FileWriter) (p : Path) (bytes : List ℕ) → file_numbered s.files fd ≡ Some (Writing writer) → writer.path ≡ p →
-    (q : Path) → is_open_at (file_numbered s.files fd) q ≡ false → KeepsFileBytes (tree_with_change p (file_with_bytes bytes)) q
+    (q : Path) → is_open_at (file_numbered s.files fd) q ≡ false → KeepsFileBytes (tree_with_change p (node_with_bytes bytes)) q
 storing_leaves s fd writer p bytes opened is q elsewhere =
-    change_leaves p (file_with_bytes bytes) q (ap (λ z. same_path z q) (sym is) ∙ ap (λ o. is_open_at o q) (sym opened) ∙ elsewhere)
+    change_leaves p (node_with_bytes bytes) q (ap (λ z. same_path z q) (sym is) ∙ ap (λ o. is_open_at o q) (sym opened) ∙ elsewhere)
 
 -- with no open file nothing is stored
 pub none_stored : (t : Tree) (op : Operation) (q : Path) → may_store_at (record { tree = t; files = [] }) op q ≡ false

@@ -1,6 +1,6 @@
 -- Changes of a tree that leave a file's bytes, and slots of files that stay.
 use Rattle.std.proofs.Common.{ℕ, suc, ◌≡◌, Bool, true, false, cond, List, [], ◌∷◌, ◌++◌, length, Option, Some, None, refl, sym, ap, ◌∙◌, option_map, append-nil, arith}
-use Rattle.lfs_model.proofs.Common.{append_cancel_right, Name, Slot, Struct, Inline, Ctz, Branch, Attributes, Path, EntryMap, Node, FileNode, Tree, branch_address, root_slot, slot_at_path, struct_node, beneath_root, same_path, without_prefix, tree_with_change, node_with_names, names_with, names_without, with_attributes, node_attributes_of, tree_creating, tree_removing, tree_renaming, tree_with_subtree, parent_path, last_name, file_with_bytes, KeepsStruct}
+use Rattle.lfs_model.proofs.Common.{append_cancel_right, Name, Slot, Struct, Inline, Ctz, Branch, Attributes, Path, EntryMap, Node, FileNode, Tree, branch_address, root_slot, slot_at_path, struct_node, root_subtree, same_path, without_prefix, tree_with_change, node_with_names, names_with, names_without, with_attributes, node_attributes_of, tree_creating, tree_removing, tree_renaming, tree_with_subtree, parent_path, last_name, node_with_bytes, KeepsStruct}
 use Rattle.lfs_model.proofs.Paths.{path_itself, rest_itself}
 use Rattle.lfs_model.proofs.Edits.{planted_off, planted_on, not_same}
 use Rattle.lfs_model.proofs.Trees.{set_off, change_off, change_on, renamed_is}
@@ -103,10 +103,10 @@ attributes_leave p f q t attributes bytes e = go (same_path p q)
 pub change_leaves : (p : Path) (change : Node → Node) (q : Path) → same_path p q ≡ false → KeepsFileBytes (tree_with_change p change) q
 change_leaves p change q off t attributes bytes e = (attributes, change_off p change t q off ∙ e)
 
-pub bytes_set : (p : Path) (bytes : List ℕ) → KeepsFileBytes (tree_with_change p (file_with_bytes bytes)) p → ⊥
+pub bytes_set : (p : Path) (bytes : List ℕ) → KeepsFileBytes (tree_with_change p (node_with_bytes bytes)) p → ⊥
 bytes_set p bytes leaves =
     let k = leaves (λ z. Some (FileNode [] (0 ∷ bytes))) [] (0 ∷ bytes) refl in
-    let e : Some (FileNode [] bytes) ≡ Some (FileNode k.0 (0 ∷ bytes)) = sym (change_on p (file_with_bytes bytes) (λ z. Some (FileNode [] (0 ∷ bytes))) p (path_itself p)) ∙ k.1 in
+    let e : Some (FileNode [] bytes) ≡ Some (FileNode k.0 (0 ∷ bytes)) = sym (change_on p (node_with_bytes bytes) (λ z. Some (FileNode [] (0 ∷ bytes))) p (path_itself p)) ∙ k.1 in
     let same : bytes ≡ 0 ∷ bytes = cc in
     let l : length bytes ≡ suc (length bytes) = ap length same in
     absurd (omega arith)
@@ -128,10 +128,10 @@ file_node c E attributes (Ctz head size) e = (c head size, refl)
 file_node c E attributes (Branch to) e = absurd (cc)
 
 -- A file whose bytes are left has a slot.
-pub file_still : (c : ℕ → ℕ → List ℕ) (E F : EntryMap) (root : ℕ × ℕ) (change : Tree → Tree) (q : Path) (u : Slot) → beneath_root c F root q ≡ change (beneath_root c E root) q → KeepsFileBytes change q →
+pub file_still : (c : ℕ → ℕ → List ℕ) (E F : EntryMap) (root : ℕ × ℕ) (change : Tree → Tree) (q : Path) (u : Slot) → root_subtree c F root q ≡ change (root_subtree c E root) q → KeepsFileBytes change q →
     slot_at_path E (root_slot root) q ≡ Some u → branch_address u.struct ≡ None → slot_at_path F (root_slot root) q ≡ None → ⊥
 file_still c E F root change q u shows leaves e file none =
     let n = file_node c E u.attributes u.struct file in
-    let k = leaves (beneath_root c E root) u.attributes n.0 (ap (option_map (λ (z : Slot). struct_node c E z.attributes z.struct)) e ∙ ap Some n.1) in
+    let k = leaves (root_subtree c E root) u.attributes n.0 (ap (option_map (λ (z : Slot). struct_node c E z.attributes z.struct)) e ∙ ap Some n.1) in
     let l = sym (ap (option_map (λ (z : Slot). struct_node c F z.attributes z.struct)) none) ∙ shows ∙ k.1 in
     absurd (cc)

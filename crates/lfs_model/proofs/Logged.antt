@@ -1,12 +1,12 @@
 -- What a log comes to can be written again.
 use Rattle.std.proofs.Common.{ℕ, zero, suc, ◌≡◌, ◌≢◌, ◌+◌, ◌-◌, ◌^◌, ◌<◌, ◌≤◌, ◌==◌, ◌&&◌, Bool, true, false, cond, not, List, [], ◌∷◌, ◌++◌, length, take, drop, flat_map, inl, inr, Option, Some, None, refl, sym, ap, subst, ◌∙◌, arith, replicate, eqb-true, get_or-drop}
-use Rattle.lfs_model.proofs.Common.{length-take, get_or_past, insert, remove, option_and_then, option_map, same_Some, cases_lt, ne_eqb, ltb-false, ltb-true, make_tag, tag_type, tag_id, tag_length, abstract_type, tag_chunk, tag_data_size, LogEntry, entry_end, IsCommit, AreAdjacent, block_entries, Attributes, RawSlot, RawContent, content_after_one, content_after, slots_after, changed_at, padded_slots, empty_slot, slot_of_id, attributes_with, attributes_without, empty_raw_content, is_known_tag, has_needed_id, is_attribute_removal, create_tag_type, delete_tag_type, read_address, read_gstate, hard_tail_type, IsAllowedPart, AttributesInOrder, IsFormedSlot, AreWellFormed, IsWellFormed, HasTagLength, HaveTagLengths, AreWords, IsAllowedTail, MoveStateFits}
+use Rattle.lfs_model.proofs.Common.{length-take, get_or_past, insert, remove, option_and_then, option_map, same_Some, cases_lt, ne_eqb, ltb-false, ltb-true, make_tag, tag_type, tag_id, tag_length, tag_class, tag_chunk, tag_data_size, LogEntry, entry_end, IsCommit, AreAdjacent, block_entries, Attributes, RawSlot, RawContent, content_after_entry, content_after, slots_after, slot_changed_at, padded_slots, empty_slot, slot_of_id, attributes_with, attributes_without, empty_raw_content, is_known_tag, has_needed_id, is_attribute_removal, create_tag_type, delete_tag_type, decoded_address, decoded_gstate, hard_tail_type, IsAllowedPart, AttributesInOrder, IsFormedSlot, AreWellFormed, IsWellFormed, HasTagLength, HaveTagLengths, AreWords, IsAllowedTail, MoveStateFits}
 use Rattle.std.proofs.lemmas.List.{get_or-take}
 use Rattle.std.specs.Prelude.{slice_set, slice_index, nat_lt, nat_le, is_some}
 use Rattle.std.proofs.lemmas.Bool.{eqb-false}
 use Rattle.byteorder.specs.Endian.{little_number}
 use Rattle.lfs_model.specs.format.Log.{entry_at, chain_of}
-use Rattle.lfs_model.specs.format.Content.{attributes_after, type_and_bytes}
+use Rattle.lfs_model.specs.format.Content.{attributes_after, entry_part}
 use Rattle.lfs_model.specs.format.EntryTypes.{entry_tail}
 use Rattle.lfs_model.proofs.Chains.{lies, chain_sound}
 use Rattle.lfs_model.proofs.WrittenAnew.{tag_type-make_tag, tag_length-make_tag}
@@ -70,7 +70,7 @@ longer_parts [] zero h = tt
 longer_parts [] (suc n) h = (parts_of_empty, longer_parts [] n tt)
 longer_parts (t ∷ slots) n h = (h.0, longer_parts slots n h.1)
 
-changed_parts : (f : RawSlot → RawSlot) (slots : List RawSlot) (i : ℕ) → AreWellFormed slots → ((s : RawSlot) → IsFormedSlot s → IsFormedSlot (f s)) → AreWellFormed (changed_at f slots i)
+changed_parts : (f : RawSlot → RawSlot) (slots : List RawSlot) (i : ℕ) → AreWellFormed slots → ((s : RawSlot) → IsFormedSlot s → IsFormedSlot (f s)) → AreWellFormed (slot_changed_at f slots i)
 changed_parts f slots i h g = set_parts slots i (f (slot_of_id slots i)) h (g (slot_of_id slots i) (parts_at slots i h))
 
 -- ---- an entry
@@ -91,12 +91,12 @@ stored_short e h = go (is_attribute_removal e.tag) refl
         omega arith
 
 -- a name or a struct is a part
-part_of : (e : LogEntry) (class : ℕ) → HasTagLength e → class ≢ 3 → abstract_type e.tag ≡ class → is_known_tag e.tag ≡ true → IsAllowedPart class (tag_type e.tag, e.bytes)
+part_of : (e : LogEntry) (class : ℕ) → HasTagLength e → class ≢ 3 → tag_class e.tag ≡ class → is_known_tag e.tag ≡ true → IsAllowedPart class (tag_type e.tag, e.bytes)
 part_of e class h n c t = go (is_attribute_removal e.tag) refl
   where
     go : (b : Bool) → is_attribute_removal e.tag ≡ b → IsAllowedPart class (tag_type e.tag, e.bytes)
     go true r =
-        let other : abstract_type e.tag == 3 ≡ false = ne_eqb (abstract_type e.tag) 3 (λ k. n (sym c ∙ k)) in
+        let other : tag_class e.tag == 3 ≡ false = ne_eqb (tag_class e.tag) 3 (λ k. n (sym c ∙ k)) in
         absurd (let no : is_known_tag e.tag ≡ false = rw (r, other) refl in cc)
     go false r =
         let same : length e.bytes ≡ tag_length e.tag = stored_length e h r in
@@ -127,15 +127,15 @@ with_attribute_ascends e attributes h up = go (is_attribute_removal e.tag)
 -- the slots after an entry
 slots_parts : (slots : List RawSlot) (e : LogEntry) (new : List RawSlot) → AreWellFormed slots → HasTagLength e → is_known_tag e.tag ≡ true → slots_after slots e ≡ Some new → AreWellFormed new
 slots_parts slots e new h stored t is =
-    one_of (abstract_type e.tag == 0) (tag_type e.tag == create_tag_type) (tag_type e.tag == delete_tag_type) (nat_le (tag_id e.tag) (length slots)) (nat_lt (tag_id e.tag) (length slots))
-    (not (is_some (slot_of_id slots (tag_id e.tag)).name)) (abstract_type e.tag == 2)
+    one_of (tag_class e.tag == 0) (tag_type e.tag == create_tag_type) (tag_type e.tag == delete_tag_type) (nat_le (tag_id e.tag) (length slots)) (nat_lt (tag_id e.tag) (length slots))
+    (not (is_some (slot_of_id slots (tag_id e.tag)).name)) (tag_class e.tag == 2)
     _ _ _ _ _ new
-    (λ k. changed_parts (λ s. record s { name = type_and_bytes e }) (padded_slots slots (tag_id e.tag)) (tag_id e.tag) (longer_parts slots (tag_id e.tag + 1 - length slots) h)
-    (λ s p. record { name = part_of e 0 stored (λ z. omega arith) (eqb-true (abstract_type e.tag) 0 k) t; struct = p.struct; attributes = p.attributes }))
+    (λ k. changed_parts (λ s. record s { name = entry_part e }) (padded_slots slots (tag_id e.tag)) (tag_id e.tag) (longer_parts slots (tag_id e.tag + 1 - length slots) h)
+    (λ s p. record { name = part_of e 0 stored (λ z. omega arith) (eqb-true (tag_class e.tag) 0 k) t; struct = p.struct; attributes = p.attributes }))
     (insert_parts slots (tag_id e.tag) empty_slot h parts_of_empty)
     (remove_parts slots (tag_id e.tag) h)
-    (λ k. changed_parts (λ s. record s { struct = type_and_bytes e }) slots (tag_id e.tag) h
-    (λ s p. record { name = p.name; struct = part_of e 2 stored (λ z. omega arith) (eqb-true (abstract_type e.tag) 2 k) t; attributes = p.attributes }))
+    (λ k. changed_parts (λ s. record s { struct = entry_part e }) slots (tag_id e.tag) h
+    (λ s p. record { name = p.name; struct = part_of e 2 stored (λ z. omega arith) (eqb-true (tag_class e.tag) 2 k) t; attributes = p.attributes }))
     (changed_parts (λ s. record s { attributes = attributes_after e s.attributes }) slots (tag_id e.tag) h (λ s p. record { name = p.name; struct = p.struct; attributes = with_attribute_ascends e s.attributes stored p.attributes }))
     is
 
@@ -144,40 +144,40 @@ slots_parts slots e new h stored t is =
 number_small : (bytes : List ℕ) → ((i : ℕ) → slice_index bytes i < 256) → little_number 4 bytes < 2 ^ 32
 number_small bytes h = omega (arith, h 0, h 1, h 2, h 3)
 
-address_small : (bytes : List ℕ) → ((i : ℕ) → slice_index bytes i < 256) → AreWords (read_address bytes)
+address_small : (bytes : List ℕ) → ((i : ℕ) → slice_index bytes i < 256) → AreWords (decoded_address bytes)
 address_small bytes h = (number_small bytes h, number_small (drop 4 bytes) (λ i. rw (get_or-drop 4 bytes i 0) (h (4 + i))))
 
 tail_parts : (e : LogEntry) → ((i : ℕ) → slice_index e.bytes i < 256) → IsAllowedTail (entry_tail e)
-tail_parts e h = go (is_null (read_address e.bytes)) refl
+tail_parts e h = go (is_null (decoded_address e.bytes)) refl
   where
-    go : (b : Bool) → is_null (read_address e.bytes) ≡ b → IsAllowedTail (cond b None (Some (record { hard = tag_type e.tag == hard_tail_type; to = read_address e.bytes })))
+    go : (b : Bool) → is_null (decoded_address e.bytes) ≡ b → IsAllowedTail (cond b None (Some (record { hard = tag_type e.tag == hard_tail_type; to = decoded_address e.bytes })))
     go true n = tt
     go false n = (address_small e.bytes h, n)
 
-move_parts : (bytes : List ℕ) → ((i : ℕ) → slice_index bytes i < 256) → MoveStateFits (read_gstate bytes)
+move_parts : (bytes : List ℕ) → ((i : ℕ) → slice_index bytes i < 256) → MoveStateFits (decoded_gstate bytes)
 move_parts bytes h = record { kind = omega arith; id = omega arith; pair = address_small (drop 4 bytes) (λ i. rw (get_or-drop 4 bytes i 0) (h (4 + i))) }
 
 -- ---- a log
 
-logged_after : (c : RawContent) (e : LogEntry) (d : RawContent) → IsWellFormed c → HasTagLength e → content_after_one c e ≡ Some d → IsWellFormed d
-logged_after c e d h stored is = go (abstract_type e.tag == 5) (is_known_tag e.tag) (has_needed_id e.tag) (abstract_type e.tag == 6) (abstract_type e.tag == 7) (slots_after c.slots e) refl refl refl refl is
+logged_after : (c : RawContent) (e : LogEntry) (d : RawContent) → IsWellFormed c → HasTagLength e → content_after_entry c e ≡ Some d → IsWellFormed d
+logged_after c e d h stored is = go (tag_class e.tag == 5) (is_known_tag e.tag) (has_needed_id e.tag) (tag_class e.tag == 6) (tag_class e.tag == 7) (slots_after c.slots e) refl refl refl refl is
   where
-    go : (five t i six seven : Bool) (slots : Option (List RawSlot)) → is_known_tag e.tag ≡ t → (abstract_type e.tag == 6) ≡ six → (abstract_type e.tag == 7) ≡ seven → slots_after c.slots e ≡ slots
-        → cond five (Some c) (cond (not (t && i)) None (cond six (Some (record c { tail = entry_tail e })) (cond seven (Some (record c { move = read_gstate e.bytes })) (option_map (λ all. record c { slots = all }) slots)))) ≡ Some d
+    go : (five t i six seven : Bool) (slots : Option (List RawSlot)) → is_known_tag e.tag ≡ t → (tag_class e.tag == 6) ≡ six → (tag_class e.tag == 7) ≡ seven → slots_after c.slots e ≡ slots
+        → cond five (Some c) (cond (not (t && i)) None (cond six (Some (record c { tail = entry_tail e })) (cond seven (Some (record c { move = decoded_gstate e.bytes })) (option_map (λ all. record c { slots = all }) slots)))) ≡ Some d
         → IsWellFormed d
     go true t i six seven slots u v w s f = subst IsWellFormed (same_Some c d f) h
     go false false i six seven slots u v w s f = absurd (cc)
     go false true false six seven slots u v w s f = absurd (cc)
-    go false true true true seven slots u v w s f = subst IsWellFormed (same_Some _ d f) (record { slots = h.slots; tail = tail_parts e (stored.bytes (let six = eqb-true (abstract_type e.tag) 6 v in omega arith)); move = h.move })
-    go false true true false true slots u v w s f = subst IsWellFormed (same_Some _ d f) (record { slots = h.slots; tail = h.tail; move = move_parts e.bytes (stored.bytes (let seven = eqb-true (abstract_type e.tag) 7 w in omega arith)) })
+    go false true true true seven slots u v w s f = subst IsWellFormed (same_Some _ d f) (record { slots = h.slots; tail = tail_parts e (stored.bytes (let six = eqb-true (tag_class e.tag) 6 v in omega arith)); move = h.move })
+    go false true true false true slots u v w s f = subst IsWellFormed (same_Some _ d f) (record { slots = h.slots; tail = h.tail; move = move_parts e.bytes (stored.bytes (let seven = eqb-true (tag_class e.tag) 7 w in omega arith)) })
     go false true true false false None u v w s f = absurd (cc)
     go false true true false false (Some all) u v w s f = subst IsWellFormed (same_Some _ d f) (record { slots = slots_parts c.slots e all h.slots stored u s; tail = h.tail; move = h.move })
 
 pub logged_after_all : (c : RawContent) (es : List LogEntry) (d : RawContent) → IsWellFormed c → HaveTagLengths es → content_after c es ≡ Some d → IsWellFormed d
 logged_after_all c [] d h stored is = subst IsWellFormed (same_Some c d is) h
-logged_after_all c (e ∷ es) d h stored is = go (content_after_one c e) refl is (λ b s. logged_after_all b es d s stored.1)
+logged_after_all c (e ∷ es) d h stored is = go (content_after_entry c e) refl is (λ b s. logged_after_all b es d s stored.1)
   where
-    go : (o : Option RawContent) → content_after_one c e ≡ o → option_and_then (λ b. content_after b es) o ≡ Some d
+    go : (o : Option RawContent) → content_after_entry c e ≡ o → option_and_then (λ b. content_after b es) o ≡ Some d
         → ((b : RawContent) → IsWellFormed b → content_after b es ≡ Some d → IsWellFormed d) → IsWellFormed d
     go None f g more = absurd (cc)
     go (Some b) f g more = more b (logged_after c e b h stored.0 f) g

@@ -1,7 +1,7 @@
 -- Bytes written over others, and blocks that differ in one.
 use Rattle.std.specs.Prelude.{All}
 use Rattle.std.proofs.Common.{◌≡◌, ◌≢◌, ℕ, ◌+◌, ◌-◌, ◌<◌, ◌≤◌, List, [], ◌++◌, length, take, drop, slice_set, slice_range, inl, inr, refl, sym, ◌∙◌, ap, arith, append_assoc, length-append, length-drop}
-use Rattle.lfs_model.proofs.Common.{drop-append-add, append-nil, take_at, take-take, drop-take, take-append-drop, drop-append-le, drop-drop, length-take-le, length-set, get_or-set_other, get_or-set_same, cases_eq, Blocks, block_bytes, overwritten_at, programmed, SameExcept, SameExceptThese}
+use Rattle.lfs_model.proofs.Common.{drop-append-add, append-nil, take_at, take-take, drop-take, take-append-drop, drop-append-le, drop-drop, length-take-le, length-set, get_or-set_other, get_or-set_same, cases_eq, Blocks, block_bytes, overwritten_at, programmed, SameExcept, SameExceptBlocks}
 use Rattle.std.proofs.lemmas.List.{drop_all, take_all, ext_get_or, set-get_or}
 use Rattle.lfs_model.specs.format.Blocks.{SameOutside}
 
@@ -163,12 +163,12 @@ overwritten_beginning block at n new short fits =
 
 -- Blocks that differ at most in some.
 
-pub SameExceptThese-refl : (bs : List ℕ) (blocks : Blocks) → SameExceptThese bs blocks blocks
-SameExceptThese-refl bs blocks = record { count = refl; sizes = λ b. refl; others = λ other apart. refl }
+pub SameExceptBlocks-refl : (bs : List ℕ) (blocks : Blocks) → SameExceptBlocks bs blocks blocks
+SameExceptBlocks-refl bs blocks = record { count = refl; sizes = λ b. refl; others = λ other apart. refl }
 
 -- one of them changes
-pub SameExceptThese-one : (bs : List ℕ) (block : ℕ) (old mid new : Blocks) → ((other : ℕ) → All (λ b. b ≢ other) bs → block ≢ other) → SameExceptThese bs old mid → SameExcept block mid new → SameExceptThese bs old new
-SameExceptThese-one bs block old mid new among first second = record {
+pub SameExceptBlocks-one : (bs : List ℕ) (block : ℕ) (old mid new : Blocks) → ((other : ℕ) → All (λ b. b ≢ other) bs → block ≢ other) → SameExceptBlocks bs old mid → SameExcept block mid new → SameExceptBlocks bs old new
+SameExceptBlocks-one bs block old mid new among first second = record {
   count = second.count ∙ first.count;
   sizes = λ b. elim (cases_eq b block) [
     | inl is ↦ ap (λ k. length (block_bytes new k)) is ∙ second.size ∙ ap (λ k. length (block_bytes mid k)) (sym is) ∙ first.sizes b
@@ -177,13 +177,13 @@ SameExceptThese-one bs block old mid new among first second = record {
   others = λ other apart. second.others other (λ is. among other apart (sym is)) ∙ first.others other apart;
 }
 
-pub SameExceptThese-trans : {bs : List ℕ} {old mid new : Blocks} → SameExceptThese bs old mid → SameExceptThese bs mid new → SameExceptThese bs old new
-SameExceptThese-trans first second = record {
+pub SameExceptBlocks-trans : {bs : List ℕ} {old mid new : Blocks} → SameExceptBlocks bs old mid → SameExceptBlocks bs mid new → SameExceptBlocks bs old new
+SameExceptBlocks-trans first second = record {
   count = second.count ∙ first.count;
   sizes = λ b. second.sizes b ∙ first.sizes b;
   others = λ other apart. second.others other apart ∙ first.others other apart;
 }
 
 -- at most in more
-pub SameExceptThese-wider : {bs : List ℕ} (cs : List ℕ) {old new : Blocks} → ((other : ℕ) → All (λ c. c ≢ other) cs → All (λ c. c ≢ other) bs) → SameExceptThese bs old new → SameExceptThese cs old new
-SameExceptThese-wider cs among same = record { count = same.count; sizes = same.sizes; others = λ other apart. same.others other (among other apart) }
+pub SameExceptBlocks-wider : {bs : List ℕ} (cs : List ℕ) {old new : Blocks} → ((other : ℕ) → All (λ c. c ≢ other) cs → All (λ c. c ≢ other) bs) → SameExceptBlocks bs old new → SameExceptBlocks cs old new
+SameExceptBlocks-wider cs among same = record { count = same.count; sizes = same.sizes; others = λ other apart. same.others other (among other apart) }

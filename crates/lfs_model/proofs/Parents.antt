@@ -3,7 +3,7 @@ use Rattle.std.proofs.Common.{ℕ, zero, suc, ◌≡◌, true, cond, List, [], �
 use Rattle.std.specs.Prelude.{Contains, is_some}
 use Rattle.lfs_model.proofs.Orders.{contains_in_order, contains_back}
 use Rattle.lfs_model.specs.declared.order.NameOrder.TheVariants.{ShorterFirst}
-use Rattle.lfs_model.proofs.Common.{sorted_names, Name, Slot, Struct, Inline, Ctz, Branch, Attributes, Path, Node, DirectoryNode, EntryMap, entry_named, branch_address, slot_at_path, struct_node, names_at, beneath_slot}
+use Rattle.lfs_model.proofs.Common.{sorted_names, Name, Slot, Struct, Inline, Ctz, Branch, Attributes, Path, Node, DirectoryNode, EntryMap, entry_named, branch_address, slot_at_path, struct_node, names_at, slot_subtree}
 use Rattle.lfs_model.proofs.Paths.{Names, alike, unlike, names}
 use Rattle.lfs_model.proofs.Walks.{walk_append}
 
@@ -26,8 +26,8 @@ contained_found n (x ∷ xs) h = go (names n x.name) h (contained_found n xs)
     go (unlike apart other) (zero, l, e) rest = absurd (apart (sym e))
     go (unlike apart other) (suc k, l, e) rest = ap (λ b. is_some (cond b (Some x) (entry_named n xs))) other ∙ rest (k, omega (arith, l), e)
 
-pub parent_has_name : (c : ℕ → ℕ → List ℕ) (E : EntryMap) (s : Slot) (path : Path) (n : Name) (node : Node) → beneath_slot c E s (path ++ n ∷ []) ≡ Some node
-    → (attributes : Attributes) × (ns : List Name) × (beneath_slot c E s path ≡ Some (DirectoryNode attributes ns)) × Contains ns n
+pub parent_has_name : (c : ℕ → ℕ → List ℕ) (E : EntryMap) (s : Slot) (path : Path) (n : Name) (node : Node) → slot_subtree c E s (path ++ n ∷ []) ≡ Some node
+    → (attributes : Attributes) × (ns : List Name) × (slot_subtree c E s path ≡ Some (DirectoryNode attributes ns)) × Contains ns n
 parent_has_name c E s path n node e = go (slot_at_path E s path) (sym (ap (option_map (λ u. struct_node c E u.attributes u.struct)) (walk_append E s path (n ∷ []))) ∙ e)
   where
     found : (to : ℕ × ℕ) (o : Option Slot) → entry_named n (E to) ≡ o → option_map (λ u. struct_node c E u.attributes u.struct) (option_and_then (λ u. Some u) o) ≡ Some node → Contains (names_at E to) n
@@ -45,8 +45,8 @@ parent_has_name c E s path n node e = go (slot_at_path E s path) (sym (ap (optio
     go None h = absurd (cc)
     go (Some t) h = below t.attributes t.struct h
 
-pub name_has_node : (c : ℕ → ℕ → List ℕ) (E : EntryMap) (s : Slot) (path : Path) (attributes : Attributes) (ns : List Name) (n : Name) → beneath_slot c E s path ≡ Some (DirectoryNode attributes ns) → Contains ns n
-    → is_some (beneath_slot c E s (path ++ n ∷ [])) ≡ true
+pub name_has_node : (c : ℕ → ℕ → List ℕ) (E : EntryMap) (s : Slot) (path : Path) (attributes : Attributes) (ns : List Name) (n : Name) → slot_subtree c E s path ≡ Some (DirectoryNode attributes ns) → Contains ns n
+    → is_some (slot_subtree c E s (path ++ n ∷ [])) ≡ true
 name_has_node c E s path attributes ns n e has = ap (λ o. is_some (option_map (λ u. struct_node c E u.attributes u.struct) o)) (walk_append E s path (n ∷ [])) ∙ go (slot_at_path E s path) e
   where
     kept : (o : Option Slot) → is_some o ≡ true → is_some (option_map (λ u. struct_node c E u.attributes u.struct) (option_and_then (λ u. Some u) o)) ≡ true

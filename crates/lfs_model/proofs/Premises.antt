@@ -1,6 +1,6 @@
 -- What is supposed of a device's calls: one call more, and the calls since some older history.
 use Rattle.std.proofs.Common.{◌≡◌, Bool, true, false, List, [], ◌∷◌, ◌++◌, sym, subst, refl}
-use Rattle.lfs_model.proofs.Common.{All-head, Blocks, DeviceCall, Read, Program, Erase, Blank, CallEvent, call_event, AllCalls, AllCallsSince, ConformsTo, CallsConform, may_stop_leave, erases_cleanly, MeetsPremises}
+use Rattle.lfs_model.proofs.Common.{All-head, Blocks, DeviceCall, Read, Program, Erase, Blank, CallEvent, call_event, AllCalls, AllCallsSince, CallConforms, CallsConform, may_stop_leave, erases_cleanly, MeetsPremises}
 use Rattle.lfs_model.proofs.Conformance.{conforming_stops}
 use Rattle.lfs_model.proofs.Stopped.{stops_before}
 
@@ -35,7 +35,7 @@ meets_nothing call blocks = record { erases = cleanly call; failed = λ is. stop
 pub meets_whole : {call : DeviceCall} {before after : Blocks} {older later : List CallEvent} → later ≡ call_event call before after false ∷ older → CallsConform later → MeetsPremises later
     → Meets call true before after
 meets_whole {call} {before} {after} {older} is conforms all =
-    let done = All-head ConformsTo (call_event call before after false) older (subst CallsConform is conforms) in
+    let done = All-head CallConforms (call_event call before after false) older (subst CallsConform is conforms) in
     record { erases = cleanly call; failed = λ failed. conforming_stops (call_event call before after false) done refl (premises_newest is all).erases }
   where
     cleanly : (call : DeviceCall) → erases_cleanly call true before after

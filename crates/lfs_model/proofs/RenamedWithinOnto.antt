@@ -1,7 +1,7 @@
 -- A rename within one pair onto an empty directory: one commit puts the slot under the name, the next drops the directory's pair.
 use Rattle.std.proofs.Common.{ℕ, ◌≡◌, ◌⊎◌, inl, inr, Bool, true, false, cond, List, [], ◌∷◌, ◌++◌, Option, Some, None, refl, sym, ap, ap₂, subst, ◌∙◌, append_assoc, append-nil}
 use Rattle.std.specs.Prelude.{Any}
-use Rattle.lfs_model.proofs.Common.{recursion_from_All, same_Some, Disk, Slot, Struct, Inline, Ctz, Branch, zero_gstate, same_pair, Pair, pairs_gstate, is_hard_tail, count_before_root, pairs_from_root, ThreadDirectory, Path, branch_address, IsAccepted, IsReachedBySome, all_directories, disk_tree, IsWritable, Name, last_name, tree_renaming, without_prefix, same_path, Session, path_or_root, pair_with_slots, slot_of, ReplacesSlots, RemovesSlot, IsUnreachedOrRemoved, slot_addresses, removed_addresses, directory_address, continued_address, IsLayout}
+use Rattle.lfs_model.proofs.Common.{recursion_from_All, same_Some, Disk, Slot, Struct, Inline, Ctz, Branch, zero_gstate, same_pair, Pair, pairs_gstate, is_hard_tail, count_before_root, pairs_from_root, ThreadDirectory, Path, branch_address, IsAccepted, IsReachedBySome, all_directories, disk_tree, IsWritable, Name, last_name, tree_renaming, without_prefix, same_path, Session, path_or_root, pair_with_slots, slot_of, ReplacesSlots, RemovesSlot, IsUnreachedOrRemoved, branch_addresses, removed_addresses, directory_address, continued_address, IsLayout}
 use Rattle.lfs_model.specs.session.Operations as ops
 use Rattle.lfs_model.proofs.Counts.{Each, each_append, each_left, each_right, each_weaker}
 use Rattle.lfs_model.proofs.Superblocks.{IsChain, pairs_behind}
@@ -66,10 +66,10 @@ module _ (disk new : Disk) (rs : List Pair) (b : Bool) (chain front mid back : L
   Goes_ = IsUnreachedOrRemoved ps op
 
   gone : removed_addresses ps op ≡ d ∷ []
-  gone = ap (λ t. cond t [] (slot_addresses (slot_of ps (path_or_root new_bytes)))) (ap₂ same_path old_is new_is ∙ not_before old_path new_path c.not_beneath)
-      ∙ ap slot_addresses (ap (slot_of ps) new_is ∙ c.to_slot) ∙ go target.struct c.branch
+  gone = ap (λ t. cond t [] (branch_addresses (slot_of ps (path_or_root new_bytes)))) (ap₂ same_path old_is new_is ∙ not_before old_path new_path c.not_beneath)
+      ∙ ap branch_addresses (ap (slot_of ps) new_is ∙ c.to_slot) ∙ go target.struct c.branch
     where
-      go : (t : Struct) → t ≡ Branch d → slot_addresses (Some (record target { struct = t })) ≡ d ∷ []
+      go : (t : Struct) → t ≡ Branch d → branch_addresses (Some (record target { struct = t })) ≡ d ∷ []
       go (Branch to) e = ap (λ x. x ∷ []) (same_Some to d (ap branch_address e))
       go (Inline bytes) e = absurd (cc)
       go (Ctz head size) e = absurd (cc)

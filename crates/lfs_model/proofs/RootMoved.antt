@@ -1,7 +1,7 @@
 -- The root directory begins at another pair, for the step that moves a worn one: the image shows the same tree.
 use Rattle.std.proofs.Common.{ℕ, ◌≡◌, inl, inr, ◌+◌, ◌<◌, ◌≤◌, Bool, true, false, cond, not, nat_eq, ◌&&◌, List, [], ◌∷◌, ◌++◌, length, Some, refl, sym, ap, ap₂, subst, ◌∙◌, arith, filter, option_and_then, AllPairs, Less}
 use Rattle.std.specs.Prelude.{All}
-use Rattle.lfs_model.proofs.Common.{option_map, false_from_ne_true, and_parts, All-from_recursion, recursion_from_All, flat_map-append, Disk, SameGeometry, block_count, Name, name_cmp, superblock_fields, Slot, Inline, Ctz, Branch, Gstate, is_superblock, same_pair, content_at, current_block, Pair, anchor_address, AreLinked, pairs_from_filled, is_hard_tail, has_no_entry, chain_may_continue, has_superblock, count_before_root, IsThread, pairs_blocks, pairs_gstate, pairs_from_root, root_address, first_address, slots_not_moved, unmoved_entries, ThreadDirectory, directories_with_pair, pair_directories, directory_slots, BeginsAt, Path, EntryMap, entry_named, branch_address, slot_at_path, root_slot, address_at_path, names_at, struct_node, beneath_slot, beneath_root, all_directories, all_entries, LeadsTo, IsReachedBySome, struct_list_bytes, struct_blocks, disk_tree, all_unmoved_slots, used_blocks, accepts_version, IsSuperblock, BeginsWith, superblock_entry, IsSuperblockFirst, SuperblockFirstIfAny, RepeatsSuperblockStruct, BeginsWithSuperblock, first_slot_name, chain_pairs, IsFormedList, IsAccepted, slot_of, number_occurrences, AnyByRecursion, KeepsStruct}
+use Rattle.lfs_model.proofs.Common.{option_map, false_from_ne_true, and_parts, All-from_recursion, recursion_from_All, flat_map-append, Disk, SameGeometry, block_count, Name, name_cmp, superblock_fields, Slot, Inline, Ctz, Branch, Gstate, is_superblock, same_pair, content_at, current_block, Pair, anchor_address, AreLinked, pairs_from_filled, is_hard_tail, has_no_entry, chain_may_continue, has_superblock, count_before_root, IsThread, pairs_blocks, pairs_gstate, pairs_from_root, root_address, first_address, slots_not_moved, unmoved_entries, ThreadDirectory, directories_with_pair, pair_directories, directory_slots, BeginsDirectory, Path, EntryMap, entry_named, branch_address, slot_at_path, root_slot, address_at_path, names_at, struct_node, slot_subtree, root_subtree, all_directories, all_entries, LeadsTo, IsReachedBySome, struct_list_bytes, struct_blocks, disk_tree, all_unmoved_slots, used_blocks, accepts_version, IsSuperblock, BeginsWith, superblock_entry, IsSuperblockFirst, SuperblockFirstIfAny, RepeatsSuperblockStruct, BeginsWithSuperblock, first_slot_name, chain_pairs, IsFormedList, IsAccepted, slot_of, number_occurrences, AnyByRecursion, KeepsStruct}
 use Rattle.std.specs.List.{IsDistinct}
 use Rattle.lfs_model.specs.declared.limits.AcceptedVersions.{AcceptedVersions}
 use Rattle.lfs_model.specs.declared.limits.Profile.{Profile}
@@ -259,7 +259,7 @@ module _ (disk new : Disk) (chain : List Pair) (r : Pair) (now : List Pair) (s :
   not_root n q x l = false_from_ne_true (same_pair r.at x) (λ t. let e : [] ≡ n ∷ q = ok.once [] (n ∷ q) r.at x (led [] r.at refl) (led (n ∷ q) x l) t in absurd (cc))
 
   among_others : (n : Name) (q : Path) (x : ℕ × ℕ) → address_at_path E r.at (n ∷ q) ≡ Some x → AnyByRecursion (λ d. same_pair d.at x ≡ true) ds
-  among_others n q x l = go (among_from (λ (d : ThreadDirectory). same_pair d.at x ≡ true) (listing r.at S ∷ ds) (subst (λ z. BeginsAt z x) were (ok.branches (n ∷ q) x (led (n ∷ q) x l))))
+  among_others n q x l = go (among_from (λ (d : ThreadDirectory). same_pair d.at x ≡ true) (listing r.at S ∷ ds) (subst (λ z. BeginsDirectory z x) were (ok.branches (n ∷ q) x (led (n ∷ q) x l))))
     where
       go : AnyByRecursion (λ d. same_pair d.at x ≡ true) (listing r.at S ∷ ds) → AnyByRecursion (λ d. same_pair d.at x ≡ true) ds
       go (inl a) = absurd (let k = sym a ∙ not_root n q x l in cc)
@@ -299,15 +299,15 @@ module _ (disk new : Disk) (chain : List Pair) (r : Pair) (now : List Pair) (s :
           (each_right (λ q. SameFiles disk new (slots_not_moved g q)) chain (r ∷ rest)
           (each_pieces (λ v. SameFileBlocks disk new v.struct) (slots_not_moved g) ps (recursion_from_All (λ (v : Slot). SameFileBlocks disk new v.struct) (all_unmoved_slots ps) c.files))))
 
-  shows_same : (path : Path) → beneath_slot (struct_list_bytes new) F (root_slot s.at) path ≡ beneath_slot (struct_list_bytes new) E (root_slot r.at) path
+  shows_same : (path : Path) → slot_subtree (struct_list_bytes new) F (root_slot s.at) path ≡ slot_subtree (struct_list_bytes new) E (root_slot r.at) path
   shows_same [] = ap (λ z. Some (struct_node (struct_list_bytes new) (λ y. z) [] (Branch s.at))) root_shows
   shows_same (n ∷ q) = ap (option_map (λ u. struct_node (struct_list_bytes new) F u.attributes u.struct)) (slot_same n q)
       ∙ nodes_same (struct_list_bytes new) E F (slot_at_path E (root_slot r.at) (n ∷ q)) (λ x l. agrees n q x l)
 
   tree_same : disk_tree new qs ≡ disk_tree disk ps
-  tree_same = ap (beneath_root (struct_list_bytes new) F) root_is
+  tree_same = ap (root_subtree (struct_list_bytes new) F) root_is
       ∙ (λ i path. (shows_same path ∙ contents_agree (struct_list_bytes disk) (struct_list_bytes new) E (root_slot r.at) same_contents path) i)
-      ∙ ap (beneath_root (struct_list_bytes disk) E) (sym root_was)
+      ∙ ap (root_subtree (struct_list_bytes disk) E) (sym root_was)
 
   -- ---- the rules on directories
 
@@ -318,8 +318,8 @@ module _ (disk new : Disk) (chain : List Pair) (r : Pair) (now : List Pair) (s :
       let k = old_lead n q x l in
       subst (λ (z : List Slot). AllPairs (λ a b. name_cmp disk.order a b ≡ Less) (names_at (λ y. z) x)) (sym (agrees n q x k)) (ok.order (n ∷ q) x (led (n ∷ q) x k))
 
-  branches_now : (path : Path) (x : ℕ × ℕ) → LeadsTo qs path x → BeginsAt (all_directories qs) x
-  branches_now path x l = subst (λ z. BeginsAt z x) (sym are) (any_from (λ (d : ThreadDirectory). same_pair d.at x ≡ true) (listing s.at S ∷ ds) (go path l))
+  branches_now : (path : Path) (x : ℕ × ℕ) → LeadsTo qs path x → BeginsDirectory (all_directories qs) x
+  branches_now path x l = subst (λ z. BeginsDirectory z x) (sym are) (any_from (λ (d : ThreadDirectory). same_pair d.at x ≡ true) (listing s.at S ∷ ds) (go path l))
     where
       go : (path : Path) → LeadsTo qs path x → AnyByRecursion (λ d. same_pair d.at x ≡ true) (listing s.at S ∷ ds)
       go [] l = inl (subst (λ z. same_pair s.at z ≡ true) (new_root x l) (pair_itself s.at))

@@ -3,7 +3,7 @@ use Rattle.std.proofs.Common.{ℕ, zero, suc, ◌≡◌, ◌≢◌, ◌⊎◌, i
 use Rattle.std.specs.Prelude.{All}
 use Rattle.std.specs.List.{IsDistinct}
 use Rattle.std.proofs.Common.{nat_eq}
-use Rattle.lfs_model.proofs.Common.{filter-append, recursion_from_All, flat_map-append, same_Some, false_from_ne_true, Disk, Name, name_cmp, Slot, is_superblock, same_pair, Pair, is_hard_tail, pairs_blocks, pairs_gstate, count_before_root, pairs_from_root, Path, IsAccepted, IsTreeEntry, LeadsTo, all_entries, slot_of, pair_count_at, entry_slots, all_slots}
+use Rattle.lfs_model.proofs.Common.{filter-append, recursion_from_All, flat_map-append, same_Some, false_from_ne_true, Disk, Name, name_cmp, Slot, is_superblock, same_pair, Pair, is_hard_tail, pairs_blocks, pairs_gstate, count_before_root, pairs_from_root, Path, IsAccepted, IsTreeEntry, LeadsTo, all_entries, slot_of, directory_pair_count, entry_slots, all_slots}
 use Rattle.lfs_model.specs.crash.Frame.{tail_pairs, directory_pairs}
 use Rattle.lfs_model.specs.session.InDirectory.{FirstIsGreater, HaveNoSuperblock, HasHardTail, joined_count, AreJoined, last_joins, IsDirectoryPair, IsPairAt, IsPlaceOf, BelongsAt}
 use Rattle.lfs_model.proofs.Counts.{Each, each_append, each_right, each_weaker}
@@ -116,7 +116,7 @@ abbrev count_at : List Pair → Option (ℕ × ℕ) → ℕ
 count_at ps None = 0
 count_at ps (Some at) = length (directory_pairs ps at)
 
-pub run_length_is : (disk : Disk) (ps : List Pair) (P : Path) (a : ℕ × ℕ) (first : ℕ) → IsAccepted disk ps → LeadsTo ps P a → IsPairAt ps a first → joined_count (drop first ps) ≡ pair_count_at ps P
+pub run_length_is : (disk : Disk) (ps : List Pair) (P : Path) (a : ℕ × ℕ) (first : ℕ) → IsAccepted disk ps → LeadsTo ps P a → IsPairAt ps a first → joined_count (drop first ps) ≡ directory_pair_count ps P
 run_length_is disk ps P a first ok leads b =
     let i = begins_directory disk ps P a first ok leads b in
     let d = i.directory in

@@ -1,9 +1,9 @@
 -- Runs of a session: joined, parted, and from a fresh disk.
 use Rattle.std.proofs.Common.{ℕ, ◌≡◌, Bool, true, false, cond, List, [], ◌∷◌, ◌++◌, Option, Some, None, is_none, refl, sym, ap, subst, ◌∙◌}
-use Rattle.lfs_model.proofs.Common.{same_Some, Disk, block_count, content_at, disk_tree, Operation, Reply, Refusal, Session, DiskSummary, FileReader, file_reader, file_numbered, refuse_if, operation_result, unless_refused, read_effect, operation_refusal, SessionHealth, HasFailed, Healthy, is_remount, other_result, remount_result, mounted_session, IsFreshDisk, fresh_pair, empty_tree, HasDiskTree, reply_to_reader, SystemState, ShowsTree, HealthyHasDiskTree, IsStep, AreSteps}
+use Rattle.lfs_model.proofs.Common.{same_Some, Disk, block_count, content_at, disk_tree, Operation, Reply, Refusal, Session, DiskSummary, FileReader, file_reader, file_numbered, refuse_if, operation_result, unless_refused, read_effect, operation_refusal, SessionHealth, HasFailed, Healthy, is_remount, nonremount_result, remount_result, mounted_session, IsFreshDisk, fresh_pair, empty_tree, HasDiskTree, read_reply, SystemState, ShowsTree, HealthyHasDiskTree, IsStep, AreSteps}
 use Rattle.lfs_model.specs.session.Operations as ops
 use Rattle.lfs_model.specs.session.Operations.{BadFile}
-use Rattle.lfs_model.specs.session.Headline.{is_query, IsFreshReply, IsReaderReply, IsJoinedRun}
+use Rattle.lfs_model.specs.session.Headline.{is_query, IsFreshReply, IsReaderReply, IsDividedRun}
 use Rattle.lfs_model.proofs.Uniqueness.{one_thread}
 use Rattle.lfs_model.proofs.Fresh.{accepted, shows}
 
@@ -17,7 +17,7 @@ session_steps_joined (op ∷ operations) more [] others a b c e h = absurd e
 session_steps_joined (op ∷ operations) more (reply ∷ replies) others a b c (next, (turn, rest)) h =
     (next, (turn, session_steps_joined operations more replies others next b c rest h))
 
-pub session_steps_parted : (operations more : List Operation) (replies : List Reply) (a c : SystemState) → AreSteps a (operations ++ more) replies c → IsJoinedRun operations more replies a c
+pub session_steps_parted : (operations more : List Operation) (replies : List Reply) (a c : SystemState) → AreSteps a (operations ++ more) replies c → IsDividedRun operations more replies a c
 session_steps_parted [] more replies a c h = record { between = a; front = []; back = replies; joined = refl; first = refl; second = h }
 session_steps_parted (op ∷ operations) more [] a c h = absurd h
 session_steps_parted (op ∷ operations) more (reply ∷ replies) a c (next, (turn, rest)) =
@@ -37,7 +37,7 @@ session_step_is_healthy from to op reply turn h = go (is_remount op) (from.state
     remounts None e = absurd (let k = ap (λ (z : Option Reply × SessionHealth). z.0) e in cc)
     remounts (Some tree) e = subst IsHealthy (ap (λ (z : Option Reply × SessionHealth). z.1) e) tt
 
-    go : (b : Bool) (state : SessionHealth) → IsHealthy state → (shown : Option _) → cond b (remount_result shown) (other_result turn.answered.around state op) ≡ (Some reply, to.state) → IsHealthy to.state
+    go : (b : Bool) (state : SessionHealth) → IsHealthy state → (shown : Option _) → cond b (remount_result shown) (nonremount_result turn.answered.around state op) ≡ (Some reply, to.state) → IsHealthy to.state
     go true state k shown e = remounts shown e
     go false HasFailed k shown e = absurd k
     go false (Healthy s) k shown e = subst IsHealthy (ap (λ (z : Option Reply × SessionHealth). z.1) e) tt
@@ -97,20 +97,20 @@ question_answered from to op reply known asks turn =
       accepted = s.1.0;
       around = a.around;
       surrounds = s.1.1;
-      is = is_answer a.around (sym (ap (λ b. cond b (remount_result a.shown) (other_result a.around from.state op)) (not_remount op asks)) ∙ a.answers)
+      is = is_answer a.around (sym (ap (λ b. cond b (remount_result a.shown) (nonremount_result a.around from.state op)) (not_remount op asks)) ∙ a.answers)
           ∙ of_tree a.around known.session op asks
           ∙ ap (λ z. (operation_result a.around (mounted_session z) op).0) (t.1.1 ∙ ap (disk_tree from.disk) (one_thread (content_at from.disk) (block_count from.disk) t.0 s.0 t.1.0.thread s.1.0.thread));
     }
   where
-    is_answer : (around : DiskSummary) → other_result around from.state op ≡ (Some reply, to.state) → reply ≡ (operation_result around known.session op).0
+    is_answer : (around : DiskSummary) → nonremount_result around from.state op ≡ (Some reply, to.state) → reply ≡ (operation_result around known.session op).0
     is_answer around e =
-        let k : Some (operation_result around known.session op).0 ≡ Some reply = ap (λ (z : Option Reply × SessionHealth). z.0) (sym (ap (λ state. other_result around state op) known.healthy) ∙ e) in
+        let k : Some (operation_result around known.session op).0 ≡ Some reply = ap (λ (z : Option Reply × SessionHealth). z.0) (sym (ap (λ state. nonremount_result around state op) known.healthy) ∙ e) in
         sym (same_Some (operation_result around known.session op).0 reply k)
 
-reader_reply : (around : DiskSummary) (s : Session) (fd count : ℕ) → (operation_result around s (ops.Read fd count)).0 ≡ reply_to_reader s.tree (file_reader (file_numbered s.files fd)) count
+reader_reply : (around : DiskSummary) (s : Session) (fd count : ℕ) → (operation_result around s (ops.Read fd count)).0 ≡ read_reply s.tree (file_reader (file_numbered s.files fd)) count
 reader_reply around s fd count = go (file_reader (file_numbered s.files fd))
   where
-    go : (r : Option FileReader) → (unless_refused (refuse_if (is_none r) BadFile) s (read_effect s fd count r)).0 ≡ reply_to_reader s.tree r count
+    go : (r : Option FileReader) → (unless_refused (refuse_if (is_none r) BadFile) s (read_effect s fd count r)).0 ≡ read_reply s.tree r count
     go None = refl
     go (Some r) = refl
 
@@ -124,7 +124,7 @@ reader_answered from to fd count reply known turn =
       accepted = t.1.0;
       session = known.session;
       healthy = known.healthy;
-      is = sym (same_Some (operation_result a.around known.session (ops.Read fd count)).0 reply (ap (λ (z : Option Reply × SessionHealth). z.0) (sym (ap (λ state. other_result a.around state (ops.Read fd count)) known.healthy) ∙ a.answers)))
+      is = sym (same_Some (operation_result a.around known.session (ops.Read fd count)).0 reply (ap (λ (z : Option Reply × SessionHealth). z.0) (sym (ap (λ state. nonremount_result a.around state (ops.Read fd count)) known.healthy) ∙ a.answers)))
           ∙ reader_reply a.around known.session fd count
-          ∙ ap (λ z. reply_to_reader z (file_reader (file_numbered known.session.files fd)) count) t.1.1;
+          ∙ ap (λ z. read_reply z (file_reader (file_numbered known.session.files fd)) count) t.1.1;
     }

@@ -1,6 +1,6 @@
 -- What is on a device's disk after its last call, also after one that failed.
 use Rattle.std.proofs.Common.{◌≡◌, ◌≢◌, Bool, true, false, List, [], ◌∷◌, ◌++◌, refl, sym, ap, subst, ◌∙◌}
-use Rattle.lfs_model.proofs.Common.{append_cancel_right, All-head, Blocks, Disk, CallEvent, AllCalls, AllCallsSince, LeftByLatest, HoldsAtLosses, ConformsTo, CallsConform, LeftByLoss, ErasesCleanly, FailLikeLossSince, Operation, FailsLikeLoss, IsHealthySession, HasEitherTree, SurvivesInCalls, SurvivesPowerLoss, with_blocks, HealthyHasDiskTree, SystemState, Session, DiskSummary, operation_result, disk_tree, Pair, Tree}
+use Rattle.lfs_model.proofs.Common.{append_cancel_right, All-head, Blocks, Disk, CallEvent, AllCalls, AllCallsSince, LeftByLatest, HoldsAtLosses, CallConforms, CallsConform, LeftByLoss, ErasesCleanly, FailLikeLossSince, Operation, FailsLikeLoss, IsHealthySession, HasEitherTree, SurvivesStoppedCalls, SurvivesPowerLoss, with_blocks, HealthyHasDiskTree, SystemState, Session, DiskSummary, operation_result, disk_tree, Pair, Tree}
 use Rattle.lfs_model.specs.crash.Standing.{SameConformingDevice}
 use Rattle.lfs_model.proofs.AfterStops.{left_before}
 use Rattle.lfs_model.proofs.Kept.{one_tree}
@@ -18,7 +18,7 @@ newest_has : {P : CallEvent → Type 0} {old new : List CallEvent} (e : CallEven
 newest_has {P} {old} e events all is = (subst (AllCalls P) (append_cancel_right all.events (e ∷ events) old (sym all.extends ∙ is)) all.each).0
 
 -- what a call left is among what a stop in it may leave, whether it failed or not
-left_as_stopped : (e : CallEvent) → ConformsTo e → ErasesCleanly e → FailsLikeLoss e → LeftByLoss e e.after
+left_as_stopped : (e : CallEvent) → CallConforms e → ErasesCleanly e → FailsLikeLoss e → LeftByLoss e e.after
 left_as_stopped e conforms clean fails = go e.failed refl
   where
     go : (failed : Bool) → e.failed ≡ failed → LeftByLoss e e.after
@@ -35,7 +35,7 @@ stands {P} {old} {new} last untouched newest conforms since cleanly fails = go s
     go : (events : List CallEvent) → new ≡ events ++ old → AllCalls (λ e. (disk : Blocks) → LeftByLoss e disk → P disk) events → P last
     go [] same each = untouched same
     go (e ∷ events) same each =
-        let done = All-head ConformsTo e (events ++ old) (subst CallsConform same conforms) in
+        let done = All-head CallConforms e (events ++ old) (subst CallsConform same conforms) in
         let left = left_as_stopped e done (newest_has e events cleanly same) (newest_has e events fails same) in
         subst P (newest e (events ++ old) same) (each.0 e.after left)
 
@@ -58,7 +58,7 @@ one_device from to called then now conforms same = record {
   conforms = conforms;
 }
 
-pub device_survives_loss : (from to : SystemState) (op : Operation) → HealthyHasDiskTree from.disk from.state → SameConformingDevice from to → SurvivesInCalls from op to → SurvivesPowerLoss from op to
+pub device_survives_loss : (from to : SystemState) (op : Operation) → HealthyHasDiskTree from.disk from.state → SameConformingDevice from to → SurvivesStoppedCalls from op to → SurvivesPowerLoss from op to
 device_survives_loss from to op agrees device survives = record { stops = survives; stands = behind }
   where
     behind : (s : Session) (ps : List Pair) (around : DiskSummary) → IsHealthySession from s ps around

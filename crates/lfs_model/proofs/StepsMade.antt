@@ -1,12 +1,12 @@
 -- From what an operation does to the disk to its step in a run.
 use Rattle.std.proofs.Common.{◌≡◌, true, false, cond, List, [], ◌++◌, Option, Some, None, refl, sym, ap, subst, ◌∙◌}
-use Rattle.lfs_model.proofs.Common.{Disk, SameGeometry, block_count, ordered_disk, content_at, zero_gstate, Pair, pairs_gstate, IsAccepted, DiskView, HasDiskView, disk_view, disk_tree, IsWritable, CallEvent, Operation, Reply, Refusal, Session, DiskSummary, FileReader, file_reader, file_numbered, operation_refusal, operation_effect, read_effect, unless_refused, IsSummary, SessionHealth, HasFailed, Healthy, is_remount, remount_result, other_result, mounted_session, IsRecovered, is_refusal, IsDiskEffect, IsStep}
+use Rattle.lfs_model.proofs.Common.{Disk, SameGeometry, block_count, ordered_disk, content_at, zero_gstate, Pair, pairs_gstate, IsAccepted, DiskView, HasDiskView, disk_view, disk_tree, IsWritable, CallEvent, Operation, Reply, Refusal, Session, DiskSummary, FileReader, file_reader, file_numbered, operation_refusal, operation_effect, read_effect, unless_refused, IsSummary, SessionHealth, HasFailed, Healthy, is_remount, remount_result, nonremount_result, mounted_session, IsRecovered, is_refusal, IsDiskEffect, IsStep}
 use Rattle.lfs_model.specs.declared.order.NameOrder.{NameOrder}
 use Rattle.lfs_model.specs.declared.order.NameOrder.TheVariants.{LongerFirst, ShorterFirst}
 use Rattle.lfs_model.specs.session.Operations as ops
 use Rattle.lfs_model.specs.session.Operations.{Failed}
 use Rattle.lfs_model.specs.session.Recovery.{recovers_first}
-use Rattle.lfs_model.specs.session.Run.{IsReply, is_read_only, opens_existing, writes_or_truncates, needs_no_device, renames_itself, is_recover, edits_slots, WriteNothing, IsUntouched, disk_read_by}
+use Rattle.lfs_model.specs.session.Run.{IsReply, is_read_only, opens_there, writes_or_truncates, needs_no_device, renames_itself, is_recover, edits_slots, WriteNothing, IsUntouched, operation_disk}
 use Rattle.lfs_model.proofs.Uniqueness.{one_thread}
 use Rattle.lfs_model.proofs.OtherOrder.{same_pairs, writable_in_order}
 use Rattle.lfs_model.proofs.Arranged.{IsFinished}
@@ -32,14 +32,14 @@ answered_by disk order ps s around op reply after over other e = record {
   shown = None;
   surrounds = λ t f. (ps, (over.accepted, over.surrounds));
   shows = λ f. absurd (let k = sym other ∙ f in cc);
-  answers = ap (λ b. cond b (remount_result None) (other_result around (Healthy s) op)) other ∙ ap (λ z. (Some z.0, Healthy z.1)) e;
+  answers = ap (λ b. cond b (remount_result None) (nonremount_result around (Healthy s) op)) other ∙ ap (λ z. (Some z.0, Healthy z.1)) e;
 }
 
 -- a remount alone finds another order of names
-same_disk_read : (op : Operation) (order : NameOrder) (disk : Disk) → is_remount op ≡ false → disk_read_by op order disk ≡ disk
+same_disk_read : (op : Operation) (order : NameOrder) (disk : Disk) → is_remount op ≡ false → operation_disk op order disk ≡ disk
 same_disk_read op order disk other = ap (λ b. cond b (ordered_disk order disk) disk) other
 
-same_geometry : (op : Operation) (disk new : Disk) → is_remount op ≡ false → SameGeometry disk new → SameGeometry (disk_read_by op new.order disk) new
+same_geometry : (op : Operation) (disk new : Disk) → is_remount op ≡ false → SameGeometry disk new → SameGeometry (operation_disk op new.order disk) new
 same_geometry op disk new other geometry = subst (λ d. SameGeometry d new) (sym (same_disk_read op new.order disk other)) geometry
 
 -- what an applied operation does is said of any pairs, and those of an accepted disk are known
@@ -84,7 +84,7 @@ pub record IsProper (disk : Disk) (ps : List Pair) (s : Session) (op : Operation
   pub other : is_remount op ≡ false
   pub asks : is_read_only s op ≡ false
   pub fills : writes_or_truncates op ≡ false
-  pub opens : opens_existing s op ≡ true → pairs_gstate ps ≡ zero_gstate → new ≡ disk
+  pub opens : opens_there s op ≡ true → pairs_gstate ps ≡ zero_gstate → new ≡ disk
   pub silent : needs_no_device s op ≡ true → (new ≡ disk) × (calls ≡ [])
   pub itself : renames_itself op ≡ true → IsUntouched disk calls new
   pub nothing_left : is_recover op ≡ true → IsRecovered ps → IsUntouched disk calls new
@@ -233,7 +233,7 @@ failed_step disk around op old other = record {
     shown = None;
     surrounds = λ s e. absurd (cc);
     shows = λ f. absurd (let k = sym other ∙ f in cc);
-    answers = ap (λ b. cond b (remount_result None) (other_result around HasFailed op)) other;
+    answers = ap (λ b. cond b (remount_result None) (nonremount_result around HasFailed op)) other;
   };
   agrees = tt;
   geometry = same_geometry op disk disk other (record { block_size = refl; page = refl; order = refl; profile = refl; count = refl });

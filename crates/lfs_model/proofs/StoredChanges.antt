@@ -1,14 +1,14 @@
 -- The entries of changes can be stored, so what they make of a content can be written again.
 use Rattle.std.proofs.Common.{ℕ, zero, suc, ◌≡◌, ◌+◌, ◌/◌, ◌%◌, ◌<◌, ◌≤◌, ◌==◌, ◌&&◌, Bool, true, false, cond, List, [], ◌∷◌, length, Some, None, refl, sym, ap, ◌∙◌, arith}
 use Rattle.std.specs.Prelude.{slice_index, nat_le, nat_lt}
-use Rattle.lfs_model.proofs.Common.{list_all, and_parts, ne_eqb, leb-true, ltb-true, make_tag, abstract_type, tag_length, RawContent, content_after, is_attribute_removal, no_id, create_tag_type, delete_tag_type, move_type, log_entry, first_attribute_type, address_bytes, bytes_of_move_state, HasTagLength, HaveTagLengths, IsWellFormed, PairChange, Create, Delete, PutStruct, PutAttribute, RemoveAttribute, PutTail, PutMove, change_entries, entries_of_changes, is_storable, changed_content_of}
+use Rattle.lfs_model.proofs.Common.{list_all, and_parts, ne_eqb, leb-true, ltb-true, make_tag, tag_class, tag_length, RawContent, content_after, is_attribute_removal, no_id, create_tag_type, delete_tag_type, move_type, log_entry, first_attribute_type, address_bytes, bytes_of_move_state, HasTagLength, HaveTagLengths, IsWellFormed, ContentChange, Create, Delete, PutStruct, PutAttribute, RemoveAttribute, PutTail, PutMove, change_entries, entries_of_changes, is_storable, content_with_changes}
 use Rattle.lfs_model.specs.layers.WrittenContent.{tail_type, tail_or_null}
 use Rattle.lfs_model.specs.layers.Changes.{is_name_type, is_struct_type, fits_in_tag}
 use Rattle.lfs_model.proofs.WrittenAnew.{tag_length-make_tag}
 use Rattle.lfs_model.proofs.Logged.{stored_append, logged_after_all}
 
 -- an entry with at most 1,022 bytes
-stored_data : (type id : ℕ) (bytes : List ℕ) → length bytes ≤ 1022 → (6 ≤ abstract_type (make_tag type id (length bytes)) → (i : ℕ) → slice_index bytes i < 256) → HasTagLength (log_entry type id bytes)
+stored_data : (type id : ℕ) (bytes : List ℕ) → length bytes ≤ 1022 → (6 ≤ tag_class (make_tag type id (length bytes)) → (i : ℕ) → slice_index bytes i < 256) → HasTagLength (log_entry type id bytes)
 stored_data type id bytes short small =
     let len : tag_length (make_tag type id (length bytes)) ≡ length bytes = tag_length-make_tag type id (length bytes) (omega arith) in
     let stays : is_attribute_removal (make_tag type id (length bytes)) ≡ false = ne_eqb (tag_length (make_tag type id (length bytes))) 0x3ff (λ h. omega arith) in
@@ -34,7 +34,7 @@ pair_small pair = eight [] tt pair.0 (pair.0 / 256) (pair.0 / 65536) (pair.0 / 1
 stored_low : (type id : ℕ) (bytes : List ℕ) → type < 0x600 → id < 0x3ff → length bytes ≤ 1022 → HasTagLength (log_entry type id bytes)
 stored_low type id bytes t i n = stored_data type id bytes n (λ k. absurd (omega arith))
 
-stored_change : (c : PairChange) → is_storable c ≡ true → HaveTagLengths (change_entries c)
+stored_change : (c : ContentChange) → is_storable c ≡ true → HaveTagLengths (change_entries c)
 stored_change (Create id kind name) s =
     let a = and_parts (nat_lt id no_id) (is_name_type kind && fits_in_tag name) s in
     let b = and_parts (is_name_type kind) (fits_in_tag name) a.1 in
@@ -70,13 +70,13 @@ stored_change (PutTail hard pair) s =
 stored_change (PutMove state) s =
     (stored_data move_type no_id (bytes_of_move_state state) (omega arith) (λ k. small_at (bytes_of_move_state state) (omega arith, (omega arith, (omega arith, (omega arith, pair_small state.pair))))), tt)
 
-stored_changes : (changes : List PairChange) → list_all is_storable changes ≡ true → HaveTagLengths (entries_of_changes changes)
+stored_changes : (changes : List ContentChange) → list_all is_storable changes ≡ true → HaveTagLengths (entries_of_changes changes)
 stored_changes [] s = tt
 stored_changes (c ∷ changes) s =
     let both = and_parts (is_storable c) (list_all is_storable changes) s in
     stored_append (change_entries c) (entries_of_changes changes) (stored_change c both.0) (stored_changes changes both.1)
 
-pub logged_changed : (c : RawContent) (changes : List PairChange) (d : RawContent) → IsWellFormed c → changed_content_of c changes ≡ Some d → IsWellFormed d
+pub logged_changed : (c : RawContent) (changes : List ContentChange) (d : RawContent) → IsWellFormed c → content_with_changes c changes ≡ Some d → IsWellFormed d
 logged_changed c changes d h is = go (list_all is_storable changes) refl is
   where
     go : (b : Bool) → list_all is_storable changes ≡ b → cond b (content_after c (entries_of_changes changes)) None ≡ Some d → IsWellFormed d

@@ -1,13 +1,13 @@
 -- What a loss of power in a run leaves, and what a mount and a recovery make of it. So it is for any number of them.
 use Rattle.std.proofs.Common.{◌≡◌, ◌⊎◌, inl, inr, ℕ, Bool, true, false, cond, not, List, [], ◌∷◌, ◌++◌, Option, Some, None, refl, sym, ap, ap₂, subst, ◌∙◌, append_assoc}
 use Rattle.std.specs.Prelude.{All, Any}
-use Rattle.lfs_model.proofs.Common.{recursion_from_All, same_Some, append_cancel_right, Blocks, Disk, SameGeometry, block_count, ordered_disk, content_at, Pair, pairs_gstate, Tree, IsAccepted, IsWritable, IsWritableDisk, disk_tree, used_blocks, Operation, Reply, Session, DiskSummary, refuse_if, operation_result, unless_refused, SessionHealth, Healthy, is_remount, other_result, mounted_session, IsRecovered, SystemState, ShowsTree, HealthyHasDiskTree, is_refusal, IsStep, HasDiskTree, LeftByLoss, ErasesCleanly, HasEitherTree, with_blocks, IsHealthySession, SurvivesPowerLoss, IsPerformed, ArePerformed, IsRun, IsMounted, KeepsTree, LossAfterRun, SurvivesLoss, CallEvent, AllCalls, AllCallsSince, HoldsAtLosses, accepted_operation}
+use Rattle.lfs_model.proofs.Common.{recursion_from_All, same_Some, append_cancel_right, Blocks, Disk, SameGeometry, block_count, ordered_disk, content_at, Pair, pairs_gstate, Tree, IsAccepted, IsWritable, IsWritableDisk, disk_tree, used_blocks, Operation, Reply, Session, DiskSummary, refuse_if, operation_result, unless_refused, SessionHealth, Healthy, is_remount, nonremount_result, mounted_session, IsRecovered, SystemState, ShowsTree, HealthyHasDiskTree, is_refusal, IsStep, HasDiskTree, LeftByLoss, ErasesCleanly, HasEitherTree, with_blocks, IsHealthySession, SurvivesPowerLoss, IsPerformed, ArePerformed, IsRun, IsMounted, KeepsTree, LossAfterRun, SurvivesLoss, CallEvent, AllCalls, AllCallsSince, HoldsAtLosses, accepted_operation}
 use Rattle.lfs_model.proofs.Counts.{Each, each_left}
 use Rattle.lfs_model.specs.declared.order.NameOrder.{NameOrder}
 use Rattle.lfs_model.specs.declared.limits.Profile.{Profile}
 use Rattle.lfs_model.specs.session.Operations as ops
 use Rattle.lfs_model.specs.session.Operations.{ReadOnly}
-use Rattle.lfs_model.specs.crash.RepeatedPowerLoss.{SameBytes, RecoversTree, LeftInCall, LeftBetween, LossInOperation, LossInOperations, LeftByLosses, SurvivesEach, MeetsRunPremises, CrashSafe}
+use Rattle.lfs_model.specs.crash.RepeatedPowerLoss.{SameBytes, RecoversTree, LeftInCall, LeftBetween, LossInOperation, LossInOperations, LeftByLosses, SurvivesLosses, MeetsRunPremises, CrashSafe}
 use Rattle.lfs_model.proofs.AfterStops.{left_before}
 use Rattle.lfs_model.proofs.Histories.{began, goes_on_by, AllCallsSince-until, AllCallsSince-behind}
 use Rattle.lfs_model.proofs.Sites.{AnyByRecursion, among_from, any_from, among_parts}
@@ -34,7 +34,7 @@ recover_keeps from to reply ps ok fits state turn =
     let s = a.surrounds (mounted_session (disk_tree from.disk ps)) state in
     let same = one_thread (content_at from.disk) (block_count from.disk) ps s.0 ok.thread s.1.0.thread in
     let writes = s.1.1.writable.1 (subst (IsWritable from.disk) same fits) in
-    let answer = sym (ap (λ state. other_result a.around state ops.Recover) state) ∙ a.answers in
+    let answer = sym (ap (λ state. nonremount_result a.around state ops.Recover) state) ∙ a.answers in
     let e = allowed a.around writes ∙ answer in
     let done : reply ≡ ops.Done = sym (same_Some ops.Done reply (ap (λ (z : Option Reply × SessionHealth). z.0) e)) in
     let shown = subst (HealthyHasDiskTree to.disk) (sym (ap (λ (z : Option Reply × SessionHealth). z.1) e)) turn.agrees in
@@ -49,7 +49,7 @@ recover_keeps from to reply ps ok fits state turn =
     }
   where
     allowed : (around : DiskSummary) → around.writable ≡ true →
-        (Some ops.Done, Healthy (mounted_session (disk_tree from.disk ps))) ≡ other_result around (Healthy (mounted_session (disk_tree from.disk ps))) ops.Recover
+        (Some ops.Done, Healthy (mounted_session (disk_tree from.disk ps))) ≡ nonremount_result around (Healthy (mounted_session (disk_tree from.disk ps))) ops.Recover
     allowed around e = ap (λ b. (
       Some (unless_refused (refuse_if (not b) ReadOnly) (mounted_session (disk_tree from.disk ps)) (ops.Done, mounted_session (disk_tree from.disk ps))).0,
       Healthy (unless_refused (refuse_if (not b) ReadOnly) (mounted_session (disk_tree from.disk ps)) (ops.Done, mounted_session (disk_tree from.disk ps))).1,
@@ -308,7 +308,7 @@ once_survived from operations to left (inr c) may stop =
 
 -- ---- any number of them
 
-pub again_survived : (order : NameOrder) (disk : Disk) (tree : Tree) (lefts : List Disk) → KeepsTree tree (ordered_disk order disk) → (losses : LeftByLosses disk lefts) → SurvivesEach disk lefts losses
+pub again_survived : (order : NameOrder) (disk : Disk) (tree : Tree) (lefts : List Disk) → KeepsTree tree (ordered_disk order disk) → (losses : LeftByLosses disk lefts) → SurvivesLosses disk lefts losses
 again_survived order disk tree [] safe losses = tt
 again_survived order disk tree (left ∷ others) safe (o, more) = (one, again_survived one.order left one.tree others one.safe more)
   where

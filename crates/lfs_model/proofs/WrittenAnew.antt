@@ -1,11 +1,11 @@
 -- A compacted block holds what was written to it.
 use Rattle.std.proofs.Common.{ℕ, ◌≡◌, ◌+◌, ◌-◌, ◌*◌, ◌/◌, ◌%◌, ◌^◌, ◌<◌, ◌≤◌, ◌==◌, Bool, true, false, cond, not, List, [], ◌∷◌, ◌++◌, length, Option, Some, None, refl, sym, ap, ap₂, ◌∙◌, arith, length-append, append_assoc, eq-eqb, eqb-true}
 use Rattle.std.specs.Prelude.{nat_lt, nat_le, is_some}
-use Rattle.lfs_model.proofs.Common.{option_and_then, option_map, ne_eqb, or_right, le-ltb, le-leb, and_parts, append-nil, set-append_seam, get_or-append_seam, make_tag, tag_type, tag_id, tag_length, abstract_type, tag_chunk, LogEntry, Attributes, Tail, Gstate, zero_gstate, RawSlot, RawContent, content_after_one, content_after, slots_after, attributes_with, empty_raw_content, is_known_tag, has_needed_id, no_id, create_tag_type, delete_tag_type, is_attribute_removal, read_address, tail_to_pair, read_gstate, move_type, log_entry, part_entries, attribute_entries, slot_entries, entries_of_slots, address_bytes, tail_entries, bytes_of_move_state, move_state_entries, is_zero, content_entries, IsAllowedPart, AllowsIfSome, AttributesInOrder, IsFormedSlot, AreWellFormed, AreWords, IsAllowedTail, MoveStateFits}
+use Rattle.lfs_model.proofs.Common.{option_and_then, option_map, ne_eqb, or_right, le-ltb, le-leb, and_parts, append-nil, set-append_seam, get_or-append_seam, make_tag, tag_type, tag_id, tag_length, tag_class, tag_chunk, LogEntry, Attributes, Tail, Gstate, zero_gstate, RawSlot, RawContent, content_after_entry, content_after, slots_after, attributes_with, empty_raw_content, is_known_tag, has_needed_id, no_id, create_tag_type, delete_tag_type, is_attribute_removal, decoded_address, tail_if_any, decoded_gstate, move_type, log_entry, part_entries, attribute_entries, slot_entries, entries_of_slots, address_bytes, tail_entries, bytes_of_move_state, move_state_entries, is_zero, content_entries, IsAllowedPart, AllowedIfAny, AttributesInOrder, IsFormedSlot, AreWellFormed, AreWords, IsAllowedTail, MoveStateFits}
 use Rattle.std.proofs.lemmas.Bool.{lt-leb}
 use Rattle.byteorder.specs.Endian.{little_number, little_bytes}
 use Rattle.byteorder.specs.Numbers.{little_number-reads_back}
-use Rattle.lfs_model.specs.format.EntryTypes.{gstate_from}
+use Rattle.lfs_model.specs.format.EntryTypes.{unpacked_gstate}
 use Rattle.lfs_model.specs.layers.WrittenContent.{move_word}
 use Rattle.lfs_model.specs.layers.LoggedContent.{AreNamed, IsStorable}
 
@@ -24,7 +24,7 @@ tag_length-make_tag type id len l = omega arith
 
 pub content_after-append : (c : RawContent) (xs ys : List LogEntry) → content_after c (xs ++ ys) ≡ option_and_then (λ d. content_after d ys) (content_after c xs)
 content_after-append c [] ys = refl
-content_after-append c (x ∷ xs) ys = go (content_after_one c x) (λ d. content_after-append d xs ys)
+content_after-append c (x ∷ xs) ys = go (content_after_entry c x) (λ d. content_after-append d xs ys)
   where
     go : (o : Option RawContent) → ((d : RawContent) → content_after d (xs ++ ys) ≡ option_and_then (λ d. content_after d ys) (content_after d xs))
         → option_and_then (λ d. content_after d (xs ++ ys)) o ≡ option_and_then (λ d. content_after d ys) (option_and_then (λ d. content_after d xs) o)
@@ -38,21 +38,21 @@ then c d xs ys e f g = content_after-append c xs ys ∙ ap (option_and_then (λ 
 -- ---- an entry of a slot
 
 -- an entry of a class below 5 that is in the table changes the slots
-by_slots : (c : RawContent) (e : LogEntry) → abstract_type e.tag < 5 → is_known_tag e.tag ≡ true → tag_id e.tag < 0x3ff
-    → content_after_one c e ≡ option_map (λ slots. record c { slots = slots }) (slots_after c.slots e)
+by_slots : (c : RawContent) (e : LogEntry) → tag_class e.tag < 5 → is_known_tag e.tag ≡ true → tag_id e.tag < 0x3ff
+    → content_after_entry c e ≡ option_map (λ slots. record c { slots = slots }) (slots_after c.slots e)
 by_slots c e k t i =
-    let five : abstract_type e.tag == 5 ≡ false = ne_eqb (abstract_type e.tag) 5 (λ h. omega arith) in
-    let six : abstract_type e.tag == 6 ≡ false = ne_eqb (abstract_type e.tag) 6 (λ h. omega arith) in
-    let seven : abstract_type e.tag == 7 ≡ false = ne_eqb (abstract_type e.tag) 7 (λ h. omega arith) in
+    let five : tag_class e.tag == 5 ≡ false = ne_eqb (tag_class e.tag) 5 (λ h. omega arith) in
+    let six : tag_class e.tag == 6 ≡ false = ne_eqb (tag_class e.tag) 6 (λ h. omega arith) in
+    let seven : tag_class e.tag == 7 ≡ false = ne_eqb (tag_class e.tag) 7 (λ h. omega arith) in
     let other : tag_id e.tag == no_id ≡ false = ne_eqb (tag_id e.tag) no_id (λ h. omega arith) in
-    let its : has_needed_id e.tag ≡ true = or_right (nat_le 5 (abstract_type e.tag)) (not (tag_id e.tag == no_id)) (ap not other) in
+    let its : has_needed_id e.tag ≡ true = or_right (nat_le 5 (tag_class e.tag)) (not (tag_id e.tag == no_id)) (ap not other) in
     rw (five, t, its, six, seven) refl
 
 -- a name at the end makes a slot
-name_at_end : (slots : List RawSlot) (e : LogEntry) → abstract_type e.tag ≡ 0 → tag_id e.tag ≡ length slots
+name_at_end : (slots : List RawSlot) (e : LogEntry) → tag_class e.tag ≡ 0 → tag_id e.tag ≡ length slots
     → slots_after slots e ≡ Some (slots ++ record { name = Some (tag_type e.tag, e.bytes); struct = None; attributes = [] } ∷ [])
 name_at_end slots e k i =
-    let zero_class : abstract_type e.tag == 0 ≡ true = eq-eqb (abstract_type e.tag) 0 k in
+    let zero_class : tag_class e.tag == 0 ≡ true = eq-eqb (tag_class e.tag) 0 k in
     let one : length slots + 1 - length slots ≡ 1 = omega arith in
     rw (zero_class, i) (rw (one, get_or-append_seam, set-append_seam) refl)
 
@@ -61,23 +61,23 @@ abbrev last : List RawSlot → RawSlot → List RawSlot
 last slots s = slots ++ s ∷ []
 
 -- a struct for the last slot
-struct_at_end : (slots : List RawSlot) (s : RawSlot) (e : LogEntry) → is_some s.name ≡ true → abstract_type e.tag ≡ 2 → tag_id e.tag ≡ length slots
+struct_at_end : (slots : List RawSlot) (s : RawSlot) (e : LogEntry) → is_some s.name ≡ true → tag_class e.tag ≡ 2 → tag_id e.tag ≡ length slots
     → slots_after (last slots s) e ≡ Some (last slots (record s { struct = Some (tag_type e.tag, e.bytes) }))
 struct_at_end slots s e n k i =
-    let not_name : abstract_type e.tag == 0 ≡ false = ne_eqb (abstract_type e.tag) 0 (λ h. omega arith) in
+    let not_name : tag_class e.tag == 0 ≡ false = ne_eqb (tag_class e.tag) 0 (λ h. omega arith) in
     let not_create : tag_type e.tag == create_tag_type ≡ false = ne_eqb (tag_type e.tag) create_tag_type (λ h. omega arith) in
     let not_delete : tag_type e.tag == delete_tag_type ≡ false = ne_eqb (tag_type e.tag) delete_tag_type (λ h. omega arith) in
-    let is_struct : abstract_type e.tag == 2 ≡ true = eq-eqb (abstract_type e.tag) 2 k in
+    let is_struct : tag_class e.tag == 2 ≡ true = eq-eqb (tag_class e.tag) 2 k in
     rw (not_name, not_create, not_delete, i) (rw (get_or-append_seam, n, is_struct) (rw set-append_seam refl))
 
 -- an attribute for the last slot
-attribute_at_end : (slots : List RawSlot) (s : RawSlot) (e : LogEntry) → is_some s.name ≡ true → abstract_type e.tag ≡ 3 → tag_id e.tag ≡ length slots → tag_length e.tag < 0x3ff
+attribute_at_end : (slots : List RawSlot) (s : RawSlot) (e : LogEntry) → is_some s.name ≡ true → tag_class e.tag ≡ 3 → tag_id e.tag ≡ length slots → tag_length e.tag < 0x3ff
     → slots_after (last slots s) e ≡ Some (last slots (record s { attributes = attributes_with (tag_chunk e.tag) e.bytes s.attributes }))
 attribute_at_end slots s e n k i l =
-    let not_name : abstract_type e.tag == 0 ≡ false = ne_eqb (abstract_type e.tag) 0 (λ h. omega arith) in
+    let not_name : tag_class e.tag == 0 ≡ false = ne_eqb (tag_class e.tag) 0 (λ h. omega arith) in
     let not_create : tag_type e.tag == create_tag_type ≡ false = ne_eqb (tag_type e.tag) create_tag_type (λ h. omega arith) in
     let not_delete : tag_type e.tag == delete_tag_type ≡ false = ne_eqb (tag_type e.tag) delete_tag_type (λ h. omega arith) in
-    let not_struct : abstract_type e.tag == 2 ≡ false = ne_eqb (abstract_type e.tag) 2 (λ h. omega arith) in
+    let not_struct : tag_class e.tag == 2 ≡ false = ne_eqb (tag_class e.tag) 2 (λ h. omega arith) in
     let stays : is_attribute_removal e.tag ≡ false = ne_eqb (tag_length e.tag) 0x3ff (λ h. omega arith) in
     rw (not_name, not_create, not_delete, i) (rw (get_or-append_seam, n, not_struct, stays) (rw set-append_seam refl))
 
@@ -113,7 +113,7 @@ in_table_at part class id c i h =
     rw (kind, len) h.in_table
 
 name_written : (c : RawContent) (part : ℕ × List ℕ) → length c.slots < 0x3ff → IsAllowedPart 0 part
-    → content_after_one c (log_entry part.0 (length c.slots) part.1) ≡ Some (record c { slots = c.slots ++ record { name = Some part; struct = None; attributes = [] } ∷ [] })
+    → content_after_entry c (log_entry part.0 (length c.slots) part.1) ≡ Some (record c { slots = c.slots ++ record { name = Some part; struct = None; attributes = [] } ∷ [] })
 name_written c part n h =
     let of : part.0 / 2 ^ 8 ≡ 0 = h.of_class in
     let short : length part.1 < 0x3ff = h.short in
@@ -124,7 +124,7 @@ name_written c part n h =
     ∙ ap (λ k. Some (record c { slots = c.slots ++ record { name = Some (k, part.1); struct = None; attributes = [] } ∷ [] })) kind
 
 struct_written : (c : RawContent) (slots : List RawSlot) (s : RawSlot) (part : ℕ × List ℕ) → is_some s.name ≡ true → length slots < 0x3ff → IsAllowedPart 2 part
-    → content_after_one (record c { slots = last slots s }) (log_entry part.0 (length slots) part.1) ≡ Some (record c { slots = last slots (record s { struct = Some part }) })
+    → content_after_entry (record c { slots = last slots s }) (log_entry part.0 (length slots) part.1) ≡ Some (record c { slots = last slots (record s { struct = Some part }) })
 struct_written c slots s part named n h =
     let of : part.0 / 2 ^ 8 ≡ 2 = h.of_class in
     let short : length part.1 < 0x3ff = h.short in
@@ -135,23 +135,23 @@ struct_written c slots s part named n h =
     ∙ ap (λ k. Some (record c { slots = last slots (record s { struct = Some (k, part.1) }) })) kind
 
 attribute_written : (c : RawContent) (slots : List RawSlot) (s : RawSlot) (type : ℕ) (bytes : List ℕ) → is_some s.name ≡ true → length slots < 0x3ff → type < 2 ^ 8 → length bytes < 0x3ff
-    → content_after_one (record c { slots = last slots s }) (log_entry (0x300 + type) (length slots) bytes)
+    → content_after_entry (record c { slots = last slots s }) (log_entry (0x300 + type) (length slots) bytes)
     ≡ Some (record c { slots = last slots (record s { attributes = attributes_with type bytes s.attributes }) })
 attribute_written c slots s type bytes named n t short =
     let kind : tag_type (make_tag (0x300 + type) (length slots) (length bytes)) ≡ 0x300 + type = tag_type-make_tag (0x300 + type) (length slots) (length bytes) (omega arith) (omega arith) (omega arith) in
     let id : tag_id (make_tag (0x300 + type) (length slots) (length bytes)) ≡ length slots = tag_id-make_tag (0x300 + type) (length slots) (length bytes) (omega arith) (omega arith) in
     let len : tag_length (make_tag (0x300 + type) (length slots) (length bytes)) ≡ length bytes = tag_length-make_tag (0x300 + type) (length slots) (length bytes) (omega arith) in
-    let class : abstract_type (make_tag (0x300 + type) (length slots) (length bytes)) ≡ 3 = omega arith in
+    let class : tag_class (make_tag (0x300 + type) (length slots) (length bytes)) ≡ 3 = omega arith in
     let chunk : tag_chunk (make_tag (0x300 + type) (length slots) (length bytes)) ≡ type = omega arith in
     by_slots (record c { slots = last slots s }) (log_entry (0x300 + type) (length slots) bytes) (omega arith)
     (attribute_in_table (log_entry (0x300 + type) (length slots) bytes) class (omega arith)) (omega arith)
     ∙ ap (option_map (λ all. record c { slots = all })) (attribute_at_end slots s (log_entry (0x300 + type) (length slots) bytes) named class id (omega arith))
     ∙ ap (λ k. Some (record c { slots = last slots (record s { attributes = attributes_with k bytes s.attributes }) })) chunk
   where
-    attribute_in_table : (e : LogEntry) → abstract_type e.tag ≡ 3 → tag_length e.tag < 0x3ff → is_known_tag e.tag ≡ true
+    attribute_in_table : (e : LogEntry) → tag_class e.tag ≡ 3 → tag_length e.tag < 0x3ff → is_known_tag e.tag ≡ true
     attribute_in_table e k l =
         let stays : is_attribute_removal e.tag ≡ false = ne_eqb (tag_length e.tag) 0x3ff (λ h. omega arith) in
-        let is_attribute : abstract_type e.tag == 3 ≡ true = eq-eqb (abstract_type e.tag) 3 k in
+        let is_attribute : tag_class e.tag == 3 ≡ true = eq-eqb (tag_class e.tag) 3 k in
         rw (stays, is_attribute) refl
 
 -- attributes after those that the last slot has
@@ -168,7 +168,7 @@ attributes_written c slots s low (a ∷ rest) named n below up =
     ∙ ap (λ z. Some (record c { slots = last slots (record s { attributes = z }) })) (sym more)
 
 -- a struct, if there is one, after a name
-struct_part_written : (c : RawContent) (slots : List RawSlot) (s : RawSlot) (part : Option (ℕ × List ℕ)) → s.struct ≡ None → is_some s.name ≡ true → length slots < 0x3ff → AllowsIfSome 2 part
+struct_part_written : (c : RawContent) (slots : List RawSlot) (s : RawSlot) (part : Option (ℕ × List ℕ)) → s.struct ≡ None → is_some s.name ≡ true → length slots < 0x3ff → AllowedIfAny 2 part
     → content_after (record c { slots = last slots s }) (part_entries (length slots) part) ≡ Some (record c { slots = last slots (record s { struct = part }) })
 struct_part_written c slots s None none named n h = ap (λ z. Some (record c { slots = last slots (record s { struct = z }) })) none
 struct_part_written c slots s (Some part) none named n h = ap (option_and_then (λ d. content_after d [])) (struct_written c slots s part named n h)
@@ -188,7 +188,7 @@ slot_written c s n has_name h =
     front : content_after c (part_entries (length c.slots) s.name) ≡ Some (record c { slots = last c.slots (named None) })
     front = go s.name has_name h.name
       where
-        go : (o : Option (ℕ × List ℕ)) → is_some o ≡ true → AllowsIfSome 0 o → content_after c (part_entries (length c.slots) o) ≡ Some (record c { slots = last c.slots (record { name = o; struct = None; attributes = [] }) })
+        go : (o : Option (ℕ × List ℕ)) → is_some o ≡ true → AllowedIfAny 0 o → content_after c (part_entries (length c.slots) o) ≡ Some (record c { slots = last c.slots (record { name = o; struct = None; attributes = [] }) })
         go None e p = absurd (cc)
         go (Some part) e p = ap (option_and_then (λ d. content_after d [])) (name_written c part n p)
 
@@ -206,8 +206,8 @@ slots_written c (s ∷ slots) n m h =
 
 -- ---- tails and move states
 
-pub read_address-address_bytes : (pair : ℕ × ℕ) → AreWords pair → read_address (address_bytes pair) ≡ pair
-read_address-address_bytes pair h =
+pub decoded_address-address_bytes : (pair : ℕ × ℕ) → AreWords pair → decoded_address (address_bytes pair) ≡ pair
+decoded_address-address_bytes pair h =
     let first : little_number 4 (address_bytes pair) ≡ pair.0 = little_number-reads_back 4 pair.0 (little_bytes 4 pair.1) h.0 in
     let second : little_number 4 (little_bytes 4 pair.1 ++ []) ≡ pair.1 = little_number-reads_back 4 pair.1 [] h.1 in
     ap₂ (λ x y. (x, y)) first (ap (little_number 4) (sym (append-nil (little_bytes 4 pair.1))) ∙ second)
@@ -216,8 +216,8 @@ tail_written : (c : RawContent) (t : Option Tail) → c.tail ≡ None → IsAllo
 tail_written c None none h = ap (λ t. Some (record c { tail = t })) none
 tail_written c (Some t) none h = go t.hard
   where
-    shown : (hard : Bool) → tail_to_pair hard (read_address (address_bytes t.to)) ≡ Some (record { hard = hard; to = t.to })
-    shown hard = ap (tail_to_pair hard) (read_address-address_bytes t.to h.0) ∙ ap (λ b. cond b None (Some (record { hard = hard; to = t.to }))) h.1
+    shown : (hard : Bool) → tail_if_any hard (decoded_address (address_bytes t.to)) ≡ Some (record { hard = hard; to = t.to })
+    shown hard = ap (tail_if_any hard) (decoded_address-address_bytes t.to h.0) ∙ ap (λ b. cond b None (Some (record { hard = hard; to = t.to }))) h.1
 
     go : (hard : Bool) → content_after c (tail_entries (Some (record { hard = hard; to = t.to }))) ≡ Some (record c { tail = Some (record { hard = hard; to = t.to }) })
     go true = ap (λ z. Some (record c { tail = z })) (shown true)
@@ -231,19 +231,19 @@ word_small g h = go g.sync
     go true = omega (arith, h.kind, h.id)
     go false = omega (arith, h.kind, h.id)
 
-word_fields : (g : Gstate) → MoveStateFits g → gstate_from (move_word g) g.pair ≡ g
+word_fields : (g : Gstate) → MoveStateFits g → unpacked_gstate (move_word g) g.pair ≡ g
 word_fields g h = go g.sync
   where
-    fields : (sync : Bool) (word : ℕ) → nat_le (2 ^ 31) word ≡ sync → word / 2 ^ 20 % 2 ^ 11 ≡ g.kind → word / 2 ^ 10 % 2 ^ 10 ≡ g.id → gstate_from word g.pair ≡ record g { sync = sync }
+    fields : (sync : Bool) (word : ℕ) → nat_le (2 ^ 31) word ≡ sync → word / 2 ^ 20 % 2 ^ 11 ≡ g.kind → word / 2 ^ 10 % 2 ^ 10 ≡ g.id → unpacked_gstate word g.pair ≡ record g { sync = sync }
     fields sync word s k i = rw (s, k, i) refl
 
-    go : (sync : Bool) → gstate_from (move_word (record g { sync = sync })) g.pair ≡ record g { sync = sync }
+    go : (sync : Bool) → unpacked_gstate (move_word (record g { sync = sync })) g.pair ≡ record g { sync = sync }
     go true = fields true (2 ^ 31 + g.kind * 2 ^ 20 + g.id * 2 ^ 10) (le-leb (2 ^ 31) (2 ^ 31 + g.kind * 2 ^ 20 + g.id * 2 ^ 10) (omega arith)) (omega (arith, h.kind, h.id)) (omega (arith, h.kind, h.id))
     go false = fields false (0 + g.kind * 2 ^ 20 + g.id * 2 ^ 10) (lt-leb (2 ^ 31) (0 + g.kind * 2 ^ 20 + g.id * 2 ^ 10) (omega (arith, h.kind, h.id))) (omega (arith, h.kind, h.id)) (omega (arith, h.kind, h.id))
 
-pub read_gstate-bytes_of_move_state : (g : Gstate) → MoveStateFits g → read_gstate (bytes_of_move_state g) ≡ g
-read_gstate-bytes_of_move_state g h =
-    ap₂ gstate_from (little_number-reads_back 4 (move_word g) (address_bytes g.pair) (word_small g h)) (read_address-address_bytes g.pair h.pair)
+pub decoded_gstate-bytes_of_move_state : (g : Gstate) → MoveStateFits g → decoded_gstate (bytes_of_move_state g) ≡ g
+decoded_gstate-bytes_of_move_state g h =
+    ap₂ unpacked_gstate (little_number-reads_back 4 (move_word g) (address_bytes g.pair) (word_small g h)) (decoded_address-address_bytes g.pair h.pair)
     ∙ word_fields g h
 
 -- a zero move state is none
@@ -268,7 +268,7 @@ move_written c g none h = go (is_zero g) refl
   where
     go : (z : Bool) → is_zero g ≡ z → content_after c (cond z [] (log_entry move_type no_id (bytes_of_move_state g) ∷ [])) ≡ Some (record c { move = g })
     go true z = ap (λ m. Some (record c { move = m })) (none ∙ sym (zero_is_none g z))
-    go false z = ap (λ m. Some (record c { move = m })) (read_gstate-bytes_of_move_state g h)
+    go false z = ap (λ m. Some (record c { move = m })) (decoded_gstate-bytes_of_move_state g h)
 
 -- ---- the whole
 

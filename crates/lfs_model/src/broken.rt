@@ -9,12 +9,12 @@ ghost use Rattle.lfs_model.specs.declared.violations.Violation.TheVariants as vi
 ghost use Rattle.lfs_model.specs.format.Disk.{Disk};
 ghost use Rattle.lfs_model.specs.tree.Fresh.{IsFreshDisk};
 ghost use Rattle.lfs_model.specs.layers.Violations.{Breaks};
-ghost use Rattle.lfs_model.specs.examples.Violations.{HasBreach, absent_block_image, same_blocks_image, tail_to_root_image, unwritten_pair_image, later_version_image, bad_move_image, create_first_image, dot_name_image, empty_list_image, empty_pair_image, falling_names_image, joined_branches_image, large_entry_image, unwritable_inline_image, loose_branch_image, shared_block_image, short_names_image, two_sizes_image, unnamed_pair_image, no_superblock_image};
+ghost use Rattle.lfs_model.specs.examples.Violations.{HasBreach, absent_block_image, doubled_block_image, tail_to_root_image, unwritten_pair_image, later_version_image, bad_move_image, create_first_image, dot_name_image, empty_list_image, empty_pair_image, falling_names_image, shared_branch_image, large_entry_image, unwritable_inline_image, loose_branch_image, shared_block_image, short_names_image, differing_superblocks_image, unnamed_pair_image, no_superblock_image};
 
 /// Images whose thread can't be followed.
 pub fn broken_thread_rules()
     ensures out_of_range { Breaks absent_block_image (violation.OutOfRange (2 ∷ 16 ∷ [])) }
-    ensures one_block { Breaks same_blocks_image (violation.OneBlock (2 ∷ 2 ∷ [])) }
+    ensures one_block { Breaks doubled_block_image (violation.OneBlock (2 ∷ 2 ∷ [])) }
     ensures two_pairs { Breaks tail_to_root_image (violation.TwoPairs (0 ∷ 1 ∷ []) 0) }
     ensures no_content { Breaks unwritten_pair_image (violation.NoContent (2 ∷ 3 ∷ [])) }
 
@@ -27,7 +27,7 @@ pub fn broken_superblock_rules()
     ensures no_superblock { Breaks no_superblock_image violation.NoSuperblock }
     ensures first_entry { Breaks create_first_image (violation.FirstEntry (0 ∷ 1 ∷ [])) }
     ensures superblock { Breaks later_version_image (violation.Superblock (0 ∷ 1 ∷ [])) }
-    ensures other_superblock { Breaks two_sizes_image (violation.OtherSuperblock (2 ∷ 3 ∷ [])) }
+    ensures other_superblock { Breaks differing_superblocks_image (violation.OtherSuperblock (2 ∷ 3 ∷ [])) }
 {}
 
 /// Images with a wrong entry, or whose directories are no tree with names in order.
@@ -35,7 +35,7 @@ pub fn broken_directory_rules()
     ensures entry { Breaks dot_name_image (violation.Entry (0 ∷ 1 ∷ []) 1) }
     ensures names { Breaks falling_names_image (violation.Names (0 ∷ 1 ∷ [])) }
     ensures branch { Breaks loose_branch_image (violation.Branch (0 ∷ 1 ∷ [])) }
-    ensures two_paths { Breaks joined_branches_image (violation.TwoPaths (2 ∷ 3 ∷ [])) }
+    ensures two_paths { Breaks shared_branch_image (violation.TwoPaths (2 ∷ 3 ∷ [])) }
     ensures no_path { Breaks unnamed_pair_image (violation.NoPath (2 ∷ 3 ∷ [])) }
 {}
 

@@ -6,20 +6,20 @@ ghost use Rattle.lfs_model.specs.format.Log.{LogEntry};
 ghost use Rattle.lfs_model.specs.format.Content.{RawContent, empty_raw_content, content_after};
 ghost use Rattle.lfs_model.specs.layers.WrittenContent.{content_entries};
 ghost use Rattle.lfs_model.specs.layers.LoggedContent.{IsStorable};
-ghost use Rattle.lfs_model.specs.layers.Changes.{Delete, PutAttribute, RemoveAttribute, PutTail, PutMove, entries_of_changes, changed_content_of};
+ghost use Rattle.lfs_model.specs.layers.Changes.{Delete, PutAttribute, RemoveAttribute, PutTail, PutMove, entries_of_changes, content_with_changes};
 ghost use Rattle.lfs_model.specs.examples.Images.{raw_superblock, raw_empty_file, slots_content, shifting_changes};
 
 /// Changes do what their entries do, in order.
 pub fn changes_act_as_their_log_entries()
     // "b" is created, "a" is created before it and removed again, and "b" gets an attribute.
-    ensures shifted { changed_content_of (slots_content (raw_superblock ∷ [])) shifting_changes
+    ensures shifted { content_with_changes (slots_content (raw_superblock ∷ [])) shifting_changes
         ≡ Some (slots_content (raw_superblock ∷ record (raw_empty_file (codes "b")) { attributes = (0x41, codes "x") ∷ [] } ∷ [])) }
     ensures tags { map (λ (e : LogEntry). e.tag) (entries_of_changes shifting_changes)
         ≡ 0x40100400 ∷ 0x00100401 ∷ 0x20100400 ∷ 0x40100400 ∷ 0x00100401 ∷ 0x20100400 ∷ 0x4ff00400 ∷ 0x34100401 ∷ [] }
-    ensures removed { changed_content_of (slots_content (raw_empty_file (codes "a") ∷ [])) (PutAttribute 0 0x41 (codes "x") ∷ RemoveAttribute 0 0x42 ∷ RemoveAttribute 0 0x41 ∷ [])
+    ensures removed { content_with_changes (slots_content (raw_empty_file (codes "a") ∷ [])) (PutAttribute 0 0x41 (codes "x") ∷ RemoveAttribute 0 0x42 ∷ RemoveAttribute 0 0x41 ∷ [])
         ≡ Some (slots_content (raw_empty_file (codes "a") ∷ [])) }
-    ensures none { (c : RawContent) → changed_content_of c [] ≡ Some c }
-    ensures absent { changed_content_of (slots_content (raw_superblock ∷ [])) (Delete 1 ∷ []) ≡ None }
+    ensures none { (c : RawContent) → content_with_changes c [] ≡ Some c }
+    ensures absent { content_with_changes (slots_content (raw_superblock ∷ [])) (Delete 1 ∷ []) ≡ None }
 
     // The content that a compacted block was written from is read back.
     ensures written { (c : RawContent) → IsStorable c → content_after empty_raw_content (content_entries c) ≡ Some c }
@@ -27,9 +27,9 @@ pub fn changes_act_as_their_log_entries()
 
 /// Changes of the tail and of the move state.
 pub fn changes_replace_tail_and_move()
-    ensures tail { changed_content_of (slots_content []) (PutTail false (Some (2, 3)) ∷ PutMove (record zero_gstate { sync = true }) ∷ [])
+    ensures tail { content_with_changes (slots_content []) (PutTail false (Some (2, 3)) ∷ PutMove (record zero_gstate { sync = true }) ∷ [])
         ≡ Some (record { slots = []; tail = Some (record { hard = false; to = (2, 3) }); move = record zero_gstate { sync = true } }) }
-    ensures no_tail { changed_content_of (record { slots = []; tail = Some (record { hard = false; to = (2, 3) }); move = record zero_gstate { sync = true } }) (PutTail true None ∷ PutMove zero_gstate ∷ [])
+    ensures no_tail { content_with_changes (record { slots = []; tail = Some (record { hard = false; to = (2, 3) }); move = record zero_gstate { sync = true } }) (PutTail true None ∷ PutMove zero_gstate ∷ [])
         ≡ Some empty_raw_content }
 {}
 

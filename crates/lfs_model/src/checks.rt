@@ -7,7 +7,7 @@ ghost use Rattle.lfs_model.specs.session.Operations.{NoEnt, BadFile, Exist, NotD
 ghost use Rattle.lfs_model.specs.session.State.{mounted_session};
 ghost use Rattle.lfs_model.specs.tree.Fresh.{empty_tree};
 ghost use Rattle.lfs_model.specs.crash.Frame.{refused_before_search, needs_session_alone};
-ghost use Rattle.lfs_model.specs.examples.Runs.{all_refusals, with_writer};
+ghost use Rattle.lfs_model.specs.examples.Runs.{all_refusals, writer_session};
 ghost use Rattle.lfs_model.specs.examples.Sessions.{writable_summary, all_replies, fresh_replies, with_used_count, read_flags, write_flags, creating_flags};
 
 /// A disk outside the writing profile is read. Each call that would change it is refused before any other check.
@@ -26,7 +26,7 @@ pub fn some_refusals_need_no_look_up()
     ensures made { filter (refused_before_search (ops.Mkdir (codes "/d"))) all_refusals ≡ BadFile ∷ Invalid ∷ ReadOnly ∷ ops.Failed ∷ [] }
     ensures written { filter (refused_before_search (ops.Write 0 [])) all_refusals ≡ all_refusals }
     ensures remounted { refused_before_search ops.Remount ops.Failed ≡ false }
-    ensures moved { filter (needs_session_alone (with_writer [] true [])) (ops.Seek 0 1 ∷ ops.Read 0 1 ∷ ops.Write 0 [] ∷ ops.Sync 0 ∷ ops.UsedCount ∷ [])
+    ensures moved { filter (needs_session_alone (writer_session [] true [])) (ops.Seek 0 1 ∷ ops.Read 0 1 ∷ ops.Write 0 [] ∷ ops.Sync 0 ∷ ops.UsedCount ∷ [])
         ≡ ops.Seek 0 1 ∷ ops.Write 0 [] ∷ ops.UsedCount ∷ [] }
 {}
 

@@ -7,8 +7,8 @@ ghost use Rattle.lfs_model.specs.declared.order.NameOrder.TheVariants.{ShorterFi
 ghost use Rattle.lfs_model.specs.format.Tag.{IsValidTag, make_tag, tag_type, tag_id, tag_length};
 ghost use Rattle.lfs_model.specs.format.Slots.{Gstate, zero_gstate, gstate_xor};
 ghost use Rattle.lfs_model.specs.format.Content.{empty_raw_content, empty_slot, content_after};
-ghost use Rattle.lfs_model.specs.format.EntryTypes.{gstate_from, create_tag_type, delete_tag_type, file_name_type, superblock_name_type, inline_type, directory_type, ctz_type, soft_tail_type, hard_tail_type, move_type, no_id};
-ghost use Rattle.lfs_model.specs.layers.Lookup.{IsLeastId, IsNewId, bytes_at};
+ghost use Rattle.lfs_model.specs.format.EntryTypes.{unpacked_gstate, create_tag_type, delete_tag_type, file_name_type, superblock_name_type, inline_type, directory_type, ctz_type, soft_tail_type, hard_tail_type, move_type, no_id};
+ghost use Rattle.lfs_model.specs.layers.Lookup.{IsNameId, IsInsertionId, bytes_at};
 ghost use Rattle.lfs_model.specs.examples.Images.{raw_superblock, raw_empty_file};
 ghost use Rattle.lfs_model.specs.layers.WrittenContent.{log_entry, tail_entry};
 ghost use Rattle.lfs_model.specs.layers.BlockBytes.{inline_entries, move_state_entry};
@@ -31,9 +31,9 @@ pub fn tags_are_stored_numbers()
 
 /// A move state is the sync bit, a move type and an id in its first word, and a pair. Its lowest ten bits are ignored.
 pub fn move_state_is_its_fields()
-    ensures set_move { gstate_from 0x4ff00800 (2, 3) ≡ record { sync = false; kind = 0x4ff; id = 2; pair = (2, 3) } }
-    ensures sync { gstate_from 0x80000000 (0, 0) ≡ record { sync = true; kind = 0; id = 0; pair = (0, 0) } }
-    ensures ignored { gstate_from 0x000003ff (0, 0) ≡ zero_gstate }
+    ensures set_move { unpacked_gstate 0x4ff00800 (2, 3) ≡ record { sync = false; kind = 0x4ff; id = 2; pair = (2, 3) } }
+    ensures sync { unpacked_gstate 0x80000000 (0, 0) ≡ record { sync = true; kind = 0; id = 0; pair = (0, 0) } }
+    ensures ignored { unpacked_gstate 0x000003ff (0, 0) ≡ zero_gstate }
     ensures ended { (g : Gstate) → gstate_xor g g ≡ zero_gstate }
     ensures kept { (g : Gstate) → gstate_xor g zero_gstate ≡ g }
 {}
@@ -114,11 +114,11 @@ pub fn other_entry_length_is_checked()
 
 /// Where a name is among slots. The superblock's name and the slot that is passed over don't count.
 pub fn id_of_name_among_slots_is_found()
-    ensures found { IsLeastId (codes "b") None (raw_superblock ∷ raw_empty_file (codes "b") ∷ []) 1 }
-    ensures before { IsNewId ShorterFirst (codes "a") None (raw_superblock ∷ raw_empty_file (codes "b") ∷ []) 1 }
-    ensures behind { IsNewId ShorterFirst (codes "littlefs") None (raw_superblock ∷ raw_empty_file (codes "b") ∷ []) 2 }
-    ensures passed_over { IsNewId ShorterFirst (codes "b") (Some 1) (raw_superblock ∷ raw_empty_file (codes "b") ∷ []) 2 }
-    ensures second { IsLeastId (codes "b") (Some 1) (raw_superblock ∷ raw_empty_file (codes "b") ∷ raw_empty_file (codes "b") ∷ []) 2 }
+    ensures found { IsNameId (codes "b") None (raw_superblock ∷ raw_empty_file (codes "b") ∷ []) 1 }
+    ensures before { IsInsertionId ShorterFirst (codes "a") None (raw_superblock ∷ raw_empty_file (codes "b") ∷ []) 1 }
+    ensures behind { IsInsertionId ShorterFirst (codes "littlefs") None (raw_superblock ∷ raw_empty_file (codes "b") ∷ []) 2 }
+    ensures passed_over { IsInsertionId ShorterFirst (codes "b") (Some 1) (raw_superblock ∷ raw_empty_file (codes "b") ∷ []) 2 }
+    ensures second { IsNameId (codes "b") (Some 1) (raw_superblock ∷ raw_empty_file (codes "b") ∷ raw_empty_file (codes "b") ∷ []) 2 }
 {}
 
 /// Where one name begins another, the order says which comes first.

@@ -14,8 +14,8 @@ ghost use Rattle.lfs_model.specs.tree.Profile.{IsWritable};
 ghost use Rattle.lfs_model.specs.tree.Shown.{disk_tree, used_blocks};
 ghost use Rattle.lfs_model.specs.tree.Fresh.{IsFreshDisk, fresh_pair, empty_tree};
 ghost use Rattle.lfs_model.specs.layers.WrittenContent.{tail_entry};
-ghost use Rattle.lfs_model.specs.layers.BlockBytes.{unwritten_bytes, block_padded, inline_entries, ctz_entries, directory_entries, move_state_entry, superblock_entries, checksum_entry, metadata_bytes};
-ghost use Rattle.lfs_model.specs.examples.Images.{nodes_view, IsNotAccepted, IsNotWritable, small_image, large_image, shifted_slot_block, shifted_slot_image, image_over_zeros, two_commit_image, large_disk_with, root_block_with, pair_block_with, struct_bytes_with, disk_with_versions, superblock_entries_with, root_struct_block, blocks_image};
+ghost use Rattle.lfs_model.specs.layers.BlockBytes.{unwritten_bytes, block_padded, inline_entries, list_slot_entries, branch_entries, move_state_entry, superblock_entries, checksum_entry, metadata_bytes};
+ghost use Rattle.lfs_model.specs.examples.Images.{nodes_view, IsNotAccepted, IsNotWritable, small_image, large_image, shifted_slot_block, shifted_slot_image, image_over_zeros, two_commit_image, large_disk_with, root_block_with, pair_block_with, superblock_struct_with, disk_with_versions, superblock_entries_with, root_struct_block, blocks_image};
 ghost use Rattle.lfs_model.specs.examples.Violations.{unwritable_inline_image, short_names_image};
 
 /// A fresh image is accepted and may be written. It shows the empty root, and uses the first two blocks.
@@ -60,7 +60,7 @@ pub fn image_shows_its_only_file()
 
     // Three blocks: the last has one byte, after the addresses of the second and the first.
     ensures list { HasDiskView
-        (blocks_image (root_block_with (ctz_entries 1 (codes "a") 4 8189) 0xaa94cc85 187)
+        (blocks_image (root_block_with (list_slot_entries 1 (codes "a") 4 8189) 0xaa94cc85 187)
         (replicate 4096 97
         ∷ (little_bytes 4 2 ++ replicate 4092 98)
         ∷ block_padded 4096 (little_bytes 4 3 ++ little_bytes 4 2 ++ 99 ∷ []) ∷ []))
@@ -90,7 +90,7 @@ pub fn later_block_of_pair_is_shown()
 pub fn directory_consists_of_joined_pairs()
     // The entry may name the two blocks in either order. The thread's order decides which of them holds.
     ensures either_order { HasDiskView
-        (blocks_image (root_block_with (directory_entries 1 (codes "d") (3, 2) ++ tail_entry false (Some (2, 3)) ∷ []) 0x73136a7f 175)
+        (blocks_image (root_block_with (branch_entries 1 (codes "d") (3, 2) ++ tail_entry false (Some (2, 3)) ∷ []) 0x73136a7f 175)
         (pair_block_with (inline_entries 0 (codes "x") (codes "hi")) 0x99061daa 233
         ∷ pair_block_with (inline_entries 0 (codes "f") (codes "hi")) 0x6586f267 233 ∷ []))
         (nodes_view (([], DirectoryNode [] (codes "d" ∷ []))
@@ -98,7 +98,7 @@ pub fn directory_consists_of_joined_pairs()
         ∷ (codes "d" ∷ codes "x" ∷ [], FileNode [] (codes "hi")) ∷ [])
         zero_gstate (0 ∷ 1 ∷ 2 ∷ 3 ∷ [])) }
     ensures two_pairs { HasDiskView
-        (blocks_image (root_block_with (directory_entries 1 (codes "d") (4, 5) ++ tail_entry false (Some (4, 5)) ∷ []) 0x8a1d57fc 175)
+        (blocks_image (root_block_with (branch_entries 1 (codes "d") (4, 5) ++ tail_entry false (Some (4, 5)) ∷ []) 0x8a1d57fc 175)
         (unwritten_bytes 4096 ∷ unwritten_bytes 4096
         ∷ pair_block_with (inline_entries 0 (codes "a") (codes "hi") ++ tail_entry true (Some (6, 7)) ∷ []) 0xd0dc452b 221 ∷ unwritten_bytes 4096
         ∷ pair_block_with (inline_entries 0 (codes "z") (codes "hi")) 0xc16aa46b 233 ∷ []))
@@ -113,7 +113,7 @@ pub fn directory_consists_of_joined_pairs()
 pub fn moved_slot_is_hidden()
     // "f" of {2, 3} is "g" of the root now, and is still at its old place.
     ensures old_place { HasDiskView
-        (blocks_image (root_block_with (directory_entries 1 (codes "d") (2, 3) ++ inline_entries 2 (codes "g") (codes "hi") ++ tail_entry false (Some (2, 3)) ∷ move_state_entry 0x4ff00000 (2, 3) ∷ []) 0x3341c275 148)
+        (blocks_image (root_block_with (branch_entries 1 (codes "d") (2, 3) ++ inline_entries 2 (codes "g") (codes "hi") ++ tail_entry false (Some (2, 3)) ∷ move_state_entry 0x4ff00000 (2, 3) ∷ []) 0x3341c275 148)
         (pair_block_with (inline_entries 0 (codes "f") (codes "hi")) 0x6586f267 233 ∷ []))
         (nodes_view (([], DirectoryNode [] (codes "d" ∷ codes "g" ∷ []))
         ∷ (codes "d" ∷ [], DirectoryNode [] [])
@@ -122,7 +122,7 @@ pub fn moved_slot_is_hidden()
 
     // Of two slots of one name the moved one, whose list begins past the last block, doesn't count.
     ensures same_name { HasDiskView
-        (blocks_image (root_block_with (ctz_entries 1 (codes "f") 16 5 ++ inline_entries 2 (codes "f") (codes "hi") ++ move_state_entry 0x4ff00400 (0, 1) ∷ []) 0x13066eaa 160) [])
+        (blocks_image (root_block_with (list_slot_entries 1 (codes "f") 16 5 ++ inline_entries 2 (codes "f") (codes "hi") ++ move_state_entry 0x4ff00400 (0, 1) ∷ []) 0x13066eaa 160) [])
         (nodes_view (([], DirectoryNode [] (codes "f" ∷ []))
         ∷ (codes "f" ∷ [], FileNode [] (codes "hi")) ∷ [])
         (record { sync = false; kind = 0x4ff; id = 1; pair = (0, 1) }) (0 ∷ 1 ∷ [])) }
@@ -174,7 +174,7 @@ pub fn root_begins_at_end_of_superblock_chain()
     // The superblock of the second pair gives version 2.1, and that of the first 2.0.
     ensures two_versions { HasDiskView
         (disk_with_versions AlsoTwoOne (blocks_image (root_block_with (tail_entry true (Some (2, 3)) ∷ []) 0xef8649c3 192)
-        (pair_block_with (superblock_entries_with (struct_bytes_with 0x00020001 4096 255) ++ inline_entries 1 (codes "a") (codes "hi")) 0xe9294708 193 ∷ [])))
+        (pair_block_with (superblock_entries_with (superblock_struct_with 0x00020001 4096 255) ++ inline_entries 1 (codes "a") (codes "hi")) 0xe9294708 193 ∷ [])))
         (nodes_view (([], DirectoryNode [] (codes "a" ∷ []))
         ∷ (codes "a" ∷ [], FileNode [] (codes "hi")) ∷ [])
         zero_gstate (0 ∷ 1 ∷ 2 ∷ 3 ∷ [])) }
@@ -188,7 +188,7 @@ pub fn bad_superblock_chain_is_refused()
         (pair_block_with (superblock_entries default_profile 4096 17 ++ inline_entries 1 (codes "a") (codes "hi")) 0xa947a470 193 ∷ [])) }
     ensures other_version { IsNotAccepted
         (blocks_image (root_block_with (tail_entry true (Some (2, 3)) ∷ []) 0xef8649c3 192)
-        (pair_block_with (superblock_entries_with (struct_bytes_with 0x00020001 4096 255) ++ inline_entries 1 (codes "a") (codes "hi")) 0xe9294708 193 ∷ [])) }
+        (pair_block_with (superblock_entries_with (superblock_struct_with 0x00020001 4096 255) ++ inline_entries 1 (codes "a") (codes "hi")) 0xe9294708 193 ∷ [])) }
 
     // The first pair has a file beside its superblock.
     ensures not_alone { IsNotAccepted
@@ -247,6 +247,6 @@ pub fn image_outside_profile_is_read_only()
     ensures name_limit_read_only { IsNotWritable short_names_image }
 
     // The superblock gives version 2.1, which is accepted.
-    ensures newer { HasDiskView (disk_with_versions AlsoTwoOne (blocks_image (root_struct_block (struct_bytes_with 0x00020001 4096 255) 0xf2928257) []))
+    ensures newer { HasDiskView (disk_with_versions AlsoTwoOne (blocks_image (root_struct_block (superblock_struct_with 0x00020001 4096 255) 0xf2928257) []))
         (nodes_view (([], DirectoryNode [] []) ∷ []) zero_gstate (0 ∷ 1 ∷ [])) }
 {}

@@ -4,7 +4,7 @@ ghost use Rattle.std.specs.Prelude.{◌≡◌, ℕ, [], ◌∷◌, ◌++◌, map
 ghost use Rattle.lfs_model.specs.format.Disk.{default_profile};
 ghost use Rattle.lfs_model.specs.format.SkipLists.{IsBytePlace, IsSkipList, block_count_for, blocks_to_head, list_bytes, pointer_count, block_capacity};
 ghost use Rattle.lfs_model.specs.session.Session.{list_block_count};
-ghost use Rattle.lfs_model.specs.examples.Images.{three_blocks, three_blocks_with, endless_blocks};
+ghost use Rattle.lfs_model.specs.examples.Images.{three_blocks, three_blocks_with, endless_list};
 
 /// How many blocks a list of some bytes has, and how many bytes each block holds after its pointers.
 pub fn skip_list_size_gives_block_count()
@@ -27,7 +27,7 @@ pub fn bytes_of_skip_list_are_read()
     ensures bytes { list_bytes three_blocks 1024 7 2045 ≡ replicate 1024 1 ++ replicate 1020 2 ++ 3 ∷ [] }
 
     // A list whose pointers 0 form a circle never gets to its first block.
-    ensures round { IsSkipList endless_blocks 1024 7 2045 → ⊥ }
+    ensures round { IsSkipList endless_list 1024 7 2045 → ⊥ }
 
     // Pointer 1 of the last block names the second block.
     ensures wrong_pointer { IsSkipList (three_blocks_with 6) 1024 7 2045 → ⊥ }

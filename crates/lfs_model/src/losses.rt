@@ -10,15 +10,15 @@ ghost use Rattle.lfs_model.specs.crash.Conformance.{CallsConform};
 ghost use Rattle.lfs_model.specs.session.Operations as ops;
 ghost use Rattle.lfs_model.specs.session.Operations.{Operation, Reply};
 ghost use Rattle.lfs_model.specs.session.Run.{HealthyHasDiskTree, IsStep, SystemState};
-ghost use Rattle.lfs_model.specs.crash.Failure.{FailsIn};
+ghost use Rattle.lfs_model.specs.crash.Failure.{OperationFails};
 ghost use Rattle.lfs_model.specs.crash.Performed.{FailsDuringRun, IsRun};
-ghost use Rattle.lfs_model.specs.crash.PowerLoss.{HasEitherTree, SurvivesLossSince, SurvivesInCalls, SurvivesPowerLoss, with_blocks};
+ghost use Rattle.lfs_model.specs.crash.PowerLoss.{HasEitherTree, SurvivesLossSince, SurvivesStoppedCalls, SurvivesPowerLoss, with_blocks};
 ghost use Rattle.lfs_model.specs.crash.Standing.{SameConformingDevice};
 ghost use Rattle.lfs_model.specs.crash.Stops.{ErasesCleanly};
 ghost use Rattle.lfs_model.specs.tree.Tree.{Tree};
 ghost use Rattle.lfs_model.specs.crash.RepeatedPowerLoss.{RecoversTree, KeepsTree, LeftInCall, SurvivesLoss, LeftAfterMount, LeftByLosses, MeetsRunPremises, CrashSafe};
 ghost use Rattle.lfs_model.specs.examples.Images.{small_image, two_commit_image};
-ghost use Rattle.lfs_model.specs.examples.Runs.{fresh_state, failed_state, state_after_open, blockless_disk, one_block_reads};
+ghost use Rattle.lfs_model.specs.examples.Runs.{fresh_state, failed_state, state_after_open, blockless_disk, repeated_reads};
 
 /// A run ends where its session fails; the operations before it were applied.
 pub fn session_failure_ends_run_of_operations()
@@ -29,10 +29,10 @@ pub fn session_failure_ends_run_of_operations()
 /// A session that had failed makes no call. A failed remount and a failed rename to itself write nothing. Nor does an operation
 /// that fails on a disk that isn't accepted.
 pub fn failure_of_nonwriting_operation_writes_nothing()
-    ensures no_call { FailsIn failed_state (ops.Stat (codes "/")) (record failed_state { calls = one_block_reads 1 }) → ⊥ }
-    ensures no_write { FailsIn fresh_state ops.Remount (record failed_state { disk = two_commit_image }) → ⊥ }
-    ensures itself { FailsIn fresh_state (ops.Rename (codes "/a") (codes "/a")) (record failed_state { calls = state_after_open.calls }) → ⊥ }
-    ensures unwritten { FailsIn (record fresh_state { disk = blockless_disk }) (ops.Mkdir (codes "/d")) (record failed_state { disk = blockless_disk; calls = state_after_open.calls }) → ⊥ }
+    ensures no_call { OperationFails failed_state (ops.Stat (codes "/")) (record failed_state { calls = repeated_reads 1 }) → ⊥ }
+    ensures no_write { OperationFails fresh_state ops.Remount (record failed_state { disk = two_commit_image }) → ⊥ }
+    ensures itself { OperationFails fresh_state (ops.Rename (codes "/a") (codes "/a")) (record failed_state { calls = state_after_open.calls }) → ⊥ }
+    ensures unwritten { OperationFails (record fresh_state { disk = blockless_disk }) (ops.Mkdir (codes "/d")) (record failed_state { disk = blockless_disk; calls = state_after_open.calls }) → ⊥ }
 {}
 
 /// A stop leaves the tree from before or from after, and a mount and a recovery keep it.
@@ -77,7 +77,7 @@ pub fn repeated_power_losses_keep_tree()
 /// At its end an operation leaves the tree that the definitions give. So an operation that survives stops survives losses of
 /// power.
 pub fn operation_surviving_stopped_calls_survives_power_loss()
-    ensures { (from to : SystemState) (op : Operation) (reply : Reply) → HealthyHasDiskTree from.disk from.state → IsStep from op reply to → SurvivesInCalls from op to → SurvivesPowerLoss from op to }
+    ensures { (from to : SystemState) (op : Operation) (reply : Reply) → HealthyHasDiskTree from.disk from.state → IsStep from op reply to → SurvivesStoppedCalls from op to → SurvivesPowerLoss from op to }
 {}
 
 /// After its last call a device that conforms holds what a stop may leave. So it is also where an error ended the operation.
@@ -87,7 +87,7 @@ pub fn disk_after_last_call_is_power_loss_outcome()
         → HasEitherTree (with_blocks first disk) before after → HasEitherTree (with_blocks last disk) before after }
     ensures called { (from to : SystemState) → from.calls ≢ [] → LeftByLatest from.calls from.disk.blocks → LeftByLatest to.calls to.disk.blocks → CallsConform to.calls
         → to.disk ≡ with_blocks to.disk.blocks from.disk → SameConformingDevice from to }
-    ensures survives_loss { (from to : SystemState) (op : Operation) → HealthyHasDiskTree from.disk from.state → SameConformingDevice from to → SurvivesInCalls from op to → SurvivesPowerLoss from op to }
+    ensures survives_loss { (from to : SystemState) (op : Operation) → HealthyHasDiskTree from.disk from.state → SameConformingDevice from to → SurvivesStoppedCalls from op to → SurvivesPowerLoss from op to }
 
     // A device that isn't called stays as it is.
     ensures silent { SameConformingDevice fresh_state failed_state }

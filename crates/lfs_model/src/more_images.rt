@@ -8,14 +8,14 @@ ghost use Rattle.lfs_model.specs.format.EntryTypes.{create_tag_type, file_name_t
 ghost use Rattle.lfs_model.specs.tree.View.{HasDiskView, superblock_entry};
 ghost use Rattle.lfs_model.specs.tree.Fresh.{superblock_bytes};
 ghost use Rattle.lfs_model.specs.layers.WrittenContent.{log_entry, address_bytes, tail_entry};
-ghost use Rattle.lfs_model.specs.layers.BlockBytes.{directory_entries, move_state_entry};
+ghost use Rattle.lfs_model.specs.layers.BlockBytes.{branch_entries, move_state_entry};
 ghost use Rattle.lfs_model.specs.examples.Images.{nodes_view, IsNotAccepted, IsNotWritable, root_block_with, pair_block_with, blocks_image};
 ghost use Rattle.lfs_model.specs.examples.Violations.{empty_pair_image, large_entry_image};
 
 /// The deltas of all pairs are joined: here two sync bits make none.
 pub fn gstate_deltas_of_pairs_are_xored()
     ensures { HasDiskView
-        (blocks_image (root_block_with (directory_entries 1 (codes "d") (2, 3) ++ tail_entry false (Some (2, 3)) ∷ move_state_entry 0x80000000 (0, 0) ∷ []) 0x39b2fed9 159)
+        (blocks_image (root_block_with (branch_entries 1 (codes "d") (2, 3) ++ tail_entry false (Some (2, 3)) ∷ move_state_entry 0x80000000 (0, 0) ∷ []) 0x39b2fed9 159)
         (pair_block_with (move_state_entry 0x80000000 (0, 0) ∷ []) 0x9b565c67 228 ∷ []))
         (nodes_view (([], DirectoryNode [] (codes "d" ∷ [])) ∷ (codes "d" ∷ [], DirectoryNode [] []) ∷ [])
         zero_gstate (0 ∷ 1 ∷ 2 ∷ 3 ∷ [])) }

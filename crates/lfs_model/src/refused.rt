@@ -4,8 +4,8 @@ ghost use Rattle.std.specs.Prelude.{true, false, [], ◌∷◌, ◌++◌, Some, 
 ghost use Rattle.byteorder.specs.Endian.{little_bytes};
 ghost use Rattle.lfs_model.specs.declared.limits.AcceptedVersions.TheVariants.{AlsoTwoOne};
 ghost use Rattle.lfs_model.specs.layers.WrittenContent.{tail_entry};
-ghost use Rattle.lfs_model.specs.layers.BlockBytes.{unwritten_bytes, block_padded, inline_entries, ctz_entries, directory_entries, move_state_entry};
-ghost use Rattle.lfs_model.specs.examples.Images.{IsNotAccepted, root_block_with, pair_block_with, blocks_image, resized_image, struct_bytes_with, root_struct_block, disk_with_versions};
+ghost use Rattle.lfs_model.specs.layers.BlockBytes.{unwritten_bytes, block_padded, inline_entries, list_slot_entries, branch_entries, move_state_entry};
+ghost use Rattle.lfs_model.specs.examples.Images.{IsNotAccepted, root_block_with, pair_block_with, blocks_image, resized_image, superblock_struct_with, root_struct_block, disk_with_versions};
 
 /// The thread must end, within the disk, and must not have a block twice.
 pub fn bad_thread_is_not_accepted()
@@ -23,16 +23,16 @@ pub fn bad_thread_is_not_accepted()
 
 /// A directory's entry names the first pair of a directory that no other entry names.
 pub fn bad_directory_address_is_not_accepted()
-    ensures root { IsNotAccepted (blocks_image (root_block_with (directory_entries 1 (codes "d") (0, 1)) 0xe27bd4d5 187) []) }
+    ensures root { IsNotAccepted (blocks_image (root_block_with (branch_entries 1 (codes "d") (0, 1)) 0xe27bd4d5 187) []) }
     ensures twice { IsNotAccepted
-        (blocks_image (root_block_with (directory_entries 1 (codes "d") (2, 3) ++ directory_entries 2 (codes "e") (2, 3) ++ tail_entry false (Some (2, 3)) ∷ []) 0x9b4a311a 158)
+        (blocks_image (root_block_with (branch_entries 1 (codes "d") (2, 3) ++ branch_entries 2 (codes "e") (2, 3) ++ tail_entry false (Some (2, 3)) ∷ []) 0x9b4a311a 158)
         (pair_block_with [] 0x43f29ceb 244 ∷ [])) }
-    ensures absent { IsNotAccepted (blocks_image (root_block_with (directory_entries 1 (codes "d") (2, 3)) 0x4c654d37 187)
+    ensures absent { IsNotAccepted (blocks_image (root_block_with (branch_entries 1 (codes "d") (2, 3)) 0x4c654d37 187)
         (pair_block_with [] 0x43f29ceb 244 ∷ [])) }
 
     // It names a pair that continues the root.
     ensures follower { IsNotAccepted
-        (blocks_image (root_block_with (directory_entries 1 (codes "d") (2, 3) ++ tail_entry true (Some (2, 3)) ∷ []) 0xcf150821 175)
+        (blocks_image (root_block_with (branch_entries 1 (codes "d") (2, 3) ++ tail_entry true (Some (2, 3)) ∷ []) 0xcf150821 175)
         (pair_block_with [] 0x43f29ceb 244 ∷ [])) }
 {}
 
@@ -55,16 +55,16 @@ pub fn bad_name_is_not_accepted()
 /// A file's list lies within the disk, has one to 2147483647 bytes and right pointers, and no block that another owns.
 pub fn bad_skip_list_is_not_accepted()
     ensures shared { IsNotAccepted
-        (blocks_image (root_block_with (ctz_entries 1 (codes "a") 2 10 ++ ctz_entries 2 (codes "b") 2 10) 0xc767c5eb 170)
+        (blocks_image (root_block_with (list_slot_entries 1 (codes "a") 2 10 ++ list_slot_entries 2 (codes "b") 2 10) 0xc767c5eb 170)
         (block_padded 4096 (codes "0123456789") ∷ [])) }
-    ensures of_the_root { IsNotAccepted (blocks_image (root_block_with (ctz_entries 1 (codes "a") 1 10) 0x560f4ae1 187) []) }
-    ensures head { IsNotAccepted (blocks_image (root_block_with (ctz_entries 1 (codes "a") 16 10) 0xc1b2eb72 187) []) }
-    ensures empty { IsNotAccepted (blocks_image (root_block_with (ctz_entries 1 (codes "a") 2 0) 0xb05184d9 187) []) }
-    ensures too_long { IsNotAccepted (blocks_image (root_block_with (ctz_entries 1 (codes "a") 2 0x80000000) 0x01b7344b 187) []) }
+    ensures of_the_root { IsNotAccepted (blocks_image (root_block_with (list_slot_entries 1 (codes "a") 1 10) 0x560f4ae1 187) []) }
+    ensures head { IsNotAccepted (blocks_image (root_block_with (list_slot_entries 1 (codes "a") 16 10) 0xc1b2eb72 187) []) }
+    ensures empty { IsNotAccepted (blocks_image (root_block_with (list_slot_entries 1 (codes "a") 2 0) 0xb05184d9 187) []) }
+    ensures too_long { IsNotAccepted (blocks_image (root_block_with (list_slot_entries 1 (codes "a") 2 0x80000000) 0x01b7344b 187) []) }
 
     // Pointer 1 of the third block names the second block.
     ensures pointer { IsNotAccepted
-        (blocks_image (root_block_with (ctz_entries 1 (codes "a") 4 8189) 0xaa94cc85 187)
+        (blocks_image (root_block_with (list_slot_entries 1 (codes "a") 4 8189) 0xaa94cc85 187)
         (replicate 4096 97
         ∷ (little_bytes 4 2 ++ replicate 4092 98)
         ∷ block_padded 4096 (little_bytes 4 3 ++ little_bytes 4 3 ++ 99 ∷ []) ∷ [])) }
@@ -83,10 +83,10 @@ pub fn bad_superblock_is_not_accepted()
     // The 16 blocks of a fresh image cut to 2, and lengthened by one.
     ensures cut { IsNotAccepted (resized_image 2) }
     ensures lengthened { IsNotAccepted (resized_image 17) }
-    ensures version { IsNotAccepted (blocks_image (root_struct_block (struct_bytes_with 0x00020001 4096 255) 0xf2928257) []) }
+    ensures version { IsNotAccepted (blocks_image (root_struct_block (superblock_struct_with 0x00020001 4096 255) 0xf2928257) []) }
     // Version 2.2, where 2.1 is accepted too.
-    ensures later_version { IsNotAccepted (disk_with_versions AlsoTwoOne (blocks_image (root_struct_block (struct_bytes_with 0x00020002 4096 255) 0xf04c8570) [])) }
-    ensures block_size { IsNotAccepted (blocks_image (root_struct_block (struct_bytes_with 0x00020000 8192 255) 0xf0b0f59e) []) }
+    ensures later_version { IsNotAccepted (disk_with_versions AlsoTwoOne (blocks_image (root_struct_block (superblock_struct_with 0x00020002 4096 255) 0xf04c8570) [])) }
+    ensures block_size { IsNotAccepted (blocks_image (root_struct_block (superblock_struct_with 0x00020000 8192 255) 0xf0b0f59e) []) }
 
     // Storage that nothing was written to.
     ensures unwritten { IsNotAccepted (blocks_image (unwritten_bytes 4096) []) }

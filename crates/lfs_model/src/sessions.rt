@@ -184,7 +184,7 @@ pub fn failed_session_refuses_all_but_remount()
 {}
 
 /// A profile lowers the limits of names, files and attributes, and what is inline.
-pub fn limits_are_of_profile()
+pub fn profile_lowers_limits()
     ensures { all_replies (λ used. record (writable_summary 4096 256 16 used) { profile = record default_profile { name_max = 3; file_max = 5; attr_max = 2 } }) (mounted_session empty_tree)
         (with_used_count 2
         (ops.Mkdir (codes "/abc") ∷ ops.Mkdir (codes "/abcd") ∷ ops.Open (codes "/abcd") creating_flags ∷ ops.Rename (codes "/abc") (codes "/abcd")

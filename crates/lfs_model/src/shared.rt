@@ -3,12 +3,12 @@
 ghost use Rattle.std.specs.Prelude.{◌≡◌, ◌≤◌, ◌<◌, ◌⊎◌, ℕ, ◌+◌, true, List, [], ◌∷◌, ◌++◌, length, drop, sum_by, slice_get, Some, None, All, Contains, codes};
 ghost use Rattle.std.specs.List.{insert};
 ghost use Rattle.std.specs.Option.{option_map};
-ghost use Rattle.lfs_model.specs.format.Blocks.{Blocks, HasBlockSizes, SameExceptThese};
+ghost use Rattle.lfs_model.specs.format.Blocks.{Blocks, HasBlockSizes, SameExceptBlocks};
 ghost use Rattle.lfs_model.specs.layers.BlockSets.{BlockStates, IsInFlight, IsUsedBlock, in_flight_count, used_count};
 ghost use Rattle.lfs_model.specs.format.Content.{RawSlot, RawContent, complete_content};
 ghost use Rattle.lfs_model.specs.format.EntryTypes.{file_name_type, directory_name_type, superblock_name_type};
-ghost use Rattle.lfs_model.specs.layers.Cut.{CanSplit, IsFittingSplit};
-ghost use Rattle.lfs_model.specs.crash.Frame.{pair_count_at};
+ghost use Rattle.lfs_model.specs.layers.Cut.{AreSplittable, IsFittingSplit};
+ghost use Rattle.lfs_model.specs.crash.Frame.{directory_pair_count};
 ghost use Rattle.lfs_model.specs.format.Disk.{Disk, pair_capacity, charge_limit, slots_limit};
 ghost use Rattle.lfs_model.specs.crash.FailedCalls.{FailLikeLossSince, LeftByLatestLoss, LeftByFailure};
 ghost use Rattle.lfs_model.specs.session.History.{CallEvent, AllCallsSince, fault_count};
@@ -32,14 +32,14 @@ ghost use Rattle.lfs_model.specs.layers.WrittenContent.{slot_size_raw, content_e
 pub fn full_pair_can_be_split()
     ensures cut { (block_size page : ℕ) (front : List RawSlot) (s : RawSlot) (back : List RawSlot) → slot_size_raw s ≤ charge_limit block_size page
         → sum_by slot_size_raw front + sum_by slot_size_raw back ≤ pair_capacity block_size page → length front + length back ≤ slots_limit
-        → CanSplit block_size page (front ++ s ∷ back) }
+        → AreSplittable block_size page (front ++ s ∷ back) }
 
     // an entry of the profile is added to a pair that fitted
     ensures comes { (profile : Profile) (block_size page : ℕ) (raw : RawContent) (c old : PairContent) (id : ℕ) (s : Slot) → 1024 ≤ block_size → IsWellFormed raw → complete_content raw ≡ Some c
-        → c.slots ≡ insert old.slots id s → IsWritableEntry profile block_size page s → FitsInPair block_size page old → CanSplit block_size page raw.slots }
+        → c.slots ≡ insert old.slots id s → IsWritableEntry profile block_size page s → FitsInPair block_size page old → AreSplittable block_size page raw.slots }
     ensures changes { (profile : Profile) (block_size page : ℕ) (raw : RawContent) (c old : PairContent) (front : List Slot) (was s : Slot) (back : List Slot) → 1024 ≤ block_size → IsWellFormed raw
         → complete_content raw ≡ Some c → old.slots ≡ front ++ was ∷ back → c.slots ≡ front ++ s ∷ back → IsWritableEntry profile block_size page s → FitsInPair block_size page old
-        → CanSplit block_size page raw.slots }
+        → AreSplittable block_size page raw.slots }
 
     // where the whole doesn't fit, no part is without slots
     ensures inside { (block_size page : ℕ) (raw : RawContent) (c : PairContent) (at : ℕ) → IsWellFormed raw → complete_content raw ≡ Some c → (FitsInPair block_size page c → ⊥)
@@ -66,7 +66,7 @@ pub fn skip_list_keeps_its_bytes()
     ensures size { (disk : Blocks) (block_size block_count head size : ℕ) → 1024 ≤ block_size → HasBlockSizes block_size block_count disk → IsSkipList disk block_size head size
         → length (list_bytes disk block_size head size) ≡ size }
     ensures more { (block_size small large : ℕ) → small ≤ large → block_count_for block_size small ≤ block_count_for block_size large }
-    ensures stays { (old new : Blocks) (bs : List ℕ) (block_size head size : ℕ) → SameExceptThese bs old new
+    ensures stays { (old new : Blocks) (bs : List ℕ) (block_size head size : ℕ) → SameExceptBlocks bs old new
         → All (λ c. All (λ b. b ≡ c → ⊥) bs) (blocks_to_head old (block_count_for block_size size) head) → IsSkipList old block_size head size
         → IsSkipList new block_size head size × (list_bytes new block_size head size ≡ list_bytes old block_size head size) }
 {}
@@ -84,5 +84,5 @@ pub fn search_finds_entry_at_path()
     ensures absent { (disk : Disk) (ps : List Pair) (path : Path) (at : ℕ × ℕ) (first pair id : ℕ) (name : Name) → IsAccepted disk ps → pairs_gstate ps ≡ zero_gstate → LeadsTo ps path at
         → IsPairAt ps at first → BelongsAt disk.order ps first name pair id → slot_of ps (path ++ name ∷ []) ≡ None }
     ensures reads { (disk : Disk) (ps : List Pair) (path : Path) (at : ℕ × ℕ) (first : ℕ) → IsAccepted disk ps → LeadsTo ps path at → IsPairAt ps at first
-        → joined_count (drop first ps) ≡ pair_count_at ps path }
+        → joined_count (drop first ps) ≡ directory_pair_count ps path }
 {}

@@ -14,34 +14,34 @@ ghost use Rattle.lfs_model.specs.session.State.{mounted_session};
 ghost use Rattle.lfs_model.specs.tree.Fresh.{empty_tree, superblock_slot};
 ghost use Rattle.lfs_model.specs.session.Recovery.{recovers_first};
 ghost use Rattle.lfs_model.specs.session.SlotEdits.{file_slot, directory_slot, GivesBytes, EditsSlots};
-ghost use Rattle.lfs_model.specs.session.Layout.{removed_addresses, IsPairAfter, IsLayoutRecovered};
+ghost use Rattle.lfs_model.specs.session.Layout.{removed_addresses, PairBecomes, IsLayoutRecovered};
 ghost use Rattle.lfs_model.specs.session.Moved.{IsPairMoved, IsPairUnloaded, IsRootUnloaded, IsMoved, IsLayoutMoved};
-ghost use Rattle.lfs_model.specs.crash.Frame.{answers_itself};
-ghost use Rattle.lfs_model.specs.layers.Keeping.{takes_away, may_store_at, struct_at, KeepsStructs};
+ghost use Rattle.lfs_model.specs.crash.Frame.{asks_session};
+ghost use Rattle.lfs_model.specs.layers.Keeping.{vacates_path, may_store_at, struct_at, KeepsStructs};
 ghost use Rattle.lfs_model.specs.session.Run.{is_read_only, writes_or_truncates, needs_no_device, renames_itself, edits_slots};
 ghost use Rattle.lfs_model.specs.examples.Sessions.{creating_flags, read_flags};
 ghost use Rattle.lfs_model.specs.examples.Images.{small_disk_with, small_image, large_image};
-ghost use Rattle.lfs_model.specs.examples.Runs.{pair_with_tail, tail_to_address, root_with_d, worn_pairs_image, root_and_directory, root_and_two, root_with_file, long_attribute_slot, slot_with_list, each_operation, with_reader, with_writer};
+ghost use Rattle.lfs_model.specs.examples.Runs.{pair_with_tail, example_tail, root_with_d, worn_pairs_image, root_and_directory, root_and_two, root_with_file, long_attribute_slot, slot_with_list, each_operation, reader_session, writer_session};
 
 /// Which operations recover first, which change where slots are, and which leave the disk alone.
 pub fn operations_are_classified_by_disk_effect()
     ensures recover { filter recovers_first each_operation
         ≡ ops.Open (codes "/b") creating_flags ∷ ops.Mkdir (codes "/d") ∷ ops.Remove (codes "/b") ∷ ops.Rename (codes "/a") (codes "/b")
         ∷ ops.SetAttr (codes "/b") 0x41 [] ∷ ops.RemoveAttr (codes "/b") 0x41 ∷ ops.Recover ∷ [] }
-    ensures ask { filter (is_read_only (with_reader [])) each_operation
+    ensures ask { filter (is_read_only (reader_session [])) each_operation
         ≡ ops.Open (codes "/b") read_flags ∷ ops.Read 0 1 ∷ ops.Seek 0 1 ∷ ops.Close 0 ∷ ops.ListAll (codes "/") ∷ ops.Stat (codes "/") ∷ ops.GetAttr (codes "/b") 0x41
         ∷ ops.AskGstate ∷ ops.IsUsed 0 ∷ ops.UsedCount ∷ ops.Remount ∷ [] }
     ensures unseen { filter writes_or_truncates each_operation ≡ ops.Write 0 [] ∷ ops.Truncate 0 1 ∷ [] }
-    ensures kept { filter answers_itself each_operation ≡ ops.AskGstate ∷ ops.IsUsed 0 ∷ ops.UsedCount ∷ [] }
+    ensures kept { filter asks_session each_operation ≡ ops.AskGstate ∷ ops.IsUsed 0 ∷ ops.UsedCount ∷ [] }
     ensures itself { filter renames_itself each_operation ≡ ops.Rename (codes "/a") (codes "/a") ∷ [] }
 {}
 
 /// A dirty file is committed by a sync and by a close. A file that isn't dirty isn't committed.
 pub fn operations_on_open_file_are_classified()
-    ensures dirty { filter (edits_slots (with_writer [] true [])) (ops.Sync 0 ∷ ops.Close 0 ∷ ops.Write 0 [] ∷ ops.Sync 1 ∷ []) ≡ ops.Sync 0 ∷ ops.Close 0 ∷ [] }
-    ensures clean { filter (needs_no_device (with_writer [] false [])) each_operation
+    ensures dirty { filter (edits_slots (writer_session [] true [])) (ops.Sync 0 ∷ ops.Close 0 ∷ ops.Write 0 [] ∷ ops.Sync 1 ∷ []) ≡ ops.Sync 0 ∷ ops.Close 0 ∷ [] }
+    ensures clean { filter (needs_no_device (writer_session [] false [])) each_operation
         ≡ ops.Write 0 [] ∷ ops.Sync 0 ∷ ops.Close 0 ∷ ops.AskGstate ∷ ops.IsUsed 0 ∷ ops.UsedCount ∷ [] }
-    ensures sized { filter (needs_no_device (with_writer [] true (codes "hi"))) (ops.Truncate 0 2 ∷ ops.Truncate 0 3 ∷ ops.Truncate 1 2 ∷ ops.Write 0 (codes "!") ∷ []) ≡ ops.Truncate 0 2 ∷ [] }
+    ensures sized { filter (needs_no_device (writer_session [] true (codes "hi"))) (ops.Truncate 0 2 ∷ ops.Truncate 0 3 ∷ ops.Truncate 1 2 ∷ ops.Write 0 (codes "!") ∷ []) ≡ ops.Truncate 0 2 ∷ [] }
 {}
 
 /// What each operation makes of the slots.
@@ -61,7 +61,7 @@ pub fn operations_edit_slots()
 
 /// A sync of a dirty file commits its struct.
 pub fn sync_edits_struct()
-    ensures { EditsSlots large_image (root_with_file (codes "a") []) (with_writer (codes "a" ∷ []) true (codes "hi")) (ops.Sync 0) []
+    ensures { EditsSlots large_image (root_with_file (codes "a") []) (writer_session (codes "a" ∷ []) true (codes "hi")) (ops.Sync 0) []
         (root_with_file (codes "a") []) (root_with_file (codes "a") (codes "hi")) }
 {}
 
@@ -74,8 +74,8 @@ pub fn slots_and_attributes_are_replaced()
     ensures unset { EditsSlots large_image root_and_two (mounted_session empty_tree) (ops.SetAttr (codes "/d/a") 0x41 (codes "x")) [] root_and_two root_and_two → ⊥ }
     ensures removed { EditsSlots large_image (root_and_directory [] (long_attribute_slot (codes "a") ∷ [])) (mounted_session empty_tree) (ops.RemoveAttr (codes "/d/a") 0x41) []
         (root_and_directory [] (long_attribute_slot (codes "a") ∷ [])) (root_and_directory [] (file_slot (codes "a") ∷ [])) }
-    ensures clean { EditsSlots large_image root_and_two (with_writer (codes "a" ∷ []) false (codes "hi")) (ops.Sync 0) [] root_and_two root_and_two }
-    ensures uncommitted { EditsSlots large_image (root_with_file (codes "a") []) (with_writer (codes "a" ∷ []) true (codes "hi")) (ops.Sync 0) []
+    ensures clean { EditsSlots large_image root_and_two (writer_session (codes "a" ∷ []) false (codes "hi")) (ops.Sync 0) [] root_and_two root_and_two }
+    ensures uncommitted { EditsSlots large_image (root_with_file (codes "a") []) (writer_session (codes "a" ∷ []) true (codes "hi")) (ops.Sync 0) []
         (root_with_file (codes "a") []) (root_with_file (codes "a") []) → ⊥ }
 {}
 
@@ -91,12 +91,12 @@ pub fn inline_limit_is_eighth_of_block()
 
 /// A pair is cut where its slots don't fit, and dropped where it has none and isn't the first.
 pub fn pairs_are_split_and_dropped()
-    ensures cut { IsPairAfter small_image true ⊥ (pair_with_tail (2, 3) (long_attribute_slot (codes "a") ∷ long_attribute_slot (codes "b") ∷ []) None)
+    ensures cut { PairBecomes small_image true ⊥ (pair_with_tail (2, 3) (long_attribute_slot (codes "a") ∷ long_attribute_slot (codes "b") ∷ []) None)
         (pair_with_tail (2, 3) (long_attribute_slot (codes "a") ∷ []) None ∷ pair_with_tail (4, 5) (long_attribute_slot (codes "b") ∷ []) None ∷ []) }
-    ensures not_whole { (q : Pair) → IsPairAfter small_image true ⊥ (pair_with_tail (2, 3) (long_attribute_slot (codes "a") ∷ long_attribute_slot (codes "b") ∷ []) None) (q ∷ []) → ⊥ }
-    ensures dropped { IsPairAfter small_image false ⊥ (pair_with_tail (2, 3) [] None) [] }
-    ensures not_kept { (q : Pair) → IsPairAfter small_image false ⊥ (pair_with_tail (2, 3) [] None) (q ∷ []) → ⊥ }
-    ensures first_stays { IsPairAfter small_image true ⊥ (pair_with_tail (2, 3) [] None) [] → ⊥ }
+    ensures not_whole { (q : Pair) → PairBecomes small_image true ⊥ (pair_with_tail (2, 3) (long_attribute_slot (codes "a") ∷ long_attribute_slot (codes "b") ∷ []) None) (q ∷ []) → ⊥ }
+    ensures dropped { PairBecomes small_image false ⊥ (pair_with_tail (2, 3) [] None) [] }
+    ensures not_kept { (q : Pair) → PairBecomes small_image false ⊥ (pair_with_tail (2, 3) [] None) (q ∷ []) → ⊥ }
+    ensures first_stays { PairBecomes small_image true ⊥ (pair_with_tail (2, 3) [] None) [] → ⊥ }
 {}
 
 /// Where the profile gives no cycles, slots are where an operation alone lays them out. So they are where nothing moved.
@@ -110,18 +110,18 @@ pub fn pairs_stay_without_cycles()
 /// A worn pair moves whole, or all its slots go to a pair behind it. A pair that isn't worn stays.
 pub fn worn_pair_moves()
     ensures moved { IsPairMoved (worn_pairs_image 1) root_and_two
-        (root_with_d ∷ pair_with_tail (4, 5) (file_slot (codes "a") ∷ []) (tail_to_address true (8, 9)) ∷ pair_with_tail (8, 9) (file_slot (codes "z") ∷ []) None ∷ []) }
+        (root_with_d ∷ pair_with_tail (4, 5) (file_slot (codes "a") ∷ []) (example_tail true (8, 9)) ∷ pair_with_tail (8, 9) (file_slot (codes "z") ∷ []) None ∷ []) }
     ensures unloaded { (new : Disk) → block_count new ≡ 16 → IsPairUnloaded (worn_pairs_image 1) root_and_two new
-        (root_with_d ∷ pair_with_tail (4, 5) [] (tail_to_address true (8, 9)) ∷ pair_with_tail (8, 9) (file_slot (codes "a") ∷ []) (tail_to_address true (6, 7)) ∷ pair_with_tail (6, 7) (file_slot (codes "z") ∷ []) None ∷ []) }
+        (root_with_d ∷ pair_with_tail (4, 5) [] (example_tail true (8, 9)) ∷ pair_with_tail (8, 9) (file_slot (codes "a") ∷ []) (example_tail true (6, 7)) ∷ pair_with_tail (6, 7) (file_slot (codes "z") ∷ []) None ∷ []) }
 
     // A superblock stays in the first pair, and another one goes with the entries.
     ensures root { (new : Disk) → block_count new ≡ 16 → IsRootUnloaded (worn_pairs_image 1) root_and_two new
-        (pair_with_tail (0, 1) (superblock_slot default_profile 4096 16 ∷ []) (tail_to_address true (8, 9)) ∷ record root_with_d { at = (8, 9) }
-        ∷ pair_with_tail (4, 5) (file_slot (codes "a") ∷ []) (tail_to_address true (6, 7)) ∷ pair_with_tail (6, 7) (file_slot (codes "z") ∷ []) None ∷ []) }
+        (pair_with_tail (0, 1) (superblock_slot default_profile 4096 16 ∷ []) (example_tail true (8, 9)) ∷ record root_with_d { at = (8, 9) }
+        ∷ pair_with_tail (4, 5) (file_slot (codes "a") ∷ []) (example_tail true (6, 7)) ∷ pair_with_tail (6, 7) (file_slot (codes "z") ∷ []) None ∷ []) }
 
     // Eight of nine blocks would be used.
     ensures no_room { (new : Disk) → block_count new ≡ 9 → IsPairUnloaded (worn_pairs_image 1) root_and_two new
-        (root_with_d ∷ pair_with_tail (4, 5) [] (tail_to_address true (8, 9)) ∷ pair_with_tail (8, 9) (file_slot (codes "a") ∷ []) (tail_to_address true (6, 7)) ∷ pair_with_tail (6, 7) (file_slot (codes "z") ∷ []) None ∷ []) → ⊥ }
+        (root_with_d ∷ pair_with_tail (4, 5) [] (example_tail true (8, 9)) ∷ pair_with_tail (8, 9) (file_slot (codes "a") ∷ []) (example_tail true (6, 7)) ∷ pair_with_tail (6, 7) (file_slot (codes "z") ∷ []) None ∷ []) → ⊥ }
     ensures not_worn { (new : Disk) (qs : List Pair) → IsMoved (worn_pairs_image 2) root_and_two new qs → ⊥ }
     ensures no_cycles { (new : Disk) (qs : List Pair) → IsMoved (worn_pairs_image 0) root_and_two new qs → ⊥ }
 {}
@@ -136,22 +136,22 @@ pub fn replaced_directory_is_dropped()
 
 /// Which files an operation is about.
 pub fn only_files_of_operation_are_stored_or_moved()
-    ensures beneath { takes_away (ops.Remove (codes "/d")) (codes "d" ∷ codes "a" ∷ []) ≡ true }
-    ensures onto { takes_away (ops.Rename (codes "/a") (codes "/b")) (codes "b" ∷ []) ≡ true }
-    ensures beside { takes_away (ops.Rename (codes "/d/a") (codes "/d/b")) (codes "d" ∷ codes "z" ∷ []) ≡ false }
-    ensures none { filter (λ op. takes_away op (codes "b" ∷ [])) each_operation ≡ ops.Remove (codes "/b") ∷ ops.Rename (codes "/a") (codes "/b") ∷ [] }
+    ensures beneath { vacates_path (ops.Remove (codes "/d")) (codes "d" ∷ codes "a" ∷ []) ≡ true }
+    ensures onto { vacates_path (ops.Rename (codes "/a") (codes "/b")) (codes "b" ∷ []) ≡ true }
+    ensures beside { vacates_path (ops.Rename (codes "/d/a") (codes "/d/b")) (codes "d" ∷ codes "z" ∷ []) ≡ false }
+    ensures none { filter (λ op. vacates_path op (codes "b" ∷ [])) each_operation ≡ ops.Remove (codes "/b") ∷ ops.Rename (codes "/a") (codes "/b") ∷ [] }
 {}
 
 /// A sync and a close are about the file that is open, and no other operation stores one.
 pub fn only_sync_stores()
-    ensures stored { filter (λ op. may_store_at (with_writer (codes "b" ∷ []) true []) op (codes "b" ∷ [])) each_operation ≡ ops.Sync 0 ∷ ops.Close 0 ∷ [] }
-    ensures elsewhere { may_store_at (with_writer (codes "b" ∷ []) true []) (ops.Sync 0) (codes "a" ∷ []) ≡ false }
-    ensures not_open { may_store_at (with_writer (codes "b" ∷ []) true []) (ops.Sync 1) (codes "b" ∷ []) ≡ false }
+    ensures stored { filter (λ op. may_store_at (writer_session (codes "b" ∷ []) true []) op (codes "b" ∷ [])) each_operation ≡ ops.Sync 0 ∷ ops.Close 0 ∷ [] }
+    ensures elsewhere { may_store_at (writer_session (codes "b" ∷ []) true []) (ops.Sync 0) (codes "a" ∷ []) ≡ false }
+    ensures not_open { may_store_at (writer_session (codes "b" ∷ []) true []) (ops.Sync 1) (codes "b" ∷ []) ≡ false }
 {}
 
 /// Files that an operation isn't about keep their structs, and not only their bytes.
 pub fn other_files_keep_their_structs()
-    ensures committed { (disk : Disk) → KeepsStructs disk (root_with_file (codes "a") []) (with_writer (codes "a" ∷ []) true (codes "hi")) (ops.Sync 0) (root_with_file (codes "a") (codes "hi")) }
+    ensures committed { (disk : Disk) → KeepsStructs disk (root_with_file (codes "a") []) (writer_session (codes "a" ∷ []) true (codes "hi")) (ops.Sync 0) (root_with_file (codes "a") (codes "hi")) }
     ensures changed { (disk : Disk) → KeepsStructs disk (root_with_file (codes "a") []) (mounted_session empty_tree) (ops.Mkdir (codes "/d")) (root_with_file (codes "a") (codes "hi")) → ⊥ }
     ensures other_list { (disk : Disk) → KeepsStructs disk (root_and_directory [] (slot_with_list (codes "a") 8 8189 ∷ [])) (mounted_session empty_tree) (ops.Remove (codes "/d/z"))
         (root_and_directory [] (slot_with_list (codes "a") 9 8189 ∷ [])) → ⊥ }

@@ -5,7 +5,7 @@ ghost use Rattle.lfs_model.specs.format.Content.{content_at};
 ghost use Rattle.lfs_model.specs.format.Disk.{Disk, block_count};
 ghost use Rattle.lfs_model.specs.format.Thread.{Pair, IsThread};
 ghost use Rattle.lfs_model.specs.tree.View.{IsAccepted};
-ghost use Rattle.lfs_model.specs.layers.Violations.{Breaks, BreaksPairs, BreaksThread};
+ghost use Rattle.lfs_model.specs.layers.Violations.{Breaks, PairsBreak, BreaksThread};
 
 /// A rule that an image breaks, and where (SPEC.md and DESIGN.md of littlefs). A pair is known by its
 /// address, as the thread names it, and a slot by its number in its pair.
@@ -96,6 +96,6 @@ pub enum Violation {
 /// Where a disk breaks a rule, its image isn't accepted. Where it breaks a rule of the thread, it has no thread.
 pub fn violation_refuses_image()
     ensures image { (disk : Disk) (v : Violation) (ps : List Pair) → Breaks disk v → ¬ IsAccepted disk ps }
-    ensures pairs { (disk : Disk) (v : Violation) (ps : List Pair) → BreaksPairs disk ps v → ¬ IsAccepted disk ps }
+    ensures pairs { (disk : Disk) (v : Violation) (ps : List Pair) → PairsBreak disk ps v → ¬ IsAccepted disk ps }
     ensures thread { (disk : Disk) (v : Violation) (ps : List Pair) → BreaksThread disk v → ¬ IsThread (content_at disk) (block_count disk) ps }
 {}

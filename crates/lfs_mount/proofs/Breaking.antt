@@ -1,6 +1,6 @@
 -- A pair that breaks a rule: the thread's pairs break it.
 use Rattle.std.proofs.Common.{ℕ, zero, suc, ◌≡◌, ◌⊎◌, inl, inr, ◌+◌, ◌<◌, ◌≤◌, ◌==◌, ◌&&◌, Bool, true, false, cond, not, List, [], ◌∷◌, ◌++◌, length, take, drop, filter, Option, Some, None, refl, sym, ap, subst, ◌∙◌, arith, append-nil, slice_get, nat_eq, eqb-true, flat_map, option_and_then, option_map}
-use Rattle.lfs_mount.proofs.Common.{cons_option, and_parts, take-append-drop, take_more, flat_map-append, filter_map-append, recursion_from_All, get_or_from_slice_get, option_and_then_some, same_Some, slice_get_within, BlockStates, RawContent, RawSlot, content_after, empty_raw_content, complete_content, raw_content, complete_slot, complete_slots, Disk, disk_block, block_count, block_entries, AreWellFormed, IsFormedSlot, all_unmoved_slots, struct_blocks, used_blocks, block_count_for, blocks_to_head, Name, Branch, Ctz, Gstate, Inline, Slot, Struct, is_superblock, array_address, same_pair, Pair, pairs_blocks, unmoved_entries, pairs_gstate, moved_id, count_before_root, slots_not_moved, superblock_first, HasValidMove, IsFormedList, IsEntry, BreaksPairs, Contains-number_occurrences, complete_parts, Each, count_append, each_counted, number_occurrences, logged, AreByteBlocks, BreaksDescribedPair, BreaksEntryList, BreaksList, BreaksMovedSlot, raw_block_slots, IsDescribedThread, AreDescriptions, IsDescription, raw_slot_entry, struct_reference, named_reference, HasUsedBlocks, raw_slot_lists, blocks_last_first, list_of_entry, Vertex, ScansPair, entry_slot_number, unmoved_raw_slots, after_superblock, raw_entry_slots}
+use Rattle.lfs_mount.proofs.Common.{cons_option, and_parts, take-append-drop, take_more, flat_map-append, filter_map-append, recursion_from_All, get_or_from_slice_get, option_and_then_some, same_Some, slice_get_within, BlockStates, RawContent, RawSlot, content_after, empty_raw_content, complete_content, raw_content, complete_slot, complete_slots, Disk, disk_block, block_count, block_entries, AreWellFormed, IsFormedSlot, all_unmoved_slots, struct_blocks, used_blocks, block_count_for, blocks_to_head, Name, Branch, Ctz, Gstate, Inline, Slot, Struct, is_superblock, address_view, same_pair, Pair, pairs_blocks, unmoved_entries, pairs_gstate, moved_id, count_before_root, slots_not_moved, superblock_first, HasValidMove, IsFormedList, IsEntry, PairsBreak, Contains-number_occurrences, complete_parts, Each, count_append, each_counted, number_occurrences, logged, AreByteBlocks, BreaksDescribedPair, BreaksEntryList, BreaksList, BreaksMovedSlot, raw_block_slots, IsDescribedThread, AreDescriptions, IsDescription, raw_slot_entry, struct_reference, named_reference, HasUsedBlocks, raw_slot_lists, blocks_last_first, list_of_entry, Vertex, ScansPair, entry_slot_number, unmoved_raw_slots, superblock_removed, raw_entry_slots}
 use Rattle.std.specs.List.{IsDistinct}
 use Rattle.lfs_model.specs.layers.Violations.{IsUsedTwice, IsSlotAt, IsUnmovedAt}
 use Rattle.lfs_model.specs.declared.violations.Violation.{Violation}
@@ -197,7 +197,7 @@ module _ (disk : Disk) (chain dirs : List Pair) (k : ℕ) (first : Bool) (p : Pa
   place : slice_get ps (length chain + k) ≡ Some p
   place = get_right chain dirs k p h.there
 
-  slot_there : (id : ℕ) (t : Slot) → slice_get p.content.slots id ≡ Some t → IsSlotAt ps (array_address m.at) id t
+  slot_there : (id : ℕ) (t : Slot) → slice_get p.content.slots id ≡ Some t → IsSlotAt ps (address_view m.at) id t
   slot_there id t e = record { index = length chain + k; pair = p; there = place; at_is = sym h.describes.at; slot = e }
 
   record AreSlotsOfPair (raws : List RawSlot) : Type 0 where
@@ -228,7 +228,7 @@ module _ (disk : Disk) (chain dirs : List Pair) (k : ℕ) (first : Bool) (p : Pa
       go [] e s = absurd (cc)
       go (x ∷ slots) e s = ap is_superblock (sym (same_Some x t e)) ∙ s
 
-  entry_breaks : (raws : List RawSlot) (id : ℕ) (s : RawSlot) → AreSlotsOfPair raws → slice_get raws id ≡ Some s → raw_slot_entry s ≡ None → (first ≡ true → 0 < id) → BreaksPairs disk ps (violation.Entry m.at id)
+  entry_breaks : (raws : List RawSlot) (id : ℕ) (s : RawSlot) → AreSlotsOfPair raws → slice_get raws id ≡ Some s → raw_slot_entry s ≡ None → (first ≡ true → 0 < id) → PairsBreak disk ps (violation.Entry m.at id)
   unfolding slot_there
   entry_breaks raws id s are e none low =
       let c = complete_at raws p.content.slots id s are.complete e in
@@ -265,9 +265,9 @@ module _ (disk : Disk) (chain dirs : List Pair) (k : ℕ) (first : Bool) (p : Pa
           let other : is_superblock c.slot ≡ false = subst IsEntry c.there some in
           absurd (let clash : true ≡ false = sym n ∙ sym (slot_named s c.slot (made_of s c.slot c.complete)) ∙ other in cc)
 
-  moved_breaks : (v : Violation) (raws : List RawSlot) → AreSlotsOfPair raws → BreaksMovedSlot m raws v → BreaksPairs disk ps v
-  moved_breaks v raws are (id, (moved, inl (is, none))) = subst (BreaksPairs disk ps) (sym is) (move_breaks raws id are moved none)
-  moved_breaks v raws are (id, (moved, inr (is, s, (there, other, none)))) = subst (BreaksPairs disk ps) (sym is) (entry_breaks raws id s are there none (low id there))
+  moved_breaks : (v : Violation) (raws : List RawSlot) → AreSlotsOfPair raws → BreaksMovedSlot m raws v → PairsBreak disk ps v
+  moved_breaks v raws are (id, (moved, inl (is, none))) = subst (PairsBreak disk ps) (sym is) (move_breaks raws id are moved none)
+  moved_breaks v raws are (id, (moved, inr (is, s, (there, other, none)))) = subst (PairsBreak disk ps) (sym is) (entry_breaks raws id s are there none (low id there))
     where
       low : (n : ℕ) → slice_get raws n ≡ Some s → first ≡ true → 0 < n
       low zero e f =
@@ -278,10 +278,10 @@ module _ (disk : Disk) (chain dirs : List Pair) (k : ℕ) (first : Bool) (p : Pa
   lacks_none : (raws : List RawSlot) → AreSlotsOfPair raws → LacksSuperblock m raws → ⊥
   lacks_none raws are (mid, (e, none)) =
       let w = without_moved (moved_id g p) raws mid p.content.slots are.complete (ap (λ o. unmoved_raw_slots o raws) (sym h.describes.moved) ∙ e) in
-      go first mid refl w.are w.entry (ap (λ b. after_superblock b mid) (sym h.describes.first) ∙ none)
+      go first mid refl w.are w.entry (ap (λ b. superblock_removed b mid) (sym h.describes.first) ∙ none)
     where
       go : (b : Bool) (mid : List RawSlot) → first ≡ b → complete_slots mid ≡ Some (without (moved_id g p) p.content.slots) → IsMovedEntry (moved_id g p) p.content.slots
-          → after_superblock b mid ≡ None → ⊥
+          → superblock_removed b mid ≡ None → ⊥
       go false mid f c entry n = absurd (cc)
       go true [] f c entry n =
           absurd (let clash : false ≡ true = ap superblock_first (same_Some [] (without (moved_id g p) p.content.slots) c) ∙ starts_without (moved_id g p) p.content.slots entry (h.describes.starts f) in cc)
@@ -292,15 +292,15 @@ module _ (disk : Disk) (chain dirs : List Pair) (k : ℕ) (first : Bool) (p : Pa
   first_low : (index : ℕ) → first ≡ true → 0 < entry_slot_number m index
   first_low index f = number_behind m index (h.describes.first ∙ f)
 
-  kept_entry_breaks : (v : Violation) (raws kept : List RawSlot) → AreSlotsOfPair raws → raw_entry_slots m raws ≡ Some kept → BreaksEntrySlot m kept v → BreaksPairs disk ps v
+  kept_entry_breaks : (v : Violation) (raws kept : List RawSlot) → AreSlotsOfPair raws → raw_entry_slots m raws ≡ Some kept → BreaksEntrySlot m kept v → PairsBreak disk ps v
   kept_entry_breaks v raws kept are e (index, (is, (s, (there, none)))) =
-      subst (BreaksPairs disk ps) (sym is) (entry_breaks raws (entry_slot_number m index) s are (kept_number m raws kept index s e there).there none (first_low index))
+      subst (PairsBreak disk ps) (sym is) (entry_breaks raws (entry_slot_number m index) s are (kept_number m raws kept index s e there).there none (first_low index))
 
   kept_complete : (raws kept : List RawSlot) → AreSlotsOfPair raws → raw_entry_slots m raws ≡ Some kept → complete_slots kept ≡ Some (behind first (slots_not_moved g p))
   kept_complete raws kept are e =
       let parts = kept_parts m raws kept e in
       let w = without_moved (moved_id g p) raws parts.0 p.content.slots are.complete (ap (λ o. unmoved_raw_slots o raws) (sym h.describes.moved) ∙ parts.1.0) in
-      without_superblock first parts.0 kept (without (moved_id g p) p.content.slots) w.are (ap (λ b. after_superblock b parts.0) (sym h.describes.first) ∙ parts.1.1)
+      without_superblock first parts.0 kept (without (moved_id g p) p.content.slots) w.are (ap (λ b. superblock_removed b parts.0) (sym h.describes.first) ∙ parts.1.1)
       ∙ ap (λ ss. Some (behind first ss)) (sym (unmoved-without g p))
 
   -- the lists up to a slot
@@ -343,7 +343,7 @@ module _ (disk : Disk) (chain dirs : List Pair) (k : ℕ) (first : Bool) (p : Pa
       let same = number_occurrences-reverse b back in
       each_counted P back (recursion_from_All P back (λ i d lt. let r = taken.0.blocks.in_range i d lt in omega arith)) b (omega arith)
 
-  kept_list_breaks : (v : Violation) (raws kept : List RawSlot) (sets : BlockStates) → AreMarked disk chain dirs k sets → AreSlotsOfPair raws → raw_entry_slots m raws ≡ Some kept → BreaksEntryList disk m sets kept v → BreaksPairs disk ps v
+  kept_list_breaks : (v : Violation) (raws kept : List RawSlot) (sets : BlockStates) → AreMarked disk chain dirs k sets → AreSlotsOfPair raws → raw_entry_slots m raws ≡ Some kept → BreaksEntryList disk m sets kept v → PairsBreak disk ps v
   unfolding slot_there
   kept_list_breaks v raws kept sets a are e broken = go broken.breaks
     where
@@ -359,10 +359,10 @@ module _ (disk : Disk) (chain dirs : List Pair) (k : ℕ) (first : Bool) (p : Pa
       struct : c.slot.struct ≡ Ctz broken.l.0 broken.l.1
       struct = list_of_slot broken.is.slot c.slot broken.l c.complete broken.is.list
 
-      unmoved : IsUnmovedAt ps (array_address m.at) number c.slot
+      unmoved : IsUnmovedAt ps (address_view m.at) number c.slot
       unmoved = record { is = slot_there number c.slot c.there; stays = λ f. n.stays (h.describes.moved ∙ f) }
 
-      twice : (b : ℕ) → HasTakenBlock disk broken.mid broken.l b → IsUsedTwice disk ps (array_address m.at) number b
+      twice : (b : ℕ) → HasTakenBlock disk broken.mid broken.l b → IsUsedTwice disk ps (address_view m.at) number b
       twice b taken =
           let len = a.len in
           let low = in_disk broken.mid broken.l b taken in
@@ -382,23 +382,23 @@ module _ (disk : Disk) (chain dirs : List Pair) (k : ℕ) (first : Bool) (p : Pa
             other = places.2.2;
           }
 
-      go : BreaksList disk broken.mid broken.l m.at number v → BreaksPairs disk ps v
-      go (inl (is, bad)) = subst (BreaksPairs disk ps) (sym is) (c.slot, (unmoved, λ well. bad (subst (IsFormedList disk) struct well)))
-      go (inr (b, (is, taken))) = subst (BreaksPairs disk ps) (sym is) (twice b taken)
+      go : BreaksList disk broken.mid broken.l m.at number v → PairsBreak disk ps v
+      go (inl (is, bad)) = subst (PairsBreak disk ps) (sym is) (c.slot, (unmoved, λ well. bad (subst (IsFormedList disk) struct well)))
+      go (inr (b, (is, taken))) = subst (PairsBreak disk ps) (sym is) (twice b taken)
 
   -- ---- whatever is broken
 
-  slots_break : (v : Violation) → BreaksBlockSlots m block v → BreaksPairs disk ps v
+  slots_break : (v : Violation) → BreaksBlockSlots m block v → PairsBreak disk ps v
   slots_break v (inl none) = absurd (some_slots none)
   slots_break v (inr (raws, (is, inl moved))) = moved_breaks v raws (slots_of raws is) moved
   slots_break v (inr (raws, (is, inr lacks))) = absurd (lacks_none raws (slots_of raws is) lacks)
 
-  pub pair_breaks : (v : Violation) (sets : BlockStates) → AreMarked disk chain dirs k sets → BreaksDescribedPair disk m sets v → BreaksPairs disk ps v
+  pub pair_breaks : (v : Violation) (sets : BlockStates) → AreMarked disk chain dirs k sets → BreaksDescribedPair disk m sets v → PairsBreak disk ps v
   pair_breaks v sets a (inl broken) = slots_break v broken
   pair_breaks v sets a (inr (kept, (is, broken))) =
       option_and_then_some (raw_entry_slots m) (raw_block_slots block) kept is (λ raws held e. go raws (slots_of raws held) e broken)
     where
-      go : (raws : List RawSlot) → AreSlotsOfPair raws → raw_entry_slots m raws ≡ Some kept → BreaksEntrySlot m kept v ⊎ BreaksEntryList disk m sets kept v → BreaksPairs disk ps v
+      go : (raws : List RawSlot) → AreSlotsOfPair raws → raw_entry_slots m raws ≡ Some kept → BreaksEntrySlot m kept v ⊎ BreaksEntryList disk m sets kept v → PairsBreak disk ps v
       go raws are e (inl entry) = kept_entry_breaks v raws kept are e entry
       go raws are e (inr list) = kept_list_breaks v raws kept sets a are e list
 
@@ -433,6 +433,6 @@ module _ (disk : Disk) (sets : BlockStates) (firsts : List (ℕ × ℕ)) (ms : L
     marked_next known new marked adds =
         more_marked disk firsts chain (p ∷ rest) k d.is_first d.p known new mid marked d.there a (taken_rules disk firsts (pairs_gstate (chain ++ p ∷ rest)) d.is_first d.p m known mid new marked d.describes adds)
 
-    pub thread_breaks : (v : Violation) → AreByteBlocks disk.blocks → BreaksDescribedPair disk m mid v → BreaksPairs disk (chain ++ p ∷ rest) v
+    pub thread_breaks : (v : Violation) → AreByteBlocks disk.blocks → BreaksDescribedPair disk m mid v → PairsBreak disk (chain ++ p ∷ rest) v
     thread_breaks v bytes broken =
         pair_breaks disk chain (p ∷ rest) k d.is_first d.p m (record { there = d.there; later = λ no. d.later no refl; describes = d.describes; chain_is = t.chain_is; distinct = t.thread.distinct }) bytes v mid a broken

@@ -15,19 +15,19 @@ pub use Rattle.lfs_model.proofs.Sites.{AnyByRecursion, among_from, any_from}
 pub use Rattle.lfs_model.proofs.Superblocks.{HoldSlots, IsChain, StructMark, entry_is_other, pairs_behind}
 pub use Rattle.lfs_model.proofs.Walks.{leads_below}
 pub use Rattle.lfs_model.specs.format.Blocks.{Blocks}
-pub use Rattle.lfs_model.specs.format.Content.{RawContent, RawSlot, complete_content, complete_slot, complete_slots, content_after, content_at, current_block, empty_raw_content, kind_of_type, raw_content, read_struct}
+pub use Rattle.lfs_model.specs.format.Content.{RawContent, RawSlot, complete_content, complete_slot, complete_slots, content_after, content_at, current_block, empty_raw_content, kind_of_type, raw_content, decoded_struct}
 pub use Rattle.lfs_model.specs.format.Disk.{Disk, block_count, disk_block, ordered_disk}
 pub use Rattle.lfs_model.specs.format.EntryTypes.{directory_type, inline_type}
 pub use Rattle.lfs_model.specs.format.Log.{block_entries}
 pub use Rattle.lfs_model.specs.format.Names.{Name, is_valid_name, name_cmp}
 pub use Rattle.lfs_model.specs.format.SkipLists.{IsSkipList, block_count_for, blocks_to_head}
-pub use Rattle.lfs_model.specs.format.Slots.{Branch, Ctz, Gstate, Inline, Slot, Struct, array_address, is_superblock, same_pair, zero_gstate}
-pub use Rattle.lfs_model.specs.format.Thread.{AreLinked, BeginsAt, IsThread, Pair, ThreadDirectory, anchor_address, count_before_root, directories_with_pair, directory_slots, first_address, has_no_entry, has_superblock, is_hard_tail, moved_id, pair_directories, pairs_blocks, pairs_from_root, pairs_gstate, root_address, slots_not_moved, superblock_first, unmoved_entries}
+pub use Rattle.lfs_model.specs.format.Slots.{Branch, Ctz, Gstate, Inline, Slot, Struct, address_view, is_superblock, same_pair, zero_gstate}
+pub use Rattle.lfs_model.specs.format.Thread.{AreLinked, BeginsDirectory, IsThread, Pair, ThreadDirectory, anchor_address, count_before_root, directories_with_pair, directory_slots, first_address, has_no_entry, has_superblock, is_hard_tail, moved_id, pair_directories, pairs_blocks, pairs_from_root, pairs_gstate, root_address, slots_not_moved, superblock_first, unmoved_entries}
 pub use Rattle.lfs_model.specs.layers.BlockSets.{AreInFlight, AreUsed, BlockState, BlockStates, IsFree}
 pub use Rattle.lfs_model.specs.layers.BlockSets.BlockState.{Free, InFlight, Used}
 pub use Rattle.lfs_model.specs.layers.LoggedContent.{AreWellFormed, IsFormedSlot}
 pub use Rattle.lfs_model.specs.layers.Steps.{directory_addresses}
-pub use Rattle.lfs_model.specs.layers.Violations.{Breaks, BreaksPairs}
+pub use Rattle.lfs_model.specs.layers.Violations.{Breaks, PairsBreak}
 pub use Rattle.lfs_model.specs.session.History.{CallEvent, OnlyReadsSince, fault_count, read_count}
 pub use Rattle.lfs_model.specs.tree.Shown.{IsReachedBySome, all_directories, all_unmoved_slots, struct_blocks, used_blocks}
 pub use Rattle.lfs_model.specs.tree.Tree.{Path, address_from_slot, branch_address, entry_named, root_slot}
@@ -37,22 +37,22 @@ pub use Rattle.lfs_mount.specs.Broken.{BreaksDescribedPair, BreaksEntryList, Bre
 pub use Rattle.lfs_mount.specs.Checked.{FirstHasStruct, HasNoEntries, HasSuperblockAlone, IsDescribedThread}
 pub use Rattle.lfs_mount.specs.Described.{AreDescriptions, IsDescription}
 pub use Rattle.lfs_mount.specs.Directories.{BreaksGraphRule, IsDirectoryTree, IsThreadGraph}
-pub use Rattle.lfs_mount.specs.DirectoryEntries.{Below, HoldsNoEntryAt, InList, InSlot, NamedReference, comes_after_name, empty_scan, named_reference, raw_slot_entry, scan_with_entries, scan_with_entry, struct_reference, vertex_with_branch}
+pub use Rattle.lfs_mount.specs.DirectoryEntries.{Below, LacksEntryAt, InList, InSlot, NamedReference, comes_after_name, empty_scan, named_reference, raw_slot_entry, scan_with_entries, scan_with_entry, struct_reference, vertex_with_branch}
 pub use Rattle.lfs_mount.specs.DirectoryPlaces.{DescribesSlots, IsDirectoryGraph, IsPathReached, directory_index, slot_branches}
 pub use Rattle.lfs_mount.specs.DirectoryView.{graph_view, vertex_view}
 pub use Rattle.lfs_mount.specs.KnownView.{scan_view}
 pub use Rattle.lfs_mount.specs.ListsView.{lists_view}
 pub use Rattle.lfs_mount.specs.Marking.{HasUsedBlocks, MarksList, MarksLists, MarksUsed, MeetsTaken, blocks_last_first, list_of_entry, raw_slot_lists}
-pub use Rattle.lfs_mount.specs.Members.{AreThreadDirectories, IsHeaderThread, IsThreadRead, directory_beginnings, has_tail_header, header_descriptions}
+pub use Rattle.lfs_mount.specs.Members.{AreThreadDirectories, IsHeaderThread, IsThreadRead, directory_beginnings, header_tail_hard, header_descriptions}
 pub use Rattle.lfs_mount.specs.MountReads.{described_lists, list_reads, mount_reads, pair_reads}
 pub use Rattle.lfs_mount.specs.MoveChecks.{HaveGstate, IsEntryOrNone, NamesMovedEntry, is_among_addresses}
 pub use Rattle.lfs_mount.specs.Orders.{violation_in_order}
-pub use Rattle.lfs_mount.specs.Passed.{ScansPairs, graph_with_directory, scan_after_tail}
-pub use Rattle.lfs_mount.specs.Reaching.{AreFoundMarks, AreReachedMarks, DirectoryGraph, EndsSearchSoundly, IsRepeated, Vertex, branches_at, found_after, has_sound_vertex, optional_branches}
+pub use Rattle.lfs_mount.specs.Passed.{ScansPairs, graph_with_directory, scan_unless_soft}
+pub use Rattle.lfs_mount.specs.Reaching.{AreFoundMarks, AreReachedMarks, DirectoryGraph, EndsSearchSoundly, IsRepeated, Vertex, branches_at, found_vertices, has_sound_vertex, optional_branches}
 pub use Rattle.lfs_mount.specs.Scanned.{scan_after_slots}
-pub use Rattle.lfs_mount.specs.Start.{image_number}
+pub use Rattle.lfs_mount.specs.Start.{image_seed}
 pub use Rattle.lfs_mount.specs.SuperblockChain.{AreThreadHeaders, BreaksFirstSuperblock, HasChain, first_filled, first_repeats_superblock, first_slot_struct}
-pub use Rattle.lfs_mount.specs.Taken.{ScansPair, after_superblock, entry_slot_number, raw_entry_slots, unmoved_raw_slots}
+pub use Rattle.lfs_mount.specs.Taken.{ScansPair, superblock_removed, entry_slot_number, raw_entry_slots, unmoved_raw_slots}
 pub use Rattle.lfs_pair.specs.Pair.{header_address}
 pub use Rattle.lfs_tag.specs.ContentView.{slot_view, tail_view}
 pub use Rattle.lfs_tag.specs.FieldsView.{move_view}

@@ -1,6 +1,6 @@
 -- How many pairs of the superblock's chain stand in front of the root's first one.
 use Rattle.std.proofs.Common.{ℕ, zero, suc, ◌≡◌, ◌⊎◌, inl, inr, ◌==◌, ◌&&◌, ◌||◌, ◌+◌, ◌-◌, ◌<◌, ◌≤◌, Bool, true, false, cond, List, [], ◌∷◌, ◌++◌, length, drop, slice_get, slice_index_or, Option, Some, None, refl, sym, ap, ap₂, subst, ◌∙◌, arith, eqb-true, option_and_then, option_map}
-use Rattle.lfs_mount.proofs.Common.{and_from, and_parts, length-map, same_Some, slice_get_read, slice_get_within, Blocks, current_block, Disk, disk_block, block_count, CallEvent, Slot, Inline, array_address, Pair, first_address, has_no_entry, is_hard_tail, has_superblock, superblock_first, count_before_root, pairs_from_root, RepeatsSuperblockStruct, IsSuperblock, BreaksPairs, Each, tail_view, AreHeaders, PairHeader, header_pairs, FirstHasStruct, HasSuperblockAlone, HasNoEntries, AreThreadHeaders, BreaksFirstSuperblock, HasChain, first_filled, first_repeats_superblock, first_slot_struct}
+use Rattle.lfs_mount.proofs.Common.{and_from, and_parts, length-map, same_Some, slice_get_read, slice_get_within, Blocks, current_block, Disk, disk_block, block_count, CallEvent, Slot, Inline, address_view, Pair, first_address, has_no_entry, is_hard_tail, has_superblock, superblock_first, count_before_root, pairs_from_root, RepeatsSuperblockStruct, IsSuperblock, PairsBreak, Each, tail_view, AreHeaders, PairHeader, header_pairs, FirstHasStruct, HasSuperblockAlone, HasNoEntries, AreThreadHeaders, BreaksFirstSuperblock, HasChain, first_filled, first_repeats_superblock, first_slot_struct}
 use Rattle.std.proofs.lemmas.Bool.{and_right, eqb-false}
 use Rattle.lfs_device.specs.declared.geometry.Geometry.{Geometry}
 use Rattle.lfs_model.specs.format.Blocks.{block_bytes}
@@ -12,7 +12,7 @@ use Rattle.lfs_model.specs.declared.limits.AcceptedVersions.{AcceptedVersions}
 use Rattle.lfs_model.specs.declared.violations.Violation.{Violation}
 use Rattle.lfs_model.specs.declared.violations.Violation.TheVariants as violation
 use Rattle.lfs_model.proofs.Superblocks.{meets_from, meets_starting}
-use Rattle.lfs_mount.specs.SuperblockChain.{IsBlockStruct, may_continue_after, repeats_superblock, struct_in_log}
+use Rattle.lfs_mount.specs.SuperblockChain.{BlockHasSuperblock, may_continue_after, repeats_superblock, superblock_in_log}
 use Rattle.lfs_mount.proofs.FirstSlots.{IsFirst, begins_struct, first_begins, first_found, first_is, first_of_disk, repeats_false, repeats_none, repeats_true, struct_described}
 use Rattle.lfs_mount.proofs.Headers.{IsSeen, header_at, pair_at, pair_of, seen_from}
 
@@ -390,7 +390,7 @@ module _ (disk : Disk) (history : List CallEvent) (hs : List PairHeader) (has : 
           ∙ repeats_false v bytes seen_next.held.slots q.content.slots seen_next.slots (sym repeats ∙ is))
 
       -- a superblock with another struct
-      pub differs : IsFirstStruct ps bytes → repeats_superblock v bytes (disk_block disk next.active) ≡ None → BreaksPairs disk ps (violation.OtherSuperblock next.blocks)
+      pub differs : IsFirstStruct ps bytes → repeats_superblock v bytes (disk_block disk next.active) ≡ None → PairsBreak disk ps (violation.OtherSuperblock next.blocks)
       differs first is =
           let other = repeats_none v bytes seen_next.held.slots q.content.slots seen_next.slots (sym repeats ∙ is) in
           let own = some_first q.content.slots (starting_some q.content.slots other.0) in
@@ -412,7 +412,7 @@ module _ (disk : Disk) (history : List CallEvent) (hs : List PairHeader) (has : 
 
   -- ---- the first header of a pair that has a slot, as it is read
 
-  pub no_superblock : first_filled hs ≡ None → BreaksPairs disk ps violation.NoSuperblock
+  pub no_superblock : first_filled hs ≡ None → PairsBreak disk ps violation.NoSuperblock
   no_superblock none = go (superblock_first (first_pair_slots (pairs_from_root ps))) refl
     where
       go : (b : Bool) → superblock_first (first_pair_slots (pairs_from_root ps)) ≡ b → b ≡ false
@@ -459,7 +459,7 @@ module _ (disk : Disk) (history : List CallEvent) (hs : List PairHeader) (has : 
 
       -- the superblock that its block has
       abbrev pub HasFound : List ℕ → Type 0
-      HasFound bytes = IsBlockStruct disk h.active bytes
+      HasFound bytes = BlockHasSuperblock disk h.active bytes
 
       is_first : (bytes : List ℕ) → HasFound bytes → IsFirst v disk.block_size (block_count disk) bytes (pair_of disk h).content.slots
       is_first bytes s =
@@ -478,15 +478,15 @@ module _ (disk : Disk) (history : List CallEvent) (hs : List PairHeader) (has : 
 
       -- ---- it has none
 
-      at_first : first_filled_address ps ≡ array_address h.blocks
+      at_first : first_filled_address ps ≡ address_view h.blocks
       at_first = ap first_address from
 
       -- the log begins with another entry
-      pub other_entry : (BeginsWith (Some (disk_block disk h.active)) superblock_entry → ⊥) → BreaksPairs disk ps (violation.FirstEntry h.blocks)
+      pub other_entry : (BeginsWith (Some (disk_block disk h.active)) superblock_entry → ⊥) → PairsBreak disk ps (violation.FirstEntry h.blocks)
       other_entry not = (at_first, λ begins. not (subst (λ o. BeginsWith o superblock_entry) first_seen.holds begins))
 
       -- slot 0 is no superblock of the disk
-      pub no_struct : struct_in_log v disk.block_size (block_count disk) (disk_block disk h.active) ≡ None → BreaksPairs disk ps (violation.Superblock h.blocks)
+      pub no_struct : superblock_in_log v disk.block_size (block_count disk) (disk_block disk h.active) ≡ None → PairsBreak disk ps (violation.Superblock h.blocks)
       no_struct none =
           let own = some_first (pair_of disk h).content.slots some_slot in (
             at_first,
@@ -501,9 +501,9 @@ module _ (disk : Disk) (history : List CallEvent) (hs : List PairHeader) (has : 
           )
 
       -- the violation that its block shows
-      pub first_breaks : (broken : Violation) → BreaksFirstSuperblock disk h broken → BreaksPairs disk ps broken
-      first_breaks (violation.FirstEntry pair) (same, not) = subst (λ at. BreaksPairs disk ps (violation.FirstEntry at)) (sym same) (other_entry not)
-      first_breaks (violation.Superblock pair) (same, none) = subst (λ at. BreaksPairs disk ps (violation.Superblock at)) (sym same) (no_struct none)
+      pub first_breaks : (broken : Violation) → BreaksFirstSuperblock disk h broken → PairsBreak disk ps broken
+      first_breaks (violation.FirstEntry pair) (same, not) = subst (λ at. PairsBreak disk ps (violation.FirstEntry at)) (sym same) (other_entry not)
+      first_breaks (violation.Superblock pair) (same, none) = subst (λ at. PairsBreak disk ps (violation.Superblock at)) (sym same) (no_struct none)
       first_breaks _ b = absurd b
 
       pub first_struct : (bytes : List ℕ) → HasFound bytes → IsFirstStruct ps bytes

@@ -1,6 +1,6 @@
 -- The move of a thread, by the headers of its directories and the slot that it names.
 use Rattle.std.proofs.Common.{ℕ, zero, suc, ◌≡◌, ◌⊎◌, inl, inr, ◌==◌, ◌&&◌, ◌||◌, ◌+◌, Bool, true, false, cond, List, [], ◌∷◌, ◌++◌, length, map, drop, slice_get, Some, None, refl, sym, ap, ap₂, subst, ◌∙◌, arith, eqb-true, eq-eqb, drop_at, fold, length-append, ◌<◌}
-use Rattle.lfs_mount.proofs.Common.{and_parts, and_from, drop-map, length-map, Disk, CallEvent, Gstate, Slot, zero_gstate, same_pair, Pair, pairs_gstate, has_no_entry, is_hard_tail, has_superblock, count_before_root, moved_id, IsTreeEntry, HasValidMove, IsEntry, BreaksPairs, Each, AnyByRecursion, among_from, any_from, IsChain, entry_is_other, move_view, header_address, AreHeaders, PairHeader, header_pairs, AreThreadHeaders, HasChain, HaveGstate, IsEntryOrNone, NamesMovedEntry, is_among_addresses}
+use Rattle.lfs_mount.proofs.Common.{and_parts, and_from, drop-map, length-map, Disk, CallEvent, Gstate, Slot, zero_gstate, same_pair, Pair, pairs_gstate, has_no_entry, is_hard_tail, has_superblock, count_before_root, moved_id, IsTreeEntry, HasValidMove, IsEntry, PairsBreak, Each, AnyByRecursion, among_from, any_from, IsChain, entry_is_other, move_view, header_address, AreHeaders, PairHeader, header_pairs, AreThreadHeaders, HasChain, HaveGstate, IsEntryOrNone, NamesMovedEntry, is_among_addresses}
 use Rattle.lfs_model.specs.format.Slots.{gstate_xor}
 use Rattle.lfs_model.specs.format.Thread.{chain_may_continue}
 use Rattle.lfs_model.specs.declared.violations.Violation.TheVariants as violation
@@ -115,7 +115,7 @@ move_known g chain p rest is valid = go valid
         either false y f = f
 
 pub unknown_breaks : (g : Gstate) (headers : List PairHeader) (disk : Disk) (chain : List Pair) (p : Pair) (rest : List Pair) → HaveGstate g headers chain p rest → is_move_inside g (map header_address headers) ≡ false
-    → BreaksPairs disk (chain ++ p ∷ rest) violation.Move
+    → PairsBreak disk (chain ++ p ∷ rest) violation.Move
 unknown_breaks g headers disk chain p rest has e = λ valid. absurd (
     let known = move_known g chain p rest has.chain_is (subst (HasValidMove (chain ++ p ∷ rest)) has.global valid) in
     let clash : true ≡ false = sym known ∙ ap (is_move_inside g) has.at ∙ e in cc)

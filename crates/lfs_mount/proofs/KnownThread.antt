@@ -2,7 +2,7 @@
 use Rattle.std.proofs.Common.{ℕ, zero, suc, ◌≡◌, ◌<◌, Bool, true, false, cond, not, nat_eq, List, [], ◌∷◌, ◌++◌, length, drop, Some, refl, sym, ap, subst, ◌∙◌, arith, slice_get, drop_at, get_or}
 use Rattle.std.specs.Prelude.{Contains}
 use Rattle.std.specs.List.{IsDistinct}
-use Rattle.lfs_mount.proofs.Common.{drop-map, distinct_right, slice_get-get_or, AreInFlight, AreUsed, BlockState, BlockStates, Free, InFlight, Used, Disk, block_count, content_at, CallEvent, Gstate, IsThread, ThreadDirectory, Pair, pairs_blocks, pair_directories, pairs_gstate, is_hard_tail, directories_with_pair, superblock_first, count_before_root, unmoved_entries, all_directories, Contains-number_occurrences, number_occurrences-Contains, pairs_behind, header_address, AreHeaders, PairHeader, header_pairs, AreDescriptions, IsDescription, HasChain, HasUsedBlocks, AreThreadDirectories, IsThreadRead, IsHeaderThread, directory_beginnings, has_tail_header, header_descriptions, directory_addresses}
+use Rattle.lfs_mount.proofs.Common.{drop-map, distinct_right, slice_get-get_or, AreInFlight, AreUsed, BlockState, BlockStates, Free, InFlight, Used, Disk, block_count, content_at, CallEvent, Gstate, IsThread, ThreadDirectory, Pair, pairs_blocks, pair_directories, pairs_gstate, is_hard_tail, directories_with_pair, superblock_first, count_before_root, unmoved_entries, all_directories, Contains-number_occurrences, number_occurrences-Contains, pairs_behind, header_address, AreHeaders, PairHeader, header_pairs, AreDescriptions, IsDescription, HasChain, HasUsedBlocks, AreThreadDirectories, IsThreadRead, IsHeaderThread, directory_beginnings, header_tail_hard, header_descriptions, directory_addresses}
 use Rattle.lfs_mount.specs.Members.{header_description}
 use Rattle.lfs_mount.proofs.Accepts.{starts_so}
 use Rattle.lfs_mount.proofs.Begins.{begins_distinct}
@@ -43,7 +43,7 @@ begins_of begins (p ∷ ps) = cond begins (p.at ∷ begins_of (not (is_hard_tail
 begins_seen : (disk : Disk) (history : List CallEvent) (begins : Bool) (hs : List PairHeader) → AreHeaders disk history hs → directory_beginnings begins hs ≡ begins_of begins (header_pairs disk hs)
 begins_seen disk history begins [] are = refl
 begins_seen disk history begins (h ∷ hs) are =
-    let next = begins_seen disk history (not (has_tail_header h)) hs are.1 ∙ ap (λ (b : Bool). begins_of (not b) (header_pairs disk hs)) (seen_from disk history h are.0).hard in
+    let next = begins_seen disk history (not (header_tail_hard h)) hs are.1 ∙ ap (λ (b : Bool). begins_of (not b) (header_pairs disk hs)) (seen_from disk history h are.0).hard in
     ap (λ (xs : List (ℕ × ℕ)). cond begins (header_address h ∷ xs) xs) next
 
 begins_listed : (g : Gstate) (ps : List Pair) → directory_addresses (pair_directories g ps) ≡ begins_of true ps

@@ -1,7 +1,7 @@
 -- How many reads the check of an image takes, by what its thread shows.
 use Rattle.std.proofs.Common.{ℕ, ◌≡◌, ◌≤◌, ◌<◌, ◌+◌, not, Bool, true, false, cond, List, [], ◌∷◌, ◌++◌, length, drop, filter, Some, sym, ap, subst, ◌∙◌, arith, refl, length-append}
 use Rattle.std.specs.Prelude.{All, sum_by}
-use Rattle.lfs_mount.proofs.Common.{cons_option, flat_map, flat_map-append, same_Some, AreByteBlocks, BlockStates, Disk, disk_block, CallEvent, Name, Branch, Ctz, Gstate, Inline, Slot, Struct, is_superblock, AreLinked, Pair, anchor_address, pairs_gstate, slots_not_moved, unmoved_entries, moved_id, IsAccepted, IsTreeEntry, PairHeader, header_pairs, AreDescriptions, IsDescription, empty_scan, struct_reference, HasChain, list_of_entry, IsThreadRead, IsHeaderThread, header_descriptions, ScansPairs, scan_after_tail, DirectoryGraph, Vertex, list_reads, described_lists, mount_reads, pair_reads, ScansPair, after_superblock, unmoved_raw_slots}
+use Rattle.lfs_mount.proofs.Common.{cons_option, flat_map, flat_map-append, same_Some, AreByteBlocks, BlockStates, Disk, disk_block, CallEvent, Name, Branch, Ctz, Gstate, Inline, Slot, Struct, is_superblock, AreLinked, Pair, anchor_address, pairs_gstate, slots_not_moved, unmoved_entries, moved_id, IsAccepted, IsTreeEntry, PairHeader, header_pairs, AreDescriptions, IsDescription, empty_scan, struct_reference, HasChain, list_of_entry, IsThreadRead, IsHeaderThread, header_descriptions, ScansPairs, scan_unless_soft, DirectoryGraph, Vertex, list_reads, described_lists, mount_reads, pair_reads, ScansPair, superblock_removed, unmoved_raw_slots}
 use Rattle.std.proofs.lemmas.List.Sums.{sum_by-append, sum_by-cons}
 use Rattle.lfs_model.specs.format.Content.{has_commit}
 use Rattle.lfs_pair.specs.Pair.{fetch_reads, later_block_first}
@@ -57,7 +57,7 @@ taken_lists disk firsts g first p m known sets new marked h t =
     let all = held_slots disk g first p m t.held h t.content in
     let parts = kept_parts m t.held.slots t.entries t.kept in
     let w = without_moved (moved_id g p) t.held.slots parts.0 p.content.slots all (ap (λ o. unmoved_raw_slots o t.held.slots) (sym h.moved) ∙ parts.1.0) in
-    let are = without_superblock first parts.0 t.entries (without (moved_id g p) p.content.slots) w.are (ap (λ b. after_superblock b parts.0) (sym h.first) ∙ parts.1.1) in
+    let are = without_superblock first parts.0 t.entries (without (moved_id g p) p.content.slots) w.are (ap (λ b. superblock_removed b parts.0) (sym h.first) ∙ parts.1.1) in
     let s = scan_some disk.order firsts known t.entries new t.scan in
     let same : s.slots ≡ behind first (without (moved_id g p) p.content.slots) = same_Some s.slots (behind first (without (moved_id g p) p.content.slots)) (sym s.are ∙ are) in
     let seen : behind first (without (moved_id g p) p.content.slots) ≡ unmoved_entries g p =
@@ -77,7 +77,7 @@ passed_reads disk firsts g first (p ∷ ps) (x ∷ ms) known sets graph end h (n
     let fewer = fewer_read (slot_reads disk.block_size) (λ s. not (is_superblock s)) (slots_not_moved g p) in
     let one = sum_by-cons (pair_reads disk) x ms in
     let both = sum_by-append (slot_reads disk.block_size) (slots_not_moved g p) (flat_map (slots_not_moved g) ps) in
-    let others = passed_reads disk firsts g false ps ms (scan_after_tail x.is_hard new) mid rest end h.1 more in
+    let others = passed_reads disk firsts g false ps ms (scan_unless_soft x.is_hard new) mid rest end h.1 more in
     omega arith
 
 -- ---- the whole check

@@ -1,6 +1,6 @@
 -- From the parts of the check to the image.
 use Rattle.std.proofs.Common.{ℕ, ◌≡◌, inr, ◌++◌, List, ◌∷◌, Option, drop, sym, ap, subst, ◌∙◌}
-use Rattle.lfs_mount.proofs.Common.{BlockStates, Disk, CallEvent, Gstate, Pair, pairs_gstate, IsAccepted, HasValidMove, used_blocks, Breaks, BreaksPairs, PairHeader, header_pairs, IsHeadersVerdict, MapUsesBlocks, IsThreadVerdict, AreThreadHeaders, HasChain, IsThreadRead, IsHeaderThread, HaveGstate, NamesMovedEntry}
+use Rattle.lfs_mount.proofs.Common.{BlockStates, Disk, CallEvent, Gstate, Pair, pairs_gstate, IsAccepted, HasValidMove, used_blocks, Breaks, PairsBreak, PairHeader, header_pairs, IsHeadersVerdict, MapUsesBlocks, IsThreadVerdict, AreThreadHeaders, HasChain, IsThreadRead, IsHeaderThread, HaveGstate, NamesMovedEntry}
 use Rattle.lfs_model.specs.declared.violations.Violation.{Violation}
 use Rattle.lfs_mount.proofs.KnownMoves.{directories_behind, joined_global}
 use Rattle.lfs_mount.proofs.KnownThread.{known_thread}
@@ -19,15 +19,15 @@ module _ (disk : Disk) (history : List CallEvent) (hs : List PairHeader) (sets :
   known = known_thread disk history hs sets g count r head
 
   -- what the pairs of the thread break, the disk breaks
-  breaks : (violation : Violation) → BreaksPairs disk (head.chain ++ head.p ∷ head.rest) violation → Breaks disk violation
-  breaks violation h = inr (header_pairs disk hs, (r.thread, subst (λ ps. BreaksPairs disk ps violation) (sym head.parts) h))
+  breaks : (violation : Violation) → PairsBreak disk (head.chain ++ head.p ∷ head.rest) violation → Breaks disk violation
+  breaks violation h = inr (header_pairs disk hs, (r.thread, subst (λ ps. PairsBreak disk ps violation) (sym head.parts) h))
 
-  pub move_breaks : (xs : List PairHeader) → xs ≡ dirs → (violation : Violation) → ((d : Disk) (chain : List Pair) (p : Pair) (rest : List Pair) → HaveGstate g xs chain p rest → BreaksPairs d (chain ++ p ∷ rest) violation) → Breaks disk violation
+  pub move_breaks : (xs : List PairHeader) → xs ≡ dirs → (violation : Violation) → ((d : Disk) (chain : List Pair) (p : Pair) (rest : List Pair) → HaveGstate g xs chain p rest → PairsBreak d (chain ++ p ∷ rest) violation) → Breaks disk violation
   move_breaks xs e violation broken = breaks violation (broken disk head.chain head.p head.rest (subst (λ ys. HaveGstate g ys head.chain head.p head.rest) (sym e) directories))
 
   pub pairs_break : (now : Disk) → now ≡ disk → (xs : List PairHeader) → xs ≡ dirs → (violation : Violation)
-      → ((chain : List Pair) (p : Pair) (rest : List Pair) → IsHeaderThread now sets g xs chain p rest → BreaksPairs now (chain ++ p ∷ rest) violation) → Breaks disk violation
-  pairs_break now same xs e violation broken = breaks violation (subst (λ d. BreaksPairs d (head.chain ++ head.p ∷ head.rest) violation) same
+      → ((chain : List Pair) (p : Pair) (rest : List Pair) → IsHeaderThread now sets g xs chain p rest → PairsBreak now (chain ++ p ∷ rest) violation) → Breaks disk violation
+  pairs_break now same xs e violation broken = breaks violation (subst (λ d. PairsBreak d (head.chain ++ head.p ∷ head.rest) violation) same
       (broken head.chain head.p head.rest (subst (λ d. IsHeaderThread d sets g xs head.chain head.p head.rest) (sym same) (subst (λ ys. IsHeaderThread disk sets g ys head.chain head.p head.rest) (sym e) known))))
 
   pub has_image : (now : Disk) → now ≡ disk → (new : BlockStates) (xs : List PairHeader) → xs ≡ dirs

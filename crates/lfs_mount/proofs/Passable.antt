@@ -1,7 +1,7 @@
 -- Pairs that keep the rules can be taken.
 use Rattle.std.proofs.Common.{ℕ, zero, suc, ◌≡◌, Bool, true, false, cond, List, [], ◌∷◌, remove, filter, slice_get, Option, Some, None, is_some, refl, sym, ap, ap₂, subst, ◌∙◌, option_and_then, flat_map, not}
 use Rattle.std.specs.Prelude.{All}
-use Rattle.lfs_mount.proofs.Common.{same_Some, Disk, disk_block, block_entries, Name, BlockStates, RawSlot, RawContent, complete_slots, complete_content, content_after, empty_raw_content, raw_content, AreWellFormed, Slot, Gstate, is_superblock, Pair, superblock_first, slots_not_moved, unmoved_entries, moved_id, IsTreeEntry, complete_parts, Each, logged, Vertex, DirectoryGraph, NamedReference, raw_slot_entry, scan_after_slots, MarksLists, ScansPair, unmoved_raw_slots, after_superblock, IsDescription, AreDescriptions, AreByteBlocks, scan_after_tail, graph_with_directory, ScansPairs}
+use Rattle.lfs_mount.proofs.Common.{same_Some, Disk, disk_block, block_entries, Name, BlockStates, RawSlot, RawContent, complete_slots, complete_content, content_after, empty_raw_content, raw_content, AreWellFormed, Slot, Gstate, is_superblock, Pair, superblock_first, slots_not_moved, unmoved_entries, moved_id, IsTreeEntry, complete_parts, Each, logged, Vertex, DirectoryGraph, NamedReference, raw_slot_entry, scan_after_slots, MarksLists, ScansPair, unmoved_raw_slots, superblock_removed, IsDescription, AreDescriptions, AreByteBlocks, scan_unless_soft, graph_with_directory, ScansPairs}
 use Rattle.lfs_model.specs.declared.order.NameOrder.{NameOrder}
 use Rattle.lfs_mount.specs.declared.pass.PairBeforeSlotsAreRead.{PairBeforeSlotsAreRead}
 use Rattle.lfs_mount.proofs.Scans.{entry_none, scan_none}
@@ -24,7 +24,7 @@ parts_moved (Some id) raws kept h e = go (is_some (option_and_then {U = NamedRef
     go true f = subst AreWellFormed (same_Some (remove raws id) kept f) (parts_without raws id h)
     go false f = absurd (cc)
 
-parts_behind : (first : Bool) (raws kept : List RawSlot) → AreWellFormed raws → after_superblock first raws ≡ Some kept → AreWellFormed kept
+parts_behind : (first : Bool) (raws kept : List RawSlot) → AreWellFormed raws → superblock_removed first raws ≡ Some kept → AreWellFormed kept
 parts_behind false raws kept h e = subst AreWellFormed (same_Some raws kept e) h
 parts_behind true [] kept h e = absurd (cc)
 parts_behind true (r ∷ raws) kept h e = subst AreWellFormed (same_Some raws kept e) h.1
@@ -51,7 +51,7 @@ can_unmove None raws slots h c entry = (raws, refl)
 can_unmove (Some id) raws slots h c (t, (e, entry)) = (remove raws id, ap (λ b. cond b (Some (remove raws id)) None) (is_entry_at raws slots id t h c e entry))
 
 can_go_behind : (first : Bool) (raws : List RawSlot) (slots : List Slot) → complete_slots raws ≡ Some slots → (first ≡ true → superblock_first slots ≡ true)
-    → (kept : List RawSlot) × (after_superblock first raws ≡ Some kept)
+    → (kept : List RawSlot) × (superblock_removed first raws ≡ Some kept)
 can_go_behind false raws slots c s = (raws, refl)
 can_go_behind true [] slots c s = absurd (let e : superblock_first [] ≡ true = ap superblock_first (same_Some [] slots c) ∙ s refl in cc)
 can_go_behind true (r ∷ raws) slots c s = (raws, refl)
@@ -95,7 +95,7 @@ can_take disk firsts g first p m known sets marked bytes h entries moved lists =
             held = held;
             content = e;
             entries = k.0;
-            kept = ap₂ (λ b o. option_and_then (after_superblock b) (unmoved_raw_slots o held.slots)) h.first h.moved ∙ ap (option_and_then (after_superblock first)) u.1 ∙ k.1;
+            kept = ap₂ (λ b o. option_and_then (superblock_removed b) (unmoved_raw_slots o held.slots)) h.first h.moved ∙ ap (option_and_then (superblock_removed first)) u.1 ∙ k.1;
             scan = s.1;
             lists = subst (λ ls. MarksLists disk sets ls marked) (sym (same_lists disk.order firsts known s.0 k.0 (behind first (without (moved_id g p) p.content.slots)) s.1 are ∙ ap lists_of seen)) lists;
           },
@@ -116,5 +116,5 @@ can_pass disk firsts g first (p ∷ ps) [] known sets end bytes h entries moved 
 can_pass disk firsts g first (p ∷ ps) (m ∷ ms) known sets end bytes h entries moved lists =
     let l = lists_parted disk (lists_of (unmoved_entries g p)) (flat_map (λ q. lists_of (unmoved_entries g q)) ps) sets end lists in
     let one = can_take disk firsts g first p m known sets l.0 bytes h.0 entries.0 moved.0 l.1 in
-    let others = can_pass disk firsts g false ps ms (scan_after_tail m.is_hard one.0) l.0 end bytes h.1 entries.1 moved.1 l.2 in
+    let others = can_pass disk firsts g false ps ms (scan_unless_soft m.is_hard one.0) l.0 end bytes h.1 entries.1 moved.1 l.2 in
     (graph_with_directory m.is_hard one.0 others.0, (one.0, l.0, others.0, (one.1, (refl, others.1))))

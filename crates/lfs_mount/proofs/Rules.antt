@@ -1,7 +1,7 @@
 -- Pairs that can be taken keep the rules, and what is known of them draws the directories.
 use Rattle.std.proofs.Common.{ℕ, zero, suc, ◌≡◌, ◌==◌, ◌&&◌, not, Bool, true, false, cond, List, [], ◌∷◌, map, drop, remove, filter, slice_get, Option, Some, None, is_some, refl, sym, ap, ap₂, subst, ◌∙◌, arith, option_and_then}
 use Rattle.std.specs.Prelude.{All}
-use Rattle.lfs_mount.proofs.Common.{filter_map, cons_option, same_Some, All-head, All-tail, Disk, disk_block, block_entries, Name, BlockStates, RawSlot, RawContent, complete_slots, complete_content, content_after, empty_raw_content, Slot, Gstate, is_superblock, same_pair, Pair, superblock_first, slots_not_moved, unmoved_entries, is_hard_tail, moved_id, IsTreeEntry, AreComplete, complete_parts, completed_parts, Each, entry_is_other, Vertex, DirectoryGraph, NamedReference, named_reference, raw_slot_entry, scan_with_entries, scan_with_entry, empty_scan, scan_after_slots, MarksLists, list_of_entry, raw_slot_lists, ScansPair, unmoved_raw_slots, after_superblock, raw_entry_slots, IsDescription, AreDescriptions, scan_after_tail, graph_with_directory, ScansPairs, flat_map, block_count, content_at, anchor_address, AreLinked, IsThread, pairs_gstate, count_before_root, pairs_from_root, pair_directories, all_directories, Ends, IsDirectoryGraph, IsThreadGraph, directory_addresses}
+use Rattle.lfs_mount.proofs.Common.{filter_map, cons_option, same_Some, All-head, All-tail, Disk, disk_block, block_entries, Name, BlockStates, RawSlot, RawContent, complete_slots, complete_content, content_after, empty_raw_content, Slot, Gstate, is_superblock, same_pair, Pair, superblock_first, slots_not_moved, unmoved_entries, is_hard_tail, moved_id, IsTreeEntry, AreComplete, complete_parts, completed_parts, Each, entry_is_other, Vertex, DirectoryGraph, NamedReference, named_reference, raw_slot_entry, scan_with_entries, scan_with_entry, empty_scan, scan_after_slots, MarksLists, list_of_entry, raw_slot_lists, ScansPair, unmoved_raw_slots, superblock_removed, raw_entry_slots, IsDescription, AreDescriptions, scan_unless_soft, graph_with_directory, ScansPairs, flat_map, block_count, content_at, anchor_address, AreLinked, IsThread, pairs_gstate, count_before_root, pairs_from_root, pair_directories, all_directories, Ends, IsDirectoryGraph, IsThreadGraph, directory_addresses}
 use Rattle.lfs_model.specs.declared.order.NameOrder.{NameOrder}
 use Rattle.lfs_model.proofs.Completed.{complete_remove}
 use Rattle.lfs_mount.specs.declared.pass.PairBeforeSlotsAreRead.{PairBeforeSlotsAreRead}
@@ -57,7 +57,7 @@ without_moved (Some id) raws kept slots c e = go (is_some (option_and_then {U = 
     go true f g = record { are = ap complete_slots (sym (same_Some (remove raws id) kept g)) ∙ complete_remove raws slots id c; entry = entry_at raws slots id c f }
     go false f g = absurd (cc)
 
-pub without_superblock : (first : Bool) (raws kept : List RawSlot) (slots : List Slot) → complete_slots raws ≡ Some slots → after_superblock first raws ≡ Some kept → complete_slots kept ≡ Some (behind first slots)
+pub without_superblock : (first : Bool) (raws kept : List RawSlot) (slots : List Slot) → complete_slots raws ≡ Some slots → superblock_removed first raws ≡ Some kept → complete_slots kept ≡ Some (behind first slots)
 without_superblock false raws kept slots c e = ap complete_slots (sym (same_Some raws kept e)) ∙ c
 without_superblock true [] kept slots c e = absurd (cc)
 without_superblock true (r ∷ raws) kept slots c e =
@@ -128,11 +128,11 @@ pub record IsTaken (disk : Disk) (firsts : List (ℕ × ℕ)) (g : Gstate) (firs
   pub lists : MarksLists disk sets (lists_of (unmoved_entries g p)) marked
   pub moved : IsMovedEntry (moved_id g p) p.content.slots
 
-pub kept_parts : (m : PairBeforeSlotsAreRead) (raws kept : List RawSlot) → raw_entry_slots m raws ≡ Some kept → (mid : List RawSlot) × ((unmoved_raw_slots m.moved raws ≡ Some mid) × (after_superblock m.has_superblock mid ≡ Some kept))
+pub kept_parts : (m : PairBeforeSlotsAreRead) (raws kept : List RawSlot) → raw_entry_slots m raws ≡ Some kept → (mid : List RawSlot) × ((unmoved_raw_slots m.moved raws ≡ Some mid) × (superblock_removed m.has_superblock mid ≡ Some kept))
 kept_parts m raws kept e = go (unmoved_raw_slots m.moved raws) refl e
   where
-    go : (o : Option (List RawSlot)) → unmoved_raw_slots m.moved raws ≡ o → option_and_then (after_superblock m.has_superblock) o ≡ Some kept
-        → (mid : List RawSlot) × ((unmoved_raw_slots m.moved raws ≡ Some mid) × (after_superblock m.has_superblock mid ≡ Some kept))
+    go : (o : Option (List RawSlot)) → unmoved_raw_slots m.moved raws ≡ o → option_and_then (superblock_removed m.has_superblock) o ≡ Some kept
+        → (mid : List RawSlot) × ((unmoved_raw_slots m.moved raws ≡ Some mid) × (superblock_removed m.has_superblock mid ≡ Some kept))
     go None f h = absurd (cc)
     go (Some mid) f h = (mid, (f, h))
 
@@ -149,7 +149,7 @@ taken_rules disk firsts g first p m known sets new marked h t =
     let all = held_slots disk g first p m t.held h t.content in
     let parts = kept_parts m t.held.slots t.entries t.kept in
     let w = without_moved (moved_id g p) t.held.slots parts.0 p.content.slots all (ap (λ o. unmoved_raw_slots o t.held.slots) (sym h.moved) ∙ parts.1.0) in
-    let are = without_superblock first parts.0 t.entries (without (moved_id g p) p.content.slots) w.are (ap (λ b. after_superblock b parts.0) (sym h.first) ∙ parts.1.1) in
+    let are = without_superblock first parts.0 t.entries (without (moved_id g p) p.content.slots) w.are (ap (λ b. superblock_removed b parts.0) (sym h.first) ∙ parts.1.1) in
     let s = scan_some disk.order firsts known t.entries new t.scan in
     let same : s.slots ≡ behind first (without (moved_id g p) p.content.slots) = same_Some s.slots (behind first (without (moved_id g p) p.content.slots)) (sym s.are ∙ are) in
     let seen : behind first (without (moved_id g p) p.content.slots) ≡ unmoved_entries g p =
@@ -178,7 +178,7 @@ pub record HavePassed (disk : Disk) (firsts : List (ℕ × ℕ)) (g : Gstate) (f
   pub moved : Each (λ p. IsMovedEntry (moved_id g p) p.content.slots) ps
 
 ended-vertices : (by : NameOrder) (hard : Bool) (firsts : List (ℕ × ℕ)) (new : Name × Vertex) (rest : List (Bool × List NamedReference))
-    → graph_with_directory hard new (vertices by firsts (scan_after_tail hard new) rest) ≡ cond hard (vertices by firsts new rest) (new.1 ∷ vertices by firsts empty_scan rest)
+    → graph_with_directory hard new (vertices by firsts (scan_unless_soft hard new) rest) ≡ cond hard (vertices by firsts new rest) (new.1 ∷ vertices by firsts empty_scan rest)
 ended-vertices by true firsts new rest = refl
 ended-vertices by false firsts new rest = refl
 
@@ -190,7 +190,7 @@ passed_rules disk firsts g first [] (m ∷ ms) known sets graph end h t = absurd
 passed_rules disk firsts g first (p ∷ ps) [] known sets graph end h t = absurd h
 passed_rules disk firsts g first (p ∷ ps) (m ∷ ms) known sets graph end h (new, mid, rest, (takes, (e, more))) =
     let one = taken_rules disk firsts g first p m known sets new mid h.0 takes in
-    let others = passed_rules disk firsts g false ps ms (scan_after_tail m.is_hard new) mid rest end h.1 more in
+    let others = passed_rules disk firsts g false ps ms (scan_unless_soft m.is_hard new) mid rest end h.1 more in
     let tail : List (Bool × List NamedReference) = map entries_of (shown_in g ps) in
     record {
       kept = (one.kept, others.kept);

@@ -1,13 +1,13 @@
 -- What a scan of slots finds: they are entries of a directory, or they aren't.
 use Rattle.std.proofs.Common.{ℕ, suc, ◌≡◌, ◌/◌, ◌^◌, ◌<◌, ◌==◌, ◌&&◌, ◌||◌, ⊎_elim, Bool, true, false, cond, List, [], ◌∷◌, length, map, Option, Some, None, refl, sym, ap, ap₂, subst, subst₂, ◌∙◌, arith, eqb-true, eq-eqb, option_and_then, option_map, true≢false}
 use Rattle.std.specs.Prelude.{All}
-use Rattle.lfs_mount.proofs.Common.{and_parts, or_cases, All-head, All-tail, All-cons, same_Some, Name, is_valid_name, Slot, inline_type, directory_type, RawSlot, complete_slot, complete_slots, kind_of_type, read_struct, IsFormedSlot, AreWellFormed, IsTreeEntry, AreComplete, complete_parts, Vertex, HoldsNoEntryAt, InSlot, InList, Below, struct_reference, NamedReference, named_reference, raw_slot_entry, scan_with_entry, scan_with_entries, scan_after_slots}
+use Rattle.lfs_mount.proofs.Common.{and_parts, or_cases, All-head, All-tail, All-cons, same_Some, Name, is_valid_name, Slot, inline_type, directory_type, RawSlot, complete_slot, complete_slots, kind_of_type, decoded_struct, IsFormedSlot, AreWellFormed, IsTreeEntry, AreComplete, complete_parts, Vertex, LacksEntryAt, InSlot, InList, Below, struct_reference, NamedReference, named_reference, raw_slot_entry, scan_with_entry, scan_with_entries, scan_after_slots}
 use Rattle.std.proofs.lemmas.Bool.{ne_eqb}
 use Rattle.lfs_model.specs.declared.order.NameOrder.{NameOrder}
-use Rattle.lfs_model.specs.format.Tag.{make_tag, tag_type, tag_length, abstract_type}
+use Rattle.lfs_model.specs.format.Tag.{make_tag, tag_type, tag_length, tag_class}
 use Rattle.lfs_model.specs.format.Slots.{File, Directory, Superblock}
-use Rattle.lfs_model.specs.format.EntryTypes.{is_known_tag, is_attribute_removal, allows_any_length, requires_no_bytes, requires_eight_bytes, superblock_name_type, create_tag_type, delete_tag_type, soft_tail_type, hard_tail_type, move_type, read_address, file_name_type, directory_name_type, ctz_type}
-use Rattle.lfs_model.specs.layers.LoggedContent.{IsAllowedPart, AllowsIfSome}
+use Rattle.lfs_model.specs.format.EntryTypes.{is_known_tag, is_attribute_removal, allows_any_length, requires_no_bytes, requires_eight_bytes, superblock_name_type, create_tag_type, delete_tag_type, soft_tail_type, hard_tail_type, move_type, decoded_address, file_name_type, directory_name_type, ctz_type}
+use Rattle.lfs_model.specs.layers.LoggedContent.{IsAllowedPart, AllowedIfAny}
 use Rattle.lfs_model.specs.tree.View.{HasKind}
 use Rattle.lfs_model.proofs.WrittenAnew.{tag_type-make_tag, tag_length-make_tag}
 use Rattle.lfs_model.proofs.Completed.{complete_cons}
@@ -17,8 +17,8 @@ use Rattle.lfs_mount.specs.DirectoryEntries.{EntryReference, raw_reference}
 
 data Suited (kind : ℕ) (part : ℕ × List ℕ) (stand : EntryReference) : Type 0 where
   inline : kind ≡ file_name_type → part.0 ≡ inline_type → stand ≡ InSlot → Suited kind part stand
-  list : kind ≡ file_name_type → part.0 ≡ ctz_type → stand ≡ InList (read_address part.1).0 (read_address part.1).1 → Suited kind part stand
-  below : kind ≡ directory_name_type → part.0 ≡ directory_type → stand ≡ Below (read_address part.1) → Suited kind part stand
+  list : kind ≡ file_name_type → part.0 ≡ ctz_type → stand ≡ InList (decoded_address part.1).0 (decoded_address part.1).1 → Suited kind part stand
+  below : kind ≡ directory_name_type → part.0 ≡ directory_type → stand ≡ Below (decoded_address part.1) → Suited kind part stand
 
 suited : (kind : ℕ) (part : ℕ × List ℕ) (stand : EntryReference) → raw_reference kind part ≡ Some stand → Suited kind part stand
 suited kind part stand e =
@@ -26,25 +26,25 @@ suited kind part stand e =
   where
     go : (a b c l : Bool) → (kind == file_name_type && part.0 == inline_type) ≡ a → (kind == file_name_type && part.0 == ctz_type) ≡ b
         → (kind == directory_name_type && part.0 == directory_type) ≡ c
-        → cond a (Some InSlot) (cond b (cond l (Some (InList (read_address part.1).0 (read_address part.1).1)) None) (cond c (cond l (Some (Below (read_address part.1))) None) None)) ≡ Some stand
+        → cond a (Some InSlot) (cond b (cond l (Some (InList (decoded_address part.1).0 (decoded_address part.1).1)) None) (cond c (cond l (Some (Below (decoded_address part.1))) None) None)) ≡ Some stand
         → Suited kind part stand
     go true b c l f g h is = let w = and_parts (kind == file_name_type) (part.0 == inline_type) f in
         inline (eqb-true kind file_name_type w.0) (eqb-true part.0 inline_type w.1) (sym (same_Some InSlot stand is))
     go false true c true f g h is = let w = and_parts (kind == file_name_type) (part.0 == ctz_type) g in
-        list (eqb-true kind file_name_type w.0) (eqb-true part.0 ctz_type w.1) (sym (same_Some (InList (read_address part.1).0 (read_address part.1).1) stand is))
+        list (eqb-true kind file_name_type w.0) (eqb-true part.0 ctz_type w.1) (sym (same_Some (InList (decoded_address part.1).0 (decoded_address part.1).1) stand is))
     go false true c false f g h is = absurd (cc)
     go false false true true f g h is = let w = and_parts (kind == directory_name_type) (part.0 == directory_type) h in
-        below (eqb-true kind directory_name_type w.0) (eqb-true part.0 directory_type w.1) (sym (same_Some (Below (read_address part.1)) stand is))
+        below (eqb-true kind directory_name_type w.0) (eqb-true part.0 directory_type w.1) (sym (same_Some (Below (decoded_address part.1)) stand is))
     go false false true false f g h is = absurd (cc)
     go false false false l f g h is = absurd (cc)
 
-suits_typed : (kind : ℕ) (part : ℕ × List ℕ) (stand : EntryReference) → Suited kind part stand → HasKind (kind_of_type kind) (read_struct part.0 part.1) × (struct_reference (read_struct part.0 part.1) ≡ stand)
+suits_typed : (kind : ℕ) (part : ℕ × List ℕ) (stand : EntryReference) → Suited kind part stand → HasKind (kind_of_type kind) (decoded_struct part.0 part.1) × (struct_reference (decoded_struct part.0 part.1) ≡ stand)
 suits_typed kind part stand (inline k t is) =
-    (subst₂ HasKind (sym (ap kind_of_type k)) (sym (ap (λ (ty : ℕ). read_struct ty part.1) t)) tt, ap (λ (ty : ℕ). struct_reference (read_struct ty part.1)) t ∙ sym is)
+    (subst₂ HasKind (sym (ap kind_of_type k)) (sym (ap (λ (ty : ℕ). decoded_struct ty part.1) t)) tt, ap (λ (ty : ℕ). struct_reference (decoded_struct ty part.1)) t ∙ sym is)
 suits_typed kind part stand (list k t is) =
-    (subst₂ HasKind (sym (ap kind_of_type k)) (sym (ap (λ (ty : ℕ). read_struct ty part.1) t)) tt, ap (λ (ty : ℕ). struct_reference (read_struct ty part.1)) t ∙ sym is)
+    (subst₂ HasKind (sym (ap kind_of_type k)) (sym (ap (λ (ty : ℕ). decoded_struct ty part.1) t)) tt, ap (λ (ty : ℕ). struct_reference (decoded_struct ty part.1)) t ∙ sym is)
 suits_typed kind part stand (below k t is) =
-    (subst₂ HasKind (sym (ap kind_of_type k)) (sym (ap (λ (ty : ℕ). read_struct ty part.1) t)) tt, ap (λ (ty : ℕ). struct_reference (read_struct ty part.1)) t ∙ sym is)
+    (subst₂ HasKind (sym (ap kind_of_type k)) (sym (ap (λ (ty : ℕ). decoded_struct ty part.1) t)) tt, ap (λ (ty : ℕ). struct_reference (decoded_struct ty part.1)) t ∙ sym is)
 
 pub record Holds (s : RawSlot) (e : NamedReference) : Type 0 where
   pub slot : Slot
@@ -61,7 +61,7 @@ entry_some s e is = go s.name s.struct refl refl is
     parts n p f g true h (Some stand) i is =
         let both = suits_typed n.0 p stand (suited n.0 p stand i) in
         record {
-          slot = record { kind = kind_of_type n.0; name = n.1; struct = read_struct p.0 p.1; attributes = s.attributes };
+          slot = record { kind = kind_of_type n.0; name = n.1; struct = decoded_struct p.0 p.1; attributes = s.attributes };
           is = ap₂ (λ (a b : Option (ℕ × List ℕ)). complete_slot (record { name = a; struct = b; attributes = s.attributes })) f g;
           entry = record { name = h; struct = both.0 };
           same = ap (λ (st : EntryReference). (n.1, st)) both.1 ∙ same_Some (n.1, stand) e is;
@@ -79,11 +79,11 @@ entry_some s e is = go s.name s.struct refl refl is
 -- what is in the table, no attribute and of none of the other lengths, has 8 bytes
 eight_bytes : (tag : ℕ) → is_known_tag tag ≡ true → is_attribute_removal tag ≡ false → allows_any_length tag ≡ false → requires_no_bytes tag ≡ false → (tag_type tag == move_type) ≡ false
     → (requires_eight_bytes tag ≡ true) × (tag_length tag ≡ 8)
-eight_bytes tag h a b c d = go (requires_eight_bytes tag) (tag_length tag == 8) refl refl (ap (λ x. cond x (abstract_type tag == 3) (cond false true (cond (requires_eight_bytes tag) (tag_length tag == 8) (cond false (tag_length tag == 0) false)))) (sym a) ∙ rest)
+eight_bytes tag h a b c d = go (requires_eight_bytes tag) (tag_length tag == 8) refl refl (ap (λ x. cond x (tag_class tag == 3) (cond false true (cond (requires_eight_bytes tag) (tag_length tag == 8) (cond false (tag_length tag == 0) false)))) (sym a) ∙ rest)
   where
-    rest : cond (is_attribute_removal tag) (abstract_type tag == 3) (cond false true (cond (requires_eight_bytes tag) (tag_length tag == 8) (cond false (tag_length tag == 0) false))) ≡ true
-    rest = ap₂ (λ x y. cond (is_attribute_removal tag) (abstract_type tag == 3) (cond x true (cond (requires_eight_bytes tag) (tag_length tag == 8) (cond y (tag_length tag == 0) false)))) (sym b) (sym c)
-        ∙ ap (λ z. cond (is_attribute_removal tag) (abstract_type tag == 3) (cond (allows_any_length tag) true (cond (requires_eight_bytes tag) (tag_length tag == 8) (cond (requires_no_bytes tag) (tag_length tag == 0) (z && tag_length tag == 12))))) (sym d)
+    rest : cond (is_attribute_removal tag) (tag_class tag == 3) (cond false true (cond (requires_eight_bytes tag) (tag_length tag == 8) (cond false (tag_length tag == 0) false))) ≡ true
+    rest = ap₂ (λ x y. cond (is_attribute_removal tag) (tag_class tag == 3) (cond x true (cond (requires_eight_bytes tag) (tag_length tag == 8) (cond y (tag_length tag == 0) false)))) (sym b) (sym c)
+        ∙ ap (λ z. cond (is_attribute_removal tag) (tag_class tag == 3) (cond (allows_any_length tag) true (cond (requires_eight_bytes tag) (tag_length tag == 8) (cond (requires_no_bytes tag) (tag_length tag == 0) (z && tag_length tag == 12))))) (sym d)
         ∙ h
 
     go : (e l : Bool) → requires_eight_bytes tag ≡ e → (tag_length tag == 8) ≡ l → cond e l (cond false (tag_length tag == 0) false) ≡ true → (requires_eight_bytes tag ≡ true) × (tag_length tag ≡ 8)
@@ -146,21 +146,21 @@ name_type kind = go (kind == file_name_type) (kind == directory_name_type) refl 
     go false false e f = other_there (ap₂ (λ x y. cond x File (cond y Directory Superblock)) e f)
 
 -- a kind and a struct that suit stand for something
-stands : (kind type : ℕ) (bytes : List ℕ) → IsAllowedPart 2 (type, bytes) → HasKind (kind_of_type kind) (read_struct type bytes) → raw_reference kind (type, bytes) ≡ None → ⊥
+stands : (kind type : ℕ) (bytes : List ℕ) → IsAllowedPart 2 (type, bytes) → HasKind (kind_of_type kind) (decoded_struct type bytes) → raw_reference kind (type, bytes) ≡ None → ⊥
 stands kind type bytes h has_struct_of_its_kind none = go (name_type kind) (part_type type bytes h)
   where
     -- the types written out
     at : (k t : ℕ) (b : Bool) → kind ≡ k → type ≡ t → (length bytes == 8) ≡ b
         → cond (k == file_name_type && t == inline_type) (Some InSlot)
-        (cond (k == file_name_type && t == ctz_type) (cond b (Some (InList (read_address bytes).0 (read_address bytes).1)) None)
-        (cond (k == directory_name_type && t == directory_type) (cond b (Some (Below (read_address bytes))) None) None)) ≡ None
+        (cond (k == file_name_type && t == ctz_type) (cond b (Some (InList (decoded_address bytes).0 (decoded_address bytes).1)) None)
+        (cond (k == directory_name_type && t == directory_type) (cond b (Some (Below (decoded_address bytes))) None) None)) ≡ None
     at k t b e f l = ap (λ (x : Bool). cond (k == file_name_type && t == inline_type) (Some InSlot)
-        (cond (k == file_name_type && t == ctz_type) (cond x (Some (InList (read_address bytes).0 (read_address bytes).1)) None)
-        (cond (k == directory_name_type && t == directory_type) (cond x (Some (Below (read_address bytes))) None) None))) (sym l)
+        (cond (k == file_name_type && t == ctz_type) (cond x (Some (InList (decoded_address bytes).0 (decoded_address bytes).1)) None)
+        (cond (k == directory_name_type && t == directory_type) (cond x (Some (Below (decoded_address bytes))) None) None))) (sym l)
         ∙ ap₂ (λ (x y : ℕ). raw_reference x (y, bytes)) (sym e) (sym f) ∙ none
 
-    reported : (k t : ℕ) → kind ≡ k → type ≡ t → HasKind (kind_of_type k) (read_struct t bytes)
-    reported k t e f = subst₂ (λ (x y : ℕ). HasKind (kind_of_type x) (read_struct y bytes)) e f has_struct_of_its_kind
+    reported : (k t : ℕ) → kind ≡ k → type ≡ t → HasKind (kind_of_type k) (decoded_struct t bytes)
+    reported k t e f = subst₂ (λ (x y : ℕ). HasKind (kind_of_type x) (decoded_struct y bytes)) e f has_struct_of_its_kind
 
     long : length bytes ≡ 8 → (length bytes == 8) ≡ true
     long e = eq-eqb (length bytes) 8 e
@@ -172,20 +172,20 @@ stands kind type bytes h has_struct_of_its_kind none = go (name_type kind) (part
     go (directory_there e) (bytes_there f) = reported directory_name_type inline_type e f
     go (directory_there e) (pair_there f l) = absurd (let c = at directory_name_type directory_type true e f (long l) in cc)
     go (directory_there e) (list_there f l) = reported directory_name_type ctz_type e f
-    go (other_there e) p = subst (λ k. HasKind k (read_struct type bytes)) e has_struct_of_its_kind
+    go (other_there e) p = subst (λ k. HasKind k (decoded_struct type bytes)) e has_struct_of_its_kind
 
 pub entry_none : (s : RawSlot) (t : Slot) → IsFormedSlot s → raw_slot_entry s ≡ None → complete_slot s ≡ Some t → IsTreeEntry t → ⊥
 entry_none s t parts none is entry = go s.name s.struct parts.struct none is
   where
     below_name : (n p : ℕ × List ℕ) → IsAllowedPart 2 p → (b : Bool) → is_valid_name n.1 ≡ b → (o : Option EntryReference) → raw_reference n.0 p ≡ o
-        → cond b (option_map {U = NamedReference} (λ stand. (n.1, stand)) o) None ≡ None → record { kind = kind_of_type n.0; name = n.1; struct = read_struct p.0 p.1; attributes = s.attributes } ≡ t → ⊥
+        → cond b (option_map {U = NamedReference} (λ stand. (n.1, stand)) o) None ≡ None → record { kind = kind_of_type n.0; name = n.1; struct = decoded_struct p.0 p.1; attributes = s.attributes } ≡ t → ⊥
     below_name n p h true f None g e same = stands n.0 p.0 p.1 h (subst (λ (u : Slot). HasKind u.kind u.struct) (sym same) entry.struct) g
     below_name n p h true f (Some stand) g e same = absurd (cc)
     below_name n p h false f o g e same = true≢false (sym entry.name ∙ ap (λ (u : Slot). is_valid_name u.name) (sym same) ∙ f)
 
-    go : (n p : Option (ℕ × List ℕ)) → AllowsIfSome 2 p
+    go : (n p : Option (ℕ × List ℕ)) → AllowedIfAny 2 p
         → option_and_then (λ name. option_and_then (λ struct. cond (is_valid_name name.1) (option_map {U = NamedReference} (λ stand. (name.1, stand)) (raw_reference name.0 struct)) None) p) n ≡ None
-        → option_and_then (λ name. option_map (λ struct. record { kind = kind_of_type name.0; name = name.1; struct = read_struct struct.0 struct.1; attributes = s.attributes }) p) n ≡ Some t → ⊥
+        → option_and_then (λ name. option_map (λ struct. record { kind = kind_of_type name.0; name = name.1; struct = decoded_struct struct.0 struct.1; attributes = s.attributes }) p) n ≡ Some t → ⊥
     go None p h e f = absurd (cc)
     go (Some n) None h e f = absurd (cc)
     go (Some n) (Some p) h e f = below_name n p h (is_valid_name n.1) refl (raw_reference n.0 p) refl e (same_Some _ t f)
@@ -232,11 +232,11 @@ scan_none by firsts known (s ∷ raws) parts e slots are entries = go (raw_slot_
     go (Some x) f g next = next x g
 
 -- where they aren't all entries, one isn't
-pub scan_none_at : (by : NameOrder) (firsts : List (ℕ × ℕ)) (known : Name × Vertex) (raws : List RawSlot) → scan_after_slots by firsts known raws ≡ None → (index : ℕ) × HoldsNoEntryAt raws index
+pub scan_none_at : (by : NameOrder) (firsts : List (ℕ × ℕ)) (known : Name × Vertex) (raws : List RawSlot) → scan_after_slots by firsts known raws ≡ None → (index : ℕ) × LacksEntryAt raws index
 scan_none_at by firsts known [] e = absurd (cc)
 scan_none_at by firsts known (s ∷ raws) e = go (raw_slot_entry s) refl e (λ x. scan_none_at by firsts (scan_with_entry by firsts known x) raws)
   where
     go : (o : Option NamedReference) → raw_slot_entry s ≡ o → option_and_then (λ x. scan_after_slots by firsts (scan_with_entry by firsts known x) raws) o ≡ None
-        → ((x : NamedReference) → scan_after_slots by firsts (scan_with_entry by firsts known x) raws ≡ None → (index : ℕ) × HoldsNoEntryAt raws index) → (index : ℕ) × HoldsNoEntryAt (s ∷ raws) index
+        → ((x : NamedReference) → scan_after_slots by firsts (scan_with_entry by firsts known x) raws ≡ None → (index : ℕ) × LacksEntryAt raws index) → (index : ℕ) × LacksEntryAt (s ∷ raws) index
     go None f g next = (0, (s, (refl, f)))
     go (Some x) f g next = let r = next x g in (suc r.0, r.1)

@@ -1,9 +1,9 @@
 -- What is known of directories names places that there are.
 use Rattle.std.proofs.Common.{ℕ, suc, ◌≡◌, ◌<◌, ◌&&◌, Bool, true, false, cond, List, [], ◌∷◌, ◌++◌, length, Option, Some, None, refl, sym, ap, subst, ◌∙◌, arith, option_map, option_and_then}
 use Rattle.std.specs.Prelude.{All}
-use Rattle.lfs_mount.proofs.Common.{same_Some, length-map, All-from_recursion, BlockStates, RawSlot, Disk, block_count, Name, Slot, Gstate, same_pair, Pair, ThreadDirectory, directories_with_pair, is_hard_tail, unmoved_entries, pairs_gstate, pairs_from_root, pair_directories, all_directories, Each, each_append, pairs_behind, Vertex, DirectoryGraph, vertex_view, graph_view, address_index, comes_after_name, InSlot, InList, Below, NamedReference, raw_slot_entry, vertex_with_branch, scan_with_entry, empty_scan, scan_after_slots, scan_after_tail, graph_with_directory, ScansPairs, AreDescriptions}
+use Rattle.lfs_mount.proofs.Common.{same_Some, length-map, All-from_recursion, BlockStates, RawSlot, Disk, block_count, Name, Slot, Gstate, same_pair, Pair, ThreadDirectory, directories_with_pair, is_hard_tail, unmoved_entries, pairs_gstate, pairs_from_root, pair_directories, all_directories, Each, each_append, pairs_behind, Vertex, DirectoryGraph, vertex_view, graph_view, address_index, comes_after_name, InSlot, InList, Below, NamedReference, raw_slot_entry, vertex_with_branch, scan_with_entry, empty_scan, scan_after_slots, scan_unless_soft, graph_with_directory, ScansPairs, AreDescriptions}
 use Rattle.lfs_model.specs.declared.order.NameOrder.{NameOrder}
-use Rattle.lfs_mount.specs.Checked.{HasDescribed}
+use Rattle.lfs_mount.specs.Checked.{DescribesThread}
 use Rattle.lfs_mount.specs.declared.pass.PairBeforeSlotsAreRead.{PairBeforeSlotsAreRead}
 use Rattle.lfs_mount.specs.declared.reachability.Directory.{Directory}
 use Rattle.lfs_mount.proofs.Ending.{known_drawn}
@@ -42,7 +42,7 @@ scan_within by firsts known new (r ∷ raws) e h =
     let x = parts_of (λ y. scan_after_slots by firsts (scan_with_entry by firsts known y) raws) new (raw_slot_entry r) e in
     scan_within by firsts (scan_with_entry by firsts known x.0) new raws x.1 (entry_within by firsts known x.0 h)
 
-hand_within : (n : ℕ) (hard : Bool) (new : Name × Vertex) → Below_all n new.1 → Below_all n (scan_after_tail hard new).1
+hand_within : (n : ℕ) (hard : Bool) (new : Name × Vertex) → Below_all n new.1 → Below_all n (scan_unless_soft hard new).1
 hand_within n true new h = h
 hand_within n false new h = tt
 
@@ -56,7 +56,7 @@ passes_within disk firsts known sets [] graph end (e, f) h = subst (Each (Below_
 passes_within disk firsts known sets (m ∷ ms) graph end (new, mid, rest, (takes, (e, more))) h =
     let k = scan_within disk.order firsts known new takes.entries takes.scan h in
     subst (Each (Below_all (length firsts))) (sym e)
-    (ended_within (length firsts) m.is_hard new rest k (passes_within disk firsts (scan_after_tail m.is_hard new) mid ms rest end more (hand_within (length firsts) m.is_hard new k)))
+    (ended_within (length firsts) m.is_hard new rest k (passes_within disk firsts (scan_unless_soft m.is_hard new) mid ms rest end more (hand_within (length firsts) m.is_hard new k)))
 
 -- ---- the directories of the code
 
@@ -69,7 +69,7 @@ some_joined at hard slots [] = omega arith
 some_joined at true slots (d ∷ ds) = omega arith
 some_joined at false slots (d ∷ ds) = omega arith
 
-module _ (disk : Disk) (sets : BlockStates) (firsts : List (ℕ × ℕ)) (ms : List PairBeforeSlotsAreRead) (sync : Bool) (known : HasDescribed disk sets firsts ms sync) (by : NameOrder) (ds : List Directory) (end : BlockStates)
+module _ (disk : Disk) (sets : BlockStates) (firsts : List (ℕ × ℕ)) (ms : List PairBeforeSlotsAreRead) (sync : Bool) (known : DescribesThread disk sets firsts ms sync) (by : NameOrder) (ds : List Directory) (end : BlockStates)
     (passes : ScansPairs disk firsts empty_scan sets ms (graph_view by ds) end) where
   abbrev ps : List Pair
   ps = known.0 ++ known.1 ∷ known.2

@@ -5,7 +5,7 @@ use Rattle.lfs_model.specs.format.Disk.{Disk, block_count}
 use Rattle.lfs_model.specs.format.Thread.{Pair, pairs_gstate}
 use Rattle.lfs_model.specs.tree.View.{IsAccepted, HasValidMove}
 use Rattle.lfs_model.specs.tree.Shown.{used_blocks}
-use Rattle.lfs_model.specs.layers.Violations.{Breaks, BreaksPairs}
+use Rattle.lfs_model.specs.layers.Violations.{Breaks, PairsBreak}
 use Rattle.lfs_model.specs.declared.violations.Violation.{Violation}
 use Rattle.lfs_model.specs.session.History.{CallEvent, OnlyReadsSince, fault_count}
 use Rattle.lfs_thread.specs.Kept.{PairHeader, ThreadView, header_pairs}
@@ -25,7 +25,7 @@ pub record IsThreadVerdict (disk : Disk) (broken_rule : Option Violation) (old n
   pub moved : NamesMovedEntry (pairs_gstate (chain ++ p ∷ rest)) (p ∷ rest)
   pub marked : (bytes : List ℕ) → HasSuperblockChain disk chain p rest bytes → MapUsesBlocks old new (used_blocks disk (chain ++ p ∷ rest))
   pub accepted : broken_rule ≡ None → (bytes : List ℕ) → HasSuperblockChain disk chain p rest bytes → HasValidMove (chain ++ p ∷ rest) (pairs_gstate (chain ++ p ∷ rest)) → IsAccepted disk (chain ++ p ∷ rest)
-  pub broken : (violation : Violation) → broken_rule ≡ Some violation → BreaksPairs disk (chain ++ p ∷ rest) violation
+  pub broken : (violation : Violation) → broken_rule ≡ Some violation → PairsBreak disk (chain ++ p ∷ rest) violation
 
 -- The map has the image's blocks. The image is accepted if its directories break no rule in the disk's order of names. If they
 -- break one, the disk does.

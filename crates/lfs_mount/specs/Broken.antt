@@ -9,10 +9,10 @@ use Rattle.lfs_model.specs.format.Log.{block_entries}
 use Rattle.lfs_model.specs.format.SkipLists.{IsSkipList}
 use Rattle.lfs_model.specs.declared.violations.Violation.{Violation}
 use Rattle.lfs_model.specs.declared.violations.Violation.TheVariants as violation
-use Rattle.lfs_tag.specs.KindView.{is_superblock_tag}
-use Rattle.lfs_mount.specs.DirectoryEntries.{HoldsNoEntryAt, raw_slot_entry}
+use Rattle.lfs_tag.specs.KindView.{is_superblock_name}
+use Rattle.lfs_mount.specs.DirectoryEntries.{LacksEntryAt, raw_slot_entry}
 use Rattle.lfs_mount.specs.Marking.{MarksUsed, MeetsTaken, raw_slot_lists, blocks_last_first, list_of_entry}
-use Rattle.lfs_mount.specs.Taken.{entry_slot_number, unmoved_raw_slots, after_superblock, raw_entry_slots}
+use Rattle.lfs_mount.specs.Taken.{entry_slot_number, unmoved_raw_slots, superblock_removed, raw_entry_slots}
 use Rattle.lfs_mount.specs.declared.pass.PairBeforeSlotsAreRead.{PairBeforeSlotsAreRead}
 
 -- ---- slots before some are removed
@@ -25,7 +25,7 @@ block_entry_slots m block = option_and_then (raw_entry_slots m) (raw_block_slots
 
 abbrev pub IsSuperblockOrNone : Option RawSlot → Type 0
 IsSuperblockOrNone None = Unit {0}
-IsSuperblockOrNone (Some s) = is_superblock_tag s.name ≡ true
+IsSuperblockOrNone (Some s) = is_superblock_name s.name ≡ true
 
 -- the slot that a set move names isn't there, or is a superblock's
 abbrev pub IsBadMove : Option RawSlot → Violation → Type 0
@@ -33,14 +33,14 @@ IsBadMove slot v = (v ≡ violation.Move) × IsSuperblockOrNone slot
 
 -- The slot is no superblock's, and no entry.
 abbrev pub IsBadEntry : List ℕ → ℕ → List RawSlot → Violation → Type 0
-IsBadEntry at id slots v = (v ≡ violation.Entry at id) × (s : RawSlot) × ((slice_get slots id ≡ Some s) × (is_superblock_tag s.name ≡ false) × (raw_slot_entry s ≡ None))
+IsBadEntry at id slots v = (v ≡ violation.Entry at id) × (s : RawSlot) × ((slice_get slots id ≡ Some s) × (is_superblock_name s.name ≡ false) × (raw_slot_entry s ≡ None))
 
 -- the slot that a set move names is no entry
 abbrev pub BreaksMovedSlot : PairBeforeSlotsAreRead → List RawSlot → Violation → Type 0
 BreaksMovedSlot m slots v = (id : ℕ) × ((m.moved ≡ Some id) × (IsBadMove (slice_get slots id) v ⊎ IsBadEntry m.at id slots v))
 
 abbrev pub LacksSuperblock : PairBeforeSlotsAreRead → List RawSlot → Type 0
-LacksSuperblock m slots = (mid : List RawSlot) × ((unmoved_raw_slots m.moved slots ≡ Some mid) × (after_superblock m.has_superblock mid ≡ None))
+LacksSuperblock m slots = (mid : List RawSlot) × ((unmoved_raw_slots m.moved slots ≡ Some mid) × (superblock_removed m.has_superblock mid ≡ None))
 
 -- The slot that a set move names is no entry. No pair that was described has no content, or lacks the superblock.
 abbrev pub BreaksBlockSlots : PairBeforeSlotsAreRead → List ℕ → Violation → Type 0
@@ -51,7 +51,7 @@ BreaksBlockSlots m block v = (raw_block_slots block ≡ None)
 
 -- the kept slot at an index is no entry
 abbrev pub BreaksEntrySlot : PairBeforeSlotsAreRead → List RawSlot → Violation → Type 0
-BreaksEntrySlot m kept v = (index : ℕ) × ((v ≡ violation.Entry m.at (entry_slot_number m index)) × HoldsNoEntryAt kept index)
+BreaksEntrySlot m kept v = (index : ℕ) × ((v ≡ violation.Entry m.at (entry_slot_number m index)) × LacksEntryAt kept index)
 
 -- the kept slot at an index has that list
 pub record IsSlotList (kept : List RawSlot) (index : ℕ) (l : ℕ × ℕ) : Type 0 where

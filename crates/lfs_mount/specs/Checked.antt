@@ -49,5 +49,5 @@ pub record IsDescribedThread (disk : Disk) (sets : BlockStates) (firsts : List (
   pub places : firsts ≡ directory_addresses (all_directories (chain ++ p ∷ rest))
   pub sync_is : (pairs_gstate (chain ++ p ∷ rest)).sync ≡ sync
 
-abbrev pub HasDescribed : Disk → BlockStates → List (ℕ × ℕ) → List PairBeforeSlotsAreRead → Bool → Type 0
-HasDescribed disk sets firsts members sync = (chain : List Pair) × (p : Pair) × (rest : List Pair) × IsDescribedThread disk sets firsts members sync chain p rest
+abbrev pub DescribesThread : Disk → BlockStates → List (ℕ × ℕ) → List PairBeforeSlotsAreRead → Bool → Type 0
+DescribesThread disk sets firsts members sync = (chain : List Pair) × (p : Pair) × (rest : List Pair) × IsDescribedThread disk sets firsts members sync chain p rest

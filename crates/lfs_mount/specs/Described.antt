@@ -2,13 +2,13 @@
 use Rattle.std.specs.Prelude.{◌≡◌, ◌<◌, Bool, true, false, List, [], ◌∷◌, Some}
 use Rattle.lfs_model.specs.format.Disk.{Disk, disk_block, block_count}
 use Rattle.lfs_model.specs.format.Content.{current_block, content_at}
-use Rattle.lfs_model.specs.format.Slots.{Gstate, array_address}
+use Rattle.lfs_model.specs.format.Slots.{Gstate, address_view}
 use Rattle.lfs_model.specs.format.Thread.{Pair, is_hard_tail, superblock_first, moved_id}
 use Rattle.lfs_mount.specs.declared.pass.PairBeforeSlotsAreRead.{PairBeforeSlotsAreRead}
 
 -- The pair is on the disk, and this is what is known of it. The first pair has the superblock.
 pub record IsDescription (disk : Disk) (g : Gstate) (is_first : Bool) (p : Pair) (m : PairBeforeSlotsAreRead) : Type 0 where
-  pub at : array_address m.at ≡ p.at
+  pub at : address_view m.at ≡ p.at
   pub content : content_at disk p.at ≡ Some p.content
   pub within : m.active < block_count disk
   pub active : current_block disk p.at ≡ Some (disk_block disk m.active)

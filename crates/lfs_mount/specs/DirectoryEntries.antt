@@ -5,7 +5,7 @@ use Rattle.lfs_model.specs.declared.order.NameOrder.{NameOrder}
 use Rattle.lfs_model.specs.format.Names.{Name, name_cmp, is_less, is_valid_name}
 use Rattle.lfs_model.specs.format.Slots.{Slot, Struct, Inline, Ctz, Branch}
 use Rattle.lfs_model.specs.format.Content.{RawSlot}
-use Rattle.lfs_model.specs.format.EntryTypes.{file_name_type, directory_name_type, inline_type, ctz_type, directory_type, read_address}
+use Rattle.lfs_model.specs.format.EntryTypes.{file_name_type, directory_name_type, inline_type, ctz_type, directory_type, decoded_address}
 use Rattle.lfs_thread.specs.PairPlaces.{address_index}
 use Rattle.lfs_mount.specs.Reaching.{Vertex}
 
@@ -31,8 +31,8 @@ named_reference s = (s.name, struct_reference s.struct)
 abbrev pub raw_reference : ℕ → ℕ × List ℕ → Option EntryReference
 raw_reference kind part =
     if kind == file_name_type && part.0 == inline_type then Some InSlot
-    else (if kind == file_name_type && part.0 == ctz_type then (if length part.1 == 8 then Some (InList (read_address part.1).0 (read_address part.1).1) else None)
-    else (if kind == directory_name_type && part.0 == directory_type then (if length part.1 == 8 then Some (Below (read_address part.1)) else None)
+    else (if kind == file_name_type && part.0 == ctz_type then (if length part.1 == 8 then Some (InList (decoded_address part.1).0 (decoded_address part.1).1) else None)
+    else (if kind == directory_name_type && part.0 == directory_type then (if length part.1 == 8 then Some (Below (decoded_address part.1)) else None)
     else None))
 
 -- the entry that a slot of a log holds, where the slot may be in a directory
@@ -41,8 +41,8 @@ raw_slot_entry s = option_and_then (λ name. option_and_then (λ struct.
     if is_valid_name name.1 then option_map (λ stand. (name.1, stand)) (raw_reference name.0 struct) else None) s.struct) s.name
 
 -- the slot at an index holds no entry
-abbrev pub HoldsNoEntryAt : List RawSlot → ℕ → Type 0
-HoldsNoEntryAt slots index = (s : RawSlot) × ((slice_get slots index ≡ Some s) × (raw_slot_entry s ≡ None))
+abbrev pub LacksEntryAt : List RawSlot → ℕ → Type 0
+LacksEntryAt slots index = (s : RawSlot) × ((slice_get slots index ≡ Some s) × (raw_slot_entry s ≡ None))
 
 -- ---- one entry more
 

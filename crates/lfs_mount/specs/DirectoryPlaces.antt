@@ -6,7 +6,7 @@ use Rattle.std.specs.declared.cmp.Ordering.TheVariants.{Less}
 use Rattle.lfs_model.specs.declared.order.NameOrder.{NameOrder}
 use Rattle.lfs_model.specs.format.Names.{name_cmp}
 use Rattle.lfs_model.specs.format.Slots.{Slot, same_pair}
-use Rattle.lfs_model.specs.format.Thread.{ThreadDirectory, directory_slots, BeginsAt}
+use Rattle.lfs_model.specs.format.Thread.{ThreadDirectory, directory_slots, BeginsDirectory}
 use Rattle.lfs_model.specs.tree.Tree.{Path, branch_address, address_at_path, names_at}
 use Rattle.lfs_mount.specs.Reaching.{Vertex, DirectoryGraph}
 
@@ -23,7 +23,7 @@ slot_branches slots = filter_map (λ s. branch_address s.struct) slots
 -- list. It has their places where each is one.
 pub record DescribesSlots (by : NameOrder) (ds : List ThreadDirectory) (slots : List Slot) (v : Vertex) : Type 0 where
   pub rises : (v.rises ≡ true) ↔ AllPairs (λ a b. name_cmp by a b ≡ Less) (map (λ s. s.name) slots)
-  pub leads : (v.leads ≡ true) ↔ All (BeginsAt ds) (slot_branches slots)
+  pub leads : (v.leads ≡ true) ↔ All (BeginsDirectory ds) (slot_branches slots)
   pub branches : v.leads ≡ true → map (λ b. Some b) v.branches ≡ map (directory_index ds) (slot_branches slots)
 
 -- the graph of the directories
@@ -35,7 +35,7 @@ pub record IsDirectoryGraph (by : NameOrder) (ds : List ThreadDirectory) (graph 
 -- paths lead to the same.
 pub record IsRootTree (by : NameOrder) (ds : List ThreadDirectory) (root : ℕ × ℕ) : Type 0 where
   pub order : (path : Path) (at : ℕ × ℕ) → address_at_path (directory_slots ds) root path ≡ Some at → AllPairs (λ a b. name_cmp by a b ≡ Less) (names_at (directory_slots ds) at)
-  pub branches : (path : Path) (at : ℕ × ℕ) → address_at_path (directory_slots ds) root path ≡ Some at → BeginsAt ds at
+  pub branches : (path : Path) (at : ℕ × ℕ) → address_at_path (directory_slots ds) root path ≡ Some at → BeginsDirectory ds at
   pub once : (path other : Path) (at to : ℕ × ℕ) → address_at_path (directory_slots ds) root path ≡ Some at → address_at_path (directory_slots ds) root other ≡ Some to
       → same_pair at to ≡ true → path ≡ other
 

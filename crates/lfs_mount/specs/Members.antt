@@ -12,11 +12,11 @@ use Rattle.lfs_tag.specs.ContentView.{tail_view}
 use Rattle.lfs_pair.specs.Pair.{header_address}
 use Rattle.lfs_thread.specs.Kept.{PairHeader, IsKeptOnDisk, header_pairs}
 use Rattle.lfs_thread.specs.PairPlaces.{blocks_of_addresses}
-use Rattle.lfs_mount.specs.Checked.{HasDescribed, IsDescribedThread}
+use Rattle.lfs_mount.specs.Checked.{DescribesThread, IsDescribedThread}
 use Rattle.lfs_mount.specs.declared.pass.PairBeforeSlotsAreRead.{PairBeforeSlotsAreRead}
 
-abbrev pub has_tail_header : PairHeader → Bool
-has_tail_header h = is_hard_tail (option_map tail_view h.tail)
+abbrev pub header_tail_hard : PairHeader → Bool
+header_tail_hard h = is_hard_tail (option_map tail_view h.tail)
 
 -- the id of the slot that a set move names in the pair at an address
 abbrev pub moved_id_at : Gstate → ℕ × ℕ → Option ℕ
@@ -26,7 +26,7 @@ abbrev pub header_description : Gstate → Bool → PairHeader → PairBeforeSlo
 header_description g is_first h = record {
   at = h.blocks;
   active = h.active;
-  is_hard = has_tail_header h;
+  is_hard = header_tail_hard h;
   has_superblock = is_first;
   moved = moved_id_at g (header_address h);
 }
@@ -39,12 +39,12 @@ header_descriptions g is_first (h ∷ hs) = header_description g is_first h ∷ 
 -- the addresses at which directories begin: those of pairs that no hard tail names
 abbrev pub directory_beginnings : Bool → List PairHeader → List (ℕ × ℕ)
 directory_beginnings begins [] = []
-directory_beginnings begins (h ∷ hs) = if begins then header_address h ∷ directory_beginnings (not (has_tail_header h)) hs else directory_beginnings (not (has_tail_header h)) hs
+directory_beginnings begins (h ∷ hs) = if begins then header_address h ∷ directory_beginnings (not (header_tail_hard h)) hs else directory_beginnings (not (header_tail_hard h)) hs
 
 -- These are the headers of the directories' pairs in a thread that is known. No two directories begin in the same block.
 pub record AreThreadDirectories (disk : Disk) (sets : BlockStates) (g : Gstate) (headers : List PairHeader) : Type 0 where
   pub apart : IsDistinct nat_eq (blocks_of_addresses (directory_beginnings true headers))
-  pub known : HasDescribed disk sets (directory_beginnings true headers) (header_descriptions g true headers) g.sync
+  pub known : DescribesThread disk sets (directory_beginnings true headers) (header_descriptions g true headers) g.sync
 
 -- the thread with these headers
 abbrev pub IsHeaderThread : Disk → BlockStates → Gstate → List PairHeader → List Pair → Pair → List Pair → Type 0

@@ -3,5 +3,5 @@ use Rattle.std.specs.Prelude.{◌≡◌, ◌⊎◌}
 use Rattle.lfs_device.specs.declared.error.Error.{Error}
 use Rattle.lfs_device.specs.declared.error.Error.TheVariants.{Corrupt, Io, NoMemory}
 
-abbrev pub IsErrorOfMount : Error → Type 0
-IsErrorOfMount e = (e ≡ Io) ⊎ (e ≡ Corrupt) ⊎ (e ≡ NoMemory)
+abbrev pub MountMayReport : Error → Type 0
+MountMayReport e = (e ≡ Io) ⊎ (e ≡ Corrupt) ⊎ (e ≡ NoMemory)

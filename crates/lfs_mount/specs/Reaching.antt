@@ -29,15 +29,15 @@ abbrev pub found_with_branches : DirectoryGraph → ℕ → List ℕ → List �
 found_with_branches graph k found = found ++ optional_branches graph (slice_get found k)
 
 -- the directories found from the root, the first found first, after those at the first k places were looked into
-abbrev pub found_after : DirectoryGraph → ℕ → List ℕ
-found_after graph zero = 0 ∷ []
-found_after graph (suc k) = found_with_branches graph k (found_after graph k)
+abbrev pub found_vertices : DirectoryGraph → ℕ → List ℕ
+found_vertices graph zero = 0 ∷ []
+found_vertices graph (suc k) = found_with_branches graph k (found_vertices graph k)
 
 -- The search has ended: each directory that was found was looked into and is sound. None was found twice.
 pub record EndsSearchSoundly (graph : DirectoryGraph) (k : ℕ) : Type 0 where
-  pub all : length (found_after graph k) ≡ k
-  pub distinct : IsDistinct nat_eq (found_after graph k)
-  pub sound : All (λ v. has_sound_vertex graph v ≡ true) (found_after graph k)
+  pub all : length (found_vertices graph k) ≡ k
+  pub distinct : IsDistinct nat_eq (found_vertices graph k)
+  pub sound : All (λ v. has_sound_vertex graph v ≡ true) (found_vertices graph k)
 
 -- the marks are those of the directories that were found, each once
 pub record AreFoundMarks (marks : List Bool) (found : List ℕ) : Type 0 where
@@ -54,7 +54,7 @@ pub record IsRepeated (xs : List ℕ) (x : ℕ) : Type 0 where
   pub other : slice_get xs j ≡ Some x
 
 -- these directories are found, too, each for the first time
-pub record FindsNew (marks : List Bool) (found branches : List ℕ) (new_marks : List Bool) (new_found : List ℕ) : Type 0 where
+pub record FindsDirectories (marks : List Bool) (found branches : List ℕ) (new_marks : List Bool) (new_found : List ℕ) : Type 0 where
   pub found_is : new_found ≡ found ++ branches
   pub marked : AreFoundMarks new_marks new_found
   pub len : length new_marks ≡ length marks
@@ -63,5 +63,5 @@ pub record FindsNew (marks : List Bool) (found branches : List ℕ) (new_marks :
 pub record AreReachedMarks (graph : DirectoryGraph) (marks : List Bool) : Type 0 where
   pub steps : ℕ
   pub finished : EndsSearchSoundly graph steps
-  pub marked : AreFoundMarks marks (found_after graph steps)
+  pub marked : AreFoundMarks marks (found_vertices graph steps)
   pub len : length marks ≡ length graph

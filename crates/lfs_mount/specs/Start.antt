@@ -4,16 +4,16 @@ use Rattle.lfs_model.specs.layers.BlockSets.{BlockStates, used_count}
 use Rattle.lfs_thread.specs.Kept.{PairHeader}
 
 -- how many blocks are used, and the pairs' revisions, which rise with each mount that writes
-abbrev pub image_number : BlockStates → List PairHeader → ℕ
-image_number sets headers = (used_count sets + sum_by (λ h. h.revision) headers) % 2 ^ 32
+abbrev pub image_seed : BlockStates → List PairHeader → ℕ
+image_seed sets headers = (used_count sets + sum_by (λ h. h.revision) headers) % 2 ^ 32
 
 -- as MurmurHash3 ends: equal steps come to numbers as if by chance
-abbrev pub mixed_number : ℕ → ℕ
-mixed_number number = folded 16 (folded 13 (folded 16 number * 0x85ebca6b % 2 ^ 32) * 0xc2b2ae35 % 2 ^ 32)
+abbrev pub mixed_seed : ℕ → ℕ
+mixed_seed number = folded 16 (folded 13 (folded 16 number * 0x85ebca6b % 2 ^ 32) * 0xc2b2ae35 % 2 ^ 32)
   where
     -- with its upper bits put over the lower ones
     folded : ℕ → ℕ → ℕ
     folded bits n = bit_xor n (n / 2 ^ bits)
 
 abbrev pub allocation_seed : BlockStates → List PairHeader → ℕ
-allocation_seed sets headers = mixed_number (image_number sets headers)
+allocation_seed sets headers = mixed_seed (image_seed sets headers)

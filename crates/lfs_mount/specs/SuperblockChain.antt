@@ -13,7 +13,7 @@ use Rattle.lfs_model.specs.declared.violations.Violation.{Violation}
 use Rattle.lfs_model.specs.declared.violations.Violation.TheVariants as violation
 use Rattle.lfs_model.specs.tree.View.{BeginsWith, accepts_version, superblock_entry}
 use Rattle.lfs_tag.specs.ContentView.{tail_view}
-use Rattle.lfs_tag.specs.KindView.{is_superblock_tag}
+use Rattle.lfs_tag.specs.KindView.{is_superblock_name}
 use Rattle.lfs_thread.specs.Kept.{PairHeader, AreHeaders, header_pairs}
 use Rattle.lfs_mount.specs.Checked.{HasSuperblockChain}
 
@@ -42,42 +42,42 @@ struct_if_fitting versions block_size count (Some bytes) = if is_geometry_struct
 abbrev pub first_slot_struct : AcceptedVersions → ℕ → ℕ → List RawSlot → Option (List ℕ)
 first_slot_struct versions block_size count [] = None
 first_slot_struct versions block_size count (s ∷ slots) =
-    if is_superblock_tag s.name && has_name (codes "littlefs") s.name then struct_if_fitting versions block_size count (inline_bytes s.struct) else None
+    if is_superblock_name s.name && has_name (codes "littlefs") s.name then struct_if_fitting versions block_size count (inline_bytes s.struct) else None
 
 -- whether a struct has an accepted version, and after it the same bytes as the superblock's
 abbrev pub repeats_superblock_struct : AcceptedVersions → List ℕ → List ℕ → Bool
 repeats_superblock_struct versions bytes own =
     length own == length bytes && (accepts_version versions (superblock_fields own).version && bytes_eq (drop 4 own) (drop 4 bytes))
 
-abbrev pub if_repeated_struct : AcceptedVersions → List ℕ → Option (List ℕ) → Option Bool
-if_repeated_struct versions bytes None = None
-if_repeated_struct versions bytes (Some own) = if repeats_superblock_struct versions bytes own then Some true else None
+abbrev pub repeats_if_struct : AcceptedVersions → List ℕ → Option (List ℕ) → Option Bool
+repeats_if_struct versions bytes None = None
+repeats_if_struct versions bytes (Some own) = if repeats_superblock_struct versions bytes own then Some true else None
 
 -- whether the first slot is a superblock's; none where it is one with another struct
 abbrev pub first_repeats_superblock : AcceptedVersions → List ℕ → List RawSlot → Option Bool
 first_repeats_superblock versions bytes [] = Some false
-first_repeats_superblock versions bytes (s ∷ slots) = if is_superblock_tag s.name then if_repeated_struct versions bytes (inline_bytes s.struct) else Some false
+first_repeats_superblock versions bytes (s ∷ slots) = if is_superblock_name s.name then repeats_if_struct versions bytes (inline_bytes s.struct) else Some false
 
 -- ---- blocks
 
 -- the superblock's struct in the slots that a block's log comes to, and whether they repeat one
-abbrev pub struct_in_log : AcceptedVersions → ℕ → ℕ → List ℕ → Option (List ℕ)
-struct_in_log versions block_size count block = option_and_then (λ c. first_slot_struct versions block_size count c.slots) (content_after empty_raw_content (block_entries block))
+abbrev pub superblock_in_log : AcceptedVersions → ℕ → ℕ → List ℕ → Option (List ℕ)
+superblock_in_log versions block_size count block = option_and_then (λ c. first_slot_struct versions block_size count c.slots) (content_after empty_raw_content (block_entries block))
 
 abbrev pub repeats_superblock : AcceptedVersions → List ℕ → List ℕ → Option Bool
 repeats_superblock versions bytes block = option_and_then (λ c. first_repeats_superblock versions bytes c.slots) (content_after empty_raw_content (block_entries block))
 
 -- the block's log begins with the superblock's entry, and this is its struct
-pub record IsBlockStruct (disk : Disk) (block : ℕ) (bytes : List ℕ) : Type 0 where
+pub record BlockHasSuperblock (disk : Disk) (block : ℕ) (bytes : List ℕ) : Type 0 where
   pub begins : BeginsWith (Some (disk_block disk block)) superblock_entry
-  pub struct : struct_in_log disk.profile.versions disk.block_size (block_count disk) (disk_block disk block) ≡ Some bytes
+  pub struct : superblock_in_log disk.profile.versions disk.block_size (block_count disk) (disk_block disk block) ≡ Some bytes
 
 -- ---- pairs
 
 -- the log of the first pair that has a slot begins with another entry, or comes to no superblock's struct in slot 0
 abbrev pub BreaksFirstSuperblock : Disk → PairHeader → Violation → Type 0
 BreaksFirstSuperblock disk h (violation.FirstEntry pair) = (pair ≡ h.blocks) × ¬ BeginsWith (Some (disk_block disk h.active)) superblock_entry
-BreaksFirstSuperblock disk h (violation.Superblock pair) = (pair ≡ h.blocks) × (struct_in_log disk.profile.versions disk.block_size (block_count disk) (disk_block disk h.active) ≡ None)
+BreaksFirstSuperblock disk h (violation.Superblock pair) = (pair ≡ h.blocks) × (superblock_in_log disk.profile.versions disk.block_size (block_count disk) (disk_block disk h.active) ≡ None)
 BreaksFirstSuperblock disk h _ = ⊥
 
 -- whether the superblock's chain may continue after the pair: it has at most one slot and a hard tail

@@ -7,7 +7,7 @@ ghost use Rattle.lfs_model.specs.layers.BlockSets.{IsFree};
 ghost use Rattle.lfs_model.specs.session.History.{read_count};
 ghost use Rattle.lfs_model.specs.format.Thread.{Pair as ThreadPair};
 ghost use Rattle.lfs_model.specs.tree.View.{IsAccepted};
-ghost use Rattle.lfs_model.specs.layers.Violations.{Breaks, BreaksPairs};
+ghost use Rattle.lfs_model.specs.layers.Violations.{Breaks, PairsBreak};
 ghost use Rattle.lfs_model.specs.declared.order.NameOrder.{NameOrder};
 ghost use Rattle.lfs_model.specs.declared.order.NameOrder.TheVariants.{LongerFirst, ShorterFirst};
 ghost use Rattle.lfs_model.specs.declared.violations.Violation.{Violation};
@@ -21,9 +21,9 @@ ghost use Rattle.lfs_mount.specs.Members.{AreThreadDirectories, IsThreadRead, Is
 ghost use Rattle.lfs_mount.specs.Orders.{violation_in_order};
 ghost use Rattle.lfs_mount.specs.ReadImage.{ReadsLikeMount, IsAcceptedIn};
 ghost use Rattle.lfs_mount.specs.MountReads.{check_reads, pair_reads};
-ghost use Rattle.lfs_mount.specs.Start.{allocation_seed, image_number, mixed_number};
+ghost use Rattle.lfs_mount.specs.Start.{allocation_seed, image_seed, mixed_seed};
 
-use crate::check::check_and_mark;
+use crate::check::check_thread;
 use crate::members::{describe_headers, directory_start_addresses};
 use crate::moves::check_move;
 use crate::orders::OrderViolations;
@@ -145,8 +145,8 @@ fn check_image<D: BlockDevice>(
 
 // A number made of the image: how many blocks are used, and the pairs' revisions, which rise with
 // each mount that writes.
-fn image_number(map: &BlockMap, pairs: &[Pair]) -> u32
-    ensures { result ≡ image_number map.now pairs.now }
+fn image_seed(map: &BlockMap, pairs: &[Pair]) -> u32
+    ensures { result ≡ image_seed map.now pairs.now }
 {
     let mut number = map.used_count();
     for pair in pairs {
@@ -157,8 +157,8 @@ fn image_number(map: &BlockMap, pairs: &[Pair]) -> u32
 
 // The number mixed, as MurmurHash3 ends: numbers in equal steps, as those of mounts, come to blocks
 // as if by chance.
-fn mixed_number(number: u32) -> u32
-    ensures { result ≡ mixed_number number }
+fn mixed_seed(number: u32) -> u32
+    ensures { result ≡ mixed_seed number }
 {
     let first = (number ^ (number >> 16)).wrapping_mul(0x85eb_ca6b);
     let second = (first ^ (first >> 13)).wrapping_mul(0xc2b2_ae35);
@@ -172,7 +172,7 @@ fn start_allocation_elsewhere(map: &mut BlockMap, pairs: &[Pair]) -> Option<u32>
     ensures none { IfNone result ((block : ℕ) → ¬ (IsFree map.old block)) }
     ensures same { map.new ≡ map.old }
 {
-    let seed = mixed_number(image_number(map, pairs));
+    let seed = mixed_seed(image_seed(map, pairs));
     map.start_search_at(seed)
 }
 
@@ -199,7 +199,7 @@ fn check_directories<D: BlockDevice>(
         → IsThreadVerdict (ordered_disk order (disk_of_device D.BlockDevice device.old)) (violation_in_order order found) map.old map.new chain p rest) }
     ensures broken { (v : Violation) → result ≡ Err (MountError.Corrupt v) → (order : NameOrder) (chain : List ThreadPair) (p : ThreadPair) (rest : List ThreadPair)
         → IsHeaderThread (ordered_disk order (disk_of_device D.BlockDevice device.old)) map.old (move_view state.now) pairs.now chain p rest
-        → BreaksPairs (ordered_disk order (disk_of_device D.BlockDevice device.old)) (chain ++ p ∷ rest) v }
+        → PairsBreak (ordered_disk order (disk_of_device D.BlockDevice device.old)) (chain ++ p ∷ rest) v }
     ensures device { ReadsReportingFaults D.BlockDevice device.old device.new result }
     ensures few { OnOk result (read_count (D.history device.new) ≤ read_count (D.history device.old) + sum_by (pair_reads (disk_of_device D.BlockDevice device.old)) (header_descriptions (move_view state.now) true pairs.now)) }
 {
@@ -209,5 +209,5 @@ fn check_directories<D: BlockDevice>(
     let Ok(places) = directory_start_addresses(alloc, pairs) else {
         return Err(MountError::NoMemory);
     };
-    check_and_mark(alloc, device, map, &places, &members, state.sync)
+    check_thread(alloc, device, map, &places, &members, state.sync)
 }

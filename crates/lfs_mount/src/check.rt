@@ -4,10 +4,10 @@ ghost use Rattle.std.specs.Prelude.{Err, List, ◌≡◌, ◌≤◌, ◌+◌, �
 ghost use Rattle.lfs_model.specs.format.Disk.{ordered_disk};
 ghost use Rattle.lfs_model.specs.session.History.{read_count};
 ghost use Rattle.lfs_model.specs.format.Thread.{Pair};
-ghost use Rattle.lfs_model.specs.layers.Violations.{BreaksPairs};
+ghost use Rattle.lfs_model.specs.layers.Violations.{PairsBreak};
 ghost use Rattle.lfs_model.specs.declared.order.NameOrder.{NameOrder};
 ghost use Rattle.lfs_model.specs.declared.violations.Violation.{Violation};
-ghost use Rattle.lfs_mount.specs.Checked.{HasDescribed, IsDescribedThread};
+ghost use Rattle.lfs_mount.specs.Checked.{DescribesThread, IsDescribedThread};
 ghost use Rattle.lfs_mount.specs.Accepted.{IsThreadVerdict};
 ghost use Rattle.lfs_thread.specs.Kept.{disk_of_device};
 ghost use Rattle.lfs_thread.specs.MountErrors.{ReadsReportingFaults};
@@ -37,7 +37,7 @@ use std::alloc::Global;
 // (`TwoOwners`; SPEC.md of littlefs, "Metadata types"; DESIGN.md, "CTZ skip-lists" and "The move
 // problem"). `NoMemory` where memory isn't granted, and `Io` where the device failed. After an error
 // nothing is known of the map.
-pub(crate) fn check_and_mark<D: BlockDevice>(
+pub(crate) fn check_thread<D: BlockDevice>(
     alloc: Global,
     device: &mut D,
     map: &mut BlockMap,
@@ -45,13 +45,13 @@ pub(crate) fn check_and_mark<D: BlockDevice>(
     members: &[PairBeforeSlotsAreRead],
     sync: bool,
 ) -> Result<OrderViolations, MountError>
-    requires { HasDescribed (disk_of_device D.BlockDevice device.old) map.old places.now members.now sync }
+    requires { DescribesThread (disk_of_device D.BlockDevice device.old) map.old places.now members.now sync }
     ensures ok { IfOk result (λ found. (order : NameOrder) (chain : List Pair) (p : Pair) (rest : List Pair)
         → IsDescribedThread (ordered_disk order (disk_of_device D.BlockDevice device.old)) map.old places.now members.now sync chain p rest
         → IsThreadVerdict (ordered_disk order (disk_of_device D.BlockDevice device.old)) (violation_in_order order found) map.old map.new chain p rest) }
     ensures broken { (v : Violation) → result ≡ Err (MountError.Corrupt v) → (order : NameOrder) (chain : List Pair) (p : Pair) (rest : List Pair)
         → IsDescribedThread (ordered_disk order (disk_of_device D.BlockDevice device.old)) map.old places.now members.now sync chain p rest
-        → BreaksPairs (ordered_disk order (disk_of_device D.BlockDevice device.old)) (chain ++ p ∷ rest) v }
+        → PairsBreak (ordered_disk order (disk_of_device D.BlockDevice device.old)) (chain ++ p ∷ rest) v }
     ensures device { ReadsReportingFaults D.BlockDevice device.old device.new result }
     // One read for each pair, and those of the files' lists.
     ensures few { OnOk result (read_count (D.history device.new) ≤ read_count (D.history device.old) + sum_by (pair_reads (disk_of_device D.BlockDevice device.old)) members.now) }

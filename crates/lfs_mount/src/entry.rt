@@ -4,7 +4,7 @@ ghost use Rattle.std.specs.Prelude.{ℕ, ◌≡◌, ◌≤◌, is_some, length, 
 ghost use Rattle.std.specs.Option.{option_map};
 ghost use Rattle.lfs_tag.specs.ContentView.{part_view, slot_view};
 ghost use Rattle.lfs_tag.specs.StructView.{struct_view};
-ghost use Rattle.lfs_mount.specs.DirectoryEntries.{HoldsNoEntryAt, raw_slot_entry, raw_reference, struct_reference};
+ghost use Rattle.lfs_mount.specs.DirectoryEntries.{LacksEntryAt, raw_slot_entry, raw_reference, struct_reference};
 ghost use Rattle.lfs_mount.specs.EntryView.{entry_view};
 
 use lfs_tag::{NameOrStruct, Slot, SlotNameKind, Struct, is_name};
@@ -60,7 +60,7 @@ pub(crate) fn is_tree_entry(slot: &Slot<'_>) -> bool
 
 // Returns the index of the first slot that holds no entry, where there is one, else the slots' count.
 pub(crate) fn first_non_entry(slots: &[Slot<'_>]) -> usize
-    ensures holds { (other : ℕ) → HoldsNoEntryAt (map slot_view slots.now) other → HoldsNoEntryAt (map slot_view slots.now) result }
+    ensures holds { (other : ℕ) → LacksEntryAt (map slot_view slots.now) other → LacksEntryAt (map slot_view slots.now) result }
     ensures within { result ≤ length slots.now }
 {
     for index in 0..slots.len() {

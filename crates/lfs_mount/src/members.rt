@@ -2,7 +2,7 @@
 
 ghost use Rattle.std.specs.Prelude.{◌≡◌, IfErr, IfOk, nat_eq, true};
 ghost use Rattle.std.specs.List.{IsDistinct};
-ghost use Rattle.lfs_model.specs.format.Slots.{array_address};
+ghost use Rattle.lfs_model.specs.format.Slots.{address_view};
 ghost use Rattle.lfs_tag.specs.FieldsView.{move_view};
 ghost use Rattle.lfs_thread.specs.PairPlaces.{blocks_of_addresses};
 ghost use Rattle.lfs_mount.specs.Members.{directory_beginnings, header_description, header_descriptions, moved_id_at};
@@ -18,7 +18,7 @@ use std::alloc::Global;
 // Returns the id of the slot that a set move names in the pair at an address, if it names one
 // there.
 fn moved_slot_at(state: &MoveState, at: [u32; 2]) -> Option<u32>
-    ensures { result ≡ moved_id_at (move_view state.now) (array_address at) }
+    ensures { result ≡ moved_id_at (move_view state.now) (address_view at) }
 {
     if state.kind == DELETE && is_same_pair(state.pair, at) {
         Some(u32::from(state.id))

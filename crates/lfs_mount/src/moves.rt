@@ -2,10 +2,10 @@
 
 ghost use Rattle.std.specs.Prelude.{◌≡◌, ◌++◌, ◌∷◌, Err, IfErr, List, OnOk, false, map, true};
 ghost use Rattle.lfs_model.specs.format.Disk.{Disk};
-ghost use Rattle.lfs_model.specs.format.Slots.{array_address};
+ghost use Rattle.lfs_model.specs.format.Slots.{address_view};
 ghost use Rattle.lfs_model.specs.format.Thread.{Pair as ThreadPair};
 ghost use Rattle.lfs_model.specs.tree.View.{HasValidMove};
-ghost use Rattle.lfs_model.specs.layers.Violations.{BreaksPairs};
+ghost use Rattle.lfs_model.specs.layers.Violations.{PairsBreak};
 ghost use Rattle.lfs_model.specs.declared.violations.Violation.{Violation};
 ghost use Rattle.lfs_pair.specs.Pair.{header_address};
 ghost use Rattle.lfs_tag.specs.FieldsView.{move_view};
@@ -19,7 +19,7 @@ use lfs_thread::MountError;
 
 // Returns whether one of the pairs is at an address.
 fn has_pair_at(address: [u32; 2], pairs: &[Pair]) -> bool
-    ensures { result ≡ is_among_addresses (array_address address) (map header_address pairs.now) }
+    ensures { result ≡ is_among_addresses (address_view address) (map header_address pairs.now) }
 {
     for pair in pairs {
         if is_same_pair(address, pair.blocks) {
@@ -41,7 +41,7 @@ pub(crate) fn check_move(state: &MoveState, pairs: &[Pair]) -> Result<(), MountE
     ensures right { OnOk result ((chain : List ThreadPair) (p : ThreadPair) (rest : List ThreadPair)
         → HaveGstate (move_view state.now) pairs.now chain p rest → NamesMovedEntry (move_view state.now) (p ∷ rest) → HasValidMove (chain ++ p ∷ rest) (move_view state.now)) }
     ensures broken { (v : Violation) → result ≡ Err (MountError.Corrupt v) → (disk : Disk) (chain : List ThreadPair) (p : ThreadPair) (rest : List ThreadPair)
-        → HaveGstate (move_view state.now) pairs.now chain p rest → BreaksPairs disk (chain ++ p ∷ rest) v }
+        → HaveGstate (move_view state.now) pairs.now chain p rest → PairsBreak disk (chain ++ p ∷ rest) v }
 {
     if moves_inside(state, pairs) {
         Ok(())

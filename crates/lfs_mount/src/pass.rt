@@ -5,7 +5,7 @@ ghost use Rattle.lfs_model.specs.format.Disk.{ordered_disk};
 ghost use Rattle.lfs_model.specs.format.Blocks.{block_bytes};
 ghost use Rattle.lfs_model.specs.session.History.{read_count};
 ghost use Rattle.lfs_model.specs.format.Thread.{Pair};
-ghost use Rattle.lfs_model.specs.layers.Violations.{BreaksPairs};
+ghost use Rattle.lfs_model.specs.layers.Violations.{PairsBreak};
 ghost use Rattle.lfs_model.specs.declared.order.NameOrder.{NameOrder};
 ghost use Rattle.lfs_model.specs.declared.violations.Violation.{Violation};
 ghost use Rattle.lfs_model.specs.declared.violations.Violation.TheVariants.{NoSuperblock};
@@ -16,7 +16,7 @@ ghost use Rattle.lfs_mount.specs.DirectoryEntries.{empty_scan};
 ghost use Rattle.lfs_mount.specs.KnownView.{scan_view};
 ghost use Rattle.lfs_mount.specs.Passed.{ScansPairs};
 ghost use Rattle.lfs_mount.specs.MountReads.{pair_reads};
-ghost use Rattle.lfs_mount.specs.Taken.{ScansPair, unmoved_raw_slots, after_superblock};
+ghost use Rattle.lfs_mount.specs.Taken.{ScansPair, unmoved_raw_slots, superblock_removed};
 ghost use Rattle.lfs_tag.specs.ContentView.{slot_view};
 ghost use Rattle.lfs_thread.specs.Kept.{disk_of_device};
 ghost use Rattle.lfs_thread.specs.MountErrors.{ReadsReportingFaults};
@@ -96,9 +96,9 @@ fn remove_moved_slot(
 
 // Removes the superblock's slot. Corrupt exactly where there is no slot.
 fn remove_superblock_slot(slots: &mut Vec<Slot<'_>>, has_superblock: bool) -> Result<(), MountError>
-    ensures ok { OnOk result (after_superblock has_superblock (map slot_view slots.old.items) ≡ Some (map slot_view slots.new.items)) }
+    ensures ok { OnOk result (superblock_removed has_superblock (map slot_view slots.old.items) ≡ Some (map slot_view slots.new.items)) }
     ensures fewer { OnOk result (length slots.new.items ≤ length slots.old.items) }
-    ensures broken { IfErr result (λ e. (e ≡ Corrupt NoSuperblock) × (after_superblock has_superblock (map slot_view slots.old.items) ≡ None)) }
+    ensures broken { IfErr result (λ e. (e ≡ Corrupt NoSuperblock) × (superblock_removed has_superblock (map slot_view slots.old.items) ≡ None)) }
 {
     if !has_superblock {
         return Ok(());
@@ -207,7 +207,7 @@ pub(crate) fn scan_pairs<D: BlockDevice>(
     ensures taken { IfOk result (λ ds. (order : NameOrder) → ScansPairs (ordered_disk order (disk_of_device D.BlockDevice device.old)) places.now empty_scan map.old members.now (graph_view order ds.items) map.new) }
     ensures broken { (v : Violation) → result ≡ Err (Corrupt v) → (order : NameOrder) (sync : Bool) (chain : List Pair) (p : Pair) (rest : List Pair)
         → IsDescribedThread (ordered_disk order (disk_of_device D.BlockDevice device.old)) map.old places.now members.now sync chain p rest
-        → BreaksPairs (ordered_disk order (disk_of_device D.BlockDevice device.old)) (chain ++ p ∷ rest) v }
+        → PairsBreak (ordered_disk order (disk_of_device D.BlockDevice device.old)) (chain ++ p ∷ rest) v }
     ensures reading { ReadsReportingFaults D.BlockDevice device.old device.new result }
     ensures few { OnOk result (read_count (D.history device.new) ≤ read_count (D.history device.old) + sum_by (pair_reads (disk_of_device D.BlockDevice device.old)) members.now) }
 {

@@ -1,13 +1,13 @@
 // The search for the directories that a path from the root leads to.
 
 ghost use Rattle.std.specs.Prelude.{◌≡◌, ◌++◌, ◌<◌, All, Bool, Err, IfErr, IfOk, IfSome, IsErrOf, None, Ok, Some, false, length, map, slice_get, true};
-ghost use Rattle.lfs_model.specs.format.Slots.{array_address};
+ghost use Rattle.lfs_model.specs.format.Slots.{address_view};
 ghost use Rattle.lfs_model.specs.declared.order.NameOrder.{NameOrder};
 ghost use Rattle.lfs_model.specs.declared.violations.Violation.{Violation};
-ghost use Rattle.lfs_mount.specs.Directories.{IsTreeOrBreach, BreaksGraphRule};
+ghost use Rattle.lfs_mount.specs.Directories.{IsTreeOrViolation, BreaksGraphRule};
 ghost use Rattle.lfs_mount.specs.DirectoryView.{graph_view};
 ghost use Rattle.lfs_mount.specs.Orders.{violation_in_order};
-ghost use Rattle.lfs_mount.specs.Reaching.{AreFoundMarks, AreReachedMarks, FindsNew, IsRepeated};
+ghost use Rattle.lfs_mount.specs.Reaching.{AreFoundMarks, AreReachedMarks, FindsDirectories, IsRepeated};
 
 use crate::orders::{NameOrderSet, OrderViolations};
 use lfs_model::{NameOrder, Violation};
@@ -34,7 +34,7 @@ fn mark_branches_found(
 ) -> Result<Option<u32>, MountError>
     requires marked { AreFoundMarks is_found.old.items found.old.items }
     requires within { All (λ b. b < length is_found.old.items) branches.now }
-    ensures found { result ≡ Ok None → FindsNew is_found.old.items found.old.items branches.now is_found.new.items found.new.items }
+    ensures found { result ≡ Ok None → FindsDirectories is_found.old.items found.old.items branches.now is_found.new.items found.new.items }
     ensures twice { IfOk result (λ branch. IfSome branch (IsRepeated (found.old.items ++ branches.now))) }
     ensures within { IfOk result (λ branch. IfSome branch (λ b. b < length is_found.old.items)) }
     ensures error { IfErr result (λ e. e ≡ MountError.NoMemory) }
@@ -65,7 +65,7 @@ fn reached_directories(
     requires within { All (λ d. All (λ b. b < length directories.now) d.branches.items) directories.now }
     requires places { length addresses.now ≡ length directories.now }
     ensures reached { IfOk result (λ marks. AreReachedMarks (graph_view order directories.now) marks.items) }
-    ensures broken { (v : Violation) (sync : Bool) → result ≡ Err (MountError.Corrupt v) → BreaksGraphRule order (graph_view order directories.now) (map array_address addresses.now) sync v }
+    ensures broken { (v : Violation) (sync : Bool) → result ≡ Err (MountError.Corrupt v) → BreaksGraphRule order (graph_view order directories.now) (map address_view addresses.now) sync v }
     ensures errors { ¬ IsErrOf result MountError.Io }
 {
     let mut is_found = Vec::from_elem(alloc, false, directories.len())?;
@@ -118,7 +118,7 @@ fn find_directory_violation(
     requires some { 0 < length directories.now }
     requires within { All (λ d. All (λ b. b < length directories.now) d.branches.items) directories.now }
     requires places { length addresses.now ≡ length directories.now }
-    ensures found { IfOk result (IsTreeOrBreach order (graph_view order directories.now) (map array_address addresses.now) sync) }
+    ensures found { IfOk result (IsTreeOrViolation order (graph_view order directories.now) (map address_view addresses.now) sync) }
     ensures error { IfErr result (λ e. e ≡ MountError.NoMemory) }
 {
     let is_reached = match reached_directories(alloc, directories, addresses, order) {
@@ -148,7 +148,7 @@ pub(crate) fn find_directory_violations(
     requires some { 0 < length directories.now }
     requires within { All (λ d. All (λ b. b < length directories.now) d.branches.items) directories.now }
     requires places { length addresses.now ≡ length directories.now }
-    ensures found { IfOk result (λ found. (order : NameOrder) → IsTreeOrBreach order (graph_view order directories.now) (map array_address addresses.now) sync (violation_in_order order found)) }
+    ensures found { IfOk result (λ found. (order : NameOrder) → IsTreeOrViolation order (graph_view order directories.now) (map address_view addresses.now) sync (violation_in_order order found)) }
     ensures error { IfErr result (λ e. e ≡ MountError.NoMemory) }
 {
     let longer_first = find_directory_violation(

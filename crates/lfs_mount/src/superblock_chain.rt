@@ -6,13 +6,13 @@ ghost use Rattle.lfs_model.specs.format.Disk.{ordered_disk};
 ghost use Rattle.lfs_model.specs.format.Blocks.{block_bytes};
 ghost use Rattle.lfs_model.specs.session.History.{read_count};
 ghost use Rattle.lfs_model.specs.tree.View.{BeginsWith, superblock_entry};
-ghost use Rattle.lfs_model.specs.layers.Violations.{BreaksPairs};
+ghost use Rattle.lfs_model.specs.layers.Violations.{PairsBreak};
 ghost use Rattle.lfs_model.specs.declared.order.NameOrder.{NameOrder};
 ghost use Rattle.lfs_model.specs.declared.violations.Violation.{Violation};
 ghost use Rattle.lfs_tag.specs.ContentView.{slot_view};
 ghost use Rattle.lfs_thread.specs.Kept.{disk_of_device, header_pairs};
 ghost use Rattle.lfs_thread.specs.MountErrors.{ReadsReportingFaults};
-ghost use Rattle.lfs_mount.specs.SuperblockChain.{AreThreadHeaders, BreaksFirstSuperblock, HasChain, IsBlockStruct, is_geometry_struct, first_filled, inline_bytes, has_name, may_continue_after, repeats_superblock_struct, first_repeats_superblock, repeats_superblock, first_slot_struct, struct_in_log};
+ghost use Rattle.lfs_mount.specs.SuperblockChain.{AreThreadHeaders, BreaksFirstSuperblock, HasChain, BlockHasSuperblock, is_geometry_struct, first_filled, inline_bytes, has_name, may_continue_after, repeats_superblock_struct, first_repeats_superblock, repeats_superblock, first_slot_struct, superblock_in_log};
 
 use lfs_device::{AcceptedVersions, BlockDevice, Error, Geometry, read_block};
 use lfs_model::Violation;
@@ -70,7 +70,7 @@ fn inline_bytes_in<'a>(slot: &Slot<'a>) -> Option<&'a [u8]>
 
 // Returns the superblock's struct in the first slot. Returns None where that slot is no superblock
 // of this geometry.
-fn struct_in_slots<'a>(geometry: &Geometry, slots: &[Slot<'a>]) -> Option<&'a [u8]>
+fn superblock_in_slots<'a>(geometry: &Geometry, slots: &[Slot<'a>]) -> Option<&'a [u8]>
     ensures { option_map (λ b. b.now) result ≡ first_slot_struct geometry.now.profile.versions geometry.now.block_size geometry.now.block_count (map slot_view slots.now) }
 {
     let [first, ..] = slots else {
@@ -100,7 +100,7 @@ fn repeats_superblock_struct(versions: AcceptedVersions, bytes: &[u8], own: &[u8
 
 // Returns whether the first slot is a superblock's. Corrupt exactly where it is one whose struct
 // differs from `bytes` in more than an accepted version.
-fn repeats_in_slots(
+fn slots_repeat_superblock(
     versions: AcceptedVersions,
     slots: &[Slot<'_>],
     bytes: &[u8],
@@ -122,13 +122,13 @@ fn repeats_in_slots(
 }
 
 // Returns the superblock's struct in slot 0 of a log. Corrupt exactly where there is none.
-fn struct_from_log(alloc: Global, geometry: &Geometry, log: &Log<'_>) -> Result<Vec<u8>, Error>
-    ensures ok { IfOk result (λ bytes. struct_in_log geometry.now.profile.versions geometry.now.block_size geometry.now.block_count log.now ≡ Some bytes.items) }
-    ensures corrupt { IsErrOf result Error.Corrupt → struct_in_log geometry.now.profile.versions geometry.now.block_size geometry.now.block_count log.now ≡ None }
+fn superblock_from_log(alloc: Global, geometry: &Geometry, log: &Log<'_>) -> Result<Vec<u8>, Error>
+    ensures ok { IfOk result (λ bytes. superblock_in_log geometry.now.profile.versions geometry.now.block_size geometry.now.block_count log.now ≡ Some bytes.items) }
+    ensures corrupt { IsErrOf result Error.Corrupt → superblock_in_log geometry.now.profile.versions geometry.now.block_size geometry.now.block_count log.now ≡ None }
     ensures errors { IfErr result (λ e. (e ≡ Error.Corrupt) ⊎ (e ≡ Error.NoMemory)) }
 {
     let content = Content::read(alloc, log)?;
-    match struct_in_slots(geometry, &content.slots) {
+    match superblock_in_slots(geometry, &content.slots) {
         Some(bytes) => Ok(Vec::from_slice(alloc, bytes)?),
         None => Err(Error::Corrupt),
     }
@@ -137,7 +137,7 @@ fn struct_from_log(alloc: Global, geometry: &Geometry, log: &Log<'_>) -> Result<
 // Returns whether the first slot that a block's log comes to is a superblock's. Corrupt exactly
 // where it is one whose struct differs from `bytes` in more than an accepted version, or where the
 // log is malformed.
-fn repeats_in_block(
+fn block_repeats_superblock(
     alloc: Global,
     versions: AcceptedVersions,
     block: &[u8],
@@ -150,7 +150,7 @@ fn repeats_in_block(
 {
     let log = Log::read(block);
     let content = Content::read(alloc, &log)?;
-    repeats_in_slots(versions, &content.slots, bytes)
+    slots_repeat_superblock(versions, &content.slots, bytes)
 }
 
 // Reads the first pair that has a slot, and returns its superblock's struct. The log begins with the
@@ -161,7 +161,7 @@ fn read_first_struct<D: BlockDevice>(
     pair: &Pair,
 ) -> Result<Vec<u8>, MountError>
     requires { pair.now.active < (D.geometry dev.old).block_count }
-    ensures found { IfOk result (λ bytes. IsBlockStruct (disk_of_device D.BlockDevice dev.old) pair.now.active bytes.items) }
+    ensures found { IfOk result (λ bytes. BlockHasSuperblock (disk_of_device D.BlockDevice dev.old) pair.now.active bytes.items) }
     ensures broken { (v : Violation) → result ≡ Err (MountError.Corrupt v) → BreaksFirstSuperblock (disk_of_device D.BlockDevice dev.old) pair.now v }
     ensures device { ReadsReportingFaults D.BlockDevice dev.old dev.new result }
     ensures reads { read_count (D.history dev.new) ≤ read_count (D.history dev.old) + 1 }
@@ -176,7 +176,7 @@ fn read_first_struct<D: BlockDevice>(
     if !log_begins_superblock(&log) {
         return Err(MountError::Corrupt(Violation::FirstEntry { pair: pair.blocks }));
     }
-    match struct_from_log(alloc, &geometry, &log) {
+    match superblock_from_log(alloc, &geometry, &log) {
         Ok(bytes) => Ok(bytes),
         Err(error) => Err(MountError::of(error, no_struct)),
     }
@@ -204,7 +204,7 @@ fn pair_repeats_superblock<D: BlockDevice>(
         Ok(block) => block,
         Err(error) => return Err(MountError::of(error, other)),
     };
-    match repeats_in_block(alloc, versions, &block, bytes) {
+    match block_repeats_superblock(alloc, versions, &block, bytes) {
         Ok(repeats) => Ok(repeats),
         Err(error) => Err(MountError::of(error, other)),
     }
@@ -256,7 +256,7 @@ pub(crate) fn superblock_chain_length<D: BlockDevice>(
 ) -> Result<usize, MountError>
     requires { AreThreadHeaders (disk_of_device D.BlockDevice dev.old) (D.history dev.old) pairs.now }
     ensures head { IfOk result (HasChain (disk_of_device D.BlockDevice dev.old) (header_pairs (disk_of_device D.BlockDevice dev.old) pairs.now)) }
-    ensures broken { (v : Violation) → result ≡ Err (MountError.Corrupt v) → (order : NameOrder) → BreaksPairs (ordered_disk order (disk_of_device D.BlockDevice dev.old)) (header_pairs (disk_of_device D.BlockDevice dev.old) pairs.now) v }
+    ensures broken { (v : Violation) → result ≡ Err (MountError.Corrupt v) → (order : NameOrder) → PairsBreak (ordered_disk order (disk_of_device D.BlockDevice dev.old)) (header_pairs (disk_of_device D.BlockDevice dev.old) pairs.now) v }
     ensures device { ReadsReportingFaults D.BlockDevice dev.old dev.new result }
     ensures reads { IfOk result (λ count. read_count (D.history dev.new) ≤ read_count (D.history dev.old) + count + 2) }
 {

@@ -1,5 +1,5 @@
 -- What the steps of a rename across pairs leave with what it held.
-use Rattle.lfs_operations.proofs.Common.{ℕ, ◌≡◌, ◌-◌, ◌<◌, ◌≤◌, ◌⊎◌, inl, inr, Bool, true, false, List, [], ◌∷◌, ◌++◌, length, None, refl, sym, ap, subst, ◌∙◌, arith, append_assoc, AllByRecursion, IsFree, PairChange, Name, pair_with_slots, Slot, gstate_xor, Pair, pairs_blocks, address_blocks, Path, IsAccepted, all_unmoved_slots, used_blocks, SameSlots, Each, number_occurrences, count_append, count_here, each_weaker, once_from_distinct, AnyByRecursion, Site, among_right, dirs_at, file_blocks, two, KeptThread, thread_pair, Contains, IsTouchedBlock, IsPairTouched, HasEndedAt, written_by_ending, gstate_naming, CanEndAfterPut, second_pair, number_after_insertion, drops_with_its_slot}
+use Rattle.lfs_operations.proofs.Common.{ℕ, ◌≡◌, ◌-◌, ◌<◌, ◌≤◌, ◌⊎◌, inl, inr, Bool, true, false, List, [], ◌∷◌, ◌++◌, length, None, refl, sym, ap, subst, ◌∙◌, arith, append_assoc, AllByRecursion, IsFree, ContentChange, Name, pair_with_slots, Slot, gstate_xor, Pair, pairs_blocks, address_blocks, Path, IsAccepted, all_unmoved_slots, used_blocks, SameSlots, Each, number_occurrences, count_append, count_here, each_weaker, once_from_distinct, AnyByRecursion, Site, among_right, dirs_at, file_blocks, two, KeptThread, thread_pair, Contains, IsTouchedBlock, IsPairTouched, HasEndedMoveAt, ending_written_pair, gstate_naming, CanEndAfterPut, second_step_pair, number_after_insertion, drops_emptied_pair}
 use Rattle.lfs_model.proofs.BlockSets.{Contains-head, Contains-tail}
 use Rattle.lfs_operations.proofs.AlteredBehind.{entered_alters, gone_alters}
 use Rattle.lfs_operations.proofs.MovAcross.{Arranged}
@@ -24,10 +24,10 @@ within_two true chain front os mid q more back = record {
 }
 within_two false chain front os mid q more back = record { before = chain ++ front; behind = mid ++ (os ++ back); is = sym (append_assoc chain front (q ∷ (more ++ (mid ++ (os ++ back))))) }
 
-module _ {t : KeptThread} {sync : Bool} {old_pair : ℕ} {goes : Bool} {new_pair : ℕ} {changes : List PairChange} {wo : Site} {o : Pair} {lo : List Slot} {u : Slot} {ro : List Slot} {w : Site} {p : Pair} {l : List Slot} {v : Slot} {r : List Slot}
+module _ {t : KeptThread} {sync : Bool} {old_pair : ℕ} {goes : Bool} {new_pair : ℕ} {changes : List ContentChange} {wo : Site} {o : Pair} {lo : List Slot} {u : Slot} {ro : List Slot} {w : Site} {p : Pair} {l : List Slot} {v : Slot} {r : List Slot}
     {old_path new_path : Path} {name : Name} (k : IsFirst t sync old_pair goes new_pair changes wo o lo u ro w p l None v r old_path new_path name)
     (mid : KeptThread) (x : TurnedTo t w p (l ++ v ∷ r) (gstate_xor (gstate_naming sync o.at (length lo)) p.content.move) mid)
-    (last : KeptThread) (e : HasEndedAt mid (number_after_insertion old_pair new_pair (length mid.pairs - length t.pairs)) (length lo) goes last) where
+    (last : KeptThread) (e : HasEndedMoveAt mid (number_after_insertion old_pair new_pair (length mid.pairs - length t.pairs)) (length lo) goes last) where
   abbrev a : Arranged t.disk wo o w p x.q x.more
   a = arr k mid x
 
@@ -58,7 +58,7 @@ module _ {t : KeptThread} {sync : Bool} {old_pair : ℕ} {goes : Bool} {new_pair
 
 -- the old one is gone
 pub ended_alters : (t mid m new : KeptThread) (old_pair old_id new_pair : ℕ) → 0 < old_pair → old_pair < length t.pairs → IsAccepted t.disk t.pairs → CanEndAfterPut t old_pair old_id true new_pair mid
-    → HasEndedAt mid (number_after_insertion old_pair new_pair (length mid.pairs - length t.pairs)) old_id true m → IsAccepted new.disk new.pairs → ((b : ℕ) → number_occurrences b (used_blocks new.disk new.pairs) ≤ number_occurrences b (used_blocks m.disk m.pairs)) → IsPairTouched t (old_pair - 1) new
+    → HasEndedMoveAt mid (number_after_insertion old_pair new_pair (length mid.pairs - length t.pairs)) old_id true m → IsAccepted new.disk new.pairs → ((b : ℕ) → number_occurrences b (used_blocks new.disk new.pairs) ≤ number_occurrences b (used_blocks m.disk m.pairs)) → IsPairTouched t (old_pair - 1) new
 ended_alters t mid m new old_pair old_id new_pair some low ok ends ended now fewer =
     let b = (thread_pair t old_pair).at.0 in
     let e = ended.blocks b in
@@ -74,11 +74,11 @@ ended_alters t mid m new old_pair old_id new_pair some low ok ends ended now few
 abbrev pub IsKnown : KeptThread → KeptThread → List ℕ → ℕ → Type 0
 IsKnown t new bs b = Contains bs b ⊎ (IsTouchedBlock t new b ⊎ IsFree t.map b)
 
-pub front_altered : (t new : KeptThread) (old_pair first : ℕ) → old_pair < length t.pairs → (drops_with_its_slot t old_pair first ≡ true → IsPairTouched t (old_pair - 1) new) → (bs : List ℕ) → ((b : ℕ) → Contains (address_blocks (thread_pair t old_pair).at) b → Contains bs b)
-    → (b : ℕ) → Contains (address_blocks (thread_pair t (second_pair t old_pair first)).at) b → IsKnown t new bs b
-front_altered t new old_pair first low alters bs within b = go (drops_with_its_slot t old_pair first) refl
+pub front_altered : (t new : KeptThread) (old_pair first : ℕ) → old_pair < length t.pairs → (drops_emptied_pair t old_pair first ≡ true → IsPairTouched t (old_pair - 1) new) → (bs : List ℕ) → ((b : ℕ) → Contains (address_blocks (thread_pair t old_pair).at) b → Contains bs b)
+    → (b : ℕ) → Contains (address_blocks (thread_pair t (second_step_pair t old_pair first)).at) b → IsKnown t new bs b
+front_altered t new old_pair first low alters bs within b = go (drops_emptied_pair t old_pair first) refl
   where
-    go : (g : Bool) → drops_with_its_slot t old_pair first ≡ g → Contains (address_blocks (thread_pair t (written_by_ending old_pair g)).at) b → IsKnown t new bs b
+    go : (g : Bool) → drops_emptied_pair t old_pair first ≡ g → Contains (address_blocks (thread_pair t (ending_written_pair old_pair g)).at) b → IsKnown t new bs b
     go true whole own = inr (inl (record { index = old_pair - 1; below = omega (arith, low); own = own; alters = alters whole }))
     go false stays own = inl (within b own)
 
@@ -88,9 +88,9 @@ each_known t new bs at rest own behind = (own at.0 (Contains-head at.0 (at.1 ∷
 pub free_known : (t new : KeptThread) (bs fresh : List ℕ) → AllByRecursion (IsFree t.map) fresh → Each (IsKnown t new bs) fresh
 free_known t new bs fresh free = each_weaker (IsFree t.map) (IsKnown t new bs) (λ b f. inr (inr f)) fresh free
 
-pub two_altered : (t new : KeptThread) (bs : List ℕ) (old_pair first new_pair : ℕ) → old_pair < length t.pairs → (drops_with_its_slot t old_pair first ≡ true → IsPairTouched t (old_pair - 1) new) → ((b : ℕ) → Contains (address_blocks (thread_pair t old_pair).at) b → Contains bs b)
+pub two_altered : (t new : KeptThread) (bs : List ℕ) (old_pair first new_pair : ℕ) → old_pair < length t.pairs → (drops_emptied_pair t old_pair first ≡ true → IsPairTouched t (old_pair - 1) new) → ((b : ℕ) → Contains (address_blocks (thread_pair t old_pair).at) b → Contains bs b)
     → ((b : ℕ) → Contains (address_blocks (thread_pair t new_pair).at) b → IsKnown t new bs b) → (fresh : List ℕ) → AllByRecursion (IsFree t.map) fresh
-    → Each (IsKnown t new bs) ((thread_pair t new_pair).at.0 ∷ (thread_pair t new_pair).at.1 ∷ (thread_pair t (second_pair t old_pair first)).at.0 ∷ (thread_pair t (second_pair t old_pair first)).at.1 ∷ fresh)
+    → Each (IsKnown t new bs) ((thread_pair t new_pair).at.0 ∷ (thread_pair t new_pair).at.1 ∷ (thread_pair t (second_step_pair t old_pair first)).at.0 ∷ (thread_pair t (second_step_pair t old_pair first)).at.1 ∷ fresh)
 two_altered t new bs old_pair first new_pair low alters within entered fresh free =
-    each_known t new bs (thread_pair t new_pair).at ((thread_pair t (second_pair t old_pair first)).at.0 ∷ (thread_pair t (second_pair t old_pair first)).at.1 ∷ fresh) entered
-    (each_known t new bs (thread_pair t (second_pair t old_pair first)).at fresh (front_altered t new old_pair first low alters bs within) (free_known t new bs fresh free))
+    each_known t new bs (thread_pair t new_pair).at ((thread_pair t (second_step_pair t old_pair first)).at.0 ∷ (thread_pair t (second_step_pair t old_pair first)).at.1 ∷ fresh) entered
+    (each_known t new bs (thread_pair t (second_step_pair t old_pair first)).at fresh (front_altered t new old_pair first low alters bs within) (free_known t new bs fresh free))

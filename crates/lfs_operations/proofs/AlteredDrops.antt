@@ -1,5 +1,5 @@
 -- An empty directory goes: the pairs in front of those that go don't stay with what they held.
-use Rattle.lfs_operations.proofs.Common.{refl, ℕ, ◌≡◌, ◌+◌, ◌-◌, ◌<◌, ◌≤◌, false, [], ◌∷◌, length, Some, sym, ap, ◌∙◌, arith, IsPairCommitted, Gstate, zero_gstate, AreLinked, Pair, anchor_address, pairs_blocks, address_blocks, number_occurrences, count_here, once_from_distinct, sync_bit_delta, KeptThread, thread_pair, IsPairTouched, CanDropAt, IsPairDropped, content_after_drop, drops_with_its_slot, ArePairsBeforeTouched, CanRemoveDirectory, unlink_changes, number_after_drop}
+use Rattle.lfs_operations.proofs.Common.{refl, ℕ, ◌≡◌, ◌+◌, ◌-◌, ◌<◌, ◌≤◌, false, [], ◌∷◌, length, Some, sym, ap, ◌∙◌, arith, IsPairCommitted, Gstate, zero_gstate, AreLinked, Pair, anchor_address, pairs_blocks, address_blocks, number_occurrences, count_here, once_from_distinct, sync_bit_delta, KeptThread, thread_pair, IsPairTouched, CanDropAt, IsPairDropped, content_after_drop, drops_emptied_pair, ArePairsBeforeTouched, CanRemoveDirectory, unlink_changes, number_after_drop}
 use Rattle.lfs_operations.proofs.AlteredTails.{names_next, tail_goes}
 use Rattle.lfs_operations.proofs.Dropped.{blocks_dropped}
 use Rattle.lfs_operations.proofs.DroppedTails.{gone_is, two_at, without_is}
@@ -39,7 +39,7 @@ module _ (t : KeptThread) (index id first gone : ℕ) (take : CanRemoveDirectory
   links_are = take.can.ready.accepted.thread.links
 
   -- its entry goes from a pair that stays
-  pub beside_alters : (goes : drops_with_its_slot t index first ≡ false) (m : KeptThread) (u : IsPairCommitted t index (unlink_changes t index id) m) (new : KeptThread) → IsPairDropped m (gone - 1) zero_gstate new → ArePairsBeforeTouched t index first gone new
+  pub beside_alters : (goes : drops_emptied_pair t index first ≡ false) (m : KeptThread) (u : IsPairCommitted t index (unlink_changes t index id) m) (new : KeptThread) → IsPairDropped m (gone - 1) zero_gstate new → ArePairsBeforeTouched t index first gone new
   beside_alters goes m u new d = record { front = front; entry = λ whole. absurd (let k = sym whole ∙ goes in cc) }
     where
       can : CanDropAt m gone zero_gstate

@@ -1,5 +1,5 @@
 -- What a rename across pairs onto a directory leaves with what it held.
-use Rattle.lfs_operations.proofs.Common.{ℕ, ◌≢◌, ◌-◌, ◌<◌, ◌≤◌, ◌⊎◌, inl, inr, true, ◌∷◌, ◌++◌, arith, cases_lt, All-from_recursion, recursion_from_All, IsFree, IsPairAt, Name, zero_gstate, pairs_blocks, address_blocks, addresses_blocks, Contains-number_occurrences, number_occurrences-Contains, number_occurrences, count_append, each_counted, KeptThread, ChangesThreadBlocks, empty_anchor, thread_pair, Contains, WritesTouchedFree, IsPairDropped, WritesPairsTwo, second_pair, CanReplaceDirectoryAcross, IsMovedAcross}
+use Rattle.lfs_operations.proofs.Common.{ℕ, ◌≢◌, ◌-◌, ◌<◌, ◌≤◌, ◌⊎◌, inl, inr, true, ◌∷◌, ◌++◌, arith, cases_lt, All-from_recursion, recursion_from_All, IsFree, IsPairAt, Name, zero_gstate, pairs_blocks, address_blocks, addresses_blocks, Contains-number_occurrences, number_occurrences-Contains, number_occurrences, count_append, each_counted, KeptThread, ChangesThreadBlocks, empty_anchor, thread_pair, Contains, WritesTouchedFree, IsPairDropped, WritesPairsTwo, second_step_pair, CanReplaceDirectoryAcross, IsMovedAcross}
 use Rattle.lfs_operations.proofs.AlteredAcross.{each_known}
 use Rattle.lfs_operations.proofs.AlteredLater.{onto_known}
 use Rattle.lfs_operations.proofs.AlteredOnto.{last_known}
@@ -24,11 +24,11 @@ module _ (t : KeptThread) (old_pair old_id first new_pair new_id : ℕ) (name : 
       go (inr l) = inr (each_counted (IsFree t.map) h.done.blocks.written.fresh h.done.blocks.written.free b
           (let k = number_occurrences-Contains (pairs_blocks t.pairs ++ h.done.blocks.written.fresh) b within in let c = count_append b (pairs_blocks t.pairs) h.done.blocks.written.fresh in omega (arith, k, c, l)))
 
-  pub altered_onto_directory : WritesPairsTwo t (second_pair t old_pair first) new_pair m → ChangesThreadBlocks (address_blocks (thread_pair m (n - 1)).at) m new → WritesTouchedFree t (addresses_blocks (thread_pair t old_pair).at (thread_pair t new_pair).at) new
+  pub altered_onto_directory : WritesPairsTwo t (second_step_pair t old_pair first) new_pair m → ChangesThreadBlocks (address_blocks (thread_pair m (n - 1)).at) m new → WritesTouchedFree t (addresses_blocks (thread_pair t old_pair).at (thread_pair t new_pair).at) new
   altered_onto_directory w second =
       let y = (thread_pair m (n - 1)).at in
       let p = (thread_pair t new_pair).at in
-      let q = (thread_pair t (second_pair t old_pair first)).at in
+      let q = (thread_pair t (second_step_pair t old_pair first)).at in
       let bs = p.0 ∷ p.1 ∷ q.0 ∷ q.1 ∷ w.fresh in
       let k = replacing_across t old_pair old_id first new_pair new_id name gone rename m h n at in
       record {

@@ -28,7 +28,7 @@ pub use Rattle.lfs_model.proofs.MoveSets.{IsMoveSet, SameAround, all_at_firsts, 
 pub use Rattle.lfs_model.proofs.Moves.{AllReached, AllReachedBut, IsStep, attributes_change, bytes_change, directory_goes, entry_only, file_comes, file_goes, get_here, insert_here, place_at, remove_here, set_here, shown_before, shown_behind, shown_of, shown_place, step_each}
 pub use Rattle.lfs_model.proofs.Names.{IsPlace}
 pub use Rattle.lfs_model.proofs.OneCommit.{close_completed, create_completed, remove_attr_completed, remove_completed, set_attr_completed, some_filled, sync_completed}
-pub use Rattle.lfs_model.proofs.Overwrites.{SameExceptThese-trans, SameExceptThese-wider}
+pub use Rattle.lfs_model.proofs.Overwrites.{SameExceptBlocks-trans, SameExceptBlocks-wider}
 pub use Rattle.lfs_model.proofs.Pairs.{pair_back, pair_itself, pair_on}
 pub use Rattle.lfs_model.proofs.Paths.{last_is}
 pub use Rattle.lfs_model.proofs.Pieces.{Gains, Keeps, Piece, Stays, olds_of, segment_of}
@@ -55,19 +55,19 @@ pub use Rattle.lfs_model.proofs.Unthreaded.{IsReady, IsUnthreaded, Unthreads, sa
 pub use Rattle.lfs_model.proofs.Writable.{ends_joined}
 pub use Rattle.lfs_model.proofs.WrittenAnew.{tag_length-make_tag, tag_type-make_tag}
 pub use Rattle.lfs_model.specs.crash.PowerLoss.{HasEitherTree, SurvivesLossSince, with_blocks}
-pub use Rattle.lfs_model.specs.format.Blocks.{Blocks, SameExceptThese}
-pub use Rattle.lfs_model.specs.format.Content.{RawContent, RawSlot, attributes_with, attributes_without, changed_at, complete_content, complete_slot, complete_slots, content_after, content_at, current_block, current_of_two, empty_raw_content, empty_slot, has_commit, is_later, kind_of_type, raw_content, read_struct, slot_of_id}
+pub use Rattle.lfs_model.specs.format.Blocks.{Blocks, SameExceptBlocks}
+pub use Rattle.lfs_model.specs.format.Content.{RawContent, RawSlot, attributes_with, attributes_without, slot_changed_at, complete_content, complete_slot, complete_slots, content_after, content_at, current_block, current_of_two, empty_raw_content, empty_slot, has_commit, is_later, kind_of_type, raw_content, decoded_struct, slot_of_id}
 pub use Rattle.lfs_model.specs.format.Disk.{Disk, SameGeometry, block_count, charge_limit, disk_block}
 pub use Rattle.lfs_model.specs.format.EntryTypes.{directory_name_type, directory_type, file_name_type}
 pub use Rattle.lfs_model.specs.format.Log.{block_entries, block_revision}
 pub use Rattle.lfs_model.specs.format.Names.{Name, is_valid_name}
-pub use Rattle.lfs_model.specs.format.Slots.{Attributes, Branch, Ctz, Directory, File, FitsInPair, Gstate, Inline, PairContent, Slot, SlotKind, Struct, Superblock, Tail, array_address, attributes_size, entry_charge, gstate_xor, is_superblock, is_superblock_kind, no_move_kind, null_address, same_pair, set_move_kind, slot_size, struct_len, zero_gstate}
-pub use Rattle.lfs_model.specs.format.Thread.{AreLinked, BeginsAt, Pair, ThreadDirectory, address_blocks, addresses_blocks, anchor_address, count_before_root, directories_with_pair, directory_slots, first_address, pairs_from_filled, has_no_entry, has_slots, has_superblock, is_hard_tail, chain_may_continue, pair_directories, pairs_blocks, pairs_from_root, pairs_gstate, root_address, slots_not_moved, superblock_first, tail_target, unmoved_entries}
+pub use Rattle.lfs_model.specs.format.Slots.{Attributes, Branch, Ctz, Directory, File, FitsInPair, Gstate, Inline, PairContent, Slot, SlotKind, Struct, Superblock, Tail, address_view, attributes_size, entry_charge, gstate_xor, is_superblock, is_superblock_kind, no_move_kind, null_address, same_pair, set_move_kind, slot_size, struct_len, zero_gstate}
+pub use Rattle.lfs_model.specs.format.Thread.{AreLinked, BeginsDirectory, Pair, ThreadDirectory, address_blocks, addresses_blocks, anchor_address, count_before_root, directories_with_pair, directory_slots, first_address, pairs_from_filled, has_no_entry, has_slots, has_superblock, is_hard_tail, chain_may_continue, pair_directories, pairs_blocks, pairs_from_root, pairs_gstate, root_address, slots_not_moved, superblock_first, tail_target, unmoved_entries}
 pub use Rattle.lfs_model.specs.layers.BlockSets.{AreUsed, BlockState, BlockStates, IsFree, IsInFlight, IsUsedBlock}
 pub use Rattle.lfs_model.specs.layers.BlockSets.BlockState.{Free, InFlight, Used}
-pub use Rattle.lfs_model.specs.layers.Changes.{Delete, PairChange, PutAttribute, PutMove, PutStruct, PutTail, changed_content_of}
-pub use Rattle.lfs_model.specs.layers.Cut.{CanSplit}
-pub use Rattle.lfs_model.specs.layers.LoggedContent.{AllowsIfSome, AreWellFormed, AreWords, AttributesInOrder, IsAllowedPart, IsAllowedTail, IsFormedSlot, IsWellFormed, MoveStateFits}
+pub use Rattle.lfs_model.specs.layers.Changes.{Delete, ContentChange, PutAttribute, PutMove, PutStruct, PutTail, content_with_changes}
+pub use Rattle.lfs_model.specs.layers.Cut.{AreSplittable}
+pub use Rattle.lfs_model.specs.layers.LoggedContent.{AllowedIfAny, AreWellFormed, AreWords, AttributesInOrder, IsAllowedPart, IsAllowedTail, IsFormedSlot, IsWellFormed, MoveStateFits}
 pub use Rattle.lfs_model.specs.layers.Steps.{KeepsStruct, PathAddresses}
 pub use Rattle.lfs_model.specs.layers.WrittenContent.{address_bytes}
 pub use Rattle.lfs_model.specs.session.History.{AllCallsSince, CallEvent, OnlyReadsSince, fault_count}
@@ -91,13 +91,13 @@ pub use Rattle.lfs_operations.specs.Dropping.{CanDropAt, IsPairDropped, LeftByDr
 pub use Rattle.lfs_operations.specs.Editing.{CanEditIn, CanSetAttribute, HasRemovedAttribute, HasSetAttribute, editable_slot, tree_setting_attributes}
 pub use Rattle.lfs_operations.specs.EndingMove.{CanEndMove, HasEndedMove, HasMovedSlot, KeepsRecoveryLayouts, drops_when_emptied, gstate_without_move}
 pub use Rattle.lfs_operations.specs.Making.{AreBothTouched, CanLinkPairAfter, CanMakeAt, FitsNewTail, HasFreeBlocks, IsDirectoryMade, IsDirectoryEnd, ReportsMaking, WritesPairsFour, directory_entry_changes, entry_changes, threading_changes, tree_with_directory}
-pub use Rattle.lfs_operations.specs.MoveEnds.{CanEndAt, HasEndedAt, content_move_ended, continues_directory, delta_without_move, dropped_by_ending, ending_changes, gstate_naming, gstate_without_sync, map_move_ended, pairs_move_ended, written_by_ending}
-pub use Rattle.lfs_operations.specs.MovingAcross.{CanRenameAcross, IsRenamedAcross, clearing_changes, moving_changes, tree_moved}
+pub use Rattle.lfs_operations.specs.MoveEnds.{CanEndMoveAt, HasEndedMoveAt, content_move_ended, continues_directory, delta_without_move, ending_dropped_blocks, ending_changes, gstate_naming, gstate_without_sync, map_move_ended, pairs_move_ended, ending_written_pair}
+pub use Rattle.lfs_operations.specs.MovingAcross.{CanRenameAcross, IsRenamedAcross, removal_changes, moving_changes, tree_moved}
 pub use Rattle.lfs_operations.specs.MovingOnto.{CanMoveAcross, CanReplaceDirectoryAcross, CanReplaceEntryAcross, CanReplaceFileAcross, IsFileReplaced, IsMovedAcross, entry_across_changes, tree_across}
-pub use Rattle.lfs_operations.specs.MovingSteps.{CanEndAfterPut, CanPutAndEnd, ArePutAndEnded, ReportsTakingCommits, SurvivesCommits, WritesPairsTwo, WritesThreadFree, number_after_insertion, second_pair}
+pub use Rattle.lfs_operations.specs.MovingSteps.{CanEndAfterPut, CanPutAndEnd, ArePutAndEnded, ReportsTakingCommits, SurvivesCommits, WritesPairsTwo, WritesThreadFree, number_after_insertion, second_step_pair}
 pub use Rattle.lfs_operations.specs.Ready.{AreUsedUnsettled, AddsNoneInFlight, IsRawFormed, IsReadyImage, KeepsRootNumber, KeepsTakenStates, ShowsReadyTree, ShowsUnsettledTree}
 pub use Rattle.lfs_operations.specs.Recovering.{AreUnreachedFrom, AreUnreachedNumbers, CanClearSync, CanDropPairs, HasDroppedRecovered, IsSyncCleared, ReportsRecovery, gstate_while_dropping, numbered_list_blocks, numbered_slots}
-pub use Rattle.lfs_operations.specs.Removing.{CanRemoveIn, IsFileRemoved, ReportsCommit, drops_with_its_slot, tree_without_entry, written_by_removal}
+pub use Rattle.lfs_operations.specs.Removing.{CanRemoveIn, IsFileRemoved, ReportsCommit, drops_emptied_pair, tree_without_entry, removal_written_address}
 pub use Rattle.lfs_operations.specs.Renaming.{CanRenameOnto, CanRenameWithin, CompletesRename, IsRenamedOnto, IsRenamedWithin, ReportsReadPut, id_after_removal, onto_changes, tree_renamed, within_changes}
 pub use Rattle.lfs_operations.specs.RenamingOver.{CanRenameOver, CanReplaceDirectory, IsDirectoryReplaced, IsRenamedOver, ReportsReadCommit, ReportsReadCommits, replace_directory_changes}
 pub use Rattle.lfs_operations.specs.RenamingSlots.{HasSlot, NamelessSlot, attribute_changes, nameless_at, nameless_of, slot_changes}
@@ -105,7 +105,7 @@ pub use Rattle.lfs_operations.specs.RenamingView.{attribute_copy_view}
 pub use Rattle.lfs_operations.specs.Storing.{CanSetStruct, HasStoredContents, tree_with_contents}
 pub use Rattle.lfs_operations.specs.Unlinking.{ArePairsBeforeTouched, CanRemoveDirectory, IsDirectoryRemoved, ReportsCommits, number_after_drop, unlink_changes}
 pub use Rattle.lfs_pair.specs.ChangeView.{changes_view}
-pub use Rattle.lfs_pair.specs.Commits.{changed_pair}
+pub use Rattle.lfs_pair.specs.Commits.{changed_pair_content}
 pub use Rattle.lfs_pair.specs.Split.{KeepsOutsideBoth}
 pub use Rattle.lfs_pair.specs.declared.commits.Outcome.{Outcome}
 pub use Rattle.lfs_tag.specs.ContentView.{attribute_view}
@@ -114,7 +114,7 @@ pub use Rattle.lfs_thread.specs.CachedLog.{cached_log}
 pub use Rattle.lfs_thread.specs.Kept.{KeptThread, ThreadView}
 pub use Rattle.lfs_thread.specs.Moves.{CanMoveNext, IsNextMoved, LossLeavesNextMoved, pair_revision}
 pub use Rattle.lfs_thread.specs.ThreadDevice.{CleanLossLeaves}
-pub use Rattle.lfs_thread.specs.ThreadSteps.{BeginWithSuperblock, BothOnDisk, CanChangePair, CanDropNext, CanSplitAt, CanThreadIn, ChangesThreadBlocks, FreshInFlight, HasOldPair, HasSplit, IsNextDropped, IsPairCommitted, IsPairWritten, IsThreadedIn, KeepsSuperblockFirst, LossLeavesBoth, LossLeavesPair, LossLeavesThreaded, OnlyReadsThread, PartsFit, RefusesChanges, SameGeometryAs, ThreadReportsErrors, ThreadReportsKeepingOthers, ThreadedOnDisk, back_pair, complete_after, empty_anchor, fresh_with_tail, front_pair, map_freeing, map_using, pairs_split, pairs_with, tail_change, thread_pair}
+pub use Rattle.lfs_thread.specs.ThreadSteps.{BeginWithSuperblock, SplitOnDisk, CanChangePair, CanDropNext, CanSplitAt, CanThreadIn, ChangesThreadBlocks, FreshInFlight, HasOldPair, HasSplit, IsNextDropped, IsPairCommitted, IsPairWritten, IsThreadedIn, KeepsSuperblockFirst, LossLeavesThreadSplit, LossLeavesPair, LossLeavesThreaded, OnlyReadsThread, PartsFit, RefusesChanges, SameGeometryAs, ThreadReportsErrors, ThreadReportsKeepingOthers, ThreadedInOnDisk, back_pair, complete_after, empty_anchor, fresh_with_tail, front_pair, map_freeing, map_using, pairs_split, pairs_with_content, tail_change, thread_pair}
 pub use Rattle.lfs_thread.specs.Unloads.{CanUnload, IsUnloaded, LossLeavesUnloaded}
 pub use Rattle.std.proofs.Common.{Bool, Err, Less, List, None, Ok, Option, Result, Some, [], ap, append_assoc, ap₂, arith, cond, drop, eq-eqb, eqb-true, false, get_or, inl, inr, insert, length, length-append, length-set, map, nat_eq, not, refl, remove, set, slice_get, subst, subst₂, suc, sum_by, sym, take, true, zero, ℕ, ⊎_elim, ◌++◌, ◌+◌, ◌-◌, ◌<◌, ◌==◌, ◌^◌, ◌∙◌, ◌∷◌, ◌≡◌, ◌≤◌, ◌⊎◌}
 pub use Rattle.std.proofs.lemmas.Bool.{and_parts, cases_lt, eqb-false, le-ltb, lt-ltb, ne_eqb}

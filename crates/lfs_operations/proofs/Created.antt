@@ -1,5 +1,5 @@
 -- A file that comes, as a step of the thread.
-use Rattle.lfs_operations.proofs.Common.{ℕ, ◌≡◌, ◌≤◌, List, [], ◌∷◌, ◌++◌, length, Some, refl, sym, ap, ap₂, subst, ◌∙◌, arith, length-append, insert, ne_eqb, tree_creating, changed_content_of, RawContent, raw_content, complete_content, file_name_type, CanSplit, Disk, CallEvent, BelongsAt, IsAllowedPart, Name, SurvivesLossSince, Slot, PairContent, path_or_root, Pair, pairs_blocks, tail_target, Session, Tree, FileNode, IsAccepted, all_entries, disk_tree, IsChangedImage, CompletesOperation, no_move_from, recovered_from, commit_step, complete_insert, complete_length, completed_parts, completed_from, creates_with_struct, does_nothing, slot_with, insert_cut, nothing_there, place_at, insert_here, IsPlace, some_filled, site, place_of_belongs, Site, thread_at, logged_changed, tag_type-make_tag, tag_length-make_tag, changed_pair, CleanLossLeaves, KeptThread, thread_pair, complete_after, Contains, option_and_then, file_comes, create_completed, IsPairTouched, CanPut, LeftByPut, ArePut, CanCreateIn, IsFileCreated, creation_changes, tree_with_file}
+use Rattle.lfs_operations.proofs.Common.{ℕ, ◌≡◌, ◌≤◌, List, [], ◌∷◌, ◌++◌, length, Some, refl, sym, ap, ap₂, subst, ◌∙◌, arith, length-append, insert, ne_eqb, tree_creating, content_with_changes, RawContent, raw_content, complete_content, file_name_type, AreSplittable, Disk, CallEvent, BelongsAt, IsAllowedPart, Name, SurvivesLossSince, Slot, PairContent, path_or_root, Pair, pairs_blocks, tail_target, Session, Tree, FileNode, IsAccepted, all_entries, disk_tree, IsChangedImage, CompletesOperation, no_move_from, recovered_from, commit_step, complete_insert, complete_length, completed_parts, completed_from, creates_with_struct, does_nothing, slot_with, insert_cut, nothing_there, place_at, insert_here, IsPlace, some_filled, site, place_of_belongs, Site, thread_at, logged_changed, tag_type-make_tag, tag_length-make_tag, changed_pair_content, CleanLossLeaves, KeptThread, thread_pair, complete_after, Contains, option_and_then, file_comes, create_completed, IsPairTouched, CanPut, LeftByPut, ArePut, CanCreateIn, IsFileCreated, creation_changes, tree_with_file}
 use Rattle.lfs_model.specs.format.EntryTypes.{inline_type}
 use Rattle.lfs_model.specs.session.Operations as ops
 use Rattle.lfs_model.specs.session.Operations.{FlagsOfOpen}
@@ -54,15 +54,15 @@ module _ (t : KeptThread) (index id : ℕ) (name : Name) (can : CanCreateIn t in
   abbrev raw_now : RawContent
   raw_now = record c.raw { slots = insert c.raw.slots id (slot_with (file_name_type, name) (inline_type, [])) }
 
-  changed : changed_content_of c.raw (creation_changes id name) ≡ Some raw_now
+  changed : content_with_changes c.raw (creation_changes id name) ≡ Some raw_now
   changed =
       let l = complete_length c.raw.slots p.content.slots (completed_parts c.raw p.content c.complete).slots in
       let few = (fits_there t can.ready can.first index p (b.later ++ b.rest) b.place).count in
       let m = within in
       creates_with_struct c.raw id file_name_type name inline_type [] [] raw_now (omega arith) (omega arith) (file_name name (name_length name can.is_name)) no_bytes (does_nothing raw_now)
 
-  made_raw : changed_pair t.disk (thread_pair t index).at (creation_changes id name) ≡ Some raw_now
-  made_raw = ap (λ o. option_and_then (λ (r : RawContent). changed_content_of r (creation_changes id name)) o) c.is ∙ changed
+  made_raw : changed_pair_content t.disk (thread_pair t index).at (creation_changes id name) ≡ Some raw_now
+  made_raw = ap (λ o. option_and_then (λ (r : RawContent). content_with_changes r (creation_changes id name)) o) c.is ∙ changed
 
   abbrev now : PairContent
   now = record { slots = insert p.content.slots id (file_slot name); tail = p.content.tail; move = p.content.move }
@@ -76,7 +76,7 @@ module _ (t : KeptThread) (index id : ℕ) (name : Name) (can : CanCreateIn t in
   made : complete_after t index (creation_changes id name) ≡ Some now
   made = ap (λ o. option_and_then complete_content o) made_raw ∙ now_complete
 
-  cut : CanSplit t.disk.block_size t.disk.page raw_now.slots
+  cut : AreSplittable t.disk.block_size t.disk.page raw_now.slots
   cut = insert_cut t.disk.block_size t.disk.page raw_now now p.content id (file_slot name) (logged_changed c.raw (creation_changes id name) raw_now (can.logged c.raw c.is) changed) now_complete refl
       (let f = can.fits.charge in omega arith) (fits_there t can.ready can.first index p (b.later ++ b.rest) b.place)
 

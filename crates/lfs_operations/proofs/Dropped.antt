@@ -1,5 +1,5 @@
 -- A pair that went from the thread, in an accepted image: what the device holds then, and which blocks the image uses.
-use Rattle.lfs_operations.proofs.Common.{ℕ, ◌≡◌, ◌≢◌, ◌⊎◌, inl, inr, ◌+◌, ◌-◌, ◌≤◌, Bool, true, false, cond, nat_eq, eqb-true, eq-eqb, List, [], ◌∷◌, ◌++◌, length, Option, Some, refl, sym, ap, ap₂, subst, subst₂, ◌∙◌, arith, append_assoc, length-append, length-set, set, slice_get, All-from_recursion, recursion_from_All, same_Some, AreUsed, BlockStates, BlockState, IsInFlight, IsUsedBlock, Free, InFlight, Used, Blocks, content_at, Disk, MoveStateFits, HasEitherTree, with_blocks, IsWritable, Gstate, FitsInPair, PairContent, Slot, Pair, pairs_blocks, pairs_gstate, address_blocks, Tree, IsAccepted, all_unmoved_slots, disk_tree, used_blocks, Contains-number_occurrences, number_occurrences-Contains, slice_get-set_other, slice_get-set_same, SameFiles, slots_files, Each, number_occurrences, count_append, count_here, each_append, each_left, each_right, once_from_distinct, SameFileBlocks, HasNoMove, Site, thread_at, IsDevice, count_files, file_blocks, all_slots, unmoved_in, KeptThread, IsPairWritten, BeginWithSuperblock, thread_pair, map_freeing, Contains, ◌↔◌, CanDropAt, SameInFlight, LeftByDrop, IsPairDropped, content_after_drop, tail_past_drop, dropped_by_ending, map_move_ended}
+use Rattle.lfs_operations.proofs.Common.{ℕ, ◌≡◌, ◌≢◌, ◌⊎◌, inl, inr, ◌+◌, ◌-◌, ◌≤◌, Bool, true, false, cond, nat_eq, eqb-true, eq-eqb, List, [], ◌∷◌, ◌++◌, length, Option, Some, refl, sym, ap, ap₂, subst, subst₂, ◌∙◌, arith, append_assoc, length-append, length-set, set, slice_get, All-from_recursion, recursion_from_All, same_Some, AreUsed, BlockStates, BlockState, IsInFlight, IsUsedBlock, Free, InFlight, Used, Blocks, content_at, Disk, MoveStateFits, HasEitherTree, with_blocks, IsWritable, Gstate, FitsInPair, PairContent, Slot, Pair, pairs_blocks, pairs_gstate, address_blocks, Tree, IsAccepted, all_unmoved_slots, disk_tree, used_blocks, Contains-number_occurrences, number_occurrences-Contains, slice_get-set_other, slice_get-set_same, SameFiles, slots_files, Each, number_occurrences, count_append, count_here, each_append, each_left, each_right, once_from_distinct, SameFileBlocks, HasNoMove, Site, thread_at, IsDevice, count_files, file_blocks, all_slots, unmoved_in, KeptThread, IsPairWritten, BeginWithSuperblock, thread_pair, map_freeing, Contains, ◌↔◌, CanDropAt, SameInFlight, LeftByDrop, IsPairDropped, content_after_drop, tail_past_drop, ending_dropped_blocks, map_move_ended}
 use Rattle.lfs_operations.proofs.DroppedTails.{front_is, gone_is, gstate_is, without_is}
 use Rattle.lfs_operations.proofs.Placing.{blocks_append, device, left_still}
 use Rattle.lfs_operations.proofs.Taking.{within}
@@ -152,7 +152,7 @@ module _ (sets : BlockStates) (at : ℕ × ℕ) (us vs : List ℕ) (used : AreUs
 
 -- the map after the end of a move, which frees the pair or not
 pub map_ended : (t : KeptThread) (index : ℕ) (goes : Bool) (us vs : List ℕ) → AreUsed t.map us → ((b : ℕ) → number_occurrences b us ≤ 1)
-    → ((b : ℕ) → number_occurrences b vs + number_occurrences b (dropped_by_ending t index goes) ≡ number_occurrences b us) → (new : BlockStates) → new ≡ map_move_ended t index goes → HasMapWithout t.map new vs
+    → ((b : ℕ) → number_occurrences b vs + number_occurrences b (ending_dropped_blocks t index goes) ≡ number_occurrences b us) → (new : BlockStates) → new ≡ map_move_ended t index goes → HasMapWithout t.map new vs
 map_ended t index true us vs used once less new is = map_without t.map (thread_pair t index).at us vs used once less new is
 map_ended t index false us vs used once less new is = subst (λ z. HasMapWithout t.map z vs) (sym is) (record { used = used_same t.map us vs (λ b. let e = less b in omega arith) used; size = refl; flying = λ b. ((λ h. h), (λ h. h)) })
 

@@ -1,5 +1,5 @@
 -- What a pair that goes leaves to the one in front of it, as changes of that one.
-use Rattle.lfs_operations.proofs.Common.{ℕ, zero, suc, ◌≡◌, ◌+◌, ◌<◌, ◌&&◌, Bool, true, false, cond, not, inl, inr, ◌⊎◌, List, [], ◌∷◌, ◌++◌, length, Option, Some, None, refl, sym, ap, ap₂, subst, ◌∙◌, arith, get_or, set, remove, xor_lt, same_Some, Blocks, PutMove, PutTail, changed_content_of, RawContent, complete_content, content_after, content_at, has_commit, current_of_two, current_block, is_later, empty_raw_content, raw_content, Disk, disk_block, block_entries, block_revision, IsWellFormed, MoveStateFits, PairContent, FitsInPair, Gstate, Tail, gstate_xor, zero_gstate, Pair, pairs_gstate, tail_target, completed_from, completed_parts, Each, each_right, each_weaker, Does, does_first, does_nothing, puts_move, puts_tail, gstate_assoc, gstate_comm, gstate_cons, gstate_moved, gstate_right, gstate_self, logged, KeptThread, CanDropNext, IsNextDropped, LossLeavesPair, RefusesChanges, IsPairWritten, complete_after, empty_anchor, thread_pair, tail_change, pairs_with, option_and_then, slice_index, AreByteBlocks, IsAllowedTail, ends_tail, IsPairDropped, LeftByDrop, delta_after_drop, tail_after_drop, tail_past_drop, dropping_changes, content_after_drop}
+use Rattle.lfs_operations.proofs.Common.{ℕ, zero, suc, ◌≡◌, ◌+◌, ◌<◌, ◌&&◌, Bool, true, false, cond, not, inl, inr, ◌⊎◌, List, [], ◌∷◌, ◌++◌, length, Option, Some, None, refl, sym, ap, ap₂, subst, ◌∙◌, arith, get_or, set, remove, xor_lt, same_Some, Blocks, PutMove, PutTail, content_with_changes, RawContent, complete_content, content_after, content_at, has_commit, current_of_two, current_block, is_later, empty_raw_content, raw_content, Disk, disk_block, block_entries, block_revision, IsWellFormed, MoveStateFits, PairContent, FitsInPair, Gstate, Tail, gstate_xor, zero_gstate, Pair, pairs_gstate, tail_target, completed_from, completed_parts, Each, each_right, each_weaker, Does, does_first, does_nothing, puts_move, puts_tail, gstate_assoc, gstate_comm, gstate_cons, gstate_moved, gstate_right, gstate_self, logged, KeptThread, CanDropNext, IsNextDropped, LossLeavesPair, RefusesChanges, IsPairWritten, complete_after, empty_anchor, thread_pair, tail_change, pairs_with_content, option_and_then, slice_index, AreByteBlocks, IsAllowedTail, ends_tail, IsPairDropped, LeftByDrop, delta_after_drop, tail_after_drop, tail_past_drop, dropping_changes, content_after_drop}
 use Rattle.lfs_operations.proofs.Held.{completes_to}
 use Rattle.lfs_operations.proofs.Threads.{get_at, set_at}
 
@@ -91,7 +91,7 @@ module _ (t : KeptThread) (front : ℕ) (ahead : List Pair) (p o : Pair) (back :
   gone_is = ap₂ (λ (z : List Pair) (i : ℕ). get_or z (i + 1) empty_anchor) is (sym number) ∙ get_next ahead p o back empty_anchor
 
   -- the thread without the second one
-  pub without_is : (c : PairContent) → remove (pairs_with t front c) (front + 1) ≡ ahead ++ record { at = p.at; content = c } ∷ back
+  pub without_is : (c : PairContent) → remove (pairs_with_content t front c) (front + 1) ≡ ahead ++ record { at = p.at; content = c } ∷ back
   without_is c =
       let q : Pair = record { at = p.at; content = c } in
       ap (λ (z : Pair). remove (set t.pairs front (record { at = z.at; content = c })) (front + 1)) front_is
@@ -126,7 +126,7 @@ over_next f None = refl
 over_next f (Some t) = refl
 
 pub takes : (raw : RawContent) (tail : Option Tail) (m : Gstate) → IsAllowedTail tail → MoveStateFits m
-    → changed_content_of raw (tail_change tail ∷ PutMove m ∷ []) ≡ Some (record { slots = raw.slots; tail = tail; move = m })
+    → content_with_changes raw (tail_change tail ∷ PutMove m ∷ []) ≡ Some (record { slots = raw.slots; tail = tail; move = m })
 takes raw None m h k =
     let now : RawContent = record raw { tail = None } in
     let end : RawContent = record { slots = raw.slots; tail = None; move = m } in
@@ -139,7 +139,7 @@ takes raw (Some t) m h k =
     (does_first (PutMove m) [] now end end (puts_move now m k) (does_nothing end))
 
 pub takes_tail : (c : PairContent) (raw : RawContent) (tail : Option Tail) (m : Gstate) → complete_content raw ≡ Some c → IsAllowedTail tail → MoveStateFits m
-    → option_and_then complete_content (changed_content_of raw (tail_change tail ∷ PutMove m ∷ [])) ≡ Some (record { slots = c.slots; tail = tail; move = m })
+    → option_and_then complete_content (content_with_changes raw (tail_change tail ∷ PutMove m ∷ [])) ≡ Some (record { slots = c.slots; tail = tail; move = m })
 takes_tail c raw tail m complete h k =
     ap (option_and_then complete_content) (takes raw tail m h k)
     ∙ completed_from (record { slots = raw.slots; tail = tail; move = m }) c.slots (completed_parts raw c complete).slots
@@ -174,7 +174,7 @@ module _ (t : KeptThread) (front : ℕ) (state : Gstate) (below : front + 1 < le
   taking_made =
       let k = there (λ p. IsWritableAgain p.content) again in
       let held = completes_to (raw_content t.disk (thread_pair t front).at) (thread_pair t front).content (there (λ p. content_at t.disk p.at ≡ Some p.content) contents).0 in
-      ap (λ o. option_and_then complete_content (option_and_then (λ (x : RawContent). changed_content_of x (dropping_changes t front state)) o)) held.is
+      ap (λ o. option_and_then complete_content (option_and_then (λ (x : RawContent). content_with_changes x (dropping_changes t front state)) o)) held.is
       ∙ takes_tail (thread_pair t front).content held.raw (tail_after_drop t front) (delta_after_drop t front state) held.complete
       (over_again (thread_pair t front).content.tail (thread_pair t (front + 1)).content.tail k.1.tail) small_delta
 
@@ -197,7 +197,7 @@ module _ (t : KeptThread) (front : ℕ) (state : Gstate) (below : front + 1 < le
   pub has_dropped : (new : KeptThread) → IsNextDropped t front (dropping_changes t front state) new → IsPairDropped t front state new
   has_dropped new is =
       let same = same_Some is.content (content_after_drop t front state) (sym is.made ∙ made) in
-      let pairs = is.pairs ∙ ap (λ c. remove (pairs_with t front c) (front + 1)) same in
+      let pairs = is.pairs ∙ ap (λ c. remove (pairs_with_content t front c) (front + 1)) same in
       record {
         written = subst (λ c. IsPairWritten t front c new.disk) same is.written;
         pairs = pairs;

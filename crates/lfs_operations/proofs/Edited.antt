@@ -1,5 +1,5 @@
 -- An entry whose attributes change, as a step of the thread.
-use Rattle.lfs_operations.proofs.Common.{ℕ, ◌≡◌, ◌^◌, ◌<◌, ◌≤◌, true, false, List, [], ◌∷◌, ◌++◌, Some, refl, sym, ap, subst, ◌∙◌, arith, inl, Name, recursion_from_All, tree_with_change, PairChange, PutAttribute, RawSlot, attributes_with, attributes_without, Disk, CallEvent, Operation, SurvivesLossSince, Session, path_or_root, Attributes, Slot, is_superblock, same_pair, slot_size, Pair, pairs_blocks, Tree, IsTreeEntry, IsFormedList, IsWritableEntry, IsWritableSlot, LeadsTo, all_unmoved_slots, disk_tree, IsChangedImage, CompletesOperation, recovered_from, commit_step, Each, each_right, number_occurrences, puts_attribute, file_blocks_same, is_list_same, HoldsAtLosses-weaker, some_filled, Site, thread_at, begin_of, CleanLossLeaves, KeptThread, CanChangePair, IsPairCommitted, LossLeavesPair, RefusesChanges, All, removes_attribute, attributes_change, remove_attr_completed, set_attr_completed, CanPut, LeftByPut, ArePut, CanEditIn, CanSetAttribute, HasRemovedAttribute, HasSetAttribute, editable_slot, tree_setting_attributes, ShowsReadyTree}
+use Rattle.lfs_operations.proofs.Common.{ℕ, ◌≡◌, ◌^◌, ◌<◌, ◌≤◌, true, false, List, [], ◌∷◌, ◌++◌, Some, refl, sym, ap, subst, ◌∙◌, arith, inl, Name, recursion_from_All, tree_with_change, ContentChange, PutAttribute, RawSlot, attributes_with, attributes_without, Disk, CallEvent, Operation, SurvivesLossSince, Session, path_or_root, Attributes, Slot, is_superblock, same_pair, slot_size, Pair, pairs_blocks, Tree, IsTreeEntry, IsFormedList, IsWritableEntry, IsWritableSlot, LeadsTo, all_unmoved_slots, disk_tree, IsChangedImage, CompletesOperation, recovered_from, commit_step, Each, each_right, number_occurrences, puts_attribute, file_blocks_same, is_list_same, HoldsAtLosses-weaker, some_filled, Site, thread_at, begin_of, CleanLossLeaves, KeptThread, CanChangePair, IsPairCommitted, LossLeavesPair, RefusesChanges, All, removes_attribute, attributes_change, remove_attr_completed, set_attr_completed, CanPut, LeftByPut, ArePut, CanEditIn, CanSetAttribute, HasRemovedAttribute, HasSetAttribute, editable_slot, tree_setting_attributes, ShowsReadyTree}
 use Rattle.lfs_model.specs.session.TreeEdits.{node_attributes_of, with_attributes}
 use Rattle.lfs_model.specs.layers.Changes.{RemoveAttribute}
 use Rattle.lfs_model.specs.session.Operations as ops
@@ -11,10 +11,10 @@ use Rattle.lfs_operations.proofs.Splicing.{Commits, IsSplicing}
 use Rattle.lfs_operations.proofs.Stepped.{HasStep, becomes, put_step, ready_again, survives}
 
 -- the change gives the slot at the id those attributes
-abbrev pub ChangesAttributes : PairChange → ℕ → (Attributes → Attributes) → Type 0
+abbrev pub ChangesAttributes : ContentChange → ℕ → (Attributes → Attributes) → Type 0
 ChangesAttributes change id f = Makes change id (λ s. record s { attributes = f s.attributes })
 
-module _ (t : KeptThread) (index id : ℕ) (can : CanEditIn t index id) (f : Attributes → Attributes) (change : PairChange) (does : ChangesAttributes change id f)
+module _ (t : KeptThread) (index id : ℕ) (can : CanEditIn t index id) (f : Attributes → Attributes) (change : ContentChange) (does : ChangesAttributes change id f)
     (fits : IsWritableEntry t.disk.profile t.disk.block_size t.disk.page (record (editable_slot can) { attributes = f (editable_slot can).attributes })) where
   abbrev g : RawSlot → RawSlot
   g z = record z { attributes = f z.attributes }

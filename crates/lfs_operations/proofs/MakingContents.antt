@@ -1,7 +1,7 @@
 -- What the two steps of a mkdir make of a pair.
-use Rattle.lfs_operations.proofs.Common.{ℕ, ◌≡◌, ◌≢◌, ◌≤◌, ◌<◌, ◌==◌, ◌&&◌, not, Bool, true, false, cond, eqb-true, List, [], ◌∷◌, length, Option, Some, None, refl, sym, ap, ap₂, subst, ◌∙◌, arith, insert, and_parts, ne_eqb, PutMove, PutTail, changed_content_of, RawContent, raw_content, content_at, content_after, complete_content, complete_slot, has_commit, current_of_two, current_block, is_later, empty_raw_content, directory_name_type, directory_type, Disk, disk_block, charge_limit, block_entries, block_revision, AreWords, IsWellFormed, MoveStateFits, IsAllowedPart, Name, PairContent, FitsInPair, Gstate, Tail, slot_size, directory_slot, Pair, tail_target, address_bytes, IsCompleted, complete_insert, complete_length, completed_parts, completed_from, creates_with_struct, does_first, puts_move, puts_tail, slot_with, with_sync_inverted, insert_cut, logged_changed, tag_type-make_tag, tag_length-make_tag, changed_pair, KeptThread, thread_pair, complete_after, slice_index, option_and_then, AreByteBlocks, null_address, CanPut, directory_entry_changes, threading_changes, IsRawFormed}
-use Rattle.lfs_model.specs.format.EntryTypes.{tail_to_pair}
-use Rattle.lfs_model.proofs.WrittenAnew.{read_address-address_bytes}
+use Rattle.lfs_operations.proofs.Common.{ℕ, ◌≡◌, ◌≢◌, ◌≤◌, ◌<◌, ◌==◌, ◌&&◌, not, Bool, true, false, cond, eqb-true, List, [], ◌∷◌, length, Option, Some, None, refl, sym, ap, ap₂, subst, ◌∙◌, arith, insert, and_parts, ne_eqb, PutMove, PutTail, content_with_changes, RawContent, raw_content, content_at, content_after, complete_content, complete_slot, has_commit, current_of_two, current_block, is_later, empty_raw_content, directory_name_type, directory_type, Disk, disk_block, charge_limit, block_entries, block_revision, AreWords, IsWellFormed, MoveStateFits, IsAllowedPart, Name, PairContent, FitsInPair, Gstate, Tail, slot_size, directory_slot, Pair, tail_target, address_bytes, IsCompleted, complete_insert, complete_length, completed_parts, completed_from, creates_with_struct, does_first, puts_move, puts_tail, slot_with, with_sync_inverted, insert_cut, logged_changed, tag_type-make_tag, tag_length-make_tag, changed_pair_content, KeptThread, thread_pair, complete_after, slice_index, option_and_then, AreByteBlocks, null_address, CanPut, directory_entry_changes, threading_changes, IsRawFormed}
+use Rattle.lfs_model.specs.format.EntryTypes.{tail_if_any}
+use Rattle.lfs_model.proofs.WrittenAnew.{decoded_address-address_bytes}
 use Rattle.lfs_operations.proofs.Held.{CompletesTo, completes_to, logged_at}
 
 -- ---- blocks of bytes
@@ -44,7 +44,7 @@ branch_part : (to : ℕ × ℕ) → IsAllowedPart 2 (directory_type, address_byt
 branch_part to = record { of_class = refl; short = omega arith; in_table = refl }
 
 -- two null addresses are no tail
-tail_is : (to : ℕ × ℕ) → to.0 ≢ to.1 → tail_to_pair false to ≡ Some (record { hard = false; to = to })
+tail_is : (to : ℕ × ℕ) → to.0 ≢ to.1 → tail_if_any false to ≡ Some (record { hard = false; to = to })
 tail_is to apart = go (to.0 == null_address && to.1 == null_address) refl
   where
     go : (b : Bool) → (to.0 == null_address && to.1 == null_address) ≡ b → cond {A = Option Tail} b None (Some (record { hard = false; to = to })) ≡ Some (record { hard = false; to = to })
@@ -79,15 +79,15 @@ module _ (t : KeptThread) (index : ℕ) (p : Pair) (here : thread_pair t index �
   abbrev raw_threaded : ℕ × ℕ → RawContent
   raw_threaded fresh = record c.raw { tail = Some (record { hard = false; to = fresh }); move = delta }
 
-  threads : (fresh : ℕ × ℕ) → AreWords fresh → fresh.0 ≢ fresh.1 → changed_content_of c.raw (threading_changes t index fresh) ≡ Some (raw_threaded fresh)
+  threads : (fresh : ℕ × ℕ) → AreWords fresh → fresh.0 ≢ fresh.1 → content_with_changes c.raw (threading_changes t index fresh) ≡ Some (raw_threaded fresh)
   threads fresh address apart =
-      let named : RawContent = record c.raw { tail = tail_to_pair false fresh } in
+      let named : RawContent = record c.raw { tail = tail_if_any false fresh } in
       does_first (PutTail false (Some fresh)) (PutMove delta ∷ []) c.raw named (raw_threaded fresh) (puts_tail c.raw false fresh address)
       (does_first (PutMove delta) [] named (record named { move = delta }) (raw_threaded fresh) (puts_move named delta delta_state) (ap (λ (tail : Option Tail). Some (record c.raw { tail = tail; move = delta })) (tail_is fresh apart)))
 
   pub threaded_made : (fresh : ℕ × ℕ) → AreWords fresh → fresh.0 ≢ fresh.1 → complete_after t index (threading_changes t index fresh) ≡ Some (threaded_now fresh)
   threaded_made fresh address apart =
-      ap (λ o. option_and_then complete_content (option_and_then (λ (r : RawContent). changed_content_of r (threading_changes t index fresh)) o)) c.is
+      ap (λ o. option_and_then complete_content (option_and_then (λ (r : RawContent). content_with_changes r (threading_changes t index fresh)) o)) c.is
       ∙ ap (λ o. option_and_then complete_content o) (threads fresh address apart)
       ∙ completed_from (raw_threaded fresh) p.content.slots parts.slots
       ∙ ap (λ m. Some (record { slots = p.content.slots; tail = Some (record { hard = false; to = fresh }); move = m })) delta_is
@@ -101,7 +101,7 @@ module _ (t : KeptThread) (index : ℕ) (p : Pair) (here : thread_pair t index �
     abbrev raw_named : RawContent
     raw_named = record c.raw { slots = insert c.raw.slots id (slot_with (directory_name_type, name) (directory_type, address_bytes to)); move = delta }
 
-    names : changed_content_of c.raw (directory_entry_changes t index id name to) ≡ Some raw_named
+    names : content_with_changes c.raw (directory_entry_changes t index id name to) ≡ Some raw_named
     names =
         let l = complete_length c.raw.slots p.content.slots parts.slots in
         let few = fits.count in
@@ -109,11 +109,11 @@ module _ (t : KeptThread) (index : ℕ) (p : Pair) (here : thread_pair t index �
         creates_with_struct c.raw id directory_name_type name directory_type (address_bytes to) (PutMove delta ∷ []) raw_named (omega arith) (omega arith) (directory_name name short) (branch_part to)
         (does_first (PutMove delta) [] created raw_named raw_named (puts_move created delta delta_state) refl)
 
-    raw_made : changed_pair t.disk (thread_pair t index).at (directory_entry_changes t index id name to) ≡ Some raw_named
-    raw_made = ap (λ o. option_and_then (λ (r : RawContent). changed_content_of r (directory_entry_changes t index id name to)) o) c.is ∙ names
+    raw_made : changed_pair_content t.disk (thread_pair t index).at (directory_entry_changes t index id name to) ≡ Some raw_named
+    raw_made = ap (λ o. option_and_then (λ (r : RawContent). content_with_changes r (directory_entry_changes t index id name to)) o) c.is ∙ names
 
     slot_is : complete_slot (slot_with (directory_name_type, name) (directory_type, address_bytes to)) ≡ Some (directory_slot name to)
-    slot_is = ap (λ (a : ℕ × ℕ). Some (directory_slot name a)) (read_address-address_bytes to address)
+    slot_is = ap (λ (a : ℕ × ℕ). Some (directory_slot name a)) (decoded_address-address_bytes to address)
 
     now_complete : complete_content raw_named ≡ Some named_now
     now_complete =

@@ -1,5 +1,5 @@
 -- A directory's slot comes into a pair, and the sync bit goes: what a change or a split comes to, and what a stop in it leaves.
-use Rattle.lfs_operations.proofs.Common.{ℕ, ◌≡◌, ◌+◌, ◌⊎◌, inl, inr, true, false, List, [], ◌∷◌, ◌++◌, length, Some, refl, sym, ap, subst, ◌∙◌, arith, append-nil, ⊎_elim, Blocks, AreUsed, PairChange, Disk, block_count, Name, with_blocks, Slot, PairContent, zero_gstate, gstate_xor, pair_with_slots, directory_slot, Pair, pairs_blocks, pairs_gstate, superblock_first, IsAccepted, IsTreeEntry, IsWritable, IsWritableSlot, used_blocks, became_front, became_shape, no_move_from, number_occurrences, count_append, HasNoMove, gstate_append, gstate_cons, gstate_kept, gstate_right, IsStep, some_filled, Site, thread_at, IsSite, IsDevice, KeptThread, complete_after, BeginWithSuperblock, LeftByPut, ArePut, AddsNoneInFlight, KeepsTakenStates}
+use Rattle.lfs_operations.proofs.Common.{ℕ, ◌≡◌, ◌+◌, ◌⊎◌, inl, inr, true, false, List, [], ◌∷◌, ◌++◌, length, Some, refl, sym, ap, subst, ◌∙◌, arith, append-nil, ⊎_elim, Blocks, AreUsed, ContentChange, Disk, block_count, Name, with_blocks, Slot, PairContent, zero_gstate, gstate_xor, pair_with_slots, directory_slot, Pair, pairs_blocks, pairs_gstate, superblock_first, IsAccepted, IsTreeEntry, IsWritable, IsWritableSlot, used_blocks, became_front, became_shape, no_move_from, number_occurrences, count_append, HasNoMove, gstate_append, gstate_cons, gstate_kept, gstate_right, IsStep, some_filled, Site, thread_at, IsSite, IsDevice, KeptThread, complete_after, BeginWithSuperblock, LeftByPut, ArePut, AddsNoneInFlight, KeepsTakenStates}
 use Rattle.lfs_model.proofs.StepsTaken as taken
 use Rattle.lfs_operations.proofs.MakingCounts.{used_count_now}
 use Rattle.lfs_operations.proofs.Owning.{used_same}
@@ -8,7 +8,7 @@ use Rattle.lfs_operations.proofs.MovSet.{HasTurned}
 
 -- At the site stands the pair of that number. The changes make a content of it with the same tail, in which the slot of a
 -- directory stands between the others, and a delta by which the global state has nothing to recover.
-pub record IsEntering (t : KeptThread) (index : ℕ) (changes : List PairChange) (w : Site) (p : Pair) (l : List Slot) (name : Name) (to : ℕ × ℕ) (r : List Slot) : Type 0 where
+pub record IsEntering (t : KeptThread) (index : ℕ) (changes : List ContentChange) (w : Site) (p : Pair) (l : List Slot) (name : Name) (to : ℕ × ℕ) (r : List Slot) : Type 0 where
   pub accepted : IsAccepted t.disk t.pairs
   pub writable : IsWritable t.disk t.pairs
   pub used : AreUsed t.map (used_blocks t.disk t.pairs)
@@ -49,7 +49,7 @@ pub record HasEntered (t : KeptThread) (w : Site) (p : Pair) (l : List Slot) (na
   pub stays : KeepsTakenStates t.map new.map
   pub none_comes : AddsNoneInFlight t.map new.map
 
-module _ (t : KeptThread) (index : ℕ) (changes : List PairChange) (w : Site) (p : Pair) (l : List Slot) (name : Name) (to : ℕ × ℕ) (r : List Slot) (k : IsEntering t index changes w p l name to r) where
+module _ (t : KeptThread) (index : ℕ) (changes : List ContentChange) (w : Site) (p : Pair) (l : List Slot) (name : Name) (to : ℕ × ℕ) (r : List Slot) (k : IsEntering t index changes w p l name to r) where
   abbrev u : Slot
   u = directory_slot name to
 

@@ -1,5 +1,5 @@
 -- A fresh pair is threaded behind the last one of a directory, and the sync bit set: what that comes to, and what a stop in it leaves.
-use Rattle.lfs_operations.proofs.Common.{ℕ, ◌≡◌, ◌≢◌, ◌+◌, ◌<◌, ◌⊎◌, inl, inr, Bool, true, false, nat_eq, List, [], ◌∷◌, ◌++◌, length, Some, refl, sym, ap, ap₂, subst, ◌∙◌, ◌≤◌, arith, append_assoc, append-nil, flat_map, IsDistinct, same_Some, All-from_recursion, recursion_from_All, Blocks, SameExceptThese, AreUsed, content_at, current_of_two, current_block, Disk, disk_block, block_count, HasEitherTree, with_blocks, PairContent, FitsInPair, Gstate, zero_gstate, gstate_xor, same_pair, Pair, pairs_blocks, pairs_gstate, is_hard_tail, address_blocks, addresses_blocks, Path, Tree, BeginsWith, superblock_entry, IsAccepted, HasNoEmpties, IsWritable, LeadsTo, all_unmoved_slots, all_entries, struct_blocks, disk_tree, used_blocks, fits_same, IsStepBeside, last_site, threaded, no_move_from, each_right, number_occurrences, count_append, count_here, once_from_distinct, HasNoMove, gstate_assoc, gstate_cons, gstate_left, gstate_moved, gstate_right, sync_bit_delta, with_sync_inverted, turned_is, shown_before, shown_behind, pair_itself, Site, begin_of, dirs_at, thread_at, IsSite, IsPutBeside, IsWritableChange, beside_taken, taken_before, within_at, pairs_behind, ends_joined, KeepsOutsideBoth, KeptThread, SameGeometryAs, HasOldPair, IsThreadedIn, LossLeavesThreaded, ChangesThreadBlocks, complete_after, thread_pair, map_using, All, ThreadedOnDisk, KeepsSuperblockFirst, fresh_with_tail, AreTwoFree, map_taking_two, threading_changes, IsReadyImage, content_same}
+use Rattle.lfs_operations.proofs.Common.{ℕ, ◌≡◌, ◌≢◌, ◌+◌, ◌<◌, ◌⊎◌, inl, inr, Bool, true, false, nat_eq, List, [], ◌∷◌, ◌++◌, length, Some, refl, sym, ap, ap₂, subst, ◌∙◌, ◌≤◌, arith, append_assoc, append-nil, flat_map, IsDistinct, same_Some, All-from_recursion, recursion_from_All, Blocks, SameExceptBlocks, AreUsed, content_at, current_of_two, current_block, Disk, disk_block, block_count, HasEitherTree, with_blocks, PairContent, FitsInPair, Gstate, zero_gstate, gstate_xor, same_pair, Pair, pairs_blocks, pairs_gstate, is_hard_tail, address_blocks, addresses_blocks, Path, Tree, BeginsWith, superblock_entry, IsAccepted, HasNoEmpties, IsWritable, LeadsTo, all_unmoved_slots, all_entries, struct_blocks, disk_tree, used_blocks, fits_same, IsStepBeside, last_site, threaded, no_move_from, each_right, number_occurrences, count_append, count_here, once_from_distinct, HasNoMove, gstate_assoc, gstate_cons, gstate_left, gstate_moved, gstate_right, sync_bit_delta, with_sync_inverted, turned_is, shown_before, shown_behind, pair_itself, Site, begin_of, dirs_at, thread_at, IsSite, IsPutBeside, IsWritableChange, beside_taken, taken_before, within_at, pairs_behind, ends_joined, KeepsOutsideBoth, KeptThread, SameGeometryAs, HasOldPair, IsThreadedIn, LossLeavesThreaded, ChangesThreadBlocks, complete_after, thread_pair, map_using, All, ThreadedInOnDisk, KeepsSuperblockFirst, fresh_with_tail, AreTwoFree, map_taking_two, threading_changes, IsReadyImage, content_same}
 use Rattle.lfs_model.proofs.Beside.{beside_shape, other_entries, own_entries}
 use Rattle.lfs_model.proofs.Pairs.{put_at}
 use Rattle.lfs_operations.proofs.MakingCounts.{used_count_now}
@@ -137,7 +137,7 @@ module _ (t : KeptThread) (ready : IsReadyImage t) (last : ℕ) (chain before le
   fits_now c m = subst (FitsInPair t.disk.block_size t.disk.page) (sym (made_same c m)) (fits_same t.disk x y refl (within_at t.disk w x [] writable_there).pair)
 
   -- only the blocks of the fresh pair may differ: the image shows the tree that it showed
-  pub left_beside : (blocks : Blocks) (tree : Tree) → SameExceptThese (address_blocks fresh) t.disk.blocks blocks → HasEitherTree (with_blocks blocks t.disk) (disk_tree t.disk t.pairs) tree
+  pub left_beside : (blocks : Blocks) (tree : Tree) → SameExceptBlocks (address_blocks fresh) t.disk.blocks blocks → HasEitherTree (with_blocks blocks t.disk) (disk_tree t.disk t.pairs) tree
   left_beside blocks tree others =
       left_still t.disk blocks (thread_at w (x ∷ [])) accepted_there writable_there (device t.disk (with_blocks blocks t.disk) w x x [] (fresh.0 ∷ fresh.1 ∷ []) accepted_there distinct placed) (inl (ap (disk_tree t.disk) (sym e.there)))
     where
@@ -222,7 +222,7 @@ module _ (t : KeptThread) (ready : IsReadyImage t) (last : ℕ) (chain before le
         shape : SameGeometryAs t.disk (with_blocks blocks t.disk)
         shape = record { block_size = refl; page = refl; order = refl; profile = refl; count = is.others.count }
 
-        go : HasOldPair held last (with_blocks blocks t.disk) ⊎ ThreadedOnDisk held last fresh (threading_changes t last fresh) (with_blocks blocks t.disk) → HasEitherTree (with_blocks blocks t.disk) (disk_tree t.disk t.pairs) tree
+        go : HasOldPair held last (with_blocks blocks t.disk) ⊎ ThreadedInOnDisk held last fresh (threading_changes t last fresh) (with_blocks blocks t.disk) → HasEitherTree (with_blocks blocks t.disk) (disk_tree t.disk t.pairs) tree
         go (inl b) = left_still t.disk blocks (thread_at w (x ∷ [])) accepted_there writable_there
             (device t.disk (with_blocks blocks t.disk) w x x [] (fresh.0 ∷ fresh.1 ∷ []) accepted_there distinct (placed_still t last w x e.there e.place (with_blocks blocks t.disk) fresh shape is.others (record { holds = b.holds; first = b.first })))
             (inl (ap (disk_tree t.disk) (sym e.there)))

@@ -1,5 +1,5 @@
 -- A directory that comes, as two steps of the thread.
-use Rattle.lfs_operations.proofs.Common.{ℕ, ◌≡◌, ◌+◌, ◌<◌, ◌≤◌, ◌^◌, ◌⊎◌, inl, inr, true, List, [], ◌∷◌, ◌++◌, length, Some, refl, sym, ap, ap₂, subst, ◌∙◌, arith, append_assoc, length-append, insert, slice_get, recursion_from_All, tree_creating, Blocks, SameExceptThese, IsFree, IsInFlight, Free, content_at, Disk, block_count, charge_limit, BelongsAt, AreWords, Name, HasEitherTree as IsLeftOf, with_blocks, PairContent, FitsInPair, Gstate, Slot, zero_gstate, gstate_xor, same_pair, directory_slot, pair_with_slots, Pair, pairs_blocks, pairs_gstate, is_hard_tail, tail_target, count_before_root, address_blocks, addresses_blocks, DirectoryNode, IsWritableEntry, IsWritable, IsAccepted, LeadsTo, all_entries, disk_tree, Became, last_site, chain_now, InTwo, mkdir_in_two, CompletesOperation, no_move_from, recovered_from, each_right, HasNoMove, gstate_assoc, gstate_cons, gstate_moved, gstate_self, sync_bit_delta, with_sync_inverted, turned_is, entry_small, place_at, insert_here, IsPlace, step_writable, site, place_of_belongs, AnyByRecursion, Site, among_left, among_right, begin_of, dirs_at, thread_at, IsSite, IsChain, KeptThread, CanThreadIn, IsThreadedIn, LossLeavesThreaded, ChangesThreadBlocks, thread_pair, complete_after, All, Contains, AreByteBlocks, entry_charge, IsPairTouched, AreTwoFree, CanPut, HasTwoFree, LeftByPut, ArePut, map_taking_two, AreBothTouched, CanMakeAt, FitsNewTail, HasFreeBlocks, IsDirectoryEnd, IsDirectoryMade, directory_entry_changes, threading_changes, tree_with_directory}
+use Rattle.lfs_operations.proofs.Common.{ℕ, ◌≡◌, ◌+◌, ◌<◌, ◌≤◌, ◌^◌, ◌⊎◌, inl, inr, true, List, [], ◌∷◌, ◌++◌, length, Some, refl, sym, ap, ap₂, subst, ◌∙◌, arith, append_assoc, length-append, insert, slice_get, recursion_from_All, tree_creating, Blocks, SameExceptBlocks, IsFree, IsInFlight, Free, content_at, Disk, block_count, charge_limit, BelongsAt, AreWords, Name, HasEitherTree as IsLeftOf, with_blocks, PairContent, FitsInPair, Gstate, Slot, zero_gstate, gstate_xor, same_pair, directory_slot, pair_with_slots, Pair, pairs_blocks, pairs_gstate, is_hard_tail, tail_target, count_before_root, address_blocks, addresses_blocks, DirectoryNode, IsWritableEntry, IsWritable, IsAccepted, LeadsTo, all_entries, disk_tree, Became, last_site, chain_now, InTwo, mkdir_in_two, CompletesOperation, no_move_from, recovered_from, each_right, HasNoMove, gstate_assoc, gstate_cons, gstate_moved, gstate_self, sync_bit_delta, with_sync_inverted, turned_is, entry_small, place_at, insert_here, IsPlace, step_writable, site, place_of_belongs, AnyByRecursion, Site, among_left, among_right, begin_of, dirs_at, thread_at, IsSite, IsChain, KeptThread, CanThreadIn, IsThreadedIn, LossLeavesThreaded, ChangesThreadBlocks, thread_pair, complete_after, All, Contains, AreByteBlocks, entry_charge, IsPairTouched, AreTwoFree, CanPut, HasTwoFree, LeftByPut, ArePut, map_taking_two, AreBothTouched, CanMakeAt, FitsNewTail, HasFreeBlocks, IsDirectoryEnd, IsDirectoryMade, directory_entry_changes, threading_changes, tree_with_directory}
 use Rattle.lfs_model.specs.declared.limits.Profile.{Profile}
 use Rattle.lfs_model.specs.session.Operations as ops
 use Rattle.lfs_model.proofs.Beside.{change}
@@ -88,7 +88,7 @@ module _ (t : KeptThread) (index id : ℕ) (name : Name) (can : CanMakeAt t inde
   left_by_threading left is = left_threading t can.ready last w.chain w.before way.left w.after x way.end fresh two made can.path can.at leads_here same_here left (tree_with_directory t can.path name) is
 
   -- where there was no memory for the step
-  pub left_unthreaded : (new : KeptThread) → ChangesThreadBlocks (addresses_blocks (thread_pair t last).at fresh) (with_map t (map_taking_two t.map fresh)) new → SameExceptThese (address_blocks fresh) t.disk.blocks new.disk.blocks
+  pub left_unthreaded : (new : KeptThread) → ChangesThreadBlocks (addresses_blocks (thread_pair t last).at fresh) (with_map t (map_taking_two t.map fresh)) new → SameExceptBlocks (address_blocks fresh) t.disk.blocks new.disk.blocks
       → IsLeftOf new.disk (disk_tree t.disk t.pairs) (tree_with_directory t can.path name)
   left_unthreaded new writes others = subst (λ (d : Disk). IsLeftOf d (disk_tree t.disk t.pairs) (tree_with_directory t can.path name)) same_disk
       (left_beside t can.ready last w.chain w.before way.left w.after x way.end fresh two made new.disk.blocks (tree_with_directory t can.path name) others)

@@ -1,5 +1,5 @@
 -- The end of a set move where the pair goes with the slot, as a step of the thread.
-use Rattle.lfs_operations.proofs.Common.{ℕ, ◌≡◌, ◌≢◌, ◌⊎◌, inl, inr, ◌-◌, true, false, List, [], ◌∷◌, ◌++◌, length, refl, sym, ap, ap₂, subst, ◌∙◌, arith, append-nil, length-append, remove, subst₂, Disk, CallEvent, MoveStateFits, SurvivesLossSince, PairContent, Gstate, Slot, same_pair, Pair, pairs_gstate, is_hard_tail, count_before_root, IsAccepted, IsWritable, all_directories, disk_tree, used_blocks, SameSlots, alike_append, alike_itself, number_occurrences, HoldsAtLosses-weaker, HasSite, site_of_number, directory_addresses, AnyByRecursion, Site, among_left, among_parts, among_right, thread_at, IsWritableChange, ends_joined, CleanLossLeaves, KeptThread, IsPairWritten, empty_anchor, thread_pair, map_freeing, HasNoMove, CanDropAt, IsPairDropped, LeftByDrop, content_after_drop, CanEndAt, HasEndedAt, continues_directory, gstate_without_move}
+use Rattle.lfs_operations.proofs.Common.{ℕ, ◌≡◌, ◌≢◌, ◌⊎◌, inl, inr, ◌-◌, true, false, List, [], ◌∷◌, ◌++◌, length, refl, sym, ap, ap₂, subst, ◌∙◌, arith, append-nil, length-append, remove, subst₂, Disk, CallEvent, MoveStateFits, SurvivesLossSince, PairContent, Gstate, Slot, same_pair, Pair, pairs_gstate, is_hard_tail, count_before_root, IsAccepted, IsWritable, all_directories, disk_tree, used_blocks, SameSlots, alike_append, alike_itself, number_occurrences, HoldsAtLosses-weaker, HasSite, site_of_number, directory_addresses, AnyByRecursion, Site, among_left, among_parts, among_right, thread_at, IsWritableChange, ends_joined, CleanLossLeaves, KeptThread, IsPairWritten, empty_anchor, thread_pair, map_freeing, HasNoMove, CanDropAt, IsPairDropped, LeftByDrop, content_after_drop, CanEndMoveAt, HasEndedMoveAt, continues_directory, gstate_without_move}
 use Rattle.lfs_operations.proofs.Dropped.{IsToBeDropped, can_drop_pair, device_left, grouped, is, left_dropped, pairs_left, slots_left, state_left, tail_left}
 use Rattle.lfs_operations.proofs.DroppedTails.{remove_next}
 use Rattle.lfs_operations.proofs.MovEnding.{get_from, led_is}
@@ -12,7 +12,7 @@ use Rattle.lfs_operations.proofs.RecoverBefore.{go_alike}
 sync_state : (g : Gstate) → MoveStateFits (gstate_without_move g)
 sync_state g = record { kind = omega arith; id = omega arith; pair = (omega arith, omega arith) }
 
-module _ (t : KeptThread) (index id : ℕ) (can : CanEndAt t index id true) where
+module _ (t : KeptThread) (index id : ℕ) (can : CanEndMoveAt t index id true) where
   abbrev h : HasSite t.pairs index
   h = site_of_number t.disk t.pairs index can.accepted can.begins can.below
 
@@ -119,7 +119,7 @@ module _ (t : KeptThread) (index id : ℕ) (can : CanEndAt t index id true) wher
       go (inl a) = among_left (λ y. y ≡ z) ahead (q ∷ back) a
       go (inr a) = among_right (λ y. y ≡ z) ahead (q ∷ back) (behind a)
 
-  pub has_gone : (new : KeptThread) → IsPairDropped t (index - 1) (gstate_without_move (pairs_gstate t.pairs)) new → HasEndedAt t index id true new
+  pub has_gone : (new : KeptThread) → IsPairDropped t (index - 1) (gstate_without_move (pairs_gstate t.pairs)) new → HasEndedMoveAt t index id true new
   has_gone new d =
       let ahead = w.chain ++ (w.before ++ w.left) in
       let back = w.right ++ w.after in

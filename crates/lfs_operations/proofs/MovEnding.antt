@@ -1,5 +1,5 @@
 -- The end of a set move, as a step of the thread.
-use Rattle.lfs_operations.proofs.Common.{ℕ, zero, suc, ◌≡◌, ◌≢◌, ◌-◌, ◌<◌, ◌⊎◌, inl, inr, true, false, take, List, [], ◌∷◌, Option, ◌++◌, length, Some, refl, sym, ap, ap₂, subst, ◌∙◌, arith, length-append, remove, get_or, slice_get, sum_by, subst₂, xor_lt, same_Some, recursion_from_All, sum_by-append, sum_by-cons, Blocks, Delete, PutMove, changed_content_of, RawContent, content_at, raw_content, complete_content, Disk, CallEvent, AreWords, MoveStateFits, HasEitherTree as IsLeftOf, SurvivesLossSince, with_blocks, Slot, FitsInPair, Gstate, Tail, gstate_xor, same_pair, slot_size, Pair, pairs_gstate, tail_target, count_before_root, IsAccepted, IsWritable, all_directories, disk_tree, used_blocks, SameSlots, alike_itself, IsCompleted, complete_length, complete_remove, completed_parts, completed_from, Each, each_right, number_occurrences, deletes, does_first, does_nothing, puts_move, HoldsAtLosses-weaker, HasSite, site_of_number, directory_addresses, remove_here, AnyByRecursion, Site, among_left, among_parts, among_right, dirs_at, thread_at, IsWritableChange, pairs_behind, ends_joined, CleanLossLeaves, KeptThread, CanChangePair, IsPairCommitted, LossLeavesPair, RefusesChanges, BeginWithSuperblock, complete_after, empty_anchor, thread_pair, pairs_with, pairs_without_moved, HasNoMove, option_and_then, CanEndAt, HasEndedAt, content_move_ended, ending_changes, continues_directory, gstate_without_sync, delta_without_move, gstate_without_move}
+use Rattle.lfs_operations.proofs.Common.{ℕ, zero, suc, ◌≡◌, ◌≢◌, ◌-◌, ◌<◌, ◌⊎◌, inl, inr, true, false, take, List, [], ◌∷◌, Option, ◌++◌, length, Some, refl, sym, ap, ap₂, subst, ◌∙◌, arith, length-append, remove, get_or, slice_get, sum_by, subst₂, xor_lt, same_Some, recursion_from_All, sum_by-append, sum_by-cons, Blocks, Delete, PutMove, content_with_changes, RawContent, content_at, raw_content, complete_content, Disk, CallEvent, AreWords, MoveStateFits, HasEitherTree as IsLeftOf, SurvivesLossSince, with_blocks, Slot, FitsInPair, Gstate, Tail, gstate_xor, same_pair, slot_size, Pair, pairs_gstate, tail_target, count_before_root, IsAccepted, IsWritable, all_directories, disk_tree, used_blocks, SameSlots, alike_itself, IsCompleted, complete_length, complete_remove, completed_parts, completed_from, Each, each_right, number_occurrences, deletes, does_first, does_nothing, puts_move, HoldsAtLosses-weaker, HasSite, site_of_number, directory_addresses, remove_here, AnyByRecursion, Site, among_left, among_parts, among_right, dirs_at, thread_at, IsWritableChange, pairs_behind, ends_joined, CleanLossLeaves, KeptThread, CanChangePair, IsPairCommitted, LossLeavesPair, RefusesChanges, BeginWithSuperblock, complete_after, empty_anchor, thread_pair, pairs_with_content, pairs_without_moved, HasNoMove, option_and_then, CanEndMoveAt, HasEndedMoveAt, content_move_ended, ending_changes, continues_directory, gstate_without_sync, delta_without_move, gstate_without_move}
 use Rattle.lfs_operations.proofs.Held.{CompletesTo, completes_to}
 use Rattle.lfs_operations.proofs.MovEnd.{IsEnding, ended, ended_count, ended_firsts, ended_state, ended_chain, ended_kin}
 use Rattle.lfs_operations.proofs.MovSet.{HasTurned}
@@ -18,7 +18,7 @@ led_is w p i chain number =
     ap₂ (λ n z. ends_joined false (take (i - n) z)) chain (pairs_behind w.chain (dirs_at w (p ∷ [])) chain)
     ∙ ap (ends_joined false) (take_front (w.before ++ w.left) (p ∷ [] ++ (w.right ++ w.after)) (i - length w.chain) (let l = length-append w.chain (w.before ++ w.left) in omega arith))
 
-module _ (t : KeptThread) (pair id : ℕ) (can : CanEndAt t pair id false) (address : AreWords (delta_without_move t pair).pair) where
+module _ (t : KeptThread) (pair id : ℕ) (can : CanEndMoveAt t pair id false) (address : AreWords (delta_without_move t pair).pair) where
   abbrev h : HasSite t.pairs pair
   h = site_of_number t.disk t.pairs pair can.accepted can.begins can.below
 
@@ -84,7 +84,7 @@ module _ (t : KeptThread) (pair id : ℕ) (can : CanEndAt t pair id false) (addr
   abbrev raw_now : RawContent
   raw_now = record c.raw { slots = remove c.raw.slots id; move = delta_without_move t pair }
 
-  changed_now : changed_content_of c.raw (ending_changes t pair id) ≡ Some raw_now
+  changed_now : content_with_changes c.raw (ending_changes t pair id) ≡ Some raw_now
   changed_now =
       let few = fits_there.count in
       let n = complete_length c.raw.slots p.content.slots parts.slots in
@@ -97,7 +97,7 @@ module _ (t : KeptThread) (pair id : ℕ) (can : CanEndAt t pair id false) (addr
 
   made : complete_after t pair (ending_changes t pair id) ≡ Some (content_with p (l ++ r) move)
   made =
-      ap (λ o. option_and_then complete_content (option_and_then (λ (x : RawContent). changed_content_of x (ending_changes t pair id)) o)) c.is
+      ap (λ o. option_and_then complete_content (option_and_then (λ (x : RawContent). content_with_changes x (ending_changes t pair id)) o)) c.is
       ∙ ap (λ o. option_and_then complete_content o) changed_now
       ∙ completed_from raw_now (remove p.content.slots id) (complete_remove c.raw.slots p.content.slots id parts.slots)
       ∙ ap₂ (λ s (z : Option Tail). Some (record { slots = s; tail = z; move = move })) slots_now (sym parts.tail)
@@ -200,10 +200,10 @@ module _ (t : KeptThread) (pair id : ℕ) (can : CanEndAt t pair id false) (addr
       past (inl a) = among_left (λ y. y ≡ z) w.chain (dirs_at w (q_of ∷ [])) a
       past (inr a) = within_dirs (among_parts (λ y. y ≡ z) (w.before ++ w.left) (p ∷ (w.right ++ w.after)) a)
 
-  pub has_ended : (new : KeptThread) → IsPairCommitted t pair (ending_changes t pair id) new → HasEndedAt t pair id false new
+  pub has_ended : (new : KeptThread) → IsPairCommitted t pair (ending_changes t pair id) new → HasEndedMoveAt t pair id false new
   has_ended new is = go (changed_one t pair (ending_changes t pair id) w p (l ++ r) move turn new is)
     where
-      go : ChangedOne t pair w p (l ++ r) move new → HasEndedAt t pair id false new
+      go : ChangedOne t pair w p (l ++ r) move new → HasEndedMoveAt t pair id false new
       go x =
           let all = subst₂ (λ z qs. IsWritableChange t.disk z new.disk qs (λ t. t) (λ d. d)) (sym h.is) (sym x.pairs) (turned_alone new.disk x.turned) in
           let y = subst (λ m. HasTurned t.disk w p (l ++ r) m new.disk q_of []) move_is x.turned in
@@ -212,8 +212,8 @@ module _ (t : KeptThread) (pair id : ℕ) (can : CanEndAt t pair id false) (addr
           record {
             taken = all;
             state = state;
-            alike = subst (SameSlots (pairs_with t pair (content_move_ended t pair id))) (sym (x.is ∙ ap (λ d. pairs_with t pair d) (ap₂ (λ s (z : Pair). record { slots = s; tail = z.content.tail; move = move })
-                (sym slots_now ∙ ap (λ (z : Pair). remove z.content.slots id) (sym here)) (sym here)))) (alike_itself (pairs_with t pair (content_move_ended t pair id)));
+            alike = subst (SameSlots (pairs_with_content t pair (content_move_ended t pair id))) (sym (x.is ∙ ap (λ d. pairs_with_content t pair d) (ap₂ (λ s (z : Pair). record { slots = s; tail = z.content.tail; move = move })
+                (sym slots_now ∙ ap (λ (z : Pair). remove z.content.slots id) (sym here)) (sym here)))) (alike_itself (pairs_with_content t pair (content_move_ended t pair id)));
             map = x.map;
             blocks = λ b. (let e = ap (λ z. number_occurrences b (used_blocks new.disk z)) x.pairs ∙ ended_count t.disk w p l u r ending new.disk q_of y b ∙ ap (λ z. number_occurrences b (used_blocks t.disk z)) (sym h.is) in omega arith);
             shape = x.shape;

@@ -1,5 +1,5 @@
 -- A rename across pairs after the old slot was read.
-use Rattle.lfs_operations.proofs.Common.{ℕ, ◌≡◌, ◌⊎◌, ◌<◌, length, inl, inr, Bool, true, false, List, ◌∷◌, ◌++◌, Option, None, Some, Result, Err, refl, sym, ap, ap₂, subst, ◌∙◌, arith, PairChange, PutMove, Disk, Blocks, Slot, Pair, Site, Gstate, Path, Tree, gstate_xor, pairs_blocks, with_blocks, HasEitherTree, fault_count, Name, SurvivesLossSince, disk_tree, AreWords, survives_then, LossLeavesAtWorst-read, HoldsAtLosses-read_count, HoldsAtLosses-trans, HoldsAtLosses-weaker, OnlyReadsSince-trans, StayUnprogrammed-read_count, StayUnprogrammed-trans, KeptThread, ThreadView, ThreadReportsErrors, OnlyReadsThread, thread_pair, IfErr, Error, Io, NoMemory, NoSpace, ArePut, LeftByPut, OverfillsPair, HasTwoFree, has_failed_after, CanEditIn, CanEndAfterPut, ArePutAndEnded, SurvivesCommits, ReportsTakingCommits, WritesPairsTwo, tree_moved, CanMoveAcross, clearing_changes, moving_changes, tree_across, gstate_naming, IsReadyImage, nameless_at, NamelessSlot, slot_changes}
+use Rattle.lfs_operations.proofs.Common.{ℕ, ◌≡◌, ◌⊎◌, ◌<◌, length, inl, inr, Bool, true, false, List, ◌∷◌, ◌++◌, Option, None, Some, Result, Err, refl, sym, ap, ap₂, subst, ◌∙◌, arith, ContentChange, PutMove, Disk, Blocks, Slot, Pair, Site, Gstate, Path, Tree, gstate_xor, pairs_blocks, with_blocks, HasEitherTree, fault_count, Name, SurvivesLossSince, disk_tree, AreWords, survives_then, LossLeavesAtWorst-read, HoldsAtLosses-read_count, HoldsAtLosses-trans, HoldsAtLosses-weaker, OnlyReadsSince-trans, StayUnprogrammed-read_count, StayUnprogrammed-trans, KeptThread, ThreadView, ThreadReportsErrors, OnlyReadsThread, thread_pair, IfErr, Error, Io, NoMemory, NoSpace, ArePut, LeftByPut, OverfillsPair, HasTwoFree, has_failed_after, CanEditIn, CanEndAfterPut, ArePutAndEnded, SurvivesCommits, ReportsTakingCommits, WritesPairsTwo, tree_moved, CanMoveAcross, removal_changes, moving_changes, tree_across, gstate_naming, IsReadyImage, nameless_at, NamelessSlot, slot_changes}
 use Rattle.lfs_operations.proofs.Held.{below}
 use Rattle.lfs_operations.proofs.MovPlaced.{IsAimed}
 use Rattle.lfs_operations.proofs.MovRename.{aimed_new}
@@ -11,13 +11,13 @@ use Rattle.lfs_operations.proofs.RenameReadOver.{writes_earlier}
 
 -- ---- the steps
 
-pub changes_are : (t mid : KeptThread) (only : OnlyReadsThread t mid) (replaces sync : Bool) (old_pair old_id new_pair new_id : ℕ) (name : Name) {cs : List PairChange} {m : Gstate} {z : NamelessSlot} → cs ≡ PutMove m ∷ (clearing_changes replaces new_id ++ slot_changes new_id name z)
+pub changes_are : (t mid : KeptThread) (only : OnlyReadsThread t mid) (replaces sync : Bool) (old_pair old_id new_pair new_id : ℕ) (name : Name) {cs : List ContentChange} {m : Gstate} {z : NamelessSlot} → cs ≡ PutMove m ∷ (removal_changes replaces new_id ++ slot_changes new_id name z)
     → m ≡ gstate_xor (gstate_naming sync (thread_pair mid old_pair).at old_id) (thread_pair mid new_pair).content.move → z ≡ nameless_at t old_pair old_id → cs ≡ moving_changes replaces sync t old_pair old_id new_pair new_id name
 changes_are t mid only replaces sync old_pair old_id new_pair new_id name are move parts =
-    are ∙ ap₂ (λ m z. PutMove m ∷ (clearing_changes replaces new_id ++ slot_changes new_id name z))
+    are ∙ ap₂ (λ m z. PutMove m ∷ (removal_changes replaces new_id ++ slot_changes new_id name z))
     (move ∙ ap (λ k. gstate_xor (gstate_naming sync (thread_pair k old_pair).at old_id) (thread_pair k new_pair).content.move) (read_is t mid only)) parts
 
-module _ (t mid : KeptThread) (only : OnlyReadsThread t mid) (old_pair old_id : ℕ) (goes : Bool) (new_pair : ℕ) (changes : List PairChange) where
+module _ (t mid : KeptThread) (only : OnlyReadsThread t mid) (old_pair old_id : ℕ) (goes : Bool) (new_pair : ℕ) (changes : List ContentChange) where
   pub ends_after_read : (last : KeptThread) → CanEndAfterPut t old_pair old_id goes new_pair last → CanEndAfterPut mid old_pair old_id goes new_pair last
   ends_after_read last x = subst (λ k. CanEndAfterPut k old_pair old_id goes new_pair last) (sym (read_is t mid only)) (record { apart = x.apart; grown = x.grown; can = x.can; at = x.at })
 
@@ -102,7 +102,7 @@ only_then a b c x y = record {
   map = y.map ∙ x.map;
 }
 
-pub reports_after_read : {X : Type 0} (old mid new : ThreadView) (index : ℕ) (changes : List PairChange) (r : Result X Error) → OnlyReadsThread old.kept mid.kept → fault_count mid.kept.history ≡ fault_count old.kept.history
+pub reports_after_read : {X : Type 0} (old mid new : ThreadView) (index : ℕ) (changes : List ContentChange) (r : Result X Error) → OnlyReadsThread old.kept mid.kept → fault_count mid.kept.history ≡ fault_count old.kept.history
     → ReportsTakingCommits mid new index changes r → ReportsTakingCommits old new index changes r
 reports_after_read old mid new index changes r only same h = record {
   failed = go h.failed;
@@ -119,7 +119,7 @@ reports_after_read old mid new index changes r only same h = record {
     go (inr (e, o)) = inr (e, only_then old.kept mid.kept new.kept only o)
 
 -- the slot wasn't read
-pub reports_unread : {X Y : Type 0} (old new : ThreadView) (index : ℕ) (changes : List PairChange) (e : Error) (result : Result X Error) (given : Result Y Error) → result ≡ Err e → given ≡ Err e
+pub reports_unread : {X Y : Type 0} (old new : ThreadView) (index : ℕ) (changes : List ContentChange) (e : Error) (result : Result X Error) (given : Result Y Error) → result ≡ Err e → given ≡ Err e
     → new.failed ≡ false → OnlyReadsThread old.kept new.kept → ThreadReportsErrors old.kept new.kept result → ReportsTakingCommits old new index changes given
 reports_unread old new index changes e result given is same works only reported =
     let unread = moves_unread old new index changes e result given is same works only reported in
@@ -134,7 +134,7 @@ reports_unread old new index changes e result given is same works only reported 
     }
 
 -- no room for the changes
-pub reports_unmade : {Y : Type 0} (old new : ThreadView) (index : ℕ) (changes : List PairChange) (given : Result Y Error) → given ≡ Err NoMemory → new.failed ≡ false → OnlyReadsThread old.kept new.kept
+pub reports_unmade : {Y : Type 0} (old new : ThreadView) (index : ℕ) (changes : List ContentChange) (given : Result Y Error) → given ≡ Err NoMemory → new.failed ≡ false → OnlyReadsThread old.kept new.kept
     → fault_count new.kept.history ≡ fault_count old.kept.history → ReportsTakingCommits old new index changes given
 reports_unmade old new index changes given same works only none = record {
   failed = inr (works, only);

@@ -1,5 +1,5 @@
 -- An entry that goes to a place in another pair, by a move that is set first.
-use Rattle.lfs_operations.proofs.Common.{◌≢◌, nat_eq, Bool, ℕ, ◌≡◌, ◌+◌, ◌<◌, ◌⊎◌, inl, inr, true, false, List, [], ◌∷◌, ◌++◌, length, Some, refl, sym, ap, subst, ◌∙◌, arith, append-nil, Option, ◌-◌, ◌≤◌, IsDistinct, PairChange, Disk, IsPairAt, Name, is_valid_name, Slot, gstate_xor, same_pair, Pair, pairs_blocks, pairs_gstate, superblock_first, count_before_root, Path, tree_renaming, IsWritableEntry, IsWritable, IsAccepted, IsTreeEntry, slot_of, IsChangedImage, no_move_from, Each, each_right, last_is, is_site, number_is, same, site, slot_of_stands, thread_is, Site, begin_of, thread_at, IsSite, ends_joined, KeptThread, BeginWithSuperblock, complete_after, thread_pair, IsNoDirectory, target_slots, CanEditIn, gstate_naming, IsRawFormed, drops_with_its_slot, CanPut, ArePut, moving_changes, CanEndAt, HasEndedAt, CanEndAfterPut, ArePutAndEnded, number_after_insertion, tree_moved, disk_tree, ShowsDroppedTree, file_blocks, used_blocks, number_occurrences, Session, path_or_root, CompletesOperation}
+use Rattle.lfs_operations.proofs.Common.{◌≢◌, nat_eq, Bool, ℕ, ◌≡◌, ◌+◌, ◌<◌, ◌⊎◌, inl, inr, true, false, List, [], ◌∷◌, ◌++◌, length, Some, refl, sym, ap, subst, ◌∙◌, arith, append-nil, Option, ◌-◌, ◌≤◌, IsDistinct, ContentChange, Disk, IsPairAt, Name, is_valid_name, Slot, gstate_xor, same_pair, Pair, pairs_blocks, pairs_gstate, superblock_first, count_before_root, Path, tree_renaming, IsWritableEntry, IsWritable, IsAccepted, IsTreeEntry, slot_of, IsChangedImage, no_move_from, Each, each_right, last_is, is_site, number_is, same, site, slot_of_stands, thread_is, Site, begin_of, thread_at, IsSite, ends_joined, KeptThread, BeginWithSuperblock, complete_after, thread_pair, IsNoDirectory, target_slots, CanEditIn, gstate_naming, IsRawFormed, drops_emptied_pair, CanPut, ArePut, moving_changes, CanEndMoveAt, HasEndedMoveAt, CanEndAfterPut, ArePutAndEnded, number_after_insertion, tree_moved, disk_tree, ShowsDroppedTree, file_blocks, used_blocks, number_occurrences, Session, path_or_root, CompletesOperation}
 use Rattle.lfs_operations.proofs.Held.{IsEntryIfOther, each_pair, here, other_entries}
 use Rattle.lfs_operations.proofs.MovSet.{HasTurned, IsSetting, chain_same, walk_by}
 use Rattle.lfs_operations.proofs.MovStep.{IsFirst, first_turned, grown, mid_ends, mid_shows, rename_becomes, rename_completed, rename_once, same_at}
@@ -27,27 +27,27 @@ old_site {t = t} {pair = pair} can = site t.disk t.pairs can.path can.at can.rea
 pub record IsAimed (t : KeptThread) (replaces sync : Bool) (old_pair old_id first new_pair new_id : ℕ) (name : Name) (old : CanEditIn t old_pair old_id) (path : Path) (w : Site) (p : Pair) (l : List Slot) (target : Option Slot) (r : List Slot) : Type 0 where
   pub apart : old_pair ≢ new_pair
   pub can : CanPut t new_pair (moving_changes replaces sync t old_pair old_id new_pair new_id name)
-  pub way : IsFirst t sync old_pair (drops_with_its_slot t old_pair first) new_pair (moving_changes replaces sync t old_pair old_id new_pair new_id name) (old_site old)
+  pub way : IsFirst t sync old_pair (drops_emptied_pair t old_pair first) new_pair (moving_changes replaces sync t old_pair old_id new_pair new_id name) (old_site old)
       old.stands.pair old.stands.stands.left old.stands.stands.slot old.stands.stands.right w p l target (record old.stands.stands.slot { name = name }) r (old.path ++ old.name ∷ []) (path ++ name ∷ []) name
 
 module _ {t : KeptThread} {replaces sync : Bool} {old_pair old_id first new_pair new_id : ℕ} {name : Name} {old : CanEditIn t old_pair old_id} {path : Path} {w : Site} {p : Pair} {l : List Slot} {target : Option Slot} {r : List Slot}
     (a : IsAimed t replaces sync old_pair old_id first new_pair new_id name old path w p l target r) where
-  pub ends_aimed : (mid : KeptThread) → ArePut t new_pair (moving_changes replaces sync t old_pair old_id new_pair new_id name) mid → CanEndAfterPut t old_pair old_id (drops_with_its_slot t old_pair first) new_pair mid
+  pub ends_aimed : (mid : KeptThread) → ArePut t new_pair (moving_changes replaces sync t old_pair old_id new_pair new_id name) mid → CanEndAfterPut t old_pair old_id (drops_emptied_pair t old_pair first) new_pair mid
   ends_aimed mid is =
       let x = first_turned a.way mid is in
       record {
         apart = a.apart;
         grown = grown a.way mid x;
-        can = subst (λ i. CanEndAt mid (number_after_insertion old_pair new_pair (length mid.pairs - length t.pairs)) i (drops_with_its_slot t old_pair first)) old.stands.stands.number (mid_ends a.way mid x);
+        can = subst (λ i. CanEndMoveAt mid (number_after_insertion old_pair new_pair (length mid.pairs - length t.pairs)) i (drops_emptied_pair t old_pair first)) old.stands.stands.number (mid_ends a.way mid x);
         at = same_at a.way mid x;
       }
 
   pub shows_aimed : (mid : KeptThread) → ArePut t new_pair (moving_changes replaces sync t old_pair old_id new_pair new_id name) mid → disk_tree mid.disk mid.pairs ≡ tree_moved t old.path old.name path name
   shows_aimed mid is = mid_shows a.way mid (first_turned a.way mid is)
 
-  module _ {new : KeptThread} (is : ArePutAndEnded t old_pair old_id (drops_with_its_slot t old_pair first) new_pair (moving_changes replaces sync t old_pair old_id new_pair new_id name) new) where
-    pub ended_aimed : HasEndedAt is.mid (number_after_insertion old_pair new_pair (length is.mid.pairs - length t.pairs)) (length old.stands.stands.left) (drops_with_its_slot t old_pair first) new
-    ended_aimed = subst (λ i. HasEndedAt is.mid (number_after_insertion old_pair new_pair (length is.mid.pairs - length t.pairs)) i (drops_with_its_slot t old_pair first) new) (sym old.stands.stands.number) is.ended
+  module _ {new : KeptThread} (is : ArePutAndEnded t old_pair old_id (drops_emptied_pair t old_pair first) new_pair (moving_changes replaces sync t old_pair old_id new_pair new_id name) new) where
+    pub ended_aimed : HasEndedMoveAt is.mid (number_after_insertion old_pair new_pair (length is.mid.pairs - length t.pairs)) (length old.stands.stands.left) (drops_emptied_pair t old_pair first) new
+    ended_aimed = subst (λ i. HasEndedMoveAt is.mid (number_after_insertion old_pair new_pair (length is.mid.pairs - length t.pairs)) i (drops_emptied_pair t old_pair first) new) (sym old.stands.stands.number) is.ended
 
     pub shows_moved : sync ≡ false → ShowsDroppedTree t new (tree_moved t old.path old.name path name) (file_blocks t.disk (target_slots target))
     shows_moved plain = rename_becomes a.way is.mid (first_turned a.way is.mid is.put) new ended_aimed plain
@@ -62,7 +62,7 @@ module _ {t : KeptThread} {replaces sync : Bool} {old_pair old_id first new_pair
 module _ (t : KeptThread) (old_pair old_id first new_pair : ℕ) (can : CanEditIn t old_pair old_id) (begins_old : can.first ≡ first)
     (w : Site) (p : Pair) (l : List Slot) (target : Option Slot) (r : List Slot) (name : Name) (k : IsPlaceInOtherPair t old_pair old_id new_pair can w p l target r name) where
   abbrev goes : Bool
-  goes = drops_with_its_slot t old_pair first
+  goes = drops_emptied_pair t old_pair first
 
   abbrev q : Pair
   q = can.stands.pair
@@ -142,7 +142,7 @@ module _ (t : KeptThread) (old_pair old_id first new_pair : ℕ) (can : CanEditI
       let k = stands_whole t old_pair old_id first can begins_old whole in
       (flag_whole t old_pair old_id first can begins_old whole, ap length k.held)
 
-  pub first_of : (sync : Bool) (changes : List PairChange) (path : Path)
+  pub first_of : (sync : Bool) (changes : List ContentChange) (path : Path)
       → complete_after t new_pair changes ≡ Some (content_with p (l ++ v ∷ r) (gstate_xor (gstate_naming sync q.at (length lo)) p.content.move))
       → ((disk : Disk) (x : Pair) (more : List Pair) → HasTurned t.disk w p (l ++ v ∷ r) (gstate_xor (gstate_naming sync q.at (length lo)) p.content.move) disk x more
       → IsChangedImage t.disk (thread_at w (p ∷ [])) disk (thread_at w (x ∷ more)) (tree_renaming (can.path ++ can.name ∷ []) (path ++ name ∷ [])) (walk_by (can.path ++ can.name ∷ []) (path ++ name ∷ [])))

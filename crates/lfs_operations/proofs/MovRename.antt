@@ -1,5 +1,5 @@
 -- What the first step of a rename across pairs makes of the pair that the entry comes into.
-use Rattle.lfs_operations.proofs.Common.{Bool, ℕ, ◌≡◌, ◌<◌, true, false, List, [], ◌∷◌, ◌++◌, length, None, Some, refl, sym, ap, ap₂, subst, ◌∙◌, arith, length-append, insert, xor_lt, sum_by-append, PairChange, PutMove, changed_content_of, RawContent, RawSlot, complete_slots, complete_content, raw_content, CanSplit, Disk, BelongsAt, IsDirectoryPair, AreWords, MoveStateFits, Name, is_valid_name, Slot, FitsInPair, Gstate, gstate_xor, slot_size, Pair, tail_target, Path, tree_renaming, without_prefix, IsWritableEntry, LeadsTo, all_entries, IsChangedImage, no_move_from, IsCompleted, complete_insert, complete_length, completed_from, completed_parts, does_first, puts_move, content_cut, entry_small, nothing_there, insert_here, place_at, IsPlace, is_site, number_is, place_of_belongs, same, site, thread_is, Site, thread_at, logged_changed, changed_pair, KeptThread, complete_after, thread_pair, option_and_then, IsPairTouched, CanPut, CanEditIn, gstate_naming, CanRenameAcross, IsRenamedAcross, IsRawFormed, drops_with_its_slot, NamelessSlot, nameless_at, nameless_of, slot_changes, moving_changes, IsMovedAcross}
+use Rattle.lfs_operations.proofs.Common.{Bool, ℕ, ◌≡◌, ◌<◌, true, false, List, [], ◌∷◌, ◌++◌, length, None, Some, refl, sym, ap, ap₂, subst, ◌∙◌, arith, length-append, insert, xor_lt, sum_by-append, ContentChange, PutMove, content_with_changes, RawContent, RawSlot, complete_slots, complete_content, raw_content, AreSplittable, Disk, BelongsAt, IsDirectoryPair, AreWords, MoveStateFits, Name, is_valid_name, Slot, FitsInPair, Gstate, gstate_xor, slot_size, Pair, tail_target, Path, tree_renaming, without_prefix, IsWritableEntry, LeadsTo, all_entries, IsChangedImage, no_move_from, IsCompleted, complete_insert, complete_length, completed_from, completed_parts, does_first, puts_move, content_cut, entry_small, nothing_there, insert_here, place_at, IsPlace, is_site, number_is, place_of_belongs, same, site, thread_is, Site, thread_at, logged_changed, changed_pair_content, KeptThread, complete_after, thread_pair, option_and_then, IsPairTouched, CanPut, CanEditIn, gstate_naming, CanRenameAcross, IsRenamedAcross, IsRawFormed, drops_emptied_pair, NamelessSlot, nameless_at, nameless_of, slot_changes, moving_changes, IsMovedAcross}
 use Rattle.lfs_operations.proofs.AlteredAcross.{moved_alters}
 use Rattle.lfs_operations.proofs.Held.{CompletesTo, below, fits_there, here, raw_there}
 use Rattle.lfs_operations.proofs.MovSet.{HasTurned, set_new, walk_by}
@@ -71,9 +71,9 @@ module _ (sync : Bool) (t : KeptThread) (old_pair old_id new_pair : ℕ) (can : 
   abbrev pub raw_mid : RawContent
   raw_mid = record c.raw { move = move }
 
-  module _ (front : List PairChange) (a b : List Slot) (left : Leaves raw_mid front (a ++ b)) (fits_left : FitsInPair t.disk.block_size t.disk.page (record p.content { slots = a ++ b }))
+  module _ (front : List ContentChange) (a b : List Slot) (left : Leaves raw_mid front (a ++ b)) (fits_left : FitsInPair t.disk.block_size t.disk.page (record p.content { slots = a ++ b }))
       (at : ℕ) (number : length a ≡ at) (name : Name) (named : is_valid_name name ≡ true) (fits : IsWritableEntry t.disk.profile t.disk.block_size t.disk.page (record u { name = name })) where
-    abbrev pub changes : List PairChange
+    abbrev pub changes : List ContentChange
     changes = PutMove move ∷ (front ++ slot_changes at name (nameless_at t old_pair old_id))
 
     abbrev pub moved : Slot
@@ -88,15 +88,15 @@ module _ (sync : Bool) (t : KeptThread) (old_pair old_id new_pair : ℕ) (can : 
     length_left : length left.left.slots ≡ length (a ++ b)
     length_left = sym (complete_length left.left.slots (a ++ b) left.are)
 
-    changed_now : changed_content_of c.raw changes ≡ Some raw_now
+    changed_now : content_with_changes c.raw changes ≡ Some raw_now
     changed_now = does_first (PutMove move) (front ++ slot_changes at name (nameless_at t old_pair old_id)) c.raw raw_mid raw_now (puts_move c.raw move is_state)
         (left.does (slot_changes at name (nameless_at t old_pair old_id)) raw_now
-        (ap (λ (z : NamelessSlot). changed_content_of left.left (slot_changes at name z)) source.is
+        (ap (λ (z : NamelessSlot). content_with_changes left.left (slot_changes at name z)) source.is
         ∙ slot_comes left.left at name (nameless_of source.raw) (let n = fits_left.count in let k = length-append a b in omega arith)
         (let k = length-append a b in let l = length_left in omega arith) (name_length name named) source.of.are))
 
-    made_raw : changed_pair t.disk (thread_pair t new_pair).at changes ≡ Some raw_now
-    made_raw = ap (λ o. option_and_then (λ (x : RawContent). changed_content_of x changes) o) c.is ∙ changed_now
+    made_raw : changed_pair_content t.disk (thread_pair t new_pair).at changes ≡ Some raw_now
+    made_raw = ap (λ o. option_and_then (λ (x : RawContent). content_with_changes x changes) o) c.is ∙ changed_now
 
     slots_now : complete_slots raw_now.slots ≡ Some (a ++ moved ∷ b)
     slots_now = complete_insert left.left.slots (a ++ b) at raw_moved moved left.are (source.of.complete name) ∙ ap (λ (i : ℕ). Some (insert (a ++ b) i moved)) (sym number) ∙ ap Some (insert_here a b moved)
@@ -109,7 +109,7 @@ module _ (sync : Bool) (t : KeptThread) (old_pair old_id new_pair : ℕ) (can : 
     pub made : complete_after t new_pair changes ≡ Some (content_with p (a ++ moved ∷ b) delta)
     made = ap (λ o. option_and_then complete_content o) made_raw ∙ now_complete
 
-    cut : CanSplit t.disk.block_size t.disk.page raw_now.slots
+    cut : AreSplittable t.disk.block_size t.disk.page raw_now.slots
     cut = content_cut t.disk.block_size t.disk.page raw_now (content_with p (a ++ moved ∷ b) delta) a moved b (logged_changed c.raw changes raw_now (logged c.raw c.is) changed_now) now_complete refl
         (entry_small t.disk.profile t.disk.block_size t.disk.page moved can.ready.large fits)
         (let f = fits_left.size in let k = sum_by-append slot_size a b in omega arith)
@@ -135,7 +135,7 @@ module _ (sync : Bool) (t : KeptThread) (old_pair old_id first new_pair new_id :
   can = rename.old
 
   abbrev goes : Bool
-  goes = drops_with_its_slot t old_pair first
+  goes = drops_emptied_pair t old_pair first
 
   abbrev b : BelongsAt t.disk.order t.pairs rename.to_first name new_pair new_id
   b = rename.belongs

@@ -1,5 +1,5 @@
 -- A rename across pairs onto an entry, from where both stand.
-use Rattle.lfs_operations.proofs.Common.{Bool, ℕ, ◌≡◌, ◌+◌, ◌<◌, ◌≤◌, true, false, List, [], ◌∷◌, ◌++◌, length, Some, refl, sym, ap, subst, ◌∙◌, arith, append-nil, length-append, Delete, complete_slots, Disk, IsPlaceOf, AreWords, Name, is_valid_name, Slot, FitsInPair, gstate_xor, Pair, Path, tree_renaming, without_prefix, struct_blocks, LeadsTo, used_blocks, IsChangedImage, no_move_from, completed_parts, Each, each_right, number_occurrences, is_site, number_is, same, site, slot_of_stands, thread_is, Site, thread_at, KeptThread, thread_pair, CanPut, CanEditIn, gstate_naming, tree_moved, CanReplaceEntryAcross, CanReplaceFileAcross, CanReplaceDirectoryAcross, IsFileReplaced, ShowsDroppedTree, drops_with_its_slot, moving_changes, IsMovedAcross}
+use Rattle.lfs_operations.proofs.Common.{Bool, ℕ, ◌≡◌, ◌+◌, ◌<◌, ◌≤◌, true, false, List, [], ◌∷◌, ◌++◌, length, Some, refl, sym, ap, subst, ◌∙◌, arith, append-nil, length-append, Delete, complete_slots, Disk, IsPlaceOf, AreWords, Name, is_valid_name, Slot, FitsInPair, gstate_xor, Pair, Path, tree_renaming, without_prefix, struct_blocks, LeadsTo, used_blocks, IsChangedImage, no_move_from, completed_parts, Each, each_right, number_occurrences, is_site, number_is, same, site, slot_of_stands, thread_is, Site, thread_at, KeptThread, thread_pair, CanPut, CanEditIn, gstate_naming, tree_moved, CanReplaceEntryAcross, CanReplaceFileAcross, CanReplaceDirectoryAcross, IsFileReplaced, ShowsDroppedTree, drops_emptied_pair, moving_changes, IsMovedAcross}
 use Rattle.lfs_operations.proofs.Held.{IsEntryIfOther, each_pair, fits_there, other_entries}
 use Rattle.lfs_operations.proofs.MovSet.{HasTurned, set_onto, walk_by}
 use Rattle.lfs_operations.proofs.MovStep.{IsFirst}
@@ -50,7 +50,7 @@ module _ (sync : Bool) (t : KeptThread) (old_pair old_id first new_pair new_id :
   can = rename.old
 
   abbrev goes : Bool
-  goes = drops_with_its_slot t old_pair first
+  goes = drops_emptied_pair t old_pair first
 
   abbrev b : IsPlaceOf t.pairs rename.to_first name new_pair new_id
   b = rename.target

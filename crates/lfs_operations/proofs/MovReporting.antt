@@ -1,5 +1,5 @@
 -- What two steps tell, one after the other, and what a stop in them leaves.
-use Rattle.lfs_operations.proofs.Common.{ℕ, zero, suc, ◌≡◌, ◌≢◌, ◌+◌, ◌-◌, ◌<◌, ◌≤◌, ◌⊎◌, inl, inr, Bool, true, false, cond, List, [], ◌∷◌, length, Result, Ok, Err, refl, sym, ap, subst, ◌∙◌, arith, get_or, insert, length-set, set, take, cases_lt, le-ltb, lt-ltb, All-from_recursion, recursion_from_All, PairChange, Disk, CallEvent, AllCallsSince, fault_count, Blocks, HasEitherTree as IsLeftOf, SurvivesLossSince, with_blocks, Pair, pairs_from_root, count_before_root, address_blocks, addresses_blocks, disk_tree, survives_then, HoldsAtLosses-weaker, ends_joined, CleanLossLeaves, KeptThread, ThreadView, SameGeometryAs, IsPairCommitted, ChangesThreadBlocks, back_pair, front_pair, empty_anchor, thread_pair, All, IfErr, IsErrOf, is_err, nat_lt, Error, Io, NoMemory, NoSpace, AreTwoFree, IsSplitInto, LeftByPut, ArePut, WritesPairTwo, has_failed_after, written_by_ending, continues_directory, CanEndAfterPut, SurvivesCommits, ReportsTakingCommits, WritesPairsTwo, number_after_insertion, ReportsCommit}
+use Rattle.lfs_operations.proofs.Common.{ℕ, zero, suc, ◌≡◌, ◌≢◌, ◌+◌, ◌-◌, ◌<◌, ◌≤◌, ◌⊎◌, inl, inr, Bool, true, false, cond, List, [], ◌∷◌, length, Result, Ok, Err, refl, sym, ap, subst, ◌∙◌, arith, get_or, insert, length-set, set, take, cases_lt, le-ltb, lt-ltb, All-from_recursion, recursion_from_All, ContentChange, Disk, CallEvent, AllCallsSince, fault_count, Blocks, HasEitherTree as IsLeftOf, SurvivesLossSince, with_blocks, Pair, pairs_from_root, count_before_root, address_blocks, addresses_blocks, disk_tree, survives_then, HoldsAtLosses-weaker, ends_joined, CleanLossLeaves, KeptThread, ThreadView, SameGeometryAs, IsPairCommitted, ChangesThreadBlocks, back_pair, front_pair, empty_anchor, thread_pair, All, IfErr, IsErrOf, is_err, nat_lt, Error, Io, NoMemory, NoSpace, AreTwoFree, IsSplitInto, LeftByPut, ArePut, WritesPairTwo, has_failed_after, ending_written_pair, continues_directory, CanEndAfterPut, SurvivesCommits, ReportsTakingCommits, WritesPairsTwo, number_after_insertion, ReportsCommit}
 use Rattle.lfs_operations.proofs.Putting.{writes_trans, writes_wider}
 
 failing : (e : Error) → (e ≡ Io) ⊎ (e ≡ NoMemory) → has_failed_after {X = Unit {0}} (Err e) ≡ true
@@ -11,7 +11,7 @@ not_space (Ok x) h e = absurd (cc)
 not_space (Err e) (inl h) k = let z : e ≡ NoSpace = cc in absurd (let w = sym h ∙ z in cc)
 not_space (Err e) (inr h) k = let z : e ≡ NoSpace = cc in absurd (let w = sym h ∙ z in cc)
 
-pub reports_of_end : (old mid new : ThreadView) (index : ℕ) (changes : List PairChange) (r : Result (Unit {0}) Error) → fault_count mid.kept.history ≡ fault_count old.kept.history → ReportsCommit mid new r → ReportsTakingCommits old new index changes r
+pub reports_of_end : (old mid new : ThreadView) (index : ℕ) (changes : List ContentChange) (r : Result (Unit {0}) Error) → fault_count mid.kept.history ≡ fault_count old.kept.history → ReportsCommit mid new r → ReportsTakingCommits old new index changes r
 reports_of_end old mid new index changes r same h = record {
   failed = inl (go r h.failed h.reported.errors);
   errors = wider r h.reported.errors;
@@ -117,7 +117,7 @@ next_to i o apart a b = go (cases_lt o i)
 
 -- Where the first step has put the changes, the second one writes the pair in front of the old one: that is a pair that stood
 -- there, or a fresh one.
-module _ (old mid new : KeptThread) (index other : ℕ) (changes : List PairChange) (put : ArePut old other changes mid) (below : other < length old.pairs) (apart : index ≢ other)
+module _ (old mid new : KeptThread) (index other : ℕ) (changes : List ContentChange) (put : ArePut old other changes mid) (below : other < length old.pairs) (apart : index ≢ other)
     (above : 0 < number_after_insertion index other (length mid.pairs - length old.pairs))
     (first : WritesPairTwo old other mid) (second : ChangesThreadBlocks (address_blocks (thread_pair mid (number_after_insertion index other (length mid.pairs - length old.pairs) - 1)).at) mid new) where
   abbrev place : ℕ
@@ -203,8 +203,8 @@ not_first ps zero e = absurd (let z : ends_joined false (take (0 - count_before_
     let w = sym z ∙ ap (λ (i : ℕ). ends_joined false (take i (pairs_from_root ps))) k in cc)
 not_first ps (suc n) e = omega arith
 
-pub writes_at_end : (old mid new : KeptThread) (old_pair old_id : ℕ) (goes : Bool) (new_pair : ℕ) (changes : List PairChange) → ArePut old new_pair changes mid → new_pair < length old.pairs → CanEndAfterPut old old_pair old_id goes new_pair mid
-    → WritesPairTwo old new_pair mid → ChangesThreadBlocks (address_blocks (thread_pair mid (written_by_ending (number_after_insertion old_pair new_pair (length mid.pairs - length old.pairs)) goes)).at) mid new → WritesPairsTwo old (written_by_ending old_pair goes) new_pair new
+pub writes_at_end : (old mid new : KeptThread) (old_pair old_id : ℕ) (goes : Bool) (new_pair : ℕ) (changes : List ContentChange) → ArePut old new_pair changes mid → new_pair < length old.pairs → CanEndAfterPut old old_pair old_id goes new_pair mid
+    → WritesPairTwo old new_pair mid → ChangesThreadBlocks (address_blocks (thread_pair mid (ending_written_pair (number_after_insertion old_pair new_pair (length mid.pairs - length old.pairs)) goes)).at) mid new → WritesPairsTwo old (ending_written_pair old_pair goes) new_pair new
 unfolding writes_both
 writes_at_end old mid new old_pair old_id false new_pair changes put below ends first second =
     writes_both old mid new old_pair new_pair (number_after_insertion old_pair new_pair (length mid.pairs - length old.pairs)) ends.at first second
@@ -216,7 +216,7 @@ writes_at_end old mid new old_pair old_id true new_pair changes put below ends f
 same_disk : (old new : Disk) (blocks : Blocks) → SameGeometryAs old new → with_blocks blocks new ≡ with_blocks blocks old
 same_disk old new blocks h = λ j. record { block_size = h.block_size j; page = h.page j; order = h.order j; profile = h.profile j; blocks = blocks }
 
-pub survives_both : (old mid new : KeptThread) (index : ℕ) (changes : List PairChange) {P : CallEvent → Type 0} → ArePut old index changes mid → CleanLossLeaves old.history mid.history (LeftByPut old index changes)
+pub survives_both : (old mid new : KeptThread) (index : ℕ) (changes : List ContentChange) {P : CallEvent → Type 0} → ArePut old index changes mid → CleanLossLeaves old.history mid.history (LeftByPut old index changes)
     → WritesPairTwo old index mid → AllCallsSince P mid.history new.history → SurvivesLossSince mid.disk mid.history new.history (disk_tree mid.disk mid.pairs) (disk_tree mid.disk mid.pairs) → SurvivesCommits old index changes new
 survives_both old mid new index changes put stops w since second before after first shows =
     survives_then old.disk old.history mid.history new.history before after w.writes.at_worst since (first mid.history stops) (λ clean. HoldsAtLosses-weaker left (second clean))

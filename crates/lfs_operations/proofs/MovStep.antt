@@ -1,5 +1,5 @@
 -- The first step of a rename across pairs, as a step of the thread, and what the second one makes of it.
-use Rattle.lfs_operations.proofs.Common.{ℕ, ◌≡◌, ◌≢◌, ◌+◌, ◌-◌, ◌<◌, ◌≤◌, ◌⊎◌, inl, inr, Bool, true, false, cond, take, List, [], ◌∷◌, ◌++◌, length, Option, Some, refl, sym, ap, ap₂, subst, ◌∙◌, arith, append_assoc, length-append, get_or, set, remove, le-ltb, lt-ltb, Blocks, AreUsed, Free, InFlight, PairChange, content_after, current_of_two, empty_raw_content, raw_content, block_count, Disk, disk_block, block_entries, Name, HasEitherTree as IsLeftOf, with_blocks, Slot, Gstate, gstate_xor, zero_gstate, same_pair, slot_of, Pair, pairs_blocks, pairs_gstate, is_hard_tail, count_before_root, Path, Tree, last_name, tree_renaming, Session, path_or_root, all_directories, all_unmoved_slots, struct_blocks, disk_tree, used_blocks, IsAccepted, IsWritable, flat_map, SameSlots, IsChangedImage, rearranged_chain, CompletesOperation, number_occurrences, count_append, count_here, once_from_distinct, remove_here, directory_addresses, set_rearranged, pair_itself, IsNoDirectory, target_slots, AnyByRecursion, Site, among_left, among_parts, among_right, dirs_at, thread_at, file_blocks, IsWritableChange, IsChain, pairs_behind, OldStays, from_old, two, ends_joined, KeptThread, SameGeometryAs, empty_anchor, thread_pair, option_and_then, taken_then, LeftByPut, ArePut, ShowsDroppedTree, SameInFlight, CanEndAt, HasEndedAt, dropped_by_ending, content_move_ended, continues_directory, gstate_naming, pairs_move_ended, number_after_insertion, IsRawFormed, IsReadyImage, KeepsRootNumber, gstate_without_move}
+use Rattle.lfs_operations.proofs.Common.{ℕ, ◌≡◌, ◌≢◌, ◌+◌, ◌-◌, ◌<◌, ◌≤◌, ◌⊎◌, inl, inr, Bool, true, false, cond, take, List, [], ◌∷◌, ◌++◌, length, Option, Some, refl, sym, ap, ap₂, subst, ◌∙◌, arith, append_assoc, length-append, get_or, set, remove, le-ltb, lt-ltb, Blocks, AreUsed, Free, InFlight, ContentChange, content_after, current_of_two, empty_raw_content, raw_content, block_count, Disk, disk_block, block_entries, Name, HasEitherTree as IsLeftOf, with_blocks, Slot, Gstate, gstate_xor, zero_gstate, same_pair, slot_of, Pair, pairs_blocks, pairs_gstate, is_hard_tail, count_before_root, Path, Tree, last_name, tree_renaming, Session, path_or_root, all_directories, all_unmoved_slots, struct_blocks, disk_tree, used_blocks, IsAccepted, IsWritable, flat_map, SameSlots, IsChangedImage, rearranged_chain, CompletesOperation, number_occurrences, count_append, count_here, once_from_distinct, remove_here, directory_addresses, set_rearranged, pair_itself, IsNoDirectory, target_slots, AnyByRecursion, Site, among_left, among_parts, among_right, dirs_at, thread_at, file_blocks, IsWritableChange, IsChain, pairs_behind, OldStays, from_old, two, ends_joined, KeptThread, SameGeometryAs, empty_anchor, thread_pair, option_and_then, taken_then, LeftByPut, ArePut, ShowsDroppedTree, SameInFlight, CanEndMoveAt, HasEndedMoveAt, ending_dropped_blocks, content_move_ended, continues_directory, gstate_naming, pairs_move_ended, number_after_insertion, IsRawFormed, IsReadyImage, KeepsRootNumber, gstate_without_move}
 use Rattle.lfs_model.specs.session.Operations as ops
 use Rattle.lfs_model.proofs.LeftFiles.{ends_same}
 use Rattle.lfs_operations.proofs.Dropped.{HasMapWithout, map_ended}
@@ -35,7 +35,7 @@ led_at chain pre back i is_chain number =
 -- ---- what is known before
 
 -- The changes put the slot v into the pair p at the site w, and set a move that hides u in the pair o at the site wo.
-pub record IsFirst (t : KeptThread) (sync : Bool) (old_pair : ℕ) (goes : Bool) (new_pair : ℕ) (changes : List PairChange) (wo : Site) (o : Pair) (lo : List Slot) (u : Slot) (ro : List Slot) (w : Site) (p : Pair) (l : List Slot) (target : Option Slot) (v : Slot) (r : List Slot)
+pub record IsFirst (t : KeptThread) (sync : Bool) (old_pair : ℕ) (goes : Bool) (new_pair : ℕ) (changes : List ContentChange) (wo : Site) (o : Pair) (lo : List Slot) (u : Slot) (ro : List Slot) (w : Site) (p : Pair) (l : List Slot) (target : Option Slot) (v : Slot) (r : List Slot)
     (old_path new_path : Path) (name : Name) : Type 0 where
   pub ready : IsReadyImage t
   pub turn : IsTurn t new_pair changes w p (l ++ v ∷ r) (gstate_xor (gstate_naming sync o.at (length lo)) p.content.move)
@@ -54,7 +54,7 @@ pub record IsFirst (t : KeptThread) (sync : Bool) (old_pair : ℕ) (goes : Bool)
   pub to_name : last_name new_path ≡ name
   pub file : sync ≡ false → IsNoDirectory target
 
-module _ {t : KeptThread} {sync : Bool} {old_pair : ℕ} {goes : Bool} {new_pair : ℕ} {changes : List PairChange} {wo : Site} {o : Pair} {lo : List Slot} {u : Slot} {ro : List Slot} {w : Site} {p : Pair} {l : List Slot} {target : Option Slot} {v : Slot} {r : List Slot}
+module _ {t : KeptThread} {sync : Bool} {old_pair : ℕ} {goes : Bool} {new_pair : ℕ} {changes : List ContentChange} {wo : Site} {o : Pair} {lo : List Slot} {u : Slot} {ro : List Slot} {w : Site} {p : Pair} {l : List Slot} {target : Option Slot} {v : Slot} {r : List Slot}
     {old_path new_path : Path} {name : Name} (k : IsFirst t sync old_pair goes new_pair changes wo o lo u ro w p l target v r old_path new_path name) where
   abbrev ps : List Pair
   ps = thread_at w (p ∷ [])
@@ -203,7 +203,7 @@ module _ {t : KeptThread} {sync : Bool} {old_pair : ℕ} {goes : Bool} {new_pair
     led_same : continues_directory mid.pairs index ≡ ends_joined false (wo.before ++ wo.left)
     led_same = ap (λ z. continues_directory z index) mid_is ∙ led_at w.chain arr.pre (o ∷ arr.post) index mid_chain index_is ∙ arr.led
 
-    pub mid_ends : CanEndAt mid (number_after_insertion old_pair new_pair (length mid.pairs - length t.pairs)) (length lo) goes
+    pub mid_ends : CanEndMoveAt mid (number_after_insertion old_pair new_pair (length mid.pairs - length t.pairs)) (length lo) goes
     mid_ends = record {
       accepted = subst (IsAccepted mid.disk) (sym x.pairs) taken.follows.accepted;
       writable = subst (IsWritable mid.disk) (sym x.pairs) taken.writable;
@@ -232,7 +232,7 @@ module _ {t : KeptThread} {sync : Bool} {old_pair : ℕ} {goes : Bool} {new_pair
 
     -- ---- after the second step
 
-    module _ (last : KeptThread) (e : HasEndedAt mid (number_after_insertion old_pair new_pair (length mid.pairs - length t.pairs)) (length lo) goes last) where
+    module _ (last : KeptThread) (e : HasEndedMoveAt mid (number_after_insertion old_pair new_pair (length mid.pairs - length t.pairs)) (length lo) goes last) where
       abbrev o2 : Pair
       o2 = record { at = (thread_pair mid index).at; content = content_move_ended mid index (length lo) }
 
@@ -329,7 +329,7 @@ module _ {t : KeptThread} {sync : Bool} {old_pair : ℕ} {goes : Bool} {new_pair
       abbrev kept : List ℕ
       kept = used_blocks last.disk last.pairs ++ gone
 
-      before_last : (b : ℕ) → number_occurrences b kept + number_occurrences b (dropped_by_ending mid index goes) ≡ number_occurrences b (pairs_blocks x.more ++ used_blocks t.disk t.pairs)
+      before_last : (b : ℕ) → number_occurrences b kept + number_occurrences b (ending_dropped_blocks mid index goes) ≡ number_occurrences b (pairs_blocks x.more ++ used_blocks t.disk t.pairs)
       before_last b =
           let a = e.blocks b in
           let c = ap (λ z. number_occurrences b (used_blocks mid.disk z)) x.pairs in

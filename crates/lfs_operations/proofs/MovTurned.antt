@@ -1,5 +1,5 @@
 -- A pair of an accepted image that is changed, or split, and gets any delta of the global state.
-use Rattle.lfs_operations.proofs.Common.{ℕ, zero, suc, ◌≡◌, ◌+◌, ◌<◌, ◌≤◌, ◌⊎◌, inl, inr, Bool, true, false, cond, eqb-true, nat_eq, List, [], ◌∷◌, ◌++◌, length, take, drop, Some, refl, sym, ap, subst, ◌∙◌, arith, append-nil, slice_get, IsDistinct, same_Some, take-append-drop, All-from_recursion, recursion_from_All, Blocks, AreUsed, BlockStates, IsFree, IsInFlight, PairChange, content_at, current_block, Disk, block_count, with_blocks, Slot, PairContent, Gstate, FitsInPair, gstate_xor, pair_with_slots, Pair, pairs_blocks, pairs_gstate, BeginsWith, superblock_entry, IsAccepted, used_blocks, fits_same, each_right, number_occurrences, gstate_cons, gstate_left, gstate_right, Site, thread_at, IsSite, IsDevice, HasFirst, KeepsOutsideBoth, KeptThread, thread_pair, complete_after, pairs_with, BothOnDisk, SameGeometryAs, HasOldPair, IsPairCommitted, LossLeavesPair, IsPairWritten, BeginWithSuperblock, front_pair, back_pair, PartsFit, All, AreTwoFree, IsSplitInto, LeftByPut, ArePut, OverfillsPair, AddsNoneInFlight, KeepsTakenStates}
+use Rattle.lfs_operations.proofs.Common.{ℕ, zero, suc, ◌≡◌, ◌+◌, ◌<◌, ◌≤◌, ◌⊎◌, inl, inr, Bool, true, false, cond, eqb-true, nat_eq, List, [], ◌∷◌, ◌++◌, length, take, drop, Some, refl, sym, ap, subst, ◌∙◌, arith, append-nil, slice_get, IsDistinct, same_Some, take-append-drop, All-from_recursion, recursion_from_All, Blocks, AreUsed, BlockStates, IsFree, IsInFlight, ContentChange, content_at, current_block, Disk, block_count, with_blocks, Slot, PairContent, Gstate, FitsInPair, gstate_xor, pair_with_slots, Pair, pairs_blocks, pairs_gstate, BeginsWith, superblock_entry, IsAccepted, used_blocks, fits_same, each_right, number_occurrences, gstate_cons, gstate_left, gstate_right, Site, thread_at, IsSite, IsDevice, HasFirst, KeepsOutsideBoth, KeptThread, thread_pair, complete_after, pairs_with_content, SplitOnDisk, SameGeometryAs, HasOldPair, IsPairCommitted, LossLeavesPair, IsPairWritten, BeginWithSuperblock, front_pair, back_pair, PartsFit, All, AreTwoFree, IsSplitInto, LeftByPut, ArePut, OverfillsPair, AddsNoneInFlight, KeepsTakenStates}
 use Rattle.lfs_operations.proofs.Owning.{length_now, none_comes_now, stay_taken, used_more}
 use Rattle.lfs_operations.proofs.Placing.{IsPlaced, device}
 use Rattle.lfs_operations.proofs.Threads as thread
@@ -33,7 +33,7 @@ abbrev pub content_with : Pair → List Slot → Gstate → PairContent
 content_with p slots move = record { slots = slots; tail = p.content.tail; move = move }
 
 -- At the site stands the pair of that number, and the changes give it these slots and that delta.
-pub record IsTurn (t : KeptThread) (index : ℕ) (changes : List PairChange) (w : Site) (p : Pair) (slots : List Slot) (move : Gstate) : Type 0 where
+pub record IsTurn (t : KeptThread) (index : ℕ) (changes : List ContentChange) (w : Site) (p : Pair) (slots : List Slot) (move : Gstate) : Type 0 where
   pub accepted : IsAccepted t.disk t.pairs
   pub there : t.pairs ≡ thread_at w (p ∷ [])
   pub place : index ≡ length w.chain + length (w.before ++ w.left)
@@ -69,11 +69,11 @@ pub record TurnedTo (t : KeptThread) (w : Site) (p : Pair) (slots : List Slot) (
 pub record ChangedOne (t : KeptThread) (index : ℕ) (w : Site) (p : Pair) (slots : List Slot) (move : Gstate) (new : KeptThread) : Type 0 where
   pub turned : HasTurned t.disk w p slots move new.disk (record { at = p.at; content = content_with p slots move }) []
   pub pairs : new.pairs ≡ thread_at w (record { at = p.at; content = content_with p slots move } ∷ [])
-  pub is : new.pairs ≡ pairs_with t index (content_with p slots move)
+  pub is : new.pairs ≡ pairs_with_content t index (content_with p slots move)
   pub map : new.map ≡ t.map
   pub shape : SameGeometryAs t.disk new.disk
 
-module _ (t : KeptThread) (index : ℕ) (changes : List PairChange) (w : Site) (p : Pair) (slots : List Slot) (move : Gstate) (k : IsTurn t index changes w p slots move) where
+module _ (t : KeptThread) (index : ℕ) (changes : List ContentChange) (w : Site) (p : Pair) (slots : List Slot) (move : Gstate) (k : IsTurn t index changes w p slots move) where
   abbrev ps : List Pair
   ps = thread_at w (p ∷ [])
 
@@ -159,7 +159,7 @@ module _ (t : KeptThread) (index : ℕ) (changes : List PairChange) (w : Site) (
       record {
         turned = turned_one new.disk (subst (λ d. IsPairWritten t index d new.disk) same is.written) (subst (FitsInPair t.disk.block_size t.disk.page) same is.fits);
         pairs = is.pairs ∙ one_now t index w p k.there k.place is.content ∙ ap (λ d. thread_at w (record { at = p.at; content = d } ∷ [])) same;
-        is = is.pairs ∙ ap (λ d. pairs_with t index d) same;
+        is = is.pairs ∙ ap (λ d. pairs_with_content t index d) same;
         map = is.map;
         shape = is.written.shape;
       }
@@ -239,7 +239,7 @@ module _ (t : KeptThread) (index : ℕ) (changes : List PairChange) (w : Site) (
   left_put m left (inl is) = alone_on (with_blocks left t.disk) (left_alone left is)
   left_put m left (inr (large, (fresh, (two, is)))) = go is.content
     where
-      go : HasOldPair t index (with_blocks left t.disk) ⊎ BothOnDisk t index changes fresh (with_blocks left t.disk) → Stays (with_blocks left t.disk) ⊎ TurnedOn t w p slots move (with_blocks left t.disk)
+      go : HasOldPair t index (with_blocks left t.disk) ⊎ SplitOnDisk t index changes fresh (with_blocks left t.disk) → Stays (with_blocks left t.disk) ⊎ TurnedOn t w p slots move (with_blocks left t.disk)
       go (inl b) = inl (device t.disk (with_blocks left t.disk) w p p [] (fresh.0 ∷ fresh.1 ∷ []) accepted (all_distinct m fresh two)
           (placed_still t index w p k.there k.place (with_blocks left t.disk) fresh (shape_of left is.others.count) is.others b))
       go (inr h) =

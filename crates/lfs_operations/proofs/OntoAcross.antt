@@ -1,7 +1,7 @@
 -- A rename across pairs onto an empty directory: where the directory's pair stands after the move, and what the last step comes to.
-use Rattle.lfs_operations.proofs.Common.{ℕ, zero, suc, ◌≡◌, ◌≢◌, ◌<◌, ◌⊎◌, inl, inr, ◌-◌, Bool, true, false, cond, nat_eq, slice_get, take, List, [], ◌∷◌, ◌++◌, length, map, Some, None, sym, ap, ap₂, subst, ◌∙◌, arith, append_assoc, append-nil, refl, AllByRecursion, IsDistinct, recursion_from_All, same_Some, last_name, tree_renaming, without_prefix, Blocks, PairChange, IsPairAt, IsPlaceOf, FitsPair, IsUnreachedOrRemoved, Name, HasEitherTree as IsLeftOf, with_blocks, slot_of, pair_with_slots, Branch, Ctz, Inline, Slot, Struct, gstate_xor, zero_gstate, same_pair, path_or_root, ThreadDirectory, Pair, anchor_address, pairs_blocks, pairs_from_root, first_address, pairs_gstate, root_address, count_before_root, Path, branch_address, address_at_path, HasNoEmpties, IsWritable, IsAccepted, IsReachedBySome, LeadsTo, all_directories, all_entries, disk_tree, used_blocks, SameSlots, IsChangedImage, CompletesOperation, no_move_from, recovered_from, Each, number_occurrences, count_append, each_right, each_weaker, HasDirectory, chain_of_thread, site_shows, NoneGoes, joined_parts, none_where, rest_all, entry_only, get_here, place_at, shown_before, shown_behind, some_filled, pair_itself, pair_on, last_is, Gains, Keeps, Piece, Stays, olds_of, segment_of, renamed_addresses, IsReplaced, avoids_behind, avoids_front, same, site, slot_of_stands, drafts_of, parts_of, AnyByRecursion, Site, begin_of, dirs_at, thread_at, file_blocks, IsWritableChange, IsChain, pairs_behind, OldStays, from_old, two, KeptThread, empty_anchor, thread_pair, HasNoMove, Any, BeginsAt, all_at_firsts, begins_at_firsts, CanDropAt, IsPairDropped, LeftByDrop, CanEditIn, HasEndedAt, gstate_naming, ArePutAndEnded, number_after_insertion, IsRenamedAcross, tree_moved, CanReplaceDirectoryAcross, IsMovedAcross, entry_across_changes, drops_with_its_slot}
+use Rattle.lfs_operations.proofs.Common.{ℕ, zero, suc, ◌≡◌, ◌≢◌, ◌<◌, ◌⊎◌, inl, inr, ◌-◌, Bool, true, false, cond, nat_eq, slice_get, take, List, [], ◌∷◌, ◌++◌, length, map, Some, None, sym, ap, ap₂, subst, ◌∙◌, arith, append_assoc, append-nil, refl, AllByRecursion, IsDistinct, recursion_from_All, same_Some, last_name, tree_renaming, without_prefix, Blocks, ContentChange, IsPairAt, IsPlaceOf, FitsPair, IsUnreachedOrRemoved, Name, HasEitherTree as IsLeftOf, with_blocks, slot_of, pair_with_slots, Branch, Ctz, Inline, Slot, Struct, gstate_xor, zero_gstate, same_pair, path_or_root, ThreadDirectory, Pair, anchor_address, pairs_blocks, pairs_from_root, first_address, pairs_gstate, root_address, count_before_root, Path, branch_address, address_at_path, HasNoEmpties, IsWritable, IsAccepted, IsReachedBySome, LeadsTo, all_directories, all_entries, disk_tree, used_blocks, SameSlots, IsChangedImage, CompletesOperation, no_move_from, recovered_from, Each, number_occurrences, count_append, each_right, each_weaker, HasDirectory, chain_of_thread, site_shows, NoneGoes, joined_parts, none_where, rest_all, entry_only, get_here, place_at, shown_before, shown_behind, some_filled, pair_itself, pair_on, last_is, Gains, Keeps, Piece, Stays, olds_of, segment_of, renamed_addresses, IsReplaced, avoids_behind, avoids_front, same, site, slot_of_stands, drafts_of, parts_of, AnyByRecursion, Site, begin_of, dirs_at, thread_at, file_blocks, IsWritableChange, IsChain, pairs_behind, OldStays, from_old, two, KeptThread, empty_anchor, thread_pair, HasNoMove, Any, BeginsDirectory, all_at_firsts, begins_at_firsts, CanDropAt, IsPairDropped, LeftByDrop, CanEditIn, HasEndedMoveAt, gstate_naming, ArePutAndEnded, number_after_insertion, IsRenamedAcross, tree_moved, CanReplaceDirectoryAcross, IsMovedAcross, entry_across_changes, drops_emptied_pair}
 use Rattle.lfs_model.specs.session.TreeEdits.{same_path}
-use Rattle.lfs_model.specs.session.Layout.{slot_addresses, removed_addresses}
+use Rattle.lfs_model.specs.session.Layout.{branch_addresses, removed_addresses}
 use Rattle.lfs_model.specs.session.Operations as ops
 use Rattle.lfs_model.proofs.Alike.{Stood}
 use Rattle.lfs_model.proofs.Found.{directory_found, links_behind}
@@ -40,7 +40,7 @@ new_below t old_pair old_id first new_pair new_id name gone rename = below t ren
 
 module _ (t : KeptThread) (old_pair old_id first new_pair new_id : ℕ) (name : Name) (gone : ℕ) (rename : CanReplaceDirectoryAcross t old_pair old_id first new_pair new_id name gone)
     (m : KeptThread) (h : IsMovedAcross t true true old_pair old_id first new_pair new_id name m) where
-  abbrev is : ArePutAndEnded t old_pair old_id (drops_with_its_slot t old_pair first) new_pair (entry_across_changes true t old_pair old_id new_pair new_id name) m
+  abbrev is : ArePutAndEnded t old_pair old_id (drops_emptied_pair t old_pair first) new_pair (entry_across_changes true t old_pair old_id new_pair new_id name) m
   is = h.done
 
   abbrev can : CanEditIn t old_pair old_id
@@ -89,9 +89,9 @@ module _ (t : KeptThread) (old_pair old_id first new_pair new_id : ℕ) (name : 
   to = rename.path ++ name ∷ []
 
   abbrev goes : Bool
-  goes = drops_with_its_slot t old_pair first
+  goes = drops_emptied_pair t old_pair first
 
-  abbrev changes : List PairChange
+  abbrev changes : List ContentChange
   changes = entry_across_changes true t old_pair old_id new_pair new_id name
 
   abbrev o : Pair
@@ -103,8 +103,8 @@ module _ (t : KeptThread) (old_pair old_id first new_pair new_id : ℕ) (name : 
   x : TurnedTo t w p (l ++ v ∷ r) (gstate_xor (gstate_naming true q0.at (length lo)) p.content.move) is.mid
   x = first_turned first_step is.mid is.put
 
-  e : HasEndedAt is.mid (number_after_insertion old_pair new_pair (length is.mid.pairs - length t.pairs)) (length lo) goes m
-  e = subst (λ i. HasEndedAt is.mid (number_after_insertion old_pair new_pair (length is.mid.pairs - length t.pairs)) i goes m) (sym can.stands.stands.number) is.ended
+  e : HasEndedMoveAt is.mid (number_after_insertion old_pair new_pair (length is.mid.pairs - length t.pairs)) (length lo) goes m
+  e = subst (λ i. HasEndedMoveAt is.mid (number_after_insertion old_pair new_pair (length is.mid.pairs - length t.pairs)) i goes m) (sym can.stands.stands.number) is.ended
 
   same_begin : same_pair (begin_of w (p ∷ [])) rename.at ≡ true
   same_begin = same t.disk t.pairs rename.path rename.at can.ready.accepted rename.leads rename.to_first new_pair p tb.rest tb.place rename.begins
@@ -144,7 +144,7 @@ module _ (t : KeptThread) (old_pair old_id first new_pair new_id : ℕ) (name : 
   moved : IsWritableChange t.disk t.pairs m.disk m.pairs (tree_renaming (can.path ++ can.name ∷ []) (rename.path ++ name ∷ [])) (renamed_addresses (can.path ++ can.name ∷ []) (rename.path ++ name ∷ []))
   moved = last_taken first_step is.mid x m e
 
-  begun : BeginsAt (all_directories m.pairs) rename.to
+  begun : BeginsDirectory (all_directories m.pairs) rename.to
   begun = begins_at_firsts (all_directories t.pairs) (all_directories m.pairs) (last_firsts first_step is.mid x m e) rename.to (can.ready.accepted.branches (rename.path ++ name ∷ []) rename.to led_there)
 
   found : HasDirectory (pairs_from_root m.pairs) rename.to
@@ -343,10 +343,10 @@ module _ (t : KeptThread) (old_pair old_id first new_pair new_id : ℕ) (name : 
       to_slot = subst (λ z. slot_of z to ≡ Some g) were (slot_of_stands t.disk t.pairs rename.path rename.at can.ready.accepted rename.leads rename.to_first new_pair new_id name (no_move_from t.pairs can.ready.settled) tb rename.begins)
 
       removes : (given to_given : List ℕ) → path_or_root given ≡ from → path_or_root to_given ≡ to → removed_addresses ps (ops.Rename given to_given) ≡ rename.to ∷ []
-      removes given to_given given_is to_is = ap (λ z. cond z [] (slot_addresses (slot_of ps (path_or_root to_given)))) (ap₂ same_path given_is to_is ∙ not_before from to rename.not_beneath)
-          ∙ ap slot_addresses (ap (slot_of ps) to_is ∙ to_slot) ∙ go g.struct rename.branch
+      removes given to_given given_is to_is = ap (λ z. cond z [] (branch_addresses (slot_of ps (path_or_root to_given)))) (ap₂ same_path given_is to_is ∙ not_before from to rename.not_beneath)
+          ∙ ap branch_addresses (ap (slot_of ps) to_is ∙ to_slot) ∙ go g.struct rename.branch
         where
-          go : (z : Struct) → z ≡ Branch rename.to → slot_addresses (Some (record g { struct = z })) ≡ rename.to ∷ []
+          go : (z : Struct) → z ≡ Branch rename.to → branch_addresses (Some (record g { struct = z })) ≡ rename.to ∷ []
           go (Branch b) k = ap (λ y. y ∷ []) (same_Some b rename.to (ap branch_address k))
           go (Inline bytes) k = absurd (cc)
           go (Ctz head size) k = absurd (cc)

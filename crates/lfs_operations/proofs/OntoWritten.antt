@@ -1,5 +1,5 @@
 -- Steps that write blocks of pairs, and at most two blocks that were free.
-use Rattle.lfs_operations.proofs.Common.{ℕ, zero, suc, ◌≡◌, ◌≢◌, ◌≤◌, ◌<◌, ◌⊎◌, inl, inr, ◌+◌, Bool, true, false, List, [], ◌∷◌, ◌++◌, length, get_or, insert, remove, set, length-set, refl, ap, ◌∙◌, arith, cases_lt, All-from_recursion, recursion_from_All, IsFree, PairChange, Pair, pairs_blocks, address_blocks, addresses_blocks, Contains-number_occurrences, number_occurrences-Contains, number_occurrences, count_append, each_append, each_counted, each_from_counted, each_weaker, KeptThread, ChangesThreadBlocks, back_pair, front_pair, empty_anchor, thread_pair, All, Contains, ArePut, WritesThreadTwo, WritesPairTwo, TakesAtMostTwo, HasEndedAt, content_move_ended, written_by_ending, pairs_move_ended, WritesThreadFree, WritesPairsTwo}
+use Rattle.lfs_operations.proofs.Common.{ℕ, zero, suc, ◌≡◌, ◌≢◌, ◌≤◌, ◌<◌, ◌⊎◌, inl, inr, ◌+◌, Bool, true, false, List, [], ◌∷◌, ◌++◌, length, get_or, insert, remove, set, length-set, refl, ap, ◌∙◌, arith, cases_lt, All-from_recursion, recursion_from_All, IsFree, ContentChange, Pair, pairs_blocks, address_blocks, addresses_blocks, Contains-number_occurrences, number_occurrences-Contains, number_occurrences, count_append, each_append, each_counted, each_from_counted, each_weaker, KeptThread, ChangesThreadBlocks, back_pair, front_pair, empty_anchor, thread_pair, All, Contains, ArePut, WritesThreadTwo, WritesPairTwo, TakesAtMostTwo, HasEndedMoveAt, content_move_ended, ending_written_pair, pairs_move_ended, WritesThreadFree, WritesPairsTwo}
 use Rattle.lfs_operations.proofs.MovStep.{blocks_alike}
 use Rattle.lfs_operations.proofs.Putting.{writes_trans, writes_wider}
 
@@ -84,7 +84,7 @@ writes_of_pair t m index l w =
     }
 
 -- those of a pair that is changed, or cut in two
-pub put_within : (old mid : KeptThread) (index : ℕ) (changes : List PairChange) → index < length old.pairs → ArePut old index changes mid → WritesPairTwo old index mid → TakesAtMostTwo old mid
+pub put_within : (old mid : KeptThread) (index : ℕ) (changes : List ContentChange) → index < length old.pairs → ArePut old index changes mid → WritesPairTwo old index mid → TakesAtMostTwo old mid
 unfolding writes_of_pair
 put_within old mid index changes l (inl is) w =
     let at = (thread_pair old index).at in
@@ -134,14 +134,14 @@ fewer_ended : (t : KeptThread) (pair id : ℕ) (goes : Bool) (b : ℕ) → numbe
 fewer_ended t pair id true b = blocks_removed t.pairs pair b
 fewer_ended t pair id false b = let e = ap (number_occurrences b) (blocks_set t.pairs pair (record { at = (thread_pair t pair).at; content = content_move_ended t pair id }) empty_anchor refl) in omega (arith, e)
 
-pub end_below : (n pair : ℕ) (goes : Bool) → pair < n → written_by_ending pair goes < n
+pub end_below : (n pair : ℕ) (goes : Bool) → pair < n → ending_written_pair pair goes < n
 end_below n pair true l = omega (arith, l)
 end_below n pair false l = l
 
-pub end_within : (old mid new : KeptThread) (pair id : ℕ) (goes : Bool) → TakesAtMostTwo old mid → pair < length mid.pairs → HasEndedAt mid pair id goes new → ChangesThreadBlocks (address_blocks (thread_pair mid (written_by_ending pair goes)).at) mid new → TakesAtMostTwo old new
+pub end_within : (old mid new : KeptThread) (pair id : ℕ) (goes : Bool) → TakesAtMostTwo old mid → pair < length mid.pairs → HasEndedMoveAt mid pair id goes new → ChangesThreadBlocks (address_blocks (thread_pair mid (ending_written_pair pair goes)).at) mid new → TakesAtMostTwo old new
 unfolding more
 end_within old mid new pair id goes w l ended second = record {
-  written = more old mid new (written_by_ending pair goes) w (end_below (length mid.pairs) pair goes l) second;
+  written = more old mid new (ending_written_pair pair goes) w (end_below (length mid.pairs) pair goes l) second;
   within = λ b h. w.within b (
       let k = number_occurrences-Contains (pairs_blocks new.pairs) b h in
       let same = ap (number_occurrences b) (blocks_alike (pairs_move_ended mid pair id goes) new.pairs ended.alike) in

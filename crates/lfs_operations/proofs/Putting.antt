@@ -1,5 +1,5 @@
 -- A pair that is changed, or split into two free blocks.
-use Rattle.lfs_operations.proofs.Common.{ℕ, ◌≡◌, ◌≢◌, ◌∙◌, ◌≤◌, ◌⊎◌, Option, None, Some, inl, inr, List, [], ◌∷◌, ◌++◌, pairs_blocks, Result, Ok, Err, arith, refl, sym, set, Blocks, BlockStates, Free, InFlight, PairChange, Disk, PairContent, CallEvent, OnlyReadsSince, fault_count, slice_get-set_same, slice_get-set_other, HoldsAtLosses-weaker, HoldsAtLosses-trans, StayUnprogrammed-refl, StayUnprogrammed-trans, AllCallsSince-until, AllCallsSince-behind, OnlyReadsSince-trans, StayUnprogrammed-read_count, HoldsAtLosses-read_count, LossLeavesAtWorst-read, CleanLossLeaves, KeptThread, thread_pair, BothOnDisk, PartsFit, CanSplitAt, LossLeavesPair, HasOldPair, LossLeavesBoth, OnlyReadsThread, HasSplit, ChangesThreadBlocks, addresses_blocks, SameExceptThese-trans, SameExceptThese-wider, StayUnprogrammed-wider, All, Error, FreshInFlight, AreTwoFree, CanPut, IsPairSplit, IsSplitInto, LeftByPut, OverfillsPair, LeftBySplit, ReportsSpaceErrors, WritesPairTwo, WritesThreadTwo, map_taking_two, Tree, HasEitherTree, with_blocks, SurvivesLossSince, survives_then}
+use Rattle.lfs_operations.proofs.Common.{ℕ, ◌≡◌, ◌≢◌, ◌∙◌, ◌≤◌, ◌⊎◌, Option, None, Some, inl, inr, List, [], ◌∷◌, ◌++◌, pairs_blocks, Result, Ok, Err, arith, refl, sym, set, Blocks, BlockStates, Free, InFlight, ContentChange, Disk, PairContent, CallEvent, OnlyReadsSince, fault_count, slice_get-set_same, slice_get-set_other, HoldsAtLosses-weaker, HoldsAtLosses-trans, StayUnprogrammed-refl, StayUnprogrammed-trans, AllCallsSince-until, AllCallsSince-behind, OnlyReadsSince-trans, StayUnprogrammed-read_count, HoldsAtLosses-read_count, LossLeavesAtWorst-read, CleanLossLeaves, KeptThread, thread_pair, SplitOnDisk, PartsFit, CanSplitAt, LossLeavesPair, HasOldPair, LossLeavesThreadSplit, OnlyReadsThread, HasSplit, ChangesThreadBlocks, addresses_blocks, SameExceptBlocks-trans, SameExceptBlocks-wider, StayUnprogrammed-wider, All, Error, FreshInFlight, AreTwoFree, CanPut, IsPairSplit, IsSplitInto, LeftByPut, OverfillsPair, LeftBySplit, ReportsSpaceErrors, WritesPairTwo, WritesThreadTwo, map_taking_two, Tree, HasEitherTree, with_blocks, SurvivesLossSince, survives_then}
 use Rattle.lfs_model.proofs.Histories.{began}
 use Rattle.lfs_thread.specs.CachedLog.{reads_unless_cached}
 use Rattle.lfs_operations.proofs.Taking.{within}
@@ -8,15 +8,15 @@ use Rattle.lfs_operations.proofs.Taking.{within}
 
 pub writes_wider : {bs : List ℕ} (cs : List ℕ) {old new : KeptThread} → ((b : ℕ) → All (λ c. c ≢ b) cs → All (λ c. c ≢ b) bs) → ChangesThreadBlocks bs old new → ChangesThreadBlocks cs old new
 writes_wider cs f h = record {
-  others = SameExceptThese-wider cs f h.others;
+  others = SameExceptBlocks-wider cs f h.others;
   elsewhere = StayUnprogrammed-wider cs f h.elsewhere;
   shape = h.shape;
-  at_worst = HoldsAtLosses-weaker (λ blocks k. SameExceptThese-wider cs f k) h.at_worst;
+  at_worst = HoldsAtLosses-weaker (λ blocks k. SameExceptBlocks-wider cs f k) h.at_worst;
 }
 
 pub writes_trans : {bs : List ℕ} {old mid new : KeptThread} → ChangesThreadBlocks bs old mid → ChangesThreadBlocks bs mid new → ChangesThreadBlocks bs old new
 writes_trans first second = record {
-  others = SameExceptThese-trans first.others second.others;
+  others = SameExceptBlocks-trans first.others second.others;
   elsewhere = StayUnprogrammed-trans first.elsewhere second.elsewhere;
   shape = record {
     block_size = second.shape.block_size ∙ first.shape.block_size;
@@ -25,7 +25,7 @@ writes_trans first second = record {
     profile = second.shape.profile ∙ first.shape.profile;
     count = second.shape.count ∙ first.shape.count;
   };
-  at_worst = HoldsAtLosses-trans first.at_worst (HoldsAtLosses-weaker (λ blocks k. SameExceptThese-trans first.others k) second.at_worst);
+  at_worst = HoldsAtLosses-trans first.at_worst (HoldsAtLosses-weaker (λ blocks k. SameExceptBlocks-trans first.others k) second.at_worst);
 }
 
 -- ---- atomic steps, one after another
@@ -57,7 +57,7 @@ held sets fresh two = record {
     first_taken : BlockStates
     first_taken = set sets fresh.0 InFlight
 
-pub can_split : (t : KeptThread) (index : ℕ) (fresh : ℕ × ℕ) (changes : List PairChange) → CanPut t index changes → AreTwoFree t.map fresh → CanSplitAt (with_map t (map_taking_two t.map fresh)) index fresh changes
+pub can_split : (t : KeptThread) (index : ℕ) (fresh : ℕ × ℕ) (changes : List ContentChange) → CanPut t index changes → AreTwoFree t.map fresh → CanSplitAt (with_map t (map_taking_two t.map fresh)) index fresh changes
 can_split t index fresh changes can two = record {
   can = record { below = can.can.below; content = can.can.content; made = can.can.made; next = can.can.next };
   held = held t.map fresh two;
@@ -68,7 +68,7 @@ can_split t index fresh changes can two = record {
 
 -- ---- what it comes to
 
-module _ (t : KeptThread) (index : ℕ) (fresh : ℕ × ℕ) (changes : List PairChange) (two : AreTwoFree t.map fresh) where
+module _ (t : KeptThread) (index : ℕ) (fresh : ℕ × ℕ) (changes : List ContentChange) (two : AreTwoFree t.map fresh) where
   abbrev mid : KeptThread
   mid = with_map t (map_taking_two t.map fresh)
 
@@ -90,15 +90,15 @@ module _ (t : KeptThread) (index : ℕ) (fresh : ℕ × ℕ) (changes : List Pai
     writes = record { others = writes.others; elsewhere = writes.elsewhere; shape = writes.shape; at_worst = writes.at_worst };
   }
 
-  pub left_by_cut : (left : Blocks) → LossLeavesBoth mid index fresh changes left → LeftBySplit t index changes left
+  pub left_by_cut : (left : Blocks) → LossLeavesThreadSplit mid index fresh changes left → LeftBySplit t index changes left
   left_by_cut left l = (fresh, (two, record { others = l.others; content = go l.content }))
     where
-      go : HasOldPair mid index (record t.disk { blocks = left }) ⊎ BothOnDisk mid index changes fresh (record t.disk { blocks = left })
-          → HasOldPair t index (record t.disk { blocks = left }) ⊎ BothOnDisk t index changes fresh (record t.disk { blocks = left })
+      go : HasOldPair mid index (record t.disk { blocks = left }) ⊎ SplitOnDisk mid index changes fresh (record t.disk { blocks = left })
+          → HasOldPair t index (record t.disk { blocks = left }) ⊎ SplitOnDisk t index changes fresh (record t.disk { blocks = left })
       go (inl b) = inl (record { holds = b.holds; first = b.first })
       go (inr h) = inr (record { content = h.content; made = h.made; cut = h.cut; front = h.front; back = h.back; parts = parts_same h.parts })
 
-  pub stops_by_cut : (new : List CallEvent) → CleanLossLeaves t.history new (LossLeavesBoth mid index fresh changes) → CleanLossLeaves t.history new (LeftBySplit t index changes)
+  pub stops_by_cut : (new : List CallEvent) → CleanLossLeaves t.history new (LossLeavesThreadSplit mid index fresh changes) → CleanLossLeaves t.history new (LeftBySplit t index changes)
   stops_by_cut new stops clean = HoldsAtLosses-weaker left_by_cut (stops clean)
 
   pub writes_in : (new : KeptThread) → ChangesThreadBlocks (addresses_blocks (thread_pair t index).at fresh) mid new → WritesPairTwo t index new
@@ -142,7 +142,7 @@ with_history t h = record t { history = h }
 pub read_is : (t mid : KeptThread) → OnlyReadsThread t mid → mid ≡ with_history t mid.history
 read_is t mid r = λ j. record { disk = r.disk j; history = mid.history; pairs = r.pairs j; map = r.map j }
 
-module _ (t : KeptThread) (h : List CallEvent) (reads : OnlyReadsSince t.disk.blocks t.history h) (index : ℕ) (changes : List PairChange) where
+module _ (t : KeptThread) (h : List CallEvent) (reads : OnlyReadsSince t.disk.blocks t.history h) (index : ℕ) (changes : List ContentChange) where
   abbrev later : KeptThread
   later = with_history t h
 
@@ -178,8 +178,8 @@ module _ (t : KeptThread) (h : List CallEvent) (reads : OnlyReadsSince t.disk.bl
   pub left_later : (left : Blocks) → LeftBySplit later index changes left → LeftBySplit t index changes left
   left_later left (fresh, (two, l)) = (fresh, (two, record { others = l.others; content = go l.content }))
     where
-      go : HasOldPair later index (record t.disk { blocks = left }) ⊎ BothOnDisk later index changes fresh (record t.disk { blocks = left })
-          → HasOldPair t index (record t.disk { blocks = left }) ⊎ BothOnDisk t index changes fresh (record t.disk { blocks = left })
+      go : HasOldPair later index (record t.disk { blocks = left }) ⊎ SplitOnDisk later index changes fresh (record t.disk { blocks = left })
+          → HasOldPair t index (record t.disk { blocks = left }) ⊎ SplitOnDisk t index changes fresh (record t.disk { blocks = left })
       go (inl b) = inl (record { holds = b.holds; first = b.first })
       go (inr k) = inr (record { content = k.content; made = k.made; cut = k.cut; front = k.front; back = k.back; parts = parts_earlier k.parts })
 

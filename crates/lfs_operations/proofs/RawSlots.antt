@@ -1,5 +1,5 @@
 -- A slot as it stands in a log, among others.
-use Rattle.lfs_operations.proofs.Common.{ℕ, ◌≡◌, ◌≤◌, ◌+◌, Bool, true, false, cond, not, nat_eq, List, [], ◌∷◌, ◌++◌, length, Option, Some, None, refl, ap, ◌∙◌, arith, same_Some, sum_by-cons, RawSlot, complete_slot, complete_slots, kind_of_type, slot_of_id, read_struct, attributes_without, Attributes, Slot, complete_parts, is_some, option_and_then, option_map, attributes_size}
+use Rattle.lfs_operations.proofs.Common.{ℕ, ◌≡◌, ◌≤◌, ◌+◌, Bool, true, false, cond, not, nat_eq, List, [], ◌∷◌, ◌++◌, length, Option, Some, None, refl, ap, ◌∙◌, arith, same_Some, sum_by-cons, RawSlot, complete_slot, complete_slots, kind_of_type, slot_of_id, decoded_struct, attributes_without, Attributes, Slot, complete_parts, is_some, option_and_then, option_map, attributes_size}
 
 -- it has a name
 pub is_named : (s : RawSlot) (t : Slot) → complete_slot s ≡ Some t → is_some s.name ≡ true
@@ -8,7 +8,7 @@ is_named s t h = go s.name h
     go : (o : Option (ℕ × List ℕ)) → option_and_then (λ name. option_map (λ struct. record {
       kind = kind_of_type name.0;
       name = name.1;
-      struct = read_struct struct.0 struct.1;
+      struct = decoded_struct struct.0 struct.1;
       attributes = s.attributes;
     }) s.struct) o ≡ Some t → is_some o ≡ true
     go None k = absurd (cc)
@@ -21,18 +21,18 @@ complete_with s t f h = go s.name s.struct h
     go : (o q : Option (ℕ × List ℕ)) → option_and_then (λ name. option_map (λ struct. record {
       kind = kind_of_type name.0;
       name = name.1;
-      struct = read_struct struct.0 struct.1;
+      struct = decoded_struct struct.0 struct.1;
       attributes = s.attributes;
     }) q) o ≡ Some t → option_and_then (λ name. option_map (λ struct. record {
       kind = kind_of_type name.0;
       name = name.1;
-      struct = read_struct struct.0 struct.1;
+      struct = decoded_struct struct.0 struct.1;
       attributes = f s.attributes;
     }) q) o ≡ Some (record t { attributes = f t.attributes })
     go None q k = absurd (cc)
     go (Some n) None k = absurd (cc)
     go (Some n) (Some q) k =
-        let same = same_Some (record { kind = kind_of_type n.0; name = n.1; struct = read_struct q.0 q.1; attributes = s.attributes }) t k in
+        let same = same_Some (record { kind = kind_of_type n.0; name = n.1; struct = decoded_struct q.0 q.1; attributes = s.attributes }) t k in
         ap (λ (x : Slot). Some (record x { attributes = f x.attributes })) same
 
 -- ---- one of several
@@ -73,22 +73,22 @@ fewer_attributes kind (a ∷ rest) = go (nat_eq a.0 kind) (fewer_attributes kind
     go false l = omega (arith, sum_by-cons (λ (x : ℕ × List ℕ). 4 + length x.1) a rest, sum_by-cons (λ (x : ℕ × List ℕ). 4 + length x.1) a (attributes_without kind rest))
 
 -- with another struct
-pub complete_struct : (s : RawSlot) (t : Slot) (part : ℕ × List ℕ) → complete_slot s ≡ Some t → complete_slot (record s { struct = Some part }) ≡ Some (record t { struct = read_struct part.0 part.1 })
+pub complete_struct : (s : RawSlot) (t : Slot) (part : ℕ × List ℕ) → complete_slot s ≡ Some t → complete_slot (record s { struct = Some part }) ≡ Some (record t { struct = decoded_struct part.0 part.1 })
 complete_struct s t part h = go s.name s.struct h
   where
     go : (o q : Option (ℕ × List ℕ)) → option_and_then (λ name. option_map (λ struct. record {
       kind = kind_of_type name.0;
       name = name.1;
-      struct = read_struct struct.0 struct.1;
+      struct = decoded_struct struct.0 struct.1;
       attributes = s.attributes;
     }) q) o ≡ Some t → option_and_then (λ name. option_map (λ struct. record {
       kind = kind_of_type name.0;
       name = name.1;
-      struct = read_struct struct.0 struct.1;
+      struct = decoded_struct struct.0 struct.1;
       attributes = s.attributes;
-    }) (Some part)) o ≡ Some (record t { struct = read_struct part.0 part.1 })
+    }) (Some part)) o ≡ Some (record t { struct = decoded_struct part.0 part.1 })
     go None q k = absurd (cc)
     go (Some n) None k = absurd (cc)
     go (Some n) (Some q) k =
-        let same = same_Some (record { kind = kind_of_type n.0; name = n.1; struct = read_struct q.0 q.1; attributes = s.attributes }) t k in
-        ap (λ (x : Slot). Some (record x { struct = read_struct part.0 part.1 })) same
+        let same = same_Some (record { kind = kind_of_type n.0; name = n.1; struct = decoded_struct q.0 q.1; attributes = s.attributes }) t k in
+        ap (λ (x : Slot). Some (record x { struct = decoded_struct part.0 part.1 })) same

@@ -1,6 +1,6 @@
 -- Where slots stand after a recovery of an image whose set move was ended, they stand after one of the image from before.
 use Rattle.lfs_operations.proofs.Common.{ℕ, zero, suc, ◌≡◌, ◌≤◌, inl, inr, Bool, true, false, cond, List, [], ◌∷◌, ◌++◌, map, length, Option, Some, None, refl, sym, ap, ap₂, subst, ◌∙◌, arith, Disk, FitsPair, IsUnreachedOrRemoved, directory_address, continued_address, pair_with_slots, pairs_without_moved, FitsInPair, Gstate, same_pair, Pair, pairs_gstate, is_hard_tail, count_before_root, slots_not_moved, IsReachedBySome, fits_same, IsChangedImage, Each, HasNoMove, unmoved_all, joined_parts, unmoved_elsewhere, KeptThread, SameGeometryAs, is_none, KeepsRecoveryLayouts}
-use Rattle.lfs_model.specs.session.Layout.{ArePairsAfter, IsPairAfter}
+use Rattle.lfs_model.specs.session.Layout.{PairsBecome, PairBecomes}
 use Rattle.lfs_model.specs.session.Operations as ops
 
 -- ---- pairs of the same addresses and slots, which hard tails join alike
@@ -51,43 +51,43 @@ module _ (disk other : Disk) (G H : ℕ × ℕ → Type 0) (alike : GoAlike disk
   fits_from : (d e : Pair) → e.content.slots ≡ d.content.slots → FitsPair disk d → FitsPair other e
   fits_from d e slots h = fits_off e (fits_same disk d e slots h)
 
-  stands_kin : (first : Bool) (g h : Type 0) (d e : Pair) (now : List Pair) → (h → g) → (g → h) → e.at ≡ d.at → e.content.slots ≡ d.content.slots → IsPairAfter other first h e now → IsPairAfter disk first g d now
+  stands_kin : (first : Bool) (g h : Type 0) (d e : Pair) (now : List Pair) → (h → g) → (g → h) → e.at ≡ d.at → e.content.slots ≡ d.content.slots → PairBecomes other first h e now → PairBecomes disk first g d now
   stands_kin first g h d e [] f b at slots (inl goes) = inl (f goes)
   stands_kin first g h d e [] f b at slots (inr k) = inr (k.0, sym slots ∙ k.1)
   stands_kin first g h d e (q ∷ []) f b at slots s = (s.0 ∙ at, s.1 ∙ slots, fits_kin d e slots s.2, (λ x. s.3 (b x)), λ n none. s.4 n (slots ∙ none))
   stands_kin first g h d e (q ∷ r ∷ []) f b at slots s = (s.0 ∙ at, s.1 ∙ slots, (λ x. s.2 (fits_from d e slots x)), fits_on q s.3, fits_on r s.4, λ x. s.5 (b x))
   stands_kin first g h d e (q ∷ r ∷ t ∷ now) f b at slots s = absurd s
 
-  here_kin : (from : Option (ℕ × ℕ)) (d e : Pair) (now : List Pair) → e.at ≡ d.at → e.content.slots ≡ d.content.slots → IsPairAfter other (is_none from) (H (directory_address from e)) e now → IsPairAfter disk (is_none from) (G (directory_address from d)) d now
+  here_kin : (from : Option (ℕ × ℕ)) (d e : Pair) (now : List Pair) → e.at ≡ d.at → e.content.slots ≡ d.content.slots → PairBecomes other (is_none from) (H (directory_address from e)) e now → PairBecomes disk (is_none from) (G (directory_address from d)) d now
   here_kin from d e now at slots s = stands_kin (is_none from) (G (directory_address from d)) (H (directory_address from e)) d e now
       (λ x. subst G (begin_kin from d e at) (alike.there (directory_address from e) x)) (λ x. alike.back (directory_address from e) (subst G (sym (begin_kin from d e at)) x)) at slots s
 
-  pub stand_kin : (n : ℕ) (from : Option (ℕ × ℕ)) (ds es : List Pair) (parts : List (List Pair)) → AreKin ds es → ArePairsAfter other H n from es parts → ArePairsAfter disk G n from ds parts
+  pub stand_kin : (n : ℕ) (from : Option (ℕ × ℕ)) (ds es : List Pair) (parts : List (List Pair)) → AreKin ds es → PairsBecome other H n from es parts → PairsBecome disk G n from ds parts
   stand_kin n from [] [] [] k s = tt
   stand_kin n from [] [] (now ∷ parts) k s = absurd s
   stand_kin n from [] (e ∷ es) parts k s = absurd k
   stand_kin n from (d ∷ ds) [] parts k s = absurd k
   stand_kin n from (d ∷ ds) (e ∷ es) [] k s = absurd s
   stand_kin zero from (d ∷ ds) (e ∷ es) (now ∷ parts) k s =
-      (here_kin from d e now k.0.at k.0.slots s.0, stand_kin zero (continued_address from d) ds es parts k.1 (subst (λ z. ArePairsAfter other H zero z es parts) (onward_kin from d e k.0) s.1))
+      (here_kin from d e now k.0.at k.0.slots s.0, stand_kin zero (continued_address from d) ds es parts k.1 (subst (λ z. PairsBecome other H zero z es parts) (onward_kin from d e k.0) s.1))
   stand_kin (suc n) from (d ∷ ds) (e ∷ es) (now ∷ parts) k s = (stands_kin true ⊥ ⊥ d e now (λ x. x) (λ x. x) k.0.at k.0.slots s.0, stand_kin n None ds es parts k.1 s.1)
 
   -- ---- a pair without slots goes
 
   pub record Filled (n : ℕ) (from : Option (ℕ × ℕ)) (ds joined : List Pair) : Type 0 where
     pub parts : List (List Pair)
-    pub stand : ArePairsAfter disk G n from ds parts
+    pub stand : PairsBecome disk G n from ds parts
     pub same : joined_parts parts ≡ joined
 
-  gap_here : (from : Option (ℕ × ℕ)) (d x e : Pair) (ds es : List Pair) (parts : List (List Pair)) → IsGap d x e → AreKin ds es → ArePairsAfter other H 0 from (e ∷ es) parts → Filled 0 from (d ∷ x ∷ ds) (joined_parts parts)
+  gap_here : (from : Option (ℕ × ℕ)) (d x e : Pair) (ds es : List Pair) (parts : List (List Pair)) → IsGap d x e → AreKin ds es → PairsBecome other H 0 from (e ∷ es) parts → Filled 0 from (d ∷ x ∷ ds) (joined_parts parts)
   gap_here from d x e ds es [] gap k s = absurd s
   gap_here from d x e ds es (now ∷ parts) gap k s = record {
     parts = now ∷ [] ∷ parts;
     stand = (
       here_kin from d e now gap.at gap.slots s.0,
-      subst (λ (z : Option (ℕ × ℕ)). ArePairsAfter disk G 0 z (x ∷ ds) ([] ∷ parts)) (sym on) (
+      subst (λ (z : Option (ℕ × ℕ)). PairsBecome disk G 0 z (x ∷ ds) ([] ∷ parts)) (sym on) (
         inr (refl, gap.none),
-        stand_kin 0 (continued_address (Some (directory_address from d)) x) ds es parts k (subst (λ z. ArePairsAfter other H 0 z es parts) same s.1),
+        stand_kin 0 (continued_address (Some (directory_address from d)) x) ds es parts k (subst (λ z. PairsBecome other H 0 z es parts) same s.1),
       ),
     );
     same = refl;
@@ -100,14 +100,14 @@ module _ (disk other : Disk) (G H : ℕ × ℕ → Type 0) (alike : GoAlike disk
       same = ap₂ (λ (b : Bool) (a : ℕ × ℕ). cond b (Some a) None) gap.tail (begin_kin from d e gap.at)
 
   pub stand_gap : (n : ℕ) (from : Option (ℕ × ℕ)) (xs : List Pair) (d x : Pair) (ds ys : List Pair) (e : Pair) (es : List Pair) (parts : List (List Pair)) → n ≤ length xs → AreKin xs ys → IsGap d x e → AreKin ds es
-      → ArePairsAfter other H n from (ys ++ e ∷ es) parts → Filled n from (xs ++ d ∷ x ∷ ds) (joined_parts parts)
+      → PairsBecome other H n from (ys ++ e ∷ es) parts → Filled n from (xs ++ d ∷ x ∷ ds) (joined_parts parts)
   stand_gap zero from [] d x ds [] e es parts low k gap l s = gap_here from d x e ds es parts gap l s
   stand_gap (suc n) from [] d x ds ys e es parts low k gap l s = absurd (omega arith)
   stand_gap n from [] d x ds (y ∷ ys) e es parts low k gap l s = absurd k
   stand_gap n from (w ∷ xs) d x ds [] e es parts low k gap l s = absurd k
   stand_gap n from (w ∷ xs) d x ds (y ∷ ys) e es [] low k gap l s = absurd s
   stand_gap zero from (w ∷ xs) d x ds (y ∷ ys) e es (now ∷ parts) low k gap l s =
-      let r = stand_gap zero (continued_address from w) xs d x ds ys e es parts (omega arith) k.1 gap l (subst (λ z. ArePairsAfter other H zero z (ys ++ e ∷ es) parts) (onward_kin from w y k.0) s.1) in
+      let r = stand_gap zero (continued_address from w) xs d x ds ys e es parts (omega arith) k.1 gap l (subst (λ z. PairsBecome other H zero z (ys ++ e ∷ es) parts) (onward_kin from w y k.0) s.1) in
       record { parts = now ∷ r.parts; stand = (here_kin from w y now k.0.at k.0.slots s.0, r.stand); same = ap (λ z. now ++ z) r.same }
   stand_gap (suc n) from (w ∷ xs) d x ds (y ∷ ys) e es (now ∷ parts) low k gap l s =
       let r = stand_gap n None xs d x ds ys e es parts (omega arith) k.1 gap l s.1 in
@@ -161,10 +161,10 @@ go_alike old new walk shape = record { block_size = shape.block_size; page = sha
     back a (inr k) = inr k
 
 module _ (old new : KeptThread) (alike : GoAlike old.disk new.disk (IsUnreachedOrRemoved old.pairs ops.Recover) (IsUnreachedOrRemoved new.pairs ops.Recover)) (none : HasNoMove (pairs_gstate new.pairs)) (same : count_before_root new.pairs ≡ count_before_root old.pairs) where
-  stand_now : (drafts : List Pair) (parts : List (List Pair)) → drafts ≡ pairs_without_moved new.pairs → ArePairsAfter new.disk (IsUnreachedOrRemoved new.pairs ops.Recover) (count_before_root new.pairs) None drafts parts
-      → ArePairsAfter new.disk (IsUnreachedOrRemoved new.pairs ops.Recover) (count_before_root old.pairs) None new.pairs parts
-  stand_now drafts parts e s = subst (λ n. ArePairsAfter new.disk (IsUnreachedOrRemoved new.pairs ops.Recover) n None new.pairs parts) same
-      (subst (λ z. ArePairsAfter new.disk (IsUnreachedOrRemoved new.pairs ops.Recover) (count_before_root new.pairs) None z parts) (e ∙ hidden_in_none (pairs_gstate new.pairs) new.pairs none) s)
+  stand_now : (drafts : List Pair) (parts : List (List Pair)) → drafts ≡ pairs_without_moved new.pairs → PairsBecome new.disk (IsUnreachedOrRemoved new.pairs ops.Recover) (count_before_root new.pairs) None drafts parts
+      → PairsBecome new.disk (IsUnreachedOrRemoved new.pairs ops.Recover) (count_before_root old.pairs) None new.pairs parts
+  stand_now drafts parts e s = subst (λ n. PairsBecome new.disk (IsUnreachedOrRemoved new.pairs ops.Recover) n None new.pairs parts) same
+      (subst (λ z. PairsBecome new.disk (IsUnreachedOrRemoved new.pairs ops.Recover) (count_before_root new.pairs) None z parts) (e ∙ hidden_in_none (pairs_gstate new.pairs) new.pairs none) s)
 
   pub laid_out_kin : AreKin (pairs_without_moved old.pairs) new.pairs → KeepsRecoveryLayouts old new
   laid_out_kin kin s disk qs h = record {
@@ -182,7 +182,7 @@ module _ (old new : KeptThread) (alike : GoAlike old.disk new.disk (IsUnreachedO
   pub laid_out_gap : (xs : List Pair) (d x : Pair) (ds ys : List Pair) (e : Pair) (es : List Pair) → pairs_without_moved old.pairs ≡ xs ++ d ∷ x ∷ ds → new.pairs ≡ ys ++ e ∷ es → count_before_root old.pairs ≤ length xs
       → AreKin xs ys → IsGap d x e → AreKin ds es → KeepsRecoveryLayouts old new
   laid_out_gap xs d x ds ys e es was is low k gap l s disk qs h =
-      let now = subst (λ z. ArePairsAfter new.disk (IsUnreachedOrRemoved new.pairs ops.Recover) (count_before_root old.pairs) None z h.parts) is (stand_now h.drafts h.parts h.edits.1 h.stand) in
+      let now = subst (λ z. PairsBecome new.disk (IsUnreachedOrRemoved new.pairs ops.Recover) (count_before_root old.pairs) None z h.parts) is (stand_now h.drafts h.parts h.edits.1 h.stand) in
       let r = stand_gap old.disk new.disk (IsUnreachedOrRemoved old.pairs ops.Recover) (IsUnreachedOrRemoved new.pairs ops.Recover) alike (count_before_root old.pairs) None xs d x ds ys e es h.parts low k gap l now in
       record {
         drafts = pairs_without_moved old.pairs;
@@ -191,7 +191,7 @@ module _ (old new : KeptThread) (alike : GoAlike old.disk new.disk (IsUnreachedO
         fresh = h.fresh;
         back = h.back;
         edits = (h.edits.0, refl);
-        stand = subst (λ z. ArePairsAfter old.disk (IsUnreachedOrRemoved old.pairs ops.Recover) (count_before_root old.pairs) None z r.parts) (sym was) r.stand;
+        stand = subst (λ z. PairsBecome old.disk (IsUnreachedOrRemoved old.pairs ops.Recover) (count_before_root old.pairs) None z r.parts) (sym was) r.stand;
         joined = r.same ∙ h.joined;
         is = h.is;
       }

@@ -1,5 +1,5 @@
 -- The end of a recovery: every pair was seen, and the sync bit is cleared.
-use Rattle.lfs_operations.proofs.Common.{ℕ, suc, ◌≡◌, ◌+◌, ◌<◌, ◌≤◌, ◌⊎◌, ◌&&◌, inl, inr, Bool, true, false, cond, List, [], ◌∷◌, ◌++◌, length, take, Option, Some, None, Result, Err, refl, sym, ap, subst, subst₂, ◌∙◌, arith, append-nil, same_Some, All-from_recursion, recursion_from_All, Blocks, SameGeometry, disk_block, CallEvent, fault_count, HasEitherTree as IsLeftOf, SurvivesLossSince, with_blocks, continued_address, Gstate, Slot, zero_gstate, AreLinked, ThreadDirectory, Pair, anchor_address, pairs_blocks, pairs_from_root, pairs_gstate, chain_may_continue, has_superblock, count_before_root, IsAccepted, IsReachedBySome, all_unmoved_slots, all_directories, struct_blocks, disk_tree, IsWritable, survives_then, SameSlots, alike_itself, SameFiles, Each, number_occurrences, each_always, each_weaker, SameFileBlocks, chain_of_thread, HasNoMove, HoldsAtLosses-weaker, NoneGoes, none_where, rest_all, AllReached, thread_at, IsWritableChange, pairs_behind, CleanLossLeaves, KeptThread, ThreadView, IsPairCommitted, LossLeavesPair, IsPairWritten, ChangesThreadBlocks, pairs_with, complete_after, All, Error, recovery_ends, gstate_changes, content_reaching_gstate, AreUnreachedNumbers, AreUnreachedFrom, CanClearSync, HasDroppedRecovered, IsSyncCleared, ReportsRecovery, numbered_list_blocks, numbered_slots, SameInFlight, ReportsCommit}
+use Rattle.lfs_operations.proofs.Common.{ℕ, suc, ◌≡◌, ◌+◌, ◌<◌, ◌≤◌, ◌⊎◌, ◌&&◌, inl, inr, Bool, true, false, cond, List, [], ◌∷◌, ◌++◌, length, take, Option, Some, None, Result, Err, refl, sym, ap, subst, subst₂, ◌∙◌, arith, append-nil, same_Some, All-from_recursion, recursion_from_All, Blocks, SameGeometry, disk_block, CallEvent, fault_count, HasEitherTree as IsLeftOf, SurvivesLossSince, with_blocks, continued_address, Gstate, Slot, zero_gstate, AreLinked, ThreadDirectory, Pair, anchor_address, pairs_blocks, pairs_from_root, pairs_gstate, chain_may_continue, has_superblock, count_before_root, IsAccepted, IsReachedBySome, all_unmoved_slots, all_directories, struct_blocks, disk_tree, IsWritable, survives_then, SameSlots, alike_itself, SameFiles, Each, number_occurrences, each_always, each_weaker, SameFileBlocks, chain_of_thread, HasNoMove, HoldsAtLosses-weaker, NoneGoes, none_where, rest_all, AllReached, thread_at, IsWritableChange, pairs_behind, CleanLossLeaves, KeptThread, ThreadView, IsPairCommitted, LossLeavesPair, IsPairWritten, ChangesThreadBlocks, pairs_with_content, complete_after, All, Error, recovery_ends, gstate_changes, content_reaching_gstate, AreUnreachedNumbers, AreUnreachedFrom, CanClearSync, HasDroppedRecovered, IsSyncCleared, ReportsRecovery, numbered_list_blocks, numbered_slots, SameInFlight, ReportsCommit}
 use Rattle.lfs_model.specs.session.Recovery.{IsRecovered}
 use Rattle.lfs_model.proofs.Changes.{follows_itself}
 use Rattle.lfs_operations.proofs.Removed.{reports_again}
@@ -60,7 +60,7 @@ module _ (t : KeptThread) (can : CanClearSync t) where
     cleared new made c =
         let same = same_Some c.content (content_reaching_gstate t index zero_gstate) (sym c.made ∙ made) in
         let written = subst (λ x. IsPairWritten t index x new.disk) same c.written in
-        let pairs : new.pairs ≡ thread_at (h t index can_clear).site (y t index can_clear ∷ []) = c.pairs ∙ ap (pairs_with t index) same ∙ clear_pairs t index can_clear in
+        let pairs : new.pairs ≡ thread_at (h t index can_clear).site (y t index can_clear ∷ []) = c.pairs ∙ ap (pairs_with_content t index) same ∙ clear_pairs t index can_clear in
         record {
           taken = subst₂ (λ a b. IsWritableChange t.disk a new.disk b (λ t. t) (λ d. d)) (sym (h t index can_clear).is) (sym pairs) (clear_taken t index can_clear new.disk written);
           alike = subst (SameSlots t.pairs) (sym pairs) (clear_alike t index can_clear);

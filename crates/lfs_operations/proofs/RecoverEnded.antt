@@ -1,12 +1,12 @@
 -- A recovery ends a set move: which pair the step is about, and what it comes to.
-use Rattle.lfs_operations.proofs.Common.{ℕ, ◌≡◌, ◌≢◌, ◌≤◌, ◌<◌, ◌+◌, ◌-◌, ◌⊎◌, inl, inr, ◌&&◌, ◌==◌, Bool, true, false, List, [], ◌∷◌, ◌++◌, length, take, refl, sym, ap, ap₂, subst, ◌∙◌, arith, append_assoc, length-append, eqb-true, eq-eqb, nat_lt, and_parts, cases_lt, lt-ltb, recursion_from_All, used_blocks, Pair, pairs_gstate, is_hard_tail, count_before_root, BeginsWithSuperblock, once_from_distinct, HasNoMove, HasSite, site_of_number, pair_back, ends_joined, KeptThread, thread_pair, tail_is_hard, CanEndMove, HasEndedMove, HasMovedSlot, drops_when_emptied, CanEndAt, HasEndedAt, continues_directory, written_by_ending, IsRawFormed}
+use Rattle.lfs_operations.proofs.Common.{ℕ, ◌≡◌, ◌≢◌, ◌≤◌, ◌<◌, ◌+◌, ◌-◌, ◌⊎◌, inl, inr, ◌&&◌, ◌==◌, Bool, true, false, List, [], ◌∷◌, ◌++◌, length, take, refl, sym, ap, ap₂, subst, ◌∙◌, arith, append_assoc, length-append, eqb-true, eq-eqb, nat_lt, and_parts, cases_lt, lt-ltb, recursion_from_All, used_blocks, Pair, pairs_gstate, is_hard_tail, count_before_root, BeginsWithSuperblock, once_from_distinct, HasNoMove, HasSite, site_of_number, pair_back, ends_joined, KeptThread, thread_pair, tail_is_hard, CanEndMove, HasEndedMove, HasMovedSlot, drops_when_emptied, CanEndMoveAt, HasEndedMoveAt, continues_directory, ending_written_pair, IsRawFormed}
 use Rattle.lfs_operations.proofs.Dropped.{HasMapWithout, map_ended}
 use Rattle.lfs_operations.proofs.DroppedTails.{front_is}
 use Rattle.lfs_operations.proofs.MovEnding.{led_is}
 use Rattle.lfs_operations.proofs.RecoverMoved.{heads, in_directory}
 use Rattle.lfs_operations.proofs.RemovedWhole.{last_pair, flag_last, only_slot}
 
-pub written_below : (t : KeptThread) (index : ℕ) (goes : Bool) → index < length t.pairs → written_by_ending index goes < length t.pairs
+pub written_below : (t : KeptThread) (index : ℕ) (goes : Bool) → index < length t.pairs → ending_written_pair index goes < length t.pairs
 written_below t index true low = omega arith
 written_below t index false low = low
 
@@ -89,7 +89,7 @@ module _ (t : KeptThread) (can : CanEndMove t) (index : ℕ) (m : HasMovedSlot t
           let n = h.number in
           absurd (omega arith)
 
-  pub can_at : IsRawFormed t.disk (thread_pair t index).at → CanEndAt t index (pairs_gstate t.pairs).id (drops_when_emptied t index)
+  pub can_at : IsRawFormed t.disk (thread_pair t index).at → CanEndMoveAt t index (pairs_gstate t.pairs).id (drops_when_emptied t index)
   can_at logged = record {
     accepted = can.accepted;
     writable = can.writable;
@@ -107,7 +107,7 @@ module _ (t : KeptThread) (can : CanEndMove t) (index : ℕ) (m : HasMovedSlot t
 
   -- ---- what it comes to
 
-  pub ended_at : (new : KeptThread) → HasEndedAt t index (pairs_gstate t.pairs).id (drops_when_emptied t index) new → HasEndedMove t new
+  pub ended_at : (new : KeptThread) → HasEndedMoveAt t index (pairs_gstate t.pairs).id (drops_when_emptied t index) new → HasEndedMove t new
   ended_at new e = record {
     taken = e.taken;
     none = subst HasNoMove (sym e.state) (record { kind = refl; id = refl; pair = refl });

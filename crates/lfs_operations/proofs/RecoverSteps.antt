@@ -1,5 +1,5 @@
 -- The steps of a recovery, on the disk that they write and on those that a stop leaves.
-use Rattle.lfs_operations.proofs.Common.{ℕ, ◌≡◌, ◌<◌, ◌≤◌, ◌+◌, ◌-◌, ◌⊎◌, inl, inr, true, false, List, [], ◌∷◌, ◌++◌, length, Some, refl, sym, ap, subst, ◌∙◌, arith, length-append, same_Some, Blocks, Disk, HasEitherTree as IsLeftOf, with_blocks, FitsInPair, Gstate, gstate_xor, zero_gstate, same_pair, Pair, pairs_gstate, is_hard_tail, count_before_root, Path, IsAccepted, IsWritable, LeadsTo, disk_tree, SameSlots, alike_append, alike_itself, HasNoMove, gstate_assoc, gstate_cons, gstate_right, gstate_self, HasSite, site_of_number, AllReached, AllReachedBut, IsStep, step_writable, site_gstate_moved, Site, thread_at, IsDevice, stays_shape, IsWritableChange, taken_before, within_at, IsReady, IsUnthreaded, KeptThread, LossLeavesPair, IsPairWritten, complete_after, thread_pair, pairs_with, within_same, gstate_changes, delta_reaching_gstate, content_reaching_gstate, LeftByDrop, content_after_drop, Unthreads}
+use Rattle.lfs_operations.proofs.Common.{ℕ, ◌≡◌, ◌<◌, ◌≤◌, ◌+◌, ◌-◌, ◌⊎◌, inl, inr, true, false, List, [], ◌∷◌, ◌++◌, length, Some, refl, sym, ap, subst, ◌∙◌, arith, length-append, same_Some, Blocks, Disk, HasEitherTree as IsLeftOf, with_blocks, FitsInPair, Gstate, gstate_xor, zero_gstate, same_pair, Pair, pairs_gstate, is_hard_tail, count_before_root, Path, IsAccepted, IsWritable, LeadsTo, disk_tree, SameSlots, alike_append, alike_itself, HasNoMove, gstate_assoc, gstate_cons, gstate_right, gstate_self, HasSite, site_of_number, AllReached, AllReachedBut, IsStep, step_writable, site_gstate_moved, Site, thread_at, IsDevice, stays_shape, IsWritableChange, taken_before, within_at, IsReady, IsUnthreaded, KeptThread, LossLeavesPair, IsPairWritten, complete_after, thread_pair, pairs_with_content, within_same, gstate_changes, delta_reaching_gstate, content_reaching_gstate, LeftByDrop, content_after_drop, Unthreads}
 use Rattle.lfs_model.proofs.Rests.{slots_stay}
 use Rattle.lfs_model.proofs.Unthreaded.{unthread}
 use Rattle.lfs_operations.proofs.Threads.{one_now, pair_is, placed_one}
@@ -85,8 +85,8 @@ module _ (t : KeptThread) (index : ℕ) (can : CanClear t index) where
       (gstate_cons y [] ∙ gstate_right y.content.move ∙ ap (λ (x : Pair). gstate_xor d x.content.move) pair_there ∙ ap (gstate_xor d) (sym (gstate_cons h.pair [] ∙ gstate_right h.pair.content.move)))
       ∙ ap (λ z. gstate_xor d (pairs_gstate z)) (sym h.is) ∙ gstate_assoc zero_gstate G G ∙ ap (gstate_xor zero_gstate) (gstate_self G) ∙ gstate_right zero_gstate
 
-  pub clear_pairs : pairs_with t index (content_reaching_gstate t index zero_gstate) ≡ thread_at h.site (y ∷ [])
-  clear_pairs = ap (pairs_with t index) content_is ∙ one_now t index h.site h.pair h.is place (record { slots = h.pair.content.slots; tail = h.pair.content.tail; move = delta_reaching_gstate t index zero_gstate })
+  pub clear_pairs : pairs_with_content t index (content_reaching_gstate t index zero_gstate) ≡ thread_at h.site (y ∷ [])
+  clear_pairs = ap (pairs_with_content t index) content_is ∙ one_now t index h.site h.pair h.is place (record { slots = h.pair.content.slots; tail = h.pair.content.tail; move = delta_reaching_gstate t index zero_gstate })
 
   pub clear_alike : SameSlots t.pairs (thread_at h.site (y ∷ []))
   clear_alike = subst (λ z. SameSlots z (thread_at h.site (y ∷ []))) (sym h.is)

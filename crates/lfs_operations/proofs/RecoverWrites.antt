@@ -1,6 +1,6 @@
 -- Which blocks are written, of those of pairs.
 use Rattle.lfs_operations.proofs.Common.{ℕ, zero, suc, ◌≡◌, ◌≢◌, ◌<◌, ◌≤◌, ◌+◌, Bool, true, false, cond, nat_eq, eqb-true, eq-eqb, List, [], ◌∷◌, length, refl, sym, ◌∙◌, arith, All-from_recursion, recursion_from_All, Pair, pairs_blocks, address_blocks, Each, number_occurrences, StayUnprogrammed-refl, KeptThread, ChangesThreadBlocks, empty_anchor, slice_index_or}
-use Rattle.lfs_model.proofs.Overwrites.{SameExceptThese-refl}
+use Rattle.lfs_model.proofs.Overwrites.{SameExceptBlocks-refl}
 use Rattle.lfs_operations.proofs.Putting.{writes_wider}
 
 none_counted : (b : ℕ) (xs : List ℕ) → Each (λ c. c ≢ b) xs → number_occurrences b xs ≡ 0
@@ -26,7 +26,7 @@ writes_fewer bs cs fewer w = writes_wider cs
 
 pub writes_none : (bs : List ℕ) (t : KeptThread) → ChangesThreadBlocks bs t t
 writes_none bs t = record {
-  others = SameExceptThese-refl bs t.disk.blocks;
+  others = SameExceptBlocks-refl bs t.disk.blocks;
   elsewhere = StayUnprogrammed-refl bs t.history;
   shape = record { block_size = refl; page = refl; order = refl; profile = refl; count = refl };
   at_worst = record { events = []; extends = refl; each = tt };

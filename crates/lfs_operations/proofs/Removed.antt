@@ -1,5 +1,5 @@
 -- A file that goes while its pair stays, as a step of the thread.
-use Rattle.lfs_operations.proofs.Common.{Err, Result, append_assoc, nat_eq, slice_get, ℕ, ◌≡◌, ◌≢◌, ◌⊎◌, inl, inr, ◌+◌, ◌<◌, ◌&&◌, not, Bool, true, false, eqb-true, List, [], ◌∷◌, ◌++◌, length, Some, refl, sym, ap, ap₂, subst, ◌∙◌, arith, append-nil, length-append, remove, sum_by, eqb-false, same_Some, sum_by-append, sum_by-cons, tree_removing, Free, InFlight, Delete, changed_content_of, RawContent, complete_content, raw_content, Disk, CallEvent, SurvivesLossSince, PairContent, FitsInPair, Slot, same_pair, slot_size, Pair, pairs_blocks, first_address, tail_target, Tree, struct_blocks, disk_tree, Name, IsChangedImage, CompletesOperation, commit_step, recovered_from, complete_length, complete_remove, completed_from, completed_parts, count_append, deletes, does_first, does_nothing, HoldsAtLosses-weaker, Ends, file_goes, remove_here, same, same_number, site, pair_back, pair_on, IsPairAt, IsDistinct, Site, thread_at, ends_joined, CleanLossLeaves, KeptThread, ThreadView, CanChangePair, ThreadReportsErrors, IsPairCommitted, LossLeavesPair, RefusesChanges, complete_after, thread_pair, is_err, Error, option_and_then, remove_completed, CanEditIn, editable_slot, ShowsDroppedTree, ShowsUnsettledTree, CanRemoveIn, IsFileRemoved, ReportsCommit, drops_with_its_slot, tree_without_entry}
+use Rattle.lfs_operations.proofs.Common.{Err, Result, append_assoc, nat_eq, slice_get, ℕ, ◌≡◌, ◌≢◌, ◌⊎◌, inl, inr, ◌+◌, ◌<◌, ◌&&◌, not, Bool, true, false, eqb-true, List, [], ◌∷◌, ◌++◌, length, Some, refl, sym, ap, ap₂, subst, ◌∙◌, arith, append-nil, length-append, remove, sum_by, eqb-false, same_Some, sum_by-append, sum_by-cons, tree_removing, Free, InFlight, Delete, content_with_changes, RawContent, complete_content, raw_content, Disk, CallEvent, SurvivesLossSince, PairContent, FitsInPair, Slot, same_pair, slot_size, Pair, pairs_blocks, first_address, tail_target, Tree, struct_blocks, disk_tree, Name, IsChangedImage, CompletesOperation, commit_step, recovered_from, complete_length, complete_remove, completed_from, completed_parts, count_append, deletes, does_first, does_nothing, HoldsAtLosses-weaker, Ends, file_goes, remove_here, same, same_number, site, pair_back, pair_on, IsPairAt, IsDistinct, Site, thread_at, ends_joined, CleanLossLeaves, KeptThread, ThreadView, CanChangePair, ThreadReportsErrors, IsPairCommitted, LossLeavesPair, RefusesChanges, complete_after, thread_pair, is_err, Error, option_and_then, remove_completed, CanEditIn, editable_slot, ShowsDroppedTree, ShowsUnsettledTree, CanRemoveIn, IsFileRemoved, ReportsCommit, drops_emptied_pair, tree_without_entry}
 use Rattle.lfs_model.specs.session.Operations as ops
 use Rattle.lfs_operations.proofs.Held.{CompletesTo, below, fits_there, here, raw_there}
 use Rattle.lfs_operations.proofs.Splicing.{Commits, IsSplicing}
@@ -38,7 +38,7 @@ shrunk_from t new tree gone h = record {
 }
 
 -- a pair that doesn't go with its slot is the first of its directory, or has another one
-pub stays_there : (t : KeptThread) (index id first : ℕ) (can : CanEditIn t index id) → can.first ≡ first → drops_with_its_slot t index first ≡ false → (index ≡ can.first) ⊎ (1 < length (thread_pair t index).content.slots)
+pub stays_there : (t : KeptThread) (index id first : ℕ) (can : CanEditIn t index id) → can.first ≡ first → drops_emptied_pair t index first ≡ false → (index ≡ can.first) ⊎ (1 < length (thread_pair t index).content.slots)
 stays_there t index id first can begins goes = by (nat_eq index first) (nat_eq (length (thread_pair t index).content.slots) 1) refl refl goes
   where
     by : (x y : Bool) → nat_eq index first ≡ x → nat_eq (length (thread_pair t index).content.slots) 1 ≡ y → not x && y ≡ false → (index ≡ can.first) ⊎ (1 < length (thread_pair t index).content.slots)
@@ -51,7 +51,7 @@ stays_there t index id first can begins goes = by (nat_eq index first) (nat_eq (
         let p = ap (λ (z : Pair). length z.content.slots) (here t can.ready can.first index can.stands.pair can.stands.rest can.stands.place) in
         omega arith)
 
-module _ (t : KeptThread) (index id first : ℕ) (take : CanRemoveIn t index id first) (goes : drops_with_its_slot t index first ≡ false) where
+module _ (t : KeptThread) (index id first : ℕ) (take : CanRemoveIn t index id first) (goes : drops_emptied_pair t index first ≡ false) where
   abbrev can : CanEditIn t index id
   can = take.can
 
@@ -84,7 +84,7 @@ module _ (t : KeptThread) (index id first : ℕ) (take : CanRemoveIn t index id 
   abbrev raw_now : RawContent
   raw_now = record c.raw { slots = remove c.raw.slots id }
 
-  changed_now : changed_content_of c.raw (Delete id ∷ []) ≡ Some raw_now
+  changed_now : content_with_changes c.raw (Delete id ∷ []) ≡ Some raw_now
   changed_now =
       let few = (fits_there t can.ready can.first index p can.stands.rest can.stands.place).count in
       let n = complete_length c.raw.slots p.content.slots (completed_parts c.raw p.content c.complete).slots in
@@ -100,7 +100,7 @@ module _ (t : KeptThread) (index id first : ℕ) (take : CanRemoveIn t index id 
   made : complete_after t index (Delete id ∷ []) ≡ Some now
   made =
       let parts = completed_parts c.raw p.content c.complete in
-      ap (λ o. option_and_then complete_content (option_and_then (λ (x : RawContent). changed_content_of x (Delete id ∷ [])) o)) c.is
+      ap (λ o. option_and_then complete_content (option_and_then (λ (x : RawContent). content_with_changes x (Delete id ∷ [])) o)) c.is
       ∙ ap (λ o. option_and_then complete_content o) changed_now
       ∙ completed_from raw_now (remove p.content.slots id) (complete_remove c.raw.slots p.content.slots id parts.slots)
       ∙ ap₂ (λ t m. Some (record { slots = remove p.content.slots id; tail = t; move = m })) (sym parts.tail) (sym parts.move)

@@ -1,5 +1,5 @@
 -- A file that goes with its pair, which held nothing else and isn't the first of its directory, as a step of the thread.
-use Rattle.lfs_operations.proofs.Common.{◌<◌, ℕ, ◌≡◌, ◌≢◌, inl, inr, ◌+◌, ◌-◌, ◌≤◌, ◌&&◌, not, Bool, true, false, nat_eq, eqb-true, slice_get, List, [], ◌∷◌, ◌++◌, length, Option, Some, None, refl, sym, ap, subst, ◌∙◌, arith, append_assoc, length-append, IsDistinct, eqb-false, tree_removing, Blocks, Disk, CallEvent, IsPairAt, HasEitherTree as IsLeftOf, SurvivesLossSince, with_blocks, PairContent, Slot, Tail, zero_gstate, same_pair, Pair, pairs_blocks, first_address, pairs_gstate, is_hard_tail, count_before_root, Tree, branch_address, IsAccepted, IsWritable, LeadsTo, struct_blocks, disk_tree, used_blocks, IsChangedImage, CompletesOperation, no_move_from, recovered_from, number_occurrences, count_append, once_from_distinct, HasNoMove, HoldsAtLosses-weaker, IsRun, file_goes, same_number, site, pair_back, pair_on, IsSite, Site, begin_of, dirs_at, thread_at, file_blocks, IsChain, ends_joined, CleanLossLeaves, KeptThread, IsPairWritten, thread_pair, CanDropAt, IsPairDropped, ShowsDroppedTree, LeftByDrop, tail_past_drop, content_after_drop, CanEditIn, editable_slot, IsFileRemoved, drops_with_its_slot, tree_without_entry}
+use Rattle.lfs_operations.proofs.Common.{◌<◌, ℕ, ◌≡◌, ◌≢◌, inl, inr, ◌+◌, ◌-◌, ◌≤◌, ◌&&◌, not, Bool, true, false, nat_eq, eqb-true, slice_get, List, [], ◌∷◌, ◌++◌, length, Option, Some, None, refl, sym, ap, subst, ◌∙◌, arith, append_assoc, length-append, IsDistinct, eqb-false, tree_removing, Blocks, Disk, CallEvent, IsPairAt, HasEitherTree as IsLeftOf, SurvivesLossSince, with_blocks, PairContent, Slot, Tail, zero_gstate, same_pair, Pair, pairs_blocks, first_address, pairs_gstate, is_hard_tail, count_before_root, Tree, branch_address, IsAccepted, IsWritable, LeadsTo, struct_blocks, disk_tree, used_blocks, IsChangedImage, CompletesOperation, no_move_from, recovered_from, number_occurrences, count_append, once_from_distinct, HasNoMove, HoldsAtLosses-weaker, IsRun, file_goes, same_number, site, pair_back, pair_on, IsSite, Site, begin_of, dirs_at, thread_at, file_blocks, IsChain, ends_joined, CleanLossLeaves, KeptThread, IsPairWritten, thread_pair, CanDropAt, IsPairDropped, ShowsDroppedTree, LeftByDrop, tail_past_drop, content_after_drop, CanEditIn, editable_slot, IsFileRemoved, drops_emptied_pair, tree_without_entry}
 use Rattle.lfs_model.specs.session.Operations as ops
 use Rattle.lfs_model.proofs.Dropped.{IsDrop, drop_completed, drop_step, drop_writable}
 use Rattle.lfs_operations.proofs.Dropped.{HasMapWithout, IsToBeDropped, can_drop_pair, device_left, left_dropped, map_dropped, pairs_left, slots_left, state_left, tail_left, used_left}
@@ -106,7 +106,7 @@ pub record StandsWhole (t : KeptThread) (index id : ℕ) (can : CanEditIn t inde
   pub same : same_pair (begin_of w (x ∷ can.stands.pair ∷ [])) can.at ≡ true
   pub held : can.stands.pair.content.slots ≡ can.stands.stands.slot ∷ []
 
-module _ (t : KeptThread) (index id first : ℕ) (can : CanEditIn t index id) (begins : can.first ≡ first) (goes : drops_with_its_slot t index first ≡ true) where
+module _ (t : KeptThread) (index id first : ℕ) (can : CanEditIn t index id) (begins : can.first ≡ first) (goes : drops_emptied_pair t index first ≡ true) where
   abbrev o : Pair
   o = can.stands.pair
 

@@ -1,5 +1,5 @@
 -- A slot of a block, as it was read.
-use Rattle.lfs_operations.proofs.Common.{ℕ, zero, suc, ◌≡◌, ◌<◌, List, [], ◌∷◌, length, map, Option, Some, None, refl, sym, ap, ◌∙◌, arith, get_or, same_Some, RawContent, RawSlot, complete_slot, complete_slots, content_after, empty_slot, kind_of_type, empty_raw_content, slot_of_id, read_struct, block_entries, PairContent, Slot, complete_length, complete_parts, completed_parts, length-map, IsSome, option_and_then, option_map, attribute_view}
+use Rattle.lfs_operations.proofs.Common.{ℕ, zero, suc, ◌≡◌, ◌<◌, List, [], ◌∷◌, length, map, Option, Some, None, refl, sym, ap, ◌∙◌, arith, get_or, same_Some, RawContent, RawSlot, complete_slot, complete_slots, content_after, empty_slot, kind_of_type, empty_raw_content, slot_of_id, decoded_struct, block_entries, PairContent, Slot, complete_length, complete_parts, completed_parts, length-map, IsSome, option_and_then, option_map, attribute_view}
 use Rattle.lfs_tag.specs.ContentView.{content_view, part_view, slot_view}
 use Rattle.lfs_tag.specs.declared.content.Content as code
 use Rattle.lfs_tag.specs.declared.content.NameOrStruct.{NameOrStruct}
@@ -26,7 +26,7 @@ has_parts s u h = go s.name s.structure h
     go : (n p : Option NameOrStruct) → option_and_then (λ name. option_map (λ struct. record {
       kind = kind_of_type name.0;
       name = name.1;
-      struct = read_struct struct.0 struct.1;
+      struct = decoded_struct struct.0 struct.1;
       attributes = map attribute_view s.attributes.items;
     }) (option_map part_view p)) (option_map part_view n) ≡ Some u → IsSome n × IsSome p
     go None p k = absurd (cc)

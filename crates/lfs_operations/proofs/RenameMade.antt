@@ -1,5 +1,5 @@
 -- A pair from which slots go, and into which one comes again under another name.
-use Rattle.lfs_operations.proofs.Common.{ℕ, ◌≡◌, ◌⊎◌, inl, inr, ◌<◌, ◌≤◌, zero, suc, true, List, [], ◌∷◌, ◌++◌, length, Option, Some, refl, sym, ap, ap₂, subst, ◌∙◌, arith, append_assoc, insert, remove, length-append, sum_by, sum_by-append, sum_by-cons, PairChange, changed_content_of, RawContent, RawSlot, complete_slots, complete_content, empty_raw_content, raw_content, slot_of_id, CanSplit, IsDirectoryPair, HasName, IsFormedSlot, Name, is_valid_name, PairContent, FitsInPair, Slot, slot_size, Pair, tail_target, IsWritableEntry, complete_insert, complete_length, complete_remove, completed_from, completed_parts, deletes, does_first, content_cut, entry_small, insert_here, remove_here, logged_changed, changed_pair, KeptThread, complete_after, thread_pair, unwrap_or, option_and_then, AreWellFormed, CanPut, IsRawFormed, IsReadyImage, NamelessSlot, nameless_at, nameless_of, slot_changes}
+use Rattle.lfs_operations.proofs.Common.{ℕ, ◌≡◌, ◌⊎◌, inl, inr, ◌<◌, ◌≤◌, zero, suc, true, List, [], ◌∷◌, ◌++◌, length, Option, Some, refl, sym, ap, ap₂, subst, ◌∙◌, arith, append_assoc, insert, remove, length-append, sum_by, sum_by-append, sum_by-cons, ContentChange, content_with_changes, RawContent, RawSlot, complete_slots, complete_content, empty_raw_content, raw_content, slot_of_id, AreSplittable, IsDirectoryPair, HasName, IsFormedSlot, Name, is_valid_name, PairContent, FitsInPair, Slot, slot_size, Pair, tail_target, IsWritableEntry, complete_insert, complete_length, complete_remove, completed_from, completed_parts, deletes, does_first, content_cut, entry_small, insert_here, remove_here, logged_changed, changed_pair_content, KeptThread, complete_after, thread_pair, unwrap_or, option_and_then, AreWellFormed, CanPut, IsRawFormed, IsReadyImage, NamelessSlot, nameless_at, nameless_of, slot_changes}
 use Rattle.lfs_model.specs.layers.Changes as model
 use Rattle.lfs_operations.proofs.Held.{CompletesTo, below, fits_there, here, raw_there}
 use Rattle.lfs_operations.proofs.RawSlots.{IsRaw, is_raw}
@@ -53,9 +53,9 @@ parts_in (x ∷ xs) zero h l = h.0
 parts_in (x ∷ xs) (suc i) h l = parts_in xs i h.1 (omega arith)
 
 -- What slots are left of a content, by changes.
-pub record Leaves (c : RawContent) (changes : List PairChange) (slots : List Slot) : Type 0 where
+pub record Leaves (c : RawContent) (changes : List ContentChange) (slots : List Slot) : Type 0 where
   pub left : RawContent
-  pub does : (rest : List PairChange) (e : RawContent) → changed_content_of left rest ≡ Some e → changed_content_of c (changes ++ rest) ≡ Some e
+  pub does : (rest : List ContentChange) (e : RawContent) → content_with_changes left rest ≡ Some e → content_with_changes c (changes ++ rest) ≡ Some e
   pub are : complete_slots left.slots ≡ Some slots
   pub tail : left.tail ≡ c.tail
   pub move : left.move ≡ c.move
@@ -74,10 +74,10 @@ leaves_without c xs u ys id small number e = record {
 }
 
 -- one after another
-pub leaves_then : (c : RawContent) (changes more : List PairChange) (slots others : List Slot) (k : Leaves c changes slots) → Leaves k.left more others → Leaves c (changes ++ more) others
+pub leaves_then : (c : RawContent) (changes more : List ContentChange) (slots others : List Slot) (k : Leaves c changes slots) → Leaves k.left more others → Leaves c (changes ++ more) others
 leaves_then c changes more slots others k m = record {
   left = m.left;
-  does = λ rest e h. subst (λ (z : List PairChange). changed_content_of c z ≡ Some e) (sym (append_assoc changes more rest)) (k.does (more ++ rest) e (m.does rest e h));
+  does = λ rest e h. subst (λ (z : List ContentChange). content_with_changes c z ≡ Some e) (sym (append_assoc changes more rest)) (k.does (more ++ rest) e (m.does rest e h));
   are = m.are;
   tail = m.tail ∙ k.tail;
   move = m.move ∙ k.move;
@@ -113,9 +113,9 @@ module _ (t : KeptThread) (index id : ℕ) (ready : IsReadyImage t) (first : ℕ
       (subst IsFormedSlot there_raw (parts_in c.raw.slots id (logged c.raw c.is).slots (let l = complete_length c.raw.slots p.content.slots all_slots in let w = within in omega arith))) raw.is s.entry
 
   -- the slots that are left are cut where it comes
-  module _ (front : List PairChange) (a b : List Slot) (left : Leaves c.raw front (a ++ b)) (fits_left : FitsInPair t.disk.block_size t.disk.page (record p.content { slots = a ++ b }))
+  module _ (front : List ContentChange) (a b : List Slot) (left : Leaves c.raw front (a ++ b)) (fits_left : FitsInPair t.disk.block_size t.disk.page (record p.content { slots = a ++ b }))
       (at : ℕ) (number : length a ≡ at) (name : Name) (named : is_valid_name name ≡ true) (fits : IsWritableEntry t.disk.profile t.disk.block_size t.disk.page (record s.slot { name = name })) where
-    abbrev pub changes : List PairChange
+    abbrev pub changes : List ContentChange
     changes = front ++ slot_changes at name (nameless_at t index id)
 
     abbrev pub moved : Slot
@@ -130,15 +130,15 @@ module _ (t : KeptThread) (index id : ℕ) (ready : IsReadyImage t) (first : ℕ
     length_left : length left.left.slots ≡ length (a ++ b)
     length_left = sym (complete_length left.left.slots (a ++ b) left.are)
 
-    changed_now : changed_content_of c.raw (front ++ slot_changes at name (nameless_at t index id)) ≡ Some raw_now
+    changed_now : content_with_changes c.raw (front ++ slot_changes at name (nameless_at t index id)) ≡ Some raw_now
     unfolding raw_now raw_moved
     changed_now = left.does (slot_changes at name (nameless_at t index id)) raw_now
-        (ap (λ (z : NamelessSlot). changed_content_of left.left (slot_changes at name z)) parts_are
+        (ap (λ (z : NamelessSlot). content_with_changes left.left (slot_changes at name z)) parts_are
         ∙ slot_comes left.left at name (nameless_of raw.here) (let n = fits_left.count in let k = length-append a b in omega arith)
         (let k = length-append a b in let l = length_left in omega arith) (name_length name named) is_slot.are)
 
-    made_raw : changed_pair t.disk (thread_pair t index).at (front ++ slot_changes at name (nameless_at t index id)) ≡ Some raw_now
-    made_raw = ap (λ o. option_and_then (λ (x : RawContent). changed_content_of x (front ++ slot_changes at name (nameless_at t index id))) o) c.is ∙ changed_now
+    made_raw : changed_pair_content t.disk (thread_pair t index).at (front ++ slot_changes at name (nameless_at t index id)) ≡ Some raw_now
+    made_raw = ap (λ o. option_and_then (λ (x : RawContent). content_with_changes x (front ++ slot_changes at name (nameless_at t index id))) o) c.is ∙ changed_now
 
     abbrev pub now : PairContent
     now = record { slots = a ++ record s.slot { name = name } ∷ b; tail = p.content.tail; move = p.content.move }
@@ -157,7 +157,7 @@ module _ (t : KeptThread) (index id : ℕ) (ready : IsReadyImage t) (first : ℕ
     pub made : complete_after t index (front ++ slot_changes at name (nameless_at t index id)) ≡ Some now
     made = ap (λ o. option_and_then complete_content o) made_raw ∙ now_complete
 
-    cut : CanSplit t.disk.block_size t.disk.page raw_now.slots
+    cut : AreSplittable t.disk.block_size t.disk.page raw_now.slots
     cut = content_cut t.disk.block_size t.disk.page raw_now now a moved b (logged_changed c.raw changes raw_now (logged c.raw c.is) changed_now) now_complete refl
         (entry_small t.disk.profile t.disk.block_size t.disk.page moved ready.large fits)
         (let f = fits_left.size in let k = sum_by-append slot_size a b in omega arith)

@@ -1,5 +1,5 @@
 -- An entry that takes the place of a directory while the sync bit turns, as a step of the thread.
-use Rattle.lfs_operations.proofs.Common.{subst₂, ℕ, ◌≡◌, ◌⊎◌, inl, inr, ◌+◌, ◌≤◌, true, List, [], ◌∷◌, ◌++◌, length, Some, refl, sym, ap, ap₂, subst, ◌∙◌, arith, append_assoc, length-append, sum_by, insert, sum_by-append, sum_by-cons, same_Some, tree_renaming, PairChange, Delete, PutMove, changed_content_of, RawContent, RawSlot, complete_slots, complete_content, raw_content, Disk, CallEvent, HasName, MoveStateFits, Name, is_valid_name, SurvivesLossSince, PairContent, FitsInPair, Gstate, Slot, gstate_xor, slot_size, Pair, pairs_gstate, tail_target, IsTreeEntry, disk_tree, IsChangedImage, complete_insert, complete_length, completed_from, completed_parts, does_first, puts_move, gstate_comm, sync_bit_delta, turned_is, HoldsAtLosses-weaker, IsStep, insert_here, some_filled, renamed_addresses, site, Site, thread_at, IsWritableChange, CleanLossLeaves, KeptThread, CanChangePair, IsPairCommitted, LossLeavesPair, RefusesChanges, IsPairWritten, complete_after, thread_pair, option_and_then, struct_len, CanEditIn, id_after_removal, tree_renamed, CanReplaceDirectory, IsDirectoryReplaced, replace_directory_changes, HasSlot, NamelessSlot, nameless_of, slot_changes}
+use Rattle.lfs_operations.proofs.Common.{subst₂, ℕ, ◌≡◌, ◌⊎◌, inl, inr, ◌+◌, ◌≤◌, true, List, [], ◌∷◌, ◌++◌, length, Some, refl, sym, ap, ap₂, subst, ◌∙◌, arith, append_assoc, length-append, sum_by, insert, sum_by-append, sum_by-cons, same_Some, tree_renaming, ContentChange, Delete, PutMove, content_with_changes, RawContent, RawSlot, complete_slots, complete_content, raw_content, Disk, CallEvent, HasName, MoveStateFits, Name, is_valid_name, SurvivesLossSince, PairContent, FitsInPair, Gstate, Slot, gstate_xor, slot_size, Pair, pairs_gstate, tail_target, IsTreeEntry, disk_tree, IsChangedImage, complete_insert, complete_length, completed_from, completed_parts, does_first, puts_move, gstate_comm, sync_bit_delta, turned_is, HoldsAtLosses-weaker, IsStep, insert_here, some_filled, renamed_addresses, site, Site, thread_at, IsWritableChange, CleanLossLeaves, KeptThread, CanChangePair, IsPairCommitted, LossLeavesPair, RefusesChanges, IsPairWritten, complete_after, thread_pair, option_and_then, struct_len, CanEditIn, id_after_removal, tree_renamed, CanReplaceDirectory, IsDirectoryReplaced, replace_directory_changes, HasSlot, NamelessSlot, nameless_of, slot_changes}
 use Rattle.lfs_operations.proofs.Held.{CompletesTo, below, here, raw_there}
 use Rattle.lfs_operations.proofs.RenameMade as made
 use Rattle.lfs_operations.proofs.RenameMade.{ComesAhead, ComesBehind, Leaves, behind_or_ahead}
@@ -19,12 +19,12 @@ turned_small g h = subst MoveStateFits (sym (gstate_comm g sync_bit_delta ∙ tu
 
 -- ---- a slot comes into what is left
 
-module _ (c : RawContent) (front : List PairChange) (a b : List Slot) (left : Leaves c front (a ++ b)) (at : ℕ) (number : length a ≡ at) (few : length (a ++ b) ≤ 1000) (name : Name) (named : is_valid_name name ≡ true)
+module _ (c : RawContent) (front : List ContentChange) (a b : List Slot) (left : Leaves c front (a ++ b)) (at : ℕ) (number : length a ≡ at) (few : length (a ++ b) ≤ 1000) (name : Name) (named : is_valid_name name ≡ true)
     (x : RawSlot) (u : Slot) (is : IsOf x u) where
   abbrev raw_moved : RawSlot
   raw_moved = slot_of_parts name (nameless_of x)
 
-  comes_again : changed_content_of c (front ++ slot_changes at name (nameless_of x)) ≡ Some (with_slot left.left at (slot_of_parts name (nameless_of x)))
+  comes_again : content_with_changes c (front ++ slot_changes at name (nameless_of x)) ≡ Some (with_slot left.left at (slot_of_parts name (nameless_of x)))
   comes_again =
       let l = complete_length left.left.slots (a ++ b) left.are in
       let k = length-append a b in
@@ -91,7 +91,7 @@ module _ (t : KeptThread) (index id place : ℕ) (name : Name) (rename : CanRepl
   abbrev turned_raw : RawContent
   turned_raw = record c.raw { move = delta }
 
-  does_turn : (rest : List PairChange) (e : RawContent) → changed_content_of (record c.raw { move = delta }) rest ≡ Some e → changed_content_of c.raw (PutMove delta ∷ rest) ≡ Some e
+  does_turn : (rest : List ContentChange) (e : RawContent) → content_with_changes (record c.raw { move = delta }) rest ≡ Some e → content_with_changes c.raw (PutMove delta ∷ rest) ≡ Some e
   does_turn rest e h = does_first (PutMove delta) rest c.raw turned_raw e
       (puts_move c.raw delta (turned_small (thread_pair t index).content.move
       (subst MoveStateFits (sym (completed_parts c.raw p.content c.complete).move ∙ ap (λ (z : Pair). z.content.move) (sym (here t can.ready can.first index p can.stands.rest can.stands.place))) (can.logged c.raw c.is).move))) h
@@ -119,8 +119,8 @@ module _ (t : KeptThread) (index id place : ℕ) (name : Name) (rename : CanRepl
     abbrev raw_now : RawContent
     raw_now = with_slot left_two.left (id_after_removal id place) (slot_of_parts name (nameless_of raw_here))
 
-    changed_now : changed_content_of c.raw (replace_directory_changes t index id place name) ≡ Some raw_now
-    changed_now = ap (λ (z : NamelessSlot). changed_content_of c.raw (PutMove delta ∷ Delete id ∷ Delete (id_after_removal id place) ∷ slot_changes (id_after_removal id place) name z))
+    changed_now : content_with_changes c.raw (replace_directory_changes t index id place name) ≡ Some raw_now
+    changed_now = ap (λ (z : NamelessSlot). content_with_changes c.raw (PutMove delta ∷ Delete id ∷ Delete (id_after_removal id place) ∷ slot_changes (id_after_removal id place) name z))
         (made.parts_are t index id can.ready can.first p can.stands.rest can.stands.place can.logged can.name s)
         ∙ does_turn (Delete id ∷ Delete (id_after_removal id place) ∷ slot_changes (id_after_removal id place) name (nameless_of raw_here)) raw_now
         (comes_again turned_raw (Delete id ∷ Delete (id_after_removal id place) ∷ []) x y left_two (id_after_removal id place) over.1 fits_two.count name named raw_here u is_raw_slot)
@@ -128,7 +128,7 @@ module _ (t : KeptThread) (index id place : ℕ) (name : Name) (rename : CanRepl
     over_made : complete_after t index (replace_directory_changes t index id place name) ≡ Some (over_content x y)
     over_made =
         let parts = completed_parts c.raw p.content c.complete in
-        ap (λ o. option_and_then complete_content (option_and_then (λ (z : RawContent). changed_content_of z (replace_directory_changes t index id place name)) o)) c.is
+        ap (λ o. option_and_then complete_content (option_and_then (λ (z : RawContent). content_with_changes z (replace_directory_changes t index id place name)) o)) c.is
         ∙ ap (λ o. option_and_then complete_content o) changed_now
         ∙ completed_from raw_now (x ++ with_name u name ∷ y) (are_again turned_raw (Delete id ∷ Delete (id_after_removal id place) ∷ []) x y left_two (id_after_removal id place) over.1 fits_two.count name named raw_here u is_raw_slot)
         ∙ ap₂ (λ a m. Some (record { slots = x ++ with_name u name ∷ y; tail = a; move = m })) (left_two.tail ∙ sym parts.tail) (left_two.move ∙ ap (λ (z : Pair). gstate_xor z.content.move sync_bit_delta) (here t can.ready can.first index p can.stands.rest can.stands.place))

@@ -1,5 +1,5 @@
 -- Slots that are replaced by the same ones, of which one has another name, or for fewer.
-use Rattle.lfs_operations.proofs.Common.{ℕ, ◌≡◌, ◌+◌, false, List, [], ◌∷◌, ◌++◌, length, Some, sym, ap, subst, ◌∙◌, arith, take, drop, take-append-drop, recursion_from_All, PairChange, Disk, SameGeometry, PairContent, Slot, is_superblock, Pair, pairs_gstate, superblock_first, count_before_root, IsWritableEntry, IsWritableSlot, BeginsWithSuperblock, IsAccepted, IsTreeEntry, IsFormedList, all_unmoved_slots, struct_blocks, SameFiles, slots_files, no_move_from, Each, number_occurrences, count_append, each_append, each_left, each_pieces, each_right, each_weaker, SameFileBlocks, is_list_same, Site, IsSite, dirs_at, thread_at, count_files, file_blocks, unmoved_in, KeptThread, complete_after, All, IsReadyImage}
+use Rattle.lfs_operations.proofs.Common.{ℕ, ◌≡◌, ◌+◌, false, List, [], ◌∷◌, ◌++◌, length, Some, sym, ap, subst, ◌∙◌, arith, take, drop, take-append-drop, recursion_from_All, ContentChange, Disk, SameGeometry, PairContent, Slot, is_superblock, Pair, pairs_gstate, superblock_first, count_before_root, IsWritableEntry, IsWritableSlot, BeginsWithSuperblock, IsAccepted, IsTreeEntry, IsFormedList, all_unmoved_slots, struct_blocks, SameFiles, slots_files, no_move_from, Each, number_occurrences, count_append, each_append, each_left, each_pieces, each_right, each_weaker, SameFileBlocks, is_list_same, Site, IsSite, dirs_at, thread_at, count_files, file_blocks, unmoved_in, KeptThread, complete_after, All, IsReadyImage}
 use Rattle.lfs_model.specs.declared.limits.AcceptedVersions.{AcceptedVersions}
 use Rattle.lfs_model.proofs.Counts.{each_both}
 use Rattle.lfs_operations.proofs.Splicing.{IsSplicing}
@@ -66,7 +66,7 @@ each_rests disk ps ok = subst (Each (λ p. HasRests p.content.slots)) (take-appe
 -- ---- the commit
 
 -- At the site stands the pair of that number, whose slots are replaced; what the changes make of it is known.
-pub record IsPlaced (t : KeptThread) (index : ℕ) (changes : List PairChange) (w : Site) (p : Pair) (l olds news r gone : List Slot) (u moved : Slot) : Type 1 where
+pub record IsPlaced (t : KeptThread) (index : ℕ) (changes : List ContentChange) (w : Site) (p : Pair) (l olds news r gone : List Slot) (u moved : Slot) : Type 1 where
   pub ready : IsReadyImage t
   pub there : t.pairs ≡ thread_at w (p ∷ [])
   pub place : index ≡ length w.chain + length (w.before ++ w.left)
@@ -83,7 +83,7 @@ pub record IsPlaced (t : KeptThread) (index : ℕ) (changes : List PairChange) (
   pub other : is_superblock moved ≡ false
   pub fits : IsWritableEntry t.disk.profile t.disk.block_size t.disk.page moved
 
-module _ (t : KeptThread) (index : ℕ) (changes : List PairChange) (w : Site) (p : Pair) (l olds news r gone : List Slot) (u moved : Slot) (k : IsPlaced t index changes w p l olds news r gone u moved) where
+module _ (t : KeptThread) (index : ℕ) (changes : List ContentChange) (w : Site) (p : Pair) (l olds news r gone : List Slot) (u moved : Slot) (k : IsPlaced t index changes w p l olds news r gone u moved) where
   -- of the pairs at the site
   at_site : (P : Pair → Type 0) → Each P t.pairs → P p
   at_site P h = (each_right P (w.before ++ w.left) (p ∷ [] ++ (w.right ++ w.after)) (each_right P w.chain (dirs_at w (p ∷ [])) (subst (Each P) k.there h))).0

@@ -1,5 +1,5 @@
 -- A pair that is changed or split after it was read.
-use Rattle.lfs_operations.proofs.Common.{ℕ, ◌≡◌, ◌⊎◌, inl, inr, false, List, [], Result, Some, Err, refl, sym, ap, subst, ◌∙◌, Blocks, PairChange, Disk, CallEvent, OnlyReadsSince, fault_count, IsDirectoryPair, SurvivesLossSince, with_blocks, PairContent, Pair, Tree, disk_tree, HoldsAtLosses-weaker, HoldsAtLosses-trans, HoldsAtLosses-read_count, AllCallsSince-behind, LeftByLoss-read, CleanLossLeaves, KeptThread, ThreadView, ThreadReportsErrors, IsPairCommitted, OnlyReadsThread, IsPairWritten, thread_pair, IfErr, Error, Io, NoMemory, NoSpace, CanPut, LeftByPut, ArePut, OverfillsPair, ReportsPut, ReportsSpaceErrors, WritesPairTwo, IsReadyImage, ReportsReadPut}
+use Rattle.lfs_operations.proofs.Common.{ℕ, ◌≡◌, ◌⊎◌, inl, inr, false, List, [], Result, Some, Err, refl, sym, ap, subst, ◌∙◌, Blocks, ContentChange, Disk, CallEvent, OnlyReadsSince, fault_count, IsDirectoryPair, SurvivesLossSince, with_blocks, PairContent, Pair, Tree, disk_tree, HoldsAtLosses-weaker, HoldsAtLosses-trans, HoldsAtLosses-read_count, AllCallsSince-behind, LeftByLoss-read, CleanLossLeaves, KeptThread, ThreadView, ThreadReportsErrors, IsPairCommitted, OnlyReadsThread, IsPairWritten, thread_pair, IfErr, Error, Io, NoMemory, NoSpace, CanPut, LeftByPut, ArePut, OverfillsPair, ReportsPut, ReportsSpaceErrors, WritesPairTwo, IsReadyImage, ReportsReadPut}
 use Rattle.lfs_operations.proofs.Held.{here, holds}
 use Rattle.lfs_operations.proofs.Putting.{cut_later, left_later, read_is, reports_later, with_history, writes_later, writes_none, same_err}
 
@@ -35,7 +35,7 @@ reports_read t mid e result given is same reported = record {
     not_space (inr b) k = absurd (cc)
 
 -- it couldn't be read
-pub moves_unread : {X Y : Type 0} (old new : ThreadView) (index : ℕ) (changes : List PairChange) (e : Error) (result : Result X Error) (given : Result Y Error) → result ≡ Err e → given ≡ Err e
+pub moves_unread : {X Y : Type 0} (old new : ThreadView) (index : ℕ) (changes : List ContentChange) (e : Error) (result : Result X Error) (given : Result Y Error) → result ≡ Err e → given ≡ Err e
     → new.failed ≡ false → OnlyReadsThread old.kept new.kept → ThreadReportsErrors old.kept new.kept result → ReportsReadPut old new index changes given
 moves_unread old new index changes e result given is same works only reported =
     let reports = reports_read old.kept new.kept e result given is same reported in
@@ -57,7 +57,7 @@ moves_unread old new index changes e result given is same works only reported =
 pub written_earlier : (t : KeptThread) (h : List CallEvent) (index : ℕ) (content : PairContent) (disk : Disk) → IsPairWritten (with_history t h) index content disk → IsPairWritten t index content disk
 written_earlier t h index content disk w = record { holds = w.holds; others = w.others; shape = w.shape; first = w.first }
 
-module _ (t : KeptThread) (h : List CallEvent) (reads : OnlyReadsSince t.disk.blocks t.history h) (index : ℕ) (changes : List PairChange) where
+module _ (t : KeptThread) (h : List CallEvent) (reads : OnlyReadsSince t.disk.blocks t.history h) (index : ℕ) (changes : List ContentChange) where
   pub changed_earlier : (new : KeptThread) → IsPairCommitted (with_history t h) index changes new → IsPairCommitted t index changes new
   changed_earlier new is = record {
     content = is.content;
@@ -78,7 +78,7 @@ module _ (t : KeptThread) (h : List CallEvent) (reads : OnlyReadsSince t.disk.bl
   left_earlier left (inr (large, is)) = inr (large, left_later t h reads index changes left is)
 
 -- the pair as it was, at a stop in a read
-still_there : (t : KeptThread) (index : ℕ) (changes : List PairChange) → IsReadyImage t → (first : ℕ) (p : Pair) (rest : List Pair) → IsDirectoryPair t.pairs first index p rest → LeftByPut t index changes t.disk.blocks
+still_there : (t : KeptThread) (index : ℕ) (changes : List ContentChange) → IsReadyImage t → (first : ℕ) (p : Pair) (rest : List Pair) → IsDirectoryPair t.pairs first index p rest → LeftByPut t index changes t.disk.blocks
 still_there t index changes ready first p rest place = inl (record {
   content = (thread_pair t index).content;
   is = inl refl;
@@ -90,20 +90,20 @@ still_there t index changes ready first p rest place = inl (record {
   };
 })
 
-pub stops_after_read : (t mid new : KeptThread) (index : ℕ) (changes : List PairChange) → OnlyReadsThread t mid → IsReadyImage t → (first : ℕ) (p : Pair) (rest : List Pair) → IsDirectoryPair t.pairs first index p rest
+pub stops_after_read : (t mid new : KeptThread) (index : ℕ) (changes : List ContentChange) → OnlyReadsThread t mid → IsReadyImage t → (first : ℕ) (p : Pair) (rest : List Pair) → IsDirectoryPair t.pairs first index p rest
     → WritesPairTwo mid index new → CleanLossLeaves mid.history new.history (LeftByPut mid index changes) → CleanLossLeaves t.history new.history (LeftByPut t index changes)
 stops_after_read t mid new index changes only ready first p rest place writes stops clean =
     HoldsAtLosses-trans (HoldsAtLosses-read_count LeftByLoss-read only.reads (still_there t index changes ready first p rest place))
     (HoldsAtLosses-weaker (λ left l. left_earlier t mid.history only.reads index changes left (subst (λ (k : KeptThread). LeftByPut k index changes left) (read_is t mid only) l))
     (stops (AllCallsSince-behind clean only.reads writes.writes.at_worst)))
 
-pub put_after_read : (t mid new : KeptThread) (index : ℕ) (changes : List PairChange) → OnlyReadsThread t mid → ArePut mid index changes new → ArePut t index changes new
+pub put_after_read : (t mid new : KeptThread) (index : ℕ) (changes : List ContentChange) → OnlyReadsThread t mid → ArePut mid index changes new → ArePut t index changes new
 put_after_read t mid new index changes only is = put_earlier t mid.history only.reads index changes new (subst (λ (k : KeptThread). ArePut k index changes new) (read_is t mid only) is)
 
 pub writes_after_read : (t mid new : KeptThread) (index : ℕ) → OnlyReadsThread t mid → WritesPairTwo mid index new → WritesPairTwo t index new
 writes_after_read t mid new index only w = writes_later t mid.history only.reads index [] new (subst (λ (k : KeptThread). WritesPairTwo k index new) (read_is t mid only) w)
 
-pub can_after_read : (t mid : KeptThread) (index : ℕ) (changes : List PairChange) → OnlyReadsThread t mid → CanPut t index changes → CanPut mid index changes
+pub can_after_read : (t mid : KeptThread) (index : ℕ) (changes : List ContentChange) → OnlyReadsThread t mid → CanPut t index changes → CanPut mid index changes
 can_after_read t mid index changes only can = subst (λ (k : KeptThread). CanPut k index changes) (sym (read_is t mid only)) (record {
   can = record { below = can.can.below; content = can.can.content; made = can.can.made; next = can.can.next };
   raw = can.raw;
@@ -111,7 +111,7 @@ can_after_read t mid index changes only can = subst (λ (k : KeptThread). CanPut
   cut = can.cut;
 })
 
-pub moves_after_read : {X : Type 0} (old mid new : ThreadView) (index : ℕ) (changes : List PairChange) (result : Result X Error) → OnlyReadsThread old.kept mid.kept → fault_count mid.kept.history ≡ fault_count old.kept.history
+pub moves_after_read : {X : Type 0} (old mid new : ThreadView) (index : ℕ) (changes : List ContentChange) (result : Result X Error) → OnlyReadsThread old.kept mid.kept → fault_count mid.kept.history ≡ fault_count old.kept.history
     → ReportsPut mid new index changes result → ReportsReadPut old new index changes result
 moves_after_read old mid new index changes result only same reported = record {
   failed = inl reported.reports.failed;

@@ -1,16 +1,16 @@
 -- A pair that is changed after it was read.
-use Rattle.lfs_operations.proofs.Common.{ℕ, ◌≡◌, ◌⊎◌, inl, inr, false, Some, List, Result, Err, refl, sym, ap, subst, ◌∙◌, arith, Blocks, PairChange, CallEvent, OnlyReadsSince, fault_count, IsDirectoryPair, with_blocks, Pair, LossLeavesAtWorst-read, AllCallsSince-behind, HoldsAtLosses-read_count, HoldsAtLosses-trans, HoldsAtLosses-weaker, OnlyReadsSince-trans, StayUnprogrammed-read_count, StayUnprogrammed-trans, LeftByLoss-read, CleanLossLeaves, KeptThread, ThreadView, CanChangePair, ThreadReportsErrors, IsPairCommitted, LossLeavesPair, OnlyReadsThread, RefusesChanges, ChangesThreadBlocks, thread_pair, IfErr, Error, Io, NoMemory, IsReadyImage, ReportsReadCommit, ReportsCommit}
+use Rattle.lfs_operations.proofs.Common.{ℕ, ◌≡◌, ◌⊎◌, inl, inr, false, Some, List, Result, Err, refl, sym, ap, subst, ◌∙◌, arith, Blocks, ContentChange, CallEvent, OnlyReadsSince, fault_count, IsDirectoryPair, with_blocks, Pair, LossLeavesAtWorst-read, AllCallsSince-behind, HoldsAtLosses-read_count, HoldsAtLosses-trans, HoldsAtLosses-weaker, OnlyReadsSince-trans, StayUnprogrammed-read_count, StayUnprogrammed-trans, LeftByLoss-read, CleanLossLeaves, KeptThread, ThreadView, CanChangePair, ThreadReportsErrors, IsPairCommitted, LossLeavesPair, OnlyReadsThread, RefusesChanges, ChangesThreadBlocks, thread_pair, IfErr, Error, Io, NoMemory, IsReadyImage, ReportsReadCommit, ReportsCommit}
 use Rattle.lfs_operations.proofs.Held.{here, holds}
 use Rattle.lfs_operations.proofs.Putting.{read_is, with_history, same_err}
 use Rattle.lfs_operations.proofs.RenameRead.{changed_earlier, written_earlier}
 
-pub changed_after_read : (t mid new : KeptThread) (index : ℕ) (changes : List PairChange) → OnlyReadsThread t mid → IsPairCommitted mid index changes new → IsPairCommitted t index changes new
+pub changed_after_read : (t mid new : KeptThread) (index : ℕ) (changes : List ContentChange) → OnlyReadsThread t mid → IsPairCommitted mid index changes new → IsPairCommitted t index changes new
 changed_after_read t mid new index changes only is = changed_earlier t mid.history only.reads index changes new (subst (λ (k : KeptThread). IsPairCommitted k index changes new) (read_is t mid only) is)
 
-pub can_change_after_read : (t mid : KeptThread) (index : ℕ) (changes : List PairChange) → OnlyReadsThread t mid → CanChangePair t index changes → CanChangePair mid index changes
+pub can_change_after_read : (t mid : KeptThread) (index : ℕ) (changes : List ContentChange) → OnlyReadsThread t mid → CanChangePair t index changes → CanChangePair mid index changes
 can_change_after_read t mid index changes only can = subst (λ (k : KeptThread). CanChangePair k index changes) (sym (read_is t mid only)) (record { below = can.below; content = can.content; made = can.made; next = can.next })
 
-refused_earlier : (t : KeptThread) (h : List CallEvent) (new : KeptThread) (index : ℕ) (changes : List PairChange) → OnlyReadsSince t.disk.blocks t.history h → RefusesChanges (with_history t h) index changes new → RefusesChanges t index changes new
+refused_earlier : (t : KeptThread) (h : List CallEvent) (new : KeptThread) (index : ℕ) (changes : List ContentChange) → OnlyReadsSince t.disk.blocks t.history h → RefusesChanges (with_history t h) index changes new → RefusesChanges t index changes new
 refused_earlier t h new index changes reads is = record {
   content = is.content;
   made = is.made;
@@ -18,7 +18,7 @@ refused_earlier t h new index changes reads is = record {
   only = record { disk = is.only.disk; reads = OnlyReadsSince-trans reads is.only.reads refl; pairs = is.only.pairs; map = is.only.map };
 }
 
-pub refused_after_read : (t mid new : KeptThread) (index : ℕ) (changes : List PairChange) → OnlyReadsThread t mid → RefusesChanges mid index changes new → RefusesChanges t index changes new
+pub refused_after_read : (t mid new : KeptThread) (index : ℕ) (changes : List ContentChange) → OnlyReadsThread t mid → RefusesChanges mid index changes new → RefusesChanges t index changes new
 refused_after_read t mid new index changes only is = refused_earlier t mid.history new index changes only.reads (subst (λ (k : KeptThread). RefusesChanges k index changes new) (read_is t mid only) is)
 
 pub writes_earlier : (t : KeptThread) (h : List CallEvent) (new : KeptThread) (bs : List ℕ) → OnlyReadsSince t.disk.blocks t.history h → ChangesThreadBlocks bs (with_history t h) new → ChangesThreadBlocks bs t new
@@ -40,7 +40,7 @@ only_read_writes t mid bs only = subst (λ (k : KeptThread). ChangesThreadBlocks
   at_worst = HoldsAtLosses-read_count LossLeavesAtWorst-read only.reads (record { count = refl; sizes = λ b. refl; others = λ b apart. refl });
 })
 
-pub change_stops_after_read : (t mid new : KeptThread) (index : ℕ) (changes : List PairChange) (bs : List ℕ) → OnlyReadsThread t mid → IsReadyImage t → (first : ℕ) (p : Pair) (rest : List Pair) → IsDirectoryPair t.pairs first index p rest
+pub change_stops_after_read : (t mid new : KeptThread) (index : ℕ) (changes : List ContentChange) (bs : List ℕ) → OnlyReadsThread t mid → IsReadyImage t → (first : ℕ) (p : Pair) (rest : List Pair) → IsDirectoryPair t.pairs first index p rest
     → ChangesThreadBlocks bs mid new → CleanLossLeaves mid.history new.history (LossLeavesPair mid index changes) → CleanLossLeaves t.history new.history (LossLeavesPair t index changes)
 change_stops_after_read t mid new index changes bs only ready first p rest place writes stops clean =
     HoldsAtLosses-trans (HoldsAtLosses-read_count LeftByLoss-read only.reads (record {

@@ -1,6 +1,6 @@
 -- What the changes make that put a slot at an id.
 use Rattle.std.specs.List.{insert}
-use Rattle.lfs_operations.proofs.Common.{ℕ, ◌≡◌, ◌⊎◌, inl, inr, ◌+◌, ◌<◌, ◌≤◌, ◌==◌, Bool, true, false, cond, take, drop, List, [], ◌∷◌, ◌++◌, length, Option, Some, None, refl, sym, ap, ap₂, subst, ◌∙◌, arith, append_assoc, append-nil, eqb-true, le-ltb, ne_eqb, same_Some, PutAttribute, changed_content_of, RawSlot, RawContent, complete_slot, changed_at, empty_slot, kind_of_type, attributes_with, slot_of_id, read_struct, file_name_type, directory_name_type, IsFormedSlot, IsAllowedPart, Name, is_valid_name, Attributes, Slot, File, Directory, Superblock, is_superblock, Each, each_append, each_weaker, creates_with_struct, does_first, puts_attribute, tag_type-make_tag, tag_length-make_tag, nat_lt, nat_le, ◌&&◌, is_some, length-take-le, AttributesInOrder, AllowsIfSome, is_superblock_kind, changed_inserted, with_attribute_put, NamelessSlot, attribute_changes, nameless_of, slot_changes}
+use Rattle.lfs_operations.proofs.Common.{ℕ, ◌≡◌, ◌⊎◌, inl, inr, ◌+◌, ◌<◌, ◌≤◌, ◌==◌, Bool, true, false, cond, take, drop, List, [], ◌∷◌, ◌++◌, length, Option, Some, None, refl, sym, ap, ap₂, subst, ◌∙◌, arith, append_assoc, append-nil, eqb-true, le-ltb, ne_eqb, same_Some, PutAttribute, content_with_changes, RawSlot, RawContent, complete_slot, slot_changed_at, empty_slot, kind_of_type, attributes_with, slot_of_id, decoded_struct, file_name_type, directory_name_type, IsFormedSlot, IsAllowedPart, Name, is_valid_name, Attributes, Slot, File, Directory, Superblock, is_superblock, Each, each_append, each_weaker, creates_with_struct, does_first, puts_attribute, tag_type-make_tag, tag_length-make_tag, nat_lt, nat_le, ◌&&◌, is_some, length-take-le, AttributesInOrder, AllowedIfAny, is_superblock_kind, changed_inserted, with_attribute_put, NamelessSlot, attribute_changes, nameless_of, slot_changes}
 use Rattle.std.proofs.lemmas.Bool.{leb-true}
 use Rattle.std.proofs.Math.Seq.{get_or-append_seam}
 use Rattle.lfs_model.specs.format.Names.{is_component}
@@ -25,7 +25,7 @@ with_slot c id s = record c { slots = insert c.slots id s }
 
 pub puts_attributes : (c : RawContent) (id : ℕ) (s : RawSlot) (low : ℕ) (front rest : Attributes) → id < 0x3ff → id ≤ length c.slots → is_some s.name ≡ true
     → Each (λ (a : ℕ × List ℕ). a.0 < low) front → AttributesInOrder low rest
-    → changed_content_of (with_slot c id (record s { attributes = front })) (attribute_changes id rest) ≡ Some (with_slot c id (record s { attributes = front ++ rest }))
+    → content_with_changes (with_slot c id (record s { attributes = front })) (attribute_changes id rest) ≡ Some (with_slot c id (record s { attributes = front ++ rest }))
 puts_attributes c id s low front [] small fits named below up =
     ap (λ (z : Attributes). Some (with_slot c id (record s { attributes = z }))) (sym (append-nil front))
 puts_attributes c id s low front (a ∷ rest) small fits named below up =
@@ -33,12 +33,12 @@ puts_attributes c id s low front (a ∷ rest) small fits named below up =
     let now : RawSlot = record s { attributes = front ++ a ∷ [] } in
     let short : length a.1 < 0x3ff = up.2 in
     let from : low ≤ a.0 = up.0 in
-    let same : changed_at (with_attribute_put a.0 a.1) (insert c.slots id was) id ≡ insert c.slots id now
+    let same : slot_changed_at (with_attribute_put a.0 a.1) (insert c.slots id was) id ≡ insert c.slots id now
     = changed_inserted (with_attribute_put a.0 a.1) c.slots id was fits
     ∙ ap (λ (z : Attributes). insert c.slots id (record s { attributes = z })) (put_last front a.0 a.1 (each_weaker (λ (x : ℕ × List ℕ). x.0 < low) (λ (x : ℕ × List ℕ). x.0 < a.0) (λ x l. omega arith) front below)) in
-    does_first (PutAttribute id a.0 a.1) (attribute_changes id rest) (with_slot c id was) (record c { slots = changed_at (with_attribute_put a.0 a.1) (insert c.slots id was) id }) (with_slot c id (record s { attributes = front ++ a ∷ rest }))
+    does_first (PutAttribute id a.0 a.1) (attribute_changes id rest) (with_slot c id was) (record c { slots = slot_changed_at (with_attribute_put a.0 a.1) (insert c.slots id was) id }) (with_slot c id (record s { attributes = front ++ a ∷ rest }))
     (puts_attribute (with_slot c id was) id a.0 a.1 small (let l : a.0 < 256 = up.1 in omega arith) short (ap (λ (z : RawSlot). is_some z.name) (inserted c.slots id was fits) ∙ named))
-    (ap (λ (z : List RawSlot). changed_content_of (record c { slots = z }) (attribute_changes id rest)) same
+    (ap (λ (z : List RawSlot). content_with_changes (record c { slots = z }) (attribute_changes id rest)) same
     ∙ puts_attributes c id s (a.0 + 1) (front ++ a ∷ []) rest small fits named
     (each_append (λ (x : ℕ × List ℕ). x.0 < a.0 + 1) front (a ∷ []) (each_weaker (λ (x : ℕ × List ℕ). x.0 < low) (λ (x : ℕ × List ℕ). x.0 < a.0 + 1) (λ x l. omega arith) front below) (omega arith, tt)) up.3
     ∙ ap (λ (z : Attributes). Some (with_slot c id (record s { attributes = z }))) (append_assoc front (a ∷ []) rest))
@@ -80,7 +80,7 @@ name_part kind name (inr e) short = subst (λ (k : ℕ). IsAllowedPart 0 (k, nam
 })
 
 pub slot_comes : (c : RawContent) (id : ℕ) (name : Name) (parts : NamelessSlot) → id < 0x3ff → id ≤ length c.slots → length name ≤ 255 → AreParts parts
-    → changed_content_of c (slot_changes id name parts) ≡ Some (with_slot c id (slot_of_parts name parts))
+    → content_with_changes c (slot_changes id name parts) ≡ Some (with_slot c id (slot_of_parts name parts))
 slot_comes c id name parts small fits short are =
     let s : RawSlot = slot_of_parts name parts in
     creates_with_struct c id parts.kind name parts.struct.0 parts.struct.1 (attribute_changes id parts.attributes) (with_slot c id s) small fits (name_part parts.kind name are.kind short) are.struct
@@ -104,12 +104,12 @@ kind_of_entry type h = go (type == file_name_type) (type == directory_name_type)
 pub is_of : (s : RawSlot) (u : Slot) → IsFormedSlot s → complete_slot s ≡ Some u → is_superblock u ≡ false → IsOf s u
 is_of s u parts is other = go s.name s.struct s.attributes parts.struct parts.attributes is
   where
-    go : (n p : Option (ℕ × List ℕ)) (attributes : Attributes) → AllowsIfSome 2 p → AttributesInOrder 0 attributes → (let x : RawSlot = record { name = n; struct = p; attributes = attributes } in complete_slot x ≡ Some u)
+    go : (n p : Option (ℕ × List ℕ)) (attributes : Attributes) → AllowedIfAny 2 p → AttributesInOrder 0 attributes → (let x : RawSlot = record { name = n; struct = p; attributes = attributes } in complete_slot x ≡ Some u)
         → IsOf (record { name = n; struct = p; attributes = attributes }) u
     go None p attributes h k e = absurd (cc)
     go (Some n) None attributes h k e = absurd (cc)
     go (Some n) (Some p) attributes h k e =
-        let same = same_Some (record { kind = kind_of_type n.0; name = n.1; struct = read_struct p.0 p.1; attributes = attributes }) u e in
+        let same = same_Some (record { kind = kind_of_type n.0; name = n.1; struct = decoded_struct p.0 p.1; attributes = attributes }) u e in
         record {
           are = record { kind = kind_of_entry n.0 (ap is_superblock same ∙ other); struct = h; attributes = k };
           complete = λ name. ap (λ (x : Slot). Some (record x { name = name })) same;

@@ -1,12 +1,12 @@
 -- A rename within one pair as a step of the thread, whatever is replaced by whatever.
-use Rattle.lfs_operations.proofs.Common.{ℕ, ◌≡◌, ◌≢◌, ◌≤◌, ◌+◌, List, [], ◌∷◌, ◌++◌, sym, ap, subst, ◌∙◌, arith, tree_renaming, PairChange, Disk, CallEvent, Name, SurvivesLossSince, Session, Slot, path_or_root, Pair, Path, disk_tree, used_blocks, IsChangedImage, IsCommit, CompletesOperation, renamed_addresses, Site, thread_at, file_blocks, CleanLossLeaves, KeptThread, number_occurrences, LeftByPut, ArePut, ShowsUnsettledTree, CompletesRename, tree_renamed}
+use Rattle.lfs_operations.proofs.Common.{ℕ, ◌≡◌, ◌≢◌, ◌≤◌, ◌+◌, List, [], ◌∷◌, ◌++◌, sym, ap, subst, ◌∙◌, arith, tree_renaming, ContentChange, Disk, CallEvent, Name, SurvivesLossSince, Session, Slot, path_or_root, Pair, Path, disk_tree, used_blocks, IsChangedImage, IsCommit, CompletesOperation, renamed_addresses, Site, thread_at, file_blocks, CleanLossLeaves, KeptThread, number_occurrences, LeftByPut, ArePut, ShowsUnsettledTree, CompletesRename, tree_renamed}
 use Rattle.lfs_model.specs.session.Operations as ops
 use Rattle.lfs_operations.proofs.RenamePlaced.{IsPlaced, splicing}
 use Rattle.lfs_operations.proofs.Splicing.{IsSplicing}
 use Rattle.lfs_operations.proofs.Stepped.{HasStep, becomes, put_step, survives}
 
 -- The slots that are replaced, and those by which they are; each commit of them is a rename.
-pub record IsMoving (t : KeptThread) (index : ℕ) (changes : List PairChange) (path : Path) (from to : Name) (gone : List Slot) : Type 1 where
+pub record IsMoving (t : KeptThread) (index : ℕ) (changes : List ContentChange) (path : Path) (from to : Name) (gone : List Slot) : Type 1 where
   pub w : Site
   pub p : Pair
   pub l : List Slot
@@ -23,7 +23,7 @@ pub record IsMoving (t : KeptThread) (index : ℕ) (changes : List PairChange) (
   pub completed : (disk : Disk) (q : Pair) (more : List Pair) → IsCommit t.disk disk w p q more [] l olds news r → (s : Session) (given to_given : List ℕ) → s.tree ≡ disk_tree t.disk (thread_at w (p ∷ []))
       → path_or_root given ≡ path ++ from ∷ [] → path_or_root to_given ≡ path ++ to ∷ [] → CompletesOperation t.disk (thread_at w (p ∷ [])) s (ops.Rename given to_given) disk (thread_at w (q ∷ more))
 
-module _ (t : KeptThread) (index : ℕ) (changes : List PairChange) (path : Path) (from to : Name) (gone : List Slot) (m : IsMoving t index changes path from to gone) where
+module _ (t : KeptThread) (index : ℕ) (changes : List ContentChange) (path : Path) (from to : Name) (gone : List Slot) (m : IsMoving t index changes path from to gone) where
   spliced : IsSplicing t index changes m.w m.p m.l m.olds m.news m.r (file_blocks t.disk gone) []
   spliced = splicing t index changes m.w m.p m.l m.olds m.news m.r gone m.u m.moved m.placed m.move
 

@@ -1,5 +1,5 @@
 -- An entry that becomes another of the same name, as a step of the thread.
-use Rattle.lfs_operations.proofs.Common.{nat_eq, ℕ, ◌≡◌, ◌+◌, ◌<◌, ◌≤◌, true, false, List, [], ◌∷◌, ◌++◌, length, Some, refl, sym, ap, ap₂, subst, ◌∙◌, arith, length-append, set, sum_by, same_Some, sum_by-append, sum_by-cons, PairChange, changed_content_of, RawContent, RawSlot, raw_content, complete_slot, complete_content, changed_at, slot_of_id, CanSplit, Disk, SameGeometry, disk_block, IsPlaceOf, Slot, PairContent, FitsInPair, is_superblock, same_pair, slot_size, Pair, pairs_gstate, tail_target, IsTreeEntry, IsFormedList, IsWritableEntry, LeadsTo, all_unmoved_slots, struct_blocks, used_blocks, no_move_from, completed_parts, completed_from, Each, each_pieces, each_right, number_occurrences, count_append, Does, does_first, does_nothing, SameFileBlocks, entry_small, site, thread_is, is_site, same, number_is, IsDistinct, IsInFlight, Site, dirs_at, thread_at, begin_of, unmoved_in, logged_changed, changed_pair, KeptThread, RefusesChanges, thread_pair, complete_after, is_some, option_and_then, IsNamed, set_here, CanPut, CanEditIn, editable_slot}
+use Rattle.lfs_operations.proofs.Common.{nat_eq, ℕ, ◌≡◌, ◌+◌, ◌<◌, ◌≤◌, true, false, List, [], ◌∷◌, ◌++◌, length, Some, refl, sym, ap, ap₂, subst, ◌∙◌, arith, length-append, set, sum_by, same_Some, sum_by-append, sum_by-cons, ContentChange, content_with_changes, RawContent, RawSlot, raw_content, complete_slot, complete_content, slot_changed_at, slot_of_id, AreSplittable, Disk, SameGeometry, disk_block, IsPlaceOf, Slot, PairContent, FitsInPair, is_superblock, same_pair, slot_size, Pair, pairs_gstate, tail_target, IsTreeEntry, IsFormedList, IsWritableEntry, LeadsTo, all_unmoved_slots, struct_blocks, used_blocks, no_move_from, completed_parts, completed_from, Each, each_pieces, each_right, number_occurrences, count_append, Does, does_first, does_nothing, SameFileBlocks, entry_small, site, thread_is, is_site, same, number_is, IsDistinct, IsInFlight, Site, dirs_at, thread_at, begin_of, unmoved_in, logged_changed, changed_pair_content, KeptThread, RefusesChanges, thread_pair, complete_after, is_some, option_and_then, IsNamed, set_here, CanPut, CanEditIn, editable_slot}
 use Rattle.lfs_model.proofs.Completed.{complete_set}
 use Rattle.lfs_model.proofs.Halves.{set_cut}
 use Rattle.lfs_model.proofs.Superblocks.{entry_is_other}
@@ -8,14 +8,14 @@ use Rattle.lfs_operations.proofs.RawSlots.{IsRaw, is_named, is_raw}
 use Rattle.lfs_operations.proofs.Splicing.{IsSplicing}
 
 -- the change makes that of the slot at the id
-abbrev pub Makes : PairChange → ℕ → (RawSlot → RawSlot) → Type 0
-Makes change id g = (c : RawContent) → id < 0x3ff → IsNamed c.slots id → Does change c (record c { slots = changed_at g c.slots id })
+abbrev pub Makes : ContentChange → ℕ → (RawSlot → RawSlot) → Type 0
+Makes change id g = (c : RawContent) → id < 0x3ff → IsNamed c.slots id → Does change c (record c { slots = slot_changed_at g c.slots id })
 
 -- of what is complete it makes something complete
 abbrev pub Turns : (RawSlot → RawSlot) → Slot → Slot → Type 0
 Turns g u v = (x : RawSlot) → complete_slot x ≡ Some u → complete_slot (g x) ≡ Some v
 
-module _ (t : KeptThread) (index id : ℕ) (can : CanEditIn t index id) (g : RawSlot → RawSlot) (v : Slot) (change : PairChange) (does : Makes change id g) (turns : Turns g (editable_slot can) v)
+module _ (t : KeptThread) (index id : ℕ) (can : CanEditIn t index id) (g : RawSlot → RawSlot) (v : Slot) (change : ContentChange) (does : Makes change id g) (turns : Turns g (editable_slot can) v)
     (fits : IsWritableEntry t.disk.profile t.disk.block_size t.disk.page v) where
   abbrev pub s : IsPlaceOf t.pairs can.first can.name index id
   s = can.stands
@@ -50,16 +50,16 @@ module _ (t : KeptThread) (index id : ℕ) (can : CanEditIn t index id) (g : Raw
   there_raw = ap (slot_of_id c.raw.slots) (sym s.stands.number) ∙ raw.there
 
   abbrev raw_now : RawContent
-  raw_now = record c.raw { slots = changed_at g c.raw.slots id }
+  raw_now = record c.raw { slots = slot_changed_at g c.raw.slots id }
 
-  changed_now : changed_content_of c.raw (change ∷ []) ≡ Some raw_now
+  changed_now : content_with_changes c.raw (change ∷ []) ≡ Some raw_now
   changed_now =
       let few = (fits_there t can.ready can.first index p s.rest s.place).count in
       let m = within in
       does_first change [] c.raw raw_now raw_now (does c.raw (omega arith) (ap (λ (z : RawSlot). is_some z.name) there_raw ∙ is_named raw.here u raw.is)) (does_nothing raw_now)
 
-  made_raw : changed_pair t.disk (thread_pair t index).at (change ∷ []) ≡ Some raw_now
-  made_raw = ap (λ o. option_and_then (λ (x : RawContent). changed_content_of x (change ∷ [])) o) c.is ∙ changed_now
+  made_raw : changed_pair_content t.disk (thread_pair t index).at (change ∷ []) ≡ Some raw_now
+  made_raw = ap (λ o. option_and_then (λ (x : RawContent). content_with_changes x (change ∷ [])) o) c.is ∙ changed_now
 
   abbrev now : PairContent
   now = record { slots = set p.content.slots id v; tail = p.content.tail; move = p.content.move }
@@ -77,7 +77,7 @@ module _ (t : KeptThread) (index id : ℕ) (can : CanEditIn t index id) (g : Raw
   made : complete_after t index (change ∷ []) ≡ Some now
   made = ap (λ o. option_and_then complete_content o) made_raw ∙ now_complete
 
-  cut : CanSplit t.disk.block_size t.disk.page raw_now.slots
+  cut : AreSplittable t.disk.block_size t.disk.page raw_now.slots
   cut = set_cut t.disk.block_size t.disk.page raw_now now p.content l u v r (logged_changed c.raw (change ∷ []) raw_now (can.logged c.raw c.is) changed_now) now_complete s.stands.held slots_now
       (entry_small t.disk.profile t.disk.block_size t.disk.page v can.ready.large fits) (fits_there t can.ready can.first index p s.rest s.place)
 

@@ -1,5 +1,5 @@
 -- An empty directory that goes in two steps of the thread.
-use Rattle.lfs_operations.proofs.Common.{Some, ℕ, ◌≡◌, ◌≢◌, ◌⊎◌, inl, inr, ◌-◌, ◌<◌, true, false, nat_eq, List, [], ◌∷◌, ◌++◌, length, None, refl, sym, ap, subst, ◌∙◌, arith, append_assoc, append-nil, length-append, IsPairCommitted, LossLeavesPair, IsDistinct, tree_removing, tree_with_subtree, Blocks, AreUsed, Disk, IsPairAt, HasEitherTree as IsLeftOf, with_blocks, FitsInPair, Gstate, Slot, gstate_xor, zero_gstate, Pair, pairs_blocks, pairs_gstate, count_before_root, disk_tree, used_blocks, CompletesOperation, no_move_from, IsChangedImage, number_occurrences, HasNoMove, sync_bit_delta, IsStep, directory_goes, step_chain, site, Site, dirs_at, thread_at, IsDevice, IsWritableChange, ends_joined, KeptThread, thread_pair, IsChain, Path, IsPairDropped, LeftByDrop, SameInFlight, ShowsDroppedTree, CanEditIn, drops_with_its_slot, tree_without_entry, CanRemoveDirectory, IsDirectoryRemoved, unlink_changes}
+use Rattle.lfs_operations.proofs.Common.{Some, ℕ, ◌≡◌, ◌≢◌, ◌⊎◌, inl, inr, ◌-◌, ◌<◌, true, false, nat_eq, List, [], ◌∷◌, ◌++◌, length, None, refl, sym, ap, subst, ◌∙◌, arith, append_assoc, append-nil, length-append, IsPairCommitted, LossLeavesPair, IsDistinct, tree_removing, tree_with_subtree, Blocks, AreUsed, Disk, IsPairAt, HasEitherTree as IsLeftOf, with_blocks, FitsInPair, Gstate, Slot, gstate_xor, zero_gstate, Pair, pairs_blocks, pairs_gstate, count_before_root, disk_tree, used_blocks, CompletesOperation, no_move_from, IsChangedImage, number_occurrences, HasNoMove, sync_bit_delta, IsStep, directory_goes, step_chain, site, Site, dirs_at, thread_at, IsDevice, IsWritableChange, ends_joined, KeptThread, thread_pair, IsChain, Path, IsPairDropped, LeftByDrop, SameInFlight, ShowsDroppedTree, CanEditIn, drops_emptied_pair, tree_without_entry, CanRemoveDirectory, IsDirectoryRemoved, unlink_changes}
 use Rattle.lfs_model.specs.session.Operations as ops
 use Rattle.lfs_operations.proofs.Removed.{alone, flag_ends, stays_there}
 use Rattle.lfs_operations.proofs.Rmdir.{HasPlace, Unlinks, place_of, unlinked_count}
@@ -11,7 +11,7 @@ use Rattle.lfs_operations.proofs.MovTurned.{ChangedOne, changed_one, content_wit
 use Rattle.lfs_operations.proofs.TurnedSync.{left_turned, turn_of, IsSyncTurn, Turned, no_move_turned, pair_turned, state_turned, step_turned, taken_turned}
 use Rattle.lfs_operations.proofs.PairAt.{HasPairAt, pair_at}
 
-module _ (t : KeptThread) (index id first gone : ℕ) (take : CanRemoveDirectory t index id first gone) (goes : drops_with_its_slot t index first ≡ false) where
+module _ (t : KeptThread) (index id first gone : ℕ) (take : CanRemoveDirectory t index id first gone) (goes : drops_emptied_pair t index first ≡ false) where
   abbrev can : CanEditIn t index id
   can = take.can
 

@@ -1,5 +1,5 @@
 -- What a change or a split comes to, and what a stop in it leaves, as a commit of the laws.
-use Rattle.lfs_operations.proofs.Common.{ℕ, ◌≡◌, ◌≢◌, true, false, ◌⊎◌, inl, inr, ⊎_elim, ◌+◌, ◌<◌, ◌≤◌, List, [], ◌∷◌, ◌++◌, length, sym, ap, subst, ◌∙◌, arith, append-nil, nat_eq, cases_lt, recursion_from_All, Blocks, AreUsed, IsFree, PairChange, Disk, block_count, HasEitherTree as IsLeftOf, SurvivesLossSince, with_blocks, Slot, Pair, pairs_blocks, pairs_gstate, count_before_root, Tree, IsAccepted, IsWritable, all_unmoved_slots, disk_tree, used_blocks, Contains-number_occurrences, number_occurrences-Contains, IsChangedImage, SameFiles, SameFileBlocks, ends_joined, IsCommit, number_occurrences, once_from_distinct, count_append, HoldsAtLosses-weaker, Site, dirs_at, thread_at, IsDevice, CallEvent, CleanLossLeaves, KeptThread, IsDistinct, Contains, PathAddresses, LeftByPut, ArePut, AreUsedUnsettled, ShowsReadyTree, ShowsUnsettledTree, AddsNoneInFlight, KeepsTakenStates}
+use Rattle.lfs_operations.proofs.Common.{ℕ, ◌≡◌, ◌≢◌, true, false, ◌⊎◌, inl, inr, ⊎_elim, ◌+◌, ◌<◌, ◌≤◌, List, [], ◌∷◌, ◌++◌, length, sym, ap, subst, ◌∙◌, arith, append-nil, nat_eq, cases_lt, recursion_from_All, Blocks, AreUsed, IsFree, ContentChange, Disk, block_count, HasEitherTree as IsLeftOf, SurvivesLossSince, with_blocks, Slot, Pair, pairs_blocks, pairs_gstate, count_before_root, Tree, IsAccepted, IsWritable, all_unmoved_slots, disk_tree, used_blocks, Contains-number_occurrences, number_occurrences-Contains, IsChangedImage, SameFiles, SameFileBlocks, ends_joined, IsCommit, number_occurrences, once_from_distinct, count_append, HoldsAtLosses-weaker, Site, dirs_at, thread_at, IsDevice, CallEvent, CleanLossLeaves, KeptThread, IsDistinct, Contains, PathAddresses, LeftByPut, ArePut, AreUsedUnsettled, ShowsReadyTree, ShowsUnsettledTree, AddsNoneInFlight, KeepsTakenStates}
 use Rattle.lfs_model.proofs.Committed.{commit_writable}
 use Rattle.lfs_operations.proofs.Owning.{count_pairs, used_count_now, used_same}
 use Rattle.lfs_operations.proofs.Placing.{left_after, left_still}
@@ -26,7 +26,7 @@ pub record HasStep (t : KeptThread) (w : Site) (p : Pair) (l olds news r : List 
   pub stays : KeepsTakenStates t.map new.map
   pub none_comes : AddsNoneInFlight t.map new.map
 
-module _ (t : KeptThread) (index : ℕ) (changes : List PairChange) (w : Site) (p : Pair) (l olds news r : List Slot) (gone come : List ℕ) (k : IsSplicing t index changes w p l olds news r gone come) where
+module _ (t : KeptThread) (index : ℕ) (changes : List ContentChange) (w : Site) (p : Pair) (l olds news r : List Slot) (gone come : List ℕ) (k : IsSplicing t index changes w p l olds news r gone come) where
   used_before : AreUsed t.map (used_blocks t.disk (thread_at w (p ∷ [])))
   used_before = subst (λ z. AreUsed t.map (used_blocks t.disk z)) k.there k.ready.used
 

@@ -1,9 +1,9 @@
 -- A file that gets other contents, as a step of the thread.
-use Rattle.lfs_operations.proofs.Common.{nat_eq, ℕ, ◌≡◌, ◌⊎◌, inl, inr, ◌<◌, ◌≤◌, true, false, List, [], ◌∷◌, ◌++◌, length, Some, None, refl, sym, ap, ap₂, subst, ◌∙◌, arith, IsDistinct, cases_lt, recursion_from_All, tree_with_change, Name, IsInFlight, InFlight, Used, PairChange, PutStruct, read_struct, Disk, SameGeometry, disk_block, CallEvent, Operation, SurvivesLossSince, Session, Slot, Struct, Inline, Ctz, Branch, File, Directory, Superblock, Attributes, is_superblock, same_pair, Pair, pairs_blocks, EntryMap, FileNode, Tree, branch_address, IsWritableEntry, IsWritableSlot, IsTreeEntry, LeadsTo, all_unmoved_slots, all_entries, struct_blocks, disk_tree, used_blocks, Contains-number_occurrences, IsChangedImage, CompletesOperation, commit_step, recovered_from, Each, number_occurrences, count_append, distinct_from_once, each_counted, each_from_counted, each_right, once_from_distinct, SameFileBlocks, file_blocks_same, is_list_same, some_filled, Site, begin_of, thread_at, CleanLossLeaves, KeptThread, All, SlotKind, HasKind, puts_struct, with_struct, bytes_change, close_completed, sync_completed, CanPut, LeftByPut, ArePut, CanEditIn, editable_slot, CanSetStruct, HasStoredContents, tree_with_contents}
+use Rattle.lfs_operations.proofs.Common.{nat_eq, ℕ, ◌≡◌, ◌⊎◌, inl, inr, ◌<◌, ◌≤◌, true, false, List, [], ◌∷◌, ◌++◌, length, Some, None, refl, sym, ap, ap₂, subst, ◌∙◌, arith, IsDistinct, cases_lt, recursion_from_All, tree_with_change, Name, IsInFlight, InFlight, Used, ContentChange, PutStruct, decoded_struct, Disk, SameGeometry, disk_block, CallEvent, Operation, SurvivesLossSince, Session, Slot, Struct, Inline, Ctz, Branch, File, Directory, Superblock, Attributes, is_superblock, same_pair, Pair, pairs_blocks, EntryMap, FileNode, Tree, branch_address, IsWritableEntry, IsWritableSlot, IsTreeEntry, LeadsTo, all_unmoved_slots, all_entries, struct_blocks, disk_tree, used_blocks, Contains-number_occurrences, IsChangedImage, CompletesOperation, commit_step, recovered_from, Each, number_occurrences, count_append, distinct_from_once, each_counted, each_from_counted, each_right, once_from_distinct, SameFileBlocks, file_blocks_same, is_list_same, some_filled, Site, begin_of, thread_at, CleanLossLeaves, KeptThread, All, SlotKind, HasKind, puts_struct, with_struct, bytes_change, close_completed, sync_completed, CanPut, LeftByPut, ArePut, CanEditIn, editable_slot, CanSetStruct, HasStoredContents, tree_with_contents}
 use Rattle.lfs_model.specs.format.Disk.{inline_limit}
 use Rattle.lfs_model.specs.session.Operations as ops
 use Rattle.lfs_model.specs.session.SlotEdits.{GivesBytes}
-use Rattle.lfs_model.specs.session.Effects.{file_with_bytes}
+use Rattle.lfs_model.specs.session.Effects.{node_with_bytes}
 use Rattle.lfs_model.specs.tree.Tree.{struct_node}
 use Rattle.lfs_model.specs.tree.Profile.{InlineBytesFit}
 use Rattle.lfs_model.specs.tree.Shown.{struct_list_bytes}
@@ -57,30 +57,30 @@ module _ (t : KeptThread) (index id kind : ℕ) (bytes : List ℕ) (store : CanS
   abbrev can : CanEditIn t index id
   can = store.can
 
-  abbrev change : PairChange
+  abbrev change : ContentChange
   change = PutStruct id kind bytes
 
   abbrev u : Slot
   u = editable_slot store.can
 
   abbrev v : Slot
-  v = record u { struct = read_struct kind bytes }
+  v = record u { struct = decoded_struct kind bytes }
 
   pub does : Makes (PutStruct id kind bytes) id (with_struct (kind, bytes))
   does c small named = puts_struct c id kind bytes small named store.part
 
-  pub turns : Turns (with_struct (kind, bytes)) (editable_slot store.can) (record (editable_slot store.can) { struct = read_struct kind bytes })
+  pub turns : Turns (with_struct (kind, bytes)) (editable_slot store.can) (record (editable_slot store.can) { struct = decoded_struct kind bytes })
   turns x h = complete_struct x u (kind, bytes) h
 
   -- what it takes with any inline contents is as before
-  pub fits : IsWritableEntry t.disk.profile t.disk.block_size t.disk.page (record (editable_slot store.can) { struct = read_struct kind bytes })
+  pub fits : IsWritableEntry t.disk.profile t.disk.block_size t.disk.page (record (editable_slot store.can) { struct = decoded_struct kind bytes })
   fits =
       let s = can.stands in
       let here = each_pair t can.ready can.first index s.pair s.rest s.place (λ x. All (IsWritableSlot t.disk.profile t.disk.block_size t.disk.page) x.content.slots)
       (recursion_from_All (λ (x : Pair). All (IsWritableSlot t.disk.profile t.disk.block_size t.disk.page) x.content.slots) t.pairs can.ready.writable.slots) in
       let slots = subst (Each (IsWritableSlot t.disk.profile t.disk.block_size t.disk.page)) s.stands.held (recursion_from_All (IsWritableSlot t.disk.profile t.disk.block_size t.disk.page) s.pair.content.slots here) in
       let was = (each_right (IsWritableSlot t.disk.profile t.disk.block_size t.disk.page) s.stands.left (s.stands.slot ∷ s.stands.right) slots).0.1 s.stands.entry in
-      record { charge = was.charge; inline = has_inline t.disk store.contents (read_struct kind bytes) store.stores }
+      record { charge = was.charge; inline = has_inline t.disk store.contents (decoded_struct kind bytes) store.stores }
 
   abbrev w : Site
   w = replacing.w t index id store.can (with_struct (kind, bytes)) v change does turns fits
@@ -125,7 +125,7 @@ module _ (t : KeptThread) (index id kind : ℕ) (bytes : List ℕ) (store : CanS
 
   names : Names t index id can (with_struct (kind, bytes)) v change does turns fits store.gone store.come
   names = record {
-    entry = record { name = was.name; struct = suits_file t.disk store.contents u.kind u.struct (read_struct kind bytes) was.struct store.file store.stores };
+    entry = record { name = was.name; struct = suits_file t.disk store.contents u.kind u.struct (decoded_struct kind bytes) was.struct store.file store.stores };
     flying = store.flying;
     apart = come_apart;
     lists = λ disk geometry file come. is_list_same t.disk disk v.struct geometry (file_same disk file come) store.list;
@@ -145,7 +145,7 @@ module _ (t : KeptThread) (index id kind : ℕ) (bytes : List ℕ) (store : CanS
   same_begin = same_there t index id can (with_struct (kind, bytes)) v change does turns fits
 
   abbrev turn : Tree → Tree
-  turn = tree_with_change (can.path ++ can.name ∷ []) (file_with_bytes store.contents)
+  turn = tree_with_change (can.path ++ can.name ∷ []) (node_with_bytes store.contents)
 
   old_file_same : (disk : Disk) (q : Pair) (more : List Pair) → Commits t w p l (u ∷ []) (v ∷ []) r store.come disk q more → SameFileBlocks t.disk disk u.struct
   old_file_same disk q more c = of_slot t index id can (with_struct (kind, bytes)) v change does turns fits (λ x. SameFileBlocks t.disk disk x.struct)
@@ -155,7 +155,7 @@ module _ (t : KeptThread) (index id kind : ℕ) (bytes : List ℕ) (store : CanS
   stores_now disk q more c = stores_same t.disk disk store.contents v.struct c.commit.device.geometry (file_same disk (old_file_same disk q more c) c.come_same) store.stores
 
   follows : (disk : Disk) (q : Pair) (more : List Pair) → Commits t w p l (u ∷ []) (v ∷ []) r store.come disk q more → IsChangedImage t.disk (thread_at w (p ∷ [])) disk (thread_at w (q ∷ more)) turn (λ d. d)
-  follows disk q more c = subst (λ (n : Name). IsChangedImage t.disk (thread_at w (p ∷ [])) disk (thread_at w (q ∷ more)) (tree_with_change (can.path ++ n ∷ []) (file_with_bytes store.contents)) (λ d. d)) can.stands.stands.named
+  follows disk q more c = subst (λ (n : Name). IsChangedImage t.disk (thread_at w (p ∷ [])) disk (thread_at w (q ∷ more)) (tree_with_change (can.path ++ n ∷ []) (node_with_bytes store.contents)) (λ d. d)) can.stands.stands.named
       (bytes_change t.disk disk w p [] q more (pairs_blocks more) store.come l r u v (commit_step t.disk disk w p q more store.come l (u ∷ []) (v ∷ []) r c.commit) other_slot can.path can.at led same_begin store.contents refl store.file
       (stores_node disk (all_entries (thread_at w (p ∷ []))) u.attributes v.struct store.contents (stores_now disk q more c))
       (λ e. (recovered_from t.disk (thread_at w (p ∷ [])) c.commit.accepted c.commit.settled).reached))

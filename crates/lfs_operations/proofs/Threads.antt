@@ -1,5 +1,5 @@
 -- Pairs of a thread, by their numbers; and the pair of a number by its site: where it stands, and which blocks change with it.
-use Rattle.lfs_operations.proofs.Common.{ℕ, suc, ◌≡◌, ◌+◌, ◌<◌, ◌≤◌, Bool, true, false, cond, eqb-true, nat_eq, List, [], ◌∷◌, ◌++◌, length, Some, refl, sym, ap, ap₂, subst, ◌∙◌, arith, append_assoc, length-append, get_or, set, insert, slice_get, take, IsDistinct, AreUsed, IsFree, Free, content_at, current_block, Disk, disk_block, block_count, SameGeometry, PairContent, gstate_xor, zero_gstate, Pair, pairs_blocks, pairs_gstate, BeginsWith, superblock_entry, used_blocks, Each, number_occurrences, once_from_distinct, distinct_from_once, Site, thread_at, HasFirst, KeepsOutsideBoth, KeptThread, thread_pair, empty_anchor, pairs_with, SameGeometryAs, HasOldPair, IsPairWritten, BeginWithSuperblock, gstate_comm, gstate_cons, gstate_right, sync_bit_delta, site_gstate_moved, pairs_split, AreTwoFree}
+use Rattle.lfs_operations.proofs.Common.{ℕ, suc, ◌≡◌, ◌+◌, ◌<◌, ◌≤◌, Bool, true, false, cond, eqb-true, nat_eq, List, [], ◌∷◌, ◌++◌, length, Some, refl, sym, ap, ap₂, subst, ◌∙◌, arith, append_assoc, length-append, get_or, set, insert, slice_get, take, IsDistinct, AreUsed, IsFree, Free, content_at, current_block, Disk, disk_block, block_count, SameGeometry, PairContent, gstate_xor, zero_gstate, Pair, pairs_blocks, pairs_gstate, BeginsWith, superblock_entry, used_blocks, Each, number_occurrences, once_from_distinct, distinct_from_once, Site, thread_at, HasFirst, KeepsOutsideBoth, KeptThread, thread_pair, empty_anchor, pairs_with_content, SameGeometryAs, HasOldPair, IsPairWritten, BeginWithSuperblock, gstate_comm, gstate_cons, gstate_right, sync_bit_delta, site_gstate_moved, pairs_split, AreTwoFree}
 use Rattle.lfs_pair.specs.Commits.{KeepsOutsidePair}
 use Rattle.lfs_operations.proofs.Placing.{IsPlaced, all_apart}
 use Rattle.lfs_operations.proofs.Taking.{within}
@@ -54,7 +54,7 @@ module _ (t : KeptThread) (index : ℕ) (w : Site) (p : Pair) (there : t.pairs �
   below = let e = ap length (there ∙ grouped p []) in let l = length-append ahead (p ∷ behind) in let n = place_is in omega arith
 
   -- the thread with another pair there, or two
-  pub one_now : (c : PairContent) → pairs_with t index c ≡ thread_at w (record { at = p.at; content = c } ∷ [])
+  pub one_now : (c : PairContent) → pairs_with_content t index c ≡ thread_at w (record { at = p.at; content = c } ∷ [])
   one_now c =
       let q : Pair = record { at = p.at; content = c } in
       ap (λ (z : Pair). set t.pairs index (record { at = z.at; content = c })) pair_is

@@ -1,12 +1,12 @@
 -- A pair of an image with nothing to recover, whose commit turns the sync bit: the step, and what a stop leaves.
-use Rattle.lfs_operations.proofs.Common.{ℕ, ◌≡◌, ◌≢◌, ◌⊎◌, inl, inr, ◌+◌, true, false, List, [], ◌∷◌, ◌++◌, length, Some, refl, sym, ap, subst, ◌∙◌, arith, append-nil, recursion_from_All, Blocks, PairChange, Disk, SameGeometry, HasEitherTree as IsLeftOf, with_blocks, IsWritableSlot, IsWritable, all_unmoved_slots, disk_tree, pair_with_slots, FitsInPair, Slot, gstate_xor, zero_gstate, PathAddresses, Pair, pairs_gstate, superblock_first, Tree, IsAccepted, fits_same, IsChangedImage, SameFiles, no_move_from, Each, SameFileBlocks, HasNoMove, sync_bit_delta, IsStep, IsSite, Site, thread_at, IsDevice, stays_shape, IsWritableChange, ends_joined, KeptThread, LossLeavesPair, BeginWithSuperblock, complete_after, IsSplice, commit_taken, IsReadyImage}
+use Rattle.lfs_operations.proofs.Common.{ℕ, ◌≡◌, ◌≢◌, ◌⊎◌, inl, inr, ◌+◌, true, false, List, [], ◌∷◌, ◌++◌, length, Some, refl, sym, ap, subst, ◌∙◌, arith, append-nil, recursion_from_All, Blocks, ContentChange, Disk, SameGeometry, HasEitherTree as IsLeftOf, with_blocks, IsWritableSlot, IsWritable, all_unmoved_slots, disk_tree, pair_with_slots, FitsInPair, Slot, gstate_xor, zero_gstate, PathAddresses, Pair, pairs_gstate, superblock_first, Tree, IsAccepted, fits_same, IsChangedImage, SameFiles, no_move_from, Each, SameFileBlocks, HasNoMove, sync_bit_delta, IsStep, IsSite, Site, thread_at, IsDevice, stays_shape, IsWritableChange, ends_joined, KeptThread, LossLeavesPair, BeginWithSuperblock, complete_after, IsSplice, commit_taken, IsReadyImage}
 use Rattle.lfs_operations.proofs.MovSet.{HasTurned}
 use Rattle.lfs_operations.proofs.MovTurned.{IsTurn, content_with, left_alone}
 use Rattle.lfs_operations.proofs.Placing.{left_after, left_still}
 use Rattle.lfs_operations.proofs.Threads.{sync_turned}
 
 -- The changes give the pair these slots, in which `news` stand where `olds` did, and turn the sync bit. What they make fits.
-pub record IsSyncTurn (t : KeptThread) (index : ℕ) (changes : List PairChange) (w : Site) (p : Pair) (slots l olds news r : List Slot) : Type 0 where
+pub record IsSyncTurn (t : KeptThread) (index : ℕ) (changes : List ContentChange) (w : Site) (p : Pair) (slots l olds news r : List Slot) : Type 0 where
   pub ready : IsReadyImage t
   pub there : t.pairs ≡ thread_at w (p ∷ [])
   pub place : index ≡ length w.chain + length (w.before ++ w.left)
@@ -20,7 +20,7 @@ pub record IsSyncTurn (t : KeptThread) (index : ℕ) (changes : List PairChange)
   pub filled : ends_joined false (w.before ++ w.left) ≡ true → l ++ (news ++ r) ≢ []
   pub splice : (disk : Disk) → SameGeometry t.disk disk → SameFiles t.disk disk (all_unmoved_slots t.pairs) → IsSplice t.disk disk [] l olds news r
 
-module _ {t : KeptThread} {index : ℕ} {changes : List PairChange} {w : Site} {p : Pair} {slots l olds news r : List Slot} (k : IsSyncTurn t index changes w p slots l olds news r) where
+module _ {t : KeptThread} {index : ℕ} {changes : List ContentChange} {w : Site} {p : Pair} {slots l olds news r : List Slot} (k : IsSyncTurn t index changes w p slots l olds news r) where
   abbrev pub pair_turned : Pair
   pair_turned = record { at = p.at; content = content_with p slots (gstate_xor p.content.move sync_bit_delta) }
 

@@ -1,5 +1,5 @@
 -- An entry that goes while the sync bit turns, as a change of its pair.
-use Rattle.lfs_operations.proofs.Common.{ℕ, ◌≡◌, ◌<◌, List, [], ◌∷◌, ◌++◌, length, Some, refl, sym, ap, ap₂, subst, ◌∙◌, arith, length-append, remove, sum_by, PairContent, same_Some, sum_by-append, sum_by-cons, Delete, PutMove, changed_content_of, RawContent, complete_content, raw_content, MoveStateFits, FitsInPair, Gstate, Slot, gstate_xor, slot_size, Pair, complete_length, complete_remove, completed_from, completed_parts, deletes, does_first, does_nothing, puts_move, sync_bit_delta, remove_here, KeptThread, CanChangePair, RefusesChanges, complete_after, thread_pair, option_and_then, CanEditIn, unlink_changes}
+use Rattle.lfs_operations.proofs.Common.{ℕ, ◌≡◌, ◌<◌, List, [], ◌∷◌, ◌++◌, length, Some, refl, sym, ap, ap₂, subst, ◌∙◌, arith, length-append, remove, sum_by, PairContent, same_Some, sum_by-append, sum_by-cons, Delete, PutMove, content_with_changes, RawContent, complete_content, raw_content, MoveStateFits, FitsInPair, Gstate, Slot, gstate_xor, slot_size, Pair, complete_length, complete_remove, completed_from, completed_parts, deletes, does_first, does_nothing, puts_move, sync_bit_delta, remove_here, KeptThread, CanChangePair, RefusesChanges, complete_after, thread_pair, option_and_then, CanEditIn, unlink_changes}
 use Rattle.lfs_operations.proofs.DroppedTails.{move_xor}
 use Rattle.lfs_operations.proofs.Held.{CompletesTo, below, fits_there, here, raw_there}
 
@@ -53,7 +53,7 @@ module _ (t : KeptThread) (index id : ℕ) (can : CanEditIn t index id) where
   abbrev raw_now : RawContent
   raw_now = record { slots = remove c.raw.slots id; tail = c.raw.tail; move = delta }
 
-  changed_now : changed_content_of c.raw (unlink_changes t index id) ≡ Some raw_now
+  changed_now : content_with_changes c.raw (unlink_changes t index id) ≡ Some raw_now
   changed_now =
       let few = fits_held.count in
       let n = complete_length c.raw.slots (thread_pair t index).content.slots (completed_parts c.raw (thread_pair t index).content c.complete).slots in
@@ -65,7 +65,7 @@ module _ (t : KeptThread) (index id : ℕ) (can : CanEditIn t index id) where
   pub unlink_made : complete_after t index (unlink_changes t index id) ≡ Some (content_without_entry t index id)
   unlink_made =
       let parts = completed_parts c.raw (thread_pair t index).content c.complete in
-      ap (λ o. option_and_then complete_content (option_and_then (λ (x : RawContent). changed_content_of x (unlink_changes t index id)) o)) c.is
+      ap (λ o. option_and_then complete_content (option_and_then (λ (x : RawContent). content_with_changes x (unlink_changes t index id)) o)) c.is
       ∙ ap (λ o. option_and_then complete_content o) changed_now
       ∙ completed_from raw_now (remove (thread_pair t index).content.slots id) (complete_remove c.raw.slots (thread_pair t index).content.slots id parts.slots)
       ∙ ap (λ z. Some (record { slots = remove (thread_pair t index).content.slots id; tail = z; move = delta })) (sym parts.tail)

@@ -1,5 +1,5 @@
 -- Two steps of the thread, one after the other: what they write and tell.
-use Rattle.lfs_operations.proofs.Common.{◌⊎◌, ℕ, zero, suc, ◌≡◌, ◌≢◌, ◌-◌, ◌<◌, Result, Ok, List, [], ◌∷◌, get_or, set, refl, sym, ap, subst, ◌∙◌, true, false, cond, inl, inr, IsPairCommitted, PairChange, All-from_recursion, recursion_from_All, fault_count, PairContent, Pair, address_blocks, addresses_blocks, KeptThread, ThreadView, ChangesThreadBlocks, empty_anchor, thread_pair, sync_bit_delta, All, Error, IsPairDropped, ReportsCommit, drops_with_its_slot, written_by_removal, CanRemoveDirectory, ReportsCommits, number_after_drop}
+use Rattle.lfs_operations.proofs.Common.{◌⊎◌, ℕ, zero, suc, ◌≡◌, ◌≢◌, ◌-◌, ◌<◌, Result, Ok, List, [], ◌∷◌, get_or, set, refl, sym, ap, subst, ◌∙◌, true, false, cond, inl, inr, IsPairCommitted, ContentChange, All-from_recursion, recursion_from_All, fault_count, PairContent, Pair, address_blocks, addresses_blocks, KeptThread, ThreadView, ChangesThreadBlocks, empty_anchor, thread_pair, sync_bit_delta, All, Error, IsPairDropped, ReportsCommit, drops_emptied_pair, removal_written_address, CanRemoveDirectory, ReportsCommits, number_after_drop}
 use Rattle.lfs_operations.proofs.Putting.{writes_trans, writes_wider}
 use Rattle.lfs_operations.proofs.RemovedWhole.{StandsWhole}
 use Rattle.lfs_operations.proofs.UnlinkedWhole.{written_then}
@@ -26,10 +26,10 @@ at_kept (x ∷ xs) zero (suc k) c d = refl
 at_kept (x ∷ xs) (suc n) zero c d = refl
 at_kept (x ∷ xs) (suc n) (suc k) c d = at_kept xs n k c d
 
-pub at_there : (t m : KeptThread) (index k : ℕ) (changes : List PairChange) → IsPairCommitted t index changes m → (thread_pair m k).at ≡ (thread_pair t k).at
+pub at_there : (t m : KeptThread) (index k : ℕ) (changes : List ContentChange) → IsPairCommitted t index changes m → (thread_pair m k).at ≡ (thread_pair t k).at
 at_there t m index k changes h = ap (λ (z : List Pair). (get_or z k empty_anchor).at) h.pairs ∙ at_kept t.pairs index k h.content empty_anchor
 
-pub writes_two : (t m new : KeptThread) (index gone : ℕ) (changes : List PairChange) → IsPairCommitted t index changes m → ChangesThreadBlocks (address_blocks (thread_pair t index).at) t m
+pub writes_two : (t m new : KeptThread) (index gone : ℕ) (changes : List ContentChange) → IsPairCommitted t index changes m → ChangesThreadBlocks (address_blocks (thread_pair t index).at) t m
     → ChangesThreadBlocks (address_blocks (thread_pair m (gone - 1)).at) m new → ChangesThreadBlocks (addresses_blocks (thread_pair t index).at (thread_pair t (gone - 1)).at) t new
 writes_two t m new index gone changes h first second =
     writes_both (thread_pair t index).at (thread_pair t (gone - 1)).at first (subst (λ at. ChangesThreadBlocks (address_blocks at) m new) (at_there t m index (gone - 1) changes h) second)
@@ -63,8 +63,8 @@ module _ (t : KeptThread) (index id first gone : ℕ) (take : CanRemoveDirectory
         go (inr e) = writes_first (thread_pair t (index - 1)).at (thread_pair t (gone - 1)).at (writes_trans one (subst (λ at. ChangesThreadBlocks (address_blocks at) m new) e two))
 
 -- which pair the first step writes
-pub written_beside : (t : KeptThread) (index first : ℕ) → drops_with_its_slot t index first ≡ false → written_by_removal t index first ≡ (thread_pair t index).at
+pub written_beside : (t : KeptThread) (index first : ℕ) → drops_emptied_pair t index first ≡ false → removal_written_address t index first ≡ (thread_pair t index).at
 written_beside t index first goes = ap (λ b. cond b (thread_pair t (index - 1)).at (thread_pair t index).at) goes
 
-pub written_whole : (t : KeptThread) (index first : ℕ) → drops_with_its_slot t index first ≡ true → written_by_removal t index first ≡ (thread_pair t (index - 1)).at
+pub written_whole : (t : KeptThread) (index first : ℕ) → drops_emptied_pair t index first ≡ true → removal_written_address t index first ≡ (thread_pair t (index - 1)).at
 written_whole t index first goes = ap (λ b. cond b (thread_pair t (index - 1)).at (thread_pair t index).at) goes

@@ -8,7 +8,7 @@ use Rattle.lfs_model.proofs.MovedBlocks.{relocated_blocks, relocated_length}
 use Rattle.lfs_model.proofs.Relocated.{IsRelocated}
 use Rattle.lfs_model.proofs.Worn.{pair_moves}
 use Rattle.lfs_thread.specs.Moves.{BeginsWithAnySuperblock, NextMovedOnDisk}
-use Rattle.lfs_operations.specs.Wear.{CanMovePair, IsMovedAt}
+use Rattle.lfs_operations.specs.Wear.{CanMovePair, IsWornMoved}
 use Rattle.lfs_operations.proofs.Dropped.{HasMapWithout, map_without}
 use Rattle.lfs_operations.proofs.DroppedTails.{TwoAt, gone_is, two_at}
 use Rattle.lfs_operations.proofs.Owning.{length_now, used_more}
@@ -220,7 +220,7 @@ module _ (t : KeptThread) (index : ℕ) (fresh : ℕ × ℕ) (can : CanMovePair 
     flying : SameInFlight t.map new.map
     flying b = let f = beside.flying t can.ready front at.ahead p (x ∷ at.back) at.is place fresh two b in ((λ h. f.0 ((now.flying b).0 h)), (λ h. (now.flying b).1 (f.1 h)))
 
-    pub moved_at : IsMovedAt t index fresh new
+    pub moved_at : IsWornMoved t index fresh new
     moved_at = record {
       moved = record {
         front = at.ahead;

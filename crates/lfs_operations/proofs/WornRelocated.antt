@@ -1,10 +1,10 @@
 -- What a relocation comes to: nothing, or a move by the plan.
-use Rattle.lfs_operations.proofs.Common.{ℕ, zero, suc, Bool, cond, None, ◌-◌, is_worn, AreTwoFree, ◌≡◌, ◌+◌, ◌<◌, ◌≤◌, inl, inr, true, false, List, [], ◌∷◌, ◌++◌, length, Some, refl, sym, ap, ap₂, subst, ◌∙◌, arith, append_assoc, length-append, take, slice_get, same_Some, AllByRecursion, Contains, All-from_recursion, recursion_from_All, each_always, each_left, each_right, Slot, Pair, array_address, same_pair, count_before_root, disk_block, struct_blocks, all_unmoved_slots, used_blocks, IsPairAt, KeepsOutsideBoth, KeptThread, SameFileBlocks, is_hard_tail, thread_pair, pair_joined_to, IsReadyImage}
+use Rattle.lfs_operations.proofs.Common.{ℕ, zero, suc, Bool, cond, None, ◌-◌, is_worn, AreTwoFree, ◌≡◌, ◌+◌, ◌<◌, ◌≤◌, inl, inr, true, false, List, [], ◌∷◌, ◌++◌, length, Some, refl, sym, ap, ap₂, subst, ◌∙◌, arith, append_assoc, length-append, take, slice_get, same_Some, AllByRecursion, Contains, All-from_recursion, recursion_from_All, each_always, each_left, each_right, Slot, Pair, address_view, same_pair, count_before_root, disk_block, struct_blocks, all_unmoved_slots, used_blocks, IsPairAt, KeepsOutsideBoth, KeptThread, SameFileBlocks, is_hard_tail, thread_pair, pair_joined_to, IsReadyImage}
 use Rattle.std.proofs.lemmas.List.Elements.{All-contains_itself}
 use Rattle.lfs_model.specs.session.Moved.{pair_behind}
 use Rattle.lfs_model.proofs.BlockSets.{used_count-AreUsed}
 use Rattle.std.specs.Bool.{OnTrue}
-use Rattle.lfs_operations.specs.Wear.{CanMovePair, HasRelocated, HasUnloadRoom, IsMovedAt, IsRootExpanded, IsUnloadedAt, ShowsSameFiles}
+use Rattle.lfs_operations.specs.Wear.{CanMovePair, HasRelocated, HasUnloadRoom, IsWornMoved, IsRootExpanded, IsWornUnloaded, ShowsSameFiles}
 use Rattle.lfs_operations.specs.declared.wear.MovePlan.{MovePlan}
 
 -- ---- the pairs that stay
@@ -77,8 +77,8 @@ none_moves t root plan ready root_is = record { moved = inl refl; files = same_f
 
 -- ---- a move by the plan
 
-module _ (t : KeptThread) (root : ℕ) (index : ℕ) (plan : MovePlan) (ready : IsReadyImage t) (root_is : root ≡ count_before_root t.pairs) (found : IsPairAt t.pairs (array_address plan.at) index) (new : KeptThread) where
-  pub pair_goes : (next : ℕ) → next ≡ index + 1 → IsMovedAt t next (array_address plan.fresh) new → HasRelocated t plan new root
+module _ (t : KeptThread) (root : ℕ) (index : ℕ) (plan : MovePlan) (ready : IsReadyImage t) (root_is : root ≡ count_before_root t.pairs) (found : IsPairAt t.pairs (address_view plan.at) index) (new : KeptThread) where
+  pub pair_goes : (next : ℕ) → next ≡ index + 1 → IsWornMoved t next (address_view plan.fresh) new → HasRelocated t plan new root
   pair_goes next follows m = record {
     moved = inr (
       inl m.moved,
@@ -91,7 +91,7 @@ module _ (t : KeptThread) (root : ℕ) (index : ℕ) (plan : MovePlan) (ready : 
         stay = front_stays t.pairs m.moved.front (m.moved.before ∷ m.moved.worn ∷ m.moved.back) m.moved.was;
         stay_behind = (rest_stays t.pairs m.moved.front (m.moved.before ∷ m.moved.worn ∷ m.moved.back) m.moved.was).1.1;
         next = refl;
-        at = is_named t.pairs (array_address plan.at) index m.moved.front m.moved.before (m.moved.worn ∷ m.moved.back) found m.moved.was (let n = m.number in omega (arith, n, follows));
+        at = is_named t.pairs (address_view plan.at) index m.moved.front m.moved.before (m.moved.worn ∷ m.moved.back) found m.moved.was (let n = m.number in omega (arith, n, follows));
         to = m.to;
         others = subst (λ z. KeepsOutsideBoth m.moved.before.at z t.disk.blocks new.disk.blocks) (sym m.to) m.others;
       },
@@ -107,7 +107,7 @@ module _ (t : KeptThread) (root : ℕ) (index : ℕ) (plan : MovePlan) (ready : 
       let w = room.within in
       omega (arith, e, w, more)
 
-  pub slots_go : HasUnloadRoom t plan.limit → IsUnloadedAt t index (array_address plan.fresh) new → HasRelocated t plan new root
+  pub slots_go : HasUnloadRoom t plan.limit → IsWornUnloaded t index (address_view plan.fresh) new → HasRelocated t plan new root
   slots_go room m = record {
     moved = inr (
       inr (inl m.unloaded),
@@ -120,7 +120,7 @@ module _ (t : KeptThread) (root : ℕ) (index : ℕ) (plan : MovePlan) (ready : 
         stay = front_stays t.pairs (m.unloaded.front ++ m.unloaded.before ∷ []) (m.unloaded.worn ∷ m.unloaded.back) pairs_were;
         stay_behind = (rest_stays t.pairs (m.unloaded.front ++ m.unloaded.before ∷ []) (m.unloaded.worn ∷ m.unloaded.back) pairs_were).1;
         next = refl;
-        at = is_named t.pairs (array_address plan.at) index (m.unloaded.front ++ m.unloaded.before ∷ []) m.unloaded.worn m.unloaded.back found pairs_were
+        at = is_named t.pairs (address_view plan.at) index (m.unloaded.front ++ m.unloaded.before ∷ []) m.unloaded.worn m.unloaded.back found pairs_were
             (let n = m.number in let l = length-append m.unloaded.front (m.unloaded.before ∷ []) in omega (arith, n, l));
         to = m.to;
         others = subst (λ z. KeepsOutsideBoth m.unloaded.worn.at z t.disk.blocks new.disk.blocks) (sym m.to) m.others;
@@ -134,7 +134,7 @@ module _ (t : KeptThread) (root : ℕ) (index : ℕ) (plan : MovePlan) (ready : 
       pairs_were : t.pairs ≡ (m.unloaded.front ++ m.unloaded.before ∷ []) ++ m.unloaded.worn ∷ m.unloaded.back
       pairs_were = m.unloaded.was ∙ sym (append_assoc m.unloaded.front (m.unloaded.before ∷ []) (m.unloaded.worn ∷ m.unloaded.back))
 
-  pub root_goes : index ≡ 0 → HasUnloadRoom t plan.limit → IsRootExpanded t (array_address plan.fresh) new → HasRelocated t plan new 1
+  pub root_goes : index ≡ 0 → HasUnloadRoom t plan.limit → IsRootExpanded t (address_view plan.fresh) new → HasRelocated t plan new 1
   root_goes first room m = record {
     moved = inr (
       inr (inr m.unloaded),
@@ -147,7 +147,7 @@ module _ (t : KeptThread) (root : ℕ) (index : ℕ) (plan : MovePlan) (ready : 
         stay = tt;
         stay_behind = (rest_stays t.pairs [] (m.unloaded.worn ∷ m.unloaded.back) m.unloaded.was).1;
         next = refl;
-        at = is_named t.pairs (array_address plan.at) index [] m.unloaded.worn m.unloaded.back found m.unloaded.was (sym first);
+        at = is_named t.pairs (address_view plan.at) index [] m.unloaded.worn m.unloaded.back found m.unloaded.was (sym first);
         to = m.to;
         others = subst (λ z. KeepsOutsideBoth m.unloaded.worn.at z t.disk.blocks new.disk.blocks) (sym m.to) m.others;
       },

@@ -15,7 +15,7 @@ use Rattle.lfs_model.proofs.RootSteps.{kept_bare, root_unloads}
 use Rattle.lfs_model.proofs.Superblocks.{StructMark, hold_each, hold_from_rules, meets_starting, starts, starts_not}
 use Rattle.lfs_model.proofs.Unloaded.{unload}
 use Rattle.lfs_thread.specs.Unloads.{UnloadedOnDisk}
-use Rattle.lfs_operations.specs.Wear.{CanExpandRoot, CanUnloadPair, IsRootExpanded, IsUnloadedAt, ShowsSameFiles}
+use Rattle.lfs_operations.specs.Wear.{CanExpandRoot, CanUnloadPair, IsRootExpanded, IsWornUnloaded, ShowsSameFiles}
 use Rattle.lfs_operations.proofs.DroppedTails.{TwoAt, front_is, two_at}
 use Rattle.lfs_operations.proofs.FreshBeside as beside
 use Rattle.lfs_operations.proofs.Owning.{length_now, used_more}
@@ -285,7 +285,7 @@ module _ (t : KeptThread) (index : ℕ) (fresh : ℕ × ℕ) (can : CanUnloadPai
 
   module _ (new : KeptThread) (done : IsUnloaded (with_map t (map_taking_two t.map fresh)) index fresh 0 new)
       (writes : ChangesThreadBlocks (addresses_blocks (thread_pair t index).at fresh) (with_map t (map_taking_two t.map fresh)) new) where
-    pub unloaded_at : IsUnloadedAt t index fresh new
+    pub unloaded_at : IsWornUnloaded t index fresh new
     unloaded_at = record {
       unloaded = record {
         front = at.ahead;

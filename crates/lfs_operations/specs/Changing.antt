@@ -6,17 +6,17 @@ use Rattle.lfs_device.specs.declared.error.Error.TheVariants.{Io, NoMemory, NoSp
 use Rattle.lfs_model.specs.format.Blocks.{Blocks}
 use Rattle.lfs_model.specs.layers.BlockSets.{BlockStates, IsFree}
 use Rattle.lfs_model.specs.layers.BlockSets.BlockState.{InFlight}
-use Rattle.lfs_model.specs.layers.Changes.{PairChange}
+use Rattle.lfs_model.specs.layers.Changes.{ContentChange}
 use Rattle.lfs_model.specs.format.Content.{RawContent, content_at}
 use Rattle.lfs_model.specs.format.Disk.{block_count}
 use Rattle.lfs_model.specs.session.History.{fault_count}
 use Rattle.lfs_model.specs.format.Slots.{PairContent, FitsInPair}
 use Rattle.lfs_model.specs.format.Thread.{IsThread, pairs_blocks, addresses_blocks}
-use Rattle.lfs_model.specs.layers.Cut.{CanSplit}
-use Rattle.lfs_pair.specs.Commits.{changed_pair}
+use Rattle.lfs_model.specs.layers.Cut.{AreSplittable}
+use Rattle.lfs_pair.specs.Commits.{changed_pair_content}
 use Rattle.lfs_pair.specs.Split.{KeepsOutsideBoth}
 use Rattle.lfs_thread.specs.Kept.{KeptThread, ThreadView}
-use Rattle.lfs_thread.specs.ThreadSteps.{thread_pair, complete_after, CanChangePair, RefusesChanges, SameGeometryAs, IsPairCommitted, LossLeavesPair, LossLeavesBoth, OnlyReadsThread, OnlyReadsDevice, PartsFit, ChangesThreadBlocks, front_pair, back_pair, map_using, pairs_split}
+use Rattle.lfs_thread.specs.ThreadSteps.{thread_pair, complete_after, CanChangePair, RefusesChanges, SameGeometryAs, IsPairCommitted, LossLeavesPair, LossLeavesThreadSplit, OnlyReadsThread, OnlyReadsDevice, PartsFit, ChangesThreadBlocks, front_pair, back_pair, map_using, pairs_split}
 
 -- ---- free blocks
 
@@ -73,19 +73,19 @@ pub record TakesAtMostTwo (old new : KeptThread) : Type 0 where
 -- ---- a pair is changed or split
 
 -- There is a pair at the index. What the changes make of it can be cut in two, and has a tail that names the same pair as before.
-pub record CanPut (t : KeptThread) (index : ℕ) (changes : List PairChange) : Type 0 where
+pub record CanPut (t : KeptThread) (index : ℕ) (changes : List ContentChange) : Type 0 where
   pub can : CanChangePair t index changes
   pub raw : RawContent
-  pub made : changed_pair t.disk (thread_pair t index).at changes ≡ Some raw
-  pub cut : CanSplit t.disk.block_size t.disk.page raw.slots
+  pub made : changed_pair_content t.disk (thread_pair t index).at changes ≡ Some raw
+  pub cut : AreSplittable t.disk.block_size t.disk.page raw.slots
 
 -- There is a pair at the index. What the changes make of it fits it, and has a tail that names the same pair as before.
-pub record CanCommit (t : KeptThread) (index : ℕ) (changes : List PairChange) : Type 0 where
+pub record CanCommit (t : KeptThread) (index : ℕ) (changes : List ContentChange) : Type 0 where
   pub can : CanChangePair t index changes
   pub fits : (new : KeptThread) → RefusesChanges t index changes new → ⊥
 
 -- The pair and a fresh one, in two blocks that were free, have the two parts. Everything else is as it was.
-pub record IsSplitInto (old : KeptThread) (index : ℕ) (fresh : ℕ × ℕ) (changes : List PairChange) (new : KeptThread) : Type 0 where
+pub record IsSplitInto (old : KeptThread) (index : ℕ) (fresh : ℕ × ℕ) (changes : List ContentChange) (new : KeptThread) : Type 0 where
   pub free : AreTwoFree old.map fresh
   pub content : PairContent
   pub made : complete_after old index changes ≡ Some content
@@ -98,21 +98,21 @@ pub record IsSplitInto (old : KeptThread) (index : ℕ) (fresh : ℕ × ℕ) (ch
   pub map : new.map ≡ map_using (map_taking_two old.map fresh) fresh
   pub writes : ChangesThreadBlocks (addresses_blocks (thread_pair old index).at fresh) old new
 
-abbrev pub IsPairSplit : KeptThread → ℕ → List PairChange → KeptThread → Type 0
+abbrev pub IsPairSplit : KeptThread → ℕ → List ContentChange → KeptThread → Type 0
 IsPairSplit old index changes new = (fresh : ℕ × ℕ) × IsSplitInto old index fresh changes new
 
 -- what the changes make doesn't fit the pair
-abbrev pub OverfillsPair : KeptThread → ℕ → List PairChange → Type 0
+abbrev pub OverfillsPair : KeptThread → ℕ → List ContentChange → Type 0
 OverfillsPair t index changes = (content : PairContent) × ((complete_after t index changes ≡ Some content) × (FitsInPair t.disk.block_size t.disk.page content → ⊥))
 
-abbrev pub ArePut : KeptThread → ℕ → List PairChange → KeptThread → Type 0
+abbrev pub ArePut : KeptThread → ℕ → List ContentChange → KeptThread → Type 0
 ArePut old index changes new = IsPairCommitted old index changes new ⊎ (OverfillsPair old index changes × IsPairSplit old index changes new)
 
 -- what a stop leaves of a split, and of either
-abbrev pub LeftBySplit : KeptThread → ℕ → List PairChange → Blocks → Type 0
-LeftBySplit old index changes left = (fresh : ℕ × ℕ) × (AreTwoFree old.map fresh × LossLeavesBoth old index fresh changes left)
+abbrev pub LeftBySplit : KeptThread → ℕ → List ContentChange → Blocks → Type 0
+LeftBySplit old index changes left = (fresh : ℕ × ℕ) × (AreTwoFree old.map fresh × LossLeavesThreadSplit old index fresh changes left)
 
-abbrev pub LeftByPut : KeptThread → ℕ → List PairChange → Blocks → Type 0
+abbrev pub LeftByPut : KeptThread → ℕ → List ContentChange → Blocks → Type 0
 LeftByPut old index changes left = LossLeavesPair old index changes left ⊎ (OverfillsPair old index changes × LeftBySplit old index changes left)
 
 -- What a step of an operation reports, and whether the thread has failed after it.
@@ -122,7 +122,7 @@ pub record ReportsTakingCommit {X : Type 0} (old new : ThreadView) (result : Res
 
 -- The same of a step that splits the pair only if it has to: `NoSpace` comes only where what the changes make doesn't fit the
 -- pair.
-pub record ReportsPut {X : Type 0} (old new : ThreadView) (index : ℕ) (changes : List PairChange) (result : Result X Error) : Type 0 where
+pub record ReportsPut {X : Type 0} (old new : ThreadView) (index : ℕ) (changes : List ContentChange) (result : Result X Error) : Type 0 where
   pub reports : ReportsTakingCommit old new result
   pub too_large : result ≡ Err NoSpace → OverfillsPair old.kept index changes
 

@@ -1,7 +1,7 @@
 -- An empty file that is created in a directory.
 use Rattle.std.specs.Prelude.{ℕ, ◌≡◌, true, List, [], ◌∷◌, ◌++◌}
 use Rattle.lfs_model.specs.session.TreeEdits.{tree_creating}
-use Rattle.lfs_model.specs.layers.Changes.{PairChange, Create, PutStruct}
+use Rattle.lfs_model.specs.layers.Changes.{ContentChange, Create, PutStruct}
 use Rattle.lfs_model.specs.format.EntryTypes.{file_name_type, inline_type}
 use Rattle.lfs_model.specs.session.InDirectory.{IsPairAt, BelongsAt}
 use Rattle.lfs_model.specs.format.Names.{Name, is_valid_name}
@@ -18,7 +18,7 @@ use Rattle.lfs_thread.specs.Kept.{KeptThread}
 use Rattle.lfs_thread.specs.ThreadSteps.{thread_pair}
 use Rattle.lfs_operations.specs.Ready.{ShowsReadyTree, IsRawFormed, IsReadyImage}
 
-abbrev pub creation_changes : ℕ → Name → List PairChange
+abbrev pub creation_changes : ℕ → Name → List ContentChange
 creation_changes id name = Create id file_name_type name ∷ PutStruct id inline_type [] ∷ []
 
 -- The image may be changed. The name belongs at the id of the pair, in the directory at a path, and it may be written.

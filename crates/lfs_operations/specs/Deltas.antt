@@ -1,6 +1,6 @@
 -- How the global state changes by the delta of one pair.
 use Rattle.std.specs.Prelude.{ℕ, ◌<◌, Bool, List, [], ◌∷◌, length}
-use Rattle.lfs_model.specs.layers.Changes.{PairChange, PutMove}
+use Rattle.lfs_model.specs.layers.Changes.{ContentChange, PutMove}
 use Rattle.lfs_model.specs.layers.LoggedContent.{MoveStateFits}
 use Rattle.lfs_model.specs.format.Slots.{Gstate, PairContent, gstate_xor}
 use Rattle.lfs_model.specs.format.Thread.{pairs_gstate, is_hard_tail}
@@ -13,7 +13,7 @@ use Rattle.lfs_thread.specs.ThreadSteps.{thread_pair}
 abbrev pub delta_reaching_gstate : KeptThread → ℕ → Gstate → Gstate
 delta_reaching_gstate t index g = gstate_xor (gstate_xor g (pairs_gstate t.pairs)) (thread_pair t index).content.move
 
-abbrev pub gstate_changes : KeptThread → ℕ → Gstate → List PairChange
+abbrev pub gstate_changes : KeptThread → ℕ → Gstate → List ContentChange
 gstate_changes t index g = PutMove (delta_reaching_gstate t index g) ∷ []
 
 -- what the pair then holds

@@ -3,7 +3,7 @@ use Rattle.std.specs.Prelude.{ℕ, ◌≡◌, ◌⊎◌, ◌<◌, ◌+◌, ◌-�
 use Rattle.std.specs.List.{remove}
 use Rattle.lfs_model.specs.format.Blocks.{Blocks}
 use Rattle.lfs_model.specs.layers.BlockSets.{BlockStates, IsInFlight}
-use Rattle.lfs_model.specs.layers.Changes.{PairChange, PutMove}
+use Rattle.lfs_model.specs.layers.Changes.{ContentChange, PutMove}
 use Rattle.lfs_model.specs.format.Content.{content_at}
 use Rattle.lfs_model.specs.format.Disk.{block_count}
 use Rattle.lfs_model.specs.layers.LoggedContent.{MoveStateFits}
@@ -12,7 +12,7 @@ use Rattle.lfs_model.specs.format.Thread.{IsThread, pairs_gstate, is_hard_tail}
 use Rattle.lfs_model.specs.tree.Tree.{Tree}
 use Rattle.lfs_model.specs.tree.Shown.{disk_tree}
 use Rattle.lfs_thread.specs.Kept.{KeptThread}
-use Rattle.lfs_thread.specs.ThreadSteps.{IsPairWritten, thread_pair, tail_change, pairs_with, map_freeing}
+use Rattle.lfs_thread.specs.ThreadSteps.{IsPairWritten, thread_pair, tail_change, pairs_with_content, map_freeing}
 use Rattle.lfs_operations.specs.Ready.{IsReadyUnsettled, KeepsRootNumber}
 
 -- The tail that the pair before a dropped one gets. It is hard only where both tails are. Else the pair after the dropped one
@@ -32,7 +32,7 @@ tail_after_drop t front = tail_past_drop (thread_pair t front).content.tail (thr
 abbrev pub content_after_drop : KeptThread → ℕ → Gstate → PairContent
 content_after_drop t front state = record { slots = (thread_pair t front).content.slots; tail = tail_after_drop t front; move = delta_after_drop t front state }
 
-abbrev pub dropping_changes : KeptThread → ℕ → Gstate → List PairChange
+abbrev pub dropping_changes : KeptThread → ℕ → Gstate → List ContentChange
 dropping_changes t front state = tail_change (tail_after_drop t front) ∷ PutMove (delta_after_drop t front state) ∷ []
 
 -- The pair of that number isn't the first of the thread, and what the pair before it holds fits a pair. The new global state can
@@ -48,7 +48,7 @@ pub record CanDropAt (t : KeptThread) (index : ℕ) (state : Gstate) : Type 0 wh
 -- is as it was.
 pub record IsPairDropped (old : KeptThread) (front : ℕ) (state : Gstate) (new : KeptThread) : Type 0 where
   pub written : IsPairWritten old front (content_after_drop old front state) new.disk
-  pub pairs : new.pairs ≡ remove (pairs_with old front (content_after_drop old front state)) (front + 1)
+  pub pairs : new.pairs ≡ remove (pairs_with_content old front (content_after_drop old front state)) (front + 1)
   pub gstate : pairs_gstate new.pairs ≡ state
   pub thread : IsThread (content_at new.disk) (block_count new.disk) new.pairs
   pub map : new.map ≡ map_freeing old.map (thread_pair old (front + 1)).at

@@ -5,7 +5,7 @@ use Rattle.lfs_device.specs.declared.error.Error.{Error}
 use Rattle.lfs_device.specs.declared.error.Error.TheVariants.{Io, NoMemory}
 use Rattle.lfs_model.specs.session.TreeEdits.{tree_creating}
 use Rattle.lfs_model.specs.layers.BlockSets.{BlockStates, IsFree, used_count, in_flight_count}
-use Rattle.lfs_model.specs.layers.Changes.{PairChange, Create, PutMove, PutStruct, PutTail}
+use Rattle.lfs_model.specs.layers.Changes.{ContentChange, Create, PutMove, PutStruct, PutTail}
 use Rattle.lfs_model.specs.format.EntryTypes.{directory_name_type, directory_type}
 use Rattle.lfs_model.specs.format.Disk.{charge_limit}
 use Rattle.lfs_model.specs.session.History.{fault_count}
@@ -56,15 +56,15 @@ pub record CanMakeAt (t : KeptThread) (pair id : ℕ) (name : Name) : Type 0 whe
 -- ---- the two steps
 
 -- the last pair's tail names the fresh pair, and the sync bit is turned
-abbrev pub threading_changes : KeptThread → ℕ → ℕ × ℕ → List PairChange
+abbrev pub threading_changes : KeptThread → ℕ → ℕ × ℕ → List ContentChange
 threading_changes t last fresh = PutTail false (Some fresh) ∷ PutMove (with_sync_inverted (thread_pair t last).content.move) ∷ []
 
 -- the entry is put in with a struct of these bytes, and the sync bit is turned
-abbrev pub entry_changes : KeptThread → ℕ → ℕ → Name → List ℕ → List PairChange
+abbrev pub entry_changes : KeptThread → ℕ → ℕ → Name → List ℕ → List ContentChange
 entry_changes t pair id name branch =
     Create id directory_name_type name ∷ PutStruct id directory_type branch ∷ PutMove (with_sync_inverted (thread_pair t pair).content.move) ∷ []
 
-abbrev pub directory_entry_changes : KeptThread → ℕ → ℕ → Name → ℕ × ℕ → List PairChange
+abbrev pub directory_entry_changes : KeptThread → ℕ → ℕ → Name → ℕ × ℕ → List ContentChange
 directory_entry_changes t pair id name to = entry_changes t pair id name (address_bytes to)
 
 -- what the first commit makes fits the pair

@@ -2,7 +2,7 @@
 use Rattle.std.specs.Prelude.{ℕ, ◌≡◌, ◌≤◌, ◌<◌, ◌-◌, ◌+◌, if◌then◌else◌, Bool, true, false, List, [], ◌∷◌, length, take}
 use Rattle.std.specs.List.{remove}
 use Rattle.lfs_model.specs.layers.BlockSets.{BlockStates}
-use Rattle.lfs_model.specs.layers.Changes.{PairChange, Delete, PutMove}
+use Rattle.lfs_model.specs.layers.Changes.{ContentChange, Delete, PutMove}
 use Rattle.lfs_model.specs.session.InDirectory.{HasName}
 use Rattle.lfs_model.specs.format.Names.{Name}
 use Rattle.lfs_model.specs.format.Slots.{PairContent, Gstate, gstate_xor, same_pair}
@@ -13,7 +13,7 @@ use Rattle.lfs_model.specs.tree.View.{IsAccepted}
 use Rattle.lfs_model.specs.format.Slots.{set_move_kind}
 use Rattle.lfs_model.specs.layers.Steps.{SameSlots, number_occurrences, directory_addresses, AnyByRecursion, IsWritableChange, ends_joined}
 use Rattle.lfs_thread.specs.Kept.{KeptThread}
-use Rattle.lfs_thread.specs.ThreadSteps.{SameGeometryAs, thread_pair, pairs_with, map_freeing}
+use Rattle.lfs_thread.specs.ThreadSteps.{SameGeometryAs, thread_pair, pairs_with_content, map_freeing}
 use Rattle.lfs_operations.specs.Ready.{IsRawFormed, KeepsRootNumber}
 use Rattle.lfs_operations.specs.EndingMove.{KeepsRecoveryLayouts, gstate_without_move}
 
@@ -33,12 +33,12 @@ continues_directory ps pair = ends_joined false (take (pair - count_before_root 
 abbrev pub delta_without_move : KeptThread → ℕ → Gstate
 delta_without_move t pair = gstate_xor (gstate_without_sync (pairs_gstate t.pairs)) (thread_pair t pair).content.move
 
-abbrev pub ending_changes : KeptThread → ℕ → ℕ → List PairChange
+abbrev pub ending_changes : KeptThread → ℕ → ℕ → List ContentChange
 ending_changes t pair id = Delete id ∷ PutMove (delta_without_move t pair) ∷ []
 
 -- The image is accepted and in the writing profile, and a set move names the slot at the id of the pair. `goes` says whether the
 -- pair is dropped with it: it has no other slot, and a hard tail names it. The sync bit may be set.
-pub record CanEndAt (t : KeptThread) (pair id : ℕ) (goes : Bool) : Type 0 where
+pub record CanEndMoveAt (t : KeptThread) (pair id : ℕ) (goes : Bool) : Type 0 where
   pub accepted : IsAccepted t.disk t.pairs
   pub writable : IsWritable t.disk t.pairs
   pub begins : count_before_root t.pairs ≤ pair
@@ -61,26 +61,26 @@ content_move_ended t pair id = record {
 }
 
 -- the pair that is written: the slot's, or the one before it where that is dropped
-abbrev pub written_by_ending : ℕ → Bool → ℕ
-written_by_ending pair goes = if goes then pair - 1 else pair
+abbrev pub ending_written_pair : ℕ → Bool → ℕ
+ending_written_pair pair goes = if goes then pair - 1 else pair
 
 abbrev pub pairs_move_ended : KeptThread → ℕ → ℕ → Bool → List Pair
-pairs_move_ended t pair id goes = if goes then remove t.pairs pair else pairs_with t pair (content_move_ended t pair id)
+pairs_move_ended t pair id goes = if goes then remove t.pairs pair else pairs_with_content t pair (content_move_ended t pair id)
 
-abbrev pub dropped_by_ending : KeptThread → ℕ → Bool → List ℕ
-dropped_by_ending t pair goes = if goes then address_blocks (thread_pair t pair).at else []
+abbrev pub ending_dropped_blocks : KeptThread → ℕ → Bool → List ℕ
+ending_dropped_blocks t pair goes = if goes then address_blocks (thread_pair t pair).at else []
 
 abbrev pub map_move_ended : KeptThread → ℕ → Bool → BlockStates
 map_move_ended t pair goes = if goes then map_freeing t.map (thread_pair t pair).at else t.map
 
 -- The slot is removed, or the pair is dropped with it, and no move is set. The tree, the sync bit, the used blocks but the
 -- pair's, and the slots of every other pair are as they were. The image is accepted and in the writing profile.
-pub record HasEndedAt (old : KeptThread) (pair id : ℕ) (goes : Bool) (new : KeptThread) : Type 0 where
+pub record HasEndedMoveAt (old : KeptThread) (pair id : ℕ) (goes : Bool) (new : KeptThread) : Type 0 where
   pub taken : IsWritableChange old.disk old.pairs new.disk new.pairs (λ t. t) (λ d. d)
   pub state : pairs_gstate new.pairs ≡ gstate_without_move (pairs_gstate old.pairs)
   pub alike : SameSlots (pairs_move_ended old pair id goes) new.pairs
   pub map : new.map ≡ map_move_ended old pair goes
-  pub blocks : (b : ℕ) → number_occurrences b (used_blocks new.disk new.pairs) + number_occurrences b (dropped_by_ending old pair goes) ≡ number_occurrences b (used_blocks old.disk old.pairs)
+  pub blocks : (b : ℕ) → number_occurrences b (used_blocks new.disk new.pairs) + number_occurrences b (ending_dropped_blocks old pair goes) ≡ number_occurrences b (used_blocks old.disk old.pairs)
   pub shape : SameGeometryAs old.disk new.disk
   -- The directories begin where they did. A pair without slots that ends its directory stays as it is. A recovery may go on.
   pub begins : directory_addresses (all_directories new.pairs) ≡ directory_addresses (all_directories old.pairs)

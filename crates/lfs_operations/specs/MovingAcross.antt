@@ -6,7 +6,7 @@ use Rattle.lfs_model.specs.session.Operations as ops
 use Rattle.lfs_model.specs.session.Session.{Session}
 use Rattle.lfs_model.specs.session.Refusals.{path_or_root}
 use Rattle.lfs_model.specs.layers.Steps.{CompletesOperation}
-use Rattle.lfs_model.specs.layers.Changes.{PairChange, Delete, PutMove}
+use Rattle.lfs_model.specs.layers.Changes.{ContentChange, Delete, PutMove}
 use Rattle.lfs_model.specs.session.InDirectory.{IsPairAt, BelongsAt}
 use Rattle.lfs_model.specs.format.Names.{Name, is_valid_name}
 use Rattle.lfs_model.specs.format.Slots.{gstate_xor}
@@ -21,16 +21,16 @@ use Rattle.lfs_operations.specs.RenamingSlots.{nameless_at, slot_changes}
 use Rattle.lfs_operations.specs.MoveEnds.{gstate_naming}
 
 -- the slot at the id goes first, if one is replaced
-abbrev pub clearing_changes : Bool → ℕ → List PairChange
-clearing_changes replaces id = if replaces then Delete id ∷ [] else []
+abbrev pub removal_changes : Bool → ℕ → List ContentChange
+removal_changes replaces id = if replaces then Delete id ∷ [] else []
 
 -- the changes to the new pair: a move that names the old slot, with the sync bit or without, and a copy of that slot at an id
-abbrev pub moving_changes : (replaces sync : Bool) → KeptThread → (old_pair old_id new_pair new_id : ℕ) → Name → List PairChange
+abbrev pub moving_changes : (replaces sync : Bool) → KeptThread → (old_pair old_id new_pair new_id : ℕ) → Name → List ContentChange
 moving_changes replaces sync t old_pair old_id new_pair new_id name =
-    PutMove (gstate_xor (gstate_naming sync (thread_pair t old_pair).at old_id) (thread_pair t new_pair).content.move) ∷ (clearing_changes replaces new_id ++ slot_changes new_id name (nameless_at t old_pair old_id))
+    PutMove (gstate_xor (gstate_naming sync (thread_pair t old_pair).at old_id) (thread_pair t new_pair).content.move) ∷ (removal_changes replaces new_id ++ slot_changes new_id name (nameless_at t old_pair old_id))
 
 -- the same to a name that is new there
-abbrev pub across_changes : KeptThread → (old_pair old_id new_pair new_id : ℕ) → Name → List PairChange
+abbrev pub across_changes : KeptThread → (old_pair old_id new_pair new_id : ℕ) → Name → List ContentChange
 across_changes t old_pair old_id new_pair new_id name = moving_changes false false t old_pair old_id new_pair new_id name
 
 -- The image may be changed. An entry is at old_id of the old pair, in the directory that begins with the pair of number `first`.

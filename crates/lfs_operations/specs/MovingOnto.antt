@@ -6,7 +6,7 @@ use Rattle.lfs_model.specs.session.Operations as ops
 use Rattle.lfs_model.specs.session.Session.{Session}
 use Rattle.lfs_model.specs.session.Refusals.{path_or_root}
 use Rattle.lfs_model.specs.layers.Steps.{CompletesOperation, number_occurrences}
-use Rattle.lfs_model.specs.layers.Changes.{PairChange}
+use Rattle.lfs_model.specs.layers.Changes.{ContentChange}
 use Rattle.lfs_model.specs.session.InDirectory.{IsPairAt, IsPlaceOf}
 use Rattle.lfs_model.specs.layers.LoggedContent.{AreWords}
 use Rattle.lfs_model.specs.format.Names.{Name}
@@ -19,15 +19,15 @@ use Rattle.lfs_thread.specs.ThreadSteps.{thread_pair}
 use Rattle.lfs_operations.specs.Editing.{CanEditIn, editable_slot}
 use Rattle.lfs_operations.specs.Dropping.{ShowsDroppedTree}
 use Rattle.lfs_operations.specs.Ready.{IsRawFormed}
-use Rattle.lfs_operations.specs.Removing.{drops_with_its_slot}
+use Rattle.lfs_operations.specs.Removing.{drops_emptied_pair}
 use Rattle.lfs_operations.specs.MovingSteps.{ArePutAndEnded}
 use Rattle.lfs_operations.specs.MovingAcross.{CanRenameAcross, moving_changes, tree_moved}
 
 -- the changes to the new pair onto an entry: the slot that was there is removed; the sync bit is set or not
-abbrev pub entry_across_changes : Bool → KeptThread → (old_pair old_id new_pair new_id : ℕ) → Name → List PairChange
+abbrev pub entry_across_changes : Bool → KeptThread → (old_pair old_id new_pair new_id : ℕ) → Name → List ContentChange
 entry_across_changes sync t old_pair old_id new_pair new_id name = moving_changes true sync t old_pair old_id new_pair new_id name
 
-abbrev pub file_across_changes : KeptThread → (old_pair old_id new_pair new_id : ℕ) → Name → List PairChange
+abbrev pub file_across_changes : KeptThread → (old_pair old_id new_pair new_id : ℕ) → Name → List ContentChange
 file_across_changes t old_pair old_id new_pair new_id name = entry_across_changes false t old_pair old_id new_pair new_id name
 
 -- The image may be changed. An entry is at old_id of the old pair, in the directory that begins with the pair of number `first`.
@@ -77,7 +77,7 @@ tree_across t true sync old_pair old_id first new_pair new_id name rename = tree
 -- A copy of the slot was put in, and then the move ended.
 pub record IsMovedAcross (old : KeptThread) (replaces sync : Bool) (old_pair old_id first new_pair new_id : ℕ) (name : Name) (new : KeptThread) : Type 0 where
   pub address : AreWords (thread_pair old old_pair).at
-  pub done : ArePutAndEnded old old_pair old_id (drops_with_its_slot old old_pair first) new_pair (moving_changes replaces sync old old_pair old_id new_pair new_id name) new
+  pub done : ArePutAndEnded old old_pair old_id (drops_emptied_pair old old_pair first) new_pair (moving_changes replaces sync old old_pair old_id new_pair new_id name) new
 
 -- The tree has the entry in the file's place. So a rename of its path onto the file's is completed. The blocks of the file's list
 -- are `gone`, each once, and none of them is the image's.

@@ -8,15 +8,15 @@ use Rattle.lfs_model.specs.layers.BlockSets.{IsFree}
 use Rattle.lfs_model.specs.session.History.{CallEvent, fault_count}
 use Rattle.lfs_model.specs.crash.PowerLoss.{SurvivesLossSince}
 use Rattle.lfs_model.specs.tree.Tree.{Tree}
-use Rattle.lfs_model.specs.layers.Changes.{PairChange}
+use Rattle.lfs_model.specs.layers.Changes.{ContentChange}
 use Rattle.lfs_model.specs.format.Thread.{pairs_blocks}
 use Rattle.lfs_model.specs.tree.Shown.{disk_tree}
 use Rattle.lfs_thread.specs.Kept.{KeptThread, ThreadView}
 use Rattle.lfs_thread.specs.ThreadDevice.{CleanLossLeaves}
 use Rattle.lfs_thread.specs.ThreadSteps.{OnlyReadsThread, ChangesThreadBlocks, thread_pair}
 use Rattle.lfs_operations.specs.Changing.{CanPut, HasTwoFree, LeftByPut, ArePut, OverfillsPair, TakesAtMostTwo, has_failed_after}
-use Rattle.lfs_operations.specs.Removing.{drops_with_its_slot}
-use Rattle.lfs_operations.specs.MoveEnds.{CanEndAt, written_by_ending, HasEndedAt}
+use Rattle.lfs_operations.specs.Removing.{drops_emptied_pair}
+use Rattle.lfs_operations.specs.MoveEnds.{CanEndMoveAt, ending_written_pair, HasEndedMoveAt}
 
 -- the number of a pair after so many were put in after another one
 abbrev pub number_after_insertion : ℕ → ℕ → ℕ → ℕ
@@ -26,28 +26,28 @@ number_after_insertion pair other fresh = if nat_lt pair other then pair else pa
 pub record CanEndAfterPut (old : KeptThread) (old_pair old_id : ℕ) (goes : Bool) (new_pair : ℕ) (mid : KeptThread) : Type 0 where
   pub apart : old_pair ≢ new_pair
   pub grown : length old.pairs ≤ length mid.pairs
-  pub can : CanEndAt mid (number_after_insertion old_pair new_pair (length mid.pairs - length old.pairs)) old_id goes
+  pub can : CanEndMoveAt mid (number_after_insertion old_pair new_pair (length mid.pairs - length old.pairs)) old_id goes
   pub at : (thread_pair mid (number_after_insertion old_pair new_pair (length mid.pairs - length old.pairs))).at ≡ (thread_pair old old_pair).at
 
 -- The changes can be put into the new pair, and then the move can end at the old one.
-pub record CanPutAndEnd (t : KeptThread) (old_pair old_id : ℕ) (goes : Bool) (new_pair : ℕ) (changes : List PairChange) : Type 0 where
+pub record CanPutAndEnd (t : KeptThread) (old_pair old_id : ℕ) (goes : Bool) (new_pair : ℕ) (changes : List ContentChange) : Type 0 where
   pub turns : CanPut t new_pair changes
   pub ends : (mid : KeptThread) → ArePut t new_pair changes mid → CanEndAfterPut t old_pair old_id goes new_pair mid
 
 -- The changes were put into the new pair, and then the move ended. Pairs have no new blocks but at most two that were free.
-pub record ArePutAndEnded (old : KeptThread) (old_pair old_id : ℕ) (goes : Bool) (new_pair : ℕ) (changes : List PairChange) (new : KeptThread) : Type 0 where
+pub record ArePutAndEnded (old : KeptThread) (old_pair old_id : ℕ) (goes : Bool) (new_pair : ℕ) (changes : List ContentChange) (new : KeptThread) : Type 0 where
   pub mid : KeptThread
   pub put : ArePut old new_pair changes mid
-  pub ended : HasEndedAt mid (number_after_insertion old_pair new_pair (length mid.pairs - length old.pairs)) old_id goes new
+  pub ended : HasEndedMoveAt mid (number_after_insertion old_pair new_pair (length mid.pairs - length old.pairs)) old_id goes new
   pub blocks : TakesAtMostTwo old new
 
 -- the pair that the second step writes: the old one, or the one before it where that is dropped with its slot
-abbrev pub second_pair : KeptThread → ℕ → ℕ → ℕ
-second_pair t pair first = written_by_ending pair (drops_with_its_slot t pair first)
+abbrev pub second_step_pair : KeptThread → ℕ → ℕ → ℕ
+second_step_pair t pair first = ending_written_pair pair (drops_emptied_pair t pair first)
 
 -- If a stop in the first step leaves a disk with one of two trees, and the first step leads to the second tree, then a stop in
 -- either step leaves one of them.
-abbrev pub SurvivesCommits : KeptThread → ℕ → List PairChange → KeptThread → Type 0
+abbrev pub SurvivesCommits : KeptThread → ℕ → List ContentChange → KeptThread → Type 0
 SurvivesCommits old new_pair changes new = (before after : Tree)
     → ((calls : List CallEvent) → CleanLossLeaves old.history calls (LeftByPut old new_pair changes) → SurvivesLossSince old.disk old.history calls before after)
     → ((mid : KeptThread) → ArePut old new_pair changes mid → disk_tree mid.disk mid.pairs ≡ after) → SurvivesLossSince old.disk old.history new.history before after
@@ -55,7 +55,7 @@ SurvivesCommits old new_pair changes new = (before after : Tree)
 -- What an operation of several steps reports. `Io` comes with a fault of the device, and any other result with none. At `NoSpace`
 -- everything is as it was; it comes only where what the changes make doesn't fit the pair and fewer than two blocks are free. At
 -- any other error the thread has failed, unless it was only read by then.
-pub record ReportsTakingCommits {X : Type 0} (old new : ThreadView) (index : ℕ) (changes : List PairChange) (result : Result X Error) : Type 0 where
+pub record ReportsTakingCommits {X : Type 0} (old new : ThreadView) (index : ℕ) (changes : List ContentChange) (result : Result X Error) : Type 0 where
   pub failed : (new.failed ≡ has_failed_after result) ⊎ ((new.failed ≡ false) × OnlyReadsThread old.kept new.kept)
   pub errors : IfErr result (λ e. (e ≡ Io) ⊎ ((e ≡ NoMemory) ⊎ (e ≡ NoSpace)))
   pub fault : IsErrOf result Io → fault_count old.kept.history < fault_count new.kept.history

@@ -22,12 +22,12 @@ pub record CanRemoveIn (t : KeptThread) (pair id first : ℕ) : Type 0 where
   pub begins : can.first ≡ first
 
 -- its slot is the only one of a pair that isn't the first of the directory, so the pair is dropped with it
-abbrev pub drops_with_its_slot : KeptThread → ℕ → ℕ → Bool
-drops_with_its_slot t pair first = not (pair == first) && length (thread_pair t pair).content.slots == 1
+abbrev pub drops_emptied_pair : KeptThread → ℕ → ℕ → Bool
+drops_emptied_pair t pair first = not (pair == first) && length (thread_pair t pair).content.slots == 1
 
 -- the pair that is written: the slot's, or the one before it
-abbrev pub written_by_removal : KeptThread → ℕ → ℕ → ℕ × ℕ
-written_by_removal t pair first = if drops_with_its_slot t pair first then (thread_pair t (pair - 1)).at else (thread_pair t pair).at
+abbrev pub removal_written_address : KeptThread → ℕ → ℕ → ℕ × ℕ
+removal_written_address t pair first = if drops_emptied_pair t pair first then (thread_pair t (pair - 1)).at else (thread_pair t pair).at
 
 abbrev pub tree_without_entry : KeptThread → Path → Name → Tree
 tree_without_entry t path name = tree_removing (path ++ name ∷ []) (disk_tree t.disk t.pairs)

@@ -3,7 +3,7 @@ use Rattle.std.specs.Prelude.{ℕ, ◌≡◌, ◌≢◌, ◌⊎◌, ◌≤◌, �
 use Rattle.lfs_device.specs.declared.error.Error.{Error}
 use Rattle.lfs_device.specs.declared.error.Error.TheVariants.{NoSpace}
 use Rattle.lfs_model.specs.session.TreeEdits.{tree_renaming}
-use Rattle.lfs_model.specs.layers.Changes.{PairChange, Delete}
+use Rattle.lfs_model.specs.layers.Changes.{ContentChange, Delete}
 use Rattle.lfs_model.specs.session.InDirectory.{BelongsAt, IsPlaceOf}
 use Rattle.lfs_model.specs.format.Names.{Name, is_valid_name}
 use Rattle.lfs_model.specs.session.Operations as ops
@@ -26,7 +26,7 @@ abbrev pub id_after_removal : ℕ → ℕ → ℕ
 id_after_removal id place = if nat_lt id place then place - 1 else place
 
 -- the slot is removed, and put in at the place under the name
-abbrev pub within_changes : KeptThread → ℕ → ℕ → ℕ → Name → List PairChange
+abbrev pub within_changes : KeptThread → ℕ → ℕ → ℕ → Name → List ContentChange
 within_changes t pair id place name = Delete id ∷ slot_changes (id_after_removal id place) name (nameless_at t pair id)
 
 -- The image may be changed. An entry is at the id of the pair, and the name belongs at a place of the same pair and directory.
@@ -38,7 +38,7 @@ pub record CanRenameWithin (t : KeptThread) (pair id place : ℕ) (name : Name) 
   pub fits : IsWritableEntry t.disk.profile t.disk.block_size t.disk.page (record (editable_slot can) { name = name })
 
 -- both slots are removed, and the entry's is put in at the other's place
-abbrev pub onto_changes : KeptThread → ℕ → ℕ → ℕ → Name → List PairChange
+abbrev pub onto_changes : KeptThread → ℕ → ℕ → ℕ → Name → List ContentChange
 onto_changes t pair id place name = Delete id ∷ Delete (id_after_removal id place) ∷ slot_changes (id_after_removal id place) name (nameless_at t pair id)
 
 -- The image may be changed. An entry is at the id of the pair, and a file of another name at a place of the same pair and
@@ -72,7 +72,7 @@ pub record IsRenamedOnto (old new : KeptThread) (path : Path) (from to : Name) (
 
 -- What an operation reports that reads a slot before it changes or splits the pair: as `ReportsPut`, except that the thread works
 -- on and is as it was where the slot couldn't be read.
-pub record ReportsReadPut {X : Type 0} (old new : ThreadView) (index : ℕ) (changes : List PairChange) (result : Result X Error) : Type 0 where
+pub record ReportsReadPut {X : Type 0} (old new : ThreadView) (index : ℕ) (changes : List ContentChange) (result : Result X Error) : Type 0 where
   pub failed : (new.failed ≡ has_failed_after result) ⊎ ((new.failed ≡ false) × OnlyReadsThread old.kept new.kept)
   pub reports : ReportsSpaceErrors old.kept new.kept result
   pub too_large : result ≡ Err NoSpace → OverfillsPair old.kept index changes

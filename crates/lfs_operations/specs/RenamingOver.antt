@@ -3,7 +3,7 @@ use Rattle.std.specs.Prelude.{ℕ, ◌≡◌, ◌≢◌, ◌⊎◌, ◌<◌, tru
 use Rattle.lfs_device.specs.declared.error.Error.{Error}
 use Rattle.lfs_device.specs.declared.error.Error.TheVariants.{Io, NoMemory}
 use Rattle.lfs_model.specs.session.TreeEdits.{tree_renaming}
-use Rattle.lfs_model.specs.layers.Changes.{PairChange, Delete, PutMove}
+use Rattle.lfs_model.specs.layers.Changes.{ContentChange, Delete, PutMove}
 use Rattle.lfs_model.specs.format.Content.{content_at}
 use Rattle.lfs_model.specs.format.Disk.{block_count}
 use Rattle.lfs_model.specs.session.History.{fault_count}
@@ -15,14 +15,14 @@ use Rattle.lfs_model.specs.tree.Tree.{Path}
 use Rattle.lfs_model.specs.tree.Profile.{IsWritableEntry}
 use Rattle.lfs_model.specs.layers.Steps.{sync_bit_delta, renamed_addresses, IsWritableChange}
 use Rattle.lfs_thread.specs.Kept.{KeptThread, ThreadView}
-use Rattle.lfs_thread.specs.ThreadSteps.{ThreadReportsErrors, IsPairCommitted, OnlyReadsThread, IsPairWritten, thread_pair, pairs_with}
+use Rattle.lfs_thread.specs.ThreadSteps.{ThreadReportsErrors, IsPairCommitted, OnlyReadsThread, IsPairWritten, thread_pair, pairs_with_content}
 use Rattle.lfs_operations.specs.Dropping.{ShowsDroppedTree}
 use Rattle.lfs_operations.specs.Editing.{CanEditIn, editable_slot}
 use Rattle.lfs_operations.specs.Renaming.{CompletesRename, id_after_removal, tree_renamed}
 use Rattle.lfs_operations.specs.RenamingSlots.{nameless_at, slot_changes}
 
 -- the pair's delta turns the sync bit, both slots are removed, and the entry's is put in at the other's place
-abbrev pub replace_directory_changes : KeptThread → ℕ → ℕ → ℕ → Name → List PairChange
+abbrev pub replace_directory_changes : KeptThread → ℕ → ℕ → ℕ → Name → List ContentChange
 replace_directory_changes t pair id place name = PutMove (gstate_xor (thread_pair t pair).content.move sync_bit_delta) ∷ Delete id ∷ Delete (id_after_removal id place)
     ∷ slot_changes (id_after_removal id place) name (nameless_at t pair id)
 
@@ -42,7 +42,7 @@ pub record IsDirectoryReplaced (old new : KeptThread) (pair id place : ℕ) (pat
   pub changed : IsPairCommitted old pair (replace_directory_changes old pair id place to) new
   pub content : PairContent
   pub written : IsPairWritten old pair content new.disk
-  pub pairs : new.pairs ≡ pairs_with old pair content
+  pub pairs : new.pairs ≡ pairs_with_content old pair content
   pub thread : IsThread (content_at new.disk) (block_count new.disk) new.pairs
   pub map : new.map ≡ old.map
   pub gstate : pairs_gstate new.pairs ≡ sync_bit_delta

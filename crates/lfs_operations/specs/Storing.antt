@@ -3,13 +3,13 @@ use Rattle.std.specs.Prelude.{ℕ, ◌≡◌, ◌⊎◌, ◌≤◌, ◌+◌, tru
 use Rattle.std.specs.List.{AllByRecursion, IsDistinct}
 use Rattle.lfs_model.specs.session.TreeEdits.{tree_with_change}
 use Rattle.lfs_model.specs.layers.BlockSets.{IsFree, IsInFlight}
-use Rattle.lfs_model.specs.format.Content.{read_struct}
+use Rattle.lfs_model.specs.format.Content.{decoded_struct}
 use Rattle.lfs_model.specs.layers.LoggedContent.{IsAllowedPart}
 use Rattle.lfs_model.specs.format.Names.{Name}
 use Rattle.lfs_model.specs.session.Operations as ops
 use Rattle.lfs_model.specs.session.Session.{Session, FileWriter, Writing, file_numbered}
 use Rattle.lfs_model.specs.session.SlotEdits.{GivesBytes}
-use Rattle.lfs_model.specs.session.Effects.{file_with_bytes}
+use Rattle.lfs_model.specs.session.Effects.{node_with_bytes}
 use Rattle.lfs_model.specs.format.Thread.{pairs_blocks}
 use Rattle.lfs_model.specs.tree.Tree.{Path, Tree, branch_address}
 use Rattle.lfs_model.specs.tree.View.{IsFormedList}
@@ -26,17 +26,17 @@ pub record CanSetStruct (t : KeptThread) (pair id kind : ℕ) (bytes : List ℕ)
   pub file : branch_address (editable_slot can).struct ≡ None
   pub part : IsAllowedPart 2 (kind, bytes)
   pub contents : List ℕ
-  pub stores : GivesBytes t.disk contents (read_struct kind bytes)
-  pub list : IsFormedList t.disk (read_struct kind bytes)
+  pub stores : GivesBytes t.disk contents (decoded_struct kind bytes)
+  pub list : IsFormedList t.disk (decoded_struct kind bytes)
   pub gone : List ℕ
   pub come : List ℕ
   pub flying : AllByRecursion (IsInFlight t.map) come
   pub apart : IsDistinct nat_eq come
-  pub blocks : (b : ℕ) → number_occurrences b (struct_blocks t.disk (read_struct kind bytes)) + number_occurrences b gone ≡ number_occurrences b come + number_occurrences b (struct_blocks t.disk (editable_slot can).struct)
+  pub blocks : (b : ℕ) → number_occurrences b (struct_blocks t.disk (decoded_struct kind bytes)) + number_occurrences b gone ≡ number_occurrences b come + number_occurrences b (struct_blocks t.disk (editable_slot can).struct)
 
 -- the tree with other contents there
 abbrev pub tree_with_contents : KeptThread → Path → Name → List ℕ → Tree
-tree_with_contents t path name contents = tree_with_change (path ++ name ∷ []) (file_with_bytes contents) (disk_tree t.disk t.pairs)
+tree_with_contents t path name contents = tree_with_change (path ++ name ∷ []) (node_with_bytes contents) (disk_tree t.disk t.pairs)
 
 abbrev pub IsDirtyWriter : Session → ℕ → Path → List ℕ → FileWriter → Type 0
 IsDirtyWriter s fd path contents writer = (file_numbered s.files fd ≡ Some (Writing writer)) × ((writer.dirty ≡ true) × ((writer.path ≡ path) × (writer.contents ≡ contents)))

@@ -2,7 +2,7 @@
 use Rattle.std.specs.Prelude.{ℕ, ◌≡◌, ◌⊎◌, ◌<◌, true, false, List, [], ◌∷◌, ◌++◌, length, nat_lt, ◌-◌, if◌then◌else◌, Result, is_err, IfErr, IsErrOf}
 use Rattle.lfs_device.specs.declared.error.Error.{Error}
 use Rattle.lfs_device.specs.declared.error.Error.TheVariants.{Io, NoMemory}
-use Rattle.lfs_model.specs.layers.Changes.{PairChange, Delete, PutMove}
+use Rattle.lfs_model.specs.layers.Changes.{ContentChange, Delete, PutMove}
 use Rattle.lfs_model.specs.session.History.{fault_count}
 use Rattle.lfs_model.specs.format.Names.{Name}
 use Rattle.lfs_model.specs.session.Operations as ops
@@ -18,12 +18,12 @@ use Rattle.lfs_thread.specs.ThreadSteps.{thread_pair}
 use Rattle.lfs_operations.specs.Changing.{IsPairTouched}
 use Rattle.lfs_operations.specs.Dropping.{ShowsDroppedTree}
 use Rattle.lfs_operations.specs.Editing.{CanEditIn, editable_slot}
-use Rattle.lfs_operations.specs.Removing.{drops_with_its_slot, tree_without_entry}
+use Rattle.lfs_operations.specs.Removing.{drops_emptied_pair, tree_without_entry}
 
 -- ---- the entry is removed
 
 -- the entry goes, and the pair's delta turns the sync bit
-abbrev pub unlink_changes : KeptThread → ℕ → ℕ → List PairChange
+abbrev pub unlink_changes : KeptThread → ℕ → ℕ → List ContentChange
 unlink_changes t pair id = Delete id ∷ PutMove (gstate_xor (thread_pair t pair).content.move sync_bit_delta) ∷ []
 
 -- ---- the operation
@@ -55,7 +55,7 @@ pub record IsDirectoryRemoved (old new : KeptThread) (path : Path) (name : Name)
 -- dropped too.
 pub record ArePairsBeforeTouched (old : KeptThread) (pair first gone : ℕ) (new : KeptThread) : Type 0 where
   pub front : IsPairTouched old (gone - 1) new
-  pub entry : drops_with_its_slot old pair first ≡ true → IsPairTouched old (pair - 1) new
+  pub entry : drops_emptied_pair old pair first ≡ true → IsPairTouched old (pair - 1) new
 
 -- What several steps report that take no block: `Io` comes with a fault of the device, and any other result with none. After an
 -- error the thread has failed.

@@ -2,7 +2,7 @@
 use Rattle.std.specs.Prelude.{ℕ, ◌≡◌, ◌≢◌, ◌≤◌, ◌<◌, ◌+◌, ◌-◌, ◌*◌, ◌%◌, ◌^◌, ◌⊎◌, true, false, List, ◌∷◌, ◌++◌, Some, option_map, length, All, Any, Contains}
 use Rattle.std.specs.List.{AllByRecursion}
 use Rattle.lfs_model.specs.format.Disk.{Disk, block_count}
-use Rattle.lfs_model.specs.format.Slots.{array_address, same_pair}
+use Rattle.lfs_model.specs.format.Slots.{address_view, same_pair}
 use Rattle.lfs_model.specs.format.Thread.{Pair, has_slots, is_hard_tail, count_before_root, tail_target}
 use Rattle.lfs_model.specs.layers.BlockSets.{BlockStates, used_count}
 use Rattle.lfs_model.specs.layers.Steps.{KeepsStruct, SameFileBlocks}
@@ -45,7 +45,7 @@ pub record CanMovePair (t : KeptThread) (index : ℕ) (fresh : ℕ × ℕ) : Typ
 
 -- The pair of that number is at these two blocks. No other block changed but those of the pair before it. As many blocks are used
 -- as before.
-pub record IsMovedAt (old : KeptThread) (index : ℕ) (fresh : ℕ × ℕ) (new : KeptThread) : Type 0 where
+pub record IsWornMoved (old : KeptThread) (index : ℕ) (fresh : ℕ × ℕ) (new : KeptThread) : Type 0 where
   pub moved : IsPairMoved old.disk old.pairs new.pairs
   pub to : moved.to ≡ fresh
   pub number : length moved.front + 1 ≡ index
@@ -79,7 +79,7 @@ pub record CanUnloadPair (t : KeptThread) (index : ℕ) (fresh : ℕ × ℕ) : T
 
 -- The slots of the pair of that number are in a pair behind it, at these two blocks. No other block changed but the pair's own. Two
 -- more blocks are used.
-pub record IsUnloadedAt (old : KeptThread) (index : ℕ) (fresh : ℕ × ℕ) (new : KeptThread) : Type 0 where
+pub record IsWornUnloaded (old : KeptThread) (index : ℕ) (fresh : ℕ × ℕ) (new : KeptThread) : Type 0 where
   pub unloaded : IsPairUnloaded old.disk old.pairs new.disk new.pairs
   pub to : unloaded.to ≡ fresh
   pub number : length unloaded.front + 1 ≡ index
@@ -112,15 +112,15 @@ pub record IsRootExpanded (old : KeptThread) (fresh : ℕ × ℕ) (new : KeptThr
 
 -- Before an operation that takes at most so many blocks: the two blocks are free, and a pair has the other two.
 pub record IsPlanFor (t : KeptThread) (room : ℕ) (plan : MovePlan) : Type 0 where
-  pub free : AreTwoFree t.map (array_address plan.fresh)
-  pub there : Any (λ p. p.at ≡ array_address plan.at) t.pairs
+  pub free : AreTwoFree t.map (address_view plan.fresh)
+  pub there : Any (λ p. p.at ≡ address_view plan.at) t.pairs
   pub limit : plan.limit ≤ used_count t.map + room
 
 -- the map has the plan's two fresh blocks
 pub record HasPlanBlocks (sets : BlockStates) (plan : MovePlan) : Type 0 where
-  pub apart : (array_address plan.fresh).0 ≢ (array_address plan.fresh).1
-  pub first : (array_address plan.fresh).0 < length sets
-  pub second : (array_address plan.fresh).1 < length sets
+  pub apart : (address_view plan.fresh).0 ≢ (address_view plan.fresh).1
+  pub first : (address_view plan.fresh).0 < length sets
+  pub second : (address_view plan.fresh).1 < length sets
 
 -- the image may be changed by the plan
 pub record CanRelocate (t : ThreadView) (root : ℕ) (plan : MovePlan) : Type 0 where
@@ -140,8 +140,8 @@ pub record MovesByPlan (old : KeptThread) (plan : MovePlan) (new : KeptThread) :
   pub stay : AllByRecursion (Contains old.pairs) front
   pub stay_behind : AllByRecursion (Contains old.pairs) back
   pub next : tail_target written.content.tail ≡ Some fresh.at
-  pub at : same_pair written.at (array_address plan.at) ≡ true
-  pub to : fresh.at ≡ array_address plan.fresh
+  pub at : same_pair written.at (address_view plan.at) ≡ true
+  pub to : fresh.at ≡ address_view plan.fresh
   pub others : KeepsOutsideBoth written.at fresh.at old.disk.blocks new.disk.blocks
 
 -- Nothing changed, or a worn pair moved by the plan. The image shows the same files. No more blocks are used than before, or than

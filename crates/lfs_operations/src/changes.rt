@@ -2,7 +2,7 @@
 
 ghost use Rattle.std.specs.Prelude.{◌≡◌, ◌≤◌, ◌+◌, false, IfSome, IfNone, OnOk};
 ghost use Rattle.lfs_model.specs.session.History.{read_count};
-ghost use Rattle.lfs_model.specs.format.Slots.{array_address};
+ghost use Rattle.lfs_model.specs.format.Slots.{address_view};
 ghost use Rattle.lfs_pair.specs.ChangeView.{changes_view};
 ghost use Rattle.lfs_thread.specs.ThreadDevice.{CleanLossLeaves};
 ghost use Rattle.lfs_model.specs.format.Thread.{address_blocks};
@@ -18,8 +18,8 @@ use std::alloc::Global;
 // Takes two free blocks, which are in flight then. Returns None where fewer than two are free;
 // nothing is taken then.
 pub(crate) fn take_two_blocks<D: BlockDevice>(thread: &mut Thread<D>) -> Option<[u32; 2]>
-    ensures were_free { IfSome result (λ fresh. AreTwoFree thread.old.kept.map (array_address fresh)) }
-    ensures taken { IfSome result (λ fresh. thread.new ≡ record thread.old { kept = record thread.old.kept { map = map_taking_two thread.old.kept.map (array_address fresh) } }) }
+    ensures were_free { IfSome result (λ fresh. AreTwoFree thread.old.kept.map (address_view fresh)) }
+    ensures taken { IfSome result (λ fresh. thread.new ≡ record thread.old { kept = record thread.old.kept { map = map_taking_two thread.old.kept.map (address_view fresh) } }) }
     ensures none { IfNone result (HasTwoFree thread.old.kept.map → ⊥) }
     ensures same { IfNone result (thread.new ≡ thread.old) }
 {
@@ -35,8 +35,8 @@ pub(crate) fn take_two_blocks<D: BlockDevice>(thread: &mut Thread<D>) -> Option<
 
 // Takes two given free blocks, which are in flight then.
 pub(crate) fn take_these<D: BlockDevice>(thread: &mut Thread<D>, blocks: [u32; 2])
-    requires { AreTwoFree thread.old.kept.map (array_address blocks) }
-    ensures { thread.new ≡ record thread.old { kept = record thread.old.kept { map = map_taking_two thread.old.kept.map (array_address blocks) } } }
+    requires { AreTwoFree thread.old.kept.map (address_view blocks) }
+    ensures { thread.new ≡ record thread.old { kept = record thread.old.kept { map = map_taking_two thread.old.kept.map (address_view blocks) } } }
 {
     thread.take_at(blocks[0]);
     thread.take_at(blocks[1]);

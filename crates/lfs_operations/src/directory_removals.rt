@@ -8,7 +8,7 @@ ghost use Rattle.lfs_tag.specs.FieldsView.{move_view};
 ghost use Rattle.lfs_thread.specs.ThreadDevice.{CleanLossLeaves};
 ghost use Rattle.lfs_thread.specs.ThreadSteps.{IsPairCommitted, LossLeavesPair, ChangesThreadBlocks, thread_pair};
 ghost use Rattle.lfs_operations.specs.Editing.{CanEditIn};
-ghost use Rattle.lfs_operations.specs.Removing.{ReportsCommit, drops_with_its_slot, tree_without_entry, written_by_removal};
+ghost use Rattle.lfs_operations.specs.Removing.{ReportsCommit, drops_emptied_pair, tree_without_entry, removal_written_address};
 ghost use Rattle.lfs_operations.specs.Unlinking.{ArePairsBeforeTouched, CanRemoveDirectory, IsDirectoryRemoved, ReportsCommits, unlink_changes, number_after_drop};
 ghost use Rattle.lfs_model.specs.format.Thread.{address_blocks, addresses_blocks};
 
@@ -72,11 +72,11 @@ fn remove_keeping_pair<D: BlockDevice>(
 ) -> Result<(), Error>
     requires works { thread.old.failed ≡ false }
     requires can { CanRemoveDirectory thread.old.kept pair id first gone }
-    requires stays { drops_with_its_slot thread.old.kept pair first ≡ false }
+    requires stays { drops_emptied_pair thread.old.kept pair first ≡ false }
     ensures is_removed { OnOk result ((take : CanRemoveDirectory thread.old.kept pair id first gone) → IsDirectoryRemoved thread.old.kept thread.new.kept take.can.path take.can.name) }
     ensures alters { OnOk result (ArePairsBeforeTouched thread.old.kept pair first gone thread.new.kept) }
     ensures errors { ReportsCommits thread.old thread.new result }
-    ensures device { ChangesThreadBlocks (addresses_blocks (written_by_removal thread.old.kept pair first) (thread_pair thread.old.kept (gone - 1)).at) thread.old.kept thread.new.kept }
+    ensures device { ChangesThreadBlocks (addresses_blocks (removal_written_address thread.old.kept pair first) (thread_pair thread.old.kept (gone - 1)).at) thread.old.kept thread.new.kept }
     ensures survives { (take : CanRemoveDirectory thread.old.kept pair id first gone) → SurvivesLossSince thread.old.kept.disk thread.old.kept.history thread.new.kept.history
         (disk_tree thread.old.kept.disk thread.old.kept.pairs) (tree_without_entry thread.old.kept take.can.path take.can.name) }
 {
@@ -95,11 +95,11 @@ fn remove_with_pair<D: BlockDevice>(
 ) -> Result<(), Error>
     requires works { thread.old.failed ≡ false }
     requires can { CanRemoveDirectory thread.old.kept pair id first gone }
-    requires goes { drops_with_its_slot thread.old.kept pair first ≡ true }
+    requires goes { drops_emptied_pair thread.old.kept pair first ≡ true }
     ensures is_removed { OnOk result ((take : CanRemoveDirectory thread.old.kept pair id first gone) → IsDirectoryRemoved thread.old.kept thread.new.kept take.can.path take.can.name) }
     ensures alters { OnOk result (ArePairsBeforeTouched thread.old.kept pair first gone thread.new.kept) }
     ensures errors { ReportsCommits thread.old thread.new result }
-    ensures device { ChangesThreadBlocks (addresses_blocks (written_by_removal thread.old.kept pair first) (thread_pair thread.old.kept (gone - 1)).at) thread.old.kept thread.new.kept }
+    ensures device { ChangesThreadBlocks (addresses_blocks (removal_written_address thread.old.kept pair first) (thread_pair thread.old.kept (gone - 1)).at) thread.old.kept thread.new.kept }
     ensures survives { (take : CanRemoveDirectory thread.old.kept pair id first gone) → SurvivesLossSince thread.old.kept.disk thread.old.kept.history thread.new.kept.history
         (disk_tree thread.old.kept.disk thread.old.kept.pairs) (tree_without_entry thread.old.kept take.can.path take.can.name) }
 {
@@ -134,7 +134,7 @@ pub fn remove_directory<D: BlockDevice>(
     ensures is_removed { OnOk result ((take : CanRemoveDirectory thread.old.kept pair id first gone) → IsDirectoryRemoved thread.old.kept thread.new.kept take.can.path take.can.name) }
     ensures alters { OnOk result (ArePairsBeforeTouched thread.old.kept pair first gone thread.new.kept) }
     ensures errors { ReportsCommits thread.old thread.new result }
-    ensures device { ChangesThreadBlocks (addresses_blocks (written_by_removal thread.old.kept pair first) (thread_pair thread.old.kept (gone - 1)).at) thread.old.kept thread.new.kept }
+    ensures device { ChangesThreadBlocks (addresses_blocks (removal_written_address thread.old.kept pair first) (thread_pair thread.old.kept (gone - 1)).at) thread.old.kept thread.new.kept }
     ensures survives { (take : CanRemoveDirectory thread.old.kept pair id first gone) → SurvivesLossSince thread.old.kept.disk thread.old.kept.history thread.new.kept.history
         (disk_tree thread.old.kept.disk thread.old.kept.pairs) (tree_without_entry thread.old.kept take.can.path take.can.name) }
 {

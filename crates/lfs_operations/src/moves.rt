@@ -14,9 +14,9 @@ ghost use Rattle.lfs_thread.specs.ThreadSteps.{ChangesThreadBlocks, thread_pair}
 ghost use Rattle.lfs_pair.specs.ChangeView.{changes_view};
 ghost use Rattle.lfs_operations.specs.Altering.{WritesTouchedFree};
 ghost use Rattle.lfs_operations.specs.Changing.{WritesThreadTwo};
-ghost use Rattle.lfs_operations.specs.MoveEnds.{CanEndAt, HasEndedAt, written_by_ending, gstate_naming, delta_without_move};
-ghost use Rattle.lfs_operations.specs.MovingSteps.{CanPutAndEnd, ArePutAndEnded, SurvivesCommits, ReportsTakingCommits, WritesPairsTwo, second_pair, number_after_insertion};
-ghost use Rattle.lfs_operations.specs.MovingAcross.{CanRenameAcross, IsRenamedAcross, across_changes, clearing_changes, moving_changes, tree_moved};
+ghost use Rattle.lfs_operations.specs.MoveEnds.{CanEndMoveAt, HasEndedMoveAt, ending_written_pair, gstate_naming, delta_without_move};
+ghost use Rattle.lfs_operations.specs.MovingSteps.{CanPutAndEnd, ArePutAndEnded, SurvivesCommits, ReportsTakingCommits, WritesPairsTwo, second_step_pair, number_after_insertion};
+ghost use Rattle.lfs_operations.specs.MovingAcross.{CanRenameAcross, IsRenamedAcross, across_changes, removal_changes, moving_changes, tree_moved};
 ghost use Rattle.lfs_operations.specs.MovingOnto.{CanMoveAcross, CanReplaceFileAcross, CanReplaceDirectoryAcross, IsMovedAcross, IsFileReplaced, entry_across_changes, file_across_changes, tree_across};
 ghost use Rattle.lfs_operations.specs.Removing.{ReportsCommit};
 ghost use Rattle.lfs_operations.specs.EndingMove.{gstate_without_move};
@@ -61,15 +61,15 @@ fn delta_without_move<D: BlockDevice>(thread: &Thread<D>, pair: usize) -> MoveSt
 }
 
 // Removes the slot that a set move names from its pair, which stays, and ends the move.
-fn end_by_commit<D: BlockDevice>(
+fn end_move_committing<D: BlockDevice>(
     alloc: Global,
     thread: &mut Thread<D>,
     pair: usize,
     id: u16,
 ) -> Result<(), Error>
     requires works { thread.old.failed ≡ false }
-    requires can { CanEndAt thread.old.kept pair id false }
-    ensures ended { OnOk result (HasEndedAt thread.old.kept pair id false thread.new.kept) }
+    requires can { CanEndMoveAt thread.old.kept pair id false }
+    ensures ended { OnOk result (HasEndedMoveAt thread.old.kept pair id false thread.new.kept) }
     ensures errors { ReportsCommit thread.old thread.new result }
     ensures device { ChangesThreadBlocks (address_blocks (thread_pair thread.old.kept pair).at) thread.old.kept thread.new.kept }
     ensures survives { SurvivesLossSince thread.old.kept.disk thread.old.kept.history thread.new.kept.history
@@ -92,15 +92,15 @@ fn moveless_gstate<D: BlockDevice>(thread: &Thread<D>) -> MoveState
 }
 
 // Drops a pair whose only slot a set move names, and ends the move.
-fn end_by_drop<D: BlockDevice>(
+fn end_move_dropping<D: BlockDevice>(
     alloc: Global,
     thread: &mut Thread<D>,
     pair: usize,
     id: u16,
 ) -> Result<(), Error>
     requires works { thread.old.failed ≡ false }
-    requires can { CanEndAt thread.old.kept pair id true }
-    ensures ended { OnOk result (HasEndedAt thread.old.kept pair id true thread.new.kept) }
+    requires can { CanEndMoveAt thread.old.kept pair id true }
+    ensures ended { OnOk result (HasEndedMoveAt thread.old.kept pair id true thread.new.kept) }
     ensures errors { ReportsCommit thread.old thread.new result }
     ensures device { ChangesThreadBlocks (address_blocks (thread_pair thread.old.kept (pair - 1)).at) thread.old.kept thread.new.kept }
     ensures survives { SurvivesLossSince thread.old.kept.disk thread.old.kept.history thread.new.kept.history
@@ -120,17 +120,17 @@ pub(crate) fn end_move<D: BlockDevice>(
     goes: bool,
 ) -> Result<(), Error>
     requires works { thread.old.failed ≡ false }
-    requires can { CanEndAt thread.old.kept pair id goes }
-    ensures ended { OnOk result (HasEndedAt thread.old.kept pair id goes thread.new.kept) }
+    requires can { CanEndMoveAt thread.old.kept pair id goes }
+    ensures ended { OnOk result (HasEndedMoveAt thread.old.kept pair id goes thread.new.kept) }
     ensures errors { ReportsCommit thread.old thread.new result }
-    ensures device { ChangesThreadBlocks (address_blocks (thread_pair thread.old.kept (written_by_ending pair goes)).at) thread.old.kept thread.new.kept }
+    ensures device { ChangesThreadBlocks (address_blocks (thread_pair thread.old.kept (ending_written_pair pair goes)).at) thread.old.kept thread.new.kept }
     ensures survives { SurvivesLossSince thread.old.kept.disk thread.old.kept.history thread.new.kept.history
         (disk_tree thread.old.kept.disk thread.old.kept.pairs) (disk_tree thread.old.kept.disk thread.old.kept.pairs) }
 {
     if goes {
-        end_by_drop(alloc, thread, pair, id)
+        end_move_dropping(alloc, thread, pair, id)
     } else {
-        end_by_commit(alloc, thread, pair, id)
+        end_move_committing(alloc, thread, pair, id)
     }
 }
 
@@ -155,7 +155,7 @@ fn put_and_end<D: BlockDevice>(
     requires can { CanPutAndEnd thread.old.kept route.old_pair route.old_id goes route.new_pair (changes_view changes.now) }
     ensures done { OnOk result (ArePutAndEnded thread.old.kept route.old_pair route.old_id goes route.new_pair (changes_view changes.now) thread.new.kept) }
     ensures errors { ReportsTakingCommits thread.old thread.new route.new_pair (changes_view changes.now) result }
-    ensures device { WritesPairsTwo thread.old.kept (written_by_ending route.old_pair goes) route.new_pair thread.new.kept }
+    ensures device { WritesPairsTwo thread.old.kept (ending_written_pair route.old_pair goes) route.new_pair thread.new.kept }
     ensures survives { SurvivesCommits thread.old.kept route.new_pair (changes_view changes.now) thread.new.kept }
 {
     let before = thread.len();
@@ -191,7 +191,7 @@ fn push_slot_removal<'a>(
     replaces: bool,
     id: u16,
 ) -> Result<(), AllocError>
-    ensures { OnOk result (changes_view changes.new.items ≡ changes_view changes.old.items ++ clearing_changes replaces id) }
+    ensures { OnOk result (changes_view changes.new.items ≡ changes_view changes.old.items ++ removal_changes replaces id) }
 {
     if replaces {
         changes.push(Change::Delete { id })?;
@@ -209,7 +209,7 @@ fn moving_changes<'a>(
     name: &'a [u8],
     copy: &'a SlotCopy,
 ) -> Result<Vec<Change<'a>>, AllocError>
-    ensures { IfOk result (λ changes. changes_view changes.items ≡ PutMove (move_view state) ∷ (clearing_changes replaces id ++ slot_changes id name.now (slot_copy_view copy.now))) }
+    ensures { IfOk result (λ changes. changes_view changes.items ≡ PutMove (move_view state) ∷ (removal_changes replaces id ++ slot_changes id name.now (slot_copy_view copy.now))) }
 {
     let mut changes = Vec::new(alloc);
     changes.push(Change::Move { state })?;
@@ -233,7 +233,7 @@ fn move_across<D: BlockDevice>(
     requires can { CanMoveAcross thread.old.kept replaces sync route.old_pair route.old_id route.first route.new_pair route.new_id name.now }
     ensures moved { OnOk result (IsMovedAcross thread.old.kept replaces sync route.old_pair route.old_id route.first route.new_pair route.new_id name.now thread.new.kept) }
     ensures errors { ReportsTakingCommits thread.old thread.new route.new_pair (moving_changes replaces sync thread.old.kept route.old_pair route.old_id route.new_pair route.new_id name.now) result }
-    ensures device { WritesPairsTwo thread.old.kept (second_pair thread.old.kept route.old_pair route.first) route.new_pair thread.new.kept }
+    ensures device { WritesPairsTwo thread.old.kept (second_step_pair thread.old.kept route.old_pair route.first) route.new_pair thread.new.kept }
     ensures survives { (rename : CanMoveAcross thread.old.kept replaces sync route.old_pair route.old_id route.first route.new_pair route.new_id name.now) → SurvivesLossSince thread.old.kept.disk thread.old.kept.history thread.new.kept.history
         (disk_tree thread.old.kept.disk thread.old.kept.pairs) (tree_across thread.old.kept replaces sync route.old_pair route.old_id route.first route.new_pair route.new_id name.now rename) }
 {
@@ -271,7 +271,7 @@ pub fn rename_across_pairs<D: BlockDevice>(
         → IsRenamedAcross thread.old.kept thread.new.kept rename.old.path rename.old.name rename.path name.now) }
     ensures alters { OnOk result (WritesTouchedFree thread.old.kept (address_blocks (thread_pair thread.old.kept route.old_pair).at) thread.new.kept) }
     ensures errors { ReportsTakingCommits thread.old thread.new route.new_pair (across_changes thread.old.kept route.old_pair route.old_id route.new_pair route.new_id name.now) result }
-    ensures device { WritesPairsTwo thread.old.kept (second_pair thread.old.kept route.old_pair route.first) route.new_pair thread.new.kept }
+    ensures device { WritesPairsTwo thread.old.kept (second_step_pair thread.old.kept route.old_pair route.first) route.new_pair thread.new.kept }
     ensures survives { (rename : CanRenameAcross thread.old.kept route.old_pair route.old_id route.first route.new_pair route.new_id name.now) → SurvivesLossSince thread.old.kept.disk thread.old.kept.history thread.new.kept.history
         (disk_tree thread.old.kept.disk thread.old.kept.pairs) (tree_moved thread.old.kept rename.old.path rename.old.name rename.path name.now) }
 {
@@ -284,7 +284,7 @@ pub fn rename_across_pairs<D: BlockDevice>(
 /// them.
 ///
 /// Errors are those of [`rename_across_pairs`].
-pub fn onto_file_across<D: BlockDevice>(
+pub fn replace_file_across<D: BlockDevice>(
     alloc: Global,
     thread: &mut Thread<D>,
     route: Route,
@@ -296,7 +296,7 @@ pub fn onto_file_across<D: BlockDevice>(
         → IsFileReplaced thread.old.kept thread.new.kept rename.old.path rename.old.name rename.path name.now rename.target.stands.slot.struct) }
     ensures alters { OnOk result (WritesTouchedFree thread.old.kept (addresses_blocks (thread_pair thread.old.kept route.old_pair).at (thread_pair thread.old.kept route.new_pair).at) thread.new.kept) }
     ensures errors { ReportsTakingCommits thread.old thread.new route.new_pair (file_across_changes thread.old.kept route.old_pair route.old_id route.new_pair route.new_id name.now) result }
-    ensures device { WritesPairsTwo thread.old.kept (second_pair thread.old.kept route.old_pair route.first) route.new_pair thread.new.kept }
+    ensures device { WritesPairsTwo thread.old.kept (second_step_pair thread.old.kept route.old_pair route.first) route.new_pair thread.new.kept }
     ensures survives { (rename : CanReplaceFileAcross thread.old.kept route.old_pair route.old_id route.first route.new_pair route.new_id name.now) → SurvivesLossSince thread.old.kept.disk thread.old.kept.history thread.new.kept.history
         (disk_tree thread.old.kept.disk thread.old.kept.pairs) (tree_moved thread.old.kept rename.old.path rename.old.name rename.path name.now) }
 {
@@ -305,12 +305,12 @@ pub fn onto_file_across<D: BlockDevice>(
 
 /// Renames an entry of one pair onto an empty directory at an id of another pair, in the same
 /// directory or another one. The directory's own pair has number `gone` in the thread. The call
-/// works as [`onto_file_across`], with two differences. The sync bit is set with the move.
+/// works as [`replace_file_across`], with two differences. The sync bit is set with the move.
 /// And a third commit drops the directory's own pair, to which no path leads any more, and clears
 /// the bit.
 ///
 /// Errors are those of [`rename_across_pairs`].
-pub fn onto_directory_across<D: BlockDevice>(
+pub fn replace_directory_across<D: BlockDevice>(
     alloc: Global,
     thread: &mut Thread<D>,
     route: Route,

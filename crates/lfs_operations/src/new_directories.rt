@@ -4,7 +4,7 @@ ghost use Rattle.std.specs.Prelude.{◌≡◌, ◌<◌, ◌^◌, ℕ, false, len
 ghost use Rattle.lfs_device.specs.Bytes.{AreByteBlocks};
 ghost use Rattle.lfs_model.specs.format.Disk.{block_count};
 ghost use Rattle.lfs_model.specs.crash.PowerLoss.{HasEitherTree, SurvivesLossSince};
-ghost use Rattle.lfs_model.specs.format.Slots.{array_address};
+ghost use Rattle.lfs_model.specs.format.Slots.{address_view};
 ghost use Rattle.lfs_model.specs.tree.Shown.{disk_tree};
 ghost use Rattle.lfs_model.specs.layers.Steps.{with_sync_inverted};
 ghost use Rattle.lfs_tag.specs.FieldsView.{move_view};
@@ -67,11 +67,11 @@ fn link_pair_after<D: BlockDevice>(
     fresh: [u32; 2],
 ) -> Result<(), Error>
     requires works { thread.old.failed ≡ false }
-    requires can { CanLinkPairAfter thread.old.kept last (array_address fresh) }
-    ensures is_joined { OnOk result (IsThreadedIn thread.old.kept last (array_address fresh) (threading_changes thread.old.kept last (array_address fresh)) thread.new.kept) }
-    ensures errors { ReportsPairLink thread.old thread.new (array_address fresh) result }
-    ensures device { ChangesThreadBlocks (addresses_blocks (thread_pair thread.old.kept last).at (array_address fresh)) thread.old.kept thread.new.kept }
-    ensures stops { CleanLossLeaves thread.old.kept.history thread.new.kept.history (LossLeavesThreaded thread.old.kept last (array_address fresh) (threading_changes thread.old.kept last (array_address fresh))) }
+    requires can { CanLinkPairAfter thread.old.kept last (address_view fresh) }
+    ensures is_joined { OnOk result (IsThreadedIn thread.old.kept last (address_view fresh) (threading_changes thread.old.kept last (address_view fresh)) thread.new.kept) }
+    ensures errors { ReportsPairLink thread.old thread.new (address_view fresh) result }
+    ensures device { ChangesThreadBlocks (addresses_blocks (thread_pair thread.old.kept last).at (address_view fresh)) thread.old.kept thread.new.kept }
+    ensures stops { CleanLossLeaves thread.old.kept.history thread.new.kept.history (LossLeavesThreaded thread.old.kept last (address_view fresh) (threading_changes thread.old.kept last (address_view fresh))) }
 {
     let changes = [
         Change::Tail {
@@ -131,11 +131,11 @@ fn put_branch_entry<D: BlockDevice>(
     at: [u32; 2],
 ) -> Result<(), Error>
     requires works { thread.old.failed ≡ false }
-    requires can { CanPut thread.old.kept pair (directory_entry_changes thread.old.kept pair id name.now (array_address at)) }
-    ensures is_put { OnOk result (ArePut thread.old.kept pair (directory_entry_changes thread.old.kept pair id name.now (array_address at)) thread.new.kept) }
-    ensures errors { ReportsPut thread.old thread.new pair (directory_entry_changes thread.old.kept pair id name.now (array_address at)) result }
+    requires can { CanPut thread.old.kept pair (directory_entry_changes thread.old.kept pair id name.now (address_view at)) }
+    ensures is_put { OnOk result (ArePut thread.old.kept pair (directory_entry_changes thread.old.kept pair id name.now (address_view at)) thread.new.kept) }
+    ensures errors { ReportsPut thread.old thread.new pair (directory_entry_changes thread.old.kept pair id name.now (address_view at)) result }
     ensures device { WritesPairTwo thread.old.kept pair thread.new.kept }
-    ensures stops { CleanLossLeaves thread.old.kept.history thread.new.kept.history (LeftByPut thread.old.kept pair (directory_entry_changes thread.old.kept pair id name.now (array_address at))) }
+    ensures stops { CleanLossLeaves thread.old.kept.history thread.new.kept.history (LeftByPut thread.old.kept pair (directory_entry_changes thread.old.kept pair id name.now (address_view at))) }
 {
     let branch = pair_bytes(at);
     put_directory_entry(alloc, thread, pair, id, name, &branch)

@@ -6,7 +6,7 @@ ghost use Rattle.lfs_model.specs.tree.Shown.{disk_tree};
 ghost use Rattle.lfs_thread.specs.ThreadSteps.{ChangesThreadBlocks};
 ghost use Rattle.lfs_operations.specs.Changing.{IsPairTouched};
 ghost use Rattle.lfs_operations.specs.Editing.{editable_slot};
-ghost use Rattle.lfs_operations.specs.Removing.{CanRemoveIn, IsFileRemoved, ReportsCommit, drops_with_its_slot, tree_without_entry, written_by_removal};
+ghost use Rattle.lfs_operations.specs.Removing.{CanRemoveIn, IsFileRemoved, ReportsCommit, drops_emptied_pair, tree_without_entry, removal_written_address};
 ghost use Rattle.lfs_model.specs.format.Thread.{address_blocks};
 
 use crate::changes::commit_fitting;
@@ -22,7 +22,7 @@ use std::alloc::Global;
 pub(crate) fn drops_with_slot<D: BlockDevice>(thread: &Thread<D>, pair: usize, first: usize) -> bool
     requires works { thread.now.failed ≡ false }
     requires below { pair < length thread.now.kept.pairs }
-    ensures { result ≡ drops_with_its_slot thread.now.kept pair first }
+    ensures { result ≡ drops_emptied_pair thread.now.kept pair first }
 {
     pair != first && thread.slot_count(pair) == 1
 }
@@ -44,9 +44,9 @@ pub fn remove_file<D: BlockDevice>(
     requires works { thread.old.failed ≡ false }
     requires can { CanRemoveIn thread.old.kept pair id first }
     ensures is_removed { OnOk result ((take : CanRemoveIn thread.old.kept pair id first) → IsFileRemoved thread.old.kept thread.new.kept take.can.path take.can.name (editable_slot take.can).struct) }
-    ensures alters { OnOk result (drops_with_its_slot thread.old.kept pair first ≡ true → IsPairTouched thread.old.kept (pair - 1) thread.new.kept) }
+    ensures alters { OnOk result (drops_emptied_pair thread.old.kept pair first ≡ true → IsPairTouched thread.old.kept (pair - 1) thread.new.kept) }
     ensures errors { ReportsCommit thread.old thread.new result }
-    ensures device { ChangesThreadBlocks (address_blocks (written_by_removal thread.old.kept pair first)) thread.old.kept thread.new.kept }
+    ensures device { ChangesThreadBlocks (address_blocks (removal_written_address thread.old.kept pair first)) thread.old.kept thread.new.kept }
     ensures survives { (take : CanRemoveIn thread.old.kept pair id first) → SurvivesLossSince thread.old.kept.disk thread.old.kept.history thread.new.kept.history
         (disk_tree thread.old.kept.disk thread.old.kept.pairs) (tree_without_entry thread.old.kept take.can.path take.can.name) }
 {

@@ -3,13 +3,13 @@
 ghost use Rattle.std.specs.Prelude.{◌≡◌, ◌<◌, ◌-◌, Any, false, length, IfOk, IfSome, OnOk};
 ghost use Rattle.std.specs.Bool.{OnTrue};
 ghost use Rattle.lfs_model.specs.crash.PowerLoss.{SurvivesLossSince};
-ghost use Rattle.lfs_model.specs.format.Slots.{array_address};
+ghost use Rattle.lfs_model.specs.format.Slots.{address_view};
 ghost use Rattle.lfs_model.specs.session.Moved.{is_worn};
 ghost use Rattle.lfs_model.specs.tree.Shown.{disk_tree};
 ghost use Rattle.lfs_thread.specs.ThreadSteps.{thread_pair};
 ghost use Rattle.lfs_operations.specs.Changing.{AreTwoFree, WritesPairTwo, WritesThreadTwo};
 ghost use Rattle.lfs_operations.specs.Making.{ReportsMaking};
-ghost use Rattle.lfs_operations.specs.Wear.{CanMovePair, CanUnloadPair, CanExpandRoot, CanRelocate, BeginsBehindRoot, HasRelocated, HasUnloadRoom, IsMovedAt, IsPlanFor, IsUnloadedAt, IsRootExpanded};
+ghost use Rattle.lfs_operations.specs.Wear.{CanMovePair, CanUnloadPair, CanExpandRoot, CanRelocate, BeginsBehindRoot, HasRelocated, HasUnloadRoom, IsWornMoved, IsPlanFor, IsWornUnloaded, IsRootExpanded};
 
 use crate::changes::{take_these, take_two_blocks};
 use lfs_device::{BlockDevice, Error};
@@ -92,7 +92,7 @@ fn find_due<D: BlockDevice>(
     soon: bool,
 ) -> Option<[u32; 2]>
     requires { thread.now.failed ≡ false }
-    ensures { IfSome result (λ at. Any (λ p. p.at ≡ array_address at) thread.now.kept.pairs) }
+    ensures { IfSome result (λ at. Any (λ p. p.at ≡ address_view at) thread.now.kept.pairs) }
 {
     let count = thread.len();
     for step in 0..count {
@@ -121,7 +121,7 @@ fn revisions_sum<D: BlockDevice>(thread: &Thread<D>) -> usize
 // soon come by turns, so that one which isn't written keeps no other from moving.
 fn find_wearing<D: BlockDevice>(thread: &Thread<D>, root: usize) -> Option<[u32; 2]>
     requires { thread.now.failed ≡ false }
-    ensures { IfSome result (λ at. Any (λ p. p.at ≡ array_address at) thread.now.kept.pairs) }
+    ensures { IfSome result (λ at. Any (λ p. p.at ≡ address_view at) thread.now.kept.pairs) }
 {
     if thread.geometry().profile.pair_cycles == 0 {
         return None;
@@ -134,7 +134,7 @@ fn find_wearing<D: BlockDevice>(thread: &Thread<D>, root: usize) -> Option<[u32;
 
 // Finds two free blocks, which stay free. Returns None where fewer than two are free.
 fn find_two_free<D: BlockDevice>(thread: &mut Thread<D>) -> Option<[u32; 2]>
-    ensures free { IfSome result (λ fresh. AreTwoFree thread.old.kept.map (array_address fresh)) }
+    ensures free { IfSome result (λ fresh. AreTwoFree thread.old.kept.map (address_view fresh)) }
     ensures same { thread.new ≡ thread.old }
 {
     let Some(fresh) = take_two_blocks(thread) else {
@@ -176,8 +176,8 @@ fn move_pair<D: BlockDevice>(
     fresh: [u32; 2],
 ) -> Result<(), Error>
     requires works { thread.old.failed ≡ false }
-    requires can { CanMovePair thread.old.kept index (array_address fresh) }
-    ensures moved { OnOk result (IsMovedAt thread.old.kept index (array_address fresh) thread.new.kept) }
+    requires can { CanMovePair thread.old.kept index (address_view fresh) }
+    ensures moved { OnOk result (IsWornMoved thread.old.kept index (address_view fresh) thread.new.kept) }
     ensures errors { ReportsMaking thread.old thread.new result }
     ensures device { WritesPairTwo thread.old.kept (index - 1) thread.new.kept }
     ensures survives { SurvivesLossSince thread.old.kept.disk thread.old.kept.history thread.new.kept.history
@@ -198,8 +198,8 @@ fn unload_pair<D: BlockDevice>(
     fresh: [u32; 2],
 ) -> Result<(), Error>
     requires works { thread.old.failed ≡ false }
-    requires can { CanUnloadPair thread.old.kept index (array_address fresh) }
-    ensures unloaded { OnOk result (IsUnloadedAt thread.old.kept index (array_address fresh) thread.new.kept) }
+    requires can { CanUnloadPair thread.old.kept index (address_view fresh) }
+    ensures unloaded { OnOk result (IsWornUnloaded thread.old.kept index (address_view fresh) thread.new.kept) }
     ensures errors { ReportsMaking thread.old thread.new result }
     ensures device { WritesPairTwo thread.old.kept index thread.new.kept }
     ensures survives { SurvivesLossSince thread.old.kept.disk thread.old.kept.history thread.new.kept.history
@@ -219,8 +219,8 @@ fn expand_root<D: BlockDevice>(
     fresh: [u32; 2],
 ) -> Result<(), Error>
     requires works { thread.old.failed ≡ false }
-    requires can { CanExpandRoot thread.old.kept (array_address fresh) }
-    ensures expanded { OnOk result (IsRootExpanded thread.old.kept (array_address fresh) thread.new.kept) }
+    requires can { CanExpandRoot thread.old.kept (address_view fresh) }
+    ensures expanded { OnOk result (IsRootExpanded thread.old.kept (address_view fresh) thread.new.kept) }
     ensures errors { ReportsMaking thread.old thread.new result }
     ensures device { WritesPairTwo thread.old.kept 0 thread.new.kept }
     ensures survives { SurvivesLossSince thread.old.kept.disk thread.old.kept.history thread.new.kept.history

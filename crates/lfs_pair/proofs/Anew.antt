@@ -1,6 +1,6 @@
 -- A content written into an erased block, as its first commit.
 use Rattle.std.proofs.Common.{ℕ, ◌≡◌, ◌+◌, ◌≤◌, Bool, false, List, [], ◌∷◌, Some, inl, inr, refl, sym, ap, ◌∙◌, subst, arith}
-use Rattle.lfs_pair.proofs.Common.{Blocks, block_bytes, SameExcept, IsValidGeometry, RawContent, empty_raw_content, encoded_size, aligned_end, RawContentFits, content_entries, AreNamed, IsWellFormed, CallEvent, call_event, Erase, AllCallsSince, HoldsAtLosses, ErasesCleanly, LeftByLoss, appended_content, began, goes_on, goes_on_by, HoldsAtLosses-weaker, AllCallsSince-until, AllCallsSince-only, SameExcept-trans, PartialCommit, padded_end_of, commit_with_more, LogGetsCommit, HasOneCommit, LossLeavesCommit, LossLeavesRewritten, DiffersInBlock}
+use Rattle.lfs_pair.proofs.Common.{Blocks, block_bytes, SameExcept, IsValidGeometry, RawContent, empty_raw_content, encoded_size, aligned_end, RawContentFits, content_entries, AreNamed, IsWellFormed, CallEvent, call_event, Erase, AllCallsSince, HoldsAtLosses, ErasesCleanly, LeftByLoss, appended_content, began, goes_on, goes_on_by, HoldsAtLosses-weaker, AllCallsSince-until, AllCallsSince-only, SameExcept-trans, PartialCommit, padded_commit_end, commit_with_entries, LogGetsCommit, HasOneCommit, LossLeavesCommit, LossLeavesRewritten, DiffersInBlock}
 use Rattle.lfs_model.specs.layers.LoggedContent.{IsStorable}
 use Rattle.lfs_model.specs.crash.Stops.{MayEraseLeave}
 use Rattle.lfs_model.proofs.Pages.{page_positive, aligned_end-below}
@@ -12,28 +12,28 @@ use Rattle.lfs_pair.proofs.Committed.{Gets-has_commit}
 abbrev pub anew : (size page revision : ℕ) → RawContent → PartialCommit
 anew size page revision c = record { page = page; room = size; previous = 0xffffffff; revision = Some revision; entries = content_entries c }
 
-pub is_anew : {b started : PartialCommit} {size page revision room paged previous : ℕ} (c : RawContent) → b ≡ commit_with_more (content_entries c) started
+pub is_anew : {b started : PartialCommit} {size page revision room paged previous : ℕ} (c : RawContent) → b ≡ commit_with_entries (content_entries c) started
     → started ≡ record { page = paged; room = room; previous = previous; revision = Some revision; entries = [] } → room ≡ size → paged ≡ page → previous ≡ 0xffffffff → b ≡ anew size page revision c
 is_anew {size = size} {page = page} {revision = revision} {room = room} {paged = paged} {previous = previous} c pushed start long pages before =
-    pushed ∙ ap (commit_with_more (content_entries c)) (start
+    pushed ∙ ap (commit_with_entries (content_entries c)) (start
     ∙ ap (λ n. record { page = paged; room = n; previous = previous; revision = Some revision; entries = [] }) long
     ∙ ap (λ n. record { page = n; room = size; previous = previous; revision = Some revision; entries = [] }) pages
     ∙ ap (λ n. record { page = page; room = size; previous = n; revision = Some revision; entries = [] }) before)
 
 -- ---- it fits the block
 
-anew_ends : (size page count revision : ℕ) (c : RawContent) → IsValidGeometry size page count → RawContentFits size page c → padded_end_of (anew size page revision c) ≤ size
+anew_ends : (size page count revision : ℕ) (c : RawContent) → IsValidGeometry size page count → RawContentFits size page c → padded_commit_end (anew size page revision c) ≤ size
 anew_ends size page count revision c valid fits =
     let end = aligned_end-below page (4 + encoded_size (content_entries c)) (page_positive page valid.power) in
     omega (arith, end, written_size c, fits.size, valid.pages, valid.no_smaller)
 
-pub anew_room : {b : PartialCommit} {size page count revision : ℕ} {c : RawContent} → b ≡ anew size page revision c → IsValidGeometry size page count → RawContentFits size page c → padded_end_of b ≤ b.room
-anew_room {size = size} {page} {count} {revision} {c} is valid fits = subst (λ (d : PartialCommit). padded_end_of d ≤ d.room) (sym is) (anew_ends size page count revision c valid fits)
+pub anew_room : {b : PartialCommit} {size page count revision : ℕ} {c : RawContent} → b ≡ anew size page revision c → IsValidGeometry size page count → RawContentFits size page c → padded_commit_end b ≤ b.room
+anew_room {size = size} {page} {count} {revision} {c} is valid fits = subst (λ (d : PartialCommit). padded_commit_end d ≤ d.room) (sym is) (anew_ends size page count revision c valid fits)
 
 -- where it begins at 0
-pub anew_within : {b : PartialCommit} {size page count revision : ℕ} {c : RawContent} → b ≡ anew size page revision c → IsValidGeometry size page count → RawContentFits size page c → 0 + padded_end_of b ≤ size
+pub anew_within : {b : PartialCommit} {size page count revision : ℕ} {c : RawContent} → b ≡ anew size page revision c → IsValidGeometry size page count → RawContentFits size page c → 0 + padded_commit_end b ≤ size
 anew_within {size = size} {page} {count} {revision} {c} is valid fits =
-    let ends = anew_ends size page count revision c valid fits in subst (λ (d : PartialCommit). 0 + padded_end_of d ≤ size) (sym is) (omega arith)
+    let ends = anew_ends size page count revision c valid fits in subst (λ (d : PartialCommit). 0 + padded_commit_end d ≤ size) (sym is) (omega arith)
 
 -- ---- what the block then holds
 
@@ -86,5 +86,5 @@ leaves_anew {revision = revision} {block = block} {c = c} {old = old} {mid = mid
 pub nothing_more : (n : ℕ) → 0 + n ≡ n
 nothing_more n = omega arith
 
-pub anew_end : {b : PartialCommit} {size page revision : ℕ} (c : RawContent) (end : ℕ) → end ≡ 0 + padded_end_of b → b ≡ anew size page revision c → end ≡ aligned_end page (4 + encoded_size (content_entries c))
-anew_end {page = page} c end is built = is ∙ ap (λ (d : PartialCommit). 0 + padded_end_of d) built ∙ nothing_more (aligned_end page (4 + encoded_size (content_entries c)))
+pub anew_end : {b : PartialCommit} {size page revision : ℕ} (c : RawContent) (end : ℕ) → end ≡ 0 + padded_commit_end b → b ≡ anew size page revision c → end ≡ aligned_end page (4 + encoded_size (content_entries c))
+anew_end {page = page} c end is built = is ∙ ap (λ (d : PartialCommit). 0 + padded_commit_end d) built ∙ nothing_more (aligned_end page (4 + encoded_size (content_entries c)))

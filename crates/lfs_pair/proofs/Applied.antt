@@ -1,6 +1,6 @@
 -- Changes taken one by one.
 use Rattle.std.proofs.Common.{ℕ, zero, suc, ◌≡◌, ◌+◌, ◌<◌, Bool, true, List, [], ◌∷◌, ◌++◌, length, take, drop, map, get_or, Option, Some, None, refl, ap, ◌∙◌, arith}
-use Rattle.lfs_pair.proofs.Common.{list_all, and_parts, append-nil, flat_map-append, RawContent, content_after, PairChange, change_entries, entries_of_changes, option_and_then}
+use Rattle.lfs_pair.proofs.Common.{list_all, and_parts, append-nil, flat_map-append, RawContent, content_after, ContentChange, change_entries, entries_of_changes, option_and_then}
 use Rattle.lfs_model.proofs.WrittenAnew.{then, content_after-append}
 use Rattle.lfs_tag.specs.declared.content.ContentError.{ContentError}
 use Rattle.lfs_tag.specs.declared.content.ContentError.TheVariants.{Malformed, NoMemory}
@@ -26,14 +26,14 @@ mapped_split f (x ∷ xs) (suc i) d l =
     let more : suc i + 1 ≡ suc (i + 1) = omega arith in rw more (ap (λ ys. f x ∷ ys) (mapped_split f xs i d (omega arith)))
 
 -- one change more
-pub one_more : (c mid new : RawContent) (front : List PairChange) (change : PairChange) → content_after c (entries_of_changes front) ≡ Some mid → content_after mid (change_entries change) ≡ Some new
+pub one_more : (c mid new : RawContent) (front : List ContentChange) (change : ContentChange) → content_after c (entries_of_changes front) ≡ Some mid → content_after mid (change_entries change) ≡ Some new
     → content_after c (entries_of_changes (front ++ change ∷ [])) ≡ Some new
 one_more c mid new front change so_far here =
     ap (content_after c) (flat_map-append change_entries front (change ∷ []) ∙ ap (λ z. entries_of_changes front ++ z) (append-nil (change_entries change)))
     ∙ then c mid (entries_of_changes front) (change_entries change) (Some new) so_far here
 
 -- a change that fails makes all fail
-pub one_fails : (c mid : RawContent) (front : List PairChange) (change : PairChange) (others : List PairChange) → content_after c (entries_of_changes front) ≡ Some mid → content_after mid (change_entries change) ≡ None
+pub one_fails : (c mid : RawContent) (front : List ContentChange) (change : ContentChange) (others : List ContentChange) → content_after c (entries_of_changes front) ≡ Some mid → content_after mid (change_entries change) ≡ None
     → content_after c (entries_of_changes (front ++ change ∷ others)) ≡ None
 one_fails c mid front change others so_far here =
     ap (content_after c) (flat_map-append change_entries front (change ∷ others))

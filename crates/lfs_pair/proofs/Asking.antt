@@ -1,37 +1,37 @@
 -- A question about blank bytes changes nothing.
 use Rattle.std.proofs.Common.{ℕ, ◌≡◌, ◌≤◌, ◌+◌, List, [], ◌∷◌, true, inl, inr, refl, sym, ap, ◌∙◌, subst, arith}
 use Rattle.lfs_device.specs.declared.device.BlockDevice.{Ghosts}
-use Rattle.lfs_pair.proofs.Common.{ChangesTheseBlocks, Blocks, SameExceptThese, block_bytes, CallEvent, StayUnprogrammed, HoldsAtLosses, blank_count, erase_count, program_count, read_count, LeftByLoss, began, goes_on, goes_on_by, SameExcept-refl, SameExceptThese-refl, PairChange, RawContent, Disk, address_blocks, CanAppend, IsEndKnown, LossLeavesNew, OnlyAsksBlank, ChangesReadingFew, DiffersInBlock}
+use Rattle.lfs_pair.proofs.Common.{ChangesTheseBlocks, Blocks, SameExceptBlocks, block_bytes, CallEvent, StayUnprogrammed, HoldsAtLosses, blank_count, erase_count, program_count, read_count, LeftByLoss, began, goes_on, goes_on_by, SameExcept-refl, SameExceptBlocks-refl, ContentChange, RawContent, Disk, address_blocks, AppendFits, IsEndUnprogrammed, LossLeavesNew, OnlyAsksBlank, ChangesReadingFew, DiffersInBlock}
 use Rattle.lfs_model.specs.session.History.{LossLeavesAtWorst}
 use Rattle.lfs_model.proofs.Histories.{StayUnprogrammed-blank, StayUnprogrammed-refl}
 use Rattle.lfs_device.specs.declared.geometry.Geometry.{Geometry}
 use Rattle.lfs_pair.specs.declared.pair.Pair.{Pair}
-use Rattle.lfs_pair.specs.Commits.{CannotAppend}
+use Rattle.lfs_pair.specs.Commits.{RefusesAppend}
 use Rattle.lfs_pair.specs.Writing.{SaysBlank}
 
 -- what can be appended by a history with no word more, can be by the one before
-pub appends_until : {disk : Disk} {before mid after : List CallEvent} {pair : Pair} {changes : List PairChange} → mid ≡ before → blank_count after ≡ blank_count before → CanAppend disk before after pair changes → CanAppend disk before mid pair changes
+pub appends_until : {disk : Disk} {before mid after : List CallEvent} {pair : Pair} {changes : List ContentChange} → mid ≡ before → blank_count after ≡ blank_count before → AppendFits disk before after pair changes → AppendFits disk before mid pair changes
 appends_until {before = before} {mid = mid} {after = after} {pair = pair} same words can = record { known = known can.known; room = can.room }
   where
-    known : IsEndKnown before after pair → IsEndKnown before mid pair
+    known : IsEndUnprogrammed before after pair → IsEndUnprogrammed before mid pair
     known (inl written) = inl written
     known (inr blank) = absurd (omega (arith, words, blank))
 
 -- a pair that was fetched, without a word more
-pub unknown : {before after : List CallEvent} (pair : Pair) → pair.is_fetched ≡ true → after ≡ before → IsEndKnown before after pair → ⊥
+pub unknown : {before after : List CallEvent} (pair : Pair) → pair.is_fetched ≡ true → after ≡ before → IsEndUnprogrammed before after pair → ⊥
 unknown pair fetched same (inl written) = absurd (cc)
 unknown pair fetched same (inr blank) = let is = ap blank_count same in absurd (omega (arith, is, blank))
 
 -- a disk that nothing was written to
 pub left_alone : (old : Disk) (at : ℕ × ℕ) (new : RawContent) → LossLeavesNew old at new old.blocks
 left_alone old at new = record {
-  others = SameExceptThese-refl (address_blocks at) old.blocks;
+  others = SameExceptBlocks-refl (address_blocks at) old.blocks;
   content = inl (record { content = refl; first = λ e begins. begins });
 }
 
 module _ {D : Type 0} (g : Ghosts D) where
   -- what was known before a program is known after it
-  pub known_after : {old mid : D} (after : List CallEvent) (pair : Pair) → OnlyAsksBlank g old mid → blank_count after ≡ blank_count (g.history mid) → IsEndKnown (g.history old) (g.history mid) pair → IsEndKnown (g.history old) after pair
+  pub known_after : {old mid : D} (after : List CallEvent) (pair : Pair) → OnlyAsksBlank g old mid → blank_count after ≡ blank_count (g.history mid) → IsEndUnprogrammed (g.history old) (g.history mid) pair → IsEndUnprogrammed (g.history old) after pair
   known_after after pair asks same (inl written) = inl written
   known_after after pair asks same (inr blank) = inr (omega (arith, same, blank))
 
@@ -73,10 +73,10 @@ module _ {D : Type 0} (g : Ghosts D) where
 
   pub asks_only : {old new : D} (bs : List ℕ) → OnlyAsksBlank g old new → ChangesTheseBlocks g bs old new
   asks_only {old} bs asks = record {
-    others = subst (SameExceptThese bs (g.blocks old)) (sym asks.same) (SameExceptThese-refl bs (g.blocks old));
+    others = subst (SameExceptBlocks bs (g.blocks old)) (sym asks.same) (SameExceptBlocks-refl bs (g.blocks old));
     elsewhere = asks_elsewhere bs asks;
     geometry = asks.geometry;
-    at_worst = asks_at_worst (SameExceptThese bs (g.blocks old)) asks (SameExceptThese-refl bs (g.blocks old));
+    at_worst = asks_at_worst (SameExceptBlocks bs (g.blocks old)) asks (SameExceptBlocks-refl bs (g.blocks old));
   }
 
   -- a program behind a question
@@ -93,13 +93,13 @@ module _ {D : Type 0} (g : Ghosts D) where
 
   -- where nothing was appended the disk and its calls are as before
 
-  pub kept_disk : {changes : List PairChange} {old new : D} {was now : Pair} (P : Geometry → Blocks → List CallEvent → Type 0) → CannotAppend g changes old new was now
+  pub kept_disk : {changes : List ContentChange} {old new : D} {was now : Pair} (P : Geometry → Blocks → List CallEvent → Type 0) → RefusesAppend g changes old new was now
       → P (g.geometry new) (g.blocks new) (g.history new) → P (g.geometry old) (g.blocks old) (g.history old)
   kept_disk {old = old} {new = new} P kept is =
       subst (λ k. P k (g.blocks old) (g.history old)) kept.geometry
       (subst (λ b. P (g.geometry new) b (g.history old)) kept.blocks (subst (P (g.geometry new) (g.blocks new)) kept.history is))
 
-  pub kept_unread : {changes : List PairChange} {old new : D} {was now : Pair} (bs : List ℕ) → CannotAppend g changes old new was now → ChangesReadingFew g 0 bs old new
+  pub kept_unread : {changes : List ContentChange} {old new : D} {was now : Pair} (bs : List ℕ) → RefusesAppend g changes old new was now → ChangesReadingFew g 0 bs old new
   kept_unread {old = old} {new = new} bs kept =
       let asks : OnlyAsksBlank g old new = record { same = kept.blocks; geometry = kept.geometry; asked = inl kept.history } in
       record { only = asks_only bs asks; few = let same = asks_reads asks in omega (arith, same) }

@@ -3,7 +3,7 @@ use Rattle.std.proofs.Common.{ℕ, ◌≡◌, ◌+◌, inl, inr, refl, sym, ap, 
 use Rattle.lfs_device.specs.declared.device.BlockDevice.{Ghosts}
 use Rattle.lfs_device.specs.declared.error.Error.{Error}
 use Rattle.lfs_device.specs.declared.geometry.Geometry.{Geometry}
-use Rattle.lfs_pair.proofs.Common.{ReadsOnly, disk_of_blocks, Blocks, Disk, RawContentFits, CallEvent, AllCallsSince, OnlyReadsSince, PairChange, AllCallsSince-behind, blank_count-read_count, erase_count-read_count, program_count-read_count, header_address, CanAppend, CommitFails, IsEndKnown, changed_pair, ErasedOneMore, IsWellFormed, RawContent}
+use Rattle.lfs_pair.proofs.Common.{ReadsOnly, disk_of_blocks, Blocks, Disk, RawContentFits, CallEvent, AllCallsSince, OnlyReadsSince, ContentChange, AllCallsSince-behind, blank_count-read_count, erase_count-read_count, program_count-read_count, header_address, AppendFits, CommitFails, IsEndUnprogrammed, changed_pair_content, ErasedOneMore, IsWellFormed, RawContent}
 use Rattle.lfs_model.specs.format.Slots.{FitsInPair}
 use Rattle.lfs_pair.specs.declared.pair.Pair.{Pair}
 use Rattle.lfs_pair.specs.Commits.{CommitsChanges, RefusesCommit}
@@ -15,22 +15,22 @@ use Rattle.lfs_model.specs.format.Content.{complete_content}
 
 -- what can be appended can be appended behind reads, and the other way round
 
-known_behind : {blocks : Blocks} {before mid : List CallEvent} (after : List CallEvent) (pair : Pair) → OnlyReadsSince blocks before mid → IsEndKnown before after pair → IsEndKnown mid after pair
+known_behind : {blocks : Blocks} {before mid : List CallEvent} (after : List CallEvent) (pair : Pair) → OnlyReadsSince blocks before mid → IsEndUnprogrammed before after pair → IsEndUnprogrammed mid after pair
 known_behind after pair reads (inl written) = inl written
 known_behind after pair reads (inr blank) = let same = blank_count-read_count reads in inr (omega (arith, same, blank))
 
-known_ahead : {blocks : Blocks} {before mid : List CallEvent} (after : List CallEvent) (pair : Pair) → OnlyReadsSince blocks before mid → IsEndKnown mid after pair → IsEndKnown before after pair
+known_ahead : {blocks : Blocks} {before mid : List CallEvent} (after : List CallEvent) (pair : Pair) → OnlyReadsSince blocks before mid → IsEndUnprogrammed mid after pair → IsEndUnprogrammed before after pair
 known_ahead after pair reads (inl written) = inl written
 known_ahead after pair reads (inr blank) = let same = blank_count-read_count reads in inr (omega (arith, same, blank))
 
-appends_behind : {disk : Disk} {blocks : Blocks} {before mid after : List CallEvent} {pair : Pair} {changes : List PairChange} → OnlyReadsSince blocks before mid → CanAppend disk before after pair changes → CanAppend disk mid after pair changes
+appends_behind : {disk : Disk} {blocks : Blocks} {before mid after : List CallEvent} {pair : Pair} {changes : List ContentChange} → OnlyReadsSince blocks before mid → AppendFits disk before after pair changes → AppendFits disk mid after pair changes
 appends_behind {after = after} {pair = pair} reads can = record { known = known_behind after pair reads can.known; room = can.room }
 
-appends_ahead : {disk : Disk} {blocks : Blocks} {before mid after : List CallEvent} {pair : Pair} {changes : List PairChange} → OnlyReadsSince blocks before mid → CanAppend disk mid after pair changes → CanAppend disk before after pair changes
+appends_ahead : {disk : Disk} {blocks : Blocks} {before mid after : List CallEvent} {pair : Pair} {changes : List ContentChange} → OnlyReadsSince blocks before mid → AppendFits disk mid after pair changes → AppendFits disk before after pair changes
 appends_ahead {after = after} {pair = pair} reads can = record { known = known_ahead after pair reads can.known; room = can.room }
 
 -- a commit, where its disk is known by another name
-pub commits_behind : {disk old new : Disk} {blocks : Blocks} {before mid history : List CallEvent} {changes : List PairChange} {was pair : Pair} → disk ≡ old → OnlyReadsSince blocks before mid
+pub commits_behind : {disk old new : Disk} {blocks : Blocks} {before mid history : List CallEvent} {changes : List ContentChange} {was pair : Pair} → disk ≡ old → OnlyReadsSince blocks before mid
     → CommitsChanges disk mid changes was new history pair → CommitsChanges old before changes was new history pair
 commits_behind {disk = disk} {new = new} {before = before} {mid = mid} {history = history} {changes = changes} {was = was} {pair = pair} same reads c =
     subst (λ d. CommitsChanges d before changes was new history pair) same (record {
@@ -61,10 +61,10 @@ commits_behind {disk = disk} {new = new} {before = before} {mid = mid} {history 
       };
     })
 
-pub full_behind : {D : Type 0} {g : Ghosts D} {changes : List PairChange} {old mid new : D} {was now : Pair} → ReadsOnly g old mid → RefusesCommit g changes mid new was now → RefusesCommit g changes old new was now
+pub full_behind : {D : Type 0} {g : Ghosts D} {changes : List ContentChange} {old mid new : D} {was now : Pair} → ReadsOnly g old mid → RefusesCommit g changes mid new was now → RefusesCommit g changes old new was now
 full_behind {g = g} {changes = changes} {was = was} reads is = record {
-  full = λ c made fits. is.full c (ap₂ (λ k b. changed_pair (disk_of_blocks k b) (header_address was) changes) reads.geometry reads.same ∙ made) (subst (λ (k : Geometry). RawContentFits k.block_size k.page c) (sym reads.geometry) fits);
-  completed = λ c d made whole fits. is.completed c d (ap₂ (λ k b. changed_pair (disk_of_blocks k b) (header_address was) changes) reads.geometry reads.same ∙ made) whole (subst (λ (k : Geometry). FitsInPair k.block_size k.page d) (sym reads.geometry) fits);
+  full = λ c made fits. is.full c (ap₂ (λ k b. changed_pair_content (disk_of_blocks k b) (header_address was) changes) reads.geometry reads.same ∙ made) (subst (λ (k : Geometry). RawContentFits k.block_size k.page c) (sym reads.geometry) fits);
+  completed = λ c d made whole fits. is.completed c d (ap₂ (λ k b. changed_pair_content (disk_of_blocks k b) (header_address was) changes) reads.geometry reads.same ∙ made) whole (subst (λ (k : Geometry). FitsInPair k.block_size k.page d) (sym reads.geometry) fits);
   pair = is.pair;
   device = reads_trans reads is.device;
 }
@@ -81,7 +81,7 @@ clears_behind {count} reads since clears =
       at_most = let most = clears.at_most in omega (arith, same, most);
     }
 
-pub splits_behind : {disk old new : Disk} {blocks : Blocks} {before mid history : List CallEvent} {changes : List PairChange} {was pair fresh_pair : Pair} {fresh : ℕ × ℕ} {P : CallEvent → Type 0} → disk ≡ old → OnlyReadsSince blocks before mid
+pub splits_behind : {disk old new : Disk} {blocks : Blocks} {before mid history : List CallEvent} {changes : List ContentChange} {was pair fresh_pair : Pair} {fresh : ℕ × ℕ} {P : CallEvent → Type 0} → disk ≡ old → OnlyReadsSince blocks before mid
     → AllCallsSince P mid history → SplitsPair disk mid changes was fresh new history pair fresh_pair → SplitsPair old before changes was fresh new history pair fresh_pair
 splits_behind {new = new} {before = before} {history = history} {changes = changes} {was = was} {pair = pair} {fresh_pair = fresh_pair} {fresh = fresh} same reads since s =
     subst (λ d. SplitsPair d before changes was fresh new history pair fresh_pair) same (record {
@@ -102,7 +102,7 @@ splits_behind {new = new} {before = before} {history = history} {changes = chang
     })
 
 -- what the changes make doesn't fit, and nothing was called
-pub is_full : {D : Type 0} {g : Ghosts D} {changes : List PairChange} {d : D} {was : Pair} {c : RawContent} → changed_pair (disk_of_blocks (g.geometry d) (g.blocks d)) (header_address was) changes ≡ Some c → IsWellFormed c
+pub is_full : {D : Type 0} {g : Ghosts D} {changes : List ContentChange} {d : D} {was : Pair} {c : RawContent} → changed_pair_content (disk_of_blocks (g.geometry d) (g.blocks d)) (header_address was) changes ≡ Some c → IsWellFormed c
     → (RawContentFits (g.geometry d).block_size (g.geometry d).page c → ⊥) → RefusesCommit g changes d d was was
 is_full {g = g} {d = d} {c = c} made logged full = record {
   full = λ n is fits. full (subst (RawContentFits (g.geometry d).block_size (g.geometry d).page) (sym (some_same (sym made ∙ is))) fits);

@@ -1,7 +1,7 @@
 -- What calls behind calls do to a device.
 use Rattle.std.proofs.Common.{arith, ap, inl, inr, Err, ℕ, ◌≡◌, ◌≤◌, ◌+◌, ◌⊎◌, Bool, List, [], ◌∷◌, refl, sym, ◌∙◌, subst}
 use Rattle.lfs_device.specs.declared.device.BlockDevice.{Ghosts}
-use Rattle.lfs_pair.proofs.Common.{ReadsOnly, ChangesTheseBlocks, Blocks, SameExcept, SameExceptThese, CallEvent, Erase, call_event, read_count, began, goes_on, goes_on_by, HoldsAtLosses-read_count, HoldsAtLosses-weaker, StayUnprogrammed-wider, SameExcept-refl, SameExcept-trans, SameExceptThese-refl, SameExceptThese-trans, SameExceptThese-wider, ChangesReadingFew, address_blocks}
+use Rattle.lfs_pair.proofs.Common.{ReadsOnly, ChangesTheseBlocks, Blocks, SameExcept, SameExceptBlocks, CallEvent, Erase, call_event, read_count, began, goes_on, goes_on_by, HoldsAtLosses-read_count, HoldsAtLosses-weaker, StayUnprogrammed-wider, SameExcept-refl, SameExcept-trans, SameExceptBlocks-refl, SameExceptBlocks-trans, SameExceptBlocks-wider, ChangesReadingFew, address_blocks}
 use Rattle.lfs_device.specs.DeviceCalls.{ChangesOneBlock}
 use Rattle.std.specs.Prelude.{All, ◌≢◌, IsErrOf}
 use Rattle.lfs_device.specs.declared.error.Error.{Error}
@@ -67,26 +67,26 @@ block_trans first second = record {
 
 pub only_by_reads : {D : Type 0} {g : Ghosts D} {bs : List ℕ} {old new : D} → ReadsOnly g old new → ChangesTheseBlocks g bs old new
 only_by_reads {g = g} {bs = bs} {old = old} read_count = record {
-  others = subst (SameExceptThese bs (g.blocks old)) (sym read_count.same) (SameExceptThese-refl bs (g.blocks old));
+  others = subst (SameExceptBlocks bs (g.blocks old)) (sym read_count.same) (SameExceptBlocks-refl bs (g.blocks old));
   elsewhere = StayUnprogrammed-read_count bs read_count.reads;
   geometry = read_count.geometry;
-  at_worst = HoldsAtLosses-read_count LossLeavesAtWorst-read read_count.reads (SameExceptThese-refl bs (g.blocks old));
+  at_worst = HoldsAtLosses-read_count LossLeavesAtWorst-read read_count.reads (SameExceptBlocks-refl bs (g.blocks old));
 }
 
 pub only_trans : {D : Type 0} {g : Ghosts D} {bs : List ℕ} {old mid new : D} → ChangesTheseBlocks g bs old mid → ChangesTheseBlocks g bs mid new → ChangesTheseBlocks g bs old new
 only_trans first second = record {
-  others = SameExceptThese-trans first.others second.others;
+  others = SameExceptBlocks-trans first.others second.others;
   elsewhere = StayUnprogrammed-trans first.elsewhere second.elsewhere;
   geometry = second.geometry ∙ first.geometry;
-  at_worst = goes_on_by first.at_worst (HoldsAtLosses-weaker (λ disk left. SameExceptThese-trans first.others left) second.at_worst);
+  at_worst = goes_on_by first.at_worst (HoldsAtLosses-weaker (λ disk left. SameExceptBlocks-trans first.others left) second.at_worst);
 }
 
 pub only_wider : {D : Type 0} {g : Ghosts D} {bs : List ℕ} (cs : List ℕ) {old new : D} → ((other : ℕ) → All (λ c. c ≢ other) cs → All (λ c. c ≢ other) bs) → ChangesTheseBlocks g bs old new → ChangesTheseBlocks g cs old new
 only_wider cs among only = record {
-  others = SameExceptThese-wider cs among only.others;
+  others = SameExceptBlocks-wider cs among only.others;
   elsewhere = StayUnprogrammed-wider cs among only.elsewhere;
   geometry = only.geometry;
-  at_worst = HoldsAtLosses-weaker (λ disk left. SameExceptThese-wider cs among left) only.at_worst;
+  at_worst = HoldsAtLosses-weaker (λ disk left. SameExceptBlocks-wider cs among left) only.at_worst;
 }
 
 -- one block of a pair

@@ -1,20 +1,20 @@
 -- What a pair holds after a commit, and what a stop on the way leaves of it.
 use Rattle.std.proofs.Common.{ℕ, zero, suc, get_or, ◌≡◌, ◌≢◌, ◌⊎◌, ◌+◌, ◌%◌, ◌^◌, ◌<◌, ◌≤◌, Bool, true, false, cond, List, [], ◌∷◌, ◌++◌, length, Option, Some, None, flat_map, refl, sym, ap, ◌∙◌, subst, arith, inl, inr, length-append}
 use Rattle.std.specs.Prelude.{nat_lt, slice_get, unwrap_or}
-use Rattle.lfs_pair.proofs.Common.{list_all, lt-ltb, ltb-true, Blocks, SameExcept, block_bytes, Disk, disk_block, LogEntry, block_revision, block_entries, BeginsWith, RawContentFits, content_entries, IsWellFormed, flat_map-append, RawContent, has_commit, current_block, raw_content, content_after, empty_raw_content, PairChange, changed_content_of, entries_of_changes, is_storable, appended_content, StayUnprogrammed-wider, SameExceptThese-refl, option_and_then, PartialCommit, earlier_commits, CallEvent, AreUnprogrammed, StayUnprogrammed, IsTrueHeader, is_second_active, active_block_at, header_address, LogGetsCommit, HasOneCommit, LossLeavesCommit, LossLeavesRewritten, DiffersInBlock, HeaderSaysActive, IsPairAddress, HasNewContent, HasOldContent, KeepsFirstEntry, LossLeavesChanged, LossLeavesNew, HasWrittenContent, changed_log, changed_pair}
+use Rattle.lfs_pair.proofs.Common.{list_all, lt-ltb, ltb-true, Blocks, SameExcept, block_bytes, Disk, disk_block, LogEntry, block_revision, block_entries, BeginsWith, RawContentFits, content_entries, IsWellFormed, flat_map-append, RawContent, has_commit, current_block, raw_content, content_after, empty_raw_content, ContentChange, content_with_changes, entries_of_changes, is_storable, appended_content, StayUnprogrammed-wider, SameExceptBlocks-refl, option_and_then, PartialCommit, earlier_commits, CallEvent, AreUnprogrammed, StayUnprogrammed, IsTrueHeader, is_second_active, active_block_at, header_address, LogGetsCommit, HasOneCommit, LossLeavesCommit, LossLeavesRewritten, DiffersInBlock, HeaderSaysActive, IsPairAddress, HasNewContent, HasOldContent, KeepsFirstEntry, LossLeavesChanged, LossLeavesNew, HasWrittenContent, changed_log_content, changed_pair_content}
 use Rattle.lfs_model.specs.format.Log.{chain_of}
 use Rattle.lfs_pair.proofs.Holders.{held_commit, holder_is, raw_held}
 use Rattle.lfs_model.proofs.Commits.{has_commit-end, chain_ends}
 use Rattle.lfs_pair.specs.declared.pair.Pair.{Pair}
 use Rattle.lfs_pair.specs.Pair.{HeaderHasEnd, IsContentHeader, header_inactive_block}
 use Rattle.lfs_pair.specs.Writing.{EndsBeforeUnprogrammed}
-use Rattle.lfs_pair.specs.Commits.{HasContentMade, OutsideStaysUnprogrammed, changed_if_any}
+use Rattle.lfs_pair.specs.Commits.{HasChangedContent, OutsideStaysUnprogrammed, content_after_changes}
 use Rattle.lfs_pair.proofs.SameLogs.{entries_same}
 use Rattle.lfs_pair.proofs.TwoBlocks.{active_block, Sides, Stays, sides, raw_is, still_active, other_active, stays_same, stays_log, weaker_same, weaker_log, weaker_none, active_is, other_is, outside_one, sides_apart, below_count}
 
 -- ---- what changes make
 
-pub changed_content : (held new : RawContent) (changes : List PairChange) → changed_content_of held changes ≡ Some new → content_after held (entries_of_changes changes) ≡ Some new
+pub changed_content : (held new : RawContent) (changes : List ContentChange) → content_with_changes held changes ≡ Some new → content_after held (entries_of_changes changes) ≡ Some new
 changed_content held new changes h = go (list_all is_storable changes) refl
   where
     go : (s : Bool) → list_all is_storable changes ≡ s → content_after held (entries_of_changes changes) ≡ Some new
@@ -235,8 +235,8 @@ now_holds disk history at pair active c in_block same is fetched revision ends w
   written = fetched;
 }
 
-pub is_appending : (disk : Disk) (history : List CallEvent) (pair : Pair) (held new : RawContent) (changes : List PairChange) (b : PartialCommit) → IsPairAddress disk (header_address pair) → IsTrueHeader disk history pair held
-    → changed_content_of held changes ≡ Some new → b.entries ≡ entries_of_changes changes → b.revision ≡ None → IsAppending disk (header_address pair) pair.active (header_inactive_block pair) held new b
+pub is_appending : (disk : Disk) (history : List CallEvent) (pair : Pair) (held new : RawContent) (changes : List ContentChange) (b : PartialCommit) → IsPairAddress disk (header_address pair) → IsTrueHeader disk history pair held
+    → content_with_changes held changes ≡ Some new → b.entries ≡ entries_of_changes changes → b.revision ≡ None → IsAppending disk (header_address pair) pair.active (header_inactive_block pair) held new b
 is_appending disk history pair held new changes b on is made entries none =
     let both = sides disk (header_address pair) pair.active on.apart is.active in
     record {
@@ -250,9 +250,9 @@ is_appending disk history pair held new changes b on is made entries none =
     }
 
 -- what the changes make of what the pair holds is what they make of its block's content
-pub made_is : (disk : Disk) (history : List CallEvent) (pair : Pair) (held : RawContent) (changes : List PairChange) → IsTrueHeader disk history pair held → changed_pair disk (header_address pair) changes ≡ changed_content_of held changes
+pub made_is : (disk : Disk) (history : List CallEvent) (pair : Pair) (held : RawContent) (changes : List ContentChange) → IsTrueHeader disk history pair held → changed_pair_content disk (header_address pair) changes ≡ content_with_changes held changes
 made_is disk history pair held changes is =
-    ap (option_and_then (λ c. changed_content_of c changes)) (raw_held disk (header_address pair) pair.active is.holds ∙ is.describes.content)
+    ap (option_and_then (λ c. content_with_changes c changes)) (raw_held disk (header_address pair) pair.active is.holds ∙ is.describes.content)
 
 -- the log of a pair ends within its block
 pub ends_in_block : (disk : Disk) (history : List CallEvent) (pair : Pair) (held : RawContent) (block_size : ℕ) → IsTrueHeader disk history pair held → length (disk_block disk pair.active) ≡ block_size → 1024 ≤ block_size → pair.end ≤ block_size
@@ -289,14 +289,14 @@ stays_outside at b old new (inl is) stays = StayUnprogrammed-wider (at.0 ∷ at.
 stays_outside at b old new (inr is) stays = StayUnprogrammed-wider (at.0 ∷ at.1 ∷ []) (λ other apart k d l. only other b k d l (λ same. apart 1 0 (omega arith) (sym is ∙ same))) stays
 
 -- what changes make of a block with these bytes, they make of the pair
-pub made_here : (disk : Disk) (history : List CallEvent) (pair : Pair) (held : RawContent) (block : List ℕ) (changes : List PairChange) (new : Option RawContent) → IsTrueHeader disk history pair held
-    → block ≡ disk_block disk pair.active → changed_log block changes ≡ new → changed_pair disk (header_address pair) changes ≡ new
+pub made_here : (disk : Disk) (history : List CallEvent) (pair : Pair) (held : RawContent) (block : List ℕ) (changes : List ContentChange) (new : Option RawContent) → IsTrueHeader disk history pair held
+    → block ≡ disk_block disk pair.active → changed_log_content block changes ≡ new → changed_pair_content disk (header_address pair) changes ≡ new
 made_here disk history pair held block changes new is here made =
-    ap (λ h. changed_if_any h changes) (raw_held disk (header_address pair) pair.active is.holds) ∙ ap (λ b. changed_log b changes) (sym here) ∙ made
+    ap (λ h. content_after_changes h changes) (raw_held disk (header_address pair) pair.active is.holds) ∙ ap (λ b. changed_log_content b changes) (sym here) ∙ made
 
 -- the content that changes make of a block with these bytes is the one that they make of what the pair holds
-pub content_made_here : (disk : Disk) (history : List CallEvent) (pair : Pair) (held new : RawContent) (block : List ℕ) (changes : List PairChange) (c : RawContent) → IsTrueHeader disk history pair held
-    → block ≡ disk_block disk pair.active → changed_content_of held changes ≡ Some new → changed_log block changes ≡ Some c → new ≡ c
+pub content_made_here : (disk : Disk) (history : List CallEvent) (pair : Pair) (held new : RawContent) (block : List ℕ) (changes : List ContentChange) (c : RawContent) → IsTrueHeader disk history pair held
+    → block ≡ disk_block disk pair.active → content_with_changes held changes ≡ Some new → changed_log_content block changes ≡ Some c → new ≡ c
 content_made_here disk history pair held new block changes c is here made log =
     some_same (sym made ∙ sym (made_is disk history pair held changes is) ∙ made_here disk history pair held block changes (Some c) is here log)
 
@@ -308,15 +308,15 @@ ends_here disk history pair held block is here = record {
 }
 
 -- the disk itself, before a call
-pub left_alone : (disk : Disk) (at : ℕ × ℕ) (changes : List PairChange) → LossLeavesChanged disk at changes disk.blocks
-left_alone disk at changes = record { others = SameExceptThese-refl (at.0 ∷ at.1 ∷ []) disk.blocks; content = inl (record { content = refl; first = λ e h. h }) }
+pub left_alone : (disk : Disk) (at : ℕ × ℕ) (changes : List ContentChange) → LossLeavesChanged disk at changes disk.blocks
+left_alone disk at changes = record { others = SameExceptBlocks-refl (at.0 ∷ at.1 ∷ []) disk.blocks; content = inl (record { content = refl; first = λ e h. h }) }
 
 -- what changes make is what is left, where that isn't what was
-pub left_by_change : (disk : Disk) (at : ℕ × ℕ) (changes : List PairChange) (new : RawContent) (left : Blocks) → changed_pair disk at changes ≡ Some new → RawContentFits disk.block_size disk.page new → IsWellFormed new
+pub left_by_change : (disk : Disk) (at : ℕ × ℕ) (changes : List ContentChange) (new : RawContent) (left : Blocks) → changed_pair_content disk at changes ≡ Some new → RawContentFits disk.block_size disk.page new → IsWellFormed new
     → LossLeavesNew disk at new left → LossLeavesChanged disk at changes left
 left_by_change disk at changes new left made fits logged l = record { others = l.others; content = go l.content }
   where
-    go : HasOldContent disk at (record disk { blocks = left }) ⊎ HasNewContent disk at new (record disk { blocks = left }) → HasOldContent disk at (record disk { blocks = left }) ⊎ HasContentMade disk at changes (record disk { blocks = left })
+    go : HasOldContent disk at (record disk { blocks = left }) ⊎ HasNewContent disk at new (record disk { blocks = left }) → HasOldContent disk at (record disk { blocks = left }) ⊎ HasChangedContent disk at changes (record disk { blocks = left })
     go (inl still) = inl still
     go (inr now) = inr (record { new = new; made = made; fits = fits; logged = logged; now = now })
 

@@ -1,6 +1,6 @@
 -- What a commit's pages make of a block, and what a stop while they are programmed leaves.
 use Rattle.std.proofs.Common.{ℕ, ◌≡◌, ◌+◌, ◌≤◌, true, List, [], ◌∷◌, ◌++◌, length, Option, inl, inr, sym, ap, ◌∙◌, subst, arith, length-append}
-use Rattle.lfs_pair.proofs.Common.{lt-ltb, Blocks, block_bytes, overwritten_at, SameExcept, LogEntry, has_commit, SameLog, PartialCommit, IsCommitOffset, earlier_commits, padded_end_of, LogGetsCommit, LossLeavesCommit, DiffersInBlock}
+use Rattle.lfs_pair.proofs.Common.{lt-ltb, Blocks, block_bytes, overwritten_at, SameExcept, LogEntry, has_commit, SameLog, PartialCommit, IsCommitOffset, earlier_commits, padded_commit_end, LogGetsCommit, LossLeavesCommit, DiffersInBlock}
 use Rattle.lfs_model.specs.format.Log.{chain_of}
 use Rattle.lfs_model.specs.layers.Commit.{four_bytes_at}
 use Rattle.lfs_model.specs.crash.Stops.{MayProgramLeave}
@@ -28,8 +28,8 @@ pub record GoInto (b : PartialCommit) (next : Option (List ℕ)) (pages : List �
   pub room : at + length pages ≤ length block
   pub behind : four_bytes_at block (at + length pages) ≡ next
 
-pub goes_into : {b : PartialCommit} {next : Option (List ℕ)} {pages : List ℕ} {at size end : ℕ} {block : List ℕ} → AreCommitPages b next pages → length pages ≡ padded_end_of b → IsCommitOffset b.revision b.previous block at
-    → length block ≡ size → at + padded_end_of b ≤ size → end ≡ at + padded_end_of b → next ≡ four_bytes_at block end → GoInto b next pages at block
+pub goes_into : {b : PartialCommit} {next : Option (List ℕ)} {pages : List ℕ} {at size end : ℕ} {block : List ℕ} → AreCommitPages b next pages → length pages ≡ padded_commit_end b → IsCommitOffset b.revision b.previous block at
+    → length block ≡ size → at + padded_commit_end b ≤ size → end ≡ at + padded_commit_end b → next ≡ four_bytes_at block end → GoInto b next pages at block
 goes_into {b} {pages = pages} {at = at} {block = block} commit long goes whole ends is next = record {
   commit = commit;
   goes = goes;

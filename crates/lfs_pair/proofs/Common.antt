@@ -4,30 +4,30 @@ pub use Rattle.lfs_device.specs.DeviceDisk.{disk_of_blocks}
 pub use Rattle.lfs_model.proofs.Appended.{appended_content}
 pub use Rattle.lfs_model.proofs.Histories.{AllCallsSince-behind, AllCallsSince-only, AllCallsSince-until, AreUnprogrammed-read_count, HoldsAtLosses-read_count, HoldsAtLosses-weaker, LeftByLoss-read, StayUnprogrammed-wider, began, blank_count-read_count, erase_count-read_count, goes_on, goes_on_by, program_count-read_count}
 pub use Rattle.lfs_model.proofs.Logged.{logged, nothing_logged}
-pub use Rattle.lfs_model.proofs.Overwrites.{SameExcept-refl, SameExcept-trans, SameExceptThese-refl, SameExceptThese-trans, SameExceptThese-wider}
+pub use Rattle.lfs_model.proofs.Overwrites.{SameExcept-refl, SameExcept-trans, SameExceptBlocks-refl, SameExceptBlocks-trans, SameExceptBlocks-wider}
 pub use Rattle.lfs_model.proofs.Staying.{AreElsewhere, current_block-stays, raw_content-stays}
 pub use Rattle.lfs_model.specs.crash.Stops.{ErasesCleanly, HasNoLog, LeftByLoss, SameLog}
-pub use Rattle.lfs_model.specs.format.Blocks.{Blocks, SameExcept, SameExceptThese, block_bytes, overwritten_at}
+pub use Rattle.lfs_model.specs.format.Blocks.{Blocks, SameExcept, SameExceptBlocks, block_bytes, overwritten_at}
 pub use Rattle.lfs_model.specs.format.Content.{RawContent, RawSlot, content_after, current_block, empty_raw_content, has_commit, is_later, raw_content}
 pub use Rattle.lfs_model.specs.format.Disk.{Disk, disk_block, pair_capacity, slots_limit}
 pub use Rattle.lfs_model.specs.format.Geometry.{IsValidGeometry}
 pub use Rattle.lfs_model.specs.format.Log.{LogEntry, block_entries, block_revision}
-pub use Rattle.lfs_model.specs.format.Slots.{array_address}
+pub use Rattle.lfs_model.specs.format.Slots.{address_view}
 pub use Rattle.lfs_model.specs.format.Thread.{address_blocks}
-pub use Rattle.lfs_model.specs.layers.Changes.{PairChange, change_entries, changed_content_of, entries_of_changes, is_storable}
+pub use Rattle.lfs_model.specs.layers.Changes.{ContentChange, change_entries, content_with_changes, entries_of_changes, is_storable}
 pub use Rattle.lfs_model.specs.layers.Commit.{aligned_end, encoded_size}
 pub use Rattle.lfs_model.specs.layers.LoggedContent.{AreNamed, AreWellFormed, IsWellFormed}
 pub use Rattle.lfs_model.specs.layers.WrittenContent.{RawContentFits, attribute_entries, content_entries, entries_of_slots, log_entry, slot_size_raw}
 pub use Rattle.lfs_model.specs.session.History.{AllCallsSince, AreUnprogrammed, CallEvent, Erase, HoldsAtLosses, OnlyReadsSince, StayUnprogrammed, blank_count, call_event, erase_count, fault_count, program_count, read_count}
 pub use Rattle.lfs_model.specs.tree.View.{BeginsWith}
 pub use Rattle.lfs_pair.specs.ChangeView.{change_view, changes_view}
-pub use Rattle.lfs_pair.specs.Commits.{CanAppend, CommitFails, HasNewContent, HasOldContent, HasWrittenContent, HeaderSaysActive, IsEndKnown, IsPairAddress, KeepsFirstEntry, KeepsOutsidePair, LossLeavesChanged, LossLeavesNew, changed_log, changed_pair}
+pub use Rattle.lfs_pair.specs.Commits.{AppendFits, CommitFails, HasNewContent, HasOldContent, HasWrittenContent, HeaderSaysActive, IsEndUnprogrammed, IsPairAddress, KeepsFirstEntry, KeepsOutsidePair, LossLeavesChanged, LossLeavesNew, changed_log_content, changed_pair_content}
 pub use Rattle.lfs_pair.specs.FreshPair.{ErasedOneMore}
 pub use Rattle.lfs_pair.specs.HalfCut.{IsFittingSplit, IsHalfCut}
 pub use Rattle.lfs_pair.specs.Pair.{HeaderDescribesLog, IsTrueHeader, active_block_at, header_address, is_second_active}
 pub use Rattle.lfs_pair.specs.Split.{CanSplitPair, LossLeavesSplit}
-pub use Rattle.lfs_pair.specs.Writing.{ChangesReadingFew, DiffersInBlock, HasOneCommit, IsWrittenAnew, LogGetsCommit, LossLeavesCommit, LossLeavesRewritten, OnlyAsksBlank, commit_with_more}
-pub use Rattle.lfs_tag.specs.Builder.{IsCommitOffset, PartialCommit, earlier_commits, padded_end_of}
+pub use Rattle.lfs_pair.specs.Writing.{ChangesReadingFew, DiffersInBlock, HasOneCommit, IsWrittenAnew, LogGetsCommit, LossLeavesCommit, LossLeavesRewritten, OnlyAsksBlank, commit_with_entries}
+pub use Rattle.lfs_tag.specs.Builder.{IsCommitOffset, PartialCommit, earlier_commits, padded_commit_end}
 pub use Rattle.lfs_tag.specs.ContentView.{attribute_view, content_view, slot_view}
 pub use Rattle.std.proofs.lemmas.Bool.{and_parts, cases_lt, lt-ltb, ltb-true, ne_eqb}
 pub use Rattle.std.proofs.lemmas.List.{append-nil, length-map, length-take-le}

@@ -2,7 +2,7 @@
 use Rattle.std.proofs.Common.{ℕ, zero, suc, ◌≡◌, ◌+◌, ◌*◌, ◌-◌, ◌^◌, ◌<◌, ◌≤◌, inl, inr, List, [], ◌∷◌, length, take, drop, map, min, get_or, sum_by, sym, subst, arith, length-drop, drop_of_length-le}
 use Rattle.lfs_pair.proofs.Common.{cases_lt, length-map, length-take-le, pair_capacity, slots_limit, RawSlot, slot_size_raw, IsFittingSplit, IsHalfCut}
 use Rattle.std.proofs.lemmas.List.Sums.{sum_by-cons, sum_by-take-drop, sum_by-take-le}
-use Rattle.lfs_pair.specs.HalfCut.{SlotsFitPair, CanSplit}
+use Rattle.lfs_pair.specs.HalfCut.{SlotsFitPair, AreSplittable}
 
 -- a longer front is no smaller
 front_grows : {X : Type 0} (f : X → ℕ) (xs : List X) (a b : ℕ) → a ≤ b → sum_by f (take a xs) ≤ sum_by f (take b xs)
@@ -12,7 +12,7 @@ front_grows f (x ∷ xs) (suc a) zero l = absurd (omega arith)
 front_grows f (x ∷ xs) (suc a) (suc b) l = omega (arith, front_grows f xs a b (omega arith), sum_by-cons f x (take a xs), sum_by-cons f x (take b xs))
 
 -- what is cut fits two pairs
-total_small : (block_size page : ℕ) (slots : List RawSlot) → CanSplit block_size page slots → sum_by slot_size_raw slots ≤ 2 * pair_capacity block_size page
+total_small : (block_size page : ℕ) (slots : List RawSlot) → AreSplittable block_size page slots → sum_by slot_size_raw slots ≤ 2 * pair_capacity block_size page
 total_small block_size page slots can = omega (arith, sum_by-take-drop slot_size_raw slots can.cut, can.is_cut.front.size, can.is_cut.back.size)
 
 -- behind a longer front the back fits too
@@ -73,7 +73,7 @@ cut_where_fits block_size page slots cut within front size count past =
     }
 
 -- the next slot doesn't fit in front
-pub cut_where_full : (block_size page : ℕ) (slots : List RawSlot) (cut : ℕ) → cut < length slots → Fronts block_size page slots cut → CanSplit block_size page slots
+pub cut_where_full : (block_size page : ℕ) (slots : List RawSlot) (cut : ℕ) → cut < length slots → Fronts block_size page slots cut → AreSplittable block_size page slots
     → (cut + 1 ≤ slots_limit → sum_by slot_size_raw (take (cut + 1) slots) ≤ pair_capacity block_size page → ⊥) → IsHalfCut block_size page slots cut
 cut_where_full block_size page slots cut within front can full =
     record {
@@ -103,7 +103,7 @@ front_more f g (y ∷ xs) (suc i) x l at =
 
 -- ---- the numbers of the code
 
-pub total_is : (block_size page : ℕ) (slots : List RawSlot) (total : ℕ) → block_size < 2 ^ 32 → CanSplit block_size page slots → total ≡ min (sum_by slot_size_raw slots) (2 ^ 64 - 1)
+pub total_is : (block_size page : ℕ) (slots : List RawSlot) (total : ℕ) → block_size < 2 ^ 32 → AreSplittable block_size page slots → total ≡ min (sum_by slot_size_raw slots) (2 ^ 64 - 1)
     → total ≡ sum_by slot_size_raw slots
 total_is block_size page slots total device can is = omega (arith, total_small block_size page slots can)
 
@@ -113,7 +113,7 @@ pub record Sums (block_size page : ℕ) (slots : List RawSlot) (i size : ℕ) : 
   pub longer : sum_by slot_size_raw (take i slots) + size ≡ sum_by slot_size_raw (take (i + 1) slots)
   pub within : sum_by slot_size_raw (take i slots) + size ≤ sum_by slot_size_raw slots
 
-pub sums_of : {X : Type 0} (g : X → RawSlot) (block_size page : ℕ) (xs : List X) (i : ℕ) (x : X) (size : ℕ) → block_size < 2 ^ 32 → CanSplit block_size page (map g xs) → i < length xs → x ≡ get_or xs i x
+pub sums_of : {X : Type 0} (g : X → RawSlot) (block_size page : ℕ) (xs : List X) (i : ℕ) (x : X) (size : ℕ) → block_size < 2 ^ 32 → AreSplittable block_size page (map g xs) → i < length xs → x ≡ get_or xs i x
     → size ≡ min (slot_size_raw (g x)) (2 ^ 64 - 1) → Sums block_size page (map g xs) i size
 sums_of g block_size page xs i x size device can l at is =
     let small = total_small block_size page (map g xs) can in

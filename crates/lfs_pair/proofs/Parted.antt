@@ -1,7 +1,7 @@
 -- A content cut into the parts of two pairs, and what a stop on the way there leaves.
 use Rattle.std.specs.Prelude.{All}
 use Rattle.std.proofs.Common.{ℕ, zero, suc, get_or, ◌≡◌, ◌≢◌, ◌+◌, ◌≤◌, ◌<◌, ◌==◌, ◌&&◌, ◌^◌, false, List, [], ◌∷◌, Some, length, take, drop, sum_by, refl, sym, ap, ◌∙◌, subst, arith, inl, inr}
-use Rattle.lfs_pair.proofs.Common.{cases_lt, ne_eqb, disk_of_blocks, Blocks, block_bytes, Disk, pair_capacity, slots_limit, AllCallsSince, CallEvent, OnlyReadsSince, RawSlot, RawContent, current_block, raw_content, LogEntry, AreNamed, AreWellFormed, IsWellFormed, RawContentFits, slot_size_raw, PairChange, AllCallsSince-until, nothing_logged, SameExceptThese-refl, SameExceptThese-trans, SameExceptThese-wider, AreElsewhere, current_block-stays, raw_content-stays, header_address, BeginsWith, HasNewContent, HasOldContent, KeepsFirstEntry, LossLeavesNew, KeepsOutsidePair, changed_log, changed_pair, IsFittingSplit, ErasedOneMore, IsWrittenAnew, CanSplitPair, LossLeavesSplit}
+use Rattle.lfs_pair.proofs.Common.{cases_lt, ne_eqb, disk_of_blocks, Blocks, block_bytes, Disk, pair_capacity, slots_limit, AllCallsSince, CallEvent, OnlyReadsSince, RawSlot, RawContent, current_block, raw_content, LogEntry, AreNamed, AreWellFormed, IsWellFormed, RawContentFits, slot_size_raw, ContentChange, AllCallsSince-until, nothing_logged, SameExceptBlocks-refl, SameExceptBlocks-trans, SameExceptBlocks-wider, AreElsewhere, current_block-stays, raw_content-stays, header_address, BeginsWith, HasNewContent, HasOldContent, KeepsFirstEntry, LossLeavesNew, KeepsOutsidePair, changed_log_content, changed_pair_content, IsFittingSplit, ErasedOneMore, IsWrittenAnew, CanSplitPair, LossLeavesSplit}
 use Rattle.std.proofs.lemmas.List.{take_all}
 use Rattle.lfs_device.specs.declared.geometry.Geometry.{Geometry}
 use Rattle.lfs_model.specs.format.Slots.{null_address}
@@ -39,10 +39,10 @@ pub among_second : (at fresh : ℕ × ℕ) (other : ℕ) → All (λ c. c ≢ ot
 among_second at fresh other apart = both (λ c. c ≢ other) fresh.0 fresh.1 (apart 2 0 (omega arith)) (apart 3 0 (omega arith))
 
 pub keeps_by_fresh : (at fresh : ℕ × ℕ) {old new : Blocks} → KeepsOutsidePair fresh old new → KeepsOutsideBoth at fresh old new
-keeps_by_fresh at fresh same = SameExceptThese-wider (at.0 ∷ at.1 ∷ fresh.0 ∷ fresh.1 ∷ []) (among_second at fresh) same
+keeps_by_fresh at fresh same = SameExceptBlocks-wider (at.0 ∷ at.1 ∷ fresh.0 ∷ fresh.1 ∷ []) (among_second at fresh) same
 
 pub keeps_by_both : (at fresh : ℕ × ℕ) {old mid new : Blocks} → KeepsOutsidePair fresh old mid → KeepsOutsidePair at mid new → KeepsOutsideBoth at fresh old new
-keeps_by_both at fresh first second = SameExceptThese-trans (keeps_by_fresh at fresh first) (SameExceptThese-wider (at.0 ∷ at.1 ∷ fresh.0 ∷ fresh.1 ∷ []) (among_first at fresh) second)
+keeps_by_both at fresh first second = SameExceptBlocks-trans (keeps_by_fresh at fresh first) (SameExceptBlocks-wider (at.0 ∷ at.1 ∷ fresh.0 ∷ fresh.1 ∷ []) (among_first at fresh) second)
 
 -- ---- both parts can be written
 
@@ -125,18 +125,18 @@ clears_more {before = before} {mid = mid} {history = history} first second clear
 
 -- ---- a pair that is being split
 
-pub record IsSplitting (disk : Disk) (at fresh : ℕ × ℕ) (changes : List PairChange) (front back : RawContent) : Type 0 where
+pub record IsSplitting (disk : Disk) (at fresh : ℕ × ℕ) (changes : List ContentChange) (front back : RawContent) : Type 0 where
   pub whole : RawContent
-  pub made : changed_pair disk at changes ≡ Some whole
+  pub made : changed_pair_content disk at changes ≡ Some whole
   pub logged : IsWellFormed whole
   pub parts : IsContentCut disk.block_size disk.page whole fresh front back
   pub apart : AreApart at fresh
   pub front_ready : IsReady disk.block_size disk.page front
   pub back_ready : IsReady disk.block_size disk.page back
 
-pub is_splitting : (geometry here : Geometry) (blocks : Blocks) (history : List CallEvent) (pair : Pair) (fresh : ℕ × ℕ) (block : List ℕ) (changes : List PairChange) (whole front back : RawContent)
+pub is_splitting : (geometry here : Geometry) (blocks : Blocks) (history : List CallEvent) (pair : Pair) (fresh : ℕ × ℕ) (block : List ℕ) (changes : List ContentChange) (whole front back : RawContent)
     → here ≡ geometry → length blocks ≡ geometry.block_count → CanSplitPair (disk_of_blocks geometry blocks) history pair fresh changes → block ≡ block_bytes blocks pair.active
-    → changed_log block changes ≡ Some whole → IsWellFormed whole → IsContentCut here.block_size here.page whole fresh front back
+    → changed_log_content block changes ≡ Some whole → IsWellFormed whole → IsContentCut here.block_size here.page whole fresh front back
     → IsSplitting (disk_of_blocks geometry blocks) (header_address pair) fresh changes front back
 is_splitting geometry here blocks history pair fresh block changes whole front back same count can is made_is_whole logged cut =
     let commit = can.commit in
@@ -155,7 +155,7 @@ is_splitting geometry here blocks history pair fresh block changes whole front b
       back_ready = back_ready parts logged names;
     }
 
-pub CanSplitPair-reads : {blocks : Blocks} {disk : Disk} {before after : List CallEvent} {pair : Pair} {fresh : ℕ × ℕ} {changes : List PairChange} → OnlyReadsSince blocks before after
+pub CanSplitPair-reads : {blocks : Blocks} {disk : Disk} {before after : List CallEvent} {pair : Pair} {fresh : ℕ × ℕ} {changes : List ContentChange} → OnlyReadsSince blocks before after
     → CanSplitPair disk before pair fresh changes → CanSplitPair disk after pair fresh changes
 CanSplitPair-reads reads can =
     let commit = can.commit in
@@ -169,8 +169,8 @@ CanSplitPair-reads reads can =
 -- ---- what a stop on the way there leaves
 
 -- before a call
-pub left_before : (old : Disk) (at fresh : ℕ × ℕ) (changes : List PairChange) → LossLeavesSplit old at fresh changes old.blocks
-left_before old at fresh changes = record { others = SameExceptThese-refl (at.0 ∷ at.1 ∷ fresh.0 ∷ fresh.1 ∷ []) old.blocks; content = inl (record { content = refl; first = λ e h. h }) }
+pub left_before : (old : Disk) (at fresh : ℕ × ℕ) (changes : List ContentChange) → LossLeavesSplit old at fresh changes old.blocks
+left_before old at fresh changes = record { others = SameExceptBlocks-refl (at.0 ∷ at.1 ∷ fresh.0 ∷ fresh.1 ∷ []) old.blocks; content = inl (record { content = refl; first = λ e h. h }) }
 
 still_elsewhere : (old : Disk) (at fresh : ℕ × ℕ) (left : Blocks) → AreApart at fresh → KeepsOutsidePair fresh old.blocks left → HasOldContent old at (record old { blocks = left })
 still_elsewhere old at fresh left apart same = record {
@@ -187,11 +187,11 @@ pub first_behind : (old : Disk) (at fresh : ℕ × ℕ) (mid left : Blocks) (new
     → KeepsFirstEntry (record old { blocks = mid }) at (Some new) (record old { blocks = left }) → KeepsFirstEntry old at (Some new) (record old { blocks = left })
 first_behind old at fresh mid left new apart same keeps e h anew = keeps e ((still_elsewhere old at fresh mid apart same).first e h) anew
 
-pub left_while_fresh : (old : Disk) (at fresh : ℕ × ℕ) (changes : List PairChange) (left : Blocks) → AreApart at fresh → KeepsOutsidePair fresh old.blocks left → LossLeavesSplit old at fresh changes left
+pub left_while_fresh : (old : Disk) (at fresh : ℕ × ℕ) (changes : List ContentChange) (left : Blocks) → AreApart at fresh → KeepsOutsidePair fresh old.blocks left → LossLeavesSplit old at fresh changes left
 left_while_fresh old at fresh changes left apart same = record { others = keeps_by_fresh at fresh same; content = inl (still_elsewhere old at fresh left apart same) }
 
-pub left_while_old : (old : Disk) (at fresh : ℕ × ℕ) (changes : List PairChange) (mid left : Blocks) {whole front back : RawContent} → AreApart at fresh → KeepsOutsidePair fresh old.blocks mid
-    → changed_pair old at changes ≡ Some whole → IsWellFormed whole → IsContentCut old.block_size old.page whole fresh front back → raw_content (record old { blocks = mid }) fresh ≡ Some back
+pub left_while_old : (old : Disk) (at fresh : ℕ × ℕ) (changes : List ContentChange) (mid left : Blocks) {whole front back : RawContent} → AreApart at fresh → KeepsOutsidePair fresh old.blocks mid
+    → changed_pair_content old at changes ≡ Some whole → IsWellFormed whole → IsContentCut old.block_size old.page whole fresh front back → raw_content (record old { blocks = mid }) fresh ≡ Some back
     → LossLeavesNew (record old { blocks = mid }) at front left → LossLeavesSplit old at fresh changes left
 left_while_old old at fresh changes mid left {whole} {front} apart same made logged parts held stopped = record {
   others = keeps_by_both at fresh same stopped.others;

@@ -1,7 +1,7 @@
 -- Entries put into a commit one after the other.
 use Rattle.std.proofs.Common.{ℕ, zero, suc, ◌≡◌, ◌+◌, ◌<◌, ◌≤◌, ◌∙◌, List, [], ◌∷◌, ◌++◌, length, take, map, get_or, sym, ap, subst, arith, append_assoc}
 use Rattle.std.specs.List.{flat_map}
-use Rattle.lfs_pair.proofs.Common.{append-nil, length-map, length-take-le, flat_map-append, LogEntry, RawSlot, AreWellFormed, attribute_entries, log_entry, entries_of_slots, PartialCommit, attribute_view, commit_with_more}
+use Rattle.lfs_pair.proofs.Common.{append-nil, length-map, length-take-le, flat_map-append, LogEntry, RawSlot, AreWellFormed, attribute_entries, log_entry, entries_of_slots, PartialCommit, attribute_view, commit_with_entries}
 use Rattle.std.proofs.lemmas.List.{map-append}
 use Rattle.lfs_model.specs.layers.LoggedContent.{AttributesInOrder, IsFormedSlot}
 use Rattle.lfs_model.specs.layers.WrittenContent.{first_attribute_type, slot_entries}
@@ -11,28 +11,28 @@ use Rattle.lfs_pair.proofs.Applied.{mapped_front}
 -- ---- commits
 
 -- some entries, and then more
-pub with_more : (es fs : List LogEntry) (old mid new : PartialCommit) → mid ≡ commit_with_more es old → new ≡ commit_with_more fs mid → new ≡ commit_with_more (es ++ fs) old
+pub with_more : (es fs : List LogEntry) (old mid new : PartialCommit) → mid ≡ commit_with_entries es old → new ≡ commit_with_entries fs mid → new ≡ commit_with_entries (es ++ fs) old
 with_more es fs old mid new first second =
-    second ∙ ap (commit_with_more fs) first ∙ ap (λ (all : List LogEntry). record old { entries = all }) (append_assoc old.entries es fs)
+    second ∙ ap (commit_with_entries fs) first ∙ ap (λ (all : List LogEntry). record old { entries = all }) (append_assoc old.entries es fs)
 
 -- ---- loops
 
 -- one attribute more
 pub attributes_more : (id kind : ℕ) (xs : List Attribute) (i : ℕ) (d : Attribute) (old mid new : PartialCommit) → i < length xs → kind ≡ (get_or xs i d).kind
-    → mid ≡ commit_with_more (attribute_entries id (map attribute_view (take i xs))) old → new ≡ commit_with_more (log_entry (first_attribute_type + kind) id (get_or xs i d).bytes.now ∷ []) mid
-    → new ≡ commit_with_more (attribute_entries id (map attribute_view (take (i + 1) xs))) old
+    → mid ≡ commit_with_entries (attribute_entries id (map attribute_view (take i xs))) old → new ≡ commit_with_entries (log_entry (first_attribute_type + kind) id (get_or xs i d).bytes.now ∷ []) mid
+    → new ≡ commit_with_entries (attribute_entries id (map attribute_view (take (i + 1) xs))) old
 attributes_more id kind xs i d old mid new l is first second =
     let bytes : List ℕ = (get_or xs i d).bytes.now in
-    with_more (attribute_entries id (map attribute_view (take i xs))) (log_entry (first_attribute_type + (get_or xs i d).kind) id bytes ∷ []) old mid new first (second ∙ ap (λ k. commit_with_more (log_entry (first_attribute_type + k) id bytes ∷ []) mid) is)
-    ∙ ap (λ es. commit_with_more es old) (sym (ap (attribute_entries id) (mapped_front attribute_view xs i d l) ∙ map-append _ (map attribute_view (take i xs)) (attribute_view (get_or xs i d) ∷ [])))
+    with_more (attribute_entries id (map attribute_view (take i xs))) (log_entry (first_attribute_type + (get_or xs i d).kind) id bytes ∷ []) old mid new first (second ∙ ap (λ k. commit_with_entries (log_entry (first_attribute_type + k) id bytes ∷ []) mid) is)
+    ∙ ap (λ es. commit_with_entries es old) (sym (ap (attribute_entries id) (mapped_front attribute_view xs i d l) ∙ map-append _ (map attribute_view (take i xs)) (attribute_view (get_or xs i d) ∷ [])))
 
 -- one element more of a list where each has a list of entries
 pub flat_more : {X Y : Type 0} (f : X → Y) (e : Y → List LogEntry) (xs : List X) (i : ℕ) (d : X) (old mid new : PartialCommit) → i < length xs
-    → mid ≡ commit_with_more (flat_map e (map f (take i xs))) old → new ≡ commit_with_more (e (f (get_or xs i d))) mid
-    → new ≡ commit_with_more (flat_map e (map f (take (i + 1) xs))) old
+    → mid ≡ commit_with_entries (flat_map e (map f (take i xs))) old → new ≡ commit_with_entries (e (f (get_or xs i d))) mid
+    → new ≡ commit_with_entries (flat_map e (map f (take (i + 1) xs))) old
 flat_more f e xs i d old mid new l first second =
     with_more (flat_map e (map f (take i xs))) (e (f (get_or xs i d))) old mid new first second
-    ∙ ap (λ es. commit_with_more es old) (sym (ap (flat_map e) (mapped_front f xs i d l) ∙ flat_map-append e (map f (take i xs)) (f (get_or xs i d) ∷ [])
+    ∙ ap (λ es. commit_with_entries es old) (sym (ap (flat_map e) (mapped_front f xs i d l) ∙ flat_map-append e (map f (take i xs)) (f (get_or xs i d) ∷ [])
     ∙ ap (λ es. flat_map e (map f (take i xs)) ++ es) (append-nil (e (f (get_or xs i d))))))
 
 slots_append : (id : ℕ) (slots : List RawSlot) (s : RawSlot) → entries_of_slots id (slots ++ s ∷ []) ≡ entries_of_slots id slots ++ slot_entries (id + length slots) s
@@ -46,12 +46,12 @@ slots_append id (t ∷ slots) s =
 
 -- one slot more
 pub slots_more : {X : Type 0} (f : X → RawSlot) (xs : List X) (i : ℕ) (x : X) (id : ℕ) (old mid new : PartialCommit) → i < length xs → x ≡ get_or xs i x → id ≡ i
-    → mid ≡ commit_with_more (entries_of_slots 0 (map f (take i xs))) old → new ≡ commit_with_more (slot_entries id (f x)) mid
-    → new ≡ commit_with_more (entries_of_slots 0 (map f (take (i + 1) xs))) old
+    → mid ≡ commit_with_entries (entries_of_slots 0 (map f (take i xs))) old → new ≡ commit_with_entries (slot_entries id (f x)) mid
+    → new ≡ commit_with_entries (entries_of_slots 0 (map f (take (i + 1) xs))) old
 slots_more f xs i x id old mid new l at same first second =
     let count : id ≡ 0 + length (map f (take i xs)) = omega (arith, same, length-map (take i xs) f, length-take-le i xs (omega arith)) in
     with_more (entries_of_slots 0 (map f (take i xs))) (slot_entries id (f x)) old mid new first second
-    ∙ ap (λ es. commit_with_more es old) (ap (λ k. entries_of_slots 0 (map f (take i xs)) ++ slot_entries k (f x)) count
+    ∙ ap (λ es. commit_with_entries es old) (ap (λ k. entries_of_slots 0 (map f (take i xs)) ++ slot_entries k (f x)) count
     ∙ sym (slots_append 0 (map f (take i xs)) (f x)) ∙ ap (λ z. entries_of_slots 0 (map f (take i xs) ++ f z ∷ [])) at
     ∙ sym (ap (entries_of_slots 0) (mapped_front f xs i x l)))
 

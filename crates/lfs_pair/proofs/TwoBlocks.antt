@@ -1,10 +1,10 @@
 -- What a pair holds, by which of its two blocks was written.
 use Rattle.std.proofs.Common.{ℕ, ◌≡◌, ◌≢◌, ◌⊎◌, ◌+◌, ◌%◌, ◌^◌, ◌<◌, ◌==◌, Bool, true, false, cond, List, [], ◌∷◌, refl, sym, ap, ◌∙◌, subst, arith, eq-eqb, inl, inr}
 use Rattle.std.specs.Prelude.{All}
-use Rattle.lfs_pair.proofs.Common.{ne_eqb, option_and_then, Blocks, SameExcept, block_bytes, Disk, disk_block, block_revision, block_entries, SameLog, HasNoLog, has_commit, is_later, raw_content, content_after, empty_raw_content, is_second_active, active_block_at, IsPairAddress, KeepsOutsidePair, SameExceptThese-refl}
+use Rattle.lfs_pair.proofs.Common.{ne_eqb, option_and_then, Blocks, SameExcept, block_bytes, Disk, disk_block, block_revision, block_entries, SameLog, HasNoLog, has_commit, is_later, raw_content, content_after, empty_raw_content, is_second_active, active_block_at, IsPairAddress, KeepsOutsidePair, SameExceptBlocks-refl}
 use Rattle.lfs_model.specs.format.Disk.{block_count}
-use Rattle.lfs_pair.specs.Pair.{inactive_of}
-use Rattle.lfs_model.proofs.Overwrites.{SameExceptThese-one}
+use Rattle.lfs_pair.specs.Pair.{opposite_block}
+use Rattle.lfs_model.proofs.Overwrites.{SameExceptBlocks-one}
 use Rattle.lfs_pair.proofs.Holders.{holder_is, is_second_active-written, first_holds-written}
 use Rattle.lfs_pair.proofs.SameLogs.{has_commit_same, revision_same, has_no_commit}
 
@@ -31,10 +31,10 @@ pub data Sides (disk : Disk) (at : ℕ × ℕ) (active other : ℕ) : Type 0 whe
   first : is_second_active (disk_block disk at.0) (disk_block disk at.1) ≡ false → active ≡ at.0 → other ≡ at.1 → Sides disk at active other
   second : is_second_active (disk_block disk at.0) (disk_block disk at.1) ≡ true → active ≡ at.1 → other ≡ at.0 → Sides disk at active other
 
-pub sides : (disk : Disk) (at : ℕ × ℕ) (active : ℕ) → at.0 ≢ at.1 → active ≡ active_block_at disk at → Sides disk at active (inactive_of at active)
+pub sides : (disk : Disk) (at : ℕ × ℕ) (active : ℕ) → at.0 ≢ at.1 → active ≡ active_block_at disk at → Sides disk at active (opposite_block at active)
 sides disk at active apart is = go (is_second_active (disk_block disk at.0) (disk_block disk at.1)) refl
   where
-    go : (s : Bool) → is_second_active (disk_block disk at.0) (disk_block disk at.1) ≡ s → Sides disk at active (inactive_of at active)
+    go : (s : Bool) → is_second_active (disk_block disk at.0) (disk_block disk at.1) ≡ s → Sides disk at active (opposite_block at active)
     go true e =
         let here : active ≡ at.1 = is ∙ ap (λ s. cond s at.1 at.0) e in
         let differs : active == at.0 ≡ false = ne_eqb active at.0 (λ same. apart (sym same ∙ here)) in
@@ -131,7 +131,7 @@ other_is disk at active other (first e is also) = inr also
 other_is disk at active other (second e is also) = inl also
 
 pub outside_one : (at : ℕ × ℕ) (b : ℕ) (old new : Blocks) → (b ≡ at.0) ⊎ (b ≡ at.1) → SameExcept b old new → KeepsOutsidePair at old new
-outside_one at b old new is same = SameExceptThese-one (at.0 ∷ at.1 ∷ []) b old old new (among_two at b is) (SameExceptThese-refl (at.0 ∷ at.1 ∷ []) old) same
+outside_one at b old new is same = SameExceptBlocks-one (at.0 ∷ at.1 ∷ []) b old old new (among_two at b is) (SameExceptBlocks-refl (at.0 ∷ at.1 ∷ []) old) same
 
 -- the two differ
 pub sides_apart : (disk : Disk) (at : ℕ × ℕ) (active other : ℕ) → at.0 ≢ at.1 → Sides disk at active other → other ≢ active

@@ -7,7 +7,7 @@ use Rattle.lfs_device.specs.declared.geometry.Geometry.{Geometry}
 use Rattle.lfs_device.specs.declared.error.Error.TheVariants.{Io, NoMemory}
 use Rattle.lfs_device.specs.DeviceCalls.{ReadsOnly}
 use Rattle.lfs_device.specs.DeviceDisk.{disk_of_blocks}
-use Rattle.lfs_model.specs.format.Blocks.{Blocks, SameExcept, SameExceptThese, block_bytes}
+use Rattle.lfs_model.specs.format.Blocks.{Blocks, SameExcept, SameExceptBlocks, block_bytes}
 use Rattle.lfs_model.specs.format.Disk.{Disk, disk_block, block_count}
 use Rattle.lfs_model.specs.session.History.{CallEvent, AreUnprogrammed, StayUnprogrammed, blank_count, erase_count, program_count}
 use Rattle.lfs_model.specs.format.Log.{LogEntry, chain_of, block_entries, block_revision}
@@ -15,10 +15,10 @@ use Rattle.lfs_model.specs.layers.LoggedContent.{AreNamed, IsWellFormed}
 use Rattle.lfs_model.specs.format.Slots.{PairContent, FitsInPair}
 use Rattle.lfs_model.specs.format.Content.{RawContent, complete_content, current_block, raw_content, content_after, empty_raw_content}
 use Rattle.lfs_model.specs.tree.View.{BeginsWith}
-use Rattle.lfs_model.specs.layers.Changes.{PairChange, changed_content_of, entries_of_changes}
+use Rattle.lfs_model.specs.layers.Changes.{ContentChange, content_with_changes, entries_of_changes}
 use Rattle.lfs_model.specs.layers.Commit.{encoded_size, aligned_end}
 use Rattle.lfs_model.specs.layers.WrittenContent.{RawContentFits, content_entries}
-use Rattle.lfs_model.specs.format.Tag.{abstract_type}
+use Rattle.lfs_model.specs.format.Tag.{tag_class}
 use Rattle.lfs_pair.specs.Writing.{IsWrittenAnew}
 use Rattle.lfs_pair.specs.declared.pair.Pair.{Pair}
 use Rattle.lfs_pair.specs.Pair.{IsTrueHeader, active_block_at, header_address}
@@ -51,22 +51,22 @@ pub record IsPairAddress (disk : Disk) (at : ℕ × ℕ) : Type 0 where
   pub second : at.1 < block_count disk
 
 -- What changes make of a content, if there is one; of what a block's log comes to; and of the pair at an address.
-abbrev pub changed_if_any : Option RawContent → List PairChange → Option RawContent
-changed_if_any held changes = option_and_then (λ c. changed_content_of c changes) held
+abbrev pub content_after_changes : Option RawContent → List ContentChange → Option RawContent
+content_after_changes held changes = option_and_then (λ c. content_with_changes c changes) held
 
-abbrev pub changed_log : List ℕ → List PairChange → Option RawContent
-changed_log block changes = changed_if_any (content_after empty_raw_content (block_entries block)) changes
+abbrev pub changed_log_content : List ℕ → List ContentChange → Option RawContent
+changed_log_content block changes = content_after_changes (content_after empty_raw_content (block_entries block)) changes
 
-abbrev pub changed_pair : Disk → ℕ × ℕ → List PairChange → Option RawContent
-changed_pair disk at changes = changed_if_any (raw_content disk at) changes
+abbrev pub changed_pair_content : Disk → ℕ × ℕ → List ContentChange → Option RawContent
+changed_pair_content disk at changes = content_after_changes (raw_content disk at) changes
 
 -- A commit's premises: the disk has the pair as its header says, the log allows each change, and each slot has a name afterwards.
-pub record CanCommit (disk : Disk) (history : List CallEvent) (pair : Pair) (changes : List PairChange) : Type 0 where
+pub record CanCommit (disk : Disk) (history : List CallEvent) (pair : Pair) (changes : List ContentChange) : Type 0 where
   pub address : IsPairAddress disk (header_address pair)
   pub held : RawContent
   pub is_pair : IsTrueHeader disk history pair held
   pub new : RawContent
-  pub changed : changed_content_of held changes ≡ Some new
+  pub changed : content_with_changes held changes ≡ Some new
   pub names : AreNamed new.slots
 
 -- the header says which block is active, and its revision
@@ -76,15 +76,15 @@ pub record HeaderSaysActive (disk : Disk) (pair : Pair) : Type 0 where
   pub revision_is : pair.revision ≡ block_revision (disk_block disk pair.active)
 
 -- The premises of a commit to a pair whose active block has these bytes.
-pub record CanCommitFromBytes (disk : Disk) (history : List CallEvent) (pair : Pair) (changes : List PairChange) (bytes : List ℕ) : Type 0 where
+pub record CanCommitWithBlock (disk : Disk) (history : List CallEvent) (pair : Pair) (changes : List ContentChange) (bytes : List ℕ) : Type 0 where
   pub can : CanCommit disk history pair changes
   pub block : bytes ≡ block_bytes disk.blocks pair.active
 
 -- The premises of an append: those of a commit, the content that the changes make, and a buffer as long as a block.
-pub record CanAppendContent (disk : Disk) (history : List CallEvent) (pair : Pair) (changes : List PairChange) (c : RawContent) (len : ℕ) : Type 0 where
+pub record CanAppendChanges (disk : Disk) (history : List CallEvent) (pair : Pair) (changes : List ContentChange) (c : RawContent) (len : ℕ) : Type 0 where
   pub can : CanCommit disk history pair changes
   pub logged : IsWellFormed c
-  pub made : changed_pair disk (header_address pair) changes ≡ Some c
+  pub made : changed_pair_content disk (header_address pair) changes ≡ Some c
   pub buf : len ≡ disk.block_size
 
 -- The premises of a compaction: the disk has the pair, the content can be written anew, and the buffer is as long as a block.
@@ -104,31 +104,31 @@ pub record HasWrittenContent (disk : Disk) (history : List CallEvent) (at : ℕ 
   pub written : pair.is_fetched ≡ false
 
 -- nothing is programmed after the pair's log: it was written to since its fetch, or the device has said so meanwhile
-abbrev pub IsEndKnown : List CallEvent → List CallEvent → Pair → Type 0
-IsEndKnown before after pair = (pair.is_fetched ≡ false) ⊎ (blank_count before < blank_count after)
+abbrev pub IsEndUnprogrammed : List CallEvent → List CallEvent → Pair → Type 0
+IsEndUnprogrammed before after pair = (pair.is_fetched ≡ false) ⊎ (blank_count before < blank_count after)
 
 -- The log ends at a page's boundary, and nothing is programmed after it.
 pub record IsEndBlank (geometry : Geometry) (before after : List CallEvent) (pair : Pair) : Type 0 where
-  pub known : IsEndKnown before after pair
+  pub known : IsEndUnprogrammed before after pair
   pub whole_pages : pair.end % geometry.page ≡ 0
   pub unprogrammed : AreUnprogrammed after pair.active pair.end geometry.block_size
 
 -- the changes can be appended: nothing is programmed after the log, and the padded commit ends within the block
-pub record CanAppend (disk : Disk) (before after : List CallEvent) (pair : Pair) (changes : List PairChange) : Type 0 where
-  pub known : IsEndKnown before after pair
+pub record AppendFits (disk : Disk) (before after : List CallEvent) (pair : Pair) (changes : List ContentChange) : Type 0 where
+  pub known : IsEndUnprogrammed before after pair
   pub room : pair.end + aligned_end disk.page (encoded_size (entries_of_changes changes)) ≤ disk.block_size
 
 -- The log of a block has one commit more, of these entries. The commit ends on the next page boundary.
-pub record LogHasMore (page : ℕ) (es : List LogEntry) (old new : List ℕ) : Type 0 where
+pub record LogGetsEntries (page : ℕ) (es : List LogEntry) (old new : List ℕ) : Type 0 where
   pub checksum : LogEntry
-  pub class : abstract_type checksum.tag ≡ 5
+  pub class : tag_class checksum.tag ≡ 5
   pub commits : (chain_of new).commits ≡ (chain_of old).commits ++ (es ++ checksum ∷ []) ∷ []
   pub end : (chain_of new).end ≡ (chain_of old).end + aligned_end page (encoded_size es)
 
 -- An append erases nothing, changes the active block alone, and keeps all bytes before the old end.
-pub record IsCommitAppended (page : ℕ) (was : Pair) (changes : List PairChange) (old new : Blocks) (before after : List CallEvent) (pair : Pair) : Type 0 where
+pub record IsCommitAppended (page : ℕ) (was : Pair) (changes : List ContentChange) (old new : Blocks) (before after : List CallEvent) (pair : Pair) : Type 0 where
   pub active : pair.active ≡ was.active
-  pub log : LogHasMore page (entries_of_changes changes) (block_bytes old was.active) (block_bytes new was.active)
+  pub log : LogGetsEntries page (entries_of_changes changes) (block_bytes old was.active) (block_bytes new was.active)
   pub others : SameExcept was.active old new
   pub erases : erase_count after ≡ erase_count before
   pub programs : program_count after ≡ program_count before + 1
@@ -143,43 +143,43 @@ pub record IsPairRewritten (page : ℕ) (was : Pair) (c : RawContent) (old new :
   pub kept : block_bytes new was.active ≡ block_bytes old was.active
 
 -- The changes could be appended, and they were: the pair has the new content, and its log begins as before.
-pub record AppendsChanges (old : Disk) (before : List CallEvent) (was : Pair) (changes : List PairChange) (c : RawContent) (disk : Disk) (history : List CallEvent) (pair : Pair) : Type 0 where
+pub record AppendsChanges (old : Disk) (before : List CallEvent) (was : Pair) (changes : List ContentChange) (c : RawContent) (disk : Disk) (history : List CallEvent) (pair : Pair) : Type 0 where
   pub holds : HasWrittenContent disk history (header_address was) pair c
   pub first : KeepsFirstEntry old (header_address was) (Some c) disk
-  pub appends : CanAppend old before history was changes
+  pub appends : AppendFits old before history was changes
   pub appended : IsCommitAppended old.page was changes old.blocks disk.blocks before history pair
 
 -- the changes can't be appended; the disk, its calls and the header are as before
-pub record CannotAppend {D : Type 0} (g : Ghosts D) (changes : List PairChange) (old new : D) (was now : Pair) : Type 0 where
-  pub no_room : CanAppend (disk_of_blocks (g.geometry old) (g.blocks old)) (g.history old) (g.history new) was changes → ⊥
+pub record RefusesAppend {D : Type 0} (g : Ghosts D) (changes : List ContentChange) (old new : D) (was now : Pair) : Type 0 where
+  pub no_room : AppendFits (disk_of_blocks (g.geometry old) (g.blocks old)) (g.history old) (g.history new) was changes → ⊥
   pub blocks : g.blocks new ≡ g.blocks old
   pub geometry : g.geometry new ≡ g.geometry old
   pub history : g.history new ≡ g.history old
   pub pair : now ≡ was
 
 -- The content was written anew: the pair has it, and its log begins as before.
-pub record CompactsTo (old : Disk) (before : List CallEvent) (was : Pair) (c : RawContent) (disk : Disk) (history : List CallEvent) (pair : Pair) : Type 0 where
+pub record CompactsContent (old : Disk) (before : List CallEvent) (was : Pair) (c : RawContent) (disk : Disk) (history : List CallEvent) (pair : Pair) : Type 0 where
   pub holds : HasWrittenContent disk history (header_address was) pair c
   pub first : KeepsFirstEntry old (header_address was) (Some c) disk
   pub compacted : IsPairRewritten old.page was c old.blocks disk.blocks before history pair
 
 -- A commit that is done: what the changes make fits the pair, and the pair has it. It is appended where that is possible, and
 -- else written anew.
-pub record CommitsChanges (old : Disk) (before : List CallEvent) (changes : List PairChange) (was : Pair) (disk : Disk) (history : List CallEvent) (pair : Pair) : Type 0 where
+pub record CommitsChanges (old : Disk) (before : List CallEvent) (changes : List ContentChange) (was : Pair) (disk : Disk) (history : List CallEvent) (pair : Pair) : Type 0 where
   pub new : RawContent
-  pub made : changed_pair old (header_address was) changes ≡ Some new
+  pub made : changed_pair_content old (header_address was) changes ≡ Some new
   pub fits : RawContentFits old.block_size old.page new
   pub logged : IsWellFormed new
   pub holds : HasWrittenContent disk history (header_address was) pair new
   pub first : KeepsFirstEntry old (header_address was) (Some new) disk
-  pub appended : CanAppend old before history was changes → IsCommitAppended old.page was changes old.blocks disk.blocks before history pair
-  pub compacted : (CanAppend old before history was changes → ⊥) → IsPairRewritten old.page was new old.blocks disk.blocks before history pair
+  pub appended : AppendFits old before history was changes → IsCommitAppended old.page was changes old.blocks disk.blocks before history pair
+  pub compacted : (AppendFits old before history was changes → ⊥) → IsPairRewritten old.page was new old.blocks disk.blocks before history pair
 
 -- A commit that is refused: what the changes make doesn't fit the pair, neither as a log's content nor, where each slot is
 -- complete, as slots. The header is as before, and nothing was written.
-pub record RefusesCommit {D : Type 0} (g : Ghosts D) (changes : List PairChange) (old new : D) (was now : Pair) : Type 0 where
-  pub full : (c : RawContent) → changed_pair (disk_of_blocks (g.geometry old) (g.blocks old)) (header_address was) changes ≡ Some c → RawContentFits (g.geometry old).block_size (g.geometry old).page c → ⊥
-  pub completed : (c : RawContent) (d : PairContent) → changed_pair (disk_of_blocks (g.geometry old) (g.blocks old)) (header_address was) changes ≡ Some c → complete_content c ≡ Some d
+pub record RefusesCommit {D : Type 0} (g : Ghosts D) (changes : List ContentChange) (old new : D) (was now : Pair) : Type 0 where
+  pub full : (c : RawContent) → changed_pair_content (disk_of_blocks (g.geometry old) (g.blocks old)) (header_address was) changes ≡ Some c → RawContentFits (g.geometry old).block_size (g.geometry old).page c → ⊥
+  pub completed : (c : RawContent) (d : PairContent) → changed_pair_content (disk_of_blocks (g.geometry old) (g.blocks old)) (header_address was) changes ≡ Some c → complete_content c ≡ Some d
       → FitsInPair (g.geometry old).block_size (g.geometry old).page d → ⊥
   pub pair : now ≡ was
   pub device : ReadsOnly g old new
@@ -192,7 +192,7 @@ pub record CommitFails {D : Type 0} (g : Ghosts D) (old new : D) (was now : Pair
 
 -- no block changes but the pair's
 abbrev pub KeepsOutsidePair : ℕ × ℕ → Blocks → Blocks → Type 0
-KeepsOutsidePair at old new = SameExceptThese (address_blocks at) old new
+KeepsOutsidePair at old new = SameExceptBlocks (address_blocks at) old new
 
 -- bytes of other blocks that were unprogrammed still are
 abbrev pub OutsideStaysUnprogrammed : ℕ × ℕ → List CallEvent → List CallEvent → Type 0
@@ -204,14 +204,14 @@ pub record LossLeavesNew (old : Disk) (at : ℕ × ℕ) (new : RawContent) (left
   pub content : HasOldContent old at (record old { blocks = left }) ⊎ HasNewContent old at new (record old { blocks = left })
 
 -- the pair has what the changes make, and that fits
-pub record HasContentMade (old : Disk) (at : ℕ × ℕ) (changes : List PairChange) (disk : Disk) : Type 0 where
+pub record HasChangedContent (old : Disk) (at : ℕ × ℕ) (changes : List ContentChange) (disk : Disk) : Type 0 where
   pub new : RawContent
-  pub made : changed_pair old at changes ≡ Some new
+  pub made : changed_pair_content old at changes ≡ Some new
   pub fits : RawContentFits old.block_size old.page new
   pub logged : IsWellFormed new
   pub now : HasNewContent old at new disk
 
 -- What a stop leaves of a commit: other blocks as they were, and the pair with its old content or with what the changes make.
-pub record LossLeavesChanged (old : Disk) (at : ℕ × ℕ) (changes : List PairChange) (left : Blocks) : Type 0 where
+pub record LossLeavesChanged (old : Disk) (at : ℕ × ℕ) (changes : List ContentChange) (left : Blocks) : Type 0 where
   pub others : KeepsOutsidePair at old.blocks left
-  pub content : HasOldContent old at (record old { blocks = left }) ⊎ HasContentMade old at changes (record old { blocks = left })
+  pub content : HasOldContent old at (record old { blocks = left }) ⊎ HasChangedContent old at changes (record old { blocks = left })

@@ -6,24 +6,24 @@ use Rattle.lfs_device.specs.declared.error.Error.TheVariants.{Io, NoMemory}
 use Rattle.lfs_device.specs.DeviceCalls.{ReadsOnly}
 use Rattle.lfs_model.specs.format.Content.{RawContent}
 use Rattle.lfs_model.specs.format.Disk.{Disk}
-use Rattle.lfs_model.specs.layers.Changes.{PairChange}
+use Rattle.lfs_model.specs.layers.Changes.{ContentChange}
 use Rattle.lfs_model.specs.layers.WrittenContent.{RawContentFits}
 use Rattle.lfs_model.specs.session.History.{CallEvent}
-use Rattle.lfs_pair.specs.Commits.{IsPairAddress, CanCommit, HasWrittenContent, changed_pair}
+use Rattle.lfs_pair.specs.Commits.{IsPairAddress, CanCommit, HasWrittenContent, changed_pair_content}
 use Rattle.lfs_pair.specs.FreshPair.{ErasedOneMore, HasFreshContent}
 use Rattle.lfs_pair.specs.Pair.{header_address}
 use Rattle.lfs_pair.specs.declared.pair.Pair.{Pair}
 
 -- The premises of a copy: those of a commit of the changes, what they make fits a pair, and the two blocks are of the disk.
-pub record CanCopyPair (disk : Disk) (history : List CallEvent) (pair : Pair) (fresh : ℕ × ℕ) (changes : List PairChange) : Type 0 where
+pub record CanCopyPair (disk : Disk) (history : List CallEvent) (pair : Pair) (fresh : ℕ × ℕ) (changes : List ContentChange) : Type 0 where
   pub commit : CanCommit disk history pair changes
   pub fits : RawContentFits disk.block_size disk.page commit.new
   pub fresh_is : IsPairAddress disk fresh
 
 -- The fresh pair has what the changes make of the pair, and the next revision.
-pub record IsPairCopied (old : Disk) (before : List CallEvent) (changes : List PairChange) (pair : Pair) (disk : Disk) (history : List CallEvent) (fresh : ℕ × ℕ) (copy : Pair) : Type 0 where
+pub record IsPairCopied (old : Disk) (before : List CallEvent) (changes : List ContentChange) (pair : Pair) (disk : Disk) (history : List CallEvent) (fresh : ℕ × ℕ) (copy : Pair) : Type 0 where
   pub new : RawContent
-  pub made : changed_pair old (header_address pair) changes ≡ Some new
+  pub made : changed_pair_content old (header_address pair) changes ≡ Some new
   pub holds : HasWrittenContent disk history fresh copy new
   pub fresh_is : HasFreshContent ((pair.revision + 1) % 2 ^ 32) new disk fresh copy
   pub clears : ErasedOneMore 1 before history

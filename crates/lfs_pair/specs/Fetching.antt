@@ -14,7 +14,7 @@ use Rattle.lfs_pair.specs.declared.pair.Pair.{Pair}
 use Rattle.lfs_pair.specs.Pair.{fetch_reads}
 
 -- what was read of a block is the end, the last tag and the revision of its log
-pub record IsCandidateOf (block : List ℕ) (head : ActiveBlockCandidate) : Type 0 where
+pub record CandidateDescribesLog (block : List ℕ) (head : ActiveBlockCandidate) : Type 0 where
   pub end : head.end ≡ (chain_of block).end
   pub last : head.last ≡ (chain_of block).last
   pub revision : head.revision ≡ block_revision block

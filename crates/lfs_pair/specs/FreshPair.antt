@@ -7,22 +7,22 @@ use Rattle.lfs_model.specs.format.Disk.{Disk, disk_block}
 use Rattle.lfs_model.specs.session.History.{DeviceCall, Read, Program, Erase, Blank, AllCallsSince, CallEvent, erase_count, program_count}
 use Rattle.lfs_model.specs.layers.LoggedContent.{AreNamed, IsWellFormed}
 use Rattle.lfs_model.specs.format.Content.{RawContent, has_commit, empty_raw_content}
-use Rattle.lfs_model.specs.layers.Changes.{PairChange, changed_content_of}
+use Rattle.lfs_model.specs.layers.Changes.{ContentChange, content_with_changes}
 use Rattle.lfs_model.specs.layers.WrittenContent.{RawContentFits}
 use Rattle.lfs_pair.specs.declared.pair.Pair.{Pair}
 use Rattle.lfs_pair.specs.Writing.{HasOneCommit}
 use Rattle.lfs_pair.specs.Commits.{IsPairAddress, HasWrittenContent}
 
 -- the premises: two blocks of the disk, and changes whose content fits a pair
-pub record CanWriteFresh (disk : Disk) (at : ℕ × ℕ) (changes : List PairChange) : Type 0 where
+pub record CanMakeFresh (disk : Disk) (at : ℕ × ℕ) (changes : List ContentChange) : Type 0 where
   pub address : IsPairAddress disk at
   pub new : RawContent
-  pub changed : changed_content_of empty_raw_content changes ≡ Some new
+  pub changed : content_with_changes empty_raw_content changes ≡ Some new
   pub names : AreNamed new.slots
   pub fits : RawContentFits disk.block_size disk.page new
 
 -- The premises for a content: two blocks of the disk, a content that can be written anew, and a buffer as long as a block.
-pub record CanWriteFreshContent (disk : Disk) (at : ℕ × ℕ) (c : RawContent) (len : ℕ) : Type 0 where
+pub record CanWriteFreshPair (disk : Disk) (at : ℕ × ℕ) (c : RawContent) (len : ℕ) : Type 0 where
   pub address : IsPairAddress disk at
   pub buf : len ≡ disk.block_size
   pub logged : IsWellFormed c
@@ -55,9 +55,9 @@ pub record HasFreshContent (revision : ℕ) (c : RawContent) (disk : Disk) (at :
   pub cleared : has_commit (disk_block disk at.1) ≡ false
 
 -- the pair's first block has what the changes make of an empty log
-pub record IsFreshPair (before : List CallEvent) (changes : List PairChange) (disk : Disk) (history : List CallEvent) (at : ℕ × ℕ) (pair : Pair) : Type 0 where
+pub record IsFreshPair (before : List CallEvent) (changes : List ContentChange) (disk : Disk) (history : List CallEvent) (at : ℕ × ℕ) (pair : Pair) : Type 0 where
   pub new : RawContent
-  pub made : changed_content_of empty_raw_content changes ≡ Some new
+  pub made : content_with_changes empty_raw_content changes ≡ Some new
   pub holds : HasWrittenContent disk history at pair new
   pub fresh : HasFreshContent 1 new disk at pair
   pub clears : ErasedOneMore 1 before history

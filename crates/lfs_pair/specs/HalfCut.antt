@@ -3,7 +3,7 @@ use Rattle.std.specs.Prelude.{ℕ, ◌*◌, ◌<◌, ◌≤◌, List, take, sum_
 use Rattle.lfs_model.specs.format.Content.{RawSlot}
 use Rattle.lfs_model.specs.layers.WrittenContent.{slot_size_raw}
 use Rattle.lfs_model.specs.layers.Cut.{IsFittingSplit}
-pub use Rattle.lfs_model.specs.layers.Cut.{SlotsFitPair, IsFittingSplit, CanSplit}
+pub use Rattle.lfs_model.specs.layers.Cut.{SlotsFitPair, IsFittingSplit, AreSplittable}
 
 -- The cut is the last possible one with at most half of the bytes before it. Where no possible cut is such, it is the first
 -- possible one.

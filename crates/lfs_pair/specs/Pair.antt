@@ -4,7 +4,7 @@ use Rattle.std.specs.Option.{option_map}
 use Rattle.lfs_model.specs.format.Disk.{Disk, disk_block}
 use Rattle.lfs_model.specs.session.History.{CallEvent, AreUnprogrammed}
 use Rattle.lfs_model.specs.format.Log.{chain_of, block_revision, block_entries}
-use Rattle.lfs_model.specs.format.Slots.{array_address}
+use Rattle.lfs_model.specs.format.Slots.{address_view}
 use Rattle.lfs_model.specs.format.Content.{RawContent, has_commit, current_block, is_later, content_after, empty_raw_content, raw_content, complete_content}
 use Rattle.lfs_model.specs.layers.LoggedContent.{IsWellFormed}
 use Rattle.lfs_tag.specs.ContentView.{tail_view}
@@ -13,7 +13,7 @@ use Rattle.lfs_pair.specs.declared.pair.Pair.{Pair}
 
 -- the address of a header's pair
 abbrev pub header_address : Pair → ℕ × ℕ
-header_address pair = array_address pair.blocks
+header_address pair = address_view pair.blocks
 
 -- two different blocks of a device with so many
 pub record AreTwoBlocks (count : ℕ) (at : ℕ × ℕ) : Type 0 where
@@ -22,11 +22,11 @@ pub record AreTwoBlocks (count : ℕ) (at : ℕ × ℕ) : Type 0 where
   pub second : at.1 < count
 
 -- the block of a pair that isn't active
-abbrev pub inactive_of : ℕ × ℕ → ℕ → ℕ
-inactive_of at active = if active == at.0 then at.1 else at.0
+abbrev pub opposite_block : ℕ × ℕ → ℕ → ℕ
+opposite_block at active = if active == at.0 then at.1 else at.0
 
 abbrev pub header_inactive_block : Pair → ℕ
-header_inactive_block pair = inactive_of (header_address pair) pair.active
+header_inactive_block pair = opposite_block (header_address pair) pair.active
 
 -- The header counts the content's slots, says whether each is complete, and has the content's tail and its delta of the global
 -- state.

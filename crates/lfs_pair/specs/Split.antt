@@ -1,19 +1,19 @@
 -- What a split does to a pair.
 use Rattle.std.specs.Prelude.{ℕ, ◌≡◌, ◌≢◌, ◌⊎◌, ◌+◌, ◌<◌, ◌%◌, ◌^◌, true, List, length, take, drop, Some, [], ◌∷◌}
-use Rattle.lfs_model.specs.format.Blocks.{Blocks, SameExceptThese, block_bytes}
+use Rattle.lfs_model.specs.format.Blocks.{Blocks, SameExceptBlocks, block_bytes}
 use Rattle.lfs_model.specs.format.Disk.{Disk, disk_block}
 use Rattle.lfs_model.specs.session.History.{CallEvent, StayUnprogrammed}
 use Rattle.lfs_model.specs.format.Slots.{zero_gstate}
 use Rattle.lfs_model.specs.format.Content.{RawContent, raw_content}
 use Rattle.lfs_model.specs.layers.LoggedContent.{IsWellFormed}
-use Rattle.lfs_model.specs.layers.Changes.{PairChange}
+use Rattle.lfs_model.specs.layers.Changes.{ContentChange}
 use Rattle.lfs_model.specs.layers.WrittenContent.{RawContentFits}
 use Rattle.lfs_pair.specs.FreshPair.{ErasedOneMore, HasFreshContent}
 use Rattle.lfs_pair.specs.declared.pair.Pair.{Pair}
 use Rattle.lfs_pair.specs.Pair.{header_address}
-use Rattle.lfs_pair.specs.Commits.{IsPairAddress, CanCommit, HasNewContent, HasOldContent, KeepsFirstEntry, HasWrittenContent, changed_pair}
+use Rattle.lfs_pair.specs.Commits.{IsPairAddress, CanCommit, HasNewContent, HasOldContent, KeepsFirstEntry, HasWrittenContent, changed_pair_content}
 use Rattle.lfs_pair.specs.Writing.{HasOneCommit}
-use Rattle.lfs_pair.specs.HalfCut.{CanSplit, IsFittingSplit}
+use Rattle.lfs_pair.specs.HalfCut.{AreSplittable, IsFittingSplit}
 use Rattle.lfs_model.specs.format.Thread.{addresses_blocks}
 
 -- two pairs have no block in common
@@ -25,14 +25,14 @@ pub record AreApart (at fresh : ℕ × ℕ) : Type 0 where
 
 -- The premises of a split: those of a commit, two blocks of the disk that aren't the pair's, and a content that can be cut into
 -- two parts that fit a pair each.
-pub record CanSplitPair (disk : Disk) (history : List CallEvent) (pair : Pair) (fresh : ℕ × ℕ) (changes : List PairChange) : Type 0 where
+pub record CanSplitPair (disk : Disk) (history : List CallEvent) (pair : Pair) (fresh : ℕ × ℕ) (changes : List ContentChange) : Type 0 where
   pub commit : CanCommit disk history pair changes
   pub fresh_is : IsPairAddress disk fresh
   pub apart : AreApart (header_address pair) fresh
-  pub cut : CanSplit disk.block_size disk.page commit.new.slots
+  pub cut : AreSplittable disk.block_size disk.page commit.new.slots
 
 -- The premises of a split of a pair whose active block has these bytes.
-pub record CanSplitFromBytes (disk : Disk) (history : List CallEvent) (pair : Pair) (fresh : ℕ × ℕ) (changes : List PairChange) (bytes : List ℕ) : Type 0 where
+pub record CanSplitWithBlock (disk : Disk) (history : List CallEvent) (pair : Pair) (fresh : ℕ × ℕ) (changes : List ContentChange) (bytes : List ℕ) : Type 0 where
   pub can : CanSplitPair disk history pair fresh changes
   pub block : bytes ≡ block_bytes disk.blocks pair.active
 
@@ -56,9 +56,9 @@ pub record IsContentCut (block_size page : ℕ) (whole : RawContent) (fresh : �
   pub back_is : back ≡ split_back whole cut
 
 -- A split that is done: each pair has its part of what the changes make, and each part fits.
-pub record SplitsPair (old : Disk) (before : List CallEvent) (changes : List PairChange) (was : Pair) (fresh : ℕ × ℕ) (disk : Disk) (history : List CallEvent) (pair fresh_pair : Pair) : Type 0 where
+pub record SplitsPair (old : Disk) (before : List CallEvent) (changes : List ContentChange) (was : Pair) (fresh : ℕ × ℕ) (disk : Disk) (history : List CallEvent) (pair fresh_pair : Pair) : Type 0 where
   pub new : RawContent
-  pub made : changed_pair old (header_address was) changes ≡ Some new
+  pub made : changed_pair_content old (header_address was) changes ≡ Some new
   pub logged : IsWellFormed new
   pub cut : ℕ
   pub is_cut : IsFittingSplit old.block_size old.page new.slots cut
@@ -75,9 +75,9 @@ pub record SplitsPair (old : Disk) (before : List CallEvent) (changes : List Pai
   pub clears : ErasedOneMore 2 before history
 
 -- each pair on the disk has its part
-pub record PairsHaveParts (old : Disk) (at fresh : ℕ × ℕ) (changes : List PairChange) (disk : Disk) : Type 0 where
+pub record PairsHaveParts (old : Disk) (at fresh : ℕ × ℕ) (changes : List ContentChange) (disk : Disk) : Type 0 where
   pub new : RawContent
-  pub made : changed_pair old at changes ≡ Some new
+  pub made : changed_pair_content old at changes ≡ Some new
   pub logged : IsWellFormed new
   pub cut : ℕ
   pub is_cut : IsFittingSplit old.block_size old.page new.slots cut
@@ -87,13 +87,13 @@ pub record PairsHaveParts (old : Disk) (at fresh : ℕ × ℕ) (changes : List P
 
 -- no block changes but those of the two pairs
 abbrev pub KeepsOutsideBoth : ℕ × ℕ → ℕ × ℕ → Blocks → Blocks → Type 0
-KeepsOutsideBoth at fresh old new = SameExceptThese (addresses_blocks at fresh) old new
+KeepsOutsideBoth at fresh old new = SameExceptBlocks (addresses_blocks at fresh) old new
 
 -- bytes of other blocks that were unprogrammed still are
 abbrev pub OutsideBothStaysUnprogrammed : ℕ × ℕ → ℕ × ℕ → List CallEvent → List CallEvent → Type 0
 OutsideBothStaysUnprogrammed at fresh old new = StayUnprogrammed (addresses_blocks at fresh) old new
 
 -- What a stop leaves of a split: the old pair with its old content, or both pairs with their parts.
-pub record LossLeavesSplit (old : Disk) (at fresh : ℕ × ℕ) (changes : List PairChange) (left : Blocks) : Type 0 where
+pub record LossLeavesSplit (old : Disk) (at fresh : ℕ × ℕ) (changes : List ContentChange) (left : Blocks) : Type 0 where
   pub others : KeepsOutsideBoth at fresh old.blocks left
   pub content : HasOldContent old at (record old { blocks = left }) ⊎ PairsHaveParts old at fresh changes (record old { blocks = left })

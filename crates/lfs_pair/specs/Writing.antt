@@ -8,17 +8,17 @@ use Rattle.lfs_device.specs.DeviceCalls.{ChangesOneBlock, ChangesTheseBlocks, Re
 use Rattle.lfs_model.specs.format.Blocks.{Blocks, block_bytes, SameExcept}
 use Rattle.lfs_model.specs.format.Disk.{Disk, disk_block}
 use Rattle.lfs_model.specs.session.History.{AreUnprogrammed, Blank, CallEvent, call_event, blank_count, erase_count, program_count, read_count}
-use Rattle.lfs_model.specs.format.Tag.{abstract_type}
+use Rattle.lfs_model.specs.format.Tag.{tag_class}
 use Rattle.lfs_model.specs.format.Log.{LogEntry, chain_of, block_revision, block_entries}
 use Rattle.lfs_model.specs.format.Content.{RawContent, has_commit, content_after, empty_raw_content}
 use Rattle.lfs_model.specs.layers.WrittenContent.{RawContentFits, content_entries}
 use Rattle.lfs_model.specs.layers.LoggedContent.{AreNamed, IsWellFormed}
 use Rattle.lfs_model.specs.crash.Stops.{SameLog, HasNoLog}
-use Rattle.lfs_tag.specs.Builder.{IsCommitOffset, PartialCommit, earlier_commits, padded_end_of}
+use Rattle.lfs_tag.specs.Builder.{IsCommitOffset, PartialCommit, earlier_commits, padded_commit_end}
 
 -- a commit that is built, with more entries
-abbrev pub commit_with_more : List LogEntry → PartialCommit → PartialCommit
-commit_with_more es b = record b { entries = b.entries ++ es }
+abbrev pub commit_with_entries : List LogEntry → PartialCommit → PartialCommit
+commit_with_entries es b = record b { entries = b.entries ++ es }
 
 -- A built commit can be programmed at an offset of a block: it has room there, it goes on the block's log, and the block is
 -- unprogrammed from there on.
@@ -26,8 +26,8 @@ pub record CanProgramCommit (geometry : Geometry) (blocks : Blocks) (history : L
   pub in_device : b < geometry.block_count
   pub begins : at % geometry.page ≡ 0
   pub page : builder.page ≡ geometry.page
-  pub room : padded_end_of builder ≤ builder.room
-  pub ends : at + padded_end_of builder ≤ geometry.block_size
+  pub room : padded_commit_end builder ≤ builder.room
+  pub ends : at + padded_commit_end builder ≤ geometry.block_size
   pub goes : IsCommitOffset builder.revision builder.previous (block_bytes blocks b) at
   pub unprogrammed : AreUnprogrammed history b at geometry.block_size
 
@@ -49,14 +49,14 @@ pub record EndsBeforeUnprogrammed (disk : Disk) (history : List CallEvent) (bloc
 -- a block's new log has the commits from before, and then this one
 pub record LogGetsCommit (b : PartialCommit) (old new : List ℕ) : Type 0 where
   pub checksum : LogEntry
-  pub class : abstract_type checksum.tag ≡ 5
+  pub class : tag_class checksum.tag ≡ 5
   pub commits : (chain_of new).commits ≡ earlier_commits b.revision old ++ (b.entries ++ checksum ∷ []) ∷ []
   pub revision : block_revision new ≡ unwrap_or b.revision (block_revision old)
 
 -- A block gets a commit at an offset, which ends at `end`. It keeps its bytes before the offset.
 pub record BlockGetsCommit (b : PartialCommit) (at end : ℕ) (old new : List ℕ) : Type 0 where
   pub commit : LogGetsCommit b old new
-  pub end_is : end ≡ at + padded_end_of b
+  pub end_is : end ≡ at + padded_commit_end b
   pub kept : take at new ≡ take at old
 
 -- What a stop leaves of a commit that is programmed at an offset: the log from before, or the one with the commit. At the block's
@@ -70,7 +70,7 @@ pub record HasOneCommit (revision : ℕ) (c : RawContent) (block : List ℕ) : T
   pub revision_is : block_revision block ≡ revision
   pub content : content_after empty_raw_content (block_entries block) ≡ Some c
   pub checksum : LogEntry
-  pub class : abstract_type checksum.tag ≡ 5
+  pub class : tag_class checksum.tag ≡ 5
   pub commits : (chain_of block).commits ≡ (content_entries c ++ checksum ∷ []) ∷ []
 
 -- one word of the device that bytes are blank, or a question that failed

@@ -3,9 +3,9 @@
 ghost use Rattle.std.specs.Prelude.{◌≡◌, ◌<◌, ◌≤◌, ◌^◌, ◌++◌, true, [], ◌∷◌, length, Some};
 ghost use Rattle.std.specs.List.{list_all};
 ghost use Rattle.std.specs.Option.{option_map};
-ghost use Rattle.lfs_model.specs.format.Slots.{array_address};
-ghost use Rattle.lfs_model.specs.format.Content.{content_after_one, content_after};
-ghost use Rattle.lfs_model.specs.format.EntryTypes.{tail_to_pair as tail_with_pair};
+ghost use Rattle.lfs_model.specs.format.Slots.{address_view};
+ghost use Rattle.lfs_model.specs.format.Content.{content_after_entry, content_after};
+ghost use Rattle.lfs_model.specs.format.EntryTypes.{tail_if_any as tail_with_pair};
 ghost use Rattle.lfs_model.specs.layers.WrittenContent.{log_entry, tail_or_null};
 ghost use Rattle.lfs_model.specs.layers.Changes.{change_entries, entries_of_changes, is_storable, RemoveAttribute};
 ghost use Rattle.lfs_tag.specs.ContentView.{content_view, tail_view};
@@ -37,7 +37,7 @@ pub enum Change<'a> {
 }
 
 // Adds an entry with these fields to the content.
-fn apply_entry_of<'a>(
+fn apply_entry_fields<'a>(
     alloc: Global,
     content: &mut Content<'a>,
     kind: u16,
@@ -47,7 +47,7 @@ fn apply_entry_of<'a>(
     requires kind { kind < 2 ^ 11 }
     requires id { id < 2 ^ 10 }
     requires bytes { length bytes.now ≤ 1022 }
-    ensures { GivesWithMemory (λ _. content_view content.new) result (content_after_one (content_view content.old) (log_entry kind id bytes.now)) }
+    ensures { GivesWithMemory (λ _. content_view content.new) result (content_after_entry (content_view content.old) (log_entry kind id bytes.now)) }
 {
     let tag = Tag::new(kind, id, bytes.len() as u16);
     content.apply_next_entry(alloc, &Entry { tag, bytes })?;
@@ -71,7 +71,7 @@ fn apply_attribute_removal(
 
 // Returns the tail that a change sets. Two null addresses are no tail.
 fn tail_unless_null(hard: bool, pair: Option<[u32; 2]>) -> Option<Tail>
-    ensures { option_map tail_view result ≡ tail_with_pair hard (tail_or_null (option_map array_address pair)) }
+    ensures { option_map tail_view result ≡ tail_with_pair hard (tail_or_null (option_map address_view pair)) }
 {
     match pair {
         None => None,
@@ -96,20 +96,20 @@ pub(crate) fn apply_change<'a>(
 {
     match *change {
         Change::Create { id, kind, name } => {
-            apply_entry_of(alloc, content, CREATE, id, &[])?;
-            apply_entry_of(alloc, content, kind, id, name)?;
+            apply_entry_fields(alloc, content, CREATE, id, &[])?;
+            apply_entry_fields(alloc, content, kind, id, name)?;
             Ok(())
         }
         Change::Delete { id } => {
-            apply_entry_of(alloc, content, DELETE, id, &[])?;
+            apply_entry_fields(alloc, content, DELETE, id, &[])?;
             Ok(())
         }
         Change::Struct { id, kind, bytes } => {
-            apply_entry_of(alloc, content, kind, id, bytes)?;
+            apply_entry_fields(alloc, content, kind, id, bytes)?;
             Ok(())
         }
         Change::Attr { id, attr, bytes } => {
-            apply_entry_of(alloc, content, ATTRIBUTE + u16::from(attr), id, bytes)?;
+            apply_entry_fields(alloc, content, ATTRIBUTE + u16::from(attr), id, bytes)?;
             Ok(())
         }
         Change::NoAttr { id, attr } => {

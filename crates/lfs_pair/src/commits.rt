@@ -9,8 +9,8 @@ ghost use Rattle.lfs_tag.specs.ContentView.{content_view};
 ghost use Rattle.lfs_model.specs.format.Content.{RawContent};
 ghost use Rattle.lfs_pair.specs.Pair.{IsTrueHeader, header_address};
 ghost use Rattle.lfs_pair.specs.ChangeView.{changes_view};
-ghost use Rattle.lfs_pair.specs.Commits.{IsPairAddress, CanAppendContent, CanCommit, CanCommitFromBytes, CanCompact, CompactsTo, CommitFails, IsEndBlank, LossLeavesChanged, LossLeavesNew};
-ghost use Rattle.lfs_pair.specs.Endings.{AppendEnds, CommitEnds};
+ghost use Rattle.lfs_pair.specs.Commits.{IsPairAddress, CanAppendChanges, CanCommit, CanCommitWithBlock, CanCompact, CompactsContent, CommitFails, IsEndBlank, LossLeavesChanged, LossLeavesNew};
+ghost use Rattle.lfs_pair.specs.Endings.{AppendReturns, CommitReturns};
 ghost use Rattle.lfs_pair.specs.Writing.{OnlyAsksBlank, ChangesReadingFew, WritesTheseBlocks};
 ghost use Rattle.lfs_model.specs.format.Thread.{address_blocks};
 
@@ -62,7 +62,7 @@ pub fn commit<D: BlockDevice>(
 ) -> Result<Outcome, Error>
     requires { CanCommit (disk_of_blocks (D.geometry dev.old) (D.blocks dev.old)) (D.history dev.old) pair.old (changes_view changes.now) }
 
-    ensures ends { CommitEnds D.BlockDevice (changes_view changes.now) dev.old dev.new pair.old pair.new result }
+    ensures ends { CommitReturns D.BlockDevice (changes_view changes.now) dev.old dev.new pair.old pair.new result }
     ensures error { IfErr result (λ e. CommitFails D.BlockDevice dev.old dev.new pair.old pair.new e) }
     ensures device { ChangesReadingFew D.BlockDevice 2 (address_blocks (header_address pair.old)) dev.old dev.new }
     ensures faults { ReportsFaults D.BlockDevice dev.old dev.new result }
@@ -70,7 +70,7 @@ pub fn commit<D: BlockDevice>(
         → HoldsAtLosses LeftByLoss (D.history dev.old) (D.history dev.new) (LossLeavesChanged (disk_of_blocks (D.geometry dev.old) (D.blocks dev.old)) (header_address pair.old) (changes_view changes.now)) }
 {
     let block = read_block(alloc, dev, pair.active)?;
-    let outcome = commit_from_bytes(alloc, dev, pair, &block, changes)?;
+    let outcome = commit_with_block(alloc, dev, pair, &block, changes)?;
     Ok(outcome)
 }
 
@@ -79,16 +79,16 @@ pub fn commit<D: BlockDevice>(
 ///
 /// The caller's conditions are those of [`commit`], and that the active block has the bytes of
 /// `block`. Errors are those of [`commit`], but memory is wanted for one block and the slots.
-pub fn commit_from_bytes<'a, 'b: 'a, D: BlockDevice>(
+pub fn commit_with_block<'a, 'b: 'a, D: BlockDevice>(
     alloc: Global,
     dev: &mut D,
     pair: &mut Pair,
     block: &'a [u8],
     changes: &[Change<'b>],
 ) -> Result<Outcome, Error>
-    requires { CanCommitFromBytes (disk_of_blocks (D.geometry dev.old) (D.blocks dev.old)) (D.history dev.old) pair.old (changes_view changes.now) block.now }
+    requires { CanCommitWithBlock (disk_of_blocks (D.geometry dev.old) (D.blocks dev.old)) (D.history dev.old) pair.old (changes_view changes.now) block.now }
 
-    ensures ends { CommitEnds D.BlockDevice (changes_view changes.now) dev.old dev.new pair.old pair.new result }
+    ensures ends { CommitReturns D.BlockDevice (changes_view changes.now) dev.old dev.new pair.old pair.new result }
     ensures error { IfErr result (λ e. CommitFails D.BlockDevice dev.old dev.new pair.old pair.new e) }
     ensures device { ChangesReadingFew D.BlockDevice 1 (address_blocks (header_address pair.old)) dev.old dev.new }
     ensures faults { ReportsFaults D.BlockDevice dev.old dev.new result }
@@ -140,9 +140,9 @@ fn append_changes<D: BlockDevice>(
     content: &Content<'_>,
     buf: &mut [u8],
 ) -> Result<bool, Error>
-    requires { CanAppendContent (disk_of_blocks (D.geometry dev.old) (D.blocks dev.old)) (D.history dev.old) pair.old (changes_view changes.now) (content_view content.now) (length buf.old) }
+    requires { CanAppendChanges (disk_of_blocks (D.geometry dev.old) (D.blocks dev.old)) (D.history dev.old) pair.old (changes_view changes.now) (content_view content.now) (length buf.old) }
 
-    ensures ends { AppendEnds D.BlockDevice (changes_view changes.now) (content_view content.now) dev.old dev.new pair.old pair.new result }
+    ensures ends { AppendReturns D.BlockDevice (changes_view changes.now) (content_view content.now) dev.old dev.new pair.old pair.new result }
     ensures buf { length buf.new ≡ length buf.old }
     ensures err_pair { OnErr result (pair.new ≡ pair.old) }
     ensures writes { WritesTheseBlocks D.BlockDevice 1 (address_blocks (header_address pair.old)) dev.old dev.new result }
@@ -174,7 +174,7 @@ pub(crate) fn compact<D: BlockDevice>(
     requires { CanCompact (disk_of_blocks (D.geometry dev.old) (D.blocks dev.old)) pair.old (content_view content.now) (length buf.old) }
 
     ensures buf { length buf.new ≡ length buf.old }
-    ensures done { OnOk result (CompactsTo (disk_of_blocks (D.geometry dev.old) (D.blocks dev.old)) (D.history dev.old) pair.old (content_view content.now)
+    ensures done { OnOk result (CompactsContent (disk_of_blocks (D.geometry dev.old) (D.blocks dev.old)) (D.history dev.old) pair.old (content_view content.now)
         (disk_of_blocks (D.geometry dev.new) (D.blocks dev.new)) (D.history dev.new) pair.new) }
     ensures err_pair { OnErr result (pair.new ≡ pair.old) }
     ensures writes { WritesTheseBlocks D.BlockDevice 1 (address_blocks (header_address pair.old)) dev.old dev.new result }

@@ -6,7 +6,7 @@ ghost use Rattle.lfs_model.specs.format.Log.{chain_of};
 ghost use Rattle.lfs_model.specs.layers.LoggedContent.{IsWellFormed};
 ghost use Rattle.lfs_tag.specs.ContentView.{content_view};
 ghost use Rattle.lfs_pair.specs.ChangeView.{changes_view};
-ghost use Rattle.lfs_pair.specs.Commits.{changed_if_any, changed_log};
+ghost use Rattle.lfs_pair.specs.Commits.{content_after_changes, changed_log_content};
 ghost use Rattle.lfs_pair.specs.Pair.{HeaderHasEnd};
 
 use crate::change::{Change, apply_all_changes};
@@ -31,8 +31,8 @@ pub(crate) fn content_from_empty<'a>(
     alloc: Global,
     changes: &[Change<'a>],
 ) -> Result<Content<'a>, Error>
-    requires { is_some (changed_if_any (Some empty_raw_content) (changes_view changes.now)) ≡ true }
-    ensures content { IfOk result (λ c. changed_if_any (Some empty_raw_content) (changes_view changes.now) ≡ Some (content_view c)) }
+    requires { is_some (content_after_changes (Some empty_raw_content) (changes_view changes.now)) ≡ true }
+    ensures content { IfOk result (λ c. content_after_changes (Some empty_raw_content) (changes_view changes.now) ≡ Some (content_view c)) }
     ensures logged { IfOk result (λ c. IsWellFormed (content_view c)) }
     ensures errors { IfErr result (λ e. e ≡ Error.NoMemory) }
 {
@@ -52,9 +52,9 @@ pub(crate) fn changed_content<'a, 'b: 'a>(
     block: &'a [u8],
     changes: &[Change<'b>],
 ) -> Result<Content<'a>, Error>
-    requires made { is_some (changed_log block.now (changes_view changes.now)) ≡ true }
+    requires made { is_some (changed_log_content block.now (changes_view changes.now)) ≡ true }
     requires ends { HeaderHasEnd (chain_of block.now).end (chain_of block.now).last pair.now }
-    ensures content { IfOk result (λ c. changed_log block.now (changes_view changes.now) ≡ Some (content_view c)) }
+    ensures content { IfOk result (λ c. changed_log_content block.now (changes_view changes.now) ≡ Some (content_view c)) }
     ensures logged { IfOk result (λ c. IsWellFormed (content_view c)) }
     ensures errors { IfErr result (λ e. e ≡ Error.NoMemory) }
 {

@@ -2,7 +2,7 @@
 
 ghost use Rattle.std.specs.Prelude.{map};
 ghost use Rattle.lfs_tag.specs.ContentView.{slot_view};
-ghost use Rattle.lfs_pair.specs.HalfCut.{CanSplit, IsHalfCut};
+ghost use Rattle.lfs_pair.specs.HalfCut.{AreSplittable, IsHalfCut};
 
 use crate::size::{fits_pair, slot_size, slots_size};
 use lfs_device::Geometry;
@@ -12,7 +12,7 @@ use lfs_tag::Slot;
 // bytes before it. So what is written later finds room in both parts. Where no cut is such, it is
 // the first that is possible.
 pub(crate) fn middle_cut(slots: &[Slot<'_>], geometry: Geometry) -> usize
-    requires { CanSplit geometry.block_size geometry.page (map slot_view slots.now) }
+    requires { AreSplittable geometry.block_size geometry.page (map slot_view slots.now) }
     ensures { IsHalfCut geometry.block_size geometry.page (map slot_view slots.now) result }
 {
     let total = slots_size(slots);

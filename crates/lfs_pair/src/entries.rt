@@ -3,14 +3,14 @@
 ghost use Rattle.std.specs.Prelude.{◌≡◌, ◌≢◌, ◌+◌, ◌/◌, ◌<◌, ◌≤◌, ◌^◌, true, [], ◌∷◌, length, map};
 ghost use Rattle.std.specs.List.{list_all};
 ghost use Rattle.std.specs.Option.{option_map};
-ghost use Rattle.lfs_model.specs.format.Slots.{array_address};
-ghost use Rattle.lfs_model.specs.layers.LoggedContent.{AttributesInOrder, IsFormedSlot, AreWellFormed, IsWellFormed, MoveStateFits, AllowsIfSome};
+ghost use Rattle.lfs_model.specs.format.Slots.{address_view};
+ghost use Rattle.lfs_model.specs.layers.LoggedContent.{AttributesInOrder, IsFormedSlot, AreWellFormed, IsWellFormed, MoveStateFits, AllowedIfAny};
 ghost use Rattle.lfs_model.specs.layers.WrittenContent.{part_entries, attribute_entries, slot_entries, entries_of_slots, tail_entries, tail_entry, move_entry, move_state_entries, content_entries, log_entry};
 ghost use Rattle.lfs_model.specs.layers.Changes.{change_entries, entries_of_changes, is_storable, RemoveAttribute};
 ghost use Rattle.lfs_tag.specs.ContentView.{part_view, attribute_view, slot_view, tail_view, content_view};
 ghost use Rattle.lfs_tag.specs.FieldsView.{move_view};
 ghost use Rattle.lfs_pair.specs.ChangeView.{change_view, changes_view};
-ghost use Rattle.lfs_pair.specs.Writing.{commit_with_more};
+ghost use Rattle.lfs_pair.specs.Writing.{commit_with_entries};
 
 use crate::change::Change;
 use lfs_tag::kinds::{ATTRIBUTE, CREATE, DELETE, HARD_TAIL, MOVE_STATE, SOFT_TAIL};
@@ -25,7 +25,7 @@ fn push_log_entry(builder: &mut CommitBuilder<'_>, kind: u16, id: u16, bytes: &[
     requires other { kind / 2 ^ 8 ≢ 5 }
     requires id { id < 2 ^ 10 }
     requires bytes { length bytes.now ≤ 1022 }
-    ensures { builder.new ≡ commit_with_more (log_entry kind id bytes.now ∷ []) builder.old }
+    ensures { builder.new ≡ commit_with_entries (log_entry kind id bytes.now ∷ []) builder.old }
 {
     builder.push(Tag::new(kind, id, bytes.len() as u16), bytes);
 }
@@ -33,14 +33,14 @@ fn push_log_entry(builder: &mut CommitBuilder<'_>, kind: u16, id: u16, bytes: &[
 // Adds an entry that removes an attribute.
 fn push_attribute_removal(builder: &mut CommitBuilder<'_>, id: u16, attr: u8)
     requires { id < 2 ^ 10 }
-    ensures { builder.new ≡ commit_with_more (change_entries (RemoveAttribute id attr)) builder.old }
+    ensures { builder.new ≡ commit_with_entries (change_entries (RemoveAttribute id attr)) builder.old }
 {
     builder.push(Tag::new(ATTRIBUTE + u16::from(attr), id, Tag::REMOVED), &[]);
 }
 
 // Adds a tail; without a pair it is two null addresses.
 fn push_tail(builder: &mut CommitBuilder<'_>, hard: bool, pair: Option<[u32; 2]>)
-    ensures { builder.new ≡ commit_with_more (tail_entry hard (option_map array_address pair) ∷ []) builder.old }
+    ensures { builder.new ≡ commit_with_entries (tail_entry hard (option_map address_view pair) ∷ []) builder.old }
 {
     let kind = if hard { HARD_TAIL } else { SOFT_TAIL };
     let pair = pair.unwrap_or([NULL_ADDRESS, NULL_ADDRESS]);
@@ -50,7 +50,7 @@ fn push_tail(builder: &mut CommitBuilder<'_>, hard: bool, pair: Option<[u32; 2]>
 // Adds a move state.
 fn push_move(builder: &mut CommitBuilder<'_>, state: &MoveState)
     requires { MoveStateFits (move_view state.now) }
-    ensures { builder.new ≡ commit_with_more (move_entry (move_view state.now) ∷ []) builder.old }
+    ensures { builder.new ≡ commit_with_entries (move_entry (move_view state.now) ∷ []) builder.old }
 {
     push_log_entry(builder, MOVE_STATE, Tag::NO_ID, &move_state_bytes(state));
 }
@@ -60,7 +60,7 @@ fn push_move(builder: &mut CommitBuilder<'_>, state: &MoveState)
 // Adds the entries of a change.
 fn push_change(builder: &mut CommitBuilder<'_>, change: &Change<'_>)
     requires { is_storable (change_view change.now) ≡ true }
-    ensures { builder.new ≡ commit_with_more (change_entries (change_view change.now)) builder.old }
+    ensures { builder.new ≡ commit_with_entries (change_entries (change_view change.now)) builder.old }
 {
     match *change {
         Change::Create { id, kind, name } => {
@@ -81,7 +81,7 @@ fn push_change(builder: &mut CommitBuilder<'_>, change: &Change<'_>)
 // Adds the entries of all changes, in order.
 pub(crate) fn push_changes(builder: &mut CommitBuilder<'_>, changes: &[Change<'_>])
     requires { list_all is_storable (changes_view changes.now) ≡ true }
-    ensures { builder.new ≡ commit_with_more (entries_of_changes (changes_view changes.now)) builder.old }
+    ensures { builder.new ≡ commit_with_entries (entries_of_changes (changes_view changes.now)) builder.old }
 {
     for change in changes {
         push_change(builder, change);
@@ -94,8 +94,8 @@ pub(crate) fn push_changes(builder: &mut CommitBuilder<'_>, changes: &[Change<'_
 fn push_part(builder: &mut CommitBuilder<'_>, id: u16, part: &Option<NameOrStruct<'_>>, class: u16)
     requires id { id < 2 ^ 10 }
     requires class { class < 5 }
-    requires part { AllowsIfSome class (option_map part_view part.now) }
-    ensures { builder.new ≡ commit_with_more (part_entries id (option_map part_view part.now)) builder.old }
+    requires part { AllowedIfAny class (option_map part_view part.now) }
+    ensures { builder.new ≡ commit_with_entries (part_entries id (option_map part_view part.now)) builder.old }
 {
     if let Some(part) = part {
         push_log_entry(builder, part.kind, id, part.bytes);
@@ -106,7 +106,7 @@ fn push_part(builder: &mut CommitBuilder<'_>, id: u16, part: &Option<NameOrStruc
 fn push_attributes(builder: &mut CommitBuilder<'_>, id: u16, attributes: &[Attribute<'_>])
     requires id { id < 2 ^ 10 }
     requires attributes { AttributesInOrder 0 (map attribute_view attributes.now) }
-    ensures { builder.new ≡ commit_with_more (attribute_entries id (map attribute_view attributes.now)) builder.old }
+    ensures { builder.new ≡ commit_with_entries (attribute_entries id (map attribute_view attributes.now)) builder.old }
 {
     for attribute in attributes {
         push_log_entry(
@@ -122,7 +122,7 @@ fn push_attributes(builder: &mut CommitBuilder<'_>, id: u16, attributes: &[Attri
 fn push_slot(builder: &mut CommitBuilder<'_>, id: u16, slot: &Slot<'_>)
     requires id { id < 2 ^ 10 }
     requires parts { IsFormedSlot (slot_view slot.now) }
-    ensures { builder.new ≡ commit_with_more (slot_entries id (slot_view slot.now)) builder.old }
+    ensures { builder.new ≡ commit_with_entries (slot_entries id (slot_view slot.now)) builder.old }
 {
     push_part(builder, id, &slot.name, 0);
     push_part(builder, id, &slot.structure, 2);
@@ -133,7 +133,7 @@ fn push_slot(builder: &mut CommitBuilder<'_>, id: u16, slot: &Slot<'_>)
 fn push_slots(builder: &mut CommitBuilder<'_>, slots: &[Slot<'_>])
     requires few { length slots.now < 0x3ff }
     requires parts { AreWellFormed (map slot_view slots.now) }
-    ensures { builder.new ≡ commit_with_more (entries_of_slots 0 (map slot_view slots.now)) builder.old }
+    ensures { builder.new ≡ commit_with_entries (entries_of_slots 0 (map slot_view slots.now)) builder.old }
 {
     let mut id = 0;
     for slot in slots {
@@ -144,7 +144,7 @@ fn push_slots(builder: &mut CommitBuilder<'_>, slots: &[Slot<'_>])
 
 // Adds a tail, if there is one.
 fn push_optional_tail(builder: &mut CommitBuilder<'_>, tail: &Option<Tail>)
-    ensures { builder.new ≡ commit_with_more (tail_entries (option_map tail_view tail.now)) builder.old }
+    ensures { builder.new ≡ commit_with_entries (tail_entries (option_map tail_view tail.now)) builder.old }
 {
     if let Some(tail) = tail {
         push_tail(builder, tail.hard, Some(tail.pair));
@@ -154,7 +154,7 @@ fn push_optional_tail(builder: &mut CommitBuilder<'_>, tail: &Option<Tail>)
 // Adds a move state, unless it is zero.
 fn push_optional_move(builder: &mut CommitBuilder<'_>, state: &MoveState)
     requires { MoveStateFits (move_view state.now) }
-    ensures { builder.new ≡ commit_with_more (move_state_entries (move_view state.now)) builder.old }
+    ensures { builder.new ≡ commit_with_entries (move_state_entries (move_view state.now)) builder.old }
 {
     if !state.is_none() {
         push_move(builder, state);
@@ -166,7 +166,7 @@ fn push_optional_move(builder: &mut CommitBuilder<'_>, state: &MoveState)
 pub(crate) fn push_content(builder: &mut CommitBuilder<'_>, content: &Content<'_>)
     requires logged { IsWellFormed (content_view content.now) }
     requires few { length (content_view content.now).slots < 0x3ff }
-    ensures { builder.new ≡ commit_with_more (content_entries (content_view content.now)) builder.old }
+    ensures { builder.new ≡ commit_with_entries (content_entries (content_view content.now)) builder.old }
 {
     push_slots(builder, &content.slots);
     push_optional_tail(builder, &content.tail);

@@ -5,11 +5,11 @@ ghost use Rattle.lfs_model.specs.format.Blocks.{block_bytes};
 ghost use Rattle.lfs_device.specs.DeviceDisk.{disk_of_blocks};
 ghost use Rattle.lfs_device.specs.DeviceCalls.{ReadsOnly, ReportsFaults, ReportsOnlyIo};
 ghost use Rattle.lfs_model.specs.session.History.{read_count};
-ghost use Rattle.lfs_model.specs.format.Slots.{array_address};
+ghost use Rattle.lfs_model.specs.format.Slots.{address_view};
 ghost use Rattle.lfs_model.specs.format.Log.{block_revision};
 ghost use Rattle.lfs_model.specs.format.Content.{RawContent};
 ghost use Rattle.lfs_pair.specs.Pair.{AreTwoBlocks, FetchFinds, HeaderDescribesLog, later_block_first};
-ghost use Rattle.lfs_pair.specs.Fetching.{FetchFails, FetchReads, HeaderFails, IsCandidateOf, ReadsTwice};
+ghost use Rattle.lfs_pair.specs.Fetching.{FetchFails, FetchReads, HeaderFails, CandidateDescribesLog, ReadsTwice};
 
 use crate::block_logs::ActiveBlockCandidate;
 use crate::pair::Pair;
@@ -26,7 +26,7 @@ fn fetched_header(
     head: ActiveBlockCandidate,
     bytes: &[u8],
 ) -> Result<Pair, Error>
-    requires { IsCandidateOf bytes.now head }
+    requires { CandidateDescribesLog bytes.now head }
     ensures describes { IfOk result (λ pair. (held : RawContent) × HeaderDescribesLog bytes.now pair held) }
     ensures blocks { IfOk result (λ pair. pair.blocks ≡ blocks) }
     ensures active { IfOk result (λ pair. pair.active ≡ active) }
@@ -65,10 +65,10 @@ fn read_revision<D: BlockDevice>(dev: &mut D, block: u32) -> Result<u32, Error>
 
 // Returns a pair's two blocks, the one with the later revision first. Where neither is later they
 // come as they are named.
-fn later_first<D: BlockDevice>(dev: &mut D, blocks: [u32; 2]) -> Result<[u32; 2], Error>
-    requires first { (array_address blocks).0 < (D.geometry dev.old).block_count }
-    requires second { (array_address blocks).1 < (D.geometry dev.old).block_count }
-    ensures later { IfOk result (λ later. array_address later ≡ later_block_first (disk_of_blocks (D.geometry dev.old) (D.blocks dev.old)) (array_address blocks)) }
+fn later_revision_first<D: BlockDevice>(dev: &mut D, blocks: [u32; 2]) -> Result<[u32; 2], Error>
+    requires first { (address_view blocks).0 < (D.geometry dev.old).block_count }
+    requires second { (address_view blocks).1 < (D.geometry dev.old).block_count }
+    ensures later { IfOk result (λ later. address_view later ≡ later_block_first (disk_of_blocks (D.geometry dev.old) (D.blocks dev.old)) (address_view blocks)) }
     ensures reports { ReportsOnlyIo D.BlockDevice dev.old dev.new result }
     ensures device { ReadsOnly D.BlockDevice dev.old dev.new }
     ensures twice { ReadsTwice (D.history dev.old) (D.history dev.new) result }
@@ -94,13 +94,13 @@ fn later_first<D: BlockDevice>(dev: &mut D, blocks: [u32; 2]) -> Result<[u32; 2]
 /// malformed. `Io` where a read failed. `NoMemory` where memory for the blocks and the slots isn't
 /// granted.
 pub fn fetch<D: BlockDevice>(alloc: Global, dev: &mut D, blocks: [u32; 2]) -> Result<Pair, Error>
-    requires { AreTwoBlocks (D.geometry dev.old).block_count (array_address blocks) }
-    ensures ok { IfOk result (λ pair. FetchFinds (disk_of_blocks (D.geometry dev.old) (D.blocks dev.old)) (D.history dev.new) (array_address blocks) pair) }
-    ensures fails { FetchFails D.BlockDevice (array_address blocks) dev.old dev.new result }
+    requires { AreTwoBlocks (D.geometry dev.old).block_count (address_view blocks) }
+    ensures ok { IfOk result (λ pair. FetchFinds (disk_of_blocks (D.geometry dev.old) (D.blocks dev.old)) (D.history dev.new) (address_view blocks) pair) }
+    ensures fails { FetchFails D.BlockDevice (address_view blocks) dev.old dev.new result }
     ensures device { ReadsOnly D.BlockDevice dev.old dev.new }
-    ensures reads { FetchReads (disk_of_blocks (D.geometry dev.old) (D.blocks dev.old)) (array_address blocks) (D.history dev.old) (D.history dev.new) result }
+    ensures reads { FetchReads (disk_of_blocks (D.geometry dev.old) (D.blocks dev.old)) (address_view blocks) (D.history dev.old) (D.history dev.new) result }
 {
-    let [later, other] = later_first(dev, blocks)?;
+    let [later, other] = later_revision_first(dev, blocks)?;
     let bytes = read_block(alloc, dev, later)?;
     let head = ActiveBlockCandidate::of(&bytes);
     if head.has_commit {

@@ -5,12 +5,12 @@ ghost use Rattle.lfs_device.specs.DeviceDisk.{disk_of_blocks};
 ghost use Rattle.lfs_device.specs.DeviceCalls.{ReportsFaults};
 ghost use Rattle.lfs_model.specs.format.Blocks.{block_bytes};
 ghost use Rattle.lfs_model.specs.format.Content.{has_commit};
-ghost use Rattle.lfs_model.specs.format.Slots.{array_address};
+ghost use Rattle.lfs_model.specs.format.Slots.{address_view};
 ghost use Rattle.lfs_tag.specs.ContentView.{content_view};
 ghost use Rattle.lfs_pair.specs.ChangeView.{changes_view};
 ghost use Rattle.lfs_pair.specs.Commits.{HasWrittenContent};
 ghost use Rattle.lfs_pair.specs.Writing.{ChangesReadingFew, WritesOnlyBlock, WritesTheseBlocks};
-ghost use Rattle.lfs_pair.specs.FreshPair.{CanWriteFresh, CanWriteFreshContent, ErasedOneMore, IsWriteError, HasFreshContent, IsFreshPair};
+ghost use Rattle.lfs_pair.specs.FreshPair.{CanMakeFresh, CanWriteFreshPair, ErasedOneMore, IsWriteError, HasFreshContent, IsFreshPair};
 ghost use Rattle.lfs_model.specs.format.Thread.{address_blocks};
 
 use crate::change::Change;
@@ -54,13 +54,13 @@ pub(crate) fn write_fresh_pair<D: BlockDevice>(
     content: &Content<'_>,
     buf: &mut [u8],
 ) -> Result<Pair, Error>
-    requires { CanWriteFreshContent (disk_of_blocks (D.geometry dev.old) (D.blocks dev.old)) (array_address blocks) (content_view content.now) (length buf.old) }
+    requires { CanWriteFreshPair (disk_of_blocks (D.geometry dev.old) (D.blocks dev.old)) (address_view blocks) (content_view content.now) (length buf.old) }
 
-    ensures holds { IfOk result (λ pair. HasWrittenContent (disk_of_blocks (D.geometry dev.new) (D.blocks dev.new)) (D.history dev.new) (array_address blocks) pair (content_view content.now)) }
-    ensures fresh { IfOk result (λ pair. HasFreshContent revision (content_view content.now) (disk_of_blocks (D.geometry dev.new) (D.blocks dev.new)) (array_address blocks) pair) }
+    ensures holds { IfOk result (λ pair. HasWrittenContent (disk_of_blocks (D.geometry dev.new) (D.blocks dev.new)) (D.history dev.new) (address_view blocks) pair (content_view content.now)) }
+    ensures fresh { IfOk result (λ pair. HasFreshContent revision (content_view content.now) (disk_of_blocks (D.geometry dev.new) (D.blocks dev.new)) (address_view blocks) pair) }
     ensures buf { length buf.new ≡ length buf.old }
     ensures clears { OnOk result (ErasedOneMore 1 (D.history dev.old) (D.history dev.new)) }
-    ensures writes { WritesTheseBlocks D.BlockDevice 2 (address_blocks (array_address blocks)) dev.old dev.new result }
+    ensures writes { WritesTheseBlocks D.BlockDevice 2 (address_blocks (address_view blocks)) dev.old dev.new result }
 {
     let [first, second] = blocks;
     erase_cleanly(dev, second, buf)?;
@@ -89,11 +89,11 @@ impl Pair {
         blocks: [u32; 2],
         changes: &[Change<'_>],
     ) -> Result<Pair, Error>
-        requires { CanWriteFresh (disk_of_blocks (D.geometry dev.old) (D.blocks dev.old)) (array_address blocks) (changes_view changes.now) }
+        requires { CanMakeFresh (disk_of_blocks (D.geometry dev.old) (D.blocks dev.old)) (address_view blocks) (changes_view changes.now) }
 
-        ensures fresh { IfOk result (λ pair. IsFreshPair (D.history dev.old) (changes_view changes.now) (disk_of_blocks (D.geometry dev.new) (D.blocks dev.new)) (D.history dev.new) (array_address blocks) pair) }
+        ensures fresh { IfOk result (λ pair. IsFreshPair (D.history dev.old) (changes_view changes.now) (disk_of_blocks (D.geometry dev.new) (D.blocks dev.new)) (D.history dev.new) (address_view blocks) pair) }
         ensures error { IfErr result (λ e. IsWriteError dev.old dev.new e) }
-        ensures device { ChangesReadingFew D.BlockDevice 2 (address_blocks (array_address blocks)) dev.old dev.new }
+        ensures device { ChangesReadingFew D.BlockDevice 2 (address_blocks (address_view blocks)) dev.old dev.new }
         ensures faults { ReportsFaults D.BlockDevice dev.old dev.new result }
     {
         let content = content_from_empty(alloc, changes)?;

@@ -17,9 +17,9 @@ mod size;
 mod splits;
 
 pub use change::{Change, apply_all_changes};
-pub use commits::{Outcome, commit, commit_from_bytes};
+pub use commits::{Outcome, commit, commit_with_block};
 pub use copies::copy;
 pub use fetches::fetch;
 pub use pair::{Pair, is_same_pair};
 pub use size::{attributes_size, content_fits};
-pub use splits::{split, split_from_bytes};
+pub use splits::{split, split_with_block};

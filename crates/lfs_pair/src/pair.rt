@@ -2,7 +2,7 @@
 
 ghost use Rattle.std.specs.Prelude.{◌≡◌, false, is_some, map};
 ghost use Rattle.lfs_model.specs.format.Content.{complete_slots};
-ghost use Rattle.lfs_model.specs.format.Slots.{array_address, same_pair};
+ghost use Rattle.lfs_model.specs.format.Slots.{address_view, same_pair};
 ghost use Rattle.lfs_tag.specs.ContentView.{content_view, slot_view};
 ghost use Rattle.lfs_pair.specs.Pair.{HeaderHasEnd, IsContentHeader, header_inactive_block};
 
@@ -24,7 +24,7 @@ pub(crate) fn are_slots_complete(slots: &[Slot<'_>]) -> bool
 /// Returns whether two addresses name the same pair. The two blocks of an address may come in
 /// either order.
 pub fn is_same_pair(a: [u32; 2], b: [u32; 2]) -> bool
-    ensures { result ≡ same_pair (array_address a) (array_address b) }
+    ensures { result ≡ same_pair (address_view a) (address_view b) }
 {
     a[0] == b[0] && a[1] == b[1] || a[0] == b[1] && a[1] == b[0]
 }

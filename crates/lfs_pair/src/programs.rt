@@ -62,7 +62,7 @@ pub(crate) fn program_commit_at<D: BlockDevice>(
 {
     let end = at + builder.end_on_page();
     let next = read_four_bytes(dev, block, end)?;
-    let last = builder.next_previous_tag(next);
+    let last = builder.last_commit_tag(next);
     let pages = builder.finish(next)?;
     dev.prog(block, at, pages)?;
     Ok(WrittenCommit {

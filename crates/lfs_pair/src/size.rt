@@ -12,7 +12,7 @@ use lfs_tag::{Attribute, Content, NameOrStruct, Slot};
 
 // Returns how many bytes a name or a struct takes with its tag, or the greatest number where there
 // are more. None takes no bytes.
-fn part_size_of(part: &Option<NameOrStruct<'_>>) -> u64
+fn optional_part_size(part: &Option<NameOrStruct<'_>>) -> u64
     ensures { result ≡ min (part_size (option_map part_view part.now)) (2 ^ 64 - 1) }
 {
     match part {
@@ -38,8 +38,8 @@ pub fn attributes_size(attributes: &[Attribute<'_>]) -> u64
 pub(crate) fn slot_size(slot: &Slot<'_>) -> u64
     ensures { result ≡ min (slot_size_raw (slot_view slot.now)) (2 ^ 64 - 1) }
 {
-    part_size_of(&slot.name)
-        .saturating_add(part_size_of(&slot.structure))
+    optional_part_size(&slot.name)
+        .saturating_add(optional_part_size(&slot.structure))
         .saturating_add(attributes_size(&slot.attributes))
 }
 

@@ -4,15 +4,15 @@ ghost use Rattle.std.specs.Prelude.{◌≡◌, IfErr, IfOk};
 ghost use Rattle.lfs_device.specs.DeviceDisk.{disk_of_blocks};
 ghost use Rattle.lfs_device.specs.DeviceCalls.{ReportsFaults};
 ghost use Rattle.lfs_model.specs.session.History.{AllCallsSince, HoldsAtLosses};
-ghost use Rattle.lfs_model.specs.format.Slots.{array_address};
+ghost use Rattle.lfs_model.specs.format.Slots.{address_view};
 ghost use Rattle.lfs_model.specs.crash.Stops.{ErasesCleanly, LeftByLoss};
 ghost use Rattle.lfs_tag.specs.ContentView.{content_view};
 ghost use Rattle.lfs_pair.specs.Pair.{header_address};
 ghost use Rattle.lfs_pair.specs.Commits.{CommitFails};
 ghost use Rattle.lfs_pair.specs.ChangeView.{changes_view};
-ghost use Rattle.lfs_pair.specs.HalfCut.{CanSplit};
+ghost use Rattle.lfs_pair.specs.HalfCut.{AreSplittable};
 ghost use Rattle.lfs_pair.specs.Writing.{ChangesReadingFew};
-ghost use Rattle.lfs_pair.specs.Split.{CanSplitFromBytes, CanSplitPair, SplitsPair, LossLeavesSplit, IsContentCut};
+ghost use Rattle.lfs_pair.specs.Split.{CanSplitWithBlock, CanSplitPair, SplitsPair, LossLeavesSplit, IsContentCut};
 ghost use Rattle.lfs_model.specs.format.Thread.{addresses_blocks};
 
 use crate::change::Change;
@@ -49,18 +49,18 @@ pub fn split<D: BlockDevice>(
     fresh: [u32; 2],
     changes: &[Change<'_>],
 ) -> Result<Pair, Error>
-    requires { CanSplitPair (disk_of_blocks (D.geometry dev.old) (D.blocks dev.old)) (D.history dev.old) pair.old (array_address fresh) (changes_view changes.now) }
+    requires { CanSplitPair (disk_of_blocks (D.geometry dev.old) (D.blocks dev.old)) (D.history dev.old) pair.old (address_view fresh) (changes_view changes.now) }
 
-    ensures splits { IfOk result (λ fresh_pair. SplitsPair (disk_of_blocks (D.geometry dev.old) (D.blocks dev.old)) (D.history dev.old) (changes_view changes.now) pair.old (array_address fresh)
+    ensures splits { IfOk result (λ fresh_pair. SplitsPair (disk_of_blocks (D.geometry dev.old) (D.blocks dev.old)) (D.history dev.old) (changes_view changes.now) pair.old (address_view fresh)
         (disk_of_blocks (D.geometry dev.new) (D.blocks dev.new)) (D.history dev.new) pair.new fresh_pair) }
     ensures error { IfErr result (λ e. CommitFails D.BlockDevice dev.old dev.new pair.old pair.new e) }
-    ensures device { ChangesReadingFew D.BlockDevice 4 (addresses_blocks (header_address pair.old) (array_address fresh)) dev.old dev.new }
+    ensures device { ChangesReadingFew D.BlockDevice 4 (addresses_blocks (header_address pair.old) (address_view fresh)) dev.old dev.new }
     ensures faults { ReportsFaults D.BlockDevice dev.old dev.new result }
     ensures stops { AllCallsSince ErasesCleanly (D.history dev.old) (D.history dev.new)
-        → HoldsAtLosses LeftByLoss (D.history dev.old) (D.history dev.new) (LossLeavesSplit (disk_of_blocks (D.geometry dev.old) (D.blocks dev.old)) (header_address pair.old) (array_address fresh) (changes_view changes.now)) }
+        → HoldsAtLosses LeftByLoss (D.history dev.old) (D.history dev.new) (LossLeavesSplit (disk_of_blocks (D.geometry dev.old) (D.blocks dev.old)) (header_address pair.old) (address_view fresh) (changes_view changes.now)) }
 {
     let block = read_block(alloc, dev, pair.active)?;
-    let fresh_pair = split_from_bytes(alloc, dev, pair, fresh, &block, changes)?;
+    let fresh_pair = split_with_block(alloc, dev, pair, fresh, &block, changes)?;
     Ok(fresh_pair)
 }
 
@@ -69,7 +69,7 @@ pub fn split<D: BlockDevice>(
 ///
 /// The caller's conditions are those of [`split`], and that the active block has the bytes of
 /// `block`. Errors are those of [`split`], but memory is wanted for one block and the slots.
-pub fn split_from_bytes<'a, 'b: 'a, D: BlockDevice>(
+pub fn split_with_block<'a, 'b: 'a, D: BlockDevice>(
     alloc: Global,
     dev: &mut D,
     pair: &mut Pair,
@@ -77,15 +77,15 @@ pub fn split_from_bytes<'a, 'b: 'a, D: BlockDevice>(
     block: &'a [u8],
     changes: &[Change<'b>],
 ) -> Result<Pair, Error>
-    requires { CanSplitFromBytes (disk_of_blocks (D.geometry dev.old) (D.blocks dev.old)) (D.history dev.old) pair.old (array_address fresh) (changes_view changes.now) block.now }
+    requires { CanSplitWithBlock (disk_of_blocks (D.geometry dev.old) (D.blocks dev.old)) (D.history dev.old) pair.old (address_view fresh) (changes_view changes.now) block.now }
 
-    ensures splits { IfOk result (λ fresh_pair. SplitsPair (disk_of_blocks (D.geometry dev.old) (D.blocks dev.old)) (D.history dev.old) (changes_view changes.now) pair.old (array_address fresh)
+    ensures splits { IfOk result (λ fresh_pair. SplitsPair (disk_of_blocks (D.geometry dev.old) (D.blocks dev.old)) (D.history dev.old) (changes_view changes.now) pair.old (address_view fresh)
         (disk_of_blocks (D.geometry dev.new) (D.blocks dev.new)) (D.history dev.new) pair.new fresh_pair) }
     ensures error { IfErr result (λ e. CommitFails D.BlockDevice dev.old dev.new pair.old pair.new e) }
-    ensures device { ChangesReadingFew D.BlockDevice 3 (addresses_blocks (header_address pair.old) (array_address fresh)) dev.old dev.new }
+    ensures device { ChangesReadingFew D.BlockDevice 3 (addresses_blocks (header_address pair.old) (address_view fresh)) dev.old dev.new }
     ensures faults { ReportsFaults D.BlockDevice dev.old dev.new result }
     ensures stops { AllCallsSince ErasesCleanly (D.history dev.old) (D.history dev.new)
-        → HoldsAtLosses LeftByLoss (D.history dev.old) (D.history dev.new) (LossLeavesSplit (disk_of_blocks (D.geometry dev.old) (D.blocks dev.old)) (header_address pair.old) (array_address fresh) (changes_view changes.now)) }
+        → HoldsAtLosses LeftByLoss (D.history dev.old) (D.history dev.new) (LossLeavesSplit (disk_of_blocks (D.geometry dev.old) (D.blocks dev.old)) (header_address pair.old) (address_view fresh) (changes_view changes.now)) }
 {
     let geometry = dev.geometry();
     let mut front = changed_content(alloc, pair, block, changes)?;
@@ -103,8 +103,8 @@ fn split_off_back<'a>(
     fresh: [u32; 2],
     geometry: Geometry,
 ) -> Result<Content<'a>, Error>
-    requires { CanSplit geometry.block_size geometry.page (content_view content.old).slots }
-    ensures parts { IfOk result (λ back. IsContentCut geometry.block_size geometry.page (content_view content.old) (array_address fresh) (content_view content.new) (content_view back)) }
+    requires { AreSplittable geometry.block_size geometry.page (content_view content.old).slots }
+    ensures parts { IfOk result (λ back. IsContentCut geometry.block_size geometry.page (content_view content.old) (address_view fresh) (content_view content.new) (content_view back)) }
     ensures errors { IfErr result (λ e. e ≡ Error.NoMemory) }
 {
     let cut = middle_cut(&content.slots, geometry);

@@ -1,7 +1,7 @@
 -- A commit's pages in a block.
 use Rattle.std.proofs.Common.{◌≡◌, ℕ, zero, suc, ◌+◌, ◌*◌, ◌/◌, ◌%◌, ◌^◌, ◌<◌, ◌≤◌, Bool, true, false, cond, ltb, leb, ◌||◌, ◌⊎◌, inl, inr, List, length, take, drop, get_or, bit_xor, Option, Some, None, IfSome, refl, sym, ap, ◌∙◌, arith}
 use Rattle.std.specs.Int.Bits.{xor_zero_l}
-use Rattle.lfs_tag.proofs.Common.{nat_tests, xor_shr, IsValidTag, tag_type, tag_length, abstract_type, tag_chunk, tag_data_size, tag_before_next, make_tag, LogEntry, tag_at, is_page, no_id, four_bytes_at, checksum_type, PartialCommit, checksum_start, padded_end_of}
+use Rattle.lfs_tag.proofs.Common.{nat_tests, xor_shr, IsValidTag, tag_type, tag_length, tag_class, tag_chunk, tag_data_size, tag_before_next, make_tag, LogEntry, tag_at, is_page, no_id, four_bytes_at, checksum_type, PartialCommit, checksum_start, padded_commit_end}
 use Rattle.byteorder.specs.Endian.{big_number}
 use Rattle.byteorder.specs.Numbers.{big_from-take}
 use Rattle.lfs_model.specs.format.Log.{entry_at}
@@ -14,8 +14,8 @@ page_bounds n h = (grind (arith, nat_tests, h), grind (arith, nat_tests, h))
 
 -- its length, and the padding
 pub record Padded (b : PartialCommit) : Type 0 where
-  pub low : checksum_start b + 8 ≤ padded_end_of b
-  pub high : padded_end_of b < checksum_start b + 8 + 512
+  pub low : checksum_start b + 8 ≤ padded_commit_end b
+  pub high : padded_commit_end b < checksum_start b + 8 + 512
 
 pub padded : (b : PartialCommit) → is_page b.page ≡ true → Padded b
 padded b h =
@@ -78,7 +78,7 @@ turns bytes h = grind (arith, nat_tests, top_byte bytes h, h 0)
 carried_is : (kind size : ℕ) → IsKind kind → size < 2 ^ 10 → tag_before_next (make_tag kind no_id size) ≡ bit_xor (make_tag kind no_id size) (kind % 2 * 2 ^ 31)
 carried_is kind size k small =
     let is = kind_is kind size k small in
-    let class : abstract_type (make_tag kind no_id size) ≡ 5 = class_of_kind (make_tag kind no_id size) (kind_of_cases kind (make_tag kind no_id size) k is) in
+    let class : tag_class (make_tag kind no_id size) ≡ 5 = class_of_kind (make_tag kind no_id size) (kind_of_cases kind (make_tag kind no_id size) k is) in
     let bit : tag_chunk (make_tag kind no_id size) % 2 ≡ kind % 2 = ap (λ (n : ℕ). n % 2 ^ 8 % 2) is ∙ omega arith in
     let plain = not_forward (make_tag kind no_id size) (kind_of_cases kind (make_tag kind no_id size) k is) in
     rw (class, plain, bit) refl

@@ -1,6 +1,6 @@
 -- The bytes of a commit are that commit.
 use Rattle.std.proofs.Common.{◌≡◌, subst, ℕ, ◌+◌, ◌-◌, ◌/◌, ◌^◌, ◌<◌, ◌≤◌, true, false, eqb, leb, ◌||◌, ◌⊎◌, inl, inr, List, [], ◌∷◌, ◌++◌, length, take, drop, slice_range, bit_xor, Some, refl, sym, ap, eq-eqb, ◌∙◌, arith, add-zero, append_assoc, length-append}
-use Rattle.lfs_tag.proofs.Common.{xor_assoc, xor_zero_r, nat_tests, drop-drop, length-drop, sum_by-cons, take-append_seam, drop-append_seam, IsValidTag, tag_type, tag_length, abstract_type, tag_data_size, tag_before_next, LogEntry, entry_end, is_checksum_entry, IsCommit, encoded_entries, encoded_size, carried_tag, AreStorableEntries}
+use Rattle.lfs_tag.proofs.Common.{xor_assoc, xor_zero_r, nat_tests, drop-drop, length-drop, sum_by-cons, take-append_seam, drop-append_seam, IsValidTag, tag_type, tag_length, tag_class, tag_data_size, tag_before_next, LogEntry, entry_end, is_checksum_entry, IsCommit, encoded_entries, encoded_size, carried_tag, AreStorableEntries}
 use Rattle.std.specs.Int.Bits.{xor_self}
 use Rattle.byteorder.specs.Endian.{big_number, big_bytes, little_number, little_bytes}
 use Rattle.byteorder.specs.Numbers.{big_number-reads_back, little_number-reads_back}
@@ -56,7 +56,7 @@ entries_read block rest start at before (e ∷ es) ck end last all here base =
 abbrev pub IsChecksumKind : ℕ → Type 0
 IsChecksumKind tag = (tag_type tag ≡ 0x500) ⊎ (tag_type tag ≡ 0x501)
 
-pub class_of_kind : (tag : ℕ) → IsChecksumKind tag → abstract_type tag ≡ 5
+pub class_of_kind : (tag : ℕ) → IsChecksumKind tag → tag_class tag ≡ 5
 class_of_kind tag (inl h) = ap (λ (k : ℕ). k / 2 ^ 8) h
 class_of_kind tag (inr h) = ap (λ (k : ℕ). k / 2 ^ 8) h
 

@@ -1,6 +1,6 @@
 -- What the buffer holds at the end is the commit's pages.
 use Rattle.std.proofs.Common.{◌≡◌, ℕ, ◌+◌, ◌-◌, ◌≤◌, ◌<◌, ◌^◌, List, ◌++◌, length, take, bit_xor, Option, IfSome, refl, ap, ◌∙◌, arith, replicate}
-use Rattle.lfs_tag.proofs.Common.{length-replicate, overwritten_at, PartialCommit, checksum_start, padded_end_of, checksum_tag, checksummed_bytes, BuildsCommit}
+use Rattle.lfs_tag.proofs.Common.{length-replicate, overwritten_at, PartialCommit, checksum_start, padded_commit_end, checksum_tag, checksummed_bytes, BuildsCommit}
 use Rattle.byteorder.specs.Endian.{big_bytes, little_bytes}
 use Rattle.lfs_model.specs.format.Crc.{crc_of}
 use Rattle.lfs_tag.proofs.BuilderWrites.{take-overwritten}
@@ -10,7 +10,7 @@ use Rattle.lfs_tag.proofs.BuilderPages.{ArePages}
 -- what is known when the checksum is written
 pub record Sealed (page len last stored end tag : ℕ) (buf now : List ℕ) (b : PartialCommit) : Type 0 where
   pub kept : BuildsCommit page len last buf b
-  pub end_is : end ≡ padded_end_of b
+  pub end_is : end ≡ padded_commit_end b
   pub within : end ≤ length buf
   pub room : length buf < 2 ^ 64 - 1
   pub stored_is : stored ≡ bit_xor tag last
@@ -23,7 +23,7 @@ module _ (page len last stored end tag : ℕ) (buf now : List ℕ) (b : PartialC
   sum = crc_of 0xffffffff (take len buf ++ big_bytes 4 stored)
 
   abbrev pad : List ℕ
-  pad = replicate (padded_end_of b - (checksum_start b + 8)) 255
+  pad = replicate (padded_commit_end b - (checksum_start b + 8)) 255
 
   exact : len ≡ checksum_start b
   exact = let p = padded b s.kept.power in omega (arith, s.kept.len_is, s.end_is, s.within, s.room, p.low)
@@ -35,7 +35,7 @@ module _ (page len last stored end tag : ℕ) (buf now : List ℕ) (b : PartialC
       let filler : ℕ = 255 in
       let eight : length filled ≡ 8 + length (replicate (end - (len + 8)) filler) = omega arith in
       let stop : end ≡ len + length filled = omega (arith, eight, length-replicate (end - (len + 8)) filler, exact, s.end_is, p.low) in
-      let same : end - (len + 8) ≡ padded_end_of b - (checksum_start b + 8) = omega (arith, exact, s.end_is) in
+      let same : end - (len + 8) ≡ padded_commit_end b - (checksum_start b + 8) = omega (arith, exact, s.end_is) in
       ap (take end) s.bytes ∙ take-overwritten len end buf filled (omega (arith, s.within, stop)) stop ∙ ap (λ (l : List ℕ). l ++ filled) (s.kept.bytes (omega (arith, s.within, stop)))
       ∙ rw (same, ← s.stored_is) refl
 

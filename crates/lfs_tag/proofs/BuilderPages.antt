@@ -1,6 +1,6 @@
 -- A commit's pages, put into a block.
 use Rattle.std.proofs.Common.{◌≡◌, ℕ, ◌+◌, ◌-◌, ◌^◌, ◌<◌, ◌≤◌, true, false, ltb, List, [], ◌∷◌, ◌++◌, length, take, drop, bit_xor, Option, Some, None, IfSome, unwrap_or, refl, sym, ap, subst, ◌∙◌, arith, append_assoc, length-append, replicate}
-use Rattle.lfs_tag.proofs.Common.{le-ltb, drop-drop, length-take-le, length-replicate, drop-append_seam, tag_before_next, tag_length, LogEntry, with_commit, IsCommit, commit_at, block_entries, is_page, overwritten_at, encoded_entries, encoded_size, four_bytes_at, checksum_type, PartialCommit, entries_start, checksum_start, padded_end_of, checksum_tag, carried_tag, revision_bytes, checksummed_bytes, AreStorableEntries, commit_none, commit_complete, chain_on, chain_none}
+use Rattle.lfs_tag.proofs.Common.{le-ltb, drop-drop, length-take-le, length-replicate, drop-append_seam, tag_before_next, tag_length, LogEntry, with_commit, IsCommit, commit_at, block_entries, is_page, overwritten_at, encoded_entries, encoded_size, four_bytes_at, checksum_type, PartialCommit, entries_start, checksum_start, padded_commit_end, checksum_tag, carried_tag, revision_bytes, checksummed_bytes, AreStorableEntries, commit_none, commit_complete, chain_on, chain_none}
 use Rattle.std.proofs.lemmas.List.{take-append-drop}
 use Rattle.byteorder.specs.Endian.{big_bytes, little_number, little_bytes}
 use Rattle.byteorder.specs.Numbers.{little_from-take, little_from-append, little_number-reads_back}
@@ -24,7 +24,7 @@ pub record ArePages (b : PartialCommit) (next : Option (List ℕ)) (pages : List
   pub fits : bit_xor (checksum_tag b next) last < 2 ^ 32
   pub small : sum < 2 ^ 32
   pub sum_is : sum ≡ crc_of 0xffffffff (checksummed_bytes b ++ big_bytes 4 (bit_xor (checksum_tag b next) last))
-  pub pages_are : pages ≡ checksummed_bytes b ++ (big_bytes 4 (bit_xor (checksum_tag b next) last) ++ (little_bytes 4 sum ++ replicate (padded_end_of b - (checksum_start b + 8)) 255))
+  pub pages_are : pages ≡ checksummed_bytes b ++ (big_bytes 4 (bit_xor (checksum_tag b next) last) ++ (little_bytes 4 sum ++ replicate (padded_commit_end b - (checksum_start b + 8)) 255))
 
 length-revision : (r : Option ℕ) → length (revision_bytes r) ≡ entries_start r
 length-revision None = refl
@@ -35,13 +35,13 @@ module _ (b : PartialCommit) (next : Option (List ℕ)) (pages : List ℕ) (last
   tag = checksum_tag b next
 
   abbrev size : ℕ
-  size = padded_end_of b - checksum_start b - 4
+  size = padded_commit_end b - checksum_start b - 4
 
   abbrev tag_bytes : List ℕ
   tag_bytes = big_bytes 4 (bit_xor (checksum_tag b next) last)
 
   abbrev pad : List ℕ
-  pad = replicate (padded_end_of b - (checksum_start b + 8)) 255
+  pad = replicate (padded_commit_end b - (checksum_start b + 8)) 255
 
   abbrev ck : LogEntry
   ck = record { tag = checksum_tag b next; bytes = little_bytes 4 sum ++ pad }
@@ -52,10 +52,10 @@ module _ (b : PartialCommit) (next : Option (List ℕ)) (pages : List ℕ) (last
   tag_len : tag_length tag ≡ size
   tag_len = len_is (checksum_type next) size size_small
 
-  pad_len : length pad ≡ padded_end_of b - (checksum_start b + 8)
-  pad_len = let filler : ℕ = 255 in length-replicate (padded_end_of b - (checksum_start b + 8)) filler
+  pad_len : length pad ≡ padded_commit_end b - (checksum_start b + 8)
+  pad_len = let filler : ℕ = 255 in length-replicate (padded_commit_end b - (checksum_start b + 8)) filler
 
-  length-pages : length pages ≡ padded_end_of b
+  length-pages : length pages ≡ padded_commit_end b
   length-pages =
       let p = padded b h.power in
       let eight : length (tag_bytes ++ (little_bytes 4 sum ++ pad)) ≡ 8 + length pad = omega arith in
@@ -197,7 +197,7 @@ module _ (b : PartialCommit) (next : Option (List ℕ)) (pages : List ℕ) (last
 
 pub committed : (b : PartialCommit) (next : Option (List ℕ)) (pages : List ℕ) (last sum : ℕ) → ArePages b next pages last sum → AreCommitPages b next pages
 committed b next pages last sum h =
-    let size = padded_end_of b - checksum_start b - 4 in
+    let size = padded_commit_end b - checksum_start b - 4 in
     let kind = checksum_type next in
     record {
       log = λ block at goes within nexts.

@@ -1,6 +1,6 @@
 -- What an attribute's type holds, and which slot is which, after one entry.
 use Rattle.std.proofs.Common.{◌≡◌, ◌≢◌, ℕ, zero, suc, ◌+◌, ◌-◌, ◌<◌, Bool, true, false, not, cond, eqb, ltb, List, [], ◌∷◌, find, length, replicate, Some, None, refl, sym, ap, ◌∙◌, arith, inl, inr, get_or-set_same, get_or-set_other}
-use Rattle.lfs_tag.proofs.Common.{option_map, cases_lt, cases_order, nat_tests, get_or_past, length-append, length-replicate, Attributes, RawSlot, empty_slot, slot_of_id, changed_at, padded_slots, attributes_with, attributes_without, attribute_bytes}
+use Rattle.lfs_tag.proofs.Common.{option_map, cases_lt, cases_order, nat_tests, get_or_past, length-append, length-replicate, Attributes, RawSlot, empty_slot, slot_of_id, slot_changed_at, padded_slots, attributes_with, attributes_without, attribute_bytes}
 use Rattle.std.proofs.lemmas.List.{get_or_append_left, get_or-append_right}
 
 -- ---- attributes
@@ -84,8 +84,8 @@ slot-up_to slots j i =
 pub length-up_to : (slots : List RawSlot) (j : ℕ) → length (padded_slots slots j) ≡ length slots + (j + 1 - length slots)
 length-up_to slots j = length-append slots (replicate (j + 1 - length slots) empty_slot) ∙ ap (λ (n : ℕ). length slots + n) (length-replicate (j + 1 - length slots) empty_slot)
 
-pub slot-changed_same : (f : RawSlot → RawSlot) (slots : List RawSlot) (j : ℕ) → j < length slots → slot_of_id (changed_at f slots j) j ≡ f (slot_of_id slots j)
+pub slot-changed_same : (f : RawSlot → RawSlot) (slots : List RawSlot) (j : ℕ) → j < length slots → slot_of_id (slot_changed_at f slots j) j ≡ f (slot_of_id slots j)
 slot-changed_same f slots j lt = get_or-set_same slots j (f (slot_of_id slots j)) empty_slot lt
 
-pub slot-changed_other : (f : RawSlot → RawSlot) (slots : List RawSlot) (j i : ℕ) → i ≢ j → slot_of_id (changed_at f slots j) i ≡ slot_of_id slots i
+pub slot-changed_other : (f : RawSlot → RawSlot) (slots : List RawSlot) (j i : ℕ) → i ≢ j → slot_of_id (slot_changed_at f slots j) i ≡ slot_of_id slots i
 slot-changed_other f slots j i ne = get_or-set_other slots j i (f (slot_of_id slots j)) empty_slot ne

@@ -1,7 +1,7 @@
 -- Attributes by type, and slots in a list.
 use Rattle.std.proofs.Common.{◌≡◌, ℕ, suc, ◌+◌, ◌<◌, ◌≤◌, Bool, true, false, not, filter, cond, eqb, leb, ltb, List, [], ◌∷◌, ◌++◌, length, map, take, drop, replicate, set, get_or, remove, insert, refl, sym, ap, ◌∙◌, arith, append_assoc, inl, inr}
 use Rattle.std.specs.List.{take-map, drop-map}
-use Rattle.lfs_tag.proofs.Common.{cases_order, nat_tests, map-append, map-set, get_or-map, Attributes, RawSlot, empty_slot, attributes_with, attributes_without, changed_at, slot_view, attribute_view, index_for_attribute}
+use Rattle.lfs_tag.proofs.Common.{cases_order, nat_tests, map-append, map-set, get_or-map, Attributes, RawSlot, empty_slot, attributes_with, attributes_without, slot_changed_at, slot_view, attribute_view, index_for_attribute}
 use Rattle.std.proofs.lemmas.List.{replicate-append-replicate}
 use Rattle.lfs_tag.specs.declared.content.Slot.{Slot}
 use Rattle.lfs_tag.specs.declared.content.Attribute.{Attribute}
@@ -78,6 +78,6 @@ one_more xs ys n e = rw (e, append_assoc xs (replicate n empty_slot) (empty_slot
 
 -- a slot that is changed in the code is changed as it is seen
 pub changed_is : (f : RawSlot → RawSlot) (xs : List Slot) (i : ℕ) (x y : Slot) → i < length xs → x ≡ get_or xs i x → slot_view y ≡ f (slot_view x)
-    → map slot_view (set xs i y) ≡ changed_at f (map slot_view xs) i
+    → map slot_view (set xs i y) ≡ slot_changed_at f (map slot_view xs) i
 changed_is f xs i x y lt is new =
     map-set slot_view xs i y ∙ ap (set (map slot_view xs) i) (new ∙ ap f (ap slot_view is ∙ sym (get_or-map slot_view xs i x empty_slot lt)))

@@ -1,6 +1,6 @@
 -- The ranks after a log's entries are those of its slots, and the first wanted one is the answer.
 use Rattle.std.proofs.Common.{◌≡◌, ℕ, zero, suc, ◌+◌, ◌-◌, ◌<◌, ◌≤◌, ◌^◌, Bool, true, false, ◌&&◌, not, cond, eqb, ltb, leb, List, [], ◌∷◌, ◌++◌, length, map, drop, replicate, set, get_or, drop-cons, Option, Some, None, refl, sym, ap, subst, ◌∙◌, arith, inl, inr}
-use Rattle.lfs_tag.proofs.Common.{option_and_then, option_map_or, cases_lt, nat_tests, option_and_then_some, same_Some, map-append, map-set, length-map, get_or_past, tag_type, tag_id, abstract_type, LogEntry, block_entries, Name, is_equal, RawSlot, RawContent, empty_slot, slot_of_id, changed_at, padded_slots, type_and_bytes, attributes_after, content_after_one, content_after, empty_raw_content, create_tag_type, comparison_with_slot, comparisons_after, first_wanted_slot, IsNameLookup, lookup_of_comparisons}
+use Rattle.lfs_tag.proofs.Common.{option_and_then, option_map_or, cases_lt, nat_tests, option_and_then_some, same_Some, map-append, map-set, length-map, get_or_past, tag_type, tag_id, tag_class, LogEntry, block_entries, Name, is_equal, RawSlot, RawContent, empty_slot, slot_of_id, slot_changed_at, padded_slots, entry_part, attributes_after, content_after_entry, content_after, empty_raw_content, create_tag_type, comparison_with_slot, comparisons_after, first_wanted_slot, IsNameLookup, lookup_of_comparisons}
 use Rattle.std.specs.declared.cmp.Ordering.{Ordering}
 use Rattle.std.specs.declared.cmp.Ordering.TheVariants.{Less, Equal, Greater}
 use Rattle.lfs_model.proofs.Orders.{same_by}
@@ -8,7 +8,7 @@ use Rattle.lfs_model.specs.declared.order.NameOrder.{NameOrder}
 use Rattle.lfs_model.specs.format.Log.{chain_of}
 use Rattle.lfs_model.specs.format.Names.{name_cmp, same_name, is_less}
 use Rattle.lfs_model.specs.format.EntryTypes.{superblock_name_type}
-use Rattle.lfs_model.specs.layers.Lookup.{entry_name, passes_name_test, comes_after, IsLeastId, IsNewId}
+use Rattle.lfs_model.specs.layers.Lookup.{entry_name, passes_name_test, comes_after, IsNameId, IsInsertionId}
 use Rattle.lfs_tag.specs.declared.lookup.NameComparison.{NameComparison}
 use Rattle.lfs_tag.specs.declared.lookup.NameComparison.TheVariants as slot
 use Rattle.lfs_tag.specs.Find.{ordering_comparison, comparison_with_entry, padded_comparisons, comparisons_after_entry, is_wanted, is_skipped, is_wanted_slot}
@@ -29,12 +29,12 @@ up_to_ranks order name slots i =
     ∙ ap (λ rs. map (comparison_with_slot order name) slots ++ rs) (empty_ranks order name (i + 1 - length slots) ∙ ap (λ n. replicate (i + 1 - n) slot.NoneOrLess) (sym (length-map slots (comparison_with_slot order name))))
 
 -- a change that leaves a slot's name leaves its rank
-same_ranks : (order : NameOrder) (name : Name) (f : RawSlot → RawSlot) → ((r : RawSlot) → (f r).name ≡ r.name) → (slots : List RawSlot) (i : ℕ) → map (comparison_with_slot order name) (changed_at f slots i) ≡ map (comparison_with_slot order name) slots
+same_ranks : (order : NameOrder) (name : Name) (f : RawSlot → RawSlot) → ((r : RawSlot) → (f r).name ≡ r.name) → (slots : List RawSlot) (i : ℕ) → map (comparison_with_slot order name) (slot_changed_at f slots i) ≡ map (comparison_with_slot order name) slots
 same_ranks order name f same [] i = refl
 same_ranks order name f same (s ∷ slots) zero = ap (λ r. r ∷ map (comparison_with_slot order name) slots) (ap (λ n. option_map_or (λ other. ordering_comparison (name_cmp order name other)) (option_and_then (λ (p : ℕ × List ℕ). cond (eqb p.0 superblock_name_type) None (Some p.1)) n) slot.NoneOrLess) (same s))
 same_ranks order name f same (s ∷ slots) (suc i) = ap (λ rs. comparison_with_slot order name s ∷ rs) (same_ranks order name f same slots i)
 
-named_rank : (order : NameOrder) (name : Name) (e : LogEntry) (r : RawSlot) → comparison_with_slot order name (record r { name = type_and_bytes e }) ≡ comparison_with_entry order name e
+named_rank : (order : NameOrder) (name : Name) (e : LogEntry) (r : RawSlot) → comparison_with_slot order name (record r { name = entry_part e }) ≡ comparison_with_entry order name e
 named_rank order name e r = by_test (eqb (tag_type e.tag) superblock_name_type)
   where
     by_test : (b : Bool) → option_map_or (λ other. ordering_comparison (name_cmp order name other)) (cond b None (Some e.bytes)) slot.NoneOrLess ≡ cond b slot.NoneOrLess (ordering_comparison (name_cmp order name e.bytes))
@@ -43,36 +43,36 @@ named_rank order name e r = by_test (eqb (tag_type e.tag) superblock_name_type)
 
 rank_step : (order : NameOrder) (name : Name) (s t : List RawSlot) (e : LogEntry) → Effect s t e → comparisons_after_entry order name (map (comparison_with_slot order name) s) e ≡ map (comparison_with_slot order name) t
 rank_step order name s t e (rests high same) =
-    let a : eqb (abstract_type e.tag) 0 ≡ false = grind (arith, nat_tests) in
-    let b : eqb (abstract_type e.tag) 4 ≡ false = grind (arith, nat_tests) in
+    let a : eqb (tag_class e.tag) 0 ≡ false = grind (arith, nat_tests) in
+    let b : eqb (tag_class e.tag) 4 ≡ false = grind (arith, nat_tests) in
     rw (a, b) (ap (map (comparison_with_slot order name)) (sym same))
 rank_step order name s t e (names class keeps is) =
-    let a : eqb (abstract_type e.tag) 0 ≡ true = grind (arith, nat_tests) in
+    let a : eqb (tag_class e.tag) 0 ≡ true = grind (arith, nat_tests) in
     let i = tag_id e.tag in
     let all = padded_slots s i in
     let r = slot_of_id all i in
-    rw (a, is) (ap (λ rs. set rs i (comparison_with_entry order name e)) (sym (up_to_ranks order name s i)) ∙ ap (set (map (comparison_with_slot order name) all) i) (sym (named_rank order name e r)) ∙ sym (map-set (comparison_with_slot order name) all i (record r { name = type_and_bytes e })))
+    rw (a, is) (ap (λ rs. set rs i (comparison_with_entry order name e)) (sym (up_to_ranks order name s i)) ∙ ap (set (map (comparison_with_slot order name) all) i) (sym (named_rank order name e r)) ∙ sym (map-set (comparison_with_slot order name) all i (record r { name = entry_part e })))
 rank_step order name s t e (creates class create le is) =
-    let a : eqb (abstract_type e.tag) 0 ≡ false = grind (arith, nat_tests) in
-    let b : eqb (abstract_type e.tag) 4 ≡ true = grind (arith, nat_tests) in
+    let a : eqb (tag_class e.tag) 0 ≡ false = grind (arith, nat_tests) in
+    let b : eqb (tag_class e.tag) 4 ≡ true = grind (arith, nat_tests) in
     let c : eqb (tag_type e.tag) create_tag_type ≡ true = grind (arith, nat_tests) in
     let len = length-map s (comparison_with_slot order name) in
     let d : leb (tag_id e.tag) (length (map (comparison_with_slot order name) s)) ≡ true = rw len (grind (arith, nat_tests)) in
     rw (a, b, c, d, is) (sym (map-insert (comparison_with_slot order name) s (tag_id e.tag) empty_slot))
 rank_step order name s t e (deletes class delete lt is) =
-    let a : eqb (abstract_type e.tag) 0 ≡ false = grind (arith, nat_tests) in
-    let b : eqb (abstract_type e.tag) 4 ≡ true = grind (arith, nat_tests) in
+    let a : eqb (tag_class e.tag) 0 ≡ false = grind (arith, nat_tests) in
+    let b : eqb (tag_class e.tag) 4 ≡ true = grind (arith, nat_tests) in
     let c : eqb (tag_type e.tag) create_tag_type ≡ false = grind (arith, nat_tests) in
     let len = length-map s (comparison_with_slot order name) in
     let d : ltb (tag_id e.tag) (length (map (comparison_with_slot order name) s)) ≡ true = rw len (grind (arith, nat_tests)) in
     rw (a, b, c, d, is) (sym (map-remove (comparison_with_slot order name) s (tag_id e.tag)))
 rank_step order name s t e (structures class keeps lt is) =
-    let a : eqb (abstract_type e.tag) 0 ≡ false = grind (arith, nat_tests) in
-    let b : eqb (abstract_type e.tag) 4 ≡ false = grind (arith, nat_tests) in
-    rw (a, b, is) (sym (same_ranks order name (λ r. record r { struct = type_and_bytes e }) (λ r. refl) s (tag_id e.tag)))
+    let a : eqb (tag_class e.tag) 0 ≡ false = grind (arith, nat_tests) in
+    let b : eqb (tag_class e.tag) 4 ≡ false = grind (arith, nat_tests) in
+    rw (a, b, is) (sym (same_ranks order name (λ r. record r { struct = entry_part e }) (λ r. refl) s (tag_id e.tag)))
 rank_step order name s t e (attributes class lt is) =
-    let a : eqb (abstract_type e.tag) 0 ≡ false = grind (arith, nat_tests) in
-    let b : eqb (abstract_type e.tag) 4 ≡ false = grind (arith, nat_tests) in
+    let a : eqb (tag_class e.tag) 0 ≡ false = grind (arith, nat_tests) in
+    let b : eqb (tag_class e.tag) 4 ≡ false = grind (arith, nat_tests) in
     rw (a, b, is) (sym (same_ranks order name (λ r. record r { attributes = attributes_after e r.attributes }) (λ r. refl) s (tag_id e.tag)))
 
 -- ---- all entries
@@ -80,7 +80,7 @@ rank_step order name s t e (attributes class lt is) =
 ranks_after_content : (order : NameOrder) (name : Name) (es : List LogEntry) (s t : RawContent) → content_after s es ≡ Some t → comparisons_after order name (map (comparison_with_slot order name) s.slots) es ≡ map (comparison_with_slot order name) t.slots
 ranks_after_content order name [] s t h = ap (λ (x : RawContent). map (comparison_with_slot order name) x.slots) (same_Some _ _ h)
 ranks_after_content order name (e ∷ es) s t h =
-    option_and_then_some (λ u. content_after u es) (content_after_one s e) t h (λ u is rest.
+    option_and_then_some (λ u. content_after u es) (content_after_entry s e) t h (λ u is rest.
     ap (λ rs. comparisons_after order name rs es) (rank_step order name s.slots u.slots e (effect s u e is)) ∙ ranks_after_content order name es u t rest)
 
 pub ranked : (order : NameOrder) (name : Name) (es : List LogEntry) (t : RawContent) → content_after empty_raw_content es ≡ Some t → comparisons_after order name [] es ≡ map (comparison_with_slot order name) t.slots
@@ -175,7 +175,7 @@ same_named order name skip slots k = ap (λ b. b && not (is_skipped skip k)) (sy
 behind_named : (order : NameOrder) (name : Name) (skip : Option ℕ) (slots : List RawSlot) (k : ℕ) → passes_name_test (comes_after order name) skip slots k ≡ is_wanted_slot false skip k (get_or (map (comparison_with_slot order name) slots) k slot.NoneOrLess)
 behind_named order name skip slots k = ap (λ b. b && not (is_skipped skip k)) (sym (ap (is_wanted false) (rank_at order name slots k) ∙ behind_wanted order name (entry_name (slot_of_id slots k))))
 
-found_is : (order : NameOrder) (name : Name) (skip : Option ℕ) (slots : List RawSlot) (id : ℕ) → id ≡ first_wanted_slot true skip 0 (map (comparison_with_slot order name) slots) → id < length slots → IsLeastId name skip slots id
+found_is : (order : NameOrder) (name : Name) (skip : Option ℕ) (slots : List RawSlot) (id : ℕ) → id ≡ first_wanted_slot true skip 0 (map (comparison_with_slot order name) slots) → id < length slots → IsNameId name skip slots id
 found_is order name skip slots id is lt =
     let first = subst (FirstFrom true skip 0 (map (comparison_with_slot order name) slots)) (sym is) (first_at true skip 0 (map (comparison_with_slot order name) slots)) in
     let len = length-map slots (comparison_with_slot order name) in
@@ -184,7 +184,7 @@ found_is order name skip slots id is lt =
       least = λ k below. same_named order name skip slots k ∙ from_zero true skip (map (comparison_with_slot order name) slots) k false (first.before k (omega arith));
     }
 
-place_is : (order : NameOrder) (name : Name) (skip : Option ℕ) (slots : List RawSlot) (id : ℕ) → length slots ≤ first_wanted_slot true skip 0 (map (comparison_with_slot order name) slots) → id ≡ first_wanted_slot false skip 0 (map (comparison_with_slot order name) slots) → IsNewId order name skip slots id
+place_is : (order : NameOrder) (name : Name) (skip : Option ℕ) (slots : List RawSlot) (id : ℕ) → length slots ≤ first_wanted_slot true skip 0 (map (comparison_with_slot order name) slots) → id ≡ first_wanted_slot false skip 0 (map (comparison_with_slot order name) slots) → IsInsertionId order name skip slots id
 place_is order name skip slots id past is =
     let none = first_at true skip 0 (map (comparison_with_slot order name) slots) in
     let first = subst (FirstFrom false skip 0 (map (comparison_with_slot order name) slots)) (sym is) (first_at false skip 0 (map (comparison_with_slot order name) slots)) in

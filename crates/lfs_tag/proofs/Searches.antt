@@ -1,6 +1,6 @@
 -- A search back finds what the slots hold.
 use Rattle.std.proofs.Common.{◌≡◌, ◌≢◌, ◌⊎◌, ℕ, suc, ◌+◌, ◌-◌, ◌/◌, ◌%◌, ◌^◌, ◌<◌, ◌≤◌, Bool, true, false, ◌&&◌, ◌||◌, not, cond, eqb, ltb, leb, List, [], ◌∷◌, ◌++◌, reverse, length, insert, remove, Option, Some, None, refl, sym, ap, subst, ◌∙◌, arith, inl, inr}
-use Rattle.lfs_tag.proofs.Common.{option_and_then, option_map, cases_lt, cases_order, nat_tests, option_and_then_some, same_Some, Attributes, tag_type, tag_id, abstract_type, tag_chunk, LogEntry, block_entries, RawSlot, RawContent, empty_slot, slot_of_id, changed_at, padded_slots, type_and_bytes, attributes_after, attributes_with, attributes_without, attribute_bytes, content_after_one, content_after, empty_raw_content, is_attribute_removal, create_tag_type, part_bytes, found_in_entries, searched_count}
+use Rattle.lfs_tag.proofs.Common.{option_and_then, option_map, cases_lt, cases_order, nat_tests, option_and_then_some, same_Some, Attributes, tag_type, tag_id, tag_class, tag_chunk, LogEntry, block_entries, RawSlot, RawContent, empty_slot, slot_of_id, slot_changed_at, padded_slots, entry_part, attributes_after, attributes_with, attributes_without, attribute_bytes, content_after_entry, content_after, empty_raw_content, is_attribute_removal, create_tag_type, part_bytes, found_in_entries, searched_count}
 use Rattle.std.proofs.lemmas.Bool.{cases_eq}
 use Rattle.std.proofs.lemmas.List.{reverse-append, reverse-reverse}
 use Rattle.std.proofs.lemmas.List.Edits.{get_or-insert_below, get_or-insert_at, get_or-insert_above, get_or-remove_below, get_or-remove_above}
@@ -52,9 +52,9 @@ empty_part type = either (eqb (type / 2 ^ 8) 0) (eqb (type / 2 ^ 8) 2) (eqb (typ
 
 -- ---- creates and deletes
 
-create_finds : (e : LogEntry) (type i : ℕ) (s : List RawSlot) → abstract_type e.tag ≡ 4 → tag_type e.tag ≡ create_tag_type → tag_id e.tag ≤ length s → Finds e type i s (insert s (tag_id e.tag) empty_slot)
+create_finds : (e : LogEntry) (type i : ℕ) (s : List RawSlot) → tag_class e.tag ≡ 4 → tag_type e.tag ≡ create_tag_type → tag_id e.tag ≤ length s → Finds e type i s (insert s (tag_id e.tag) empty_slot)
 create_finds e type i s class create le =
-    let a : eqb (abstract_type e.tag) 4 ≡ true = grind (arith, nat_tests) in
+    let a : eqb (tag_class e.tag) 4 ≡ true = grind (arith, nat_tests) in
     let b : eqb (tag_type e.tag) create_tag_type ≡ true = grind (arith, nat_tests) in
     let j = tag_id e.tag in
     rw (a, b) (elim (cases_order j i) [
@@ -72,9 +72,9 @@ create_finds e type i s class create le =
           rw (t, u) (ap (part_in type) (sym (get_or-insert_below s j empty_slot empty_slot i gt le)))
     ])
 
-delete_finds : (e : LogEntry) (type i : ℕ) (s : List RawSlot) → abstract_type e.tag ≡ 4 → tag_type e.tag ≢ create_tag_type → tag_id e.tag < length s → Finds e type i s (remove s (tag_id e.tag))
+delete_finds : (e : LogEntry) (type i : ℕ) (s : List RawSlot) → tag_class e.tag ≡ 4 → tag_type e.tag ≢ create_tag_type → tag_id e.tag < length s → Finds e type i s (remove s (tag_id e.tag))
 delete_finds e type i s class delete lt =
-    let a : eqb (abstract_type e.tag) 4 ≡ true = grind (arith, nat_tests) in
+    let a : eqb (tag_class e.tag) 4 ≡ true = grind (arith, nat_tests) in
     let b : eqb (tag_type e.tag) create_tag_type ≡ false = grind (arith, nat_tests) in
     let j = tag_id e.tag in
     rw (a, b) (elim (cases_lt i j) [
@@ -89,30 +89,30 @@ delete_finds e type i s class delete lt =
 -- ---- names, structs and attributes
 
 -- the entry isn't about that
-not_about : (e : LogEntry) (type i : ℕ) → abstract_type e.tag ≢ 4 → is_entry_about e type i ≡ false → (before : ℕ → Option (ℕ × List ℕ)) → found_given_effect (slot_effect e type i) before ≡ before i
+not_about : (e : LogEntry) (type i : ℕ) → tag_class e.tag ≢ 4 → is_entry_about e type i ≡ false → (before : ℕ → Option (ℕ × List ℕ)) → found_given_effect (slot_effect e type i) before ≡ before i
 not_about e type i class other before =
-    let a : eqb (abstract_type e.tag) 4 ≡ false = grind (arith, nat_tests) in
+    let a : eqb (tag_class e.tag) 4 ≡ false = grind (arith, nat_tests) in
     rw (a, other) refl
 
 -- it is
-about : (e : LogEntry) (type i : ℕ) → abstract_type e.tag ≢ 4 → is_entry_about e type i ≡ true → (before : ℕ → Option (ℕ × List ℕ))
-    → found_given_effect (slot_effect e type i) before ≡ cond (is_attribute_removal e.tag) None (type_and_bytes e)
+about : (e : LogEntry) (type i : ℕ) → tag_class e.tag ≢ 4 → is_entry_about e type i ≡ true → (before : ℕ → Option (ℕ × List ℕ))
+    → found_given_effect (slot_effect e type i) before ≡ cond (is_attribute_removal e.tag) None (entry_part e)
 about e type i class here before =
-    let a : eqb (abstract_type e.tag) 4 ≡ false = grind (arith, nat_tests) in
+    let a : eqb (tag_class e.tag) 4 ≡ false = grind (arith, nat_tests) in
     rw (a, here) refl
 
 elsewhere : (e : LogEntry) (type i : ℕ) → tag_id e.tag ≢ i → is_entry_about e type i ≡ false
 elsewhere e type i ne = let a : eqb (tag_id e.tag) i ≡ false = grind (arith, nat_tests) in rw a refl
 
-high : (e : LogEntry) (type i : ℕ) → 5 ≤ abstract_type e.tag → is_entry_about e type i ≡ false
-high e type i le = let a : ltb (abstract_type e.tag) 4 ≡ false = grind (arith, nat_tests) in rw a (either (eqb (tag_id e.tag) i))
+high : (e : LogEntry) (type i : ℕ) → 5 ≤ tag_class e.tag → is_entry_about e type i ≡ false
+high e type i le = let a : ltb (tag_class e.tag) 4 ≡ false = grind (arith, nat_tests) in rw a (either (eqb (tag_id e.tag) i))
   where
     either : (b : Bool) → (b && false) ≡ false
     either true = refl
     either false = refl
 
-other_class : (e : LogEntry) (type i : ℕ) → abstract_type e.tag ≢ type / 2 ^ 8 → is_entry_about e type i ≡ false
-other_class e type i ne = let a : eqb (abstract_type e.tag) (type / 2 ^ 8) ≡ false = grind (arith, nat_tests) in rw a (either (eqb (tag_id e.tag) i) (ltb (abstract_type e.tag) 4))
+other_class : (e : LogEntry) (type i : ℕ) → tag_class e.tag ≢ type / 2 ^ 8 → is_entry_about e type i ≡ false
+other_class e type i ne = let a : eqb (tag_class e.tag) (type / 2 ^ 8) ≡ false = grind (arith, nat_tests) in rw a (either (eqb (tag_id e.tag) i) (ltb (tag_class e.tag) 4))
   where
     either : (b c : Bool) → (b && (c && false)) ≡ false
     either true true = refl
@@ -120,30 +120,30 @@ other_class e type i ne = let a : eqb (abstract_type e.tag) (type / 2 ^ 8) ≡ f
     either false c = refl
 
 -- a name or a struct of that class
-same_class : (e : LogEntry) (type i : ℕ) → tag_id e.tag ≡ i → abstract_type e.tag < 3 → abstract_type e.tag ≡ type / 2 ^ 8 → is_entry_about e type i ≡ true
+same_class : (e : LogEntry) (type i : ℕ) → tag_id e.tag ≡ i → tag_class e.tag < 3 → tag_class e.tag ≡ type / 2 ^ 8 → is_entry_about e type i ≡ true
 same_class e type i id small class =
     let a : eqb (tag_id e.tag) i ≡ true = grind (arith, nat_tests) in
-    let b : ltb (abstract_type e.tag) 4 ≡ true = grind (arith, nat_tests) in
-    let c : eqb (abstract_type e.tag) (type / 2 ^ 8) ≡ true = grind (arith, nat_tests) in
-    let d : eqb (abstract_type e.tag) 3 ≡ false = grind (arith, nat_tests) in
+    let b : ltb (tag_class e.tag) 4 ≡ true = grind (arith, nat_tests) in
+    let c : eqb (tag_class e.tag) (type / 2 ^ 8) ≡ true = grind (arith, nat_tests) in
+    let d : eqb (tag_class e.tag) 3 ≡ false = grind (arith, nat_tests) in
     rw (a, b, c, d) refl
 
 -- one slot is changed, and the others stay
-changed_finds : (e : LogEntry) (type i : ℕ) (f : RawSlot → RawSlot) (s all : List RawSlot) → abstract_type e.tag ≢ 4 → tag_id e.tag < length all → ((k : ℕ) → slot_of_id all k ≡ slot_of_id s k)
+changed_finds : (e : LogEntry) (type i : ℕ) (f : RawSlot → RawSlot) (s all : List RawSlot) → tag_class e.tag ≢ 4 → tag_id e.tag < length all → ((k : ℕ) → slot_of_id all k ≡ slot_of_id s k)
     → (tag_id e.tag ≡ i → found_given_effect (slot_effect e type i) (part_at s type) ≡ part_in type (f (slot_of_id s i)))
-    → Finds e type i s (changed_at f all (tag_id e.tag))
+    → Finds e type i s (slot_changed_at f all (tag_id e.tag))
 changed_finds e type i f s all class lt same here =
     elim (cases_eq (tag_id e.tag) i) [
       | inl hit ↦
-          let there : slot_of_id (changed_at f all (tag_id e.tag)) i ≡ f (slot_of_id s i) =
-          ap (slot_of_id (changed_at f all (tag_id e.tag))) (sym hit) ∙ slot-changed_same f all (tag_id e.tag) lt ∙ ap f (same (tag_id e.tag) ∙ ap (slot_of_id s) hit) in
+          let there : slot_of_id (slot_changed_at f all (tag_id e.tag)) i ≡ f (slot_of_id s i) =
+          ap (slot_of_id (slot_changed_at f all (tag_id e.tag))) (sym hit) ∙ slot-changed_same f all (tag_id e.tag) lt ∙ ap f (same (tag_id e.tag) ∙ ap (slot_of_id s) hit) in
           here hit ∙ ap (part_in type) (sym there)
       | inr miss ↦ not_about e type i class (elsewhere e type i miss) (part_at s type) ∙ ap (part_in type) (sym (slot-changed_other f all (tag_id e.tag) i (λ z. miss (sym z)) ∙ same i))
     ]
 
-name_finds : (e : LogEntry) (type i : ℕ) (s : List RawSlot) → abstract_type e.tag ≡ 0 → is_attribute_removal e.tag ≡ false → Finds e type i s (changed_at (λ r. record r { name = type_and_bytes e }) (padded_slots s (tag_id e.tag)) (tag_id e.tag))
+name_finds : (e : LogEntry) (type i : ℕ) (s : List RawSlot) → tag_class e.tag ≡ 0 → is_attribute_removal e.tag ≡ false → Finds e type i s (slot_changed_at (λ r. record r { name = entry_part e }) (padded_slots s (tag_id e.tag)) (tag_id e.tag))
 name_finds e type i s class keeps =
-    changed_finds e type i (λ r. record r { name = type_and_bytes e }) s (padded_slots s (tag_id e.tag)) (omega arith) (omega (arith, length-up_to s (tag_id e.tag))) (slot-up_to s (tag_id e.tag))
+    changed_finds e type i (λ r. record r { name = entry_part e }) s (padded_slots s (tag_id e.tag)) (omega arith) (omega (arith, length-up_to s (tag_id e.tag))) (slot-up_to s (tag_id e.tag))
     (λ hit. elim (cases_eq (type / 2 ^ 8) 0) [
       | inl same ↦
           let z : eqb (type / 2 ^ 8) 0 ≡ true = grind (arith, nat_tests) in
@@ -154,9 +154,9 @@ name_finds e type i s class keeps =
           not_about e type i (omega arith) (other_class e type i (omega arith)) (part_at s type) ∙ rw z refl
     ])
 
-structure_finds : (e : LogEntry) (type i : ℕ) (s : List RawSlot) → abstract_type e.tag ≡ 2 → is_attribute_removal e.tag ≡ false → tag_id e.tag < length s → Finds e type i s (changed_at (λ r. record r { struct = type_and_bytes e }) s (tag_id e.tag))
+structure_finds : (e : LogEntry) (type i : ℕ) (s : List RawSlot) → tag_class e.tag ≡ 2 → is_attribute_removal e.tag ≡ false → tag_id e.tag < length s → Finds e type i s (slot_changed_at (λ r. record r { struct = entry_part e }) s (tag_id e.tag))
 structure_finds e type i s class keeps lt =
-    changed_finds e type i (λ r. record r { struct = type_and_bytes e }) s s (omega arith) lt (λ k. refl)
+    changed_finds e type i (λ r. record r { struct = entry_part e }) s s (omega arith) lt (λ k. refl)
     (λ hit. elim (cases_eq (type / 2 ^ 8) 2) [
       | inl same ↦
           let z : eqb (type / 2 ^ 8) 0 ≡ false = grind (arith, nat_tests) in
@@ -184,26 +184,26 @@ attribute_other e type xs ne = by_test (is_attribute_removal e.tag)
     by_test true = attribute-without_other type (tag_chunk e.tag) xs ne
     by_test false = attribute-put_other type (tag_chunk e.tag) e.bytes xs ne
 
-attribute_finds : (e : LogEntry) (type i : ℕ) (s : List RawSlot) → abstract_type e.tag ≡ 3 → tag_id e.tag < length s → Finds e type i s (changed_at (λ r. record r { attributes = attributes_after e r.attributes }) s (tag_id e.tag))
+attribute_finds : (e : LogEntry) (type i : ℕ) (s : List RawSlot) → tag_class e.tag ≡ 3 → tag_id e.tag < length s → Finds e type i s (slot_changed_at (λ r. record r { attributes = attributes_after e r.attributes }) s (tag_id e.tag))
 attribute_finds e type i s class lt =
     changed_finds e type i (λ r. record r { attributes = attributes_after e r.attributes }) s s (omega arith) lt (λ k. refl)
     (λ hit. elim (cases_eq (tag_type e.tag) type) [
       | inl same ↦
           let id : eqb (tag_id e.tag) i ≡ true = grind (arith, nat_tests) in
-          let small : ltb (abstract_type e.tag) 4 ≡ true = grind (arith, nat_tests) in
-          let here : eqb (abstract_type e.tag) (type / 2 ^ 8) ≡ true = grind (arith, nat_tests) in
+          let small : ltb (tag_class e.tag) 4 ≡ true = grind (arith, nat_tests) in
+          let here : eqb (tag_class e.tag) (type / 2 ^ 8) ≡ true = grind (arith, nat_tests) in
           let k : eqb (tag_type e.tag) type ≡ true = grind (arith, nat_tests) in
           let z : eqb (type / 2 ^ 8) 0 ≡ false = grind (arith, nat_tests) in
           let w : eqb (type / 2 ^ 8) 2 ≡ false = grind (arith, nat_tests) in
           let v : eqb (type / 2 ^ 8) 3 ≡ true = grind (arith, nat_tests) in
           let chunk : tag_chunk e.tag ≡ type % 2 ^ 8 = omega arith in
-          let is : is_entry_about e type i ≡ true = rw (id, small, here, k) (either (not (eqb (abstract_type e.tag) 3))) in
+          let is : is_entry_about e type i ≡ true = rw (id, small, here, k) (either (not (eqb (tag_class e.tag) 3))) in
           about e type i (omega arith) is (part_at s type)
           ∙ rw (z, w, v) (kept (is_attribute_removal e.tag) same ∙ ap (option_map (λ bytes. (type, bytes))) (sym (ap (λ (n : ℕ). attribute_bytes n (attributes_after e (slot_of_id s i).attributes)) (sym chunk) ∙ attribute_same e (slot_of_id s i).attributes)))
       | inr other ↦
           let k : eqb (tag_type e.tag) type ≡ false = grind (arith, nat_tests) in
-          let three : eqb (abstract_type e.tag) 3 ≡ true = grind (arith, nat_tests) in
-          let is : is_entry_about e type i ≡ false = rw (three, k) (never (eqb (tag_id e.tag) i) (ltb (abstract_type e.tag) 4) (eqb (abstract_type e.tag) (type / 2 ^ 8))) in
+          let three : eqb (tag_class e.tag) 3 ≡ true = grind (arith, nat_tests) in
+          let is : is_entry_about e type i ≡ false = rw (three, k) (never (eqb (tag_id e.tag) i) (ltb (tag_class e.tag) 4) (eqb (tag_class e.tag) (type / 2 ^ 8))) in
           not_about e type i (omega arith) is (part_at s type) ∙ stays (slot_of_id s i) other (cases_eq (type / 2 ^ 8) 3)
     ])
   where
@@ -211,7 +211,7 @@ attribute_finds e type i s class lt =
     either true = refl
     either false = refl
 
-    kept : (b : Bool) → tag_type e.tag ≡ type → cond b None (type_and_bytes e) ≡ option_map (λ bytes. (type, bytes)) (cond (not b) (Some e.bytes) None)
+    kept : (b : Bool) → tag_type e.tag ≡ type → cond b None (entry_part e) ≡ option_map (λ bytes. (type, bytes)) (cond (not b) (Some e.bytes) None)
     kept true same = refl
     kept false same = ap (λ k. Some (k, e.bytes)) same
 
@@ -246,13 +246,13 @@ effect_finds e type i s t (attributes class lt is) = subst (Finds e type i s) (s
 funext : {A B : Type 0} (f g : A → B) → ((x : A) → f x ≡ g x) → f ≡ g
 funext f g h = λ i x. h x i
 
-pub after_last : (s : RawContent) (xs : List LogEntry) (e : LogEntry) → content_after s (xs ++ e ∷ []) ≡ option_and_then (λ t. content_after_one t e) (content_after s xs)
-after_last s [] e = last (content_after_one s e)
+pub after_last : (s : RawContent) (xs : List LogEntry) (e : LogEntry) → content_after s (xs ++ e ∷ []) ≡ option_and_then (λ t. content_after_entry t e) (content_after s xs)
+after_last s [] e = last (content_after_entry s e)
   where
     last : (o : Option RawContent) → option_and_then (λ t. content_after t []) o ≡ o
     last None = refl
     last (Some t) = refl
-after_last s (x ∷ xs) e = elim (content_after_one s x) as (λ o. option_and_then (λ t. content_after t (xs ++ e ∷ [])) o ≡ option_and_then (λ t. content_after_one t e) (option_and_then (λ t. content_after t xs) o)) [
+after_last s (x ∷ xs) e = elim (content_after_entry s x) as (λ o. option_and_then (λ t. content_after t (xs ++ e ∷ [])) o ≡ option_and_then (λ t. content_after_entry t e) (option_and_then (λ t. content_after t xs) o)) [
   | None ↦ refl
   | Some t ↦ after_last t xs e
 ]
@@ -261,9 +261,9 @@ after_last s (x ∷ xs) e = elim (content_after_one s x) as (λ o. option_and_th
 pub found_is : (es : List LogEntry) (t : RawContent) (type i : ℕ) → content_after empty_raw_content (reverse es) ≡ Some t → found_in_entries es type i ≡ part_at t.slots type i
 found_is [] t type i h = sym (ap (λ (x : RawContent). part_at x.slots type i) (sym (same_Some empty_raw_content t h)) ∙ empty_part type)
 found_is (e ∷ es) t type i h =
-    let split : option_and_then (λ u. content_after_one u e) (content_after empty_raw_content (reverse es)) ≡ Some t =
+    let split : option_and_then (λ u. content_after_entry u e) (content_after empty_raw_content (reverse es)) ≡ Some t =
     sym (after_last empty_raw_content (reverse es) e) ∙ ap (content_after empty_raw_content) (sym (reverse-append (e ∷ []) es)) ∙ h in
-    option_and_then_some (λ u. content_after_one u e) (content_after empty_raw_content (reverse es)) t split (λ u was is.
+    option_and_then_some (λ u. content_after_entry u e) (content_after empty_raw_content (reverse es)) t split (λ u was is.
     let same : (λ (j : ℕ). found_in_entries es type j) ≡ part_at u.slots type = funext _ _ (λ j. found_is es u type j was) in
     ap (found_given_effect (slot_effect e type i)) same ∙ effect_finds e type i u.slots t.slots (effect u t e is))
 

@@ -1,9 +1,9 @@
 -- What is kept of a log without its slots is kept of its content.
 use Rattle.std.proofs.Common.{◌≡◌, ℕ, zero, suc, ◌+◌, ◌-◌, Bool, true, false, ◌&&◌, not, cond, eqb, leb, ltb, is_some, List, [], ◌∷◌, ◌++◌, length, map, replicate, insert, remove, Option, Some, None, refl, sym, ap, ap₂, ◌∙◌}
-use Rattle.lfs_tag.proofs.Common.{option_map, option_and_then, list_all, map-append, length-map, same_Some, tag_type, tag_id, abstract_type, LogEntry, block_entries, RawSlot, RawContent, empty_slot, slot_of_id, changed_at, padded_slots, type_and_bytes, attributes_after, slots_after, content_after_one, content_after, empty_raw_content, is_known_tag, has_needed_id, create_tag_type, delete_tag_type, slot_mark, is_complete_mark, outline_after, empty_outline}
+use Rattle.lfs_tag.proofs.Common.{option_map, option_and_then, list_all, map-append, length-map, same_Some, tag_type, tag_id, tag_class, LogEntry, block_entries, RawSlot, RawContent, empty_slot, slot_of_id, slot_changed_at, padded_slots, entry_part, attributes_after, slots_after, content_after_entry, content_after, empty_raw_content, is_known_tag, has_needed_id, create_tag_type, delete_tag_type, slot_mark, is_complete_mark, outline_after, empty_outline}
 use Rattle.lfs_model.specs.format.Slots.{Slot, PairContent}
-use Rattle.lfs_model.specs.format.Content.{kind_of_type, read_struct, complete_slots, complete_content}
-use Rattle.lfs_model.specs.format.EntryTypes.{entry_tail, read_gstate}
+use Rattle.lfs_model.specs.format.Content.{kind_of_type, decoded_struct, complete_slots, complete_content}
+use Rattle.lfs_model.specs.format.EntryTypes.{entry_tail, decoded_gstate}
 use Rattle.lfs_tag.specs.declared.summary.SlotSummary.{SlotSummary}
 use Rattle.lfs_tag.specs.Summary.{id_mark, marks_with_change, padded_marks, empty_mark, marks_after_entry, LogOutline, content_outline, outline_after_entry}
 use Rattle.lfs_tag.proofs.Places.{map-insert, map-remove}
@@ -15,7 +15,7 @@ mark_at [] i = refl
 mark_at (s ∷ slots) zero = refl
 mark_at (s ∷ slots) (suc i) = mark_at slots i
 
-change_marks : (f : RawSlot → RawSlot) (g : SlotSummary → SlotSummary) → ((s : RawSlot) → slot_mark (f s) ≡ g (slot_mark s)) → (slots : List RawSlot) (i : ℕ) → map slot_mark (changed_at f slots i) ≡ marks_with_change g (map slot_mark slots) i
+change_marks : (f : RawSlot → RawSlot) (g : SlotSummary → SlotSummary) → ((s : RawSlot) → slot_mark (f s) ≡ g (slot_mark s)) → (slots : List RawSlot) (i : ℕ) → map slot_mark (slot_changed_at f slots i) ≡ marks_with_change g (map slot_mark slots) i
 change_marks f g same [] i = refl
 change_marks f g same (s ∷ slots) zero = ap (λ m. m ∷ map slot_mark slots) (same s)
 change_marks f g same (s ∷ slots) (suc i) = ap (λ ms. slot_mark s ∷ ms) (change_marks f g same slots i)
@@ -50,13 +50,13 @@ either f false false within false there false struct x y z u v x2 y2 z2 u2 v2 a 
 
 slots_marked : (slots : List RawSlot) (e : LogEntry) → option_map (map slot_mark) (slots_after slots e) ≡ marks_after_entry (map slot_mark slots) e
 slots_marked slots e =
-    either (map slot_mark) (eqb (abstract_type e.tag) 0) (eqb (tag_type e.tag) create_tag_type) (leb i (length slots)) (eqb (tag_type e.tag) delete_tag_type) (ltb i (length slots)) (is_some (slot_of_id slots i).name) (eqb (abstract_type e.tag) 2)
-    (changed_at (λ s. record s { name = type_and_bytes e }) (padded_slots slots i) i) (insert slots i empty_slot) (remove slots i) (changed_at (λ s. record s { struct = type_and_bytes e }) slots i) (changed_at (λ s. record s { attributes = attributes_after e s.attributes }) slots i)
+    either (map slot_mark) (eqb (tag_class e.tag) 0) (eqb (tag_type e.tag) create_tag_type) (leb i (length slots)) (eqb (tag_type e.tag) delete_tag_type) (ltb i (length slots)) (is_some (slot_of_id slots i).name) (eqb (tag_class e.tag) 2)
+    (slot_changed_at (λ s. record s { name = entry_part e }) (padded_slots slots i) i) (insert slots i empty_slot) (remove slots i) (slot_changed_at (λ s. record s { struct = entry_part e }) slots i) (slot_changed_at (λ s. record s { attributes = attributes_after e s.attributes }) slots i)
     named (insert marks i empty_mark) (remove marks i) structured marks
-    (change_marks (λ s. record s { name = type_and_bytes e }) (λ m. record m { has_name = true }) (λ s. refl) (padded_slots slots i) i ∙ ap (λ ms. marks_with_change (λ m. record m { has_name = true }) ms i) (up_to_marks slots i))
+    (change_marks (λ s. record s { name = entry_part e }) (λ m. record m { has_name = true }) (λ s. refl) (padded_slots slots i) i ∙ ap (λ ms. marks_with_change (λ m. record m { has_name = true }) ms i) (up_to_marks slots i))
     (map-insert slot_mark slots i empty_slot)
     (map-remove slot_mark slots i)
-    (change_marks (λ s. record s { struct = type_and_bytes e }) (λ m. record m { has_struct = true }) (λ s. refl) slots i)
+    (change_marks (λ s. record s { struct = entry_part e }) (λ m. record m { has_struct = true }) (λ s. refl) slots i)
     (change_marks (λ s. record s { attributes = attributes_after e s.attributes }) (λ m. m) (λ s. refl) slots i ∙ marked_as_it_is marks i)
     ∙ ap₂ tested (sym (length-map slots slot_mark)) (sym (ap (λ m. m.has_name) (mark_at slots i)))
   where
@@ -74,24 +74,24 @@ slots_marked slots e =
 
     tested : ℕ → Bool → Option (List SlotSummary)
     tested count is_named =
-        cond (eqb (abstract_type e.tag) 0) (Some named)
+        cond (eqb (tag_class e.tag) 0) (Some named)
         (cond (eqb (tag_type e.tag) create_tag_type) (cond (leb i count) (Some (insert marks i empty_mark)) None)
         (cond (eqb (tag_type e.tag) delete_tag_type) (cond (ltb i count) (Some (remove marks i)) None)
         (cond (not is_named) None
-        (cond (eqb (abstract_type e.tag) 2) (Some structured) (Some marks)))))
+        (cond (eqb (tag_class e.tag) 2) (Some structured) (Some marks)))))
 
 -- ---- all entries
 
-entry_outlined : (c : RawContent) (e : LogEntry) → option_map content_outline (content_after_one c e) ≡ outline_after_entry (content_outline c) e
-entry_outlined c e = go (eqb (abstract_type e.tag) 5) (is_known_tag e.tag && has_needed_id e.tag) (eqb (abstract_type e.tag) 6) (eqb (abstract_type e.tag) 7) (slots_after c.slots e) (slots_marked c.slots e)
+entry_outlined : (c : RawContent) (e : LogEntry) → option_map content_outline (content_after_entry c e) ≡ outline_after_entry (content_outline c) e
+entry_outlined c e = go (eqb (tag_class e.tag) 5) (is_known_tag e.tag && has_needed_id e.tag) (eqb (tag_class e.tag) 6) (eqb (tag_class e.tag) 7) (slots_after c.slots e) (slots_marked c.slots e)
   where
     slots : (o : Option (List RawSlot)) → option_map content_outline (option_map (λ slots. record c { slots = slots }) o) ≡ option_map (λ marks. record (content_outline c) { marks = marks }) (option_map (map slot_mark) o)
     slots None = refl
     slots (Some s) = refl
 
     go : (checksum fits tail move : Bool) (o : Option (List RawSlot)) → option_map (map slot_mark) o ≡ marks_after_entry (map slot_mark c.slots) e
-        → option_map content_outline (cond checksum (Some c) (cond (not fits) None (cond tail (Some (record c { tail = entry_tail e })) (cond move (Some (record c { move = read_gstate e.bytes })) (option_map (λ slots. record c { slots = slots }) o)))))
-        ≡ cond checksum (Some (content_outline c)) (cond (not fits) None (cond tail (Some (record (content_outline c) { tail = entry_tail e })) (cond move (Some (record (content_outline c) { move = read_gstate e.bytes })) (option_map (λ marks. record (content_outline c) { marks = marks }) (marks_after_entry (map slot_mark c.slots) e)))))
+        → option_map content_outline (cond checksum (Some c) (cond (not fits) None (cond tail (Some (record c { tail = entry_tail e })) (cond move (Some (record c { move = decoded_gstate e.bytes })) (option_map (λ slots. record c { slots = slots }) o)))))
+        ≡ cond checksum (Some (content_outline c)) (cond (not fits) None (cond tail (Some (record (content_outline c) { tail = entry_tail e })) (cond move (Some (record (content_outline c) { move = decoded_gstate e.bytes })) (option_map (λ marks. record (content_outline c) { marks = marks }) (marks_after_entry (map slot_mark c.slots) e)))))
     go true fits tail move o same = refl
     go false false tail move o same = refl
     go false true true move o same = refl
@@ -100,7 +100,7 @@ entry_outlined c e = go (eqb (abstract_type e.tag) 5) (is_known_tag e.tag && has
 
 pub outlined : (c : RawContent) (es : List LogEntry) → option_map content_outline (content_after c es) ≡ outline_after (content_outline c) es
 outlined c [] = refl
-outlined c (e ∷ es) = go (content_after_one c e) (λ d. outlined d es) ∙ ap (option_and_then (λ p. outline_after p es)) (entry_outlined c e)
+outlined c (e ∷ es) = go (content_after_entry c e) (λ d. outlined d es) ∙ ap (option_and_then (λ p. outline_after p es)) (entry_outlined c e)
   where
     go : (o : Option RawContent) → ((d : RawContent) → option_map content_outline (content_after d es) ≡ outline_after (content_outline d) es)
         → option_map content_outline (option_and_then (λ d. content_after d es) o) ≡ option_and_then (λ p. outline_after p es) (option_map content_outline o)
@@ -111,7 +111,7 @@ outlined c (e ∷ es) = go (content_after_one c e) (λ d. outlined d es) ∙ ap 
 
 whole_slots : (slots : List RawSlot) → list_all is_complete_mark (map slot_mark slots) ≡ is_some (complete_slots slots)
 whole_slots [] = refl
-whole_slots (s ∷ slots) = by_parts (λ name struct. record { kind = kind_of_type name.0; name = name.1; struct = read_struct struct.0 struct.1; attributes = s.attributes }) s.name s.struct (complete_slots slots) (whole_slots slots)
+whole_slots (s ∷ slots) = by_parts (λ name struct. record { kind = kind_of_type name.0; name = name.1; struct = decoded_struct struct.0 struct.1; attributes = s.attributes }) s.name s.struct (complete_slots slots) (whole_slots slots)
   where
     by_parts : (make : ℕ × List ℕ → ℕ × List ℕ → Slot) (name struct : Option (ℕ × List ℕ)) (others : Option (List Slot)) → list_all is_complete_mark (map slot_mark slots) ≡ is_some others
         → ((is_some name && is_some struct) && list_all is_complete_mark (map slot_mark slots)) ≡ is_some (option_and_then (λ t. option_map (λ ts. t ∷ ts) others) (option_and_then (λ n. option_map (λ p. make n p) struct) name))

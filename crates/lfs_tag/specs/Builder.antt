@@ -1,6 +1,6 @@
 -- A commit that is being built, and what its pages make of a block's log.
 use Rattle.std.specs.Prelude.{◌≡◌, ◌<◌, ◌≤◌, ℕ, ◌+◌, ◌-◌, List, [], ◌∷◌, ◌++◌, length, drop, replicate, Option, Some, None, unwrap_or}
-use Rattle.lfs_model.specs.format.Tag.{abstract_type, make_tag, tag_before_next}
+use Rattle.lfs_model.specs.format.Tag.{tag_class, make_tag, tag_before_next}
 use Rattle.lfs_model.specs.format.Log.{LogEntry, chain_of, block_revision}
 use Rattle.lfs_model.specs.layers.Commit.{encoded_size, aligned_end, four_bytes_at, checksum_type}
 use Rattle.lfs_model.specs.format.EntryTypes.{no_id}
@@ -28,13 +28,13 @@ entries_start (Some revision) = 4
 abbrev pub checksum_start : PartialCommit → ℕ
 checksum_start b = entries_start b.revision + encoded_size b.entries
 
-abbrev pub padded_end_of : PartialCommit → ℕ
-padded_end_of b = aligned_end b.page (checksum_start b)
+abbrev pub padded_commit_end : PartialCommit → ℕ
+padded_commit_end b = aligned_end b.page (checksum_start b)
 
 -- ---- the checksum's entry
 
 abbrev pub checksum_tag : PartialCommit → Option (List ℕ) → ℕ
-checksum_tag b next = make_tag (checksum_type next) no_id (padded_end_of b - checksum_start b - 4)
+checksum_tag b next = make_tag (checksum_type next) no_id (padded_commit_end b - checksum_start b - 4)
 
 -- its bytes are the checksum and the padding
 abbrev pub checksum_entry : PartialCommit → Option (List ℕ) → List ℕ → LogEntry
@@ -63,5 +63,5 @@ pub record AreCommitPages (b : PartialCommit) (next : Option (List ℕ)) (pages 
       }
   pub revision : (block : List ℕ) (at : ℕ) → IsCommitOffset b.revision b.previous block at → at + length pages ≤ length block
       → block_revision (overwritten_at block at pages) ≡ unwrap_or b.revision (block_revision block)
-  pub class : abstract_type (checksum_tag b next) ≡ 5
-  pub padding : drop (checksum_start b + 8) pages ≡ replicate (padded_end_of b - (checksum_start b + 8)) 0xff
+  pub class : tag_class (checksum_tag b next) ≡ 5
+  pub padding : drop (checksum_start b + 8) pages ≡ replicate (padded_commit_end b - (checksum_start b + 8)) 0xff

@@ -3,8 +3,8 @@ use Rattle.lfs_tag.specs.declared.builder.CommitBuilder.TheInside.{Inside}
 use Rattle.lfs_tag.specs.Builder.{PartialCommit}
 use Rattle.lfs_tag.specs.BuilderKeeps.{BuildsCommit}
 
-abbrev pub built_view : Inside → PartialCommit
-built_view b = b.pushed.so_far
+abbrev pub builder_view : Inside → PartialCommit
+builder_view b = b.pushed.so_far
 
 abbrev pub IsBuilder : Inside → Type 0
 IsBuilder b = BuildsCommit b.page b.len b.last b.buf.now b.pushed.so_far

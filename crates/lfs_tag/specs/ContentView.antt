@@ -1,7 +1,7 @@
 -- The content of the code, as the definitions have it: without where its bytes are in memory.
 use Rattle.std.specs.Prelude.{ℕ, suc, if◌then◌else◌, nat_le, List, [], ◌∷◌, map}
 use Rattle.std.specs.Option.{option_map}
-use Rattle.lfs_model.specs.format.Slots.{Attributes, array_address}
+use Rattle.lfs_model.specs.format.Slots.{Attributes, address_view}
 use Rattle.lfs_model.specs.format.Slots as slots
 use Rattle.lfs_model.specs.format.Content.{RawSlot, RawContent}
 use Rattle.lfs_tag.specs.declared.content.NameOrStruct.{NameOrStruct}
@@ -25,7 +25,7 @@ slot_view s = record {
 }
 
 abbrev pub tail_view : Tail → slots.Tail
-tail_view t = record { hard = t.hard; to = array_address t.pair }
+tail_view t = record { hard = t.hard; to = address_view t.pair }
 
 abbrev pub content_view : Content → RawContent
 content_view c = record {

@@ -1,9 +1,9 @@
 -- How a search from the newest entry back finds what a log's slots hold, while the id shifts.
 use Rattle.std.specs.Prelude.{ℕ, ◌+◌, ◌-◌, ◌/◌, ◌^◌, ◌==◌, ◌&&◌, ◌||◌, not, nat_lt, nat_le, if◌then◌else◌, Bool, List, [], ◌∷◌, Option, None}
-use Rattle.lfs_model.specs.format.Tag.{tag_type, tag_id, abstract_type}
+use Rattle.lfs_model.specs.format.Tag.{tag_type, tag_id, tag_class}
 use Rattle.lfs_model.specs.format.Log.{LogEntry}
 use Rattle.lfs_model.specs.format.EntryTypes.{create_tag_type, is_attribute_removal}
-use Rattle.lfs_model.specs.format.Content.{type_and_bytes}
+use Rattle.lfs_model.specs.format.Content.{entry_part}
 
 -- What an entry means for an id after it: what the slot holds, its type and its bytes, or which id the slot had before the entry.
 pub data SlotEffect : Type 0 where
@@ -13,7 +13,7 @@ pub data SlotEffect : Type 0 where
 -- the entry is about this id, and about this type or the one that takes its place
 abbrev pub is_entry_about : LogEntry → ℕ → ℕ → Bool
 is_entry_about e type id =
-    tag_id e.tag == id && (nat_lt (abstract_type e.tag) 4 && (abstract_type e.tag == type / 2 ^ 8 && (not (abstract_type e.tag == 3) || tag_type e.tag == type)))
+    tag_id e.tag == id && (nat_lt (tag_class e.tag) 4 && (tag_class e.tag == type / 2 ^ 8 && (not (tag_class e.tag == 3) || tag_type e.tag == type)))
 
 -- what a create or a delete means
 abbrev pub splice_effect_of : LogEntry → ℕ → SlotEffect
@@ -24,8 +24,8 @@ splice_effect_of e id =
 
 abbrev pub slot_effect : LogEntry → ℕ → ℕ → SlotEffect
 slot_effect e type id =
-    if abstract_type e.tag == 4 then splice_effect_of e id
-    else (if is_entry_about e type id then Holds (if is_attribute_removal e.tag then None else type_and_bytes e) else Was id)
+    if tag_class e.tag == 4 then splice_effect_of e id
+    else (if is_entry_about e type id then Holds (if is_attribute_removal e.tag then None else entry_part e) else Was id)
 
 -- what a verdict comes to, where `before` is what the earlier entries hold for an id
 abbrev pub found_given_effect : SlotEffect → (ℕ → Option (ℕ × List ℕ)) → Option (ℕ × List ℕ)

@@ -5,7 +5,7 @@ use Rattle.std.specs.List.{insert, remove}
 use Rattle.std.specs.declared.cmp.Ordering.{Ordering}
 use Rattle.std.specs.declared.cmp.Ordering.TheVariants.{Less, Equal, Greater}
 use Rattle.lfs_model.specs.declared.order.NameOrder.{NameOrder}
-use Rattle.lfs_model.specs.format.Tag.{tag_type, tag_id, abstract_type}
+use Rattle.lfs_model.specs.format.Tag.{tag_type, tag_id, tag_class}
 use Rattle.lfs_model.specs.format.Log.{LogEntry}
 use Rattle.lfs_model.specs.format.Names.{Name, name_cmp}
 use Rattle.lfs_model.specs.format.Content.{RawSlot}
@@ -41,8 +41,8 @@ comparisons_after_splice ranks e =
 -- the ranks after an entry, and after all of these
 abbrev pub comparisons_after_entry : NameOrder → Name → List NameComparison → LogEntry → List NameComparison
 comparisons_after_entry order name ranks e =
-    if abstract_type e.tag == 0 then slice_set (padded_comparisons ranks (tag_id e.tag)) (tag_id e.tag) (comparison_with_entry order name e)
-    else (if abstract_type e.tag == 4 then comparisons_after_splice ranks e else ranks)
+    if tag_class e.tag == 0 then slice_set (padded_comparisons ranks (tag_id e.tag)) (tag_id e.tag) (comparison_with_entry order name e)
+    else (if tag_class e.tag == 4 then comparisons_after_splice ranks e else ranks)
 
 abbrev pub comparisons_after : NameOrder → Name → List NameComparison → List LogEntry → List NameComparison
 comparisons_after order name ranks [] = ranks

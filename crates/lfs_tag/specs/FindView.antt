@@ -2,7 +2,7 @@
 use Rattle.std.specs.Prelude.{ℕ, nat_lt, if◌then◌else◌, true, false, List, length, Option}
 use Rattle.lfs_model.specs.declared.order.NameOrder.{NameOrder}
 use Rattle.lfs_model.specs.format.Content.{RawSlot}
-use Rattle.lfs_model.specs.layers.Lookup.{IsLeastId, IsNewId}
+use Rattle.lfs_model.specs.layers.Lookup.{IsNameId, IsInsertionId}
 use Rattle.lfs_tag.specs.declared.lookup.Lookup.{Lookup}
 use Rattle.lfs_tag.specs.declared.lookup.Lookup.TheVariants.{Found, Place}
 use Rattle.lfs_tag.specs.declared.lookup.NameComparison.{NameComparison}
@@ -10,8 +10,8 @@ use Rattle.lfs_tag.specs.Find.{first_wanted_slot}
 
 -- the name is found there, or is absent and belongs there
 abbrev pub IsNameLookup : NameOrder → List ℕ → Option ℕ → List RawSlot → Lookup → Type 0
-IsNameLookup order name skip slots (Found id) = IsLeastId name skip slots id
-IsNameLookup order name skip slots (Place id) = IsNewId order name skip slots id
+IsNameLookup order name skip slots (Found id) = IsNameId name skip slots id
+IsNameLookup order name skip slots (Place id) = IsInsertionId order name skip slots id
 
 -- how it is computed from the slots' comparisons
 abbrev pub lookup_of_comparisons : Option ℕ → List NameComparison → Lookup

@@ -12,6 +12,6 @@ name_kind_view variant.Directory = slots.Directory
 name_kind_view variant.Superblock = slots.Superblock
 
 -- whether a name is a superblock's
-abbrev pub is_superblock_tag : Option (ℕ × List ℕ) → Bool
-is_superblock_tag None = false
-is_superblock_tag (Some name) = is_superblock_kind (kind_of_type name.0)
+abbrev pub is_superblock_name : Option (ℕ × List ℕ) → Bool
+is_superblock_name None = false
+is_superblock_name (Some name) = is_superblock_kind (kind_of_type name.0)

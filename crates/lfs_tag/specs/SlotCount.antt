@@ -1,14 +1,14 @@
 -- How many slots there are after a log's entries.
 use Rattle.std.specs.Prelude.{ℕ, ◌+◌, ◌-◌, ◌==◌, not, nat_lt, nat_le, max, if◌then◌else◌, List, [], ◌∷◌}
-use Rattle.lfs_model.specs.format.Tag.{tag_type, tag_id, abstract_type}
+use Rattle.lfs_model.specs.format.Tag.{tag_type, tag_id, tag_class}
 use Rattle.lfs_model.specs.format.Log.{LogEntry}
 use Rattle.lfs_model.specs.format.EntryTypes.{create_tag_type}
 
 -- where there were so many before the entry, which is allowed there
 abbrev pub slot_count_after_entry : ℕ → LogEntry → ℕ
 slot_count_after_entry count e =
-    if abstract_type e.tag == 0 then max count (tag_id e.tag + 1)
-    else (if not (abstract_type e.tag == 4) then count
+    if tag_class e.tag == 0 then max count (tag_id e.tag + 1)
+    else (if not (tag_class e.tag == 4) then count
     else (if tag_type e.tag == create_tag_type
     then (if nat_le (tag_id e.tag) count then count + 1 else count)
     else (if nat_lt (tag_id e.tag) count then count - 1 else count)))

@@ -1,8 +1,8 @@
 -- What the code makes of a slot's struct, in the words of the definitions.
 use Rattle.std.specs.Prelude.{ℕ, ◌==◌, ◌&&◌, ◌||◌, if◌then◌else◌, Bool, List, length, Option, Some, None}
-use Rattle.lfs_model.specs.format.Content.{read_struct}
+use Rattle.lfs_model.specs.format.Content.{decoded_struct}
 use Rattle.lfs_model.specs.format.EntryTypes.{ctz_type, directory_type, inline_type}
-use Rattle.lfs_model.specs.format.Slots.{array_address}
+use Rattle.lfs_model.specs.format.Slots.{address_view}
 use Rattle.lfs_model.specs.format.Slots as slots
 use Rattle.lfs_tag.specs.declared.structure.Struct.{Struct}
 use Rattle.lfs_tag.specs.declared.structure.Struct.TheVariants as variant
@@ -10,12 +10,12 @@ use Rattle.lfs_tag.specs.declared.structure.Struct.TheVariants as variant
 abbrev pub struct_view : Struct → slots.Struct
 struct_view (variant.Inline bytes) = slots.Inline bytes.now
 struct_view (variant.Ctz head size) = slots.Ctz head size
-struct_view (variant.Branch to) = slots.Branch (array_address to)
+struct_view (variant.Branch to) = slots.Branch (address_view to)
 
 -- whether a type and bytes are a struct's: bytes of a file, or 8 bytes that name a list or a pair
-abbrev pub is_any_struct : ℕ × List ℕ → Bool
-is_any_struct part = part.0 == inline_type || ((part.0 == ctz_type || part.0 == directory_type) && length part.1 == 8)
+abbrev pub is_struct_part : ℕ × List ℕ → Bool
+is_struct_part part = part.0 == inline_type || ((part.0 == ctz_type || part.0 == directory_type) && length part.1 == 8)
 
 -- what they say, where they are
-abbrev pub struct_if_matching : ℕ × List ℕ → Option slots.Struct
-struct_if_matching part = if is_any_struct part then Some (read_struct part.0 part.1) else None
+abbrev pub part_struct : ℕ × List ℕ → Option slots.Struct
+part_struct part = if is_struct_part part then Some (decoded_struct part.0 part.1) else None

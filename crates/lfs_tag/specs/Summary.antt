@@ -4,10 +4,10 @@ use Rattle.std.specs.Option.{option_map, option_and_then}
 use Rattle.std.specs.List.{insert, remove}
 use Rattle.lfs_model.specs.format.Slots.{Gstate, zero_gstate}
 use Rattle.lfs_model.specs.format.Slots as slots
-use Rattle.lfs_model.specs.format.Tag.{tag_type, tag_id, abstract_type}
+use Rattle.lfs_model.specs.format.Tag.{tag_type, tag_id, tag_class}
 use Rattle.lfs_model.specs.format.Log.{LogEntry, block_entries}
 use Rattle.lfs_model.specs.format.Content.{RawSlot, RawContent, content_after, empty_raw_content, complete_content}
-use Rattle.lfs_model.specs.format.EntryTypes.{create_tag_type, delete_tag_type, is_known_tag, has_needed_id, entry_tail, read_gstate}
+use Rattle.lfs_model.specs.format.EntryTypes.{create_tag_type, delete_tag_type, is_known_tag, has_needed_id, entry_tail, decoded_gstate}
 use Rattle.lfs_tag.specs.ContentView.{tail_view}
 use Rattle.lfs_tag.specs.FieldsView.{move_view}
 use Rattle.lfs_tag.specs.declared.summary.SlotSummary.{SlotSummary}
@@ -56,20 +56,20 @@ is_complete_mark m = m.has_name && m.has_struct
 -- the marks after an entry, or none where the entry isn't allowed there
 abbrev pub marks_after_entry : List SlotSummary → LogEntry → Option (List SlotSummary)
 marks_after_entry marks e =
-    if abstract_type e.tag == 0 then Some (marks_with_change (λ m. record m { has_name = true }) (padded_marks marks (tag_id e.tag)) (tag_id e.tag))
+    if tag_class e.tag == 0 then Some (marks_with_change (λ m. record m { has_name = true }) (padded_marks marks (tag_id e.tag)) (tag_id e.tag))
     else (if tag_type e.tag == create_tag_type then (if nat_le (tag_id e.tag) (length marks) then Some (insert marks (tag_id e.tag) empty_mark) else None)
     else (if tag_type e.tag == delete_tag_type then (if nat_lt (tag_id e.tag) (length marks) then Some (remove marks (tag_id e.tag)) else None)
     else (if not (id_mark marks (tag_id e.tag)).has_name then None
-    else (if abstract_type e.tag == 2 then Some (marks_with_change (λ m. record m { has_struct = true }) marks (tag_id e.tag))
+    else (if tag_class e.tag == 2 then Some (marks_with_change (λ m. record m { has_struct = true }) marks (tag_id e.tag))
     else Some marks))))
 
 -- the outline after an entry, or none where the log is malformed
 abbrev pub outline_after_entry : LogOutline → LogEntry → Option LogOutline
 outline_after_entry o e =
-    if abstract_type e.tag == 5 then Some o
+    if tag_class e.tag == 5 then Some o
     else (if not (is_known_tag e.tag && has_needed_id e.tag) then None
-    else (if abstract_type e.tag == 6 then Some (record o { tail = entry_tail e })
-    else (if abstract_type e.tag == 7 then Some (record o { move = read_gstate e.bytes })
+    else (if tag_class e.tag == 6 then Some (record o { tail = entry_tail e })
+    else (if tag_class e.tag == 7 then Some (record o { move = decoded_gstate e.bytes })
     else option_map (λ marks. record o { marks = marks }) (marks_after_entry o.marks e))))
 
 abbrev pub outline_after : LogOutline → List LogEntry → Option LogOutline

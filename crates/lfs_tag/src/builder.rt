@@ -4,12 +4,12 @@ ghost use Rattle.std.specs.Prelude.{◌≡◌, ℕ, IfSome, slice_index, ◌≢�
 ghost use Rattle.byteorder.specs.Endian.{big_bytes, little_bytes};
 ghost use Rattle.lfs_model.specs.format.Crc.{crc_of};
 ghost use Rattle.lfs_model.specs.format.Log.{LogEntry};
-ghost use Rattle.lfs_model.specs.format.Tag.{IsValidTag, abstract_type, tag_data_size, make_tag, tag_before_next};
+ghost use Rattle.lfs_model.specs.format.Tag.{IsValidTag, tag_class, tag_data_size, make_tag, tag_before_next};
 ghost use Rattle.lfs_model.specs.format.Geometry.{is_page};
 ghost use Rattle.lfs_model.specs.format.EntryTypes.{no_id};
 ghost use Rattle.lfs_model.specs.format.Blocks.{overwritten_at};
 ghost use Rattle.lfs_model.specs.layers.Commit.{checksum_type};
-ghost use Rattle.lfs_tag.specs.Builder.{commit_adding_entry, padded_end_of, checksum_tag as checksum_entry_tag, AreCommitPages};
+ghost use Rattle.lfs_tag.specs.Builder.{commit_adding_entry, padded_commit_end, checksum_tag as checksum_entry_tag, AreCommitPages};
 
 use crate::crc;
 use crate::kinds::{CHECKSUM, TURNED_CHECKSUM};
@@ -39,9 +39,9 @@ impl<'a> Model for CommitBuilder<'a> {
 
     ghost Value = { PartialCommit };
 
-    ghost use Rattle.lfs_tag.specs.BuilderView.{built_view, IsBuilder};
+    ghost use Rattle.lfs_tag.specs.BuilderView.{builder_view, IsBuilder};
 
-    ghost view = { built_view };
+    ghost view = { builder_view };
 
     ghost invariant = { IsBuilder };
 }
@@ -154,7 +154,7 @@ impl<'a> CommitBuilder<'a> {
     /// [`finish`](CommitBuilder::finish) fails.
     pub fn push(&mut self, tag: Tag, bytes: &[u8])
         requires valid { IsValidTag tag }
-        requires other { abstract_type tag ≢ 5 }
+        requires other { tag_class tag ≢ 5 }
         requires bytes { length bytes.now ≡ tag_data_size tag }
         ensures { let entry : LogEntry = record { tag = tag; bytes = bytes.now } in
             self.new ≡ commit_adding_entry entry self.old }
@@ -169,7 +169,7 @@ impl<'a> CommitBuilder<'a> {
 
     // Returns where the padded commit ends, or the greatest number where the end is past that.
     fn padded_end(&self) -> usize
-        ensures { result ≡ min (padded_end_of self.now) (2 ^ 64 - 1) }
+        ensures { result ≡ min (padded_commit_end self.now) (2 ^ 64 - 1) }
     {
         self.len
             .saturating_add(8)
@@ -180,7 +180,7 @@ impl<'a> CommitBuilder<'a> {
     /// Returns where the padded commit will end, in bytes from the buffer's start. The end may be
     /// past the buffer's. Returns `u32::MAX` where the end is past that.
     pub fn end_on_page(&self) -> u32
-        ensures { result ≡ min (padded_end_of self.now) (2 ^ 32 - 1) }
+        ensures { result ≡ min (padded_commit_end self.now) (2 ^ 32 - 1) }
     {
         u32::try_from(self.padded_end()).unwrap_or(u32::MAX)
     }
@@ -188,8 +188,8 @@ impl<'a> CommitBuilder<'a> {
     /// Returns the commit's last tag, as the next tag in the block is stored with it. `next` is the
     /// argument that [`finish`](CommitBuilder::finish) will get. The caller's condition is that the
     /// commit fits the buffer.
-    pub fn next_previous_tag(&self, next: Option<[u8; 4]>) -> Tag
-        requires { padded_end_of self.now ≤ self.now.room }
+    pub fn last_commit_tag(&self, next: Option<[u8; 4]>) -> Tag
+        requires { padded_commit_end self.now ≤ self.now.room }
         ensures { result ≡ tag_before_next (checksum_entry_tag self.now next) }
     {
         let size = self.padded_end() - (self.len + 4);
@@ -203,9 +203,9 @@ impl<'a> CommitBuilder<'a> {
     ///
     /// Errors: `TooBig` exactly where the padded commit doesn't fit the buffer.
     pub fn finish(self, next: Option<[u8; 4]>) -> Result<&'a [u8], Error>
-        ensures fits { IsOk result ↔ (padded_end_of self.entry ≤ self.entry.room) }
+        ensures fits { IsOk result ↔ (padded_commit_end self.entry ≤ self.entry.room) }
         ensures error { IfErr result (λ e. e ≡ Error.TooBig) }
-        ensures size { IfOk result (λ pages. length pages.now ≡ padded_end_of self.entry) }
+        ensures size { IfOk result (λ pages. length pages.now ≡ padded_commit_end self.entry) }
         ensures commit { IfOk result (λ pages. AreCommitPages self.entry next pages.now) }
     {
         let end = self.padded_end();

@@ -4,7 +4,7 @@ ghost use Rattle.std.specs.Prelude.{◌≡◌, ℕ, ◌+◌, ◌≤◌, ◌<◌,
 ghost use Rattle.std.specs.Option.{option_map};
 ghost use Rattle.lfs_model.specs.format.Log.{block_entries};
 ghost use Rattle.lfs_model.specs.format.EntryTypes.{is_known_tag, has_needed_id, entry_tail};
-ghost use Rattle.lfs_model.specs.format.Content.{attributes_with, attributes_after, empty_slot, slot_of_id, changed_at, padded_slots, slots_after, content_after_one, content_after, empty_raw_content};
+ghost use Rattle.lfs_model.specs.format.Content.{attributes_with, attributes_after, empty_slot, slot_of_id, slot_changed_at, padded_slots, slots_after, content_after_entry, content_after, empty_raw_content};
 ghost use Rattle.lfs_model.specs.format.Thread.{is_hard_tail};
 ghost use Rattle.lfs_tag.specs.LogEntryView.{log_entry_view};
 ghost use Rattle.lfs_tag.specs.ContentView.{part_view, attribute_view, slot_view, tail_view, content_view, index_for_attribute};
@@ -107,7 +107,7 @@ impl From<ContentError> for Error {
 }
 
 // Returns whether the format has a tag's type, with its length.
-pub(crate) fn is_known_entry(tag: Tag) -> bool
+pub(crate) fn is_format_tag(tag: Tag) -> bool
     ensures { result ≡ is_known_tag tag }
 {
     let kind = tag.kind();
@@ -197,7 +197,7 @@ fn set_slot_name<'a>(
     part: NameOrStruct<'a>,
 ) -> Result<(), AllocError>
     requires { id < 1024 }
-    ensures { OnOk result (map slot_view slots.new.items ≡ changed_at (λ s. record s { name = Some (part_view part.entry) }) (padded_slots (map slot_view slots.old.items) id) id) }
+    ensures { OnOk result (map slot_view slots.new.items ≡ slot_changed_at (λ s. record s { name = Some (part_view part.entry) }) (padded_slots (map slot_view slots.old.items) id) id) }
 {
     pad_slots(alloc, slots, id)?;
     let slot = &mut slots[id];
@@ -208,7 +208,7 @@ fn set_slot_name<'a>(
 // Gives a slot its struct.
 fn set_slot_struct<'a>(slots: &mut Vec<Slot<'a>>, id: usize, part: NameOrStruct<'a>)
     requires { id < vec_len slots.old }
-    ensures { map slot_view slots.new.items ≡ changed_at (λ s. record s { struct = Some (part_view part.entry) }) (map slot_view slots.old.items) id }
+    ensures { map slot_view slots.new.items ≡ slot_changed_at (λ s. record s { struct = Some (part_view part.entry) }) (map slot_view slots.old.items) id }
 {
     let slot = &mut slots[id];
     slot.structure = Some(part);
@@ -221,7 +221,7 @@ fn change_attribute<'a>(
     entry: &Entry<'a>,
 ) -> Result<(), AllocError>
     requires { id < vec_len slots.old }
-    ensures { OnOk result (map slot_view slots.new.items ≡ changed_at (λ s. record s { attributes = attributes_after (log_entry_view entry.now) s.attributes }) (map slot_view slots.old.items) id) }
+    ensures { OnOk result (map slot_view slots.new.items ≡ slot_changed_at (λ s. record s { attributes = attributes_after (log_entry_view entry.now) s.attributes }) (map slot_view slots.old.items) id) }
 {
     let slot = &mut slots[id];
     let kind = entry.tag.chunk();
@@ -326,14 +326,14 @@ fn apply_to_content<'a>(
     content: &mut Content<'a>,
     entry: &Entry<'a>,
 ) -> Result<(), ContentError>
-    ensures { GivesWithMemory (λ _. content_view content.new) result (content_after_one (content_view content.old) (log_entry_view entry.now)) }
+    ensures { GivesWithMemory (λ _. content_view content.new) result (content_after_entry (content_view content.old) (log_entry_view entry.now)) }
 {
     let tag = entry.tag;
     let class = tag.class();
     if class == CHECKSUM_CLASS {
         return Ok(());
     }
-    if !is_known_entry(tag) || !has_needed_slot(tag) {
+    if !is_format_tag(tag) || !has_needed_slot(tag) {
         return Err(ContentError::Malformed);
     }
     if class == TAIL_CLASS {
@@ -390,7 +390,7 @@ impl<'a> Content<'a> {
     ///
     /// Errors are those of [`read`](Content::read). After an error nothing is known of the content.
     pub fn apply_next_entry(&mut self, alloc: Global, entry: &Entry<'a>) -> Result<(), ContentError>
-        ensures { GivesWithMemory (λ _. content_view self.new) result (content_after_one (content_view self.old) (log_entry_view entry.now)) }
+        ensures { GivesWithMemory (λ _. content_view self.new) result (content_after_entry (content_view self.old) (log_entry_view entry.now)) }
     {
         apply_to_content(alloc, self, entry)?;
         Ok(())

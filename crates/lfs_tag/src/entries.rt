@@ -38,7 +38,7 @@ impl<'a> Model for Entries<'a> {
 
 impl<'a> Entries<'a> {
     // Returns the entries of a block's chain that ends at this place, with this last tag.
-    pub(crate) fn of_commit_sequence(block: &'a [u8], end: usize, last: Tag) -> Entries<'a>
+    pub(crate) fn log_entries(block: &'a [u8], end: usize, last: Tag) -> Entries<'a>
         requires end { end ≡ (chain_of block.now).end }
         requires last { last ≡ (chain_of block.now).last }
         ensures value { result ≡ block_entries block.now }
@@ -56,7 +56,7 @@ impl<'a> Entries<'a> {
 
 impl<'a> Entries<'a> {
     // Returns the same entries once more.
-    pub(crate) fn copy_of_rest(&self) -> Entries<'a>
+    pub(crate) fn copy_iterator(&self) -> Entries<'a>
         ensures { result ≡ self.now }
     {
         Entries {

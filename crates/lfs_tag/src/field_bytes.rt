@@ -3,9 +3,9 @@
 ghost use Rattle.std.specs.Prelude.{◌≡◌, ◌^◌, ◌<◌, slice_index};
 ghost use Rattle.std.specs.List.{flat_map};
 ghost use Rattle.byteorder.specs.Endian.{little_bytes};
-ghost use Rattle.lfs_model.specs.format.Slots.{Ctz, array_address};
-ghost use Rattle.lfs_model.specs.format.EntryTypes.{read_address, read_gstate, superblock_fields, ctz_type};
-ghost use Rattle.lfs_model.specs.format.Content.{read_struct};
+ghost use Rattle.lfs_model.specs.format.Slots.{Ctz, address_view};
+ghost use Rattle.lfs_model.specs.format.EntryTypes.{decoded_address, decoded_gstate, superblock_fields, ctz_type};
+ghost use Rattle.lfs_model.specs.format.Content.{decoded_struct};
 ghost use Rattle.lfs_model.specs.layers.WrittenContent.{address_bytes, bytes_of_move_state, fields_bytes};
 ghost use Rattle.lfs_tag.specs.FieldsView.{superblock_view, move_view};
 
@@ -14,8 +14,8 @@ use byteorder::{ByteOrder, LittleEndian};
 
 /// Returns the bytes of a tail, or of a directory's struct, that names this pair.
 pub fn pair_bytes(pair: [u32; 2]) -> [u8; 8]
-    ensures bytes { result ≡ address_bytes (array_address pair) }
-    ensures read { read_address result ≡ array_address pair }
+    ensures bytes { result ≡ address_bytes (address_view pair) }
+    ensures read { decoded_address result ≡ address_view pair }
 {
     let mut bytes = [0; 8];
     LittleEndian::write_u32_into(&pair, &mut bytes);
@@ -26,7 +26,7 @@ pub fn pair_bytes(pair: [u32; 2]) -> [u8; 8]
 /// its size in bytes (SPEC.md of littlefs, "0x202 LFS_TYPE_CTZSTRUCT").
 pub fn ctz_bytes(head: u32, size: u32) -> [u8; 8]
     ensures bytes { result ≡ address_bytes (head, size) }
-    ensures read { read_struct ctz_type result ≡ Ctz head size }
+    ensures read { decoded_struct ctz_type result ≡ Ctz head size }
 {
     pair_bytes([head, size])
 }
@@ -69,7 +69,7 @@ pub fn move_state_bytes(state: &MoveState) -> [u8; 12]
     requires kind { state.now.kind < 2 ^ 11 }
     requires id { state.now.id < 2 ^ 10 }
     ensures bytes { result ≡ bytes_of_move_state (move_view state.now) }
-    ensures read { read_gstate result ≡ move_view state.now }
+    ensures read { decoded_gstate result ≡ move_view state.now }
 {
     let word = u32::from(state.sync) * 0x8000_0000
         + u32::from(state.kind) * 0x10_0000

@@ -1,12 +1,12 @@
 // The fields of structs, tails and move states: numbers of 32 bits, the lowest byte first.
 
 ghost use Rattle.std.specs.Prelude.{◌≡◌, ◌+◌, ◌≤◌, ◌↔◌, IsTrue, length};
-ghost use Rattle.lfs_model.specs.format.Disk.{attr_max_of, file_max_of, name_max_of};
+ghost use Rattle.lfs_model.specs.format.Disk.{profile_attr_max, profile_file_max, profile_name_max};
 ghost use Rattle.lfs_model.specs.tree.Fresh.{superblock_bytes};
-ghost use Rattle.lfs_model.specs.format.Slots.{Ctz, array_address, zero_gstate};
-ghost use Rattle.lfs_model.specs.format.EntryTypes.{read_address, read_gstate, superblock_fields, ctz_type};
-ghost use Rattle.lfs_model.specs.format.Content.{read_struct};
-ghost use Rattle.lfs_model.specs.tree.Profile.{are_usable, with_limits};
+ghost use Rattle.lfs_model.specs.format.Slots.{Ctz, address_view, zero_gstate};
+ghost use Rattle.lfs_model.specs.format.EntryTypes.{decoded_address, decoded_gstate, superblock_fields, ctz_type};
+ghost use Rattle.lfs_model.specs.format.Content.{decoded_struct};
+ghost use Rattle.lfs_model.specs.tree.Profile.{limits_usable, profile_with_limits};
 ghost use Rattle.lfs_model.specs.tree.View.{accepts_version};
 ghost use Rattle.lfs_model.specs.layers.WrittenContent.{fields_bytes, is_zero};
 ghost use Rattle.lfs_tag.specs.FieldsView.{superblock_view, move_view};
@@ -59,14 +59,14 @@ impl Superblock {
 
     /// Returns the superblock's fields for a fresh image: the on-disk version, the device's
     /// geometry and the limits of its profile.
-    pub fn for_fresh_image(geometry: &Geometry) -> Superblock
+    pub fn fresh_superblock(geometry: &Geometry) -> Superblock
         ensures fields { superblock_view result ≡ record {
           version = 0x00020000;
           block_size = geometry.now.block_size;
           block_count = geometry.now.block_count;
-          name_max = name_max_of geometry.now.profile;
-          file_max = file_max_of geometry.now.profile;
-          attr_max = attr_max_of geometry.now.profile;
+          name_max = profile_name_max geometry.now.profile;
+          file_max = profile_file_max geometry.now.profile;
+          attr_max = profile_attr_max geometry.now.profile;
         } }
         ensures bytes { fields_bytes (superblock_view result) ≡ superblock_bytes geometry.now.profile geometry.now.block_size geometry.now.block_count }
     {
@@ -82,7 +82,7 @@ impl Superblock {
 
     /// Returns whether the limits are those that are written on a device of this geometry.
     pub fn has_geometry_limits(&self, geometry: &Geometry) -> bool
-        ensures { IsTrue result ↔ ((self.now.name_max ≡ name_max_of geometry.now.profile) × (self.now.file_max ≡ file_max_of geometry.now.profile) × (self.now.attr_max ≡ attr_max_of geometry.now.profile)) }
+        ensures { IsTrue result ↔ ((self.now.name_max ≡ profile_name_max geometry.now.profile) × (self.now.file_max ≡ profile_file_max geometry.now.profile) × (self.now.attr_max ≡ profile_attr_max geometry.now.profile)) }
     {
         self.name_max == geometry.name_max()
             && self.file_max == geometry.file_max()
@@ -91,7 +91,7 @@ impl Superblock {
 
     /// Returns whether no limit is 0, or above what an image may have.
     fn has_usable_limits(&self) -> bool
-        ensures { result ≡ are_usable (superblock_view self.now) }
+        ensures { result ≡ limits_usable (superblock_view self.now) }
     {
         (1..=255).contains(&self.name_max)
             && (1..=2_147_483_647).contains(&self.file_max)
@@ -100,8 +100,8 @@ impl Superblock {
 
     /// Returns the profile with the superblock's limits. Where one is 0 or above the format's own,
     /// the profile stays as it is.
-    pub fn apply_limits(&self, profile: Profile) -> Profile
-        ensures { result ≡ with_limits (superblock_view self.now) profile }
+    pub fn limit_profile(&self, profile: Profile) -> Profile
+        ensures { result ≡ profile_with_limits (superblock_view self.now) profile }
     {
         if !self.has_usable_limits() {
             return profile;
@@ -153,7 +153,7 @@ impl MoveState {
 // Returns the two addresses with which these bytes begin.
 pub(crate) fn address_from_bytes(bytes: &[u8]) -> [u32; 2]
     requires { 8 ≤ length bytes.now }
-    ensures { array_address result ≡ read_address bytes.now }
+    ensures { address_view result ≡ decoded_address bytes.now }
 {
     let first = LittleEndian::read_u32(bytes);
     let second = LittleEndian::read_u32(&bytes[4..]);
@@ -163,7 +163,7 @@ pub(crate) fn address_from_bytes(bytes: &[u8]) -> [u32; 2]
 // Returns the move state with which these bytes begin.
 pub(crate) fn move_from_bytes(bytes: &[u8]) -> MoveState
     requires { 12 ≤ length bytes.now }
-    ensures { move_view result ≡ read_gstate bytes.now }
+    ensures { move_view result ≡ decoded_gstate bytes.now }
 {
     let word = LittleEndian::read_u32(bytes);
     MoveState {
@@ -176,7 +176,7 @@ pub(crate) fn move_from_bytes(bytes: &[u8]) -> MoveState
 
 /// Returns the pair that a tail or a directory's struct names.
 pub fn pair_of(bytes: &[u8; 8]) -> [u32; 2]
-    ensures { array_address result ≡ read_address bytes.now }
+    ensures { address_view result ≡ decoded_address bytes.now }
 {
     address_from_bytes(bytes)
 }
@@ -184,7 +184,7 @@ pub fn pair_of(bytes: &[u8; 8]) -> [u32; 2]
 /// Returns the head and the size of a skip list, from a file's struct. The head is the address of
 /// its last block, and the size is in bytes (SPEC.md of littlefs, "0x202 LFS_TYPE_CTZSTRUCT").
 pub fn ctz_of(bytes: &[u8; 8]) -> (u32, u32)
-    ensures { read_struct ctz_type bytes.now ≡ Ctz result.0 result.1 }
+    ensures { decoded_struct ctz_type bytes.now ≡ Ctz result.0 result.1 }
 {
     let words = address_from_bytes(bytes);
     (words[0], words[1])
@@ -207,7 +207,7 @@ pub fn superblock_of(bytes: &[u8; 24]) -> Superblock
 /// Returns the move state in an entry's bytes. The lowest ten bits of the first word have no
 /// meaning.
 pub fn move_of(bytes: &[u8; 12]) -> MoveState
-    ensures { move_view result ≡ read_gstate bytes.now }
+    ensures { move_view result ≡ decoded_gstate bytes.now }
 {
     move_from_bytes(bytes)
 }

@@ -184,6 +184,6 @@ impl<'a> Log<'a> {
         ensures value { result ≡ block_entries self.now }
         ensures small { length (block_entries self.now) < 2 ^ 62 }
     {
-        Entries::of_commit_sequence(self.block, self.end, self.last)
+        Entries::log_entries(self.block, self.end, self.last)
     }
 }

@@ -4,7 +4,7 @@ ghost use Rattle.std.specs.Prelude.{◌≡◌, Some};
 ghost use Rattle.lfs_model.specs.format.Content.{complete_slot, kind_of_type};
 ghost use Rattle.lfs_model.specs.format.Slots.{Slot as ModelSlot, is_superblock, is_superblock_kind};
 ghost use Rattle.lfs_tag.specs.ContentView.{slot_view};
-ghost use Rattle.lfs_tag.specs.KindView.{name_kind_view, is_superblock_tag};
+ghost use Rattle.lfs_tag.specs.KindView.{name_kind_view, is_superblock_name};
 
 use crate::content::{NameOrStruct, Slot};
 use crate::kinds::{DIRECTORY_NAME, FILE_NAME};
@@ -45,7 +45,7 @@ impl SlotNameKind {
 impl Slot<'_> {
     /// Whether it is a superblock's: it has a name, which is neither a file's nor a directory's.
     pub fn is_superblock(&self) -> bool
-        ensures named { result ≡ is_superblock_tag (slot_view self.now).name }
+        ensures named { result ≡ is_superblock_name (slot_view self.now).name }
         ensures complete { (s : ModelSlot) → complete_slot (slot_view self.now) ≡ Some s → result ≡ is_superblock s }
     {
         match self.name {

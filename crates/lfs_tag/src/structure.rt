@@ -2,7 +2,7 @@
 
 ghost use Rattle.std.specs.Prelude.{◌≡◌, Some};
 ghost use Rattle.std.specs.Option.{option_map};
-ghost use Rattle.lfs_model.specs.format.Content.{read_struct};
+ghost use Rattle.lfs_model.specs.format.Content.{decoded_struct};
 ghost use Rattle.lfs_model.specs.layers.LoggedContent.{IsAllowedPart};
 ghost use Rattle.lfs_tag.specs.ContentView.{part_view};
 
@@ -23,13 +23,13 @@ pub enum Struct<'a> {
 }
 
 impl<'a> Struct<'a> {
-    ghost use Rattle.lfs_tag.specs.StructView.{struct_if_matching, struct_view};
+    ghost use Rattle.lfs_tag.specs.StructView.{part_struct, struct_view};
 
     /// What a part says as a slot's struct. `None` exactly where its type is no struct's, or where
     /// a list or a pair isn't named in 8 bytes. No log that has a content holds such a struct.
     pub fn of(part: &NameOrStruct<'a>) -> Option<Struct<'a>>
-        ensures says { IsAllowedPart 2 (part_view part.now) → option_map struct_view result ≡ Some (read_struct part.now.kind part.now.bytes.now) }
-        ensures only { option_map struct_view result ≡ struct_if_matching (part_view part.now) }
+        ensures says { IsAllowedPart 2 (part_view part.now) → option_map struct_view result ≡ Some (decoded_struct part.now.kind part.now.bytes.now) }
+        ensures only { option_map struct_view result ≡ part_struct (part_view part.now) }
     {
         match (part.kind, <&[u8; 8]>::try_from(part.bytes)) {
             (INLINE_STRUCT, _) => Some(Struct::Inline(part.bytes)),

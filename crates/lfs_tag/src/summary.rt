@@ -8,7 +8,7 @@ ghost use Rattle.lfs_tag.specs.LogEntryView.{log_entry_view};
 ghost use Rattle.lfs_tag.specs.ContentGives.{GivesWithMemory};
 ghost use Rattle.lfs_tag.specs.Summary.{IsLogSummary, empty_mark, id_mark, marks_with_change, padded_marks, is_complete_mark, marks_after_entry, outline_view, outline_after_entry, outline_after, empty_outline};
 
-use crate::content::{ContentError, Tail, has_needed_slot, is_known_entry, tail_set_by};
+use crate::content::{ContentError, Tail, has_needed_slot, is_format_tag, tail_set_by};
 use crate::entry::Entry;
 use crate::fields::{MoveState, move_from_bytes};
 use crate::kinds::{
@@ -62,7 +62,7 @@ impl Summary {
             slot_count: outline.marks.len(),
             tail: outline.tail,
             move_state: outline.move_state,
-            is_complete: all_complete(&outline.marks),
+            is_complete: are_marks_complete(&outline.marks),
         })
     }
 }
@@ -84,7 +84,7 @@ fn read_outline(alloc: Global, log: &Log<'_>) -> Result<PartialSummary, ContentE
     Ok(outline)
 }
 
-fn all_complete(marks: &[SlotSummary]) -> bool
+fn are_marks_complete(marks: &[SlotSummary]) -> bool
     ensures { result ≡ list_all is_complete_mark marks.now }
 {
     marks.iter().all(|mark| mark.has_name && mark.has_struct)
@@ -99,7 +99,7 @@ fn apply_to_outline(outline: &mut PartialSummary, entry: &Entry<'_>) -> Result<(
     if class == CHECKSUM_CLASS {
         return Ok(());
     }
-    if !is_known_entry(tag) || !has_needed_slot(tag) {
+    if !is_format_tag(tag) || !has_needed_slot(tag) {
         return Err(ContentError::Malformed);
     }
     if class == TAIL_CLASS {

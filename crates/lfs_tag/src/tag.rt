@@ -1,7 +1,7 @@
 // Tags.
 
 ghost use Rattle.std.specs.Prelude.{◌≡◌, ◌<◌, ◌^◌, ◌%◌, ◌↔◌, IsTrue, bit_xor};
-ghost use Rattle.lfs_model.specs.format.Tag.{IsValidTag, tag_type, tag_id, tag_length, abstract_type, tag_chunk, tag_data_size, is_commit_end, make_tag, tag_before_next};
+ghost use Rattle.lfs_model.specs.format.Tag.{IsValidTag, tag_type, tag_id, tag_length, tag_class, tag_chunk, tag_data_size, is_commit_end, make_tag, tag_before_next};
 ghost use Rattle.lfs_model.specs.format.EntryTypes.{is_attribute_removal};
 
 use crate::kinds::{CHECKSUM_CLASS, FORWARD_CHECKSUM};
@@ -110,7 +110,7 @@ impl Tag {
 
     /// Returns the class: the upper three bits of the type.
     pub fn class(self) -> u16
-        ensures { result ≡ abstract_type self }
+        ensures { result ≡ tag_class self }
     {
         self.kind() >> 8
     }

@@ -1,14 +1,14 @@
 -- The pairs of a thread, read in turn.
 use Rattle.std.proofs.Common.{ℕ, zero, suc, ◌≡◌, ◌≢◌, ◌⊎◌, inl, inr, ◌↔◌, ◌+◌, ◌<◌, ◌≤◌, nat_eq, true, false, List, [], ◌∷◌, ◌++◌, length, Option, Some, None, refl, sym, ap, subst, ◌∙◌, arith, set, replicate}
 use Rattle.std.specs.Prelude.{Contains, is_some, slice_get}
-use Rattle.lfs_thread.proofs.Common.{option_and_then, option_map, eqb_tells, slice_get_within, map-append, length-set, ReadsOnly, Blocks, Free, InFlight, Used, BlockStates, IsFree, IsInFlight, IsUsedBlock, Disk, block_count, CallEvent, OnlyReadsSince, PairContent, complete_content, content_at, raw_content, Pair, anchor_address, AreLinked, tail_target, pairs_blocks, slice_get-set_same, slice_get-set_other, Contains-number_occurrences, completed_parts, goes_on_by, number_occurrences, count_here, once_from_distinct, distinct_from_once, tail_view, IsPairAddress, header_address, PairHeader, disk_pair_at, header_pairs, IsHeader, AllBlocksUsed, IsKeptOnDisk, AreBeforeAddress, IsThreadBeginning}
+use Rattle.lfs_thread.proofs.Common.{option_and_then, option_map, eqb_tells, slice_get_within, map-append, length-set, ReadsOnly, Blocks, Free, InFlight, Used, BlockStates, IsFree, IsInFlight, IsUsedBlock, Disk, block_count, CallEvent, OnlyReadsSince, PairContent, complete_content, content_at, raw_content, Pair, anchor_address, AreLinked, tail_target, pairs_blocks, slice_get-set_same, slice_get-set_other, Contains-number_occurrences, completed_parts, goes_on_by, number_occurrences, count_here, once_from_distinct, distinct_from_once, tail_view, IsPairAddress, header_address, PairHeader, disk_pair_at, header_pairs, IsHeader, AllBlocksUsed, IsKeptOnDisk, ThreadBeginsWith, IsThreadBeginning}
 use Rattle.std.proofs.lemmas.List.{length-replicate}
 use Rattle.lfs_device.specs.declared.device.BlockDevice.{Ghosts}
 use Rattle.lfs_model.specs.layers.BlockSets.{AreInFlight}
 use Rattle.lfs_model.specs.layers.Violations.{LeadsByTails}
 use Rattle.lfs_model.proofs.BlockSets.{number_occurrences-Contains, used_count-AreUsed, counts_le}
 use Rattle.lfs_pair.specs.Pair.{FetchFinds}
-use Rattle.lfs_thread.specs.Begun.{IsOnFreeBlocks}
+use Rattle.lfs_thread.specs.Begun.{OnFreeBlocks}
 use Rattle.lfs_thread.proofs.Keeping.{headers_append, header_content, header_contents, pair_on_content, blocks_append}
 use Rattle.lfs_thread.proofs.Changing.{headers_read}
 use Rattle.lfs_thread.proofs.Coming.{two_unused, free_unused}
@@ -30,7 +30,7 @@ fetched_header disk history at pair on f full = go (complete_content f.held) ref
     }
 
 pub fetched_stands : (disk : Disk) (history : List CallEvent) (at : ℕ × ℕ) (pair : PairHeader) (sets : BlockStates) → IsPairAddress disk at → FetchFinds disk history at pair → pair.is_complete ≡ true
-    → IsFree sets at.0 → IsFree (set sets at.0 Used) at.1 → IsOnFreeBlocks disk sets at
+    → IsFree sets at.0 → IsFree (set sets at.0 Used) at.1 → OnFreeBlocks disk sets at
 fetched_stands disk history at pair sets on f full first second =
     let h = fetched_header disk history at pair on f full in
     record {
@@ -91,7 +91,7 @@ used_now : (disk : Disk) (history : List CallEvent) (hs : List PairHeader) (sets
 used_now disk history hs sets next begun = all_used sets (pairs_blocks (header_pairs disk hs)) (λ b h. (begun.marked b).1 h)
 
 module _ (disk : Disk) (blocks : Blocks) (before after : List CallEvent) (hs : List PairHeader) (sets : BlockStates) (at : ℕ × ℕ) (h : PairHeader)
-    (reads : OnlyReadsSince blocks before after) (begun : IsThreadBeginning disk before hs sets (Some at)) (is : IsHeader disk after h) (same : header_address h ≡ at) (stands : IsOnFreeBlocks disk sets at) where
+    (reads : OnlyReadsSince blocks before after) (begun : IsThreadBeginning disk before hs sets (Some at)) (is : IsHeader disk after h) (same : header_address h ≡ at) (stands : OnFreeBlocks disk sets at) where
   abbrev p : Pair
   p = disk_pair_at disk (header_address h)
 
@@ -224,7 +224,7 @@ begun_none_in_flight disk history hs sets next begun b = (
     go flies (inr free) = absurd (let e : Some InFlight ≡ Some Free = sym flies ∙ free in cc)
 
 pub begun_before : (disk : Disk) (history : List CallEvent) (hs : List PairHeader) (sets : BlockStates) (next : Option (ℕ × ℕ)) (at : ℕ × ℕ) → next ≡ Some at → IsThreadBeginning disk history hs sets next
-    → AreBeforeAddress disk sets (header_pairs disk hs) at
+    → ThreadBeginsWith disk sets (header_pairs disk hs) at
 begun_before disk history hs sets next at is begun = record {
   begins = record { links = subst (LeadsByTails (Some anchor_address) (header_pairs disk hs)) is begun.links; contents = header_contents disk history hs begun.each };
   marked = begun.marked;
@@ -261,7 +261,7 @@ begun_first disk history hs sets n e f g =
     subst (λ z. IsThreadBeginning disk history z sets (Some anchor_address)) (sym f) (subst (λ s. IsThreadBeginning disk history [] s (Some anchor_address)) (sym g) (begun_none disk history n e))
 
 pub begun_next : (disk now : Disk) (blocks : Blocks) (before after : List CallEvent) (hs items : List PairHeader) (sets marked : BlockStates) (next : Option (ℕ × ℕ)) (at : ℕ × ℕ) (h : PairHeader) (behind : Option (ℕ × ℕ))
-    → now ≡ disk → OnlyReadsSince blocks before after → next ≡ Some at → IsThreadBeginning disk before hs sets next → IsHeader disk after h → header_address h ≡ at → IsOnFreeBlocks disk sets at
+    → now ≡ disk → OnlyReadsSince blocks before after → next ≡ Some at → IsThreadBeginning disk before hs sets next → IsHeader disk after h → header_address h ≡ at → OnFreeBlocks disk sets at
     → items ≡ hs ++ h ∷ [] → marked ≡ set (set sets at.0 Used) at.1 Used → behind ≡ tail_target (option_map tail_view h.tail) → IsThreadBeginning now after items marked behind
 begun_next disk now blocks before after hs items sets marked next at h behind e reads is begun header same stands items_are marked_is behind_is =
     subst (λ d. IsThreadBeginning d after items marked behind) (sym e)

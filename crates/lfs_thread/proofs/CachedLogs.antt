@@ -1,7 +1,7 @@
 -- cached Blocks, where others change.
 use Rattle.std.proofs.Common.{ℕ, ◌≡◌, ◌≢◌, ◌⊎◌, inl, inr, nat_eq, true, false, List, Option, Some, None, Result, Ok, Err, rules, refl, sym, ap, subst, ◌∙◌}
 use Rattle.std.specs.Prelude.{IfSome, IsSome, OnErr, OnOk, unwrap_or}
-use Rattle.lfs_thread.proofs.Common.{same_Some, eqb_tells, All-from_recursion, Blocks, SameExceptThese, block_bytes, CachedBlocks, cached_bytes, cache_without, cached_bytes-without_other, IsCacheCurrent, address_blocks, addresses_blocks}
+use Rattle.lfs_thread.proofs.Common.{same_Some, eqb_tells, All-from_recursion, Blocks, SameExceptBlocks, block_bytes, CachedBlocks, cached_bytes, cache_without, cached_bytes-without_other, IsCacheCurrent, address_blocks, addresses_blocks}
 use Rattle.lfs_device.specs.declared.error.Error.{Error}
 use Rattle.lfs_model.specs.layers.Cache.{cache_with}
 use Rattle.lfs_model.proofs.Cache.{cached_bytes-put_first_other, cached_bytes-put_first_same, cached_bytes-without_same}
@@ -23,7 +23,7 @@ pub current_without : (blocks : Blocks) (cache : CachedBlocks) (gone : ℕ) → 
 current_without blocks cache gone current b bytes h = let is = still_there cache gone b bytes h in current b bytes is.was
 
 -- after two blocks went, and only they changed
-pub current_but_two : (old new : Blocks) (cache now : CachedBlocks) (at : ℕ × ℕ) → IsCacheCurrent old cache → now ≡ cache_without (cache_without cache at.0) at.1 → SameExceptThese (address_blocks at) old new → IsCacheCurrent new now
+pub current_but_two : (old new : Blocks) (cache now : CachedBlocks) (at : ℕ × ℕ) → IsCacheCurrent old cache → now ≡ cache_without (cache_without cache at.0) at.1 → SameExceptBlocks (address_blocks at) old new → IsCacheCurrent new now
 current_but_two old new cache now at current is same b bytes h =
     let second = still_there (cache_without cache at.0) at.1 b bytes (ap (λ z. cached_bytes z b) (sym is) ∙ h) in
     let first = still_there cache at.0 b bytes second.was in
@@ -31,7 +31,7 @@ current_but_two old new cache now at current is same b bytes h =
 
 -- after four went
 pub current_but_four : (old new : Blocks) (cache mid now : CachedBlocks) (at fresh : ℕ × ℕ) → IsCacheCurrent old cache → mid ≡ cache_without (cache_without cache at.0) at.1 → now ≡ cache_without (cache_without mid fresh.0) fresh.1
-    → SameExceptThese (addresses_blocks at fresh) old new → IsCacheCurrent new now
+    → SameExceptBlocks (addresses_blocks at fresh) old new → IsCacheCurrent new now
 current_but_four old new cache mid now at fresh current is_mid is same b bytes h =
     let fourth = still_there (cache_without mid fresh.0) fresh.1 b bytes (ap (λ z. cached_bytes z b) (sym is) ∙ h) in
     let third = still_there mid fresh.0 b bytes fourth.was in

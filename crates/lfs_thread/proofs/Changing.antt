@@ -1,8 +1,8 @@
 -- A commit to one pair of the thread.
 use Rattle.std.proofs.Common.{ℕ, zero, suc, ◌≡◌, ◌⊎◌, inl, inr, ◌<◌, true, false, List, [], ◌∷◌, ◌++◌, length, Option, Some, None, refl, sym, ap, ap₂, subst, ◌∙◌, arith, get_or, set, Ok, Err, Result}
 use Rattle.std.specs.Prelude.{is_some, is_err}
-use Rattle.lfs_thread.proofs.Common.{option_and_then, option_map, same_Some, map-append, length-map, set-append_seam, flat_map-append, Blocks, BlockStates, Disk, CallEvent, OnlyReadsSince, Slot, PairContent, FitsInPair, PairChange, changed_content_of, AreNamed, RawSlot, RawContent, raw_content, content_at, complete_content, complete_slots, Pair, AreLinked, tail_target, pairs_blocks, number_occurrences, once_from_distinct, complete_parts, fits_pair, disk_of_blocks, header_address, CanCommit, CommitsChanges, IsPairAddress, KeepsOutsidePair, OutsideStaysUnprogrammed, HasContentMade, HasOldContent, LossLeavesChanged, changed_pair, superblock_entry, superblock_anew, PairHeader, kept_view, disk_pair_at, header_pairs, IsHeader, AreHeaders, AllBlocksUsed, IsKeptOnDisk, thread_pair, empty_anchor, complete_after, CanChangePair, pairs_with, KeepsSuperblockFirst, IsPairWritten, IsPairCommitted, RefusesChanges, LossLeavesPair}
-use Rattle.lfs_model.specs.format.Content.{complete_slot, kind_of_type, read_struct}
+use Rattle.lfs_thread.proofs.Common.{option_and_then, option_map, same_Some, map-append, length-map, set-append_seam, flat_map-append, Blocks, BlockStates, Disk, CallEvent, OnlyReadsSince, Slot, PairContent, FitsInPair, ContentChange, content_with_changes, AreNamed, RawSlot, RawContent, raw_content, content_at, complete_content, complete_slots, Pair, AreLinked, tail_target, pairs_blocks, number_occurrences, once_from_distinct, complete_parts, fits_pair, disk_of_blocks, header_address, CanCommit, CommitsChanges, IsPairAddress, KeepsOutsidePair, OutsideStaysUnprogrammed, HasChangedContent, HasOldContent, LossLeavesChanged, changed_pair_content, superblock_entry, superblock_anew, PairHeader, kept_view, disk_pair_at, header_pairs, IsHeader, AreHeaders, AllBlocksUsed, IsKeptOnDisk, thread_pair, empty_anchor, complete_after, CanChangePair, pairs_with_content, KeepsSuperblockFirst, IsPairWritten, IsPairCommitted, RefusesChanges, LossLeavesPair}
+use Rattle.lfs_model.specs.format.Content.{complete_slot, kind_of_type, decoded_struct}
 use Rattle.lfs_model.proofs.Histories.{is_unprogrammed_byte-read_count}
 use Rattle.lfs_device.specs.declared.error.Error.{Error}
 use Rattle.lfs_device.specs.declared.geometry.Geometry.{Geometry}
@@ -47,7 +47,7 @@ complete_named s t h = go s.name h
     go : (o : Option (ℕ × List ℕ)) → option_and_then (λ name. option_map (λ struct. record {
       kind = kind_of_type name.0;
       name = name.1;
-      struct = read_struct struct.0 struct.1;
+      struct = decoded_struct struct.0 struct.1;
       attributes = s.attributes;
     }) s.struct) o ≡ Some t → is_some o ≡ true
     go None k = absurd (cc)
@@ -75,12 +75,12 @@ completes (Some raw) c h = record { raw = raw; is = refl; complete = h; names = 
     go (Some all) e k = named_from_complete raw.slots all e
 
 -- what the changes make of the pair that the header is of
-pub made_of_header : (disk : Disk) (history : List CallEvent) (hs : List PairHeader) (sets : BlockStates) (index : ℕ) (h : PairHeader) (changes : List PairChange) (c : PairContent) → IsAt hs index h
-    → complete_after (kept_view disk history hs sets) index changes ≡ Some c → Completes (changed_pair disk (header_address h) changes) c
+pub made_of_header : (disk : Disk) (history : List CallEvent) (hs : List PairHeader) (sets : BlockStates) (index : ℕ) (h : PairHeader) (changes : List ContentChange) (c : PairContent) → IsAt hs index h
+    → complete_after (kept_view disk history hs sets) index changes ≡ Some c → Completes (changed_pair_content disk (header_address h) changes) c
 made_of_header disk history hs sets index h changes c a made =
-    completes (changed_pair disk (header_address h) changes) c (ap (λ (p : Pair). option_and_then complete_content (changed_pair disk p.at changes)) (sym (pair_at_index disk history hs sets index h a)) ∙ made)
+    completes (changed_pair_content disk (header_address h) changes) c (ap (λ (p : Pair). option_and_then complete_content (changed_pair_content disk p.at changes)) (sym (pair_at_index disk history hs sets index h a)) ∙ made)
 
-pub can_commit : (disk : Disk) (history : List CallEvent) (hs : List PairHeader) (sets : BlockStates) (index : ℕ) (h : PairHeader) (changes : List PairChange) → IsAt hs index h → IsKeptOnDisk disk history hs sets
+pub can_commit : (disk : Disk) (history : List CallEvent) (hs : List PairHeader) (sets : BlockStates) (index : ℕ) (h : PairHeader) (changes : List ContentChange) → IsAt hs index h → IsKeptOnDisk disk history hs sets
     → (c : PairContent) → complete_after (kept_view disk history hs sets) index changes ≡ Some c → CanCommit disk history h changes
 can_commit disk history hs sets index h changes a kept c made =
     let is = header_at_index disk history hs index h a kept.each in
@@ -90,13 +90,13 @@ can_commit disk history hs sets index h changes a kept c made =
       held = is.held;
       is_pair = is.is_pair;
       new = m.raw;
-      changed = ap (λ o. option_and_then (λ (r : RawContent). changed_content_of r changes) o) (sym is.raw) ∙ m.is;
+      changed = ap (λ o. option_and_then (λ (r : RawContent). content_with_changes r changes) o) (sym is.raw) ∙ m.is;
       names = m.names;
     }
 
 -- ---- after it
 
-module _ (disk : Disk) (before : List CallEvent) (blocks : Blocks) (after : List CallEvent) (hs : List PairHeader) (sets : BlockStates) (index : ℕ) (h new : PairHeader) (changes : List PairChange)
+module _ (disk : Disk) (before : List CallEvent) (blocks : Blocks) (after : List CallEvent) (hs : List PairHeader) (sets : BlockStates) (index : ℕ) (h new : PairHeader) (changes : List ContentChange)
     (a : IsAt hs index h) (kept : IsKeptOnDisk disk before hs sets) (can : CanChangePair (kept_view disk before hs sets) index changes)
     (commits : CommitsChanges disk before changes h (record disk { blocks = blocks }) after new) (others : KeepsOutsidePair (header_address h) disk.blocks blocks) (stay : OutsideStaysUnprogrammed (header_address h) before after) where
   abbrev left : Disk
@@ -168,7 +168,7 @@ module _ (disk : Disk) (before : List CallEvent) (blocks : Blocks) (after : List
   changed_kept = subst (λ z. IsKeptOnDisk left after z sets) (sym set_there)
       (kept_replaced disk before blocks after a.front (h ∷ []) (new ∷ []) a.back ((header_address h).0 ∷ (header_address h).1 ∷ []) [] sets sets kept_parts replaced)
 
-  pub changed_pairs : header_pairs left (set hs index new) ≡ pairs_with (kept_view disk before hs sets) index can.content
+  pub changed_pairs : header_pairs left (set hs index new) ≡ pairs_with_content (kept_view disk before hs sets) index can.content
   changed_pairs = ap (header_pairs left) set_there
       ∙ pairs_are disk before blocks after a.front (h ∷ []) (new ∷ []) a.back ((header_address h).0 ∷ (header_address h).1 ∷ []) [] sets sets kept_parts replaced
       ∙ ap (λ p. header_pairs disk a.front ++ p ∷ header_pairs disk a.back) (now_pair ∙ ap (λ (p : Pair). record { at = p.at; content = can.content }) (sym was_pair))
@@ -195,7 +195,7 @@ module _ (disk : Disk) (before : List CallEvent) (blocks : Blocks) (after : List
   }
 
 -- the same of a device that keeps its geometry
-module _ (geometry later : Geometry) (old blocks : Blocks) (before after : List CallEvent) (hs : List PairHeader) (sets : BlockStates) (index : ℕ) (h new : PairHeader) (changes : List PairChange)
+module _ (geometry later : Geometry) (old blocks : Blocks) (before after : List CallEvent) (hs : List PairHeader) (sets : BlockStates) (index : ℕ) (h new : PairHeader) (changes : List ContentChange)
     (same : later ≡ geometry) (a : IsAt hs index h) (kept : IsKeptOnDisk (disk_of_blocks geometry old) before hs sets) (can : CanChangePair (kept_view (disk_of_blocks geometry old) before hs sets) index changes)
     (commits : CommitsChanges (disk_of_blocks geometry old) before changes h (disk_of_blocks later blocks) after new) (others : KeepsOutsidePair (header_address h) old blocks) (stay : OutsideStaysUnprogrammed (header_address h) before after) where
   commits_there : CommitsChanges (disk_of_blocks geometry old) before changes h (disk_of_blocks geometry blocks) after new
@@ -237,7 +237,7 @@ set_same hs index h a = ap₂ (λ (z : List PairHeader) (i : ℕ). set z i h) a.
 
 -- ---- at a stop
 
-pub left_in_thread : (disk : Disk) (history : List CallEvent) (hs : List PairHeader) (sets : BlockStates) (index : ℕ) (h : PairHeader) (changes : List PairChange) (blocks : Blocks) → IsAt hs index h → IsKeptOnDisk disk history hs sets
+pub left_in_thread : (disk : Disk) (history : List CallEvent) (hs : List PairHeader) (sets : BlockStates) (index : ℕ) (h : PairHeader) (changes : List ContentChange) (blocks : Blocks) → IsAt hs index h → IsKeptOnDisk disk history hs sets
     → (c : PairContent) → complete_after (kept_view disk history hs sets) index changes ≡ Some c → LossLeavesChanged disk (header_address h) changes blocks → LossLeavesPair (kept_view disk history hs sets) index changes blocks
 left_in_thread disk history hs sets index h changes blocks a kept made_content made l = sides l.content
   where
@@ -259,13 +259,13 @@ left_in_thread disk history hs sets index h changes blocks a kept made_content m
       first = subst (λ (p : Pair). KeepsSuperblockFirst disk p.at c (record disk { blocks = blocks })) (sym e) first;
     }
 
-    made_here : Completes (changed_pair disk (header_address h) changes) made_content
+    made_here : Completes (changed_pair_content disk (header_address h) changes) made_content
     made_here = made_of_header disk history hs sets index h changes made_content a made
 
-    whole : (k : HasContentMade disk (header_address h) changes (record disk { blocks = blocks })) → complete_content k.new ≡ Some made_content
+    whole : (k : HasChangedContent disk (header_address h) changes (record disk { blocks = blocks })) → complete_content k.new ≡ Some made_content
     whole k = ap complete_content (same_Some k.new made_here.raw (sym k.made ∙ made_here.is)) ∙ made_here.complete
 
-    sides : HasOldContent disk (header_address h) (record disk { blocks = blocks }) ⊎ HasContentMade disk (header_address h) changes (record disk { blocks = blocks })
+    sides : HasOldContent disk (header_address h) (record disk { blocks = blocks }) ⊎ HasChangedContent disk (header_address h) changes (record disk { blocks = blocks })
         → LossLeavesPair (kept_view disk history hs sets) index changes blocks
     sides (inl k) = record {
       content = (thread_pair (kept_view disk history hs sets) index).content;
@@ -301,9 +301,9 @@ full_read disk new before after hs sets index h same a e f reads = record {
 }
 
 -- what doesn't fit, in the words of the pair's commit, doesn't fit the thread's pair
-pub refused : (disk new : Disk) (before after : List CallEvent) (hs : List PairHeader) (sets : BlockStates) (index : ℕ) (h same : PairHeader) (changes : List PairChange) (c : PairContent) → IsAt hs index h
+pub refused : (disk new : Disk) (before after : List CallEvent) (hs : List PairHeader) (sets : BlockStates) (index : ℕ) (h same : PairHeader) (changes : List ContentChange) (c : PairContent) → IsAt hs index h
     → complete_after (kept_view disk before hs sets) index changes ≡ Some c
-    → ((raw : RawContent) (d : PairContent) → changed_pair disk (header_address h) changes ≡ Some raw → complete_content raw ≡ Some d → FitsInPair disk.block_size disk.page d → ⊥)
+    → ((raw : RawContent) (d : PairContent) → changed_pair_content disk (header_address h) changes ≡ Some raw → complete_content raw ≡ Some d → FitsInPair disk.block_size disk.page d → ⊥)
     → new ≡ disk → same ≡ h → OnlyReadsSince disk.blocks before after → RefusesChanges (kept_view disk before hs sets) index changes (kept_view new after (set hs index same) sets)
 refused disk new before after hs sets index h same changes c a made too_large e f reads =
     let m = made_of_header disk before hs sets index h changes c a made in

@@ -12,21 +12,21 @@ pub use Rattle.lfs_model.proofs.Histories.{AllCallsSince-behind, HoldsAtLosses-w
 pub use Rattle.lfs_model.proofs.Logged.{nothing_logged}
 pub use Rattle.lfs_model.proofs.Staying.{AreElsewhere, IsSameAt, raw_content-stays, raw_same}
 pub use Rattle.lfs_model.specs.crash.Stops.{LeftByLoss}
-pub use Rattle.lfs_model.specs.format.Blocks.{Blocks, SameExceptThese, block_bytes}
+pub use Rattle.lfs_model.specs.format.Blocks.{Blocks, SameExceptBlocks, block_bytes}
 pub use Rattle.lfs_model.specs.format.Content.{RawContent, RawSlot, complete_content, complete_slots, content_after, content_at, current_block, empty_raw_content, raw_content}
 pub use Rattle.lfs_model.specs.format.Disk.{Disk, block_count, disk_block, ordered_disk}
-pub use Rattle.lfs_model.specs.format.EntryTypes.{tail_to_pair}
+pub use Rattle.lfs_model.specs.format.EntryTypes.{tail_if_any}
 pub use Rattle.lfs_model.specs.format.Log.{LogEntry, block_entries}
-pub use Rattle.lfs_model.specs.format.Slots.{FitsInPair, Gstate, PairContent, Slot, Tail, array_address, gstate_xor, null_address, same_pair, zero_gstate}
+pub use Rattle.lfs_model.specs.format.Slots.{FitsInPair, Gstate, PairContent, Slot, Tail, address_view, gstate_xor, null_address, same_pair, zero_gstate}
 pub use Rattle.lfs_model.specs.format.Thread.{AreLinked, IsThread, Pair, address_blocks, addresses_blocks, anchor_address, is_hard_tail, pairs_blocks, pairs_gstate, tail_target}
 pub use Rattle.lfs_model.specs.layers.BlockSets.{BlockStates, Free, InFlight, IsFree, IsInFlight, IsUsedBlock, Used}
 pub use Rattle.lfs_model.specs.layers.Cache.{CachedBlocks, cache_without, cached_bytes}
-pub use Rattle.lfs_model.specs.layers.Changes.{PairChange, PutMove, PutTail, changed_content_of}
+pub use Rattle.lfs_model.specs.layers.Changes.{ContentChange, PutMove, PutTail, content_with_changes}
 pub use Rattle.lfs_model.specs.layers.LoggedContent.{AreNamed, AreWellFormed, IsAllowedTail, IsWellFormed}
 pub use Rattle.lfs_model.specs.session.History.{CallEvent, HoldsAtLosses, LossLeavesAtWorst, OnlyReadsSince, read_count}
 pub use Rattle.lfs_model.specs.tree.View.{BeginsWith, superblock_entry}
 pub use Rattle.lfs_pair.specs.ChangeView.{changes_view}
-pub use Rattle.lfs_pair.specs.Commits.{CanCommit, CommitsChanges, HasContentMade, HasOldContent, IsPairAddress, KeepsFirstEntry, KeepsOutsidePair, LossLeavesChanged, OutsideStaysUnprogrammed, changed_if_any, changed_pair}
+pub use Rattle.lfs_pair.specs.Commits.{CanCommit, CommitsChanges, HasChangedContent, HasOldContent, IsPairAddress, KeepsFirstEntry, KeepsOutsidePair, LossLeavesChanged, OutsideStaysUnprogrammed, content_after_changes, changed_pair_content}
 pub use Rattle.lfs_pair.specs.Copies.{CanCopyPair, IsPairCopied}
 pub use Rattle.lfs_pair.specs.FreshPair.{IsFreshPair}
 pub use Rattle.lfs_pair.specs.Pair.{active_block_at, fetch_reads, header_address, is_second_active}
@@ -34,7 +34,7 @@ pub use Rattle.lfs_pair.specs.Split.{AreApart, KeepsOutsideBoth}
 pub use Rattle.lfs_pair.specs.Writing.{ChangesReadingFew}
 pub use Rattle.lfs_tag.specs.ContentView.{tail_view}
 pub use Rattle.lfs_tag.specs.FieldsView.{move_view}
-pub use Rattle.lfs_thread.specs.Begun.{AreBeforeAddress, IsThreadBeginning}
+pub use Rattle.lfs_thread.specs.Begun.{ThreadBeginsWith, IsThreadBeginning}
 pub use Rattle.lfs_thread.specs.Beside.{KeepsPairBlocks}
 pub use Rattle.lfs_thread.specs.CachedLog.{IsContentLog, cached_log, reads_unless_cached}
 pub use Rattle.lfs_thread.specs.Kept.{AllBlocksUsed, AreHeaders, IsCacheCurrent, IsHeader, IsKeptOnDisk, KeptThread, PairHeader, ThreadView, disk_of_device, disk_pair_at, header_pairs, kept_in_order, kept_of_device, kept_view}
@@ -42,7 +42,7 @@ pub use Rattle.lfs_thread.specs.MountErrors.{IsThreadViolation}
 pub use Rattle.lfs_thread.specs.Moves.{CanMoveNext, IsNextMoved, LossLeavesNextMoved, NextMovedOnDisk, pair_revision}
 pub use Rattle.lfs_thread.specs.PairPlaces.{FindsByLesser, address_index, blocks_of_addresses, lesser_of}
 pub use Rattle.lfs_thread.specs.ThreadDevice.{CleanLossLeaves, ReportsWritingNothing}
-pub use Rattle.lfs_thread.specs.ThreadSteps.{BothOnDisk, CanChangePair, CanDropNext, CanSplitAt, CanThreadIn, ChangesWithinReads, FreshInFlight, HasOldPair, HasSplit, HasSuperblock, IsNextDropped, IsPairCommitted, IsPairWritten, IsThreadedIn, KeepsSuperblockFirst, LossLeavesBoth, LossLeavesPair, LossLeavesThreaded, PartsFit, RefusesChanges, RefusesThreading, ThreadReportsErrors, ThreadReportsKeepingOthers, ThreadedOnDisk, complete_after, empty_anchor, map_freeing, map_using, pairs_split, pairs_with, tail_change, thread_pair}
+pub use Rattle.lfs_thread.specs.ThreadSteps.{SplitOnDisk, CanChangePair, CanDropNext, CanSplitAt, CanThreadIn, ChangesWithinReads, FreshInFlight, HasOldPair, HasSplit, HasSuperblock, IsNextDropped, IsPairCommitted, IsPairWritten, IsThreadedIn, KeepsSuperblockFirst, LossLeavesThreadSplit, LossLeavesPair, LossLeavesThreaded, PartsFit, RefusesChanges, RefusesThreading, ThreadReportsErrors, ThreadReportsKeepingOthers, ThreadedInOnDisk, complete_after, empty_anchor, map_freeing, map_using, pairs_split, pairs_with_content, tail_change, thread_pair}
 pub use Rattle.lfs_thread.specs.Unloads.{CanUnload, IsUnloaded, LossLeavesUnloaded, UnloadedOnDisk}
 pub use Rattle.std.proofs.Math.Seq.{set-append_seam}
 pub use Rattle.std.proofs.lemmas.Bool.{ne_eqb}

@@ -1,6 +1,6 @@
 -- The pair behind another one goes.
 use Rattle.std.proofs.Common.{ℕ, suc, ◌≡◌, ◌+◌, ◌<◌, ◌≤◌, List, [], ◌∷◌, ◌++◌, length, Some, refl, sym, ap, ap₂, subst, ◌∙◌, arith, get_or, set, remove, append_assoc, length-append}
-use Rattle.lfs_thread.proofs.Common.{same_Some, map-append, length-map, length-set, flat_map-append, set-append_seam, disk_of_blocks, Blocks, Free, BlockStates, Disk, CallEvent, PairChange, raw_content, content_at, complete_content, Pair, AreLinked, tail_target, pairs_blocks, fits_pair, slice_get-set_other, number_occurrences, count_here, once_from_distinct, header_address, IsPairAddress, CommitsChanges, KeepsOutsidePair, OutsideStaysUnprogrammed, superblock_entry, superblock_anew, PairHeader, kept_view, disk_pair_at, header_pairs, IsHeader, AllBlocksUsed, IsKeptOnDisk, thread_pair, pairs_with, CanDropNext, IsNextDropped, map_freeing, KeepsSuperblockFirst}
+use Rattle.lfs_thread.proofs.Common.{same_Some, map-append, length-map, length-set, flat_map-append, set-append_seam, disk_of_blocks, Blocks, Free, BlockStates, Disk, CallEvent, ContentChange, raw_content, content_at, complete_content, Pair, AreLinked, tail_target, pairs_blocks, fits_pair, slice_get-set_other, number_occurrences, count_here, once_from_distinct, header_address, IsPairAddress, CommitsChanges, KeepsOutsidePair, OutsideStaysUnprogrammed, superblock_entry, superblock_anew, PairHeader, kept_view, disk_pair_at, header_pairs, IsHeader, AllBlocksUsed, IsKeptOnDisk, thread_pair, pairs_with_content, CanDropNext, IsNextDropped, map_freeing, KeepsSuperblockFirst}
 use Rattle.lfs_device.specs.declared.geometry.Geometry.{Geometry}
 use Rattle.lfs_thread.proofs.Keeping.{kept_thread, header_content, pair_on_content, used_left, used_right, blocks_append, IsReplaced, pairs_are, kept_replaced}
 use Rattle.lfs_thread.proofs.Changing.{IsAt, at_index, header_at_index, pair_at_index, made_of_header}
@@ -73,7 +73,7 @@ next_used disk before hs sets index h n kept =
 
 -- ---- after the commit
 
-module _ (disk : Disk) (before : List CallEvent) (blocks : Blocks) (after : List CallEvent) (hs : List PairHeader) (sets : BlockStates) (index : ℕ) (h new : PairHeader) (changes : List PairChange)
+module _ (disk : Disk) (before : List CallEvent) (blocks : Blocks) (after : List CallEvent) (hs : List PairHeader) (sets : BlockStates) (index : ℕ) (h new : PairHeader) (changes : List ContentChange)
     (n : HasNext hs index h) (kept : IsKeptOnDisk disk before hs sets) (can : CanDropNext (kept_view disk before hs sets) index changes)
     (commits : CommitsChanges disk before changes h (record disk { blocks = blocks }) after new) (others : KeepsOutsidePair (header_address h) disk.blocks blocks) (stay : OutsideStaysUnprogrammed (header_address h) before after) where
   abbrev left : Disk
@@ -182,7 +182,7 @@ module _ (disk : Disk) (before : List CallEvent) (blocks : Blocks) (after : List
   abbrev p : Pair
   p = record { at = (thread_pair (kept_view disk before hs sets) index).at; content = can.content }
 
-  dropped_pairs : header_pairs left headers ≡ remove (pairs_with (kept_view disk before hs sets) index can.content) (index + 1)
+  dropped_pairs : header_pairs left headers ≡ remove (pairs_with_content (kept_view disk before hs sets) index can.content) (index + 1)
   dropped_pairs = ap (header_pairs left) headers_are
       ∙ pairs_are disk before blocks after n.front two (new ∷ []) n.back ((header_address h).0 ∷ (header_address h).1 ∷ []) [] sets now kept_parts replaced
       ∙ ap (λ q. header_pairs disk n.front ++ q ∷ header_pairs disk n.back) (now_pair ∙ ap (λ (q : Pair). record { at = q.at; content = can.content }) (sym was_pair))
@@ -210,7 +210,7 @@ module _ (disk : Disk) (before : List CallEvent) (blocks : Blocks) (after : List
 
 -- ---- in the code's words
 
-module _ (geometry later : Geometry) (old blocks : Blocks) (before after : List CallEvent) (hs : List PairHeader) (sets : BlockStates) (index : ℕ) (h new : PairHeader) (changes : List PairChange)
+module _ (geometry later : Geometry) (old blocks : Blocks) (before after : List CallEvent) (hs : List PairHeader) (sets : BlockStates) (index : ℕ) (h new : PairHeader) (changes : List ContentChange)
     (same : later ≡ geometry) (n : HasNext hs index h) (kept : IsKeptOnDisk (disk_of_blocks geometry old) before hs sets) (can : CanDropNext (kept_view (disk_of_blocks geometry old) before hs sets) index changes)
     (commits : CommitsChanges (disk_of_blocks geometry old) before changes h (disk_of_blocks later blocks) after new) (others : KeepsOutsidePair (header_address h) old blocks) (stay : OutsideStaysUnprogrammed (header_address h) before after)
     (items : List PairHeader) (are : items ≡ remove (set hs index new) (index + 1)) (now : BlockStates) (is_now : now ≡ map_freeing sets (header_address n.next)) where

@@ -3,7 +3,7 @@ use Rattle.std.proofs.Common.{◌≡◌, ℕ, false, List, ap, inl, inr, refl, R
 use Rattle.std.specs.Prelude.{OnOk, is_err}
 use Rattle.lfs_device.specs.declared.error.Error.{Error}
 use Rattle.lfs_device.specs.declared.device.BlockDevice.{Ghosts}
-use Rattle.lfs_thread.proofs.Common.{BlockStates, Blocks, PairChange, Disk, ordered_disk, CallEvent, PairContent, HoldsAtLosses-weaker, KeepsPairBlocks, CleanLossLeaves, KeptThread, CanMoveNext, IsNextMoved, LossLeavesNextMoved, NextMovedOnDisk, CanUnload, IsUnloaded, LossLeavesUnloaded, UnloadedOnDisk, BothOnDisk, CanChangePair, CanDropNext, CanSplitAt, CanThreadIn, HasOldPair, RefusesChanges, IsThreadedIn, ThreadedOnDisk, IsNextDropped, IsPairCommitted, HasSplit, IsPairWritten, RefusesThreading, LossLeavesPair, LossLeavesBoth, LossLeavesThreaded, PartsFit}
+use Rattle.lfs_thread.proofs.Common.{BlockStates, Blocks, ContentChange, Disk, ordered_disk, CallEvent, PairContent, HoldsAtLosses-weaker, KeepsPairBlocks, CleanLossLeaves, KeptThread, CanMoveNext, IsNextMoved, LossLeavesNextMoved, NextMovedOnDisk, CanUnload, IsUnloaded, LossLeavesUnloaded, UnloadedOnDisk, SplitOnDisk, CanChangePair, CanDropNext, CanSplitAt, CanThreadIn, HasOldPair, RefusesChanges, IsThreadedIn, ThreadedInOnDisk, IsNextDropped, IsPairCommitted, HasSplit, IsPairWritten, RefusesThreading, LossLeavesPair, LossLeavesThreadSplit, LossLeavesThreaded, PartsFit}
 use Rattle.lfs_model.specs.declared.order.NameOrder.{NameOrder}
 use Rattle.lfs_thread.specs.ThreadSteps.{SameGeometryAs}
 
@@ -14,16 +14,16 @@ in_order order t = record t { disk = ordered_disk order t.disk }
 module _ (order : NameOrder) where
   -- ---- the premises of a step
 
-  pub can_change : (t : KeptThread) (index : ℕ) (changes : List PairChange) → CanChangePair (in_order order t) index changes → CanChangePair t index changes
+  pub can_change : (t : KeptThread) (index : ℕ) (changes : List ContentChange) → CanChangePair (in_order order t) index changes → CanChangePair t index changes
   can_change t index changes can = record { below = can.below; content = can.content; made = can.made; next = can.next }
 
-  pub can_split : (t : KeptThread) (index : ℕ) (fresh : ℕ × ℕ) (changes : List PairChange) → CanSplitAt (in_order order t) index fresh changes → CanSplitAt t index fresh changes
+  pub can_split : (t : KeptThread) (index : ℕ) (fresh : ℕ × ℕ) (changes : List ContentChange) → CanSplitAt (in_order order t) index fresh changes → CanSplitAt t index fresh changes
   can_split t index fresh changes can = record { can = can_change t index changes can.can; held = can.held; raw = can.raw; made = can.made; cut = can.cut }
 
-  pub can_thread_in : (t : KeptThread) (index : ℕ) (fresh : ℕ × ℕ) (changes : List PairChange) → CanThreadIn (in_order order t) index fresh changes → CanThreadIn t index fresh changes
+  pub can_thread_in : (t : KeptThread) (index : ℕ) (fresh : ℕ × ℕ) (changes : List ContentChange) → CanThreadIn (in_order order t) index fresh changes → CanThreadIn t index fresh changes
   can_thread_in t index fresh changes can = record { below = can.below; content = can.content; made = can.made; next = can.next; held = can.held }
 
-  pub can_drop : (t : KeptThread) (index : ℕ) (changes : List PairChange) → CanDropNext (in_order order t) index changes → CanDropNext t index changes
+  pub can_drop : (t : KeptThread) (index : ℕ) (changes : List ContentChange) → CanDropNext (in_order order t) index changes → CanDropNext t index changes
   can_drop t index changes can = record { below = can.below; content = can.content; made = can.made; next = can.next }
 
   pub can_move : (t : KeptThread) (index : ℕ) (fresh : ℕ × ℕ) → CanMoveNext (in_order order t) index fresh → CanMoveNext t index fresh
@@ -40,7 +40,7 @@ module _ (order : NameOrder) where
   written_in : (old : KeptThread) (index : ℕ) (content : PairContent) (disk : Disk) → IsPairWritten old index content disk → IsPairWritten (in_order order old) index content (ordered_disk order disk)
   written_in old index content disk w = record { holds = w.holds; others = w.others; shape = shape_in w.shape; first = w.first }
 
-  pub changed_in : (old new : KeptThread) (index : ℕ) (changes : List PairChange) → IsPairCommitted old index changes new → IsPairCommitted (in_order order old) index changes (in_order order new)
+  pub changed_in : (old new : KeptThread) (index : ℕ) (changes : List ContentChange) → IsPairCommitted old index changes new → IsPairCommitted (in_order order old) index changes (in_order order new)
   changed_in old new index changes is = record {
     content = is.content;
     made = is.made;
@@ -51,7 +51,7 @@ module _ (order : NameOrder) where
     map = is.map;
   }
 
-  pub refused_in : (old new : KeptThread) (index : ℕ) (changes : List PairChange) → RefusesChanges old index changes new → RefusesChanges (in_order order old) index changes (in_order order new)
+  pub refused_in : (old new : KeptThread) (index : ℕ) (changes : List ContentChange) → RefusesChanges old index changes new → RefusesChanges (in_order order old) index changes (in_order order new)
   refused_in old new index changes is = record {
     content = is.content;
     made = is.made;
@@ -62,7 +62,7 @@ module _ (order : NameOrder) where
   parts_in : (old : KeptThread) (index : ℕ) (content : PairContent) (cut : ℕ) (fresh : ℕ × ℕ) (disk : Disk) → PartsFit old index content cut fresh disk → PartsFit (in_order order old) index content cut fresh (ordered_disk order disk)
   parts_in old index content cut fresh disk parts = record { front_fits = parts.front_fits; back_fits = parts.back_fits; inside = parts.inside; first = parts.first }
 
-  pub split_in : (old new : KeptThread) (index : ℕ) (fresh : ℕ × ℕ) (changes : List PairChange) → HasSplit old index fresh changes new → HasSplit (in_order order old) index fresh changes (in_order order new)
+  pub split_in : (old new : KeptThread) (index : ℕ) (fresh : ℕ × ℕ) (changes : List ContentChange) → HasSplit old index fresh changes new → HasSplit (in_order order old) index fresh changes (in_order order new)
   split_in old new index fresh changes is = record {
     content = is.content;
     made = is.made;
@@ -73,7 +73,7 @@ module _ (order : NameOrder) where
     map = is.map;
   }
 
-  pub threaded_in : (old new : KeptThread) (index : ℕ) (fresh : ℕ × ℕ) (changes : List PairChange) → IsThreadedIn old index fresh changes new → IsThreadedIn (in_order order old) index fresh changes (in_order order new)
+  pub threaded_in : (old new : KeptThread) (index : ℕ) (fresh : ℕ × ℕ) (changes : List ContentChange) → IsThreadedIn old index fresh changes new → IsThreadedIn (in_order order old) index fresh changes (in_order order new)
   threaded_in old new index fresh changes is = record {
     content = is.content;
     made = is.made;
@@ -84,10 +84,10 @@ module _ (order : NameOrder) where
     map = is.map;
   }
 
-  pub threading_refused_in : (old new : KeptThread) (index : ℕ) (fresh : ℕ × ℕ) (changes : List PairChange) → RefusesThreading old index fresh changes new → RefusesThreading (in_order order old) index fresh changes (in_order order new)
+  pub threading_refused_in : (old new : KeptThread) (index : ℕ) (fresh : ℕ × ℕ) (changes : List ContentChange) → RefusesThreading old index fresh changes new → RefusesThreading (in_order order old) index fresh changes (in_order order new)
   threading_refused_in old new index fresh changes is = record { content = is.content; made = is.made; too_large = is.too_large; pairs = is.pairs; map = is.map; others = is.others }
 
-  pub dropped_in : (old new : KeptThread) (index : ℕ) (changes : List PairChange) → IsNextDropped old index changes new → IsNextDropped (in_order order old) index changes (in_order order new)
+  pub dropped_in : (old new : KeptThread) (index : ℕ) (changes : List ContentChange) → IsNextDropped old index changes new → IsNextDropped (in_order order old) index changes (in_order order new)
   dropped_in old new index changes is = record {
     content = is.content;
     made = is.made;
@@ -106,19 +106,19 @@ module _ (order : NameOrder) where
 
   -- ---- what a loss of power leaves of a step
 
-  pub left_changed_in : (old : KeptThread) (index : ℕ) (changes : List PairChange) (left : Blocks) → LossLeavesPair old index changes left → LossLeavesPair (in_order order old) index changes left
+  pub left_changed_in : (old : KeptThread) (index : ℕ) (changes : List ContentChange) (left : Blocks) → LossLeavesPair old index changes left → LossLeavesPair (in_order order old) index changes left
   left_changed_in old index changes left is = record { content = is.content; is = is.is; written = written_in old index is.content (record old.disk { blocks = left }) is.written }
 
   old_in : (old : KeptThread) (index : ℕ) (disk : Disk) → HasOldPair old index disk → HasOldPair (in_order order old) index (ordered_disk order disk)
   old_in old index disk has = record { holds = has.holds; first = has.first }
 
-  pub left_split_in : (old : KeptThread) (index : ℕ) (fresh : ℕ × ℕ) (changes : List PairChange) (left : Blocks) → LossLeavesBoth old index fresh changes left → LossLeavesBoth (in_order order old) index fresh changes left
+  pub left_split_in : (old : KeptThread) (index : ℕ) (fresh : ℕ × ℕ) (changes : List ContentChange) (left : Blocks) → LossLeavesThreadSplit old index fresh changes left → LossLeavesThreadSplit (in_order order old) index fresh changes left
   left_split_in old index fresh changes left is = record {
     others = is.others;
     content = elim is.content [
       | inl has ↦ inl (old_in old index (record old.disk { blocks = left }) has)
       | inr both ↦
-          let there : BothOnDisk (in_order order old) index changes fresh (record (ordered_disk order old.disk) { blocks = left }) = record {
+          let there : SplitOnDisk (in_order order old) index changes fresh (record (ordered_disk order old.disk) { blocks = left }) = record {
             content = both.content;
             made = both.made;
             cut = both.cut;
@@ -130,13 +130,13 @@ module _ (order : NameOrder) where
     ];
   }
 
-  pub left_threaded_in : (old : KeptThread) (index : ℕ) (fresh : ℕ × ℕ) (changes : List PairChange) (left : Blocks) → LossLeavesThreaded old index fresh changes left → LossLeavesThreaded (in_order order old) index fresh changes left
+  pub left_threaded_in : (old : KeptThread) (index : ℕ) (fresh : ℕ × ℕ) (changes : List ContentChange) (left : Blocks) → LossLeavesThreaded old index fresh changes left → LossLeavesThreaded (in_order order old) index fresh changes left
   left_threaded_in old index fresh changes left is = record {
     others = is.others;
     content = elim is.content [
       | inl has ↦ inl (old_in old index (record old.disk { blocks = left }) has)
       | inr both ↦
-          let there : ThreadedOnDisk (in_order order old) index fresh changes (record (ordered_disk order old.disk) { blocks = left }) = record {
+          let there : ThreadedInOnDisk (in_order order old) index fresh changes (record (ordered_disk order old.disk) { blocks = left }) = record {
             content = both.content;
             made = both.made;
             fits = both.fits;

@@ -1,9 +1,9 @@
 -- A pair comes into the thread: a fresh one stands beside it, and then the tail of another names it.
 use Rattle.std.proofs.Common.{ℕ, ◌≡◌, ◌+◌, ◌<◌, ◌≤◌, ◌==◌, ◌&&◌, false, cond, nat_eq, List, [], ◌∷◌, ◌++◌, length, Option, Some, None, refl, sym, ap, ap₂, subst, ◌∙◌, arith, set, insert}
-use Rattle.lfs_thread.proofs.Common.{ne_eqb, same_Some, map-append, length-map, flat_map-append, set-append_seam, Blocks, IsDistinct, option_and_then, option_map, tail_view, completed_parts, BlockStates, IsUsedBlock, Disk, block_count, CallEvent, PairContent, Tail, zero_gstate, null_address, IsAllowedTail, PairChange, PutTail, changed_content_of, does_first, does_nothing, puts_tail, empty_raw_content, raw_content, complete_content, tail_to_pair, Pair, anchor_address, AreLinked, tail_target, pairs_blocks, number_occurrences, once_from_distinct, header_address, CommitsChanges, changed_pair, changed_if_any, IsPairAddress, KeepsOutsidePair, OutsideStaysUnprogrammed, IsFreshPair, AreApart, AreElsewhere, raw_content-stays, PairHeader, kept_view, disk_pair_at, header_pairs, IsHeader, AreHeaders, AllBlocksUsed, IsKeptOnDisk, thread_pair, complete_after, CanThreadIn, tail_change, pairs_split}
+use Rattle.lfs_thread.proofs.Common.{ne_eqb, same_Some, map-append, length-map, flat_map-append, set-append_seam, Blocks, IsDistinct, option_and_then, option_map, tail_view, completed_parts, BlockStates, IsUsedBlock, Disk, block_count, CallEvent, PairContent, Tail, zero_gstate, null_address, IsAllowedTail, ContentChange, PutTail, content_with_changes, does_first, does_nothing, puts_tail, empty_raw_content, raw_content, complete_content, tail_if_any, Pair, anchor_address, AreLinked, tail_target, pairs_blocks, number_occurrences, once_from_distinct, header_address, CommitsChanges, changed_pair_content, content_after_changes, IsPairAddress, KeepsOutsidePair, OutsideStaysUnprogrammed, IsFreshPair, AreApart, AreElsewhere, raw_content-stays, PairHeader, kept_view, disk_pair_at, header_pairs, IsHeader, AreHeaders, AllBlocksUsed, IsKeptOnDisk, thread_pair, complete_after, CanThreadIn, tail_change, pairs_split}
 use Rattle.lfs_model.specs.layers.LoggedContent.{AreWords, is_null}
 use Rattle.lfs_model.proofs.Effects.{ends_tail}
-use Rattle.lfs_pair.specs.FreshPair.{CanWriteFresh}
+use Rattle.lfs_pair.specs.FreshPair.{CanMakeFresh}
 use Rattle.lfs_thread.proofs.Keeping.{AllElsewhere, elsewhere_from, headers_right, headers-stay, pairs-stay, header-stays, header_content, pair_on_content, disk_pair_at-stays, used_left, used_right, IsReplaced, pairs_are, kept_replaced, pair_elsewhere, fresh_elsewhere}
 use Rattle.lfs_thread.proofs.Changing.{IsAt, header_at_index, pair_at_index, made_of_header}
 use Rattle.lfs_thread.proofs.Coming.{count_other, used_at, two_unused, used_still, SettlesTwo, held_address}
@@ -31,13 +31,13 @@ module _ (disk : Disk) (before : List CallEvent) (blocks : Blocks) (after : List
   }
 
 -- what changes make of a pair is what they make of it beside the fresh one
-pub beside_made : (disk : Disk) (before : List CallEvent) (blocks : Blocks) (after : List CallEvent) (hs : List PairHeader) (sets : BlockStates) (fresh : ℕ × ℕ) (index : ℕ) (h : PairHeader) (changes : List PairChange) → IsAt hs index h
+pub beside_made : (disk : Disk) (before : List CallEvent) (blocks : Blocks) (after : List CallEvent) (hs : List PairHeader) (sets : BlockStates) (fresh : ℕ × ℕ) (index : ℕ) (h : PairHeader) (changes : List ContentChange) → IsAt hs index h
     → IsKeptOnDisk disk before hs sets → ¬ IsUsedBlock sets fresh.0 → ¬ IsUsedBlock sets fresh.1 → KeepsOutsidePair fresh disk.blocks blocks
     → complete_after (kept_view (record disk { blocks = blocks }) after hs sets) index changes ≡ complete_after (kept_view disk before hs sets) index changes
 beside_made disk before blocks after hs sets fresh index h changes a kept first second others =
-    ap (λ (p : Pair). option_and_then complete_content (changed_pair (record disk { blocks = blocks }) p.at changes)) (pair_at_index (record disk { blocks = blocks }) after hs sets index h a)
-    ∙ ap (λ r. option_and_then complete_content (changed_if_any r changes)) (raw_content-stays disk (pair_elsewhere apart) others)
-    ∙ ap (λ (p : Pair). option_and_then complete_content (changed_pair disk p.at changes)) (sym (pair_at_index disk before hs sets index h a))
+    ap (λ (p : Pair). option_and_then complete_content (changed_pair_content (record disk { blocks = blocks }) p.at changes)) (pair_at_index (record disk { blocks = blocks }) after hs sets index h a)
+    ∙ ap (λ r. option_and_then complete_content (content_after_changes r changes)) (raw_content-stays disk (pair_elsewhere apart) others)
+    ∙ ap (λ (p : Pair). option_and_then complete_content (changed_pair_content disk p.at changes)) (sym (pair_at_index disk before hs sets index h a))
   where
     used : AllBlocksUsed sets ((header_address h).0 ∷ (header_address h).1 ∷ [])
     used =
@@ -57,7 +57,7 @@ beside_made disk before blocks after hs sets fresh index h changes a kept first 
 
 -- ---- the tail names it
 
-module _ (disk : Disk) (before : List CallEvent) (blocks : Blocks) (after : List CallEvent) (hs : List PairHeader) (sets now : BlockStates) (index : ℕ) (h new f : PairHeader) (fresh : ℕ × ℕ) (changes : List PairChange) (c : PairContent)
+module _ (disk : Disk) (before : List CallEvent) (blocks : Blocks) (after : List CallEvent) (hs : List PairHeader) (sets now : BlockStates) (index : ℕ) (h new f : PairHeader) (fresh : ℕ × ℕ) (changes : List ContentChange) (c : PairContent)
     (a : IsAt hs index h) (kept : IsKeptOnDisk disk before hs sets) (made : complete_after (kept_view disk before hs sets) index changes ≡ Some c) (next : tail_target c.tail ≡ Some fresh)
     (commits : CommitsChanges disk before changes h (record disk { blocks = blocks }) after new) (others : KeepsOutsidePair (header_address h) disk.blocks blocks) (stay : OutsideStaysUnprogrammed (header_address h) before after)
     (beside : IsHeader disk before f) (at_fresh : header_address f ≡ fresh) (behind : PairContent) (has : beside.content ≡ behind) (tail_is : behind.tail ≡ (disk_pair_at disk (header_address h)).content.tail)
@@ -178,15 +178,15 @@ module _ (disk : Disk) (before : List CallEvent) (blocks : Blocks) (after : List
 
 -- ---- what the fresh pair is to hold
 
-pub fresh_made : (t : Option Tail) → IsAllowedTail t → changed_content_of empty_raw_content (tail_change t ∷ []) ≡ Some (record { slots = []; tail = t; move = zero_gstate })
+pub fresh_made : (t : Option Tail) → IsAllowedTail t → content_with_changes empty_raw_content (tail_change t ∷ []) ≡ Some (record { slots = []; tail = t; move = zero_gstate })
 fresh_made None h = does_first (PutTail false None) [] empty_raw_content (record empty_raw_content { tail = None }) (record empty_raw_content { tail = None }) (ends_tail empty_raw_content false) (does_nothing (record empty_raw_content { tail = None }))
 fresh_made (Some t) h =
-    let is : tail_to_pair t.hard t.to ≡ Some t = ap (λ b. cond b None (Some t)) h.1 in
-    does_first (PutTail t.hard (Some t.to)) [] empty_raw_content (record empty_raw_content { tail = tail_to_pair t.hard t.to }) (record empty_raw_content { tail = tail_to_pair t.hard t.to }) (puts_tail empty_raw_content t.hard t.to h.0)
-    (does_nothing (record empty_raw_content { tail = tail_to_pair t.hard t.to }))
+    let is : tail_if_any t.hard t.to ≡ Some t = ap (λ b. cond b None (Some t)) h.1 in
+    does_first (PutTail t.hard (Some t.to)) [] empty_raw_content (record empty_raw_content { tail = tail_if_any t.hard t.to }) (record empty_raw_content { tail = tail_if_any t.hard t.to }) (puts_tail empty_raw_content t.hard t.to h.0)
+    (does_nothing (record empty_raw_content { tail = tail_if_any t.hard t.to }))
     ∙ ap (λ (x : Option Tail). Some (record { slots = []; tail = x; move = zero_gstate })) is
 
-pub can_be_fresh : (disk : Disk) (fresh : ℕ × ℕ) (t : Option Tail) → IsPairAddress disk fresh → IsAllowedTail t → CanWriteFresh disk fresh (tail_change t ∷ [])
+pub can_be_fresh : (disk : Disk) (fresh : ℕ × ℕ) (t : Option Tail) → IsPairAddress disk fresh → IsAllowedTail t → CanMakeFresh disk fresh (tail_change t ∷ [])
 can_be_fresh disk fresh t on h = record {
   address = on;
   new = record { slots = []; tail = t; move = zero_gstate };
@@ -224,11 +224,11 @@ pub header_tail : (disk : Disk) (history : List CallEvent) (h : PairHeader) → 
 header_tail disk history h is = ap (λ (q : Pair). q.content.tail) (pair_on_content disk (header_address h) is.content (header_content disk history h is))
     ∙ (completed_parts is.held is.content is.complete).tail ∙ sym is.is_pair.describes.sums.tail
 
-pub fresh_can : (disk : Disk) (history : List CallEvent) (hs : List PairHeader) (sets : BlockStates) (index : ℕ) (h : PairHeader) (fresh : ℕ × ℕ) (changes : List PairChange) (t : PairChange) → IsAt hs index h → IsKeptOnDisk disk history hs sets
-    → block_count disk ≤ 65536 → CanThreadIn (kept_view disk history hs sets) index fresh changes → t ≡ tail_change (option_map tail_view h.tail) → CanWriteFresh disk fresh (t ∷ [])
+pub fresh_can : (disk : Disk) (history : List CallEvent) (hs : List PairHeader) (sets : BlockStates) (index : ℕ) (h : PairHeader) (fresh : ℕ × ℕ) (changes : List ContentChange) (t : ContentChange) → IsAt hs index h → IsKeptOnDisk disk history hs sets
+    → block_count disk ≤ 65536 → CanThreadIn (kept_view disk history hs sets) index fresh changes → t ≡ tail_change (option_map tail_view h.tail) → CanMakeFresh disk fresh (t ∷ [])
 fresh_can disk history hs sets index h fresh changes t a kept few can e =
-    subst (λ x. CanWriteFresh disk fresh (x ∷ [])) (sym e)
-    (subst (λ y. CanWriteFresh disk fresh (tail_change y ∷ [])) (header_tail disk history h (header_at_index disk history hs index h a kept.each))
+    subst (λ x. CanMakeFresh disk fresh (x ∷ [])) (sym e)
+    (subst (λ y. CanMakeFresh disk fresh (tail_change y ∷ [])) (header_tail disk history h (header_at_index disk history hs index h a kept.each))
     (can_be_fresh disk fresh (disk_pair_at disk (header_address h)).content.tail (held_address disk history hs sets fresh kept can.held) (tail_named disk history hs sets index h a kept few)))
 
 -- the fresh pair's header

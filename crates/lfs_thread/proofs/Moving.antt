@@ -1,6 +1,6 @@
 -- The pair behind another one moves: its copy stands beside the thread, and then the other's tail names the copy.
 use Rattle.std.proofs.Common.{ℕ, suc, ◌≡◌, ◌⊎◌, inl, inr, get_or, ◌+◌, ◌%◌, ◌^◌, ◌<◌, ◌≤◌, ◌==◌, ◌&&◌, true, false, cond, List, [], ◌∷◌, ◌++◌, length, Option, Some, None, refl, sym, ap, ap₂, subst, ◌∙◌, arith, set, not, slice_get, flat_map}
-use Rattle.lfs_thread.proofs.Common.{ne_eqb, same_Some, length-map, length-set, map-append, flat_map-append, set-append_seam, option_and_then, option_map, disk_of_blocks, LeftByLoss, Blocks, RawContent, raw_content, content_at, complete_content, current_block, Disk, block_count, disk_block, tail_to_pair, LogEntry, FitsInPair, PairContent, Tail, null_address, Pair, AreLinked, tail_target, pairs_blocks, BlockStates, Free, IsUsedBlock, PairChange, PutTail, changed_content_of, AreNamed, AreWellFormed, IsAllowedTail, BeginsWith, superblock_entry, LossLeavesAtWorst, CallEvent, HoldsAtLosses, completed_from, completed_parts, fits_raw, number_occurrences, count_here, once_from_distinct, does_first, does_nothing, puts_tail, superblock_anew, AllCallsSince-behind, HoldsAtLosses-weaker, HoldsAtLosses-worst, goes_on_by, AreElsewhere, raw_content-stays, IsPairAddress, CanCommit, CommitsChanges, HasContentMade, HasOldContent, LossLeavesChanged, changed_pair, changed_if_any, KeepsOutsidePair, OutsideStaysUnprogrammed, CanCopyPair, IsPairCopied, header_address, AreApart, KeepsOutsideBoth, KeptThread, PairHeader, kept_view, disk_pair_at, header_pairs, IsHeader, AllBlocksUsed, IsKeptOnDisk, CanMoveNext, IsNextMoved, LossLeavesNextMoved, NextMovedOnDisk, pair_revision, CleanLossLeaves, thread_pair, empty_anchor, complete_after, CanThreadIn, HasOldPair, HasSuperblock, map_freeing, map_using}
+use Rattle.lfs_thread.proofs.Common.{ne_eqb, same_Some, length-map, length-set, map-append, flat_map-append, set-append_seam, option_and_then, option_map, disk_of_blocks, LeftByLoss, Blocks, RawContent, raw_content, content_at, complete_content, current_block, Disk, block_count, disk_block, tail_if_any, LogEntry, FitsInPair, PairContent, Tail, null_address, Pair, AreLinked, tail_target, pairs_blocks, BlockStates, Free, IsUsedBlock, ContentChange, PutTail, content_with_changes, AreNamed, AreWellFormed, IsAllowedTail, BeginsWith, superblock_entry, LossLeavesAtWorst, CallEvent, HoldsAtLosses, completed_from, completed_parts, fits_raw, number_occurrences, count_here, once_from_distinct, does_first, does_nothing, puts_tail, superblock_anew, AllCallsSince-behind, HoldsAtLosses-weaker, HoldsAtLosses-worst, goes_on_by, AreElsewhere, raw_content-stays, IsPairAddress, CanCommit, CommitsChanges, HasChangedContent, HasOldContent, LossLeavesChanged, changed_pair_content, content_after_changes, KeepsOutsidePair, OutsideStaysUnprogrammed, CanCopyPair, IsPairCopied, header_address, AreApart, KeepsOutsideBoth, KeptThread, PairHeader, kept_view, disk_pair_at, header_pairs, IsHeader, AllBlocksUsed, IsKeptOnDisk, CanMoveNext, IsNextMoved, LossLeavesNextMoved, NextMovedOnDisk, pair_revision, CleanLossLeaves, thread_pair, empty_anchor, complete_after, CanThreadIn, HasOldPair, HasSuperblock, map_freeing, map_using}
 use Rattle.lfs_device.specs.declared.geometry.Geometry.{Geometry}
 use Rattle.lfs_model.specs.format.Content.{current_of_two, has_commit, is_later}
 use Rattle.lfs_model.specs.format.Log.{block_revision}
@@ -28,10 +28,10 @@ named disk fresh on few =
     let real : (fresh.0 == null_address) ≡ false = ne_eqb fresh.0 null_address (λ e. absurd (omega (arith, e, f, few))) in
     ((omega (arith, f, few), omega (arith, s, few)), ap (λ b. b && fresh.1 == null_address) real)
 
-pub hard_made : (c : RawContent) (fresh : ℕ × ℕ) → IsAllowedTail (hard_to fresh) → changed_content_of c (PutTail true (Some fresh) ∷ []) ≡ Some (record c { tail = hard_to fresh })
+pub hard_made : (c : RawContent) (fresh : ℕ × ℕ) → IsAllowedTail (hard_to fresh) → content_with_changes c (PutTail true (Some fresh) ∷ []) ≡ Some (record c { tail = hard_to fresh })
 hard_made c fresh h =
-    let is : tail_to_pair true fresh ≡ hard_to fresh = ap (λ b. cond b None (hard_to fresh)) h.1 in
-    does_first (PutTail true (Some fresh)) [] c (record c { tail = tail_to_pair true fresh }) (record c { tail = tail_to_pair true fresh }) (puts_tail c true fresh h.0) (does_nothing (record c { tail = tail_to_pair true fresh }))
+    let is : tail_if_any true fresh ≡ hard_to fresh = ap (λ b. cond b None (hard_to fresh)) h.1 in
+    does_first (PutTail true (Some fresh)) [] c (record c { tail = tail_if_any true fresh }) (record c { tail = tail_if_any true fresh }) (puts_tail c true fresh h.0) (does_nothing (record c { tail = tail_if_any true fresh }))
     ∙ ap (λ (x : Option Tail). Some (record c { tail = x })) is
 
 complete_with_tail : (raw : RawContent) (c : PairContent) (t : Option Tail) → complete_content raw ≡ Some c → complete_content (record raw { tail = t }) ≡ Some (record c { tail = t })
@@ -70,7 +70,7 @@ module _ (disk : Disk) (history : List CallEvent) (hs : List PairHeader) (sets :
   abbrev old : KeptThread
   old = kept_view disk history hs sets
 
-  abbrev changes : List PairChange
+  abbrev changes : List ContentChange
   changes = PutTail true (Some fresh) ∷ []
 
   abbrev here : IsAt hs index h
@@ -98,8 +98,8 @@ module _ (disk : Disk) (history : List CallEvent) (hs : List PairHeader) (sets :
   next_content = sym (ap (λ (p : Pair). p.content) (next_pair ∙ pair_on_content disk (header_address n.next) is_next.content (header_content disk history n.next is_next)))
 
   pub made : complete_after old index changes ≡ Some (pair_leading_to old index fresh).content
-  made = ap (λ (p : Pair). option_and_then complete_content (changed_pair disk p.at changes)) was_pair
-      ∙ ap (λ r. option_and_then complete_content (changed_if_any r changes)) is_header.raw
+  made = ap (λ (p : Pair). option_and_then complete_content (changed_pair_content disk p.at changes)) was_pair
+      ∙ ap (λ r. option_and_then complete_content (content_after_changes r changes)) is_header.raw
       ∙ ap (λ r. option_and_then complete_content r) (hard_made is_header.held fresh (named disk fresh on_disk few))
       ∙ complete_with_tail is_header.held is_header.content (hard_to fresh) is_header.complete
       ∙ ap (λ (c : PairContent). Some (record c { tail = hard_to fresh })) content_is
@@ -140,7 +140,7 @@ module _ (disk : Disk) (history : List CallEvent) (hs : List PairHeader) (sets :
     lead_can = then_can disk history hs sets index h fresh changes here kept can_lead mid then others stay
 
     -- the tail always fits
-    pub never_full : ((raw : RawContent) (d : PairContent) → changed_pair beside (header_address h) changes ≡ Some raw → complete_content raw ≡ Some d → FitsInPair disk.block_size disk.page d → ⊥) → ⊥
+    pub never_full : ((raw : RawContent) (d : PairContent) → changed_pair_content beside (header_address h) changes ≡ Some raw → complete_content raw ≡ Some d → FitsInPair disk.block_size disk.page d → ⊥) → ⊥
     never_full full =
         let m = made_beside disk history hs sets index h fresh changes here kept can_lead mid then others stay in
         full m.raw can_lead.content m.is m.complete (record { size = can.fits.size; count = can.fits.count })
@@ -159,7 +159,7 @@ module _ (disk : Disk) (history : List CallEvent) (hs : List PairHeader) (sets :
 
     module _ (f : PairHeader) (copied : IsPairCopied disk history [] n.next beside then fresh f) where
       same_held : copied.new ≡ is_next.held
-      same_held = same_Some copied.new is_next.held (sym copied.made ∙ ap (λ r. changed_if_any r []) is_next.raw)
+      same_held = same_Some copied.new is_next.held (sym copied.made ∙ ap (λ r. content_after_changes r []) is_next.raw)
 
       abbrev copy_is : IsCopyHeader beside then f fresh (thread_pair old (index + 1)).content
       copy_is = record {
@@ -207,7 +207,7 @@ module _ (disk : Disk) (history : List CallEvent) (hs : List PairHeader) (sets :
               ∙ ap (λ r. option_and_then complete_content r) (raw_content-stays beside f_elsewhere l.others)
               ∙ header_content beside then f copy_is.header ∙ ap Some next_content
 
-          sides : HasOldContent beside (header_address h) (record disk { blocks = left }) ⊎ HasContentMade beside (header_address h) changes (record disk { blocks = left })
+          sides : HasOldContent beside (header_address h) (record disk { blocks = left }) ⊎ HasChangedContent beside (header_address h) changes (record disk { blocks = left })
               → HasOldPair old index (record disk { blocks = left }) ⊎ NextMovedOnDisk old index fresh (record disk { blocks = left })
           sides (inl k) = inl (old_still disk history hs sets index h fresh changes here kept can_lead mid then others stay left k)
           sides (inr k) = inr (record {
@@ -381,7 +381,7 @@ module _ (geometry later : Geometry) (old mid : Blocks) (before then : List Call
   abbrev was : KeptThread
   was = kept_view (disk_of_blocks geometry old) before hs sets
 
-  abbrev leads : List PairChange
+  abbrev leads : List ContentChange
   leads = PutTail true (Some fresh) ∷ []
 
   pub device_lead_can : CanCommit (disk_of_blocks later mid) then h leads
@@ -390,9 +390,9 @@ module _ (geometry later : Geometry) (old mid : Blocks) (before then : List Call
   pub device_left_by_copy : HoldsAtLosses LossLeavesAtWorst before then (KeepsOutsidePair fresh old) → HoldsAtLosses LeftByLoss before then (LossLeavesNextMoved was index fresh)
   device_left_by_copy worst = HoldsAtLosses-weaker (λ left keeps. left_by_copy (disk_of_blocks geometry old) before hs sets index h fresh few n kept can mid then others stay left keeps) (HoldsAtLosses-worst worst)
 
-  pub device_never_full : ((raw : RawContent) (d : PairContent) → changed_pair (disk_of_blocks later mid) (header_address h) leads ≡ Some raw → complete_content raw ≡ Some d → FitsInPair later.block_size later.page d → ⊥) → ⊥
+  pub device_never_full : ((raw : RawContent) (d : PairContent) → changed_pair_content (disk_of_blocks later mid) (header_address h) leads ≡ Some raw → complete_content raw ≡ Some d → FitsInPair later.block_size later.page d → ⊥) → ⊥
   device_never_full full = never_full (disk_of_blocks geometry old) before hs sets index h fresh few n kept can mid then others stay
-      (subst (λ (k : Geometry). (raw : RawContent) (d : PairContent) → changed_pair (disk_of_blocks k mid) (header_address h) leads ≡ Some raw → complete_content raw ≡ Some d → FitsInPair k.block_size k.page d → ⊥) same full)
+      (subst (λ (k : Geometry). (raw : RawContent) (d : PairContent) → changed_pair_content (disk_of_blocks k mid) (header_address h) leads ≡ Some raw → complete_content raw ≡ Some d → FitsInPair k.block_size k.page d → ⊥) same full)
 
   module _ (f x : PairHeader) (is_next : x ≡ n.next) (copied : IsPairCopied (disk_of_blocks geometry old) before [] x (disk_of_blocks later mid) then fresh f) where
     copied_there : IsPairCopied (disk_of_blocks geometry old) before [] n.next (disk_of_blocks geometry mid) then fresh f

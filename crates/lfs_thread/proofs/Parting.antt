@@ -1,10 +1,10 @@
 -- A pair of the thread is split.
 use Rattle.std.proofs.Common.{ℕ, zero, suc, ◌≡◌, ◌⊎◌, inl, inr, ◌+◌, ◌-◌, ◌<◌, true, List, [], ◌∷◌, ◌++◌, length, take, drop, Option, Some, None, refl, sym, ap, ap₂, subst, ◌∙◌, arith, set, insert}
-use Rattle.lfs_thread.proofs.Common.{option_and_then, option_map, same_Some, map-append, length-map, flat_map-append, set-append_seam, Blocks, BlockStates, IsUsedBlock, disk_of_blocks, Disk, CallEvent, Slot, PairContent, FitsInPair, Gstate, Tail, zero_gstate, AreWellFormed, IsWellFormed, nothing_logged, BeginsWith, superblock_entry, PairChange, RawSlot, RawContent, current_block, raw_content, content_at, content_after, complete_content, complete_slots, empty_raw_content, block_entries, Pair, AreLinked, tail_target, pairs_blocks, number_occurrences, once_from_distinct, complete_parts, complete_take, completed_from, fits_pair, header_address, IsPairAddress, CanCommit, HasOldContent, KeepsFirstEntry, changed_pair, changed_if_any, superblock_anew, KeepsOutsideBoth, KeptThread, PairHeader, kept_view, disk_pair_at, header_pairs, IsHeader, AllBlocksUsed, IsKeptOnDisk, thread_pair, CanSplitAt, map_using, pairs_split, HasSplit, BothOnDisk, PartsFit, HasOldPair, LossLeavesBoth}
+use Rattle.lfs_thread.proofs.Common.{option_and_then, option_map, same_Some, map-append, length-map, flat_map-append, set-append_seam, Blocks, BlockStates, IsUsedBlock, disk_of_blocks, Disk, CallEvent, Slot, PairContent, FitsInPair, Gstate, Tail, zero_gstate, AreWellFormed, IsWellFormed, nothing_logged, BeginsWith, superblock_entry, ContentChange, RawSlot, RawContent, current_block, raw_content, content_at, content_after, complete_content, complete_slots, empty_raw_content, block_entries, Pair, AreLinked, tail_target, pairs_blocks, number_occurrences, once_from_distinct, complete_parts, complete_take, completed_from, fits_pair, header_address, IsPairAddress, CanCommit, HasOldContent, KeepsFirstEntry, changed_pair_content, content_after_changes, superblock_anew, KeepsOutsideBoth, KeptThread, PairHeader, kept_view, disk_pair_at, header_pairs, IsHeader, AllBlocksUsed, IsKeptOnDisk, thread_pair, CanSplitAt, map_using, pairs_split, HasSplit, SplitOnDisk, PartsFit, HasOldPair, LossLeavesThreadSplit}
 use Rattle.std.proofs.lemmas.List.Edits.{insert-append_right}
 use Rattle.lfs_device.specs.declared.geometry.Geometry.{Geometry}
 use Rattle.lfs_model.proofs.Completed.{complete_drop}
-use Rattle.lfs_pair.specs.HalfCut.{CanSplit, SlotsFitPair, IsFittingSplit}
+use Rattle.lfs_pair.specs.HalfCut.{AreSplittable, SlotsFitPair, IsFittingSplit}
 use Rattle.lfs_pair.specs.Split.{CanSplitPair, BothHaveSlots, SplitsPair, OutsideBothStaysUnprogrammed, LossLeavesSplit, PairsHaveParts, split_front, split_back}
 use Rattle.lfs_thread.specs.ThreadSteps.{front_pair, back_pair}
 use Rattle.lfs_thread.proofs.Coming.{two_unused, used_still, SettlesTwo, settles_two, held_address}
@@ -85,7 +85,7 @@ insert_behind xs y ys z =
 
 -- ---- before
 
-pub can_split : (disk : Disk) (before : List CallEvent) (hs : List PairHeader) (sets : BlockStates) (index : ℕ) (h : PairHeader) (fresh : ℕ × ℕ) (changes : List PairChange) → IsAt hs index h → IsKeptOnDisk disk before hs sets
+pub can_split : (disk : Disk) (before : List CallEvent) (hs : List PairHeader) (sets : BlockStates) (index : ℕ) (h : PairHeader) (fresh : ℕ × ℕ) (changes : List ContentChange) → IsAt hs index h → IsKeptOnDisk disk before hs sets
     → CanSplitAt (kept_view disk before hs sets) index fresh changes → CanSplitPair disk before h fresh changes
 can_split disk before hs sets index h fresh changes a kept can =
     let commit = can_commit disk before hs sets index h changes a kept can.can.content can.can.made in
@@ -100,18 +100,18 @@ can_split disk before hs sets index h fresh changes a kept can =
         second_first = λ e. unused.first_unused (subst (IsUsedBlock sets) e used.1);
         second_second = λ e. unused.second_unused (subst (IsUsedBlock sets) e used.1);
       };
-      cut = subst (λ (r : RawContent). CanSplit disk.block_size disk.page r.slots) (raw_same commit) can.cut;
+      cut = subst (λ (r : RawContent). AreSplittable disk.block_size disk.page r.slots) (raw_same commit) can.cut;
     }
   where
-    m : Completes (changed_pair disk (header_address h) changes) can.can.content
+    m : Completes (changed_pair_content disk (header_address h) changes) can.can.content
     m = made_of_header disk before hs sets index h changes can.can.content a can.can.made
 
     held_raw : (commit : CanCommit disk before h changes) → raw_content disk (header_address h) ≡ Some commit.held
     held_raw commit = ap (option_and_then (λ block. content_after empty_raw_content (block_entries block))) commit.is_pair.holds ∙ commit.is_pair.describes.content
 
     raw_same : (commit : CanCommit disk before h changes) → can.raw ≡ commit.new
-    raw_same commit = same_Some can.raw commit.new (sym can.made ∙ ap (λ (p : Pair). changed_pair disk p.at changes) (pair_at_index disk before hs sets index h a)
-        ∙ ap (λ r. changed_if_any r changes) (held_raw commit) ∙ commit.changed)
+    raw_same commit = same_Some can.raw commit.new (sym can.made ∙ ap (λ (p : Pair). changed_pair_content disk p.at changes) (pair_at_index disk before hs sets index h a)
+        ∙ ap (λ r. content_after_changes r changes) (held_raw commit) ∙ commit.changed)
 
     blocks_used : IsUsedBlock sets (header_address h).0 × IsUsedBlock sets (header_address h).1
     blocks_used =
@@ -123,7 +123,7 @@ can_split disk before hs sets index h fresh changes a kept can =
 
 -- ---- after
 
-module _ (disk : Disk) (before : List CallEvent) (blocks : Blocks) (after : List CallEvent) (hs : List PairHeader) (sets : BlockStates) (index : ℕ) (h new f : PairHeader) (fresh : ℕ × ℕ) (changes : List PairChange)
+module _ (disk : Disk) (before : List CallEvent) (blocks : Blocks) (after : List CallEvent) (hs : List PairHeader) (sets : BlockStates) (index : ℕ) (h new f : PairHeader) (fresh : ℕ × ℕ) (changes : List ContentChange)
     (a : IsAt hs index h) (kept : IsKeptOnDisk disk before hs sets) (can : CanSplitAt (kept_view disk before hs sets) index fresh changes)
     (splits : SplitsPair disk before changes h fresh (record disk { blocks = blocks }) after new f) (others : KeepsOutsideBoth (header_address h) fresh disk.blocks blocks)
     (stay : OutsideBothStaysUnprogrammed (header_address h) fresh before after) where
@@ -268,7 +268,7 @@ module _ (disk : Disk) (before : List CallEvent) (blocks : Blocks) (after : List
 
 -- ---- in the code's words
 
-module _ (geometry later : Geometry) (old blocks : Blocks) (before after : List CallEvent) (hs : List PairHeader) (sets : BlockStates) (index : ℕ) (h new f : PairHeader) (fresh : ℕ × ℕ) (changes : List PairChange)
+module _ (geometry later : Geometry) (old blocks : Blocks) (before after : List CallEvent) (hs : List PairHeader) (sets : BlockStates) (index : ℕ) (h new f : PairHeader) (fresh : ℕ × ℕ) (changes : List ContentChange)
     (same : later ≡ geometry) (a : IsAt hs index h) (kept : IsKeptOnDisk (disk_of_blocks geometry old) before hs sets) (can : CanSplitAt (kept_view (disk_of_blocks geometry old) before hs sets) index fresh changes)
     (splits : SplitsPair (disk_of_blocks geometry old) before changes h fresh (disk_of_blocks later blocks) after new f) (others : KeepsOutsideBoth (header_address h) fresh old blocks)
     (stay : OutsideBothStaysUnprogrammed (header_address h) fresh before after) (items : List PairHeader) (are : items ≡ insert (set hs index new) (index + 1) f) (now : BlockStates) (is_now : now ≡ map_using sets fresh) where
@@ -301,9 +301,9 @@ placed hs index h x new f a =
 
 -- ---- at a stop
 
-pub left_by_split : (disk : Disk) (before : List CallEvent) (hs : List PairHeader) (sets : BlockStates) (index : ℕ) (h : PairHeader) (fresh : ℕ × ℕ) (changes : List PairChange) (blocks : Blocks) → IsAt hs index h → IsKeptOnDisk disk before hs sets
+pub left_by_split : (disk : Disk) (before : List CallEvent) (hs : List PairHeader) (sets : BlockStates) (index : ℕ) (h : PairHeader) (fresh : ℕ × ℕ) (changes : List ContentChange) (blocks : Blocks) → IsAt hs index h → IsKeptOnDisk disk before hs sets
     → CanSplitAt (kept_view disk before hs sets) index fresh changes → LossLeavesSplit disk (header_address h) fresh changes blocks
-    → LossLeavesBoth (kept_view disk before hs sets) index fresh changes blocks
+    → LossLeavesThreadSplit (kept_view disk before hs sets) index fresh changes blocks
 left_by_split disk before hs sets index h fresh changes blocks a kept can l = record {
   others = subst (λ (p : Pair). KeepsOutsideBoth p.at fresh disk.blocks blocks) (sym e) l.others;
   content = sides l.content;
@@ -318,15 +318,15 @@ left_by_split disk before hs sets index h fresh changes blocks a kept can l = re
     was : content_at disk (header_address h) ≡ Some (thread_pair (kept_view disk before hs sets) index).content
     was = header_content disk before h is ∙ ap (λ (p : Pair). Some p.content) (sym (e ∙ pair_on_content disk (header_address h) is.content (header_content disk before h is)))
 
-    made_whole : (raw : RawContent) → changed_pair disk (header_address h) changes ≡ Some raw → complete_content raw ≡ Some can.can.content
+    made_whole : (raw : RawContent) → changed_pair_content disk (header_address h) changes ≡ Some raw → complete_content raw ≡ Some can.can.content
     made_whole raw made = let m = made_of_header disk before hs sets index h changes can.can.content a can.can.made in ap complete_content (same_Some raw m.raw (sym made ∙ m.is)) ∙ m.complete
 
-    whole : (raw : RawContent) → changed_pair disk (header_address h) changes ≡ Some raw → IsComplete raw can.can.content
+    whole : (raw : RawContent) → changed_pair_content disk (header_address h) changes ≡ Some raw → IsComplete raw can.can.content
     whole raw made = is_complete raw can.can.content (made_whole raw made)
 
     sides : HasOldContent disk (header_address h) (record disk { blocks = blocks }) ⊎ PairsHaveParts disk (header_address h) fresh changes (record disk { blocks = blocks })
         → HasOldPair (kept_view disk before hs sets) index (record disk { blocks = blocks })
-        ⊎ BothOnDisk (kept_view disk before hs sets) index changes fresh (record disk { blocks = blocks })
+        ⊎ SplitOnDisk (kept_view disk before hs sets) index changes fresh (record disk { blocks = blocks })
     sides (inl k) = inl (record {
       holds = ap (λ (p : Pair). content_at (record disk { blocks = blocks }) p.at) e ∙ ap (λ o. option_and_then complete_content o) k.content ∙ was;
       first = subst (λ (p : Pair). BeginsWith (current_block disk p.at) superblock_entry → BeginsWith (current_block (record disk { blocks = blocks }) p.at) superblock_entry) (sym e) (k.first superblock_entry);

@@ -6,11 +6,11 @@ use Rattle.lfs_device.specs.declared.device.BlockDevice.{Ghosts}
 use Rattle.lfs_device.specs.declared.error.Error.{Error}
 use Rattle.lfs_device.specs.declared.error.Error.TheVariants.{Io, NoMemory}
 use Rattle.lfs_device.specs.declared.geometry.Geometry.{Geometry}
-use Rattle.lfs_thread.proofs.Common.{ReadsOnly, disk_of_blocks, Blocks, SameExceptThese, BlockStates, ordered_disk, HoldsAtLosses-weaker, goes_on_by, ChangesReadingFew, ReportsWritingNothing, PairHeader, kept_in_order, ThreadReportsErrors, ThreadReportsKeepingOthers, ChangesWithinReads, address_blocks, addresses_blocks}
+use Rattle.lfs_thread.proofs.Common.{ReadsOnly, disk_of_blocks, Blocks, SameExceptBlocks, BlockStates, ordered_disk, HoldsAtLosses-weaker, goes_on_by, ChangesReadingFew, ReportsWritingNothing, PairHeader, kept_in_order, ThreadReportsErrors, ThreadReportsKeepingOthers, ChangesWithinReads, address_blocks, addresses_blocks}
 use Rattle.lfs_device.specs.DeviceCalls.{ChangesTheseBlocks}
 use Rattle.lfs_model.specs.declared.order.NameOrder.{NameOrder}
 use Rattle.lfs_model.proofs.Histories.{StayUnprogrammed-trans, StayUnprogrammed-wider}
-use Rattle.lfs_model.proofs.Overwrites.{SameExceptThese-trans, SameExceptThese-wider}
+use Rattle.lfs_model.proofs.Overwrites.{SameExceptBlocks-trans, SameExceptBlocks-wider}
 use Rattle.lfs_pair.specs.declared.pair.Pair.{Pair}
 use Rattle.lfs_pair.specs.Commits.{CommitFails}
 use Rattle.lfs_thread.specs.ThreadDevice.{ReportsKeepingOthers}
@@ -58,11 +58,11 @@ among_first at fresh other apart = All-take (λ c. c ≢ other) 2 (addresses_blo
 among_second : (at fresh : ℕ × ℕ) (other : ℕ) → All (λ c. c ≢ other) (addresses_blocks at fresh) → All (λ c. c ≢ other) (address_blocks fresh)
 among_second at fresh other apart = All-drop (λ c. c ≢ other) 2 (addresses_blocks at fresh) apart
 
-pub keeps_by_fresh : (at fresh : ℕ × ℕ) {old new : Blocks} → SameExceptThese (address_blocks fresh) old new → SameExceptThese (addresses_blocks at fresh) old new
-keeps_by_fresh at fresh same = SameExceptThese-wider (addresses_blocks at fresh) (among_second at fresh) same
+pub keeps_by_fresh : (at fresh : ℕ × ℕ) {old new : Blocks} → SameExceptBlocks (address_blocks fresh) old new → SameExceptBlocks (addresses_blocks at fresh) old new
+keeps_by_fresh at fresh same = SameExceptBlocks-wider (addresses_blocks at fresh) (among_second at fresh) same
 
-pub keeps_by_both : (at fresh : ℕ × ℕ) {old mid new : Blocks} → SameExceptThese (address_blocks fresh) old mid → SameExceptThese (address_blocks at) mid new → SameExceptThese (addresses_blocks at fresh) old new
-keeps_by_both at fresh first second = SameExceptThese-trans (keeps_by_fresh at fresh first) (SameExceptThese-wider (addresses_blocks at fresh) (among_first at fresh) second)
+pub keeps_by_both : (at fresh : ℕ × ℕ) {old mid new : Blocks} → SameExceptBlocks (address_blocks fresh) old mid → SameExceptBlocks (address_blocks at) mid new → SameExceptBlocks (addresses_blocks at fresh) old new
+keeps_by_both at fresh first second = SameExceptBlocks-trans (keeps_by_fresh at fresh first) (SameExceptBlocks-wider (addresses_blocks at fresh) (among_first at fresh) second)
 
 module _ {D : Type 0} (g : Ghosts D) (at fresh : ℕ × ℕ) where
   pub changes_by_fresh : {old new : D} → ChangesTheseBlocks g (address_blocks fresh) old new → ChangesTheseBlocks g (addresses_blocks at fresh) old new

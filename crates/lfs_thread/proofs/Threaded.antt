@@ -1,6 +1,6 @@
 -- A fresh pair beside the thread, and then in it.
 use Rattle.std.proofs.Common.{ℕ, ◌≡◌, ◌⊎◌, inl, inr, get_or, ◌+◌, ◌<◌, ◌≤◌, List, [], ◌∷◌, length, Some, refl, sym, ap, ap₂, subst, ◌∙◌, set, insert, remove}
-use Rattle.lfs_thread.proofs.Common.{same_Some, map-append, flat_map-append, Blocks, option_and_then, option_map, tail_view, fits_pair, BeginsWith, superblock_entry, BlockStates, IsUsedBlock, Disk, disk_of_blocks, LossLeavesAtWorst, CallEvent, HoldsAtLosses, OnlyReadsSince, LeftByLoss, AllCallsSince-behind, HoldsAtLosses-weaker, HoldsAtLosses-worst, goes_on_by, PairContent, FitsInPair, zero_gstate, PairChange, RawContent, current_block, raw_content, content_at, complete_content, Pair, pairs_blocks, header_address, IsWellFormed, CanCommit, CommitsChanges, HasContentMade, HasOldContent, KeepsFirstEntry, LossLeavesChanged, changed_pair, KeepsOutsidePair, OutsideStaysUnprogrammed, IsFreshPair, AreApart, KeepsOutsideBoth, superblock_anew, AreElsewhere, raw_content-stays, KeptThread, PairHeader, kept_view, disk_pair_at, header_pairs, IsHeader, AllBlocksUsed, IsKeptOnDisk, CleanLossLeaves, thread_pair, empty_anchor, RefusesThreading, complete_after, CanThreadIn, HasSuperblock, HasOldPair, IsThreadedIn, ThreadedOnDisk, LossLeavesThreaded, KeepsSuperblockFirst, tail_change, map_using, pairs_split}
+use Rattle.lfs_thread.proofs.Common.{same_Some, map-append, flat_map-append, Blocks, option_and_then, option_map, tail_view, fits_pair, BeginsWith, superblock_entry, BlockStates, IsUsedBlock, Disk, disk_of_blocks, LossLeavesAtWorst, CallEvent, HoldsAtLosses, OnlyReadsSince, LeftByLoss, AllCallsSince-behind, HoldsAtLosses-weaker, HoldsAtLosses-worst, goes_on_by, PairContent, FitsInPair, zero_gstate, ContentChange, RawContent, current_block, raw_content, content_at, complete_content, Pair, pairs_blocks, header_address, IsWellFormed, CanCommit, CommitsChanges, HasChangedContent, HasOldContent, KeepsFirstEntry, LossLeavesChanged, changed_pair_content, KeepsOutsidePair, OutsideStaysUnprogrammed, IsFreshPair, AreApart, KeepsOutsideBoth, superblock_anew, AreElsewhere, raw_content-stays, KeptThread, PairHeader, kept_view, disk_pair_at, header_pairs, IsHeader, AllBlocksUsed, IsKeptOnDisk, CleanLossLeaves, thread_pair, empty_anchor, RefusesThreading, complete_after, CanThreadIn, HasSuperblock, HasOldPair, IsThreadedIn, ThreadedInOnDisk, LossLeavesThreaded, KeepsSuperblockFirst, tail_change, map_using, pairs_split}
 use Rattle.lfs_device.specs.declared.geometry.Geometry.{Geometry}
 use Rattle.lfs_thread.specs.ThreadSteps.{fresh_with_tail}
 use Rattle.lfs_thread.proofs.Keeping.{kept_thread, header_content, pair_on_content, disk_pair_at-stays, used_right, pair_elsewhere, fresh_elsewhere, first_stays}
@@ -13,7 +13,7 @@ use Rattle.lfs_thread.proofs.Joined.{beside_pairs, beside_kept, beside_made, joi
 
 -- ---- beside the thread, and then in it
 
-module _ (disk : Disk) (history : List CallEvent) (hs : List PairHeader) (sets : BlockStates) (index : ℕ) (h : PairHeader) (fresh : ℕ × ℕ) (changes : List PairChange)
+module _ (disk : Disk) (history : List CallEvent) (hs : List PairHeader) (sets : BlockStates) (index : ℕ) (h : PairHeader) (fresh : ℕ × ℕ) (changes : List ContentChange)
     (a : IsAt hs index h) (kept : IsKeptOnDisk disk history hs sets) (can : CanThreadIn (kept_view disk history hs sets) index fresh changes)
     (mid : Blocks) (then : List CallEvent) (others : KeepsOutsidePair fresh disk.blocks mid) (stay : OutsideStaysUnprogrammed fresh history then) where
   abbrev old : KeptThread
@@ -93,18 +93,18 @@ module _ (disk : Disk) (history : List CallEvent) (hs : List PairHeader) (sets :
         (λ begins. k.first superblock_entry (first_stays disk (pair_elsewhere apart) others superblock_entry begins));
   }
 
-  pub made_beside : Completes (changed_pair beside (header_address h) changes) can.content
+  pub made_beside : Completes (changed_pair_content beside (header_address h) changes) can.content
   made_beside = made_of_header beside then hs sets index h changes can.content a still_made
 
   -- the content that the changes make is complete
-  pub whole_made : (new : RawContent) → changed_pair beside (header_address h) changes ≡ Some new → complete_content new ≡ Some can.content
+  pub whole_made : (new : RawContent) → changed_pair_content beside (header_address h) changes ≡ Some new → complete_content new ≡ Some can.content
   whole_made new made = ap complete_content (same_Some new made_beside.raw (sym made ∙ made_beside.is)) ∙ made_beside.complete
 
-  pub content_made_there : (left : Blocks) (new : RawContent) → changed_pair beside (header_address h) changes ≡ Some new → raw_content (record disk { blocks = left }) (header_address h) ≡ Some new
+  pub content_made_there : (left : Blocks) (new : RawContent) → changed_pair_content beside (header_address h) changes ≡ Some new → raw_content (record disk { blocks = left }) (header_address h) ≡ Some new
       → content_at (record disk { blocks = left }) (thread_pair old index).at ≡ Some can.content
   content_made_there left new made is = ap (λ (p : Pair). content_at (record disk { blocks = left }) p.at) was_pair ∙ ap (λ o. option_and_then complete_content o) is ∙ whole_made new made
 
-  pub first_made : (left : Blocks) (new : RawContent) → changed_pair beside (header_address h) changes ≡ Some new → IsWellFormed new → KeepsFirstEntry beside (header_address h) (Some new) (record disk { blocks = left })
+  pub first_made : (left : Blocks) (new : RawContent) → changed_pair_content beside (header_address h) changes ≡ Some new → IsWellFormed new → KeepsFirstEntry beside (header_address h) (Some new) (record disk { blocks = left })
       → KeepsSuperblockFirst disk (thread_pair old index).at can.content (record disk { blocks = left })
   first_made left new made logged first = subst (λ (p : Pair). KeepsSuperblockFirst disk p.at can.content (record disk { blocks = left })) (sym was_pair)
       (still_first (record disk { blocks = left }) can.content (λ begins has. first superblock_entry begins (superblock_anew new can.content logged.slots (whole_made new made) has.0 has.1)))
@@ -128,8 +128,8 @@ module _ (disk : Disk) (history : List CallEvent) (hs : List PairHeader) (sets :
             ∙ header_content beside then f is.header ∙ ap Some is.empty
             ∙ ap (λ (p : Pair). Some (record { slots = []; tail = p.content.tail; move = zero_gstate })) (sym was_pair)
 
-        sides : HasOldContent beside (header_address h) (record disk { blocks = left }) ⊎ HasContentMade beside (header_address h) changes (record disk { blocks = left })
-            → HasOldPair old index (record disk { blocks = left }) ⊎ ThreadedOnDisk old index fresh changes (record disk { blocks = left })
+        sides : HasOldContent beside (header_address h) (record disk { blocks = left }) ⊎ HasChangedContent beside (header_address h) changes (record disk { blocks = left })
+            → HasOldPair old index (record disk { blocks = left }) ⊎ ThreadedInOnDisk old index fresh changes (record disk { blocks = left })
         sides (inl k) = inl (old_still left k)
         sides (inr k) = inr (record {
           content = can.content;
@@ -175,7 +175,7 @@ module _ (disk : Disk) (history : List CallEvent) (hs : List PairHeader) (sets :
 
 -- ---- in the code's words
 
-module _ (geometry later : Geometry) (old mid : Blocks) (before then : List CallEvent) (hs : List PairHeader) (sets : BlockStates) (index : ℕ) (h : PairHeader) (fresh : ℕ × ℕ) (changes : List PairChange)
+module _ (geometry later : Geometry) (old mid : Blocks) (before then : List CallEvent) (hs : List PairHeader) (sets : BlockStates) (index : ℕ) (h : PairHeader) (fresh : ℕ × ℕ) (changes : List ContentChange)
     (same : later ≡ geometry) (a : IsAt hs index h) (kept : IsKeptOnDisk (disk_of_blocks geometry old) before hs sets) (can : CanThreadIn (kept_view (disk_of_blocks geometry old) before hs sets) index fresh changes)
     (others : KeepsOutsidePair fresh old mid) (stay : OutsideStaysUnprogrammed fresh before then) where
   abbrev was : KeptThread
@@ -192,20 +192,20 @@ module _ (geometry later : Geometry) (old mid : Blocks) (before then : List Call
       (kept_read (disk_of_blocks geometry mid) mid then after hs sets reads (still_kept (disk_of_blocks geometry old) before hs sets index h fresh changes a kept can mid then others stay)))
 
   pub is_beside : (disk : Disk) (after : List CallEvent) → disk ≡ disk_of_blocks later mid
-      → ((raw : RawContent) (d : PairContent) → changed_pair (disk_of_blocks later mid) (header_address h) changes ≡ Some raw → complete_content raw ≡ Some d → FitsInPair later.block_size later.page d → ⊥)
+      → ((raw : RawContent) (d : PairContent) → changed_pair_content (disk_of_blocks later mid) (header_address h) changes ≡ Some raw → complete_content raw ≡ Some d → FitsInPair later.block_size later.page d → ⊥)
       → RefusesThreading was index fresh changes (kept_view disk after hs sets)
   is_beside disk after e too_large = subst (λ d. RefusesThreading was index fresh changes (kept_view d after hs sets)) (sym e) (subst (λ k. RefusesThreading was index fresh changes (kept_view (disk_of_blocks k mid) after hs sets)) (sym same) (record {
     content = can.content;
     made = can.made;
     too_large = λ f.
         let m = made_of_header (disk_of_blocks geometry mid) then hs sets index h changes can.content a (still_made (disk_of_blocks geometry old) before hs sets index h fresh changes a kept can mid then others stay) in
-        subst (λ k. (raw : RawContent) (d : PairContent) → changed_pair (disk_of_blocks k mid) (header_address h) changes ≡ Some raw → complete_content raw ≡ Some d → FitsInPair k.block_size k.page d → ⊥) same too_large m.raw can.content m.is m.complete f;
+        subst (λ k. (raw : RawContent) (d : PairContent) → changed_pair_content (disk_of_blocks k mid) (header_address h) changes ≡ Some raw → complete_content raw ≡ Some d → FitsInPair k.block_size k.page d → ⊥) same too_large m.raw can.content m.is m.complete f;
     pairs = still_pairs (disk_of_blocks geometry old) before hs sets index h fresh changes a kept can mid then others stay;
     map = refl;
     others = others;
   }))
 
-  module _ (f : PairHeader) (tail : PairChange) (is : IsFreshPair before (tail ∷ []) (disk_of_blocks later mid) then fresh f) (tail_is : tail ≡ tail_change (option_map tail_view h.tail)) (few : length old ≤ 65536) where
+  module _ (f : PairHeader) (tail : ContentChange) (is : IsFreshPair before (tail ∷ []) (disk_of_blocks later mid) then fresh f) (tail_is : tail ≡ tail_change (option_map tail_view h.tail)) (few : length old ≤ 65536) where
     fresh_there : IsFreshHeader (disk_of_blocks geometry mid) then f fresh (disk_pair_at (disk_of_blocks geometry old) (header_address h)).content.tail
     fresh_there =
         let on = held_address (disk_of_blocks geometry old) before hs sets fresh kept can.held in

@@ -1,7 +1,7 @@
 -- The slots of a pair go into a fresh pair after it: the fresh one stands beside the thread, and then the pair's tail names it.
 use Rattle.std.proofs.Common.{ℕ, zero, suc, ◌≡◌, ◌⊎◌, inl, inr, get_or, ◌+◌, ◌-◌, ◌%◌, ◌^◌, ◌≤◌, ◌<◌, List, [], ◌∷◌, length, take, Option, Some, refl, sym, ap, ap₂, subst, ◌∙◌, arith, map, set, insert, remove}
 use Rattle.std.specs.Prelude.{replicate}
-use Rattle.lfs_thread.proofs.Common.{same_Some, option_and_then, option_map, disk_of_blocks, LeftByLoss, Blocks, RawContent, raw_content, content_at, complete_content, Disk, block_count, FitsInPair, PairContent, Tail, zero_gstate, Pair, BlockStates, PairChange, PutMove, changed_content_of, AreNamed, IsAllowedTail, LossLeavesAtWorst, CallEvent, HoldsAtLosses, complete_length, complete_take, completed_from, completed_parts, fits_raw, does_first, does_nothing, AllCallsSince-behind, HoldsAtLosses-weaker, HoldsAtLosses-worst, goes_on_by, nothing_logged, AreElsewhere, raw_content-stays, IsPairAddress, CanCommit, CommitsChanges, HasContentMade, HasOldContent, LossLeavesChanged, changed_pair, changed_if_any, KeepsOutsidePair, OutsideStaysUnprogrammed, CanCopyPair, IsPairCopied, header_address, AreApart, KeepsOutsideBoth, KeptThread, PairHeader, kept_view, disk_pair_at, header_pairs, IsHeader, IsKeptOnDisk, pair_revision, CleanLossLeaves, thread_pair, empty_anchor, complete_after, CanThreadIn, HasOldPair, map_using, pairs_split, CanUnload, IsUnloaded, LossLeavesUnloaded, UnloadedOnDisk}
+use Rattle.lfs_thread.proofs.Common.{same_Some, option_and_then, option_map, disk_of_blocks, LeftByLoss, Blocks, RawContent, raw_content, content_at, complete_content, Disk, block_count, FitsInPair, PairContent, Tail, zero_gstate, Pair, BlockStates, ContentChange, PutMove, content_with_changes, AreNamed, IsAllowedTail, LossLeavesAtWorst, CallEvent, HoldsAtLosses, complete_length, complete_take, completed_from, completed_parts, fits_raw, does_first, does_nothing, AllCallsSince-behind, HoldsAtLosses-weaker, HoldsAtLosses-worst, goes_on_by, nothing_logged, AreElsewhere, raw_content-stays, IsPairAddress, CanCommit, CommitsChanges, HasChangedContent, HasOldContent, LossLeavesChanged, changed_pair_content, content_after_changes, KeepsOutsidePair, OutsideStaysUnprogrammed, CanCopyPair, IsPairCopied, header_address, AreApart, KeepsOutsideBoth, KeptThread, PairHeader, kept_view, disk_pair_at, header_pairs, IsHeader, IsKeptOnDisk, pair_revision, CleanLossLeaves, thread_pair, empty_anchor, complete_after, CanThreadIn, HasOldPair, map_using, pairs_split, CanUnload, IsUnloaded, LossLeavesUnloaded, UnloadedOnDisk}
 use Rattle.std.proofs.lemmas.List.{take_all}
 use Rattle.std.proofs.lemmas.List.Edits.{length-remove}
 use Rattle.std.proofs.lemmas.List.Sums.{sum_by-take-le}
@@ -31,7 +31,7 @@ taken_count (suc k) [] = omega arith
 taken_count (suc k) (x ∷ xs) = let less = taken_count k xs in omega (arith, less)
 
 leave_made : (count : ℕ) (c : RawContent) (fresh : ℕ × ℕ) (keep : ℕ) → IsAllowedTail (hard_to fresh) → length c.slots ≡ count + keep → length c.slots ≤ 1000
-    → changed_content_of c (changes_of_unload fresh keep count) ≡ Some (record { slots = take keep c.slots; tail = hard_to fresh; move = c.move })
+    → content_with_changes c (changes_of_unload fresh keep count) ≡ Some (record { slots = take keep c.slots; tail = hard_to fresh; move = c.move })
 leave_made zero c fresh keep allowed is few = hard_made c fresh allowed ∙ ap (λ slots. Some (record { slots = slots; tail = hard_to fresh; move = c.move })) (sym (take_all keep c.slots (omega (arith, is))))
 leave_made (suc count) c fresh keep allowed is few =
     let less = length-remove c.slots keep (omega (arith, is)) in
@@ -48,7 +48,7 @@ left_complete raw c keep t h =
     ∙ ap (λ m. Some (record { slots = take keep c.slots; tail = t; move = m })) (sym parts.move)
 
 -- the content without its delta
-without_delta : (c : RawContent) → changed_content_of c (PutMove zero_gstate ∷ []) ≡ Some (record c { move = zero_gstate })
+without_delta : (c : RawContent) → content_with_changes c (PutMove zero_gstate ∷ []) ≡ Some (record c { move = zero_gstate })
 without_delta c = does_first (PutMove zero_gstate) [] c (record c { move = zero_gstate }) (record c { move = zero_gstate }) (puts_move c zero_gstate nothing_logged.move) (does_nothing (record c { move = zero_gstate }))
 
 complete_without_delta : (raw : RawContent) (c : PairContent) → complete_content raw ≡ Some c → complete_content (record raw { move = zero_gstate }) ≡ Some (record c { move = zero_gstate })
@@ -64,10 +64,10 @@ module _ (disk : Disk) (history : List CallEvent) (hs : List PairHeader) (sets :
   abbrev old : KeptThread
   old = kept_view disk history hs sets
 
-  abbrev changes : List PairChange
+  abbrev changes : List ContentChange
   changes = changes_of_unload fresh keep count
 
-  abbrev drops : List PairChange
+  abbrev drops : List ContentChange
   drops = PutMove zero_gstate ∷ []
 
   was_pair : thread_pair old index ≡ disk_pair_at disk (header_address h)
@@ -86,8 +86,8 @@ module _ (disk : Disk) (history : List CallEvent) (hs : List PairHeader) (sets :
   same_count = sym (complete_length is_header.held.slots is_header.content.slots (completed_parts is_header.held is_header.content is_header.complete).slots) ∙ ap (λ (c : PairContent). length c.slots) content_is
 
   pub made : complete_after old index changes ≡ Some (unloaded_pair old index fresh keep).content
-  made = ap (λ (p : Pair). option_and_then complete_content (changed_pair disk p.at changes)) was_pair
-      ∙ ap (λ r. option_and_then complete_content (changed_if_any r changes)) is_header.raw
+  made = ap (λ (p : Pair). option_and_then complete_content (changed_pair_content disk p.at changes)) was_pair
+      ∙ ap (λ r. option_and_then complete_content (content_after_changes r changes)) is_header.raw
       ∙ ap (λ r. option_and_then complete_content r) (leave_made count is_header.held fresh keep (named disk fresh on_disk few) (same_count ∙ counted) (let n = can.fits.count in omega (arith, same_count, n)))
       ∙ left_complete is_header.held is_header.content keep (hard_to fresh) is_header.complete
       ∙ ap (λ (c : PairContent). Some (record { slots = take keep c.slots; tail = hard_to fresh; move = c.move })) content_is
@@ -124,7 +124,7 @@ module _ (disk : Disk) (history : List CallEvent) (hs : List PairHeader) (sets :
     leave_can = then_can disk history hs sets index h fresh changes a kept can_leave mid then others stay
 
     -- fewer slots always fit
-    pub never_full : ((raw : RawContent) (d : PairContent) → changed_pair beside (header_address h) changes ≡ Some raw → complete_content raw ≡ Some d → FitsInPair disk.block_size disk.page d → ⊥) → ⊥
+    pub never_full : ((raw : RawContent) (d : PairContent) → changed_pair_content beside (header_address h) changes ≡ Some raw → complete_content raw ≡ Some d → FitsInPair disk.block_size disk.page d → ⊥) → ⊥
     never_full full =
         let m = made_beside disk history hs sets index h fresh changes a kept can_leave mid then others stay in
         let slots = (thread_pair old index).content.slots in
@@ -144,7 +144,7 @@ module _ (disk : Disk) (history : List CallEvent) (hs : List PairHeader) (sets :
 
     module _ (f : PairHeader) (copied : IsPairCopied disk history drops h beside then fresh f) where
       same_new : copied.new ≡ record is_header.held { move = zero_gstate }
-      same_new = same_Some copied.new (record is_header.held { move = zero_gstate }) (sym copied.made ∙ ap (λ r. changed_if_any r drops) is_header.raw ∙ without_delta is_header.held)
+      same_new = same_Some copied.new (record is_header.held { move = zero_gstate }) (sym copied.made ∙ ap (λ r. content_after_changes r drops) is_header.raw ∙ without_delta is_header.held)
 
       abbrev copy_is : IsCopyHeader beside then f fresh (pair_behind_unloaded old index fresh).content
       copy_is = record {
@@ -180,7 +180,7 @@ module _ (disk : Disk) (history : List CallEvent) (hs : List PairHeader) (sets :
               ∙ ap (λ r. option_and_then complete_content r) (raw_content-stays beside f_elsewhere l.others)
               ∙ header_content beside then f copy_is.header ∙ ap Some copy_is.content
 
-          sides : HasOldContent beside (header_address h) (record disk { blocks = left }) ⊎ HasContentMade beside (header_address h) changes (record disk { blocks = left })
+          sides : HasOldContent beside (header_address h) (record disk { blocks = left }) ⊎ HasChangedContent beside (header_address h) changes (record disk { blocks = left })
               → HasOldPair old index (record disk { blocks = left }) ⊎ UnloadedOnDisk old index fresh keep (record disk { blocks = left })
           sides (inl k) = inl (old_still disk history hs sets index h fresh changes a kept can_leave mid then others stay left k)
           sides (inr k) = inr (record {
@@ -234,7 +234,7 @@ module _ (geometry later : Geometry) (old mid : Blocks) (before then : List Call
   abbrev was : KeptThread
   was = kept_view (disk_of_blocks geometry old) before hs sets
 
-  abbrev leaves : List PairChange
+  abbrev leaves : List ContentChange
   leaves = changes_of_unload fresh keep count
 
   pub device_leave_can : CanCommit (disk_of_blocks later mid) then h leaves
@@ -243,9 +243,9 @@ module _ (geometry later : Geometry) (old mid : Blocks) (before then : List Call
   pub device_left_by_load : HoldsAtLosses LossLeavesAtWorst before then (KeepsOutsidePair fresh old) → HoldsAtLosses LeftByLoss before then (LossLeavesUnloaded was index fresh keep)
   device_left_by_load worst = HoldsAtLosses-weaker (λ left keeps. left_by_load (disk_of_blocks geometry old) before hs sets index h fresh keep count few a kept can counted mid then others stay left keeps) (HoldsAtLosses-worst worst)
 
-  pub device_never_full : ((raw : RawContent) (d : PairContent) → changed_pair (disk_of_blocks later mid) (header_address h) leaves ≡ Some raw → complete_content raw ≡ Some d → FitsInPair later.block_size later.page d → ⊥) → ⊥
+  pub device_never_full : ((raw : RawContent) (d : PairContent) → changed_pair_content (disk_of_blocks later mid) (header_address h) leaves ≡ Some raw → complete_content raw ≡ Some d → FitsInPair later.block_size later.page d → ⊥) → ⊥
   device_never_full full = never_full (disk_of_blocks geometry old) before hs sets index h fresh keep count few a kept can counted mid then others stay
-      (subst (λ (k : Geometry). (raw : RawContent) (d : PairContent) → changed_pair (disk_of_blocks k mid) (header_address h) leaves ≡ Some raw → complete_content raw ≡ Some d → FitsInPair k.block_size k.page d → ⊥) same full)
+      (subst (λ (k : Geometry). (raw : RawContent) (d : PairContent) → changed_pair_content (disk_of_blocks k mid) (header_address h) leaves ≡ Some raw → complete_content raw ≡ Some d → FitsInPair k.block_size k.page d → ⊥) same full)
 
   module _ (f : PairHeader) (copied : IsPairCopied (disk_of_blocks geometry old) before (PutMove zero_gstate ∷ []) h (disk_of_blocks later mid) then fresh f) where
     copied_there : IsPairCopied (disk_of_blocks geometry old) before (PutMove zero_gstate ∷ []) h (disk_of_blocks geometry mid) then fresh f

@@ -7,14 +7,14 @@ use Rattle.lfs_model.specs.format.Disk.{Disk}
 use Rattle.lfs_model.specs.session.History.{CallEvent, OnlyReadsSince, fault_count, read_count}
 use Rattle.lfs_model.specs.format.Thread.{IsThread, Pair, pairs_blocks}
 use Rattle.lfs_pair.specs.Pair.{header_address, fetch_reads}
-use Rattle.lfs_thread.specs.Begun.{IsOnFreeBlocks}
+use Rattle.lfs_thread.specs.Begun.{OnFreeBlocks}
 use Rattle.lfs_thread.specs.Kept.{PairHeader, IsHeader, ThreadView, disk_of_device}
 
 -- The header is that of the pair at an address. The pair can stand there, and its blocks are marked now.
-pub record IsReadAndMarked (disk : Disk) (history : List CallEvent) (at : ℕ × ℕ) (old new : BlockStates) (h : PairHeader) : Type 0 where
+pub record IsHeaderRead (disk : Disk) (history : List CallEvent) (at : ℕ × ℕ) (old new : BlockStates) (h : PairHeader) : Type 0 where
   pub header : IsHeader disk history h
   pub address : header_address h ≡ at
-  pub stands : IsOnFreeBlocks disk old at
+  pub stands : OnFreeBlocks disk old at
   pub marked : new ≡ slice_set (slice_set old at.0 Used) at.1 Used
 
 -- the reads of the headers of a thread's pairs

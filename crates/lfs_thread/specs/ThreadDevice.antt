@@ -5,7 +5,7 @@ use Rattle.lfs_device.specs.declared.error.Error.{Error}
 use Rattle.lfs_device.specs.declared.error.Error.TheVariants.{Io, NoMemory}
 use Rattle.lfs_device.specs.DeviceCalls.{ReadsOnly, ReportsFaults}
 use Rattle.lfs_device.specs.DeviceDisk.{disk_of_blocks}
-use Rattle.lfs_model.specs.format.Blocks.{Blocks, SameExceptThese}
+use Rattle.lfs_model.specs.format.Blocks.{Blocks, SameExceptBlocks}
 use Rattle.lfs_model.specs.session.History.{CallEvent, AllCallsSince, HoldsAtLosses, OnlyReadsSince, fault_count}
 use Rattle.lfs_model.specs.crash.Stops.{ErasesCleanly, LeftByLoss}
 
@@ -19,7 +19,7 @@ pub record ReportsWritingNothing {D X : Type 0} (g : Ghosts D) (old new : D) (re
 pub record ReportsKeepingOthers {D X : Type 0} (g : Ghosts D) (bs : List ℕ) (old new : D) (result : Result X Error) : Type 0 where
   pub errors : IfErr result (λ e. (e ≡ Io) ⊎ (e ≡ NoMemory))
   pub faults : ReportsFaults g old new result
-  pub beside : result ≡ Err NoMemory → SameExceptThese bs (g.blocks old) (g.blocks new)
+  pub beside : result ≡ Err NoMemory → SameExceptBlocks bs (g.blocks old) (g.blocks new)
 
 -- The device comes back with an error, and was only read. `Io` comes with a fault of the device, and any other error with none.
 pub record GivesDeviceBack {D : Type 0} (g : Ghosts D) (old back : D) (error : Error) : Type 0 where

@@ -4,17 +4,17 @@ use Rattle.lfs_device.specs.declared.error.Error.{Error}
 use Rattle.lfs_device.specs.declared.error.Error.TheVariants.{Io, NoMemory}
 use Rattle.std.specs.Option.{option_and_then, option_map}
 use Rattle.std.specs.List.{insert, remove}
-use Rattle.lfs_model.specs.format.Blocks.{Blocks, SameExceptThese}
+use Rattle.lfs_model.specs.format.Blocks.{Blocks, SameExceptBlocks}
 use Rattle.lfs_model.specs.format.Disk.{Disk, block_count}
 use Rattle.lfs_model.specs.session.History.{LossLeavesAtWorst, HoldsAtLosses, OnlyReadsSince, StayUnprogrammed, fault_count, read_count}
 use Rattle.lfs_model.specs.format.Slots.{PairContent, FitsInPair, Slot, Tail, zero_gstate}
 use Rattle.lfs_model.specs.format.Content.{RawContent, content_at, complete_content, current_block}
-use Rattle.lfs_model.specs.layers.Changes.{PairChange, PutTail}
+use Rattle.lfs_model.specs.layers.Changes.{ContentChange, PutTail}
 use Rattle.lfs_model.specs.format.Thread.{Pair, anchor_address, IsThread, tail_target, superblock_first}
-use Rattle.lfs_pair.specs.Commits.{changed_pair, KeepsOutsidePair}
+use Rattle.lfs_pair.specs.Commits.{changed_pair_content, KeepsOutsidePair}
 use Rattle.lfs_model.specs.tree.View.{BeginsWith, superblock_entry}
 use Rattle.lfs_model.specs.layers.BlockSets.{Free, Used, BlockStates, IsInFlight}
-use Rattle.lfs_pair.specs.HalfCut.{CanSplit}
+use Rattle.lfs_pair.specs.HalfCut.{AreSplittable}
 use Rattle.lfs_pair.specs.Split.{KeepsOutsideBoth}
 use Rattle.lfs_thread.specs.Kept.{KeptThread}
 
@@ -25,8 +25,8 @@ abbrev pub thread_pair : KeptThread → ℕ → Pair
 thread_pair t index = slice_index_or t.pairs index empty_anchor
 
 -- what changes make of the pair at an index, if each slot then has a name and a struct
-abbrev pub complete_after : KeptThread → ℕ → List PairChange → Option PairContent
-complete_after t index changes = option_and_then complete_content (changed_pair t.disk (thread_pair t index).at changes)
+abbrev pub complete_after : KeptThread → ℕ → List ContentChange → Option PairContent
+complete_after t index changes = option_and_then complete_content (changed_pair_content t.disk (thread_pair t index).at changes)
 
 -- ---- what every step reports
 
@@ -41,10 +41,10 @@ pub record SameGeometryAs (old new : Disk) : Type 0 where
 -- No block but these changes. Unprogrammed bytes of other blocks stay so, and a loss of power during the step leaves the other
 -- blocks as they were.
 pub record ChangesThreadBlocks (bs : List ℕ) (old new : KeptThread) : Type 0 where
-  pub others : SameExceptThese bs old.disk.blocks new.disk.blocks
+  pub others : SameExceptBlocks bs old.disk.blocks new.disk.blocks
   pub elsewhere : StayUnprogrammed bs old.history new.history
   pub shape : SameGeometryAs old.disk new.disk
-  pub at_worst : HoldsAtLosses LossLeavesAtWorst old.history new.history (SameExceptThese bs old.disk.blocks)
+  pub at_worst : HoldsAtLosses LossLeavesAtWorst old.history new.history (SameExceptBlocks bs old.disk.blocks)
 
 -- No block but these changes, and the device is read at most so often.
 pub record ChangesWithinReads (most : ℕ) (bs : List ℕ) (old new : KeptThread) : Type 0 where
@@ -68,7 +68,7 @@ pub record ThreadReportsKeepingOthers {X : Type 0} (bs : List ℕ) (old new : Ke
   pub errors : IfErr result (λ e. (e ≡ Io) ⊎ (e ≡ NoMemory))
   pub fault : IsErrOf result Io → fault_count old.history < fault_count new.history
   pub no_fault : ¬ IsErrOf result Io → fault_count new.history ≡ fault_count old.history
-  pub beside : result ≡ Err NoMemory → SameExceptThese bs old.disk.blocks new.disk.blocks
+  pub beside : result ≡ Err NoMemory → SameExceptBlocks bs old.disk.blocks new.disk.blocks
 
 -- the device was only read, and the thread is as it was
 pub record OnlyReadsThread (old new : KeptThread) : Type 0 where
@@ -80,14 +80,14 @@ pub record OnlyReadsThread (old new : KeptThread) : Type 0 where
 -- ---- a pair is changed
 
 -- There is a pair at the index. What the changes make of it has a tail that names the same pair as before.
-pub record CanChangePair (t : KeptThread) (index : ℕ) (changes : List PairChange) : Type 0 where
+pub record CanChangePair (t : KeptThread) (index : ℕ) (changes : List ContentChange) : Type 0 where
   pub below : index < length t.pairs
   pub content : PairContent
   pub made : complete_after t index changes ≡ Some content
   pub next : tail_target content.tail ≡ tail_target (thread_pair t index).content.tail
 
-abbrev pub pairs_with : KeptThread → ℕ → PairContent → List Pair
-pairs_with t index c = slice_set t.pairs index (record { at = (thread_pair t index).at; content = c })
+abbrev pub pairs_with_content : KeptThread → ℕ → PairContent → List Pair
+pairs_with_content t index c = slice_set t.pairs index (record { at = (thread_pair t index).at; content = c })
 
 -- slot 0 is the superblock
 abbrev pub BeginWithSuperblock : List Slot → Type 0
@@ -109,24 +109,24 @@ pub record IsPairWritten (old : KeptThread) (index : ℕ) (content : PairContent
   pub first : KeepsSuperblockFirst old.disk (thread_pair old index).at content disk
 
 -- A commit that is done: the pair has what the changes make, and everything else is as it was.
-pub record IsPairCommitted (old : KeptThread) (index : ℕ) (changes : List PairChange) (new : KeptThread) : Type 0 where
+pub record IsPairCommitted (old : KeptThread) (index : ℕ) (changes : List ContentChange) (new : KeptThread) : Type 0 where
   pub content : PairContent
   pub made : complete_after old index changes ≡ Some content
   pub written : IsPairWritten old index content new.disk
   pub fits : FitsInPair old.disk.block_size old.disk.page content
-  pub pairs : new.pairs ≡ pairs_with old index content
+  pub pairs : new.pairs ≡ pairs_with_content old index content
   pub thread : IsThread (content_at new.disk) (block_count new.disk) new.pairs
   pub map : new.map ≡ old.map
 
 -- A commit that is refused: what the changes make doesn't fit, and nothing was written.
-pub record RefusesChanges (old : KeptThread) (index : ℕ) (changes : List PairChange) (new : KeptThread) : Type 0 where
+pub record RefusesChanges (old : KeptThread) (index : ℕ) (changes : List ContentChange) (new : KeptThread) : Type 0 where
   pub content : PairContent
   pub made : complete_after old index changes ≡ Some content
   pub too_large : ¬ FitsInPair old.disk.block_size old.disk.page content
   pub only : OnlyReadsThread old new
 
 -- What a stop leaves of a commit: the pair with its old content or with what the changes make.
-pub record LossLeavesPair (old : KeptThread) (index : ℕ) (changes : List PairChange) (left : Blocks) : Type 0 where
+pub record LossLeavesPair (old : KeptThread) (index : ℕ) (changes : List ContentChange) (left : Blocks) : Type 0 where
   pub content : PairContent
   pub is : (content ≡ (thread_pair old index).content) ⊎ ((complete_after old index changes ≡ Some content) × FitsInPair old.disk.block_size old.disk.page content)
   pub written : IsPairWritten old index content (record old.disk { blocks = left })
@@ -155,12 +155,12 @@ pub record HasOldPair (old : KeptThread) (index : ℕ) (disk : Disk) : Type 0 wh
 -- ---- a pair is split
 
 -- There is a pair at the index. What the changes make of it can be cut in two, and has a tail that names the same pair as before.
-pub record CanSplitAt (t : KeptThread) (index : ℕ) (fresh : ℕ × ℕ) (changes : List PairChange) : Type 0 where
+pub record CanSplitAt (t : KeptThread) (index : ℕ) (fresh : ℕ × ℕ) (changes : List ContentChange) : Type 0 where
   pub can : CanChangePair t index changes
   pub held : FreshInFlight t.map fresh
   pub raw : RawContent
-  pub made : changed_pair t.disk (thread_pair t index).at changes ≡ Some raw
-  pub cut : CanSplit t.disk.block_size t.disk.page raw.slots
+  pub made : changed_pair_content t.disk (thread_pair t index).at changes ≡ Some raw
+  pub cut : AreSplittable t.disk.block_size t.disk.page raw.slots
 
 -- The two parts of a content: the slots before the cut with a hard tail to the fresh pair, and the slots after it with the old
 -- tail.
@@ -178,7 +178,7 @@ pub record PartsFit (old : KeptThread) (index : ℕ) (content : PairContent) (cu
   pub first : KeepsSuperblockFirst old.disk (thread_pair old index).at (front_pair old index content cut fresh).content disk
 
 -- A split that is done: both pairs have their parts, and everything else is as it was.
-pub record HasSplit (old : KeptThread) (index : ℕ) (fresh : ℕ × ℕ) (changes : List PairChange) (new : KeptThread) : Type 0 where
+pub record HasSplit (old : KeptThread) (index : ℕ) (fresh : ℕ × ℕ) (changes : List ContentChange) (new : KeptThread) : Type 0 where
   pub content : PairContent
   pub made : complete_after old index changes ≡ Some content
   pub cut : ℕ
@@ -188,7 +188,7 @@ pub record HasSplit (old : KeptThread) (index : ℕ) (fresh : ℕ × ℕ) (chang
   pub map : new.map ≡ map_using old.map fresh
 
 -- each pair on the disk has its part
-pub record BothOnDisk (old : KeptThread) (index : ℕ) (changes : List PairChange) (fresh : ℕ × ℕ) (disk : Disk) : Type 0 where
+pub record SplitOnDisk (old : KeptThread) (index : ℕ) (changes : List ContentChange) (fresh : ℕ × ℕ) (disk : Disk) : Type 0 where
   pub content : PairContent
   pub made : complete_after old index changes ≡ Some content
   pub cut : ℕ
@@ -197,15 +197,15 @@ pub record BothOnDisk (old : KeptThread) (index : ℕ) (changes : List PairChang
   pub parts : PartsFit old index content cut fresh disk
 
 -- What a stop leaves of a split: the old pair with its old content, or both pairs with their parts.
-pub record LossLeavesBoth (old : KeptThread) (index : ℕ) (fresh : ℕ × ℕ) (changes : List PairChange) (left : Blocks) : Type 0 where
+pub record LossLeavesThreadSplit (old : KeptThread) (index : ℕ) (fresh : ℕ × ℕ) (changes : List ContentChange) (left : Blocks) : Type 0 where
   pub others : KeepsOutsideBoth (thread_pair old index).at fresh old.disk.blocks left
   pub content : HasOldPair old index (record old.disk { blocks = left })
-      ⊎ BothOnDisk old index changes fresh (record old.disk { blocks = left })
+      ⊎ SplitOnDisk old index changes fresh (record old.disk { blocks = left })
 
 -- ---- a fresh pair is put into the thread
 
 -- There is a pair at the index. What the changes make of it has a tail that names the two blocks, which are in flight.
-pub record CanThreadIn (t : KeptThread) (index : ℕ) (fresh : ℕ × ℕ) (changes : List PairChange) : Type 0 where
+pub record CanThreadIn (t : KeptThread) (index : ℕ) (fresh : ℕ × ℕ) (changes : List ContentChange) : Type 0 where
   pub below : index < length t.pairs
   pub content : PairContent
   pub made : complete_after t index changes ≡ Some content
@@ -213,7 +213,7 @@ pub record CanThreadIn (t : KeptThread) (index : ℕ) (fresh : ℕ × ℕ) (chan
   pub held : FreshInFlight t.map fresh
 
 -- the change that sets this tail
-abbrev pub tail_change : Option Tail → PairChange
+abbrev pub tail_change : Option Tail → ContentChange
 tail_change None = PutTail false None
 tail_change (Some t) = PutTail t.hard (Some t.to)
 
@@ -222,7 +222,7 @@ abbrev pub fresh_with_tail : KeptThread → ℕ → ℕ × ℕ → Pair
 fresh_with_tail t index fresh = record { at = fresh; content = record { slots = []; tail = (thread_pair t index).content.tail; move = zero_gstate } }
 
 -- A fresh pair that is threaded in: the pair has what the changes make, and the fresh pair comes after it.
-pub record IsThreadedIn (old : KeptThread) (index : ℕ) (fresh : ℕ × ℕ) (changes : List PairChange) (new : KeptThread) : Type 0 where
+pub record IsThreadedIn (old : KeptThread) (index : ℕ) (fresh : ℕ × ℕ) (changes : List ContentChange) (new : KeptThread) : Type 0 where
   pub content : PairContent
   pub made : complete_after old index changes ≡ Some content
   pub fits : FitsInPair old.disk.block_size old.disk.page content
@@ -232,7 +232,7 @@ pub record IsThreadedIn (old : KeptThread) (index : ℕ) (fresh : ℕ × ℕ) (c
   pub map : new.map ≡ map_using old.map fresh
 
 -- What the changes make doesn't fit. The thread is as it was, and no block was written but the two of the fresh pair.
-pub record RefusesThreading (old : KeptThread) (index : ℕ) (fresh : ℕ × ℕ) (changes : List PairChange) (new : KeptThread) : Type 0 where
+pub record RefusesThreading (old : KeptThread) (index : ℕ) (fresh : ℕ × ℕ) (changes : List ContentChange) (new : KeptThread) : Type 0 where
   pub content : PairContent
   pub made : complete_after old index changes ≡ Some content
   pub too_large : ¬ FitsInPair old.disk.block_size old.disk.page content
@@ -241,7 +241,7 @@ pub record RefusesThreading (old : KeptThread) (index : ℕ) (fresh : ℕ × ℕ
   pub others : KeepsOutsidePair fresh old.disk.blocks new.disk.blocks
 
 -- the pair on the disk has what the changes make, and the fresh pair comes after it
-pub record ThreadedOnDisk (old : KeptThread) (index : ℕ) (fresh : ℕ × ℕ) (changes : List PairChange) (disk : Disk) : Type 0 where
+pub record ThreadedInOnDisk (old : KeptThread) (index : ℕ) (fresh : ℕ × ℕ) (changes : List ContentChange) (disk : Disk) : Type 0 where
   pub content : PairContent
   pub made : complete_after old index changes ≡ Some content
   pub fits : FitsInPair old.disk.block_size old.disk.page content
@@ -251,16 +251,16 @@ pub record ThreadedOnDisk (old : KeptThread) (index : ℕ) (fresh : ℕ × ℕ) 
 
 -- What a stop leaves of a pair that is threaded in: the old pair with its old content, or with what the changes make and the
 -- fresh pair after it.
-pub record LossLeavesThreaded (old : KeptThread) (index : ℕ) (fresh : ℕ × ℕ) (changes : List PairChange) (left : Blocks) : Type 0 where
+pub record LossLeavesThreaded (old : KeptThread) (index : ℕ) (fresh : ℕ × ℕ) (changes : List ContentChange) (left : Blocks) : Type 0 where
   pub others : KeepsOutsideBoth (thread_pair old index).at fresh old.disk.blocks left
   pub content : HasOldPair old index (record old.disk { blocks = left })
-      ⊎ ThreadedOnDisk old index fresh changes (record old.disk { blocks = left })
+      ⊎ ThreadedInOnDisk old index fresh changes (record old.disk { blocks = left })
 
 -- ---- the pair after another is dropped
 
 -- There is a pair at the index and one after it. What the changes make of the first has a tail that names what the second one's
 -- tail names.
-pub record CanDropNext (t : KeptThread) (index : ℕ) (changes : List PairChange) : Type 0 where
+pub record CanDropNext (t : KeptThread) (index : ℕ) (changes : List ContentChange) : Type 0 where
   pub below : index + 1 < length t.pairs
   pub content : PairContent
   pub made : complete_after t index changes ≡ Some content
@@ -271,11 +271,11 @@ abbrev pub map_freeing : BlockStates → ℕ × ℕ → BlockStates
 map_freeing sets at = slice_set (slice_set sets at.0 Free) at.1 Free
 
 -- A drop that is done: the pair has what the changes make, the pair after it is gone, and everything else is as it was.
-pub record IsNextDropped (old : KeptThread) (index : ℕ) (changes : List PairChange) (new : KeptThread) : Type 0 where
+pub record IsNextDropped (old : KeptThread) (index : ℕ) (changes : List ContentChange) (new : KeptThread) : Type 0 where
   pub content : PairContent
   pub made : complete_after old index changes ≡ Some content
   pub written : IsPairWritten old index content new.disk
   pub fits : FitsInPair old.disk.block_size old.disk.page content
-  pub pairs : new.pairs ≡ remove (pairs_with old index content) (index + 1)
+  pub pairs : new.pairs ≡ remove (pairs_with_content old index content) (index + 1)
   pub thread : IsThread (content_at new.disk) (block_count new.disk) new.pairs
   pub map : new.map ≡ map_freeing old.map (thread_pair old (index + 1)).at

@@ -5,7 +5,7 @@ use Rattle.lfs_model.specs.format.Content.{content_at}
 use Rattle.lfs_model.specs.format.Disk.{Disk, block_count}
 use Rattle.lfs_model.specs.format.Slots.{FitsInPair, zero_gstate}
 use Rattle.lfs_model.specs.format.Thread.{IsThread, Pair}
-use Rattle.lfs_model.specs.layers.Changes.{PairChange, Delete, PutTail}
+use Rattle.lfs_model.specs.layers.Changes.{ContentChange, Delete, PutTail}
 use Rattle.lfs_pair.specs.Split.{KeepsOutsideBoth}
 use Rattle.lfs_thread.specs.Kept.{KeptThread}
 use Rattle.lfs_thread.specs.Moves.{pair_revision}
@@ -19,7 +19,7 @@ pub record CanUnload (t : KeptThread) (index : ℕ) (fresh : ℕ × ℕ) (keep :
   pub held : FreshInFlight t.map fresh
 
 -- The changes that leave the first slots of a pair, and a hard tail to the two blocks: so many slots after them are deleted.
-abbrev pub changes_of_unload : ℕ × ℕ → ℕ → ℕ → List PairChange
+abbrev pub changes_of_unload : ℕ × ℕ → ℕ → ℕ → List ContentChange
 changes_of_unload fresh keep count = replicate count (Delete keep) ++ PutTail true (Some fresh) ∷ []
 
 -- the pair at an index with its first slots, its delta of the global state, and a hard tail to the two blocks

@@ -2,16 +2,16 @@
 
 ghost use Rattle.std.specs.Prelude.{◌≡◌, ◌+◌, [], length, sum_by, IfErr, IfOk, List, OnOk};
 ghost use Rattle.std.specs.Option.{option_map};
-ghost use Rattle.lfs_model.specs.format.Slots.{array_address};
+ghost use Rattle.lfs_model.specs.format.Slots.{address_view};
 ghost use Rattle.lfs_tag.specs.ContentView.{tail_view};
 ghost use Rattle.lfs_model.specs.layers.BlockSets.{AreInFlight, AreUsed};
 ghost use Rattle.lfs_model.specs.session.History.{read_count};
 ghost use Rattle.lfs_model.specs.format.Thread.{Pair as ThreadPair, pairs_blocks, tail_target};
 ghost use Rattle.lfs_pair.specs.Pair.{header_address, fetch_reads};
-ghost use Rattle.lfs_thread.specs.Begun.{AreBeforeAddress};
+ghost use Rattle.lfs_thread.specs.Begun.{ThreadBeginsWith};
 ghost use Rattle.lfs_thread.specs.Kept.{IsKept, disk_of_device, header_pairs};
 ghost use Rattle.lfs_thread.specs.MountErrors.{IsThreadViolation, ReadsReportingFaults};
-ghost use Rattle.lfs_thread.specs.HeaderReading.{IsReadAndMarked};
+ghost use Rattle.lfs_thread.specs.HeaderReading.{IsHeaderRead};
 ghost use Rattle.lfs_thread.specs.CachedCalls.{IsThreadUnread};
 
 use crate::mount_error::MountError;
@@ -43,7 +43,7 @@ pub(crate) fn read_thread_headers<D: BlockDevice>(
         match next {
             None => return Ok(()),
             Some(at) => {
-                let pair = read_and_mark(alloc, device, map, at)?;
+                let pair = read_pair_header(alloc, device, map, at)?;
                 next = tail_address(&pair);
                 pairs.push(pair)?;
             }
@@ -54,7 +54,7 @@ pub(crate) fn read_thread_headers<D: BlockDevice>(
 
 // Returns the address that a pair's tail names.
 fn tail_address(pair: &Pair) -> Option<[u32; 2]>
-    ensures { option_map array_address result ≡ tail_target (option_map tail_view pair.now.tail) }
+    ensures { option_map address_view result ≡ tail_target (option_map tail_view pair.now.tail) }
 {
     match pair.tail {
         None => None,
@@ -64,18 +64,18 @@ fn tail_address(pair: &Pair) -> Option<[u32; 2]>
 
 // Reads the header of the pair at an address, and marks its blocks as used. `Corrupt` where a block
 // is out of range, comes twice or is marked already, or where the pair holds no content.
-fn read_and_mark<D: BlockDevice>(
+fn read_pair_header<D: BlockDevice>(
     alloc: Global,
     device: &mut D,
     map: &mut BlockMap,
     at: [u32; 2],
 ) -> Result<Pair, MountError>
     requires { length map.old ≡ (D.geometry device.old).block_count }
-    ensures read { IfOk result (IsReadAndMarked (disk_of_device D.BlockDevice device.old) (D.history device.new) (array_address at) map.old map.new) }
-    ensures broken { (before : List ThreadPair) → AreBeforeAddress (disk_of_device D.BlockDevice device.old) map.old before (array_address at)
+    ensures read { IfOk result (IsHeaderRead (disk_of_device D.BlockDevice device.old) (D.history device.new) (address_view at) map.old map.new) }
+    ensures broken { (before : List ThreadPair) → ThreadBeginsWith (disk_of_device D.BlockDevice device.old) map.old before (address_view at)
         → IfErr result (λ e. IsThreadViolation (disk_of_device D.BlockDevice device.old) e) }
     ensures reported { ReadsReportingFaults D.BlockDevice device.old device.new result }
-    ensures few { OnOk result (read_count (D.history device.new) ≡ read_count (D.history device.old) + fetch_reads (disk_of_device D.BlockDevice device.old) (array_address at)) }
+    ensures few { OnOk result (read_count (D.history device.new) ≡ read_count (D.history device.old) + fetch_reads (disk_of_device D.BlockDevice device.old) (address_view at)) }
 {
     let [first, second] = at;
     let block_count = device.geometry().block_count;

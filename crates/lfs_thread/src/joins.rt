@@ -2,7 +2,7 @@
 
 ghost use Rattle.std.specs.Prelude.{◌≡◌, ◌+◌, OnOk};
 ghost use Rattle.std.specs.Option.{option_map};
-ghost use Rattle.lfs_model.specs.format.Slots.{array_address};
+ghost use Rattle.lfs_model.specs.format.Slots.{address_view};
 ghost use Rattle.lfs_tag.specs.ContentView.{tail_view};
 ghost use Rattle.lfs_pair.specs.Writing.{ChangesReadingFew};
 ghost use Rattle.lfs_pair.specs.ChangeView.{change_view, changes_view};
@@ -23,7 +23,7 @@ use std::alloc::Global;
 // index. Then the changes are committed to the pair at the index, whose tail then names the fresh
 // pair. Where the changes don't fit, no tail names the fresh pair, and its blocks stay in flight.
 // After an error nothing is known of the headers and the map.
-pub(crate) fn thread_in_pair<D: BlockDevice>(
+pub(crate) fn thread_fresh_pair<D: BlockDevice>(
     alloc: Global,
     device: &mut D,
     cache: &mut Cache,
@@ -35,17 +35,17 @@ pub(crate) fn thread_in_pair<D: BlockDevice>(
 ) -> Result<Outcome, Error>
     requires kept { IsKept D.BlockDevice device.old pairs.old.items map.old }
     requires current { IsCacheCurrent (D.blocks device.old) cache.old }
-    requires can { CanThreadIn (kept_of_device D.BlockDevice device.old pairs.old.items map.old) index (array_address fresh) (changes_view changes.now) }
+    requires can { CanThreadIn (kept_of_device D.BlockDevice device.old pairs.old.items map.old) index (address_view fresh) (changes_view changes.now) }
     ensures kept { OnOk result (IsKept D.BlockDevice device.new pairs.new.items map.new) }
     ensures current { IsCacheCurrent (D.blocks device.new) cache.new }
-    ensures is_joined { result ≡ Ok Outcome.Done → IsThreadedIn (kept_of_device D.BlockDevice device.old pairs.old.items map.old) index (array_address fresh) (changes_view changes.now)
+    ensures is_joined { result ≡ Ok Outcome.Done → IsThreadedIn (kept_of_device D.BlockDevice device.old pairs.old.items map.old) index (address_view fresh) (changes_view changes.now)
         (kept_of_device D.BlockDevice device.new pairs.new.items map.new) }
-    ensures full { result ≡ Ok Outcome.Full → RefusesThreading (kept_of_device D.BlockDevice device.old pairs.old.items map.old) index (array_address fresh) (changes_view changes.now)
+    ensures full { result ≡ Ok Outcome.Full → RefusesThreading (kept_of_device D.BlockDevice device.old pairs.old.items map.old) index (address_view fresh) (changes_view changes.now)
         (kept_of_device D.BlockDevice device.new pairs.new.items map.new) }
-    ensures device { ChangesReadingFew D.BlockDevice (3 + reads_unless_cached (cached_block_log (kept_of_device D.BlockDevice device.old pairs.old.items map.old) cache.old index)) (addresses_blocks (thread_pair (kept_of_device D.BlockDevice device.old pairs.old.items map.old) index).at (array_address fresh)) device.old device.new }
-    ensures errors { ReportsKeepingOthers D.BlockDevice (address_blocks (array_address fresh)) device.old device.new result }
+    ensures device { ChangesReadingFew D.BlockDevice (3 + reads_unless_cached (cached_block_log (kept_of_device D.BlockDevice device.old pairs.old.items map.old) cache.old index)) (addresses_blocks (thread_pair (kept_of_device D.BlockDevice device.old pairs.old.items map.old) index).at (address_view fresh)) device.old device.new }
+    ensures errors { ReportsKeepingOthers D.BlockDevice (address_blocks (address_view fresh)) device.old device.new result }
     ensures stops { CleanLossLeaves (D.history device.old) (D.history device.new)
-        (LossLeavesThreaded (kept_of_device D.BlockDevice device.old pairs.old.items map.old) index (array_address fresh) (changes_view changes.now)) }
+        (LossLeavesThreaded (kept_of_device D.BlockDevice device.old pairs.old.items map.old) index (address_view fresh) (changes_view changes.now)) }
 {
     let mut pair = pairs[index];
     // This takes the memory for the fresh pair's header, before anything is written.

@@ -1,7 +1,7 @@
 // Pairs that move to other blocks.
 
 ghost use Rattle.std.specs.Prelude.{◌≡◌, ◌+◌, OnOk};
-ghost use Rattle.lfs_model.specs.format.Slots.{array_address};
+ghost use Rattle.lfs_model.specs.format.Slots.{address_view};
 ghost use Rattle.lfs_model.specs.format.Thread.{address_blocks, addresses_blocks};
 ghost use Rattle.lfs_pair.specs.Writing.{ChangesReadingFew};
 ghost use Rattle.lfs_thread.specs.CachedLog.{cached_block_log, reads_unless_cached};
@@ -30,15 +30,15 @@ pub(crate) fn move_next_pair<D: BlockDevice>(
 ) -> Result<(), Error>
     requires kept { IsKept D.BlockDevice device.old pairs.old.items map.old }
     requires current { IsCacheCurrent (D.blocks device.old) cache.old }
-    requires can { CanMoveNext (kept_of_device D.BlockDevice device.old pairs.old.items map.old) index (array_address fresh) }
+    requires can { CanMoveNext (kept_of_device D.BlockDevice device.old pairs.old.items map.old) index (address_view fresh) }
     ensures kept { OnOk result (IsKept D.BlockDevice device.new pairs.new.items map.new) }
     ensures current { IsCacheCurrent (D.blocks device.new) cache.new }
-    ensures is_moved { OnOk result (IsNextMoved (kept_of_device D.BlockDevice device.old pairs.old.items map.old) index (array_address fresh)
+    ensures is_moved { OnOk result (IsNextMoved (kept_of_device D.BlockDevice device.old pairs.old.items map.old) index (address_view fresh)
         (kept_of_device D.BlockDevice device.new pairs.new.items map.new)) }
-    ensures device { ChangesReadingFew D.BlockDevice (4 + reads_unless_cached (cached_block_log (kept_of_device D.BlockDevice device.old pairs.old.items map.old) cache.old index)) (addresses_blocks (thread_pair (kept_of_device D.BlockDevice device.old pairs.old.items map.old) index).at (array_address fresh)) device.old device.new }
-    ensures errors { ReportsKeepingOthers D.BlockDevice (address_blocks (array_address fresh)) device.old device.new result }
+    ensures device { ChangesReadingFew D.BlockDevice (4 + reads_unless_cached (cached_block_log (kept_of_device D.BlockDevice device.old pairs.old.items map.old) cache.old index)) (addresses_blocks (thread_pair (kept_of_device D.BlockDevice device.old pairs.old.items map.old) index).at (address_view fresh)) device.old device.new }
+    ensures errors { ReportsKeepingOthers D.BlockDevice (address_blocks (address_view fresh)) device.old device.new result }
     ensures stops { CleanLossLeaves (D.history device.old) (D.history device.new)
-        (LossLeavesNextMoved (kept_of_device D.BlockDevice device.old pairs.old.items map.old) index (array_address fresh)) }
+        (LossLeavesNextMoved (kept_of_device D.BlockDevice device.old pairs.old.items map.old) index (address_view fresh)) }
 {
     let mut pair = pairs[index];
     let next = pairs[index + 1];

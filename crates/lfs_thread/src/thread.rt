@@ -8,7 +8,7 @@ ghost use Rattle.lfs_file.specs.Known.{AreKnownBlocks, ReadsKnownList};
 ghost use Rattle.lfs_model.specs.tree.Shown.{struct_blocks};
 ghost use Rattle.lfs_model.specs.format.SkipLists.{IsSkipList, list_bytes};
 ghost use Rattle.lfs_model.specs.session.History.{read_count};
-ghost use Rattle.lfs_model.specs.format.Slots.{Ctz, array_address};
+ghost use Rattle.lfs_model.specs.format.Slots.{Ctz, address_view};
 ghost use Rattle.lfs_model.specs.format.Thread.{pairs_gstate, is_hard_tail, address_blocks, addresses_blocks};
 ghost use Rattle.lfs_tag.specs.ContentView.{tail_view};
 ghost use Rattle.lfs_tag.specs.FieldsView.{move_view};
@@ -22,13 +22,13 @@ ghost use Rattle.lfs_thread.specs.Moves.{CanMoveNext, IsNextMoved, LossLeavesNex
 ghost use Rattle.lfs_thread.specs.MountErrors.{IsThreadViolation, error_of_mount};
 ghost use Rattle.lfs_thread.specs.HeaderReading.{IsReadThread};
 ghost use Rattle.lfs_thread.specs.Unloads.{CanUnload, IsUnloaded, LossLeavesUnloaded};
-ghost use Rattle.lfs_thread.specs.ThreadSteps.{CanSplitAt, CanChangePair, CanDropNext, CanThreadIn, ThreadReportsErrors, ThreadReportsKeepingOthers, RefusesThreading, IsThreadedIn, LossLeavesThreaded, IsPairCommitted, IsNextDropped, LossLeavesPair, LossLeavesBoth, OnlyReadsThread, RefusesChanges, HasSplit, ChangesWithinReads, thread_pair};
+ghost use Rattle.lfs_thread.specs.ThreadSteps.{CanSplitAt, CanChangePair, CanDropNext, CanThreadIn, ThreadReportsErrors, ThreadReportsKeepingOthers, RefusesThreading, IsThreadedIn, LossLeavesThreaded, IsPairCommitted, IsNextDropped, LossLeavesPair, LossLeavesThreadSplit, OnlyReadsThread, RefusesChanges, HasSplit, ChangesWithinReads, thread_pair};
 
 use crate::commits::commit_with_cache;
 use crate::deltas::headers_gstate;
 use crate::drops::drop_next_pair;
 use crate::headers::read_thread_headers;
-use crate::joins::thread_in_pair;
+use crate::joins::thread_fresh_pair;
 use crate::list_reads::read_part_cached;
 use crate::mount_error::MountError;
 use crate::moves::move_next_pair;
@@ -204,7 +204,7 @@ impl<D: BlockDevice> Thread<D> {
     /// the pair's number in the thread, from 0 on.
     pub fn blocks_of_pair(&self, index: usize) -> [u32; 2]
         requires { index < length self.now.kept.pairs }
-        ensures { array_address result ≡ (thread_pair self.now.kept index).at }
+        ensures { address_view result ≡ (thread_pair self.now.kept index).at }
     {
         self.pairs[index].blocks
     }
@@ -440,12 +440,12 @@ impl<D: BlockDevice> Thread<D> {
         changes: &[Change<'_>],
     ) -> Result<(), Error>
         requires works { self.old.failed ≡ false }
-        requires can { CanSplitAt self.old.kept index (array_address fresh) (changes_view changes.now) }
-        ensures done { OnOk result (HasSplit self.old.kept index (array_address fresh) (changes_view changes.now) self.new.kept) }
+        requires can { CanSplitAt self.old.kept index (address_view fresh) (changes_view changes.now) }
+        ensures done { OnOk result (HasSplit self.old.kept index (address_view fresh) (changes_view changes.now) self.new.kept) }
         ensures failed { self.new.failed ≡ is_err result }
         ensures errors { ThreadReportsErrors self.old.kept self.new.kept result }
-        ensures device { ChangesWithinReads (3 + reads_unless_cached (cached_log self.old index)) (addresses_blocks (thread_pair self.old.kept index).at (array_address fresh)) self.old.kept self.new.kept }
-        ensures stops { CleanLossLeaves self.old.kept.history self.new.kept.history (LossLeavesBoth self.old.kept index (array_address fresh) (changes_view changes.now)) }
+        ensures device { ChangesWithinReads (3 + reads_unless_cached (cached_log self.old index)) (addresses_blocks (thread_pair self.old.kept index).at (address_view fresh)) self.old.kept self.new.kept }
+        ensures stops { CleanLossLeaves self.old.kept.history self.new.kept.history (LossLeavesThreadSplit self.old.kept index (address_view fresh) (changes_view changes.now)) }
     {
         let result = split_pair(
             alloc,
@@ -478,15 +478,15 @@ impl<D: BlockDevice> Thread<D> {
         changes: &[Change<'_>],
     ) -> Result<Outcome, Error>
         requires works { self.old.failed ≡ false }
-        requires can { CanThreadIn self.old.kept index (array_address fresh) (changes_view changes.now) }
-        ensures done { result ≡ Ok Outcome.Done → IsThreadedIn self.old.kept index (array_address fresh) (changes_view changes.now) self.new.kept }
-        ensures full { result ≡ Ok Outcome.Full → RefusesThreading self.old.kept index (array_address fresh) (changes_view changes.now) self.new.kept }
+        requires can { CanThreadIn self.old.kept index (address_view fresh) (changes_view changes.now) }
+        ensures done { result ≡ Ok Outcome.Done → IsThreadedIn self.old.kept index (address_view fresh) (changes_view changes.now) self.new.kept }
+        ensures full { result ≡ Ok Outcome.Full → RefusesThreading self.old.kept index (address_view fresh) (changes_view changes.now) self.new.kept }
         ensures failed { self.new.failed ≡ is_err result }
-        ensures errors { ThreadReportsKeepingOthers (address_blocks (array_address fresh)) self.old.kept self.new.kept result }
-        ensures device { ChangesWithinReads (3 + reads_unless_cached (cached_log self.old index)) (addresses_blocks (thread_pair self.old.kept index).at (array_address fresh)) self.old.kept self.new.kept }
-        ensures stops { CleanLossLeaves self.old.kept.history self.new.kept.history (LossLeavesThreaded self.old.kept index (array_address fresh) (changes_view changes.now)) }
+        ensures errors { ThreadReportsKeepingOthers (address_blocks (address_view fresh)) self.old.kept self.new.kept result }
+        ensures device { ChangesWithinReads (3 + reads_unless_cached (cached_log self.old index)) (addresses_blocks (thread_pair self.old.kept index).at (address_view fresh)) self.old.kept self.new.kept }
+        ensures stops { CleanLossLeaves self.old.kept.history self.new.kept.history (LossLeavesThreaded self.old.kept index (address_view fresh) (changes_view changes.now)) }
     {
-        let outcome = thread_in_pair(
+        let outcome = thread_fresh_pair(
             alloc,
             &mut self.device,
             &mut self.cache,
@@ -543,12 +543,12 @@ impl<D: BlockDevice> Thread<D> {
     /// Errors are those of [`thread_in`](Thread::thread_in).
     pub fn move_next(&mut self, alloc: Global, index: usize, fresh: [u32; 2]) -> Result<(), Error>
         requires works { self.old.failed ≡ false }
-        requires can { CanMoveNext self.old.kept index (array_address fresh) }
-        ensures done { OnOk result (IsNextMoved self.old.kept index (array_address fresh) self.new.kept) }
+        requires can { CanMoveNext self.old.kept index (address_view fresh) }
+        ensures done { OnOk result (IsNextMoved self.old.kept index (address_view fresh) self.new.kept) }
         ensures failed { self.new.failed ≡ is_err result }
-        ensures errors { ThreadReportsKeepingOthers (address_blocks (array_address fresh)) self.old.kept self.new.kept result }
-        ensures device { ChangesWithinReads (4 + reads_unless_cached (cached_log self.old index)) (addresses_blocks (thread_pair self.old.kept index).at (array_address fresh)) self.old.kept self.new.kept }
-        ensures stops { CleanLossLeaves self.old.kept.history self.new.kept.history (LossLeavesNextMoved self.old.kept index (array_address fresh)) }
+        ensures errors { ThreadReportsKeepingOthers (address_blocks (address_view fresh)) self.old.kept self.new.kept result }
+        ensures device { ChangesWithinReads (4 + reads_unless_cached (cached_log self.old index)) (addresses_blocks (thread_pair self.old.kept index).at (address_view fresh)) self.old.kept self.new.kept }
+        ensures stops { CleanLossLeaves self.old.kept.history self.new.kept.history (LossLeavesNextMoved self.old.kept index (address_view fresh)) }
     {
         let result = move_next_pair(
             alloc,
@@ -579,12 +579,12 @@ impl<D: BlockDevice> Thread<D> {
         keep: u16,
     ) -> Result<(), Error>
         requires works { self.old.failed ≡ false }
-        requires can { CanUnload self.old.kept index (array_address fresh) keep }
-        ensures done { OnOk result (IsUnloaded self.old.kept index (array_address fresh) keep self.new.kept) }
+        requires can { CanUnload self.old.kept index (address_view fresh) keep }
+        ensures done { OnOk result (IsUnloaded self.old.kept index (address_view fresh) keep self.new.kept) }
         ensures failed { self.new.failed ≡ is_err result }
-        ensures errors { ThreadReportsKeepingOthers (address_blocks (array_address fresh)) self.old.kept self.new.kept result }
-        ensures device { ChangesWithinReads (4 + reads_unless_cached (cached_log self.old index)) (addresses_blocks (thread_pair self.old.kept index).at (array_address fresh)) self.old.kept self.new.kept }
-        ensures stops { CleanLossLeaves self.old.kept.history self.new.kept.history (LossLeavesUnloaded self.old.kept index (array_address fresh) keep) }
+        ensures errors { ThreadReportsKeepingOthers (address_blocks (address_view fresh)) self.old.kept self.new.kept result }
+        ensures device { ChangesWithinReads (4 + reads_unless_cached (cached_log self.old index)) (addresses_blocks (thread_pair self.old.kept index).at (address_view fresh)) self.old.kept self.new.kept }
+        ensures stops { CleanLossLeaves self.old.kept.history self.new.kept.history (LossLeavesUnloaded self.old.kept index (address_view fresh) keep) }
     {
         let result = unload_pair(
             alloc,
@@ -603,7 +603,7 @@ impl<D: BlockDevice> Thread<D> {
     /// Lends the device and the map to `work`, which leaves used blocks as they are, and those of the
     /// pairs used. Such work writes a file's list into free blocks or blocks in flight, or settles
     /// it in the map. Blocks that weren't used before aren't cached afterwards.
-    pub fn run_on_device<X, F: FnOnce(&mut D, &mut BlockMap) -> X>(&mut self, work: F) -> X
+    pub fn run_work<X, F: FnOnce(&mut D, &mut BlockMap) -> X>(&mut self, work: F) -> X
         requires works { self.old.failed ≡ false }
         requires can { (device : D) (map : BlockMap) → BelongToThread D.BlockDevice self.old.kept device map → CanRunWork F.FnOnce work device map }
         requires leaves { (device : D) (map : BlockMap) (x : X) (later : D) (later_map : BlockMap) → BelongToThread D.BlockDevice self.old.kept device map
@@ -632,7 +632,7 @@ impl<D: BlockDevice> Thread<D> {
     }
 
     /// Makes a failed thread of its parts. Nothing is known of what its device holds.
-    pub fn failed_thread_of(parts: ThreadParts<D>) -> Thread<D>
+    pub fn failed_thread(parts: ThreadParts<D>) -> Thread<D>
         ensures failed { result.failed ≡ true }
         ensures kept { result.kept ≡ kept_in_order D.BlockDevice parts.order parts.device parts.pairs.items parts.map }
     {

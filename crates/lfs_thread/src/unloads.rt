@@ -1,7 +1,7 @@
 // Pairs whose slots go into a fresh pair.
 
 ghost use Rattle.std.specs.Prelude.{◌≡◌, ◌+◌, IfErr, IfOk, OnOk};
-ghost use Rattle.lfs_model.specs.format.Slots.{array_address};
+ghost use Rattle.lfs_model.specs.format.Slots.{address_view};
 ghost use Rattle.lfs_model.specs.format.Thread.{address_blocks, addresses_blocks};
 ghost use Rattle.lfs_pair.specs.ChangeView.{changes_view};
 ghost use Rattle.lfs_pair.specs.Writing.{ChangesReadingFew};
@@ -33,15 +33,15 @@ pub(crate) fn unload_pair<D: BlockDevice>(
 ) -> Result<(), Error>
     requires kept { IsKept D.BlockDevice device.old pairs.old.items map.old }
     requires current { IsCacheCurrent (D.blocks device.old) cache.old }
-    requires can { CanUnload (kept_of_device D.BlockDevice device.old pairs.old.items map.old) index (array_address fresh) keep }
+    requires can { CanUnload (kept_of_device D.BlockDevice device.old pairs.old.items map.old) index (address_view fresh) keep }
     ensures kept { OnOk result (IsKept D.BlockDevice device.new pairs.new.items map.new) }
     ensures current { IsCacheCurrent (D.blocks device.new) cache.new }
-    ensures is_unloaded { OnOk result (IsUnloaded (kept_of_device D.BlockDevice device.old pairs.old.items map.old) index (array_address fresh) keep
+    ensures is_unloaded { OnOk result (IsUnloaded (kept_of_device D.BlockDevice device.old pairs.old.items map.old) index (address_view fresh) keep
         (kept_of_device D.BlockDevice device.new pairs.new.items map.new)) }
-    ensures device { ChangesReadingFew D.BlockDevice (4 + reads_unless_cached (cached_block_log (kept_of_device D.BlockDevice device.old pairs.old.items map.old) cache.old index)) (addresses_blocks (thread_pair (kept_of_device D.BlockDevice device.old pairs.old.items map.old) index).at (array_address fresh)) device.old device.new }
-    ensures errors { ReportsKeepingOthers D.BlockDevice (address_blocks (array_address fresh)) device.old device.new result }
+    ensures device { ChangesReadingFew D.BlockDevice (4 + reads_unless_cached (cached_block_log (kept_of_device D.BlockDevice device.old pairs.old.items map.old) cache.old index)) (addresses_blocks (thread_pair (kept_of_device D.BlockDevice device.old pairs.old.items map.old) index).at (address_view fresh)) device.old device.new }
+    ensures errors { ReportsKeepingOthers D.BlockDevice (address_blocks (address_view fresh)) device.old device.new result }
     ensures stops { CleanLossLeaves (D.history device.old) (D.history device.new)
-        (LossLeavesUnloaded (kept_of_device D.BlockDevice device.old pairs.old.items map.old) index (array_address fresh) keep) }
+        (LossLeavesUnloaded (kept_of_device D.BlockDevice device.old pairs.old.items map.old) index (address_view fresh) keep) }
 {
     let mut pair = pairs[index];
     let count = pair.slot_count - usize::from(keep);
@@ -71,7 +71,7 @@ fn unload_changes<'a>(
     keep: u16,
     count: usize,
 ) -> Result<Vec<Change<'a>>, Error>
-    ensures changes { IfOk result (λ changes. changes_view changes.items ≡ changes_of_unload (array_address fresh) keep count) }
+    ensures changes { IfOk result (λ changes. changes_view changes.items ≡ changes_of_unload (address_view fresh) keep count) }
     ensures errors { IfErr result (λ e. e ≡ Error.NoMemory) }
 {
     let mut changes = Vec::from_elem(alloc, Change::Delete { id: keep }, count)?;

@@ -1,7 +1,7 @@
 -- What was done of the items that are unpacked.
 use Rattle.std.proofs.Common.{ℕ, zero, suc, ◌≡◌, ◌<◌, ◌+◌, ◌∙◌, ◌++◌, List, [], ◌∷◌, Option, Some, None, Result, Ok, Err, ap, add-one, append_assoc, arith, get_or, length, refl, subst, sym, take}
 use Rattle.std.specs.Prelude.{OnErr}
-use Rattle.lfs_tool.proofs.Common.{Disk, UnpackingAction, IsFormedList, OnlyReadsThread, owned_view, tree_items_view, HaveFormedLists, HasBegunActions, HasDoneActions, place_action, place_actions}
+use Rattle.lfs_tool.proofs.Common.{Disk, UnpackingAction, IsFormedList, OnlyReadsThread, owned_view, tree_items_view, HaveFormedLists, ActionsPartlyDone, HasDoneActions, place_action, place_actions}
 use Rattle.lfs_model.proofs.Histories.{OnlyReadsSince-trans}
 use Rattle.lfs_thread.specs.Kept.{KeptThread}
 use Rattle.lfs_lookup.specs.TreeWalk.{tree_item_view}
@@ -47,7 +47,7 @@ actions_take disk (x ∷ xs) zero = refl
 actions_take disk (x ∷ xs) (suc i) = ap (λ more. place_action disk (tree_item_view x) ∷ more) (actions_take disk xs i)
 
 pub begun_item : (disk : Disk) (items : List TreeItem) (i : ℕ) (first mid last : Option (List UnpackingAction)) → HasDoneActions first mid (place_actions disk (tree_items_view (take i items))) → last ≡ mid
-    → HasBegunActions first last (place_actions disk (tree_items_view items))
+    → ActionsPartlyDone first last (place_actions disk (tree_items_view items))
 begun_item disk items i first mid last h same =
     (i, subst (HasDoneActions first last) (sym (actions_take disk items i)) (subst (λ o. HasDoneActions first o (place_actions disk (tree_items_view (take i items)))) (sym same) h))
 

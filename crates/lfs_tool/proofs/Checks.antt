@@ -1,10 +1,10 @@
 -- What is checked of the bytes that were read.
 use Rattle.std.proofs.Common.{◌≡◌, ◌∙◌, ◌<◌, ◌≤◌, ℕ, List, Option, Some, None, ap, arith, length, refl, subst, take}
 use Rattle.std.specs.Prelude.{IfSome}
-use Rattle.lfs_tool.proofs.Common.{length-take, take_all, IsWholeImage, IsWrongNumber, NoneIsWrong}
+use Rattle.lfs_tool.proofs.Common.{length-take, take_all, IsWholeImage, IsWrongNumber, SuperblocksAreRight}
 use Rattle.lfs_tool.specs.declared.image_layout.ImageLayout.{ImageLayout}
-use Rattle.lfs_tool.specs.CheckResults.{AreGivenSizes, IsCheckResult, IsShortEnough}
-use Rattle.lfs_tool.specs.WrongNumbers.{IsWrongIn}
+use Rattle.lfs_tool.specs.CheckResults.{AreGivenSizes, IsCheckResult, FitsLargestImage}
+use Rattle.lfs_tool.specs.WrongNumbers.{IsSuperblockWrong}
 use Rattle.lfs_tool.specs.declared.verdict.CheckResult.{CheckResult}
 use Rattle.lfs_tool.specs.declared.verdict.GivenSizes.{GivenSizes}
 use Rattle.lfs_tool.specs.declared.verdict.WrongNumber.{WrongNumber}
@@ -13,7 +13,7 @@ use Rattle.lfs_tool.proofs.Images.{image_fits, most}
 -- ---- the reason that comes first
 
 -- a number that was looked for
-pub number_or_none : (layout : ImageLayout) (image : List ℕ) (stated : Option WrongNumber) → IfSome stated (IsWrongIn image layout.block_size layout.profile.versions) → (stated ≡ None → NoneIsWrong image layout.block_size layout.profile.versions) → IsShortEnough image → IsWrongNumber layout image stated
+pub number_or_none : (layout : ImageLayout) (image : List ℕ) (stated : Option WrongNumber) → IfSome stated (IsSuperblockWrong image layout.block_size layout.profile.versions) → (stated ≡ None → SuperblocksAreRight image layout.block_size layout.profile.versions) → FitsLargestImage image → IsWrongNumber layout image stated
 number_or_none layout image None found none fits = λ short. none refl
 number_or_none layout image (Some number) found none fits = (fits, found)
 

@@ -32,7 +32,7 @@ pub use Rattle.lfs_model.specs.tree.Tree.{DirectoryNode, FileNode, Node, Path, T
 pub use Rattle.lfs_model.specs.tree.View.{HasDiskView, IsAccepted, IsFormedList, disk_view}
 pub use Rattle.lfs_thread.specs.MountErrors.{error_of_mount}
 pub use Rattle.lfs_thread.specs.ThreadSteps.{OnlyReadsThread}
-pub use Rattle.lfs_tool.specs.AppliedOperations.{AppliesUntilError, AreApplied, HealthyWithoutFiles, IsFirstRefusal, IsRunToError, entries_copying, entry_copying, node_of_bytes}
+pub use Rattle.lfs_tool.specs.AppliedOperations.{AppliesUntilError, AreApplied, HealthyWithoutFiles, IsFirstRefusal, RunsToError, entries_operations, entry_operations, node_of_optional}
 pub use Rattle.lfs_tool.specs.CheckResults.{IsWrongNumber}
 pub use Rattle.lfs_tool.specs.ImageSummaries.{is_file_item}
 pub use Rattle.lfs_tool.specs.KnownBytes.{AppendsBeginning}
@@ -41,9 +41,9 @@ pub use Rattle.lfs_tool.specs.LoadedBlocks.{AreLoadedOfSize, blocks_as_loaded}
 pub use Rattle.lfs_tool.specs.MadeImages.{RefusesEntries}
 pub use Rattle.lfs_tool.specs.Reports.{IsReadToEnd}
 pub use Rattle.lfs_tool.specs.SparseView.{sparse_blocks}
-pub use Rattle.lfs_tool.specs.Unpackings.{HasBegunActions, HasDoneActions, HaveFormedLists, place_action, place_actions}
+pub use Rattle.lfs_tool.specs.Unpackings.{ActionsPartlyDone, HasDoneActions, HaveFormedLists, place_action, place_actions}
 pub use Rattle.lfs_tool.specs.Verdict.{IsDiskVerdict}
-pub use Rattle.lfs_tool.specs.WrongNumbers.{HasSizesVersion, NoneIsWrong}
+pub use Rattle.lfs_tool.specs.WrongNumbers.{AreFieldsRight, SuperblocksAreRight}
 pub use Rattle.lfs_tool_folders.specs.MemorySources.{optional_bytes_view}
 pub use Rattle.lfs_tool_folders.specs.SourceEntries.{AreDepthFirst, AreSortedFolderNames, AreSourceEntries, HasSourceContents, PathAndKind, paths_in_folder}
 pub use Rattle.std.proofs.KnownBytes.{Keeps-refl, Keeps-trans}

@@ -6,7 +6,7 @@ use Rattle.lfs_device.specs.declared.error.Error.TheVariants.{NoMemory}
 use Rattle.std.proofs.lemmas.Nat.{div-mul-add, mod-mul-add}
 use Rattle.lfs_device.specs.DeviceDisk as device
 use Rattle.lfs_device.specs.declared.geometry.Geometry.{Geometry}
-use Rattle.lfs_tool.proofs.Common.{ram_geometry, ram_blocks, ram_bytes, Disk, block_count, ordered_disk, disk_of_image, IsFreshDisk, empty_tree, session_after_all, SystemState, Session, IsSourceTree, TreeSource, Healthy, SessionHealth, is_remount, mounted_session, IsAccepted, Each, fresh_defined, SessionView, system_state, AreSourceEntries, AreApplied, IsFirstRefusal, entry_copying, entries_copying, RefusesEntries}
+use Rattle.lfs_tool.proofs.Common.{ram_geometry, ram_blocks, ram_bytes, Disk, block_count, ordered_disk, disk_of_image, IsFreshDisk, empty_tree, session_after_all, SystemState, Session, IsSourceTree, TreeSource, Healthy, SessionHealth, is_remount, mounted_session, IsAccepted, Each, fresh_defined, SessionView, system_state, AreSourceEntries, AreApplied, IsFirstRefusal, entry_operations, entries_operations, RefusesEntries}
 use Rattle.lfs_device.specs.declared.ram.RamDevice.{RamDevice}
 use Rattle.lfs_model.specs.format.Blocks.{cut}
 use Rattle.lfs_model.specs.format.Content.{content_at}
@@ -55,15 +55,15 @@ some_bytes : (g : Geometry) → 1 ≤ g.block_size
 some_bytes g = let least : 1024 ≤ g.block_size = g.valid.no_smaller in omega (arith, least)
 
 -- what the run left in the device
-pub left : (g : Geometry) (o : NameOrder) (from to : SystemState) (es : List SourceEntry) (d : RamDevice) (bytes : List ℕ) → BeginsFresh g o from → AreApplied from (entries_copying es) to
+pub left : (g : Geometry) (o : NameOrder) (from to : SystemState) (es : List SourceEntry) (d : RamDevice) (bytes : List ℕ) → BeginsFresh g o from → AreApplied from (entries_operations es) to
     → ordered_disk to.disk.order (device.disk_of_blocks (ram_geometry d) (ram_blocks d)) ≡ to.disk
     → bytes ≡ ram_bytes d → AreImageBytes g o es bytes
 left g o from to es d bytes b c shown is =
-    let same = steps_keep_shape (entries_copying es) c.replies from to c.session_steps in
+    let same = steps_keep_shape (entries_operations es) c.replies from to c.session_steps in
     let size : (ram_geometry d).block_size ≡ g.block_size = ap (λ (k : Disk). k.block_size) shown ∙ same.block_size ∙ b.block_size in
     let page : (ram_geometry d).page ≡ g.page = ap (λ (k : Disk). k.page) shown ∙ same.page ∙ b.page in
-    let none = each_joined (λ op. is_remount op ≡ false) entry_copying es (each_always (λ e. Each (λ op. is_remount op ≡ false) (entry_copying e)) no_remount es) in
-    let order : to.disk.order ≡ o = steps_keep_order (entries_copying es) c.replies from to none c.session_steps ∙ b.order_is in
+    let none = each_joined (λ op. is_remount op ≡ false) entry_operations es (each_always (λ e. Each (λ op. is_remount op ≡ false) (entry_operations e)) no_remount es) in
+    let order : to.disk.order ≡ o = steps_keep_order (entries_operations es) c.replies from to none c.session_steps ∙ b.order_is in
     let profile : (ram_geometry d).profile ≡ g.profile = ap (λ (k : Disk). k.profile) shown ∙ same.profile ∙ b.profile in
     let count : (ram_geometry d).block_count ≡ g.block_count = sym (length-cut (ram_geometry d).block_size (ram_geometry d).block_count (ram_bytes d)) ∙ ap block_count shown ∙ same.count ∙ b.count in
     let len : length bytes ≡ g.block_size * g.block_count = ap length is ∙ d.size ∙ ap₂ (λ x y. x * y) size count in
@@ -105,14 +105,14 @@ made g o known es bytes all l = record {
     f = record { fresh = l.begins.fresh; mounts = l.begins.mounts }
 
     s : IsRecoveredDisk l.to.disk
-    s = fresh_settled (entries_copying es) l.carried.replies l.to (comes l.from l.to (entries_copying es) (record { fresh = l.begins.fresh; mounts = l.begins.mounts }) l.carried)
+    s = fresh_settled (entries_operations es) l.carried.replies l.to (comes l.from l.to (entries_operations es) (record { fresh = l.begins.fresh; mounts = l.begins.mounts }) l.carried)
 
     t : HasDiskTree l.to
-    t = fresh_true (entries_copying es) l.carried.replies l.to (comes l.from l.to (entries_copying es) (record { fresh = l.begins.fresh; mounts = l.begins.mounts }) l.carried)
+    t = fresh_true (entries_operations es) l.carried.replies l.to (comes l.from l.to (entries_operations es) (record { fresh = l.begins.fresh; mounts = l.begins.mounts }) l.carried)
 
-    after : t.session ≡ session_after_all anywhere (mounted_session empty_tree) (flat_map entry_copying es) l.carried.replies
-    after = same_session t.session (session_after_all anywhere (mounted_session empty_tree) (flat_map entry_copying es) l.carried.replies)
-        (sym t.healthy ∙ fresh_defined (entries_copying es) l.carried.replies l.to anywhere (comes l.from l.to (entries_copying es) (record { fresh = l.begins.fresh; mounts = l.begins.mounts }) l.carried))
+    after : t.session ≡ session_after_all anywhere (mounted_session empty_tree) (flat_map entry_operations es) l.carried.replies
+    after = same_session t.session (session_after_all anywhere (mounted_session empty_tree) (flat_map entry_operations es) l.carried.replies)
+        (sym t.healthy ∙ fresh_defined (entries_operations es) l.carried.replies l.to anywhere (comes l.from l.to (entries_operations es) (record { fresh = l.begins.fresh; mounts = l.begins.mounts }) l.carried))
 
     shows : (k : Option TreeSource) → AreSourceEntries k es → IfSome k (λ src. IsSourceTree src (disk_tree (disk_of_image g.block_size g.page g.profile o bytes) s.pairs))
     shows None a = tt
@@ -125,10 +125,10 @@ made g o known es bytes all l = record {
 
 -- ---- what is passed on
 
-pub refused : {X : Type 0} (r : Result X Error) (e : Error) (g : Geometry) (o : NameOrder) (from : SystemState) (es : List SourceEntry) → IsErrAnd r (λ f. f ≡ e) → BeginsFresh g o from → (e ≢ NoMemory → IsFirstRefusal from (entries_copying es) e)
+pub refused : {X : Type 0} (r : Result X Error) (e : Error) (g : Geometry) (o : NameOrder) (from : SystemState) (es : List SourceEntry) → IsErrAnd r (λ f. f ≡ e) → BeginsFresh g o from → (e ≢ NoMemory → IsFirstRefusal from (entries_operations es) e)
     → IfErr r (λ f. f ≢ NoMemory → RefusesEntries g o es f)
 refused (Ok x) e g o from es is b h = tt
-refused (Err f) e g o from es is b h = λ other. record { from = from; begins = b; first = subst (IsFirstRefusal from (entries_copying es)) (sym is) (h (λ x. other (is ∙ x))) }
+refused (Err f) e g o from es is b h = λ other. record { from = from; begins = b; first = subst (IsFirstRefusal from (entries_operations es)) (sym is) (h (λ x. other (is ∙ x))) }
 
 pub passed : (g : Geometry) (o : NameOrder) (es slice : List SourceEntry) (image written : List ℕ) → slice ≡ es → written ≡ image → AreImageBytes g o slice image → AreImageBytes g o es written
 passed g o es slice image written same is l = subst (λ xs. AreImageBytes g o es xs) (sym is) (subst (λ xs. AreImageBytes g o xs image) same l)

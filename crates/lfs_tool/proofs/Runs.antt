@@ -1,7 +1,7 @@
 -- Operations that are carried out one after another, up to an error.
 use Rattle.std.proofs.Common.{ℕ, ◌≡◌, ◌∙◌, ◌+◌, ◌<◌, ◌++◌, Bool, true, false, cond, List, [], ◌∷◌, length, take, get_or, Result, Ok, Err, refl, sym, ap, subst, append_assoc, flat_map}
 use Rattle.std.specs.Prelude.{IsErrAnd}
-use Rattle.lfs_tool.proofs.Common.{flat_map-append, append-nil, All-from_recursion, recursion_from_All, new_flags, node_copies, Operation, Reply, FileNode, IsStep, SystemState, is_refusal, each_append, SessionView, system_state, EndsInError, AreApplied, IsRunToError, AppliesUntilError, HealthyWithoutFiles, entry_copying}
+use Rattle.lfs_tool.proofs.Common.{flat_map-append, append-nil, All-from_recursion, recursion_from_All, new_flags, node_copies, Operation, Reply, FileNode, IsStep, SystemState, is_refusal, each_append, SessionView, system_state, EndsInError, AreApplied, RunsToError, AppliesUntilError, HealthyWithoutFiles, entry_operations}
 use Rattle.std.proofs.lemmas.List.{take_more}
 use Rattle.lfs_device.specs.declared.error.Error.{Error}
 use Rattle.lfs_model.specs.session.Operations as ops
@@ -42,10 +42,10 @@ carried_on xs ys a b c h k = record {
       (each_append IsAccepted h.replies k.replies (recursion_from_All IsAccepted h.replies h.accepted) (recursion_from_All IsAccepted k.replies k.accepted));
 }
 
-pub ended_at : (e : Error) (xs : List Operation) (op : Operation) (more : List Operation) (a b c : SystemState) → AreApplied a xs b → EndsInError (refusals.is_refusal e) e b op c → IsRunToError e a (xs ++ op ∷ more) c
+pub ended_at : (e : Error) (xs : List Operation) (op : Operation) (more : List Operation) (a b c : SystemState) → AreApplied a xs b → EndsInError (refusals.is_refusal e) e b op c → RunsToError e a (xs ++ op ∷ more) c
 ended_at e xs op more a b c h ends = record { done = xs; next = op; others = more; are = refl; at = b; carried = h; ends = ends }
 
-pub ended_on : (e : Error) (xs ys : List Operation) (a b c : SystemState) → AreApplied a xs b → IsRunToError e b ys c → IsRunToError e a (xs ++ ys) c
+pub ended_on : (e : Error) (xs ys : List Operation) (a b c : SystemState) → AreApplied a xs b → RunsToError e b ys c → RunsToError e a (xs ++ ys) c
 ended_on e xs ys a b c h k = record {
   done = xs ++ k.done;
   next = k.next;
@@ -56,7 +56,7 @@ ended_on e xs ys a b c h k = record {
   ends = k.ends;
 }
 
-pub ended_before : (e : Error) (xs ys : List Operation) (a c : SystemState) → IsRunToError e a xs c → IsRunToError e a (xs ++ ys) c
+pub ended_before : (e : Error) (xs ys : List Operation) (a c : SystemState) → RunsToError e a xs c → RunsToError e a (xs ++ ys) c
 ended_before e xs ys a c k = record {
   done = k.done;
   next = k.next;
@@ -79,9 +79,9 @@ carries_on xs ys a b c (Ok x) h k = carried_on xs ys a b c h k
 carries_on xs ys a b c (Err e) h k = ended_on e xs ys a b c h k
 
 -- an error that is passed on
-pub passed_on : {X : Type 0} (r : Result X Error) (e : Error) (a : SystemState) (operations : List Operation) (c : SystemState) → IsErrAnd r (λ f. f ≡ e) → IsRunToError e a operations c → AppliesUntilError a operations r c
+pub passed_on : {X : Type 0} (r : Result X Error) (e : Error) (a : SystemState) (operations : List Operation) (c : SystemState) → IsErrAnd r (λ f. f ≡ e) → RunsToError e a operations c → AppliesUntilError a operations r c
 passed_on (Ok x) e a operations c is h = absurd is
-passed_on (Err f) e a operations c is h = subst (λ g. IsRunToError g a operations c) (sym is) h
+passed_on (Err f) e a operations c is h = subst (λ g. RunsToError g a operations c) (sym is) h
 
 -- ---- a file
 
@@ -99,13 +99,13 @@ opens old new path flags fd is none turn =
     }
 
 pub fails_to_open : (old new : SessionView) (path : List ℕ) (flags : FlagsOfOpen) (more : List Operation) (e : Error) → flags ≡ new_flags → StepsOrFails old (ops.Open path flags) (reply_from ops.Opened (Err e)) new
-    → IsRunToError e (system_state old) (ops.Open path new_flags ∷ more) (system_state new)
+    → RunsToError e (system_state old) (ops.Open path new_flags ∷ more) (system_state new)
 fails_to_open old new path flags more e is h =
     ended_at e [] (ops.Open path new_flags) more (system_state old) (system_state old) (system_state new) (none_carried (system_state old))
     (one_ends old new (ops.Open path new_flags) ops.Opened e (subst (λ f. StepsOrFails old (ops.Open path f) (reply_from ops.Opened (Err e)) new) is h))
 
 pub fails_to_write : (old between new : SessionView) (path bytes : List ℕ) (fd : ℕ) (e : Error) → IsOpened old path fd between → StepsOrFails between (ops.Write fd bytes) (reply_from ops.Count (Err e)) new
-    → IsRunToError e (system_state old) (node_copies path (FileNode [] bytes)) (system_state new)
+    → RunsToError e (system_state old) (node_copies path (FileNode [] bytes)) (system_state new)
 fails_to_write old between new path bytes fd e o h =
     ended_on e (ops.Open path new_flags ∷ []) (ops.Write 0 bytes ∷ ops.Close 0 ∷ []) (system_state old) (system_state between) (system_state new) o.carried
     (ended_at e [] (ops.Write 0 bytes) (ops.Close 0 ∷ []) (system_state between) (system_state between) (system_state new) (none_carried (system_state between))
@@ -122,9 +122,9 @@ closes old between written new path bytes fd count r o turn h =
 
 -- ---- entries in turn
 
-pub entry_more : (es : List SourceEntry) (i : ℕ) (d : SourceEntry) (a b c : SystemState) → i < length es → AreApplied a (flat_map entry_copying (take i es)) b → AreApplied b (entry_copying (get_or es i d)) c
-    → AreApplied a (flat_map entry_copying (take (i + 1) es)) c
+pub entry_more : (es : List SourceEntry) (i : ℕ) (d : SourceEntry) (a b c : SystemState) → i < length es → AreApplied a (flat_map entry_operations (take i es)) b → AreApplied b (entry_operations (get_or es i d)) c
+    → AreApplied a (flat_map entry_operations (take (i + 1) es)) c
 entry_more es i d a b c lt h k =
-    let more : flat_map entry_copying (take (i + 1) es) ≡ flat_map entry_copying (take i es) ++ entry_copying (get_or es i d) =
-    ap (flat_map entry_copying) (take_more es i d lt) ∙ flat_map-append entry_copying (take i es) (get_or es i d ∷ []) ∙ ap (λ zs. flat_map entry_copying (take i es) ++ zs) (append-nil (entry_copying (get_or es i d))) in
-    subst (λ xs. AreApplied a xs c) (sym more) (carried_on (flat_map entry_copying (take i es)) (entry_copying (get_or es i d)) a b c h k)
+    let more : flat_map entry_operations (take (i + 1) es) ≡ flat_map entry_operations (take i es) ++ entry_operations (get_or es i d) =
+    ap (flat_map entry_operations) (take_more es i d lt) ∙ flat_map-append entry_operations (take i es) (get_or es i d ∷ []) ∙ ap (λ zs. flat_map entry_operations (take i es) ++ zs) (append-nil (entry_operations (get_or es i d))) in
+    subst (λ xs. AreApplied a xs c) (sym more) (carried_on (flat_map entry_operations (take i es)) (entry_operations (get_or es i d)) a b c h k)

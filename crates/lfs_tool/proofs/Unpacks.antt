@@ -2,15 +2,15 @@
 use Rattle.std.proofs.Common.{ℕ, ◌≡◌, ◌⊎◌, ◌∙◌, inl, inr, List, [], ◌∷◌, Option, Some, None, Result, Ok, Err, ap, ap₂, map, refl, subst, sym, take}
 use Rattle.std.specs.Prelude.{◌≢◌, IfErr, IfSome, OnErr}
 use Rattle.lfs_tool.specs.declared.image_layout.ImageLayout.{ImageLayout}
-use Rattle.lfs_tool.proofs.Common.{Disk, IsWholeImage, disk_of_image, ordered_disk, UnpackingAction, PathNode, Branch, Ctz, Inline, Struct, Pair, Node, HasDiskView, IsAccepted, IsFormedList, disk_view, AreTreeItems, AreWalkItems, PathStruct, IsTreeItem, IsStructNode, RefusesToList, HaveFormedLists, HasBegunActions, HasDoneActions, place_action, place_actions}
-use Rattle.lfs_model.specs.layers.Listing.{node_action, entry_actions}
+use Rattle.lfs_tool.proofs.Common.{Disk, IsWholeImage, disk_of_image, ordered_disk, UnpackingAction, PathNode, Branch, Ctz, Inline, Struct, Pair, Node, HasDiskView, IsAccepted, IsFormedList, disk_view, AreTreeItems, AreWalkItems, PathStruct, IsTreeItem, IsStructNode, RefusesToList, HaveFormedLists, ActionsPartlyDone, HasDoneActions, place_action, place_actions}
+use Rattle.lfs_model.specs.layers.Listing.{node_action, entry_action}
 use Rattle.lfs_model.specs.declared.order.NameOrder.{NameOrder}
 use Rattle.lfs_model.specs.declared.order.NameOrder.TheVariants.{LongerFirst}
 use Rattle.lfs_device.specs.declared.error.Error.TheVariants.{Corrupt, Invalid, NoMemory}
 use Rattle.lfs_device.specs.declared.error.Error.{Error}
 use Rattle.lfs_tool.specs.declared.errors.ToolError.{ToolError}
 use Rattle.lfs_tool.specs.declared.errors.ToolError.TheVariants.{Fs, Output}
-use Rattle.lfs_tool.specs.Unpackings.{FailsOnDisk, FailsOnImage, FailsOnKnown, HasBegunDisk, HasBegunImage, HasUnpackedDisk, HasUnpackedImage, UnpackDisk, ReportsTargetFaults, UnpackImage, struct_action}
+use Rattle.lfs_tool.specs.Unpackings.{FailsUnpackingDisk, FailsUnpackingImage, FailsUnpackingKnown, DiskPartlyUnpacked, ImagePartlyUnpacked, HasUnpackedDisk, HasUnpackedImage, UnpackDisk, ReportsTargetFaults, UnpackImage, struct_action}
 use Rattle.lfs_tool.proofs.Images.{all_read, most, refuses_read}
 
 -- ---- what was found of a tree unpacks it
@@ -33,10 +33,10 @@ action_node disk path (Inline bytes) node (attributes, is) = ap (node_action pat
 action_node disk path (Ctz head size) node (attributes, (is, list)) = ap (node_action path) (sym is)
 action_node disk path (Branch to) node (attributes, (names, is)) = ap (node_action path) (sym is)
 
-action_shown : (disk : Disk) (p : PathStruct) (e : PathNode) → IsTreeItem disk p e → place_action disk p ≡ entry_actions e
+action_shown : (disk : Disk) (p : PathStruct) (e : PathNode) → IsTreeItem disk p e → place_action disk p ≡ entry_action e
 action_shown disk p e s = action_node disk p.path p.struct e.node s.node ∙ ap (λ path. node_action path e.node) s.path
 
-actions_shown : (disk : Disk) (ps : List PathStruct) (es : List PathNode) → AreTreeItems disk ps es → place_actions disk ps ≡ map entry_actions es
+actions_shown : (disk : Disk) (ps : List PathStruct) (es : List PathNode) → AreTreeItems disk ps es → place_actions disk ps ≡ map entry_action es
 actions_shown disk [] [] s = refl
 actions_shown disk [] (e ∷ es) s = absurd s
 actions_shown disk (p ∷ ps) [] s = absurd s
@@ -53,11 +53,11 @@ module _ (disk now : Disk) (order : NameOrder) (ps : List Pair) (places : List P
   pub done_of : (old new : Option (List UnpackingAction)) → HasDoneActions old new (place_actions now places) → HasUnpackedDisk disk old new
   done_of old new h = (place_actions (ordered_disk order disk) places, (unpacks, subst (λ d. HasDoneActions old new (place_actions d places)) same h))
 
-  pub begun_of : (old new : Option (List UnpackingAction)) → HasBegunActions old new (place_actions now places) → HasBegunDisk disk old new
-  begun_of old new h = (place_actions (ordered_disk order disk) places, (unpacks, subst (λ d. HasBegunActions old new (place_actions d places)) same h))
+  pub begun_of : (old new : Option (List UnpackingAction)) → ActionsPartlyDone old new (place_actions now places) → DiskPartlyUnpacked disk old new
+  begun_of old new h = (place_actions (ordered_disk order disk) places, (unpacks, subst (λ d. ActionsPartlyDone old new (place_actions d places)) same h))
 
-pub fails_begun : {X : Type 0} (disk : Disk) (old new : Option (List UnpackingAction)) (was now : ℕ) (r : Result X ToolError) (begun : Type 0) → OnErr r begun → (begun → HasBegunDisk disk old new)
-    → ReportsTargetFaults was now r → IfErr r (FailsOnDisk disk old new)
+pub fails_begun : {X : Type 0} (disk : Disk) (old new : Option (List UnpackingAction)) (was now : ℕ) (r : Result X ToolError) (begun : Type 0) → OnErr r begun → (begun → DiskPartlyUnpacked disk old new)
+    → ReportsTargetFaults was now r → IfErr r (FailsUnpackingDisk disk old new)
 fails_begun disk old new was now (Ok x) begun h to reports = tt
 fails_begun disk old new was now (Err Output) begun h to reports = to h
 fails_begun disk old new was now (Err (Fs NoMemory)) begun h to reports = inr (to h)
@@ -77,11 +77,11 @@ pub done_image : (layout : ImageLayout) (image : List ℕ) (disk : Disk) (old ne
 done_image layout image disk old new is same (actions, (unpacked, h)) = (actions, (unpacks_image layout image disk actions is same unpacked, h))
 
 begun_image : (layout : ImageLayout) (image : List ℕ) (disk : Disk) (old new : Option (List UnpackingAction)) → IsWholeImage layout.block_size layout.page image → IsDiskOf layout image disk
-    → HasBegunDisk disk old new → HasBegunImage layout image old new
+    → DiskPartlyUnpacked disk old new → ImagePartlyUnpacked layout image old new
 begun_image layout image disk old new is same (actions, (unpacked, h)) = (actions, (unpacks_image layout image disk actions is same unpacked, h))
 
 pub fails_image : (layout : ImageLayout) (image : List ℕ) (disk : Disk) (old new : Option (List UnpackingAction)) (e : ToolError) → IsWholeImage layout.block_size layout.page image → IsDiskOf layout image disk
-    → FailsOnDisk disk old new e → FailsOnImage layout image old new e
+    → FailsUnpackingDisk disk old new e → FailsUnpackingImage layout image old new e
 fails_image layout image disk old new (Fs Corrupt) is same (wrong, undone) =
     ((is, λ view (order, (ps, (accepted, shows))). wrong order ps (subst (λ d. IsAccepted (ordered_disk order d) ps) (sym same) accepted)), undone)
 fails_image layout image disk old new (Fs NoMemory) is same (inl undone) = inl undone
@@ -97,12 +97,12 @@ done_read None layout items old new read h = tt
 done_read (Some bytes) layout items old new read h = subst (λ (i : List ℕ). HasUnpackedImage layout i old new) (all_read layout.block_size layout.page bytes items read h.1.0.0) h
 
 begun_read : (known : Option (List ℕ)) (layout : ImageLayout) (items : List ℕ) (old new : Option (List UnpackingAction)) → IfSome known (λ bytes. items ≡ take most bytes)
-    → HasBegunImage layout items old new → IfSome known (λ bytes. HasBegunImage layout bytes old new)
+    → ImagePartlyUnpacked layout items old new → IfSome known (λ bytes. ImagePartlyUnpacked layout bytes old new)
 begun_read None layout items old new read h = tt
-begun_read (Some bytes) layout items old new read h = subst (λ (i : List ℕ). HasBegunImage layout i old new) (all_read layout.block_size layout.page bytes items read h.1.0.0) h
+begun_read (Some bytes) layout items old new read h = subst (λ (i : List ℕ). ImagePartlyUnpacked layout i old new) (all_read layout.block_size layout.page bytes items read h.1.0.0) h
 
 begun_at_error : (known : Option (List ℕ)) (layout : ImageLayout) (items : List ℕ) (old new : Option (List UnpackingAction)) (e : ToolError) → IfSome known (λ bytes. items ≡ take most bytes)
-    → FailsOnImage layout items old new e → (new ≡ old) ⊎ IfSome known (λ bytes. HasBegunImage layout bytes old new)
+    → FailsUnpackingImage layout items old new e → (new ≡ old) ⊎ IfSome known (λ bytes. ImagePartlyUnpacked layout bytes old new)
 begun_at_error known layout items old new (Fs Corrupt) read h = inl h.1
 begun_at_error known layout items old new (Fs Invalid) read h = inl h.1
 begun_at_error known layout items old new (Fs NoMemory) read (inl undone) = inl undone
@@ -110,13 +110,13 @@ begun_at_error known layout items old new (Fs NoMemory) read (inr begun) = inr (
 begun_at_error known layout items old new Output read h = inr (begun_read known layout items old new read h)
 begun_at_error known layout items old new e read h = absurd h
 
-refused_at : (layout : ImageLayout) (items : List ℕ) (old new : Option (List UnpackingAction)) (e : Error) → FailsOnImage layout items old new (Fs e) → RefusesToList layout items e
+refused_at : (layout : ImageLayout) (items : List ℕ) (old new : Option (List UnpackingAction)) (e : Error) → FailsUnpackingImage layout items old new (Fs e) → RefusesToList layout items e
 refused_at layout items old new Corrupt h = h.0
 refused_at layout items old new Invalid h = h.0
 refused_at layout items old new NoMemory h = tt
 refused_at layout items old new e h = absurd h
 
-undone_at_error : (layout : ImageLayout) (items : List ℕ) (old new : Option (List UnpackingAction)) (e : ToolError) → FailsOnImage layout items old new e → e ≢ Output → e ≢ Fs NoMemory → new ≡ old
+undone_at_error : (layout : ImageLayout) (items : List ℕ) (old new : Option (List UnpackingAction)) (e : ToolError) → FailsUnpackingImage layout items old new e → e ≢ Output → e ≢ Fs NoMemory → new ≡ old
 undone_at_error layout items old new (Fs Corrupt) h target memory = h.1
 undone_at_error layout items old new (Fs Invalid) h target memory = h.1
 undone_at_error layout items old new (Fs NoMemory) h target memory = absurd (memory refl)
@@ -124,9 +124,9 @@ undone_at_error layout items old new Output h target memory = absurd (target ref
 undone_at_error layout items old new e h target memory = absurd h
 
 pub fails_known : (known : Option (List ℕ)) (layout : ImageLayout) (items : List ℕ) (old new : Option (List UnpackingAction)) (e : ToolError) → IfSome known (λ bytes. items ≡ take most bytes)
-    → FailsOnImage layout items old new e → FailsOnKnown layout known old new e
+    → FailsUnpackingImage layout items old new e → FailsUnpackingKnown layout known old new e
 fails_known known layout items old new e read h = record {
-  refused = λ f is. refuses_read known layout items f read (refused_at layout items old new f (subst (FailsOnImage layout items old new) is h));
+  refused = λ f is. refuses_read known layout items f read (refused_at layout items old new f (subst (FailsUnpackingImage layout items old new) is h));
   undone = undone_at_error layout items old new e h;
   begun = begun_at_error known layout items old new e read h;
 }

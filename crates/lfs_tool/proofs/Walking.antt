@@ -1,7 +1,7 @@
 -- The entries that were read are a walk of the source's tree, so their operations carry it over.
 use Rattle.std.proofs.Common.{ℕ, ◌≡◌, ◌∙◌, ◌++◌, ◌⊎◌, inl, inr, Bool, true, false, List, [], ◌∷◌, map, Option, Some, None, refl, sym, ap, ap₂, subst, append-nil, flat_map, option_and_then}
 use Rattle.std.specs.Prelude.{Contains}
-use Rattle.lfs_tool.proofs.Common.{IsPermutation, All-contains, All-contains_itself, All-from_recursion, recursion_from_All, Contains-permutation, IsPermutation-map, IsPermutation-sym, empty_tree, node_copies, Name, name_cmp, Operation, path_bytes, AFile, AFolder, IsSourceTree, IsSourceNode, TreeSource, is_named_folder, source_names, path_in_folder, node_at, Path, Node, FileNode, DirectoryNode, Tree, Each, each_weaker, greater, append_step, AreSourceEntries, AreDepthFirst, AreSortedFolderNames, HasSourceContents, PathAndKind, paths_in_folder, optional_bytes_view, node_of_bytes, entry_copying, entries_copying}
+use Rattle.lfs_tool.proofs.Common.{IsPermutation, All-contains, All-contains_itself, All-from_recursion, recursion_from_All, Contains-permutation, IsPermutation-map, IsPermutation-sym, empty_tree, node_copies, Name, name_cmp, Operation, path_bytes, AFile, AFolder, IsSourceTree, IsSourceNode, TreeSource, is_named_folder, source_names, path_in_folder, node_at, Path, Node, FileNode, DirectoryNode, Tree, Each, each_weaker, greater, append_step, AreSourceEntries, AreDepthFirst, AreSortedFolderNames, HasSourceContents, PathAndKind, paths_in_folder, optional_bytes_view, node_of_optional, entry_operations, entries_operations}
 use Rattle.std.specs.declared.cmp.Ordering.TheVariants.{Less}
 use Rattle.lfs_model.specs.declared.order.NameOrder.TheVariants.{ShorterFirst}
 use Rattle.lfs_model.specs.session.TreeEdits as apply
@@ -100,13 +100,13 @@ kinds_within s folder within w =
 record IsWalked (tree : Tree) (qs : List Path) (es : List SourceEntry) : Type 0 where
   entries : List listing.PathNode
   walk : IsDepthFirst tree qs entries
-  same : flat_map entry_copying es ≡ flat_map listing.entry_copies entries
+  same : flat_map entry_operations es ≡ flat_map listing.entry_copies entries
 
 -- what the tree has at a place, and the operations that bring it
 record IsMet (s : TreeSource) (tree : Tree) (q : Path) (p : PathAndKind) (o : Option (List ℕ)) (within : List (Name × Bool)) : Type 0 where
   node : Node
   there : tree q ≡ Some node
-  operations : node_copies p.0 (node_of_bytes o) ≡ node_copies (path_bytes q) node
+  operations : node_copies p.0 (node_of_optional o) ≡ node_copies (path_bytes q) node
   below : AllStand s (entry_paths tree q) (paths_in_folder p.0 within)
 
 met_file : (s : TreeSource) (tree : Tree) (q : Path) (folder : List ℕ) (bytes : List ℕ) (within : List (Name × Bool)) (o : Option Node) → tree q ≡ o → path_bytes q ≡ folder → bytes ≡ s.bytes folder → within ≡ []
@@ -158,10 +158,10 @@ walked s tree shows (e ∷ es) (q ∷ qs) (p ∷ ps) h (path, (within, (holds, r
     record {
       entries = record { path = q; node = m.node } ∷ w.entries;
       walk = (refl, m.there, w.walk);
-      same = ap₂ (λ (xs ys : List Operation). xs ++ ys) (ap (λ f. node_copies f (node_of_bytes (optional_bytes_view e.bytes))) path ∙ m.operations) w.same;
+      same = ap₂ (λ (xs ys : List Operation). xs ++ ys) (ap (λ f. node_copies f (node_of_optional (optional_bytes_view e.bytes))) path ∙ m.operations) w.same;
     }
 
-pub carry_over : (known : Option TreeSource) (es : List SourceEntry) → AreSourceEntries known es → CopySource known (entries_copying es)
+pub carry_over : (known : Option TreeSource) (es : List SourceEntry) → AreSourceEntries known es → CopySource known (entries_operations es)
 carry_over None es all = tt
 carry_over (Some s) es (top, (w, read)) =
     let whole = carried_tree s es (top, (w, read)) in

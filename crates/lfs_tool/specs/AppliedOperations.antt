@@ -18,16 +18,16 @@ use Rattle.lfs_tool_folders.specs.declared.entries.SourceEntry.{SourceEntry}
 -- ---- the operations
 
 -- a folder is made before its entries
-abbrev pub node_of_bytes : Option (List ℕ) → Node
-node_of_bytes None = DirectoryNode [] []
-node_of_bytes (Some bytes) = FileNode [] bytes
+abbrev pub node_of_optional : Option (List ℕ) → Node
+node_of_optional None = DirectoryNode [] []
+node_of_optional (Some bytes) = FileNode [] bytes
 
 -- the operations that copy an entry
-abbrev pub entry_copying : SourceEntry → List Operation
-entry_copying e = node_copies e.path.items (node_of_bytes (optional_bytes_view e.bytes))
+abbrev pub entry_operations : SourceEntry → List Operation
+entry_operations e = node_copies e.path.items (node_of_optional (optional_bytes_view e.bytes))
 
-abbrev pub entries_copying : List SourceEntry → List Operation
-entries_copying entries = flat_map entry_copying entries
+abbrev pub entries_operations : List SourceEntry → List Operation
+entries_operations entries = flat_map entry_operations entries
 
 -- ---- a session that takes them
 
@@ -52,7 +52,7 @@ pub record AreApplied (from : SystemState) (operations : List Operation) (to : S
   pub accepted : All (λ r. run.is_refusal r ≡ false) replies
 
 -- Some of the operations are applied, and the next one ends in that error.
-pub record IsRunToError (e : Error) (from : SystemState) (operations : List Operation) (to : SystemState) : Type 0 where
+pub record RunsToError (e : Error) (from : SystemState) (operations : List Operation) (to : SystemState) : Type 0 where
   pub done : List Operation
   pub next : Operation
   pub others : List Operation
@@ -63,7 +63,7 @@ pub record IsRunToError (e : Error) (from : SystemState) (operations : List Oper
 
 abbrev pub AppliesUntilError : {X : Type 0} → SystemState → List Operation → Result X Error → SystemState → Type 0
 AppliesUntilError from operations (Ok x) to = AreApplied from operations to
-AppliesUntilError from operations (Err e) to = IsRunToError e from operations to
+AppliesUntilError from operations (Err e) to = RunsToError e from operations to
 
 -- Of the operations in order, this is the first refusal.
 pub record IsFirstRefusal (from : SystemState) (operations : List Operation) (e : Error) : Type 0 where

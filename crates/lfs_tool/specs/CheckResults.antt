@@ -1,7 +1,7 @@
 -- The result of a check of an image.
 use Rattle.std.specs.Prelude.{ℕ, ◌≡◌, ◌<◌, ◌≤◌, ◌/◌, Bool, true, false, List, length, Option, Some, None}
 use Rattle.lfs_tool.specs.declared.image_layout.ImageLayout.{ImageLayout}
-use Rattle.lfs_tool.specs.WrongNumbers.{NoneIsWrong, IsWrongIn}
+use Rattle.lfs_tool.specs.WrongNumbers.{SuperblocksAreRight, IsSuperblockWrong}
 use Rattle.lfs_tool.specs.Verdict.{BreaksInSomeOrder, IsSummarized, IsAcceptedInNeither, IsDiskVerdict}
 use Rattle.lfs_tool.specs.declared.verdict.ImageVerdict.{ImageVerdict}
 use Rattle.lfs_model.specs.format.Disk.{Disk, IsWholeImage, disk_of_image}
@@ -18,17 +18,17 @@ abbrev pub HoldsOfImage : ImageLayout → List ℕ → (Disk → Type 0) → Typ
 HoldsOfImage layout image P = IsWholeImage layout.block_size layout.page image × P (disk_of_image layout.block_size layout.page layout.profile LongerFirst image)
 
 -- the bytes are no more than an image may have
-abbrev pub IsShortEnough : List ℕ → Type 0
-IsShortEnough image = length image ≤ 268435456
+abbrev pub FitsLargestImage : List ℕ → Type 0
+FitsLargestImage image = length image ≤ 268435456
 
 -- no number is wrong, unless the bytes are more than an image may have
 abbrev pub NoWrongNumber : ImageLayout → List ℕ → Type 0
-NoWrongNumber layout image = IsShortEnough image → NoneIsWrong image layout.block_size layout.profile.versions
+NoWrongNumber layout image = FitsLargestImage image → SuperblocksAreRight image layout.block_size layout.profile.versions
 
 -- the number is wrong there; without one, none is
 abbrev pub IsWrongNumber : ImageLayout → List ℕ → Option WrongNumber → Type 0
 IsWrongNumber layout image None = NoWrongNumber layout image
-IsWrongNumber layout image (Some stated) = IsShortEnough image × IsWrongIn image layout.block_size layout.profile.versions stated
+IsWrongNumber layout image (Some stated) = FitsLargestImage image × IsSuperblockWrong image layout.block_size layout.profile.versions stated
 
 -- why the bytes are refused; a wrong number comes before any other reason
 abbrev pub IsRefusalReason : ImageLayout → List ℕ → RefusalReason → Type 0
@@ -40,9 +40,9 @@ IsRefusalReason layout image (reason.Broken rule) = IsWrongNumber layout image N
 pub record AreGivenSizes (layout : ImageLayout) (image : List ℕ) (given : GivenSizes) : Type 0 where
   pub size_is : given.block_size ≡ layout.block_size
   pub page_is : given.page ≡ layout.page
-  pub length_is : IsShortEnough image → given.size ≡ length image
+  pub length_is : FitsLargestImage image → given.size ≡ length image
   pub past_is : 268435456 < length image → 268435456 < given.size
-  pub count_is : 0 < layout.block_size → IsShortEnough image → given.blocks ≡ length image / layout.block_size
+  pub count_is : 0 < layout.block_size → FitsLargestImage image → given.blocks ≡ length image / layout.block_size
 
 -- the bytes aren't an image that is accepted, in either order of names
 abbrev pub AreRefusedBytes : ImageLayout → List ℕ → Type 0

@@ -2,7 +2,7 @@
 use Rattle.std.specs.Prelude.{ℕ, ◌-◌, ◌/◌, ◌%◌, ◌==◌, ◌++◌, if◌then◌else◌, Bool, true, false, List, [], Option, Some, None, codes}
 use Rattle.std.specs.Fmt.{decimal}
 use Rattle.lfs_model.specs.format.Disk.{default_profile}
-use Rattle.lfs_model.specs.format.Slots.{array_address}
+use Rattle.lfs_model.specs.format.Slots.{address_view}
 use Rattle.lfs_model.specs.declared.breaches.OtherLimit.{OtherLimit}
 use Rattle.lfs_model.specs.declared.breaches.OtherLimit.TheVariants as limit
 use Rattle.lfs_model.specs.declared.breaches.ProfileBreach.{ProfileBreach}
@@ -54,10 +54,10 @@ inline_limit_text (Some n) = codes "inline_max " ++ decimal n
 -- which rule of the writing profile an image breaks
 abbrev pub breach_text : Option ℕ → ProfileBreach → List ℕ
 breach_text inline_max (breach.OtherLimits pair slot limit) =
-    pair_text (array_address pair) ++ codes ", slot " ++ decimal slot ++ codes ": a superblock with other limits than this library writes, " ++ other_limit_text limit
+    pair_text (address_view pair) ++ codes ", slot " ++ decimal slot ++ codes ": a superblock with other limits than this library writes, " ++ other_limit_text limit
 breach_text inline_max (breach.LongInline pair slot) =
-    pair_text (array_address pair) ++ codes ", slot " ++ decimal slot ++ codes ": more bytes inline than " ++ inline_limit_text inline_max
-breach_text inline_max (breach.EmptyPair pair) = pair_text (array_address pair) ++ codes ": no entry, but a directory goes on in it"
+    pair_text (address_view pair) ++ codes ", slot " ++ decimal slot ++ codes ": more bytes inline than " ++ inline_limit_text inline_max
+breach_text inline_max (breach.EmptyPair pair) = pair_text (address_view pair) ++ codes ": no entry, but a directory goes on in it"
 breach_text inline_max (breach.TooLarge pair) = codes "a pair or an entry is larger than this library writes"
 
 abbrev pub writable_text : Option ℕ → Option ProfileBreach → List ℕ

@@ -41,8 +41,8 @@ is_file_item i = is_file_struct (owned_view i.structure)
 -- ---- an accepted image
 
 -- the global state has an operation to end
-abbrev pub is_half_done : Gstate → Bool
-is_half_done g = g.sync || not (g.kind == no_move_kind)
+abbrev pub gstate_needs_recovery : Gstate → Bool
+gstate_needs_recovery g = g.sync || not (g.kind == no_move_kind)
 
 -- by the default profile nothing is told of the superblock, and by any other one that with which the root directory begins
 abbrev pub IsSuperblockTold : Profile → List Pair → Option Superblock → Type 0
@@ -60,18 +60,18 @@ pub record HasSummary (disk : Disk) (ps : List Pair) (c : ImageSummary) : Type 0
   pub all : c.files + c.directories ≡ length entries
   pub used : c.used ≡ length (used_blocks disk ps)
   pub blocks : c.blocks ≡ block_count disk
-  pub recover : c.recover ≡ is_half_done (pairs_gstate ps)
+  pub recover : c.recover ≡ gstate_needs_recovery (pairs_gstate ps)
   pub superblock : IsSuperblockTold disk.profile ps c.superblock
   pub inline_max : c.inline_max ≡ lesser_inline_max disk.profile disk.block_size
   pub breach : IsBreachIfAny disk ps c.breach
 
 -- ---- orders of names
 
-abbrev pub IsAcceptedInOrder : NameOrder → Disk → Type 0
-IsAcceptedInOrder o disk = (ps : List Pair) × IsAccepted (ordered_disk o disk) ps
+abbrev pub AcceptedInOrder : NameOrder → Disk → Type 0
+AcceptedInOrder o disk = (ps : List Pair) × IsAccepted (ordered_disk o disk) ps
 
 -- the image is accepted in these orders of names, and in no other
 abbrev pub HasAcceptedOrders : Disk → AcceptedOrders → Type 0
-HasAcceptedOrders disk orders.LongerFirst = IsAcceptedInOrder order.LongerFirst disk × ¬ IsAcceptedInOrder order.ShorterFirst disk
-HasAcceptedOrders disk orders.ShorterFirst = (¬ IsAcceptedInOrder order.LongerFirst disk) × IsAcceptedInOrder order.ShorterFirst disk
-HasAcceptedOrders disk orders.Either = IsAcceptedInOrder order.LongerFirst disk × IsAcceptedInOrder order.ShorterFirst disk
+HasAcceptedOrders disk orders.LongerFirst = AcceptedInOrder order.LongerFirst disk × ¬ AcceptedInOrder order.ShorterFirst disk
+HasAcceptedOrders disk orders.ShorterFirst = (¬ AcceptedInOrder order.LongerFirst disk) × AcceptedInOrder order.ShorterFirst disk
+HasAcceptedOrders disk orders.Either = AcceptedInOrder order.LongerFirst disk × AcceptedInOrder order.ShorterFirst disk

@@ -20,7 +20,7 @@ use Rattle.lfs_device.specs.declared.geometry.Geometry.{Geometry}
 use Rattle.lfs_tool.specs.declared.errors.ToolError.{ToolError}
 use Rattle.lfs_tool.specs.declared.errors.ToolError.TheVariants.{Input}
 use Rattle.lfs_tool.specs.KnownBytes.{AppendsBeginning}
-use Rattle.lfs_tool.specs.AppliedOperations.{AreApplied, IsFirstRefusal, entries_copying}
+use Rattle.lfs_tool.specs.AppliedOperations.{AreApplied, IsFirstRefusal, entries_operations}
 use Rattle.lfs_tool_folders.specs.SourceEntries.{AreSourceEntries, HasFaultOr, HasBadNames}
 use Rattle.lfs_tool_folders.specs.declared.entries.SourceEntry.{SourceEntry}
 
@@ -41,7 +41,7 @@ pub record AreImageBytes (geometry : Geometry) (order : NameOrder) (entries : Li
   pub from : SystemState
   pub begins : BeginsFresh geometry order from
   pub to : SystemState
-  pub carried : AreApplied from (entries_copying entries) to
+  pub carried : AreApplied from (entries_operations entries) to
   pub len : length bytes ≡ geometry.block_size * geometry.block_count
   pub disk : to.disk ≡ disk_of_image geometry.block_size geometry.page geometry.profile order bytes
 
@@ -49,7 +49,7 @@ pub record AreImageBytes (geometry : Geometry) (order : NameOrder) (entries : Li
 pub record RefusesEntries (geometry : Geometry) (order : NameOrder) (entries : List SourceEntry) (e : Error) : Type 0 where
   pub from : SystemState
   pub begins : BeginsFresh geometry order from
-  pub first : IsFirstRefusal from (entries_copying entries) e
+  pub first : IsFirstRefusal from (entries_operations entries) e
 
 -- These operations copy the source's tree, where it is known what the source shows.
 abbrev pub CopySource : Option TreeSource → List Operation → Type 0
@@ -71,7 +71,7 @@ pub record IsSourceImage (geometry : Geometry) (order : NameOrder) (known : Opti
 -- all that the source has is copied, and what is known to be written grew by one image of it
 abbrev pub HasWrittenImage : Geometry → NameOrder → Option TreeSource → Option (List ℕ) → Option (List ℕ) → Type 0
 HasWrittenImage geometry order known old new = (entries : List SourceEntry) × (AreSourceEntries known entries
-    × (CopySource known (entries_copying entries) × ((image : List ℕ) × (AreImageBytes geometry order entries image × (IsSourceImage geometry order known image × Appends old new image)))))
+    × (CopySource known (entries_operations entries) × ((image : List ℕ) × (AreImageBytes geometry order entries image × (IsSourceImage geometry order known image × Appends old new image)))))
 
 -- what is known to be written grew by a beginning of an image of the source
 abbrev pub HasWrittenBeginning : Geometry → NameOrder → Option TreeSource → Option (List ℕ) → Option (List ℕ) → Type 0
@@ -79,7 +79,7 @@ HasWrittenBeginning geometry order known old new = (image : List ℕ) × (IsSour
 
 -- an operation that copies what the source has is refused, and this is the first refusal
 abbrev pub RefusesSource : Geometry → NameOrder → Option TreeSource → Error → Type 0
-RefusesSource geometry order known e = (entries : List SourceEntry) × (AreSourceEntries known entries × (CopySource known (entries_copying entries) × RefusesEntries geometry order entries e))
+RefusesSource geometry order known e = (entries : List SourceEntry) × (AreSourceEntries known entries × (CopySource known (entries_operations entries) × RefusesEntries geometry order entries e))
 
 -- `Input` comes where the source fails, which it does once, or where it doesn't and a folder in it has bad names. After any other
 -- result it has failed as often as before.

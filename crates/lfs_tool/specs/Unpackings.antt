@@ -30,8 +30,8 @@ HasDoneActions (Some old) None actions = ⊥
 HasDoneActions (Some old) (Some new) actions = new ≡ old ++ actions
 
 -- a beginning of them was done
-abbrev pub HasBegunActions : Option (List UnpackingAction) → Option (List UnpackingAction) → List UnpackingAction → Type 0
-HasBegunActions old new actions = (n : ℕ) × HasDoneActions old new (take n actions)
+abbrev pub ActionsPartlyDone : Option (List UnpackingAction) → Option (List UnpackingAction) → List UnpackingAction → Type 0
+ActionsPartlyDone old new actions = (n : ℕ) × HasDoneActions old new (take n actions)
 
 -- ---- the actions of what was found
 
@@ -68,33 +68,33 @@ abbrev pub HasUnpackedDisk : Disk → Option (List UnpackingAction) → Option (
 HasUnpackedDisk disk old new = (actions : List UnpackingAction) × (UnpackDisk disk actions × HasDoneActions old new actions)
 
 -- the same of a beginning of it
-abbrev pub HasBegunDisk : Disk → Option (List UnpackingAction) → Option (List UnpackingAction) → Type 0
-HasBegunDisk disk old new = (actions : List UnpackingAction) × (UnpackDisk disk actions × HasBegunActions old new actions)
+abbrev pub DiskPartlyUnpacked : Disk → Option (List UnpackingAction) → Option (List UnpackingAction) → Type 0
+DiskPartlyUnpacked disk old new = (actions : List UnpackingAction) × (UnpackDisk disk actions × ActionsPartlyDone old new actions)
 
 -- why a disk in memory isn't unpacked, and what was done then
-abbrev pub FailsOnDisk : Disk → Option (List UnpackingAction) → Option (List UnpackingAction) → ToolError → Type 0
-FailsOnDisk disk old new (Fs Corrupt) = IsMountError disk Corrupt × (new ≡ old)
-FailsOnDisk disk old new (Fs NoMemory) = (new ≡ old) ⊎ HasBegunDisk disk old new
-FailsOnDisk disk old new Output = HasBegunDisk disk old new
-FailsOnDisk disk old new other = ⊥
+abbrev pub FailsUnpackingDisk : Disk → Option (List UnpackingAction) → Option (List UnpackingAction) → ToolError → Type 0
+FailsUnpackingDisk disk old new (Fs Corrupt) = IsMountError disk Corrupt × (new ≡ old)
+FailsUnpackingDisk disk old new (Fs NoMemory) = (new ≡ old) ⊎ DiskPartlyUnpacked disk old new
+FailsUnpackingDisk disk old new Output = DiskPartlyUnpacked disk old new
+FailsUnpackingDisk disk old new other = ⊥
 
 abbrev pub HasUnpackedImage : ImageLayout → List ℕ → Option (List UnpackingAction) → Option (List UnpackingAction) → Type 0
 HasUnpackedImage layout image old new = (actions : List UnpackingAction) × (UnpackImage layout image actions × HasDoneActions old new actions)
 
-abbrev pub HasBegunImage : ImageLayout → List ℕ → Option (List UnpackingAction) → Option (List UnpackingAction) → Type 0
-HasBegunImage layout image old new = (actions : List UnpackingAction) × (UnpackImage layout image actions × HasBegunActions old new actions)
+abbrev pub ImagePartlyUnpacked : ImageLayout → List ℕ → Option (List UnpackingAction) → Option (List UnpackingAction) → Type 0
+ImagePartlyUnpacked layout image old new = (actions : List UnpackingAction) × (UnpackImage layout image actions × ActionsPartlyDone old new actions)
 
 -- the same of an image
-abbrev pub FailsOnImage : ImageLayout → List ℕ → Option (List UnpackingAction) → Option (List UnpackingAction) → ToolError → Type 0
-FailsOnImage layout image old new (Fs Corrupt) = ImageAcceptedInNeither layout image × (new ≡ old)
-FailsOnImage layout image old new (Fs Invalid) = (¬ IsWholeImage layout.block_size layout.page image) × (new ≡ old)
-FailsOnImage layout image old new (Fs NoMemory) = (new ≡ old) ⊎ HasBegunImage layout image old new
-FailsOnImage layout image old new Output = HasBegunImage layout image old new
-FailsOnImage layout image old new other = ⊥
+abbrev pub FailsUnpackingImage : ImageLayout → List ℕ → Option (List UnpackingAction) → Option (List UnpackingAction) → ToolError → Type 0
+FailsUnpackingImage layout image old new (Fs Corrupt) = ImageAcceptedInNeither layout image × (new ≡ old)
+FailsUnpackingImage layout image old new (Fs Invalid) = (¬ IsWholeImage layout.block_size layout.page image) × (new ≡ old)
+FailsUnpackingImage layout image old new (Fs NoMemory) = (new ≡ old) ⊎ ImagePartlyUnpacked layout image old new
+FailsUnpackingImage layout image old new Output = ImagePartlyUnpacked layout image old new
+FailsUnpackingImage layout image old new other = ⊥
 
 -- Why the bytes aren't unpacked, where they are known, and what was done then: nothing more, or a beginning of what unpacks them,
 -- where the target failed or memory ran out.
-pub record FailsOnKnown (layout : ImageLayout) (image : Option (List ℕ)) (old new : Option (List UnpackingAction)) (e : ToolError) : Type 0 where
+pub record FailsUnpackingKnown (layout : ImageLayout) (image : Option (List ℕ)) (old new : Option (List UnpackingAction)) (e : ToolError) : Type 0 where
   pub refused : (f : Error) → e ≡ Fs f → IfSome image (λ bytes. RefusesToList layout bytes f)
   pub undone : e ≢ Output → e ≢ Fs NoMemory → new ≡ old
-  pub begun : (new ≡ old) ⊎ IfSome image (λ bytes. HasBegunImage layout bytes old new)
+  pub begun : (new ≡ old) ⊎ IfSome image (λ bytes. ImagePartlyUnpacked layout bytes old new)

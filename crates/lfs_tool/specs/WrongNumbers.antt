@@ -17,7 +17,7 @@ IsWrongField block_size count versions fields (stated.BlockCount n) = (fields.bl
 IsWrongField block_size count versions fields (stated.Version n) = (fields.version ≡ n) × (accepts_version versions n ≡ false)
 
 -- the fields give blocks of that size, so many of them, and one of these versions
-pub record HasSizesVersion (block_size count : ℕ) (versions : AcceptedVersions) (fields : SuperblockFields) : Type 0 where
+pub record AreFieldsRight (block_size count : ℕ) (versions : AcceptedVersions) (fields : SuperblockFields) : Type 0 where
   pub same_size : fields.block_size ≡ block_size
   pub same_count : fields.block_count ≡ count
   pub version : accepts_version versions fields.version ≡ true
@@ -27,13 +27,13 @@ abbrev pub superblock_struct_tag : ℕ
 superblock_struct_tag = make_tag inline_type 0 24
 
 -- how the superblock's name is stored as the first entry of a log, and then the tag of its struct
-abbrev pub stored_name_tag : List ℕ
-stored_name_tag = big_bytes 4 (bit_xor superblock_entry.tag 0xffffffff) ++ superblock_entry.bytes ++ big_bytes 4 (bit_xor superblock_struct_tag superblock_entry.tag)
+abbrev pub superblock_name_entry : List ℕ
+superblock_name_entry = big_bytes 4 (bit_xor superblock_entry.tag 0xffffffff) ++ superblock_entry.bytes ++ big_bytes 4 (bit_xor superblock_struct_tag superblock_entry.tag)
 
 -- A block that begins there begins with a superblock: behind the revision stand its name and its struct.
 pub record IsSuperblockAt (bytes : List ℕ) (from : ℕ) (fields : SuperblockFields) : Type 0 where
   pub inside : from + 44 ≤ length bytes
-  pub tags : slice_range bytes (from + 4) (from + 20) ≡ stored_name_tag
+  pub tags : slice_range bytes (from + 4) (from + 20) ≡ superblock_name_entry
   pub struct : superblock_fields (slice_range bytes (from + 20) (from + 44)) ≡ fields
 
 -- block 0 begins with that superblock, or block 1, with blocks of its size
@@ -41,7 +41,7 @@ abbrev pub IsFirstSuperblock : List ℕ → Superblock → Type 0
 IsFirstSuperblock bytes s = (from : ℕ) × (((from ≡ 0) ⊎ (from ≡ s.block_size)) × IsSuperblockAt bytes from (superblock_view s))
 
 -- a number in the superblock of block 0 or 1 is wrong for these bytes, in blocks of that size
-pub record IsWrongIn (bytes : List ℕ) (block_size : ℕ) (versions : AcceptedVersions) (stated : WrongNumber) : Type 0 where
+pub record IsSuperblockWrong (bytes : List ℕ) (block_size : ℕ) (versions : AcceptedVersions) (stated : WrongNumber) : Type 0 where
   pub sized : 0 < block_size
   pub from : ℕ
   pub block : (from ≡ 0) ⊎ (from ≡ block_size)
@@ -50,5 +50,5 @@ pub record IsWrongIn (bytes : List ℕ) (block_size : ℕ) (versions : AcceptedV
   pub unlike : IsWrongField block_size (length bytes / block_size) versions fields stated
 
 -- no number in the superblock of block 0 or 1 is wrong
-abbrev pub NoneIsWrong : List ℕ → ℕ → AcceptedVersions → Type 0
-NoneIsWrong bytes block_size versions = (stated : WrongNumber) → ¬ IsWrongIn bytes block_size versions stated
+abbrev pub SuperblocksAreRight : List ℕ → ℕ → AcceptedVersions → Type 0
+SuperblocksAreRight bytes block_size versions = (stated : WrongNumber) → ¬ IsSuperblockWrong bytes block_size versions stated

@@ -89,7 +89,7 @@ impl fmt::Display for Neighbours<'_> {
 
 impl Neighbours<'_> {
     // Returns whether the later name comes after the earlier one.
-    pub(crate) fn do_rise(&self, order: NameOrder) -> bool {
+    pub(crate) fn names_rise(&self, order: NameOrder) -> bool {
         name_cmp(order, &self.before.name, &self.slot.name).is_lt()
     }
 }
@@ -218,7 +218,7 @@ impl FoundThread {
     }
 
     // Returns the first neighbours in a directory whose names don't rise.
-    pub(crate) fn first_fall(
+    pub(crate) fn misordered_names(
         &self,
         order: NameOrder,
         directory: [u32; 2],
@@ -230,7 +230,7 @@ impl FoundThread {
             }
             if let Some(before) = last {
                 let two = Neighbours { before, slot };
-                if !two.do_rise(order) {
+                if !two.names_rise(order) {
                     return Some(two);
                 }
             }
@@ -240,7 +240,7 @@ impl FoundThread {
     }
 
     // Returns the entries that lead to an address, of the directories that paths lead to.
-    pub(crate) fn entries_leading_to(&self, at: [u32; 2]) -> Result<Vec<&FoundSlot>, AllocError> {
+    pub(crate) fn entries_naming(&self, at: [u32; 2]) -> Result<Vec<&FoundSlot>, AllocError> {
         let mut leading = Vec::new(self.alloc);
         let mut reached: Vec<[u32; 2]> = Vec::new(self.alloc);
         reached.extend_from_slice(self.directories.get(..1).unwrap_or(&[]))?;

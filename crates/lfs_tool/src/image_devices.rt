@@ -10,7 +10,7 @@ ghost use Rattle.lfs_model.specs.tree.View.{IsAccepted};
 ghost use Rattle.lfs_model.specs.declared.order.NameOrder.{NameOrder};
 ghost use Rattle.lfs_model.specs.declared.order.NameOrder.TheVariants.{LongerFirst};
 ghost use Rattle.lfs_mount.specs.Accepted.{IsMountedOn};
-ghost use Rattle.lfs_mount.specs.MountFaults.{IsErrorOfMount};
+ghost use Rattle.lfs_mount.specs.MountFaults.{MountMayReport};
 ghost use Rattle.lfs_thread.specs.ThreadDevice.{GivesDeviceBack};
 ghost use Rattle.lfs_thread.specs.Kept.{disk_of_device};
 ghost use Rattle.lfs_tool.specs.SparseView.{sparse_geometry};
@@ -68,7 +68,7 @@ pub fn sparse_device_of(alloc: Global, len: u32, layout: ImageLayout) -> Result<
 fn mount_thread<D: BlockDevice>(alloc: Global, device: D) -> Result<Thread<D>, (D, Error)>
     ensures mounted { IfOk result (λ t. IsMountedOn (ordered_disk t.kept.disk.order (disk_of_device D.BlockDevice device)) (D.history device) t) }
     ensures corrupt { IfErr result (λ e. e.1 ≡ Error.Corrupt → (order : NameOrder) (ps : List Pair) → ¬ IsAccepted (ordered_disk order (disk_of_device D.BlockDevice device)) ps) }
-    ensures errors { IfErr result (λ e. IsErrorOfMount e.1) }
+    ensures errors { IfErr result (λ e. MountMayReport e.1) }
     ensures back { IfErr result (λ e. GivesDeviceBack D.BlockDevice device e.0 e.1) }
 {
     match mount(alloc, device) {
@@ -84,7 +84,7 @@ pub(crate) fn tree_items_of<D: BlockDevice>(
 ) -> Result<(Thread<D>, Vec<TreeItem>), (D, Error)>
     ensures items { IfOk result (λ found. IsWalkedThread (disk_of_device D.BlockDevice device) found.0 (tree_items_view found.1.items)) }
     ensures corrupt { IfErr result (λ e. e.1 ≡ Error.Corrupt → (order : NameOrder) (ps : List Pair) → ¬ IsAccepted (ordered_disk order (disk_of_device D.BlockDevice device)) ps) }
-    ensures errors { IfErr result (λ e. IsErrorOfMount e.1) }
+    ensures errors { IfErr result (λ e. MountMayReport e.1) }
     ensures back { IfErr result (λ e. GivesDeviceBack D.BlockDevice device e.0 e.1) }
 {
     let mut thread = mount_thread(alloc, device)?;

@@ -8,7 +8,7 @@ ghost use Rattle.lfs_model.specs.layers.Violations.{Breaks};
 ghost use Rattle.lfs_mount.specs.TrueViolation.{IsTrueViolation};
 ghost use Rattle.lfs_thread.specs.Kept.{disk_of_device};
 ghost use Rattle.lfs_thread.specs.MountErrors.{error_of_mount};
-ghost use Rattle.lfs_tool.specs.ImageSummaries.{HasAcceptedOrders, IsAcceptedInOrder};
+ghost use Rattle.lfs_tool.specs.ImageSummaries.{HasAcceptedOrders, AcceptedInOrder};
 ghost use Rattle.lfs_tool.specs.Verdict.{BreaksInSomeOrder, IsAcceptedInNeither, IsDiskVerdict, IsSummarized};
 ghost use Rattle.lfs_model.specs.layers.BlockSets.{AreUsed};
 ghost use Rattle.lfs_model.specs.tree.Shown.{used_blocks};
@@ -29,7 +29,7 @@ fn accepts_order<D: BlockDevice + Drop>(
     device: D,
     order: NameOrder,
 ) -> Result<bool, Error>
-    ensures { IfOk result (λ b. IsTrue b ↔ IsAcceptedInOrder order (disk_of_device D.BlockDevice device)) }
+    ensures { IfOk result (λ b. IsTrue b ↔ AcceptedInOrder order (disk_of_device D.BlockDevice device)) }
 {
     match mount_in_order(alloc, device, order) {
         Ok(_thread) => Ok(true),
@@ -44,8 +44,8 @@ fn accepted_name_orders<D: BlockDevice + Drop>(
     device: D,
     first: NameOrder,
 ) -> Result<AcceptedOrders, Error>
-    requires first { IsAcceptedInOrder first (disk_of_device D.BlockDevice device) }
-    requires longer { first ≡ ShorterFirst → ¬ IsAcceptedInOrder LongerFirst (disk_of_device D.BlockDevice device) }
+    requires first { AcceptedInOrder first (disk_of_device D.BlockDevice device) }
+    requires longer { first ≡ ShorterFirst → ¬ AcceptedInOrder LongerFirst (disk_of_device D.BlockDevice device) }
     ensures { IfOk result (HasAcceptedOrders (disk_of_device D.BlockDevice device)) }
 {
     match first {
@@ -99,7 +99,7 @@ fn judge_thread<D: BlockDevice + Drop>(
     requires works { thread.failed ≡ false }
     requires accepted { IsAccepted thread.kept.disk thread.kept.pairs }
     requires used { AreUsed thread.kept.map (used_blocks thread.kept.disk thread.kept.pairs) }
-    requires longer { thread.kept.disk.order ≡ ShorterFirst → ¬ IsAcceptedInOrder LongerFirst thread.kept.disk }
+    requires longer { thread.kept.disk.order ≡ ShorterFirst → ¬ AcceptedInOrder LongerFirst thread.kept.disk }
     ensures { IfOk result (λ has. IsSummarized (ordered_disk LongerFirst thread.kept.disk) has.0 has.1) }
 {
     let summary = summary_of_thread(alloc, &mut thread)?;

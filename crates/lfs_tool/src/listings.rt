@@ -7,7 +7,7 @@ ghost use Rattle.lfs_model.specs.session.History.{fault_count};
 ghost use Rattle.lfs_model.specs.format.Thread.{Pair};
 ghost use Rattle.lfs_model.specs.tree.View.{IsAccepted};
 ghost use Rattle.lfs_model.specs.declared.order.NameOrder.{NameOrder};
-ghost use Rattle.lfs_mount.specs.MountFaults.{IsErrorOfMount};
+ghost use Rattle.lfs_mount.specs.MountFaults.{MountMayReport};
 ghost use Rattle.lfs_thread.specs.Kept.{disk_of_device};
 ghost use Rattle.lfs_tool.specs.KnownBytes.{AppendsBeginning, IsListingError, IsListingRefusal};
 ghost use Rattle.lfs_tool.specs.Reports.{IsReadToEnd, ReportsOneFault, ReportsWriterFaults};
@@ -35,7 +35,7 @@ pub fn lines_of_device<D: BlockDevice + Drop>(
 ) -> Result<Vec<u8>, (D, Error)>
     ensures lines { IfOk result (λ text. (order : NameOrder) × IsDiskListing (ordered_disk order (disk_of_device D.BlockDevice device)) text.items) }
     ensures corrupt { IfErr result (λ e. e.1 ≡ Error.Corrupt → (order : NameOrder) (ps : List Pair) → ¬ IsAccepted (ordered_disk order (disk_of_device D.BlockDevice device)) ps) }
-    ensures errors { IfErr result (λ e. IsErrorOfMount e.1) }
+    ensures errors { IfErr result (λ e. MountMayReport e.1) }
     ensures fault { IfErr result (λ e. e.1 ≡ Error.Io → fault_count (D.history device) < fault_count (D.history e.0)) }
 {
     let (thread, items) = tree_items_of(alloc, device)?;

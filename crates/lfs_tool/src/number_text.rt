@@ -9,10 +9,10 @@ pub(crate) struct PairText(pub [u32; 2]);
 
 impl fmt::Display for PairText {
     ghost use Rattle.std.specs.Prelude.{Some};
-    ghost use Rattle.lfs_model.specs.format.Slots.{array_address};
+    ghost use Rattle.lfs_model.specs.format.Slots.{address_view};
     ghost use Rattle.lfs_tool.specs.NumberTexts.{pair_text};
 
-    ghost output = { λ pair. Some (pair_text (array_address pair.0)) };
+    ghost output = { λ pair. Some (pair_text (address_view pair.0)) };
 
     fn fmt<W: fmt::Write>(&self, f: &mut fmt::Formatter<W>) -> fmt::Result {
         write!(f, "pair {} {}", self.0[0], self.0[1])

@@ -7,7 +7,7 @@ ghost use Rattle.lfs_model.specs.session.State.{Healthy, mounted_session};
 ghost use Rattle.lfs_model.specs.tree.Tree.{FileNode};
 ghost use Rattle.lfs_fs.specs.FlagsView.{flags_view};
 ghost use Rattle.lfs_fs.specs.SessionView.{system_state};
-ghost use Rattle.lfs_tool.specs.AppliedOperations.{AreApplied, AppliesUntilError, HealthyWithoutFiles, IsFirstRefusal, entry_copying, entries_copying};
+ghost use Rattle.lfs_tool.specs.AppliedOperations.{AreApplied, AppliesUntilError, HealthyWithoutFiles, IsFirstRefusal, entry_operations, entries_operations};
 
 use crate::{FilesAndBytes, FollowsProgress};
 use bitflags::Flags;
@@ -46,7 +46,7 @@ fn copy_entry(
     entry: &SourceEntry,
 ) -> Result<(), Error>
     requires { HealthyWithoutFiles (system_state session.old) }
-    ensures { AppliesUntilError (system_state session.old) (entry_copying entry.now) result (system_state session.new) }
+    ensures { AppliesUntilError (system_state session.old) (entry_operations entry.now) result (system_state session.new) }
 {
     match &entry.bytes {
         Some(bytes) => create_file_in(alloc, session, &entry.path, bytes),
@@ -78,8 +78,8 @@ pub(crate) fn copy_entries<F: FollowsProgress>(
 ) -> Result<(), Error>
     requires fresh { IsFreshDisk (system_state session.old).disk }
     requires mounts { (system_state session.old).state ≡ Healthy (mounted_session empty_tree) }
-    ensures carried { OnOk result (AreApplied (system_state session.old) (entries_copying entries.now) (system_state session.new)) }
-    ensures refused { IfErr result (λ e. e ≢ Error.NoMemory → IsFirstRefusal (system_state session.old) (entries_copying entries.now) e) }
+    ensures carried { OnOk result (AreApplied (system_state session.old) (entries_operations entries.now) (system_state session.new)) }
+    ensures refused { IfErr result (λ e. e ≢ Error.NoMemory → IsFirstRefusal (system_state session.old) (entries_operations entries.now) e) }
 {
     progress.begin(counts_of_entries(entries));
     for entry in entries {

@@ -10,7 +10,7 @@ ghost use Rattle.lfs_model.specs.tree.View.{IsAccepted};
 ghost use Rattle.lfs_tag.specs.FieldsView.{move_view};
 ghost use Rattle.lfs_thread.specs.ThreadSteps.{OnlyReadsThread};
 ghost use Rattle.lfs_lookup.specs.Items.{owned_view};
-ghost use Rattle.lfs_tool.specs.ImageSummaries.{HasSummary, IsSuperblockTold, lesser_inline_max, is_file_item, is_file_struct, is_half_done};
+ghost use Rattle.lfs_tool.specs.ImageSummaries.{HasSummary, IsSuperblockTold, lesser_inline_max, is_file_item, is_file_struct, gstate_needs_recovery};
 
 use crate::verdict::ImageSummary;
 use lfs_device::{BlockDevice, Error, Geometry, Profile};
@@ -43,7 +43,7 @@ fn count_files(items: &[TreeItem]) -> usize
 }
 
 fn has_unfinished_operation(state: &MoveState) -> bool
-    ensures { result ≡ is_half_done (move_view state.now) }
+    ensures { result ≡ gstate_needs_recovery (move_view state.now) }
 {
     state.sync || state.kind != 0
 }

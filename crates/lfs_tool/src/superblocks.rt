@@ -3,7 +3,7 @@
 ghost use Rattle.std.specs.Prelude.{◌≡◌, ◌⊎◌, ◌<◌, ◌/◌, ◌^◌, IfSome, None, length};
 ghost use Rattle.lfs_model.specs.format.EntryTypes.{SuperblockFields};
 ghost use Rattle.lfs_tag.specs.FieldsView.{superblock_view};
-ghost use Rattle.lfs_tool.specs.WrongNumbers.{HasSizesVersion, NoneIsWrong, IsWrongIn, IsWrongField, IsSuperblockAt, IsFirstSuperblock};
+ghost use Rattle.lfs_tool.specs.WrongNumbers.{AreFieldsRight, SuperblocksAreRight, IsSuperblockWrong, IsWrongField, IsSuperblockAt, IsFirstSuperblock};
 
 use crate::verdict::WrongNumber;
 use lfs_device::AcceptedVersions;
@@ -21,7 +21,7 @@ pub(crate) fn wrong_number_in(
     fields: &Superblock,
 ) -> Option<WrongNumber>
     ensures found { IfSome result (IsWrongField block_size count versions (superblock_view fields.now)) }
-    ensures none { result ≡ None → HasSizesVersion block_size count versions (superblock_view fields.now) }
+    ensures none { result ≡ None → AreFieldsRight block_size count versions (superblock_view fields.now) }
 {
     if fields.block_size != block_size {
         return Some(WrongNumber::BlockSize(fields.block_size));
@@ -78,8 +78,8 @@ fn wrong_number_at(
 ) -> Option<WrongNumber>
     requires size { 0 < block_size }
     requires from { (from ≡ 0) ⊎ (from ≡ block_size) }
-    ensures found { IfSome result (IsWrongIn bytes.now block_size versions) }
-    ensures none { result ≡ None → (fields : SuperblockFields) → IsSuperblockAt bytes.now from fields → HasSizesVersion block_size (length bytes.now / block_size) versions fields }
+    ensures found { IfSome result (IsSuperblockWrong bytes.now block_size versions) }
+    ensures none { result ≡ None → (fields : SuperblockFields) → IsSuperblockAt bytes.now from fields → AreFieldsRight block_size (length bytes.now / block_size) versions fields }
 {
     let count = bytes.len() / block_size as usize;
     match fields_at_offset(bytes, from) {
@@ -100,8 +100,8 @@ pub fn image_wrong_number(
     block_size: u32,
     versions: AcceptedVersions,
 ) -> Option<WrongNumber>
-    ensures found { IfSome result (IsWrongIn bytes.now block_size versions) }
-    ensures none { result ≡ None → NoneIsWrong bytes.now block_size versions }
+    ensures found { IfSome result (IsSuperblockWrong bytes.now block_size versions) }
+    ensures none { result ≡ None → SuperblocksAreRight bytes.now block_size versions }
 {
     if block_size == 0 {
         return None;

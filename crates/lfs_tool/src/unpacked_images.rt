@@ -5,7 +5,7 @@ ghost use Rattle.lfs_device.specs.RamDevice.{ram_blocks, ram_geometry};
 ghost use Rattle.lfs_device.specs.DeviceDisk.{disk_of_blocks as shown};
 ghost use Rattle.lfs_model.specs.tree.View.{IsFormedList};
 ghost use Rattle.lfs_tool_folders.specs.Actions.{AddsAction};
-ghost use Rattle.lfs_tool.specs.Unpackings.{HaveFormedLists, FailsOnDisk, FailsOnImage, HasBegunActions, HasDoneActions, FailsOnKnown, HasUnpackedDisk, HasUnpackedImage, ReportsTargetFaults, place_action, place_actions};
+ghost use Rattle.lfs_tool.specs.Unpackings.{HaveFormedLists, FailsUnpackingDisk, FailsUnpackingImage, ActionsPartlyDone, HasDoneActions, FailsUnpackingKnown, HasUnpackedDisk, HasUnpackedImage, ReportsTargetFaults, place_action, place_actions};
 ghost use Rattle.lfs_thread.specs.ThreadSteps.{OnlyReadsThread};
 ghost use Rattle.lfs_lookup.specs.FileBytes.{struct_file_bytes};
 ghost use Rattle.lfs_lookup.specs.Items.{owned_view};
@@ -123,7 +123,7 @@ fn unpack_tree_items<T: Target, F: FollowsProgress>(
     requires works { thread.old.failed ≡ false }
     requires lists { HaveFormedLists thread.old.kept.disk (tree_items_view items.now) }
     ensures done { OnOk result (HasDoneActions (T.done target.old) (T.done target.new) (place_actions thread.old.kept.disk (tree_items_view items.now))) }
-    ensures begun { OnErr result (HasBegunActions (T.done target.old) (T.done target.new) (place_actions thread.old.kept.disk (tree_items_view items.now))) }
+    ensures begun { OnErr result (ActionsPartlyDone (T.done target.old) (T.done target.new) (place_actions thread.old.kept.disk (tree_items_view items.now))) }
     ensures reports { ReportsTargetFaults (T.faults target.old) (T.faults target.new) result }
 {
     progress.begin(counts_of_items(items));
@@ -141,7 +141,7 @@ fn unpack_ram_device<T: Target, F: FollowsProgress>(
     progress: &mut F,
 ) -> Result<(), ToolError>
     ensures done { OnOk result (HasUnpackedDisk (shown (ram_geometry device) (ram_blocks device)) (T.done target.old) (T.done target.new)) }
-    ensures failed { IfErr result (FailsOnDisk (shown (ram_geometry device) (ram_blocks device)) (T.done target.old) (T.done target.new)) }
+    ensures failed { IfErr result (FailsUnpackingDisk (shown (ram_geometry device) (ram_blocks device)) (T.done target.old) (T.done target.new)) }
     ensures output { ReportsOneFault ToolError.Output (T.faults target.old) (T.faults target.new) result }
 {
     match ram_tree_items(alloc, device) {
@@ -159,7 +159,7 @@ fn unpack_image<T: Target, F: FollowsProgress>(
 ) -> Result<(), ToolError>
     requires { length image.items < 2 ^ 32 }
     ensures done { OnOk result (HasUnpackedImage layout image.items (T.done target.old) (T.done target.new)) }
-    ensures failed { IfErr result (FailsOnImage layout image.items (T.done target.old) (T.done target.new)) }
+    ensures failed { IfErr result (FailsUnpackingImage layout image.items (T.done target.old) (T.done target.new)) }
     ensures output { ReportsOneFault ToolError.Output (T.faults target.old) (T.faults target.new) result }
 {
     match ram_device_of(image, layout) {
@@ -195,7 +195,7 @@ pub fn unpack<R: ImageInput, T: Target, F: FollowsProgress>(
     ensures done { OnOk result (IfSome (R.remaining image.old) (λ bytes. HasUnpackedImage layout bytes (T.done target.old) (T.done target.new))) }
 
     // Nothing is done, or a beginning of the actions, where the target failed or memory ran out.
-    ensures failed { IfErr result (FailsOnKnown layout (R.remaining image.old) (T.done target.old) (T.done target.new)) }
+    ensures failed { IfErr result (FailsUnpackingKnown layout (R.remaining image.old) (T.done target.old) (T.done target.new)) }
 
     // When each error comes.
     ensures input { ReportsOneFault ToolError.Input (R.faults image.old) (R.faults image.new) result }

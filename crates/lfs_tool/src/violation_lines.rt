@@ -127,14 +127,14 @@ impl FoundThread {
             Violation::Names { pair } => pair,
             _ => pair,
         };
-        let one = self.first_fall(NameOrder::LongerFirst, pair);
-        let two = self.first_fall(NameOrder::ShorterFirst, other);
+        let one = self.misordered_names(NameOrder::LongerFirst, pair);
+        let two = self.misordered_names(NameOrder::ShorterFirst, other);
         let (Some(one), Some(two)) = (one, two) else {
             return Ok(String::new(self.alloc));
         };
-        if !one.do_rise(NameOrder::ShorterFirst) {
+        if !one.names_rise(NameOrder::ShorterFirst) {
             format!(in self.alloc; "{one}")
-        } else if !two.do_rise(NameOrder::LongerFirst) {
+        } else if !two.names_rise(NameOrder::LongerFirst) {
             format!(in self.alloc; "{two}")
         } else {
             format!(in self.alloc; "names in two orders: {one}, and {two}")
@@ -160,7 +160,7 @@ impl FoundThread {
     fn two_paths_line(&self, pair: [u32; 2]) -> Result<String, AllocError> {
         let root = self.directories.first().copied();
         let is_root = root.is_some_and(|root| is_same_pair(root, pair));
-        match self.entries_leading_to(pair)?.as_slice() {
+        match self.entries_naming(pair)?.as_slice() {
             [one, ..] if is_root => format!(in self.alloc; "{one} leads to the root directory"),
             [one, other, ..] => {
                 format!(in self.alloc; "{other} leads to the same directory as {one}")

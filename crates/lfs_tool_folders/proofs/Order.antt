@@ -11,11 +11,11 @@ use Rattle.std.proofs.lemmas.List.Sums.{sum_by-cons}
 use Rattle.std.proofs.lemmas.List.Sorted.{IsPermutation-map, sum_by-IsPermutation}
 use Rattle.lfs_model.specs.declared.order.NameOrder.TheVariants.{ShorterFirst}
 use Rattle.lfs_model.specs.format.Names.{Name, name_cmp, same_name, is_component, is_less}
-use Rattle.lfs_model.specs.layers.Source.{HaveBadName, TreeSource, source_names, name_occurrences}
+use Rattle.lfs_model.specs.layers.Source.{HaveBadOrRepeated, TreeSource, source_names, name_occurrences}
 use Rattle.lfs_tool_folders.specs.SourceTrees.{listed_view}
 use Rattle.lfs_model.proofs.Counts.{Each, each_weaker}
 use Rattle.lfs_model.proofs.Paths.{name_from_equal, same_itself}
-use Rattle.lfs_tool_folders.specs.SourceEntries.{AreRising, is_listed_before, listed_bytes, rise_after}
+use Rattle.lfs_tool_folders.specs.SourceEntries.{AreRising, is_listed_before, listed_name, rise_after}
 use Rattle.lfs_tool_folders.specs.declared.source.ListedName.{ListedName}
 
 -- ---- in order
@@ -55,7 +55,7 @@ NeverFall [] = Unit {0}
 NeverFall (n ∷ []) = Unit {0}
 NeverFall (n ∷ m ∷ ns) = (is_less (name_cmp ShorterFirst m n) ≡ false) × NeverFall (m ∷ ns)
 
-never_fall : (xs : List ListedName) → IsSortedBy is_listed_before xs → NeverFall (map listed_bytes xs)
+never_fall : (xs : List ListedName) → IsSortedBy is_listed_before xs → NeverFall (map listed_name xs)
 never_fall [] h = tt
 never_fall (x ∷ []) h = tt
 never_fall (x ∷ y ∷ xs) h = (
@@ -71,24 +71,24 @@ times_more name n ns = sum_by-cons (λ m. cond (same_name name m) 1 0) n ns
 here_too : (n : Name) (ns : List Name) → name_occurrences n (n ∷ ns) ≡ 1 + name_occurrences n ns
 here_too n ns = times_more n n ns ∙ ap (λ b. cond b 1 0 + name_occurrences n ns) (same_itself n)
 
-bad_later : (n : Name) (ns : List Name) → HaveBadName ns → HaveBadName (n ∷ ns)
+bad_later : (n : Name) (ns : List Name) → HaveBadOrRepeated ns → HaveBadOrRepeated (n ∷ ns)
 bad_later n ns (inl h) = inl (h.0, h.1, omega (arith, h.2, times_more h.0 n ns))
 bad_later n ns (inr h) = inr (h.0, omega (arith, h.1, times_more h.0 n ns))
 
-odd_here : (n : Name) (ns : List Name) → is_component n ≡ false → HaveBadName (n ∷ ns)
+odd_here : (n : Name) (ns : List Name) → is_component n ≡ false → HaveBadOrRepeated (n ∷ ns)
 odd_here n ns e = inl (n, e, omega (arith, here_too n ns))
 
-twice : (n : Name) (ns : List Name) → HaveBadName (n ∷ n ∷ ns)
+twice : (n : Name) (ns : List Name) → HaveBadOrRepeated (n ∷ n ∷ ns)
 twice n ns = inr (n, omega (arith, here_too n (n ∷ ns), here_too n ns))
 
-bad_behind : (last : Name) (ns : List Name) → NeverFall (last ∷ ns) → rise_after last ns ≡ false → HaveBadName (last ∷ ns)
+bad_behind : (last : Name) (ns : List Name) → NeverFall (last ∷ ns) → rise_after last ns ≡ false → HaveBadOrRepeated (last ∷ ns)
 bad_behind last [] h e = absurd (cc)
 bad_behind last (n ∷ ns) h e = go (is_component n) (name_cmp ShorterFirst last n) refl refl e (bad_behind n ns h.1)
   where
-    go : (c : Bool) (o : Ordering) → is_component n ≡ c → name_cmp ShorterFirst last n ≡ o → (c && is_less o && rise_after n ns) ≡ false → (rise_after n ns ≡ false → HaveBadName (n ∷ ns)) → HaveBadName (last ∷ n ∷ ns)
+    go : (c : Bool) (o : Ordering) → is_component n ≡ c → name_cmp ShorterFirst last n ≡ o → (c && is_less o && rise_after n ns) ≡ false → (rise_after n ns ≡ false → HaveBadOrRepeated (n ∷ ns)) → HaveBadOrRepeated (last ∷ n ∷ ns)
     go false o is cmp f next = bad_later last (n ∷ ns) (odd_here n ns is)
     go true Less is cmp f next = bad_later last (n ∷ ns) (next f)
-    go true Equal is cmp f next = subst (λ m. HaveBadName (last ∷ m ∷ ns)) (name_from_equal last n cmp) (twice last ns)
+    go true Equal is cmp f next = subst (λ m. HaveBadOrRepeated (last ∷ m ∷ ns)) (name_from_equal last n cmp) (twice last ns)
     go true Greater is cmp f next =
         let back : name_cmp ShorterFirst n last ≡ Less = nat_list_cmp_total.antisymm n last ∙ ap ordering_reverse cmp in
         let wrong : true ≡ false = sym (ap is_less back) ∙ h.0 in
@@ -98,33 +98,33 @@ above_nothing : (n : Name) → is_component n ≡ true → is_less (name_cmp Sho
 above_nothing [] e = absurd (cc)
 above_nothing (b ∷ n) e = refl
 
-bad_from : (ns : List Name) → NeverFall ns → rise_after [] ns ≡ false → HaveBadName ns
+bad_from : (ns : List Name) → NeverFall ns → rise_after [] ns ≡ false → HaveBadOrRepeated ns
 bad_from [] h e = absurd (cc)
 bad_from (n ∷ ns) h e = go (is_component n) refl e
   where
-    go : (c : Bool) → is_component n ≡ c → (c && is_less (name_cmp ShorterFirst [] n) && rise_after n ns) ≡ false → HaveBadName (n ∷ ns)
+    go : (c : Bool) → is_component n ≡ c → (c && is_less (name_cmp ShorterFirst [] n) && rise_after n ns) ≡ false → HaveBadOrRepeated (n ∷ ns)
     go false is f = odd_here n ns is
     go true is f = bad_behind n ns h (sym (ap (λ b. b && rise_after n ns) (above_nothing n is)) ∙ f)
 
-pub bad_names : (xs : List ListedName) → IsSortedBy is_listed_before xs → rise_after [] (map listed_bytes xs) ≡ false → HaveBadName (map listed_bytes xs)
-bad_names xs h e = bad_from (map listed_bytes xs) (never_fall xs h) e
+pub bad_names : (xs : List ListedName) → IsSortedBy is_listed_before xs → rise_after [] (map listed_name xs) ≡ false → HaveBadOrRepeated (map listed_name xs)
+bad_names xs h e = bad_from (map listed_name xs) (never_fall xs h) e
 
 -- ---- in another order
 
-same_times : (xs ys : List ListedName) (name : Name) → IsPermutation xs ys → name_occurrences name (map listed_bytes ys) ≡ name_occurrences name (map listed_bytes xs)
-same_times xs ys name h = sum_by-IsPermutation (λ n. cond (same_name name n) 1 0) (map listed_bytes xs) (map listed_bytes ys) (IsPermutation-map listed_bytes xs ys h)
+same_times : (xs ys : List ListedName) (name : Name) → IsPermutation xs ys → name_occurrences name (map listed_name ys) ≡ name_occurrences name (map listed_name xs)
+same_times xs ys name h = sum_by-IsPermutation (λ n. cond (same_name name n) 1 0) (map listed_name xs) (map listed_name ys) (IsPermutation-map listed_name xs ys h)
 
-bad_before : (xs ys : List ListedName) → IsPermutation xs ys → HaveBadName (map listed_bytes ys) → HaveBadName (map listed_bytes xs)
+bad_before : (xs ys : List ListedName) → IsPermutation xs ys → HaveBadOrRepeated (map listed_name ys) → HaveBadOrRepeated (map listed_name xs)
 bad_before xs ys h (inl b) = inl (b.0, b.1, omega (arith, b.2, same_times xs ys b.0 h))
 bad_before xs ys h (inr b) = inr (b.0, omega (arith, b.1, same_times xs ys b.0 h))
 
-pub names_given : (xs : List ListedName) → source_names (map listed_view xs) ≡ map listed_bytes xs
+pub names_given : (xs : List ListedName) → source_names (map listed_view xs) ≡ map listed_name xs
 names_given [] = refl
 names_given (x ∷ xs) = ap (λ ns. x.name.items ∷ ns) (names_given xs)
 
 -- what is bad once it is sorted was bad as it was given
-pub bad_given : (known : Option TreeSource) (folder : List ℕ) (xs ys zs : List ListedName) → IfSome known (λ s. map listed_view xs ≡ s.names folder) → IsPermutation xs ys → zs ≡ ys → HaveBadName (map listed_bytes zs)
-    → IfSome known (λ s. HaveBadName (source_names (s.names folder)))
+pub bad_given : (known : Option TreeSource) (folder : List ℕ) (xs ys zs : List ListedName) → IfSome known (λ s. map listed_view xs ≡ s.names folder) → IsPermutation xs ys → zs ≡ ys → HaveBadOrRepeated (map listed_name zs)
+    → IfSome known (λ s. HaveBadOrRepeated (source_names (s.names folder)))
 bad_given None folder xs ys zs e h same b = tt
 bad_given (Some s) folder xs ys zs e h same b =
-    subst (λ g. HaveBadName (source_names g)) e (subst HaveBadName (sym (names_given xs)) (bad_before xs ys h (subst (λ v. HaveBadName (map listed_bytes v)) same b)))
+    subst (λ g. HaveBadOrRepeated (source_names g)) e (subst HaveBadOrRepeated (sym (names_given xs)) (bad_before xs ys h (subst (λ v. HaveBadOrRepeated (map listed_name v)) same b)))

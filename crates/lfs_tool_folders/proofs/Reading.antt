@@ -6,11 +6,11 @@ use Rattle.std.proofs.lemmas.List.{map-append, reverse-append, reverse-reverse}
 use Rattle.std.proofs.lemmas.List.Elements.{All-contains_itself, recursion_from_All}
 use Rattle.std.proofs.lemmas.List.Sorted.{All-permutation, IsPermutation-map}
 use Rattle.lfs_model.specs.format.Names.{Name}
-use Rattle.lfs_model.specs.layers.Source.{HaveBadName, TreeSource, source_names, path_in_folder}
+use Rattle.lfs_model.specs.layers.Source.{HaveBadOrRepeated, TreeSource, source_names, path_in_folder}
 use Rattle.lfs_model.proofs.Counts.{Each, each_append, each_left, each_right}
 use Rattle.lfs_tool_folders.specs.SourceTrees.{IsUnchanged, listed_view}
 use Rattle.lfs_tool_folders.specs.MemorySources.{optional_bytes_view}
-use Rattle.lfs_tool_folders.specs.SourceEntries.{AreSourceEntries, AreRising, AreDepthFirst, AreSortedFolderNames, HasBadNames, HasSourceContents, IsSourceFolder, IsFolderReached, PathAndKind, listed_bytes, paths_in_folder}
+use Rattle.lfs_tool_folders.specs.SourceEntries.{AreSourceEntries, AreRising, AreDepthFirst, AreSortedFolderNames, HasBadNames, HasSourceContents, IsSourceFolder, IsFolderReached, PathAndKind, listed_name, paths_in_folder}
 use Rattle.lfs_tool_folders.specs.declared.source.ListedName.{ListedName}
 use Rattle.lfs_tool_folders.specs.declared.entries.SourceEntry.{SourceEntry}
 use Rattle.lfs_tool_folders.proofs.Order.{names_given}
@@ -40,7 +40,7 @@ holds_along a b path true (Some bytes) within x h = absurd h
 
 -- ---- names in a folder
 
-pub within_sorted : (known : Option TreeSource) (folder : List ℕ) (xs ys : List ListedName) → IfSome known (λ s. map listed_view xs ≡ s.names folder) → IsPermutation xs ys → AreRising (map listed_bytes ys)
+pub within_sorted : (known : Option TreeSource) (folder : List ℕ) (xs ys : List ListedName) → IfSome known (λ s. map listed_view xs ≡ s.names folder) → IsPermutation xs ys → AreRising (map listed_name ys)
     → AreSortedFolderNames known folder (map listed_view ys)
 within_sorted known folder xs ys e p o = record { order = subst AreRising (sym (names_given ys)) o; names = go known e }
   where
@@ -125,13 +125,13 @@ folders_on (Some s) front p places bytes within h holds after =
 
 -- ---- faults
 
-pub bad_below : (known now : Option TreeSource) (front : List PathAndKind) (p : PathAndKind) → AreFolders known (front ++ p ∷ []) → IsUnchanged known now → p.1 ≡ true → IfSome now (λ s. HaveBadName (source_names (s.names p.0)))
+pub bad_below : (known now : Option TreeSource) (front : List PathAndKind) (p : PathAndKind) → AreFolders known (front ++ p ∷ []) → IsUnchanged known now → p.1 ≡ true → IfSome now (λ s. HaveBadOrRepeated (source_names (s.names p.0)))
     → IfSome known HasBadNames
 bad_below None now front p h x is bad = tt
 bad_below (Some s) None front p h x is bad = absurd x
 bad_below (Some s) (Some t) front p h x is bad =
     let here = each_right (LeadsHere s) front (p ∷ []) h in
-    (p.0, (here.0 is, subst (λ u. HaveBadName (source_names (u.names p.0))) x bad))
+    (p.0, (here.0 is, subst (λ u. HaveBadOrRepeated (source_names (u.names p.0))) x bad))
 
 pub either : (P Q R S : Type 0) → (P → R) → (Q → S) → P ⊎ Q → R ⊎ S
 either P Q R S f g (inl p) = inl (f p)

@@ -4,7 +4,7 @@ use Rattle.std.specs.List.Sorted.{IsPermutation}
 use Rattle.std.specs.declared.cmp.Ordering.TheVariants.{Less}
 use Rattle.lfs_model.specs.declared.order.NameOrder.TheVariants.{ShorterFirst}
 use Rattle.lfs_model.specs.format.Names.{Name, name_cmp, is_component, is_less}
-use Rattle.lfs_model.specs.layers.Source.{HaveBadName, TreeSource, source_names, path_in_folder}
+use Rattle.lfs_model.specs.layers.Source.{HaveBadOrRepeated, TreeSource, source_names, path_in_folder}
 use Rattle.lfs_tool_folders.specs.SourceTrees.{is_folder}
 use Rattle.lfs_tool_folders.specs.MemorySources.{optional_bytes_view}
 use Rattle.lfs_tool_folders.specs.declared.source.ListedName.{ListedName}
@@ -13,8 +13,8 @@ use Rattle.lfs_tool_folders.specs.declared.entries.WaitingEntry.{WaitingEntry}
 
 -- ---- names
 
-abbrev pub listed_bytes : ListedName → Name
-listed_bytes l = l.name.items
+abbrev pub listed_name : ListedName → Name
+listed_name l = l.name.items
 
 abbrev pub is_listed_before : ListedName → ListedName → Bool
 is_listed_before a b = is_less (name_cmp ShorterFirst a.name.items b.name.items)
@@ -82,4 +82,4 @@ IsSourceFolder s folder = (names : List Name) × IsFolderReached s [] names fold
 
 -- a folder in the source has names that aren't allowed in one
 abbrev pub HasBadNames : TreeSource → Type 0
-HasBadNames s = (folder : List ℕ) × (IsSourceFolder s folder × HaveBadName (source_names (s.names folder)))
+HasBadNames s = (folder : List ℕ) × (IsSourceFolder s folder × HaveBadOrRepeated (source_names (s.names folder)))

@@ -1,5 +1,5 @@
 ghost use Rattle.std.specs.Prelude.{◌≡◌, ◌++◌, ◌∷◌, [], IfOk, IfSome, IsErrOf, OnOk, map, reverse, true};
-ghost use Rattle.lfs_model.specs.layers.Source.{HaveBadName, source_names, path_in_folder};
+ghost use Rattle.lfs_model.specs.layers.Source.{HaveBadOrRepeated, source_names, path_in_folder};
 ghost use Rattle.lfs_tool_folders.specs.SourceTrees.{IsUnchanged, is_folder, listed_view};
 ghost use Rattle.lfs_tool_folders.specs.MemorySources.{optional_bytes_view};
 ghost use Rattle.lfs_tool_folders.specs.SourceEntries.{AreSourceEntries, AreSortedFolderNames, HasFaultOr, HasBadNames, HasSourceContents, waiting_view, paths_in_folder};
@@ -50,7 +50,7 @@ fn sorted_names<S: Source>(
     ensures shown { IsUnchanged (S.shown source.old) (S.shown source.new) }
     ensures kept { OnOk result (S.faults source.new ≡ S.faults source.old) }
     ensures fault { IsErrOf result SourceError.Fault
-        → HasFaultOr (S.faults source.old) (S.faults source.new) (IfSome (S.shown source.old) (λ s. HaveBadName (source_names (s.names folder.now)))) }
+        → HasFaultOr (S.faults source.old) (S.faults source.new) (IfSome (S.shown source.old) (λ s. HaveBadOrRepeated (source_names (s.names folder.now)))) }
     ensures no_memory { IsErrOf result SourceError.NoMemory → S.faults source.new ≡ S.faults source.old }
 {
     let mut names = source.list(alloc, folder)?;
@@ -98,7 +98,7 @@ fn push_folder_names<S: Source>(
     ensures shown { IsUnchanged (S.shown source.old) (S.shown source.new) }
     ensures kept { OnOk result (S.faults source.new ≡ S.faults source.old) }
     ensures fault { IsErrOf result SourceError.Fault
-        → HasFaultOr (S.faults source.old) (S.faults source.new) (IfSome (S.shown source.old) (λ s. HaveBadName (source_names (s.names folder.now)))) }
+        → HasFaultOr (S.faults source.old) (S.faults source.new) (IfSome (S.shown source.old) (λ s. HaveBadOrRepeated (source_names (s.names folder.now)))) }
     ensures no_memory { IsErrOf result SourceError.NoMemory → S.faults source.new ≡ S.faults source.old }
 {
     let mut names = sorted_names(alloc, source, folder)?;
@@ -120,7 +120,7 @@ fn read_waiting_entry<S: Source>(
     ensures kept { OnOk result (S.faults source.new ≡ S.faults source.old) }
     ensures fault { IsErrOf result SourceError.Fault
         → HasFaultOr (S.faults source.old) (S.faults source.new)
-        ((is_folder one.now.kind ≡ true) × IfSome (S.shown source.old) (λ s. HaveBadName (source_names (s.names one.now.path.items)))) }
+        ((is_folder one.now.kind ≡ true) × IfSome (S.shown source.old) (λ s. HaveBadOrRepeated (source_names (s.names one.now.path.items)))) }
     ensures no_memory { IsErrOf result SourceError.NoMemory → S.faults source.new ≡ S.faults source.old }
 {
     match one.kind {

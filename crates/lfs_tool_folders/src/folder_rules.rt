@@ -21,7 +21,7 @@ pub struct FolderRules<'a> {
 }
 
 // Returns where the character behind this byte begins.
-fn end_of_character(name: &[u8], at: usize) -> usize {
+fn next_character_start(name: &[u8], at: usize) -> usize {
     let mut end = at.saturating_add(1);
     for _ in 0..3 {
         match name.get(end) {
@@ -46,7 +46,7 @@ fn fits(pattern: &[u8], name: &[u8]) -> bool {
             }
             (Some(b'?'), Some(byte)) if *byte != b'/' => {
                 at = at.saturating_add(1);
-                from = end_of_character(name, from);
+                from = next_character_start(name, from);
             }
             (Some(wanted), Some(byte)) if wanted == byte => {
                 at = at.saturating_add(1);

@@ -210,7 +210,7 @@ impl<'a, R: Files + AllocGlobal + Clone + Drop> Folder<'a, R> {
     }
 
     // Returns the source's error for an error of std.
-    fn source_error_noted(&mut self, path: &[u8], error: io::Error) -> SourceError
+    fn convert_source_error(&mut self, path: &[u8], error: io::Error) -> SourceError
         ensures kind { (error_kind error ≡ ErrorKind.OutOfMemory) ↔ (result ≡ SourceError.NoMemory) }
         ensures fault { result ≡ SourceError.Fault → self.new.faults.count ≡ suc self.old.faults.count }
         ensures no_memory { result ≡ SourceError.NoMemory → self.new.faults.count ≡ self.old.faults.count }
@@ -230,7 +230,7 @@ impl<'a, R: Files + AllocGlobal + Clone + Drop> Source for Folder<'a, R> {
     fn list(&mut self, alloc: Global, folder: &[u8]) -> Result<Vec<ListedName>, SourceError> {
         match self.list_names(alloc, folder) {
             Ok(names) => Ok(names),
-            Err(error) => Err(self.source_error_noted(folder, error)),
+            Err(error) => Err(self.convert_source_error(folder, error)),
         }
     }
 
@@ -242,7 +242,7 @@ impl<'a, R: Files + AllocGlobal + Clone + Drop> Source for Folder<'a, R> {
     ) -> Result<Vec<u8>, SourceError> {
         match self.read_file_bytes(file, listed_len) {
             Ok(bytes) => Ok(bytes),
-            Err(error) => Err(self.source_error_noted(file, error)),
+            Err(error) => Err(self.convert_source_error(file, error)),
         }
     }
 }

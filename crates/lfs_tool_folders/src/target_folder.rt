@@ -102,7 +102,7 @@ impl<'a, R: Files + AllocGlobal + Clone + Drop> TargetFolder<'a, R> {
     }
 
     // Returns the target's error for an error of std.
-    fn target_error_noted(&mut self, path: &[u8], error: io::Error) -> TargetError
+    fn convert_target_error(&mut self, path: &[u8], error: io::Error) -> TargetError
         ensures kind { (error_kind error ≡ ErrorKind.OutOfMemory) ↔ (result ≡ TargetError.NoMemory) }
         ensures fault { result ≡ TargetError.Fault → self.new.faults.count ≡ suc self.old.faults.count }
         ensures no_memory { result ≡ TargetError.NoMemory → self.new.faults.count ≡ self.old.faults.count }
@@ -122,14 +122,14 @@ impl<'a, R: Files + AllocGlobal + Clone + Drop> Target for TargetFolder<'a, R> {
     fn make_folder(&mut self, _alloc: Global, path: &[u8]) -> Result<(), TargetError> {
         match self.make_folder_at(path) {
             Ok(()) => Ok(()),
-            Err(error) => Err(self.target_error_noted(path, error)),
+            Err(error) => Err(self.convert_target_error(path, error)),
         }
     }
 
     fn put_file(&mut self, _alloc: Global, path: &[u8], bytes: &[u8]) -> Result<(), TargetError> {
         match self.write_file_at(path, bytes) {
             Ok(()) => Ok(()),
-            Err(error) => Err(self.target_error_noted(path, error)),
+            Err(error) => Err(self.convert_target_error(path, error)),
         }
     }
 }

@@ -8,7 +8,7 @@ use Rattle.clap.specs.declared.builder.arg.Arg.{Arg}
 use Rattle.clap.specs.declared.builder.command.Command.{Command}
 use Rattle.clap.specs.declared.error.Error.{Error}
 use Rattle.clap.specs.declared.parser.matches.ArgMatches.{ArgMatches}
-use Rattle.lfs_tool_line.specs.Command.{image_rule, mklittlefs, with_board_options, with_extra_options, with_limit_options, with_mode_options, with_common_options, with_path_modes, with_size_options}
+use Rattle.lfs_tool_line.specs.Command.{image_argument, mklittlefs, with_board_options, with_extra_options, with_limit_options, with_mode_options, with_common_options, with_path_modes, with_size_options}
 use Rattle.lfs_tool_line.specs.Matches.{HasImage}
 use Rattle.lfs_tool_line.proofs.Given.{IsPlainApp, an_arg, args_there, required_reads}
 
@@ -18,7 +18,7 @@ plain_app = record { ready = refl; leaves = refl; free = refl; negates = refl }
 
 with_image : (c : Command) (m : ArgMatches) (d : Arg) → app_of c ≡ mklittlefs → IsParsedFrom c m → HasImage (found_of m)
 unfolding mklittlefs with_common_options with_mode_options with_path_modes with_size_options with_limit_options with_board_options with_extra_options
-with_image c m d same p = required_reads c m mklittlefs same plain_app p 27 d image_rule (lit< tt) refl refl refl refl refl refl
+with_image c m d same p = required_reads c m mklittlefs same plain_app p 27 d image_argument (lit< tt) refl refl refl refl refl refl
 
 pub parsed_image : (c : Command) (r : Result ArgMatches Error) → app_of c ≡ mklittlefs → IfOk r (λ m. IsParsedFrom c m) → IfOk r (λ m. HasImage (found_of m))
 unfolding mklittlefs with_common_options with_mode_options with_path_modes with_size_options with_limit_options with_board_options with_extra_options

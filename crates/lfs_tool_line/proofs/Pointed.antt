@@ -3,7 +3,7 @@ use Rattle.std.proofs.Common.{◌≡◌, ◌<◌, ◌+◌, ◌*◌, ◌/◌, ◌
 use Rattle.std.proofs.lemmas.Bool.{ltb-false}
 use Rattle.std.proofs.Math.Nat.{add-mul-mod_self_right, add-mul-div_right, le-mul_of_pos_right}
 use Rattle.std.specs.Char.{digit_value}
-use Rattle.lfs_tool_line.specs.Numbers.{parts_bytes, number_after, number_of_digits, fractional_number, fits_word}
+use Rattle.lfs_tool_line.specs.Numbers.{parts_bytes, number_after, number_of_digits, fractional_number, fitting_number}
 use Rattle.lfs_tool_line.proofs.Digits.{large_within}
 use Rattle.lfs_tool_line.proofs.Fractions.{digits_behind, power_some}
 
@@ -51,7 +51,7 @@ pointed_is unit (c ∷ cs) (d ∷ ds) some =
     go (Some n) = ap (parts_bytes unit (10 ^ length (d ∷ ds))) (digits_behind n (d ∷ ds))
         ∙ units_and_parts unit n (10 ^ length (d ∷ ds)) (number_after 10 0 (d ∷ ds)) (power_some (length (d ∷ ds)))
 
-pub within_some : (o : Option ℕ) (n : ℕ) → Some n ≡ fits_word o → o ≡ Some n
+pub within_some : (o : Option ℕ) (n : ℕ) → Some n ≡ fitting_number o → o ≡ Some n
 within_some None n is = cc
 within_some (Some m) n is = go (nat_lt m (2 ^ 32)) is
   where
@@ -60,25 +60,25 @@ within_some (Some m) n is = go (nat_lt m (2 ^ 32)) is
     go false e = cc
 
 -- where the units alone are too many, so are they with more
-none_with_more : (unit : ℕ) (o more : Option ℕ) → 0 < unit → None ≡ fits_word o → None ≡ fits_word (units_and_bytes unit o more)
+none_with_more : (unit : ℕ) (o more : Option ℕ) → 0 < unit → None ≡ fitting_number o → None ≡ fitting_number (units_and_bytes unit o more)
 none_with_more unit None more some is = refl
 none_with_more unit (Some n) None some is = refl
 none_with_more unit (Some n) (Some q) some is = go (nat_lt n (2 ^ 32)) refl is
   where
-    go : (b : Bool) → nat_lt n (2 ^ 32) ≡ b → None ≡ (if b then Some n else None) → None ≡ fits_word (Some (n * unit + q))
+    go : (b : Bool) → nat_lt n (2 ^ 32) ≡ b → None ≡ (if b then Some n else None) → None ≡ fitting_number (Some (n * unit + q))
     go true e h = cc
     go false e h = sym (large_within (n * unit + q) (omega (arith, ltb-false n (2 ^ 32) e, le-mul_of_pos_right {m = unit} n some)))
 
-pub none_of_units : (unit : ℕ) (whole fraction : List ℕ) → 0 < unit → 0 < length fraction → None ≡ fits_word (number_of_digits 10 whole)
-    → None ≡ fits_word (fractional_number unit whole fraction)
+pub none_of_units : (unit : ℕ) (whole fraction : List ℕ) → 0 < unit → 0 < length fraction → None ≡ fitting_number (number_of_digits 10 whole)
+    → None ≡ fitting_number (fractional_number unit whole fraction)
 none_of_units unit whole fraction some digit is =
     none_with_more unit (number_of_digits 10 whole) (parts_bytes unit (10 ^ length fraction) (number_after 10 0 fraction)) some is
-    ∙ sym (ap fits_word (pointed_is unit whole fraction digit))
+    ∙ sym (ap fitting_number (pointed_is unit whole fraction digit))
 
-pub units_of_pointed : (unit : ℕ) (whole fraction : List ℕ) (n : ℕ) (more : Option ℕ) → 0 < length fraction → Some n ≡ fits_word (number_of_digits 10 whole)
+pub units_of_pointed : (unit : ℕ) (whole fraction : List ℕ) (n : ℕ) (more : Option ℕ) → 0 < length fraction → Some n ≡ fitting_number (number_of_digits 10 whole)
     → more ≡ parts_bytes unit (10 ^ length fraction) (number_after 10 0 fraction)
-    → fits_word (option_map (λ q. n * unit + q) more) ≡ fits_word (fractional_number unit whole fraction)
+    → fitting_number (option_map (λ q. n * unit + q) more) ≡ fitting_number (fractional_number unit whole fraction)
 units_of_pointed unit whole fraction n more digit is parts =
-    ap fits_word (ap (option_map (λ q. n * unit + q)) parts
+    ap fitting_number (ap (option_map (λ q. n * unit + q)) parts
     ∙ (sym (ap (λ o. units_and_bytes unit o (parts_bytes unit (10 ^ length fraction) (number_after 10 0 fraction))) (within_some (number_of_digits 10 whole) n is))
     ∙ sym (pointed_is unit whole fraction digit)))

@@ -5,7 +5,7 @@ use Rattle.clap.specs.declared.error.ErrorKind.TheVariants as kind
 use Rattle.clap.proofs.OnLiterals.{clap_on_literals}
 use Rattle.lfs_tool_line.specs.Command.{mklittlefs, with_board_options, with_extra_options, with_limit_options, with_mode_options, with_common_options, with_path_modes, with_size_options}
 use Rattle.lfs_tool_line.specs.Matches.{faults, mode_count, rows}
-use Rattle.lfs_tool_line.specs.Numbers.{number_in_text, fits_word}
+use Rattle.lfs_tool_line.specs.Numbers.{number_in_text, fitting_number}
 use Rattle.lfs_tool_line.specs.Values.{is_option_auto, number_or, number_in_rows}
 
 abbrev create_line : List Text
@@ -63,8 +63,8 @@ unfolding number_in_text
 no_numbers = (refl, refl, refl, refl, refl, refl, refl, refl, refl, refl, refl, refl)
 
 -- the largest number in each form, and the next one
-largest : (fits_word (number_in_text (codes "0xffffffff")) ≡ Some 4294967295) × (fits_word (number_in_text (codes "0x100000000")) ≡ None)
-    × (fits_word (number_in_text (codes "4095.5M")) ≡ Some 4294443008) × (fits_word (number_in_text (codes "4096M")) ≡ None)
+largest : (fitting_number (number_in_text (codes "0xffffffff")) ≡ Some 4294967295) × (fitting_number (number_in_text (codes "0x100000000")) ≡ None)
+    × (fitting_number (number_in_text (codes "4095.5M")) ≡ Some 4294443008) × (fitting_number (number_in_text (codes "4096M")) ≡ None)
 unfolding number_in_text
 largest = (refl, refl, refl, refl)
 

@@ -3,9 +3,9 @@ use Rattle.std.specs.Prelude.{◌+◌, ◌-◌, ◌*◌, ◌/◌, ◌%◌, ◌^�
 use Rattle.std.specs.Char.{digit_value}
 
 -- the number, where it has 32 bits
-abbrev pub fits_word : Option ℕ → Option ℕ
-fits_word None = None
-fits_word (Some n) = if nat_lt n (2 ^ 32) then Some n else None
+abbrev pub fitting_number : Option ℕ → Option ℕ
+fitting_number None = None
+fitting_number (Some n) = if nat_lt n (2 ^ 32) then Some n else None
 
 -- the number that digits name behind those of n
 abbrev pub number_after : ℕ → ℕ → List ℕ → Option ℕ

@@ -3,12 +3,12 @@ use Rattle.std.specs.Prelude.{◌∷◌, [], Bool, List, Option, Some, None, ℕ
 use Rattle.std.specs.Str.{bytes_eq}
 use Rattle.clap.specs.Words.{Kinds, Row, Text, first_of, one_of}
 use Rattle.clap.specs.declared.error.ErrorKind.TheVariants.{ValueValidation}
-use Rattle.lfs_tool_line.specs.Numbers.{number_in_text, fits_word}
+use Rattle.lfs_tool_line.specs.Numbers.{number_in_text, fitting_number}
 
 -- the number of a text that is given
 abbrev pub given_number : Option Text → Option ℕ
 given_number None = None
-given_number (Some text) = fits_word (number_in_text text)
+given_number (Some text) = fitting_number (number_in_text text)
 
 abbrev pub number_in_rows : Text → List Row → Option ℕ
 number_in_rows id rows = given_number (first_of id rows)
@@ -16,21 +16,21 @@ number_in_rows id rows = given_number (first_of id rows)
 -- the text that is given, where it names no number
 abbrev pub bad_given_text : Option Text → Option Text
 bad_given_text None = None
-bad_given_text (Some text) = if is_some (fits_word (number_in_text text)) then None else Some text
+bad_given_text (Some text) = if is_some (fitting_number (number_in_text text)) then None else Some text
 
 -- the text of an option that takes a number, where it names none
 abbrev pub bad_option_number : Text → List Row → Option Text
 bad_option_number id rows = bad_given_text (first_of id rows)
 
 -- the first text, where there is one
-abbrev pub text_or_next : Option Text → Option Text → Option Text
-text_or_next None next = next
-text_or_next (Some text) next = Some text
+abbrev pub first_text : Option Text → Option Text → Option Text
+first_text None next = next
+first_text (Some text) next = Some text
 
 -- the first option's text that names no number
 abbrev pub first_bad_number : List Text → List Row → Option Text
 first_bad_number [] rows = None
-first_bad_number (id ∷ ids) rows = text_or_next (bad_option_number id rows) (first_bad_number ids rows)
+first_bad_number (id ∷ ids) rows = first_text (bad_option_number id rows) (first_bad_number ids rows)
 
 -- the text says that the number is found elsewhere
 abbrev pub says_auto : Option Text → Bool
@@ -51,9 +51,9 @@ other_numbers = codes "offset" ∷ codes "name_max" ∷ codes "file_max" ∷ cod
 
 -- the first option's text that names no number, where it takes one
 abbrev pub first_bad_text : List Row → Option Text
-first_bad_text rows = text_or_next (bad_option_size (codes "block_size") rows)
-    (text_or_next (bad_option_number (codes "page") rows)
-    (text_or_next (bad_option_size (codes "size") rows) (first_bad_number other_numbers rows)))
+first_bad_text rows = first_text (bad_option_size (codes "block_size") rows)
+    (first_text (bad_option_number (codes "page") rows)
+    (first_text (bad_option_size (codes "size") rows) (first_bad_number other_numbers rows)))
 
 -- the error of a text that names no number; empty where each names one
 abbrev pub number_errors : List Row → Kinds

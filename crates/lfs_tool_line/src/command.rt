@@ -2,7 +2,7 @@
 
 ghost use Rattle.std.specs.Prelude.{◌≡◌, IfOk, codes, map, false};
 ghost use Rattle.clap.specs.Words.{FailsBy, app_of, fault_of, found_of, kind_of, new_app, rows_of, rule_of, with_rule};
-ghost use Rattle.lfs_tool_line.specs.Command.{check_rule, explain_rule, folder_rule, image_rule, list_rule, mklittlefs, number_rule, order_rule, with_mode_options, with_common_options, with_size_options, with_version};
+ghost use Rattle.lfs_tool_line.specs.Command.{check_option, explain_option, folder_option, image_argument, list_option, mklittlefs, number_option, order_option, with_mode_options, with_common_options, with_size_options, with_version};
 ghost use Rattle.lfs_tool_line.specs.Matches.{HasImage, faults, rows};
 
 use crate::extra_options::with_extra_options;
@@ -107,7 +107,7 @@ Progress:
   At a terminal -c and -u show how much is done, once a second has gone by.";
 
 fn folder_arg<'a>(alloc: Global, id: &'a str, short: char, help: &'a str) -> Arg<'a>
-    ensures rule { rule_of result ≡ folder_rule id.entry.now short }
+    ensures rule { rule_of result ≡ folder_option id.entry.now short }
     ensures local { result.global ≡ false }
 {
     Arg::new(alloc, id)
@@ -126,7 +126,7 @@ fn with_folder_option<'a>(
     short: char,
     help: &'a str,
 ) -> Result<Command<'a>, AllocError>
-    ensures { IfOk result (λ c. app_of c ≡ with_rule (app_of command.entry) (folder_rule id.entry.now short)) }
+    ensures { IfOk result (λ c. app_of c ≡ with_rule (app_of command.entry) (folder_option id.entry.now short)) }
 {
     command.arg(folder_arg(alloc, id, short, help))
 }
@@ -139,13 +139,13 @@ fn with_number_option<'a>(
     names: (char, &'a str),
     help: &'a str,
 ) -> Result<Command<'a>, AllocError>
-    ensures { IfOk result (λ c. app_of c ≡ with_rule (app_of command.entry) (number_rule id.entry.now names.entry.0 names.entry.1.now)) }
+    ensures { IfOk result (λ c. app_of c ≡ with_rule (app_of command.entry) (number_option id.entry.now names.entry.0 names.entry.1.now)) }
 {
     command.arg(number_arg(alloc, id, names.1, help).short(names.0))
 }
 
 fn list_arg<'a>(alloc: Global) -> Arg<'a>
-    ensures rule { rule_of result ≡ list_rule }
+    ensures rule { rule_of result ≡ list_option }
     ensures local { result.global ≡ false }
 {
     Arg::new(alloc, "list")
@@ -156,13 +156,13 @@ fn list_arg<'a>(alloc: Global) -> Arg<'a>
 }
 
 fn with_list_option<'a>(alloc: Global, command: Command<'a>) -> Result<Command<'a>, AllocError>
-    ensures { IfOk result (λ c. app_of c ≡ with_rule (app_of command.entry) list_rule) }
+    ensures { IfOk result (λ c. app_of c ≡ with_rule (app_of command.entry) list_option) }
 {
     command.arg(list_arg(alloc))
 }
 
 fn check_arg<'a>(alloc: Global) -> Arg<'a>
-    ensures rule { rule_of result ≡ check_rule }
+    ensures rule { rule_of result ≡ check_option }
     ensures local { result.global ≡ false }
 {
     Arg::new(alloc, "check")
@@ -172,13 +172,13 @@ fn check_arg<'a>(alloc: Global) -> Arg<'a>
 }
 
 fn with_check_option<'a>(alloc: Global, command: Command<'a>) -> Result<Command<'a>, AllocError>
-    ensures { IfOk result (λ c. app_of c ≡ with_rule (app_of command.entry) check_rule) }
+    ensures { IfOk result (λ c. app_of c ≡ with_rule (app_of command.entry) check_option) }
 {
     command.arg(check_arg(alloc))
 }
 
 fn name_order_arg<'a>(alloc: Global) -> Arg<'a>
-    ensures rule { rule_of result ≡ order_rule }
+    ensures rule { rule_of result ≡ order_option }
     ensures local { result.global ≡ false }
 {
     Arg::new(alloc, "order")
@@ -190,13 +190,13 @@ fn name_order_arg<'a>(alloc: Global) -> Arg<'a>
 }
 
 fn add_order_option<'a>(alloc: Global, command: Command<'a>) -> Result<Command<'a>, AllocError>
-    ensures { IfOk result (λ c. app_of c ≡ with_rule (app_of command.entry) order_rule) }
+    ensures { IfOk result (λ c. app_of c ≡ with_rule (app_of command.entry) order_option) }
 {
     command.arg(name_order_arg(alloc))
 }
 
 fn explain_arg<'a>(alloc: Global) -> Arg<'a>
-    ensures rule { rule_of result ≡ explain_rule }
+    ensures rule { rule_of result ≡ explain_option }
     ensures local { result.global ≡ false }
 {
     Arg::new(alloc, "explain")
@@ -206,13 +206,13 @@ fn explain_arg<'a>(alloc: Global) -> Arg<'a>
 }
 
 fn add_explain_option<'a>(alloc: Global, command: Command<'a>) -> Result<Command<'a>, AllocError>
-    ensures { IfOk result (λ c. app_of c ≡ with_rule (app_of command.entry) explain_rule) }
+    ensures { IfOk result (λ c. app_of c ≡ with_rule (app_of command.entry) explain_option) }
 {
     command.arg(explain_arg(alloc))
 }
 
 fn image_arg<'a>(alloc: Global) -> Arg<'a>
-    ensures rule { rule_of result ≡ image_rule }
+    ensures rule { rule_of result ≡ image_argument }
     ensures local { result.global ≡ false }
 {
     Arg::new(alloc, "image")
@@ -223,7 +223,7 @@ fn image_arg<'a>(alloc: Global) -> Arg<'a>
 }
 
 fn add_image_argument<'a>(alloc: Global, command: Command<'a>) -> Result<Command<'a>, AllocError>
-    ensures { IfOk result (λ c. app_of c ≡ with_rule (app_of command.entry) image_rule) }
+    ensures { IfOk result (λ c. app_of c ≡ with_rule (app_of command.entry) image_argument) }
 {
     command.arg(image_arg(alloc))
 }

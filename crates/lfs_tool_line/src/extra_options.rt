@@ -2,7 +2,7 @@
 
 ghost use Rattle.std.specs.Prelude.{◌≡◌, IfOk, codes};
 ghost use Rattle.clap.specs.Words.{app_of, rule_of, with_rule};
-ghost use Rattle.lfs_tool_line.specs.Command.{exclude_rule, valueless_rule, with_extra_options};
+ghost use Rattle.lfs_tool_line.specs.Command.{exclude_option, valueless_option, with_extra_options};
 
 use clap::{Arg, ArgAction, Command};
 use std::alloc::{AllocError, Global};
@@ -14,7 +14,7 @@ fn with_flag_option<'a>(
     id: &'a str,
     help: &'a str,
 ) -> Result<Command<'a>, AllocError>
-    ensures { IfOk result (λ c. app_of c ≡ with_rule (app_of command.entry) (valueless_rule id.entry.now)) }
+    ensures { IfOk result (λ c. app_of c ≡ with_rule (app_of command.entry) (valueless_option id.entry.now)) }
 {
     let arg = Arg::new(alloc, id)
         .long(id)
@@ -24,7 +24,7 @@ fn with_flag_option<'a>(
 }
 
 fn with_exclude_option<'a>(alloc: Global, command: Command<'a>) -> Result<Command<'a>, AllocError>
-    ensures { IfOk result (λ c. app_of c ≡ with_rule (app_of command.entry) exclude_rule) }
+    ensures { IfOk result (λ c. app_of c ≡ with_rule (app_of command.entry) exclude_option) }
 {
     let arg = Arg::new(alloc, "exclude")
         .long("exclude")

@@ -2,7 +2,7 @@
 
 ghost use Rattle.std.specs.Prelude.{◌≡◌, IfOk, false};
 ghost use Rattle.clap.specs.Words.{app_of, rule_of, with_rule};
-ghost use Rattle.lfs_tool_line.specs.Command.{text_rule, put_rule, with_path_modes};
+ghost use Rattle.lfs_tool_line.specs.Command.{text_option, put_option, with_path_modes};
 
 use clap::{Arg, ArgAction, Command};
 use std::alloc::{AllocError, Global};
@@ -14,7 +14,7 @@ fn with_path_option<'a>(
     id: &'a str,
     help: &'a str,
 ) -> Result<Command<'a>, AllocError>
-    ensures { IfOk result (λ c. app_of c ≡ with_rule (app_of command.entry) (text_rule id.entry.now id.entry.now)) }
+    ensures { IfOk result (λ c. app_of c ≡ with_rule (app_of command.entry) (text_option id.entry.now id.entry.now)) }
 {
     let arg = Arg::new(alloc, id)
         .long(id)
@@ -25,7 +25,7 @@ fn with_path_option<'a>(
 }
 
 fn put_arg<'a>(alloc: Global) -> Arg<'a>
-    ensures rule { rule_of result ≡ put_rule }
+    ensures rule { rule_of result ≡ put_option }
     ensures local { result.global ≡ false }
 {
     Arg::new(alloc, "put")
@@ -36,7 +36,7 @@ fn put_arg<'a>(alloc: Global) -> Arg<'a>
 }
 
 fn with_put_option<'a>(alloc: Global, command: Command<'a>) -> Result<Command<'a>, AllocError>
-    ensures { IfOk result (λ c. app_of c ≡ with_rule (app_of command.entry) put_rule) }
+    ensures { IfOk result (λ c. app_of c ≡ with_rule (app_of command.entry) put_option) }
 {
     command.arg(put_arg(alloc))
 }

@@ -1,13 +1,13 @@
 // The numbers of a command line.
 
 ghost use Rattle.std.specs.Prelude.{◌≡◌, ◌≤◌, ◌<◌, ◌^◌, ◌*◌, ◌+◌, ◌==◌, IfSome, Some, length, position};
-ghost use Rattle.lfs_tool_line.specs.Numbers.{parts_bytes, bytes_of_unit, decimal_number, number_after, number_by_point, number_in_text, number_of_digits, fractional_number, fits_word};
+ghost use Rattle.lfs_tool_line.specs.Numbers.{parts_bytes, bytes_of_unit, decimal_number, number_after, number_by_point, number_in_text, number_of_digits, fractional_number, fitting_number};
 
 // Returns the number that digits name, one or more.
 fn number_of_digits(digits: &[u8], radix: u32) -> Option<u32>
     requires two { 2 ≤ radix }
     requires sixteen { radix ≤ 16 }
-    ensures { result ≡ fits_word (number_of_digits radix digits.now) }
+    ensures { result ≡ fitting_number (number_of_digits radix digits.now) }
 {
     if digits.is_empty() {
         return None;
@@ -27,7 +27,7 @@ fn number_of_digits(digits: &[u8], radix: u32) -> Option<u32>
 
 // Returns the number that decimal digits name. A plus may stand before them, and a minus before 0.
 fn decimal_number(text: &[u8]) -> Option<u32>
-    ensures { result ≡ fits_word (decimal_number text.now) }
+    ensures { result ≡ fitting_number (decimal_number text.now) }
 {
     if text.is_empty() {
         return None;
@@ -78,7 +78,7 @@ fn bytes_of_fraction(digits: &[u8], unit: u32) -> Option<u32>
 
 // Returns so many units and so many bytes more, where they are 32 bits.
 fn bytes_of_units(count: u32, unit: u32, more: u32) -> Option<u32>
-    ensures { result ≡ fits_word (Some (count * unit + more)) }
+    ensures { result ≡ fitting_number (Some (count * unit + more)) }
 {
     let bytes = count as u64 * unit as u64 + more as u64;
     if bytes <= 0xFFFF_FFFF {
@@ -92,7 +92,7 @@ fn bytes_of_units(count: u32, unit: u32, more: u32) -> Option<u32>
 fn fractional_number(whole: &[u8], fraction: &[u8], unit: u32) -> Option<u32>
     requires some { 0 < unit }
     requires most { unit ≤ 1048576 }
-    ensures { result ≡ fits_word (fractional_number unit whole.now fraction.now) }
+    ensures { result ≡ fitting_number (fractional_number unit whole.now fraction.now) }
 {
     if fraction.is_empty() {
         return None;
@@ -118,7 +118,7 @@ fn first_point(text: &[u8]) -> Option<usize>
 fn number_of_units(text: &[u8], unit: u32) -> Option<u32>
     requires some { 0 < unit }
     requires most { unit ≤ 1048576 }
-    ensures { result ≡ fits_word (number_by_point unit text.now (position (λ c. c == 46) text.now)) }
+    ensures { result ≡ fitting_number (number_by_point unit text.now (position (λ c. c == 46) text.now)) }
 {
     match first_point(text) {
         Some(point) => fractional_number(&text[..point], &text[point + 1..], unit),
@@ -132,7 +132,7 @@ fn number_of_units(text: &[u8], unit: u32) -> Option<u32>
 // Returns the number that a text names, as 4096, 0x1000, 4k and 1.5M do.
 #[tactic(auto, unfolding(crate::specs::Numbers::number_in_text))]
 pub(crate) fn number_in_text(text: &str) -> Option<u32>
-    ensures { result ≡ fits_word (number_in_text text.now) }
+    ensures { result ≡ fitting_number (number_in_text text.now) }
 {
     let bytes = text.as_bytes();
     if bytes.len() >= 2 && bytes[0] == b'0' && (bytes[1] == b'x' || bytes[1] == b'X') {

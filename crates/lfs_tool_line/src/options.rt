@@ -2,14 +2,14 @@
 
 ghost use Rattle.std.specs.Prelude.{◌≡◌, IfOk, false};
 ghost use Rattle.clap.specs.Words.{app_of, rule_of, with_rule};
-ghost use Rattle.lfs_tool_line.specs.Command.{board_rule, version_rule, text_rule, with_board_options, with_limit_options};
+ghost use Rattle.lfs_tool_line.specs.Command.{board_option, version_option, text_option, with_board_options, with_limit_options};
 
 use clap::{Arg, ArgAction, Command};
 use std::alloc::{AllocError, Global};
 
 // Returns an option that takes a number, with its long name alone.
 pub(crate) fn number_arg<'a>(alloc: Global, id: &'a str, long: &'a str, help: &'a str) -> Arg<'a>
-    ensures rule { rule_of result ≡ text_rule id.entry.now long.entry.now }
+    ensures rule { rule_of result ≡ text_option id.entry.now long.entry.now }
     ensures local { result.global ≡ false }
 {
     Arg::new(alloc, id)
@@ -27,13 +27,13 @@ pub(crate) fn with_limit_option<'a>(
     long: &'a str,
     help: &'a str,
 ) -> Result<Command<'a>, AllocError>
-    ensures { IfOk result (λ c. app_of c ≡ with_rule (app_of command.entry) (text_rule id.entry.now long.entry.now)) }
+    ensures { IfOk result (λ c. app_of c ≡ with_rule (app_of command.entry) (text_option id.entry.now long.entry.now)) }
 {
     command.arg(number_arg(alloc, id, long, help))
 }
 
 fn board_arg<'a>(alloc: Global) -> Arg<'a>
-    ensures rule { rule_of result ≡ board_rule }
+    ensures rule { rule_of result ≡ board_option }
     ensures local { result.global ≡ false }
 {
     Arg::new(alloc, "board")
@@ -44,13 +44,13 @@ fn board_arg<'a>(alloc: Global) -> Arg<'a>
 }
 
 fn with_board_option<'a>(alloc: Global, command: Command<'a>) -> Result<Command<'a>, AllocError>
-    ensures { IfOk result (λ c. app_of c ≡ with_rule (app_of command.entry) board_rule) }
+    ensures { IfOk result (λ c. app_of c ≡ with_rule (app_of command.entry) board_option) }
 {
     command.arg(board_arg(alloc))
 }
 
 fn later_version_arg<'a>(alloc: Global) -> Arg<'a>
-    ensures rule { rule_of result ≡ version_rule }
+    ensures rule { rule_of result ≡ version_option }
     ensures local { result.global ≡ false }
 {
     Arg::new(alloc, "later")
@@ -60,7 +60,7 @@ fn later_version_arg<'a>(alloc: Global) -> Arg<'a>
 }
 
 fn with_later_version<'a>(alloc: Global, command: Command<'a>) -> Result<Command<'a>, AllocError>
-    ensures { IfOk result (λ c. app_of c ≡ with_rule (app_of command.entry) version_rule) }
+    ensures { IfOk result (λ c. app_of c ≡ with_rule (app_of command.entry) version_option) }
 {
     command.arg(later_version_arg(alloc))
 }

@@ -1,6 +1,6 @@
 -- Contents of a writer that are written beside an image.
 use Rattle.std.proofs.Common.{ℕ, ◌≡◌, ◌<◌, ◌≤◌, ◌+◌, ◌/◌, ◌∙◌, Bool, true, false, List, length, min, max, Option, Some, None, Result, Ok, Err, inl, refl, sym, ap, subst, arith}
-use Rattle.lfs_tree.proofs.Common.{min-le_right, is_file, AreUsed, used_count, SameGeometry, disk_block, block_count, inline_limit, DiskSummary, slot_of, Slot, Pair, pairs_gstate, count_before_root, Path, Tree, IsAccepted, IsWritable, disk_tree, used_blocks, Blocks, CachedBlocks, HasEitherTree, SurvivesLossSince, with_blocks, IsChangedImage, HoldsAtLosses-weaker, HoldsAtLosses-worst, SameFileBlocks, file_blocks_same, CanTruncate, CanWrite, HaveThreadForm, KeepsPairs, ThreadReportsFaults, contents_list_blocks, KeptThread, ThreadView, SoundUnlessFailed, IsSoundWithRoot, uncached_state, thread_state, CanTruncateIn, CanWriteIn, AreThreadContents, slot_blocks, writer_contents_bytes, list_blocks_at, IsFailedTree, HasErrorCause, IsSoundState, TreeState, contents_bytes, contents_form, ContentsForm, AreUsedAmong}
+use Rattle.lfs_tree.proofs.Common.{min-le_right, is_file, AreUsed, used_count, SameGeometry, disk_block, block_count, inline_limit, DiskSummary, slot_of, Slot, Pair, pairs_gstate, count_before_root, Path, Tree, IsAccepted, IsWritable, disk_tree, used_blocks, Blocks, CachedBlocks, HasEitherTree, SurvivesLossSince, with_blocks, IsChangedImage, HoldsAtLosses-weaker, HoldsAtLosses-worst, SameFileBlocks, file_blocks_same, CanTruncate, CanWrite, HaveThreadForm, KeepsPairs, ThreadReportsFaults, contents_list_blocks, KeptThread, ThreadView, SoundUnlessFailed, SoundWithRoot, uncached_state, thread_state, CanTruncateIn, CanWriteIn, AreThreadContents, slot_blocks, writer_contents_bytes, list_blocks_at, IsFailedTree, HasErrorCause, IsSoundState, TreeState, contents_bytes, contents_form, ContentsForm, AreUsedAmong}
 use Rattle.std.specs.Prelude.{Contains, IfErr, IfOk, OnErr, OnOk}
 use Rattle.lfs_device.specs.declared.error.Error.{Error}
 use Rattle.lfs_device.specs.declared.error.Error.TheVariants.{Io}
@@ -12,7 +12,7 @@ use Rattle.lfs_tree.proofs.SameErrors.{same_error}
 use Rattle.lfs_tree.proofs.Asking.{behind}
 use Rattle.lfs_tree.proofs.SlotsHave.{slot_has}
 use Rattle.lfs_tree.proofs.UsedBlocks.{count_is}
-use Rattle.lfs_file.specs.Contents.{FormFitsInline, NeedsTruncateRoom, truncation_room, write_room}
+use Rattle.lfs_file.specs.Contents.{FormFitsLimit, NeedsTruncateRoom, truncation_room, write_room}
 use Rattle.lfs_file.specs.Form.{form_size}
 use Rattle.lfs_file.specs.declared.contents.WriterContents.{WriterContents}
 use Rattle.lfs_file.proofs.Used.{used_back}
@@ -85,11 +85,11 @@ left_beside t blocks accepted fits used spared =
     record { pairs = t.pairs; accepted = f.accepted; writable = writable_on t.disk (with_blocks blocks t.disk) t.pairs same fits; tree = inl f.shows }
 
 -- the calls of a tree
-module _ (a b : ThreadView) (root : ℕ) (writable : Bool) (h : IsSoundWithRoot a root writable) (still : b.failed ≡ false) (leaves : KeepsPairs a.kept b.kept) where
+module _ (a b : ThreadView) (root : ℕ) (writable : Bool) (h : SoundWithRoot a root writable) (still : b.failed ≡ false) (leaves : KeepsPairs a.kept b.kept) where
   abbrev sound : IsSoundState (uncached_state a.kept writable false)
   sound = h.sound
 
-  pub rooted_beside : IsSoundWithRoot b root writable
+  pub rooted_beside : SoundWithRoot b root writable
   rooted_beside = record { works = still; sound = sound_beside a.kept b.kept writable leaves sound; root_is = h.root_is ∙ ap count_before_root (sym leaves.pairs) }
 
   written_beside : (r : Result WriterContents Error) → ThreadReportsFaults a.kept b.kept r → OnOk r (KeepsImage (thread_state a writable) (thread_state (behind b r) writable))
@@ -162,7 +162,7 @@ module _ (t : KeptThread) (writable : Bool) (limit : ℕ) (sound : IsSoundState 
   can_write failed contents place count can = record {
     stands = can.stands;
     fits = record {
-      large = subst (λ (n : ℕ). FormFitsInline n (contents_form contents)) (sym is) can.large;
+      large = subst (λ (n : ℕ). FormFitsLimit n (contents_form contents)) (sym is) can.large;
       short = limit_short t.disk.profile t.disk.block_size limit large is;
       some = can.some;
       small = can.small;
@@ -174,7 +174,7 @@ module _ (t : KeptThread) (writable : Bool) (limit : ℕ) (sound : IsSoundState 
   can_truncate failed contents size can = record {
     stands = can.stands;
     fits = record {
-      large = subst (λ (n : ℕ). FormFitsInline n (contents_form contents)) (sym is) can.large;
+      large = subst (λ (n : ℕ). FormFitsLimit n (contents_form contents)) (sym is) can.large;
       short = limit_short t.disk.profile t.disk.block_size limit large is;
       small = can.small;
       room = λ needs. room_is (truncation_room t.disk.block_size size (contents_form contents)) (can.room (subst (λ (n : ℕ). NeedsTruncateRoom n size (contents_form contents)) is needs));

@@ -1,8 +1,8 @@
 -- A file that the image hasn't any more, whose blocks are freed in the map.
 use Rattle.std.proofs.Common.{ℕ, ◌≡◌, ◌≢◌, ◌⊎◌, inl, inr, ◌<◌, ◌≤◌, ◌+◌, ◌-◌, ◌∙◌, Bool, true, false, List, [], ◌∷◌, ◌++◌, length, slice_get, Some, Result, Ok, Err, refl, sym, ap, subst, arith, append-nil, cond}
 use Rattle.std.specs.Prelude.{Contains, OnOk, ◌↔◌}
-use Rattle.lfs_tree.proofs.Common.{cases_lt, All-from_recursion, recursion_from_All, same_Some, CanSettleFile, ChangesOnlyMap, IsListSettled, stored_list_blocks, AreUsed, BlockStates, IsInFlight, IsUsedBlock, Free, InFlight, Used, Disk, SameGeometry, disk_block, CallEvent, Slot, Struct, Pair, pairs_blocks, pairs_gstate, address_blocks, IsFormedList, all_unmoved_slots, struct_blocks, used_blocks, Contains-number_occurrences, number_occurrences-Contains, no_move_from, Each, number_occurrences, count_append, each_from_counted, each_pieces, each_right, once_from_distinct, SameFileBlocks, file_blocks_same, is_list_same, HoldsAtLosses-read_count, HoldsAtLosses-trans, file_blocks, unmoved_in, SameInFlight, CanEditIn, editable_slot, IsReadyImage, IsReadyUnsettled, drops_with_its_slot, written_by_removal, KeptThread, ChangesThreadBlocks, thread_pair, WritesThreadFree, IsStorage, list_in_storage, IsListOrEmpty, SettlesList, empty_list}
-use Rattle.lfs_model.specs.format.Blocks.{SameExceptThese}
+use Rattle.lfs_tree.proofs.Common.{cases_lt, All-from_recursion, recursion_from_All, same_Some, CanSettleLists, ChangesOnlyMap, IsListSettled, stored_list_blocks, AreUsed, BlockStates, IsInFlight, IsUsedBlock, Free, InFlight, Used, Disk, SameGeometry, disk_block, CallEvent, Slot, Struct, Pair, pairs_blocks, pairs_gstate, address_blocks, IsFormedList, all_unmoved_slots, struct_blocks, used_blocks, Contains-number_occurrences, number_occurrences-Contains, no_move_from, Each, number_occurrences, count_append, each_from_counted, each_pieces, each_right, once_from_distinct, SameFileBlocks, file_blocks_same, is_list_same, HoldsAtLosses-read_count, HoldsAtLosses-trans, file_blocks, unmoved_in, SameInFlight, CanEditIn, editable_slot, IsReadyImage, IsReadyUnsettled, drops_emptied_pair, removal_written_address, KeptThread, ChangesThreadBlocks, thread_pair, WritesThreadFree, IsStorage, list_in_storage, IsListOrEmpty, SettlesList, empty_list}
+use Rattle.lfs_model.specs.format.Blocks.{SameExceptBlocks}
 use Rattle.lfs_model.proofs.Histories.{LossLeavesAtWorst-read, StayUnprogrammed-read_count, StayUnprogrammed-trans}
 use Rattle.lfs_thread.specs.ThreadSteps.{SameGeometryAs}
 use Rattle.lfs_tree.specs.Removals.{CanFreeList}
@@ -48,24 +48,24 @@ counted_of : (bs : List ℕ) (at other : ℕ × ℕ) (b : Bool) → (1 ≤ numbe
 counted_of bs at other true h k = h
 counted_of bs at other false h k = k
 
-in_pairs : (t : KeptThread) (index first : ℕ) → index < length t.pairs → (1 ≤ number_occurrences (written_by_removal t index first).0 (pairs_blocks t.pairs)) × (1 ≤ number_occurrences (written_by_removal t index first).1 (pairs_blocks t.pairs))
+in_pairs : (t : KeptThread) (index first : ℕ) → index < length t.pairs → (1 ≤ number_occurrences (removal_written_address t index first).0 (pairs_blocks t.pairs)) × (1 ≤ number_occurrences (removal_written_address t index first).1 (pairs_blocks t.pairs))
 in_pairs t index first below =
     let a = pair_blocks t.pairs (index - 1) (omega arith) in
     let b = pair_blocks t.pairs index below in
-    counted_of (pairs_blocks t.pairs) (thread_pair t (index - 1)).at (thread_pair t index).at (drops_with_its_slot t index first)
+    counted_of (pairs_blocks t.pairs) (thread_pair t (index - 1)).at (thread_pair t index).at (drops_emptied_pair t index first)
     (number_occurrences-Contains (pairs_blocks t.pairs) (thread_pair t (index - 1)).at.0 a.0, number_occurrences-Contains (pairs_blocks t.pairs) (thread_pair t (index - 1)).at.1 a.1)
     (number_occurrences-Contains (pairs_blocks t.pairs) (thread_pair t index).at.0 b.0, number_occurrences-Contains (pairs_blocks t.pairs) (thread_pair t index).at.1 b.1)
 
 -- those of a pair, and of one in front of it
-pub written_pairs : (t : KeptThread) (index first : ℕ) → index < length t.pairs → Contains (pairs_blocks t.pairs) (written_by_removal t index first).0 × Contains (pairs_blocks t.pairs) (written_by_removal t index first).1
+pub written_pairs : (t : KeptThread) (index first : ℕ) → index < length t.pairs → Contains (pairs_blocks t.pairs) (removal_written_address t index first).0 × Contains (pairs_blocks t.pairs) (removal_written_address t index first).1
 written_pairs t index first below =
     let k = in_pairs t index first below in
-    (Contains-number_occurrences (pairs_blocks t.pairs) (written_by_removal t index first).0 k.0, Contains-number_occurrences (pairs_blocks t.pairs) (written_by_removal t index first).1 k.1)
+    (Contains-number_occurrences (pairs_blocks t.pairs) (removal_written_address t index first).0 k.0, Contains-number_occurrences (pairs_blocks t.pairs) (removal_written_address t index first).1 k.1)
 
 -- calls that only read, behind those that write
 pub writes_then : (a b c : KeptThread) (bs : List ℕ) → ChangesThreadBlocks bs a b → ChangesOnlyMap b c → ChangesThreadBlocks bs a c
 writes_then a b c bs w r = record {
-  others = subst (λ (d : Disk). SameExceptThese bs a.disk.blocks d.blocks) (sym r.disk) w.others;
+  others = subst (λ (d : Disk). SameExceptBlocks bs a.disk.blocks d.blocks) (sym r.disk) w.others;
   elsewhere = StayUnprogrammed-trans w.elsewhere (StayUnprogrammed-read_count bs r.reads);
   shape = subst (SameGeometryAs a.disk) (sym r.disk) w.shape;
   at_worst = HoldsAtLosses-trans w.at_worst (HoldsAtLosses-read_count LossLeavesAtWorst-read r.reads w.others);
@@ -77,9 +77,9 @@ not_both sets b is flies = let k : Used ≡ InFlight = same_Some Used InFlight (
 pub not_free : (sets : BlockStates) (b : ℕ) → slice_get sets b ≡ Some Free → IsInFlight sets b → ⊥
 not_free sets b is flies = let k : Free ≡ InFlight = same_Some Free InFlight (sym is ∙ flies) in absurd (cc)
 
-pub file_writes : (old new : KeptThread) (index id first : ℕ) (can : CanEditIn old index id) → ChangesThreadBlocks (address_blocks (written_by_removal old index first)) old new → WritesThreadFree old new
+pub file_writes : (old new : KeptThread) (index id first : ℕ) (can : CanEditIn old index id) → ChangesThreadBlocks (address_blocks (removal_written_address old index first)) old new → WritesThreadFree old new
 file_writes old new index id first can w = record {
-  blocks = address_blocks (written_by_removal old index first);
+  blocks = address_blocks (removal_written_address old index first);
   each = (let k = written_pairs old index first (behind_below old.pairs can.first index can.stands.pair can.stands.rest can.stands.place) in (inl k.0, (inl k.1, tt)));
   writes = w;
 }
@@ -88,11 +88,11 @@ pub shape_geometry : (old new : KeptThread) → SameGeometryAs old.disk new.disk
 shape_geometry old new s = record { block_size = s.block_size; page = s.page; order = s.order; profile = s.profile; count = s.count }
 
 -- the written blocks aren't the file's
-pub files_stay : (old mid : KeptThread) (index id first : ℕ) (can : CanEditIn old index id) → ChangesThreadBlocks (address_blocks (written_by_removal old index first)) old mid → SameFileBlocks old.disk mid.disk (editable_slot can).struct
+pub files_stay : (old mid : KeptThread) (index id first : ℕ) (can : CanEditIn old index id) → ChangesThreadBlocks (address_blocks (removal_written_address old index first)) old mid → SameFileBlocks old.disk mid.disk (editable_slot can).struct
 files_stay old mid index id first can w = each_from_counted (λ b. disk_block mid.disk b ≡ disk_block old.disk b) (struct_blocks old.disk (editable_slot can).struct) (λ b some. w.others.others b
-    (All-from_recursion (λ c. c ≢ b) (address_blocks (written_by_removal old index first)) (other b some (written_by_removal old index first).0 in_pair.0, (other b some (written_by_removal old index first).1 in_pair.1, tt))))
+    (All-from_recursion (λ c. c ≢ b) (address_blocks (removal_written_address old index first)) (other b some (removal_written_address old index first).0 in_pair.0, (other b some (removal_written_address old index first).1 in_pair.1, tt))))
   where
-    in_pair : (1 ≤ number_occurrences (written_by_removal old index first).0 (pairs_blocks old.pairs)) × (1 ≤ number_occurrences (written_by_removal old index first).1 (pairs_blocks old.pairs))
+    in_pair : (1 ≤ number_occurrences (removal_written_address old index first).0 (pairs_blocks old.pairs)) × (1 ≤ number_occurrences (removal_written_address old index first).1 (pairs_blocks old.pairs))
     in_pair = in_pairs old index first (behind_below old.pairs can.first index can.stands.pair can.stands.rest can.stands.place)
 
     other : (b : ℕ) → 1 ≤ number_occurrences b (struct_blocks old.disk (editable_slot can).struct) → (c : ℕ) → 1 ≤ number_occurrences c (pairs_blocks old.pairs) → c ≢ b
@@ -131,7 +131,7 @@ beside_is a b r =
     ∙ ap (λ (ps : List Pair). let k : KeptThread = record { disk = a.disk; history = b.history; pairs = ps; map = b.map } in k) r.pairs
 
 module _ (t : KeptThread) (contents : FileStorage) (can : CanFreeList t contents) where
-  pub can_settle : CanSettleFile t (list_in_storage contents) empty_list
+  pub can_settle : CanSettleLists t (list_in_storage contents) empty_list
   can_settle = record {
     was = can.list;
     list = inl refl;

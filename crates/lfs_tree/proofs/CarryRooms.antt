@@ -1,7 +1,7 @@
 -- What the checks of an operation have shown, as its steps ask for it.
 use Rattle.std.proofs.Common.{ℕ, ◌≡◌, ◌≢◌, ◌<◌, ◌∙◌, ◌&&◌, Bool, true, false, zero, suc, [], ◌∷◌, length, Some, refl, sym, ap₂, subst, arith, set, length-set}
 use Rattle.std.specs.Prelude.{slice_get}
-use Rattle.lfs_tree.proofs.Common.{list_all, min-le_right, ltb-false, same_Some, last_name, BlockStates, IsFree, state_in_flight, Free, InFlight, is_component, is_valid_name, name_max_of, DiskSummary, has_long_name, Path, slice_get-set_other, slice_get-set_same, used_count-AreUsed, HasTwoFree, HasFreeBlocks, KeptThread, HasNeededBlocks, uncached_state, IsSoundState}
+use Rattle.lfs_tree.proofs.Common.{list_all, min-le_right, ltb-false, same_Some, last_name, BlockStates, IsFree, state_in_flight, Free, InFlight, is_component, is_valid_name, profile_name_max, DiskSummary, has_long_name, Path, slice_get-set_other, slice_get-set_same, used_count-AreUsed, HasTwoFree, HasFreeBlocks, KeptThread, HasNeededBlocks, uncached_state, IsSoundState}
 use Rattle.std.proofs.lemmas.Bool.{le-leb}
 use Rattle.lfs_model.specs.layers.BlockSets.{is_used}
 use Rattle.lfs_model.proofs.BlockSets.{count_by-set, counts_from_none_free}
@@ -60,6 +60,6 @@ last_component (n ∷ m ∷ path) some all = last_component (m ∷ path) (λ e. 
 pub last_is_name : (around : DiskSummary) (path : Path) → path ≢ [] → list_all is_component path ≡ true → has_long_name around path ≡ false → is_valid_name (last_name path) ≡ true
 last_is_name around path some all long =
     let n = length (last_name path) in
-    let short = ltb-false (name_max_of around.profile) n long in
+    let short = ltb-false (profile_name_max around.profile) n long in
     let most = min-le_right around.profile.name_max 255 in
     ap₂ (λ x y. x && y) (last_component path some all) (le-leb n 255 (omega arith))

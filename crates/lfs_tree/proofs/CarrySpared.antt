@@ -1,7 +1,7 @@
 -- A removal leaves the blocks of files and of pairs alone that it doesn't concern.
 use Rattle.std.proofs.Common.{ℕ, ◌≡◌, ◌∙◌, ◌-◌, ◌<◌, ◌++◌, Bool, cond, true, false, List, [], ◌∷◌, length, inl, inr, refl, sym, subst, arith}
 use Rattle.std.specs.Prelude.{Any, Contains}
-use Rattle.lfs_tree.proofs.Common.{ChangesOnlyMap, HasPathSlot, path_or_root, Pair, address_blocks, addresses_blocks, Path, here, IsPairTouched, CanEditIn, drops_with_its_slot, written_by_removal, ArePairsBeforeTouched, CanRemoveDirectory, KeptThread, ChangesThreadBlocks, thread_pair, SparesInRemoval}
+use Rattle.lfs_tree.proofs.Common.{ChangesOnlyMap, HasPathSlot, path_or_root, Pair, address_blocks, addresses_blocks, Path, here, IsPairTouched, CanEditIn, drops_emptied_pair, removal_written_address, ArePairsBeforeTouched, CanRemoveDirectory, KeptThread, ChangesThreadBlocks, thread_pair, SparesInRemoval}
 use Rattle.lfs_model.specs.session.Operations as ops
 use Rattle.lfs_operations.specs.Removing.{CanRemoveIn}
 use Rattle.lfs_tree.proofs.Carried.{behind_below}
@@ -23,10 +23,10 @@ module _ (old : KeptThread) (path : Path) (pair id first : ℕ) (can : CanEditIn
       (holds_slot old.pairs can.path can.at can.first can.name pair id can.ready.accepted.thread.distinct can.leads can.begins can.stands))
 
   -- or goes with it: then the one in front of it doesn't stay as it was
-  written : (drops_with_its_slot old pair first ≡ true → Contains now (thread_pair old (pair - 1)) → ⊥) → AreConcerned (written_by_removal old pair first)
-  written alters = go (drops_with_its_slot old pair first) refl
+  written : (drops_emptied_pair old pair first ≡ true → Contains now (thread_pair old (pair - 1)) → ⊥) → AreConcerned (removal_written_address old pair first)
+  written alters = go (drops_emptied_pair old pair first) refl
     where
-      go : (b : Bool) → drops_with_its_slot old pair first ≡ b → AreConcerned (written_by_removal old pair first)
+      go : (b : Bool) → drops_emptied_pair old pair first ≡ b → AreConcerned (removal_written_address old pair first)
       go true whole =
           subst (λ b. AreConcerned (cond b (thread_pair old (pair - 1)).at (thread_pair old pair).at)) (sym whole)
           (concerned_pair old (path_or_root given ∷ []) now (pair - 1) (omega (arith, below)) (inr (alters whole)))
@@ -35,17 +35,17 @@ module _ (old : KeptThread) (path : Path) (pair id first : ℕ) (can : CanEditIn
           (concerned_pair old (path_or_root given ∷ []) now pair below (inl holds))
 
 -- a file, whose list is freed behind it
-pub file_spares : (old mid new : KeptThread) (path : Path) (pair id first : ℕ) (take : CanRemoveIn old pair id first) → path ≡ take.can.path ++ take.can.name ∷ [] → (drops_with_its_slot old pair first ≡ true → IsPairTouched old (pair - 1) mid)
-    → ChangesThreadBlocks (address_blocks (written_by_removal old pair first)) old mid → ChangesOnlyMap mid new → SparesInRemoval old path new
+pub file_spares : (old mid new : KeptThread) (path : Path) (pair id first : ℕ) (take : CanRemoveIn old pair id first) → path ≡ take.can.path ++ take.can.name ∷ [] → (drops_emptied_pair old pair first ≡ true → IsPairTouched old (pair - 1) mid)
+    → ChangesThreadBlocks (address_blocks (removal_written_address old pair first)) old mid → ChangesOnlyMap mid new → SparesInRemoval old path new
 file_spares old mid new path pair id first take is alters w only s given e =
     let k = written old path pair id first take.can is given e new.pairs (λ whole. subst (λ (ps : List Pair). Contains ps (thread_pair old (pair - 1)) → ⊥) (sym only.pairs) (alters whole)) in
-    concerned_alone old new s (ops.Remove given) (address_blocks (written_by_removal old pair first)) take.can.ready.accepted take.can.ready.used (k.0, (k.1, tt)) (writes_then old mid new (address_blocks (written_by_removal old pair first)) w only)
+    concerned_alone old new s (ops.Remove given) (address_blocks (removal_written_address old pair first)) take.can.ready.accepted take.can.ready.used (k.0, (k.1, tt)) (writes_then old mid new (address_blocks (removal_written_address old pair first)) w only)
 
 -- a directory without entries, with its pair
 pub directory_spares : (old new : KeptThread) (path : Path) (pair id first gone : ℕ) (take : CanRemoveDirectory old pair id first gone) → path ≡ take.can.path ++ take.can.name ∷ [] → ArePairsBeforeTouched old pair first gone new
-    → ChangesThreadBlocks (addresses_blocks (written_by_removal old pair first) (thread_pair old (gone - 1)).at) old new → SparesInRemoval old path new
+    → ChangesThreadBlocks (addresses_blocks (removal_written_address old pair first) (thread_pair old (gone - 1)).at) old new → SparesInRemoval old path new
 directory_spares old new path pair id first gone take is alters w s given e =
     let low = take.below in
     let k = written old path pair id first take.can is given e new.pairs alters.entry in
     let f = concerned_pair old (path_or_root given ∷ []) new.pairs (gone - 1) (omega (arith, low)) (inr alters.front) in
-    concerned_alone old new s (ops.Remove given) (addresses_blocks (written_by_removal old pair first) (thread_pair old (gone - 1)).at) take.can.ready.accepted take.can.ready.used (k.0, (k.1, (f.0, (f.1, tt)))) w
+    concerned_alone old new s (ops.Remove given) (addresses_blocks (removal_written_address old pair first) (thread_pair old (gone - 1)).at) take.can.ready.accepted take.can.ready.used (k.0, (k.1, (f.0, (f.1, tt)))) w

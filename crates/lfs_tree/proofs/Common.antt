@@ -18,7 +18,7 @@ pub use Rattle.lfs_lookup.specs.AttributeAt.{IsAttributesSize}
 pub use Rattle.lfs_lookup.specs.Entry.{IsStorage}
 pub use Rattle.lfs_lookup.specs.FileContents.{IsStorageAt, contents_struct}
 pub use Rattle.lfs_lookup.specs.Finds.{IsFoundNode, has_entry_beneath}
-pub use Rattle.lfs_lookup.specs.Items.{directory_items_view}
+pub use Rattle.lfs_lookup.specs.Items.{items_view}
 pub use Rattle.lfs_lookup.specs.Listed.{pair_entries_from}
 pub use Rattle.lfs_lookup.specs.LookupPaths.{IsSlotBelow, LeadsToPair, LeadsToResult}
 pub use Rattle.lfs_lookup.specs.LookupReading.{ReadsOrReports}
@@ -41,11 +41,11 @@ pub use Rattle.lfs_model.proofs.Paths.{last_is}
 pub use Rattle.lfs_model.proofs.Searches.{IsDirectory, begins_directory}
 pub use Rattle.lfs_model.proofs.Sites.{AnyByRecursion, among_right}
 pub use Rattle.lfs_model.proofs.Splices.{file_blocks, unmoved_in}
-pub use Rattle.lfs_model.specs.crash.Frame.{HasPathSlot, KeepsOthers, ancestor_paths, changed_paths, pair_count_at}
+pub use Rattle.lfs_model.specs.crash.Frame.{HasPathSlot, KeepsOthers, ancestor_paths, changed_paths, directory_pair_count}
 pub use Rattle.lfs_model.specs.crash.PowerLoss.{HasEitherTree, SurvivesLossSince, with_blocks}
 pub use Rattle.lfs_model.specs.format.Blocks.{Blocks, HasBlockSizes, block_bytes}
-pub use Rattle.lfs_model.specs.format.Content.{attributes_with, attributes_without, current_block, current_of_two, empty_raw_content, has_commit, is_later, read_struct}
-pub use Rattle.lfs_model.specs.format.Disk.{Disk, SameGeometry, block_count, charge_limit, disk_block, inline_limit, name_max_of, ordered_disk}
+pub use Rattle.lfs_model.specs.format.Content.{attributes_with, attributes_without, current_block, current_of_two, empty_raw_content, has_commit, is_later, decoded_struct}
+pub use Rattle.lfs_model.specs.format.Disk.{Disk, SameGeometry, block_count, charge_limit, disk_block, inline_limit, profile_name_max, ordered_disk}
 pub use Rattle.lfs_model.specs.format.Log.{block_revision}
 pub use Rattle.lfs_model.specs.format.Names.{Name, is_component, is_valid_name, same_name}
 pub use Rattle.lfs_model.specs.format.SkipLists.{IsSkipList, block_count_for, blocks_to_head, list_bytes}
@@ -54,13 +54,13 @@ pub use Rattle.lfs_model.specs.format.Thread.{Pair, address_blocks, addresses_bl
 pub use Rattle.lfs_model.specs.layers.BlockSets.{AreInFlight, AreUsed, BlockState, BlockStates, IsFree, IsInFlight, IsUsedBlock, in_flight_count, state_in_flight, used_count}
 pub use Rattle.lfs_model.specs.layers.BlockSets.BlockState.{Free, InFlight, Used}
 pub use Rattle.lfs_model.specs.layers.Cache.{CachedBlocks}
-pub use Rattle.lfs_model.specs.layers.Changes.{PairChange}
+pub use Rattle.lfs_model.specs.layers.Changes.{ContentChange}
 pub use Rattle.lfs_model.specs.layers.Keeping.{struct_at}
 pub use Rattle.lfs_model.specs.layers.WrittenContent.{is_zero}
-pub use Rattle.lfs_model.specs.session.Effects.{file_with_bytes}
+pub use Rattle.lfs_model.specs.session.Effects.{node_with_bytes}
 pub use Rattle.lfs_model.specs.session.History.{AllCalls, AllCallsSince, CallEvent, OnlyReadsSince, fault_count, read_count}
 pub use Rattle.lfs_model.specs.session.InDirectory.{BelongsAt, HasHardTail, IsDirectoryPair, IsPairAt, IsPlaceOf}
-pub use Rattle.lfs_model.specs.session.Layout.{ArePairsAfter, FitsPair, IsUnreachedOrRemoved, IsLayout, IsLayoutRecovered, continued_address, directory_address}
+pub use Rattle.lfs_model.specs.session.Layout.{PairsBecome, FitsPair, IsUnreachedOrRemoved, IsLayout, IsLayoutRecovered, continued_address, directory_address}
 pub use Rattle.lfs_model.specs.session.Operations.{FlagsOfOpen, Operation}
 pub use Rattle.lfs_model.specs.session.Refusals.{is_root_path, path_or_root}
 pub use Rattle.lfs_model.specs.session.Run.{is_recover, renames_itself}
@@ -80,10 +80,10 @@ pub use Rattle.lfs_operations.specs.Editing.{CanEditIn, CanSetAttribute, HasRemo
 pub use Rattle.lfs_operations.specs.EndingMove.{HasEndedMove}
 pub use Rattle.lfs_operations.specs.Making.{AreBothTouched, CanMakeAt, HasFreeBlocks, IsDirectoryMade, WritesPairsFour, tree_with_directory}
 pub use Rattle.lfs_operations.specs.MovingAcross.{IsRenamedAcross, tree_moved}
-pub use Rattle.lfs_operations.specs.MovingSteps.{WritesPairsTwo, WritesThreadFree, second_pair}
+pub use Rattle.lfs_operations.specs.MovingSteps.{WritesPairsTwo, WritesThreadFree, second_step_pair}
 pub use Rattle.lfs_operations.specs.Ready.{IsReadyImage, IsReadyUnsettled, KeepsRootNumber}
 pub use Rattle.lfs_operations.specs.Recovering.{AreUnreachedFrom, AreUnreachedNumbers, CanDropPairs, HasDroppedRecovered, numbered_slots}
-pub use Rattle.lfs_operations.specs.Removing.{drops_with_its_slot, written_by_removal}
+pub use Rattle.lfs_operations.specs.Removing.{drops_emptied_pair, removal_written_address}
 pub use Rattle.lfs_operations.specs.Renaming.{tree_renamed}
 pub use Rattle.lfs_operations.specs.Storing.{HasStoredContents, tree_with_contents}
 pub use Rattle.lfs_operations.specs.Unlinking.{ArePairsBeforeTouched, CanRemoveDirectory, IsDirectoryRemoved}
@@ -98,15 +98,15 @@ pub use Rattle.lfs_tree.specs.LostLists.{CanFreeLists, raw_slots_lists, slots_li
 pub use Rattle.lfs_tree.specs.MovedEntries.{CanMoveEntry, CanMoveOntoDirectory, CanMoveOntoFile, CanMoveOntoFound, CanMoveToVacant, HasMovedEntry, ThreadWorksOrReports}
 pub use Rattle.lfs_tree.specs.OpenContents.{AreThreadContents, AreTreeContents, CanStoreContents, CanTruncateIn, CanWriteIn, IsOpenedForm, list_blocks_at, slot_blocks, writer_contents_bytes}
 pub use Rattle.lfs_tree.specs.Openings.{AreOpenedContents, CanOpenSlot, opened_form}
-pub use Rattle.lfs_tree.specs.Orphans.{DirectoriesBegin, IsNamedPair, IsStructPair, MarkReached, MarksAndQueues, unmarked_count}
+pub use Rattle.lfs_tree.specs.Orphans.{DirectoriesBegin, IsNamedPair, IsStructPair, AreReachedMarked, MarksAndQueues, unmarked_count}
 pub use Rattle.lfs_tree.specs.Permissions.{CanAddEntry, CanAddIn, CanRemoveAttr, CanRemoveEntry, CanRenamePath, CanSetAttr, HasNeededBlocks}
 pub use Rattle.lfs_tree.specs.Recoveries.{HasDroppedUnreached, HasRecovered}
 pub use Rattle.lfs_tree.specs.Removals.{CanRemoveFile, CanRemoveFound, HasRemovedEntry, SparesInRemoval}
-pub use Rattle.lfs_tree.specs.RenameFindings.{AreRenameResults, rename_directories}
-pub use Rattle.lfs_tree.specs.RootedThreads.{IsSoundWithRoot, SoundUnlessFailed, uncached_state, thread_state}
-pub use Rattle.lfs_tree.specs.SettledFiles.{CanSettleFile, ChangesOnlyMap, IsListSettled, stored_list_blocks}
+pub use Rattle.lfs_tree.specs.RenameFindings.{AreRenameResults, rename_parents}
+pub use Rattle.lfs_tree.specs.RootedThreads.{SoundWithRoot, SoundUnlessFailed, uncached_state, thread_state}
+pub use Rattle.lfs_tree.specs.SettledFiles.{CanSettleLists, ChangesOnlyMap, IsListSettled, stored_list_blocks}
 pub use Rattle.lfs_tree.specs.SlotChanges.{HasPathEntry, IsPathSpot, is_entry_found, tree_with_attributes}
-pub use Rattle.lfs_tree.specs.Stores.{CanCommitContents, CanPutContents, ChangesPathPair, HasCommittedBytes, IsFinishedForm, IsPathFile, StoresOnThread, empty_list, finished_list, finished_struct, list_in_storage, list_in_struct}
+pub use Rattle.lfs_tree.specs.Stores.{CanCommitContents, CanPutContents, ChangesPathPair, HasCommittedBytes, IsFinishedForm, IsPathFile, StoresInPlace, empty_list, finished_list, finished_struct, list_in_storage, list_in_struct}
 pub use Rattle.lfs_tree.specs.StructChanges.{IsContentsStruct}
 pub use Rattle.lfs_tree.specs.ThreadContents.{AreOnThread, CanFinish, CanTruncate, CanWrite, HaveThreadForm, KeepsPairs, ThreadReportsFaults, contents_list_blocks}
 pub use Rattle.lfs_tree.specs.TreeCalls.{IsOperationCall, tree_after_call}

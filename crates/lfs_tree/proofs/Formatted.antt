@@ -2,7 +2,7 @@
 use Rattle.std.proofs.Common.{ℕ, zero, suc, ◌≡◌, ◌⊎◌, inl, inr, ◌<◌, ◌≤◌, Bool, true, false, not, cond, ◌&&◌, List, [], ◌∷◌, ◌++◌, length, Some, None, refl, sym, ap, ap₂, subst, ◌∙◌, arith, set, replicate, nat_eq}
 use Rattle.std.specs.Prelude.{Contains, slice_get, unwrap_or}
 use Rattle.std.specs.Bool.{IsTrue, OnTrue}
-use Rattle.lfs_tree.proofs.Common.{flat_map, option_and_then, length-replicate, same_Some, Blocks, AreInFlight, AreUsed, BlockStates, BlockState, IsFree, PairChange, has_commit, current_of_two, current_block, is_later, empty_raw_content, Disk, disk_block, block_count, ordered_disk, CallEvent, block_revision, zero_gstate, anchor_address, pairs_blocks, address_blocks, BeginsWith, IsAccepted, superblock_entry, IsWritable, Contains-cons, Contains-head, Contains-tail, KeptThread, kept_in_order, ChangesThreadBlocks, IsFormatted, IsEmptyWritable}
+use Rattle.lfs_tree.proofs.Common.{flat_map, option_and_then, length-replicate, same_Some, Blocks, AreInFlight, AreUsed, BlockStates, BlockState, IsFree, ContentChange, has_commit, current_of_two, current_block, is_later, empty_raw_content, Disk, disk_block, block_count, ordered_disk, CallEvent, block_revision, zero_gstate, anchor_address, pairs_blocks, address_blocks, BeginsWith, IsAccepted, superblock_entry, IsWritable, Contains-cons, Contains-head, Contains-tail, KeptThread, kept_in_order, ChangesThreadBlocks, IsFormatted, IsEmptyWritable}
 use Rattle.std.specs.List.{IsDistinct}
 use Rattle.std.proofs.lemmas.Bool.{OnTrue_at}
 use Rattle.lfs_device.specs.declared.geometry.Geometry.{Geometry}
@@ -10,7 +10,7 @@ use Rattle.lfs_device.specs.declared.device.BlockDevice.{Ghosts}
 use Rattle.lfs_device.specs.DeviceCalls.{ChangesTheseBlocks}
 use Rattle.lfs_device.specs.DeviceDisk.{disk_of_blocks}
 use Rattle.lfs_model.specs.layers.BlockSets.{Free, InFlight, Used}
-use Rattle.lfs_model.specs.layers.Changes.{changed_content_of}
+use Rattle.lfs_model.specs.layers.Changes.{content_with_changes}
 use Rattle.lfs_model.specs.format.Content.{complete_content, raw_content}
 use Rattle.lfs_model.specs.declared.order.NameOrder.{NameOrder}
 use Rattle.lfs_model.specs.tree.Fresh.{fresh_content, fresh_pair, superblock_bytes}
@@ -86,7 +86,7 @@ marked_both n now last is_free few e free marked =
 -- ---- the pair
 
 -- what the superblock's changes make of nothing
-made : (disk : Disk) → changed_content_of empty_raw_content (superblock_slot_changes (superblock_bytes disk.profile disk.block_size (block_count disk))) ≡ Some (superblock_content disk)
+made : (disk : Disk) → content_with_changes empty_raw_content (superblock_slot_changes (superblock_bytes disk.profile disk.block_size (block_count disk))) ≡ Some (superblock_content disk)
 made disk = refl
 
 completes : (disk : Disk) → complete_content (superblock_content disk) ≡ Some (fresh_content disk.profile disk.block_size (block_count disk))
@@ -95,7 +95,7 @@ completes disk = refl
 address : (disk : Disk) → 2 ≤ block_count disk → IsPairAddress disk anchor_address
 address disk few = record { apart = λ e. absurd (omega (arith, e)); first = omega (arith, few); second = omega (arith, few) }
 
-can_be_fresh : (disk : Disk) → IsValidGeometry disk.block_size disk.page (block_count disk) → pair.CanWriteFresh disk anchor_address (superblock_slot_changes (superblock_bytes disk.profile disk.block_size (block_count disk)))
+can_be_fresh : (disk : Disk) → IsValidGeometry disk.block_size disk.page (block_count disk) → pair.CanMakeFresh disk anchor_address (superblock_slot_changes (superblock_bytes disk.profile disk.block_size (block_count disk)))
 can_be_fresh disk g = record {
   address = address disk g.no_fewer;
   new = superblock_content disk;
@@ -143,20 +143,20 @@ module _ (disk : Disk) (before history : List CallEvent) (h : PairHeader) (g : I
 -- ---- of a device
 
 -- the changes are those of a disk of that geometry
-changes_are : (k : Geometry) (n : ℕ) (changes : List PairChange) (bytes fields : List ℕ) → n ≡ k.block_count → changes ≡ superblock_slot_changes bytes → bytes ≡ fields → fields ≡ superblock_bytes k.profile k.block_size k.block_count
+changes_are : (k : Geometry) (n : ℕ) (changes : List ContentChange) (bytes fields : List ℕ) → n ≡ k.block_count → changes ≡ superblock_slot_changes bytes → bytes ≡ fields → fields ≡ superblock_bytes k.profile k.block_size k.block_count
     → changes ≡ superblock_slot_changes (superblock_bytes k.profile k.block_size n)
 changes_are k n changes bytes fields count e f b = e ∙ ap superblock_slot_changes (f ∙ b ∙ ap (superblock_bytes k.profile k.block_size) (sym count))
 
 geometry_is : (k : Geometry) (blocks : Blocks) → length blocks ≡ k.block_count → IsValidGeometry k.block_size k.page (length blocks)
 geometry_is k blocks count = subst (IsValidGeometry k.block_size k.page) (sym count) k.valid
 
-pub can_root : (k asked : Geometry) (blocks : Blocks) (changes : List PairChange) (bytes fields : List ℕ) → length blocks ≡ k.block_count → asked ≡ k → changes ≡ superblock_slot_changes bytes → bytes ≡ fields
-    → fields ≡ superblock_bytes asked.profile asked.block_size asked.block_count → pair.CanWriteFresh (disk_of_blocks k blocks) anchor_address changes
+pub can_root : (k asked : Geometry) (blocks : Blocks) (changes : List ContentChange) (bytes fields : List ℕ) → length blocks ≡ k.block_count → asked ≡ k → changes ≡ superblock_slot_changes bytes → bytes ≡ fields
+    → fields ≡ superblock_bytes asked.profile asked.block_size asked.block_count → pair.CanMakeFresh (disk_of_blocks k blocks) anchor_address changes
 can_root k asked blocks changes bytes fields count same e f b =
-    subst (pair.CanWriteFresh (disk_of_blocks k blocks) anchor_address) (sym (changes_are k (length blocks) changes bytes fields count e f (b ∙ ap (λ (j : Geometry). superblock_bytes j.profile j.block_size j.block_count) same)))
+    subst (pair.CanMakeFresh (disk_of_blocks k blocks) anchor_address) (sym (changes_are k (length blocks) changes bytes fields count e f (b ∙ ap (λ (j : Geometry). superblock_bytes j.profile j.block_size j.block_count) same)))
     (can_be_fresh (disk_of_blocks k blocks) (geometry_is k blocks count))
 
-pub device_root : (k asked : Geometry) (blocks : Blocks) (before history : List CallEvent) (h : PairHeader) (changes : List PairChange) (bytes fields : List ℕ) → length blocks ≡ k.block_count → asked ≡ k → changes ≡ superblock_slot_changes bytes → bytes ≡ fields
+pub device_root : (k asked : Geometry) (blocks : Blocks) (before history : List CallEvent) (h : PairHeader) (changes : List ContentChange) (bytes fields : List ℕ) → length blocks ≡ k.block_count → asked ≡ k → changes ≡ superblock_slot_changes bytes → bytes ≡ fields
     → fields ≡ superblock_bytes asked.profile asked.block_size asked.block_count → pair.IsFreshPair before changes (disk_of_blocks k blocks) history anchor_address h → IsRootHeader (disk_of_blocks k blocks) history h
 device_root k asked blocks before history h changes bytes fields count same e f b is =
     is_root (disk_of_blocks k blocks) before history h (geometry_is k blocks count)

@@ -3,7 +3,7 @@ use Rattle.std.proofs.Common.{ℕ, zero, suc, ◌+◌, ◌<◌, ◌≤◌, ◌�
 use Rattle.std.specs.Prelude.{All, Any, Contains}
 use Rattle.lfs_tree.proofs.Common.{AllByRecursion, All-from_recursion, same_Some, Contains-number_occurrences, file_blocks, AreUsed, IsFree, HasPathSlot, KeepsOthers, changed_paths, Disk, disk_block, IsPairAt, IsDirectoryPair, HasHardTail, IsPlaceOf, Name, same_name, Operation, Session, LeadsTo, all_unmoved_slots, struct_blocks, used_blocks, Slot, same_pair, Pair, pairs_blocks, Path, last_name, IsAccepted, Each, number_occurrences, count_append, count_here, each_from_counted, each_pieces, each_weaker, once_from_distinct, last_is, AnyByRecursion, among_right, KeptThread, ChangesThreadBlocks, empty_anchor, thread_pair, KeepsListBytes, ChangesPathPair}
 use Rattle.std.specs.List.{IsDistinct}
-use Rattle.lfs_model.specs.crash.Frame.{HasEntryName, directory_pairs, tail_pairs}
+use Rattle.lfs_model.specs.crash.Frame.{IsEntryNamed, directory_pairs, tail_pairs}
 use Rattle.lfs_model.proofs.Alone.{left_alone, others_left_alone, own_blocks}
 use Rattle.lfs_model.proofs.Paths.{parent_is, same_itself}
 use Rattle.lfs_model.proofs.Searches.{avoids_front}
@@ -67,9 +67,9 @@ holds_slot ps above at first name index id distinct leads b s = (
   (
     subst (λ z. LeadsTo ps z at) (sym (parent_is above name)) leads,
     contains_among s.pair (directory_pairs ps at) (among_pairs ps at first index s.pair s.rest distinct b s.place),
-    any_from (HasEntryName (last_name (above ++ name ∷ []))) s.pair.content.slots
-        (subst (AnyByRecursion (HasEntryName (last_name (above ++ name ∷ [])))) (sym s.stands.held)
-        (among_right (HasEntryName (last_name (above ++ name ∷ []))) s.stands.left (s.stands.slot ∷ s.stands.right)
+    any_from (IsEntryNamed (last_name (above ++ name ∷ []))) s.pair.content.slots
+        (subst (AnyByRecursion (IsEntryNamed (last_name (above ++ name ∷ [])))) (sym s.stands.held)
+        (among_right (IsEntryNamed (last_name (above ++ name ∷ []))) s.stands.left (s.stands.slot ∷ s.stands.right)
         (inl (s.stands.entry, ap (λ z. same_name z s.stands.slot.name) (last_is above name ∙ sym s.stands.named) ∙ same_itself s.stands.slot.name)))),
   ),
 )

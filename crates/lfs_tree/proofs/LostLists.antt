@@ -2,7 +2,7 @@
 use Rattle.std.proofs.Common.{ℕ, zero, suc, ◌≡◌, ◌≢◌, ◌⊎◌, inl, inr, ◌<◌, ◌≤◌, ◌+◌, ◌∙◌, List, [], ◌∷◌, ◌++◌, length, Option, Some, None, refl, sym, ap, ap₂, subst, arith, add-one, append-nil, drop, drop-cons, take}
 use Rattle.std.proofs.Math.Seq.{take-suc}
 use Rattle.std.proofs.lemmas.List.Concat.{flat_map-append}
-use Rattle.lfs_tree.proofs.Common.{AllByRecursion, option_and_then, option_map, cases_lt, All-from_recursion, recursion_from_All, same_Some, CanSettleFile, ChangesOnlyMap, IsListSettled, stored_list_blocks, AreUsed, BlockStates, IsInFlight, read_struct, Disk, SameGeometry, CallEvent, OnlyReadsSince-trans, Slot, Struct, Inline, Ctz, Branch, Pair, pairs_blocks, pairs_gstate, IsAccepted, IsFormedList, all_unmoved_slots, struct_blocks, used_blocks, Contains-number_occurrences, number_occurrences-Contains, Each, number_occurrences, count_append, each_append, slots_files, SameFileBlocks, is_list_same, HasNoMove, file_blocks, unmoved_in, SameInFlight, IsReadyImage, IsReadyUnsettled, HasDroppedRecovered, numbered_slots, KeptThread, empty_anchor, CanFreeLists, slots_lists, raw_slots_lists, IsListOrEmpty, SettlesList, empty_list}
+use Rattle.lfs_tree.proofs.Common.{AllByRecursion, option_and_then, option_map, cases_lt, All-from_recursion, recursion_from_All, same_Some, CanSettleLists, ChangesOnlyMap, IsListSettled, stored_list_blocks, AreUsed, BlockStates, IsInFlight, decoded_struct, Disk, SameGeometry, CallEvent, OnlyReadsSince-trans, Slot, Struct, Inline, Ctz, Branch, Pair, pairs_blocks, pairs_gstate, IsAccepted, IsFormedList, all_unmoved_slots, struct_blocks, used_blocks, Contains-number_occurrences, number_occurrences-Contains, Each, number_occurrences, count_append, each_append, slots_files, SameFileBlocks, is_list_same, HasNoMove, file_blocks, unmoved_in, SameInFlight, IsReadyImage, IsReadyUnsettled, HasDroppedRecovered, numbered_slots, KeptThread, empty_anchor, CanFreeLists, slots_lists, raw_slots_lists, IsListOrEmpty, SettlesList, empty_list}
 use Rattle.std.specs.Prelude.{Contains, ◌↔◌, slice_index_or}
 use Rattle.lfs_model.specs.format.Content.{RawSlot, complete_slot, complete_slots, kind_of_type}
 use Rattle.lfs_model.proofs.Completed.{complete_parts}
@@ -20,7 +20,7 @@ typed_first : (s : RawSlot) (t : Slot) → complete_slot s ≡ Some t → raw_st
 typed_first s t e = go s.name s.struct refl refl
   where
     given : ℕ × List ℕ → ℕ × List ℕ → Slot
-    given name struct = record { kind = kind_of_type name.0; name = name.1; struct = read_struct struct.0 struct.1; attributes = s.attributes }
+    given name struct = record { kind = kind_of_type name.0; name = name.1; struct = decoded_struct struct.0 struct.1; attributes = s.attributes }
 
     made : Option (ℕ × List ℕ) → Option (ℕ × List ℕ) → Option Slot
     made name struct = option_and_then (λ n. option_map (λ k. given n k) struct) name
@@ -140,7 +140,7 @@ module _ (t : KeptThread) (list : StoredList) (rest : List StoredList) (can : Ca
   both : (b : ℕ) → number_occurrences b (blocks_of_lists t (list ∷ rest)) ≡ number_occurrences b (stored_list_blocks t list) + number_occurrences b (blocks_of_lists t rest)
   both b = count_append b (stored_list_blocks t list) (blocks_of_lists t rest)
 
-  pub can_settle_first : CanSettleFile t list empty_list
+  pub can_settle_first : CanSettleLists t list empty_list
   can_settle_first = record {
     was = can.stand.0;
     list = inl refl;

@@ -4,7 +4,7 @@ use Rattle.std.specs.List.{IsDistinct}
 use Rattle.std.specs.Prelude.{◌↔◌, IsTrue}
 use Rattle.lfs_device.specs.declared.device.BlockDevice.{Ghosts}
 use Rattle.lfs_device.specs.declared.error.Error.{Error}
-use Rattle.lfs_tree.proofs.Common.{ordered_disk, Disk, block_count, AreInFlight, AreUsed, BlockStates, CallEvent, OnlyReadsSince, fault_count, read_count, Pair, count_before_root, IsAccepted, IsWritable, used_blocks, OnlyReadsSince-trans, KeptThread, ThreadView, disk_of_device, OnlyReadsThread, IsFormatted, IsEmptyWritable, IsSoundWithRoot, uncached_state, thread_state, ReadsOrReports, IsMountedTree, IsSoundState, HasRead}
+use Rattle.lfs_tree.proofs.Common.{ordered_disk, Disk, block_count, AreInFlight, AreUsed, BlockStates, CallEvent, OnlyReadsSince, fault_count, read_count, Pair, count_before_root, IsAccepted, IsWritable, used_blocks, OnlyReadsSince-trans, KeptThread, ThreadView, disk_of_device, OnlyReadsThread, IsFormatted, IsEmptyWritable, SoundWithRoot, uncached_state, thread_state, ReadsOrReports, IsMountedTree, IsSoundState, HasRead}
 use Rattle.lfs_device.specs.declared.error.Error.TheVariants.{Io}
 use Rattle.lfs_model.specs.tree.View.{DiskView}
 use Rattle.lfs_model.proofs.BlockSets.{in_flight_count-AreInFlight}
@@ -41,7 +41,7 @@ module _ (disk : Disk) (history : List CallEvent) (a b : ThreadView) (root : ℕ
     size = m.size ∙ ap (λ (d : Disk). block_count d) (sym m.disk_is);
   })
 
-  pub mounted_rooted : IsSoundWithRoot b root writable
+  pub mounted_rooted : SoundWithRoot b root writable
   mounted_rooted = record { works = r.works; sound = sound_now; root_is = is ∙ ap count_before_root (sym r.only.pairs) }
 
   pub mounted_tree : read_count history < read_count a.kept.history → IsMountedTree disk history (thread_state b writable)
@@ -77,5 +77,5 @@ module _ (t : ThreadView) (works : t.failed ≡ false) (f : IsFormatted t.kept) 
     size = f.size;
   }
 
-  pub fresh_rooted : IsSoundWithRoot t 0 true
+  pub fresh_rooted : SoundWithRoot t 0 true
   fresh_rooted = record { works = works; sound = fresh_sound; root_is = sym (ap count_before_root f.pairs) }

@@ -1,6 +1,6 @@
 -- Contents that come into a file's slot.
 use Rattle.std.proofs.Common.{ℕ, ◌≡◌, ◌≤◌, ◌+◌, ◌/◌, ◌∙◌, ne_eqb, true, List, [], ◌∷◌, ◌++◌, length, min, None, Result, Ok, Err, refl, sym, ap, subst, arith}
-use Rattle.lfs_tree.proofs.Common.{min-le_right, GrowingList, is_file, read_struct, inline_limit, slot_of, Struct, Inline, Path, branch_address, IsFormedList, struct_blocks, disk_tree, number_occurrences, AreOnThread, ThreadReportsFaults, editable_slot, HasFreeBlocks, HasStoredContents, KeptThread, ThreadView, IsStorage, writer_contents_bytes, LeadsToResult, CanPutContents, IsPathFile, IsFinishedForm, list_in_struct, list_in_storage, finished_struct, directory_at_path, contents_form}
+use Rattle.lfs_tree.proofs.Common.{min-le_right, GrowingList, is_file, decoded_struct, inline_limit, slot_of, Struct, Inline, Path, branch_address, IsFormedList, struct_blocks, disk_tree, number_occurrences, AreOnThread, ThreadReportsFaults, editable_slot, HasFreeBlocks, HasStoredContents, KeptThread, ThreadView, IsStorage, writer_contents_bytes, LeadsToResult, CanPutContents, IsPathFile, IsFinishedForm, list_in_struct, list_in_storage, finished_struct, directory_at_path, contents_form}
 use Rattle.std.specs.Prelude.{OnOk}
 use Rattle.lfs_file.specs.Growing.{IsAllBuffered}
 use Rattle.lfs_device.specs.declared.error.Error.{Error}
@@ -64,7 +64,7 @@ file_for t path (found.File parent slot contents) file l h =
 
 -- ---- what comes into it
 
-module _ (t : KeptThread) (spot : SlotPosition) (contents : WriterContents) (can : CanPutContents t spot contents) (kind : ℕ) (bytes : List ℕ) (part : IsAllowedPart 2 (kind, bytes)) (is : read_struct kind bytes ≡ finished_struct contents) where
+module _ (t : KeptThread) (spot : SlotPosition) (contents : WriterContents) (can : CanPutContents t spot contents) (kind : ℕ) (bytes : List ℕ) (part : IsAllowedPart 2 (kind, bytes)) (is : decoded_struct kind bytes ≡ finished_struct contents) where
   abbrev pub store_of : CanSetStruct t spot.pair spot.id kind bytes
   store_of = record {
     can = can.can;
@@ -80,7 +80,7 @@ module _ (t : KeptThread) (spot : SlotPosition) (contents : WriterContents) (can
     blocks = λ b. subst (λ (z : Struct). number_occurrences b (struct_blocks t.disk z) + number_occurrences b can.come.gone ≡ number_occurrences b can.come.come + number_occurrences b (struct_blocks t.disk (editable_slot can.can).struct)) (sym is) (can.come.blocks b);
   }
 
-pub stored_from : (t new : KeptThread) (spot : SlotPosition) (contents : WriterContents) (kind : ℕ) (bytes : List ℕ) → IsAllowedPart 2 (kind, bytes) → read_struct kind bytes ≡ finished_struct contents → (r : Result (Unit {0}) Error)
+pub stored_from : (t new : KeptThread) (spot : SlotPosition) (contents : WriterContents) (kind : ℕ) (bytes : List ℕ) → IsAllowedPart 2 (kind, bytes) → decoded_struct kind bytes ≡ finished_struct contents → (r : Result (Unit {0}) Error)
     → OnOk r ((store : CanSetStruct t spot.pair spot.id kind bytes) → HasStoredContents t new store.can.path store.can.name store.contents store.gone store.come)
     → OnOk r ((can : CanPutContents t spot contents) → HasStoredContents t new can.can.path can.can.name (writer_contents_bytes t contents) can.come.gone can.come.come)
 stored_from t new spot contents kind bytes part is (Err e) h = tt
@@ -113,7 +113,7 @@ module _ (t : KeptThread) (spot : SlotPosition) (contents : WriterContents) (lis
       let l = ap length e in
       inline_part bytes (omega arith)
 
-pub held_struct : (contents : WriterContents) (list : GrowingList) (bytes : List ℕ) → contents ≡ InMemory list → bytes ≡ buffered_bytes list → read_struct inline_type bytes ≡ finished_struct contents
+pub held_struct : (contents : WriterContents) (list : GrowingList) (bytes : List ℕ) → contents ≡ InMemory list → bytes ≡ buffered_bytes list → decoded_struct inline_type bytes ≡ finished_struct contents
 held_struct contents list bytes is e = ap (λ b. Inline b) e ∙ sym (ap finished_struct is)
 
 -- ---- what it tells

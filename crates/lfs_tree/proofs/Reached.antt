@@ -2,7 +2,7 @@
 use Rattle.std.proofs.Common.{ℕ, zero, suc, ◌≡◌, ◌+◌, ◌<◌, ◌⊎◌, ◌∙◌, inl, inr, Bool, true, false, cond, nat_eq, eqb-true, List, [], ◌∷◌, ◌++◌, length, map, get_or, set, slice_get, Option, Some, None, option_and_then, refl, sym, ap, subst, arith, append-nil, append_assoc, length-append, length-set, replicate}
 use Rattle.std.specs.Prelude.{Contains}
 use Rattle.std.specs.List.{IsDistinct}
-use Rattle.lfs_tree.proofs.Common.{eqb-false, Contains-append_cases, Contains-append_left, Contains-append_right, same_Some, slice_get_within, Disk, IsPairAt, Name, same_name, slot_of, Slot, Struct, Inline, Ctz, Branch, same_pair, Pair, pairs_blocks, root_address, count_before_root, Path, branch_address, entry_named, root_slot, slot_at_path, IsAccepted, LeadsTo, all_entries, slice_get-set_other, slice_get-set_same, Each, each_right, pair_back, pair_on, AnyByRecursion, pair_entries_from, LeadsToPair, DirectoriesBegin, MarkReached, MarksAndQueues, IsStructPair, IsNamedPair, unmarked_count, HasFirstIfDirectory, root_begins}
+use Rattle.lfs_tree.proofs.Common.{eqb-false, Contains-append_cases, Contains-append_left, Contains-append_right, same_Some, slice_get_within, Disk, IsPairAt, Name, same_name, slot_of, Slot, Struct, Inline, Ctz, Branch, same_pair, Pair, pairs_blocks, root_address, count_before_root, Path, branch_address, entry_named, root_slot, slot_at_path, IsAccepted, LeadsTo, all_entries, slice_get-set_other, slice_get-set_same, Each, each_right, pair_back, pair_on, AnyByRecursion, pair_entries_from, LeadsToPair, DirectoriesBegin, AreReachedMarked, MarksAndQueues, IsStructPair, IsNamedPair, unmarked_count, HasFirstIfDirectory, root_begins}
 use Rattle.lfs_model.specs.tree.Tree.{EntryMap, address_from_slot}
 use Rattle.lfs_model.proofs.OneCommit.{slot_there}
 use Rattle.lfs_model.proofs.Searches.{same_number}
@@ -342,7 +342,7 @@ module _ (disk : Disk) (ps : List Pair) (ok : IsAccepted disk ps) (marks : List 
           let t = named_there name (all_entries ps a) u g in
           below u t.0 t.1 (slot_there disk ps P a t.0 u ok (leads_to ps P s a e f) t.1) u.struct refl d next
 
-  pub reach_marks : MarkReached ps marks
+  pub reach_marks : AreReachedMarked ps marks
   reach_marks = record {
     len = m.len;
     marked = λ n p there r.

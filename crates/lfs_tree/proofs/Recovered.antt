@@ -1,7 +1,7 @@
 -- A recovery over a thread, step by step.
 use Rattle.std.proofs.Common.{ℕ, zero, suc, ◌≡◌, ◌≢◌, ◌+◌, ◌≤◌, ◌<◌, ◌⊎◌, ◌∙◌, ◌==◌, inl, inr, Bool, true, false, not, eqb-true, List, [], ◌∷◌, ◌++◌, length, take, get_or, Option, None, Result, Err, refl, sym, ap, ap₂, subst, subst₂, arith, append_assoc, flat_map, length-append}
 use Rattle.std.specs.Prelude.{All, IfErr}
-use Rattle.lfs_tree.proofs.Common.{All-from_recursion, same_Some, ChangesOnlyMap, ThreadReportsFaults, AreUsed, IsInFlight, IsUsedBlock, InFlight, Used, Disk, AllCalls, AllCallsSince, CallEvent, OnlyReadsSince, fault_count, struct_at, continued_address, IsLayoutRecovered, HasEitherTree, SurvivesLossSince, with_blocks, OpenFilesByNumber, Session, Gstate, zero_gstate, is_zero, Pair, pairs_blocks, pairs_from_root, pairs_gstate, count_before_root, Tree, IsAccepted, IsReachedBySome, all_unmoved_slots, struct_blocks, disk_tree, used_blocks, IsWritable, survives_then, arranged_after, arranged_settled, recovered_stays, Contains-number_occurrences, CompletesOperation, no_move_from, recovered_from, number_occurrences, count_append, chain_of_thread, HasNoMove, HoldsAtLosses-read_count, HoldsAtLosses-weaker, LeftByLoss-read, is_unprogrammed_byte-read_count, SameInFlight, IsReadyImage, AreUnreachedNumbers, AreUnreachedFrom, CanDropPairs, HasDroppedRecovered, HasEndedMove, KeptThread, ThreadView, ThreadReportsErrors, OnlyReadsThread, ChangesThreadBlocks, AppliesOperation, HasFurtherCalls, SurvivesEither, HasThreadCause, SoundUnlessFailed, IsSoundWithRoot, uncached_state, thread_state, HasDroppedUnreached, IsApplied, IsSoundState, KeepsInFlight, TreeState, kept_thread, shown_tree}
+use Rattle.lfs_tree.proofs.Common.{All-from_recursion, same_Some, ChangesOnlyMap, ThreadReportsFaults, AreUsed, IsInFlight, IsUsedBlock, InFlight, Used, Disk, AllCalls, AllCallsSince, CallEvent, OnlyReadsSince, fault_count, struct_at, continued_address, IsLayoutRecovered, HasEitherTree, SurvivesLossSince, with_blocks, OpenFilesByNumber, Session, Gstate, zero_gstate, is_zero, Pair, pairs_blocks, pairs_from_root, pairs_gstate, count_before_root, Tree, IsAccepted, IsReachedBySome, all_unmoved_slots, struct_blocks, disk_tree, used_blocks, IsWritable, survives_then, arranged_after, arranged_settled, recovered_stays, Contains-number_occurrences, CompletesOperation, no_move_from, recovered_from, number_occurrences, count_append, chain_of_thread, HasNoMove, HoldsAtLosses-read_count, HoldsAtLosses-weaker, LeftByLoss-read, is_unprogrammed_byte-read_count, SameInFlight, IsReadyImage, AreUnreachedNumbers, AreUnreachedFrom, CanDropPairs, HasDroppedRecovered, HasEndedMove, KeptThread, ThreadView, ThreadReportsErrors, OnlyReadsThread, ChangesThreadBlocks, AppliesOperation, HasFurtherCalls, SurvivesEither, HasThreadCause, SoundUnlessFailed, SoundWithRoot, uncached_state, thread_state, HasDroppedUnreached, IsApplied, IsSoundState, KeepsInFlight, TreeState, kept_thread, shown_tree}
 use Rattle.lfs_device.specs.declared.error.Error.{Error}
 use Rattle.lfs_device.specs.declared.error.Error.TheVariants.{Io, NoMemory}
 use Rattle.lfs_model.specs.session.Operations as ops
@@ -176,13 +176,13 @@ called_then a b c f g = record {
 
 -- ---- the whole
 
-pub can_end : (t : ThreadView) (root : ℕ) → IsSoundWithRoot t root true → CanEndMove t.kept
+pub can_end : (t : ThreadView) (root : ℕ) → SoundWithRoot t root true → CanEndMove t.kept
 can_end t root r = record { accepted = r.sound.accepted; writable = r.sound.fits refl; used = r.sound.used; size = r.sound.size }
 
 pub can_drop_then : (a b : KeptThread) → HasEndedMove a b → CanDropUnreached b
 can_drop_then a b e = record { accepted = e.taken.follows.accepted; writable = e.taken.writable; used = e.used; size = e.size; none = e.none }
 
-pub recovered_whole : (t : ThreadView) (root : ℕ) (b c : KeptThread) → IsSoundWithRoot t root true → (pairs_gstate t.kept.pairs ≡ zero_gstate → ⊥) → HasEndedMove t.kept b → ChangesThreadBlocks (pairs_blocks t.kept.pairs) t.kept b → HasDroppedUnreached b c → HasFurtherCalls b c
+pub recovered_whole : (t : ThreadView) (root : ℕ) (b c : KeptThread) → SoundWithRoot t root true → (pairs_gstate t.kept.pairs ≡ zero_gstate → ⊥) → HasEndedMove t.kept b → ChangesThreadBlocks (pairs_blocks t.kept.pairs) t.kept b → HasDroppedUnreached b c → HasFurtherCalls b c
     → fault_count c.history ≡ fault_count t.kept.history → AppliesOperation t.kept ops.Recover c
 recovered_whole t root b c rooted left e w d called quiet =
     let a = t.kept in

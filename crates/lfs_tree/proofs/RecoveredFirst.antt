@@ -1,6 +1,6 @@
 -- An operation behind a recovery is one on the image from before it.
 use Rattle.std.proofs.Common.{ℕ, suc, ◌≡◌, ◌+◌, ◌≤◌, ◌⊎◌, ◌∙◌, ◌&&◌, inl, inr, true, false, not, cond, List, [], ◌∷◌, length, Option, Some, None, refl, sym, ap, ap₂, subst, arith}
-use Rattle.lfs_tree.proofs.Common.{sum_by-cons, same_Some, node_attributes_of, is_file, last_name, directory_names, same_path, Blocks, attributes_with, Name, BlockStates, BlockState, IsInFlight, in_flight_count, state_in_flight, Free, InFlight, Used, SameGeometry, charge_limit, name_max_of, IsUnreachedOrRemoved, IsLayoutRecovered, Operation, HasEitherTree, with_blocks, is_recover, renames_itself, Session, has_long_name, Attributes, entry_charge, zero_gstate, Pair, pairs_gstate, count_before_root, Path, Tree, disk_tree, used_blocks, survives_then, Contains-number_occurrences, number_occurrences-Contains, used_count-AreUsed, number_occurrences, HoldsAtLosses-weaker, HasEndedMove, KeepsRootNumber, KeptThread, ThreadView, CanAddEntry, CanRemoveEntry, CanRemoveAttr, CanRenamePath, CanSetAttr, HasNeededBlocks, AppliesInPlace, AppliesOperation, HasFurtherCalls, SparesOutsideOperation, HasSoundImage, SurvivesEither, HasThreadCause, IsSoundWithRoot, OpenFilesByNumber, uncached_state, KeepsListBytes, HasDroppedUnreached, HasRecovered, IsSoundState, tree_summary, kept_thread}
+use Rattle.lfs_tree.proofs.Common.{sum_by-cons, same_Some, node_attributes_of, is_file, last_name, directory_names, same_path, Blocks, attributes_with, Name, BlockStates, BlockState, IsInFlight, in_flight_count, state_in_flight, Free, InFlight, Used, SameGeometry, charge_limit, profile_name_max, IsUnreachedOrRemoved, IsLayoutRecovered, Operation, HasEitherTree, with_blocks, is_recover, renames_itself, Session, has_long_name, Attributes, entry_charge, zero_gstate, Pair, pairs_gstate, count_before_root, Path, Tree, disk_tree, used_blocks, survives_then, Contains-number_occurrences, number_occurrences-Contains, used_count-AreUsed, number_occurrences, HoldsAtLosses-weaker, HasEndedMove, KeepsRootNumber, KeptThread, ThreadView, CanAddEntry, CanRemoveEntry, CanRemoveAttr, CanRenamePath, CanSetAttr, HasNeededBlocks, AppliesInPlace, AppliesOperation, HasFurtherCalls, SparesOutsideOperation, HasSoundImage, SurvivesEither, HasThreadCause, SoundWithRoot, OpenFilesByNumber, uncached_state, KeepsListBytes, HasDroppedUnreached, HasRecovered, IsSoundState, tree_summary, kept_thread}
 use Rattle.std.specs.Prelude.{is_none, is_some, nat_lt}
 use Rattle.lfs_device.specs.declared.error.Error.{Error}
 use Rattle.lfs_model.specs.session.TreeEdits.{is_directory}
@@ -41,7 +41,7 @@ pub settled_stands : (a c : KeptThread) → HasRecovered a c → KeepsRootNumber
 settled_stands a c f root = record { sound = f.carries.sound; fits = f.carries.fits; recovered = f.carries.recovered; root = root; shows = f.carries.shows (tree_summary (uncached_state a true false)) []; no_fault = f.carries.no_fault }
 
 -- nothing was left
-pub settled_already : (t : ThreadView) (root : ℕ) → IsSoundWithRoot t root true → pairs_gstate t.kept.pairs ≡ zero_gstate → HasRecovered t.kept t.kept
+pub settled_already : (t : ThreadView) (root : ℕ) → SoundWithRoot t root true → pairs_gstate t.kept.pairs ≡ zero_gstate → HasRecovered t.kept t.kept
 settled_already t root r e = record {
   carries = recovered_already (uncached_state t.kept true false) refl refl r.sound e;
   leads_on = λ s disk qs h. h;
@@ -179,7 +179,7 @@ module _ (a b : KeptThread) (f : HasRecovered a b) where
       ∙ ap (λ (profile : Profile). nat_lt (charge_limit a.disk.block_size a.disk.page) (entry_charge profile a.disk.block_size name attributes)) f.carries.geometry.profile
 
   long_is : (path : Path) → has_long_name (tree_summary (uncached_state b true false)) path ≡ has_long_name (tree_summary (uncached_state a true false)) path
-  long_is path = ap (λ (profile : Profile). nat_lt (name_max_of profile) (length (last_name path))) f.carries.geometry.profile
+  long_is path = ap (λ (profile : Profile). nat_lt (profile_name_max profile) (length (last_name path))) f.carries.geometry.profile
 
   room_is : (need : ℕ) → HasNeededBlocks (uncached_state a true false) need → HasNeededBlocks (uncached_state b true false) need
   room_is need room =

@@ -1,14 +1,14 @@
 -- A recovery where nothing is left to recover changes no slots, so where they stand behind it they stand behind the one before.
 use Rattle.std.proofs.Common.{ℕ, ◌≡◌, ◌⊎◌, ◌∙◌, inl, inr, true, false, List, [], ◌∷◌, ◌++◌, length, take, Option, None, refl, sym, ap, subst, append-nil}
 use Rattle.std.specs.Prelude.{is_none, is_some}
-use Rattle.lfs_tree.proofs.Common.{recursion_from_All, Disk, ArePairsAfter, FitsPair, IsUnreachedOrRemoved, IsLayout, directory_address, continued_address, Session, zero_gstate, Pair, pairs_from_root, pairs_gstate, count_before_root, HasNoEmpties, IsWritable, IsAccepted, recovered_from, Each, each_left, each_right, chain_of_thread, onward_some}
+use Rattle.lfs_tree.proofs.Common.{recursion_from_All, Disk, PairsBecome, FitsPair, IsUnreachedOrRemoved, IsLayout, directory_address, continued_address, Session, zero_gstate, Pair, pairs_from_root, pairs_gstate, count_before_root, HasNoEmpties, IsWritable, IsAccepted, recovered_from, Each, each_left, each_right, chain_of_thread, onward_some}
 use Rattle.lfs_model.specs.session.Operations as ops
 use Rattle.lfs_model.proofs.Alike.{SameSlots, stood_alike}
 use Rattle.lfs_model.proofs.Committed.{none_goes, nothing_moved}
 use Rattle.lfs_model.proofs.Layouts.{NoneGoes, first_or_some, joined_parts}
 
 module _ (disk : Disk) (goes : ℕ × ℕ → Type 0) where
-  alike_dirs : (from : Option (ℕ × ℕ)) (ds : List Pair) (parts : List (List Pair)) → Each (FitsPair disk) ds → HasNoEmpties (is_some from) ds → NoneGoes goes from ds → ArePairsAfter disk goes 0 from ds parts → SameSlots ds (joined_parts parts)
+  alike_dirs : (from : Option (ℕ × ℕ)) (ds : List Pair) (parts : List (List Pair)) → Each (FitsPair disk) ds → HasNoEmpties (is_some from) ds → NoneGoes goes from ds → PairsBecome disk goes 0 from ds parts → SameSlots ds (joined_parts parts)
   alike_dirs from [] [] fits have none s = tt
   alike_dirs from [] (now ∷ parts) fits have none s = absurd s
   alike_dirs from (d ∷ ds) [] fits have none s = absurd s
@@ -23,8 +23,8 @@ module _ (disk : Disk) (goes : ℕ × ℕ → Type 0) where
   alike_dirs from (d ∷ ds) ((q ∷ f ∷ g ∷ now) ∷ parts) fits have none s = absurd s.0
 
   -- behind the superblock's pairs
-  alike_chain : (chain ds : List Pair) (parts : List (List Pair)) → Each (FitsPair disk) chain → ((rest : List (List Pair)) → ArePairsAfter disk goes 0 None ds rest → SameSlots ds (joined_parts rest))
-      → ArePairsAfter disk goes (length chain) None (chain ++ ds) parts → SameSlots (chain ++ ds) (joined_parts parts)
+  alike_chain : (chain ds : List Pair) (parts : List (List Pair)) → Each (FitsPair disk) chain → ((rest : List (List Pair)) → PairsBecome disk goes 0 None ds rest → SameSlots ds (joined_parts rest))
+      → PairsBecome disk goes (length chain) None (chain ++ ds) parts → SameSlots (chain ++ ds) (joined_parts parts)
   alike_chain [] ds parts fits behind s = behind parts s
   alike_chain (c ∷ chain) ds [] fits behind s = absurd s
   alike_chain (c ∷ chain) ds ([] ∷ parts) fits behind s = absurd (stays s.0)
@@ -46,7 +46,7 @@ stays_alike disk ps s new qs ok fits e h =
     let drafts : h.drafts ≡ chain ++ dirs = h.edits.1 ∙ nothing_moved ps e ∙ are in
     let all = subst (Each (FitsPair disk)) are (recursion_from_All (FitsPair disk) ps fits.pairs) in
     let none = none_goes ps ops.Recover refl (recovered_from disk ps ok e).reached in
-    let stand = subst (λ n. ArePairsAfter disk goes n None (chain ++ dirs) h.parts) count (subst (λ xs. ArePairsAfter disk goes (count_before_root ps) None xs h.parts) drafts h.stand) in
+    let stand = subst (λ n. PairsBecome disk goes n None (chain ++ dirs) h.parts) count (subst (λ xs. PairsBecome disk goes (count_before_root ps) None xs h.parts) drafts h.stand) in
     subst (λ xs. SameSlots xs qs) (sym are) (subst (SameSlots (chain ++ dirs)) (joined_is disk ps s new qs h)
     (alike_chain disk goes chain dirs h.parts (each_left (FitsPair disk) chain dirs all)
     (λ rest k. alike_dirs disk goes None dirs rest (each_right (FitsPair disk) chain dirs all) fits.no_empty_pair none k) stand))

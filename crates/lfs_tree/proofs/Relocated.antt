@@ -9,7 +9,7 @@ use Rattle.lfs_model.proofs.KeptStructs.{struct_stays}
 use Rattle.lfs_model.proofs.Sites.{among_from}
 use Rattle.lfs_model.proofs.Standing.{same_blocks}
 use Rattle.lfs_model.proofs.Unmoved.{had_latest}
-use Rattle.lfs_model.specs.format.Slots.{array_address}
+use Rattle.lfs_model.specs.format.Slots.{address_view}
 use Rattle.lfs_model.specs.session.History.{LeftByLatest}
 use Rattle.lfs_model.specs.session.Moved.{IsLayoutMoved, IsWearSpread}
 use Rattle.lfs_model.specs.session.Recovery.{IsRecovered}
@@ -78,20 +78,20 @@ module _ (old mid new : TreeState) (plan : Option MovePlan) (room : ℕ) (planne
   plan_of m = subst (λ p. IfSome p (IsPlanFor (kept_thread old) room)) m.planned planned
 
   unused : (m : HasMovedPair mid plan new) (b : ℕ) → 1 ≤ number_occurrences b (m.writes.fresh.at.0 ∷ m.writes.fresh.at.1 ∷ []) → number_occurrences b (used_blocks old.disk old.pairs) ≡ 0
-  unused m b some = go (own_is (array_address m.given.fresh) b (subst (λ (a : ℕ × ℕ). 1 ≤ number_occurrences b (a.0 ∷ a.1 ∷ [])) m.writes.to some))
+  unused m b some = go (own_is (address_view m.given.fresh) b (subst (λ (a : ℕ × ℕ). 1 ≤ number_occurrences b (a.0 ∷ a.1 ∷ [])) m.writes.to some))
     where
-      free : AreTwoFree old.map (array_address m.given.fresh)
+      free : AreTwoFree old.map (address_view m.given.fresh)
       free = (plan_of m).free
 
-      go : (b ≡ (array_address m.given.fresh).0) ⊎ (b ≡ (array_address m.given.fresh).1) → number_occurrences b (used_blocks old.disk old.pairs) ≡ 0
+      go : (b ≡ (address_view m.given.fresh).0) ⊎ (b ≡ (address_view m.given.fresh).1) → number_occurrences b (used_blocks old.disk old.pairs) ≡ 0
       go (inl e) = free_unused old.map (used_blocks old.disk old.pairs) b sound.used (subst (IsFree old.map) (sym e) free.first)
       go (inr e) = free_unused old.map (used_blocks old.disk old.pairs) b sound.used (subst (IsFree old.map) (sym e) free.second)
 
   no_file : (m : HasMovedPair mid plan new) (b : ℕ) → 1 ≤ number_occurrences b (m.writes.written.at.0 ∷ m.writes.written.at.1 ∷ []) → number_occurrences b (flat_map (λ (t : Slot). struct_blocks old.disk t.struct) (all_unmoved_slots old.pairs)) ≡ 0
-  no_file m b some = go (same_own m.writes.written.at (array_address m.given.at) b m.writes.at some)
+  no_file m b some = go (same_own m.writes.written.at (address_view m.given.at) b m.writes.at some)
     where
-      there : (1 ≤ number_occurrences (array_address m.given.at).0 (pairs_blocks old.pairs)) × (1 ≤ number_occurrences (array_address m.given.at).1 (pairs_blocks old.pairs))
-      there = at_counted (array_address m.given.at) old.pairs (among_from (λ (p : Pair). p.at ≡ array_address m.given.at) old.pairs (plan_of m).there)
+      there : (1 ≤ number_occurrences (address_view m.given.at).0 (pairs_blocks old.pairs)) × (1 ≤ number_occurrences (address_view m.given.at).1 (pairs_blocks old.pairs))
+      there = at_counted (address_view m.given.at) old.pairs (among_from (λ (p : Pair). p.at ≡ address_view m.given.at) old.pairs (plan_of m).there)
 
       once : 1 ≤ number_occurrences b (pairs_blocks old.pairs) → number_occurrences b (flat_map (λ (t : Slot). struct_blocks old.disk t.struct) (all_unmoved_slots old.pairs)) ≡ 0
       once some =
@@ -99,7 +99,7 @@ module _ (old mid new : TreeState) (plan : Option MovePlan) (room : ℕ) (planne
           let c = count_append b (pairs_blocks old.pairs) (flat_map (λ (t : Slot). struct_blocks old.disk t.struct) (all_unmoved_slots old.pairs)) in
           omega arith
 
-      go : (b ≡ (array_address m.given.at).0) ⊎ (b ≡ (array_address m.given.at).1) → number_occurrences b (flat_map (λ (t : Slot). struct_blocks old.disk t.struct) (all_unmoved_slots old.pairs)) ≡ 0
+      go : (b ≡ (address_view m.given.at).0) ⊎ (b ≡ (address_view m.given.at).1) → number_occurrences b (flat_map (λ (t : Slot). struct_blocks old.disk t.struct) (all_unmoved_slots old.pairs)) ≡ 0
       go (inl e) = once (subst (λ x. 1 ≤ number_occurrences x (pairs_blocks old.pairs)) (sym e) there.0)
       go (inr e) = once (subst (λ x. 1 ≤ number_occurrences x (pairs_blocks old.pairs)) (sym e) there.1)
 
@@ -247,8 +247,8 @@ pub has_plan : (old mid : TreeState) (plan : Option MovePlan) (room : ℕ) → I
 has_plan old mid None room planned same = tt
 has_plan old mid (Some plan) room planned same = record {
   apart = planned.free.apart;
-  first = (let l = slice_get_within old.map (array_address plan.fresh).0 Free planned.free.first in omega arith);
-  second = (let l = slice_get_within old.map (array_address plan.fresh).1 Free planned.free.second in omega arith);
+  first = (let l = slice_get_within old.map (address_view plan.fresh).0 Free planned.free.first in omega arith);
+  second = (let l = slice_get_within old.map (address_view plan.fresh).1 Free planned.free.second in omega arith);
 }
 
 pub can_spread : (old mid : TreeState) (plan : Option MovePlan) (room : ℕ) → IfSome plan (IsPlanFor (kept_thread old) room) → IsSoundState old → IsSoundState mid → SameGeometry old.disk mid.disk → mid.failed ≡ false → mid.writable ≡ true → IsRecovered mid.pairs → CanSpreadWear mid plan

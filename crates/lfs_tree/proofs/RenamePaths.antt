@@ -1,10 +1,10 @@
 -- What is found at the two paths of a rename.
 use Rattle.std.proofs.Common.{ℕ, ◌≡◌, ◌≤◌, ◌+◌, ◌∙◌, ◌++◌, List, [], ◌∷◌, Option, Some, None, Result, Ok, Err, sym, ap, subst, arith}
 use Rattle.std.specs.Prelude.{IfOk, IfSome, sum_by}
-use Rattle.lfs_tree.proofs.Common.{sum_by-append, sum_by-cons, Disk, pair_count_at, ancestor_paths, CallEvent, read_count, Name, slot_of, zero_gstate, Pair, pairs_gstate, Path, IsAccepted, disk_tree, KeptThread, ThreadView, OnlyReadsThread, LeadsToPair, IsSlotBelow, LeadsToResult, AreRenameResults, rename_directories, TreeState, kept_thread}
+use Rattle.lfs_tree.proofs.Common.{sum_by-append, sum_by-cons, Disk, directory_pair_count, ancestor_paths, CallEvent, read_count, Name, slot_of, zero_gstate, Pair, pairs_gstate, Path, IsAccepted, disk_tree, KeptThread, ThreadView, OnlyReadsThread, LeadsToPair, IsSlotBelow, LeadsToResult, AreRenameResults, rename_parents, TreeState, kept_thread}
 use Rattle.lfs_device.specs.declared.error.Error.{Error}
 use Rattle.lfs_lookup.specs.AtPath.{IsLookupResult}
-use Rattle.lfs_lookup.specs.LookupPaths.{IsUnmovedSpot, IsHiddenResult}
+use Rattle.lfs_lookup.specs.LookupPaths.{IsUnhiddenSpot, IsUnhiddenResult}
 use Rattle.lfs_lookup.specs.declared.paths.PathLookup.{PathLookup}
 use Rattle.lfs_lookup.specs.declared.paths.PathLookup.TheVariants as found
 use Rattle.lfs_lookup.specs.declared.paths.VisiblePathLookup.{VisiblePathLookup}
@@ -59,7 +59,7 @@ known_behind old mid t from to (Some x) idle is k = subst (λ z. AreRenameResult
 not_deleted : (id : ℕ) → ◌≡◌ {A = Option ℕ} None (Some id) → ⊥
 not_deleted id k = absurd (cc)
 
-abbrev spot_of_shown_entry : (ps : List Pair) (path above : Path) (name : Name) (parent : ℕ) (slot : SlotPosition) → path ≡ above ++ name ∷ [] → IsSlotBelow ps above name parent slot → IsUnmovedSpot ps None path slot
+abbrev spot_of_shown_entry : (ps : List Pair) (path above : Path) (name : Name) (parent : ℕ) (slot : SlotPosition) → path ≡ above ++ name ∷ [] → IsSlotBelow ps above name parent slot → IsUnhiddenSpot ps None path slot
 spot_of_shown_entry ps path above name parent slot e s = record {
   above = above;
   name = name;
@@ -71,7 +71,7 @@ spot_of_shown_entry ps path above name parent slot e s = record {
   slot = ap (slot_of ps) e ∙ s.slot;
 }
 
-shows_to : (t : KeptThread) (path : Path) (f : PathLookup) → LeadsToResult t path f → IsHiddenResult t None path (lookup_without_parent f)
+shows_to : (t : KeptThread) (path : Path) (f : PathLookup) → LeadsToResult t path f → IsUnhiddenResult t None path (lookup_without_parent f)
 shows_to t path found.Root l = l.there
 shows_to t path found.ParentIsFile l = l.parents
 shows_to t path found.ParentIsMissing l = l.parents
@@ -86,7 +86,7 @@ shows_found t path f s ok settled l is =
 
 -- ---- how many reads that takes
 
-pub sum_of_rename : (f : Path → ℕ) (from to : Path) → sum_by f (rename_directories from to) ≡ sum_by f (ancestor_paths from) + (sum_by f (ancestor_paths from) + (sum_by f (ancestor_paths to) + f to))
+pub sum_of_rename : (f : Path → ℕ) (from to : Path) → sum_by f (rename_parents from to) ≡ sum_by f (ancestor_paths from) + (sum_by f (ancestor_paths from) + (sum_by f (ancestor_paths to) + f to))
 sum_of_rename f from to =
     let a = sum_by-append f (ancestor_paths from) (ancestor_paths from ++ (ancestor_paths to ++ to ∷ [])) in
     let b = sum_by-append f (ancestor_paths from) (ancestor_paths to ++ to ∷ []) in
@@ -94,8 +94,8 @@ sum_of_rename f from to =
     let d = sum_by-cons f to [] in
     omega (arith, a, b, c, d)
 
-pub few_since : (a b : KeptThread) (paths : List Path) (n : ℕ) → OnlyReadsThread a b → n ≤ read_count b.history + sum_by (pair_count_at b.pairs) paths → n ≤ read_count b.history + sum_by (pair_count_at a.pairs) paths
-few_since a b paths n only h = subst (λ (ps : List Pair). n ≤ read_count b.history + sum_by (pair_count_at ps) paths) only.pairs h
+pub few_since : (a b : KeptThread) (paths : List Path) (n : ℕ) → OnlyReadsThread a b → n ≤ read_count b.history + sum_by (directory_pair_count b.pairs) paths → n ≤ read_count b.history + sum_by (directory_pair_count a.pairs) paths
+few_since a b paths n only h = subst (λ (ps : List Pair). n ≤ read_count b.history + sum_by (directory_pair_count ps) paths) only.pairs h
 
-pub own_since : (a b : KeptThread) (path : Path) (n : ℕ) → OnlyReadsThread a b → n ≤ read_count b.history + pair_count_at b.pairs path → n ≤ read_count b.history + pair_count_at a.pairs path
-own_since a b path n only h = subst (λ (ps : List Pair). n ≤ read_count b.history + pair_count_at ps path) only.pairs h
+pub own_since : (a b : KeptThread) (path : Path) (n : ℕ) → OnlyReadsThread a b → n ≤ read_count b.history + directory_pair_count b.pairs path → n ≤ read_count b.history + directory_pair_count a.pairs path
+own_since a b path n only h = subst (λ (ps : List Pair). n ≤ read_count b.history + directory_pair_count ps path) only.pairs h

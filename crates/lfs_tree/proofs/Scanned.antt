@@ -2,7 +2,7 @@
 use Rattle.std.proofs.Common.{ℕ, zero, suc, ◌≡◌, ◌+◌, ◌-◌, ◌≤◌, ◌<◌, ◌∙◌, ◌&&◌, inl, inr, Bool, true, false, cond, List, [], ◌∷◌, ◌++◌, length, drop, get_or, slice_get, Option, Some, None, refl, sym, ap, ap₂, subst, arith, append_assoc, append-nil}
 use Rattle.std.specs.Prelude.{is_some, nat_lt}
 use Rattle.std.proofs.lemmas.Bool.{le-ltb, lt-ltb}
-use Rattle.lfs_tree.proofs.Common.{same_Some, directory_address, continued_address, Pair, is_hard_tail, count_before_root, IsReachedBySome, onward_some, AreUnreachedNumbers, AreUnreachedFrom, empty_anchor, MarkReached}
+use Rattle.lfs_tree.proofs.Common.{same_Some, directory_address, continued_address, Pair, is_hard_tail, count_before_root, IsReachedBySome, onward_some, AreUnreachedNumbers, AreUnreachedFrom, empty_anchor, AreReachedMarked}
 use Rattle.std.proofs.Math.Seq.{drop-cons}
 use Rattle.lfs_lookup.specs.ProfileChecks.{follows_tail_at}
 
@@ -30,7 +30,7 @@ got [] i d l = absurd (omega arith)
 got (x ∷ xs) zero d l = refl
 got (x ∷ xs) (suc i) d l = got xs i d (omega arith)
 
-module _ (ps : List Pair) (marks : List Bool) (m : MarkReached ps marks) (root i : ℕ) (low : root ≤ i) (below : i < length ps) (numbers : List ℕ) (flag : Bool) (s : IsScanning ps root i numbers flag) where
+module _ (ps : List Pair) (marks : List Bool) (m : AreReachedMarked ps marks) (root i : ℕ) (low : root ≤ i) (below : i < length ps) (numbers : List ℕ) (flag : Bool) (s : IsScanning ps root i numbers flag) where
   abbrev p : Pair
   p = get_or ps i empty_anchor
 

@@ -1,7 +1,7 @@
 -- What stands behind a commit of contents, before and after their lists are settled.
 use Rattle.std.proofs.Common.{ℕ, ◌≡◌, ◌≢◌, ◌<◌, ◌≤◌, ◌+◌, ◌∙◌, inl, inr, ⊎_elim, List, [], ◌∷◌, ◌++◌, length, None, Some, true, false, refl, sym, ap, subst, arith, append_assoc}
 use Rattle.std.specs.Prelude.{All, Contains}
-use Rattle.lfs_tree.proofs.Common.{cases_lt, All-contains, All-from_recursion, same_Some, AreByteBlocks, AnyByRecursion, among_right, HasPathSlot, tree_with_change, same_path, AreUsed, IsFree, IsInFlight, IsUsedBlock, Free, InFlight, Used, Disk, SameGeometry, disk_block, block_count, CallEvent, OnlyReadsSince, IsLayout, Name, struct_at, Session, HasEitherTree, with_blocks, slot_of, Slot, file_with_bytes, Pair, pairs_blocks, pairs_gstate, count_before_root, Path, IsAccepted, IsWritable, struct_blocks, disk_tree, used_blocks, survives_then, Contains-number_occurrences, number_occurrences-Contains, number_occurrences, count_append, each_from_counted, each_weaker, once_from_distinct, SameFileBlocks, file_blocks_same, is_list_same, HoldsAtLosses-read_count, HoldsAtLosses-trans, HoldsAtLosses-weaker, HoldsAtLosses-worst, LeftByLoss-read, IsContentsStruct, CanSettleFile, ChangesOnlyMap, IsListSettled, stored_list_blocks, here, WritesPairTwo, HasStoredContents, tree_with_contents, KeptThread, ThreadView, thread_pair, ChangesThreadBlocks, HasFurtherCalls, CanChangeRecovered, SurvivesEither, writer_contents_bytes, CanCommitContents, CanPutContents, HasCommittedBytes, IsPathFile, finished_list, list_in_struct, finished_struct, ChangesPathPair, SizedLists}
+use Rattle.lfs_tree.proofs.Common.{cases_lt, All-contains, All-from_recursion, same_Some, AreByteBlocks, AnyByRecursion, among_right, HasPathSlot, tree_with_change, same_path, AreUsed, IsFree, IsInFlight, IsUsedBlock, Free, InFlight, Used, Disk, SameGeometry, disk_block, block_count, CallEvent, OnlyReadsSince, IsLayout, Name, struct_at, Session, HasEitherTree, with_blocks, slot_of, Slot, node_with_bytes, Pair, pairs_blocks, pairs_gstate, count_before_root, Path, IsAccepted, IsWritable, struct_blocks, disk_tree, used_blocks, survives_then, Contains-number_occurrences, number_occurrences-Contains, number_occurrences, count_append, each_from_counted, each_weaker, once_from_distinct, SameFileBlocks, file_blocks_same, is_list_same, HoldsAtLosses-read_count, HoldsAtLosses-trans, HoldsAtLosses-weaker, HoldsAtLosses-worst, LeftByLoss-read, IsContentsStruct, CanSettleLists, ChangesOnlyMap, IsListSettled, stored_list_blocks, here, WritesPairTwo, HasStoredContents, tree_with_contents, KeptThread, ThreadView, thread_pair, ChangesThreadBlocks, HasFurtherCalls, CanChangeRecovered, SurvivesEither, writer_contents_bytes, CanCommitContents, CanPutContents, HasCommittedBytes, IsPathFile, finished_list, list_in_struct, finished_struct, ChangesPathPair, SizedLists}
 use Rattle.lfs_model.specs.session.History.{HoldsAtLosses}
 use Rattle.lfs_model.specs.session.Operations as ops
 use Rattle.lfs_model.specs.session.Session.{FileWriter, Writing}
@@ -72,7 +72,7 @@ module _ (t : KeptThread) (path : Path) (u : Slot) (ok : IsAccepted t.disk t.pai
       (λ free. absurd (now_taken b k free)) (is.places b has))
       (cases_lt 0 (number_occurrences b (struct_blocks t.disk u.struct)))
 
-  pub can_settle : CanSettleFile new (list_in_struct u.struct) (finished_list c)
+  pub can_settle : CanSettleLists new (list_in_struct u.struct) (finished_list c)
   can_settle = record {
     was = base_before new.disk u.struct (is_list_same t.disk new.disk u.struct geometry was_same (list_there t path u ok used at sized));
     list = base_now new.disk c (is_list_same t.disk new.disk (finished_struct c) geometry now_same come.list);
@@ -141,7 +141,7 @@ module _ (t : KeptThread) (path : Path) (u : Slot) (ok : IsAccepted t.disk t.pai
       fits = on (λ d ps. IsWritable d ps) is.now.ready.writable;
       settled = ap pairs_gstate only.pairs ∙ is.now.ready.settled;
       root = ap count_before_root only.pairs ∙ is.now.root;
-      shows = on (λ d ps. disk_tree d ps ≡ tree_with_change path (file_with_bytes (writer_contents_bytes t c)) (disk_tree t.disk t.pairs)) (is.now.shows ∙ ap (λ p. tree_with_change p (file_with_bytes (writer_contents_bytes t c)) (disk_tree t.disk t.pairs)) (sym e));
+      shows = on (λ d ps. disk_tree d ps ≡ tree_with_change path (node_with_bytes (writer_contents_bytes t c)) (disk_tree t.disk t.pairs)) (is.now.shows ∙ ap (λ p. tree_with_change p (node_with_bytes (writer_contents_bytes t c)) (disk_tree t.disk t.pairs)) (sym e));
       synced = λ files fd writer wr. on (λ d ps. IsLayout t.disk t.pairs (record { tree = disk_tree t.disk t.pairs; files = files }) (ops.Sync fd) d ps)
           (is.synced (record { tree = disk_tree t.disk t.pairs; files = files }) fd writer refl (wr.0, (wr.1.0, (wr.1.1.0 ∙ e, wr.1.1.1)))).laid_out;
       closed = λ files fd writer wr. on (λ d ps. IsLayout t.disk t.pairs (record { tree = disk_tree t.disk t.pairs; files = files }) (ops.Close fd) d ps)
@@ -198,8 +198,8 @@ module _ (t : ThreadView) (root : ℕ) (rests : CanChangeRecovered t root) (path
     unfolding can_put can_edit
     is = gives can_put
 
-    pub settles : CanSettleFile new file.list (finished_list c)
-    settles = subst (λ l. CanSettleFile new l (finished_list c)) (sym slot.list)
+    pub settles : CanSettleLists new file.list (finished_list c)
+    settles = subst (λ l. CanSettleLists new l (finished_list c)) (sym slot.list)
         (can_settle (with_history t.kept h) path u ok used at sized c (can_read t.kept h path c can) file.spot.pair below new w slot.slot.above slot.slot.name come is)
 
     -- the pair of the slot is written, and blocks that were free
@@ -226,28 +226,28 @@ module _ (t : ThreadView) (root : ℕ) (rests : CanChangeRecovered t root) (path
           (subst (λ l. IsListSettled new l (finished_list c) later) slot.list settled) slot.slot.is changes)
 
       -- the calls that settle only read
-      pub survives_settled : OnlyReadsSince t.kept.disk.blocks t.kept.history h → SurvivesEither t.kept new (tree_with_change path (file_with_bytes (writer_contents_bytes t.kept c)) (disk_tree t.kept.disk t.kept.pairs))
-          → SurvivesEither t.kept later (tree_with_change path (file_with_bytes (writer_contents_bytes t.kept c)) (disk_tree t.kept.disk t.kept.pairs))
+      pub survives_settled : OnlyReadsSince t.kept.disk.blocks t.kept.history h → SurvivesEither t.kept new (tree_with_change path (node_with_bytes (writer_contents_bytes t.kept c)) (disk_tree t.kept.disk t.kept.pairs))
+          → SurvivesEither t.kept later (tree_with_change path (node_with_bytes (writer_contents_bytes t.kept c)) (disk_tree t.kept.disk t.kept.pairs))
       survives_settled reads k =
-          let after = tree_with_change path (file_with_bytes (writer_contents_bytes t.kept c)) (disk_tree t.kept.disk t.kept.pairs) in
+          let after = tree_with_change path (node_with_bytes (writer_contents_bytes t.kept c)) (disk_tree t.kept.disk t.kept.pairs) in
           let disk_is : new.disk ≡ with_blocks new.disk.blocks t.kept.disk = λ i. record { block_size = w.writes.shape.block_size i; page = w.writes.shape.page i; order = w.writes.shape.order i; profile = w.writes.shape.profile i; blocks = new.disk.blocks } in
           let first : HoldsAtLosses LeftByLoss t.kept.history new.history (λ d. Unit {0}) = HoldsAtLosses-trans (HoldsAtLosses-read_count LeftByLoss-read reads tt) (HoldsAtLosses-weaker (λ d p. tt) (HoldsAtLosses-worst w.writes.at_worst)) in
           survives_then t.kept.disk t.kept.history new.history later.history (disk_tree t.kept.disk t.kept.pairs) after first only.reads k
           (λ clean. HoldsAtLosses-read_count LeftByLoss-read only.reads
-          (subst (λ (d : Disk). HasEitherTree d (disk_tree t.kept.disk t.kept.pairs) (tree_with_change path (file_with_bytes (writer_contents_bytes t.kept c)) (disk_tree t.kept.disk t.kept.pairs))) disk_is
+          (subst (λ (d : Disk). HasEitherTree d (disk_tree t.kept.disk t.kept.pairs) (tree_with_change path (node_with_bytes (writer_contents_bytes t.kept c)) (disk_tree t.kept.disk t.kept.pairs))) disk_is
           (record {
             pairs = new.pairs;
             accepted = is.now.ready.accepted;
             writable = is.now.ready.writable;
-            tree = inr (is.now.shows ∙ ap (λ p. tree_with_change p (file_with_bytes (writer_contents_bytes t.kept c)) (disk_tree t.kept.disk t.kept.pairs)) (sym slot.slot.is));
+            tree = inr (is.now.shows ∙ ap (λ p. tree_with_change p (node_with_bytes (writer_contents_bytes t.kept c)) (disk_tree t.kept.disk t.kept.pairs)) (sym slot.slot.is));
           })))
 
   pub survives_put : (new : KeptThread) (w : WritesPairTwo (with_history t.kept h) file.spot.pair new) → OnlyReadsSince t.kept.disk.blocks t.kept.history h
       → ((put : CanPutContents (with_history t.kept h) file.spot c) → SurvivesEither (with_history t.kept h) new (tree_with_contents (with_history t.kept h) put.can.path put.can.name (writer_contents_bytes (with_history t.kept h) c)))
-      → SurvivesEither t.kept new (tree_with_change path (file_with_bytes (writer_contents_bytes t.kept c)) (disk_tree t.kept.disk t.kept.pairs))
+      → SurvivesEither t.kept new (tree_with_change path (node_with_bytes (writer_contents_bytes t.kept c)) (disk_tree t.kept.disk t.kept.pairs))
   unfolding can_put can_edit
   survives_put new w reads gives =
-      subst (λ p. SurvivesEither t.kept new (tree_with_change p (file_with_bytes (writer_contents_bytes t.kept c)) (disk_tree t.kept.disk t.kept.pairs))) (sym slot.slot.is)
+      subst (λ p. SurvivesEither t.kept new (tree_with_change p (node_with_bytes (writer_contents_bytes t.kept c)) (disk_tree t.kept.disk t.kept.pairs))) (sym slot.slot.is)
       (survives_behind t root rests h new _ (tree_with_contents t.kept slot.slot.above slot.slot.name (writer_contents_bytes t.kept c)) reads w.writes (gives can_put))
 
 pub called_beside : (a b c : KeptThread) → HasFurtherCalls a b → ChangesOnlyMap b c → HasFurtherCalls a c

@@ -3,7 +3,7 @@ use Rattle.std.proofs.Common.{ℕ, ◌≡◌, ◌≢◌, ◌⊎◌, ◌<◌, ◌
 use Rattle.std.specs.Prelude.{IfErr, OnOk, is_err}
 use Rattle.lfs_device.specs.declared.error.Error.{Error}
 use Rattle.lfs_device.specs.declared.error.Error.TheVariants.{Io, NoMemory}
-use Rattle.lfs_tree.proofs.Common.{ChangesOnlyMap, ThreadReportsFaults, KeepsOthers, count_before_root, addresses_blocks, tree_renaming, without_prefix, IsPlaceOf, Name, Struct, Path, branch_address, disk_tree, CompletesOperation, WritesTouchedFree, WritesPairTwo, SameInFlight, CanEditIn, WritesPairsTwo, second_pair, WritesThreadFree, tree_moved, IsReadyImage, tree_renamed, KeptThread, ThreadView, thread_pair, SurvivesEither, IsStorage, CanMoveEntry, CanMoveOntoFile, HasMovedEntry, ThreadWorksOrReports}
+use Rattle.lfs_tree.proofs.Common.{ChangesOnlyMap, ThreadReportsFaults, KeepsOthers, count_before_root, addresses_blocks, tree_renaming, without_prefix, IsPlaceOf, Name, Struct, Path, branch_address, disk_tree, CompletesOperation, WritesTouchedFree, WritesPairTwo, SameInFlight, CanEditIn, WritesPairsTwo, second_step_pair, WritesThreadFree, tree_moved, IsReadyImage, tree_renamed, KeptThread, ThreadView, thread_pair, SurvivesEither, IsStorage, CanMoveEntry, CanMoveOntoFile, HasMovedEntry, ThreadWorksOrReports}
 use Rattle.lfs_model.specs.session.Operations as ops
 use Rattle.lfs_operations.specs.MovingOnto.{CanReplaceFileAcross, IsFileReplaced}
 use Rattle.lfs_operations.specs.Renaming.{CanRenameOnto, IsRenamedOnto}
@@ -127,7 +127,7 @@ module _ (t : KeptThread) (from to : Path) (source : RenameSource) (slot : SlotP
   below_target : slot.pair < length t.pairs
   below_target = behind_below t.pairs shift.first slot.pair can.target.pair can.target.rest can.target.place
 
-  pub onto_apart : (new : KeptThread) → source.slot.pair ≢ slot.pair → WritesPairsTwo t (second_pair t source.slot.pair source.first) slot.pair new → WritesTouchedFree t (addresses_blocks (thread_pair t source.slot.pair).at (thread_pair t slot.pair).at) new
+  pub onto_apart : (new : KeptThread) → source.slot.pair ≢ slot.pair → WritesPairsTwo t (second_step_pair t source.slot.pair source.first) slot.pair new → WritesTouchedFree t (addresses_blocks (thread_pair t source.slot.pair).at (thread_pair t slot.pair).at) new
       → ((rename : CanReplaceFileAcross t source.slot.pair source.slot.id source.first slot.pair slot.id name) → IsFileReplaced t new rename.old.path rename.old.name rename.path name rename.target.stands.slot.struct) → HasMovedOnto t from to contents new
   unfolding replace_apart target_edit
   onto_apart new ne w alters gives =
@@ -142,7 +142,7 @@ module _ (t : KeptThread) (from to : Path) (source : RenameSource) (slot : SlotP
         alone = spares_two t new from to source name shift slot can.target alters;
       }
 
-  pub onto_writes_apart : (new : KeptThread) → WritesPairsTwo t (second_pair t source.slot.pair source.first) slot.pair new → WritesThreadFree t new
+  pub onto_writes_apart : (new : KeptThread) → WritesPairsTwo t (second_step_pair t source.slot.pair source.first) slot.pair new → WritesThreadFree t new
   onto_writes_apart new w = apart_across t from to source name slot.pair new shift below_target w
 
 -- ---- the file's list is freed behind it

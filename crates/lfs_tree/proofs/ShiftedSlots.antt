@@ -1,10 +1,10 @@
 -- An entry that gets another path: what the operations on slots ask for, and what they come to.
 use Rattle.std.proofs.Common.{ℕ, ◌≡◌, ◌≢◌, ◌⊎◌, inl, inr, ◌<◌, ◌≤◌, ◌∙◌, ◌++◌, Bool, true, false, List, [], ◌∷◌, length, Result, Ok, Err, sym, ap, ap₂, subst, arith}
 use Rattle.std.specs.Prelude.{IfErr, OnOk, slice_get}
-use Rattle.lfs_tree.proofs.Common.{AllByRecursion, All-from_recursion, same_Some, tree_renaming, without_prefix, IsFree, IsUsedBlock, Free, Used, PairChange, disk_block, BelongsAt, IsDirectoryPair, Name, Slot, pairs_blocks, address_blocks, Path, all_unmoved_slots, struct_blocks, disk_tree, used_blocks, Contains-number_occurrences, number_occurrences-Contains, Each, number_occurrences, count_append, each_from_counted, each_weaker, SameFileBlocks, file_blocks, WritesTouchedFree, HasTwoFree, WritesPairTwo, has_failed_after, CanEditIn, editable_slot, HasFreeBlocks, WritesPairsTwo, second_pair, WritesThreadFree, IsRenamedAcross, tree_moved, IsReadyImage, IsReadyUnsettled, drops_with_its_slot, tree_renamed, KeptThread, ThreadView, ChangesThreadBlocks, thread_pair, SurvivesEither, CanMoveEntry, CanMoveToVacant, HasMovedEntry, ThreadWorksOrReports}
+use Rattle.lfs_tree.proofs.Common.{AllByRecursion, All-from_recursion, same_Some, tree_renaming, without_prefix, IsFree, IsUsedBlock, Free, Used, ContentChange, disk_block, BelongsAt, IsDirectoryPair, Name, Slot, pairs_blocks, address_blocks, Path, all_unmoved_slots, struct_blocks, disk_tree, used_blocks, Contains-number_occurrences, number_occurrences-Contains, Each, number_occurrences, count_append, each_from_counted, each_weaker, SameFileBlocks, file_blocks, WritesTouchedFree, HasTwoFree, WritesPairTwo, has_failed_after, CanEditIn, editable_slot, HasFreeBlocks, WritesPairsTwo, second_step_pair, WritesThreadFree, IsRenamedAcross, tree_moved, IsReadyImage, IsReadyUnsettled, drops_emptied_pair, tree_renamed, KeptThread, ThreadView, ChangesThreadBlocks, thread_pair, SurvivesEither, CanMoveEntry, CanMoveToVacant, HasMovedEntry, ThreadWorksOrReports}
 use Rattle.lfs_device.specs.declared.error.Error.{Error}
 use Rattle.lfs_device.specs.declared.error.Error.TheVariants.{Io, NoMemory, NoSpace}
-use Rattle.lfs_operations.specs.MoveEnds.{written_by_ending}
+use Rattle.lfs_operations.specs.MoveEnds.{ending_written_pair}
 use Rattle.lfs_operations.specs.MovingSteps.{ReportsTakingCommits}
 use Rattle.lfs_operations.specs.MovingAcross.{CanRenameAcross}
 use Rattle.lfs_operations.specs.Renaming.{CanRenameWithin, IsRenamedWithin, ReportsReadPut}
@@ -40,7 +40,7 @@ works_on new P (Ok x) (inl h) = h
 works_on new P (Ok x) (inr h) = h.0
 works_on new P (Err e) h = tt
 
-pub reported_within : {X : Type 0} (old new : ThreadView) (index : ℕ) (changes : List PairChange) (r : Result X Error) → HasFreeBlocks 2 old.kept.map → ReportsReadPut old new index changes r → ThreadWorksOrReports old new r
+pub reported_within : {X : Type 0} (old new : ThreadView) (index : ℕ) (changes : List ContentChange) (r : Result X Error) → HasFreeBlocks 2 old.kept.map → ReportsReadPut old new index changes r → ThreadWorksOrReports old new r
 reported_within old new index changes r room t = record {
   works = works_on new _ r t.failed;
   errors = reported_errors old.kept r room t.reports.no_space t.reports.errors;
@@ -48,7 +48,7 @@ reported_within old new index changes r room t = record {
   no_fault = t.reports.no_fault;
 }
 
-pub reported_across : {X : Type 0} (old new : ThreadView) (index : ℕ) (changes : List PairChange) (r : Result X Error) → HasFreeBlocks 2 old.kept.map → ReportsTakingCommits old new index changes r → ThreadWorksOrReports old new r
+pub reported_across : {X : Type 0} (old new : ThreadView) (index : ℕ) (changes : List ContentChange) (r : Result X Error) → HasFreeBlocks 2 old.kept.map → ReportsTakingCommits old new index changes r → ThreadWorksOrReports old new r
 reported_across old new index changes r room t = record {
   works = works_on new _ r t.failed;
   errors = reported_errors old.kept r room t.no_space t.errors;
@@ -85,25 +85,25 @@ pub within_written : (t : KeptThread) (from to : Path) (source : RenameSource) (
 within_written t from to source name new can w = let k = in_pair t source.slot.pair (source_below t from to source name can) in (inl k.0, (inl k.1, all_free t w.fresh w.free))
 
 -- the pair that the second step writes
-left_below : (t : KeptThread) (index first : ℕ) → index < length t.pairs → second_pair t index first < length t.pairs
-left_below t index first below = go (drops_with_its_slot t index first)
+left_below : (t : KeptThread) (index first : ℕ) → index < length t.pairs → second_step_pair t index first < length t.pairs
+left_below t index first below = go (drops_emptied_pair t index first)
   where
-    go : (b : Bool) → written_by_ending index b < length t.pairs
+    go : (b : Bool) → ending_written_pair index b < length t.pairs
     go true = omega arith
     go false = below
 
-pub across_written : (t : KeptThread) (from to : Path) (source : RenameSource) (name : Name) (other : ℕ) (new : KeptThread) → CanMoveEntry t from to source name → other < length t.pairs → (w : WritesPairsTwo t (second_pair t source.slot.pair source.first) other new)
-    → (let one = second_pair t source.slot.pair source.first in Each (IsBeside t) ((thread_pair t other).at.0 ∷ (thread_pair t other).at.1 ∷ (thread_pair t one).at.0 ∷ (thread_pair t one).at.1 ∷ w.fresh))
+pub across_written : (t : KeptThread) (from to : Path) (source : RenameSource) (name : Name) (other : ℕ) (new : KeptThread) → CanMoveEntry t from to source name → other < length t.pairs → (w : WritesPairsTwo t (second_step_pair t source.slot.pair source.first) other new)
+    → (let one = second_step_pair t source.slot.pair source.first in Each (IsBeside t) ((thread_pair t other).at.0 ∷ (thread_pair t other).at.1 ∷ (thread_pair t one).at.0 ∷ (thread_pair t one).at.1 ∷ w.fresh))
 across_written t from to source name other new can below w =
     let k = in_pair t other below in
-    let l = in_pair t (second_pair t source.slot.pair source.first) (left_below t source.slot.pair source.first (source_below t from to source name can)) in
+    let l = in_pair t (second_step_pair t source.slot.pair source.first) (left_below t source.slot.pair source.first (source_below t from to source name can)) in
     (inl k.0, (inl k.1, (inl l.0, (inl l.1, all_free t w.fresh w.free))))
 
-pub apart_across : (t : KeptThread) (from to : Path) (source : RenameSource) (name : Name) (other : ℕ) (new : KeptThread) → CanMoveEntry t from to source name → other < length t.pairs → WritesPairsTwo t (second_pair t source.slot.pair source.first) other new → WritesThreadFree t new
+pub apart_across : (t : KeptThread) (from to : Path) (source : RenameSource) (name : Name) (other : ℕ) (new : KeptThread) → CanMoveEntry t from to source name → other < length t.pairs → WritesPairsTwo t (second_step_pair t source.slot.pair source.first) other new → WritesThreadFree t new
 apart_across t from to source name other new can below w = record {
   blocks = _;
   writes = w.writes;
-  each = among_two t other (second_pair t source.slot.pair source.first) w.fresh below (left_below t source.slot.pair source.first (source_below t from to source name can)) w.free;
+  each = among_two t other (second_step_pair t source.slot.pair source.first) w.fresh below (left_below t source.slot.pair source.first (source_below t from to source name can)) w.free;
 }
 
 -- none of them is a file's
@@ -220,6 +220,6 @@ module _ (t : KeptThread) (from to : Path) (source : RenameSource) (place : Slot
         alone = spares_one t new from to source name shift alters;
       }
 
-  pub writes_apart : (new : KeptThread) → WritesPairsTwo t (second_pair t source.slot.pair source.first) place.pair new → WritesThreadFree t new
+  pub writes_apart : (new : KeptThread) → WritesPairsTwo t (second_step_pair t source.slot.pair source.first) place.pair new → WritesThreadFree t new
   writes_apart new w = apart_across t from to source name place.pair new shift
       (behind_below t.pairs shift.first place.pair can.belongs.pair _ can.belongs.place) w

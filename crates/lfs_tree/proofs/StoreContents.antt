@@ -2,14 +2,14 @@
 use Rattle.std.proofs.Common.{ℕ, ◌≡◌, ◌≤◌, ◌+◌, ◌∙◌, Bool, true, false, List, [], ◌∷◌, ◌++◌, length, Result, Ok, Err, refl, sym, ap, ap₂, subst, arith, append_assoc}
 use Rattle.std.specs.Prelude.{IfErr, OnOk, Contains}
 use Rattle.lfs_device.specs.declared.error.Error.{Error}
-use Rattle.lfs_tree.proofs.Common.{HasPathSlot, tree_with_change, Blocks, used_count, Disk, block_count, inline_limit, AllCalls, AllCallsSince, CallEvent, fault_count, IsLayout, Operation, HasEitherTree, SurvivesLossSince, with_blocks, Session, list_block_count, file_with_bytes, Pair, pairs_gstate, Path, Tree, IsAccepted, disk_tree, used_blocks, survives_then, arranged_after, recovered_stays, recovered_from, HoldsAtLosses-weaker, HoldsAtLosses-worst, CanFinish, HaveThreadForm, KeepsPairs, contents_list_blocks, KeptThread, ThreadView, HasFurtherCalls, CanChangeRecovered, SurvivesEither, HasThreadCause, SoundUnlessFailed, uncached_state, thread_state, KeepsListBytes, CanStoreContents, writer_contents_bytes, IsSoundState, TreeState, shown_tree, CanCommitContents, HasCommittedBytes, StoresOnThread, IsFinishedForm, ChangesPathPair, contents_bytes, finish_room, form_after_finish, contents_form, ContentsForm, AreUsedAmong}
+use Rattle.lfs_tree.proofs.Common.{HasPathSlot, tree_with_change, Blocks, used_count, Disk, block_count, inline_limit, AllCalls, AllCallsSince, CallEvent, fault_count, IsLayout, Operation, HasEitherTree, SurvivesLossSince, with_blocks, Session, list_block_count, node_with_bytes, Pair, pairs_gstate, Path, Tree, IsAccepted, disk_tree, used_blocks, survives_then, arranged_after, recovered_stays, recovered_from, HoldsAtLosses-weaker, HoldsAtLosses-worst, CanFinish, HaveThreadForm, KeepsPairs, contents_list_blocks, KeptThread, ThreadView, HasFurtherCalls, CanChangeRecovered, SurvivesEither, HasThreadCause, SoundUnlessFailed, uncached_state, thread_state, KeepsListBytes, CanStoreContents, writer_contents_bytes, IsSoundState, TreeState, shown_tree, CanCommitContents, HasCommittedBytes, StoresInPlace, IsFinishedForm, ChangesPathPair, contents_bytes, finish_room, form_after_finish, contents_form, ContentsForm, AreUsedAmong}
 use Rattle.lfs_model.specs.session.Operations as ops
 use Rattle.lfs_model.proofs.Unmoved.{nothing_moves}
 use Rattle.lfs_tree.proofs.LeftAlone.{files_of_alone, pair_of_alone}
 use Rattle.lfs_tree.proofs.Asking.{seen_working}
 use Rattle.lfs_tree.specs.KeptFiles.{KeepsOtherFiles}
 use Rattle.lfs_tree.proofs.KeptFiles.{list_stays}
-use Rattle.lfs_tree.specs.OpenContents.{IsWriterLayoutRecovered, InlineWithinLimit, StoresBytesAt, kept_thread}
+use Rattle.lfs_tree.specs.OpenContents.{IsWriterLayoutRecovered, InlineWithinLimit, AreBytesStored, kept_thread}
 use Rattle.lfs_tree.specs.Stores.{IsWriterLayout}
 use Rattle.lfs_tree.proofs.BesideWritten.{accepted_beside, bytes_of_held, geometry_beside, left_beside, over_beside, rooted_beside, tree_beside}
 use Rattle.lfs_tree.proofs.UsedBlocks.{count_is}
@@ -85,13 +85,13 @@ module _ (t : ThreadView) (root : ℕ) (rests : CanChangeRecovered t root) (path
       }
 
       abbrev turn : Tree
-      turn = tree_with_change path (file_with_bytes (writer_contents_bytes t.kept contents)) (disk_tree t.kept.disk t.kept.pairs)
+      turn = tree_with_change path (node_with_bytes (writer_contents_bytes t.kept contents)) (disk_tree t.kept.disk t.kept.pairs)
 
       tree_same : disk_tree b.kept.disk b.kept.pairs ≡ disk_tree t.kept.disk t.kept.pairs
       tree_same = tree_beside t.kept b.kept leaves sound.accepted sound.used
 
-      turn_same : tree_with_change path (file_with_bytes (writer_contents_bytes b.kept c)) (disk_tree b.kept.disk b.kept.pairs) ≡ tree_with_change path (file_with_bytes (writer_contents_bytes t.kept contents)) (disk_tree t.kept.disk t.kept.pairs)
-      turn_same = ap (λ (x : Tree). tree_with_change path (file_with_bytes (writer_contents_bytes b.kept c)) x) tree_same ∙ ap (λ z. tree_with_change path (file_with_bytes z) (disk_tree t.kept.disk t.kept.pairs)) bytes_same
+      turn_same : tree_with_change path (node_with_bytes (writer_contents_bytes b.kept c)) (disk_tree b.kept.disk b.kept.pairs) ≡ tree_with_change path (node_with_bytes (writer_contents_bytes t.kept contents)) (disk_tree t.kept.disk t.kept.pairs)
+      turn_same = ap (λ (x : Tree). tree_with_change path (node_with_bytes (writer_contents_bytes b.kept c)) x) tree_same ∙ ap (λ z. tree_with_change path (node_with_bytes z) (disk_tree t.kept.disk t.kept.pairs)) bytes_same
 
       -- seen from before the end of the list
       arranged_before : (new : KeptThread) (op : ℕ → Operation) → IsWriterLayout b.kept path (writer_contents_bytes b.kept c) op new → IsWriterLayoutRecovered (uncached_state t.kept true false) path (writer_contents_bytes t.kept contents) op (uncached_state new true false)
@@ -124,7 +124,7 @@ module _ (t : ThreadView) (root : ℕ) (rests : CanChangeRecovered t root) (path
       lists_before : (new : KeptThread) → ChangesPathPair b.kept.disk b.kept.pairs path new.disk → KeepsListBytes t.kept.disk t.kept.pairs new.disk
       lists_before new k = files_of_alone t.kept.disk new.disk t.kept.pairs [] path sound.accepted (changes_before new.disk k)
 
-      stored_before : (new : KeptThread) → HasFurtherCalls t.kept new → fault_count new.history ≡ fault_count t.kept.history → HasCommittedBytes b.kept path (writer_contents_bytes b.kept c) new → StoresOnThread t.kept path (writer_contents_bytes t.kept contents) new
+      stored_before : (new : KeptThread) → HasFurtherCalls t.kept new → fault_count new.history ≡ fault_count t.kept.history → HasCommittedBytes b.kept path (writer_contents_bytes b.kept c) new → StoresInPlace t.kept path (writer_contents_bytes t.kept contents) new
       stored_before new called quiet k = record { stored = stored; synced = synced; closed = closed }
         where
           synced : IsWriterLayoutRecovered (uncached_state t.kept true false) path (writer_contents_bytes t.kept contents) ops.Sync (uncached_state new true false)
@@ -133,7 +133,7 @@ module _ (t : ThreadView) (root : ℕ) (rests : CanChangeRecovered t root) (path
           closed : IsWriterLayoutRecovered (uncached_state t.kept true false) path (writer_contents_bytes t.kept contents) ops.Close (uncached_state new true false)
           closed = arranged_before new ops.Close k.closed
 
-          stored : StoresBytesAt (uncached_state t.kept true false) path (writer_contents_bytes t.kept contents) (uncached_state new true false)
+          stored : AreBytesStored (uncached_state t.kept true false) path (writer_contents_bytes t.kept contents) (uncached_state new true false)
           stored = record {
             works = refl;
             sound = k.sound;
@@ -153,36 +153,36 @@ module _ (t : ThreadView) (root : ℕ) (rests : CanChangeRecovered t root) (path
             none_in_flight = k.none_in_flight;
           }
 
-      pub all_stored : (new : KeptThread) (r : Result (Unit {0}) Error) → HasFurtherCalls t.kept new → fault_count b.kept.history ≡ fault_count t.kept.history → OnOk r (fault_count new.history ≡ fault_count b.kept.history) → OnOk r (HasCommittedBytes b.kept path (writer_contents_bytes b.kept c) new) → OnOk r (StoresOnThread t.kept path (writer_contents_bytes t.kept contents) new)
+      pub all_stored : (new : KeptThread) (r : Result (Unit {0}) Error) → HasFurtherCalls t.kept new → fault_count b.kept.history ≡ fault_count t.kept.history → OnOk r (fault_count new.history ≡ fault_count b.kept.history) → OnOk r (HasCommittedBytes b.kept path (writer_contents_bytes b.kept c) new) → OnOk r (StoresInPlace t.kept path (writer_contents_bytes t.kept contents) new)
       all_stored new (Ok u) called same quiet k = stored_before new called (quiet ∙ same) k
       all_stored new (Err e) called same quiet k = tt
 
-      pub survives_then_commit : (new : KeptThread) → HasFurtherCalls b.kept new → SurvivesEither b.kept new (tree_with_change path (file_with_bytes (writer_contents_bytes b.kept c)) (disk_tree b.kept.disk b.kept.pairs))
-          → SurvivesEither t.kept new (tree_with_change path (file_with_bytes (writer_contents_bytes t.kept contents)) (disk_tree t.kept.disk t.kept.pairs))
+      pub survives_then_commit : (new : KeptThread) → HasFurtherCalls b.kept new → SurvivesEither b.kept new (tree_with_change path (node_with_bytes (writer_contents_bytes b.kept c)) (disk_tree b.kept.disk b.kept.pairs))
+          → SurvivesEither t.kept new (tree_with_change path (node_with_bytes (writer_contents_bytes t.kept contents)) (disk_tree t.kept.disk t.kept.pairs))
       survives_then_commit new called k =
           let second : AllCallsSince (λ e. Unit {0}) b.kept.history new.history = record { events = called.calls; extends = called.called; each = each_any called.calls } in
-          let after = tree_with_change path (file_with_bytes (writer_contents_bytes t.kept contents)) (disk_tree t.kept.disk t.kept.pairs) in
+          let after = tree_with_change path (node_with_bytes (writer_contents_bytes t.kept contents)) (disk_tree t.kept.disk t.kept.pairs) in
           let same : (blocks : Blocks) → with_blocks blocks b.kept.disk ≡ with_blocks blocks t.kept.disk = λ blocks. λ i. record { block_size = leaves.shape.block_size i; page = leaves.shape.page i; order = leaves.shape.order i; profile = leaves.shape.profile i; blocks = blocks } in
           survives_then t.kept.disk t.kept.history b.kept.history new.history (disk_tree t.kept.disk t.kept.pairs) after leaves.at_worst second (survives_beside after)
           (λ clean. HoldsAtLosses-weaker (λ blocks left.
-          subst (λ (d : Disk). HasEitherTree d (disk_tree t.kept.disk t.kept.pairs) (tree_with_change path (file_with_bytes (writer_contents_bytes t.kept contents)) (disk_tree t.kept.disk t.kept.pairs))) (same blocks)
-          (subst (λ (x : Tree). HasEitherTree (with_blocks blocks b.kept.disk) x (tree_with_change path (file_with_bytes (writer_contents_bytes t.kept contents)) (disk_tree t.kept.disk t.kept.pairs))) tree_same
+          subst (λ (d : Disk). HasEitherTree d (disk_tree t.kept.disk t.kept.pairs) (tree_with_change path (node_with_bytes (writer_contents_bytes t.kept contents)) (disk_tree t.kept.disk t.kept.pairs))) (same blocks)
+          (subst (λ (x : Tree). HasEitherTree (with_blocks blocks b.kept.disk) x (tree_with_change path (node_with_bytes (writer_contents_bytes t.kept contents)) (disk_tree t.kept.disk t.kept.pairs))) tree_same
           (subst (λ (x : Tree). HasEitherTree (with_blocks blocks b.kept.disk) (disk_tree b.kept.disk b.kept.pairs) x) turn_same left))) (k clean))
 
 -- ---- seen from a tree
 
 module _ (thread : ThreadView) (root : ℕ) (writable : Bool) (now : TreeState) (kept : SoundUnlessFailed thread root writable) (view : thread_state thread writable ≡ now) (works : now.failed ≡ false) (may : now.writable ≡ true) (path : Path) (contents : WriterContents) where
-  pub stored_working : (new : ThreadView) → new.failed ≡ false → StoresOnThread thread.kept path (writer_contents_bytes thread.kept contents) new.kept → StoresBytesAt now path (writer_contents_bytes (kept_thread now) contents) (thread_state new writable)
+  pub stored_working : (new : ThreadView) → new.failed ≡ false → StoresInPlace thread.kept path (writer_contents_bytes thread.kept contents) new.kept → AreBytesStored now path (writer_contents_bytes (kept_thread now) contents) (thread_state new writable)
   stored_working new still k =
-      subst (λ a. StoresBytesAt now path (writer_contents_bytes (kept_thread now) contents) (uncached_state new.kept a new.failed)) (sym (ap (λ (s : TreeState). s.writable) view ∙ may))
-      (subst (λ b. StoresBytesAt now path (writer_contents_bytes (kept_thread now) contents) (uncached_state new.kept true b)) (sym still)
-      (subst (λ (s : TreeState). StoresBytesAt s path (writer_contents_bytes (kept_thread s) contents) (uncached_state new.kept true false)) (sym (seen_working thread root writable now kept view works may)) k.stored))
+      subst (λ a. AreBytesStored now path (writer_contents_bytes (kept_thread now) contents) (uncached_state new.kept a new.failed)) (sym (ap (λ (s : TreeState). s.writable) view ∙ may))
+      (subst (λ b. AreBytesStored now path (writer_contents_bytes (kept_thread now) contents) (uncached_state new.kept true b)) (sym still)
+      (subst (λ (s : TreeState). AreBytesStored s path (writer_contents_bytes (kept_thread s) contents) (uncached_state new.kept true false)) (sym (seen_working thread root writable now kept view works may)) k.stored))
 
-  pub all_stored_working : (r : Result (Unit {0}) Error) (new : ThreadView) → OnOk r (StoresOnThread thread.kept path (writer_contents_bytes thread.kept contents) new.kept) → OnOk r (new.failed ≡ false) → OnOk r (StoresBytesAt now path (writer_contents_bytes (kept_thread now) contents) (thread_state new writable))
+  pub all_stored_working : (r : Result (Unit {0}) Error) (new : ThreadView) → OnOk r (StoresInPlace thread.kept path (writer_contents_bytes thread.kept contents) new.kept) → OnOk r (new.failed ≡ false) → OnOk r (AreBytesStored now path (writer_contents_bytes (kept_thread now) contents) (thread_state new writable))
   all_stored_working (Ok x) new k still = stored_working new still k
   all_stored_working (Err e) new k still = tt
 
-  pub survives_stored : (new : List CallEvent) → SurvivesLossSince thread.kept.disk thread.kept.history new (disk_tree thread.kept.disk thread.kept.pairs) (tree_with_change path (file_with_bytes (writer_contents_bytes thread.kept contents)) (disk_tree thread.kept.disk thread.kept.pairs))
-      → SurvivesLossSince now.disk now.history new (shown_tree now) (tree_with_change path (file_with_bytes (writer_contents_bytes (kept_thread now) contents)) (shown_tree now))
+  pub survives_stored : (new : List CallEvent) → SurvivesLossSince thread.kept.disk thread.kept.history new (disk_tree thread.kept.disk thread.kept.pairs) (tree_with_change path (node_with_bytes (writer_contents_bytes thread.kept contents)) (disk_tree thread.kept.disk thread.kept.pairs))
+      → SurvivesLossSince now.disk now.history new (shown_tree now) (tree_with_change path (node_with_bytes (writer_contents_bytes (kept_thread now) contents)) (shown_tree now))
   survives_stored new k =
-      subst (λ (s : TreeState). SurvivesLossSince s.disk s.history new (shown_tree s) (tree_with_change path (file_with_bytes (writer_contents_bytes (kept_thread s) contents)) (shown_tree s))) (sym (seen_working thread root writable now kept view works may)) k
+      subst (λ (s : TreeState). SurvivesLossSince s.disk s.history new (shown_tree s) (tree_with_change path (node_with_bytes (writer_contents_bytes (kept_thread s) contents)) (shown_tree s))) (sym (seen_working thread root writable now kept view works may)) k

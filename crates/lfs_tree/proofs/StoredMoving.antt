@@ -7,8 +7,8 @@ use Rattle.lfs_model.proofs.KeptStructs.{struct_stays}
 use Rattle.lfs_model.specs.session.History.{LeftByLatest}
 use Rattle.lfs_model.specs.session.Operations as ops
 use Rattle.lfs_operations.specs.declared.wear.MovePlan.{MovePlan}
-use Rattle.lfs_tree.proofs.Common.{ChangesTreeOrFails, HasErrorCause, IsFailedTree, KeptThread, Operation, Path, SoundUnlessFailed, StoresOnThread, ThreadView, Tree, TreeState, disk_tree, file_with_bytes, is_file, uncached_state, kept_thread, option_map, recovered_from, same_path, shown_tree, thread_state, tree_with_change, writer_contents_bytes}
-use Rattle.lfs_tree.specs.OpenContents.{IsWriterLayoutRecovered, StoresBytesAt}
+use Rattle.lfs_tree.proofs.Common.{ChangesTreeOrFails, HasErrorCause, IsFailedTree, KeptThread, Operation, Path, SoundUnlessFailed, StoresInPlace, ThreadView, Tree, TreeState, disk_tree, node_with_bytes, is_file, uncached_state, kept_thread, option_map, recovered_from, same_path, shown_tree, thread_state, tree_with_change, writer_contents_bytes}
+use Rattle.lfs_tree.specs.OpenContents.{IsWriterLayoutRecovered, AreBytesStored}
 use Rattle.lfs_tree.specs.TreeState.{SurvivesStops}
 use Rattle.lfs_tree.specs.Wear.{CanSpreadWear, HasSpreadWear, IsPlanned, SpreadsAfter, SpreadsOrFails}
 use Rattle.lfs_tree.proofs.NotedErrors.{noted, noted_failed}
@@ -19,12 +19,12 @@ use Rattle.lfs_tree.proofs.TreeCalls.{breaks, reports}
 
 -- ---- the image
 
-module _ (old mid new : TreeState) (plan : Option MovePlan) (planned : IsPlanned old 2 plan) (path : Path) (bytes : List ℕ) (k : StoresBytesAt old path bytes mid) (m : HasSpreadWear mid plan new) where
+module _ (old mid new : TreeState) (plan : Option MovePlan) (planned : IsPlanned old 2 plan) (path : Path) (bytes : List ℕ) (k : AreBytesStored old path bytes mid) (m : HasSpreadWear mid plan new) where
   -- another file is there still
   file_mid : (q : Path) → is_file (shown_tree old q) ≡ true → same_path path q ≡ false → is_file (shown_tree mid q) ≡ true
-  file_mid q file apart = ap (λ (t : Tree). is_file (t q)) k.shows ∙ ap (λ b. is_file (if b then option_map (file_with_bytes bytes) (shown_tree old q) else shown_tree old q)) apart ∙ file
+  file_mid q file apart = ap (λ (t : Tree). is_file (t q)) k.shows ∙ ap (λ b. is_file (if b then option_map (node_with_bytes bytes) (shown_tree old q) else shown_tree old q)) apart ∙ file
 
-  stored_moved : IsWriterLayoutRecovered old path bytes ops.Sync mid → IsWriterLayoutRecovered old path bytes ops.Close mid → LeftByLatest mid.history mid.disk.blocks → StoresBytesAt old path bytes new
+  stored_moved : IsWriterLayoutRecovered old path bytes ops.Sync mid → IsWriterLayoutRecovered old path bytes ops.Close mid → LeftByLatest mid.history mid.disk.blocks → AreBytesStored old path bytes new
   stored_moved synced closed newest = record {
     works = m.works;
     sound = m.sound;
@@ -48,19 +48,19 @@ module _ (old mid new : TreeState) (plan : Option MovePlan) (planned : IsPlanned
 
 -- what the call promises
 pub record StoresOrFails (old : TreeState) (path : Path) (bytes : List ℕ) (result : Result (Unit {0}) Error) (new : TreeState) : Type 0 where
-  pub stored : OnOk result (StoresBytesAt old path bytes new)
+  pub stored : OnOk result (AreBytesStored old path bytes new)
   pub broken : OnErr result (IsFailedTree old new)
   pub errors : IfErr result (HasErrorCause old new)
-  pub survives : SurvivesStops old new (tree_with_change path (file_with_bytes bytes) (shown_tree old))
+  pub survives : SurvivesStops old new (tree_with_change path (node_with_bytes bytes) (shown_tree old))
 
 module _ (t : ThreadView) (root : ℕ) (writable : Bool) (now : TreeState) (kept : SoundUnlessFailed t root writable) (view : thread_state t writable ≡ now) (works : now.failed ≡ false) (may : now.writable ≡ true) (path : Path) (contents : WriterContents)
-    (b new : ThreadView) (r : Result (Unit {0}) Error) (w : ChangesTreeOrFails t (StoresOnThread t.kept path (writer_contents_bytes t.kept contents)) (tree_with_change path (file_with_bytes (writer_contents_bytes t.kept contents)) (disk_tree t.kept.disk t.kept.pairs)) r b)
+    (b new : ThreadView) (r : Result (Unit {0}) Error) (w : ChangesTreeOrFails t (StoresInPlace t.kept path (writer_contents_bytes t.kept contents)) (tree_with_change path (node_with_bytes (writer_contents_bytes t.kept contents)) (disk_tree t.kept.disk t.kept.pairs)) r b)
     (f : new ≡ record b { failed = is_err r || b.failed }) (plan : Option MovePlan) (planned : IsPlanned now 2 plan) where
   abbrev Stores : KeptThread → Type 0
-  Stores = StoresOnThread t.kept path (writer_contents_bytes t.kept contents)
+  Stores = StoresInPlace t.kept path (writer_contents_bytes t.kept contents)
 
   abbrev turn : Tree
-  turn = tree_with_change path (file_with_bytes (writer_contents_bytes t.kept contents)) (disk_tree t.kept.disk t.kept.pairs)
+  turn = tree_with_change path (node_with_bytes (writer_contents_bytes t.kept contents)) (disk_tree t.kept.disk t.kept.pairs)
 
   abbrev bytes : List ℕ
   bytes = writer_contents_bytes (kept_thread now) contents
@@ -82,7 +82,7 @@ module _ (t : ThreadView) (root : ℕ) (writable : Bool) (now : TreeState) (kept
   pub may_move_stored : OnOk r (CanSpreadWear seen plan)
   may_move_stored = go r alone.stored
     where
-      go : (r : Result (Unit {0}) Error) → OnOk r (StoresBytesAt now path bytes seen) → OnOk r (CanSpreadWear seen plan)
+      go : (r : Result (Unit {0}) Error) → OnOk r (AreBytesStored now path bytes seen) → OnOk r (CanSpreadWear seen plan)
       go (Err e) k = tt
       go (Ok u) k = can_spread now seen plan 2 planned.plan planned.sound k.sound k.geometry k.works k.writable k.recovered
 
@@ -93,18 +93,18 @@ module _ (t : ThreadView) (root : ℕ) (writable : Bool) (now : TreeState) (kept
   pub stores_moving : (s : Result (Unit {0}) Error) (last : TreeState) → SpreadsAfter seen plan r s last → StoresOrFails now path bytes s last
   stores_moving s last h = go r alone made.done h
     where
-      moves : (s : Result (Unit {0}) Error) → StoresBytesAt now path bytes seen → SurvivesStops now seen (tree_with_change path (file_with_bytes bytes) (shown_tree now)) → Stores new.kept → SpreadsOrFails seen plan s last → StoresOrFails now path bytes s last
+      moves : (s : Result (Unit {0}) Error) → AreBytesStored now path bytes seen → SurvivesStops now seen (tree_with_change path (node_with_bytes bytes) (shown_tree now)) → Stores new.kept → SpreadsOrFails seen plan s last → StoresOrFails now path bytes s last
       moves (Err e) k first is m = record {
         stored = tt;
         broken = breaks_moved now seen last k.calls k.called k.geometry m.broken;
         errors = reports_moved now seen last e k.no_fault m.errors;
-        survives = survives_moved now seen last (tree_with_change path (file_with_bytes bytes) (shown_tree now)) k.calls m.broken.calls k.called m.broken.called k.geometry k.shows first m.survives;
+        survives = survives_moved now seen last (tree_with_change path (node_with_bytes bytes) (shown_tree now)) k.calls m.broken.calls k.called m.broken.called k.geometry k.shows first m.survives;
       }
       moves (Ok v) k first is m = record {
         stored = stored_moved now seen last plan planned path bytes k m.done (laid ops.Sync is.synced) (laid ops.Close is.closed) m.newest;
         broken = tt;
         errors = tt;
-        survives = survives_moved now seen last (tree_with_change path (file_with_bytes bytes) (shown_tree now)) k.calls m.done.calls k.called m.done.called k.geometry k.shows first m.survives;
+        survives = survives_moved now seen last (tree_with_change path (node_with_bytes bytes) (shown_tree now)) k.calls m.done.calls k.called m.done.called k.geometry k.shows first m.survives;
       }
 
       go : (r : Result (Unit {0}) Error) → StoresOrFails now path bytes r seen → OnOk r (Stores new.kept) → SpreadsAfter seen plan r s last → StoresOrFails now path bytes s last

@@ -1,8 +1,8 @@
 -- How many blocks an operation takes, by where the slots stand that it leaves.
 use Rattle.std.proofs.Common.{ℕ, zero, suc, ◌≡◌, ◌≤◌, ◌+◌, ◌*◌, ◌⊎◌, ⊎_elim, inl, inr, Bool, true, false, if◌then◌else◌, List, [], ◌∷◌, ◌++◌, length, map, Option, None, refl, ap, arith, drop, flat_map, length-append, remove, take}
 use Rattle.std.specs.Prelude.{is_none, sum_by}
-use Rattle.lfs_tree.proofs.Common.{length-map, sum_by-append, sum_by-cons, Disk, ArePairsAfter, FitsPair, directory_address, continued_address, block_count_for, pair_with_slots, pairs_without_moved, Gstate, Slot, Struct, Inline, Ctz, Branch, slot_size, Pair, pairs_blocks, pairs_gstate, all_unmoved_slots, struct_blocks, used_blocks, Each, each_append, length_back, file_blocks}
-use Rattle.lfs_model.specs.session.Layout.{IsPairAfter}
+use Rattle.lfs_tree.proofs.Common.{length-map, sum_by-append, sum_by-cons, Disk, PairsBecome, FitsPair, directory_address, continued_address, block_count_for, pair_with_slots, pairs_without_moved, Gstate, Slot, Struct, Inline, Ctz, Branch, slot_size, Pair, pairs_blocks, pairs_gstate, all_unmoved_slots, struct_blocks, used_blocks, Each, each_append, length_back, file_blocks}
+use Rattle.lfs_model.specs.session.Layout.{PairBecomes}
 use Rattle.lfs_model.specs.format.Thread.{slots_not_moved}
 
 -- ---- how many blocks lists have
@@ -126,7 +126,7 @@ module _ (disk : Disk) where
   some_fit k (x ∷ xs) ys h f = inl (h.0, some_fit k xs ys h.1 f)
 
   -- what stands for a pair
-  stands_few : (first : Bool) (goes : Type 0) (d : Pair) (now : List Pair) → IsPairAfter disk first goes d now → (total size now ≤ 2 + lists_in size d.content.slots) ⊎ ((FitsPair disk d → ⊥) × (total size now ≤ 4 + lists_in size d.content.slots))
+  stands_few : (first : Bool) (goes : Type 0) (d : Pair) (now : List Pair) → PairBecomes disk first goes d now → (total size now ≤ 2 + lists_in size d.content.slots) ⊎ ((FitsPair disk d → ⊥) × (total size now ≤ 4 + lists_in size d.content.slots))
   stands_few first goes d [] h = inl (omega arith)
   stands_few first goes d (q ∷ []) h = inl (let e = ap (lists_in size) h.1 in omega arith)
   stands_few first goes d (q ∷ f ∷ []) h = inr (
@@ -139,7 +139,7 @@ module _ (disk : Disk) where
   )
   stands_few first goes d (q ∷ f ∷ g ∷ ps) h = absurd h
 
-  stands_fit : (first : Bool) (goes : Type 0) (d : Pair) (now : List Pair) → IsPairAfter disk first goes d now → Each (FitsPair disk) now
+  stands_fit : (first : Bool) (goes : Type 0) (d : Pair) (now : List Pair) → PairBecomes disk first goes d now → Each (FitsPair disk) now
   stands_fit first goes d [] h = tt
   stands_fit first goes d (q ∷ []) h = (record { size = (let e = ap (sum_by slot_size) h.1 in let f = h.2.size in omega arith); count = (let e = ap length h.1 in let f = h.2.count in omega arith) }, tt)
   stands_fit first goes d (q ∷ f ∷ []) h = (h.3, (h.4, tt))
@@ -148,7 +148,7 @@ module _ (disk : Disk) where
   pub total_append : (xs ys : List Pair) → total size (xs ++ ys) ≡ total size xs + total size ys
   total_append xs ys = let e = length-append xs ys in let f = lists_append size xs ys in omega arith
 
-  step_few : (first : Bool) (goes : Type 0) (d : Pair) (now : List Pair) (ds : List Pair) (rest : List Pair) (k : ℕ) → IsPairAfter disk first goes d now → FitBut k (d ∷ ds)
+  step_few : (first : Bool) (goes : Type 0) (d : Pair) (now : List Pair) (ds : List Pair) (rest : List Pair) (k : ℕ) → PairBecomes disk first goes d now → FitBut k (d ∷ ds)
       → ((j : ℕ) → FitBut j ds → total size rest ≤ total size ds + 2 * j) → total size (now ++ rest) ≤ total size (d ∷ ds) + 2 * k
   step_few first goes d now ds rest k h (inl fits) next =
       let e = total_append now rest in
@@ -160,13 +160,13 @@ module _ (disk : Disk) where
       let s = cut.1.0 in
       ⊎_elim (λ few. omega arith) (λ more. let m = more.1 in omega arith) (stands_few first goes d now h)
 
-  pub all_few : (goes : ℕ × ℕ → Type 0) (n : ℕ) (from : Option (ℕ × ℕ)) (ds : List Pair) (parts : List (List Pair)) → ArePairsAfter disk goes n from ds parts → (k : ℕ) → FitBut k ds
+  pub all_few : (goes : ℕ × ℕ → Type 0) (n : ℕ) (from : Option (ℕ × ℕ)) (ds : List Pair) (parts : List (List Pair)) → PairsBecome disk goes n from ds parts → (k : ℕ) → FitBut k ds
       → total size (flat_map (λ part. part) parts) ≤ total size ds + 2 * k
   all_few goes n from [] [] h k f = omega arith
   all_few goes n from [] (now ∷ rest) h k f = absurd h
   all_few goes n from (d ∷ ds) [] h k f = absurd (go n h)
     where
-      go : (n : ℕ) → ArePairsAfter disk goes n from (d ∷ ds) [] → ⊥
+      go : (n : ℕ) → PairsBecome disk goes n from (d ∷ ds) [] → ⊥
       go zero h = h
       go (suc n) h = h
   all_few goes zero from (d ∷ ds) (now ∷ rest) h k f =
@@ -174,12 +174,12 @@ module _ (disk : Disk) where
   all_few goes (suc n) from (d ∷ ds) (now ∷ rest) h k f =
       step_few true ⊥ d now ds (flat_map (λ part. part) rest) k h.0 f (λ j g. all_few goes n None ds rest h.1 j g)
 
-  pub parts_fit : (goes : ℕ × ℕ → Type 0) (n : ℕ) (from : Option (ℕ × ℕ)) (ds : List Pair) (parts : List (List Pair)) → ArePairsAfter disk goes n from ds parts → Each (FitsPair disk) (flat_map (λ part. part) parts)
+  pub parts_fit : (goes : ℕ × ℕ → Type 0) (n : ℕ) (from : Option (ℕ × ℕ)) (ds : List Pair) (parts : List (List Pair)) → PairsBecome disk goes n from ds parts → Each (FitsPair disk) (flat_map (λ part. part) parts)
   parts_fit goes n from [] [] h = tt
   parts_fit goes n from [] (now ∷ rest) h = absurd h
   parts_fit goes n from (d ∷ ds) [] h = absurd (go n h)
     where
-      go : (n : ℕ) → ArePairsAfter disk goes n from (d ∷ ds) [] → ⊥
+      go : (n : ℕ) → PairsBecome disk goes n from (d ∷ ds) [] → ⊥
       go zero h = h
       go (suc n) h = h
   parts_fit goes zero from (d ∷ ds) (now ∷ rest) h = each_append (FitsPair disk) now (flat_map (λ part. part) rest) (stands_fit (is_none from) (goes (directory_address from d)) d now h.0) (parts_fit goes zero (continued_address from d) ds rest h.1)

@@ -3,7 +3,7 @@ use Rattle.std.proofs.Common.{ℕ, ◌≡◌, ◌∙◌, ◌||◌, Bool, false, 
 use Rattle.std.specs.Prelude.{Option, IfErr, OnErr, OnOk, is_err}
 use Rattle.lfs_device.specs.declared.error.Error.{Error}
 use Rattle.lfs_model.specs.session.Operations as ops
-use Rattle.lfs_tree.proofs.Common.{Operation, zero_gstate, pairs_gstate, Tree, disk_tree, KeptThread, ThreadView, IsOperationCall, tree_after_call, HasFurtherCalls, HasSoundImage, HasAppliedCall, CanChangeRecovered, ChangesTreeOrFails, AppliesOrFails, SurvivesEither, HasThreadCause, SoundUnlessFailed, IsSoundWithRoot, uncached_state, thread_state, HasRecovered, IsFailedTree, IsApplied, HasErrorCause, IsSoundState, TreeState, without_cache, kept_thread, shown_tree}
+use Rattle.lfs_tree.proofs.Common.{Operation, zero_gstate, pairs_gstate, Tree, disk_tree, KeptThread, ThreadView, IsOperationCall, tree_after_call, HasFurtherCalls, HasSoundImage, HasAppliedCall, CanChangeRecovered, ChangesTreeOrFails, AppliesOrFails, SurvivesEither, HasThreadCause, SoundUnlessFailed, SoundWithRoot, uncached_state, thread_state, HasRecovered, IsFailedTree, IsApplied, HasErrorCause, IsSoundState, TreeState, without_cache, kept_thread, shown_tree}
 use Rattle.lfs_tree.specs.TreeCalls as calls
 use Rattle.lfs_tree.specs.TreeCalls.{TreeCall, AppliesCallOrFails}
 use Rattle.lfs_operations.specs.declared.wear.MovePlan.{MovePlan}
@@ -134,7 +134,7 @@ module _ (old mid : TreeState) (works : old.failed ≡ false) (may : old.writabl
 
   pub rests_behind : CanChangeRecovered t root
   rests_behind = record {
-    held = subst (λ a. IsSoundWithRoot t root a) writes (held (ap (λ (s : TreeState). s.failed) view ∙ done.works));
+    held = subst (λ a. SoundWithRoot t root a) writes (held (ap (λ (s : TreeState). s.failed) view ∙ done.works));
     settled = subst (λ (k : KeptThread). pairs_gstate k.pairs ≡ zero_gstate) (sym kept_is) done.recovered.gstate;
   }
 

@@ -4,7 +4,7 @@ use Rattle.std.specs.Prelude.{Contains}
 use Rattle.lfs_tree.proofs.Common.{Contains-append_cases, slice_get-get_or, GrowingList, unwritten_block, growing_size_with, contents_list_blocks, Blocks, block_bytes, BlockStates, BlockState, IsFree, IsInFlight, IsUsedBlock, in_flight_count, Free, InFlight, Used, SameGeometry, blocks_to_head, block_count_for, Operation, Path, few_flying, KeepsFileAt, AreTreeContents, writer_contents_bytes, IsApplied, IsSoundState, KeepsInFlight, TreeState, without_cache, kept_thread, IsTakenNotPending, IsListOrEmpty, blocks_of_list, AreSoundContents, contents_bytes, contents_form, CanEndOver, bytes_over_base, contents_blocks}
 use Rattle.lfs_device.specs.declared.geometry.Geometry.{Geometry}
 use Rattle.lfs_file.specs.Growing.{lasting_blocks as blocks_kept, growing_size}
-use Rattle.lfs_model.specs.layers.Keeping.{takes_away}
+use Rattle.lfs_model.specs.layers.Keeping.{vacates_path}
 use Rattle.lfs_tree.proofs.ContentsStay.{StayAs, base_list, bytes_stay, hand_bytes_stay, hand_stays, hand_still, list_stays, of_all, stored_stays}
 use Rattle.lfs_tree.proofs.KeptFiles.{list_used}
 use Rattle.lfs_file.specs.Form.{form_in_flight}
@@ -155,7 +155,7 @@ module _ (old new : TreeState) (path : Path) (c : WriterContents) (over : AreTre
   pub bytes_held_stay : writer_contents_bytes (kept_thread new) c ≡ writer_contents_bytes (kept_thread old) c
   bytes_held_stay = ap (λ n. contents_bytes new.disk.blocks n c) (geometry.block_size ∙ sym over.stands.divided.block_size) ∙ still.1.1 ∙ ap (λ n. contents_bytes old.disk.blocks n c) over.stands.divided.block_size
 
-pub contents_stay : (old new : TreeState) (op : Operation) (path : Path) (c : WriterContents) → AreTreeContents old path c → IsSoundState old → IsApplied old op new → takes_away op path ≡ false
+pub contents_stay : (old new : TreeState) (op : Operation) (path : Path) (c : WriterContents) → AreTreeContents old path c → IsSoundState old → IsApplied old op new → vacates_path op path ≡ false
     → AreTreeContents new path c × (writer_contents_bytes (kept_thread new) c ≡ writer_contents_bytes (kept_thread old) c)
 contents_stay old new op path c over sound k away =
     let keeps = k.keeps path over.file away in

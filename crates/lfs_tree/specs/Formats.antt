@@ -6,7 +6,7 @@ use Rattle.lfs_device.specs.declared.error.Error.TheVariants.{Io, NoMemory}
 use Rattle.lfs_device.specs.DeviceCalls.{ChangesTheseBlocks}
 use Rattle.lfs_model.specs.format.Disk.{Disk, disk_block, block_count}
 use Rattle.lfs_model.specs.layers.BlockSets.{AreInFlight, AreUsed, BlockStates}
-use Rattle.lfs_model.specs.layers.Changes.{PairChange, Create, PutStruct}
+use Rattle.lfs_model.specs.layers.Changes.{ContentChange, Create, PutStruct}
 use Rattle.lfs_model.specs.format.Content.{RawContent, has_commit}
 use Rattle.lfs_model.specs.format.EntryTypes.{inline_type, superblock_name_type}
 use Rattle.lfs_model.specs.tree.Fresh.{IsFreshDisk, empty_tree, fresh_pair, superblock_bytes}
@@ -21,7 +21,7 @@ use Rattle.lfs_thread.specs.Kept.{PairHeader, IsHeader, KeptThread}
 use Rattle.lfs_thread.specs.ThreadSteps.{ChangesThreadBlocks}
 
 -- the changes that put a superblock with that struct into slot 0
-abbrev pub superblock_slot_changes : List ℕ → List PairChange
+abbrev pub superblock_slot_changes : List ℕ → List ContentChange
 superblock_slot_changes bytes = Create 0 superblock_name_type (codes "littlefs") ∷ PutStruct 0 inline_type bytes ∷ []
 
 -- what a pair that has the superblock alone comes to

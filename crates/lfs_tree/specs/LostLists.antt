@@ -2,7 +2,7 @@
 use Rattle.std.specs.Prelude.{ℕ, ◌≤◌, ◌+◌, false, List, [], ◌∷◌, Option, Some, None}
 use Rattle.std.specs.List.{AllByRecursion, flat_map}
 use Rattle.lfs_tree.specs.SettledFiles.{stored_list_blocks}
-use Rattle.lfs_model.specs.format.Content.{RawSlot, read_struct}
+use Rattle.lfs_model.specs.format.Content.{RawSlot, decoded_struct}
 use Rattle.lfs_model.specs.format.Slots.{Slot, Struct, Inline, Ctz, Branch}
 use Rattle.lfs_model.specs.tree.Shown.{used_blocks}
 use Rattle.lfs_model.specs.layers.Steps.{number_occurrences}
@@ -24,7 +24,7 @@ slots_lists slots = flat_map (λ s. struct_lists s.struct) slots
 -- the list of a log's slot, whose struct is a type and bytes
 abbrev pub raw_struct_lists : Option (ℕ × List ℕ) → List StoredList
 raw_struct_lists None = []
-raw_struct_lists (Some struct) = struct_lists (read_struct struct.0 struct.1)
+raw_struct_lists (Some struct) = struct_lists (decoded_struct struct.0 struct.1)
 
 abbrev pub raw_slots_lists : List RawSlot → List StoredList
 raw_slots_lists slots = flat_map (λ s. raw_struct_lists s.struct) slots

@@ -14,7 +14,7 @@ use Rattle.lfs_model.specs.session.Operations.{Operation}
 use Rattle.lfs_model.specs.session.Recovery.{IsRecovered}
 use Rattle.lfs_model.specs.session.Session.{OpenFilesByNumber, Session, FileWriter, list_block_count}
 use Rattle.lfs_model.specs.format.Slots.{zero_gstate}
-use Rattle.lfs_model.specs.session.Effects.{file_with_bytes}
+use Rattle.lfs_model.specs.session.Effects.{node_with_bytes}
 use Rattle.lfs_model.specs.format.Thread.{pairs_gstate}
 use Rattle.lfs_model.specs.tree.Tree.{Path}
 use Rattle.lfs_model.specs.tree.Profile.{IsWritable}
@@ -25,7 +25,7 @@ use Rattle.lfs_thread.specs.Kept.{KeptThread}
 pub use Rattle.lfs_tree.specs.KeptFiles.{KeepsOtherFiles, slot_blocks, list_blocks_at}
 pub use Rattle.lfs_tree.specs.TreeState.{kept_thread}
 use Rattle.lfs_tree.specs.TreeState.{IsFailedTree, HasErrorCause, TreeState, IsSoundState, SurvivesStops, tree_summary, without_cache, shown_tree}
-use Rattle.lfs_file.specs.Contents.{FormFitsInline, NeedsTruncateRoom, contents_bytes, finish_room, contents_form, truncation_room, write_room}
+use Rattle.lfs_file.specs.Contents.{FormFitsLimit, NeedsTruncateRoom, contents_bytes, finish_room, contents_form, truncation_room, write_room}
 use Rattle.lfs_file.specs.Form as form
 use Rattle.lfs_file.specs.Form.{ContentsForm, form_size}
 use Rattle.lfs_file.specs.BlockOwners.{AreUsedAmong}
@@ -63,7 +63,7 @@ pub record CanOpenWriterOf (t : TreeState) (path : Path) : Type 0 where
 pub record CanWriteIn (t : TreeState) (contents : WriterContents) (place count : ℕ) : Type 0 where
   pub works : t.failed ≡ false
   pub stands : AreOnThread (kept_thread t) contents
-  pub large : FormFitsInline (inline_limit t.disk.profile t.disk.block_size) (contents_form contents)
+  pub large : FormFitsLimit (inline_limit t.disk.profile t.disk.block_size) (contents_form contents)
   pub some : 1 ≤ count
   pub small : place + count < 2 ^ 31
   pub room : inline_limit t.disk.profile t.disk.block_size < max (form_size (contents_form contents)) (place + count)
@@ -73,7 +73,7 @@ pub record CanWriteIn (t : TreeState) (contents : WriterContents) (place count :
 pub record CanTruncateIn (t : TreeState) (contents : WriterContents) (size : ℕ) : Type 0 where
   pub works : t.failed ≡ false
   pub stands : AreOnThread (kept_thread t) contents
-  pub large : FormFitsInline (inline_limit t.disk.profile t.disk.block_size) (contents_form contents)
+  pub large : FormFitsLimit (inline_limit t.disk.profile t.disk.block_size) (contents_form contents)
   pub small : size < 2 ^ 31
   pub room : NeedsTruncateRoom (inline_limit t.disk.profile t.disk.block_size) size (contents_form contents)
       → length (tree_summary t).used + truncation_room t.disk.block_size size (contents_form contents) ≤ block_count t.disk
@@ -142,7 +142,7 @@ ConcernsOnlyPath s op path = changed_paths s op ≡ path ∷ []
 
 -- The file at the path has these bytes, without a fault of the device, and nothing is in flight any more. Other pairs and all
 -- lists keep their bytes.
-pub record StoresFileBytes (old : TreeState) (path : Path) (bytes : List ℕ) (new : TreeState) : Type 0 where
+pub record HasStoredBytes (old : TreeState) (path : Path) (bytes : List ℕ) (new : TreeState) : Type 0 where
   pub works : new.failed ≡ false
   pub sound : IsSoundState new
   pub writable : new.writable ≡ true
@@ -152,7 +152,7 @@ pub record StoresFileBytes (old : TreeState) (path : Path) (bytes : List ℕ) (n
   pub no_fault : fault_count new.history ≡ fault_count old.history
   pub fits : IsWritable new.disk new.pairs
   pub recovered : IsRecovered new.pairs
-  pub shows : shown_tree new ≡ tree_with_change path (file_with_bytes bytes) (shown_tree old)
+  pub shows : shown_tree new ≡ tree_with_change path (node_with_bytes bytes) (shown_tree old)
   pub others : KeepsOtherFiles (shown_tree old) old.pairs path new.pairs
   pub lists : (q : Path) → is_file (shown_tree old q) ≡ true → same_path path q ≡ false → list_blocks_at (kept_thread new) q ≡ list_blocks_at (kept_thread old) q
   pub synced : IsWriterLayoutMoved old path bytes ops.Sync calls new
@@ -160,5 +160,5 @@ pub record StoresFileBytes (old : TreeState) (path : Path) (bytes : List ℕ) (n
   pub alone : (files : OpenFilesByNumber) (op : Operation) → ConcernsOnlyPath (record { tree = shown_tree old; files = files }) op path → KeepsOthers old.disk old.pairs (record { tree = shown_tree old; files = files }) op new.disk new.pairs
   pub none_in_flight : in_flight_count new.map ≡ 0
 
-abbrev pub StoresBytesAt : TreeState → Path → List ℕ → TreeState → Type 0
-StoresBytesAt old path bytes new = StoresFileBytes (without_cache old) path bytes (without_cache new)
+abbrev pub AreBytesStored : TreeState → Path → List ℕ → TreeState → Type 0
+AreBytesStored old path bytes new = HasStoredBytes (without_cache old) path bytes (without_cache new)

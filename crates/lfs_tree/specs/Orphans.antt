@@ -41,7 +41,7 @@ pub record MarksAndQueues (P : ℕ → Type 0) (old : List Bool) (waiting : List
   pub less : unmarked_count new + length pending ≤ unmarked_count old + length waiting
 
 -- a path leads to a pair, as the first of its directory, exactly where it is marked
-pub record MarkReached (ps : List Pair) (marks : List Bool) : Type 0 where
+pub record AreReachedMarked (ps : List Pair) (marks : List Bool) : Type 0 where
   pub len : length marks ≡ length ps
   pub marked : (n : ℕ) (p : Pair) → slice_get ps n ≡ Some p → IsReachedBySome ps p.at → IsMarkedReached marks n
   pub reached : (n : ℕ) (p : Pair) → slice_get ps n ≡ Some p → IsMarkedReached marks n → IsReachedBySome ps p.at

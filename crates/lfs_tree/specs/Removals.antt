@@ -18,7 +18,7 @@ use Rattle.lfs_operations.specs.Unlinking.{CanRemoveDirectory}
 use Rattle.lfs_thread.specs.Kept.{KeptThread}
 use Rattle.lfs_tree.specs.SlotChanges.{is_entry_found}
 use Rattle.lfs_lookup.specs.Entry.{IsStorage}
-use Rattle.lfs_lookup.specs.LookupPaths.{IsLastEntry}
+use Rattle.lfs_lookup.specs.LookupPaths.{IsPathEntry}
 use Rattle.lfs_lookup.specs.declared.entry.FileStorage.{FileStorage}
 use Rattle.lfs_lookup.specs.declared.paths.PathLookup.{PathLookup}
 use Rattle.lfs_lookup.specs.declared.paths.PathLookup.TheVariants as found
@@ -28,7 +28,7 @@ use Rattle.lfs_tree.specs.Stores.{list_in_storage}
 
 -- an entry is found for the path
 pub record IsFoundAt (order : NameOrder) (ps : List Pair) (path : Path) (found : PathLookup) : Type 0 where
-  pub ends : IsLastEntry order ps path found
+  pub ends : IsPathEntry order ps path found
   pub has : is_entry_found found ≡ true
 
 -- ---- the list of a file

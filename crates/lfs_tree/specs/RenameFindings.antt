@@ -26,8 +26,8 @@ lookup_without_parent found.ParentIsFile = shown.ParentIsFile
 lookup_without_parent found.ParentIsMissing = shown.ParentIsMissing
 
 -- the directories that are searched for the two: those above the old path, twice, those above the new one, and the one at it
-abbrev pub rename_directories : Path → Path → List Path
-rename_directories from to = ancestor_paths from ++ (ancestor_paths from ++ (ancestor_paths to ++ to ∷ []))
+abbrev pub rename_parents : Path → Path → List Path
+rename_parents from to = ancestor_paths from ++ (ancestor_paths from ++ (ancestor_paths to ++ to ∷ []))
 
 -- the image has nothing to recover, and the two paths lead there
 pub record AreRenameResults (t : KeptThread) (from to : Path) (targets : RenameTargets) : Type 0 where

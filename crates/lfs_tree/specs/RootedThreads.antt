@@ -12,11 +12,11 @@ abbrev pub thread_state : ThreadView → Bool → TreeState
 thread_state t writable = record (uncached_state t.kept writable t.failed) { cache = t.cache }
 
 -- the thread works, and is that of an accepted image, whose root directory begins with that pair
-pub record IsSoundWithRoot (t : ThreadView) (root : ℕ) (writable : Bool) : Type 0 where
+pub record SoundWithRoot (t : ThreadView) (root : ℕ) (writable : Bool) : Type 0 where
   pub works : t.failed ≡ false
   pub sound : IsSoundState (uncached_state t.kept writable false)
   pub root_is : root ≡ count_before_root t.kept.pairs
 
 -- so, unless it has failed
 abbrev pub SoundUnlessFailed : ThreadView → ℕ → Bool → Type 0
-SoundUnlessFailed t root writable = t.failed ≡ false → IsSoundWithRoot t root writable
+SoundUnlessFailed t root writable = t.failed ≡ false → SoundWithRoot t root writable

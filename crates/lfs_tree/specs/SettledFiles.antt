@@ -12,7 +12,7 @@ abbrev pub stored_list_blocks : KeptThread → StoredList → List ℕ
 stored_list_blocks t s = blocks_of_list t.disk.blocks t.disk.block_size s.head s.size
 
 -- Both lists are on the disk, or have no block. No block of theirs is a pair's, and those that both have are used.
-pub record CanSettleFile (t : KeptThread) (before stored : StoredList) : Type 0 where
+pub record CanSettleLists (t : KeptThread) (before stored : StoredList) : Type 0 where
   pub was : IsListOrEmpty t.disk.blocks t.disk.block_size before.head before.size
   pub list : IsListOrEmpty t.disk.blocks t.disk.block_size stored.head stored.size
   pub size : length t.map ≡ block_count t.disk

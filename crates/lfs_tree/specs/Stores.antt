@@ -9,7 +9,7 @@ use Rattle.lfs_model.specs.session.Operations as ops
 use Rattle.lfs_model.specs.session.Operations.{Operation}
 use Rattle.lfs_model.specs.session.Session.{OpenFilesByNumber, FileWriter, list_block_count}
 use Rattle.lfs_model.specs.format.Slots.{Struct, Inline, Ctz, Branch, zero_gstate}
-use Rattle.lfs_model.specs.session.Effects.{file_with_bytes}
+use Rattle.lfs_model.specs.session.Effects.{node_with_bytes}
 use Rattle.lfs_model.specs.format.Thread.{Pair, pairs_gstate}
 use Rattle.lfs_model.specs.tree.Tree.{Path, branch_address}
 use Rattle.lfs_model.specs.tree.Profile.{IsWritable}
@@ -24,7 +24,7 @@ use Rattle.lfs_thread.specs.Kept.{KeptThread}
 use Rattle.lfs_tree.specs.SlotChanges.{IsPathSpot}
 use Rattle.lfs_tree.specs.RootedThreads.{uncached_state}
 use Rattle.lfs_tree.specs.KeptFiles.{KeepsOtherFiles}
-use Rattle.lfs_tree.specs.OpenContents.{AreThreadContents, IsWriterLayoutRecovered, StoresBytesAt, writer_contents_bytes}
+use Rattle.lfs_tree.specs.OpenContents.{AreThreadContents, IsWriterLayoutRecovered, AreBytesStored, writer_contents_bytes}
 use Rattle.lfs_tree.specs.TreeState.{IsSoundState}
 use Rattle.lfs_lookup.specs.declared.entry.FileStorage.{FileStorage}
 use Rattle.lfs_lookup.specs.declared.entry.FileStorage.TheVariants as entry
@@ -119,7 +119,7 @@ pub record HasCommittedBytes (old : KeptThread) (path : Path) (bytes : List ℕ)
   pub fits : IsWritable new.disk new.pairs
   pub settled : pairs_gstate new.pairs ≡ zero_gstate
   pub root : KeepsRootNumber old new
-  pub shows : disk_tree new.disk new.pairs ≡ tree_with_change path (file_with_bytes bytes) (disk_tree old.disk old.pairs)
+  pub shows : disk_tree new.disk new.pairs ≡ tree_with_change path (node_with_bytes bytes) (disk_tree old.disk old.pairs)
   pub others : KeepsOtherFiles (disk_tree old.disk old.pairs) old.pairs path new.pairs
   pub synced : IsWriterLayout old path bytes ops.Sync new
   pub closed : IsWriterLayout old path bytes ops.Close new
@@ -127,7 +127,7 @@ pub record HasCommittedBytes (old : KeptThread) (path : Path) (bytes : List ℕ)
   pub none_in_flight : in_flight_count new.map ≡ 0
 
 -- the same, of a tree, and no pair moves after it
-pub record StoresOnThread (old : KeptThread) (path : Path) (bytes : List ℕ) (new : KeptThread) : Type 0 where
-  pub stored : StoresBytesAt (uncached_state old true false) path bytes (uncached_state new true false)
+pub record StoresInPlace (old : KeptThread) (path : Path) (bytes : List ℕ) (new : KeptThread) : Type 0 where
+  pub stored : AreBytesStored (uncached_state old true false) path bytes (uncached_state new true false)
   pub synced : IsWriterLayoutRecovered (uncached_state old true false) path bytes ops.Sync (uncached_state new true false)
   pub closed : IsWriterLayoutRecovered (uncached_state old true false) path bytes ops.Close (uncached_state new true false)

@@ -20,7 +20,7 @@ use Rattle.lfs_model.specs.tree.Shown.{disk_tree}
 use Rattle.lfs_operations.specs.Ready.{KeepsRootNumber}
 use Rattle.lfs_thread.specs.Kept.{KeptThread, ThreadView}
 use Rattle.lfs_tree.specs.TreeCalls.{TreeCall, IsOperationCall, tree_after_call}
-use Rattle.lfs_tree.specs.RootedThreads.{IsSoundWithRoot, uncached_state}
+use Rattle.lfs_tree.specs.RootedThreads.{SoundWithRoot, uncached_state}
 use Rattle.lfs_lookup.specs.LookupPaths.{LeadsToPair, LeadsToResult}
 use Rattle.lfs_tree.specs.TreeState.{IsApplied, HasErrorCause, IsSoundState, KeepsOthersIfRecovered}
 use Rattle.lfs_lookup.specs.declared.paths.PathLookup.{PathLookup}
@@ -29,7 +29,7 @@ use Rattle.lfs_lookup.specs.declared.search.SlotPosition.{SlotPosition}
 
 -- The image may be changed: it is in the writing profile, and has nothing to recover.
 pub record CanChangeRecovered (t : ThreadView) (root : ℕ) : Type 0 where
-  pub held : IsSoundWithRoot t root true
+  pub held : SoundWithRoot t root true
   pub settled : pairs_gstate t.kept.pairs ≡ zero_gstate
 
 -- what a look-up finds at the path, and its last name

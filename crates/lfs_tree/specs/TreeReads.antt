@@ -1,7 +1,7 @@
 -- How often the calls of a tree read.
 use Rattle.std.specs.Prelude.{sum_by, ◌≡◌, ◌≤◌, ◌+◌, List}
 use Rattle.lfs_model.specs.layers.Cache.{cache_limit}
-use Rattle.lfs_model.specs.crash.Frame.{pair_count_at}
+use Rattle.lfs_model.specs.crash.Frame.{directory_pair_count}
 use Rattle.lfs_model.specs.session.History.{CallEvent, read_count}
 use Rattle.lfs_model.specs.format.Slots.{zero_gstate}
 use Rattle.lfs_model.specs.format.Thread.{pairs_gstate}
@@ -15,7 +15,7 @@ HasCachedDirectories t paths = AreDirectoriesRecent cache_limit t.disk t.cache t
 
 -- No more reads came than the directories at these paths have pairs, and none where all of them were cached.
 pub record ReadsPairsOnce (paths : List Path) (old : TreeState) (history : List CallEvent) : Type 0 where
-  pub few : read_count history ≤ read_count old.history + sum_by (pair_count_at old.pairs) paths
+  pub few : read_count history ≤ read_count old.history + sum_by (directory_pair_count old.pairs) paths
   pub none : HasCachedDirectories old paths → read_count history ≡ read_count old.history
 
 -- Where nothing is to recover, at most six reads came.

@@ -10,7 +10,7 @@ use Rattle.lfs_model.specs.declared.order.NameOrder.{NameOrder}
 use Rattle.lfs_model.specs.declared.order.NameOrder.TheVariants.{LongerFirst, ShorterFirst}
 use Rattle.lfs_model.specs.format.Disk.{Disk, ordered_disk, SameGeometry, disk_block, block_count}
 use Rattle.lfs_model.specs.session.History.{CallEvent, OnlyReadsSince, fault_count, read_count, is_unprogrammed_byte}
-use Rattle.lfs_model.specs.layers.Keeping.{takes_away}
+use Rattle.lfs_model.specs.layers.Keeping.{vacates_path}
 use Rattle.lfs_model.specs.session.Moved.{IsLayoutMoved}
 use Rattle.lfs_model.specs.session.Operations.{Operation}
 use Rattle.lfs_model.specs.crash.PowerLoss.{SurvivesLossSince}
@@ -140,7 +140,7 @@ pub record IsAppliedTo (old : TreeState) (op : Operation) (new : TreeState) : Ty
   pub itself : renames_itself op ≡ true → IsUntouched old.disk calls new.disk
   pub nothing_left : is_recover op ≡ true → IsRecovered old.pairs → IsUntouched old.disk calls new.disk
   pub flight : KeepsInFlight old new
-  pub keeps : (path : Path) → is_file (shown_tree old path) ≡ true → takes_away op path ≡ false → KeepsFileAt (kept_thread old) (kept_thread new) path
+  pub keeps : (path : Path) → is_file (shown_tree old path) ≡ true → vacates_path op path ≡ false → KeepsFileAt (kept_thread old) (kept_thread new) path
   pub lists : pairs_gstate old.pairs ≡ zero_gstate → KeepsListBytes old.disk old.pairs new.disk
   pub taken : length (tree_summary new).used ≤ length (tree_summary old).used + operation_room op
 

@@ -3,18 +3,18 @@
 ghost use Rattle.std.specs.Prelude.{◌≡◌, false, true, OnOk};
 ghost use Rattle.lfs_tree.specs.ThreadContents.{ThreadReportsFaults};
 ghost use Rattle.lfs_model.specs.session.TreeEdits.{tree_with_change};
-ghost use Rattle.lfs_model.specs.session.Effects.{file_with_bytes};
+ghost use Rattle.lfs_model.specs.session.Effects.{node_with_bytes};
 ghost use Rattle.lfs_model.specs.tree.Shown.{disk_tree};
 ghost use Rattle.lfs_operations.specs.Changing.{WritesPairTwo};
 ghost use Rattle.lfs_operations.specs.Storing.{HasStoredContents, tree_with_contents};
 ghost use Rattle.lfs_tree.specs.TreeChanges.{HasFurtherCalls, CanChangeRecovered, ChangesTreeOrFails, SurvivesEither};
 ghost use Rattle.lfs_tree.specs.RootedThreads.{uncached_state};
 ghost use Rattle.lfs_tree.specs.OpenContents.{CanStoreContents, writer_contents_bytes};
-ghost use Rattle.lfs_tree.specs.Stores.{CanCommitContents, CanPutContents, HasCommittedBytes, StoresOnThread, IsFoundFile, is_file_found, finished_list, list_in_storage, empty_list};
+ghost use Rattle.lfs_tree.specs.Stores.{CanCommitContents, CanPutContents, HasCommittedBytes, StoresInPlace, IsFoundFile, is_file_found, finished_list, list_in_storage, empty_list};
 ghost use Rattle.lfs_tree.specs.Working.{IsWorkingWhere, WorksOrReportsFault};
 
 use crate::entries_at::{find_at_path, lemma_block_facts};
-use crate::files::{finish_file, settle_file};
+use crate::files::{finish_file, settle_lists};
 use lfs_device::{BlockDevice, Error};
 use lfs_file::{StoredList, WriterContents};
 use lfs_lookup::{Path, PathLookup, SlotPosition};
@@ -129,7 +129,7 @@ fn commit_contents_at<D: BlockDevice>(
     ensures done { OnOk result (HasCommittedBytes thread.old.kept path.now (writer_contents_bytes thread.old.kept contents) thread.new.kept) }
     ensures reports { WorksOrReportsFault thread.old thread.new result }
     ensures called { HasFurtherCalls thread.old.kept thread.new.kept }
-    ensures survives { SurvivesEither thread.old.kept thread.new.kept (tree_with_change path.now (file_with_bytes (writer_contents_bytes thread.old.kept contents)) (disk_tree thread.old.kept.disk thread.old.kept.pairs)) }
+    ensures survives { SurvivesEither thread.old.kept thread.new.kept (tree_with_change path.now (node_with_bytes (writer_contents_bytes thread.old.kept contents)) (disk_tree thread.old.kept.disk thread.old.kept.pairs)) }
 {
     lemma_block_facts(thread);
     // By its sizes a list has as many bytes as it says.
@@ -137,7 +137,7 @@ fn commit_contents_at<D: BlockDevice>(
     let target = find_at_path(alloc, thread, root, path)?;
     let file = found_file_slot(target.found);
     put_contents(alloc, thread, file.spot, &contents)?;
-    settle_file(thread, file.list, contents_list(&contents))?;
+    settle_lists(thread, file.list, contents_list(&contents))?;
     Ok(())
 }
 
@@ -153,8 +153,8 @@ pub(crate) fn store_contents_at<D: BlockDevice>(
 ) -> Result<(), Error>
     requires rests { CanChangeRecovered thread.old root }
     requires can { CanStoreContents (uncached_state thread.old.kept true false) path.now contents }
-    ensures { ChangesTreeOrFails thread.old (StoresOnThread thread.old.kept path.now (writer_contents_bytes thread.old.kept contents))
-        (tree_with_change path.now (file_with_bytes (writer_contents_bytes thread.old.kept contents)) (disk_tree thread.old.kept.disk thread.old.kept.pairs)) result thread.new }
+    ensures { ChangesTreeOrFails thread.old (StoresInPlace thread.old.kept path.now (writer_contents_bytes thread.old.kept contents))
+        (tree_with_change path.now (node_with_bytes (writer_contents_bytes thread.old.kept contents)) (disk_tree thread.old.kept.disk thread.old.kept.pairs)) result thread.new }
 {
     let finished = finish_file(alloc, thread, contents)?;
     commit_contents_at(alloc, thread, root, path, finished)

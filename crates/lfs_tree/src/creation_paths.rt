@@ -1,7 +1,7 @@
 // What is at the path of a file that may be made, before anything is written.
 
 ghost use Rattle.std.specs.Prelude.{◌≡◌, ◌≤◌, ◌+◌, true, false, IfOk, IfSome, IsSome, sum_by};
-ghost use Rattle.lfs_model.specs.crash.Frame.{pair_count_at, ancestor_paths};
+ghost use Rattle.lfs_model.specs.crash.Frame.{directory_pair_count, ancestor_paths};
 ghost use Rattle.lfs_model.specs.session.History.{read_count};
 ghost use Rattle.lfs_model.specs.tree.Shown.{disk_tree};
 ghost use Rattle.lfs_model.specs.format.Slots.{zero_gstate};
@@ -9,7 +9,7 @@ ghost use Rattle.lfs_model.specs.format.Thread.{pairs_gstate};
 ghost use Rattle.lfs_lookup.specs.Finds.{IsFoundNode};
 ghost use Rattle.lfs_lookup.specs.LookupReading.{ReadsOrReports};
 ghost use Rattle.lfs_tree.specs.CreationPaths.{IsCreationResult};
-ghost use Rattle.lfs_tree.specs.RootedThreads.{IsSoundWithRoot};
+ghost use Rattle.lfs_tree.specs.RootedThreads.{SoundWithRoot};
 ghost use Rattle.lfs_tree.specs.TreeChanges.{CanChangeRecovered};
 ghost use Rattle.lfs_tree.specs.TreeState.{ReadsTreeOrFails, kept_thread, shown_tree};
 
@@ -42,7 +42,7 @@ fn creation_findings<D: BlockDevice>(
     ensures found { IfOk result (λ found. IsFoundNode (disk_tree thread.old.kept.disk thread.old.kept.pairs) path.now found.entry) }
     ensures target { IfOk result (λ found. IfSome found.target (IsCreationResult thread.old.kept path.now)) }
     ensures handed_on { IfOk result (λ found. IsSome found.target) }
-    ensures few { read_count thread.new.kept.history ≤ read_count thread.old.kept.history + sum_by (pair_count_at thread.old.kept.pairs) (ancestor_paths path.now) }
+    ensures few { read_count thread.new.kept.history ≤ read_count thread.old.kept.history + sum_by (directory_pair_count thread.old.kept.pairs) (ancestor_paths path.now) }
     ensures reading { ReadsOrReports thread.old thread.new result }
 {
     let target = find_at_path(alloc, thread, root, path)?;
@@ -55,16 +55,16 @@ fn creation_findings<D: BlockDevice>(
 }
 
 // Looks up the path where something is to recover first.
-fn creation_before_recovery<D: BlockDevice>(
+fn unrecovered_creation_findings<D: BlockDevice>(
     alloc: Global,
     thread: &mut Thread<D>,
     root: usize,
     path: &Path<'_>,
 ) -> Result<CreationFindings, Error>
-    requires { IsSoundWithRoot thread.old root true }
+    requires { SoundWithRoot thread.old root true }
     ensures found { IfOk result (λ found. IsFoundNode (disk_tree thread.old.kept.disk thread.old.kept.pairs) path.now found.entry) }
     ensures target { IfOk result (λ found. IfSome found.target (IsCreationResult thread.old.kept path.now)) }
-    ensures few { read_count thread.new.kept.history ≤ read_count thread.old.kept.history + sum_by (pair_count_at thread.old.kept.pairs) (ancestor_paths path.now) }
+    ensures few { read_count thread.new.kept.history ≤ read_count thread.old.kept.history + sum_by (directory_pair_count thread.old.kept.pairs) (ancestor_paths path.now) }
     ensures reading { ReadsOrReports thread.old thread.new result }
 {
     let entry = find_node(alloc, thread, root, path)?;
@@ -81,18 +81,18 @@ fn find_creation_path<D: BlockDevice>(
     root: usize,
     path: &Path<'_>,
 ) -> Result<CreationFindings, Error>
-    requires { IsSoundWithRoot thread.old root true }
+    requires { SoundWithRoot thread.old root true }
     ensures found { IfOk result (λ found. IsFoundNode (disk_tree thread.old.kept.disk thread.old.kept.pairs) path.now found.entry) }
     ensures target { IfOk result (λ found. IfSome found.target (IsCreationResult thread.old.kept path.now)) }
     ensures handed_on { pairs_gstate thread.old.kept.pairs ≡ zero_gstate → IfOk result (λ found. IsSome found.target) }
-    ensures few { read_count thread.new.kept.history ≤ read_count thread.old.kept.history + sum_by (pair_count_at thread.old.kept.pairs) (ancestor_paths path.now) }
+    ensures few { read_count thread.new.kept.history ≤ read_count thread.old.kept.history + sum_by (directory_pair_count thread.old.kept.pairs) (ancestor_paths path.now) }
     ensures reading { ReadsOrReports thread.old thread.new result }
 {
     let state = thread.state();
     if state.is_none() {
         creation_findings(alloc, thread, root, path)
     } else {
-        creation_before_recovery(alloc, thread, root, path)
+        unrecovered_creation_findings(alloc, thread, root, path)
     }
 }
 
@@ -113,7 +113,7 @@ impl<D: BlockDevice> Tree<D> {
         ensures found { IfOk result (λ found. IsFoundNode (shown_tree self.old) path.now found.entry) }
         ensures target { IfOk result (λ found. IfSome found.target (IsCreationResult (kept_thread self.new) path.now)) }
         ensures handed_on { pairs_gstate self.old.pairs ≡ zero_gstate → IfOk result (λ found. IsSome found.target) }
-        ensures few { read_count self.new.history ≤ read_count self.old.history + sum_by (pair_count_at self.old.pairs) (ancestor_paths path.now) }
+        ensures few { read_count self.new.history ≤ read_count self.old.history + sum_by (directory_pair_count self.old.pairs) (ancestor_paths path.now) }
     {
         let found = find_creation_path(alloc, &mut self.thread, self.root, path);
         mark_failed(&mut self.thread, &found);

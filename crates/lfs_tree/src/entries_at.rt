@@ -2,7 +2,7 @@
 
 ghost use Rattle.std.specs.Prelude.{◌≡◌, ◌≤◌, ◌+◌, map, sum_by, true, false, IfOk, IfSome, IsSome};
 ghost use Rattle.lfs_device.specs.Bytes.{AreByteBlocks};
-ghost use Rattle.lfs_model.specs.crash.Frame.{pair_count_at, ancestor_paths};
+ghost use Rattle.lfs_model.specs.crash.Frame.{directory_pair_count, ancestor_paths};
 ghost use Rattle.lfs_model.specs.session.History.{read_count};
 ghost use Rattle.lfs_model.specs.session.TreeEdits.{last_name};
 ghost use Rattle.lfs_tree.specs.Permissions.{CanCreateFile, CanMakeDirectory};
@@ -63,7 +63,7 @@ pub(crate) fn find_at_path<'a, D: BlockDevice>(
 ) -> Result<FoundAtPath<'a>, Error>
     requires { CanChangeRecovered thread.old root }
     ensures target { IfOk result (λ target. IsNamedResult thread.old.kept path.now target.found target.name.now) }
-    ensures few { read_count thread.new.kept.history ≤ read_count thread.old.kept.history + sum_by (pair_count_at thread.old.kept.pairs) (ancestor_paths path.now) }
+    ensures few { read_count thread.new.kept.history ≤ read_count thread.old.kept.history + sum_by (directory_pair_count thread.old.kept.pairs) (ancestor_paths path.now) }
     ensures reading { ReadsOrReports thread.old thread.new result }
 {
     let names = path.names(alloc)?;

@@ -2,7 +2,7 @@
 
 ghost use Rattle.std.specs.Prelude.{◌≡◌, false, is_err, length, take, IfErr, IfOk, OnOk};
 ghost use Rattle.lfs_model.specs.session.Writers.{written_contents, zero_padded};
-ghost use Rattle.lfs_tree.specs.SettledFiles.{CanSettleFile, ChangesOnlyMap, IsListSettled};
+ghost use Rattle.lfs_tree.specs.SettledFiles.{CanSettleLists, ChangesOnlyMap, IsListSettled};
 ghost use Rattle.lfs_tree.specs.ThreadContents.{CanFinish, CanTruncate, CanWrite, HaveThreadForm, KeepsPairs, ThreadReportsFaults, contents_list_blocks};
 ghost use Rattle.lfs_file.specs.Contents.{contents_bytes, form_after_finish, contents_form};
 ghost use Rattle.lfs_file.specs.Form.{truncated_form, written_form};
@@ -39,7 +39,7 @@ pub fn write_file<D: BlockDevice>(
     ensures leaves { KeepsPairs thread.old.kept thread.new.kept }
     ensures reports { ThreadReportsFaults thread.old.kept thread.new.kept result }
 {
-    thread.run_on_device(|device, map| {
+    thread.run_work(|device, map| {
         write_contents(alloc, device, map, contents, limit, place, bytes)
     })
 }
@@ -67,7 +67,7 @@ pub fn truncate_file<D: BlockDevice>(
     ensures leaves { KeepsPairs thread.old.kept thread.new.kept }
     ensures reports { ThreadReportsFaults thread.old.kept thread.new.kept result }
 {
-    thread.run_on_device(|device, map| truncate_contents(alloc, device, map, contents, limit, size))
+    thread.run_work(|device, map| truncate_contents(alloc, device, map, contents, limit, size))
 }
 
 /// Ends the list in hand of an open writer, where there is one. The contents stay, and so do the
@@ -88,7 +88,7 @@ pub fn finish_file<D: BlockDevice>(
     ensures leaves { KeepsPairs thread.old.kept thread.new.kept }
     ensures reports { ThreadReportsFaults thread.old.kept thread.new.kept result }
 {
-    thread.run_on_device(|device, map| finish_contents(alloc, device, map, contents))
+    thread.run_work(|device, map| finish_contents(alloc, device, map, contents))
 }
 
 // Settles a list in the map of a thread, which works on. After an error the map is of no use.
@@ -98,14 +98,14 @@ fn settle_in_map<D: BlockDevice>(
     stored: StoredList,
 ) -> Result<(), Error>
     requires works { thread.old.failed ≡ false }
-    requires can { CanSettleFile thread.old.kept before stored }
+    requires can { CanSettleLists thread.old.kept before stored }
     ensures settled { OnOk result (IsListSettled thread.old.kept before stored thread.new.kept) }
     ensures errors { IfErr result (λ e. e ≡ Error.Io) }
     ensures only { ChangesOnlyMap thread.old.kept thread.new.kept }
     ensures works { thread.new.failed ≡ false }
     ensures reports { ThreadReportsFaults thread.old.kept thread.new.kept result }
 {
-    thread.run_on_device(|device, map| settle_list(device, map, before, stored))
+    thread.run_work(|device, map| settle_list(device, map, before, stored))
 }
 
 /// Settles a finished list after a commit that names it. Its blocks are used, and those that only
@@ -114,13 +114,13 @@ fn settle_in_map<D: BlockDevice>(
 ///
 /// Errors: `Io` where the device failed. The thread has failed then, since its map is of no use any
 /// more.
-pub fn settle_file<D: BlockDevice>(
+pub fn settle_lists<D: BlockDevice>(
     thread: &mut Thread<D>,
     before: StoredList,
     stored: StoredList,
 ) -> Result<(), Error>
     requires works { thread.old.failed ≡ false }
-    requires can { CanSettleFile thread.old.kept before stored }
+    requires can { CanSettleLists thread.old.kept before stored }
     ensures settled { OnOk result (IsListSettled thread.old.kept before stored thread.new.kept) }
     ensures errors { IfErr result (λ e. e ≡ Error.Io) }
     ensures only { ChangesOnlyMap thread.old.kept thread.new.kept }

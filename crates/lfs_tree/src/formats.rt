@@ -49,7 +49,7 @@ fn write_root_pair<D: BlockDevice>(alloc: Global, device: &mut D) -> Result<Pair
     ensures faults { ReportsFaults D.BlockDevice device.old device.new result }
 {
     let geometry = device.geometry();
-    let structure = superblock_bytes(&Superblock::for_fresh_image(&geometry));
+    let structure = superblock_bytes(&Superblock::fresh_superblock(&geometry));
     let changes = superblock_changes(&structure);
     let pair = Pair::fresh(alloc, device, ROOT, &changes)?;
     Ok(pair)

@@ -2,7 +2,7 @@
 
 ghost use Rattle.std.specs.Prelude.{◌≡◌, ◌≤◌, ◌+◌, false, length, true};
 ghost use Rattle.lfs_model.specs.layers.BlockSets.{in_flight_count};
-ghost use Rattle.lfs_model.specs.layers.Keeping.{takes_away};
+ghost use Rattle.lfs_model.specs.layers.Keeping.{vacates_path};
 ghost use Rattle.lfs_model.specs.session.Operations.{Operation};
 ghost use Rattle.lfs_model.specs.tree.Tree.{Path};
 ghost use Rattle.lfs_tree.specs.KeptFiles.{operation_room};
@@ -16,8 +16,8 @@ ghost use Rattle.lfs_file.specs.declared.contents.WriterContents.{WriterContents
 /// it is also with bytes that aren't in the tree yet. No more blocks are in flight than contents in
 /// their form have.
 pub fn lemma_contents_stay()
-    ensures over { (old new : TreeState) (op : Operation) (path : Path) (contents : WriterContents) → AreTreeContents old path contents → IsSoundState old → IsApplied old op new → takes_away op path ≡ false → AreTreeContents new path contents }
-    ensures bytes { (old new : TreeState) (op : Operation) (path : Path) (contents : WriterContents) → AreTreeContents old path contents → IsSoundState old → IsApplied old op new → takes_away op path ≡ false
+    ensures over { (old new : TreeState) (op : Operation) (path : Path) (contents : WriterContents) → AreTreeContents old path contents → IsSoundState old → IsApplied old op new → vacates_path op path ≡ false → AreTreeContents new path contents }
+    ensures bytes { (old new : TreeState) (op : Operation) (path : Path) (contents : WriterContents) → AreTreeContents old path contents → IsSoundState old → IsApplied old op new → vacates_path op path ≡ false
         → writer_contents_bytes (kept_thread new) contents ≡ writer_contents_bytes (kept_thread old) contents }
     ensures flying { (t : TreeState) (path : Path) (contents : WriterContents) → AreTreeContents t path contents → in_flight_count t.map ≤ form_in_flight t.disk.block_size (contents_form contents) }
 {}

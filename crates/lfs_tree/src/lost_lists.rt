@@ -17,7 +17,7 @@ ghost use Rattle.lfs_lookup.specs.LookupReading.{ReadsOrReports};
 ghost use Rattle.lfs_lookup.specs.NameSearch.{HasCompleteLog};
 ghost use Rattle.lfs_tree.specs.Working.{IsWorkingWhere};
 
-use crate::files::settle_file;
+use crate::files::settle_lists;
 use lfs_device::{BlockDevice, Error};
 use lfs_file::{StoredList, lemma_settled_map};
 use lfs_lookup::{FileOrDirectory, FileStorage, entry_of_struct};
@@ -124,7 +124,7 @@ pub(crate) fn free_lists<D: BlockDevice>(
         in_flight: false,
     };
     for list in lists {
-        settle_file(thread, *list, nothing)?;
+        settle_lists(thread, *list, nothing)?;
     }
     Ok(())
 }

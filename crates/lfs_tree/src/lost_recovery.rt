@@ -7,7 +7,7 @@ ghost use Rattle.lfs_model.specs.tree.Shown.{disk_tree};
 ghost use Rattle.lfs_operations.specs.Recovering.{CanDropPairs, numbered_slots};
 ghost use Rattle.lfs_thread.specs.ThreadSteps.{ChangesThreadBlocks};
 ghost use Rattle.lfs_tree.specs.TreeChanges.{HasFurtherCalls, ChangesTreeOrFails, SurvivesEither};
-ghost use Rattle.lfs_tree.specs.RootedThreads.{IsSoundWithRoot};
+ghost use Rattle.lfs_tree.specs.RootedThreads.{SoundWithRoot};
 ghost use Rattle.lfs_tree.specs.LostLists.{slots_lists};
 ghost use Rattle.lfs_tree.specs.Recoveries.{CanDropUnreached, HasDroppedUnreached, HasRecovered};
 ghost use Rattle.lfs_tree.specs.Working.{IsWorkingWhere, WorksOrReportsFault};
@@ -70,12 +70,12 @@ fn drop_unreached_directories<D: BlockDevice>(
 // Ends what a loss of power left: a set move, and directories that no path leads to.
 //
 // Errors are those of `drop_unreached_directories`.
-pub(crate) fn end_and_drop<D: BlockDevice>(
+pub(crate) fn recover_thread<D: BlockDevice>(
     alloc: Global,
     thread: &mut Thread<D>,
     root: usize,
 ) -> Result<(), Error>
-    requires rooted { IsSoundWithRoot thread.old root true }
+    requires rooted { SoundWithRoot thread.old root true }
     requires left { pairs_gstate thread.old.kept.pairs ≡ zero_gstate → ⊥ }
     ensures { ChangesTreeOrFails thread.old (HasRecovered thread.old.kept) (disk_tree thread.old.kept.disk thread.old.kept.pairs) result thread.new }
 {

@@ -10,7 +10,7 @@ ghost use Rattle.lfs_model.specs.declared.order.NameOrder.TheVariants.{LongerFir
 ghost use Rattle.lfs_thread.specs.ThreadDevice.{GivesDeviceBack};
 ghost use Rattle.lfs_thread.specs.Kept.{disk_of_device};
 ghost use Rattle.lfs_mount.specs.Accepted.{IsMountedOn};
-ghost use Rattle.lfs_mount.specs.MountFaults.{IsErrorOfMount};
+ghost use Rattle.lfs_mount.specs.MountFaults.{MountMayReport};
 ghost use Rattle.lfs_mount.specs.ReadImage.{ReadsLikeMount};
 ghost use Rattle.lfs_lookup.specs.LookupReading.{ReadsOrReports};
 
@@ -27,7 +27,7 @@ pub(crate) fn mount_thread<D: BlockDevice>(
     ensures mounted { IfOk result (λ t. IsMountedOn (ordered_disk t.kept.disk.order (disk_of_device D.BlockDevice device)) (D.history device) t) }
     ensures longer { IfOk result (λ t. t.kept.disk.order ≡ ShorterFirst → (ps : List Pair) → ¬ IsAccepted (ordered_disk LongerFirst (disk_of_device D.BlockDevice device)) ps) }
     ensures corrupt { IfErr result (λ e. e.1 ≡ Error.Corrupt → (order : NameOrder) (ps : List Pair) → ¬ IsAccepted (ordered_disk order (disk_of_device D.BlockDevice device)) ps) }
-    ensures errors { IfErr result (λ e. IsErrorOfMount e.1) }
+    ensures errors { IfErr result (λ e. MountMayReport e.1) }
     ensures back { IfErr result (λ e. GivesDeviceBack D.BlockDevice device e.0 e.1) }
     ensures few { IfOk result (ReadsLikeMount (disk_of_device D.BlockDevice device) (D.history device)) }
 {

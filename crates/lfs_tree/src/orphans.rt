@@ -4,10 +4,10 @@ ghost use Rattle.std.specs.Prelude.{◌≡◌, ◌<◌, ◌≤◌, ◌++◌, ◌
 ghost use Rattle.lfs_model.specs.format.Thread.{count_before_root};
 ghost use Rattle.lfs_model.specs.tree.View.{IsAccepted};
 ghost use Rattle.lfs_operations.specs.Recovering.{AreUnreachedNumbers};
-ghost use Rattle.lfs_lookup.specs.Items.{directory_item_view, directory_items_view};
+ghost use Rattle.lfs_lookup.specs.Items.{item_view, items_view};
 ghost use Rattle.lfs_lookup.specs.ProfileChecks.{follows_tail_at};
 ghost use Rattle.lfs_lookup.specs.LookupReading.{ReadsOrReports};
-ghost use Rattle.lfs_tree.specs.Orphans.{DirectoriesBegin, MarkReached, MarksAndQueues, IsStructPair, IsNamedPair};
+ghost use Rattle.lfs_tree.specs.Orphans.{DirectoriesBegin, AreReachedMarked, MarksAndQueues, IsStructPair, IsNamedPair};
 ghost use Rattle.lfs_lookup.specs.TreeWalk.{HasFirstIfDirectory};
 
 use lfs_device::{BlockDevice, Error};
@@ -46,9 +46,9 @@ fn mark_directory<D: BlockDevice>(
     pending: &mut Vec<usize>,
 ) -> Result<(), AllocError>
     requires accepted { IsAccepted thread.now.kept.disk thread.now.kept.pairs }
-    requires begins { HasFirstIfDirectory thread.now.kept.pairs (directory_item_view item.now).struct }
+    requires begins { HasFirstIfDirectory thread.now.kept.pairs (item_view item.now).struct }
     requires len { length marks.old.items ≡ length thread.now.kept.pairs }
-    ensures { OnOk result (MarksAndQueues (IsStructPair thread.now.kept.pairs (directory_item_view item.now).struct) marks.old.items pending.old.items marks.new.items pending.new.items) }
+    ensures { OnOk result (MarksAndQueues (IsStructPair thread.now.kept.pairs (item_view item.now).struct) marks.old.items pending.old.items marks.new.items pending.new.items) }
 {
     if let OwnedStruct::Branch(to) = item.structure {
         let number = number_at_address(thread, to).unwrap();
@@ -65,9 +65,9 @@ fn mark_directories<D: BlockDevice>(
     pending: &mut Vec<usize>,
 ) -> Result<(), AllocError>
     requires accepted { IsAccepted thread.now.kept.disk thread.now.kept.pairs }
-    requires begin { DirectoriesBegin thread.now.kept.pairs (directory_items_view items.items) }
+    requires begin { DirectoriesBegin thread.now.kept.pairs (items_view items.items) }
     requires len { length marks.old.items ≡ length thread.now.kept.pairs }
-    ensures { OnOk result (MarksAndQueues (IsNamedPair thread.now.kept.pairs (directory_items_view items.items)) marks.old.items pending.old.items marks.new.items pending.new.items) }
+    ensures { OnOk result (MarksAndQueues (IsNamedPair thread.now.kept.pairs (items_view items.items)) marks.old.items pending.old.items marks.new.items pending.new.items) }
 {
     while let Some(item) = items.pop() {
         mark_directory(thread, &item, marks, pending)?;
@@ -84,7 +84,7 @@ fn mark_reached_directories<D: BlockDevice>(
     requires works { thread.old.failed ≡ false }
     requires accepted { IsAccepted thread.old.kept.disk thread.old.kept.pairs }
     requires root { root ≡ count_before_root thread.old.kept.pairs }
-    ensures marks { IfOk result (λ marks. MarkReached thread.old.kept.pairs marks.items) }
+    ensures marks { IfOk result (λ marks. AreReachedMarked thread.old.kept.pairs marks.items) }
     ensures reading { ReadsOrReports thread.old thread.new result }
 {
     let state = thread.state();
@@ -134,7 +134,7 @@ fn push_if_unreached(
 }
 
 // Returns the numbers of the pairs of directories whose first one isn't marked.
-fn numbers_not_reached<D: BlockDevice>(
+fn unreached_numbers<D: BlockDevice>(
     alloc: Global,
     thread: &Thread<D>,
     root: usize,
@@ -143,7 +143,7 @@ fn numbers_not_reached<D: BlockDevice>(
     requires works { thread.now.failed ≡ false }
     requires root { root ≡ count_before_root thread.now.kept.pairs }
     requires few { root ≤ length thread.now.kept.pairs }
-    requires marks { MarkReached thread.now.kept.pairs marks.now }
+    requires marks { AreReachedMarked thread.now.kept.pairs marks.now }
     ensures { IfOk result (λ numbers. AreUnreachedNumbers thread.now.kept.pairs numbers.items) }
 {
     let mut numbers = Vec::new(alloc);
@@ -171,6 +171,6 @@ pub(crate) fn find_unreached_pairs<D: BlockDevice>(
     ensures reading { ReadsOrReports thread.old thread.new result }
 {
     let marks = mark_reached_directories(alloc, thread, root)?;
-    let numbers = numbers_not_reached(alloc, thread, root, &marks)?;
+    let numbers = unreached_numbers(alloc, thread, root, &marks)?;
     Ok(numbers)
 }

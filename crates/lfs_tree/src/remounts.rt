@@ -43,7 +43,7 @@ pub(crate) fn mount_again<D: BlockDevice>(
     match Tree::mount(alloc, tree.into_device()) {
         Ok(tree) => (tree, Ok(())),
         Err((device, error)) => {
-            let thread = Thread::failed_thread_of(ThreadParts {
+            let thread = Thread::failed_thread(ThreadParts {
                 device,
                 order,
                 cache,

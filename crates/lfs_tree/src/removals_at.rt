@@ -18,7 +18,7 @@ ghost use Rattle.lfs_tree.specs.RootedThreads.{uncached_state};
 ghost use Rattle.lfs_tree.specs.Working.{IsWorkingWhere};
 
 use crate::entries_at::{find_at_path, lemma_block_facts};
-use crate::files::settle_file;
+use crate::files::settle_lists;
 use lfs_device::{BlockDevice, Error};
 use lfs_file::{StoredList, lemma_settled_map};
 use lfs_lookup::{FileStorage, Path, PathLookup, SlotPosition};
@@ -55,7 +55,7 @@ pub(crate) fn free_file_list<D: BlockDevice>(
                 size: 0,
                 in_flight: false,
             };
-            settle_file(thread, list, nothing)
+            settle_lists(thread, list, nothing)
         }
     }
 }

@@ -1,7 +1,7 @@
 // What is at the two paths of a rename, before anything is written.
 
 ghost use Rattle.std.specs.Prelude.{◌≡◌, ◌≤◌, ◌+◌, ◌++◌, true, false, IfOk, IfSome, IsSome, sum_by};
-ghost use Rattle.lfs_model.specs.crash.Frame.{pair_count_at, ancestor_paths};
+ghost use Rattle.lfs_model.specs.crash.Frame.{directory_pair_count, ancestor_paths};
 ghost use Rattle.lfs_model.specs.session.History.{read_count};
 ghost use Rattle.lfs_model.specs.tree.Shown.{disk_tree};
 ghost use Rattle.lfs_model.specs.format.Slots.{zero_gstate};
@@ -10,8 +10,8 @@ ghost use Rattle.lfs_lookup.specs.Finds.{IsFoundNode, has_entry_beneath};
 ghost use Rattle.lfs_lookup.specs.LookupPaths.{LeadsToResult};
 ghost use Rattle.lfs_lookup.specs.LookupReading.{ReadsOrReports};
 ghost use Rattle.lfs_tree.specs.TreeChanges.{CanChangeRecovered};
-ghost use Rattle.lfs_tree.specs.RootedThreads.{IsSoundWithRoot};
-ghost use Rattle.lfs_tree.specs.RenameFindings.{AreRenameResults, AreRenameFindings, rename_directories, lookup_without_parent};
+ghost use Rattle.lfs_tree.specs.RootedThreads.{SoundWithRoot};
+ghost use Rattle.lfs_tree.specs.RenameFindings.{AreRenameResults, AreRenameFindings, rename_parents, lookup_without_parent};
 ghost use Rattle.lfs_tree.specs.TreeState.{ReadsTreeOrFails, kept_thread, shown_tree};
 
 use crate::answers::mark_failed;
@@ -71,7 +71,7 @@ fn find_rename_targets<D: BlockDevice>(
 ) -> Result<RenameTargets, Error>
     requires { CanChangeRecovered thread.old root }
     ensures targets { IfOk result (AreRenameResults thread.old.kept from.now to.now) }
-    ensures few { read_count thread.new.kept.history ≤ read_count thread.old.kept.history + sum_by (pair_count_at thread.old.kept.pairs) (ancestor_paths from.now ++ ancestor_paths to.now) }
+    ensures few { read_count thread.new.kept.history ≤ read_count thread.old.kept.history + sum_by (directory_pair_count thread.old.kept.pairs) (ancestor_paths from.now ++ ancestor_paths to.now) }
     ensures reading { ReadsOrReports thread.old thread.new result }
 {
     let entry = find_at_path(alloc, thread, root, from)?;
@@ -115,7 +115,7 @@ fn node_and_emptiness<D: BlockDevice>(
     requires leads { LeadsToResult thread.old.kept _path.now found }
     ensures found { IfOk result (λ inside. IsFoundNode (disk_tree thread.old.kept.disk thread.old.kept.pairs) _path.now inside.finding) }
     ensures has { IfOk result (λ inside. inside.has_entries ≡ has_entry_beneath (disk_tree thread.old.kept.disk thread.old.kept.pairs) _path.now) }
-    ensures few { read_count thread.new.kept.history ≤ read_count thread.old.kept.history + pair_count_at thread.old.kept.pairs _path.now }
+    ensures few { read_count thread.new.kept.history ≤ read_count thread.old.kept.history + directory_pair_count thread.old.kept.pairs _path.now }
     ensures reading { ReadsOrReports thread.old thread.new result }
 {
     let shown = found_without_parent(found);
@@ -140,7 +140,7 @@ fn rename_findings<D: BlockDevice>(
     ensures found { IfOk result (AreRenameFindings (disk_tree thread.old.kept.disk thread.old.kept.pairs) from.now to.now) }
     ensures targets { IfOk result (λ found. IfSome found.targets (AreRenameResults thread.old.kept from.now to.now)) }
     ensures handed_on { IfOk result (λ found. IsSome found.targets) }
-    ensures few { read_count thread.new.kept.history ≤ read_count thread.old.kept.history + sum_by (pair_count_at thread.old.kept.pairs) (rename_directories from.now to.now) }
+    ensures few { read_count thread.new.kept.history ≤ read_count thread.old.kept.history + sum_by (directory_pair_count thread.old.kept.pairs) (rename_parents from.now to.now) }
     ensures reading { ReadsOrReports thread.old thread.new result }
 {
     let targets = find_rename_targets(alloc, thread, root, from, to)?;
@@ -157,17 +157,17 @@ fn rename_findings<D: BlockDevice>(
 }
 
 // Looks up the two paths of a rename where something is to recover first.
-fn rename_before_recovery<D: BlockDevice>(
+fn unrecovered_rename_findings<D: BlockDevice>(
     alloc: Global,
     thread: &mut Thread<D>,
     root: usize,
     from: &Path<'_>,
     to: &Path<'_>,
 ) -> Result<RenameFindings, Error>
-    requires { IsSoundWithRoot thread.old root true }
+    requires { SoundWithRoot thread.old root true }
     ensures found { IfOk result (AreRenameFindings (disk_tree thread.old.kept.disk thread.old.kept.pairs) from.now to.now) }
     ensures targets { IfOk result (λ found. IfSome found.targets (AreRenameResults thread.old.kept from.now to.now)) }
-    ensures few { read_count thread.new.kept.history ≤ read_count thread.old.kept.history + sum_by (pair_count_at thread.old.kept.pairs) (rename_directories from.now to.now) }
+    ensures few { read_count thread.new.kept.history ≤ read_count thread.old.kept.history + sum_by (directory_pair_count thread.old.kept.pairs) (rename_parents from.now to.now) }
     ensures reading { ReadsOrReports thread.old thread.new result }
 {
     let entry = find_node(alloc, thread, root, from)?;
@@ -189,18 +189,18 @@ fn rename_targets<D: BlockDevice>(
     from: &Path<'_>,
     to: &Path<'_>,
 ) -> Result<RenameFindings, Error>
-    requires { IsSoundWithRoot thread.old root true }
+    requires { SoundWithRoot thread.old root true }
     ensures found { IfOk result (AreRenameFindings (disk_tree thread.old.kept.disk thread.old.kept.pairs) from.now to.now) }
     ensures targets { IfOk result (λ found. IfSome found.targets (AreRenameResults thread.old.kept from.now to.now)) }
     ensures handed_on { pairs_gstate thread.old.kept.pairs ≡ zero_gstate → IfOk result (λ found. IsSome found.targets) }
-    ensures few { read_count thread.new.kept.history ≤ read_count thread.old.kept.history + sum_by (pair_count_at thread.old.kept.pairs) (rename_directories from.now to.now) }
+    ensures few { read_count thread.new.kept.history ≤ read_count thread.old.kept.history + sum_by (directory_pair_count thread.old.kept.pairs) (rename_parents from.now to.now) }
     ensures reading { ReadsOrReports thread.old thread.new result }
 {
     let state = thread.state();
     if state.is_none() {
         rename_findings(alloc, thread, root, from, to)
     } else {
-        rename_before_recovery(alloc, thread, root, from, to)
+        unrecovered_rename_findings(alloc, thread, root, from, to)
     }
 }
 
@@ -223,7 +223,7 @@ impl<D: BlockDevice> Tree<D> {
         ensures found { IfOk result (AreRenameFindings (shown_tree self.old) from.now to.now) }
         ensures targets { IfOk result (λ found. IfSome found.targets (AreRenameResults (kept_thread self.new) from.now to.now)) }
         ensures handed_on { pairs_gstate self.old.pairs ≡ zero_gstate → IfOk result (λ found. IsSome found.targets) }
-        ensures few { read_count self.new.history ≤ read_count self.old.history + sum_by (pair_count_at self.old.pairs) (rename_directories from.now to.now) }
+        ensures few { read_count self.new.history ≤ read_count self.old.history + sum_by (directory_pair_count self.old.pairs) (rename_parents from.now to.now) }
     {
         let found = rename_targets(alloc, &mut self.thread, self.root, from, to);
         mark_failed(&mut self.thread, &found);

@@ -25,8 +25,8 @@ use crate::tree::Tree;
 use lfs_device::{BlockDevice, Error};
 use lfs_lookup::{FileStorage, Path, PathLookup, SlotPosition};
 use lfs_operations::{
-    Route, onto_directory_across, onto_file_across, rename, rename_across_pairs,
-    rename_onto_directory, rename_onto_file,
+    Route, rename, rename_across_pairs, rename_onto_directory, rename_onto_file,
+    replace_directory_across, replace_file_across,
 };
 use lfs_thread::Thread;
 use std::alloc::Global;
@@ -80,7 +80,7 @@ fn replace_file<D: BlockDevice>(
             new_pair: slot.pair,
             new_id: slot.id,
         };
-        onto_file_across(alloc, thread, route, name)
+        replace_file_across(alloc, thread, route, name)
     }
 }
 
@@ -131,7 +131,7 @@ fn move_onto_directory<D: BlockDevice>(
             new_pair: slot.pair,
             new_id: slot.id,
         };
-        onto_directory_across(alloc, thread, route, name, gone)
+        replace_directory_across(alloc, thread, route, name, gone)
     }
 }
 

@@ -4,7 +4,7 @@ ghost use Rattle.std.specs.Prelude.{◌≡◌, ◌<◌, ◌==◌, ◌≤◌, ◌
 ghost use Rattle.std.specs.List.{list_any};
 ghost use Rattle.std.specs.Option.{option_map};
 ghost use Rattle.lfs_model.specs.session.History.{read_count};
-ghost use Rattle.lfs_model.specs.crash.Frame.{pair_count_at, ancestor_paths};
+ghost use Rattle.lfs_model.specs.crash.Frame.{directory_pair_count, ancestor_paths};
 ghost use Rattle.lfs_model.specs.session.TreeEdits.{node_attributes_of};
 ghost use Rattle.lfs_model.specs.format.Content.{attribute_bytes};
 ghost use Rattle.lfs_model.specs.tree.Profile.{image_fields};
@@ -15,7 +15,7 @@ ghost use Rattle.lfs_model.specs.format.Disk.{SameGeometry, block_count, ordered
 ghost use Rattle.lfs_model.specs.declared.order.NameOrder.{NameOrder};
 ghost use Rattle.lfs_model.specs.declared.order.NameOrder.TheVariants.{LongerFirst, ShorterFirst};
 ghost use Rattle.lfs_model.specs.session.Effects.{items_at};
-ghost use Rattle.lfs_mount.specs.MountFaults.{IsErrorOfMount};
+ghost use Rattle.lfs_mount.specs.MountFaults.{MountMayReport};
 ghost use Rattle.lfs_tag.specs.FieldsView.{move_view, superblock_view};
 ghost use Rattle.lfs_thread.specs.ThreadDevice.{GivesDeviceBack};
 ghost use Rattle.lfs_thread.specs.Kept.{disk_of_device, kept_in_order};
@@ -35,7 +35,7 @@ use crate::answers::mark_failed;
 use crate::attributes_at::{remove_attr_at, set_attr_at};
 use crate::entries_at::{create_empty_file, make_directory_at};
 use crate::formats::format;
-use crate::lost_recovery::end_and_drop;
+use crate::lost_recovery::recover_thread;
 use crate::mounted_tree::{mount_thread, root_and_profile};
 use crate::remounts::{SpareThreadParts, mount_again};
 use crate::removals_at::remove_at;
@@ -88,7 +88,7 @@ impl<D: BlockDevice> Tree<D> {
         ensures mounted { IfOk result (λ t. IsMountedTree (ordered_disk t.disk.order (disk_of_device D.BlockDevice device)) (D.history device) t) }
         ensures longer { IfOk result (λ t. t.disk.order ≡ ShorterFirst → (ps : List Pair) → ¬ IsAccepted (ordered_disk LongerFirst (disk_of_device D.BlockDevice device)) ps) }
         ensures corrupt { IfErr result (λ e. e.1 ≡ Error.Corrupt → (order : NameOrder) (ps : List Pair) → ¬ IsAccepted (ordered_disk order (disk_of_device D.BlockDevice device)) ps) }
-        ensures errors { IfErr result (λ e. IsErrorOfMount e.1) }
+        ensures errors { IfErr result (λ e. MountMayReport e.1) }
         ensures back { IfErr result (λ e. GivesDeviceBack D.BlockDevice device e.0 e.1) }
     {
         let mut thread = mount_thread(alloc, device)?;
@@ -266,7 +266,7 @@ impl<D: BlockDevice> Tree<D> {
         ensures asks { ReadsTreeOrFails self.old result self.new }
         ensures found { IfOk result (λ inside. IsFoundNode (shown_tree self.old) path.now inside.finding) }
         ensures has { IfOk result (λ inside. inside.has_entries ≡ has_entry_beneath (shown_tree self.old) path.now) }
-        ensures few { read_count self.new.history ≤ read_count self.old.history + sum_by (pair_count_at self.old.pairs) (ancestor_paths path.now ++ path.now ∷ []) }
+        ensures few { read_count self.new.history ≤ read_count self.old.history + sum_by (directory_pair_count self.old.pairs) (ancestor_paths path.now ++ path.now ∷ []) }
     {
         let inside = path_has_entries(alloc, &mut self.thread, self.root, path);
         mark_failed(&mut self.thread, &inside);
@@ -428,7 +428,7 @@ impl<D: BlockDevice> Tree<D> {
         if self.gstate().is_none() {
             return Ok(());
         }
-        let recovered = end_and_drop(alloc, &mut self.thread, self.root);
+        let recovered = recover_thread(alloc, &mut self.thread, self.root);
         mark_failed(&mut self.thread, &recovered);
         recovered
     }

@@ -5,9 +5,9 @@ ghost use Rattle.lfs_model.specs.session.TreeEdits.{file_bytes, tree_with_change
 ghost use Rattle.lfs_model.specs.layers.BlockSets.{in_flight_count};
 ghost use Rattle.lfs_model.specs.format.Disk.{inline_limit};
 ghost use Rattle.lfs_model.specs.session.Writers.{written_contents, zero_padded};
-ghost use Rattle.lfs_model.specs.session.Effects.{file_with_bytes};
+ghost use Rattle.lfs_model.specs.session.Effects.{node_with_bytes};
 ghost use Rattle.lfs_model.specs.tree.Tree.{Path as ModelPath};
-ghost use Rattle.lfs_tree.specs.OpenContents.{CanOpenWriterOf, CanStoreContents, CanTruncateIn, CanWriteIn, HasBytesInForm, IsOpenedForm, AreTreeContents, StoresBytesAt, WritesUnusedOrFails, writer_contents_bytes, kept_thread};
+ghost use Rattle.lfs_tree.specs.OpenContents.{CanOpenWriterOf, CanStoreContents, CanTruncateIn, CanWriteIn, HasBytesInForm, IsOpenedForm, AreTreeContents, AreBytesStored, WritesUnusedOrFails, writer_contents_bytes, kept_thread};
 ghost use Rattle.lfs_tree.specs.TreeState.{ReadsTreeOrFails, IsFailedTree, FailedByReading, HasErrorCause, SurvivesStops, shown_tree};
 ghost use Rattle.lfs_file.specs.Contents.{contents_form};
 ghost use Rattle.lfs_file.specs.Form as form;
@@ -119,10 +119,10 @@ impl<D: BlockDevice> Tree<D> {
         contents: WriterContents,
     ) -> Result<(), Error>
         requires { CanStoreContents self.old path.now contents }
-        ensures stored { OnOk result (StoresBytesAt self.old path.now (writer_contents_bytes (kept_thread self.old) contents) self.new) }
+        ensures stored { OnOk result (AreBytesStored self.old path.now (writer_contents_bytes (kept_thread self.old) contents) self.new) }
         ensures broken { OnErr result (IsFailedTree self.old self.new) }
         ensures errors { IfErr result (HasErrorCause self.old self.new) }
-        ensures survives { SurvivesStops self.old self.new (tree_with_change path.now (file_with_bytes (writer_contents_bytes (kept_thread self.old) contents)) (shown_tree self.old)) }
+        ensures survives { SurvivesStops self.old self.new (tree_with_change path.now (node_with_bytes (writer_contents_bytes (kept_thread self.old) contents)) (shown_tree self.old)) }
     {
         let plan = self.plan_move(2);
         let stored = store_contents_at(alloc, &mut self.thread, self.root, path, contents);

@@ -7,7 +7,7 @@ use Rattle.lfs_device.specs.declared.error.Error.TheVariants.{Corrupt, Io, NoMem
 use Rattle.lfs_device.specs.declared.ram.RamDevice.{RamDevice}
 use Rattle.lfs_model.specs.format.Disk.{Disk, ordered_disk}
 use Rattle.lfs_model.specs.session.History.{CallEvent}
-use Rattle.lfs_model.specs.tree.Profile.{with_limits}
+use Rattle.lfs_model.specs.tree.Profile.{profile_with_limits}
 use Rattle.lfs_model.specs.format.Thread.{Pair}
 use Rattle.lfs_model.specs.tree.View.{IsAccepted}
 use Rattle.lfs_model.specs.declared.limits.Profile.{Profile}
@@ -45,6 +45,6 @@ mounted_with_limits config image d given history h valid is by b longer = record
   fields = b.fields;
   superblock = b.superblock;
   mounted =
-      subst (λ p. IsImageSession config.block_size config.page p image (system_state h)) (b.limits ∙ ap (with_limits b.fields) by)
+      subst (λ p. IsImageSession config.block_size config.page p image (system_state h)) (b.limits ∙ ap (profile_with_limits b.fields) by)
       (mounted_by config.block_size config.page (config_profile config) image d is h.tree.disk.profile history h b.begun longer);
 }

@@ -5,12 +5,12 @@ use Rattle.lfs_device.specs.declared.error.Error.TheVariants.{Busy, Invalid, NoM
 use Rattle.lfs_device.specs.RamDevice.{ram_geometry, ram_history, ram_blocks}
 use Rattle.lfs_device.specs.DeviceDisk.{disk_of_blocks}
 use Rattle.lfs_device.specs.declared.ram.RamDevice.{RamDevice}
-use Rattle.lfs_model.specs.format.Blocks.{SameExceptThese, cut}
+use Rattle.lfs_model.specs.format.Blocks.{SameExceptBlocks, cut}
 use Rattle.lfs_model.specs.format.Disk.{Disk, SameGeometry, ordered_disk}
 use Rattle.lfs_model.specs.format.EntryTypes.{SuperblockFields}
 use Rattle.lfs_model.specs.tree.Fresh.{IsFreshDisk, empty_tree}
 use Rattle.lfs_model.specs.format.Geometry.{IsValidGeometry}
-use Rattle.lfs_model.specs.tree.Profile.{with_limits, image_fields}
+use Rattle.lfs_model.specs.tree.Profile.{profile_with_limits, image_fields}
 use Rattle.lfs_model.specs.session.Run.{SystemState}
 use Rattle.lfs_model.specs.session.State.{Healthy, mounted_session}
 use Rattle.lfs_model.specs.format.Thread.{Pair}
@@ -34,7 +34,7 @@ pub record IsMountedLimited (config : Config) (image : List ℕ) (from : SystemS
   pub accepted : IsAccepted from.disk pairs
   pub fields : SuperblockFields
   pub superblock : image_fields pairs ≡ Some fields
-  pub mounted : IsImageSession config.block_size config.page (with_limits fields (config_profile config)) image from
+  pub mounted : IsImageSession config.block_size config.page (profile_with_limits fields (config_profile config)) image from
 
 -- a number of the configuration is out of range, or the image has no session by it, or memory wasn't granted
 abbrev pub PreventsMount : Config → List ℕ → Error → Type 0
@@ -68,7 +68,7 @@ pub record IsFormattedBy (config : Config) (count : ℕ) (s : SessionView) : Typ
   pub given : IsDiskConfig config count
   pub geometry : SameGeometry (blank_disk config count) s.tree.disk
   pub fresh : IsFreshDisk s.tree.disk
-  pub others : SameExceptThese (0 ∷ 1 ∷ []) (blank_disk config count).blocks s.tree.disk.blocks
+  pub others : SameExceptBlocks (0 ∷ 1 ∷ []) (blank_disk config count).blocks s.tree.disk.blocks
   pub begins : (system_state s).state ≡ Healthy (mounted_session empty_tree)
 
 -- the numbers give no disk, or memory wasn't granted

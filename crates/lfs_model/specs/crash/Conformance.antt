@@ -5,7 +5,7 @@ use Rattle.lfs_model.specs.session.History.{Read, Program, Erase, Blank, CallEve
 
 -- A call that didn't fail conforms. A read and a word on blank bytes left the blocks as they were. A program left its bytes at its place. Neither a program
 -- nor an erase changed another block.
-pub record ConformsTo (e : CallEvent) : Type 0 where
+pub record CallConforms (e : CallEvent) : Type 0 where
   pub reads : (block off len : ℕ) → e.call ≡ Read block off len → e.failed ≡ false → e.after ≡ e.before
   pub programs : (block off : ℕ) (bytes : List ℕ) → e.call ≡ Program block off bytes → e.failed ≡ false → e.after ≡ programmed e.before block off bytes
   pub others : (block off : ℕ) (bytes : List ℕ) → e.call ≡ Program block off bytes → e.failed ≡ false → SameExcept block e.before e.after
@@ -14,4 +14,4 @@ pub record ConformsTo (e : CallEvent) : Type 0 where
 
 -- each call conforms
 abbrev pub CallsConform : List CallEvent → Type 0
-CallsConform history = All ConformsTo history
+CallsConform history = All CallConforms history

@@ -12,7 +12,7 @@ use Rattle.lfs_model.specs.session.Run.{SystemState, is_read_only, renames_itsel
 
 -- The session fails in an operation. A query, a rename to itself and a remount write nothing. Nor does any operation on an image
 -- outside the writing profile. A session that had failed makes no call but for a remount.
-pub record FailsIn (from : SystemState) (op : Operation) (to : SystemState) : Type 0 where
+pub record OperationFails (from : SystemState) (op : Operation) (to : SystemState) : Type 0 where
   pub failed : to.state ≡ HasFailed
   pub geometry : SameGeometry from.disk to.disk
   pub calls : List CallEvent

@@ -29,9 +29,9 @@ directory_pairs (p ∷ ps) at = if same_pair p.at at then tail_pairs p ps else d
 
 -- ---- blocks
 
-abbrev pub paths_of_file : Option OpenFile → List Path
-paths_of_file None = []
-paths_of_file (Some file) = file_path file ∷ []
+abbrev pub path_if_open : Option OpenFile → List Path
+path_if_open None = []
+path_if_open (Some file) = file_path file ∷ []
 
 -- the paths that an operation is about
 abbrev pub changed_paths : Session → Operation → List Path
@@ -41,27 +41,27 @@ changed_paths s (ops.Remove path) = path_or_root path ∷ []
 changed_paths s (ops.Rename old new) = path_or_root old ∷ path_or_root new ∷ []
 changed_paths s (ops.SetAttr path kind bytes) = path_or_root path ∷ []
 changed_paths s (ops.RemoveAttr path kind) = path_or_root path ∷ []
-changed_paths s (ops.Sync fd) = paths_of_file (file_numbered s.files fd)
-changed_paths s (ops.Close fd) = paths_of_file (file_numbered s.files fd)
+changed_paths s (ops.Sync fd) = path_if_open (file_numbered s.files fd)
+changed_paths s (ops.Close fd) = path_if_open (file_numbered s.files fd)
 changed_paths s _ = []
 
 -- the slot is an entry of that name; a superblock's slot isn't
-abbrev pub HasEntryName : Name → Slot → Type 0
-HasEntryName name s = (is_superblock s ≡ false) × (same_name name s.name ≡ true)
+abbrev pub IsEntryNamed : Name → Slot → Type 0
+IsEntryNamed name s = (is_superblock s ≡ false) × (same_name name s.name ≡ true)
 
 -- the pair holds the slot of that path
 abbrev pub HasPathSlot : List Pair → Pair → Path → Type 0
 HasPathSlot ps p path = (at : ℕ × ℕ) × (LeadsTo ps (parent_path path) at × Contains (directory_pairs ps at) p
-    × Any (HasEntryName (last_name path)) p.content.slots)
+    × Any (IsEntryNamed (last_name path)) p.content.slots)
 
-abbrev pub SamePairBlocks : Disk → Disk → Pair → Type 0
-SamePairBlocks disk new p = (disk_block new p.at.0 ≡ disk_block disk p.at.0) × (disk_block new p.at.1 ≡ disk_block disk p.at.1)
+abbrev pub KeepsPairBytes : Disk → Disk → Pair → Type 0
+KeepsPairBytes disk new p = (disk_block new p.at.0 ≡ disk_block disk p.at.0) × (disk_block new p.at.1 ≡ disk_block disk p.at.1)
 
 -- Every block of a file's list keeps its bytes. So do both blocks of a pair that stays with what it holds. Excepted are pairs
 -- that hold a slot that the operation is about.
 pub record KeepsOthers (disk : Disk) (ps : List Pair) (s : Session) (op : Operation) (new : Disk) (qs : List Pair) : Type 0 where
   pub files : All (λ t. All (λ b. disk_block new b ≡ disk_block disk b) (struct_blocks disk t.struct)) (all_unmoved_slots ps)
-  pub pairs : (p : Pair) → Contains ps p → Contains qs p → (Any (HasPathSlot ps p) (changed_paths s op) → ⊥) → SamePairBlocks disk new p
+  pub pairs : (p : Pair) → Contains ps p → Contains qs p → (Any (HasPathSlot ps p) (changed_paths s op) → ⊥) → KeepsPairBytes disk new p
 
 -- ---- reads
 
@@ -84,8 +84,8 @@ is_look_up (ops.ListAll path) = true
 is_look_up _ = false
 
 -- how many pairs the directory at a path has, if it is one
-abbrev pub pair_count_at : List Pair → Path → ℕ
-pair_count_at ps path = count (address_at_path (all_entries ps) (root_address ps) path)
+abbrev pub directory_pair_count : List Pair → Path → ℕ
+directory_pair_count ps path = count (address_at_path (all_entries ps) (root_address ps) path)
   where
     count : Option (ℕ × ℕ) → ℕ
     count None = 0
@@ -93,14 +93,14 @@ pair_count_at ps path = count (address_at_path (all_entries ps) (root_address ps
 
 -- a look-up reads no more pairs than its directories have
 abbrev pub ReadsEachOnce : List Pair → Operation → List CallEvent → Type 0
-ReadsEachOnce ps op calls = is_look_up op ≡ true → read_count calls ≤ sum_by (pair_count_at ps) (searched_directories op)
+ReadsEachOnce ps op calls = is_look_up op ≡ true → read_count calls ≤ sum_by (directory_pair_count ps) (searched_directories op)
 
 -- the session answers the operation from its own state, without the device
-abbrev pub answers_itself : Operation → Bool
-answers_itself ops.AskGstate = true
-answers_itself (ops.IsUsed block) = true
-answers_itself ops.UsedCount = true
-answers_itself _ = false
+abbrev pub asks_session : Operation → Bool
+asks_session ops.AskGstate = true
+asks_session (ops.IsUsed block) = true
+asks_session ops.UsedCount = true
+asks_session _ = false
 
 -- The operation looks up in directories that the one before has just searched, at most eight of one pair each.
 pub record SearchesSameDirectories (ps : List Pair) (before op : Operation) : Type 0 where
@@ -110,7 +110,7 @@ pub record SearchesSameDirectories (ps : List Pair) (before op : Operation) : Ty
   pub again : is_look_up op ≡ true
   pub within : All (λ p. Contains (searched_directories before) p) (searched_directories op)
   pub few : length (searched_directories before) ≤ 8
-  pub small : All (λ p. pair_count_at ps p ≡ 1) (searched_directories before)
+  pub small : All (λ p. directory_pair_count ps p ≡ 1) (searched_directories before)
 
 -- ---- what comes at once
 

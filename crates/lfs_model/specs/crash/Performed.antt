@@ -2,7 +2,7 @@
 use Rattle.std.specs.Prelude.{◌≡◌, ◌⊎◌, List, [], ◌∷◌, ◌++◌, Option, None}
 use Rattle.lfs_model.specs.session.Operations.{Operation, Reply}
 use Rattle.lfs_model.specs.session.Run.{SystemState, IsStep}
-use Rattle.lfs_model.specs.crash.Failure.{FailsIn}
+use Rattle.lfs_model.specs.crash.Failure.{OperationFails}
 use Rattle.lfs_model.specs.crash.PowerLoss.{SurvivesPowerLoss}
 use Rattle.lfs_model.specs.crash.ReadBounds.{SparesAndBoundsReads, ReadsOnceAlways, accepted_operation}
 
@@ -28,7 +28,7 @@ pub record FailsDuringRun (from : SystemState) (operations : List Operation) (to
   pub replies : List Reply
   pub at : SystemState
   pub performed : ArePerformed None from done replies at
-  pub fails : FailsIn at next to
+  pub fails : OperationFails at next to
   pub survives_loss : SurvivesPowerLoss at next to
   pub few : ReadsOnceAlways at next to
 

@@ -46,14 +46,14 @@ pub record IsHealthySession (at : SystemState) (s : Session) (ps : List Pair) (a
   pub surrounds : IsSummary at.disk ps around
 
 -- wherever a session at work stops in the operation, the disk left has the tree from before it or from after it
-abbrev pub SurvivesInCalls : SystemState → Operation → SystemState → Type 0
-SurvivesInCalls from op to =
+abbrev pub SurvivesStoppedCalls : SystemState → Operation → SystemState → Type 0
+SurvivesStoppedCalls from op to =
     (s : Session) (ps : List Pair) (around : DiskSummary) → IsHealthySession from s ps around
     → SurvivesLossSince from.disk from.calls to.calls s.tree (operation_result around s op).1.tree
 
 -- A stop in the operation leaves the old tree or the new one. So does the operation's end, also where it is an error.
 pub record SurvivesPowerLoss (from : SystemState) (op : Operation) (to : SystemState) : Type 0 where
-  pub stops : SurvivesInCalls from op to
+  pub stops : SurvivesStoppedCalls from op to
   pub stands : (s : Session) (ps : List Pair) (around : DiskSummary) → IsHealthySession from s ps around
       → AllCallsSince ErasesCleanly from.calls to.calls → AllCallsSince FailsLikeLoss from.calls to.calls
       → HasEitherTree to.disk s.tree (operation_result around s op).1.tree

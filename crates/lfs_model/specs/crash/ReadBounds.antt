@@ -7,7 +7,7 @@ use Rattle.lfs_model.specs.session.History.{CallEvent, read_count}
 use Rattle.lfs_model.specs.session.Operations.{Operation, Reply}
 use Rattle.lfs_model.specs.session.Session.{Session}
 use Rattle.lfs_model.specs.session.State.{Healthy}
-use Rattle.lfs_model.specs.crash.Frame.{KeepsOthers, answers_itself, ReadsEachOnce, SearchesSameDirectories}
+use Rattle.lfs_model.specs.crash.Frame.{KeepsOthers, asks_session, ReadsEachOnce, SearchesSameDirectories}
 use Rattle.lfs_model.specs.session.Run.{SystemState, is_refusal}
 
 -- the operation read nothing, if the one before was a look-up in the same directories
@@ -19,7 +19,7 @@ RepeatReadsNothing ps (Some before) op calls = SearchesSameDirectories ps before
 pub record SparesAndBoundsReads (before : Option Operation) (from : SystemState) (op : Operation) (calls : List CallEvent) (to : SystemState) : Type 0 where
   pub alone : (s : Session) → from.state ≡ Healthy s → (ps qs : List Pair) → IsAccepted from.disk ps → IsAccepted to.disk qs → pairs_gstate ps ≡ zero_gstate
       → KeepsOthers from.disk ps s op to.disk qs
-  pub asked : answers_itself op ≡ true → calls ≡ []
+  pub asked : asks_session op ≡ true → calls ≡ []
   pub few : (s : Session) → from.state ≡ Healthy s → (ps : List Pair) → IsAccepted from.disk ps → ReadsEachOnce ps op calls
   pub kept : (s : Session) → from.state ≡ Healthy s → (ps : List Pair) → IsAccepted from.disk ps → RepeatReadsNothing ps before op calls
 

@@ -128,9 +128,9 @@ LeftByLosses disk [] = Unit {0}
 LeftByLosses disk (left ∷ others) = LeftAfterMount disk left × LeftByLosses left others
 
 -- and each time it is survived
-abbrev pub SurvivesEach : (disk : Disk) (lefts : List Disk) → LeftByLosses disk lefts → Type 0
-SurvivesEach disk [] losses = Unit {0}
-SurvivesEach disk (left ∷ others) losses = SurvivesLoss losses.0.begin losses.0.operations losses.0.to losses.0.run left × SurvivesEach left others losses.1
+abbrev pub SurvivesLosses : (disk : Disk) (lefts : List Disk) → LeftByLosses disk lefts → Type 0
+SurvivesLosses disk [] losses = Unit {0}
+SurvivesLosses disk (left ∷ others) losses = SurvivesLoss losses.0.begin losses.0.operations losses.0.to losses.0.run left × SurvivesLosses left others losses.1
 
 -- a session with its disk's tree, on an image in the writing profile, where each erase leaves no log, or the one that was there
 pub record MeetsRunPremises (from to : SystemState) : Type 0 where
@@ -143,4 +143,4 @@ pub record MeetsRunPremises (from to : SystemState) : Type 0 where
 pub record CrashSafe (from : SystemState) (operations : List Operation) (to : SystemState) : Type 0 where
   pub run : IsRun from operations to
   pub once : (left : Disk) → LeftBetween from to left → SurvivesLoss from operations to run left
-  pub again : (left : Disk) (lefts : List Disk) → LeftBetween from to left → (losses : LeftByLosses left lefts) → SurvivesEach left lefts losses
+  pub again : (left : Disk) (lefts : List Disk) → LeftBetween from to left → (losses : LeftByLosses left lefts) → SurvivesLosses left lefts losses

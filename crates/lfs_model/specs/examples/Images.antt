@@ -17,7 +17,7 @@ use Rattle.lfs_model.specs.session.TreeEdits.{same_path}
 use Rattle.lfs_model.specs.tree.View.{DiskView, IsAccepted, superblock_entry}
 use Rattle.lfs_model.specs.tree.Profile.{IsWritable}
 use Rattle.lfs_model.specs.layers.WrittenContent.{log_entry}
-use Rattle.lfs_model.specs.layers.Changes.{PairChange, Create, Delete, PutStruct, PutAttribute}
+use Rattle.lfs_model.specs.layers.Changes.{ContentChange, Create, Delete, PutStruct, PutAttribute}
 use Rattle.lfs_model.specs.format.Names.{Name}
 use Rattle.lfs_model.specs.tree.Fresh.{superblock_bytes}
 use Rattle.lfs_model.specs.layers.BlockBytes.{unwritten_bytes, block_padded, superblock_entries, checksum_entry, metadata_bytes}
@@ -149,7 +149,7 @@ abbrev pub slots_content : List RawSlot → RawContent
 slots_content slots = record { slots = slots; tail = None; move = zero_gstate }
 
 -- the same, as changes
-abbrev pub shifting_changes : List PairChange
+abbrev pub shifting_changes : List ContentChange
 shifting_changes =
     Create 1 file_name_type (codes "b") ∷ PutStruct 1 inline_type []
     ∷ Create 1 file_name_type (codes "a") ∷ PutStruct 1 inline_type []
@@ -197,8 +197,8 @@ abbrev pub disk_with_versions : AcceptedVersions → Disk → Disk
 disk_with_versions versions disk = record disk { profile = record disk.profile { versions = versions } }
 
 -- a superblock's struct with another version, block size or limit of names, and a fresh root with it
-abbrev pub struct_bytes_with : ℕ → ℕ → ℕ → List ℕ
-struct_bytes_with version block_size name_limit = flat_map (little_bytes 4) (version ∷ block_size ∷ 16 ∷ name_limit ∷ size_limit ∷ 1022 ∷ [])
+abbrev pub superblock_struct_with : ℕ → ℕ → ℕ → List ℕ
+superblock_struct_with version block_size name_limit = flat_map (little_bytes 4) (version ∷ block_size ∷ 16 ∷ name_limit ∷ size_limit ∷ 1022 ∷ [])
 
 abbrev pub superblock_entries_with : List ℕ → List LogEntry
 superblock_entries_with struct = superblock_entry ∷ log_entry inline_type 0 struct ∷ []
@@ -220,5 +220,5 @@ abbrev pub three_blocks : Blocks
 three_blocks = three_blocks_with 5
 
 -- the last block's first pointer names the block itself
-abbrev pub endless_blocks : Blocks
-endless_blocks = slice_set three_blocks 7 (little_bytes 4 7 ++ little_bytes 4 5 ++ replicate 1016 3)
+abbrev pub endless_list : Blocks
+endless_list = slice_set three_blocks 7 (little_bytes 4 7 ++ little_bytes 4 5 ++ replicate 1016 3)

@@ -1,6 +1,6 @@
 -- Images that break a rule, one for each. Their checksums are right.
 use Rattle.std.specs.Prelude.{false, true, List, [], ◌∷◌, ◌++◌, Some, codes, replicate}
-use Rattle.lfs_model.specs.layers.BlockBytes.{block_padded, ctz_entries, directory_entries, inline_entries, move_state_entry, superblock_entries}
+use Rattle.lfs_model.specs.layers.BlockBytes.{block_padded, list_slot_entries, branch_entries, inline_entries, move_state_entry, superblock_entries}
 use Rattle.lfs_model.specs.format.Disk.{Disk, default_profile}
 use Rattle.lfs_model.specs.format.EntryTypes.{create_tag_type, inline_type}
 use Rattle.lfs_model.specs.tree.Fresh.{superblock_bytes}
@@ -9,7 +9,7 @@ use Rattle.lfs_model.specs.format.Thread.{Pair}
 use Rattle.lfs_model.specs.tree.View.{IsAccepted, superblock_entry}
 use Rattle.lfs_model.specs.layers.WrittenContent.{log_entry, tail_entry}
 use Rattle.lfs_model.specs.declared.breaches.ProfileBreach.{ProfileBreach}
-use Rattle.lfs_model.specs.examples.Images.{blocks_image, pair_block_with, root_block_with, root_struct_block, struct_bytes_with}
+use Rattle.lfs_model.specs.examples.Images.{blocks_image, pair_block_with, root_block_with, root_struct_block, superblock_struct_with}
 
 -- ---- the thread
 
@@ -17,8 +17,8 @@ use Rattle.lfs_model.specs.examples.Images.{blocks_image, pair_block_with, root_
 abbrev pub absent_block_image : Disk
 absent_block_image = blocks_image (root_block_with (tail_entry false (Some (2, 16)) ∷ []) 0x45f64334 192) (pair_block_with [] 0x43f29ceb 244 ∷ [])
 
-abbrev pub same_blocks_image : Disk
-same_blocks_image = blocks_image (root_block_with (tail_entry false (Some (2, 2)) ∷ []) 0x7b687562 192) (pair_block_with [] 0x43f29ceb 244 ∷ [])
+abbrev pub doubled_block_image : Disk
+doubled_block_image = blocks_image (root_block_with (tail_entry false (Some (2, 2)) ∷ []) 0x7b687562 192) (pair_block_with [] 0x43f29ceb 244 ∷ [])
 
 -- the root's tail names the root
 abbrev pub tail_to_root_image : Disk
@@ -40,11 +40,11 @@ create_first_image = blocks_image (pair_block_with (log_entry create_tag_type 0 
 
 -- the superblock gives version 2.1
 abbrev pub later_version_image : Disk
-later_version_image = blocks_image (root_struct_block (struct_bytes_with 0x00020001 4096 255) 0xf2928257) []
+later_version_image = blocks_image (root_struct_block (superblock_struct_with 0x00020001 4096 255) 0xf2928257) []
 
 -- the superblock of the second pair gives 17 blocks
-abbrev pub two_sizes_image : Disk
-two_sizes_image = blocks_image (root_block_with (tail_entry true (Some (2, 3)) ∷ []) 0xef8649c3 192)
+abbrev pub differing_superblocks_image : Disk
+differing_superblocks_image = blocks_image (root_block_with (tail_entry true (Some (2, 3)) ∷ []) 0xef8649c3 192)
     (pair_block_with (superblock_entries default_profile 4096 17 ++ inline_entries 1 (codes "a") (codes "hi")) 0xa947a470 193 ∷ [])
 
 -- ---- slots and directories
@@ -58,12 +58,12 @@ falling_names_image = blocks_image (root_block_with (inline_entries 1 (codes "b"
 
 -- the entry "d" names a pair that isn't in the thread
 abbrev pub loose_branch_image : Disk
-loose_branch_image = blocks_image (root_block_with (directory_entries 1 (codes "d") (2, 3)) 0x4c654d37 187) (pair_block_with [] 0x43f29ceb 244 ∷ [])
+loose_branch_image = blocks_image (root_block_with (branch_entries 1 (codes "d") (2, 3)) 0x4c654d37 187) (pair_block_with [] 0x43f29ceb 244 ∷ [])
 
 -- the entries "d" and "e" name one pair
-abbrev pub joined_branches_image : Disk
-joined_branches_image = blocks_image
-    (root_block_with (directory_entries 1 (codes "d") (2, 3) ++ directory_entries 2 (codes "e") (2, 3) ++ tail_entry false (Some (2, 3)) ∷ []) 0x9b4a311a 158)
+abbrev pub shared_branch_image : Disk
+shared_branch_image = blocks_image
+    (root_block_with (branch_entries 1 (codes "d") (2, 3) ++ branch_entries 2 (codes "e") (2, 3) ++ tail_entry false (Some (2, 3)) ∷ []) 0x9b4a311a 158)
     (pair_block_with [] 0x43f29ceb 244 ∷ [])
 
 -- the thread has a pair that no entry names
@@ -77,12 +77,12 @@ abbrev pub bad_move_image : Disk
 bad_move_image = blocks_image (root_block_with (move_state_entry 0x00000400 (0, 0) ∷ []) 0x33e0939e 188) []
 
 abbrev pub empty_list_image : Disk
-empty_list_image = blocks_image (root_block_with (ctz_entries 1 (codes "a") 2 0) 0xb05184d9 187) []
+empty_list_image = blocks_image (root_block_with (list_slot_entries 1 (codes "a") 2 0) 0xb05184d9 187) []
 
 -- block 2 is in the lists of "a" and "b"
 abbrev pub shared_block_image : Disk
 shared_block_image = blocks_image
-    (root_block_with (ctz_entries 1 (codes "a") 2 10 ++ ctz_entries 2 (codes "b") 2 10) 0xc767c5eb 170)
+    (root_block_with (list_slot_entries 1 (codes "a") 2 10 ++ list_slot_entries 2 (codes "b") 2 10) 0xc767c5eb 170)
     (block_padded 4096 (codes "0123456789") ∷ [])
 
 -- ---- the writing profile
@@ -93,7 +93,7 @@ HasBreach disk b = (ps : List Pair) × (IsAccepted disk ps × BreaksProfile disk
 
 -- the superblock limits names to 32 bytes
 abbrev pub short_names_image : Disk
-short_names_image = blocks_image (root_struct_block (struct_bytes_with 0x00020000 4096 32) 0xe9693de0) []
+short_names_image = blocks_image (root_struct_block (superblock_struct_with 0x00020000 4096 32) 0xe9693de0) []
 
 -- the entry "a" has 600 bytes inline, where at most 512 are written
 abbrev pub unwritable_inline_image : Disk

@@ -34,7 +34,7 @@ pub record SameOutside (low high : ℕ) (old new : List ℕ) : Type 0 where
   pub above : drop high new ≡ drop high old
 
 -- the blocks differ at most in the bytes of these
-pub record SameExceptThese (bs : List ℕ) (old new : Blocks) : Type 0 where
+pub record SameExceptBlocks (bs : List ℕ) (old new : Blocks) : Type 0 where
   pub count : length new ≡ length old
   pub sizes : (b : ℕ) → length (block_bytes new b) ≡ length (block_bytes old b)
   pub others : (other : ℕ) → All (λ b. b ≢ other) bs → block_bytes new other ≡ block_bytes old other

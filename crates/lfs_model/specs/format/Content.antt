@@ -3,11 +3,11 @@ use Rattle.std.specs.Prelude.{ℕ, ◌+◌, ◌-◌, ◌%◌, ◌^◌, ◌==◌,
 use Rattle.std.specs.List.{insert, remove}
 use Rattle.std.specs.Option.{option_and_then, option_map}
 use Rattle.byteorder.specs.Endian.{little_number}
-use Rattle.lfs_model.specs.format.Tag.{tag_type, tag_id, abstract_type, tag_chunk}
+use Rattle.lfs_model.specs.format.Tag.{tag_type, tag_id, tag_class, tag_chunk}
 use Rattle.lfs_model.specs.format.Log.{LogEntry, chain_of, block_revision, block_entries}
 use Rattle.lfs_model.specs.format.Disk.{Disk, disk_block}
 use Rattle.lfs_model.specs.format.Slots.{SlotKind, File, Directory, Superblock, Struct, Inline, Ctz, Branch, Attributes, Slot, Tail, Gstate, PairContent, zero_gstate}
-use Rattle.lfs_model.specs.format.EntryTypes.{file_name_type, directory_name_type, directory_type, inline_type, create_tag_type, delete_tag_type, is_attribute_removal, is_known_tag, has_needed_id, read_address, entry_tail, read_gstate}
+use Rattle.lfs_model.specs.format.EntryTypes.{file_name_type, directory_name_type, directory_type, inline_type, create_tag_type, delete_tag_type, is_attribute_removal, is_known_tag, has_needed_id, decoded_address, entry_tail, decoded_gstate}
 
 -- A slot of any log. Its name and its struct are a type and bytes, and may be missing.
 pub record RawSlot : Type 0 where
@@ -28,8 +28,8 @@ empty_slot = record { name = None; struct = None; attributes = [] }
 abbrev pub slot_of_id : List RawSlot → ℕ → RawSlot
 slot_of_id slots id = slice_index_or slots id empty_slot
 
-abbrev pub changed_at : (RawSlot → RawSlot) → List RawSlot → ℕ → List RawSlot
-changed_at f slots id = slice_set slots id (f (slot_of_id slots id))
+abbrev pub slot_changed_at : (RawSlot → RawSlot) → List RawSlot → ℕ → List RawSlot
+slot_changed_at f slots id = slice_set slots id (f (slot_of_id slots id))
 
 -- the slots, with empty ones up to an id
 abbrev pub padded_slots : List RawSlot → ℕ → List RawSlot
@@ -52,31 +52,31 @@ abbrev pub attributes_after : LogEntry → Attributes → Attributes
 attributes_after e attributes =
     if is_attribute_removal e.tag then attributes_without (tag_chunk e.tag) attributes else attributes_with (tag_chunk e.tag) e.bytes attributes
 
-abbrev pub type_and_bytes : LogEntry → Option (ℕ × List ℕ)
-type_and_bytes e = Some (tag_type e.tag, e.bytes)
+abbrev pub entry_part : LogEntry → Option (ℕ × List ℕ)
+entry_part e = Some (tag_type e.tag, e.bytes)
 
 -- the slots after an entry of a class below 5, or none where the entry isn't allowed there
 abbrev pub slots_after : List RawSlot → LogEntry → Option (List RawSlot)
 slots_after slots e =
-    if abstract_type e.tag == 0 then Some (changed_at (λ s. record s { name = type_and_bytes e }) (padded_slots slots (tag_id e.tag)) (tag_id e.tag))
+    if tag_class e.tag == 0 then Some (slot_changed_at (λ s. record s { name = entry_part e }) (padded_slots slots (tag_id e.tag)) (tag_id e.tag))
     else (if tag_type e.tag == create_tag_type then (if nat_le (tag_id e.tag) (length slots) then Some (insert slots (tag_id e.tag) empty_slot) else None)
     else (if tag_type e.tag == delete_tag_type then (if nat_lt (tag_id e.tag) (length slots) then Some (remove slots (tag_id e.tag)) else None)
     else (if not (is_some (slot_of_id slots (tag_id e.tag)).name) then None
-    else (if abstract_type e.tag == 2 then Some (changed_at (λ s. record s { struct = type_and_bytes e }) slots (tag_id e.tag))
-    else Some (changed_at (λ s. record s { attributes = attributes_after e s.attributes }) slots (tag_id e.tag))))))
+    else (if tag_class e.tag == 2 then Some (slot_changed_at (λ s. record s { struct = entry_part e }) slots (tag_id e.tag))
+    else Some (slot_changed_at (λ s. record s { attributes = attributes_after e s.attributes }) slots (tag_id e.tag))))))
 
 -- what an entry makes of the content, or none where the log is malformed
-abbrev pub content_after_one : RawContent → LogEntry → Option RawContent
-content_after_one c e =
-    if abstract_type e.tag == 5 then Some c
+abbrev pub content_after_entry : RawContent → LogEntry → Option RawContent
+content_after_entry c e =
+    if tag_class e.tag == 5 then Some c
     else (if not (is_known_tag e.tag && has_needed_id e.tag) then None
-    else (if abstract_type e.tag == 6 then Some (record c { tail = entry_tail e })
-    else (if abstract_type e.tag == 7 then Some (record c { move = read_gstate e.bytes })
+    else (if tag_class e.tag == 6 then Some (record c { tail = entry_tail e })
+    else (if tag_class e.tag == 7 then Some (record c { move = decoded_gstate e.bytes })
     else option_map (λ slots. record c { slots = slots }) (slots_after c.slots e))))
 
 abbrev pub content_after : RawContent → List LogEntry → Option RawContent
 content_after c [] = Some c
-content_after c (e ∷ es) = option_and_then (λ d. content_after d es) (content_after_one c e)
+content_after c (e ∷ es) = option_and_then (λ d. content_after d es) (content_after_entry c e)
 
 abbrev pub empty_raw_content : RawContent
 empty_raw_content = record { slots = []; tail = None; move = zero_gstate }
@@ -107,16 +107,16 @@ raw_content disk at = option_and_then (λ block. content_after empty_raw_content
 abbrev pub kind_of_type : ℕ → SlotKind
 kind_of_type type = if type == file_name_type then File else (if type == directory_name_type then Directory else Superblock)
 
-abbrev pub read_struct : ℕ → List ℕ → Struct
-read_struct type bytes =
+abbrev pub decoded_struct : ℕ → List ℕ → Struct
+decoded_struct type bytes =
     if type == inline_type then Inline bytes
-    else (if type == directory_type then Branch (read_address bytes) else Ctz (little_number 4 bytes) (little_number 4 (drop 4 bytes)))
+    else (if type == directory_type then Branch (decoded_address bytes) else Ctz (little_number 4 bytes) (little_number 4 (drop 4 bytes)))
 
 abbrev pub complete_slot : RawSlot → Option Slot
 complete_slot s = option_and_then (λ name. option_map (λ struct. record {
   kind = kind_of_type name.0;
   name = name.1;
-  struct = read_struct struct.0 struct.1;
+  struct = decoded_struct struct.0 struct.1;
   attributes = s.attributes;
 }) s.struct) s.name
 

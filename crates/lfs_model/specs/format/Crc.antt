@@ -33,13 +33,13 @@ abbrev pub message_polynomial : List ℕ → ℕ
 message_polynomial bytes = polynomial (flat_map (low_bits 8) bytes)
 
 -- a checksum as a polynomial: its lowest bit is the coefficient of the power 31
-abbrev pub checksum_polynomial : ℕ → ℕ
-checksum_polynomial x = polynomial (low_bits 32 x)
+abbrev pub checksum_as_polynomial : ℕ → ℕ
+checksum_as_polynomial x = polynomial (low_bits 32 x)
 
 -- the checksum of these bytes, from a start value
 abbrev pub IsCrcFrom : ℕ → List ℕ → ℕ → Type 0
 IsCrcFrom start bytes result =
-    IsRemainder (bit_xor (message_polynomial bytes * 2 ^ 32) (checksum_polynomial start * 2 ^ (8 * length bytes))) (checksum_polynomial result)
+    IsRemainder (bit_xor (message_polynomial bytes * 2 ^ 32) (checksum_as_polynomial start * 2 ^ (8 * length bytes))) (checksum_as_polynomial result)
 
 -- ---- the same, computed
 

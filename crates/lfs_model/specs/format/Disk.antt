@@ -54,8 +54,8 @@ abbrev pub inline_limit : Profile → ℕ → ℕ
 inline_limit profile block_size = min profile.inline_max (min (block_size / 8) data_limit)
 
 -- the most bytes of a struct: of inline contents, or 8 of two addresses
-abbrev pub longest_struct : Profile → ℕ → ℕ
-longest_struct profile block_size = max 8 (inline_limit profile block_size)
+abbrev pub struct_max : Profile → ℕ → ℕ
+struct_max profile block_size = max 8 (inline_limit profile block_size)
 
 -- How many bytes the slots of a written pair may take. They take the block without revision (4), tail (12), move state (16),
 -- checksum (8) and the padding to a page (page - 1).
@@ -79,14 +79,14 @@ attribute_limit = 1022
 -- ---- what a profile lets be written
 
 -- The most bytes of a name, a file and an attribute. A profile can only lower what an image may have.
-abbrev pub name_max_of : Profile → ℕ
-name_max_of profile = min profile.name_max name_limit
+abbrev pub profile_name_max : Profile → ℕ
+profile_name_max profile = min profile.name_max name_limit
 
-abbrev pub file_max_of : Profile → ℕ
-file_max_of profile = min profile.file_max size_limit
+abbrev pub profile_file_max : Profile → ℕ
+profile_file_max profile = min profile.file_max size_limit
 
-abbrev pub attr_max_of : Profile → ℕ
-attr_max_of profile = min profile.attr_max attribute_limit
+abbrev pub profile_attr_max : Profile → ℕ
+profile_attr_max profile = min profile.attr_max attribute_limit
 
 -- Version 2.0 and littlefs's own limits. No metadata pair moves.
 abbrev pub default_profile : Profile

@@ -1,7 +1,7 @@
 -- The types of entries, and the fields of their bytes.
 use Rattle.std.specs.Prelude.{ℕ, ◌/◌, ◌%◌, ◌^◌, ◌==◌, ◌&&◌, ◌||◌, not, nat_le, if◌then◌else◌, Bool, true, List, drop, Option, Some, None}
 use Rattle.byteorder.specs.Endian.{little_number}
-use Rattle.lfs_model.specs.format.Tag.{tag_type, tag_id, tag_length, abstract_type, removal_length}
+use Rattle.lfs_model.specs.format.Tag.{tag_type, tag_id, tag_length, tag_class, removal_length}
 use Rattle.lfs_model.specs.format.Log.{LogEntry}
 use Rattle.lfs_model.specs.format.Slots.{Tail, Gstate, null_address}
 
@@ -50,7 +50,7 @@ no_id = 0x3ff
 -- a user attribute, a name or an inline struct: of any length
 abbrev pub allows_any_length : ℕ → Bool
 allows_any_length tag =
-    abstract_type tag == 3 || (tag_type tag == file_name_type || (tag_type tag == directory_name_type || tag_type tag == inline_type))
+    tag_class tag == 3 || (tag_type tag == file_name_type || (tag_type tag == directory_name_type || tag_type tag == inline_type))
 
 -- a superblock's name, a list's struct, or what names a pair: of 8 bytes
 abbrev pub requires_eight_bytes : ℕ → Bool
@@ -64,7 +64,7 @@ requires_no_bytes tag = tag_type tag == create_tag_type || tag_type tag == delet
 -- the format has the type, with the length; a checksum's type is not among these
 abbrev pub is_known_tag : ℕ → Bool
 is_known_tag tag =
-    if is_attribute_removal tag then abstract_type tag == 3
+    if is_attribute_removal tag then tag_class tag == 3
     else (if allows_any_length tag then true
     else (if requires_eight_bytes tag then tag_length tag == 8
     else (if requires_no_bytes tag then tag_length tag == 0
@@ -72,25 +72,25 @@ is_known_tag tag =
 
 -- an entry about a slot has an id; the ids of others are ignored
 abbrev pub has_needed_id : ℕ → Bool
-has_needed_id tag = nat_le 5 (abstract_type tag) || not (tag_id tag == no_id)
+has_needed_id tag = nat_le 5 (tag_class tag) || not (tag_id tag == no_id)
 
 -- ---- fields
 
-abbrev pub read_address : List ℕ → ℕ × ℕ
-read_address bytes = (little_number 4 bytes, little_number 4 (drop 4 bytes))
+abbrev pub decoded_address : List ℕ → ℕ × ℕ
+decoded_address bytes = (little_number 4 bytes, little_number 4 (drop 4 bytes))
 
-abbrev pub tail_to_pair : Bool → ℕ × ℕ → Option Tail
-tail_to_pair hard to = if to.0 == null_address && to.1 == null_address then None else Some (record { hard = hard; to = to })
+abbrev pub tail_if_any : Bool → ℕ × ℕ → Option Tail
+tail_if_any hard to = if to.0 == null_address && to.1 == null_address then None else Some (record { hard = hard; to = to })
 
 abbrev pub entry_tail : LogEntry → Option Tail
-entry_tail e = tail_to_pair (tag_type e.tag == hard_tail_type) (read_address e.bytes)
+entry_tail e = tail_if_any (tag_type e.tag == hard_tail_type) (decoded_address e.bytes)
 
 -- the sync bit, the move type and the move id of the first word
-abbrev pub gstate_from : ℕ → ℕ × ℕ → Gstate
-gstate_from word pair = record { sync = nat_le (2 ^ 31) word; kind = word / 2 ^ 20 % 2 ^ 11; id = word / 2 ^ 10 % 2 ^ 10; pair = pair }
+abbrev pub unpacked_gstate : ℕ → ℕ × ℕ → Gstate
+unpacked_gstate word pair = record { sync = nat_le (2 ^ 31) word; kind = word / 2 ^ 20 % 2 ^ 11; id = word / 2 ^ 10 % 2 ^ 10; pair = pair }
 
-abbrev pub read_gstate : List ℕ → Gstate
-read_gstate bytes = gstate_from (little_number 4 bytes) (read_address (drop 4 bytes))
+abbrev pub decoded_gstate : List ℕ → Gstate
+decoded_gstate bytes = unpacked_gstate (little_number 4 bytes) (decoded_address (drop 4 bytes))
 
 -- the superblock's struct; the limits are those of a name, a file and an attribute, in bytes
 pub record SuperblockFields : Type 0 where

@@ -1,15 +1,15 @@
 -- What a metadata pair holds: its slots, its tail and its delta of the global state.
 use Rattle.std.specs.Prelude.{ℕ, ◌+◌, ◌≤◌, Bool, true, false, not, ◌&&◌, ◌||◌, ◌==◌, List, length, slice_index, Option, bit_xor, sum_by}
 use Rattle.lfs_model.specs.declared.limits.Profile.{Profile}
-use Rattle.lfs_model.specs.format.Disk.{longest_struct, pair_capacity, slots_limit}
+use Rattle.lfs_model.specs.format.Disk.{struct_max, pair_capacity, slots_limit}
 use Rattle.lfs_model.specs.format.Names.{Name}
 
 abbrev pub null_address : ℕ
 null_address = 0xffffffff
 
 -- the addresses in an array of two
-abbrev pub array_address : List ℕ → ℕ × ℕ
-array_address words = (slice_index words 0, slice_index words 1)
+abbrev pub address_view : List ℕ → ℕ × ℕ
+address_view words = (slice_index words 0, slice_index words 1)
 
 pub data SlotKind : Type 0 where
   File : SlotKind
@@ -101,7 +101,7 @@ slots_size c = sum_by slot_size c.slots
 
 -- what an entry takes with the longest struct that it may get: inline contents, or the address and size of a list
 abbrev pub entry_charge : Profile → ℕ → Name → Attributes → ℕ
-entry_charge profile block_size name attributes = 4 + length name + (4 + longest_struct profile block_size) + attributes_size attributes
+entry_charge profile block_size name attributes = 4 + length name + (4 + struct_max profile block_size) + attributes_size attributes
 
 -- the limits of a written pair
 pub record FitsInPair (block_size page : ℕ) (c : PairContent) : Type 0 where

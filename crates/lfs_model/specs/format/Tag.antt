@@ -14,8 +14,8 @@ abbrev pub tag_length : ℕ → ℕ
 tag_length tag = tag % 2 ^ 10
 
 -- the upper three bits of the kind, and the lower eight
-abbrev pub abstract_type : ℕ → ℕ
-abstract_type tag = tag_type tag / 2 ^ 8
+abbrev pub tag_class : ℕ → ℕ
+tag_class tag = tag_type tag / 2 ^ 8
 
 abbrev pub tag_chunk : ℕ → ℕ
 tag_chunk tag = tag_type tag % 2 ^ 8
@@ -46,7 +46,7 @@ is_forward_checksum tag = tag_type tag == forward_checksum_type && nat_le (tag_l
 
 -- the tag ends a commit, or spoils it: any tag of class 5 but a forward checksum
 abbrev pub is_commit_end : ℕ → Bool
-is_commit_end tag = abstract_type tag == 5 && not (is_forward_checksum tag)
+is_commit_end tag = tag_class tag == 5 && not (is_forward_checksum tag)
 
 -- the tag as the next one is decoded with it: the lowest chunk bit of a checksum is added to the top bit
 abbrev pub tag_before_next : ℕ → ℕ

@@ -133,5 +133,5 @@ directory_slots [] at = []
 directory_slots (d ∷ ds) at = if same_pair d.at at then d.slots else directory_slots ds at
 
 -- a directory begins there
-abbrev pub BeginsAt : List ThreadDirectory → ℕ × ℕ → Type 0
-BeginsAt ds at = Any (λ d. same_pair d.at at ≡ true) ds
+abbrev pub BeginsDirectory : List ThreadDirectory → ℕ × ℕ → Type 0
+BeginsDirectory ds at = Any (λ d. same_pair d.at at ≡ true) ds

@@ -24,11 +24,11 @@ block_padded size bytes = bytes ++ unwritten_bytes (size - length bytes)
 abbrev pub inline_entries : ℕ → Name → List ℕ → List LogEntry
 inline_entries id name bytes = log_entry file_name_type id name ∷ log_entry inline_type id bytes ∷ []
 
-abbrev pub ctz_entries : ℕ → Name → ℕ → ℕ → List LogEntry
-ctz_entries id name head size = log_entry file_name_type id name ∷ log_entry ctz_type id (address_bytes (head, size)) ∷ []
+abbrev pub list_slot_entries : ℕ → Name → ℕ → ℕ → List LogEntry
+list_slot_entries id name head size = log_entry file_name_type id name ∷ log_entry ctz_type id (address_bytes (head, size)) ∷ []
 
-abbrev pub directory_entries : ℕ → Name → ℕ × ℕ → List LogEntry
-directory_entries id name to = log_entry directory_name_type id name ∷ log_entry directory_type id (address_bytes to) ∷ []
+abbrev pub branch_entries : ℕ → Name → ℕ × ℕ → List LogEntry
+branch_entries id name to = log_entry directory_name_type id name ∷ log_entry directory_type id (address_bytes to) ∷ []
 
 abbrev pub superblock_entries : Profile → ℕ → ℕ → List LogEntry
 superblock_entries profile block_size block_count = superblock_entry ∷ log_entry inline_type 0 (superblock_bytes profile block_size block_count) ∷ []

@@ -9,18 +9,18 @@ use Rattle.lfs_model.specs.format.EntryTypes.{create_tag_type, delete_tag_type, 
 use Rattle.lfs_model.specs.layers.WrittenContent.{log_entry, first_attribute_type, tail_entry, move_entry, tail_or_null}
 
 -- kind is the type of a name or of a struct, attribute the type of an attribute from 0 on
-pub data PairChange : Type 0 where
+pub data ContentChange : Type 0 where
   -- a slot is inserted at the id, with that name
-  Create : (id kind : ℕ) (name : List ℕ) → PairChange
-  Delete : (id : ℕ) → PairChange
-  PutStruct : (id kind : ℕ) (bytes : List ℕ) → PairChange
-  PutAttribute : (id attribute : ℕ) (bytes : List ℕ) → PairChange
-  RemoveAttribute : (id attribute : ℕ) → PairChange
+  Create : (id kind : ℕ) (name : List ℕ) → ContentChange
+  Delete : (id : ℕ) → ContentChange
+  PutStruct : (id kind : ℕ) (bytes : List ℕ) → ContentChange
+  PutAttribute : (id attribute : ℕ) (bytes : List ℕ) → ContentChange
+  RemoveAttribute : (id attribute : ℕ) → ContentChange
   -- the tail is removed where there is no pair
-  PutTail : (hard : Bool) (pair : Option (ℕ × ℕ)) → PairChange
-  PutMove : (state : Gstate) → PairChange
+  PutTail : (hard : Bool) (pair : Option (ℕ × ℕ)) → ContentChange
+  PutMove : (state : Gstate) → ContentChange
 
-abbrev pub change_entries : PairChange → List LogEntry
+abbrev pub change_entries : ContentChange → List LogEntry
 change_entries (Create id kind name) = log_entry create_tag_type id [] ∷ log_entry kind id name ∷ []
 change_entries (Delete id) = log_entry delete_tag_type id [] ∷ []
 change_entries (PutStruct id kind bytes) = log_entry kind id bytes ∷ []
@@ -29,7 +29,7 @@ change_entries (RemoveAttribute id attribute) = record { tag = make_tag (first_a
 change_entries (PutTail hard pair) = tail_entry hard pair ∷ []
 change_entries (PutMove state) = move_entry state ∷ []
 
-abbrev pub entries_of_changes : List PairChange → List LogEntry
+abbrev pub entries_of_changes : List ContentChange → List LogEntry
 entries_of_changes changes = flat_map change_entries changes
 
 -- ---- what fits into a tag and its data
@@ -47,7 +47,7 @@ is_name_type kind = nat_lt kind 0x100
 abbrev pub is_struct_type : ℕ → Bool
 is_struct_type kind = nat_le 0x200 kind && nat_lt kind 0x300
 
-abbrev pub is_storable : PairChange → Bool
+abbrev pub is_storable : ContentChange → Bool
 is_storable (Create id kind name) = nat_lt id no_id && (is_name_type kind && fits_in_tag name)
 is_storable (Delete id) = nat_lt id no_id
 is_storable (PutStruct id kind bytes) = nat_lt id no_id && (is_struct_type kind && fits_in_tag bytes)
@@ -59,5 +59,5 @@ is_storable (PutMove state) = nat_lt state.kind (2 ^ 11) && (nat_lt state.id (2 
 -- ---- what changes make
 
 -- What the changes make of the content, in order; none where one can't be stored, or isn't allowed in the log.
-abbrev pub changed_content_of : RawContent → List PairChange → Option RawContent
-changed_content_of c changes = if list_all is_storable changes then content_after c (entries_of_changes changes) else None
+abbrev pub content_with_changes : RawContent → List ContentChange → Option RawContent
+content_with_changes c changes = if list_all is_storable changes then content_after c (entries_of_changes changes) else None

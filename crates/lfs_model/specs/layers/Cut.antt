@@ -15,6 +15,6 @@ pub record IsFittingSplit (block_size page : ℕ) (slots : List RawSlot) (cut : 
   pub front : SlotsFitPair block_size page (take cut slots)
   pub back : SlotsFitPair block_size page (drop cut slots)
 
-pub record CanSplit (block_size page : ℕ) (slots : List RawSlot) : Type 0 where
+pub record AreSplittable (block_size page : ℕ) (slots : List RawSlot) : Type 0 where
   pub cut : ℕ
   pub is_cut : IsFittingSplit block_size page slots cut

@@ -14,10 +14,10 @@ use Rattle.lfs_model.specs.session.Refusals.{path_or_root}
 use Rattle.lfs_model.specs.session.SlotEdits.{slot_of}
 
 -- the operation removes or moves the entry at that path, or an entry above it
-abbrev pub takes_away : Operation → Path → Bool
-takes_away (ops.Remove path) q = is_some (without_prefix (path_or_root path) q)
-takes_away (ops.Rename old new) q = is_some (without_prefix (path_or_root old) q) || is_some (without_prefix (path_or_root new) q)
-takes_away _ q = false
+abbrev pub vacates_path : Operation → Path → Bool
+vacates_path (ops.Remove path) q = is_some (without_prefix (path_or_root path) q)
+vacates_path (ops.Rename old new) q = is_some (without_prefix (path_or_root old) q) || is_some (without_prefix (path_or_root new) q)
+vacates_path _ q = false
 
 abbrev pub is_open_at : Option OpenFile → Path → Bool
 is_open_at None q = false
@@ -35,4 +35,4 @@ struct_at ps path = option_map (λ u. u.struct) (slot_of ps path)
 
 -- Every file that the operation isn't about has the struct that it had; qs are the pairs after it.
 abbrev pub KeepsStructs : Disk → List Pair → Session → Operation → List Pair → Type 0
-KeepsStructs disk ps s op qs = (q : Path) → is_file (disk_tree disk ps q) ≡ true → takes_away op q ≡ false → may_store_at s op q ≡ false → struct_at qs q ≡ struct_at ps q
+KeepsStructs disk ps s op qs = (q : Path) → is_file (disk_tree disk ps q) ≡ true → vacates_path op q ≡ false → may_store_at s op q ≡ false → struct_at qs q ≡ struct_at ps q

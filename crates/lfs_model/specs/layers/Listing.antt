@@ -73,12 +73,12 @@ abbrev pub node_action : List ℕ → Node → UnpackingAction
 node_action path (FileNode attributes bytes) = PutFile path bytes
 node_action path (DirectoryNode attributes names) = MakeDirectory path
 
-abbrev pub entry_actions : PathNode → UnpackingAction
-entry_actions e = node_action (path_bytes e.path) e.node
+abbrev pub entry_action : PathNode → UnpackingAction
+entry_action e = node_action (path_bytes e.path) e.node
 
 -- the actions that unpack a tree
 abbrev pub Unpack : Tree → List UnpackingAction → Type 0
-Unpack tree actions = (entries : List PathNode) × (IsWalk tree entries × (actions ≡ map entry_actions entries))
+Unpack tree actions = (entries : List PathNode) × (IsWalk tree entries × (actions ≡ map entry_action entries))
 
 -- ---- operations
 

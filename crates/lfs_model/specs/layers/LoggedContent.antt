@@ -1,6 +1,6 @@
 -- What a log comes to, and which contents a block can hold.
 use Rattle.std.specs.Prelude.{ℕ, ◌≡◌, ◌+◌, ◌/◌, ◌^◌, ◌<◌, ◌≤◌, ◌==◌, ◌&&◌, Bool, true, false, List, [], ◌∷◌, length, slice_index, Option, Some, None, is_some}
-use Rattle.lfs_model.specs.format.Tag.{make_tag, tag_data_size, abstract_type, removal_length}
+use Rattle.lfs_model.specs.format.Tag.{make_tag, tag_data_size, tag_class, removal_length}
 use Rattle.lfs_model.specs.format.Log.{LogEntry}
 use Rattle.lfs_model.specs.format.Slots.{Attributes, Tail, Gstate, null_address}
 use Rattle.lfs_model.specs.format.Content.{RawSlot, RawContent}
@@ -12,9 +12,9 @@ pub record IsAllowedPart (class : ℕ) (part : ℕ × List ℕ) : Type 0 where
   pub short : length part.1 < removal_length
   pub in_table : is_known_tag (make_tag part.0 0 (length part.1)) ≡ true
 
-abbrev pub AllowsIfSome : ℕ → Option (ℕ × List ℕ) → Type 0
-AllowsIfSome class None = Unit {0}
-AllowsIfSome class (Some part) = IsAllowedPart class part
+abbrev pub AllowedIfAny : ℕ → Option (ℕ × List ℕ) → Type 0
+AllowedIfAny class None = Unit {0}
+AllowedIfAny class (Some part) = IsAllowedPart class part
 
 -- attributes by ascending type, from a type on
 abbrev pub AttributesInOrder : ℕ → Attributes → Type 0
@@ -23,8 +23,8 @@ AttributesInOrder low (a ∷ others) = (low ≤ a.0) × (a.0 < 2 ^ 8) × (length
 
 -- a slot of any log
 pub record IsFormedSlot (s : RawSlot) : Type 0 where
-  pub name : AllowsIfSome 0 s.name
-  pub struct : AllowsIfSome 2 s.struct
+  pub name : AllowedIfAny 0 s.name
+  pub struct : AllowedIfAny 2 s.struct
   pub attributes : AttributesInOrder 0 s.attributes
 
 abbrev pub AreWellFormed : List RawSlot → Type 0
@@ -65,7 +65,7 @@ pub record IsStorable (c : RawContent) : Type 0 where
 -- an entry as it is in a block: as many bytes as its tag says, and in a tail or a move state each below 256
 pub record HasTagLength (e : LogEntry) : Type 0 where
   pub size : length e.bytes ≡ tag_data_size e.tag
-  pub bytes : 6 ≤ abstract_type e.tag → (i : ℕ) → slice_index e.bytes i < 256
+  pub bytes : 6 ≤ tag_class e.tag → (i : ℕ) → slice_index e.bytes i < 256
 
 abbrev pub HaveTagLengths : List LogEntry → Type 0
 HaveTagLengths [] = Unit {0}

@@ -35,12 +35,12 @@ abbrev pub comes_after : NameOrder → Name → Name → Bool
 comes_after order name other = is_less (name_cmp order name other)
 
 -- the least id that has a name, one slot passed over
-pub record IsLeastId (name : Name) (skip : Option ℕ) (slots : List RawSlot) (id : ℕ) : Type 0 where
+pub record IsNameId (name : Name) (skip : Option ℕ) (slots : List RawSlot) (id : ℕ) : Type 0 where
   pub named : passes_name_test (same_name name) skip slots id ≡ true
   pub least : (other : ℕ) → other < id → passes_name_test (same_name name) skip slots other ≡ false
 
 -- no slot has the name, and this is the least id of a greater name, or the number of slots where there is none
-pub record IsNewId (order : NameOrder) (name : Name) (skip : Option ℕ) (slots : List RawSlot) (id : ℕ) : Type 0 where
+pub record IsInsertionId (order : NameOrder) (name : Name) (skip : Option ℕ) (slots : List RawSlot) (id : ℕ) : Type 0 where
   pub absent : (other : ℕ) → passes_name_test (same_name name) skip slots other ≡ false
   pub least : (other : ℕ) → other < id → passes_name_test (comes_after order name) skip slots other ≡ false
   pub greater : id < length slots → passes_name_test (comes_after order name) skip slots id ≡ true

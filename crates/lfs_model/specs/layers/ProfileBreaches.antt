@@ -1,9 +1,9 @@
 -- Which rule of the writing profile an image breaks, and where.
 use Rattle.std.specs.Prelude.{ℕ, ◌≡◌, ◌≢◌, ◌+◌, ◌≤◌, true, false, List, [], Option, Some, None, All, slice_get}
-use Rattle.lfs_model.specs.format.Disk.{Disk, attr_max_of, charge_limit, file_max_of, inline_limit, name_max_of}
+use Rattle.lfs_model.specs.format.Disk.{Disk, profile_attr_max, charge_limit, profile_file_max, inline_limit, profile_name_max}
 use Rattle.lfs_model.specs.format.EntryTypes.{SuperblockFields, superblock_fields}
 use Rattle.lfs_model.specs.tree.Profile.{InlineBytesFit, IsWritable}
-use Rattle.lfs_model.specs.format.Slots.{Inline, FitsInPair, PairContent, Slot, entry_charge, is_superblock, array_address}
+use Rattle.lfs_model.specs.format.Slots.{Inline, FitsInPair, PairContent, Slot, entry_charge, is_superblock, address_view}
 use Rattle.lfs_model.specs.format.Thread.{Pair, is_hard_tail, count_before_root}
 use Rattle.lfs_model.specs.layers.Violations.{IsSlotAt}
 use Rattle.lfs_model.specs.declared.breaches.OtherLimit.{OtherLimit}
@@ -16,9 +16,9 @@ use Rattle.lfs_model.specs.declared.limits.Profile.{Profile}
 
 -- these fields have that limit, and the profile has another one
 abbrev pub IsOtherLimit : Profile → SuperblockFields → OtherLimit → Type 0
-IsOtherLimit profile fields (limit.Name n) = (fields.name_max ≡ n) × (n ≢ name_max_of profile)
-IsOtherLimit profile fields (limit.File n) = (fields.file_max ≡ n) × (n ≢ file_max_of profile)
-IsOtherLimit profile fields (limit.Attr n) = (fields.attr_max ≡ n) × (n ≢ attr_max_of profile)
+IsOtherLimit profile fields (limit.Name n) = (fields.name_max ≡ n) × (n ≢ profile_name_max profile)
+IsOtherLimit profile fields (limit.File n) = (fields.file_max ≡ n) × (n ≢ profile_file_max profile)
+IsOtherLimit profile fields (limit.Attr n) = (fields.attr_max ≡ n) × (n ≢ profile_attr_max profile)
 
 -- a superblock has that limit, and the profile has another one
 pub record HasOtherLimit (profile : Profile) (other : OtherLimit) (s : Slot) : Type 0 where
@@ -36,7 +36,7 @@ HasLongInline limit s = (is_superblock s ≡ false) × ¬ InlineBytesFit limit s
 -- ---- pairs
 
 -- a pair behind the root directory's first one has no slot, and the pair before it has a hard tail
-pub record IsEmptyPairAt (ps : List Pair) (at : ℕ × ℕ) : Type 0 where
+pub record EmptyPairAt (ps : List Pair) (at : ℕ × ℕ) : Type 0 where
   pub index : ℕ
   pub before : Pair
   pub pair : Pair
@@ -48,7 +48,7 @@ pub record IsEmptyPairAt (ps : List Pair) (at : ℕ × ℕ) : Type 0 where
   pub empty : pair.content.slots ≡ []
 
 -- a pair may hold that, and each entry takes at most half of a pair
-pub record IsSmallEnough (profile : Profile) (block_size page : ℕ) (c : PairContent) : Type 0 where
+pub record IsSmallContent (profile : Profile) (block_size page : ℕ) (c : PairContent) : Type 0 where
   pub pair : FitsInPair block_size page c
   pub entries : All (λ s. is_superblock s ≡ false → entry_charge profile block_size s.name s.attributes ≤ charge_limit block_size page) c.slots
 
@@ -58,16 +58,16 @@ pub record IsTooLarge (disk : Disk) (ps : List Pair) (at : ℕ × ℕ) : Type 0 
   pub pair : Pair
   pub there : slice_get ps index ≡ Some pair
   pub at_is : pair.at ≡ at
-  pub large : ¬ IsSmallEnough disk.profile disk.block_size disk.page pair.content
+  pub large : ¬ IsSmallContent disk.profile disk.block_size disk.page pair.content
 
 -- ---- all of them
 
 -- The image of these pairs breaks the rule, there.
 abbrev pub BreaksProfile : Disk → List Pair → ProfileBreach → Type 0
-BreaksProfile disk ps (breach.OtherLimits pair slot limit) = (s : Slot) × (IsSlotAt ps (array_address pair) slot s × HasOtherLimit disk.profile limit s)
-BreaksProfile disk ps (breach.LongInline pair slot) = (s : Slot) × (IsSlotAt ps (array_address pair) slot s × HasLongInline (inline_limit disk.profile disk.block_size) s)
-BreaksProfile disk ps (breach.EmptyPair pair) = IsEmptyPairAt ps (array_address pair)
-BreaksProfile disk ps (breach.TooLarge pair) = IsTooLarge disk ps (array_address pair)
+BreaksProfile disk ps (breach.OtherLimits pair slot limit) = (s : Slot) × (IsSlotAt ps (address_view pair) slot s × HasOtherLimit disk.profile limit s)
+BreaksProfile disk ps (breach.LongInline pair slot) = (s : Slot) × (IsSlotAt ps (address_view pair) slot s × HasLongInline (inline_limit disk.profile disk.block_size) s)
+BreaksProfile disk ps (breach.EmptyPair pair) = EmptyPairAt ps (address_view pair)
+BreaksProfile disk ps (breach.TooLarge pair) = IsTooLarge disk ps (address_view pair)
 
 -- None exactly where the image may be written; else a rule that it breaks.
 abbrev pub IsBreachIfAny : Disk → List Pair → Option ProfileBreach → Type 0

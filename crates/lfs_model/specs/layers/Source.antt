@@ -28,8 +28,8 @@ abbrev pub name_occurrences : Name → List Name → ℕ
 name_occurrences name names = sum_by (λ n. if same_name name n then 1 else 0) names
 
 -- a name is given that is no component of a path, or a name is given twice
-abbrev pub HaveBadName : List Name → Type 0
-HaveBadName names = ((name : Name) × (is_component name ≡ false) × (1 ≤ name_occurrences name names)) ⊎ ((name : Name) × (2 ≤ name_occurrences name names))
+abbrev pub HaveBadOrRepeated : List Name → Type 0
+HaveBadOrRepeated names = ((name : Name) × (is_component name ≡ false) × (1 ≤ name_occurrences name names)) ⊎ ((name : Name) × (2 ≤ name_occurrences name names))
 
 -- ---- trees
 

@@ -5,8 +5,8 @@ use Rattle.lfs_model.specs.format.Content.{content_at, current_block}
 use Rattle.lfs_model.specs.format.Disk.{Disk, block_count}
 use Rattle.lfs_model.specs.format.Names.{Name, name_cmp}
 use Rattle.lfs_model.specs.tree.Shown.{IsReachedBySome, LeadsTo, all_directories, all_entries, struct_blocks, used_blocks}
-use Rattle.lfs_model.specs.format.Slots.{Inline, Slot, is_superblock, array_address, same_pair}
-use Rattle.lfs_model.specs.format.Thread.{BeginsAt, IsThread, Pair, ThreadDirectory, anchor_address, pairs_blocks, first_address, pairs_gstate, moved_id, tail_target, count_before_root, pairs_from_filled, pairs_from_root, superblock_first}
+use Rattle.lfs_model.specs.format.Slots.{Inline, Slot, is_superblock, address_view, same_pair}
+use Rattle.lfs_model.specs.format.Thread.{BeginsDirectory, IsThread, Pair, ThreadDirectory, anchor_address, pairs_blocks, first_address, pairs_gstate, moved_id, tail_target, count_before_root, pairs_from_filled, pairs_from_root, superblock_first}
 use Rattle.lfs_model.specs.tree.Tree.{Path, names_at}
 use Rattle.lfs_model.specs.tree.View.{BeginsWith, RepeatsSuperblockStruct, HasValidMove, IsTreeEntry, IsFormedList, IsSuperblock, first_pair_slots, superblock_entry}
 use Rattle.lfs_model.specs.declared.violations.Violation.{Violation}
@@ -35,7 +35,7 @@ abbrev pub HasBlock : ℕ × ℕ → ℕ → Type 0
 HasBlock at block = (at.0 ≡ block) ⊎ (at.1 ≡ block)
 
 -- the block is of the pair, and of one before it
-pub record IsInTwoPairs (disk : Disk) (at : ℕ × ℕ) (block : ℕ) : Type 0 where
+pub record InTwoPairs (disk : Disk) (at : ℕ × ℕ) (block : ℕ) : Type 0 where
   pub before : List Pair
   pub begins : AreFirstPairs disk before at
   pub own : HasBlock at block
@@ -85,7 +85,7 @@ pub record IsSlotAt (ps : List Pair) (at : ℕ × ℕ) (id : ℕ) (s : Slot) : T
   pub slot : slice_get pair.content.slots id ≡ Some s
 
 -- a slot that isn't slot 0 of the superblock's chain, and no entry
-pub record IsNoEntryAt (ps : List Pair) (at : ℕ × ℕ) (id : ℕ) : Type 0 where
+pub record NoEntryAt (ps : List Pair) (at : ℕ × ℕ) (id : ℕ) : Type 0 where
   pub slot : Slot
   pub is : IsSlotAt ps at id slot
   pub behind : (count_before_root ps < is.index) ⊎ (0 < id)
@@ -118,7 +118,7 @@ pub record BranchIsLoose (ps : List Pair) (at : ℕ × ℕ) : Type 0 where
   pub name : Name
   pub target : ℕ × ℕ
   pub leads : LeadsTo ps (path ++ name ∷ []) target
-  pub loose : ¬ BeginsAt (all_directories ps) target
+  pub loose : ¬ BeginsDirectory (all_directories ps) target
 
 -- two paths lead to a directory
 pub record IsReachedTwice (ps : List Pair) (at : ℕ × ℕ) : Type 0 where
@@ -156,29 +156,29 @@ pub record IsUsedTwice (disk : Disk) (ps : List Pair) (at : ℕ × ℕ) (id bloc
 
 -- the thread can't be followed
 abbrev pub BreaksThread : Disk → Violation → Type 0
-BreaksThread disk (violation.OutOfRange pair) = IsNamed disk (array_address pair) × ¬ IsInRange disk (array_address pair)
-BreaksThread disk (violation.OneBlock pair) = IsNamed disk (array_address pair) × ((array_address pair).0 ≡ (array_address pair).1)
-BreaksThread disk (violation.TwoPairs pair block) = IsInTwoPairs disk (array_address pair) block
+BreaksThread disk (violation.OutOfRange pair) = IsNamed disk (address_view pair) × ¬ IsInRange disk (address_view pair)
+BreaksThread disk (violation.OneBlock pair) = IsNamed disk (address_view pair) × ((address_view pair).0 ≡ (address_view pair).1)
+BreaksThread disk (violation.TwoPairs pair block) = InTwoPairs disk (address_view pair) block
 BreaksThread disk (violation.NoContent pair) =
-    IsNamed disk (array_address pair) × IsInRange disk (array_address pair) × (content_at disk (array_address pair) ≡ None)
+    IsNamed disk (address_view pair) × IsInRange disk (address_view pair) × (content_at disk (address_view pair) ≡ None)
 BreaksThread disk _ = ⊥
 
 -- the pairs of the thread break a rule
-abbrev pub BreaksPairs : Disk → List Pair → Violation → Type 0
-BreaksPairs disk ps violation.NoSuperblock = superblock_first (first_pair_slots (pairs_from_root ps)) ≡ false
-BreaksPairs disk ps (violation.FirstEntry pair) = (first_filled_address ps ≡ array_address pair) × ¬ BeginsWith (current_block disk (array_address pair)) superblock_entry
-BreaksPairs disk ps (violation.Superblock pair) = (first_filled_address ps ≡ array_address pair) × (s : Slot) × (HasFirstSlot ps s × ¬ IsDiskSuperblock disk s)
-BreaksPairs disk ps (violation.OtherSuperblock pair) = IsOtherSuperblock disk ps (array_address pair)
-BreaksPairs disk ps (violation.Entry pair slot) = IsNoEntryAt ps (array_address pair) slot
-BreaksPairs disk ps (violation.Names pair) = NamesFall disk ps (array_address pair)
-BreaksPairs disk ps (violation.Branch pair) = BranchIsLoose ps (array_address pair)
-BreaksPairs disk ps (violation.TwoPaths pair) = IsReachedTwice ps (array_address pair)
-BreaksPairs disk ps (violation.NoPath pair) = NeverReached ps (array_address pair)
-BreaksPairs disk ps violation.Move = ¬ HasValidMove ps (pairs_gstate ps)
-BreaksPairs disk ps (violation.List pair slot) = (s : Slot) × (IsUnmovedAt ps (array_address pair) slot s × ¬ IsFormedList disk s.struct)
-BreaksPairs disk ps (violation.TwoOwners pair slot block) = IsUsedTwice disk ps (array_address pair) slot block
-BreaksPairs disk ps _ = ⊥
+abbrev pub PairsBreak : Disk → List Pair → Violation → Type 0
+PairsBreak disk ps violation.NoSuperblock = superblock_first (first_pair_slots (pairs_from_root ps)) ≡ false
+PairsBreak disk ps (violation.FirstEntry pair) = (first_filled_address ps ≡ address_view pair) × ¬ BeginsWith (current_block disk (address_view pair)) superblock_entry
+PairsBreak disk ps (violation.Superblock pair) = (first_filled_address ps ≡ address_view pair) × (s : Slot) × (HasFirstSlot ps s × ¬ IsDiskSuperblock disk s)
+PairsBreak disk ps (violation.OtherSuperblock pair) = IsOtherSuperblock disk ps (address_view pair)
+PairsBreak disk ps (violation.Entry pair slot) = NoEntryAt ps (address_view pair) slot
+PairsBreak disk ps (violation.Names pair) = NamesFall disk ps (address_view pair)
+PairsBreak disk ps (violation.Branch pair) = BranchIsLoose ps (address_view pair)
+PairsBreak disk ps (violation.TwoPaths pair) = IsReachedTwice ps (address_view pair)
+PairsBreak disk ps (violation.NoPath pair) = NeverReached ps (address_view pair)
+PairsBreak disk ps violation.Move = ¬ HasValidMove ps (pairs_gstate ps)
+PairsBreak disk ps (violation.List pair slot) = (s : Slot) × (IsUnmovedAt ps (address_view pair) slot s × ¬ IsFormedList disk s.struct)
+PairsBreak disk ps (violation.TwoOwners pair slot block) = IsUsedTwice disk ps (address_view pair) slot block
+PairsBreak disk ps _ = ⊥
 
 -- The disk breaks the rule, there. Either its thread can't be followed, or these are the thread's pairs, and they break it.
 abbrev pub Breaks : Disk → Violation → Type 0
-Breaks disk v = BreaksThread disk v ⊎ ((ps : List Pair) × (IsThread (content_at disk) (block_count disk) ps × BreaksPairs disk ps v))
+Breaks disk v = BreaksThread disk v ⊎ ((ps : List Pair) × (IsThread (content_at disk) (block_count disk) ps × PairsBreak disk ps v))

@@ -19,27 +19,27 @@ node_file_size None = None
 node_file_size (Some (FileNode attributes bytes)) = Some (length bytes)
 node_file_size (Some (DirectoryNode attributes names)) = None
 
-abbrev pub unchanged_reply : Reply → Session → Reply × Session
-unchanged_reply reply s = (reply, s)
+abbrev pub unchanged_session : Reply → Session → Reply × Session
+unchanged_session reply s = (reply, s)
 
-abbrev pub file_with_bytes : List ℕ → Node → Node
-file_with_bytes bytes (FileNode attributes old) = FileNode attributes bytes
-file_with_bytes bytes (DirectoryNode attributes names) = DirectoryNode attributes names
+abbrev pub node_with_bytes : List ℕ → Node → Node
+node_with_bytes bytes (FileNode attributes old) = FileNode attributes bytes
+node_with_bytes bytes (DirectoryNode attributes names) = DirectoryNode attributes names
 
 -- the tree after a commit of a dirty writer's contents
 abbrev pub tree_after_storing : Option OpenFile → Tree → Tree
 tree_after_storing None t = t
 tree_after_storing (Some (Reading r)) t = t
-tree_after_storing (Some (Writing w)) t = if w.dirty then tree_with_change w.path (file_with_bytes w.contents) t else t
+tree_after_storing (Some (Writing w)) t = if w.dirty then tree_with_change w.path (node_with_bytes w.contents) t else t
 
-abbrev pub file_after_sync : Option OpenFile → Option OpenFile
-file_after_sync None = None
-file_after_sync (Some (Reading r)) = Some (Reading r)
-file_after_sync (Some (Writing w)) = Some (Writing (synced_writer w))
+abbrev pub synced_file : Option OpenFile → Option OpenFile
+synced_file None = None
+synced_file (Some (Reading r)) = Some (Reading r)
+synced_file (Some (Writing w)) = Some (Writing (synced_writer w))
 
-abbrev pub file_at_position : ℕ → OpenFile → OpenFile
-file_at_position position (Reading r) = Reading (record r { position = position })
-file_at_position position (Writing w) = Writing (record w { position = position })
+abbrev pub repositioned_file : ℕ → OpenFile → OpenFile
+repositioned_file position (Reading r) = Reading (record r { position = position })
+repositioned_file position (Writing w) = Writing (record w { position = position })
 
 abbrev pub open_effect : Session → Path → FlagsOfOpen → Reply × Session
 open_effect s p flags = (
@@ -79,7 +79,7 @@ operation_effect around s (ops.Write fd bytes) = (
 operation_effect around s (ops.Seek fd position) = (
   ops.Done,
   record s {
-    files = files_with_file s.files fd (option_map (file_at_position position) (file_numbered s.files fd));
+    files = files_with_file s.files fd (option_map (repositioned_file position) (file_numbered s.files fd));
   },
 )
 operation_effect around s (ops.Truncate fd size) = (
@@ -92,7 +92,7 @@ operation_effect around s (ops.Sync fd) = (
   ops.Done,
   record {
     tree = tree_after_storing (file_numbered s.files fd) s.tree;
-    files = files_with_file s.files fd (file_after_sync (file_numbered s.files fd));
+    files = files_with_file s.files fd (synced_file (file_numbered s.files fd));
   },
 )
 operation_effect around s (ops.Close fd) = (

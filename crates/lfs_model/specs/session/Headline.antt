@@ -72,9 +72,9 @@ pub record IsFreshReply (at : SystemState) (op : Operation) (reply : Reply) : Ty
   pub is : reply ≡ (operation_result around (mounted_session (disk_tree at.disk pairs)) op).0
 
 -- the bytes that a reader returns from a tree's file, from its position
-abbrev pub reply_to_reader : Tree → Option FileReader → ℕ → Reply
-reply_to_reader tree None count = ops.Refused BadFile
-reply_to_reader tree (Some r) count = ops.Bytes (take count (drop r.position (file_bytes (tree r.path))))
+abbrev pub read_reply : Tree → Option FileReader → ℕ → Reply
+read_reply tree None count = ops.Refused BadFile
+read_reply tree (Some r) count = ops.Bytes (take count (drop r.position (file_bytes (tree r.path))))
 
 -- the reply has the bytes that the disk's tree has at the open reader's path
 pub record IsReaderReply (at : SystemState) (fd count : ℕ) (reply : Reply) : Type 0 where
@@ -82,12 +82,12 @@ pub record IsReaderReply (at : SystemState) (fd count : ℕ) (reply : Reply) : T
   pub accepted : IsAccepted at.disk pairs
   pub session : Session
   pub healthy : at.state ≡ Healthy session
-  pub is : reply ≡ reply_to_reader (disk_tree at.disk pairs) (file_reader (file_numbered session.files fd)) count
+  pub is : reply ≡ read_reply (disk_tree at.disk pairs) (file_reader (file_numbered session.files fd)) count
 
 -- ---- runs over joined lists
 
 -- a run over joined lists, in two
-pub record IsJoinedRun (operations more : List Operation) (replies : List Reply) (a c : SystemState) : Type 0 where
+pub record IsDividedRun (operations more : List Operation) (replies : List Reply) (a c : SystemState) : Type 0 where
   pub between : SystemState
   pub front : List Reply
   pub back : List Reply

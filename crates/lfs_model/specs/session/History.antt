@@ -121,9 +121,9 @@ abbrev pub HoldsAtLosses : (CallEvent → Blocks → Type 0) → List CallEvent 
 HoldsAtLosses stops old new P = AllCallsSince (λ e. (disk : Blocks) → stops e disk → P disk) old new
 
 -- the newest call again, with the blocks that it left and whether it failed
-abbrev pub with_outcome : List CallEvent → Blocks → Bool → List CallEvent
-with_outcome [] after failed = []
-with_outcome (e ∷ older) after failed = call_event e.call e.before after failed ∷ older
+abbrev pub history_with_outcome : List CallEvent → Blocks → Bool → List CallEvent
+history_with_outcome [] after failed = []
+history_with_outcome (e ∷ older) after failed = call_event e.call e.before after failed ∷ older
 
 -- the newest call left these blocks
 abbrev pub LeftByLatest : List CallEvent → Blocks → Type 0

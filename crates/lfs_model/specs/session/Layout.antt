@@ -19,9 +19,9 @@ use Rattle.lfs_model.specs.session.InDirectory.{all_slots}
 
 -- ---- which directories go
 
-abbrev pub slot_addresses : Option Slot → List (ℕ × ℕ)
-slot_addresses None = []
-slot_addresses (Some s) = addresses (branch_address s.struct)
+abbrev pub branch_addresses : Option Slot → List (ℕ × ℕ)
+branch_addresses None = []
+branch_addresses (Some s) = addresses (branch_address s.struct)
   where
     addresses : Option (ℕ × ℕ) → List (ℕ × ℕ)
     addresses None = []
@@ -29,8 +29,8 @@ slot_addresses (Some s) = addresses (branch_address s.struct)
 
 -- the address of a directory that is removed, or that a rename replaces
 abbrev pub removed_addresses : List Pair → Operation → List (ℕ × ℕ)
-removed_addresses ps (ops.Remove path) = slot_addresses (slot_of ps (path_or_root path))
-removed_addresses ps (ops.Rename from to) = if same_path (path_or_root from) (path_or_root to) then [] else slot_addresses (slot_of ps (path_or_root to))
+removed_addresses ps (ops.Remove path) = branch_addresses (slot_of ps (path_or_root path))
+removed_addresses ps (ops.Rename from to) = if same_path (path_or_root from) (path_or_root to) then [] else branch_addresses (slot_of ps (path_or_root to))
 removed_addresses ps _ = []
 
 -- no path leads to the directory that begins there, or the operation removes it
@@ -44,12 +44,12 @@ FitsPair disk p = FitsInPair disk.block_size disk.page p.content
 
 -- What a pair with the slots of d becomes. It stays alone where the slots fit; it is cut into itself and a new pair where they
 -- don't. It is dropped where it has no slots and isn't the first of its directory, or where its directory is removed.
-abbrev pub IsPairAfter : Disk → (first : Bool) → Type 0 → Pair → List Pair → Type 0
-IsPairAfter disk first goes d [] = goes ⊎ ((first ≡ false) × (d.content.slots ≡ []))
-IsPairAfter disk first goes d (q ∷ []) = (q.at ≡ d.at) × (q.content.slots ≡ d.content.slots) × FitsPair disk d × (goes → ⊥) × (first ≡ false → d.content.slots ≢ [])
-IsPairAfter disk first goes d (q ∷ f ∷ []) =
+abbrev pub PairBecomes : Disk → (first : Bool) → Type 0 → Pair → List Pair → Type 0
+PairBecomes disk first goes d [] = goes ⊎ ((first ≡ false) × (d.content.slots ≡ []))
+PairBecomes disk first goes d (q ∷ []) = (q.at ≡ d.at) × (q.content.slots ≡ d.content.slots) × FitsPair disk d × (goes → ⊥) × (first ≡ false → d.content.slots ≢ [])
+PairBecomes disk first goes d (q ∷ f ∷ []) =
     (q.at ≡ d.at) × (all_slots (q ∷ f ∷ []) ≡ d.content.slots) × (FitsPair disk d → ⊥) × FitsPair disk q × FitsPair disk f × (goes → ⊥)
-IsPairAfter disk first goes d (q ∷ f ∷ g ∷ ps) = ⊥
+PairBecomes disk first goes d (q ∷ f ∷ g ∷ ps) = ⊥
 
 -- Where the directory of a pair begins. It begins where the directory of the pair before does, if that pair has a hard tail.
 abbrev pub directory_address : Option (ℕ × ℕ) → Pair → ℕ × ℕ
@@ -60,12 +60,12 @@ continued_address from p = if is_hard_tail p.content.tail then Some (directory_a
 
 -- These lists of pairs are what the pairs ds become, a list for each. The first n pairs are before the root directory, and are
 -- never dropped.
-abbrev pub ArePairsAfter : Disk → (ℕ × ℕ → Type 0) → ℕ → Option (ℕ × ℕ) → List Pair → List (List Pair) → Type 0
-ArePairsAfter disk goes n from [] [] = Unit {0}
-ArePairsAfter disk goes n from [] (now ∷ rest) = ⊥
-ArePairsAfter disk goes n from (d ∷ ds) [] = ⊥
-ArePairsAfter disk goes zero from (d ∷ ds) (now ∷ rest) = IsPairAfter disk (is_none from) (goes (directory_address from d)) d now × ArePairsAfter disk goes zero (continued_address from d) ds rest
-ArePairsAfter disk goes (suc n) from (d ∷ ds) (now ∷ rest) = IsPairAfter disk true ⊥ d now × ArePairsAfter disk goes n None ds rest
+abbrev pub PairsBecome : Disk → (ℕ × ℕ → Type 0) → ℕ → Option (ℕ × ℕ) → List Pair → List (List Pair) → Type 0
+PairsBecome disk goes n from [] [] = Unit {0}
+PairsBecome disk goes n from [] (now ∷ rest) = ⊥
+PairsBecome disk goes n from (d ∷ ds) [] = ⊥
+PairsBecome disk goes zero from (d ∷ ds) (now ∷ rest) = PairBecomes disk (is_none from) (goes (directory_address from d)) d now × PairsBecome disk goes zero (continued_address from d) ds rest
+PairsBecome disk goes (suc n) from (d ∷ ds) (now ∷ rest) = PairBecomes disk true ⊥ d now × PairsBecome disk goes n None ds rest
 
 -- The pairs ps become qs by the operation, on the new disk.
 pub record IsLayout (disk : Disk) (ps : List Pair) (s : Session) (op : Operation) (new : Disk) (qs : List Pair) : Type 0 where
@@ -77,7 +77,7 @@ pub record IsLayout (disk : Disk) (ps : List Pair) (s : Session) (op : Operation
   pub fresh : List Pair
   pub back : List Pair
   pub edits : EditsSlots new ps s op fresh (pairs_without_moved ps) drafts
-  pub stand : ArePairsAfter disk (IsUnreachedOrRemoved ps op) (count_before_root ps) None drafts parts
+  pub stand : PairsBecome disk (IsUnreachedOrRemoved ps op) (count_before_root ps) None drafts parts
   pub joined : flat_map (λ part. part) parts ≡ front ++ back
   pub is : qs ≡ front ++ (fresh ++ back)
 

@@ -72,9 +72,9 @@ is_read_only s ops.Remount = true
 is_read_only s _ = false
 
 -- an open of a file that is there already
-abbrev pub opens_existing : Session → Operation → Bool
-opens_existing s (ops.Open path flags) = is_some (s.tree (path_or_root path))
-opens_existing s _ = false
+abbrev pub opens_there : Session → Operation → Bool
+opens_there s (ops.Open path flags) = is_some (s.tree (path_or_root path))
+opens_there s _ = false
 
 -- the operation writes into blocks that the view doesn't show
 abbrev pub writes_or_truncates : Operation → Bool
@@ -121,8 +121,8 @@ abbrev pub IsUntouched : Disk → List CallEvent → Disk → Type 0
 IsUntouched disk calls new = (new ≡ disk) × WriteNothing calls
 
 -- the disk that an operation works on: for a remount, the one whose names are in the order that it finds
-abbrev pub disk_read_by : Operation → NameOrder → Disk → Disk
-disk_read_by op order disk = if is_remount op then ordered_disk order disk else disk
+abbrev pub operation_disk : Operation → NameOrder → Disk → Disk
+operation_disk op order disk = if is_remount op then ordered_disk order disk else disk
 
 -- A remount found the order of the names, and wrote nothing. Where both orders fit, the longer names come first.
 pub record IsRemountedDisk (disk : Disk) (calls : List CallEvent) (new : Disk) : Type 0 where
@@ -134,8 +134,8 @@ pub record IsRemountedDisk (disk : Disk) (calls : List CallEvent) (new : Disk) :
 -- What an accepted operation of a healthy session does to a disk, by these calls.
 pub record IsDiskEffect (disk : Disk) (ps : List Pair) (s : Session) (op : Operation) (calls : List CallEvent) (new : Disk) (qs : List Pair) : Type 0 where
   -- where nothing is written
-  pub asks : is_read_only s op ≡ true → IsUntouched (disk_read_by op new.order disk) calls new
-  pub opens : opens_existing s op ≡ true → pairs_gstate ps ≡ zero_gstate → new ≡ disk
+  pub asks : is_read_only s op ≡ true → IsUntouched (operation_disk op new.order disk) calls new
+  pub opens : opens_there s op ≡ true → pairs_gstate ps ≡ zero_gstate → new ≡ disk
   pub itself : renames_itself op ≡ true → IsUntouched disk calls new
   pub nothing_left : is_recover op ≡ true → IsRecovered ps → IsUntouched disk calls new
   pub silent : needs_no_device s op ≡ true → (new ≡ disk) × (calls ≡ [])
@@ -152,7 +152,7 @@ pub record IsDiskEffect (disk : Disk) (ps : List Pair) (s : Session) (op : Opera
 pub record IsStep (from : SystemState) (op : Operation) (reply : Reply) (to : SystemState) : Type 0 where
   pub answered : IsReply from.disk to.disk.order from.state op reply to.state
   pub agrees : HealthyHasDiskTree to.disk to.state
-  pub geometry : SameGeometry (disk_read_by op to.disk.order from.disk) to.disk
+  pub geometry : SameGeometry (operation_disk op to.disk.order from.disk) to.disk
   pub calls : List CallEvent
   pub called : to.calls ≡ calls ++ from.calls
   pub refused : is_refusal reply ≡ true → IsUntouched from.disk calls to.disk

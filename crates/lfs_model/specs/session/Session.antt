@@ -5,7 +5,7 @@ use Rattle.std.specs.Option.{option_and_then, option_or, option_flatten}
 use Rattle.lfs_model.specs.declared.limits.Profile.{Profile}
 use Rattle.lfs_model.specs.format.Names.{Name}
 use Rattle.lfs_model.specs.format.Slots.{Attributes, Gstate}
-use Rattle.lfs_model.specs.format.Disk.{inline_limit, name_max_of, charge_limit}
+use Rattle.lfs_model.specs.format.Disk.{inline_limit, profile_name_max, charge_limit}
 use Rattle.lfs_model.specs.format.Slots.{entry_charge}
 use Rattle.lfs_model.specs.format.SkipLists.{block_count_for}
 use Rattle.lfs_model.specs.tree.Tree.{Path, Node, FileNode, DirectoryNode, Tree}
@@ -76,8 +76,8 @@ abbrev pub file_path : OpenFile → Path
 file_path (Reading r) = r.path
 file_path (Writing w) = w.path
 
-abbrev pub has_file : (Path → Bool) → OpenFilesByNumber → Bool
-has_file p files = list_any (λ f. is_some (option_and_then (λ o. if p (file_path o) then Some o else None) f)) files
+abbrev pub has_open_file : (Path → Bool) → OpenFilesByNumber → Bool
+has_open_file p files = list_any (λ f. is_some (option_and_then (λ o. if p (file_path o) then Some o else None) f)) files
 
 abbrev pub all_readers : OpenFilesByNumber → List FileReader
 all_readers [] = []
@@ -127,17 +127,17 @@ parents_refusal t above (name ∷ []) = None
 parents_refusal t above (name ∷ next ∷ rest) =
     option_or (directory_refusal (t (above ++ name ∷ []))) (parents_refusal t (above ++ name ∷ []) (next ∷ rest))
 
-abbrev pub are_allowed : FlagsOfOpen → Bool
-are_allowed f =
+abbrev pub flags_allowed : FlagsOfOpen → Bool
+flags_allowed f =
     not f.unknown && (if f.write then not f.read && (f.create || not f.exclusive)
     else f.read && not (f.create || f.exclusive || f.truncate || f.append))
 
 abbrev pub has_long_name : DiskSummary → Path → Bool
-has_long_name around p = nat_lt (name_max_of around.profile) (length (last_name p))
+has_long_name around p = nat_lt (profile_name_max around.profile) (length (last_name p))
 
 -- fewer than n blocks are neither used nor held
-abbrev pub lacks_free : DiskSummary → OpenFilesByNumber → ℕ → Bool
-lacks_free around files n = nat_lt around.block_count (length around.used + reserved_for_writers around.profile around.block_size files + n)
+abbrev pub lacks_room : DiskSummary → OpenFilesByNumber → ℕ → Bool
+lacks_room around files n = nat_lt around.block_count (length around.used + reserved_for_writers around.profile around.block_size files + n)
 
 -- the writer would hold more blocks than there are
 abbrev pub overfills_disk : DiskSummary → FileWriter → Bool

@@ -39,10 +39,10 @@ abbrev pub remount_result : Option Tree → Option Reply × SessionHealth
 remount_result None = (None, HasFailed)
 remount_result (Some tree) = (Some ops.Done, Healthy (mounted_session tree))
 
-abbrev pub other_result : DiskSummary → SessionHealth → Operation → Option Reply × SessionHealth
-other_result around HasFailed op = (Some (ops.Refused Failed), HasFailed)
-other_result around (Healthy s) op = (Some (operation_result around s op).0, Healthy (operation_result around s op).1)
+abbrev pub nonremount_result : DiskSummary → SessionHealth → Operation → Option Reply × SessionHealth
+nonremount_result around HasFailed op = (Some (ops.Refused Failed), HasFailed)
+nonremount_result around (Healthy s) op = (Some (operation_result around s op).0, Healthy (operation_result around s op).1)
 
 -- the reply, where no error comes in its place, and the state after it
 abbrev pub result_and_health : DiskSummary → Option Tree → SessionHealth → Operation → Option Reply × SessionHealth
-result_and_health around shown state op = if is_remount op then remount_result shown else other_result around state op
+result_and_health around shown state op = if is_remount op then remount_result shown else nonremount_result around state op

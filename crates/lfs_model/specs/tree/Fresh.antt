@@ -4,7 +4,7 @@ use Rattle.std.specs.List.{flat_map}
 use Rattle.byteorder.specs.Endian.{little_bytes}
 use Rattle.lfs_model.specs.format.Geometry.{IsValidGeometry}
 use Rattle.lfs_model.specs.declared.limits.Profile.{Profile}
-use Rattle.lfs_model.specs.format.Disk.{Disk, block_count, name_max_of, file_max_of, attr_max_of}
+use Rattle.lfs_model.specs.format.Disk.{Disk, block_count, profile_name_max, profile_file_max, profile_attr_max}
 use Rattle.lfs_model.specs.format.Slots.{Slot, Superblock, Inline, PairContent, zero_gstate}
 use Rattle.lfs_model.specs.format.Content.{content_at, current_block}
 use Rattle.lfs_model.specs.format.Thread.{Pair, anchor_address}
@@ -13,7 +13,7 @@ use Rattle.lfs_model.specs.tree.View.{BeginsWith, superblock_entry}
 
 -- version 2.0, block size, block count, and the profile's limits of names, files and attributes
 abbrev pub superblock_bytes : Profile → ℕ → ℕ → List ℕ
-superblock_bytes profile block_size blocks = flat_map (little_bytes 4) (0x00020000 ∷ block_size ∷ blocks ∷ name_max_of profile ∷ file_max_of profile ∷ attr_max_of profile ∷ [])
+superblock_bytes profile block_size blocks = flat_map (little_bytes 4) (0x00020000 ∷ block_size ∷ blocks ∷ profile_name_max profile ∷ profile_file_max profile ∷ profile_attr_max profile ∷ [])
 
 abbrev pub superblock_slot : Profile → ℕ → ℕ → Slot
 superblock_slot profile block_size blocks = record { kind = Superblock; name = codes "littlefs"; struct = Inline (superblock_bytes profile block_size blocks); attributes = [] }

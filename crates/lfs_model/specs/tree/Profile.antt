@@ -2,7 +2,7 @@
 use Rattle.std.specs.Prelude.{ℕ, ◌≡◌, ◌≢◌, ◌≤◌, ◌&&◌, nat_le, if◌then◌else◌, Bool, true, false, List, [], ◌∷◌, length, slice_get, Option, Some, None, All}
 use Rattle.std.specs.Option.{option_and_then}
 use Rattle.lfs_model.specs.declared.limits.Profile.{Profile}
-use Rattle.lfs_model.specs.format.Disk.{Disk, inline_limit, charge_limit, size_limit, attribute_limit, name_max_of, file_max_of, attr_max_of}
+use Rattle.lfs_model.specs.format.Disk.{Disk, inline_limit, charge_limit, size_limit, attribute_limit, profile_name_max, profile_file_max, profile_attr_max}
 use Rattle.lfs_model.specs.format.Names.{name_limit}
 use Rattle.lfs_model.specs.format.Slots.{Slot, Struct, Inline, Ctz, Branch, is_superblock, entry_charge, FitsInPair}
 use Rattle.lfs_model.specs.format.EntryTypes.{SuperblockFields, superblock_fields}
@@ -19,7 +19,7 @@ InlineBytesFit limit (Branch to) = Unit {0}
 -- a superblock has the profile's limits
 abbrev pub HasLimits : Profile → Slot → Type 0
 HasLimits profile s = (bytes : List ℕ) × ((s.struct ≡ Inline bytes)
-    × ((superblock_fields bytes).name_max ≡ name_max_of profile) × ((superblock_fields bytes).file_max ≡ file_max_of profile) × ((superblock_fields bytes).attr_max ≡ attr_max_of profile))
+    × ((superblock_fields bytes).name_max ≡ profile_name_max profile) × ((superblock_fields bytes).file_max ≡ profile_file_max profile) × ((superblock_fields bytes).attr_max ≡ profile_attr_max profile))
 
 pub record IsWritableEntry (profile : Profile) (block_size page : ℕ) (s : Slot) : Type 0 where
   pub charge : entry_charge profile block_size s.name s.attributes ≤ charge_limit block_size page
@@ -54,11 +54,11 @@ abbrev pub image_fields : List Pair → Option SuperblockFields
 image_fields ps = option_and_then (λ s. struct_fields s.struct) (slice_get (first_pair_slots (pairs_from_root ps)) 0)
 
 -- no limit is 0, or above what an image may have
-abbrev pub are_usable : SuperblockFields → Bool
-are_usable f =
+abbrev pub limits_usable : SuperblockFields → Bool
+limits_usable f =
     nat_le 1 f.name_max && nat_le f.name_max name_limit && nat_le 1 f.file_max && nat_le f.file_max size_limit
     && nat_le 1 f.attr_max && nat_le f.attr_max attribute_limit
 
 -- the profile with the superblock's limits, where they can be used
-abbrev pub with_limits : SuperblockFields → Profile → Profile
-with_limits f profile = if are_usable f then record profile { name_max = f.name_max; file_max = f.file_max; attr_max = f.attr_max } else profile
+abbrev pub profile_with_limits : SuperblockFields → Profile → Profile
+profile_with_limits f profile = if limits_usable f then record profile { name_max = f.name_max; file_max = f.file_max; attr_max = f.attr_max } else profile

@@ -5,7 +5,7 @@ use Rattle.lfs_model.specs.format.Disk.{Disk}
 use Rattle.lfs_model.specs.format.Slots.{Slot, Struct, Inline, Ctz, Branch, same_pair}
 use Rattle.lfs_model.specs.format.SkipLists.{block_count_for, blocks_to_head, list_bytes}
 use Rattle.lfs_model.specs.format.Thread.{Pair, pairs_gstate, pairs_blocks, pairs_from_root, root_address, slots_not_moved, ThreadDirectory, pair_directories, directory_slots}
-use Rattle.lfs_model.specs.tree.Tree.{Path, Tree, EntryMap, address_at_path, beneath_root}
+use Rattle.lfs_model.specs.tree.Tree.{Path, Tree, EntryMap, address_at_path, root_subtree}
 
 -- ---- what the pairs show
 
@@ -28,7 +28,7 @@ abbrev pub struct_list_bytes : Disk → ℕ → ℕ → List ℕ
 struct_list_bytes disk head size = list_bytes disk.blocks disk.block_size head size
 
 abbrev pub disk_tree : Disk → List Pair → Tree
-disk_tree disk ps = beneath_root (struct_list_bytes disk) (all_entries ps) (root_address ps)
+disk_tree disk ps = root_subtree (struct_list_bytes disk) (all_entries ps) (root_address ps)
 
 abbrev pub struct_blocks : Disk → Struct → List ℕ
 struct_blocks disk (Ctz head size) = blocks_to_head disk.blocks (block_count_for disk.block_size size) head

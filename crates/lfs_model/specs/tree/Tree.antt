@@ -59,8 +59,8 @@ struct_node contents entries attributes (Ctz head size) = FileNode attributes (c
 struct_node contents entries attributes (Branch to) = DirectoryNode attributes (sorted_names ShorterFirst (names_at entries to))
 
 -- the tree beneath a slot
-abbrev pub beneath_slot : (ℕ → ℕ → List ℕ) → EntryMap → Slot → Tree
-beneath_slot contents entries s path = option_map (λ found. struct_node contents entries found.attributes found.struct) (slot_at_path entries s path)
+abbrev pub slot_subtree : (ℕ → ℕ → List ℕ) → EntryMap → Slot → Tree
+slot_subtree contents entries s path = option_map (λ found. struct_node contents entries found.attributes found.struct) (slot_at_path entries s path)
 
-abbrev pub beneath_root : (ℕ → ℕ → List ℕ) → EntryMap → ℕ × ℕ → Tree
-beneath_root contents entries root = beneath_slot contents entries (root_slot root)
+abbrev pub root_subtree : (ℕ → ℕ → List ℕ) → EntryMap → ℕ × ℕ → Tree
+root_subtree contents entries root = slot_subtree contents entries (root_slot root)

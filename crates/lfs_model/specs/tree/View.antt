@@ -13,7 +13,7 @@ use Rattle.lfs_model.specs.format.Slots.{Slot, SlotKind, File, Directory, Superb
 use Rattle.lfs_model.specs.format.Content.{current_block, content_at}
 use Rattle.lfs_model.specs.format.EntryTypes.{superblock_name_type, superblock_fields}
 use Rattle.lfs_model.specs.format.SkipLists.{IsSkipList}
-use Rattle.lfs_model.specs.format.Thread.{Pair, IsThread, pairs_from_root, first_address, pairs_from_filled, pairs_gstate, superblock_first, count_before_root, BeginsAt}
+use Rattle.lfs_model.specs.format.Thread.{Pair, IsThread, pairs_from_root, first_address, pairs_from_filled, pairs_gstate, superblock_first, count_before_root, BeginsDirectory}
 use Rattle.lfs_model.specs.tree.Tree.{Path, Tree, names_at}
 use Rattle.lfs_model.specs.tree.Shown.{all_directories, all_entries, LeadsTo, IsReachedBySome, disk_tree, all_unmoved_slots, used_blocks}
 
@@ -126,7 +126,7 @@ pub record IsAccepted (disk : Disk) (ps : List Pair) : Type 0 where
   -- in each reached directory the names strictly increase, in the disk's order
   pub order : (path : Path) (at : ℕ × ℕ) → LeadsTo ps path at → AllPairs (λ a b. name_cmp disk.order a b ≡ Less) (names_at (all_entries ps) at)
   -- each entry of a reached directory that is a directory names the first pair of one, and none is reached twice
-  pub branches : (path : Path) (at : ℕ × ℕ) → LeadsTo ps path at → BeginsAt (all_directories ps) at
+  pub branches : (path : Path) (at : ℕ × ℕ) → LeadsTo ps path at → BeginsDirectory (all_directories ps) at
   pub once : (path other : Path) (at to : ℕ × ℕ) → LeadsTo ps path at → LeadsTo ps other to → same_pair at to ≡ true → path ≡ other
   -- where a directory's pairs aren't reached, the sync bit is set
   pub reached : (pairs_gstate ps).sync ≡ false → All (λ d. IsReachedBySome ps d.at) (all_directories ps)

@@ -4,7 +4,7 @@ use Rattle.std.proofs.lemmas.List.{length-take-le, take_min}
 use Rattle.std.proofs.lemmas.Result.{on_ok_weaker}
 use Rattle.lfs_model.specs.format.Blocks.{Blocks, programmed}
 use Rattle.lfs_model.proofs.Overwrites.{programmed_next}
-use Rattle.lfs_device.proofs.Partials.{ChangesOnlyPart-trans, ChangesOnlyPart-wider, ChangesOnlyPart-program, keeps-program, take-append-slice_range, page_room}
+use Rattle.lfs_device.proofs.Partials.{ChangesOnlyRange-trans, ChangesOnlyRange-wider, ChangesOnlyRange-program, keeps-program, take-append-slice_range, page_room}
 use Rattle.lfs_device.proofs.partial.program_first_bytes.Goals as goal
 
 pub returns-in_err-prog-clause-part : goal.returns-in_err-prog-clause-part
@@ -12,8 +12,8 @@ returns-in_err-prog-clause-part g c =
     let whole = c.min-stored.result - c.min-stored.result % c.geometry-page.result.page in
     let first : length (take whole c.args.bytes.now) ≡ whole = length-take-le whole c.args.bytes.now (omega arith) in
     let shape = g.met.D.BlockDevice.shape c.args.device.now in
-    ChangesOnlyPart-wider g.D.BlockDevice c.args.off (c.args.off + length c.args.bytes.now)
-    (ChangesOnlyPart-program g.D.BlockDevice c.prog.result (omega (arith, shape.count, c.requires.can.in_device)) (omega (arith, shape.sizes c.args.block c.requires.can.in_device, c.requires.can.in_block))
+    ChangesOnlyRange-wider g.D.BlockDevice c.args.off (c.args.off + length c.args.bytes.now)
+    (ChangesOnlyRange-program g.D.BlockDevice c.prog.result (omega (arith, shape.count, c.requires.can.in_device)) (omega (arith, shape.sizes c.args.block c.requires.can.in_device, c.requires.can.in_block))
     c.prog.ensures.programs.ok c.prog.ensures.programs.err c.prog.ensures.programs.others c.prog.ensures.geometry c.prog.ensures.history)
     (omega arith) (omega (arith, first))
 
@@ -22,8 +22,8 @@ returns-then-whole-stored-clause-part g c =
     let whole = c.min-stored.result - c.min-stored.result % c.geometry-page.result.page in
     let first : length (take whole c.args.bytes.now) ≡ whole = length-take-le whole c.args.bytes.now (omega arith) in
     let shape = g.met.D.BlockDevice.shape c.args.device.now in
-    ChangesOnlyPart-wider g.D.BlockDevice c.args.off (c.args.off + length c.args.bytes.now)
-    (ChangesOnlyPart-program g.D.BlockDevice c.prog.result (omega (arith, shape.count, c.requires.can.in_device)) (omega (arith, shape.sizes c.args.block c.requires.can.in_device, c.requires.can.in_block))
+    ChangesOnlyRange-wider g.D.BlockDevice c.args.off (c.args.off + length c.args.bytes.now)
+    (ChangesOnlyRange-program g.D.BlockDevice c.prog.result (omega (arith, shape.count, c.requires.can.in_device)) (omega (arith, shape.sizes c.args.block c.requires.can.in_device, c.requires.can.in_block))
     c.prog.ensures.programs.ok c.prog.ensures.programs.err c.prog.ensures.programs.others c.prog.ensures.geometry c.prog.ensures.history)
     (omega arith) (omega (arith, first))
 
@@ -36,12 +36,12 @@ returns-clause-part g c =
     let then : (g.D.BlockDevice.geometry c.prog.new.self).page ≡ page = grind arith in
     let room = page_room c.args.off c.min-stored.result (length c.args.bytes.now) page (rw known at c.requires.can.begins) (rw known at c.requires.can.ends) (omega arith) (omega arith) in
     let shape = g.met.D.BlockDevice.shape c.args.device.now in
-    ChangesOnlyPart-trans g.D.BlockDevice
-    (ChangesOnlyPart-wider g.D.BlockDevice c.args.off (c.args.off + length c.args.bytes.now)
-    (ChangesOnlyPart-program g.D.BlockDevice c.prog.result (omega (arith, shape.count, c.requires.can.in_device)) (omega (arith, shape.sizes c.args.block c.requires.can.in_device, c.requires.can.in_block))
+    ChangesOnlyRange-trans g.D.BlockDevice
+    (ChangesOnlyRange-wider g.D.BlockDevice c.args.off (c.args.off + length c.args.bytes.now)
+    (ChangesOnlyRange-program g.D.BlockDevice c.prog.result (omega (arith, shape.count, c.requires.can.in_device)) (omega (arith, shape.sizes c.args.block c.requires.can.in_device, c.requires.can.in_block))
     c.prog.ensures.programs.ok c.prog.ensures.programs.err c.prog.ensures.programs.others c.prog.ensures.geometry c.prog.ensures.history)
     (omega arith) (omega (arith, first)))
-    (ChangesOnlyPart-wider g.D.BlockDevice c.args.off (c.args.off + length c.args.bytes.now) c.program_page_part.ensures.part (omega arith) (omega (arith, then, room)))
+    (ChangesOnlyRange-wider g.D.BlockDevice c.args.off (c.args.off + length c.args.bytes.now) c.program_page_part.ensures.part (omega arith) (omega (arith, then, room)))
 
 pub returns-clause-ok : goal.returns-clause-ok
 returns-clause-ok g c =

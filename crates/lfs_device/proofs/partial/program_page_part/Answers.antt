@@ -4,7 +4,7 @@ use Rattle.std.proofs.lemmas.Grind.{common_steps}
 use Rattle.lfs_model.specs.format.Blocks.{Blocks, block_bytes, programmed}
 use Rattle.lfs_model.proofs.Overwrites.{overwritten_beginning}
 use Rattle.lfs_device.specs.declared.geometry.Geometry.{Geometry}
-use Rattle.lfs_device.proofs.Partials.{ChangesOnlyPart-trans, ChangesOnlyPart-wider, ChangesOnlyPart-read, ChangesOnlyPart-program}
+use Rattle.lfs_device.proofs.Partials.{ChangesOnlyRange-trans, ChangesOnlyRange-wider, ChangesOnlyRange-read, ChangesOnlyRange-program}
 use Rattle.lfs_device.proofs.partial.program_page_part.Goals as goal
 
 pub returns-clause-ok : goal.returns-clause-ok
@@ -34,6 +34,6 @@ returns-clause-part g c =
     let same = c.read.ensures.same in
     let there : c.args.block < length (g.D.BlockDevice.blocks c.read.new.self) = rw same (omega (arith, shape.count, c.requires.page.in_device)) in
     let fits : c.args.off ≤ length (block_bytes (g.D.BlockDevice.blocks c.read.new.self) c.args.block) = rw same (omega (arith, shape.sizes c.args.block c.requires.page.in_device, c.requires.page.in_block)) in
-    let read = ChangesOnlyPart-read g.D.BlockDevice c.args.block c.args.off (c.args.off + (g.D.BlockDevice.geometry c.args.device.now).page) c.read.ensures.history same c.read.ensures.geometry in
-    let program = ChangesOnlyPart-program g.D.BlockDevice c.prog.result there fits c.prog.ensures.programs.ok c.prog.ensures.programs.err c.prog.ensures.programs.others c.prog.ensures.geometry c.prog.ensures.history in
-    ChangesOnlyPart-trans g.D.BlockDevice read (ChangesOnlyPart-wider g.D.BlockDevice c.args.off (c.args.off + (g.D.BlockDevice.geometry c.args.device.now).page) program (omega arith) (omega (arith, known, page, behind, joined, front, c.requires.in_page)))
+    let read = ChangesOnlyRange-read g.D.BlockDevice c.args.block c.args.off (c.args.off + (g.D.BlockDevice.geometry c.args.device.now).page) c.read.ensures.history same c.read.ensures.geometry in
+    let program = ChangesOnlyRange-program g.D.BlockDevice c.prog.result there fits c.prog.ensures.programs.ok c.prog.ensures.programs.err c.prog.ensures.programs.others c.prog.ensures.geometry c.prog.ensures.history in
+    ChangesOnlyRange-trans g.D.BlockDevice read (ChangesOnlyRange-wider g.D.BlockDevice c.args.off (c.args.off + (g.D.BlockDevice.geometry c.args.device.now).page) program (omega arith) (omega (arith, known, page, behind, joined, front, c.requires.in_page)))

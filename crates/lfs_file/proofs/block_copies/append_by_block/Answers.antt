@@ -1,5 +1,5 @@
 use Rattle.std.proofs.Common.{rules, ℕ, inl, ◌≡◌, ◌+◌, ◌-◌, ◌<◌, ◌≤◌, get_or, List, ◌++◌, length, min, take, drop, slice_index, refl, sym, ap, ◌∙◌, subst, arith}
-use Rattle.lfs_file.proofs.Common.{length-take-le, err_from_is_err_and, Blocks, HasBlockSizes, IsBytePlace, IsSkipList, blocks_to_head, block_count_for, list_bytes, block_count_for-more, IsOnDisk, growing_bytes, lasting_blocks, growing_size_with, GrowsInFree, HasBlocksTaken, blocks_of_list, CanEndAlone, place-lt}
+use Rattle.lfs_file.proofs.Common.{length-take-le, err_from_is_err_and, Blocks, HasBlockSizes, IsBytePlace, IsSkipList, blocks_to_head, block_count_for, list_bytes, block_count_for-more, DiskHasList, growing_bytes, lasting_blocks, growing_size_with, GrowsInFree, HasBlocksTaken, blocks_of_list, CanEndAlone, place-lt}
 use Rattle.std.proofs.lemmas.List.{get_or_read}
 use Rattle.lfs_device.specs.declared.geometry.Geometry.{Geometry}
 use Rattle.lfs_file.proofs.ContentsCalled.{apart_on, apart_read, apart_reads, quiet, reported_as, reported_on}
@@ -32,7 +32,7 @@ copying-init g c =
     let block_size : ℕ = c.args.list.now.geometry.block_size in
     let same = c.blocks_from_index.ensures.device.same in
     record {
-      growing = subst (λ x. IsOnDisk x was) (sym same) c.requires.can.growing;
+      growing = subst (λ x. DiskHasList x was) (sym same) c.requires.can.growing;
       same = refl;
       grown = subst (λ x. GrowsInFree map d was map x was) (sym same) (GrowsInFree-refl _ _ _);
       marked = subst (λ x. HasBlocksTaken map x was) (sym same) c.requires.can.marked;

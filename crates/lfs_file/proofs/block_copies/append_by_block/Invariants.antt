@@ -1,5 +1,5 @@
 use Rattle.std.proofs.Common.{◌≡◌, ◌≤◌, ◌++◌, ◌-◌, drop, max}
-use Rattle.lfs_file.proofs.Common.{fault_count, list_bytes, IsOnDisk, growing_bytes, unwritten_block, growing_size_with, GrowsInFree, HasBlocksTaken, KeepsTakenBlocks, CanEndAlone, ChangesOnlyFree}
+use Rattle.lfs_file.proofs.Common.{fault_count, list_bytes, DiskHasList, growing_bytes, unwritten_block, growing_size_with, GrowsInFree, HasBlocksTaken, KeepsTakenBlocks, CanEndAlone, ChangesOnlyFree}
 use Rattle.lfs_file.proofs.block_copies.append_by_block.Given as goal
 
 abbrev pub invariant-copying : goal.invariant-copying
@@ -11,7 +11,7 @@ invariant-copying g l =
     let new = g.D.BlockDevice.blocks l.dev in
     let base = list_bytes old block_size l.fn.base.head l.fn.base.size in
     record {
-      growing : IsOnDisk new now;
+      growing : DiskHasList new now;
       same : l.list.geometry ≡ l.fn.list.geometry;
       grown : GrowsInFree l.fn.map old was l.map new now;
       marked : HasBlocksTaken l.map new now;

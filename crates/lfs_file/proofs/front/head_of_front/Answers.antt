@@ -1,5 +1,5 @@
 use Rattle.std.proofs.Common.{ℕ, ◌≡◌, ◌≤◌, ◌+◌, ◌-◌, take, slice_index, ap, subst, ◌∙◌, arith}
-use Rattle.lfs_file.proofs.Common.{err_from_is_err_and, Blocks, HasBlockSizes, AreListBlocks, IsSkipList, IsBytePlace, blocks_to_head, block_count_for, list_bytes, IsListOf}
+use Rattle.lfs_file.proofs.Common.{err_from_is_err_and, Blocks, HasBlockSizes, AreListBlocks, IsSkipList, IsBytePlace, blocks_to_head, block_count_for, list_bytes, ListHoldsBytes}
 use Rattle.lfs_device.specs.declared.geometry.Geometry.{Geometry}
 use Rattle.lfs_file.proofs.Geometries.{chain, last_is, shaped, sized}
 use Rattle.lfs_file.proofs.Resumed.{front_end}
@@ -20,13 +20,13 @@ find_block_at-requires g c =
 
 front_of : (d : Blocks) (geometry made : Geometry) (head size keep n i off block : ℕ) → made ≡ geometry → n ≡ block_count_for made.block_size size → HasBlockSizes geometry.block_size geometry.block_count d → 1 ≤ keep → keep ≤ size
     → IsBytePlace made.block_size (keep - 1) i off → (AreListBlocks d (n - 1 + 1) head → block ≡ slice_index (blocks_to_head d (n - 1 + 1) head) i) → IsSkipList d geometry.block_size head size
-    → IsListOf d geometry.block_size block keep (take keep (list_bytes d geometry.block_size head size)) (take (block_count_for geometry.block_size keep) (blocks_to_head d (block_count_for geometry.block_size size) head))
+    → ListHoldsBytes d geometry.block_size block keep (take keep (list_bytes d geometry.block_size head size)) (take (block_count_for geometry.block_size keep) (blocks_to_head d (block_count_for geometry.block_size size) head))
 front_of d geometry made head size keep n i off block e is shape some within place found list =
     let large = made.valid.no_smaller in
     let same = sized d head size geometry made e list in
     let here : block ≡ slice_index (blocks_to_head d (block_count_for made.block_size size) head) i =
     found (chain d made.block_size head size n large is same) ∙ ap (λ k. slice_index (blocks_to_head d k head) i) (last_is made.block_size size n large list.size_low is) in
-    subst (λ (k : Geometry). IsListOf d k.block_size block keep (take keep (list_bytes d k.block_size head size)) (take (block_count_for k.block_size keep) (blocks_to_head d (block_count_for k.block_size size) head))) e
+    subst (λ (k : Geometry). ListHoldsBytes d k.block_size block keep (take keep (list_bytes d k.block_size head size)) (take (block_count_for k.block_size keep) (blocks_to_head d (block_count_for k.block_size size) head))) e
     (front_end d made.block_size geometry.block_count head size keep i off block large (shaped d geometry made e shape) same some within place here (let high = list.size_high in omega arith))
 
 pub returns-clause-front : goal.returns-clause-front

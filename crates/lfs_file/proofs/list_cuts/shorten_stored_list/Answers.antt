@@ -1,6 +1,6 @@
 use Rattle.std.proofs.Common.{ℕ, [], ◌≡◌, take, refl, sym, ap, ◌∙◌, subst, arith}
 use Rattle.std.specs.Prelude.{Contains, List}
-use Rattle.lfs_file.proofs.Common.{err_from_is_err_and, Blocks, block_count_for, list_bytes, block_count_for-more, SameExceptThese-refl, blocks_of_list, IsFinishedList, ReleasesInFlight}
+use Rattle.lfs_file.proofs.Common.{err_from_is_err_and, Blocks, block_count_for, list_bytes, block_count_for-more, SameExceptBlocks-refl, blocks_of_list, IsFinishedList, ReleasesInFlight}
 use Rattle.lfs_device.specs.declared.geometry.Geometry.{Geometry}
 use Rattle.lfs_file.proofs.Hands.{Contains-take}
 use Rattle.lfs_file.proofs.ContentsCalled.{quiet, read_on, reported_as, reported_on}
@@ -55,7 +55,7 @@ returns-clause-cut g c =
     let blocks = front.blocks ∙ ap (λ n. take n (blocks_of_list d now.block_size stored.head stored.size)) (sym count) in
     let at : Blocks → Type 0 = λ x. IsFinishedList c.release_base_from.new.map x now.block_size (record { head = c.in_ok-head.head; size = c.args.keep; in_flight = stored.in_flight }) in
     record {
-      stored = subst at (sym all) (cuts c.args.map.now d d now.block_size stored [] c.requires.stored refl (SameExceptThese-refl [] d) c.release_base_from.new.map c.blocks_for-count.result c.in_ok-head.head c.args.keep front.list blocks released);
+      stored = subst at (sym all) (cuts c.args.map.now d d now.block_size stored [] c.requires.stored refl (SameExceptBlocks-refl [] d) c.release_base_from.new.map c.blocks_for-count.result c.in_ok-head.head c.args.keep front.list blocks released);
       count = refl;
       bytes = ap (λ x. list_bytes x now.block_size c.in_ok-head.head c.args.keep) all ∙ front.bytes;
     }

@@ -123,17 +123,17 @@ loop-index-preserved g c =
           ∙ back-pointer0 old (last + 1) c.args.head (index - 1) (let l = inv.low in omega arith);
       checked = more_checked old last c.args.head c.in_ok-first.first _ index c.loop-index.block _ _ (few_blocks c.geometry-geometry.result last c.if-last-geometry.false) (omega arith) inv.checked inv.at
           c.in_ok-before.ensures.checks.right.1
-          (subst (λ d. ArePointersCopied d c.loop-index.block index c.loop-index.words c.check_and_follow.new.words) inv.device.same c.in_ok-before.ensures.noted)
+          (subst (λ d. ArePointersCopied d c.loop-index.block index c.loop-index.words c.check_block.new.words) inv.device.same c.in_ok-before.ensures.noted)
           inv.low
           (omega (arith, c.in_ok-before.ensures.checks.right.0, ap (λ (k : Geometry). k.block_count) inv.device.geometry))
           c.if-block-first.false;
-      room = c.check_and_follow.auto.words ∙ inv.room;
+      room = c.check_block.auto.words ∙ inv.room;
       few = λ ok.
           let so_far = inv.few ok in
-          let one = c.check_and_follow.ensures.reads.few in
+          let one = c.check_block.ensures.reads.few in
           ⊎_elim
           (λ on.
-          let none = c.check_and_follow.ensures.reads.known on (c.in_ok-first.ensures.noted.blocks ok index (omega arith) inv.low on ∙ sym inv.at) in
+          let none = c.check_block.ensures.reads.known on (c.in_ok-first.ensures.noted.blocks ok index (omega arith) inv.low on ∙ sym inv.at) in
           let here = one_on last index (omega arith) on in
           omega arith)
           (λ off.
@@ -142,12 +142,12 @@ loop-index-preserved g c =
           (cases_lt (last - index) (2 ^ trailing_zeros w32 index));
       visited = visited_more _ _ _ c.visit.new.self bs index c.loop-index.block (index - 1 + 1) (omega (arith, size, inv.low)) inv.at (omega arith) inv.visited (search (rules, of_calls));
       callable = search (rules, of_calls);
-      device = read_on g.D.BlockDevice inv.device c.check_and_follow.ensures.reading.device;
+      device = read_on g.D.BlockDevice inv.device c.check_block.ensures.reading.device;
       quiet = quiet g.D.BlockDevice c.in_ok-before.ensures.reading.faults ∙ inv.quiet;
     }
 
-pub check_and_follow-requires : goal.check_and_follow-requires
-check_and_follow-requires g c = record {
+pub check_block-requires : goal.check_block-requires
+check_block-requires g c = record {
   some = search rules;
   order = search rules;
   room = search rules;

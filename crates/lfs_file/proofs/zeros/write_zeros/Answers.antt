@@ -1,5 +1,5 @@
 use Rattle.std.proofs.Common.{rules, ℕ, ◌≡◌, ◌+◌, ◌≤◌, List, length, take, replicate, refl, sym, ap, ◌∙◌, subst, arith}
-use Rattle.lfs_file.proofs.Common.{length-replicate, err_from_is_err_and, written_contents, growing_size, CanEndUnfinished, EndsInZeros, unfinished_bytes}
+use Rattle.lfs_file.proofs.Common.{length-replicate, err_from_is_err_and, written_contents, growing_size, CanEndUnfinished, AreZerosWritten, unfinished_bytes}
 use Rattle.std.proofs.lemmas.List.{take-replicate}
 use Rattle.lfs_device.specs.declared.geometry.Geometry.{Geometry}
 use Rattle.lfs_file.specs.HandWrites.{IsUnfinishedList}
@@ -96,7 +96,7 @@ returns-clause-zeroed g c =
     let inv = c.zeroing.invariant in
     let hand = c.args.hand.now in
     let all : c.zeroing.done ≡ c.args.count = (let few = inv.few in let test = c.zeroing-test.false in omega arith) in
-    subst (λ n. EndsInZeros c.zeroing.map (g.D.BlockDevice.blocks c.zeroing.dev) (g.D.BlockDevice.geometry c.args.dev.now) c.zeroing.hand n (growing_size hand.list + n)
+    subst (λ n. AreZerosWritten c.zeroing.map (g.D.BlockDevice.blocks c.zeroing.dev) (g.D.BlockDevice.geometry c.args.dev.now) c.zeroing.hand n (growing_size hand.list + n)
     (written_contents (unfinished_bytes (g.D.BlockDevice.blocks c.args.dev.now) hand) (growing_size hand.list) (replicate n 0))) all inv.zeroed
 
 pub returns-in_err-append_to_unfinished-clause-base : goal.returns-in_err-append_to_unfinished-clause-base

@@ -1,5 +1,5 @@
 use Rattle.std.proofs.Common.{◌≡◌, ◌≤◌, ◌+◌, ◌-◌, replicate}
-use Rattle.lfs_file.proofs.Common.{fault_count, written_contents, growing_size, CallKeepsUsed, KeepsUsedBlocks, EndsInZeros, unfinished_bytes, KeepsStoredBlocks}
+use Rattle.lfs_file.proofs.Common.{fault_count, written_contents, growing_size, CallKeepsUsed, KeepsUsedBlocks, AreZerosWritten, unfinished_bytes, KeepsStoredBlocks}
 use Rattle.lfs_file.proofs.zeros.write_zeros.Given as goal
 
 abbrev pub invariant-zeroing : goal.invariant-zeroing
@@ -8,7 +8,7 @@ invariant-zeroing g l =
     let shows = g.D.BlockDevice in
     record {
       few : l.done ≤ l.count;
-      zeroed : EndsInZeros l.map (shows.blocks l.dev) (shows.geometry l.fn.dev) l.hand l.done (growing_size was.list + l.done)
+      zeroed : AreZerosWritten l.map (shows.blocks l.dev) (shows.geometry l.fn.dev) l.hand l.done (growing_size was.list + l.done)
           (written_contents (unfinished_bytes (shows.blocks l.fn.dev) was) (growing_size was.list) (replicate l.done 0));
       base : KeepsStoredBlocks (shows.geometry l.fn.dev).block_size (shows.blocks l.fn.dev) was.base (shows.blocks l.dev) l.hand.base;
       map : KeepsUsedBlocks l.fn.map l.map;

@@ -1,6 +1,6 @@
 use Rattle.lfs_fs.proofs.OpenFiles.{lacks_is}
 use Rattle.std.proofs.Common.{◌∙◌, ap, sym}
-use Rattle.lfs_fs.proofs.Common.{lacks_free, tree_summary, files_view, session_view}
+use Rattle.lfs_fs.proofs.Common.{lacks_room, tree_summary, files_view, session_view}
 use Rattle.lfs_fs.proofs.Answered.{ready_later}
 use Rattle.lfs_model.specs.session.Operations as ops
 use Rattle.lfs_fs.proofs.Errors.{given_on}
@@ -14,7 +14,7 @@ returns g c =
     c.refuse_if.result c.refuse_if-2.result c.refuse_if-3.result c.refuse_if-4.result c.value_or_refusal.result
     c.if-has_failed.ensures c.if-not-is_writable.ensures c.in-Some.ensures c.in_ok-found.ensures.asks.asked c.in_ok-found.ensures.found
     c.name_len.ensures.len c.name_is_long.ensures c.refuse_if.ensures c.is_nothing.ensures c.refuse_if-2.ensures c.name_len-2.ensures.len c.new_entry_overflows.ensures c.refuse_if-3.ensures
-    (c.lacks_blocks.ensures ∙ lacks_is c.look_up.new.self c.args.files.now 4 (ready_later _ _ c.args.files.now (c.requires (sym c.if-has_failed.ensures)) c.in_ok-found.ensures.asks.asked) ∙ ap (λ z. lacks_free (tree_summary c.look_up.new.self) (files_view z c.args.files.now) 4) c.in_ok-found.ensures.asks.asked.same) c.refuse_if-4.ensures c.value_or_refusal.ensures
+    (c.lacks_blocks.ensures ∙ lacks_is c.look_up.new.self c.args.files.now 4 (ready_later _ _ c.args.files.now (c.requires (sym c.if-has_failed.ensures)) c.in_ok-found.ensures.asks.asked) ∙ ap (λ z. lacks_room (tree_summary c.look_up.new.self) (files_view z c.args.files.now) 4) c.in_ok-found.ensures.asks.asked.same) c.refuse_if-4.ensures c.value_or_refusal.ensures
 
 pub returns-in_err-found : goal.returns-in_err-found
 returns-in_err-found g c =

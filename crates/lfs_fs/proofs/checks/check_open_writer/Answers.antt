@@ -1,6 +1,6 @@
 use Rattle.std.proofs.Common.{◌∙◌, [], ap, refl, sym}
 use Rattle.lfs_model.specs.session.Operations as ops
-use Rattle.lfs_fs.proofs.Common.{lacks_free, pairs_gstate, TreeState, tree_summary, files_view, flags_view, session_view}
+use Rattle.lfs_fs.proofs.Common.{lacks_room, pairs_gstate, TreeState, tree_summary, files_view, flags_view, session_view}
 use Rattle.lfs_fs.proofs.Answered.{ready_later}
 use Rattle.lfs_fs.proofs.Errors.{given_on}
 use Rattle.lfs_fs.proofs.Late.{writer_late}
@@ -22,7 +22,7 @@ returns g c =
     c.name_len.ensures.len c.are_both_true.ensures c.name_is_long.ensures c.are_both_true-2.ensures c.refuse_if.ensures c.are_both_true-3.ensures c.refuse_if-2.ensures c.are_both_true-4.ensures c.refuse_if-3.ensures c.is_directory.ensures c.refuse_if-4.ensures
     (busy_for t fs c.args.bytes.now _ _ c.in-Some.ensures c.prevents_writer_at.ensures)
     c.refuse_if-5.ensures c.name_len-2.ensures.len c.new_entry_overflows.ensures c.are_both_true-5.ensures c.refuse_if-6.ensures
-    (c.lacks_blocks.ensures ∙ lacks_is c.look_up_creation.new.self fs 2 (ready_later _ _ fs (c.requires.ready (sym c.if-has_failed.ensures)) c.in_ok-found.ensures.asks.asked) ∙ ap (λ z. lacks_free (tree_summary c.look_up_creation.new.self) (files_view z fs) 2) c.in_ok-found.ensures.asks.asked.same)
+    (c.lacks_blocks.ensures ∙ lacks_is c.look_up_creation.new.self fs 2 (ready_later _ _ fs (c.requires.ready (sym c.if-has_failed.ensures)) c.in_ok-found.ensures.asks.asked) ∙ ap (λ z. lacks_room (tree_summary c.look_up_creation.new.self) (files_view z fs) 2) c.in_ok-found.ensures.asks.asked.same)
     c.are_both_true-6.ensures c.refuse_if-7.ensures c.lacks_truncate_room.ensures c.are_both_true-7.ensures c.refuse_if-8.ensures c.in_ok-found.ensures.target
     (λ settled. c.in_ok-found.ensures.handed_on (sym (ap (λ (t : TreeState). pairs_gstate t.pairs) c.in_ok-found.ensures.asks.asked.same) ∙ settled)) c.value_or_refusal.ensures
 

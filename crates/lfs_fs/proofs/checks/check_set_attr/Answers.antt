@@ -1,5 +1,5 @@
 use Rattle.std.proofs.Common.{◌∙◌, ap, arith, subst, sym}
-use Rattle.lfs_fs.proofs.Common.{node_attributes_of, lacks_free, IsAttributesSize, TreeState, tree_summary, shown_tree, files_view, session_view}
+use Rattle.lfs_fs.proofs.Common.{node_attributes_of, lacks_room, IsAttributesSize, TreeState, tree_summary, shown_tree, files_view, session_view}
 use Rattle.lfs_model.specs.session.Operations as ops
 use Rattle.lfs_fs.proofs.Answered.{ready_later}
 use Rattle.lfs_fs.proofs.Checked.{lookup_failed}
@@ -24,7 +24,7 @@ returns g c =
     c.if-has_failed.ensures c.if-not-is_writable.ensures c.in-Some.ensures c.in_ok-found.ensures.asks.asked asked c.in_ok-found.ensures.found
     c.in_ok-found.ensures.bytes.0 c.in_ok-taken.ensures.size c.replaced_attributes_size-size.ensures
     c.is_nothing.ensures c.refuse_if.ensures c.attribute_is_long.ensures c.refuse_if-2.ensures c.name_len.ensures.len c.entry_overflows.ensures c.refuse_if-3.ensures
-    (c.lacks_blocks.ensures ∙ lacks_is c.attributes_size.new.self c.args.files.now 2 (ready_later _ _ c.args.files.now (c.requires (sym c.if-has_failed.ensures)) asked) ∙ ap (λ z. lacks_free (tree_summary c.attributes_size.new.self) (files_view z c.args.files.now) 2) asked.same) c.refuse_if-4.ensures c.value_or_refusal.ensures
+    (c.lacks_blocks.ensures ∙ lacks_is c.attributes_size.new.self c.args.files.now 2 (ready_later _ _ c.args.files.now (c.requires (sym c.if-has_failed.ensures)) asked) ∙ ap (λ z. lacks_room (tree_summary c.attributes_size.new.self) (files_view z c.args.files.now) 2) asked.same) c.refuse_if-4.ensures c.value_or_refusal.ensures
 
 pub returns-in_err-found : goal.returns-in_err-found
 returns-in_err-found g c =

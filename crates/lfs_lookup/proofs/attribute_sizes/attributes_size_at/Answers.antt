@@ -6,27 +6,27 @@ use Rattle.lfs_lookup.proofs.AttributesPut.{none_sized}
 use Rattle.lfs_lookup.proofs.Reading.{answered, further}
 use Rattle.lfs_lookup.proofs.attribute_sizes.attributes_size_at.Goals as goal
 
-pub attributes_size_in-requires-clause-below : goal.attributes_size_in-requires-clause-below
-attributes_size_in-requires-clause-below g c =
+pub cached_attributes_size-requires-clause-below : goal.cached_attributes_size-requires-clause-below
+cached_attributes_size-requires-clause-below g c =
     let t = c.args.thread.now.kept in
     let f = slot_for t c.args.path.now c.in_ok-shown.shown c.in-Some.slot c.in_ok-shown.ensures.shown (sym c.spot_if_found.ensures ∙ c.in-Some.is) in
     subst (λ (ps : List Pair). c.in-Some.slot.pair < length ps) (sym c.look_up_path.ensures.reading.only.pairs) f.below
 
-pub attributes_size_in-requires-clause-cached_log : goal.attributes_size_in-requires-clause-cached_log
-attributes_size_in-requires-clause-cached_log g c =
+pub cached_attributes_size-requires-clause-cached_log : goal.cached_attributes_size-requires-clause-cached_log
+cached_attributes_size-requires-clause-cached_log g c =
     slot_is_cached c.look_up_path.new.thread c.in_ok-shown.shown (Some c.in-Some.slot) c.in_ok-shown.ensures.cached_log (sym (sym c.spot_if_found.ensures ∙ c.in-Some.is))
 
 pub returns-clause-is : goal.returns-clause-is
 returns-clause-is g c =
     let t = c.args.thread.now.kept in
     let f = slot_for t c.args.path.now c.in_ok-shown.shown c.in-Some.slot c.in_ok-shown.ensures.shown (sym c.spot_if_found.ensures ∙ c.in-Some.is) in
-    subst (λ a. IfOk c.attributes_size_in.result (IsAttributesSize a)) f.attributes
-    (c.attributes_size_in.ensures.is f.held
+    subst (λ a. IfOk c.cached_attributes_size.result (IsAttributesSize a)) f.attributes
+    (c.cached_attributes_size.ensures.is f.held
     (subst (λ (ps : List Pair). slice_get (slice_index_or ps c.in-Some.slot.pair empty_anchor).content.slots c.in-Some.slot.id ≡ Some f.held) (sym c.look_up_path.ensures.reading.only.pairs) f.there))
 
 pub returns-clause-reading : goal.returns-clause-reading
 returns-clause-reading g c =
-    further _ _ _ c.attributes_size_in.result (answered _ _ c.look_up_path.result c.in_ok-shown.shown c.in_ok-shown.was c.look_up_path.ensures.reading) c.attributes_size_in.ensures.reading
+    further _ _ _ c.cached_attributes_size.result (answered _ _ c.look_up_path.result c.in_ok-shown.shown c.in_ok-shown.was c.look_up_path.ensures.reading) c.cached_attributes_size.ensures.reading
 
 pub returns-in_default-clause-is : goal.returns-in_default-clause-is
 returns-in_default-clause-is g c =
@@ -36,15 +36,15 @@ pub returns-clause-reads : goal.returns-clause-reads
 returns-clause-reads g c = record {
   few = (
       let f = c.look_up_path.ensures.reads.few in
-      let e = ap (λ (t : KeptThread). read_count t.history) c.attributes_size_in.ensures.no_call in
+      let e = ap (λ (t : KeptThread). read_count t.history) c.cached_attributes_size.ensures.no_call in
       omega (arith, f, e)
       );
   halves = λ settled slots. (
       let k = c.look_up_path.ensures.reads.halves settled slots in
-      let e = ap (λ (t : KeptThread). read_count t.history) c.attributes_size_in.ensures.no_call in
+      let e = ap (λ (t : KeptThread). read_count t.history) c.cached_attributes_size.ensures.no_call in
       omega (arith, k, e)
       );
-  kept = λ there. ap (λ (t : KeptThread). read_count t.history) c.attributes_size_in.ensures.no_call ∙ c.look_up_path.ensures.reads.loads.none there;
+  kept = λ there. ap (λ (t : KeptThread). read_count t.history) c.cached_attributes_size.ensures.no_call ∙ c.look_up_path.ensures.reads.loads.none there;
 }
 
 pub returns-in_err-shown-clause-reads : goal.returns-in_err-shown-clause-reads

@@ -1,5 +1,5 @@
 use Rattle.std.proofs.Common.{◌∙◌, arith, refl}
-use Rattle.lfs_lookup.proofs.Common.{err_from_is_err_and, pair_count_at}
+use Rattle.lfs_lookup.proofs.Common.{err_from_is_err_and, directory_pair_count}
 use Rattle.lfs_lookup.proofs.AtPaths.{sized_on}
 use Rattle.lfs_lookup.proofs.Reading.{answered, answers, both, further, passed}
 use Rattle.lfs_lookup.proofs.ShownFindings.{few_from, few_own, first_at, first_within, found_shown, has_beneath, in_entry}
@@ -44,7 +44,7 @@ returns-clause-reading g c =
 pub returns-in_err-shown-clause-few : goal.returns-in_err-shown-clause-few
 returns-in_err-shown-clause-few g c =
     let f = c.look_up_path.ensures.reads.few in
-    let s = few_own (pair_count_at c.args.thread.now.kept.pairs) c.args.path.now in
+    let s = few_own (directory_pair_count c.args.thread.now.kept.pairs) c.args.path.now in
     omega (arith, f, s)
 
 pub returns-in_err-has_entries-clause-few : goal.returns-in_err-has_entries-clause-few
@@ -54,7 +54,7 @@ returns-in_err-has_entries-clause-few g c =
     let n = c.has_entries.ensures.few in
     let k = few_from t c.args.path.now c.requires.accepted c.look_up_path.new.thread.kept.pairs c.first_pair_found.result c.look_up_path.ensures.reading.only.pairs
     (first_at t c.args.path.now c.requires.accepted c.args.root c.in_ok-shown.shown c.first_pair_found.result c.requires.root c.in_ok-shown.ensures.shown c.first_pair_found.ensures) in
-    let s = few_own (pair_count_at t.pairs) c.args.path.now in
+    let s = few_own (directory_pair_count t.pairs) c.args.path.now in
     omega (arith, f, n, k, s)
 
 pub returns-clause-few : goal.returns-clause-few
@@ -64,5 +64,5 @@ returns-clause-few g c =
     let n = c.has_entries.ensures.few in
     let k = few_from t c.args.path.now c.requires.accepted c.look_up_path.new.thread.kept.pairs c.first_pair_found.result c.look_up_path.ensures.reading.only.pairs
     (first_at t c.args.path.now c.requires.accepted c.args.root c.in_ok-shown.shown c.first_pair_found.result c.requires.root c.in_ok-shown.ensures.shown c.first_pair_found.ensures) in
-    let s = few_own (pair_count_at t.pairs) c.args.path.now in
+    let s = few_own (directory_pair_count t.pairs) c.args.path.now in
     omega (arith, f, n, k, s)

@@ -1,5 +1,5 @@
 use Rattle.std.proofs.Common.{◌<◌, ◌+◌, ◌∙◌, Err, IfSome, List, None, Some, ap, cond, length, refl, slice_index_or, subst, arith}
-use Rattle.lfs_lookup.proofs.Common.{map-append, err_from_is_err_and, Pair, is_hard_tail, empty_anchor, thread_pair, directory_item_view, directory_items_view}
+use Rattle.lfs_lookup.proofs.Common.{map-append, err_from_is_err_and, Pair, is_hard_tail, empty_anchor, thread_pair, item_view, items_view}
 use Rattle.lfs_lookup.proofs.Directories.{length_on, length_some, list_on, run_next}
 use Rattle.lfs_lookup.proofs.Reading.{answered, both, further, lacks_memory, passed}
 use Rattle.lfs_lookup.proofs.RecentBlocks.{keeps_on, none_on}
@@ -69,7 +69,7 @@ loop-pair-preserved g c =
       below = subst (λ (ps : List Pair). IfSome c.next-pair.result (λ pair. pair < length ps)) read.only.pairs c.next-pair.ensures.below;
       items =
           list_on c.args.thread.now.kept.pairs c.loop-pair.thread.kept.pairs c.args.first c.in-Some.index empty_anchor c.loop-pair.pair c.next-pair.result
-          (directory_items_view c.loop-pair.items.items) (directory_items_view c.in_ok-more.more.items) (directory_items_view c.append.new.self.items) inv.read.only.pairs c.in-Some.is
+          (items_view c.loop-pair.items.items) (items_view c.in_ok-more.more.items) (items_view c.append.new.self.items) inv.read.only.pairs c.in-Some.is
           within c.in_ok-more.ensures.items next
-          (ap directory_items_view c.in_ok-append.ensures.items ∙ map-append directory_item_view c.loop-pair.items.items c.in_ok-more.more.items) inv.items;
+          (ap items_view c.in_ok-append.ensures.items ∙ map-append item_view c.loop-pair.items.items c.in_ok-more.more.items) inv.items;
     }

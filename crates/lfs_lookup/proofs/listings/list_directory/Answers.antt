@@ -1,5 +1,5 @@
 use Rattle.std.proofs.Common.{Err, ap, map, refl, ◌∙◌, arith}
-use Rattle.lfs_lookup.proofs.Common.{err_from_is_err_and, pair_count_at, listed_item_view, directory_items_view}
+use Rattle.lfs_lookup.proofs.Common.{err_from_is_err_and, directory_pair_count, listed_item_view, items_view}
 use Rattle.lfs_lookup.proofs.AtPaths.{sized_on}
 use Rattle.lfs_lookup.proofs.ListAtItems.{bytes_on}
 use Rattle.lfs_lookup.proofs.Reading.{answered, answers, both, further, lacks_memory, passed}
@@ -11,7 +11,7 @@ use Rattle.lfs_lookup.proofs.listings.list_directory.Goals as goal
 pub returns-in_err-shown-clause-few : goal.returns-in_err-shown-clause-few
 returns-in_err-shown-clause-few g c =
     let f = c.look_up_path.ensures.reads.few in
-    let s = few_own (pair_count_at c.args.thread.now.kept.pairs) c.args.path.now in
+    let s = few_own (directory_pair_count c.args.thread.now.kept.pairs) c.args.path.now in
     omega (arith, f, s)
 
 pub items_if_directory-requires-clause-below : goal.items_if_directory-requires-clause-below
@@ -33,14 +33,14 @@ returns-in_err-items-clause-few g c =
     let n = c.items_if_directory.ensures.few in
     let k = few_from t c.args.path.now c.requires.accepted c.look_up_path.new.thread.kept.pairs c.first_pair_found.result c.look_up_path.ensures.reading.only.pairs
     (first_at t c.args.path.now c.requires.accepted c.args.root c.in_ok-shown.shown c.first_pair_found.result c.requires.root c.in_ok-shown.ensures.shown c.first_pair_found.ensures) in
-    let s = few_own (pair_count_at t.pairs) c.args.path.now in
+    let s = few_own (directory_pair_count t.pairs) c.args.path.now in
     omega (arith, f, n, k, s)
 
 pub to_list_items-requires : goal.to_list_items-requires
 to_list_items-requires g c =
     let t = c.args.thread.now.kept in
     let device = c.device-device.result.now in
-    short_from t c.args.path.now c.requires.accepted c.look_up_path.new.thread.kept.pairs c.first_pair_found.result (directory_items_view c.in_ok-items.items.items) (directory_items_view c.sort_shorter_first.new.items.items) c.look_up_path.ensures.reading.only.pairs
+    short_from t c.args.path.now c.requires.accepted c.look_up_path.new.thread.kept.pairs c.first_pair_found.result (items_view c.in_ok-items.items.items) (items_view c.sort_shorter_first.new.items.items) c.look_up_path.ensures.reading.only.pairs
     (first_at t c.args.path.now c.requires.accepted c.args.root c.in_ok-shown.shown c.first_pair_found.result c.requires.root c.in_ok-shown.ensures.shown c.first_pair_found.ensures) c.in_ok-items.ensures.items c.sort_shorter_first.ensures
     (bytes_on g.D.BlockDevice device t.disk (c.device-device.ensures.disk ∙ c.items_if_directory.ensures.reading.only.disk ∙ c.look_up_path.ensures.reading.only.disk) (g.met.D.BlockDevice.bytes device))
 
@@ -57,7 +57,7 @@ returns-in_err-listed-clause-few g c =
     let n = c.items_if_directory.ensures.few in
     let k = few_from t c.args.path.now c.requires.accepted c.look_up_path.new.thread.kept.pairs c.first_pair_found.result c.look_up_path.ensures.reading.only.pairs
     (first_at t c.args.path.now c.requires.accepted c.args.root c.in_ok-shown.shown c.first_pair_found.result c.requires.root c.in_ok-shown.ensures.shown c.first_pair_found.ensures) in
-    let s = few_own (pair_count_at t.pairs) c.args.path.now in
+    let s = few_own (directory_pair_count t.pairs) c.args.path.now in
     omega (arith, f, n, k, s)
 
 pub finding_shown-requires : goal.finding_shown-requires
@@ -76,7 +76,7 @@ pub returns-clause-items : goal.returns-clause-items
 returns-clause-items g c =
     let t = c.args.thread.now.kept in
     let device = c.device-device.result.now in
-    listed_from t c.args.path.now c.requires.accepted c.look_up_path.new.thread.kept.pairs c.first_pair_found.result (directory_items_view c.in_ok-items.items.items) (directory_items_view c.sort_shorter_first.new.items.items) (map listed_item_view c.in_ok-listed.listed.items) c.look_up_path.ensures.reading.only.pairs
+    listed_from t c.args.path.now c.requires.accepted c.look_up_path.new.thread.kept.pairs c.first_pair_found.result (items_view c.in_ok-items.items.items) (items_view c.sort_shorter_first.new.items.items) (map listed_item_view c.in_ok-listed.listed.items) c.look_up_path.ensures.reading.only.pairs
     (first_at t c.args.path.now c.requires.accepted c.args.root c.in_ok-shown.shown c.first_pair_found.result c.requires.root c.in_ok-shown.ensures.shown c.first_pair_found.ensures) c.in_ok-items.ensures.items c.sort_shorter_first.ensures
     (sized_on g.D.BlockDevice device t.disk (g.D.BlockDevice.geometry device).block_count (c.device-device.ensures.disk ∙ c.items_if_directory.ensures.reading.only.disk ∙ c.look_up_path.ensures.reading.only.disk)
     (g.D.BlockDevice.geometry device).valid.no_smaller (g.met.D.BlockDevice.shape device))
@@ -89,7 +89,7 @@ returns-clause-few g c =
     let n = c.items_if_directory.ensures.few in
     let k = few_from t c.args.path.now c.requires.accepted c.look_up_path.new.thread.kept.pairs c.first_pair_found.result c.look_up_path.ensures.reading.only.pairs
     (first_at t c.args.path.now c.requires.accepted c.args.root c.in_ok-shown.shown c.first_pair_found.result c.requires.root c.in_ok-shown.ensures.shown c.first_pair_found.ensures) in
-    let s = few_own (pair_count_at t.pairs) c.args.path.now in
+    let s = few_own (directory_pair_count t.pairs) c.args.path.now in
     omega (arith, f, n, k, s)
 
 pub returns-clause-reading : goal.returns-clause-reading

@@ -1,5 +1,5 @@
 use Rattle.std.proofs.Common.{◌≡◌, None, ap, map, take, subst, ◌∙◌, arith, refl}
-use Rattle.lfs_lookup.proofs.Common.{err_from_is_err_and, length-map, ancestor_paths, pair_count_at, NoEnt, NotDir, IsParentAt, parent_refusal}
+use Rattle.lfs_lookup.proofs.Common.{err_from_is_err_and, length-map, ancestor_paths, directory_pair_count, NoEnt, NotDir, IsParentAt, parent_refusal}
 use Rattle.std.specs.Prelude.{sum_by}
 use Rattle.lfs_lookup.specs.declared.paths.Parent.TheVariants as parent
 use Rattle.lfs_lookup.proofs.ReadOnly.{only_read, reported_on}
@@ -179,7 +179,7 @@ returns-clause-reads g c = record {
       let past = c.loop-name-test.false in
       let l = length-map c.args.path.now (λ name. name.now) in
       let few = c.loop-name.invariant.descended.few in
-      let whole = ap (λ p. sum_by (pair_count_at c.args.thread.now.kept.pairs) (ancestor_paths p)) (take_whole c.loop-name.name-index (map (λ name. name.now) c.args.path.now) (omega (arith, past, l))) in
+      let whole = ap (λ p. sum_by (directory_pair_count c.args.thread.now.kept.pairs) (ancestor_paths p)) (take_whole c.loop-name.name-index (map (λ name. name.now) c.args.path.now) (omega (arith, past, l))) in
       omega (arith, few, whole)
       );
   halves = λ none slots. (

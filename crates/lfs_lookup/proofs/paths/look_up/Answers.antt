@@ -1,5 +1,5 @@
 use Rattle.std.proofs.Common.{refl, subst, arith}
-use Rattle.lfs_lookup.proofs.Common.{pair_count_at, ParentReached}
+use Rattle.lfs_lookup.proofs.Common.{directory_pair_count, ParentReached}
 use Rattle.lfs_lookup.proofs.Reading.{answered, further}
 use Rattle.lfs_lookup.proofs.Descended.{names_are, sum_is, looked_in, leads_past_file, leads_past_nothing, few_same}
 use Rattle.lfs_lookup.proofs.Entered.{hiding_none}
@@ -9,7 +9,7 @@ use Rattle.lfs_lookup.proofs.paths.look_up.Goals as goal
 pub returns-in_err-parent-clause-few : goal.returns-in_err-parent-clause-few
 returns-in_err-parent-clause-few g c =
     let is = names_are (λ name. name.now) c.args.path.now _ _ c.in-Some.ensures.cases.0 in
-    let s = sum_is (pair_count_at c.args.thread.now.kept.pairs) _ _ _ is in
+    let s = sum_is (directory_pair_count c.args.thread.now.kept.pairs) _ _ _ is in
     let few = c.find_directory.ensures.reads.few in
     omega (arith, s, few)
 
@@ -25,7 +25,7 @@ returns-in-Directory-clause-few g c =
     let t = c.args.thread.now.kept in
     let is = names_are (λ name. name.now) c.args.path.now _ _ c.in-Some.ensures.cases.0 in
     let d = subst (ParentReached t _) c.in-Directory.is c.in_ok-parent.ensures.answer in
-    let s = sum_is (pair_count_at c.args.thread.now.kept.pairs) _ _ _ is in
+    let s = sum_is (directory_pair_count c.args.thread.now.kept.pairs) _ _ _ is in
     let few = c.find_directory.ensures.reads.few in
     let more = c.search_directory.ensures.few in
     let same = few_same t c.find_directory.new.thread.kept c.requires.can.settled.accepted c.find_directory.ensures.reading.only _ c.in-Directory.parent d.begins in
@@ -44,7 +44,7 @@ returns-in-File-clause-answer g c =
 pub returns-in-File-clause-few : goal.returns-in-File-clause-few
 returns-in-File-clause-few g c =
     let is = names_are (λ name. name.now) c.args.path.now _ _ c.in-Some.ensures.cases.0 in
-    let s = sum_is (pair_count_at c.args.thread.now.kept.pairs) _ _ _ is in
+    let s = sum_is (directory_pair_count c.args.thread.now.kept.pairs) _ _ _ is in
     let few = c.find_directory.ensures.reads.few in
     omega (arith, s, few)
 
@@ -57,7 +57,7 @@ returns-in-Nothing-clause-answer g c =
 pub returns-in-Nothing-clause-few : goal.returns-in-Nothing-clause-few
 returns-in-Nothing-clause-few g c =
     let is = names_are (λ name. name.now) c.args.path.now _ _ c.in-Some.ensures.cases.0 in
-    let s = sum_is (pair_count_at c.args.thread.now.kept.pairs) _ _ _ is in
+    let s = sum_is (directory_pair_count c.args.thread.now.kept.pairs) _ _ _ is in
     let few = c.find_directory.ensures.reads.few in
     omega (arith, s, few)
 

@@ -1,6 +1,6 @@
 use Rattle.std.proofs.Common.{refl, ℕ, ◌≡◌, ◌++◌, ◌∷◌, [], Option, subst, false, rules}
 use Rattle.std.specs.Prelude.{IfSome}
-use Rattle.lfs_lookup.proofs.Common.{AllByRecursion, IsPairAt, array_address, same_pair, IsStructEntry, FindsUnhidden, err_from_is_err_and}
+use Rattle.lfs_lookup.proofs.Common.{AllByRecursion, IsPairAt, address_view, same_pair, IsStructEntry, FindsUnhidden, err_from_is_err_and}
 use Rattle.lfs_lookup.proofs.Entered.{leads_by, shown_slot, no_slot, is_somewhere, some_there}
 use Rattle.lfs_lookup.proofs.RecentBlocks.{along_as, on_ok, passes_none}
 use Rattle.lfs_lookup.proofs.InOrder.{in_order_if}
@@ -13,10 +13,10 @@ unwrap-first-requires g c =
     let shows = subst (λ e. IsStructEntry e a.stands.stands.slot.struct) c.in-Some-default-Directory.field-0-1-is a.shows in
     let path = c.requires.reached.0 in
     let slot = shown_slot t c.args.moved c.requires.can.hiding path c.args.parent c.requires.reached.1 c.args.name.now _ _ a in
-    let leads = leads_by t (path ++ c.args.name.now ∷ []) a.stands.stands.slot slot (array_address c.in-Some-default-Directory.at) shows in
+    let leads = leads_by t (path ++ c.args.name.now ∷ []) a.stands.stands.slot slot (address_view c.in-Some-default-Directory.at) shows in
     some_there c.number_at_address.result _ (c.number_at_address.ensures.nowhere)
-    (λ none. is_somewhere t c.requires.can.hiding.accepted (path ++ c.args.name.now ∷ []) (array_address c.in-Some-default-Directory.at) leads
-    (subst (AllByRecursion (λ p. same_pair p.at (array_address c.in-Some-default-Directory.at) ≡ false)) c.find_unhidden.ensures.reading.only.pairs none))
+    (λ none. is_somewhere t c.requires.can.hiding.accepted (path ++ c.args.name.now ∷ []) (address_view c.in-Some-default-Directory.at) leads
+    (subst (AllByRecursion (λ p. same_pair p.at (address_view c.in-Some-default-Directory.at) ≡ false)) c.find_unhidden.ensures.reading.only.pairs none))
 
 pub returns-in-Some-default-Directory-clause-answer : goal.returns-in-Some-default-Directory-clause-answer
 returns-in-Some-default-Directory-clause-answer g c above on =
@@ -26,10 +26,10 @@ returns-in-Some-default-Directory-clause-answer g c above on =
     let slot = shown_slot t c.args.moved c.requires.can.hiding above c.args.parent on c.args.name.now _ _ a in (
       record { above = above; name = c.args.name.now; is = refl; first = c.args.parent; on = on; stands = a.stands; kept = a.kept; slot = slot },
       record {
-        at = array_address c.in-Some-default-Directory.at;
-        leads = leads_by t (above ++ c.args.name.now ∷ []) a.stands.stands.slot slot (array_address c.in-Some-default-Directory.at) shows;
-        begins = subst (λ ps. IsPairAt ps (array_address c.in-Some-default-Directory.at) c.unwrap-first.result) c.find_unhidden.ensures.reading.only.pairs
-            (subst (λ (o : Option ℕ). IfSome o (IsPairAt c.find_unhidden.new.thread.kept.pairs (array_address c.in-Some-default-Directory.at))) c.unwrap-first.ensures c.number_at_address.ensures.there);
+        at = address_view c.in-Some-default-Directory.at;
+        leads = leads_by t (above ++ c.args.name.now ∷ []) a.stands.stands.slot slot (address_view c.in-Some-default-Directory.at) shows;
+        begins = subst (λ ps. IsPairAt ps (address_view c.in-Some-default-Directory.at) c.unwrap-first.result) c.find_unhidden.ensures.reading.only.pairs
+            (subst (λ (o : Option ℕ). IfSome o (IsPairAt c.find_unhidden.new.thread.kept.pairs (address_view c.in-Some-default-Directory.at))) c.unwrap-first.ensures c.number_at_address.ensures.there);
       },
     )
 

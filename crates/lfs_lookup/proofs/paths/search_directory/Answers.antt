@@ -1,6 +1,6 @@
 use Rattle.std.proofs.Common.{ℕ, ◌≡◌, ◌++◌, ◌∷◌, [], Option, subst, false}
 use Rattle.std.specs.Prelude.{IfSome}
-use Rattle.lfs_lookup.proofs.Common.{AllByRecursion, IsPairAt, IsPlaceOf, array_address, same_pair, IsStructEntry, FindsInDirectory}
+use Rattle.lfs_lookup.proofs.Common.{AllByRecursion, IsPairAt, IsPlaceOf, address_view, same_pair, IsStructEntry, FindsInDirectory}
 use Rattle.lfs_lookup.proofs.Entered.{plain_on, slot_is, leads_to, absent_is, is_somewhere, some_there}
 use Rattle.lfs_lookup.proofs.paths.search_directory.Goals as goal
 
@@ -13,10 +13,10 @@ unwrap-first-requires g c =
     let spot = c.in-Found-default-Directory.slot in
     let a = subst (FindsInDirectory t.disk.order t.pairs c.args.parent c.args.name.now) c.in-Found-default-Directory.is c.in_ok-slot.ensures.answer in
     let (s, shows) = subst (λ e. (s : IsPlaceOf t.pairs c.args.parent c.args.name.now spot.pair spot.id) × IsStructEntry e s.stands.slot.struct) c.in-Found-default-Directory.field-1-is a in
-    let leads = leads_to t c.requires.can.settled c.requires.reached.0 c.args.parent c.requires.reached.1 c.args.name.now spot.pair spot.id s (array_address c.in-Found-default-Directory.at) shows in
+    let leads = leads_to t c.requires.can.settled c.requires.reached.0 c.args.parent c.requires.reached.1 c.args.name.now spot.pair spot.id s (address_view c.in-Found-default-Directory.at) shows in
     some_there c.number_at_address.result _ (c.number_at_address.ensures.nowhere)
-    (λ none. is_somewhere t c.requires.can.settled.accepted (c.requires.reached.0 ++ c.args.name.now ∷ []) (array_address c.in-Found-default-Directory.at) leads
-    (subst (AllByRecursion (λ p. same_pair p.at (array_address c.in-Found-default-Directory.at) ≡ false)) c.find_name.ensures.reading.only.pairs none))
+    (λ none. is_somewhere t c.requires.can.settled.accepted (c.requires.reached.0 ++ c.args.name.now ∷ []) (address_view c.in-Found-default-Directory.at) leads
+    (subst (AllByRecursion (λ p. same_pair p.at (address_view c.in-Found-default-Directory.at) ≡ false)) c.find_name.ensures.reading.only.pairs none))
 
 pub returns-in-Found-default-Directory-clause-answer : goal.returns-in-Found-default-Directory-clause-answer
 returns-in-Found-default-Directory-clause-answer g c above on =
@@ -26,10 +26,10 @@ returns-in-Found-default-Directory-clause-answer g c above on =
     let (s, shows) = subst (λ e. (s : IsPlaceOf t.pairs c.args.parent c.args.name.now spot.pair spot.id) × IsStructEntry e s.stands.slot.struct) c.in-Found-default-Directory.field-1-is a in (
       record { on = on; stands = s; slot = slot_is t c.requires.can.settled above c.args.parent on c.args.name.now spot.pair spot.id s },
       record {
-        at = array_address c.in-Found-default-Directory.at;
-        leads = leads_to t c.requires.can.settled above c.args.parent on c.args.name.now spot.pair spot.id s (array_address c.in-Found-default-Directory.at) shows;
-        begins = subst (λ ps. IsPairAt ps (array_address c.in-Found-default-Directory.at) c.unwrap-first.result) c.find_name.ensures.reading.only.pairs
-            (subst (λ (o : Option ℕ). IfSome o (IsPairAt c.find_name.new.thread.kept.pairs (array_address c.in-Found-default-Directory.at))) c.unwrap-first.ensures c.number_at_address.ensures.there);
+        at = address_view c.in-Found-default-Directory.at;
+        leads = leads_to t c.requires.can.settled above c.args.parent on c.args.name.now spot.pair spot.id s (address_view c.in-Found-default-Directory.at) shows;
+        begins = subst (λ ps. IsPairAt ps (address_view c.in-Found-default-Directory.at) c.unwrap-first.result) c.find_name.ensures.reading.only.pairs
+            (subst (λ (o : Option ℕ). IfSome o (IsPairAt c.find_name.new.thread.kept.pairs (address_view c.in-Found-default-Directory.at))) c.unwrap-first.ensures c.number_at_address.ensures.there);
       },
     )
 

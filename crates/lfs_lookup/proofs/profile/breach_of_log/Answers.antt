@@ -1,6 +1,6 @@
 use Rattle.std.proofs.Common.{◌≡◌, ◌≢◌, ◌∙◌, inl, inr, true, List, [], ◌∷◌, length, map, refl, sym, ap, subst, arith}
 use Rattle.std.specs.Prelude.{All}
-use Rattle.lfs_lookup.proofs.Common.{length-map, same_Some, RawContent, complete_slots, IsWellFormed, IsWritableSlot, FitsInPair, Slot, array_address, Pair, logged, complete_length, completed_parts, content_view, slot_view, BreaksPair, BreaksSome, IsWritablePair}
+use Rattle.lfs_lookup.proofs.Common.{length-map, same_Some, RawContent, complete_slots, IsWellFormed, IsWritableSlot, FitsInPair, Slot, address_view, Pair, logged, complete_length, completed_parts, content_view, slot_view, BreaksPair, BreaksSlots, IsWritablePair}
 use Rattle.lfs_model.specs.layers.WrittenContent.{RawContentFits}
 use Rattle.lfs_model.specs.declared.breaches.ProfileBreach.{ProfileBreach}
 use Rattle.lfs_model.specs.declared.breaches.ProfileBreach.TheVariants as breach
@@ -27,7 +27,7 @@ returns-clause-is c content is shaped =
     let size = c.args.geometry.now.block_size in
     let page = c.args.geometry.now.page in
     let follows = c.args.follows in
-    let p : Pair = record { at = array_address c.args.pair; content = content } in
+    let p : Pair = record { at = address_view c.args.pair; content = content } in
     let read = c.in_ok-content.ensures.content in
     let same = same_Some (content_view c.in_ok-content.content) is.raw (sym read ∙ is.log) in
     let sound = subst IsWellFormed same (logged c.args.log.now (content_view c.in_ok-content.content) is.bytes read) in
@@ -45,7 +45,7 @@ returns-clause-is c content is shaped =
     let two = c.breach_to_tell.result in
     told (Slots × Filled) (FitsInPair size page content) (IsWritablePair profile size page follows content) Breaks two large c.breach_to_tell-2.result c.breach_to_tell-2.ensures.none c.breach_to_tell-2.ensures.either
     (told Slots Filled (Slots × Filled) Breaks of_slots empty two c.breach_to_tell.ensures.none c.breach_to_tell.ensures.either
-    (weaker Slots Slots (BreaksSome profile size page p.at content.slots) Breaks of_slots (c.breach_of_slots-of_slots.ensures content.slots all shaped) (λ h. h) (λ b h. inl h))
+    (weaker Slots Slots (BreaksSlots profile size page p.at content.slots) Breaks of_slots (c.breach_of_slots-of_slots.ensures content.slots all shaped) (λ h. h) (λ b h. inl h))
     (weaker (follows ≡ true → ¬ (length c.deref-2.result.now ≡ 0)) Filled (λ b. (b ≡ breach.EmptyPair c.args.pair) × (follows ≡ true) × (length c.deref-2.result.now ≡ 0)) Breaks empty c.breach_if_empty-empty.ensures
     (λ filled f none. filled f (long ∙ ap length none)) (λ b h. inr (subst (BreaksWhole size page follows p) (sym h.0) (refl, h.1, no_slots content.slots (sym long ∙ h.2)))))
     (λ h f. (h, f)))

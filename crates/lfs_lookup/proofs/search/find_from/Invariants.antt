@@ -1,5 +1,5 @@
 use Rattle.std.proofs.Common.{◌<◌, ◌≤◌, ◌+◌, ◌-◌, ◌^◌, length, drop}
-use Rattle.lfs_lookup.proofs.Common.{read_count, joined_count, HaveSlots, halving_count, joined_pairs}
+use Rattle.lfs_lookup.proofs.Common.{read_count, joined_count, EachHasSlot, halving_count, joined_pairs}
 use Rattle.lfs_lookup.proofs.Halved.{IsHigh, IsLow}
 use Rattle.lfs_lookup.proofs.HalvedReads.{HasHalved, HasLoaded}
 use Rattle.lfs_lookup.proofs.Reading.{HasRead}
@@ -14,7 +14,7 @@ invariant-loop-low g l = record {
   within : l.high ≤ length l.fn.thread.kept.pairs;
   fits : l.high < 2 ^ 64;
   few : read_count l.thread.kept.history + (l.high - l.low) ≤ read_count l.fn.thread.kept.history + joined_count (drop l.fn.first l.fn.thread.kept.pairs);
-  halves : HaveSlots (joined_pairs (drop l.fn.first l.fn.thread.kept.pairs))
+  halves : EachHasSlot (joined_pairs (drop l.fn.first l.fn.thread.kept.pairs))
       → HasHalved (halving_count (joined_count (drop l.fn.first l.fn.thread.kept.pairs))) (read_count l.fn.thread.kept.history) (read_count l.thread.kept.history) (l.high - l.low);
   loaded : HasLoaded (joined_pairs (drop l.fn.first l.fn.thread.kept.pairs)) l.fn.first l.low l.high l.fn.thread l.thread;
   lesser : IsLow l.fn.thread.kept.disk.order (joined_pairs (drop l.fn.first l.fn.thread.kept.pairs)) l.fn.first l.fn.name l.spot.pair l.spot.id l.low;

@@ -1,5 +1,5 @@
 use Rattle.std.proofs.Common.{ℕ, List, sym, ap, ◌∙◌, subst}
-use Rattle.lfs_lookup.proofs.Common.{IsAllowedPart, read_struct, logged, IsStructEntry}
+use Rattle.lfs_lookup.proofs.Common.{IsAllowedPart, decoded_struct, logged, IsStructEntry}
 use Rattle.lfs_tag.specs.FindView.{IsNameLookup}
 use Rattle.lfs_lookup.proofs.NamedSlots.{stands_in, kept_in, belongs_in, absent_in, read_there, some_part, part_is}
 use Rattle.lfs_lookup.proofs.search.find_in_log.Goals as goal
@@ -28,7 +28,7 @@ returns-in-Found c content is =
     let same = part_is c.struct_of_slot.result c.unwrap-structure.result _ r.part c.unwrap-structure.ensures (c.struct_of_slot.ensures.held is.raw is.log) r.is in
     record {
       stands = s;
-      shows = subst (IsStructEntry c.entry_of_struct.result) (ap (λ (p : ℕ × List ℕ). read_struct p.0 p.1) same ∙ sym r.struct) c.entry_of_struct.ensures;
+      shows = subst (IsStructEntry c.entry_of_struct.result) (ap (λ (p : ℕ × List ℕ). decoded_struct p.0 p.1) same ∙ sym r.struct) c.entry_of_struct.ensures;
       kept = kept_in c.args.order content c.args.name.now c.args.skip is.raw sound is.complete c.in-Found.id (subst (IsNameLookup c.args.order c.args.name.now c.args.skip is.raw.slots) c.in-Found.is (c.find.ensures is.raw is.log is.short));
     }
 

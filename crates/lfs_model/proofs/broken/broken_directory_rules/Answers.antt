@@ -4,7 +4,7 @@ use Rattle.lfs_model.specs.format.Crc.{crc_of, checksum_after_bits}
 use Rattle.lfs_model.specs.format.Log.{chain_of, chain_within, commit_within, entry_at, closes}
 use Rattle.lfs_model.proofs.Common.{Slot, zero_gstate, Pair}
 use Rattle.lfs_model.specs.declared.order.NameOrder.TheVariants.{ShorterFirst}
-use Rattle.lfs_model.specs.examples.Violations.{dot_name_image, falling_names_image, joined_branches_image, loose_branch_image, unnamed_pair_image}
+use Rattle.lfs_model.specs.examples.Violations.{dot_name_image, falling_names_image, shared_branch_image, loose_branch_image, unnamed_pair_image}
 use Rattle.lfs_model.proofs.BrokenImages.{is_thread, no_directory_there, no_entry, no_path_leads, no_rise, paths_differ}
 use Rattle.lfs_model.proofs.Examples.{file, folder, large_superblock, pair, soft}
 use Rattle.lfs_model.proofs.broken.broken_directory_rules.Goals as goal
@@ -56,7 +56,7 @@ unfolding chain_of chain_within commit_within entry_at closes crc_of checksum_af
 returns-clause-two_paths c = inr (
   pair (0, 1) (large_superblock ∷ folder (codes "d") (2, 3) ∷ folder (codes "e") (2, 3) ∷ []) (soft (2, 3)) zero_gstate ∷ pair (2, 3) [] None zero_gstate ∷ [],
   (
-    is_thread joined_branches_image _ (refl, (refl, refl)) (refl, (refl, tt)) refl refl,
+    is_thread shared_branch_image _ (refl, (refl, refl)) (refl, (refl, tt)) refl refl,
     record {
       path = codes "d" ∷ [];
       to = (2, 3);

@@ -1,6 +1,6 @@
 use Rattle.std.proofs.Common.{ℕ, ◌≡◌, ◌≤◌, [], ◌∷◌, None, refl, subst, arith, replicate}
 use Rattle.std.specs.Prelude.{codes}
-use Rattle.lfs_model.proofs.Common.{content_at, block_count, default_profile, fresh_pair, superblock_bytes, InlineBytesFit, IsWritable, IsSmallEnough, Inline, Slot, zero_gstate, Pair, struct_bytes_with}
+use Rattle.lfs_model.proofs.Common.{content_at, block_count, default_profile, fresh_pair, superblock_bytes, InlineBytesFit, IsWritable, IsSmallContent, Inline, Slot, zero_gstate, Pair, superblock_struct_with}
 use Rattle.lfs_model.specs.format.Crc.{crc_of, checksum_after_bits}
 use Rattle.lfs_model.specs.format.Log.{chain_of, chain_within, commit_within, entry_at, closes}
 use Rattle.lfs_model.specs.examples.Violations.{empty_pair_image, large_entry_image, unwritable_inline_image, short_names_image}
@@ -13,7 +13,7 @@ use Rattle.lfs_model.proofs.broken.broken_profile_rules.Goals as goal
 
 -- the limit of names is 32
 abbrev limited : Slot
-limited = record large_superblock { struct = Inline (struct_bytes_with 0x00020000 4096 32) }
+limited = record large_superblock { struct = Inline (superblock_struct_with 0x00020000 4096 32) }
 
 abbrev limited_pair : Pair
 limited_pair = pair (0, 1) (limited ∷ []) None zero_gstate
@@ -26,12 +26,12 @@ unfolding chain_of chain_within commit_within entry_at closes crc_of checksum_af
 returns-clause-other_limits c = (
   limited_pair ∷ [],
   (
-    image_is_accepted short_names_image (limited_pair ∷ []) (struct_bytes_with 0x00020000 4096 32) 1 (record { links = (refl, refl); contents = (refl, tt); first = refl; named = refl; lists = (tt, tt); pass = refl }),
+    image_is_accepted short_names_image (limited_pair ∷ []) (superblock_struct_with 0x00020000 4096 32) 1 (record { links = (refl, refl); contents = (refl, tt); first = refl; named = refl; lists = (tt, tt); pass = refl }),
     (
       limited,
       (
         record { index = 0; pair = limited_pair; there = refl; at_is = refl; slot = refl },
-        record { kind = refl; bytes = struct_bytes_with 0x00020000 4096 32; inline = refl; differs = (refl, other_number) },
+        record { kind = refl; bytes = superblock_struct_with 0x00020000 4096 32; inline = refl; differs = (refl, other_number) },
       ),
     ),
   ),
@@ -78,7 +78,7 @@ charged = record (file (codes "a") []) { attributes = (0x41, replicate 1022 1) �
 abbrev charged_pair : Pair
 charged_pair = pair (0, 1) (large_superblock ∷ charged ∷ []) None zero_gstate
 
-too_much : IsSmallEnough default_profile 4096 256 charged_pair.content → ⊥
+too_much : IsSmallContent default_profile 4096 256 charged_pair.content → ⊥
 too_much small = let charge : 1951 ≤ 1900 = small.entries 1 charged (omega arith) refl in omega arith
 
 pub returns-clause-too_large : goal.returns-clause-too_large

@@ -1,10 +1,10 @@
 use Rattle.std.proofs.Common.{◌+◌, ◌≡◌, [], ◌∷◌, List, None, Option, Some, ap, inr, refl, arith}
 use Rattle.std.specs.Prelude.{codes, unwrap_or}
 use Rattle.lfs_model.specs.format.Crc.{crc_of, checksum_after_bits}
-use Rattle.lfs_model.proofs.Common.{default_profile, superblock_slot, superblock_bytes, LogEntry, Inline, Slot, zero_gstate, Pair, count_before_root, superblock_entry, struct_bytes_with}
+use Rattle.lfs_model.proofs.Common.{default_profile, superblock_slot, superblock_bytes, LogEntry, Inline, Slot, zero_gstate, Pair, count_before_root, superblock_entry, superblock_struct_with}
 use Rattle.lfs_model.specs.format.Log.{chain_of, chain_within, commit_within, entry_at, closes}
 use Rattle.lfs_model.specs.declared.limits.AcceptedVersions.TheVariants.{OnlyTwoZero}
-use Rattle.lfs_model.specs.examples.Violations.{later_version_image, create_first_image, two_sizes_image, no_superblock_image}
+use Rattle.lfs_model.specs.examples.Violations.{later_version_image, create_first_image, differing_superblocks_image, no_superblock_image}
 use Rattle.lfs_model.proofs.BrokenImages.{is_thread, no_same_superblock, no_superblock_of_disk}
 use Rattle.lfs_model.proofs.Examples.{file, hard, large_superblock, pair}
 use Rattle.lfs_model.proofs.broken.broken_superblock_rules.Goals as goal
@@ -22,7 +22,7 @@ returns-clause-first_entry c = inr (pair (0, 1) (large_superblock ∷ []) None z
 
 -- a superblock of version 2.1
 abbrev newer : Slot
-newer = record large_superblock { struct = Inline (struct_bytes_with 0x00020001 4096 255) }
+newer = record large_superblock { struct = Inline (superblock_struct_with 0x00020001 4096 255) }
 
 pub returns-clause-superblock : goal.returns-clause-superblock
 unfolding chain_of chain_within commit_within entry_at closes crc_of checksum_after_bits
@@ -30,7 +30,7 @@ returns-clause-superblock c = inr (
   pair (0, 1) (newer ∷ []) None zero_gstate ∷ [],
   (
     is_thread later_version_image _ (refl, refl) (refl, tt) refl refl,
-    (refl, newer, (refl, no_superblock_of_disk later_version_image newer (struct_bytes_with 0x00020001 4096 255) refl refl)),
+    (refl, newer, (refl, no_superblock_of_disk later_version_image newer (superblock_struct_with 0x00020001 4096 255) refl refl)),
   ),
 )
 
@@ -49,7 +49,7 @@ unfolding chain_of chain_within commit_within entry_at closes crc_of checksum_af
 returns-clause-other_superblock c = inr (
   two_pairs,
   (
-    is_thread two_sizes_image _ (refl, (refl, refl)) (refl, (refl, tt)) refl refl,
+    is_thread differing_superblocks_image _ (refl, (refl, refl)) (refl, (refl, tt)) refl refl,
     record {
       index = 1;
       pair = second;

@@ -2,7 +2,7 @@ use Rattle.std.proofs.Common.{[], ◌∷◌, inl, refl, arith}
 use Rattle.lfs_model.specs.format.Crc.{crc_of, checksum_after_bits}
 use Rattle.lfs_model.proofs.Common.{fresh_pair, zero_gstate}
 use Rattle.lfs_model.specs.format.Log.{chain_of, chain_within, commit_within, entry_at, closes}
-use Rattle.lfs_model.specs.examples.Violations.{absent_block_image, same_blocks_image, tail_to_root_image, unwritten_pair_image}
+use Rattle.lfs_model.specs.examples.Violations.{absent_block_image, doubled_block_image, tail_to_root_image, unwritten_pair_image}
 use Rattle.lfs_model.proofs.BrokenImages.{begins_with}
 use Rattle.lfs_model.proofs.BrokenRules.{accepted_breaks_none}
 use Rattle.lfs_model.proofs.Examples.{pair, soft, large_superblock}
@@ -15,7 +15,7 @@ returns-clause-out_of_range c = inl ((pair (0, 1) (large_superblock ∷ []) (sof
 
 pub returns-clause-one_block : goal.returns-clause-one_block
 unfolding chain_of chain_within commit_within entry_at closes crc_of checksum_after_bits
-returns-clause-one_block c = inl ((pair (0, 1) (large_superblock ∷ []) (soft (2, 2)) zero_gstate ∷ [], begins_with same_blocks_image _ (2, 2) (refl, refl) (refl, tt)), refl)
+returns-clause-one_block c = inl ((pair (0, 1) (large_superblock ∷ []) (soft (2, 2)) zero_gstate ∷ [], begins_with doubled_block_image _ (2, 2) (refl, refl) (refl, tt)), refl)
 
 pub returns-clause-two_pairs : goal.returns-clause-two_pairs
 unfolding chain_of chain_within commit_within entry_at closes crc_of checksum_after_bits

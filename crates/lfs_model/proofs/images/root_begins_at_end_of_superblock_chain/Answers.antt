@@ -1,6 +1,6 @@
 use Rattle.std.proofs.Common.{List, [], ◌∷◌, None, refl}
 use Rattle.std.specs.Prelude.{codes}
-use Rattle.lfs_model.proofs.Common.{default_profile, Slot, Inline, zero_gstate, Pair, struct_bytes_with, superblock_bytes}
+use Rattle.lfs_model.proofs.Common.{default_profile, Slot, Inline, zero_gstate, Pair, superblock_struct_with, superblock_bytes}
 use Rattle.lfs_model.specs.format.Crc.{crc_of, checksum_after_bits}
 use Rattle.lfs_model.specs.format.Log.{chain_of, chain_within, commit_within, entry_at, closes}
 use Rattle.lfs_model.proofs.Examples.{image_shows, pair, hard, file, large_superblock}
@@ -23,7 +23,7 @@ returns-clause-three_pairs c = image_shows _ (pair (0, 1) (large_superblock ∷ 
 
 -- the second superblock's version is 2.1
 abbrev newer : Slot
-newer = record large_superblock { struct = Inline (struct_bytes_with 0x00020001 4096 255) }
+newer = record large_superblock { struct = Inline (superblock_struct_with 0x00020001 4096 255) }
 
 abbrev two_versions : List Pair
 two_versions = pair (0, 1) (large_superblock ∷ []) (hard (2, 3)) zero_gstate ∷ pair (2, 3) (newer ∷ file (codes "a") (codes "hi") ∷ []) None zero_gstate ∷ []

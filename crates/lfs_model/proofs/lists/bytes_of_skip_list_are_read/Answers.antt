@@ -1,5 +1,5 @@
 use Rattle.std.proofs.Common.{◌≡◌, false, refl}
-use Rattle.lfs_model.specs.examples.Images.{three_blocks, three_blocks_with, endless_blocks}
+use Rattle.lfs_model.specs.examples.Images.{three_blocks, three_blocks_with, endless_list}
 use Rattle.lfs_model.proofs.Skips.{is_list, list_from, list_to}
 use Rattle.lfs_model.proofs.lists.bytes_of_skip_list_are_read.Goals as goal
 
@@ -25,6 +25,6 @@ returns-clause-wrong_pointer c = λ h.
 pub returns-clause-round : goal.returns-clause-round
 unfolding lib.Count.count_trailing_zeros
 returns-clause-round c = λ h.
-    let passes = list_to endless_blocks 1024 7 2045 h in
-    let fails : is_list endless_blocks 1024 7 2045 ≡ false = refl in
+    let passes = list_to endless_list 1024 7 2045 h in
+    let fails : is_list endless_list 1024 7 2045 ≡ false = refl in
     cc

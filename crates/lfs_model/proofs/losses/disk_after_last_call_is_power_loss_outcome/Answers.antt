@@ -1,5 +1,5 @@
 use Rattle.std.proofs.Common.{refl, ap}
-use Rattle.lfs_model.proofs.Common.{All-nil, Disk, ConformsTo, HasEitherTree, with_blocks}
+use Rattle.lfs_model.proofs.Common.{All-nil, Disk, CallConforms, HasEitherTree, with_blocks}
 use Rattle.lfs_model.proofs.Standing.{stands_since, one_device, device_survives_loss}
 use Rattle.lfs_model.proofs.losses.disk_after_last_call_is_power_loss_outcome.Goals as goal
 
@@ -14,7 +14,7 @@ pub returns-clause-survives_loss : goal.returns-clause-survives_loss
 returns-clause-survives_loss c = λ from to op agrees device survives. device_survives_loss from to op agrees device survives
 
 pub returns-clause-silent : goal.returns-clause-silent
-returns-clause-silent c = record { stays = λ silent. refl; same = refl; newest = λ e older is. absurd (cc); conforms = All-nil ConformsTo }
+returns-clause-silent c = record { stays = λ silent. refl; same = refl; newest = λ e older is. absurd (cc); conforms = All-nil CallConforms }
 
 pub returns-clause-lost : goal.returns-clause-lost
 returns-clause-lost c = λ h. absurd (let k = ap (λ (disk : Disk). disk.blocks) (h.stays refl) in cc)

@@ -1,5 +1,5 @@
 use Rattle.std.proofs.Common.{[], ◌∷◌, None, refl}
-use Rattle.lfs_model.proofs.Common.{default_profile, zero_gstate, Inline, superblock_bytes, struct_bytes_with}
+use Rattle.lfs_model.proofs.Common.{default_profile, zero_gstate, Inline, superblock_bytes, superblock_struct_with}
 use Rattle.lfs_model.specs.format.Crc.{crc_of, checksum_after_bits}
 use Rattle.lfs_model.specs.format.Log.{chain_of, chain_within, commit_within, entry_at, closes}
 use Rattle.lfs_model.proofs.Examples.{pair, large_superblock}
@@ -16,15 +16,15 @@ returns-clause-lengthened c = refused_with _ (pair (0, 1) (large_superblock ∷ 
 
 pub returns-clause-version : goal.returns-clause-version
 unfolding chain_of chain_within commit_within entry_at closes crc_of checksum_after_bits
-returns-clause-version c = refused_with _ (pair (0, 1) (record large_superblock { struct = Inline (struct_bytes_with 0x00020001 4096 255) } ∷ []) None zero_gstate ∷ []) (refl, refl) (refl, tt) (fails_superblock _ _ _ _ (struct_bytes_with 0x00020001 4096 255) refl (λ held h. h.1) refl)
+returns-clause-version c = refused_with _ (pair (0, 1) (record large_superblock { struct = Inline (superblock_struct_with 0x00020001 4096 255) } ∷ []) None zero_gstate ∷ []) (refl, refl) (refl, tt) (fails_superblock _ _ _ _ (superblock_struct_with 0x00020001 4096 255) refl (λ held h. h.1) refl)
 
 pub returns-clause-later_version : goal.returns-clause-later_version
 unfolding chain_of chain_within commit_within entry_at closes crc_of checksum_after_bits
-returns-clause-later_version c = refused_with _ (pair (0, 1) (record large_superblock { struct = Inline (struct_bytes_with 0x00020002 4096 255) } ∷ []) None zero_gstate ∷ []) (refl, refl) (refl, tt) (fails_superblock _ _ _ _ (struct_bytes_with 0x00020002 4096 255) refl (λ held h. h.1) refl)
+returns-clause-later_version c = refused_with _ (pair (0, 1) (record large_superblock { struct = Inline (superblock_struct_with 0x00020002 4096 255) } ∷ []) None zero_gstate ∷ []) (refl, refl) (refl, tt) (fails_superblock _ _ _ _ (superblock_struct_with 0x00020002 4096 255) refl (λ held h. h.1) refl)
 
 pub returns-clause-block_size : goal.returns-clause-block_size
 unfolding chain_of chain_within commit_within entry_at closes crc_of checksum_after_bits
-returns-clause-block_size c = refused_with _ (pair (0, 1) (record large_superblock { struct = Inline (struct_bytes_with 0x00020000 8192 255) } ∷ []) None zero_gstate ∷ []) (refl, refl) (refl, tt) (fails_superblock _ _ _ _ (struct_bytes_with 0x00020000 8192 255) refl (λ held h. h.1) refl)
+returns-clause-block_size c = refused_with _ (pair (0, 1) (record large_superblock { struct = Inline (superblock_struct_with 0x00020000 8192 255) } ∷ []) None zero_gstate ∷ []) (refl, refl) (refl, tt) (fails_superblock _ _ _ _ (superblock_struct_with 0x00020000 8192 255) refl (λ held h. h.1) refl)
 
 pub returns-clause-unwritten : goal.returns-clause-unwritten
 unfolding chain_of chain_within commit_within entry_at closes crc_of checksum_after_bits

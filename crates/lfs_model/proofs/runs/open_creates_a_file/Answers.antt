@@ -2,7 +2,7 @@ use Rattle.std.proofs.Common.{[], ◌∷◌, refl, sym, ap, ◌∙◌}
 use Rattle.std.specs.Prelude.{codes}
 use Rattle.lfs_model.proofs.Common.{append_cancel_right, block_count, content_at, Tree, disk_tree, IsStep, large_image, large_fresh_state, state_after_open}
 use Rattle.lfs_model.specs.session.Operations as ops
-use Rattle.lfs_model.specs.examples.Runs.{one_block_reads}
+use Rattle.lfs_model.specs.examples.Runs.{repeated_reads}
 use Rattle.lfs_model.proofs.Uniqueness.{one_thread}
 use Rattle.lfs_model.proofs.Fresh.{shows}
 use Rattle.lfs_model.proofs.OpenedFile.{op, pair, next, opened, commit, completed, turn, sync_step}
@@ -22,7 +22,7 @@ pub returns-clause-no_call : goal.returns-clause-no_call
 returns-clause-no_call c = λ h.
     let done = h.effect_on_disk refl opened refl (next ∷ []) (next ∷ []) completed.accepted completed.accepted in
     let none = (done.silent refl).1 in
-    let same = append_cancel_right (one_block_reads 1) h.calls state_after_open.calls h.called in
+    let same = append_cancel_right (repeated_reads 1) h.calls state_after_open.calls h.called in
     absurd (let k = same ∙ none in cc)
 
 -- the old disk doesn't show the file

@@ -2,7 +2,7 @@ use Rattle.std.proofs.Common.{ℕ, ◌≡◌, ◌≤◌, ◌+◌, Bool, true, fa
 use Rattle.lfs_model.proofs.Common.{lt-ltb, program_count, Tree, used_blocks, Reply, empty_tree, DiskSummary, Healthy, SessionHealth, mounted_session, AreLinked, Pair, anchor_address, small_image}
 use Rattle.std.specs.Prelude.{codes}
 use Rattle.lfs_model.specs.session.Operations as ops
-use Rattle.lfs_model.specs.session.Session.{has_long_name, exceeds_charge, lacks_free}
+use Rattle.lfs_model.specs.session.Session.{has_long_name, exceeds_charge, lacks_room}
 use Rattle.lfs_model.specs.session.State.{result_and_health}
 use Rattle.lfs_model.proofs.OpenedFile.{op}
 use Rattle.lfs_model.proofs.runs.open_without_space_is_refused.Goals as goal
@@ -15,14 +15,14 @@ some_used : (ps : List Pair) → AreLinked (Some anchor_address) ps → 1 ≤ le
 some_used [] links = absurd (cc)
 some_used (p ∷ ps) links = omega arith
 
-lacking : (around : DiskSummary) → around.block_count ≡ 2 → 1 ≤ length around.used → lacks_free around [] 2 ≡ true
+lacking : (around : DiskSummary) → around.block_count ≡ 2 → 1 ≤ length around.used → lacks_room around [] 2 ≡ true
 lacking around count some = lt-ltb around.block_count (length around.used + 0 + 2) (omega arith)
 
 abbrev is_opened : Option Reply → Bool
 is_opened (Some (ops.Opened fd)) = true
 is_opened _ = false
 
-refused : (around : DiskSummary) (shown : Option Tree) (after : SessionHealth) → lacks_free around [] 2 ≡ true → (w : Bool) → around.writable ≡ w → (t : Bool) → has_long_name around (codes "b" ∷ []) ≡ t → (o : Bool) → exceeds_charge around (codes "b") [] ≡ o
+refused : (around : DiskSummary) (shown : Option Tree) (after : SessionHealth) → lacks_room around [] 2 ≡ true → (w : Bool) → around.writable ≡ w → (t : Bool) → has_long_name around (codes "b" ∷ []) ≡ t → (o : Bool) → exceeds_charge around (codes "b") [] ≡ o
     → result_and_health around shown (Healthy (mounted_session empty_tree)) op ≡ (Some (ops.Opened 0), after) → ⊥
 refused around shown after lack w is t long o over e = absurd (let z : false ≡ true = sym (go w is t long o over) ∙ ap (λ (x : Option Reply × SessionHealth). is_opened x.0) e in cc)
   where

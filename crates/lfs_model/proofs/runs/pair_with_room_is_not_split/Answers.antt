@@ -1,6 +1,6 @@
 use Rattle.std.proofs.Common.{◌+◌, ◌≤◌, ◌≡◌, length, true, [], ◌∷◌, ◌++◌, List, None, inl, inr, refl, sym, ap, subst, ◌∙◌, arith}
 use Rattle.std.specs.Prelude.{codes, sum_by}
-use Rattle.lfs_model.proofs.Common.{Disk, pair_capacity, slots_limit, default_profile, Slot, slot_size, same_pair, zero_gstate, Pair, anchor_address, pairs_gstate, fresh_pair, superblock_slot, empty_tree, mounted_session, creating_flags, file_slot, ReplacesSlots, IsUnreachedOrRemoved, FitsPair, IsPairAfter, ArePairsAfter, IsLayout, IsLayoutRecovered, small_image, two_commit_image}
+use Rattle.lfs_model.proofs.Common.{Disk, pair_capacity, slots_limit, default_profile, Slot, slot_size, same_pair, zero_gstate, Pair, anchor_address, pairs_gstate, fresh_pair, superblock_slot, empty_tree, mounted_session, creating_flags, file_slot, ReplacesSlots, IsUnreachedOrRemoved, FitsPair, PairBecomes, PairsBecome, IsLayout, IsLayoutRecovered, small_image, two_commit_image}
 use Rattle.lfs_model.specs.session.Operations as ops
 use Rattle.lfs_model.specs.examples.Runs.{root_with_b}
 use Rattle.lfs_model.proofs.Sites.{among_from}
@@ -39,7 +39,7 @@ not_cut : (p q f : Pair) → p.content.slots ≡ superblock_slot default_profile
 not_cut p q f slots still h =
     let e = h.edits in
     let d = one_draft [] (file_slot (codes "b") ∷ []) p h.drafts (subst (λ xs. ReplacesSlots [] (file_slot (codes "b") ∷ []) xs h.drafts) (nothing_moved (p ∷ []) still) e.1) in
-    let stand = one_stands small_image (IsUnreachedOrRemoved (p ∷ []) op) _ h.parts (q ∷ f ∷ []) (subst (λ ds. ArePairsAfter small_image (IsUnreachedOrRemoved (p ∷ []) op) 0 None ds h.parts) d.is h.stand)
+    let stand = one_stands small_image (IsUnreachedOrRemoved (p ∷ []) op) _ h.parts (q ∷ f ∷ []) (subst (λ ds. PairsBecome small_image (IsUnreachedOrRemoved (p ∷ []) op) 0 None ds h.parts) d.is h.stand)
     (h.joined ∙ ap (λ z. h.front ++ (z ++ h.back)) (sym e.0) ∙ sym h.is) in
     stand.2 (one_more_fits small_image p d.left d.right (file_slot (codes "b")) d.held
     (subst (λ xs. slot_size (file_slot (codes "b")) + sum_by slot_size xs ≤ pair_capacity 1024 128) (sym slots) (omega arith))
@@ -51,7 +51,7 @@ returns-clause-not_cut c = λ q f. not_cut (fresh_pair small_image) q f refl ref
 -- what a recovery makes of a thread of one pair that has slots
 settled : (disk : Disk) (between : List Pair) → IsLayout small_image ps (mounted_session empty_tree) ops.Recover disk between → (q : Pair) × ((between ≡ q ∷ []) × (q.content.slots ≡ superblock_slot default_profile 1024 2 ∷ []))
 settled disk between h = go between (one_stands small_image (IsUnreachedOrRemoved ps ops.Recover) (fresh_pair small_image) h.parts between
-    (subst (λ ds. ArePairsAfter small_image (IsUnreachedOrRemoved ps ops.Recover) 0 None ds h.parts) h.edits.1 h.stand)
+    (subst (λ ds. PairsBecome small_image (IsUnreachedOrRemoved ps ops.Recover) 0 None ds h.parts) h.edits.1 h.stand)
     (h.joined ∙ ap (λ z. h.front ++ (z ++ h.back)) (sym h.edits.0) ∙ sym h.is))
   where
     fits_first : FitsPair small_image (fresh_pair small_image)
@@ -61,7 +61,7 @@ settled disk between h = go between (one_stands small_image (IsUnreachedOrRemove
     kept (inl n) = n ([], anchor_address, (refl, refl))
     kept (inr a) = among_from (λ at. same_pair anchor_address at ≡ true) [] a
 
-    go : (between : List Pair) → IsPairAfter small_image true (IsUnreachedOrRemoved ps ops.Recover anchor_address) (fresh_pair small_image) between → (q : Pair) × ((between ≡ q ∷ []) × (q.content.slots ≡ superblock_slot default_profile 1024 2 ∷ []))
+    go : (between : List Pair) → PairBecomes small_image true (IsUnreachedOrRemoved ps ops.Recover anchor_address) (fresh_pair small_image) between → (q : Pair) × ((between ≡ q ∷ []) × (q.content.slots ≡ superblock_slot default_profile 1024 2 ∷ []))
     go [] (inl g) = absurd (kept g)
     go [] (inr (e, s)) = absurd (cc)
     go (q ∷ []) s = (q, (refl, s.1))

@@ -1,6 +1,6 @@
 use Rattle.std.proofs.Common.{◌≡◌, ◌≤◌, inl, inr, true, List, [], ◌∷◌, ◌++◌, None, refl, sym, ap, subst, ◌∙◌, arith, flat_map, length}
 use Rattle.std.specs.Prelude.{sum_by}
-use Rattle.lfs_model.proofs.Common.{same_Some, Disk, pair_capacity, slots_limit, default_profile, Gstate, slot_size, same_pair, Pair, IsReachedBySome, fresh_pair, superblock_slot, IsUnreachedOrRemoved, FitsPair, ArePairsAfter, large_image}
+use Rattle.lfs_model.proofs.Common.{same_Some, Disk, pair_capacity, slots_limit, default_profile, Gstate, slot_size, same_pair, Pair, IsReachedBySome, fresh_pair, superblock_slot, IsUnreachedOrRemoved, FitsPair, PairsBecome, large_image}
 use Rattle.lfs_model.specs.session.Operations as ops
 use Rattle.lfs_model.specs.examples.Runs.{root_with_sync, root_and_unreached}
 use Rattle.lfs_model.proofs.Sites.{among_from}
@@ -36,7 +36,7 @@ returns-clause-dropped c = λ disk b g. record {
   is = refl;
 }
 
-two : (disk : Disk) (q f : Pair) → disk.block_size ≡ 4096 → disk.page ≡ 256 → (parts : List (List Pair)) → ArePairsAfter disk (IsUnreachedOrRemoved root_and_unreached ops.Recover) 0 None root_and_unreached parts →
+two : (disk : Disk) (q f : Pair) → disk.block_size ≡ 4096 → disk.page ≡ 256 → (parts : List (List Pair)) → PairsBecome disk (IsUnreachedOrRemoved root_and_unreached ops.Recover) 0 None root_and_unreached parts →
     flat_map (λ part. part) parts ≡ q ∷ f ∷ [] → ⊥
 two disk q f b g [] h e = h
 two disk q f b g (now ∷ []) h e = h.1
@@ -51,7 +51,7 @@ two disk q f b g ((x ∷ y ∷ z ∷ now) ∷ [] ∷ []) h e = h.0
 
 pub returns-clause-not_left : goal.returns-clause-not_left
 returns-clause-not_left c = λ disk q f b g h.
-    two disk q f b g h.parts (subst (λ ds. ArePairsAfter disk (IsUnreachedOrRemoved root_and_unreached ops.Recover) 0 None ds h.parts) h.edits.1 h.stand)
+    two disk q f b g h.parts (subst (λ ds. PairsBecome disk (IsUnreachedOrRemoved root_and_unreached ops.Recover) 0 None ds h.parts) h.edits.1 h.stand)
     (h.joined ∙ ap (λ z. h.front ++ (z ++ h.back)) (sym h.edits.0) ∙ sym h.is)
 
 pub returns-clause-unrecovered : goal.returns-clause-unrecovered

@@ -1,6 +1,6 @@
 use Rattle.std.proofs.Common.{◌≡◌, sym, ap, ◌∙◌}
 use Rattle.std.specs.Prelude.{codes}
-use Rattle.lfs_model.proofs.Common.{disk_tree, empty_tree, Session, file_reader, file_numbered, SessionHealth, HasFailed, Healthy, mounted_session, operation_result, reply_to_reader, small_image}
+use Rattle.lfs_model.proofs.Common.{disk_tree, empty_tree, Session, file_reader, file_numbered, SessionHealth, HasFailed, Healthy, mounted_session, operation_result, read_reply, small_image}
 use Rattle.lfs_model.specs.session.Operations as ops
 use Rattle.lfs_model.proofs.Fresh.{shows}
 use Rattle.lfs_model.proofs.FreshSession.{pairs, are_accepted, tree_is_empty, around, surrounds}
@@ -33,5 +33,5 @@ session_of s t e = ap (λ z. or_else z) e
 
 pub returns-clause-no_reader : goal.returns-clause-no_reader
 returns-clause-no_reader c = λ bytes h. absurd (
-    let e = h.is ∙ ap (λ (s : Session). reply_to_reader (disk_tree small_image h.pairs) (file_reader (file_numbered s.files 0)) 1) (sym (session_of (mounted_session empty_tree) h.session h.healthy)) in
+    let e = h.is ∙ ap (λ (s : Session). read_reply (disk_tree small_image h.pairs) (file_reader (file_numbered s.files 0)) 1) (sym (session_of (mounted_session empty_tree) h.session h.healthy)) in
     cc)

@@ -1,6 +1,6 @@
 use Rattle.std.proofs.Common.{ℕ, ◌+◌, ◌≡◌, ◌≤◌, inl, inr, true, List, [], ◌∷◌, length, refl, sym, ap, ◌∙◌, arith}
 use Rattle.std.specs.Prelude.{codes}
-use Rattle.lfs_model.proofs.Common.{same_Some, default_profile, Slot, Struct, Inline, Ctz, Branch, attributes_with, superblock_slot, file_numbered, file_slot, directory_slot, ReplacesSlot, GivesBytes, StoresWriter, large_image, root_and_directory, root_and_two, root_with_file, long_attribute_slot, with_writer, all_slots}
+use Rattle.lfs_model.proofs.Common.{same_Some, default_profile, Slot, Struct, Inline, Ctz, Branch, attributes_with, superblock_slot, file_numbered, file_slot, directory_slot, ReplacesSlot, GivesBytes, StoresWriter, large_image, root_and_directory, root_and_two, root_with_file, long_attribute_slot, writer_session, all_slots}
 use Rattle.lfs_model.proofs.Sites.{AnyByRecursion}
 use Rattle.lfs_model.proofs.Spliced.{comes}
 use Rattle.lfs_model.proofs.slots.slots_and_attributes_are_replaced.Goals as goal
@@ -79,7 +79,7 @@ uncommitted (u, v, (at, (is, said), spliced)) = go (comes v (u ∷ []) (root_wit
     go (inr (inl e)) = absurd (let k : 0 ≡ 2 = other (file_slot (codes "a")) 0 refl e in omega arith)
     go (inr (inr e)) = e
 
-either : StoresWriter large_image (root_with_file (codes "a") []) (file_numbered (with_writer (codes "a" ∷ []) true (codes "hi")).files 0) (root_with_file (codes "a") []) (root_with_file (codes "a") []) → ⊥
+either : StoresWriter large_image (root_with_file (codes "a") []) (file_numbered (writer_session (codes "a" ∷ []) true (codes "hi")).files 0) (root_with_file (codes "a") []) (root_with_file (codes "a") []) → ⊥
 either (inl e) = absurd (let k = e.0 in cc)
 either (inr e) = uncommitted e.1
 

@@ -3,14 +3,14 @@ use Rattle.std.specs.Prelude.{codes}
 use Rattle.lfs_model.proofs.Common.{All-from_recursion, Pair, address_blocks, file_slot, used_blocks, is_worn_block, is_worn, AreUnused, pair_with_tail, root_and_two}
 use Rattle.lfs_model.specs.format.Crc.{crc_of, checksum_after_bits}
 use Rattle.lfs_model.specs.format.Log.{chain_of, chain_within, commit_within, entry_at, closes}
-use Rattle.lfs_model.specs.examples.Runs.{tail_to_address, root_with_d, worn_pairs_image}
+use Rattle.lfs_model.specs.examples.Runs.{example_tail, root_with_d, worn_pairs_image}
 use Rattle.lfs_model.proofs.BlockSets.{number_occurrences-Contains}
 use Rattle.lfs_model.proofs.Counts.{Each}
 use Rattle.lfs_model.proofs.Unmoved.{none_moves, only_worn_moves}
 use Rattle.lfs_model.proofs.slots.worn_pair_moves.Goals as goal
 
 abbrev directory_pair : Pair
-directory_pair = pair_with_tail (4, 5) (file_slot (codes "a") ∷ []) (tail_to_address true (6, 7))
+directory_pair = pair_with_tail (4, 5) (file_slot (codes "a") ∷ []) (example_tail true (6, 7))
 
 abbrev last_pair : Pair
 last_pair = pair_with_tail (6, 7) (file_slot (codes "z") ∷ []) None

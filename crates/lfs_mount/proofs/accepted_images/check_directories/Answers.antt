@@ -8,13 +8,13 @@ use Rattle.lfs_mount.proofs.accepted_images.check_directories.Goals as goal
 pub returns-clause-ok : goal.returns-clause-ok
 returns-clause-ok g c =
     let disk = disk_of_device g.D.BlockDevice c.args.device.now in
-    subst₂ (λ (firsts : List (ℕ × ℕ)) (ms : List PairBeforeSlotsAreRead). IfOk c.check_and_mark.result (λ found. (order : NameOrder) (chain : List Pair) (p : Pair) (rest : List Pair)
+    subst₂ (λ (firsts : List (ℕ × ℕ)) (ms : List PairBeforeSlotsAreRead). IfOk c.check_thread.result (λ found. (order : NameOrder) (chain : List Pair) (p : Pair) (rest : List Pair)
     → IsDescribedThread (ordered_disk order disk) c.args.map.now firsts ms (move_view c.args.state.now).sync chain p rest
-    → IsThreadVerdict (ordered_disk order disk) (violation_in_order order found) c.args.map.now c.check_and_mark.new.map chain p rest))
-    c.in-Ok-directory_start_addresses.ensures.places (c.deref.ensures.value ∙ c.in-Ok.ensures.members) c.check_and_mark.ensures.ok
+    → IsThreadVerdict (ordered_disk order disk) (violation_in_order order found) c.args.map.now c.check_thread.new.map chain p rest))
+    c.in-Ok-directory_start_addresses.ensures.places (c.deref.ensures.value ∙ c.in-Ok.ensures.members) c.check_thread.ensures.ok
 
 pub returns-clause-broken : goal.returns-clause-broken
 returns-clause-broken g c = λ v is order chain p rest known.
-    c.check_and_mark.ensures.broken v is order chain p rest
+    c.check_thread.ensures.broken v is order chain p rest
     (subst₂ (λ (firsts : List (ℕ × ℕ)) (ms : List PairBeforeSlotsAreRead). IsDescribedThread (ordered_disk order (disk_of_device g.D.BlockDevice c.args.device.now)) c.args.map.now firsts ms (move_view c.args.state.now).sync chain p rest)
     (sym c.in-Ok-directory_start_addresses.ensures.places) (sym (c.deref.ensures.value ∙ c.in-Ok.ensures.members)) known)

@@ -1,6 +1,6 @@
 use Rattle.std.proofs.Common.{ℕ, List, Err, inl, inr, refl, arith, ◌≡◌, ◌≤◌, ◌+◌, sym, ap, ap₂, ◌∙◌, length, map, subst}
 use Rattle.std.specs.Prelude.{sum_by}
-use Rattle.lfs_mount.proofs.Common.{err_from_is_err_and, ReadsOnly, disk_of_blocks, BlockStates, RawSlot, ordered_disk, Disk, disk_block, read_count, slot_view, disk_of_device, BreaksEntryList, block_entry_slots, HoldsNoEntryAt, scan_view, lists_view, MarksLists, list_reads, described_lists, scan_after_slots}
+use Rattle.lfs_mount.proofs.Common.{err_from_is_err_and, ReadsOnly, disk_of_blocks, BlockStates, RawSlot, ordered_disk, Disk, disk_block, read_count, slot_view, disk_of_device, BreaksEntryList, block_entry_slots, LacksEntryAt, scan_view, lists_view, MarksLists, list_reads, described_lists, scan_after_slots}
 use Rattle.lfs_device.specs.declared.device.BlockDevice.{Ghosts}
 use Rattle.lfs_device.specs.declared.geometry.Geometry.{Geometry}
 use Rattle.lfs_model.specs.declared.order.NameOrder.{NameOrder}
@@ -31,7 +31,7 @@ returns-in-Err-clause-broken g c = λ v is order.
     let none = c.in-Err.ensures.corrupt (ap Err from.0) order in
     let at = scan_none_at order c.args.places.now (scan_view order c.args.known.now) (map slot_view c.deref-2.result.now) none in
     let same = ap (map slot_view) (c.deref-2.ensures.value ∙ sym c.deref-in-Err.ensures.value) in
-    let first = c.first_non_entry.ensures.holds at.0 (subst (λ ss. HoldsNoEntryAt ss at.0) same at.1) in
+    let first = c.first_non_entry.ensures.holds at.0 (subst (λ ss. LacksEntryAt ss at.0) same at.1) in
     inr (
       map slot_view c.in_ok-slots.slots.items,
       (
@@ -40,7 +40,7 @@ returns-in-Err-clause-broken g c = λ v is order.
           c.first_non_entry.result,
           (
             sym from.1 ∙ ap (violation.Entry c.args.member.now.at) c.entry_slot_number-slot.ensures,
-            subst (λ ss. HoldsNoEntryAt ss c.first_non_entry.result) (ap (map slot_view) c.deref-in-Err.ensures.value) first,
+            subst (λ ss. LacksEntryAt ss c.first_non_entry.result) (ap (map slot_view) c.deref-in-Err.ensures.value) first,
           ),
         ),
       ),

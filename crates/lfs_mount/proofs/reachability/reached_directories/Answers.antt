@@ -1,7 +1,7 @@
 use Rattle.std.proofs.Common.{Result, Ok, Err, None, arith, ap, sym, ◌≡◌, ◌<◌, ◌∙◌, refl, true, false, subst, length, set, slice_get, get_or, ◌++◌, ◌∷◌, [], length-append, nat_eq, map}
 use Rattle.std.specs.Prelude.{All, IfSome}
 use Rattle.std.specs.List.{IsDistinct}
-use Rattle.lfs_mount.proofs.Common.{length-set, length-replicate, length-map, and_from, slice_get_read, array_address, BreaksGraphRule, graph_view, vertex_view, AreFoundMarks, IsRepeated}
+use Rattle.lfs_mount.proofs.Common.{length-set, length-replicate, length-map, and_from, slice_get_read, address_view, BreaksGraphRule, graph_view, vertex_view, AreFoundMarks, IsRepeated}
 use Rattle.lfs_model.specs.declared.violations.Violation.{Violation}
 use Rattle.lfs_thread.specs.declared.mount_error.MountError.{MountError}
 use Rattle.lfs_thread.specs.declared.mount_error.MountError.TheVariants.{Corrupt}
@@ -42,8 +42,8 @@ returns-then-not-contains-clause-broken c = λ v sync is.
     let within = marked_within c.loop-next.is_found.items c.loop-next.found.items c.loop-next.invariant.marked c.loop-next.next c.index.result.now at in
     let lt : c.index.result.now < length c.args.directories.now = omega (arith, within, c.loop-next.invariant.len) in
     let here = slice_get_read c.args.directories.now _ c.index.result.now c.index-directories-place.result refl lt c.index-directories-place.is in
-    subst (BreaksGraphRule c.args.order (graph_view c.args.order c.args.directories.now) (map array_address c.args.addresses.now) sync) (same_violation is)
-    (names_broken (graph_view c.args.order c.args.directories.now) (map array_address c.args.addresses.now) sync (some_in c.args.order c.args.directories.now c.requires.some) c.loop-next.next c.index.result.now
+    subst (BreaksGraphRule c.args.order (graph_view c.args.order c.args.directories.now) (map address_view c.args.addresses.now) sync) (same_violation is)
+    (names_broken (graph_view c.args.order c.args.directories.now) (map address_view c.args.addresses.now) sync (some_in c.args.order c.args.directories.now c.requires.some) c.loop-next.next c.index.result.now
     (vertex_view c.args.order c.index-directories-place.result) (get_or c.args.addresses.now c.index.result.now []) c.loop-next.invariant.sound
     (ap (λ xs. slice_get xs c.loop-next.next) (sym c.loop-next.invariant.found) ∙ at) (vertex_at c.args.order c.args.directories.now c.index.result.now c.index-directories-place.result here)
     (sym c.contains.ensures ∙ c.if-not-contains.true) (first_at c.args.addresses.now c.index.result.now (omega (arith, lt, c.requires.places))))
@@ -54,8 +54,8 @@ returns-then-not-directory-clause-broken c = λ v sync is.
     let within = marked_within c.loop-next.is_found.items c.loop-next.found.items c.loop-next.invariant.marked c.loop-next.next c.index.result.now at in
     let lt : c.index.result.now < length c.args.directories.now = omega (arith, within, c.loop-next.invariant.len) in
     let here = slice_get_read c.args.directories.now _ c.index.result.now c.index-directories-place.result refl lt c.index-directories-place.is in
-    subst (BreaksGraphRule c.args.order (graph_view c.args.order c.args.directories.now) (map array_address c.args.addresses.now) sync) (same_violation is)
-    (branch_broken (graph_view c.args.order c.args.directories.now) (map array_address c.args.addresses.now) sync (some_in c.args.order c.args.directories.now c.requires.some) c.loop-next.next c.index.result.now
+    subst (BreaksGraphRule c.args.order (graph_view c.args.order c.args.directories.now) (map address_view c.args.addresses.now) sync) (same_violation is)
+    (branch_broken (graph_view c.args.order c.args.directories.now) (map address_view c.args.addresses.now) sync (some_in c.args.order c.args.directories.now c.requires.some) c.loop-next.next c.index.result.now
     (vertex_view c.args.order c.index-directories-place.result) (get_or c.args.addresses.now c.index.result.now []) c.loop-next.invariant.sound
     (ap (λ xs. slice_get xs c.loop-next.next) (sym c.loop-next.invariant.found) ∙ at) (vertex_at c.args.order c.args.directories.now c.index.result.now c.index-directories-place.result here)
     (sym c.contains.ensures ∙ c.if-not-contains.false) c.if-not-directory.true (first_at c.args.addresses.now c.index.result.now (omega (arith, lt, c.requires.places))))
@@ -86,8 +86,8 @@ returns-in-Some-clause-broken c = λ v sync is.
     let next = ap (λ xs. c.loop-next.found.items ++ xs) c.deref.ensures.value
     ∙ branches_found c.args.order c.args.directories.now c.loop-next.found.items c.loop-next.next c.index.result.now c.index-directories-place.result c.loop-next.invariant.found at here in
     let sound = sound_of c.args.order c.args.directories.now c.index.result.now c.index-directories-place.result here ∙ and_from _ _ (sym c.contains.ensures ∙ c.if-not-contains.false) c.if-not-directory.false in
-    subst (BreaksGraphRule c.args.order (graph_view c.args.order c.args.directories.now) (map array_address c.args.addresses.now) sync) (same_violation is)
-    (paths_broken (graph_view c.args.order c.args.directories.now) (map array_address c.args.addresses.now) sync (some_in c.args.order c.args.directories.now c.requires.some) c.loop-next.next c.in-Some.branch
+    subst (BreaksGraphRule c.args.order (graph_view c.args.order c.args.directories.now) (map address_view c.args.addresses.now) sync) (same_violation is)
+    (paths_broken (graph_view c.args.order c.args.directories.now) (map address_view c.args.addresses.now) sync (some_in c.args.order c.args.directories.now c.requires.some) c.loop-next.next c.in-Some.branch
     (get_or c.args.addresses.now c.in-Some.branch [])
     (next_sound (graph_view c.args.order c.args.directories.now) c.loop-next.next c.index.result.now (ap (λ xs. slice_get xs c.loop-next.next) (sym c.loop-next.invariant.found) ∙ at) c.loop-next.invariant.sound sound)
     (subst (IsDistinct nat_eq) c.loop-next.invariant.found c.loop-next.invariant.marked.distinct) (subst (λ xs. IsRepeated xs c.in-Some.branch) next twice)

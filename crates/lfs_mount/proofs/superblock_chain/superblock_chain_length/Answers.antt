@@ -1,6 +1,6 @@
 use Rattle.std.proofs.Common.{◌∙◌, ◌≡◌, ◌-◌, suc, Err, Some, None, true, false, arith, rules, length, ap, subst, sym, refl}
 use Rattle.std.proofs.lemmas.List.{get_or_default}
-use Rattle.lfs_mount.proofs.Common.{slice_get_read, err_from_is_err_and, ordered_disk, BreaksPairs, PairHeader, disk_of_device, header_pairs}
+use Rattle.lfs_mount.proofs.Common.{slice_get_read, err_from_is_err_and, ordered_disk, PairsBreak, PairHeader, disk_of_device, header_pairs}
 use Rattle.lfs_device.specs.declared.geometry.Geometry.{Geometry}
 use Rattle.lfs_model.specs.declared.violations.Violation.TheVariants as violation
 use Rattle.lfs_mount.proofs.Called.{only_read, passed_on, quiet, read_on, same_error}
@@ -13,7 +13,7 @@ returns-in_default-clause-broken g c = λ v is order.
     let disk = disk_of_device g.D.BlockDevice c.args.dev.now in
     let has = has_headers_in order disk (g.D.BlockDevice.history c.args.dev.now) c.args.pairs.now c.requires in
     let which : violation.NoSuperblock ≡ v = cc in
-    subst (BreaksPairs (ordered_disk order disk) (header_pairs disk c.args.pairs.now)) which
+    subst (PairsBreak (ordered_disk order disk) (header_pairs disk c.args.pairs.now)) which
     (no_superblock (ordered_disk order disk) (g.D.BlockDevice.history c.args.dev.now) c.args.pairs.now has (sym c.in_default.ensures.first))
 
 pub read_first_struct-requires : goal.read_first_struct-requires
@@ -94,7 +94,7 @@ returns-in_err-pair_repeats_superblock-clause-broken g c = λ v is order.
     let broken = c.in_err-pair_repeats_superblock.ensures.broken v (ap Err (same_error e.1 e.2 is)) in
     let none = same_block _ _ _ _ _ _ next.result None c.loop-index.invariant.device.geometry c.loop-index.invariant.device.same c.deref.ensures.value broken.1 in
     let first = first_struct disk history c.args.pairs.now c.requires c.in-Some.first (sym c.in-Some.ensures.first) c.index-pairs-first.result c.index-pairs-first.is c.in_ok-bytes.bytes.items c.in_ok-bytes.ensures.found in
-    subst (BreaksPairs (ordered_disk order disk) (header_pairs disk c.args.pairs.now)) (sym broken.0)
+    subst (PairsBreak (ordered_disk order disk) (header_pairs disk c.args.pairs.now)) (sym broken.0)
     (differs (ordered_disk order disk) history c.args.pairs.now has c.in_ok-bytes.bytes.items c.loop-index.root c.loop-index.index this.result next.result step c.loop-index.invariant.walked
     (sym c.can_chain_continue.ensures ∙ c.if-not-can_chain_continue.false) first none)
 

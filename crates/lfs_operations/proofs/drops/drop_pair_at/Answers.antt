@@ -1,4 +1,4 @@
-use Rattle.lfs_operations.proofs.Common.{ℕ, ◌≡◌, ◌+◌, ◌-◌, ◌<◌, List, Some, length, Ok, Err, subst, sym, ap, ◌∙◌, arith, err_from_is_err_and, HoldsAtLosses-weaker, changes_view, PairChange, CanDropNext, IsNextDropped, LossLeavesPair, RefusesChanges, complete_after, KeptThread, Gstate, Outcome, move_view, CanDropAt, IsPairDropped, dropping_changes, content_after_drop}
+use Rattle.lfs_operations.proofs.Common.{ℕ, ◌≡◌, ◌+◌, ◌-◌, ◌<◌, List, Some, length, Ok, Err, subst, sym, ap, ◌∙◌, arith, err_from_is_err_and, HoldsAtLosses-weaker, changes_view, ContentChange, CanDropNext, IsNextDropped, LossLeavesPair, RefusesChanges, complete_after, KeptThread, Gstate, Outcome, move_view, CanDropAt, IsPairDropped, dropping_changes, content_after_drop}
 use Rattle.lfs_pair.specs.declared.commits.Outcome.TheVariants as outcome
 use Rattle.lfs_operations.proofs.DroppedTails.{can_drop, drop_not_refused, has_dropped, left_by_drop}
 use Rattle.lfs_operations.proofs.Removed.{reports_again}
@@ -7,7 +7,7 @@ use Rattle.lfs_operations.proofs.drops.drop_pair_at.Goals as goal
 below_there : (t : KeptThread) (index : ℕ) (state : Gstate) → CanDropAt t index state → index - 1 + 1 < length t.pairs
 below_there t index state can = let a = can.above in let b = can.below in omega arith
 
-made_there : (t : KeptThread) (index : ℕ) (state : Gstate) (changes : List PairChange) → changes ≡ dropping_changes t (index - 1) state → complete_after t (index - 1) changes ≡ Some (content_after_drop t (index - 1) state)
+made_there : (t : KeptThread) (index : ℕ) (state : Gstate) (changes : List ContentChange) → changes ≡ dropping_changes t (index - 1) state → complete_after t (index - 1) changes ≡ Some (content_after_drop t (index - 1) state)
     → complete_after t (index - 1) (dropping_changes t (index - 1) state) ≡ Some (content_after_drop t (index - 1) state)
 made_there t index state changes are made = ap (complete_after t (index - 1)) (sym are) ∙ made
 

@@ -1,4 +1,4 @@
-use Rattle.lfs_operations.proofs.Common.{ap, sym, subst, ◌∙◌, ◌<◌, length, Err, on_ok_weaker, err_from_is_err_and, changes_view, written_by_ending, ArePutAndEnded, SurvivesCommits, ReportsTakingCommits, WritesPairsTwo, second_pair, moving_changes, tree_across, disk_tree, with_blocks, HasEitherTree, AreWords, thread_pair, drops_with_its_slot, subst₂, CanPutAndEnd}
+use Rattle.lfs_operations.proofs.Common.{ap, sym, subst, ◌∙◌, ◌<◌, length, Err, on_ok_weaker, err_from_is_err_and, changes_view, ending_written_pair, ArePutAndEnded, SurvivesCommits, ReportsTakingCommits, WritesPairsTwo, second_step_pair, moving_changes, tree_across, disk_tree, with_blocks, HasEitherTree, AreWords, thread_pair, drops_emptied_pair, subst₂, CanPutAndEnd}
 use Rattle.lfs_device.specs.declared.error.Error.TheVariants as Error
 use Rattle.lfs_operations.proofs.MovLater.{aim, stands_across, changes_are, done_after_read, ends_after_read, survives_after_read, reports_after_read, reports_unmade, reports_unread, writes_after_read, writes_read}
 use Rattle.lfs_operations.proofs.MovPlaced.{ends_aimed, shows_aimed}
@@ -35,7 +35,7 @@ returns-in_err-copy-clause-device g c =
     let mid = c.copy_pair_slot.new.thread.kept in
     let only = c.copy_pair_slot.ensures.only in
     let to = c.args.route in
-    writes_read t mid (second_pair t to.old_pair to.first) to.new_pair only
+    writes_read t mid (second_step_pair t to.old_pair to.first) to.new_pair only
 
 pub returns-in_err-copy-clause-survives : goal.returns-in_err-copy-clause-survives
 returns-in_err-copy-clause-survives g c rename =
@@ -63,7 +63,7 @@ returns-in_err-changes-clause-device g c =
     let mid = c.copy_pair_slot.new.thread.kept in
     let only = c.copy_pair_slot.ensures.only in
     let to = c.args.route in
-    writes_read t mid (second_pair t to.old_pair to.first) to.new_pair only
+    writes_read t mid (second_step_pair t to.old_pair to.first) to.new_pair only
 
 pub returns-in_err-changes-clause-survives : goal.returns-in_err-changes-clause-survives
 returns-in_err-changes-clause-survives g c rename =
@@ -85,7 +85,7 @@ put_and_end-requires-clause-can g c =
     let changes = moving_changes c.args.replaces c.args.sync t to.old_pair to.old_id to.new_pair to.new_id c.args.name.now in
     subst₂ (λ b z. CanPutAndEnd mid to.old_pair to.old_id b to.new_pair z) (sym c.drops_with_slot-goes.ensures) (sym are) (record {
       turns = can_after_read t mid to.new_pair changes only at.aimed.can;
-      ends = λ last is. ends_after_read t mid only to.old_pair to.old_id (drops_with_its_slot t to.old_pair to.first) to.new_pair changes last (ends_aimed at.aimed last (put_after_read t mid last to.new_pair changes only is));
+      ends = λ last is. ends_after_read t mid only to.old_pair to.old_id (drops_emptied_pair t to.old_pair to.first) to.new_pair changes last (ends_aimed at.aimed last (put_after_read t mid last to.new_pair changes only is));
     })
 
 pub returns-clause-moved : goal.returns-clause-moved
@@ -121,8 +121,8 @@ returns-clause-device g c =
     let mid = c.copy_pair_slot.new.thread.kept in
     let only = c.copy_pair_slot.ensures.only in
     let to = c.args.route in
-    subst (λ b. WritesPairsTwo t (written_by_ending to.old_pair b) to.new_pair c.put_and_end.new.thread.kept) c.drops_with_slot-goes.ensures
-    (writes_after_read t mid c.put_and_end.new.thread.kept (written_by_ending to.old_pair c.drops_with_slot-goes.result) to.new_pair only c.put_and_end.ensures.device)
+    subst (λ b. WritesPairsTwo t (ending_written_pair to.old_pair b) to.new_pair c.put_and_end.new.thread.kept) c.drops_with_slot-goes.ensures
+    (writes_after_read t mid c.put_and_end.new.thread.kept (ending_written_pair to.old_pair c.drops_with_slot-goes.result) to.new_pair only c.put_and_end.ensures.device)
 
 pub returns-clause-survives : goal.returns-clause-survives
 returns-clause-survives g c rename =
@@ -132,7 +132,7 @@ returns-clause-survives g c rename =
     let to = c.args.route in
     let are = changes_are t mid only c.args.replaces c.args.sync to.old_pair to.old_id to.new_pair to.new_id c.args.name.now (ap changes_view c.deref.ensures.value ∙ c.in_ok-changes.ensures) c.move_setting_delta-state.ensures.delta c.in_ok-copy.ensures.copied in
     let at = aim t mid only c.args.replaces c.args.sync to.old_pair to.old_id to.first to.new_pair to.new_id c.args.name.now rename c.move_setting_delta-state.ensures.address in
-    survives_after_read t mid only to.old_pair to.old_id c.drops_with_slot-goes.result to.new_pair (moving_changes c.args.replaces c.args.sync t to.old_pair to.old_id to.new_pair to.new_id c.args.name.now) (written_by_ending to.old_pair c.drops_with_slot-goes.result) c.put_and_end.new.thread.kept
+    survives_after_read t mid only to.old_pair to.old_id c.drops_with_slot-goes.result to.new_pair (moving_changes c.args.replaces c.args.sync t to.old_pair to.old_id to.new_pair to.new_id c.args.name.now) (ending_written_pair to.old_pair c.drops_with_slot-goes.result) c.put_and_end.new.thread.kept
     (tree_across t c.args.replaces c.args.sync to.old_pair to.old_id to.first to.new_pair to.new_id c.args.name.now rename) c.put_and_end.ensures.device
     (subst (λ z. SurvivesCommits mid to.new_pair z c.put_and_end.new.thread.kept) are c.put_and_end.ensures.survives) at.old.ready
     (λ left l. subst (HasEitherTree (with_blocks left t.disk) (disk_tree t.disk t.pairs)) at.is (left_tree at.aimed.way left l)) (λ last is. shows_aimed at.aimed last is ∙ at.is)

@@ -1,4 +1,4 @@
-use Rattle.lfs_operations.proofs.Common.{inl, ℕ, ap, ap₂, length, sym, subst, ◌∙◌, ◌-◌, arith, Err, on_ok_weaker, err_from_is_err_and, changes_view, ChangesThreadBlocks, thread_pair, address_blocks, CanEndAt, HasEndedAt, written_by_ending, ReportsTakingCommits, number_after_insertion}
+use Rattle.lfs_operations.proofs.Common.{inl, ℕ, ap, ap₂, length, sym, subst, ◌∙◌, ◌-◌, arith, Err, on_ok_weaker, err_from_is_err_and, changes_view, ChangesThreadBlocks, thread_pair, address_blocks, CanEndMoveAt, HasEndedMoveAt, ending_written_pair, ReportsTakingCommits, number_after_insertion}
 use Rattle.lfs_operations.proofs.MovReporting.{not_io, survives_both, reports_of_end, writes_at_end, writes_first}
 use Rattle.lfs_operations.proofs.OntoWritten.{end_within, put_within}
 use Rattle.lfs_operations.proofs.moves.put_and_end.Goals as goal
@@ -19,7 +19,7 @@ returns-in_err-change_or_split-clause-errors g c =
     })
 
 pub returns-in_err-change_or_split-clause-device : goal.returns-in_err-change_or_split-clause-device
-returns-in_err-change_or_split-clause-device g c = writes_first c.args.thread.now.kept c.change_or_split.new.thread.kept (written_by_ending c.args.route.old_pair c.args.goes) c.args.route.new_pair c.change_or_split.ensures.device
+returns-in_err-change_or_split-clause-device g c = writes_first c.args.thread.now.kept c.change_or_split.new.thread.kept (ending_written_pair c.args.route.old_pair c.args.goes) c.args.route.new_pair c.change_or_split.ensures.device
 
 pub overflow_sub-fresh : goal.overflow_sub-fresh
 overflow_sub-fresh g c =
@@ -37,7 +37,7 @@ number_after_inserted-pair-requires g c =
 pub end_move-requires-clause-can : goal.end_move-requires-clause-can
 end_move-requires-clause-can g c =
     let ends = c.requires.can.ends c.change_or_split.new.thread.kept c.in_ok-change_or_split.ensures.is_put in
-    subst (λ i. CanEndAt c.change_or_split.new.thread.kept i c.args.route.old_id c.args.goes)
+    subst (λ i. CanEndMoveAt c.change_or_split.new.thread.kept i c.args.route.old_id c.args.goes)
     (sym (c.number_after_inserted-pair.ensures ∙ ap₂ (λ m n. number_after_insertion c.args.route.old_pair c.args.route.new_pair (m - n)) c.len.ensures c.len-before.ensures)) ends.can
 
 pub returns-clause-done : goal.returns-clause-done
@@ -47,14 +47,14 @@ returns-clause-done g c =
     let mid = c.change_or_split.new.thread.kept in
     let new = c.end_move.new.thread.kept in
     let ends = c.requires.can.ends mid c.in_ok-change_or_split.ensures.is_put in
-    let ended = subst (λ (i : ℕ). HasEndedAt mid i c.args.route.old_id c.args.goes new) index is in
+    let ended = subst (λ (i : ℕ). HasEndedMoveAt mid i c.args.route.old_id c.args.goes new) index is in
     record {
       mid = mid;
       put = c.in_ok-change_or_split.ensures.is_put;
       ended = ended;
       blocks = end_within c.args.thread.now.kept mid new (number_after_insertion c.args.route.old_pair c.args.route.new_pair (length mid.pairs - length c.args.thread.now.kept.pairs)) c.args.route.old_id c.args.goes
           (put_within c.args.thread.now.kept mid c.args.route.new_pair (changes_view c.args.changes.now) c.requires.can.turns.can.below c.in_ok-change_or_split.ensures.is_put c.change_or_split.ensures.device) ends.can.below ended
-          (subst (λ (i : ℕ). ChangesThreadBlocks (address_blocks (thread_pair mid (written_by_ending i c.args.goes)).at) mid new) index c.end_move.ensures.device);
+          (subst (λ (i : ℕ). ChangesThreadBlocks (address_blocks (thread_pair mid (ending_written_pair i c.args.goes)).at) mid new) index c.end_move.ensures.device);
     })
     c.end_move.ensures.ended
 
@@ -68,7 +68,7 @@ returns-clause-device g c =
     let index = c.number_after_inserted-pair.ensures ∙ ap₂ (λ m n. number_after_insertion c.args.route.old_pair c.args.route.new_pair (m - n)) c.len.ensures c.len-before.ensures in
     writes_at_end c.args.thread.now.kept c.change_or_split.new.thread.kept c.end_move.new.thread.kept c.args.route.old_pair c.args.route.old_id c.args.goes c.args.route.new_pair (changes_view c.args.changes.now) c.in_ok-change_or_split.ensures.is_put c.requires.can.turns.can.below
     (c.requires.can.ends c.change_or_split.new.thread.kept c.in_ok-change_or_split.ensures.is_put) c.change_or_split.ensures.device
-    (subst (λ (i : ℕ). ChangesThreadBlocks (address_blocks (thread_pair c.change_or_split.new.thread.kept (written_by_ending i c.args.goes)).at) c.change_or_split.new.thread.kept c.end_move.new.thread.kept) index c.end_move.ensures.device)
+    (subst (λ (i : ℕ). ChangesThreadBlocks (address_blocks (thread_pair c.change_or_split.new.thread.kept (ending_written_pair i c.args.goes)).at) c.change_or_split.new.thread.kept c.end_move.new.thread.kept) index c.end_move.ensures.device)
 
 pub returns-clause-survives : goal.returns-clause-survives
 returns-clause-survives g c =

@@ -1,10 +1,10 @@
-use Rattle.lfs_operations.proofs.Common.{ap, sym, subst, ◌∙◌, ◌≡◌, ◌∷◌, [], false, Some, Ok, Err, err_from_is_err_and, PutMove, PutTail, Gstate, array_address, with_sync_inverted, is_err, CanThreadIn, IsThreadedIn, complete_after, thread_pair, address_blocks, Outcome, move_view, threading_changes}
+use Rattle.lfs_operations.proofs.Common.{ap, sym, subst, ◌∙◌, ◌≡◌, ◌∷◌, [], false, Some, Ok, Err, err_from_is_err_and, PutMove, PutTail, Gstate, address_view, with_sync_inverted, is_err, CanThreadIn, IsThreadedIn, complete_after, thread_pair, address_blocks, Outcome, move_view, threading_changes}
 use Rattle.lfs_pair.specs.declared.commits.Outcome.TheVariants as outcome
 use Rattle.lfs_operations.proofs.MakingReported.{reported_again}
 use Rattle.lfs_operations.proofs.new_directories.link_pair_after.Goals as goal
 
 pub thread_in-requires-clause-can : goal.thread_in-requires-clause-can
-thread_in-requires-clause-can g c = subst (λ (m : Gstate). CanThreadIn c.args.thread.now.kept c.args.last (array_address c.args.fresh) (PutTail false (Some (array_address c.args.fresh)) ∷ PutMove m ∷ []))
+thread_in-requires-clause-can g c = subst (λ (m : Gstate). CanThreadIn c.args.thread.now.kept c.args.last (address_view c.args.fresh) (PutTail false (Some (address_view c.args.fresh)) ∷ PutMove m ∷ []))
     (sym (c.turned_sync_delta.ensures ∙ ap with_sync_inverted c.delta.ensures)) c.requires.can.can
 
 pub returns-in_err-thread_in-clause-errors : goal.returns-in_err-thread_in-clause-errors
@@ -13,7 +13,7 @@ returns-in_err-thread_in-clause-errors g c =
     let was = c.in_err-thread_in.was ∙ ap Err (sym p.2) in
     record {
       failed = c.thread_in.ensures.failed ∙ ap is_err was ∙ sym (ap is_err p.1);
-      reported = reported_again (address_blocks (array_address c.args.fresh)) c.args.thread.now.kept c.thread_in.new.self.kept p.0 c.thread_in.result c.from_residual.result was p.1 c.thread_in.ensures.errors;
+      reported = reported_again (address_blocks (address_view c.args.fresh)) c.args.thread.now.kept c.thread_in.new.self.kept p.0 c.thread_in.result c.from_residual.result was p.1 c.thread_in.ensures.errors;
     }
 
 pub returns-clause-is_joined : goal.returns-clause-is_joined
@@ -22,10 +22,10 @@ returns-clause-is_joined g c = by c.in_ok-thread_in.field-0 c.in_ok-thread_in.wa
     delta : move_view c.turned_sync_delta.result ≡ with_sync_inverted (thread_pair c.args.thread.now.kept c.args.last).content.move
     delta = c.turned_sync_delta.ensures ∙ ap with_sync_inverted c.delta.ensures
 
-    by : (o : Outcome) → c.thread_in.result ≡ Ok o → IsThreadedIn c.args.thread.now.kept c.args.last (array_address c.args.fresh) (threading_changes c.args.thread.now.kept c.args.last (array_address c.args.fresh)) c.thread_in.new.self.kept
-    by outcome.Done is = subst (λ (m : Gstate). IsThreadedIn c.args.thread.now.kept c.args.last (array_address c.args.fresh) (PutTail false (Some (array_address c.args.fresh)) ∷ PutMove m ∷ []) c.thread_in.new.self.kept) delta
+    by : (o : Outcome) → c.thread_in.result ≡ Ok o → IsThreadedIn c.args.thread.now.kept c.args.last (address_view c.args.fresh) (threading_changes c.args.thread.now.kept c.args.last (address_view c.args.fresh)) c.thread_in.new.self.kept
+    by outcome.Done is = subst (λ (m : Gstate). IsThreadedIn c.args.thread.now.kept c.args.last (address_view c.args.fresh) (PutTail false (Some (address_view c.args.fresh)) ∷ PutMove m ∷ []) c.thread_in.new.self.kept) delta
         (c.thread_in.ensures.done is)
     by outcome.Full is =
         let b = c.thread_in.ensures.full is in
         absurd (b.too_large (c.requires.can.fits b.content
-        (subst (λ (m : Gstate). complete_after c.args.thread.now.kept c.args.last (PutTail false (Some (array_address c.args.fresh)) ∷ PutMove m ∷ []) ≡ Some b.content) delta b.made)))
+        (subst (λ (m : Gstate). complete_after c.args.thread.now.kept c.args.last (PutTail false (Some (address_view c.args.fresh)) ∷ PutMove m ∷ []) ≡ Some b.content) delta b.made)))

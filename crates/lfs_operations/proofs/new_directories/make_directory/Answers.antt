@@ -1,4 +1,4 @@
-use Rattle.lfs_operations.proofs.Common.{CanLinkPairAfter, ap, sym, subst, ◌∙◌, arith, Err, on_ok_weaker, err_from_is_err_and, Disk, HasEitherTree, array_address, disk_tree, CleanLossLeaves, ThreadView, ThreadReportsKeepingOthers, IsThreadedIn, LossLeavesThreaded, ChangesThreadBlocks, thread_pair, address_blocks, addresses_blocks, map_taking_two, ReportsMaking, threading_changes, tree_with_directory}
+use Rattle.lfs_operations.proofs.Common.{CanLinkPairAfter, ap, sym, subst, ◌∙◌, arith, Err, on_ok_weaker, err_from_is_err_and, Disk, HasEitherTree, address_view, disk_tree, CleanLossLeaves, ThreadView, ThreadReportsKeepingOthers, IsThreadedIn, LossLeavesThreaded, ChangesThreadBlocks, thread_pair, address_blocks, addresses_blocks, map_taking_two, ReportsMaking, threading_changes, tree_with_directory}
 use Rattle.lfs_device.specs.declared.error.Error.TheVariants as Error
 use Rattle.lfs_operations.proofs.MakingCounts.{no_room}
 use Rattle.lfs_operations.proofs.MakingReported.{reports_first, reports_second}
@@ -20,7 +20,7 @@ pub link_pair_after-requires-clause-can : goal.link_pair_after-requires-clause-c
 link_pair_after-requires-clause-can g c =
     let t = c.args.thread.now.kept in
     let last = c.last_directory_pair-last in
-    let fresh = array_address c.in-Some.fresh in
+    let fresh = address_view c.in-Some.fresh in
     let free = c.in-Some.ensures.were_free in
     let facts = c.lemma_device_facts.ensures in
     subst (λ (s : ThreadView). CanLinkPairAfter s.kept last.result fresh) (sym c.in-Some.ensures.taken) (record {
@@ -32,19 +32,19 @@ pub returns-in_err-link_pair_after-clause-errors : goal.returns-in_err-link_pair
 returns-in_err-link_pair_after-clause-errors g c =
     let p = err_from_is_err_and c.from_residual.result c.from_residual.ensures.1 in
     subst (λ r. ReportsMaking c.args.thread.now c.link_pair_after.new.thread r) (c.in_err-link_pair_after.was ∙ ap Err (sym p.2) ∙ sym p.1)
-    (reports_first c.args.thread.now c.link_pair_after.new.thread (map_taking_two c.args.thread.now.kept.map (array_address c.in-Some.fresh)) (address_blocks (array_address c.in-Some.fresh)) c.link_pair_after.result c.link_pair_after.ensures.errors.failed
-    (subst (λ (s : ThreadView). ThreadReportsKeepingOthers (address_blocks (array_address c.in-Some.fresh)) s.kept c.link_pair_after.new.thread.kept c.link_pair_after.result) c.in-Some.ensures.taken c.link_pair_after.ensures.errors.reported))
+    (reports_first c.args.thread.now c.link_pair_after.new.thread (map_taking_two c.args.thread.now.kept.map (address_view c.in-Some.fresh)) (address_blocks (address_view c.in-Some.fresh)) c.link_pair_after.result c.link_pair_after.ensures.errors.failed
+    (subst (λ (s : ThreadView). ThreadReportsKeepingOthers (address_blocks (address_view c.in-Some.fresh)) s.kept c.link_pair_after.new.thread.kept c.link_pair_after.result) c.in-Some.ensures.taken c.link_pair_after.ensures.errors.reported))
 
 pub returns-in_err-link_pair_after-clause-device : goal.returns-in_err-link_pair_after-clause-device
 returns-in_err-link_pair_after-clause-device g c =
-    writes_first c.args.thread.now.kept c.args.pair c.last_directory_pair-last.result c.last_directory_pair-last.ensures (array_address c.in-Some.fresh) c.in-Some.ensures.were_free c.link_pair_after.new.thread.kept
-    (subst (λ (s : ThreadView). ChangesThreadBlocks (addresses_blocks (thread_pair s.kept c.last_directory_pair-last.result).at (array_address c.in-Some.fresh)) s.kept c.link_pair_after.new.thread.kept) c.in-Some.ensures.taken c.link_pair_after.ensures.device)
+    writes_first c.args.thread.now.kept c.args.pair c.last_directory_pair-last.result c.last_directory_pair-last.ensures (address_view c.in-Some.fresh) c.in-Some.ensures.were_free c.link_pair_after.new.thread.kept
+    (subst (λ (s : ThreadView). ChangesThreadBlocks (addresses_blocks (thread_pair s.kept c.last_directory_pair-last.result).at (address_view c.in-Some.fresh)) s.kept c.link_pair_after.new.thread.kept) c.in-Some.ensures.taken c.link_pair_after.ensures.device)
 
 pub returns-in_err-link_pair_after-clause-survives : goal.returns-in_err-link_pair_after-clause-survives
 returns-in_err-link_pair_after-clause-survives g c can =
     let t = c.args.thread.now.kept in
     let last = c.last_directory_pair-last.result in
-    let fresh = array_address c.in-Some.fresh in
+    let fresh = address_view c.in-Some.fresh in
     survives_step t.disk
     (left_by_threading t c.args.pair c.args.id c.args.name.now can last c.last_directory_pair-last.ensures fresh c.in-Some.ensures.were_free c.lemma_device_facts.ensures.bytes c.lemma_device_facts.ensures.count)
     (subst (λ (s : ThreadView). CleanLossLeaves s.kept.history c.link_pair_after.new.thread.kept.history (LossLeavesThreaded s.kept last fresh (threading_changes s.kept last fresh))) c.in-Some.ensures.taken c.link_pair_after.ensures.stops)
@@ -54,7 +54,7 @@ put_branch_entry-requires-clause-can g c =
     let t = c.args.thread.now.kept in
     let m = c.link_pair_after.new.thread.kept in
     let last = c.last_directory_pair-last.result in
-    let fresh = array_address c.in-Some.fresh in
+    let fresh = address_view c.in-Some.fresh in
     can_enter t c.args.pair c.args.id c.args.name.now c.requires.can last c.last_directory_pair-last.ensures fresh c.in-Some.ensures.were_free c.lemma_device_facts.ensures.bytes c.lemma_device_facts.ensures.count m
     (threaded_now t c.args.pair c.args.id c.args.name.now c.requires.can last c.last_directory_pair-last.ensures fresh c.in-Some.ensures.were_free c.lemma_device_facts.ensures.bytes c.lemma_device_facts.ensures.count m
     (subst (λ (s : ThreadView). IsThreadedIn s.kept last fresh (threading_changes s.kept last fresh) m) c.in-Some.ensures.taken c.in_ok-link_pair_after.ensures.is_joined)
@@ -67,7 +67,7 @@ returns-clause-made g c =
     let t = c.args.thread.now.kept in
     let m = c.link_pair_after.new.thread.kept in
     let last = c.last_directory_pair-last.result in
-    let fresh = array_address c.in-Some.fresh in
+    let fresh = address_view c.in-Some.fresh in
     let writes = subst (λ (s : ThreadView). ChangesThreadBlocks (addresses_blocks (thread_pair s.kept last).at fresh) s.kept m) c.in-Some.ensures.taken c.link_pair_after.ensures.device in
     let h = threaded_now t c.args.pair c.args.id c.args.name.now can last c.last_directory_pair-last.ensures fresh c.in-Some.ensures.were_free c.lemma_device_facts.ensures.bytes c.lemma_device_facts.ensures.count m
     (subst (λ (s : ThreadView). IsThreadedIn s.kept last fresh (threading_changes s.kept last fresh) m) c.in-Some.ensures.taken c.in_ok-link_pair_after.ensures.is_joined) writes in
@@ -81,7 +81,7 @@ returns-clause-alters g c =
     let t = c.args.thread.now.kept in
     let m = c.link_pair_after.new.thread.kept in
     let last = c.last_directory_pair-last.result in
-    let fresh = array_address c.in-Some.fresh in
+    let fresh = address_view c.in-Some.fresh in
     let writes = subst (λ (s : ThreadView). ChangesThreadBlocks (addresses_blocks (thread_pair s.kept last).at fresh) s.kept m) c.in-Some.ensures.taken c.link_pair_after.ensures.device in
     let h = threaded_now t c.args.pair c.args.id c.args.name.now c.requires.can last c.last_directory_pair-last.ensures fresh c.in-Some.ensures.were_free c.lemma_device_facts.ensures.bytes c.lemma_device_facts.ensures.count m
     (subst (λ (s : ThreadView). IsThreadedIn s.kept last fresh (threading_changes s.kept last fresh) m) c.in-Some.ensures.taken c.in_ok-link_pair_after.ensures.is_joined) writes in
@@ -94,7 +94,7 @@ returns-clause-device g c =
     let t = c.args.thread.now.kept in
     let m = c.link_pair_after.new.thread.kept in
     let last = c.last_directory_pair-last.result in
-    let fresh = array_address c.in-Some.fresh in
+    let fresh = address_view c.in-Some.fresh in
     let writes = subst (λ (s : ThreadView). ChangesThreadBlocks (addresses_blocks (thread_pair s.kept last).at fresh) s.kept m) c.in-Some.ensures.taken c.link_pair_after.ensures.device in
     let h = threaded_now t c.args.pair c.args.id c.args.name.now c.requires.can last c.last_directory_pair-last.ensures fresh c.in-Some.ensures.were_free c.lemma_device_facts.ensures.bytes c.lemma_device_facts.ensures.count m
     (subst (λ (s : ThreadView). IsThreadedIn s.kept last fresh (threading_changes s.kept last fresh) m) c.in-Some.ensures.taken c.in_ok-link_pair_after.ensures.is_joined) writes in
@@ -107,7 +107,7 @@ returns-clause-survives g c can =
     let t = c.args.thread.now.kept in
     let m = c.link_pair_after.new.thread.kept in
     let last = c.last_directory_pair-last.result in
-    let fresh = array_address c.in-Some.fresh in
+    let fresh = address_view c.in-Some.fresh in
     let writes = subst (λ (s : ThreadView). ChangesThreadBlocks (addresses_blocks (thread_pair s.kept last).at fresh) s.kept m) c.in-Some.ensures.taken c.link_pair_after.ensures.device in
     let h = threaded_now t c.args.pair c.args.id c.args.name.now can last c.last_directory_pair-last.ensures fresh c.in-Some.ensures.were_free c.lemma_device_facts.ensures.bytes c.lemma_device_facts.ensures.count m
     (subst (λ (s : ThreadView). IsThreadedIn s.kept last fresh (threading_changes s.kept last fresh) m) c.in-Some.ensures.taken c.in_ok-link_pair_after.ensures.is_joined) writes in
@@ -130,7 +130,7 @@ returns-in_err-link_pair_after-clause-stands g c memory can =
     let t = c.args.thread.now.kept in
     let new = c.link_pair_after.new.thread.kept in
     let last = c.last_directory_pair-last.result in
-    let fresh = array_address c.in-Some.fresh in
+    let fresh = address_view c.in-Some.fresh in
     let p = err_from_is_err_and c.from_residual.result c.from_residual.ensures.1 in
     let reported = subst (λ (s : ThreadView). ThreadReportsKeepingOthers (address_blocks fresh) s.kept new c.link_pair_after.result) c.in-Some.ensures.taken c.link_pair_after.ensures.errors.reported in
     left_unthreaded t c.args.pair c.args.id c.args.name.now can last c.last_directory_pair-last.ensures fresh c.in-Some.ensures.were_free c.lemma_device_facts.ensures.bytes c.lemma_device_facts.ensures.count new
@@ -142,7 +142,7 @@ returns-clause-errors g c =
     let t = c.args.thread.now.kept in
     let m = c.link_pair_after.new.thread.kept in
     let last = c.last_directory_pair-last.result in
-    let fresh = array_address c.in-Some.fresh in
+    let fresh = address_view c.in-Some.fresh in
     let h = threaded_now t c.args.pair c.args.id c.args.name.now c.requires.can last c.last_directory_pair-last.ensures fresh c.in-Some.ensures.were_free c.lemma_device_facts.ensures.bytes c.lemma_device_facts.ensures.count m
     (subst (λ (s : ThreadView). IsThreadedIn s.kept last fresh (threading_changes s.kept last fresh) m) c.in-Some.ensures.taken c.in_ok-link_pair_after.ensures.is_joined)
     (subst (λ (s : ThreadView). ChangesThreadBlocks (addresses_blocks (thread_pair s.kept last).at fresh) s.kept m) c.in-Some.ensures.taken c.link_pair_after.ensures.device) in
@@ -158,7 +158,7 @@ returns-clause-stands g c memory can =
     let t = c.args.thread.now.kept in
     let m = c.link_pair_after.new.thread.kept in
     let last = c.last_directory_pair-last.result in
-    let fresh = array_address c.in-Some.fresh in
+    let fresh = address_view c.in-Some.fresh in
     let h = threaded_now t c.args.pair c.args.id c.args.name.now can last c.last_directory_pair-last.ensures fresh c.in-Some.ensures.were_free c.lemma_device_facts.ensures.bytes c.lemma_device_facts.ensures.count m
     (subst (λ (s : ThreadView). IsThreadedIn s.kept last fresh (threading_changes s.kept last fresh) m) c.in-Some.ensures.taken c.in_ok-link_pair_after.ensures.is_joined)
     (subst (λ (s : ThreadView). ChangesThreadBlocks (addresses_blocks (thread_pair s.kept last).at fresh) s.kept m) c.in-Some.ensures.taken c.link_pair_after.ensures.device) in

@@ -1,11 +1,11 @@
-use Rattle.lfs_operations.proofs.Common.{ap, ◌∙◌, set, array_address, BlockStates, Free, ThreadView}
+use Rattle.lfs_operations.proofs.Common.{ap, ◌∙◌, set, address_view, BlockStates, Free, ThreadView}
 use Rattle.lfs_operations.proofs.Taking.{both_back}
 use Rattle.lfs_operations.proofs.wear.find_two_free.Goals as goal
 
 pub returns-clause-same : goal.returns-clause-same
 returns-clause-same g c =
     let old = c.args.thread.now in
-    let fresh = array_address c.in-Some.fresh in
+    let fresh = address_view c.in-Some.fresh in
     c.release-2.ensures
     ∙ ap (λ (t : ThreadView). record t { kept = record t.kept { map = set t.kept.map fresh.0 Free } })
     (c.release.ensures ∙ ap (λ (t : ThreadView). record t { kept = record t.kept { map = set t.kept.map fresh.1 Free } }) c.in-Some.ensures.taken)

@@ -1,5 +1,5 @@
 use Rattle.lfs_model.proofs.Histories.{began}
-use Rattle.lfs_operations.proofs.Common.{◌≡◌, ◌<◌, ◌-◌, ◌∙◌, true, length, sym, ap, subst, arith, Err, err_from_is_err_and, array_address, thread_pair, is_worn, is_hard_tail, AreTwoFree}
+use Rattle.lfs_operations.proofs.Common.{◌≡◌, ◌<◌, ◌-◌, ◌∙◌, true, length, sym, ap, subst, arith, Err, err_from_is_err_and, address_view, thread_pair, is_worn, is_hard_tail, AreTwoFree}
 use Rattle.lfs_operations.specs.Wear.{BeginsBehindRoot, HasUnloadRoom}
 use Rattle.lfs_operations.proofs.MakingReported.{makes_again, makes_done}
 use Rattle.lfs_operations.proofs.OntoWritten.{writes_of_pair}
@@ -20,13 +20,13 @@ pub returns-else-begins_behind_root-clause-done : goal.returns-else-begins_behin
 returns-else-begins_behind_root-clause-done g c = none_moves c.args.thread.now.kept c.args.root c.args.plan c.requires.ready c.requires.root_is
 
 pub next-requires-clause-below : goal.next-requires-clause-below
-next-requires-clause-below g c = is_below c.args.thread.now.kept.pairs (array_address c.args.plan.at) c.in-Some.index c.in-Some.ensures.there
+next-requires-clause-below g c = is_below c.args.thread.now.kept.pairs (address_view c.args.plan.at) c.in-Some.index c.in-Some.ensures.there
 
 pub is_worn_pair-requires-2-clause-below : goal.is_worn_pair-requires-2-clause-below
-is_worn_pair-requires-2-clause-below g c = is_below c.args.thread.now.kept.pairs (array_address c.args.plan.at) c.in-Some.index c.in-Some.ensures.there
+is_worn_pair-requires-2-clause-below g c = is_below c.args.thread.now.kept.pairs (address_view c.args.plan.at) c.in-Some.index c.in-Some.ensures.there
 
 pub begins_behind_root-requires-clause-below : goal.begins_behind_root-requires-clause-below
-begins_behind_root-requires-clause-below g c = is_below c.args.thread.now.kept.pairs (array_address c.args.plan.at) c.in-Some.index c.in-Some.ensures.there
+begins_behind_root-requires-clause-below g c = is_below c.args.thread.now.kept.pairs (address_view c.args.plan.at) c.in-Some.index c.in-Some.ensures.there
 
 pub returns-else-begins_behind_root-clause-device : goal.returns-else-begins_behind_root-clause-device
 returns-else-begins_behind_root-clause-device g c = thread_stays c.args.thread.now.kept
@@ -36,8 +36,8 @@ returns-else-begins_behind_root-clause-survives g c = λ clean. began
 
 pub move_pair-requires-clause-can : goal.move_pair-requires-clause-can
 move_pair-requires-clause-can g c =
-    let two : AreTwoFree c.args.thread.now.kept.map (array_address c.args.plan.fresh) = record { apart = c.requires.blocks.apart; first = c.is_free.ensures.0 c.if-not-is_free.false; second = c.is_free-else-not-is_free.ensures.0 c.if-not-is_free-2.false } in
-    can_go c.args.thread.now.kept c.in-Some.index c.in-Some-next.next (array_address c.args.plan.fresh) c.requires.ready c.in-Some-next.ensures.next c.in-Some-next.ensures.below (sym c.is_worn_pair.ensures ∙ c.if-is_worn_pair.true) two
+    let two : AreTwoFree c.args.thread.now.kept.map (address_view c.args.plan.fresh) = record { apart = c.requires.blocks.apart; first = c.is_free.ensures.0 c.if-not-is_free.false; second = c.is_free-else-not-is_free.ensures.0 c.if-not-is_free-2.false } in
+    can_go c.args.thread.now.kept c.in-Some.index c.in-Some-next.next (address_view c.args.plan.fresh) c.requires.ready c.in-Some-next.ensures.next c.in-Some-next.ensures.below (sym c.is_worn_pair.ensures ∙ c.if-is_worn_pair.true) two
 
 pub returns-in_err-move_pair-clause-errors : goal.returns-in_err-move_pair-clause-errors
 returns-in_err-move_pair-clause-errors g c =
@@ -56,7 +56,7 @@ returns-then-is_worn_pair-clause-done g c =
 
 pub expand_root-requires-clause-can : goal.expand_root-requires-clause-can
 expand_root-requires-clause-can g c =
-    let two : AreTwoFree c.args.thread.now.kept.map (array_address c.args.plan.fresh) = record { apart = c.requires.blocks.apart; first = c.is_free.ensures.0 c.if-not-is_free.false; second = c.is_free-else-not-is_free.ensures.0 c.if-not-is_free-2.false } in
+    let two : AreTwoFree c.args.thread.now.kept.map (address_view c.args.plan.fresh) = record { apart = c.requires.blocks.apart; first = c.is_free.ensures.0 c.if-not-is_free.false; second = c.is_free-else-not-is_free.ensures.0 c.if-not-is_free-2.false } in
     let room : HasUnloadRoom c.args.thread.now.kept c.args.plan.limit = known_there c.has_unload_room.result (HasUnloadRoom c.args.thread.now.kept c.args.plan.limit) c.has_unload_room.ensures c.if-not-has_unload_room.false in
     record {
       ready = c.requires.ready;
@@ -72,10 +72,10 @@ returns-in_err-expand_root-clause-errors g c =
     makes_again c.args.thread.now c.expand_root.new.thread p.0 c.expand_root.result c.from_residual-in_err-expand_root.result (c.in_err-expand_root.was ∙ ap Err (sym p.2)) p.1 c.expand_root.ensures.errors
 
 pub returns-in_err-expand_root-clause-device : goal.returns-in_err-expand_root-clause-device
-returns-in_err-expand_root-clause-device g c = writes_of_pair c.args.thread.now.kept c.expand_root.new.thread.kept 0 (let b : c.in-Some.index < length c.args.thread.now.kept.pairs = is_below c.args.thread.now.kept.pairs (array_address c.args.plan.at) c.in-Some.index c.in-Some.ensures.there in omega arith) c.expand_root.ensures.device
+returns-in_err-expand_root-clause-device g c = writes_of_pair c.args.thread.now.kept c.expand_root.new.thread.kept 0 (let b : c.in-Some.index < length c.args.thread.now.kept.pairs = is_below c.args.thread.now.kept.pairs (address_view c.args.plan.at) c.in-Some.index c.in-Some.ensures.there in omega arith) c.expand_root.ensures.device
 
 pub returns-then-root-eq0-clause-device : goal.returns-then-root-eq0-clause-device
-returns-then-root-eq0-clause-device g c = writes_of_pair c.args.thread.now.kept c.expand_root.new.thread.kept 0 (let b : c.in-Some.index < length c.args.thread.now.kept.pairs = is_below c.args.thread.now.kept.pairs (array_address c.args.plan.at) c.in-Some.index c.in-Some.ensures.there in omega arith) c.expand_root.ensures.device
+returns-then-root-eq0-clause-device g c = writes_of_pair c.args.thread.now.kept c.expand_root.new.thread.kept 0 (let b : c.in-Some.index < length c.args.thread.now.kept.pairs = is_below c.args.thread.now.kept.pairs (address_view c.args.plan.at) c.in-Some.index c.in-Some.ensures.there in omega arith) c.expand_root.ensures.device
 
 pub returns-then-root-eq0-clause-done : goal.returns-then-root-eq0-clause-done
 returns-then-root-eq0-clause-done g c =
@@ -87,11 +87,11 @@ returns-then-root-eq0-clause-errors g c = makes_done c.args.thread.now c.expand_
 
 pub unload_pair-requires-clause-can : goal.unload_pair-requires-clause-can
 unload_pair-requires-clause-can g c =
-    let two : AreTwoFree c.args.thread.now.kept.map (array_address c.args.plan.fresh) = record { apart = c.requires.blocks.apart; first = c.is_free.ensures.0 c.if-not-is_free.false; second = c.is_free-else-not-is_free.ensures.0 c.if-not-is_free-2.false } in
+    let two : AreTwoFree c.args.thread.now.kept.map (address_view c.args.plan.fresh) = record { apart = c.requires.blocks.apart; first = c.is_free.ensures.0 c.if-not-is_free.false; second = c.is_free-else-not-is_free.ensures.0 c.if-not-is_free-2.false } in
     let room : HasUnloadRoom c.args.thread.now.kept c.args.plan.limit = known_there c.has_unload_room.result (HasUnloadRoom c.args.thread.now.kept c.args.plan.limit) c.has_unload_room.ensures c.if-not-has_unload_room.false in
     record {
       ready = c.requires.ready;
-      below = is_below c.args.thread.now.kept.pairs (array_address c.args.plan.at) c.in-Some.index c.in-Some.ensures.there;
+      below = is_below c.args.thread.now.kept.pairs (address_view c.args.plan.at) c.in-Some.index c.in-Some.ensures.there;
       begins = subst (λ r. BeginsBehindRoot c.args.thread.now.kept r c.in-Some.index) c.requires.root_is (known_there c.begins_behind_root.result (BeginsBehindRoot c.args.thread.now.kept c.args.root c.in-Some.index) c.begins_behind_root.ensures c.if-begins_behind_root.true);
       worn = sym c.is_worn_pair-2.ensures ∙ c.if-not-is_worn_pair.false;
       eighth = room.eighth;
@@ -104,10 +104,10 @@ returns-in_err-unload_pair-clause-errors g c =
     makes_again c.args.thread.now c.unload_pair.new.thread p.0 c.unload_pair.result c.from_residual-in_err-unload_pair.result (c.in_err-unload_pair.was ∙ ap Err (sym p.2)) p.1 c.unload_pair.ensures.errors
 
 pub returns-in_err-unload_pair-clause-device : goal.returns-in_err-unload_pair-clause-device
-returns-in_err-unload_pair-clause-device g c = writes_of_pair c.args.thread.now.kept c.unload_pair.new.thread.kept c.in-Some.index (is_below c.args.thread.now.kept.pairs (array_address c.args.plan.at) c.in-Some.index c.in-Some.ensures.there) c.unload_pair.ensures.device
+returns-in_err-unload_pair-clause-device g c = writes_of_pair c.args.thread.now.kept c.unload_pair.new.thread.kept c.in-Some.index (is_below c.args.thread.now.kept.pairs (address_view c.args.plan.at) c.in-Some.index c.in-Some.ensures.there) c.unload_pair.ensures.device
 
 pub returns-in_ok-unload_pair-clause-device : goal.returns-in_ok-unload_pair-clause-device
-returns-in_ok-unload_pair-clause-device g c = writes_of_pair c.args.thread.now.kept c.unload_pair.new.thread.kept c.in-Some.index (is_below c.args.thread.now.kept.pairs (array_address c.args.plan.at) c.in-Some.index c.in-Some.ensures.there) c.unload_pair.ensures.device
+returns-in_ok-unload_pair-clause-device g c = writes_of_pair c.args.thread.now.kept c.unload_pair.new.thread.kept c.in-Some.index (is_below c.args.thread.now.kept.pairs (address_view c.args.plan.at) c.in-Some.index c.in-Some.ensures.there) c.unload_pair.ensures.device
 
 pub returns-in_ok-unload_pair-clause-done : goal.returns-in_ok-unload_pair-clause-done
 returns-in_ok-unload_pair-clause-done g c =

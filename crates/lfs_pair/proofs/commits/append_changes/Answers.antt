@@ -1,4 +1,4 @@
-use Rattle.lfs_pair.proofs.Common.{SameExcept, block_bytes, AreUnprogrammed, address_blocks, encoded_size, aligned_end, IsCommitOffset, padded_end_of, LogGetsCommit, LossLeavesCommit, disk_of_blocks, array_address, entries_of_changes, HoldsAtLosses-weaker, PartialCommit, content_view, header_address, commit_with_more, KeepsFirstEntry, LossLeavesNew, changes_view, err_from_is_err_and}
+use Rattle.lfs_pair.proofs.Common.{SameExcept, block_bytes, AreUnprogrammed, address_blocks, encoded_size, aligned_end, IsCommitOffset, padded_commit_end, LogGetsCommit, LossLeavesCommit, disk_of_blocks, address_view, entries_of_changes, HoldsAtLosses-weaker, PartialCommit, content_view, header_address, commit_with_entries, KeepsFirstEntry, LossLeavesNew, changes_view, err_from_is_err_and}
 use Rattle.lfs_pair.specs.Writing.{BlockGetsCommit}
 use Rattle.lfs_pair.proofs.Anew.{nothing_more}
 use Rattle.std.proofs.Common.{rules, ◌≡◌, ◌+◌, ◌%◌, ◌<◌, inl, Ok, refl, sym, ap, ap₂, ◌∙◌, subst, arith, Some}
@@ -35,13 +35,13 @@ program_commit_at-requires g c = record {
   begins =
       subst (λ (k : Geometry). c.args.pair.now.end % k.page ≡ 0) (sym c.in_ok-is_blank.ensures.asks.geometry) (c.in_ok-is_blank.ensures.yes (ap Ok c.if-not-is_blank.false)).whole_pages;
   page =
-      let built = c.push_changes.ensures ∙ ap (commit_with_more (entries_of_changes (changes_view c.args.changes.now))) c.new-builder.ensures in
+      let built = c.push_changes.ensures ∙ ap (commit_with_entries (entries_of_changes (changes_view c.args.changes.now))) c.new-builder.ensures in
       ap (λ (b : PartialCommit). b.page) built ∙ ap (λ (k : Geometry). k.page) (c.geometry-geometry.ensures ∙ sym c.in_ok-is_blank.ensures.asks.geometry);
   room = search rules;
   ends = search rules;
   goes =
       let can = c.requires.can in
-      let built = c.push_changes.ensures ∙ ap (commit_with_more (entries_of_changes (changes_view c.args.changes.now))) c.new-builder.ensures in
+      let built = c.push_changes.ensures ∙ ap (commit_with_entries (entries_of_changes (changes_view c.args.changes.now))) c.new-builder.ensures in
       subst (λ b. IsCommitOffset c.push_changes.new.builder.revision c.push_changes.new.builder.previous (block_bytes b c.args.pair.now.active) c.args.pair.now.end) (sym c.in_ok-is_blank.ensures.asks.same)
       (search rules);
   unprogrammed =
@@ -52,7 +52,7 @@ program_commit_at-requires g c = record {
 pub returns-in_err-written-clause-stops : goal.returns-in_err-written-clause-stops
 returns-in_err-written-clause-stops g c =
     let can = c.requires.can in
-    let built = c.push_changes.ensures ∙ ap (commit_with_more (entries_of_changes (changes_view c.args.changes.now))) c.new-builder.ensures in
+    let built = c.push_changes.ensures ∙ ap (commit_with_entries (entries_of_changes (changes_view c.args.changes.now))) c.new-builder.ensures in
     let ready = is_appending _ _ c.args.pair.now can.held can.new (changes_view c.args.changes.now) c.push_changes.new.builder can.address can.is_pair can.changed (ap (λ (b : PartialCommit). b.entries) built) (ap (λ (b : PartialCommit). b.revision) built) in
     let new : Some can.new ≡ Some (content_view c.args.content.now) = sym (made_is _ _ c.args.pair.now can.held (changes_view c.args.changes.now) can.is_pair ∙ can.changed) ∙ c.requires.made in
     HoldsAtLosses-weaker (λ disk left. subst (λ k. LossLeavesNew (disk_of_blocks (g.D.BlockDevice.geometry c.args.dev.now) (g.D.BlockDevice.blocks c.args.dev.now)) (header_address c.args.pair.now) k disk) (some_same new)
@@ -66,17 +66,17 @@ returns-clause-ends g c = record {
       let others = subst (λ b. SameExcept c.args.pair.now.active b (g.D.BlockDevice.blocks c.program_commit_at.new.dev)) asks.same c.in_ok-written.ensures.writes.device.others in
       let geometry = c.in_ok-written.ensures.writes.device.geometry ∙ asks.geometry in
       let adds = subst (λ b. BlockGetsCommit c.push_changes.new.builder c.args.pair.now.end c.in_ok-written.written.end (block_bytes b c.args.pair.now.active) (block_bytes (g.D.BlockDevice.blocks c.program_commit_at.new.dev) c.args.pair.now.active)) asks.same c.in_ok-written.ensures.adds in
-      let built = c.push_changes.ensures ∙ ap (commit_with_more (entries_of_changes (changes_view c.args.changes.now))) c.new-builder.ensures in
+      let built = c.push_changes.ensures ∙ ap (commit_with_entries (entries_of_changes (changes_view c.args.changes.now))) c.new-builder.ensures in
       let ready = is_appending _ _ c.args.pair.now can.held can.new (changes_view c.args.changes.now) c.push_changes.new.builder can.address can.is_pair can.changed (ap (λ (b : PartialCommit). b.entries) built) (ap (λ (b : PartialCommit). b.revision) built) in
       let new : Some can.new ≡ Some (content_view c.args.content.now) = sym (made_is _ _ c.args.pair.now can.held (changes_view c.args.changes.now) can.is_pair ∙ can.changed) ∙ c.requires.made in
       let holds = subst (λ k. IsIn (disk_of_blocks k (g.D.BlockDevice.blocks c.program_commit_at.new.dev)) (header_address c.args.pair.now) c.args.pair.now.active (content_view c.args.content.now)) (sym geometry)
       (subst (IsIn (disk_of_blocks (g.D.BlockDevice.geometry c.args.dev.now) (g.D.BlockDevice.blocks c.program_commit_at.new.dev)) (header_address c.args.pair.now) c.args.pair.now.active) (some_same new)
       (appended _ _ _ _ _ _ _ (g.D.BlockDevice.blocks c.program_commit_at.new.dev) ready others adds.commit)) in
       let gets = subst (λ (b : PartialCommit). LogGetsCommit b (block_bytes (g.D.BlockDevice.blocks c.args.dev.now) c.args.pair.now.active) (block_bytes (g.D.BlockDevice.blocks c.program_commit_at.new.dev) c.args.pair.now.active)) built adds.commit in
-      let ends = ap padded_end_of built ∙ ap (aligned_end c.geometry-geometry.result.page) (nothing_more (encoded_size (entries_of_changes (changes_view c.args.changes.now)))) ∙ ap (λ (k : Geometry). aligned_end k.page (encoded_size (entries_of_changes (changes_view c.args.changes.now)))) c.geometry-geometry.ensures in
+      let ends = ap padded_commit_end built ∙ ap (aligned_end c.geometry-geometry.result.page) (nothing_more (encoded_size (entries_of_changes (changes_view c.args.changes.now)))) ∙ ap (λ (k : Geometry). aligned_end k.page (encoded_size (entries_of_changes (changes_view c.args.changes.now)))) c.geometry-geometry.ensures in
       record {
         holds = now_holds _ _ _ c.written.result c.args.pair.now.active _ holds
-            (ap array_address c.written.ensures.blocks) c.written.ensures.active c.written.ensures.fetched
+            (ap address_view c.written.ensures.blocks) c.written.ensures.active c.written.ensures.fetched
             (c.written.ensures.revision ∙ can.is_pair.describes.revision ∙ sym (gets_revision c.push_changes.new.builder _ _ ready.no_revision adds.commit))
             c.written.ensures.ends c.in_ok-written.ensures.written c.written.ensures.sums c.requires.logged;
         first = subst (λ k. KeepsFirstEntry (disk_of_blocks (g.D.BlockDevice.geometry c.args.dev.now) (g.D.BlockDevice.blocks c.args.dev.now)) (header_address c.args.pair.now) (Some (content_view c.args.content.now)) (disk_of_blocks k (g.D.BlockDevice.blocks c.program_commit_at.new.dev)))
@@ -103,7 +103,7 @@ returns-clause-ends g c = record {
 pub returns-clause-stops : goal.returns-clause-stops
 returns-clause-stops g c =
     let can = c.requires.can in
-    let built = c.push_changes.ensures ∙ ap (commit_with_more (entries_of_changes (changes_view c.args.changes.now))) c.new-builder.ensures in
+    let built = c.push_changes.ensures ∙ ap (commit_with_entries (entries_of_changes (changes_view c.args.changes.now))) c.new-builder.ensures in
     let ready = is_appending _ _ c.args.pair.now can.held can.new (changes_view c.args.changes.now) c.push_changes.new.builder can.address can.is_pair can.changed (ap (λ (b : PartialCommit). b.entries) built) (ap (λ (b : PartialCommit). b.revision) built) in
     let new : Some can.new ≡ Some (content_view c.args.content.now) = sym (made_is _ _ c.args.pair.now can.held (changes_view c.args.changes.now) can.is_pair ∙ can.changed) ∙ c.requires.made in
     HoldsAtLosses-weaker (λ disk left. subst (λ k. LossLeavesNew (disk_of_blocks (g.D.BlockDevice.geometry c.args.dev.now) (g.D.BlockDevice.blocks c.args.dev.now)) (header_address c.args.pair.now) k disk) (some_same new)

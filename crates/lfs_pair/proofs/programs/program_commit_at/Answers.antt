@@ -1,7 +1,7 @@
 use Rattle.std.proofs.Common.{rules, ◌≡◌, ◌+◌, ◌-◌, ◌^◌, ◌≤◌, ℕ, refl, sym, ap, ◌∙◌, inl, arith, subst}
 use Rattle.std.specs.Prelude.{min, take}
 use Rattle.lfs_device.specs.declared.geometry.Geometry.{Geometry}
-use Rattle.lfs_pair.proofs.Common.{block_bytes, overwritten_at, IsValidGeometry, AreUnprogrammed, blank_count, erase_count, program_count, read_count, padded_end_of, LogGetsCommit, goes_on, HoldsAtLosses-read_count, LeftByLoss-read, AreUnprogrammed-read_count, blank_count-read_count, erase_count-read_count, program_count-read_count, SameExcept-refl}
+use Rattle.lfs_pair.proofs.Common.{block_bytes, overwritten_at, IsValidGeometry, AreUnprogrammed, blank_count, erase_count, program_count, read_count, padded_commit_end, LogGetsCommit, goes_on, HoldsAtLosses-read_count, LeftByLoss-read, AreUnprogrammed-read_count, blank_count-read_count, erase_count-read_count, program_count-read_count, SameExcept-refl}
 use Rattle.lfs_model.specs.format.Blocks.{programmed}
 use Rattle.lfs_model.proofs.Histories.{AreUnprogrammed-part, is_unprogrammed_byte-program}
 use Rattle.lfs_model.proofs.Overwrites.{block_bytes-programmed, take-overwritten}
@@ -38,14 +38,14 @@ at_least at padded long end same is = omega arith
 
 pub returns-in_err-prog-clause-stops : goal.returns-in_err-prog-clause-stops
 returns-in_err-prog-clause-stops g c =
-    let end : c.args.at + c.end_on_page.result ≡ c.args.at + padded_end_of c.args.builder = whole_end _ _ _ _ _ _ c.end_on_page.ensures c.requires.ends (g.D.BlockDevice.geometry c.args.dev.now).valid in
+    let end : c.args.at + c.end_on_page.result ≡ c.args.at + padded_commit_end c.args.builder = whole_end _ _ _ _ _ _ c.end_on_page.ensures c.requires.ends (g.D.BlockDevice.geometry c.args.dev.now).valid in
     let size = (g.met.D.BlockDevice.shape c.args.dev.now).sizes c.args.block c.requires.in_device in
     goes_on (HoldsAtLosses-read_count LeftByLoss-read c.read_four_bytes.ensures.device.reads (SameExcept-refl _ _, inl refl)) c.prog.ensures.history
     (λ disk left. left_in_block disk c.read_four_bytes.ensures.device.same (goes_into c.in_ok-pages.ensures.commit c.in_ok-pages.ensures.size c.requires.goes size c.requires.ends end c.in_ok-next.ensures.bytes) left)
 
 pub returns-clause-adds : goal.returns-clause-adds
 returns-clause-adds g c =
-    let end : c.args.at + c.end_on_page.result ≡ c.args.at + padded_end_of c.args.builder = whole_end _ _ _ _ _ _ c.end_on_page.ensures c.requires.ends (g.D.BlockDevice.geometry c.args.dev.now).valid in
+    let end : c.args.at + c.end_on_page.result ≡ c.args.at + padded_commit_end c.args.builder = whole_end _ _ _ _ _ _ c.end_on_page.ensures c.requires.ends (g.D.BlockDevice.geometry c.args.dev.now).valid in
     let shape = g.met.D.BlockDevice.shape c.args.dev.now in
     let size = shape.sizes c.args.block c.requires.in_device in
     let old = g.D.BlockDevice.blocks c.args.dev.now in
@@ -63,7 +63,7 @@ pub returns-clause-written : goal.returns-clause-written
 returns-clause-written g c =
     let old : AreUnprogrammed (g.D.BlockDevice.history c.read_four_bytes.new.dev) c.args.block c.args.at (g.D.BlockDevice.geometry c.args.dev.now).block_size =
     AreUnprogrammed-read_count c.args.block c.read_four_bytes.ensures.device.reads c.requires.unprogrammed in
-    let end : c.args.at + c.end_on_page.result ≡ c.args.at + padded_end_of c.args.builder = whole_end _ _ _ _ _ _ c.end_on_page.ensures c.requires.ends (g.D.BlockDevice.geometry c.args.dev.now).valid in
+    let end : c.args.at + c.end_on_page.result ≡ c.args.at + padded_commit_end c.args.builder = whole_end _ _ _ _ _ _ c.end_on_page.ensures c.requires.ends (g.D.BlockDevice.geometry c.args.dev.now).valid in
     record {
       end_is = search rules;
       last_is = search rules;
@@ -74,7 +74,7 @@ returns-clause-written g c =
 
 pub returns-clause-stops : goal.returns-clause-stops
 returns-clause-stops g c =
-    let end : c.args.at + c.end_on_page.result ≡ c.args.at + padded_end_of c.args.builder = whole_end _ _ _ _ _ _ c.end_on_page.ensures c.requires.ends (g.D.BlockDevice.geometry c.args.dev.now).valid in
+    let end : c.args.at + c.end_on_page.result ≡ c.args.at + padded_commit_end c.args.builder = whole_end _ _ _ _ _ _ c.end_on_page.ensures c.requires.ends (g.D.BlockDevice.geometry c.args.dev.now).valid in
     let size = (g.met.D.BlockDevice.shape c.args.dev.now).sizes c.args.block c.requires.in_device in
     goes_on (HoldsAtLosses-read_count LeftByLoss-read c.read_four_bytes.ensures.device.reads (SameExcept-refl _ _, inl refl)) c.prog.ensures.history
     (λ disk left. left_in_block disk c.read_four_bytes.ensures.device.same (goes_into c.in_ok-pages.ensures.commit c.in_ok-pages.ensures.size c.requires.goes size c.requires.ends end c.in_ok-next.ensures.bytes) left)

@@ -1,6 +1,6 @@
 use Rattle.std.proofs.Common.{rules, arith, ◌+◌, ◌≤◌, ap, sym, subst}
 use Rattle.lfs_device.specs.declared.geometry.Geometry.{Geometry}
-use Rattle.lfs_pair.proofs.Common.{block_bytes, read_count, padded_end_of, content_view}
+use Rattle.lfs_pair.proofs.Common.{block_bytes, read_count, padded_commit_end, content_view}
 use Rattle.lfs_pair.proofs.Anew.{is_anew, fits_sound, anew_room, anew_within, anew_holds, anew_end, leaves_erase, leaves_anew}
 use Rattle.lfs_pair.proofs.Calls.{block_by_erase, block_trans}
 use Rattle.lfs_pair.proofs.programs.write_block_anew.Goals as goal
@@ -17,7 +17,7 @@ program_commit_at-requires g c = record {
       anew_room (is_anew (content_view c.args.content.now) c.push_content.ensures c.new-builder.ensures c.requires.buf (ap (λ (k : Geometry). k.page) c.geometry-page.ensures) c.from_bits-before.ensures)
       (g.D.BlockDevice.geometry c.args.dev.now).valid c.requires.fits;
   ends =
-      subst (λ (k : Geometry). 0 + padded_end_of c.push_content.new.builder ≤ k.block_size) (sym c.erase.ensures.geometry)
+      subst (λ (k : Geometry). 0 + padded_commit_end c.push_content.new.builder ≤ k.block_size) (sym c.erase.ensures.geometry)
       (anew_within (is_anew (content_view c.args.content.now) c.push_content.ensures c.new-builder.ensures c.requires.buf (ap (λ (k : Geometry). k.page) c.geometry-page.ensures) c.from_bits-before.ensures)
       (g.D.BlockDevice.geometry c.args.dev.now).valid c.requires.fits);
   goes = search rules;

@@ -1,5 +1,5 @@
 use Rattle.std.proofs.Common.{rules, arith, ◌∙◌}
-use Rattle.lfs_pair.proofs.Common.{err_from_is_err_and, disk_of_blocks, array_address, goes_on_by, AllCallsSince-behind, HoldsAtLosses-read_count, HoldsAtLosses-weaker, LeftByLoss-read, header_address, changes_view, CanSplitPair, LossLeavesSplit}
+use Rattle.lfs_pair.proofs.Common.{err_from_is_err_and, disk_of_blocks, address_view, goes_on_by, AllCallsSince-behind, HoldsAtLosses-read_count, HoldsAtLosses-weaker, LeftByLoss-read, header_address, changes_view, CanSplitPair, LossLeavesSplit}
 use Rattle.lfs_pair.proofs.Erring.{fails_on, reports_ok, reports_on}
 use Rattle.std.proofs.Common.{ap₂, sym, subst}
 use Rattle.lfs_pair.proofs.Behind.{splits_behind}
@@ -14,11 +14,11 @@ read_block-requires g c = active_below _ _ c.args.pair.now c.requires.commit.hel
 pub returns-in_err-block-clause-stops : goal.returns-in_err-block-clause-stops
 returns-in_err-block-clause-stops g c cleanly = HoldsAtLosses-read_count LeftByLoss-read c.in_err-block.ensures.device.reads (left_before _ _ _ _)
 
-pub split_from_bytes-requires : goal.split_from_bytes-requires
-split_from_bytes-requires g c = record {
+pub split_with_block-requires : goal.split_with_block-requires
+split_with_block-requires g c = record {
   can =
       let read = c.in_ok-block.ensures.device in
-      subst (λ disk. CanSplitPair disk (g.D.BlockDevice.history c.read_block.new.device) c.args.pair.now (array_address c.args.fresh) (changes_view c.args.changes.now)) (sym (ap₂ disk_of_blocks read.geometry read.same))
+      subst (λ disk. CanSplitPair disk (g.D.BlockDevice.history c.read_block.new.device) c.args.pair.now (address_view c.args.fresh) (changes_view c.args.changes.now)) (sym (ap₂ disk_of_blocks read.geometry read.same))
       (CanSplitPair-reads read.reads c.requires);
   block = search rules;
 }
@@ -27,14 +27,14 @@ pub returns-in_err-fresh_pair-clause-stops : goal.returns-in_err-fresh_pair-clau
 returns-in_err-fresh_pair-clause-stops g c cleanly =
     let read = c.in_ok-block.ensures.device in
     goes_on_by (HoldsAtLosses-read_count LeftByLoss-read read.reads (left_before _ _ _ _))
-    (HoldsAtLosses-weaker (λ disk left. subst (λ old. LossLeavesSplit old (header_address c.args.pair.now) (array_address c.args.fresh) (changes_view c.args.changes.now) disk) (ap₂ disk_of_blocks read.geometry read.same) left)
+    (HoldsAtLosses-weaker (λ disk left. subst (λ old. LossLeavesSplit old (header_address c.args.pair.now) (address_view c.args.fresh) (changes_view c.args.changes.now) disk) (ap₂ disk_of_blocks read.geometry read.same) left)
     (c.in_err-fresh_pair.ensures.stops (AllCallsSince-behind cleanly read.reads c.in_err-fresh_pair.ensures.device.only.at_worst)))
 
 pub returns-clause-stops : goal.returns-clause-stops
 returns-clause-stops g c cleanly =
     let read = c.in_ok-block.ensures.device in
     goes_on_by (HoldsAtLosses-read_count LeftByLoss-read read.reads (left_before _ _ _ _))
-    (HoldsAtLosses-weaker (λ disk left. subst (λ old. LossLeavesSplit old (header_address c.args.pair.now) (array_address c.args.fresh) (changes_view c.args.changes.now) disk) (ap₂ disk_of_blocks read.geometry read.same) left)
+    (HoldsAtLosses-weaker (λ disk left. subst (λ old. LossLeavesSplit old (header_address c.args.pair.now) (address_view c.args.fresh) (changes_view c.args.changes.now) disk) (ap₂ disk_of_blocks read.geometry read.same) left)
     (c.in_ok-fresh_pair.ensures.stops (AllCallsSince-behind cleanly read.reads c.in_ok-fresh_pair.ensures.device.only.at_worst)))
 
 pub returns-clause-splits : goal.returns-clause-splits

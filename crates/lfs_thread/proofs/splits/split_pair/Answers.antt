@@ -1,5 +1,5 @@
 use Rattle.std.proofs.Common.{rules, ◌+◌, ◌∙◌, Err, List, ap, refl, subst, sym, set}
-use Rattle.lfs_thread.proofs.Common.{err_from_is_err_and, BlockStates, IsInFlight, Used, array_address, HoldsAtLosses-weaker, PairHeader, disk_of_device, addresses_blocks}
+use Rattle.lfs_thread.proofs.Common.{err_from_is_err_and, BlockStates, IsInFlight, Used, address_view, HoldsAtLosses-weaker, PairHeader, disk_of_device, addresses_blocks}
 use Rattle.lfs_thread.proofs.Changing.{at_there}
 use Rattle.lfs_thread.proofs.Coming.{second_held}
 use Rattle.lfs_thread.proofs.CachedPair.{reading_there}
@@ -11,37 +11,37 @@ pub split_with_cache-requires : goal.split_with_cache-requires
 split_with_cache-requires g c = record {
   can =
       let a = at_there (disk_of_device g.D.BlockDevice c.args.device.now) c.args.pairs.now.items c.args.index c.index.result.now c.requires.can.can.below c.index.ensures in
-      can_split _ _ _ c.args.map.now c.args.index _ (array_address c.args.fresh) _ a c.requires.kept c.requires.can;
+      can_split _ _ _ c.args.map.now c.args.index _ (address_view c.args.fresh) _ a c.requires.kept c.requires.can;
   current = search rules;
 }
 
 pub returns-in_err-fresh_pair-clause-stops : goal.returns-in_err-fresh_pair-clause-stops
 returns-in_err-fresh_pair-clause-stops g c cleanly =
     let a = at_there (disk_of_device g.D.BlockDevice c.args.device.now) c.args.pairs.now.items c.args.index c.index.result.now c.requires.can.can.below c.index.ensures in
-    HoldsAtLosses-weaker (λ left l. left_by_split _ _ c.args.pairs.now.items c.args.map.now c.args.index _ (array_address c.args.fresh) _ left a c.requires.kept c.requires.can l) (c.in_err-fresh_pair.ensures.stops cleanly)
+    HoldsAtLosses-weaker (λ left l. left_by_split _ _ c.args.pairs.now.items c.args.map.now c.args.index _ (address_view c.args.fresh) _ left a c.requires.kept c.requires.can l) (c.in_err-fresh_pair.ensures.stops cleanly)
 
 pub settle-requires-2 : goal.settle-requires-2
 settle-requires-2 g c =
-    subst (λ (s : BlockStates). IsInFlight s (array_address c.args.fresh).1) (sym c.settle.ensures) (second_held _ (array_address c.args.fresh) c.requires.can.held)
+    subst (λ (s : BlockStates). IsInFlight s (address_view c.args.fresh).1) (sym c.settle.ensures) (second_held _ (address_view c.args.fresh) c.requires.can.held)
 
 pub returns-clause-kept : goal.returns-clause-kept
 returns-clause-kept g c =
     let a = at_there (disk_of_device g.D.BlockDevice c.args.device.now) c.args.pairs.now.items c.args.index c.index.result.now c.requires.can.can.below c.index.ensures in
     let e = c.in_ok-fresh_pair.ensures in
-    device_split _ _ _ _ _ _ _ _ _ _ _ _ (array_address c.args.fresh) _ e.device.only.geometry a c.requires.kept c.requires.can e.splits e.device.only.others e.device.only.elsewhere _
-    (ap (λ (z : List PairHeader). set (set z c.args.index c.split_with_cache.new.pair) (c.args.index + 1) c.in_ok-fresh_pair.fresh_pair) c.in_ok-insert.ensures.items ∙ placed _ _ _ _ _ c.in_ok-fresh_pair.fresh_pair a) _ (c.settle-2.ensures ∙ ap (λ (s : BlockStates). set s (array_address c.args.fresh).1 Used) c.settle.ensures)
+    device_split _ _ _ _ _ _ _ _ _ _ _ _ (address_view c.args.fresh) _ e.device.only.geometry a c.requires.kept c.requires.can e.splits e.device.only.others e.device.only.elsewhere _
+    (ap (λ (z : List PairHeader). set (set z c.args.index c.split_with_cache.new.pair) (c.args.index + 1) c.in_ok-fresh_pair.fresh_pair) c.in_ok-insert.ensures.items ∙ placed _ _ _ _ _ c.in_ok-fresh_pair.fresh_pair a) _ (c.settle-2.ensures ∙ ap (λ (s : BlockStates). set s (address_view c.args.fresh).1 Used) c.settle.ensures)
 
 pub returns-clause-is_split : goal.returns-clause-is_split
 returns-clause-is_split g c =
     let a = at_there (disk_of_device g.D.BlockDevice c.args.device.now) c.args.pairs.now.items c.args.index c.index.result.now c.requires.can.can.below c.index.ensures in
     let e = c.in_ok-fresh_pair.ensures in
-    device_is_split _ _ _ _ _ _ _ _ _ _ _ _ (array_address c.args.fresh) _ e.device.only.geometry a c.requires.kept c.requires.can e.splits e.device.only.others e.device.only.elsewhere _
-    (ap (λ (z : List PairHeader). set (set z c.args.index c.split_with_cache.new.pair) (c.args.index + 1) c.in_ok-fresh_pair.fresh_pair) c.in_ok-insert.ensures.items ∙ placed _ _ _ _ _ c.in_ok-fresh_pair.fresh_pair a) _ (c.settle-2.ensures ∙ ap (λ (s : BlockStates). set s (array_address c.args.fresh).1 Used) c.settle.ensures)
+    device_is_split _ _ _ _ _ _ _ _ _ _ _ _ (address_view c.args.fresh) _ e.device.only.geometry a c.requires.kept c.requires.can e.splits e.device.only.others e.device.only.elsewhere _
+    (ap (λ (z : List PairHeader). set (set z c.args.index c.split_with_cache.new.pair) (c.args.index + 1) c.in_ok-fresh_pair.fresh_pair) c.in_ok-insert.ensures.items ∙ placed _ _ _ _ _ c.in_ok-fresh_pair.fresh_pair a) _ (c.settle-2.ensures ∙ ap (λ (s : BlockStates). set s (address_view c.args.fresh).1 Used) c.settle.ensures)
 
 pub returns-clause-stops : goal.returns-clause-stops
 returns-clause-stops g c cleanly =
     let a = at_there (disk_of_device g.D.BlockDevice c.args.device.now) c.args.pairs.now.items c.args.index c.index.result.now c.requires.can.can.below c.index.ensures in
-    HoldsAtLosses-weaker (λ left l. left_by_split _ _ c.args.pairs.now.items c.args.map.now c.args.index _ (array_address c.args.fresh) _ left a c.requires.kept c.requires.can l) (c.in_ok-fresh_pair.ensures.stops cleanly)
+    HoldsAtLosses-weaker (λ left l. left_by_split _ _ c.args.pairs.now.items c.args.map.now c.args.index _ (address_view c.args.fresh) _ left a c.requires.kept c.requires.can l) (c.in_ok-fresh_pair.ensures.stops cleanly)
 
 pub returns-in_err-fresh_pair-clause-errors : goal.returns-in_err-fresh_pair-clause-errors
 returns-in_err-fresh_pair-clause-errors g c =
@@ -60,11 +60,11 @@ returns-in_err-fresh_pair-clause-device g c =
     let disk = disk_of_device g.D.BlockDevice c.args.device.now in
     let a = at_there disk c.args.pairs.now.items c.args.index c.index.result.now c.requires.can.can.below c.index.ensures in
     reading_there disk (g.D.BlockDevice.history c.args.device.now) c.args.pairs.now.items c.args.map.now c.args.index c.index.result.now a c.requires.kept
-    g.D.BlockDevice c.args.device.now c.split_with_cache.new.device (λ at. addresses_blocks at (array_address c.args.fresh)) 3 c.args.cache.now c.in_err-fresh_pair.ensures.device
+    g.D.BlockDevice c.args.device.now c.split_with_cache.new.device (λ at. addresses_blocks at (address_view c.args.fresh)) 3 c.args.cache.now c.in_err-fresh_pair.ensures.device
 
 pub returns-clause-device : goal.returns-clause-device
 returns-clause-device g c =
     let disk = disk_of_device g.D.BlockDevice c.args.device.now in
     let a = at_there disk c.args.pairs.now.items c.args.index c.index.result.now c.requires.can.can.below c.index.ensures in
     reading_there disk (g.D.BlockDevice.history c.args.device.now) c.args.pairs.now.items c.args.map.now c.args.index c.index.result.now a c.requires.kept
-    g.D.BlockDevice c.args.device.now c.split_with_cache.new.device (λ at. addresses_blocks at (array_address c.args.fresh)) 3 c.args.cache.now c.in_ok-fresh_pair.ensures.device
+    g.D.BlockDevice c.args.device.now c.split_with_cache.new.device (λ at. addresses_blocks at (address_view c.args.fresh)) 3 c.args.cache.now c.in_ok-fresh_pair.ensures.device

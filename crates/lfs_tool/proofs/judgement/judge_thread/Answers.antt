@@ -2,7 +2,7 @@ use Rattle.std.proofs.Common.{◌∙◌, ap, subst, sym}
 use Rattle.lfs_tool.proofs.Common.{ordered_disk, Disk, IsAccepted}
 use Rattle.lfs_model.specs.declared.order.NameOrder.{NameOrder}
 use Rattle.lfs_model.specs.declared.order.NameOrder.TheVariants.{LongerFirst}
-use Rattle.lfs_tool.specs.ImageSummaries.{HasAcceptedOrders, IsAcceptedInOrder}
+use Rattle.lfs_tool.specs.ImageSummaries.{HasAcceptedOrders, AcceptedInOrder}
 use Rattle.lfs_tool.proofs.judgement.judge_thread.Goals as goal
 
 pub accepted_name_orders-requires-clause-first : goal.accepted_name_orders-requires-clause-first
@@ -21,7 +21,7 @@ accepted_name_orders-requires-clause-longer g c = λ is a.
     let only = c.in_ok-summary.ensures.only in
     let shown = ap (ordered_disk LongerFirst) (c.into_device.ensures.disk ∙ only.disk) in
     let own = sym (ap (λ (d : Disk). d.order) only.disk) ∙ sym c.order-order.ensures ∙ is in
-    c.requires.longer own (subst (IsAcceptedInOrder LongerFirst) shown a)
+    c.requires.longer own (subst (AcceptedInOrder LongerFirst) shown a)
 
 pub returns : goal.returns
 returns g c =

@@ -4,7 +4,7 @@ use Rattle.lfs_model.specs.layers.BlockSets.{BlockStates, used_count}
 use Rattle.lfs_tool.proofs.Common.{Disk, block_count, used_blocks, Pair, is_file_item}
 use Rattle.lfs_model.specs.layers.ProfileBreaches.{IsBreachIfAny}
 use Rattle.lfs_model.specs.format.Thread.{pairs_gstate}
-use Rattle.lfs_tool.specs.ImageSummaries.{IsSuperblockTold, lesser_inline_max, is_half_done}
+use Rattle.lfs_tool.specs.ImageSummaries.{IsSuperblockTold, lesser_inline_max, gstate_needs_recovery}
 use Rattle.lfs_tool.proofs.Counts.{as_many, files_alike}
 use Rattle.lfs_tool.proofs.ActionsDone.{only_trans}
 use Rattle.std.proofs.Common.{List, count_by}
@@ -36,7 +36,7 @@ returns-clause-summary g c =
       all = omega (arith, below, same, many, len);
       used = c.used_count.ensures ∙ ap (λ (m : BlockStates). used_count m) four.map ∙ used_count-AreUsed c.args.thread.now.kept.map (used_blocks disk pairs) c.requires.accepted.owned_once c.requires.used;
       blocks = c.geometry-geometry.ensures.count ∙ ap block_count four.disk;
-      recover = c.has_unfinished_operation.ensures ∙ ap is_half_done (c.state-state.ensures ∙ ap pairs_gstate four.pairs);
+      recover = c.has_unfinished_operation.ensures ∙ ap gstate_needs_recovery (c.state-state.ensures ∙ ap pairs_gstate four.pairs);
       superblock = subst (λ (ps : List Pair). IsSuperblockTold disk.profile ps c.in_ok-superblock.superblock) two.pairs
           (subst (λ (d : Disk). IsSuperblockTold d.profile c.find_root.new.thread.kept.pairs c.in_ok-superblock.superblock) two.disk c.in_ok-superblock.ensures.told);
       inline_max = c.lesser_inline_max.ensures ∙ ap₂ lesser_inline_max (c.geometry-geometry.ensures.profile ∙ ap (λ (d : Disk). d.profile) four.disk) (c.geometry-geometry.ensures.block_size ∙ ap (λ (d : Disk). d.block_size) four.disk);

@@ -3,8 +3,8 @@ use Rattle.lfs_tree.proofs.Common.{BlockStates, KeepsPairBlocks, ordered_disk, d
 use Rattle.lfs_tree.proofs.Settled.{settle_here, settle_leaves, settled_after}
 use Rattle.lfs_tree.proofs.files.settle_in_map.Goals as goal
 
-pub run_on_device-requires-clause-can : goal.run_on_device-requires-clause-can
-run_on_device-requires-clause-can g c device map shows = record {
+pub run_work-requires-clause-can : goal.run_work-requires-clause-can
+run_work-requires-clause-can g c device map shows = record {
   can = λ p q here here_map _ _ _ _ _ _ _ _ _ _ _ _ _.
       settle_here g.D.BlockDevice c.args.thread.now.kept p.now q.now
       (record { disk = ap (λ d. ordered_disk c.args.thread.now.kept.disk.order (disk_of_device g.D.BlockDevice d)) here ∙ shows.disk; history = ap g.D.BlockDevice.history here ∙ shows.history; map = here_map ∙ shows.map })
@@ -13,14 +13,14 @@ run_on_device-requires-clause-can g c device map shows = record {
 
 pub returns-clause-settled : goal.returns-clause-settled
 returns-clause-settled g c =
-    let ran = c.run_on_device.ensures.ran in
+    let ran = c.run_work.ensures.ran in
     let run = ran.run in
     settled_after g.D.BlockDevice c.args.thread.now.kept run.shown.now run.shown_map.now
     (record { disk = ap (λ d. ordered_disk c.args.thread.now.kept.disk.order (disk_of_device g.D.BlockDevice d)) run.shows ∙ ran.before.disk; history = ap g.D.BlockDevice.history run.shows ∙ ran.before.history; map = run.shows_map ∙ ran.before.map })
-    (g.met.D.BlockDevice.shape run.shown.now) c.args.before c.args.stored c.requires.can c.run_on_device.new.self.kept run.left_map.now (run.leaves_map ∙ ran.after.map) c.run_on_device.result (search rules)
+    (g.met.D.BlockDevice.shape run.shown.now) c.args.before c.args.stored c.requires.can c.run_work.new.self.kept run.left_map.now (run.leaves_map ∙ ran.after.map) c.run_work.result (search rules)
 
-pub run_on_device-requires-clause-leaves : goal.run_on_device-requires-clause-leaves
-run_on_device-requires-clause-leaves g c device map x later later_map shows runs =
+pub run_work-requires-clause-leaves : goal.run_work-requires-clause-leaves
+run_work-requires-clause-leaves g c device map x later later_map shows runs =
     let gh = g.D.BlockDevice in
     let t = c.args.thread.now.kept in
     subst (λ d. KeepsPairBlocks gh t d map later later_map) runs.shows

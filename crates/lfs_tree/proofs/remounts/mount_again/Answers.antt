@@ -3,7 +3,7 @@ use Rattle.lfs_device.specs.declared.error.Error.TheVariants.{Io, NoMemory, Corr
 use Rattle.lfs_tree.proofs.Common.{Disk, ordered_disk, CallEvent, fault_count, Pair, IsAccepted, KeptThread, IsMountedTree}
 use Rattle.lfs_model.specs.declared.order.NameOrder.{NameOrder}
 use Rattle.lfs_model.specs.declared.order.NameOrder.TheVariants.{LongerFirst}
-use Rattle.lfs_mount.specs.MountFaults.{IsErrorOfMount}
+use Rattle.lfs_mount.specs.MountFaults.{MountMayReport}
 use Rattle.lfs_tree.proofs.remounts.mount_again.Goals as goal
 
 pub returns-in-Ok-clause-mounted : goal.returns-in-Ok-clause-mounted
@@ -19,10 +19,10 @@ returns-in-Err-clause-errors g c = record {
   no_fault = λ not. ap fault_count here ∙ c.in-Err.ensures.back.no_fault not ∙ ap fault_count c.into_device.ensures.history;
 }
   where
-    here : c.failed_thread_of-thread.result.kept.history ≡ g.D.BlockDevice.history c.in-Err.device
-    here = ap (λ (kept : KeptThread). kept.history) c.failed_thread_of-thread.ensures.kept
+    here : c.failed_thread-thread.result.kept.history ≡ g.D.BlockDevice.history c.in-Err.device
+    here = ap (λ (kept : KeptThread). kept.history) c.failed_thread-thread.ensures.kept
 
-    go : IsErrorOfMount c.in-Err.error → (c.in-Err.error ≡ Io) ⊎ ((c.in-Err.error ≡ NoMemory) ⊎ ((c.in-Err.error ≡ Corrupt) × ((order : NameOrder) (ps : List Pair) → IsAccepted (ordered_disk order c.args.tree.disk) ps → ⊥)))
+    go : MountMayReport c.in-Err.error → (c.in-Err.error ≡ Io) ⊎ ((c.in-Err.error ≡ NoMemory) ⊎ ((c.in-Err.error ≡ Corrupt) × ((order : NameOrder) (ps : List Pair) → IsAccepted (ordered_disk order c.args.tree.disk) ps → ⊥)))
     go (inl is) = inl is
     go (inr (inr is)) = inr (inl is)
     go (inr (inl is)) = inr (inr (is, λ order ps a. c.in-Err.ensures.corrupt is order ps (subst (λ (disk : Disk). IsAccepted disk ps) (sym (ap (ordered_disk order) c.into_device.ensures.disk)) a)))

@@ -1,5 +1,5 @@
 use Rattle.std.proofs.Common.{arith, refl}
-use Rattle.lfs_tree.proofs.Common.{sum_by-append, err_from_is_err_and, pair_count_at, ancestor_paths, answered, answers, both, further, passed}
+use Rattle.lfs_tree.proofs.Common.{sum_by-append, err_from_is_err_and, directory_pair_count, ancestor_paths, answered, answers, both, further, passed}
 use Rattle.lfs_tree.proofs.RenamePaths.{few_since}
 use Rattle.lfs_tree.proofs.Shifted.{rests_still, target_back}
 use Rattle.lfs_tree.proofs.rename_paths.find_rename_targets.Goals as goal
@@ -10,14 +10,14 @@ find_at_path-requires-2 g c = rests_still c.args.thread.now c.find_at_path.new.t
 pub returns-in_err-entry-clause-few : goal.returns-in_err-entry-clause-few
 returns-in_err-entry-clause-few g c =
     let one = c.find_at_path.ensures.few in
-    let s = sum_by-append (pair_count_at c.args.thread.now.kept.pairs) (ancestor_paths c.args.from.now) (ancestor_paths c.args.to.now) in
+    let s = sum_by-append (directory_pair_count c.args.thread.now.kept.pairs) (ancestor_paths c.args.from.now) (ancestor_paths c.args.to.now) in
     omega (arith, one, s)
 
 pub returns-in_err-target-clause-few : goal.returns-in_err-target-clause-few
 returns-in_err-target-clause-few g c =
     let one = c.find_at_path.ensures.few in
     let two = few_since c.args.thread.now.kept c.find_at_path.new.thread.kept (ancestor_paths c.args.to.now) _ c.find_at_path.ensures.reading.only c.find_at_path-2.ensures.few in
-    let s = sum_by-append (pair_count_at c.args.thread.now.kept.pairs) (ancestor_paths c.args.from.now) (ancestor_paths c.args.to.now) in
+    let s = sum_by-append (directory_pair_count c.args.thread.now.kept.pairs) (ancestor_paths c.args.from.now) (ancestor_paths c.args.to.now) in
     omega (arith, one, two, s)
 
 pub returns-in_err-target-clause-reading : goal.returns-in_err-target-clause-reading
@@ -37,7 +37,7 @@ pub returns-clause-few : goal.returns-clause-few
 returns-clause-few g c =
     let one = c.find_at_path.ensures.few in
     let two = few_since c.args.thread.now.kept c.find_at_path.new.thread.kept (ancestor_paths c.args.to.now) _ c.find_at_path.ensures.reading.only c.find_at_path-2.ensures.few in
-    let s = sum_by-append (pair_count_at c.args.thread.now.kept.pairs) (ancestor_paths c.args.from.now) (ancestor_paths c.args.to.now) in
+    let s = sum_by-append (directory_pair_count c.args.thread.now.kept.pairs) (ancestor_paths c.args.from.now) (ancestor_paths c.args.to.now) in
     omega (arith, one, two, s)
 
 pub returns-clause-reading : goal.returns-clause-reading

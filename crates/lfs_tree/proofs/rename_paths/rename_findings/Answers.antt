@@ -1,5 +1,5 @@
 use Rattle.std.proofs.Common.{arith, refl, subst, ◌≡◌, ◌∙◌}
-use Rattle.lfs_tree.proofs.Common.{sum_by-append, err_from_is_err_and, pair_count_at, ancestor_paths, node_attributes_of, Tree, IsAttributesSize, IsFoundNode, has_entry_beneath, sized_on, only_read, answered, answers, both, further, passed, found_shown, in_entry}
+use Rattle.lfs_tree.proofs.Common.{sum_by-append, err_from_is_err_and, directory_pair_count, ancestor_paths, node_attributes_of, Tree, IsAttributesSize, IsFoundNode, has_entry_beneath, sized_on, only_read, answered, answers, both, further, passed, found_shown, in_entry}
 use Rattle.lfs_tree.proofs.RenamePaths.{few_since, leads_since, own_since, same_tree, shows_found, sum_of_rename}
 use Rattle.lfs_tree.proofs.Shifted.{rests_still}
 use Rattle.lfs_tree.proofs.rename_paths.rename_findings.Goals as goal
@@ -23,7 +23,7 @@ node_and_emptiness-requires-clause-leads g c =
 
 pub returns-in_err-targets-clause-few : goal.returns-in_err-targets-clause-few
 returns-in_err-targets-clause-few g c =
-    let count = pair_count_at c.args.thread.now.kept.pairs in
+    let count = directory_pair_count c.args.thread.now.kept.pairs in
     let one = c.find_rename_targets.ensures.few in
     let s = sum_by-append count (ancestor_paths c.args.from.now) (ancestor_paths c.args.to.now) in
     let k = sum_of_rename count c.args.from.now c.args.to.now in
@@ -32,7 +32,7 @@ returns-in_err-targets-clause-few g c =
 pub returns-in_err-attributes_size-clause-few : goal.returns-in_err-attributes_size-clause-few
 returns-in_err-attributes_size-clause-few g c =
     let t = c.args.thread.now.kept in
-    let count = pair_count_at t.pairs in
+    let count = directory_pair_count t.pairs in
     let one = c.find_rename_targets.ensures.few in
     let two = few_since t c.find_rename_targets.new.thread.kept (ancestor_paths c.args.from.now) _ c.find_rename_targets.ensures.reading.only c.attributes_size_at.ensures.reads.few in
     let s = sum_by-append count (ancestor_paths c.args.from.now) (ancestor_paths c.args.to.now) in
@@ -42,7 +42,7 @@ returns-in_err-attributes_size-clause-few g c =
 pub returns-in_err-target-clause-few : goal.returns-in_err-target-clause-few
 returns-in_err-target-clause-few g c =
     let t = c.args.thread.now.kept in
-    let count = pair_count_at t.pairs in
+    let count = directory_pair_count t.pairs in
     let one = c.find_rename_targets.ensures.few in
     let two = few_since t c.find_rename_targets.new.thread.kept (ancestor_paths c.args.from.now) _ c.find_rename_targets.ensures.reading.only c.attributes_size_at.ensures.reads.few in
     let three = own_since t c.attributes_size_at.new.thread.kept c.args.to.now _ (only_read t c.find_rename_targets.new.thread.kept c.attributes_size_at.new.thread.kept c.find_rename_targets.ensures.reading.only c.attributes_size_at.ensures.reading.only) c.node_and_emptiness.ensures.few in
@@ -92,7 +92,7 @@ returns-clause-found g c =
 pub returns-clause-few : goal.returns-clause-few
 returns-clause-few g c =
     let t = c.args.thread.now.kept in
-    let count = pair_count_at t.pairs in
+    let count = directory_pair_count t.pairs in
     let one = c.find_rename_targets.ensures.few in
     let two = few_since t c.find_rename_targets.new.thread.kept (ancestor_paths c.args.from.now) _ c.find_rename_targets.ensures.reading.only c.attributes_size_at.ensures.reads.few in
     let three = own_since t c.attributes_size_at.new.thread.kept c.args.to.now _ (only_read t c.find_rename_targets.new.thread.kept c.attributes_size_at.new.thread.kept c.find_rename_targets.ensures.reading.only c.attributes_size_at.ensures.reading.only) c.node_and_emptiness.ensures.few in

@@ -26,26 +26,26 @@ pub returns-then-from-slot-clause-survives : goal.returns-then-from-slot-clause-
 returns-then-from-slot-clause-survives g c from to can =
     onto_survives_within c.args.thread.now.kept from to c.args.source c.args.slot c.args._contents c.args.name.now can c.rename_onto_file.new.thread.kept c.if-from-slot.true c.rename_onto_file.ensures.survives
 
-pub onto_file_across-requires-clause-can : goal.onto_file_across-requires-clause-can
-onto_file_across-requires-clause-can g c =
+pub replace_file_across-requires-clause-can : goal.replace_file_across-requires-clause-can
+replace_file_across-requires-clause-can g c =
     let can = c.requires.can in
     replace_apart c.args.thread.now.kept can.0 can.1 c.args.source c.args.slot c.args._contents c.args.name.now can.2 c.if-from-slot.false
 
 pub returns-else-from-slot-clause-shifted : goal.returns-else-from-slot-clause-shifted
 returns-else-from-slot-clause-shifted g c =
-    if_both c.onto_file_across.result c.onto_file_across.ensures.replaced c.onto_file_across.ensures.alters
-    (λ gives alters from to can. onto_apart c.args.thread.now.kept from to c.args.source c.args.slot c.args._contents c.args.name.now can c.onto_file_across.new.thread.kept c.if-from-slot.false c.onto_file_across.ensures.device alters gives)
+    if_both c.replace_file_across.result c.replace_file_across.ensures.replaced c.replace_file_across.ensures.alters
+    (λ gives alters from to can. onto_apart c.args.thread.now.kept from to c.args.source c.args.slot c.args._contents c.args.name.now can c.replace_file_across.new.thread.kept c.if-from-slot.false c.replace_file_across.ensures.device alters gives)
 
 pub returns-else-from-slot-clause-errors : goal.returns-else-from-slot-clause-errors
 returns-else-from-slot-clause-errors g c =
     let can = c.requires.can in
-    reported_across c.args.thread.now c.onto_file_across.new.thread c.args.slot.pair _ c.onto_file_across.result can.2.can.room c.onto_file_across.ensures.errors
+    reported_across c.args.thread.now c.replace_file_across.new.thread c.args.slot.pair _ c.replace_file_across.result can.2.can.room c.replace_file_across.ensures.errors
 
 pub returns-else-from-slot-clause-device : goal.returns-else-from-slot-clause-device
 returns-else-from-slot-clause-device g c =
     let can = c.requires.can in
-    onto_writes_apart c.args.thread.now.kept can.0 can.1 c.args.source c.args.slot c.args._contents c.args.name.now can.2 c.onto_file_across.new.thread.kept c.onto_file_across.ensures.device
+    onto_writes_apart c.args.thread.now.kept can.0 can.1 c.args.source c.args.slot c.args._contents c.args.name.now can.2 c.replace_file_across.new.thread.kept c.replace_file_across.ensures.device
 
 pub returns-else-from-slot-clause-survives : goal.returns-else-from-slot-clause-survives
 returns-else-from-slot-clause-survives g c from to can =
-    onto_survives_apart c.args.thread.now.kept from to c.args.source c.args.slot c.args._contents c.args.name.now can c.onto_file_across.new.thread.kept c.if-from-slot.false c.onto_file_across.ensures.survives
+    onto_survives_apart c.args.thread.now.kept from to c.args.source c.args.slot c.args._contents c.args.name.now can c.replace_file_across.new.thread.kept c.if-from-slot.false c.replace_file_across.ensures.survives

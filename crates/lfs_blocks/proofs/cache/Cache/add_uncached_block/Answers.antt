@@ -1,6 +1,6 @@
 use Rattle.std.proofs.Common.{ap, ◌∙◌, ◌≡◌, None}
 use Rattle.lfs_model.specs.layers.Cache.{cached_bytes, cache_with}
-use Rattle.lfs_blocks.specs.CacheView.{HasAtMostEight, cached_view}
+use Rattle.lfs_blocks.specs.CacheView.{CachesAtMostEight, cached_view}
 use Rattle.lfs_blocks.proofs.EntryLemmas.{IsCache-put, few-shown, shown-put}
 use Rattle.lfs_blocks.proofs.cache.Cache.add_uncached_block.Goals as goal
 use Rattle.lfs_blocks.proofs.cache.Cache.add_uncached_block.Goals.{Joined-branch-2}
@@ -8,7 +8,7 @@ use Rattle.lfs_blocks.proofs.cache.Cache.add_uncached_block.Goals.{Joined-branch
 none : (c : Joined-branch-2) → cached_bytes (cached_view c.self.inside.recent.entries) c.args.block ≡ None
 none c = ap (λ cache. cached_bytes cache c.args.block) c.self.view_is ∙ c.requires
 
-kept : (c : Joined-branch-2) → HasAtMostEight c.put.new.self
+kept : (c : Joined-branch-2) → CachesAtMostEight c.put.new.self
 kept c = rw c.in_ok-put.ensures.entries (IsCache-put c.self.inside.recent c.args.block c.self.invariant (none c) c.args.bytes)
 
 pub invariant_of-self-2 : goal.invariant_of-self-2

@@ -3,12 +3,12 @@ use Rattle.lfs_model.specs.session.History.{call_event}
 use Rattle.lfs_model.specs.session.History.DeviceCall.{Erase}
 use Rattle.lfs_model.proofs.Conformance.{conforms_erase, conforms_next}
 use Rattle.lfs_device.specs.Fault.{extent_if_due}
-use Rattle.lfs_device.specs.CallsBelow.{PassesCallOrFails}
+use Rattle.lfs_device.specs.CallsBelow.{PassesUnlessDue}
 use Rattle.lfs_device.proofs.Faults.{have_due_failed-call, unplanned_faults-call, below-call}
 use Rattle.lfs_device.proofs.Premises.{premises_call}
 use Rattle.lfs_device.proofs.fault.FaultDeviceBlockDevice.erase.Goals as goal
 
-carried : (g : _) (c : goal.After-with_ghost_history-self g) → PassesCallOrFails g.D.BlockDevice (extent_if_due c.args.self.now.fault (Erase c.args.block) c.args.self.now.trace.events)
+carried : (g : _) (c : goal.After-with_ghost_history-self g) → PassesUnlessDue g.D.BlockDevice (extent_if_due c.args.self.now.fault (Erase c.args.block) c.args.self.now.trace.events)
     (Erase c.args.block) (is_err c.erase_as_planned-outcome.result) c.args.self.now.inner c.erase_as_planned-outcome.new.device
 carried g c = search rules
 

@@ -4,12 +4,12 @@ use Rattle.lfs_model.specs.session.History.DeviceCall.{Read}
 use Rattle.lfs_model.proofs.Histories.{is_unprogrammed_byte-read_count}
 use Rattle.lfs_model.proofs.Conformance.{conforms_read, conforms_next}
 use Rattle.lfs_device.specs.Fault.{extent_if_due}
-use Rattle.lfs_device.specs.CallsBelow.{PassesCallOrFails}
+use Rattle.lfs_device.specs.CallsBelow.{PassesUnlessDue}
 use Rattle.lfs_device.proofs.Faults.{have_due_failed-call, unplanned_faults-call, below-call}
 use Rattle.lfs_device.proofs.Premises.{premises_call}
 use Rattle.lfs_device.proofs.fault.FaultDeviceBlockDevice.read.Goals as goal
 
-carried : (g : _) (c : goal.After-with_ghost_history-self g) → PassesCallOrFails g.D.BlockDevice (extent_if_due c.args.self.now.fault (Read c.args.block c.args.off (length c.args.buf.now)) c.args.self.now.trace.events)
+carried : (g : _) (c : goal.After-with_ghost_history-self g) → PassesUnlessDue g.D.BlockDevice (extent_if_due c.args.self.now.fault (Read c.args.block c.args.off (length c.args.buf.now)) c.args.self.now.trace.events)
     (Read c.args.block c.args.off (length c.args.buf.now)) (is_err c.read_as_planned-outcome.result) c.args.self.now.inner c.read_as_planned-outcome.new.device
 carried g c = search rules
 

@@ -1,6 +1,6 @@
 use Rattle.std.proofs.Common.{◌∷◌, true}
 use Rattle.lfs_model.specs.format.Blocks.{Blocks}
-use Rattle.lfs_model.specs.session.History.{call_event, with_outcome}
+use Rattle.lfs_model.specs.session.History.{call_event, history_with_outcome}
 use Rattle.lfs_model.specs.session.History.DeviceCall.{Read}
 use Rattle.lfs_device.proofs.fault.FaultDeviceBlockDevice.read.Given as goal
 
@@ -12,4 +12,4 @@ ghost-with_ghost_history g a =
 
 -- the call as it went
 abbrev pub ghost-with_ghost_history-2 : goal.ghost-with_ghost_history-2
-ghost-with_ghost_history-2 g a = with_outcome a._call.now.0.events (g.D.BlockDevice.blocks a._device.now) a._call.now.1
+ghost-with_ghost_history-2 g a = history_with_outcome a._call.now.0.events (g.D.BlockDevice.blocks a._device.now) a._call.now.1

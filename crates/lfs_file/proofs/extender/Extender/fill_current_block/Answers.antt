@@ -1,5 +1,5 @@
 use Rattle.std.proofs.Common.{rules, Global, Vec, refl, ℕ, ◌≡◌, ◌≤◌, ◌+◌, ◌-◌, ◌*◌, ◌++◌, ◌∷◌, ◌<◌, ◌^◌, List, [], length, length-append, subst, take, drop, sym, ap, ◌∙◌, arith, add-one, append_assoc}
-use Rattle.lfs_file.proofs.Common.{common_steps, with_items, length-take-le, append-nil, with_items_is, length-overwritten, Blocks, block_bytes, overwritten_at, pointer_count, bytes_before_block, blocks_to_head, FillsFew, further_pointers, AreConsistent, AreKnownBlocks, ArePointedKnown, ListHasBytes, IsExtender, growing_view, GrowingList, growing_bytes, growing_size, blocks_data}
+use Rattle.lfs_file.proofs.Common.{common_steps, with_items, length-take-le, append-nil, with_items_is, length-overwritten, Blocks, block_bytes, overwritten_at, pointer_count, bytes_before_block, blocks_to_head, FillsFew, further_pointers, CountsAgree, AreKnownBlocks, ArePointedKnown, ListHasBytes, IsExtender, growing_view, GrowingList, growing_bytes, growing_size, blocks_data}
 use Rattle.lfs_device.specs.declared.geometry.Geometry.{Geometry}
 use Rattle.lfs_file.specs.declared.extender.ExtenderState.{ExtenderState}
 use Rattle.lfs_file.specs.declared.block.FullBlocks.{FullBlocks}
@@ -169,7 +169,7 @@ invariant_of-self-2 g c =
     let long = length-take-le c.min-n.result c.args.bytes.now (omega (arith, taken)) in
     record {
       one_block = one_block e c.overwrite_buffer_bytes.new.all c.write_block.new.buf (take c.min-n.result c.args.bytes.now) has (omega (arith, long, taken, high)) c.overwrite_buffer_bytes.ensures (omega (arith, c.write_block.auto.buf, ap length c.as_mut_slice-buffer.ensures.value));
-      in_step = subst (λ (f : FullBlocks). AreConsistent size f.count (4 * c.pointer_count_at.result) (e.size + c.min-n.result)) (sym front) (record { low = omega arith; high = omega arith; sum = omega arith; fits = omega arith });
+      in_step = subst (λ (f : FullBlocks). CountsAgree size f.count (4 * c.pointer_count_at.result) (e.size + c.min-n.result)) (sym front) (record { low = omega arith; high = omega arith; sum = omega arith; fits = omega arith });
       known = c.add.ensures.below;
     }
 

@@ -1,6 +1,6 @@
 use Rattle.std.specs.Prelude.{All}
 use Rattle.std.proofs.Common.{rules, ap, true, false, ◌≢◌, ℕ, ◌≡◌, ◌≤◌, ◌+◌, ◌++◌, ◌∙◌, List, [], ◌∷◌, length, take, sym, subst, arith}
-use Rattle.lfs_file.proofs.Common.{CallEvent, Blocks, HasBlockSizes, SameExcept, blocks_to_head, AreListBlocks, block_data, growing_view, GrowingList, growing_bytes, growing_blocks, growing_size, unwritten_block, rest_block, unwritten_rest_block, lacks_last_block, IsOnDisk, WritesEachOnce, IsListOf}
+use Rattle.lfs_file.proofs.Common.{CallEvent, Blocks, HasBlockSizes, SameExcept, blocks_to_head, AreListBlocks, block_data, growing_view, GrowingList, growing_bytes, growing_blocks, growing_size, unwritten_block, rest_block, unwritten_rest_block, lacks_last_block, DiskHasList, WritesEachOnce, ListHoldsBytes}
 use Rattle.lfs_device.specs.declared.geometry.Geometry.{Geometry}
 use Rattle.lfs_file.specs.declared.extender.ExtenderState.{ExtenderState}
 use Rattle.lfs_file.specs.declared.rest.RestLocation.TheVariants.{Closed, Shared, Handed, Held}
@@ -11,27 +11,27 @@ use Rattle.lfs_file.proofs.Called.{changes_none, changes_one}
 use Rattle.lfs_file.proofs.Filling.{closed_end, shared_end, handed_end}
 use Rattle.lfs_file.proofs.extender.Extender.finish.Goals as goal
 
-module _ (d : Blocks) (v : GrowingList) (size : ℕ) (is_counted : IsCounted v size) (geometry : Geometry) (same : geometry ≡ v.geometry) (shape : HasBlockSizes geometry.block_size geometry.block_count d) (held : IsOnDisk d v) (some : 1 ≤ growing_size v) where
+module _ (d : Blocks) (v : GrowingList) (size : ℕ) (is_counted : IsCounted v size) (geometry : Geometry) (same : geometry ≡ v.geometry) (shape : HasBlockSizes geometry.block_size geometry.block_count d) (held : DiskHasList d v) (some : 1 ≤ growing_size v) where
   divided : HasBlockSizes v.geometry.block_size geometry.block_count d
   divided = shaped d geometry v.geometry (sym same) shape
 
   any : 1 ≤ size
   any = omega (arith, some, is_counted.sum)
 
-  in_closed : v.stand ≡ Closed → IsListOf d v.geometry.block_size v.head size (growing_bytes d v) (growing_blocks d v)
+  in_closed : v.stand ≡ Closed → ListHoldsBytes d v.geometry.block_size v.head size (growing_bytes d v) (growing_blocks d v)
   in_closed is =
-      subst (λ t. IsListOf d v.geometry.block_size v.head size (growing_bytes d v) (blocks_to_head d v.full v.head ++ rest_block t)) (sym is)
+      subst (λ t. ListHoldsBytes d v.geometry.block_size v.head size (growing_bytes d v) (blocks_to_head d v.full v.head ++ rest_block t)) (sym is)
       (closed_end d v.geometry.block_size geometry.block_count v.full v.head size v.rest v.geometry.valid.no_smaller divided held.chain (rw is at held.stand) any is_counted.fits is_counted.sum)
 
-  in_shared : (b : ℕ) → v.stand ≡ Shared b → IsListOf d v.geometry.block_size b size (growing_bytes d v) (growing_blocks d v)
+  in_shared : (b : ℕ) → v.stand ≡ Shared b → ListHoldsBytes d v.geometry.block_size b size (growing_bytes d v) (growing_blocks d v)
   in_shared b is =
-      subst (λ t. IsListOf d v.geometry.block_size b size (growing_bytes d v) (blocks_to_head d v.full v.head ++ rest_block t)) (sym is)
+      subst (λ t. ListHoldsBytes d v.geometry.block_size b size (growing_bytes d v) (blocks_to_head d v.full v.head ++ rest_block t)) (sym is)
       (shared_end d v.geometry.block_size geometry.block_count v.full v.head b size v.rest v.geometry.valid.no_smaller divided held.chain (rw is at held.stand) (let r = is_counted.short in omega arith) is_counted.fits is_counted.sum)
 
   in_handed : (new : Blocks) (b : ℕ) → v.stand ≡ Handed b → AreListBlocks new (v.full + 1) b → blocks_to_head new (v.full + 1) b ≡ blocks_to_head d v.full v.head ++ b ∷ [] → SameExcept b d new
-      → take (length v.rest) (block_data new (v.full, b)) ≡ v.rest → IsListOf new v.geometry.block_size b size (growing_bytes d v) (growing_blocks d v)
+      → take (length v.rest) (block_data new (v.full, b)) ≡ v.rest → ListHoldsBytes new v.geometry.block_size b size (growing_bytes d v) (growing_blocks d v)
   in_handed new b is more back but begins =
-      subst (λ t. IsListOf new v.geometry.block_size b size (growing_bytes d v) (blocks_to_head d v.full v.head ++ rest_block t)) (sym is)
+      subst (λ t. ListHoldsBytes new v.geometry.block_size b size (growing_bytes d v) (blocks_to_head d v.full v.head ++ rest_block t)) (sym is)
       (handed_end d new v.geometry.block_size geometry.block_count v.full v.head b size v.rest v.geometry.valid.no_smaller divided held.chain (rw is at held.stand) more back but begins
       (let r = is_counted.short in omega arith) is_counted.fits is_counted.sum)
 
@@ -41,7 +41,7 @@ stood e v t shown is = sym (ap (λ (g : GrowingList). g.stand) shown) ∙ is
 
 pub returns-in-Closed-clause-finished : goal.returns-in-Closed-clause-finished
 returns-in-Closed-clause-finished g c =
-    subst (λ (v : GrowingList). IsListOf (g.D.BlockDevice.blocks c.args.dev.now) c.args.self.geometry.block_size v.head c.deref-state.result.now.size (growing_bytes (g.D.BlockDevice.blocks c.args.dev.now) c.args.self) (growing_blocks (g.D.BlockDevice.blocks c.args.dev.now) c.args.self)) (sym (ap growing_view c.deref-state.ensures ∙ c.self.view_is))
+    subst (λ (v : GrowingList). ListHoldsBytes (g.D.BlockDevice.blocks c.args.dev.now) c.args.self.geometry.block_size v.head c.deref-state.result.now.size (growing_bytes (g.D.BlockDevice.blocks c.args.dev.now) c.args.self) (growing_blocks (g.D.BlockDevice.blocks c.args.dev.now) c.args.self)) (sym (ap growing_view c.deref-state.ensures ∙ c.self.view_is))
     (in_closed (g.D.BlockDevice.blocks c.args.dev.now) c.args.self c.deref-state.result.now.size (counted c.deref-state.result.now c.args.self (lent c.deref-state.ensures c.self.invariant) (ap growing_view c.deref-state.ensures ∙ c.self.view_is)) _ c.requires.stands.geometry (g.met.D.BlockDevice.shape c.args.dev.now) c.requires.stands.growing c.requires.some
     (stood c.deref-state.result.now c.args.self Closed (ap growing_view c.deref-state.ensures ∙ c.self.view_is) c.in-Closed.is))
 

@@ -1,6 +1,6 @@
 use Rattle.std.proofs.Common.{rules, ⊎_elim, ℕ, ◌≡◌, ◌≢◌, ◌≤◌, ◌<◌, ◌+◌, ◌-◌, ◌++◌, List, [], ◌∷◌, length, take, drop, refl, sym, ap, subst, ◌∙◌, arith, append_assoc, length-append, length-drop}
 use Rattle.std.specs.Prelude.{All}
-use Rattle.lfs_file.proofs.Common.{take-add, cases_lt, FillsFew, further_pointers, ArePointersKnown, CallEvent, read_count, append-nil, get_or_append_left, take_all, length-take-le, take-take, All-cons, All-nil, err_from_is_err_and, Blocks, block_capacity, blocks_to_head, GrowingList, IsRestShort, growing_bytes, lasting_blocks, unwritten_block, unwritten_rest_block, growing_size, block_for_next, growing_size_with, appended_count}
+use Rattle.lfs_file.proofs.Common.{take-add, cases_lt, FillsFew, further_pointers, ArePointersKnown, CallEvent, read_count, append-nil, get_or_append_left, take_all, length-take-le, take-take, All-cons, All-nil, err_from_is_err_and, Blocks, block_capacity, blocks_to_head, GrowingList, IsRestShort, growing_bytes, lasting_blocks, unwritten_block, unwritten_rest_block, growing_size, block_for_push, growing_size_with, appended_count}
 use Rattle.lfs_file.proofs.Called.{changes_none, changes_one, quiet, reported_as, reported_on}
 use Rattle.lfs_file.proofs.Geometries.{shaped}
 use Rattle.lfs_file.proofs.Stands.{is_grown}
@@ -40,8 +40,8 @@ still : (d e : Blocks) (was now : GrowingList) (blocks : List ℕ) (used done to
 still d e was now blocks used done total same le is count sum lt none =
     still_some d e was.geometry.block_size was now blocks used done total was.geometry.valid.no_smaller le is count (sum_by was.geometry now.geometry now _ same sum) lt none
 
-pub block_and_used-block-requires : goal.block_and_used-block-requires
-block_and_used-block-requires g c =
+pub next_push_block-block-requires : goal.next_push_block-block-requires
+next_push_block-block-requires g c =
     let inv = c.loop-done.invariant in
     still _ _ c.args.self.now c.loop-done.self c.args.blocks.now c.loop-done.used c.loop-done.done _ inv.same inv.some inv.kept c.requires.count inv.sum c.loop-done-test.true
 
@@ -52,10 +52,10 @@ fill_current_block-requires g c = record {
       let some = still _ _ c.args.self.now c.loop-done.self c.args.blocks.now c.loop-done.used c.loop-done.done _ inv.same inv.some inv.kept c.requires.count inv.sum c.loop-done-test.true in
       record {
         chain = inv.growing.chain;
-        in_device = subst (λ b. b < (g.D.BlockDevice.geometry c.loop-done.dev).block_count) (sym (ap (λ r. r.0) c.block_and_used-block.ensures))
+        in_device = subst (λ b. b < (g.D.BlockDevice.geometry c.loop-done.dev).block_count) (sym (ap (λ r. r.0) c.next_push_block-block.ensures))
             (next_inside (g.D.BlockDevice.blocks c.loop-done.dev) c.loop-done.self.full c.loop-done.self.head c.loop-done.self.rest c.loop-done.self.stand c.args.blocks.now c.loop-done.used _ (g.met.D.BlockDevice.shape c.loop-done.dev).count inv.growing.stand some
             (subst (λ (k : Geometry). All (λ b. b < k.block_count) c.args.blocks.now) (sym inv.device.geometry) c.requires.in_device));
-        apart = subst (λ b. All (λ x. x ≢ b) (blocks_to_head (g.D.BlockDevice.blocks c.loop-done.dev) c.loop-done.self.full c.loop-done.self.head)) (sym (ap (λ r. r.0) c.block_and_used-block.ensures))
+        apart = subst (λ b. All (λ x. x ≢ b) (blocks_to_head (g.D.BlockDevice.blocks c.loop-done.dev) c.loop-done.self.full c.loop-done.self.head)) (sym (ap (λ r. r.0) c.next_push_block-block.ensures))
             (next_apart (g.D.BlockDevice.blocks c.loop-done.dev) c.loop-done.self.full c.loop-done.self.head _ c.loop-done.self.stand _ c.args.blocks.now c.loop-done.used inv.growing.stand some inv.kept c.requires.distinct c.requires.apart);
       };
   known = search rules;
@@ -65,7 +65,7 @@ fill_current_block-requires g c = record {
 }
 
 -- the block is one of those handed in
-among : (was : GrowingList) (t : RestLocation) (blocks : List ℕ) (used block : ℕ) (next : ℕ × ℕ) → next ≡ block_for_next t blocks used → block ≡ next.0 → (unwritten_rest_block t ≡ [] → used < length blocks)
+among : (was : GrowingList) (t : RestLocation) (blocks : List ℕ) (used block : ℕ) (next : ℕ × ℕ) → next ≡ block_for_push t blocks used → block ≡ next.0 → (unwritten_rest_block t ≡ [] → used < length blocks)
     → ((other : ℕ) → All (λ b. b ≢ other) (unwritten_block was ++ blocks) → All (λ b. b ≢ other) (unwritten_rest_block t)) → (other : ℕ) → All (λ b. b ≢ other) (unwritten_block was ++ blocks) → block ≢ other
 among was t blocks used block next e f some pending other apart =
     subst (λ b. b ≢ other) (sym (f ∙ ap (λ r. r.0) e)) (next_among t (unwritten_block was ++ blocks) (unwritten_block was) blocks used refl some pending other apart)
@@ -74,7 +74,7 @@ pub returns-in_err-done-clause-device : goal.returns-in_err-done-clause-device
 returns-in_err-done-clause-device g c =
     let inv = c.loop-done.invariant in
     let some = still _ _ c.args.self.now c.loop-done.self c.args.blocks.now c.loop-done.used c.loop-done.done _ inv.same inv.some inv.kept c.requires.count inv.sum c.loop-done-test.true in
-    changes_one g.D.BlockDevice (among c.args.self.now c.loop-done.self.stand c.args.blocks.now c.loop-done.used _ _ c.block_and_used-block.ensures refl some inv.pending) inv.device c.fill_current_block.ensures.device
+    changes_one g.D.BlockDevice (among c.args.self.now c.loop-done.self.stand c.args.blocks.now c.loop-done.used _ _ c.next_push_block-block.ensures refl some inv.pending) inv.device c.fill_current_block.ensures.device
 
 pub returns-in_err-done-clause-io : goal.returns-in_err-done-clause-io
 returns-in_err-done-clause-io g c =
@@ -115,7 +115,7 @@ pub loop-done-preserved : goal.loop-done-preserved
 loop-done-preserved g c =
     let inv = c.loop-done.invariant in
     let some = still _ _ c.args.self.now c.loop-done.self c.args.blocks.now c.loop-done.used c.loop-done.done _ inv.same inv.some inv.kept c.requires.count inv.sum c.loop-done-test.true in
-    let next = c.block_and_used-block.ensures in
+    let next = c.next_push_block-block.ensures in
     let here = among c.args.self.now c.loop-done.self.stand c.args.blocks.now c.loop-done.used _ _ next refl some inv.pending in
     let now = c.in_ok-done.ensures.filled.grown in
     let written = c.in_ok-done.ensures.calls.writes in

@@ -1,6 +1,6 @@
 use Rattle.std.proofs.Common.{ℕ, false, ◌≡◌, ◌≢◌, ◌≤◌, ◌+◌, ◌-◌, ◌++◌, length, take}
 use Rattle.std.specs.Prelude.{All}
-use Rattle.lfs_file.proofs.Common.{FillsFew, WritesEachOnce, ChangesTheseBlocks, fault_count, IsOnDisk, IsRestShort, growing_blocks, growing_bytes, growing_size, rest_lacks_block, lasting_blocks, unwritten_block}
+use Rattle.lfs_file.proofs.Common.{FillsFew, WritesEachOnce, ChangesTheseBlocks, fault_count, DiskHasList, IsRestShort, growing_blocks, growing_bytes, growing_size, rest_lacks_block, lasting_blocks, unwritten_block}
 use Rattle.lfs_file.proofs.extender.Extender.push.Given as goal
 
 abbrev pub invariant-loop-done : goal.invariant-loop-done
@@ -14,7 +14,7 @@ invariant-loop-done g l =
     record {
       low : l.done ≤ length l.fn.bytes;
       some : l.used ≤ length l.fn.blocks;
-      growing : IsOnDisk (blocks l.dev) now;
+      growing : DiskHasList (blocks l.dev) now;
       bytes : growing_bytes (blocks l.dev) now ≡ growing_bytes (blocks old) was ++ take l.done l.fn.bytes;
       sum : growing_size now ≡ growing_size was + l.done;
       kept : lasting_blocks (blocks l.dev) now ≡ lasting_blocks (blocks old) was ++ take l.used l.fn.blocks;

@@ -1,5 +1,5 @@
 use Rattle.std.proofs.Common.{refl, ℕ, ◌≡◌, ◌≤◌, ◌<◌, ◌+◌, ◌-◌, ◌*◌, ◌^◌, ◌++◌, ◌⊎◌, inl, inr, List, [], ◌∷◌, length, take, drop, slice_index, Result, Err, sym, ap, subst, ◌∙◌, arith, rules}
-use Rattle.lfs_file.proofs.Common.{with_items, append-nil, length-take, with_items_is, IfOk-weaker, err_from_is_err_and, Blocks, HasBlockSizes, block_bytes, AreListBlocks, IsSkipList, IsBytePlace, pointer_count, bytes_before_block, blocks_to_head, block_count_for, list_bytes, word_at, OnlyBelowKnown, CallEvent, read_count, growing_view, AreConsistent, GrowingList, blocks_data, IsRestShared}
+use Rattle.lfs_file.proofs.Common.{with_items, append-nil, length-take, with_items_is, IfOk-weaker, err_from_is_err_and, Blocks, HasBlockSizes, block_bytes, AreListBlocks, IsSkipList, IsBytePlace, pointer_count, bytes_before_block, blocks_to_head, block_count_for, list_bytes, word_at, OnlyBelowKnown, CallEvent, read_count, growing_view, CountsAgree, GrowingList, blocks_data, IsRestShared}
 use Rattle.lfs_device.specs.declared.error.Error.{Error}
 use Rattle.lfs_device.specs.declared.geometry.Geometry.{Geometry}
 use Rattle.lfs_file.specs.declared.block.FullBlocks.{FullBlocks}
@@ -165,7 +165,7 @@ of_state-requires g c =
     let sum = full.sum in
     record {
       one_block = omega (arith, c.in_ok-buffer.ensures.len, c.in_ok-buffer.buffer.ok.0);
-      in_step = subst (λ (f : FullBlocks). AreConsistent c.geometry-geometry.result.block_size f.count (4 * c.pointer_count_at.result) c.args.keep) (sym c.new.ensures.made) (record { low = omega arith; high = omega arith; sum = omega arith; fits = omega arith });
+      in_step = subst (λ (f : FullBlocks). CountsAgree c.geometry-geometry.result.block_size f.count (4 * c.pointer_count_at.result) c.args.keep) (sym c.new.ensures.made) (record { low = omega arith; high = omega arith; sum = omega arith; fits = omega arith });
       known = c.new.ensures.below _;
     }
 
@@ -173,7 +173,7 @@ pub of_state-requires-2 : goal.of_state-requires-2
 of_state-requires-2 g c = record {
   one_block = ap length (with_items_is c.in_ok-buffer.buffer c.read_into_range.new.buf (omega (arith, c.read_into_range.auto.buf, c.as_mut_slice.ensures.len, c.in_ok-buffer.buffer.ok.0)))
       ∙ omega (arith, c.read_into_range.auto.buf, ap length c.as_mut_slice.ensures.value, c.in_ok-buffer.ensures.len, c.in_ok-buffer.buffer.ok.0);
-  in_step = subst (λ (f : FullBlocks). AreConsistent c.geometry-geometry.result.block_size f.count (c.place-index.result.1 + 1) c.args.keep) (sym c.full_before_block-front.ensures.made) (search rules);
+  in_step = subst (λ (f : FullBlocks). CountsAgree c.geometry-geometry.result.block_size f.count (c.place-index.result.1 + 1) c.args.keep) (sym c.full_before_block-front.ensures.made) (search rules);
   known = subst (λ (f : FullBlocks). OnlyBelowKnown f.count c.full_before_block-front.result.known) (sym c.full_before_block-front.ensures.made) c.full_before_block-front.ensures.below;
 }
 

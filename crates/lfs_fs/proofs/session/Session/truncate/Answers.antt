@@ -17,7 +17,7 @@ writer_after_truncating-answer-requires g c =
     let e = sym c.take.ensures.file ∙ c.in-Some-Writing.is ∙ ap Some c.in-Some-Writing.field-0-is in
     let t = c.self.inside.tree in
     let fs = c.self.inside.files in
-    can_now t fs c.args.fd c.args.size c.in-Some-Writing.writer e h.0 (c.self.invariant.ready (works_now t fs c.args.fd c.args.size c.in-Some-Writing.writer e h.0)) (sym (c.has_sized_writer.ensures c.in-Some-Writing.writer (ap writer_if_any e)) ∙ c.if-has_sized_writer.false)
+    can_now t fs c.args.fd c.args.size c.in-Some-Writing.writer e h.0 (c.self.invariant.ready (works_now t fs c.args.fd c.args.size c.in-Some-Writing.writer e h.0)) (sym (c.writer_has_size.ensures c.in-Some-Writing.writer (ap writer_if_any e)) ∙ c.if-writer_has_size.false)
 
 pub put_back_writer-requires-clause-inside : goal.put_back_writer-requires-clause-inside
 put_back_writer-requires-clause-inside g c =
@@ -41,13 +41,13 @@ returns-in_err-check_truncate g c =
     unread_call c.self.inside.tree c.self.inside.files _ (ops.Truncate c.args.fd c.args.size) (λ u. ops.Done) _ c.from_residual.result c.self.view_is c.self.invariant.ready refl refl refl c.in_err-check_truncate.ensures (given_on _ c.from_residual.result c.from_residual.ensures.1)
 
 -- it has that size
-pub returns-then-has_sized_writer : goal.returns-then-has_sized_writer
-returns-then-has_sized_writer g c =
+pub returns-then-writer_has_size : goal.returns-then-writer_has_size
+returns-then-writer_has_size g c =
     let h = c.in_ok-check_truncate.ensures in
     let w = some_writer c.self.inside.files c.args.fd h.1 in
     still_call c.self.inside.tree c.self.inside.files _ (ops.Truncate c.args.fd c.args.size) _ _ c.self.view_is c.self.invariant.ready refl refl (ap (λ (h : SessionView). h.tree.disk) (sym c.self.view_is))
     (kept_ends (session_view c.self.inside.tree c.self.inside.files) _ (ops.Truncate c.args.fd c.args.size) ops.Done c.self.view_is c.in_ok-check_truncate.ensures.0)
-    (same_size c.self.inside.tree c.self.inside.files c.args.fd c.args.size _ w.0 c.self.view_is c.self.invariant.ready h.0 w.1 (sym (c.has_sized_writer.ensures w.0 (ap writer_if_any w.1)) ∙ c.if-has_sized_writer.true))
+    (same_size c.self.inside.tree c.self.inside.files c.args.fd c.args.size _ w.0 c.self.view_is c.self.invariant.ready h.0 w.1 (sym (c.writer_has_size.ensures w.0 (ap writer_if_any w.1)) ∙ c.if-writer_has_size.true))
     (kept_call (session_view c.self.inside.tree c.self.inside.files) _ (ops.Truncate c.args.fd c.args.size) c.self.view_is (sound_by c.self.inside.tree c.self.inside.files c.self.invariant.ready))
 
 -- the tree's call ends it
@@ -71,9 +71,9 @@ returns-in_err-writer g c =
     let h = c.in_ok-check_truncate.ensures in
     let t = c.self.inside.tree in
     let fs = c.self.inside.files in
-    let can = can_now t fs c.args.fd c.args.size c.in-Some-Writing.writer e h.0 (c.self.invariant.ready (works_now t fs c.args.fd c.args.size c.in-Some-Writing.writer e h.0)) (sym (c.has_sized_writer.ensures c.in-Some-Writing.writer (ap writer_if_any e)) ∙ c.if-has_sized_writer.false) in
+    let can = can_now t fs c.args.fd c.args.size c.in-Some-Writing.writer e h.0 (c.self.invariant.ready (works_now t fs c.args.fd c.args.size c.in-Some-Writing.writer e h.0)) (sym (c.writer_has_size.ensures c.in-Some-Writing.writer (ap writer_if_any e)) ∙ c.if-writer_has_size.false) in
     saving_call c.self.inside.tree c.writer_after_truncating-answer.new.tree c.self.inside.files (files_view c.writer_after_truncating-answer.new.tree c.take.new.self) _ (ops.Truncate c.args.fd c.args.size) (λ u. ops.Done) _ c.from_residual-in_err-writer.result _ c.self.view_is c.self.invariant h.0 refl refl refl refl refl
-    (other_needed t fs c.args.fd c.args.size c.in-Some-Writing.writer e can.can.written (sym (c.has_sized_writer.ensures c.in-Some-Writing.writer (ap writer_if_any e)) ∙ c.if-has_sized_writer.false)) can.can.written.writable c.lemma_calls_conform.ensures c.in_err-writer.ensures.broken c.in_err-writer.ensures.errors (given_on _ c.from_residual-in_err-writer.result c.from_residual-in_err-writer.ensures.1)
+    (other_needed t fs c.args.fd c.args.size c.in-Some-Writing.writer e can.can.written (sym (c.writer_has_size.ensures c.in-Some-Writing.writer (ap writer_if_any e)) ∙ c.if-writer_has_size.false)) can.can.written.writable c.lemma_calls_conform.ensures c.in_err-writer.ensures.broken c.in_err-writer.ensures.errors (given_on _ c.from_residual-in_err-writer.result c.from_residual-in_err-writer.ensures.1)
     (c.writer_after_truncating-answer.ensures.survives (sound_by c.self.inside.tree c.self.inside.files c.self.invariant.ready (not_failed (session_view c.self.inside.tree c.self.inside.files) (ops.Truncate c.args.fd c.args.size) c.in_ok-check_truncate.ensures.0))) refl
 
 pub returns : goal.returns
@@ -86,6 +86,6 @@ returns g c =
     (beside_others c.self.inside.tree c.writer_after_truncating-answer.new.tree c.self.inside.files _ (ops.Truncate c.args.fd c.args.size) c.self.view_is c.self.invariant.ready c.in_ok-writer.ensures.beside)
     (answer_ends (session_view c.self.inside.tree c.self.inside.files) _ (ops.Truncate c.args.fd c.args.size) ops.Done _ c.self.view_is c.in_ok-check_truncate.ensures.0 c.in_ok-writer.ensures.beside.no_fault)
     (subst (λ xs. IsStep (system_state c.args.self.now) (ops.Truncate c.args.fd c.args.size) ops.Done (system_state (session_view c.writer_after_truncating-answer.new.tree xs))) (sym (put_again fs c.take.new.self c.put_back_writer.new.self c.args.fd c.in_ok-writer.writer c.take.ensures.left c.put_back_writer.ensures))
-    (other_size t c.writer_after_truncating-answer.new.tree fs c.args.fd c.args.size _ c.in-Some-Writing.writer c.in_ok-writer.writer c.self.view_is c.self.invariant.ready h.0 e (sym (c.has_sized_writer.ensures c.in-Some-Writing.writer (ap writer_if_any e)) ∙ c.if-has_sized_writer.false) c.in_ok-writer.ensures.written c.in_ok-writer.ensures.beside))
+    (other_size t c.writer_after_truncating-answer.new.tree fs c.args.fd c.args.size _ c.in-Some-Writing.writer c.in_ok-writer.writer c.self.view_is c.self.invariant.ready h.0 e (sym (c.writer_has_size.ensures c.in-Some-Writing.writer (ap writer_if_any e)) ∙ c.if-writer_has_size.false) c.in_ok-writer.ensures.written c.in_ok-writer.ensures.beside))
     (tree_changed (session_view c.self.inside.tree c.self.inside.files) _ (ops.Truncate c.args.fd c.args.size) c.writer_after_truncating-answer.new.tree _ c.self.view_is (sound_by c.self.inside.tree c.self.inside.files c.self.invariant.ready) c.in_ok-check_truncate.ensures.0
     (c.writer_after_truncating-answer.ensures.survives (sound_by c.self.inside.tree c.self.inside.files c.self.invariant.ready (not_failed (session_view c.self.inside.tree c.self.inside.files) (ops.Truncate c.args.fd c.args.size) c.in_ok-check_truncate.ensures.0))) refl)

@@ -13,6 +13,6 @@ returns-clause-summary c =
         slot_count = c.len.ensures ∙ c.in-Ok.outline.marks.ok.0 ∙ sym (ap (λ o. length o.marks) same) ∙ length-map held.0.slots slot_mark;
         tail = sym (ap (λ o. o.tail) same);
         move_state = sym (ap (λ o. o.move) same);
-        complete = c.all_complete.ensures ∙ ap (list_all is_complete_mark) (c.deref.ensures.value ∙ sym (ap (λ o. o.marks) same)) ∙ whole_content held.0;
+        complete = c.are_marks_complete.ensures ∙ ap (list_all is_complete_mark) (c.deref.ensures.value ∙ sym (ap (λ o. o.marks) same)) ∙ whole_content held.0;
       },
     )

@@ -1,13 +1,13 @@
 use Rattle.std.proofs.Common.{◌≤◌, ◌+◌, ap, subst, sym, ◌∙◌}
 use Rattle.std.specs.Prelude.{IfOk, IfSome, sum_by}
-use Rattle.lfs_tree.proofs.Common.{ancestor_paths, pair_count_at, read_count, pairs_gstate, IsFoundNode, ThreadView, IsSoundWithRoot, IsCreationResult, TreeState, shown_tree}
+use Rattle.lfs_tree.proofs.Common.{ancestor_paths, directory_pair_count, read_count, pairs_gstate, IsFoundNode, ThreadView, SoundWithRoot, IsCreationResult, TreeState, shown_tree}
 use Rattle.lfs_tree.proofs.Asking.{asking, held, rooted_held}
 use Rattle.lfs_tree.proofs.CreationPaths.{creation_since}
 use Rattle.lfs_tree.proofs.tree.Tree.look_up_creation.Goals as goal
 
 pub find_creation_path-found-requires : goal.find_creation_path-found-requires
 find_creation_path-found-requires g c =
-    subst (λ a. IsSoundWithRoot c.self.inside.thread c.self.inside.root a) (ap (λ (s : TreeState). s.writable) c.self.view_is ∙ c.requires.writable)
+    subst (λ a. SoundWithRoot c.self.inside.thread c.self.inside.root a) (ap (λ (s : TreeState). s.writable) c.self.view_is ∙ c.requires.writable)
     (rooted_held c.self.inside.thread c.self.inside.root c.self.inside.is_writable c.args.self.now c.self.invariant c.self.view_is c.requires.works)
 
 pub invariant_of-self : goal.invariant_of-self
@@ -32,5 +32,5 @@ returns-clause-handed_on g c = λ settled. c.find_creation_path-found.ensures.ha
 
 pub returns-clause-few : goal.returns-clause-few
 returns-clause-few g c =
-    subst (λ (t : ThreadView). read_count t.kept.history ≤ read_count c.args.self.now.history + sum_by (pair_count_at c.args.self.now.pairs) (ancestor_paths c.args.path.now)) (sym c.mark_failed.ensures)
-    (subst (λ (s : TreeState). read_count c.find_creation_path-found.new.thread.kept.history ≤ read_count s.history + sum_by (pair_count_at s.pairs) (ancestor_paths c.args.path.now)) c.self.view_is c.find_creation_path-found.ensures.few)
+    subst (λ (t : ThreadView). read_count t.kept.history ≤ read_count c.args.self.now.history + sum_by (directory_pair_count c.args.self.now.pairs) (ancestor_paths c.args.path.now)) (sym c.mark_failed.ensures)
+    (subst (λ (s : TreeState). read_count c.find_creation_path-found.new.thread.kept.history ≤ read_count s.history + sum_by (directory_pair_count s.pairs) (ancestor_paths c.args.path.now)) c.self.view_is c.find_creation_path-found.ensures.few)

@@ -1,6 +1,6 @@
 use Rattle.std.proofs.Common.{◌≤◌, ◌+◌, ◌++◌, ◌∷◌, [], subst, sym}
 use Rattle.std.specs.Prelude.{sum_by}
-use Rattle.lfs_tree.proofs.Common.{pair_count_at, ancestor_paths, read_count, TreeState, ThreadView}
+use Rattle.lfs_tree.proofs.Common.{directory_pair_count, ancestor_paths, read_count, TreeState, ThreadView}
 use Rattle.lfs_tree.proofs.Asking.{asking, held, rooted_held}
 use Rattle.lfs_tree.proofs.tree.Tree.look_up_node.Goals as goal
 
@@ -19,5 +19,5 @@ returns-clause-asks g c =
 
 pub returns-clause-few : goal.returns-clause-few
 returns-clause-few g c =
-    subst (λ (t : ThreadView). read_count t.kept.history ≤ read_count c.args.self.now.history + sum_by (pair_count_at c.args.self.now.pairs) (ancestor_paths c.args.path.now ++ c.args.path.now ∷ [])) (sym c.mark_failed.ensures)
-    (subst (λ (s : TreeState). read_count c.path_has_entries-inside.new.thread.kept.history ≤ read_count s.history + sum_by (pair_count_at s.pairs) (ancestor_paths c.args.path.now ++ c.args.path.now ∷ [])) c.self.view_is c.path_has_entries-inside.ensures.few)
+    subst (λ (t : ThreadView). read_count t.kept.history ≤ read_count c.args.self.now.history + sum_by (directory_pair_count c.args.self.now.pairs) (ancestor_paths c.args.path.now ++ c.args.path.now ∷ [])) (sym c.mark_failed.ensures)
+    (subst (λ (s : TreeState). read_count c.path_has_entries-inside.new.thread.kept.history ≤ read_count s.history + sum_by (directory_pair_count s.pairs) (ancestor_paths c.args.path.now ++ c.args.path.now ∷ [])) c.self.view_is c.path_has_entries-inside.ensures.few)

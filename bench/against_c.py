@@ -8,9 +8,10 @@ work on a device in memory with blocks of 4,096 bytes and pages of 256. Prints f
 by gcc -O2, with caches of 4,096 and of 256 bytes; then the rows about wear. The times of a row are the quickest of some runs.
 
 Of wear there are the erases in all, those of the block that has most, the mean, their deviation divided by that, and the blocks that are never
-erased. Ours has pairs that stay and pairs that move, on a device that knows which bytes are blank and on one that doesn't. Fails where,
-with pairs that move, a block has more erases than MOST_ERASES says; where there are over 2 in 100 more erases in all than with
-pairs that stay; or where, with blank checks, a block has over 1.2 times the erases that it has with littlefs's `block_cycles` of 100.
+erased. Ours has pairs that stay and pairs that move by each of PAIR_CYCLES, on a device that knows which bytes are blank and on one
+that doesn't. Of the rows in MOST_ERASES it fails where, with the last of PAIR_CYCLES, a block has more erases than that says; where
+there are over 2 in 100 more erases in all than with pairs that stay; or where, with blank checks, a block has over 1.2 times the erases
+that it has with littlefs's `block_cycles` of 100.
 """
 
 import argparse
@@ -52,7 +53,7 @@ ROWS = [
 ]
 WEAR_ROWS = [("wear", 128, 5000), ("bootlog", 256, 2000), ("bootlog", 256, 20000), ("bootcount", 256, 2000), ("bootcount", 256, 20000)]
 WEAR_CASES = [(4096, -1), (256, -1), (4096, 500), (4096, 100)]  # cache, block_cycles
-PAIR_CYCLES = 101
+PAIR_CYCLES = [101, 157]
 # of one block, where the device knows blank bytes and where it doesn't, with pairs that move
 MOST_ERASES = {("wear", 5000): (70, 120), ("bootlog", 20000): (250, 450), ("bootcount", 20000): (80, 350)}
 MORE_IN_ALL, BESIDE_C = 1.02, 1.2
@@ -120,8 +121,10 @@ def show_wear(options, room, row, blocks, count):
     """Prints a row about wear. What of it isn't as it has to be."""
     print(f"{row}, {count} operations, {blocks} blocks")
     ours = [options.program, "row", row, blocks, count]
-    cases = {"ours": [*ours, 0], "ours, pairs move": [*ours, PAIR_CYCLES], "ours, blank checks": [*ours, 0, "blanks"],
-             "ours, blank checks, pairs move": [*ours, PAIR_CYCLES, "blanks"]}
+    cases = {}
+    for blanks in ("ours", "ours, blank checks"):
+        for cycles in [0, *PAIR_CYCLES]:
+            cases[moving(blanks, cycles)] = [*ours, cycles] + ["blanks"] * (blanks != "ours")
     for cache, cycles in WEAR_CASES:
         cases[f"C, cache {cache}, block_cycles {cycles}"] = [f"{room}/bench", row, blocks, count, cache, cycles]
     found = {}
@@ -134,18 +137,23 @@ def show_wear(options, room, row, blocks, count):
         cells = [f"{sum(erases):,}", max(erases), f"{mean:.1f}", f"{spread / mean:.2f}", erases.count(0)]
         print(f"  {name:32}" + "".join(f"{cell:>10}" for cell in cells))
     sys.stdout.flush()
-    return [f"{row}, {count} operations: {what}" for what in too_many(found, MOST_ERASES.get((row, count)))]
+    most = MOST_ERASES.get((row, count))
+    return [f"{row}, {count} operations: {what}" for what in too_many(found, most)] if most else []
+
+
+def moving(blanks, cycles):
+    return f"{blanks}, cycles {cycles}" if cycles else blanks
 
 
 def too_many(found, most):
     """Which erases are more than they may be, by each case's erases of each block."""
     for at, blanks in enumerate(["ours, blank checks", "ours"]):
-        stay, move = found[blanks], found[f"{blanks}, pairs move"]
-        if most and max(move) > most[at]:
+        stay, move = found[blanks], found[moving(blanks, PAIR_CYCLES[-1])]
+        if max(move) > most[at]:
             yield f"{blanks}: {max(move)} erases of a block, at most {most[at]} are wanted"
         if sum(move) > MORE_IN_ALL * sum(stay):
             yield f"{blanks}: {100 * sum(move) / sum(stay) - 100:.1f} in 100 more erases than with pairs that stay"
-    ours, its = max(found["ours, blank checks, pairs move"]), max(found["C, cache 4096, block_cycles 100"])
+    ours, its = max(found[moving("ours, blank checks", PAIR_CYCLES[-1])]), max(found["C, cache 4096, block_cycles 100"])
     if ours > BESIDE_C * its:
         yield f"{ours} erases of a block, where littlefs has {its}"
 

@@ -28,7 +28,7 @@ import time
 
 TICK = os.sysconf("SC_CLK_TCK")
 PERIOD = 0.5
-LEAST = 240
+LEAST = 1000
 PARTS = ("code", "tests", "edits")
 # what these two take alone tells how fast a machine is
 YARDSTICK = ("lfs_model", "lfs_device")
@@ -155,7 +155,7 @@ def main():
     totals = totals if anew else remembered(totals, f"{log}.json")
     sums = {part: sum(it[part] for it in totals.values()) / 60 for part in PARTS}
     print("# Times\n")
-    print("Printed by `bench/times.py`, which runs the gate: the processor seconds of each crate's checks, from nothing. On a machine that does other work they are upper bounds.\n")
+    print("Printed by `bench/times.py`, which runs the gate: the processor seconds of each crate's checks, from nothing.\n")
     print(*table(totals), sep="\n")
     print(f"\nIn all {sum(sums.values()):.0f} processor minutes: {sums['code']:.0f} for the code, {sums['tests']:.0f} for tests, {sums['edits']:.0f} for wrong bodies. That is {sum(sums.values()) / sums['code']:.2f} times as much as the code's proofs alone.")
     print(f"\nThe machine's yardstick: {' and '.join(f'`{it}`' for it in YARDSTICK)} alone take {sum(totals[it]['code'] for it in YARDSTICK):.0f} processor seconds on it.")

@@ -1,6 +1,6 @@
 -- Blocks to which later ones have pointers, by the rows in which they are known.
-use Rattle.std.proofs.Common.{ℕ, zero, suc, ◌≡◌, ◌≢◌, ◌≤◌, ◌<◌, ◌+◌, ◌-◌, ◌^◌, ⊎_elim, replicate, slice_index, add-one, refl, sym, ap, subst, arith}
-use Rattle.lfs_file.proofs.Common.{cases_lt, get_or-replicate, pow-suc, one-le-pow, pow_mono, mul-le, bit_at-trailing_zeros, w32, trailing_zeros, pointer_count, ArePointersKnown, OnlyBelowKnown, ArePointedKnown, IsKnownIndex, index_row}
+use Rattle.std.proofs.Common.{ℕ, zero, suc, ◌≡◌, ◌≢◌, ◌≤◌, ◌<◌, ◌+◌, ◌-◌, ◌^◌, ⊎_elim, replicate, slice_index, add-one, refl, sym, ap, subst, arith, List}
+use Rattle.lfs_file.proofs.Common.{cases_lt, get_or-replicate, pow-suc, one-le-pow, pow_mono, mul-le, bit_at-trailing_zeros, w32, trailing_zeros, pointer_count, ArePointersKnown, OnlyBelowKnown, ArePointedKnown, IsKnownIndex, index_row, AreKnownBlocks}
 use Rattle.std.specs.Int.Count.{trailing_of_zero}
 use Rattle.lfs_file.specs.Known.{no_known_blocks}
 use Rattle.lfs_file.specs.declared.known.KnownBlocks.{KnownBlocks}
@@ -20,6 +20,13 @@ pow_less j k less =
 
 pub none_below : (count : ℕ) → OnlyBelowKnown count no_known_blocks
 none_below count row lt small = (let none : slice_index (replicate 32 4294967295) row ≡ 4294967295 = get_or-replicate 32 row 4294967295 0 lt in absurd (omega (arith, none, small)))
+
+-- where no block is known, those that are known are below any index, and any list's
+pub none_below_more : (count : ℕ) (known : KnownBlocks) → OnlyBelowKnown 0 known → OnlyBelowKnown count known
+none_below_more count known none row lt small = (let low = none row lt small in absurd (omega arith))
+
+pub none_of_list : (all : List ℕ) (known : KnownBlocks) → OnlyBelowKnown 0 known → AreKnownBlocks all known
+none_of_list all known none row lt small within = (let low = none row lt small in absurd (omega arith))
 
 -- the row of a block to which a later one has a pointer is past all smaller numbers of zeros
 high_row : (n k i z : ℕ) → n < 2 ^ 32 → k ≤ trailing_zeros w32 n → k ≤ 31 → z < k → n - 2 ^ k ≡ i → z < index_row i

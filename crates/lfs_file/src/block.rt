@@ -36,26 +36,26 @@ impl FullBlocks {
         }
     }
 
-    // Makes the full blocks of a list before the block at an index. The bytes begin with the pointers
-    // of that block, and those lead to known blocks.
-    pub(crate) fn full_before_block(index: u32, bytes: &[u8]) -> FullBlocks
-        requires { 4 * pointer_count index ≤ length bytes.now }
-        ensures made { result ≡ record { count = index; head = result.head; known = result.known } }
-        ensures head { 0 < index → result.head ≡ word_at bytes.now 0 }
-        ensures known { (all : List ℕ) → ((k : ℕ) → k < pointer_count index → word_at bytes.now (4 * k) ≡ slice_index all (index - 2 ^ k)) → AreKnownBlocks all result.known }
-        ensures below { OnlyBelowKnown index result.known }
-        ensures pointers { ArePointersKnown index result.known }
+    // Makes these the full blocks of a list before the block at an index. The bytes begin with the
+    // pointers of that block, and those lead to known blocks. No block was known before.
+    pub(crate) fn begin_before_block(&mut self, index: u32, bytes: &[u8])
+        requires none { OnlyBelowKnown 0 self.old.known }
+        requires pointers { 4 * pointer_count index ≤ length bytes.now }
+        ensures made { self.new ≡ record { count = index; head = self.new.head; known = self.new.known } }
+        ensures head { 0 < index → self.new.head ≡ word_at bytes.now 0 }
+        ensures known { (all : List ℕ) → ((k : ℕ) → k < pointer_count index → word_at bytes.now (4 * k) ≡ slice_index all (index - 2 ^ k)) → AreKnownBlocks all self.new.known }
+        ensures below { OnlyBelowKnown index self.new.known }
+        ensures pointers { ArePointersKnown index self.new.known }
     {
-        if index == 0 {
-            return FullBlocks::new(0, 0);
-        }
-        let mut front = FullBlocks::new(index, LittleEndian::read_u32(&bytes[..4]));
+        self.count = index;
         for k in 0..pointer_count_at(index) {
             let at = 4 * k as usize;
             let block = LittleEndian::read_u32(&bytes[at..at + 4]);
-            front.known.note(index - (1 << k), block);
+            if k == 0 {
+                self.head = block;
+            }
+            self.known.note(index - (1 << k), block);
         }
-        front
     }
 
     // Adds a block after them.

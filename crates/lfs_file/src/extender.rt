@@ -124,31 +124,24 @@ impl Extender {
     {
         let geometry = dev.geometry();
         let block_size = geometry.block_size;
-        let mut buffer = Vec::from_elem(alloc, 0u8, block_size as usize)?;
+        let mut list = Extender::start_empty(alloc, geometry)?;
         let (index, off) = place(block_size, keep - 1);
         let block = find_block_at(dev, head, blocks_for(block_size, size) - 1, index)?;
+        let state = &mut *list.state;
+        state.size = keep;
         if off + 1 == block_size {
-            let state = ExtenderState {
-                geometry,
-                buffer,
-                front: FullBlocks::new(index + 1, block),
-                filled: 4 * pointer_count_at(index + 1),
-                size: keep,
-                stand: RestLocation::Closed,
-            };
-            return Extender::of_state(alloc, state);
+            state.front.count = index + 1;
+            state.front.head = block;
+            state.filled = 4 * pointer_count_at(index + 1);
+            return Ok(list);
         }
-        read_into_range(dev, block, 0, buffer.as_mut_slice(), 0, off + 1)?;
-        let front = FullBlocks::full_before_block(index, buffer.as_slice());
-        let state = ExtenderState {
-            geometry,
-            buffer,
-            front,
-            filled: off + 1,
-            size: keep,
-            stand: RestLocation::Shared(block),
-        };
-        Extender::of_state(alloc, state)
+        read_into_range(dev, block, 0, state.buffer.as_mut_slice(), 0, off + 1)?;
+        state
+            .front
+            .begin_before_block(index, state.buffer.as_slice());
+        state.filled = off + 1;
+        state.stand = RestLocation::Shared(block);
+        Ok(list)
     }
 
     /// Replaces the contents by these bytes, in memory and in no block. What the extender had

@@ -20,6 +20,8 @@ pub fn blocks_for(block_size: u32, size: u32) -> u32
 ///
 /// The block size is at least 1,024 bytes. The formula is that of DESIGN.md of littlefs ("CTZ
 /// skip-lists").
+// Its code is long and is shared by callers.
+#[inline(never)]
 pub fn place(block_size: u32, pos: u32) -> (u32, u32)
     requires { 1024 ≤ block_size }
     ensures { IsBytePlace block_size pos result.0 result.1 }

@@ -33,6 +33,7 @@ pub has_contents : (t : TreeState) (w : Writer) (unsaved : Option UnsavedContent
 has_contents t w unsaved can is = subst (λ u. HasWriterFile t w.path u) (sym is) (record {
   works = can.works;
   writable = can.written.writable;
+  settled = can.written.settled;
   file = can.written.there;
   idle = can.idle;
   over = λ u e. (changed_in t w u can.written.changed e).over;

@@ -5,8 +5,8 @@ use Rattle.lfs_model.specs.session.TreeEdits.{is_file}
 use Rattle.lfs_model.specs.layers.BlockSets.{in_flight_count}
 use Rattle.lfs_model.specs.format.Disk.{block_count}
 use Rattle.lfs_model.specs.session.Session as session
-use Rattle.lfs_model.specs.session.Writers.{truncated_writer, written_writer, write_position}
 use Rattle.lfs_model.specs.session.Session.{reserved_for_writer}
+use Rattle.lfs_model.specs.session.Writers.{truncated_writer, written_writer, write_position}
 use Rattle.lfs_model.specs.session.Effects.{node_file_size}
 use Rattle.lfs_model.specs.tree.Tree.{Path}
 use Rattle.lfs_tree.specs.OpenContents.{IsOpenedForm, AreTreeContents}
@@ -18,11 +18,14 @@ use Rattle.lfs_fs.specs.SessionView.{IsWriterReady}
 use Rattle.lfs_fs.specs.declared.files.OpenFile.TheVariants as file
 use Rattle.lfs_fs.specs.declared.files.UnsavedContents.{UnsavedContents}
 use Rattle.lfs_fs.specs.declared.files.Writer.{Writer}
+use Rattle.lfs_model.specs.format.Slots.{zero_gstate}
+use Rattle.lfs_model.specs.format.Thread.{pairs_gstate}
 
--- a file is there, whose contents were changed so, or not
+-- nothing is to recover, and a file is there, whose contents were changed so, or not
 pub record HasWriterFile (t : TreeState) (path : Path) (unsaved : Option UnsavedContents) : Type 0 where
   pub works : t.failed ≡ false
   pub writable : t.writable ≡ true
+  pub settled : pairs_gstate t.pairs ≡ zero_gstate
   pub file : is_file (shown_tree t path) ≡ true
   pub idle : is_some unsaved ≡ false → in_flight_count t.map ≡ 0
   pub over : (u : UnsavedContents) → unsaved ≡ Some u → AreTreeContents t path u.contents

@@ -14,3 +14,5 @@ pub mod Keeping
 pub mod Steps
 pub mod Listing
 pub mod Source
+pub mod StepResults
+pub mod SlotChanges

@@ -1,7 +1,6 @@
 -- A pair that gets more slots or fewer, or is cut, doesn't stay with what it held.
-use Rattle.lfs_operations.proofs.Common.{ℕ, zero, suc, ◌≡◌, ◌≢◌, ◌⊎◌, inl, inr, ◌+◌, ◌<◌, true, false, List, [], ◌∷◌, ◌++◌, length, Option, Some, refl, sym, ap, subst, ◌∙◌, arith, append-nil, append_assoc, length-append, IsDistinct, same_Some, Disk, Gstate, Slot, same_pair, AreLinked, Pair, anchor_address, pairs_blocks, tail_target, IsAccepted, pair_with_slots, Became, IsCommit, Each, pair_itself, avoids_behind, avoids_front, all_slots, AnyByRecursion, Site, among_parts, thread_at, KeptThread, thread_pair, Contains, IsPairTouched, IsPairDropped, content_after_drop}
+use Rattle.lfs_operations.proofs.Common.{ℕ, zero, suc, ◌≡◌, ◌≢◌, ◌⊎◌, inl, inr, ◌+◌, true, false, List, [], ◌∷◌, ◌++◌, length, Option, Some, refl, sym, ap, subst, ◌∙◌, arith, append-nil, append_assoc, length-append, IsDistinct, same_Some, Disk, Slot, same_pair, AreLinked, Pair, anchor_address, pairs_blocks, tail_target, IsAccepted, pair_with_slots, Became, IsCommit, Each, pair_itself, avoids_behind, avoids_front, all_slots, AnyByRecursion, Site, among_parts, thread_at, Contains}
 use Rattle.std.proofs.Common.{nat_eq}
-use Rattle.lfs_operations.proofs.DroppedTails.{TwoAt, front_is, gone_is, over_next, two_at, without_is}
 
 -- ---- a pair in a thread
 
@@ -78,25 +77,3 @@ module _ (disk new : Disk) (w : Site) (p q : Pair) (fresh : List ℕ) (l olds ne
 
   pub commit_alters : (rest : List Pair) → IsAccepted new (thread_at w (q ∷ rest)) → IsCommit disk new w p q rest fresh l olds news r → Contains (thread_at w (q ∷ rest)) p → ⊥
   commit_alters rest ok c = put_alters rest ok c.at c.was c.is c.became
-
--- ---- a pair takes over the tail of the one behind it
-
-pub drop_alters : (t : KeptThread) (front : ℕ) (state : Gstate) (new : KeptThread) → front + 1 < length t.pairs → IsAccepted t.disk t.pairs → IsPairDropped t front state new → IsPairTouched t front new
-drop_alters t front state new low ok d = go (two_at t.pairs front low)
-  where
-    go : TwoAt t.pairs front → IsPairTouched t front new
-    go two has =
-        let p = two.one in
-        let o = two.other in
-        let c = content_after_drop t front state in
-        let q : Pair = record { at = p.at; content = c } in
-        let here = front_is t front two.ahead p o two.back two.is two.number in
-        let next = gone_is t front two.ahead p o two.back two.is two.number in
-        let now = d.pairs ∙ without_is t front two.ahead p o two.back two.is two.number c in
-        let same : q ≡ p = only_there two.ahead q two.back p (subst (λ z. IsDistinct nat_eq (pairs_blocks z)) now d.thread.distinct) refl (subst (Contains (two.ahead ++ q ∷ two.back)) here (subst (λ z. Contains z (thread_pair t front)) now has)) in
-        let links = (links_behind (Some anchor_address) two.ahead (p ∷ o ∷ two.back) (subst (λ z. AreLinked (Some anchor_address) z) two.is ok.thread.links)).1 in
-        let taken : tail_target c.tail ≡ tail_target o.content.tail
-        = over_next (thread_pair t front).content.tail (thread_pair t (front + 1)).content.tail ∙ ap (λ (z : Pair). tail_target z.content.tail) next in
-        let names : tail_target o.content.tail ≡ Some o.at = sym taken ∙ ap (λ (z : Pair). tail_target z.content.tail) same ∙ links.1.0 in
-        let is = two.is ∙ sym (append_assoc two.ahead (p ∷ []) (o ∷ two.back)) in
-        names_another (two.ahead ++ p ∷ []) o two.back (subst (λ z. AreLinked (Some anchor_address) z) is ok.thread.links) (subst (λ z. IsDistinct nat_eq (pairs_blocks z)) is ok.thread.distinct) names

@@ -1,11 +1,11 @@
 -- What the steps of a rename across pairs leave with what it held.
-use Rattle.lfs_operations.proofs.Common.{ℕ, ◌≡◌, ◌-◌, ◌<◌, ◌≤◌, ◌⊎◌, inl, inr, Bool, true, false, List, [], ◌∷◌, ◌++◌, length, None, refl, sym, ap, subst, ◌∙◌, arith, append_assoc, AllByRecursion, IsFree, ContentChange, Name, pair_with_slots, Slot, gstate_xor, Pair, pairs_blocks, address_blocks, Path, IsAccepted, all_unmoved_slots, used_blocks, SameSlots, Each, number_occurrences, count_append, count_here, each_weaker, once_from_distinct, AnyByRecursion, Site, among_right, dirs_at, file_blocks, two, KeptThread, thread_pair, Contains, IsTouchedBlock, IsPairTouched, HasEndedMoveAt, ending_written_pair, gstate_naming, CanEndAfterPut, second_step_pair, number_after_insertion, drops_emptied_pair}
+use Rattle.lfs_operations.proofs.Common.{ℕ, ◌≡◌, ◌-◌, ◌<◌, ◌≤◌, ◌⊎◌, inl, Bool, true, false, List, [], ◌∷◌, ◌++◌, length, None, refl, sym, ap, subst, ◌∙◌, arith, append_assoc, IsFree, ContentChange, Name, pair_with_slots, Slot, gstate_xor, Pair, pairs_blocks, address_blocks, Path, IsAccepted, all_unmoved_slots, used_blocks, SameSlots, Each, number_occurrences, count_append, count_here, once_from_distinct, AnyByRecursion, Site, among_right, dirs_at, file_blocks, two, KeptThread, thread_pair, Contains, IsTouchedBlock, IsPairTouched, HasEndedMoveAt, gstate_naming, CanEndAfterPut, number_after_insertion}
 use Rattle.lfs_model.proofs.BlockSets.{Contains-head, Contains-tail}
 use Rattle.lfs_operations.proofs.AlteredBehind.{entered_alters, gone_alters}
-use Rattle.lfs_operations.proofs.MovAcross.{Arranged}
+use Rattle.lfs_model.proofs.AcrossSteps.{Arranged}
 use Rattle.lfs_operations.proofs.MovStep.{IsFirst, IsLeftOver, arr, last_taken, left_over}
 use Rattle.lfs_operations.proofs.MovTurned.{TurnedTo, pair_is}
-use Rattle.lfs_operations.proofs.Owning.{not_used}
+use Rattle.lfs_model.proofs.UsedCounts.{not_used}
 
 -- ---- the pair of the new slot
 
@@ -37,21 +37,14 @@ module _ {t : KeptThread} {sync : Bool} {old_pair : ℕ} {goes : Bool} {new_pair
   place : IsWithin (w.chain ++ two a.b a.front left.os a.mid (x.q ∷ x.more) a.back) x.q x.more
   place = within_two a.b w.chain a.front left.os a.mid x.q x.more a.back
 
-  fresh : (b : ℕ) → 1 ≤ number_occurrences b (pairs_blocks x.more) → number_occurrences b (pairs_blocks t.pairs) ≡ 0
-  fresh b some =
-      let n = not_used t.map (used_blocks t.disk t.pairs) k.ready.used b (x.fresh b some) in
-      let c = count_append b (pairs_blocks t.pairs) (file_blocks t.disk (all_unmoved_slots t.pairs)) in
-      omega (arith, n, c)
-
-  there : AnyByRecursion (λ y. y ≡ p) t.pairs
-  there = subst (AnyByRecursion (λ y. y ≡ p)) (sym k.turn.there) (among_right (λ y. y ≡ p) w.chain (dirs_at w (p ∷ [])) (among_right (λ y. y ≡ p) (w.before ++ w.left) (p ∷ (w.right ++ w.after)) (inl refl)))
-
   -- it has one slot more, or is cut
   pub moved_alters : IsPairTouched t new_pair last
   moved_alters has = entered_alters t last t.disk p (pair_with_slots (l ++ v ∷ r) p) x.q x.more place.before place.behind l r v k.ready.accepted
       (last_taken k mid x last e).follows.accepted
       (subst (λ z. SameSlots z last.pairs) (ap (λ z. w.chain ++ z) (sym (a.cut left.os)) ∙ place.is) left.alike)
-      x.turned.at x.turned.is k.setting.was x.turned.became fresh there
+      x.turned.at x.turned.is k.setting.was x.turned.became
+      (λ b some. let n = not_used t.map (used_blocks t.disk t.pairs) k.ready.used b (x.fresh b some) in let c = count_append b (pairs_blocks t.pairs) (file_blocks t.disk (all_unmoved_slots t.pairs)) in omega (arith, n, c))
+      (subst (AnyByRecursion (λ y. y ≡ p)) (sym k.turn.there) (among_right (λ y. y ≡ p) w.chain (dirs_at w (p ∷ [])) (among_right (λ y. y ≡ p) (w.before ++ w.left) (p ∷ (w.right ++ w.after)) (inl refl))))
       (subst (Contains last.pairs) (pair_is t new_pair changes w p (l ++ v ∷ r) (gstate_xor (gstate_naming sync o.at (length lo)) p.content.move) k.turn) has)
 
 -- ---- the pair in front of the old one
@@ -74,23 +67,5 @@ ended_alters t mid m new old_pair old_id new_pair some low ok ends ended now few
 abbrev pub IsKnown : KeptThread → KeptThread → List ℕ → ℕ → Type 0
 IsKnown t new bs b = Contains bs b ⊎ (IsTouchedBlock t new b ⊎ IsFree t.map b)
 
-pub front_altered : (t new : KeptThread) (old_pair first : ℕ) → old_pair < length t.pairs → (drops_emptied_pair t old_pair first ≡ true → IsPairTouched t (old_pair - 1) new) → (bs : List ℕ) → ((b : ℕ) → Contains (address_blocks (thread_pair t old_pair).at) b → Contains bs b)
-    → (b : ℕ) → Contains (address_blocks (thread_pair t (second_step_pair t old_pair first)).at) b → IsKnown t new bs b
-front_altered t new old_pair first low alters bs within b = go (drops_emptied_pair t old_pair first) refl
-  where
-    go : (g : Bool) → drops_emptied_pair t old_pair first ≡ g → Contains (address_blocks (thread_pair t (ending_written_pair old_pair g)).at) b → IsKnown t new bs b
-    go true whole own = inr (inl (record { index = old_pair - 1; below = omega (arith, low); own = own; alters = alters whole }))
-    go false stays own = inl (within b own)
-
 pub each_known : (t new : KeptThread) (bs : List ℕ) (at : ℕ × ℕ) (rest : List ℕ) → ((b : ℕ) → Contains (address_blocks at) b → IsKnown t new bs b) → Each (IsKnown t new bs) rest → Each (IsKnown t new bs) (at.0 ∷ at.1 ∷ rest)
 each_known t new bs at rest own behind = (own at.0 (Contains-head at.0 (at.1 ∷ [])), (own at.1 (Contains-tail at.0 at.1 (at.1 ∷ []) (Contains-head at.1 [])), behind))
-
-pub free_known : (t new : KeptThread) (bs fresh : List ℕ) → AllByRecursion (IsFree t.map) fresh → Each (IsKnown t new bs) fresh
-free_known t new bs fresh free = each_weaker (IsFree t.map) (IsKnown t new bs) (λ b f. inr (inr f)) fresh free
-
-pub two_altered : (t new : KeptThread) (bs : List ℕ) (old_pair first new_pair : ℕ) → old_pair < length t.pairs → (drops_emptied_pair t old_pair first ≡ true → IsPairTouched t (old_pair - 1) new) → ((b : ℕ) → Contains (address_blocks (thread_pair t old_pair).at) b → Contains bs b)
-    → ((b : ℕ) → Contains (address_blocks (thread_pair t new_pair).at) b → IsKnown t new bs b) → (fresh : List ℕ) → AllByRecursion (IsFree t.map) fresh
-    → Each (IsKnown t new bs) ((thread_pair t new_pair).at.0 ∷ (thread_pair t new_pair).at.1 ∷ (thread_pair t (second_step_pair t old_pair first)).at.0 ∷ (thread_pair t (second_step_pair t old_pair first)).at.1 ∷ fresh)
-two_altered t new bs old_pair first new_pair low alters within entered fresh free =
-    each_known t new bs (thread_pair t new_pair).at ((thread_pair t (second_step_pair t old_pair first)).at.0 ∷ (thread_pair t (second_step_pair t old_pair first)).at.1 ∷ fresh) entered
-    (each_known t new bs (thread_pair t (second_step_pair t old_pair first)).at fresh (front_altered t new old_pair first low alters bs within) (free_known t new bs fresh free))

@@ -1,7 +1,7 @@
 -- Pairs that don't stay with what they held, as tails and slots tell.
 use Rattle.lfs_operations.proofs.Common.{ℕ, ◌≡◌, ◌+◌, ◌-◌, ◌<◌, ◌≤◌, inl, inr, nat_eq, List, [], ◌∷◌, ◌++◌, length, Option, Some, refl, sym, ap, subst, ◌∙◌, arith, append-nil, length-append, IsDistinct, same_Some, Disk, Slot, AreLinked, Pair, anchor_address, pairs_blocks, tail_target, address_blocks, IsAccepted, SameSlots, Became, number_occurrences, count_append, count_here, AnyByRecursion, all_slots, KeptThread, thread_pair, Contains, IsPairTouched}
 use Rattle.lfs_operations.proofs.Altered.{among_contains, links_behind, only_there}
-use Rattle.lfs_operations.proofs.DroppedTails.{TwoAt, front_is, gone_is, two_at}
+use Rattle.lfs_operations.proofs.DroppedTails.{front_is, gone_is, two_at}
 
 -- ---- no two pairs share a block
 
@@ -56,20 +56,22 @@ same_next (y ∷ ys) x o at links once (inr h) (inl f) n = absurd (first_alone y
 same_next (y ∷ ys) x o at links once (inr h) (inr k) n =
     same_next ys x o (tail_target y.content.tail) links.1 (λ b. let l = once b in let c = count_append b (y.at.0 ∷ y.at.1 ∷ []) (pairs_blocks ys) in omega arith) h k n
 
+-- a pair, where the thread hasn't the one that it named any more
+pub tail_goes : (t new : KeptThread) (index : ℕ) (to : ℕ × ℕ) → tail_target (thread_pair t index).content.tail ≡ Some to → AreLinked (Some anchor_address) new.pairs → number_occurrences to.0 (pairs_blocks new.pairs) ≡ 0 → IsPairTouched t index new
+tail_goes t new index to names links none has = let k = named_there new.pairs (thread_pair t index) (Some anchor_address) to links (among_contains (thread_pair t index) new.pairs has) names in absurd (omega arith)
+
+pub names_next : (t : KeptThread) (front : ℕ) → front + 1 < length t.pairs → AreLinked (Some anchor_address) t.pairs → tail_target (thread_pair t front).content.tail ≡ Some (thread_pair t (front + 1)).at
+names_next t front low links =
+    let two = two_at t.pairs front low in
+    let k = (links_behind (Some anchor_address) two.ahead (two.one ∷ two.other ∷ two.back) (subst (λ z. AreLinked (Some anchor_address) z) two.is links)).1 in
+    ap (λ (z : Pair). tail_target z.content.tail) (front_is t front two.ahead two.one two.other two.back two.is two.number) ∙ k.1.0
+    ∙ ap (λ (z : Pair). Some z.at) (sym (gone_is t front two.ahead two.one two.other two.back two.is two.number))
+
 -- the pair behind it is gone
 pub gone_alters : (t new : KeptThread) (index : ℕ) → 0 < index → index < length t.pairs → IsAccepted t.disk t.pairs → IsAccepted new.disk new.pairs → number_occurrences (thread_pair t index).at.0 (pairs_blocks new.pairs) ≡ 0 → IsPairTouched t (index - 1) new
-gone_alters t new index some low ok now none = go (two_at t.pairs (index - 1) (omega (arith, some, low)))
-  where
-    go : TwoAt t.pairs (index - 1) → IsPairTouched t (index - 1) new
-    go two has =
-        let here = front_is t (index - 1) two.ahead two.one two.other two.back two.is two.number in
-        let next = gone_is t (index - 1) two.ahead two.one two.other two.back two.is two.number in
-        let same : index - 1 + 1 ≡ index = omega (arith, some) in
-        let links = (links_behind (Some anchor_address) two.ahead (two.one ∷ two.other ∷ two.back) (subst (λ z. AreLinked (Some anchor_address) z) two.is ok.thread.links)).1 in
-        let k = named_there new.pairs two.one (Some anchor_address) two.other.at now.thread.links (among_contains two.one new.pairs (subst (Contains new.pairs) here has)) links.1.0 in
-        let e = ap (λ (z : Pair). number_occurrences z.at.0 (pairs_blocks new.pairs)) next in
-        let f = ap (λ (i : ℕ). number_occurrences (thread_pair t i).at.0 (pairs_blocks new.pairs)) same in
-        absurd (omega (arith, k, e, f, none))
+gone_alters t new index some low ok now none =
+    let same : index - 1 + 1 ≡ index = omega (arith, some) in
+    tail_goes t new (index - 1) (thread_pair t index).at (names_next t (index - 1) (omega (arith, some, low)) ok.thread.links ∙ ap (λ (i : ℕ). Some (thread_pair t i).at) same) now.thread.links none
 
 -- ---- a pair has another slot, or is cut
 

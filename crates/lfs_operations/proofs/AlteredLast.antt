@@ -1,23 +1,25 @@
 -- What a rename across pairs onto a directory leaves with what it held.
-use Rattle.lfs_operations.proofs.Common.{ℕ, ◌≢◌, ◌-◌, ◌<◌, ◌≤◌, ◌⊎◌, inl, inr, true, ◌∷◌, ◌++◌, arith, cases_lt, All-from_recursion, recursion_from_All, IsFree, IsPairAt, Name, zero_gstate, pairs_blocks, address_blocks, addresses_blocks, Contains-number_occurrences, number_occurrences-Contains, number_occurrences, count_append, each_counted, KeptThread, ChangesThreadBlocks, empty_anchor, thread_pair, Contains, WritesTouchedFree, IsPairDropped, WritesPairsTwo, second_step_pair, CanReplaceDirectoryAcross, IsMovedAcross}
+use Rattle.lfs_operations.proofs.Common.{ℕ, ◌-◌, ◌<◌, ◌≤◌, ◌⊎◌, inl, inr, true, ◌∷◌, ◌++◌, arith, cases_lt, IsFree, IsPairAt, Name, zero_gstate, pairs_blocks, address_blocks, addresses_blocks, Contains-number_occurrences, number_occurrences-Contains, number_occurrences, count_append, each_counted, KeptThread, ChangesThreadBlocks, empty_anchor, thread_pair, Contains, WritesTouchedFree, IsPairDropped, WritesPairsTwo, second_step_pair, CanReplaceDirectoryAcross, IsMovedAcross}
 use Rattle.lfs_operations.proofs.AlteredAcross.{each_known}
 use Rattle.lfs_operations.proofs.AlteredLater.{onto_known}
 use Rattle.lfs_operations.proofs.AlteredOnto.{last_known}
-use Rattle.lfs_operations.proofs.MovReplace.{onto_directory}
-use Rattle.lfs_operations.proofs.OntoAcross.{gone_above, renamed_onto, replacing_across}
+use Rattle.lfs_operations.proofs.OntoAcross.{gone_above, renamed_onto, replacing_across, can_drop_onto}
 use Rattle.lfs_operations.proofs.OntoWritten.{there_counted}
-use Rattle.lfs_operations.proofs.Putting.{writes_trans, writes_wider}
-use Rattle.lfs_operations.proofs.LastDrop.{can_drop_last, end_fewer}
+use Rattle.lfs_operations.proofs.Putting.{writes_trans, writes_among}
+use Rattle.lfs_operations.proofs.LastDrop.{end_fewer}
 
-module _ (t : KeptThread) (old_pair old_id first new_pair new_id : ℕ) (name : Name) (gone : ℕ) (rename : CanReplaceDirectoryAcross t old_pair old_id first new_pair new_id name gone) (m : KeptThread)
-    (h : IsMovedAcross t true true old_pair old_id first new_pair new_id name m) (n : ℕ) (at : IsPairAt m.pairs (thread_pair t gone).at n) (new : KeptThread) (g : IsPairDropped m (n - 1) zero_gstate new) where
+module _ {t : KeptThread} {old_pair old_id first new_pair new_id : ℕ} {name : Name} {gone : ℕ} (rename : CanReplaceDirectoryAcross t old_pair old_id first new_pair new_id name gone) {m : KeptThread}
+    (h : IsMovedAcross t true true old_pair old_id first new_pair new_id name m) {n : ℕ} (at : IsPairAt m.pairs (thread_pair t gone).at n) {new : KeptThread} (g : IsPairDropped m (n - 1) zero_gstate new) where
   -- a block of the pair that the last step writes was a pair's, or free
   before : (b : ℕ) → Contains (address_blocks (thread_pair m (n - 1)).at) b → (1 ≤ number_occurrences b (pairs_blocks t.pairs)) ⊎ IsFree t.map b
   before b own = go (cases_lt 0 (number_occurrences b (pairs_blocks t.pairs)))
     where
       within : Contains (pairs_blocks t.pairs ++ h.done.blocks.written.fresh) b
-      within = h.done.blocks.within b (Contains-number_occurrences (pairs_blocks m.pairs) b
-          (there_counted m.pairs (n - 1) empty_anchor (let l = (can_drop_last (replacing_across t old_pair old_id first new_pair new_id name gone rename m h n at)).below in omega (arith, l)) b (number_occurrences-Contains (address_blocks (thread_pair m (n - 1)).at) b own)))
+      within = h.done.blocks.within b (Contains-number_occurrences (pairs_blocks m.pairs) b (
+          let l = (can_drop_onto rename h at).below in
+          let k = there_counted m.pairs (n - 1) empty_anchor (omega (arith, l)) b in
+          let c = number_occurrences-Contains (address_blocks (thread_pair m (n - 1)).at) b own in
+          omega (arith, k, c)))
 
       go : (0 < number_occurrences b (pairs_blocks t.pairs)) ⊎ (number_occurrences b (pairs_blocks t.pairs) ≤ 0) → (1 ≤ number_occurrences b (pairs_blocks t.pairs)) ⊎ IsFree t.map b
       go (inl l) = inl l
@@ -30,12 +32,11 @@ module _ (t : KeptThread) (old_pair old_id first new_pair new_id : ℕ) (name : 
       let p = (thread_pair t new_pair).at in
       let q = (thread_pair t (second_step_pair t old_pair first)).at in
       let bs = p.0 ∷ p.1 ∷ q.0 ∷ q.1 ∷ w.fresh in
-      let k = replacing_across t old_pair old_id first new_pair new_id name gone rename m h n at in
+      let k = replacing_across rename h at in
       record {
         blocks = y.0 ∷ y.1 ∷ bs;
-        writes = writes_trans (writes_wider (y.0 ∷ y.1 ∷ bs) (λ b a. All-from_recursion (λ c. c ≢ b) bs (recursion_from_All (λ c. c ≢ b) (y.0 ∷ y.1 ∷ bs) a).1.1) w.writes)
-            (writes_wider (y.0 ∷ y.1 ∷ bs) (λ b a. let r = recursion_from_All (λ c. c ≢ b) (y.0 ∷ y.1 ∷ bs) a in All-from_recursion (λ c. c ≢ b) (address_blocks y) (r.0, (r.1.0, tt))) second);
+        writes = writes_trans (writes_among (λ b some. omega (arith, some)) w.writes) (writes_among (λ b some. omega (arith, some)) second);
         each = each_known t new (addresses_blocks (thread_pair t old_pair).at p) y bs
-            (λ b own. last_known t m gone n (gone_above t old_pair old_id first new_pair new_id name gone rename m h) rename.below k new g (addresses_blocks (thread_pair t old_pair).at p) b (before b own) own)
-            (onto_known (onto_directory rename) h new (renamed_onto t old_pair old_id first new_pair new_id name gone rename m h n at new g).now.ready.accepted (end_fewer k new g) w);
+            (λ b own. last_known t m gone n (gone_above rename h) rename.below k new g (addresses_blocks (thread_pair t old_pair).at p) b (before b own) own)
+            (onto_known rename.onto h (renamed_onto rename h at g).now.ready.accepted (end_fewer k new g) w);
       }

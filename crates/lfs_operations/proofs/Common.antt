@@ -87,23 +87,25 @@ pub use Rattle.lfs_operations.specs.Altering.{IsTouchedBlock, WritesTouchedFree}
 pub use Rattle.lfs_operations.specs.Changing.{ArePut, AreTwoFree, CanCommit, CanPut, HasTwoFree, IsPairSplit, IsPairTouched, IsSplitInto, LeftByPut, LeftBySplit, OverfillsPair, ReportsPut, ReportsSpaceErrors, ReportsTakingCommit, TakesAtMostTwo, WritesPairTwo, WritesThreadTwo, has_failed_after, map_taking_two}
 pub use Rattle.lfs_operations.specs.Creating.{CanCreateIn, IsFileCreated, creation_changes, tree_with_file}
 pub use Rattle.lfs_operations.specs.Deltas.{CanSetGstate, content_reaching_gstate, delta_reaching_gstate, gstate_changes, tail_is_hard}
-pub use Rattle.lfs_operations.specs.Dropping.{CanDropAt, IsPairDropped, LeftByDrop, SameInFlight, ShowsDroppedTree, content_after_drop, delta_after_drop, dropping_changes, tail_after_drop, tail_past_drop}
+pub use Rattle.lfs_operations.specs.Dropping.{CanDropAt, IsPairDropped, LeftByDrop, SameInFlight, ShowsDroppedTree, content_after_drop, delta_after_drop, dropping_changes, tail_after_drop}
+pub use Rattle.lfs_model.specs.layers.StepResults.{tail_past_drop, gstate_without_move, gstate_naming, gstate_without_sync, number_after_drop, AreUnreachedFrom, AreUnreachedNumbers, IsDirectoryEnd}
 pub use Rattle.lfs_operations.specs.Editing.{CanEditIn, CanSetAttribute, HasRemovedAttribute, HasSetAttribute, editable_slot, tree_setting_attributes}
-pub use Rattle.lfs_operations.specs.EndingMove.{CanEndMove, HasEndedMove, HasMovedSlot, KeepsRecoveryLayouts, drops_when_emptied, gstate_without_move}
-pub use Rattle.lfs_operations.specs.Making.{AreBothTouched, CanLinkPairAfter, CanMakeAt, FitsNewTail, HasFreeBlocks, IsDirectoryMade, IsDirectoryEnd, ReportsMaking, WritesPairsFour, directory_entry_changes, entry_changes, threading_changes, tree_with_directory}
-pub use Rattle.lfs_operations.specs.MoveEnds.{CanEndMoveAt, HasEndedMoveAt, content_move_ended, continues_directory, delta_without_move, ending_dropped_blocks, ending_changes, gstate_naming, gstate_without_sync, map_move_ended, pairs_move_ended, ending_written_pair}
+pub use Rattle.lfs_operations.specs.EndingMove.{CanEndMove, HasEndedMove, HasMovedSlot, KeepsRecoveryLayouts, drops_when_emptied}
+pub use Rattle.lfs_operations.specs.Making.{AreBothTouched, CanLinkPairAfter, CanMakeAt, FitsNewTail, HasFreeBlocks, IsDirectoryMade, ReportsMaking, WritesPairsFour, directory_entry_changes, entry_changes, threading_changes, tree_with_directory}
+pub use Rattle.lfs_operations.specs.MoveEnds.{CanEndMoveAt, HasEndedMoveAt, content_move_ended, continues_directory, delta_without_move, ending_dropped_blocks, ending_changes, map_move_ended, pairs_move_ended, ending_written_pair}
 pub use Rattle.lfs_operations.specs.MovingAcross.{CanRenameAcross, IsRenamedAcross, removal_changes, moving_changes, tree_moved}
 pub use Rattle.lfs_operations.specs.MovingOnto.{CanMoveAcross, CanReplaceDirectoryAcross, CanReplaceEntryAcross, CanReplaceFileAcross, IsFileReplaced, IsMovedAcross, entry_across_changes, tree_across}
 pub use Rattle.lfs_operations.specs.MovingSteps.{CanEndAfterPut, CanPutAndEnd, ArePutAndEnded, ReportsTakingCommits, SurvivesCommits, WritesPairsTwo, WritesThreadFree, number_after_insertion, second_step_pair}
 pub use Rattle.lfs_operations.specs.Ready.{AreUsedUnsettled, AddsNoneInFlight, IsRawFormed, IsReadyImage, KeepsRootNumber, KeepsTakenStates, ShowsReadyTree, ShowsUnsettledTree}
-pub use Rattle.lfs_operations.specs.Recovering.{AreUnreachedFrom, AreUnreachedNumbers, CanClearSync, CanDropPairs, HasDroppedRecovered, IsSyncCleared, ReportsRecovery, gstate_while_dropping, numbered_list_blocks, numbered_slots}
+pub use Rattle.lfs_operations.specs.Recovering.{CanClearSync, CanDropPairs, HasDroppedRecovered, IsSyncCleared, ReportsRecovery, gstate_while_dropping, numbered_list_blocks, numbered_slots}
 pub use Rattle.lfs_operations.specs.Removing.{CanRemoveIn, IsFileRemoved, ReportsCommit, drops_emptied_pair, tree_without_entry, removal_written_address}
-pub use Rattle.lfs_operations.specs.Renaming.{CanRenameOnto, CanRenameWithin, CompletesRename, IsRenamedOnto, IsRenamedWithin, ReportsReadPut, id_after_removal, onto_changes, tree_renamed, within_changes}
+pub use Rattle.lfs_operations.specs.Renaming.{CanRenameInPair, IsRenamedInPair, tree_renamed_here, CanRenameOnto, CanRenameWithin, CompletesRename, IsRenamedOnto, IsRenamedWithin, ReportsReadPut, id_after_removal, tree_renamed, renaming_changes}
 pub use Rattle.lfs_operations.specs.RenamingOver.{CanRenameOver, CanReplaceDirectory, IsDirectoryReplaced, IsRenamedOver, ReportsReadCommit, ReportsReadCommits, replace_directory_changes}
-pub use Rattle.lfs_operations.specs.RenamingSlots.{HasSlot, NamelessSlot, attribute_changes, nameless_at, nameless_of, slot_changes}
+pub use Rattle.lfs_operations.specs.RenamingSlots.{HasSlot, nameless_at}
+pub use Rattle.lfs_model.specs.layers.SlotChanges.{NamelessSlot, attribute_changes, nameless_of, slot_changes}
 pub use Rattle.lfs_operations.specs.RenamingView.{attribute_copy_view}
 pub use Rattle.lfs_operations.specs.Storing.{CanSetStruct, HasStoredContents, tree_with_contents}
-pub use Rattle.lfs_operations.specs.Unlinking.{ArePairsBeforeTouched, CanRemoveDirectory, IsDirectoryRemoved, ReportsCommits, number_after_drop, unlink_changes}
+pub use Rattle.lfs_operations.specs.Unlinking.{ArePairsBeforeTouched, CanRemoveDirectory, IsDirectoryRemoved, ReportsCommits, unlink_changes}
 pub use Rattle.lfs_pair.specs.ChangeView.{changes_view}
 pub use Rattle.lfs_pair.specs.Commits.{changed_pair_content}
 pub use Rattle.lfs_pair.specs.Split.{KeepsOutsideBoth}

@@ -1,16 +1,17 @@
 -- A file that comes, as a step of the thread.
-use Rattle.lfs_operations.proofs.Common.{ℕ, ◌≡◌, ◌≤◌, List, [], ◌∷◌, ◌++◌, length, Some, refl, sym, ap, ap₂, subst, ◌∙◌, arith, length-append, insert, ne_eqb, tree_creating, content_with_changes, RawContent, raw_content, complete_content, file_name_type, AreSplittable, Disk, CallEvent, BelongsAt, IsAllowedPart, Name, SurvivesLossSince, Slot, PairContent, path_or_root, Pair, pairs_blocks, tail_target, Session, Tree, FileNode, IsAccepted, all_entries, disk_tree, IsChangedImage, CompletesOperation, no_move_from, recovered_from, commit_step, complete_insert, complete_length, completed_parts, completed_from, creates_with_struct, does_nothing, slot_with, insert_cut, nothing_there, place_at, insert_here, IsPlace, some_filled, site, place_of_belongs, Site, thread_at, logged_changed, tag_type-make_tag, tag_length-make_tag, changed_pair_content, CleanLossLeaves, KeptThread, thread_pair, complete_after, Contains, option_and_then, file_comes, create_completed, IsPairTouched, CanPut, LeftByPut, ArePut, CanCreateIn, IsFileCreated, creation_changes, tree_with_file}
+use Rattle.lfs_operations.proofs.Common.{ℕ, ◌≡◌, ◌≤◌, List, [], ◌∷◌, ◌++◌, length, refl, sym, ap, ap₂, subst, ◌∙◌, arith, length-append, insert, ne_eqb, tree_creating, file_name_type, Disk, CallEvent, BelongsAt, IsAllowedPart, Name, SurvivesLossSince, Slot, path_or_root, Pair, pairs_blocks, Session, Tree, FileNode, IsAccepted, all_entries, disk_tree, IsChangedImage, CompletesOperation, no_move_from, recovered_from, commit_step, does_nothing, nothing_there, place_at, insert_here, IsPlace, some_filled, site, place_of_belongs, Site, thread_at, tag_type-make_tag, tag_length-make_tag, CleanLossLeaves, KeptThread, Contains, file_comes, create_completed, IsPairTouched, CanPut, LeftByPut, ArePut, CanCreateIn, IsFileCreated, creation_changes, tree_with_file}
 use Rattle.lfs_model.specs.format.EntryTypes.{inline_type}
 use Rattle.lfs_model.specs.session.Operations as ops
 use Rattle.lfs_model.specs.session.Operations.{FlagsOfOpen}
 use Rattle.lfs_model.specs.session.SlotEdits.{file_slot}
 use Rattle.lfs_operations.proofs.Altered.{commit_alters}
-use Rattle.lfs_operations.proofs.Held.{CompletesTo, below, fits_there, here, raw_there}
+use Rattle.lfs_operations.proofs.Held.{below, fits_there, here, holds}
 use Rattle.lfs_operations.proofs.Splicing.{Commits, IsSplicing}
 use Rattle.lfs_operations.proofs.Threads.{pair_is}
 use Rattle.lfs_operations.proofs.Stepped.{HasStep, becomes, put_step, ready_again, survives}
-use Rattle.lfs_operations.proofs.RenameSlots.{name_length}
+use Rattle.lfs_model.proofs.SlotParts.{name_length}
 use Rattle.lfs_operations.proofs.PairAt.{HasPairAt, pair_at}
+use Rattle.lfs_operations.proofs.MakingContents.{IsNewEntry, can_put_entry, entry_made}
 
 -- ---- the parts of a file's slot
 
@@ -48,50 +49,22 @@ module _ (t : KeptThread) (index id : ℕ) (name : Name) (can : CanCreateIn t in
   within : id ≤ length p.content.slots
   within = let h = ap length b.held in let l = length-append b.left b.right in let n = b.number in omega arith
 
-  abbrev c : CompletesTo (raw_content t.disk (thread_pair t index).at) p.content
-  c = raw_there t can.ready can.first index p (b.later ++ b.rest) b.place
-
-  abbrev raw_now : RawContent
-  raw_now = record c.raw { slots = insert c.raw.slots id (slot_with (file_name_type, name) (inline_type, [])) }
-
-  changed : content_with_changes c.raw (creation_changes id name) ≡ Some raw_now
-  changed =
-      let l = complete_length c.raw.slots p.content.slots (completed_parts c.raw p.content c.complete).slots in
-      let few = (fits_there t can.ready can.first index p (b.later ++ b.rest) b.place).count in
-      let m = within in
-      creates_with_struct c.raw id file_name_type name inline_type [] [] raw_now (omega arith) (omega arith) (file_name name (name_length name can.is_name)) no_bytes (does_nothing raw_now)
-
-  made_raw : changed_pair_content t.disk (thread_pair t index).at (creation_changes id name) ≡ Some raw_now
-  made_raw = ap (λ o. option_and_then (λ (r : RawContent). content_with_changes r (creation_changes id name)) o) c.is ∙ changed
-
-  abbrev now : PairContent
-  now = record { slots = insert p.content.slots id (file_slot name); tail = p.content.tail; move = p.content.move }
-
-  now_complete : complete_content raw_now ≡ Some now
-  now_complete =
-      let parts = completed_parts c.raw p.content c.complete in
-      completed_from raw_now (insert p.content.slots id (file_slot name)) (complete_insert c.raw.slots p.content.slots id (slot_with (file_name_type, name) (inline_type, [])) (file_slot name) parts.slots refl)
-      ∙ ap₂ (λ t m. Some (record { slots = insert p.content.slots id (file_slot name); tail = t; move = m })) (sym parts.tail) (sym parts.move)
-
-  made : complete_after t index (creation_changes id name) ≡ Some now
-  made = ap (λ o. option_and_then complete_content o) made_raw ∙ now_complete
-
-  cut : AreSplittable t.disk.block_size t.disk.page raw_now.slots
-  cut = insert_cut t.disk.block_size t.disk.page raw_now now p.content id (file_slot name) (logged_changed c.raw (creation_changes id name) raw_now (can.logged c.raw c.is) changed) now_complete refl
-      (let f = can.fits.charge in omega arith) (fits_there t can.ready can.first index p (b.later ++ b.rest) b.place)
+  new_entry : IsNewEntry t p id file_name_type name inline_type [] u [] p.content.move
+  new_entry = record {
+    named = file_name name (name_length name can.is_name);
+    part = no_bytes;
+    slot = refl;
+    within = within;
+    fits = fits_there t can.ready can.first index p (b.later ++ b.rest) b.place;
+    small = let f = can.fits.charge in omega arith;
+    delta = λ m. m;
+    does = does_nothing;
+    state = refl;
+  }
 
   pub can_put : CanPut t index (creation_changes id name)
-  can_put = record {
-    can = record {
-      below = below t can.ready can.first index p (b.later ++ b.rest) b.place;
-      content = now;
-      made = made;
-      next = ap (λ (z : Pair). tail_target z.content.tail) (sym (here t can.ready can.first index p (b.later ++ b.rest) b.place));
-    };
-    raw = raw_now;
-    made = made_raw;
-    cut = cut;
-  }
+  can_put = can_put_entry t index p (here t can.ready can.first index p (b.later ++ b.rest) b.place) (holds t can.ready can.first index p (b.later ++ b.rest) b.place) can.logged new_entry
+      (below t can.ready can.first index p (b.later ++ b.rest) b.place)
 
   -- ---- after it
 
@@ -104,8 +77,8 @@ module _ (t : KeptThread) (index id : ℕ) (name : Name) (can : CanCreateIn t in
     there = stand.there;
     place = stand.number;
     site = stand.site;
-    content = now;
-    made = made;
+    content = record { slots = insert p.content.slots id (file_slot name); tail = p.content.tail; move = p.content.move };
+    made = entry_made t index p (here t can.ready can.first index p (b.later ++ b.rest) b.place) (holds t can.ready can.first index p (b.later ++ b.rest) b.place) can.logged new_entry;
     tail = refl;
     move = refl;
     was = b.held;

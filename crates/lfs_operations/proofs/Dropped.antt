@@ -1,30 +1,18 @@
 -- A pair that went from the thread, in an accepted image: what the device holds then, and which blocks the image uses.
-use Rattle.lfs_operations.proofs.Common.{ℕ, ◌≡◌, ◌≢◌, ◌⊎◌, inl, inr, ◌+◌, ◌-◌, ◌≤◌, Bool, true, false, cond, nat_eq, eqb-true, eq-eqb, List, [], ◌∷◌, ◌++◌, length, Option, Some, refl, sym, ap, ap₂, subst, subst₂, ◌∙◌, arith, append_assoc, length-append, length-set, set, slice_get, All-from_recursion, recursion_from_All, same_Some, AreUsed, BlockStates, BlockState, IsInFlight, IsUsedBlock, Free, InFlight, Used, Blocks, content_at, Disk, MoveStateFits, HasEitherTree, with_blocks, IsWritable, Gstate, FitsInPair, PairContent, Slot, Pair, pairs_blocks, pairs_gstate, address_blocks, Tree, IsAccepted, all_unmoved_slots, disk_tree, used_blocks, Contains-number_occurrences, number_occurrences-Contains, slice_get-set_other, slice_get-set_same, SameFiles, slots_files, Each, number_occurrences, count_append, count_here, each_append, each_left, each_right, once_from_distinct, SameFileBlocks, HasNoMove, Site, thread_at, IsDevice, count_files, file_blocks, all_slots, unmoved_in, KeptThread, IsPairWritten, BeginWithSuperblock, thread_pair, map_freeing, Contains, ◌↔◌, CanDropAt, SameInFlight, LeftByDrop, IsPairDropped, content_after_drop, tail_past_drop, ending_dropped_blocks, map_move_ended}
+use Rattle.lfs_operations.proofs.Common.{ℕ, ◌≡◌, ◌≢◌, ◌⊎◌, inl, inr, ◌+◌, ◌-◌, ◌≤◌, Bool, true, false, cond, nat_eq, eqb-true, eq-eqb, List, [], ◌∷◌, ◌++◌, length, Option, Some, refl, sym, ap, ap₂, subst, subst₂, ◌∙◌, arith, append_assoc, length-append, length-set, set, slice_get, recursion_from_All, same_Some, AreUsed, BlockStates, BlockState, IsInFlight, IsUsedBlock, Free, InFlight, Used, Blocks, Disk, MoveStateFits, HasEitherTree, with_blocks, IsWritable, Gstate, FitsInPair, PairContent, Pair, pairs_blocks, pairs_gstate, address_blocks, Tree, IsAccepted, disk_tree, used_blocks, Contains-number_occurrences, number_occurrences-Contains, slice_get-set_other, slice_get-set_same, Each, number_occurrences, count_append, count_here, each_right, once_from_distinct, HasNoMove, Site, thread_at, IsDevice, file_blocks, all_slots, KeptThread, IsPairWritten, BeginWithSuperblock, thread_pair, map_freeing, Contains, ◌↔◌, CanDropAt, SameInFlight, LeftByDrop, IsPairDropped, content_after_drop, tail_past_drop, ending_dropped_blocks, map_move_ended, zero_gstate, IsChain, dirs_at, PathAddresses, IsWritableChange, root_address, ShowsDroppedTree, count_before_root, block_count, SameGeometry, Slot, all_unmoved_slots, SameFiles, slots_files, each_left, SameFileBlocks, count_files, unmoved_in}
 use Rattle.lfs_operations.proofs.DroppedTails.{front_is, gone_is, gstate_is, without_is}
-use Rattle.lfs_operations.proofs.Placing.{blocks_append, device, left_still}
+use Rattle.lfs_model.proofs.Placing.{device, left_still, blocks_append}
 use Rattle.lfs_operations.proofs.Taking.{within}
 use Rattle.lfs_operations.proofs.Threads.{placed_one}
-use Rattle.lfs_operations.proofs.Owning.{slots_append, count_used, used_same}
+use Rattle.lfs_model.proofs.UsedCounts.{count_used, used_same, slots_append}
+use Rattle.lfs_model.proofs.WithoutPair.{blocks_dropped, device_without, files_dropped}
+use Rattle.lfs_model.proofs.RootStays.{root_stays}
 
 -- ---- the device
 
 -- a pair behind some and in front of some, as a site
 abbrev site_between : List Pair → List Pair → Site
 site_between ahead back = record { chain = ahead; before = []; left = []; right = []; after = back }
-
--- where a pair more is on the device, those without it are
-device_without : (disk new : Disk) (ps ahead : List Pair) (q o : Pair) (back : List Pair) → IsDevice disk new ps (ahead ++ q ∷ o ∷ back) → IsDevice disk new ps (ahead ++ q ∷ back)
-device_without disk new ps ahead q o back d = record {
-  geometry = d.geometry;
-  contents =
-      let F = λ (x : Pair). content_at new x.at ≡ Some x.content in
-      let all = recursion_from_All (λ (x : Pair). content_at new x.at ≡ Some x.content) (ahead ++ q ∷ o ∷ back) d.contents in
-      let behind = each_right (λ (x : Pair). content_at new x.at ≡ Some x.content) ahead (q ∷ o ∷ back) all in
-      All-from_recursion (λ x. content_at new x.at ≡ Some x.content) (ahead ++ q ∷ back)
-      (each_append (λ (x : Pair). content_at new x.at ≡ Some x.content) ahead (q ∷ back) (each_left (λ (x : Pair). content_at new x.at ≡ Some x.content) ahead (q ∷ o ∷ back) all) (behind.0, behind.1.1));
-  first = d.first;
-  files = d.files;
-}
 
 module _ (t : KeptThread) (n : ℕ) (ahead : List Pair) (p o : Pair) (back : List Pair) (is : t.pairs ≡ ahead ++ p ∷ o ∷ back) (number : length ahead ≡ n) (ok : IsAccepted t.disk (ahead ++ p ∷ o ∷ back)) where
   device_kept : (disk : Disk) (c : PairContent) → c.slots ≡ p.content.slots → IsPairWritten t n c disk → IsDevice t.disk disk (ahead ++ p ∷ o ∷ back) (ahead ++ record { at = p.at; content = c } ∷ o ∷ back)
@@ -33,49 +21,6 @@ module _ (t : KeptThread) (n : ℕ) (ahead : List Pair) (p o : Pair) (back : Lis
 
   device_dropped : (disk : Disk) (c : PairContent) → c.slots ≡ p.content.slots → IsPairWritten t n c disk → IsDevice t.disk disk (ahead ++ p ∷ o ∷ back) (ahead ++ record { at = p.at; content = c } ∷ back)
   device_dropped disk c same w = device_without t.disk disk (ahead ++ p ∷ o ∷ back) ahead (record { at = p.at; content = c }) o back (device_kept disk c same w)
-
--- ---- the blocks
-
-module _ (disk new : Disk) (ahead : List Pair) (p o q : Pair) (back : List Pair) (none : HasNoMove (pairs_gstate (ahead ++ p ∷ o ∷ back)))
-    (d : IsDevice disk new (ahead ++ p ∷ o ∷ back) (ahead ++ q ∷ back)) (slots : q.content.slots ≡ p.content.slots) where
-  same : SameFiles disk new (all_slots ahead ++ (p.content.slots ++ (o.content.slots ++ all_slots back)))
-  same = subst (SameFiles disk new) (unmoved_in (pairs_gstate (ahead ++ p ∷ o ∷ back)) none (ahead ++ p ∷ o ∷ back) ∙ slots_append ahead (p ∷ o ∷ back))
-      (recursion_from_All (λ (s : Slot). SameFileBlocks disk new s.struct) (all_unmoved_slots (ahead ++ p ∷ o ∷ back)) d.files)
-
-  kept : (ss : List Slot) → SameFiles disk new ss → (b : ℕ) → number_occurrences b (file_blocks new ss) ≡ number_occurrences b (file_blocks disk ss)
-  kept ss h b = ap (number_occurrences b) (slots_files disk new ss d.geometry h)
-
-  files_dropped : (b : ℕ) → number_occurrences b (file_blocks new (all_slots (ahead ++ q ∷ back))) + number_occurrences b (file_blocks disk o.content.slots)
-      ≡ number_occurrences b (file_blocks disk (all_slots (ahead ++ p ∷ o ∷ back)))
-  files_dropped b =
-      let g = all_slots back in
-      let f = all_slots ahead in
-      let h1 = each_left (λ (s : Slot). SameFileBlocks disk new s.struct) f (p.content.slots ++ (o.content.slots ++ g)) same in
-      let h2 = each_right (λ (s : Slot). SameFileBlocks disk new s.struct) f (p.content.slots ++ (o.content.slots ++ g)) same in
-      let h3 = each_left (λ (s : Slot). SameFileBlocks disk new s.struct) p.content.slots (o.content.slots ++ g) h2 in
-      let h4 = each_right (λ (s : Slot). SameFileBlocks disk new s.struct) o.content.slots g (each_right (λ (s : Slot). SameFileBlocks disk new s.struct) p.content.slots (o.content.slots ++ g) h2) in
-      let e1 = kept f h1 b in
-      let e2 = kept p.content.slots h3 b in
-      let e3 = kept g h4 b in
-      let b1 = ap (λ z. number_occurrences b (file_blocks new z)) (slots_append ahead (q ∷ back)) in
-      let b2 = ap (λ z. number_occurrences b (file_blocks disk z)) (slots_append ahead (p ∷ o ∷ back)) in
-      let c1 = count_files b new f (q.content.slots ++ g) in
-      let c2 = count_files b new q.content.slots g in
-      let c3 = ap (λ z. number_occurrences b (file_blocks new z)) slots in
-      let c4 = count_files b disk f (p.content.slots ++ (o.content.slots ++ g)) in
-      let c5 = count_files b disk p.content.slots (o.content.slots ++ g) in
-      let c6 = count_files b disk o.content.slots g in
-      omega arith
-
-pub blocks_dropped : (ahead : List Pair) (p o q : Pair) (back : List Pair) → q.at ≡ p.at → (b : ℕ) → number_occurrences b (pairs_blocks (ahead ++ q ∷ back)) + number_occurrences b (address_blocks o.at) ≡ number_occurrences b (pairs_blocks (ahead ++ p ∷ o ∷ back))
-blocks_dropped ahead p o q back at b =
-    let d1 = blocks_append ahead (q ∷ back) b in
-    let d2 = blocks_append ahead (p ∷ o ∷ back) b in
-    let d3 = blocks_append (q ∷ []) back b in
-    let d4 = blocks_append (p ∷ []) (o ∷ back) b in
-    let d5 = blocks_append (o ∷ []) back b in
-    let d6 = ap (λ (a : ℕ × ℕ). number_occurrences b (a.0 ∷ a.1 ∷ [])) at in
-    omega arith
 
 -- ---- the map
 
@@ -98,14 +43,11 @@ module _ (sets : BlockStates) (at : ℕ × ℕ) (us vs : List ℕ) (used : AreUs
 
   apart : at.0 ≢ at.1
   apart e =
-      let k = ap (λ z. number_occurrences z (at.0 ∷ [])) e in
-      let a = count_append at.1 (at.0 ∷ []) (at.1 ∷ []) in
-      let h = count_here at.0 [] in
-      let g = count_here at.1 [] in
-      let o = once at.1 in
-      let l = less at.1 in
-      let m = ap (λ z. number_occurrences z (at.1 ∷ [])) e in
-      let n : number_occurrences at.1 (at.0 ∷ []) ≡ number_occurrences at.0 (at.0 ∷ []) = sym k in
+      let k = ap (λ z. number_occurrences at.0 (at.0 ∷ z ∷ [])) e in
+      let h = count_here at.0 (at.0 ∷ []) in
+      let g = count_here at.0 [] in
+      let o = once at.0 in
+      let l = less at.0 in
       absurd (omega arith)
 
   was_used : (b : ℕ) → 1 ≤ number_occurrences b (address_blocks at) → slice_get sets b ≡ Some Used
@@ -117,35 +59,40 @@ module _ (sets : BlockStates) (at : ℕ × ℕ) (us vs : List ℕ) (used : AreUs
   second_free : slice_get (map_freeing sets at) at.1 ≡ Some Free
   second_free = slice_get-set_same (set sets at.0 Free) at.1 Free (let w = within sets at.1 Used (was_used at.1 second_there) in let e = length-set sets at.0 Free in omega arith)
 
-  elsewhere : (b : ℕ) → nat_eq b at.0 ≡ false → nat_eq b at.1 ≡ false → slice_get (map_freeing sets at) b ≡ slice_get sets b
-  elsewhere b e f = slice_get-set_other (set sets at.0 Free) at.1 b Free (λ k. absurd (let z = sym (eq-eqb b at.1 k) ∙ f in cc))
-      ∙ slice_get-set_other sets at.0 b Free (λ k. absurd (let z = sym (eq-eqb b at.0 k) ∙ e in cc))
+  -- a block is one of the two, or is as it was
+  abbrev IsFreedOrSame : ℕ → Type 0
+  IsFreedOrSame b = ((slice_get (map_freeing sets at) b ≡ Some Free) × ((slice_get sets b ≡ Some Used) × (number_occurrences b vs ≡ 0))) ⊎ ((slice_get (map_freeing sets at) b ≡ slice_get sets b) × (number_occurrences b vs ≡ number_occurrences b us))
+
+  each_block : (b : ℕ) → IsFreedOrSame b
+  each_block b = go (nat_eq b at.0) (nat_eq b at.1) refl refl (less b)
+    where
+      was : (b : ℕ) → 1 ≤ number_occurrences b us → slice_get sets b ≡ Some Used
+      was b some = (used b).1 (Contains-number_occurrences us b some)
+
+      go : (x y : Bool) → nat_eq b at.0 ≡ x → nat_eq b at.1 ≡ y → number_occurrences b vs + (cond x 1 0 + (cond y 1 0 + 0)) ≡ number_occurrences b us → IsFreedOrSame b
+      go true y e f l = inl (ap (slice_get (map_freeing sets at)) (eqb-true b at.0 e) ∙ first_free, (was b (omega arith), let o = once b in omega arith))
+      go false true e f l = inl (ap (slice_get (map_freeing sets at)) (eqb-true b at.1 f) ∙ second_free, (was b (omega arith), let o = once b in omega arith))
+      go false false e f l = inr (
+        slice_get-set_other (set sets at.0 Free) at.1 b Free (λ k. absurd (let z = sym (eq-eqb b at.1 k) ∙ f in cc)) ∙ slice_get-set_other sets at.0 b Free (λ k. absurd (let z = sym (eq-eqb b at.0 k) ∙ e in cc)),
+        omega arith,
+      )
 
   used_fewer : AreUsed (map_freeing sets at) vs
-  used_fewer b = go (nat_eq b at.0) (nat_eq b at.1) refl refl (less b)
+  used_fewer b = go (each_block b)
     where
-      gone : slice_get (map_freeing sets at) b ≡ Some Free → number_occurrences b vs ≡ 0 → IsUsedBlock (map_freeing sets at) b ↔ Contains vs b
-      gone free none = ((λ h. absurd (not_both {a = Free} {b = Used} (λ k. absurd (cc)) free h)), (λ h. absurd (let n = number_occurrences-Contains vs b h in omega arith)))
-
-      go : (x y : Bool) → nat_eq b at.0 ≡ x → nat_eq b at.1 ≡ y → number_occurrences b vs + (cond x 1 0 + (cond y 1 0 + 0)) ≡ number_occurrences b us → IsUsedBlock (map_freeing sets at) b ↔ Contains vs b
-      go true y e f l = gone (ap (slice_get (map_freeing sets at)) (eqb-true b at.0 e) ∙ first_free) (let o = once b in omega arith)
-      go false true e f l = gone (ap (slice_get (map_freeing sets at)) (eqb-true b at.1 f) ∙ second_free) (let o = once b in omega arith)
-      go false false e f l =
-          let same = elsewhere b e f in (
-            (λ h. Contains-number_occurrences vs b (let n = number_occurrences-Contains us b ((used b).0 (sym same ∙ h)) in omega arith)),
-            (λ h. same ∙ (used b).1 (Contains-number_occurrences us b (let n = number_occurrences-Contains vs b h in omega arith))),
-          )
+      go : IsFreedOrSame b → IsUsedBlock (map_freeing sets at) b ↔ Contains vs b
+      go (inl (free, (was, none))) = ((λ h. absurd (not_both {a = Free} {b = Used} (λ k. absurd (cc)) free h)), (λ h. absurd (let n = number_occurrences-Contains vs b h in omega arith)))
+      go (inr (same, e)) = (
+        (λ h. Contains-number_occurrences vs b (let n = number_occurrences-Contains us b ((used b).0 (sym same ∙ h)) in omega arith)),
+        (λ h. same ∙ (used b).1 (Contains-number_occurrences us b (let n = number_occurrences-Contains vs b h in omega arith))),
+      )
 
   flying_same : SameInFlight sets (map_freeing sets at)
-  flying_same b = go (nat_eq b at.0) (nat_eq b at.1) refl refl
+  flying_same b = go (each_block b)
     where
-      neither : slice_get (map_freeing sets at) b ≡ Some Free → slice_get sets b ≡ Some Used → IsInFlight (map_freeing sets at) b ↔ IsInFlight sets b
-      neither free was = ((λ h. absurd (not_both {a = Free} {b = InFlight} (λ k. absurd (cc)) free h)), (λ h. absurd (not_both {a = Used} {b = InFlight} (λ k. absurd (cc)) was h)))
-
-      go : (x y : Bool) → nat_eq b at.0 ≡ x → nat_eq b at.1 ≡ y → IsInFlight (map_freeing sets at) b ↔ IsInFlight sets b
-      go true y e f = let k = eqb-true b at.0 e in neither (ap (slice_get (map_freeing sets at)) k ∙ first_free) (ap (slice_get sets) k ∙ was_used at.0 first_there)
-      go false true e f = let k = eqb-true b at.1 f in neither (ap (slice_get (map_freeing sets at)) k ∙ second_free) (ap (slice_get sets) k ∙ was_used at.1 second_there)
-      go false false e f = let same = elsewhere b e f in ((λ h. sym same ∙ h), (λ h. same ∙ h))
+      go : IsFreedOrSame b → IsInFlight (map_freeing sets at) b ↔ IsInFlight sets b
+      go (inl (free, (was, none))) = ((λ h. absurd (not_both {a = Free} {b = InFlight} (λ k. absurd (cc)) free h)), (λ h. absurd (not_both {a = Used} {b = InFlight} (λ k. absurd (cc)) was h)))
+      go (inr (same, e)) = ((λ h. sym same ∙ h), (λ h. same ∙ h))
 
   pub map_without : (new : BlockStates) → new ≡ map_freeing sets at → HasMapWithout sets new vs
   map_without new is = subst (λ z. HasMapWithout sets z vs) (sym is) (record { used = used_fewer; size = length-set (set sets at.0 Free) at.1 Free ∙ length-set sets at.0 Free; flying = flying_same })
@@ -273,3 +220,35 @@ module _ {t : KeptThread} {index : ℕ} {state : Gstate} {w : Site} {x o : Pair}
 
       pub map_dropped : AreUsed t.map (used_blocks t.disk t.pairs) → (owned : List ℕ) → ((b : ℕ) → number_occurrences b owned ≡ number_occurrences b (used_blocks new.disk new.pairs) + number_occurrences b (file_blocks t.disk o.content.slots)) → HasMapWithout t.map new.map owned
       map_dropped used owned are = map_without t.map o.at (used_blocks t.disk t.pairs) owned used (λ b. once_from_distinct (used_blocks t.disk t.pairs) k.accepted.owned_once b) (λ b. let e = are b in let f = used_left b in omega arith) new.map map_left
+
+-- ---- no move is set then
+
+module _ {t : KeptThread} {index : ℕ} {w : Site} {x o : Pair} (k : IsToBeDropped t index zero_gstate w x o) (new : KeptThread) (d : IsPairDropped t (index - 1) zero_gstate new)
+    (none : HasNoMove (pairs_gstate t.pairs)) (used : AreUsed t.map (used_blocks t.disk t.pairs)) (gone : List ℕ) (are : (b : ℕ) → number_occurrences b gone ≡ number_occurrences b (file_blocks t.disk o.content.slots)) where
+  map_after : HasMapWithout t.map new.map (used_blocks new.disk new.pairs ++ gone)
+  map_after = map_dropped k new d none (record { kind = refl; id = refl; pair = refl }) used (used_blocks new.disk new.pairs ++ gone) (λ b. let a = are b in let c = count_append b (used_blocks new.disk new.pairs) gone in omega arith)
+
+  -- an image follows then, by a change of a tree that was there before
+  pub shows_after : length t.map ≡ block_count t.disk → 1024 ≤ t.disk.block_size → IsChain w.chain (dirs_at w (x ∷ o ∷ [])) → {disk : Disk} {ps : List Pair} {change : Tree → Tree} {walk : PathAddresses → PathAddresses}
+      → IsWritableChange disk ps new.disk new.pairs change walk → root_address ps ≡ root_address t.pairs → ShowsDroppedTree t new (change (disk_tree disk ps)) gone
+  shows_after size large chain f root = record {
+    ready = record {
+      accepted = f.follows.accepted;
+      writable = f.writable;
+      settled = d.gstate;
+      used = record {
+        owned = used_blocks new.disk new.pairs ++ gone;
+        are = map_after.used;
+        same = λ b. let c = count_append b (used_blocks new.disk new.pairs) gone in omega arith;
+      };
+      size = map_after.size ∙ size ∙ sym d.written.shape.count;
+      large = subst (λ n. 1024 ≤ n) (sym d.written.shape.block_size) large;
+    };
+    shows = f.follows.shows;
+    flying = map_after.flying;
+    root =
+        let p = pairs_left k new d in
+        ap count_before_root p
+        ∙ root_stays t.disk new.disk w.chain (dirs_at w (x ∷ o ∷ [])) (dirs_at w (record { at = x.at; content = content_after_drop t (index - 1) zero_gstate } ∷ [])) chain (subst (IsAccepted t.disk) k.there k.accepted)
+        (subst (IsAccepted new.disk) p f.follows.accepted) (ap root_address (sym p) ∙ f.follows.root ∙ root ∙ ap root_address k.there) ∙ sym (ap count_before_root k.there);
+  }

@@ -1,38 +1,20 @@
 -- What a pair that goes leaves to the one in front of it, as changes of that one.
-use Rattle.lfs_operations.proofs.Common.{ℕ, zero, suc, ◌≡◌, ◌+◌, ◌<◌, ◌&&◌, Bool, true, false, cond, not, inl, inr, ◌⊎◌, List, [], ◌∷◌, ◌++◌, length, Option, Some, None, refl, sym, ap, ap₂, subst, ◌∙◌, arith, get_or, set, remove, xor_lt, same_Some, Blocks, PutMove, PutTail, content_with_changes, RawContent, complete_content, content_after, content_at, has_commit, current_of_two, current_block, is_later, empty_raw_content, raw_content, Disk, disk_block, block_entries, block_revision, IsWellFormed, MoveStateFits, PairContent, FitsInPair, Gstate, Tail, gstate_xor, zero_gstate, Pair, pairs_gstate, tail_target, completed_from, completed_parts, Each, each_right, each_weaker, Does, does_first, does_nothing, puts_move, puts_tail, gstate_assoc, gstate_comm, gstate_cons, gstate_moved, gstate_right, gstate_self, logged, KeptThread, CanDropNext, IsNextDropped, LossLeavesPair, RefusesChanges, IsPairWritten, complete_after, empty_anchor, thread_pair, tail_change, pairs_with_content, option_and_then, slice_index, AreByteBlocks, IsAllowedTail, ends_tail, IsPairDropped, LeftByDrop, delta_after_drop, tail_after_drop, tail_past_drop, dropping_changes, content_after_drop}
+use Rattle.lfs_operations.proofs.Common.{ℕ, zero, suc, ◌≡◌, ◌+◌, ◌<◌, false, cond, inl, inr, ◌⊎◌, List, [], ◌∷◌, ◌++◌, length, Option, Some, None, refl, sym, ap, ap₂, subst, ◌∙◌, arith, get_or, set, remove, xor_lt, same_Some, Blocks, PutMove, PutTail, content_with_changes, RawContent, complete_content, content_at, raw_content, Disk, MoveStateFits, PairContent, FitsInPair, Gstate, Tail, gstate_xor, zero_gstate, Pair, pairs_gstate, tail_target, completed_from, completed_parts, Each, each_right, each_weaker, Does, does_first, does_nothing, puts_move, puts_tail, gstate_assoc, gstate_comm, gstate_cons, gstate_moved, gstate_right, gstate_self, KeptThread, CanDropNext, IsNextDropped, LossLeavesPair, RefusesChanges, IsPairWritten, complete_after, empty_anchor, thread_pair, tail_change, pairs_with_content, option_and_then, AreByteBlocks, IsAllowedTail, ends_tail, IsPairDropped, LeftByDrop, delta_after_drop, tail_after_drop, tail_past_drop, dropping_changes, content_after_drop, append_assoc, length-append, recursion_from_All, ◌-◌, CanDropAt, ContentChange}
 use Rattle.lfs_operations.proofs.Held.{completes_to}
-use Rattle.lfs_operations.proofs.Threads.{get_at, set_at}
+use Rattle.lfs_model.proofs.PairLists.{get_at, set_at}
+use Rattle.lfs_operations.proofs.MakingContents.{logged_there}
 
 -- ---- what a log comes to
-
-bytes_of_holder : (a b x : List ℕ) → ((i : ℕ) → slice_index a i < 256) → ((i : ℕ) → slice_index b i < 256) → current_of_two a b ≡ Some x → (i : ℕ) → slice_index x i < 256
-bytes_of_holder a b x ha hb is = go (has_commit a) (has_commit b) (has_commit b && is_later (block_revision a) (block_revision b)) is
-  where
-    of : (y : List ℕ) → ((i : ℕ) → slice_index y i < 256) → Some y ≡ Some x → (i : ℕ) → slice_index x i < 256
-    of y h e = subst (λ z. (i : ℕ) → slice_index z i < 256) (same_Some y x e) h
-
-    go : (s t u : Bool) → cond (not s) (cond t (Some b) None) (cond u (Some b) (Some a)) ≡ Some x → (i : ℕ) → slice_index x i < 256
-    go false true u e = of b hb e
-    go false false u e = absurd (cc)
-    go true t true e = of b hb e
-    go true t false e = of a ha e
 
 -- its tail and its delta can be written again
 pub record IsWritableAgain (c : PairContent) : Type 0 where
   pub tail : IsAllowedTail c.tail
   pub move : MoveStateFits c.move
 
-logged_raw : (disk : Disk) (at : ℕ × ℕ) (raw : RawContent) → AreByteBlocks disk.blocks → raw_content disk at ≡ Some raw → IsWellFormed raw
-logged_raw disk at raw bytes is = go (current_block disk at) refl is
-  where
-    go : (o : Option (List ℕ)) → current_block disk at ≡ o → option_and_then (λ block. content_after empty_raw_content (block_entries block)) o ≡ Some raw → IsWellFormed raw
-    go None e k = absurd (cc)
-    go (Some block) e k = logged block raw (bytes_of_holder (disk_block disk at.0) (disk_block disk at.1) block (bytes at.0) (bytes at.1) e) k
-
 pub logged_content : (disk : Disk) (at : ℕ × ℕ) (c : PairContent) → AreByteBlocks disk.blocks → content_at disk at ≡ Some c → IsWritableAgain c
 logged_content disk at c bytes is =
     let k = completes_to (raw_content disk at) c is in
-    let l = logged_raw disk at k.raw bytes k.is in
+    let l = logged_there disk at bytes k.raw k.is in
     let parts = completed_parts k.raw c k.complete in
     record { tail = subst IsAllowedTail (sym parts.tail) l.tail; move = subst MoveStateFits (sym parts.move) l.move }
 
@@ -72,10 +54,7 @@ two_at (p ∷ q ∷ ps) zero l = record { ahead = []; one = p; other = q; back =
 two_at (p ∷ ps) (suc n) l = let t = two_at ps n (omega arith) in record { ahead = p ∷ t.ahead; one = t.one; other = t.other; back = t.back; is = ap (λ z. p ∷ z) t.is; number = ap suc t.number }
 
 get_next : (xs : List Pair) (p q : Pair) (zs : List Pair) (d : Pair) → get_or (xs ++ p ∷ q ∷ zs) (length xs + 1) d ≡ q
-get_next [] p q zs d = refl
-get_next (x ∷ xs) p q zs d =
-    let e : suc (length xs) + 1 ≡ suc (length xs + 1) = omega arith in
-    ap (λ (n : ℕ). get_or (x ∷ (xs ++ p ∷ q ∷ zs)) n d) e ∙ get_next xs p q zs d
+get_next xs p q zs d = ap₂ (λ (z : List Pair) (n : ℕ). get_or z n d) (sym (append_assoc xs (p ∷ []) (q ∷ zs))) (sym (length-append xs (p ∷ []))) ∙ get_at (xs ++ p ∷ []) q zs d
 
 pub remove_next : (xs : List Pair) (q o : Pair) (zs : List Pair) → remove (xs ++ q ∷ o ∷ zs) (length xs + 1) ≡ xs ++ q ∷ zs
 remove_next [] q o zs = refl
@@ -144,73 +123,70 @@ takes_tail c raw tail m complete h k =
     ap (option_and_then complete_content) (takes raw tail m h k)
     ∙ completed_from (record { slots = raw.slots; tail = tail; move = m }) c.slots (completed_parts raw c complete).slots
 
-module _ (t : KeptThread) (front : ℕ) (state : Gstate) (below : front + 1 < length t.pairs) (contents : Each (λ p. content_at t.disk p.at ≡ Some p.content) t.pairs)
-    (bytes : AreByteBlocks t.disk.blocks) (small : MoveStateFits state) where
+module _ (t : KeptThread) (index : ℕ) (state : Gstate) (can : CanDropAt t index state) where
+  abbrev front : ℕ
+  front = index - 1
+
+  abbrev c : PairContent
+  c = content_after_drop t front state
+
+  below : front + 1 < length t.pairs
+  below = let a = can.above in let b = can.below in omega arith
+
   two : TwoAt t.pairs front
   two = two_at t.pairs front below
 
-  is_one : thread_pair t front ≡ two.one
-  is_one = front_is t front two.ahead two.one two.other two.back two.is two.number
-
-  is_other : thread_pair t (front + 1) ≡ two.other
-  is_other = gone_is t front two.ahead two.one two.other two.back two.is two.number
-
   there : (P : Pair → Type 0) → Each P t.pairs → P (thread_pair t front) × P (thread_pair t (front + 1))
   there P h =
-      let k = each_right P two.ahead (two.one ∷ two.other ∷ two.back) (subst (Each P) two.is h) in
-      (subst P (sym is_one) k.0, subst P (sym is_other) k.1.0)
+      let k = each_right P two.ahead (two.one ∷ two.other ∷ two.back) (subst (Each P) two.is h) in (
+        subst P (sym (front_is t front two.ahead two.one two.other two.back two.is two.number)) k.0,
+        subst P (sym (gone_is t front two.ahead two.one two.other two.back two.is two.number)) k.1.0,
+      )
 
-  again : Each (λ p. IsWritableAgain p.content) t.pairs
-  again = all_again t.disk t.pairs bytes contents
-
-  small_delta : MoveStateFits (delta_after_drop t front state)
-  small_delta =
+  pub taking_made : AreByteBlocks t.disk.blocks → complete_after t (index - 1) (dropping_changes t (index - 1) state) ≡ Some (content_after_drop t (index - 1) state)
+  taking_made bytes =
+      let contents = recursion_from_All (λ (p : Pair). content_at t.disk p.at ≡ Some p.content) t.pairs can.thread.contents in
+      let again = all_again t.disk t.pairs bytes contents in
       let k = there (λ p. IsWritableAgain p.content) again in
       let all = moves_joined t.pairs (each_weaker (λ (p : Pair). IsWritableAgain p.content) (λ (p : Pair). MoveStateFits p.content.move) (λ p h. h.move) t.pairs again) in
-      move_xor (gstate_xor (thread_pair t front).content.move (thread_pair t (front + 1)).content.move) (gstate_xor (pairs_gstate t.pairs) state)
-      (move_xor (thread_pair t front).content.move (thread_pair t (front + 1)).content.move k.0.move k.1.move) (move_xor (pairs_gstate t.pairs) state all small)
-
-  pub taking_made : complete_after t front (dropping_changes t front state) ≡ Some (content_after_drop t front state)
-  taking_made =
-      let k = there (λ p. IsWritableAgain p.content) again in
+      let small = move_xor (gstate_xor (thread_pair t front).content.move (thread_pair t (front + 1)).content.move) (gstate_xor (pairs_gstate t.pairs) state)
+      (move_xor (thread_pair t front).content.move (thread_pair t (front + 1)).content.move k.0.move k.1.move) (move_xor (pairs_gstate t.pairs) state all can.storable) in
       let held = completes_to (raw_content t.disk (thread_pair t front).at) (thread_pair t front).content (there (λ p. content_at t.disk p.at ≡ Some p.content) contents).0 in
       ap (λ o. option_and_then complete_content (option_and_then (λ (x : RawContent). content_with_changes x (dropping_changes t front state)) o)) held.is
       ∙ takes_tail (thread_pair t front).content held.raw (tail_after_drop t front) (delta_after_drop t front state) held.complete
-      (over_again (thread_pair t front).content.tail (thread_pair t (front + 1)).content.tail k.1.tail) small_delta
+      (over_again (thread_pair t front).content.tail (thread_pair t (front + 1)).content.tail k.1.tail) small
 
-module _ (t : KeptThread) (front : ℕ) (state : Gstate) (below : front + 1 < length t.pairs) (made : complete_after t front (dropping_changes t front state) ≡ Some (content_after_drop t front state)) where
-  pub can_drop : CanDropNext t front (dropping_changes t front state)
-  can_drop = record {
-    below = below;
-    content = content_after_drop t front state;
-    made = made;
-    next = over_next (thread_pair t front).content.tail (thread_pair t (front + 1)).content.tail;
-  }
+  -- changes that make it of the pair in front
+  module _ (changes : List ContentChange) (made : complete_after t (index - 1) changes ≡ Some (content_after_drop t (index - 1) state)) where
+    pub can_drop : CanDropNext t (index - 1) changes
+    can_drop = record {
+      below = below;
+      content = c;
+      made = made;
+      next = over_next (thread_pair t (index - 1)).content.tail (thread_pair t (index - 1 + 1)).content.tail;
+    }
 
-  parted : TwoAt t.pairs front
-  parted = two_at t.pairs front below
+    -- the slots stay, so it fits
+    pub drop_not_refused : (new : KeptThread) → RefusesChanges t (index - 1) changes new → ⊥
+    drop_not_refused new is = is.too_large (subst (FitsInPair t.disk.block_size t.disk.page) (same_Some c is.content (sym made ∙ is.made)) (record { size = can.fits.size; count = can.fits.count }))
 
-  -- the slots stay, so it fits
-  pub drop_not_refused : FitsInPair t.disk.block_size t.disk.page (thread_pair t front).content → (new : KeptThread) → RefusesChanges t front (dropping_changes t front state) new → ⊥
-  drop_not_refused fits new is = is.too_large (subst (FitsInPair t.disk.block_size t.disk.page) (same_Some (content_after_drop t front state) is.content (sym made ∙ is.made)) (record { size = fits.size; count = fits.count }))
+    pub has_dropped : (new : KeptThread) → IsNextDropped t (index - 1) changes new → IsPairDropped t (index - 1) state new
+    has_dropped new is =
+        let same = same_Some is.content c (sym is.made ∙ made) in
+        let pairs = is.pairs ∙ ap (λ d. remove (pairs_with_content t (index - 1) d) (index - 1 + 1)) same in
+        record {
+          written = subst (λ d. IsPairWritten t (index - 1) d new.disk) same is.written;
+          pairs = pairs;
+          gstate = ap pairs_gstate (pairs ∙ without_is t (index - 1) two.ahead two.one two.other two.back two.is two.number c)
+              ∙ gstate_is t (index - 1) two.ahead two.one two.other two.back two.is two.number state (record { at = two.one.at; content = c }) refl;
+          thread = is.thread;
+          map = is.map;
+        }
 
-  pub has_dropped : (new : KeptThread) → IsNextDropped t front (dropping_changes t front state) new → IsPairDropped t front state new
-  has_dropped new is =
-      let same = same_Some is.content (content_after_drop t front state) (sym is.made ∙ made) in
-      let pairs = is.pairs ∙ ap (λ c. remove (pairs_with_content t front c) (front + 1)) same in
-      record {
-        written = subst (λ c. IsPairWritten t front c new.disk) same is.written;
-        pairs = pairs;
-        gstate = ap pairs_gstate (pairs ∙ without_is t front parted.ahead parted.one parted.other parted.back parted.is parted.number (content_after_drop t front state))
-            ∙ gstate_is t front parted.ahead parted.one parted.other parted.back parted.is parted.number state (record { at = parted.one.at; content = content_after_drop t front state }) refl;
-        thread = is.thread;
-        map = is.map;
-      }
-
-  pub left_by_drop : (left : Blocks) → LossLeavesPair t front (dropping_changes t front state) left → LeftByDrop t front state left
-  left_by_drop left is = record { content = is.content; is = go is.is; written = is.written }
-    where
-      go : (is.content ≡ (thread_pair t front).content) ⊎ ((complete_after t front (dropping_changes t front state) ≡ Some is.content) × FitsInPair t.disk.block_size t.disk.page is.content)
-          → (is.content ≡ (thread_pair t front).content) ⊎ (is.content ≡ content_after_drop t front state)
-      go (inl e) = inl e
-      go (inr k) = inr (same_Some is.content (content_after_drop t front state) (sym k.0 ∙ made))
+    pub left_by_drop : (left : Blocks) → LossLeavesPair t (index - 1) changes left → LeftByDrop t (index - 1) state left
+    left_by_drop left is = record { content = is.content; is = go is.is; written = is.written }
+      where
+        go : (is.content ≡ (thread_pair t (index - 1)).content) ⊎ ((complete_after t (index - 1) changes ≡ Some is.content) × FitsInPair t.disk.block_size t.disk.page is.content)
+            → (is.content ≡ (thread_pair t (index - 1)).content) ⊎ (is.content ≡ content_after_drop t (index - 1) state)
+        go (inl e) = inl e
+        go (inr k) = inr (same_Some is.content c (sym k.0 ∙ made))

@@ -1,10 +1,9 @@
 -- The last step of an operation drops a pair that no path leads to any more.
-use Rattle.lfs_operations.proofs.Common.{ℕ, ◌≡◌, inr, ◌+◌, ◌-◌, ◌≤◌, false, List, [], ◌∷◌, ◌++◌, length, refl, sym, ap, subst, ◌∙◌, arith, Blocks, AreUsed, Disk, block_count, HasEitherTree as IsLeftOf, with_blocks, PairContent, zero_gstate, Pair, pairs_blocks, pairs_gstate, is_hard_tail, root_address, count_before_root, address_blocks, Tree, IsAccepted, PathAddresses, all_unmoved_slots, disk_tree, used_blocks, SameSlots, alike_append, alike_itself, number_occurrences, count_append, count_here, once_from_distinct, HasNoMove, IsGone, file_blocks, IsWritableChange, IsChain, KeptThread, SameGeometryAs, IsPairWritten, thread_pair, CanDropAt, IsPairDropped, ShowsDroppedTree, LeftByDrop, SameInFlight, content_after_drop, IsReadyImage, KeepsRootNumber}
-use Rattle.lfs_operations.proofs.Dropped.{HasMapWithout, IsToBeDropped, can_drop_pair, device_left, front_there, gone_there, left_dropped, map_dropped, pairs_left, slots_left, state_left, tail_left, used_left}
+use Rattle.lfs_operations.proofs.Common.{ℕ, ◌≡◌, inr, ◌+◌, ◌-◌, ◌≤◌, false, List, [], ◌∷◌, ◌++◌, length, refl, sym, ap, subst, ◌∙◌, arith, Blocks, AreUsed, Disk, block_count, HasEitherTree as IsLeftOf, with_blocks, PairContent, zero_gstate, Pair, pairs_blocks, pairs_gstate, is_hard_tail, address_blocks, Tree, PathAddresses, all_unmoved_slots, disk_tree, used_blocks, SameSlots, alike_append, alike_itself, number_occurrences, count_append, count_here, once_from_distinct, HasNoMove, IsGone, file_blocks, IsWritableChange, IsChain, KeptThread, SameGeometryAs, IsPairWritten, thread_pair, CanDropAt, IsPairDropped, ShowsDroppedTree, LeftByDrop, SameInFlight, content_after_drop, IsReadyImage, KeepsRootNumber}
+use Rattle.lfs_operations.proofs.Dropped.{IsToBeDropped, can_drop_pair, device_left, front_there, gone_there, left_dropped, pairs_left, slots_left, state_left, tail_left, used_left, shows_after}
 use Rattle.lfs_operations.proofs.DroppedTails.{no_move_state}
-use Rattle.lfs_operations.proofs.Placing.{left_after}
-use Rattle.lfs_operations.proofs.Rmdir.{over_soft}
-use Rattle.lfs_operations.proofs.RootStays.{root_stays}
+use Rattle.lfs_model.proofs.Placing.{left_after}
+use Rattle.lfs_model.proofs.DirectoryGone.{over_soft}
 
 -- The image shows the changed tree, and still does once the pair o of number n, which stands behind x, is dropped.
 pub record IsAllButDropped (t m : KeptThread) (o : Pair) (n : ℕ) (change : Tree → Tree) (walk : PathAddresses → PathAddresses) : Type 0 where
@@ -77,9 +76,6 @@ module _ {t m : KeptThread} {o : Pair} {n : ℕ} {change : Tree → Tree} {walk 
         let f = ap (λ z. number_occurrences b (file_blocks m.disk z)) k.empty in
         omega arith
 
-    map_end : HasMapWithout m.map new.map (used_blocks new.disk new.pairs)
-    map_end = map_dropped dropping new g k.no_move (record { kind = refl; id = refl; pair = refl }) k.used (used_blocks new.disk new.pairs) (λ b. let f = ap (λ z. number_occurrences b (file_blocks m.disk z)) k.empty in omega arith)
-
     once : (b : ℕ) → number_occurrences b (used_blocks m.disk m.pairs) ≤ 1
     once b = once_from_distinct (used_blocks m.disk m.pairs) k.taken.follows.accepted.owned_once b
 
@@ -96,29 +92,15 @@ module _ {t m : KeptThread} {o : Pair} {n : ℕ} {change : Tree → Tree} {walk 
         omega arith
 
     pub shows_dropped : ShowsDroppedTree t new (change (disk_tree t.disk t.pairs)) []
-    shows_dropped = record {
-      ready = record {
-        accepted = taken_end.follows.accepted;
-        writable = taken_end.writable;
-        settled = g.gstate;
-        used = record {
-          owned = used_blocks new.disk new.pairs;
-          are = map_end.used;
-          same = λ b. omega arith;
-        };
-        size = map_end.size ∙ k.size ∙ sym g.written.shape.count;
-        large = subst (λ n. 1024 ≤ n) (sym (g.written.shape.block_size ∙ k.shape.block_size)) k.ready.large;
-      };
-      shows = taken_end.follows.shows;
-      flying = λ b. (
-        (λ h. (k.flying b).0 ((map_end.flying b).0 h)),
-        (λ h. (map_end.flying b).1 ((k.flying b).1 h)),
-      );
-      root = ap count_before_root pairs_end
-          ∙ root_stays m.disk new.disk k.chain (k.front ++ k.x ∷ o ∷ k.back) (k.front ++ y ∷ k.back) k.is_chain (subst (IsAccepted m.disk) k.there k.taken.follows.accepted)
-          (subst (IsAccepted new.disk) pairs_end taken_end.follows.accepted) (ap root_address (sym pairs_end) ∙ taken_end.follows.root ∙ sym k.taken.follows.root ∙ ap root_address k.there)
-          ∙ sym (ap count_before_root k.there) ∙ k.root;
-    }
+    shows_dropped =
+        let large = subst (λ n. 1024 ≤ n) (sym k.shape.block_size) k.ready.large in
+        let h = shows_after dropping new g k.no_move k.used [] (λ b. let f = ap (λ z. number_occurrences b (file_blocks m.disk z)) k.empty in omega arith) k.size large k.is_chain taken_end (sym k.taken.follows.root) in
+        record {
+          ready = h.ready;
+          shows = h.shows;
+          flying = λ b. ((λ f. (k.flying b).0 ((h.flying b).0 f)), (λ f. (h.flying b).1 ((k.flying b).1 f)));
+          root = h.root ∙ k.root;
+        }
 
   -- ---- at a stop
 

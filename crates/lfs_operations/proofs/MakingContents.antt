@@ -1,8 +1,9 @@
 -- What the two steps of a mkdir make of a pair.
-use Rattle.lfs_operations.proofs.Common.{ℕ, ◌≡◌, ◌≢◌, ◌≤◌, ◌<◌, ◌==◌, ◌&&◌, not, Bool, true, false, cond, eqb-true, List, [], ◌∷◌, length, Option, Some, None, refl, sym, ap, ap₂, subst, ◌∙◌, arith, insert, and_parts, ne_eqb, PutMove, PutTail, content_with_changes, RawContent, raw_content, content_at, content_after, complete_content, complete_slot, has_commit, current_of_two, current_block, is_later, empty_raw_content, directory_name_type, directory_type, Disk, disk_block, charge_limit, block_entries, block_revision, AreWords, IsWellFormed, MoveStateFits, IsAllowedPart, Name, PairContent, FitsInPair, Gstate, Tail, slot_size, directory_slot, Pair, tail_target, address_bytes, IsCompleted, complete_insert, complete_length, completed_parts, completed_from, creates_with_struct, does_first, puts_move, puts_tail, slot_with, with_sync_inverted, insert_cut, logged_changed, tag_type-make_tag, tag_length-make_tag, changed_pair_content, KeptThread, thread_pair, complete_after, slice_index, option_and_then, AreByteBlocks, null_address, CanPut, directory_entry_changes, threading_changes, IsRawFormed}
+use Rattle.lfs_operations.proofs.Common.{ℕ, ◌≡◌, ◌≢◌, ◌≤◌, ◌<◌, ◌==◌, ◌&&◌, not, Bool, true, false, cond, eqb-true, List, [], ◌∷◌, length, Option, Some, None, refl, sym, ap, ap₂, subst, ◌∙◌, arith, insert, and_parts, ne_eqb, PutMove, PutTail, content_with_changes, RawContent, raw_content, content_at, content_after, complete_content, complete_slot, has_commit, current_of_two, current_block, is_later, empty_raw_content, directory_name_type, directory_type, Disk, disk_block, charge_limit, block_entries, block_revision, AreWords, IsWellFormed, MoveStateFits, IsAllowedPart, Name, PairContent, FitsInPair, Gstate, Tail, slot_size, directory_slot, Pair, tail_target, address_bytes, IsCompleted, complete_insert, complete_length, completed_parts, completed_from, creates_with_struct, does_first, puts_move, puts_tail, slot_with, with_sync_inverted, insert_cut, logged_changed, tag_type-make_tag, tag_length-make_tag, changed_pair_content, KeptThread, thread_pair, complete_after, slice_index, option_and_then, AreByteBlocks, null_address, CanPut, threading_changes, IsRawFormed, ContentChange, PutStruct, Slot}
 use Rattle.lfs_model.specs.format.EntryTypes.{tail_if_any}
 use Rattle.lfs_model.proofs.WrittenAnew.{decoded_address-address_bytes}
 use Rattle.lfs_operations.proofs.Held.{CompletesTo, completes_to, logged_at}
+use Rattle.lfs_model.specs.layers.Changes.{Create}
 
 -- ---- blocks of bytes
 
@@ -53,6 +54,18 @@ tail_is to apart = go (to.0 == null_address && to.1 == null_address) refl
 
 -- ---- the steps
 
+-- The pair has room for a slot of these parts. The further changes make another delta of the global state.
+pub record IsNewEntry (t : KeptThread) (p : Pair) (id kind : ℕ) (name : Name) (struct : ℕ) (bytes : List ℕ) (u : Slot) (more : List ContentChange) (move : Gstate) : Type 0 where
+  pub named : IsAllowedPart 0 (kind, name)
+  pub part : IsAllowedPart 2 (struct, bytes)
+  pub slot : complete_slot (slot_with (kind, name) (struct, bytes)) ≡ Some u
+  pub within : id ≤ length p.content.slots
+  pub fits : FitsInPair t.disk.block_size t.disk.page p.content
+  pub small : slot_size u ≤ charge_limit t.disk.block_size t.disk.page
+  pub delta : Gstate → Gstate
+  pub does : (raw : RawContent) → content_with_changes raw more ≡ Some (record raw { move = delta raw.move })
+  pub state : delta p.content.move ≡ move
+
 module _ (t : KeptThread) (index : ℕ) (p : Pair) (here : thread_pair t index ≡ p) (holds : content_at t.disk (thread_pair t index).at ≡ Some p.content) (logged : IsRawFormed t.disk (thread_pair t index).at) where
   abbrev c : CompletesTo (raw_content t.disk (thread_pair t index).at) p.content
   c = completes_to (raw_content t.disk (thread_pair t index).at) p.content holds
@@ -92,48 +105,59 @@ module _ (t : KeptThread) (index : ℕ) (p : Pair) (here : thread_pair t index �
       ∙ completed_from (raw_threaded fresh) p.content.slots parts.slots
       ∙ ap (λ m. Some (record { slots = p.content.slots; tail = Some (record { hard = false; to = fresh }); move = m })) delta_is
 
-  -- ---- the entry comes
+  -- ---- an entry comes
 
-  module _ (id : ℕ) (name : Name) (to : ℕ × ℕ) (short : length name ≤ 255) (address : AreWords to) (within : id ≤ length p.content.slots) (fits : FitsInPair t.disk.block_size t.disk.page p.content) where
-    abbrev pub named_now : PairContent
-    named_now = record { slots = insert p.content.slots id (directory_slot name to); tail = p.content.tail; move = with_sync_inverted p.content.move }
+  module _ {id kind : ℕ} {name : Name} {struct : ℕ} {bytes : List ℕ} {u : Slot} {more : List ContentChange} {move : Gstate} (e : IsNewEntry t p id kind name struct bytes u more move) where
+    abbrev changes : List ContentChange
+    changes = Create id kind name ∷ PutStruct id struct bytes ∷ more
 
-    abbrev raw_named : RawContent
-    raw_named = record c.raw { slots = insert c.raw.slots id (slot_with (directory_name_type, name) (directory_type, address_bytes to)); move = delta }
+    abbrev raw_now : RawContent
+    raw_now = record c.raw { slots = insert c.raw.slots id (slot_with (kind, name) (struct, bytes)); move = e.delta c.raw.move }
 
-    names : content_with_changes c.raw (directory_entry_changes t index id name to) ≡ Some raw_named
-    names =
+    enters : content_with_changes c.raw changes ≡ Some raw_now
+    enters =
         let l = complete_length c.raw.slots p.content.slots parts.slots in
-        let few = fits.count in
-        let created : RawContent = record c.raw { slots = insert c.raw.slots id (slot_with (directory_name_type, name) (directory_type, address_bytes to)) } in
-        creates_with_struct c.raw id directory_name_type name directory_type (address_bytes to) (PutMove delta ∷ []) raw_named (omega arith) (omega arith) (directory_name name short) (branch_part to)
-        (does_first (PutMove delta) [] created raw_named raw_named (puts_move created delta delta_state) refl)
+        let few = e.fits.count in
+        let m = e.within in
+        creates_with_struct c.raw id kind name struct bytes more raw_now (omega arith) (omega arith) e.named e.part (e.does (record c.raw { slots = insert c.raw.slots id (slot_with (kind, name) (struct, bytes)) }))
 
-    raw_made : changed_pair_content t.disk (thread_pair t index).at (directory_entry_changes t index id name to) ≡ Some raw_named
-    raw_made = ap (λ o. option_and_then (λ (r : RawContent). content_with_changes r (directory_entry_changes t index id name to)) o) c.is ∙ names
+    raw_made : changed_pair_content t.disk (thread_pair t index).at changes ≡ Some raw_now
+    raw_made = ap (λ o. option_and_then (λ (r : RawContent). content_with_changes r changes) o) c.is ∙ enters
 
-    slot_is : complete_slot (slot_with (directory_name_type, name) (directory_type, address_bytes to)) ≡ Some (directory_slot name to)
-    slot_is = ap (λ (a : ℕ × ℕ). Some (directory_slot name a)) (decoded_address-address_bytes to address)
-
-    now_complete : complete_content raw_named ≡ Some named_now
+    now_complete : complete_content raw_now ≡ Some (record { slots = insert p.content.slots id u; tail = p.content.tail; move = move })
     now_complete =
-        completed_from raw_named (insert p.content.slots id (directory_slot name to))
-        (complete_insert c.raw.slots p.content.slots id (slot_with (directory_name_type, name) (directory_type, address_bytes to)) (directory_slot name to) parts.slots slot_is)
-        ∙ ap₂ (λ t m. Some (record { slots = insert p.content.slots id (directory_slot name to); tail = t; move = m })) (sym parts.tail) delta_is
+        completed_from raw_now (insert p.content.slots id u) (complete_insert c.raw.slots p.content.slots id (slot_with (kind, name) (struct, bytes)) u parts.slots e.slot)
+        ∙ ap₂ (λ t m. Some (record { slots = insert p.content.slots id u; tail = t; move = m })) (sym parts.tail) (ap e.delta (sym parts.move) ∙ e.state)
 
-    pub named_made : complete_after t index (directory_entry_changes t index id name to) ≡ Some named_now
-    named_made = ap (λ o. option_and_then complete_content o) raw_made ∙ now_complete
+    pub entry_made : complete_after t index (Create id kind name ∷ PutStruct id struct bytes ∷ more) ≡ Some (record { slots = insert p.content.slots id u; tail = p.content.tail; move = move })
+    entry_made = ap (λ o. option_and_then complete_content o) raw_made ∙ now_complete
 
-    pub can_name : index < length t.pairs → slot_size (directory_slot name to) ≤ charge_limit t.disk.block_size t.disk.page → CanPut t index (directory_entry_changes t index id name to)
-    can_name below small = record {
+    pub can_put_entry : index < length t.pairs → CanPut t index (Create id kind name ∷ PutStruct id struct bytes ∷ more)
+    can_put_entry below = record {
       can = record {
         below = below;
-        content = named_now;
-        made = named_made;
+        content = record { slots = insert p.content.slots id u; tail = p.content.tail; move = move };
+        made = entry_made;
         next = ap (λ (z : Pair). tail_target z.content.tail) (sym here);
       };
-      raw = raw_named;
+      raw = raw_now;
       made = raw_made;
-      cut = insert_cut t.disk.block_size t.disk.page raw_named named_now p.content id (directory_slot name to)
-          (logged_changed c.raw (directory_entry_changes t index id name to) raw_named (logged c.raw c.is) names) now_complete refl small fits;
+      cut = insert_cut t.disk.block_size t.disk.page raw_now (record { slots = insert p.content.slots id u; tail = p.content.tail; move = move }) p.content id u
+          (logged_changed c.raw changes raw_now (logged c.raw c.is) enters) now_complete refl e.small e.fits;
     }
+
+  -- a directory's, and the sync bit is turned
+  pub directory_entry : (id : ℕ) (name : Name) (to : ℕ × ℕ) → length name ≤ 255 → AreWords to → id ≤ length p.content.slots → FitsInPair t.disk.block_size t.disk.page p.content
+      → slot_size (directory_slot name to) ≤ charge_limit t.disk.block_size t.disk.page
+      → IsNewEntry t p id directory_name_type name directory_type (address_bytes to) (directory_slot name to) (PutMove (with_sync_inverted (thread_pair t index).content.move) ∷ []) (with_sync_inverted p.content.move)
+  directory_entry id name to short address within fits small = record {
+    named = directory_name name short;
+    part = branch_part to;
+    slot = ap (λ (a : ℕ × ℕ). Some (directory_slot name a)) (decoded_address-address_bytes to address);
+    within = within;
+    fits = fits;
+    small = small;
+    delta = λ m. delta;
+    does = λ raw. does_first (PutMove delta) [] raw (record raw { move = delta }) (record raw { move = delta }) (puts_move raw delta delta_state) refl;
+    state = delta_is;
+  }

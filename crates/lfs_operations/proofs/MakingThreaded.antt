@@ -1,32 +1,17 @@
 -- A fresh pair is threaded behind the last one of a directory, and the sync bit set: what that comes to, and what a stop in it leaves.
-use Rattle.lfs_operations.proofs.Common.{ℕ, ◌≡◌, ◌≢◌, ◌+◌, ◌<◌, ◌⊎◌, inl, inr, Bool, true, false, nat_eq, List, [], ◌∷◌, ◌++◌, length, Some, refl, sym, ap, ap₂, subst, ◌∙◌, ◌≤◌, arith, append_assoc, append-nil, flat_map, IsDistinct, same_Some, All-from_recursion, recursion_from_All, Blocks, SameExceptBlocks, AreUsed, content_at, current_of_two, current_block, Disk, disk_block, block_count, HasEitherTree, with_blocks, PairContent, FitsInPair, Gstate, zero_gstate, gstate_xor, same_pair, Pair, pairs_blocks, pairs_gstate, is_hard_tail, address_blocks, addresses_blocks, Path, Tree, BeginsWith, superblock_entry, IsAccepted, HasNoEmpties, IsWritable, LeadsTo, all_unmoved_slots, all_entries, struct_blocks, disk_tree, used_blocks, fits_same, IsStepBeside, last_site, threaded, no_move_from, each_right, number_occurrences, count_append, count_here, once_from_distinct, HasNoMove, gstate_assoc, gstate_cons, gstate_left, gstate_moved, gstate_right, sync_bit_delta, with_sync_inverted, turned_is, shown_before, shown_behind, pair_itself, Site, begin_of, dirs_at, thread_at, IsSite, IsPutBeside, IsWritableChange, beside_taken, taken_before, within_at, pairs_behind, ends_joined, KeepsOutsideBoth, KeptThread, SameGeometryAs, HasOldPair, IsThreadedIn, LossLeavesThreaded, ChangesThreadBlocks, complete_after, thread_pair, map_using, All, ThreadedInOnDisk, KeepsSuperblockFirst, fresh_with_tail, AreTwoFree, map_taking_two, threading_changes, IsReadyImage, content_same}
+use Rattle.lfs_operations.proofs.Common.{ℕ, ◌≡◌, ◌≢◌, ◌⊎◌, inl, inr, Bool, true, false, nat_eq, List, [], ◌∷◌, ◌++◌, length, Some, refl, sym, ap, ap₂, subst, ◌∙◌, ◌≤◌, arith, append-nil, flat_map, IsDistinct, same_Some, recursion_from_All, Blocks, SameExceptBlocks, AreUsed, content_at, current_of_two, Disk, disk_block, block_count, HasEitherTree, with_blocks, PairContent, FitsInPair, Gstate, zero_gstate, gstate_xor, same_pair, Pair, pairs_blocks, pairs_gstate, is_hard_tail, address_blocks, addresses_blocks, Path, Tree, BeginsWith, superblock_entry, IsAccepted, HasNoEmpties, IsWritable, LeadsTo, all_unmoved_slots, all_entries, struct_blocks, disk_tree, used_blocks, fits_same, last_site, threaded, number_occurrences, count_append, count_here, once_from_distinct, HasNoMove, gstate_assoc, gstate_cons, gstate_left, gstate_right, sync_bit_delta, with_sync_inverted, turned_is, shown_before, shown_behind, pair_itself, Site, begin_of, dirs_at, thread_at, IsWritableChange, beside_taken, taken_before, within_at, pairs_behind, ends_joined, KeptThread, HasOldPair, IsThreadedIn, LossLeavesThreaded, ChangesThreadBlocks, complete_after, thread_pair, map_using, ThreadedInOnDisk, KeepsSuperblockFirst, fresh_with_tail, AreTwoFree, map_taking_two, threading_changes, IsReadyImage, content_same, ◌+◌, site_gstate_moved}
 use Rattle.lfs_model.proofs.Beside.{beside_shape, other_entries, own_entries}
 use Rattle.lfs_model.proofs.Pairs.{put_at}
 use Rattle.lfs_operations.proofs.MakingCounts.{used_count_now}
-use Rattle.lfs_operations.proofs.Threads.{at_is, fresh_distinct, fresh_range, pair_is, placed_still, same_four, shape_same, two_now}
-use Rattle.lfs_operations.proofs.Owning.{count_pairs, length_now, used_more}
-use Rattle.lfs_operations.proofs.Placing.{IsPlaced, all_apart, device, left_still}
+use Rattle.lfs_operations.proofs.Threads.{at_is, pair_is, two_now}
+use Rattle.lfs_operations.proofs.Owning.{length_now, used_more}
+use Rattle.lfs_model.proofs.UsedCounts.{count_pairs}
+use Rattle.lfs_model.proofs.Placing.{IsPlaced, all_apart, device, left_still}
 use Rattle.lfs_operations.proofs.Putting.{with_map}
-
--- the pair of that number is the last of a directory
-pub record IsEnd (t : KeptThread) (last : ℕ) (chain before left after : List Pair) (x : Pair) : Type 0 where
-  pub there : t.pairs ≡ thread_at (last_site chain before left after) (x ∷ [])
-  pub place : last ≡ length chain + length (before ++ left)
-  pub site : IsSite (last_site chain before left after) (x ∷ [])
-
--- it names the fresh pair, which has its tail
-abbrev pub naming_pair : Pair → ℕ × ℕ → Pair
-naming_pair x fresh = record { at = x.at; content = record { slots = x.content.slots; tail = Some (record { hard = false; to = fresh }); move = with_sync_inverted x.content.move } }
-
-abbrev pub fresh_pair : Pair → ℕ × ℕ → Pair
-fresh_pair x fresh = record { at = fresh; content = record { slots = []; tail = x.content.tail; move = zero_gstate } }
-
-abbrev pub IsThreading : Disk → Disk → List Pair → List Pair → List Pair → List Pair → Pair → ℕ × ℕ → Type 0
-IsThreading disk new chain before left after x fresh =
-    IsStepBeside disk new chain before left after x [] (naming_pair x fresh) [] (fresh_pair x fresh) (fresh.0 ∷ fresh.1 ∷ []) [] x.content.slots [] [] []
-
-abbrev pub IsThreaded : Disk → List Pair → List Pair → List Pair → List Pair → Pair → ℕ × ℕ → Type 0
-IsThreaded disk chain before left after x fresh = IsPutBeside disk (last_site chain before left after) x (naming_pair x fresh) [] (fresh_pair x fresh) x.content.slots [] [] []
+use Rattle.lfs_model.proofs.MkdirRoutes.{IsEnd, IsThreaded, IsThreading, fresh_pair, naming_pair}
+use Rattle.lfs_operations.proofs.FreshBeside as beside
+use Rattle.lfs_operations.proofs.FreshBeside.{IsWrittenBeside, shape_left}
+use Rattle.lfs_operations.proofs.AtSite.{each_from}
 
 -- so do the thread and the map say
 pub record HasThreaded (t : KeptThread) (chain before left after : List Pair) (x : Pair) (fresh : ℕ × ℕ) (new : KeptThread) : Type 0 where
@@ -40,7 +25,7 @@ have_at : (b : Bool) (xs : List Pair) (x : Pair) (ys : List Pair) → HasNoEmpti
 have_at b [] x ys h f = h.0 f
 have_at b (z ∷ xs) x ys h f = have_at (is_hard_tail z.content.tail) xs x ys h.1 f
 
-module _ (t : KeptThread) (ready : IsReadyImage t) (last : ℕ) (chain before left after : List Pair) (x : Pair) (e : IsEnd t last chain before left after x) (fresh : ℕ × ℕ) (two : AreTwoFree t.map fresh)
+module _ (t : KeptThread) (ready : IsReadyImage t) (last : ℕ) (chain before left after : List Pair) (x : Pair) (e : IsEnd t.pairs last chain before left after x) (fresh : ℕ × ℕ) (two : AreTwoFree t.map fresh)
     (made : complete_after t last (threading_changes t last fresh) ≡ Some (naming_pair x fresh).content) where
   abbrev w : Site
   w = last_site chain before left after
@@ -57,22 +42,11 @@ module _ (t : KeptThread) (ready : IsReadyImage t) (last : ℕ) (chain before le
   behind_is : fresh_with_tail t last fresh ≡ f
   behind_is = ap (λ (z : Pair). fresh_pair z fresh) (pair_is t last w x e.there e.place)
 
-  accepted_there : IsAccepted t.disk (thread_at w (x ∷ []))
-  accepted_there = subst (IsAccepted t.disk) e.there ready.accepted
-
   writable_there : IsWritable t.disk (thread_at w (x ∷ []))
-  writable_there = subst (IsWritable t.disk) e.there ready.writable
+  writable_there = beside.writable t ready last w x e.there e.place fresh two
 
   pub settled_there : pairs_gstate (thread_at (last_site chain before left after) (x ∷ [])) ≡ zero_gstate
-  settled_there = ap pairs_gstate (sym e.there) ∙ ready.settled
-
-  held_there : content_at t.disk x.at ≡ Some x.content
-  held_there = (each_right (λ (z : Pair). content_at t.disk z.at ≡ Some z.content) (before ++ left) (x ∷ after)
-      (each_right (λ (z : Pair). content_at t.disk z.at ≡ Some z.content) chain ((before ++ left) ++ (x ∷ after))
-      (recursion_from_All (λ (z : Pair). content_at t.disk z.at ≡ Some z.content) (thread_at w (x ∷ [])) accepted_there.thread.contents))).0
-
-  distinct : IsDistinct nat_eq (fresh.0 ∷ fresh.1 ∷ used_blocks t.disk (thread_at w (x ∷ [])))
-  distinct = fresh_distinct t last w x e.there e.place ready.used ready.accepted.owned_once fresh two
+  settled_there = beside.settled t ready last w x e.there e.place fresh two
 
   -- ---- the global state
 
@@ -82,9 +56,7 @@ module _ (t : KeptThread) (ready : IsReadyImage t) (last : ℕ) (chain before le
       ∙ ap (λ (z : Gstate). gstate_xor z (pairs_gstate [])) (sym (turned_is x.content.move)) ∙ gstate_assoc sync_bit_delta x.content.move (pairs_gstate []) ∙ ap (gstate_xor sync_bit_delta) (sym (gstate_cons x []))
 
   pub state_now : pairs_gstate (thread_at (last_site chain before left after) (naming_pair x fresh ∷ fresh_pair x fresh ∷ [])) ≡ sync_bit_delta
-  state_now =
-      ap pairs_gstate (sym (append_assoc chain (before ++ left) (y ∷ f ∷ after))) ∙ gstate_moved sync_bit_delta (chain ++ (before ++ left)) (x ∷ []) (y ∷ f ∷ []) after turned_delta
-      ∙ ap (λ z. gstate_xor sync_bit_delta (pairs_gstate z)) (append_assoc chain (before ++ left) (x ∷ after)) ∙ ap (gstate_xor sync_bit_delta) settled_there ∙ gstate_right sync_bit_delta
+  state_now = site_gstate_moved sync_bit_delta w (x ∷ []) (y ∷ f ∷ []) turned_delta ∙ ap (gstate_xor sync_bit_delta) settled_there ∙ gstate_right sync_bit_delta
 
   -- ---- the step
 
@@ -102,31 +74,18 @@ module _ (t : KeptThread) (ready : IsReadyImage t) (last : ℕ) (chain before le
     tail = refl;
   }
 
-  step_from : (disk : Disk) → IsPlaced t.disk disk x y (f ∷ []) (fresh.0 ∷ fresh.1 ∷ []) → IsThreading t.disk disk chain before left after x fresh
-  step_from disk placed = record {
-    accepted = accepted_there;
+  step_from : (disk : Disk) → IsWrittenBeside t last fresh y.content f.content disk → IsThreading t.disk disk chain before left after x fresh
+  step_from disk on = record {
+    accepted = beside.accepted t ready last w x e.there e.place fresh two;
     site = e.site;
-    no_move = no_move_from (thread_at w (x ∷ [])) settled_there;
+    no_move = beside.no_move t ready last w x e.there e.place fresh two;
     still_none = subst HasNoMove (sym state_now) (record { kind = refl; id = refl; pair = refl });
-    device = device t.disk disk w x y (f ∷ []) (fresh.0 ∷ fresh.1 ∷ []) accepted_there distinct placed;
-    free = record {
-      distinct = distinct;
-      in_range = All-from_recursion (λ b. b < block_count t.disk) (fresh.0 ∷ fresh.1 ∷ []) (fresh_range t last w x e.there e.place ready.size fresh two);
-    };
+    device = beside.device_beside t ready last w x e.there e.place fresh two disk y.content f.content (λ h. (h.kind, h.name)) on;
+    free = beside.free t ready last w x e.there e.place fresh two;
     shape = beside_shape x y f refl refl refl refl (λ h. h);
     was = refl;
     is = refl;
     splice = record { front = λ k. refl; entries = tt; lists = tt; blocks = λ b. omega arith };
-  }
-
-  placed_from : (disk : Disk) → SameGeometryAs t.disk disk → KeepsOutsideBoth (thread_pair t last).at fresh t.disk.blocks disk.blocks → content_at disk x.at ≡ Some y.content → content_at disk fresh ≡ Some f.content
-      → KeepsSuperblockFirst t.disk (thread_pair t last).at y.content disk → IsPlaced t.disk disk x y (f ∷ []) (fresh.0 ∷ fresh.1 ∷ [])
-  placed_from disk shape others here behind first = record {
-    geometry = shape_same t last w x e.there e.place shape;
-    same = same_four t last w x e.there e.place disk fresh others;
-    contents = (here, (behind, tt));
-    first = λ h b. subst (λ at. BeginsWith (current_block disk at) superblock_entry) (at_is t last w x e.there e.place)
-        (first (subst (λ at. BeginsWith (current_block t.disk at) superblock_entry) (sym (at_is t last w x e.there e.place)) b) (h.kind, h.name));
   }
 
   made_same : (c : PairContent) → complete_after t last (threading_changes t last fresh) ≡ Some c → c ≡ y.content
@@ -139,8 +98,14 @@ module _ (t : KeptThread) (ready : IsReadyImage t) (last : ℕ) (chain before le
   -- only the blocks of the fresh pair may differ: the image shows the tree that it showed
   pub left_beside : (blocks : Blocks) (tree : Tree) → SameExceptBlocks (address_blocks fresh) t.disk.blocks blocks → HasEitherTree (with_blocks blocks t.disk) (disk_tree t.disk t.pairs) tree
   left_beside blocks tree others =
-      left_still t.disk blocks (thread_at w (x ∷ [])) accepted_there writable_there (device t.disk (with_blocks blocks t.disk) w x x [] (fresh.0 ∷ fresh.1 ∷ []) accepted_there distinct placed) (inl (ap (disk_tree t.disk) (sym e.there)))
+      left_still t.disk blocks (thread_at w (x ∷ [])) accepted writable_there (device t.disk (with_blocks blocks t.disk) w x x [] (fresh.0 ∷ fresh.1 ∷ []) accepted distinct placed) (inl (ap (disk_tree t.disk) (sym e.there)))
     where
+      accepted : IsAccepted t.disk (thread_at w (x ∷ []))
+      accepted = beside.accepted t ready last w x e.there e.place fresh two
+
+      distinct : IsDistinct nat_eq (fresh.0 ∷ fresh.1 ∷ used_blocks t.disk (thread_at w (x ∷ [])))
+      distinct = (beside.free t ready last w x e.there e.place fresh two).distinct
+
       -- a block that is used is the same
       same_used : (b : ℕ) → 1 ≤ number_occurrences b (pairs_blocks (x ∷ [])) → disk_block (with_blocks blocks t.disk) b ≡ disk_block t.disk b
       same_used b some = others.others b (all_apart (fresh.0 ∷ fresh.1 ∷ []) b (
@@ -159,7 +124,7 @@ module _ (t : KeptThread) (ready : IsReadyImage t) (last : ℕ) (chain before le
       placed = record {
         geometry = record { block_size = refl; page = refl; order = refl; profile = refl; count = others.count };
         same = λ b none. others.others b (all_apart (fresh.0 ∷ fresh.1 ∷ []) b (omega arith));
-        contents = (content_same t.disk (with_blocks blocks t.disk) x.at first_same second_same ∙ held_there, tt);
+        contents = (content_same t.disk (with_blocks blocks t.disk) x.at first_same second_same ∙ (each_from (λ (z : Pair). content_at t.disk z.at ≡ Some z.content) w (x ∷ []) (recursion_from_All (λ (z : Pair). content_at t.disk z.at ≡ Some z.content) (thread_at w (x ∷ [])) accepted.thread.contents)).0, tt);
         first = λ h b. subst (λ o. BeginsWith o superblock_entry) (sym (ap₂ current_of_two first_same second_same)) b;
       }
 
@@ -174,12 +139,8 @@ module _ (t : KeptThread) (ready : IsReadyImage t) (last : ℕ) (chain before le
       ∙ ap (λ (g : Pair). thread_at w (record { at = (thread_pair t last).at; content = is.content } ∷ g ∷ [])) behind_is
       ∙ ap (λ (c : PairContent). thread_at w (record { at = (thread_pair t last).at; content = c } ∷ f ∷ [])) same
       ∙ ap (λ (at : ℕ × ℕ). thread_at w (record { at = at; content = y.content } ∷ f ∷ [])) (at_is t last w x e.there e.place) in
-      let contents = recursion_from_All (λ (z : Pair). content_at new.disk z.at ≡ Some z.content) (thread_at w (y ∷ f ∷ []))
-      (subst (All (λ (z : Pair). content_at new.disk z.at ≡ Some z.content)) pairs is.thread.contents) in
-      let here = each_right (λ (z : Pair). content_at new.disk z.at ≡ Some z.content) (before ++ left) (y ∷ f ∷ after)
-      (each_right (λ (z : Pair). content_at new.disk z.at ≡ Some z.content) chain ((before ++ left) ++ (y ∷ f ∷ after)) contents) in
-      let shape : SameGeometryAs t.disk new.disk = record { block_size = writes.shape.block_size; page = writes.shape.page; order = writes.shape.order; profile = writes.shape.profile; count = writes.shape.count } in
-      let step = step_from new.disk (placed_from new.disk shape writes.others here.0 here.1.0 (subst (λ (c : PairContent). KeepsSuperblockFirst t.disk (thread_pair t last).at c new.disk) same is.first)) in
+      let step = step_from new.disk (beside.written_now t ready last w x e.there e.place fresh two new w y.content f.content pairs is.thread.contents
+      (subst (λ (c : PairContent). KeepsSuperblockFirst t.disk (thread_pair t last).at c new.disk) same is.first) writes) in
       record {
         step = step;
         pairs = pairs;
@@ -189,7 +150,7 @@ module _ (t : KeptThread) (ready : IsReadyImage t) (last : ℕ) (chain before le
             (λ b. used_count_now t.disk new.disk w x y (f ∷ []) x.content.slots [] [] step.no_move step.still_none step.device refl (sym (append-nil x.content.slots)) refl (λ b. refl) b)
             (subst (λ z. AreUsed t.map (used_blocks t.disk z)) e.there ready.used)));
         map = is.map;
-        size = ap length is.map ∙ length_now t.map fresh two ∙ ready.size ∙ sym shape.count;
+        size = ap length is.map ∙ length_now t.map fresh two ∙ ready.size ∙ sym writes.shape.count;
       }
 
   -- ---- what it shows
@@ -216,20 +177,16 @@ module _ (t : KeptThread) (ready : IsReadyImage t) (last : ℕ) (chain before le
         → HasEitherTree (with_blocks left_blocks t.disk) (disk_tree t.disk t.pairs) tree
     left_threading blocks tree is = go is.content
       where
-        disk : Disk
-        disk = with_blocks blocks t.disk
-
-        shape : SameGeometryAs t.disk (with_blocks blocks t.disk)
-        shape = record { block_size = refl; page = refl; order = refl; profile = refl; count = is.others.count }
-
         go : HasOldPair held last (with_blocks blocks t.disk) ⊎ ThreadedInOnDisk held last fresh (threading_changes t last fresh) (with_blocks blocks t.disk) → HasEitherTree (with_blocks blocks t.disk) (disk_tree t.disk t.pairs) tree
-        go (inl b) = left_still t.disk blocks (thread_at w (x ∷ [])) accepted_there writable_there
-            (device t.disk (with_blocks blocks t.disk) w x x [] (fresh.0 ∷ fresh.1 ∷ []) accepted_there distinct (placed_still t last w x e.there e.place (with_blocks blocks t.disk) fresh shape is.others (record { holds = b.holds; first = b.first })))
-            (inl (ap (disk_tree t.disk) (sym e.there)))
+        go (inl b) = beside.left_old t ready last w x e.there e.place fresh two blocks is.others b
         go (inr j) =
-            let at = at_is t last w x e.there e.place in
             let c = made_same j.content j.made in
-            let step = step_from (with_blocks blocks t.disk) (placed_from (with_blocks blocks t.disk) shape is.others (ap (content_at (with_blocks blocks t.disk)) (sym at) ∙ j.holds ∙ ap (λ (z : PairContent). Some z) c)
-            (j.behind ∙ ap (λ (z : Pair). Some z.content) behind_is) (subst (λ (z : PairContent). KeepsSuperblockFirst t.disk (thread_pair t last).at z (with_blocks blocks t.disk)) c j.first)) in
+            let step = step_from (with_blocks blocks t.disk) (record {
+              shape = shape_left t blocks is.others.count;
+              others = is.others;
+              here = j.holds ∙ ap (λ (z : PairContent). Some z) c;
+              behind = j.behind ∙ ap (λ (z : Pair). Some z.content) behind_is;
+              first = subst (λ (z : PairContent). KeepsSuperblockFirst t.disk (thread_pair t last).at z (with_blocks blocks t.disk)) c j.first;
+            }) in
             subst (λ z. HasEitherTree (with_blocks blocks t.disk) (disk_tree t.disk z) tree) (sym e.there)
             (taken_before t.disk (thread_at w (x ∷ [])) (with_blocks blocks t.disk) (thread_at w (y ∷ ([] ++ f ∷ []))) (λ d. d) tree (first_taken (with_blocks blocks t.disk) step))

@@ -1,13 +1,15 @@
 -- The end of a set move where the pair goes with the slot, as a step of the thread.
-use Rattle.lfs_operations.proofs.Common.{ℕ, ◌≡◌, ◌≢◌, ◌⊎◌, inl, inr, ◌-◌, true, false, List, [], ◌∷◌, ◌++◌, length, refl, sym, ap, ap₂, subst, ◌∙◌, arith, append-nil, length-append, remove, subst₂, Disk, CallEvent, MoveStateFits, SurvivesLossSince, PairContent, Gstate, Slot, same_pair, Pair, pairs_gstate, is_hard_tail, count_before_root, IsAccepted, IsWritable, all_directories, disk_tree, used_blocks, SameSlots, alike_append, alike_itself, number_occurrences, HoldsAtLosses-weaker, HasSite, site_of_number, directory_addresses, AnyByRecursion, Site, among_left, among_parts, among_right, thread_at, IsWritableChange, ends_joined, CleanLossLeaves, KeptThread, IsPairWritten, empty_anchor, thread_pair, map_freeing, HasNoMove, CanDropAt, IsPairDropped, LeftByDrop, content_after_drop, CanEndMoveAt, HasEndedMoveAt, continues_directory, gstate_without_move}
+use Rattle.lfs_operations.proofs.Common.{ℕ, ◌≡◌, ◌≢◌, inl, inr, ◌-◌, true, false, List, [], ◌∷◌, ◌++◌, length, refl, sym, ap, ap₂, subst, ◌∙◌, arith, append-nil, length-append, remove, subst₂, Disk, CallEvent, MoveStateFits, SurvivesLossSince, PairContent, Gstate, Slot, same_pair, Pair, pairs_gstate, is_hard_tail, count_before_root, IsAccepted, IsWritable, all_directories, disk_tree, used_blocks, SameSlots, alike_append, alike_itself, number_occurrences, HoldsAtLosses-weaker, HasSite, site_of_number, directory_addresses, AnyByRecursion, Site, thread_at, IsWritableChange, ends_joined, CleanLossLeaves, KeptThread, IsPairWritten, thread_pair, map_freeing, CanDropAt, IsPairDropped, LeftByDrop, content_after_drop, CanEndMoveAt, HasEndedMoveAt, continues_directory, gstate_without_move}
 use Rattle.lfs_operations.proofs.Dropped.{IsToBeDropped, can_drop_pair, device_left, grouped, is, left_dropped, pairs_left, slots_left, state_left, tail_left}
 use Rattle.lfs_operations.proofs.DroppedTails.{remove_next}
-use Rattle.lfs_operations.proofs.MovEnding.{get_from, led_is}
-use Rattle.lfs_operations.proofs.MovEndWhole.{HasTakenOver, IsEndingWhole, whole_count, whole_ended, whole_firsts, whole_chain, whole_leads}
-use Rattle.lfs_operations.proofs.Placing.{left_after}
+use Rattle.lfs_operations.proofs.MovEnding.{led_is}
+use Rattle.lfs_model.proofs.WholeEnds.{HasTakenOver, IsEndingWhole, whole_count, whole_ended, whole_firsts, whole_chain, whole_leads}
+use Rattle.lfs_model.proofs.Placing.{left_after}
 use Rattle.lfs_operations.proofs.Removed.{flag_ends}
-use Rattle.lfs_operations.proofs.RemovedWhole.{only_slot, over_hard, StandsBehind, stands_behind}
-use Rattle.lfs_operations.proofs.RecoverBefore.{go_alike}
+use Rattle.lfs_operations.proofs.RemovedWhole.{only_slot, over_hard}
+use Rattle.lfs_model.proofs.PairsInFront.{StandsBehind, stands_behind}
+use Rattle.lfs_model.proofs.RecoveryLayouts.{GoOnAlike}
+use Rattle.lfs_operations.proofs.AtSite.{among_turned, site_pair, site_place}
 
 sync_state : (g : Gstate) → MoveStateFits (gstate_without_move g)
 sync_state g = record { kind = omega arith; id = omega arith; pair = (omega arith, omega arith) }
@@ -26,7 +28,7 @@ module _ (t : KeptThread) (index id : ℕ) (can : CanEndMoveAt t index id true) 
   u = can.stands.slot
 
   here : thread_pair t index ≡ o
-  here = get_from t.pairs index o empty_anchor h.there
+  here = site_pair t h
 
   held : o.content.slots ≡ u ∷ []
   held =
@@ -51,7 +53,7 @@ module _ (t : KeptThread) (index id : ℕ) (can : CanEndMoveAt t index id true) 
   some_left none = absurd (let z = sym led ∙ ap (λ z. ends_joined false (v.before ++ z)) none ∙ ap (ends_joined false) (append-nil v.before) ∙ flag_ends v.before h.is_site.ends in cc)
 
   before_it : StandsBehind t.pairs v o index
-  before_it = stands_behind t.pairs v o index h.is h.is_site (sym h.number ∙ length-append v.chain (v.before ++ v.left)) some_left
+  before_it = stands_behind t.pairs v o index h.is h.is_site (site_place h) some_left
 
   abbrev x : Pair
   x = before_it.x
@@ -102,22 +104,12 @@ module _ (t : KeptThread) (index id : ℕ) (can : CanEndMoveAt t index id true) 
 
   -- the others stay
   still_there : (z : Pair) → z.content.slots ≡ [] → is_hard_tail z.content.tail ≡ false → AnyByRecursion (λ y. y ≡ z) t.pairs → AnyByRecursion (λ y. y ≡ z) (thread_at w (q ∷ []))
-  still_there z none soft among = subst (AnyByRecursion (λ y. y ≡ z)) (sym (grouped dropping (q ∷ []))) (go (among_parts (λ y. y ≡ z) ahead (x ∷ o ∷ back) (subst (AnyByRecursion (λ y. y ≡ z)) (is dropping) among)))
+  still_there z none soft among = among_turned (λ y. y ≡ z) w (x ∷ o ∷ []) (q ∷ []) gone (subst (AnyByRecursion (λ y. y ≡ z)) there among)
     where
-      ahead : List Pair
-      ahead = w.chain ++ (w.before ++ w.left)
-
-      back : List Pair
-      back = w.right ++ w.after
-
-      behind : AnyByRecursion (λ y. y ≡ z) (x ∷ o ∷ back) → AnyByRecursion (λ y. y ≡ z) (q ∷ back)
-      behind (inl e) = absurd (let k = sym before_it.hard ∙ ap (λ (y : Pair). is_hard_tail y.content.tail) e ∙ soft in cc)
-      behind (inr (inl e)) = absurd (let k = sym held ∙ ap (λ (y : Pair). y.content.slots) e ∙ none in cc)
-      behind (inr (inr a)) = inr a
-
-      go : AnyByRecursion (λ y. y ≡ z) ahead ⊎ AnyByRecursion (λ y. y ≡ z) (x ∷ o ∷ back) → AnyByRecursion (λ y. y ≡ z) (ahead ++ q ∷ back)
-      go (inl a) = among_left (λ y. y ≡ z) ahead (q ∷ back) a
-      go (inr a) = among_right (λ y. y ≡ z) ahead (q ∷ back) (behind a)
+      gone : AnyByRecursion (λ y. y ≡ z) (x ∷ o ∷ []) → AnyByRecursion (λ y. y ≡ z) (q ∷ [])
+      gone (inl e) = absurd (let k = sym before_it.hard ∙ ap (λ (y : Pair). is_hard_tail y.content.tail) e ∙ soft in cc)
+      gone (inr (inl e)) = absurd (let k = sym held ∙ ap (λ (y : Pair). y.content.slots) e ∙ none in cc)
+      gone (inr (inr a)) = inr a
 
   pub has_gone : (new : KeptThread) → IsPairDropped t (index - 1) (gstate_without_move (pairs_gstate t.pairs)) new → HasEndedMoveAt t index id true new
   has_gone new d =
@@ -143,7 +135,7 @@ module _ (t : KeptThread) (index id : ℕ) (can : CanEndMoveAt t index id true) 
         shape = d.written.shape;
         begins = ap (λ z. directory_addresses (all_directories z)) pairs ∙ whole_firsts t.disk w x o u ending new.disk q over ∙ ap (λ z. directory_addresses (all_directories z)) (sym there);
         root = root;
-        leads_on = whole_leads t.disk w x o u ending new.disk q over t new (go_alike t new all.follows d.written.shape) (subst HasNoMove (sym d.gstate) (record { kind = refl; id = refl; pair = refl })) root there pairs before_it.hard;
+        leads_on = subst₂ (λ a z. GoOnAlike t.disk a new.disk z) (sym there) (sym pairs) (whole_leads t.disk w x o u ending new.disk q over before_it.hard);
         kept = λ z none soft among. subst (AnyByRecursion (λ y. y ≡ z)) (sym pairs) (still_there z none soft among);
       }
 

@@ -1,17 +1,14 @@
 -- The end of a set move, as a step of the thread.
-use Rattle.lfs_operations.proofs.Common.{ℕ, zero, suc, ◌≡◌, ◌≢◌, ◌-◌, ◌<◌, ◌⊎◌, inl, inr, true, false, take, List, [], ◌∷◌, Option, ◌++◌, length, Some, refl, sym, ap, ap₂, subst, ◌∙◌, arith, length-append, remove, get_or, slice_get, sum_by, subst₂, xor_lt, same_Some, recursion_from_All, sum_by-append, sum_by-cons, Blocks, Delete, PutMove, content_with_changes, RawContent, content_at, raw_content, complete_content, Disk, CallEvent, AreWords, MoveStateFits, HasEitherTree as IsLeftOf, SurvivesLossSince, with_blocks, Slot, FitsInPair, Gstate, Tail, gstate_xor, same_pair, slot_size, Pair, pairs_gstate, tail_target, count_before_root, IsAccepted, IsWritable, all_directories, disk_tree, used_blocks, SameSlots, alike_itself, IsCompleted, complete_length, complete_remove, completed_parts, completed_from, Each, each_right, number_occurrences, deletes, does_first, does_nothing, puts_move, HoldsAtLosses-weaker, HasSite, site_of_number, directory_addresses, remove_here, AnyByRecursion, Site, among_left, among_parts, among_right, dirs_at, thread_at, IsWritableChange, pairs_behind, ends_joined, CleanLossLeaves, KeptThread, CanChangePair, IsPairCommitted, LossLeavesPair, RefusesChanges, BeginWithSuperblock, complete_after, empty_anchor, thread_pair, pairs_with_content, pairs_without_moved, HasNoMove, option_and_then, CanEndMoveAt, HasEndedMoveAt, content_move_ended, ending_changes, continues_directory, gstate_without_sync, delta_without_move, gstate_without_move}
+use Rattle.lfs_operations.proofs.Common.{ℕ, ◌≡◌, ◌≢◌, ◌-◌, ◌<◌, ◌⊎◌, inl, inr, true, false, take, List, [], ◌∷◌, Option, ◌++◌, length, Some, refl, sym, ap, ap₂, subst, ◌∙◌, arith, length-append, remove, subst₂, xor_lt, same_Some, recursion_from_All, Blocks, Delete, PutMove, content_with_changes, RawContent, content_at, raw_content, complete_content, Disk, CallEvent, AreWords, MoveStateFits, HasEitherTree as IsLeftOf, SurvivesLossSince, with_blocks, Slot, FitsInPair, Gstate, Tail, gstate_xor, same_pair, Pair, pairs_gstate, tail_target, count_before_root, IsAccepted, IsWritable, all_directories, disk_tree, used_blocks, SameSlots, alike_itself, IsCompleted, complete_length, complete_remove, completed_parts, completed_from, Each, number_occurrences, deletes, does_first, does_nothing, puts_move, HoldsAtLosses-weaker, HasSite, site_of_number, directory_addresses, remove_here, AnyByRecursion, Site, dirs_at, thread_at, IsWritableChange, pairs_behind, ends_joined, CleanLossLeaves, KeptThread, CanChangePair, IsPairCommitted, LossLeavesPair, RefusesChanges, BeginWithSuperblock, complete_after, thread_pair, pairs_with_content, option_and_then, CanEndMoveAt, HasEndedMoveAt, content_move_ended, ending_changes, continues_directory, gstate_without_sync, delta_without_move, gstate_without_move}
 use Rattle.lfs_operations.proofs.Held.{CompletesTo, completes_to}
-use Rattle.lfs_operations.proofs.MovEnd.{IsEnding, ended, ended_count, ended_firsts, ended_state, ended_chain, ended_kin}
-use Rattle.lfs_operations.proofs.MovSet.{HasTurned}
+use Rattle.lfs_model.proofs.MoveEnds.{IsEnding, ended, ended_count, ended_firsts, ended_state, ended_chain, ended_leads}
+use Rattle.lfs_model.proofs.SetMoves.{HasTurned}
 use Rattle.lfs_operations.proofs.MovTurned.{ChangedOne, IsTurn, Stays, changed_one, content_with, left_alone}
-use Rattle.lfs_operations.proofs.Placing.{left_after, left_still}
-use Rattle.lfs_operations.proofs.Threads.{take_front}
-use Rattle.lfs_operations.proofs.RecoverBefore.{AreKin, go_alike, laid_out_kin}
-
-pub get_from : (xs : List Pair) (i : ℕ) (p d : Pair) → slice_get xs i ≡ Some p → get_or xs i d ≡ p
-get_from [] i p d e = absurd (cc)
-get_from (x ∷ xs) zero p d e = same_Some x p e
-get_from (x ∷ xs) (suc i) p d e = get_from xs i p d e
+use Rattle.lfs_model.proofs.Placing.{left_after, left_still}
+use Rattle.lfs_model.proofs.PairLists.{take_front}
+use Rattle.lfs_model.proofs.RecoveryLayouts.{GoOnAlike}
+use Rattle.lfs_operations.proofs.AtSite.{among_turned, each_from, site_pair, site_place}
+use Rattle.lfs_operations.proofs.Replacing.{fits_replaced}
 
 pub led_is : (w : Site) (p : Pair) (i : ℕ) → count_before_root (thread_at w (p ∷ [])) ≡ length w.chain → length (w.chain ++ (w.before ++ w.left)) ≡ i → continues_directory (thread_at w (p ∷ [])) i ≡ ends_joined false (w.before ++ w.left)
 led_is w p i chain number =
@@ -29,7 +26,7 @@ module _ (t : KeptThread) (pair id : ℕ) (can : CanEndMoveAt t pair id false) (
   p = h.pair
 
   here : thread_pair t pair ≡ p
-  here = get_from t.pairs pair p empty_anchor h.there
+  here = site_pair t h
 
   abbrev l : List Slot
   l = can.stands.left
@@ -49,7 +46,7 @@ module _ (t : KeptThread) (pair id : ℕ) (can : CanEndMoveAt t pair id false) (
   -- ---- what the changes make
 
   at_site : (P : Pair → Type 0) → Each P t.pairs → P p
-  at_site P e = (each_right P (w.before ++ w.left) (p ∷ [] ++ (w.right ++ w.after)) (each_right P w.chain (dirs_at w (p ∷ [])) (subst (Each P) h.is e))).0
+  at_site P e = (each_from P w (p ∷ []) (subst (Each P) h.is e)).0
 
   c : CompletesTo (raw_content t.disk (thread_pair t pair).at) p.content
   c = completes_to (raw_content t.disk (thread_pair t pair).at) p.content (ap (λ (z : Pair). content_at t.disk z.at) here
@@ -112,18 +109,7 @@ module _ (t : KeptThread) (pair id : ℕ) (can : CanEndMoveAt t pair id false) (
 
   -- what is left fits
   still_fits : FitsInPair t.disk.block_size t.disk.page (content_with p (l ++ r) move)
-  still_fits =
-      let f = fits_there in
-      let a = ap (sum_by slot_size) held in
-      let b = sum_by-append slot_size l (u ∷ r) in
-      let d = sum_by-cons slot_size u r in
-      let g = sum_by-append slot_size l r in
-      let i = ap length held in
-      let j = length-append l (u ∷ r) in
-      let k = length-append l r in
-      let s = f.size in
-      let n = f.count in
-      record { size = omega arith; count = omega arith }
+  still_fits = fits_replaced t.disk.block_size t.disk.page p.content (content_with p (l ++ r) move) l (u ∷ []) [] r held refl (omega arith) (omega arith) fits_there
 
   pub end_not_refused : (new : KeptThread) → RefusesChanges t pair (ending_changes t pair id) new → ⊥
   end_not_refused new is = is.too_large (subst (FitsInPair t.disk.block_size t.disk.page) (sym (same_Some is.content (content_with p (l ++ r) move) (sym is.made ∙ made))) still_fits)
@@ -138,7 +124,7 @@ module _ (t : KeptThread) (pair id : ℕ) (can : CanEndMoveAt t pair id false) (
   turn = record {
     accepted = can.accepted;
     there = h.is;
-    place = sym h.number ∙ length-append w.chain (w.before ++ w.left);
+    place = site_place h;
     site = h.is_site;
     made = made;
     first = λ e. first_kept l (subst BeginWithSuperblock held (e.kind, e.name));
@@ -182,23 +168,15 @@ module _ (t : KeptThread) (pair id : ℕ) (can : CanEndMoveAt t pair id false) (
 
   -- the others stay
   still_there : (z : Pair) → z.content.slots ≡ [] → AnyByRecursion (λ y. y ≡ z) (thread_at w (p ∷ [])) → AnyByRecursion (λ y. y ≡ z) (thread_at w (q_of ∷ []))
-  still_there z none among = past (among_parts (λ y. y ≡ z) w.chain (dirs_at w (p ∷ [])) among)
+  still_there z none among = among_turned (λ y. y ≡ z) w (p ∷ []) (q_of ∷ []) gone among
     where
       has_none : (xs : List Slot) → xs ++ u ∷ r ≡ [] → ⊥
       has_none [] e = absurd (cc)
       has_none (s ∷ xs) e = absurd (cc)
 
-      behind : AnyByRecursion (λ y. y ≡ z) (p ∷ (w.right ++ w.after)) → AnyByRecursion (λ y. y ≡ z) (q_of ∷ (w.right ++ w.after))
-      behind (inl is) = absurd (has_none l (sym held ∙ ap (λ (y : Pair). y.content.slots) is ∙ none))
-      behind (inr a) = inr a
-
-      within_dirs : AnyByRecursion (λ y. y ≡ z) (w.before ++ w.left) ⊎ AnyByRecursion (λ y. y ≡ z) (p ∷ (w.right ++ w.after)) → AnyByRecursion (λ y. y ≡ z) (thread_at w (q_of ∷ []))
-      within_dirs (inl a) = among_right (λ y. y ≡ z) w.chain (dirs_at w (q_of ∷ [])) (among_left (λ y. y ≡ z) (w.before ++ w.left) (q_of ∷ (w.right ++ w.after)) a)
-      within_dirs (inr a) = among_right (λ y. y ≡ z) w.chain (dirs_at w (q_of ∷ [])) (among_right (λ y. y ≡ z) (w.before ++ w.left) (q_of ∷ (w.right ++ w.after)) (behind a))
-
-      past : AnyByRecursion (λ y. y ≡ z) w.chain ⊎ AnyByRecursion (λ y. y ≡ z) (dirs_at w (p ∷ [])) → AnyByRecursion (λ y. y ≡ z) (thread_at w (q_of ∷ []))
-      past (inl a) = among_left (λ y. y ≡ z) w.chain (dirs_at w (q_of ∷ [])) a
-      past (inr a) = within_dirs (among_parts (λ y. y ≡ z) (w.before ++ w.left) (p ∷ (w.right ++ w.after)) a)
+      gone : AnyByRecursion (λ y. y ≡ z) (p ∷ []) → AnyByRecursion (λ y. y ≡ z) (q_of ∷ [])
+      gone (inl is) = absurd (has_none l (sym held ∙ ap (λ (y : Pair). y.content.slots) is ∙ none))
+      gone (inr a) = inr a
 
   pub has_ended : (new : KeptThread) → IsPairCommitted t pair (ending_changes t pair id) new → HasEndedMoveAt t pair id false new
   has_ended new is = go (changed_one t pair (ending_changes t pair id) w p (l ++ r) move turn new is)
@@ -219,8 +197,7 @@ module _ (t : KeptThread) (pair id : ℕ) (can : CanEndMoveAt t pair id false) (
             shape = x.shape;
             begins = ap (λ z. directory_addresses (all_directories z)) x.pairs ∙ ended_firsts t.disk w p l u r ending new.disk q_of y ∙ ap (λ z. directory_addresses (all_directories z)) (sym h.is);
             root = root;
-            leads_on = laid_out_kin t new (go_alike t new all.follows x.shape) (subst HasNoMove (sym state) (record { kind = refl; id = refl; pair = refl })) root
-                (subst (λ z. AreKin (pairs_without_moved z) new.pairs) (sym h.is) (subst (AreKin (pairs_without_moved (thread_at w (p ∷ [])))) (sym x.pairs) (ended_kin t.disk w p l u r ending new.disk q_of y)));
+            leads_on = subst₂ (λ a z. GoOnAlike t.disk a new.disk z) (sym h.is) (sym x.pairs) (ended_leads t.disk w p l u r ending new.disk q_of y);
             kept = λ z none soft among. subst (AnyByRecursion (λ y. y ≡ z)) (sym x.pairs) (still_there z none (subst (AnyByRecursion (λ y. y ≡ z)) h.is among));
           }
 

@@ -1,28 +1,29 @@
 -- A rename across pairs after the old slot was read.
-use Rattle.lfs_operations.proofs.Common.{ℕ, ◌≡◌, ◌⊎◌, ◌<◌, length, inl, inr, Bool, true, false, List, ◌∷◌, ◌++◌, Option, None, Some, Result, Err, refl, sym, ap, ap₂, subst, ◌∙◌, arith, ContentChange, PutMove, Disk, Blocks, Slot, Pair, Site, Gstate, Path, Tree, gstate_xor, pairs_blocks, with_blocks, HasEitherTree, fault_count, Name, SurvivesLossSince, disk_tree, AreWords, survives_then, LossLeavesAtWorst-read, HoldsAtLosses-read_count, HoldsAtLosses-trans, HoldsAtLosses-weaker, OnlyReadsSince-trans, StayUnprogrammed-read_count, StayUnprogrammed-trans, KeptThread, ThreadView, ThreadReportsErrors, OnlyReadsThread, thread_pair, IfErr, Error, Io, NoMemory, NoSpace, ArePut, LeftByPut, OverfillsPair, HasTwoFree, has_failed_after, CanEditIn, CanEndAfterPut, ArePutAndEnded, SurvivesCommits, ReportsTakingCommits, WritesPairsTwo, tree_moved, CanMoveAcross, removal_changes, moving_changes, tree_across, gstate_naming, IsReadyImage, nameless_at, NamelessSlot, slot_changes}
+use Rattle.lfs_operations.proofs.Common.{ℕ, ◌≡◌, ◌⊎◌, ◌<◌, length, inl, inr, Bool, true, false, List, ◌∷◌, ◌++◌, Option, None, Some, Result, Err, refl, sym, ap, ap₂, subst, ◌∙◌, arith, ContentChange, PutMove, Disk, Blocks, Slot, Pair, Site, Gstate, Path, Tree, gstate_xor, pairs_blocks, with_blocks, HasEitherTree, fault_count, Name, SurvivesLossSince, disk_tree, AreWords, survives_then, HoldsAtLosses-weaker, OnlyReadsSince-trans, KeptThread, ThreadView, ThreadReportsErrors, OnlyReadsThread, thread_pair, IfErr, Error, Io, NoMemory, ArePut, LeftByPut, OverfillsPair, HasTwoFree, has_failed_after, CanEditIn, CanEndAfterPut, ArePutAndEnded, SurvivesCommits, ReportsTakingCommits, WritesPairsTwo, tree_moved, CanMoveAcross, removal_changes, moving_changes, tree_across, gstate_naming, IsReadyImage, nameless_at, NamelessSlot, slot_changes}
 use Rattle.lfs_operations.proofs.Held.{below}
 use Rattle.lfs_operations.proofs.MovPlaced.{IsAimed}
 use Rattle.lfs_operations.proofs.MovRename.{aimed_new}
 use Rattle.lfs_operations.proofs.MovReplace.{aimed_onto}
-use Rattle.lfs_operations.proofs.MovReporting.{writes_first}
+use Rattle.lfs_operations.proofs.MovReporting.{writes_first, reports_spaced}
 use Rattle.lfs_operations.proofs.Putting.{read_is, with_history}
-use Rattle.lfs_operations.proofs.RenameRead.{left_earlier, moves_unread, put_earlier, read_survives, read_writes}
-use Rattle.lfs_operations.proofs.RenameReadOver.{writes_earlier}
+use Rattle.lfs_operations.proofs.RenameRead.{left_earlier, put_earlier, read_survives, read_writes}
+use Rattle.lfs_operations.proofs.RenameReadOver.{writes_earlier, reported_again}
 
 -- ---- the steps
 
-pub changes_are : (t mid : KeptThread) (only : OnlyReadsThread t mid) (replaces sync : Bool) (old_pair old_id new_pair new_id : ℕ) (name : Name) {cs : List ContentChange} {m : Gstate} {z : NamelessSlot} → cs ≡ PutMove m ∷ (removal_changes replaces new_id ++ slot_changes new_id name z)
+pub changes_are : {t mid : KeptThread} (only : OnlyReadsThread t mid) (replaces sync : Bool) (old_pair old_id new_pair new_id : ℕ) (name : Name) {cs : List ContentChange} {m : Gstate} {z : NamelessSlot} → cs ≡ PutMove m ∷ (removal_changes replaces new_id ++ slot_changes new_id name z)
     → m ≡ gstate_xor (gstate_naming sync (thread_pair mid old_pair).at old_id) (thread_pair mid new_pair).content.move → z ≡ nameless_at t old_pair old_id → cs ≡ moving_changes replaces sync t old_pair old_id new_pair new_id name
-changes_are t mid only replaces sync old_pair old_id new_pair new_id name are move parts =
+changes_are {t = t} {mid = mid} only replaces sync old_pair old_id new_pair new_id name are move parts =
     are ∙ ap₂ (λ m z. PutMove m ∷ (removal_changes replaces new_id ++ slot_changes new_id name z))
     (move ∙ ap (λ k. gstate_xor (gstate_naming sync (thread_pair k old_pair).at old_id) (thread_pair k new_pair).content.move) (read_is t mid only)) parts
 
-module _ (t mid : KeptThread) (only : OnlyReadsThread t mid) (old_pair old_id : ℕ) (goes : Bool) (new_pair : ℕ) (changes : List ContentChange) where
-  pub ends_after_read : (last : KeptThread) → CanEndAfterPut t old_pair old_id goes new_pair last → CanEndAfterPut mid old_pair old_id goes new_pair last
-  ends_after_read last x = subst (λ k. CanEndAfterPut k old_pair old_id goes new_pair last) (sym (read_is t mid only)) (record { apart = x.apart; grown = x.grown; can = x.can; at = x.at })
+pub ends_after_read : {t mid last : KeptThread} (only : OnlyReadsThread t mid) {old_pair old_id : ℕ} {goes : Bool} {new_pair : ℕ} → CanEndAfterPut t old_pair old_id goes new_pair last → CanEndAfterPut mid old_pair old_id goes new_pair last
+ends_after_read {t = t} {mid = mid} {last = last} only {old_pair = old_pair} {old_id = old_id} {goes = goes} {new_pair = new_pair} x =
+    subst (λ k. CanEndAfterPut k old_pair old_id goes new_pair last) (sym (read_is t mid only)) (record { apart = x.apart; grown = x.grown; can = x.can; at = x.at })
 
-  pub done_after_read : (new : KeptThread) → ArePutAndEnded mid old_pair old_id goes new_pair changes new → ArePutAndEnded t old_pair old_id goes new_pair changes new
-  done_after_read new is = earlier (subst (λ k. ArePutAndEnded k old_pair old_id goes new_pair changes new) (read_is t mid only) is)
+module _ {t mid new : KeptThread} (only : OnlyReadsThread t mid) {new_pair : ℕ} {changes : List ContentChange} where
+  pub done_after_read : {old_pair old_id : ℕ} {goes : Bool} → ArePutAndEnded mid old_pair old_id goes new_pair changes new → ArePutAndEnded t old_pair old_id goes new_pair changes new
+  done_after_read {old_pair = old_pair} {old_id = old_id} {goes = goes} is = earlier (subst (λ k. ArePutAndEnded k old_pair old_id goes new_pair changes new) (read_is t mid only) is)
     where
       earlier : ArePutAndEnded (with_history t mid.history) old_pair old_id goes new_pair changes new → ArePutAndEnded t old_pair old_id goes new_pair changes new
       earlier f = record {
@@ -40,10 +41,10 @@ module _ (t mid : KeptThread) (only : OnlyReadsThread t mid) (old_pair old_id : 
         };
       }
 
-  pub survives_after_read : (one : ℕ) (new : KeptThread) (after : Tree) → WritesPairsTwo mid one new_pair new → SurvivesCommits mid new_pair changes new → IsReadyImage t
+  pub survives_after_read : {one : ℕ} {after : Tree} → WritesPairsTwo mid one new_pair new → SurvivesCommits mid new_pair changes new → IsReadyImage t
       → ((left : Blocks) → LeftByPut t new_pair changes left → HasEitherTree (with_blocks left t.disk) (disk_tree t.disk t.pairs) after) → ((last : KeptThread) → ArePut t new_pair changes last → disk_tree last.disk last.pairs ≡ after)
       → SurvivesLossSince t.disk t.history new.history (disk_tree t.disk t.pairs) after
-  survives_after_read one new after w both ready left shows =
+  survives_after_read {after = after} w both ready left shows =
       survives_then t.disk t.history mid.history new.history (disk_tree t.disk t.pairs) after only.reads w.writes.at_worst (read_survives t mid.history only.reads ready after)
       (subst (λ k. SurvivesCommits k new_pair changes new) (read_is t mid only) both (disk_tree t.disk t.pairs) after
       (λ calls stops clean. HoldsAtLosses-weaker (λ blocks l. left blocks (left_earlier t mid.history only.reads new_pair changes blocks l)) (stops clean))
@@ -51,23 +52,14 @@ module _ (t mid : KeptThread) (only : OnlyReadsThread t mid) (old_pair old_id : 
 
 -- ---- where the entry comes
 
--- the image may be changed, and there are pairs of these numbers
-pub record StandsAcross (t : KeptThread) (old_pair new_pair : ℕ) : Type 0 where
-  pub ready : IsReadyImage t
-  pub old_below : old_pair < length t.pairs
-  pub new_below : new_pair < length t.pairs
+pub old_of : (t : KeptThread) (replaces sync : Bool) (old_pair old_id first new_pair new_id : ℕ) (name : Name) → CanMoveAcross t replaces sync old_pair old_id first new_pair new_id name → CanEditIn t old_pair old_id
+old_of t false sync old_pair old_id first new_pair new_id name rename = rename.old
+old_of t true sync old_pair old_id first new_pair new_id name rename = rename.old
 
-pub stands_across : (t : KeptThread) (replaces sync : Bool) (old_pair old_id first new_pair new_id : ℕ) (name : Name) → CanMoveAcross t replaces sync old_pair old_id first new_pair new_id name → StandsAcross t old_pair new_pair
-stands_across t false sync old_pair old_id first new_pair new_id name rename = record {
-  ready = rename.old.ready;
-  old_below = below t rename.old.ready rename.old.first old_pair rename.old.stands.pair rename.old.stands.rest rename.old.stands.place;
-  new_below = below t rename.old.ready rename.to_first new_pair rename.belongs.pair (rename.belongs.later ++ rename.belongs.rest) rename.belongs.place;
-}
-stands_across t true sync old_pair old_id first new_pair new_id name rename = record {
-  ready = rename.old.ready;
-  old_below = below t rename.old.ready rename.old.first old_pair rename.old.stands.pair rename.old.stands.rest rename.old.stands.place;
-  new_below = below t rename.old.ready rename.to_first new_pair rename.target.pair rename.target.rest rename.target.place;
-}
+-- there is a pair of the new number
+pub new_below : (t : KeptThread) (replaces sync : Bool) (old_pair old_id first new_pair new_id : ℕ) (name : Name) → CanMoveAcross t replaces sync old_pair old_id first new_pair new_id name → new_pair < length t.pairs
+new_below t false sync old_pair old_id first new_pair new_id name rename = below t rename.old.ready rename.to_first new_pair rename.belongs.pair (rename.belongs.later ++ rename.belongs.rest) rename.belongs.place
+new_below t true sync old_pair old_id first new_pair new_id name rename = below t rename.old.ready rename.to_first new_pair rename.target.pair rename.target.rest rename.target.place
 
 -- what is known of it, to a new name and onto an entry
 pub record HasAim (t : KeptThread) (replaces sync : Bool) (old_pair old_id first new_pair new_id : ℕ) (name : Name) (after : Tree) : Type 0 where
@@ -81,9 +73,9 @@ pub record HasAim (t : KeptThread) (replaces sync : Bool) (old_pair old_id first
   pub aimed : IsAimed t replaces sync old_pair old_id first new_pair new_id name old path w p l target r
   pub is : tree_moved t old.path old.name path name ≡ after
 
-pub aim : (t mid : KeptThread) → OnlyReadsThread t mid → (replaces sync : Bool) (old_pair old_id first new_pair new_id : ℕ) (name : Name) (rename : CanMoveAcross t replaces sync old_pair old_id first new_pair new_id name) → AreWords (thread_pair mid old_pair).at
+pub aim : {t mid : KeptThread} → OnlyReadsThread t mid → (replaces sync : Bool) (old_pair old_id first new_pair new_id : ℕ) (name : Name) (rename : CanMoveAcross t replaces sync old_pair old_id first new_pair new_id name) → AreWords (thread_pair mid old_pair).at
     → HasAim t replaces sync old_pair old_id first new_pair new_id name (tree_across t replaces sync old_pair old_id first new_pair new_id name rename)
-aim t mid only replaces sync old_pair old_id first new_pair new_id name rename address = go replaces rename
+aim {t = t} {mid = mid} only replaces sync old_pair old_id first new_pair new_id name rename address = go replaces rename
   where
     there : AreWords (thread_pair t old_pair).at
     there = subst (λ k. AreWords (thread_pair k old_pair).at) (read_is t mid only) address
@@ -102,9 +94,9 @@ only_then a b c x y = record {
   map = y.map ∙ x.map;
 }
 
-pub reports_after_read : {X : Type 0} (old mid new : ThreadView) (index : ℕ) (changes : List ContentChange) (r : Result X Error) → OnlyReadsThread old.kept mid.kept → fault_count mid.kept.history ≡ fault_count old.kept.history
+pub reports_after_read : {X : Type 0} {old mid new : ThreadView} {index : ℕ} {changes : List ContentChange} {r : Result X Error} → OnlyReadsThread old.kept mid.kept → fault_count mid.kept.history ≡ fault_count old.kept.history
     → ReportsTakingCommits mid new index changes r → ReportsTakingCommits old new index changes r
-reports_after_read old mid new index changes r only same h = record {
+reports_after_read {old = old} {mid = mid} {new = new} {index = index} {changes = changes} {r = r} only same h = record {
   failed = go h.failed;
   errors = h.errors;
   fault = λ io. (let k = h.fault io in omega (arith, k, same));
@@ -119,50 +111,22 @@ reports_after_read old mid new index changes r only same h = record {
     go (inr (e, o)) = inr (e, only_then old.kept mid.kept new.kept only o)
 
 -- the slot wasn't read
-pub reports_unread : {X Y : Type 0} (old new : ThreadView) (index : ℕ) (changes : List ContentChange) (e : Error) (result : Result X Error) (given : Result Y Error) → result ≡ Err e → given ≡ Err e
+pub reports_unread : {X Y : Type 0} {old new : ThreadView} {index : ℕ} {changes : List ContentChange} {e : Error} {result : Result X Error} {given : Result Y Error} → result ≡ Err e → given ≡ Err e
     → new.failed ≡ false → OnlyReadsThread old.kept new.kept → ThreadReportsErrors old.kept new.kept result → ReportsTakingCommits old new index changes given
-reports_unread old new index changes e result given is same works only reported =
-    let unread = moves_unread old new index changes e result given is same works only reported in
-    record {
-      failed = inr (works, only);
-      errors = unread.reports.errors;
-      fault = unread.reports.fault;
-      no_fault = unread.reports.no_fault;
-      unchanged = λ none. only;
-      no_space = unread.reports.no_space;
-      too_large = unread.too_large;
-    }
+reports_unread {old = old} {new = new} {index = index} {changes = changes} {e = e} {result = result} {given = given} is same works only reported =
+    let again = reported_again old.kept new.kept e result given is same reported in
+    reports_spaced old new index changes given (inr (works, only)) again.errors again.fault again.no_fault
 
 -- no room for the changes
-pub reports_unmade : {Y : Type 0} (old new : ThreadView) (index : ℕ) (changes : List ContentChange) (given : Result Y Error) → given ≡ Err NoMemory → new.failed ≡ false → OnlyReadsThread old.kept new.kept
+pub reports_unmade : {Y : Type 0} {old new : ThreadView} {index : ℕ} {changes : List ContentChange} {given : Result Y Error} → given ≡ Err NoMemory → new.failed ≡ false → OnlyReadsThread old.kept new.kept
     → fault_count new.kept.history ≡ fault_count old.kept.history → ReportsTakingCommits old new index changes given
-reports_unmade old new index changes given same works only none = record {
-  failed = inr (works, only);
-  errors = subst (λ r. IfErr r (λ x. (x ≡ Io) ⊎ ((x ≡ NoMemory) ⊎ (x ≡ NoSpace)))) (sym same) (inr (inl refl));
-  fault = λ io. absurd (let z = sym same ∙ io in cc);
-  no_fault = λ other. none;
-  unchanged = λ e. only;
-  no_space = λ e. absurd (let z = sym same ∙ e in cc);
-  too_large = λ e. absurd (let z = sym same ∙ e in cc);
-}
+reports_unmade {old = old} {new = new} {index = index} {changes = changes} {given = given} same works only none =
+    reports_spaced old new index changes given (inr (works, only)) (subst (λ r. IfErr r (λ x. (x ≡ Io) ⊎ (x ≡ NoMemory))) (sym same) (inr refl)) (λ io. absurd (let z = sym same ∙ io in cc)) (λ other. none)
 
-pub writes_after_read : (t mid new : KeptThread) (one other : ℕ) → OnlyReadsThread t mid → WritesPairsTwo mid one other new → WritesPairsTwo t one other new
-writes_after_read t mid new one other only w =
+pub writes_after_read : {t mid new : KeptThread} {one other : ℕ} → OnlyReadsThread t mid → WritesPairsTwo mid one other new → WritesPairsTwo t one other new
+writes_after_read {t = t} {mid = mid} {new = new} {one = one} {other = other} only w =
     let f = subst (λ k. WritesPairsTwo k one other new) (read_is t mid only) w in
-    earlier f
-  where
-    earlier : WritesPairsTwo (with_history t mid.history) one other new → WritesPairsTwo t one other new
-    earlier f = record {
-      fresh = f.fresh;
-      few = f.few;
-      free = f.free;
-      writes = record {
-        others = f.writes.others;
-        elsewhere = StayUnprogrammed-trans (StayUnprogrammed-read_count ((thread_pair t other).at.0 ∷ (thread_pair t other).at.1 ∷ (thread_pair t one).at.0 ∷ (thread_pair t one).at.1 ∷ f.fresh) only.reads) f.writes.elsewhere;
-        shape = f.writes.shape;
-        at_worst = HoldsAtLosses-trans (HoldsAtLosses-read_count LossLeavesAtWorst-read only.reads (record { count = refl; sizes = λ b. refl; others = λ b apart. refl })) f.writes.at_worst;
-      };
-    }
+    record { fresh = f.fresh; few = f.few; free = f.free; writes = writes_earlier t mid.history new _ only.reads f.writes }
 
-pub writes_read : (t mid : KeptThread) (one other : ℕ) → OnlyReadsThread t mid → WritesPairsTwo t one other mid
-writes_read t mid one other only = writes_first t mid one other (read_writes t mid only other)
+pub writes_read : {t mid : KeptThread} {one other : ℕ} → OnlyReadsThread t mid → WritesPairsTwo t one other mid
+writes_read {t = t} {mid = mid} {one = one} {other = other} only = writes_first t mid one other (read_writes t mid only other)

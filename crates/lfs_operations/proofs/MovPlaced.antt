@@ -1,33 +1,32 @@
 -- An entry that goes to a place in another pair, by a move that is set first.
-use Rattle.lfs_operations.proofs.Common.{◌≢◌, nat_eq, Bool, ℕ, ◌≡◌, ◌+◌, ◌<◌, ◌⊎◌, inl, inr, true, false, List, [], ◌∷◌, ◌++◌, length, Some, refl, sym, ap, subst, ◌∙◌, arith, append-nil, Option, ◌-◌, ◌≤◌, IsDistinct, ContentChange, Disk, IsPairAt, Name, is_valid_name, Slot, gstate_xor, same_pair, Pair, pairs_blocks, pairs_gstate, superblock_first, count_before_root, Path, tree_renaming, IsWritableEntry, IsWritable, IsAccepted, IsTreeEntry, slot_of, IsChangedImage, no_move_from, Each, each_right, last_is, is_site, number_is, same, site, slot_of_stands, thread_is, Site, begin_of, thread_at, IsSite, ends_joined, KeptThread, BeginWithSuperblock, complete_after, thread_pair, IsNoDirectory, target_slots, CanEditIn, gstate_naming, IsRawFormed, drops_emptied_pair, CanPut, ArePut, moving_changes, CanEndMoveAt, HasEndedMoveAt, CanEndAfterPut, ArePutAndEnded, number_after_insertion, tree_moved, disk_tree, ShowsDroppedTree, file_blocks, used_blocks, number_occurrences, Session, path_or_root, CompletesOperation}
-use Rattle.lfs_operations.proofs.Held.{IsEntryIfOther, each_pair, here, other_entries}
-use Rattle.lfs_operations.proofs.MovSet.{HasTurned, IsSetting, chain_same, walk_by}
+use Rattle.lfs_operations.proofs.Common.{◌≢◌, nat_eq, Bool, ℕ, ◌≡◌, ◌+◌, ◌<◌, ◌⊎◌, inl, inr, true, false, List, [], ◌∷◌, ◌++◌, length, Some, refl, sym, ap, subst, ◌∙◌, arith, append-nil, Option, ◌-◌, ◌≤◌, IsDistinct, ContentChange, Disk, IsPairAt, Name, is_valid_name, Slot, gstate_xor, Pair, pairs_blocks, superblock_first, count_before_root, Path, tree_renaming, IsWritableEntry, slot_of, IsChangedImage, no_move_from, last_is, slot_of_stands, Site, thread_at, ends_joined, KeptThread, BeginWithSuperblock, complete_after, thread_pair, IsNoDirectory, target_slots, CanEditIn, gstate_naming, IsRawFormed, drops_emptied_pair, CanPut, ArePut, moving_changes, CanEndMoveAt, HasEndedMoveAt, CanEndAfterPut, ArePutAndEnded, number_after_insertion, tree_moved, disk_tree, ShowsDroppedTree, file_blocks, used_blocks, number_occurrences, Session, path_or_root, CompletesOperation, is_some, ap₂, subst₂, xor_lt, length-append, PutMove, FitsInPair, Gstate, MoveStateFits, AreWords, removal_changes, HasName}
+use Rattle.lfs_operations.proofs.Held.{here}
+use Rattle.lfs_model.proofs.SetMoves.{HasTurned, IsSetting, chain_same, walk_by}
 use Rattle.lfs_operations.proofs.MovStep.{IsFirst, first_turned, grown, mid_ends, mid_shows, rename_becomes, rename_completed, rename_once, same_at}
 use Rattle.lfs_model.specs.session.Operations as ops
 use Rattle.lfs_operations.proofs.MovTurned.{content_with}
 use Rattle.lfs_operations.proofs.Removed.{alone, flag_ends, stays_there}
 use Rattle.lfs_operations.proofs.RemovedWhole.{flag_whole, stands_whole}
+use Rattle.lfs_operations.proofs.PairAt.{HasPairAt}
+use Rattle.lfs_operations.proofs.RenameMade.{IsLoggedPair, Leaves, c, can_put, delta_fits, fits_left, fits_whole, entry_at, logged_of, site_of, stand_of, leaves_target, leaves_turned, made, pair_here, source, within}
+use Rattle.lfs_operations.proofs.TurnedSync.{first_kept}
 
 -- The entry may have the name at the place in the pair p at the site w, where the target stands, if there is one.
-pub record IsPlaceInOtherPair (t : KeptThread) (old_pair old_id new_pair : ℕ) (can : CanEditIn t old_pair old_id) (w : Site) (p : Pair) (l : List Slot) (target : Option Slot) (r : List Slot) (name : Name) : Type 0 where
-  pub there : t.pairs ≡ thread_at w (p ∷ [])
-  pub number : new_pair ≡ length w.chain + length (w.before ++ w.left)
-  pub site : IsSite w (p ∷ [])
+pub record IsPlaceInOtherPair (t : KeptThread) (old_pair old_id new_pair new_id : ℕ) (can : CanEditIn t old_pair old_id) (path : Path) (at : ℕ × ℕ) (w : Site) (p : Pair) (l : List Slot) (target : Option Slot) (r : List Slot) (name : Name) : Type 0 where
+  pub logged : IsLoggedPair t new_pair p
+  pub stand : HasPairAt t new_pair path at w p
+  pub number : length l ≡ new_id
   pub apart : old_pair ≢ new_pair
   pub was : p.content.slots ≡ l ++ (target_slots target ++ r)
   pub front : l ≡ [] → superblock_first (target_slots target ++ r) ≡ false
   pub named : is_valid_name name ≡ true
   pub fits : IsWritableEntry t.disk.profile t.disk.block_size t.disk.page (record can.stands.stands.slot { name = name })
 
--- where the pair of an entry stands
-abbrev pub old_site : {t : KeptThread} {pair id : ℕ} → CanEditIn t pair id → Site
-old_site {t = t} {pair = pair} can = site t.disk t.pairs can.path can.at can.ready.accepted can.leads can.first pair can.stands.pair can.stands.rest can.stands.place can.begins
-
 -- The entry may come into the pair p at the site w, between l and r, where the target stands, if there is one.
 pub record IsAimed (t : KeptThread) (replaces sync : Bool) (old_pair old_id first new_pair new_id : ℕ) (name : Name) (old : CanEditIn t old_pair old_id) (path : Path) (w : Site) (p : Pair) (l : List Slot) (target : Option Slot) (r : List Slot) : Type 0 where
   pub apart : old_pair ≢ new_pair
   pub can : CanPut t new_pair (moving_changes replaces sync t old_pair old_id new_pair new_id name)
-  pub way : IsFirst t sync old_pair (drops_emptied_pair t old_pair first) new_pair (moving_changes replaces sync t old_pair old_id new_pair new_id name) (old_site old)
+  pub way : IsFirst t sync old_pair (drops_emptied_pair t old_pair first) new_pair (moving_changes replaces sync t old_pair old_id new_pair new_id name) (site_of old)
       old.stands.pair old.stands.stands.left old.stands.stands.slot old.stands.stands.right w p l target (record old.stands.stands.slot { name = name }) r (old.path ++ old.name ∷ []) (path ++ name ∷ []) name
 
 module _ {t : KeptThread} {replaces sync : Bool} {old_pair old_id first new_pair new_id : ℕ} {name : Name} {old : CanEditIn t old_pair old_id} {path : Path} {w : Site} {p : Pair} {l : List Slot} {target : Option Slot} {r : List Slot}
@@ -59,75 +58,52 @@ module _ {t : KeptThread} {replaces sync : Bool} {old_pair old_id first new_pair
         → CompletesOperation t.disk t.pairs z (ops.Rename given to_given) new.disk new.pairs
     completed_moved plain = rename_completed a.way is.mid (first_turned a.way is.mid is.put) new ended_aimed plain
 
-module _ (t : KeptThread) (old_pair old_id first new_pair : ℕ) (can : CanEditIn t old_pair old_id) (begins_old : can.first ≡ first)
-    (w : Site) (p : Pair) (l : List Slot) (target : Option Slot) (r : List Slot) (name : Name) (k : IsPlaceInOtherPair t old_pair old_id new_pair can w p l target r name) where
+module _ {t : KeptThread} {old_pair old_id first new_pair new_id : ℕ} {can : CanEditIn t old_pair old_id} (begins_old : can.first ≡ first)
+    {path : Path} {to_at : ℕ × ℕ} {w : Site} {p : Pair} {l : List Slot} {target : Option Slot} {r : List Slot} {name : Name} (k : IsPlaceInOtherPair t old_pair old_id new_pair new_id can path to_at w p l target r name) where
   abbrev goes : Bool
   goes = drops_emptied_pair t old_pair first
 
   abbrev q : Pair
   q = can.stands.pair
 
-  abbrev lo : List Slot
-  lo = can.stands.stands.left
-
-  abbrev ro : List Slot
-  ro = can.stands.stands.right
-
-  abbrev s : Slot
-  s = can.stands.stands.slot
+  abbrev h : HasName can.stands.pair.content.slots can.name old_id
+  h = can.stands.stands
 
   abbrev v : Slot
-  v = record s { name = name }
+  v = record h.slot { name = name }
 
   abbrev wo : Site
-  wo = site t.disk t.pairs can.path can.at can.ready.accepted can.leads can.first old_pair q can.stands.rest can.stands.place can.begins
+  wo = site_of can
 
-  there_old : t.pairs ≡ thread_at wo (q ∷ [])
-  there_old = thread_is t.disk t.pairs can.path can.at can.ready.accepted can.leads can.first old_pair q can.stands.rest can.stands.place can.begins
+  stand_old : HasPairAt t old_pair can.path can.at wo q
+  stand_old = stand_of can
 
-  entry : IsTreeEntry s
-  entry =
-      let here = each_pair t can.ready can.first old_pair q can.stands.rest can.stands.place (λ x. Each IsEntryIfOther x.content.slots) (other_entries t.disk t.pairs can.ready.accepted) in
-      (each_right IsEntryIfOther lo (s ∷ ro) (subst (Each IsEntryIfOther) can.stands.stands.held here)).0 can.stands.stands.entry
-
-  old_number : old_pair ≡ length wo.chain + length (wo.before ++ wo.left)
-  old_number = number_is t.disk t.pairs can.path can.at can.ready.accepted can.leads can.first old_pair q can.stands.rest can.stands.place can.begins
-
-  pub setting : IsSetting t.disk wo q lo s ro w p l (target_slots target) v r
-  setting =
-      let old_site = is_site t.disk t.pairs can.path can.at can.ready.accepted can.leads can.first old_pair q can.stands.rest can.stands.place can.begins in
-      record {
-        accepted = subst (IsAccepted t.disk) k.there can.ready.accepted;
-        writable = subst (IsWritable t.disk) k.there can.ready.writable;
-        settled = ap pairs_gstate (sym k.there) ∙ can.ready.settled;
-        site = k.site;
-        there = sym there_old ∙ k.there;
-        old_site = old_site;
-        held = can.stands.stands.held;
-        other = can.stands.stands.entry;
-        apart = λ e.
-            let chains = sym old_site.chain ∙ ap count_before_root (sym there_old ∙ k.there) ∙ k.site.chain in
-            let m = old_number in
-            let n = k.number in
-            k.apart (omega arith);
-        was = k.was;
-        front = k.front;
-        entry = record { name = k.named; struct = entry.struct };
-        struct = refl;
-        fit = ((λ e. absurd (let z = sym can.stands.stands.entry ∙ e in cc)), (λ e. k.fits));
-      }
-
-  first_kept : (l olds : List Slot) → (l ≡ [] → superblock_first (olds ++ r) ≡ false) → BeginWithSuperblock (l ++ (olds ++ r)) → BeginWithSuperblock (l ++ v ∷ r)
-  first_kept [] olds f e = absurd (let z = sym (f refl) ∙ e.0 in cc)
-  first_kept (x ∷ l) olds f e = e
-
-  pub same_begin : same_pair (begin_of wo (q ∷ [])) can.at ≡ true
-  same_begin = same t.disk t.pairs can.path can.at can.ready.accepted can.leads can.first old_pair q can.stands.rest can.stands.place can.begins
+  pub setting : IsSetting t.disk wo q h.left h.slot h.right w p l (target_slots target) v r
+  setting = record {
+    accepted = k.stand.accepted;
+    writable = k.stand.writable;
+    settled = k.stand.settled;
+    site = k.stand.site;
+    there = sym stand_old.there ∙ k.stand.there;
+    old_site = stand_old.site;
+    held = h.held;
+    other = h.entry;
+    apart = λ e.
+        let chains = sym stand_old.site.chain ∙ ap count_before_root (sym stand_old.there ∙ k.stand.there) ∙ k.stand.site.chain in
+        let m = stand_old.number in
+        let n = k.stand.number in
+        k.apart (omega arith);
+    was = k.was;
+    front = k.front;
+    entry = record { name = k.named; struct = (entry_at can.ready can.stands).struct };
+    struct = refl;
+    fit = ((λ e. absurd (let z = sym h.entry ∙ e in cc)), (λ e. k.fits));
+  }
 
   led_first : old_pair ≡ can.first → ends_joined false (wo.before ++ wo.left) ≡ false
   led_first e =
-      let none_before = alone wo.chain wo.before wo.left (wo.right ++ wo.after) q can.at can.first (subst (λ z. IsDistinct nat_eq (pairs_blocks z)) there_old can.ready.accepted.thread.distinct) same_begin
-      (subst (λ z. IsPairAt z can.at can.first) there_old can.begins) (sym e ∙ old_number) in
+      let none_before = alone wo.chain wo.before wo.left (wo.right ++ wo.after) q can.at can.first (subst (λ z. IsDistinct nat_eq (pairs_blocks z)) stand_old.there can.ready.accepted.thread.distinct) stand_old.begin
+      (subst (λ z. IsPairAt z can.at can.first) stand_old.there can.begins) (sym e ∙ stand_old.number) in
       ap (λ z. ends_joined false (wo.before ++ z)) none_before ∙ ap (ends_joined false) (append-nil wo.before) ∙ flag_ends wo.before setting.old_site.ends
 
   stays : goes ≡ false → ends_joined false (wo.before ++ wo.left) ≡ true → 1 < length q.content.slots
@@ -142,34 +118,80 @@ module _ (t : KeptThread) (old_pair old_id first new_pair : ℕ) (can : CanEditI
       let k = stands_whole t old_pair old_id first can begins_old whole in
       (flag_whole t old_pair old_id first can begins_old whole, ap length k.held)
 
-  pub first_of : (sync : Bool) (changes : List ContentChange) (path : Path)
-      → complete_after t new_pair changes ≡ Some (content_with p (l ++ v ∷ r) (gstate_xor (gstate_naming sync q.at (length lo)) p.content.move))
-      → ((disk : Disk) (x : Pair) (more : List Pair) → HasTurned t.disk w p (l ++ v ∷ r) (gstate_xor (gstate_naming sync q.at (length lo)) p.content.move) disk x more
-      → IsChangedImage t.disk (thread_at w (p ∷ [])) disk (thread_at w (x ∷ more)) (tree_renaming (can.path ++ can.name ∷ []) (path ++ name ∷ [])) (walk_by (can.path ++ can.name ∷ []) (path ++ name ∷ [])))
-      → slot_of t.pairs (path ++ name ∷ []) ≡ target → (sync ≡ false → IsNoDirectory target)
-      → IsFirst t sync old_pair goes new_pair changes wo q lo s ro w p l target v r (can.path ++ can.name ∷ []) (path ++ name ∷ []) name
-  first_of sync changes path made follows to_slot file = record {
-    ready = can.ready;
-    turn = record {
-      accepted = can.ready.accepted;
-      there = k.there;
-      place = k.number;
-      site = k.site;
-      made = made;
-      first = λ h. first_kept l (target_slots target) k.front (subst BeginWithSuperblock k.was (h.kind, h.name));
-    };
-    setting = setting;
-    chain = chain_same t.disk wo q lo s ro w p l (target_slots target) v r setting;
-    old_place = old_number;
-    old_is = ap (λ (z : Pair). z.at) (here t can.ready can.first old_pair q can.stands.rest can.stands.place);
-    logged = subst (λ (z : Pair). IsRawFormed t.disk z.at) (here t can.ready can.first old_pair q can.stands.rest can.stands.place) can.logged;
-    same_slot = refl;
-    follows = follows;
-    stays = stays;
-    alone = goes_alone;
-    from_slot = subst (λ z. slot_of z (can.path ++ can.name ∷ []) ≡ Some s) k.there
-        (slot_of_stands t.disk t.pairs can.path can.at can.ready.accepted can.leads can.first old_pair old_id can.name (no_move_from t.pairs can.ready.settled) can.stands can.begins);
-    to_slot = subst (λ z. slot_of z (path ++ name ∷ []) ≡ target) k.there to_slot;
-    to_name = last_is path name;
-    file = file;
-  }
+  -- ---- what the changes make of the other pair
+
+  module _ (sync : Bool) (address : AreWords (thread_pair t old_pair).at) where
+    abbrev move : Gstate
+    move = gstate_xor (gstate_naming sync (thread_pair t old_pair).at old_id) (thread_pair t new_pair).content.move
+
+    abbrev delta : Gstate
+    delta = gstate_xor (gstate_naming sync q.at (length h.left)) p.content.move
+
+    abbrev changes : List ContentChange
+    changes = moving_changes (is_some target) sync t old_pair old_id new_pair new_id name
+
+    move_is : move ≡ delta
+    move_is = ap₂ (λ (x : Pair) (i : ℕ). gstate_xor (gstate_naming sync x.at i) (thread_pair t new_pair).content.move) (pair_here (logged_of can)) (sym h.number)
+        ∙ ap (λ (x : Pair). gstate_xor (gstate_naming sync q.at (length h.left)) x.content.move) (pair_here k.logged)
+
+    is_state : MoveStateFits move
+    is_state =
+        let g = delta_fits k.logged in
+        let few = (fits_whole (logged_of can)).count in
+        let m = within (logged_of can) can.stands.stands in
+        record {
+          kind = xor_lt 11 0x4ff (thread_pair t new_pair).content.move.kind (omega arith) g.kind;
+          id = xor_lt 10 old_id (thread_pair t new_pair).content.move.id (omega arith) g.id;
+          pair = (xor_lt 32 (thread_pair t old_pair).at.0 (thread_pair t new_pair).content.move.pair.0 address.0 g.pair.0, xor_lt 32 (thread_pair t old_pair).at.1 (thread_pair t new_pair).content.move.pair.1 address.1 g.pair.1);
+        }
+
+    left : Leaves (c k.logged).raw (PutMove move ∷ removal_changes (is_some target) new_id) (l ++ r) delta
+    left =
+        let few = (fits_whole k.logged).count in
+        let h = ap length k.was in
+        let m = length-append l (target_slots target ++ r) in
+        let n = k.number in
+        leaves_target l target r (subst₂ (Leaves (c k.logged).raw (PutMove move ∷ [])) k.was move_is (leaves_turned k.logged move is_state)) new_id (omega arith) k.number
+
+    fits_rest : FitsInPair t.disk.block_size t.disk.page (record p.content { slots = l ++ r })
+    fits_rest = fits_left t.disk.block_size t.disk.page p.content l target r k.was (fits_whole k.logged)
+
+    can_put_moved : CanPut t new_pair changes
+    can_put_moved = can_put k.logged (source (logged_of can) can.stands.stands) l r left fits_rest new_id k.number name k.named k.fits
+
+    made_moved : complete_after t new_pair changes ≡ Some (content_with p (l ++ v ∷ r) delta)
+    made_moved = made k.logged (source (logged_of can) can.stands.stands) l r left fits_rest new_id k.number name k.named k.fits
+
+    pub aimed : ((disk : Disk) (x : Pair) (more : List Pair) → HasTurned t.disk w p (l ++ record h.slot { name = name } ∷ r) (gstate_xor (gstate_naming sync can.stands.pair.at (length h.left)) p.content.move) disk x more
+        → IsChangedImage t.disk (thread_at w (p ∷ [])) disk (thread_at w (x ∷ more)) (tree_renaming (can.path ++ can.name ∷ []) (path ++ name ∷ [])) (walk_by (can.path ++ can.name ∷ []) (path ++ name ∷ [])))
+        → slot_of t.pairs (path ++ name ∷ []) ≡ target → (sync ≡ false → IsNoDirectory target)
+        → IsAimed t (is_some target) sync old_pair old_id first new_pair new_id name can path w p l target r
+    aimed follows to_slot file = record {
+      apart = k.apart;
+      can = can_put_moved;
+      way = record {
+        ready = can.ready;
+        turn = record {
+          accepted = can.ready.accepted;
+          there = k.stand.there;
+          place = k.stand.number;
+          site = k.stand.site;
+          made = made_moved;
+          first = λ h. first_kept l (target_slots target) (v ∷ []) r k.front (subst BeginWithSuperblock k.was (h.kind, h.name));
+        };
+        setting = setting;
+        chain = chain_same t.disk wo q h.left h.slot h.right w p l (target_slots target) v r setting;
+        old_place = stand_old.number;
+        old_is = ap (λ (z : Pair). z.at) (pair_here (logged_of can));
+        logged = subst (λ (z : Pair). IsRawFormed t.disk z.at) (pair_here (logged_of can)) can.logged;
+        same_slot = refl;
+        follows = follows;
+        stays = stays;
+        alone = goes_alone;
+        from_slot = subst (λ z. slot_of z (can.path ++ can.name ∷ []) ≡ Some h.slot) k.stand.there
+            (slot_of_stands t.disk t.pairs can.path can.at can.ready.accepted can.leads can.first old_pair old_id can.name (no_move_from t.pairs can.ready.settled) can.stands can.begins);
+        to_slot = subst (λ z. slot_of z (path ++ name ∷ []) ≡ target) k.stand.there to_slot;
+        to_name = last_is path name;
+        file = file;
+      };
+    }

@@ -1,14 +1,14 @@
 -- The first step of a rename across pairs, as a step of the thread, and what the second one makes of it.
-use Rattle.lfs_operations.proofs.Common.{ℕ, ◌≡◌, ◌≢◌, ◌+◌, ◌-◌, ◌<◌, ◌≤◌, ◌⊎◌, inl, inr, Bool, true, false, cond, take, List, [], ◌∷◌, ◌++◌, length, Option, Some, refl, sym, ap, ap₂, subst, ◌∙◌, arith, append_assoc, length-append, get_or, set, remove, le-ltb, lt-ltb, Blocks, AreUsed, Free, InFlight, ContentChange, content_after, current_of_two, empty_raw_content, raw_content, block_count, Disk, disk_block, block_entries, Name, HasEitherTree as IsLeftOf, with_blocks, Slot, Gstate, gstate_xor, zero_gstate, same_pair, slot_of, Pair, pairs_blocks, pairs_gstate, is_hard_tail, count_before_root, Path, Tree, last_name, tree_renaming, Session, path_or_root, all_directories, all_unmoved_slots, struct_blocks, disk_tree, used_blocks, IsAccepted, IsWritable, flat_map, SameSlots, IsChangedImage, rearranged_chain, CompletesOperation, number_occurrences, count_append, count_here, once_from_distinct, remove_here, directory_addresses, set_rearranged, pair_itself, IsNoDirectory, target_slots, AnyByRecursion, Site, among_left, among_parts, among_right, dirs_at, thread_at, file_blocks, IsWritableChange, IsChain, pairs_behind, OldStays, from_old, two, ends_joined, KeptThread, SameGeometryAs, empty_anchor, thread_pair, option_and_then, taken_then, LeftByPut, ArePut, ShowsDroppedTree, SameInFlight, CanEndMoveAt, HasEndedMoveAt, ending_dropped_blocks, content_move_ended, continues_directory, gstate_naming, pairs_move_ended, number_after_insertion, IsRawFormed, IsReadyImage, KeepsRootNumber, gstate_without_move}
+use Rattle.lfs_operations.proofs.Common.{ℕ, ◌≡◌, ◌≢◌, ◌+◌, ◌-◌, ◌<◌, ◌≤◌, ◌⊎◌, inl, inr, Bool, true, false, cond, take, List, [], ◌∷◌, ◌++◌, length, Option, Some, refl, sym, ap, ap₂, subst, ◌∙◌, arith, append_assoc, length-append, get_or, set, remove, le-ltb, lt-ltb, Blocks, AreUsed, Free, InFlight, ContentChange, content_after, current_of_two, empty_raw_content, raw_content, block_count, Disk, disk_block, block_entries, Name, HasEitherTree as IsLeftOf, with_blocks, Slot, Gstate, gstate_xor, zero_gstate, same_pair, slot_of, Pair, pairs_blocks, pairs_gstate, is_hard_tail, count_before_root, Path, Tree, last_name, tree_renaming, Session, path_or_root, all_directories, all_unmoved_slots, struct_blocks, disk_tree, used_blocks, IsAccepted, IsWritable, flat_map, SameSlots, IsChangedImage, rearranged_chain, CompletesOperation, number_occurrences, count_append, count_here, once_from_distinct, remove_here, directory_addresses, set_rearranged, pair_itself, IsNoDirectory, target_slots, AnyByRecursion, Site, among_right, dirs_at, thread_at, file_blocks, IsWritableChange, IsChain, pairs_behind, OldStays, from_old, two, ends_joined, KeptThread, SameGeometryAs, empty_anchor, thread_pair, option_and_then, taken_then, LeftByPut, ArePut, ShowsDroppedTree, SameInFlight, CanEndMoveAt, HasEndedMoveAt, ending_dropped_blocks, content_move_ended, continues_directory, gstate_naming, pairs_move_ended, number_after_insertion, IsRawFormed, IsReadyImage, KeepsRootNumber, gstate_without_move}
 use Rattle.lfs_model.specs.session.Operations as ops
 use Rattle.lfs_model.proofs.LeftFiles.{ends_same}
 use Rattle.lfs_operations.proofs.Dropped.{HasMapWithout, map_ended}
-use Rattle.lfs_operations.proofs.MovAcross.{Arranged, arrangement, completed}
-use Rattle.lfs_operations.proofs.MovFirsts.{set_firsts}
-use Rattle.lfs_operations.proofs.MovSet.{HasTurned, IsSetting, set_count, set_step, state_is, taken_by, walk_by}
+use Rattle.lfs_model.proofs.AcrossSteps.{Arranged, arrangement, completed}
+use Rattle.lfs_model.proofs.SetFirsts.{set_firsts}
+use Rattle.lfs_model.proofs.SetMoves.{HasTurned, IsSetting, set_count, set_step, state_is, taken_by, walk_by}
 use Rattle.lfs_operations.proofs.MovTurned.{IsTurn, Stays, TurnedOn, TurnedTo, left_put, put_turned}
-use Rattle.lfs_operations.proofs.Placing.{blocks_append, left_after, left_still}
-use Rattle.lfs_operations.proofs.Threads.{get_at, set_at, take_front}
+use Rattle.lfs_model.proofs.Placing.{blocks_append, left_after, left_still}
+use Rattle.lfs_model.proofs.PairLists.{get_at, set_at, take_front}
 
 -- ---- lists
 
@@ -31,6 +31,24 @@ led_at : (chain pre back : List Pair) (i : ℕ) → IsChain chain (pre ++ back) 
 led_at chain pre back i is_chain number =
     ap₂ (λ n z. ends_joined false (take (i - n) z)) is_chain (pairs_behind chain (pre ++ back) is_chain)
     ∙ ap (ends_joined false) (take_front pre back (i - length chain) (omega arith))
+
+-- what holds of one of a list holds of one of another behind the same pairs
+among_behind : (P : Pair → Type 0) (xs ys zs : List Pair) → (AnyByRecursion P ys → AnyByRecursion P zs) → AnyByRecursion P (xs ++ ys) → AnyByRecursion P (xs ++ zs)
+among_behind P [] ys zs f h = f h
+among_behind P (x ∷ xs) ys zs f (inl h) = inl h
+among_behind P (x ∷ xs) ys zs f (inr h) = inr (among_behind P xs ys zs f h)
+
+count_apart : (front os mid ns back : List Pair) (b : ℕ) → number_occurrences b (pairs_blocks os) + number_occurrences b (pairs_blocks ns) ≤ number_occurrences b (pairs_blocks (front ++ (os ++ (mid ++ (ns ++ back)))))
+count_apart front os mid ns back b =
+    let a = blocks_append front (os ++ (mid ++ (ns ++ back))) b in
+    let c = blocks_append os (mid ++ (ns ++ back)) b in
+    let d = blocks_append mid (ns ++ back) b in
+    let e = blocks_append ns back b in
+    omega arith
+
+count_two : (s : Bool) (front os mid ns back : List Pair) (b : ℕ) → number_occurrences b (pairs_blocks os) + number_occurrences b (pairs_blocks ns) ≤ number_occurrences b (pairs_blocks (two s front os mid ns back))
+count_two true front os mid ns back b = count_apart front os mid ns back b
+count_two false front os mid ns back b = let k = count_apart front ns mid os back b in omega (arith, k)
 
 -- ---- what is known before
 
@@ -88,12 +106,6 @@ module _ {t : KeptThread} {sync : Bool} {old_pair : ℕ} {goes : Bool} {new_pair
   first_turned mid is = put_turned t new_pair changes w p slots move k.turn (record { used = k.ready.used; size = k.ready.size }) mid is
 
   module _ (mid : KeptThread) (x : TurnedTo t w p slots move mid) where
-    abbrev q : Pair
-    q = x.q
-
-    abbrev more : List Pair
-    more = x.more
-
     abbrev pub arr : Arranged t.disk wo o w p x.q x.more
     arr = arrangement t.disk mid.disk mid.disk wo o lo u ro w p l target v r k.setting x.q x.more sync x.turned
 
@@ -115,8 +127,8 @@ module _ {t : KeptThread} {sync : Bool} {old_pair : ℕ} {goes : Bool} {new_pair
         (set_rearranged t.disk mid.disk wo o lo u ro w p [] x.q x.more (pairs_blocks x.more) l (target_slots target) v r (set_step t.disk wo o lo u ro w p l (target_slots target) v r k.setting sync mid.disk x.q x.more x.turned))
 
     -- where the old pair stands
-    many : length mid.pairs - length t.pairs ≡ length x.more
-    many =
+    lengths : length mid.pairs ≡ length t.pairs + length x.more
+    lengths =
         let a = ap length x.pairs in
         let b = ap length k.turn.there in
         let c = length-append w.chain (dirs_at w (x.q ∷ x.more)) in
@@ -127,15 +139,7 @@ module _ {t : KeptThread} {sync : Bool} {old_pair : ℕ} {goes : Bool} {new_pair
         omega arith
 
     pub grown : length t.pairs ≤ length mid.pairs
-    grown =
-        let a = ap length x.pairs in
-        let b = ap length k.turn.there in
-        let c = length-append w.chain (dirs_at w (x.q ∷ x.more)) in
-        let d = length-append w.chain (dirs_at w (p ∷ [])) in
-        let e = length-append (w.before ++ w.left) (x.q ∷ x.more ++ (w.right ++ w.after)) in
-        let f = length-append (w.before ++ w.left) (p ∷ [] ++ (w.right ++ w.after)) in
-        let g = length-append x.more (w.right ++ w.after) in
-        omega arith
+    grown = let e = lengths in omega (arith, e)
 
     abbrev pub index : ℕ
     index = number_after_insertion old_pair new_pair (length mid.pairs - length t.pairs)
@@ -153,7 +157,7 @@ module _ {t : KeptThread} {sync : Bool} {old_pair : ℕ} {goes : Bool} {new_pair
             let e = k.turn.place in let f = old_at in
             ap (λ b. cond b old_pair (old_pair + (length mid.pairs - length t.pairs))) (lt-ltb old_pair new_pair (omega arith)) ∙ omega arith
         go (inr (less, is)) =
-            let e = k.turn.place in let f = old_at in let g = many in
+            let e = k.turn.place in let f = old_at in let g = lengths in
             ap (λ b. cond b old_pair (old_pair + (length mid.pairs - length t.pairs))) (le-ltb old_pair new_pair (omega arith)) ∙ omega arith
 
     grouped : mid.pairs ≡ (w.chain ++ arr.pre) ++ o ∷ arr.post
@@ -167,32 +171,15 @@ module _ {t : KeptThread} {sync : Bool} {old_pair : ℕ} {goes : Bool} {new_pair
 
     -- ---- the old pair isn't written
 
-    both : (b : ℕ) → number_occurrences b (pairs_blocks ps) ≡ number_occurrences b (pairs_blocks w.chain) + (number_occurrences b (pairs_blocks arr.front) + (number_occurrences b (pairs_blocks (o ∷ [])) + (number_occurrences b (pairs_blocks arr.mid) + (number_occurrences b (pairs_blocks (p ∷ [])) + number_occurrences b (pairs_blocks arr.back)))))
-    both b = ap (λ z. number_occurrences b (pairs_blocks z)) arr.old_is ∙ blocks_append w.chain (two arr.b arr.front (o ∷ []) arr.mid (p ∷ []) arr.back) b ∙ ap (λ n. number_occurrences b (pairs_blocks w.chain) + n) (go arr.b)
-      where
-        go : (s : Bool) → number_occurrences b (pairs_blocks (two s arr.front (o ∷ []) arr.mid (p ∷ []) arr.back))
-            ≡ number_occurrences b (pairs_blocks arr.front) + (number_occurrences b (pairs_blocks (o ∷ [])) + (number_occurrences b (pairs_blocks arr.mid) + (number_occurrences b (pairs_blocks (p ∷ [])) + number_occurrences b (pairs_blocks arr.back))))
-        go true =
-            let a = blocks_append arr.front (o ∷ [] ++ (arr.mid ++ (p ∷ [] ++ arr.back))) b in
-            let c = blocks_append (o ∷ []) (arr.mid ++ (p ∷ [] ++ arr.back)) b in
-            let d = blocks_append arr.mid (p ∷ [] ++ arr.back) b in
-            let e = blocks_append (p ∷ []) arr.back b in
-            omega arith
-        go false =
-            let a = blocks_append arr.front (p ∷ [] ++ (arr.mid ++ (o ∷ [] ++ arr.back))) b in
-            let c = blocks_append (p ∷ []) (arr.mid ++ (o ∷ [] ++ arr.back)) b in
-            let d = blocks_append arr.mid (o ∷ [] ++ arr.back) b in
-            let e = blocks_append (o ∷ []) arr.back b in
-            omega arith
-
     unwritten : (b : ℕ) → 1 ≤ number_occurrences b (pairs_blocks (o ∷ [])) → disk_block mid.disk b ≡ disk_block t.disk b
     unwritten b some = x.turned.same b (
         let once = once_from_distinct ((pairs_blocks x.more ++ []) ++ used_blocks t.disk ps) x.turned.free.distinct b in
         let c = count_append b (pairs_blocks x.more ++ []) (used_blocks t.disk ps) in
         let d = count_append b (pairs_blocks x.more) [] in
         let e = count_append b (pairs_blocks ps) (flat_map (λ s. struct_blocks t.disk s.struct) (all_unmoved_slots ps)) in
-        let f = both b in
+        let f = ap (λ z. number_occurrences b (pairs_blocks z)) arr.old_is ∙ blocks_append w.chain (two arr.b arr.front (o ∷ []) arr.mid (p ∷ []) arr.back) b in
         let g = count_append b (pairs_blocks x.more) (pairs_blocks (p ∷ [])) in
+        let h = count_two arr.b arr.front (o ∷ []) arr.mid (p ∷ []) arr.back b in
         omega arith)
 
     raw_same : raw_content mid.disk o.at ≡ raw_content t.disk o.at
@@ -236,9 +223,6 @@ module _ {t : KeptThread} {sync : Bool} {old_pair : ℕ} {goes : Bool} {new_pair
       abbrev o2 : Pair
       o2 = record { at = (thread_pair mid index).at; content = content_move_ended mid index (length lo) }
 
-      slots_left : o2.content.slots ≡ lo ++ ro
-      slots_left = ap (λ (z : Pair). remove z.content.slots (length lo)) here ∙ ap (λ z. remove z (length lo)) k.setting.held ∙ remove_here lo ro u
-
       pub last_state : pairs_gstate last.pairs ≡ record zero_gstate { sync = sync }
       last_state = e.state ∙ ap gstate_without_move mid_state
 
@@ -254,9 +238,6 @@ module _ {t : KeptThread} {sync : Bool} {old_pair : ℕ} {goes : Bool} {new_pair
           let d = length-append lo ro in
           absurd (omega arith)
 
-      nothing_left : goes ≡ true → lo ++ ro ≡ []
-      nothing_left goes = only_left lo ro u (sym (ap length k.setting.held) ∙ (k.alone goes).1)
-
       -- what is left of the old pair
       pub record IsLeftOver : Type 0 where
         pub os : List Pair
@@ -269,14 +250,14 @@ module _ {t : KeptThread} {sync : Bool} {old_pair : ℕ} {goes : Bool} {new_pair
           go : (b : Bool) → goes ≡ b → IsLeftOver
           go false is = record {
             os = o2 ∷ [];
-            stays = (ap (λ (z : Pair). z.at) here, slots_left, (λ from. filled is (sym arr.from ∙ from)));
+            stays = (ap (λ (z : Pair). z.at) here, ap (λ (z : Pair). remove z.content.slots (length lo)) here ∙ ap (λ z. remove z (length lo)) k.setting.held ∙ remove_here lo ro u, (λ from. filled is (sym arr.from ∙ from)));
             alike = subst (λ z. SameSlots z last.pairs)
                 (ap₂ (λ (z : List Pair) (i : ℕ). set z i o2) grouped index_at ∙ set_at (w.chain ++ arr.pre) o arr.post o2 ∙ append_assoc w.chain arr.pre (o2 ∷ arr.post))
                 (subst (λ b. SameSlots (pairs_move_ended mid index (length lo) b) last.pairs) is e.alike);
           }
           go true is = record {
             os = [];
-            stays = (arr.from ∙ (k.alone is).0, nothing_left is);
+            stays = (arr.from ∙ (k.alone is).0, only_left lo ro u (sym (ap length k.setting.held) ∙ (k.alone is).1));
             alike = subst (λ z. SameSlots z last.pairs)
                 (ap₂ (λ (z : List Pair) (i : ℕ). remove z i) grouped index_at ∙ remove_at (w.chain ++ arr.pre) o arr.post ∙ append_assoc w.chain arr.pre arr.post)
                 (subst (λ b. SameSlots (pairs_move_ended mid index (length lo) b) last.pairs) is e.alike);
@@ -298,19 +279,11 @@ module _ {t : KeptThread} {sync : Bool} {old_pair : ℕ} {goes : Bool} {new_pair
       -- a pair stays that isn't one of the two, has no slots and ends its directory
       pub last_kept : (z : Pair) → (p ≡ z → ⊥) → z.content.slots ≡ [] → is_hard_tail z.content.tail ≡ false → AnyByRecursion (λ y. y ≡ z) t.pairs → AnyByRecursion (λ y. y ≡ z) last.pairs
       last_kept z other none soft h = e.kept z none soft (subst (AnyByRecursion (λ y. y ≡ z)) (sym x.pairs)
-          (past (among_parts (λ y. y ≡ z) w.chain ((w.before ++ w.left) ++ (p ∷ (w.right ++ w.after))) (subst (AnyByRecursion (λ y. y ≡ z)) k.turn.there h))))
+          (among_behind (λ y. y ≡ z) w.chain (dirs_at w (p ∷ [])) (dirs_at w (x.q ∷ x.more)) (among_behind (λ y. y ≡ z) (w.before ++ w.left) (p ∷ (w.right ++ w.after)) (x.q ∷ x.more ++ (w.right ++ w.after)) behind) (subst (AnyByRecursion (λ y. y ≡ z)) k.turn.there h)))
         where
-          behind : AnyByRecursion (λ y. y ≡ z) (p ∷ (w.right ++ w.after)) → AnyByRecursion (λ y. y ≡ z) (thread_at w (x.q ∷ x.more))
+          behind : AnyByRecursion (λ y. y ≡ z) (p ∷ (w.right ++ w.after)) → AnyByRecursion (λ y. y ≡ z) (x.q ∷ x.more ++ (w.right ++ w.after))
           behind (inl is) = absurd (other is)
-          behind (inr h) = among_right (λ y. y ≡ z) w.chain (dirs_at w (x.q ∷ x.more)) (among_right (λ y. y ≡ z) (w.before ++ w.left) (x.q ∷ x.more ++ (w.right ++ w.after)) (among_right (λ y. y ≡ z) (x.q ∷ x.more) (w.right ++ w.after) h))
-
-          within : AnyByRecursion (λ y. y ≡ z) (w.before ++ w.left) ⊎ AnyByRecursion (λ y. y ≡ z) (p ∷ (w.right ++ w.after)) → AnyByRecursion (λ y. y ≡ z) (thread_at w (x.q ∷ x.more))
-          within (inl h) = among_right (λ y. y ≡ z) w.chain (dirs_at w (x.q ∷ x.more)) (among_left (λ y. y ≡ z) (w.before ++ w.left) (x.q ∷ x.more ++ (w.right ++ w.after)) h)
-          within (inr h) = behind h
-
-          past : AnyByRecursion (λ y. y ≡ z) w.chain ⊎ AnyByRecursion (λ y. y ≡ z) ((w.before ++ w.left) ++ (p ∷ (w.right ++ w.after))) → AnyByRecursion (λ y. y ≡ z) (thread_at w (x.q ∷ x.more))
-          past (inl h) = among_left (λ y. y ≡ z) w.chain (dirs_at w (x.q ∷ x.more)) h
-          past (inr h) = within (among_parts (λ y. y ≡ z) (w.before ++ w.left) (p ∷ (w.right ++ w.after)) h)
+          behind (inr h) = among_right (λ y. y ≡ z) (x.q ∷ x.more) (w.right ++ w.after) h
 
       pub last_shape : SameGeometryAs t.disk last.disk
       last_shape = record { block_size = e.shape.block_size ∙ x.shape.block_size; page = e.shape.page ∙ x.shape.page; order = e.shape.order ∙ x.shape.order; profile = e.shape.profile ∙ x.shape.profile; count = e.shape.count ∙ x.shape.count }
@@ -323,11 +296,8 @@ module _ {t : KeptThread} {sync : Bool} {old_pair : ℕ} {goes : Bool} {new_pair
 
       -- ---- the map
 
-      abbrev gone : List ℕ
-      gone = file_blocks t.disk (target_slots target)
-
       abbrev kept : List ℕ
-      kept = used_blocks last.disk last.pairs ++ gone
+      kept = used_blocks last.disk last.pairs ++ file_blocks t.disk (target_slots target)
 
       before_last : (b : ℕ) → number_occurrences b kept + number_occurrences b (ending_dropped_blocks mid index goes) ≡ number_occurrences b (pairs_blocks x.more ++ used_blocks t.disk t.pairs)
       before_last b =

@@ -1,10 +1,10 @@
 -- A pair of an accepted image that is changed, or split, and gets any delta of the global state.
-use Rattle.lfs_operations.proofs.Common.{ℕ, zero, suc, ◌≡◌, ◌+◌, ◌<◌, ◌≤◌, ◌⊎◌, inl, inr, Bool, true, false, cond, eqb-true, nat_eq, List, [], ◌∷◌, ◌++◌, length, take, drop, Some, refl, sym, ap, subst, ◌∙◌, arith, append-nil, slice_get, IsDistinct, same_Some, take-append-drop, All-from_recursion, recursion_from_All, Blocks, AreUsed, BlockStates, IsFree, IsInFlight, ContentChange, content_at, current_block, Disk, block_count, with_blocks, Slot, PairContent, Gstate, FitsInPair, gstate_xor, pair_with_slots, Pair, pairs_blocks, pairs_gstate, BeginsWith, superblock_entry, IsAccepted, used_blocks, fits_same, each_right, number_occurrences, gstate_cons, gstate_left, gstate_right, Site, thread_at, IsSite, IsDevice, HasFirst, KeepsOutsideBoth, KeptThread, thread_pair, complete_after, pairs_with_content, SplitOnDisk, SameGeometryAs, HasOldPair, IsPairCommitted, LossLeavesPair, IsPairWritten, BeginWithSuperblock, front_pair, back_pair, PartsFit, All, AreTwoFree, IsSplitInto, LeftByPut, ArePut, OverfillsPair, AddsNoneInFlight, KeepsTakenStates}
+use Rattle.lfs_operations.proofs.Common.{ℕ, zero, suc, ◌≡◌, ◌+◌, ◌<◌, ◌≤◌, ◌⊎◌, inl, inr, true, nat_eq, List, [], ◌∷◌, ◌++◌, length, take, drop, Some, refl, sym, ap, subst, ◌∙◌, arith, append-nil, slice_get, IsDistinct, same_Some, take-append-drop, All-from_recursion, recursion_from_All, Blocks, AreUsed, BlockStates, IsFree, IsInFlight, ContentChange, content_at, current_block, Disk, block_count, with_blocks, Slot, PairContent, Gstate, FitsInPair, gstate_xor, pair_with_slots, Pair, pairs_blocks, pairs_gstate, BeginsWith, superblock_entry, IsAccepted, used_blocks, fits_same, each_right, number_occurrences, gstate_cons, gstate_left, gstate_right, Site, thread_at, IsSite, IsDevice, HasFirst, KeepsOutsideBoth, KeptThread, thread_pair, complete_after, pairs_with_content, SplitOnDisk, SameGeometryAs, HasOldPair, IsPairCommitted, LossLeavesPair, IsPairWritten, BeginWithSuperblock, front_pair, back_pair, PartsFit, All, AreTwoFree, IsSplitInto, LeftByPut, ArePut, OverfillsPair, AddsNoneInFlight, KeepsTakenStates, ⊎_elim, each_counted}
 use Rattle.lfs_operations.proofs.Owning.{length_now, none_comes_now, stay_taken, used_more}
-use Rattle.lfs_operations.proofs.Placing.{IsPlaced, device}
+use Rattle.lfs_model.proofs.Placing.{IsPlaced, device}
 use Rattle.lfs_operations.proofs.Threads as thread
-use Rattle.lfs_operations.proofs.MovSet.{HasTurned}
 use Rattle.lfs_operations.proofs.Threads.{fresh_distinct, fresh_range, one_now, placed_one, placed_still, same_four, shape_same, two_now}
+use Rattle.lfs_model.proofs.SetMoves.{HasTurned}
 
 -- ---- what is known before
 
@@ -21,12 +21,7 @@ pub record AreOn (t : KeptThread) (index : ℕ) (content : PairContent) (disk : 
   pub parts : PartsFit t index content cut fresh disk
 
 of_fresh : (sets : BlockStates) (fresh : ℕ × ℕ) → AreTwoFree sets fresh → (b : ℕ) → 1 ≤ number_occurrences b (fresh.0 ∷ fresh.1 ∷ []) → IsFree sets b
-of_fresh sets fresh two b some = go (nat_eq b fresh.0) (nat_eq b fresh.1) refl refl some
-  where
-    go : (x y : Bool) → nat_eq b fresh.0 ≡ x → nat_eq b fresh.1 ≡ y → 1 ≤ cond x 1 0 + (cond y 1 0 + 0) → IsFree sets b
-    go true y e f n = subst (IsFree sets) (sym (eqb-true b fresh.0 e)) two.first
-    go false true e f n = subst (IsFree sets) (sym (eqb-true b fresh.1 f)) two.second
-    go false false e f n = absurd (omega arith)
+of_fresh sets fresh two b some = each_counted (IsFree sets) (fresh.0 ∷ fresh.1 ∷ []) (two.first, (two.second, tt)) b some
 
 -- the pair's tail, with other slots and another delta
 abbrev pub content_with : Pair → List Slot → Gstate → PairContent
@@ -73,6 +68,11 @@ pub record ChangedOne (t : KeptThread) (index : ℕ) (w : Site) (p : Pair) (slot
   pub map : new.map ≡ t.map
   pub shape : SameGeometryAs t.disk new.disk
 
+front_begins : (cut : ℕ) → 0 < cut → (slots : List Slot) → BeginWithSuperblock slots → BeginWithSuperblock (take cut slots)
+front_begins zero some slots e = absurd (omega arith)
+front_begins (suc cut) some [] e = e
+front_begins (suc cut) some (s ∷ slots) e = e
+
 module _ (t : KeptThread) (index : ℕ) (changes : List ContentChange) (w : Site) (p : Pair) (slots : List Slot) (move : Gstate) (k : IsTurn t index changes w p slots move) where
   abbrev ps : List Pair
   ps = thread_at w (p ∷ [])
@@ -89,14 +89,6 @@ module _ (t : KeptThread) (index : ℕ) (changes : List ContentChange) (w : Site
   at_is : (thread_pair t index).at ≡ p.at
   at_is = ap (λ (z : Pair). z.at) pair_is
 
-  front_has : (cut : ℕ) → 0 < cut → HasFirst p.content.slots → BeginWithSuperblock (take cut slots)
-  front_has cut some h = go cut some slots (k.first h)
-    where
-      go : (cut : ℕ) → 0 < cut → (slots : List Slot) → BeginWithSuperblock slots → BeginWithSuperblock (take cut slots)
-      go zero some slots e = absurd (omega arith)
-      go (suc cut) some [] e = e
-      go (suc cut) some (s ∷ slots) e = e
-
   -- ---- on the disk
 
   placed_two : (disk : Disk) (fresh : ℕ × ℕ) (cut : ℕ) → 0 < cut → AreOn t index c disk fresh cut → IsPlaced t.disk disk p (cut_front p.at c cut fresh) (back_pair c cut fresh ∷ []) (fresh.0 ∷ fresh.1 ∷ [])
@@ -105,7 +97,7 @@ module _ (t : KeptThread) (index : ℕ) (changes : List ContentChange) (w : Site
     same = same_four t index w p k.there k.place disk fresh is.others;
     contents = (ap (content_at disk) (sym at_is) ∙ is.front, (is.back, tt));
     first = λ h b. subst (λ at. BeginsWith (current_block disk at) superblock_entry) at_is
-        (is.parts.first (subst (λ at. BeginsWith (current_block t.disk at) superblock_entry) (sym at_is) b) (front_has cut some h));
+        (is.parts.first (subst (λ at. BeginsWith (current_block t.disk at) superblock_entry) (sym at_is) b) (front_begins cut some slots (k.first h)));
   }
 
   -- ---- free blocks
@@ -231,12 +223,8 @@ module _ (t : KeptThread) (index : ℕ) (changes : List ContentChange) (w : Site
           let same = made_same is.content m in
           inr (turned_one (with_blocks left t.disk) (subst (λ d. IsPairWritten t index d (with_blocks left t.disk)) same is.written) (subst (FitsInPair t.disk.block_size t.disk.page) same fits))
 
-  alone_on : (disk : Disk) → Stays disk ⊎ HasTurned t.disk w p slots move disk (record { at = p.at; content = content_with p slots move }) [] → Stays disk ⊎ TurnedOn t w p slots move disk
-  alone_on disk (inl d) = inl d
-  alone_on disk (inr x) = inr (record { q = record { at = p.at; content = content_with p slots move }; more = []; turned = x; fresh = λ b some. absurd (omega arith) })
-
   pub left_put : IsMapped t → (left : Blocks) → LeftByPut t index changes left → Stays (with_blocks left t.disk) ⊎ TurnedOn t w p slots move (with_blocks left t.disk)
-  left_put m left (inl is) = alone_on (with_blocks left t.disk) (left_alone left is)
+  left_put m left (inl is) = ⊎_elim (λ d. inl d) (λ x. inr (record { q = record { at = p.at; content = content_with p slots move }; more = []; turned = x; fresh = λ b some. absurd (omega arith) })) (left_alone left is)
   left_put m left (inr (large, (fresh, (two, is)))) = go is.content
     where
       go : HasOldPair t index (with_blocks left t.disk) ⊎ SplitOnDisk t index changes fresh (with_blocks left t.disk) → Stays (with_blocks left t.disk) ⊎ TurnedOn t w p slots move (with_blocks left t.disk)

@@ -1,5 +1,5 @@
 -- A rename across pairs onto an empty directory: where the directory's pair stands after the move, and what the last step comes to.
-use Rattle.lfs_operations.proofs.Common.{ℕ, zero, suc, ◌≡◌, ◌≢◌, ◌<◌, ◌⊎◌, inl, inr, ◌-◌, Bool, true, false, cond, nat_eq, slice_get, take, List, [], ◌∷◌, ◌++◌, length, map, Some, None, sym, ap, ap₂, subst, ◌∙◌, arith, append_assoc, append-nil, refl, AllByRecursion, IsDistinct, recursion_from_All, same_Some, last_name, tree_renaming, without_prefix, Blocks, ContentChange, IsPairAt, IsPlaceOf, FitsPair, IsUnreachedOrRemoved, Name, HasEitherTree as IsLeftOf, with_blocks, slot_of, pair_with_slots, Branch, Ctz, Inline, Slot, Struct, gstate_xor, zero_gstate, same_pair, path_or_root, ThreadDirectory, Pair, anchor_address, pairs_blocks, pairs_from_root, first_address, pairs_gstate, root_address, count_before_root, Path, branch_address, address_at_path, HasNoEmpties, IsWritable, IsAccepted, IsReachedBySome, LeadsTo, all_directories, all_entries, disk_tree, used_blocks, SameSlots, IsChangedImage, CompletesOperation, no_move_from, recovered_from, Each, number_occurrences, count_append, each_right, each_weaker, HasDirectory, chain_of_thread, site_shows, NoneGoes, joined_parts, none_where, rest_all, entry_only, get_here, place_at, shown_before, shown_behind, some_filled, pair_itself, pair_on, last_is, Gains, Keeps, Piece, Stays, olds_of, segment_of, renamed_addresses, IsReplaced, avoids_behind, avoids_front, same, site, slot_of_stands, drafts_of, parts_of, AnyByRecursion, Site, begin_of, dirs_at, thread_at, file_blocks, IsWritableChange, IsChain, pairs_behind, OldStays, from_old, two, KeptThread, empty_anchor, thread_pair, HasNoMove, Any, BeginsDirectory, all_at_firsts, begins_at_firsts, CanDropAt, IsPairDropped, LeftByDrop, CanEditIn, HasEndedMoveAt, gstate_naming, ArePutAndEnded, number_after_insertion, IsRenamedAcross, tree_moved, CanReplaceDirectoryAcross, IsMovedAcross, entry_across_changes, drops_emptied_pair}
+use Rattle.lfs_operations.proofs.Common.{ℕ, zero, suc, ◌≡◌, ◌<◌, ◌⊎◌, inl, inr, ◌-◌, Bool, true, false, cond, nat_eq, slice_get, take, List, [], ◌∷◌, ◌++◌, length, map, Some, None, sym, ap, ap₂, subst, ◌∙◌, arith, append_assoc, append-nil, refl, AllByRecursion, IsDistinct, recursion_from_All, same_Some, last_name, tree_renaming, without_prefix, Blocks, IsPairAt, IsPlaceOf, FitsPair, IsUnreachedOrRemoved, Name, HasEitherTree as IsLeftOf, with_blocks, slot_of, pair_with_slots, Branch, Ctz, Inline, Slot, Struct, gstate_xor, zero_gstate, same_pair, path_or_root, ThreadDirectory, Pair, anchor_address, pairs_blocks, pairs_from_root, first_address, pairs_gstate, root_address, count_before_root, Path, branch_address, address_at_path, HasNoEmpties, IsWritable, IsAccepted, IsReachedBySome, LeadsTo, all_directories, all_entries, disk_tree, used_blocks, SameSlots, IsChangedImage, CompletesOperation, no_move_from, recovered_from, Each, number_occurrences, count_append, each_right, each_weaker, HasDirectory, chain_of_thread, site_shows, NoneGoes, joined_parts, none_where, rest_all, entry_only, get_here, place_at, shown_before, shown_behind, some_filled, pair_itself, pair_on, last_is, Gains, Keeps, Piece, Stays, olds_of, segment_of, renamed_addresses, IsReplaced, avoids_behind, avoids_front, same, site, drafts_of, parts_of, AnyByRecursion, Site, dirs_at, thread_at, file_blocks, IsWritableChange, IsChain, pairs_behind, OldStays, from_old, two, KeptThread, empty_anchor, thread_pair, HasNoMove, Any, all_at_firsts, begins_at_firsts, CanDropAt, IsPairDropped, LeftByDrop, CanEditIn, HasEndedMoveAt, gstate_naming, ArePutAndEnded, number_after_insertion, IsRenamedAcross, tree_moved, CanReplaceDirectoryAcross, IsMovedAcross, entry_across_changes, drops_emptied_pair, WritesPairsTwo, WritesThreadTwo, second_step_pair, CanReplaceEntryAcross}
 use Rattle.lfs_model.specs.session.TreeEdits.{same_path}
 use Rattle.lfs_model.specs.session.Layout.{branch_addresses, removed_addresses}
 use Rattle.lfs_model.specs.session.Operations as ops
@@ -10,15 +10,17 @@ use Rattle.lfs_model.proofs.RenamedOnto.{IsRenameOnto, onto_completed}
 use Rattle.lfs_model.proofs.Trees.{not_before}
 use Rattle.lfs_model.proofs.TwoPlaces.{fits_fewer}
 use Rattle.lfs_operations.proofs.Held.{below, fits_there}
-use Rattle.lfs_operations.proofs.MovReplace.{aimed_onto, onto_directory}
+use Rattle.lfs_operations.proofs.MovReplace.{aimed_onto}
 use Rattle.lfs_operations.proofs.MovStep.{IsFirst, IsLeftOver, arr, first_turned, last_firsts, last_flying, last_kept, last_root, last_shape, last_size, last_state, last_taken, last_used, left_over}
 use Rattle.lfs_operations.proofs.MovTurned.{TurnedTo}
-use Rattle.lfs_operations.proofs.MovAcross.{Arranged}
+use Rattle.lfs_model.proofs.AcrossSteps.{Arranged}
 use Rattle.lfs_operations.proofs.OntoGone.{replaced_by, replaced_drops}
-use Rattle.lfs_operations.proofs.OntoPieces.{AreKnown, IsCutOut, alike_then, alike_without, cut_out, joined_stays}
-use Rattle.lfs_operations.proofs.Owning.{used_same}
-use Rattle.lfs_operations.proofs.RmdirPlaces.{HasOwnPair, led_to, own_pair, HasFront, front_of, get_some, not_the_root, number_of_first, soft_end}
+use Rattle.lfs_model.proofs.CutPieces.{AreKnown, IsCutOut, alike_then, alike_without, cut_out, joined_stays}
+use Rattle.lfs_model.proofs.UsedCounts.{used_same}
+use Rattle.lfs_model.proofs.EmptyDirectories.{HasFront, front_of, get_some, not_the_root, number_of_first, soft_end}
+use Rattle.lfs_operations.proofs.OwnPair.{HasOwnPair, led_to, own_pair}
 use Rattle.lfs_operations.proofs.LastDrop.{IsAllButDropped, alike_end, can_drop_last, left_last, shows_dropped, taken_end}
+use Rattle.lfs_operations.proofs.OntoWritten.{end_below, writes_one}
 
 -- ---- lists
 
@@ -32,22 +34,27 @@ somewhere [] o h = absurd h
 somewhere (x ∷ xs) o (inl e) = (0, ap Some e)
 somewhere (x ∷ xs) o (inr h) = let s = somewhere xs o h in (suc s.0, s.1)
 
-pub old_below : (t : KeptThread) (old_pair old_id first new_pair new_id : ℕ) (name : Name) (gone : ℕ) → CanReplaceDirectoryAcross t old_pair old_id first new_pair new_id name gone → old_pair < length t.pairs
-old_below t old_pair old_id first new_pair new_id name gone rename = below t rename.old.ready rename.old.first old_pair rename.old.stands.pair rename.old.stands.rest rename.old.stands.place
+pub two_written : {t : KeptThread} {old_pair old_id first new_pair new_id : ℕ} {name : Name} {gone : ℕ} (rename : CanReplaceDirectoryAcross t old_pair old_id first new_pair new_id name gone) {m : KeptThread}
+    → WritesPairsTwo t (second_step_pair t old_pair first) new_pair m → WritesThreadTwo t m
+two_written {t = t} {old_pair = old_pair} {first = first} {new_pair = new_pair} rename {m = m} w =
+    let can = rename.onto.old in
+    let b = rename.onto.target in
+    writes_one t m (second_step_pair t old_pair first) new_pair (end_below (length t.pairs) old_pair (drops_emptied_pair t old_pair first) (below t can.ready can.first old_pair can.stands.pair can.stands.rest can.stands.place))
+    (below t can.ready rename.onto.to_first new_pair b.pair b.rest b.place) w
 
-pub new_below : (t : KeptThread) (old_pair old_id first new_pair new_id : ℕ) (name : Name) (gone : ℕ) → CanReplaceDirectoryAcross t old_pair old_id first new_pair new_id name gone → new_pair < length t.pairs
-new_below t old_pair old_id first new_pair new_id name gone rename = below t rename.old.ready rename.to_first new_pair rename.target.pair rename.target.rest rename.target.place
-
-module _ (t : KeptThread) (old_pair old_id first new_pair new_id : ℕ) (name : Name) (gone : ℕ) (rename : CanReplaceDirectoryAcross t old_pair old_id first new_pair new_id name gone)
-    (m : KeptThread) (h : IsMovedAcross t true true old_pair old_id first new_pair new_id name m) where
+module _ {t : KeptThread} {old_pair old_id first new_pair new_id : ℕ} {name : Name} {gone : ℕ} (rename : CanReplaceDirectoryAcross t old_pair old_id first new_pair new_id name gone) {m : KeptThread}
+    (h : IsMovedAcross t true true old_pair old_id first new_pair new_id name m) where
   abbrev is : ArePutAndEnded t old_pair old_id (drops_emptied_pair t old_pair first) new_pair (entry_across_changes true t old_pair old_id new_pair new_id name) m
   is = h.done
 
-  abbrev can : CanEditIn t old_pair old_id
-  can = rename.old
+  abbrev onto : CanReplaceEntryAcross t true old_pair old_id first new_pair new_id name
+  onto = rename.onto
 
-  abbrev tb : IsPlaceOf t.pairs rename.to_first name new_pair new_id
-  tb = rename.target
+  abbrev can : CanEditIn t old_pair old_id
+  can = onto.old
+
+  abbrev tb : IsPlaceOf t.pairs onto.to_first name new_pair new_id
+  tb = onto.target
 
   abbrev p : Pair
   p = tb.pair
@@ -80,25 +87,22 @@ module _ (t : KeptThread) (old_pair old_id first new_pair new_id : ℕ) (name : 
   wo = site t.disk t.pairs can.path can.at can.ready.accepted can.leads can.first old_pair q0 can.stands.rest can.stands.place can.begins
 
   abbrev w : Site
-  w = site t.disk t.pairs rename.path rename.at can.ready.accepted rename.leads rename.to_first new_pair p tb.rest tb.place rename.begins
+  w = site t.disk t.pairs onto.path onto.at can.ready.accepted onto.leads onto.to_first new_pair p tb.rest tb.place onto.begins
 
   abbrev from : Path
   from = can.path ++ can.name ∷ []
 
   abbrev to : Path
-  to = rename.path ++ name ∷ []
+  to = onto.path ++ name ∷ []
 
   abbrev goes : Bool
   goes = drops_emptied_pair t old_pair first
 
-  abbrev changes : List ContentChange
-  changes = entry_across_changes true t old_pair old_id new_pair new_id name
-
   abbrev o : Pair
   o = thread_pair t gone
 
-  first_step : IsFirst t true old_pair goes new_pair changes wo q0 lo s ro w p l (Some g) v r from to name
-  first_step = (aimed_onto true t old_pair old_id first new_pair new_id name (onto_directory rename) h.address).way
+  first_step : IsFirst t true old_pair goes new_pair (entry_across_changes true t old_pair old_id new_pair new_id name) wo q0 lo s ro w p l (Some g) v r from to name
+  first_step = (aimed_onto true t old_pair old_id first new_pair new_id name onto h.address).way
 
   x : TurnedTo t w p (l ++ v ∷ r) (gstate_xor (gstate_naming true q0.at (length lo)) p.content.move) is.mid
   x = first_turned first_step is.mid is.put
@@ -106,23 +110,18 @@ module _ (t : KeptThread) (old_pair old_id first new_pair new_id : ℕ) (name : 
   e : HasEndedMoveAt is.mid (number_after_insertion old_pair new_pair (length is.mid.pairs - length t.pairs)) (length lo) goes m
   e = subst (λ i. HasEndedMoveAt is.mid (number_after_insertion old_pair new_pair (length is.mid.pairs - length t.pairs)) i goes m) (sym can.stands.stands.number) is.ended
 
-  same_begin : same_pair (begin_of w (p ∷ [])) rename.at ≡ true
-  same_begin = same t.disk t.pairs rename.path rename.at can.ready.accepted rename.leads rename.to_first new_pair p tb.rest tb.place rename.begins
-
-  leads : LeadsTo (thread_at w (p ∷ [])) rename.path rename.at
-  leads = subst (λ z. LeadsTo z rename.path rename.at) first_step.turn.there rename.leads
-
   -- ---- the directory before
 
-  entry_there : slice_get (all_entries (thread_at w (p ∷ [])) rename.at) (place_at w l) ≡ Some g
-  entry_there = ap (λ z. slice_get z (place_at w l)) (site_shows t.disk w p l (g ∷ []) r rename.at first_step.setting.accepted first_step.setting.site (no_move_from (thread_at w (p ∷ [])) first_step.setting.settled) same_begin tb.stands.held
+  entry_there : slice_get (all_entries (thread_at w (p ∷ [])) onto.at) (place_at w l) ≡ Some g
+  entry_there = ap (λ z. slice_get z (place_at w l)) (site_shows t.disk w p l (g ∷ []) r onto.at first_step.setting.accepted first_step.setting.site (no_move_from (thread_at w (p ∷ [])) first_step.setting.settled)
+      (same t.disk t.pairs onto.path onto.at can.ready.accepted onto.leads onto.to_first new_pair p tb.rest tb.place onto.begins) tb.stands.held
       ∙ ap (λ z. shown_before w l ++ (z ++ shown_behind w r)) (entry_only g tb.stands.entry)) ∙ get_here (shown_before w l) (shown_behind w r) g
 
-  led_there : LeadsTo t.pairs (rename.path ++ name ∷ []) rename.to
-  led_there = led_to t can.ready rename.path rename.at rename.leads rename.to_first new_pair new_id name tb rename.begins rename.to rename.branch
+  led_there : LeadsTo t.pairs (onto.path ++ name ∷ []) rename.to
+  led_there = led_to t can.ready onto.path onto.at onto.leads onto.to_first new_pair new_id name tb onto.begins rename.to rename.branch
 
   own : HasOwnPair t w.chain (dirs_at w (p ∷ [])) gone rename.to
-  own = own_pair t can.ready w.chain (dirs_at w (p ∷ [])) first_step.turn.there first_step.setting.site.chain rename.path name rename.to gone led_there rename.below rename.alike rename.empty rename.alone
+  own = own_pair t can.ready w.chain (dirs_at w (p ∷ [])) first_step.turn.there first_step.setting.site.chain onto.path name rename.to gone led_there rename.below rename.alike rename.empty rename.alone
 
   abbrev front : HasFront (dirs_at w (p ∷ [])) rename.to
   front = own.front
@@ -141,19 +140,17 @@ module _ (t : KeptThread) (old_pair old_id first new_pair new_id : ℕ) (name : 
 
   -- ---- and after the move
 
-  moved : IsWritableChange t.disk t.pairs m.disk m.pairs (tree_renaming (can.path ++ can.name ∷ []) (rename.path ++ name ∷ [])) (renamed_addresses (can.path ++ can.name ∷ []) (rename.path ++ name ∷ []))
+  moved : IsWritableChange t.disk t.pairs m.disk m.pairs (tree_renaming (can.path ++ can.name ∷ []) (onto.path ++ name ∷ [])) (renamed_addresses (can.path ++ can.name ∷ []) (onto.path ++ name ∷ []))
   moved = last_taken first_step is.mid x m e
-
-  begun : BeginsDirectory (all_directories m.pairs) rename.to
-  begun = begins_at_firsts (all_directories t.pairs) (all_directories m.pairs) (last_firsts first_step is.mid x m e) rename.to (can.ready.accepted.branches (rename.path ++ name ∷ []) rename.to led_there)
 
   found : HasDirectory (pairs_from_root m.pairs) rename.to
   found =
       let k = links_behind (Some anchor_address) (count_before_root m.pairs) m.pairs moved.follows.accepted.thread.links in
-      directory_found (pairs_gstate m.pairs) rename.to k.0 (pairs_from_root m.pairs) k.1 begun
+      directory_found (pairs_gstate m.pairs) rename.to k.0 (pairs_from_root m.pairs) k.1
+      (begins_at_firsts (all_directories t.pairs) (all_directories m.pairs) (last_firsts first_step is.mid x m e) rename.to (can.ready.accepted.branches (onto.path ++ name ∷ []) rename.to led_there))
 
   now : HasFront (pairs_from_root m.pairs) rename.to
-  now = front_of (pairs_from_root m.pairs) rename.to found (λ none. not_the_root t.disk t.pairs rename.path name rename.to can.ready.accepted led_there
+  now = front_of (pairs_from_root m.pairs) rename.to found (λ none. not_the_root t.disk t.pairs onto.path name rename.to can.ready.accepted led_there
       (subst (λ z. same_pair z rename.to ≡ true) (sym (ap first_address (found.is ∙ ap (λ z. z ++ (found.first ∷ found.run ++ found.after)) none)) ∙ moved.follows.root) found.at))
 
   abbrev chain : List Pair
@@ -168,26 +165,21 @@ module _ (t : KeptThread) (old_pair old_id first new_pair new_id : ℕ) (name : 
   still_there : (k : ℕ) × (slice_get m.pairs k ≡ Some o)
   still_there = somewhere m.pairs o (last_kept first_step is.mid x m e o not_new rename.empty rename.alone (among_there t.pairs gone o o_there))
 
-  now_is : now.first ≡ o
-  now_is = (number_of_first m.disk chain (pairs_from_root m.pairs) rename.to accepted_now now still_there.0 o (subst (λ z. slice_get z still_there.0 ≡ Some o) whole still_there.1) rename.alike).1
-
   dirs_now : pairs_from_root m.pairs ≡ now.front ++ now.before ∷ o ∷ (now.run ++ now.after)
-  dirs_now = now.is ∙ ap (λ z. now.front ++ now.before ∷ z ∷ (now.run ++ now.after)) now_is
+  dirs_now = now.is ∙ ap (λ z. now.front ++ now.before ∷ z ∷ (now.run ++ now.after))
+      (number_of_first m.disk chain (pairs_from_root m.pairs) rename.to accepted_now now still_there.0 o (subst (λ z. slice_get z still_there.0 ≡ Some o) whole still_there.1) rename.alike).1
 
   there_now : m.pairs ≡ take (count_before_root m.pairs) m.pairs ++ (now.front ++ now.before ∷ o ∷ (now.run ++ now.after))
   there_now = whole ∙ ap (λ z. take (count_before_root m.pairs) m.pairs ++ z) dirs_now
 
-  no_list : (b : ℕ) → number_occurrences b (file_blocks t.disk (g ∷ [])) ≡ 0
-  no_list b = ap (λ z. number_occurrences b (file_blocks t.disk (record g { struct = z } ∷ []))) rename.branch
-
-  module _ (n : ℕ) (at : IsPairAt m.pairs (thread_pair t gone).at n) where
+  module _ {n : ℕ} (at : IsPairAt m.pairs (thread_pair t gone).at n) where
     no_move_now : HasNoMove (pairs_gstate m.pairs)
     no_move_now = subst HasNoMove (sym (last_state first_step is.mid x m e)) (record { kind = refl; id = refl; pair = refl })
 
     chain_now : IsChain (take (count_before_root m.pairs) m.pairs) (now.front ++ now.before ∷ o ∷ (now.run ++ now.after))
     chain_now = subst (IsChain (take (count_before_root m.pairs) m.pairs)) dirs_now (chain_of_thread m.pairs).1
 
-    pub replacing_across : IsAllButDropped t m o n (tree_renaming (can.path ++ can.name ∷ []) (rename.path ++ name ∷ [])) (renamed_addresses (can.path ++ can.name ∷ []) (rename.path ++ name ∷ []))
+    pub replacing_across : IsAllButDropped t m o n (tree_renaming (can.path ++ can.name ∷ []) (onto.path ++ name ∷ [])) (renamed_addresses (can.path ++ can.name ∷ []) (onto.path ++ name ∷ []))
     replacing_across = record {
       ready = can.ready;
       taken = moved;
@@ -203,14 +195,14 @@ module _ (t : KeptThread) (old_pair old_id first new_pair new_id : ℕ) (name : 
       soft = now.soft;
       drops = replaced_drops t m from to rename.to (take (count_before_root m.pairs) m.pairs) now.front now.before o (now.run ++ now.after) can.ready moved no_move_now there_now chain_now
           (subst (λ z. IsReplaced (address_at_path (all_entries z) (root_address z)) from to rename.to) (sym first_step.turn.there)
-          (subst (λ (n : Name). IsReplaced (address_at_path (all_entries (thread_at w (p ∷ []))) (root_address (thread_at w (p ∷ [])))) from (rename.path ++ n ∷ []) rename.to) tb.stands.named
-          (replaced_by t.disk (thread_at w (p ∷ [])) rename.path rename.at (place_at w l) g rename.to from first_step.setting.accepted leads entry_there rename.branch own.empty
-          (ap (λ (n : Name). without_prefix from (rename.path ++ n ∷ [])) tb.stands.named ∙ rename.not_beneath))))
+          (subst (λ (n : Name). IsReplaced (address_at_path (all_entries (thread_at w (p ∷ []))) (root_address (thread_at w (p ∷ [])))) from (onto.path ++ n ∷ []) rename.to) tb.stands.named
+          (replaced_by t.disk (thread_at w (p ∷ [])) onto.path onto.at (place_at w l) g rename.to from first_step.setting.accepted (subst (λ z. LeadsTo z onto.path onto.at) first_step.turn.there onto.leads) entry_there rename.branch own.empty
+          (ap (λ (n : Name). without_prefix from (onto.path ++ n ∷ [])) tb.stands.named ∙ onto.not_beneath))))
           (λ Q h. all_at_firsts Q (all_directories t.pairs) (all_directories m.pairs) (last_firsts first_step is.mid x m e) h)
           rename.alike rename.alone;
       empty = rename.empty;
       used = used_same m.map (used_blocks m.disk m.pairs ++ file_blocks t.disk (g ∷ [])) (used_blocks m.disk m.pairs)
-          (λ b. let a = count_append b (used_blocks m.disk m.pairs) (file_blocks t.disk (g ∷ [])) in let c = no_list b in omega arith) (last_used first_step is.mid x m e);
+          (λ b. let a = count_append b (used_blocks m.disk m.pairs) (file_blocks t.disk (g ∷ [])) in let c : number_occurrences b (file_blocks t.disk (g ∷ [])) ≡ 0 = ap (λ z. number_occurrences b (file_blocks t.disk (record g { struct = z } ∷ []))) rename.branch in omega arith) (last_used first_step is.mid x m e);
       size = last_size first_step is.mid x m e;
       flying = last_flying first_step is.mid x m e;
       root = last_root first_step is.mid x m e;
@@ -219,7 +211,7 @@ module _ (t : KeptThread) (old_pair old_id first new_pair new_id : ℕ) (name : 
 
     -- ---- where the slots stand
 
-    module _ (new : KeptThread) (d : IsPairDropped m (n - 1) zero_gstate new) where
+    module _ {new : KeptThread} (d : IsPairDropped m (n - 1) zero_gstate new) where
       abbrev a : Arranged t.disk wo q0 w p x.q x.more
       a = arr first_step is.mid x
 
@@ -250,12 +242,9 @@ module _ (t : KeptThread) (old_pair old_id first new_pair new_id : ℕ) (name : 
       o_fits : FitsPair t.disk (pair_with_slots (lo ++ ro) q0)
       o_fits = fits_fewer t.disk q0 lo ro s can.stands.stands.held (fits_there t can.ready can.first old_pair q0 can.stands.rest can.stands.place)
 
-      filled : l ++ v ∷ r ≢ []
-      filled k = some_filled l r v k
-
       known : (b : Bool) → OldStays (from_old b a.front a.mid p) q0 (lo ++ ro) left.os → AreKnown t.disk o None (pieces_of b)
-      known true stays = (o_fits, stays, not_old, (x.turned.at, x.turned.is, x.turned.became, filled, not_new, tt))
-      known false stays = (x.turned.at, x.turned.is, x.turned.became, filled, not_new, (o_fits, stays, not_old, tt))
+      known true stays = (o_fits, stays, not_old, (x.turned.at, x.turned.is, x.turned.became, some_filled l r v, not_new, tt))
+      known false stays = (x.turned.at, x.turned.is, x.turned.became, some_filled l r v, not_new, (o_fits, stays, not_old, tt))
 
       -- ---- before
 
@@ -274,15 +263,12 @@ module _ (t : KeptThread) (old_pair old_id first new_pair new_id : ℕ) (name : 
       dirs_were : dirs_at w (p ∷ []) ≡ ahead ++ o ∷ behind
       dirs_were = own.dirs_are ∙ sym (append_assoc front.front (front.before ∷ []) (o ∷ (front.run ++ front.after)))
 
-      abbrev Apart : Pair → Type 0
-      Apart z = same_pair z.at rename.to ≡ false
-
       distinct_were : IsDistinct nat_eq (pairs_blocks ((w.chain ++ ahead) ++ o ∷ behind))
       distinct_were = subst (λ z. IsDistinct nat_eq (pairs_blocks z)) (ap (λ z. w.chain ++ z) dirs_were ∙ sym (append_assoc w.chain ahead (o ∷ behind))) first_step.setting.accepted.thread.distinct
 
       cut : IsCutOut t.disk rename.to o None (pieces_of a.b)
       cut = cut_out t.disk rename.to o rename.alike rename.alone None (pieces_of a.b) ahead behind (olds a.b ∙ sym two_is ∙ dirs_were) (soft_end None front.front front.before front.soft)
-          (each_right Apart w.chain ahead (avoids_front (w.chain ++ ahead) o behind rename.to distinct_were rename.alike)) (avoids_behind (w.chain ++ ahead) o behind rename.to distinct_were rename.alike) (known a.b left.stays)
+          (each_right (λ (z : Pair). same_pair z.at rename.to ≡ false) w.chain ahead (avoids_front (w.chain ++ ahead) o behind rename.to distinct_were rename.alike)) (avoids_behind (w.chain ++ ahead) o behind rename.to distinct_were rename.alike) (known a.b left.stays)
 
       all_olds : olds_of cut.all ≡ two a.b a.front (q0 ∷ []) a.mid (p ∷ []) a.back
       all_olds = cut.olds ∙ olds a.b
@@ -340,10 +326,10 @@ module _ (t : KeptThread) (old_pair old_id first new_pair new_id : ℕ) (name : 
           (subst (NoneGoes (λ z. IsReachedBySome ps z → ⊥) None) (sym all_olds) unreached) cut.there alike_after
 
       to_slot : slot_of ps to ≡ Some g
-      to_slot = subst (λ z. slot_of z to ≡ Some g) were (slot_of_stands t.disk t.pairs rename.path rename.at can.ready.accepted rename.leads rename.to_first new_pair new_id name (no_move_from t.pairs can.ready.settled) tb rename.begins)
+      to_slot = subst (λ z. slot_of z to ≡ Some g) a.old_is first_step.to_slot
 
       removes : (given to_given : List ℕ) → path_or_root given ≡ from → path_or_root to_given ≡ to → removed_addresses ps (ops.Rename given to_given) ≡ rename.to ∷ []
-      removes given to_given given_is to_is = ap (λ z. cond z [] (branch_addresses (slot_of ps (path_or_root to_given)))) (ap₂ same_path given_is to_is ∙ not_before from to rename.not_beneath)
+      removes given to_given given_is to_is = ap (λ z. cond z [] (branch_addresses (slot_of ps (path_or_root to_given)))) (ap₂ same_path given_is to_is ∙ not_before from to onto.not_beneath)
           ∙ ap branch_addresses (ap (slot_of ps) to_is ∙ to_slot) ∙ go g.struct rename.branch
         where
           go : (z : Struct) → z ≡ Branch rename.to → branch_addresses (Some (record g { struct = z })) ≡ rename.to ∷ []
@@ -362,16 +348,15 @@ module _ (t : KeptThread) (old_pair old_id first new_pair new_id : ℕ) (name : 
         still_writable = (taken_end replacing_across new d).writable;
         held = can.stands.stands.held;
         was = tb.stands.held;
-        from_slot = ap (slot_of ps) given_is ∙ subst (λ z. slot_of z from ≡ Some s) were
-            (slot_of_stands t.disk t.pairs can.path can.at can.ready.accepted can.leads can.first old_pair old_id can.name (no_move_from t.pairs can.ready.settled) can.stands can.begins);
+        from_slot = ap (slot_of ps) given_is ∙ subst (λ z. slot_of z from ≡ Some s) a.old_is first_step.from_slot;
         to_slot = ap (slot_of ps) to_is ∙ to_slot;
-        to_name = ap last_name to_is ∙ last_is rename.path name;
+        to_name = ap last_name to_is ∙ last_is onto.path name;
         stood = subst (λ k. Stood t.disk (IsUnreachedOrRemoved ps (ops.Rename given to_given)) k None (w.chain ++ two a.b a.front (pair_with_slots (lo ++ ro) q0 ∷ []) a.mid (pair_with_slots (l ++ v ∷ r) p ∷ []) a.back) new.pairs) (sym two_chain)
             (subst (λ z. Stood t.disk (IsUnreachedOrRemoved ps (ops.Rename given to_given)) (length w.chain) None (w.chain ++ z) new.pairs) (cut.drafts ∙ drafts a.b)
             (subst (λ ds. Stood t.disk (λ y. (IsReachedBySome ps y → ⊥) ⊎ Any (λ at. same_pair y at ≡ true) ds) (length w.chain) None (w.chain ++ drafts_of (map segment_of cut.all)) new.pairs) (sym (removes given to_given given_is to_is)) stood));
       }
 
-      pub renamed_onto : IsRenamedAcross t new can.path can.name rename.path name
+      pub renamed_onto : IsRenamedAcross t new can.path can.name onto.path name
       renamed_onto = record {
         now = shows_dropped replacing_across new d;
         completed = λ z given to_given tree given_is to_is. subst (λ y. CompletesOperation t.disk y z (ops.Rename given to_given) new.disk new.pairs) (sym were)
@@ -381,7 +366,7 @@ module _ (t : KeptThread) (old_pair old_id first new_pair new_id : ℕ) (name : 
     pub can_drop_onto : CanDropAt m n zero_gstate
     can_drop_onto = can_drop_last replacing_across
 
-    pub left_across : (left : Blocks) → LeftByDrop m (n - 1) zero_gstate left → IsLeftOf (with_blocks left t.disk) (disk_tree t.disk t.pairs) (tree_moved t can.path can.name rename.path name)
+    pub left_across : (left : Blocks) → LeftByDrop m (n - 1) zero_gstate left → IsLeftOf (with_blocks left t.disk) (disk_tree t.disk t.pairs) (tree_moved t can.path can.name onto.path name)
     left_across left h = left_last replacing_across left h
 
   pub not_nowhere : AllByRecursion (λ z. same_pair z.at o.at ≡ false) m.pairs → ⊥

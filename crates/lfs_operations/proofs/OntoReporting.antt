@@ -1,5 +1,5 @@
 -- What the steps of a rename onto a directory tell, write and leave, one after the other.
-use Rattle.lfs_operations.proofs.Common.{ℕ, ◌≡◌, ◌<◌, ◌⊎◌, inl, inr, Bool, true, false, List, length, arith, Result, Ok, sym, ap, subst, ◌∙◌, fault_count, ContentChange, KeptThread, ThreadView, OnlyReadsThread, Error, has_failed_after, ending_written_pair, ReportsTakingCommits, second_step_pair, ReportsCommit, drops_emptied_pair, ReportsReadCommit, ReportsReadCommits}
+use Rattle.lfs_operations.proofs.Common.{ℕ, ◌≡◌, ◌<◌, inl, false, List, Result, Ok, sym, ap, subst, ◌∙◌, fault_count, ContentChange, ThreadView, Error, has_failed_after, ReportsTakingCommits, ReportsCommit, ReportsReadCommit, ReportsReadCommits, ⊎_elim}
 
 pub over_from : {X : Type 0} (old new : ThreadView) (result : Result X Error) → ReportsReadCommit old new result → ReportsReadCommits old new result
 over_from old new result h = record { failed = h.failed; errors = h.reported.errors; fault = h.reported.fault; no_fault = h.reported.no_fault }
@@ -16,16 +16,5 @@ over_then old mid new a first second ok one two =
 
 -- ---- across pairs
 
-pub works_after : {X : Type 0} (old new : ThreadView) (index : ℕ) (changes : List ContentChange) (r : Result X Error) (x : X) → ReportsTakingCommits old new index changes r → r ≡ Ok x → new.failed ≡ false
-works_after old new index changes r x h is = go h.failed
-  where
-    go : (new.failed ≡ has_failed_after r) ⊎ ((new.failed ≡ false) × OnlyReadsThread old.kept new.kept) → new.failed ≡ false
-    go (inl e) = e ∙ ap has_failed_after is
-    go (inr e) = e.0
-
-pub left_below : (t : KeptThread) (pair first : ℕ) → pair < length t.pairs → second_step_pair t pair first < length t.pairs
-left_below t pair first l = go (drops_emptied_pair t pair first)
-  where
-    go : (b : Bool) → ending_written_pair pair b < length t.pairs
-    go true = omega arith
-    go false = l
+pub works_after : {X : Type 0} {old new : ThreadView} {index : ℕ} {changes : List ContentChange} {r : Result X Error} {x : X} → ReportsTakingCommits old new index changes r → r ≡ Ok x → new.failed ≡ false
+works_after h is = ⊎_elim (λ e. e ∙ ap has_failed_after is) (λ e. e.0) h.failed

@@ -1,7 +1,7 @@
 -- Steps that write blocks of pairs, and at most two blocks that were free.
-use Rattle.lfs_operations.proofs.Common.{ℕ, zero, suc, ◌≡◌, ◌≢◌, ◌≤◌, ◌<◌, ◌⊎◌, inl, inr, ◌+◌, Bool, true, false, List, [], ◌∷◌, ◌++◌, length, get_or, insert, remove, set, length-set, refl, ap, ◌∙◌, arith, cases_lt, All-from_recursion, recursion_from_All, IsFree, ContentChange, Pair, pairs_blocks, address_blocks, addresses_blocks, Contains-number_occurrences, number_occurrences-Contains, number_occurrences, count_append, each_append, each_counted, each_from_counted, each_weaker, KeptThread, ChangesThreadBlocks, back_pair, front_pair, empty_anchor, thread_pair, All, Contains, ArePut, WritesThreadTwo, WritesPairTwo, TakesAtMostTwo, HasEndedMoveAt, content_move_ended, ending_written_pair, pairs_move_ended, WritesThreadFree, WritesPairsTwo}
+use Rattle.lfs_operations.proofs.Common.{ℕ, zero, suc, ◌≡◌, ◌≤◌, ◌<◌, ◌⊎◌, inl, inr, ◌+◌, Bool, true, false, List, [], ◌∷◌, ◌++◌, length, get_or, insert, remove, set, length-set, refl, ap, ◌∙◌, arith, IsFree, ContentChange, Pair, pairs_blocks, address_blocks, Contains-number_occurrences, number_occurrences-Contains, number_occurrences, count_append, each_append, each_from_counted, each_weaker, KeptThread, ChangesThreadBlocks, back_pair, front_pair, empty_anchor, thread_pair, Contains, ArePut, WritesThreadTwo, WritesPairTwo, TakesAtMostTwo, HasEndedMoveAt, content_move_ended, ending_written_pair, pairs_move_ended, WritesThreadFree, WritesPairsTwo}
 use Rattle.lfs_operations.proofs.MovStep.{blocks_alike}
-use Rattle.lfs_operations.proofs.Putting.{writes_trans, writes_wider}
+use Rattle.lfs_operations.proofs.Putting.{writes_trans, writes_among}
 
 -- ---- blocks of pairs
 
@@ -29,111 +29,83 @@ blocks_removed (x ∷ xs) (suc n) b =
     let f = count_append b (address_blocks x.at) (pairs_blocks xs) in
     omega (arith, k, e, f)
 
-pub there_counted : (xs : List Pair) (i : ℕ) (d : Pair) → i < length xs → (b : ℕ) → 1 ≤ number_occurrences b (address_blocks (get_or xs i d).at) → 1 ≤ number_occurrences b (pairs_blocks xs)
-there_counted [] i d l b h = absurd (omega arith)
-there_counted (x ∷ xs) zero d l b h = let e = count_append b (x.at.0 ∷ x.at.1 ∷ []) (pairs_blocks xs) in omega arith
-there_counted (x ∷ xs) (suc i) d l b h = let k = there_counted xs i d (omega arith) b h in let e = count_append b (x.at.0 ∷ x.at.1 ∷ []) (pairs_blocks xs) in omega arith
-
--- ---- fewer blocks
-
--- each of these numbers is one of those
-abbrev AreOf : List ℕ → List ℕ → Type 0
-AreOf bs cs = (b : ℕ) → 1 ≤ number_occurrences b bs → 1 ≤ number_occurrences b cs
-
-apart_wider : (bs cs : List ℕ) → AreOf bs cs → (k : ℕ) → All (λ c. c ≢ k) cs → All (λ c. c ≢ k) bs
-apart_wider bs cs of k h = All-from_recursion (λ c. c ≢ k) bs (each_from_counted (λ c. c ≢ k) bs (λ b some. each_counted (λ c. c ≢ k) cs (recursion_from_All (λ c. c ≢ k) cs h) b (of b some)))
-
-both_of : (xs ys cs : List ℕ) → AreOf xs cs → AreOf ys cs → AreOf (xs ++ ys) cs
-both_of xs ys cs f g b some = go (cases_lt 0 (number_occurrences b xs))
-  where
-    go : (0 < number_occurrences b xs) ⊎ (number_occurrences b xs ≤ 0) → 1 ≤ number_occurrences b cs
-    go (inl l) = f b (omega (arith, l))
-    go (inr l) = g b (let e = count_append b xs ys in omega (arith, l, e, some))
-
-pair_of : (t : KeptThread) (i : ℕ) (fresh : List ℕ) → i < length t.pairs → AreOf (address_blocks (thread_pair t i).at) (pairs_blocks t.pairs ++ fresh)
-pair_of t i fresh l b some = let k = there_counted t.pairs i empty_anchor l b some in let e = count_append b (pairs_blocks t.pairs) fresh in omega (arith, k, e)
-
-fresh_of : (t : KeptThread) (fresh : List ℕ) → AreOf fresh (pairs_blocks t.pairs ++ fresh)
-fresh_of t fresh b some = let e = count_append b (pairs_blocks t.pairs) fresh in omega (arith, some, e)
+-- those of one of them
+pub there_counted : (xs : List Pair) (i : ℕ) (d : Pair) → i < length xs → (b : ℕ) → number_occurrences b (address_blocks (get_or xs i d).at) ≤ number_occurrences b (pairs_blocks xs)
+there_counted [] i d l b = absurd (omega arith)
+there_counted (x ∷ xs) zero d l b = let e = count_append b (address_blocks x.at) (pairs_blocks xs) in omega (arith, e)
+there_counted (x ∷ xs) (suc i) d l b = let k = there_counted xs i d (omega arith) b in let e = count_append b (address_blocks x.at) (pairs_blocks xs) in omega (arith, k, e)
 
 -- ---- steps
 
 -- those of two pairs
 pub writes_one : (t m : KeptThread) (one other : ℕ) → one < length t.pairs → other < length t.pairs → WritesPairsTwo t one other m → WritesThreadTwo t m
-writes_one t m one other l k w =
-    let bs = address_blocks (thread_pair t other).at ++ (address_blocks (thread_pair t one).at ++ w.fresh) in
-    let cs = pairs_blocks t.pairs ++ w.fresh in
-    record {
-      fresh = w.fresh;
-      few = w.few;
-      free = w.free;
-      writes = writes_wider cs (apart_wider bs cs (both_of (address_blocks (thread_pair t other).at) (address_blocks (thread_pair t one).at ++ w.fresh) cs (pair_of t other w.fresh k)
-          (both_of (address_blocks (thread_pair t one).at) w.fresh cs (pair_of t one w.fresh l) (fresh_of t w.fresh)))) w.writes;
-    }
+writes_one t m one other l k w = record {
+  fresh = w.fresh;
+  few = w.few;
+  free = w.free;
+  writes = writes_among (λ b some.
+      let e = count_append b (pairs_blocks t.pairs) w.fresh in
+      let f = there_counted t.pairs one empty_anchor l b in
+      let g = there_counted t.pairs other empty_anchor k b in
+      omega (arith, some, e, f, g)
+      ) w.writes;
+}
 
 -- those of one pair
 pub writes_of_pair : (t m : KeptThread) (index : ℕ) → index < length t.pairs → WritesPairTwo t index m → WritesThreadTwo t m
-writes_of_pair t m index l w =
-    let at = (thread_pair t index).at in
-    let cs = pairs_blocks t.pairs ++ w.fresh in
-    record {
-      fresh = w.fresh;
-      few = w.few;
-      free = w.free;
-      writes = writes_wider cs (apart_wider (address_blocks at ++ w.fresh) cs (both_of (address_blocks at) w.fresh cs (pair_of t index w.fresh l) (fresh_of t w.fresh))) w.writes;
-    }
+writes_of_pair t m index l w = record {
+  fresh = w.fresh;
+  few = w.few;
+  free = w.free;
+  writes = writes_among (λ b some.
+      let e = count_append b (pairs_blocks t.pairs) w.fresh in
+      let f = there_counted t.pairs index empty_anchor l b in
+      omega (arith, some, e, f)
+      ) w.writes;
+}
 
 -- those of a pair that is changed, or cut in two
 pub put_within : (old mid : KeptThread) (index : ℕ) (changes : List ContentChange) → index < length old.pairs → ArePut old index changes mid → WritesPairTwo old index mid → TakesAtMostTwo old mid
 unfolding writes_of_pair
-put_within old mid index changes l (inl is) w =
-    let at = (thread_pair old index).at in
-    let cs = pairs_blocks old.pairs ++ w.fresh in
-    record {
-      written = writes_of_pair old mid index l w;
-      within = λ b h.
-          let k = number_occurrences-Contains (pairs_blocks mid.pairs) b h in
-          let same = ap (λ z. number_occurrences b (pairs_blocks z)) is.pairs ∙ ap (number_occurrences b) (blocks_set old.pairs index (record { at = at; content = is.content }) empty_anchor refl) in
-          let e = count_append b (pairs_blocks old.pairs) w.fresh in
-          Contains-number_occurrences cs b (omega (arith, k, same, e));
-    }
+put_within old mid index changes l (inl is) w = record {
+  written = writes_of_pair old mid index l w;
+  within = λ b h.
+      let k = number_occurrences-Contains (pairs_blocks mid.pairs) b h in
+      let same = ap (λ z. number_occurrences b (pairs_blocks z)) is.pairs ∙ ap (number_occurrences b) (blocks_set old.pairs index (record { at = (thread_pair old index).at; content = is.content }) empty_anchor refl) in
+      let e = count_append b (pairs_blocks old.pairs) w.fresh in
+      Contains-number_occurrences (pairs_blocks old.pairs ++ w.fresh) b (omega (arith, k, same, e));
+}
 put_within old mid index changes l (inr (large, (fresh, is))) w =
-    let at = (thread_pair old index).at in
     let front = front_pair old index is.content is.cut fresh in
     let back = back_pair is.content is.cut fresh in
-    let cs = pairs_blocks old.pairs ++ address_blocks fresh in
     record {
-      written = record {
-        fresh = address_blocks fresh;
-        few = omega arith;
-        free = (is.free.first, (is.free.second, tt));
-        writes = writes_wider cs (apart_wider (addresses_blocks at fresh) cs (both_of (address_blocks at) (address_blocks fresh) cs (pair_of old index (address_blocks fresh) l) (fresh_of old (address_blocks fresh)))) is.writes;
-      };
+      written = writes_of_pair old mid index l (record { fresh = address_blocks fresh; few = omega arith; free = (is.free.first, (is.free.second, tt)); writes = is.writes });
       within = λ b h.
           let k = number_occurrences-Contains (pairs_blocks mid.pairs) b h in
           let n = length-set old.pairs index front in
           let same = ap (λ z. number_occurrences b (pairs_blocks z)) is.pairs ∙ blocks_inserted (set old.pairs index front) (index + 1) back (omega (arith, l, n)) b in
           let were = ap (number_occurrences b) (blocks_set old.pairs index front empty_anchor refl) in
           let e = count_append b (pairs_blocks old.pairs) (address_blocks fresh) in
-          Contains-number_occurrences cs b (omega (arith, k, same, were, e));
+          Contains-number_occurrences (pairs_blocks old.pairs ++ address_blocks fresh) b (omega (arith, k, same, were, e));
     }
 
 -- and a pair of the thread then
 pub more : (old mid new : KeptThread) (i : ℕ) → TakesAtMostTwo old mid → i < length mid.pairs → ChangesThreadBlocks (address_blocks (thread_pair mid i).at) mid new → WritesThreadTwo old new
-more old mid new i w l second =
-    let cs = pairs_blocks old.pairs ++ w.written.fresh in
-    let bs = address_blocks (thread_pair mid i).at in
-    record {
-      fresh = w.written.fresh;
-      few = w.written.few;
-      free = w.written.free;
-      writes = writes_trans w.written.writes (writes_wider cs (apart_wider bs cs (λ b some. number_occurrences-Contains cs b (w.within b (Contains-number_occurrences (pairs_blocks mid.pairs) b (there_counted mid.pairs i empty_anchor l b some))))) second);
-    }
+more old mid new i w l second = record {
+  fresh = w.written.fresh;
+  few = w.written.few;
+  free = w.written.free;
+  writes = writes_trans w.written.writes (writes_among (λ b some.
+      let k = there_counted mid.pairs i empty_anchor l b in
+      number_occurrences-Contains (pairs_blocks old.pairs ++ w.written.fresh) b (w.within b (Contains-number_occurrences (pairs_blocks mid.pairs) b (omega (arith, some, k))))
+      ) second);
+}
 
 fewer_ended : (t : KeptThread) (pair id : ℕ) (goes : Bool) (b : ℕ) → number_occurrences b (pairs_blocks (pairs_move_ended t pair id goes)) ≤ number_occurrences b (pairs_blocks t.pairs)
 fewer_ended t pair id true b = blocks_removed t.pairs pair b
 fewer_ended t pair id false b = let e = ap (number_occurrences b) (blocks_set t.pairs pair (record { at = (thread_pair t pair).at; content = content_move_ended t pair id }) empty_anchor refl) in omega (arith, e)
 
+-- the pair that the second step writes
 pub end_below : (n pair : ℕ) (goes : Bool) → pair < n → ending_written_pair pair goes < n
 end_below n pair true l = omega (arith, l)
 end_below n pair false l = l

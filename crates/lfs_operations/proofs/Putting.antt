@@ -1,5 +1,5 @@
 -- A pair that is changed, or split into two free blocks.
-use Rattle.lfs_operations.proofs.Common.{ℕ, ◌≡◌, ◌≢◌, ◌∙◌, ◌≤◌, ◌⊎◌, Option, None, Some, inl, inr, List, [], ◌∷◌, ◌++◌, pairs_blocks, Result, Ok, Err, arith, refl, sym, set, Blocks, BlockStates, Free, InFlight, ContentChange, Disk, PairContent, CallEvent, OnlyReadsSince, fault_count, slice_get-set_same, slice_get-set_other, HoldsAtLosses-weaker, HoldsAtLosses-trans, StayUnprogrammed-refl, StayUnprogrammed-trans, AllCallsSince-until, AllCallsSince-behind, OnlyReadsSince-trans, StayUnprogrammed-read_count, HoldsAtLosses-read_count, LossLeavesAtWorst-read, CleanLossLeaves, KeptThread, thread_pair, SplitOnDisk, PartsFit, CanSplitAt, LossLeavesPair, HasOldPair, LossLeavesThreadSplit, OnlyReadsThread, HasSplit, ChangesThreadBlocks, addresses_blocks, SameExceptBlocks-trans, SameExceptBlocks-wider, StayUnprogrammed-wider, All, Error, FreshInFlight, AreTwoFree, CanPut, IsPairSplit, IsSplitInto, LeftByPut, OverfillsPair, LeftBySplit, ReportsSpaceErrors, WritesPairTwo, WritesThreadTwo, map_taking_two, Tree, HasEitherTree, with_blocks, SurvivesLossSince, survives_then}
+use Rattle.lfs_operations.proofs.Common.{ℕ, ◌≡◌, ◌≢◌, ◌∙◌, ◌≤◌, ◌⊎◌, Option, None, Some, inl, inr, List, [], ◌∷◌, ◌++◌, pairs_blocks, Result, Ok, Err, arith, refl, sym, set, Blocks, BlockStates, Free, InFlight, ContentChange, Disk, PairContent, CallEvent, OnlyReadsSince, fault_count, slice_get-set_same, slice_get-set_other, HoldsAtLosses-weaker, HoldsAtLosses-trans, StayUnprogrammed-refl, StayUnprogrammed-trans, AllCallsSince-until, AllCallsSince-behind, OnlyReadsSince-trans, StayUnprogrammed-read_count, HoldsAtLosses-read_count, LossLeavesAtWorst-read, CleanLossLeaves, KeptThread, thread_pair, SplitOnDisk, PartsFit, CanSplitAt, LossLeavesPair, HasOldPair, LossLeavesThreadSplit, OnlyReadsThread, HasSplit, ChangesThreadBlocks, addresses_blocks, SameExceptBlocks-trans, SameExceptBlocks-wider, StayUnprogrammed-wider, All, Error, FreshInFlight, AreTwoFree, CanPut, IsPairSplit, IsSplitInto, LeftByPut, OverfillsPair, LeftBySplit, ReportsSpaceErrors, WritesPairTwo, WritesThreadTwo, map_taking_two, Tree, HasEitherTree, with_blocks, SurvivesLossSince, survives_then, All-from_recursion, recursion_from_All, each_counted, each_from_counted, number_occurrences}
 use Rattle.lfs_model.proofs.Histories.{began}
 use Rattle.lfs_thread.specs.CachedLog.{reads_unless_cached}
 use Rattle.lfs_operations.proofs.Taking.{within}
@@ -13,6 +13,10 @@ writes_wider cs f h = record {
   shape = h.shape;
   at_worst = HoldsAtLosses-weaker (λ blocks k. SameExceptBlocks-wider cs f k) h.at_worst;
 }
+
+-- where each of these blocks is one of those
+pub writes_among : {bs cs : List ℕ} {old new : KeptThread} → ((b : ℕ) → 1 ≤ number_occurrences b bs → 1 ≤ number_occurrences b cs) → ChangesThreadBlocks bs old new → ChangesThreadBlocks cs old new
+writes_among {bs = bs} {cs = cs} of = writes_wider cs (λ k h. All-from_recursion (λ c. c ≢ k) bs (each_from_counted (λ c. c ≢ k) bs (λ b some. each_counted (λ c. c ≢ k) cs (recursion_from_All (λ c. c ≢ k) cs h) b (of b some))))
 
 pub writes_trans : {bs : List ℕ} {old mid new : KeptThread} → ChangesThreadBlocks bs old mid → ChangesThreadBlocks bs mid new → ChangesThreadBlocks bs old new
 writes_trans first second = record {
@@ -40,7 +44,19 @@ pub survives_more : {t mid new : KeptThread} {bs cs : List ℕ} (before after : 
 survives_more {t = t} {mid = mid} {new = new} before after one two first left stops =
     survives_then t.disk t.history mid.history new.history before after one.at_worst two.at_worst first (λ clean. HoldsAtLosses-weaker left (stops clean))
 
--- ---- a thread that is read on
+-- ---- with other states of the blocks, and after other calls
+
+module _ {t : KeptThread} {sets : BlockStates} {h : List CallEvent} {index : ℕ} where
+  parts_same : {content : PairContent} {cut : ℕ} {fresh : ℕ × ℕ} {disk : Disk} → PartsFit (record t { map = sets; history = h }) index content cut fresh disk → PartsFit t index content cut fresh disk
+  parts_same p = record { front_fits = p.front_fits; back_fits = p.back_fits; inside = p.inside; first = p.first }
+
+  cut_same : {changes : List ContentChange} {fresh : ℕ × ℕ} {left : Blocks} → LossLeavesThreadSplit (record t { map = sets; history = h }) index fresh changes left → LossLeavesThreadSplit t index fresh changes left
+  cut_same {changes = changes} {fresh = fresh} {left = left} l = record { others = l.others; content = go l.content }
+    where
+      go : HasOldPair (record t { map = sets; history = h }) index (record t.disk { blocks = left }) ⊎ SplitOnDisk (record t { map = sets; history = h }) index changes fresh (record t.disk { blocks = left })
+          → HasOldPair t index (record t.disk { blocks = left }) ⊎ SplitOnDisk t index changes fresh (record t.disk { blocks = left })
+      go (inl b) = inl (record { holds = b.holds; first = b.first })
+      go (inr k) = inr (record { content = k.content; made = k.made; cut = k.cut; front = k.front; back = k.back; parts = parts_same k.parts })
 
 -- with other states of the blocks
 abbrev pub with_map : KeptThread → BlockStates → KeptThread
@@ -72,9 +88,6 @@ module _ (t : KeptThread) (index : ℕ) (fresh : ℕ × ℕ) (changes : List Con
   abbrev mid : KeptThread
   mid = with_map t (map_taking_two t.map fresh)
 
-  parts_same : {content : PairContent} {cut : ℕ} {disk : Disk} → PartsFit mid index content cut fresh disk → PartsFit t index content cut fresh disk
-  parts_same p = record { front_fits = p.front_fits; back_fits = p.back_fits; inside = p.inside; first = p.first }
-
   pub cut_in : (new : KeptThread) → HasSplit mid index fresh changes new → ChangesThreadBlocks (addresses_blocks (thread_pair t index).at fresh) mid new → IsSplitInto t index fresh changes new
   cut_in new is writes = record {
     free = two;
@@ -90,16 +103,8 @@ module _ (t : KeptThread) (index : ℕ) (fresh : ℕ × ℕ) (changes : List Con
     writes = record { others = writes.others; elsewhere = writes.elsewhere; shape = writes.shape; at_worst = writes.at_worst };
   }
 
-  pub left_by_cut : (left : Blocks) → LossLeavesThreadSplit mid index fresh changes left → LeftBySplit t index changes left
-  left_by_cut left l = (fresh, (two, record { others = l.others; content = go l.content }))
-    where
-      go : HasOldPair mid index (record t.disk { blocks = left }) ⊎ SplitOnDisk mid index changes fresh (record t.disk { blocks = left })
-          → HasOldPair t index (record t.disk { blocks = left }) ⊎ SplitOnDisk t index changes fresh (record t.disk { blocks = left })
-      go (inl b) = inl (record { holds = b.holds; first = b.first })
-      go (inr h) = inr (record { content = h.content; made = h.made; cut = h.cut; front = h.front; back = h.back; parts = parts_same h.parts })
-
   pub stops_by_cut : (new : List CallEvent) → CleanLossLeaves t.history new (LossLeavesThreadSplit mid index fresh changes) → CleanLossLeaves t.history new (LeftBySplit t index changes)
-  stops_by_cut new stops clean = HoldsAtLosses-weaker left_by_cut (stops clean)
+  stops_by_cut new stops clean = HoldsAtLosses-weaker (λ left l. (fresh, (two, cut_same l))) (stops clean)
 
   pub writes_in : (new : KeptThread) → ChangesThreadBlocks (addresses_blocks (thread_pair t index).at fresh) mid new → WritesPairTwo t index new
   writes_in new w = record {
@@ -146,9 +151,6 @@ module _ (t : KeptThread) (h : List CallEvent) (reads : OnlyReadsSince t.disk.bl
   abbrev later : KeptThread
   later = with_history t h
 
-  parts_earlier : {content : PairContent} {cut : ℕ} {fresh : ℕ × ℕ} {disk : Disk} → PartsFit later index content cut fresh disk → PartsFit t index content cut fresh disk
-  parts_earlier p = record { front_fits = p.front_fits; back_fits = p.back_fits; inside = p.inside; first = p.first }
-
   writes_behind : (bs : List ℕ) (new : KeptThread) → ChangesThreadBlocks bs later new → ChangesThreadBlocks bs t new
   writes_behind bs new w = record {
     others = w.others;
@@ -165,7 +167,7 @@ module _ (t : KeptThread) (h : List CallEvent) (reads : OnlyReadsSince t.disk.bl
       content = is.content;
       made = is.made;
       cut = is.cut;
-      parts = parts_earlier is.parts;
+      parts = parts_same is.parts;
       others = is.others;
       shape = is.shape;
       pairs = is.pairs;
@@ -176,12 +178,7 @@ module _ (t : KeptThread) (h : List CallEvent) (reads : OnlyReadsSince t.disk.bl
   )
 
   pub left_later : (left : Blocks) → LeftBySplit later index changes left → LeftBySplit t index changes left
-  left_later left (fresh, (two, l)) = (fresh, (two, record { others = l.others; content = go l.content }))
-    where
-      go : HasOldPair later index (record t.disk { blocks = left }) ⊎ SplitOnDisk later index changes fresh (record t.disk { blocks = left })
-          → HasOldPair t index (record t.disk { blocks = left }) ⊎ SplitOnDisk t index changes fresh (record t.disk { blocks = left })
-      go (inl b) = inl (record { holds = b.holds; first = b.first })
-      go (inr k) = inr (record { content = k.content; made = k.made; cut = k.cut; front = k.front; back = k.back; parts = parts_earlier k.parts })
+  left_later left (fresh, (two, l)) = (fresh, (two, cut_same l))
 
   pub reports_later : {X : Type 0} (new : KeptThread) (result : Result X Error) → fault_count h ≡ fault_count t.history → ReportsSpaceErrors later new result → ReportsSpaceErrors t new result
   reports_later new result same reported = record {

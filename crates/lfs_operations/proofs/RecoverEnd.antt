@@ -1,29 +1,16 @@
 -- The end of a recovery: every pair was seen, and the sync bit is cleared.
-use Rattle.lfs_operations.proofs.Common.{ℕ, suc, ◌≡◌, ◌+◌, ◌<◌, ◌≤◌, ◌⊎◌, ◌&&◌, inl, inr, Bool, true, false, cond, List, [], ◌∷◌, ◌++◌, length, take, Option, Some, None, Result, Err, refl, sym, ap, subst, subst₂, ◌∙◌, arith, append-nil, same_Some, All-from_recursion, recursion_from_All, Blocks, SameGeometry, disk_block, CallEvent, fault_count, HasEitherTree as IsLeftOf, SurvivesLossSince, with_blocks, continued_address, Gstate, Slot, zero_gstate, AreLinked, ThreadDirectory, Pair, anchor_address, pairs_blocks, pairs_from_root, pairs_gstate, chain_may_continue, has_superblock, count_before_root, IsAccepted, IsReachedBySome, all_unmoved_slots, all_directories, struct_blocks, disk_tree, IsWritable, survives_then, SameSlots, alike_itself, SameFiles, Each, number_occurrences, each_always, each_weaker, SameFileBlocks, chain_of_thread, HasNoMove, HoldsAtLosses-weaker, NoneGoes, none_where, rest_all, AllReached, thread_at, IsWritableChange, pairs_behind, CleanLossLeaves, KeptThread, ThreadView, IsPairCommitted, LossLeavesPair, IsPairWritten, ChangesThreadBlocks, pairs_with_content, complete_after, All, Error, recovery_ends, gstate_changes, content_reaching_gstate, AreUnreachedNumbers, AreUnreachedFrom, CanClearSync, HasDroppedRecovered, IsSyncCleared, ReportsRecovery, numbered_list_blocks, numbered_slots, SameInFlight, ReportsCommit}
+use Rattle.lfs_operations.proofs.Common.{ℕ, suc, ◌≡◌, ◌+◌, ◌≤◌, ◌⊎◌, inl, inr, Bool, false, List, [], ◌∷◌, ◌++◌, length, take, Option, None, Result, Err, refl, sym, ap, subst, ◌∙◌, arith, append-nil, All-from_recursion, recursion_from_All, SameGeometry, fault_count, SurvivesLossSince, continued_address, Gstate, Slot, zero_gstate, ThreadDirectory, Pair, pairs_blocks, pairs_from_root, pairs_gstate, count_before_root, IsAccepted, IsReachedBySome, all_unmoved_slots, all_directories, disk_tree, IsWritable, SameSlots, alike_itself, SameFiles, Each, number_occurrences, each_weaker, SameFileBlocks, chain_of_thread, HasNoMove, NoneGoes, none_where, rest_all, AllReached, IsWritableChange, pairs_behind, KeptThread, ThreadView, ChangesThreadBlocks, Error, recovery_ends, AreUnreachedNumbers, AreUnreachedFrom, CanClearSync, HasDroppedRecovered, IsSyncCleared, ReportsRecovery, numbered_list_blocks, numbered_slots, SameInFlight, ReportsCommit}
 use Rattle.lfs_model.specs.session.Recovery.{IsRecovered}
 use Rattle.lfs_model.proofs.Changes.{follows_itself}
 use Rattle.lfs_operations.proofs.Removed.{reports_again}
-use Rattle.lfs_operations.proofs.RecoverLists.{each_at, files_kept, reported_once}
-use Rattle.lfs_operations.proofs.RecoverLoop.{EachBegins, IsAtDrop, IsAtEnd, all_where, begins_weaker, goes_to}
+use Rattle.lfs_operations.proofs.RecoverLists.{each_at, files_kept, reported_once, files_itself}
+use Rattle.lfs_model.proofs.RecoveryWay.{EachBegins, IsAtDrop, IsAtEnd, all_where, begins_weaker, goes_to}
 use Rattle.lfs_operations.proofs.MovStep.{blocks_alike}
 use Rattle.lfs_operations.proofs.RecoverMap.{HasMap, files_stay, map_stays}
-use Rattle.lfs_operations.proofs.RecoverSteps.{CanClear, clear_alike, clear_left, clear_pairs, clear_state, clear_taken, device_on, h, y}
-use Rattle.lfs_operations.proofs.RecoverUnderWay.{IsUnderWay, StaysOn}
-use Rattle.lfs_operations.proofs.RootStays.{alike_stays}
+use Rattle.lfs_operations.proofs.RecoverUnderWay.{IsUnderWay, StaysOn, survives_behind}
+use Rattle.lfs_model.proofs.RootStays.{alike_stays}
 
 -- ---- the sync bit
-
-fewer : (p : Pair) (ps : List Pair) → count_before_root (p ∷ ps) < length (p ∷ ps)
-fewer p [] = omega arith
-fewer p (q ∷ ps) = go (has_superblock (q ∷ ps) && chain_may_continue p) (fewer q ps)
-  where
-    go : (b : Bool) → count_before_root (q ∷ ps) < length (q ∷ ps) → cond b (1 + count_before_root (q ∷ ps)) 0 < length (p ∷ q ∷ ps)
-    go true l = omega arith
-    go false l = omega arith
-
-some_pairs : (ps : List Pair) → AreLinked (Some anchor_address) ps → count_before_root ps < length ps
-some_pairs [] h = absurd (cc)
-some_pairs (p ∷ ps) h = fewer p ps
 
 pub none_is : (g : Gstate) → HasNoMove g → g.sync ≡ false → g ≡ zero_gstate
 none_is g h s = ap (λ (b : Bool). record { sync = b; kind = g.kind; id = g.id; pair = g.pair }) s
@@ -31,60 +18,27 @@ none_is g h s = ap (λ (b : Bool). record { sync = b; kind = g.kind; id = g.id; 
     ∙ ap (λ (k : ℕ). record { sync = false; kind = 0; id = k; pair = g.pair }) h.id
     ∙ ap (λ (k : ℕ × ℕ). record { sync = false; kind = 0; id = 0; pair = k }) h.pair
 
-module _ (t : KeptThread) (can : CanClearSync t) where
-  pub enough : count_before_root t.pairs < length t.pairs
-  enough = some_pairs t.pairs can.accepted.thread.links
-
-  pub cleared_already : (pairs_gstate t.pairs).sync ≡ false → IsSyncCleared t t
-  cleared_already s = record {
-    taken = record { follows = follows_itself t.disk t.pairs can.accepted; writable = can.writable };
-    alike = alike_itself t.pairs;
-    settled = none_is (pairs_gstate t.pairs) can.none s;
-    map = refl;
-    files = All-from_recursion (λ (s : Slot). SameFileBlocks t.disk t.disk s.struct) (all_unmoved_slots t.pairs)
-        (each_always (λ (s : Slot). SameFileBlocks t.disk t.disk s.struct) (λ s. each_always (λ b. disk_block t.disk b ≡ disk_block t.disk b) (λ b. refl) (struct_blocks t.disk s.struct)) (all_unmoved_slots t.pairs));
-  }
-
-  module _ (index : ℕ) (is : index + 1 ≡ length t.pairs) where
-    can_clear : CanClear t index
-    can_clear = record {
-      accepted = can.accepted;
-      writable = can.writable;
-      none = can.none;
-      reached = can.reached;
-      behind = let e = enough in omega arith;
-      below = omega arith;
-    }
-
-    pub cleared : (new : KeptThread) → complete_after t index (gstate_changes t index zero_gstate) ≡ Some (content_reaching_gstate t index zero_gstate) → IsPairCommitted t index (gstate_changes t index zero_gstate) new → IsSyncCleared t new
-    cleared new made c =
-        let same = same_Some c.content (content_reaching_gstate t index zero_gstate) (sym c.made ∙ made) in
-        let written = subst (λ x. IsPairWritten t index x new.disk) same c.written in
-        let pairs : new.pairs ≡ thread_at (h t index can_clear).site (y t index can_clear ∷ []) = c.pairs ∙ ap (pairs_with_content t index) same ∙ clear_pairs t index can_clear in
-        record {
-          taken = subst₂ (λ a b. IsWritableChange t.disk a new.disk b (λ t. t) (λ d. d)) (sym (h t index can_clear).is) (sym pairs) (clear_taken t index can_clear new.disk written);
-          alike = subst (SameSlots t.pairs) (sym pairs) (clear_alike t index can_clear);
-          settled = ap pairs_gstate pairs ∙ clear_state t index can_clear;
-          map = c.map;
-          files = subst (λ z. All (λ s. SameFileBlocks t.disk new.disk s.struct) (all_unmoved_slots z)) (sym (h t index can_clear).is) (device_on t index can_clear new.disk written).files;
-        }
-
-    pub clear_survives : (new : List CallEvent) → complete_after t index (gstate_changes t index zero_gstate) ≡ Some (content_reaching_gstate t index zero_gstate) → CleanLossLeaves t.history new (LossLeavesPair t index (gstate_changes t index zero_gstate))
-        → SurvivesLossSince t.disk t.history new (disk_tree t.disk t.pairs) (disk_tree t.disk t.pairs)
-    clear_survives new made stops clean = HoldsAtLosses-weaker (λ left x. clear_left t index can_clear made left x) (stops clean)
+pub cleared_already : (t : KeptThread) → CanClearSync t → (pairs_gstate t.pairs).sync ≡ false → IsSyncCleared t t
+cleared_already t can s = record {
+  taken = record { follows = follows_itself t.disk t.pairs can.accepted; writable = can.writable };
+  alike = alike_itself t.pairs;
+  settled = none_is (pairs_gstate t.pairs) can.none s;
+  map = refl;
+  files = files_itself t.disk (all_unmoved_slots t.pairs);
+}
 
 -- ---- all pairs were seen
 
-pub all_seen : (old now : KeptThread) (dropped : ℕ) → IsUnderWay old now dropped [] → IsAtEnd old.disk old.pairs now dropped (take (count_before_root old.pairs) old.pairs) []
-all_seen old now dropped u = go (goes_to old.disk old.pairs now dropped (take (count_before_root old.pairs) old.pairs) u.seen u.todo u.parts u.kept [] u.way)
+pub all_seen : (old now : KeptThread) (dropped : ℕ) → IsUnderWay old now dropped [] → IsAtEnd old.disk old.pairs now.disk now.pairs dropped (take (count_before_root old.pairs) old.pairs) []
+all_seen old now dropped u = go (goes_to old.disk old.pairs now.disk now.pairs dropped (take (count_before_root old.pairs) old.pairs) u.seen u.todo u.parts u.kept [] u.way)
   where
-    go : IsAtEnd old.disk old.pairs now dropped (take (count_before_root old.pairs) old.pairs) [] ⊎ IsAtDrop old.disk old.pairs now dropped (take (count_before_root old.pairs) old.pairs) []
-        → IsAtEnd old.disk old.pairs now dropped (take (count_before_root old.pairs) old.pairs) []
+    go : IsAtEnd old.disk old.pairs now.disk now.pairs dropped (take (count_before_root old.pairs) old.pairs) [] ⊎ IsAtDrop old.disk old.pairs now.disk now.pairs dropped (take (count_before_root old.pairs) old.pairs) []
+        → IsAtEnd old.disk old.pairs now.disk now.pairs dropped (take (count_before_root old.pairs) old.pairs) []
     go (inl e) = e
     go (inr d) = absurd (let l = ap length d.is in omega arith)
 
 module _ (old now : KeptThread) (dropped : ℕ) (u : IsUnderWay old now dropped []) where
-  e : IsAtEnd old.disk old.pairs now dropped (take (count_before_root old.pairs) old.pairs) []
+  e : IsAtEnd old.disk old.pairs now.disk now.pairs dropped (take (count_before_root old.pairs) old.pairs) []
   e = all_seen old now dropped u
 
   abbrev C : List Pair
@@ -155,12 +109,7 @@ module _ (old now : KeptThread) (dropped : ℕ) (u : IsUnderWay old now dropped 
   -- a stop in the last step leaves the tree too
   pub end_survives : (new : KeptThread) → StaysOn now new → SurvivesLossSince now.disk now.history new.history (disk_tree now.disk now.pairs) (disk_tree now.disk now.pairs)
       → SurvivesLossSince old.disk old.history new.history (disk_tree old.disk old.pairs) (disk_tree old.disk old.pairs)
-  end_survives new on last = survives_then old.disk old.history now.history new.history (disk_tree old.disk old.pairs) (disk_tree old.disk old.pairs) u.device.calls on.calls u.survives
-      (λ clean. HoldsAtLosses-weaker (λ left x. subst (λ z. IsLeftOf z (disk_tree old.disk old.pairs) (disk_tree old.disk old.pairs)) (disk_is left)
-      (subst (λ z. IsLeftOf (with_blocks left now.disk) z z) shows_now x)) (last clean))
-    where
-      disk_is : (left : Blocks) → with_blocks left now.disk ≡ with_blocks left old.disk
-      disk_is left = λ j. record { block_size = u.device.shape.block_size j; page = u.device.shape.page j; order = u.device.shape.order j; profile = u.device.shape.profile j; blocks = left }
+  end_survives new on last = survives_behind old now new u.device on shows_now u.survives last
 
 -- ---- what the steps tell
 

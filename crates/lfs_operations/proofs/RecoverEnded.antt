@@ -4,7 +4,8 @@ use Rattle.lfs_operations.proofs.Dropped.{HasMapWithout, map_ended}
 use Rattle.lfs_operations.proofs.DroppedTails.{front_is}
 use Rattle.lfs_operations.proofs.MovEnding.{led_is}
 use Rattle.lfs_operations.proofs.RecoverMoved.{heads, in_directory}
-use Rattle.lfs_operations.proofs.RemovedWhole.{last_pair, flag_last, only_slot}
+use Rattle.lfs_operations.proofs.RemovedWhole.{only_slot}
+use Rattle.lfs_model.proofs.PairsInFront.{last_pair, flag_last}
 
 pub written_below : (t : KeptThread) (index : ℕ) (goes : Bool) → index < length t.pairs → ending_written_pair index goes < length t.pairs
 written_below t index true low = omega arith
@@ -12,7 +13,7 @@ written_below t index false low = low
 
 module _ (t : KeptThread) (can : CanEndMove t) (index : ℕ) (m : HasMovedSlot t index) where
   h : HasSite t.pairs index
-  h = site_of_number t.disk t.pairs index can.accepted (in_directory t index can.accepted m) m.below
+  h = site_of_number t.disk t.pairs index can.accepted (in_directory t index m) m.below
 
   abbrev front : List Pair
   front = h.site.before ++ h.site.left
@@ -93,7 +94,7 @@ module _ (t : KeptThread) (can : CanEndMove t) (index : ℕ) (m : HasMovedSlot t
   can_at logged = record {
     accepted = can.accepted;
     writable = can.writable;
-    begins = in_directory t index can.accepted m;
+    begins = in_directory t index m;
     below = m.below;
     logged = logged;
     kind = m.kind;

@@ -1,7 +1,8 @@
 -- The lists of pairs that go in a recovery: they are known by the pairs' numbers, and stay on the disk.
-use Rattle.lfs_operations.proofs.Common.{ℕ, zero, suc, ◌≡◌, ◌≢◌, ◌+◌, ◌≤◌, inl, inr, List, [], ◌∷◌, ◌++◌, length, Option, refl, sym, ap, subst, ◌∙◌, arith, append-nil, length-append, append_assoc, flat_map-append, All-from_recursion, SameGeometry, disk_block, continued_address, Slot, Pair, pairs_blocks, pairs_gstate, IsAccepted, struct_blocks, used_blocks, SameFiles, slots_files, Each, number_occurrences, count_append, each_always, each_from_counted, each_joined, each_left, each_pieces, each_right, once_from_distinct, SameFileBlocks, HasNoMove, file_blocks, all_slots, KeptThread, ChangesThreadBlocks, empty_anchor, slice_index_or, AreUnreachedFrom, numbered_list_blocks, numbered_slots}
-use Rattle.lfs_operations.proofs.RecoverWrites.{none_there}
-use Rattle.lfs_operations.proofs.Owning.{count_used}
+use Rattle.lfs_operations.proofs.Common.{ℕ, zero, suc, ◌≡◌, ◌+◌, ◌≤◌, inl, inr, List, [], ◌∷◌, ◌++◌, length, Option, refl, sym, ap, subst, ◌∙◌, arith, append-nil, length-append, append_assoc, flat_map-append, All-from_recursion, SameGeometry, disk_block, continued_address, Slot, Pair, pairs_blocks, pairs_gstate, IsAccepted, struct_blocks, used_blocks, SameFiles, slots_files, Each, number_occurrences, count_append, each_always, each_from_counted, each_joined, each_left, each_pieces, each_right, once_from_distinct, SameFileBlocks, HasNoMove, file_blocks, all_slots, KeptThread, ChangesThreadBlocks, empty_anchor, slice_index_or, AreUnreachedFrom, numbered_list_blocks, numbered_slots, All, Disk}
+use Rattle.lfs_model.proofs.UsedCounts.{count_used}
+use Rattle.lfs_model.proofs.Placing.{all_apart}
+use Rattle.lfs_model.proofs.PairLists.{get_at}
 
 -- ---- numbers
 
@@ -13,14 +14,10 @@ reported_once R n from (x ∷ xs) us vs (inl h) (inr k) = absurd (k.1.1.0 h.0)
 reported_once R n from (x ∷ xs) us vs (inr h) (inl k) = absurd (h.1.1.0 k.0)
 reported_once R n from (x ∷ xs) us vs (inr h) (inr k) = h.1.0 ∙ ap (λ z. n ∷ z) (reported_once R (suc n) (continued_address from x) xs h.0 k.0 h.1.1.1 k.1.1.1) ∙ sym k.1.0
 
-there : (xs : List Pair) (x : Pair) (ys : List Pair) → slice_index_or (xs ++ x ∷ ys) (length xs) empty_anchor ≡ x
-there [] x ys = refl
-there (z ∷ xs) x ys = there xs x ys
-
 -- the pair behind so many
 pub numbered : (ps chain seen : List Pair) (x : Pair) (todo : List Pair) (number : ℕ) → ps ≡ chain ++ (seen ++ x ∷ todo) → number ≡ length chain + length seen → slice_index_or ps number empty_anchor ≡ x
 numbered ps chain seen x todo number are is =
-    ap (λ z. slice_index_or ps z empty_anchor) (is ∙ sym (length-append chain seen)) ∙ ap (λ z. slice_index_or z (length (chain ++ seen)) empty_anchor) (are ∙ sym (append_assoc chain seen (x ∷ todo))) ∙ there (chain ++ seen) x todo
+    ap (λ z. slice_index_or ps z empty_anchor) (is ∙ sym (length-append chain seen)) ∙ ap (λ z. slice_index_or z (length (chain ++ seen)) empty_anchor) (are ∙ sym (append_assoc chain seen (x ∷ todo))) ∙ get_at (chain ++ seen) x todo empty_anchor
 
 pub lists_more : (t : KeptThread) (took : List ℕ) (number : ℕ) (x : Pair) → slice_index_or t.pairs number empty_anchor ≡ x → numbered_list_blocks t (took ++ number ∷ []) ≡ numbered_list_blocks t took ++ file_blocks t.disk x.content.slots
 lists_more t took number x is =
@@ -30,6 +27,11 @@ lists_more t took number x is =
 
 -- ---- on the disk
 
+-- where nothing changed
+pub files_itself : (disk : Disk) (slots : List Slot) → All (λ s. SameFileBlocks disk disk s.struct) slots
+files_itself disk slots = All-from_recursion (λ (s : Slot). SameFileBlocks disk disk s.struct) slots
+    (each_always (λ (s : Slot). SameFileBlocks disk disk s.struct) (λ s. each_always (λ b. disk_block disk b ≡ disk_block disk b) (λ b. refl) (struct_blocks disk s.struct)) slots)
+
 -- no block of a list is a pair's
 pub files_kept : (t u : KeptThread) → IsAccepted t.disk t.pairs → HasNoMove (pairs_gstate t.pairs) → ChangesThreadBlocks (pairs_blocks t.pairs) t u → SameFiles t.disk u.disk (all_slots t.pairs)
 files_kept t u ok none w = go (all_slots t.pairs) (λ b. omega arith)
@@ -37,12 +39,12 @@ files_kept t u ok none w = go (all_slots t.pairs) (λ b. omega arith)
     go : (slots : List Slot) → ((b : ℕ) → number_occurrences b (file_blocks t.disk slots) ≤ number_occurrences b (file_blocks t.disk (all_slots t.pairs))) → SameFiles t.disk u.disk slots
     go [] fewer = tt
     go (s ∷ slots) fewer = (
-      each_from_counted (λ b. disk_block u.disk b ≡ disk_block t.disk b) (struct_blocks t.disk s.struct) (λ b some. w.others.others b (All-from_recursion (λ c. c ≢ b) (pairs_blocks t.pairs) (none_there b (pairs_blocks t.pairs) (
+      each_from_counted (λ b. disk_block u.disk b ≡ disk_block t.disk b) (struct_blocks t.disk s.struct) (λ b some. w.others.others b (all_apart (pairs_blocks t.pairs) b (
           let a = count_append b (struct_blocks t.disk s.struct) (file_blocks t.disk slots) in
           let f = fewer b in
           let c = count_used b t.disk t.pairs none in
           let o = once_from_distinct (used_blocks t.disk t.pairs) ok.owned_once b in
-          omega arith)))),
+          omega arith))),
       go slots (λ b. let a = count_append b (struct_blocks t.disk s.struct) (file_blocks t.disk slots) in let f = fewer b in omega arith),
     )
 

@@ -2,7 +2,7 @@
 use Rattle.lfs_operations.proofs.Common.{ℕ, ◌-◌, ◌≡◌, ◌+◌, ◌≤◌, List, [], ◌∷◌, ◌++◌, length, refl, sym, ap, ap₂, subst, ◌∙◌, arith, AreUsed, SameGeometry, block_count, Gstate, Pair, address_blocks, pairs_gstate, all_unmoved_slots, used_blocks, SameSlots, SameFiles, slots_files, number_occurrences, count_append, HasNoMove, Site, file_blocks, all_slots, unmoved_in, KeptThread, SameInFlight, IsPairDropped}
 use Rattle.lfs_operations.proofs.Dropped.{HasMapWithout, IsToBeDropped, map_left, map_without, used_left}
 use Rattle.lfs_operations.proofs.MovStep.{blocks_alike}
-pub use Rattle.lfs_operations.proofs.Owning.{count_used}
+pub use Rattle.lfs_model.proofs.UsedCounts.{count_used}
 
 -- the map has the image's blocks and those that are gone, each once
 pub record HasMap (t : KeptThread) (gone : List ℕ) : Type 0 where

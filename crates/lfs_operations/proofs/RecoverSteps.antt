@@ -1,11 +1,13 @@
 -- The steps of a recovery, on the disk that they write and on those that a stop leaves.
-use Rattle.lfs_operations.proofs.Common.{ℕ, ◌≡◌, ◌<◌, ◌≤◌, ◌+◌, ◌-◌, ◌⊎◌, inl, inr, true, false, List, [], ◌∷◌, ◌++◌, length, Some, refl, sym, ap, subst, ◌∙◌, arith, length-append, same_Some, Blocks, Disk, HasEitherTree as IsLeftOf, with_blocks, FitsInPair, Gstate, gstate_xor, zero_gstate, same_pair, Pair, pairs_gstate, is_hard_tail, count_before_root, Path, IsAccepted, IsWritable, LeadsTo, disk_tree, SameSlots, alike_append, alike_itself, HasNoMove, gstate_assoc, gstate_cons, gstate_right, gstate_self, HasSite, site_of_number, AllReached, AllReachedBut, IsStep, step_writable, site_gstate_moved, Site, thread_at, IsDevice, stays_shape, IsWritableChange, taken_before, within_at, IsReady, IsUnthreaded, KeptThread, LossLeavesPair, IsPairWritten, complete_after, thread_pair, pairs_with_content, within_same, gstate_changes, delta_reaching_gstate, content_reaching_gstate, LeftByDrop, content_after_drop, Unthreads}
+use Rattle.lfs_operations.proofs.Common.{ℕ, ◌≡◌, ◌<◌, ◌+◌, ◌-◌, ◌⊎◌, inl, inr, true, false, List, [], ◌∷◌, ◌++◌, length, Some, refl, sym, ap, subst, ◌∙◌, arith, Blocks, Disk, HasEitherTree as IsLeftOf, with_blocks, Gstate, gstate_xor, zero_gstate, same_pair, Pair, pairs_gstate, is_hard_tail, count_before_root, Path, IsAccepted, IsWritable, LeadsTo, disk_tree, SameSlots, alike_append, alike_itself, HasNoMove, gstate_assoc, gstate_cons, gstate_right, gstate_self, HasSite, site_of_number, AllReached, AllReachedBut, IsStep, step_writable, site_gstate_moved, Site, thread_at, stays_shape, IsWritableChange, within_at, IsReady, IsUnthreaded, KeptThread, LossLeavesPair, IsPairWritten, complete_after, within_same, gstate_changes, delta_reaching_gstate, content_reaching_gstate, LeftByDrop, content_after_drop, Unthreads, SameFileBlocks, all_unmoved_slots, CallEvent, CanClearSync, CleanLossLeaves, HoldsAtLosses-weaker, IsPairCommitted, IsSyncCleared, SurvivesLossSince, anchor_address, chain_may_continue, cond, has_superblock, AreLinked, Bool, ◌&&◌, All, subst₂, ContentChange}
 use Rattle.lfs_model.proofs.Rests.{slots_stay}
 use Rattle.lfs_model.proofs.Unthreaded.{unthread}
-use Rattle.lfs_operations.proofs.Threads.{one_now, pair_is, placed_one}
-use Rattle.lfs_operations.proofs.Placing.{device, left_still, left_after}
+use Rattle.lfs_model.proofs.Placing.{device, left_still, left_after}
 use Rattle.lfs_operations.proofs.Dropped.{IsToBeDropped, device_left, left_dropped, slots_left, state_left, tail_left}
-use Rattle.lfs_operations.proofs.Rmdir.{over_soft}
+use Rattle.lfs_model.proofs.DirectoryGone.{over_soft}
+use Rattle.lfs_model.proofs.SetMoves.{HasTurned}
+use Rattle.lfs_operations.proofs.MovTurned.{IsTurn, Stays, changed_one, content_with, left_alone}
+use Rattle.lfs_operations.proofs.AtSite.{site_pair, site_place}
 
 -- ---- a pair takes over the tail and the delta of one that no path leads to
 
@@ -46,94 +48,106 @@ module _ (t : KeptThread) (chain front : List Pair) (before x : Pair) (todo : Li
 
 -- ---- a delta changes, and with it the sync bit
 
--- no move is set and all directories are reached; the pair is one of a directory
-pub record CanClear (t : KeptThread) (index : ℕ) : Type 0 where
-  pub accepted : IsAccepted t.disk t.pairs
-  pub writable : IsWritable t.disk t.pairs
-  pub none : HasNoMove (pairs_gstate t.pairs)
-  pub reached : AllReached t.pairs
-  pub behind : count_before_root t.pairs ≤ index
-  pub below : index < length t.pairs
+fewer : (p : Pair) (ps : List Pair) → count_before_root (p ∷ ps) < length (p ∷ ps)
+fewer p [] = omega arith
+fewer p (q ∷ ps) = go (has_superblock (q ∷ ps) && chain_may_continue p) (fewer q ps)
+  where
+    go : (b : Bool) → count_before_root (q ∷ ps) < length (q ∷ ps) → cond b (1 + count_before_root (q ∷ ps)) 0 < length (p ∷ q ∷ ps)
+    go true l = omega arith
+    go false l = omega arith
 
-module _ (t : KeptThread) (index : ℕ) (can : CanClear t index) where
-  pub h : HasSite t.pairs index
-  h = site_of_number t.disk t.pairs index can.accepted can.behind can.below
+some_pairs : (ps : List Pair) → AreLinked (Some anchor_address) ps → count_before_root ps < length ps
+some_pairs [] h = absurd (cc)
+some_pairs (p ∷ ps) h = fewer p ps
 
-  place : index ≡ length h.site.chain + length (h.site.before ++ h.site.left)
-  place = sym h.number ∙ length-append h.site.chain (h.site.before ++ h.site.left)
+module _ (t : KeptThread) (can : CanClearSync t) where
+  pub enough : count_before_root t.pairs < length t.pairs
+  enough = some_pairs t.pairs can.accepted.thread.links
 
-  pair_there : thread_pair t index ≡ h.pair
-  pair_there = pair_is t index h.site h.pair h.is place
+  -- the last pair is one of a directory
+  module _ (index : ℕ) (last : index + 1 ≡ length t.pairs) (made : complete_after t index (gstate_changes t index zero_gstate) ≡ Some (content_reaching_gstate t index zero_gstate)) where
+    h : HasSite t.pairs index
+    h = site_of_number t.disk t.pairs index can.accepted (let e = enough in omega arith) (omega arith)
 
-  abbrev pub y : Pair
-  y = record { at = h.pair.at; content = record { slots = h.pair.content.slots; tail = h.pair.content.tail; move = delta_reaching_gstate t index zero_gstate } }
+    abbrev changes : List ContentChange
+    changes = gstate_changes t index zero_gstate
 
-  content_is : content_reaching_gstate t index zero_gstate ≡ record { slots = h.pair.content.slots; tail = h.pair.content.tail; move = delta_reaching_gstate t index zero_gstate }
-  content_is = ap (λ (z : Pair). record { slots = z.content.slots; tail = z.content.tail; move = delta_reaching_gstate t index zero_gstate }) pair_there
+    abbrev delta : Gstate
+    delta = delta_reaching_gstate t index zero_gstate
 
-  accepted : IsAccepted t.disk (thread_at h.site (h.pair ∷ []))
-  accepted = subst (IsAccepted t.disk) h.is can.accepted
+    abbrev y : Pair
+    y = record { at = h.pair.at; content = content_with h.pair h.pair.content.slots delta }
 
-  fits : IsWritable t.disk (thread_at h.site (h.pair ∷ []))
-  fits = subst (IsWritable t.disk) h.is can.writable
+    turn : IsTurn t index changes h.site h.pair h.pair.content.slots delta
+    turn = record {
+      accepted = can.accepted;
+      there = h.is;
+      place = site_place h;
+      site = h.is_site;
+      made = made ∙ ap (λ (z : Pair). Some (content_with z z.content.slots delta)) (site_pair t h);
+      first = λ e. (e.kind, e.name);
+    }
 
-  pub clear_state : pairs_gstate (thread_at h.site (y ∷ [])) ≡ zero_gstate
-  clear_state =
-      let G = pairs_gstate t.pairs in
-      let d = gstate_xor zero_gstate G in
-      site_gstate_moved d h.site (h.pair ∷ []) (y ∷ [])
-      (gstate_cons y [] ∙ gstate_right y.content.move ∙ ap (λ (x : Pair). gstate_xor d x.content.move) pair_there ∙ ap (gstate_xor d) (sym (gstate_cons h.pair [] ∙ gstate_right h.pair.content.move)))
-      ∙ ap (λ z. gstate_xor d (pairs_gstate z)) (sym h.is) ∙ gstate_assoc zero_gstate G G ∙ ap (gstate_xor zero_gstate) (gstate_self G) ∙ gstate_right zero_gstate
+    accepted : IsAccepted t.disk (thread_at h.site (h.pair ∷ []))
+    accepted = subst (IsAccepted t.disk) h.is can.accepted
 
-  pub clear_pairs : pairs_with_content t index (content_reaching_gstate t index zero_gstate) ≡ thread_at h.site (y ∷ [])
-  clear_pairs = ap (pairs_with_content t index) content_is ∙ one_now t index h.site h.pair h.is place (record { slots = h.pair.content.slots; tail = h.pair.content.tail; move = delta_reaching_gstate t index zero_gstate })
+    fits : IsWritable t.disk (thread_at h.site (h.pair ∷ []))
+    fits = subst (IsWritable t.disk) h.is can.writable
 
-  pub clear_alike : SameSlots t.pairs (thread_at h.site (y ∷ []))
-  clear_alike = subst (λ z. SameSlots z (thread_at h.site (y ∷ []))) (sym h.is)
-      (alike_append h.site.chain ((h.site.before ++ h.site.left) ++ h.pair ∷ (h.site.right ++ h.site.after)) h.site.chain ((h.site.before ++ h.site.left) ++ y ∷ (h.site.right ++ h.site.after)) (alike_itself h.site.chain)
-      (alike_append (h.site.before ++ h.site.left) (h.pair ∷ (h.site.right ++ h.site.after)) (h.site.before ++ h.site.left) (y ∷ (h.site.right ++ h.site.after)) (alike_itself (h.site.before ++ h.site.left))
-      (refl, refl, alike_itself (h.site.right ++ h.site.after))))
+    clear_state : pairs_gstate (thread_at h.site (y ∷ [])) ≡ zero_gstate
+    clear_state =
+        let G = pairs_gstate t.pairs in
+        let d = gstate_xor zero_gstate G in
+        site_gstate_moved d h.site (h.pair ∷ []) (y ∷ [])
+        (gstate_cons y [] ∙ gstate_right y.content.move ∙ ap (λ (x : Pair). gstate_xor d x.content.move) (site_pair t h) ∙ ap (gstate_xor d) (sym (gstate_cons h.pair [] ∙ gstate_right h.pair.content.move)))
+        ∙ ap (λ z. gstate_xor d (pairs_gstate z)) (sym h.is) ∙ gstate_assoc zero_gstate G G ∙ ap (gstate_xor zero_gstate) (gstate_self G) ∙ gstate_right zero_gstate
 
-  pub device_on : (disk : Disk) → IsPairWritten t index (content_reaching_gstate t index zero_gstate) disk → IsDevice t.disk disk (thread_at h.site (h.pair ∷ [])) (thread_at h.site (y ∷ []))
-  device_on disk is = device t.disk disk h.site h.pair y [] [] accepted accepted.owned_once
-      (placed_one t index h.site h.pair h.is place disk y.content (λ f. (f.kind, f.name)) (subst (λ c. IsPairWritten t index c disk) content_is is))
+    clear_alike : SameSlots t.pairs (thread_at h.site (y ∷ []))
+    clear_alike = subst (λ z. SameSlots z (thread_at h.site (y ∷ []))) (sym h.is)
+        (alike_append h.site.chain ((h.site.before ++ h.site.left) ++ h.pair ∷ (h.site.right ++ h.site.after)) h.site.chain ((h.site.before ++ h.site.left) ++ y ∷ (h.site.right ++ h.site.after)) (alike_itself h.site.chain)
+        (alike_append (h.site.before ++ h.site.left) (h.pair ∷ (h.site.right ++ h.site.after)) (h.site.before ++ h.site.left) (y ∷ (h.site.right ++ h.site.after)) (alike_itself (h.site.before ++ h.site.left))
+        (refl, refl, alike_itself (h.site.right ++ h.site.after))))
 
-  step : (disk : Disk) → IsPairWritten t index (content_reaching_gstate t index zero_gstate) disk → IsStep t.disk disk h.site h.pair [] y [] [] [] h.pair.content.slots [] [] []
-  step disk is = record {
-    accepted = accepted;
-    site = h.is_site;
-    no_move = subst (λ z. HasNoMove (pairs_gstate z)) h.is can.none;
-    still_none = subst HasNoMove (sym clear_state) (record { kind = refl; id = refl; pair = refl });
-    device = device_on disk is;
-    free = record { distinct = accepted.owned_once; in_range = λ k d l. absurd (omega arith) };
-    shape = stays_shape h.pair y refl refl (λ e. e);
-    was = refl;
-    is = refl;
-    splice = record { front = λ e. refl; entries = tt; lists = tt; blocks = λ b. omega arith };
-  }
+    clear_taken : (disk : Disk) → HasTurned t.disk h.site h.pair h.pair.content.slots delta disk y [] → IsWritableChange t.disk (thread_at h.site (h.pair ∷ [])) disk (thread_at h.site (y ∷ [])) (λ t. t) (λ d. d)
+    clear_taken disk x = record {
+      follows = slots_stay t.disk disk h.site h.pair [] y [] [] h.pair.content.slots [] step (λ off. subst AllReached h.is can.reached);
+      writable = step_writable t.disk disk h.site h.pair [] y [] [] [] h.pair.content.slots [] [] [] step fits (within_same t.disk h.pair y refl (within_at t.disk h.site h.pair [] fits), tt) (λ x. x);
+    }
+      where
+        step : IsStep t.disk disk h.site h.pair [] y [] [] [] h.pair.content.slots [] [] []
+        step = record {
+          accepted = accepted;
+          site = h.is_site;
+          no_move = subst (λ z. HasNoMove (pairs_gstate z)) h.is can.none;
+          still_none = subst HasNoMove (sym clear_state) (record { kind = refl; id = refl; pair = refl });
+          device = x.device;
+          free = x.free;
+          shape = stays_shape h.pair y refl refl (λ e. e);
+          was = refl;
+          is = refl;
+          splice = record { front = λ e. refl; entries = tt; lists = tt; blocks = λ b. omega arith };
+        }
 
-  pub clear_taken : (disk : Disk) → IsPairWritten t index (content_reaching_gstate t index zero_gstate) disk → IsWritableChange t.disk (thread_at h.site (h.pair ∷ [])) disk (thread_at h.site (y ∷ [])) (λ t. t) (λ d. d)
-  clear_taken disk is = record {
-    follows = slots_stay t.disk disk h.site h.pair [] y [] [] h.pair.content.slots [] (step disk is) (λ off. subst AllReached h.is can.reached);
-    writable = step_writable t.disk disk h.site h.pair [] y [] [] [] h.pair.content.slots [] [] [] (step disk is) fits (within_same t.disk h.pair y refl (within_at t.disk h.site h.pair [] fits), tt) (λ x. x);
-  }
+    pub cleared : (new : KeptThread) → IsPairCommitted t index (gstate_changes t index zero_gstate) new → IsSyncCleared t new
+    cleared new c =
+        let x = changed_one t index changes h.site h.pair h.pair.content.slots delta turn new c in
+        record {
+          taken = subst₂ (λ a b. IsWritableChange t.disk a new.disk b (λ t. t) (λ d. d)) (sym h.is) (sym x.pairs) (clear_taken new.disk x.turned);
+          alike = subst (SameSlots t.pairs) (sym x.pairs) clear_alike;
+          settled = ap pairs_gstate x.pairs ∙ clear_state;
+          map = c.map;
+          files = subst (λ z. All (λ s. SameFileBlocks t.disk new.disk s.struct) (all_unmoved_slots z)) (sym h.is) x.turned.device.files;
+        }
 
-  -- a stop leaves the tree
-  pub clear_left : complete_after t index (gstate_changes t index zero_gstate) ≡ Some (content_reaching_gstate t index zero_gstate)
-      → (left : Blocks) → LossLeavesPair t index (gstate_changes t index zero_gstate) left → IsLeftOf (with_blocks left t.disk) (disk_tree t.disk t.pairs) (disk_tree t.disk t.pairs)
-  clear_left made left is = subst (λ z. IsLeftOf (with_blocks left t.disk) (disk_tree t.disk z) (disk_tree t.disk z)) (sym h.is) (go is.is)
-    where
-      old : List Pair
-      old = thread_at h.site (h.pair ∷ [])
+    -- a stop leaves the tree
+    clear_left : (left : Blocks) → LossLeavesPair t index changes left → IsLeftOf (with_blocks left t.disk) (disk_tree t.disk t.pairs) (disk_tree t.disk t.pairs)
+    clear_left left is = go (left_alone t index changes h.site h.pair h.pair.content.slots delta turn left is)
+      where
+        go : Stays t index changes h.site h.pair h.pair.content.slots delta turn (with_blocks left t.disk) ⊎ HasTurned t.disk h.site h.pair h.pair.content.slots delta (with_blocks left t.disk) y []
+            → IsLeftOf (with_blocks left t.disk) (disk_tree t.disk t.pairs) (disk_tree t.disk t.pairs)
+        go (inl d) = left_still t.disk left (thread_at h.site (h.pair ∷ [])) accepted fits d (inl (ap (disk_tree t.disk) (sym h.is)))
+        go (inr x) = left_after (clear_taken (with_blocks left t.disk) x) (inl (ap (disk_tree t.disk) (sym h.is)))
 
-      go : (is.content ≡ (thread_pair t index).content) ⊎ ((complete_after t index (gstate_changes t index zero_gstate) ≡ Some is.content) × FitsInPair t.disk.block_size t.disk.page is.content)
-          → IsLeftOf (with_blocks left t.disk) (disk_tree t.disk old) (disk_tree t.disk old)
-      go (inl e) =
-          let same : is.content ≡ h.pair.content = e ∙ ap (λ (z : Pair). z.content) pair_there in
-          let on = device t.disk (with_blocks left t.disk) h.site h.pair h.pair [] [] accepted accepted.owned_once
-          (placed_one t index h.site h.pair h.is place (with_blocks left t.disk) h.pair.content (λ f. (f.kind, f.name)) (subst (λ c. IsPairWritten t index c (with_blocks left t.disk)) same is.written)) in
-          left_still t.disk left old accepted fits on (inl refl)
-      go (inr m) =
-          let same : is.content ≡ content_reaching_gstate t index zero_gstate = same_Some is.content (content_reaching_gstate t index zero_gstate) (sym m.0 ∙ made) in
-          taken_before t.disk old (with_blocks left t.disk) (thread_at h.site (y ∷ [])) (λ d. d) (disk_tree t.disk old)
-          (clear_taken (with_blocks left t.disk) (subst (λ c. IsPairWritten t index c (with_blocks left t.disk)) same is.written))
+    pub clear_survives : (new : List CallEvent) → CleanLossLeaves t.history new (LossLeavesPair t index (gstate_changes t index zero_gstate))
+        → SurvivesLossSince t.disk t.history new (disk_tree t.disk t.pairs) (disk_tree t.disk t.pairs)
+    clear_survives new stops clean = HoldsAtLosses-weaker clear_left (stops clean)

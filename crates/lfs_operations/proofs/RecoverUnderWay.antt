@@ -1,15 +1,17 @@
 -- How far a recovery is, from its beginning to its end.
-use Rattle.lfs_operations.proofs.Common.{ℕ, suc, zero, ◌≡◌, ◌≢◌, ◌+◌, ◌-◌, ◌<◌, ◌≤◌, ◌⊎◌, inl, inr, true, false, cond, nat_eq, eq-eqb, List, [], ◌∷◌, ◌++◌, length, take, drop, Option, Some, None, refl, sym, ap, ap₂, subst, ◌∙◌, arith, append_assoc, length-append, slice_get, ne_eqb, Blocks, Disk, directory_address, continued_address, AllCallsSince, HasEitherTree as IsLeftOf, SurvivesLossSince, with_blocks, Gstate, zero_gstate, same_pair, Pair, pairs_blocks, pairs_from_root, first_address, pairs_gstate, count_before_root, address_blocks, IsAccepted, IsReachedBySome, disk_tree, used_blocks, IsWritable, survives_then, number_occurrences, count_append, once_from_distinct, HasDirectory, chain_of_thread, led_directory, HasNoMove, HoldsAtLosses-weaker, joined_singles, onward_all, Ends, pair_back, pair_itself, pair_on, same_number, file_blocks, all_slots, IsReady, IsUnthreaded, same_parts, CleanLossLeaves, KeptThread, SameGeometryAs, ChangesThreadBlocks, empty_anchor, thread_pair, is_some, slice_index_or, recovery_begins, AreUnreachedNumbers, AreUnreachedFrom, CanDropPairs, numbered_list_blocks, gstate_while_dropping, SameInFlight, CanDropAt, LeftByDrop, IsPairDropped, content_after_drop}
+use Rattle.lfs_operations.proofs.Common.{ℕ, suc, ◌≡◌, ◌≢◌, ◌+◌, ◌-◌, ◌<◌, ◌≤◌, ◌⊎◌, inl, inr, true, false, cond, nat_eq, eq-eqb, List, [], ◌∷◌, ◌++◌, length, take, drop, Option, Some, None, refl, sym, ap, ap₂, subst, ◌∙◌, arith, append_assoc, length-append, slice_get, ne_eqb, Blocks, Disk, directory_address, continued_address, AllCallsSince, HasEitherTree as IsLeftOf, SurvivesLossSince, with_blocks, Gstate, zero_gstate, same_pair, Pair, pairs_blocks, pairs_from_root, first_address, pairs_gstate, count_before_root, address_blocks, IsAccepted, IsReachedBySome, disk_tree, used_blocks, IsWritable, survives_then, number_occurrences, count_append, once_from_distinct, HasDirectory, chain_of_thread, led_directory, HasNoMove, HoldsAtLosses-weaker, joined_singles, onward_all, Ends, pair_back, pair_itself, pair_on, same_number, file_blocks, all_slots, IsReady, IsUnthreaded, same_parts, CleanLossLeaves, KeptThread, SameGeometryAs, ChangesThreadBlocks, empty_anchor, thread_pair, is_some, slice_index_or, recovery_begins, AreUnreachedNumbers, AreUnreachedFrom, CanDropPairs, numbered_list_blocks, gstate_while_dropping, SameInFlight, CanDropAt, LeftByDrop, IsPairDropped, content_after_drop}
 use Rattle.lfs_model.proofs.Histories.{AllCallsSince-weaker, goes_on_by}
 use Rattle.lfs_operations.proofs.RecoverLists.{lists_kept, lists_more, numbered}
-use Rattle.lfs_operations.proofs.RecoverLoop.{FirstsOnly, IsAtDrop, IsAtEnd, IsOnWay, all_but, drops, goes_to, ready, soft, stands, sync_set, unled}
+use Rattle.lfs_model.proofs.RecoveryWay.{FirstsOnly, IsAtDrop, IsAtEnd, IsOnWay, all_but, drops, goes_to, ready, soft, stands, sync_set, unled}
 use Rattle.lfs_operations.proofs.RecoverMap.{HasMap, map_drops}
 use Rattle.lfs_operations.proofs.Dropped.{IsToBeDropped, blocks_left, can_drop_pair, files_left, pairs_left}
-use Rattle.lfs_operations.proofs.RemovedWhole.{last_pair}
+use Rattle.lfs_model.proofs.PairsInFront.{last_pair}
 use Rattle.lfs_operations.proofs.RecoverWrites.{two_fewer, writes_fewer, writes_none}
-use Rattle.lfs_operations.proofs.Putting.{writes_trans}
+use Rattle.lfs_operations.proofs.Putting.{writes_trans, survives_step}
 use Rattle.lfs_operations.proofs.RecoverSteps.{IsUnled, over_left, over_on, site_of}
-use Rattle.lfs_operations.proofs.Threads.{get_behind}
+use Rattle.lfs_model.proofs.PairLists.{get_behind}
+use Rattle.std.proofs.Math.Seq.{drop-cons}
+use Rattle.std.proofs.lemmas.List.{drop_all, length-drop}
 
 -- ---- the device
 
@@ -29,6 +31,16 @@ stays_then a b c h k = record {
 
 pub stays_by : (bs : List ℕ) (a b : KeptThread) → ChangesThreadBlocks bs a b → StaysOn a b
 stays_by bs a b w = record { shape = w.shape; calls = AllCallsSince-weaker (λ e k. tt) w.at_worst }
+
+-- a stop in a step that leaves the tree, after others that left it
+pub survives_behind : (old now new : KeptThread) → StaysOn old now → StaysOn now new → disk_tree now.disk now.pairs ≡ disk_tree old.disk old.pairs
+    → SurvivesLossSince old.disk old.history now.history (disk_tree old.disk old.pairs) (disk_tree old.disk old.pairs) → SurvivesLossSince now.disk now.history new.history (disk_tree now.disk now.pairs) (disk_tree now.disk now.pairs)
+    → SurvivesLossSince old.disk old.history new.history (disk_tree old.disk old.pairs) (disk_tree old.disk old.pairs)
+survives_behind old now new h k shows before after = survives_then old.disk old.history now.history new.history (disk_tree old.disk old.pairs) (disk_tree old.disk old.pairs) h.calls k.calls before
+    (λ clean. HoldsAtLosses-weaker (λ left x. subst (λ z. IsLeftOf z (disk_tree old.disk old.pairs) (disk_tree old.disk old.pairs)) (disk_is left) (subst (λ z. IsLeftOf (with_blocks left now.disk) z z) shows x)) (after clean))
+  where
+    disk_is : (left : Blocks) → with_blocks left now.disk ≡ with_blocks left old.disk
+    disk_is left = λ j. record { block_size = h.shape.block_size j; page = h.shape.page j; order = h.shape.order j; profile = h.shape.profile j; blocks = left }
 
 -- ---- the beginning
 
@@ -80,7 +92,7 @@ pub record IsUnderWay (old now : KeptThread) (dropped : ℕ) (numbers : List ℕ
   pub todo : List Pair
   pub parts : List (List Pair)
   pub kept : List Pair
-  pub way : IsOnWay old.disk old.pairs now dropped (take (count_before_root old.pairs) old.pairs) seen todo parts kept numbers
+  pub way : IsOnWay old.disk old.pairs now.disk now.pairs dropped (take (count_before_root old.pairs) old.pairs) seen todo parts kept numbers
   pub state : 0 < dropped → numbers ≡ [] → pairs_gstate now.pairs ≡ zero_gstate
   pub device : StaysOn old now
   pub gone : List ℕ
@@ -145,36 +157,42 @@ begins t numbers can =
 
 -- the pair at an index goes, which stands behind the one before it
 pub record IsNext (old now : KeptThread) (dropped number : ℕ) (rest : List ℕ) : Type 0 where
-  pub goes : IsAtDrop old.disk old.pairs now dropped (take (count_before_root old.pairs) old.pairs) (number ∷ rest)
+  pub goes : IsAtDrop old.disk old.pairs now.disk now.pairs dropped (take (count_before_root old.pairs) old.pairs) (number ∷ rest)
   pub front : List Pair
   pub before : Pair
   pub split : goes.kept ≡ front ++ before ∷ []
   pub number_is : number ≡ length (take (count_before_root old.pairs) old.pairs) + length front + 1 + dropped
 
 pub next_goes : (old now : KeptThread) (dropped number : ℕ) (rest : List ℕ) → IsUnderWay old now dropped (number ∷ rest) → IsNext old now dropped number rest
-next_goes old now dropped number rest u = go (goes_to old.disk old.pairs now dropped (take (count_before_root old.pairs) old.pairs) u.seen u.todo u.parts u.kept (number ∷ rest) u.way)
+next_goes old now dropped number rest u = go (goes_to old.disk old.pairs now.disk now.pairs dropped (take (count_before_root old.pairs) old.pairs) u.seen u.todo u.parts u.kept (number ∷ rest) u.way)
   where
     head : {a b : ℕ} {us vs : List ℕ} → a ∷ us ≡ b ∷ vs → a ≡ b
     head e = cc
 
-    go : IsAtEnd old.disk old.pairs now dropped (take (count_before_root old.pairs) old.pairs) (number ∷ rest) ⊎ IsAtDrop old.disk old.pairs now dropped (take (count_before_root old.pairs) old.pairs) (number ∷ rest)
+    go : IsAtEnd old.disk old.pairs now.disk now.pairs dropped (take (count_before_root old.pairs) old.pairs) (number ∷ rest) ⊎ IsAtDrop old.disk old.pairs now.disk now.pairs dropped (take (count_before_root old.pairs) old.pairs) (number ∷ rest)
         → IsNext old now dropped number rest
     go (inl d) = absurd (let l = ap length d.none in omega arith)
     go (inr d) =
         let l = last_pair d.kept (λ none. d.unreached (d.way.root none d.x d.todo refl)) in
         record { goes = d; front = l.front; before = l.last; split = l.is; number_is = let h = head d.is in let a = ap length l.is in let b = length-append l.front (l.last ∷ []) in omega arith }
 
--- the state that is wanted: none with the last one
-pub record IsWanted (now : KeptThread) (rest : List ℕ) (g : Gstate) : Type 0 where
+-- The pair of that number stands at an index now, and goes. The state that is wanted is none with the last one.
+pub record IsTaking (old now : KeptThread) (dropped number : ℕ) (rest : List ℕ) (g : Gstate) (behind : ℕ) : Type 0 where
+  pub under : IsUnderWay old now dropped (number ∷ rest)
+  pub next : IsNext old now dropped number rest
   pub last : rest ≡ [] → g ≡ zero_gstate
   pub other : rest ≢ [] → g ≡ pairs_gstate now.pairs
+  pub sum : behind + dropped ≡ number
 
-module _ (old now : KeptThread) (dropped number : ℕ) (rest : List ℕ) (n : IsNext old now dropped number rest) (g : Gstate) (want : IsWanted now rest g) where
+module _ {old now : KeptThread} {dropped number : ℕ} {rest : List ℕ} {g : Gstate} {behind : ℕ} (k : IsTaking old now dropped number rest g behind) where
+  abbrev u : IsUnderWay old now dropped (number ∷ rest)
+  u = k.under
+
+  abbrev n : IsNext old now dropped number rest
+  n = k.next
+
   abbrev C : List Pair
   C = take (count_before_root old.pairs) old.pairs
-
-  abbrev at : ℕ
-  at = length C + length n.front
 
   more : AreUnreachedFrom (IsReachedBySome old.pairs) (suc (length C + length n.goes.kept + dropped)) (continued_address (onward_all None n.goes.seen) n.goes.x) n.goes.todo rest
   more = subst (AreUnreachedFrom (IsReachedBySome old.pairs) (suc (length C + length n.goes.kept + dropped)) (continued_address (onward_all None n.goes.seen) n.goes.x) n.goes.todo) (tail n.goes.is) n.goes.more
@@ -196,9 +214,9 @@ module _ (old now : KeptThread) (dropped number : ℕ) (rest : List ℕ) (n : Is
   cases = go rest refl
     where
       go : (r : List ℕ) → rest ≡ r → (HasNoMove g) × (g.sync ≡ false → rest ≡ [])
-      go [] e = (subst HasNoMove (sym (want.last e)) (record { kind = refl; id = refl; pair = refl }), λ off. e)
+      go [] e = (subst HasNoMove (sym (k.last e)) (record { kind = refl; id = refl; pair = refl }), λ off. e)
       go (r ∷ rs) e =
-          let is = want.other (λ k. absurd (let l = ap length (sym e ∙ k) in omega arith)) in
+          let is = k.other (λ none. absurd (let l = ap length (sym e ∙ none) in omega arith)) in
           (subst HasNoMove (sym is) now_none, λ off. absurd (sync_set n.goes.way n.goes.unreached n.front n.before n.split (ap (λ (z : Gstate). z.sync) (sym is) ∙ off)))
 
   is_unled : IsUnled now g n.before n.goes.x
@@ -210,117 +228,95 @@ module _ (old now : KeptThread) (dropped number : ℕ) (rest : List ℕ) (n : Is
         (subst (λ z. AreUnreachedFrom (IsReachedBySome old.pairs) (suc (length C + length n.goes.kept + dropped)) (continued_address (onward_all None n.goes.seen) n.goes.x) n.goes.todo z) (cases.1 off) more);
   }
 
-  module _ (behind : ℕ) (e : behind + dropped ≡ number) where
-    dropping : IsToBeDropped now behind g (site_of C n.front n.goes.todo) n.before n.goes.x
-    dropping = record {
-      accepted = subst (IsAccepted now.disk) (sym whole_is) is_ready.accepted;
-      writable = subst (IsWritable now.disk) (sym whole_is) is_ready.writable;
-      storable = record {
-        kind = let e = cases.0.kind in omega arith;
-        id = let e = cases.0.id in omega arith;
-        pair = ((let e = ap (λ (z : ℕ × ℕ). z.0) cases.0.pair in omega arith), (let e = ap (λ (z : ℕ × ℕ). z.1) cases.0.pair in omega arith));
-      };
-      there = whole_is;
-      number = let k = n.number_is in let c = length-append C n.front in omega arith;
-    }
+  dropping : IsToBeDropped now behind g (site_of C n.front n.goes.todo) n.before n.goes.x
+  dropping = record {
+    accepted = subst (IsAccepted now.disk) (sym whole_is) is_ready.accepted;
+    writable = subst (IsWritable now.disk) (sym whole_is) is_ready.writable;
+    storable = record {
+      kind = let e = cases.0.kind in omega arith;
+      id = let e = cases.0.id in omega arith;
+      pair = ((let e = ap (λ (z : ℕ × ℕ). z.0) cases.0.pair in omega arith), (let e = ap (λ (z : ℕ × ℕ). z.1) cases.0.pair in omega arith));
+    };
+    there = whole_is;
+    number = let i = n.number_is in let c = length-append C n.front in let e = k.sum in omega arith;
+  }
 
-    pub can_take : CanDropAt now behind g
-    can_take = can_drop_pair dropping
+  pub can_take : CanDropAt now behind g
+  can_take = can_drop_pair dropping
 
-    shows : disk_tree now.disk now.pairs ≡ disk_tree old.disk old.pairs
-    shows = ap (disk_tree now.disk) (n.goes.way.there ∙ ap (λ z. C ++ (n.goes.kept ++ z)) (sym (joined_singles (n.goes.x ∷ n.goes.todo)))) ∙ n.goes.way.is.taken.follows.shows
+  shows : disk_tree now.disk now.pairs ≡ disk_tree old.disk old.pairs
+  shows = ap (disk_tree now.disk) (n.goes.way.there ∙ ap (λ z. C ++ (n.goes.kept ++ z)) (sym (joined_singles (n.goes.x ∷ n.goes.todo)))) ∙ n.goes.way.is.taken.follows.shows
 
-    disk_is : StaysOn old now → (left : Blocks) → with_blocks left now.disk ≡ with_blocks left old.disk
-    disk_is d left = λ j. record { block_size = d.shape.block_size j; page = d.shape.page j; order = d.shape.order j; profile = d.shape.profile j; blocks = left }
+  number_there : slice_index_or old.pairs number empty_anchor ≡ n.goes.x
+  number_there = numbered old.pairs C n.goes.seen n.goes.x n.goes.todo number n.goes.way.is.are
+      (let i = n.number_is in let c = n.goes.way.counted in let a = ap length n.split in let b = length-append n.front (n.before ∷ []) in omega arith)
 
-    number_there : slice_index_or old.pairs number empty_anchor ≡ n.goes.x
-    number_there = numbered old.pairs C n.goes.seen n.goes.x n.goes.todo number n.goes.way.is.are
-        (let k = n.number_is in let c = n.goes.way.counted in let a = ap length n.split in let b = length-append n.front (n.before ∷ []) in omega arith)
+  pub survives_on : (new : KeptThread) → StaysOn now new → CleanLossLeaves now.history new.history (LeftByDrop now (behind - 1) g)
+      → SurvivesLossSince old.disk old.history new.history (disk_tree old.disk old.pairs) (disk_tree old.disk old.pairs)
+  survives_on new on stops = survives_behind old now new u.device on shows u.survives (survives_step now.disk (over_left now C n.front n.before n.goes.x n.goes.todo behind g dropping is_ready is_unled) stops)
 
-    pub survives_on : (new : KeptThread) → IsUnderWay old now dropped (number ∷ rest)
-        → StaysOn now new → CleanLossLeaves now.history new.history (LeftByDrop now (behind - 1) g)
-        → SurvivesLossSince old.disk old.history new.history (disk_tree old.disk old.pairs) (disk_tree old.disk old.pairs)
-    survives_on new u on stops =
-        survives_then old.disk old.history now.history new.history (disk_tree old.disk old.pairs) (disk_tree old.disk old.pairs) u.device.calls on.calls u.survives
-        (λ clean. HoldsAtLosses-weaker (λ left x. subst (λ z. IsLeftOf z (disk_tree old.disk old.pairs) (disk_tree old.disk old.pairs)) (disk_is u.device left)
-        (subst (λ z. IsLeftOf (with_blocks left now.disk) z z) shows
-        (over_left now C n.front n.before n.goes.x n.goes.todo behind g dropping is_ready is_unled left x))) (stops clean))
+  pub writes_on : (new : KeptThread) → ChangesThreadBlocks (address_blocks (thread_pair now (behind - 1)).at) now new → ChangesThreadBlocks (pairs_blocks old.pairs) old new
+  writes_on new writes =
+      let can = can_take in
+      let low : behind - 1 < length now.pairs = let w = can.above in let z = can.below in omega arith in
+      writes_trans u.writes (writes_fewer _ (pairs_blocks old.pairs) (λ b. let f = u.fewer b in let l = two_fewer now.pairs (behind - 1) low b in omega arith) writes)
 
-    pub writes_on : (new : KeptThread) → IsUnderWay old now dropped (number ∷ rest) → ChangesThreadBlocks (address_blocks (thread_pair now (behind - 1)).at) now new → ChangesThreadBlocks (pairs_blocks old.pairs) old new
-    writes_on new u writes =
-        let can = can_take in
-        let low : behind - 1 < length now.pairs = let w = can.above in let z = can.below in omega arith in
-        writes_trans u.writes (writes_fewer _ (pairs_blocks old.pairs) (λ b. let f = u.fewer b in let l = two_fewer now.pairs (behind - 1) low b in omega arith) writes)
-
-    pub moves_on : (new : KeptThread) → IsUnderWay old now dropped (number ∷ rest)
-        → IsPairDropped now (behind - 1) g new → ChangesThreadBlocks (address_blocks (thread_pair now (behind - 1)).at) now new → CleanLossLeaves now.history new.history (LeftByDrop now (behind - 1) g)
-        → IsUnderWay old new (suc dropped) rest
-    moves_on new u is writes stops =
-        let on = stays_by _ now new writes in
-        let q : Pair = record { at = n.before.at; content = content_after_drop now (behind - 1) g } in
-        let apart = over_on now C n.front n.before n.goes.x n.goes.todo behind g dropping is_ready is_unled new.disk is.written in
-        let m = map_drops dropping new is now_none cases.0 u.gone u.map in
-        record {
-          gone = u.gone ++ file_blocks now.disk n.goes.x.content.slots;
-          was = u.was;
-          took = u.took ++ number ∷ [];
-          reported = subst (AreUnreachedNumbers old.pairs) (sym (append_assoc u.took (number ∷ []) rest)) u.reported;
-          gone_are = ap₂ (λ a b. a ++ b) u.gone_are (lists_kept old now C n.goes.seen n.goes.x n.goes.todo n.goes.way.is.are u.was n.goes.way.no_move u.writes) ∙ sym (lists_more old u.took number n.goes.x number_there);
-          map = m.0;
-          lost = λ b.
-              let f = files_left dropping new is now_none cases.0 b in
-              let a = count_append b u.gone (file_blocks now.disk n.goes.x.content.slots) in
-              let l = u.lost b in
-              omega arith;
-          flying = λ b. ((λ flies. (u.flying b).0 ((m.1 b).0 flies)), (λ flies. (m.1 b).1 ((u.flying b).1 flies)));
-          fewer = λ b. let f = u.fewer b in let k = blocks_left dropping new is b in omega arith;
-          writes = writes_on new u writes;
-          seen = n.goes.seen ++ n.goes.x ∷ [];
-          todo = n.goes.todo;
-          parts = n.goes.parts ++ [] ∷ [];
-          kept = n.front ++ q ∷ [];
-          way = drops n.goes.way n.goes.unreached n.front n.before n.split new q rest more
-              (subst (λ z. IsUnthreaded now.disk new.disk C n.front n.before n.goes.x q z) (sym (joined_singles n.goes.todo)) apart) (pairs_left dropping new is);
-          state = λ some none. is.gstate ∙ want.last none;
-          device = stays_then old now new u.device on;
-          survives = survives_on new u on stops;
-        }
+  pub moves_on : (new : KeptThread) → IsPairDropped now (behind - 1) g new → ChangesThreadBlocks (address_blocks (thread_pair now (behind - 1)).at) now new → CleanLossLeaves now.history new.history (LeftByDrop now (behind - 1) g)
+      → IsUnderWay old new (suc dropped) rest
+  moves_on new is writes stops =
+      let on = stays_by _ now new writes in
+      let q : Pair = record { at = n.before.at; content = content_after_drop now (behind - 1) g } in
+      let apart = over_on now C n.front n.before n.goes.x n.goes.todo behind g dropping is_ready is_unled new.disk is.written in
+      let m = map_drops dropping new is now_none cases.0 u.gone u.map in
+      record {
+        gone = u.gone ++ file_blocks now.disk n.goes.x.content.slots;
+        was = u.was;
+        took = u.took ++ number ∷ [];
+        reported = subst (AreUnreachedNumbers old.pairs) (sym (append_assoc u.took (number ∷ []) rest)) u.reported;
+        gone_are = ap₂ (λ a b. a ++ b) u.gone_are (lists_kept old now C n.goes.seen n.goes.x n.goes.todo n.goes.way.is.are u.was n.goes.way.no_move u.writes) ∙ sym (lists_more old u.took number n.goes.x number_there);
+        map = m.0;
+        lost = λ b.
+            let f = files_left dropping new is now_none cases.0 b in
+            let a = count_append b u.gone (file_blocks now.disk n.goes.x.content.slots) in
+            let l = u.lost b in
+            omega arith;
+        flying = λ b. ((λ flies. (u.flying b).0 ((m.1 b).0 flies)), (λ flies. (m.1 b).1 ((u.flying b).1 flies)));
+        fewer = λ b. let f = u.fewer b in let e = blocks_left dropping new is b in omega arith;
+        writes = writes_on new writes;
+        seen = n.goes.seen ++ n.goes.x ∷ [];
+        todo = n.goes.todo;
+        parts = n.goes.parts ++ [] ∷ [];
+        kept = n.front ++ q ∷ [];
+        way = drops n.goes.way n.goes.unreached n.front n.before n.split new.disk new.pairs q rest more
+            (subst (λ z. IsUnthreaded now.disk new.disk C n.front n.before n.goes.x q z) (sym (joined_singles n.goes.todo)) apart) (pairs_left dropping new is);
+        state = λ some none. is.gstate ∙ k.last none;
+        device = stays_then old now new u.device on;
+        survives = survives_on new on stops;
+      }
 
 -- ---- in the list of numbers
 
-drop_here : (n : ℕ) (xs : List ℕ) → n < length xs → drop n xs ≡ slice_index_or xs n 0 ∷ drop (suc n) xs
-drop_here n [] low = absurd (omega arith)
-drop_here zero (x ∷ xs) low = refl
-drop_here (suc n) (x ∷ xs) low = drop_here n xs (omega arith)
-
-pub drop_none : (n : ℕ) (xs : List ℕ) → drop n xs ≡ [] → length xs ≤ n
-drop_none zero [] e = omega arith
-drop_none zero (x ∷ xs) e = absurd (let l = ap length e in omega arith)
-drop_none (suc n) [] e = omega arith
-drop_none (suc n) (x ∷ xs) e = let l = drop_none n xs e in omega arith
-
-pub drop_all : (n : ℕ) (xs : List ℕ) → length xs ≤ n → drop n xs ≡ []
-drop_all zero [] l = refl
-drop_all zero (x ∷ xs) l = absurd (omega arith)
-drop_all (suc n) [] l = refl
-drop_all (suc n) (x ∷ xs) l = drop_all n xs (omega arith)
-
-pub way_at : (old now : KeptThread) (xs : List ℕ) (dropped : ℕ) → dropped < length xs → IsUnderWay old now dropped (drop dropped xs) → IsUnderWay old now dropped (slice_index_or xs dropped 0 ∷ drop (suc dropped) xs)
-way_at old now xs dropped low u = subst (IsUnderWay old now dropped) (drop_here dropped xs low) u
-
-pub next_at : (old now : KeptThread) (xs : List ℕ) (dropped : ℕ) → dropped < length xs → IsUnderWay old now dropped (drop dropped xs) → IsNext old now dropped (slice_index_or xs dropped 0) (drop (suc dropped) xs)
-next_at old now xs dropped low u = next_goes old now dropped (slice_index_or xs dropped 0) (drop (suc dropped) xs) (way_at old now xs dropped low u)
-
--- how the number and the index hang together
-pub record AreIndexes (number dropped : ℕ) : Type 0 where
-  pub enough : dropped ≤ number
-  pub sum : number - dropped + dropped ≡ number
-
-pub indexes : (old now : KeptThread) (dropped number : ℕ) (rest : List ℕ) → IsNext old now dropped number rest → AreIndexes number dropped
-indexes old now dropped number rest n = let k = n.number_is in record { enough = omega arith; sum = omega arith }
-
-pub wanted : (now : KeptThread) (xs : List ℕ) (dropped : ℕ) (g : Gstate) → dropped < length xs → g ≡ gstate_while_dropping now (nat_eq (dropped + 1) (length xs)) → IsWanted now (drop (suc dropped) xs) g
-wanted now xs dropped g low is = record {
-  last = λ none. is ∙ ap (gstate_while_dropping now) (eq-eqb (dropped + 1) (length xs) (let l = drop_none (suc dropped) xs none in omega arith));
+-- the next one goes, with the state that is wanted then
+pub taking : (old now : KeptThread) (xs : List ℕ) (dropped : ℕ) (g : Gstate) → dropped < length xs → IsUnderWay old now dropped (drop dropped xs) → g ≡ gstate_while_dropping now (nat_eq (dropped + 1) (length xs))
+    → IsTaking old now dropped (slice_index_or xs dropped 0) (drop (suc dropped) xs) g (slice_index_or xs dropped 0 - dropped)
+taking old now xs dropped g low way is = record {
+  under = under;
+  next = next;
+  last = λ none. is ∙ ap (gstate_while_dropping now) (eq-eqb (dropped + 1) (length xs) (let l = length-drop (suc dropped) xs in let n = ap length none in omega arith));
   other = λ some. is ∙ ap (gstate_while_dropping now) (ne_eqb (dropped + 1) (length xs) (λ e. some (drop_all (suc dropped) xs (omega arith))));
+  sum = let i = next.number_is in omega arith;
 }
+  where
+    under : IsUnderWay old now dropped (slice_index_or xs dropped 0 ∷ drop (suc dropped) xs)
+    under = subst (IsUnderWay old now dropped) (drop-cons xs dropped 0 low) way
+
+    next : IsNext old now dropped (slice_index_or xs dropped 0) (drop (suc dropped) xs)
+    next = next_goes old now dropped (slice_index_or xs dropped 0) (drop (suc dropped) xs) under
+
+-- so many are gone that its number is no less
+pub enough_behind : (old now : KeptThread) (xs : List ℕ) (dropped : ℕ) → dropped < length xs → IsUnderWay old now dropped (drop dropped xs) → dropped ≤ slice_index_or xs dropped 0
+enough_behind old now xs dropped low way = let t = (taking old now xs dropped (gstate_while_dropping now (nat_eq (dropped + 1) (length xs))) low way refl).sum in omega arith
+
+-- none is left
+pub none_left : (old now : KeptThread) (xs : List ℕ) (dropped : ℕ) → length xs ≤ dropped → IsUnderWay old now dropped (drop dropped xs) → IsUnderWay old now dropped []
+none_left old now xs dropped past way = subst (IsUnderWay old now dropped) (drop_all dropped xs past) way

@@ -1,28 +1,20 @@
 -- Which blocks are written, of those of pairs.
-use Rattle.lfs_operations.proofs.Common.{ℕ, zero, suc, ◌≡◌, ◌≢◌, ◌<◌, ◌≤◌, ◌+◌, Bool, true, false, cond, nat_eq, eqb-true, eq-eqb, List, [], ◌∷◌, length, refl, sym, ◌∙◌, arith, All-from_recursion, recursion_from_All, Pair, pairs_blocks, address_blocks, Each, number_occurrences, StayUnprogrammed-refl, KeptThread, ChangesThreadBlocks, empty_anchor, slice_index_or}
+use Rattle.lfs_operations.proofs.Common.{ℕ, zero, suc, ◌≡◌, ◌≢◌, ◌<◌, ◌≤◌, List, [], ◌∷◌, length, refl, arith, recursion_from_All, Pair, pairs_blocks, address_blocks, Each, number_occurrences, StayUnprogrammed-refl, KeptThread, ChangesThreadBlocks, empty_anchor, slice_index_or, cases_lt, each_counted, inl, inr, ◌⊎◌}
 use Rattle.lfs_model.proofs.Overwrites.{SameExceptBlocks-refl}
 use Rattle.lfs_operations.proofs.Putting.{writes_wider}
+use Rattle.lfs_model.proofs.Placing.{all_apart}
 
 none_counted : (b : ℕ) (xs : List ℕ) → Each (λ c. c ≢ b) xs → number_occurrences b xs ≡ 0
-none_counted b [] h = refl
-none_counted b (x ∷ xs) h = go (nat_eq b x) refl (none_counted b xs h.1)
+none_counted b xs h = go (cases_lt 0 (number_occurrences b xs))
   where
-    go : (t : Bool) → nat_eq b x ≡ t → number_occurrences b xs ≡ 0 → cond t 1 0 + number_occurrences b xs ≡ 0
-    go true e k = absurd (h.0 (sym (eqb-true b x e)))
-    go false e k = omega arith
-
-pub none_there : (b : ℕ) (xs : List ℕ) → number_occurrences b xs ≡ 0 → Each (λ c. c ≢ b) xs
-none_there b [] h = tt
-none_there b (x ∷ xs) h = go (nat_eq b x) refl h (λ k. none_there b xs k)
-  where
-    go : (t : Bool) → nat_eq b x ≡ t → cond t 1 0 + number_occurrences b xs ≡ 0 → (number_occurrences b xs ≡ 0 → Each (λ c. c ≢ b) xs) → (x ≢ b) × Each (λ c. c ≢ b) xs
-    go true e k next = absurd (omega arith)
-    go false e k next = ((λ same. absurd (let z = sym (eq-eqb b x (sym same)) ∙ e in cc)), next (omega arith))
+    go : (0 < number_occurrences b xs) ⊎ (number_occurrences b xs ≤ 0) → number_occurrences b xs ≡ 0
+    go (inl some) = absurd (each_counted (λ c. c ≢ b) xs h b (omega arith) refl)
+    go (inr none) = omega arith
 
 -- of more blocks
 pub writes_fewer : (bs cs : List ℕ) {old new : KeptThread} → ((b : ℕ) → number_occurrences b bs ≤ number_occurrences b cs) → ChangesThreadBlocks bs old new → ChangesThreadBlocks cs old new
 writes_fewer bs cs fewer w = writes_wider cs
-    (λ b apart. All-from_recursion (λ c. c ≢ b) bs (none_there b bs (let k = none_counted b cs (recursion_from_All (λ (c : ℕ). c ≢ b) cs apart) in let f = fewer b in omega arith))) w
+    (λ b apart. all_apart bs b (let k = none_counted b cs (recursion_from_All (λ (c : ℕ). c ≢ b) cs apart) in let f = fewer b in omega arith)) w
 
 pub writes_none : (bs : List ℕ) (t : KeptThread) → ChangesThreadBlocks bs t t
 writes_none bs t = record {

@@ -1,12 +1,14 @@
 -- A file that goes while its pair stays, as a step of the thread.
-use Rattle.lfs_operations.proofs.Common.{Err, Result, append_assoc, nat_eq, slice_get, ℕ, ◌≡◌, ◌≢◌, ◌⊎◌, inl, inr, ◌+◌, ◌<◌, ◌&&◌, not, Bool, true, false, eqb-true, List, [], ◌∷◌, ◌++◌, length, Some, refl, sym, ap, ap₂, subst, ◌∙◌, arith, append-nil, length-append, remove, sum_by, eqb-false, same_Some, sum_by-append, sum_by-cons, tree_removing, Free, InFlight, Delete, content_with_changes, RawContent, complete_content, raw_content, Disk, CallEvent, SurvivesLossSince, PairContent, FitsInPair, Slot, same_pair, slot_size, Pair, pairs_blocks, first_address, tail_target, Tree, struct_blocks, disk_tree, Name, IsChangedImage, CompletesOperation, commit_step, recovered_from, complete_length, complete_remove, completed_from, completed_parts, count_append, deletes, does_first, does_nothing, HoldsAtLosses-weaker, Ends, file_goes, remove_here, same, same_number, site, pair_back, pair_on, IsPairAt, IsDistinct, Site, thread_at, ends_joined, CleanLossLeaves, KeptThread, ThreadView, CanChangePair, ThreadReportsErrors, IsPairCommitted, LossLeavesPair, RefusesChanges, complete_after, thread_pair, is_err, Error, option_and_then, remove_completed, CanEditIn, editable_slot, ShowsDroppedTree, ShowsUnsettledTree, CanRemoveIn, IsFileRemoved, ReportsCommit, drops_emptied_pair, tree_without_entry}
+use Rattle.lfs_operations.proofs.Common.{Err, Result, append_assoc, nat_eq, slice_get, ℕ, ◌≡◌, ◌≢◌, ◌⊎◌, inl, inr, ◌+◌, ◌<◌, ◌&&◌, not, Bool, true, false, eqb-true, List, [], ◌∷◌, ◌++◌, length, Some, refl, sym, ap, subst, ◌∙◌, arith, append-nil, length-append, eqb-false, tree_removing, Free, InFlight, Delete, Disk, CallEvent, SurvivesLossSince, Slot, same_pair, Pair, pairs_blocks, first_address, Tree, struct_blocks, disk_tree, Name, IsChangedImage, CompletesOperation, commit_step, recovered_from, count_append, HoldsAtLosses-weaker, Ends, file_goes, same, same_number, site, pair_back, pair_on, IsPairAt, IsDistinct, Site, thread_at, ends_joined, CleanLossLeaves, KeptThread, ThreadView, ThreadReportsErrors, IsPairCommitted, LossLeavesPair, thread_pair, is_err, Error, remove_completed, CanEditIn, editable_slot, ShowsDroppedTree, ShowsUnsettledTree, CanRemoveIn, IsFileRemoved, ReportsCommit, drops_emptied_pair, tree_without_entry}
 use Rattle.lfs_model.specs.session.Operations as ops
-use Rattle.lfs_operations.proofs.Held.{CompletesTo, below, fits_there, here, raw_there}
+use Rattle.lfs_operations.proofs.Held.{here}
 use Rattle.lfs_operations.proofs.Splicing.{Commits, IsSplicing}
 use Rattle.lfs_operations.proofs.Stepped.{HasStep, becomes, put_step, survives}
-use Rattle.lfs_operations.proofs.Threads.{get_behind}
+use Rattle.lfs_model.proofs.PairLists.{get_behind}
 use Rattle.lfs_operations.proofs.RenameReadOver.{reported_again}
 use Rattle.lfs_operations.proofs.PairAt.{HasPairAt, pair_at}
+use Rattle.lfs_operations.proofs.MovTurned.{content_with}
+use Rattle.lfs_operations.proofs.Unlinked.{delta_stays, going_made, pair_there}
 
 -- no hard tail leads to the first pair of a directory
 pub flag_ends : (before : List Pair) → Ends before → ends_joined false before ≡ false
@@ -51,6 +53,32 @@ stays_there t index id first can begins goes = by (nat_eq index first) (nat_eq (
         let p = ap (λ (z : Pair). length z.content.slots) (here t can.ready can.first index can.stands.pair can.stands.rest can.stands.place) in
         omega arith)
 
+-- where the pair of an entry stands
+abbrev pub entry_site : {t : KeptThread} {index id : ℕ} → CanEditIn t index id → Site
+entry_site {t = t} {index = index} can = site t.disk t.pairs can.path can.at can.ready.accepted can.leads can.first index can.stands.pair can.stands.rest can.stands.place can.begins
+
+pub entry_stands : {t : KeptThread} {index id : ℕ} (can : CanEditIn t index id) → HasPairAt t index can.path can.at (entry_site can) can.stands.pair
+entry_stands {t = t} {index = index} can = pair_at t can.ready can.path can.at can.leads can.first index can.stands.pair can.stands.rest can.stands.place can.begins
+
+module _ (t : KeptThread) (index id first : ℕ) (can : CanEditIn t index id) (begins : can.first ≡ first) (goes : drops_emptied_pair t index first ≡ false) where
+  -- so it stays filled where a hard tail leads to it
+  pub stays_filled : ends_joined false ((entry_site can).before ++ (entry_site can).left) ≡ true → can.stands.stands.left ++ can.stands.stands.right ≢ []
+  stays_filled hard none = go (stays_there t index id first can begins goes) (entry_site can) (entry_stands can) hard
+    where
+      go : (index ≡ can.first) ⊎ (1 < length (thread_pair t index).content.slots) → (w : Site) → HasPairAt t index can.path can.at w can.stands.pair → ends_joined false (w.before ++ w.left) ≡ true → ⊥
+      go (inl e) w stand hard =
+          let none_before = alone w.chain w.before w.left (w.right ++ w.after) can.stands.pair can.at can.first (subst (λ z. IsDistinct nat_eq (pairs_blocks z)) stand.there can.ready.accepted.thread.distinct) stand.begin
+          (subst (λ z. IsPairAt z can.at can.first) stand.there can.begins) (sym e ∙ stand.number) in
+          let soft = ap (λ z. ends_joined false (w.before ++ z)) none_before ∙ ap (ends_joined false) (append-nil w.before) ∙ flag_ends w.before stand.site.ends in
+          absurd (let z = sym hard ∙ soft in cc)
+      go (inr many) w stand hard =
+          let e = ap (λ (z : Pair). length z.content.slots) (pair_there can) in
+          let h = ap length can.stands.stands.held in
+          let i = length-append can.stands.stands.left (can.stands.stands.slot ∷ can.stands.stands.right) in
+          let j = ap length none in
+          let k = length-append can.stands.stands.left can.stands.stands.right in
+          absurd (omega arith)
+
 module _ (t : KeptThread) (index id first : ℕ) (take : CanRemoveIn t index id first) (goes : drops_emptied_pair t index first ≡ false) where
   abbrev can : CanEditIn t index id
   can = take.can
@@ -68,72 +96,10 @@ module _ (t : KeptThread) (index id first : ℕ) (take : CanRemoveIn t index id 
   u = can.stands.stands.slot
 
   abbrev w : Site
-  w = site t.disk t.pairs can.path can.at can.ready.accepted can.leads can.first index p can.stands.rest can.stands.place can.begins
+  w = entry_site can
 
   stand : HasPairAt t index can.path can.at w p
-  stand = pair_at t can.ready can.path can.at can.leads can.first index p can.stands.rest can.stands.place can.begins
-
-  -- ---- what the change makes
-
-  within : id < length p.content.slots
-  within = let h = ap length can.stands.stands.held in let k = length-append l (u ∷ r) in let n = can.stands.stands.number in omega arith
-
-  abbrev c : CompletesTo (raw_content t.disk (thread_pair t index).at) p.content
-  c = raw_there t can.ready can.first index p can.stands.rest can.stands.place
-
-  abbrev raw_now : RawContent
-  raw_now = record c.raw { slots = remove c.raw.slots id }
-
-  changed_now : content_with_changes c.raw (Delete id ∷ []) ≡ Some raw_now
-  changed_now =
-      let few = (fits_there t can.ready can.first index p can.stands.rest can.stands.place).count in
-      let n = complete_length c.raw.slots p.content.slots (completed_parts c.raw p.content c.complete).slots in
-      let m = within in
-      does_first (Delete id) [] c.raw raw_now raw_now (deletes c.raw id (omega arith) (omega arith)) (does_nothing raw_now)
-
-  abbrev now : PairContent
-  now = record { slots = remove p.content.slots id; tail = p.content.tail; move = p.content.move }
-
-  slots_now : remove p.content.slots id ≡ l ++ ([] ++ r)
-  slots_now = ap₂ (λ (z : List Slot) (i : ℕ). remove z i) can.stands.stands.held (sym can.stands.stands.number) ∙ remove_here l r u
-
-  made : complete_after t index (Delete id ∷ []) ≡ Some now
-  made =
-      let parts = completed_parts c.raw p.content c.complete in
-      ap (λ o. option_and_then complete_content (option_and_then (λ (x : RawContent). content_with_changes x (Delete id ∷ [])) o)) c.is
-      ∙ ap (λ o. option_and_then complete_content o) changed_now
-      ∙ completed_from raw_now (remove p.content.slots id) (complete_remove c.raw.slots p.content.slots id parts.slots)
-      ∙ ap₂ (λ t m. Some (record { slots = remove p.content.slots id; tail = t; move = m })) (sym parts.tail) (sym parts.move)
-
-  pub can_delete : CanChangePair t index (Delete id ∷ [])
-  can_delete = record {
-    below = below t can.ready can.first index p can.stands.rest can.stands.place;
-    content = now;
-    made = made;
-    next = ap (λ (z : Pair). tail_target z.content.tail) (sym (here t can.ready can.first index p can.stands.rest can.stands.place));
-  }
-
-  -- what is left fits
-  still_fits : FitsInPair t.disk.block_size t.disk.page now
-  still_fits =
-      let f = fits_there t can.ready can.first index p can.stands.rest can.stands.place in
-      let a = ap (sum_by slot_size) can.stands.stands.held in
-      let b = sum_by-append slot_size l (u ∷ r) in
-      let d = sum_by-cons slot_size u r in
-      let e = ap (sum_by slot_size) slots_now in
-      let g = sum_by-append slot_size l r in
-      let h = ap length can.stands.stands.held in
-      let i = length-append l (u ∷ r) in
-      let j = ap length slots_now in
-      let k = length-append l r in
-      let s = f.size in
-      let n = f.count in
-      record { size = omega arith; count = omega arith }
-
-  pub not_refused : (new : KeptThread) → RefusesChanges t index (Delete id ∷ []) new → ⊥
-  not_refused new is = is.too_large (subst (FitsInPair t.disk.block_size t.disk.page) (sym (same_Some is.content now (sym is.made ∙ made))) still_fits)
-
-  -- ---- in the image
+  stand = entry_stands can
 
   spliced : IsSplicing t index (Delete id ∷ []) w p l (u ∷ []) [] r (struct_blocks t.disk u.struct) []
   spliced = record {
@@ -141,12 +107,12 @@ module _ (t : KeptThread) (index id first : ℕ) (take : CanRemoveIn t index id 
     there = stand.there;
     place = stand.number;
     site = stand.site;
-    content = now;
-    made = made;
+    content = content_with p (l ++ r) p.content.move;
+    made = going_made can (delta_stays p);
     tail = refl;
     move = refl;
     was = can.stands.stands.held;
-    now = slots_now;
+    now = refl;
     front = λ e. can.stands.stands.entry;
     entries = tt;
     fit = tt;
@@ -156,24 +122,8 @@ module _ (t : KeptThread) (index id first : ℕ) (take : CanRemoveIn t index id 
     blocks = λ disk geometry files come b. let e = count_append b (struct_blocks t.disk u.struct) [] in omega arith;
   }
 
-  -- the pair stays filled where a hard tail leads to it
   filled : ends_joined false (w.before ++ w.left) ≡ true → l ++ ([] ++ r) ≢ []
-  filled hard none = go (stays_there t index id first can take.begins goes)
-    where
-      go : (index ≡ can.first) ⊎ (1 < length (thread_pair t index).content.slots) → ⊥
-      go (inl e) =
-          let none_before = alone w.chain w.before w.left (w.right ++ w.after) p can.at can.first (subst (λ z. IsDistinct nat_eq (pairs_blocks z)) stand.there can.ready.accepted.thread.distinct) stand.begin
-          (subst (λ z. IsPairAt z can.at can.first) stand.there can.begins) (sym e ∙ stand.number) in
-          let ends = stand.site.ends in
-          let soft = ap (λ z. ends_joined false (w.before ++ z)) none_before ∙ ap (ends_joined false) (append-nil w.before) ∙ flag_ends w.before ends in
-          absurd (let z = sym hard ∙ soft in cc)
-      go (inr many) =
-          let e = ap (λ (z : Pair). length z.content.slots) (here t can.ready can.first index p can.stands.rest can.stands.place) in
-          let h = ap length can.stands.stands.held in
-          let i = length-append l (u ∷ r) in
-          let j = ap length none in
-          let k = length-append l r in
-          absurd (omega arith)
+  filled = stays_filled t index id first take.can take.begins goes
 
   abbrev turn : Tree → Tree
   turn = tree_removing (can.path ++ can.name ∷ [])

@@ -1,37 +1,41 @@
--- A pair from which slots go, and into which one comes again under another name.
-use Rattle.lfs_operations.proofs.Common.{ℕ, ◌≡◌, ◌⊎◌, inl, inr, ◌<◌, ◌≤◌, zero, suc, true, List, [], ◌∷◌, ◌++◌, length, Option, Some, refl, sym, ap, ap₂, subst, ◌∙◌, arith, append_assoc, insert, remove, length-append, sum_by, sum_by-append, sum_by-cons, ContentChange, content_with_changes, RawContent, RawSlot, complete_slots, complete_content, empty_raw_content, raw_content, slot_of_id, AreSplittable, IsDirectoryPair, HasName, IsFormedSlot, Name, is_valid_name, PairContent, FitsInPair, Slot, slot_size, Pair, tail_target, IsWritableEntry, complete_insert, complete_length, complete_remove, completed_from, completed_parts, deletes, does_first, content_cut, entry_small, insert_here, remove_here, logged_changed, changed_pair_content, KeptThread, complete_after, thread_pair, unwrap_or, option_and_then, AreWellFormed, CanPut, IsRawFormed, IsReadyImage, NamelessSlot, nameless_at, nameless_of, slot_changes}
-use Rattle.lfs_model.specs.layers.Changes as model
-use Rattle.lfs_operations.proofs.Held.{CompletesTo, below, fits_there, here, raw_there}
-use Rattle.lfs_operations.proofs.RawSlots.{IsRaw, is_raw}
-use Rattle.lfs_operations.proofs.RenameSlots.{IsOf, is_of, name_length, slot_comes, slot_of_parts, with_slot}
+-- A pair from which slots go, and into which one comes under another name.
+use Rattle.lfs_operations.proofs.Common.{ℕ, ◌≡◌, ◌⊎◌, inl, inr, ◌<◌, zero, suc, true, List, [], ◌∷◌, ◌++◌, length, Option, Some, refl, sym, ap, ap₂, subst, ◌∙◌, arith, append_assoc, insert, remove, length-append, sum_by, sum_by-append, sum_by-cons, ContentChange, content_with_changes, RawContent, RawSlot, complete_slots, complete_content, empty_raw_content, raw_content, slot_of_id, AreSplittable, IsDirectoryPair, HasName, IsFormedSlot, Name, is_valid_name, PairContent, FitsInPair, Slot, slot_size, Pair, tail_target, IsWritableEntry, complete_insert, complete_length, complete_remove, completed_from, completed_parts, deletes, does_first, content_cut, entry_small, insert_here, remove_here, logged_changed, changed_pair_content, KeptThread, complete_after, thread_pair, unwrap_or, option_and_then, AreWellFormed, CanPut, IsRawFormed, IsReadyImage, NamelessSlot, nameless_at, nameless_of, slot_changes, None, is_some, append-nil, Delete, PutMove, IsPlaceOf, CanEditIn, IsTreeEntry, Site, site, each_right, MoveStateFits, Gstate, IsCompleted, puts_move, CanChangePair, target_slots, removal_changes, Each}
+use Rattle.lfs_operations.proofs.Held.{CompletesTo, below, fits_there, here, raw_there, IsEntryIfOther, each_pair, other_entries}
+use Rattle.lfs_model.proofs.RawSlots.{IsRaw, is_raw}
+use Rattle.lfs_model.proofs.SlotParts.{IsOf, is_of, name_length, slot_comes, slot_of_parts, with_slot}
+use Rattle.lfs_operations.proofs.MovTurned.{content_with}
+use Rattle.lfs_operations.proofs.PairAt.{HasPairAt, pair_at}
 
 -- ---- two places among slots
 
--- what comes stands behind the slot
-pub record ComesBehind (xs : List Slot) (u : Slot) (ys left right : List Slot) : Type 0 where
+-- the place, at which the target stands, if there is one, is behind the slot
+pub record ComesBehind (xs : List Slot) (u : Slot) (ys left : List Slot) (target : Option Slot) (right : List Slot) : Type 0 where
   pub passed : List Slot
   pub front : left ≡ xs ++ u ∷ passed
-  pub back : ys ≡ passed ++ right
+  pub back : ys ≡ passed ++ (target_slots target ++ right)
 
 -- or in front of it
-pub record ComesAhead (xs : List Slot) (u : Slot) (ys left right : List Slot) : Type 0 where
+pub record ComesAhead (xs : List Slot) (u : Slot) (ys left : List Slot) (target : Option Slot) (right : List Slot) : Type 0 where
   pub passed : List Slot
-  pub front : xs ≡ left ++ passed
+  pub front : xs ≡ left ++ (target_slots target ++ passed)
   pub back : right ≡ passed ++ u ∷ ys
 
-pub behind_or_ahead : (xs : List Slot) (u : Slot) (ys left right : List Slot) → xs ++ u ∷ ys ≡ left ++ right → ComesBehind xs u ys left right ⊎ ComesAhead xs u ys left right
-behind_or_ahead xs u ys [] right e = inr (record { passed = xs; front = refl; back = sym e })
-behind_or_ahead [] u ys (a ∷ left) right e = inl (record { passed = left; front = cc; back = cc })
-behind_or_ahead (x ∷ xs) u ys (a ∷ left) right e = go (behind_or_ahead xs u ys left right cc)
+pub behind_or_ahead : (xs : List Slot) (u : Slot) (ys left : List Slot) (target : Option Slot) (right : List Slot) → Each (λ s. s ≡ u → ⊥) (target_slots target) → xs ++ u ∷ ys ≡ left ++ (target_slots target ++ right)
+    → ComesBehind xs u ys left target right ⊎ ComesAhead xs u ys left target right
+behind_or_ahead xs u ys [] None right apart e = inr (record { passed = xs; front = refl; back = sym e })
+behind_or_ahead [] u ys [] (Some g) right apart e = absurd (apart.0 cc)
+behind_or_ahead (x ∷ xs) u ys [] (Some g) right apart e = inr (record { passed = xs; front = cc; back = cc })
+behind_or_ahead [] u ys (a ∷ left) target right apart e = inl (record { passed = left; front = cc; back = cc })
+behind_or_ahead (x ∷ xs) u ys (a ∷ left) target right apart e = go (behind_or_ahead xs u ys left target right apart cc)
   where
     first : a ≡ x
     first = cc
 
-    go : ComesBehind xs u ys left right ⊎ ComesAhead xs u ys left right → ComesBehind (x ∷ xs) u ys (a ∷ left) right ⊎ ComesAhead (x ∷ xs) u ys (a ∷ left) right
+    go : ComesBehind xs u ys left target right ⊎ ComesAhead xs u ys left target right → ComesBehind (x ∷ xs) u ys (a ∷ left) target right ⊎ ComesAhead (x ∷ xs) u ys (a ∷ left) target right
     go (inl b) = inl (record { passed = b.passed; front = ap₂ (λ z zs. z ∷ zs) first b.front; back = b.back })
     go (inr b) = inr (record { passed = b.passed; front = ap₂ (λ z zs. z ∷ zs) (sym first) b.front; back = b.back })
 
--- ---- a slot goes
+-- ---- slots go
 
 pub fits_without : (block_size page : ℕ) (c : PairContent) (xs : List Slot) (u : Slot) (ys : List Slot) → c.slots ≡ xs ++ u ∷ ys → FitsInPair block_size page c
     → FitsInPair block_size page (record c { slots = xs ++ ys })
@@ -47,131 +51,177 @@ fits_without block_size page c xs u ys e f =
     let n = f.count in
     record { size = omega arith; count = omega arith }
 
+-- without the target, if there is one
+pub fits_left : (block_size page : ℕ) (c : PairContent) (xs : List Slot) (target : Option Slot) (ys : List Slot) → c.slots ≡ xs ++ (target_slots target ++ ys) → FitsInPair block_size page c
+    → FitsInPair block_size page (record c { slots = xs ++ ys })
+fits_left block_size page c xs None ys e f = subst (λ z. FitsInPair block_size page (record c { slots = z })) e f
+fits_left block_size page c xs (Some g) ys e f = fits_without block_size page c xs g ys e f
+
+-- What slots are left of a content by changes, and which delta of the global state.
+pub record Leaves (c : RawContent) (changes : List ContentChange) (slots : List Slot) (delta : Gstate) : Type 0 where
+  pub left : RawContent
+  pub does : (rest : List ContentChange) (e : RawContent) → content_with_changes left rest ≡ Some e → content_with_changes c (changes ++ rest) ≡ Some e
+  pub are : complete_slots left.slots ≡ Some slots
+  pub tail : left.tail ≡ c.tail
+  pub move : left.move ≡ delta
+
+-- one more slot goes
+pub leaves_without : {c : RawContent} {front : List ContentChange} {delta : Gstate} (xs : List Slot) (u : Slot) (ys : List Slot) → Leaves c front (xs ++ u ∷ ys) delta → (id : ℕ) → id < 0x3ff → length xs ≡ id
+    → Leaves c (front ++ Delete id ∷ []) (xs ++ ys) delta
+leaves_without {c = c} {front = front} xs u ys k id small number = record {
+  left = record k.left { slots = remove k.left.slots id };
+  does = λ rest d h. subst (λ (z : List ContentChange). content_with_changes c z ≡ Some d) (sym (append_assoc front (Delete id ∷ []) rest)) (k.does (Delete id ∷ rest) d
+      (does_first (Delete id) rest k.left (record k.left { slots = remove k.left.slots id }) d
+      (deletes k.left id small (let l = complete_length k.left.slots (xs ++ u ∷ ys) k.are in let m = length-append xs (u ∷ ys) in omega arith)) h));
+  are = complete_remove k.left.slots (xs ++ u ∷ ys) id k.are ∙ ap (λ (i : ℕ). Some (remove (xs ++ u ∷ ys) i)) (sym number) ∙ ap Some (remove_here xs ys u);
+  tail = k.tail;
+  move = k.move;
+}
+
+-- so does the target, if there is one
+pub leaves_target : {c : RawContent} {front : List ContentChange} {delta : Gstate} (xs : List Slot) (target : Option Slot) (ys : List Slot) → Leaves c front (xs ++ (target_slots target ++ ys)) delta → (at : ℕ) → at < 0x3ff → length xs ≡ at
+    → Leaves c (front ++ removal_changes (is_some target) at) (xs ++ ys) delta
+leaves_target {c = c} {front = front} {delta = delta} xs None ys k at small number = subst (λ z. Leaves c z (xs ++ ys) delta) (sym (append-nil front)) k
+leaves_target xs (Some g) ys k at small number = leaves_without xs g ys k at small number
+
+-- ---- in a pair
+
+-- The pair has that number, and what its log comes to is well formed.
+pub record IsLoggedPair (t : KeptThread) (index : ℕ) (p : Pair) : Type 0 where
+  pub ready : IsReadyImage t
+  pub first : ℕ
+  pub rest : List Pair
+  pub place : IsDirectoryPair t.pairs first index p rest
+  pub logged : IsRawFormed t.disk (thread_pair t index).at
+
+-- what the log of a pair says of a slot
+pub record Source (t : KeptThread) (pair id : ℕ) (u : Slot) : Type 0 where
+  pub raw : RawSlot
+  pub is : nameless_at t pair id ≡ nameless_of raw
+  pub of : IsOf raw u
+
+-- ---- where an entry stands
+
+-- an entry at a place is one of the tree
+pub entry_at : {t : KeptThread} {first index id : ℕ} {name : Name} → IsReadyImage t → (to : IsPlaceOf t.pairs first name index id) → IsTreeEntry to.stands.slot
+entry_at {t = t} {first = first} {index = index} ready to =
+    let all = each_pair t ready first index to.pair to.rest to.place (λ x. Each IsEntryIfOther x.content.slots) (other_entries t.disk t.pairs ready.accepted) in
+    (each_right IsEntryIfOther to.stands.left (to.stands.slot ∷ to.stands.right) (subst (Each IsEntryIfOther) to.stands.held all)).0 to.stands.entry
+
+-- so another one may have its name
+pub name_at : {t : KeptThread} {first index id : ℕ} {name : Name} → IsReadyImage t → IsPlaceOf t.pairs first name index id → is_valid_name name ≡ true
+name_at ready to = ap is_valid_name (sym to.stands.named) ∙ (entry_at ready to).name
+
+abbrev pub logged_of : {t : KeptThread} {index id : ℕ} (can : CanEditIn t index id) → IsLoggedPair t index can.stands.pair
+logged_of can = record { ready = can.ready; first = can.first; rest = can.stands.rest; place = can.stands.place; logged = can.logged }
+
+abbrev pub site_of : {t : KeptThread} {index id : ℕ} → CanEditIn t index id → Site
+site_of {t = t} {index = index} can = site t.disk t.pairs can.path can.at can.ready.accepted can.leads can.first index can.stands.pair can.stands.rest can.stands.place can.begins
+
+pub stand_of : {t : KeptThread} {index id : ℕ} (can : CanEditIn t index id) → HasPairAt t index can.path can.at (site_of can) can.stands.pair
+stand_of {t = t} {index = index} can = pair_at t can.ready can.path can.at can.leads can.first index can.stands.pair can.stands.rest can.stands.place can.begins
+
+-- ---- what the changes make
+
 parts_in : (xs : List RawSlot) (i : ℕ) → AreWellFormed xs → i < length xs → IsFormedSlot (slot_of_id xs i)
 parts_in [] i h l = absurd (omega arith)
 parts_in (x ∷ xs) zero h l = h.0
 parts_in (x ∷ xs) (suc i) h l = parts_in xs i h.1 (omega arith)
 
--- What slots are left of a content, by changes.
-pub record Leaves (c : RawContent) (changes : List ContentChange) (slots : List Slot) : Type 0 where
-  pub left : RawContent
-  pub does : (rest : List ContentChange) (e : RawContent) → content_with_changes left rest ≡ Some e → content_with_changes c (changes ++ rest) ≡ Some e
-  pub are : complete_slots left.slots ≡ Some slots
-  pub tail : left.tail ≡ c.tail
-  pub move : left.move ≡ c.move
+module _ {t : KeptThread} {index : ℕ} {p : Pair} (k : IsLoggedPair t index p) where
+  pub pair_here : thread_pair t index ≡ p
+  pair_here = here t k.ready k.first index p k.rest k.place
 
-pub leaves_all : (c : RawContent) (slots : List Slot) → complete_slots c.slots ≡ Some slots → Leaves c [] slots
-leaves_all c slots e = record { left = c; does = λ rest d h. h; are = e; tail = refl; move = refl }
-
-pub leaves_without : (c : RawContent) (xs : List Slot) (u : Slot) (ys : List Slot) (id : ℕ) → id < 0x3ff → length xs ≡ id → complete_slots c.slots ≡ Some (xs ++ u ∷ ys) → Leaves c (model.Delete id ∷ []) (xs ++ ys)
-leaves_without c xs u ys id small number e = record {
-  left = record c { slots = remove c.slots id };
-  does = λ rest d h. does_first (model.Delete id) rest c (record c { slots = remove c.slots id }) d
-      (deletes c id small (let l = complete_length c.slots (xs ++ u ∷ ys) e in let k = length-append xs (u ∷ ys) in omega arith)) h;
-  are = complete_remove c.slots (xs ++ u ∷ ys) id e ∙ ap (λ (i : ℕ). Some (remove (xs ++ u ∷ ys) i)) (sym number) ∙ ap Some (remove_here xs ys u);
-  tail = refl;
-  move = refl;
-}
-
--- one after another
-pub leaves_then : (c : RawContent) (changes more : List ContentChange) (slots others : List Slot) (k : Leaves c changes slots) → Leaves k.left more others → Leaves c (changes ++ more) others
-leaves_then c changes more slots others k m = record {
-  left = m.left;
-  does = λ rest e h. subst (λ (z : List ContentChange). content_with_changes c z ≡ Some e) (sym (append_assoc changes more rest)) (k.does (more ++ rest) e (m.does rest e h));
-  are = m.are;
-  tail = m.tail ∙ k.tail;
-  move = m.move ∙ k.move;
-}
-
--- ---- in a pair
-
-module _ (t : KeptThread) (index id : ℕ) (ready : IsReadyImage t) (first : ℕ) (p : Pair) (rest : List Pair) (place : IsDirectoryPair t.pairs first index p rest) (logged : IsRawFormed t.disk (thread_pair t index).at)
-    (was : Name) (s : HasName p.content.slots was id) where
   abbrev pub c : CompletesTo (raw_content t.disk (thread_pair t index).at) p.content
-  c = raw_there t ready first index p rest place
+  c = raw_there t k.ready k.first index p k.rest k.place
 
-  pub within : id < length p.content.slots
-  within = let h = ap length s.held in let k = length-append s.left (s.slot ∷ s.right) in let n = s.number in omega arith
+  parts : IsCompleted c.raw p.content
+  parts = completed_parts c.raw p.content c.complete
 
-  pub small : length p.content.slots ≤ 1000
-  small = let few = (fits_there t ready first index p rest place).count in omega arith
+  pub fits_whole : FitsInPair t.disk.block_size t.disk.page p.content
+  fits_whole = fits_there t k.ready k.first index p k.rest k.place
 
-  pub all_slots : complete_slots c.raw.slots ≡ Some p.content.slots
-  all_slots = (completed_parts c.raw p.content c.complete).slots
+  pub delta_fits : MoveStateFits (thread_pair t index).content.move
+  delta_fits = subst MoveStateFits (sym parts.move ∙ ap (λ (x : Pair). x.content.move) (sym pair_here)) (k.logged c.raw c.is).move
 
-  pub raw : IsRaw c.raw.slots s.left s.slot
-  raw = is_raw c.raw.slots s.left s.slot s.right (all_slots ∙ ap Some s.held)
+  -- all slots are left, with the same delta or with another
+  pub leaves_all : Leaves c.raw [] p.content.slots p.content.move
+  leaves_all = record { left = c.raw; does = λ rest e h. h; are = parts.slots; tail = refl; move = sym parts.move }
 
-  there_raw : slot_of_id c.raw.slots id ≡ raw.here
-  there_raw = ap (slot_of_id c.raw.slots) (sym s.number) ∙ raw.there
+  pub leaves_turned : (move : Gstate) → MoveStateFits move → Leaves c.raw (PutMove move ∷ []) p.content.slots move
+  leaves_turned move fits = record {
+    left = record c.raw { move = move };
+    does = λ rest e h. does_first (PutMove move) rest c.raw (record c.raw { move = move }) e (puts_move c.raw move fits) h;
+    are = parts.slots;
+    tail = refl;
+    move = refl;
+  }
 
-  pub parts_are : nameless_at t index id ≡ nameless_of raw.here
-  parts_are = ap (λ (o : Option RawContent). nameless_of (slot_of_id (unwrap_or o empty_raw_content).slots id)) c.is ∙ ap nameless_of there_raw
+  pub within : {was : Name} {id : ℕ} → HasName p.content.slots was id → id < length p.content.slots
+  within s = let h = ap length s.held in let m = length-append s.left (s.slot ∷ s.right) in let n = s.number in omega arith
 
-  pub is_slot : IsOf raw.here s.slot
-  is_slot = is_of raw.here s.slot
-      (subst IsFormedSlot there_raw (parts_in c.raw.slots id (logged c.raw c.is).slots (let l = complete_length c.raw.slots p.content.slots all_slots in let w = within in omega arith))) raw.is s.entry
+  pub source : {was : Name} {id : ℕ} (s : HasName p.content.slots was id) → Source t index id s.slot
+  source {id = id} s =
+      let raw : IsRaw c.raw.slots s.left s.slot = is_raw c.raw.slots s.left s.slot s.right (parts.slots ∙ ap Some s.held) in
+      let there : slot_of_id c.raw.slots id ≡ raw.here = ap (slot_of_id c.raw.slots) (sym s.number) ∙ raw.there in
+      record {
+        raw = raw.here;
+        is = ap (λ (o : Option RawContent). nameless_of (slot_of_id (unwrap_or o empty_raw_content).slots id)) c.is ∙ ap nameless_of there;
+        of = is_of raw.here s.slot
+            (subst IsFormedSlot there (parts_in c.raw.slots id (k.logged c.raw c.is).slots (let l = complete_length c.raw.slots p.content.slots parts.slots in let w = within s in omega arith))) raw.is s.entry;
+      }
 
-  -- the slots that are left are cut where it comes
-  module _ (front : List ContentChange) (a b : List Slot) (left : Leaves c.raw front (a ++ b)) (fits_left : FitsInPair t.disk.block_size t.disk.page (record p.content { slots = a ++ b }))
-      (at : ℕ) (number : length a ≡ at) (name : Name) (named : is_valid_name name ≡ true) (fits : IsWritableEntry t.disk.profile t.disk.block_size t.disk.page (record s.slot { name = name })) where
-    abbrev pub changes : List ContentChange
-    changes = front ++ slot_changes at name (nameless_at t index id)
+  -- the slots that are left are cut where one comes
+  module _ {pair id : ℕ} {u : Slot} (from : Source t pair id u) {front : List ContentChange} {delta : Gstate} (a b : List Slot) (left : Leaves c.raw front (a ++ b) delta)
+      (fits_rest : FitsInPair t.disk.block_size t.disk.page (record p.content { slots = a ++ b })) (at : ℕ) (number : length a ≡ at) (name : Name) (named : is_valid_name name ≡ true)
+      (fits : IsWritableEntry t.disk.profile t.disk.block_size t.disk.page (record u { name = name })) where
+    abbrev changes : List ContentChange
+    changes = front ++ slot_changes at name (nameless_at t pair id)
 
-    abbrev pub moved : Slot
-    moved = record s.slot { name = name }
+    abbrev moved : Slot
+    moved = record u { name = name }
 
-    raw_moved : RawSlot
-    raw_moved = slot_of_parts name (nameless_of raw.here)
+    abbrev raw_now : RawContent
+    raw_now = with_slot left.left at (slot_of_parts name (nameless_of from.raw))
 
-    raw_now : RawContent
-    raw_now = with_slot left.left at raw_moved
+    abbrev now : PairContent
+    now = content_with p (a ++ moved ∷ b) delta
 
-    length_left : length left.left.slots ≡ length (a ++ b)
-    length_left = sym (complete_length left.left.slots (a ++ b) left.are)
+    changed_now : content_with_changes c.raw changes ≡ Some raw_now
+    changed_now =
+        let n = fits_rest.count in
+        let m = length-append a b in
+        let l = complete_length left.left.slots (a ++ b) left.are in
+        left.does (slot_changes at name (nameless_at t pair id)) raw_now
+        (ap (λ (z : NamelessSlot). content_with_changes left.left (slot_changes at name z)) from.is
+        ∙ slot_comes left.left at name (nameless_of from.raw) (omega arith) (omega arith) (name_length name named) from.of.are)
 
-    changed_now : content_with_changes c.raw (front ++ slot_changes at name (nameless_at t index id)) ≡ Some raw_now
-    unfolding raw_now raw_moved
-    changed_now = left.does (slot_changes at name (nameless_at t index id)) raw_now
-        (ap (λ (z : NamelessSlot). content_with_changes left.left (slot_changes at name z)) parts_are
-        ∙ slot_comes left.left at name (nameless_of raw.here) (let n = fits_left.count in let k = length-append a b in omega arith)
-        (let k = length-append a b in let l = length_left in omega arith) (name_length name named) is_slot.are)
+    made_raw : changed_pair_content t.disk (thread_pair t index).at changes ≡ Some raw_now
+    made_raw = ap (λ o. option_and_then (λ (x : RawContent). content_with_changes x changes) o) c.is ∙ changed_now
 
-    made_raw : changed_pair_content t.disk (thread_pair t index).at (front ++ slot_changes at name (nameless_at t index id)) ≡ Some raw_now
-    made_raw = ap (λ o. option_and_then (λ (x : RawContent). content_with_changes x (front ++ slot_changes at name (nameless_at t index id))) o) c.is ∙ changed_now
-
-    abbrev pub now : PairContent
-    now = record { slots = a ++ record s.slot { name = name } ∷ b; tail = p.content.tail; move = p.content.move }
-
-    slots_now : complete_slots raw_now.slots ≡ Some (a ++ record s.slot { name = name } ∷ b)
-    unfolding raw_moved raw_now
-    slots_now = complete_insert left.left.slots (a ++ b) at raw_moved moved left.are (is_slot.complete name) ∙ ap (λ (i : ℕ). Some (insert (a ++ b) i moved)) (sym number) ∙ ap Some (insert_here a b moved)
+    slots_now : complete_slots raw_now.slots ≡ Some (a ++ moved ∷ b)
+    slots_now = complete_insert left.left.slots (a ++ b) at (slot_of_parts name (nameless_of from.raw)) moved left.are (from.of.complete name) ∙ ap (λ (i : ℕ). Some (insert (a ++ b) i moved)) (sym number)
+        ∙ ap Some (insert_here a b moved)
 
     now_complete : complete_content raw_now ≡ Some now
-    unfolding raw_now
-    now_complete =
-        let parts = completed_parts c.raw p.content c.complete in
-        completed_from raw_now (a ++ moved ∷ b) slots_now
-        ∙ ap₂ (λ t m. Some (record { slots = a ++ moved ∷ b; tail = t; move = m })) (left.tail ∙ sym parts.tail) (left.move ∙ sym parts.move)
+    now_complete = completed_from raw_now (a ++ moved ∷ b) slots_now ∙ ap₂ (λ t m. Some (record { slots = a ++ moved ∷ b; tail = t; move = m })) (left.tail ∙ sym parts.tail) left.move
 
-    pub made : complete_after t index (front ++ slot_changes at name (nameless_at t index id)) ≡ Some now
+    pub made : complete_after t index (front ++ slot_changes at name (nameless_at t pair id)) ≡ Some (content_with p (a ++ record u { name = name } ∷ b) delta)
     made = ap (λ o. option_and_then complete_content o) made_raw ∙ now_complete
 
     cut : AreSplittable t.disk.block_size t.disk.page raw_now.slots
-    cut = content_cut t.disk.block_size t.disk.page raw_now now a moved b (logged_changed c.raw changes raw_now (logged c.raw c.is) changed_now) now_complete refl
-        (entry_small t.disk.profile t.disk.block_size t.disk.page moved ready.large fits)
-        (let f = fits_left.size in let k = sum_by-append slot_size a b in omega arith)
-        (let n = fits_left.count in let k = length-append a b in omega arith)
+    cut = content_cut t.disk.block_size t.disk.page raw_now now a moved b (logged_changed c.raw changes raw_now (k.logged c.raw c.is) changed_now) now_complete refl
+        (entry_small t.disk.profile t.disk.block_size t.disk.page moved k.ready.large fits)
+        (let f = fits_rest.size in let m = sum_by-append slot_size a b in omega arith)
+        (let n = fits_rest.count in let m = length-append a b in omega arith)
 
-    pub can_put : CanPut t index (front ++ slot_changes at name (nameless_at t index id))
-    can_put = record {
-      can = record {
-        below = below t ready first index p rest place;
-        content = now;
-        made = made;
-        next = ap (λ (z : Pair). tail_target z.content.tail) (sym (here t ready first index p rest place));
-      };
-      raw = raw_now;
-      made = made_raw;
-      cut = cut;
+    pub can_change : CanChangePair t index (front ++ slot_changes at name (nameless_at t pair id))
+    can_change = record {
+      below = below t k.ready k.first index p k.rest k.place;
+      content = now;
+      made = made;
+      next = ap (λ (z : Pair). tail_target z.content.tail) (sym pair_here);
     }
+
+    pub can_put : CanPut t index (front ++ slot_changes at name (nameless_at t pair id))
+    can_put = record { can = can_change; raw = raw_now; made = made_raw; cut = cut }

@@ -1,11 +1,24 @@
 -- A pair that is changed after it was read.
-use Rattle.lfs_operations.proofs.Common.{ℕ, ◌≡◌, ◌⊎◌, inl, inr, false, Some, List, Result, Err, refl, sym, ap, subst, ◌∙◌, arith, Blocks, ContentChange, CallEvent, OnlyReadsSince, fault_count, IsDirectoryPair, with_blocks, Pair, LossLeavesAtWorst-read, AllCallsSince-behind, HoldsAtLosses-read_count, HoldsAtLosses-trans, HoldsAtLosses-weaker, OnlyReadsSince-trans, StayUnprogrammed-read_count, StayUnprogrammed-trans, LeftByLoss-read, CleanLossLeaves, KeptThread, ThreadView, CanChangePair, ThreadReportsErrors, IsPairCommitted, LossLeavesPair, OnlyReadsThread, RefusesChanges, ChangesThreadBlocks, thread_pair, IfErr, Error, Io, NoMemory, IsReadyImage, ReportsReadCommit, ReportsCommit}
+use Rattle.lfs_operations.proofs.Common.{ℕ, ◌≡◌, ◌⊎◌, inl, inr, false, Some, List, Result, Err, refl, sym, ap, subst, ◌∙◌, arith, Blocks, ContentChange, CallEvent, OnlyReadsSince, fault_count, with_blocks, Pair, LossLeavesAtWorst-read, AllCallsSince-behind, HoldsAtLosses-read_count, HoldsAtLosses-trans, HoldsAtLosses-weaker, OnlyReadsSince-trans, StayUnprogrammed-read_count, StayUnprogrammed-trans, LeftByLoss-read, CleanLossLeaves, KeptThread, ThreadView, CanChangePair, ThreadReportsErrors, IsPairCommitted, LossLeavesPair, OnlyReadsThread, RefusesChanges, ChangesThreadBlocks, thread_pair, IfErr, Error, Io, NoMemory, ReportsReadCommit, ReportsCommit, CanEditIn, Disk, IsPairWritten, PairContent}
 use Rattle.lfs_operations.proofs.Held.{here, holds}
 use Rattle.lfs_operations.proofs.Putting.{read_is, with_history, same_err}
-use Rattle.lfs_operations.proofs.RenameRead.{changed_earlier, written_earlier}
+
+pub written_earlier : (t : KeptThread) (h : List CallEvent) (index : ℕ) (content : PairContent) (disk : Disk) → IsPairWritten (with_history t h) index content disk → IsPairWritten t index content disk
+written_earlier t h index content disk w = record { holds = w.holds; others = w.others; shape = w.shape; first = w.first }
+
+pub changed_earlier : (t : KeptThread) (h : List CallEvent) (index : ℕ) (changes : List ContentChange) (new : KeptThread) → IsPairCommitted (with_history t h) index changes new → IsPairCommitted t index changes new
+changed_earlier t h index changes new is = record {
+  content = is.content;
+  made = is.made;
+  written = written_earlier t h index is.content new.disk is.written;
+  fits = is.fits;
+  pairs = is.pairs;
+  thread = is.thread;
+  map = is.map;
+}
 
 pub changed_after_read : (t mid new : KeptThread) (index : ℕ) (changes : List ContentChange) → OnlyReadsThread t mid → IsPairCommitted mid index changes new → IsPairCommitted t index changes new
-changed_after_read t mid new index changes only is = changed_earlier t mid.history only.reads index changes new (subst (λ (k : KeptThread). IsPairCommitted k index changes new) (read_is t mid only) is)
+changed_after_read t mid new index changes only is = changed_earlier t mid.history index changes new (subst (λ (k : KeptThread). IsPairCommitted k index changes new) (read_is t mid only) is)
 
 pub can_change_after_read : (t mid : KeptThread) (index : ℕ) (changes : List ContentChange) → OnlyReadsThread t mid → CanChangePair t index changes → CanChangePair mid index changes
 can_change_after_read t mid index changes only can = subst (λ (k : KeptThread). CanChangePair k index changes) (sym (read_is t mid only)) (record { below = can.below; content = can.content; made = can.made; next = can.next })
@@ -40,22 +53,34 @@ only_read_writes t mid bs only = subst (λ (k : KeptThread). ChangesThreadBlocks
   at_worst = HoldsAtLosses-read_count LossLeavesAtWorst-read only.reads (record { count = refl; sizes = λ b. refl; others = λ b apart. refl });
 })
 
-pub change_stops_after_read : (t mid new : KeptThread) (index : ℕ) (changes : List ContentChange) (bs : List ℕ) → OnlyReadsThread t mid → IsReadyImage t → (first : ℕ) (p : Pair) (rest : List Pair) → IsDirectoryPair t.pairs first index p rest
-    → ChangesThreadBlocks bs mid new → CleanLossLeaves mid.history new.history (LossLeavesPair mid index changes) → CleanLossLeaves t.history new.history (LossLeavesPair t index changes)
-change_stops_after_read t mid new index changes bs only ready first p rest place writes stops clean =
-    HoldsAtLosses-trans (HoldsAtLosses-read_count LeftByLoss-read only.reads (record {
-      content = (thread_pair t index).content;
-      is = inl refl;
-      written = record {
-        holds = holds t ready first index p rest place ∙ ap (λ (z : Pair). Some z.content) (sym (here t ready first index p rest place));
-        others = record { count = refl; sizes = λ b. refl; others = λ b apart. refl };
-        shape = record { block_size = refl; page = refl; order = refl; profile = refl; count = refl };
-        first = λ b k. b;
-      };
-    })) (HoldsAtLosses-weaker (λ left l. earlier left (subst (λ (k : KeptThread). LossLeavesPair k index changes left) (read_is t mid only) l)) (stops (AllCallsSince-behind clean only.reads writes.at_worst)))
-  where
-    earlier : (left : Blocks) → LossLeavesPair (with_history t mid.history) index changes left → LossLeavesPair t index changes left
-    earlier left is = record { content = is.content; is = is.is; written = written_earlier t mid.history index is.content (with_blocks left t.disk) is.written }
+-- ---- at a stop
+
+-- the pair as it was, at a stop in a read
+pub old_there : {t : KeptThread} {index id : ℕ} → CanEditIn t index id → (changes : List ContentChange) → LossLeavesPair t index changes t.disk.blocks
+old_there {t = t} {index = index} can changes = record {
+  content = (thread_pair t index).content;
+  is = inl refl;
+  written = record {
+    holds = holds t can.ready can.first index can.stands.pair can.stands.rest can.stands.place ∙ ap (λ (z : Pair). Some z.content) (sym (here t can.ready can.first index can.stands.pair can.stands.rest can.stands.place));
+    others = record { count = refl; sizes = λ b. refl; others = λ b apart. refl };
+    shape = record { block_size = refl; page = refl; order = refl; profile = refl; count = refl };
+    first = λ b k. b;
+  };
+}
+
+pub left_pair_earlier : (t : KeptThread) (h : List CallEvent) (index : ℕ) (changes : List ContentChange) (left : Blocks) → LossLeavesPair (with_history t h) index changes left → LossLeavesPair t index changes left
+left_pair_earlier t h index changes left is = record { content = is.content; is = is.is; written = written_earlier t h index is.content (with_blocks left t.disk) is.written }
+
+-- A stop in the read leaves the old disk, and one behind it what the step leaves.
+pub step_stops_after_read : {P : Blocks → Type 0} (Q : KeptThread → Blocks → Type 0) {bs : List ℕ} (t mid new : KeptThread) → OnlyReadsThread t mid → P t.disk.blocks → ((left : Blocks) → Q (with_history t mid.history) left → P left)
+    → ChangesThreadBlocks bs mid new → CleanLossLeaves mid.history new.history (Q mid) → CleanLossLeaves t.history new.history P
+step_stops_after_read Q t mid new only old earlier writes stops clean = HoldsAtLosses-trans (HoldsAtLosses-read_count LeftByLoss-read only.reads old)
+    (HoldsAtLosses-weaker (λ left l. earlier left (subst (λ (k : KeptThread). Q k left) (read_is t mid only) l)) (stops (AllCallsSince-behind clean only.reads writes.at_worst)))
+
+pub change_stops_after_read : (t mid new : KeptThread) {index id : ℕ} (can : CanEditIn t index id) (changes : List ContentChange) {bs : List ℕ} → OnlyReadsThread t mid → ChangesThreadBlocks bs mid new
+    → CleanLossLeaves mid.history new.history (LossLeavesPair mid index changes) → CleanLossLeaves t.history new.history (LossLeavesPair t index changes)
+change_stops_after_read t mid new {index = index} can changes only writes stops =
+    step_stops_after_read (λ k. LossLeavesPair k index changes) t mid new only (old_there can changes) (left_pair_earlier t mid.history index changes) writes stops
 
 -- ---- what it tells
 

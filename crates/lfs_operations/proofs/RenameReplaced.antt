@@ -1,215 +1,167 @@
--- A rename within one pair onto a file.
-use Rattle.lfs_operations.proofs.Common.{ℕ, ◌≡◌, ◌≤◌, ◌+◌, ◌⊎◌, inl, inr, true, List, [], ◌∷◌, ◌++◌, refl, sym, ap, subst, ◌∙◌, append_assoc, append-nil, tree_renaming, Delete, raw_content, Disk, CallEvent, HasName, Name, is_valid_name, SurvivesLossSince, FitsInPair, Slot, Pair, pairs_blocks, IsTreeEntry, struct_blocks, disk_tree, used_blocks, IsChangedImage, IsCommit, commit_step, recovered_from, number_occurrences, some_filled, renamed_addresses, site, Site, thread_at, CleanLossLeaves, KeptThread, thread_pair, CanPut, LeftByPut, ArePut, CanEditIn, ShowsUnsettledTree, CanRenameOnto, IsRenamedOnto, id_after_removal, onto_changes, tree_renamed, HasSlot}
+-- A rename within one pair onto an entry: which slots are replaced, and what it comes to where that is a file.
+use Rattle.lfs_operations.proofs.Common.{ℕ, ◌≡◌, ◌≤◌, ◌+◌, true, List, [], ◌∷◌, ◌++◌, sym, ap, subst, ◌∙◌, append_assoc, append-nil, tree_renaming, Disk, CallEvent, HasName, Name, SurvivesLossSince, Slot, Pair, pairs_blocks, struct_blocks, disk_tree, used_blocks, IsChangedImage, IsCommit, commit_step, recovered_from, number_occurrences, renamed_addresses, Site, thread_at, CleanLossLeaves, KeptThread, CanPut, LeftByPut, ArePut, CanEditIn, ShowsUnsettledTree, CanRenameOnto, IsRenamedOnto, tree_renamed, ◌≢◌, false, Some, None, ContentChange, IsPlaceOf, Session, path_or_root, Gstate, Struct, Path, pairs_gstate, branch_address, IsStep, IsWritableEntry, AllReached, CompletesOperation, renaming_changes, Bool, CanRenameInPair, IsRenamedInPair, tree_renamed_here}
+use Rattle.lfs_operations.proofs.RenameWithin.{can_put_renamed, rename_survives, renamed_within}
 use Rattle.lfs_model.proofs.RenameOntoFile.{onto_file_ahead_completed, onto_file_behind_completed}
-use Rattle.lfs_operations.proofs.Held.{CompletesTo, raw_there}
+use Rattle.lfs_operations.proofs.Held.{here}
 use Rattle.lfs_operations.proofs.RenameMade as made
-use Rattle.lfs_operations.proofs.RenameMade.{ComesAhead, ComesBehind, Leaves, behind_or_ahead}
-use Rattle.lfs_operations.proofs.RenameOnto.{onto_ahead_follows, onto_behind_follows}
-use Rattle.lfs_operations.proofs.RenamePlaced.{carries_ahead, carries_behind, with_name}
-use Rattle.lfs_operations.proofs.RenameStepped.{IsMoving, moved_becomes, moved_completed, moved_once, moved_survives}
-use Rattle.lfs_operations.proofs.RenameTarget as both
-use Rattle.lfs_operations.proofs.RenameTarget.{Follower, follower}
-use Rattle.lfs_operations.proofs.PairAt.{HasPairAt, pair_at}
+use Rattle.lfs_operations.proofs.RenameMade.{Leaves, leaves_all, logged_of, name_at, site_of, stand_of}
+use Rattle.lfs_model.proofs.OntoTrees.{onto_ahead_follows, onto_behind_follows}
+use Rattle.lfs_operations.proofs.RenamePlaced.{with_name}
+use Rattle.lfs_operations.proofs.RenameStepped.{moved_becomes, moved_completed, moved_once, moved_survives, Renames}
+use Rattle.lfs_operations.proofs.RenameTarget.{IsMoving, IsPlaceInPair, can_put_over, moved_changes, moving}
+use Rattle.lfs_operations.proofs.PairAt.{HasPairAt}
+use Rattle.lfs_model.specs.session.Operations as ops
+
+-- the premises of a rename onto an entry of the same pair and directory
+module _ (t : KeptThread) (index id place : ℕ) (name : Name) (can : CanEditIn t index id) (to : IsPlaceOf t.pairs can.first name index place) (apart : name ≢ can.name)
+    (fits : IsWritableEntry t.disk.profile t.disk.block_size t.disk.page (record can.stands.stands.slot { name = name })) where
+  abbrev s : HasName can.stands.pair.content.slots can.name id
+  s = can.stands.stands
+
+  abbrev g : HasName to.pair.content.slots name place
+  g = to.stands
+
+  abbrev pub p : Pair
+  p = can.stands.pair
+
+  abbrev v : Slot
+  v = with_name s.slot name
+
+  abbrev pub w : Site
+  w = site_of can
+
+  stand : HasPairAt t index can.path can.at w p
+  stand = stand_of can
+
+  -- both stand in the same pair
+  pub target_held : can.stands.pair.content.slots ≡ g.left ++ g.slot ∷ g.right
+  target_held = ap (λ (z : Pair). z.content.slots) (sym (here t can.ready can.first index p can.stands.rest can.stands.place) ∙ here t can.ready can.first index to.pair to.rest to.place) ∙ g.held
+
+  differs : g.slot.name ≡ s.slot.name → ⊥
+  differs e = apart (sym g.named ∙ e ∙ s.named)
+
+  pub placed : IsPlaceInPair t index id place can w can.stands.pair g.left (Some g.slot) g.right name
+  placed = record {
+    logged = logged_of can;
+    stand = stand;
+    held = s.held;
+    was = target_held;
+    number = g.number;
+    front = g.entry;
+    apart = ((λ e. differs (ap (λ (z : Slot). z.name) e)), tt);
+    named = name_at can.ready to;
+    fits = fits;
+  }
+
+  -- ---- the tree
+
+  abbrev pub FollowsAs : Disk → Pair → List Pair → Name → Name → Type 0
+  FollowsAs disk q more n m = IsChangedImage t.disk (thread_at w (p ∷ [])) disk (thread_at w (q ∷ more)) (tree_renaming (can.path ++ n ∷ []) (can.path ++ m ∷ [])) (renamed_addresses (can.path ++ n ∷ []) (can.path ++ m ∷ []))
+
+  -- Each step that replaces these slots is the rename, if it may leave the other entry's struct. Each commit completes it, if that
+  -- is a file.
+  pub record RenamesOnto (l olds news r : List Slot) : Type 0 where
+    pub follows : (disk : Disk) (q : Pair) (more : List Pair) (extra : List ℕ) → IsStep t.disk disk w p [] q more extra [] l olds news r
+        → ((pairs_gstate (thread_at w (q ∷ more))).sync ≡ false → (branch_address g.slot.struct ≡ None) × AllReached (thread_at w (p ∷ []))) → FollowsAs disk q more can.name name
+    pub completed : branch_address g.slot.struct ≡ None → (disk : Disk) (q : Pair) (more : List Pair) → IsCommit t.disk disk w p q more [] l olds news r → (s : Session) (given to_given : List ℕ) → s.tree ≡ disk_tree t.disk (thread_at w (p ∷ []))
+        → path_or_root given ≡ can.path ++ can.name ∷ [] → path_or_root to_given ≡ can.path ++ name ∷ [] → CompletesOperation t.disk (thread_at w (p ∷ [])) s (ops.Rename given to_given) disk (thread_at w (q ∷ more))
+
+  other_names : (disk : Disk) (q : Pair) (more : List Pair) → FollowsAs disk q more s.slot.name g.slot.name → FollowsAs disk q more can.name name
+  other_names disk q more h = subst (λ (n : Name). FollowsAs disk q more n name) s.named (subst (λ (n : Name). FollowsAs disk q more s.slot.name n) g.named h)
+
+  is_from : {given : Path} → given ≡ can.path ++ can.name ∷ [] → given ≡ can.path ++ s.slot.name ∷ []
+  is_from e = e ∙ ap (λ n. can.path ++ n ∷ []) (sym s.named)
+
+  is_to : {given : Path} → given ≡ can.path ++ name ∷ [] → given ≡ can.path ++ g.slot.name ∷ []
+  is_to e = e ∙ ap (λ n. can.path ++ n ∷ []) (sym g.named)
+
+  behind : (passed : List Slot) → g.left ≡ s.left ++ s.slot ∷ passed → RenamesOnto s.left (s.slot ∷ (passed ++ g.slot ∷ [])) (passed ++ v ∷ []) g.right
+  behind passed front = record {
+    follows = λ disk q more extra k file. other_names disk q more (onto_behind_follows t.disk disk w p q more extra s.left s.slot passed g.slot g.right
+        (subst (λ (n : Name). IsStep t.disk disk w p [] q more extra [] s.left (s.slot ∷ (passed ++ g.slot ∷ [])) (passed ++ with_name s.slot n ∷ []) g.right) (sym g.named) k) held s.entry g.entry file differs can.path can.at stand.leads stand.begin);
+    completed = λ file disk q more k z given to_given tree given_is to_is. onto_file_behind_completed t.disk disk w p q more s.left s.slot passed g.slot g.right
+        (subst (λ (n : Name). IsCommit t.disk disk w p q more [] s.left (s.slot ∷ (passed ++ g.slot ∷ [])) (passed ++ with_name s.slot n ∷ []) g.right) (sym g.named) k) s.entry g.entry file differs can.path can.at stand.leads stand.begin
+        z given to_given tree (is_from given_is) (is_to to_is);
+  }
+    where
+      held : p.content.slots ≡ s.left ++ ((s.slot ∷ (passed ++ g.slot ∷ [])) ++ g.right)
+      held = target_held ∙ ap (λ z. z ++ g.slot ∷ g.right) front ∙ append_assoc s.left (s.slot ∷ passed) (g.slot ∷ g.right) ∙ ap (λ z. s.left ++ s.slot ∷ z) (sym (append_assoc passed (g.slot ∷ []) g.right))
+
+  ahead : (passed : List Slot) → g.right ≡ passed ++ s.slot ∷ s.right → RenamesOnto g.left (g.slot ∷ (passed ++ s.slot ∷ [])) (v ∷ passed) s.right
+  ahead passed back = record {
+    follows = λ disk q more extra k file. other_names disk q more (onto_ahead_follows t.disk disk w p q more extra g.left s.slot passed g.slot s.right
+        (subst (λ (n : Name). IsStep t.disk disk w p [] q more extra [] g.left (g.slot ∷ (passed ++ s.slot ∷ [])) (with_name s.slot n ∷ passed) s.right) (sym g.named) k) held s.entry g.entry file differs can.path can.at stand.leads stand.begin);
+    completed = λ file disk q more k z given to_given tree given_is to_is. onto_file_ahead_completed t.disk disk w p q more g.left s.slot passed g.slot s.right
+        (subst (λ (n : Name). IsCommit t.disk disk w p q more [] g.left (g.slot ∷ (passed ++ s.slot ∷ [])) (with_name s.slot n ∷ passed) s.right) (sym g.named) k) s.entry g.entry file differs can.path can.at stand.leads stand.begin
+        z given to_given tree (is_from given_is) (is_to to_is);
+  }
+    where
+      held : p.content.slots ≡ g.left ++ ((g.slot ∷ (passed ++ s.slot ∷ [])) ++ s.right)
+      held = target_held ∙ ap (λ z. g.left ++ g.slot ∷ z) (back ∙ sym (append_assoc passed (s.slot ∷ []) s.right))
+
+  -- with a delta or without
+  pub moving_onto : {turn : List ContentChange} {move : Gstate} → Leaves (made.c placed.logged).raw turn can.stands.pair.content.slots move
+      → IsMoving t index id place can w can.stands.pair (Some g.slot) name (moved_changes (Some g.slot) turn t index id place name) move RenamesOnto
+  moving_onto whole = moving placed whole RenamesOnto behind ahead
+
+  -- ---- onto a file
+
+  module _ (file : branch_address g.slot.struct ≡ None) where
+    onto_file : (l olds news r : List Slot) → RenamesOnto l olds news r → Renames t w p can.path can.name name l olds news r
+    onto_file l olds news r h = record {
+      follows = λ disk q more k. h.follows disk q more (pairs_blocks more) (commit_step t.disk disk w p q more [] l olds news r k) (λ e. (file, (recovered_from t.disk (thread_at w (p ∷ [])) k.accepted k.settled).reached));
+      completed = h.completed file;
+    }
+
+    pub moving_file : IsMoving t index id place can w can.stands.pair (Some g.slot) name (renaming_changes true t index id place name) can.stands.pair.content.move (Renames t w can.stands.pair can.path can.name name)
+    moving_file = moving placed (leaves_all placed.logged) (Renames t w p can.path can.name name) (λ passed front. onto_file s.left (s.slot ∷ (passed ++ g.slot ∷ [])) (passed ++ v ∷ []) g.right (behind passed front))
+        (λ passed back. onto_file g.left (g.slot ∷ (passed ++ s.slot ∷ [])) (v ∷ passed) s.right (ahead passed back))
 
 module _ (t : KeptThread) (index id place : ℕ) (name : Name) (rename : CanRenameOnto t index id place name) where
   abbrev can : CanEditIn t index id
   can = rename.can
 
-  abbrev s : HasName can.stands.pair.content.slots can.name id
-  s = can.stands.stands
+  abbrev struct : Struct
+  struct = rename.target.stands.slot.struct
 
-  abbrev p : Pair
-  p = can.stands.pair
+  abbrev there : Site
+  there = w t index id place name can rename.target rename.differs rename.fits
 
-  abbrev u : Slot
-  u = can.stands.stands.slot
+  moves : IsMoving t index id place can there can.stands.pair (Some rename.target.stands.slot) name (renaming_changes true t index id place name) can.stands.pair.content.move (Renames t there can.stands.pair can.path can.name name)
+  moves = moving_file t index id place name can rename.target rename.differs rename.fits rename.file
 
-  abbrev target : Slot
-  target = rename.target.stands.slot
+  can_put_replaced : CanPut t index (renaming_changes true t index id place name)
+  can_put_replaced =
+      let k = placed t index id place name can rename.target rename.differs rename.fits in
+      can_put_over k (leaves_all k.logged) moves.x moves.y moves.over
 
-  pub has_slot : HasSlot t index id
-  has_slot = both.has_slot t index id place name can rename.target rename.differs
-
-  target_held : p.content.slots ≡ rename.target.stands.left ++ target ∷ rename.target.stands.right
-  target_held = both.target_held t index id place name can rename.target rename.differs
-
-  abbrev l2 : List Slot
-  l2 = rename.target.stands.left
-
-  abbrev r2 : List Slot
-  r2 = rename.target.stands.right
-
-  abbrev w : Site
-  w = site t.disk t.pairs can.path can.at can.ready.accepted can.leads can.first index p can.stands.rest can.stands.place can.begins
-
-  stand : HasPairAt t index can.path can.at w p
-  stand = pair_at t can.ready can.path can.at can.leads can.first index p can.stands.rest can.stands.place can.begins
-
-  abbrev c : CompletesTo (raw_content t.disk (thread_pair t index).at) p.content
-  c = raw_there t can.ready can.first index p can.stands.rest can.stands.place
-
-  differs : target.name ≡ u.name → ⊥
-  differs = both.differs t index id place name can rename.target rename.differs
-
-  named : is_valid_name name ≡ true
-  named = both.named t index id place name can rename.target rename.differs
-
-  entry_again : IsTreeEntry u → IsTreeEntry (with_name u name)
-  entry_again = both.entry_again t index id place name can rename.target rename.differs
-
-  -- ---- the slots that are left without both
-
-  abbrev IsLeftOver : List Slot → List Slot → Type 0
-  IsLeftOver = both.IsLeftOver t index id place name can rename.target rename.differs
-
-  module _ (x y : List Slot) (over : IsLeftOver x y) where
-    fits_over : FitsInPair t.disk.block_size t.disk.page (record p.content { slots = x ++ y })
-    fits_over = both.fits_both t index id place name can rename.target rename.differs x y over
-
-    left_over : Leaves c.raw (Delete id ∷ Delete (id_after_removal id place) ∷ []) (x ++ y)
-    left_over = both.left_both t index id place name can rename.target rename.differs x y over c.raw
-        (made.all_slots t index id can.ready can.first p can.stands.rest can.stands.place can.logged can.name s)
-
-    can_put_over : CanPut t index (onto_changes t index id place name)
-    can_put_over = made.can_put t index id can.ready can.first p can.stands.rest can.stands.place can.logged can.name s (Delete id ∷ Delete (id_after_removal id place) ∷ []) x y left_over fits_over (id_after_removal id place) over.1
-        name named rename.fits
-
-  -- ---- the target stands behind the old slot
-
-  module _ (d : ComesBehind s.left u s.right l2 (target ∷ r2)) where
-    over_behind : IsLeftOver (s.left ++ d.passed) r2
-    over_behind = both.over_behind t index id place name can rename.target rename.differs d
-
-    now_behind : (s.left ++ d.passed) ++ with_name u name ∷ r2 ≡ s.left ++ ((d.passed ++ with_name u name ∷ []) ++ r2)
-    now_behind = append_assoc s.left d.passed (with_name u name ∷ r2) ∙ ap (λ z. s.left ++ z) (sym (append_assoc d.passed (with_name u name ∷ []) r2))
-
-    under_its_name : (disk : Disk) (q : Pair) (more : List Pair) → IsCommit t.disk disk w p q more [] s.left (u ∷ (d.passed ++ target ∷ [])) (d.passed ++ with_name u name ∷ []) r2
-        → IsCommit t.disk disk w p q more [] s.left (u ∷ (d.passed ++ target ∷ [])) (d.passed ++ with_name u target.name ∷ []) r2
-    under_its_name disk q more k = subst (λ (n : Name). IsCommit t.disk disk w p q more [] s.left (u ∷ (d.passed ++ target ∷ [])) (d.passed ++ with_name u n ∷ []) r2) (sym rename.target.stands.named) k
-
-    moving_behind : IsMoving t index (onto_changes t index id place name) can.path can.name name (target ∷ [])
-    moving_behind = record {
-      w = w;
-      p = p;
-      l = s.left;
-      olds = u ∷ (d.passed ++ target ∷ []);
-      news = d.passed ++ with_name u name ∷ [];
-      r = r2;
-      u = u;
-      moved = with_name u name;
-      placed = record {
-        ready = can.ready;
-        there = stand.there;
-        place = stand.number;
-        site = stand.site;
-        content = record { slots = (s.left ++ d.passed) ++ with_name u name ∷ r2; tail = p.content.tail; move = p.content.move };
-        made = made.made t index id can.ready can.first p can.stands.rest can.stands.place can.logged can.name s (Delete id ∷ Delete (id_after_removal id place) ∷ []) (s.left ++ d.passed) r2
-            (left_over (s.left ++ d.passed) r2 over_behind) (fits_over (s.left ++ d.passed) r2 over_behind) (id_after_removal id place) over_behind.1 name named rename.fits;
-        tail = refl;
-        was = s.held ∙ ap (λ z. s.left ++ u ∷ z) (d.back ∙ sym (append_assoc d.passed (target ∷ []) r2));
-        now = now_behind;
-        front = s.entry;
-        carries = carries_behind u name d.passed (target ∷ []);
-        entry = entry_again;
-        struct = refl;
-        other = s.entry;
-        fits = rename.fits;
-      };
-      move = refl;
-      filled = λ e. some_filled (s.left ++ d.passed) r2 (with_name u name) (now_behind ∙ e);
-      follows = λ disk q more k.
-          subst (λ (n : Name). IsChangedImage t.disk (thread_at w (p ∷ [])) disk (thread_at w (q ∷ more)) (tree_renaming (can.path ++ n ∷ []) (can.path ++ name ∷ [])) (renamed_addresses (can.path ++ n ∷ []) (can.path ++ name ∷ []))) s.named
-          (subst (λ (n : Name). IsChangedImage t.disk (thread_at w (p ∷ [])) disk (thread_at w (q ∷ more)) (tree_renaming (can.path ++ u.name ∷ []) (can.path ++ n ∷ [])) (renamed_addresses (can.path ++ u.name ∷ []) (can.path ++ n ∷ []))) rename.target.stands.named
-          (onto_behind_follows t.disk disk w p q more (pairs_blocks more) s.left u d.passed target r2
-          (commit_step t.disk disk w p q more [] s.left (u ∷ (d.passed ++ target ∷ [])) (d.passed ++ with_name u target.name ∷ []) r2 (under_its_name disk q more k)) k.was s.entry rename.target.stands.entry
-          (λ e. (rename.file, (recovered_from t.disk (thread_at w (p ∷ [])) k.accepted k.settled).reached)) differs can.path can.at stand.leads stand.begin));
-      completed = λ disk q more k z given to_given tree given_is to_is.
-          onto_file_behind_completed t.disk disk w p q more s.left u d.passed target r2 (under_its_name disk q more k) s.entry rename.target.stands.entry rename.file differs can.path can.at stand.leads stand.begin z given to_given tree
-          (given_is ∙ ap (λ n. can.path ++ n ∷ []) (sym s.named)) (to_is ∙ ap (λ n. can.path ++ n ∷ []) (sym rename.target.stands.named));
-    }
-
-  -- ---- or in front of it
-
-  module _ (passed : List Slot) (front : s.left ≡ l2 ++ target ∷ passed) (back : r2 ≡ passed ++ u ∷ s.right) where
-    over_ahead : IsLeftOver l2 (passed ++ s.right)
-    over_ahead = both.over_ahead t index id place name can rename.target rename.differs passed front
-
-    under_that_name : (disk : Disk) (q : Pair) (more : List Pair) → IsCommit t.disk disk w p q more [] l2 (target ∷ (passed ++ u ∷ [])) (with_name u name ∷ passed) s.right
-        → IsCommit t.disk disk w p q more [] l2 (target ∷ (passed ++ u ∷ [])) (with_name u target.name ∷ passed) s.right
-    under_that_name disk q more k = subst (λ (n : Name). IsCommit t.disk disk w p q more [] l2 (target ∷ (passed ++ u ∷ [])) (with_name u n ∷ passed) s.right) (sym rename.target.stands.named) k
-
-    moving_ahead : IsMoving t index (onto_changes t index id place name) can.path can.name name (target ∷ [])
-    moving_ahead = record {
-      w = w;
-      p = p;
-      l = l2;
-      olds = target ∷ (passed ++ u ∷ []);
-      news = with_name u name ∷ passed;
-      r = s.right;
-      u = u;
-      moved = with_name u name;
-      placed = record {
-        ready = can.ready;
-        there = stand.there;
-        place = stand.number;
-        site = stand.site;
-        content = record { slots = l2 ++ with_name u name ∷ (passed ++ s.right); tail = p.content.tail; move = p.content.move };
-        made = made.made t index id can.ready can.first p can.stands.rest can.stands.place can.logged can.name s (Delete id ∷ Delete (id_after_removal id place) ∷ []) l2 (passed ++ s.right)
-            (left_over l2 (passed ++ s.right) over_ahead) (fits_over l2 (passed ++ s.right) over_ahead) (id_after_removal id place) over_ahead.1 name named rename.fits;
-        tail = refl;
-        was = target_held ∙ ap (λ z. l2 ++ target ∷ z) (back ∙ sym (append_assoc passed (u ∷ []) s.right));
-        now = refl;
-        front = rename.target.stands.entry;
-        carries = carries_ahead u name (target ∷ []) passed;
-        entry = entry_again;
-        struct = refl;
-        other = s.entry;
-        fits = rename.fits;
-      };
-      move = refl;
-      filled = some_filled l2 (passed ++ s.right) (with_name u name);
-      follows = λ disk q more k.
-          subst (λ (n : Name). IsChangedImage t.disk (thread_at w (p ∷ [])) disk (thread_at w (q ∷ more)) (tree_renaming (can.path ++ n ∷ []) (can.path ++ name ∷ [])) (renamed_addresses (can.path ++ n ∷ []) (can.path ++ name ∷ []))) s.named
-          (subst (λ (n : Name). IsChangedImage t.disk (thread_at w (p ∷ [])) disk (thread_at w (q ∷ more)) (tree_renaming (can.path ++ u.name ∷ []) (can.path ++ n ∷ [])) (renamed_addresses (can.path ++ u.name ∷ []) (can.path ++ n ∷ []))) rename.target.stands.named
-          (onto_ahead_follows t.disk disk w p q more (pairs_blocks more) l2 u passed target s.right
-          (commit_step t.disk disk w p q more [] l2 (target ∷ (passed ++ u ∷ [])) (with_name u target.name ∷ passed) s.right (under_that_name disk q more k)) k.was s.entry rename.target.stands.entry
-          (λ e. (rename.file, (recovered_from t.disk (thread_at w (p ∷ [])) k.accepted k.settled).reached)) differs can.path can.at stand.leads stand.begin));
-      completed = λ disk q more k z given to_given tree given_is to_is.
-          onto_file_ahead_completed t.disk disk w p q more l2 u passed target s.right (under_that_name disk q more k) s.entry rename.target.stands.entry rename.file differs can.path can.at stand.leads stand.begin z given to_given tree
-          (given_is ∙ ap (λ n. can.path ++ n ∷ []) (sym s.named)) (to_is ∙ ap (λ n. can.path ++ n ∷ []) (sym rename.target.stands.named));
-    }
-
-  -- ---- either
-
-  two : ComesBehind s.left u s.right l2 (target ∷ r2) ⊎ ComesAhead s.left u s.right l2 (target ∷ r2)
-  two = behind_or_ahead s.left u s.right l2 (target ∷ r2) (sym s.held ∙ target_held)
-
-  ahead_of : (d : ComesAhead s.left u s.right l2 (target ∷ r2)) → Follower target r2 u s.right d.passed
-  ahead_of d = follower target r2 u s.right d.passed (λ e. differs (ap (λ (z : Slot). z.name) e)) d.back
-
-  pub can_put_replaced : CanPut t index (onto_changes t index id place name)
-  can_put_replaced = go two
-    where
-      go : ComesBehind s.left u s.right l2 (target ∷ r2) ⊎ ComesAhead s.left u s.right l2 (target ∷ r2) → CanPut t index (onto_changes t index id place name)
-      go (inl d) = can_put_over (s.left ++ d.passed) r2 (over_behind d)
-      go (inr d) = let f = ahead_of d in can_put_over l2 (f.between ++ s.right) (over_ahead f.between (d.front ∙ ap (λ z. l2 ++ z) f.are) f.back)
-
-  moving : IsMoving t index (onto_changes t index id place name) can.path can.name name (target ∷ [])
-  moving = go two
-    where
-      go : ComesBehind s.left u s.right l2 (target ∷ r2) ⊎ ComesAhead s.left u s.right l2 (target ∷ r2) → IsMoving t index (onto_changes t index id place name) can.path can.name name (target ∷ [])
-      go (inl d) = moving_behind d
-      go (inr d) = let f = ahead_of d in moving_ahead f.between (d.front ∙ ap (λ z. l2 ++ z) f.are) f.back
-
-  pub renamed_onto : (new : KeptThread) → ArePut t index (onto_changes t index id place name) new → IsRenamedOnto t new rename.can.path rename.can.name name rename.target.stands.slot.struct
+  renamed_onto : (new : KeptThread) → ArePut t index (renaming_changes true t index id place name) new → IsRenamedOnto t new rename.can.path rename.can.name name rename.target.stands.slot.struct
   renamed_onto new is = record {
-    now = subst (λ z. ShowsUnsettledTree t new (tree_renamed t can.path can.name name) z []) (append-nil (struct_blocks t.disk target.struct))
-        (moved_becomes t index (onto_changes t index id place name) can.path can.name name (target ∷ []) moving new is);
-    once = subst (λ (z : List ℕ). (b : ℕ) → number_occurrences b (used_blocks new.disk new.pairs) + number_occurrences b z ≤ 1) (append-nil (struct_blocks t.disk target.struct))
-        (moved_once t index (onto_changes t index id place name) can.path can.name name (target ∷ []) moving new is);
-    completed = moved_completed t index (onto_changes t index id place name) can.path can.name name (target ∷ []) moving new is;
+    now = subst (λ z. ShowsUnsettledTree t new (tree_renamed t can.path can.name name) z []) (append-nil (struct_blocks t.disk struct)) (moved_becomes moves new is);
+    once = subst (λ (z : List ℕ). (b : ℕ) → number_occurrences b (used_blocks new.disk new.pairs) + number_occurrences b z ≤ 1) (append-nil (struct_blocks t.disk struct)) (moved_once moves new is);
+    completed = moved_completed moves new is;
   }
 
-  pub onto_survives : (new : List CallEvent) → CleanLossLeaves t.history new (LeftByPut t index (onto_changes t index id place name))
+  onto_survives : (new : List CallEvent) → CleanLossLeaves t.history new (LeftByPut t index (renaming_changes true t index id place name))
       → SurvivesLossSince t.disk t.history new (disk_tree t.disk t.pairs) (tree_renamed t rename.can.path rename.can.name name)
-  onto_survives new stops = moved_survives t index (onto_changes t index id place name) can.path can.name name (target ∷ []) moving new stops
+  onto_survives new stops = moved_survives moves new stops
+
+-- ---- to a new name, or onto a file
+
+pub edits : (replaces : Bool) (t : KeptThread) (index id place : ℕ) (name : Name) → CanRenameInPair replaces t index id place name → CanEditIn t index id
+edits false t index id place name rename = rename.can
+edits true t index id place name rename = rename.can
+
+pub can_put_here : (replaces : Bool) (t : KeptThread) (index id place : ℕ) (name : Name) → CanRenameInPair replaces t index id place name → CanPut t index (renaming_changes replaces t index id place name)
+can_put_here false t index id place name rename = can_put_renamed t index id place name rename
+can_put_here true t index id place name rename = can_put_replaced t index id place name rename
+
+pub renamed_here : (replaces : Bool) (t : KeptThread) (index id place : ℕ) (name : Name) (rename : CanRenameInPair replaces t index id place name) (new : KeptThread)
+    → ArePut t index (renaming_changes replaces t index id place name) new → IsRenamedInPair replaces t index id place name rename new
+renamed_here false t index id place name rename new is = renamed_within t index id place name rename new is
+renamed_here true t index id place name rename new is = renamed_onto t index id place name rename new is
+
+pub survives_here : (replaces : Bool) (t : KeptThread) (index id place : ℕ) (name : Name) (rename : CanRenameInPair replaces t index id place name) (new : List CallEvent)
+    → CleanLossLeaves t.history new (LeftByPut t index (renaming_changes replaces t index id place name)) → SurvivesLossSince t.disk t.history new (disk_tree t.disk t.pairs) (tree_renamed_here replaces t index id place name rename)
+survives_here false t index id place name rename new stops = rename_survives t index id place name rename new stops
+survives_here true t index id place name rename new stops = onto_survives t index id place name rename new stops

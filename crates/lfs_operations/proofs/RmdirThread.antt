@@ -1,15 +1,17 @@
--- An empty directory that goes in two steps of the thread.
-use Rattle.lfs_operations.proofs.Common.{Some, ℕ, ◌≡◌, ◌≢◌, ◌⊎◌, inl, inr, ◌-◌, ◌<◌, true, false, nat_eq, List, [], ◌∷◌, ◌++◌, length, None, refl, sym, ap, subst, ◌∙◌, arith, append_assoc, append-nil, length-append, IsPairCommitted, LossLeavesPair, IsDistinct, tree_removing, tree_with_subtree, Blocks, AreUsed, Disk, IsPairAt, HasEitherTree as IsLeftOf, with_blocks, FitsInPair, Gstate, Slot, gstate_xor, zero_gstate, Pair, pairs_blocks, pairs_gstate, count_before_root, disk_tree, used_blocks, CompletesOperation, no_move_from, IsChangedImage, number_occurrences, HasNoMove, sync_bit_delta, IsStep, directory_goes, step_chain, site, Site, dirs_at, thread_at, IsDevice, IsWritableChange, ends_joined, KeptThread, thread_pair, IsChain, Path, IsPairDropped, LeftByDrop, SameInFlight, ShowsDroppedTree, CanEditIn, drops_emptied_pair, tree_without_entry, CanRemoveDirectory, IsDirectoryRemoved, unlink_changes}
+-- An empty directory's entry goes from a pair that stays, as the first of two steps of the thread.
+use Rattle.lfs_operations.proofs.Common.{ℕ, ◌≡◌, ◌≢◌, inl, ◌-◌, true, false, List, [], ◌∷◌, ◌++◌, length, None, refl, sym, ap, subst, ◌∙◌, arith, append-nil, length-append, IsPairCommitted, LossLeavesPair, tree_removing, tree_with_subtree, Blocks, AreUsed, Disk, HasEitherTree as IsLeftOf, with_blocks, Gstate, Slot, gstate_xor, Pair, pairs_gstate, count_before_root, disk_tree, used_blocks, CompletesOperation, no_move_from, IsChangedImage, number_occurrences, HasNoMove, sync_bit_delta, IsStep, directory_goes, step_chain, Site, dirs_at, thread_at, IsWritableChange, ends_joined, KeptThread, thread_pair, IsChain, Path, SameInFlight, CanEditIn, drops_emptied_pair, tree_without_entry, CanRemoveDirectory, unlink_changes, subst₂, file_blocks}
 use Rattle.lfs_model.specs.session.Operations as ops
-use Rattle.lfs_operations.proofs.Removed.{alone, flag_ends, stays_there}
-use Rattle.lfs_operations.proofs.Rmdir.{HasPlace, Unlinks, place_of, unlinked_count}
-use Rattle.lfs_operations.proofs.RmdirPlaces.{HasOwnPair, led_to, own_pair, HasFront, flag_from}
-use Rattle.lfs_operations.proofs.Unlinked.{content_without_entry, fits_gone, held_there, pair_there, slots_gone, unlink_made}
-use Rattle.lfs_operations.proofs.LastDrop.{IsAllButDropped, is_gone, left_last, pairs_end, shows_dropped, y}
-use Rattle.lfs_operations.proofs.Owning.{used_same}
-use Rattle.lfs_operations.proofs.MovTurned.{ChangedOne, changed_one, content_with}
+use Rattle.lfs_operations.proofs.Removed.{entry_site, entry_stands, stays_filled}
+use Rattle.lfs_model.proofs.DirectoryGone.{HasPlace, Unlinks, place_of}
+use Rattle.lfs_model.proofs.EmptyDirectories.{HasFront, flag_from}
+use Rattle.lfs_operations.proofs.OwnPair.{HasOwnPair, led_to, own_pair}
+use Rattle.lfs_operations.proofs.Unlinked.{fits_gone, going_made, unlink_turns}
+use Rattle.lfs_operations.proofs.LastDrop.{IsAllButDropped}
+use Rattle.lfs_model.proofs.UsedCounts.{used_same, IsTurnOf, turned_count}
+use Rattle.lfs_operations.proofs.MovTurned.{ChangedOne, changed_one}
 use Rattle.lfs_operations.proofs.TurnedSync.{left_turned, turn_of, IsSyncTurn, Turned, no_move_turned, pair_turned, state_turned, step_turned, taken_turned}
-use Rattle.lfs_operations.proofs.PairAt.{HasPairAt, pair_at}
+use Rattle.lfs_operations.proofs.PairAt.{HasPairAt}
+use Rattle.lfs_operations.proofs.UnlinkedSteps.{IsUnlinked, at_there}
 
 module _ (t : KeptThread) (index id first gone : ℕ) (take : CanRemoveDirectory t index id first gone) (goes : drops_emptied_pair t index first ≡ false) where
   abbrev can : CanEditIn t index id
@@ -31,10 +33,10 @@ module _ (t : KeptThread) (index id first gone : ℕ) (take : CanRemoveDirectory
   o = thread_pair t gone
 
   abbrev w : Site
-  w = site t.disk t.pairs can.path can.at can.ready.accepted can.leads can.first index p can.stands.rest can.stands.place can.begins
+  w = entry_site can
 
   stand : HasPairAt t index can.path can.at w p
-  stand = pair_at t can.ready can.path can.at can.leads can.first index p can.stands.rest can.stands.place can.begins
+  stand = entry_stands can
 
   abbrev path_there : Path
   path_there = can.path ++ u.name ∷ []
@@ -51,27 +53,10 @@ module _ (t : KeptThread) (index id first gone : ℕ) (take : CanRemoveDirectory
   abbrev front : HasFront (dirs_at w (p ∷ [])) take.to
   front = own.front
 
-  -- the pair of the entry stays filled where a hard tail leads to it
   filled : ends_joined false (w.before ++ w.left) ≡ true → l ++ ([] ++ r) ≢ []
-  filled hard none = go (stays_there t index id first take.can take.begins goes)
-    where
-      go : (index ≡ can.first) ⊎ (1 < length (thread_pair t index).content.slots) → ⊥
-      go (inl e) =
-          let none_before = alone w.chain w.before w.left (w.right ++ w.after) p can.at can.first (subst (λ z. IsDistinct nat_eq (pairs_blocks z)) stand.there can.ready.accepted.thread.distinct) stand.begin
-          (subst (λ z. IsPairAt z can.at can.first) stand.there can.begins) (sym e ∙ stand.number) in
-          let soft = ap (λ z. ends_joined false (w.before ++ z)) none_before ∙ ap (ends_joined false) (append-nil w.before) ∙ flag_ends w.before stand.site.ends in
-          absurd (let z = sym hard ∙ soft in cc)
-      go (inr many) =
-          let e = ap length (held_there t index id can) in
-          let i = length-append l (u ∷ r) in
-          let j = ap length none in
-          let k = length-append l r in
-          absurd (omega arith)
+  filled = stays_filled t index id first take.can take.begins goes
 
   -- ---- the first step
-
-  content_is : content_without_entry t index id ≡ content_with p (l ++ r) (gstate_xor p.content.move sync_bit_delta)
-  content_is = λ j. record { slots = slots_gone t index id can j; tail = (pair_there t index id can j).content.tail; move = gstate_xor (pair_there t index id can j).content.move sync_bit_delta }
 
   turning : IsSyncTurn t index (unlink_changes t index id) w p (l ++ r) l (u ∷ []) [] r
   turning = record {
@@ -79,8 +64,8 @@ module _ (t : KeptThread) (index id first gone : ℕ) (take : CanRemoveDirectory
     there = stand.there;
     place = stand.number;
     site = stand.site;
-    made = unlink_made t index id can ∙ ap Some content_is;
-    fits = subst (FitsInPair t.disk.block_size t.disk.page) content_is (fits_gone t index id can);
+    made = going_made can (unlink_turns can);
+    fits = fits_gone can (gstate_xor p.content.move sync_bit_delta);
     was = held;
     now = refl;
     front = λ e. can.stands.stands.entry;
@@ -91,15 +76,6 @@ module _ (t : KeptThread) (index id first gone : ℕ) (take : CanRemoveDirectory
 
   abbrev q : Pair
   q = pair_turned turning
-
-  abbrev ahead : List Pair
-  ahead = w.chain ++ (w.before ++ w.left)
-
-  abbrev behind : List Pair
-  behind = w.right ++ w.after
-
-  grouped : (z : Pair) → thread_at w (z ∷ []) ≡ ahead ++ z ∷ behind
-  grouped z = sym (append_assoc w.chain (w.before ++ w.left) (z ∷ (w.right ++ w.after)))
 
   follows : (disk : Disk) → IsStep t.disk disk w p [] q [] [] [] l (u ∷ []) [] r
       → IsChangedImage t.disk (thread_at w (p ∷ [])) disk (thread_at w (q ∷ [])) (tree_removing (can.path ++ u.name ∷ [])) (tree_with_subtree (can.path ++ u.name ∷ []) (λ t. None))
@@ -141,21 +117,27 @@ module _ (t : KeptThread) (index id first gone : ℕ) (take : CanRemoveDirectory
     pairs_middle : m.pairs ≡ thread_at w (q ∷ [])
     pairs_middle = x.pairs
 
+    -- a directory's entry has no list, so the image uses the same
+    no_list : (b : ℕ) → number_occurrences b (file_blocks t.disk (u ∷ [])) ≡ 0
+    no_list b = ap (λ z. number_occurrences b (file_blocks t.disk (record u { struct = z } ∷ []))) take.branch
+
     used_middle : (b : ℕ) → number_occurrences b (used_blocks m.disk m.pairs) ≡ number_occurrences b (used_blocks t.disk t.pairs)
-    used_middle b = ap (λ z. number_occurrences b (used_blocks m.disk z)) (pairs_middle ∙ grouped q)
-        ∙ unlinked_count t.disk m.disk ahead p q behind l r u take.to (subst (λ z. HasNoMove (pairs_gstate z)) (grouped p) (no_move_from (thread_at w (p ∷ [])) stand.settled)) (subst (λ z. HasNoMove (pairs_gstate z)) (grouped q) (no_move_turned turning))
-        (subst (λ z. IsDevice t.disk m.disk z (ahead ++ q ∷ behind)) (grouped p) (subst (IsDevice t.disk m.disk (thread_at w (p ∷ []))) (grouped q) x.turned.device)) refl held refl take.branch b
-        ∙ ap (λ z. number_occurrences b (used_blocks t.disk z)) (sym (stand.there ∙ grouped p))
+    used_middle b =
+        let turn : IsTurnOf t.disk m.disk w p q [] l (u ∷ []) [] r
+        = record { none = no_move_from (thread_at w (p ∷ [])) stand.settled; still = no_move_turned turning; device = x.turned.device; at = refl; was = held; is = append-nil (l ++ r) } in
+        let same = turned_count t.disk m.disk w p q [] l (u ∷ []) [] r [] [] turn (λ b. let e = no_list b in omega arith) b in
+        let now = ap (λ z. number_occurrences b (used_blocks m.disk z)) pairs_middle in
+        let was = ap (λ z. number_occurrences b (used_blocks t.disk z)) stand.there in
+        omega arith
 
     chain_middle : IsChain w.chain (dirs_at w (q ∷ []))
     chain_middle = step_chain t.disk m.disk w p [] q [] [] [] l (u ∷ []) [] r (step_turned turning m.disk x.turned)
 
     -- the directory's own pair may go
-    pub may_go : IsAllButDropped t m (thread_pair t gone) gone (tree_removing (take.can.path ++ take.can.stands.stands.slot.name ∷ [])) (tree_with_subtree (take.can.path ++ take.can.stands.stands.slot.name ∷ []) (λ t. None))
+    may_go : IsAllButDropped t m o gone (tree_removing path_there) (tree_with_subtree path_there (λ t. None))
     may_go = record {
       ready = can.ready;
-      taken = subst (λ z. IsWritableChange t.disk t.pairs m.disk z (tree_removing path_there) (tree_with_subtree path_there (λ t. None))) (sym pairs_middle)
-          (subst (λ z. IsWritableChange t.disk z m.disk (thread_at w (q ∷ [])) (tree_removing path_there) (tree_with_subtree path_there (λ t. None))) (sym stand.there) (first_taken m.disk x.turned));
+      taken = subst₂ (λ y z. IsWritableChange t.disk y m.disk z (tree_removing path_there) (tree_with_subtree path_there (λ t. None))) (sym stand.there) (sym pairs_middle) (first_taken m.disk x.turned);
       no_move = subst (λ z. HasNoMove (pairs_gstate z)) (sym pairs_middle) (no_move_turned turning);
       chain = w.chain;
       front = k.front;
@@ -174,24 +156,18 @@ module _ (t : KeptThread) (index id first gone : ℕ) (take : CanRemoveDirectory
       shape = h.written.shape;
     }
 
-    turned : tree_removing (can.path ++ u.name ∷ []) (disk_tree t.disk t.pairs) ≡ tree_without_entry t take.can.path take.can.name
-    turned = ap (λ n. tree_removing (can.path ++ n ∷ []) (disk_tree t.disk t.pairs)) can.stands.stands.named
-
-    pub directory_removed : (new : KeptThread) → IsPairDropped m (gone - 1) zero_gstate new → IsDirectoryRemoved t new take.can.path take.can.name
+    pub unlinked_beside : IsUnlinked t m take gone
     unfolding may_go
-    directory_removed new g = record {
-      now = subst (λ z. ShowsDroppedTree t new z []) turned (shows_dropped may_go new g);
-      completed = λ z given tree is_path. subst (λ s. CompletesOperation t.disk s z (ops.Remove given) new.disk new.pairs) (sym stand.there)
-          (subst (λ s. CompletesOperation t.disk (thread_at w (p ∷ [])) z (ops.Remove given) new.disk s) (sym (pairs_end may_go new g))
-          (k.completed new.disk (y may_go) (is_gone may_go new.disk g.written) z given (tree ∙ ap (disk_tree t.disk) stand.there) (is_path ∙ ap (λ n. can.path ++ n ∷ []) (sym can.stands.stands.named))));
+    unlinked_beside = record {
+      last = may_go;
+      completed = λ new y gone z path tree is. subst (λ s. CompletesOperation t.disk s z (ops.Remove path) new (w.chain ++ (k.front ++ y ∷ k.back))) (sym stand.there) (k.completed new y gone z path (tree ∙ ap (disk_tree t.disk) stand.there) is);
+      written = inl (at_there t m index (gone - 1) (unlink_changes t index id) h);
+      above = let f = own.number in omega arith;
+      entry = λ whole. absurd (let z = sym whole ∙ goes in cc);
     }
-
-    -- what a stop in the second step leaves
-    pub left_second : (left : Blocks) → LeftByDrop m (gone - 1) zero_gstate left → IsLeftOf (with_blocks left t.disk) (disk_tree t.disk t.pairs) (tree_without_entry t take.can.path take.can.name)
-    left_second left g = subst (IsLeftOf (with_blocks left t.disk) (disk_tree t.disk t.pairs)) turned (left_last may_go left g)
 
   -- ---- at a stop in the first step
 
-  pub left_first : (left : Blocks) → LossLeavesPair t index (unlink_changes t index id) left → IsLeftOf (with_blocks left t.disk) (disk_tree t.disk t.pairs) (tree_without_entry t take.can.path take.can.name)
-  left_first left is = subst (IsLeftOf (with_blocks left t.disk) (disk_tree t.disk t.pairs)) (ap (λ n. tree_removing (can.path ++ n ∷ []) (disk_tree t.disk t.pairs)) can.stands.stands.named)
+  pub left_beside : (left : Blocks) → LossLeavesPair t index (unlink_changes t index id) left → IsLeftOf (with_blocks left t.disk) (disk_tree t.disk t.pairs) (tree_without_entry t take.can.path take.can.name)
+  left_beside left is = subst (IsLeftOf (with_blocks left t.disk) (disk_tree t.disk t.pairs)) (ap (λ n. tree_removing (can.path ++ n ∷ []) (disk_tree t.disk t.pairs)) can.stands.stands.named)
       (left_turned turning (tree_removing (can.path ++ u.name ∷ [])) (tree_with_subtree (can.path ++ u.name ∷ []) (λ t. None)) follows left is)

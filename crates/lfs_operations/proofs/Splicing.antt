@@ -1,11 +1,9 @@
 -- A pair of an accepted image in which some slots are replaced by others, as a commit of the laws.
 use Rattle.lfs_operations.proofs.Common.{ℕ, zero, suc, ◌≡◌, ◌+◌, ◌<◌, ◌≤◌, false, nat_eq, List, [], ◌∷◌, ◌++◌, length, Some, refl, sym, ap, subst, ◌∙◌, arith, ◌⊎◌, inl, inr, IsDistinct, flat_map, recursion_from_All, BlockStates, IsFree, IsInFlight, Free, InFlight, ContentChange, Disk, disk_block, SameGeometry, Slot, PairContent, gstate_xor, Pair, pairs_blocks, pairs_gstate, superblock_first, struct_blocks, all_unmoved_slots, used_blocks, IsAccepted, IsTreeEntry, IsFormedList, IsWritable, IsWritableSlot, SameFiles, IsCommit, Each, each_counted, each_from_counted, number_occurrences, count_append, once_from_distinct, distinct_from_once, SameFileBlocks, gstate_append, gstate_cons, gstate_kept, gstate_right, Site, thread_at, IsSite, file_blocks, KeptThread, complete_after, BeginWithSuperblock, cases_lt, IsReadyImage}
 use Rattle.lfs_operations.proofs.MovTurned.{IsTurn}
-use Rattle.lfs_operations.proofs.MovSet.{HasTurned}
-use Rattle.lfs_operations.proofs.Owning.{count_pairs}
-pub use Rattle.lfs_operations.proofs.Owning.{not_used}
-
--- ---- places in the thread
+use Rattle.lfs_model.proofs.SetMoves.{HasTurned}
+use Rattle.lfs_model.proofs.UsedCounts.{count_pairs}
+pub use Rattle.lfs_model.proofs.UsedCounts.{not_used}
 
 -- ---- what is known before
 
@@ -36,9 +34,7 @@ pub record IsSplicing (t : KeptThread) (index : ℕ) (changes : List ContentChan
 pub record Commits (t : KeptThread) (w : Site) (p : Pair) (l olds news r : List Slot) (come : List ℕ) (disk : Disk) (q : Pair) (more : List Pair) : Type 0 where
   pub commit : IsCommit t.disk disk w p q more come l olds news r
   pub come_same : Each (λ b. disk_block disk b ≡ disk_block t.disk b) come
-
-unlike_flying : Some Free ≡ Some InFlight → ⊥
-unlike_flying e = absurd (cc)
+  pub files : SameFiles t.disk disk (all_unmoved_slots t.pairs)
 
 -- nor is it in flight
 not_flying : (sets : BlockStates) (bs : List ℕ) → Each (IsInFlight sets) bs → (b : ℕ) → IsFree sets b → number_occurrences b bs ≡ 0
@@ -46,7 +42,7 @@ not_flying sets bs flying b free = go (number_occurrences b bs) refl
   where
     go : (n : ℕ) → number_occurrences b bs ≡ n → n ≡ 0
     go zero e = refl
-    go (suc n) e = absurd (unlike_flying (sym free ∙ each_counted (IsInFlight sets) bs flying b (omega arith)))
+    go (suc n) e = absurd (let wrong : Some Free ≡ Some InFlight = sym free ∙ each_counted (IsInFlight sets) bs flying b (omega arith) in cc)
 
 module _ (t : KeptThread) (index : ℕ) (changes : List ContentChange) (w : Site) (p : Pair) (l olds news r : List Slot) (gone come : List ℕ) (k : IsSplicing t index changes w p l olds news r gone come) where
   pub accepted : IsAccepted t.disk (thread_at w (p ∷ []))
@@ -96,6 +92,7 @@ module _ (t : KeptThread) (index : ℕ) (changes : List ContentChange) (w : Site
       fit = k.fit;
     };
     come_same = come_there;
+    files = files;
   }
     where
       -- a free block is neither used nor one of those that come

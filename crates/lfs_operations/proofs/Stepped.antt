@@ -1,19 +1,13 @@
 -- What a change or a split comes to, and what a stop in it leaves, as a commit of the laws.
-use Rattle.lfs_operations.proofs.Common.{ℕ, ◌≡◌, ◌≢◌, true, false, ◌⊎◌, inl, inr, ⊎_elim, ◌+◌, ◌<◌, ◌≤◌, List, [], ◌∷◌, ◌++◌, length, sym, ap, subst, ◌∙◌, arith, append-nil, nat_eq, cases_lt, recursion_from_All, Blocks, AreUsed, IsFree, ContentChange, Disk, block_count, HasEitherTree as IsLeftOf, SurvivesLossSince, with_blocks, Slot, Pair, pairs_blocks, pairs_gstate, count_before_root, Tree, IsAccepted, IsWritable, all_unmoved_slots, disk_tree, used_blocks, Contains-number_occurrences, number_occurrences-Contains, IsChangedImage, SameFiles, SameFileBlocks, ends_joined, IsCommit, number_occurrences, once_from_distinct, count_append, HoldsAtLosses-weaker, Site, dirs_at, thread_at, IsDevice, CallEvent, CleanLossLeaves, KeptThread, IsDistinct, Contains, PathAddresses, LeftByPut, ArePut, AreUsedUnsettled, ShowsReadyTree, ShowsUnsettledTree, AddsNoneInFlight, KeepsTakenStates}
+use Rattle.lfs_operations.proofs.Common.{ℕ, ◌≡◌, ◌≢◌, true, false, ◌⊎◌, inl, inr, ⊎_elim, ◌+◌, ◌<◌, ◌≤◌, List, [], ◌∷◌, ◌++◌, length, sym, ap, subst, ◌∙◌, arith, append-nil, nat_eq, cases_lt, Blocks, AreUsed, IsFree, ContentChange, Disk, block_count, HasEitherTree as IsLeftOf, SurvivesLossSince, with_blocks, Slot, Pair, pairs_blocks, pairs_gstate, count_before_root, Tree, IsAccepted, IsWritable, disk_tree, used_blocks, Contains-number_occurrences, number_occurrences-Contains, IsChangedImage, ends_joined, number_occurrences, once_from_distinct, count_append, HoldsAtLosses-weaker, Site, dirs_at, thread_at, IsDevice, CallEvent, CleanLossLeaves, KeptThread, IsDistinct, Contains, PathAddresses, LeftByPut, ArePut, AreUsedUnsettled, ShowsReadyTree, ShowsUnsettledTree, AddsNoneInFlight, KeepsTakenStates}
 use Rattle.lfs_model.proofs.Committed.{commit_writable}
-use Rattle.lfs_operations.proofs.Owning.{count_pairs, used_count_now, used_same}
-use Rattle.lfs_operations.proofs.Placing.{left_after, left_still}
-use Rattle.lfs_operations.proofs.RootStays.{root_stays}
+use Rattle.lfs_model.proofs.UsedCounts.{count_pairs, used_count_now, used_same}
+use Rattle.lfs_model.proofs.Placing.{left_after, left_still}
+use Rattle.lfs_model.proofs.RootStays.{root_stays}
 use Rattle.lfs_operations.proofs.Splicing.{Commits, IsSplicing, accepted, commits, turn}
 use Rattle.lfs_operations.proofs.MovTurned.{IsMapped, TurnedOn, TurnedTo, left_put, put_turned}
 
--- the pair became that on the disk, or that and a new one behind it
-pub record HasCommit (t : KeptThread) (w : Site) (p : Pair) (l olds news r : List Slot) (come : List ℕ) (disk : Disk) : Type 0 where
-  pub q : Pair
-  pub more : List Pair
-  pub commit : Commits t w p l olds news r come disk q more
-
--- so do the thread and the map say
+-- the pair became that, or that and a new one behind it, as the thread and the map say
 pub record HasStep (t : KeptThread) (w : Site) (p : Pair) (l olds news r : List Slot) (gone come : List ℕ) (new : KeptThread) : Type 0 where
   pub q : Pair
   pub more : List Pair
@@ -27,12 +21,6 @@ pub record HasStep (t : KeptThread) (w : Site) (p : Pair) (l olds news r : List 
   pub none_comes : AddsNoneInFlight t.map new.map
 
 module _ (t : KeptThread) (index : ℕ) (changes : List ContentChange) (w : Site) (p : Pair) (l olds news r : List Slot) (gone come : List ℕ) (k : IsSplicing t index changes w p l olds news r gone come) where
-  used_before : AreUsed t.map (used_blocks t.disk (thread_at w (p ∷ [])))
-  used_before = subst (λ z. AreUsed t.map (used_blocks t.disk z)) k.there k.ready.used
-
-  files_at : {disk : Disk} {q : Pair} {more : List Pair} → IsCommit t.disk disk w p q more come l olds news r → SameFiles t.disk disk (all_unmoved_slots t.pairs)
-  files_at {disk = disk} c = subst (λ z. SameFiles t.disk disk (all_unmoved_slots z)) (sym k.there) (recursion_from_All (λ (s : Slot). SameFileBlocks t.disk disk s.struct) (all_unmoved_slots (thread_at w (p ∷ []))) c.device.files)
-
   -- a block of the pairs was one before, or is one that came
   place_of : (b : ℕ) (now : List Pair) (fresh : List ℕ) → number_occurrences b (pairs_blocks now) ≡ number_occurrences b (pairs_blocks (p ∷ [])) + number_occurrences b fresh → Contains (pairs_blocks (thread_at w now)) b
       → Contains (pairs_blocks t.pairs) b ⊎ (1 ≤ number_occurrences b fresh)
@@ -63,9 +51,9 @@ module _ (t : KeptThread) (index : ℕ) (changes : List ContentChange) (w : Site
             pairs = x.pairs;
             used = record {
               owned = pairs_blocks x.more ++ used_blocks t.disk (thread_at w (p ∷ []));
-              are = x.used (used_blocks t.disk (thread_at w (p ∷ []))) used_before;
+              are = x.used (used_blocks t.disk (thread_at w (p ∷ []))) (subst (λ z. AreUsed t.map (used_blocks t.disk z)) k.there k.ready.used);
               same = λ b.
-                  let e = used_count_now t.disk new.disk w p x.q x.more l olds news r gone come commit.commit (k.blocks new.disk commit.commit.device.geometry (files_at commit.commit) commit.come_same) b in
+                  let e = used_count_now t.disk new.disk w p x.q x.more l olds news r gone come commit.commit (k.blocks new.disk commit.commit.device.geometry commit.files commit.come_same) b in
                   let f = ap (λ z. number_occurrences b (used_blocks new.disk z)) x.pairs in
                   let g = count_append b (pairs_blocks x.more) (used_blocks t.disk (thread_at w (p ∷ []))) in
                   omega arith;
@@ -81,14 +69,6 @@ module _ (t : KeptThread) (index : ℕ) (changes : List ContentChange) (w : Site
 
   -- ---- at a stop
 
-  abbrev pub Stays : Disk → Type 0
-  Stays disk = IsDevice t.disk disk (thread_at w (p ∷ [])) (thread_at w (p ∷ []))
-
-  left_step : (left : Blocks) → LeftByPut t index changes left → Stays (with_blocks left t.disk) ⊎ HasCommit t w p l olds news r come (with_blocks left t.disk)
-  left_step left is = ⊎_elim (λ on. inl on)
-      (λ (x : TurnedOn t w p (l ++ (news ++ r)) p.content.move (with_blocks left t.disk)). inr (record { q = x.q; more = x.more; commit = commits t index changes w p l olds news r gone come k (with_blocks left t.disk) x.q x.more x.turned x.fresh }))
-      (left_put t index changes w p (l ++ (news ++ r)) p.content.move (turn t index changes w p l olds news r gone come k) mapped left is)
-
   -- Where each commit follows by that change of the tree, a stop leaves the tree from before or from after it.
   abbrev pub AllFollow : (Tree → Tree) → Type 0
   AllFollow change = (disk : Disk) (q : Pair) (more : List Pair) → Commits t w p l olds news r come disk q more
@@ -96,13 +76,15 @@ module _ (t : KeptThread) (index : ℕ) (changes : List ContentChange) (w : Site
 
   left_tree : (change : Tree → Tree) → AllFollow change → (ends_joined false (w.before ++ w.left) ≡ true → l ++ (news ++ r) ≢ []) → (left : Blocks) → LeftByPut t index changes left
       → IsLeftOf (with_blocks left t.disk) (disk_tree t.disk t.pairs) (change (disk_tree t.disk t.pairs))
-  left_tree change follow filled left is = go (left_step left is)
+  left_tree change follow filled left is = go (left_put t index changes w p (l ++ (news ++ r)) p.content.move (turn t index changes w p l olds news r gone come k) mapped left is)
     where
-      go : Stays (with_blocks left t.disk) ⊎ HasCommit t w p l olds news r come (with_blocks left t.disk) → IsLeftOf (with_blocks left t.disk) (disk_tree t.disk t.pairs) (change (disk_tree t.disk t.pairs))
+      go : IsDevice t.disk (with_blocks left t.disk) (thread_at w (p ∷ [])) (thread_at w (p ∷ [])) ⊎ TurnedOn t w p (l ++ (news ++ r)) p.content.move (with_blocks left t.disk)
+          → IsLeftOf (with_blocks left t.disk) (disk_tree t.disk t.pairs) (change (disk_tree t.disk t.pairs))
       go (inl d) = left_still t.disk left (thread_at w (p ∷ [])) (accepted t index changes w p l olds news r gone come k) (subst (IsWritable t.disk) k.there k.ready.writable) d (inl (ap (disk_tree t.disk) (sym k.there)))
-      go (inr h) =
-          let f = follow (with_blocks left t.disk) h.q h.more h.commit in
-          left_after {walk = f.0} (record { follows = f.1; writable = commit_writable t.disk (with_blocks left t.disk) w p h.q h.more come l olds news r h.commit.commit filled }) (inr (ap (λ z. change (disk_tree t.disk z)) (sym k.there)))
+      go (inr x) =
+          let c = commits t index changes w p l olds news r gone come k (with_blocks left t.disk) x.q x.more x.turned x.fresh in
+          let f = follow (with_blocks left t.disk) x.q x.more c in
+          left_after {walk = f.0} (record { follows = f.1; writable = commit_writable t.disk (with_blocks left t.disk) w p x.q x.more come l olds news r c.commit filled }) (inr (ap (λ z. change (disk_tree t.disk z)) (sym k.there)))
 
   pub survives : (change : Tree → Tree) → AllFollow change → (ends_joined false (w.before ++ w.left) ≡ true → l ++ (news ++ r) ≢ []) → (new : List CallEvent) → CleanLossLeaves t.history new (LeftByPut t index changes)
       → SurvivesLossSince t.disk t.history new (disk_tree t.disk t.pairs) (change (disk_tree t.disk t.pairs))

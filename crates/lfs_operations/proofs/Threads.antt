@@ -1,33 +1,10 @@
--- Pairs of a thread, by their numbers; and the pair of a number by its site: where it stands, and which blocks change with it.
-use Rattle.lfs_operations.proofs.Common.{ℕ, suc, ◌≡◌, ◌+◌, ◌<◌, ◌≤◌, Bool, true, false, cond, eqb-true, nat_eq, List, [], ◌∷◌, ◌++◌, length, Some, refl, sym, ap, ap₂, subst, ◌∙◌, arith, append_assoc, length-append, get_or, set, insert, slice_get, take, IsDistinct, AreUsed, IsFree, Free, content_at, current_block, Disk, disk_block, block_count, SameGeometry, PairContent, gstate_xor, zero_gstate, Pair, pairs_blocks, pairs_gstate, BeginsWith, superblock_entry, used_blocks, Each, number_occurrences, once_from_distinct, distinct_from_once, Site, thread_at, HasFirst, KeepsOutsideBoth, KeptThread, thread_pair, empty_anchor, pairs_with_content, SameGeometryAs, HasOldPair, IsPairWritten, BeginWithSuperblock, gstate_comm, gstate_cons, gstate_right, sync_bit_delta, site_gstate_moved, pairs_split, AreTwoFree}
+-- The pair of a number by its site: where it stands, and which blocks change with it.
+use Rattle.lfs_operations.proofs.Common.{ℕ, ◌≡◌, ◌+◌, ◌<◌, ◌≤◌, Bool, true, false, cond, eqb-true, nat_eq, List, [], ◌∷◌, ◌++◌, length, Some, refl, sym, ap, ap₂, subst, ◌∙◌, arith, append_assoc, length-append, get_or, set, insert, IsDistinct, AreUsed, IsFree, Free, content_at, current_block, Disk, disk_block, block_count, SameGeometry, PairContent, gstate_xor, zero_gstate, Pair, pairs_blocks, pairs_gstate, BeginsWith, superblock_entry, used_blocks, Each, number_occurrences, once_from_distinct, distinct_from_once, Site, thread_at, HasFirst, KeepsOutsideBoth, KeptThread, thread_pair, empty_anchor, pairs_with_content, SameGeometryAs, HasOldPair, IsPairWritten, BeginWithSuperblock, gstate_comm, gstate_cons, gstate_right, sync_bit_delta, site_gstate_moved, pairs_split, AreTwoFree}
 use Rattle.lfs_pair.specs.Commits.{KeepsOutsidePair}
-use Rattle.lfs_operations.proofs.Placing.{IsPlaced, all_apart}
+use Rattle.lfs_model.proofs.PairLists.{get_at, insert_at, set_at}
+use Rattle.lfs_model.proofs.Placing.{IsPlaced, all_apart}
 use Rattle.lfs_operations.proofs.Taking.{within}
-use Rattle.lfs_operations.proofs.Owning.{not_used}
-
--- ---- lists
-
-pub get_at : (xs : List Pair) (p : Pair) (zs : List Pair) (d : Pair) → get_or (xs ++ p ∷ zs) (length xs) d ≡ p
-get_at [] p zs d = refl
-get_at (x ∷ xs) p zs d = get_at xs p zs d
-
-pub get_behind : (xs : List Pair) (p : Pair) (ys : List Pair) → slice_get (xs ++ p ∷ ys) (length xs) ≡ Some p
-get_behind [] p ys = refl
-get_behind (x ∷ xs) p ys = get_behind xs p ys
-
-pub set_at : (xs : List Pair) (p : Pair) (zs : List Pair) (q : Pair) → set (xs ++ p ∷ zs) (length xs) q ≡ xs ++ q ∷ zs
-set_at [] p zs q = refl
-set_at (x ∷ xs) p zs q = ap (λ z. x ∷ z) (set_at xs p zs q)
-
-pub insert_at : (xs : List Pair) (q : Pair) (zs : List Pair) (f : Pair) → insert (xs ++ q ∷ zs) (length xs + 1) f ≡ xs ++ q ∷ f ∷ zs
-insert_at [] q zs f = refl
-insert_at (x ∷ xs) q zs f =
-    let e : suc (length xs) + 1 ≡ suc (length xs + 1) = omega arith in
-    ap (λ (n : ℕ). insert (x ∷ (xs ++ q ∷ zs)) n f) e ∙ ap (λ z. x ∷ z) (insert_at xs q zs f)
-
-pub take_front : (xs ys : List Pair) (n : ℕ) → n ≡ length xs → take n (xs ++ ys) ≡ xs
-take_front [] ys n e = ap (λ k. take k ys) e
-take_front (x ∷ xs) ys n e = ap (λ k. take k (x ∷ (xs ++ ys))) e ∙ ap (λ z. x ∷ z) (take_front xs ys (length xs) refl)
+use Rattle.lfs_model.proofs.UsedCounts.{not_used}
 
 -- ---- at a site
 

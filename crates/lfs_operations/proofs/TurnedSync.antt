@@ -1,9 +1,14 @@
 -- A pair of an image with nothing to recover, whose commit turns the sync bit: the step, and what a stop leaves.
 use Rattle.lfs_operations.proofs.Common.{ℕ, ◌≡◌, ◌≢◌, ◌⊎◌, inl, inr, ◌+◌, true, false, List, [], ◌∷◌, ◌++◌, length, Some, refl, sym, ap, subst, ◌∙◌, arith, append-nil, recursion_from_All, Blocks, ContentChange, Disk, SameGeometry, HasEitherTree as IsLeftOf, with_blocks, IsWritableSlot, IsWritable, all_unmoved_slots, disk_tree, pair_with_slots, FitsInPair, Slot, gstate_xor, zero_gstate, PathAddresses, Pair, pairs_gstate, superblock_first, Tree, IsAccepted, fits_same, IsChangedImage, SameFiles, no_move_from, Each, SameFileBlocks, HasNoMove, sync_bit_delta, IsStep, IsSite, Site, thread_at, IsDevice, stays_shape, IsWritableChange, ends_joined, KeptThread, LossLeavesPair, BeginWithSuperblock, complete_after, IsSplice, commit_taken, IsReadyImage}
-use Rattle.lfs_operations.proofs.MovSet.{HasTurned}
+use Rattle.lfs_model.proofs.SetMoves.{HasTurned}
 use Rattle.lfs_operations.proofs.MovTurned.{IsTurn, content_with, left_alone}
-use Rattle.lfs_operations.proofs.Placing.{left_after, left_still}
+use Rattle.lfs_model.proofs.Placing.{left_after, left_still}
 use Rattle.lfs_operations.proofs.Threads.{sync_turned}
+
+-- slots that begin with a superblock begin with it when others are replaced
+pub first_kept : (l olds news r : List Slot) → (l ≡ [] → superblock_first (olds ++ r) ≡ false) → BeginWithSuperblock (l ++ (olds ++ r)) → BeginWithSuperblock (l ++ (news ++ r))
+first_kept [] olds news r f e = absurd (let z = sym (f refl) ∙ e.0 in cc)
+first_kept (s ∷ l) olds news r f e = e
 
 -- The changes give the pair these slots, in which `news` stand where `olds` did, and turn the sync bit. What they make fits.
 pub record IsSyncTurn (t : KeptThread) (index : ℕ) (changes : List ContentChange) (w : Site) (p : Pair) (slots l olds news r : List Slot) : Type 0 where
@@ -44,11 +49,7 @@ module _ {t : KeptThread} {index : ℕ} {changes : List ContentChange} {w : Site
 
   -- the superblock stays in slot 0
   pub turn_of : IsTurn t index changes w p slots (gstate_xor p.content.move sync_bit_delta)
-  turn_of = record { accepted = k.ready.accepted; there = k.there; place = k.place; site = k.site; made = k.made; first = λ h. subst BeginWithSuperblock (sym k.now) (go l k.front (subst BeginWithSuperblock k.was (h.kind, h.name))) }
-    where
-      go : (l : List Slot) → (l ≡ [] → superblock_first (olds ++ r) ≡ false) → BeginWithSuperblock (l ++ (olds ++ r)) → BeginWithSuperblock (l ++ (news ++ r))
-      go [] f e = absurd (let z = sym (f refl) ∙ e.0 in cc)
-      go (s ∷ l) f e = e
+  turn_of = record { accepted = k.ready.accepted; there = k.there; place = k.place; site = k.site; made = k.made; first = λ h. subst BeginWithSuperblock (sym k.now) (first_kept l olds news r k.front (subst BeginWithSuperblock k.was (h.kind, h.name))) }
 
   starts : superblock_first p.content.slots ≡ true → superblock_first slots ≡ true
   starts e = ap superblock_first k.now ∙ go l k.front (sym (ap superblock_first k.was) ∙ e)

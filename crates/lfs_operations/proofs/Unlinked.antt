@@ -1,20 +1,32 @@
--- An entry that goes while the sync bit turns, as a change of its pair.
-use Rattle.lfs_operations.proofs.Common.{ℕ, ◌≡◌, ◌<◌, List, [], ◌∷◌, ◌++◌, length, Some, refl, sym, ap, ap₂, subst, ◌∙◌, arith, length-append, remove, sum_by, PairContent, same_Some, sum_by-append, sum_by-cons, Delete, PutMove, content_with_changes, RawContent, complete_content, raw_content, MoveStateFits, FitsInPair, Gstate, Slot, gstate_xor, slot_size, Pair, complete_length, complete_remove, completed_from, completed_parts, deletes, does_first, does_nothing, puts_move, sync_bit_delta, remove_here, KeptThread, CanChangePair, RefusesChanges, complete_after, thread_pair, option_and_then, CanEditIn, unlink_changes}
+-- An entry that goes, maybe while the sync bit turns, as a change of its pair.
+use Rattle.lfs_operations.proofs.Common.{ℕ, ◌≡◌, List, [], ◌∷◌, ◌++◌, length, Some, sym, ap, ap₂, subst, ◌∙◌, arith, length-append, remove, sum_by, same_Some, sum_by-append, sum_by-cons, Delete, PutMove, content_with_changes, RawContent, complete_content, raw_content, MoveStateFits, FitsInPair, Gstate, Slot, gstate_xor, slot_size, Pair, complete_length, complete_remove, completed_from, completed_parts, deletes, does_first, does_nothing, puts_move, sync_bit_delta, remove_here, KeptThread, complete_after, thread_pair, option_and_then, CanEditIn, tail_target, CanCommit, ContentChange}
 use Rattle.lfs_operations.proofs.DroppedTails.{move_xor}
 use Rattle.lfs_operations.proofs.Held.{CompletesTo, below, fits_there, here, raw_there}
+use Rattle.lfs_operations.proofs.MovTurned.{content_with}
 
--- what the entry's pair holds without it; the pair's delta turns the sync bit
-abbrev pub content_without_entry : KeptThread → ℕ → ℕ → PairContent
-content_without_entry t pair id = record {
-  slots = remove (thread_pair t pair).content.slots id;
-  tail = (thread_pair t pair).content.tail;
-  move = gstate_xor (thread_pair t pair).content.move sync_bit_delta;
-}
-
-sync_small : MoveStateFits sync_bit_delta
+pub sync_small : MoveStateFits sync_bit_delta
 sync_small = record { kind = omega arith; id = omega arith; pair = (omega arith, omega arith) }
 
-module _ (t : KeptThread) (index id : ℕ) (can : CanEditIn t index id) where
+-- the changes make this delta of the pair's
+pub record MakesDelta (p : Pair) (changes : List ContentChange) (move : Gstate) : Type 0 where
+  pub makes : (raw : RawContent) → raw.move ≡ p.content.move → MoveStateFits raw.move → content_with_changes raw changes ≡ Some (record raw { move = move })
+
+pub delta_stays : (p : Pair) → MakesDelta p [] p.content.move
+delta_stays p = record { makes = λ raw same small. does_nothing raw ∙ ap (λ m. Some (record raw { move = m })) same }
+
+-- it turns the sync bit
+delta_turns : (p : Pair) → MakesDelta p (PutMove (gstate_xor p.content.move sync_bit_delta) ∷ []) (gstate_xor p.content.move sync_bit_delta)
+delta_turns p = record {
+  makes = λ raw same small.
+      let delta = gstate_xor p.content.move sync_bit_delta in
+      let now : RawContent = record raw { move = delta } in
+      does_first (PutMove delta) [] raw now now (puts_move raw delta (move_xor p.content.move sync_bit_delta (subst MoveStateFits same small) sync_small)) (does_nothing now);
+}
+
+module _ {t : KeptThread} {index id : ℕ} (can : CanEditIn t index id) where
+  abbrev p : Pair
+  p = can.stands.pair
+
   abbrev l : List Slot
   l = can.stands.stands.left
 
@@ -25,73 +37,63 @@ module _ (t : KeptThread) (index id : ℕ) (can : CanEditIn t index id) where
   u = can.stands.stands.slot
 
   pub pair_there : thread_pair t index ≡ can.stands.pair
-  pair_there = here t can.ready can.first index can.stands.pair can.stands.rest can.stands.place
+  pair_there = here t can.ready can.first index p can.stands.rest can.stands.place
 
-  pub held_there : (thread_pair t index).content.slots ≡ l ++ u ∷ r
-  held_there = ap (λ (z : Pair). z.content.slots) pair_there ∙ can.stands.stands.held
+  fits_held : FitsInPair t.disk.block_size t.disk.page p.content
+  fits_held = fits_there t can.ready can.first index p can.stands.rest can.stands.place
 
-  pub slots_gone : remove (thread_pair t index).content.slots id ≡ l ++ r
-  slots_gone = ap₂ (λ (z : List Slot) (i : ℕ). remove z i) held_there (sym can.stands.stands.number) ∙ remove_here l r u
+  c : CompletesTo (raw_content t.disk (thread_pair t index).at) p.content
+  c = raw_there t can.ready can.first index p can.stands.rest can.stands.place
 
-  within : id < length (thread_pair t index).content.slots
-  within = let h = ap length held_there in let k = length-append l (u ∷ r) in let n = can.stands.stands.number in omega arith
-
-  fits_held : FitsInPair t.disk.block_size t.disk.page (thread_pair t index).content
-  fits_held = subst (λ (z : Pair). FitsInPair t.disk.block_size t.disk.page z.content) (sym pair_there) (fits_there t can.ready can.first index can.stands.pair can.stands.rest can.stands.place)
-
-  c : CompletesTo (raw_content t.disk (thread_pair t index).at) (thread_pair t index).content
-  c = subst (λ (z : Pair). CompletesTo (raw_content t.disk (thread_pair t index).at) z.content) (sym pair_there) (raw_there t can.ready can.first index can.stands.pair can.stands.rest can.stands.place)
-
-  abbrev delta : Gstate
-  delta = gstate_xor (thread_pair t index).content.move sync_bit_delta
-
-  small : MoveStateFits delta
-  small =
-      let parts = completed_parts c.raw (thread_pair t index).content c.complete in
-      move_xor (thread_pair t index).content.move sync_bit_delta (subst MoveStateFits (sym parts.move) (can.logged c.raw c.is).move) sync_small
-
-  abbrev raw_now : RawContent
-  raw_now = record { slots = remove c.raw.slots id; tail = c.raw.tail; move = delta }
-
-  changed_now : content_with_changes c.raw (unlink_changes t index id) ≡ Some raw_now
-  changed_now =
-      let few = fits_held.count in
-      let n = complete_length c.raw.slots (thread_pair t index).content.slots (completed_parts c.raw (thread_pair t index).content c.complete).slots in
-      let m = within in
-      let middle : RawContent = record c.raw { slots = remove c.raw.slots id } in
-      does_first (Delete id) (PutMove delta ∷ []) c.raw middle raw_now (deletes c.raw id (omega arith) (omega arith))
-      (does_first (PutMove delta) [] middle raw_now raw_now (puts_move middle delta small) (does_nothing raw_now))
-
-  pub unlink_made : complete_after t index (unlink_changes t index id) ≡ Some (content_without_entry t index id)
-  unlink_made =
-      let parts = completed_parts c.raw (thread_pair t index).content c.complete in
-      ap (λ o. option_and_then complete_content (option_and_then (λ (x : RawContent). content_with_changes x (unlink_changes t index id)) o)) c.is
-      ∙ ap (λ o. option_and_then complete_content o) changed_now
-      ∙ completed_from raw_now (remove (thread_pair t index).content.slots id) (complete_remove c.raw.slots (thread_pair t index).content.slots id parts.slots)
-      ∙ ap (λ z. Some (record { slots = remove (thread_pair t index).content.slots id; tail = z; move = delta })) (sym parts.tail)
-
-  pub can_unlink : CanChangePair t index (unlink_changes t index id)
-  can_unlink = record {
-    below = below t can.ready can.first index can.stands.pair can.stands.rest can.stands.place;
-    content = content_without_entry t index id;
-    made = unlink_made;
-    next = refl;
-  }
-
-  pub fits_gone : FitsInPair t.disk.block_size t.disk.page (content_without_entry t index id)
-  fits_gone =
-      let a = ap (sum_by slot_size) held_there in
+  -- what is left fits
+  pub fits_gone : (move : Gstate) → FitsInPair t.disk.block_size t.disk.page (content_with can.stands.pair (can.stands.stands.left ++ can.stands.stands.right) move)
+  fits_gone move =
+      let a = ap (sum_by slot_size) can.stands.stands.held in
       let b = sum_by-append slot_size l (u ∷ r) in
       let d = sum_by-cons slot_size u r in
-      let e = ap (sum_by slot_size) slots_gone in
       let g = sum_by-append slot_size l r in
-      let h = ap length held_there in
+      let h = ap length can.stands.stands.held in
       let i = length-append l (u ∷ r) in
-      let j = ap length slots_gone in
       let k = length-append l r in
       let s = fits_held.size in
       let n = fits_held.count in
       record { size = omega arith; count = omega arith }
 
-  pub unlink_not_refused : (new : KeptThread) → RefusesChanges t index (unlink_changes t index id) new → ⊥
-  unlink_not_refused new is = is.too_large (subst (FitsInPair t.disk.block_size t.disk.page) (same_Some (content_without_entry t index id) is.content (sym unlink_made ∙ is.made)) fits_gone)
+  module _ {more : List ContentChange} {move : Gstate} (k : MakesDelta can.stands.pair more move) where
+    abbrev raw_now : RawContent
+    raw_now = record { slots = remove c.raw.slots id; tail = c.raw.tail; move = move }
+
+    changed_now : content_with_changes c.raw (Delete id ∷ more) ≡ Some raw_now
+    changed_now =
+        let few = fits_held.count in
+        let parts = completed_parts c.raw p.content c.complete in
+        let n = complete_length c.raw.slots p.content.slots parts.slots in
+        let h = ap length can.stands.stands.held in
+        let a = length-append l (u ∷ r) in
+        let m = can.stands.stands.number in
+        let middle : RawContent = record c.raw { slots = remove c.raw.slots id } in
+        does_first (Delete id) more c.raw middle raw_now (deletes c.raw id (omega arith) (omega arith)) (k.makes middle (sym parts.move) (can.logged c.raw c.is).move)
+
+    pub going_made : complete_after t index (Delete id ∷ more) ≡ Some (content_with can.stands.pair (can.stands.stands.left ++ can.stands.stands.right) move)
+    going_made =
+        let parts = completed_parts c.raw p.content c.complete in
+        let gone = ap₂ (λ (z : List Slot) (i : ℕ). remove z i) can.stands.stands.held (sym can.stands.stands.number) ∙ remove_here l r u in
+        ap (λ o. option_and_then complete_content (option_and_then (λ (x : RawContent). content_with_changes x (Delete id ∷ more)) o)) c.is
+        ∙ ap (λ o. option_and_then complete_content o) changed_now
+        ∙ completed_from raw_now (remove p.content.slots id) (complete_remove c.raw.slots p.content.slots id parts.slots)
+        ∙ ap₂ (λ s z. Some (record { slots = s; tail = z; move = move })) gone (sym parts.tail)
+
+    pub can_go : CanCommit t index (Delete id ∷ more)
+    can_go = record {
+      can = record {
+        below = below t can.ready can.first index p can.stands.rest can.stands.place;
+        content = content_with p (l ++ r) move;
+        made = going_made;
+        next = ap (λ (z : Pair). tail_target z.content.tail) (sym pair_there);
+      };
+      fits = λ new is. is.too_large (subst (FitsInPair t.disk.block_size t.disk.page) (same_Some (content_with p (l ++ r) move) is.content (sym going_made ∙ is.made)) (fits_gone move));
+    }
+
+  -- the sync bit turns
+  pub unlink_turns : MakesDelta can.stands.pair (PutMove (gstate_xor (thread_pair t index).content.move sync_bit_delta) ∷ []) (gstate_xor can.stands.pair.content.move sync_bit_delta)
+  unlink_turns = subst (λ (z : Pair). MakesDelta p (PutMove (gstate_xor z.content.move sync_bit_delta) ∷ []) (gstate_xor p.content.move sync_bit_delta)) (sym pair_there) (delta_turns p)

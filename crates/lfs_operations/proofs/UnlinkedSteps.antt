@@ -1,8 +1,10 @@
--- Two steps of the thread, one after the other: what they write and tell.
-use Rattle.lfs_operations.proofs.Common.{◌⊎◌, ℕ, zero, suc, ◌≡◌, ◌≢◌, ◌-◌, ◌<◌, Result, Ok, List, [], ◌∷◌, get_or, set, refl, sym, ap, subst, ◌∙◌, true, false, cond, inl, inr, IsPairCommitted, ContentChange, All-from_recursion, recursion_from_All, fault_count, PairContent, Pair, address_blocks, addresses_blocks, KeptThread, ThreadView, ChangesThreadBlocks, empty_anchor, thread_pair, sync_bit_delta, All, Error, IsPairDropped, ReportsCommit, drops_emptied_pair, removal_written_address, CanRemoveDirectory, ReportsCommits, number_after_drop}
+-- Two steps of the thread, one after the other: what they write and tell. By them an empty directory goes.
+use Rattle.lfs_operations.proofs.Common.{◌⊎◌, ℕ, zero, suc, ◌≡◌, ◌≢◌, ◌-◌, ◌<◌, Result, Ok, List, [], ◌∷◌, get_or, set, refl, sym, ap, subst, ◌∙◌, true, cond, inl, inr, IsPairCommitted, ContentChange, All-from_recursion, recursion_from_All, fault_count, PairContent, Pair, address_blocks, addresses_blocks, KeptThread, ThreadView, ChangesThreadBlocks, empty_anchor, thread_pair, sync_bit_delta, All, Error, IsPairDropped, ReportsCommit, drops_emptied_pair, removal_written_address, CanRemoveDirectory, ReportsCommits, ◌++◌, Disk, Session, Blocks, HasEitherTree, with_blocks, tree_removing, tree_with_subtree, None, Path, disk_tree, path_or_root, CompletesOperation, IsGone, tree_without_entry, IsDirectoryRemoved, ArePairsBeforeTouched, ShowsDroppedTree, LeftByDrop, zero_gstate, CanDropAt, arith}
 use Rattle.lfs_operations.proofs.Putting.{writes_trans, writes_wider}
-use Rattle.lfs_operations.proofs.RemovedWhole.{StandsWhole}
-use Rattle.lfs_operations.proofs.UnlinkedWhole.{written_then}
+use Rattle.lfs_model.specs.session.Operations as ops
+use Rattle.lfs_operations.proofs.AlteredBehind.{gone_alters}
+use Rattle.lfs_operations.proofs.AlteredDrops.{drop_alters, fewer_blocks}
+use Rattle.lfs_operations.proofs.LastDrop.{IsAllButDropped, can_drop_last, end_gone, is_gone, left_last, pairs_end, shows_dropped, taken_end, y}
 
 -- ---- blocks
 
@@ -49,22 +51,55 @@ steps_then old mid new a first second ok one two =
       no_fault = λ other. two.reported.no_fault other ∙ same;
     }
 
--- ---- an entry's pair that goes with it
+-- ---- between the steps
 
-module _ (t : KeptThread) (index id first gone : ℕ) (take : CanRemoveDirectory t index id first gone) where
-  module _ (s : StandsWhole t index id take.can) where
-    pub writes_whole : (m new : KeptThread) → IsPairDropped t (index - 1) sync_bit_delta m → ChangesThreadBlocks (address_blocks (thread_pair t (index - 1)).at) t m → ChangesThreadBlocks (address_blocks (thread_pair m (number_after_drop index gone - 1)).at) m new
-        → ChangesThreadBlocks (addresses_blocks (thread_pair t (index - 1)).at (thread_pair t (gone - 1)).at) t new
-    writes_whole m new h one two = go (written_then t index id first gone take s m h)
+abbrev pub unlinked_path : {t : KeptThread} {index id first gone : ℕ} → CanRemoveDirectory t index id first gone → Path
+unlinked_path take = take.can.path ++ take.can.stands.stands.slot.name ∷ []
+
+-- The entry is gone, and the directory's own pair has number `now`. Once that is dropped, the operation is completed.
+pub record IsUnlinked (t m : KeptThread) {index id first gone : ℕ} (take : CanRemoveDirectory t index id first gone) (now : ℕ) : Type 0 where
+  pub last : IsAllButDropped t m (thread_pair t gone) now (tree_removing (unlinked_path take)) (tree_with_subtree (unlinked_path take) (λ t. None))
+  pub completed : (new : Disk) (y : Pair) → IsGone m.disk new last.chain last.front last.x (thread_pair t gone) y last.back → (s : Session) (path : List ℕ) → s.tree ≡ disk_tree t.disk t.pairs → path_or_root path ≡ unlinked_path take
+      → CompletesOperation t.disk t.pairs s (ops.Remove path) new (last.chain ++ (last.front ++ y ∷ last.back))
+  pub written : ((thread_pair m (now - 1)).at ≡ (thread_pair t (gone - 1)).at) ⊎ ((thread_pair m (now - 1)).at ≡ removal_written_address t index first)
+  pub above : 0 < gone
+  pub entry : drops_emptied_pair t index first ≡ true → CanDropAt t index sync_bit_delta × IsPairDropped t (index - 1) sync_bit_delta m
+
+module _ {t m : KeptThread} {index id first gone : ℕ} {take : CanRemoveDirectory t index id first gone} {now : ℕ} (k : IsUnlinked t m take now) where
+  turned : tree_removing (unlinked_path take) (disk_tree t.disk t.pairs) ≡ tree_without_entry t take.can.path take.can.name
+  turned = ap (λ n. tree_removing (take.can.path ++ n ∷ []) (disk_tree t.disk t.pairs)) take.can.stands.stands.named
+
+  -- what a stop in the second step leaves
+  pub left_second : (left : Blocks) → LeftByDrop m (now - 1) zero_gstate left → HasEitherTree (with_blocks left t.disk) (disk_tree t.disk t.pairs) (tree_without_entry t take.can.path take.can.name)
+  left_second left g = subst (HasEitherTree (with_blocks left t.disk) (disk_tree t.disk t.pairs)) turned (left_last k.last left g)
+
+  module _ (new : KeptThread) where
+    pub writes_then : ChangesThreadBlocks (address_blocks (removal_written_address t index first)) t m → ChangesThreadBlocks (address_blocks (thread_pair m (now - 1)).at) m new
+        → ChangesThreadBlocks (addresses_blocks (removal_written_address t index first) (thread_pair t (gone - 1)).at) t new
+    writes_then one two = go k.written
       where
-        go : ((thread_pair m (number_after_drop index gone - 1)).at ≡ (thread_pair t (gone - 1)).at) ⊎ ((thread_pair m (number_after_drop index gone - 1)).at ≡ (thread_pair t (index - 1)).at)
-            → ChangesThreadBlocks (addresses_blocks (thread_pair t (index - 1)).at (thread_pair t (gone - 1)).at) t new
-        go (inl e) = writes_both (thread_pair t (index - 1)).at (thread_pair t (gone - 1)).at one (subst (λ at. ChangesThreadBlocks (address_blocks at) m new) e two)
-        go (inr e) = writes_first (thread_pair t (index - 1)).at (thread_pair t (gone - 1)).at (writes_trans one (subst (λ at. ChangesThreadBlocks (address_blocks at) m new) e two))
+        go : ((thread_pair m (now - 1)).at ≡ (thread_pair t (gone - 1)).at) ⊎ ((thread_pair m (now - 1)).at ≡ removal_written_address t index first)
+            → ChangesThreadBlocks (addresses_blocks (removal_written_address t index first) (thread_pair t (gone - 1)).at) t new
+        go (inl e) = writes_both (removal_written_address t index first) (thread_pair t (gone - 1)).at one (subst (λ at. ChangesThreadBlocks (address_blocks at) m new) e two)
+        go (inr e) = writes_first (removal_written_address t index first) (thread_pair t (gone - 1)).at (writes_trans one (subst (λ at. ChangesThreadBlocks (address_blocks at) m new) e two))
 
--- which pair the first step writes
-pub written_beside : (t : KeptThread) (index first : ℕ) → drops_emptied_pair t index first ≡ false → removal_written_address t index first ≡ (thread_pair t index).at
-written_beside t index first goes = ap (λ b. cond b (thread_pair t (index - 1)).at (thread_pair t index).at) goes
+    module _ (d : IsPairDropped m (now - 1) zero_gstate new) where
+      pub directory_removed : IsDirectoryRemoved t new take.can.path take.can.name
+      directory_removed = record {
+        now = subst (λ z. ShowsDroppedTree t new z []) turned (shows_dropped k.last new d);
+        completed = λ z given tree is_path. subst (λ s. CompletesOperation t.disk t.pairs z (ops.Remove given) new.disk s) (sym (pairs_end k.last new d))
+            (k.completed new.disk (y k.last) (is_gone k.last new.disk d.written) z given tree (is_path ∙ ap (λ n. take.can.path ++ n ∷ []) (sym take.can.stands.stands.named)));
+      }
 
+      -- the pairs in front of those that go don't stay with what they held
+      pub directory_alters : ArePairsBeforeTouched t index first gone new
+      directory_alters = record {
+        front = gone_alters t new gone k.above take.below take.can.ready.accepted (taken_end k.last new d).follows.accepted (end_gone k.last new d);
+        entry = λ whole.
+            let e = k.entry whole in
+            drop_alters t index sync_bit_delta m e.0 e.1 new d.thread.links (λ b. let f = fewer_blocks m now zero_gstate new (can_drop_last k.last) d b in omega (arith, f));
+      }
+
+-- the first step writes the pair in front of an entry's pair that goes
 pub written_whole : (t : KeptThread) (index first : ℕ) → drops_emptied_pair t index first ≡ true → removal_written_address t index first ≡ (thread_pair t (index - 1)).at
 written_whole t index first goes = ap (λ b. cond b (thread_pair t (index - 1)).at (thread_pair t index).at) goes

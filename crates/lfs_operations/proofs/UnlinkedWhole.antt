@@ -1,18 +1,25 @@
--- An empty directory that goes in two steps of the thread, the first of which drops its entry's pair.
-use Rattle.std.proofs.lemmas.Bool.{ltb-false, ltb-true}
-use Rattle.lfs_operations.proofs.Common.{ℕ, ◌≡◌, ◌⊎◌, inl, inr, ◌+◌, ◌-◌, ◌<◌, ◌≤◌, Bool, true, false, cond, List, [], ◌∷◌, ◌++◌, length, refl, sym, ap, ap₂, subst, ◌∙◌, arith, append_assoc, append-nil, length-append, None, tree_removing, tree_with_subtree, Blocks, Disk, HasEitherTree as IsLeftOf, with_blocks, PairContent, Gstate, Slot, zero_gstate, Pair, pairs_gstate, superblock_first, count_before_root, Path, IsAccepted, IsWritable, LeadsTo, disk_tree, used_blocks, CompletesOperation, no_move_from, number_occurrences, HasNoMove, sync_bit_delta, IsStep, directory_goes, step_chain, Site, dirs_at, thread_at, drop_shape, file_blocks, IsWritableChange, KeptThread, IsPairWritten, thread_pair, IsChain, nat_lt, drop_taken, CanDropAt, IsPairDropped, LeftByDrop, content_after_drop, ShowsDroppedTree, CanEditIn, tree_without_entry, CanRemoveDirectory, IsDirectoryRemoved, number_after_drop}
+-- An empty directory's entry goes with its pair, as the first of two steps of the thread.
+use Rattle.lfs_operations.proofs.Common.{ℕ, ◌≡◌, ◌⊎◌, inl, inr, ◌+◌, ◌-◌, ◌<◌, Bool, true, false, cond, List, [], ◌∷◌, ◌++◌, length, refl, sym, ap, ap₂, subst, ◌∙◌, arith, append_assoc, append-nil, length-append, None, tree_removing, tree_with_subtree, Blocks, Disk, HasEitherTree as IsLeftOf, with_blocks, PairContent, Gstate, Slot, zero_gstate, Pair, pairs_gstate, superblock_first, count_before_root, Path, IsAccepted, IsWritable, LeadsTo, disk_tree, used_blocks, CompletesOperation, no_move_from, number_occurrences, HasNoMove, sync_bit_delta, IsStep, directory_goes, step_chain, Site, dirs_at, thread_at, drop_shape, file_blocks, IsWritableChange, KeptThread, IsPairWritten, thread_pair, IsChain, drop_taken, CanDropAt, IsPairDropped, LeftByDrop, content_after_drop, CanEditIn, tree_without_entry, CanRemoveDirectory, number_after_drop, le-ltb, lt-ltb, subst₂, drops_emptied_pair, removal_written_address}
 use Rattle.lfs_model.specs.session.Operations as ops
 use Rattle.lfs_operations.proofs.Dropped.{HasMapWithout, IsToBeDropped, can_drop_pair, device_left, front_there, left_dropped, map_dropped, pairs_left, slots_left, state_left, tail_left}
 use Rattle.lfs_operations.proofs.DroppedTails.{front_is}
-use Rattle.lfs_operations.proofs.Placing.{left_after}
-use Rattle.lfs_operations.proofs.RemovedWhole.{StandsWhole, over_hard}
-use Rattle.lfs_operations.proofs.RmdirPlaces.{HasOwnPair, led_to, own_pair, HasFront}
-use Rattle.lfs_operations.proofs.RmdirWhole.{HasPlaceWhole, UnlinksWhole, place_whole}
-use Rattle.lfs_operations.proofs.LastDrop.{IsAllButDropped, is_gone, left_last, pairs_end, shows_dropped, x_there, y}
+use Rattle.lfs_model.proofs.Placing.{left_after}
+use Rattle.lfs_operations.proofs.RemovedWhole.{StandsWhole, over_hard, dropping_whole, stands_whole}
+use Rattle.lfs_model.proofs.EmptyDirectories.{HasFront}
+use Rattle.lfs_operations.proofs.OwnPair.{HasOwnPair, led_to, own_pair}
+use Rattle.lfs_model.proofs.GoneWhole.{HasPlaceWhole, UnlinksWhole, place_whole}
+use Rattle.lfs_operations.proofs.LastDrop.{IsAllButDropped, x_there}
+use Rattle.lfs_operations.specs.Unlinking.{IsEntryUnlinked, LeftByUnlink, number_after_unlink}
+use Rattle.lfs_operations.proofs.RmdirThread.{left_beside, unlinked_beside}
+use Rattle.lfs_operations.proofs.Unlinked.{sync_small}
+use Rattle.lfs_operations.proofs.UnlinkedSteps.{IsUnlinked, written_whole}
 
-module _ (t : KeptThread) (index id first gone : ℕ) (take : CanRemoveDirectory t index id first gone) (s : StandsWhole t index id take.can) where
+module _ (t : KeptThread) (index id first gone : ℕ) (take : CanRemoveDirectory t index id first gone) (goes : drops_emptied_pair t index first ≡ true) where
   abbrev can : CanEditIn t index id
   can = take.can
+
+  abbrev s : StandsWhole t index id can
+  s = stands_whole t index id first can take.begins goes
 
   abbrev e : Pair
   e = can.stands.pair
@@ -56,15 +63,12 @@ module _ (t : KeptThread) (index id first gone : ℕ) (take : CanRemoveDirectory
   abbrev front : HasFront (dirs_at w (x0 ∷ e ∷ [])) take.to
   front = own.front
 
-  pub above_gone : 0 < gone
-  above_gone = let f = own.number in omega arith
-
   -- ---- the first step
 
   dropping : IsToBeDropped t index sync_bit_delta w x0 e
-  dropping = record { accepted = can.ready.accepted; writable = can.ready.writable; storable = record { kind = omega arith; id = omega arith; pair = (omega arith, omega arith) }; there = s.there; number = s.number }
+  dropping = dropping_whole s sync_bit_delta sync_small
 
-  pub can_drop_entry : CanDropAt t index sync_bit_delta
+  can_drop_entry : CanDropAt t index sync_bit_delta
   can_drop_entry = can_drop_pair dropping
 
   abbrev c : PairContent
@@ -138,38 +142,24 @@ module _ (t : KeptThread) (index id first gone : ℕ) (take : CanRemoveDirectory
 
     -- it stands behind one pair fewer where it stood behind the entry's
     number_now : length (w.chain ++ k.front) + 1 ≡ number_after_drop index gone
-    number_now = go k.number (nat_lt index gone) refl
+    number_now = go k.number
       where
+        index_is : index ≡ length w.chain + length (w.before ++ w.left) + 1
+        index_is = let j = length-append w.chain (w.before ++ w.left) in let i = s.number in omega arith
+
+        gone_is : gone ≡ length w.chain + length front.front + 1
+        gone_is = let f = length-append w.chain front.front in let g = own.number in omega arith
+
         go : ((length (w.before ++ w.left) + 1 < length front.front + 1) × (length k.front + 1 ≡ length front.front)) ⊎ ((length front.front + 1 < length (w.before ++ w.left) + 1) × (length k.front ≡ length front.front))
-            → (b : Bool) → nat_lt index gone ≡ b → length (w.chain ++ k.front) + 1 ≡ cond b (gone - 1) gone
-        go (inl z) true l =
+            → length (w.chain ++ k.front) + 1 ≡ number_after_drop index gone
+        go (inl (less, one)) =
             let a = length-append w.chain k.front in
-            let f = length-append w.chain front.front in
-            let g = own.number in
-            let y = z.1 in
-            omega arith
-        go (inr z) true l =
-            let less : index < gone = ltb-true index gone l in
-            let f = length-append w.chain front.front in
-            let g = own.number in
-            let i = s.number in
-            let j = length-append w.chain (w.before ++ w.left) in
-            let y = z.0 in
-            absurd (omega arith)
-        go (inl z) false l =
-            let no : gone ≤ index = ltb-false index gone l in
-            let f = length-append w.chain front.front in
-            let g = own.number in
-            let i = s.number in
-            let j = length-append w.chain (w.before ++ w.left) in
-            let y = z.0 in
-            absurd (omega arith)
-        go (inr z) false l =
+            let same : length (w.chain ++ k.front) + 1 ≡ gone - 1 = omega (arith, a, one, gone_is) in
+            same ∙ sym (ap (λ b. cond b (gone - 1) gone) (lt-ltb index gone (omega (arith, less, index_is, gone_is))))
+        go (inr (less, none)) =
             let a = length-append w.chain k.front in
-            let f = length-append w.chain front.front in
-            let g = own.number in
-            let y = z.1 in
-            omega arith
+            let same : length (w.chain ++ k.front) + 1 ≡ gone = omega (arith, a, none, gone_is) in
+            same ∙ sym (ap (λ b. cond b (gone - 1) gone) (le-ltb index gone (omega (arith, less, index_is, gone_is))))
 
     map_middle : HasMapWithout t.map m.map (used_blocks m.disk m.pairs)
     map_middle = map_dropped dropping m h (no_move_from t.pairs can.ready.settled) (record { kind = refl; id = refl; pair = refl }) can.ready.used (used_blocks m.disk m.pairs) (λ b.
@@ -181,11 +171,10 @@ module _ (t : KeptThread) (index id first gone : ℕ) (take : CanRemoveDirectory
     chain_middle = step_chain t.disk m.disk w x0 (e ∷ []) q [] [] [] x0.content.slots (u ∷ []) [] [] (step m.disk h.written)
 
     -- the directory's own pair may go
-    pub may_go : IsAllButDropped t m (thread_pair t gone) (number_after_drop index gone) (tree_removing (take.can.path ++ take.can.stands.stands.slot.name ∷ [])) (tree_with_subtree (take.can.path ++ take.can.stands.stands.slot.name ∷ []) (λ t. None))
+    may_go : IsAllButDropped t m o now (tree_removing path_there) (tree_with_subtree path_there (λ t. None))
     may_go = record {
       ready = can.ready;
-      taken = subst (λ z. IsWritableChange t.disk t.pairs m.disk z (tree_removing path_there) (tree_with_subtree path_there (λ t. None))) (sym pairs_middle)
-          (subst (λ z. IsWritableChange t.disk z m.disk (thread_at w (q ∷ [])) (tree_removing path_there) (tree_with_subtree path_there (λ t. None))) (sym s.there) (first_taken m.disk h.written));
+      taken = subst₂ (λ y z. IsWritableChange t.disk y m.disk z (tree_removing path_there) (tree_with_subtree path_there (λ t. None))) (sym s.there) (sym pairs_middle) (first_taken m.disk h.written);
       no_move = subst (λ z. HasNoMove (pairs_gstate z)) (sym pairs_middle) no_move_middle;
       chain = w.chain;
       front = k.front;
@@ -204,15 +193,12 @@ module _ (t : KeptThread) (index id first gone : ℕ) (take : CanRemoveDirectory
       shape = h.written.shape;
     }
 
-    turned : tree_removing (can.path ++ u.name ∷ []) (disk_tree t.disk t.pairs) ≡ tree_without_entry t take.can.path take.can.name
-    turned = ap (λ n. tree_removing (can.path ++ n ∷ []) (disk_tree t.disk t.pairs)) can.stands.stands.named
-
     x_now : thread_pair m (now - 1) ≡ k.x
     unfolding may_go
     x_now = x_there may_go
 
     -- the pair that is written in the second step is where the one in front of it was, or where the one in front of the entry's was
-    pub written_then : ((thread_pair m (now - 1)).at ≡ (thread_pair t (gone - 1)).at) ⊎ ((thread_pair m (now - 1)).at ≡ (thread_pair t (index - 1)).at)
+    written_then : ((thread_pair m (now - 1)).at ≡ (thread_pair t (gone - 1)).at) ⊎ ((thread_pair m (now - 1)).at ≡ removal_written_address t index first)
     written_then = go k.was
       where
         is_old : t.pairs ≡ (w.chain ++ front.front) ++ front.before ∷ o ∷ (front.run ++ front.after)
@@ -221,24 +207,38 @@ module _ (t : KeptThread) (index id first gone : ℕ) (take : CanRemoveDirectory
         old_front : thread_pair t (gone - 1) ≡ front.before
         old_front = front_is t (gone - 1) (w.chain ++ front.front) front.before o (front.run ++ front.after) is_old (let g = own.number in omega arith)
 
-        go : (k.x.at ≡ front.before.at) ⊎ (k.x.at ≡ x0.at) → ((thread_pair m (now - 1)).at ≡ (thread_pair t (gone - 1)).at) ⊎ ((thread_pair m (now - 1)).at ≡ (thread_pair t (index - 1)).at)
+        go : (k.x.at ≡ front.before.at) ⊎ (k.x.at ≡ x0.at) → ((thread_pair m (now - 1)).at ≡ (thread_pair t (gone - 1)).at) ⊎ ((thread_pair m (now - 1)).at ≡ removal_written_address t index first)
         go (inl z) = inl (ap (λ (v : Pair). v.at) x_now ∙ z ∙ ap (λ (v : Pair). v.at) (sym old_front))
-        go (inr z) = inr (ap (λ (v : Pair). v.at) x_now ∙ z ∙ ap (λ (v : Pair). v.at) (sym (front_there dropping)))
+        go (inr z) = inr (ap (λ (v : Pair). v.at) x_now ∙ z ∙ ap (λ (v : Pair). v.at) (sym (front_there dropping)) ∙ sym (written_whole t index first goes))
 
-    pub whole_removed : (new : KeptThread) → IsPairDropped m (now - 1) zero_gstate new → IsDirectoryRemoved t new take.can.path take.can.name
+    pub unlinked_whole : IsUnlinked t m take (number_after_drop index gone)
     unfolding may_go
-    whole_removed new g = record {
-      now = subst (λ z. ShowsDroppedTree t new z []) turned (shows_dropped may_go new g);
-      completed = λ z given tree is_path. subst (λ s. CompletesOperation t.disk s z (ops.Remove given) new.disk new.pairs) (sym s.there)
-          (subst (λ s. CompletesOperation t.disk old z (ops.Remove given) new.disk s) (sym (pairs_end may_go new g))
-          (k.completed new.disk (y may_go) (is_gone may_go new.disk g.written) z given (tree ∙ ap (disk_tree t.disk) s.there) (is_path ∙ ap (λ n. can.path ++ n ∷ []) (sym can.stands.stands.named))));
+    unlinked_whole = record {
+      last = may_go;
+      completed = λ new y gone z path tree is. subst (λ ps. CompletesOperation t.disk ps z (ops.Remove path) new (w.chain ++ (k.front ++ y ∷ k.back))) (sym s.there) (k.completed new y gone z path (tree ∙ ap (disk_tree t.disk) s.there) is);
+      written = written_then;
+      above = let f = own.number in omega arith;
+      entry = λ whole. (can_drop_entry, h);
     }
-
-    -- what a stop in the second step leaves
-    pub whole_second : (left : Blocks) → LeftByDrop m (now - 1) zero_gstate left → IsLeftOf (with_blocks left t.disk) (disk_tree t.disk t.pairs) (tree_without_entry t take.can.path take.can.name)
-    whole_second left g = subst (IsLeftOf (with_blocks left t.disk) (disk_tree t.disk t.pairs)) turned (left_last may_go left g)
 
   -- ---- at a stop in the first step
 
-  pub whole_first : (left : Blocks) → LeftByDrop t (index - 1) sync_bit_delta left → IsLeftOf (with_blocks left t.disk) (disk_tree t.disk t.pairs) (tree_without_entry t can.path can.name)
+  whole_first : (left : Blocks) → LeftByDrop t (index - 1) sync_bit_delta left → IsLeftOf (with_blocks left t.disk) (disk_tree t.disk t.pairs) (tree_without_entry t can.path can.name)
   whole_first = left_dropped dropping (inl refl) (λ disk written. left_after (first_taken disk written) (inr (ap₂ (λ n z. tree_removing (can.path ++ n ∷ []) (disk_tree t.disk z)) can.stands.stands.named (sym s.there))))
+
+-- ---- either way
+
+module _ (t : KeptThread) (index id first gone : ℕ) (take : CanRemoveDirectory t index id first gone) where
+  pub unlinked : (m : KeptThread) → IsEntryUnlinked t index id first m → IsUnlinked t m take (number_after_unlink t index first gone)
+  unlinked m is = by (drops_emptied_pair t index first) refl
+    where
+      by : (b : Bool) → drops_emptied_pair t index first ≡ b → IsUnlinked t m take (number_after_unlink t index first gone)
+      by true e = subst (λ b. IsUnlinked t m take (cond b (number_after_drop index gone) gone)) (sym e) (unlinked_whole t index id first gone take e m (is.goes e))
+      by false e = subst (λ b. IsUnlinked t m take (cond b (number_after_drop index gone) gone)) (sym e) (unlinked_beside t index id first gone take e m (is.stays e))
+
+  pub left_first : (left : Blocks) → LeftByUnlink t index id first left → IsLeftOf (with_blocks left t.disk) (disk_tree t.disk t.pairs) (tree_without_entry t take.can.path take.can.name)
+  left_first left is = by (drops_emptied_pair t index first) refl
+    where
+      by : (b : Bool) → drops_emptied_pair t index first ≡ b → IsLeftOf (with_blocks left t.disk) (disk_tree t.disk t.pairs) (tree_without_entry t take.can.path take.can.name)
+      by true e = whole_first t index id first gone take e left (is.goes e)
+      by false e = left_beside t index id first gone take e left (is.stays e)

@@ -1,46 +1,25 @@
 -- What a relocation comes to: nothing, or a move by the plan.
-use Rattle.lfs_operations.proofs.Common.{ℕ, zero, suc, Bool, cond, None, ◌-◌, is_worn, AreTwoFree, ◌≡◌, ◌+◌, ◌<◌, ◌≤◌, inl, inr, true, false, List, [], ◌∷◌, ◌++◌, length, Some, refl, sym, ap, ap₂, subst, ◌∙◌, arith, append_assoc, length-append, take, slice_get, same_Some, AllByRecursion, Contains, All-from_recursion, recursion_from_All, each_always, each_left, each_right, Slot, Pair, address_view, same_pair, count_before_root, disk_block, struct_blocks, all_unmoved_slots, used_blocks, IsPairAt, KeepsOutsideBoth, KeptThread, SameFileBlocks, is_hard_tail, thread_pair, pair_joined_to, IsReadyImage}
+use Rattle.lfs_operations.proofs.Common.{ℕ, Bool, cond, None, ◌-◌, is_worn, AreTwoFree, ◌≡◌, ◌+◌, ◌<◌, ◌≤◌, inl, inr, true, false, List, [], ◌∷◌, ◌++◌, length, Some, refl, sym, ap, ap₂, subst, ◌∙◌, arith, append_assoc, length-append, take, slice_get, same_Some, AllByRecursion, Contains, recursion_from_All, each_left, each_right, Pair, address_view, same_pair, count_before_root, all_unmoved_slots, used_blocks, IsPairAt, KeepsOutsideBoth, KeptThread, is_hard_tail, thread_pair, pair_joined_to, IsReadyImage, PairContent, tail_target}
 use Rattle.std.proofs.lemmas.List.Elements.{All-contains_itself}
 use Rattle.lfs_model.specs.session.Moved.{pair_behind}
 use Rattle.lfs_model.proofs.BlockSets.{used_count-AreUsed}
 use Rattle.std.specs.Bool.{OnTrue}
-use Rattle.lfs_operations.specs.Wear.{CanMovePair, HasRelocated, HasUnloadRoom, IsWornMoved, IsRootExpanded, IsWornUnloaded, ShowsSameFiles}
+use Rattle.lfs_operations.specs.Wear.{CanMovePair, HasRelocated, HasUnloadRoom, IsWornMoved, IsRootExpanded, IsWornUnloaded, ShowsSameFiles, MovesByPlan}
 use Rattle.lfs_operations.specs.declared.wear.MovePlan.{MovePlan}
-
--- ---- the pairs that stay
-
-among : (ps : List Pair) → AllByRecursion (Contains ps) ps
-among ps = recursion_from_All (Contains ps) ps (All-contains_itself ps)
-
-front_stays : (ps front rest : List Pair) → ps ≡ front ++ rest → AllByRecursion (Contains ps) front
-front_stays ps front rest e = each_left (Contains ps) front rest (subst (λ z. AllByRecursion (Contains ps) z) e (among ps))
-
-rest_stays : (ps front rest : List Pair) → ps ≡ front ++ rest → AllByRecursion (Contains ps) rest
-rest_stays ps front rest e = each_right (Contains ps) front rest (subst (λ z. AllByRecursion (Contains ps) z) e (among ps))
+use Rattle.lfs_operations.proofs.RecoverLists.{files_itself}
+use Rattle.lfs_model.proofs.PairLists.{get_behind}
+use Rattle.std.proofs.lemmas.Option.{slice_get_within}
 
 -- ---- the pair that is written
 
-get_behind : (xs : List Pair) (p : Pair) (ys : List Pair) → slice_get (xs ++ p ∷ ys) (length xs) ≡ Some p
-get_behind [] p ys = refl
-get_behind (x ∷ xs) p ys = get_behind xs p ys
-
-is_named : (ps : List Pair) (at : ℕ × ℕ) (index : ℕ) (front : List Pair) (p : Pair) (rest : List Pair) → IsPairAt ps at index → ps ≡ front ++ p ∷ rest → length front ≡ index → same_pair p.at at ≡ true
-is_named ps at index front p rest found e n =
-    ap (λ (z : Pair). same_pair z.at at) (sym (same_Some found.pair p (sym found.there ∙ ap₂ (λ (z : List Pair) (i : ℕ). slice_get z i) e (sym n) ∙ get_behind front p rest))) ∙ found.same
-
-get_within : (xs : List Pair) (i : ℕ) (p : Pair) → slice_get xs i ≡ Some p → i < length xs
-get_within [] i p e = absurd (cc)
-get_within (x ∷ xs) zero p e = omega arith
-get_within (x ∷ xs) (suc i) p e = let l = get_within xs i p e in omega arith
-
 pub is_below : (ps : List Pair) (at : ℕ × ℕ) (index : ℕ) → IsPairAt ps at index → index < length ps
-is_below ps at index found = get_within ps index found.pair found.there
+is_below ps at index found = slice_get_within ps index found.pair found.there
 
 -- ---- what is known before a move
 
-pub known_there : (b : Bool) (P : Type 0) → OnTrue b P → b ≡ true → P
-known_there true P h e = h
-known_there false P h e = absurd (cc)
+pub known_there : {P : Type 0} (b : Bool) → OnTrue b P → b ≡ true → P
+known_there true h e = h
+known_there false h e = absurd (cc)
 
 pub next_joined : (b : Bool) (next index : ℕ) → Some next ≡ cond b (Some (index + 1)) None → (b ≡ true) × (next ≡ index + 1)
 next_joined true next index e = (refl, same_Some next (index + 1) e)
@@ -67,8 +46,7 @@ same_files t ready = record {
   ready = ready;
   shows = refl;
   structs = λ path u e b. (u, (e, refl));
-  lists = All-from_recursion (λ (s : Slot). SameFileBlocks t.disk t.disk s.struct) (all_unmoved_slots t.pairs)
-      (each_always (λ (s : Slot). SameFileBlocks t.disk t.disk s.struct) (λ s. each_always (λ b. disk_block t.disk b ≡ disk_block t.disk b) (λ b. refl) (struct_blocks t.disk s.struct)) (all_unmoved_slots t.pairs));
+  lists = files_itself t.disk (all_unmoved_slots t.pairs);
   flying = λ b. ((λ h. h), (λ h. h));
 }
 
@@ -78,23 +56,32 @@ none_moves t root plan ready root_is = record { moved = inl refl; files = same_f
 -- ---- a move by the plan
 
 module _ (t : KeptThread) (root : ℕ) (index : ℕ) (plan : MovePlan) (ready : IsReadyImage t) (root_is : root ≡ count_before_root t.pairs) (found : IsPairAt t.pairs (address_view plan.at) index) (new : KeptThread) where
+  -- the pair p was written, whose number is the plan's, and names y
+  by_plan : (front : List Pair) (p : Pair) (gone back : List Pair) (c : PairContent) (y : Pair) → t.pairs ≡ front ++ p ∷ (gone ++ back) → length front ≡ index → new.pairs ≡ front ++ record { at = p.at; content = c } ∷ y ∷ back
+      → tail_target c.tail ≡ Some y.at → y.at ≡ address_view plan.fresh → KeepsOutsideBoth p.at (address_view plan.fresh) t.disk.blocks new.disk.blocks → MovesByPlan t plan new
+  by_plan front p gone back c y was number is next to others = record {
+    front = front;
+    written = record { at = p.at; content = c };
+    fresh = y;
+    back = back;
+    is = is;
+    stay = each_left (Contains t.pairs) front (p ∷ (gone ++ back)) among;
+    stay_behind = each_right (Contains t.pairs) gone back (each_right (Contains t.pairs) front (p ∷ (gone ++ back)) among).1;
+    next = next;
+    at = ap (λ (z : Pair). same_pair z.at (address_view plan.at)) (sym (same_Some found.pair p (sym found.there ∙ ap₂ (λ (z : List Pair) (i : ℕ). slice_get z i) was (sym number) ∙ get_behind front p (gone ++ back)))) ∙ found.same;
+    to = to;
+    others = subst (λ z. KeepsOutsideBoth p.at z t.disk.blocks new.disk.blocks) (sym to) others;
+  }
+    where
+      among : AllByRecursion (Contains t.pairs) (front ++ p ∷ (gone ++ back))
+      among = subst (AllByRecursion (Contains t.pairs)) was (recursion_from_All (Contains t.pairs) t.pairs (All-contains_itself t.pairs))
+
   pub pair_goes : (next : ℕ) → next ≡ index + 1 → IsWornMoved t next (address_view plan.fresh) new → HasRelocated t plan new root
   pair_goes next follows m = record {
     moved = inr (
       inl m.moved,
-      record {
-        front = m.moved.front;
-        written = pair_joined_to m.moved.to m.moved.before.content.slots m.moved.before;
-        fresh = record m.moved.worn { at = m.moved.to };
-        back = m.moved.back;
-        is = m.moved.is;
-        stay = front_stays t.pairs m.moved.front (m.moved.before ∷ m.moved.worn ∷ m.moved.back) m.moved.was;
-        stay_behind = (rest_stays t.pairs m.moved.front (m.moved.before ∷ m.moved.worn ∷ m.moved.back) m.moved.was).1.1;
-        next = refl;
-        at = is_named t.pairs (address_view plan.at) index m.moved.front m.moved.before (m.moved.worn ∷ m.moved.back) found m.moved.was (let n = m.number in omega (arith, n, follows));
-        to = m.to;
-        others = subst (λ z. KeepsOutsideBoth m.moved.before.at z t.disk.blocks new.disk.blocks) (sym m.to) m.others;
-      },
+      by_plan m.moved.front m.moved.before (m.moved.worn ∷ []) m.moved.back (pair_joined_to m.moved.to m.moved.before.content.slots m.moved.before).content (record m.moved.worn { at = m.moved.to })
+          m.moved.was (let n = m.number in omega (arith, n, follows)) m.moved.is refl m.to m.others,
     );
     files = m.files;
     few = inl (let e = m.as_many in omega (arith, e));
@@ -111,46 +98,21 @@ module _ (t : KeptThread) (root : ℕ) (index : ℕ) (plan : MovePlan) (ready : 
   slots_go room m = record {
     moved = inr (
       inr (inl m.unloaded),
-      record {
-        front = m.unloaded.front ++ m.unloaded.before ∷ [];
-        written = pair_joined_to m.unloaded.to [] m.unloaded.worn;
-        fresh = pair_behind m.unloaded.to m.unloaded.worn;
-        back = m.unloaded.back;
-        is = m.unloaded.is ∙ sym (append_assoc m.unloaded.front (m.unloaded.before ∷ []) (pair_joined_to m.unloaded.to [] m.unloaded.worn ∷ pair_behind m.unloaded.to m.unloaded.worn ∷ m.unloaded.back));
-        stay = front_stays t.pairs (m.unloaded.front ++ m.unloaded.before ∷ []) (m.unloaded.worn ∷ m.unloaded.back) pairs_were;
-        stay_behind = (rest_stays t.pairs (m.unloaded.front ++ m.unloaded.before ∷ []) (m.unloaded.worn ∷ m.unloaded.back) pairs_were).1;
-        next = refl;
-        at = is_named t.pairs (address_view plan.at) index (m.unloaded.front ++ m.unloaded.before ∷ []) m.unloaded.worn m.unloaded.back found pairs_were
-            (let n = m.number in let l = length-append m.unloaded.front (m.unloaded.before ∷ []) in omega (arith, n, l));
-        to = m.to;
-        others = subst (λ z. KeepsOutsideBoth m.unloaded.worn.at z t.disk.blocks new.disk.blocks) (sym m.to) m.others;
-      },
+      by_plan (m.unloaded.front ++ m.unloaded.before ∷ []) m.unloaded.worn [] m.unloaded.back (pair_joined_to m.unloaded.to [] m.unloaded.worn).content (pair_behind m.unloaded.to m.unloaded.worn)
+          (m.unloaded.was ∙ sym (append_assoc m.unloaded.front (m.unloaded.before ∷ []) (m.unloaded.worn ∷ m.unloaded.back))) (let n = m.number in let l = length-append m.unloaded.front (m.unloaded.before ∷ []) in omega (arith, n, l))
+          (m.unloaded.is ∙ sym (append_assoc m.unloaded.front (m.unloaded.before ∷ []) (pair_joined_to m.unloaded.to [] m.unloaded.worn ∷ pair_behind m.unloaded.to m.unloaded.worn ∷ m.unloaded.back))) refl m.to m.others,
     );
     files = m.files;
     few = inr (few_used plan.limit room m.two_more);
     root_is = root_is ∙ sym m.root;
   }
-    where
-      pairs_were : t.pairs ≡ (m.unloaded.front ++ m.unloaded.before ∷ []) ++ m.unloaded.worn ∷ m.unloaded.back
-      pairs_were = m.unloaded.was ∙ sym (append_assoc m.unloaded.front (m.unloaded.before ∷ []) (m.unloaded.worn ∷ m.unloaded.back))
 
   pub root_goes : index ≡ 0 → HasUnloadRoom t plan.limit → IsRootExpanded t (address_view plan.fresh) new → HasRelocated t plan new 1
   root_goes first room m = record {
     moved = inr (
       inr (inr m.unloaded),
-      record {
-        front = [];
-        written = pair_joined_to m.unloaded.to (take 1 m.unloaded.worn.content.slots) m.unloaded.worn;
-        fresh = pair_behind m.unloaded.to m.unloaded.worn;
-        back = m.unloaded.back;
-        is = m.unloaded.is;
-        stay = tt;
-        stay_behind = (rest_stays t.pairs [] (m.unloaded.worn ∷ m.unloaded.back) m.unloaded.was).1;
-        next = refl;
-        at = is_named t.pairs (address_view plan.at) index [] m.unloaded.worn m.unloaded.back found m.unloaded.was (sym first);
-        to = m.to;
-        others = subst (λ z. KeepsOutsideBoth m.unloaded.worn.at z t.disk.blocks new.disk.blocks) (sym m.to) m.others;
-      },
+      by_plan [] m.unloaded.worn [] m.unloaded.back (pair_joined_to m.unloaded.to (take 1 m.unloaded.worn.content.slots) m.unloaded.worn).content (pair_behind m.unloaded.to m.unloaded.worn)
+          m.unloaded.was (sym first) m.unloaded.is refl m.to m.others,
     );
     files = m.files;
     few = inr (few_used plan.limit room m.two_more);

@@ -1,5 +1,5 @@
 -- A pair that is dropped from the thread: the pair before it takes over its tail and its delta of the global state.
-use Rattle.std.specs.Prelude.{ℕ, ◌≡◌, ◌⊎◌, ◌<◌, ◌+◌, ◌-◌, ◌↔◌, ◌&&◌, List, [], ◌∷◌, length, Option, Some, None}
+use Rattle.std.specs.Prelude.{ℕ, ◌≡◌, ◌⊎◌, ◌<◌, ◌+◌, ◌-◌, ◌↔◌, List, [], ◌∷◌, length, Option}
 use Rattle.std.specs.List.{remove}
 use Rattle.lfs_model.specs.format.Blocks.{Blocks}
 use Rattle.lfs_model.specs.layers.BlockSets.{BlockStates, IsInFlight}
@@ -8,18 +8,13 @@ use Rattle.lfs_model.specs.format.Content.{content_at}
 use Rattle.lfs_model.specs.format.Disk.{block_count}
 use Rattle.lfs_model.specs.layers.LoggedContent.{MoveStateFits}
 use Rattle.lfs_model.specs.format.Slots.{PairContent, FitsInPair, Gstate, Tail, gstate_xor}
-use Rattle.lfs_model.specs.format.Thread.{IsThread, pairs_gstate, is_hard_tail}
+use Rattle.lfs_model.specs.layers.StepResults.{tail_past_drop}
+use Rattle.lfs_model.specs.format.Thread.{IsThread, pairs_gstate}
 use Rattle.lfs_model.specs.tree.Tree.{Tree}
 use Rattle.lfs_model.specs.tree.Shown.{disk_tree}
 use Rattle.lfs_thread.specs.Kept.{KeptThread}
 use Rattle.lfs_thread.specs.ThreadSteps.{IsPairWritten, thread_pair, tail_change, pairs_with_content, map_freeing}
 use Rattle.lfs_operations.specs.Ready.{IsReadyUnsettled, KeepsRootNumber}
-
--- The tail that the pair before a dropped one gets. It is hard only where both tails are. Else the pair after the dropped one
--- would continue another directory.
-abbrev pub tail_past_drop : Option Tail → Option Tail → Option Tail
-tail_past_drop front None = None
-tail_past_drop front (Some t) = Some (record { hard = is_hard_tail front && t.hard; to = t.to })
 
 -- the delta that the pair of that number gets, so that the global state is g once the pair after it is dropped
 abbrev pub delta_after_drop : KeptThread → ℕ → Gstate → Gstate

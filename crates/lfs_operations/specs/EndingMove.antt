@@ -5,7 +5,7 @@ use Rattle.lfs_model.specs.format.Disk.{Disk, block_count}
 use Rattle.lfs_model.specs.session.Layout.{IsLayout}
 use Rattle.lfs_model.specs.session.Operations as ops
 use Rattle.lfs_model.specs.session.Session.{Session}
-use Rattle.lfs_model.specs.format.Slots.{Gstate, Slot, is_superblock, zero_gstate, same_pair}
+use Rattle.lfs_model.specs.format.Slots.{Slot, is_superblock, same_pair}
 use Rattle.lfs_model.specs.format.Thread.{Pair, pairs_gstate}
 use Rattle.lfs_model.specs.tree.View.{IsAccepted}
 use Rattle.lfs_model.specs.tree.Shown.{used_blocks}
@@ -17,10 +17,6 @@ use Rattle.lfs_thread.specs.ThreadSteps.{thread_pair}
 use Rattle.lfs_operations.specs.Dropping.{SameInFlight}
 use Rattle.lfs_operations.specs.Ready.{KeepsRootNumber}
 use Rattle.lfs_operations.specs.Deltas.{tail_is_hard}
-
--- the global state without a move
-abbrev pub gstate_without_move : Gstate → Gstate
-gstate_without_move g = record zero_gstate { sync = g.sync }
 
 -- a move is set, and names a slot of the pair at the index
 pub record HasMovedSlot (t : KeptThread) (index : ℕ) : Type 0 where

@@ -1,5 +1,5 @@
 -- An empty directory that is made in another one.
-use Rattle.std.specs.Prelude.{ℕ, ◌≡◌, ◌<◌, ◌≤◌, ◌+◌, ◌⊎◌, ◌++◌, true, false, List, [], ◌∷◌, length, drop, Some, Result, is_err, IfErr, IsErrOf}
+use Rattle.std.specs.Prelude.{ℕ, ◌≡◌, ◌<◌, ◌≤◌, ◌+◌, ◌⊎◌, ◌++◌, true, false, List, [], ◌∷◌, length, Some, Result, is_err, IfErr, IsErrOf}
 use Rattle.std.specs.List.{AllByRecursion}
 use Rattle.lfs_device.specs.declared.error.Error.{Error}
 use Rattle.lfs_device.specs.declared.error.Error.TheVariants.{Io, NoMemory}
@@ -9,13 +9,12 @@ use Rattle.lfs_model.specs.layers.Changes.{ContentChange, Create, PutMove, PutSt
 use Rattle.lfs_model.specs.format.EntryTypes.{directory_name_type, directory_type}
 use Rattle.lfs_model.specs.format.Disk.{charge_limit}
 use Rattle.lfs_model.specs.session.History.{fault_count}
-use Rattle.lfs_model.specs.session.InDirectory.{IsPairAt, BelongsAt, joined_count}
+use Rattle.lfs_model.specs.session.InDirectory.{IsPairAt, BelongsAt}
 use Rattle.lfs_model.specs.format.Names.{Name, is_valid_name}
 use Rattle.lfs_model.specs.session.Operations as ops
 use Rattle.lfs_model.specs.session.Session.{Session}
 use Rattle.lfs_model.specs.format.Slots.{PairContent, FitsInPair, entry_charge}
 use Rattle.lfs_model.specs.session.Refusals.{path_or_root}
-use Rattle.lfs_model.specs.format.Thread.{Pair}
 use Rattle.lfs_model.specs.tree.Tree.{Path, Tree, DirectoryNode}
 use Rattle.lfs_model.specs.tree.Shown.{LeadsTo, disk_tree}
 use Rattle.lfs_model.specs.layers.WrittenContent.{address_bytes}
@@ -25,13 +24,7 @@ use Rattle.lfs_thread.specs.Kept.{KeptThread, ThreadView}
 use Rattle.lfs_thread.specs.ThreadSteps.{CanThreadIn, ThreadReportsKeepingOthers, ChangesThreadBlocks, complete_after, thread_pair}
 use Rattle.lfs_operations.specs.Changing.{IsPairTouched}
 use Rattle.lfs_operations.specs.Ready.{ShowsReadyTree, IsReadyImage}
-
--- ---- the last pair
-
--- hard tails lead from the pair of the first number to that of the second, whose own tail isn't hard
-pub record IsDirectoryEnd (ps : List Pair) (index last : ℕ) : Type 0 where
-  pub below : last < length ps
-  pub is : last + 1 ≡ index + joined_count (drop index ps)
+use Rattle.lfs_model.specs.layers.StepResults.{IsDirectoryEnd}
 
 -- ---- what is required
 

@@ -15,15 +15,8 @@ use Rattle.lfs_model.specs.layers.Steps.{SameSlots, number_occurrences, director
 use Rattle.lfs_thread.specs.Kept.{KeptThread}
 use Rattle.lfs_thread.specs.ThreadSteps.{SameGeometryAs, thread_pair, pairs_with_content, map_freeing}
 use Rattle.lfs_operations.specs.Ready.{IsRawFormed, KeepsRootNumber}
-use Rattle.lfs_operations.specs.EndingMove.{KeepsRecoveryLayouts, gstate_without_move}
-
--- a move that names the slot at an id of a pair, with the sync bit set or not
-abbrev pub gstate_naming : Bool → ℕ × ℕ → ℕ → Gstate
-gstate_naming sync at id = record { sync = sync; kind = set_move_kind; id = id; pair = at }
-
--- a global state without its sync bit, and its sync bit alone
-abbrev pub gstate_without_sync : Gstate → Gstate
-gstate_without_sync g = record g { sync = false }
+use Rattle.lfs_operations.specs.EndingMove.{KeepsRecoveryLayouts}
+use Rattle.lfs_model.specs.layers.StepResults.{gstate_without_move, gstate_without_sync}
 
 -- whether a hard tail names the pair, so that it continues a directory
 abbrev pub continues_directory : List Pair → ℕ → Bool

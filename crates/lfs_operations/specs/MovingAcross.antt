@@ -17,8 +17,9 @@ use Rattle.lfs_thread.specs.ThreadSteps.{thread_pair}
 use Rattle.lfs_operations.specs.Editing.{CanEditIn, editable_slot}
 use Rattle.lfs_operations.specs.Dropping.{ShowsDroppedTree}
 use Rattle.lfs_operations.specs.Ready.{IsRawFormed}
-use Rattle.lfs_operations.specs.RenamingSlots.{nameless_at, slot_changes}
-use Rattle.lfs_operations.specs.MoveEnds.{gstate_naming}
+use Rattle.lfs_operations.specs.RenamingSlots.{nameless_at}
+use Rattle.lfs_model.specs.layers.SlotChanges.{slot_changes}
+use Rattle.lfs_model.specs.layers.StepResults.{gstate_naming}
 
 -- the slot at the id goes first, if one is replaced
 abbrev pub removal_changes : Bool → ℕ → List ContentChange

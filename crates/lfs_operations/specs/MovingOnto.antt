@@ -31,24 +31,8 @@ abbrev pub file_across_changes : KeptThread → (old_pair old_id new_pair new_id
 file_across_changes t old_pair old_id new_pair new_id name = entry_across_changes false t old_pair old_id new_pair new_id name
 
 -- The image may be changed. An entry is at old_id of the old pair, in the directory that begins with the pair of number `first`.
--- A file is at new_id of the new pair, in the directory at a path, and isn't beneath the entry. The entry may be written under
--- the file's name.
-pub record CanReplaceFileAcross (t : KeptThread) (old_pair old_id first new_pair new_id : ℕ) (name : Name) : Type 0 where
-  pub old : CanEditIn t old_pair old_id
-  pub begins_old : old.first ≡ first
-  pub path : Path
-  pub at : ℕ × ℕ
-  pub leads : LeadsTo t.pairs path at
-  pub to_first : ℕ
-  pub begins : IsPairAt t.pairs at to_first
-  pub target : IsPlaceOf t.pairs to_first name new_pair new_id
-  pub file : branch_address target.stands.slot.struct ≡ None
-  pub logged : IsRawFormed t.disk (thread_pair t new_pair).at
-  pub apart : old_pair ≢ new_pair
-  pub not_beneath : without_prefix (old.path ++ old.name ∷ []) (path ++ name ∷ []) ≡ None
-  pub fits : IsWritableEntry t.disk.profile t.disk.block_size t.disk.page (record (editable_slot old) { name = name })
-
--- The premises of a rename onto an entry of another pair: onto a file, or with `sync` also onto a directory.
+-- Another one is at new_id of the new pair, in the directory at a path, and isn't beneath the first: a file, or with `sync` also
+-- a directory. The first entry may be written under the other's name.
 pub record CanReplaceEntryAcross (t : KeptThread) (sync : Bool) (old_pair old_id first new_pair new_id : ℕ) (name : Name) : Type 0 where
   pub old : CanEditIn t old_pair old_id
   pub begins_old : old.first ≡ first
@@ -63,6 +47,9 @@ pub record CanReplaceEntryAcross (t : KeptThread) (sync : Bool) (old_pair old_id
   pub apart : old_pair ≢ new_pair
   pub not_beneath : without_prefix (old.path ++ old.name ∷ []) (path ++ name ∷ []) ≡ None
   pub fits : IsWritableEntry t.disk.profile t.disk.block_size t.disk.page (record (editable_slot old) { name = name })
+
+abbrev pub CanReplaceFileAcross : KeptThread → (old_pair old_id first new_pair new_id : ℕ) → Name → Type 0
+CanReplaceFileAcross t old_pair old_id first new_pair new_id name = CanReplaceEntryAcross t false old_pair old_id first new_pair new_id name
 
 -- the premises of a rename to a name that is new in the other pair, or onto an entry of it
 abbrev pub CanMoveAcross : KeptThread → (replaces sync : Bool) → (old_pair old_id first new_pair new_id : ℕ) → Name → Type 0
@@ -87,23 +74,12 @@ pub record IsFileReplaced (old new : KeptThread) (from : Path) (from_name : Name
   pub completed : (s : Session) (given to_given : List ℕ) → s.tree ≡ disk_tree old.disk old.pairs → path_or_root given ≡ from ++ from_name ∷ [] → path_or_root to_given ≡ to ++ to_name ∷ []
       → CompletesOperation old.disk old.pairs s (ops.Rename given to_given) new.disk new.pairs
 
--- The premises of CanReplaceFileAcross, but a directory is there. The pair of number `gone` is its only one, and has no slots.
+-- The other entry is a directory. The pair of number `gone` is its only one, and has no slots.
 pub record CanReplaceDirectoryAcross (t : KeptThread) (old_pair old_id first new_pair new_id : ℕ) (name : Name) (gone : ℕ) : Type 0 where
-  pub old : CanEditIn t old_pair old_id
-  pub begins_old : old.first ≡ first
-  pub path : Path
-  pub at : ℕ × ℕ
-  pub leads : LeadsTo t.pairs path at
-  pub to_first : ℕ
-  pub begins : IsPairAt t.pairs at to_first
-  pub target : IsPlaceOf t.pairs to_first name new_pair new_id
+  pub onto : CanReplaceEntryAcross t true old_pair old_id first new_pair new_id name
   pub to : ℕ × ℕ
-  pub branch : target.stands.slot.struct ≡ Branch to
+  pub branch : onto.target.stands.slot.struct ≡ Branch to
   pub below : gone < length t.pairs
   pub alike : same_pair (thread_pair t gone).at to ≡ true
   pub empty : (thread_pair t gone).content.slots ≡ []
   pub alone : is_hard_tail (thread_pair t gone).content.tail ≡ false
-  pub logged : IsRawFormed t.disk (thread_pair t new_pair).at
-  pub apart : old_pair ≢ new_pair
-  pub not_beneath : without_prefix (old.path ++ old.name ∷ []) (path ++ name ∷ []) ≡ None
-  pub fits : IsWritableEntry t.disk.profile t.disk.block_size t.disk.page (record (editable_slot old) { name = name })

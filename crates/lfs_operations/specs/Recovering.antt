@@ -1,37 +1,26 @@
 -- How a recovery drops the pairs that no path leads to.
-use Rattle.std.specs.Prelude.{ℕ, suc, ◌≡◌, ◌⊎◌, ◌<◌, ◌≤◌, ◌+◌, if◌then◌else◌, Bool, List, [], ◌∷◌, length, slice_index_or, Option, None, Result, IfErr, IsErrOf, is_err, All}
+use Rattle.std.specs.Prelude.{ℕ, ◌≡◌, ◌⊎◌, ◌<◌, ◌≤◌, ◌+◌, if◌then◌else◌, Bool, List, [], length, slice_index_or, Result, IfErr, IsErrOf, is_err, All}
 use Rattle.std.specs.List.{flat_map}
 use Rattle.lfs_device.specs.declared.error.Error.{Error}
 use Rattle.lfs_device.specs.declared.error.Error.TheVariants.{Io, NoMemory}
 use Rattle.lfs_model.specs.layers.BlockSets.{AreUsed}
 use Rattle.lfs_model.specs.format.Disk.{block_count}
 use Rattle.lfs_model.specs.session.History.{fault_count}
-use Rattle.lfs_model.specs.session.Layout.{directory_address, continued_address}
 use Rattle.lfs_model.specs.session.Operations as ops
 use Rattle.lfs_model.specs.session.Recovery.{AllReached}
 use Rattle.lfs_model.specs.session.Session.{Session}
 use Rattle.lfs_model.specs.format.Slots.{Gstate, Slot, zero_gstate}
-use Rattle.lfs_model.specs.format.Thread.{Pair, pairs_blocks, pairs_from_root, pairs_gstate, count_before_root}
+use Rattle.lfs_model.specs.format.Thread.{Pair, pairs_blocks, pairs_gstate}
 use Rattle.lfs_model.specs.tree.View.{IsAccepted}
-use Rattle.lfs_model.specs.tree.Shown.{IsReachedBySome, all_unmoved_slots, disk_tree, used_blocks}
+use Rattle.lfs_model.specs.tree.Shown.{all_unmoved_slots, disk_tree, used_blocks}
 use Rattle.lfs_model.specs.tree.Profile.{IsWritable}
+use Rattle.lfs_model.specs.layers.StepResults.{AreUnreachedNumbers}
 use Rattle.lfs_model.specs.layers.Steps.{SameSlots, CompletesOperation, number_occurrences, SameFileBlocks, HasNoMove, file_blocks, IsWritableChange}
 use Rattle.lfs_model.specs.session.InDirectory.{all_slots}
 use Rattle.lfs_thread.specs.Kept.{KeptThread, ThreadView}
 use Rattle.lfs_thread.specs.ThreadSteps.{empty_anchor}
 use Rattle.lfs_operations.specs.Dropping.{SameInFlight}
 use Rattle.lfs_operations.specs.Ready.{IsReadyUnsettled, KeepsRootNumber}
-
--- These are the numbers, in rising order, of those pairs of xs to whose directory no path leads. The first of xs has the number
--- n. `from` is where the directory of the pair before it begins, if a hard tail continues it.
-abbrev pub AreUnreachedFrom : (ℕ × ℕ → Type 0) → ℕ → Option (ℕ × ℕ) → List Pair → List ℕ → Type 0
-AreUnreachedFrom R n from [] numbers = numbers ≡ []
-AreUnreachedFrom R n from (x ∷ xs) numbers = (R (directory_address from x) × AreUnreachedFrom R (suc n) (continued_address from x) xs numbers)
-    ⊎ ((rest : List ℕ) × ((numbers ≡ n ∷ rest) × ((R (directory_address from x) → ⊥) × AreUnreachedFrom R (suc n) (continued_address from x) xs rest)))
-
--- the numbers, in the thread, of the pairs of directories that no path leads to
-abbrev pub AreUnreachedNumbers : List Pair → List ℕ → Type 0
-AreUnreachedNumbers ps numbers = AreUnreachedFrom (IsReachedBySome ps) (count_before_root ps) None (pairs_from_root ps) numbers
 
 -- The image is accepted and may be written, and no move is set. The map knows each of its blocks. The numbers are those of the
 -- pairs that no path leads to. A block has at least 1,024 bytes, as in each geometry.

@@ -3,7 +3,7 @@ use Rattle.std.specs.Prelude.{ℕ, ◌≡◌, ◌≢◌, ◌⊎◌, ◌<◌, tru
 use Rattle.lfs_device.specs.declared.error.Error.{Error}
 use Rattle.lfs_device.specs.declared.error.Error.TheVariants.{Io, NoMemory}
 use Rattle.lfs_model.specs.session.TreeEdits.{tree_renaming}
-use Rattle.lfs_model.specs.layers.Changes.{ContentChange, Delete, PutMove}
+use Rattle.lfs_model.specs.layers.Changes.{ContentChange, PutMove}
 use Rattle.lfs_model.specs.format.Content.{content_at}
 use Rattle.lfs_model.specs.format.Disk.{block_count}
 use Rattle.lfs_model.specs.session.History.{fault_count}
@@ -18,13 +18,11 @@ use Rattle.lfs_thread.specs.Kept.{KeptThread, ThreadView}
 use Rattle.lfs_thread.specs.ThreadSteps.{ThreadReportsErrors, IsPairCommitted, OnlyReadsThread, IsPairWritten, thread_pair, pairs_with_content}
 use Rattle.lfs_operations.specs.Dropping.{ShowsDroppedTree}
 use Rattle.lfs_operations.specs.Editing.{CanEditIn, editable_slot}
-use Rattle.lfs_operations.specs.Renaming.{CompletesRename, id_after_removal, tree_renamed}
-use Rattle.lfs_operations.specs.RenamingSlots.{nameless_at, slot_changes}
+use Rattle.lfs_operations.specs.Renaming.{CompletesRename, tree_renamed, renaming_changes}
 
 -- the pair's delta turns the sync bit, both slots are removed, and the entry's is put in at the other's place
 abbrev pub replace_directory_changes : KeptThread → ℕ → ℕ → ℕ → Name → List ContentChange
-replace_directory_changes t pair id place name = PutMove (gstate_xor (thread_pair t pair).content.move sync_bit_delta) ∷ Delete id ∷ Delete (id_after_removal id place)
-    ∷ slot_changes (id_after_removal id place) name (nameless_at t pair id)
+replace_directory_changes t pair id place name = PutMove (gstate_xor (thread_pair t pair).content.move sync_bit_delta) ∷ renaming_changes true t pair id place name
 
 -- The image may be changed. An entry is at the id of the pair, and a directory of another name at a place of the same pair and
 -- directory. The entry may be written under that name.

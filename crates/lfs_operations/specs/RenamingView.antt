@@ -1,6 +1,6 @@
 -- A copied slot of the code as the definitions have it.
 use Rattle.std.specs.Prelude.{ℕ, List, map}
-use Rattle.lfs_operations.specs.RenamingSlots.{NamelessSlot}
+use Rattle.lfs_model.specs.layers.SlotChanges.{NamelessSlot}
 use Rattle.lfs_operations.specs.declared.slot_copies.StructCopy.{StructCopy}
 use Rattle.lfs_operations.specs.declared.slot_copies.AttributeCopy.{AttributeCopy}
 use Rattle.lfs_operations.specs.declared.slot_copies.SlotCopy.{SlotCopy}

@@ -1,5 +1,5 @@
 -- An empty directory that is removed: its entry with the sync bit set, and then its pair, with the sync bit cleared.
-use Rattle.std.specs.Prelude.{ℕ, ◌≡◌, ◌⊎◌, ◌<◌, true, false, List, [], ◌∷◌, ◌++◌, length, nat_lt, ◌-◌, if◌then◌else◌, Result, is_err, IfErr, IsErrOf}
+use Rattle.std.specs.Prelude.{ℕ, ◌≡◌, ◌⊎◌, ◌<◌, true, false, List, [], ◌∷◌, ◌++◌, length, ◌-◌, Result, is_err, IfErr, IsErrOf, nat_lt, if◌then◌else◌}
 use Rattle.lfs_device.specs.declared.error.Error.{Error}
 use Rattle.lfs_device.specs.declared.error.Error.TheVariants.{Io, NoMemory}
 use Rattle.lfs_model.specs.layers.Changes.{ContentChange, Delete, PutMove}
@@ -13,18 +13,35 @@ use Rattle.lfs_model.specs.format.Thread.{is_hard_tail}
 use Rattle.lfs_model.specs.tree.Tree.{Path}
 use Rattle.lfs_model.specs.tree.Shown.{disk_tree}
 use Rattle.lfs_model.specs.layers.Steps.{CompletesOperation, sync_bit_delta}
+use Rattle.lfs_model.specs.layers.StepResults.{number_after_drop}
 use Rattle.lfs_thread.specs.Kept.{KeptThread, ThreadView}
-use Rattle.lfs_thread.specs.ThreadSteps.{thread_pair}
+use Rattle.lfs_thread.specs.ThreadSteps.{thread_pair, IsPairCommitted, LossLeavesPair}
 use Rattle.lfs_operations.specs.Changing.{IsPairTouched}
-use Rattle.lfs_operations.specs.Dropping.{ShowsDroppedTree}
+use Rattle.lfs_operations.specs.Dropping.{ShowsDroppedTree, IsPairDropped, LeftByDrop}
 use Rattle.lfs_operations.specs.Editing.{CanEditIn, editable_slot}
 use Rattle.lfs_operations.specs.Removing.{drops_emptied_pair, tree_without_entry}
+use Rattle.lfs_model.specs.format.Blocks.{Blocks}
 
 -- ---- the entry is removed
 
 -- the entry goes, and the pair's delta turns the sync bit
 abbrev pub unlink_changes : KeptThread → ℕ → ℕ → List ContentChange
 unlink_changes t pair id = Delete id ∷ PutMove (gstate_xor (thread_pair t pair).content.move sync_bit_delta) ∷ []
+
+-- The image may be changed, and an entry is at the id of the pair, in the directory that begins with the pair of number `first`.
+pub record CanUnlink (t : KeptThread) (pair id first : ℕ) : Type 0 where
+  pub can : CanEditIn t pair id
+  pub begins : can.first ≡ first
+
+-- so the pair has these changes, or is dropped with the entry
+pub record IsEntryUnlinked (old : KeptThread) (pair id first : ℕ) (new : KeptThread) : Type 0 where
+  pub stays : drops_emptied_pair old pair first ≡ false → IsPairCommitted old pair (unlink_changes old pair id) new
+  pub goes : drops_emptied_pair old pair first ≡ true → IsPairDropped old (pair - 1) sync_bit_delta new
+
+-- what a stop leaves of it
+pub record LeftByUnlink (old : KeptThread) (pair id first : ℕ) (left : Blocks) : Type 0 where
+  pub stays : drops_emptied_pair old pair first ≡ false → LossLeavesPair old pair (unlink_changes old pair id) left
+  pub goes : drops_emptied_pair old pair first ≡ true → LeftByDrop old (pair - 1) sync_bit_delta left
 
 -- ---- the operation
 
@@ -40,9 +57,9 @@ pub record CanRemoveDirectory (t : KeptThread) (pair id first gone : ℕ) : Type
   pub empty : (thread_pair t gone).content.slots ≡ []
   pub alone : is_hard_tail (thread_pair t gone).content.tail ≡ false
 
--- the number of a pair after another one was dropped
-abbrev pub number_after_drop : ℕ → ℕ → ℕ
-number_after_drop other pair = if nat_lt other pair then pair - 1 else pair
+-- its number once the entry is gone
+abbrev pub number_after_unlink : KeptThread → ℕ → ℕ → ℕ → ℕ
+number_after_unlink t pair first gone = if drops_emptied_pair t pair first then number_after_drop pair gone else gone
 
 -- The tree has no such directory, the other slots are where the layout wants them, and its pair is dropped. So a remove of its
 -- path is completed.

@@ -44,6 +44,7 @@ pub(crate) fn take_these<D: BlockDevice>(thread: &mut Thread<D>, blocks: [u32; 2
 
 // Splits a pair into itself and a fresh pair in two free blocks. `NoSpace` where fewer than two are
 // free.
+#[tactic(auto, using(crate::proofs::Putting::read_at_most))]
 fn split_in_two<D: BlockDevice>(
     alloc: Global,
     thread: &mut Thread<D>,
@@ -65,6 +66,7 @@ fn split_in_two<D: BlockDevice>(
 }
 
 // Commits changes to a pair, or splits the pair where what they make doesn't fit.
+#[tactic(auto, using(crate::proofs::Putting::read_at_most))]
 pub(crate) fn change_or_split<D: BlockDevice>(
     alloc: Global,
     thread: &mut Thread<D>,

@@ -1,15 +1,14 @@
 // Empty directories that are removed.
 
-ghost use Rattle.std.specs.Prelude.{◌≡◌, ◌-◌, true, false, OnOk};
+ghost use Rattle.std.specs.Prelude.{◌≡◌, ◌<◌, ◌-◌, length, false, OnOk};
 ghost use Rattle.lfs_model.specs.crash.PowerLoss.{SurvivesLossSince};
 ghost use Rattle.lfs_model.specs.tree.Shown.{disk_tree};
 ghost use Rattle.lfs_model.specs.layers.Steps.{sync_bit_delta};
 ghost use Rattle.lfs_tag.specs.FieldsView.{move_view};
 ghost use Rattle.lfs_thread.specs.ThreadDevice.{CleanLossLeaves};
-ghost use Rattle.lfs_thread.specs.ThreadSteps.{IsPairCommitted, LossLeavesPair, ChangesThreadBlocks, thread_pair};
-ghost use Rattle.lfs_operations.specs.Editing.{CanEditIn};
-ghost use Rattle.lfs_operations.specs.Removing.{ReportsCommit, drops_emptied_pair, tree_without_entry, removal_written_address};
-ghost use Rattle.lfs_operations.specs.Unlinking.{ArePairsBeforeTouched, CanRemoveDirectory, IsDirectoryRemoved, ReportsCommits, unlink_changes, number_after_drop};
+ghost use Rattle.lfs_thread.specs.ThreadSteps.{ChangesThreadBlocks, thread_pair};
+ghost use Rattle.lfs_operations.specs.Removing.{ReportsCommit, tree_without_entry, removal_written_address};
+ghost use Rattle.lfs_operations.specs.Unlinking.{ArePairsBeforeTouched, CanRemoveDirectory, CanUnlink, IsDirectoryRemoved, IsEntryUnlinked, LeftByUnlink, ReportsCommits, number_after_unlink};
 ghost use Rattle.lfs_model.specs.format.Thread.{address_blocks, addresses_blocks};
 
 use crate::changes::commit_fitting;
@@ -34,82 +33,49 @@ pub(crate) fn delta_turning_sync() -> MoveState
 }
 
 // Removes the entry at the id of a pair, and turns the sync bit with it. Afterwards no directory
-// may lead to a pair of the thread (DESIGN.md of littlefs, "The move problem").
+// may lead to a pair of the thread (DESIGN.md of littlefs, "The move problem"). A pair that has no
+// other slot, and isn't the first of its directory, is dropped.
 fn unlink_directory_entry<D: BlockDevice>(
     alloc: Global,
     thread: &mut Thread<D>,
     pair: usize,
     id: u16,
+    first: usize,
 ) -> Result<(), Error>
     requires works { thread.old.failed ≡ false }
-    requires can { CanEditIn thread.old.kept pair id }
-    ensures is_unlinked { OnOk result (IsPairCommitted thread.old.kept pair (unlink_changes thread.old.kept pair id) thread.new.kept) }
+    requires can { CanUnlink thread.old.kept pair id first }
+    ensures is_unlinked { OnOk result (IsEntryUnlinked thread.old.kept pair id first thread.new.kept) }
     ensures errors { ReportsCommit thread.old thread.new result }
-    ensures device { ChangesThreadBlocks (address_blocks (thread_pair thread.old.kept pair).at) thread.old.kept thread.new.kept }
-    ensures stops { CleanLossLeaves thread.old.kept.history thread.new.kept.history (LossLeavesPair thread.old.kept pair (unlink_changes thread.old.kept pair id)) }
+    ensures device { ChangesThreadBlocks (address_blocks (removal_written_address thread.old.kept pair first)) thread.old.kept thread.new.kept }
+    ensures stops { CleanLossLeaves thread.old.kept.history thread.new.kept.history (LeftByUnlink thread.old.kept pair id first) }
 {
-    let state = gstate_xor_delta(&thread.delta(pair), &delta_turning_sync());
-    let changes = [Change::Delete { id }, Change::Move { state }];
-    // What is left fits, so the commit is never refused.
-    commit_fitting(alloc, thread, pair, &changes)
+    let turn = delta_turning_sync();
+    if drops_with_slot(thread, pair, first) {
+        drop_pair_at(alloc, thread, pair, &turn)
+    } else {
+        let state = gstate_xor_delta(&thread.delta(pair), &turn);
+        let changes = [Change::Delete { id }, Change::Move { state }];
+        // What is left fits, so the commit is never refused.
+        commit_fitting(alloc, thread, pair, &changes)
+    }
 }
 
-// Returns the number of a pair after another one was dropped.
-fn number_after_dropped(other: usize, pair: usize) -> usize
-    ensures { result ≡ number_after_drop other pair }
-{
-    if other < pair { pair - 1 } else { pair }
-}
-
-// Removes an empty directory whose entry's pair stays.
-fn remove_keeping_pair<D: BlockDevice>(
-    alloc: Global,
-    thread: &mut Thread<D>,
+// Returns the number of the pair `gone` once the entry in another pair is unlinked.
+fn number_after_unlinking<D: BlockDevice>(
+    thread: &Thread<D>,
     pair: usize,
-    id: u16,
     first: usize,
     gone: usize,
-) -> Result<(), Error>
-    requires works { thread.old.failed ≡ false }
-    requires can { CanRemoveDirectory thread.old.kept pair id first gone }
-    requires stays { drops_emptied_pair thread.old.kept pair first ≡ false }
-    ensures is_removed { OnOk result ((take : CanRemoveDirectory thread.old.kept pair id first gone) → IsDirectoryRemoved thread.old.kept thread.new.kept take.can.path take.can.name) }
-    ensures alters { OnOk result (ArePairsBeforeTouched thread.old.kept pair first gone thread.new.kept) }
-    ensures errors { ReportsCommits thread.old thread.new result }
-    ensures device { ChangesThreadBlocks (addresses_blocks (removal_written_address thread.old.kept pair first) (thread_pair thread.old.kept (gone - 1)).at) thread.old.kept thread.new.kept }
-    ensures survives { (take : CanRemoveDirectory thread.old.kept pair id first gone) → SurvivesLossSince thread.old.kept.disk thread.old.kept.history thread.new.kept.history
-        (disk_tree thread.old.kept.disk thread.old.kept.pairs) (tree_without_entry thread.old.kept take.can.path take.can.name) }
+) -> usize
+    requires works { thread.now.failed ≡ false }
+    requires below { pair < length thread.now.kept.pairs }
+    ensures { result ≡ number_after_unlink thread.now.kept pair first gone }
 {
-    unlink_directory_entry(alloc, thread, pair, id)?;
-    drop_pair_at(alloc, thread, gone, &MoveState::none())
-}
-
-// Removes an empty directory with its entry's pair, which has no other slot.
-fn remove_with_pair<D: BlockDevice>(
-    alloc: Global,
-    thread: &mut Thread<D>,
-    pair: usize,
-    id: u16,
-    first: usize,
-    gone: usize,
-) -> Result<(), Error>
-    requires works { thread.old.failed ≡ false }
-    requires can { CanRemoveDirectory thread.old.kept pair id first gone }
-    requires goes { drops_emptied_pair thread.old.kept pair first ≡ true }
-    ensures is_removed { OnOk result ((take : CanRemoveDirectory thread.old.kept pair id first gone) → IsDirectoryRemoved thread.old.kept thread.new.kept take.can.path take.can.name) }
-    ensures alters { OnOk result (ArePairsBeforeTouched thread.old.kept pair first gone thread.new.kept) }
-    ensures errors { ReportsCommits thread.old thread.new result }
-    ensures device { ChangesThreadBlocks (addresses_blocks (removal_written_address thread.old.kept pair first) (thread_pair thread.old.kept (gone - 1)).at) thread.old.kept thread.new.kept }
-    ensures survives { (take : CanRemoveDirectory thread.old.kept pair id first gone) → SurvivesLossSince thread.old.kept.disk thread.old.kept.history thread.new.kept.history
-        (disk_tree thread.old.kept.disk thread.old.kept.pairs) (tree_without_entry thread.old.kept take.can.path take.can.name) }
-{
-    drop_pair_at(alloc, thread, pair, &delta_turning_sync())?;
-    drop_pair_at(
-        alloc,
-        thread,
-        number_after_dropped(pair, gone),
-        &MoveState::none(),
-    )
+    if drops_with_slot(thread, pair, first) && pair < gone {
+        gone - 1
+    } else {
+        gone
+    }
 }
 
 /// Removes the empty directory at the id of a pair from its directory, which begins with the pair
@@ -138,9 +104,7 @@ pub fn remove_directory<D: BlockDevice>(
     ensures survives { (take : CanRemoveDirectory thread.old.kept pair id first gone) → SurvivesLossSince thread.old.kept.disk thread.old.kept.history thread.new.kept.history
         (disk_tree thread.old.kept.disk thread.old.kept.pairs) (tree_without_entry thread.old.kept take.can.path take.can.name) }
 {
-    if drops_with_slot(thread, pair, first) {
-        remove_with_pair(alloc, thread, pair, id, first, gone)
-    } else {
-        remove_keeping_pair(alloc, thread, pair, id, first, gone)
-    }
+    let own = number_after_unlinking(thread, pair, first, gone);
+    unlink_directory_entry(alloc, thread, pair, id, first)?;
+    drop_pair_at(alloc, thread, own, &MoveState::none())
 }

@@ -8,7 +8,8 @@ ghost use Rattle.lfs_tag.specs.ContentView.{tail_view};
 ghost use Rattle.lfs_tag.specs.FieldsView.{move_view};
 ghost use Rattle.lfs_thread.specs.ThreadDevice.{CleanLossLeaves};
 ghost use Rattle.lfs_thread.specs.ThreadSteps.{ChangesThreadBlocks, complete_after, thread_pair, tail_change};
-ghost use Rattle.lfs_operations.specs.Dropping.{CanDropAt, IsPairDropped, LeftByDrop, delta_after_drop, tail_past_drop, dropping_changes, content_after_drop};
+ghost use Rattle.lfs_operations.specs.Dropping.{CanDropAt, IsPairDropped, LeftByDrop, delta_after_drop, dropping_changes, content_after_drop};
+ghost use Rattle.lfs_model.specs.layers.StepResults.{tail_past_drop};
 ghost use Rattle.lfs_operations.specs.Removing.{ReportsCommit};
 
 use lfs_device::{BlockDevice, Error};

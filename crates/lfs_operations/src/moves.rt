@@ -4,7 +4,7 @@ ghost use Rattle.std.specs.Prelude.{◌≡◌, ◌<◌, ◌-◌, ◌^◌, ◌∷
 ghost use Rattle.lfs_model.specs.layers.Changes.{PutMove};
 ghost use Rattle.lfs_model.specs.format.Slots.{gstate_xor};
 ghost use Rattle.lfs_operations.specs.RenamingView.{slot_copy_view};
-ghost use Rattle.lfs_operations.specs.RenamingSlots.{slot_changes};
+ghost use Rattle.lfs_model.specs.layers.SlotChanges.{slot_changes};
 ghost use Rattle.lfs_model.specs.layers.LoggedContent.{AreWords};
 ghost use Rattle.lfs_model.specs.crash.PowerLoss.{SurvivesLossSince};
 ghost use Rattle.lfs_model.specs.format.Thread.{pairs_gstate, address_blocks, addresses_blocks};
@@ -14,12 +14,12 @@ ghost use Rattle.lfs_thread.specs.ThreadSteps.{ChangesThreadBlocks, thread_pair}
 ghost use Rattle.lfs_pair.specs.ChangeView.{changes_view};
 ghost use Rattle.lfs_operations.specs.Altering.{WritesTouchedFree};
 ghost use Rattle.lfs_operations.specs.Changing.{WritesThreadTwo};
-ghost use Rattle.lfs_operations.specs.MoveEnds.{CanEndMoveAt, HasEndedMoveAt, ending_written_pair, gstate_naming, delta_without_move};
+ghost use Rattle.lfs_operations.specs.MoveEnds.{CanEndMoveAt, HasEndedMoveAt, ending_written_pair, delta_without_move};
+ghost use Rattle.lfs_model.specs.layers.StepResults.{gstate_naming, gstate_without_move};
 ghost use Rattle.lfs_operations.specs.MovingSteps.{CanPutAndEnd, ArePutAndEnded, SurvivesCommits, ReportsTakingCommits, WritesPairsTwo, second_step_pair, number_after_insertion};
 ghost use Rattle.lfs_operations.specs.MovingAcross.{CanRenameAcross, IsRenamedAcross, across_changes, removal_changes, moving_changes, tree_moved};
 ghost use Rattle.lfs_operations.specs.MovingOnto.{CanMoveAcross, CanReplaceFileAcross, CanReplaceDirectoryAcross, IsMovedAcross, IsFileReplaced, entry_across_changes, file_across_changes, tree_across};
 ghost use Rattle.lfs_operations.specs.Removing.{ReportsCommit};
-ghost use Rattle.lfs_operations.specs.EndingMove.{gstate_without_move};
 
 use crate::changes::{change_or_split, commit_fitting};
 use crate::drops::drop_pair_at;
@@ -186,7 +186,7 @@ fn move_setting_delta<D: BlockDevice>(thread: &Thread<D>, route: Route, sync: bo
 }
 
 // Adds the change that removes the slot at an id, if that slot is replaced.
-fn push_slot_removal<'a>(
+pub(crate) fn push_slot_removal<'a>(
     changes: &mut Vec<Change<'a>>,
     replaces: bool,
     id: u16,
@@ -320,12 +320,12 @@ pub fn replace_directory_across<D: BlockDevice>(
     requires works { thread.old.failed ≡ false }
     requires can { CanReplaceDirectoryAcross thread.old.kept route.old_pair route.old_id route.first route.new_pair route.new_id name.now gone }
     ensures renamed { OnOk result ((rename : CanReplaceDirectoryAcross thread.old.kept route.old_pair route.old_id route.first route.new_pair route.new_id name.now gone)
-        → IsRenamedAcross thread.old.kept thread.new.kept rename.old.path rename.old.name rename.path name.now) }
+        → IsRenamedAcross thread.old.kept thread.new.kept rename.onto.old.path rename.onto.old.name rename.onto.path name.now) }
     ensures alters { OnOk result (WritesTouchedFree thread.old.kept (addresses_blocks (thread_pair thread.old.kept route.old_pair).at (thread_pair thread.old.kept route.new_pair).at) thread.new.kept) }
     ensures errors { ReportsTakingCommits thread.old thread.new route.new_pair (entry_across_changes true thread.old.kept route.old_pair route.old_id route.new_pair route.new_id name.now) result }
     ensures device { WritesThreadTwo thread.old.kept thread.new.kept }
     ensures survives { (rename : CanReplaceDirectoryAcross thread.old.kept route.old_pair route.old_id route.first route.new_pair route.new_id name.now gone) → SurvivesLossSince thread.old.kept.disk thread.old.kept.history thread.new.kept.history
-        (disk_tree thread.old.kept.disk thread.old.kept.pairs) (tree_moved thread.old.kept rename.old.path rename.old.name rename.path name.now) }
+        (disk_tree thread.old.kept.disk thread.old.kept.pairs) (tree_moved thread.old.kept rename.onto.old.path rename.onto.old.name rename.onto.path name.now) }
 {
     let at = thread.blocks_of_pair(gone);
     move_across(alloc, thread, route, name, true, true)?;

@@ -11,7 +11,8 @@ ghost use Rattle.lfs_tag.specs.FieldsView.{move_view};
 ghost use Rattle.lfs_thread.specs.ThreadDevice.{CleanLossLeaves};
 ghost use Rattle.lfs_thread.specs.ThreadSteps.{IsThreadedIn, LossLeavesThreaded, ChangesThreadBlocks, thread_pair};
 ghost use Rattle.lfs_operations.specs.Changing.{CanPut, LeftByPut, ArePut, ReportsPut, WritesPairTwo};
-ghost use Rattle.lfs_operations.specs.Making.{AreBothTouched, CanLinkPairAfter, CanMakeAt, IsDirectoryEnd, IsDirectoryMade, ReportsPairLink, ReportsMaking, WritesPairsFour, entry_changes, directory_entry_changes, threading_changes, tree_with_directory};
+ghost use Rattle.lfs_operations.specs.Making.{AreBothTouched, CanLinkPairAfter, CanMakeAt, IsDirectoryMade, ReportsPairLink, ReportsMaking, WritesPairsFour, entry_changes, directory_entry_changes, threading_changes, tree_with_directory};
+ghost use Rattle.lfs_model.specs.layers.StepResults.{IsDirectoryEnd};
 ghost use Rattle.lfs_model.specs.format.Thread.{address_blocks, addresses_blocks};
 
 use crate::changes::{change_or_split, take_two_blocks};

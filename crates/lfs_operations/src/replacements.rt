@@ -11,7 +11,7 @@ ghost use Rattle.lfs_operations.specs.Altering.{WritesTouchedFree};
 ghost use Rattle.lfs_operations.specs.Renaming.{id_after_removal, tree_renamed};
 ghost use Rattle.lfs_operations.specs.RenamingOver.{CanRenameOver, CanReplaceDirectory, IsRenamedOver, IsDirectoryReplaced, ReportsReadCommit, ReportsReadCommits};
 ghost use Rattle.lfs_operations.specs.RenamingView.{slot_copy_view};
-ghost use Rattle.lfs_operations.specs.RenamingSlots.{slot_changes};
+ghost use Rattle.lfs_model.specs.layers.SlotChanges.{slot_changes};
 ghost use Rattle.lfs_model.specs.format.Thread.{address_blocks, addresses_blocks};
 
 use crate::changes::commit_fitting;
@@ -77,10 +77,18 @@ pub(crate) fn rename_over_directory<D: BlockDevice>(
     commit_fitting(alloc, thread, pair, &changes)
 }
 
+/// An empty directory among the slots of a pair.
+#[derive(Clone, Copy)]
+pub struct EmptyDirectory {
+    /// The id of its entry.
+    pub id: u16,
+    /// The number of its own pair in the thread.
+    pub own_pair: usize,
+}
+
 /// Renames the entry at the id of a pair onto an empty directory of the same pair and directory.
-/// The entry gets the directory's name, and keeps its own struct and attributes. `place` is the
-/// directory's id, and its own pair has number `gone` in the thread. The first commit sets the sync
-/// bit. The second drops the directory's own pair, to which no path leads any more, and clears the
+/// The entry gets the directory's name, and keeps its own struct and attributes. The first commit
+/// sets the sync bit. The second drops the directory's own pair, to which no path leads any more, and clears the
 /// bit (DESIGN.md of littlefs, "The move problem").
 ///
 /// Errors: `Io` where a call of the device failed, and `NoMemory` where memory for a pair's slots,
@@ -92,20 +100,19 @@ pub fn rename_onto_directory<D: BlockDevice>(
     thread: &mut Thread<D>,
     pair: usize,
     id: u16,
-    place: u16,
+    to: EmptyDirectory,
     name: &[u8],
-    gone: usize,
 ) -> Result<(), Error>
     requires works { thread.old.failed ≡ false }
-    requires can { CanRenameOver thread.old.kept pair id place name.now gone }
-    ensures renamed { OnOk result ((rename : CanRenameOver thread.old.kept pair id place name.now gone)
+    requires can { CanRenameOver thread.old.kept pair id to.id name.now to.own_pair }
+    ensures renamed { OnOk result ((rename : CanRenameOver thread.old.kept pair id to.id name.now to.own_pair)
         → IsRenamedOver thread.old.kept thread.new.kept rename.over.can.path rename.over.can.name name.now) }
     ensures alters { OnOk result (WritesTouchedFree thread.old.kept (address_blocks (thread_pair thread.old.kept pair).at) thread.new.kept) }
     ensures errors { ReportsReadCommits thread.old thread.new result }
-    ensures device { ChangesThreadBlocks (addresses_blocks (thread_pair thread.old.kept pair).at (thread_pair thread.old.kept (gone - 1)).at) thread.old.kept thread.new.kept }
-    ensures survives { (rename : CanRenameOver thread.old.kept pair id place name.now gone) → SurvivesLossSince thread.old.kept.disk thread.old.kept.history thread.new.kept.history
+    ensures device { ChangesThreadBlocks (addresses_blocks (thread_pair thread.old.kept pair).at (thread_pair thread.old.kept (to.own_pair - 1)).at) thread.old.kept thread.new.kept }
+    ensures survives { (rename : CanRenameOver thread.old.kept pair id to.id name.now to.own_pair) → SurvivesLossSince thread.old.kept.disk thread.old.kept.history thread.new.kept.history
         (disk_tree thread.old.kept.disk thread.old.kept.pairs) (tree_renamed thread.old.kept rename.over.can.path rename.over.can.name name.now) }
 {
-    rename_over_directory(alloc, thread, pair, id, place, name)?;
-    drop_pair_at(alloc, thread, gone, &MoveState::none())
+    rename_over_directory(alloc, thread, pair, id, to.id, name)?;
+    drop_pair_at(alloc, thread, to.own_pair, &MoveState::none())
 }

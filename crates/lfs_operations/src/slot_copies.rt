@@ -8,7 +8,8 @@ ghost use Rattle.lfs_pair.specs.ChangeView.{changes_view};
 ghost use Rattle.lfs_tag.specs.ContentView.{attribute_view, part_view, slot_view};
 ghost use Rattle.lfs_thread.specs.CachedLog.{IsContentLog};
 ghost use Rattle.lfs_thread.specs.ThreadSteps.{ThreadReportsErrors, OnlyReadsThread};
-ghost use Rattle.lfs_operations.specs.RenamingSlots.{HasSlot, attribute_changes, nameless_at, nameless_of, slot_changes};
+ghost use Rattle.lfs_operations.specs.RenamingSlots.{HasSlot, nameless_at};
+ghost use Rattle.lfs_model.specs.layers.SlotChanges.{attribute_changes, nameless_of, slot_changes};
 ghost use Rattle.lfs_operations.specs.RenamingView.{attribute_copy_view, slot_copy_view, struct_copy_view};
 
 use lfs_device::{BlockDevice, Error};

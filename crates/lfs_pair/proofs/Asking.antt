@@ -1,19 +1,16 @@
 -- A question about blank bytes changes nothing.
-use Rattle.std.proofs.Common.{ℕ, ◌≡◌, ◌≤◌, ◌+◌, List, [], ◌∷◌, true, inl, inr, refl, sym, ap, ◌∙◌, subst, arith}
+use Rattle.std.proofs.Common.{ℕ, ◌≡◌, ◌≤◌, ◌+◌, List, true, inl, inr, refl, sym, ap, subst, arith}
 use Rattle.lfs_device.specs.declared.device.BlockDevice.{Ghosts}
-use Rattle.lfs_pair.proofs.Common.{ChangesTheseBlocks, Blocks, SameExceptBlocks, block_bytes, CallEvent, StayUnprogrammed, HoldsAtLosses, blank_count, erase_count, program_count, read_count, LeftByLoss, began, goes_on, goes_on_by, SameExcept-refl, SameExceptBlocks-refl, ContentChange, RawContent, Disk, address_blocks, AppendFits, IsEndUnprogrammed, LossLeavesNew, OnlyAsksBlank, ChangesReadingFew, DiffersInBlock}
+use Rattle.lfs_pair.proofs.Common.{ChangesTheseBlocks, Blocks, SameExceptBlocks, block_bytes, CallEvent, StayUnprogrammed, HoldsAtLosses, blank_count, erase_count, program_count, read_count, LeftByLoss, began, goes_on, goes_on_by, SameExcept-refl, SameExceptBlocks-refl, ContentChange, RawContent, Disk, address_blocks, AppendFits, IsEndUnprogrammed, LossLeavesNew, OnlyAsksBlank, DiffersInBlock}
 use Rattle.lfs_model.specs.session.History.{LossLeavesAtWorst}
 use Rattle.lfs_model.proofs.Histories.{StayUnprogrammed-blank, StayUnprogrammed-refl}
-use Rattle.lfs_device.specs.declared.geometry.Geometry.{Geometry}
 use Rattle.lfs_pair.specs.declared.pair.Pair.{Pair}
-use Rattle.lfs_pair.specs.Commits.{RefusesAppend}
-use Rattle.lfs_pair.specs.Writing.{SaysBlank}
 
--- what can be appended by a history with no word more, can be by the one before
-pub appends_until : {disk : Disk} {before mid after : List CallEvent} {pair : Pair} {changes : List ContentChange} → mid ≡ before → blank_count after ≡ blank_count before → AppendFits disk before after pair changes → AppendFits disk before mid pair changes
-appends_until {before = before} {mid = mid} {after = after} {pair = pair} same words can = record { known = known can.known; room = can.room }
+-- what can be appended where no word came can be by any history
+pub appends_until : {disk : Disk} {before after some more : List CallEvent} {pair : Pair} {changes : List ContentChange} → blank_count after ≡ blank_count before → AppendFits disk before after pair changes → AppendFits disk some more pair changes
+appends_until {before = before} {after = after} {some = some} {more = more} {pair = pair} words can = record { known = known can.known; room = can.room }
   where
-    known : IsEndUnprogrammed before after pair → IsEndUnprogrammed before mid pair
+    known : IsEndUnprogrammed before after pair → IsEndUnprogrammed some more pair
     known (inl written) = inl written
     known (inr blank) = absurd (omega (arith, words, blank))
 
@@ -90,16 +87,3 @@ module _ {D : Type 0} (g : Ghosts D) where
 
   pub asks_then_few : {old mid : D} (n m : ℕ) → OnlyAsksBlank g old mid → n ≤ read_count (g.history mid) + m → n ≤ read_count (g.history old) + m
   asks_then_few n m asks few = let same = asks_reads asks in omega (arith, same, few)
-
-  -- where nothing was appended the disk and its calls are as before
-
-  pub kept_disk : {changes : List ContentChange} {old new : D} {was now : Pair} (P : Geometry → Blocks → List CallEvent → Type 0) → RefusesAppend g changes old new was now
-      → P (g.geometry new) (g.blocks new) (g.history new) → P (g.geometry old) (g.blocks old) (g.history old)
-  kept_disk {old = old} {new = new} P kept is =
-      subst (λ k. P k (g.blocks old) (g.history old)) kept.geometry
-      (subst (λ b. P (g.geometry new) b (g.history old)) kept.blocks (subst (P (g.geometry new) (g.blocks new)) kept.history is))
-
-  pub kept_unread : {changes : List ContentChange} {old new : D} {was now : Pair} (bs : List ℕ) → RefusesAppend g changes old new was now → ChangesReadingFew g 0 bs old new
-  kept_unread {old = old} {new = new} bs kept =
-      let asks : OnlyAsksBlank g old new = record { same = kept.blocks; geometry = kept.geometry; asked = inl kept.history } in
-      record { only = asks_only bs asks; few = let same = asks_reads asks in omega (arith, same) }

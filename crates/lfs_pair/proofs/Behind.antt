@@ -1,76 +1,161 @@
 -- A commit or a split behind reads.
-use Rattle.std.proofs.Common.{ℕ, ◌≡◌, ◌+◌, inl, inr, refl, sym, ap, ap₂, ◌∙◌, subst, List, Some, arith}
+use Rattle.std.proofs.Common.{ℕ, ◌≡◌, ◌+◌, inl, inr, refl, sym, ap, ap₂, ◌∙◌, subst, List, Some, arith, ◌≤◌, Option, None, Ok, Bor}
 use Rattle.lfs_device.specs.declared.device.BlockDevice.{Ghosts}
-use Rattle.lfs_device.specs.declared.error.Error.{Error}
 use Rattle.lfs_device.specs.declared.geometry.Geometry.{Geometry}
-use Rattle.lfs_pair.proofs.Common.{ReadsOnly, disk_of_blocks, Blocks, Disk, RawContentFits, CallEvent, AllCallsSince, OnlyReadsSince, ContentChange, AllCallsSince-behind, blank_count-read_count, erase_count-read_count, program_count-read_count, header_address, AppendFits, CommitFails, IsEndUnprogrammed, changed_pair_content, ErasedOneMore, IsWellFormed, RawContent}
-use Rattle.lfs_model.specs.format.Slots.{FitsInPair}
+use Rattle.lfs_pair.proofs.Common.{ReadsOnly, disk_of_blocks, Blocks, Disk, RawContentFits, CallEvent, AllCallsSince, OnlyReadsSince, ContentChange, AllCallsSince-behind, blank_count-read_count, erase_count-read_count, program_count-read_count, header_address, AppendFits, IsEndUnprogrammed, changed_pair_content, ErasedOneMore, IsWellFormed, RawContent, ChangesTheseBlocks, ChangesReadingFew, block_bytes, HoldsAtLosses, HoldsAtLosses-read_count, HoldsAtLosses-weaker, LeftByLoss, LeftByLoss-read, ErasesCleanly, goes_on_by, fault_count, read_count, AreNamed, LossLeavesChanged, LossLeavesNew, changed_log_content}
 use Rattle.lfs_pair.specs.declared.pair.Pair.{Pair}
-use Rattle.lfs_pair.specs.Commits.{CommitsChanges, RefusesCommit}
-use Rattle.lfs_pair.specs.Split.{SplitsPair}
-use Rattle.lfs_pair.proofs.Calls.{reads_none, reads_trans}
-use Rattle.lfs_pair.proofs.Changed.{some_same}
+use Rattle.lfs_pair.specs.Commits.{CommitsChanges, RefusesCommit, AppendsChanges, CanCommit, CompactsContent, RefusesAppend}
+use Rattle.lfs_pair.proofs.Calls.{only_by_reads, only_trans}
+use Rattle.lfs_pair.proofs.Changed.{some_same, content_made_here, left_alone, left_by_change, made_here}
 use Rattle.lfs_model.proofs.Completed.{fits_raw}
 use Rattle.lfs_model.specs.format.Content.{complete_content}
+use Rattle.std.specs.Prelude.{option_copied, unwrap_or}
+use Rattle.lfs_device.specs.DeviceCalls.{ReadsOrNoMemory}
+use Rattle.lfs_pair.proofs.Asking.{appends_until}
 
--- what can be appended can be appended behind reads, and the other way round
+-- ---- reads
 
-known_behind : {blocks : Blocks} {before mid : List CallEvent} (after : List CallEvent) (pair : Pair) → OnlyReadsSince blocks before mid → IsEndUnprogrammed before after pair → IsEndUnprogrammed mid after pair
-known_behind after pair reads (inl written) = inl written
-known_behind after pair reads (inr blank) = let same = blank_count-read_count reads in inr (omega (arith, same, blank))
+-- a device that was only read, at most so often and without a fault
+pub record IsRead {D : Type 0} (g : Ghosts D) (most : ℕ) (old mid : D) : Type 0 where
+  pub device : ReadsOnly g old mid
+  pub few : read_count (g.history mid) ≤ read_count (g.history old) + most
+  pub faultless : fault_count (g.history mid) ≡ fault_count (g.history old)
 
-known_ahead : {blocks : Blocks} {before mid : List CallEvent} (after : List CallEvent) (pair : Pair) → OnlyReadsSince blocks before mid → IsEndUnprogrammed mid after pair → IsEndUnprogrammed before after pair
-known_ahead after pair reads (inl written) = inl written
-known_ahead after pair reads (inr blank) = let same = blank_count-read_count reads in inr (omega (arith, same, blank))
+pub is_read : {D X : Type 0} {g : Ghosts D} {most : ℕ} {old mid : D} {x : X} → ReadsOrNoMemory {X = X} g old mid (Ok x) → read_count (g.history mid) ≤ read_count (g.history old) + most → IsRead g most old mid
+is_read ends few = record { device = ends.device; few = few; faultless = ends.reports.faults.no_fault (λ gives. absurd (cc)) }
 
-appends_behind : {disk : Disk} {blocks : Blocks} {before mid after : List CallEvent} {pair : Pair} {changes : List ContentChange} → OnlyReadsSince blocks before mid → AppendFits disk before after pair changes → AppendFits disk mid after pair changes
-appends_behind {after = after} {pair = pair} reads can = record { known = known_behind after pair reads can.known; room = can.room }
-
-appends_ahead : {disk : Disk} {blocks : Blocks} {before mid after : List CallEvent} {pair : Pair} {changes : List ContentChange} → OnlyReadsSince blocks before mid → AppendFits disk mid after pair changes → AppendFits disk before after pair changes
-appends_ahead {after = after} {pair = pair} reads can = record { known = known_ahead after pair reads can.known; room = can.room }
-
--- a commit, where its disk is known by another name
-pub commits_behind : {disk old new : Disk} {blocks : Blocks} {before mid history : List CallEvent} {changes : List ContentChange} {was pair : Pair} → disk ≡ old → OnlyReadsSince blocks before mid
-    → CommitsChanges disk mid changes was new history pair → CommitsChanges old before changes was new history pair
-commits_behind {disk = disk} {new = new} {before = before} {mid = mid} {history = history} {changes = changes} {was = was} {pair = pair} same reads c =
-    subst (λ d. CommitsChanges d before changes was new history pair) same (record {
-      new = c.new;
-      made = c.made;
-      fits = c.fits;
-      logged = c.logged;
-      holds = c.holds;
-      first = c.first;
-      appended = λ appends. let is = c.appended (appends_behind reads appends) in record {
-        active = is.active;
-        log = is.log;
-        others = is.others;
-        erases = is.erases ∙ erase_count-read_count reads;
-        programs = is.programs ∙ ap (λ n. n + 1) (program_count-read_count reads);
-        kept = is.kept;
-      };
-      compacted = λ full. let is = c.compacted (λ appends. full (appends_ahead reads appends)) in record {
-        active = is.active;
-        anew = record {
-          holds = is.anew.holds;
-          erases = is.anew.erases ∙ ap (λ n. n + 1) (erase_count-read_count reads);
-          programs = is.anew.programs ∙ ap (λ n. n + 1) (program_count-read_count reads);
-          blanks = is.anew.blanks ∙ blank_count-read_count reads;
-        };
-        end = is.end;
-        kept = is.kept;
-      };
-    })
-
-pub full_behind : {D : Type 0} {g : Ghosts D} {changes : List ContentChange} {old mid new : D} {was now : Pair} → ReadsOnly g old mid → RefusesCommit g changes mid new was now → RefusesCommit g changes old new was now
-full_behind {g = g} {changes = changes} {was = was} reads is = record {
-  full = λ c made fits. is.full c (ap₂ (λ k b. changed_pair_content (disk_of_blocks k b) (header_address was) changes) reads.geometry reads.same ∙ made) (subst (λ (k : Geometry). RawContentFits k.block_size k.page c) (sym reads.geometry) fits);
-  completed = λ c d made whole fits. is.completed c d (ap₂ (λ k b. changed_pair_content (disk_of_blocks k b) (header_address was) changes) reads.geometry reads.same ∙ made) whole (subst (λ (k : Geometry). FitsInPair k.block_size k.page d) (sym reads.geometry) fits);
-  pair = is.pair;
-  device = reads_trans reads is.device;
+-- the same where nothing was appended then
+pub is_read_on : {D : Type 0} {g : Ghosts D} {most : ℕ} {changes : List ContentChange} {old mid new : D} {was now : Pair} → IsRead g most old mid → RefusesAppend g changes mid new was now → IsRead g most old new
+is_read_on {g = g} {old = old} r refused = record {
+  device = record {
+    same = refused.blocks ∙ r.device.same;
+    geometry = refused.geometry ∙ r.device.geometry;
+    reads = subst (OnlyReadsSince (g.blocks old) (g.history old)) (sym refused.history) r.device.reads;
+  };
+  few = let same = ap read_count refused.history in let few = r.few in omega (arith, same, few);
+  faultless = ap fault_count refused.history ∙ r.faultless;
 }
 
-pub fails_behind : {D : Type 0} {g : Ghosts D} {old mid new : D} {was now : Pair} {e : Error} → ReadsOnly g old mid → CommitFails g mid new was now e → CommitFails g old new was now e
-fails_behind reads is = record { errors = is.errors; pair = is.pair; no_memory = λ lacks. reads_trans reads (is.no_memory lacks) }
+pub same_disk : {D : Type 0} {g : Ghosts D} {old mid : D} → ReadsOnly g old mid → disk_of_blocks (g.geometry mid) (g.blocks mid) ≡ disk_of_blocks (g.geometry old) (g.blocks old)
+same_disk reads = ap₂ disk_of_blocks reads.geometry reads.same
+
+pub only_behind : {D : Type 0} {g : Ghosts D} {most : ℕ} {bs : List ℕ} {old mid new : D} → IsRead g most old mid → ChangesTheseBlocks g bs mid new → ChangesTheseBlocks g bs old new
+only_behind r only = only_trans (only_by_reads r.device) only
+
+pub reading_behind : {D : Type 0} {g : Ghosts D} {n : ℕ} (m : ℕ) {bs : List ℕ} {old mid new : D} → IsRead g n old mid → ChangesTheseBlocks g bs mid new → read_count (g.history new) ≤ read_count (g.history mid) + m → ChangesReadingFew g (m + n) bs old new
+reading_behind m r only more = record { only = only_behind r only; few = let few = r.few in omega (arith, few, more) }
+
+-- ---- the content that is to be written
+
+-- bytes that are given, or else read
+pub given_here : (given : Option (Bor (List ℕ))) (read : Bor (List ℕ)) {block : Bor (List ℕ)} {items bytes : List ℕ} → unwrap_or (option_copied given) items ≡ bytes → read.now ≡ items → block ≡ unwrap_or given read → block.now ≡ bytes
+given_here None read here is which = ap (λ (b : Bor (List ℕ)). b.now) which ∙ is ∙ here
+given_here (Some b) read here is which = ap (λ (b : Bor (List ℕ)). b.now) which ∙ here
+
+-- what changes make of a pair, which can be written
+pub record IsToWrite (disk : Disk) (at : ℕ × ℕ) (changes : List ContentChange) (c : RawContent) : Type 0 where
+  pub made : changed_pair_content disk at changes ≡ Some c
+  pub logged : IsWellFormed c
+  pub fits : RawContentFits disk.block_size disk.page c
+  pub names : AreNamed c.slots
+
+pub is_to_write : {geometry here : Geometry} {blocks : Blocks} {history : List CallEvent} {pair : Pair} {block : List ℕ} {changes : List ContentChange} {c : RawContent} → CanCommit (disk_of_blocks geometry blocks) history pair changes
+    → block ≡ block_bytes blocks pair.active → changed_log_content block changes ≡ Some c → IsWellFormed c → here ≡ geometry → RawContentFits here.block_size here.page c → IsToWrite (disk_of_blocks geometry blocks) (header_address pair) changes c
+is_to_write {geometry} {here} {blocks} {history} {pair} {block} {changes} {c} can is log logged same fits =
+    let disk = disk_of_blocks geometry blocks in
+    record {
+      made = made_here disk history pair can.held block changes (Some c) can.is_pair is log;
+      logged = logged;
+      fits = subst (λ (k : Geometry). RawContentFits k.block_size k.page c) same fits;
+      names = subst (λ (new : RawContent). AreNamed new.slots) (content_made_here disk history pair can.held can.new block changes c can.is_pair is can.changed log) can.names;
+    }
+
+-- ---- a commit
+
+-- what could be appended could be by the history before the reads
+appends_ahead : {disk : Disk} {blocks : Blocks} {before mid after : List CallEvent} {pair : Pair} {changes : List ContentChange} → OnlyReadsSince blocks before mid → AppendFits disk mid after pair changes → AppendFits disk before after pair changes
+appends_ahead {before = before} {mid = mid} {after = after} {pair = pair} reads can = record { known = known can.known; room = can.room }
+  where
+    known : IsEndUnprogrammed mid after pair → IsEndUnprogrammed before after pair
+    known (inl written) = inl written
+    known (inr blank) = let same = blank_count-read_count reads in inr (omega (arith, same, blank))
+
+pub commits_appended : {D : Type 0} {g : Ghosts D} {most : ℕ} {changes : List ContentChange} {c : RawContent} {old mid new : D} {was pair : Pair} → IsRead g most old mid → IsToWrite (disk_of_blocks (g.geometry old) (g.blocks old)) (header_address was) changes c
+    → AppendsChanges (disk_of_blocks (g.geometry mid) (g.blocks mid)) (g.history mid) was changes c (disk_of_blocks (g.geometry new) (g.blocks new)) (g.history new) pair
+    → CommitsChanges (disk_of_blocks (g.geometry old) (g.blocks old)) (g.history old) changes was (disk_of_blocks (g.geometry new) (g.blocks new)) (g.history new) pair
+commits_appended {g = g} {changes = changes} {c = c} {mid = mid} {new = new} {was = was} {pair = pair} r to now =
+    let reads = r.device.reads in
+    let is = subst (λ d. AppendsChanges d (g.history mid) was changes c (disk_of_blocks (g.geometry new) (g.blocks new)) (g.history new) pair) (same_disk r.device) now in
+    record {
+      new = c;
+      made = to.made;
+      fits = to.fits;
+      logged = to.logged;
+      holds = is.holds;
+      first = is.first;
+      appended = λ appends. record {
+        active = is.appended.active;
+        log = is.appended.log;
+        others = is.appended.others;
+        erases = is.appended.erases ∙ erase_count-read_count reads;
+        programs = is.appended.programs ∙ ap (λ n. n + 1) (program_count-read_count reads);
+        kept = is.appended.kept;
+      };
+      compacted = λ full. absurd (full (appends_ahead reads is.appends));
+    }
+
+pub commits_compacted : {D : Type 0} {g : Ghosts D} {most : ℕ} {changes : List ContentChange} {c : RawContent} {old mid kept new : D} {was same pair : Pair} → IsRead g most old mid → IsToWrite (disk_of_blocks (g.geometry old) (g.blocks old)) (header_address was) changes c
+    → RefusesAppend g changes mid kept was same
+    → CompactsContent (disk_of_blocks (g.geometry kept) (g.blocks kept)) (g.history kept) same c (disk_of_blocks (g.geometry new) (g.blocks new)) (g.history new) pair
+    → CommitsChanges (disk_of_blocks (g.geometry old) (g.blocks old)) (g.history old) changes was (disk_of_blocks (g.geometry new) (g.blocks new)) (g.history new) pair
+commits_compacted {g = g} {changes = changes} {c = c} {mid = mid} {kept = kept} {new = new} {was = was} {pair = pair} r to refused now =
+    let reads = (is_read_on r refused).device in
+    let moved = subst (λ p. CompactsContent (disk_of_blocks (g.geometry kept) (g.blocks kept)) (g.history kept) p c (disk_of_blocks (g.geometry new) (g.blocks new)) (g.history new) pair) refused.pair now in
+    let is = subst (λ d. CompactsContent d (g.history kept) was c (disk_of_blocks (g.geometry new) (g.blocks new)) (g.history new) pair) (same_disk reads) moved in
+    let blanks = is.compacted.anew.blanks ∙ blank_count-read_count reads.reads in
+    record {
+      new = c;
+      made = to.made;
+      fits = to.fits;
+      logged = to.logged;
+      holds = is.holds;
+      first = is.first;
+      appended = λ appends. absurd (refused.no_room (subst (λ d. AppendFits d (g.history mid) (g.history kept) was changes) (sym (same_disk r.device)) (appends_until blanks appends)));
+      compacted = λ full. record {
+        active = is.compacted.active;
+        anew = record {
+          holds = is.compacted.anew.holds;
+          erases = is.compacted.anew.erases ∙ ap (λ n. n + 1) (erase_count-read_count reads.reads);
+          programs = is.compacted.anew.programs ∙ ap (λ n. n + 1) (program_count-read_count reads.reads);
+          blanks = blanks;
+        };
+        end = is.compacted.end;
+        kept = is.compacted.kept;
+      };
+    }
+
+-- what a stop leaves
+pub stops_behind : {D : Type 0} {g : Ghosts D} {most : ℕ} {bs : List ℕ} {at now : ℕ × ℕ} {changes : List ContentChange} {c : RawContent} {old mid new : D} → IsRead g most old mid → IsToWrite (disk_of_blocks (g.geometry old) (g.blocks old)) at changes c → now ≡ at → ChangesTheseBlocks g bs mid new
+    → (AllCallsSince ErasesCleanly (g.history mid) (g.history new) → HoldsAtLosses LeftByLoss (g.history mid) (g.history new) (LossLeavesNew (disk_of_blocks (g.geometry mid) (g.blocks mid)) now c))
+    → AllCallsSince ErasesCleanly (g.history old) (g.history new) → HoldsAtLosses LeftByLoss (g.history old) (g.history new) (LossLeavesChanged (disk_of_blocks (g.geometry old) (g.blocks old)) at changes)
+stops_behind {g = g} {at = at} {now = now} {changes = changes} {c = c} {old = old} r to same only stops cleanly =
+    let disk = disk_of_blocks (g.geometry old) (g.blocks old) in
+    goes_on_by (HoldsAtLosses-read_count LeftByLoss-read r.device.reads (left_alone disk at changes))
+    (HoldsAtLosses-weaker (λ blocks left. left_by_change disk at changes c blocks to.made to.fits to.logged
+    (subst (λ a. LossLeavesNew disk a c blocks) same (subst (λ d. LossLeavesNew d now c blocks) (same_disk r.device) left)))
+    (stops (AllCallsSince-behind cleanly r.device.reads only.at_worst)))
+
+-- what the changes make doesn't fit, and nothing was written
+pub is_full : {D : Type 0} {g : Ghosts D} {changes : List ContentChange} {old mid : D} {was : Pair} {c : RawContent} → ReadsOnly g old mid → changed_pair_content (disk_of_blocks (g.geometry old) (g.blocks old)) (header_address was) changes ≡ Some c → IsWellFormed c
+    → (RawContentFits (g.geometry old).block_size (g.geometry old).page c → ⊥) → RefusesCommit g changes old mid was was
+is_full {g = g} {old = old} {c = c} reads made logged full = record {
+  full = λ n is fits. full (subst (RawContentFits (g.geometry old).block_size (g.geometry old).page) (sym (some_same (sym made ∙ is))) fits);
+  completed = λ n e is whole fits. full (fits_raw (g.geometry old).block_size (g.geometry old).page c e logged (ap complete_content (some_same (sym made ∙ is)) ∙ whole) fits);
+  pair = refl;
+  device = reads;
+}
+
+-- ---- a copy or a split
 
 pub clears_behind : {count : ℕ} {blocks : Blocks} {before mid history : List CallEvent} {P : CallEvent → Type 0} → OnlyReadsSince blocks before mid → AllCallsSince P mid history → ErasedOneMore count mid history → ErasedOneMore count before history
 clears_behind {count} reads since clears =
@@ -80,33 +165,3 @@ clears_behind {count} reads since clears =
       programs = λ logs. clears.programs (AllCallsSince-behind logs reads since) ∙ ap (λ n. n + count) same;
       at_most = let most = clears.at_most in omega (arith, same, most);
     }
-
-pub splits_behind : {disk old new : Disk} {blocks : Blocks} {before mid history : List CallEvent} {changes : List ContentChange} {was pair fresh_pair : Pair} {fresh : ℕ × ℕ} {P : CallEvent → Type 0} → disk ≡ old → OnlyReadsSince blocks before mid
-    → AllCallsSince P mid history → SplitsPair disk mid changes was fresh new history pair fresh_pair → SplitsPair old before changes was fresh new history pair fresh_pair
-splits_behind {new = new} {before = before} {history = history} {changes = changes} {was = was} {pair = pair} {fresh_pair = fresh_pair} {fresh = fresh} same reads since s =
-    subst (λ d. SplitsPair d before changes was fresh new history pair fresh_pair) same (record {
-      new = s.new;
-      made = s.made;
-      logged = s.logged;
-      cut = s.cut;
-      is_cut = s.is_cut;
-      inside = s.inside;
-      front = s.front;
-      back = s.back;
-      first = s.first;
-      moved = s.moved;
-      kept = s.kept;
-      front_anew = s.front_anew;
-      back_fresh = s.back_fresh;
-      clears = clears_behind reads since s.clears;
-    })
-
--- what the changes make doesn't fit, and nothing was called
-pub is_full : {D : Type 0} {g : Ghosts D} {changes : List ContentChange} {d : D} {was : Pair} {c : RawContent} → changed_pair_content (disk_of_blocks (g.geometry d) (g.blocks d)) (header_address was) changes ≡ Some c → IsWellFormed c
-    → (RawContentFits (g.geometry d).block_size (g.geometry d).page c → ⊥) → RefusesCommit g changes d d was was
-is_full {g = g} {d = d} {c = c} made logged full = record {
-  full = λ n is fits. full (subst (RawContentFits (g.geometry d).block_size (g.geometry d).page) (sym (some_same (sym made ∙ is))) fits);
-  completed = λ n e is whole fits. full (fits_raw (g.geometry d).block_size (g.geometry d).page c e logged (ap complete_content (some_same (sym made ∙ is)) ∙ whole) fits);
-  pair = refl;
-  device = reads_none;
-}

@@ -13,9 +13,6 @@ use Rattle.lfs_pair.proofs.TwoBlocks.{outside_one}
 
 -- ---- reads
 
-pub reads_none : {D : Type 0} {g : Ghosts D} {d : D} → ReadsOnly g d d
-reads_none = record { same = refl; geometry = refl; reads = began }
-
 pub reads_one : {D : Type 0} {g : Ghosts D} {old new : D} {block off len : ℕ} {failed : Bool} → g.blocks new ≡ g.blocks old → g.geometry new ≡ g.geometry old
     → g.history new ≡ call_event (Read block off len) (g.blocks old) (g.blocks new) failed ∷ g.history old → ReadsOnly g old new
 reads_one same geometry is = record { same = same; geometry = geometry; reads = OnlyReadsSince-read began is refl same }
@@ -109,6 +106,10 @@ reading_trans first second = record {
 -- one read, where more are allowed
 pub reading_by_read : {D : Type 0} {g : Ghosts D} {n : ℕ} {bs : List ℕ} {old new : D} → ReadsOnly g old new → read_count (g.history new) ≤ read_count (g.history old) + 1 → 1 ≤ n → ChangesReadingFew g n bs old new
 reading_by_read read few some = record { only = only_by_reads read; few = omega (arith, few, some) }
+
+-- so many reads, where more are allowed
+pub reading_by_reads : {D : Type 0} {g : Ghosts D} (n m : ℕ) {bs : List ℕ} {old new : D} → ReadsOnly g old new → read_count (g.history new) ≤ read_count (g.history old) + m → ChangesReadingFew g (n + m) bs old new
+reading_by_reads n m reads few = record { only = only_by_reads reads; few = omega (arith, few) }
 
 -- one read
 pub few_by_read : {old new : List CallEvent} {before after : Blocks} {b off len : ℕ} {failed : Bool} → new ≡ call_event (Read b off len) before after failed ∷ old → read_count new ≤ read_count old + 1

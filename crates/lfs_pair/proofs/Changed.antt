@@ -300,13 +300,6 @@ pub content_made_here : (disk : Disk) (history : List CallEvent) (pair : Pair) (
 content_made_here disk history pair held new block changes c is here made log =
     some_same (sym made ∙ sym (made_is disk history pair held changes is) ∙ made_here disk history pair held block changes (Some c) is here log)
 
--- where the log ends that holds, and by which tag
-pub ends_here : (disk : Disk) (history : List CallEvent) (pair : Pair) (held : RawContent) (block : List ℕ) → IsTrueHeader disk history pair held → block ≡ disk_block disk pair.active → HeaderHasEnd (chain_of block).end (chain_of block).last pair
-ends_here disk history pair held block is here = record {
-  end_is = is.describes.end ∙ ap (λ b. (chain_of b).end) (sym here);
-  last_is = is.describes.last ∙ ap (λ b. (chain_of b).last) (sym here);
-}
-
 -- the disk itself, before a call
 pub left_alone : (disk : Disk) (at : ℕ × ℕ) (changes : List ContentChange) → LossLeavesChanged disk at changes disk.blocks
 left_alone disk at changes = record { others = SameExceptBlocks-refl (at.0 ∷ at.1 ∷ []) disk.blocks; content = inl (record { content = refl; first = λ e h. h }) }

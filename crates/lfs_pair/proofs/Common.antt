@@ -21,7 +21,7 @@ pub use Rattle.lfs_model.specs.layers.WrittenContent.{RawContentFits, attribute_
 pub use Rattle.lfs_model.specs.session.History.{AllCallsSince, AreUnprogrammed, CallEvent, Erase, HoldsAtLosses, OnlyReadsSince, StayUnprogrammed, blank_count, call_event, erase_count, fault_count, program_count, read_count}
 pub use Rattle.lfs_model.specs.tree.View.{BeginsWith}
 pub use Rattle.lfs_pair.specs.ChangeView.{change_view, changes_view}
-pub use Rattle.lfs_pair.specs.Commits.{AppendFits, CommitFails, HasNewContent, HasOldContent, HasWrittenContent, HeaderSaysActive, IsEndUnprogrammed, IsPairAddress, KeepsFirstEntry, KeepsOutsidePair, LossLeavesChanged, LossLeavesNew, changed_log_content, changed_pair_content}
+pub use Rattle.lfs_pair.specs.Commits.{AppendFits, HasNewContent, HasOldContent, HasWrittenContent, HeaderSaysActive, IsEndUnprogrammed, IsPairAddress, KeepsFirstEntry, KeepsOutsidePair, LossLeavesChanged, LossLeavesNew, changed_log_content, changed_pair_content}
 pub use Rattle.lfs_pair.specs.FreshPair.{ErasedOneMore}
 pub use Rattle.lfs_pair.specs.HalfCut.{IsFittingSplit, IsHalfCut}
 pub use Rattle.lfs_pair.specs.Pair.{HeaderDescribesLog, IsTrueHeader, active_block_at, header_address, is_second_active}

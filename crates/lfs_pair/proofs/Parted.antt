@@ -1,13 +1,12 @@
 -- A content cut into the parts of two pairs, and what a stop on the way there leaves.
 use Rattle.std.specs.Prelude.{All}
 use Rattle.std.proofs.Common.{ℕ, zero, suc, get_or, ◌≡◌, ◌≢◌, ◌+◌, ◌≤◌, ◌<◌, ◌==◌, ◌&&◌, ◌^◌, false, List, [], ◌∷◌, Some, length, take, drop, sum_by, refl, sym, ap, ◌∙◌, subst, arith, inl, inr}
-use Rattle.lfs_pair.proofs.Common.{cases_lt, ne_eqb, disk_of_blocks, Blocks, block_bytes, Disk, pair_capacity, slots_limit, AllCallsSince, CallEvent, OnlyReadsSince, RawSlot, RawContent, current_block, raw_content, LogEntry, AreNamed, AreWellFormed, IsWellFormed, RawContentFits, slot_size_raw, ContentChange, AllCallsSince-until, nothing_logged, SameExceptBlocks-refl, SameExceptBlocks-trans, SameExceptBlocks-wider, AreElsewhere, current_block-stays, raw_content-stays, header_address, BeginsWith, HasNewContent, HasOldContent, KeepsFirstEntry, LossLeavesNew, KeepsOutsidePair, changed_log_content, changed_pair_content, IsFittingSplit, ErasedOneMore, IsWrittenAnew, CanSplitPair, LossLeavesSplit}
+use Rattle.lfs_pair.proofs.Common.{cases_lt, ne_eqb, disk_of_blocks, Blocks, block_bytes, Disk, pair_capacity, slots_limit, AllCallsSince, CallEvent, RawSlot, RawContent, current_block, raw_content, LogEntry, AreNamed, AreWellFormed, IsWellFormed, RawContentFits, slot_size_raw, ContentChange, AllCallsSince-until, nothing_logged, SameExceptBlocks-refl, SameExceptBlocks-trans, SameExceptBlocks-wider, AreElsewhere, current_block-stays, raw_content-stays, header_address, BeginsWith, HasNewContent, HasOldContent, KeepsFirstEntry, LossLeavesNew, KeepsOutsidePair, changed_log_content, changed_pair_content, IsFittingSplit, ErasedOneMore, IsWrittenAnew, CanSplitPair, LossLeavesSplit}
 use Rattle.std.proofs.lemmas.List.{take_all}
 use Rattle.lfs_device.specs.declared.geometry.Geometry.{Geometry}
 use Rattle.lfs_model.specs.format.Slots.{null_address}
 use Rattle.lfs_pair.specs.declared.pair.Pair.{Pair}
 use Rattle.lfs_pair.specs.Split.{AreApart, IsContentCut, BothHaveSlots, KeepsOutsideBoth}
-use Rattle.lfs_pair.proofs.Stay.{IsTrueHeader-reads}
 use Rattle.lfs_pair.proofs.Changed.{made_here, made_is, some_same}
 
 -- ---- blocks of two pairs
@@ -134,11 +133,11 @@ pub record IsSplitting (disk : Disk) (at fresh : ℕ × ℕ) (changes : List Con
   pub front_ready : IsReady disk.block_size disk.page front
   pub back_ready : IsReady disk.block_size disk.page back
 
-pub is_splitting : (geometry here : Geometry) (blocks : Blocks) (history : List CallEvent) (pair : Pair) (fresh : ℕ × ℕ) (block : List ℕ) (changes : List ContentChange) (whole front back : RawContent)
+pub is_splitting : {geometry here : Geometry} {blocks : Blocks} {history : List CallEvent} {pair : Pair} {fresh : ℕ × ℕ} {block : List ℕ} {changes : List ContentChange} {whole front back : RawContent}
     → here ≡ geometry → length blocks ≡ geometry.block_count → CanSplitPair (disk_of_blocks geometry blocks) history pair fresh changes → block ≡ block_bytes blocks pair.active
     → changed_log_content block changes ≡ Some whole → IsWellFormed whole → IsContentCut here.block_size here.page whole fresh front back
     → IsSplitting (disk_of_blocks geometry blocks) (header_address pair) fresh changes front back
-is_splitting geometry here blocks history pair fresh block changes whole front back same count can is made_is_whole logged cut =
+is_splitting {geometry} {blocks = blocks} {history = history} {pair = pair} {fresh = fresh} {block = block} {changes = changes} {whole = whole} {front = front} {back = back} same count can is made_is_whole logged cut =
     let commit = can.commit in
     let made = made_here (disk_of_blocks geometry blocks) history pair commit.held block changes (Some whole) commit.is_pair is made_is_whole in
     let whole_is : commit.new ≡ whole = some_same (sym (made_is (disk_of_blocks geometry blocks) history pair commit.held changes commit.is_pair ∙ commit.changed) ∙ made) in
@@ -153,17 +152,6 @@ is_splitting geometry here blocks history pair fresh block changes whole front b
       apart = can.apart;
       front_ready = front_ready parts logged names (omega (arith, can.fresh_is.first, count, few)) (omega (arith, can.fresh_is.second, count, few));
       back_ready = back_ready parts logged names;
-    }
-
-pub CanSplitPair-reads : {blocks : Blocks} {disk : Disk} {before after : List CallEvent} {pair : Pair} {fresh : ℕ × ℕ} {changes : List ContentChange} → OnlyReadsSince blocks before after
-    → CanSplitPair disk before pair fresh changes → CanSplitPair disk after pair fresh changes
-CanSplitPair-reads reads can =
-    let commit = can.commit in
-    record {
-      commit = record { address = commit.address; held = commit.held; is_pair = IsTrueHeader-reads reads commit.is_pair; new = commit.new; changed = commit.changed; names = commit.names };
-      fresh_is = can.fresh_is;
-      apart = can.apart;
-      cut = can.cut;
     }
 
 -- ---- what a stop on the way there leaves

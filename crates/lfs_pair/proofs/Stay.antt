@@ -1,9 +1,10 @@
 -- What a pair holds where nothing is written to its two blocks.
 use Rattle.std.specs.Prelude.{All}
 use Rattle.std.proofs.Common.{ℕ, ◌≡◌, ◌≢◌, Bool, true, false, cond, List, Some, sym, ap, ap₂, ◌∙◌, subst}
-use Rattle.lfs_pair.proofs.Common.{Blocks, SameExceptBlocks, Disk, disk_block, block_revision, CallEvent, OnlyReadsSince, StayUnprogrammed, RawContent, AreUnprogrammed-read_count, AreElsewhere, current_block-stays, raw_content-stays, IsTrueHeader, HeaderDescribesLog, is_second_active, active_block_at, header_address, HeaderSaysActive, HasWrittenContent}
+use Rattle.lfs_pair.proofs.Common.{Blocks, SameExceptBlocks, Disk, disk_block, block_revision, CallEvent, OnlyReadsSince, StayUnprogrammed, RawContent, AreUnprogrammed-read_count, AreElsewhere, current_block-stays, raw_content-stays, IsTrueHeader, HeaderDescribesLog, is_second_active, active_block_at, header_address, HeaderSaysActive, HasWrittenContent, ContentChange}
 use Rattle.lfs_model.proofs.Histories.{AreUnprogrammed-stays}
 use Rattle.lfs_pair.specs.declared.pair.Pair.{Pair}
+use Rattle.lfs_pair.specs.Commits.{CanCommit}
 
 -- ---- on the disk
 
@@ -65,3 +66,6 @@ IsTrueHeader-reads {pair = pair} reads is = record {
   whole_pages = is.whole_pages;
   unprogrammed = λ written. AreUnprogrammed-read_count pair.active reads (is.unprogrammed written);
 }
+
+pub CanCommit-reads : {blocks : Blocks} {disk : Disk} {before after : List CallEvent} {pair : Pair} {changes : List ContentChange} → OnlyReadsSince blocks before after → CanCommit disk before pair changes → CanCommit disk after pair changes
+CanCommit-reads reads can = record { address = can.address; held = can.held; is_pair = IsTrueHeader-reads reads can.is_pair; new = can.new; changed = can.changed; names = can.names }

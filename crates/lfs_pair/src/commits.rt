@@ -1,6 +1,6 @@
 // Commits of changes to a pair.
 
-ghost use Rattle.std.specs.Prelude.{◌≡◌, true, false, IfErr, OnErr, OnOk, length};
+ghost use Rattle.std.specs.Prelude.{◌≡◌, ◌+◌, true, false, IfErr, OnErr, OnOk, length, option_copied};
 ghost use Rattle.lfs_device.specs.DeviceDisk.{disk_of_blocks};
 ghost use Rattle.lfs_device.specs.DeviceCalls.{ReportsFaults, ReportsOnlyIo};
 ghost use Rattle.lfs_model.specs.session.History.{AllCallsSince, HoldsAtLosses};
@@ -9,7 +9,7 @@ ghost use Rattle.lfs_tag.specs.ContentView.{content_view};
 ghost use Rattle.lfs_model.specs.format.Content.{RawContent};
 ghost use Rattle.lfs_pair.specs.Pair.{IsTrueHeader, header_address};
 ghost use Rattle.lfs_pair.specs.ChangeView.{changes_view};
-ghost use Rattle.lfs_pair.specs.Commits.{IsPairAddress, CanAppendChanges, CanCommit, CanCommitWithBlock, CanCompact, CompactsContent, CommitFails, IsEndBlank, LossLeavesChanged, LossLeavesNew};
+ghost use Rattle.lfs_pair.specs.Commits.{IsPairAddress, CanAppendChanges, CanCommitWithBlock, CanCompact, CompactsContent, CommitFails, IsEndBlank, LossLeavesChanged, LossLeavesNew, reads_unless_given};
 ghost use Rattle.lfs_pair.specs.Endings.{AppendReturns, CommitReturns};
 ghost use Rattle.lfs_pair.specs.Writing.{OnlyAsksBlank, ChangesReadingFew, WritesTheseBlocks};
 ghost use Rattle.lfs_model.specs.format.Thread.{address_blocks};
@@ -17,10 +17,11 @@ ghost use Rattle.lfs_model.specs.format.Thread.{address_blocks};
 use crate::change::Change;
 use crate::contents::changed_content;
 use crate::entries::push_changes;
+use crate::given_blocks::read_unless_given;
 use crate::pair::Pair;
 use crate::programs::{program_commit_at, write_block_anew};
 use crate::size::content_fits;
-use lfs_device::{BlockDevice, Error, read_block};
+use lfs_device::{BlockDevice, Error};
 use lfs_tag::{CommitBuilder, Content};
 use std::alloc::Global;
 
@@ -36,66 +37,47 @@ pub enum Outcome {
 /// Commits changes to a pair (DESIGN.md of littlefs, "Metadata pairs"). The commit is atomic: a
 /// loss of power during the call leaves the pair with all of the changes or with none.
 ///
-/// The changes are appended to the active block's log where the padded commit ends within the
-/// block. Else the other block is erased, and all that the pair is to hold is written into it.
+/// `block` is the active block's bytes where the caller has them, as from a cache; else they are
+/// read. The changes are appended to the active block's log where the padded commit ends within
+/// the block. Else the other block is erased, and all that the pair is to hold is written into it.
 /// After a [`fetch`](crate::fetch) the bytes after the log aren't known. So the first commit asks
-/// the device whether they are blank, and appends only then. The call takes at most two reads.
+/// the device whether they are blank, and appends only then. The call takes at most two reads, and
+/// one where the bytes are given.
 ///
 /// Returns [`Outcome::Full`] exactly where what the changes make doesn't fit a pair ([`content_fits`]).
 /// Then nothing is written, and the pair stays as it was.
 ///
-/// Errors: `NoMemory` where memory for two blocks and the slots isn't granted; nothing is written
-/// then. `Io` where a call of the device failed. After an error `pair` is as it was, but the device
-/// may hold something else. So the caller fetches its blocks again.
+/// Errors: `NoMemory` where memory for the slots and for two blocks isn't granted; where the bytes
+/// are given, for the slots and one block. Nothing is written then. `Io` where a call of the device
+/// failed. After an error `pair` is as it was, but the device may hold something else. So the
+/// caller fetches its blocks again.
 ///
 /// The promise about a loss of power has two premises. An erase leaves a block without a log, or
 /// with the log that it had. A program that is cut short leaves the log from before it, or the one
 /// from after it.
 ///
-/// The caller's conditions: the device has the pair as its last call left it. The changes are
-/// allowed in the pair's log. Each slot has a name afterwards.
+/// The caller's conditions: the device has the pair as its last call left it. The active block has
+/// the bytes that are given. The changes are allowed in the pair's log. Each slot has a name
+/// afterwards.
 pub fn commit<D: BlockDevice>(
     alloc: Global,
     dev: &mut D,
     pair: &mut Pair,
+    block: Option<&[u8]>,
     changes: &[Change<'_>],
 ) -> Result<Outcome, Error>
-    requires { CanCommit (disk_of_blocks (D.geometry dev.old) (D.blocks dev.old)) (D.history dev.old) pair.old (changes_view changes.now) }
+    requires { CanCommitWithBlock (disk_of_blocks (D.geometry dev.old) (D.blocks dev.old)) (D.history dev.old) pair.old (changes_view changes.now) (option_copied block) }
 
     ensures ends { CommitReturns D.BlockDevice (changes_view changes.now) dev.old dev.new pair.old pair.new result }
     ensures error { IfErr result (λ e. CommitFails D.BlockDevice dev.old dev.new pair.old pair.new e) }
-    ensures device { ChangesReadingFew D.BlockDevice 2 (address_blocks (header_address pair.old)) dev.old dev.new }
-    ensures faults { ReportsFaults D.BlockDevice dev.old dev.new result }
-    ensures stops { AllCallsSince ErasesCleanly (D.history dev.old) (D.history dev.new)
-        → HoldsAtLosses LeftByLoss (D.history dev.old) (D.history dev.new) (LossLeavesChanged (disk_of_blocks (D.geometry dev.old) (D.blocks dev.old)) (header_address pair.old) (changes_view changes.now)) }
-{
-    let block = read_block(alloc, dev, pair.active)?;
-    let outcome = commit_with_block(alloc, dev, pair, &block, changes)?;
-    Ok(outcome)
-}
-
-/// Commits as [`commit`] does, to a pair whose active block's bytes the caller has, as from a
-/// cache. Of the device it reads the four bytes after what it programs, and nothing else.
-///
-/// The caller's conditions are those of [`commit`], and that the active block has the bytes of
-/// `block`. Errors are those of [`commit`], but memory is wanted for one block and the slots.
-pub fn commit_with_block<'a, 'b: 'a, D: BlockDevice>(
-    alloc: Global,
-    dev: &mut D,
-    pair: &mut Pair,
-    block: &'a [u8],
-    changes: &[Change<'b>],
-) -> Result<Outcome, Error>
-    requires { CanCommitWithBlock (disk_of_blocks (D.geometry dev.old) (D.blocks dev.old)) (D.history dev.old) pair.old (changes_view changes.now) block.now }
-
-    ensures ends { CommitReturns D.BlockDevice (changes_view changes.now) dev.old dev.new pair.old pair.new result }
-    ensures error { IfErr result (λ e. CommitFails D.BlockDevice dev.old dev.new pair.old pair.new e) }
-    ensures device { ChangesReadingFew D.BlockDevice 1 (address_blocks (header_address pair.old)) dev.old dev.new }
+    ensures device { ChangesReadingFew D.BlockDevice (1 + reads_unless_given (option_copied block.entry)) (address_blocks (header_address pair.old)) dev.old dev.new }
     ensures faults { ReportsFaults D.BlockDevice dev.old dev.new result }
     ensures stops { AllCallsSince ErasesCleanly (D.history dev.old) (D.history dev.new)
         → HoldsAtLosses LeftByLoss (D.history dev.old) (D.history dev.new) (LossLeavesChanged (disk_of_blocks (D.geometry dev.old) (D.blocks dev.old)) (header_address pair.old) (changes_view changes.now)) }
 {
     let geometry = dev.geometry();
+    let read = read_unless_given(alloc, dev, pair.active, block)?;
+    let block = block.unwrap_or(&read);
     let content = changed_content(alloc, pair, block, changes)?;
     if !content_fits(&content, geometry) {
         return Ok(Outcome::Full);

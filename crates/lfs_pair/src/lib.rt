@@ -11,15 +11,16 @@ mod cut;
 mod entries;
 mod fetches;
 mod fresh;
+mod given_blocks;
 mod pair;
 mod programs;
 mod size;
 mod splits;
 
 pub use change::{Change, apply_all_changes};
-pub use commits::{Outcome, commit, commit_with_block};
+pub use commits::{Outcome, commit};
 pub use copies::copy;
 pub use fetches::fetch;
 pub use pair::{Pair, is_same_pair};
 pub use size::{attributes_size, content_fits};
-pub use splits::{split, split_with_block};
+pub use splits::split;

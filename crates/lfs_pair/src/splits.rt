@@ -1,6 +1,6 @@
 // Splits of a pair into itself and a fresh pair.
 
-ghost use Rattle.std.specs.Prelude.{◌≡◌, IfErr, IfOk};
+ghost use Rattle.std.specs.Prelude.{◌≡◌, ◌+◌, IfErr, IfOk, option_copied};
 ghost use Rattle.lfs_device.specs.DeviceDisk.{disk_of_blocks};
 ghost use Rattle.lfs_device.specs.DeviceCalls.{ReportsFaults};
 ghost use Rattle.lfs_model.specs.session.History.{AllCallsSince, HoldsAtLosses};
@@ -8,11 +8,11 @@ ghost use Rattle.lfs_model.specs.format.Slots.{address_view};
 ghost use Rattle.lfs_model.specs.crash.Stops.{ErasesCleanly, LeftByLoss};
 ghost use Rattle.lfs_tag.specs.ContentView.{content_view};
 ghost use Rattle.lfs_pair.specs.Pair.{header_address};
-ghost use Rattle.lfs_pair.specs.Commits.{CommitFails};
+ghost use Rattle.lfs_pair.specs.Commits.{CommitFails, reads_unless_given};
 ghost use Rattle.lfs_pair.specs.ChangeView.{changes_view};
 ghost use Rattle.lfs_pair.specs.HalfCut.{AreSplittable};
 ghost use Rattle.lfs_pair.specs.Writing.{ChangesReadingFew};
-ghost use Rattle.lfs_pair.specs.Split.{CanSplitWithBlock, CanSplitPair, SplitsPair, LossLeavesSplit, IsContentCut};
+ghost use Rattle.lfs_pair.specs.Split.{CanSplitWithBlock, SplitsPair, LossLeavesSplit, IsContentCut};
 ghost use Rattle.lfs_model.specs.format.Thread.{addresses_blocks};
 
 use crate::change::Change;
@@ -20,24 +20,26 @@ use crate::commits::compact;
 use crate::contents::changed_content;
 use crate::cut::middle_cut;
 use crate::fresh::{FIRST_REVISION, write_fresh_pair};
+use crate::given_blocks::read_unless_given;
 use crate::pair::Pair;
-use lfs_device::{BlockDevice, Error, Geometry, read_block};
+use lfs_device::{BlockDevice, Error, Geometry};
 use lfs_tag::{Content, MoveState, Tail};
 use std::alloc::Global;
 
 /// Commits changes to a pair and splits it: a fresh pair is made of two blocks and takes the later
 /// slots. The old pair keeps the first slots and its delta of the global state, and gets a hard
 /// tail to the fresh pair. The fresh pair gets the other slots and the old tail (DESIGN.md of
-/// littlefs, "The directory tree"). Returns the header of the fresh pair. The call takes at most
-/// four reads.
+/// littlefs, "The directory tree"). Returns the header of the fresh pair.
+///
+/// `block` is the active block's bytes where the caller has them, as from a cache; else they are
+/// read. The call takes at most four reads, and three where the bytes are given.
 ///
 /// The fresh pair is written first. So a loss of power during the call leaves the old pair with
 /// what it held, or both pairs with what they are to hold. That has the premises of
 /// [`commit`](crate::commit).
 ///
-/// Errors: `NoMemory` where memory for two blocks and the slots isn't granted; nothing is written
-/// then. `Io` where a call of the device failed. After an error `pair` is as it was, but the device
-/// may hold something else. So the caller fetches its blocks again.
+/// Errors are those of [`commit`](crate::commit). After an error `pair` is as it was, but the
+/// device may hold something else. So the caller fetches its blocks again.
 ///
 /// The caller's conditions are those of [`commit`](crate::commit), and three more. The slots can be
 /// cut into two parts that each [`fit`](crate::fits) a pair. The two blocks of `fresh` differ and
@@ -47,47 +49,22 @@ pub fn split<D: BlockDevice>(
     dev: &mut D,
     pair: &mut Pair,
     fresh: [u32; 2],
+    block: Option<&[u8]>,
     changes: &[Change<'_>],
 ) -> Result<Pair, Error>
-    requires { CanSplitPair (disk_of_blocks (D.geometry dev.old) (D.blocks dev.old)) (D.history dev.old) pair.old (address_view fresh) (changes_view changes.now) }
+    requires { CanSplitWithBlock (disk_of_blocks (D.geometry dev.old) (D.blocks dev.old)) (D.history dev.old) pair.old (address_view fresh) (changes_view changes.now) (option_copied block) }
 
     ensures splits { IfOk result (λ fresh_pair. SplitsPair (disk_of_blocks (D.geometry dev.old) (D.blocks dev.old)) (D.history dev.old) (changes_view changes.now) pair.old (address_view fresh)
         (disk_of_blocks (D.geometry dev.new) (D.blocks dev.new)) (D.history dev.new) pair.new fresh_pair) }
     ensures error { IfErr result (λ e. CommitFails D.BlockDevice dev.old dev.new pair.old pair.new e) }
-    ensures device { ChangesReadingFew D.BlockDevice 4 (addresses_blocks (header_address pair.old) (address_view fresh)) dev.old dev.new }
-    ensures faults { ReportsFaults D.BlockDevice dev.old dev.new result }
-    ensures stops { AllCallsSince ErasesCleanly (D.history dev.old) (D.history dev.new)
-        → HoldsAtLosses LeftByLoss (D.history dev.old) (D.history dev.new) (LossLeavesSplit (disk_of_blocks (D.geometry dev.old) (D.blocks dev.old)) (header_address pair.old) (address_view fresh) (changes_view changes.now)) }
-{
-    let block = read_block(alloc, dev, pair.active)?;
-    let fresh_pair = split_with_block(alloc, dev, pair, fresh, &block, changes)?;
-    Ok(fresh_pair)
-}
-
-/// Splits as [`split`] does a pair whose active block's bytes the caller has, as from a cache. The
-/// call takes at most three reads.
-///
-/// The caller's conditions are those of [`split`], and that the active block has the bytes of
-/// `block`. Errors are those of [`split`], but memory is wanted for one block and the slots.
-pub fn split_with_block<'a, 'b: 'a, D: BlockDevice>(
-    alloc: Global,
-    dev: &mut D,
-    pair: &mut Pair,
-    fresh: [u32; 2],
-    block: &'a [u8],
-    changes: &[Change<'b>],
-) -> Result<Pair, Error>
-    requires { CanSplitWithBlock (disk_of_blocks (D.geometry dev.old) (D.blocks dev.old)) (D.history dev.old) pair.old (address_view fresh) (changes_view changes.now) block.now }
-
-    ensures splits { IfOk result (λ fresh_pair. SplitsPair (disk_of_blocks (D.geometry dev.old) (D.blocks dev.old)) (D.history dev.old) (changes_view changes.now) pair.old (address_view fresh)
-        (disk_of_blocks (D.geometry dev.new) (D.blocks dev.new)) (D.history dev.new) pair.new fresh_pair) }
-    ensures error { IfErr result (λ e. CommitFails D.BlockDevice dev.old dev.new pair.old pair.new e) }
-    ensures device { ChangesReadingFew D.BlockDevice 3 (addresses_blocks (header_address pair.old) (address_view fresh)) dev.old dev.new }
+    ensures device { ChangesReadingFew D.BlockDevice (3 + reads_unless_given (option_copied block.entry)) (addresses_blocks (header_address pair.old) (address_view fresh)) dev.old dev.new }
     ensures faults { ReportsFaults D.BlockDevice dev.old dev.new result }
     ensures stops { AllCallsSince ErasesCleanly (D.history dev.old) (D.history dev.new)
         → HoldsAtLosses LeftByLoss (D.history dev.old) (D.history dev.new) (LossLeavesSplit (disk_of_blocks (D.geometry dev.old) (D.blocks dev.old)) (header_address pair.old) (address_view fresh) (changes_view changes.now)) }
 {
     let geometry = dev.geometry();
+    let read = read_unless_given(alloc, dev, pair.active, block)?;
+    let block = block.unwrap_or(&read);
     let mut front = changed_content(alloc, pair, block, changes)?;
     let back = split_off_back(&mut front, fresh, geometry)?;
     let mut buf = Vec::from_elem(alloc, 0u8, geometry.block_size as usize)?;

@@ -29,6 +29,10 @@ current_but_two old new cache now at current is same b bytes h =
     let first = still_there cache at.0 b bytes second.was in
     current b bytes first.was ∙ sym (same.others b (All-from_recursion (λ k. k ≢ b) (address_blocks at) (first.other, (second.other, tt))))
 
+-- after both blocks of a pair were taken, and only they changed
+pub current_taken : {old new : Blocks} (cache : CachedBlocks) {now : CachedBlocks} (active : ℕ) (at : ℕ × ℕ) → IsCacheCurrent old cache → now ≡ cache_without (cache_without (cache_without cache active) at.0) at.1 → SameExceptBlocks (address_blocks at) old new → IsCacheCurrent new now
+current_taken {old} {new} cache {now} active at current gone same = current_but_two old new (cache_without cache active) now at (current_without old cache active current) gone same
+
 -- after four went
 pub current_but_four : (old new : Blocks) (cache mid now : CachedBlocks) (at fresh : ℕ × ℕ) → IsCacheCurrent old cache → mid ≡ cache_without (cache_without cache at.0) at.1 → now ≡ cache_without (cache_without mid fresh.0) fresh.1
     → SameExceptBlocks (addresses_blocks at fresh) old new → IsCacheCurrent new now
@@ -85,6 +89,10 @@ current_at blocks cache b current = go (cached_bytes cache b) refl
     go : (o : Option (List ℕ)) → cached_bytes cache b ≡ o → IfSome o (λ bytes. bytes ≡ block_bytes blocks b)
     go None e = tt
     go (Some x) e = current b x e
+
+-- what is taken out of the cache is as the device has it
+pub given_current : (blocks : Blocks) (cache : CachedBlocks) (active : ℕ) {given : Option (List ℕ)} → given ≡ cached_bytes cache active → IsCacheCurrent blocks cache → IfSome given (λ bytes. bytes ≡ block_bytes blocks active)
+given_current blocks cache active is current = subst (λ o. IfSome o (λ bytes. bytes ≡ block_bytes blocks active)) (sym is) (current_at blocks cache active current)
 
 -- after a read that may have cached a block
 pub current_read : (blocks : Blocks) (cache now : CachedBlocks) (b : ℕ) → (now ≡ cache) ⊎ (now ≡ cache_with cache b (block_bytes blocks b)) → IsCacheCurrent blocks cache → IsCacheCurrent blocks now

@@ -97,11 +97,12 @@ module _ (disk : Disk) (history : List CallEvent) (hs : List PairHeader) (sets :
       ∙ cached_bytes-without_other cache fresh.0 h.active (λ e. in_flight_unused sets fresh.0 held.first (subst (IsUsedBlock sets) e active_used))
 
   -- in the words of the thread
-  pub reading_there : {D : Type 0} (g : Ghosts D) (old new : D) (blocks : ℕ × ℕ → List ℕ) (base : ℕ) (cache : CachedBlocks) → ChangesReadingFew g (base + reads_unless_cached (cached_bytes cache h.active)) (blocks (header_address h)) old new
+  pub reading_there : {D : Type 0} (g : Ghosts D) (old new : D) (blocks : ℕ × ℕ → List ℕ) (base : ℕ) (cache : CachedBlocks) {given : Option (List ℕ)} → given ≡ cached_bytes cache h.active
+      → ChangesReadingFew g (base + reads_unless_cached given) (blocks (header_address h)) old new
       → ChangesReadingFew g (base + reads_unless_cached (cached_block_log (kept_view disk history hs sets) cache index)) (blocks (thread_pair (kept_view disk history hs sets) index).at) old new
-  reading_there g old new blocks base cache w =
+  reading_there g old new blocks base cache is w =
       subst (λ (p : Pair). ChangesReadingFew g (base + reads_unless_cached (cached_block_log (kept_view disk history hs sets) cache index)) (blocks p.at) old new) (sym (pair_at_index disk history hs sets index h a))
-      (subst (λ b. ChangesReadingFew g (base + reads_unless_cached (cached_bytes cache b)) (blocks (header_address h)) old new) active_is w)
+      (subst (λ o. ChangesReadingFew g (base + reads_unless_cached o) (blocks (header_address h)) old new) (is ∙ ap (cached_bytes cache) active_is) w)
 
 -- ---- the reads of a block that is loaded into the cache
 

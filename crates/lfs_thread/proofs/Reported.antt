@@ -7,7 +7,7 @@ use Rattle.lfs_device.specs.declared.error.Error.{Error}
 use Rattle.lfs_device.specs.declared.error.Error.TheVariants.{Io, NoMemory}
 use Rattle.lfs_device.specs.declared.geometry.Geometry.{Geometry}
 use Rattle.lfs_thread.proofs.Common.{ReadsOnly, disk_of_blocks, Blocks, SameExceptBlocks, BlockStates, ordered_disk, HoldsAtLosses-weaker, goes_on_by, ChangesReadingFew, ReportsWritingNothing, PairHeader, kept_in_order, ThreadReportsErrors, ThreadReportsKeepingOthers, ChangesWithinReads, address_blocks, addresses_blocks}
-use Rattle.lfs_device.specs.DeviceCalls.{ChangesTheseBlocks}
+use Rattle.lfs_device.specs.DeviceCalls.{ChangesTheseBlocks, ReportsFaults}
 use Rattle.lfs_model.specs.declared.order.NameOrder.{NameOrder}
 use Rattle.lfs_model.proofs.Histories.{StayUnprogrammed-trans, StayUnprogrammed-wider}
 use Rattle.lfs_model.proofs.Overwrites.{SameExceptBlocks-trans, SameExceptBlocks-wider}
@@ -84,16 +84,12 @@ module _ {D : Type 0} (g : Ghosts D) (at fresh : ℕ × ℕ) where
 
 -- ---- what a call of lfs_pair says of its error
 
-pub record HasErrors {D X : Type 0} (g : Ghosts D) (old new : D) (result : Result X Error) : Type 0 where
-  pub errors : IfErr result (λ e. (e ≡ Io) ⊎ (e ≡ NoMemory))
-  pub unwritten : result ≡ Err NoMemory → ReadsOnly g old new
-
 same_error : (X : Type 0) (e f : Error) → (let r : Result X Error = Err e in r) ≡ Err f → e ≡ f
 same_error X e f h = cc
 
-pub errors_of : {D X : Type 0} {g : Ghosts D} {old new : D} (was now : Pair) {result : Result X Error} → IfErr result (λ e. CommitFails g old new was now e) → HasErrors g old new result
-errors_of was now {result = Ok x} h = record { errors = tt; unwritten = λ e. absurd (cc) }
-errors_of {X = X} was now {result = Err e} h = record { errors = h.errors; unwritten = λ same. h.no_memory (same_error X e NoMemory same) }
+pub reports_of : {D X : Type 0} {g : Ghosts D} {old new : D} (was now : Pair) {result : Result X Error} → IfErr result (λ e. CommitFails g old new was now e) → ReportsFaults g old new result → ReportsWritingNothing g old new result
+reports_of was now {result = Ok x} h faults = record { errors = tt; faults = faults; unwritten = λ e. absurd (cc) }
+reports_of {X = X} was now {result = Err e} h faults = record { errors = h.errors; faults = faults; unwritten = λ same. h.no_memory (same_error X e NoMemory same) }
 
 -- an error that is passed on
 pub errors_again : {D X Y : Type 0} {g : Ghosts D} {old new : D} (e : Error) (first : Result X Error) (second : Result Y Error) → first ≡ Err e → second ≡ Err e → ReportsWritingNothing g old new first → ReportsWritingNothing g old new second

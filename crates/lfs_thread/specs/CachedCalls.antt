@@ -4,23 +4,10 @@ use Rattle.lfs_device.specs.declared.device.BlockDevice.{Ghosts}
 use Rattle.lfs_model.specs.layers.BlockSets.{BlockStates}
 use Rattle.lfs_model.specs.layers.BlockSets.BlockState.{Free}
 use Rattle.lfs_model.specs.layers.Cache.{CachedBlocks}
-use Rattle.lfs_model.specs.layers.Changes.{ContentChange}
 use Rattle.lfs_pair.specs.declared.pair.Pair.{Pair}
-use Rattle.lfs_pair.specs.Commits.{CanCommit}
-use Rattle.lfs_pair.specs.Split.{CanSplitPair}
-use Rattle.lfs_thread.specs.Kept.{IsCacheCurrent, disk_of_device}
+use Rattle.lfs_thread.specs.Kept.{IsCacheCurrent}
 
--- a commit's premises, and a cache that is as the device
-pub record CanCommitCached {D : Type 0} (g : Ghosts D) (device : D) (cache : CachedBlocks) (pair : Pair) (changes : List ContentChange) : Type 0 where
-  pub can : CanCommit (disk_of_device g device) (g.history device) pair changes
-  pub current : IsCacheCurrent (g.blocks device) cache
-
--- the same of a split
-pub record CanSplitCached {D : Type 0} (g : Ghosts D) (device : D) (cache : CachedBlocks) (pair : Pair) (fresh : ℕ × ℕ) (changes : List ContentChange) : Type 0 where
-  pub can : CanSplitPair (disk_of_device g device) (g.history device) pair fresh changes
-  pub current : IsCacheCurrent (g.blocks device) cache
-
--- the same of a read of a part of a block, for which the buffer has room
+-- the premises of a read of a part of a block, for which the buffer has room, and a cache that is as the device
 pub record CanReadCached {D : Type 0} (g : Ghosts D) (device : D) (cache : CachedBlocks) (b off size len : ℕ) : Type 0 where
   pub inside : (b < (g.geometry device).block_count) × (off + size ≤ (g.geometry device).block_size)
   pub room : size ≤ len

@@ -9,10 +9,10 @@ ghost use Rattle.lfs_thread.specs.CachedLog.{cached_block_log, reads_unless_cach
 ghost use Rattle.lfs_thread.specs.ThreadSteps.{CanDropNext, IsNextDropped, LossLeavesPair, RefusesChanges, thread_pair};
 ghost use Rattle.lfs_model.specs.format.Thread.{address_blocks};
 
-use crate::commits::commit_with_cache;
+use crate::cached_pairs::take_cached_pair;
 use lfs_blocks::{BlockMap, Cache};
 use lfs_device::{BlockDevice, Error};
-use lfs_pair::{Change, Outcome, Pair};
+use lfs_pair::{Change, Outcome, Pair, commit};
 use std::alloc::Global;
 
 // Drops the pair after the one at the index. For that it commits changes to the pair at the index,
@@ -41,7 +41,9 @@ pub(crate) fn drop_next_pair<D: BlockDevice>(
     ensures stops { CleanLossLeaves (D.history device.old) (D.history device.new)
         (LossLeavesPair (kept_of_device D.BlockDevice device.old pairs.old.items map.old) index (changes_view changes.now)) }
 {
-    let outcome = commit_with_cache(alloc, device, cache, &mut pairs[index], changes)?;
+    let pair = &mut pairs[index];
+    let held = take_cached_pair(cache, pair.blocks, pair.active);
+    let outcome = commit(alloc, device, pair, held.as_deref(), changes)?;
     if let Outcome::Full = outcome {
         return Ok(Outcome::Full);
     }

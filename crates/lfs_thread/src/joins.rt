@@ -12,10 +12,10 @@ ghost use Rattle.lfs_thread.specs.CachedLog.{cached_block_log, reads_unless_cach
 ghost use Rattle.lfs_thread.specs.ThreadSteps.{CanThreadIn, RefusesThreading, IsThreadedIn, LossLeavesThreaded, tail_change, thread_pair};
 ghost use Rattle.lfs_model.specs.format.Thread.{address_blocks, addresses_blocks};
 
-use crate::commits::{commit_with_cache, forget_cached_pair};
+use crate::cached_pairs::{forget_cached_pair, take_cached_pair};
 use lfs_blocks::{BlockMap, Cache};
 use lfs_device::{BlockDevice, Error};
-use lfs_pair::{Change, Outcome, Pair};
+use lfs_pair::{Change, Outcome, Pair, commit};
 use lfs_tag::Tail;
 use std::alloc::Global;
 
@@ -53,7 +53,8 @@ pub(crate) fn thread_fresh_pair<D: BlockDevice>(
     forget_cached_pair(cache, fresh);
     let tail = change_setting_tail(&pair.tail);
     let fresh_pair = Pair::fresh(alloc, device, fresh, &[tail])?;
-    let outcome = commit_with_cache(alloc, device, cache, &mut pair, changes)?;
+    let held = take_cached_pair(cache, pair.blocks, pair.active);
+    let outcome = commit(alloc, device, &mut pair, held.as_deref(), changes)?;
     if let Outcome::Full = outcome {
         pairs.remove(index + 1);
         return Ok(Outcome::Full);

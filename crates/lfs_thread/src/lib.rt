@@ -3,7 +3,7 @@
 //! next.
 #![tactic(auto)]
 
-mod commits;
+mod cached_pairs;
 mod deltas;
 mod drops;
 mod headers;

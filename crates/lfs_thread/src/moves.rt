@@ -10,10 +10,10 @@ ghost use Rattle.lfs_thread.specs.Moves.{CanMoveNext, IsNextMoved, LossLeavesNex
 ghost use Rattle.lfs_thread.specs.ThreadDevice.{CleanLossLeaves, ReportsKeepingOthers};
 ghost use Rattle.lfs_thread.specs.ThreadSteps.{thread_pair};
 
-use crate::commits::{commit_with_cache, forget_cached_pair};
+use crate::cached_pairs::{forget_cached_pair, take_cached_pair};
 use lfs_blocks::{BlockMap, Cache};
 use lfs_device::{BlockDevice, Error};
-use lfs_pair::{Change, Outcome, Pair, copy};
+use lfs_pair::{Change, Outcome, Pair, commit, copy};
 use std::alloc::Global;
 
 // Copies the pair after the one at the index into two blocks in flight. Then it commits to the pair
@@ -48,7 +48,8 @@ pub(crate) fn move_next_pair<D: BlockDevice>(
         hard: true,
         pair: Some(fresh),
     };
-    let outcome = commit_with_cache(alloc, device, cache, &mut pair, &[tail])?;
+    let held = take_cached_pair(cache, pair.blocks, pair.active);
+    let outcome = commit(alloc, device, &mut pair, held.as_deref(), &[tail])?;
     if let Outcome::Full = outcome {
         unreachable!();
     }

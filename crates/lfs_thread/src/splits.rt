@@ -10,10 +10,10 @@ ghost use Rattle.lfs_thread.specs.CachedLog.{cached_block_log, reads_unless_cach
 ghost use Rattle.lfs_thread.specs.ThreadSteps.{CanSplitAt, LossLeavesThreadSplit, HasSplit, thread_pair};
 ghost use Rattle.lfs_model.specs.format.Thread.{addresses_blocks};
 
-use crate::commits::split_with_cache;
+use crate::cached_pairs::{forget_cached_pair, take_cached_pair};
 use lfs_blocks::{BlockMap, Cache};
 use lfs_device::{BlockDevice, Error};
-use lfs_pair::{Change, Pair};
+use lfs_pair::{Change, Pair, split};
 use std::alloc::Global;
 
 // Splits the pair at the index. The fresh pair comes after it in the thread, in two blocks in
@@ -43,7 +43,9 @@ pub(crate) fn split_pair<D: BlockDevice>(
     let mut pair = pairs[index];
     // This takes the memory for the fresh pair's header, before anything is written.
     pairs.insert(index + 1, pair)?;
-    let fresh_pair = split_with_cache(alloc, device, cache, &mut pair, fresh, changes)?;
+    let held = take_cached_pair(cache, pair.blocks, pair.active);
+    forget_cached_pair(cache, fresh);
+    let fresh_pair = split(alloc, device, &mut pair, fresh, held.as_deref(), changes)?;
     pairs[index] = pair;
     pairs[index + 1] = fresh_pair;
     map.settle(fresh[0]);

@@ -24,7 +24,7 @@ ghost use Rattle.lfs_thread.specs.HeaderReading.{IsReadThread};
 ghost use Rattle.lfs_thread.specs.Unloads.{CanUnload, IsUnloaded, LossLeavesUnloaded};
 ghost use Rattle.lfs_thread.specs.ThreadSteps.{CanSplitAt, CanChangePair, CanDropNext, CanThreadIn, ThreadReportsErrors, ThreadReportsKeepingOthers, RefusesThreading, IsThreadedIn, LossLeavesThreaded, IsPairCommitted, IsNextDropped, LossLeavesPair, LossLeavesThreadSplit, OnlyReadsThread, RefusesChanges, HasSplit, ChangesWithinReads, thread_pair};
 
-use crate::commits::commit_with_cache;
+use crate::cached_pairs::take_cached_pair;
 use crate::deltas::headers_gstate;
 use crate::drops::drop_next_pair;
 use crate::headers::read_thread_headers;
@@ -39,7 +39,7 @@ use lfs_blocks::{BlockMap, Cache};
 use lfs_device::{BlockDevice, Error, Geometry};
 use lfs_file::{KnownBlocks, read_at};
 use lfs_model::NameOrder;
-use lfs_pair::{Change, Outcome, Pair};
+use lfs_pair::{Change, Outcome, Pair, commit};
 use lfs_tag::{Log, MoveState, Tail, has_hard_tail};
 use std::alloc::Global;
 use std::marker::Model;
@@ -415,13 +415,9 @@ impl<D: BlockDevice> Thread<D> {
         ensures device { ChangesWithinReads (1 + reads_unless_cached (cached_log self.old index)) (address_blocks (thread_pair self.old.kept index).at) self.old.kept self.new.kept }
         ensures stops { CleanLossLeaves self.old.kept.history self.new.kept.history (LossLeavesPair self.old.kept index (changes_view changes.now)) }
     {
-        let outcome = commit_with_cache(
-            alloc,
-            &mut self.device,
-            &mut self.cache,
-            &mut self.pairs[index],
-            changes,
-        );
+        let pair = &mut self.pairs[index];
+        let held = take_cached_pair(&mut self.cache, pair.blocks, pair.active);
+        let outcome = commit(alloc, &mut self.device, pair, held.as_deref(), changes);
         self.has_failed = outcome.is_err();
         outcome
     }

@@ -11,10 +11,10 @@ ghost use Rattle.lfs_thread.specs.ThreadDevice.{CleanLossLeaves, ReportsKeepingO
 ghost use Rattle.lfs_thread.specs.ThreadSteps.{thread_pair};
 ghost use Rattle.lfs_thread.specs.Unloads.{CanUnload, IsUnloaded, LossLeavesUnloaded, changes_of_unload};
 
-use crate::commits::{commit_with_cache, forget_cached_pair};
+use crate::cached_pairs::{forget_cached_pair, take_cached_pair};
 use lfs_blocks::{BlockMap, Cache};
 use lfs_device::{BlockDevice, Error};
-use lfs_pair::{Change, Outcome, Pair, copy};
+use lfs_pair::{Change, Outcome, Pair, commit, copy};
 use lfs_tag::MoveState;
 use std::alloc::Global;
 
@@ -53,7 +53,8 @@ pub(crate) fn unload_pair<D: BlockDevice>(
         state: MoveState::none(),
     };
     let loaded = copy(alloc, device, &pair, fresh, &[no_delta])?;
-    let outcome = commit_with_cache(alloc, device, cache, &mut pair, &changes)?;
+    let held = take_cached_pair(cache, pair.blocks, pair.active);
+    let outcome = commit(alloc, device, &mut pair, held.as_deref(), &changes)?;
     if let Outcome::Full = outcome {
         unreachable!();
     }

@@ -82,7 +82,8 @@ pub use Rattle.lfs_operations.specs.Making.{AreBothTouched, CanMakeAt, HasFreeBl
 pub use Rattle.lfs_operations.specs.MovingAcross.{IsRenamedAcross, tree_moved}
 pub use Rattle.lfs_operations.specs.MovingSteps.{WritesPairsTwo, WritesThreadFree, second_step_pair}
 pub use Rattle.lfs_operations.specs.Ready.{IsReadyImage, IsReadyUnsettled, KeepsRootNumber}
-pub use Rattle.lfs_operations.specs.Recovering.{AreUnreachedFrom, AreUnreachedNumbers, CanDropPairs, HasDroppedRecovered, numbered_slots}
+pub use Rattle.lfs_operations.specs.Recovering.{CanDropPairs, HasDroppedRecovered, numbered_slots}
+pub use Rattle.lfs_model.specs.layers.StepResults.{AreUnreachedFrom, AreUnreachedNumbers}
 pub use Rattle.lfs_operations.specs.Removing.{drops_emptied_pair, removal_written_address}
 pub use Rattle.lfs_operations.specs.Renaming.{tree_renamed}
 pub use Rattle.lfs_operations.specs.Storing.{HasStoredContents, tree_with_contents}

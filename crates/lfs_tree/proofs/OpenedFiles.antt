@@ -2,7 +2,7 @@
 use Rattle.std.proofs.Common.{ℕ, ◌≡◌, ◌≤◌, ◌∙◌, inl, inr, true, false, List, [], ◌∷◌, length, take, drop, Option, Some, Result, Ok, Err, refl, sym, ap, subst, arith}
 use Rattle.std.proofs.Math.Seq.{take-length}
 use Rattle.std.specs.Prelude.{All, Contains, IfOk}
-use Rattle.lfs_tree.proofs.Common.{flat_map, All-from_recursion, same_Some, file_bytes, is_file, Blocks, AreUsed, BlockStates, IsFree, IsInFlight, IsUsedBlock, in_flight_count, Free, Used, inline_limit, CallEvent, IsSkipList, list_bytes, slot_of, Slot, Struct, Inline, Ctz, pairs_blocks, Path, InlineBytesFit, IsAccepted, IsFormedList, all_unmoved_slots, struct_blocks, disk_tree, used_blocks, few_flying, Contains-number_occurrences, Each, count_append, each_from_counted, each_pieces, contents_list_blocks, HasGeometry, KeptThread, IsOpenedForm, AreThreadContents, slot_blocks, writer_contents_bytes, list_blocks_at, CanOpenSlot, AreOpenedContents, opened_form, SizedLists, HaveBytesInForm, NoneInFlight, contents_form, ContentsForm, IsFinishedList}
+use Rattle.lfs_tree.proofs.Common.{flat_map, All-from_recursion, same_Some, file_bytes, is_file, Blocks, AreUsed, BlockStates, IsFree, IsInFlight, IsUsedBlock, in_flight_count, Free, Used, inline_limit, CallEvent, IsSkipList, list_bytes, slot_of, Slot, Struct, Inline, Ctz, pairs_blocks, Path, InlineBytesFit, IsAccepted, IsFormedList, all_unmoved_slots, struct_blocks, disk_tree, used_blocks, few_flying, Contains-number_occurrences, Each, count_append, each_from_counted, each_pieces, contents_list_blocks, HasGeometry, KeptThread, IsOpenedForm, AreThreadContents, slot_blocks, writer_contents_bytes, list_blocks_at, CanOpenSlot, AreOpenedContents, opened_form, SizedLists, HaveBytesInForm, NoneInFlight, contents_form, ContentsForm, IsFinishedList, ThreadView, OnlyReadsThread, LeadsToResult, only_read}
 use Rattle.lfs_device.specs.declared.error.Error.{Error}
 use Rattle.lfs_device.specs.declared.geometry.Geometry.{Geometry}
 use Rattle.lfs_model.proofs.BlockCounts.{in_flight-freed}
@@ -11,13 +11,21 @@ use Rattle.lfs_lookup.specs.declared.entry.FileStorage.{FileStorage}
 use Rattle.lfs_lookup.specs.declared.entry.FileStorage.TheVariants as entry
 use Rattle.lfs_lookup.specs.declared.search.SlotPosition.{SlotPosition}
 use Rattle.lfs_tree.proofs.BesideWritten.{bytes_of_held}
-use Rattle.lfs_lookup.proofs.BytesAtSlots.{IsFileOf, file_since}
-use Rattle.lfs_tree.proofs.Carried.{with_history}
+use Rattle.lfs_lookup.proofs.BytesAtSlots.{IsFileOf, file_since, file_of_path}
+use Rattle.lfs_tree.proofs.Carried.{with_history, read_is}
 use Rattle.lfs_tree.proofs.SlotsHave.{slot_has}
 use Rattle.lfs_file.specs.Form as form
 use Rattle.lfs_file.specs.declared.contents.WriterContents.{WriterContents}
 use Rattle.lfs_file.specs.declared.contents.WriterContents.TheVariants.{InMemory, Finished, InHand}
 use Rattle.lfs_file.specs.declared.stored_list.StoredList.{StoredList}
+use Rattle.lfs_lookup.specs.declared.paths.PathLookup.{PathLookup}
+use Rattle.lfs_lookup.specs.declared.paths.PathLookup.TheVariants as found
+use Rattle.lfs_lookup.specs.declared.paths.VisiblePathLookup.TheVariants as shown
+use Rattle.lfs_tree.specs.RenameFindings.{lookup_without_parent}
+use Rattle.lfs_tree.specs.Stores.{is_file_found}
+use Rattle.lfs_tree.specs.Working.{CanOpenFile}
+use Rattle.lfs_tree.proofs.PutContents.{file_found}
+use Rattle.lfs_tree.proofs.RenamePaths.{shows_found}
 
 -- ---- where no block is in flight
 
@@ -99,36 +107,8 @@ marked_there t path held ok used at =
     (let e = count_append b (pairs_blocks t.pairs) (flat_map (λ (s : Slot). struct_blocks t.disk s.struct) (all_unmoved_slots t.pairs)) in omega arith)))))
     tt path held at)
 
-module _ (t : KeptThread) (h : List CallEvent) (path : Path) (slot : SlotPosition) (contents : FileStorage) (f : IsFileOf t path slot contents) (ok : IsAccepted t.disk t.pairs) (used : AreUsed t.map (used_blocks t.disk t.pairs))
-    (idle : NoneInFlight t.map t.disk.blocks) where
-  pub can_be_opened : CanOpenSlot (with_history t h) slot contents f.held
-  can_be_opened = record {
-    file = file_since t (with_history t h) slot contents f.held refl refl f.file;
-    idle = record { count = idle.count; none = idle.none };
-    marked = λ k d l. not_free t.map _ (marked_there t path f.held ok used f.at k d l);
-  }
-
-  module _ (file : is_file (disk_tree t.disk t.pairs path) ≡ true) (now : List CallEvent) (r : Result WriterContents Error) where
-    pub over_opened : IfOk r (AreOpenedContents (with_history t now) f.held.struct (opened_form contents)) → IfOk r (AreThreadContents (with_history t now) path)
-    over_opened opened = go r opened
-      where
-        go : (r : Result WriterContents Error) → IfOk r (AreOpenedContents (with_history t now) f.held.struct (opened_form contents)) → IfOk r (AreThreadContents (with_history t now) path)
-        go (Err x) o = tt
-        go (Ok c) o = record {
-          file = file;
-          stands = record { geometry = o.holds.geometry; divided = o.holds.divided; stands = o.holds.has.stands };
-          owned = record { each = λ b has is. subst (λ (z : Option Slot). Contains (slot_blocks t.disk z) b) (sym f.at) (o.owned.each b has is) };
-        }
-
-    pub bytes_opened : IfOk r (AreOpenedContents (with_history t now) f.held.struct (opened_form contents)) → IfOk r (λ c. writer_contents_bytes (with_history t now) c ≡ file_bytes (disk_tree t.disk t.pairs path))
-    bytes_opened opened = go r opened
-      where
-        go : (r : Result WriterContents Error) → IfOk r (AreOpenedContents (with_history t now) f.held.struct (opened_form contents)) → IfOk r (λ c. writer_contents_bytes (with_history t now) c ≡ file_bytes (disk_tree t.disk t.pairs path))
-        go (Err x) o = tt
-        go (Ok c) o = bytes_of_held (with_history t now) c (struct_file_bytes t.disk f.held.struct) (opened_form contents) o.holds ∙ f.bytes
-
 -- contents as they are opened
-pub form_opened : (t : KeptThread) (path : Path) (slot : SlotPosition) (contents : FileStorage) (f : IsFileOf t path slot contents) → InlineBytesFit (inline_limit t.disk.profile t.disk.block_size) f.held.struct → SizedLists t.disk → (shape : ContentsForm) → shape ≡ opened_form contents
+form_opened : (t : KeptThread) (path : Path) (slot : SlotPosition) (contents : FileStorage) (f : IsFileOf t path slot contents) → InlineBytesFit (inline_limit t.disk.profile t.disk.block_size) f.held.struct → SizedLists t.disk → (shape : ContentsForm) → shape ≡ opened_form contents
     → IsOpenedForm t.disk.profile t.disk.block_size (length (file_bytes (disk_tree t.disk t.pairs path))) shape
 form_opened t path slot (entry.Inline len) f few sized shape e =
     let k = f.file.shows in
@@ -141,9 +121,73 @@ form_opened t path slot (entry.List head size) f few sized shape e =
     let l : size ≡ length (file_bytes (disk_tree t.disk t.pairs path)) = sym (sized head size (subst (IsFormedList t.disk) k f.file.list)) ∙ sym (ap (λ z. length (struct_file_bytes t.disk z)) k) ∙ ap length f.bytes in
     inr (e ∙ ap (λ n. form.Finished n false) l)
 
-pub form_of_opened : (t : KeptThread) (s : Struct) (shape : ContentsForm) (r : Result WriterContents Error) (P : ContentsForm → Type 0) → ((f : ContentsForm) → f ≡ shape → P f) → IfOk r (AreOpenedContents t s shape) → IfOk r (λ c. P (contents_form c))
+form_of_opened : (t : KeptThread) (s : Struct) (shape : ContentsForm) (r : Result WriterContents Error) (P : ContentsForm → Type 0) → ((f : ContentsForm) → f ≡ shape → P f) → IfOk r (AreOpenedContents t s shape) → IfOk r (λ c. P (contents_form c))
 form_of_opened t s shape (Err x) P of o = tt
 form_of_opened t s shape (Ok c) P of o = of (contents_form c) o.holds.has.form
+
+-- no file is there, if none is found
+pub not_led : (t : KeptThread) (path : Path) (f : PathLookup) → is_file (disk_tree t.disk t.pairs path) ≡ true → LeadsToResult t path f → ((parent : ℕ) (slot : SlotPosition) (contents : FileStorage) → f ≡ found.File parent slot contents → ⊥) → ⊥
+not_led t path f file leads none = go f (file_found t path f file leads) none
+  where
+    go : (f : PathLookup) → is_file_found f ≡ true → ((parent : ℕ) (slot : SlotPosition) (contents : FileStorage) → f ≡ found.File parent slot contents → ⊥) → ⊥
+    go (found.File parent slot contents) e none = none parent slot contents refl
+    go _ e none = absurd (cc)
+
+-- the file that is found
+module _ (t : ThreadView) (root : ℕ) (path : Path) (can : CanOpenFile t root path) (f : PathLookup) (leads : LeadsToResult t.kept path f) (parent : ℕ) (slot : SlotPosition) (contents : FileStorage) (is : f ≡ found.File parent slot contents) where
+  led : IsFileOf t.kept path slot contents
+  led =
+      let ok = can.rests.held.sound.accepted in
+      file_of_path t.kept path (shown.File slot contents) slot contents ok (shows_found t.kept path f (shown.File slot contents) ok can.rests.settled leads (sym (ap lookup_without_parent is))) refl
+
+  can_be_opened : (h : List CallEvent) → CanOpenSlot (with_history t.kept h) slot contents led.held
+  can_be_opened h =
+      let sound = can.rests.held.sound in
+      let idle = idle_is t.kept can.idle sound.size in
+      record {
+        file = file_since t.kept (with_history t.kept h) slot contents led.held refl refl led.file;
+        idle = record { count = idle.count; none = idle.none };
+        marked = λ k d l. not_free t.kept.map _ (marked_there t.kept path led.held sound.accepted sound.used led.at k d l);
+      }
+
+  -- ---- behind calls that only read
+
+  module _ (mid : KeptThread) (read : OnlyReadsThread t.kept mid) where
+    can_open : CanOpenSlot mid slot contents led.held
+    can_open = subst (λ (k : KeptThread). CanOpenSlot k slot contents led.held) (sym (read_is t.kept mid read)) (can_be_opened mid.history)
+
+    pub can_open_led : (held : Slot) × CanOpenSlot mid slot contents held
+    can_open_led = (led.held, can_open)
+
+    module _ (new : KeptThread) (later : OnlyReadsThread mid new) (r : Result WriterContents Error) (opened : (held : Slot) → CanOpenSlot mid slot contents held → IfOk r (AreOpenedContents new held.struct (opened_form contents))) where
+      behind : new ≡ with_history t.kept new.history
+      behind = read_is t.kept new (only_read t.kept mid new read later)
+
+      opened_led : IfOk r (AreOpenedContents (with_history t.kept new.history) led.held.struct (opened_form contents))
+      opened_led = subst (λ (k : KeptThread). IfOk r (AreOpenedContents k led.held.struct (opened_form contents))) behind (opened led.held can_open)
+
+      pub over_led : IfOk r (AreThreadContents new path)
+      over_led = subst (λ (k : KeptThread). IfOk r (AreThreadContents k path)) (sym behind) (go r opened_led)
+        where
+          go : (r : Result WriterContents Error) → IfOk r (AreOpenedContents (with_history t.kept new.history) led.held.struct (opened_form contents)) → IfOk r (AreThreadContents (with_history t.kept new.history) path)
+          go (Err x) o = tt
+          go (Ok c) o = record {
+            file = can.file;
+            stands = record { geometry = o.holds.geometry; divided = o.holds.divided; stands = o.holds.has.stands };
+            owned = record { each = λ b has used. subst (λ (z : Option Slot). Contains (slot_blocks t.kept.disk z) b) (sym led.at) (o.owned.each b has used) };
+          }
+
+      pub bytes_led : IfOk r (λ c. writer_contents_bytes new c ≡ file_bytes (disk_tree t.kept.disk t.kept.pairs path))
+      bytes_led = subst (λ (k : KeptThread). IfOk r (λ c. writer_contents_bytes k c ≡ file_bytes (disk_tree t.kept.disk t.kept.pairs path))) (sym behind) (go r opened_led)
+        where
+          go : (r : Result WriterContents Error) → IfOk r (AreOpenedContents (with_history t.kept new.history) led.held.struct (opened_form contents)) → IfOk r (λ c. writer_contents_bytes (with_history t.kept new.history) c ≡ file_bytes (disk_tree t.kept.disk t.kept.pairs path))
+          go (Err x) o = tt
+          go (Ok c) o = bytes_of_held (with_history t.kept new.history) c (struct_file_bytes t.kept.disk led.held.struct) (opened_form contents) o.holds ∙ led.bytes
+
+      pub form_led : SizedLists t.kept.disk → IfOk r (λ c. IsOpenedForm t.kept.disk.profile t.kept.disk.block_size (length (file_bytes (disk_tree t.kept.disk t.kept.pairs path))) (contents_form c))
+      form_led sized =
+          form_of_opened (with_history t.kept new.history) led.held.struct (opened_form contents) r (IsOpenedForm t.kept.disk.profile t.kept.disk.block_size (length (file_bytes (disk_tree t.kept.disk t.kept.pairs path))))
+          (λ shape e. form_opened t.kept path slot contents led (led.inline (can.rests.held.sound.fits refl)) sized shape e) opened_led
 
 -- contents of no bytes are over each file
 pub over_empty : (t : KeptThread) (path : Path) (r : Result WriterContents Error) → is_file (disk_tree t.disk t.pairs path) ≡ true → IfOk r (AreOpenedContents t (Inline []) (form.InMemory 0)) → IfOk r (AreThreadContents t path)

@@ -13,7 +13,7 @@ use Rattle.lfs_model.specs.session.Operations as ops
 use Rattle.lfs_model.specs.session.Session.{exceeds_charge, parents_refusal}
 use Rattle.lfs_model.proofs.BlockCounts.{few_used}
 use Rattle.lfs_operations.specs.EndingMove.{KeepsRecoveryLayouts}
-use Rattle.lfs_operations.proofs.RecoverBefore.{AreKin, stand_kin}
+use Rattle.lfs_model.proofs.RecoveryLayouts.{AreKin, stand_kin}
 use Rattle.lfs_tree.proofs.KeptFiles.{keeps_then}
 use Rattle.lfs_tree.proofs.Recovered.{called_then, leaves_then, recovered_already, some_since}
 

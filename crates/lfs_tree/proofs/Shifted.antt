@@ -1,7 +1,7 @@
 -- An entry that gets another path: what is found for it, and what may be done.
 use Rattle.std.proofs.Common.{ℕ, ◌≡◌, ◌≤◌, ◌∙◌, ◌&&◌, ◌++◌, not, Bool, true, false, List, [], ◌∷◌, Option, Some, None, Result, Ok, Err, refl, sym, ap, ap₂, subst}
 use Rattle.std.specs.Prelude.{OnOk, is_some}
-use Rattle.lfs_tree.proofs.Common.{list_all, option_and_then, ltb-false, slice_get_within, AreByteBlocks, last_name, tree_renaming, without_prefix, same_path, charge_limit, CallEvent, OnlyReadsSince, fault_count, BelongsAt, Name, is_component, is_valid_name, Slot, entry_charge, path_or_root, is_root_path, Pair, pairs_gstate, count_before_root, Path, Tree, branch_address, LeadsTo, disk_tree, no_move_from, last_is, KeptThread, ThreadView, OnlyReadsThread, WritesThreadFree, CanRenamePath, tree_after_call, AppliesInPlace, HasAppliedCall, CanChangeRecovered, AppliesOrFails, IsNamedResult, SparesOutsideOperation, HasSoundImage, SurvivesEither, HasPathEntry, uncached_state, tree_summary, LeadsToPair, LeadsToResult, IsSlotBelow, CanMoveEntry, CanMoveOntoFound, CanMoveOntoFile, CanMoveOntoDirectory, CanMoveToVacant, HasMovedEntry, ThreadWorksOrReports}
+use Rattle.lfs_tree.proofs.Common.{list_all, option_and_then, ltb-false, slice_get_within, AreByteBlocks, last_name, tree_renaming, without_prefix, same_path, charge_limit, CallEvent, OnlyReadsSince, fault_count, BelongsAt, Name, is_component, is_valid_name, Slot, entry_charge, path_or_root, is_root_path, Pair, pairs_gstate, count_before_root, Path, Tree, branch_address, LeadsTo, disk_tree, no_move_from, last_is, KeptThread, ThreadView, OnlyReadsThread, WritesThreadFree, CanRenamePath, tree_after_call, AppliesInPlace, HasAppliedCall, CanChangeRecovered, AppliesOrFails, IsNamedResult, SparesOutsideOperation, HasSoundImage, SurvivesEither, HasPathEntry, uncached_state, tree_summary, LeadsToPair, LeadsToResult, IsSlotBelow, CanMoveEntry, CanMoveOntoFound, CanMoveOntoFile, CanMoveOntoDirectory, CanMoveToVacant, HasMovedEntry, ThreadWorksOrReports, HasRead}
 use Rattle.lfs_device.specs.declared.error.Error.{Error}
 use Rattle.lfs_model.specs.session.TreeEdits.{is_beneath}
 use Rattle.lfs_model.specs.session.Operations as ops
@@ -186,8 +186,14 @@ rests_still t mid root rests only works = record {
   settled = ap pairs_gstate only.pairs ∙ rests.settled;
 }
 
-pub reported_of_work : {X : Type 0} (old new : ThreadView) (result : Result X Error) → ThreadWorksOrReports old new result → ReportsFaultsSince old.kept.history new.kept.history result
-reported_of_work old new result t = record { errors = t.errors; fault = t.fault; no_fault = t.no_fault }
+-- a move behind calls that only read
+pub move_does : (t mid new : ThreadView) (root : ℕ) → CanChangeRecovered t root → (from to : Path) → same_path from to ≡ false → HasRead t mid → (given to_given : List ℕ) × (path_or_root given ≡ from) × (path_or_root to_given ≡ to) → (r : Result (Unit {0}) Error)
+    → OnOk r (HasMovedEntry mid.kept from to new.kept) → ThreadWorksOrReports mid new r → WritesThreadFree mid.kept new.kept → SurvivesEither mid.kept new.kept (tree_renaming from to (disk_tree mid.kept.disk mid.kept.pairs)) → AppliesOrFails t (call.Rename from to) r new
+move_does t mid new root rests from to other read paths r shifted told w survives =
+    let is = read_is t.kept mid.kept read.only in
+    rename_does t root rests from to other mid.kept.history new read.only.reads (subst (λ k. WritesThreadFree k new.kept) is w) r paths.0 paths.1 paths.2 paths.3 read.same
+    (subst (λ k. OnOk r (HasMovedEntry k from to new.kept)) is shifted) (record { errors = told.errors; fault = told.fault; no_fault = told.no_fault }) told.works
+    (subst (λ k. SurvivesEither k new.kept (tree_renaming from to (disk_tree k.disk k.pairs))) is survives)
 
 leads_back : (t : KeptThread) (h : List CallEvent) (path : Path) (f : PathLookup) → LeadsToResult (with_history t h) path f → LeadsToResult t path f
 leads_back t h path found.Root l = record { parents = l.parents; there = l.there }

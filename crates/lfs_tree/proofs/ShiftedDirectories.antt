@@ -1,5 +1,5 @@
 -- An entry that takes the place of a directory without entries: what the operations on slots ask for, and what they come to.
-use Rattle.std.proofs.Common.{ℕ, ◌≡◌, ◌≢◌, ◌⊎◌, inl, inr, ◌-◌, ◌∙◌, ◌++◌, false, [], ◌∷◌, Result, Ok, Err, sym, ap₂, subst, arith}
+use Rattle.std.proofs.Common.{ℕ, ◌≡◌, ◌≢◌, ◌⊎◌, inl, inr, ◌-◌, ◌∙◌, ◌++◌, false, [], ◌∷◌, Result, Ok, Err, sym, ap₂, subst, arith, true}
 use Rattle.std.specs.Prelude.{OnOk, is_err}
 use Rattle.lfs_device.specs.declared.error.Error.{Error}
 use Rattle.lfs_tree.proofs.Common.{tree_renaming, without_prefix, IsPlaceOf, Name, Branch, Path, disk_tree, WritesTouchedFree, WritesThreadFree, IsRenamedAcross, tree_moved, tree_renamed, KeptThread, ThreadView, OnlyReadsThread, ChangesThreadBlocks, thread_pair, SurvivesEither, CanMoveEntry, CanMoveOntoDirectory, HasMovedEntry, ThreadWorksOrReports, address_blocks, addresses_blocks}
@@ -76,33 +76,36 @@ module _ (t : KeptThread) (from to : Path) (source : RenameSource) (slot : SlotP
 
   pub over_apart : source.slot.pair ≢ slot.pair → CanReplaceDirectoryAcross t source.slot.pair source.slot.id source.first slot.pair slot.id name gone
   over_apart ne = record {
-    old = shift.old;
-    begins_old = shift.old_first;
-    path = shift.above;
-    at = shift.on.at;
-    leads = shift.on.leads;
-    to_first = shift.first;
-    begins = shift.on.begins;
-    target = can.target;
+    onto = record {
+      old = shift.old;
+      begins_old = shift.old_first;
+      path = shift.above;
+      at = shift.on.at;
+      leads = shift.on.leads;
+      to_first = shift.first;
+      begins = shift.on.begins;
+      target = can.target;
+      file = λ e. absurd (let wrong : true ≡ false = e in cc);
+      logged = shift.logged _;
+      apart = ne;
+      not_beneath = ap₂ without_prefix (sym shift.old_is) (sym shift.is) ∙ shift.not_beneath;
+      fits = shift.fits;
+    };
     to = can.at;
     branch = can.branch;
     below = can.below;
     alike = can.there;
     empty = can.empty;
     alone = can.alone;
-    logged = shift.logged _;
-    apart = ne;
-    not_beneath = ap₂ without_prefix (sym shift.old_is) (sym shift.is) ∙ shift.not_beneath;
-    fits = shift.fits;
   }
 
-  pub over_survives_apart : (new : KeptThread) → source.slot.pair ≢ slot.pair → ((rename : CanReplaceDirectoryAcross t source.slot.pair source.slot.id source.first slot.pair slot.id name gone) → SurvivesEither t new (tree_moved t rename.old.path rename.old.name rename.path name))
+  pub over_survives_apart : (new : KeptThread) → source.slot.pair ≢ slot.pair → ((rename : CanReplaceDirectoryAcross t source.slot.pair source.slot.id source.first slot.pair slot.id name gone) → SurvivesEither t new (tree_moved t rename.onto.old.path rename.onto.old.name rename.onto.path name))
       → SurvivesEither t new (tree_renaming from to (disk_tree t.disk t.pairs))
   unfolding over_apart
   over_survives_apart new ne gives = survives_at t new from to _ _ shift.old_is shift.is (gives (over_apart ne))
 
   pub over_done_apart : (new : KeptThread) → source.slot.pair ≢ slot.pair → WritesTouchedFree t (addresses_blocks (thread_pair t source.slot.pair).at (thread_pair t slot.pair).at) new
-      → ((rename : CanReplaceDirectoryAcross t source.slot.pair source.slot.id source.first slot.pair slot.id name gone) → IsRenamedAcross t new rename.old.path rename.old.name rename.path name) → HasMovedEntry t from to new
+      → ((rename : CanReplaceDirectoryAcross t source.slot.pair source.slot.id source.first slot.pair slot.id name gone) → IsRenamedAcross t new rename.onto.old.path rename.onto.old.name rename.onto.path name) → HasMovedEntry t from to new
   unfolding over_apart
   over_done_apart new ne alters gives =
       let is : IsRenamedAcross t new shift.old.path shift.old.name shift.above name = gives (over_apart ne) in

@@ -112,7 +112,7 @@ module _ (t : KeptThread) (from to : Path) (source : RenameSource) (slot : SlotP
     to_first = shift.first;
     begins = shift.on.begins;
     target = can.target;
-    file = file_branch contents can.target.stands.slot.struct can.shows;
+    file = λ plain. file_branch contents can.target.stands.slot.struct can.shows;
     logged = shift.logged _;
     apart = ne;
     not_beneath = ap₂ without_prefix (sym shift.old_is) (sym shift.is) ∙ shift.not_beneath;

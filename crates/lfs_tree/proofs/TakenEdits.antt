@@ -4,7 +4,7 @@ use Rattle.std.specs.Prelude.{sum_by}
 use Rattle.lfs_tree.proofs.Common.{recursion_from_All, sum_by-append, sum_by-cons, last_name, attributes_with, attributes_without, Disk, FitsPair, IsUnreachedOrRemoved, IsLayoutRecovered, IsLayout, Name, Operation, Session, slot_of, pair_with_slots, pairs_without_moved, FitsInPair, Slot, slot_size, path_or_root, Pair, pairs_gstate, count_before_root, Node, Path, Tree, Each, each_append, each_left, each_right, IsWritable, SameGeometry, used_blocks}
 use Rattle.lfs_model.specs.session.Operations as ops
 use Rattle.lfs_model.specs.session.SlotEdits.{RemovesSlot, AddsFile, EditsSlots, ReplacesSlots, AddsDirectory, MovesSlot, ReplacesSlot, directory_slot, file_slot}
-use Rattle.lfs_operations.proofs.RawSlots.{fewer_attributes}
+use Rattle.lfs_model.proofs.RawSlots.{fewer_attributes}
 use Rattle.lfs_tree.specs.KeptFiles.{operation_room}
 use Rattle.lfs_tree.proofs.TakenBlocks.{FitBut, all_few, all_fit, fit_unmoved, list_length, lists_append, lists_in, lists_of, parts_fit, some_fit, total, total_append, total_unmoved, used_total}
 

@@ -51,10 +51,11 @@ AreTreeContents t path contents = AreThreadContents (kept_thread t) path content
 
 -- ---- what is asked for
 
--- nothing is in flight, and a file is there
+-- nothing is to recover or in flight, and a file is there
 pub record CanOpenWriterOf (t : TreeState) (path : Path) : Type 0 where
   pub works : t.failed ≡ false
   pub writable : t.writable ≡ true
+  pub settled : pairs_gstate t.pairs ≡ zero_gstate
   pub idle : in_flight_count t.map ≡ 0
   pub file : is_file (shown_tree t path) ≡ true
 

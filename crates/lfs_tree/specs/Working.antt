@@ -7,8 +7,7 @@ use Rattle.lfs_model.specs.tree.Shown.{disk_tree}
 use Rattle.lfs_model.specs.tree.Tree.{Path}
 use Rattle.lfs_model.specs.session.TreeEdits.{is_file}
 use Rattle.lfs_thread.specs.Kept.{KeptThread, ThreadView}
-use Rattle.lfs_tree.specs.RootedThreads.{SoundWithRoot}
-use Rattle.lfs_tree.specs.TreeChanges.{HasThreadCause}
+use Rattle.lfs_tree.specs.TreeChanges.{HasThreadCause, CanChangeRecovered}
 
 -- the thread works, and what it keeps meets a condition
 pub record IsWorkingWhere (t : ThreadView) (Can : KeptThread → Type 0) : Type 0 where
@@ -21,8 +20,8 @@ pub record WorksOrReportsFault {X : Type 0} (old new : ThreadView) (result : Res
   pub no_fault : OnOk result (fault_count new.kept.history ≡ fault_count old.kept.history)
   pub errors : IfErr result (HasThreadCause old.kept new.kept)
 
--- the image is sound and in the writing profile, no block is in flight, and a file is at the path
+-- the image may be changed, no block is in flight, and a file is at the path
 pub record CanOpenFile (t : ThreadView) (root : ℕ) (path : Path) : Type 0 where
-  pub held : SoundWithRoot t root true
+  pub rests : CanChangeRecovered t root
   pub idle : in_flight_count t.kept.map ≡ 0
   pub file : is_file (disk_tree t.kept.disk t.kept.pairs path) ≡ true

@@ -8,7 +8,8 @@ ghost use Rattle.lfs_model.specs.layers.LoggedContent.{IsFormedSlot, AreWellForm
 ghost use Rattle.lfs_model.specs.format.Slots.{PairContent as ModelContent};
 ghost use Rattle.lfs_operations.specs.Dropping.{SameInFlight};
 ghost use Rattle.lfs_operations.specs.Ready.{IsReadyImage};
-ghost use Rattle.lfs_operations.specs.Recovering.{AreUnreachedNumbers, numbered_slots};
+ghost use Rattle.lfs_operations.specs.Recovering.{numbered_slots};
+ghost use Rattle.lfs_model.specs.layers.StepResults.{AreUnreachedNumbers};
 ghost use Rattle.lfs_tag.specs.ContentView.{slot_view};
 ghost use Rattle.lfs_thread.specs.CachedLog.{IsContentLog};
 ghost use Rattle.lfs_thread.specs.ThreadSteps.{thread_pair};

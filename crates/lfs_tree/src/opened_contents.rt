@@ -14,9 +14,10 @@ ghost use Rattle.lfs_file.specs.Contents.{NoneInFlight, contents_form};
 ghost use Rattle.lfs_tree.specs.Working.{CanOpenFile};
 ghost use Rattle.lfs_file.specs.Form as form;
 
+use crate::entries_at::find_at_path;
 use lfs_device::{BlockDevice, Error, Geometry};
 use lfs_file::{StoredList, WriterContents, contents_in_memory};
-use lfs_lookup::{Path, SlotPosition, look_up_path, read_inline_at, spot_of_file};
+use lfs_lookup::{Path, PathLookup, SlotPosition, read_inline_at};
 use lfs_thread::Thread;
 use std::alloc::Global;
 
@@ -89,8 +90,8 @@ pub(crate) fn open_contents_at<D: BlockDevice>(
     ensures form { IfOk result (λ c. IsOpenedForm thread.old.kept.disk.profile thread.old.kept.disk.block_size (length (file_bytes (disk_tree thread.old.kept.disk thread.old.kept.pairs path.now))) (contents_form c)) }
     ensures reading { ReadsOrReports thread.old thread.new result }
 {
-    let shown = look_up_path(alloc, thread, root, path)?;
-    let Some((slot, contents)) = spot_of_file(shown) else {
+    let target = find_at_path(alloc, thread, root, path)?;
+    let PathLookup::File { slot, contents, .. } = target.found else {
         unreachable!()
     };
     // By its sizes a list has as many bytes as its entry says.

@@ -3,7 +3,7 @@
 ghost use Rattle.std.specs.Prelude.{◌≡◌, ◌<◌, ◌≤◌, ◌++◌, ◌∷◌, [], IfOk, OnOk, false, if◌then◌else◌, length, replicate, slice_index_or};
 ghost use Rattle.lfs_model.specs.format.Thread.{count_before_root};
 ghost use Rattle.lfs_model.specs.tree.View.{IsAccepted};
-ghost use Rattle.lfs_operations.specs.Recovering.{AreUnreachedNumbers};
+ghost use Rattle.lfs_model.specs.layers.StepResults.{AreUnreachedNumbers};
 ghost use Rattle.lfs_lookup.specs.Items.{item_view, items_view};
 ghost use Rattle.lfs_lookup.specs.ProfileChecks.{follows_tail_at};
 ghost use Rattle.lfs_lookup.specs.LookupReading.{ReadsOrReports};

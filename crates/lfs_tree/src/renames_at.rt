@@ -1,11 +1,13 @@
 // Entries at paths that get another one, in a thread that has nothing to recover.
 
-ghost use Rattle.std.specs.Prelude.{◌≡◌, ◌≢◌, false, true, IfSome, IsSome, OnOk};
+ghost use Rattle.std.specs.Prelude.{ℕ, ◌≡◌, ◌≢◌, false, true, List, IfOk, IfSome, IsSome, OnOk};
 ghost use Rattle.lfs_model.specs.format.Slots.{zero_gstate};
 ghost use Rattle.lfs_model.specs.format.Thread.{pairs_gstate};
+ghost use Rattle.lfs_model.specs.session.Refusals.{path_or_root};
 ghost use Rattle.lfs_model.specs.session.TreeEdits.{tree_renaming, same_path};
 ghost use Rattle.lfs_model.specs.tree.Tree.{Path};
 ghost use Rattle.lfs_model.specs.tree.Shown.{disk_tree};
+ghost use Rattle.lfs_lookup.specs.LookupReading.{ReadsOrReports};
 ghost use Rattle.lfs_operations.specs.MovingSteps.{WritesThreadFree};
 ghost use Rattle.lfs_tree.specs.Permissions.{CanRenamePath};
 ghost use Rattle.lfs_tree.specs.TreeCalls as call;
@@ -25,7 +27,7 @@ use crate::tree::Tree;
 use lfs_device::{BlockDevice, Error};
 use lfs_lookup::{FileStorage, Path, PathLookup, SlotPosition};
 use lfs_operations::{
-    Route, rename, rename_across_pairs, rename_onto_directory, rename_onto_file,
+    EmptyDirectory, PairPlace, Route, rename, rename_across_pairs, rename_onto_directory,
     replace_directory_across, replace_file_across,
 };
 use lfs_thread::Thread;
@@ -36,6 +38,14 @@ use std::alloc::Global;
 pub(crate) struct RenameSource {
     pub(crate) slot: SlotPosition,
     pub(crate) first: usize,
+}
+
+// An entry that gets another path, what is at that path, and the path's last name.
+#[derive(Drop)]
+struct FoundMove<'a> {
+    source: RenameSource,
+    target: PathLookup,
+    name: &'a [u8],
 }
 
 // Returns the slot of an entry that was found.
@@ -71,7 +81,11 @@ fn replace_file<D: BlockDevice>(
 {
     let from = source.slot;
     if from.pair == slot.pair {
-        rename_onto_file(alloc, thread, from.pair, from.id, slot.id, name)
+        let to = PairPlace {
+            id: slot.id,
+            replaces: true,
+        };
+        rename(alloc, thread, from.pair, from.id, to, name)
     } else {
         let route = Route {
             old_pair: from.pair,
@@ -122,7 +136,11 @@ fn move_onto_directory<D: BlockDevice>(
 {
     let from = source.slot;
     if from.pair == slot.pair {
-        rename_onto_directory(alloc, thread, from.pair, from.id, slot.id, name, gone)
+        let to = EmptyDirectory {
+            id: slot.id,
+            own_pair: gone,
+        };
+        rename_onto_directory(alloc, thread, from.pair, from.id, to, name)
     } else {
         let route = Route {
             old_pair: from.pair,
@@ -135,45 +153,36 @@ fn move_onto_directory<D: BlockDevice>(
     }
 }
 
-// Gives an entry the path at which `target` was found.
-fn move_onto_found<D: BlockDevice>(
+// Finds the entry that moves, and what is at its new path. The paths are looked up, unless it is
+// known where they lead to.
+fn find_move<'a, D: BlockDevice>(
     alloc: Global,
     thread: &mut Thread<D>,
-    source: RenameSource,
-    found: PathLookup,
-    name: &[u8],
-) -> Result<(), Error>
-    requires works { thread.old.failed ≡ false }
-    requires can { (from to : Path) × CanMoveOntoFound thread.old.kept from to source found name.now }
-    ensures shifted { OnOk result ((from to : Path) → CanMoveOntoFound thread.old.kept from to source found name.now → HasMovedEntry thread.old.kept from to thread.new.kept) }
-    ensures errors { ThreadWorksOrReports thread.old thread.new result }
-    ensures device { WritesThreadFree thread.old.kept thread.new.kept }
-    ensures survives { (from to : Path) → CanMoveOntoFound thread.old.kept from to source found name.now → SurvivesEither thread.old.kept thread.new.kept (tree_renaming from to (disk_tree thread.old.kept.disk thread.old.kept.pairs)) }
+    root: usize,
+    from: &Path<'_>,
+    to: &Path<'a>,
+    known: Option<RenameTargets>,
+) -> Result<FoundMove<'a>, Error>
+    requires rests { CanChangeRecovered thread.old root }
+    requires can { CanRenamePath (uncached_state thread.old.kept true false) from.now to.now }
+    requires apart { same_path from.now to.now ≡ false }
+    requires known { IfSome known (AreRenameResults thread.old.kept from.now to.now) }
+    ensures can { IfOk result (λ found. CanMoveOntoFound thread.new.kept from.now to.now found.source found.target found.name.now) }
+    ensures paths { OnOk result ((given to_given : List ℕ) × (path_or_root given ≡ from.now) × (path_or_root to_given ≡ to.now)) }
+    ensures reading { ReadsOrReports thread.old thread.new result }
 {
-    match found {
-        PathLookup::Nothing { place, .. } => {
-            let RenameSource { slot, first } = source;
-            if slot.pair == place.pair {
-                rename(alloc, thread, slot.pair, slot.id, place.id, name)
-            } else {
-                let route = Route {
-                    old_pair: slot.pair,
-                    old_id: slot.id,
-                    first,
-                    new_pair: place.pair,
-                    new_id: place.id,
-                };
-                rename_across_pairs(alloc, thread, route, name)
-            }
-        }
-        PathLookup::File { slot, contents, .. } => {
-            move_onto_file(alloc, thread, source, slot, contents, name)
-        }
-        PathLookup::Directory { slot, first, .. } => {
-            move_onto_directory(alloc, thread, source, slot, first, name)
-        }
-        _ => unreachable!(),
-    }
+    from.lemma_path_bytes();
+    to.lemma_path_bytes();
+    to.lemma_valid_names();
+    lemma_block_facts(thread);
+    let names = to.names(alloc)?;
+    let targets = given_or_found(alloc, thread, root, from, to, known)?;
+    let source = found_rename_source(targets.entry);
+    Ok(FoundMove {
+        source,
+        target: targets.target,
+        name: last_name_of(&names),
+    })
 }
 
 // Gives an entry another path. At that path is no entry, a file, or a directory without entries.
@@ -194,14 +203,35 @@ pub(crate) fn rename_at<D: BlockDevice>(
     requires known { IfSome known (AreRenameResults thread.old.kept from.now to.now) }
     ensures { AppliesOrFails thread.old (call.Rename from.now to.now) result thread.new }
 {
-    from.lemma_path_bytes();
-    to.lemma_path_bytes();
-    to.lemma_valid_names();
-    lemma_block_facts(thread);
-    let names = to.names(alloc)?;
-    let targets = given_or_found(alloc, thread, root, from, to, known)?;
-    let source = found_rename_source(targets.entry);
-    move_onto_found(alloc, thread, source, targets.target, last_name_of(&names))
+    let found = find_move(alloc, thread, root, from, to, known)?;
+    match found.target {
+        PathLookup::Nothing { place, .. } => {
+            let RenameSource { slot, first } = found.source;
+            if slot.pair == place.pair {
+                let to = PairPlace {
+                    id: place.id,
+                    replaces: false,
+                };
+                rename(alloc, thread, slot.pair, slot.id, to, found.name)
+            } else {
+                let route = Route {
+                    old_pair: slot.pair,
+                    old_id: slot.id,
+                    first,
+                    new_pair: place.pair,
+                    new_id: place.id,
+                };
+                rename_across_pairs(alloc, thread, route, found.name)
+            }
+        }
+        PathLookup::File { slot, contents, .. } => {
+            move_onto_file(alloc, thread, found.source, slot, contents, found.name)
+        }
+        PathLookup::Directory { slot, first, .. } => {
+            move_onto_directory(alloc, thread, found.source, slot, first, found.name)
+        }
+        _ => unreachable!(),
+    }
 }
 
 impl<D: BlockDevice> Tree<D> {

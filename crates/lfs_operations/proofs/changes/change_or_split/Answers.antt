@@ -1,7 +1,7 @@
-use Rattle.lfs_operations.proofs.Common.{arith, ap, subst, ◌∙◌, inl, inr, Ok, on_ok_weaker, HoldsAtLosses-weaker, changes_view, CleanLossLeaves, KeptThread, cached_log, IsPairSplit, LeftBySplit, ReportsSpaceErrors, WritesPairTwo}
+use Rattle.lfs_operations.proofs.Common.{ap, subst, ◌∙◌, inl, inr, Ok, on_ok_weaker, HoldsAtLosses-weaker, changes_view, CleanLossLeaves, KeptThread, IsPairSplit, LeftBySplit, ReportsSpaceErrors, WritesPairTwo}
 use Rattle.lfs_device.specs.declared.error.Error.TheVariants as Error
 use Rattle.lfs_pair.specs.declared.commits.Outcome.TheVariants as Outcome
-use Rattle.lfs_operations.proofs.Putting.{read_at_most, read_is, cut_later, reports_later, writes_later, stops_later, not_both}
+use Rattle.lfs_operations.proofs.Putting.{read_is, cut_later, reports_later, writes_later, stops_later, not_both}
 use Rattle.lfs_operations.proofs.changes.change_or_split.Goals as goal
 
 pub returns-in_err-commit_pair_changes-clause-stops : goal.returns-in_err-commit_pair_changes-clause-stops
@@ -49,22 +49,3 @@ returns-in-Full-clause-stops g c =
     (subst (λ (k : KeptThread). WritesPairTwo k c.args.index c.split_in_two.new.thread.kept) (read_is old c.commit_pair_changes.new.self.kept r.only) c.split_in_two.ensures.device)
     c.commit_pair_changes.ensures.stops
     (subst (λ (k : KeptThread). CleanLossLeaves k.history c.split_in_two.new.thread.kept.history (LeftBySplit k c.args.index (changes_view c.args.changes.now))) (read_is old c.commit_pair_changes.new.self.kept r.only) c.split_in_two.ensures.stops)
-
-pub returns-in_err-commit_pair_changes-clause-few : goal.returns-in_err-commit_pair_changes-clause-few
-returns-in_err-commit_pair_changes-clause-few g c =
-    let few = c.commit_pair_changes.ensures.device.few in
-    let most = read_at_most (cached_log c.args.thread.now c.args.index) in
-    omega (arith, few, most)
-
-pub returns-in-Done-clause-few : goal.returns-in-Done-clause-few
-returns-in-Done-clause-few g c =
-    let few = c.commit_pair_changes.ensures.device.few in
-    let most = read_at_most (cached_log c.args.thread.now c.args.index) in
-    omega (arith, few, most)
-
-pub returns-in-Full-clause-few : goal.returns-in-Full-clause-few
-returns-in-Full-clause-few g c =
-    let first = c.commit_pair_changes.ensures.device.few in
-    let most = read_at_most (cached_log c.args.thread.now c.args.index) in
-    let second = c.split_in_two.ensures.few in
-    omega (arith, first, most, second)

@@ -1,6 +1,5 @@
-use Rattle.lfs_operations.proofs.Common.{arith, ap, sym, subst, on_ok_weaker, address_view, CleanLossLeaves, ThreadView, cached_log, CanSplitAt, LossLeavesThreadSplit, HasSplit, ChangesThreadBlocks, thread_pair, changes_view, addresses_blocks, WritesPairTwo}
-use Rattle.lfs_model.specs.session.History.{read_count}
-use Rattle.lfs_operations.proofs.Putting.{read_at_most, can_split, cut_in, stops_by_cut, writes_in, writes_none}
+use Rattle.lfs_operations.proofs.Common.{sym, subst, on_ok_weaker, address_view, CleanLossLeaves, ThreadView, CanSplitAt, LossLeavesThreadSplit, HasSplit, ChangesThreadBlocks, thread_pair, changes_view, addresses_blocks, WritesPairTwo}
+use Rattle.lfs_operations.proofs.Putting.{can_split, cut_in, stops_by_cut, writes_in, writes_none}
 use Rattle.lfs_operations.proofs.changes.split_in_two.Goals as goal
 
 pub returns-in_default-clause-device : goal.returns-in_default-clause-device
@@ -29,13 +28,3 @@ returns-clause-is_cut g c = on_ok_weaker c.split.result (λ is. (
       (subst (λ (t : ThreadView). HasSplit t.kept c.args.index (address_view c.in-Some.fresh) (changes_view c.args.changes.now) c.split.new.self.kept) c.in-Some.ensures.taken is)
       (subst (λ (t : ThreadView). ChangesThreadBlocks (addresses_blocks (thread_pair t.kept c.args.index).at (address_view c.in-Some.fresh)) t.kept c.split.new.self.kept) c.in-Some.ensures.taken c.split.ensures.device.only),
 )) c.split.ensures.done
-
-pub returns-in_default-clause-few : goal.returns-in_default-clause-few
-returns-in_default-clause-few g c = let same = ap (λ (t : ThreadView). read_count t.kept.history) c.in_default.ensures.same in omega (arith, same)
-
-pub returns-clause-few : goal.returns-clause-few
-returns-clause-few g c =
-    let few = c.split.ensures.device.few in
-    let most = read_at_most (cached_log c.take_two_blocks.new.thread c.args.index) in
-    let taken = ap (λ (t : ThreadView). read_count t.kept.history) c.in-Some.ensures.taken in
-    omega (arith, few, most, taken)

@@ -1,19 +1,13 @@
-use Rattle.lfs_operations.proofs.Common.{ℕ, ◌≡◌, ◌+◌, ◌-◌, ◌<◌, [], ◌∷◌, Some, length, subst, ap, ap₂, ◌∙◌, arith, recursion_from_All, ContentChange, PutMove, content_at, Disk, Pair, complete_after, thread_pair, tail_change, AreByteBlocks, move_view, tail_past_drop}
+use Rattle.lfs_operations.proofs.Common.{ℕ, ◌≡◌, ◌+◌, ◌-◌, [], ◌∷◌, subst, ap, ap₂, ◌∙◌, arith, ContentChange, PutMove, Disk, complete_after, thread_pair, tail_change, AreByteBlocks, move_view, tail_past_drop}
 use Rattle.lfs_operations.proofs.DroppedTails.{taking_made}
 use Rattle.lfs_operations.proofs.drops.changes_for_drop.Goals as goal
 
 pub returns-clause-made : goal.returns-clause-made
 returns-clause-made g c =
-    let t = c.args.thread.now.kept in
-    let front = c.args.index - 1 in
-    let state = move_view c.args.state.now in
     let a = c.requires.can.above in
-    let b = c.requires.can.below in
     let index : c.args.index ≡ c.args.index - 1 + 1 = omega arith in
-    let below : c.args.index - 1 + 1 < length c.args.thread.now.kept.pairs = omega arith in
     let bytes = subst (λ (d : Disk). AreByteBlocks d.blocks) c.device-device.ensures.disk (g.met.D.BlockDevice.bytes c.device-device.result.now) in
     let are = ap₂ (λ (x : ContentChange) m. x ∷ PutMove m ∷ [])
     (c.tail_past_dropped.ensures ∙ ap₂ (λ f h. tail_change (tail_past_drop f h)) c.tail_of_pair.ensures (c.tail_of_pair-2.ensures ∙ ap (λ (i : ℕ). (thread_pair c.args.thread.now.kept i).content.tail) index)) c.delta_before_dropped.ensures in
     ap (complete_after c.args.thread.now.kept (c.args.index - 1)) are
-    ∙ taking_made c.args.thread.now.kept (c.args.index - 1) (move_view c.args.state.now) below
-    (recursion_from_All (λ (p : Pair). content_at t.disk p.at ≡ Some p.content) c.args.thread.now.kept.pairs c.requires.can.thread.contents) bytes c.requires.can.storable
+    ∙ taking_made c.args.thread.now.kept c.args.index (move_view c.args.state.now) c.requires.can bytes

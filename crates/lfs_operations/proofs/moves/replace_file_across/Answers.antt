@@ -1,16 +1,10 @@
 use Rattle.lfs_operations.proofs.Common.{on_ok_weaker}
 use Rattle.lfs_operations.proofs.AlteredLater.{altered_onto_file}
-use Rattle.lfs_operations.proofs.MovReplace.{onto_file, replaced_across}
+use Rattle.lfs_operations.proofs.MovReplace.{replaced_across}
 use Rattle.lfs_operations.proofs.moves.replace_file_across.Goals as goal
-
-pub move_across-requires-clause-can : goal.move_across-requires-clause-can
-move_across-requires-clause-can g c = onto_file c.requires.can
 
 pub returns-clause-replaced : goal.returns-clause-replaced
 returns-clause-replaced g c = on_ok_weaker c.move_across.result (λ h rename. replaced_across rename h) c.move_across.ensures.moved
-
-pub returns-clause-survives : goal.returns-clause-survives
-returns-clause-survives g c rename = c.move_across.ensures.survives (onto_file rename)
 
 pub returns-clause-alters : goal.returns-clause-alters
 returns-clause-alters g c = on_ok_weaker c.move_across.result (λ h. altered_onto_file c.requires.can h c.move_across.ensures.device) c.move_across.ensures.moved

@@ -1,6 +1,6 @@
-use Rattle.lfs_operations.proofs.Common.{ap, sym, subst, ◌∙◌, ◌≡◌, ◌∷◌, [], false, Some, Ok, Err, err_from_is_err_and, PutMove, PutTail, Gstate, address_view, with_sync_inverted, is_err, CanThreadIn, IsThreadedIn, complete_after, thread_pair, address_blocks, Outcome, move_view, threading_changes}
+use Rattle.lfs_operations.proofs.Common.{ap, sym, subst, ◌∙◌, ◌≡◌, ◌∷◌, [], false, Some, Ok, PutMove, PutTail, Gstate, address_view, with_sync_inverted, is_err, CanThreadIn, IsThreadedIn, complete_after, thread_pair, Outcome, move_view, threading_changes}
 use Rattle.lfs_pair.specs.declared.commits.Outcome.TheVariants as outcome
-use Rattle.lfs_operations.proofs.MakingReported.{reported_again}
+use Rattle.lfs_operations.proofs.MakingReported.{reported_again, given_error}
 use Rattle.lfs_operations.proofs.new_directories.link_pair_after.Goals as goal
 
 pub thread_in-requires-clause-can : goal.thread_in-requires-clause-can
@@ -8,13 +8,10 @@ thread_in-requires-clause-can g c = subst (λ (m : Gstate). CanThreadIn c.args.t
     (sym (c.turned_sync_delta.ensures ∙ ap with_sync_inverted c.delta.ensures)) c.requires.can.can
 
 pub returns-in_err-thread_in-clause-errors : goal.returns-in_err-thread_in-clause-errors
-returns-in_err-thread_in-clause-errors g c =
-    let p = err_from_is_err_and c.from_residual.result c.from_residual.ensures.1 in
-    let was = c.in_err-thread_in.was ∙ ap Err (sym p.2) in
-    record {
-      failed = c.thread_in.ensures.failed ∙ ap is_err was ∙ sym (ap is_err p.1);
-      reported = reported_again (address_blocks (address_view c.args.fresh)) c.args.thread.now.kept c.thread_in.new.self.kept p.0 c.thread_in.result c.from_residual.result was p.1 c.thread_in.ensures.errors;
-    }
+returns-in_err-thread_in-clause-errors g c = record {
+  failed = c.thread_in.ensures.failed ∙ ap is_err c.in_err-thread_in.was ∙ sym (ap is_err (given_error c.from_residual.result c.from_residual.ensures.1));
+  reported = reported_again c.from_residual.result c.in_err-thread_in.was c.from_residual.ensures.1 c.thread_in.ensures.errors;
+}
 
 pub returns-clause-is_joined : goal.returns-clause-is_joined
 returns-clause-is_joined g c = by c.in_ok-thread_in.field-0 c.in_ok-thread_in.was

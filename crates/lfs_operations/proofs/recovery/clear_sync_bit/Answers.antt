@@ -1,15 +1,16 @@
 use Rattle.lfs_operations.proofs.Common.{◌≡◌, ◌+◌, ◌-◌, ap, sym, subst, ◌∙◌, length, arith, Some, on_ok_weaker, Gstate, CleanLossLeaves, IsPairCommitted, LossLeavesPair, complete_after, pairs_blocks, gstate_changes, content_reaching_gstate}
-use Rattle.lfs_operations.proofs.RecoverEnd.{clear_survives, cleared, cleared_already, enough}
+use Rattle.lfs_operations.proofs.RecoverEnd.{cleared_already}
 use Rattle.lfs_operations.proofs.RecoverWrites.{two_fewer, writes_fewer, writes_none}
 use Rattle.lfs_operations.proofs.recovery.clear_sync_bit.Goals as goal
+use Rattle.lfs_operations.proofs.RecoverSteps.{clear_survives, cleared, enough}
 
 pub returns-then-state-clause-is_cleared : goal.returns-then-state-clause-is_cleared
 returns-then-state-clause-is_cleared g c =
     let t = c.args.thread.now.kept in
     let last = c.len-last.result - 1 in
     let is : last + 1 ≡ length t.pairs = let e = enough t c.requires.can in let l = c.len-last.ensures in omega arith in
-    on_ok_weaker c.set_gstate_in.result (λ is_set. cleared t c.requires.can last is c.set_gstate_in.new.thread.kept
-    (subst (λ (x : Gstate). complete_after t last (gstate_changes t last x) ≡ Some (content_reaching_gstate t last x)) c.none.ensures c.set_gstate_in.ensures.made)
+    on_ok_weaker c.set_gstate_in.result (λ is_set. cleared t c.requires.can last is
+    (subst (λ (x : Gstate). complete_after t last (gstate_changes t last x) ≡ Some (content_reaching_gstate t last x)) c.none.ensures c.set_gstate_in.ensures.made) c.set_gstate_in.new.thread.kept
     (subst (λ (x : Gstate). IsPairCommitted t last (gstate_changes t last x) c.set_gstate_in.new.thread.kept) c.none.ensures is_set)) c.set_gstate_in.ensures.is_set
 
 pub returns-then-state-clause-survives : goal.returns-then-state-clause-survives
@@ -17,8 +18,8 @@ returns-then-state-clause-survives g c =
     let t = c.args.thread.now.kept in
     let last = c.len-last.result - 1 in
     let is : last + 1 ≡ length t.pairs = let e = enough t c.requires.can in let l = c.len-last.ensures in omega arith in
-    clear_survives t c.requires.can last is c.set_gstate_in.new.thread.kept.history
-    (subst (λ (x : Gstate). complete_after t last (gstate_changes t last x) ≡ Some (content_reaching_gstate t last x)) c.none.ensures c.set_gstate_in.ensures.made)
+    clear_survives t c.requires.can last is
+    (subst (λ (x : Gstate). complete_after t last (gstate_changes t last x) ≡ Some (content_reaching_gstate t last x)) c.none.ensures c.set_gstate_in.ensures.made) c.set_gstate_in.new.thread.kept.history
     (subst (λ (x : Gstate). CleanLossLeaves t.history c.set_gstate_in.new.thread.kept.history (LossLeavesPair t last (gstate_changes t last x))) c.none.ensures c.set_gstate_in.ensures.stops)
 
 pub returns-else-state-clause-is_cleared : goal.returns-else-state-clause-is_cleared

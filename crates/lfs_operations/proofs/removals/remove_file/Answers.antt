@@ -1,8 +1,9 @@
-use Rattle.lfs_operations.proofs.Common.{sym, subst, ◌∙◌, ◌-◌, Gstate, zero_gstate, CleanLossLeaves, CanDropAt, IsPairDropped, LeftByDrop, on_ok_weaker}
-use Rattle.lfs_operations.proofs.Removed.{can_delete, gone, not_refused, remove_survives}
-use Rattle.lfs_operations.proofs.Altered.{drop_alters}
-use Rattle.lfs_operations.proofs.RemovedWhole.{below_whole, can_drop_file, gone_whole, whole_survives}
+use Rattle.lfs_operations.proofs.Common.{sym, subst, ◌∙◌, ◌-◌, Gstate, zero_gstate, CleanLossLeaves, CanDropAt, IsPairDropped, LeftByDrop, on_ok_weaker, arith}
+use Rattle.lfs_operations.proofs.Removed.{gone, remove_survives}
+use Rattle.lfs_operations.proofs.RemovedWhole.{can_drop_file, gone_whole, whole_survives}
 use Rattle.lfs_operations.proofs.removals.remove_file.Goals as goal
+use Rattle.lfs_operations.proofs.Unlinked.{can_go, delta_stays}
+use Rattle.lfs_operations.proofs.AlteredDrops.{drop_alters}
 
 pub drop_pair_at-requires-clause-can : goal.drop_pair_at-requires-clause-can
 drop_pair_at-requires-clause-can g c =
@@ -15,8 +16,9 @@ returns-then-drops_with_slot-clause-is_removed g c = on_ok_weaker c.drop_pair_at
 
 pub returns-then-drops_with_slot-clause-alters : goal.returns-then-drops_with_slot-clause-alters
 returns-then-drops_with_slot-clause-alters g c = on_ok_weaker c.drop_pair_at.result (λ is whole.
-    drop_alters c.args.thread.now.kept (c.args.pair - 1) zero_gstate c.drop_pair_at.new.thread.kept (below_whole c.args.thread.now.kept c.args.pair c.args.id c.args.first c.requires.can.can c.requires.can.begins whole) c.requires.can.can.ready.accepted
-    (subst (λ (s : Gstate). IsPairDropped c.args.thread.now.kept (c.args.pair - 1) s c.drop_pair_at.new.thread.kept) c.none.ensures is)) c.drop_pair_at.ensures.is_dropped
+    let d = subst (λ (s : Gstate). IsPairDropped c.args.thread.now.kept (c.args.pair - 1) s c.drop_pair_at.new.thread.kept) c.none.ensures is in
+    drop_alters c.args.thread.now.kept c.args.pair zero_gstate c.drop_pair_at.new.thread.kept (can_drop_file c.args.thread.now.kept c.args.pair c.args.id c.args.first c.requires.can.can c.requires.can.begins whole) d c.drop_pair_at.new.thread.kept d.thread.links (λ b. omega arith))
+    c.drop_pair_at.ensures.is_dropped
 
 pub returns-then-drops_with_slot-clause-survives : goal.returns-then-drops_with_slot-clause-survives
 returns-then-drops_with_slot-clause-survives g c take =
@@ -24,7 +26,7 @@ returns-then-drops_with_slot-clause-survives g c take =
     (subst (λ (s : Gstate). CleanLossLeaves c.args.thread.now.kept.history c.drop_pair_at.new.thread.kept.history (LeftByDrop c.args.thread.now.kept (c.args.pair - 1) s)) c.none.ensures c.drop_pair_at.ensures.stops)
 
 pub commit_fitting-requires-clause-can : goal.commit_fitting-requires-clause-can
-commit_fitting-requires-clause-can g c = record { can = can_delete c.args.thread.now.kept c.args.pair c.args.id c.args.first c.requires.can (sym c.drops_with_slot.ensures ∙ c.if-drops_with_slot.false); fits = not_refused c.args.thread.now.kept c.args.pair c.args.id c.args.first c.requires.can (sym c.drops_with_slot.ensures ∙ c.if-drops_with_slot.false) }
+commit_fitting-requires-clause-can g c = can_go c.requires.can.can (delta_stays c.requires.can.can.stands.pair)
 
 pub returns-else-drops_with_slot-clause-is_removed : goal.returns-else-drops_with_slot-clause-is_removed
 returns-else-drops_with_slot-clause-is_removed g c = on_ok_weaker c.commit_fitting.result (λ is take. gone c.args.thread.now.kept c.args.pair c.args.id c.args.first take (sym c.drops_with_slot.ensures ∙ c.if-drops_with_slot.false) c.commit_fitting.new.thread.kept is) c.commit_fitting.ensures.is_changed

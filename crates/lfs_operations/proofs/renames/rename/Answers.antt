@@ -1,17 +1,18 @@
-use Rattle.lfs_operations.proofs.Common.{ap, sym, subst, ◌∙◌, ◌∷◌, Err, on_ok_weaker, err_from_is_err_and, Delete, changes_view, CleanLossLeaves, CanPut, LeftByPut, ArePut, ReportsPut, id_after_removal, within_changes, tree_renamed, slot_changes}
+use Rattle.lfs_operations.proofs.Common.{ap, sym, subst, ◌∙◌, ◌∷◌, Err, on_ok_weaker, err_from_is_err_and, Delete, changes_view, CleanLossLeaves, CanPut, LeftByPut, ArePut, ReportsPut, id_after_removal, renaming_changes, removal_changes, slot_changes, ◌++◌}
 use Rattle.lfs_device.specs.declared.error.Error.TheVariants as Error
 use Rattle.lfs_operations.proofs.Putting.{not_both}
-use Rattle.lfs_operations.proofs.RenameRead.{can_after_read, moves_after_read, moves_unread, put_after_read, read_survives, read_writes, stops_after_read, writes_after_read}
-use Rattle.lfs_operations.proofs.RenameWithin.{can_put_renamed, has_slot, rename_survives, renamed_within}
+use Rattle.lfs_operations.proofs.RenameRead.{can_after_read, moves_after_read, moves_unread, put_after_read, read_stops, read_writes, stops_after_read, writes_after_read}
+use Rattle.lfs_operations.proofs.RenameTarget.{has_slot}
+use Rattle.lfs_operations.proofs.RenameReplaced.{can_put_here, edits, renamed_here, survives_here}
 use Rattle.lfs_operations.proofs.renames.rename.Goals as goal
 
 pub copy_pair_slot-requires-clause-there : goal.copy_pair_slot-requires-clause-there
-copy_pair_slot-requires-clause-there g c = has_slot c.args.thread.now.kept c.args.pair c.args.id c.args.place c.args.name.now c.requires.can
+copy_pair_slot-requires-clause-there g c = has_slot (edits c.args.to.replaces c.args.thread.now.kept c.args.pair c.args.id c.args.to.id c.args.name.now c.requires.can)
 
 pub returns-in_err-copy-clause-errors : goal.returns-in_err-copy-clause-errors
 returns-in_err-copy-clause-errors g c =
     let p = err_from_is_err_and c.from_residual.result c.from_residual.ensures.1 in
-    moves_unread c.args.thread.now c.copy_pair_slot.new.thread c.args.pair (within_changes c.args.thread.now.kept c.args.pair c.args.id c.args.place c.args.name.now) p.0 c.copy_pair_slot.result c.from_residual.result
+    moves_unread c.args.thread.now c.copy_pair_slot.new.thread c.args.pair (renaming_changes c.args.to.replaces c.args.thread.now.kept c.args.pair c.args.id c.args.to.id c.args.name.now) p.0 c.copy_pair_slot.result c.from_residual.result
     (c.in_err-copy.was ∙ ap Err (sym p.2)) p.1 c.copy_pair_slot.ensures.works c.copy_pair_slot.ensures.only c.copy_pair_slot.ensures.errors
 
 pub returns-in_err-copy-clause-device : goal.returns-in_err-copy-clause-device
@@ -19,35 +20,35 @@ returns-in_err-copy-clause-device g c = read_writes c.args.thread.now.kept c.cop
 
 pub returns-in_err-copy-clause-survives : goal.returns-in_err-copy-clause-survives
 returns-in_err-copy-clause-survives g c rename =
-    read_survives c.args.thread.now.kept c.copy_pair_slot.new.thread.kept.history c.copy_pair_slot.ensures.only.reads rename.can.ready (tree_renamed c.args.thread.now.kept rename.can.path rename.can.name c.args.name.now)
+    survives_here c.args.to.replaces c.args.thread.now.kept c.args.pair c.args.id c.args.to.id c.args.name.now rename c.copy_pair_slot.new.thread.kept.history (read_stops c.args.thread.now.kept c.copy_pair_slot.new.thread.kept (edits c.args.to.replaces c.args.thread.now.kept c.args.pair c.args.id c.args.to.id c.args.name.now c.requires.can) (renaming_changes c.args.to.replaces c.args.thread.now.kept c.args.pair c.args.id c.args.to.id c.args.name.now) c.copy_pair_slot.ensures.only)
 
 pub returns-in_err-changes-clause-device : goal.returns-in_err-changes-clause-device
 returns-in_err-changes-clause-device g c = read_writes c.args.thread.now.kept c.copy_pair_slot.new.thread.kept c.copy_pair_slot.ensures.only c.args.pair
 
 pub returns-in_err-changes-clause-survives : goal.returns-in_err-changes-clause-survives
 returns-in_err-changes-clause-survives g c rename =
-    read_survives c.args.thread.now.kept c.copy_pair_slot.new.thread.kept.history c.copy_pair_slot.ensures.only.reads rename.can.ready (tree_renamed c.args.thread.now.kept rename.can.path rename.can.name c.args.name.now)
+    survives_here c.args.to.replaces c.args.thread.now.kept c.args.pair c.args.id c.args.to.id c.args.name.now rename c.copy_pair_slot.new.thread.kept.history (read_stops c.args.thread.now.kept c.copy_pair_slot.new.thread.kept (edits c.args.to.replaces c.args.thread.now.kept c.args.pair c.args.id c.args.to.id c.args.name.now c.requires.can) (renaming_changes c.args.to.replaces c.args.thread.now.kept c.args.pair c.args.id c.args.to.id c.args.name.now) c.copy_pair_slot.ensures.only)
 
 pub change_or_split-requires-clause-can : goal.change_or_split-requires-clause-can
 change_or_split-requires-clause-can g c =
-    let are = ap changes_view c.deref.ensures.value ∙ c.in_ok-changes.ensures ∙ ap (λ z. Delete c.args.id ∷ slot_changes (id_after_removal c.args.id c.args.place) c.args.name.now z) c.in_ok-copy.ensures.copied in
+    let are = ap changes_view c.deref.ensures.value ∙ c.in_ok-changes.ensures ∙ ap (λ z. Delete c.args.id ∷ (removal_changes c.args.to.replaces (id_after_removal c.args.id c.args.to.id) ++ slot_changes (id_after_removal c.args.id c.args.to.id) c.args.name.now z)) c.in_ok-copy.ensures.copied in
     subst (CanPut c.copy_pair_slot.new.thread.kept c.args.pair) (sym are)
-    (can_after_read c.args.thread.now.kept c.copy_pair_slot.new.thread.kept c.args.pair (within_changes c.args.thread.now.kept c.args.pair c.args.id c.args.place c.args.name.now) c.copy_pair_slot.ensures.only
-    (can_put_renamed c.args.thread.now.kept c.args.pair c.args.id c.args.place c.args.name.now c.requires.can))
+    (can_after_read c.args.thread.now.kept c.copy_pair_slot.new.thread.kept c.args.pair (renaming_changes c.args.to.replaces c.args.thread.now.kept c.args.pair c.args.id c.args.to.id c.args.name.now) c.copy_pair_slot.ensures.only
+    (can_put_here c.args.to.replaces c.args.thread.now.kept c.args.pair c.args.id c.args.to.id c.args.name.now c.requires.can))
 
 pub returns-clause-renamed : goal.returns-clause-renamed
 returns-clause-renamed g c =
     on_ok_weaker c.change_or_split.result (λ is rename.
-    let are = ap changes_view c.deref.ensures.value ∙ c.in_ok-changes.ensures ∙ ap (λ z. Delete c.args.id ∷ slot_changes (id_after_removal c.args.id c.args.place) c.args.name.now z) c.in_ok-copy.ensures.copied in
-    renamed_within c.args.thread.now.kept c.args.pair c.args.id c.args.place c.args.name.now rename c.change_or_split.new.thread.kept
-    (put_after_read c.args.thread.now.kept c.copy_pair_slot.new.thread.kept c.change_or_split.new.thread.kept c.args.pair (within_changes c.args.thread.now.kept c.args.pair c.args.id c.args.place c.args.name.now) c.copy_pair_slot.ensures.only
+    let are = ap changes_view c.deref.ensures.value ∙ c.in_ok-changes.ensures ∙ ap (λ z. Delete c.args.id ∷ (removal_changes c.args.to.replaces (id_after_removal c.args.id c.args.to.id) ++ slot_changes (id_after_removal c.args.id c.args.to.id) c.args.name.now z)) c.in_ok-copy.ensures.copied in
+    renamed_here c.args.to.replaces c.args.thread.now.kept c.args.pair c.args.id c.args.to.id c.args.name.now rename c.change_or_split.new.thread.kept
+    (put_after_read c.args.thread.now.kept c.copy_pair_slot.new.thread.kept c.change_or_split.new.thread.kept c.args.pair (renaming_changes c.args.to.replaces c.args.thread.now.kept c.args.pair c.args.id c.args.to.id c.args.name.now) c.copy_pair_slot.ensures.only
     (subst (λ z. ArePut c.copy_pair_slot.new.thread.kept c.args.pair z c.change_or_split.new.thread.kept) are is)))
     c.change_or_split.ensures.is_put
 
 pub returns-clause-errors : goal.returns-clause-errors
 returns-clause-errors g c =
-    let are = ap changes_view c.deref.ensures.value ∙ c.in_ok-changes.ensures ∙ ap (λ z. Delete c.args.id ∷ slot_changes (id_after_removal c.args.id c.args.place) c.args.name.now z) c.in_ok-copy.ensures.copied in
-    moves_after_read c.args.thread.now c.copy_pair_slot.new.thread c.change_or_split.new.thread c.args.pair (within_changes c.args.thread.now.kept c.args.pair c.args.id c.args.place c.args.name.now) c.change_or_split.result c.copy_pair_slot.ensures.only
+    let are = ap changes_view c.deref.ensures.value ∙ c.in_ok-changes.ensures ∙ ap (λ z. Delete c.args.id ∷ (removal_changes c.args.to.replaces (id_after_removal c.args.id c.args.to.id) ++ slot_changes (id_after_removal c.args.id c.args.to.id) c.args.name.now z)) c.in_ok-copy.ensures.copied in
+    moves_after_read c.args.thread.now c.copy_pair_slot.new.thread c.change_or_split.new.thread c.args.pair (renaming_changes c.args.to.replaces c.args.thread.now.kept c.args.pair c.args.id c.args.to.id c.args.name.now) c.change_or_split.result c.copy_pair_slot.ensures.only
     (c.copy_pair_slot.ensures.errors.no_fault (λ io. not_both c.copy_pair_slot.result c.in_ok-copy.copy Error.Io c.in_ok-copy.was io))
     (subst (λ z. ReportsPut c.copy_pair_slot.new.thread c.change_or_split.new.thread c.args.pair z c.change_or_split.result) are c.change_or_split.ensures.errors)
 
@@ -56,8 +57,7 @@ returns-clause-device g c = writes_after_read c.args.thread.now.kept c.copy_pair
 
 pub returns-clause-survives : goal.returns-clause-survives
 returns-clause-survives g c rename =
-    let are = ap changes_view c.deref.ensures.value ∙ c.in_ok-changes.ensures ∙ ap (λ z. Delete c.args.id ∷ slot_changes (id_after_removal c.args.id c.args.place) c.args.name.now z) c.in_ok-copy.ensures.copied in
-    rename_survives c.args.thread.now.kept c.args.pair c.args.id c.args.place c.args.name.now rename c.change_or_split.new.thread.kept.history
-    (stops_after_read c.args.thread.now.kept c.copy_pair_slot.new.thread.kept c.change_or_split.new.thread.kept c.args.pair (within_changes c.args.thread.now.kept c.args.pair c.args.id c.args.place c.args.name.now) c.copy_pair_slot.ensures.only
-    rename.can.ready rename.can.first rename.can.stands.pair rename.can.stands.rest rename.can.stands.place c.change_or_split.ensures.device
+    let are = ap changes_view c.deref.ensures.value ∙ c.in_ok-changes.ensures ∙ ap (λ z. Delete c.args.id ∷ (removal_changes c.args.to.replaces (id_after_removal c.args.id c.args.to.id) ++ slot_changes (id_after_removal c.args.id c.args.to.id) c.args.name.now z)) c.in_ok-copy.ensures.copied in
+    survives_here c.args.to.replaces c.args.thread.now.kept c.args.pair c.args.id c.args.to.id c.args.name.now rename c.change_or_split.new.thread.kept.history
+    (stops_after_read c.args.thread.now.kept c.copy_pair_slot.new.thread.kept c.change_or_split.new.thread.kept (edits c.args.to.replaces c.args.thread.now.kept c.args.pair c.args.id c.args.to.id c.args.name.now c.requires.can) (renaming_changes c.args.to.replaces c.args.thread.now.kept c.args.pair c.args.id c.args.to.id c.args.name.now) c.copy_pair_slot.ensures.only c.change_or_split.ensures.device
     (subst (λ z. CleanLossLeaves c.copy_pair_slot.new.thread.kept.history c.change_or_split.new.thread.kept.history (LeftByPut c.copy_pair_slot.new.thread.kept c.args.pair z)) are c.change_or_split.ensures.stops))

@@ -3,11 +3,12 @@ use Rattle.lfs_device.specs.declared.error.Error.TheVariants as Error
 use Rattle.lfs_operations.proofs.Putting.{not_both, read_is}
 use Rattle.lfs_operations.proofs.RenameRead.{read_survives}
 use Rattle.lfs_operations.proofs.RenameReadOver.{blocks_after_read, can_change_after_read, change_stops_after_read, changed_after_read, only_read_writes, over_later, over_unread, refused_after_read}
-use Rattle.lfs_operations.proofs.RenameOver.{can_over, has_slot, over_not_refused, over_survives, renamed_over}
+use Rattle.lfs_operations.proofs.RenameOver.{can_over, over_not_refused, over_survives, renamed_over}
 use Rattle.lfs_operations.proofs.replacements.rename_over_directory.Goals as goal
+use Rattle.lfs_operations.proofs.RenameTarget.{has_slot}
 
 pub copy_pair_slot-requires-clause-there : goal.copy_pair_slot-requires-clause-there
-copy_pair_slot-requires-clause-there g c = has_slot c.args.thread.now.kept c.args.pair c.args.id c.args.place c.args.name.now c.requires.can
+copy_pair_slot-requires-clause-there g c = has_slot c.requires.can.can
 
 pub returns-in_err-copy-clause-errors : goal.returns-in_err-copy-clause-errors
 returns-in_err-copy-clause-errors g c =
@@ -76,6 +77,5 @@ returns-clause-survives g c rename =
     ∙ ap₂ (λ m z. PutMove m ∷ Delete c.args.id ∷ Delete (id_after_removal c.args.id c.args.place) ∷ slot_changes (id_after_removal c.args.id c.args.place) c.args.name.now z) state c.in_ok-copy.ensures.copied in
     let changes = replace_directory_changes t c.args.pair c.args.id c.args.place c.args.name.now in
     over_survives t c.args.pair c.args.id c.args.place c.args.name.now rename c.commit_fitting.new.thread.kept.history
-    (change_stops_after_read t mid c.commit_fitting.new.thread.kept c.args.pair changes (address_blocks (thread_pair mid c.args.pair).at) only
-    rename.can.ready rename.can.first rename.can.stands.pair rename.can.stands.rest rename.can.stands.place c.commit_fitting.ensures.device
+    (change_stops_after_read t mid c.commit_fitting.new.thread.kept rename.can changes only c.commit_fitting.ensures.device
     (subst (λ z. CleanLossLeaves mid.history c.commit_fitting.new.thread.kept.history (LossLeavesPair mid c.args.pair z)) are c.commit_fitting.ensures.stops))

@@ -1,52 +1,22 @@
-use Rattle.std.proofs.Common.{[], ap, sym, subst, ◌∙◌, Err}
-use Rattle.lfs_operations.proofs.Common.{err_from_is_err_and, address_view, address_blocks, addresses_blocks, ChangesThreadBlocks, ThreadReportsKeepingOthers, CleanLossLeaves, ThreadView, thread_pair, CanUnload, IsUnloaded, LossLeavesUnloaded, map_taking_two, ReportsMaking}
+use Rattle.lfs_operations.proofs.Common.{ap, address_view, ThreadView}
 use Rattle.lfs_operations.proofs.MakingReported.{reports_first}
-use Rattle.lfs_operations.proofs.Putting.{survives_step, writes_in}
-use Rattle.lfs_operations.proofs.WornUnloads.{root_begins, root_can, root_expanded, root_left}
+use Rattle.lfs_operations.proofs.WornUnloads.{root_expanded, can_unload, expanding, unload_survives, unload_writes}
 use Rattle.lfs_operations.proofs.wear.expand_root.Goals as goal
 
 pub unload-requires-clause-can : goal.unload-requires-clause-can
-unload-requires-clause-can g c =
-    let t = c.args.thread.now.kept in
-    let fresh = address_view c.args.fresh in
-    subst (λ (s : ThreadView). CanUnload s.kept 0 fresh 1) (sym c.take_these.ensures)
-    (root_can t fresh c.requires.can (root_begins t fresh c.requires.can))
+unload-requires-clause-can g c = can_unload (expanding c.args.thread.now.kept (address_view c.args.fresh) c.requires.can) (ap (λ (s : ThreadView). s.kept) c.take_these.ensures)
 
 pub returns-in_err-unload-clause-errors : goal.returns-in_err-unload-clause-errors
-returns-in_err-unload-clause-errors g c =
-    let fresh = address_view c.args.fresh in
-    let p = err_from_is_err_and c.from_residual.result c.from_residual.ensures.1 in
-    subst (λ r. ReportsMaking c.args.thread.now c.unload.new.self r) (c.in_err-unload.was ∙ ap Err (sym p.2) ∙ sym p.1)
-    (reports_first c.args.thread.now c.unload.new.self (map_taking_two c.args.thread.now.kept.map fresh) (address_blocks fresh) c.unload.result c.unload.ensures.failed
-    (subst (λ (s : ThreadView). ThreadReportsKeepingOthers (address_blocks fresh) s.kept c.unload.new.self.kept c.unload.result) c.take_these.ensures c.unload.ensures.errors))
+returns-in_err-unload-clause-errors g c = reports_first c.from_residual.result (ap (λ (s : ThreadView). s.kept) c.take_these.ensures) c.in_err-unload.was c.from_residual.ensures.1 c.unload.ensures.failed c.unload.ensures.errors
 
 pub returns-in_err-unload-clause-device : goal.returns-in_err-unload-clause-device
-returns-in_err-unload-clause-device g c =
-    let fresh = address_view c.args.fresh in
-    writes_in c.args.thread.now.kept 0 fresh [] c.requires.can.free c.unload.new.self.kept
-    (subst (λ (s : ThreadView). ChangesThreadBlocks (addresses_blocks (thread_pair s.kept 0).at fresh) s.kept c.unload.new.self.kept) c.take_these.ensures c.unload.ensures.device.only)
+returns-in_err-unload-clause-device g c = unload_writes (expanding c.args.thread.now.kept (address_view c.args.fresh) c.requires.can) (ap (λ (s : ThreadView). s.kept) c.take_these.ensures) c.unload.ensures.device.only
 
 pub returns-in_err-unload-clause-survives : goal.returns-in_err-unload-clause-survives
-returns-in_err-unload-clause-survives g c =
-    let t = c.args.thread.now.kept in
-    let fresh = address_view c.args.fresh in
-    survives_step t.disk
-    (root_left t fresh c.requires.can (root_begins t fresh c.requires.can))
-    (subst (λ (s : ThreadView). CleanLossLeaves s.kept.history c.unload.new.self.kept.history (LossLeavesUnloaded s.kept 0 fresh 1)) c.take_these.ensures c.unload.ensures.stops)
+returns-in_err-unload-clause-survives g c = unload_survives (expanding c.args.thread.now.kept (address_view c.args.fresh) c.requires.can) (ap (λ (s : ThreadView). s.kept) c.take_these.ensures) c.unload.ensures.stops
 
 pub returns-clause-expanded : goal.returns-clause-expanded
-returns-clause-expanded g c =
-    let t = c.args.thread.now.kept in
-    let new = c.unload.new.self.kept in
-    let fresh = address_view c.args.fresh in
-    root_expanded t fresh c.requires.can (root_begins t fresh c.requires.can) new
-    (subst (λ (s : ThreadView). IsUnloaded s.kept 0 fresh 1 new) c.take_these.ensures c.in_ok-unload.ensures.done)
-    (subst (λ (s : ThreadView). ChangesThreadBlocks (addresses_blocks (thread_pair s.kept 0).at fresh) s.kept new) c.take_these.ensures c.unload.ensures.device.only)
+returns-clause-expanded g c = root_expanded c.args.thread.now.kept (address_view c.args.fresh) c.requires.can (ap (λ (s : ThreadView). s.kept) c.take_these.ensures) c.in_ok-unload.ensures.done c.unload.ensures.device.only
 
 pub returns-clause-survives : goal.returns-clause-survives
-returns-clause-survives g c =
-    let t = c.args.thread.now.kept in
-    let fresh = address_view c.args.fresh in
-    survives_step t.disk
-    (root_left t fresh c.requires.can (root_begins t fresh c.requires.can))
-    (subst (λ (s : ThreadView). CleanLossLeaves s.kept.history c.unload.new.self.kept.history (LossLeavesUnloaded s.kept 0 fresh 1)) c.take_these.ensures c.unload.ensures.stops)
+returns-clause-survives g c = unload_survives (expanding c.args.thread.now.kept (address_view c.args.fresh) c.requires.can) (ap (λ (s : ThreadView). s.kept) c.take_these.ensures) c.unload.ensures.stops

@@ -1,5 +1,5 @@
 use Rattle.lfs_operations.proofs.Common.{current_block, thread_pair}
-use Rattle.lfs_operations.proofs.WornPair.{worn_at}
+use Rattle.lfs_model.proofs.WornRevisions.{worn_at}
 use Rattle.lfs_operations.proofs.wear.is_worn_pair.Goals as goal
 
 pub returns-then-cycles-ne0 : goal.returns-then-cycles-ne0

@@ -1,8 +1,7 @@
-use Rattle.std.proofs.Common.{rules, ◌≡◌, ◌+◌, ◌-◌, ◌≤◌, ℕ, Bool, true, false, List, Ok, Err, inl, inr, refl, sym, ap, ◌∙◌, subst, arith}
+use Rattle.std.proofs.Common.{rules, ◌≡◌, ◌+◌, ◌-◌, ◌≤◌, ℕ, Bool, true, false, Ok, inl, inr, refl, sym, ap, ◌∙◌, subst, arith}
 use Rattle.lfs_device.specs.declared.geometry.Geometry.{Geometry}
 use Rattle.lfs_pair.proofs.Common.{AreUnprogrammed, blank_count, OnlyAsksBlank}
 use Rattle.lfs_model.proofs.Histories.{is_unprogrammed_byte-blank}
-use Rattle.lfs_pair.specs.Commits.{IsEndBlank}
 use Rattle.lfs_pair.proofs.Changed.{active_below, ends_in_block}
 use Rattle.lfs_pair.proofs.commits.is_end_blank.Goals as goal
 

@@ -1,63 +1,65 @@
-use Rattle.std.proofs.Common.{rules, length, ◌<◌, sym, ap, ap₂, subst, ◌∙◌, set, Ok}
-use Rattle.lfs_thread.proofs.Common.{length-set, disk_of_blocks, BlockStates, Free, HoldsAtLosses-weaker, header_address, PairHeader, map_freeing, address_blocks}
+use Rattle.std.proofs.Common.{length, ◌<◌, sym, ap, ap₂, subst, ◌∙◌, set, Ok, Err}
+use Rattle.lfs_thread.proofs.Common.{length-set, disk_of_blocks, BlockStates, Free, HoldsAtLosses-weaker, header_address, PairHeader, map_freeing, address_blocks, err_from_is_err_and}
 use Rattle.lfs_thread.proofs.CachedPair.{reading_there}
 use Rattle.lfs_thread.proofs.Changing.{can_commit, left_in_thread, full_kept, refused}
 use Rattle.lfs_thread.proofs.Dropped.{next_there, here_at, gone_is, next_used, device_dropped, device_is_dropped}
 use Rattle.lfs_thread.proofs.drops.drop_next_pair.Goals as goal
+use Rattle.lfs_thread.proofs.CachedLogs.{current_taken, given_current}
+use Rattle.lfs_thread.proofs.Reported.{errors_again, reports_of}
 
-pub commit_with_cache-requires : goal.commit_with_cache-requires
-commit_with_cache-requires g c = record {
+pub commit-requires : goal.commit-requires
+commit-requires g c = record {
   can =
-      let n = next_there (disk_of_blocks (g.D.BlockDevice.geometry c.args.device.now) (g.D.BlockDevice.blocks c.args.device.now)) c.args.pairs.now.items c.args.index c.index_mut.result.now c.requires.can.below c.index_mut.ensures.value in
+      let n = next_there (disk_of_blocks (g.D.BlockDevice.geometry c.args.device.now) (g.D.BlockDevice.blocks c.args.device.now)) c.args.pairs.now.items c.args.index c.index_mut-pair.result.now c.requires.can.below c.index_mut-pair.ensures.value in
       can_commit _ _ c.args.pairs.now.items c.args.map.now c.args.index _ _ (here_at _ _ _ n) c.requires.kept c.requires.can.content c.requires.can.made;
-  current = search rules;
+  block = given_current _ _ c.index_mut-pair.result.now.active (c.as_deref.ensures.value ∙ c.take_cached_pair-held.ensures.bytes) c.requires.current;
 }
 
 pub returns-in_err-outcome-clause-stops : goal.returns-in_err-outcome-clause-stops
 returns-in_err-outcome-clause-stops g c cleanly =
-    let n = next_there (disk_of_blocks (g.D.BlockDevice.geometry c.args.device.now) (g.D.BlockDevice.blocks c.args.device.now)) c.args.pairs.now.items c.args.index c.index_mut.result.now c.requires.can.below c.index_mut.ensures.value in
+    let n = next_there (disk_of_blocks (g.D.BlockDevice.geometry c.args.device.now) (g.D.BlockDevice.blocks c.args.device.now)) c.args.pairs.now.items c.args.index c.index_mut-pair.result.now c.requires.can.below c.index_mut-pair.ensures.value in
     HoldsAtLosses-weaker (λ left l. left_in_thread (disk_of_blocks (g.D.BlockDevice.geometry c.args.device.now) (g.D.BlockDevice.blocks c.args.device.now)) _ c.args.pairs.now.items c.args.map.now c.args.index _ _ left (here_at _ _ _ n) c.requires.kept c.requires.can.content c.requires.can.made l) (c.in_err-outcome.ensures.stops cleanly)
 
 pub returns-in-Full-clause-stops : goal.returns-in-Full-clause-stops
 returns-in-Full-clause-stops g c cleanly =
-    let n = next_there (disk_of_blocks (g.D.BlockDevice.geometry c.args.device.now) (g.D.BlockDevice.blocks c.args.device.now)) c.args.pairs.now.items c.args.index c.index_mut.result.now c.requires.can.below c.index_mut.ensures.value in
+    let n = next_there (disk_of_blocks (g.D.BlockDevice.geometry c.args.device.now) (g.D.BlockDevice.blocks c.args.device.now)) c.args.pairs.now.items c.args.index c.index_mut-pair.result.now c.requires.can.below c.index_mut-pair.ensures.value in
     HoldsAtLosses-weaker (λ left l. left_in_thread (disk_of_blocks (g.D.BlockDevice.geometry c.args.device.now) (g.D.BlockDevice.blocks c.args.device.now)) _ c.args.pairs.now.items c.args.map.now c.args.index _ _ left (here_at _ _ _ n) c.requires.kept c.requires.can.content c.requires.can.made l) (c.in_ok-outcome.ensures.stops cleanly)
 
 pub returns-clause-stops : goal.returns-clause-stops
 returns-clause-stops g c cleanly =
-    let n = next_there (disk_of_blocks (g.D.BlockDevice.geometry c.args.device.now) (g.D.BlockDevice.blocks c.args.device.now)) c.args.pairs.now.items c.args.index c.index_mut.result.now c.requires.can.below c.index_mut.ensures.value in
+    let n = next_there (disk_of_blocks (g.D.BlockDevice.geometry c.args.device.now) (g.D.BlockDevice.blocks c.args.device.now)) c.args.pairs.now.items c.args.index c.index_mut-pair.result.now c.requires.can.below c.index_mut-pair.ensures.value in
     HoldsAtLosses-weaker (λ left l. left_in_thread (disk_of_blocks (g.D.BlockDevice.geometry c.args.device.now) (g.D.BlockDevice.blocks c.args.device.now)) _ c.args.pairs.now.items c.args.map.now c.args.index _ _ left (here_at _ _ _ n) c.requires.kept c.requires.can.content c.requires.can.made l) (c.in_ok-outcome.ensures.stops cleanly)
 
 pub returns-in-Full-clause-kept : goal.returns-in-Full-clause-kept
 returns-in-Full-clause-kept g c =
-    let n = next_there (disk_of_blocks (g.D.BlockDevice.geometry c.args.device.now) (g.D.BlockDevice.blocks c.args.device.now)) c.args.pairs.now.items c.args.index c.index_mut.result.now c.requires.can.below c.index_mut.ensures.value in
+    let n = next_there (disk_of_blocks (g.D.BlockDevice.geometry c.args.device.now) (g.D.BlockDevice.blocks c.args.device.now)) c.args.pairs.now.items c.args.index c.index_mut-pair.result.now c.requires.can.below c.index_mut-pair.ensures.value in
     let e = c.in_ok-outcome.ensures in
     let full = ap Ok c.in-Full.is in
     full_kept _ _ _ _ c.args.pairs.now.items _ c.args.index _ _ (here_at _ _ _ n) c.requires.kept (ap₂ disk_of_blocks (e.ends.full full).device.geometry (e.ends.full full).device.same) (e.ends.full full).pair (e.ends.full full).device.reads
 
 pub returns-in-Full-clause-full : goal.returns-in-Full-clause-full
 returns-in-Full-clause-full g c _ =
-    let n = next_there (disk_of_blocks (g.D.BlockDevice.geometry c.args.device.now) (g.D.BlockDevice.blocks c.args.device.now)) c.args.pairs.now.items c.args.index c.index_mut.result.now c.requires.can.below c.index_mut.ensures.value in
+    let n = next_there (disk_of_blocks (g.D.BlockDevice.geometry c.args.device.now) (g.D.BlockDevice.blocks c.args.device.now)) c.args.pairs.now.items c.args.index c.index_mut-pair.result.now c.requires.can.below c.index_mut-pair.ensures.value in
     let e = c.in_ok-outcome.ensures in
     let full = ap Ok c.in-Full.is in
     refused _ _ _ _ c.args.pairs.now.items _ c.args.index _ _ _ c.requires.can.content (here_at _ _ _ n) c.requires.can.made (e.ends.full full).completed (ap₂ disk_of_blocks (e.ends.full full).device.geometry (e.ends.full full).device.same) (e.ends.full full).pair (e.ends.full full).device.reads
 
 pub release-requires : goal.release-requires
 release-requires g c =
-    let n = next_there (disk_of_blocks (g.D.BlockDevice.geometry c.args.device.now) (g.D.BlockDevice.blocks c.args.device.now)) c.args.pairs.now.items c.args.index c.index_mut.result.now c.requires.can.below c.index_mut.ensures.value in
+    let n = next_there (disk_of_blocks (g.D.BlockDevice.geometry c.args.device.now) (g.D.BlockDevice.blocks c.args.device.now)) c.args.pairs.now.items c.args.index c.index_mut-pair.result.now c.requires.can.below c.index_mut-pair.ensures.value in
     let gone = gone_is _ _ _ _ _ n c.remove-gone.ensures.value in
     subst (λ (h : PairHeader). (header_address h).0 < length c.args.map.now) (sym gone) (next_used _ _ _ _ _ _ n c.requires.kept).0
 
 pub release-requires-2 : goal.release-requires-2
 release-requires-2 g c =
-    let n = next_there (disk_of_blocks (g.D.BlockDevice.geometry c.args.device.now) (g.D.BlockDevice.blocks c.args.device.now)) c.args.pairs.now.items c.args.index c.index_mut.result.now c.requires.can.below c.index_mut.ensures.value in
+    let n = next_there (disk_of_blocks (g.D.BlockDevice.geometry c.args.device.now) (g.D.BlockDevice.blocks c.args.device.now)) c.args.pairs.now.items c.args.index c.index_mut-pair.result.now c.requires.can.below c.index_mut-pair.ensures.value in
     let gone = gone_is _ _ _ _ _ n c.remove-gone.ensures.value in
     subst (λ k. (header_address c.remove-gone.result).1 < k) (sym (ap length c.release.ensures ∙ length-set c.args.map.now (header_address c.remove-gone.result).0 Free))
     (subst (λ (h : PairHeader). (header_address h).1 < length c.args.map.now) (sym gone) (next_used _ _ _ _ _ _ n c.requires.kept).1)
 
 pub returns-clause-kept : goal.returns-clause-kept
 returns-clause-kept g c =
-    let n = next_there (disk_of_blocks (g.D.BlockDevice.geometry c.args.device.now) (g.D.BlockDevice.blocks c.args.device.now)) c.args.pairs.now.items c.args.index c.index_mut.result.now c.requires.can.below c.index_mut.ensures.value in
+    let n = next_there (disk_of_blocks (g.D.BlockDevice.geometry c.args.device.now) (g.D.BlockDevice.blocks c.args.device.now)) c.args.pairs.now.items c.args.index c.index_mut-pair.result.now c.requires.can.below c.index_mut-pair.ensures.value in
     let gone = gone_is _ _ _ _ _ n c.remove-gone.ensures.value in
     let e = c.in_ok-outcome.ensures in
     device_dropped _ _ _ _ _ _ _ _ _ _ _ _ e.device.only.geometry n c.requires.kept c.requires.can (e.ends.done (ap Ok c.in_default.is)) e.device.only.others e.device.only.elsewhere _ c.remove-gone.ensures.items _
@@ -65,7 +67,7 @@ returns-clause-kept g c =
 
 pub returns-clause-is_dropped : goal.returns-clause-is_dropped
 returns-clause-is_dropped g c _ =
-    let n = next_there (disk_of_blocks (g.D.BlockDevice.geometry c.args.device.now) (g.D.BlockDevice.blocks c.args.device.now)) c.args.pairs.now.items c.args.index c.index_mut.result.now c.requires.can.below c.index_mut.ensures.value in
+    let n = next_there (disk_of_blocks (g.D.BlockDevice.geometry c.args.device.now) (g.D.BlockDevice.blocks c.args.device.now)) c.args.pairs.now.items c.args.index c.index_mut-pair.result.now c.requires.can.below c.index_mut-pair.ensures.value in
     let gone = gone_is _ _ _ _ _ n c.remove-gone.ensures.value in
     let e = c.in_ok-outcome.ensures in
     device_is_dropped _ _ _ _ _ _ _ _ _ _ _ _ e.device.only.geometry n c.requires.kept c.requires.can (e.ends.done (ap Ok c.in_default.is)) e.device.only.others e.device.only.elsewhere _ c.remove-gone.ensures.items _
@@ -74,20 +76,48 @@ returns-clause-is_dropped g c _ =
 pub returns-in_err-outcome-clause-device : goal.returns-in_err-outcome-clause-device
 returns-in_err-outcome-clause-device g c =
     let disk = disk_of_blocks (g.D.BlockDevice.geometry c.args.device.now) (g.D.BlockDevice.blocks c.args.device.now) in
-    let n = next_there disk c.args.pairs.now.items c.args.index c.index_mut.result.now c.requires.can.below c.index_mut.ensures.value in
-    reading_there disk (g.D.BlockDevice.history c.args.device.now) c.args.pairs.now.items c.args.map.now c.args.index c.index_mut.result.now (here_at _ _ _ n) c.requires.kept
-    g.D.BlockDevice c.args.device.now c.commit_with_cache.new.device address_blocks 1 c.args.cache.now c.in_err-outcome.ensures.device
+    let n = next_there disk c.args.pairs.now.items c.args.index c.index_mut-pair.result.now c.requires.can.below c.index_mut-pair.ensures.value in
+    reading_there disk (g.D.BlockDevice.history c.args.device.now) c.args.pairs.now.items c.args.map.now c.args.index c.index_mut-pair.result.now (here_at _ _ _ n) c.requires.kept
+    g.D.BlockDevice c.args.device.now c.commit.new.dev address_blocks 1 c.args.cache.now (c.as_deref.ensures.value ∙ c.take_cached_pair-held.ensures.bytes) c.in_err-outcome.ensures.device
 
 pub returns-in-Full-clause-device : goal.returns-in-Full-clause-device
 returns-in-Full-clause-device g c =
     let disk = disk_of_blocks (g.D.BlockDevice.geometry c.args.device.now) (g.D.BlockDevice.blocks c.args.device.now) in
-    let n = next_there disk c.args.pairs.now.items c.args.index c.index_mut.result.now c.requires.can.below c.index_mut.ensures.value in
-    reading_there disk (g.D.BlockDevice.history c.args.device.now) c.args.pairs.now.items c.args.map.now c.args.index c.index_mut.result.now (here_at _ _ _ n) c.requires.kept
-    g.D.BlockDevice c.args.device.now c.commit_with_cache.new.device address_blocks 1 c.args.cache.now c.in_ok-outcome.ensures.device
+    let n = next_there disk c.args.pairs.now.items c.args.index c.index_mut-pair.result.now c.requires.can.below c.index_mut-pair.ensures.value in
+    reading_there disk (g.D.BlockDevice.history c.args.device.now) c.args.pairs.now.items c.args.map.now c.args.index c.index_mut-pair.result.now (here_at _ _ _ n) c.requires.kept
+    g.D.BlockDevice c.args.device.now c.commit.new.dev address_blocks 1 c.args.cache.now (c.as_deref.ensures.value ∙ c.take_cached_pair-held.ensures.bytes) c.in_ok-outcome.ensures.device
 
 pub returns-clause-device : goal.returns-clause-device
 returns-clause-device g c =
     let disk = disk_of_blocks (g.D.BlockDevice.geometry c.args.device.now) (g.D.BlockDevice.blocks c.args.device.now) in
-    let n = next_there disk c.args.pairs.now.items c.args.index c.index_mut.result.now c.requires.can.below c.index_mut.ensures.value in
-    reading_there disk (g.D.BlockDevice.history c.args.device.now) c.args.pairs.now.items c.args.map.now c.args.index c.index_mut.result.now (here_at _ _ _ n) c.requires.kept
-    g.D.BlockDevice c.args.device.now c.commit_with_cache.new.device address_blocks 1 c.args.cache.now c.in_ok-outcome.ensures.device
+    let n = next_there disk c.args.pairs.now.items c.args.index c.index_mut-pair.result.now c.requires.can.below c.index_mut-pair.ensures.value in
+    reading_there disk (g.D.BlockDevice.history c.args.device.now) c.args.pairs.now.items c.args.map.now c.args.index c.index_mut-pair.result.now (here_at _ _ _ n) c.requires.kept
+    g.D.BlockDevice c.args.device.now c.commit.new.dev address_blocks 1 c.args.cache.now (c.as_deref.ensures.value ∙ c.take_cached_pair-held.ensures.bytes) c.in_ok-outcome.ensures.device
+
+pub returns-in_err-outcome-clause-current : goal.returns-in_err-outcome-clause-current
+returns-in_err-outcome-clause-current g c = current_taken _ c.index_mut-pair.result.now.active (header_address c.index_mut-pair.result.now) c.requires.current c.take_cached_pair-held.ensures.gone c.commit.ensures.device.only.others
+
+pub returns-in-Full-clause-current : goal.returns-in-Full-clause-current
+returns-in-Full-clause-current g c = current_taken _ c.index_mut-pair.result.now.active (header_address c.index_mut-pair.result.now) c.requires.current c.take_cached_pair-held.ensures.gone c.commit.ensures.device.only.others
+
+pub returns-clause-current : goal.returns-clause-current
+returns-clause-current g c = current_taken _ c.index_mut-pair.result.now.active (header_address c.index_mut-pair.result.now) c.requires.current c.take_cached_pair-held.ensures.gone c.commit.ensures.device.only.others
+
+pub returns-in_err-outcome-clause-errors : goal.returns-in_err-outcome-clause-errors
+returns-in_err-outcome-clause-errors g c =
+    let p = err_from_is_err_and c.from_residual.result c.from_residual.ensures.1 in
+    errors_again c.in_err-outcome.field-0.0 _ c.from_residual.result c.in_err-outcome.was (p.1 ∙ ap Err p.2) (reports_of c.index_mut-pair.result.now c.commit.new.pair c.commit.ensures.error c.commit.ensures.faults)
+
+pub returns-in-Full-clause-errors : goal.returns-in-Full-clause-errors
+returns-in-Full-clause-errors g c = record {
+  errors = tt;
+  faults = record { fault = λ gives. absurd (cc); no_fault = λ other. c.in_ok-outcome.ensures.faults.no_fault (λ gives. absurd (cc)) };
+  unwritten = λ gives. absurd (cc);
+}
+
+pub returns-clause-errors : goal.returns-clause-errors
+returns-clause-errors g c = record {
+  errors = tt;
+  faults = record { fault = λ gives. absurd (cc); no_fault = λ other. c.in_ok-outcome.ensures.faults.no_fault (λ gives. absurd (cc)) };
+  unwritten = λ gives. absurd (cc);
+}

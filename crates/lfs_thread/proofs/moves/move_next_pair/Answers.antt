@@ -1,11 +1,11 @@
 use Rattle.std.proofs.Common.{[], ◌≤◌, ◌<◌, ◌∙◌, Err, Ok, ap, arith, refl, subst, sym, set, length}
-use Rattle.lfs_thread.proofs.Common.{length-set, err_from_is_err_and, SameExceptBlocks, address_view, address_blocks, addresses_blocks, BlockStates, Free, IsInFlight, Used, fault_count-since, CanCopyPair, header_address, reads_unless_cached, PairHeader, disk_of_device, map_freeing, map_using}
-use Rattle.lfs_thread.proofs.CachedLogs.{current_but_two}
+use Rattle.lfs_thread.proofs.Common.{length-set, err_from_is_err_and, SameExceptBlocks, address_view, address_blocks, addresses_blocks, BlockStates, Free, IsInFlight, Used, fault_count-since, CanCopyPair, header_address, PairHeader, disk_of_device, map_freeing, map_using}
+use Rattle.lfs_thread.proofs.CachedLogs.{current_but_two, current_taken, given_current}
 use Rattle.lfs_thread.proofs.CachedPair.{cached_beside, reading_there}
 use Rattle.lfs_thread.proofs.Coming.{second_held}
 use Rattle.lfs_thread.proofs.Dropped.{here_at, next_there, next_used}
 use Rattle.lfs_thread.proofs.Moving.{can_copy, device_is_moved, device_lead_can, device_left_by_copy, device_move_stops, device_moved_kept, device_never_full, next_is}
-use Rattle.lfs_thread.proofs.Reported.{changes_by_fresh, changes_by_both, errors_again}
+use Rattle.lfs_thread.proofs.Reported.{changes_by_fresh, changes_by_both, errors_again, reports_of}
 use Rattle.lfs_thread.proofs.moves.move_next_pair.Goals as goal
 
 pub copy-requires : goal.copy-requires
@@ -33,16 +33,15 @@ returns-in_err-moved-clause-stops g c cleanly =
     let e = c.in_err-moved.ensures in
     device_left_by_copy _ _ _ _ _ _ c.args.pairs.now.items c.args.map.now c.args.index c.index.result.now (address_view c.args.fresh) few e.device.only.geometry n c.requires.kept c.requires.can e.device.only.others e.device.only.elsewhere e.device.only.at_worst
 
-pub commit_with_cache-requires : goal.commit_with_cache-requires
-commit_with_cache-requires g c = record {
+pub commit-requires : goal.commit-requires
+commit-requires g c = record {
   can =
       let disk = disk_of_device g.D.BlockDevice c.args.device.now in
       let n = next_there disk c.args.pairs.now.items c.args.index c.index.result.now c.requires.can.below c.index.ensures in
       let few : length (g.D.BlockDevice.blocks c.args.device.now) ≤ 65536 = let s = (g.met.D.BlockDevice.shape c.args.device.now).count in let m = (g.D.BlockDevice.geometry c.args.device.now).valid.no_more in omega arith in
       let e = c.in_ok-moved.ensures in
       device_lead_can _ _ _ _ _ _ c.args.pairs.now.items c.args.map.now c.args.index c.index.result.now (address_view c.args.fresh) few e.device.only.geometry n c.requires.kept c.requires.can e.device.only.others e.device.only.elsewhere;
-  current =
-      current_but_two _ _ _ _ (address_view c.args.fresh) c.requires.current c.forget_cached_pair.ensures c.in_ok-moved.ensures.device.only.others;
+  block = given_current _ _ c.index.result.now.active (c.as_deref.ensures.value ∙ c.take_cached_pair-held.ensures.bytes) (current_but_two _ _ _ _ (address_view c.args.fresh) c.requires.current c.forget_cached_pair.ensures c.in_ok-moved.ensures.device.only.others);
 }
 
 pub returns-in_err-outcome-clause-device : goal.returns-in_err-outcome-clause-device
@@ -54,18 +53,17 @@ returns-in_err-outcome-clause-device g c =
     let copy = c.in_ok-moved.ensures.device in
     let commit = c.in_err-outcome.ensures.device in
     let same = cached_beside disk history c.args.pairs.now.items c.args.map.now c.args.index c.index.result.now a c.requires.kept (address_view c.args.fresh) c.requires.can.held c.args.cache.now c.forget_cached_pair.new.cache c.forget_cached_pair.ensures in
-    let reads = ap reads_unless_cached same in
     reading_there disk history c.args.pairs.now.items c.args.map.now c.args.index c.index.result.now a c.requires.kept
-    g.D.BlockDevice c.args.device.now c.commit_with_cache.new.device (λ at. addresses_blocks at (address_view c.args.fresh)) 4 c.args.cache.now
+    g.D.BlockDevice c.args.device.now c.commit.new.dev (λ at. addresses_blocks at (address_view c.args.fresh)) 4 c.args.cache.now (c.as_deref.ensures.value ∙ c.take_cached_pair-held.ensures.bytes ∙ same)
     (record {
       only = changes_by_both g.D.BlockDevice (header_address c.index.result.now) (address_view c.args.fresh) copy.only commit.only;
-      few = let first = copy.few in let second = commit.few in omega (arith, first, second, reads);
+      few = let first = copy.few in let second = commit.few in omega (arith, first, second);
     })
 
 pub returns-in_err-outcome-clause-errors : goal.returns-in_err-outcome-clause-errors
 returns-in_err-outcome-clause-errors g c =
     let p = err_from_is_err_and c.from_residual-in_err-outcome.result c.from_residual-in_err-outcome.ensures.1 in
-    let t = errors_again c.in_err-outcome.field-0.0 _ c.from_residual-in_err-outcome.result c.in_err-outcome.was (p.1 ∙ ap Err p.2) c.commit_with_cache.ensures.errors in
+    let t = errors_again c.in_err-outcome.field-0.0 _ c.from_residual-in_err-outcome.result c.in_err-outcome.was (p.1 ∙ ap Err p.2) (reports_of c.index.result.now c.commit.new.pair c.commit.ensures.error c.commit.ensures.faults) in
     let so_far = fault_count-since c.in_ok-moved.ensures.device.only.at_worst in
     record {
       errors = t.errors;
@@ -155,12 +153,11 @@ returns-clause-device g c =
     let copy = c.in_ok-moved.ensures.device in
     let commit = c.in_ok-outcome.ensures.device in
     let same = cached_beside disk history c.args.pairs.now.items c.args.map.now c.args.index c.index.result.now a c.requires.kept (address_view c.args.fresh) c.requires.can.held c.args.cache.now c.forget_cached_pair.new.cache c.forget_cached_pair.ensures in
-    let reads = ap reads_unless_cached same in
     reading_there disk history c.args.pairs.now.items c.args.map.now c.args.index c.index.result.now a c.requires.kept
-    g.D.BlockDevice c.args.device.now c.commit_with_cache.new.device (λ at. addresses_blocks at (address_view c.args.fresh)) 4 c.args.cache.now
+    g.D.BlockDevice c.args.device.now c.commit.new.dev (λ at. addresses_blocks at (address_view c.args.fresh)) 4 c.args.cache.now (c.as_deref.ensures.value ∙ c.take_cached_pair-held.ensures.bytes ∙ same)
     (record {
       only = changes_by_both g.D.BlockDevice (header_address c.index.result.now) (address_view c.args.fresh) copy.only commit.only;
-      few = let first = copy.few in let second = commit.few in omega (arith, first, second, reads);
+      few = let first = copy.few in let second = commit.few in omega (arith, first, second);
     })
 
 pub returns-clause-errors : goal.returns-clause-errors
@@ -169,7 +166,7 @@ returns-clause-errors g c =
       errors = tt;
       faults = record {
         fault = λ gives. absurd (cc);
-        no_fault = λ e. c.in_ok-outcome.ensures.errors.faults.no_fault (λ gives. absurd (cc)) ∙ c.in_ok-moved.ensures.faults.no_fault (λ gives. absurd (cc));
+        no_fault = λ e. c.in_ok-outcome.ensures.faults.no_fault (λ gives. absurd (cc)) ∙ c.in_ok-moved.ensures.faults.no_fault (λ gives. absurd (cc));
       };
       beside = λ e. absurd (cc);
     }
@@ -184,3 +181,9 @@ returns-clause-stops g c =
     let k = c.in_ok-outcome.ensures in
     device_move_stops _ _ _ _ _ _ c.args.pairs.now.items c.args.map.now c.args.index c.index.result.now (address_view c.args.fresh) few e.device.only.geometry n c.requires.kept c.requires.can e.device.only.others e.device.only.elsewhere _ _ is e.copied
     _ e.device.only.at_worst k.device.only.at_worst k.stops
+
+pub returns-in_err-outcome-clause-current : goal.returns-in_err-outcome-clause-current
+returns-in_err-outcome-clause-current g c = current_taken _ c.index.result.now.active (header_address c.index.result.now) (current_but_two _ _ _ _ (address_view c.args.fresh) c.requires.current c.forget_cached_pair.ensures c.in_ok-moved.ensures.device.only.others) c.take_cached_pair-held.ensures.gone c.commit.ensures.device.only.others
+
+pub returns-clause-current : goal.returns-clause-current
+returns-clause-current g c = current_taken _ c.index.result.now.active (header_address c.index.result.now) (current_but_two _ _ _ _ (address_view c.args.fresh) c.requires.current c.forget_cached_pair.ensures c.in_ok-moved.ensures.device.only.others) c.take_cached_pair-held.ensures.gone c.commit.ensures.device.only.others

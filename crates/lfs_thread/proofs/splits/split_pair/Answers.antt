@@ -1,18 +1,19 @@
-use Rattle.std.proofs.Common.{rules, ◌+◌, ◌∙◌, Err, List, ap, refl, subst, sym, set}
-use Rattle.lfs_thread.proofs.Common.{err_from_is_err_and, BlockStates, IsInFlight, Used, address_view, HoldsAtLosses-weaker, PairHeader, disk_of_device, addresses_blocks}
+use Rattle.std.proofs.Common.{◌+◌, ◌∙◌, Err, List, ap, refl, subst, sym, set}
+use Rattle.lfs_thread.proofs.Common.{err_from_is_err_and, BlockStates, IsInFlight, Used, address_view, HoldsAtLosses-weaker, PairHeader, disk_of_device, addresses_blocks, header_address}
 use Rattle.lfs_thread.proofs.Changing.{at_there}
 use Rattle.lfs_thread.proofs.Coming.{second_held}
 use Rattle.lfs_thread.proofs.CachedPair.{reading_there}
 use Rattle.lfs_thread.proofs.Parting.{can_split, device_split, device_is_split, left_by_split, placed}
-use Rattle.lfs_thread.proofs.Reported.{errors_again}
+use Rattle.lfs_thread.proofs.Reported.{errors_again, reports_of}
 use Rattle.lfs_thread.proofs.splits.split_pair.Goals as goal
+use Rattle.lfs_thread.proofs.CachedLogs.{current_but_four, current_without, given_current}
 
-pub split_with_cache-requires : goal.split_with_cache-requires
-split_with_cache-requires g c = record {
+pub split-requires : goal.split-requires
+split-requires g c = record {
   can =
       let a = at_there (disk_of_device g.D.BlockDevice c.args.device.now) c.args.pairs.now.items c.args.index c.index.result.now c.requires.can.can.below c.index.ensures in
       can_split _ _ _ c.args.map.now c.args.index _ (address_view c.args.fresh) _ a c.requires.kept c.requires.can;
-  current = search rules;
+  block = given_current _ _ c.index.result.now.active (c.as_deref.ensures.value ∙ c.take_cached_pair-held.ensures.bytes) c.requires.current;
 }
 
 pub returns-in_err-fresh_pair-clause-stops : goal.returns-in_err-fresh_pair-clause-stops
@@ -29,14 +30,14 @@ returns-clause-kept g c =
     let a = at_there (disk_of_device g.D.BlockDevice c.args.device.now) c.args.pairs.now.items c.args.index c.index.result.now c.requires.can.can.below c.index.ensures in
     let e = c.in_ok-fresh_pair.ensures in
     device_split _ _ _ _ _ _ _ _ _ _ _ _ (address_view c.args.fresh) _ e.device.only.geometry a c.requires.kept c.requires.can e.splits e.device.only.others e.device.only.elsewhere _
-    (ap (λ (z : List PairHeader). set (set z c.args.index c.split_with_cache.new.pair) (c.args.index + 1) c.in_ok-fresh_pair.fresh_pair) c.in_ok-insert.ensures.items ∙ placed _ _ _ _ _ c.in_ok-fresh_pair.fresh_pair a) _ (c.settle-2.ensures ∙ ap (λ (s : BlockStates). set s (address_view c.args.fresh).1 Used) c.settle.ensures)
+    (ap (λ (z : List PairHeader). set (set z c.args.index c.split.new.pair) (c.args.index + 1) c.in_ok-fresh_pair.fresh_pair) c.in_ok-insert.ensures.items ∙ placed _ _ _ _ _ c.in_ok-fresh_pair.fresh_pair a) _ (c.settle-2.ensures ∙ ap (λ (s : BlockStates). set s (address_view c.args.fresh).1 Used) c.settle.ensures)
 
 pub returns-clause-is_split : goal.returns-clause-is_split
 returns-clause-is_split g c =
     let a = at_there (disk_of_device g.D.BlockDevice c.args.device.now) c.args.pairs.now.items c.args.index c.index.result.now c.requires.can.can.below c.index.ensures in
     let e = c.in_ok-fresh_pair.ensures in
     device_is_split _ _ _ _ _ _ _ _ _ _ _ _ (address_view c.args.fresh) _ e.device.only.geometry a c.requires.kept c.requires.can e.splits e.device.only.others e.device.only.elsewhere _
-    (ap (λ (z : List PairHeader). set (set z c.args.index c.split_with_cache.new.pair) (c.args.index + 1) c.in_ok-fresh_pair.fresh_pair) c.in_ok-insert.ensures.items ∙ placed _ _ _ _ _ c.in_ok-fresh_pair.fresh_pair a) _ (c.settle-2.ensures ∙ ap (λ (s : BlockStates). set s (address_view c.args.fresh).1 Used) c.settle.ensures)
+    (ap (λ (z : List PairHeader). set (set z c.args.index c.split.new.pair) (c.args.index + 1) c.in_ok-fresh_pair.fresh_pair) c.in_ok-insert.ensures.items ∙ placed _ _ _ _ _ c.in_ok-fresh_pair.fresh_pair a) _ (c.settle-2.ensures ∙ ap (λ (s : BlockStates). set s (address_view c.args.fresh).1 Used) c.settle.ensures)
 
 pub returns-clause-stops : goal.returns-clause-stops
 returns-clause-stops g c cleanly =
@@ -46,12 +47,12 @@ returns-clause-stops g c cleanly =
 pub returns-in_err-fresh_pair-clause-errors : goal.returns-in_err-fresh_pair-clause-errors
 returns-in_err-fresh_pair-clause-errors g c =
     let p = err_from_is_err_and c.from_residual-in_err-fresh_pair.result c.from_residual-in_err-fresh_pair.ensures.1 in
-    errors_again c.in_err-fresh_pair.field-0.0 (Err c.in_err-fresh_pair.field-0.0) c.from_residual-in_err-fresh_pair.result refl (p.1 ∙ ap Err p.2) c.in_err-fresh_pair.ensures.errors
+    errors_again c.in_err-fresh_pair.field-0.0 (Err c.in_err-fresh_pair.field-0.0) c.from_residual-in_err-fresh_pair.result refl (p.1 ∙ ap Err p.2) (reports_of c.index.result.now c.split.new.pair {result = Err c.in_err-fresh_pair.field-0.0} c.in_err-fresh_pair.ensures.error c.in_err-fresh_pair.ensures.faults)
 
 pub returns-clause-errors : goal.returns-clause-errors
 returns-clause-errors g c = record {
   errors = tt;
-  faults = record { fault = λ gives. absurd (cc); no_fault = λ other. c.in_ok-fresh_pair.ensures.errors.faults.no_fault (λ gives. absurd (cc)) };
+  faults = record { fault = λ gives. absurd (cc); no_fault = λ other. c.in_ok-fresh_pair.ensures.faults.no_fault (λ gives. absurd (cc)) };
   unwritten = λ gives. absurd (cc);
 }
 
@@ -60,11 +61,19 @@ returns-in_err-fresh_pair-clause-device g c =
     let disk = disk_of_device g.D.BlockDevice c.args.device.now in
     let a = at_there disk c.args.pairs.now.items c.args.index c.index.result.now c.requires.can.can.below c.index.ensures in
     reading_there disk (g.D.BlockDevice.history c.args.device.now) c.args.pairs.now.items c.args.map.now c.args.index c.index.result.now a c.requires.kept
-    g.D.BlockDevice c.args.device.now c.split_with_cache.new.device (λ at. addresses_blocks at (address_view c.args.fresh)) 3 c.args.cache.now c.in_err-fresh_pair.ensures.device
+    g.D.BlockDevice c.args.device.now c.split.new.dev (λ at. addresses_blocks at (address_view c.args.fresh)) 3 c.args.cache.now (c.as_deref.ensures.value ∙ c.take_cached_pair-held.ensures.bytes) c.in_err-fresh_pair.ensures.device
 
 pub returns-clause-device : goal.returns-clause-device
 returns-clause-device g c =
     let disk = disk_of_device g.D.BlockDevice c.args.device.now in
     let a = at_there disk c.args.pairs.now.items c.args.index c.index.result.now c.requires.can.can.below c.index.ensures in
     reading_there disk (g.D.BlockDevice.history c.args.device.now) c.args.pairs.now.items c.args.map.now c.args.index c.index.result.now a c.requires.kept
-    g.D.BlockDevice c.args.device.now c.split_with_cache.new.device (λ at. addresses_blocks at (address_view c.args.fresh)) 3 c.args.cache.now c.in_ok-fresh_pair.ensures.device
+    g.D.BlockDevice c.args.device.now c.split.new.dev (λ at. addresses_blocks at (address_view c.args.fresh)) 3 c.args.cache.now (c.as_deref.ensures.value ∙ c.take_cached_pair-held.ensures.bytes) c.in_ok-fresh_pair.ensures.device
+
+pub returns-in_err-fresh_pair-clause-current : goal.returns-in_err-fresh_pair-clause-current
+returns-in_err-fresh_pair-clause-current g c = current_but_four _ _ _ _ _ (header_address c.index.result.now) (address_view c.args.fresh) (current_without _ _ c.index.result.now.active c.requires.current)
+    c.take_cached_pair-held.ensures.gone c.forget_cached_pair.ensures c.split.ensures.device.only.others
+
+pub returns-clause-current : goal.returns-clause-current
+returns-clause-current g c = current_but_four _ _ _ _ _ (header_address c.index.result.now) (address_view c.args.fresh) (current_without _ _ c.index.result.now.active c.requires.current)
+    c.take_cached_pair-held.ensures.gone c.forget_cached_pair.ensures c.split.ensures.device.only.others

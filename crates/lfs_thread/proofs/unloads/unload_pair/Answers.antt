@@ -1,12 +1,12 @@
 use Rattle.std.proofs.Common.{◌≤◌, ◌+◌, ◌-◌, ◌∙◌, Ok, Err, List, [], ◌∷◌, ap, arith, subst, sym, set, length}
-use Rattle.lfs_thread.proofs.Common.{err_from_is_err_and, SameExceptBlocks, Gstate, address_view, address_blocks, addresses_blocks, BlockStates, IsInFlight, Used, ContentChange, PutMove, fault_count-since, changes_view, CanCommit, CommitsChanges, LossLeavesChanged, CanCopyPair, IsPairCopied, header_address, reads_unless_cached, PairHeader, disk_of_device, CleanLossLeaves}
+use Rattle.lfs_thread.proofs.Common.{err_from_is_err_and, SameExceptBlocks, Gstate, address_view, address_blocks, addresses_blocks, BlockStates, IsInFlight, Used, ContentChange, PutMove, fault_count-since, changes_view, CanCommit, CommitsChanges, LossLeavesChanged, CanCopyPair, IsPairCopied, header_address, PairHeader, disk_of_device, CleanLossLeaves}
 use Rattle.lfs_pair.specs.Commits.{RefusesCommit}
-use Rattle.lfs_thread.proofs.CachedLogs.{current_but_two}
+use Rattle.lfs_thread.proofs.CachedLogs.{current_but_two, current_taken, given_current}
 use Rattle.lfs_thread.proofs.CachedPair.{cached_beside, count_there, reading_there}
 use Rattle.lfs_thread.proofs.Changing.{at_there}
 use Rattle.lfs_thread.proofs.Coming.{second_held}
 use Rattle.lfs_thread.proofs.Parting.{placed}
-use Rattle.lfs_thread.proofs.Reported.{changes_by_fresh, changes_by_both, errors_again}
+use Rattle.lfs_thread.proofs.Reported.{changes_by_fresh, changes_by_both, errors_again, reports_of}
 use Rattle.lfs_thread.proofs.Unloading.{can_load, device_is_unloaded, device_leave_can, device_left_by_load, device_never_full, device_unload_stops, device_unloaded_kept, gone_count}
 use Rattle.lfs_thread.proofs.unloads.unload_pair.Goals as goal
 
@@ -60,8 +60,8 @@ returns-in_err-loaded-clause-stops g c cleanly =
     let e = c.in_err-loaded.ensures in
     device_left_by_load _ _ _ _ _ _ c.args.pairs.now.items c.args.map.now c.args.index h (address_view c.args.fresh) c.args.keep count few e.device.only.geometry a c.requires.kept c.requires.can counted e.device.only.others e.device.only.elsewhere e.device.only.at_worst
 
-pub commit_with_cache-requires : goal.commit_with_cache-requires
-commit_with_cache-requires g c = record {
+pub commit-requires : goal.commit-requires
+commit-requires g c = record {
   can =
       let disk = disk_of_device g.D.BlockDevice c.args.device.now in
       let history = g.D.BlockDevice.history c.args.device.now in
@@ -77,8 +77,7 @@ commit_with_cache-requires g c = record {
       let e = c.in_ok-loaded.ensures in
       subst (λ (changes : List ContentChange). CanCommit (disk_of_device g.D.BlockDevice c.copy.new.dev) (g.D.BlockDevice.history c.copy.new.dev) h changes) (sym made)
       (device_leave_can _ _ _ _ _ _ c.args.pairs.now.items c.args.map.now c.args.index h (address_view c.args.fresh) c.args.keep count few e.device.only.geometry a c.requires.kept c.requires.can counted e.device.only.others e.device.only.elsewhere);
-  current =
-      current_but_two _ _ _ _ (address_view c.args.fresh) c.requires.current c.forget_cached_pair.ensures c.in_ok-loaded.ensures.device.only.others;
+  block = given_current _ _ c.index.result.now.active (c.as_deref.ensures.value ∙ c.take_cached_pair-held.ensures.bytes) (current_but_two _ _ _ _ (address_view c.args.fresh) c.requires.current c.forget_cached_pair.ensures c.in_ok-loaded.ensures.device.only.others);
 }
 
 pub returns-in_err-outcome-clause-device : goal.returns-in_err-outcome-clause-device
@@ -90,18 +89,17 @@ returns-in_err-outcome-clause-device g c =
     let copy = c.in_ok-loaded.ensures.device in
     let commit = c.in_err-outcome.ensures.device in
     let same = cached_beside disk history c.args.pairs.now.items c.args.map.now c.args.index h a c.requires.kept (address_view c.args.fresh) c.requires.can.held c.args.cache.now c.forget_cached_pair.new.cache c.forget_cached_pair.ensures in
-    let reads = ap reads_unless_cached same in
     reading_there disk history c.args.pairs.now.items c.args.map.now c.args.index h a c.requires.kept
-    g.D.BlockDevice c.args.device.now c.commit_with_cache.new.device (λ at. addresses_blocks at (address_view c.args.fresh)) 4 c.args.cache.now
+    g.D.BlockDevice c.args.device.now c.commit.new.dev (λ at. addresses_blocks at (address_view c.args.fresh)) 4 c.args.cache.now (c.as_deref.ensures.value ∙ c.take_cached_pair-held.ensures.bytes ∙ same)
     (record {
       only = changes_by_both g.D.BlockDevice (header_address h) (address_view c.args.fresh) copy.only commit.only;
-      few = let first = copy.few in let second = commit.few in omega (arith, first, second, reads);
+      few = let first = copy.few in let second = commit.few in omega (arith, first, second);
     })
 
 pub returns-in_err-outcome-clause-errors : goal.returns-in_err-outcome-clause-errors
 returns-in_err-outcome-clause-errors g c =
     let p = err_from_is_err_and c.from_residual-in_err-outcome.result c.from_residual-in_err-outcome.ensures.1 in
-    let t = errors_again c.in_err-outcome.field-0.0 _ c.from_residual-in_err-outcome.result c.in_err-outcome.was (p.1 ∙ ap Err p.2) c.commit_with_cache.ensures.errors in
+    let t = errors_again c.in_err-outcome.field-0.0 _ c.from_residual-in_err-outcome.result c.in_err-outcome.was (p.1 ∙ ap Err p.2) (reports_of c.index.result.now c.commit.new.pair c.commit.ensures.error c.commit.ensures.faults) in
     let so_far = fault_count-since c.in_ok-loaded.ensures.device.only.at_worst in
     record {
       errors = t.errors;
@@ -132,7 +130,7 @@ returns-in_err-outcome-clause-stops g c =
     let copied = subst (λ (m : Gstate). IsPairCopied disk history (PutMove m ∷ []) h later then (address_view c.args.fresh) c.in_ok-loaded.loaded) c.none.ensures e.copied in
     device_unload_stops _ _ _ _ _ _ c.args.pairs.now.items c.args.map.now c.args.index h (address_view c.args.fresh) c.args.keep count few e.device.only.geometry a c.requires.kept c.requires.can counted e.device.only.others e.device.only.elsewhere _ copied
     _ e.device.only.at_worst k.device.only.at_worst
-    (subst (λ (changes : List ContentChange). CleanLossLeaves then (g.D.BlockDevice.history c.commit_with_cache.new.device) (LossLeavesChanged later (header_address h) changes)) made k.stops)
+    (subst (λ (changes : List ContentChange). CleanLossLeaves then (g.D.BlockDevice.history c.commit.new.dev) (LossLeavesChanged later (header_address h) changes)) made k.stops)
 
 pub unreachable-requires : goal.unreachable-requires
 unreachable-requires g c =
@@ -149,7 +147,7 @@ unreachable-requires g c =
     let made = ap changes_view c.deref.ensures.value ∙ c.in_ok-changes.ensures.changes in
     let e = c.in_ok-loaded.ensures in
     device_never_full _ _ _ _ _ _ c.args.pairs.now.items c.args.map.now c.args.index h (address_view c.args.fresh) c.args.keep count few e.device.only.geometry a c.requires.kept c.requires.can counted e.device.only.others e.device.only.elsewhere
-    (subst (λ (changes : List ContentChange). RefusesCommit g.D.BlockDevice changes c.copy.new.dev c.commit_with_cache.new.device h c.commit_with_cache.new.pair) made (c.in_ok-outcome.ensures.ends.full (ap Ok c.in-Full.is))).completed
+    (subst (λ (changes : List ContentChange). RefusesCommit g.D.BlockDevice changes c.copy.new.dev c.commit.new.dev h c.commit.new.pair) made (c.in_ok-outcome.ensures.ends.full (ap Ok c.in-Full.is))).completed
 
 pub settle-requires-2 : goal.settle-requires-2
 settle-requires-2 g c =
@@ -175,9 +173,9 @@ returns-clause-kept g c =
     let copied = subst (λ (m : Gstate). IsPairCopied disk history (PutMove m ∷ []) h later then (address_view c.args.fresh) c.in_ok-loaded.loaded) c.none.ensures e.copied in
     device_unloaded_kept _ _ _ _ _ _ c.args.pairs.now.items c.args.map.now c.args.index h (address_view c.args.fresh) c.args.keep count few e.device.only.geometry a c.requires.kept c.requires.can counted e.device.only.others e.device.only.elsewhere _ copied
     _ _ _ _ k.device.only.geometry
-    (subst (λ (changes : List ContentChange). CommitsChanges later then changes h (disk_of_device g.D.BlockDevice c.commit_with_cache.new.device) (g.D.BlockDevice.history c.commit_with_cache.new.device) c.commit_with_cache.new.pair) made (k.ends.done (ap Ok c.in_default.is)))
+    (subst (λ (changes : List ContentChange). CommitsChanges later then changes h (disk_of_device g.D.BlockDevice c.commit.new.dev) (g.D.BlockDevice.history c.commit.new.dev) c.commit.new.pair) made (k.ends.done (ap Ok c.in_default.is)))
     k.device.only.others k.device.only.elsewhere
-    _ (ap (λ (z : List PairHeader). set (set z c.args.index c.commit_with_cache.new.pair) (c.args.index + 1) c.in_ok-loaded.loaded) c.in_ok-insert.ensures.items ∙ placed _ _ _ _ _ c.in_ok-loaded.loaded a)
+    _ (ap (λ (z : List PairHeader). set (set z c.args.index c.commit.new.pair) (c.args.index + 1) c.in_ok-loaded.loaded) c.in_ok-insert.ensures.items ∙ placed _ _ _ _ _ c.in_ok-loaded.loaded a)
     _ (c.settle-2.ensures ∙ ap (λ (s : BlockStates). set s (address_view c.args.fresh).1 Used) c.settle.ensures)
 
 pub returns-clause-is_unloaded : goal.returns-clause-is_unloaded
@@ -200,9 +198,9 @@ returns-clause-is_unloaded g c =
     let copied = subst (λ (m : Gstate). IsPairCopied disk history (PutMove m ∷ []) h later then (address_view c.args.fresh) c.in_ok-loaded.loaded) c.none.ensures e.copied in
     device_is_unloaded _ _ _ _ _ _ c.args.pairs.now.items c.args.map.now c.args.index h (address_view c.args.fresh) c.args.keep count few e.device.only.geometry a c.requires.kept c.requires.can counted e.device.only.others e.device.only.elsewhere _ copied
     _ _ _ _ k.device.only.geometry
-    (subst (λ (changes : List ContentChange). CommitsChanges later then changes h (disk_of_device g.D.BlockDevice c.commit_with_cache.new.device) (g.D.BlockDevice.history c.commit_with_cache.new.device) c.commit_with_cache.new.pair) made (k.ends.done (ap Ok c.in_default.is)))
+    (subst (λ (changes : List ContentChange). CommitsChanges later then changes h (disk_of_device g.D.BlockDevice c.commit.new.dev) (g.D.BlockDevice.history c.commit.new.dev) c.commit.new.pair) made (k.ends.done (ap Ok c.in_default.is)))
     k.device.only.others k.device.only.elsewhere
-    _ (ap (λ (z : List PairHeader). set (set z c.args.index c.commit_with_cache.new.pair) (c.args.index + 1) c.in_ok-loaded.loaded) c.in_ok-insert.ensures.items ∙ placed _ _ _ _ _ c.in_ok-loaded.loaded a)
+    _ (ap (λ (z : List PairHeader). set (set z c.args.index c.commit.new.pair) (c.args.index + 1) c.in_ok-loaded.loaded) c.in_ok-insert.ensures.items ∙ placed _ _ _ _ _ c.in_ok-loaded.loaded a)
     _ (c.settle-2.ensures ∙ ap (λ (s : BlockStates). set s (address_view c.args.fresh).1 Used) c.settle.ensures)
 
 pub returns-clause-device : goal.returns-clause-device
@@ -214,12 +212,11 @@ returns-clause-device g c =
     let copy = c.in_ok-loaded.ensures.device in
     let commit = c.in_ok-outcome.ensures.device in
     let same = cached_beside disk history c.args.pairs.now.items c.args.map.now c.args.index h a c.requires.kept (address_view c.args.fresh) c.requires.can.held c.args.cache.now c.forget_cached_pair.new.cache c.forget_cached_pair.ensures in
-    let reads = ap reads_unless_cached same in
     reading_there disk history c.args.pairs.now.items c.args.map.now c.args.index h a c.requires.kept
-    g.D.BlockDevice c.args.device.now c.commit_with_cache.new.device (λ at. addresses_blocks at (address_view c.args.fresh)) 4 c.args.cache.now
+    g.D.BlockDevice c.args.device.now c.commit.new.dev (λ at. addresses_blocks at (address_view c.args.fresh)) 4 c.args.cache.now (c.as_deref.ensures.value ∙ c.take_cached_pair-held.ensures.bytes ∙ same)
     (record {
       only = changes_by_both g.D.BlockDevice (header_address h) (address_view c.args.fresh) copy.only commit.only;
-      few = let first = copy.few in let second = commit.few in omega (arith, first, second, reads);
+      few = let first = copy.few in let second = commit.few in omega (arith, first, second);
     })
 
 pub returns-clause-errors : goal.returns-clause-errors
@@ -228,7 +225,7 @@ returns-clause-errors g c =
       errors = tt;
       faults = record {
         fault = λ gives. absurd (cc);
-        no_fault = λ e. c.in_ok-outcome.ensures.errors.faults.no_fault (λ gives. absurd (cc)) ∙ c.in_ok-loaded.ensures.faults.no_fault (λ gives. absurd (cc));
+        no_fault = λ e. c.in_ok-outcome.ensures.faults.no_fault (λ gives. absurd (cc)) ∙ c.in_ok-loaded.ensures.faults.no_fault (λ gives. absurd (cc));
       };
       beside = λ e. absurd (cc);
     }
@@ -253,4 +250,10 @@ returns-clause-stops g c =
     let copied = subst (λ (m : Gstate). IsPairCopied disk history (PutMove m ∷ []) h later then (address_view c.args.fresh) c.in_ok-loaded.loaded) c.none.ensures e.copied in
     device_unload_stops _ _ _ _ _ _ c.args.pairs.now.items c.args.map.now c.args.index h (address_view c.args.fresh) c.args.keep count few e.device.only.geometry a c.requires.kept c.requires.can counted e.device.only.others e.device.only.elsewhere _ copied
     _ e.device.only.at_worst k.device.only.at_worst
-    (subst (λ (changes : List ContentChange). CleanLossLeaves then (g.D.BlockDevice.history c.commit_with_cache.new.device) (LossLeavesChanged later (header_address h) changes)) made k.stops)
+    (subst (λ (changes : List ContentChange). CleanLossLeaves then (g.D.BlockDevice.history c.commit.new.dev) (LossLeavesChanged later (header_address h) changes)) made k.stops)
+
+pub returns-in_err-outcome-clause-current : goal.returns-in_err-outcome-clause-current
+returns-in_err-outcome-clause-current g c = current_taken _ c.index.result.now.active (header_address c.index.result.now) (current_but_two _ _ _ _ (address_view c.args.fresh) c.requires.current c.forget_cached_pair.ensures c.in_ok-loaded.ensures.device.only.others) c.take_cached_pair-held.ensures.gone c.commit.ensures.device.only.others
+
+pub returns-clause-current : goal.returns-clause-current
+returns-clause-current g c = current_taken _ c.index.result.now.active (header_address c.index.result.now) (current_but_two _ _ _ _ (address_view c.args.fresh) c.requires.current c.forget_cached_pair.ensures c.in_ok-loaded.ensures.device.only.others) c.take_cached_pair-held.ensures.gone c.commit.ensures.device.only.others

@@ -1,60 +1,71 @@
-use Rattle.std.proofs.Common.{◌∙◌, Err, ap, map, subst, sym}
-use Rattle.lfs_tree.proofs.Common.{err_from_is_err_and, last_name, tree_renaming, disk_tree, WritesThreadFree, IsNamedResult, SurvivesEither, CanMoveOntoFound, HasMovedEntry, answered, begun, lacks_memory, passed}
-use Rattle.lfs_tree.proofs.Carried.{read_is}
-use Rattle.lfs_tree.proofs.CarryEdited.{slot_found}
-use Rattle.lfs_tree.proofs.CarryFreed.{ok_then}
+use Rattle.std.proofs.Common.{subst}
+use Rattle.lfs_tree.proofs.Common.{err_from_is_err_and, CanMoveOntoFound, CanMoveToVacant, answered, passed}
 use Rattle.lfs_tree.proofs.Operated.{only_read_change}
-use Rattle.lfs_tree.proofs.Shifted.{entry_to_rename, rename_does, shift_found, source_for, reported_of_work}
+use Rattle.lfs_tree.proofs.Shifted.{move_does}
+use Rattle.lfs_tree.proofs.ShiftedSlots.{apart_within, if_both, if_done, rename_apart, rename_within, shifted_apart, survives_apart, reported_across, writes_apart, shifted_within, survives_within, reported_within}
 use Rattle.lfs_tree.proofs.renames_at.rename_at.Goals as goal
 
-pub found_rename_source-source-requires : goal.found_rename_source-source-requires
-found_rename_source-source-requires g c = slot_found c.args.thread.now.kept c.args.from.now c.in_ok-targets.targets.entry (entry_to_rename c.args.thread.now.kept c.args.from.now c.args.to.now c.requires.can) c.in_ok-targets.ensures.targets.entry
-
-pub move_onto_found-requires-clause-can : goal.move_onto_found-requires-clause-can
-move_onto_found-requires-clause-can g c =
-    let t = c.args.thread.now in
-    let mid = c.given_or_found.new.thread in
-    let source = c.found_rename_source-source.result in
-    let targets = c.in_ok-targets.targets in
-    let name = c.last_name_of.result.now in
-    let are = c.in_ok-targets.ensures.targets in
-    let target : IsNamedResult t.kept c.args.to.now targets.target name = record { leads = are.target; named = c.last_name_of.ensures ∙ ap last_name (ap (map (λ name. name.now)) c.deref.ensures.value ∙ c.in_ok-names.ensures) } in
-    let read = answered t mid c.given_or_found.result targets c.in_ok-targets.was c.given_or_found.ensures.reading in
-    let can = shift_found t c.args.root c.requires.rests c.args.from.now c.args.to.now c.lemma_valid_names.ensures c.lemma_block_facts.ensures.large c.lemma_block_facts.ensures.bytes c.requires.can c.requires.apart source
-    (source_for t.kept c.args.from.now targets.entry source are.entry c.found_rename_source-source.ensures) mid.kept.history targets.target name target in
-    (c.args.from.now, c.args.to.now, subst (λ k. CanMoveOntoFound k c.args.from.now c.args.to.now source targets.target name) (sym (read_is t.kept mid.kept read.only)) can)
-
-pub returns-in_err-names : goal.returns-in_err-names
-returns-in_err-names g c =
+pub returns-in_err-found : goal.returns-in_err-found
+returns-in_err-found g c =
     let p = err_from_is_err_and c.from_residual.result c.from_residual.ensures.1 in
-    only_read_change c.args.thread.now c.args.root c.requires.rests c.args.thread.now _ _ c.from_residual.result p.0 p.1
-    (lacks_memory _ _ c.from_residual.result (p.1 ∙ ap Err p.2) (begun c.args.thread.now c.requires.rests.held.works))
+    only_read_change c.args.thread.now c.args.root c.requires.rests c.find_move.new.thread _ _ c.from_residual.result p.0 p.1
+    (passed _ _ c.find_move.result c.from_residual.result _ p.0 c.in_err-found.was p.1 p.2 c.find_move.ensures.reading)
 
-pub returns-in_err-targets : goal.returns-in_err-targets
-returns-in_err-targets g c =
-    let p = err_from_is_err_and c.from_residual-in_err-targets.result c.from_residual-in_err-targets.ensures.1 in
-    only_read_change c.args.thread.now c.args.root c.requires.rests c.given_or_found.new.thread _ _ c.from_residual-in_err-targets.result p.0 p.1
-    (passed _ _ c.given_or_found.result c.from_residual-in_err-targets.result _ p.0 c.in_err-targets.was p.1 p.2 c.given_or_found.ensures.reading)
+pub rename-requires-clause-can : goal.rename-requires-clause-can
+rename-requires-clause-can g c =
+    let found = c.in_ok-found.found in
+    let shift = subst (λ f. CanMoveOntoFound c.find_move.new.thread.kept c.args.from.now c.args.to.now found.source f found.name.now) c.in-Nothing.is c.in_ok-found.ensures.can in
+    rename_within c.find_move.new.thread.kept c.args.from.now c.args.to.now found.source c.in-Nothing.place found.name.now shift c.if-slot-place.true
 
-pub returns : goal.returns
-returns g c =
-    let t = c.args.thread.now in
-    let mid = c.given_or_found.new.thread in
-    let new = c.move_onto_found.new.thread in
-    let from = c.args.from.now in
-    let to = c.args.to.now in
-    let source = c.found_rename_source-source.result in
-    let targets = c.in_ok-targets.targets in
-    let name = c.last_name_of.result.now in
-    let are = c.in_ok-targets.ensures.targets in
-    let target : IsNamedResult t.kept to targets.target name = record { leads = are.target; named = c.last_name_of.ensures ∙ ap last_name (ap (map (λ name. name.now)) c.deref.ensures.value ∙ c.in_ok-names.ensures) } in
-    let read = answered t mid c.given_or_found.result targets c.in_ok-targets.was c.given_or_found.ensures.reading in
-    let can = shift_found t c.args.root c.requires.rests from to c.lemma_valid_names.ensures c.lemma_block_facts.ensures.large c.lemma_block_facts.ensures.bytes c.requires.can c.requires.apart source
-    (source_for t.kept from targets.entry source are.entry c.found_rename_source-source.ensures) mid.kept.history targets.target name target in
-    let is = read_is t.kept mid.kept read.only in
-    let e = c.move_onto_found.ensures in
-    let old = subst (λ k. CanMoveOntoFound k from to source targets.target name) (sym is) can in
-    let shifted = ok_then c.move_onto_found.result _ _ (λ h. subst (λ k. HasMovedEntry k from to new.kept) is (h from to old)) e.shifted in
-    rename_does t c.args.root c.requires.rests from to c.requires.apart mid.kept.history new read.only.reads (subst (λ k. WritesThreadFree k new.kept) is e.device) c.move_onto_found.result c.lemma_path_bytes.ensures.0 c.lemma_path_bytes-2.ensures.0 c.lemma_path_bytes.ensures.1 c.lemma_path_bytes-2.ensures.1
-    read.same shifted (reported_of_work mid new c.move_onto_found.result e.errors) e.errors.works
-    (subst (λ k. SurvivesEither k new.kept (tree_renaming from to (disk_tree k.disk k.pairs))) is (e.survives from to old))
+pub returns-then-slot-place : goal.returns-then-slot-place
+returns-then-slot-place g c =
+    let mid = c.find_move.new.thread in
+    let new = c.rename.new.thread in
+    let found = c.in_ok-found.found in
+    let shift : CanMoveToVacant mid.kept c.args.from.now c.args.to.now found.source c.in-Nothing.place found.name.now = subst (λ f. CanMoveOntoFound mid.kept c.args.from.now c.args.to.now found.source f found.name.now) c.in-Nothing.is c.in_ok-found.ensures.can in
+    let read = answered c.args.thread.now mid c.find_move.result found c.in_ok-found.was c.find_move.ensures.reading in
+    move_does c.args.thread.now mid new c.args.root c.requires.rests _ _ c.requires.apart read c.in_ok-found.ensures.paths c.rename.result
+    (if_done c.rename.result c.rename.ensures.renamed (λ gives. shifted_within mid.kept _ _ found.source c.in-Nothing.place found.name.now shift new.kept c.if-slot-place.true c.rename.ensures.device gives))
+    (reported_within mid new found.source.slot.pair _ c.rename.result shift.can.room c.rename.ensures.errors)
+    (apart_within mid.kept _ _ found.source found.name.now new.kept shift.can c.rename.ensures.device)
+    (survives_within mid.kept _ _ found.source c.in-Nothing.place found.name.now shift new.kept c.if-slot-place.true c.rename.ensures.survives)
+
+pub rename_across_pairs-requires-clause-can : goal.rename_across_pairs-requires-clause-can
+rename_across_pairs-requires-clause-can g c =
+    let found = c.in_ok-found.found in
+    let shift = subst (λ f. CanMoveOntoFound c.find_move.new.thread.kept c.args.from.now c.args.to.now found.source f found.name.now) c.in-Nothing.is c.in_ok-found.ensures.can in
+    rename_apart c.find_move.new.thread.kept c.args.from.now c.args.to.now found.source c.in-Nothing.place found.name.now shift c.if-slot-place.false
+
+pub returns-else-slot-place : goal.returns-else-slot-place
+returns-else-slot-place g c =
+    let mid = c.find_move.new.thread in
+    let new = c.rename_across_pairs.new.thread in
+    let found = c.in_ok-found.found in
+    let shift : CanMoveToVacant mid.kept c.args.from.now c.args.to.now found.source c.in-Nothing.place found.name.now = subst (λ f. CanMoveOntoFound mid.kept c.args.from.now c.args.to.now found.source f found.name.now) c.in-Nothing.is c.in_ok-found.ensures.can in
+    let read = answered c.args.thread.now mid c.find_move.result found c.in_ok-found.was c.find_move.ensures.reading in
+    let e = c.rename_across_pairs.ensures in
+    move_does c.args.thread.now mid new c.args.root c.requires.rests _ _ c.requires.apart read c.in_ok-found.ensures.paths c.rename_across_pairs.result
+    (if_both c.rename_across_pairs.result e.renamed e.alters (λ gives alters. shifted_apart mid.kept _ _ found.source c.in-Nothing.place found.name.now shift new.kept c.if-slot-place.false alters gives))
+    (reported_across mid new c.in-Nothing.place.pair _ c.rename_across_pairs.result shift.can.room e.errors)
+    (writes_apart mid.kept _ _ found.source c.in-Nothing.place found.name.now shift new.kept e.device)
+    (survives_apart mid.kept _ _ found.source c.in-Nothing.place found.name.now shift new.kept c.if-slot-place.false e.survives)
+
+pub returns-in-File : goal.returns-in-File
+returns-in-File g c =
+    let mid = c.find_move.new.thread in
+    let found = c.in_ok-found.found in
+    let shift = subst (λ f. CanMoveOntoFound mid.kept c.args.from.now c.args.to.now found.source f found.name.now) c.in-File.is c.in_ok-found.ensures.can in
+    let read = answered c.args.thread.now mid c.find_move.result found c.in_ok-found.was c.find_move.ensures.reading in
+    let e = c.move_onto_file.ensures in
+    move_does c.args.thread.now mid c.move_onto_file.new.thread c.args.root c.requires.rests _ _ c.requires.apart read c.in_ok-found.ensures.paths c.move_onto_file.result
+    (if_done c.move_onto_file.result e.shifted (λ gives. gives _ _ shift)) e.errors e.device (e.survives _ _ shift)
+
+pub returns-in-Directory : goal.returns-in-Directory
+returns-in-Directory g c =
+    let mid = c.find_move.new.thread in
+    let found = c.in_ok-found.found in
+    let shift = subst (λ f. CanMoveOntoFound mid.kept c.args.from.now c.args.to.now found.source f found.name.now) c.in-Directory.is c.in_ok-found.ensures.can in
+    let read = answered c.args.thread.now mid c.find_move.result found c.in_ok-found.was c.find_move.ensures.reading in
+    let e = c.move_onto_directory.ensures in
+    move_does c.args.thread.now mid c.move_onto_directory.new.thread c.args.root c.requires.rests _ _ c.requires.apart read c.in_ok-found.ensures.paths c.move_onto_directory.result
+    (if_done c.move_onto_directory.result e.shifted (λ gives. gives _ _ shift)) e.errors e.device (e.survives _ _ shift)

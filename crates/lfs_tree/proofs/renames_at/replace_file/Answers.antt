@@ -2,29 +2,29 @@ use Rattle.lfs_tree.proofs.ShiftedFiles.{onto_apart, onto_survives_apart, onto_s
 use Rattle.lfs_tree.proofs.ShiftedSlots.{apart_within, if_both, if_done, reported_across, reported_within}
 use Rattle.lfs_tree.proofs.renames_at.replace_file.Goals as goal
 
-pub rename_onto_file-requires-clause-can : goal.rename_onto_file-requires-clause-can
-rename_onto_file-requires-clause-can g c =
+pub rename-requires-clause-can : goal.rename-requires-clause-can
+rename-requires-clause-can g c =
     let can = c.requires.can in
     replace_within c.args.thread.now.kept can.0 can.1 c.args.source c.args.slot c.args._contents c.args.name.now can.2 c.if-from-slot.true
 
 pub returns-then-from-slot-clause-shifted : goal.returns-then-from-slot-clause-shifted
 returns-then-from-slot-clause-shifted g c =
-    if_done c.rename_onto_file.result c.rename_onto_file.ensures.renamed
-    (λ gives from to can. onto_within c.args.thread.now.kept from to c.args.source c.args.slot c.args._contents c.args.name.now can c.rename_onto_file.new.thread.kept c.if-from-slot.true c.rename_onto_file.ensures.device gives)
+    if_done c.rename.result c.rename.ensures.renamed
+    (λ gives from to can. onto_within c.args.thread.now.kept from to c.args.source c.args.slot c.args._contents c.args.name.now can c.rename.new.thread.kept c.if-from-slot.true c.rename.ensures.device gives)
 
 pub returns-then-from-slot-clause-errors : goal.returns-then-from-slot-clause-errors
 returns-then-from-slot-clause-errors g c =
     let can = c.requires.can in
-    reported_within c.args.thread.now c.rename_onto_file.new.thread c.args.source.slot.pair _ c.rename_onto_file.result can.2.can.room c.rename_onto_file.ensures.errors
+    reported_within c.args.thread.now c.rename.new.thread c.args.source.slot.pair _ c.rename.result can.2.can.room c.rename.ensures.errors
 
 pub returns-then-from-slot-clause-device : goal.returns-then-from-slot-clause-device
 returns-then-from-slot-clause-device g c =
     let can = c.requires.can in
-    apart_within c.args.thread.now.kept can.0 can.1 c.args.source c.args.name.now c.rename_onto_file.new.thread.kept can.2.can c.rename_onto_file.ensures.device
+    apart_within c.args.thread.now.kept can.0 can.1 c.args.source c.args.name.now c.rename.new.thread.kept can.2.can c.rename.ensures.device
 
 pub returns-then-from-slot-clause-survives : goal.returns-then-from-slot-clause-survives
 returns-then-from-slot-clause-survives g c from to can =
-    onto_survives_within c.args.thread.now.kept from to c.args.source c.args.slot c.args._contents c.args.name.now can c.rename_onto_file.new.thread.kept c.if-from-slot.true c.rename_onto_file.ensures.survives
+    onto_survives_within c.args.thread.now.kept from to c.args.source c.args.slot c.args._contents c.args.name.now can c.rename.new.thread.kept c.if-from-slot.true c.rename.ensures.survives
 
 pub replace_file_across-requires-clause-can : goal.replace_file_across-requires-clause-can
 replace_file_across-requires-clause-can g c =

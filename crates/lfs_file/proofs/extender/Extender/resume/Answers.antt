@@ -1,11 +1,11 @@
-use Rattle.std.proofs.Common.{refl, ℕ, ◌≡◌, ◌≤◌, ◌<◌, ◌+◌, ◌-◌, ◌*◌, ◌^◌, ◌++◌, ◌⊎◌, inl, inr, List, [], ◌∷◌, length, take, drop, slice_index, Result, Err, sym, ap, subst, ◌∙◌, arith, rules}
-use Rattle.lfs_file.proofs.Common.{with_items, append-nil, length-take, with_items_is, IfOk-weaker, err_from_is_err_and, Blocks, HasBlockSizes, block_bytes, AreListBlocks, IsSkipList, IsBytePlace, pointer_count, bytes_before_block, blocks_to_head, block_count_for, list_bytes, word_at, OnlyBelowKnown, CallEvent, read_count, growing_view, CountsAgree, GrowingList, blocks_data, IsRestShared}
+use Rattle.std.proofs.Common.{refl, ℕ, ◌≡◌, ◌≤◌, ◌<◌, ◌+◌, ◌-◌, ◌*◌, ◌^◌, ◌++◌, ◌⊎◌, inl, inr, List, [], ◌∷◌, length, take, drop, slice_index, Result, Err, sym, ap, subst, ◌∙◌, arith, Global, Vec, false, length-append}
+use Rattle.lfs_file.proofs.Common.{with_items, append-nil, length-take, with_items_is, err_from_is_err_and, Blocks, HasBlockSizes, block_bytes, AreListBlocks, IsSkipList, IsBytePlace, pointer_count, bytes_before_block, blocks_to_head, block_count_for, list_bytes, word_at, OnlyBelowKnown, CallEvent, read_count, growing_view, CountsAgree, GrowingList, blocks_data, IsRestShared, IsExtender, length_back, lacks_last_block, rest_block}
 use Rattle.lfs_device.specs.declared.error.Error.{Error}
 use Rattle.lfs_device.specs.declared.geometry.Geometry.{Geometry}
 use Rattle.lfs_file.specs.declared.block.FullBlocks.{FullBlocks}
 use Rattle.lfs_file.specs.declared.extender.ExtenderState.{ExtenderState}
-use Rattle.lfs_file.specs.declared.rest.RestLocation.TheVariants.{Closed, Shared}
-use Rattle.lfs_file.specs.Extending.{IsResumedList}
+use Rattle.lfs_file.specs.declared.rest.RestLocation.TheVariants.{Closed, Shared, Handed, Held}
+use Rattle.lfs_file.specs.Extending.{IsResumedList, IsEmptyList}
 use Rattle.lfs_file.specs.FewReads.{ResumesFew}
 use Rattle.lfs_file.specs.Known.{WalksFew}
 use Rattle.lfs_file.proofs.Sizes.{block_count_for-place, blocks_for-last, place-lt, pointer_count-le, place-le}
@@ -16,6 +16,9 @@ use Rattle.lfs_file.proofs.Stands.{is_grown}
 use Rattle.lfs_file.proofs.Resumed.{front_back, front_chain, keep_full, full_content, full_blocks, before_chain, before_front, open_blocks, open_shared, open_content, rest_long, before_leads}
 use Rattle.lfs_file.proofs.Words.{data-written, word_at-written}
 use Rattle.lfs_file.proofs.extender.Extender.resume.Goals as goal
+use Rattle.lfs_file.specs.declared.rest.RestLocation.{RestLocation}
+use Rattle.lfs_file.proofs.Pointed.{none_below_more, none_of_list}
+use Rattle.lfs_file.proofs.Rests.{lent}
 
 pub overflow_sub-blocks_for : goal.overflow_sub-blocks_for
 overflow_sub-blocks_for g c =
@@ -58,6 +61,32 @@ found_at : (d : Blocks) (geometry made : Geometry) (head size n i block : ℕ) �
 found_at d geometry made head size n i block e is list found =
     found (chain d made.block_size head size n made.valid.no_smaller is (sized d head size geometry made e list))
     ∙ ap (λ k. slice_index (blocks_to_head d k head) i) (last_is made.block_size size n made.valid.no_smaller list.size_low is)
+
+-- the state of a list that was begun without bytes
+record IsFresh (made : Geometry) (e : ExtenderState) : Type 0 where
+  geometry : e.geometry ≡ made
+  long : length e.buffer.items ≡ e.geometry.block_size
+  none : OnlyBelowKnown 0 e.front.known
+  closed : e.stand ≡ Closed
+
+closed_alone : (d : Blocks) (full head : ℕ) (t : RestLocation) → blocks_to_head d full head ++ rest_block t ≡ [] → lacks_last_block t ≡ false → t ≡ Closed
+closed_alone d full head Closed none listed = refl
+closed_alone d full head (Shared b) none listed = absurd (omega (arith, ap length none, length-append (blocks_to_head d full head) (b ∷ [])))
+closed_alone d full head (Handed b) none listed = absurd (omega (arith, ap length none, length-append (blocks_to_head d full head) (b ∷ [])))
+closed_alone d full head Held none listed = absurd (cc)
+
+is_fresh : (made : Geometry) (e f : ExtenderState) (list : GrowingList) → e ≡ f → IsExtender f → growing_view f ≡ list → IsEmptyList made list → IsFresh made e
+is_fresh made e f list same has shown empty =
+    let own = lent same has in
+    let here : IsEmptyList made (growing_view e) = subst (IsEmptyList made) (sym (ap growing_view same ∙ shown)) empty in
+    let grown = here.grown [] in
+    let none : e.front.count ≡ 0 = omega (arith, ap length grown.blocks, length-append (blocks_to_head [] e.front.count e.front.head) (rest_block e.stand), length_back [] e.front.count e.front.head) in
+    record {
+      geometry = grown.geometry;
+      long = own.one_block;
+      none = subst (λ n. OnlyBelowKnown n e.front.known) none own.known;
+      closed = closed_alone [] e.front.count e.front.head e.stand grown.blocks here.listed;
+    }
 
 -- a front that ends with a block
 record IsFull (d : Blocks) (geometry made : Geometry) (head size keep i block : ℕ) : Type 0 where
@@ -128,19 +157,26 @@ short_of block_size keep i off large place other =
 pointer_first : (i : ℕ) → 0 < i → 0 < pointer_count i
 pointer_first i some = let many = pointer_count-pos i some in omega arith
 
--- what the buffer holds of the block then
-read_rest : (d same : Blocks) (old new items : List ℕ) (block off p block_size : ℕ) → same ≡ d → items ≡ new → new ≡ take 0 old ++ (take (off + 1) (drop 0 (block_bytes same block)) ++ drop (0 + (off + 1)) old)
-    → length (block_bytes d block) ≡ block_size → off + 1 ≤ block_size → p ≤ off + 1 → take (off + 1 - p) (drop p items) ≡ take (off + 1 - p) (drop p (block_bytes d block))
-read_rest d same old new items block off p block_size e is read long within low =
-    ap (λ (l : List ℕ). take (off + 1 - p) (drop p l)) (is ∙ read ∙ ap (λ b. take (off + 1) (block_bytes b block) ++ drop (0 + (off + 1)) old) e)
-    ∙ data-written (block_bytes d block) (drop (0 + (off + 1)) old) (off + 1) p (omega arith) low
+-- what a buffer holds of the block then
+record IsRead (d : Blocks) (i off block : ℕ) (items : List ℕ) : Type 0 where
+  rest : take (off + 1 - 4 * pointer_count i) (drop (4 * pointer_count i) items) ≡ take (off + 1 - 4 * pointer_count i) (drop (4 * pointer_count i) (block_bytes d block))
+  words : (k : ℕ) → k < pointer_count i → word_at items (4 * k) ≡ word_at (block_bytes d block) (4 * k)
 
--- and its words
-read_word : (d same : Blocks) (old new items : List ℕ) (block off block_size : ℕ) → same ≡ d → items ≡ new → new ≡ take 0 old ++ (take (off + 1) (drop 0 (block_bytes same block)) ++ drop (0 + (off + 1)) old)
-    → length (block_bytes d block) ≡ block_size → off + 1 ≤ block_size → (at : ℕ) → at + 4 ≤ off + 1 → word_at items at ≡ word_at (block_bytes d block) at
-read_word d same old new items block off block_size e is read long within at low =
-    ap (λ (l : List ℕ). word_at l at) (is ∙ read ∙ ap (λ b. take (off + 1) (block_bytes b block) ++ drop (0 + (off + 1)) old) e)
-    ∙ word_at-written (block_bytes d block) (drop (0 + (off + 1)) old) (off + 1) at (omega arith) low
+is_read : (d same : Blocks) (geometry made : Geometry) (keep i off block : ℕ) (old new items : List ℕ) → made ≡ geometry → HasBlockSizes geometry.block_size geometry.block_count d → IsBytePlace made.block_size (keep - 1) i off → off + 1 < made.block_size
+    → block < geometry.block_count → same ≡ d → items ≡ new → new ≡ take 0 old ++ (take (off + 1) (drop 0 (block_bytes same block)) ++ drop (0 + (off + 1)) old) → IsRead d i off block items
+is_read d same geometry made keep i off block old new items e shape place short in_range kept is read =
+    let at = place.at in
+    let long : length (block_bytes d block) ≡ made.block_size = omega (arith, shape.sizes block in_range, ap (λ (k : Geometry). k.block_size) e) in
+    let here = is ∙ read ∙ ap (λ b. take (off + 1) (block_bytes b block) ++ drop (0 + (off + 1)) old) kept in
+    record {
+      rest = ap (λ (l : List ℕ). take (off + 1 - 4 * pointer_count i) (drop (4 * pointer_count i) l)) here
+          ∙ data-written (block_bytes d block) (drop (0 + (off + 1)) old) (off + 1) (4 * pointer_count i) (omega arith) (omega arith);
+      words = λ k lt. ap (λ (l : List ℕ). word_at l (4 * k)) here ∙ word_at-written (block_bytes d block) (drop (0 + (off + 1)) old) (off + 1) (4 * k) (omega arith) (omega arith);
+    }
+
+-- the buffer that was read into
+items_read : (buffer : Vec ℕ Global) (new : List ℕ) → length new ≡ length buffer.items → (with_items buffer new).items ≡ new
+items_read buffer new long = with_items_is buffer new (omega (arith, long, buffer.ok.0))
 
 -- how many reads that took
 few_read : (geometry made : Geometry) (size keep n i off : ℕ) (old mid new : List CallEvent) → made ≡ geometry → n ≡ block_count_for made.block_size size → 1 ≤ keep → keep ≤ size → IsBytePlace made.block_size (keep - 1) i off → WalksFew (n - 1) i old mid
@@ -154,8 +190,10 @@ few_read geometry made size keep n i off old mid new e is some within place walk
       near = (let k = walk.near in omega (arith, k, one, last, here));
     })
 
-pub of_state-requires : goal.of_state-requires
-of_state-requires g c =
+pub invariant_of-list : goal.invariant_of-list
+invariant_of-list g c =
+    let e = c.deref_mut-state.result.now in
+    let fresh = is_fresh _ _ _ _ c.deref_mut-state.ensures.value c.list.invariant c.list.view_is c.in_ok-list.ensures.started in
     let full = is_full _ _ _ _ _ _ _ _ _ _ c.geometry-geometry.ensures c.blocks_for.ensures (g.met.D.BlockDevice.shape c.args.dev.now) c.requires.list c.requires.some c.requires.within c.place-index.ensures c.in_ok-block.ensures.found c.if-off-block_size.true in
     let few = pointer_count-le (c.place-index.result.0 + 1) in
     let large = c.geometry-geometry.result.valid.no_smaller in
@@ -164,42 +202,38 @@ of_state-requires g c =
     let within = c.requires.within in
     let sum = full.sum in
     record {
-      one_block = omega (arith, c.in_ok-buffer.ensures.len, c.in_ok-buffer.buffer.ok.0);
-      in_step = subst (λ (f : FullBlocks). CountsAgree c.geometry-geometry.result.block_size f.count (4 * c.pointer_count_at.result) c.args.keep) (sym c.new.ensures.made) (record { low = omega arith; high = omega arith; sum = omega arith; fits = omega arith });
-      known = c.new.ensures.below _;
+      one_block = fresh.long;
+      in_step = subst (λ (k : Geometry). CountsAgree k.block_size (c.place-index.result.0 + 1) (4 * c.pointer_count_at.result) c.args.keep) (sym fresh.geometry) (record { low = omega arith; high = omega arith; sum = omega arith; fits = omega arith });
+      known = none_below_more (c.place-index.result.0 + 1) e.front.known fresh.none;
     }
-
-pub of_state-requires-2 : goal.of_state-requires-2
-of_state-requires-2 g c = record {
-  one_block = ap length (with_items_is c.in_ok-buffer.buffer c.read_into_range.new.buf (omega (arith, c.read_into_range.auto.buf, c.as_mut_slice.ensures.len, c.in_ok-buffer.buffer.ok.0)))
-      ∙ omega (arith, c.read_into_range.auto.buf, ap length c.as_mut_slice.ensures.value, c.in_ok-buffer.ensures.len, c.in_ok-buffer.buffer.ok.0);
-  in_step = subst (λ (f : FullBlocks). CountsAgree c.geometry-geometry.result.block_size f.count (c.place-index.result.1 + 1) c.args.keep) (sym c.full_before_block-front.ensures.made) (search rules);
-  known = subst (λ (f : FullBlocks). OnlyBelowKnown f.count c.full_before_block-front.result.known) (sym c.full_before_block-front.ensures.made) c.full_before_block-front.ensures.below;
-}
 
 pub returns-then-off-block_size-clause-resumed : goal.returns-then-off-block_size-clause-resumed
 returns-then-off-block_size-clause-resumed g c =
+    let e = c.deref_mut-state.result.now in
+    let fresh = is_fresh _ _ _ _ c.deref_mut-state.ensures.value c.list.invariant c.list.view_is c.in_ok-list.ensures.started in
     let old : Blocks = g.D.BlockDevice.blocks c.args.dev.now in
     let made = c.geometry-geometry.ensures in
     let full = is_full _ _ _ _ _ _ _ _ _ _ made c.blocks_for.ensures (g.met.D.BlockDevice.shape c.args.dev.now) c.requires.list c.requires.some c.requires.within c.place-index.ensures c.in_ok-block.ensures.found c.if-off-block_size.true in
     let i : ℕ = c.place-index.result.0 in
-    let rest : take (4 * c.pointer_count_at.result - 4 * pointer_count (i + 1)) (drop (4 * pointer_count (i + 1)) c.in_ok-buffer.buffer.items) ≡ [] =
-    ap (λ k. take k (drop (4 * pointer_count (i + 1)) c.in_ok-buffer.buffer.items)) (let none : 4 * c.pointer_count_at.result - 4 * pointer_count (i + 1) ≡ 0 = omega (arith, c.pointer_count_at.ensures) in none) in
+    let rest : take (4 * c.pointer_count_at.result - 4 * pointer_count (i + 1)) (drop (4 * pointer_count (i + 1)) e.buffer.items) ≡ [] =
+    ap (λ k. take k (drop (4 * pointer_count (i + 1)) e.buffer.items)) (let none : 4 * c.pointer_count_at.result - 4 * pointer_count (i + 1) ≡ 0 = omega (arith, c.pointer_count_at.ensures) in none) in
     let resumed : GrowingList → Type 0 = IsResumedList old (g.D.BlockDevice.geometry c.args.dev.now) c.args.head c.args.size c.args.keep in
-    let state : FullBlocks → ExtenderState = λ f. record { geometry = c.geometry-geometry.result; buffer = c.in_ok-buffer.buffer; front = f; filled = 4 * c.pointer_count_at.result; size = c.args.keep; stand = Closed } in
-    let front : FullBlocks = record { count = i + 1; head = c.in_ok-block.block; known = c.new.result.known } in
-    let all : resumed (growing_view (state front)) = record {
+    let list : RestLocation → GrowingList = λ t. growing_view (record e { front = record { count = i + 1; head = c.in_ok-block.block; known = e.front.known }; filled = 4 * c.pointer_count_at.result; size = c.args.keep; stand = t }) in
+    let all : resumed (list Closed) = record {
       grown =
-          is_grown _ old (growing_view (state front)) _ _ _ _ _ (g.met.D.BlockDevice.shape c.args.dev.now) made
-          (omega (arith, ap length rest, pointer_count-le (i + 1), c.geometry-geometry.result.valid.no_smaller))
-          (record { chain = full.chain_is; known = c.new.ensures.known _; stand = rest })
+          is_grown _ old (list Closed) _ _ _ _ _ (g.met.D.BlockDevice.shape c.args.dev.now) (fresh.geometry ∙ made)
+          (omega (arith, ap length rest, pointer_count-le (i + 1), e.geometry.valid.no_smaller))
+          (record { chain = full.chain_is; known = none_of_list _ e.front.known fresh.none; stand = rest })
           (ap (λ (l : List ℕ). blocks_data old (blocks_to_head old (i + 1) c.in_ok-block.block) ++ l) rest ∙ full.content)
           (omega (arith, ap length rest, full.sum, ap (λ (k : Geometry). bytes_before_block k.block_size (i + 1)) made))
           full.kept full.blocks_are;
       waits = record { listed = refl; pending = λ other apart. apart };
       known = λ some. absurd (omega (arith, ap length rest));
     } in
-    IfOk-weaker c.of_state.result _ resumed (λ list is. subst resumed (sym is) (subst (λ f. resumed (growing_view (state f))) (sym c.new.ensures.made) all)) c.of_state.ensures.list
+    subst (λ t. resumed (list t)) (sym fresh.closed) all
+
+pub returns-then-off-block_size-clause-few : goal.returns-then-off-block_size-clause-few
+returns-then-off-block_size-clause-few g c = few_read _ _ _ _ _ _ _ _ _ _ c.geometry-geometry.ensures c.blocks_for.ensures c.requires.some c.requires.within c.place-index.ensures c.in_ok-block.ensures.few (omega arith)
 
 pub returns-in_err-read_into_range-clause-device : goal.returns-in_err-read_into_range-clause-device
 returns-in_err-read_into_range-clause-device g c = read_on g.D.BlockDevice c.find_block_at.ensures.reading.device c.read_into_range.ensures.reading.device
@@ -207,74 +241,79 @@ returns-in_err-read_into_range-clause-device g c = read_on g.D.BlockDevice c.fin
 pub returns-clause-device : goal.returns-clause-device
 returns-clause-device g c = read_on g.D.BlockDevice c.find_block_at.ensures.reading.device c.read_into_range.ensures.reading.device
 
--- the bytes of the block that are kept
-rest_is : (g : _) (c : goal.After-of_state-2 g) → take (c.place-index.result.1 + 1 - 4 * pointer_count c.place-index.result.0) (drop (4 * pointer_count c.place-index.result.0) (with_items c.in_ok-buffer.buffer c.read_into_range.new.buf).items)
-    ≡ take (c.place-index.result.1 + 1 - 4 * pointer_count c.place-index.result.0) (drop (4 * pointer_count c.place-index.result.0) (block_bytes (g.D.BlockDevice.blocks c.args.dev.now) c.in_ok-block.block))
-rest_is g c =
-    let made = c.geometry-geometry.ensures in
-    let shape = g.met.D.BlockDevice.shape c.args.dev.now in
-    let in_range = c.in_ok-block.ensures.in_range in
-    let place = c.place-index.ensures in
-    let short = short_of c.geometry-geometry.result.block_size c.args.keep c.place-index.result.0 c.place-index.result.1 c.geometry-geometry.result.valid.no_smaller place c.if-off-block_size.false in
-    read_rest _ _ _ c.read_into_range.new.buf _ c.in_ok-block.block c.place-index.result.1 (4 * pointer_count c.place-index.result.0) c.geometry-geometry.result.block_size c.find_block_at.ensures.reading.device.same
-    (with_items_is c.in_ok-buffer.buffer c.read_into_range.new.buf (omega (arith, c.read_into_range.auto.buf, c.as_mut_slice.ensures.len, c.in_ok-buffer.buffer.ok.0)))
-    c.in_ok-read_into_range.ensures.bytes
-    (omega (arith, shape.sizes c.in_ok-block.block in_range, ap (λ (k : Geometry). k.block_size) made))
-    (omega arith) (let at = place.at in omega arith)
-
--- the pointers that it begins with
-word_is : (g : _) (c : goal.After-of_state-2 g) (k : ℕ) → k < pointer_count c.place-index.result.0 → word_at c.as_slice.result.now (4 * k)
-    ≡ word_at (block_bytes (g.D.BlockDevice.blocks c.args.dev.now) c.in_ok-block.block) (4 * k)
-word_is g c k lt =
-    let made = c.geometry-geometry.ensures in
-    let shape = g.met.D.BlockDevice.shape c.args.dev.now in
-    let in_range = c.in_ok-block.ensures.in_range in
-    let place = c.place-index.ensures in
-    let short = short_of c.geometry-geometry.result.block_size c.args.keep c.place-index.result.0 c.place-index.result.1 c.geometry-geometry.result.valid.no_smaller place c.if-off-block_size.false in
-    read_word _ _ _ c.read_into_range.new.buf _ c.in_ok-block.block c.place-index.result.1 c.geometry-geometry.result.block_size c.find_block_at.ensures.reading.device.same
-    (c.as_slice.ensures.value ∙ with_items_is c.in_ok-buffer.buffer c.read_into_range.new.buf (omega (arith, c.read_into_range.auto.buf, c.as_mut_slice.ensures.len, c.in_ok-buffer.buffer.ok.0)))
-    c.in_ok-read_into_range.ensures.bytes
-    (omega (arith, shape.sizes c.in_ok-block.block in_range, ap (λ (k : Geometry). k.block_size) made))
-    (omega arith) (4 * k) (let at = place.at in omega arith)
-
-opened : (g : _) (c : goal.After-of_state-2 g) → IsOpen (g.D.BlockDevice.blocks c.args.dev.now) (g.D.BlockDevice.geometry c.args.dev.now) c.geometry-geometry.result c.args.head c.args.size c.args.keep c.place-index.result.0 c.place-index.result.1
-    c.in_ok-block.block c.full_before_block-front.result.head (take (c.place-index.result.1 + 1 - 4 * pointer_count c.place-index.result.0) (drop (4 * pointer_count c.place-index.result.0) (with_items c.in_ok-buffer.buffer c.read_into_range.new.buf).items))
-opened g c =
-    is_open _ _ _ _ _ _ _ _ _ _ _ _ c.geometry-geometry.ensures c.blocks_for.ensures (g.met.D.BlockDevice.shape c.args.dev.now) c.requires.list c.requires.some c.requires.within c.place-index.ensures c.in_ok-block.ensures.found
-    (short_of c.geometry-geometry.result.block_size c.args.keep c.place-index.result.0 c.place-index.result.1 c.geometry-geometry.result.valid.no_smaller c.place-index.ensures c.if-off-block_size.false)
-    (λ more. c.full_before_block-front.ensures.head more ∙ word_is g c 0 (pointer_first _ more))
-    (rest_is g c)
-
-pub returns-clause-resumed : goal.returns-clause-resumed
-returns-clause-resumed g c =
-    let o = opened g c in
-    let made = c.geometry-geometry.ensures in
-    let resumed : GrowingList → Type 0 = IsResumedList (g.D.BlockDevice.blocks c.args.dev.now) (g.D.BlockDevice.geometry c.args.dev.now) c.args.head c.args.size c.args.keep in
-    let state : FullBlocks → ExtenderState = λ f. record { geometry = c.geometry-geometry.result; buffer = with_items c.in_ok-buffer.buffer c.read_into_range.new.buf; front = f; filled = c.place-index.result.1 + 1; size = c.args.keep; stand = Shared c.in_ok-block.block } in
-    let front : FullBlocks = record { count = c.place-index.result.0; head = c.full_before_block-front.result.head; known = c.full_before_block-front.result.known } in
-    let all : resumed (growing_view (state front)) = record {
-      grown =
-          is_grown _ (g.D.BlockDevice.blocks c.args.dev.now) (growing_view (state front)) _ _ _ _ _ (g.met.D.BlockDevice.shape c.args.dev.now) made
-          (omega (
-            arith,
-            length-take (c.place-index.result.1 + 1 - 4 * pointer_count c.place-index.result.0) (drop (4 * pointer_count c.place-index.result.0) (with_items c.in_ok-buffer.buffer c.read_into_range.new.buf).items),
-            short_of c.geometry-geometry.result.block_size c.args.keep c.place-index.result.0 c.place-index.result.1 c.geometry-geometry.result.valid.no_smaller c.place-index.ensures c.if-off-block_size.false,
-            pointer_count-le c.place-index.result.0,
-            c.geometry-geometry.result.valid.no_smaller,
-          ))
-          (record { chain = o.chain_is; known = c.full_before_block-front.ensures.known _ (λ k lt. word_is g c k lt ∙ o.leads k lt); stand = o.shared }) o.content (omega (arith, o.sum, ap (λ (k : Geometry). bytes_before_block k.block_size c.place-index.result.0) made)) o.kept o.blocks_are;
-      waits = record { listed = refl; pending = λ other apart. apart };
-      known = λ some. c.full_before_block-front.ensures.pointers;
-    } in
-    IfOk-weaker c.of_state-2.result _ resumed (λ list is. subst resumed (sym is) (subst (λ f. resumed (growing_view (state f))) (sym c.full_before_block-front.ensures.made) all)) c.of_state-2.ensures.list
-
-pub returns-then-off-block_size-clause-few : goal.returns-then-off-block_size-clause-few
-returns-then-off-block_size-clause-few g c =
-    let few = few_read _ _ _ _ _ _ _ _ _ _ c.geometry-geometry.ensures c.blocks_for.ensures c.requires.some c.requires.within c.place-index.ensures c.in_ok-block.ensures.few (omega arith) in
-    IfOk-weaker c.of_state.result _ (λ _. ResumesFew (g.D.BlockDevice.geometry c.args.dev.now).block_size c.args.size c.args.keep (g.D.BlockDevice.history c.args.dev.now) (g.D.BlockDevice.history c.find_block_at.new.dev)) (λ list is. few) c.of_state.ensures.list
-
 pub returns-clause-few : goal.returns-clause-few
 returns-clause-few g c =
     let one = c.read_into_range.ensures.few in
-    let few = few_read _ _ _ _ _ _ _ _ _ _ c.geometry-geometry.ensures c.blocks_for.ensures c.requires.some c.requires.within c.place-index.ensures c.in_ok-block.ensures.few (omega (arith, one)) in
-    IfOk-weaker c.of_state-2.result _ (λ _. ResumesFew (g.D.BlockDevice.geometry c.args.dev.now).block_size c.args.size c.args.keep (g.D.BlockDevice.history c.args.dev.now) (g.D.BlockDevice.history c.read_into_range.new.dev)) (λ list is. few) c.of_state-2.ensures.list
+    few_read _ _ _ _ _ _ _ _ _ _ c.geometry-geometry.ensures c.blocks_for.ensures c.requires.some c.requires.within c.place-index.ensures c.in_ok-block.ensures.few (omega (arith, one))
+
+pub read_into_range-requires-clause-in_buffer : goal.read_into_range-requires-clause-in_buffer
+read_into_range-requires-clause-in_buffer g c =
+    let fresh = is_fresh _ _ _ _ c.deref_mut-state.ensures.value c.list.invariant c.list.view_is c.in_ok-list.ensures.started in
+    let size = ap (λ (k : Geometry). k.block_size) fresh.geometry in
+    let short = short_of c.geometry-geometry.result.block_size c.args.keep c.place-index.result.0 c.place-index.result.1 c.geometry-geometry.result.valid.no_smaller c.place-index.ensures c.if-off-block_size.false in
+    omega (arith, short, size, fresh.long, ap length c.as_mut_slice.ensures.value)
+
+pub begin_before_block-requires-clause-none : goal.begin_before_block-requires-clause-none
+begin_before_block-requires-clause-none g c = (is_fresh _ _ _ _ c.deref_mut-state.ensures.value c.list.invariant c.list.view_is c.in_ok-list.ensures.started).none
+
+pub begin_before_block-requires-clause-pointers : goal.begin_before_block-requires-clause-pointers
+begin_before_block-requires-clause-pointers g c =
+    let e = c.deref_mut-state.result.now in
+    let fresh = is_fresh _ _ _ _ c.deref_mut-state.ensures.value c.list.invariant c.list.view_is c.in_ok-list.ensures.started in
+    let size = ap (λ (k : Geometry). k.block_size) fresh.geometry in
+    let short = short_of c.geometry-geometry.result.block_size c.args.keep c.place-index.result.0 c.place-index.result.1 c.geometry-geometry.result.valid.no_smaller c.place-index.ensures c.if-off-block_size.false in
+    let at = c.place-index.ensures.at in
+    let same : length c.read_into_range.new.buf ≡ length e.buffer.items = omega (arith, c.read_into_range.auto.buf, ap length c.as_mut_slice.ensures.value) in
+    omega (arith, short, at, size, fresh.long, same, ap length (c.as_slice.ensures.value ∙ items_read e.buffer c.read_into_range.new.buf same))
+
+pub invariant_of-list-2 : goal.invariant_of-list-2
+invariant_of-list-2 g c =
+    let e = c.deref_mut-state.result.now in
+    let fresh = is_fresh _ _ _ _ c.deref_mut-state.ensures.value c.list.invariant c.list.view_is c.in_ok-list.ensures.started in
+    let short = short_of c.geometry-geometry.result.block_size c.args.keep c.place-index.result.0 c.place-index.result.1 c.geometry-geometry.result.valid.no_smaller c.place-index.ensures c.if-off-block_size.false in
+    let same : length c.read_into_range.new.buf ≡ length e.buffer.items = omega (arith, c.read_into_range.auto.buf, ap length c.as_mut_slice.ensures.value) in
+    let at = c.place-index.ensures.at in
+    let from = c.place-index.ensures.from in
+    let some = c.requires.some in
+    let within = c.requires.within in
+    let high = c.requires.list.size_high in
+    let front = c.begin_before_block.ensures.made in
+    record {
+      one_block = ap length (items_read e.buffer c.read_into_range.new.buf same) ∙ same ∙ fresh.long;
+      in_step = subst (λ (f : FullBlocks). CountsAgree e.geometry.block_size f.count (c.place-index.result.1 + 1) c.args.keep) (sym front)
+          (subst (λ (k : Geometry). CountsAgree k.block_size c.place-index.result.0 (c.place-index.result.1 + 1) c.args.keep) (sym fresh.geometry) (record { low = omega arith; high = short; sum = omega arith; fits = omega arith }));
+      known = subst (λ (f : FullBlocks). OnlyBelowKnown f.count c.begin_before_block.new.self.known) (sym front) c.begin_before_block.ensures.below;
+    }
+
+pub returns-clause-resumed : goal.returns-clause-resumed
+returns-clause-resumed g c =
+    let e = c.deref_mut-state.result.now in
+    let fresh = is_fresh _ _ _ _ c.deref_mut-state.ensures.value c.list.invariant c.list.view_is c.in_ok-list.ensures.started in
+    let old : Blocks = g.D.BlockDevice.blocks c.args.dev.now in
+    let made = c.geometry-geometry.ensures in
+    let shape = g.met.D.BlockDevice.shape c.args.dev.now in
+    let i : ℕ = c.place-index.result.0 in
+    let off : ℕ = c.place-index.result.1 in
+    let short = short_of c.geometry-geometry.result.block_size c.args.keep i off c.geometry-geometry.result.valid.no_smaller c.place-index.ensures c.if-off-block_size.false in
+    let same : length c.read_into_range.new.buf ≡ length e.buffer.items = omega (arith, c.read_into_range.auto.buf, ap length c.as_mut_slice.ensures.value) in
+    let read =
+    is_read old _ _ _ c.args.keep i off c.in_ok-block.block _ c.read_into_range.new.buf c.as_slice.result.now made shape c.place-index.ensures short c.in_ok-block.ensures.in_range c.find_block_at.ensures.reading.device.same
+    (c.as_slice.ensures.value ∙ items_read e.buffer c.read_into_range.new.buf same) c.in_ok-read_into_range.ensures.bytes in
+    let items : List ℕ = (with_items e.buffer c.read_into_range.new.buf).items in
+    let p : ℕ = 4 * pointer_count i in
+    let o =
+    is_open _ _ _ _ _ _ _ _ _ _ c.begin_before_block.new.self.head (take (off + 1 - p) (drop p items)) made c.blocks_for.ensures shape c.requires.list c.requires.some c.requires.within c.place-index.ensures c.in_ok-block.ensures.found short
+    (λ more. c.begin_before_block.ensures.head more ∙ read.words 0 (pointer_first _ more))
+    (ap (λ (l : List ℕ). take (off + 1 - p) (drop p l)) (sym c.as_slice.ensures.value) ∙ read.rest) in
+    let resumed : GrowingList → Type 0 = IsResumedList old (g.D.BlockDevice.geometry c.args.dev.now) c.args.head c.args.size c.args.keep in
+    let list : FullBlocks → GrowingList = λ f. growing_view (record e { buffer = with_items e.buffer c.read_into_range.new.buf; front = f; filled = off + 1; size = c.args.keep; stand = Shared c.in_ok-block.block }) in
+    let front : FullBlocks = record { count = i; head = c.begin_before_block.new.self.head; known = c.begin_before_block.new.self.known } in
+    let all : resumed (list front) = record {
+      grown =
+          is_grown _ old (list front) _ _ _ _ _ shape (fresh.geometry ∙ made)
+          (omega (arith, length-take (off + 1 - p) (drop p items), short, pointer_count-le i, ap (λ (k : Geometry). k.block_size) fresh.geometry, e.geometry.valid.no_smaller))
+          (record { chain = o.chain_is; known = c.begin_before_block.ensures.known _ (λ k lt. read.words k lt ∙ o.leads k lt); stand = o.shared }) o.content (omega (arith, o.sum, ap (λ (k : Geometry). bytes_before_block k.block_size i) made)) o.kept o.blocks_are;
+      waits = record { listed = refl; pending = λ other apart. apart };
+      known = λ some. c.begin_before_block.ensures.pointers;
+    } in
+    subst (λ f. resumed (list f)) (sym c.begin_before_block.ensures.made) all

@@ -37,17 +37,34 @@ pub fn replace_file_contents(
     session.close(alloc, fd)
 }
 
-/// Appends bytes to an open file and syncs it, so often.
-pub fn append_and_sync(
+/// Pieces of the same bytes that are written to a file one after another.
+#[derive(Clone, Copy)]
+pub struct Pieces<'a> {
+    pub path: &'a [u8],
+    pub bytes: &'a [u8],
+    pub count: u32,
+    /// Whether they come after what the file holds, each with a sync after it.
+    pub are_appended: bool,
+}
+
+/// Opens a file, which is made where it isn't there, writes pieces to it and closes it.
+#[inline(never)]
+pub fn write_pieces(
     alloc: Global,
     session: &mut Measured,
-    bytes: &[u8],
-    count: u32,
+    pieces: Pieces<'_>,
 ) -> Result<(), Error> {
-    let fd = session.open(alloc, b"/log", append_open_flags())?;
-    for _ in 0..count {
-        session.write(alloc, fd, bytes)?;
-        session.sync(alloc, fd)?;
+    let flags = if pieces.are_appended {
+        append_open_flags()
+    } else {
+        OpenFlags::WRITE | OpenFlags::CREATE
+    };
+    let fd = session.open(alloc, pieces.path, flags)?;
+    for _ in 0..pieces.count {
+        session.write(alloc, fd, pieces.bytes)?;
+        if pieces.are_appended {
+            session.sync(alloc, fd)?;
+        }
     }
     session.close(alloc, fd)
 }
@@ -73,11 +90,29 @@ pub fn write_file_in_pieces(
     piece: &[u8],
     count: u32,
 ) -> Result<(), Error> {
-    let fd = session.open(alloc, path, OpenFlags::WRITE | OpenFlags::CREATE)?;
-    for _ in 0..count {
-        session.write(alloc, fd, piece)?;
-    }
-    session.close(alloc, fd)
+    let pieces = Pieces {
+        path,
+        bytes: piece,
+        count,
+        are_appended: false,
+    };
+    write_pieces(alloc, session, pieces)
+}
+
+/// Appends bytes to an open file and syncs it, so often.
+pub fn append_and_sync(
+    alloc: Global,
+    session: &mut Measured,
+    bytes: &[u8],
+    count: u32,
+) -> Result<(), Error> {
+    let pieces = Pieces {
+        path: b"/log",
+        bytes,
+        count,
+        are_appended: true,
+    };
+    write_pieces(alloc, session, pieces)
 }
 
 /// Reads so many pieces of a file, each as long as the one that it is read into.

@@ -23,15 +23,15 @@ pub(crate) struct FullBlocks {
 }
 
 impl FullBlocks {
-    // Makes the full blocks of a list by their number and the last one.
-    pub(crate) fn new(count: u32, head: u32) -> FullBlocks
-        ensures made { result ≡ record { count = count; head = head; known = result.known } }
+    // Makes the full blocks of an empty list.
+    pub(crate) fn new() -> FullBlocks
+        ensures made { result ≡ record { count = 0; head = 0; known = result.known } }
         ensures known { (all : List ℕ) → AreKnownBlocks all result.known }
         ensures below { (n : ℕ) → OnlyBelowKnown n result.known }
     {
         FullBlocks {
-            count,
-            head,
+            count: 0,
+            head: 0,
             known: KnownBlocks::new(),
         }
     }

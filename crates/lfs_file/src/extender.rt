@@ -97,7 +97,7 @@ impl Extender {
         let state = ExtenderState {
             geometry,
             buffer,
-            front: FullBlocks::new(0, 0),
+            front: FullBlocks::new(),
             filled: 0,
             size: 0,
             stand: RestLocation::Closed,
@@ -154,7 +154,7 @@ impl Extender {
     {
         let state = &mut *self.state;
         overwrite_buffer_bytes(&mut state.buffer, 0, bytes);
-        state.front = FullBlocks::new(0, 0);
+        state.front = FullBlocks::new();
         state.filled = bytes.len() as u32;
         state.size = state.filled;
         state.stand = RestLocation::Held;

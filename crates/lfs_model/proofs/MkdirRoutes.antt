@@ -16,6 +16,7 @@ use Rattle.lfs_model.proofs.Global.{with_sync_inverted}
 use Rattle.lfs_model.proofs.MkdirSteps.{mkdir_in_two_completed}
 use Rattle.lfs_model.proofs.StepsTaken.{IsPutBeside}
 use Rattle.lfs_model.proofs.MadeAtLast.{mkdir_at_last_completed}
+use Rattle.lfs_model.proofs.PairsInFront.{LastPair, last_pair}
 
 -- ---- a fresh pair behind the last one of a directory
 
@@ -63,19 +64,9 @@ last_number ps index last w p there place site is =
     let e = is.is in
     omega arith
 
--- the last of some
-pub record Last (xs : List Pair) : Type 0 where
-  pub mid : List Pair
-  pub x : Pair
-  pub is : xs ≡ mid ++ x ∷ []
-
-last_of : (x : Pair) (xs : List Pair) → Last (x ∷ xs)
-last_of x [] = record { mid = []; x = x; is = refl }
-last_of x (y ∷ ys) = let l = last_of y ys in record { mid = x ∷ l.mid; x = l.x; is = ap (λ z. x ∷ z) l.is }
-
-pub none_or_last : (xs : List Pair) → (xs ≡ []) ⊎ Last xs
+pub none_or_last : (xs : List Pair) → (xs ≡ []) ⊎ LastPair xs
 none_or_last [] = inl refl
-none_or_last (x ∷ xs) = inr (last_of x xs)
+none_or_last (x ∷ xs) = inr (last_pair (x ∷ xs) (λ e. absurd (cc)))
 
 -- ---- the route
 
@@ -164,60 +155,60 @@ module _ (disk : Disk) (ps : List Pair) (index last : ℕ) (w : Site) (p : Pair)
       go (z ∷ xs) = refl
 
   -- it stands in front of the last one
-  behind : (k : Last w.right) → IsRoute disk ps last w p fresh l r P name
+  behind : (k : LastPair w.right) → IsRoute disk ps last w p fresh l r P name
   behind k = record {
-    left = w.left ++ p ∷ k.mid;
-    x = k.x;
+    left = w.left ++ p ∷ k.front;
+    x = k.last;
     end = record {
       there = there ∙ ap (λ z. w.chain ++ z) dirs_are;
       place =
-          let n = number in let m = ap length k.is in let a = length-append k.mid (k.x ∷ []) in let b = length-append w.before w.left in let c = length-append w.before (w.left ++ p ∷ k.mid) in
-          let d = length-append w.left (p ∷ k.mid) in
+          let n = number in let m = ap length k.is in let a = length-append k.front (k.last ∷ []) in let b = length-append w.before w.left in let c = length-append w.before (w.left ++ p ∷ k.front) in
+          let d = length-append w.left (p ∷ k.front) in
           omega (arith, n, m, a, b, c, d, place);
       site = record {
         chain = subst (IsChain w.chain) dirs_are site.chain;
         ends = site.ends;
-        run = subst IsRun (ap (λ (z : List Pair). w.left ++ p ∷ z) k.is ∙ sym (append_assoc w.left (p ∷ k.mid) (k.x ∷ []))) site.run;
+        run = subst IsRun (ap (λ (z : List Pair). w.left ++ p ∷ z) k.is ∙ sym (append_assoc w.left (p ∷ k.front) (k.last ∷ []))) site.run;
       };
     };
-    right = k.mid ++ y ∷ [];
+    right = k.front ++ y ∷ [];
     p2 = p;
     at = refl;
     slots = refl;
-    dirs = turned (y ∷ f ∷ w.after) ∙ ap (λ z. (w.before ++ w.left) ++ (p ∷ z)) (sym (append_assoc k.mid (y ∷ []) (f ∷ w.after)));
+    dirs = turned (y ∷ f ∷ w.after) ∙ ap (λ z. (w.before ++ w.left) ++ (p ∷ z)) (sym (append_assoc k.front (y ∷ []) (f ∷ w.after)));
     run = run_here;
     began = go w.left;
     begins = refl;
-    which = inr (record { stays = refl; names = among_right (λ z. z ≡ y) k.mid (y ∷ []) (inl refl) });
+    which = inr (record { stays = refl; names = among_right (λ z. z ≡ y) k.front (y ∷ []) (inl refl) });
     completed = λ middle new q more step put step2 put2 a leads same place sync settled still s given tree is.
-        mkdir_in_two_completed disk middle new w.chain w.before w.left k.mid w.after k.x y f (fresh.0 ∷ fresh.1 ∷ []) k.x.content.slots [] p q more (pairs_blocks more) l r P name
+        mkdir_in_two_completed disk middle new w.chain w.before w.left k.front w.after k.last y f (fresh.0 ∷ fresh.1 ∷ []) k.last.content.slots [] p q more (pairs_blocks more) l r P name
         step put step2 put2 a leads same place sync settled still s given tree is;
   }
     where
       y : Pair
-      y = naming_pair k.x fresh
+      y = naming_pair k.last fresh
 
       f : Pair
-      f = fresh_pair k.x fresh
+      f = fresh_pair k.last fresh
 
-      turned : (vs : List Pair) → (w.before ++ (w.left ++ p ∷ k.mid)) ++ vs ≡ (w.before ++ w.left) ++ (p ∷ (k.mid ++ vs))
-      turned vs = append_assoc w.before (w.left ++ p ∷ k.mid) vs ∙ ap (λ z. w.before ++ z) (append_assoc w.left (p ∷ k.mid) vs) ∙ sym (append_assoc w.before w.left (p ∷ (k.mid ++ vs)))
+      turned : (vs : List Pair) → (w.before ++ (w.left ++ p ∷ k.front)) ++ vs ≡ (w.before ++ w.left) ++ (p ∷ (k.front ++ vs))
+      turned vs = append_assoc w.before (w.left ++ p ∷ k.front) vs ∙ ap (λ z. w.before ++ z) (append_assoc w.left (p ∷ k.front) vs) ∙ sym (append_assoc w.before w.left (p ∷ (k.front ++ vs)))
 
-      dirs_are : dirs_at w (p ∷ []) ≡ dirs_at (last_site w.chain w.before (w.left ++ p ∷ k.mid) w.after) (k.x ∷ [])
-      dirs_are = ap (λ (z : List Pair). (w.before ++ w.left) ++ (p ∷ (z ++ w.after))) k.is ∙ ap (λ z. (w.before ++ w.left) ++ (p ∷ z)) (append_assoc k.mid (k.x ∷ []) w.after) ∙ sym (turned (k.x ∷ w.after))
+      dirs_are : dirs_at w (p ∷ []) ≡ dirs_at (last_site w.chain w.before (w.left ++ p ∷ k.front) w.after) (k.last ∷ [])
+      dirs_are = ap (λ (z : List Pair). (w.before ++ w.left) ++ (p ∷ (z ++ w.after))) k.is ∙ ap (λ z. (w.before ++ w.left) ++ (p ∷ z)) (append_assoc k.front (k.last ∷ []) w.after) ∙ sym (turned (k.last ∷ w.after))
 
-      run_here : IsRun (w.left ++ (p ∷ (k.mid ++ naming_pair k.x fresh ∷ [])))
-      run_here = subst IsRun (append_assoc w.left (p ∷ k.mid) (naming_pair k.x fresh ∷ []))
-          (run_changed (w.left ++ p ∷ k.mid) k.x [] (naming_pair k.x fresh) [] (λ h. refl)
-          (subst IsRun (ap (λ (z : List Pair). w.left ++ p ∷ z) k.is ∙ sym (append_assoc w.left (p ∷ k.mid) (k.x ∷ []))) site.run))
+      run_here : IsRun (w.left ++ (p ∷ (k.front ++ naming_pair k.last fresh ∷ [])))
+      run_here = subst IsRun (append_assoc w.left (p ∷ k.front) (naming_pair k.last fresh ∷ []))
+          (run_changed (w.left ++ p ∷ k.front) k.last [] (naming_pair k.last fresh) [] (λ h. refl)
+          (subst IsRun (ap (λ (z : List Pair). w.left ++ p ∷ z) k.is ∙ sym (append_assoc w.left (p ∷ k.front) (k.last ∷ []))) site.run))
 
-      go : (xs : List Pair) → first_address ((xs ++ p ∷ k.mid) ++ k.x ∷ []) ≡ first_address (xs ++ p ∷ [])
+      go : (xs : List Pair) → first_address ((xs ++ p ∷ k.front) ++ k.last ∷ []) ≡ first_address (xs ++ p ∷ [])
       go [] = refl
       go (z ∷ xs) = refl
 
   pub route : IsRoute disk ps last w p fresh l r P name
   route = go (none_or_last w.right)
     where
-      go : (w.right ≡ []) ⊎ Last w.right → IsRoute disk ps last w p fresh l r P name
+      go : (w.right ≡ []) ⊎ LastPair w.right → IsRoute disk ps last w p fresh l r P name
       go (inl e) = alone e
       go (inr k) = behind k

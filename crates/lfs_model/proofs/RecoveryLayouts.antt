@@ -9,6 +9,7 @@ use Rattle.lfs_model.proofs.Changes.{IsChangedImage}
 use Rattle.lfs_model.proofs.Counts.{Each}
 use Rattle.lfs_model.proofs.Global.{HasNoMove, unmoved_all}
 use Rattle.lfs_model.proofs.Layouts.{joined_parts}
+use Rattle.lfs_model.proofs.RecoveryWay.{begin_same}
 use Rattle.lfs_model.proofs.Rests.{unmoved_elsewhere}
 
 -- ---- pairs of the same addresses and slots, which hard tails join alike
@@ -39,12 +40,8 @@ pub record GoAlike (disk other : Disk) (G H : ℕ × ℕ → Type 0) : Type 0 wh
   pub there : (a : ℕ × ℕ) → H a → G a
   pub back : (a : ℕ × ℕ) → G a → H a
 
-begin_kin : (from : Option (ℕ × ℕ)) (d e : Pair) → e.at ≡ d.at → directory_address from e ≡ directory_address from d
-begin_kin None d e h = h
-begin_kin (Some a) d e h = refl
-
 onward_kin : (from : Option (ℕ × ℕ)) (d e : Pair) → IsKin d e → continued_address from e ≡ continued_address from d
-onward_kin from d e k = ap₂ (λ (b : Bool) (a : ℕ × ℕ). cond b (Some a) None) k.hard (begin_kin from d e k.at)
+onward_kin from d e k = ap₂ (λ (b : Bool) (a : ℕ × ℕ). cond b (Some a) None) k.hard (begin_same from d e k.at)
 
 module _ (disk other : Disk) (G H : ℕ × ℕ → Type 0) (alike : GoAlike disk other G H) where
   fits_on : (p : Pair) → FitsPair other p → FitsPair disk p
@@ -68,7 +65,7 @@ module _ (disk other : Disk) (G H : ℕ × ℕ → Type 0) (alike : GoAlike disk
 
   here_kin : (from : Option (ℕ × ℕ)) (d e : Pair) (now : List Pair) → e.at ≡ d.at → e.content.slots ≡ d.content.slots → PairBecomes other (is_none from) (H (directory_address from e)) e now → PairBecomes disk (is_none from) (G (directory_address from d)) d now
   here_kin from d e now at slots s = stands_kin (is_none from) (G (directory_address from d)) (H (directory_address from e)) d e now
-      (λ x. subst G (begin_kin from d e at) (alike.there (directory_address from e) x)) (λ x. alike.back (directory_address from e) (subst G (sym (begin_kin from d e at)) x)) at slots s
+      (λ x. subst G (begin_same from d e at) (alike.there (directory_address from e) x)) (λ x. alike.back (directory_address from e) (subst G (sym (begin_same from d e at)) x)) at slots s
 
   pub stand_kin : (n : ℕ) (from : Option (ℕ × ℕ)) (ds es : List Pair) (parts : List (List Pair)) → AreKin ds es → PairsBecome other H n from es parts → PairsBecome disk G n from ds parts
   stand_kin n from [] [] [] k s = tt
@@ -105,7 +102,7 @@ module _ (disk other : Disk) (G H : ℕ × ℕ → Type 0) (alike : GoAlike disk
       on = ap (λ b. cond b (Some (directory_address from d)) None) gap.led
 
       same : continued_address from e ≡ continued_address (Some (directory_address from d)) x
-      same = ap₂ (λ (b : Bool) (a : ℕ × ℕ). cond b (Some a) None) gap.tail (begin_kin from d e gap.at)
+      same = ap₂ (λ (b : Bool) (a : ℕ × ℕ). cond b (Some a) None) gap.tail (begin_same from d e gap.at)
 
   pub stand_gap : (n : ℕ) (from : Option (ℕ × ℕ)) (xs : List Pair) (d x : Pair) (ds ys : List Pair) (e : Pair) (es : List Pair) (parts : List (List Pair)) → n ≤ length xs → AreKin xs ys → IsGap d x e → AreKin ds es
       → PairsBecome other H n from (ys ++ e ∷ es) parts → Filled n from (xs ++ d ∷ x ∷ ds) (joined_parts parts)

@@ -44,7 +44,7 @@ pub begins_weaker : (R Q : ℕ × ℕ → Type 0) → ((a : ℕ × ℕ) → R a 
 begins_weaker R Q f from [] h = tt
 begins_weaker R Q f from (x ∷ xs) h = (f (directory_address from x) h.0, begins_weaker R Q f (continued_address from x) xs h.1)
 
-begin_same : (from : Option (ℕ × ℕ)) (p q : Pair) → q.at ≡ p.at → directory_address from q ≡ directory_address from p
+pub begin_same : (from : Option (ℕ × ℕ)) (p q : Pair) → q.at ≡ p.at → directory_address from q ≡ directory_address from p
 begin_same None p q e = e
 begin_same (Some a) p q e = refl
 

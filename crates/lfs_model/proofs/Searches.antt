@@ -8,6 +8,7 @@ use Rattle.lfs_model.specs.crash.Frame.{tail_pairs, directory_pairs}
 use Rattle.lfs_model.specs.session.InDirectory.{FirstIsGreater, HaveNoSuperblock, HasHardTail, joined_count, AreJoined, last_joins, IsDirectoryPair, IsPairAt, IsPlaceOf, BelongsAt}
 use Rattle.lfs_model.proofs.Counts.{Each, each_append, each_right, each_weaker}
 use Rattle.lfs_model.proofs.Global.{HasNoMove}
+use Rattle.lfs_model.proofs.PairLists.{get_behind}
 use Rattle.lfs_model.proofs.Pairs.{pair_back, pair_on}
 use Rattle.lfs_model.proofs.Listings.{IsRun, blocks_avoid}
 use Rattle.lfs_model.proofs.Names.{IsPlace, Rise}
@@ -35,10 +36,6 @@ same_number (x ∷ xs) zero zero p q h e f s = refl
 same_number (x ∷ xs) zero (suc j) p q h e f s = absurd (not_again x xs j p q (blocks_avoid x.at xs h.0.1) (same_Some x p e) f s)
 same_number (x ∷ xs) (suc i) zero p q h e f s = absurd (not_again x xs i q p (blocks_avoid x.at xs h.0.1) (same_Some x q f) e (pair_back p.at q.at s))
 same_number (x ∷ xs) (suc i) (suc j) p q h e f s = ap suc (same_number xs i j p q h.1.1 e f s)
-
-get_behind : (xs : List Pair) (p : Pair) (ys : List Pair) → slice_get (xs ++ p ∷ ys) (length xs) ≡ Some p
-get_behind [] p ys = refl
-get_behind (x ∷ xs) p ys = get_behind xs p ys
 
 -- the pair at a directory's address is the directory's first
 pub record IsDirectory (ps : List Pair) (a : ℕ × ℕ) (first : ℕ) : Type 0 where

@@ -26,15 +26,9 @@ pub fn gstate_xor_delta(state: &MoveState, delta: &MoveState) -> MoveState
     ensures { move_view result ≡ gstate_xor (move_view state.now) (move_view delta.now) }
 {
     MoveState {
-        sync: exclusive_or(state.sync, delta.sync),
+        sync: state.sync != delta.sync,
         kind: state.kind ^ delta.kind,
         id: state.id ^ delta.id,
         pair: [state.pair[0] ^ delta.pair[0], state.pair[1] ^ delta.pair[1]],
     }
-}
-
-fn exclusive_or(one: bool, other: bool) -> bool
-    ensures { result ≡ bool_xor one other }
-{
-    one != other
 }

@@ -5,7 +5,8 @@ usage: against_c.py LITTLEFS PROGRAM [--rows ROW,ROW] [--repeat N]
 
 LITTLEFS has littlefs's code of version 2.7 or later (lfs.c or lfs2.c, and what goes with it), PROGRAM is a built lfs_bench. Both
 work on a device in memory with blocks of 4,096 bytes and pages of 256. Prints for each row what it takes by ours and by littlefs, built
-by gcc -O2, with caches of 4,096 and of 256 bytes; then the rows about wear. The times of a row are the quickest of some runs.
+by gcc -O2, with caches of 4,096 and of 256 bytes; then the rows about wear. The times of a row are the quickest of some runs, which take
+turns.
 
 Of wear there are the erases in all, those of the block that has most, the mean, their deviation divided by that, and the blocks that are never
 erased. Ours has pairs that stay and pairs that move by each of PAIR_CYCLES, on a device that knows which bytes are blank and on one
@@ -23,6 +24,8 @@ import sys
 import tempfile
 
 BLOCK = 4096
+# a row of less nanoseconds is run so many times as often
+SHORT, SHORT_REPEATS = 100_000, 20
 # the row's name, the device's blocks, how many operations
 ROWS = [
     ("create1", 4096, 1000),
@@ -92,10 +95,6 @@ def numbers(row, run, least):
     return [int(word) for word in words[1 : 1 + least]]
 
 
-def quickest(runs):
-    return min(runs, key=lambda run: run[5])
-
-
 def our_heap(program, room, row, blocks, count):
     """The peak of the heap without the device and the table of its erases, or None where the library isn't taken."""
     run = output(program, "row", row, blocks, count, env={**os.environ, "LD_PRELOAD": f"{room}/heap.so"})
@@ -103,16 +102,30 @@ def our_heap(program, room, row, blocks, count):
     return int(told[-1]) - blocks * (BLOCK + 4) if told else None
 
 
+def quickest_runs(options, commands, row):
+    """The quickest run of each command. They run in turn, and a short row oftener, since a busy machine disturbs it more."""
+    runs = {name: [] for name in commands}
+    wanted = options.repeat
+    while len(runs["ours"]) < wanted:
+        for name, (words, least) in commands.items():
+            runs[name].append(numbers(row, output(*words), least))
+        if runs["ours"][0][5] < SHORT:
+            wanted = options.repeat * SHORT_REPEATS
+    return {name: min(its, key=lambda run: run[5]) for name, its in runs.items()}
+
+
 def show_row(options, room, row, blocks, count):
-    ours = quickest([numbers(row, output(options.program, "row", row, blocks, count), 6) for _ in range(options.repeat)])
-    lines = [("ours", ours, our_heap(options.program, room, row, blocks, count))]
+    commands = {"ours": ([options.program, "row", row, blocks, count], 6)}
     for cache in (4096, 256):
-        its = quickest([numbers(row, output(f"{room}/bench", row, blocks, count, cache, -1), 7) for _ in range(options.repeat)])
-        lines.append((f"C, cache {cache}", its[:6], its[6]))
+        commands[f"C, cache {cache}"] = ([f"{room}/bench", row, blocks, count, cache, -1], 7)
+    found = quickest_runs(options, commands, row)
+    heap = our_heap(options.program, room, row, blocks, count)
+    ours = found["ours"]
+    lines = [(name, its[:6], heap if name == "ours" else its[6]) for name, its in found.items()]
     print(f"{row}, {count} operations, {blocks} blocks")
     for name, (reads, read_bytes, programs, program_bytes, erases, time), heap in lines:
         ratio = f"{ours[5] / time:.2f}" if name != "ours" else ""
-        cells = [f"{time / 1e6:.2f}", ratio, *(f"{it:,}" for it in (reads, read_bytes, programs, program_bytes, erases))]
+        cells = [f"{time / 1e6:.4g}", ratio, *(f"{it:,}" for it in (reads, read_bytes, programs, program_bytes, erases))]
         print(f"  {name:14}" + "".join(f"{cell:>18}" for cell in cells + [f"{heap:,}" if heap is not None else "not known"]))
     sys.stdout.flush()
 

@@ -2,7 +2,7 @@
 
 ghost use Rattle.std.specs.Prelude.{◌≡◌, map};
 ghost use Rattle.std.specs.List.{fold};
-ghost use Rattle.lfs_model.specs.format.Slots.{bool_xor, gstate_xor, zero_gstate};
+ghost use Rattle.lfs_model.specs.format.Slots.{gstate_xor, zero_gstate};
 ghost use Rattle.lfs_tag.specs.FieldsView.{move_view};
 
 use lfs_pair::Pair;

@@ -1,6 +1,7 @@
 -- The contents of an open writer: their form, their bytes, and what map and disk have of them.
 use Rattle.std.specs.Prelude.{ℕ, ◌≡◌, ◌≢◌, ◌≤◌, ◌<◌, ◌+◌, ◌*◌, ◌^◌, true, min, max, ◌==◌, nat_lt, if◌then◌else◌, List, length}
 use Rattle.lfs_model.specs.format.Blocks.{Blocks}
+use Rattle.lfs_model.specs.format.Disk.{inline_limit}
 use Rattle.lfs_model.specs.layers.BlockSets.{BlockStates, IsInFlight, used_count}
 use Rattle.lfs_model.specs.format.SkipLists.{block_count_for}
 use Rattle.lfs_device.specs.declared.geometry.Geometry.{Geometry}
@@ -51,6 +52,10 @@ pub record HaveBytesInForm (map : BlockStates) (disk : Blocks) (now : Geometry) 
   pub stands : AreSoundContents map disk now contents
   pub has : contents_bytes disk now.block_size contents ≡ bytes
   pub form : contents_form contents ≡ shape
+
+-- how many bytes contents may have in memory
+abbrev pub memory_limit : Geometry → ℕ
+memory_limit now = inline_limit now.profile now.block_size
 
 -- only contents past the limit have blocks in flight
 abbrev pub FormFitsLimit : ℕ → ContentsForm → Type 0
@@ -109,13 +114,13 @@ pub record HasTruncationRoom (map : BlockStates) (block_size : ℕ) (shape : Con
   pub room : NeedsTruncateRoom limit size shape → used_count map + truncation_room block_size size shape ≤ length map
 
 -- contents are on a device of this geometry, and may be written there; may be truncated; or may be finished
-pub record CanWriteContents (map : BlockStates) (disk : Blocks) (now : Geometry) (contents : WriterContents) (limit place count : ℕ) : Type 0 where
+pub record CanWriteContents (map : BlockStates) (disk : Blocks) (now : Geometry) (contents : WriterContents) (place count : ℕ) : Type 0 where
   pub stands : AreSoundContents map disk now contents
-  pub fits : HasWriteRoom map now.block_size (contents_form contents) limit place count
+  pub fits : HasWriteRoom map now.block_size (contents_form contents) (memory_limit now) place count
 
-pub record CanTruncateContents (map : BlockStates) (disk : Blocks) (now : Geometry) (contents : WriterContents) (limit size : ℕ) : Type 0 where
+pub record CanTruncateContents (map : BlockStates) (disk : Blocks) (now : Geometry) (contents : WriterContents) (size : ℕ) : Type 0 where
   pub stands : AreSoundContents map disk now contents
-  pub fits : HasTruncationRoom map now.block_size (contents_form contents) limit size
+  pub fits : HasTruncationRoom map now.block_size (contents_form contents) (memory_limit now) size
 
 pub record CanFinishContents (map : BlockStates) (disk : Blocks) (now : Geometry) (contents : WriterContents) : Type 0 where
   pub stands : AreSoundContents map disk now contents

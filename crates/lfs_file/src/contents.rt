@@ -6,7 +6,7 @@ ghost use Rattle.lfs_model.specs.layers.BlockSets.{BlockStates};
 ghost use Rattle.lfs_model.specs.session.Writers.{written_contents};
 ghost use Rattle.lfs_device.specs.DeviceCalls.{ReportsIoNoMemory};
 ghost use Rattle.lfs_file.specs.ContentsCalls.{CallKeepsUsed};
-ghost use Rattle.lfs_file.specs.Contents.{CanWriteContents, HaveBytesInForm, NoneInFlight, contents_bytes, contents_form, buffered_bytes};
+ghost use Rattle.lfs_file.specs.Contents.{CanWriteContents, HaveBytesInForm, NoneInFlight, contents_bytes, contents_form, buffered_bytes, memory_limit};
 ghost use Rattle.lfs_file.specs.FinishedWrites.{CanOverwriteFinished};
 ghost use Rattle.lfs_file.specs.Form as form;
 ghost use Rattle.lfs_file.specs.Form.{written_form};
@@ -61,20 +61,19 @@ fn write_in_memory<D: BlockDevice>(
     dev: &mut D,
     map: &mut BlockMap,
     list: Extender,
-    limit: u32,
     place: u32,
     bytes: &[u8],
 ) -> Result<WriterContents, Error>
-    requires { CanWriteContents map.old (D.blocks dev.old) (D.geometry dev.old) (WriterContents.InMemory list) limit place (length bytes.now) }
+    requires { CanWriteContents map.old (D.blocks dev.old) (D.geometry dev.old) (WriterContents.InMemory list) place (length bytes.now) }
     ensures written { IfOk result (λ c. HaveBytesInForm map.new (D.blocks dev.new) (D.geometry dev.old) c
-        (written_contents (buffered_bytes list) place bytes.now) (written_form limit place (length bytes.now) (form.InMemory (length (buffered_bytes list))))) }
+        (written_contents (buffered_bytes list) place bytes.now) (written_form (memory_limit (D.geometry dev.old)) place (length bytes.now) (form.InMemory (length (buffered_bytes list))))) }
     ensures owned { IfOk result (λ c. AreUsedAmong map.new (contents_blocks (D.blocks dev.old) (D.geometry dev.old).block_size (WriterContents.InMemory list)) (contents_blocks (D.blocks dev.new) (D.geometry dev.old).block_size c)) }
     ensures map { KeepsUsedBlocks map.old map.new }
     ensures device { CallKeepsUsed D.BlockDevice map.old dev.old dev.new }
     ensures reports { ReportsIoNoMemory D.BlockDevice dev.old dev.new result }
 {
     let size = list.size().max(place + bytes.len() as u32);
-    if size <= limit {
+    if size <= dev.geometry().inline_limit() {
         let mut list = list;
         list.write_buffered_at(place, bytes);
         return Ok(WriterContents::InMemory(list));
@@ -112,20 +111,19 @@ fn write_over_finished<D: BlockDevice>(
     dev: &mut D,
     map: &mut BlockMap,
     stored: StoredList,
-    limit: u32,
     place: u32,
     bytes: &[u8],
 ) -> Result<WriterContents, Error>
-    requires { CanWriteContents map.old (D.blocks dev.old) (D.geometry dev.old) (WriterContents.Finished stored) limit place (length bytes.now) }
+    requires { CanWriteContents map.old (D.blocks dev.old) (D.geometry dev.old) (WriterContents.Finished stored) place (length bytes.now) }
     ensures written { IfOk result (λ c. HaveBytesInForm map.new (D.blocks dev.new) (D.geometry dev.old) c
-        (written_contents (stored_list_bytes (D.blocks dev.old) (D.geometry dev.old).block_size stored) place bytes.now) (written_form limit place (length bytes.now) (form.Finished stored.size stored.in_flight))) }
+        (written_contents (stored_list_bytes (D.blocks dev.old) (D.geometry dev.old).block_size stored) place bytes.now) (written_form (memory_limit (D.geometry dev.old)) place (length bytes.now) (form.Finished stored.size stored.in_flight))) }
     ensures owned { IfOk result (λ c. AreUsedAmong map.new (contents_blocks (D.blocks dev.old) (D.geometry dev.old).block_size (WriterContents.Finished stored)) (contents_blocks (D.blocks dev.new) (D.geometry dev.old).block_size c)) }
     ensures map { KeepsUsedBlocks map.old map.new }
     ensures device { CallKeepsUsed D.BlockDevice map.old dev.old dev.new }
     ensures reports { ReportsIoNoMemory D.BlockDevice dev.old dev.new result }
 {
     let size = stored.size.max(place + bytes.len() as u32);
-    if size <= limit {
+    if size <= dev.geometry().inline_limit() {
         let mut list = load_first_bytes(alloc, dev, stored, stored.size)?;
         list.write_buffered_at(place, bytes);
         return Ok(WriterContents::InMemory(list));
@@ -140,13 +138,12 @@ fn write_to_unfinished<D: BlockDevice>(
     dev: &mut D,
     map: &mut BlockMap,
     hand: PendingList,
-    limit: u32,
     place: u32,
     bytes: &[u8],
 ) -> Result<WriterContents, Error>
-    requires { CanWriteContents map.old (D.blocks dev.old) (D.geometry dev.old) (WriterContents.InHand hand) limit place (length bytes.now) }
+    requires { CanWriteContents map.old (D.blocks dev.old) (D.geometry dev.old) (WriterContents.InHand hand) place (length bytes.now) }
     ensures written { IfOk result (λ c. HaveBytesInForm map.new (D.blocks dev.new) (D.geometry dev.old) c
-        (written_contents (unfinished_bytes (D.blocks dev.old) hand) place bytes.now) (written_form limit place (length bytes.now) (contents_form (WriterContents.InHand hand)))) }
+        (written_contents (unfinished_bytes (D.blocks dev.old) hand) place bytes.now) (written_form (memory_limit (D.geometry dev.old)) place (length bytes.now) (contents_form (WriterContents.InHand hand)))) }
     ensures owned { IfOk result (λ c. AreUsedAmong map.new (contents_blocks (D.blocks dev.old) (D.geometry dev.old).block_size (WriterContents.InHand hand)) (contents_blocks (D.blocks dev.new) (D.geometry dev.old).block_size c)) }
     ensures map { KeepsUsedBlocks map.old map.new }
     ensures device { CallKeepsUsed D.BlockDevice map.old dev.old dev.new }
@@ -162,8 +159,8 @@ fn write_to_unfinished<D: BlockDevice>(
 
 /// Writes bytes, at least one, at a place; zeros fill a gap before it.
 ///
-/// Contents of at most `limit` bytes are kept in memory. The caller's condition is that longer
-/// contents find as many free blocks as their form may take.
+/// Contents within the device's inline limit are kept in memory. The caller's condition is that
+/// longer contents find as many free blocks as their form may take.
 ///
 /// Errors: `Io` where the device failed. `NoMemory` where memory for a block isn't granted. After
 /// either the contents are dropped.
@@ -172,27 +169,22 @@ pub fn write_contents<D: BlockDevice>(
     dev: &mut D,
     map: &mut BlockMap,
     contents: WriterContents,
-    limit: u32,
     place: u32,
     bytes: &[u8],
 ) -> Result<WriterContents, Error>
-    requires { CanWriteContents map.old (D.blocks dev.old) (D.geometry dev.old) contents limit place (length bytes.now) }
+    requires { CanWriteContents map.old (D.blocks dev.old) (D.geometry dev.old) contents place (length bytes.now) }
     ensures written { IfOk result (λ c. HaveBytesInForm map.new (D.blocks dev.new) (D.geometry dev.old) c
-        (written_contents (contents_bytes (D.blocks dev.old) (D.geometry dev.old).block_size contents) place bytes.now) (written_form limit place (length bytes.now) (contents_form contents))) }
+        (written_contents (contents_bytes (D.blocks dev.old) (D.geometry dev.old).block_size contents) place bytes.now) (written_form (memory_limit (D.geometry dev.old)) place (length bytes.now) (contents_form contents))) }
     ensures owned { IfOk result (λ c. AreUsedAmong map.new (contents_blocks (D.blocks dev.old) (D.geometry dev.old).block_size contents) (contents_blocks (D.blocks dev.new) (D.geometry dev.old).block_size c)) }
     ensures map { KeepsUsedBlocks map.old map.new }
     ensures device { CallKeepsUsed D.BlockDevice map.old dev.old dev.new }
     ensures reports { ReportsIoNoMemory D.BlockDevice dev.old dev.new result }
 {
     match contents {
-        WriterContents::InMemory(list) => write_in_memory(
-            alloc, dev, map, list, limit, place, bytes,
-        ),
+        WriterContents::InMemory(list) => write_in_memory(alloc, dev, map, list, place, bytes),
         WriterContents::Finished(stored) => write_over_finished(
-            alloc, dev, map, stored, limit, place, bytes,
+            alloc, dev, map, stored, place, bytes,
         ),
-        WriterContents::InHand(hand) => write_to_unfinished(
-            alloc, dev, map, hand, limit, place, bytes,
-        ),
+        WriterContents::InHand(hand) => write_to_unfinished(alloc, dev, map, hand, place, bytes),
     }
 }

@@ -6,7 +6,7 @@ ghost use Rattle.lfs_model.specs.session.Writers.{zero_padded};
 ghost use Rattle.lfs_device.specs.DeviceCalls.{ReadsOrNoMemory, ReportsIoNoMemory};
 ghost use Rattle.lfs_file.specs.Outcomes.{WritesUnusedBlocks};
 ghost use Rattle.lfs_file.specs.ContentsCalls.{CallKeepsUsed};
-ghost use Rattle.lfs_file.specs.Contents.{CanTruncateContents, HaveBytesInForm, IsInMemory, contents_bytes, contents_form, buffered_bytes, truncation_room};
+ghost use Rattle.lfs_file.specs.Contents.{CanTruncateContents, HaveBytesInForm, IsInMemory, contents_bytes, contents_form, buffered_bytes, memory_limit, truncation_room};
 ghost use Rattle.lfs_file.specs.Form as form;
 ghost use Rattle.lfs_file.specs.Form.{truncated_form};
 ghost use Rattle.lfs_file.specs.Hand.{IsFinishedList, KeepsUsedBlocks, stored_list_bytes};
@@ -55,16 +55,15 @@ fn truncate_in_memory<D: BlockDevice>(
     dev: &mut D,
     map: &mut BlockMap,
     list: Extender,
-    limit: u32,
     size: u32,
 ) -> Result<WriterContents, Error>
-    requires { CanTruncateContents map.old (D.blocks dev.old) (D.geometry dev.old) (WriterContents.InMemory list) limit size }
+    requires { CanTruncateContents map.old (D.blocks dev.old) (D.geometry dev.old) (WriterContents.InMemory list) size }
     ensures truncated { IfOk result (λ c. HaveBytesInForm map.new (D.blocks dev.new) (D.geometry dev.old) c
-        (take size (zero_padded size (buffered_bytes list))) (truncated_form limit size (form.InMemory (length (buffered_bytes list))))) }
+        (take size (zero_padded size (buffered_bytes list))) (truncated_form (memory_limit (D.geometry dev.old)) size (form.InMemory (length (buffered_bytes list))))) }
     ensures owned { IfOk result (λ c. AreUsedAmong map.new (contents_blocks (D.blocks dev.old) (D.geometry dev.old).block_size (WriterContents.InMemory list)) (contents_blocks (D.blocks dev.new) (D.geometry dev.old).block_size c)) }
     ensures writing { WritesUnusedBlocks D.BlockDevice map.old map.new dev.old dev.new result }
 {
-    if size > limit {
+    if size > dev.geometry().inline_limit() {
         let hand = fill_memory_contents(alloc, dev, map, list, size)?;
         return Ok(WriterContents::InHand(hand));
     }
@@ -123,19 +122,18 @@ fn truncate_finished_list<D: BlockDevice>(
     dev: &mut D,
     map: &mut BlockMap,
     stored: StoredList,
-    limit: u32,
     size: u32,
 ) -> Result<WriterContents, Error>
-    requires { CanTruncateContents map.old (D.blocks dev.old) (D.geometry dev.old) (WriterContents.Finished stored) limit size }
+    requires { CanTruncateContents map.old (D.blocks dev.old) (D.geometry dev.old) (WriterContents.Finished stored) size }
     ensures truncated { IfOk result (λ c. HaveBytesInForm map.new (D.blocks dev.new) (D.geometry dev.old) c
-        (take size (zero_padded size (stored_list_bytes (D.blocks dev.old) (D.geometry dev.old).block_size stored))) (truncated_form limit size (form.Finished stored.size stored.in_flight))) }
+        (take size (zero_padded size (stored_list_bytes (D.blocks dev.old) (D.geometry dev.old).block_size stored))) (truncated_form (memory_limit (D.geometry dev.old)) size (form.Finished stored.size stored.in_flight))) }
     ensures owned { IfOk result (λ c. AreUsedAmong map.new (contents_blocks (D.blocks dev.old) (D.geometry dev.old).block_size (WriterContents.Finished stored)) (contents_blocks (D.blocks dev.new) (D.geometry dev.old).block_size c)) }
     ensures writing { WritesUnusedBlocks D.BlockDevice map.old map.new dev.old dev.new result }
 {
     if size == stored.size {
         return Ok(WriterContents::Finished(stored));
     }
-    if size <= limit {
+    if size <= dev.geometry().inline_limit() {
         let list = shorten_to_memory(alloc, dev, map, stored, size)?;
         return Ok(WriterContents::InMemory(list));
     }
@@ -176,18 +174,17 @@ fn shorten_unfinished_list<D: BlockDevice>(
     dev: &mut D,
     map: &mut BlockMap,
     hand: PendingList,
-    limit: u32,
     size: u32,
 ) -> Result<WriterContents, Error>
-    requires can { CanTruncateContents map.old (D.blocks dev.old) (D.geometry dev.old) (WriterContents.InHand hand) limit size }
+    requires can { CanTruncateContents map.old (D.blocks dev.old) (D.geometry dev.old) (WriterContents.InHand hand) size }
     requires shorter { size < unfinished_length hand }
     ensures truncated { IfOk result (λ c. HaveBytesInForm map.new (D.blocks dev.new) (D.geometry dev.old) c
-        (take size (zero_padded size (unfinished_bytes (D.blocks dev.old) hand))) (truncated_form limit size (form.Finished (unfinished_length hand) true))) }
+        (take size (zero_padded size (unfinished_bytes (D.blocks dev.old) hand))) (truncated_form (memory_limit (D.geometry dev.old)) size (form.Finished (unfinished_length hand) true))) }
     ensures owned { IfOk result (λ c. AreUsedAmong map.new (contents_blocks (D.blocks dev.old) (D.geometry dev.old).block_size (WriterContents.InHand hand)) (contents_blocks (D.blocks dev.new) (D.geometry dev.old).block_size c)) }
     ensures writing { WritesUnusedBlocks D.BlockDevice map.old map.new dev.old dev.new result }
 {
     let stored = end_unfinished_list(alloc, dev, map, hand)?;
-    let cut = truncate_finished_list(alloc, dev, map, stored, limit, size)?;
+    let cut = truncate_finished_list(alloc, dev, map, stored, size)?;
     Ok(cut)
 }
 
@@ -197,12 +194,11 @@ fn truncate_unfinished_list<D: BlockDevice>(
     dev: &mut D,
     map: &mut BlockMap,
     hand: PendingList,
-    limit: u32,
     size: u32,
 ) -> Result<WriterContents, Error>
-    requires { CanTruncateContents map.old (D.blocks dev.old) (D.geometry dev.old) (WriterContents.InHand hand) limit size }
+    requires { CanTruncateContents map.old (D.blocks dev.old) (D.geometry dev.old) (WriterContents.InHand hand) size }
     ensures truncated { IfOk result (λ c. HaveBytesInForm map.new (D.blocks dev.new) (D.geometry dev.old) c
-        (take size (zero_padded size (unfinished_bytes (D.blocks dev.old) hand))) (truncated_form limit size (contents_form (WriterContents.InHand hand)))) }
+        (take size (zero_padded size (unfinished_bytes (D.blocks dev.old) hand))) (truncated_form (memory_limit (D.geometry dev.old)) size (contents_form (WriterContents.InHand hand)))) }
     ensures owned { IfOk result (λ c. AreUsedAmong map.new (contents_blocks (D.blocks dev.old) (D.geometry dev.old).block_size (WriterContents.InHand hand)) (contents_blocks (D.blocks dev.new) (D.geometry dev.old).block_size c)) }
     ensures writing { WritesUnusedBlocks D.BlockDevice map.old map.new dev.old dev.new result }
 {
@@ -214,14 +210,14 @@ fn truncate_unfinished_list<D: BlockDevice>(
         let hand = lengthen_unfinished_list(alloc, dev, map, hand, size)?;
         return Ok(WriterContents::InHand(hand));
     }
-    let cut = shorten_unfinished_list(alloc, dev, map, hand, limit, size)?;
+    let cut = shorten_unfinished_list(alloc, dev, map, hand, size)?;
     Ok(cut)
 }
 
 /// Cuts contents to a size in bytes, or fills them up to it with zeros.
 ///
-/// Contents of at most `limit` bytes are kept in memory. The caller's condition is that a change of
-/// the size finds as many free blocks as the form of the contents may take.
+/// Contents within the device's inline limit are kept in memory. The caller's condition is that a
+/// change of the size finds as many free blocks as the form of the contents may take.
 ///
 /// Errors: `Io` where the device failed. `NoMemory` where memory for a block isn't granted. After
 /// either the contents are dropped.
@@ -230,24 +226,19 @@ pub fn truncate_contents<D: BlockDevice>(
     dev: &mut D,
     map: &mut BlockMap,
     contents: WriterContents,
-    limit: u32,
     size: u32,
 ) -> Result<WriterContents, Error>
-    requires { CanTruncateContents map.old (D.blocks dev.old) (D.geometry dev.old) contents limit size }
+    requires { CanTruncateContents map.old (D.blocks dev.old) (D.geometry dev.old) contents size }
     ensures truncated { IfOk result (λ c. HaveBytesInForm map.new (D.blocks dev.new) (D.geometry dev.old) c
-        (take size (zero_padded size (contents_bytes (D.blocks dev.old) (D.geometry dev.old).block_size contents))) (truncated_form limit size (contents_form contents))) }
+        (take size (zero_padded size (contents_bytes (D.blocks dev.old) (D.geometry dev.old).block_size contents))) (truncated_form (memory_limit (D.geometry dev.old)) size (contents_form contents))) }
     ensures owned { IfOk result (λ c. AreUsedAmong map.new (contents_blocks (D.blocks dev.old) (D.geometry dev.old).block_size contents) (contents_blocks (D.blocks dev.new) (D.geometry dev.old).block_size c)) }
     ensures map { KeepsUsedBlocks map.old map.new }
     ensures device { CallKeepsUsed D.BlockDevice map.old dev.old dev.new }
     ensures reports { ReportsIoNoMemory D.BlockDevice dev.old dev.new result }
 {
     match contents {
-        WriterContents::InMemory(list) => truncate_in_memory(alloc, dev, map, list, limit, size),
-        WriterContents::Finished(stored) => truncate_finished_list(
-            alloc, dev, map, stored, limit, size,
-        ),
-        WriterContents::InHand(hand) => truncate_unfinished_list(
-            alloc, dev, map, hand, limit, size,
-        ),
+        WriterContents::InMemory(list) => truncate_in_memory(alloc, dev, map, list, size),
+        WriterContents::Finished(stored) => truncate_finished_list(alloc, dev, map, stored, size),
+        WriterContents::InHand(hand) => truncate_unfinished_list(alloc, dev, map, hand, size),
     }
 }

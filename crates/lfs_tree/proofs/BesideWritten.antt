@@ -1,6 +1,6 @@
 -- Contents of a writer that are written beside an image.
-use Rattle.std.proofs.Common.{ℕ, ◌≡◌, ◌<◌, ◌≤◌, ◌+◌, ◌/◌, ◌∙◌, Bool, true, false, List, length, min, max, Option, Some, None, Result, Ok, Err, inl, refl, sym, ap, subst, arith}
-use Rattle.lfs_tree.proofs.Common.{min-le_right, is_file, AreUsed, used_count, SameGeometry, disk_block, block_count, inline_limit, DiskSummary, slot_of, Slot, Pair, pairs_gstate, count_before_root, Path, Tree, IsAccepted, IsWritable, disk_tree, used_blocks, Blocks, CachedBlocks, HasEitherTree, SurvivesLossSince, with_blocks, IsChangedImage, HoldsAtLosses-weaker, HoldsAtLosses-worst, SameFileBlocks, file_blocks_same, CanTruncate, CanWrite, HaveThreadForm, KeepsPairs, ThreadReportsFaults, contents_list_blocks, KeptThread, ThreadView, SoundUnlessFailed, SoundWithRoot, uncached_state, thread_state, CanTruncateIn, CanWriteIn, AreThreadContents, slot_blocks, writer_contents_bytes, list_blocks_at, IsFailedTree, HasErrorCause, IsSoundState, TreeState, contents_bytes, contents_form, ContentsForm, AreUsedAmong}
+use Rattle.std.proofs.Common.{ℕ, ◌≡◌, ◌<◌, ◌≤◌, ◌+◌, ◌/◌, ◌∙◌, Bool, true, false, List, length, min, Option, Some, None, Result, Ok, Err, inl, refl, sym, ap, subst, arith}
+use Rattle.lfs_tree.proofs.Common.{min-le_right, is_file, AreUsed, used_count, SameGeometry, disk_block, block_count, inline_limit, DiskSummary, slot_of, Slot, Pair, pairs_gstate, count_before_root, Path, Tree, IsAccepted, IsWritable, disk_tree, used_blocks, Blocks, CachedBlocks, HasEitherTree, SurvivesLossSince, with_blocks, IsChangedImage, HoldsAtLosses-weaker, HoldsAtLosses-worst, SameFileBlocks, file_blocks_same, AreOnThread, CanTruncate, CanWrite, HaveThreadForm, KeepsPairs, ThreadReportsFaults, contents_list_blocks, KeptThread, ThreadView, SoundUnlessFailed, SoundWithRoot, uncached_state, thread_state, CanTruncateIn, CanWriteIn, AreThreadContents, slot_blocks, writer_contents_bytes, list_blocks_at, IsFailedTree, HasErrorCause, IsSoundState, TreeState, contents_bytes, contents_form, ContentsForm, AreUsedAmong}
 use Rattle.std.specs.Prelude.{Contains, IfErr, IfOk, OnErr, OnOk}
 use Rattle.lfs_device.specs.declared.error.Error.{Error}
 use Rattle.lfs_device.specs.declared.error.Error.TheVariants.{Io}
@@ -12,8 +12,7 @@ use Rattle.lfs_tree.proofs.SameErrors.{same_error}
 use Rattle.lfs_tree.proofs.Asking.{behind}
 use Rattle.lfs_tree.proofs.SlotsHave.{slot_has}
 use Rattle.lfs_tree.proofs.UsedBlocks.{count_is}
-use Rattle.lfs_file.specs.Contents.{FormFitsLimit, NeedsTruncateRoom, truncation_room, write_room}
-use Rattle.lfs_file.specs.Form.{form_size}
+use Rattle.lfs_file.specs.Contents.{truncation_room, write_room}
 use Rattle.lfs_file.specs.declared.contents.WriterContents.{WriterContents}
 use Rattle.lfs_file.proofs.Used.{used_back}
 
@@ -148,35 +147,37 @@ module _ (a b : ThreadView) (root : ℕ) (writable : Bool) (h : SoundWithRoot a 
 
 -- ---- what is asked for, on the thread
 
-limit_short : (profile : Profile) (block_size limit : ℕ) → 1024 ≤ block_size → limit ≡ inline_limit profile block_size → limit < block_size
-limit_short profile block_size limit large e =
-    let m = min-le_right profile.inline_max (min (block_size / 8) 1022) in
-    let n = min-le_right (block_size / 8) 1022 in
+limit_short : (t : KeptThread) (contents : WriterContents) → AreOnThread t contents → inline_limit t.disk.profile t.disk.block_size < t.disk.block_size
+limit_short t contents stands =
+    let size : stands.geometry.block_size ≡ t.disk.block_size = stands.divided.block_size in
+    let large = stands.geometry.valid.no_smaller in
+    let m = min-le_right t.disk.profile.inline_max (min (t.disk.block_size / 8) 1022) in
+    let n = min-le_right (t.disk.block_size / 8) 1022 in
     omega arith
 
-module _ (t : KeptThread) (writable : Bool) (limit : ℕ) (sound : IsSoundState (uncached_state t writable false)) (large : 1024 ≤ t.disk.block_size) (is : limit ≡ inline_limit t.disk.profile t.disk.block_size) where
+module _ (t : KeptThread) (writable : Bool) (sound : IsSoundState (uncached_state t writable false)) where
   room_is : (need : ℕ) → length (used_blocks t.disk t.pairs) + need ≤ block_count t.disk → used_count t.map + need ≤ length t.map
   room_is need room = let e = count_is (uncached_state t writable false) sound in let s = sound.size in omega arith
 
-  pub can_write : {cache : CachedBlocks} (failed : Bool) (contents : WriterContents) (place count : ℕ) → CanWriteIn (record (uncached_state t writable failed) { cache = cache }) contents place count → CanWrite t contents limit place count
+  pub can_write : {cache : CachedBlocks} (failed : Bool) (contents : WriterContents) (place count : ℕ) → CanWriteIn (record (uncached_state t writable failed) { cache = cache }) contents place count → CanWrite t contents place count
   can_write failed contents place count can = record {
     stands = can.stands;
     fits = record {
-      large = subst (λ (n : ℕ). FormFitsLimit n (contents_form contents)) (sym is) can.large;
-      short = limit_short t.disk.profile t.disk.block_size limit large is;
+      large = can.large;
+      short = limit_short t contents can.stands;
       some = can.some;
       small = can.small;
-      room = λ past. room_is (write_room t.disk.block_size place count (contents_form contents)) (can.room (subst (λ n. n < max (form_size (contents_form contents)) (place + count)) is past));
+      room = λ past. room_is (write_room t.disk.block_size place count (contents_form contents)) (can.room past);
     };
   }
 
-  pub can_truncate : {cache : CachedBlocks} (failed : Bool) (contents : WriterContents) (size : ℕ) → CanTruncateIn (record (uncached_state t writable failed) { cache = cache }) contents size → CanTruncate t contents limit size
+  pub can_truncate : {cache : CachedBlocks} (failed : Bool) (contents : WriterContents) (size : ℕ) → CanTruncateIn (record (uncached_state t writable failed) { cache = cache }) contents size → CanTruncate t contents size
   can_truncate failed contents size can = record {
     stands = can.stands;
     fits = record {
-      large = subst (λ (n : ℕ). FormFitsLimit n (contents_form contents)) (sym is) can.large;
-      short = limit_short t.disk.profile t.disk.block_size limit large is;
+      large = can.large;
+      short = limit_short t contents can.stands;
       small = can.small;
-      room = λ needs. room_is (truncation_room t.disk.block_size size (contents_form contents)) (can.room (subst (λ (n : ℕ). NeedsTruncateRoom n size (contents_form contents)) is needs));
+      room = λ needs. room_is (truncation_room t.disk.block_size size (contents_form contents)) (can.room needs);
     };
   }

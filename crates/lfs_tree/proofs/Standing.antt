@@ -1,11 +1,11 @@
 -- Contents on a thread's device.
-use Rattle.std.proofs.Common.{ℕ, ◌≡◌, ◌≤◌, ◌+◌, List, length, Result, Ok, Err, sym, ap, subst, ◌∙◌}
+use Rattle.std.proofs.Common.{ℕ, ◌≡◌, ◌≤◌, ◌+◌, List, length, Result, Ok, Err, sym, ap, ap₂, subst, ◌∙◌}
 use Rattle.std.specs.Prelude.{IfOk}
 use Rattle.lfs_device.specs.declared.error.Error.{Error}
 use Rattle.lfs_device.specs.declared.device.BlockDevice.{Ghosts}
 use Rattle.lfs_device.specs.declared.geometry.Geometry.{Geometry}
-use Rattle.lfs_tree.proofs.Common.{Blocks, HasBlockSizes, BlockStates, used_count, Disk, HasGeometry, BelongToThread, KeptThread, HaveBytesInForm, AreSoundContents, finish_room, contents_form, ContentsForm, AreUsedAmong, contents_blocks, CanFinish, CanTruncate, CanWrite, HaveThreadForm, AreOnThread, contents_list_blocks}
-use Rattle.lfs_file.specs.Contents.{CanFinishContents, CanTruncateContents, CanWriteContents, HasTruncationRoom, HasWriteRoom}
+use Rattle.lfs_tree.proofs.Common.{Blocks, HasBlockSizes, BlockStates, used_count, Disk, inline_limit, HasGeometry, BelongToThread, KeptThread, HaveBytesInForm, AreSoundContents, finish_room, contents_form, ContentsForm, AreUsedAmong, contents_blocks, CanFinish, CanTruncate, CanWrite, HaveThreadForm, AreOnThread, contents_list_blocks}
+use Rattle.lfs_file.specs.Contents.{CanFinishContents, CanTruncateContents, CanWriteContents, HasTruncationRoom, HasWriteRoom, memory_limit}
 use Rattle.lfs_file.specs.declared.contents.WriterContents.{WriterContents}
 use Rattle.lfs_file.proofs.ContentsGeometries.{geometry_is}
 
@@ -19,6 +19,9 @@ module _ {D : Type 0} (g : Ghosts D) (t : KeptThread) (device : D) (map : BlockS
 
   pub divided_here : HasGeometry (g.geometry device) t.disk
   divided_here = record { block_size = size_here; page = ap (λ (d : Disk). d.page) shows.disk; profile = ap (λ (d : Disk). d.profile) shows.disk; count = sym shape.count ∙ ap length blocks_here }
+
+  pub limit_here : memory_limit (g.geometry device) ≡ inline_limit t.disk.profile t.disk.block_size
+  limit_here = ap₂ (λ p n. inline_limit p n) divided_here.profile size_here
 
   pub geometry_here : (x : Geometry) → HasGeometry x t.disk → g.geometry device ≡ x
   geometry_here x of_disk = geometry_is (g.geometry device) x (size_here ∙ sym of_disk.block_size) (divided_here.page ∙ sym of_disk.page) (divided_here.profile ∙ sym of_disk.profile) (divided_here.count ∙ sym of_disk.count)
@@ -40,18 +43,26 @@ module _ {D : Type 0} (g : Ghosts D) (t : KeptThread) (device : D) (map : BlockS
   }
 
   -- a write there
-  pub write_here : (contents : WriterContents) (limit place count : ℕ) → CanWrite t contents limit place count → CanWriteContents map (g.blocks device) (g.geometry device) contents limit place count
-  write_here contents limit place count can = record {
+  pub write_here : (contents : WriterContents) (place count : ℕ) → CanWrite t contents place count → CanWriteContents map (g.blocks device) (g.geometry device) contents place count
+  write_here contents place count can = record {
     stands = stands_here contents can.stands;
-    fits = subst (λ (n : ℕ). HasWriteRoom map n (contents_form contents) limit place count) (sym size_here) (subst (λ (m : BlockStates). HasWriteRoom m t.disk.block_size (contents_form contents) limit place count) (sym shows.map) can.fits);
+    fits = subst (λ (k : ℕ). HasWriteRoom map (g.geometry device).block_size (contents_form contents) k place count) (sym limit_here)
+        (subst (λ (n : ℕ). HasWriteRoom map n (contents_form contents) limit place count) (sym size_here) (subst (λ (m : BlockStates). HasWriteRoom m t.disk.block_size (contents_form contents) limit place count) (sym shows.map) can.fits));
   }
+    where
+      limit : ℕ
+      limit = inline_limit t.disk.profile t.disk.block_size
 
   -- a truncation
-  pub truncate_here : (contents : WriterContents) (limit size : ℕ) → CanTruncate t contents limit size → CanTruncateContents map (g.blocks device) (g.geometry device) contents limit size
-  truncate_here contents limit size can = record {
+  pub truncate_here : (contents : WriterContents) (size : ℕ) → CanTruncate t contents size → CanTruncateContents map (g.blocks device) (g.geometry device) contents size
+  truncate_here contents size can = record {
     stands = stands_here contents can.stands;
-    fits = subst (λ (n : ℕ). HasTruncationRoom map n (contents_form contents) limit size) (sym size_here) (subst (λ (m : BlockStates). HasTruncationRoom m t.disk.block_size (contents_form contents) limit size) (sym shows.map) can.fits);
+    fits = subst (λ (k : ℕ). HasTruncationRoom map (g.geometry device).block_size (contents_form contents) k size) (sym limit_here)
+        (subst (λ (n : ℕ). HasTruncationRoom map n (contents_form contents) limit size) (sym size_here) (subst (λ (m : BlockStates). HasTruncationRoom m t.disk.block_size (contents_form contents) limit size) (sym shows.map) can.fits));
   }
+    where
+      limit : ℕ
+      limit = inline_limit t.disk.profile t.disk.block_size
 
   -- the end of a list in hand
   pub finish_here : (contents : WriterContents) → CanFinish t contents → CanFinishContents map (g.blocks device) (g.geometry device) contents
@@ -63,12 +74,14 @@ module _ {D : Type 0} (g : Ghosts D) (t : KeptThread) (device : D) (map : BlockS
 
 -- what a call answers, seen from the thread
 pub holds_after : {D : Type 0} (g : Ghosts D) (old new : KeptThread) (d e : D) (m n : BlockStates) → BelongToThread g old d m → BelongToThread g new e n → HasBlockSizes (g.geometry d).block_size (g.geometry d).block_count (g.blocks d)
-    → HasBlockSizes (g.geometry e).block_size (g.geometry e).block_count (g.blocks e) → g.geometry e ≡ g.geometry d → (bytes : Blocks → ℕ → List ℕ) (form : ContentsForm) (r : Result WriterContents Error)
-    → IfOk r (λ c. HaveBytesInForm n (g.blocks e) (g.geometry d) c (bytes (g.blocks d) (g.geometry d).block_size) form) → IfOk r (λ c. HaveThreadForm new c (bytes old.disk.blocks old.disk.block_size) form)
+    → HasBlockSizes (g.geometry e).block_size (g.geometry e).block_count (g.blocks e) → g.geometry e ≡ g.geometry d → (bytes : Blocks → ℕ → List ℕ) (form : ℕ → ContentsForm) (r : Result WriterContents Error)
+    → IfOk r (λ c. HaveBytesInForm n (g.blocks e) (g.geometry d) c (bytes (g.blocks d) (g.geometry d).block_size) (form (memory_limit (g.geometry d))))
+    → IfOk r (λ c. HaveThreadForm new c (bytes old.disk.blocks old.disk.block_size) (form (inline_limit old.disk.profile old.disk.block_size)))
 holds_after g old new d e m n before after shape later geometry bytes form (Ok c) has =
-    subst (λ (x : Blocks). HaveThreadForm new c (bytes x old.disk.block_size) form) (blocks_here g old d m before shape)
-    (subst (λ (k : ℕ). HaveThreadForm new c (bytes (g.blocks d) k) form) (size_here g old d m before shape)
-    (holds_here g new e n after later (g.geometry d) c (bytes (g.blocks d) (g.geometry d).block_size) form (sym geometry) has))
+    subst (λ (k : ℕ). HaveThreadForm new c (bytes old.disk.blocks old.disk.block_size) (form k)) (limit_here g old d m before shape)
+    (subst (λ (x : Blocks). HaveThreadForm new c (bytes x old.disk.block_size) (form (memory_limit (g.geometry d)))) (blocks_here g old d m before shape)
+    (subst (λ (k : ℕ). HaveThreadForm new c (bytes (g.blocks d) k) (form (memory_limit (g.geometry d)))) (size_here g old d m before shape)
+    (holds_here g new e n after later (g.geometry d) c (bytes (g.blocks d) (g.geometry d).block_size) (form (memory_limit (g.geometry d))) (sym geometry) has)))
 holds_after g old new d e m n before after shape later geometry bytes form (Err x) has = tt
 
 -- no used block comes into the lists

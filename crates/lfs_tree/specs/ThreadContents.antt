@@ -3,6 +3,7 @@ use Rattle.std.specs.Prelude.{ℕ, ◌≡◌, ◌⊎◌, ◌≤◌, ◌<◌, ◌
 use Rattle.lfs_device.specs.declared.error.Error.{Error}
 use Rattle.lfs_device.specs.declared.error.Error.TheVariants.{Io, NoMemory}
 use Rattle.lfs_device.specs.declared.geometry.Geometry.{Geometry}
+use Rattle.lfs_model.specs.format.Disk.{inline_limit}
 use Rattle.lfs_model.specs.layers.BlockSets.{used_count}
 use Rattle.lfs_model.specs.session.History.{LossLeavesAtWorst, HoldsAtLosses, fault_count}
 use Rattle.lfs_thread.specs.Beside.{HasGeometry}
@@ -27,9 +28,9 @@ pub record HaveThreadForm (t : KeptThread) (contents : WriterContents) (bytes : 
   pub has : HaveBytesInForm t.map t.disk.blocks geometry contents bytes shape
 
 -- bytes may be written there
-pub record CanWrite (t : KeptThread) (contents : WriterContents) (limit place count : ℕ) : Type 0 where
+pub record CanWrite (t : KeptThread) (contents : WriterContents) (place count : ℕ) : Type 0 where
   pub stands : AreOnThread t contents
-  pub fits : HasWriteRoom t.map t.disk.block_size (contents_form contents) limit place count
+  pub fits : HasWriteRoom t.map t.disk.block_size (contents_form contents) (inline_limit t.disk.profile t.disk.block_size) place count
 
 -- The pairs are the same. No used block changes, its bytes that were unprogrammed still are, and it stays used. A loss of power
 -- during the call leaves it as it was.
@@ -48,9 +49,9 @@ pub record ThreadReportsFaults {X : Type 0} (old new : KeptThread) (result : Res
   pub no_fault : ¬ IsErrOf result Io → fault_count new.history ≡ fault_count old.history
 
 -- the contents may be cut or filled up to that size
-pub record CanTruncate (t : KeptThread) (contents : WriterContents) (limit size : ℕ) : Type 0 where
+pub record CanTruncate (t : KeptThread) (contents : WriterContents) (size : ℕ) : Type 0 where
   pub stands : AreOnThread t contents
-  pub fits : HasTruncationRoom t.map t.disk.block_size (contents_form contents) limit size
+  pub fits : HasTruncationRoom t.map t.disk.block_size (contents_form contents) (inline_limit t.disk.profile t.disk.block_size) size
 
 -- the list in hand may be ended
 pub record CanFinish (t : KeptThread) (contents : WriterContents) : Type 0 where

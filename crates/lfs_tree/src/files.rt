@@ -1,6 +1,7 @@
 // The contents of files that are open for writing, on the device of a thread of metadata pairs.
 
 ghost use Rattle.std.specs.Prelude.{◌≡◌, false, is_err, length, take, IfErr, IfOk, OnOk};
+ghost use Rattle.lfs_model.specs.format.Disk.{inline_limit};
 ghost use Rattle.lfs_model.specs.session.Writers.{written_contents, zero_padded};
 ghost use Rattle.lfs_tree.specs.SettledFiles.{CanSettleLists, ChangesOnlyMap, IsListSettled};
 ghost use Rattle.lfs_tree.specs.ThreadContents.{CanFinish, CanTruncate, CanWrite, HaveThreadForm, KeepsPairs, ThreadReportsFaults, contents_list_blocks};
@@ -18,7 +19,7 @@ use std::alloc::Global;
 /// Writes bytes, at least one, at a place of the contents of an open writer; zeros fill a gap
 /// before it. The pairs of the thread stay as they are.
 ///
-/// Contents of at most `limit` bytes are kept in memory.
+/// Contents within the device's inline limit are kept in memory.
 ///
 /// Errors: `Io` where the device failed. `NoMemory` where memory for a block isn't
 /// granted. After either the contents are dropped. The thread works on.
@@ -26,28 +27,25 @@ pub fn write_file<D: BlockDevice>(
     alloc: Global,
     thread: &mut Thread<D>,
     contents: WriterContents,
-    limit: u32,
     place: u32,
     bytes: &[u8],
 ) -> Result<WriterContents, Error>
     requires works { thread.old.failed ≡ false }
-    requires can { CanWrite thread.old.kept contents limit place (length bytes.now) }
+    requires can { CanWrite thread.old.kept contents place (length bytes.now) }
     ensures written { IfOk result (λ c. HaveThreadForm thread.new.kept c (written_contents (contents_bytes thread.old.kept.disk.blocks thread.old.kept.disk.block_size contents) place bytes.now)
-        (written_form limit place (length bytes.now) (contents_form contents))) }
+        (written_form (inline_limit thread.old.kept.disk.profile thread.old.kept.disk.block_size) place (length bytes.now) (contents_form contents))) }
     ensures owned { IfOk result (λ c. AreUsedAmong thread.new.kept.map (contents_list_blocks thread.old.kept contents) (contents_list_blocks thread.new.kept c)) }
     ensures works { thread.new.failed ≡ false }
     ensures leaves { KeepsPairs thread.old.kept thread.new.kept }
     ensures reports { ThreadReportsFaults thread.old.kept thread.new.kept result }
 {
-    thread.run_work(|device, map| {
-        write_contents(alloc, device, map, contents, limit, place, bytes)
-    })
+    thread.run_work(|device, map| write_contents(alloc, device, map, contents, place, bytes))
 }
 
 /// Cuts the contents of an open writer to a size in bytes, or fills them up to it with zeros. The
 /// pairs of the thread stay as they are.
 ///
-/// Contents of at most `limit` bytes are kept in memory.
+/// Contents within the device's inline limit are kept in memory.
 ///
 /// Errors: `Io` where the device failed. `NoMemory` where memory for a block isn't
 /// granted. After either the contents are dropped. The thread works on.
@@ -55,19 +53,18 @@ pub fn truncate_file<D: BlockDevice>(
     alloc: Global,
     thread: &mut Thread<D>,
     contents: WriterContents,
-    limit: u32,
     size: u32,
 ) -> Result<WriterContents, Error>
     requires works { thread.old.failed ≡ false }
-    requires can { CanTruncate thread.old.kept contents limit size }
+    requires can { CanTruncate thread.old.kept contents size }
     ensures truncated { IfOk result (λ c. HaveThreadForm thread.new.kept c (take size (zero_padded size (contents_bytes thread.old.kept.disk.blocks thread.old.kept.disk.block_size contents)))
-        (truncated_form limit size (contents_form contents))) }
+        (truncated_form (inline_limit thread.old.kept.disk.profile thread.old.kept.disk.block_size) size (contents_form contents))) }
     ensures owned { IfOk result (λ c. AreUsedAmong thread.new.kept.map (contents_list_blocks thread.old.kept contents) (contents_list_blocks thread.new.kept c)) }
     ensures works { thread.new.failed ≡ false }
     ensures leaves { KeepsPairs thread.old.kept thread.new.kept }
     ensures reports { ThreadReportsFaults thread.old.kept thread.new.kept result }
 {
-    thread.run_work(|device, map| truncate_contents(alloc, device, map, contents, limit, size))
+    thread.run_work(|device, map| truncate_contents(alloc, device, map, contents, size))
 }
 
 /// Ends the list in hand of an open writer, where there is one. The contents stay, and so do the

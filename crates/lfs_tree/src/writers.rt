@@ -81,8 +81,7 @@ impl<D: BlockDevice> Tree<D> {
             (written_form (inline_limit self.old.disk.profile self.old.disk.block_size) place (length bytes.now) (contents_form contents))) }
         ensures writes { WritesUnusedOrFails self.old result self.new }
     {
-        let limit = self.geometry().inline_limit();
-        let written = write_file(alloc, &mut self.thread, contents, limit, place, bytes);
+        let written = write_file(alloc, &mut self.thread, contents, place, bytes);
         mark_failed(&mut self.thread, &written);
         written
     }
@@ -102,8 +101,7 @@ impl<D: BlockDevice> Tree<D> {
             (truncated_form (inline_limit self.old.disk.profile self.old.disk.block_size) size (contents_form contents))) }
         ensures writes { WritesUnusedOrFails self.old result self.new }
     {
-        let limit = self.geometry().inline_limit();
-        let truncated = truncate_file(alloc, &mut self.thread, contents, limit, size);
+        let truncated = truncate_file(alloc, &mut self.thread, contents, size);
         mark_failed(&mut self.thread, &truncated);
         truncated
     }

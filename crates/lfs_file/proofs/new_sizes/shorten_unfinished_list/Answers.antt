@@ -1,7 +1,7 @@
 use Rattle.std.proofs.Common.{ℕ, ◌≡◌, ◌<◌, List, take, sym, ap, ◌∙◌, subst, arith}
 use Rattle.lfs_file.proofs.Common.{err_from_is_err_and, growing_size, zero_padded, Finished, truncated_form, IsFinishedList, stored_list_bytes, unfinished_length, AreUsedAmong, contents_blocks, stored_blocks}
 use Rattle.lfs_device.specs.declared.geometry.Geometry.{Geometry}
-use Rattle.lfs_file.specs.Contents.{AreSoundContents, contents_bytes}
+use Rattle.lfs_file.specs.Contents.{AreSoundContents, contents_bytes, memory_limit}
 use Rattle.lfs_file.proofs.Owning.{owned_on, owned_right}
 use Rattle.lfs_file.proofs.ContentsCalled.{writes_as, writes_fail, writes_on}
 use Rattle.lfs_file.proofs.Truncations.{room_shorter}
@@ -23,12 +23,12 @@ truncate_finished_list-requires g c =
     let is = c.end_unfinished_list.ensures.writing.device.geometry in
     let count : c.in_ok-stored.stored.size ≡ unfinished_length c.args.hand = c.in_ok-stored.ensures.ended.count in
     let shorter = c.requires.shorter in
-    let large : c.args.limit < unfinished_length c.args.hand = c.requires.can.fits.large in
+    let large : memory_limit (g.D.BlockDevice.geometry c.args.dev.now) < unfinished_length c.args.hand = c.requires.can.fits.large in
     record {
       stands = subst (λ (k : Geometry). IsFinishedList c.end_unfinished_list.new.map (g.D.BlockDevice.blocks c.end_unfinished_list.new.dev) k.block_size c.in_ok-stored.stored) (sym is) c.in_ok-stored.ensures.ended.stored;
       fits = record {
-        large = λ flying. omega arith;
-        short = subst (λ (k : Geometry). c.args.limit < k.block_size) (sym is) c.requires.can.fits.short;
+        large = λ flying. subst (λ (k : Geometry). memory_limit k < c.in_ok-stored.stored.size) (sym is) (omega arith);
+        short = subst (λ (k : Geometry). memory_limit k < k.block_size) (sym is) c.requires.can.fits.short;
         small = c.requires.can.fits.small;
         room = λ needs. (let longer : c.in_ok-stored.stored.size < c.args.size = needs.1 in absurd (omega arith));
       };
@@ -57,11 +57,13 @@ returns-clause-truncated g c =
     let cut = c.in_ok-cut.ensures.truncated in
     let is = c.end_unfinished_list.ensures.writing.device.geometry in
     let d = g.D.BlockDevice.blocks c.end_unfinished_list.new.dev in
+    let limit : ℕ = memory_limit (g.D.BlockDevice.geometry c.args.dev.now) in
     record {
       stands = subst (λ (k : Geometry). AreSoundContents c.truncate_finished_list.new.map (g.D.BlockDevice.blocks c.truncate_finished_list.new.dev) k c.in_ok-cut.cut) is cut.stands;
       has = sym (ap (λ (k : Geometry). contents_bytes (g.D.BlockDevice.blocks c.truncate_finished_list.new.dev) k.block_size c.in_ok-cut.cut) is) ∙ cut.has
           ∙ ap (λ (l : List ℕ). take c.args.size (zero_padded c.args.size l)) (ap (λ (k : Geometry). stored_list_bytes d k.block_size stored) is ∙ ended.bytes);
-      form = cut.form ∙ ap (λ k. truncated_form c.args.limit c.args.size (Finished k stored.in_flight)) ended.count ∙ ap (λ t. truncated_form c.args.limit c.args.size (Finished (unfinished_length c.args.hand) t)) c.in_ok-stored.ensures.own.flying;
+      form = cut.form ∙ ap (λ (k : Geometry). truncated_form (memory_limit k) c.args.size (Finished stored.size stored.in_flight)) is
+          ∙ ap (λ k. truncated_form limit c.args.size (Finished k stored.in_flight)) ended.count ∙ ap (λ t. truncated_form limit c.args.size (Finished (unfinished_length c.args.hand) t)) c.in_ok-stored.ensures.own.flying;
     }
 
 pub returns-clause-owned : goal.returns-clause-owned

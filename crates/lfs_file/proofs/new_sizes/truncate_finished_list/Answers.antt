@@ -1,5 +1,6 @@
 use Rattle.std.proofs.Common.{ℕ, ◌≡◌, ◌+◌, ◌<◌, ◌≤◌, inl, List, length, sym, ap, ◌∙◌, arith}
 use Rattle.lfs_file.proofs.Common.{err_from_is_err_and, used_count, block_count_for, in_flight_limit, Blocks, Finished, InHand, InMemory, stored_list_bytes}
+use Rattle.lfs_file.specs.Contents.{memory_limit}
 use Rattle.lfs_device.specs.declared.geometry.Geometry.{Geometry}
 use Rattle.lfs_file.proofs.Owning.{hand_owned, owned_is}
 use Rattle.lfs_file.proofs.ContentsCalled.{quiet, reported_as, used_reads, writes_as, writes_none, writes_of_reads, writes_same, writes_well}
@@ -19,24 +20,30 @@ returns-then-size-stored-clause-truncated g c =
     record {
       stands = c.requires.stands;
       has = resized_none old c.args.size (same ∙ sym all);
-      form = truncated_same c.args.limit c.args.size (Finished stored.size stored.in_flight) same;
+      form = truncated_same (memory_limit now) c.args.size (Finished stored.size stored.in_flight) same;
     }
 
-pub returns-then-size-limit-clause-truncated : goal.returns-then-size-limit-clause-truncated
-returns-then-size-limit-clause-truncated g c =
+pub returns-then-size-inline_limit-clause-truncated : goal.returns-then-size-inline_limit-clause-truncated
+returns-then-size-inline_limit-clause-truncated g c =
     let stored = c.args.stored in
     let old : List ℕ = stored_list_bytes (g.D.BlockDevice.blocks c.args.dev.now) (g.D.BlockDevice.geometry c.args.dev.now).block_size stored in
+    let known : c.inline_limit.result ≡ memory_limit (g.D.BlockDevice.geometry c.args.dev.now) = c.inline_limit.ensures ∙ ap (λ k. memory_limit k) c.geometry.ensures in
+    let bound : c.args.size ≤ memory_limit (g.D.BlockDevice.geometry c.args.dev.now) = (let test = c.if-size-inline_limit.true in omega arith) in
     record {
       stands = c.in_ok-list.ensures.quiet;
       has = c.in_ok-list.ensures.bytes;
-      form = ap InMemory (ap length c.in_ok-list.ensures.bytes ∙ length-resized c.args.size old) ∙ truncated_few c.args.limit c.args.size (Finished stored.size stored.in_flight) c.if-size-stored.false c.if-size-limit.true;
+      form = ap InMemory (ap length c.in_ok-list.ensures.bytes ∙ length-resized c.args.size old) ∙ truncated_few (memory_limit (g.D.BlockDevice.geometry c.args.dev.now)) c.args.size (Finished stored.size stored.in_flight) c.if-size-stored.false bound;
     }
 
 pub shorten_to_memory-requires-clause-stored : goal.shorten_to_memory-requires-clause-stored
 shorten_to_memory-requires-clause-stored g c = c.requires.stands
 
 pub shorten_to_memory-requires-clause-short : goal.shorten_to_memory-requires-clause-short
-shorten_to_memory-requires-clause-short g c = omega (arith, c.if-size-limit.true, c.requires.fits.short)
+shorten_to_memory-requires-clause-short g c =
+    let known : c.inline_limit.result ≡ memory_limit (g.D.BlockDevice.geometry c.args.dev.now) = c.inline_limit.ensures ∙ ap (λ k. memory_limit k) c.geometry.ensures in
+    let test = c.if-size-inline_limit.true in
+    let short = c.requires.fits.short in
+    omega arith
 
 pub fill_finished_list-requires-clause-stored : goal.fill_finished_list-requires-clause-stored
 fill_finished_list-requires-clause-stored g c = c.requires.stands
@@ -45,7 +52,9 @@ pub fill_finished_list-requires-clause-room : goal.fill_finished_list-requires-c
 fill_finished_list-requires-clause-room g c =
     let n : ℕ = (g.D.BlockDevice.geometry c.args.dev.now).block_size in
     let longer : c.args.stored.size < c.args.size = c.if-stored-size.true in
-    let room : used_count c.args.map.now + (block_count_for n c.args.size + in_flight_limit n c.args.stored) ≤ length c.args.map.now = c.requires.fits.room (c.if-size-limit.false, longer) in
+    let known : c.inline_limit.result ≡ memory_limit (g.D.BlockDevice.geometry c.args.dev.now) = c.inline_limit.ensures ∙ ap (λ k. memory_limit k) c.geometry.ensures in
+    let bound : memory_limit (g.D.BlockDevice.geometry c.args.dev.now) < c.args.size = (let test = c.if-size-inline_limit.false in omega arith) in
+    let room : used_count c.args.map.now + (block_count_for n c.args.size + in_flight_limit n c.args.stored) ≤ length c.args.map.now = c.requires.fits.room (bound, longer) in
     record { longer = longer; small = c.requires.fits.small; room = omega arith }
 
 pub shorten_stored_list-requires-clause-stored : goal.shorten_stored_list-requires-clause-stored
@@ -60,8 +69,8 @@ returns-in_err-list-clause-writing g c =
     let read = c.in_err-list.ensures.reading in
     rw (p.1, p.2) (writes_as g.D.BlockDevice (writes_of_reads g.D.BlockDevice c.shorten_to_memory.ensures.map read.device read.reports))
 
-pub returns-then-size-limit-clause-writing : goal.returns-then-size-limit-clause-writing
-returns-then-size-limit-clause-writing g c =
+pub returns-then-size-inline_limit-clause-writing : goal.returns-then-size-inline_limit-clause-writing
+returns-then-size-inline_limit-clause-writing g c =
     let read = c.in_ok-list.ensures.reading in
     writes_same g.D.BlockDevice (writes_of_reads g.D.BlockDevice c.shorten_to_memory.ensures.map read.device read.reports)
 
@@ -79,11 +88,13 @@ returns-then-stored-size-clause-truncated g c =
     let filled = c.in_ok-hand.ensures.filled in
     let base = c.in_ok-hand.ensures.base.same in
     let hand = c.in_ok-hand.hand in
+    let known : c.inline_limit.result ≡ memory_limit (g.D.BlockDevice.geometry c.args.dev.now) = c.inline_limit.ensures ∙ ap (λ k. memory_limit k) c.geometry.ensures in
+    let bound : memory_limit (g.D.BlockDevice.geometry c.args.dev.now) < c.args.size = (let test = c.if-size-inline_limit.false in omega arith) in
     record {
       stands = filled.going;
       has = filled.bytes;
       form = ap (λ k. InHand k hand.base.size hand.base.in_flight) filled.size ∙ ap (λ s. InHand c.args.size s.size s.in_flight) base
-          ∙ truncated_longer c.args.limit c.args.size (Finished stored.size stored.in_flight) c.if-stored-size.true c.if-size-limit.false;
+          ∙ truncated_longer (memory_limit (g.D.BlockDevice.geometry c.args.dev.now)) c.args.size (Finished stored.size stored.in_flight) c.if-stored-size.true bound;
     }
 
 pub returns-in_err-cut-clause-writing : goal.returns-in_err-cut-clause-writing
@@ -111,11 +122,13 @@ returns-clause-truncated g c =
     let ended = c.in_ok-cut.ensures.cut in
     let less = c.if-stored-size.false in
     let ne = c.if-size-stored.false in
+    let known : c.inline_limit.result ≡ memory_limit now = c.inline_limit.ensures ∙ ap (λ k. memory_limit k) c.geometry.ensures in
+    let bound : memory_limit now < c.args.size = (let test = c.if-size-inline_limit.false in omega arith) in
     record {
       stands = ended.stored;
       has = ended.bytes ∙ shortened_bytes old c.args.size (omega arith);
       form = ap (λ k. Finished k c.in_ok-cut.cut.in_flight) ended.count ∙ ap (Finished c.args.size) c.in_ok-cut.ensures.front.flying
-          ∙ truncated_cut c.args.limit c.args.size (Finished stored.size stored.in_flight) (omega arith) c.if-size-limit.false;
+          ∙ truncated_cut (memory_limit now) c.args.size (Finished stored.size stored.in_flight) (omega arith) bound;
     }
 
 pub returns-then-stored-size-clause-owned : goal.returns-then-stored-size-clause-owned

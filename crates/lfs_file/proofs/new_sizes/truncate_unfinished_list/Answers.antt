@@ -1,5 +1,6 @@
 use Rattle.std.proofs.Common.{◌≡◌, sym, ap, ◌∙◌, arith}
 use Rattle.lfs_file.proofs.Common.{err_from_is_err_and, Blocks, growing_size, InHand, unfinished_bytes, unfinished_length}
+use Rattle.lfs_file.specs.Contents.{memory_limit}
 use Rattle.lfs_device.specs.declared.geometry.Geometry.{Geometry}
 use Rattle.lfs_file.proofs.Owning.{hand_owned, owned_right}
 use Rattle.lfs_file.proofs.ContentsCalled.{writes_as, writes_none, writes_same}
@@ -19,7 +20,7 @@ returns-then-size-length-clause-truncated g c =
     record {
       stands = going;
       has = resized_none (unfinished_bytes d hand) c.args.size (same ∙ sym all);
-      form = truncated_same c.args.limit c.args.size (InHand (growing_size hand.list) hand.base.size hand.base.in_flight) same;
+      form = truncated_same (memory_limit (g.D.BlockDevice.geometry c.args.dev.now)) c.args.size (InHand (growing_size hand.list) hand.base.size hand.base.in_flight) same;
     }
 
 pub lengthen_unfinished_list-requires-clause-going : goal.lengthen_unfinished_list-requires-clause-going
@@ -48,7 +49,7 @@ returns-then-length-size-clause-truncated g c =
     record {
       stands = wrote.going;
       has = wrote.bytes;
-      form = lengthened_hand c.args.limit (growing_size hand.list) hand.base.size c.args.size hand.base.in_flight _ _ _ (omega arith) (omega arith) wrote.size
+      form = lengthened_hand (memory_limit (g.D.BlockDevice.geometry c.args.dev.now)) (growing_size hand.list) hand.base.size c.args.size hand.base.in_flight _ _ _ (omega arith) (omega arith) wrote.size
           (λ e. (ap (λ s. s.size) (over.same e), ap (λ s. s.in_flight) (over.same e))) (λ ne. (over.size ne, over.flying ne));
     }
 
@@ -84,7 +85,7 @@ returns-clause-truncated g c =
     record {
       stands = cut.stands;
       has = cut.has;
-      form = cut.form ∙ truncated_ended c.args.limit c.args.size (growing_size hand.list) hand.base.size hand.base.in_flight (omega arith);
+      form = cut.form ∙ truncated_ended (memory_limit (g.D.BlockDevice.geometry c.args.dev.now)) c.args.size (growing_size hand.list) hand.base.size hand.base.in_flight (omega arith);
     }
 
 pub returns-then-length-size-clause-owned : goal.returns-then-length-size-clause-owned

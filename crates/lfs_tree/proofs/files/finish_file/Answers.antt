@@ -19,7 +19,7 @@ returns-clause-finished g c =
     (record { disk = ap (λ d. ordered_disk c.args.thread.now.kept.disk.order (disk_of_device g.D.BlockDevice d)) run.shows ∙ ran.before.disk; history = ap g.D.BlockDevice.history run.shows ∙ ran.before.history; map = run.shows_map ∙ ran.before.map })
     (record { disk = ap (λ d. ordered_disk c.run_work.new.self.kept.disk.order (disk_of_device g.D.BlockDevice d)) run.leaves ∙ ran.after.disk; history = ap g.D.BlockDevice.history run.leaves ∙ ran.after.history; map = run.leaves_map ∙ ran.after.map })
     (g.met.D.BlockDevice.shape run.shown.now) (g.met.D.BlockDevice.shape run.left.now) (search rules)
-    (λ d n. contents_bytes d n c.args.contents) (form_after_finish (contents_form c.args.contents)) c.run_work.result
+    (λ d n. contents_bytes d n c.args.contents) (λ _. form_after_finish (contents_form c.args.contents)) c.run_work.result
     (search rules)
 
 pub returns-clause-owned : goal.returns-clause-owned

@@ -7,10 +7,10 @@ use Rattle.lfs_tree.proofs.files.truncate_file.Goals as goal
 
 pub run_work-requires-clause-can : goal.run_work-requires-clause-can
 run_work-requires-clause-can g c device map shows = record {
-  can = λ p q here here_map _ _ _ _ _ _ _ _ _ _ _ _ _ _.
+  can = λ p q here here_map _ _ _ _ _ _ _ _ _ _ _ _ _.
       truncate_here g.D.BlockDevice c.args.thread.now.kept p.now q.now
       (record { disk = ap (λ d. ordered_disk c.args.thread.now.kept.disk.order (disk_of_device g.D.BlockDevice d)) here ∙ shows.disk; history = ap g.D.BlockDevice.history here ∙ shows.history; map = here_map ∙ shows.map })
-      (g.met.D.BlockDevice.shape p.now) c.args.contents c.args.limit c.args.size c.requires.can;
+      (g.met.D.BlockDevice.shape p.now) c.args.contents c.args.size c.requires.can;
 }
 
 pub returns-clause-truncated : goal.returns-clause-truncated
@@ -21,7 +21,7 @@ returns-clause-truncated g c =
     (record { disk = ap (λ d. ordered_disk c.args.thread.now.kept.disk.order (disk_of_device g.D.BlockDevice d)) run.shows ∙ ran.before.disk; history = ap g.D.BlockDevice.history run.shows ∙ ran.before.history; map = run.shows_map ∙ ran.before.map })
     (record { disk = ap (λ d. ordered_disk c.run_work.new.self.kept.disk.order (disk_of_device g.D.BlockDevice d)) run.leaves ∙ ran.after.disk; history = ap g.D.BlockDevice.history run.leaves ∙ ran.after.history; map = run.leaves_map ∙ ran.after.map })
     (g.met.D.BlockDevice.shape run.shown.now) (g.met.D.BlockDevice.shape run.left.now) (search rules)
-    (λ d n. take c.args.size (zero_padded c.args.size (contents_bytes d n c.args.contents))) (truncated_form c.args.limit c.args.size (contents_form c.args.contents)) c.run_work.result
+    (λ d n. take c.args.size (zero_padded c.args.size (contents_bytes d n c.args.contents))) (λ k. truncated_form k c.args.size (contents_form c.args.contents)) c.run_work.result
     (search rules)
 
 pub returns-clause-owned : goal.returns-clause-owned

@@ -7,10 +7,10 @@ use Rattle.lfs_tree.proofs.files.write_file.Goals as goal
 
 pub run_work-requires-clause-can : goal.run_work-requires-clause-can
 run_work-requires-clause-can g c device map shows = record {
-  can = λ p q here here_map _ _ _ _ _ _ _ _ _ _ _ _ _ _ _ _.
+  can = λ p q here here_map _ _ _ _ _ _ _ _ _ _ _ _ _ _ _.
       write_here g.D.BlockDevice c.args.thread.now.kept p.now q.now
       (record { disk = ap (λ d. ordered_disk c.args.thread.now.kept.disk.order (disk_of_device g.D.BlockDevice d)) here ∙ shows.disk; history = ap g.D.BlockDevice.history here ∙ shows.history; map = here_map ∙ shows.map })
-      (g.met.D.BlockDevice.shape p.now) c.args.contents c.args.limit c.args.place (length c.args.bytes.now) c.requires.can;
+      (g.met.D.BlockDevice.shape p.now) c.args.contents c.args.place (length c.args.bytes.now) c.requires.can;
 }
 
 pub returns-clause-written : goal.returns-clause-written
@@ -21,7 +21,7 @@ returns-clause-written g c =
     (record { disk = ap (λ d. ordered_disk c.args.thread.now.kept.disk.order (disk_of_device g.D.BlockDevice d)) run.shows ∙ ran.before.disk; history = ap g.D.BlockDevice.history run.shows ∙ ran.before.history; map = run.shows_map ∙ ran.before.map })
     (record { disk = ap (λ d. ordered_disk c.run_work.new.self.kept.disk.order (disk_of_device g.D.BlockDevice d)) run.leaves ∙ ran.after.disk; history = ap g.D.BlockDevice.history run.leaves ∙ ran.after.history; map = run.leaves_map ∙ ran.after.map })
     (g.met.D.BlockDevice.shape run.shown.now) (g.met.D.BlockDevice.shape run.left.now) (search rules)
-    (λ d n. written_contents (contents_bytes d n c.args.contents) c.args.place c.args.bytes.now) (written_form c.args.limit c.args.place (length c.args.bytes.now) (contents_form c.args.contents)) c.run_work.result
+    (λ d n. written_contents (contents_bytes d n c.args.contents) c.args.place c.args.bytes.now) (λ k. written_form k c.args.place (length c.args.bytes.now) (contents_form c.args.contents)) c.run_work.result
     (search rules)
 
 pub returns-clause-owned : goal.returns-clause-owned

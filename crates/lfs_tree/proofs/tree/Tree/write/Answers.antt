@@ -1,6 +1,6 @@
-use Rattle.std.proofs.Common.{◌∙◌, ◌≤◌, sym, ap, ap₂, subst}
+use Rattle.std.proofs.Common.{sym, subst}
 use Rattle.std.specs.Prelude.{IfOk, length}
-use Rattle.lfs_tree.proofs.Common.{inline_limit, CanWriteIn, AreTreeContents, AreThreadContents, TreeState, ThreadView}
+use Rattle.lfs_tree.proofs.Common.{CanWriteIn, AreTreeContents, AreThreadContents, TreeState, ThreadView}
 use Rattle.lfs_tree.proofs.Asking.{rooted_held}
 use Rattle.lfs_tree.proofs.BesideWritten.{all_over, can_write, held_beside, writing}
 use Rattle.lfs_tree.proofs.tree.Tree.write.Goals as goal
@@ -8,10 +8,7 @@ use Rattle.lfs_tree.proofs.tree.Tree.write.Goals as goal
 pub write_file-written-requires-clause-can : goal.write_file-written-requires-clause-can
 write_file-written-requires-clause-can g c =
     let held = rooted_held c.self.inside.thread c.self.inside.root c.self.inside.is_writable c.args.self.now c.self.invariant c.self.view_is c.requires.works in
-    let size = c.geometry.ensures.block_size ∙ sym (ap (λ (s : TreeState). s.disk.block_size) c.self.view_is) in
-    let profile = c.geometry.ensures.profile ∙ sym (ap (λ (s : TreeState). s.disk.profile) c.self.view_is) in
-    can_write c.self.inside.thread.kept c.self.inside.is_writable c.inline_limit-limit.result held.sound (subst (λ n. 1024 ≤ n) size c.geometry.result.valid.no_smaller) (c.inline_limit-limit.ensures ∙ ap₂ (λ p n. inline_limit p n) profile size)
-    c.self.inside.thread.failed c.args.contents c.args.place (length c.args.bytes.now) (subst (λ (s : TreeState). CanWriteIn s c.args.contents c.args.place (length c.args.bytes.now)) (sym c.self.view_is) c.requires)
+    can_write c.self.inside.thread.kept c.self.inside.is_writable held.sound c.self.inside.thread.failed c.args.contents c.args.place (length c.args.bytes.now) (subst (λ (s : TreeState). CanWriteIn s c.args.contents c.args.place (length c.args.bytes.now)) (sym c.self.view_is) c.requires)
 
 pub invariant_of-self : goal.invariant_of-self
 invariant_of-self g c =

@@ -13,6 +13,7 @@ use Rattle.lfs_model.specs.format.Content.{RawContent, raw_content, content_at, 
 use Rattle.lfs_model.specs.declared.order.NameOrder.{NameOrder}
 use Rattle.lfs_model.specs.format.Thread.{Pair, anchor_address, AreLinked, pairs_blocks}
 use Rattle.lfs_pair.specs.declared.pair.Pair as header
+use Rattle.lfs_thread.specs.declared.parts.ThreadParts.{ThreadParts}
 use Rattle.lfs_pair.specs.Pair.{IsTrueHeader, header_address}
 use Rattle.lfs_pair.specs.Commits.{IsPairAddress}
 
@@ -99,3 +100,13 @@ IsKept g device headers sets = IsKeptOnDisk (disk_of_device g device) (g.history
 
 abbrev pub WasKeptOnDevice : {D : Type 0} → Ghosts D → D → List PairHeader → BlockStates → Type 0
 WasKeptOnDevice g device headers sets = WasKeptOnDisk (disk_of_device g device) (g.history device) headers sets
+
+-- ---- the same of the parts of a thread
+
+-- what is kept in the parts of a thread, whose order of names doesn't matter
+abbrev pub kept_parts : {D : Type 0} → Ghosts D → ThreadParts D → KeptThread
+kept_parts g parts = kept_of_device g parts.device parts.pairs.items parts.map
+
+-- the headers and the map are those of the device, and each cached block has the bytes that the device has
+abbrev pub AreKeptParts : {D : Type 0} → Ghosts D → ThreadParts D → Type 0
+AreKeptParts g parts = IsKept g parts.device parts.pairs.items parts.map × IsCacheCurrent (g.blocks parts.device) parts.cache

@@ -1,4 +1,5 @@
 pub mod Kept
+pub mod Parts
 pub mod ThreadDevice
 pub mod ThreadSteps
 pub mod CachedLog

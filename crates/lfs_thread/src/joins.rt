@@ -1,19 +1,19 @@
 // Fresh pairs that are put into the thread.
 
-ghost use Rattle.std.specs.Prelude.{◌≡◌, ◌+◌, OnOk};
+ghost use Rattle.std.specs.Prelude.{◌≡◌, ◌+◌};
 ghost use Rattle.std.specs.Option.{option_map};
 ghost use Rattle.lfs_model.specs.format.Slots.{address_view};
 ghost use Rattle.lfs_tag.specs.ContentView.{tail_view};
-ghost use Rattle.lfs_pair.specs.Writing.{ChangesReadingFew};
 ghost use Rattle.lfs_pair.specs.ChangeView.{change_view, changes_view};
+ghost use Rattle.lfs_thread.specs.Parts.{ChangesKeptParts, EndsByOutcome};
 ghost use Rattle.lfs_thread.specs.ThreadDevice.{CleanLossLeaves, ReportsKeepingOthers};
-ghost use Rattle.lfs_thread.specs.Kept.{IsCacheCurrent, IsKept, kept_of_device};
+ghost use Rattle.lfs_thread.specs.Kept.{AreKeptParts, kept_parts};
 ghost use Rattle.lfs_thread.specs.CachedLog.{cached_block_log, reads_unless_cached};
 ghost use Rattle.lfs_thread.specs.ThreadSteps.{CanThreadIn, RefusesThreading, IsThreadedIn, LossLeavesThreaded, tail_change, thread_pair};
 ghost use Rattle.lfs_model.specs.format.Thread.{address_blocks, addresses_blocks};
 
 use crate::cached_pairs::{forget_cached_pair, take_cached_pair};
-use lfs_blocks::{BlockMap, Cache};
+use crate::parts::ThreadParts;
 use lfs_device::{BlockDevice, Error};
 use lfs_pair::{Change, Outcome, Pair, commit};
 use lfs_tag::Tail;
@@ -25,44 +25,43 @@ use std::alloc::Global;
 // After an error nothing is known of the headers and the map.
 pub(crate) fn thread_fresh_pair<D: BlockDevice>(
     alloc: Global,
-    device: &mut D,
-    cache: &mut Cache,
-    pairs: &mut Vec<Pair>,
-    map: &mut BlockMap,
+    parts: &mut ThreadParts<D>,
     index: usize,
     fresh: [u32; 2],
     changes: &[Change<'_>],
 ) -> Result<Outcome, Error>
-    requires kept { IsKept D.BlockDevice device.old pairs.old.items map.old }
-    requires current { IsCacheCurrent (D.blocks device.old) cache.old }
-    requires can { CanThreadIn (kept_of_device D.BlockDevice device.old pairs.old.items map.old) index (address_view fresh) (changes_view changes.now) }
-    ensures kept { OnOk result (IsKept D.BlockDevice device.new pairs.new.items map.new) }
-    ensures current { IsCacheCurrent (D.blocks device.new) cache.new }
-    ensures is_joined { result ≡ Ok Outcome.Done → IsThreadedIn (kept_of_device D.BlockDevice device.old pairs.old.items map.old) index (address_view fresh) (changes_view changes.now)
-        (kept_of_device D.BlockDevice device.new pairs.new.items map.new) }
-    ensures full { result ≡ Ok Outcome.Full → RefusesThreading (kept_of_device D.BlockDevice device.old pairs.old.items map.old) index (address_view fresh) (changes_view changes.now)
-        (kept_of_device D.BlockDevice device.new pairs.new.items map.new) }
-    ensures device { ChangesReadingFew D.BlockDevice (3 + reads_unless_cached (cached_block_log (kept_of_device D.BlockDevice device.old pairs.old.items map.old) cache.old index)) (addresses_blocks (thread_pair (kept_of_device D.BlockDevice device.old pairs.old.items map.old) index).at (address_view fresh)) device.old device.new }
-    ensures errors { ReportsKeepingOthers D.BlockDevice (address_blocks (address_view fresh)) device.old device.new result }
-    ensures stops { CleanLossLeaves (D.history device.old) (D.history device.new)
-        (LossLeavesThreaded (kept_of_device D.BlockDevice device.old pairs.old.items map.old) index (address_view fresh) (changes_view changes.now)) }
+    requires kept { AreKeptParts D.BlockDevice parts.old }
+    requires can { CanThreadIn (kept_parts D.BlockDevice parts.old) index (address_view fresh) (changes_view changes.now) }
+    ensures parts { ChangesKeptParts D.BlockDevice (3 + reads_unless_cached (cached_block_log (kept_parts D.BlockDevice parts.old) parts.old.cache index)) (addresses_blocks (thread_pair (kept_parts D.BlockDevice parts.old) index).at (address_view fresh)) parts.old parts.new result }
+    ensures ends { EndsByOutcome result
+        (IsThreadedIn (kept_parts D.BlockDevice parts.old) index (address_view fresh) (changes_view changes.now) (kept_parts D.BlockDevice parts.new))
+        (RefusesThreading (kept_parts D.BlockDevice parts.old) index (address_view fresh) (changes_view changes.now) (kept_parts D.BlockDevice parts.new)) }
+    ensures errors { ReportsKeepingOthers D.BlockDevice (address_blocks (address_view fresh)) parts.old.device parts.new.device result }
+    ensures stops { CleanLossLeaves (D.history parts.old.device) (D.history parts.new.device)
+        (LossLeavesThreaded (kept_parts D.BlockDevice parts.old) index (address_view fresh) (changes_view changes.now)) }
 {
-    let mut pair = pairs[index];
+    let mut pair = parts.pairs[index];
     // This takes the memory for the fresh pair's header, before anything is written.
-    pairs.insert(index + 1, pair)?;
-    forget_cached_pair(cache, fresh);
+    parts.pairs.insert(index + 1, pair)?;
+    forget_cached_pair(&mut parts.cache, fresh);
     let tail = change_setting_tail(&pair.tail);
-    let fresh_pair = Pair::fresh(alloc, device, fresh, &[tail])?;
-    let held = take_cached_pair(cache, pair.blocks, pair.active);
-    let outcome = commit(alloc, device, &mut pair, held.as_deref(), changes)?;
+    let fresh_pair = Pair::fresh(alloc, &mut parts.device, fresh, &[tail])?;
+    let held = take_cached_pair(&mut parts.cache, pair.blocks, pair.active);
+    let outcome = commit(
+        alloc,
+        &mut parts.device,
+        &mut pair,
+        held.as_deref(),
+        changes,
+    )?;
     if let Outcome::Full = outcome {
-        pairs.remove(index + 1);
+        parts.pairs.remove(index + 1);
         return Ok(Outcome::Full);
     }
-    pairs[index] = pair;
-    pairs[index + 1] = fresh_pair;
-    map.settle(fresh[0]);
-    map.settle(fresh[1]);
+    parts.pairs[index] = pair;
+    parts.pairs[index + 1] = fresh_pair;
+    parts.map.settle(fresh[0]);
+    parts.map.settle(fresh[1]);
     Ok(Outcome::Done)
 }
 

@@ -1,4 +1,4 @@
-ghost use Rattle.std.specs.Prelude.{ℕ, ◌+◌, ◌*◌, ◌≤◌, if◌then◌else◌, None, Some, List, ◌↔◌, IfOk, ◌≡◌, IsTrue, true, ◌<◌, length, false, is_err, [], replicate, slice_set, IfErr, IfNone, IfSome, IsSome, OnOk, ◌-◌, min, take, drop, slice_range};
+ghost use Rattle.std.specs.Prelude.{ℕ, ◌+◌, ◌≤◌, if◌then◌else◌, None, Some, ◌↔◌, IfOk, ◌≡◌, IsTrue, true, ◌<◌, length, false, is_err, [], replicate, slice_set, IfErr, IfNone, IfSome, IsSome, OnOk, ◌-◌, min, take, drop, slice_range};
 ghost use Rattle.std.specs.Option.{option_map};
 ghost use Rattle.lfs_model.specs.format.Content.{current_block};
 ghost use Rattle.lfs_model.specs.format.Disk.{ordered_disk};
@@ -39,7 +39,7 @@ use lfs_blocks::{BlockMap, Cache};
 use lfs_device::{BlockDevice, Error, Geometry};
 use lfs_file::{KnownBlocks, read_at};
 use lfs_model::NameOrder;
-use lfs_pair::{Change, Outcome, Pair, commit};
+use lfs_pair::{Change, Outcome, commit};
 use lfs_tag::{Log, MoveState, Tail, has_hard_tail};
 use std::alloc::Global;
 use std::marker::Model;
@@ -52,29 +52,24 @@ use std::marker::Model;
 /// holds, as long as the thread hasn't failed.
 #[derive(Drop)]
 pub struct Thread<D: BlockDevice> {
-    device: D,
-    // The order of the names in the directories. Nothing here depends on it.
-    order: NameOrder,
-    cache: Cache,
-    pairs: Vec<Pair>,
-    map: BlockMap,
+    // Nothing here depends on the order of the names.
+    parts: ThreadParts<D>,
     has_failed: bool,
 }
 
 impl<D: BlockDevice> Model for Thread<D> {
     ghost use Rattle.std.specs.Prelude.{◌≡◌, false};
-    ghost use Rattle.lfs_thread.specs.Kept.{IsCacheCurrent, IsKept, ThreadView, kept_in_order};
+    ghost use Rattle.lfs_thread.specs.Kept.{AreKeptParts, ThreadView, kept_in_order};
 
     ghost Value = { ThreadView };
 
     ghost view = { λ t. record {
-      kept = kept_in_order D.BlockDevice t.order t.device t.pairs.items t.map;
-      cache = t.cache;
+      kept = kept_in_order D.BlockDevice t.parts.order t.parts.device t.parts.pairs.items t.parts.map;
+      cache = t.parts.cache;
       failed = t.has_failed;
     } };
 
-    ghost invariant = { λ t. t.has_failed ≡ false
-        → IsKept D.BlockDevice t.device t.pairs.items t.map × IsCacheCurrent (D.blocks t.device) t.cache };
+    ghost invariant = { λ t. t.has_failed ≡ false → AreKeptParts D.BlockDevice t.parts };
 }
 
 impl<D: BlockDevice> Thread<D> {
@@ -104,11 +99,13 @@ impl<D: BlockDevice> Thread<D> {
         };
         match read_thread_headers(alloc, &mut device, &mut pairs, &mut map) {
             Ok(()) => Ok(Thread {
-                device,
-                order: NameOrder::LongerFirst,
-                cache,
-                pairs,
-                map,
+                parts: ThreadParts {
+                    device,
+                    order: NameOrder::LongerFirst,
+                    cache,
+                    pairs,
+                    map,
+                },
                 has_failed: false,
             }),
             Err(error) => Err((device, error)),
@@ -124,13 +121,7 @@ impl<D: BlockDevice> Thread<D> {
         ensures current { IsCacheCurrent (D.blocks result.device) result.cache }
         ensures cache { result.cache ≡ self.cache }
     {
-        ThreadParts {
-            device: self.device,
-            order: self.order,
-            cache: self.cache,
-            pairs: self.pairs,
-            map: self.map,
-        }
+        self.parts
     }
 
     /// Makes a thread of its parts, with the names in that order. The headers are those of the device's thread, as they were read
@@ -144,11 +135,7 @@ impl<D: BlockDevice> Thread<D> {
         ensures cache { result.cache ≡ parts.cache }
     {
         Thread {
-            device: parts.device,
-            order: parts.order,
-            cache: parts.cache,
-            pairs: parts.pairs,
-            map: parts.map,
+            parts,
             has_failed: false,
         }
     }
@@ -158,21 +145,21 @@ impl<D: BlockDevice> Thread<D> {
         ensures disk { ordered_disk self.now.kept.disk.order (disk_of_device D.BlockDevice result.now) ≡ self.now.kept.disk }
         ensures history { D.history result.now ≡ self.now.kept.history }
     {
-        &self.device
+        &self.parts.device
     }
 
     /// Returns the order of the names in the directories.
     pub fn order(&self) -> NameOrder
         ensures { result ≡ self.now.kept.disk.order }
     {
-        self.order
+        self.parts.order
     }
 
     /// Says in which order the names are. Nothing else of the thread depends on it.
     pub fn set_order(&mut self, order: NameOrder)
         ensures { self.new ≡ record self.old { kept = record self.old.kept { disk = ordered_disk order self.old.kept.disk } } }
     {
-        self.order = order;
+        self.parts.order = order;
     }
 
     /// Ends the thread, and returns the device as the last call left it. A failed thread returns
@@ -181,7 +168,7 @@ impl<D: BlockDevice> Thread<D> {
         ensures disk { ordered_disk self.kept.disk.order (disk_of_device D.BlockDevice result) ≡ self.kept.disk }
         ensures history { D.history result ≡ self.kept.history }
     {
-        self.device
+        self.parts.device
     }
 
     /// Returns the global state: the exclusive or of all pairs' deltas (DESIGN.md of littlefs, "The
@@ -190,14 +177,14 @@ impl<D: BlockDevice> Thread<D> {
         requires works { self.now.failed ≡ false }
         ensures { move_view result ≡ pairs_gstate self.now.kept.pairs }
     {
-        headers_gstate(&self.pairs)
+        headers_gstate(&self.parts.pairs)
     }
 
     /// Returns how many pairs there are.
     pub fn len(&self) -> usize
         ensures { result ≡ length self.now.kept.pairs }
     {
-        self.pairs.len()
+        self.parts.pairs.len()
     }
 
     /// Returns the two blocks of a pair, in the order in which the thread names them. `index` is
@@ -206,7 +193,7 @@ impl<D: BlockDevice> Thread<D> {
         requires { index < length self.now.kept.pairs }
         ensures { address_view result ≡ (thread_pair self.now.kept index).at }
     {
-        self.pairs[index].blocks
+        self.parts.pairs[index].blocks
     }
 
     /// Returns how many slots a pair has.
@@ -215,7 +202,7 @@ impl<D: BlockDevice> Thread<D> {
         requires below { index < length self.now.kept.pairs }
         ensures { result ≡ length (thread_pair self.now.kept index).content.slots }
     {
-        self.pairs[index].slot_count
+        self.parts.pairs[index].slot_count
     }
 
     /// Returns the revision of a pair: of the log of its active block.
@@ -224,7 +211,7 @@ impl<D: BlockDevice> Thread<D> {
         requires below { index < length self.now.kept.pairs }
         ensures { pair_revision self.now.kept.disk (thread_pair self.now.kept index).at ≡ Some result }
     {
-        self.pairs[index].revision
+        self.parts.pairs[index].revision
     }
 
     /// Returns the number of the next pair of the same directory, which a hard tail names (SPEC.md
@@ -236,7 +223,7 @@ impl<D: BlockDevice> Thread<D> {
         ensures next { result ≡ (if is_hard_tail (thread_pair self.now.kept index).content.tail then Some (index + 1) else None) }
         ensures below { IfSome result (λ next. next < length self.now.kept.pairs) }
     {
-        if has_hard_tail(self.pairs[index].tail) {
+        if has_hard_tail(self.parts.pairs[index].tail) {
             Some(index + 1)
         } else {
             None
@@ -250,7 +237,7 @@ impl<D: BlockDevice> Thread<D> {
         requires below { index < length self.now.kept.pairs }
         ensures { option_map tail_view result ≡ (thread_pair self.now.kept index).content.tail }
     {
-        self.pairs[index].tail
+        self.parts.pairs[index].tail
     }
 
     /// Returns a pair's delta of the global state.
@@ -259,7 +246,7 @@ impl<D: BlockDevice> Thread<D> {
         requires below { index < length self.now.kept.pairs }
         ensures { move_view result ≡ (thread_pair self.now.kept index).content.move }
     {
-        self.pairs[index].move_state
+        self.parts.pairs[index].move_state
     }
 
     /// Reads the active block of a pair into the cache, by at most one read. A cached block isn't
@@ -279,8 +266,8 @@ impl<D: BlockDevice> Thread<D> {
         // The eight blocks that were loaded last stay cached.
         ensures recent { OnOk result (self.new.cache ≡ loaded_cache self.old index) }
     {
-        let block = self.pairs[index].active;
-        self.cache.fill(&mut self.device, block)
+        let block = self.parts.pairs[index].active;
+        self.parts.cache.fill(&mut self.parts.device, block)
     }
 
     /// Returns the log of a pair, without a copy. Its checksums aren't computed again. Returns None
@@ -292,8 +279,8 @@ impl<D: BlockDevice> Thread<D> {
         ensures holds { IfSome result (λ log. IsContentLog log (thread_pair self.now.kept index).content) }
         ensures holder { IfSome result (λ log. current_block self.now.kept.disk (thread_pair self.now.kept index).at ≡ Some log) }
     {
-        let pair = &self.pairs[index];
-        match self.cache.lend(pair.active) {
+        let pair = &self.parts.pairs[index];
+        match self.parts.cache.lend(pair.active) {
             Some(block) => Some(Log::with_known_end(block, pair.end, pair.last)),
             None => None,
         }
@@ -320,7 +307,7 @@ impl<D: BlockDevice> Thread<D> {
         ensures same { (self.new.failed ≡ false) × (self.new.cache ≡ self.old.cache) }
         ensures errors { ThreadReportsErrors self.old.kept self.new.kept result }
     {
-        read_at(&mut self.device, head, size, pos, buf)
+        read_at(&mut self.parts.device, head, size, pos, buf)
     }
 
     /// Reads bytes of a skip list as [`read_list`](Thread::read_list) does, beginning at the nearest
@@ -352,13 +339,13 @@ impl<D: BlockDevice> Thread<D> {
     {
         let goes_on = known.end == pos;
         known.end = pos + buf.len().min(size.saturating_sub(pos) as usize) as u32;
-        if let Some(part) = known.find_known_part(&self.device, size, pos, buf.len()) {
-            let is_cached = self.cache.lend(part.block).is_some();
+        if let Some(part) = known.find_known_part(&self.parts.device, size, pos, buf.len()) {
+            let is_cached = self.parts.cache.lend(part.block).is_some();
             if goes_on || is_cached {
-                return read_part_cached(&mut self.device, &mut self.cache, part, buf);
+                return read_part_cached(&mut self.parts.device, &mut self.parts.cache, part, buf);
             }
         }
-        known.read_at(&mut self.device, head, size, pos, buf)
+        known.read_at(&mut self.parts.device, head, size, pos, buf)
     }
 
     /// Takes a free block, which is in flight then, and returns its number. Returns None exactly
@@ -369,7 +356,7 @@ impl<D: BlockDevice> Thread<D> {
         ensures none { IfNone result ((block : ℕ) → ¬ IsFree self.old.kept.map block) }
         ensures same { IfNone result (self.new ≡ self.old) }
     {
-        match self.map.take() {
+        match self.parts.map.take() {
             Some(block) => Some(block),
             None => None,
         }
@@ -380,7 +367,7 @@ impl<D: BlockDevice> Thread<D> {
         requires { IsFree self.old.kept.map block }
         ensures { self.new ≡ record self.old { kept = record self.old.kept { map = slice_set self.old.kept.map block InFlight } } }
     {
-        self.map.take_at(block);
+        self.parts.map.take_at(block);
     }
 
     /// Makes a block in flight free again, which no commit names.
@@ -388,7 +375,7 @@ impl<D: BlockDevice> Thread<D> {
         requires { IsInFlight self.old.kept.map block }
         ensures { self.new ≡ record self.old { kept = record self.old.kept { map = slice_set self.old.kept.map block Free } } }
     {
-        self.map.release(block);
+        self.parts.map.release(block);
     }
 
     /// Commits changes to a pair. Its tail still names the same pair afterwards. The changes may
@@ -415,9 +402,15 @@ impl<D: BlockDevice> Thread<D> {
         ensures device { ChangesWithinReads (1 + reads_unless_cached (cached_log self.old index)) (address_blocks (thread_pair self.old.kept index).at) self.old.kept self.new.kept }
         ensures stops { CleanLossLeaves self.old.kept.history self.new.kept.history (LossLeavesPair self.old.kept index (changes_view changes.now)) }
     {
-        let pair = &mut self.pairs[index];
-        let held = take_cached_pair(&mut self.cache, pair.blocks, pair.active);
-        let outcome = commit(alloc, &mut self.device, pair, held.as_deref(), changes);
+        let pair = &mut self.parts.pairs[index];
+        let held = take_cached_pair(&mut self.parts.cache, pair.blocks, pair.active);
+        let outcome = commit(
+            alloc,
+            &mut self.parts.device,
+            pair,
+            held.as_deref(),
+            changes,
+        );
         self.has_failed = outcome.is_err();
         outcome
     }
@@ -443,16 +436,7 @@ impl<D: BlockDevice> Thread<D> {
         ensures device { ChangesWithinReads (3 + reads_unless_cached (cached_log self.old index)) (addresses_blocks (thread_pair self.old.kept index).at (address_view fresh)) self.old.kept self.new.kept }
         ensures stops { CleanLossLeaves self.old.kept.history self.new.kept.history (LossLeavesThreadSplit self.old.kept index (address_view fresh) (changes_view changes.now)) }
     {
-        let result = split_pair(
-            alloc,
-            &mut self.device,
-            &mut self.cache,
-            &mut self.pairs,
-            &mut self.map,
-            index,
-            fresh,
-            changes,
-        );
+        let result = split_pair(alloc, &mut self.parts, index, fresh, changes);
         self.has_failed = result.is_err();
         result
     }
@@ -482,16 +466,7 @@ impl<D: BlockDevice> Thread<D> {
         ensures device { ChangesWithinReads (3 + reads_unless_cached (cached_log self.old index)) (addresses_blocks (thread_pair self.old.kept index).at (address_view fresh)) self.old.kept self.new.kept }
         ensures stops { CleanLossLeaves self.old.kept.history self.new.kept.history (LossLeavesThreaded self.old.kept index (address_view fresh) (changes_view changes.now)) }
     {
-        let outcome = thread_fresh_pair(
-            alloc,
-            &mut self.device,
-            &mut self.cache,
-            &mut self.pairs,
-            &mut self.map,
-            index,
-            fresh,
-            changes,
-        );
+        let outcome = thread_fresh_pair(alloc, &mut self.parts, index, fresh, changes);
         self.has_failed = outcome.is_err();
         outcome
     }
@@ -516,15 +491,7 @@ impl<D: BlockDevice> Thread<D> {
         ensures device { ChangesWithinReads (1 + reads_unless_cached (cached_log self.old index)) (address_blocks (thread_pair self.old.kept index).at) self.old.kept self.new.kept }
         ensures stops { CleanLossLeaves self.old.kept.history self.new.kept.history (LossLeavesPair self.old.kept index (changes_view changes.now)) }
     {
-        let outcome = drop_next_pair(
-            alloc,
-            &mut self.device,
-            &mut self.cache,
-            &mut self.pairs,
-            &mut self.map,
-            index,
-            changes,
-        );
+        let outcome = drop_next_pair(alloc, &mut self.parts, index, changes);
         self.has_failed = outcome.is_err();
         outcome
     }
@@ -546,15 +513,7 @@ impl<D: BlockDevice> Thread<D> {
         ensures device { ChangesWithinReads (4 + reads_unless_cached (cached_log self.old index)) (addresses_blocks (thread_pair self.old.kept index).at (address_view fresh)) self.old.kept self.new.kept }
         ensures stops { CleanLossLeaves self.old.kept.history self.new.kept.history (LossLeavesNextMoved self.old.kept index (address_view fresh)) }
     {
-        let result = move_next_pair(
-            alloc,
-            &mut self.device,
-            &mut self.cache,
-            &mut self.pairs,
-            &mut self.map,
-            index,
-            fresh,
-        );
+        let result = move_next_pair(alloc, &mut self.parts, index, fresh);
         self.has_failed = result.is_err();
         result
     }
@@ -582,16 +541,7 @@ impl<D: BlockDevice> Thread<D> {
         ensures device { ChangesWithinReads (4 + reads_unless_cached (cached_log self.old index)) (addresses_blocks (thread_pair self.old.kept index).at (address_view fresh)) self.old.kept self.new.kept }
         ensures stops { CleanLossLeaves self.old.kept.history self.new.kept.history (LossLeavesUnloaded self.old.kept index (address_view fresh) keep) }
     {
-        let result = unload_pair(
-            alloc,
-            &mut self.device,
-            &mut self.cache,
-            &mut self.pairs,
-            &mut self.map,
-            index,
-            fresh,
-            keep,
-        );
+        let result = unload_pair(alloc, &mut self.parts, index, fresh, keep);
         self.has_failed = result.is_err();
         result
     }
@@ -609,8 +559,8 @@ impl<D: BlockDevice> Thread<D> {
         ensures works { self.new.failed ≡ false }
         ensures cache { KeepsUsed self.old.kept.map self.old.cache self.new.cache }
     {
-        self.cache.forget_unused(&self.map);
-        work(&mut self.device, &mut self.map)
+        self.parts.cache.forget_unused(&self.parts.map);
+        work(&mut self.parts.device, &mut self.parts.map)
     }
 
     /// Marks the thread as failed, where what it lent may be of no use any more.
@@ -633,11 +583,7 @@ impl<D: BlockDevice> Thread<D> {
         ensures kept { result.kept ≡ kept_in_order D.BlockDevice parts.order parts.device parts.pairs.items parts.map }
     {
         Thread {
-            device: parts.device,
-            order: parts.order,
-            cache: parts.cache,
-            pairs: parts.pairs,
-            map: parts.map,
+            parts,
             has_failed: true,
         }
     }
@@ -646,14 +592,14 @@ impl<D: BlockDevice> Thread<D> {
     pub fn geometry(&self) -> Geometry
         ensures { HasGeometry result self.now.kept.disk }
     {
-        self.device.geometry()
+        self.parts.device.geometry()
     }
 
     /// Returns how many blocks are used.
     pub fn used_count(&self) -> u32
         ensures { result ≡ used_count self.now.kept.map }
     {
-        self.map.used_count()
+        self.parts.map.used_count()
     }
 
     /// Returns whether a block is free: neither used nor in flight.
@@ -661,7 +607,7 @@ impl<D: BlockDevice> Thread<D> {
         requires { block < length self.now.kept.map }
         ensures { IsTrue result ↔ IsFree self.now.kept.map block }
     {
-        self.map.is_free(block)
+        self.parts.map.is_free(block)
     }
 
     /// Returns whether a block is used. A block in flight isn't.
@@ -669,7 +615,7 @@ impl<D: BlockDevice> Thread<D> {
         requires { block < length self.now.kept.map }
         ensures { IsTrue result ↔ IsUsedBlock self.now.kept.map block }
     {
-        self.map.is_used(block)
+        self.parts.map.is_used(block)
     }
 }
 

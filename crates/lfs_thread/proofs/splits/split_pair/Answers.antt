@@ -1,4 +1,4 @@
-use Rattle.std.proofs.Common.{◌+◌, ◌∙◌, Err, List, ap, refl, subst, sym, set}
+use Rattle.std.proofs.Common.{◌+◌, ◌∙◌, Err, List, ap, refl, subst, sym, set, rules}
 use Rattle.lfs_thread.proofs.Common.{err_from_is_err_and, BlockStates, IsInFlight, Used, address_view, HoldsAtLosses-weaker, PairHeader, disk_of_device, addresses_blocks, header_address}
 use Rattle.lfs_thread.proofs.Changing.{at_there}
 use Rattle.lfs_thread.proofs.Coming.{second_held}
@@ -11,38 +11,49 @@ use Rattle.lfs_thread.proofs.CachedLogs.{current_but_four, current_without, give
 pub split-requires : goal.split-requires
 split-requires g c = record {
   can =
-      let a = at_there (disk_of_device g.D.BlockDevice c.args.device.now) c.args.pairs.now.items c.args.index c.index.result.now c.requires.can.can.below c.index.ensures in
-      can_split _ _ _ c.args.map.now c.args.index _ (address_view c.args.fresh) _ a c.requires.kept c.requires.can;
-  block = given_current _ _ c.index.result.now.active (c.as_deref.ensures.value ∙ c.take_cached_pair-held.ensures.bytes) c.requires.current;
+      let a = at_there (disk_of_device g.D.BlockDevice c.args.parts.now.device) c.args.parts.now.pairs.items c.args.index c.index.result.now c.requires.can.can.below c.index.ensures in
+      can_split _ _ _ c.args.parts.now.map c.args.index _ (address_view c.args.fresh) _ a c.requires.kept.0 c.requires.can;
+  block = given_current _ _ c.index.result.now.active (c.as_deref.ensures.value ∙ c.take_cached_pair-held.ensures.bytes) c.requires.kept.1;
 }
 
 pub returns-in_err-fresh_pair-clause-stops : goal.returns-in_err-fresh_pair-clause-stops
 returns-in_err-fresh_pair-clause-stops g c cleanly =
-    let a = at_there (disk_of_device g.D.BlockDevice c.args.device.now) c.args.pairs.now.items c.args.index c.index.result.now c.requires.can.can.below c.index.ensures in
-    HoldsAtLosses-weaker (λ left l. left_by_split _ _ c.args.pairs.now.items c.args.map.now c.args.index _ (address_view c.args.fresh) _ left a c.requires.kept c.requires.can l) (c.in_err-fresh_pair.ensures.stops cleanly)
+    let a = at_there (disk_of_device g.D.BlockDevice c.args.parts.now.device) c.args.parts.now.pairs.items c.args.index c.index.result.now c.requires.can.can.below c.index.ensures in
+    HoldsAtLosses-weaker (λ left l. left_by_split _ _ c.args.parts.now.pairs.items c.args.parts.now.map c.args.index _ (address_view c.args.fresh) _ left a c.requires.kept.0 c.requires.can l) (c.in_err-fresh_pair.ensures.stops cleanly)
 
 pub settle-requires-2 : goal.settle-requires-2
 settle-requires-2 g c =
     subst (λ (s : BlockStates). IsInFlight s (address_view c.args.fresh).1) (sym c.settle.ensures) (second_held _ (address_view c.args.fresh) c.requires.can.held)
 
-pub returns-clause-kept : goal.returns-clause-kept
-returns-clause-kept g c =
-    let a = at_there (disk_of_device g.D.BlockDevice c.args.device.now) c.args.pairs.now.items c.args.index c.index.result.now c.requires.can.can.below c.index.ensures in
-    let e = c.in_ok-fresh_pair.ensures in
-    device_split _ _ _ _ _ _ _ _ _ _ _ _ (address_view c.args.fresh) _ e.device.only.geometry a c.requires.kept c.requires.can e.splits e.device.only.others e.device.only.elsewhere _
-    (ap (λ (z : List PairHeader). set (set z c.args.index c.split.new.pair) (c.args.index + 1) c.in_ok-fresh_pair.fresh_pair) c.in_ok-insert.ensures.items ∙ placed _ _ _ _ _ c.in_ok-fresh_pair.fresh_pair a) _ (c.settle-2.ensures ∙ ap (λ (s : BlockStates). set s (address_view c.args.fresh).1 Used) c.settle.ensures)
+pub returns-clause-parts : goal.returns-clause-parts
+returns-clause-parts g c = record {
+  device =
+      let disk = disk_of_device g.D.BlockDevice c.args.parts.now.device in
+      let a = at_there disk c.args.parts.now.pairs.items c.args.index c.index.result.now c.requires.can.can.below c.index.ensures in
+      reading_there disk (g.D.BlockDevice.history c.args.parts.now.device) c.args.parts.now.pairs.items c.args.parts.now.map c.args.index c.index.result.now a c.requires.kept.0
+      g.D.BlockDevice c.args.parts.now.device c.split.new.dev (λ at. addresses_blocks at (address_view c.args.fresh)) 3 c.args.parts.now.cache (c.as_deref.ensures.value ∙ c.take_cached_pair-held.ensures.bytes) c.in_ok-fresh_pair.ensures.device;
+  kept =
+      let a = at_there (disk_of_device g.D.BlockDevice c.args.parts.now.device) c.args.parts.now.pairs.items c.args.index c.index.result.now c.requires.can.can.below c.index.ensures in
+      let e = c.in_ok-fresh_pair.ensures in
+      device_split _ _ _ _ _ _ _ _ _ _ _ _ (address_view c.args.fresh) _ e.device.only.geometry a c.requires.kept.0 c.requires.can e.splits e.device.only.others e.device.only.elsewhere _
+      (ap (λ (z : List PairHeader). set (set z c.args.index c.split.new.pair) (c.args.index + 1) c.in_ok-fresh_pair.fresh_pair) c.in_ok-insert.ensures.items ∙ placed _ _ _ _ _ c.in_ok-fresh_pair.fresh_pair a) _ (c.settle-2.ensures ∙ ap (λ (s : BlockStates). set s (address_view c.args.fresh).1 Used) c.settle.ensures);
+  current =
+      current_but_four _ _ _ _ _ (header_address c.index.result.now) (address_view c.args.fresh) (current_without _ _ c.index.result.now.active c.requires.kept.1)
+      c.take_cached_pair-held.ensures.gone c.forget_cached_pair.ensures c.split.ensures.device.only.others;
+  order = refl;
+}
 
 pub returns-clause-is_split : goal.returns-clause-is_split
 returns-clause-is_split g c =
-    let a = at_there (disk_of_device g.D.BlockDevice c.args.device.now) c.args.pairs.now.items c.args.index c.index.result.now c.requires.can.can.below c.index.ensures in
+    let a = at_there (disk_of_device g.D.BlockDevice c.args.parts.now.device) c.args.parts.now.pairs.items c.args.index c.index.result.now c.requires.can.can.below c.index.ensures in
     let e = c.in_ok-fresh_pair.ensures in
-    device_is_split _ _ _ _ _ _ _ _ _ _ _ _ (address_view c.args.fresh) _ e.device.only.geometry a c.requires.kept c.requires.can e.splits e.device.only.others e.device.only.elsewhere _
+    device_is_split _ _ _ _ _ _ _ _ _ _ _ _ (address_view c.args.fresh) _ e.device.only.geometry a c.requires.kept.0 c.requires.can e.splits e.device.only.others e.device.only.elsewhere _
     (ap (λ (z : List PairHeader). set (set z c.args.index c.split.new.pair) (c.args.index + 1) c.in_ok-fresh_pair.fresh_pair) c.in_ok-insert.ensures.items ∙ placed _ _ _ _ _ c.in_ok-fresh_pair.fresh_pair a) _ (c.settle-2.ensures ∙ ap (λ (s : BlockStates). set s (address_view c.args.fresh).1 Used) c.settle.ensures)
 
 pub returns-clause-stops : goal.returns-clause-stops
 returns-clause-stops g c cleanly =
-    let a = at_there (disk_of_device g.D.BlockDevice c.args.device.now) c.args.pairs.now.items c.args.index c.index.result.now c.requires.can.can.below c.index.ensures in
-    HoldsAtLosses-weaker (λ left l. left_by_split _ _ c.args.pairs.now.items c.args.map.now c.args.index _ (address_view c.args.fresh) _ left a c.requires.kept c.requires.can l) (c.in_ok-fresh_pair.ensures.stops cleanly)
+    let a = at_there (disk_of_device g.D.BlockDevice c.args.parts.now.device) c.args.parts.now.pairs.items c.args.index c.index.result.now c.requires.can.can.below c.index.ensures in
+    HoldsAtLosses-weaker (λ left l. left_by_split _ _ c.args.parts.now.pairs.items c.args.parts.now.map c.args.index _ (address_view c.args.fresh) _ left a c.requires.kept.0 c.requires.can l) (c.in_ok-fresh_pair.ensures.stops cleanly)
 
 pub returns-in_err-fresh_pair-clause-errors : goal.returns-in_err-fresh_pair-clause-errors
 returns-in_err-fresh_pair-clause-errors g c =
@@ -56,24 +67,16 @@ returns-clause-errors g c = record {
   unwritten = λ gives. absurd (cc);
 }
 
-pub returns-in_err-fresh_pair-clause-device : goal.returns-in_err-fresh_pair-clause-device
-returns-in_err-fresh_pair-clause-device g c =
-    let disk = disk_of_device g.D.BlockDevice c.args.device.now in
-    let a = at_there disk c.args.pairs.now.items c.args.index c.index.result.now c.requires.can.can.below c.index.ensures in
-    reading_there disk (g.D.BlockDevice.history c.args.device.now) c.args.pairs.now.items c.args.map.now c.args.index c.index.result.now a c.requires.kept
-    g.D.BlockDevice c.args.device.now c.split.new.dev (λ at. addresses_blocks at (address_view c.args.fresh)) 3 c.args.cache.now (c.as_deref.ensures.value ∙ c.take_cached_pair-held.ensures.bytes) c.in_err-fresh_pair.ensures.device
-
-pub returns-clause-device : goal.returns-clause-device
-returns-clause-device g c =
-    let disk = disk_of_device g.D.BlockDevice c.args.device.now in
-    let a = at_there disk c.args.pairs.now.items c.args.index c.index.result.now c.requires.can.can.below c.index.ensures in
-    reading_there disk (g.D.BlockDevice.history c.args.device.now) c.args.pairs.now.items c.args.map.now c.args.index c.index.result.now a c.requires.kept
-    g.D.BlockDevice c.args.device.now c.split.new.dev (λ at. addresses_blocks at (address_view c.args.fresh)) 3 c.args.cache.now (c.as_deref.ensures.value ∙ c.take_cached_pair-held.ensures.bytes) c.in_ok-fresh_pair.ensures.device
-
-pub returns-in_err-fresh_pair-clause-current : goal.returns-in_err-fresh_pair-clause-current
-returns-in_err-fresh_pair-clause-current g c = current_but_four _ _ _ _ _ (header_address c.index.result.now) (address_view c.args.fresh) (current_without _ _ c.index.result.now.active c.requires.current)
-    c.take_cached_pair-held.ensures.gone c.forget_cached_pair.ensures c.split.ensures.device.only.others
-
-pub returns-clause-current : goal.returns-clause-current
-returns-clause-current g c = current_but_four _ _ _ _ _ (header_address c.index.result.now) (address_view c.args.fresh) (current_without _ _ c.index.result.now.active c.requires.current)
-    c.take_cached_pair-held.ensures.gone c.forget_cached_pair.ensures c.split.ensures.device.only.others
+pub returns-in_err-fresh_pair-clause-parts : goal.returns-in_err-fresh_pair-clause-parts
+returns-in_err-fresh_pair-clause-parts g c = record {
+  device =
+      let disk = disk_of_device g.D.BlockDevice c.args.parts.now.device in
+      let a = at_there disk c.args.parts.now.pairs.items c.args.index c.index.result.now c.requires.can.can.below c.index.ensures in
+      reading_there disk (g.D.BlockDevice.history c.args.parts.now.device) c.args.parts.now.pairs.items c.args.parts.now.map c.args.index c.index.result.now a c.requires.kept.0
+      g.D.BlockDevice c.args.parts.now.device c.split.new.dev (λ at. addresses_blocks at (address_view c.args.fresh)) 3 c.args.parts.now.cache (c.as_deref.ensures.value ∙ c.take_cached_pair-held.ensures.bytes) c.in_err-fresh_pair.ensures.device;
+  kept = search rules;
+  current =
+      current_but_four _ _ _ _ _ (header_address c.index.result.now) (address_view c.args.fresh) (current_without _ _ c.index.result.now.active c.requires.kept.1)
+      c.take_cached_pair-held.ensures.gone c.forget_cached_pair.ensures c.split.ensures.device.only.others;
+  order = refl;
+}

@@ -11,9 +11,9 @@ pub commit-outcome-requires : goal.commit-outcome-requires
 commit-outcome-requires g c = record {
   can =
       let works = ap (λ (v : ThreadView). v.failed) c.self.view_is ∙ c.requires.works in
-      let can = can_change c.self.inside.order (kept_of_device g.D.BlockDevice c.self.inside.device c.self.inside.pairs.items c.self.inside.map) c.args.index (changes_view c.args.changes.now) (subst (λ (v : ThreadView). CanChangePair v.kept c.args.index (changes_view c.args.changes.now)) (sym c.self.view_is) c.requires.can) in
-      let a = at_there (disk_of_device g.D.BlockDevice c.self.inside.device) c.self.inside.pairs.items c.args.index c.index_mut-pair.result.now can.below c.index_mut-pair.ensures.value in
-      can_commit _ _ c.self.inside.pairs.items c.self.inside.map c.args.index c.index_mut-pair.result.now _ a (c.self.invariant works).0 can.content can.made;
+      let can = can_change c.self.inside.parts.order (kept_of_device g.D.BlockDevice c.self.inside.parts.device c.self.inside.parts.pairs.items c.self.inside.parts.map) c.args.index (changes_view c.args.changes.now) (subst (λ (v : ThreadView). CanChangePair v.kept c.args.index (changes_view c.args.changes.now)) (sym c.self.view_is) c.requires.can) in
+      let a = at_there (disk_of_device g.D.BlockDevice c.self.inside.parts.device) c.self.inside.parts.pairs.items c.args.index c.index_mut-pair.result.now can.below c.index_mut-pair.ensures.value in
+      can_commit _ _ c.self.inside.parts.pairs.items c.self.inside.parts.map c.args.index c.index_mut-pair.result.now _ a (c.self.invariant works).0 can.content can.made;
   block =
       let works = ap (λ (v : ThreadView). v.failed) c.self.view_is ∙ c.requires.works in
       given_current _ _ c.index_mut-pair.result.now.active (c.as_deref.ensures.value ∙ c.take_cached_pair-held.ensures.bytes) (c.self.invariant works).1;
@@ -22,8 +22,8 @@ commit-outcome-requires g c = record {
 pub invariant_of-self : goal.invariant_of-self
 invariant_of-self g c ok =
     let works = ap (λ (v : ThreadView). v.failed) c.self.view_is ∙ c.requires.works in
-    let can = can_change c.self.inside.order (kept_of_device g.D.BlockDevice c.self.inside.device c.self.inside.pairs.items c.self.inside.map) c.args.index (changes_view c.args.changes.now) (subst (λ (v : ThreadView). CanChangePair v.kept c.args.index (changes_view c.args.changes.now)) (sym c.self.view_is) c.requires.can) in
-    let a = at_there (disk_of_device g.D.BlockDevice c.self.inside.device) c.self.inside.pairs.items c.args.index c.index_mut-pair.result.now can.below c.index_mut-pair.ensures.value in
+    let can = can_change c.self.inside.parts.order (kept_of_device g.D.BlockDevice c.self.inside.parts.device c.self.inside.parts.pairs.items c.self.inside.parts.map) c.args.index (changes_view c.args.changes.now) (subst (λ (v : ThreadView). CanChangePair v.kept c.args.index (changes_view c.args.changes.now)) (sym c.self.view_is) c.requires.can) in
+    let a = at_there (disk_of_device g.D.BlockDevice c.self.inside.parts.device) c.self.inside.parts.pairs.items c.args.index c.index_mut-pair.result.now can.below c.index_mut-pair.ensures.value in
     let e = c.commit-outcome.ensures in (
       elim (ok_outcome c.commit-outcome.result (sym c.is_err-self-inside.ensures.value ∙ ok)) [
         | inl done ↦ device_kept _ _ _ _ _ _ _ _ _ _ _ _ e.device.only.geometry a (c.self.invariant works).0 can (e.ends.done done) e.device.only.others e.device.only.elsewhere
@@ -35,48 +35,48 @@ invariant_of-self g c ok =
 pub returns-clause-done : goal.returns-clause-done
 returns-clause-done g c done =
     let works = ap (λ (v : ThreadView). v.failed) c.self.view_is ∙ c.requires.works in
-    let can = can_change c.self.inside.order (kept_of_device g.D.BlockDevice c.self.inside.device c.self.inside.pairs.items c.self.inside.map) c.args.index (changes_view c.args.changes.now) (subst (λ (v : ThreadView). CanChangePair v.kept c.args.index (changes_view c.args.changes.now)) (sym c.self.view_is) c.requires.can) in
-    let a = at_there (disk_of_device g.D.BlockDevice c.self.inside.device) c.self.inside.pairs.items c.args.index c.index_mut-pair.result.now can.below c.index_mut-pair.ensures.value in
+    let can = can_change c.self.inside.parts.order (kept_of_device g.D.BlockDevice c.self.inside.parts.device c.self.inside.parts.pairs.items c.self.inside.parts.map) c.args.index (changes_view c.args.changes.now) (subst (λ (v : ThreadView). CanChangePair v.kept c.args.index (changes_view c.args.changes.now)) (sym c.self.view_is) c.requires.can) in
+    let a = at_there (disk_of_device g.D.BlockDevice c.self.inside.parts.device) c.self.inside.parts.pairs.items c.args.index c.index_mut-pair.result.now can.below c.index_mut-pair.ensures.value in
     let e = c.commit-outcome.ensures in
-    subst (λ (v : ThreadView). IsPairCommitted v.kept c.args.index (changes_view c.args.changes.now) (kept_in_order g.D.BlockDevice c.self.inside.order c.commit-outcome.new.dev (set c.self.inside.pairs.items c.args.index c.commit-outcome.new.pair) c.self.inside.map)) c.self.view_is
-    (changed_in c.self.inside.order (kept_of_device g.D.BlockDevice c.self.inside.device c.self.inside.pairs.items c.self.inside.map)
-    (kept_of_device g.D.BlockDevice c.commit-outcome.new.dev (set c.self.inside.pairs.items c.args.index c.commit-outcome.new.pair) c.self.inside.map) c.args.index (changes_view c.args.changes.now)
-    (device_changed _ _ _ _ _ _ c.self.inside.pairs.items _ c.args.index _ _ _ e.device.only.geometry a (c.self.invariant works).0 can (e.ends.done done) e.device.only.others e.device.only.elsewhere))
+    subst (λ (v : ThreadView). IsPairCommitted v.kept c.args.index (changes_view c.args.changes.now) (kept_in_order g.D.BlockDevice c.self.inside.parts.order c.commit-outcome.new.dev (set c.self.inside.parts.pairs.items c.args.index c.commit-outcome.new.pair) c.self.inside.parts.map)) c.self.view_is
+    (changed_in c.self.inside.parts.order (kept_of_device g.D.BlockDevice c.self.inside.parts.device c.self.inside.parts.pairs.items c.self.inside.parts.map)
+    (kept_of_device g.D.BlockDevice c.commit-outcome.new.dev (set c.self.inside.parts.pairs.items c.args.index c.commit-outcome.new.pair) c.self.inside.parts.map) c.args.index (changes_view c.args.changes.now)
+    (device_changed _ _ _ _ _ _ c.self.inside.parts.pairs.items _ c.args.index _ _ _ e.device.only.geometry a (c.self.invariant works).0 can (e.ends.done done) e.device.only.others e.device.only.elsewhere))
 
 pub returns-clause-full : goal.returns-clause-full
 returns-clause-full g c full =
-    let can = can_change c.self.inside.order (kept_of_device g.D.BlockDevice c.self.inside.device c.self.inside.pairs.items c.self.inside.map) c.args.index (changes_view c.args.changes.now) (subst (λ (v : ThreadView). CanChangePair v.kept c.args.index (changes_view c.args.changes.now)) (sym c.self.view_is) c.requires.can) in
-    let a = at_there (disk_of_device g.D.BlockDevice c.self.inside.device) c.self.inside.pairs.items c.args.index c.index_mut-pair.result.now can.below c.index_mut-pair.ensures.value in
+    let can = can_change c.self.inside.parts.order (kept_of_device g.D.BlockDevice c.self.inside.parts.device c.self.inside.parts.pairs.items c.self.inside.parts.map) c.args.index (changes_view c.args.changes.now) (subst (λ (v : ThreadView). CanChangePair v.kept c.args.index (changes_view c.args.changes.now)) (sym c.self.view_is) c.requires.can) in
+    let a = at_there (disk_of_device g.D.BlockDevice c.self.inside.parts.device) c.self.inside.parts.pairs.items c.args.index c.index_mut-pair.result.now can.below c.index_mut-pair.ensures.value in
     let e = c.commit-outcome.ensures in
-    subst (λ (v : ThreadView). RefusesChanges v.kept c.args.index (changes_view c.args.changes.now) (kept_in_order g.D.BlockDevice c.self.inside.order c.commit-outcome.new.dev (set c.self.inside.pairs.items c.args.index c.commit-outcome.new.pair) c.self.inside.map)) c.self.view_is
-    (refused_in c.self.inside.order (kept_of_device g.D.BlockDevice c.self.inside.device c.self.inside.pairs.items c.self.inside.map)
-    (kept_of_device g.D.BlockDevice c.commit-outcome.new.dev (set c.self.inside.pairs.items c.args.index c.commit-outcome.new.pair) c.self.inside.map) c.args.index (changes_view c.args.changes.now)
-    (refused _ _ _ _ c.self.inside.pairs.items _ c.args.index _ _ _ can.content a can.made (e.ends.full full).completed (ap₂ disk_of_blocks (e.ends.full full).device.geometry (e.ends.full full).device.same) (e.ends.full full).pair (e.ends.full full).device.reads))
+    subst (λ (v : ThreadView). RefusesChanges v.kept c.args.index (changes_view c.args.changes.now) (kept_in_order g.D.BlockDevice c.self.inside.parts.order c.commit-outcome.new.dev (set c.self.inside.parts.pairs.items c.args.index c.commit-outcome.new.pair) c.self.inside.parts.map)) c.self.view_is
+    (refused_in c.self.inside.parts.order (kept_of_device g.D.BlockDevice c.self.inside.parts.device c.self.inside.parts.pairs.items c.self.inside.parts.map)
+    (kept_of_device g.D.BlockDevice c.commit-outcome.new.dev (set c.self.inside.parts.pairs.items c.args.index c.commit-outcome.new.pair) c.self.inside.parts.map) c.args.index (changes_view c.args.changes.now)
+    (refused _ _ _ _ c.self.inside.parts.pairs.items _ c.args.index _ _ _ can.content a can.made (e.ends.full full).completed (ap₂ disk_of_blocks (e.ends.full full).device.geometry (e.ends.full full).device.same) (e.ends.full full).pair (e.ends.full full).device.reads))
 
 pub returns-clause-errors : goal.returns-clause-errors
 returns-clause-errors g c =
-    subst (λ (v : ThreadView). ThreadReportsErrors v.kept (kept_in_order g.D.BlockDevice c.self.inside.order c.commit-outcome.new.dev (set c.self.inside.pairs.items c.args.index c.commit-outcome.new.pair) c.self.inside.map) c.commit-outcome.result) c.self.view_is
-    (reported_from g.D.BlockDevice c.self.inside.order c.self.inside.device c.commit-outcome.new.dev c.self.inside.pairs.items (set c.self.inside.pairs.items c.args.index c.commit-outcome.new.pair) c.self.inside.map c.self.inside.map c.commit-outcome.result
+    subst (λ (v : ThreadView). ThreadReportsErrors v.kept (kept_in_order g.D.BlockDevice c.self.inside.parts.order c.commit-outcome.new.dev (set c.self.inside.parts.pairs.items c.args.index c.commit-outcome.new.pair) c.self.inside.parts.map) c.commit-outcome.result) c.self.view_is
+    (reported_from g.D.BlockDevice c.self.inside.parts.order c.self.inside.parts.device c.commit-outcome.new.dev c.self.inside.parts.pairs.items (set c.self.inside.parts.pairs.items c.args.index c.commit-outcome.new.pair) c.self.inside.parts.map c.self.inside.parts.map c.commit-outcome.result
     (reports_of c.index_mut-pair.result.now c.commit-outcome.new.pair c.commit-outcome.ensures.error c.commit-outcome.ensures.faults))
 
 pub returns-clause-device : goal.returns-clause-device
 returns-clause-device g c =
     let works = ap (λ (v : ThreadView). v.failed) c.self.view_is ∙ c.requires.works in
-    let can = can_change c.self.inside.order (kept_of_device g.D.BlockDevice c.self.inside.device c.self.inside.pairs.items c.self.inside.map) c.args.index (changes_view c.args.changes.now) (subst (λ (v : ThreadView). CanChangePair v.kept c.args.index (changes_view c.args.changes.now)) (sym c.self.view_is) c.requires.can) in
-    let disk = disk_of_device g.D.BlockDevice c.self.inside.device in
-    let a = at_there disk c.self.inside.pairs.items c.args.index c.index_mut-pair.result.now can.below c.index_mut-pair.ensures.value in
+    let can = can_change c.self.inside.parts.order (kept_of_device g.D.BlockDevice c.self.inside.parts.device c.self.inside.parts.pairs.items c.self.inside.parts.map) c.args.index (changes_view c.args.changes.now) (subst (λ (v : ThreadView). CanChangePair v.kept c.args.index (changes_view c.args.changes.now)) (sym c.self.view_is) c.requires.can) in
+    let disk = disk_of_device g.D.BlockDevice c.self.inside.parts.device in
+    let a = at_there disk c.self.inside.parts.pairs.items c.args.index c.index_mut-pair.result.now can.below c.index_mut-pair.ensures.value in
     let new = c.commit-outcome.new in
-    let reading = reading_there disk (g.D.BlockDevice.history c.self.inside.device) c.self.inside.pairs.items c.self.inside.map c.args.index c.index_mut-pair.result.now a (c.self.invariant works).0
-    g.D.BlockDevice c.self.inside.device new.dev address_blocks 1 c.self.inside.cache (c.as_deref.ensures.value ∙ c.take_cached_pair-held.ensures.bytes) c.commit-outcome.ensures.device in
-    subst (λ (v : ThreadView). ChangesWithinReads (1 + reads_unless_cached (cached_log v c.args.index)) (address_blocks (thread_pair v.kept c.args.index).at) v.kept (kept_in_order g.D.BlockDevice c.self.inside.order new.dev (set c.self.inside.pairs.items c.args.index new.pair) c.self.inside.map)) c.self.view_is
-    (reading_from g.D.BlockDevice c.self.inside.order c.self.inside.device new.dev c.self.inside.pairs.items (set c.self.inside.pairs.items c.args.index new.pair) c.self.inside.map c.self.inside.map _ reading)
+    let reading = reading_there disk (g.D.BlockDevice.history c.self.inside.parts.device) c.self.inside.parts.pairs.items c.self.inside.parts.map c.args.index c.index_mut-pair.result.now a (c.self.invariant works).0
+    g.D.BlockDevice c.self.inside.parts.device new.dev address_blocks 1 c.self.inside.parts.cache (c.as_deref.ensures.value ∙ c.take_cached_pair-held.ensures.bytes) c.commit-outcome.ensures.device in
+    subst (λ (v : ThreadView). ChangesWithinReads (1 + reads_unless_cached (cached_log v c.args.index)) (address_blocks (thread_pair v.kept c.args.index).at) v.kept (kept_in_order g.D.BlockDevice c.self.inside.parts.order new.dev (set c.self.inside.parts.pairs.items c.args.index new.pair) c.self.inside.parts.map)) c.self.view_is
+    (reading_from g.D.BlockDevice c.self.inside.parts.order c.self.inside.parts.device new.dev c.self.inside.parts.pairs.items (set c.self.inside.parts.pairs.items c.args.index new.pair) c.self.inside.parts.map c.self.inside.parts.map _ reading)
 
 pub returns-clause-stops : goal.returns-clause-stops
 returns-clause-stops g c cleanly =
     let works = ap (λ (v : ThreadView). v.failed) c.self.view_is ∙ c.requires.works in
-    let can = can_change c.self.inside.order (kept_of_device g.D.BlockDevice c.self.inside.device c.self.inside.pairs.items c.self.inside.map) c.args.index (changes_view c.args.changes.now) (subst (λ (v : ThreadView). CanChangePair v.kept c.args.index (changes_view c.args.changes.now)) (sym c.self.view_is) c.requires.can) in
-    let a = at_there (disk_of_device g.D.BlockDevice c.self.inside.device) c.self.inside.pairs.items c.args.index c.index_mut-pair.result.now can.below c.index_mut-pair.ensures.value in
+    let can = can_change c.self.inside.parts.order (kept_of_device g.D.BlockDevice c.self.inside.parts.device c.self.inside.parts.pairs.items c.self.inside.parts.map) c.args.index (changes_view c.args.changes.now) (subst (λ (v : ThreadView). CanChangePair v.kept c.args.index (changes_view c.args.changes.now)) (sym c.self.view_is) c.requires.can) in
+    let a = at_there (disk_of_device g.D.BlockDevice c.self.inside.parts.device) c.self.inside.parts.pairs.items c.args.index c.index_mut-pair.result.now can.below c.index_mut-pair.ensures.value in
     subst (λ (v : ThreadView). CleanLossLeaves v.kept.history (g.D.BlockDevice.history c.commit-outcome.new.dev) (LossLeavesPair v.kept c.args.index (changes_view c.args.changes.now))) c.self.view_is
-    (λ clean. HoldsAtLosses-weaker (λ left l. left_changed_in c.self.inside.order (kept_of_device g.D.BlockDevice c.self.inside.device c.self.inside.pairs.items c.self.inside.map) c.args.index (changes_view c.args.changes.now) left
-    (left_in_thread _ _ c.self.inside.pairs.items c.self.inside.map c.args.index _ _ left a (c.self.invariant works).0 can.content can.made l)) (c.commit-outcome.ensures.stops clean))
+    (λ clean. HoldsAtLosses-weaker (λ left l. left_changed_in c.self.inside.parts.order (kept_of_device g.D.BlockDevice c.self.inside.parts.device c.self.inside.parts.pairs.items c.self.inside.parts.map) c.args.index (changes_view c.args.changes.now) left
+    (left_in_thread _ _ c.self.inside.parts.pairs.items c.self.inside.parts.map c.args.index _ _ left a (c.self.invariant works).0 can.content can.made l)) (c.commit-outcome.ensures.stops clean))
     cleanly

@@ -9,17 +9,17 @@ use Rattle.lfs_thread.proofs.thread.Thread.read_known_list.Goals as goal
 pub invariant_of-self : goal.invariant_of-self
 invariant_of-self g c works =
     let e = c.read_part_cached.ensures in (
-      subst (λ d. IsKeptOnDisk d (g.D.BlockDevice.history c.read_part_cached.new.device) c.self.inside.pairs.items c.self.inside.map) (sym (ap₂ disk_of_blocks e.reading.device.geometry e.reading.device.same))
-          (kept_read _ _ _ _ c.self.inside.pairs.items c.self.inside.map e.reading.device.reads (c.self.invariant works).0),
+      subst (λ d. IsKeptOnDisk d (g.D.BlockDevice.history c.read_part_cached.new.device) c.self.inside.parts.pairs.items c.self.inside.parts.map) (sym (ap₂ disk_of_blocks e.reading.device.geometry e.reading.device.same))
+          (kept_read _ _ _ _ c.self.inside.parts.pairs.items c.self.inside.parts.map e.reading.device.reads (c.self.invariant works).0),
       e.current,
     )
 
 pub invariant_of-self-2 : goal.invariant_of-self-2
 invariant_of-self-2 g c works =
     let e = c.read_at.ensures.reading in (
-      subst (λ d. IsKeptOnDisk d (g.D.BlockDevice.history c.read_at.new.dev) c.self.inside.pairs.items c.self.inside.map) (sym (ap₂ disk_of_blocks e.device.geometry e.device.same))
-          (kept_read _ _ _ _ c.self.inside.pairs.items c.self.inside.map e.device.reads (c.self.invariant works).0),
-      subst (λ bs. IsCacheCurrent bs c.self.inside.cache) (sym e.device.same) (c.self.invariant works).1,
+      subst (λ d. IsKeptOnDisk d (g.D.BlockDevice.history c.read_at.new.dev) c.self.inside.parts.pairs.items c.self.inside.parts.map) (sym (ap₂ disk_of_blocks e.device.geometry e.device.same))
+          (kept_read _ _ _ _ c.self.inside.parts.pairs.items c.self.inside.parts.map e.device.reads (c.self.invariant works).0),
+      subst (λ bs. IsCacheCurrent bs c.self.inside.parts.cache) (sym e.device.same) (c.self.invariant works).1,
     )
 
 -- where a read ends tells nothing of the blocks
@@ -38,7 +38,7 @@ pub returns-then-goes_on-clause-few : goal.returns-then-goes_on-clause-few
 returns-then-goes_on-clause-few g c =
     let noted : KnownBlocks = record { indices = c.args.known.now.indices; blocks = c.args.known.now.blocks; end = c.args.pos + c.min.result } in
     subst (λ (t : ThreadView). OnOk c.read_part_cached.result (ReadsKnownList t.kept.disk.block_size c.args.size c.args.pos (length c.args.buf.now) c.args.known.now noted t.kept.history (g.D.BlockDevice.history c.read_part_cached.new.device))) c.self.view_is
-    (on_ok c.read_part_cached.result (as_noted _ _ _ _ _ c.args.known.now noted _ _ (c.in-Some.ensures.few (g.D.BlockDevice.history c.self.inside.device) (g.D.BlockDevice.history c.read_part_cached.new.device) c.read_part_cached.ensures.few.few)))
+    (on_ok c.read_part_cached.result (as_noted _ _ _ _ _ c.args.known.now noted _ _ (c.in-Some.ensures.few (g.D.BlockDevice.history c.self.inside.parts.device) (g.D.BlockDevice.history c.read_part_cached.new.device) c.read_part_cached.ensures.few.few)))
 
 pub returns-clause-few : goal.returns-clause-few
 returns-clause-few g c =

@@ -8,5 +8,5 @@ returns g c =
     let works = ap (λ (v : ThreadView). v.failed) c.self.view_is ∙ c.requires.works in
     let kept = (c.self.invariant works).0 in
     c.headers_gstate.ensures ∙ ap (λ (hs : List PairHeader). fold gstate_xor zero_gstate (map (λ (p : PairHeader). move_view p.move_state) hs)) c.deref.ensures.value
-    ∙ state_is (disk_of_device g.D.BlockDevice c.self.inside.device) (g.D.BlockDevice.history c.self.inside.device) c.self.inside.pairs.items kept.each
+    ∙ state_is (disk_of_device g.D.BlockDevice c.self.inside.parts.device) (g.D.BlockDevice.history c.self.inside.parts.device) c.self.inside.parts.pairs.items kept.each
     ∙ ap (λ (v : ThreadView). pairs_gstate v.kept.pairs) c.self.view_is

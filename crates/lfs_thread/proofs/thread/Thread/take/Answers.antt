@@ -5,4 +5,4 @@ pub invariant_of-self : goal.invariant_of-self
 invariant_of-self g c works =
     let was = c.self.invariant works in
     let e = c.take.ensures in
-    (kept_taken _ _ _ c.self.inside.map _ c.take.result e.was_free e.taken e.same was.0, was.1)
+    (kept_taken _ _ _ c.self.inside.parts.map _ c.take.result e.was_free e.taken e.same was.0, was.1)

@@ -7,4 +7,4 @@ pub invariant_of-self : goal.invariant_of-self
 invariant_of-self g c works =
     let was = c.self.invariant works in
     let free = subst (λ (v : ThreadView). IsFree v.kept.map c.args.block) (sym c.self.view_is) c.requires in
-    (kept_with _ _ _ c.self.inside.map _ c.args.block InFlight c.take_at.ensures (free_unused c.self.inside.map c.args.block free) was.0, was.1)
+    (kept_with _ _ _ c.self.inside.parts.map _ c.args.block InFlight c.take_at.ensures (free_unused c.self.inside.parts.map c.args.block free) was.0, was.1)

@@ -1,5 +1,5 @@
 -- What a rename across pairs onto a directory leaves with what it held.
-use Rattle.lfs_operations.proofs.Common.{ℕ, ◌-◌, ◌<◌, ◌≤◌, ◌⊎◌, inl, inr, true, ◌∷◌, ◌++◌, arith, cases_lt, IsFree, IsPairAt, Name, zero_gstate, pairs_blocks, address_blocks, addresses_blocks, Contains-number_occurrences, number_occurrences-Contains, number_occurrences, count_append, each_counted, KeptThread, ChangesThreadBlocks, empty_anchor, thread_pair, Contains, WritesTouchedFree, IsPairDropped, WritesPairsTwo, second_step_pair, CanReplaceDirectoryAcross, IsMovedAcross}
+use Rattle.lfs_operations.proofs.Common.{ℕ, ◌-◌, ◌<◌, ◌≤◌, ◌⊎◌, inl, inr, true, ◌∷◌, ◌++◌, arith, cases_lt, IsFree, IsPairAt, Name, zero_gstate, pairs_blocks, address_blocks, Contains-number_occurrences, number_occurrences-Contains, number_occurrences, count_append, each_counted, KeptThread, ChangesThreadBlocks, empty_anchor, thread_pair, Contains, WritesTouchedFree, IsPairDropped, WritesPairsTwo, second_step_pair, CanReplaceDirectoryAcross, IsMovedAcross, Route, route_blocks}
 use Rattle.lfs_operations.proofs.AlteredAcross.{each_known}
 use Rattle.lfs_operations.proofs.AlteredLater.{onto_known}
 use Rattle.lfs_operations.proofs.AlteredOnto.{last_known}
@@ -8,8 +8,8 @@ use Rattle.lfs_operations.proofs.OntoWritten.{there_counted}
 use Rattle.lfs_operations.proofs.Putting.{writes_trans, writes_among}
 use Rattle.lfs_operations.proofs.LastDrop.{end_fewer}
 
-module _ {t : KeptThread} {old_pair old_id first new_pair new_id : ℕ} {name : Name} {gone : ℕ} (rename : CanReplaceDirectoryAcross t old_pair old_id first new_pair new_id name gone) {m : KeptThread}
-    (h : IsMovedAcross t true true old_pair old_id first new_pair new_id name m) {n : ℕ} (at : IsPairAt m.pairs (thread_pair t gone).at n) {new : KeptThread} (g : IsPairDropped m (n - 1) zero_gstate new) where
+module _ {t : KeptThread} {route : Route} {name : Name} {gone : ℕ} (rename : CanReplaceDirectoryAcross t route name gone) {m : KeptThread}
+    (h : IsMovedAcross true true t route name m) {n : ℕ} (at : IsPairAt m.pairs (thread_pair t gone).at n) {new : KeptThread} (g : IsPairDropped m (n - 1) zero_gstate new) where
   -- a block of the pair that the last step writes was a pair's, or free
   before : (b : ℕ) → Contains (address_blocks (thread_pair m (n - 1)).at) b → (1 ≤ number_occurrences b (pairs_blocks t.pairs)) ⊎ IsFree t.map b
   before b own = go (cases_lt 0 (number_occurrences b (pairs_blocks t.pairs)))
@@ -26,17 +26,17 @@ module _ {t : KeptThread} {old_pair old_id first new_pair new_id : ℕ} {name : 
       go (inr l) = inr (each_counted (IsFree t.map) h.done.blocks.written.fresh h.done.blocks.written.free b
           (let k = number_occurrences-Contains (pairs_blocks t.pairs ++ h.done.blocks.written.fresh) b within in let c = count_append b (pairs_blocks t.pairs) h.done.blocks.written.fresh in omega (arith, k, c, l)))
 
-  pub altered_onto_directory : WritesPairsTwo t (second_step_pair t old_pair first) new_pair m → ChangesThreadBlocks (address_blocks (thread_pair m (n - 1)).at) m new → WritesTouchedFree t (addresses_blocks (thread_pair t old_pair).at (thread_pair t new_pair).at) new
+  pub altered_onto_directory : WritesPairsTwo t (second_step_pair t route.old_pair route.first) route.new_pair m → ChangesThreadBlocks (address_blocks (thread_pair m (n - 1)).at) m new → WritesTouchedFree t (route_blocks true t route) new
   altered_onto_directory w second =
       let y = (thread_pair m (n - 1)).at in
-      let p = (thread_pair t new_pair).at in
-      let q = (thread_pair t (second_step_pair t old_pair first)).at in
+      let p = (thread_pair t route.new_pair).at in
+      let q = (thread_pair t (second_step_pair t route.old_pair route.first)).at in
       let bs = p.0 ∷ p.1 ∷ q.0 ∷ q.1 ∷ w.fresh in
       let k = replacing_across rename h at in
       record {
         blocks = y.0 ∷ y.1 ∷ bs;
         writes = writes_trans (writes_among (λ b some. omega (arith, some)) w.writes) (writes_among (λ b some. omega (arith, some)) second);
-        each = each_known t new (addresses_blocks (thread_pair t old_pair).at p) y bs
-            (λ b own. last_known t m gone n (gone_above rename h) rename.below k new g (addresses_blocks (thread_pair t old_pair).at p) b (before b own) own)
+        each = each_known t new (route_blocks true t route) y bs
+            (λ b own. last_known t m gone n (gone_above rename h) rename.below k new g (route_blocks true t route) b (before b own) own)
             (onto_known rename.onto h (renamed_onto rename h at g).now.ready.accepted (end_fewer k new g) w);
       }

@@ -1,10 +1,11 @@
 -- What a rename across pairs leaves with what it held.
-use Rattle.lfs_operations.proofs.Common.{ℕ, ◌≡◌, ◌-◌, ◌<◌, ◌≤◌, inl, inr, Bool, false, true, List, ◌∷◌, ◌++◌, length, Option, subst, arith, Name, Pair, Path, Site, Slot, used_blocks, IsAccepted, Contains-number_occurrences, number_occurrences-Contains, number_occurrences, count_append, KeptThread, thread_pair, address_blocks, addresses_blocks, Contains, WritesTouchedFree, HasEndedMoveAt, CanEndAfterPut, ArePutAndEnded, WritesPairsTwo, second_step_pair, number_after_insertion, CanEditIn, CanRenameAcross, moving_changes, IsMovedAcross, CanReplaceEntryAcross, CanReplaceFileAcross, drops_emptied_pair, refl, IsFree, Each, each_weaker, ending_written_pair}
+use Rattle.lfs_operations.proofs.Common.{ℕ, ◌≡◌, ◌-◌, ◌<◌, ◌≤◌, inl, inr, Bool, false, true, List, ◌∷◌, length, Option, subst, arith, Name, Pair, Path, Site, Slot, used_blocks, IsAccepted, Contains-number_occurrences, number_occurrences-Contains, number_occurrences, count_append, KeptThread, thread_pair, address_blocks, addresses_blocks, Contains, WritesTouchedFree, HasEndedMoveAt, CanEndAfterPut, ArePutAndEnded, WritesPairsTwo, second_step_pair, number_after_insertion, CanEditIn, moving_changes, CanMoveAcross, IsMovedAcross, route_blocks, drops_emptied_pair, refl, IsFree, Each, each_weaker, ending_written_pair, Route}
 use Rattle.lfs_operations.proofs.AlteredAcross.{IsKnown, ended_alters, each_known}
 use Rattle.lfs_operations.proofs.Held.{below}
 use Rattle.lfs_operations.proofs.MovPlaced.{IsAimed, ends_aimed}
-use Rattle.lfs_operations.proofs.MovRename.{across_alters, aimed_new, renamed_across}
-use Rattle.lfs_operations.proofs.MovReplace.{aimed_onto, replaced_across}
+use Rattle.lfs_operations.proofs.MovLater.{new_below, renamed_across}
+use Rattle.lfs_operations.proofs.MovRename.{across_alters, aimed_new}
+use Rattle.lfs_operations.proofs.MovReplace.{aimed_onto}
 use Rattle.lfs_operations.proofs.RemovedWhole.{can_drop_file}
 
 first_of_four : (a c : ℕ × ℕ) (b : ℕ) → Contains (address_blocks a) b → Contains (addresses_blocks a c) b
@@ -18,55 +19,47 @@ old_low {t = t} {pair = pair} can = below t can.ready can.first pair can.stands.
 
 -- ---- the blocks that the steps wrote, as seen from an image behind them
 
-module _ {t m : KeptThread} {old_pair old_id first new_pair new_id : ℕ} {name : Name} {replaces sync : Bool} {old : CanEditIn t old_pair old_id} {path : Path} {w : Site} {p : Pair} {l : List Slot} {target : Option Slot} {r : List Slot}
-    (begins : old.first ≡ first) (a : IsAimed t replaces sync old_pair old_id first new_pair new_id name old path w p l target r) (is : ArePutAndEnded t old_pair old_id (drops_emptied_pair t old_pair first) new_pair (moving_changes replaces sync t old_pair old_id new_pair new_id name) m)
+module _ {t m : KeptThread} {route : Route} {name : Name} {replaces sync : Bool} {old : CanEditIn t route.old_pair route.old_id} {path : Path} {w : Site} {p : Pair} {l : List Slot} {target : Option Slot} {r : List Slot}
+    (begins : old.first ≡ route.first) (a : IsAimed replaces sync t route name old path w p l target r) (is : ArePutAndEnded t route.old_pair route.old_id (drops_emptied_pair t route.old_pair route.first) route.new_pair (moving_changes replaces sync t route name) m)
     {new : KeptThread} (now : IsAccepted new.disk new.pairs) (fewer : (b : ℕ) → number_occurrences b (used_blocks new.disk new.pairs) ≤ number_occurrences b (used_blocks m.disk m.pairs))
-    (bs : List ℕ) (within : (b : ℕ) → Contains (address_blocks (thread_pair t old_pair).at) b → Contains bs b) (entered : (b : ℕ) → Contains (address_blocks (thread_pair t new_pair).at) b → IsKnown t new bs b) where
+    (bs : List ℕ) (within : (b : ℕ) → Contains (address_blocks (thread_pair t route.old_pair).at) b → Contains bs b) (entered : (b : ℕ) → Contains (address_blocks (thread_pair t route.new_pair).at) b → IsKnown t new bs b) where
   -- the pair in front of the old one doesn't stay, where the old one is dropped
-  front_known : (b : ℕ) → Contains (address_blocks (thread_pair t (second_step_pair t old_pair first)).at) b → IsKnown t new bs b
-  front_known b = go (drops_emptied_pair t old_pair first) refl
+  front_known : (b : ℕ) → Contains (address_blocks (thread_pair t (second_step_pair t route.old_pair route.first)).at) b → IsKnown t new bs b
+  front_known b = go (drops_emptied_pair t route.old_pair route.first) refl
     where
-      go : (g : Bool) → drops_emptied_pair t old_pair first ≡ g → Contains (address_blocks (thread_pair t (ending_written_pair old_pair g)).at) b → IsKnown t new bs b
+      go : (g : Bool) → drops_emptied_pair t route.old_pair route.first ≡ g → Contains (address_blocks (thread_pair t (ending_written_pair route.old_pair g)).at) b → IsKnown t new bs b
       go false stays own = inl (within b own)
       go true whole own = inr (inl (record {
-        index = old_pair - 1;
+        index = route.old_pair - 1;
         below = (let low = old_low old in omega (arith, low));
         own = own;
-        alters = ended_alters t is.mid m new old_pair old_id new_pair (can_drop_file t old_pair old_id first old begins whole).above (old_low old) old.ready.accepted
-            (subst (λ b. CanEndAfterPut t old_pair old_id b new_pair is.mid) whole (ends_aimed a is.mid is.put))
-            (subst (λ b. HasEndedMoveAt is.mid (number_after_insertion old_pair new_pair (length is.mid.pairs - length t.pairs)) old_id b m) whole is.ended) now fewer;
+        alters = ended_alters t is.mid m new route.old_pair route.old_id route.new_pair (can_drop_file t route.old_pair route.old_id route.first old begins whole).above (old_low old) old.ready.accepted
+            (subst (λ b. CanEndAfterPut t route.old_pair route.old_id b route.new_pair is.mid) whole (ends_aimed a is.mid is.put))
+            (subst (λ b. HasEndedMoveAt is.mid (number_after_insertion route.old_pair route.new_pair (length is.mid.pairs - length t.pairs)) route.old_id b m) whole is.ended) now fewer;
       }))
 
-  steps_known : (w : WritesPairsTwo t (second_step_pair t old_pair first) new_pair m) → Each (IsKnown t new bs)
-      ((thread_pair t new_pair).at.0 ∷ (thread_pair t new_pair).at.1 ∷ (thread_pair t (second_step_pair t old_pair first)).at.0 ∷ (thread_pair t (second_step_pair t old_pair first)).at.1 ∷ w.fresh)
-  steps_known w = each_known t new bs (thread_pair t new_pair).at ((thread_pair t (second_step_pair t old_pair first)).at.0 ∷ (thread_pair t (second_step_pair t old_pair first)).at.1 ∷ w.fresh) entered
-      (each_known t new bs (thread_pair t (second_step_pair t old_pair first)).at w.fresh front_known (each_weaker (IsFree t.map) (IsKnown t new bs) (λ b f. inr (inr f)) w.fresh w.free))
-
--- to a name that is new there
-pub altered_new : {t new : KeptThread} {old_pair old_id first new_pair new_id : ℕ} {name : Name} (rename : CanRenameAcross t old_pair old_id first new_pair new_id name) → IsMovedAcross t false false old_pair old_id first new_pair new_id name new
-    → WritesPairsTwo t (second_step_pair t old_pair first) new_pair new → WritesTouchedFree t (address_blocks (thread_pair t old_pair).at) new
-altered_new {t = t} {old_pair = old_pair} {old_id = old_id} {first = first} {new_pair = new_pair} {new_id = new_id} {name = name} rename h w = record {
-  blocks = _;
-  writes = w.writes;
-  each = steps_known rename.begins_old (aimed_new false t old_pair old_id first new_pair new_id name rename h.address) h.done (renamed_across rename h).now.ready.accepted (λ b. omega arith) (address_blocks (thread_pair t old_pair).at) (λ b own. own)
-      (λ b own. inr (inl (record {
-        index = new_pair;
-        below = below t rename.old.ready rename.to_first new_pair rename.belongs.pair (rename.belongs.later ++ rename.belongs.rest) rename.belongs.place;
-        own = own;
-        alters = across_alters rename h;
-      }))) w;
-}
+  steps_known : (w : WritesPairsTwo t (second_step_pair t route.old_pair route.first) route.new_pair m) → Each (IsKnown t new bs)
+      ((thread_pair t route.new_pair).at.0 ∷ (thread_pair t route.new_pair).at.1 ∷ (thread_pair t (second_step_pair t route.old_pair route.first)).at.0 ∷ (thread_pair t (second_step_pair t route.old_pair route.first)).at.1 ∷ w.fresh)
+  steps_known w = each_known t new bs (thread_pair t route.new_pair).at ((thread_pair t (second_step_pair t route.old_pair route.first)).at.0 ∷ (thread_pair t (second_step_pair t route.old_pair route.first)).at.1 ∷ w.fresh) entered
+      (each_known t new bs (thread_pair t (second_step_pair t route.old_pair route.first)).at w.fresh front_known (each_weaker (IsFree t.map) (IsKnown t new bs) (λ b f. inr (inr f)) w.fresh w.free))
 
 -- onto an entry
-pub onto_known : {sync : Bool} {t m new : KeptThread} {old_pair old_id first new_pair new_id : ℕ} {name : Name} (rename : CanReplaceEntryAcross t sync old_pair old_id first new_pair new_id name) → IsMovedAcross t true sync old_pair old_id first new_pair new_id name m
-    → IsAccepted new.disk new.pairs → ((b : ℕ) → number_occurrences b (used_blocks new.disk new.pairs) ≤ number_occurrences b (used_blocks m.disk m.pairs)) → (w : WritesPairsTwo t (second_step_pair t old_pair first) new_pair m)
-    → Each (IsKnown t new (addresses_blocks (thread_pair t old_pair).at (thread_pair t new_pair).at))
-    ((thread_pair t new_pair).at.0 ∷ (thread_pair t new_pair).at.1 ∷ (thread_pair t (second_step_pair t old_pair first)).at.0 ∷ (thread_pair t (second_step_pair t old_pair first)).at.1 ∷ w.fresh)
-onto_known {sync = sync} {t = t} {old_pair = old_pair} {old_id = old_id} {first = first} {new_pair = new_pair} {new_id = new_id} {name = name} rename h now fewer w =
-    let a = (thread_pair t old_pair).at in
-    let c = (thread_pair t new_pair).at in
-    steps_known rename.begins_old (aimed_onto sync t old_pair old_id first new_pair new_id name rename h.address) h.done now fewer (addresses_blocks (thread_pair t old_pair).at (thread_pair t new_pair).at) (first_of_four a c) (λ b own. inl (second_of_four a c b own)) w
+pub onto_known : {sync : Bool} {t m new : KeptThread} {route : Route} {name : Name} (rename : CanMoveAcross true sync t route name) → IsMovedAcross true sync t route name m
+    → IsAccepted new.disk new.pairs → ((b : ℕ) → number_occurrences b (used_blocks new.disk new.pairs) ≤ number_occurrences b (used_blocks m.disk m.pairs)) → (w : WritesPairsTwo t (second_step_pair t route.old_pair route.first) route.new_pair m)
+    → Each (IsKnown t new (route_blocks true t route))
+    ((thread_pair t route.new_pair).at.0 ∷ (thread_pair t route.new_pair).at.1 ∷ (thread_pair t (second_step_pair t route.old_pair route.first)).at.0 ∷ (thread_pair t (second_step_pair t route.old_pair route.first)).at.1 ∷ w.fresh)
+onto_known {sync = sync} {t = t} {route = route} {name = name} rename h now fewer w =
+    let a = (thread_pair t route.old_pair).at in
+    let c = (thread_pair t route.new_pair).at in
+    steps_known rename.begins_old (aimed_onto sync t route name rename h.address) h.done now fewer (route_blocks true t route) (first_of_four a c) (λ b own. inl (second_of_four a c b own)) w
 
-pub altered_onto_file : {t m : KeptThread} {old_pair old_id first new_pair new_id : ℕ} {name : Name} (rename : CanReplaceFileAcross t old_pair old_id first new_pair new_id name) → IsMovedAcross t true false old_pair old_id first new_pair new_id name m
-    → WritesPairsTwo t (second_step_pair t old_pair first) new_pair m → WritesTouchedFree t (addresses_blocks (thread_pair t old_pair).at (thread_pair t new_pair).at) m
-altered_onto_file rename h w = record { blocks = _; writes = w.writes; each = onto_known rename h (replaced_across rename h).now.ready.accepted (λ b. omega arith) w }
+-- to a new name, or onto a file
+pub altered_across : (replaces : Bool) {t new : KeptThread} {route : Route} {name : Name} (rename : CanMoveAcross replaces false t route name) → IsMovedAcross replaces false t route name new
+    → WritesPairsTwo t (second_step_pair t route.old_pair route.first) route.new_pair new → WritesTouchedFree t (route_blocks replaces t route) new
+altered_across false {t = t} {route = route} {name = name} rename h w = record {
+  blocks = _;
+  writes = w.writes;
+  each = steps_known rename.begins_old (aimed_new false t route name rename h.address) h.done (renamed_across rename h).now.ready.accepted (λ b. omega arith) (route_blocks false t route) (λ b own. own)
+      (λ b own. inr (inl (record { index = route.new_pair; below = new_below false false t route name rename; own = own; alters = across_alters rename h }))) w;
+}
+altered_across true rename h w = record { blocks = _; writes = w.writes; each = onto_known rename h (renamed_across rename h).now.ready.accepted (λ b. omega arith) w }

@@ -83,6 +83,7 @@ pub use Rattle.lfs_model.specs.tree.Profile.{HasNoEmpties, IsWritable, IsWritabl
 pub use Rattle.lfs_model.specs.tree.Shown.{IsReachedBySome, LeadsTo, all_directories, all_entries, all_unmoved_slots, disk_tree, struct_blocks, used_blocks}
 pub use Rattle.lfs_model.specs.tree.Tree.{DirectoryNode, EntryMap, FileNode, Path, Tree, address_at_path, branch_address}
 pub use Rattle.lfs_model.specs.tree.View.{BeginsWith, BeginsWithSuperblock, HasKind, HasValidMove, IsAccepted, IsEntry, IsFormedList, IsThreadEntry, IsTreeEntry, first_pair_slots, first_slot_name, superblock_entry}
+pub use Rattle.lfs_operations.specs.declared.moves.Route.{Route}
 pub use Rattle.lfs_operations.specs.Altering.{IsTouchedBlock, WritesTouchedFree}
 pub use Rattle.lfs_operations.specs.Changing.{ArePut, AreTwoFree, CanCommit, CanPut, HasTwoFree, IsPairSplit, IsPairTouched, IsSplitInto, LeftByPut, LeftBySplit, OverfillsPair, ReportsPut, ReportsSpaceErrors, ReportsTakingCommit, TakesAtMostTwo, WritesPairTwo, WritesThreadTwo, has_failed_after, map_taking_two}
 pub use Rattle.lfs_operations.specs.Creating.{CanCreateIn, IsFileCreated, creation_changes, tree_with_file}
@@ -93,13 +94,12 @@ pub use Rattle.lfs_operations.specs.Editing.{CanEditIn, CanSetAttribute, HasRemo
 pub use Rattle.lfs_operations.specs.EndingMove.{CanEndMove, HasEndedMove, HasMovedSlot, KeepsRecoveryLayouts, drops_when_emptied}
 pub use Rattle.lfs_operations.specs.Making.{AreBothTouched, CanLinkPairAfter, CanMakeAt, FitsNewTail, HasFreeBlocks, IsDirectoryMade, ReportsMaking, WritesPairsFour, directory_entry_changes, entry_changes, threading_changes, tree_with_directory}
 pub use Rattle.lfs_operations.specs.MoveEnds.{CanEndMoveAt, HasEndedMoveAt, content_move_ended, continues_directory, delta_without_move, ending_dropped_blocks, ending_changes, map_move_ended, pairs_move_ended, ending_written_pair}
-pub use Rattle.lfs_operations.specs.MovingAcross.{CanRenameAcross, IsRenamedAcross, removal_changes, moving_changes, tree_moved}
-pub use Rattle.lfs_operations.specs.MovingOnto.{CanMoveAcross, CanReplaceDirectoryAcross, CanReplaceEntryAcross, CanReplaceFileAcross, IsFileReplaced, IsMovedAcross, entry_across_changes, tree_across}
+pub use Rattle.lfs_operations.specs.MovingAcross.{CanMoveAcross, CanReplaceDirectoryAcross, IsMovedAcross, IsRenamedAcross, moving_changes, removal_changes, route_blocks, tree_moved}
 pub use Rattle.lfs_operations.specs.MovingSteps.{CanEndAfterPut, CanPutAndEnd, ArePutAndEnded, ReportsTakingCommits, SurvivesCommits, WritesPairsTwo, WritesThreadFree, number_after_insertion, second_step_pair}
 pub use Rattle.lfs_operations.specs.Ready.{AreUsedUnsettled, AddsNoneInFlight, IsRawFormed, IsReadyImage, KeepsRootNumber, KeepsTakenStates, ShowsReadyTree, ShowsUnsettledTree}
 pub use Rattle.lfs_operations.specs.Recovering.{CanClearSync, CanDropPairs, HasDroppedRecovered, IsSyncCleared, ReportsRecovery, gstate_while_dropping, numbered_list_blocks, numbered_slots}
 pub use Rattle.lfs_operations.specs.Removing.{CanRemoveIn, IsFileRemoved, ReportsCommit, drops_emptied_pair, tree_without_entry, removal_written_address}
-pub use Rattle.lfs_operations.specs.Renaming.{CanRenameInPair, IsRenamedInPair, tree_renamed_here, CanRenameOnto, CanRenameWithin, CompletesRename, IsRenamedOnto, IsRenamedWithin, ReportsReadPut, id_after_removal, tree_renamed, renaming_changes}
+pub use Rattle.lfs_operations.specs.Renaming.{CanRenameInPair, IsRenamedInPair, CompletesRename, ReportsReadPut, id_after_removal, tree_renamed, renaming_changes}
 pub use Rattle.lfs_operations.specs.RenamingOver.{CanRenameOver, CanReplaceDirectory, IsDirectoryReplaced, IsRenamedOver, ReportsReadCommit, ReportsReadCommits, replace_directory_changes}
 pub use Rattle.lfs_operations.specs.RenamingSlots.{HasSlot, nameless_at}
 pub use Rattle.lfs_model.specs.layers.SlotChanges.{NamelessSlot, attribute_changes, nameless_of, slot_changes}

@@ -1,7 +1,7 @@
 -- A rename across pairs after the old slot was read.
-use Rattle.lfs_operations.proofs.Common.{ℕ, ◌≡◌, ◌⊎◌, ◌<◌, length, inl, inr, Bool, true, false, List, ◌∷◌, ◌++◌, Option, None, Some, Result, Err, refl, sym, ap, ap₂, subst, ◌∙◌, arith, ContentChange, PutMove, Disk, Blocks, Slot, Pair, Site, Gstate, Path, Tree, gstate_xor, pairs_blocks, with_blocks, HasEitherTree, fault_count, Name, SurvivesLossSince, disk_tree, AreWords, survives_then, HoldsAtLosses-weaker, OnlyReadsSince-trans, KeptThread, ThreadView, ThreadReportsErrors, OnlyReadsThread, thread_pair, IfErr, Error, Io, NoMemory, ArePut, LeftByPut, OverfillsPair, HasTwoFree, has_failed_after, CanEditIn, CanEndAfterPut, ArePutAndEnded, SurvivesCommits, ReportsTakingCommits, WritesPairsTwo, tree_moved, CanMoveAcross, removal_changes, moving_changes, tree_across, gstate_naming, IsReadyImage, nameless_at, NamelessSlot, slot_changes}
+use Rattle.lfs_operations.proofs.Common.{ℕ, ◌≡◌, ◌⊎◌, ◌<◌, length, inl, inr, Bool, true, false, List, ◌∷◌, ◌++◌, Option, None, Some, Result, Err, refl, sym, ap, ap₂, subst, ◌∙◌, arith, ContentChange, PutMove, Disk, Blocks, Slot, Pair, Site, Gstate, Tree, gstate_xor, pairs_blocks, with_blocks, HasEitherTree, fault_count, Name, SurvivesLossSince, disk_tree, AreWords, survives_then, HoldsAtLosses-weaker, OnlyReadsSince-trans, KeptThread, ThreadView, ThreadReportsErrors, OnlyReadsThread, thread_pair, IfErr, Error, Io, NoMemory, ArePut, LeftByPut, OverfillsPair, HasTwoFree, has_failed_after, CanEndAfterPut, ArePutAndEnded, SurvivesCommits, ReportsTakingCommits, WritesPairsTwo, CanMoveAcross, removal_changes, moving_changes, gstate_naming, IsReadyImage, nameless_at, NamelessSlot, slot_changes, IsMovedAcross, IsRenamedAcross, Route, file_blocks, target_slots, struct_blocks, append-nil}
 use Rattle.lfs_operations.proofs.Held.{below}
-use Rattle.lfs_operations.proofs.MovPlaced.{IsAimed}
+use Rattle.lfs_operations.proofs.MovPlaced.{IsAimed, completed_moved, once_moved, shows_moved}
 use Rattle.lfs_operations.proofs.MovRename.{aimed_new}
 use Rattle.lfs_operations.proofs.MovReplace.{aimed_onto}
 use Rattle.lfs_operations.proofs.MovReporting.{writes_first, reports_spaced}
@@ -11,11 +11,11 @@ use Rattle.lfs_operations.proofs.RenameReadOver.{writes_earlier, reported_again}
 
 -- ---- the steps
 
-pub changes_are : {t mid : KeptThread} (only : OnlyReadsThread t mid) (replaces sync : Bool) (old_pair old_id new_pair new_id : ℕ) (name : Name) {cs : List ContentChange} {m : Gstate} {z : NamelessSlot} → cs ≡ PutMove m ∷ (removal_changes replaces new_id ++ slot_changes new_id name z)
-    → m ≡ gstate_xor (gstate_naming sync (thread_pair mid old_pair).at old_id) (thread_pair mid new_pair).content.move → z ≡ nameless_at t old_pair old_id → cs ≡ moving_changes replaces sync t old_pair old_id new_pair new_id name
-changes_are {t = t} {mid = mid} only replaces sync old_pair old_id new_pair new_id name are move parts =
-    are ∙ ap₂ (λ m z. PutMove m ∷ (removal_changes replaces new_id ++ slot_changes new_id name z))
-    (move ∙ ap (λ k. gstate_xor (gstate_naming sync (thread_pair k old_pair).at old_id) (thread_pair k new_pair).content.move) (read_is t mid only)) parts
+pub changes_are : {t mid : KeptThread} (only : OnlyReadsThread t mid) (replaces sync : Bool) (route : Route) (name : Name) {cs : List ContentChange} {m : Gstate} {z : NamelessSlot} → cs ≡ PutMove m ∷ (removal_changes replaces route.new_id ++ slot_changes route.new_id name z)
+    → m ≡ gstate_xor (gstate_naming sync (thread_pair mid route.old_pair).at route.old_id) (thread_pair mid route.new_pair).content.move → z ≡ nameless_at t route.old_pair route.old_id → cs ≡ moving_changes replaces sync t route name
+changes_are {t = t} {mid = mid} only replaces sync route name are move parts =
+    are ∙ ap₂ (λ m z. PutMove m ∷ (removal_changes replaces route.new_id ++ slot_changes route.new_id name z))
+    (move ∙ ap (λ k. gstate_xor (gstate_naming sync (thread_pair k route.old_pair).at route.old_id) (thread_pair k route.new_pair).content.move) (read_is t mid only)) parts
 
 pub ends_after_read : {t mid last : KeptThread} (only : OnlyReadsThread t mid) {old_pair old_id : ℕ} {goes : Bool} {new_pair : ℕ} → CanEndAfterPut t old_pair old_id goes new_pair last → CanEndAfterPut mid old_pair old_id goes new_pair last
 ends_after_read {t = t} {mid = mid} {last = last} only {old_pair = old_pair} {old_id = old_id} {goes = goes} {new_pair = new_pair} x =
@@ -52,37 +52,36 @@ module _ {t mid new : KeptThread} (only : OnlyReadsThread t mid) {new_pair : ℕ
 
 -- ---- where the entry comes
 
-pub old_of : (t : KeptThread) (replaces sync : Bool) (old_pair old_id first new_pair new_id : ℕ) (name : Name) → CanMoveAcross t replaces sync old_pair old_id first new_pair new_id name → CanEditIn t old_pair old_id
-old_of t false sync old_pair old_id first new_pair new_id name rename = rename.old
-old_of t true sync old_pair old_id first new_pair new_id name rename = rename.old
+pub address_before : {t mid : KeptThread} → OnlyReadsThread t mid → (pair : ℕ) → AreWords (thread_pair mid pair).at → AreWords (thread_pair t pair).at
+address_before {t = t} {mid = mid} only pair address = subst (λ k. AreWords (thread_pair k pair).at) (read_is t mid only) address
 
 -- there is a pair of the new number
-pub new_below : (t : KeptThread) (replaces sync : Bool) (old_pair old_id first new_pair new_id : ℕ) (name : Name) → CanMoveAcross t replaces sync old_pair old_id first new_pair new_id name → new_pair < length t.pairs
-new_below t false sync old_pair old_id first new_pair new_id name rename = below t rename.old.ready rename.to_first new_pair rename.belongs.pair (rename.belongs.later ++ rename.belongs.rest) rename.belongs.place
-new_below t true sync old_pair old_id first new_pair new_id name rename = below t rename.old.ready rename.to_first new_pair rename.target.pair rename.target.rest rename.target.place
+pub new_below : (replaces sync : Bool) (t : KeptThread) (route : Route) (name : Name) → CanMoveAcross replaces sync t route name → route.new_pair < length t.pairs
+new_below false sync t route name rename = let b = rename.target.belongs in below t rename.old.ready rename.to_first route.new_pair b.pair (b.later ++ b.rest) b.place
+new_below true sync t route name rename = let b = rename.target.there in below t rename.old.ready rename.to_first route.new_pair b.pair b.rest b.place
 
 -- what is known of it, to a new name and onto an entry
-pub record HasAim (t : KeptThread) (replaces sync : Bool) (old_pair old_id first new_pair new_id : ℕ) (name : Name) (after : Tree) : Type 0 where
-  pub old : CanEditIn t old_pair old_id
-  pub path : Path
+pub record HasAim (replaces sync : Bool) (t : KeptThread) (route : Route) (name : Name) (rename : CanMoveAcross replaces sync t route name) : Type 0 where
   pub w : Site
   pub p : Pair
   pub l : List Slot
   pub target : Option Slot
   pub r : List Slot
-  pub aimed : IsAimed t replaces sync old_pair old_id first new_pair new_id name old path w p l target r
-  pub is : tree_moved t old.path old.name path name ≡ after
+  pub aimed : IsAimed replaces sync t route name rename.old rename.path w p l target r
+  pub blocks : file_blocks t.disk (target_slots target) ≡ rename.gone
 
-pub aim : {t mid : KeptThread} → OnlyReadsThread t mid → (replaces sync : Bool) (old_pair old_id first new_pair new_id : ℕ) (name : Name) (rename : CanMoveAcross t replaces sync old_pair old_id first new_pair new_id name) → AreWords (thread_pair mid old_pair).at
-    → HasAim t replaces sync old_pair old_id first new_pair new_id name (tree_across t replaces sync old_pair old_id first new_pair new_id name rename)
-aim {t = t} {mid = mid} only replaces sync old_pair old_id first new_pair new_id name rename address = go replaces rename
-  where
-    there : AreWords (thread_pair t old_pair).at
-    there = subst (λ k. AreWords (thread_pair k old_pair).at) (read_is t mid only) address
+pub aim : (replaces sync : Bool) (t : KeptThread) (route : Route) (name : Name) (rename : CanMoveAcross replaces sync t route name) → AreWords (thread_pair t route.old_pair).at → HasAim replaces sync t route name rename
+aim false sync t route name rename address = record { w = _; p = _; l = _; target = None; r = _; aimed = aimed_new sync t route name rename address; blocks = sym rename.target.none }
+aim true sync t route name rename address =
+    let g = rename.target.there.stands.slot in
+    record { w = _; p = _; l = _; target = Some g; r = _; aimed = aimed_onto sync t route name rename address; blocks = append-nil (struct_blocks t.disk g.struct) ∙ rename.target.blocks }
 
-    go : (replaces : Bool) (rename : CanMoveAcross t replaces sync old_pair old_id first new_pair new_id name) → HasAim t replaces sync old_pair old_id first new_pair new_id name (tree_across t replaces sync old_pair old_id first new_pair new_id name rename)
-    go false rename = record { old = rename.old; path = rename.path; w = _; p = _; l = _; target = None; r = _; aimed = aimed_new sync t old_pair old_id first new_pair new_id name rename there; is = refl }
-    go true rename = record { old = rename.old; path = rename.path; w = _; p = _; l = _; target = Some rename.target.stands.slot; r = _; aimed = aimed_onto sync t old_pair old_id first new_pair new_id name rename there; is = refl }
+pub renamed_across : {replaces : Bool} {t new : KeptThread} {route : Route} {name : Name} (rename : CanMoveAcross replaces false t route name) → IsMovedAcross replaces false t route name new
+    → IsRenamedAcross t new rename.old.path rename.old.name rename.path name rename.gone
+renamed_across {replaces = replaces} {t = t} {new = new} {route = route} {name = name} rename h =
+    let at = aim replaces false t route name rename h.address in
+    subst (IsRenamedAcross t new rename.old.path rename.old.name rename.path name) at.blocks
+    (record { now = shows_moved at.aimed h.done refl; once = once_moved at.aimed h.done; completed = completed_moved at.aimed h.done refl })
 
 -- ---- what it tells
 

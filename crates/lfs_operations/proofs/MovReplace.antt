@@ -1,16 +1,16 @@
 -- A rename across pairs onto an entry, from where both stand.
-use Rattle.lfs_operations.proofs.Common.{Bool, ℕ, ◌+◌, ◌≤◌, true, false, List, [], ◌∷◌, ◌++◌, length, Some, refl, sym, ap, subst, ◌∙◌, append-nil, Disk, IsPlaceOf, AreWords, Name, Slot, gstate_xor, Pair, Path, tree_renaming, without_prefix, struct_blocks, LeadsTo, used_blocks, IsChangedImage, no_move_from, number_occurrences, site, slot_of_stands, Site, thread_at, KeptThread, thread_pair, CanEditIn, gstate_naming, tree_moved, CanReplaceEntryAcross, CanReplaceFileAcross, IsFileReplaced, ShowsDroppedTree, IsMovedAcross}
+use Rattle.lfs_operations.proofs.Common.{Bool, true, List, [], ◌∷◌, ◌++◌, length, Some, sym, ap, subst, ◌∙◌, Disk, IsPlaceOf, AreWords, Name, Slot, gstate_xor, Pair, Path, tree_renaming, without_prefix, LeadsTo, IsChangedImage, no_move_from, site, slot_of_stands, Site, thread_at, KeptThread, thread_pair, CanEditIn, gstate_naming, CanMoveAcross, Route}
 use Rattle.lfs_model.proofs.SetMoves.{HasTurned, set_onto, walk_by}
 use Rattle.lfs_operations.proofs.RenameMade.{name_at, site_of, stand_of}
-use Rattle.lfs_operations.proofs.MovPlaced.{IsAimed, IsPlaceInOtherPair, completed_moved, once_moved, setting, shows_moved, aimed}
+use Rattle.lfs_operations.proofs.MovPlaced.{IsAimed, IsPlaceInOtherPair, setting, aimed}
 use Rattle.lfs_operations.proofs.PairAt.{HasPairAt, pair_at}
 
-module _ (sync : Bool) (t : KeptThread) (old_pair old_id first new_pair new_id : ℕ) (name : Name) (rename : CanReplaceEntryAcross t sync old_pair old_id first new_pair new_id name) (address : AreWords (thread_pair t old_pair).at) where
-  abbrev can : CanEditIn t old_pair old_id
+module _ (sync : Bool) (t : KeptThread) (route : Route) (name : Name) (rename : CanMoveAcross true sync t route name) (address : AreWords (thread_pair t route.old_pair).at) where
+  abbrev can : CanEditIn t route.old_pair route.old_id
   can = rename.old
 
-  abbrev b : IsPlaceOf t.pairs rename.to_first name new_pair new_id
-  b = rename.target
+  abbrev b : IsPlaceOf t.pairs rename.to_first name route.new_pair route.new_id
+  b = rename.target.there
 
   abbrev p : Pair
   p = b.pair
@@ -20,12 +20,12 @@ module _ (sync : Bool) (t : KeptThread) (old_pair old_id first new_pair new_id :
   g = b.stands.slot
 
   abbrev w : Site
-  w = site t.disk t.pairs rename.path rename.at can.ready.accepted rename.leads rename.to_first new_pair p b.rest b.place rename.begins
+  w = site t.disk t.pairs rename.path rename.at can.ready.accepted rename.leads rename.to_first route.new_pair p b.rest b.place rename.begins
 
-  stand : HasPairAt t new_pair rename.path rename.at w p
-  stand = pair_at t can.ready rename.path rename.at rename.leads rename.to_first new_pair p b.rest b.place rename.begins
+  stand : HasPairAt t route.new_pair rename.path rename.at w p
+  stand = pair_at t can.ready rename.path rename.at rename.leads rename.to_first route.new_pair p b.rest b.place rename.begins
 
-  aim : IsPlaceInOtherPair t old_pair old_id new_pair new_id can rename.path rename.at w p b.stands.left (Some g) b.stands.right name
+  aim : IsPlaceInOtherPair t route can rename.path rename.at w p b.stands.left (Some g) b.stands.right name
   aim = record {
     logged = record { ready = can.ready; first = rename.to_first; rest = b.rest; place = b.place; logged = rename.logged };
     stand = stand;
@@ -50,21 +50,8 @@ module _ (sync : Bool) (t : KeptThread) (old_pair old_id first new_pair new_id :
       can.path can.at (subst (λ z. LeadsTo z can.path can.at) stand.there can.leads) (stand_of can).begin rename.path rename.at stand.leads stand.begin
       g b.stands.entry (setting rename.begins_old aim) (ap (λ (n : Name). record can.stands.stands.slot { name = n }) (sym b.stands.named))
       (ap (λ (n : Name). without_prefix (can.path ++ n ∷ []) (rename.path ++ g.name ∷ [])) can.stands.stands.named
-      ∙ ap (λ (n : Name). without_prefix from (rename.path ++ n ∷ [])) b.stands.named ∙ rename.not_beneath) rename.file)
+      ∙ ap (λ (n : Name). without_prefix from (rename.path ++ n ∷ [])) b.stands.named ∙ rename.not_beneath) rename.target.file)
 
-  pub aimed_onto : IsAimed t true sync old_pair old_id first new_pair new_id name rename.old rename.path w p rename.target.stands.left (Some rename.target.stands.slot) rename.target.stands.right
+  pub aimed_onto : IsAimed true sync t route name rename.old rename.path w p rename.target.there.stands.left (Some rename.target.there.stands.slot) rename.target.there.stands.right
   aimed_onto = aimed rename.begins_old aim sync address follows
-      (slot_of_stands t.disk t.pairs rename.path rename.at can.ready.accepted rename.leads rename.to_first new_pair new_id name (no_move_from t.pairs can.ready.settled) b rename.begins) rename.file
-
--- ---- onto a file
-
-pub replaced_across : {t : KeptThread} {old_pair old_id first new_pair new_id : ℕ} {name : Name} (rename : CanReplaceFileAcross t old_pair old_id first new_pair new_id name) {new : KeptThread} → IsMovedAcross t true false old_pair old_id first new_pair new_id name new
-    → IsFileReplaced t new rename.old.path rename.old.name rename.path name rename.target.stands.slot.struct
-replaced_across {t = t} {old_pair = old_pair} {old_id = old_id} {first = first} {new_pair = new_pair} {new_id = new_id} {name = name} rename {new = new} h =
-    let a = aimed_onto false t old_pair old_id first new_pair new_id name rename h.address in
-    let blocks = append-nil (struct_blocks t.disk rename.target.stands.slot.struct) in
-    record {
-      now = subst (λ (z : List ℕ). ShowsDroppedTree t new (tree_moved t rename.old.path rename.old.name rename.path name) z) blocks (shows_moved a h.done refl);
-      once = subst (λ (z : List ℕ). (b : ℕ) → number_occurrences b (used_blocks new.disk new.pairs) + number_occurrences b z ≤ 1) blocks (once_moved a h.done);
-      completed = completed_moved a h.done refl;
-    }
+      (slot_of_stands t.disk t.pairs rename.path rename.at can.ready.accepted rename.leads rename.to_first route.new_pair route.new_id name (no_move_from t.pairs can.ready.settled) b rename.begins) rename.target.file

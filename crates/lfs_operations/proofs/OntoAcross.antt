@@ -1,5 +1,5 @@
 -- A rename across pairs onto an empty directory: where the directory's pair stands after the move, and what the last step comes to.
-use Rattle.lfs_operations.proofs.Common.{ℕ, zero, suc, ◌≡◌, ◌<◌, ◌⊎◌, inl, inr, ◌-◌, Bool, true, false, cond, nat_eq, slice_get, take, List, [], ◌∷◌, ◌++◌, length, map, Some, None, sym, ap, ap₂, subst, ◌∙◌, arith, append_assoc, append-nil, refl, AllByRecursion, IsDistinct, recursion_from_All, same_Some, last_name, tree_renaming, without_prefix, Blocks, IsPairAt, IsPlaceOf, FitsPair, IsUnreachedOrRemoved, Name, HasEitherTree as IsLeftOf, with_blocks, slot_of, pair_with_slots, Branch, Ctz, Inline, Slot, Struct, gstate_xor, zero_gstate, same_pair, path_or_root, ThreadDirectory, Pair, anchor_address, pairs_blocks, pairs_from_root, first_address, pairs_gstate, root_address, count_before_root, Path, branch_address, address_at_path, HasNoEmpties, IsWritable, IsAccepted, IsReachedBySome, LeadsTo, all_directories, all_entries, disk_tree, used_blocks, SameSlots, IsChangedImage, CompletesOperation, no_move_from, recovered_from, Each, number_occurrences, count_append, each_right, each_weaker, HasDirectory, chain_of_thread, site_shows, NoneGoes, joined_parts, none_where, rest_all, entry_only, get_here, place_at, shown_before, shown_behind, some_filled, pair_itself, pair_on, last_is, Gains, Keeps, Piece, Stays, olds_of, segment_of, renamed_addresses, IsReplaced, avoids_behind, avoids_front, same, site, drafts_of, parts_of, AnyByRecursion, Site, dirs_at, thread_at, file_blocks, IsWritableChange, IsChain, pairs_behind, OldStays, from_old, two, KeptThread, empty_anchor, thread_pair, HasNoMove, Any, all_at_firsts, begins_at_firsts, CanDropAt, IsPairDropped, LeftByDrop, CanEditIn, HasEndedMoveAt, gstate_naming, ArePutAndEnded, number_after_insertion, IsRenamedAcross, tree_moved, CanReplaceDirectoryAcross, IsMovedAcross, entry_across_changes, drops_emptied_pair, WritesPairsTwo, WritesThreadTwo, second_step_pair, CanReplaceEntryAcross}
+use Rattle.lfs_operations.proofs.Common.{ℕ, zero, suc, ◌≡◌, ◌<◌, ◌⊎◌, inl, inr, ◌-◌, Bool, true, false, cond, nat_eq, slice_get, take, List, [], ◌∷◌, ◌++◌, length, map, Some, None, sym, ap, ap₂, subst, ◌∙◌, arith, append_assoc, append-nil, refl, AllByRecursion, IsDistinct, recursion_from_All, same_Some, last_name, tree_renaming, without_prefix, Blocks, IsPairAt, IsPlaceOf, FitsPair, IsUnreachedOrRemoved, Name, HasEitherTree as IsLeftOf, with_blocks, slot_of, pair_with_slots, Branch, Ctz, Inline, Slot, Struct, gstate_xor, zero_gstate, same_pair, path_or_root, ThreadDirectory, Pair, anchor_address, pairs_blocks, pairs_from_root, first_address, pairs_gstate, root_address, count_before_root, Path, branch_address, address_at_path, HasNoEmpties, IsWritable, IsAccepted, IsReachedBySome, LeadsTo, all_directories, all_entries, disk_tree, used_blocks, SameSlots, IsChangedImage, CompletesOperation, no_move_from, recovered_from, Each, number_occurrences, count_append, each_right, each_weaker, HasDirectory, chain_of_thread, site_shows, NoneGoes, joined_parts, none_where, rest_all, entry_only, get_here, place_at, shown_before, shown_behind, some_filled, pair_itself, pair_on, last_is, Gains, Keeps, Piece, Stays, olds_of, segment_of, renamed_addresses, IsReplaced, avoids_behind, avoids_front, same, site, drafts_of, parts_of, AnyByRecursion, Site, dirs_at, thread_at, file_blocks, IsWritableChange, IsChain, pairs_behind, OldStays, from_old, two, KeptThread, empty_anchor, thread_pair, HasNoMove, Any, all_at_firsts, begins_at_firsts, CanDropAt, IsPairDropped, LeftByDrop, CanEditIn, HasEndedMoveAt, gstate_naming, ArePutAndEnded, number_after_insertion, IsRenamedAcross, tree_moved, CanReplaceDirectoryAcross, CanMoveAcross, IsMovedAcross, moving_changes, drops_emptied_pair, WritesPairsTwo, WritesThreadTwo, second_step_pair, once_from_distinct, Route}
 use Rattle.lfs_model.specs.session.TreeEdits.{same_path}
 use Rattle.lfs_model.specs.session.Layout.{branch_addresses, removed_addresses}
 use Rattle.lfs_model.specs.session.Operations as ops
@@ -34,27 +34,27 @@ somewhere [] o h = absurd h
 somewhere (x ∷ xs) o (inl e) = (0, ap Some e)
 somewhere (x ∷ xs) o (inr h) = let s = somewhere xs o h in (suc s.0, s.1)
 
-pub two_written : {t : KeptThread} {old_pair old_id first new_pair new_id : ℕ} {name : Name} {gone : ℕ} (rename : CanReplaceDirectoryAcross t old_pair old_id first new_pair new_id name gone) {m : KeptThread}
-    → WritesPairsTwo t (second_step_pair t old_pair first) new_pair m → WritesThreadTwo t m
-two_written {t = t} {old_pair = old_pair} {first = first} {new_pair = new_pair} rename {m = m} w =
+pub two_written : {t : KeptThread} {route : Route} {name : Name} {gone : ℕ} (rename : CanReplaceDirectoryAcross t route name gone) {m : KeptThread}
+    → WritesPairsTwo t (second_step_pair t route.old_pair route.first) route.new_pair m → WritesThreadTwo t m
+two_written {t = t} {route = route} rename {m = m} w =
     let can = rename.onto.old in
-    let b = rename.onto.target in
-    writes_one t m (second_step_pair t old_pair first) new_pair (end_below (length t.pairs) old_pair (drops_emptied_pair t old_pair first) (below t can.ready can.first old_pair can.stands.pair can.stands.rest can.stands.place))
-    (below t can.ready rename.onto.to_first new_pair b.pair b.rest b.place) w
+    let b = rename.onto.target.there in
+    writes_one t m (second_step_pair t route.old_pair route.first) route.new_pair (end_below (length t.pairs) route.old_pair (drops_emptied_pair t route.old_pair route.first) (below t can.ready can.first route.old_pair can.stands.pair can.stands.rest can.stands.place))
+    (below t can.ready rename.onto.to_first route.new_pair b.pair b.rest b.place) w
 
-module _ {t : KeptThread} {old_pair old_id first new_pair new_id : ℕ} {name : Name} {gone : ℕ} (rename : CanReplaceDirectoryAcross t old_pair old_id first new_pair new_id name gone) {m : KeptThread}
-    (h : IsMovedAcross t true true old_pair old_id first new_pair new_id name m) where
-  abbrev is : ArePutAndEnded t old_pair old_id (drops_emptied_pair t old_pair first) new_pair (entry_across_changes true t old_pair old_id new_pair new_id name) m
+module _ {t : KeptThread} {route : Route} {name : Name} {gone : ℕ} (rename : CanReplaceDirectoryAcross t route name gone) {m : KeptThread}
+    (h : IsMovedAcross true true t route name m) where
+  abbrev is : ArePutAndEnded t route.old_pair route.old_id (drops_emptied_pair t route.old_pair route.first) route.new_pair (moving_changes true true t route name) m
   is = h.done
 
-  abbrev onto : CanReplaceEntryAcross t true old_pair old_id first new_pair new_id name
+  abbrev onto : CanMoveAcross true true t route name
   onto = rename.onto
 
-  abbrev can : CanEditIn t old_pair old_id
+  abbrev can : CanEditIn t route.old_pair route.old_id
   can = onto.old
 
-  abbrev tb : IsPlaceOf t.pairs onto.to_first name new_pair new_id
-  tb = onto.target
+  abbrev tb : IsPlaceOf t.pairs onto.to_first name route.new_pair route.new_id
+  tb = onto.target.there
 
   abbrev p : Pair
   p = tb.pair
@@ -84,10 +84,10 @@ module _ {t : KeptThread} {old_pair old_id first new_pair new_id : ℕ} {name : 
   v = record s { name = name }
 
   abbrev wo : Site
-  wo = site t.disk t.pairs can.path can.at can.ready.accepted can.leads can.first old_pair q0 can.stands.rest can.stands.place can.begins
+  wo = site t.disk t.pairs can.path can.at can.ready.accepted can.leads can.first route.old_pair q0 can.stands.rest can.stands.place can.begins
 
   abbrev w : Site
-  w = site t.disk t.pairs onto.path onto.at can.ready.accepted onto.leads onto.to_first new_pair p tb.rest tb.place onto.begins
+  w = site t.disk t.pairs onto.path onto.at can.ready.accepted onto.leads onto.to_first route.new_pair p tb.rest tb.place onto.begins
 
   abbrev from : Path
   from = can.path ++ can.name ∷ []
@@ -96,29 +96,29 @@ module _ {t : KeptThread} {old_pair old_id first new_pair new_id : ℕ} {name : 
   to = onto.path ++ name ∷ []
 
   abbrev goes : Bool
-  goes = drops_emptied_pair t old_pair first
+  goes = drops_emptied_pair t route.old_pair route.first
 
   abbrev o : Pair
   o = thread_pair t gone
 
-  first_step : IsFirst t true old_pair goes new_pair (entry_across_changes true t old_pair old_id new_pair new_id name) wo q0 lo s ro w p l (Some g) v r from to name
-  first_step = (aimed_onto true t old_pair old_id first new_pair new_id name onto h.address).way
+  first_step : IsFirst t true route.old_pair goes route.new_pair (moving_changes true true t route name) wo q0 lo s ro w p l (Some g) v r from to name
+  first_step = (aimed_onto true t route name onto h.address).way
 
   x : TurnedTo t w p (l ++ v ∷ r) (gstate_xor (gstate_naming true q0.at (length lo)) p.content.move) is.mid
   x = first_turned first_step is.mid is.put
 
-  e : HasEndedMoveAt is.mid (number_after_insertion old_pair new_pair (length is.mid.pairs - length t.pairs)) (length lo) goes m
-  e = subst (λ i. HasEndedMoveAt is.mid (number_after_insertion old_pair new_pair (length is.mid.pairs - length t.pairs)) i goes m) (sym can.stands.stands.number) is.ended
+  e : HasEndedMoveAt is.mid (number_after_insertion route.old_pair route.new_pair (length is.mid.pairs - length t.pairs)) (length lo) goes m
+  e = subst (λ i. HasEndedMoveAt is.mid (number_after_insertion route.old_pair route.new_pair (length is.mid.pairs - length t.pairs)) i goes m) (sym can.stands.stands.number) is.ended
 
   -- ---- the directory before
 
   entry_there : slice_get (all_entries (thread_at w (p ∷ [])) onto.at) (place_at w l) ≡ Some g
   entry_there = ap (λ z. slice_get z (place_at w l)) (site_shows t.disk w p l (g ∷ []) r onto.at first_step.setting.accepted first_step.setting.site (no_move_from (thread_at w (p ∷ [])) first_step.setting.settled)
-      (same t.disk t.pairs onto.path onto.at can.ready.accepted onto.leads onto.to_first new_pair p tb.rest tb.place onto.begins) tb.stands.held
+      (same t.disk t.pairs onto.path onto.at can.ready.accepted onto.leads onto.to_first route.new_pair p tb.rest tb.place onto.begins) tb.stands.held
       ∙ ap (λ z. shown_before w l ++ (z ++ shown_behind w r)) (entry_only g tb.stands.entry)) ∙ get_here (shown_before w l) (shown_behind w r) g
 
   led_there : LeadsTo t.pairs (onto.path ++ name ∷ []) rename.to
-  led_there = led_to t can.ready onto.path onto.at onto.leads onto.to_first new_pair new_id name tb onto.begins rename.to rename.branch
+  led_there = led_to t can.ready onto.path onto.at onto.leads onto.to_first route.new_pair route.new_id name tb onto.begins rename.to rename.branch
 
   own : HasOwnPair t w.chain (dirs_at w (p ∷ [])) gone rename.to
   own = own_pair t can.ready w.chain (dirs_at w (p ∷ [])) first_step.turn.there first_step.setting.site.chain onto.path name rename.to gone led_there rename.below rename.alike rename.empty rename.alone
@@ -240,7 +240,7 @@ module _ {t : KeptThread} {old_pair old_id first new_pair new_id : ℕ} {name : 
           ∙ ap (λ z. a.front ++ ((x.q ∷ x.more) ++ z)) (joined_stays a.mid (Keeps q0 (lo ++ ro) left.os ∷ Stays a.back ∷ []) ∙ ap (λ z. a.mid ++ (left.os ++ z)) last_piece)
 
       o_fits : FitsPair t.disk (pair_with_slots (lo ++ ro) q0)
-      o_fits = fits_fewer t.disk q0 lo ro s can.stands.stands.held (fits_there t can.ready can.first old_pair q0 can.stands.rest can.stands.place)
+      o_fits = fits_fewer t.disk q0 lo ro s can.stands.stands.held (fits_there t can.ready can.first route.old_pair q0 can.stands.rest can.stands.place)
 
       known : (b : Bool) → OldStays (from_old b a.front a.mid p) q0 (lo ++ ro) left.os → AreKnown t.disk o None (pieces_of b)
       known true stays = (o_fits, stays, not_old, (x.turned.at, x.turned.is, x.turned.became, some_filled l r v, not_new, tt))
@@ -356,9 +356,10 @@ module _ {t : KeptThread} {old_pair old_id first new_pair new_id : ℕ} {name : 
             (subst (λ ds. Stood t.disk (λ y. (IsReachedBySome ps y → ⊥) ⊎ Any (λ at. same_pair y at ≡ true) ds) (length w.chain) None (w.chain ++ drafts_of (map segment_of cut.all)) new.pairs) (sym (removes given to_given given_is to_is)) stood));
       }
 
-      pub renamed_onto : IsRenamedAcross t new can.path can.name onto.path name
+      pub renamed_onto : IsRenamedAcross t new can.path can.name onto.path name []
       renamed_onto = record {
         now = shows_dropped replacing_across new d;
+        once = λ b. let k = once_from_distinct (used_blocks new.disk new.pairs) (shows_dropped replacing_across new d).ready.accepted.owned_once b in omega (arith, k);
         completed = λ z given to_given tree given_is to_is. subst (λ y. CompletesOperation t.disk y z (ops.Rename given to_given) new.disk new.pairs) (sym were)
             (onto_completed t.disk new.disk new.pairs a.b w.chain a.front a.mid a.back q0 p lo s ro l g r given to_given name (laid given to_given given_is to_is) z (tree ∙ ap (disk_tree t.disk) were));
       }

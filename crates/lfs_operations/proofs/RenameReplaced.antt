@@ -1,13 +1,13 @@
 -- A rename within one pair onto an entry: which slots are replaced, and what it comes to where that is a file.
-use Rattle.lfs_operations.proofs.Common.{ℕ, ◌≡◌, ◌≤◌, ◌+◌, true, List, [], ◌∷◌, ◌++◌, sym, ap, subst, ◌∙◌, append_assoc, append-nil, tree_renaming, Disk, CallEvent, HasName, Name, SurvivesLossSince, Slot, Pair, pairs_blocks, struct_blocks, disk_tree, used_blocks, IsChangedImage, IsCommit, commit_step, recovered_from, number_occurrences, renamed_addresses, Site, thread_at, CleanLossLeaves, KeptThread, CanPut, LeftByPut, ArePut, CanEditIn, ShowsUnsettledTree, CanRenameOnto, IsRenamedOnto, tree_renamed, ◌≢◌, false, Some, None, ContentChange, IsPlaceOf, Session, path_or_root, Gstate, Struct, Path, pairs_gstate, branch_address, IsStep, IsWritableEntry, AllReached, CompletesOperation, renaming_changes, Bool, CanRenameInPair, IsRenamedInPair, tree_renamed_here}
-use Rattle.lfs_operations.proofs.RenameWithin.{can_put_renamed, rename_survives, renamed_within}
+use Rattle.lfs_operations.proofs.Common.{ℕ, ◌≡◌, true, List, [], ◌∷◌, ◌++◌, sym, ap, subst, ◌∙◌, append_assoc, append-nil, tree_renaming, Disk, CallEvent, HasName, Name, SurvivesLossSince, Slot, Pair, pairs_blocks, struct_blocks, disk_tree, IsChangedImage, IsCommit, commit_step, recovered_from, renamed_addresses, Site, thread_at, CleanLossLeaves, KeptThread, LeftByPut, ArePut, CanEditIn, tree_renamed, ◌≢◌, false, Some, None, ContentChange, IsPlaceOf, Session, path_or_root, Gstate, Path, pairs_gstate, branch_address, IsStep, IsWritableEntry, AllReached, CompletesOperation, renaming_changes, Bool, CanRenameInPair, IsRenamedInPair, refl}
+use Rattle.lfs_operations.proofs.RenameWithin.{moves_within}
 use Rattle.lfs_model.proofs.RenameOntoFile.{onto_file_ahead_completed, onto_file_behind_completed}
 use Rattle.lfs_operations.proofs.Held.{here}
 use Rattle.lfs_operations.proofs.RenameMade as made
 use Rattle.lfs_operations.proofs.RenameMade.{Leaves, leaves_all, logged_of, name_at, site_of, stand_of}
 use Rattle.lfs_model.proofs.OntoTrees.{onto_ahead_follows, onto_behind_follows}
 use Rattle.lfs_operations.proofs.RenamePlaced.{with_name}
-use Rattle.lfs_operations.proofs.RenameStepped.{moved_becomes, moved_completed, moved_once, moved_survives, Renames}
+use Rattle.lfs_operations.proofs.RenameStepped.{HasMoves, moved_becomes, moved_completed, moved_once, moved_survives, Renames}
 use Rattle.lfs_operations.proofs.RenameTarget.{IsMoving, IsPlaceInPair, can_put_over, moved_changes, moving}
 use Rattle.lfs_operations.proofs.PairAt.{HasPairAt}
 use Rattle.lfs_model.specs.session.Operations as ops
@@ -117,51 +117,32 @@ module _ (t : KeptThread) (index id place : ℕ) (name : Name) (can : CanEditIn 
     moving_file = moving placed (leaves_all placed.logged) (Renames t w p can.path can.name name) (λ passed front. onto_file s.left (s.slot ∷ (passed ++ g.slot ∷ [])) (passed ++ v ∷ []) g.right (behind passed front))
         (λ passed back. onto_file g.left (g.slot ∷ (passed ++ s.slot ∷ [])) (v ∷ passed) s.right (ahead passed back))
 
-module _ (t : KeptThread) (index id place : ℕ) (name : Name) (rename : CanRenameOnto t index id place name) where
-  abbrev can : CanEditIn t index id
-  can = rename.can
-
-  abbrev struct : Struct
-  struct = rename.target.stands.slot.struct
-
-  abbrev there : Site
-  there = w t index id place name can rename.target rename.differs rename.fits
-
-  moves : IsMoving t index id place can there can.stands.pair (Some rename.target.stands.slot) name (renaming_changes true t index id place name) can.stands.pair.content.move (Renames t there can.stands.pair can.path can.name name)
-  moves = moving_file t index id place name can rename.target rename.differs rename.fits rename.file
-
-  can_put_replaced : CanPut t index (renaming_changes true t index id place name)
-  can_put_replaced =
-      let k = placed t index id place name can rename.target rename.differs rename.fits in
-      can_put_over k (leaves_all k.logged) moves.x moves.y moves.over
-
-  renamed_onto : (new : KeptThread) → ArePut t index (renaming_changes true t index id place name) new → IsRenamedOnto t new rename.can.path rename.can.name name rename.target.stands.slot.struct
-  renamed_onto new is = record {
-    now = subst (λ z. ShowsUnsettledTree t new (tree_renamed t can.path can.name name) z []) (append-nil (struct_blocks t.disk struct)) (moved_becomes moves new is);
-    once = subst (λ (z : List ℕ). (b : ℕ) → number_occurrences b (used_blocks new.disk new.pairs) + number_occurrences b z ≤ 1) (append-nil (struct_blocks t.disk struct)) (moved_once moves new is);
-    completed = moved_completed moves new is;
-  }
-
-  onto_survives : (new : List CallEvent) → CleanLossLeaves t.history new (LeftByPut t index (renaming_changes true t index id place name))
-      → SurvivesLossSince t.disk t.history new (disk_tree t.disk t.pairs) (tree_renamed t rename.can.path rename.can.name name)
-  onto_survives new stops = moved_survives moves new stops
+moves_onto : (t : KeptThread) (index id place : ℕ) (name : Name) (rename : CanRenameInPair true t index id place name) → HasMoves true t index id place name rename
+moves_onto t index id place name rename =
+    let to = rename.target.there in
+    let k = placed t index id place name rename.can to (rename.differs refl) rename.fits in
+    let moves = moving_file t index id place name rename.can to (rename.differs refl) rename.fits (rename.target.file refl) in
+    record {
+      w = w t index id place name rename.can to (rename.differs refl) rename.fits;
+      p = rename.can.stands.pair;
+      target = Some to.stands.slot;
+      can_put = can_put_over k (leaves_all k.logged) moves.x moves.y moves.over;
+      moves = moves;
+      blocks = append-nil (struct_blocks t.disk to.stands.slot.struct) ∙ rename.target.blocks;
+    }
 
 -- ---- to a new name, or onto a file
 
-pub edits : (replaces : Bool) (t : KeptThread) (index id place : ℕ) (name : Name) → CanRenameInPair replaces t index id place name → CanEditIn t index id
-edits false t index id place name rename = rename.can
-edits true t index id place name rename = rename.can
+pub moves_here : (replaces : Bool) (t : KeptThread) (index id place : ℕ) (name : Name) (rename : CanRenameInPair replaces t index id place name) → HasMoves replaces t index id place name rename
+moves_here false t index id place name rename = moves_within t index id place name rename
+moves_here true t index id place name rename = moves_onto t index id place name rename
 
-pub can_put_here : (replaces : Bool) (t : KeptThread) (index id place : ℕ) (name : Name) → CanRenameInPair replaces t index id place name → CanPut t index (renaming_changes replaces t index id place name)
-can_put_here false t index id place name rename = can_put_renamed t index id place name rename
-can_put_here true t index id place name rename = can_put_replaced t index id place name rename
+module _ (replaces : Bool) (t : KeptThread) (index id place : ℕ) (name : Name) (rename : CanRenameInPair replaces t index id place name) where
+  pub renamed_here : (new : KeptThread) → ArePut t index (renaming_changes replaces t index id place name) new → IsRenamedInPair t new rename.can.path rename.can.name name rename.gone
+  renamed_here new is =
+      let m = moves_here replaces t index id place name rename in
+      subst (IsRenamedInPair t new rename.can.path rename.can.name name) m.blocks (record { now = moved_becomes m.moves new is; once = moved_once m.moves new is; completed = moved_completed m.moves new is })
 
-pub renamed_here : (replaces : Bool) (t : KeptThread) (index id place : ℕ) (name : Name) (rename : CanRenameInPair replaces t index id place name) (new : KeptThread)
-    → ArePut t index (renaming_changes replaces t index id place name) new → IsRenamedInPair replaces t index id place name rename new
-renamed_here false t index id place name rename new is = renamed_within t index id place name rename new is
-renamed_here true t index id place name rename new is = renamed_onto t index id place name rename new is
-
-pub survives_here : (replaces : Bool) (t : KeptThread) (index id place : ℕ) (name : Name) (rename : CanRenameInPair replaces t index id place name) (new : List CallEvent)
-    → CleanLossLeaves t.history new (LeftByPut t index (renaming_changes replaces t index id place name)) → SurvivesLossSince t.disk t.history new (disk_tree t.disk t.pairs) (tree_renamed_here replaces t index id place name rename)
-survives_here false t index id place name rename new stops = rename_survives t index id place name rename new stops
-survives_here true t index id place name rename new stops = onto_survives t index id place name rename new stops
+  pub survives_here : (new : List CallEvent) → CleanLossLeaves t.history new (LeftByPut t index (renaming_changes replaces t index id place name))
+      → SurvivesLossSince t.disk t.history new (disk_tree t.disk t.pairs) (tree_renamed t rename.can.path rename.can.name name)
+  survives_here new stops = moved_survives (moves_here replaces t index id place name rename).moves new stops

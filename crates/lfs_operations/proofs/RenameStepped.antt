@@ -1,5 +1,5 @@
 -- A rename within one pair as a step of the thread, whatever is replaced by whatever.
-use Rattle.lfs_operations.proofs.Common.{ℕ, ◌≡◌, ◌≤◌, ◌+◌, List, [], ◌∷◌, ◌++◌, sym, ap, subst, ◌∙◌, arith, tree_renaming, ContentChange, Disk, CallEvent, Name, SurvivesLossSince, Session, Slot, path_or_root, Pair, Path, disk_tree, used_blocks, IsChangedImage, IsCommit, CompletesOperation, renamed_addresses, Site, thread_at, file_blocks, CleanLossLeaves, KeptThread, number_occurrences, LeftByPut, ArePut, ShowsUnsettledTree, CompletesRename, tree_renamed, PairContent, CanEditIn, Option, target_slots}
+use Rattle.lfs_operations.proofs.Common.{ℕ, ◌≡◌, ◌≤◌, ◌+◌, List, [], ◌∷◌, ◌++◌, sym, ap, subst, ◌∙◌, arith, tree_renaming, ContentChange, Disk, CallEvent, Name, SurvivesLossSince, Session, Slot, path_or_root, Pair, Path, disk_tree, used_blocks, IsChangedImage, IsCommit, CompletesOperation, renamed_addresses, Site, thread_at, file_blocks, CleanLossLeaves, KeptThread, number_occurrences, LeftByPut, ArePut, ShowsUnsettledTree, CompletesRename, tree_renamed, PairContent, CanEditIn, Option, target_slots, Bool, CanPut, CanRenameInPair, renaming_changes}
 use Rattle.lfs_model.specs.session.Operations as ops
 use Rattle.lfs_operations.proofs.RenamePlaced.{splicing}
 use Rattle.lfs_operations.proofs.Splicing.{IsSplicing}
@@ -48,3 +48,12 @@ module _ {t : KeptThread} {index id place : ℕ} {can : CanEditIn t index id} {w
   pub moved_survives : (new : List CallEvent) → CleanLossLeaves t.history new (LeftByPut t index changes) → SurvivesLossSince t.disk t.history new (disk_tree t.disk t.pairs) (tree_renamed t can.path can.name name)
   moved_survives new stops = survives t index changes w p m.l m.olds m.news m.r (file_blocks t.disk (target_slots target)) [] spliced (tree_renaming from to)
       (λ disk q more c. (renamed_addresses from to, m.follows.follows disk q more c.commit)) (λ e. filled m) new stops
+
+-- Which slots a rename in its pair replaces, and what it does, to a new name and onto a file.
+pub record HasMoves (replaces : Bool) (t : KeptThread) (index id place : ℕ) (name : Name) (rename : CanRenameInPair replaces t index id place name) : Type 1 where
+  pub w : Site
+  pub p : Pair
+  pub target : Option Slot
+  pub can_put : CanPut t index (renaming_changes replaces t index id place name)
+  pub moves : IsMoving t index id place rename.can w p target name (renaming_changes replaces t index id place name) p.content.move (Renames t w p rename.can.path rename.can.name name)
+  pub blocks : file_blocks t.disk (target_slots target) ≡ rename.gone

@@ -1,20 +1,19 @@
 -- A rename within one pair to a name that is new.
-use Rattle.lfs_operations.proofs.Common.{ℕ, ◌≡◌, List, [], ◌∷◌, ◌++◌, sym, ap, subst, ◌∙◌, append-nil, tree_renaming, CallEvent, BelongsAt, HasName, Name, SurvivesLossSince, Slot, Pair, all_entries, disk_tree, IsChangedImage, no_move_from, place_at, IsPlace, renamed_addresses, place_of_belongs, site, Site, thread_at, CleanLossLeaves, KeptThread, CanPut, LeftByPut, ArePut, CanEditIn, CanRenameWithin, IsRenamedWithin, tree_renamed, false, None, Path, Disk, IsCommit, renaming_changes}
+use Rattle.lfs_operations.proofs.Common.{ℕ, ◌≡◌, List, [], ◌∷◌, ◌++◌, sym, ap, subst, ◌∙◌, append-nil, tree_renaming, BelongsAt, HasName, Name, Slot, Pair, all_entries, IsChangedImage, no_move_from, place_at, IsPlace, renamed_addresses, place_of_belongs, site, Site, thread_at, KeptThread, CanEditIn, false, None, Path, Disk, IsCommit, renaming_changes, CanRenameInPair}
 use Rattle.lfs_model.proofs.RenameSteps.{ahead_follows, behind_follows, renamed_ahead_completed, renamed_behind_completed}
 use Rattle.lfs_operations.proofs.Held.{here}
 use Rattle.lfs_operations.proofs.RenameMade.{leaves_all}
 use Rattle.lfs_operations.proofs.RenamePlaced.{with_name}
-use Rattle.lfs_operations.proofs.RenameStepped.{moved_becomes, moved_completed, moved_survives, Renames}
-use Rattle.lfs_operations.proofs.Stepped.{ready_again}
+use Rattle.lfs_operations.proofs.RenameStepped.{HasMoves, Renames}
 use Rattle.lfs_operations.proofs.PairAt.{HasPairAt, pair_at}
 use Rattle.lfs_operations.proofs.RenameTarget.{IsMoving, IsPlaceInPair, can_put_over, moving}
 
-module _ (t : KeptThread) (index id place : ℕ) (name : Name) (rename : CanRenameWithin t index id place name) where
+module _ (t : KeptThread) (index id place : ℕ) (name : Name) (rename : CanRenameInPair false t index id place name) where
   abbrev can : CanEditIn t index id
   can = rename.can
 
   abbrev b : BelongsAt t.disk.order t.pairs can.first name index place
-  b = rename.belongs
+  b = rename.target.belongs
 
   abbrev p : Pair
   p = b.pair
@@ -44,7 +43,7 @@ module _ (t : KeptThread) (index id place : ℕ) (name : Name) (rename : CanRena
     number = b.number;
     front = b.fronted;
     apart = tt;
-    named = rename.is_name;
+    named = rename.target.is_name;
     fits = rename.fits;
   }
 
@@ -88,12 +87,5 @@ module _ (t : KeptThread) (index id place : ℕ) (name : Name) (rename : CanRena
   moves : IsMoving t index id place can w p None name (renaming_changes false t index id place name) p.content.move (Renames t w p can.path can.name name)
   moves = moving placed (leaves_all placed.logged) (Renames t w p can.path can.name name) behind ahead
 
-  pub can_put_renamed : CanPut t index (renaming_changes false t index id place name)
-  can_put_renamed = can_put_over placed (leaves_all placed.logged) moves.x moves.y moves.over
-
-  pub renamed_within : (new : KeptThread) → ArePut t index (renaming_changes false t index id place name) new → IsRenamedWithin t new rename.can.path rename.can.name name
-  renamed_within new is = record { now = ready_again t new (tree_renamed t can.path can.name name) (moved_becomes moves new is); completed = moved_completed moves new is }
-
-  pub rename_survives : (new : List CallEvent) → CleanLossLeaves t.history new (LeftByPut t index (renaming_changes false t index id place name))
-      → SurvivesLossSince t.disk t.history new (disk_tree t.disk t.pairs) (tree_renamed t rename.can.path rename.can.name name)
-  rename_survives new stops = moved_survives moves new stops
+  pub moves_within : HasMoves false t index id place name rename
+  moves_within = record { w = w; p = p; target = None; can_put = can_put_over placed (leaves_all placed.logged) moves.x moves.y moves.over; moves = moves; blocks = sym rename.target.none }

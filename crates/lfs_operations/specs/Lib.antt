@@ -9,7 +9,6 @@ pub mod Removing
 pub mod MoveEnds
 pub mod MovingSteps
 pub mod MovingAcross
-pub mod MovingOnto
 pub mod Making
 pub mod RenamingSlots
 pub mod RenamingView

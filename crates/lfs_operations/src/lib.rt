@@ -20,7 +20,7 @@ mod wear;
 
 pub use attributes::{remove_attribute, set_attribute};
 pub use directory_removals::remove_directory;
-pub use moves::{Route, rename_across_pairs, replace_directory_across, replace_file_across};
+pub use moves::{Route, rename_across, replace_directory_across};
 pub use new_directories::make_directory;
 pub use new_files::create_file;
 pub use recovery::{drop_unreached_pairs, end_move};

@@ -1,13 +1,13 @@
 // Slots that move from one pair into another.
 
-ghost use Rattle.std.specs.Prelude.{◌≡◌, ◌<◌, ◌-◌, ◌^◌, ◌∷◌, ◌++◌, true, false, length, IfOk, OnOk};
+ghost use Rattle.std.specs.Prelude.{◌≡◌, ◌<◌, ◌-◌, ◌^◌, [], ◌∷◌, ◌++◌, true, false, length, IfOk, OnOk};
 ghost use Rattle.lfs_model.specs.layers.Changes.{PutMove};
 ghost use Rattle.lfs_model.specs.format.Slots.{gstate_xor};
 ghost use Rattle.lfs_operations.specs.RenamingView.{slot_copy_view};
 ghost use Rattle.lfs_model.specs.layers.SlotChanges.{slot_changes};
 ghost use Rattle.lfs_model.specs.layers.LoggedContent.{AreWords};
 ghost use Rattle.lfs_model.specs.crash.PowerLoss.{SurvivesLossSince};
-ghost use Rattle.lfs_model.specs.format.Thread.{pairs_gstate, address_blocks, addresses_blocks};
+ghost use Rattle.lfs_model.specs.format.Thread.{pairs_gstate, address_blocks};
 ghost use Rattle.lfs_model.specs.tree.Shown.{disk_tree};
 ghost use Rattle.lfs_tag.specs.FieldsView.{move_view};
 ghost use Rattle.lfs_thread.specs.ThreadSteps.{ChangesThreadBlocks, thread_pair};
@@ -17,8 +17,7 @@ ghost use Rattle.lfs_operations.specs.Changing.{WritesThreadTwo};
 ghost use Rattle.lfs_operations.specs.MoveEnds.{CanEndMoveAt, HasEndedMoveAt, ending_written_pair, delta_without_move};
 ghost use Rattle.lfs_model.specs.layers.StepResults.{gstate_naming, gstate_without_move};
 ghost use Rattle.lfs_operations.specs.MovingSteps.{CanPutAndEnd, ArePutAndEnded, SurvivesCommits, ReportsTakingCommits, WritesPairsTwo, second_step_pair, number_after_insertion};
-ghost use Rattle.lfs_operations.specs.MovingAcross.{CanRenameAcross, IsRenamedAcross, across_changes, removal_changes, moving_changes, tree_moved};
-ghost use Rattle.lfs_operations.specs.MovingOnto.{CanMoveAcross, CanReplaceFileAcross, CanReplaceDirectoryAcross, IsMovedAcross, IsFileReplaced, entry_across_changes, file_across_changes, tree_across};
+ghost use Rattle.lfs_operations.specs.MovingAcross.{CanMoveAcross, CanReplaceDirectoryAcross, IsMovedAcross, IsRenamedAcross, moving_changes, removal_changes, route_blocks, tree_moved};
 ghost use Rattle.lfs_operations.specs.Removing.{ReportsCommit};
 
 use crate::changes::{change_or_split, commit_fitting};
@@ -219,23 +218,23 @@ fn moving_changes<'a>(
 }
 
 // Puts a copy of an entry into another pair, and sets a move that names the old slot. Then it
-// removes the old slot, and ends the move. With `replaces` the slot that is at the place goes first,
-// and with `sync` the sync bit is set with the move.
+// removes the old slot, and ends the move. With `replaces` the slot that is at the place goes
+// first, and with `sync` the sync bit is set with the move.
 fn move_across<D: BlockDevice>(
     alloc: Global,
     thread: &mut Thread<D>,
     route: Route,
-    name: &[u8],
     replaces: bool,
     sync: bool,
+    name: &[u8],
 ) -> Result<(), Error>
     requires works { thread.old.failed ≡ false }
-    requires can { CanMoveAcross thread.old.kept replaces sync route.old_pair route.old_id route.first route.new_pair route.new_id name.now }
-    ensures moved { OnOk result (IsMovedAcross thread.old.kept replaces sync route.old_pair route.old_id route.first route.new_pair route.new_id name.now thread.new.kept) }
-    ensures errors { ReportsTakingCommits thread.old thread.new route.new_pair (moving_changes replaces sync thread.old.kept route.old_pair route.old_id route.new_pair route.new_id name.now) result }
+    requires can { CanMoveAcross replaces sync thread.old.kept route name.now }
+    ensures moved { OnOk result (IsMovedAcross replaces sync thread.old.kept route name.now thread.new.kept) }
+    ensures errors { ReportsTakingCommits thread.old thread.new route.new_pair (moving_changes replaces sync thread.old.kept route name.now) result }
     ensures device { WritesPairsTwo thread.old.kept (second_step_pair thread.old.kept route.old_pair route.first) route.new_pair thread.new.kept }
-    ensures survives { (rename : CanMoveAcross thread.old.kept replaces sync route.old_pair route.old_id route.first route.new_pair route.new_id name.now) → SurvivesLossSince thread.old.kept.disk thread.old.kept.history thread.new.kept.history
-        (disk_tree thread.old.kept.disk thread.old.kept.pairs) (tree_across thread.old.kept replaces sync route.old_pair route.old_id route.first route.new_pair route.new_id name.now rename) }
+    ensures survives { (rename : CanMoveAcross replaces sync thread.old.kept route name.now) → SurvivesLossSince thread.old.kept.disk thread.old.kept.history thread.new.kept.history
+        (disk_tree thread.old.kept.disk thread.old.kept.pairs) (tree_moved thread.old.kept rename.old.path rename.old.name rename.path name.now) }
 {
     let goes = drops_with_slot(thread, route.old_pair, route.first);
     let copy = copy_pair_slot(alloc, thread, route.old_pair, route.old_id)?;
@@ -244,91 +243,67 @@ fn move_across<D: BlockDevice>(
     put_and_end(alloc, thread, route, goes, &changes)
 }
 
-/// Renames an entry of one pair to a name that belongs at an id of another pair, in the same
-/// directory or another one. The entry keeps its struct and its attributes (DESIGN.md of littlefs,
-/// "The move problem"). That takes two commits. The first puts a copy of the entry under its new
-/// name, and sets a move that names the old slot. From then on the old slot counts as gone. The
-/// second removes the old slot and ends the move.
+/// Renames an entry of one pair to a name that belongs at an id of another pair, or with `replaces`
+/// onto the file that is there. The pairs are of one directory or of two. The entry keeps its
+/// struct and its attributes (DESIGN.md of littlefs, "The move problem"). That takes two commits.
+/// The first puts a copy of the entry under its new name, and sets a move that names the old slot.
+/// From then on the old slot counts as gone. The second removes the old slot and ends the move. The
+/// blocks of the file's list stay used in the map; the caller frees them.
 ///
-/// An old pair that has no other
-/// slot, and isn't that first pair, is dropped with the slot. A new pair without room is split into
-/// itself and two free blocks.
+/// An old pair that has no other slot, and isn't the first pair of its directory, is dropped with
+/// the slot. A new pair without room is split into itself and two free blocks.
 ///
 /// Errors: `NoSpace` where the new pair has no room and fewer than two blocks are free; everything
 /// is as it was then. `Io` where a call of the device failed. `NoMemory` where memory for the
 /// pairs' slots, a copy of the entry and the pairs' blocks isn't granted. After `Io` and `NoMemory`
 /// the thread works on where the entry couldn't be read. Else it has failed, and the device may be
 /// between the two commits, where it shows the new tree.
-pub fn rename_across_pairs<D: BlockDevice>(
+pub fn rename_across<D: BlockDevice>(
     alloc: Global,
     thread: &mut Thread<D>,
     route: Route,
+    replaces: bool,
     name: &[u8],
 ) -> Result<(), Error>
     requires works { thread.old.failed ≡ false }
-    requires can { CanRenameAcross thread.old.kept route.old_pair route.old_id route.first route.new_pair route.new_id name.now }
-    ensures renamed { OnOk result ((rename : CanRenameAcross thread.old.kept route.old_pair route.old_id route.first route.new_pair route.new_id name.now)
-        → IsRenamedAcross thread.old.kept thread.new.kept rename.old.path rename.old.name rename.path name.now) }
-    ensures alters { OnOk result (WritesTouchedFree thread.old.kept (address_blocks (thread_pair thread.old.kept route.old_pair).at) thread.new.kept) }
-    ensures errors { ReportsTakingCommits thread.old thread.new route.new_pair (across_changes thread.old.kept route.old_pair route.old_id route.new_pair route.new_id name.now) result }
+    requires can { CanMoveAcross replaces false thread.old.kept route name.now }
+    ensures renamed { OnOk result ((rename : CanMoveAcross replaces false thread.old.kept route name.now)
+        → IsRenamedAcross thread.old.kept thread.new.kept rename.old.path rename.old.name rename.path name.now rename.gone) }
+    ensures alters { OnOk result (WritesTouchedFree thread.old.kept (route_blocks replaces thread.old.kept route) thread.new.kept) }
+    ensures errors { ReportsTakingCommits thread.old thread.new route.new_pair (moving_changes replaces false thread.old.kept route name.now) result }
     ensures device { WritesPairsTwo thread.old.kept (second_step_pair thread.old.kept route.old_pair route.first) route.new_pair thread.new.kept }
-    ensures survives { (rename : CanRenameAcross thread.old.kept route.old_pair route.old_id route.first route.new_pair route.new_id name.now) → SurvivesLossSince thread.old.kept.disk thread.old.kept.history thread.new.kept.history
+    ensures survives { (rename : CanMoveAcross replaces false thread.old.kept route name.now) → SurvivesLossSince thread.old.kept.disk thread.old.kept.history thread.new.kept.history
         (disk_tree thread.old.kept.disk thread.old.kept.pairs) (tree_moved thread.old.kept rename.old.path rename.old.name rename.path name.now) }
 {
-    move_across(alloc, thread, route, name, false, false)
-}
-
-/// Renames an entry of one pair onto a file at an id of another pair, in the same directory or
-/// another one. The entry gets the file's name, and keeps its own struct and attributes. All else
-/// is as in [`rename_across_pairs`]. The blocks of the file's list stay used in the map; the caller frees
-/// them.
-///
-/// Errors are those of [`rename_across_pairs`].
-pub fn replace_file_across<D: BlockDevice>(
-    alloc: Global,
-    thread: &mut Thread<D>,
-    route: Route,
-    name: &[u8],
-) -> Result<(), Error>
-    requires works { thread.old.failed ≡ false }
-    requires can { CanReplaceFileAcross thread.old.kept route.old_pair route.old_id route.first route.new_pair route.new_id name.now }
-    ensures replaced { OnOk result ((rename : CanReplaceFileAcross thread.old.kept route.old_pair route.old_id route.first route.new_pair route.new_id name.now)
-        → IsFileReplaced thread.old.kept thread.new.kept rename.old.path rename.old.name rename.path name.now rename.target.stands.slot.struct) }
-    ensures alters { OnOk result (WritesTouchedFree thread.old.kept (addresses_blocks (thread_pair thread.old.kept route.old_pair).at (thread_pair thread.old.kept route.new_pair).at) thread.new.kept) }
-    ensures errors { ReportsTakingCommits thread.old thread.new route.new_pair (file_across_changes thread.old.kept route.old_pair route.old_id route.new_pair route.new_id name.now) result }
-    ensures device { WritesPairsTwo thread.old.kept (second_step_pair thread.old.kept route.old_pair route.first) route.new_pair thread.new.kept }
-    ensures survives { (rename : CanReplaceFileAcross thread.old.kept route.old_pair route.old_id route.first route.new_pair route.new_id name.now) → SurvivesLossSince thread.old.kept.disk thread.old.kept.history thread.new.kept.history
-        (disk_tree thread.old.kept.disk thread.old.kept.pairs) (tree_moved thread.old.kept rename.old.path rename.old.name rename.path name.now) }
-{
-    move_across(alloc, thread, route, name, true, false)
+    move_across(alloc, thread, route, replaces, false, name)
 }
 
 /// Renames an entry of one pair onto an empty directory at an id of another pair, in the same
 /// directory or another one. The directory's own pair has number `gone` in the thread. The call
-/// works as [`replace_file_across`], with two differences. The sync bit is set with the move.
+/// works as [`rename_across`] onto a file, with two differences. The sync bit is set with the move.
 /// And a third commit drops the directory's own pair, to which no path leads any more, and clears
 /// the bit.
 ///
-/// Errors are those of [`rename_across_pairs`].
+/// Errors are those of [`rename_across`].
 pub fn replace_directory_across<D: BlockDevice>(
     alloc: Global,
     thread: &mut Thread<D>,
     route: Route,
-    name: &[u8],
     gone: usize,
+    name: &[u8],
 ) -> Result<(), Error>
     requires works { thread.old.failed ≡ false }
-    requires can { CanReplaceDirectoryAcross thread.old.kept route.old_pair route.old_id route.first route.new_pair route.new_id name.now gone }
-    ensures renamed { OnOk result ((rename : CanReplaceDirectoryAcross thread.old.kept route.old_pair route.old_id route.first route.new_pair route.new_id name.now gone)
-        → IsRenamedAcross thread.old.kept thread.new.kept rename.onto.old.path rename.onto.old.name rename.onto.path name.now) }
-    ensures alters { OnOk result (WritesTouchedFree thread.old.kept (addresses_blocks (thread_pair thread.old.kept route.old_pair).at (thread_pair thread.old.kept route.new_pair).at) thread.new.kept) }
-    ensures errors { ReportsTakingCommits thread.old thread.new route.new_pair (entry_across_changes true thread.old.kept route.old_pair route.old_id route.new_pair route.new_id name.now) result }
+    requires can { CanReplaceDirectoryAcross thread.old.kept route name.now gone }
+    ensures renamed { OnOk result ((rename : CanReplaceDirectoryAcross thread.old.kept route name.now gone)
+        → IsRenamedAcross thread.old.kept thread.new.kept rename.onto.old.path rename.onto.old.name rename.onto.path name.now []) }
+    ensures alters { OnOk result (WritesTouchedFree thread.old.kept (route_blocks true thread.old.kept route) thread.new.kept) }
+    ensures errors { ReportsTakingCommits thread.old thread.new route.new_pair (moving_changes true true thread.old.kept route name.now) result }
     ensures device { WritesThreadTwo thread.old.kept thread.new.kept }
-    ensures survives { (rename : CanReplaceDirectoryAcross thread.old.kept route.old_pair route.old_id route.first route.new_pair route.new_id name.now gone) → SurvivesLossSince thread.old.kept.disk thread.old.kept.history thread.new.kept.history
+    ensures survives { (rename : CanReplaceDirectoryAcross thread.old.kept route name.now gone) → SurvivesLossSince thread.old.kept.disk thread.old.kept.history thread.new.kept.history
         (disk_tree thread.old.kept.disk thread.old.kept.pairs) (tree_moved thread.old.kept rename.onto.old.path rename.onto.old.name rename.onto.path name.now) }
 {
     let at = thread.blocks_of_pair(gone);
-    move_across(alloc, thread, route, name, true, true)?;
+    move_across(alloc, thread, route, true, true, name)?;
     // Other pairs may have been put in or dropped before it in the thread.
     match number_at_address(thread, at) {
         Some(index) => drop_pair_at(alloc, thread, index, &MoveState::none()),

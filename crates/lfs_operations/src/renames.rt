@@ -7,7 +7,7 @@ ghost use Rattle.lfs_model.specs.tree.Shown.{disk_tree};
 ghost use Rattle.lfs_pair.specs.ChangeView.{changes_view};
 ghost use Rattle.lfs_operations.specs.Changing.{WritesPairTwo};
 ghost use Rattle.lfs_operations.specs.MovingAcross.{removal_changes};
-ghost use Rattle.lfs_operations.specs.Renaming.{CanRenameInPair, IsRenamedInPair, ReportsReadPut, id_after_removal, renaming_changes, tree_renamed_here};
+ghost use Rattle.lfs_operations.specs.Renaming.{CanRenameInPair, IsRenamedInPair, ReportsReadPut, id_after_removal, renaming_changes, tree_renamed};
 ghost use Rattle.lfs_operations.specs.RenamingView.{slot_copy_view};
 ghost use Rattle.lfs_model.specs.layers.SlotChanges.{slot_changes};
 
@@ -74,11 +74,11 @@ pub fn rename<D: BlockDevice>(
 ) -> Result<(), Error>
     requires works { thread.old.failed ≡ false }
     requires can { CanRenameInPair to.replaces thread.old.kept pair id to.id name.now }
-    ensures renamed { OnOk result ((rename : CanRenameInPair to.replaces thread.old.kept pair id to.id name.now) → IsRenamedInPair to.replaces thread.old.kept pair id to.id name.now rename thread.new.kept) }
+    ensures renamed { OnOk result ((rename : CanRenameInPair to.replaces thread.old.kept pair id to.id name.now) → IsRenamedInPair thread.old.kept thread.new.kept rename.can.path rename.can.name name.now rename.gone) }
     ensures errors { ReportsReadPut thread.old thread.new pair (renaming_changes to.replaces thread.old.kept pair id to.id name.now) result }
     ensures device { WritesPairTwo thread.old.kept pair thread.new.kept }
     ensures survives { (rename : CanRenameInPair to.replaces thread.old.kept pair id to.id name.now) → SurvivesLossSince thread.old.kept.disk thread.old.kept.history thread.new.kept.history
-        (disk_tree thread.old.kept.disk thread.old.kept.pairs) (tree_renamed_here to.replaces thread.old.kept pair id to.id name.now rename) }
+        (disk_tree thread.old.kept.disk thread.old.kept.pairs) (tree_renamed thread.old.kept rename.can.path rename.can.name name.now) }
 {
     let copy = copy_pair_slot(alloc, thread, pair, id)?;
     let changes = renaming_changes(alloc, id, to, name, &copy)?;

@@ -79,13 +79,14 @@ pub use Rattle.lfs_operations.specs.Dropping.{SameInFlight}
 pub use Rattle.lfs_operations.specs.Editing.{CanEditIn, CanSetAttribute, HasRemovedAttribute, HasSetAttribute, editable_slot, tree_setting_attributes}
 pub use Rattle.lfs_operations.specs.EndingMove.{HasEndedMove}
 pub use Rattle.lfs_operations.specs.Making.{AreBothTouched, CanMakeAt, HasFreeBlocks, IsDirectoryMade, WritesPairsFour, tree_with_directory}
-pub use Rattle.lfs_operations.specs.MovingAcross.{IsRenamedAcross, tree_moved}
+pub use Rattle.lfs_operations.specs.MovingAcross.{IsRenamedAcross, route_blocks, tree_moved}
 pub use Rattle.lfs_operations.specs.MovingSteps.{WritesPairsTwo, WritesThreadFree, second_step_pair}
 pub use Rattle.lfs_operations.specs.Ready.{IsReadyImage, IsReadyUnsettled, KeepsRootNumber}
 pub use Rattle.lfs_operations.specs.Recovering.{CanDropPairs, HasDroppedRecovered, numbered_slots}
 pub use Rattle.lfs_model.specs.layers.StepResults.{AreUnreachedFrom, AreUnreachedNumbers}
 pub use Rattle.lfs_operations.specs.Removing.{drops_emptied_pair, removal_written_address}
 pub use Rattle.lfs_operations.specs.Renaming.{tree_renamed}
+pub use Rattle.lfs_operations.specs.RenamingSlots.{IsTargetPlace}
 pub use Rattle.lfs_operations.specs.Storing.{HasStoredContents, tree_with_contents}
 pub use Rattle.lfs_operations.specs.Unlinking.{ArePairsBeforeTouched, CanRemoveDirectory, IsDirectoryRemoved}
 pub use Rattle.lfs_tag.specs.ContentView.{slot_view}
@@ -96,7 +97,7 @@ pub use Rattle.lfs_tree.specs.CreationPaths.{IsCreationResult}
 pub use Rattle.lfs_tree.specs.Formats.{IsEmptyWritable, IsFormatted}
 pub use Rattle.lfs_tree.specs.KeptFiles.{KeepsFileAt, KeepsListBytes}
 pub use Rattle.lfs_tree.specs.LostLists.{CanFreeLists, raw_slots_lists, slots_lists}
-pub use Rattle.lfs_tree.specs.MovedEntries.{CanMoveEntry, CanMoveOntoDirectory, CanMoveOntoFile, CanMoveOntoFound, CanMoveToVacant, HasMovedEntry, ThreadWorksOrReports}
+pub use Rattle.lfs_tree.specs.MovedEntries.{CanMoveEntry, CanMoveOntoDirectory, CanMoveOntoFile, CanMoveOntoFound, CanMoveTo, HasMovedEntry, HasMovedTo, ThreadWorksOrReports}
 pub use Rattle.lfs_tree.specs.OpenContents.{AreThreadContents, AreTreeContents, CanStoreContents, CanTruncateIn, CanWriteIn, IsOpenedForm, list_blocks_at, slot_blocks, writer_contents_bytes}
 pub use Rattle.lfs_tree.specs.Openings.{AreOpenedContents, CanOpenSlot, opened_form}
 pub use Rattle.lfs_tree.specs.Orphans.{DirectoriesBegin, IsNamedPair, IsStructPair, AreReachedMarked, MarksAndQueues, unmarked_count}

@@ -1,7 +1,7 @@
 -- An entry that gets another path: what is found for it, and what may be done.
 use Rattle.std.proofs.Common.{ℕ, ◌≡◌, ◌≤◌, ◌∙◌, ◌&&◌, ◌++◌, not, Bool, true, false, List, [], ◌∷◌, Option, Some, None, Result, Ok, Err, refl, sym, ap, ap₂, subst}
 use Rattle.std.specs.Prelude.{OnOk, is_some}
-use Rattle.lfs_tree.proofs.Common.{list_all, option_and_then, ltb-false, slice_get_within, AreByteBlocks, last_name, tree_renaming, without_prefix, same_path, charge_limit, CallEvent, OnlyReadsSince, fault_count, BelongsAt, Name, is_component, is_valid_name, Slot, entry_charge, path_or_root, is_root_path, Pair, pairs_gstate, count_before_root, Path, Tree, branch_address, LeadsTo, disk_tree, no_move_from, last_is, KeptThread, ThreadView, OnlyReadsThread, WritesThreadFree, CanRenamePath, tree_after_call, AppliesInPlace, HasAppliedCall, CanChangeRecovered, AppliesOrFails, IsNamedResult, SparesOutsideOperation, HasSoundImage, SurvivesEither, HasPathEntry, uncached_state, tree_summary, LeadsToPair, LeadsToResult, IsSlotBelow, CanMoveEntry, CanMoveOntoFound, CanMoveOntoFile, CanMoveOntoDirectory, CanMoveToVacant, HasMovedEntry, ThreadWorksOrReports, HasRead}
+use Rattle.lfs_tree.proofs.Common.{list_all, option_and_then, ltb-false, slice_get_within, AreByteBlocks, last_name, tree_renaming, without_prefix, same_path, charge_limit, CallEvent, OnlyReadsSince, fault_count, BelongsAt, Name, is_component, is_valid_name, Slot, entry_charge, path_or_root, is_root_path, Pair, pairs_gstate, count_before_root, Path, Tree, branch_address, LeadsTo, disk_tree, no_move_from, last_is, KeptThread, ThreadView, OnlyReadsThread, WritesThreadFree, CanRenamePath, tree_after_call, AppliesInPlace, HasAppliedCall, CanChangeRecovered, AppliesOrFails, IsNamedResult, SparesOutsideOperation, HasSoundImage, SurvivesEither, HasPathEntry, uncached_state, tree_summary, LeadsToPair, LeadsToResult, IsSlotBelow, CanMoveEntry, CanMoveOntoFound, CanMoveOntoFile, CanMoveOntoDirectory, CanMoveTo, IsStorage, Struct, struct_blocks, HasMovedEntry, ThreadWorksOrReports, HasRead}
 use Rattle.lfs_device.specs.declared.error.Error.{Error}
 use Rattle.lfs_model.specs.session.TreeEdits.{is_beneath}
 use Rattle.lfs_model.specs.session.Operations as ops
@@ -10,6 +10,7 @@ use Rattle.lfs_tree.specs.TreeCalls as call
 use Rattle.lfs_tree.specs.MovedEntries.{IsSourceAt, IsFoundSource}
 use Rattle.lfs_tree.specs.declared.renames_at.RenameSource.{RenameSource}
 use Rattle.lfs_lookup.specs.declared.entry.FileStorage.{FileStorage}
+use Rattle.lfs_lookup.specs.declared.entry.FileStorage.TheVariants as shown
 use Rattle.lfs_lookup.specs.declared.paths.PathLookup.{PathLookup}
 use Rattle.lfs_lookup.specs.declared.paths.PathLookup.TheVariants as found
 use Rattle.lfs_lookup.specs.declared.search.SlotPosition.{SlotPosition}
@@ -39,6 +40,10 @@ source_for t path (found.Directory parent slot first) source l h = source_is t.p
 source_for t path (found.File parent slot contents) source l h = source_is t.pairs path l.there.above l.there.name parent slot source l.there.is l.there.there.0 h
 
 -- ---- what may be done
+
+file_branch : (c : FileStorage) (s : Struct) → IsStorage c s → branch_address s ≡ None
+file_branch (shown.Inline len) s h = ap branch_address h.1.0
+file_branch (shown.List head size) s h = ap branch_address h
 
 pub entry_to_rename : (t : KeptThread) (from to : Path) → CanRenamePath (uncached_state t true false) from to → HasPathEntry (disk_tree t.disk t.pairs) from
 entry_to_rename t from to can = record { entry = can.entry; parents = can.parents; something = can.something }
@@ -82,20 +87,24 @@ module _ (t : ThreadView) (root : ℕ) (rests : CanChangeRecovered t root) (from
     first = first;
     on = on;
     not_beneath = elsewhere;
-    is_name = subst (λ n. is_valid_name n ≡ true) (sym same) named;
     fits = subst (λ n. IsWritableEntry t.kept.disk.profile t.kept.disk.block_size t.kept.disk.page (record is.slot.stands.stands.stands.slot { name = n })) (sym same) fits_there;
     logged = λ at. logged_there t.kept.disk at bytes;
     room = room_for t.kept 2 rests.held.sound can.room;
   }
 
-  pub shift_to : (parent : ℕ) (place : SlotPosition) (name : Name) → IsNamedResult t.kept to (found.Nothing parent place) name → CanMoveToVacant (with_history t.kept h) from to source place name
+  pub shift_to : (parent : ℕ) (place : SlotPosition) (name : Name) → IsNamedResult t.kept to (found.Nothing parent place) name → CanMoveTo false (with_history t.kept h) from to source place name
   unfolding can_shift
   shift_to parent place name target =
       let there = target.leads.there in
       let same : name ≡ there.name = target.named ∙ ap last_name there.is ∙ last_is there.above there.name in
       record {
         can = can_shift there.above parent name target.named (there.is ∙ ap (λ n. there.above ++ n ∷ []) (sym same)) there.there.on;
-        belongs = subst (λ n. BelongsAt t.kept.disk.order t.kept.pairs parent n place.pair place.id) (sym same) there.there.belongs;
+        gone = [];
+        target = record {
+          belongs = subst (λ n. BelongsAt t.kept.disk.order t.kept.pairs parent n place.pair place.id) (sym same) there.there.belongs;
+          is_name = subst (λ n. is_valid_name n ≡ true) (sym target.named) named;
+          none = refl;
+        };
       }
 
   pub shift_onto : (parent : ℕ) (slot : SlotPosition) (contents : FileStorage) (name : Name) → IsNamedResult t.kept to (found.File parent slot contents) name → CanMoveOntoFile (with_history t.kept h) from to source slot contents name
@@ -104,7 +113,14 @@ module _ (t : ThreadView) (root : ℕ) (rests : CanChangeRecovered t root) (from
       let there = target.leads.there in
       let same : last_name to ≡ there.name = ap last_name there.is ∙ last_is there.above there.name in
       subst (λ n. CanMoveOntoFile (with_history t.kept h) from to source slot contents n) (sym (target.named ∙ same))
-      (record { can = can_shift there.above parent there.name (sym same) there.is there.there.0.on; target = there.there.0.stands; shows = there.there.1 })
+      (record {
+        onto = record {
+          can = can_shift there.above parent there.name (sym same) there.is there.there.0.on;
+          gone = struct_blocks t.kept.disk there.there.0.stands.stands.slot.struct;
+          target = record { there = there.there.0.stands; file = λ plain. file_branch contents there.there.0.stands.stands.slot.struct there.there.1; blocks = refl };
+        };
+        shows = there.there.1;
+      })
 
   pub shift_over : (parent : ℕ) (slot : SlotPosition) (first : ℕ) (name : Name) → IsNamedResult t.kept to (found.Directory parent slot first) name → CanMoveOntoDirectory (with_history t.kept h) from to source slot first name
   unfolding can_shift

@@ -1,9 +1,10 @@
 -- A rename leaves alone what it doesn't concern.
-use Rattle.std.proofs.Common.{ℕ, ◌≡◌, ◌≤◌, ◌<◌, ◌⊎◌, inl, inr, ◌∙◌, List, [], ◌∷◌, length, refl, sym, subst, arith}
+use Rattle.std.proofs.Common.{ℕ, Bool, true, false, ◌≡◌, ◌≤◌, ◌<◌, ◌⊎◌, inl, inr, ◌∙◌, List, [], ◌∷◌, length, refl, sym, subst, arith}
 use Rattle.std.specs.Prelude.{Any, Contains}
-use Rattle.lfs_tree.proofs.Common.{cases_lt, IsFree, HasPathSlot, KeepsOthers, IsPlaceOf, Name, path_or_root, Session, Pair, address_blocks, addresses_blocks, Path, Contains-number_occurrences, number_occurrences-Contains, number_occurrences, count_append, each_weaker, here, WritesTouchedFree, WritesPairTwo, KeptThread, thread_pair, CanMoveEntry}
+use Rattle.lfs_tree.proofs.Common.{cases_lt, IsFree, HasPathSlot, KeepsOthers, IsPlaceOf, IsTargetPlace, route_blocks, Name, path_or_root, Session, Pair, address_blocks, addresses_blocks, Path, Contains-number_occurrences, number_occurrences-Contains, number_occurrences, count_append, each_weaker, here, WritesTouchedFree, WritesPairTwo, KeptThread, thread_pair, CanMoveEntry}
 use Rattle.lfs_model.specs.session.Operations as ops
 use Rattle.lfs_operations.specs.Altering.{IsTouchedBlock}
+use Rattle.lfs_operations.specs.declared.moves.Route.{Route}
 use Rattle.lfs_tree.specs.MovedEntries.{SparesInRename}
 use Rattle.lfs_tree.specs.declared.renames_at.RenameSource.{RenameSource}
 use Rattle.lfs_lookup.specs.declared.search.SlotPosition.{SlotPosition}
@@ -88,6 +89,9 @@ module _ (t new : KeptThread) (from to : Path) (source : RenameSource) (name : N
 
 -- ---- a rename
 
+abbrev pub route_to : RenameSource → SlotPosition → Route
+route_to source slot = record { old_pair = source.slot.pair; old_id = source.slot.id; first = source.first; new_pair = slot.pair; new_id = slot.id }
+
 module _ (t new : KeptThread) (from to : Path) (source : RenameSource) (name : Name) (can : CanMoveEntry t from to source name) where
   pub spares_within : WritesPairTwo t source.slot.pair new → SparesInRename t from to new
   spares_within w s given to_given e f = within_alone t new from to source name can s given to_given e f w
@@ -98,3 +102,7 @@ module _ (t new : KeptThread) (from to : Path) (source : RenameSource) (name : N
   pub spares_two : (slot : SlotPosition) → IsPlaceOf t.pairs can.first name slot.pair slot.id → WritesTouchedFree t (addresses_blocks (thread_pair t source.slot.pair).at (thread_pair t slot.pair).at) new → SparesInRename t from to new
   spares_two slot there w s given to_given e f =
       rest_alone t new from to source name can s given to_given e f (addresses_blocks (thread_pair t source.slot.pair).at (thread_pair t slot.pair).at) (both_concerned t new from to source name can s given to_given e f slot there) w
+
+  pub spares_apart : (replaces : Bool) (slot : SlotPosition) (gone : List ℕ) → IsTargetPlace replaces false t can.first name slot.pair slot.id gone → WritesTouchedFree t (route_blocks replaces t (route_to source slot)) new → SparesInRename t from to new
+  spares_apart false slot gone target w = spares_one w
+  spares_apart true slot gone target w = spares_two slot target.there w

@@ -1,15 +1,15 @@
 -- An entry that takes the place of a directory without entries: what the operations on slots ask for, and what they come to.
-use Rattle.std.proofs.Common.{ℕ, ◌≡◌, ◌≢◌, ◌⊎◌, inl, inr, ◌-◌, ◌∙◌, ◌++◌, false, [], ◌∷◌, Result, Ok, Err, sym, ap₂, subst, arith, true}
+use Rattle.std.proofs.Common.{ℕ, ◌≡◌, ◌≢◌, ◌⊎◌, inl, inr, ◌-◌, ◌∙◌, ◌++◌, false, [], ◌∷◌, Result, Ok, Err, refl, sym, ap₂, subst, arith, true}
 use Rattle.std.specs.Prelude.{OnOk, is_err}
 use Rattle.lfs_device.specs.declared.error.Error.{Error}
-use Rattle.lfs_tree.proofs.Common.{tree_renaming, without_prefix, IsPlaceOf, Name, Branch, Path, disk_tree, WritesTouchedFree, WritesThreadFree, IsRenamedAcross, tree_moved, tree_renamed, KeptThread, ThreadView, OnlyReadsThread, ChangesThreadBlocks, thread_pair, SurvivesEither, CanMoveEntry, CanMoveOntoDirectory, HasMovedEntry, ThreadWorksOrReports, address_blocks, addresses_blocks}
-use Rattle.lfs_operations.specs.MovingOnto.{CanReplaceDirectoryAcross}
+use Rattle.lfs_tree.proofs.Common.{tree_renaming, without_prefix, IsPlaceOf, Name, Branch, Path, disk_tree, WritesTouchedFree, WritesThreadFree, IsRenamedAcross, route_blocks, tree_moved, tree_renamed, KeptThread, ThreadView, OnlyReadsThread, ChangesThreadBlocks, thread_pair, SurvivesEither, CanMoveEntry, CanMoveOntoDirectory, HasMovedEntry, ThreadWorksOrReports, address_blocks, addresses_blocks}
+use Rattle.lfs_operations.specs.MovingAcross.{CanReplaceDirectoryAcross}
 use Rattle.lfs_operations.specs.RenamingOver.{CanRenameOver, IsRenamedOver, ReportsReadCommits}
 use Rattle.lfs_tree.specs.declared.renames_at.RenameSource.{RenameSource}
 use Rattle.lfs_lookup.specs.declared.search.SlotPosition.{SlotPosition}
 use Rattle.lfs_tree.proofs.Carried.{among_two, behind_below}
-use Rattle.lfs_tree.proofs.ShiftedAlone.{spares_one, spares_two}
-use Rattle.lfs_tree.proofs.ShiftedPlaces.{one_place, other_name, target_path}
+use Rattle.lfs_tree.proofs.ShiftedAlone.{route_to, spares_one, spares_two}
+use Rattle.lfs_tree.proofs.ShiftedPlaces.{IsPairOf, one_place, other_name, target_path}
 use Rattle.lfs_tree.proofs.ShiftedSlots.{none_gone, survives_at}
 
 -- what stands there, seen in the directory of another number
@@ -21,13 +21,16 @@ module _ (t : KeptThread) (from to : Path) (source : RenameSource) (slot : SlotP
   abbrev shift : CanMoveEntry t from to source name
   shift = can.can
 
+  standing : IsPairOf t.pairs shift.first slot.pair
+  standing = record { pair = can.target.pair; rest = can.target.rest; place = can.target.place }
+
   path_here : source.slot.pair ≡ slot.pair → to ≡ shift.old.path ++ name ∷ []
-  path_here = target_path t from to source slot name shift can.target
+  path_here = target_path t from to source slot name shift standing
 
   directory_here : source.slot.pair ≡ slot.pair → IsDirectoryAt t shift.old.first source.slot.pair slot.id name can.at
   directory_here e =
       subst (λ i. IsDirectoryAt t shift.old.first i slot.id name can.at) (sym e)
-      (subst (λ f. IsDirectoryAt t f slot.pair slot.id name can.at) (one_place t from to source slot name shift can.target e) (record { target = can.target; branch = can.branch }))
+      (subst (λ f. IsDirectoryAt t f slot.pair slot.id name can.at) (one_place t from to source slot name shift standing e) (record { target = can.target; branch = can.branch }))
 
   pub over_within : source.slot.pair ≡ slot.pair → CanRenameOver t source.slot.pair source.slot.id slot.id name gone
   over_within e =
@@ -38,7 +41,7 @@ module _ (t : KeptThread) (from to : Path) (source : RenameSource) (slot : SlotP
           target = there.target;
           to = can.at;
           branch = there.branch;
-          differs = other_name t from to source slot name shift can.target e;
+          differs = other_name t from to source slot name shift standing e;
           fits = shift.fits;
         };
         below = can.below;
@@ -74,7 +77,7 @@ module _ (t : KeptThread) (from to : Path) (source : RenameSource) (slot : SlotP
 
   -- ---- in another pair
 
-  pub over_apart : source.slot.pair ≢ slot.pair → CanReplaceDirectoryAcross t source.slot.pair source.slot.id source.first slot.pair slot.id name gone
+  pub over_apart : source.slot.pair ≢ slot.pair → CanReplaceDirectoryAcross t (route_to source slot) name gone
   over_apart ne = record {
     onto = record {
       old = shift.old;
@@ -84,8 +87,8 @@ module _ (t : KeptThread) (from to : Path) (source : RenameSource) (slot : SlotP
       leads = shift.on.leads;
       to_first = shift.first;
       begins = shift.on.begins;
-      target = can.target;
-      file = λ e. absurd (let wrong : true ≡ false = e in cc);
+      gone = _;
+      target = record { there = can.target; file = λ e. absurd (let wrong : true ≡ false = e in cc); blocks = refl };
       logged = shift.logged _;
       apart = ne;
       not_beneath = ap₂ without_prefix (sym shift.old_is) (sym shift.is) ∙ shift.not_beneath;
@@ -99,16 +102,16 @@ module _ (t : KeptThread) (from to : Path) (source : RenameSource) (slot : SlotP
     alone = can.alone;
   }
 
-  pub over_survives_apart : (new : KeptThread) → source.slot.pair ≢ slot.pair → ((rename : CanReplaceDirectoryAcross t source.slot.pair source.slot.id source.first slot.pair slot.id name gone) → SurvivesEither t new (tree_moved t rename.onto.old.path rename.onto.old.name rename.onto.path name))
+  pub over_survives_apart : (new : KeptThread) → source.slot.pair ≢ slot.pair → ((rename : CanReplaceDirectoryAcross t (route_to source slot) name gone) → SurvivesEither t new (tree_moved t rename.onto.old.path rename.onto.old.name rename.onto.path name))
       → SurvivesEither t new (tree_renaming from to (disk_tree t.disk t.pairs))
   unfolding over_apart
   over_survives_apart new ne gives = survives_at t new from to _ _ shift.old_is shift.is (gives (over_apart ne))
 
-  pub over_done_apart : (new : KeptThread) → source.slot.pair ≢ slot.pair → WritesTouchedFree t (addresses_blocks (thread_pair t source.slot.pair).at (thread_pair t slot.pair).at) new
-      → ((rename : CanReplaceDirectoryAcross t source.slot.pair source.slot.id source.first slot.pair slot.id name gone) → IsRenamedAcross t new rename.onto.old.path rename.onto.old.name rename.onto.path name) → HasMovedEntry t from to new
+  pub over_done_apart : (new : KeptThread) → source.slot.pair ≢ slot.pair → WritesTouchedFree t (route_blocks true t (route_to source slot)) new
+      → ((rename : CanReplaceDirectoryAcross t (route_to source slot) name gone) → IsRenamedAcross t new rename.onto.old.path rename.onto.old.name rename.onto.path name []) → HasMovedEntry t from to new
   unfolding over_apart
   over_done_apart new ne alters gives =
-      let is : IsRenamedAcross t new shift.old.path shift.old.name shift.above name = gives (over_apart ne) in
+      let is : IsRenamedAcross t new shift.old.path shift.old.name shift.above name [] = gives (over_apart ne) in
       record {
         ready = none_gone new is.now.ready;
         flying = is.now.flying;

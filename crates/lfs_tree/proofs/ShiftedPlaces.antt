@@ -1,12 +1,22 @@
--- An entry that takes the place of another one, whose slot is of the same pair.
-use Rattle.std.proofs.Common.{◌≡◌, ◌≢◌, ◌∙◌, ◌++◌, [], ◌∷◌, append-nil, Some, None, sym, ap, subst}
-use Rattle.lfs_tree.proofs.Common.{without_prefix, IsDirectoryPair, IsPlaceOf, Name, Path, KeptThread, CanMoveEntry}
+-- An entry that goes to a place of its own pair.
+use Rattle.std.proofs.Common.{ℕ, Bool, true, false, List, ◌≡◌, ◌≢◌, ◌∙◌, ◌++◌, [], ◌∷◌, append-nil, Some, None, sym, ap, subst}
+use Rattle.lfs_tree.proofs.Common.{without_prefix, IsDirectoryPair, IsTargetPlace, Name, Pair, Path, KeptThread, CanMoveEntry}
 use Rattle.lfs_model.proofs.Paths.{rest_itself}
 use Rattle.lfs_tree.specs.declared.renames_at.RenameSource.{RenameSource}
 use Rattle.lfs_lookup.specs.declared.search.SlotPosition.{SlotPosition}
 use Rattle.lfs_tree.proofs.SameDirectory.{same_above, same_first}
 
-module _ (t : KeptThread) (from to : Path) (source : RenameSource) (slot : SlotPosition) (name : Name) (can : CanMoveEntry t from to source name) (target : IsPlaceOf t.pairs can.first name slot.pair slot.id) (e : source.slot.pair ≡ slot.pair) where
+-- a pair of the directory that begins with the pair of number `first`
+pub record IsPairOf (ps : List Pair) (first index : ℕ) : Type 0 where
+  pub pair : Pair
+  pub rest : List Pair
+  pub place : IsDirectoryPair ps first index pair rest
+
+pub pair_of_target : (replaces sync : Bool) (t : KeptThread) (first : ℕ) (name : Name) (index id : ℕ) (gone : List ℕ) → IsTargetPlace replaces sync t first name index id gone → IsPairOf t.pairs first index
+pair_of_target false sync t first name index id gone h = record { pair = h.belongs.pair; rest = _; place = h.belongs.place }
+pair_of_target true sync t first name index id gone h = record { pair = h.there.pair; rest = _; place = h.there.place }
+
+module _ (t : KeptThread) (from to : Path) (source : RenameSource) (slot : SlotPosition) (name : Name) (can : CanMoveEntry t from to source name) (target : IsPairOf t.pairs can.first slot.pair) (e : source.slot.pair ≡ slot.pair) where
   pub one_place : can.first ≡ can.old.first
   one_place = same_first t.disk t.pairs can.above can.old.path can.on.at can.old.at can.first can.old.first slot.pair target.pair can.old.stands.pair target.rest can.old.stands.rest
       can.old.ready.accepted can.on.leads can.on.begins can.old.leads can.old.begins target.place

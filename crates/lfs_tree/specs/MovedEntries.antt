@@ -1,12 +1,12 @@
 -- An entry that gets another name, or comes into another directory.
-use Rattle.std.specs.Prelude.{ℕ, ◌≡◌, ◌⊎◌, ◌<◌, true, false, List, [], ◌∷◌, ◌++◌, length, None, Result, IfErr, IsErrOf, OnOk}
+use Rattle.std.specs.Prelude.{ℕ, ◌≡◌, ◌⊎◌, ◌<◌, ◌≤◌, ◌+◌, Bool, true, false, List, [], ◌∷◌, ◌++◌, length, None, Result, IfErr, IsErrOf, OnOk}
 use Rattle.lfs_device.specs.declared.error.Error.{Error}
 use Rattle.lfs_device.specs.declared.error.Error.TheVariants.{Io, NoMemory}
 use Rattle.lfs_model.specs.crash.Frame.{KeepsOthers}
 use Rattle.lfs_model.specs.session.TreeEdits.{tree_renaming, without_prefix}
 use Rattle.lfs_model.specs.session.History.{fault_count}
-use Rattle.lfs_model.specs.session.InDirectory.{BelongsAt, IsPlaceOf}
-use Rattle.lfs_model.specs.format.Names.{Name, is_valid_name}
+use Rattle.lfs_model.specs.session.InDirectory.{IsPlaceOf}
+use Rattle.lfs_model.specs.format.Names.{Name}
 use Rattle.lfs_model.specs.session.Operations as ops
 use Rattle.lfs_model.specs.session.Session.{Session}
 use Rattle.lfs_model.specs.format.Slots.{Branch, same_pair}
@@ -14,17 +14,17 @@ use Rattle.lfs_model.specs.session.Refusals.{path_or_root}
 use Rattle.lfs_model.specs.format.Thread.{Pair, is_hard_tail}
 use Rattle.lfs_model.specs.tree.Tree.{Path}
 use Rattle.lfs_model.specs.tree.Profile.{IsWritableEntry}
-use Rattle.lfs_model.specs.tree.Shown.{disk_tree}
-use Rattle.lfs_model.specs.layers.Steps.{CompletesOperation}
+use Rattle.lfs_model.specs.tree.Shown.{disk_tree, used_blocks}
+use Rattle.lfs_model.specs.layers.Steps.{CompletesOperation, number_occurrences}
 use Rattle.lfs_operations.specs.Dropping.{SameInFlight}
 use Rattle.lfs_operations.specs.Editing.{CanEditIn, editable_slot}
 use Rattle.lfs_operations.specs.Making.{HasFreeBlocks}
-use Rattle.lfs_operations.specs.Ready.{IsRawFormed, IsReadyImage, KeepsRootNumber}
+use Rattle.lfs_operations.specs.Ready.{IsRawFormed, IsReadyImage, IsReadyUnsettled, KeepsRootNumber}
+use Rattle.lfs_operations.specs.RenamingSlots.{IsTargetPlace}
 use Rattle.lfs_thread.specs.Kept.{KeptThread, ThreadView}
 use Rattle.lfs_thread.specs.ThreadSteps.{thread_pair}
 use Rattle.lfs_tree.specs.SlotChanges.{IsPathSpot}
 use Rattle.lfs_lookup.specs.Entry.{IsStorage}
-use Rattle.lfs_tree.specs.Removals.{CanFreeList}
 use Rattle.lfs_lookup.specs.LookupPaths.{LeadsToPair}
 use Rattle.lfs_tree.specs.declared.renames_at.RenameSource.{RenameSource}
 use Rattle.lfs_lookup.specs.declared.entry.FileStorage.{FileStorage}
@@ -55,21 +55,20 @@ pub record CanMoveEntry (t : KeptThread) (from to : Path) (source : RenameSource
   pub first : ℕ
   pub on : LeadsToPair t.pairs above first
   pub not_beneath : without_prefix from to ≡ None
-  pub is_name : is_valid_name name ≡ true
   pub fits : IsWritableEntry t.disk.profile t.disk.block_size t.disk.page (record (editable_slot old) { name = name })
   pub logged : (at : ℕ × ℕ) → IsRawFormed t.disk at
   pub room : HasFreeBlocks 2 t.map
 
--- nothing is at the other path, and the name belongs there
-pub record CanMoveToVacant (t : KeptThread) (from to : Path) (source : RenameSource) (place : SlotPosition) (name : Name) : Type 0 where
+-- the name goes to the place: it is new, or with `replaces` a file's
+pub record CanMoveTo (replaces : Bool) (t : KeptThread) (from to : Path) (source : RenameSource) (place : SlotPosition) (name : Name) : Type 0 where
   pub can : CanMoveEntry t from to source name
-  pub belongs : BelongsAt t.disk.order t.pairs can.first name place.pair place.id
+  pub gone : List ℕ
+  pub target : IsTargetPlace replaces false t can.first name place.pair place.id gone
 
 -- a file with these contents is at the other path
 pub record CanMoveOntoFile (t : KeptThread) (from to : Path) (source : RenameSource) (slot : SlotPosition) (contents : FileStorage) (name : Name) : Type 0 where
-  pub can : CanMoveEntry t from to source name
-  pub target : IsPlaceOf t.pairs can.first name slot.pair slot.id
-  pub shows : IsStorage contents target.stands.slot.struct
+  pub onto : CanMoveTo true t from to source slot name
+  pub shows : IsStorage contents onto.target.there.stands.slot.struct
 
 -- a directory without entries is at the other path; its only pair is the one of number `gone`
 pub record CanMoveOntoDirectory (t : KeptThread) (from to : Path) (source : RenameSource) (slot : SlotPosition) (gone : ℕ) (name : Name) : Type 0 where
@@ -84,7 +83,7 @@ pub record CanMoveOntoDirectory (t : KeptThread) (from to : Path) (source : Rena
 
 -- nothing is found at the other path, a file, or a directory without entries
 abbrev pub CanMoveOntoFound : KeptThread → Path → Path → RenameSource → PathLookup → Name → Type 0
-CanMoveOntoFound t from to source (found.Nothing parent place) name = CanMoveToVacant t from to source place name
+CanMoveOntoFound t from to source (found.Nothing parent place) name = CanMoveTo false t from to source place name
 CanMoveOntoFound t from to source (found.File parent slot contents) name = CanMoveOntoFile t from to source slot contents name
 CanMoveOntoFound t from to source (found.Directory parent slot first) name = CanMoveOntoDirectory t from to source slot first name
 CanMoveOntoFound t from to source _ name = ⊥
@@ -105,9 +104,10 @@ pub record HasMovedEntry (old : KeptThread) (from to : Path) (new : KeptThread) 
       → CompletesOperation old.disk old.pairs s (ops.Rename given to_given) new.disk new.pairs
   pub alone : SparesInRename old from to new
 
--- The same, but the blocks of the replaced file's list are still used.
-pub record HasMovedOnto (old : KeptThread) (from to : Path) (contents : FileStorage) (new : KeptThread) : Type 0 where
-  pub free : CanFreeList new contents
+-- The same, but the blocks `gone` of a replaced file's list are still used.
+pub record HasMovedTo (old : KeptThread) (from to : Path) (gone : List ℕ) (new : KeptThread) : Type 0 where
+  pub ready : IsReadyUnsettled new gone []
+  pub once : (b : ℕ) → number_occurrences b (used_blocks new.disk new.pairs) + number_occurrences b gone ≤ 1
   pub shows : disk_tree new.disk new.pairs ≡ tree_renaming from to (disk_tree old.disk old.pairs)
   pub flying : SameInFlight old.map new.map
   pub root : KeepsRootNumber old new

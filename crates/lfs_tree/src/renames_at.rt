@@ -1,6 +1,6 @@
 // Entries at paths that get another one, in a thread that has nothing to recover.
 
-ghost use Rattle.std.specs.Prelude.{ℕ, ◌≡◌, ◌≢◌, false, true, List, IfOk, IfSome, IsSome, OnOk};
+ghost use Rattle.std.specs.Prelude.{ℕ, ◌≡◌, false, true, List, IfOk, IfSome, IsSome, OnOk};
 ghost use Rattle.lfs_model.specs.format.Slots.{zero_gstate};
 ghost use Rattle.lfs_model.specs.format.Thread.{pairs_gstate};
 ghost use Rattle.lfs_model.specs.session.Refusals.{path_or_root};
@@ -15,7 +15,7 @@ ghost use Rattle.lfs_tree.specs.TreeCalls.{AppliesCallOrFails};
 ghost use Rattle.lfs_tree.specs.TreeChanges.{CanChangeRecovered, AppliesOrFails, SurvivesEither};
 ghost use Rattle.lfs_tree.specs.SlotChanges.{is_entry_found};
 ghost use Rattle.lfs_tree.specs.RootedThreads.{uncached_state};
-ghost use Rattle.lfs_tree.specs.MovedEntries.{CanMoveOntoFound, CanMoveOntoFile, CanMoveOntoDirectory, HasMovedEntry, HasMovedOnto, IsFoundSource, ThreadWorksOrReports};
+ghost use Rattle.lfs_tree.specs.MovedEntries.{CanMoveOntoDirectory, CanMoveOntoFile, CanMoveOntoFound, CanMoveTo, HasMovedEntry, HasMovedTo, IsFoundSource, ThreadWorksOrReports};
 ghost use Rattle.lfs_tree.specs.RenameFindings.{AreRenameResults};
 ghost use Rattle.lfs_tree.specs.TreeState.{kept_thread};
 
@@ -27,8 +27,8 @@ use crate::tree::Tree;
 use lfs_device::{BlockDevice, Error};
 use lfs_lookup::{FileStorage, Path, PathLookup, SlotPosition};
 use lfs_operations::{
-    EmptyDirectory, PairPlace, Route, rename, rename_across_pairs, rename_onto_directory,
-    replace_directory_across, replace_file_across,
+    EmptyDirectory, PairPlace, Route, rename, rename_across, rename_onto_directory,
+    replace_directory_across,
 };
 use lfs_thread::Thread;
 use std::alloc::Global;
@@ -63,27 +63,28 @@ fn found_rename_source(found: PathLookup) -> RenameSource
     }
 }
 
-// Puts an entry in the place of a file, whose list is left in the map.
-fn replace_file<D: BlockDevice>(
+// Puts an entry at a place, in its pair or in another one. With `replaces` the file that is there
+// goes, and its list is left in the map.
+fn move_entry<D: BlockDevice>(
     alloc: Global,
     thread: &mut Thread<D>,
     source: RenameSource,
-    slot: SlotPosition,
-    _contents: FileStorage,
+    place: SlotPosition,
+    replaces: bool,
     name: &[u8],
 ) -> Result<(), Error>
     requires works { thread.old.failed ≡ false }
-    requires can { (from to : Path) × CanMoveOntoFile thread.old.kept from to source slot _contents name.now }
-    ensures shifted { OnOk result ((from to : Path) → CanMoveOntoFile thread.old.kept from to source slot _contents name.now → HasMovedOnto thread.old.kept from to _contents thread.new.kept) }
+    requires can { (from to : Path) × CanMoveTo replaces thread.old.kept from to source place name.now }
+    ensures moved { OnOk result ((from to : Path) (can : CanMoveTo replaces thread.old.kept from to source place name.now) → HasMovedTo thread.old.kept from to can.gone thread.new.kept) }
     ensures errors { ThreadWorksOrReports thread.old thread.new result }
     ensures device { WritesThreadFree thread.old.kept thread.new.kept }
-    ensures survives { (from to : Path) → CanMoveOntoFile thread.old.kept from to source slot _contents name.now → SurvivesEither thread.old.kept thread.new.kept (tree_renaming from to (disk_tree thread.old.kept.disk thread.old.kept.pairs)) }
+    ensures survives { (from to : Path) → CanMoveTo replaces thread.old.kept from to source place name.now → SurvivesEither thread.old.kept thread.new.kept (tree_renaming from to (disk_tree thread.old.kept.disk thread.old.kept.pairs)) }
 {
     let from = source.slot;
-    if from.pair == slot.pair {
+    if from.pair == place.pair {
         let to = PairPlace {
-            id: slot.id,
-            replaces: true,
+            id: place.id,
+            replaces,
         };
         rename(alloc, thread, from.pair, from.id, to, name)
     } else {
@@ -91,10 +92,10 @@ fn replace_file<D: BlockDevice>(
             old_pair: from.pair,
             old_id: from.id,
             first: source.first,
-            new_pair: slot.pair,
-            new_id: slot.id,
+            new_pair: place.pair,
+            new_id: place.id,
         };
-        replace_file_across(alloc, thread, route, name)
+        rename_across(alloc, thread, route, replaces, name)
     }
 }
 
@@ -114,7 +115,7 @@ fn move_onto_file<D: BlockDevice>(
     ensures device { WritesThreadFree thread.old.kept thread.new.kept }
     ensures survives { (from to : Path) → CanMoveOntoFile thread.old.kept from to source slot contents name.now → SurvivesEither thread.old.kept thread.new.kept (tree_renaming from to (disk_tree thread.old.kept.disk thread.old.kept.pairs)) }
 {
-    replace_file(alloc, thread, source, slot, contents, name)?;
+    move_entry(alloc, thread, source, slot, true, name)?;
     free_file_list(thread, contents)
 }
 
@@ -149,7 +150,7 @@ fn move_onto_directory<D: BlockDevice>(
             new_pair: slot.pair,
             new_id: slot.id,
         };
-        replace_directory_across(alloc, thread, route, name, gone)
+        replace_directory_across(alloc, thread, route, gone, name)
     }
 }
 
@@ -206,23 +207,7 @@ pub(crate) fn rename_at<D: BlockDevice>(
     let found = find_move(alloc, thread, root, from, to, known)?;
     match found.target {
         PathLookup::Nothing { place, .. } => {
-            let RenameSource { slot, first } = found.source;
-            if slot.pair == place.pair {
-                let to = PairPlace {
-                    id: place.id,
-                    replaces: false,
-                };
-                rename(alloc, thread, slot.pair, slot.id, to, found.name)
-            } else {
-                let route = Route {
-                    old_pair: slot.pair,
-                    old_id: slot.id,
-                    first,
-                    new_pair: place.pair,
-                    new_id: place.id,
-                };
-                rename_across_pairs(alloc, thread, route, found.name)
-            }
+            move_entry(alloc, thread, found.source, place, false, found.name)
         }
         PathLookup::File { slot, contents, .. } => {
             move_onto_file(alloc, thread, found.source, slot, contents, found.name)
@@ -238,9 +223,9 @@ impl<D: BlockDevice> Tree<D> {
     /// Gives an entry another path. At that path is no entry, a file, or an empty directory, which
     /// is replaced. The entries beneath a directory move with it.
     ///
-    /// `known` is where the paths lead to, as [`look_up_rename`](Tree::look_up_rename) has just found it.
-    /// It is None where something is to recover: a recovery comes first then, and the paths are looked
-    /// up again after it.
+    /// `known` is where the paths lead to, as [`look_up_rename`](Tree::look_up_rename) has just
+    /// found it. It is None where something is to recover: a recovery comes first then, and the
+    /// paths are looked up again after it.
     ///
     /// Errors: `Io` where a call of the device failed. `NoMemory` where memory isn't granted. The
     /// tree has failed after either.

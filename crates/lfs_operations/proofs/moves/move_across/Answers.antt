@@ -1,9 +1,9 @@
-use Rattle.lfs_operations.proofs.Common.{ap, sym, subst, ◌∙◌, ◌<◌, length, Err, on_ok_weaker, err_from_is_err_and, changes_view, ending_written_pair, ArePutAndEnded, SurvivesCommits, ReportsTakingCommits, WritesPairsTwo, moving_changes, disk_tree, with_blocks, HasEitherTree, AreWords, thread_pair, subst₂, CanPutAndEnd}
+use Rattle.lfs_operations.proofs.Common.{ap, sym, subst, ◌∙◌, ◌<◌, length, Err, on_ok_weaker, err_from_is_err_and, changes_view, ending_written_pair, ArePutAndEnded, SurvivesCommits, ReportsTakingCommits, WritesPairsTwo, moving_changes, subst₂, CanPutAndEnd}
 use Rattle.lfs_device.specs.declared.error.Error.TheVariants as Error
-use Rattle.lfs_operations.proofs.MovLater.{aim, changes_are, done_after_read, ends_after_read, survives_after_read, reports_after_read, reports_unmade, reports_unread, writes_after_read, writes_read, new_below, old_of}
+use Rattle.lfs_operations.proofs.MovLater.{address_before, aim, changes_are, done_after_read, ends_after_read, survives_after_read, reports_after_read, reports_unmade, reports_unread, writes_after_read, writes_read, new_below}
 use Rattle.lfs_operations.proofs.MovPlaced.{ends_aimed, shows_aimed}
 use Rattle.lfs_operations.proofs.MovStep.{left_tree}
-use Rattle.lfs_operations.proofs.Putting.{not_both, read_is}
+use Rattle.lfs_operations.proofs.Putting.{not_both}
 use Rattle.lfs_operations.proofs.RenameRead.{can_after_read, put_after_read, read_survives}
 use Rattle.lfs_operations.proofs.moves.move_across.Goals as goal
 use Rattle.lfs_operations.proofs.AlteredLater.{old_low}
@@ -11,12 +11,12 @@ use Rattle.lfs_operations.proofs.AlteredLater.{old_low}
 pub move_setting_delta-state-requires-clause-old_below : goal.move_setting_delta-state-requires-clause-old_below
 move_setting_delta-state-requires-clause-old_below g c =
     let to = c.args.route in
-    subst (λ ps. to.old_pair < length ps) (sym c.copy_pair_slot.ensures.only.pairs) (old_low (old_of c.args.thread.now.kept c.args.replaces c.args.sync to.old_pair to.old_id to.first to.new_pair to.new_id c.args.name.now c.requires.can))
+    subst (λ ps. to.old_pair < length ps) (sym c.copy_pair_slot.ensures.only.pairs) (old_low c.requires.can.old)
 
 pub move_setting_delta-state-requires-clause-new_below : goal.move_setting_delta-state-requires-clause-new_below
 move_setting_delta-state-requires-clause-new_below g c =
     let to = c.args.route in
-    subst (λ ps. to.new_pair < length ps) (sym c.copy_pair_slot.ensures.only.pairs) (new_below c.args.thread.now.kept c.args.replaces c.args.sync to.old_pair to.old_id to.first to.new_pair to.new_id c.args.name.now c.requires.can)
+    subst (λ ps. to.new_pair < length ps) (sym c.copy_pair_slot.ensures.only.pairs) (new_below c.args.replaces c.args.sync c.args.thread.now.kept to c.args.name.now c.requires.can)
 
 pub returns-in_err-copy-clause-errors : goal.returns-in_err-copy-clause-errors
 returns-in_err-copy-clause-errors g c =
@@ -28,8 +28,7 @@ returns-in_err-copy-clause-device g c = writes_read c.copy_pair_slot.ensures.onl
 
 pub returns-in_err-copy-clause-survives : goal.returns-in_err-copy-clause-survives
 returns-in_err-copy-clause-survives g c rename =
-    let to = c.args.route in
-    read_survives c.args.thread.now.kept c.copy_pair_slot.new.thread.kept.history c.copy_pair_slot.ensures.only.reads (old_of c.args.thread.now.kept c.args.replaces c.args.sync to.old_pair to.old_id to.first to.new_pair to.new_id c.args.name.now rename).ready _
+    read_survives c.args.thread.now.kept c.copy_pair_slot.new.thread.kept.history c.copy_pair_slot.ensures.only.reads rename.old.ready _
 
 pub returns-in_err-changes-clause-errors : goal.returns-in_err-changes-clause-errors
 returns-in_err-changes-clause-errors g c =
@@ -42,8 +41,7 @@ returns-in_err-changes-clause-device g c = writes_read c.copy_pair_slot.ensures.
 
 pub returns-in_err-changes-clause-survives : goal.returns-in_err-changes-clause-survives
 returns-in_err-changes-clause-survives g c rename =
-    let to = c.args.route in
-    read_survives c.args.thread.now.kept c.copy_pair_slot.new.thread.kept.history c.copy_pair_slot.ensures.only.reads (old_of c.args.thread.now.kept c.args.replaces c.args.sync to.old_pair to.old_id to.first to.new_pair to.new_id c.args.name.now rename).ready _
+    read_survives c.args.thread.now.kept c.copy_pair_slot.new.thread.kept.history c.copy_pair_slot.ensures.only.reads rename.old.ready _
 
 pub put_and_end-requires-clause-can : goal.put_and_end-requires-clause-can
 put_and_end-requires-clause-can g c =
@@ -51,9 +49,9 @@ put_and_end-requires-clause-can g c =
     let mid = c.copy_pair_slot.new.thread.kept in
     let only = c.copy_pair_slot.ensures.only in
     let to = c.args.route in
-    let are = changes_are only c.args.replaces c.args.sync to.old_pair to.old_id to.new_pair to.new_id c.args.name.now (ap changes_view c.deref.ensures.value ∙ c.in_ok-changes.ensures) c.move_setting_delta-state.ensures.delta c.in_ok-copy.ensures.copied in
-    let at = aim only c.args.replaces c.args.sync to.old_pair to.old_id to.first to.new_pair to.new_id c.args.name.now c.requires.can c.move_setting_delta-state.ensures.address in
-    let changes = moving_changes c.args.replaces c.args.sync t to.old_pair to.old_id to.new_pair to.new_id c.args.name.now in
+    let are = changes_are only c.args.replaces c.args.sync to c.args.name.now (ap changes_view c.deref.ensures.value ∙ c.in_ok-changes.ensures) c.move_setting_delta-state.ensures.delta c.in_ok-copy.ensures.copied in
+    let at = aim c.args.replaces c.args.sync t to c.args.name.now c.requires.can (address_before only to.old_pair c.move_setting_delta-state.ensures.address) in
+    let changes = moving_changes c.args.replaces c.args.sync t to c.args.name.now in
     subst₂ (λ b z. CanPutAndEnd mid to.old_pair to.old_id b to.new_pair z) (sym c.drops_with_slot-goes.ensures) (sym are) (record {
       turns = can_after_read t mid to.new_pair changes only at.aimed.can;
       ends = λ last is. ends_after_read only (ends_aimed at.aimed last (put_after_read t mid last to.new_pair changes only is));
@@ -64,9 +62,9 @@ returns-clause-moved g c =
     let t = c.args.thread.now.kept in
     let only = c.copy_pair_slot.ensures.only in
     let to = c.args.route in
-    let are = changes_are only c.args.replaces c.args.sync to.old_pair to.old_id to.new_pair to.new_id c.args.name.now (ap changes_view c.deref.ensures.value ∙ c.in_ok-changes.ensures) c.move_setting_delta-state.ensures.delta c.in_ok-copy.ensures.copied in
+    let are = changes_are only c.args.replaces c.args.sync to c.args.name.now (ap changes_view c.deref.ensures.value ∙ c.in_ok-changes.ensures) c.move_setting_delta-state.ensures.delta c.in_ok-copy.ensures.copied in
     on_ok_weaker c.put_and_end.result (λ is. record {
-      address = subst (λ k. AreWords (thread_pair k to.old_pair).at) (read_is t c.copy_pair_slot.new.thread.kept only) c.move_setting_delta-state.ensures.address;
+      address = address_before only to.old_pair c.move_setting_delta-state.ensures.address;
       done = subst₂ (λ b z. ArePutAndEnded t to.old_pair to.old_id b to.new_pair z c.put_and_end.new.thread.kept) c.drops_with_slot-goes.ensures are (done_after_read only is);
     }) c.put_and_end.ensures.done
 
@@ -74,7 +72,7 @@ pub returns-clause-errors : goal.returns-clause-errors
 returns-clause-errors g c =
     let only = c.copy_pair_slot.ensures.only in
     let to = c.args.route in
-    let are = changes_are only c.args.replaces c.args.sync to.old_pair to.old_id to.new_pair to.new_id c.args.name.now (ap changes_view c.deref.ensures.value ∙ c.in_ok-changes.ensures) c.move_setting_delta-state.ensures.delta c.in_ok-copy.ensures.copied in
+    let are = changes_are only c.args.replaces c.args.sync to c.args.name.now (ap changes_view c.deref.ensures.value ∙ c.in_ok-changes.ensures) c.move_setting_delta-state.ensures.delta c.in_ok-copy.ensures.copied in
     reports_after_read only (c.copy_pair_slot.ensures.errors.no_fault (λ io. not_both c.copy_pair_slot.result c.in_ok-copy.copy Error.Io c.in_ok-copy.was io))
     (subst (λ z. ReportsTakingCommits c.copy_pair_slot.new.thread c.put_and_end.new.thread to.new_pair z c.put_and_end.result) are c.put_and_end.ensures.errors)
 
@@ -88,7 +86,7 @@ returns-clause-survives g c rename =
     let t = c.args.thread.now.kept in
     let only = c.copy_pair_slot.ensures.only in
     let to = c.args.route in
-    let are = changes_are only c.args.replaces c.args.sync to.old_pair to.old_id to.new_pair to.new_id c.args.name.now (ap changes_view c.deref.ensures.value ∙ c.in_ok-changes.ensures) c.move_setting_delta-state.ensures.delta c.in_ok-copy.ensures.copied in
-    let at = aim only c.args.replaces c.args.sync to.old_pair to.old_id to.first to.new_pair to.new_id c.args.name.now rename c.move_setting_delta-state.ensures.address in
-    survives_after_read only c.put_and_end.ensures.device (subst (λ z. SurvivesCommits c.copy_pair_slot.new.thread.kept to.new_pair z c.put_and_end.new.thread.kept) are c.put_and_end.ensures.survives) at.old.ready
-    (λ left l. subst (HasEitherTree (with_blocks left t.disk) (disk_tree t.disk t.pairs)) at.is (left_tree at.aimed.way left l)) (λ last is. shows_aimed at.aimed last is ∙ at.is)
+    let are = changes_are only c.args.replaces c.args.sync to c.args.name.now (ap changes_view c.deref.ensures.value ∙ c.in_ok-changes.ensures) c.move_setting_delta-state.ensures.delta c.in_ok-copy.ensures.copied in
+    let at = aim c.args.replaces c.args.sync t to c.args.name.now rename (address_before only to.old_pair c.move_setting_delta-state.ensures.address) in
+    survives_after_read only c.put_and_end.ensures.device (subst (λ z. SurvivesCommits c.copy_pair_slot.new.thread.kept to.new_pair z c.put_and_end.new.thread.kept) are c.put_and_end.ensures.survives) rename.old.ready
+    (λ left l. left_tree at.aimed.way left l) (λ last is. shows_aimed at.aimed last is)

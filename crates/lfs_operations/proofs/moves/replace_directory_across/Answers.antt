@@ -1,4 +1,4 @@
-use Rattle.lfs_operations.proofs.Common.{on_ok_weaker, sym, subst, false, true, ◌-◌, ◌≡◌, arith, AllByRecursion, IsPairAt, Gstate, same_pair, Pair, disk_tree, CleanLossLeaves, CanDropAt, IsPairDropped, LeftByDrop, tree_moved, entry_across_changes}
+use Rattle.lfs_operations.proofs.Common.{on_ok_weaker, sym, subst, false, true, ◌-◌, ◌≡◌, arith, AllByRecursion, IsPairAt, Gstate, same_pair, Pair, disk_tree, CleanLossLeaves, CanDropAt, IsPairDropped, LeftByDrop, tree_moved, moving_changes}
 use Rattle.lfs_operations.proofs.Putting.{survives_more}
 use Rattle.lfs_operations.proofs.AlteredLast.{altered_onto_directory}
 use Rattle.lfs_operations.proofs.MovReporting.{not_io, reports_of_end}
@@ -33,7 +33,7 @@ returns-in-Some-clause-renamed g c =
 
 pub returns-in-Some-clause-errors : goal.returns-in-Some-clause-errors
 returns-in-Some-clause-errors g c =
-    reports_of_end c.args.thread.now c.move_across.new.thread c.drop_pair_at.new.thread c.args.route.new_pair (entry_across_changes true c.args.thread.now.kept c.args.route.old_pair c.args.route.old_id c.args.route.new_pair c.args.route.new_id c.args.name.now) c.drop_pair_at.result
+    reports_of_end c.args.thread.now c.move_across.new.thread c.drop_pair_at.new.thread c.args.route.new_pair (moving_changes true true c.args.thread.now.kept c.args.route c.args.name.now) c.drop_pair_at.result
     (c.move_across.ensures.errors.no_fault (not_io c.move_across.result c.in_ok-move_across.field-0 c.in_ok-move_across.was)) c.drop_pair_at.ensures.errors
 
 pub returns-in-Some-clause-device : goal.returns-in-Some-clause-device

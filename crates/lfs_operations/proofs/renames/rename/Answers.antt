@@ -3,11 +3,11 @@ use Rattle.lfs_device.specs.declared.error.Error.TheVariants as Error
 use Rattle.lfs_operations.proofs.Putting.{not_both}
 use Rattle.lfs_operations.proofs.RenameRead.{can_after_read, moves_after_read, moves_unread, put_after_read, read_stops, read_writes, stops_after_read, writes_after_read}
 use Rattle.lfs_operations.proofs.RenameTarget.{has_slot}
-use Rattle.lfs_operations.proofs.RenameReplaced.{can_put_here, edits, renamed_here, survives_here}
+use Rattle.lfs_operations.proofs.RenameReplaced.{moves_here, renamed_here, survives_here}
 use Rattle.lfs_operations.proofs.renames.rename.Goals as goal
 
 pub copy_pair_slot-requires-clause-there : goal.copy_pair_slot-requires-clause-there
-copy_pair_slot-requires-clause-there g c = has_slot (edits c.args.to.replaces c.args.thread.now.kept c.args.pair c.args.id c.args.to.id c.args.name.now c.requires.can)
+copy_pair_slot-requires-clause-there g c = has_slot c.requires.can.can
 
 pub returns-in_err-copy-clause-errors : goal.returns-in_err-copy-clause-errors
 returns-in_err-copy-clause-errors g c =
@@ -20,21 +20,21 @@ returns-in_err-copy-clause-device g c = read_writes c.args.thread.now.kept c.cop
 
 pub returns-in_err-copy-clause-survives : goal.returns-in_err-copy-clause-survives
 returns-in_err-copy-clause-survives g c rename =
-    survives_here c.args.to.replaces c.args.thread.now.kept c.args.pair c.args.id c.args.to.id c.args.name.now rename c.copy_pair_slot.new.thread.kept.history (read_stops c.args.thread.now.kept c.copy_pair_slot.new.thread.kept (edits c.args.to.replaces c.args.thread.now.kept c.args.pair c.args.id c.args.to.id c.args.name.now c.requires.can) (renaming_changes c.args.to.replaces c.args.thread.now.kept c.args.pair c.args.id c.args.to.id c.args.name.now) c.copy_pair_slot.ensures.only)
+    survives_here c.args.to.replaces c.args.thread.now.kept c.args.pair c.args.id c.args.to.id c.args.name.now rename c.copy_pair_slot.new.thread.kept.history (read_stops c.args.thread.now.kept c.copy_pair_slot.new.thread.kept c.requires.can.can (renaming_changes c.args.to.replaces c.args.thread.now.kept c.args.pair c.args.id c.args.to.id c.args.name.now) c.copy_pair_slot.ensures.only)
 
 pub returns-in_err-changes-clause-device : goal.returns-in_err-changes-clause-device
 returns-in_err-changes-clause-device g c = read_writes c.args.thread.now.kept c.copy_pair_slot.new.thread.kept c.copy_pair_slot.ensures.only c.args.pair
 
 pub returns-in_err-changes-clause-survives : goal.returns-in_err-changes-clause-survives
 returns-in_err-changes-clause-survives g c rename =
-    survives_here c.args.to.replaces c.args.thread.now.kept c.args.pair c.args.id c.args.to.id c.args.name.now rename c.copy_pair_slot.new.thread.kept.history (read_stops c.args.thread.now.kept c.copy_pair_slot.new.thread.kept (edits c.args.to.replaces c.args.thread.now.kept c.args.pair c.args.id c.args.to.id c.args.name.now c.requires.can) (renaming_changes c.args.to.replaces c.args.thread.now.kept c.args.pair c.args.id c.args.to.id c.args.name.now) c.copy_pair_slot.ensures.only)
+    survives_here c.args.to.replaces c.args.thread.now.kept c.args.pair c.args.id c.args.to.id c.args.name.now rename c.copy_pair_slot.new.thread.kept.history (read_stops c.args.thread.now.kept c.copy_pair_slot.new.thread.kept c.requires.can.can (renaming_changes c.args.to.replaces c.args.thread.now.kept c.args.pair c.args.id c.args.to.id c.args.name.now) c.copy_pair_slot.ensures.only)
 
 pub change_or_split-requires-clause-can : goal.change_or_split-requires-clause-can
 change_or_split-requires-clause-can g c =
     let are = ap changes_view c.deref.ensures.value ∙ c.in_ok-changes.ensures ∙ ap (λ z. Delete c.args.id ∷ (removal_changes c.args.to.replaces (id_after_removal c.args.id c.args.to.id) ++ slot_changes (id_after_removal c.args.id c.args.to.id) c.args.name.now z)) c.in_ok-copy.ensures.copied in
     subst (CanPut c.copy_pair_slot.new.thread.kept c.args.pair) (sym are)
     (can_after_read c.args.thread.now.kept c.copy_pair_slot.new.thread.kept c.args.pair (renaming_changes c.args.to.replaces c.args.thread.now.kept c.args.pair c.args.id c.args.to.id c.args.name.now) c.copy_pair_slot.ensures.only
-    (can_put_here c.args.to.replaces c.args.thread.now.kept c.args.pair c.args.id c.args.to.id c.args.name.now c.requires.can))
+    (moves_here c.args.to.replaces c.args.thread.now.kept c.args.pair c.args.id c.args.to.id c.args.name.now c.requires.can).can_put)
 
 pub returns-clause-renamed : goal.returns-clause-renamed
 returns-clause-renamed g c =
@@ -59,5 +59,5 @@ pub returns-clause-survives : goal.returns-clause-survives
 returns-clause-survives g c rename =
     let are = ap changes_view c.deref.ensures.value ∙ c.in_ok-changes.ensures ∙ ap (λ z. Delete c.args.id ∷ (removal_changes c.args.to.replaces (id_after_removal c.args.id c.args.to.id) ++ slot_changes (id_after_removal c.args.id c.args.to.id) c.args.name.now z)) c.in_ok-copy.ensures.copied in
     survives_here c.args.to.replaces c.args.thread.now.kept c.args.pair c.args.id c.args.to.id c.args.name.now rename c.change_or_split.new.thread.kept.history
-    (stops_after_read c.args.thread.now.kept c.copy_pair_slot.new.thread.kept c.change_or_split.new.thread.kept (edits c.args.to.replaces c.args.thread.now.kept c.args.pair c.args.id c.args.to.id c.args.name.now c.requires.can) (renaming_changes c.args.to.replaces c.args.thread.now.kept c.args.pair c.args.id c.args.to.id c.args.name.now) c.copy_pair_slot.ensures.only c.change_or_split.ensures.device
+    (stops_after_read c.args.thread.now.kept c.copy_pair_slot.new.thread.kept c.change_or_split.new.thread.kept c.requires.can.can (renaming_changes c.args.to.replaces c.args.thread.now.kept c.args.pair c.args.id c.args.to.id c.args.name.now) c.copy_pair_slot.ensures.only c.change_or_split.ensures.device
     (subst (λ z. CleanLossLeaves c.copy_pair_slot.new.thread.kept.history c.change_or_split.new.thread.kept.history (LeftByPut c.copy_pair_slot.new.thread.kept c.args.pair z)) are c.change_or_split.ensures.stops))

@@ -1,11 +1,11 @@
 -- What calls do to a device together, from what each of them does.
-use Rattle.std.proofs.Common.{◌≡◌, ◌≢◌, ℕ, Bool, List, [], ◌∷◌, refl, sym, ◌∙◌, subst}
+use Rattle.std.proofs.Common.{◌≡◌, ℕ, Bool, List, [], ◌∷◌, refl, sym, ◌∙◌, subst}
 use Rattle.lfs_device.specs.declared.device.BlockDevice.{Ghosts}
 use Rattle.lfs_device.specs.DeviceCalls.{ReadsOnly, ChangesOneBlock}
 use Rattle.lfs_model.specs.format.Blocks.{SameExcept}
 use Rattle.lfs_model.specs.session.History.{call_event}
-use Rattle.lfs_model.specs.session.History.DeviceCall.{Read, Program, Erase, Blank}
-use Rattle.lfs_model.proofs.Histories.{began, goes_on, goes_on_by, HoldsAtLosses-weaker, HoldsAtLosses-read_count, LossLeavesAtWorst-read, OnlyReadsSince-read, StayUnprogrammed-trans, StayUnprogrammed-read_count, StayUnprogrammed-erase, StayUnprogrammed-program, StayUnprogrammed-blank}
+use Rattle.lfs_model.specs.session.History.DeviceCall.{Read, Program, Erase}
+use Rattle.lfs_model.proofs.Histories.{began, goes_on, goes_on_by, HoldsAtLosses-weaker, HoldsAtLosses-read_count, LossLeavesAtWorst-read, OnlyReadsSince-read, StayUnprogrammed-trans, StayUnprogrammed-read_count, StayUnprogrammed-erase, StayUnprogrammed-program}
 use Rattle.lfs_model.proofs.Overwrites.{SameExcept-refl, SameExcept-trans}
 
 module _ {D : Type 0} (g : Ghosts D) where

@@ -89,6 +89,7 @@ impl Extender {
     /// Makes an extender of an empty list.
     ///
     /// Errors: `NoMemory` where memory for a block isn't granted.
+    #[inline(never)]
     pub fn start_empty(alloc: Global, geometry: Geometry) -> Result<Extender, Error>
         ensures started { IfOk result (IsEmptyList geometry) }
         ensures errors { IfErr result (λ e. e ≡ Error.NoMemory) }

@@ -147,10 +147,26 @@ moved_is t fs fd position e =
     moved (Some (file.Reading r)) = refl
     moved (Some (file.Writing w)) = refl
 
--- ---- the writers after a change
-
 one_more : (n : ℕ) → 1 + n ≡ suc n
 one_more n = omega arith
+
+-- ---- a free number
+
+pub free_there : (fs : RuntimeFiles) → open_file_at fs (lowest_free fs) ≡ None
+free_there [] = refl
+free_there (None ∷ fs) = refl
+free_there (Some x ∷ fs) = ap (open_file_at (Some x ∷ fs)) (one_more (lowest_free fs)) ∙ free_there fs
+
+free_stays : (fs : RuntimeFiles) (n : ℕ) → open_file_at fs n ≡ None → set fs n None ≡ fs
+free_stays [] n e = refl
+free_stays (None ∷ fs) zero e = refl
+free_stays (Some x ∷ fs) zero e = absurd (cc)
+free_stays (x ∷ fs) (suc n) e = ap (λ z. x ∷ z) (free_stays fs n e)
+
+pub none_put : (fs : RuntimeFiles) (n : ℕ) → n < length fs → open_file_at fs n ≡ None → fs ≡ runtime_files_with fs n None
+none_put fs n lt e = rw (lt-ltb n (length fs) lt) (sym (free_stays fs n e))
+
+-- ---- the writers after a change
 
 pub writers_put : (fs : RuntimeFiles) (r : Reader) → writers_among (runtime_files_with fs (lowest_free fs) (Some (file.Reading r))) ≡ writers_among fs
 writers_put fs r = go (nat_lt (lowest_free fs) (length fs)) refl

@@ -88,7 +88,7 @@ found_refused t files old new paths found len long absent one two three over fou
 -- they pass on the tree that was read
 pub passes_later : (t tree : TreeState) (old new : List ℕ) (paths : RenamePaths) → OnlyReadsTree t tree → PassesRename t old new paths → PassesRename tree old new paths
 passes_later t tree old new paths asked p =
-    subst (λ z. PassesRename z old new paths) (sym asked.same) (record { works = p.works; writable = p.writable; from = p.from; to = p.to; apart = p.apart; same = p.same })
+    subst (λ z. PassesRename z old new paths) (sym asked.same) (record { given = p.given; works = p.works; writable = p.writable; from = p.from; to = p.to; apart = p.apart; same = p.same })
 
 pub passes_late : (t : TreeState) (files : RuntimeFiles) (old new : List ℕ) (paths : RenamePaths) → PassesRename t old new paths → PassesEarlyChecks (session_view t files) (ops.Rename old new)
 passes_late t files old new paths p = rename_late (session_view t files) old new paths.from paths.to (sym p.works) (sym p.writable) (sym p.from) (sym p.to) p.apart

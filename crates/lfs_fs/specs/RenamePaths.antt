@@ -31,6 +31,7 @@ prevents_rename from to p = is_some (without_prefix from p) || same_path to p
 -- A rename that passes the checks that need no look-up. The tree works and may be written. Both paths are entries', and the new
 -- one isn't beneath the old one.
 pub record PassesRename (t : TreeState) (old new : List ℕ) (paths : RenamePaths) : Type 0 where
+  pub given : (paths.old.now ≡ old) × (paths.new.now ≡ new)
   pub works : t.failed ≡ false
   pub writable : t.writable ≡ true
   pub from : entry_path old ≡ Some paths.from

@@ -267,7 +267,7 @@ impl Files {
         ensures error { IfErr result (λ e. e ≡ Error.NoMemory) }
     {
         let number = free_number(&self.entries);
-        set_table_entry(&mut self.entries, number, None)?;
+        reserve_in_table(&mut self.entries, number)?;
         Ok(number as u32)
     }
 
@@ -587,6 +587,22 @@ fn free_number(entries: &[Option<OpenFile>]) -> usize
         number += 1;
     }
     number
+}
+
+// Makes room for an entry under a free number, which is the next one at most.
+fn reserve_in_table(entries: &mut Vec<Option<OpenFile>>, number: usize) -> Result<(), Error>
+    requires inside { number ≤ vec_len entries.old }
+    requires few { number < 17 }
+    requires free { open_file_at entries.old.items number ≡ None }
+    ensures few { vec_len entries.old ≤ 17 → vec_len entries.new ≤ 17 }
+    ensures put { OnOk result (entries.new.items ≡ runtime_files_with entries.old.items number None) }
+    ensures same { OnErr result (entries.new.items ≡ entries.old.items) }
+    ensures error { IfErr result (λ e. e ≡ Error.NoMemory) }
+{
+    if number == entries.len() {
+        entries.push(None)?;
+    }
+    Ok(())
 }
 
 // Puts an entry under a number, which is the next one at most.

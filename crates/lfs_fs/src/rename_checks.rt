@@ -81,6 +81,9 @@ pub struct PermittedRename<'a> {
 /// The two paths of a rename that isn't refused before a look-up.
 #[derive(Drop)]
 pub struct RenamePaths<'a> {
+    // The bytes of the old path, and of the new one.
+    old: &'a [u8],
+    new: &'a [u8],
     from: Path<'a>,
     to: Path<'a>,
     // Whether both paths are the same.
@@ -112,22 +115,26 @@ fn check_rename_paths<'a, D: BlockDevice>(
         return Err(Error::Invalid);
     }
     let is_same = is_same_path(old, new);
-    Ok(RenamePaths { from, to, is_same })
+    Ok(RenamePaths {
+        old,
+        new,
+        from,
+        to,
+        is_same,
+    })
 }
 
 // Returns the refusal of a rename, by what is at its two paths, the open files and the room.
 fn rename_refusal_of<D: BlockDevice>(
     tree: &Tree<D>,
     files: &Files,
-    old: &[u8],
-    new: &[u8],
     paths: &RenamePaths<'_>,
     found: &RenameFindings,
 ) -> Option<Refusal>
     requires ready { IsReady tree.now files.now }
-    requires passes { PassesRename tree.now old.now new.now paths.now }
+    requires passes { PassesRename tree.now paths.now.old.now paths.now.new.now paths.now }
     requires found { AreRenameFindings (shown_tree tree.now) paths.now.from paths.now.to found.now }
-    ensures { result ≡ refusal_by_checks (session_view tree.now files.now) (ops.Rename old.now new.now) }
+    ensures { result ≡ refusal_by_checks (session_view tree.now files.now) (ops.Rename paths.now.old.now paths.now.new.now) }
 {
     let is_same = paths.is_same;
     let entry = found.entry.node;
@@ -144,7 +151,7 @@ fn rename_refusal_of<D: BlockDevice>(
         check_replacement(is_same, puts_directory, Error::NotDir),
         check_replacement(is_same, puts_file, Error::IsDir),
         check_replacement(is_same, found.target.has_entries, Error::NotEmpty),
-        refuse_if(files.prevents_rename_of(old, new), Error::Busy),
+        refuse_if(files.prevents_rename_of(paths.old, paths.new), Error::Busy),
         check_replacement(is_same, overfills, Error::EntryFull),
         refuse_if(lacks_blocks(tree, files, 2), Error::NoSpace),
     ];
@@ -164,8 +171,13 @@ pub fn check_rename<'a, D: BlockDevice>(
 {
     let paths = check_rename_paths(tree, old, new)?;
     let found = tree.look_up_rename(alloc, &paths.from, &paths.to)?;
-    let refusal = rename_refusal_of(tree, files, old, new, &paths, &found);
-    let RenamePaths { from, to, is_same } = paths;
+    let refusal = rename_refusal_of(tree, files, &paths, &found);
+    let RenamePaths {
+        from,
+        to,
+        is_same,
+        ..
+    } = paths;
     let renaming = PermittedRename {
         from,
         to,

@@ -1,5 +1,5 @@
 -- What a file's slot says of its bytes.
-use Rattle.std.proofs.Common.{ℕ, zero, suc, ◌≡◌, ◌+◌, ◌^◌, ◌<◌, ◌==◌, ◌∙◌, Bool, true, false, cond, List, [], ◌∷◌, ◌++◌, length, length-append, take, Option, Some, None, refl, sym, ap, ap₂, subst, slice_get, get_or, arith, append_assoc}
+use Rattle.std.proofs.Common.{ℕ, zero, suc, ◌≡◌, ◌+◌, ◌^◌, ◌<◌, ◌==◌, ◌∙◌, Bool, true, false, cond, List, [], ◌∷◌, ◌++◌, length, length-append, Option, Some, None, refl, sym, ap, ap₂, subst, slice_get, get_or, arith, append_assoc}
 use Rattle.std.specs.List.{enumerate_from, flat_map}
 use Rattle.lfs_lookup.proofs.Common.{option_and_then, option_map, length-take, same_Some, is_file, RawSlot, complete_slot, complete_slots, kind_of_type, slot_of_id, decoded_struct, inline_type, directory_type, decoded_address, Disk, IsDirectoryPair, IsPlaceOf, slot_bytes, part_bytes, Name, Slot, Struct, Inline, Ctz, Branch, slot_of, Pair, Path, struct_node, recursion_from_All, Each, each_right, IsWritableSlot, IsWritable, IsAccepted, IsFormedList, struct_list_bytes, all_entries, disk_tree, complete_parts, KeptThread, empty_anchor, IsLookupResult, spot_and_storage, IsStorage, IsUnhiddenSpot}
 use Rattle.lfs_model.specs.session.TreeEdits.{file_bytes}

@@ -1,5 +1,5 @@
 -- The contents of the file at a path.
-use Rattle.std.proofs.Common.{ℕ, ◌≡◌, ◌∙◌, ◌<◌, ◌^◌, List, length, take, drop, Some, sym, ap, subst, arith}
+use Rattle.std.proofs.Common.{ℕ, ◌≡◌, ◌∙◌, List, length, take, drop, Some, sym, ap, subst, arith}
 use Rattle.lfs_lookup.proofs.Common.{option_map, slot_of, Slot, take_all, Pair, Path, ThreadView, cached_log, IsFoundCached, spot_and_storage}
 use Rattle.std.specs.Prelude.{IsSome}
 use Rattle.lfs_lookup.specs.FileContents.{IsStorageAt, AreStructContents}

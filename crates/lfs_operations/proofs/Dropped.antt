@@ -1,10 +1,10 @@
 -- A pair that went from the thread, in an accepted image: what the device holds then, and which blocks the image uses.
-use Rattle.lfs_operations.proofs.Common.{ℕ, ◌≡◌, ◌≢◌, ◌⊎◌, inl, inr, ◌+◌, ◌-◌, ◌≤◌, Bool, true, false, cond, nat_eq, eqb-true, eq-eqb, List, [], ◌∷◌, ◌++◌, length, Option, Some, refl, sym, ap, ap₂, subst, subst₂, ◌∙◌, arith, append_assoc, length-append, length-set, set, slice_get, recursion_from_All, same_Some, AreUsed, BlockStates, BlockState, IsInFlight, IsUsedBlock, Free, InFlight, Used, Blocks, Disk, MoveStateFits, HasEitherTree, with_blocks, IsWritable, Gstate, FitsInPair, PairContent, Pair, pairs_blocks, pairs_gstate, address_blocks, Tree, IsAccepted, disk_tree, used_blocks, Contains-number_occurrences, number_occurrences-Contains, slice_get-set_other, slice_get-set_same, Each, number_occurrences, count_append, count_here, each_right, once_from_distinct, HasNoMove, Site, thread_at, IsDevice, file_blocks, all_slots, KeptThread, IsPairWritten, BeginWithSuperblock, thread_pair, map_freeing, Contains, ◌↔◌, CanDropAt, SameInFlight, LeftByDrop, IsPairDropped, content_after_drop, tail_past_drop, ending_dropped_blocks, map_move_ended, zero_gstate, IsChain, dirs_at, PathAddresses, IsWritableChange, root_address, ShowsDroppedTree, count_before_root, block_count, SameGeometry, Slot, all_unmoved_slots, SameFiles, slots_files, each_left, SameFileBlocks, count_files, unmoved_in}
+use Rattle.lfs_operations.proofs.Common.{ℕ, ◌≡◌, ◌≢◌, ◌⊎◌, inl, inr, ◌+◌, ◌-◌, ◌≤◌, Bool, true, false, cond, nat_eq, eqb-true, eq-eqb, List, [], ◌∷◌, ◌++◌, length, Option, Some, refl, sym, ap, ap₂, subst, subst₂, ◌∙◌, arith, append_assoc, length-append, length-set, set, slice_get, recursion_from_All, same_Some, AreUsed, BlockStates, BlockState, IsInFlight, IsUsedBlock, Free, InFlight, Used, Blocks, Disk, MoveStateFits, HasEitherTree, with_blocks, IsWritable, Gstate, FitsInPair, PairContent, Pair, pairs_blocks, pairs_gstate, address_blocks, Tree, IsAccepted, disk_tree, used_blocks, Contains-number_occurrences, number_occurrences-Contains, slice_get-set_other, slice_get-set_same, Each, number_occurrences, count_append, count_here, each_right, once_from_distinct, HasNoMove, Site, thread_at, IsDevice, file_blocks, all_slots, KeptThread, IsPairWritten, BeginWithSuperblock, thread_pair, map_freeing, Contains, ◌↔◌, CanDropAt, SameInFlight, LeftByDrop, IsPairDropped, content_after_drop, tail_past_drop, ending_dropped_blocks, map_move_ended, zero_gstate, IsChain, dirs_at, PathAddresses, IsWritableChange, root_address, ShowsDroppedTree, count_before_root, block_count}
 use Rattle.lfs_operations.proofs.DroppedTails.{front_is, gone_is, gstate_is, without_is}
-use Rattle.lfs_model.proofs.Placing.{device, left_still, blocks_append}
+use Rattle.lfs_model.proofs.Placing.{device, left_still}
 use Rattle.lfs_operations.proofs.Taking.{within}
 use Rattle.lfs_operations.proofs.Threads.{placed_one}
-use Rattle.lfs_model.proofs.UsedCounts.{count_used, used_same, slots_append}
+use Rattle.lfs_model.proofs.UsedCounts.{count_used, used_same}
 use Rattle.lfs_model.proofs.WithoutPair.{blocks_dropped, device_without, files_dropped}
 use Rattle.lfs_model.proofs.RootStays.{root_stays}
 

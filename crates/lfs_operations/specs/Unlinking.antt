@@ -1,5 +1,5 @@
 -- An empty directory that is removed: its entry with the sync bit set, and then its pair, with the sync bit cleared.
-use Rattle.std.specs.Prelude.{ℕ, ◌≡◌, ◌⊎◌, ◌<◌, true, false, List, [], ◌∷◌, ◌++◌, length, ◌-◌, Result, is_err, IfErr, IsErrOf, nat_lt, if◌then◌else◌}
+use Rattle.std.specs.Prelude.{ℕ, ◌≡◌, ◌⊎◌, ◌<◌, true, false, List, [], ◌∷◌, ◌++◌, length, ◌-◌, Result, is_err, IfErr, IsErrOf, if◌then◌else◌}
 use Rattle.lfs_device.specs.declared.error.Error.{Error}
 use Rattle.lfs_device.specs.declared.error.Error.TheVariants.{Io, NoMemory}
 use Rattle.lfs_model.specs.layers.Changes.{ContentChange, Delete, PutMove}

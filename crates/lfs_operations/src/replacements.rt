@@ -88,8 +88,8 @@ pub struct EmptyDirectory {
 
 /// Renames the entry at the id of a pair onto an empty directory of the same pair and directory.
 /// The entry gets the directory's name, and keeps its own struct and attributes. The first commit
-/// sets the sync bit. The second drops the directory's own pair, to which no path leads any more, and clears the
-/// bit (DESIGN.md of littlefs, "The move problem").
+/// sets the sync bit. The second drops the directory's own pair, to which no path leads any more,
+/// and clears the bit (DESIGN.md of littlefs, "The move problem").
 ///
 /// Errors: `Io` where a call of the device failed, and `NoMemory` where memory for a pair's slots,
 /// a copy of the entry and a pair's block isn't granted. The thread has failed then, unless the

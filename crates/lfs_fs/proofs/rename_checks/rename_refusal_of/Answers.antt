@@ -6,7 +6,7 @@ use Rattle.lfs_fs.proofs.rename_checks.rename_refusal_of.Goals as goal
 pub returns : goal.returns
 returns g c =
     c.find_first_refusal.ensures
-    ∙ found_refused c.args.tree.now c.args.files.now c.args.old.now c.args.new.now c.args.paths.now c.args.found.now c.name_len-name_len.result c.name_is_long.result c.is_nothing.result _ _ _ c.entry_overflows-overfills.result _ c.lacks_blocks.result c.prevents_rename_of.result
+    ∙ found_refused c.args.tree.now c.args.files.now c.args.paths.now.old.now c.args.paths.now.new.now c.args.paths.now c.args.found.now c.name_len-name_len.result c.name_is_long.result c.is_nothing.result _ _ _ c.entry_overflows-overfills.result _ c.lacks_blocks.result c.prevents_rename_of.result
     c.refuse_if.result c.refuse_if-2.result c.check_replacement.result c.check_replacement-2.result c.check_replacement-3.result c.refuse_if-3.result c.check_replacement-4.result c.refuse_if-4.result
     c.requires.passes c.requires.found
     c.name_len-name_len.ensures.len c.name_is_long.ensures c.refuse_if.ensures c.is_nothing.ensures c.refuse_if-2.ensures

@@ -1,5 +1,5 @@
 use Rattle.std.proofs.Common.{subst, sym, ap}
-use Rattle.lfs_tool.proofs.Common.{IfOk-weaker, ordered_disk, Disk, AreUsed, used_blocks, IsAccepted, IsDiskVerdict, error_of_mount}
+use Rattle.lfs_tool.proofs.Common.{ordered_disk, Disk, AreUsed, used_blocks, IsAccepted, error_of_mount}
 use Rattle.lfs_model.specs.declared.order.NameOrder.TheVariants.{LongerFirst}
 use Rattle.lfs_tool.specs.Verdict.{IsSummarized, BreaksInSomeOrder}
 use Rattle.lfs_tool.proofs.judgement.judge_device.Goals as goal

@@ -102,7 +102,7 @@ impl Cache {
         match read_block(self.alloc, device, block) {
             Ok(bytes) => {
                 copy_range(&bytes, offset, buf);
-                self.keep_if_granted(block, bytes);
+                self.keep(block, bytes);
                 Ok(())
             }
             Err(Error::NoMemory) => read_range(device, block, offset, buf),
@@ -162,6 +162,19 @@ impl Cache {
         self.clear();
     }
 
+    /// Adds a block with these bytes as the most recent one, where memory for that is granted. The
+    /// least recent block is dropped where there were eight. The caller's condition is that the
+    /// block isn't cached.
+    pub fn keep(&mut self, block: u32, bytes: Vec<u8>)
+        requires { cached_bytes self.old block ≡ None }
+        ensures { (self.new ≡ self.old) ⊎ (self.new ≡ cache_with self.old block bytes.items) }
+    {
+        match self.add_uncached_block(block, bytes) {
+            Ok(()) => {}
+            Err(_) => {}
+        }
+    }
+
     // Returns a cached block that isn't used by the map, if there is one.
     fn find_unused(&self, map: &BlockMap) -> Option<u32>
         ensures { IfNone result (AreCachedUsed map.now self.now) }
@@ -195,17 +208,6 @@ impl Cache {
     {
         self.recent.put(block, bytes)?;
         Ok(())
-    }
-
-    // Adds a block that isn't cached as the most recent one, where memory for that is granted.
-    fn keep_if_granted(&mut self, block: u32, bytes: Vec<u8>)
-        requires { cached_bytes self.old block ≡ None }
-        ensures { (self.new ≡ self.old) ⊎ (self.new ≡ cache_with self.old block bytes.items) }
-    {
-        match self.add_uncached_block(block, bytes) {
-            Ok(()) => {}
-            Err(_) => {}
-        }
     }
 }
 

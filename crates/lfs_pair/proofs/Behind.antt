@@ -1,15 +1,17 @@
 -- A commit or a split behind reads.
-use Rattle.std.proofs.Common.{ℕ, ◌≡◌, ◌+◌, inl, inr, refl, sym, ap, ap₂, ◌∙◌, subst, List, Some, arith, ◌≤◌, Option, None, Ok, Bor}
+use Rattle.std.proofs.Common.{ℕ, ◌≡◌, ◌+◌, inl, inr, refl, sym, ap, ap₂, ◌∙◌, subst, List, Some, None, arith, ◌≤◌, Option, Ok}
 use Rattle.lfs_device.specs.declared.device.BlockDevice.{Ghosts}
 use Rattle.lfs_device.specs.declared.geometry.Geometry.{Geometry}
 use Rattle.lfs_pair.proofs.Common.{ReadsOnly, disk_of_blocks, Blocks, Disk, RawContentFits, CallEvent, AllCallsSince, OnlyReadsSince, ContentChange, AllCallsSince-behind, blank_count-read_count, erase_count-read_count, program_count-read_count, header_address, AppendFits, IsEndUnprogrammed, changed_pair_content, ErasedOneMore, IsWellFormed, RawContent, ChangesTheseBlocks, ChangesReadingFew, block_bytes, HoldsAtLosses, HoldsAtLosses-read_count, HoldsAtLosses-weaker, LeftByLoss, LeftByLoss-read, ErasesCleanly, goes_on_by, fault_count, read_count, AreNamed, LossLeavesChanged, LossLeavesNew, changed_log_content}
 use Rattle.lfs_pair.specs.declared.pair.Pair.{Pair}
-use Rattle.lfs_pair.specs.Commits.{CommitsChanges, RefusesCommit, AppendsChanges, CanCommit, CompactsContent, RefusesAppend}
+use Rattle.lfs_pair.specs.Commits.{CommitsChanges, RefusesCommit, AppendsChanges, AppendsByHeader, CanCommit, CompactsContent, RefusesAppend}
 use Rattle.lfs_pair.proofs.Calls.{only_by_reads, only_trans}
 use Rattle.lfs_pair.proofs.Changed.{some_same, content_made_here, left_alone, left_by_change, made_here}
 use Rattle.lfs_model.proofs.Completed.{fits_raw}
 use Rattle.lfs_model.specs.format.Content.{complete_content}
-use Rattle.std.specs.Prelude.{option_copied, unwrap_or}
+use Rattle.std.specs.Prelude.{IfSome, IfNone}
+use Rattle.lfs_pair.specs.declared.programs.WrittenCommit.{WrittenCommit}
+use Rattle.lfs_pair.specs.Pair.{IsHeaderWith, IsWrittenHeader}
 use Rattle.lfs_device.specs.DeviceCalls.{ReadsOrNoMemory}
 use Rattle.lfs_pair.proofs.Asking.{appends_until}
 
@@ -45,12 +47,11 @@ only_behind r only = only_trans (only_by_reads r.device) only
 pub reading_behind : {D : Type 0} {g : Ghosts D} {n : ℕ} (m : ℕ) {bs : List ℕ} {old mid new : D} → IsRead g n old mid → ChangesTheseBlocks g bs mid new → read_count (g.history new) ≤ read_count (g.history mid) + m → ChangesReadingFew g (m + n) bs old new
 reading_behind m r only more = record { only = only_behind r only; few = let few = r.few in omega (arith, few, more) }
 
--- ---- the content that is to be written
+-- the same where more would be allowed
+pub reading_more : {D : Type 0} {g : Ghosts D} (n : ℕ) {bs : List ℕ} {old new : D} → ChangesReadingFew g (0 + n) bs old new → ChangesReadingFew g (1 + n) bs old new
+reading_more n reads = record { only = reads.only; few = let few = reads.few in omega (arith, few) }
 
--- bytes that are given, or else read
-pub given_here : (given : Option (Bor (List ℕ))) (read : Bor (List ℕ)) {block : Bor (List ℕ)} {items bytes : List ℕ} → unwrap_or (option_copied given) items ≡ bytes → read.now ≡ items → block ≡ unwrap_or given read → block.now ≡ bytes
-given_here None read here is which = ap (λ (b : Bor (List ℕ)). b.now) which ∙ is ∙ here
-given_here (Some b) read here is which = ap (λ (b : Bor (List ℕ)). b.now) which ∙ here
+-- ---- the content that is to be written
 
 -- what changes make of a pair, which can be written
 pub record IsToWrite (disk : Disk) (at : ℕ × ℕ) (changes : List ContentChange) (c : RawContent) : Type 0 where
@@ -71,6 +72,26 @@ is_to_write {geometry} {here} {blocks} {history} {pair} {block} {changes} {c} ca
     }
 
 -- ---- a commit
+
+pub made_behind : {D : Type 0} {g : Ghosts D} {most : ℕ} {at : ℕ × ℕ} {changes : List ContentChange} {c : RawContent} {old mid : D} → IsRead g most old mid → IsToWrite (disk_of_blocks (g.geometry old) (g.blocks old)) at changes c
+    → changed_pair_content (disk_of_blocks (g.geometry mid) (g.blocks mid)) at changes ≡ Some c
+made_behind {at = at} {changes = changes} r to = ap (λ d. changed_pair_content d at changes) (same_disk r.device) ∙ to.made
+
+-- what changes make is made of the same content again
+pub write_again : {disk : Disk} {at : ℕ × ℕ} {changes : List ContentChange} {c again : RawContent} → IsToWrite disk at changes c → changed_pair_content disk at changes ≡ Some again → IsToWrite disk at changes again
+write_again {disk} {at} {changes} to made = subst (IsToWrite disk at changes) (some_same (sym to.made ∙ made)) to
+
+pub appends_some : {old disk : Disk} {before history : List CallEvent} {was : Pair} {changes : List ContentChange} {written : WrittenCommit} {o : Option WrittenCommit} → o ≡ Some written
+    → IfSome o (λ w. AppendsByHeader old before was changes disk history w.end w.last) → AppendsByHeader old before was changes disk history written.end written.last
+appends_some {old} {disk} {before} {history} {was} {changes} is appends = subst (λ x. IfSome x (λ w. AppendsByHeader old before was changes disk history w.end w.last)) is appends
+
+pub refuses_none : {D : Type 0} {g : Ghosts D} {changes : List ContentChange} {old new : D} {was : Pair} {o : Option WrittenCommit} → o ≡ None → IfNone o (RefusesAppend g changes old new was was) → RefusesAppend g changes old new was was
+refuses_none {g = g} {changes} {old} {new} {was} is refuses = subst (λ x. IfNone x (RefusesAppend g changes old new was was)) is refuses
+
+-- the header behind an append is at the same place
+pub same_header : {c : RawContent} {was with pair : Pair} {end last : ℕ} → IsHeaderWith c was with → IsWrittenHeader (header_address with) with.active with.revision end last c pair
+    → IsWrittenHeader (header_address was) was.active was.revision end last c pair
+same_header with now = record { blocks = now.blocks ∙ with.blocks; active = now.active ∙ with.active; revision = now.revision ∙ with.revision; ends = now.ends; sums = now.sums; fetched = now.fetched }
 
 -- what could be appended could be by the history before the reads
 appends_ahead : {disk : Disk} {blocks : Blocks} {before mid after : List CallEvent} {pair : Pair} {changes : List ContentChange} → OnlyReadsSince blocks before mid → AppendFits disk mid after pair changes → AppendFits disk before after pair changes

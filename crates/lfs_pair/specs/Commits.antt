@@ -21,7 +21,7 @@ use Rattle.lfs_model.specs.layers.WrittenContent.{RawContentFits, content_entrie
 use Rattle.lfs_model.specs.format.Tag.{tag_class}
 use Rattle.lfs_pair.specs.Writing.{IsWrittenAnew}
 use Rattle.lfs_pair.specs.declared.pair.Pair.{Pair}
-use Rattle.lfs_pair.specs.Pair.{IsTrueHeader, active_block_at, header_address}
+use Rattle.lfs_pair.specs.Pair.{IsTrueHeader, IsWrittenHeader, active_block_at, header_address}
 use Rattle.lfs_model.specs.format.Thread.{address_blocks}
 
 -- the content is there, and its entries begin with that one when it is written anew
@@ -85,11 +85,10 @@ abbrev pub reads_unless_given : Option (List ℕ) → ℕ
 reads_unless_given None = 1
 reads_unless_given (Some bytes) = 0
 
--- The premises of an append: those of a commit, the content that the changes make, and a buffer as long as a block.
-pub record CanAppendChanges (disk : Disk) (history : List CallEvent) (pair : Pair) (changes : List ContentChange) (c : RawContent) (len : ℕ) : Type 0 where
+-- The premises of an append: those of a commit, the active block's bytes, and a buffer as long as a block.
+pub record CanAppendChanges (disk : Disk) (history : List CallEvent) (pair : Pair) (block : List ℕ) (changes : List ContentChange) (len : ℕ) : Type 0 where
   pub can : CanCommit disk history pair changes
-  pub logged : IsWellFormed c
-  pub made : changed_pair_content disk (header_address pair) changes ≡ Some c
+  pub holds : block ≡ block_bytes disk.blocks pair.active
   pub buf : len ≡ disk.block_size
 
 -- The premises of a compaction: the disk has the pair, the content can be written anew, and the buffer is as long as a block.
@@ -153,6 +152,11 @@ pub record AppendsChanges (old : Disk) (before : List CallEvent) (was : Pair) (c
   pub first : KeepsFirstEntry old (header_address was) (Some c) disk
   pub appends : AppendFits old before history was changes
   pub appended : IsCommitAppended old.page was changes old.blocks disk.blocks before history pair
+
+-- The changes could be appended, and they were. The pair has the content that they make, by a header that says so.
+abbrev pub AppendsByHeader : Disk → List CallEvent → Pair → List ContentChange → Disk → List CallEvent → ℕ → ℕ → Type 0
+AppendsByHeader old before was changes disk history end last = (c : RawContent) (pair : Pair) → changed_pair_content old (header_address was) changes ≡ Some c → IsWellFormed c
+    → IsWrittenHeader (header_address was) was.active was.revision end last c pair → AppendsChanges old before was changes c disk history pair
 
 -- the changes can't be appended; the disk, its calls and the header are as before
 pub record RefusesAppend {D : Type 0} (g : Ghosts D) (changes : List ContentChange) (old new : D) (was now : Pair) : Type 0 where

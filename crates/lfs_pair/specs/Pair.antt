@@ -36,10 +36,26 @@ pub record IsContentHeader (c : RawContent) (pair : Pair) : Type 0 where
   pub move : move_view pair.move_state ≡ c.move
   pub complete : pair.is_complete ≡ is_some (complete_content c)
 
+-- the header has what is kept of the content, and is otherwise the one from before
+pub record IsHeaderWith (c : RawContent) (was now : Pair) : Type 0 where
+  pub sums : IsContentHeader c now
+  pub blocks : header_address now ≡ header_address was
+  pub active : now.active ≡ was.active
+  pub revision : now.revision ≡ was.revision
+
 -- the header has this end of the log, and this last tag
 pub record HeaderHasEnd (end last : ℕ) (pair : Pair) : Type 0 where
   pub end_is : pair.end ≡ end
   pub last_is : pair.last ≡ last
+
+-- The header of a pair whose active block was just written, so that its log ends there and comes to that content.
+pub record IsWrittenHeader (at : ℕ × ℕ) (block number end last : ℕ) (c : RawContent) (pair : Pair) : Type 0 where
+  pub blocks : header_address pair ≡ at
+  pub active : pair.active ≡ block
+  pub revision : pair.revision ≡ number
+  pub ends : HeaderHasEnd end last pair
+  pub sums : IsContentHeader c pair
+  pub fetched : pair.is_fetched ≡ false
 
 -- a block's log comes to that content, and the header describes it
 pub record HeaderDescribesLog (block : List ℕ) (pair : Pair) (held : RawContent) : Type 0 where

@@ -31,6 +31,11 @@ pub record CanProgramCommit (geometry : Geometry) (blocks : Blocks) (history : L
   pub goes : IsCommitOffset builder.revision builder.previous (block_bytes blocks b) at
   pub unprogrammed : AreUnprogrammed history b at geometry.block_size
 
+-- the same of a block with these bytes
+pub record CanAppendCommit (geometry : Geometry) (blocks : Blocks) (history : List CallEvent) (builder : PartialCommit) (b at : ℕ) (bytes : List ℕ) : Type 0 where
+  pub can : CanProgramCommit geometry blocks history builder b at
+  pub holds : bytes ≡ block_bytes blocks b
+
 -- a content can be written into a block as its first commit, by a buffer as long as a block
 pub record CanWriteAnew (geometry : Geometry) (b : ℕ) (c : RawContent) (len : ℕ) : Type 0 where
   pub in_device : b < geometry.block_count
@@ -58,6 +63,11 @@ pub record BlockGetsCommit (b : PartialCommit) (at end : ℕ) (old new : List �
   pub commit : LogGetsCommit b old new
   pub end_is : end ≡ at + padded_commit_end b
   pub kept : take at new ≡ take at old
+
+-- The same of bytes at hand, which then are those of the block.
+pub record BytesGetCommit (b : PartialCommit) (at end : ℕ) (old new block : List ℕ) : Type 0 where
+  pub gets : BlockGetsCommit b at end old new
+  pub same : new ≡ block
 
 -- What a stop leaves of a commit that is programmed at an offset: the log from before, or the one with the commit. At the block's
 -- beginning it may also leave none.

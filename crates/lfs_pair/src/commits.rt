@@ -1,25 +1,27 @@
 // Commits of changes to a pair.
 
-ghost use Rattle.std.specs.Prelude.{◌≡◌, ◌+◌, true, false, IfErr, OnErr, OnOk, length, option_copied};
+ghost use Rattle.std.specs.Prelude.{◌≡◌, ◌+◌, ◌≤◌, true, false, IfErr, IfNone, IfOk, IfSome, OnErr, OnOk, Some, length};
+ghost use Rattle.std.specs.Option.{option_map};
 ghost use Rattle.lfs_device.specs.DeviceDisk.{disk_of_blocks};
 ghost use Rattle.lfs_device.specs.DeviceCalls.{ReportsFaults, ReportsOnlyIo};
 ghost use Rattle.lfs_model.specs.session.History.{AllCallsSince, HoldsAtLosses};
 ghost use Rattle.lfs_model.specs.crash.Stops.{ErasesCleanly, LeftByLoss};
 ghost use Rattle.lfs_tag.specs.ContentView.{content_view};
+ghost use Rattle.lfs_model.specs.format.Blocks.{block_bytes};
 ghost use Rattle.lfs_model.specs.format.Content.{RawContent};
 ghost use Rattle.lfs_pair.specs.Pair.{IsTrueHeader, header_address};
 ghost use Rattle.lfs_pair.specs.ChangeView.{changes_view};
-ghost use Rattle.lfs_pair.specs.Commits.{IsPairAddress, CanAppendChanges, CanCommitWithBlock, CanCompact, CompactsContent, CommitFails, IsEndBlank, LossLeavesChanged, LossLeavesNew, reads_unless_given};
-ghost use Rattle.lfs_pair.specs.Endings.{AppendReturns, CommitReturns};
+ghost use Rattle.lfs_pair.specs.Commits.{AppendsByHeader, IsPairAddress, CanAppendChanges, CanCommitWithBlock, CanCompact, CompactsContent, CommitFails, IsEndBlank, LossLeavesChanged, LossLeavesNew, RefusesAppend, changed_pair_content, reads_unless_given};
+ghost use Rattle.lfs_pair.specs.Endings.{CommitReturns};
 ghost use Rattle.lfs_pair.specs.Writing.{OnlyAsksBlank, ChangesReadingFew, WritesTheseBlocks};
 ghost use Rattle.lfs_model.specs.format.Thread.{address_blocks};
 
 use crate::change::Change;
 use crate::contents::changed_content;
 use crate::entries::push_changes;
-use crate::given_blocks::read_unless_given;
+use crate::given_blocks::take_or_read;
 use crate::pair::Pair;
-use crate::programs::{program_commit_at, write_block_anew};
+use crate::programs::{WrittenCommit, append_commit, write_block_anew};
 use crate::size::content_fits;
 use lfs_device::{BlockDevice, Error};
 use lfs_tag::{CommitBuilder, Content};
@@ -38,7 +40,7 @@ pub enum Outcome {
 /// loss of power during the call leaves the pair with all of the changes or with none.
 ///
 /// `block` is the active block's bytes where the caller has them, as from a cache; else they are
-/// read. The changes are appended to the active block's log where the padded commit ends within
+/// read. At Ok it has the bytes that this block then has on the device. The changes are appended to the active block's log where the padded commit ends within
 /// the block. Else the other block is erased, and all that the pair is to hold is written into it.
 /// After a [`fetch`](crate::fetch) the bytes after the log aren't known. So the first commit asks
 /// the device whether they are blank, and appends only then. The call takes at most two reads, and
@@ -63,30 +65,39 @@ pub fn commit<D: BlockDevice>(
     alloc: Global,
     dev: &mut D,
     pair: &mut Pair,
-    block: Option<&[u8]>,
+    block: &mut Option<Vec<u8>>,
     changes: &[Change<'_>],
 ) -> Result<Outcome, Error>
-    requires { CanCommitWithBlock (disk_of_blocks (D.geometry dev.old) (D.blocks dev.old)) (D.history dev.old) pair.old (changes_view changes.now) (option_copied block) }
+    requires { CanCommitWithBlock (disk_of_blocks (D.geometry dev.old) (D.blocks dev.old)) (D.history dev.old) pair.old (changes_view changes.now) (option_map (λ bytes. bytes.items) block.old) }
 
-    ensures ends { CommitReturns D.BlockDevice (changes_view changes.now) dev.old dev.new pair.old pair.new result }
+    ensures ends { CommitReturns D.BlockDevice (changes_view changes.now) dev.old dev.new pair.old pair.new (option_map (λ bytes. bytes.items) block.new) result }
     ensures error { IfErr result (λ e. CommitFails D.BlockDevice dev.old dev.new pair.old pair.new e) }
-    ensures device { ChangesReadingFew D.BlockDevice (1 + reads_unless_given (option_copied block.entry)) (address_blocks (header_address pair.old)) dev.old dev.new }
+    ensures device { ChangesReadingFew D.BlockDevice (1 + reads_unless_given (option_map (λ bytes. bytes.items) block.old)) (address_blocks (header_address pair.old)) dev.old dev.new }
     ensures faults { ReportsFaults D.BlockDevice dev.old dev.new result }
     ensures stops { AllCallsSince ErasesCleanly (D.history dev.old) (D.history dev.new)
         → HoldsAtLosses LeftByLoss (D.history dev.old) (D.history dev.new) (LossLeavesChanged (disk_of_blocks (D.geometry dev.old) (D.blocks dev.old)) (header_address pair.old) (changes_view changes.now)) }
 {
     let geometry = dev.geometry();
-    let read = read_unless_given(alloc, dev, pair.active, block)?;
-    let block = block.unwrap_or(&read);
-    let content = changed_content(alloc, pair, block, changes)?;
+    let mut bytes = take_or_read(alloc, dev, pair.active, block)?;
+    let content = changed_content(alloc, pair, &bytes, changes)?;
     if !content_fits(&content, geometry) {
+        drop(content);
+        *block = Some(bytes);
         return Ok(Outcome::Full);
     }
+    let header = pair.with_content(&content);
+    drop(content);
     let mut buf = Vec::from_elem(alloc, 0u8, geometry.block_size as usize)?;
-    if append_changes(dev, pair, changes, &content, &mut buf)? {
+    if let Some(written) = append_changes(dev, pair, &mut bytes, changes, &mut buf)? {
+        *pair = header.with_end(written);
+        *block = Some(bytes);
         return Ok(Outcome::Done);
     }
+    // The append was lent the bytes that the content was made of, so it is made once more.
+    let content = changed_content(alloc, pair, &bytes, changes)?;
     compact(dev, pair, &content, &mut buf)?;
+    drop(content);
+    *block = Some(bytes);
     Ok(Outcome::Done)
 }
 
@@ -113,37 +124,38 @@ fn is_end_blank<D: BlockDevice>(dev: &mut D, pair: &Pair) -> Result<bool, Error>
     Ok(is_blank)
 }
 
-// Appends the changes, which make the content, to the log of the active block, if they fit there.
-// Returns whether they do, and whether nothing is programmed there.
+// Appends the changes to the log of the active block, if they fit there and nothing is programmed
+// there. `block` has that block's bytes before and afterwards. Returns where the log ends then.
 fn append_changes<D: BlockDevice>(
     dev: &mut D,
-    pair: &mut Pair,
+    pair: &Pair,
+    block: &mut Vec<u8>,
     changes: &[Change<'_>],
-    content: &Content<'_>,
     buf: &mut [u8],
-) -> Result<bool, Error>
-    requires { CanAppendChanges (disk_of_blocks (D.geometry dev.old) (D.blocks dev.old)) (D.history dev.old) pair.old (changes_view changes.now) (content_view content.now) (length buf.old) }
+) -> Result<Option<WrittenCommit>, Error>
+    requires { CanAppendChanges (disk_of_blocks (D.geometry dev.old) (D.blocks dev.old)) (D.history dev.old) pair.now block.old.items (changes_view changes.now) (length buf.old) }
 
-    ensures ends { AppendReturns D.BlockDevice (changes_view changes.now) (content_view content.now) dev.old dev.new pair.old pair.new result }
-    ensures buf { length buf.new ≡ length buf.old }
-    ensures err_pair { OnErr result (pair.new ≡ pair.old) }
-    ensures writes { WritesTheseBlocks D.BlockDevice 1 (address_blocks (header_address pair.old)) dev.old dev.new result }
-    ensures stops { HoldsAtLosses LeftByLoss (D.history dev.old) (D.history dev.new) (LossLeavesNew (disk_of_blocks (D.geometry dev.old) (D.blocks dev.old)) (header_address pair.old) (content_view content.now)) }
+    ensures appends { IfOk result (λ o. IfSome o (λ written. AppendsByHeader (disk_of_blocks (D.geometry dev.old) (D.blocks dev.old)) (D.history dev.old) pair.now (changes_view changes.now)
+        (disk_of_blocks (D.geometry dev.new) (D.blocks dev.new)) (D.history dev.new) written.end written.last)) }
+    ensures no_room { IfOk result (λ o. IfNone o (RefusesAppend D.BlockDevice (changes_view changes.now) dev.old dev.new pair.now pair.now)) }
+    ensures block { OnOk result (block.new.items ≡ block_bytes (D.blocks dev.new) pair.now.active) }
+    ensures writes { WritesTheseBlocks D.BlockDevice 0 (address_blocks (header_address pair.now)) dev.old dev.new result }
+    ensures stops { (c : RawContent) → changed_pair_content (disk_of_blocks (D.geometry dev.old) (D.blocks dev.old)) (header_address pair.now) (changes_view changes.now) ≡ Some c
+        → HoldsAtLosses LeftByLoss (D.history dev.old) (D.history dev.new) (LossLeavesNew (disk_of_blocks (D.geometry dev.old) (D.blocks dev.old)) (header_address pair.now) c) }
 {
     let geometry = dev.geometry();
     let mut builder = CommitBuilder::new(geometry.page, buf, pair.last, None);
     push_changes(&mut builder, changes);
     let room = geometry.block_size - pair.end as u32;
     if room < builder.end_on_page() {
-        return Ok(false);
+        return Ok(None);
     }
     let is_blank = is_end_blank(dev, pair)?;
     if !is_blank {
-        return Ok(false);
+        return Ok(None);
     }
-    let written = program_commit_at(dev, pair.active, pair.end as u32, builder)?;
-    *pair = Pair::written(pair.blocks, pair.active, pair.revision, written, content);
-    Ok(true)
+    let written = append_commit(dev, pair.active, pair.end as u32, builder, block)?;
+    Ok(Some(written))
 }
 
 // Writes the content into the pair's other block, which becomes active.

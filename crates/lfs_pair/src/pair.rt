@@ -1,10 +1,10 @@
 // The header that is kept of a metadata pair.
 
-ghost use Rattle.std.specs.Prelude.{◌≡◌, false, is_some, map};
-ghost use Rattle.lfs_model.specs.format.Content.{complete_slots};
+ghost use Rattle.std.specs.Prelude.{◌≡◌, is_some, map};
+ghost use Rattle.lfs_model.specs.format.Content.{RawContent, complete_slots};
 ghost use Rattle.lfs_model.specs.format.Slots.{address_view, same_pair};
 ghost use Rattle.lfs_tag.specs.ContentView.{content_view, slot_view};
-ghost use Rattle.lfs_pair.specs.Pair.{HeaderHasEnd, IsContentHeader, header_inactive_block};
+ghost use Rattle.lfs_pair.specs.Pair.{IsContentHeader, IsHeaderWith, IsWrittenHeader, header_address, header_inactive_block};
 
 use crate::programs::WrittenCommit;
 use lfs_tag::{Content, MoveState, Slot, Tag, Tail};
@@ -69,6 +69,31 @@ impl Pair {
         }
     }
 
+    // Returns the header with what is kept of this content.
+    pub(crate) fn with_content(&self, content: &Content<'_>) -> Pair
+        ensures { IsHeaderWith (content_view content.now) self.now result }
+    {
+        Pair {
+            slot_count: content.slots.len(),
+            tail: content.tail,
+            move_state: content.move_state,
+            is_complete: are_slots_complete(&content.slots),
+            ..*self
+        }
+    }
+
+    // Returns the header with the end of a commit that was just written to the active block.
+    pub(crate) fn with_end(self, written: WrittenCommit) -> Pair
+        ensures { (c : RawContent) → IsContentHeader c self → IsWrittenHeader (header_address self) self.active self.revision written.end written.last c result }
+    {
+        Pair {
+            end: written.end,
+            last: written.last,
+            is_fetched: false,
+            ..self
+        }
+    }
+
     // Makes the header of a pair whose active block was just written.
     pub(crate) fn written(
         blocks: [u32; 2],
@@ -77,12 +102,7 @@ impl Pair {
         written: WrittenCommit,
         content: &Content<'_>,
     ) -> Pair
-        ensures blocks { result.blocks ≡ blocks }
-        ensures active { result.active ≡ active }
-        ensures revision { result.revision ≡ revision }
-        ensures ends { HeaderHasEnd written.end written.last result }
-        ensures sums { IsContentHeader (content_view content.now) result }
-        ensures fetched { result.is_fetched ≡ false }
+        ensures { IsWrittenHeader (address_view blocks) active revision written.end written.last (content_view content.now) result }
     {
         Pair {
             blocks,

@@ -3,13 +3,13 @@
 ghost use Rattle.std.specs.Prelude.{◌≡◌, ◌<◌, ◌≤◌, ◌+◌, length, IfOk, OnOk};
 ghost use Rattle.lfs_device.specs.DeviceDisk.{disk_of_blocks};
 ghost use Rattle.lfs_device.specs.DeviceCalls.{ReadsOnly, ReportsOnlyIo};
-ghost use Rattle.lfs_model.specs.format.Blocks.{block_bytes};
+ghost use Rattle.lfs_model.specs.format.Blocks.{block_bytes, overwritten_at};
 ghost use Rattle.lfs_model.specs.session.History.{AllCallsSince, HoldsAtLosses, read_count};
 ghost use Rattle.lfs_model.specs.layers.Commit.{encoded_size, four_bytes_at, aligned_end};
 ghost use Rattle.lfs_model.specs.crash.Stops.{ErasesCleanly, LeftByLoss};
 ghost use Rattle.lfs_model.specs.layers.WrittenContent.{content_entries};
 ghost use Rattle.lfs_tag.specs.ContentView.{content_view};
-ghost use Rattle.lfs_pair.specs.Writing.{BlockGetsCommit, CanProgramCommit, CanWriteAnew, IsWrittenAnew, EndsBeforeUnprogrammed, LossLeavesCommit, LossLeavesRewritten, DiffersInBlock, ProgramsOnce, WritesOnlyBlock};
+ghost use Rattle.lfs_pair.specs.Writing.{BlockGetsCommit, BytesGetCommit, CanAppendCommit, CanProgramCommit, CanWriteAnew, IsWrittenAnew, EndsBeforeUnprogrammed, LossLeavesCommit, LossLeavesRewritten, DiffersInBlock, ProgramsOnce, WritesOnlyBlock};
 
 use crate::entries::push_content;
 use lfs_device::{BlockDevice, Error};
@@ -45,26 +45,73 @@ fn read_four_bytes<D: BlockDevice>(
     Ok(Some(next))
 }
 
-// Programs a commit into a block at an offset. The block is unprogrammed from there on.
-pub(crate) fn program_commit_at<D: BlockDevice>(
+// Appends a commit to a block at an offset. The block has these bytes, and is unprogrammed from
+// there on. The bytes then are those that the block has.
+pub(crate) fn append_commit<D: BlockDevice>(
     dev: &mut D,
     block: u32,
     at: u32,
     builder: CommitBuilder<'_>,
+    bytes: &mut [u8],
 ) -> Result<WrittenCommit, Error>
-    requires { CanProgramCommit (D.geometry dev.old) (D.blocks dev.old) (D.history dev.old) builder block at }
+    requires { CanAppendCommit (D.geometry dev.old) (D.blocks dev.old) (D.history dev.old) builder block at bytes.old }
 
-    ensures adds { IfOk result (λ written. BlockGetsCommit builder.entry at written.end (block_bytes (D.blocks dev.old) block) (block_bytes (D.blocks dev.new) block)) }
+    ensures adds { IfOk result (λ written. BytesGetCommit builder.entry at written.end bytes.old bytes.new (block_bytes (D.blocks dev.new) block)) }
     ensures written { IfOk result (λ written. EndsBeforeUnprogrammed (disk_of_blocks (D.geometry dev.new) (D.blocks dev.new)) (D.history dev.new) block written.end written.last) }
-    ensures writes { WritesOnlyBlock D.BlockDevice 1 block dev.old dev.new result }
+    ensures writes { WritesOnlyBlock D.BlockDevice 0 block dev.old dev.new result }
     ensures programs { OnOk result (ProgramsOnce (D.history dev.old) (D.history dev.new)) }
     ensures stops { HoldsAtLosses LeftByLoss (D.history dev.old) (D.history dev.new) (DiffersInBlock block (LossLeavesCommit builder.entry at) (D.blocks dev.old)) }
 {
     let end = at + builder.end_on_page();
-    let next = read_four_bytes(dev, block, end)?;
+    let next = four_bytes(bytes, end);
     let last = builder.last_commit_tag(next);
     let pages = builder.finish(next)?;
     dev.prog(block, at, pages)?;
+    overwrite_bytes(bytes, at as usize, pages);
+    Ok(WrittenCommit {
+        end: end as usize,
+        last,
+    })
+}
+
+// Writes bytes over those from an offset on.
+fn overwrite_bytes(all: &mut [u8], at: usize, bytes: &[u8])
+    requires { at + length bytes.now ≤ length all.old }
+    ensures { all.new ≡ overwritten_at all.old at bytes.now }
+{
+    all[at..at + bytes.len()].copy_from_slice(bytes);
+}
+
+// Returns four of these bytes, from an offset on. Returns None where there are fewer.
+fn four_bytes(bytes: &[u8], at: u32) -> Option<[u8; 4]>
+    requires { at ≤ length bytes.now }
+    ensures { result ≡ four_bytes_at bytes.now at }
+{
+    match bytes[at as usize..].first_chunk() {
+        Some(next) => Some(*next),
+        None => None,
+    }
+}
+
+// Programs a block's first commit. The block is unprogrammed.
+fn program_first_commit<D: BlockDevice>(
+    dev: &mut D,
+    block: u32,
+    builder: CommitBuilder<'_>,
+) -> Result<WrittenCommit, Error>
+    requires { CanProgramCommit (D.geometry dev.old) (D.blocks dev.old) (D.history dev.old) builder block 0 }
+
+    ensures adds { IfOk result (λ written. BlockGetsCommit builder.entry 0 written.end (block_bytes (D.blocks dev.old) block) (block_bytes (D.blocks dev.new) block)) }
+    ensures written { IfOk result (λ written. EndsBeforeUnprogrammed (disk_of_blocks (D.geometry dev.new) (D.blocks dev.new)) (D.history dev.new) block written.end written.last) }
+    ensures writes { WritesOnlyBlock D.BlockDevice 1 block dev.old dev.new result }
+    ensures programs { OnOk result (ProgramsOnce (D.history dev.old) (D.history dev.new)) }
+    ensures stops { HoldsAtLosses LeftByLoss (D.history dev.old) (D.history dev.new) (DiffersInBlock block (LossLeavesCommit builder.entry 0) (D.blocks dev.old)) }
+{
+    let end = builder.end_on_page();
+    let next = read_four_bytes(dev, block, end)?;
+    let last = builder.last_commit_tag(next);
+    let pages = builder.finish(next)?;
+    dev.prog(block, 0, pages)?;
     Ok(WrittenCommit {
         end: end as usize,
         last,
@@ -94,6 +141,6 @@ pub(crate) fn write_block_anew<D: BlockDevice>(
     let mut builder = CommitBuilder::new(page, buf, before, Some(revision));
     push_content(&mut builder, content);
     dev.erase(block)?;
-    let written = program_commit_at(dev, block, 0, builder)?;
+    let written = program_first_commit(dev, block, builder)?;
     Ok(written)
 }

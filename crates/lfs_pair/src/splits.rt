@@ -1,6 +1,7 @@
 // Splits of a pair into itself and a fresh pair.
 
-ghost use Rattle.std.specs.Prelude.{◌≡◌, ◌+◌, IfErr, IfOk, option_copied};
+ghost use Rattle.std.specs.Prelude.{◌≡◌, ◌+◌, IfErr, IfOk};
+ghost use Rattle.std.specs.Option.{option_map};
 ghost use Rattle.lfs_device.specs.DeviceDisk.{disk_of_blocks};
 ghost use Rattle.lfs_device.specs.DeviceCalls.{ReportsFaults};
 ghost use Rattle.lfs_model.specs.session.History.{AllCallsSince, HoldsAtLosses};
@@ -20,7 +21,7 @@ use crate::commits::compact;
 use crate::contents::changed_content;
 use crate::cut::middle_cut;
 use crate::fresh::{FIRST_REVISION, write_fresh_pair};
-use crate::given_blocks::read_unless_given;
+use crate::given_blocks::take_or_read;
 use crate::pair::Pair;
 use lfs_device::{BlockDevice, Error, Geometry};
 use lfs_tag::{Content, MoveState, Tail};
@@ -49,23 +50,22 @@ pub fn split<D: BlockDevice>(
     dev: &mut D,
     pair: &mut Pair,
     fresh: [u32; 2],
-    block: Option<&[u8]>,
+    block: &mut Option<Vec<u8>>,
     changes: &[Change<'_>],
 ) -> Result<Pair, Error>
-    requires { CanSplitWithBlock (disk_of_blocks (D.geometry dev.old) (D.blocks dev.old)) (D.history dev.old) pair.old (address_view fresh) (changes_view changes.now) (option_copied block) }
+    requires { CanSplitWithBlock (disk_of_blocks (D.geometry dev.old) (D.blocks dev.old)) (D.history dev.old) pair.old (address_view fresh) (changes_view changes.now) (option_map (λ bytes. bytes.items) block.old) }
 
     ensures splits { IfOk result (λ fresh_pair. SplitsPair (disk_of_blocks (D.geometry dev.old) (D.blocks dev.old)) (D.history dev.old) (changes_view changes.now) pair.old (address_view fresh)
         (disk_of_blocks (D.geometry dev.new) (D.blocks dev.new)) (D.history dev.new) pair.new fresh_pair) }
     ensures error { IfErr result (λ e. CommitFails D.BlockDevice dev.old dev.new pair.old pair.new e) }
-    ensures device { ChangesReadingFew D.BlockDevice (3 + reads_unless_given (option_copied block.entry)) (addresses_blocks (header_address pair.old) (address_view fresh)) dev.old dev.new }
+    ensures device { ChangesReadingFew D.BlockDevice (3 + reads_unless_given (option_map (λ bytes. bytes.items) block.old)) (addresses_blocks (header_address pair.old) (address_view fresh)) dev.old dev.new }
     ensures faults { ReportsFaults D.BlockDevice dev.old dev.new result }
     ensures stops { AllCallsSince ErasesCleanly (D.history dev.old) (D.history dev.new)
         → HoldsAtLosses LeftByLoss (D.history dev.old) (D.history dev.new) (LossLeavesSplit (disk_of_blocks (D.geometry dev.old) (D.blocks dev.old)) (header_address pair.old) (address_view fresh) (changes_view changes.now)) }
 {
     let geometry = dev.geometry();
-    let read = read_unless_given(alloc, dev, pair.active, block)?;
-    let block = block.unwrap_or(&read);
-    let mut front = changed_content(alloc, pair, block, changes)?;
+    let bytes = take_or_read(alloc, dev, pair.active, block)?;
+    let mut front = changed_content(alloc, pair, &bytes, changes)?;
     let back = split_off_back(&mut front, fresh, geometry)?;
     let mut buf = Vec::from_elem(alloc, 0u8, geometry.block_size as usize)?;
     let fresh_pair = write_fresh_pair(dev, fresh, FIRST_REVISION, &back, &mut buf)?;

@@ -33,6 +33,17 @@ current_but_two old new cache now at current is same b bytes h =
 pub current_taken : {old new : Blocks} (cache : CachedBlocks) {now : CachedBlocks} (active : ℕ) (at : ℕ × ℕ) → IsCacheCurrent old cache → now ≡ cache_without (cache_without (cache_without cache active) at.0) at.1 → SameExceptBlocks (address_blocks at) old new → IsCacheCurrent new now
 current_taken {old} {new} cache {now} active at current gone same = current_but_two old new (cache_without cache active) now at (current_without old cache active current) gone same
 
+-- a block isn't cached after it was taken, and two others
+pub taken_gone : (cache : CachedBlocks) (active first second : ℕ) → cached_bytes (cache_without (cache_without (cache_without cache active) first) second) active ≡ None
+taken_gone cache active first second = go (cached_bytes (cache_without (cache_without (cache_without cache active) first) second) active) refl
+  where
+    go : (o : Option (List ℕ)) → cached_bytes (cache_without (cache_without (cache_without cache active) first) second) active ≡ o → o ≡ None
+    go None is = refl
+    go (Some bytes) is =
+        let last = still_there (cache_without (cache_without cache active) first) second active bytes is in
+        let middle = still_there (cache_without cache active) first active bytes last.was in
+        absurd (let none : None ≡ Some bytes = sym (cached_bytes-without_same cache active) ∙ middle.was in cc)
+
 -- after four went
 pub current_but_four : (old new : Blocks) (cache mid now : CachedBlocks) (at fresh : ℕ × ℕ) → IsCacheCurrent old cache → mid ≡ cache_without (cache_without cache at.0) at.1 → now ≡ cache_without (cache_without mid fresh.0) fresh.1
     → SameExceptBlocks (addresses_blocks at fresh) old new → IsCacheCurrent new now

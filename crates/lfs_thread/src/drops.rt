@@ -35,8 +35,8 @@ pub(crate) fn drop_next_pair<D: BlockDevice>(
         (LossLeavesPair (kept_parts D.BlockDevice parts.old) index (changes_view changes.now)) }
 {
     let pair = &mut parts.pairs[index];
-    let held = take_cached_pair(&mut parts.cache, pair.blocks, pair.active);
-    let outcome = commit(alloc, &mut parts.device, pair, held.as_deref(), changes)?;
+    let mut held = take_cached_pair(&mut parts.cache, pair.blocks, pair.active);
+    let outcome = commit(alloc, &mut parts.device, pair, &mut held, changes)?;
     if let Outcome::Full = outcome {
         return Ok(Outcome::Full);
     }

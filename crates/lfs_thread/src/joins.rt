@@ -46,14 +46,8 @@ pub(crate) fn thread_fresh_pair<D: BlockDevice>(
     forget_cached_pair(&mut parts.cache, fresh);
     let tail = change_setting_tail(&pair.tail);
     let fresh_pair = Pair::fresh(alloc, &mut parts.device, fresh, &[tail])?;
-    let held = take_cached_pair(&mut parts.cache, pair.blocks, pair.active);
-    let outcome = commit(
-        alloc,
-        &mut parts.device,
-        &mut pair,
-        held.as_deref(),
-        changes,
-    )?;
+    let mut held = take_cached_pair(&mut parts.cache, pair.blocks, pair.active);
+    let outcome = commit(alloc, &mut parts.device, &mut pair, &mut held, changes)?;
     if let Outcome::Full = outcome {
         parts.pairs.remove(index + 1);
         return Ok(Outcome::Full);

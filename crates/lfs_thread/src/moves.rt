@@ -42,14 +42,8 @@ pub(crate) fn move_next_pair<D: BlockDevice>(
         hard: true,
         pair: Some(fresh),
     };
-    let held = take_cached_pair(&mut parts.cache, pair.blocks, pair.active);
-    let outcome = commit(
-        alloc,
-        &mut parts.device,
-        &mut pair,
-        held.as_deref(),
-        &[tail],
-    )?;
+    let mut held = take_cached_pair(&mut parts.cache, pair.blocks, pair.active);
+    let outcome = commit(alloc, &mut parts.device, &mut pair, &mut held, &[tail])?;
     if let Outcome::Full = outcome {
         unreachable!();
     }

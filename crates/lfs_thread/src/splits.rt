@@ -37,14 +37,14 @@ pub(crate) fn split_pair<D: BlockDevice>(
     let mut pair = parts.pairs[index];
     // This takes the memory for the fresh pair's header, before anything is written.
     parts.pairs.insert(index + 1, pair)?;
-    let held = take_cached_pair(&mut parts.cache, pair.blocks, pair.active);
+    let mut held = take_cached_pair(&mut parts.cache, pair.blocks, pair.active);
     forget_cached_pair(&mut parts.cache, fresh);
     let fresh_pair = split(
         alloc,
         &mut parts.device,
         &mut pair,
         fresh,
-        held.as_deref(),
+        &mut held,
         changes,
     )?;
     parts.pairs[index] = pair;

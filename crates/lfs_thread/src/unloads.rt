@@ -47,14 +47,8 @@ pub(crate) fn unload_pair<D: BlockDevice>(
         state: MoveState::none(),
     };
     let loaded = copy(alloc, &mut parts.device, &pair, fresh, &[no_delta])?;
-    let held = take_cached_pair(&mut parts.cache, pair.blocks, pair.active);
-    let outcome = commit(
-        alloc,
-        &mut parts.device,
-        &mut pair,
-        held.as_deref(),
-        &changes,
-    )?;
+    let mut held = take_cached_pair(&mut parts.cache, pair.blocks, pair.active);
+    let outcome = commit(alloc, &mut parts.device, &mut pair, &mut held, &changes)?;
     if let Outcome::Full = outcome {
         unreachable!();
     }

@@ -1,5 +1,5 @@
-use Rattle.lfs_pair.proofs.Common.{block_bytes, IsWrittenAnew, disk_of_blocks, address_view, content_view, KeepsFirstEntry, HoldsAtLosses-weaker, header_address}
-use Rattle.std.proofs.Common.{rules, ℕ, ◌+◌, ◌%◌, ◌^◌, refl, sym, ap, ◌∙◌, subst, arith}
+use Rattle.lfs_pair.proofs.Common.{block_bytes, IsWrittenAnew, disk_of_blocks, content_view, KeepsFirstEntry, HoldsAtLosses-weaker, header_address}
+use Rattle.std.proofs.Common.{rules, ℕ, ◌+◌, ◌%◌, ◌^◌, refl, sym, ◌∙◌, subst, arith}
 use Rattle.std.proofs.Common.{Some}
 use Rattle.lfs_pair.proofs.TwoBlocks.{other_is, below_count}
 use Rattle.lfs_pair.proofs.Calls.{only_block}
@@ -33,7 +33,7 @@ returns-clause-done g c =
     (compacted _ _ _ _ _ _ (g.D.BlockDevice.blocks c.write_block_anew.new.dev) ready device.others anew.holds) in
     record {
       holds = now_holds _ _ _ c.written.result c.inactive_block-other.result _ holds
-          (ap address_view c.written.ensures.blocks) c.written.ensures.active c.written.ensures.fetched
+          c.written.ensures.blocks c.written.ensures.active c.written.ensures.fetched
           (c.written.ensures.revision ∙ sym anew.holds.revision_is)
           c.written.ensures.ends c.in_ok-written.ensures.written c.written.ensures.sums c.requires.logged;
       first = subst (λ k. KeepsFirstEntry (disk_of_blocks (g.D.BlockDevice.geometry c.args.dev.now) (g.D.BlockDevice.blocks c.args.dev.now)) (header_address c.args.pair.now) (Some (content_view c.args.content.now)) (disk_of_blocks k (g.D.BlockDevice.blocks c.write_block_anew.new.dev)))

@@ -19,7 +19,7 @@ returns-clause-holds g c =
     = ap has_commit (c.in_ok-written.ensures.writes.device.others.others (address_view c.args.blocks).1 (λ same. c.requires.address.apart (sym same))) ∙ c.in_ok-erase_cleanly.ensures.cleared in
     let holds = first_in (disk_of_blocks (g.D.BlockDevice.geometry c.write_block_anew.new.dev) (g.D.BlockDevice.blocks c.write_block_anew.new.dev)) (address_view c.args.blocks) c.args.revision (content_view c.args.content.now) cleared c.in_ok-written.ensures.anew.holds in
     now_holds _ (g.D.BlockDevice.history c.write_block_anew.new.dev) _ c.written.result (address_view c.args.blocks).0 _ holds
-    (ap address_view c.written.ensures.blocks) c.written.ensures.active c.written.ensures.fetched
+    c.written.ensures.blocks c.written.ensures.active c.written.ensures.fetched
     (c.written.ensures.revision ∙ sym c.in_ok-written.ensures.anew.holds.revision_is)
     c.written.ensures.ends c.in_ok-written.ensures.written c.written.ensures.sums c.requires.logged
 

@@ -8,8 +8,8 @@ use Rattle.lfs_pair.proofs.programs.write_block_anew.Goals as goal
 pub returns-in_err-erase-clause-stops : goal.returns-in_err-erase-clause-stops
 returns-in_err-erase-clause-stops g c clean = leaves_erase c.erase.ensures.history
 
-pub program_commit_at-requires : goal.program_commit_at-requires
-program_commit_at-requires g c = record {
+pub program_first_commit-requires : goal.program_first_commit-requires
+program_first_commit-requires g c = record {
   in_device = search rules;
   begins = search rules;
   page = search rules;
@@ -27,11 +27,11 @@ program_commit_at-requires g c = record {
 pub returns-in_err-written-clause-stops : goal.returns-in_err-written-clause-stops
 returns-in_err-written-clause-stops g c =
     leaves_anew (is_anew (content_view c.args.content.now) c.push_content.ensures c.new-builder.ensures c.requires.buf (ap (λ (k : Geometry). k.page) c.geometry-page.ensures) c.from_bits-before.ensures)
-    (fits_sound c.requires.logged c.requires.names c.requires.fits) c.erase.ensures.others c.in_ok-erase.ensures.history c.program_commit_at.ensures.stops
+    (fits_sound c.requires.logged c.requires.names c.requires.fits) c.erase.ensures.others c.in_ok-erase.ensures.history c.program_first_commit.ensures.stops
 
 pub returns-clause-anew : goal.returns-clause-anew
 returns-clause-anew g c =
-    let holds = anew_holds (block_bytes (g.D.BlockDevice.blocks c.program_commit_at.new.dev) c.args.block)
+    let holds = anew_holds (block_bytes (g.D.BlockDevice.blocks c.program_first_commit.new.dev) c.args.block)
     (is_anew (content_view c.args.content.now) c.push_content.ensures c.new-builder.ensures c.requires.buf (ap (λ (k : Geometry). k.page) c.geometry-page.ensures) c.from_bits-before.ensures)
     (fits_sound c.requires.logged c.requires.names c.requires.fits) c.in_ok-written.ensures.adds.commit in
     record { holds = holds; erases = search rules; programs = search rules; blanks = search rules }
@@ -39,7 +39,7 @@ returns-clause-anew g c =
 pub returns-clause-stops : goal.returns-clause-stops
 returns-clause-stops g c =
     leaves_anew (is_anew (content_view c.args.content.now) c.push_content.ensures c.new-builder.ensures c.requires.buf (ap (λ (k : Geometry). k.page) c.geometry-page.ensures) c.from_bits-before.ensures)
-    (fits_sound c.requires.logged c.requires.names c.requires.fits) c.erase.ensures.others c.in_ok-erase.ensures.history c.program_commit_at.ensures.stops
+    (fits_sound c.requires.logged c.requires.names c.requires.fits) c.erase.ensures.others c.in_ok-erase.ensures.history c.program_first_commit.ensures.stops
 
 pub returns-clause-size : goal.returns-clause-size
 returns-clause-size g c =
@@ -56,16 +56,16 @@ returns-in_err-erase-clause-writes g c = record {
 
 pub returns-in_err-written-clause-writes : goal.returns-in_err-written-clause-writes
 returns-in_err-written-clause-writes g c = record {
-  device = block_trans (block_by_erase c.erase.ensures.others c.erase.ensures.geometry c.erase.ensures.history) c.program_commit_at.ensures.writes.device;
-  few = let before = ap read_count c.erase.ensures.history in let here = c.program_commit_at.ensures.writes.few in omega (arith, before, here);
+  device = block_trans (block_by_erase c.erase.ensures.others c.erase.ensures.geometry c.erase.ensures.history) c.program_first_commit.ensures.writes.device;
+  few = let before = ap read_count c.erase.ensures.history in let here = c.program_first_commit.ensures.writes.few in omega (arith, before, here);
   errors = search rules;
   faults = search rules;
 }
 
 pub returns-clause-writes : goal.returns-clause-writes
 returns-clause-writes g c = record {
-  device = block_trans (block_by_erase c.erase.ensures.others c.erase.ensures.geometry c.erase.ensures.history) c.program_commit_at.ensures.writes.device;
-  few = let before = ap read_count c.erase.ensures.history in let here = c.program_commit_at.ensures.writes.few in omega (arith, before, here);
+  device = block_trans (block_by_erase c.erase.ensures.others c.erase.ensures.geometry c.erase.ensures.history) c.program_first_commit.ensures.writes.device;
+  few = let before = ap read_count c.erase.ensures.history in let here = c.program_first_commit.ensures.writes.few in omega (arith, before, here);
   errors = search rules;
   faults = search rules;
 }

@@ -12,7 +12,7 @@ commit-requires g c = record {
   can =
       let n = next_there (disk_of_blocks (g.D.BlockDevice.geometry c.args.parts.now.device) (g.D.BlockDevice.blocks c.args.parts.now.device)) c.args.parts.now.pairs.items c.args.index c.index_mut-pair.result.now c.requires.can.below c.index_mut-pair.ensures.value in
       can_commit _ _ c.args.parts.now.pairs.items c.args.parts.now.map c.args.index _ _ (here_at _ _ _ n) c.requires.kept.0 c.requires.can.content c.requires.can.made;
-  block = given_current _ _ c.index_mut-pair.result.now.active (c.as_deref.ensures.value ∙ c.take_cached_pair-held.ensures.bytes) c.requires.kept.1;
+  block = given_current _ _ c.index_mut-pair.result.now.active c.take_cached_pair-held.ensures.bytes c.requires.kept.1;
 }
 
 pub returns-in_err-outcome-clause-stops : goal.returns-in_err-outcome-clause-stops
@@ -36,7 +36,7 @@ returns-in-Full-clause-parts g c = record {
       let disk = disk_of_blocks (g.D.BlockDevice.geometry c.args.parts.now.device) (g.D.BlockDevice.blocks c.args.parts.now.device) in
       let n = next_there disk c.args.parts.now.pairs.items c.args.index c.index_mut-pair.result.now c.requires.can.below c.index_mut-pair.ensures.value in
       reading_there disk (g.D.BlockDevice.history c.args.parts.now.device) c.args.parts.now.pairs.items c.args.parts.now.map c.args.index c.index_mut-pair.result.now (here_at _ _ _ n) c.requires.kept.0
-      g.D.BlockDevice c.args.parts.now.device c.commit.new.dev address_blocks 1 c.args.parts.now.cache (c.as_deref.ensures.value ∙ c.take_cached_pair-held.ensures.bytes) c.in_ok-outcome.ensures.device;
+      g.D.BlockDevice c.args.parts.now.device c.commit.new.dev address_blocks 1 c.args.parts.now.cache c.take_cached_pair-held.ensures.bytes c.in_ok-outcome.ensures.device;
   kept =
       let n = next_there (disk_of_blocks (g.D.BlockDevice.geometry c.args.parts.now.device) (g.D.BlockDevice.blocks c.args.parts.now.device)) c.args.parts.now.pairs.items c.args.index c.index_mut-pair.result.now c.requires.can.below c.index_mut-pair.ensures.value in
       let e = c.in_ok-outcome.ensures in
@@ -75,7 +75,7 @@ returns-clause-parts g c = record {
       let disk = disk_of_blocks (g.D.BlockDevice.geometry c.args.parts.now.device) (g.D.BlockDevice.blocks c.args.parts.now.device) in
       let n = next_there disk c.args.parts.now.pairs.items c.args.index c.index_mut-pair.result.now c.requires.can.below c.index_mut-pair.ensures.value in
       reading_there disk (g.D.BlockDevice.history c.args.parts.now.device) c.args.parts.now.pairs.items c.args.parts.now.map c.args.index c.index_mut-pair.result.now (here_at _ _ _ n) c.requires.kept.0
-      g.D.BlockDevice c.args.parts.now.device c.commit.new.dev address_blocks 1 c.args.parts.now.cache (c.as_deref.ensures.value ∙ c.take_cached_pair-held.ensures.bytes) c.in_ok-outcome.ensures.device;
+      g.D.BlockDevice c.args.parts.now.device c.commit.new.dev address_blocks 1 c.args.parts.now.cache c.take_cached_pair-held.ensures.bytes c.in_ok-outcome.ensures.device;
   kept =
       let n = next_there (disk_of_blocks (g.D.BlockDevice.geometry c.args.parts.now.device) (g.D.BlockDevice.blocks c.args.parts.now.device)) c.args.parts.now.pairs.items c.args.index c.index_mut-pair.result.now c.requires.can.below c.index_mut-pair.ensures.value in
       let gone = gone_is _ _ _ _ _ n c.remove-gone.ensures.value in
@@ -103,7 +103,7 @@ returns-in_err-outcome-clause-parts g c = record {
       let disk = disk_of_blocks (g.D.BlockDevice.geometry c.args.parts.now.device) (g.D.BlockDevice.blocks c.args.parts.now.device) in
       let n = next_there disk c.args.parts.now.pairs.items c.args.index c.index_mut-pair.result.now c.requires.can.below c.index_mut-pair.ensures.value in
       reading_there disk (g.D.BlockDevice.history c.args.parts.now.device) c.args.parts.now.pairs.items c.args.parts.now.map c.args.index c.index_mut-pair.result.now (here_at _ _ _ n) c.requires.kept.0
-      g.D.BlockDevice c.args.parts.now.device c.commit.new.dev address_blocks 1 c.args.parts.now.cache (c.as_deref.ensures.value ∙ c.take_cached_pair-held.ensures.bytes) c.in_err-outcome.ensures.device;
+      g.D.BlockDevice c.args.parts.now.device c.commit.new.dev address_blocks 1 c.args.parts.now.cache c.take_cached_pair-held.ensures.bytes c.in_err-outcome.ensures.device;
   kept = search rules;
   current = current_taken _ c.index_mut-pair.result.now.active (header_address c.index_mut-pair.result.now) c.requires.kept.1 c.take_cached_pair-held.ensures.gone c.commit.ensures.device.only.others;
   order = refl;

@@ -13,7 +13,7 @@ split-requires g c = record {
   can =
       let a = at_there (disk_of_device g.D.BlockDevice c.args.parts.now.device) c.args.parts.now.pairs.items c.args.index c.index.result.now c.requires.can.can.below c.index.ensures in
       can_split _ _ _ c.args.parts.now.map c.args.index _ (address_view c.args.fresh) _ a c.requires.kept.0 c.requires.can;
-  block = given_current _ _ c.index.result.now.active (c.as_deref.ensures.value ∙ c.take_cached_pair-held.ensures.bytes) c.requires.kept.1;
+  block = given_current _ _ c.index.result.now.active c.take_cached_pair-held.ensures.bytes c.requires.kept.1;
 }
 
 pub returns-in_err-fresh_pair-clause-stops : goal.returns-in_err-fresh_pair-clause-stops
@@ -31,7 +31,7 @@ returns-clause-parts g c = record {
       let disk = disk_of_device g.D.BlockDevice c.args.parts.now.device in
       let a = at_there disk c.args.parts.now.pairs.items c.args.index c.index.result.now c.requires.can.can.below c.index.ensures in
       reading_there disk (g.D.BlockDevice.history c.args.parts.now.device) c.args.parts.now.pairs.items c.args.parts.now.map c.args.index c.index.result.now a c.requires.kept.0
-      g.D.BlockDevice c.args.parts.now.device c.split.new.dev (λ at. addresses_blocks at (address_view c.args.fresh)) 3 c.args.parts.now.cache (c.as_deref.ensures.value ∙ c.take_cached_pair-held.ensures.bytes) c.in_ok-fresh_pair.ensures.device;
+      g.D.BlockDevice c.args.parts.now.device c.split.new.dev (λ at. addresses_blocks at (address_view c.args.fresh)) 3 c.args.parts.now.cache c.take_cached_pair-held.ensures.bytes c.in_ok-fresh_pair.ensures.device;
   kept =
       let a = at_there (disk_of_device g.D.BlockDevice c.args.parts.now.device) c.args.parts.now.pairs.items c.args.index c.index.result.now c.requires.can.can.below c.index.ensures in
       let e = c.in_ok-fresh_pair.ensures in
@@ -73,7 +73,7 @@ returns-in_err-fresh_pair-clause-parts g c = record {
       let disk = disk_of_device g.D.BlockDevice c.args.parts.now.device in
       let a = at_there disk c.args.parts.now.pairs.items c.args.index c.index.result.now c.requires.can.can.below c.index.ensures in
       reading_there disk (g.D.BlockDevice.history c.args.parts.now.device) c.args.parts.now.pairs.items c.args.parts.now.map c.args.index c.index.result.now a c.requires.kept.0
-      g.D.BlockDevice c.args.parts.now.device c.split.new.dev (λ at. addresses_blocks at (address_view c.args.fresh)) 3 c.args.parts.now.cache (c.as_deref.ensures.value ∙ c.take_cached_pair-held.ensures.bytes) c.in_err-fresh_pair.ensures.device;
+      g.D.BlockDevice c.args.parts.now.device c.split.new.dev (λ at. addresses_blocks at (address_view c.args.fresh)) 3 c.args.parts.now.cache c.take_cached_pair-held.ensures.bytes c.in_err-fresh_pair.ensures.device;
   kept = search rules;
   current =
       current_but_four _ _ _ _ _ (header_address c.index.result.now) (address_view c.args.fresh) (current_without _ _ c.index.result.now.active c.requires.kept.1)

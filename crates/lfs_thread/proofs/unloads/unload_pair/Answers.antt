@@ -78,7 +78,7 @@ commit-requires g c = record {
       let e = c.in_ok-loaded.ensures in
       subst (λ (changes : List ContentChange). CanCommit (disk_of_device g.D.BlockDevice c.copy.new.dev) (g.D.BlockDevice.history c.copy.new.dev) h changes) (sym made)
       (device_leave_can _ _ _ _ _ _ c.args.parts.now.pairs.items c.args.parts.now.map c.args.index h (address_view c.args.fresh) c.args.keep count few e.device.only.geometry a c.requires.kept.0 c.requires.can counted e.device.only.others e.device.only.elsewhere);
-  block = given_current _ _ c.index.result.now.active (c.as_deref.ensures.value ∙ c.take_cached_pair-held.ensures.bytes) (current_but_two _ _ _ _ (address_view c.args.fresh) c.requires.kept.1 c.forget_cached_pair.ensures c.in_ok-loaded.ensures.device.only.others);
+  block = given_current _ _ c.index.result.now.active c.take_cached_pair-held.ensures.bytes (current_but_two _ _ _ _ (address_view c.args.fresh) c.requires.kept.1 c.forget_cached_pair.ensures c.in_ok-loaded.ensures.device.only.others);
 }
 
 pub returns-in_err-outcome-clause-parts : goal.returns-in_err-outcome-clause-parts
@@ -92,7 +92,7 @@ returns-in_err-outcome-clause-parts g c = record {
       let commit = c.in_err-outcome.ensures.device in
       let same = cached_beside disk history c.args.parts.now.pairs.items c.args.parts.now.map c.args.index h a c.requires.kept.0 (address_view c.args.fresh) c.requires.can.held c.args.parts.now.cache c.forget_cached_pair.new.cache c.forget_cached_pair.ensures in
       reading_there disk history c.args.parts.now.pairs.items c.args.parts.now.map c.args.index h a c.requires.kept.0
-      g.D.BlockDevice c.args.parts.now.device c.commit.new.dev (λ at. addresses_blocks at (address_view c.args.fresh)) 4 c.args.parts.now.cache (c.as_deref.ensures.value ∙ c.take_cached_pair-held.ensures.bytes ∙ same)
+      g.D.BlockDevice c.args.parts.now.device c.commit.new.dev (λ at. addresses_blocks at (address_view c.args.fresh)) 4 c.args.parts.now.cache (c.take_cached_pair-held.ensures.bytes ∙ same)
       (record {
         only = changes_by_both g.D.BlockDevice (header_address h) (address_view c.args.fresh) copy.only commit.only;
         few = let first = copy.few in let second = commit.few in omega (arith, first, second);
@@ -170,7 +170,7 @@ returns-clause-parts g c = record {
       let commit = c.in_ok-outcome.ensures.device in
       let same = cached_beside disk history c.args.parts.now.pairs.items c.args.parts.now.map c.args.index h a c.requires.kept.0 (address_view c.args.fresh) c.requires.can.held c.args.parts.now.cache c.forget_cached_pair.new.cache c.forget_cached_pair.ensures in
       reading_there disk history c.args.parts.now.pairs.items c.args.parts.now.map c.args.index h a c.requires.kept.0
-      g.D.BlockDevice c.args.parts.now.device c.commit.new.dev (λ at. addresses_blocks at (address_view c.args.fresh)) 4 c.args.parts.now.cache (c.as_deref.ensures.value ∙ c.take_cached_pair-held.ensures.bytes ∙ same)
+      g.D.BlockDevice c.args.parts.now.device c.commit.new.dev (λ at. addresses_blocks at (address_view c.args.fresh)) 4 c.args.parts.now.cache (c.take_cached_pair-held.ensures.bytes ∙ same)
       (record {
         only = changes_by_both g.D.BlockDevice (header_address h) (address_view c.args.fresh) copy.only commit.only;
         few = let first = copy.few in let second = commit.few in omega (arith, first, second);

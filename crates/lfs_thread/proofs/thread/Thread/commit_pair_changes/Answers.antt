@@ -1,11 +1,13 @@
-use Rattle.std.proofs.Common.{◌+◌, sym, ap, ap₂, subst, ◌∙◌, inl, inr, set}
+use Rattle.std.proofs.Common.{◌≡◌, false, Result, Ok, Err, ◌+◌, sym, ap, ap₂, subst, ◌∙◌, inl, inr, set}
 use Rattle.lfs_thread.proofs.Common.{disk_of_blocks, changes_view, HoldsAtLosses-weaker, CleanLossLeaves, ThreadView, disk_of_device, kept_in_order, kept_of_device, cached_log, reads_unless_cached, CanChangePair, ThreadReportsErrors, IsPairCommitted, LossLeavesPair, RefusesChanges, ChangesWithinReads, thread_pair, address_blocks, header_address}
 use Rattle.lfs_thread.proofs.Changing.{at_there, can_commit, device_kept, device_changed, ok_outcome, full_kept, refused, left_in_thread}
 use Rattle.lfs_thread.proofs.CachedPair.{reading_there}
 use Rattle.lfs_thread.proofs.InOrder.{can_change, changed_in, left_changed_in, refused_in}
 use Rattle.lfs_thread.proofs.Reported.{reported_from, reading_from, reports_of}
 use Rattle.lfs_thread.proofs.thread.Thread.commit_pair_changes.Goals as goal
-use Rattle.lfs_thread.proofs.CachedLogs.{current_taken, given_current}
+use Rattle.lfs_thread.proofs.CachedLogs.{current_read, current_taken, given_current}
+use Rattle.std.specs.Prelude.{OnOk, is_err}
+use Rattle.lfs_device.specs.declared.error.Error.{Error}
 
 pub commit-outcome-requires : goal.commit-outcome-requires
 commit-outcome-requires g c = record {
@@ -16,8 +18,15 @@ commit-outcome-requires g c = record {
       can_commit _ _ c.self.inside.parts.pairs.items c.self.inside.parts.map c.args.index c.index_mut-pair.result.now _ a (c.self.invariant works).0 can.content can.made;
   block =
       let works = ap (λ (v : ThreadView). v.failed) c.self.view_is ∙ c.requires.works in
-      given_current _ _ c.index_mut-pair.result.now.active (c.as_deref.ensures.value ∙ c.take_cached_pair-held.ensures.bytes) (c.self.invariant works).1;
+      given_current _ _ c.index_mut-pair.result.now.active c.take_cached_pair-held.ensures.bytes (c.self.invariant works).1;
 }
+
+held_at_ok : {X : Type 0} (r : Result X Error) {P : Type 0} → is_err r ≡ false → OnOk r P → P
+held_at_ok (Ok x) none holds = holds
+held_at_ok (Err e) none holds = absurd (cc)
+
+pub keep_active-requires : goal.keep_active-requires
+keep_active-requires g c = c.take_cached_pair-held.ensures.none
 
 pub invariant_of-self : goal.invariant_of-self
 invariant_of-self g c ok =
@@ -29,7 +38,8 @@ invariant_of-self g c ok =
         | inl done ↦ device_kept _ _ _ _ _ _ _ _ _ _ _ _ e.device.only.geometry a (c.self.invariant works).0 can (e.ends.done done) e.device.only.others e.device.only.elsewhere
         | inr full ↦ full_kept _ _ _ _ _ _ _ _ _ a (c.self.invariant works).0 (ap₂ disk_of_blocks (e.ends.full full).device.geometry (e.ends.full full).device.same) (e.ends.full full).pair (e.ends.full full).device.reads
       ],
-      current_taken _ c.index_mut-pair.result.now.active (header_address c.index_mut-pair.result.now) (c.self.invariant works).1 c.take_cached_pair-held.ensures.gone e.device.only.others,
+      current_read _ _ _ c.index_mut-pair.result.now.active (c.keep_active.ensures _ (held_at_ok _ (sym c.is_err-self-inside.ensures.value ∙ ok) e.ends.held))
+          (current_taken _ c.index_mut-pair.result.now.active (header_address c.index_mut-pair.result.now) (c.self.invariant works).1 c.take_cached_pair-held.ensures.gone e.device.only.others),
     )
 
 pub returns-clause-done : goal.returns-clause-done
@@ -67,7 +77,7 @@ returns-clause-device g c =
     let a = at_there disk c.self.inside.parts.pairs.items c.args.index c.index_mut-pair.result.now can.below c.index_mut-pair.ensures.value in
     let new = c.commit-outcome.new in
     let reading = reading_there disk (g.D.BlockDevice.history c.self.inside.parts.device) c.self.inside.parts.pairs.items c.self.inside.parts.map c.args.index c.index_mut-pair.result.now a (c.self.invariant works).0
-    g.D.BlockDevice c.self.inside.parts.device new.dev address_blocks 1 c.self.inside.parts.cache (c.as_deref.ensures.value ∙ c.take_cached_pair-held.ensures.bytes) c.commit-outcome.ensures.device in
+    g.D.BlockDevice c.self.inside.parts.device new.dev address_blocks 1 c.self.inside.parts.cache c.take_cached_pair-held.ensures.bytes c.commit-outcome.ensures.device in
     subst (λ (v : ThreadView). ChangesWithinReads (1 + reads_unless_cached (cached_log v c.args.index)) (address_blocks (thread_pair v.kept c.args.index).at) v.kept (kept_in_order g.D.BlockDevice c.self.inside.parts.order new.dev (set c.self.inside.parts.pairs.items c.args.index new.pair) c.self.inside.parts.map)) c.self.view_is
     (reading_from g.D.BlockDevice c.self.inside.parts.order c.self.inside.parts.device new.dev c.self.inside.parts.pairs.items (set c.self.inside.parts.pairs.items c.args.index new.pair) c.self.inside.parts.map c.self.inside.parts.map _ reading)
 

@@ -7,7 +7,7 @@ use Rattle.lfs_model.proofs.Histories.{AreUnprogrammed-part, is_unprogrammed_byt
 use Rattle.lfs_model.proofs.Overwrites.{block_bytes-programmed, take-overwritten}
 use Rattle.lfs_pair.proofs.Committed.{gets_commit, goes_into, left_in_block}
 use Rattle.lfs_pair.proofs.Calls.{block_by_program, block_by_reads, block_trans}
-use Rattle.lfs_pair.proofs.programs.program_commit_at.Goals as goal
+use Rattle.lfs_pair.proofs.programs.program_first_commit.Goals as goal
 
 -- before the program
 
@@ -30,51 +30,51 @@ prog-requires g c = record {
 -- the program
 
 -- the end fits 32 bits
-whole_end : (at padded result size page count : ℕ) → result ≡ min padded (2 ^ 32 - 1) → at + padded ≤ size → IsValidGeometry size page count → at + result ≡ at + padded
-whole_end at padded result size page count is ends valid = omega (arith, valid.no_larger)
+whole_end : (padded result size page count : ℕ) → result ≡ min padded (2 ^ 32 - 1) → 0 + padded ≤ size → IsValidGeometry size page count → result ≡ 0 + padded
+whole_end padded result size page count is ends valid = omega (arith, valid.no_larger)
 
-at_least : (at padded long end : ℕ) → long ≡ padded → end ≡ at + padded → at + long ≤ end
-at_least at padded long end same is = omega arith
+at_least : (padded long end : ℕ) → long ≡ padded → end ≡ 0 + padded → 0 + long ≤ end
+at_least padded long end same is = omega arith
 
 pub returns-in_err-prog-clause-stops : goal.returns-in_err-prog-clause-stops
 returns-in_err-prog-clause-stops g c =
-    let end : c.args.at + c.end_on_page.result ≡ c.args.at + padded_commit_end c.args.builder = whole_end _ _ _ _ _ _ c.end_on_page.ensures c.requires.ends (g.D.BlockDevice.geometry c.args.dev.now).valid in
+    let end : c.end_on_page-end.result ≡ 0 + padded_commit_end c.args.builder = whole_end _ _ _ _ _ c.end_on_page-end.ensures c.requires.ends (g.D.BlockDevice.geometry c.args.dev.now).valid in
     let size = (g.met.D.BlockDevice.shape c.args.dev.now).sizes c.args.block c.requires.in_device in
     goes_on (HoldsAtLosses-read_count LeftByLoss-read c.read_four_bytes.ensures.device.reads (SameExcept-refl _ _, inl refl)) c.prog.ensures.history
     (λ disk left. left_in_block disk c.read_four_bytes.ensures.device.same (goes_into c.in_ok-pages.ensures.commit c.in_ok-pages.ensures.size c.requires.goes size c.requires.ends end c.in_ok-next.ensures.bytes) left)
 
 pub returns-clause-adds : goal.returns-clause-adds
 returns-clause-adds g c =
-    let end : c.args.at + c.end_on_page.result ≡ c.args.at + padded_commit_end c.args.builder = whole_end _ _ _ _ _ _ c.end_on_page.ensures c.requires.ends (g.D.BlockDevice.geometry c.args.dev.now).valid in
+    let end : c.end_on_page-end.result ≡ 0 + padded_commit_end c.args.builder = whole_end _ _ _ _ _ c.end_on_page-end.ensures c.requires.ends (g.D.BlockDevice.geometry c.args.dev.now).valid in
     let shape = g.met.D.BlockDevice.shape c.args.dev.now in
     let size = shape.sizes c.args.block c.requires.in_device in
     let old = g.D.BlockDevice.blocks c.args.dev.now in
-    let is : block_bytes (g.D.BlockDevice.blocks c.prog.new.self) c.args.block ≡ overwritten_at (block_bytes old c.args.block) c.args.at c.in_ok-pages.pages.now =
+    let is : block_bytes (g.D.BlockDevice.blocks c.prog.new.self) c.args.block ≡ overwritten_at (block_bytes old c.args.block) 0 c.in_ok-pages.pages.now =
     ap (λ d. block_bytes d c.args.block) c.in_ok-prog.ensures.programs.ok
-    ∙ ap (λ d. block_bytes (programmed d c.args.block c.args.at c.in_ok-pages.pages.now) c.args.block) c.read_four_bytes.ensures.device.same
-    ∙ block_bytes-programmed old c.args.block c.args.at c.in_ok-pages.pages.now (omega (arith, shape.count, c.requires.in_device)) in
+    ∙ ap (λ d. block_bytes (programmed d c.args.block 0 c.in_ok-pages.pages.now) c.args.block) c.read_four_bytes.ensures.device.same
+    ∙ block_bytes-programmed old c.args.block 0 c.in_ok-pages.pages.now (omega (arith, shape.count, c.requires.in_device)) in
     record {
       commit = subst (LogGetsCommit c.args.builder (block_bytes old c.args.block)) (sym is) (gets_commit (goes_into c.in_ok-pages.ensures.commit c.in_ok-pages.ensures.size c.requires.goes size c.requires.ends end c.in_ok-next.ensures.bytes));
       end_is = search rules;
-      kept = ap (take c.args.at) is ∙ take-overwritten (block_bytes old c.args.block) c.args.at c.in_ok-pages.pages.now (omega (arith, size, c.requires.ends));
+      kept = ap (take 0) is ∙ take-overwritten (block_bytes old c.args.block) 0 c.in_ok-pages.pages.now (omega (arith, size, c.requires.ends));
     }
 
 pub returns-clause-written : goal.returns-clause-written
 returns-clause-written g c =
-    let old : AreUnprogrammed (g.D.BlockDevice.history c.read_four_bytes.new.dev) c.args.block c.args.at (g.D.BlockDevice.geometry c.args.dev.now).block_size =
+    let old : AreUnprogrammed (g.D.BlockDevice.history c.read_four_bytes.new.dev) c.args.block 0 (g.D.BlockDevice.geometry c.args.dev.now).block_size =
     AreUnprogrammed-read_count c.args.block c.read_four_bytes.ensures.device.reads c.requires.unprogrammed in
-    let end : c.args.at + c.end_on_page.result ≡ c.args.at + padded_commit_end c.args.builder = whole_end _ _ _ _ _ _ c.end_on_page.ensures c.requires.ends (g.D.BlockDevice.geometry c.args.dev.now).valid in
+    let end : c.end_on_page-end.result ≡ 0 + padded_commit_end c.args.builder = whole_end _ _ _ _ _ c.end_on_page-end.ensures c.requires.ends (g.D.BlockDevice.geometry c.args.dev.now).valid in
     record {
       end_is = search rules;
       last_is = search rules;
       whole_pages = search rules;
-      unprogrammed = subst (λ (k : Geometry). AreUnprogrammed (g.D.BlockDevice.history c.prog.new.self) c.args.block (c.args.at + c.end_on_page.result) k.block_size) (sym (c.prog.ensures.geometry ∙ c.read_four_bytes.ensures.device.geometry))
-          (is_unprogrammed_byte-program {low = c.args.at} c.prog.ensures.history old (omega arith) (at_least _ _ _ _ c.in_ok-pages.ensures.size end));
+      unprogrammed = subst (λ (k : Geometry). AreUnprogrammed (g.D.BlockDevice.history c.prog.new.self) c.args.block (c.end_on_page-end.result) k.block_size) (sym (c.prog.ensures.geometry ∙ c.read_four_bytes.ensures.device.geometry))
+          (is_unprogrammed_byte-program {low = 0} c.prog.ensures.history old (omega arith) (at_least _ _ _ c.in_ok-pages.ensures.size end));
     }
 
 pub returns-clause-stops : goal.returns-clause-stops
 returns-clause-stops g c =
-    let end : c.args.at + c.end_on_page.result ≡ c.args.at + padded_commit_end c.args.builder = whole_end _ _ _ _ _ _ c.end_on_page.ensures c.requires.ends (g.D.BlockDevice.geometry c.args.dev.now).valid in
+    let end : c.end_on_page-end.result ≡ 0 + padded_commit_end c.args.builder = whole_end _ _ _ _ _ c.end_on_page-end.ensures c.requires.ends (g.D.BlockDevice.geometry c.args.dev.now).valid in
     let size = (g.met.D.BlockDevice.shape c.args.dev.now).sizes c.args.block c.requires.in_device in
     goes_on (HoldsAtLosses-read_count LeftByLoss-read c.read_four_bytes.ensures.device.reads (SameExcept-refl _ _, inl refl)) c.prog.ensures.history
     (λ disk left. left_in_block disk c.read_four_bytes.ensures.device.same (goes_into c.in_ok-pages.ensures.commit c.in_ok-pages.ensures.size c.requires.goes size c.requires.ends end c.in_ok-next.ensures.bytes) left)

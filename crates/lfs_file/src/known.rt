@@ -70,6 +70,9 @@ impl KnownBlocks {
         ensures block { (all : List ℕ) → AreKnownBlocks all self.now → length all ≡ last + 1 → head ≡ slice_index all last → result.1 ≡ slice_index all result.0 }
         ensures near { (i : ℕ) → IsKnownIndex self.now i → index ≤ i → i ≤ last → result.0 ≤ i }
     {
+        if index == last {
+            return (last, head);
+        }
         let mut at = last;
         let mut block = head;
         for row in 0..32 {

@@ -3,10 +3,11 @@ use Rattle.std.proofs.Common.{ℕ, zero, suc, ◌≡◌, ◌+◌, ◌-◌, ◌�
 use Rattle.std.specs.List.{AllByRecursion, IsDistinct, filter}
 use Rattle.std.specs.Bool.{OnFalse, OnTrue}
 use Rattle.std.specs.Option.{option_map, option_map_or, unwrap_or}
-use Rattle.std.specs.Map.{keys_of, lookup, lookup_entry, remove_entry}
+use Rattle.std.specs.Map.{keys_of, lookup, lookup_entry, remove_entry, set_value}
 use Rattle.std.proofs.lemmas.List.{length-take, take_all, take-map}
 use Rattle.std.proofs.lemmas.List.Sums.{count_by-le-length, length-filter}
 use Rattle.std.proofs.lemmas.Option.{same_Some}
+use Rattle.std.proofs.lemmas.Map.{keys-set_value, length-set_value}
 use Rattle.std.proofs.lemmas.Map.Keys.{IsDistinct-cons}
 use Rattle.std.proofs.lemmas.Map.Made.{IsDistinct-keys_filter}
 use Rattle.lru.specs.LruCache.{LruCache, lru_cache, promoted, put_entries}
@@ -120,7 +121,23 @@ shown-rest (e ∷ es) b = go (not (nat_eq b e.0)) (shown-rest es b)
     go true next = ap (λ r. (e.0, e.1.items) ∷ r) next
     go false next = next
 
+pub shown-set_value : (es : List (ℕ × Vec ℕ Global)) (b : ℕ) (w : Vec ℕ Global) → cached_view (set_value (nat_eq b) es w) ≡ set_value (nat_eq b) (cached_view es) w.items
+shown-set_value [] b w = refl
+shown-set_value (e ∷ es) b w = go (nat_eq b e.0) (shown-set_value es b w)
+  where
+    go : (t : Bool) → cached_view (set_value (nat_eq b) es w) ≡ set_value (nat_eq b) (cached_view es) w.items
+        → cached_view (cond t ((e.0, w) ∷ es) (e ∷ set_value (nat_eq b) es w)) ≡ cond t ((e.0, w.items) ∷ cached_view es) ((e.0, e.1.items) ∷ set_value (nat_eq b) (cached_view es) w.items)
+    go true next = refl
+    go false next = ap (λ r. (e.0, e.1.items) ∷ r) next
+
 -- ---- what is kept
+
+pub CachesAtMostEight-set : (recent : LruCache ℕ (Vec ℕ Global)) (b : ℕ) (w : Vec ℕ Global) → CachesAtMostEight recent → CachesAtMostEight (lru_cache (set_value (nat_eq b) recent.entries w) recent.cap)
+CachesAtMostEight-set recent b w cache = record {
+  capacity = cache.capacity;
+  few = rw (length-set_value (nat_eq b) recent.entries w) cache.few;
+  distinct = rw (keys-set_value (nat_eq b) recent.entries w) cache.distinct;
+}
 
 pub CachesAtMostEight-rest : (recent : LruCache ℕ (Vec ℕ Global)) (b : ℕ) → CachesAtMostEight recent → CachesAtMostEight (lru_cache (rest b recent.entries) recent.cap)
 CachesAtMostEight-rest recent b cache = record {

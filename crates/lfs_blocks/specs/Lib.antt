@@ -4,3 +4,4 @@ pub mod Marks
 pub mod Next
 pub mod BlockReads
 pub mod UsedBlocks
+pub mod CacheLends

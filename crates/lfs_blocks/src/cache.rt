@@ -1,5 +1,7 @@
 ghost use Rattle.std.specs.Prelude.{◌≡◌, ◌⊎◌, ◌<◌, ◌≤◌, ◌+◌, ℕ, List, [], is_some, length, slice_range, unwrap_or, IfErr, IfOk, IfSome, None, OnErr, OnOk, option_copied, option_map, true, IfNone};
 ghost use Rattle.std.specs.Bool.{OnFalse, OnTrue};
+ghost use Rattle.std.specs.Borrow.{sem};
+ghost use Rattle.std.specs.Option.{option_copied_mut};
 ghost use Rattle.lfs_model.specs.format.Blocks.{block_bytes};
 ghost use Rattle.lfs_model.specs.layers.Cache.{cache_limit, cached_bytes, cache_with, cache_without};
 ghost use Rattle.lfs_device.specs.DeviceCalls.{ReadsOrIo, ReadsOrNoMemory, ReadsOnly, ReportsFaults};
@@ -18,8 +20,9 @@ use std::num::NonZeroUsize;
 /// A cache of at most eight blocks of a device, each with its bytes as they were when it was read.
 ///
 /// A contract sees the cache as a list of block numbers with their bytes. The block that was filled
-/// last comes first. The cache doesn't notice that the device changes a block. So the caller calls
-/// [`Cache::forget`] for a block before it programs or erases that block.
+/// last comes first. The cache doesn't notice that the device changes a block. So a caller that
+/// programs or erases a block calls [`Cache::forget`] before, or writes the same bytes by
+/// [`Cache::lend_mut`].
 #[derive(Drop)]
 pub struct Cache {
     alloc: Global,
@@ -38,6 +41,8 @@ impl Model for Cache {
 }
 
 impl Cache {
+    ghost use Rattle.lfs_blocks.specs.CacheLends.{lends_block};
+
     /// Makes an empty cache.
     ///
     /// Errors: `NoMemory` where the room for eight entries isn't granted.
@@ -121,15 +126,13 @@ impl Cache {
         }
     }
 
-    /// Takes a block out of the cache and returns its bytes. Returns None where the block isn't at
-    /// hand.
-    ///
-    /// The call takes no memory and makes no call of the device.
-    pub fn take(&mut self, block: u32) -> Option<Vec<u8>>
-        ensures bytes { option_map (λ bytes. bytes.items) result ≡ cached_bytes self.old block }
-        ensures others { self.new ≡ cache_without self.old block }
+    /// Borrows the bytes of a block to write to. Returns None where the block isn't cached. The order
+    /// of the blocks stays as it is.
+    pub fn lend_mut(&mut self, block: u32) -> Option<&mut Vec<u8>>
+        ensures* lends { sem 𝓛 (lends_block self.entry block result) }
+        ensures bytes { option_map (λ v. v.items) (option_copied_mut result) ≡ cached_bytes self.old block }
     {
-        self.recent.pop(&block)
+        self.recent.peek_mut(&block)
     }
 
     /// Takes a block out of the cache and drops its bytes. Nothing changes where the block isn't at
@@ -137,7 +140,7 @@ impl Cache {
     pub fn forget(&mut self, block: u32)
         ensures { self.new ≡ cache_without self.old block }
     {
-        self.take(block);
+        self.recent.pop(&block);
     }
 
     /// Takes all blocks out of the cache and drops their bytes. The call takes no memory and makes
@@ -162,19 +165,6 @@ impl Cache {
         self.clear();
     }
 
-    /// Adds a block with these bytes as the most recent one, where memory for that is granted. The
-    /// least recent block is dropped where there were eight. The caller's condition is that the
-    /// block isn't cached.
-    pub fn keep(&mut self, block: u32, bytes: Vec<u8>)
-        requires { cached_bytes self.old block ≡ None }
-        ensures { (self.new ≡ self.old) ⊎ (self.new ≡ cache_with self.old block bytes.items) }
-    {
-        match self.add_uncached_block(block, bytes) {
-            Ok(()) => {}
-            Err(_) => {}
-        }
-    }
-
     // Returns a cached block that isn't used by the map, if there is one.
     fn find_unused(&self, map: &BlockMap) -> Option<u32>
         ensures { IfNone result (AreCachedUsed map.now self.now) }
@@ -185,6 +175,19 @@ impl Cache {
             }
         }
         None
+    }
+
+    // Adds a block with these bytes as the most recent one, where memory for that is granted. The
+    // least recent block is dropped where there were eight. The caller's condition is that the
+    // block isn't cached.
+    fn keep(&mut self, block: u32, bytes: Vec<u8>)
+        requires { cached_bytes self.old block ≡ None }
+        ensures { (self.new ≡ self.old) ⊎ (self.new ≡ cache_with self.old block bytes.items) }
+    {
+        match self.add_uncached_block(block, bytes) {
+            Ok(()) => {}
+            Err(_) => {}
+        }
     }
 
     // Makes a cached block the most recent one. Returns whether the block is cached.

@@ -8,6 +8,7 @@ use Rattle.lfs_pair.specs.Commits.{CommitsChanges, RefusesCommit, AppendsChanges
 use Rattle.lfs_pair.proofs.Calls.{only_by_reads, only_trans}
 use Rattle.lfs_pair.proofs.Changed.{some_same, content_made_here, left_alone, left_by_change, made_here}
 use Rattle.lfs_model.proofs.Completed.{fits_raw}
+use Rattle.lfs_model.proofs.Histories.{began}
 use Rattle.lfs_model.specs.format.Content.{complete_content}
 use Rattle.std.specs.Prelude.{IfSome, IfNone}
 use Rattle.lfs_pair.specs.declared.programs.WrittenCommit.{WrittenCommit}
@@ -23,8 +24,9 @@ pub record IsRead {D : Type 0} (g : Ghosts D) (most : ℕ) (old mid : D) : Type 
   pub few : read_count (g.history mid) ≤ read_count (g.history old) + most
   pub faultless : fault_count (g.history mid) ≡ fault_count (g.history old)
 
-pub is_read : {D X : Type 0} {g : Ghosts D} {most : ℕ} {old mid : D} {x : X} → ReadsOrNoMemory {X = X} g old mid (Ok x) → read_count (g.history mid) ≤ read_count (g.history old) + most → IsRead g most old mid
-is_read ends few = record { device = ends.device; few = few; faultless = ends.reports.faults.no_fault (λ gives. absurd (cc)) }
+-- a device that wasn't called
+pub unread : {D : Type 0} (g : Ghosts D) (old : D) → IsRead g 0 old old
+unread g old = record { device = record { same = refl; geometry = refl; reads = began }; few = omega arith; faultless = refl }
 
 -- the same where nothing was appended then
 pub is_read_on : {D : Type 0} {g : Ghosts D} {most : ℕ} {changes : List ContentChange} {old mid new : D} {was now : Pair} → IsRead g most old mid → RefusesAppend g changes mid new was now → IsRead g most old new

@@ -107,10 +107,6 @@ reading_trans first second = record {
 pub reading_by_read : {D : Type 0} {g : Ghosts D} {n : ℕ} {bs : List ℕ} {old new : D} → ReadsOnly g old new → read_count (g.history new) ≤ read_count (g.history old) + 1 → 1 ≤ n → ChangesReadingFew g n bs old new
 reading_by_read read few some = record { only = only_by_reads read; few = omega (arith, few, some) }
 
--- so many reads, where more are allowed
-pub reading_by_reads : {D : Type 0} {g : Ghosts D} (n m : ℕ) {bs : List ℕ} {old new : D} → ReadsOnly g old new → read_count (g.history new) ≤ read_count (g.history old) + m → ChangesReadingFew g (n + m) bs old new
-reading_by_reads n m reads few = record { only = only_by_reads reads; few = omega (arith, few) }
-
 -- one read
 pub few_by_read : {old new : List CallEvent} {before after : Blocks} {b off len : ℕ} {failed : Bool} → new ≡ call_event (Read b off len) before after failed ∷ old → read_count new ≤ read_count old + 1
 few_by_read is = let read = ap read_count is in omega (arith, read)

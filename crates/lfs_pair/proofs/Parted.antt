@@ -156,10 +156,6 @@ is_splitting {geometry} {blocks = blocks} {history = history} {pair = pair} {fre
 
 -- ---- what a stop on the way there leaves
 
--- before a call
-pub left_before : (old : Disk) (at fresh : ℕ × ℕ) (changes : List ContentChange) → LossLeavesSplit old at fresh changes old.blocks
-left_before old at fresh changes = record { others = SameExceptBlocks-refl (at.0 ∷ at.1 ∷ fresh.0 ∷ fresh.1 ∷ []) old.blocks; content = inl (record { content = refl; first = λ e h. h }) }
-
 still_elsewhere : (old : Disk) (at fresh : ℕ × ℕ) (left : Blocks) → AreApart at fresh → KeepsOutsidePair fresh old.blocks left → HasOldContent old at (record old { blocks = left })
 still_elsewhere old at fresh left apart same = record {
   content = raw_content-stays old (pair_elsewhere apart) same;

@@ -55,17 +55,3 @@ NowHolds-stays {bs = bs} {disk = disk} elsewhere same stay holds = record {
   content = raw_content-stays disk elsewhere same ∙ holds.content;
   written = holds.written;
 }
-
--- ---- after reads
-
-pub IsTrueHeader-reads : {blocks : Blocks} {disk : Disk} {before after : List CallEvent} {pair : Pair} {held : RawContent} → OnlyReadsSince blocks before after → IsTrueHeader disk before pair held → IsTrueHeader disk after pair held
-IsTrueHeader-reads {pair = pair} reads is = record {
-  active = is.active;
-  holds = is.holds;
-  describes = is.describes;
-  whole_pages = is.whole_pages;
-  unprogrammed = λ written. AreUnprogrammed-read_count pair.active reads (is.unprogrammed written);
-}
-
-pub CanCommit-reads : {blocks : Blocks} {disk : Disk} {before after : List CallEvent} {pair : Pair} {changes : List ContentChange} → OnlyReadsSince blocks before after → CanCommit disk before pair changes → CanCommit disk after pair changes
-CanCommit-reads reads can = record { address = can.address; held = can.held; is_pair = IsTrueHeader-reads reads can.is_pair; new = can.new; changed = can.changed; names = can.names }

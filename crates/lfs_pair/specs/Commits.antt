@@ -1,5 +1,5 @@
 -- What a commit does to a pair.
-use Rattle.std.specs.Prelude.{ℕ, ◌≡◌, ◌≢◌, ◌⊎◌, ◌+◌, ◌%◌, ◌^◌, ◌++◌, ◌<◌, ◌≤◌, false, List, [], ◌∷◌, take, slice_get, Option, Some, None, IfSome}
+use Rattle.std.specs.Prelude.{ℕ, ◌≡◌, ◌≢◌, ◌⊎◌, ◌+◌, ◌%◌, ◌^◌, ◌++◌, ◌<◌, ◌≤◌, false, List, [], ◌∷◌, take, slice_get, Option, Some, None}
 use Rattle.std.specs.Option.{option_and_then}
 use Rattle.lfs_device.specs.declared.device.BlockDevice.{Ghosts}
 use Rattle.lfs_device.specs.declared.error.Error.{Error}
@@ -75,15 +75,10 @@ pub record HeaderSaysActive (disk : Disk) (pair : Pair) : Type 0 where
   pub holds : current_block disk (header_address pair) ≡ Some (disk_block disk pair.active)
   pub revision_is : pair.revision ≡ block_revision (disk_block disk pair.active)
 
--- The premises of a commit to a pair whose active block has these bytes, where bytes are given.
-pub record CanCommitWithBlock (disk : Disk) (history : List CallEvent) (pair : Pair) (changes : List ContentChange) (given : Option (List ℕ)) : Type 0 where
+-- The premises of a commit to a pair whose active block has these bytes.
+pub record CanCommitWithBlock (disk : Disk) (history : List CallEvent) (pair : Pair) (changes : List ContentChange) (block : List ℕ) : Type 0 where
   pub can : CanCommit disk history pair changes
-  pub block : IfSome given (λ bytes. bytes ≡ block_bytes disk.blocks pair.active)
-
--- one read for a block whose bytes aren't given, and none where they are
-abbrev pub reads_unless_given : Option (List ℕ) → ℕ
-reads_unless_given None = 1
-reads_unless_given (Some bytes) = 0
+  pub holds : block ≡ block_bytes disk.blocks pair.active
 
 -- The premises of an append: those of a commit, the active block's bytes, and a buffer as long as a block.
 pub record CanAppendChanges (disk : Disk) (history : List CallEvent) (pair : Pair) (block : List ℕ) (changes : List ContentChange) (len : ℕ) : Type 0 where

@@ -1,5 +1,5 @@
 -- What a split does to a pair.
-use Rattle.std.specs.Prelude.{ℕ, ◌≡◌, ◌≢◌, ◌⊎◌, ◌+◌, ◌<◌, ◌%◌, ◌^◌, true, List, length, take, drop, Some, Option, IfSome}
+use Rattle.std.specs.Prelude.{ℕ, ◌≡◌, ◌≢◌, ◌⊎◌, ◌+◌, ◌<◌, ◌%◌, ◌^◌, true, List, length, take, drop, Some}
 use Rattle.lfs_model.specs.format.Blocks.{Blocks, SameExceptBlocks, block_bytes}
 use Rattle.lfs_model.specs.format.Disk.{Disk, disk_block}
 use Rattle.lfs_model.specs.session.History.{CallEvent, StayUnprogrammed}
@@ -31,10 +31,10 @@ pub record CanSplitPair (disk : Disk) (history : List CallEvent) (pair : Pair) (
   pub apart : AreApart (header_address pair) fresh
   pub cut : AreSplittable disk.block_size disk.page commit.new.slots
 
--- The premises of a split of a pair whose active block has these bytes, where bytes are given.
-pub record CanSplitWithBlock (disk : Disk) (history : List CallEvent) (pair : Pair) (fresh : ℕ × ℕ) (changes : List ContentChange) (given : Option (List ℕ)) : Type 0 where
+-- The premises of a split of a pair whose active block has these bytes.
+pub record CanSplitWithBlock (disk : Disk) (history : List CallEvent) (pair : Pair) (fresh : ℕ × ℕ) (changes : List ContentChange) (block : List ℕ) : Type 0 where
   pub can : CanSplitPair disk history pair fresh changes
-  pub block : IfSome given (λ bytes. bytes ≡ block_bytes disk.blocks pair.active)
+  pub holds : block ≡ block_bytes disk.blocks pair.active
 
 -- the old pair's new content: the first slots, a hard tail to the fresh pair, and the delta of the global state
 abbrev pub split_front : RawContent → ℕ → ℕ × ℕ → RawContent

@@ -1,7 +1,6 @@
 // Commits of changes to a pair.
 
 ghost use Rattle.std.specs.Prelude.{◌≡◌, ◌+◌, ◌≤◌, true, false, IfErr, IfNone, IfOk, IfSome, OnErr, OnOk, Some, length};
-ghost use Rattle.std.specs.Option.{option_map};
 ghost use Rattle.lfs_device.specs.DeviceDisk.{disk_of_blocks};
 ghost use Rattle.lfs_device.specs.DeviceCalls.{ReportsFaults, ReportsOnlyIo};
 ghost use Rattle.lfs_model.specs.session.History.{AllCallsSince, HoldsAtLosses};
@@ -11,7 +10,7 @@ ghost use Rattle.lfs_model.specs.format.Blocks.{block_bytes};
 ghost use Rattle.lfs_model.specs.format.Content.{RawContent};
 ghost use Rattle.lfs_pair.specs.Pair.{IsTrueHeader, header_address};
 ghost use Rattle.lfs_pair.specs.ChangeView.{changes_view};
-ghost use Rattle.lfs_pair.specs.Commits.{AppendsByHeader, IsPairAddress, CanAppendChanges, CanCommitWithBlock, CanCompact, CompactsContent, CommitFails, IsEndBlank, LossLeavesChanged, LossLeavesNew, RefusesAppend, changed_pair_content, reads_unless_given};
+ghost use Rattle.lfs_pair.specs.Commits.{AppendsByHeader, IsPairAddress, CanAppendChanges, CanCommitWithBlock, CanCompact, CompactsContent, CommitFails, IsEndBlank, LossLeavesChanged, LossLeavesNew, RefusesAppend, changed_pair_content};
 ghost use Rattle.lfs_pair.specs.Endings.{CommitReturns};
 ghost use Rattle.lfs_pair.specs.Writing.{OnlyAsksBlank, ChangesReadingFew, WritesTheseBlocks};
 ghost use Rattle.lfs_model.specs.format.Thread.{address_blocks};
@@ -19,7 +18,6 @@ ghost use Rattle.lfs_model.specs.format.Thread.{address_blocks};
 use crate::change::Change;
 use crate::contents::changed_content;
 use crate::entries::push_changes;
-use crate::given_blocks::take_or_read;
 use crate::pair::Pair;
 use crate::programs::{WrittenCommit, append_commit, write_block_anew};
 use crate::size::content_fits;
@@ -39,65 +37,56 @@ pub enum Outcome {
 /// Commits changes to a pair (DESIGN.md of littlefs, "Metadata pairs"). The commit is atomic: a
 /// loss of power during the call leaves the pair with all of the changes or with none.
 ///
-/// `block` is the active block's bytes where the caller has them, as from a cache; else they are
-/// read. At Ok it has the bytes that this block then has on the device. The changes are appended to the active block's log where the padded commit ends within
-/// the block. Else the other block is erased, and all that the pair is to hold is written into it.
-/// After a [`fetch`](crate::fetch) the bytes after the log aren't known. So the first commit asks
-/// the device whether they are blank, and appends only then. The call takes at most two reads, and
-/// one where the bytes are given.
+/// `block` has the bytes of the active block. At Ok it has the bytes that this block then has on the
+/// device. The changes are appended to its log where the padded commit ends within the block. Else the
+/// other block is erased, and all that the pair is to hold is written into it. After a
+/// [`fetch`](crate::fetch) the bytes after the log aren't known. So the first commit asks the device
+/// whether they are blank, and appends only then. The call takes at most one read.
 ///
 /// Returns [`Outcome::Full`] exactly where what the changes make doesn't fit a pair ([`content_fits`]).
 /// Then nothing is written, and the pair stays as it was.
 ///
-/// Errors: `NoMemory` where memory for the slots and for two blocks isn't granted; where the bytes
-/// are given, for the slots and one block. Nothing is written then. `Io` where a call of the device
-/// failed. After an error `pair` is as it was, but the device may hold something else. So the
-/// caller fetches its blocks again.
+/// Errors: `NoMemory` where memory for the slots and for a block isn't granted. Nothing is written
+/// then. `Io` where a call of the device failed. After an error `pair` is as it was, but the device
+/// may hold something else. So the caller fetches its blocks again, and `block` is of no use.
 ///
 /// The promise about a loss of power has two premises. An erase leaves a block without a log, or
 /// with the log that it had. A program that is cut short leaves the log from before it, or the one
 /// from after it.
 ///
-/// The caller's conditions: the device has the pair as its last call left it. The active block has
-/// the bytes that are given. The changes are allowed in the pair's log. Each slot has a name
-/// afterwards.
+/// The caller's conditions: the device has the pair as its last call left it. The changes are allowed
+/// in the pair's log. Each slot has a name afterwards.
 pub fn commit<D: BlockDevice>(
     alloc: Global,
     dev: &mut D,
     pair: &mut Pair,
-    block: &mut Option<Vec<u8>>,
+    block: &mut [u8],
     changes: &[Change<'_>],
 ) -> Result<Outcome, Error>
-    requires { CanCommitWithBlock (disk_of_blocks (D.geometry dev.old) (D.blocks dev.old)) (D.history dev.old) pair.old (changes_view changes.now) (option_map (λ bytes. bytes.items) block.old) }
+    requires { CanCommitWithBlock (disk_of_blocks (D.geometry dev.old) (D.blocks dev.old)) (D.history dev.old) pair.old (changes_view changes.now) block.old }
 
-    ensures ends { CommitReturns D.BlockDevice (changes_view changes.now) dev.old dev.new pair.old pair.new (option_map (λ bytes. bytes.items) block.new) result }
+    ensures ends { CommitReturns D.BlockDevice (changes_view changes.now) dev.old dev.new pair.old pair.new block.new result }
     ensures error { IfErr result (λ e. CommitFails D.BlockDevice dev.old dev.new pair.old pair.new e) }
-    ensures device { ChangesReadingFew D.BlockDevice (1 + reads_unless_given (option_map (λ bytes. bytes.items) block.old)) (address_blocks (header_address pair.old)) dev.old dev.new }
+    ensures device { ChangesReadingFew D.BlockDevice 1 (address_blocks (header_address pair.old)) dev.old dev.new }
     ensures faults { ReportsFaults D.BlockDevice dev.old dev.new result }
     ensures stops { AllCallsSince ErasesCleanly (D.history dev.old) (D.history dev.new)
         → HoldsAtLosses LeftByLoss (D.history dev.old) (D.history dev.new) (LossLeavesChanged (disk_of_blocks (D.geometry dev.old) (D.blocks dev.old)) (header_address pair.old) (changes_view changes.now)) }
 {
     let geometry = dev.geometry();
-    let mut bytes = take_or_read(alloc, dev, pair.active, block)?;
-    let content = changed_content(alloc, pair, &bytes, changes)?;
+    let content = changed_content(alloc, pair, block, changes)?;
     if !content_fits(&content, geometry) {
-        drop(content);
-        *block = Some(bytes);
         return Ok(Outcome::Full);
     }
     let header = pair.with_content(&content);
     drop(content);
     let mut buf = Vec::from_elem(alloc, 0u8, geometry.block_size as usize)?;
-    if let Some(written) = append_changes(dev, pair, &mut bytes, changes, &mut buf)? {
+    if let Some(written) = append_changes(dev, pair, block, changes, &mut buf)? {
         *pair = header.with_end(written);
-        *block = Some(bytes);
         return Ok(Outcome::Done);
     }
     // The append was lent the bytes that the content was made of, so it is made once more.
-    let content = changed_content(alloc, pair, &bytes, changes)?;
+    let content = changed_content(alloc, pair, block, changes)?;
     compact(dev, pair, &content, &mut buf)?;
-    drop(content);
-    *block = Some(bytes);
     Ok(Outcome::Done)
 }
 
@@ -129,16 +118,16 @@ fn is_end_blank<D: BlockDevice>(dev: &mut D, pair: &Pair) -> Result<bool, Error>
 fn append_changes<D: BlockDevice>(
     dev: &mut D,
     pair: &Pair,
-    block: &mut Vec<u8>,
+    block: &mut [u8],
     changes: &[Change<'_>],
     buf: &mut [u8],
 ) -> Result<Option<WrittenCommit>, Error>
-    requires { CanAppendChanges (disk_of_blocks (D.geometry dev.old) (D.blocks dev.old)) (D.history dev.old) pair.now block.old.items (changes_view changes.now) (length buf.old) }
+    requires { CanAppendChanges (disk_of_blocks (D.geometry dev.old) (D.blocks dev.old)) (D.history dev.old) pair.now block.old (changes_view changes.now) (length buf.old) }
 
     ensures appends { IfOk result (λ o. IfSome o (λ written. AppendsByHeader (disk_of_blocks (D.geometry dev.old) (D.blocks dev.old)) (D.history dev.old) pair.now (changes_view changes.now)
         (disk_of_blocks (D.geometry dev.new) (D.blocks dev.new)) (D.history dev.new) written.end written.last)) }
     ensures no_room { IfOk result (λ o. IfNone o (RefusesAppend D.BlockDevice (changes_view changes.now) dev.old dev.new pair.now pair.now)) }
-    ensures block { OnOk result (block.new.items ≡ block_bytes (D.blocks dev.new) pair.now.active) }
+    ensures block { OnOk result (block.new ≡ block_bytes (D.blocks dev.new) pair.now.active) }
     ensures writes { WritesTheseBlocks D.BlockDevice 0 (address_blocks (header_address pair.now)) dev.old dev.new result }
     ensures stops { (c : RawContent) → changed_pair_content (disk_of_blocks (D.geometry dev.old) (D.blocks dev.old)) (header_address pair.now) (changes_view changes.now) ≡ Some c
         → HoldsAtLosses LeftByLoss (D.history dev.old) (D.history dev.new) (LossLeavesNew (disk_of_blocks (D.geometry dev.old) (D.blocks dev.old)) (header_address pair.now) c) }

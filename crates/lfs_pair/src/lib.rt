@@ -11,7 +11,6 @@ mod cut;
 mod entries;
 mod fetches;
 mod fresh;
-mod given_blocks;
 mod pair;
 mod programs;
 mod size;

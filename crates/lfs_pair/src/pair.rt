@@ -58,8 +58,8 @@ pub struct Pair {
 }
 
 impl Pair {
-    // Returns the block that isn't active.
-    pub(crate) fn inactive_block(&self) -> u32
+    /// Returns the block that isn't active.
+    pub fn inactive_block(&self) -> u32
         ensures { result ≡ header_inactive_block self.now }
     {
         if self.active == self.blocks[0] {

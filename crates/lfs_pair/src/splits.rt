@@ -1,7 +1,6 @@
 // Splits of a pair into itself and a fresh pair.
 
 ghost use Rattle.std.specs.Prelude.{◌≡◌, ◌+◌, IfErr, IfOk};
-ghost use Rattle.std.specs.Option.{option_map};
 ghost use Rattle.lfs_device.specs.DeviceDisk.{disk_of_blocks};
 ghost use Rattle.lfs_device.specs.DeviceCalls.{ReportsFaults};
 ghost use Rattle.lfs_model.specs.session.History.{AllCallsSince, HoldsAtLosses};
@@ -9,7 +8,7 @@ ghost use Rattle.lfs_model.specs.format.Slots.{address_view};
 ghost use Rattle.lfs_model.specs.crash.Stops.{ErasesCleanly, LeftByLoss};
 ghost use Rattle.lfs_tag.specs.ContentView.{content_view};
 ghost use Rattle.lfs_pair.specs.Pair.{header_address};
-ghost use Rattle.lfs_pair.specs.Commits.{CommitFails, reads_unless_given};
+ghost use Rattle.lfs_pair.specs.Commits.{CommitFails};
 ghost use Rattle.lfs_pair.specs.ChangeView.{changes_view};
 ghost use Rattle.lfs_pair.specs.HalfCut.{AreSplittable};
 ghost use Rattle.lfs_pair.specs.Writing.{ChangesReadingFew};
@@ -21,7 +20,6 @@ use crate::commits::compact;
 use crate::contents::changed_content;
 use crate::cut::middle_cut;
 use crate::fresh::{FIRST_REVISION, write_fresh_pair};
-use crate::given_blocks::take_or_read;
 use crate::pair::Pair;
 use lfs_device::{BlockDevice, Error, Geometry};
 use lfs_tag::{Content, MoveState, Tail};
@@ -32,8 +30,7 @@ use std::alloc::Global;
 /// tail to the fresh pair. The fresh pair gets the other slots and the old tail (DESIGN.md of
 /// littlefs, "The directory tree"). Returns the header of the fresh pair.
 ///
-/// `block` is the active block's bytes where the caller has them, as from a cache; else they are
-/// read. The call takes at most four reads, and three where the bytes are given.
+/// `block` has the bytes of the active block. The call takes at most three reads.
 ///
 /// The fresh pair is written first. So a loss of power during the call leaves the old pair with
 /// what it held, or both pairs with what they are to hold. That has the premises of
@@ -50,22 +47,21 @@ pub fn split<D: BlockDevice>(
     dev: &mut D,
     pair: &mut Pair,
     fresh: [u32; 2],
-    block: &mut Option<Vec<u8>>,
+    block: &[u8],
     changes: &[Change<'_>],
 ) -> Result<Pair, Error>
-    requires { CanSplitWithBlock (disk_of_blocks (D.geometry dev.old) (D.blocks dev.old)) (D.history dev.old) pair.old (address_view fresh) (changes_view changes.now) (option_map (λ bytes. bytes.items) block.old) }
+    requires { CanSplitWithBlock (disk_of_blocks (D.geometry dev.old) (D.blocks dev.old)) (D.history dev.old) pair.old (address_view fresh) (changes_view changes.now) block.now }
 
     ensures splits { IfOk result (λ fresh_pair. SplitsPair (disk_of_blocks (D.geometry dev.old) (D.blocks dev.old)) (D.history dev.old) (changes_view changes.now) pair.old (address_view fresh)
         (disk_of_blocks (D.geometry dev.new) (D.blocks dev.new)) (D.history dev.new) pair.new fresh_pair) }
     ensures error { IfErr result (λ e. CommitFails D.BlockDevice dev.old dev.new pair.old pair.new e) }
-    ensures device { ChangesReadingFew D.BlockDevice (3 + reads_unless_given (option_map (λ bytes. bytes.items) block.old)) (addresses_blocks (header_address pair.old) (address_view fresh)) dev.old dev.new }
+    ensures device { ChangesReadingFew D.BlockDevice 3 (addresses_blocks (header_address pair.old) (address_view fresh)) dev.old dev.new }
     ensures faults { ReportsFaults D.BlockDevice dev.old dev.new result }
     ensures stops { AllCallsSince ErasesCleanly (D.history dev.old) (D.history dev.new)
         → HoldsAtLosses LeftByLoss (D.history dev.old) (D.history dev.new) (LossLeavesSplit (disk_of_blocks (D.geometry dev.old) (D.blocks dev.old)) (header_address pair.old) (address_view fresh) (changes_view changes.now)) }
 {
     let geometry = dev.geometry();
-    let bytes = take_or_read(alloc, dev, pair.active, block)?;
-    let mut front = changed_content(alloc, pair, &bytes, changes)?;
+    let mut front = changed_content(alloc, pair, block, changes)?;
     let back = split_off_back(&mut front, fresh, geometry)?;
     let mut buf = Vec::from_elem(alloc, 0u8, geometry.block_size as usize)?;
     let fresh_pair = write_fresh_pair(dev, fresh, FIRST_REVISION, &back, &mut buf)?;

@@ -117,3 +117,9 @@ few_reads g None b old new (Err e) r (inr memory) = go (r.no_memory (ap Err memo
     go : (g.history new ≡ g.history old) ⊎ (g.history new ≡ read_block_event (g.geometry old).block_size (g.blocks old) b false ∷ g.history old) → read_count (g.history new) ≤ read_count (g.history old) + 1
     go (inl s) = let k = ap read_count s in omega (arith, k)
     go (inr s) = let k = ap read_count s in omega (arith, k)
+
+-- none where it is there
+pub fill_reads : {D : Type 0} (g : Ghosts D) (was : Option (List ℕ)) (b : ℕ) (old new : D) (result : Result (Unit {0}) Error) → ReadsUnlessCached g was b old new result → IfErr result (λ e. (e ≡ Io) ⊎ (e ≡ NoMemory))
+    → read_count (g.history new) ≤ read_count (g.history old) + reads_unless_cached was
+fill_reads g (Some bytes) b old new result r e = let s = ap (λ d. read_count (g.history d)) (r.no_call (search rules)) in omega (arith, s)
+fill_reads g None b old new result r e = few_reads g None b old new result r e

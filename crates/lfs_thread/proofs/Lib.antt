@@ -1,3 +1,4 @@
+mod BehindRead
 pub mod CachedLogs
 pub mod Keeping
 mod InOrder

@@ -1,5 +1,5 @@
 -- The block of a pair that a thread lends.
-use Rattle.std.specs.Prelude.{ℕ, ◌≡◌, ◌≤◌, ◌^◌, List, length, Option, Some}
+use Rattle.std.specs.Prelude.{ℕ, ◌≡◌, ◌≤◌, ◌^◌, List, length, Option, Some, None}
 use Rattle.lfs_device.specs.Bytes.{ElementsAreBytes}
 use Rattle.lfs_model.specs.layers.Cache.{CachedBlocks, cached_bytes, cache_with}
 use Rattle.lfs_model.specs.format.Disk.{disk_block}
@@ -9,7 +9,6 @@ use Rattle.lfs_model.specs.format.Content.{RawContent, complete_content, content
 use Rattle.lfs_pair.specs.Pair.{active_block_at}
 use Rattle.lfs_thread.specs.Kept.{KeptThread, ThreadView}
 use Rattle.lfs_thread.specs.ThreadSteps.{thread_pair}
-use Rattle.lfs_pair.specs.Commits.{reads_unless_given}
 
 -- the bytes of a pair's active block, if it is among these cached blocks
 abbrev pub cached_block_log : KeptThread → CachedBlocks → ℕ → Option (List ℕ)
@@ -21,7 +20,8 @@ cached_log t index = cached_block_log t.kept t.cache index
 
 -- one read for a block that isn't cached, and none for one that is
 abbrev pub reads_unless_cached : Option (List ℕ) → ℕ
-reads_unless_cached cached = reads_unless_given cached
+reads_unless_cached None = 1
+reads_unless_cached (Some bytes) = 0
 
 -- The cached blocks once a pair's active block is the most recent one. The least recent one is dropped where there were eight.
 abbrev pub loaded_cache : ThreadView → ℕ → CachedBlocks

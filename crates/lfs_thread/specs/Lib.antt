@@ -4,6 +4,7 @@ pub mod ThreadDevice
 pub mod ThreadSteps
 pub mod CachedLog
 pub mod CachedCalls
+pub mod CachedSteps
 pub mod Begun
 pub mod HeaderReading
 pub mod MountErrors

@@ -8,12 +8,12 @@ use Rattle.lfs_pair.specs.Writing.{ChangesReadingFew}
 use Rattle.lfs_thread.specs.declared.parts.ThreadParts.{ThreadParts}
 use Rattle.lfs_thread.specs.Kept.{IsCacheCurrent, IsKept}
 
--- No block but these changes, and the device is read at most so often. The parts are kept afterwards, but for the headers and the
--- map after an error. The order of the names stays.
+-- No block but these changes, and the device is read at most so often. The parts are kept afterwards, but for the headers, the
+-- map and the cache after an error. The order of the names stays.
 pub record ChangesKeptParts {D X : Type 0} (g : Ghosts D) (most : ℕ) (bs : List ℕ) (old new : ThreadParts D) (result : Result X Error) : Type 0 where
   pub device : ChangesReadingFew g most bs old.device new.device
   pub kept : OnOk result (IsKept g new.device new.pairs.items new.map)
-  pub current : IsCacheCurrent (g.blocks new.device) new.cache
+  pub current : OnOk result (IsCacheCurrent (g.blocks new.device) new.cache)
   pub order : new.order ≡ old.order
 
 -- What holds after a step that is done, and after one that is refused as too large.

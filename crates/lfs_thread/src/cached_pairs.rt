@@ -1,23 +1,24 @@
-// Pairs whose blocks are taken out of the cache of blocks.
+// Steps of a pair by its cached block.
 
-ghost use Rattle.std.specs.Prelude.{◌≡◌, ◌⊎◌, ℕ, List, None, Some, option_map};
-ghost use Rattle.lfs_model.specs.layers.Cache.{cached_bytes, cache_with, cache_without};
+ghost use Rattle.std.specs.Prelude.{◌≡◌, ◌+◌, IfErr, IfOk, OnOk};
+ghost use Rattle.lfs_device.specs.DeviceCalls.{ReportsFaults};
+ghost use Rattle.lfs_device.specs.DeviceDisk.{disk_of_blocks};
+ghost use Rattle.lfs_model.specs.layers.Cache.{cached_bytes, cache_without};
 ghost use Rattle.lfs_model.specs.format.Slots.{address_view};
+ghost use Rattle.lfs_model.specs.format.Thread.{address_blocks, addresses_blocks};
+ghost use Rattle.lfs_pair.specs.ChangeView.{changes_view};
+ghost use Rattle.lfs_pair.specs.Commits.{CommitFails, LossLeavesChanged};
+ghost use Rattle.lfs_pair.specs.Pair.{header_address};
+ghost use Rattle.lfs_pair.specs.Split.{LossLeavesSplit};
+ghost use Rattle.lfs_pair.specs.Writing.{ChangesReadingFew};
+ghost use Rattle.lfs_thread.specs.CachedLog.{reads_unless_cached};
+ghost use Rattle.lfs_thread.specs.CachedSteps.{CanCommitCached, CanSplitCached, CommitsCached, SplitsCached};
+ghost use Rattle.lfs_thread.specs.ThreadDevice.{CleanLossLeaves};
 
 use lfs_blocks::Cache;
-use lfs_pair::Pair;
-
-// Takes both blocks of a pair out of the cache. Returns the active block's bytes, if they are at
-// hand.
-pub(crate) fn take_cached_pair(cache: &mut Cache, blocks: [u32; 2], active: u32) -> Option<Vec<u8>>
-    ensures bytes { option_map (λ bytes. bytes.items) result ≡ cached_bytes cache.old active }
-    ensures none { cached_bytes cache.new active ≡ None }
-    ensures gone { cache.new ≡ cache_without (cache_without (cache_without cache.old active) (address_view blocks).0) (address_view blocks).1 }
-{
-    let held = cache.take(active);
-    forget_cached_pair(cache, blocks);
-    held
-}
+use lfs_device::{BlockDevice, Error};
+use lfs_pair::{Change, Outcome, Pair, commit, split};
+use std::alloc::Global;
 
 // Takes both blocks of a pair out of the cache.
 pub(crate) fn forget_cached_pair(cache: &mut Cache, blocks: [u32; 2])
@@ -27,16 +28,57 @@ pub(crate) fn forget_cached_pair(cache: &mut Cache, blocks: [u32; 2])
     cache.forget(blocks[1]);
 }
 
-// Puts the bytes of a pair's block into the cache, if they are at hand, the block is the active one,
-// and memory for that is granted.
-pub(crate) fn keep_active(cache: &mut Cache, pair: &Pair, block: u32, held: Option<Vec<u8>>)
-    requires { cached_bytes cache.old block ≡ None }
-    ensures { (bytes : List ℕ) → option_map (λ bytes. bytes.items) held ≡ Some bytes → (cache.new ≡ cache.old) ⊎ (cache.new ≡ cache_with cache.old block bytes) }
+// Commits changes to a pair. Its active block is read into the cache where it isn't cached, and the
+// commit is lent its bytes.
+//
+// Errors are those of a commit. The cache may differ from the device then.
+pub(crate) fn commit_cached<D: BlockDevice>(
+    alloc: Global,
+    dev: &mut D,
+    cache: &mut Cache,
+    pair: &mut Pair,
+    changes: &[Change<'_>],
+) -> Result<Outcome, Error>
+    requires { CanCommitCached D.BlockDevice dev.old cache.old pair.old (changes_view changes.now) }
+
+    ensures ends { CommitsCached D.BlockDevice (changes_view changes.now) dev.old dev.new pair.old pair.new cache.new result }
+    ensures error { IfErr result (λ e. CommitFails D.BlockDevice dev.old dev.new pair.old pair.new e) }
+    ensures device { ChangesReadingFew D.BlockDevice (1 + reads_unless_cached (cached_bytes cache.old pair.old.active)) (address_blocks (header_address pair.old)) dev.old dev.new }
+    ensures faults { ReportsFaults D.BlockDevice dev.old dev.new result }
+    ensures stops { CleanLossLeaves (D.history dev.old) (D.history dev.new) (LossLeavesChanged (disk_of_blocks (D.geometry dev.old) (D.blocks dev.old)) (header_address pair.old) (changes_view changes.now)) }
 {
-    if pair.active != block {
-        return;
+    cache.forget(pair.inactive_block());
+    cache.fill(dev, pair.active)?;
+    match cache.lend_mut(pair.active) {
+        Some(block) => commit(alloc, dev, pair, block, changes),
+        None => unreachable!(),
     }
-    if let Some(bytes) = held {
-        cache.keep(block, bytes);
+}
+
+// Commits changes to a pair and splits it, as a split does. Its active block is read into the cache
+// where it isn't cached. The blocks of the fresh pair aren't cached.
+//
+// Errors are those of a split. The cache may differ from the device then.
+pub(crate) fn split_cached<D: BlockDevice>(
+    alloc: Global,
+    dev: &mut D,
+    cache: &mut Cache,
+    pair: &mut Pair,
+    fresh: [u32; 2],
+    changes: &[Change<'_>],
+) -> Result<Pair, Error>
+    requires { CanSplitCached D.BlockDevice dev.old cache.old pair.old (address_view fresh) (changes_view changes.now) }
+
+    ensures splits { IfOk result (SplitsCached D.BlockDevice (changes_view changes.now) dev.old dev.new pair.old pair.new cache.new (address_view fresh)) }
+    ensures error { IfErr result (λ e. CommitFails D.BlockDevice dev.old dev.new pair.old pair.new e) }
+    ensures device { ChangesReadingFew D.BlockDevice (3 + reads_unless_cached (cached_bytes cache.old pair.old.active)) (addresses_blocks (header_address pair.old) (address_view fresh)) dev.old dev.new }
+    ensures faults { ReportsFaults D.BlockDevice dev.old dev.new result }
+    ensures stops { CleanLossLeaves (D.history dev.old) (D.history dev.new) (LossLeavesSplit (disk_of_blocks (D.geometry dev.old) (D.blocks dev.old)) (header_address pair.old) (address_view fresh) (changes_view changes.now)) }
+{
+    cache.forget(pair.inactive_block());
+    cache.fill(dev, pair.active)?;
+    match cache.lend(pair.active) {
+        Some(block) => split(alloc, dev, pair, fresh, block, changes),
+        None => unreachable!(),
     }
 }

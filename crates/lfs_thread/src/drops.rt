@@ -9,15 +9,15 @@ ghost use Rattle.lfs_thread.specs.CachedLog.{cached_block_log, reads_unless_cach
 ghost use Rattle.lfs_thread.specs.ThreadSteps.{CanDropNext, IsNextDropped, LossLeavesPair, RefusesChanges, thread_pair};
 ghost use Rattle.lfs_model.specs.format.Thread.{address_blocks};
 
-use crate::cached_pairs::take_cached_pair;
+use crate::cached_pairs::commit_cached;
 use crate::parts::ThreadParts;
 use lfs_device::{BlockDevice, Error};
-use lfs_pair::{Change, Outcome, commit};
+use lfs_pair::{Change, Outcome};
 use std::alloc::Global;
 
 // Drops the pair after the one at the index. For that it commits changes to the pair at the index,
 // by which its tail names what the dropped pair's tail names. The dropped pair's blocks are free
-// afterwards. After an error nothing is known of the headers and the map.
+// afterwards. After an error nothing is known of the headers, the map and the cache.
 pub(crate) fn drop_next_pair<D: BlockDevice>(
     alloc: Global,
     parts: &mut ThreadParts<D>,
@@ -35,8 +35,7 @@ pub(crate) fn drop_next_pair<D: BlockDevice>(
         (LossLeavesPair (kept_parts D.BlockDevice parts.old) index (changes_view changes.now)) }
 {
     let pair = &mut parts.pairs[index];
-    let mut held = take_cached_pair(&mut parts.cache, pair.blocks, pair.active);
-    let outcome = commit(alloc, &mut parts.device, pair, &mut held, changes)?;
+    let outcome = commit_cached(alloc, &mut parts.device, &mut parts.cache, pair, changes)?;
     if let Outcome::Full = outcome {
         return Ok(Outcome::Full);
     }

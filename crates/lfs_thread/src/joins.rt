@@ -12,17 +12,17 @@ ghost use Rattle.lfs_thread.specs.CachedLog.{cached_block_log, reads_unless_cach
 ghost use Rattle.lfs_thread.specs.ThreadSteps.{CanThreadIn, RefusesThreading, IsThreadedIn, LossLeavesThreaded, tail_change, thread_pair};
 ghost use Rattle.lfs_model.specs.format.Thread.{address_blocks, addresses_blocks};
 
-use crate::cached_pairs::{forget_cached_pair, take_cached_pair};
+use crate::cached_pairs::{commit_cached, forget_cached_pair};
 use crate::parts::ThreadParts;
 use lfs_device::{BlockDevice, Error};
-use lfs_pair::{Change, Outcome, Pair, commit};
+use lfs_pair::{Change, Outcome, Pair};
 use lfs_tag::Tail;
 use std::alloc::Global;
 
 // Makes a fresh pair of two blocks in flight. It has no slots, and the tail of the pair at the
 // index. Then the changes are committed to the pair at the index, whose tail then names the fresh
 // pair. Where the changes don't fit, no tail names the fresh pair, and its blocks stay in flight.
-// After an error nothing is known of the headers and the map.
+// After an error nothing is known of the headers, the map and the cache.
 pub(crate) fn thread_fresh_pair<D: BlockDevice>(
     alloc: Global,
     parts: &mut ThreadParts<D>,
@@ -46,8 +46,13 @@ pub(crate) fn thread_fresh_pair<D: BlockDevice>(
     forget_cached_pair(&mut parts.cache, fresh);
     let tail = change_setting_tail(&pair.tail);
     let fresh_pair = Pair::fresh(alloc, &mut parts.device, fresh, &[tail])?;
-    let mut held = take_cached_pair(&mut parts.cache, pair.blocks, pair.active);
-    let outcome = commit(alloc, &mut parts.device, &mut pair, &mut held, changes)?;
+    let outcome = commit_cached(
+        alloc,
+        &mut parts.device,
+        &mut parts.cache,
+        &mut pair,
+        changes,
+    )?;
     if let Outcome::Full = outcome {
         parts.pairs.remove(index + 1);
         return Ok(Outcome::Full);

@@ -10,15 +10,15 @@ ghost use Rattle.lfs_thread.specs.Parts.{ChangesKeptParts};
 ghost use Rattle.lfs_thread.specs.ThreadDevice.{CleanLossLeaves, ReportsKeepingOthers};
 ghost use Rattle.lfs_thread.specs.ThreadSteps.{thread_pair};
 
-use crate::cached_pairs::{forget_cached_pair, take_cached_pair};
+use crate::cached_pairs::{commit_cached, forget_cached_pair};
 use crate::parts::ThreadParts;
 use lfs_device::{BlockDevice, Error};
-use lfs_pair::{Change, Outcome, commit, copy};
+use lfs_pair::{Change, Outcome, copy};
 use std::alloc::Global;
 
 // Copies the pair after the one at the index into two blocks in flight. Then it commits to the pair
 // at the index a hard tail that names them. The copy takes the pair's place, and the pair's blocks
-// are free. After an error nothing is known of the headers and the map.
+// are free. After an error nothing is known of the headers, the map and the cache.
 pub(crate) fn move_next_pair<D: BlockDevice>(
     alloc: Global,
     parts: &mut ThreadParts<D>,
@@ -42,8 +42,13 @@ pub(crate) fn move_next_pair<D: BlockDevice>(
         hard: true,
         pair: Some(fresh),
     };
-    let mut held = take_cached_pair(&mut parts.cache, pair.blocks, pair.active);
-    let outcome = commit(alloc, &mut parts.device, &mut pair, &mut held, &[tail])?;
+    let outcome = commit_cached(
+        alloc,
+        &mut parts.device,
+        &mut parts.cache,
+        &mut pair,
+        &[tail],
+    )?;
     if let Outcome::Full = outcome {
         unreachable!();
     }

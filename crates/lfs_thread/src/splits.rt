@@ -10,14 +10,15 @@ ghost use Rattle.lfs_thread.specs.CachedLog.{cached_block_log, reads_unless_cach
 ghost use Rattle.lfs_thread.specs.ThreadSteps.{CanSplitAt, LossLeavesThreadSplit, HasSplit, thread_pair};
 ghost use Rattle.lfs_model.specs.format.Thread.{addresses_blocks};
 
-use crate::cached_pairs::{forget_cached_pair, take_cached_pair};
+use crate::cached_pairs::{forget_cached_pair, split_cached};
 use crate::parts::ThreadParts;
 use lfs_device::{BlockDevice, Error};
-use lfs_pair::{Change, split};
+use lfs_pair::Change;
 use std::alloc::Global;
 
 // Splits the pair at the index. The fresh pair comes after it in the thread, in two blocks in
-// flight, which are used afterwards. After an error nothing is known of the headers and the map.
+// flight, which are used afterwards. After an error nothing is known of the headers, the map and the
+// cache.
 pub(crate) fn split_pair<D: BlockDevice>(
     alloc: Global,
     parts: &mut ThreadParts<D>,
@@ -37,14 +38,13 @@ pub(crate) fn split_pair<D: BlockDevice>(
     let mut pair = parts.pairs[index];
     // This takes the memory for the fresh pair's header, before anything is written.
     parts.pairs.insert(index + 1, pair)?;
-    let mut held = take_cached_pair(&mut parts.cache, pair.blocks, pair.active);
     forget_cached_pair(&mut parts.cache, fresh);
-    let fresh_pair = split(
+    let fresh_pair = split_cached(
         alloc,
         &mut parts.device,
+        &mut parts.cache,
         &mut pair,
         fresh,
-        &mut held,
         changes,
     )?;
     parts.pairs[index] = pair;

@@ -24,7 +24,7 @@ ghost use Rattle.lfs_thread.specs.HeaderReading.{IsReadThread};
 ghost use Rattle.lfs_thread.specs.Unloads.{CanUnload, IsUnloaded, LossLeavesUnloaded};
 ghost use Rattle.lfs_thread.specs.ThreadSteps.{CanSplitAt, CanChangePair, CanDropNext, CanThreadIn, ThreadReportsErrors, ThreadReportsKeepingOthers, RefusesThreading, IsThreadedIn, LossLeavesThreaded, IsPairCommitted, IsNextDropped, LossLeavesPair, LossLeavesThreadSplit, OnlyReadsThread, RefusesChanges, HasSplit, ChangesWithinReads, thread_pair};
 
-use crate::cached_pairs::{keep_active, take_cached_pair};
+use crate::cached_pairs::commit_cached;
 use crate::deltas::headers_gstate;
 use crate::drops::drop_next_pair;
 use crate::headers::read_thread_headers;
@@ -39,7 +39,7 @@ use lfs_blocks::{BlockMap, Cache};
 use lfs_device::{BlockDevice, Error, Geometry};
 use lfs_file::{KnownBlocks, read_at};
 use lfs_model::NameOrder;
-use lfs_pair::{Change, Outcome, commit};
+use lfs_pair::{Change, Outcome};
 use lfs_tag::{Log, MoveState, Tail, has_hard_tail};
 use std::alloc::Global;
 use std::marker::Model;
@@ -380,8 +380,7 @@ impl<D: BlockDevice> Thread<D> {
 
     /// Commits changes to a pair. Its tail still names the same pair afterwards. The changes may
     /// change the pair's delta of the global state, and whether its tail is hard. The active block
-    /// isn't read where it is cached. It stays cached where the changes are appended to it, and memory
-    /// for that is granted.
+    /// isn't read where it is cached. It is cached afterwards, where the changes were appended to it.
     ///
     /// Returns `Full` where what the changes make doesn't fit the pair; nothing is written then.
     ///
@@ -404,10 +403,13 @@ impl<D: BlockDevice> Thread<D> {
         ensures stops { CleanLossLeaves self.old.kept.history self.new.kept.history (LossLeavesPair self.old.kept index (changes_view changes.now)) }
     {
         let pair = &mut self.parts.pairs[index];
-        let active = pair.active;
-        let mut held = take_cached_pair(&mut self.parts.cache, pair.blocks, active);
-        let outcome = commit(alloc, &mut self.parts.device, pair, &mut held, changes);
-        keep_active(&mut self.parts.cache, pair, active, held);
+        let outcome = commit_cached(
+            alloc,
+            &mut self.parts.device,
+            &mut self.parts.cache,
+            pair,
+            changes,
+        );
         self.has_failed = outcome.is_err();
         outcome
     }

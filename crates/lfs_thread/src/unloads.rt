@@ -11,16 +11,16 @@ ghost use Rattle.lfs_thread.specs.ThreadDevice.{CleanLossLeaves, ReportsKeepingO
 ghost use Rattle.lfs_thread.specs.ThreadSteps.{thread_pair};
 ghost use Rattle.lfs_thread.specs.Unloads.{CanUnload, IsUnloaded, LossLeavesUnloaded, changes_of_unload};
 
-use crate::cached_pairs::{forget_cached_pair, take_cached_pair};
+use crate::cached_pairs::{commit_cached, forget_cached_pair};
 use crate::parts::ThreadParts;
 use lfs_device::{BlockDevice, Error};
-use lfs_pair::{Change, Outcome, commit, copy};
+use lfs_pair::{Change, Outcome, copy};
 use lfs_tag::MoveState;
 use std::alloc::Global;
 
 // Copies the pair at the index, without its delta, into two blocks in flight. Then it commits to
 // the pair a hard tail that names them, and deletes its slots from `keep` on. The fresh pair comes
-// after it. After an error nothing is known of the headers and the map.
+// after it. After an error nothing is known of the headers, the map and the cache.
 pub(crate) fn unload_pair<D: BlockDevice>(
     alloc: Global,
     parts: &mut ThreadParts<D>,
@@ -47,8 +47,13 @@ pub(crate) fn unload_pair<D: BlockDevice>(
         state: MoveState::none(),
     };
     let loaded = copy(alloc, &mut parts.device, &pair, fresh, &[no_delta])?;
-    let mut held = take_cached_pair(&mut parts.cache, pair.blocks, pair.active);
-    let outcome = commit(alloc, &mut parts.device, &mut pair, &mut held, &changes)?;
+    let outcome = commit_cached(
+        alloc,
+        &mut parts.device,
+        &mut parts.cache,
+        &mut pair,
+        &changes,
+    )?;
     if let Outcome::Full = outcome {
         unreachable!();
     }

@@ -1,18 +1,13 @@
 use Rattle.lfs_pair.proofs.Common.{SameExcept, block_bytes, AreUnprogrammed, address_blocks, encoded_size, aligned_end, IsCommitOffset, padded_commit_end, LogGetsCommit, LossLeavesCommit, disk_of_blocks, entries_of_changes, HoldsAtLosses-weaker, PartialCommit, header_address, commit_with_entries, KeepsFirstEntry, LossLeavesNew, changes_view, err_from_is_err_and}
 use Rattle.lfs_pair.specs.Writing.{BlockGetsCommit}
 use Rattle.lfs_pair.proofs.Anew.{nothing_more}
-use Rattle.std.proofs.Math.Seq.{take-append_seam}
-use Rattle.std.proofs.Common.{ℕ, List, ◌++◌, length, take, drop, rules, ◌≡◌, ◌+◌, ◌%◌, ◌<◌, inl, Ok, refl, sym, ap, ap₂, ◌∙◌, subst, subst₂, arith, Some}
+use Rattle.std.proofs.Common.{rules, ◌≡◌, ◌+◌, ◌%◌, ◌<◌, inl, Ok, refl, sym, ap, ap₂, ◌∙◌, subst, subst₂, arith, Some}
 use Rattle.lfs_device.specs.declared.geometry.Geometry.{Geometry}
 use Rattle.lfs_pair.proofs.Asking.{asks_erases, asks_only, asks_programs, asks_reads, asks_stops, asks_then_few, asks_then_stops, known_after, left_alone, unknown}
 use Rattle.lfs_pair.proofs.Calls.{only_block, only_trans}
 use Rattle.lfs_pair.proofs.Changed.{IsIn, is_appending, appended, appended_first, active_among, active_below, now_holds, left_by_append, ends_in_block, made_is, some_same, gets_revision}
 use Rattle.lfs_pair.proofs.Erring.{reports_ok, reports_on}
 use Rattle.lfs_pair.proofs.commits.append_changes.Goals as goal
-
--- a vector that was lent as a slice, and is written whole
-written_back : {len : ℕ} {now block : List ℕ} (items : List ℕ) → now ≡ block → length block ≡ len → take len (now ++ drop (length now) items) ≡ block
-written_back {now = now} items same long = ap (λ n. take n (now ++ drop (length now) items)) (sym long ∙ sym (ap length same)) ∙ take-append_seam now (drop (length now) items) ∙ same
 
 pub overflow_cast-room : goal.overflow_cast-room
 overflow_cast-room g c =
@@ -54,7 +49,7 @@ append_commit-requires g c = record {
         subst (λ (k : Geometry). AreUnprogrammed (g.D.BlockDevice.history c.is_end_blank.new.dev) c.args.pair.now.active c.args.pair.now.end k.block_size) (sym c.in_ok-is_blank.ensures.asks.geometry)
         (c.in_ok-is_blank.ensures.yes (ap Ok c.if-not-is_blank.false)).unprogrammed;
   };
-  holds = c.deref_mut.ensures.value ∙ c.requires.holds ∙ sym (ap (λ d. block_bytes d c.args.pair.now.active) c.in_ok-is_blank.ensures.asks.same);
+  holds = c.requires.holds ∙ sym (ap (λ d. block_bytes d c.args.pair.now.active) c.in_ok-is_blank.ensures.asks.same);
 }
 
 pub returns-in_err-written-clause-stops : goal.returns-in_err-written-clause-stops
@@ -72,7 +67,7 @@ returns-clause-appends g c content pair made logged header =
     let asks = c.in_ok-is_blank.ensures.asks in
     let others = subst (λ b. SameExcept c.args.pair.now.active b (g.D.BlockDevice.blocks c.append_commit.new.dev)) asks.same c.in_ok-written.ensures.writes.device.others in
     let geometry = c.in_ok-written.ensures.writes.device.geometry ∙ asks.geometry in
-    let adds = subst₂ (BlockGetsCommit c.push_changes.new.builder c.args.pair.now.end c.in_ok-written.written.end) (c.deref_mut.ensures.value ∙ c.requires.holds) c.in_ok-written.ensures.adds.same c.in_ok-written.ensures.adds.gets in
+    let adds = subst₂ (BlockGetsCommit c.push_changes.new.builder c.args.pair.now.end c.in_ok-written.written.end) (c.requires.holds) c.in_ok-written.ensures.adds.same c.in_ok-written.ensures.adds.gets in
     let built = c.push_changes.ensures ∙ ap (commit_with_entries (entries_of_changes (changes_view c.args.changes.now))) c.new-builder.ensures in
     let ready = is_appending _ _ c.args.pair.now can.held can.new (changes_view c.args.changes.now) c.push_changes.new.builder can.address can.is_pair can.changed (ap (λ (b : PartialCommit). b.entries) built) (ap (λ (b : PartialCommit). b.revision) built) in
     let new : Some can.new ≡ Some content = sym (made_is _ _ c.args.pair.now can.held (changes_view c.args.changes.now) can.is_pair ∙ can.changed) ∙ made in
@@ -170,12 +165,4 @@ returns-then-not-is_blank-clause-stops g c content made = asks_stops g.D.BlockDe
     (left_alone _ _ _)
 
 pub returns-clause-block : goal.returns-clause-block
-returns-clause-block g c =
-    let asks = c.in_ok-is_blank.ensures.asks in
-    let old = g.met.D.BlockDevice.shape c.args.dev.now in
-    let new = g.met.D.BlockDevice.shape c.append_commit.new.dev in
-    let geometry = c.in_ok-written.ensures.writes.device.geometry ∙ asks.geometry in
-    let below = active_below _ _ c.args.pair.now c.requires.can.held _ c.requires.can.address c.requires.can.is_pair old.count in
-    let size = new.sizes c.args.pair.now.active (subst (λ (k : Geometry). c.args.pair.now.active < k.block_count) (sym geometry) below) ∙ ap (λ (k : Geometry). k.block_size) geometry in
-    let was = old.sizes c.args.pair.now.active below in
-    written_back c.args.block.now.items c.in_ok-written.ensures.adds.same (size ∙ sym was ∙ sym (ap length (c.deref_mut.ensures.value ∙ c.requires.holds)) ∙ c.deref_mut.ensures.len)
+returns-clause-block g c = c.in_ok-written.ensures.adds.same

@@ -1,44 +1,35 @@
 use Rattle.std.proofs.Common.{rules, arith, ◌∙◌, sym, subst, ◌+◌, ◌%◌, ◌^◌, Some, ap}
-use Rattle.lfs_pair.proofs.Common.{err_from_is_err_and, disk_of_blocks, address_view, goes_on_by, AllCallsSince-behind, HoldsAtLosses-read_count, HoldsAtLosses-weaker, LeftByLoss-read, header_address, changes_view, block_bytes, RawContent, has_commit, HasOneCommit, content_view, HeaderSaysActive, KeepsFirstEntry, LossLeavesNew, HasWrittenContent}
-use Rattle.lfs_pair.proofs.Erring.{reports_ok, reports_on}
-use Rattle.lfs_pair.proofs.Behind.{clears_behind, is_read, only_behind, same_disk}
-use Rattle.lfs_pair.proofs.Calls.{only_trans, only_wider, reading_by_reads}
-use Rattle.lfs_pair.proofs.Changed.{active_below, content_made_here, is_active}
-use Rattle.lfs_pair.proofs.Parted.{left_before, among_first, among_second, clears_more, cut_inside, is_splitting, first_while_fresh, pair_elsewhere, fresh_elsewhere, left_while_fresh, left_while_old}
+use Rattle.lfs_pair.proofs.Common.{disk_of_blocks, address_view, goes_on_by, AllCallsSince-behind, HoldsAtLosses-weaker, header_address, changes_view, block_bytes, RawContent, has_commit, HasOneCommit, content_view, HeaderSaysActive, KeepsFirstEntry, LossLeavesNew, HasWrittenContent}
+use Rattle.lfs_pair.proofs.Erring.{reports_ok}
+use Rattle.lfs_pair.proofs.Calls.{only_trans, only_wider}
+use Rattle.lfs_pair.proofs.Changed.{content_made_here, is_active}
+use Rattle.lfs_pair.proofs.Parted.{among_first, among_second, clears_more, cut_inside, is_splitting, first_while_fresh, pair_elsewhere, fresh_elsewhere, left_while_fresh, left_while_old}
 use Rattle.lfs_pair.proofs.splits.split.Goals as goal
-use Rattle.std.specs.Prelude.{length}
 use Rattle.lfs_device.specs.declared.geometry.Geometry.{Geometry}
-use Rattle.lfs_pair.specs.FreshPair.{CanWriteFreshPair}
 use Rattle.lfs_pair.specs.HalfCut.{AreSplittable}
 use Rattle.lfs_model.proofs.Histories.{HoldsAtLosses-worst}
 use Rattle.lfs_pair.proofs.Stay.{HeaderSaysActive-stays, NowHolds-stays, active_elsewhere}
 
 -- what the calls ask
 
-pub take_or_read-requires-clause-in_device : goal.take_or_read-requires-clause-in_device
-take_or_read-requires-clause-in_device g c = active_below _ _ c.args.pair.now c.requires.can.commit.held _ c.requires.can.commit.address c.requires.can.commit.is_pair (g.met.D.BlockDevice.shape c.args.dev.now).count
-
 pub split_off_back-requires : goal.split_off_back-requires
 split_off_back-requires g c =
     let old = disk_of_blocks (g.D.BlockDevice.geometry c.args.dev.now) (g.D.BlockDevice.blocks c.args.dev.now) in
     let can = c.requires.can.commit in
-    let same = content_made_here old _ c.args.pair.now can.held can.new _ (changes_view c.args.changes.now) (content_view c.in_ok-front.front) can.is_pair (c.deref.ensures.value ∙ c.in_ok-bytes.ensures.bytes) can.changed c.in_ok-front.ensures.content in
+    let same = content_made_here old _ c.args.pair.now can.held can.new _ (changes_view c.args.changes.now) (content_view c.in_ok-front.front) can.is_pair c.requires.holds can.changed c.in_ok-front.ensures.content in
     subst (λ (k : Geometry). AreSplittable k.block_size k.page (content_view c.in_ok-front.front).slots) (sym c.geometry-geometry.ensures)
     (subst (λ (new : RawContent). AreSplittable old.block_size old.page new.slots) same c.requires.can.cut)
 
 pub write_fresh_pair-requires : goal.write_fresh_pair-requires
 write_fresh_pair-requires g c =
-    let r = is_read c.in_ok-bytes.ensures.device c.in_ok-bytes.ensures.few in
-    let ready = is_splitting c.geometry-geometry.ensures (g.met.D.BlockDevice.shape c.args.dev.now).count c.requires.can (c.deref.ensures.value ∙ c.in_ok-bytes.ensures.bytes) c.in_ok-front.ensures.content c.in_ok-front.ensures.logged c.in_ok-back.ensures.parts in
-    subst (λ d. CanWriteFreshPair d (address_view c.args.fresh) (content_view c.in_ok-back.back) (length c.deref_mut.result.now)) (sym (same_disk r.device))
-    (record { address = c.requires.can.fresh_is; buf = search rules; logged = ready.back_ready.logged; names = ready.back_ready.names; fits = ready.back_ready.fits })
+    let ready = is_splitting c.geometry-geometry.ensures (g.met.D.BlockDevice.shape c.args.dev.now).count c.requires.can c.requires.holds c.in_ok-front.ensures.content c.in_ok-front.ensures.logged c.in_ok-back.ensures.parts in
+    record { address = c.requires.can.fresh_is; buf = search rules; logged = ready.back_ready.logged; names = ready.back_ready.names; fits = ready.back_ready.fits }
 
 pub compact-requires : goal.compact-requires
 compact-requires g c =
-    let r = is_read c.in_ok-bytes.ensures.device c.in_ok-bytes.ensures.few in
-    let ready = is_splitting c.geometry-geometry.ensures (g.met.D.BlockDevice.shape c.args.dev.now).count c.requires.can (c.deref.ensures.value ∙ c.in_ok-bytes.ensures.bytes) c.in_ok-front.ensures.content c.in_ok-front.ensures.logged c.in_ok-back.ensures.parts in
+    let ready = is_splitting c.geometry-geometry.ensures (g.met.D.BlockDevice.shape c.args.dev.now).count c.requires.can c.requires.holds c.in_ok-front.ensures.content c.in_ok-front.ensures.logged c.in_ok-back.ensures.parts in
     let fresh = c.in_ok-fresh_pair.ensures in
-    let only = only_behind r fresh.writes.device in
+    let only = fresh.writes.device in
     let at = c.requires.can.commit.address in
     record {
       address = record { apart = at.apart; first = rw only.others.count at.first; second = rw only.others.count at.second };
@@ -51,71 +42,35 @@ compact-requires g c =
       fits = rw only.geometry ready.front_ready.fits;
     }
 
--- where nothing is written
-
-pub returns-in_err-bytes-clause-device : goal.returns-in_err-bytes-clause-device
-returns-in_err-bytes-clause-device g c = reading_by_reads _ _ c.take_or_read.ensures.device.device c.take_or_read.ensures.few
-
-pub returns-in_err-bytes-clause-stops : goal.returns-in_err-bytes-clause-stops
-returns-in_err-bytes-clause-stops g c cleanly = HoldsAtLosses-read_count LeftByLoss-read c.take_or_read.ensures.device.device.reads (left_before _ _ _ _)
-
-pub returns-in_err-front-clause-device : goal.returns-in_err-front-clause-device
-returns-in_err-front-clause-device g c = reading_by_reads _ _ c.take_or_read.ensures.device.device c.take_or_read.ensures.few
-
-pub returns-in_err-front-clause-stops : goal.returns-in_err-front-clause-stops
-returns-in_err-front-clause-stops g c cleanly = HoldsAtLosses-read_count LeftByLoss-read c.take_or_read.ensures.device.device.reads (left_before _ _ _ _)
-
-pub returns-in_err-back-clause-device : goal.returns-in_err-back-clause-device
-returns-in_err-back-clause-device g c = reading_by_reads _ _ c.take_or_read.ensures.device.device c.take_or_read.ensures.few
-
-pub returns-in_err-back-clause-stops : goal.returns-in_err-back-clause-stops
-returns-in_err-back-clause-stops g c cleanly = HoldsAtLosses-read_count LeftByLoss-read c.take_or_read.ensures.device.device.reads (left_before _ _ _ _)
-
-pub returns-in_err-buf-clause-device : goal.returns-in_err-buf-clause-device
-returns-in_err-buf-clause-device g c = reading_by_reads _ _ c.take_or_read.ensures.device.device c.take_or_read.ensures.few
-
-pub returns-in_err-buf-clause-stops : goal.returns-in_err-buf-clause-stops
-returns-in_err-buf-clause-stops g c cleanly = HoldsAtLosses-read_count LeftByLoss-read c.take_or_read.ensures.device.device.reads (left_before _ _ _ _)
-
 -- where the fresh pair can't be written
 
 pub returns-in_err-fresh_pair-clause-device : goal.returns-in_err-fresh_pair-clause-device
 returns-in_err-fresh_pair-clause-device g c =
-    let r = is_read c.in_ok-bytes.ensures.device c.in_ok-bytes.ensures.few in
     record {
-      only = only_behind r (only_wider _ (among_second (header_address c.args.pair.now) (address_view c.args.fresh)) c.in_err-fresh_pair.ensures.writes.device);
-      few = let few = r.few in let first = c.in_err-fresh_pair.ensures.writes.few in omega (arith, few, first);
+      only = only_wider _ (among_second (header_address c.args.pair.now) (address_view c.args.fresh)) c.in_err-fresh_pair.ensures.writes.device;
+      few = let first = c.in_err-fresh_pair.ensures.writes.few in omega (arith, first);
     }
-
-pub returns-in_err-fresh_pair-clause-faults : goal.returns-in_err-fresh_pair-clause-faults
-returns-in_err-fresh_pair-clause-faults g c =
-    let r = is_read c.in_ok-bytes.ensures.device c.in_ok-bytes.ensures.few in
-    let p = err_from_is_err_and c.from_residual-in_err-fresh_pair.result c.from_residual-in_err-fresh_pair.ensures.1 in
-    reports_on p.1 p.2 r.faultless c.in_err-fresh_pair.ensures.writes.faults
 
 pub returns-in_err-fresh_pair-clause-stops : goal.returns-in_err-fresh_pair-clause-stops
 returns-in_err-fresh_pair-clause-stops g c cleanly =
-    let r = is_read c.in_ok-bytes.ensures.device c.in_ok-bytes.ensures.few in
-    HoldsAtLosses-weaker (λ disk left. left_while_fresh _ _ _ (changes_view c.args.changes.now) disk c.requires.can.apart left) (HoldsAtLosses-worst (only_behind r c.in_err-fresh_pair.ensures.writes.device).at_worst)
+    HoldsAtLosses-weaker (λ disk left. left_while_fresh _ _ _ (changes_view c.args.changes.now) disk c.requires.can.apart left) (HoldsAtLosses-worst c.in_err-fresh_pair.ensures.writes.device.at_worst)
 
 -- behind the fresh pair
 
 pub returns-in_err-compact-clause-device : goal.returns-in_err-compact-clause-device
 returns-in_err-compact-clause-device g c =
-    let r = is_read c.in_ok-bytes.ensures.device c.in_ok-bytes.ensures.few in
     let fresh = c.in_ok-fresh_pair.ensures in
     record {
-      only = only_behind r (only_trans (only_wider _ (among_second (header_address c.args.pair.now) (address_view c.args.fresh)) fresh.writes.device)
-          (only_wider _ (among_first (header_address c.args.pair.now) (address_view c.args.fresh)) c.in_err-compact.ensures.writes.device));
-      few = let few = r.few in let first = fresh.writes.few in let second = c.in_err-compact.ensures.writes.few in omega (arith, few, first, second);
+      only = only_trans (only_wider _ (among_second (header_address c.args.pair.now) (address_view c.args.fresh)) fresh.writes.device)
+          (only_wider _ (among_first (header_address c.args.pair.now) (address_view c.args.fresh)) c.in_err-compact.ensures.writes.device);
+      few = let first = fresh.writes.few in let second = c.in_err-compact.ensures.writes.few in omega (arith, first, second);
     }
 
 pub returns-in_err-compact-clause-stops : goal.returns-in_err-compact-clause-stops
 returns-in_err-compact-clause-stops g c cleanly =
-    let r = is_read c.in_ok-bytes.ensures.device c.in_ok-bytes.ensures.few in
-    let ready = is_splitting c.geometry-geometry.ensures (g.met.D.BlockDevice.shape c.args.dev.now).count c.requires.can (c.deref.ensures.value ∙ c.in_ok-bytes.ensures.bytes) c.in_ok-front.ensures.content c.in_ok-front.ensures.logged c.in_ok-back.ensures.parts in
+    let ready = is_splitting c.geometry-geometry.ensures (g.met.D.BlockDevice.shape c.args.dev.now).count c.requires.can c.requires.holds c.in_ok-front.ensures.content c.in_ok-front.ensures.logged c.in_ok-back.ensures.parts in
     let fresh = c.in_ok-fresh_pair.ensures in
-    let only = only_behind r fresh.writes.device in
+    let only = fresh.writes.device in
     goes_on_by (HoldsAtLosses-weaker (λ disk left. left_while_fresh _ _ _ (changes_view c.args.changes.now) disk ready.apart left) (HoldsAtLosses-worst only.at_worst))
     (HoldsAtLosses-weaker (λ disk left. left_while_old _ _ _ (changes_view c.args.changes.now) (g.D.BlockDevice.blocks c.write_fresh_pair.new.dev) disk ready.apart only.others ready.made ready.logged ready.parts fresh.holds.content
     (subst (λ k. LossLeavesNew (disk_of_blocks k (g.D.BlockDevice.blocks c.write_fresh_pair.new.dev)) (header_address c.args.pair.now) (content_view c.split_off_back.new.content) disk) only.geometry left))
@@ -123,20 +78,18 @@ returns-in_err-compact-clause-stops g c cleanly =
 
 pub returns-clause-device : goal.returns-clause-device
 returns-clause-device g c =
-    let r = is_read c.in_ok-bytes.ensures.device c.in_ok-bytes.ensures.few in
     let fresh = c.in_ok-fresh_pair.ensures in
     record {
-      only = only_behind r (only_trans (only_wider _ (among_second (header_address c.args.pair.now) (address_view c.args.fresh)) fresh.writes.device)
-          (only_wider _ (among_first (header_address c.args.pair.now) (address_view c.args.fresh)) c.in_ok-compact.ensures.writes.device));
-      few = let few = r.few in let first = fresh.writes.few in let second = c.in_ok-compact.ensures.writes.few in omega (arith, few, first, second);
+      only = only_trans (only_wider _ (among_second (header_address c.args.pair.now) (address_view c.args.fresh)) fresh.writes.device)
+          (only_wider _ (among_first (header_address c.args.pair.now) (address_view c.args.fresh)) c.in_ok-compact.ensures.writes.device);
+      few = let first = fresh.writes.few in let second = c.in_ok-compact.ensures.writes.few in omega (arith, first, second);
     }
 
 pub returns-clause-stops : goal.returns-clause-stops
 returns-clause-stops g c cleanly =
-    let r = is_read c.in_ok-bytes.ensures.device c.in_ok-bytes.ensures.few in
-    let ready = is_splitting c.geometry-geometry.ensures (g.met.D.BlockDevice.shape c.args.dev.now).count c.requires.can (c.deref.ensures.value ∙ c.in_ok-bytes.ensures.bytes) c.in_ok-front.ensures.content c.in_ok-front.ensures.logged c.in_ok-back.ensures.parts in
+    let ready = is_splitting c.geometry-geometry.ensures (g.met.D.BlockDevice.shape c.args.dev.now).count c.requires.can c.requires.holds c.in_ok-front.ensures.content c.in_ok-front.ensures.logged c.in_ok-back.ensures.parts in
     let fresh = c.in_ok-fresh_pair.ensures in
-    let only = only_behind r fresh.writes.device in
+    let only = fresh.writes.device in
     goes_on_by (HoldsAtLosses-weaker (λ disk left. left_while_fresh _ _ _ (changes_view c.args.changes.now) disk ready.apart left) (HoldsAtLosses-worst only.at_worst))
     (HoldsAtLosses-weaker (λ disk left. left_while_old _ _ _ (changes_view c.args.changes.now) (g.D.BlockDevice.blocks c.write_fresh_pair.new.dev) disk ready.apart only.others ready.made ready.logged ready.parts fresh.holds.content
     (subst (λ k. LossLeavesNew (disk_of_blocks k (g.D.BlockDevice.blocks c.write_fresh_pair.new.dev)) (header_address c.args.pair.now) (content_view c.split_off_back.new.content) disk) only.geometry left))
@@ -144,15 +97,13 @@ returns-clause-stops g c cleanly =
 
 pub returns-clause-faults : goal.returns-clause-faults
 returns-clause-faults g c =
-    let r = is_read c.in_ok-bytes.ensures.device c.in_ok-bytes.ensures.few in
-    reports_ok (c.in_ok-compact.ensures.writes.faults.no_fault (λ gives. absurd (cc)) ∙ c.in_ok-fresh_pair.ensures.writes.faults.no_fault (λ gives. absurd (cc)) ∙ r.faultless)
+    reports_ok (c.in_ok-compact.ensures.writes.faults.no_fault (λ gives. absurd (cc)) ∙ c.in_ok-fresh_pair.ensures.writes.faults.no_fault (λ gives. absurd (cc)))
 
 pub returns-clause-splits : goal.returns-clause-splits
 returns-clause-splits g c =
-    let r = is_read c.in_ok-bytes.ensures.device c.in_ok-bytes.ensures.few in
-    let ready = is_splitting c.geometry-geometry.ensures (g.met.D.BlockDevice.shape c.args.dev.now).count c.requires.can (c.deref.ensures.value ∙ c.in_ok-bytes.ensures.bytes) c.in_ok-front.ensures.content c.in_ok-front.ensures.logged c.in_ok-back.ensures.parts in
+    let ready = is_splitting c.geometry-geometry.ensures (g.met.D.BlockDevice.shape c.args.dev.now).count c.requires.can c.requires.holds c.in_ok-front.ensures.content c.in_ok-front.ensures.logged c.in_ok-back.ensures.parts in
     let fresh = c.in_ok-fresh_pair.ensures in
-    let only = only_behind r fresh.writes.device in
+    let only = fresh.writes.device in
     record {
       new = ready.whole;
       made = ready.made;
@@ -176,5 +127,5 @@ returns-clause-splits g c =
         cleared = ap has_commit (c.in_ok-compact.ensures.writes.device.others.others (address_view c.args.fresh).1 (fresh_elsewhere ready.apart).second) ∙ fresh.fresh.cleared;
       };
       inside = cut_inside ready.parts.is_cut;
-      clears = clears_more (HoldsAtLosses-worst only.at_worst) (HoldsAtLosses-worst c.in_ok-compact.ensures.writes.device.at_worst) (clears_behind r.device.reads fresh.writes.device.at_worst fresh.clears) c.in_ok-compact.ensures.done.compacted.anew;
+      clears = clears_more (HoldsAtLosses-worst only.at_worst) (HoldsAtLosses-worst c.in_ok-compact.ensures.writes.device.at_worst) fresh.clears c.in_ok-compact.ensures.done.compacted.anew;
     }

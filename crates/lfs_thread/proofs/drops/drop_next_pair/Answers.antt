@@ -4,15 +4,14 @@ use Rattle.lfs_thread.proofs.CachedPair.{reading_there}
 use Rattle.lfs_thread.proofs.Changing.{can_commit, left_in_thread, full_kept, refused}
 use Rattle.lfs_thread.proofs.Dropped.{next_there, here_at, gone_is, next_used, device_dropped, device_is_dropped}
 use Rattle.lfs_thread.proofs.drops.drop_next_pair.Goals as goal
-use Rattle.lfs_thread.proofs.CachedLogs.{current_taken, given_current}
 use Rattle.lfs_thread.proofs.Reported.{errors_again, reports_of}
 
-pub commit-requires : goal.commit-requires
-commit-requires g c = record {
+pub commit_cached-requires : goal.commit_cached-requires
+commit_cached-requires g c = record {
   can =
       let n = next_there (disk_of_blocks (g.D.BlockDevice.geometry c.args.parts.now.device) (g.D.BlockDevice.blocks c.args.parts.now.device)) c.args.parts.now.pairs.items c.args.index c.index_mut-pair.result.now c.requires.can.below c.index_mut-pair.ensures.value in
       can_commit _ _ c.args.parts.now.pairs.items c.args.parts.now.map c.args.index _ _ (here_at _ _ _ n) c.requires.kept.0 c.requires.can.content c.requires.can.made;
-  block = given_current _ _ c.index_mut-pair.result.now.active c.take_cached_pair-held.ensures.bytes c.requires.kept.1;
+  current = c.requires.kept.1;
 }
 
 pub returns-in_err-outcome-clause-stops : goal.returns-in_err-outcome-clause-stops
@@ -36,13 +35,13 @@ returns-in-Full-clause-parts g c = record {
       let disk = disk_of_blocks (g.D.BlockDevice.geometry c.args.parts.now.device) (g.D.BlockDevice.blocks c.args.parts.now.device) in
       let n = next_there disk c.args.parts.now.pairs.items c.args.index c.index_mut-pair.result.now c.requires.can.below c.index_mut-pair.ensures.value in
       reading_there disk (g.D.BlockDevice.history c.args.parts.now.device) c.args.parts.now.pairs.items c.args.parts.now.map c.args.index c.index_mut-pair.result.now (here_at _ _ _ n) c.requires.kept.0
-      g.D.BlockDevice c.args.parts.now.device c.commit.new.dev address_blocks 1 c.args.parts.now.cache c.take_cached_pair-held.ensures.bytes c.in_ok-outcome.ensures.device;
+      g.D.BlockDevice c.args.parts.now.device c.commit_cached.new.dev address_blocks 1 c.args.parts.now.cache refl c.in_ok-outcome.ensures.device;
   kept =
       let n = next_there (disk_of_blocks (g.D.BlockDevice.geometry c.args.parts.now.device) (g.D.BlockDevice.blocks c.args.parts.now.device)) c.args.parts.now.pairs.items c.args.index c.index_mut-pair.result.now c.requires.can.below c.index_mut-pair.ensures.value in
       let e = c.in_ok-outcome.ensures in
       let full = ap Ok c.in-Full.is in
       full_kept _ _ _ _ c.args.parts.now.pairs.items _ c.args.index _ _ (here_at _ _ _ n) c.requires.kept.0 (ap₂ disk_of_blocks (e.ends.full full).device.geometry (e.ends.full full).device.same) (e.ends.full full).pair (e.ends.full full).device.reads;
-  current = current_taken _ c.index_mut-pair.result.now.active (header_address c.index_mut-pair.result.now) c.requires.kept.1 c.take_cached_pair-held.ensures.gone c.commit.ensures.device.only.others;
+  current = c.in_ok-outcome.ensures.ends.current;
   order = refl;
 }
 
@@ -75,14 +74,14 @@ returns-clause-parts g c = record {
       let disk = disk_of_blocks (g.D.BlockDevice.geometry c.args.parts.now.device) (g.D.BlockDevice.blocks c.args.parts.now.device) in
       let n = next_there disk c.args.parts.now.pairs.items c.args.index c.index_mut-pair.result.now c.requires.can.below c.index_mut-pair.ensures.value in
       reading_there disk (g.D.BlockDevice.history c.args.parts.now.device) c.args.parts.now.pairs.items c.args.parts.now.map c.args.index c.index_mut-pair.result.now (here_at _ _ _ n) c.requires.kept.0
-      g.D.BlockDevice c.args.parts.now.device c.commit.new.dev address_blocks 1 c.args.parts.now.cache c.take_cached_pair-held.ensures.bytes c.in_ok-outcome.ensures.device;
+      g.D.BlockDevice c.args.parts.now.device c.commit_cached.new.dev address_blocks 1 c.args.parts.now.cache refl c.in_ok-outcome.ensures.device;
   kept =
       let n = next_there (disk_of_blocks (g.D.BlockDevice.geometry c.args.parts.now.device) (g.D.BlockDevice.blocks c.args.parts.now.device)) c.args.parts.now.pairs.items c.args.index c.index_mut-pair.result.now c.requires.can.below c.index_mut-pair.ensures.value in
       let gone = gone_is _ _ _ _ _ n c.remove-gone.ensures.value in
       let e = c.in_ok-outcome.ensures in
       device_dropped _ _ _ _ _ _ _ _ _ _ _ _ e.device.only.geometry n c.requires.kept.0 c.requires.can (e.ends.done (ap Ok c.in_default.is)) e.device.only.others e.device.only.elsewhere _ c.remove-gone.ensures.items _
       (c.release-2.ensures ∙ ap (λ (s : BlockStates). set s (header_address c.remove-gone.result).1 Free) c.release.ensures ∙ ap (λ (h : PairHeader). map_freeing c.args.parts.now.map (header_address h)) gone);
-  current = current_taken _ c.index_mut-pair.result.now.active (header_address c.index_mut-pair.result.now) c.requires.kept.1 c.take_cached_pair-held.ensures.gone c.commit.ensures.device.only.others;
+  current = c.in_ok-outcome.ensures.ends.current;
   order = refl;
 }
 
@@ -103,16 +102,16 @@ returns-in_err-outcome-clause-parts g c = record {
       let disk = disk_of_blocks (g.D.BlockDevice.geometry c.args.parts.now.device) (g.D.BlockDevice.blocks c.args.parts.now.device) in
       let n = next_there disk c.args.parts.now.pairs.items c.args.index c.index_mut-pair.result.now c.requires.can.below c.index_mut-pair.ensures.value in
       reading_there disk (g.D.BlockDevice.history c.args.parts.now.device) c.args.parts.now.pairs.items c.args.parts.now.map c.args.index c.index_mut-pair.result.now (here_at _ _ _ n) c.requires.kept.0
-      g.D.BlockDevice c.args.parts.now.device c.commit.new.dev address_blocks 1 c.args.parts.now.cache c.take_cached_pair-held.ensures.bytes c.in_err-outcome.ensures.device;
+      g.D.BlockDevice c.args.parts.now.device c.commit_cached.new.dev address_blocks 1 c.args.parts.now.cache refl c.in_err-outcome.ensures.device;
   kept = search rules;
-  current = current_taken _ c.index_mut-pair.result.now.active (header_address c.index_mut-pair.result.now) c.requires.kept.1 c.take_cached_pair-held.ensures.gone c.commit.ensures.device.only.others;
+  current = search rules;
   order = refl;
 }
 
 pub returns-in_err-outcome-clause-errors : goal.returns-in_err-outcome-clause-errors
 returns-in_err-outcome-clause-errors g c =
     let p = err_from_is_err_and c.from_residual.result c.from_residual.ensures.1 in
-    errors_again c.in_err-outcome.field-0.0 _ c.from_residual.result c.in_err-outcome.was (p.1 ∙ ap Err p.2) (reports_of c.index_mut-pair.result.now c.commit.new.pair c.commit.ensures.error c.commit.ensures.faults)
+    errors_again c.in_err-outcome.field-0.0 _ c.from_residual.result c.in_err-outcome.was (p.1 ∙ ap Err p.2) (reports_of c.index_mut-pair.result.now c.commit_cached.new.pair c.commit_cached.ensures.error c.commit_cached.ensures.faults)
 
 pub returns-in-Full-clause-errors : goal.returns-in-Full-clause-errors
 returns-in-Full-clause-errors g c = record {

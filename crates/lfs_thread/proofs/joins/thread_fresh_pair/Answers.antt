@@ -1,6 +1,6 @@
 use Rattle.std.proofs.Common.{◌≤◌, ◌+◌, ◌∙◌, Err, Ok, List, ap, ap₂, arith, subst, sym, set, length, remove, refl, rules}
 use Rattle.lfs_thread.proofs.Common.{err_from_is_err_and, disk_of_blocks, SameExceptBlocks, BlockStates, IsInFlight, Used, address_view, fault_count-since, changes_view, header_address, ReportsWritingNothing, PairHeader, IsKeptOnDisk, disk_of_device, kept_view, kept_of_device, RefusesThreading, address_blocks, addresses_blocks}
-use Rattle.lfs_thread.proofs.CachedLogs.{current_but_two, current_taken, given_current}
+use Rattle.lfs_thread.proofs.CachedLogs.{current_but_two}
 use Rattle.lfs_thread.proofs.Changing.{at_there}
 use Rattle.lfs_thread.proofs.Coming.{second_held}
 use Rattle.lfs_thread.proofs.CachedPair.{cached_beside, reading_there}
@@ -23,7 +23,7 @@ returns-in_err-fresh_pair-clause-parts g c = record {
       let e = c.in_err-fresh_pair.ensures in
       record { only = changes_by_fresh g.D.BlockDevice _ (address_view c.args.fresh) e.device.only; few = let first = e.device.few in omega (arith, first) };
   kept = search rules;
-  current = current_but_two _ _ _ _ (address_view c.args.fresh) c.requires.kept.1 c.forget_cached_pair.ensures c.in_err-fresh_pair.ensures.device.only.others;
+  current = search rules;
   order = refl;
 }
 
@@ -33,13 +33,13 @@ returns-in_err-fresh_pair-clause-stops g c cleanly =
     let e = c.in_err-fresh_pair.ensures in
     device_left_beside _ _ _ _ _ _ c.args.parts.now.pairs.items c.args.parts.now.map c.args.index c.index.result.now (address_view c.args.fresh) _ e.device.only.geometry a c.requires.kept.0 c.requires.can e.device.only.others e.device.only.elsewhere e.device.only.at_worst
 
-pub commit-requires : goal.commit-requires
-commit-requires g c = record {
+pub commit_cached-requires : goal.commit_cached-requires
+commit_cached-requires g c = record {
   can =
       let a = at_there (disk_of_device g.D.BlockDevice c.args.parts.now.device) c.args.parts.now.pairs.items c.args.index c.index.result.now c.requires.can.below c.index.ensures in
       let e = c.in_ok-fresh_pair.ensures in
       device_can _ _ _ _ _ _ c.args.parts.now.pairs.items c.args.parts.now.map c.args.index c.index.result.now (address_view c.args.fresh) _ e.device.only.geometry a c.requires.kept.0 c.requires.can e.device.only.others e.device.only.elsewhere;
-  block = given_current _ _ c.index.result.now.active c.take_cached_pair-held.ensures.bytes (current_but_two _ _ _ _ (address_view c.args.fresh) c.requires.kept.1 c.forget_cached_pair.ensures c.in_ok-fresh_pair.ensures.device.only.others);
+  current = current_but_two _ _ _ _ (address_view c.args.fresh) c.requires.kept.1 c.forget_cached_pair.ensures c.in_ok-fresh_pair.ensures.device.only.others;
 }
 
 pub returns-in_err-outcome-clause-parts : goal.returns-in_err-outcome-clause-parts
@@ -52,20 +52,20 @@ returns-in_err-outcome-clause-parts g c = record {
       let commit = c.in_err-outcome.ensures.device in
       let same = cached_beside disk history c.args.parts.now.pairs.items c.args.parts.now.map c.args.index c.index.result.now a c.requires.kept.0 (address_view c.args.fresh) c.requires.can.held c.args.parts.now.cache c.forget_cached_pair.new.cache c.forget_cached_pair.ensures in
       reading_there disk history c.args.parts.now.pairs.items c.args.parts.now.map c.args.index c.index.result.now a c.requires.kept.0
-      g.D.BlockDevice c.args.parts.now.device c.commit.new.dev (λ at. addresses_blocks at (address_view c.args.fresh)) 3 c.args.parts.now.cache (c.take_cached_pair-held.ensures.bytes ∙ same)
+      g.D.BlockDevice c.args.parts.now.device c.commit_cached.new.dev (λ at. addresses_blocks at (address_view c.args.fresh)) 3 c.args.parts.now.cache same
       (record {
         only = changes_by_both g.D.BlockDevice (header_address c.index.result.now) (address_view c.args.fresh) fresh.only commit.only;
         few = let first = fresh.few in let second = commit.few in omega (arith, first, second);
       });
   kept = search rules;
-  current = current_taken _ c.index.result.now.active (header_address c.index.result.now) (current_but_two _ _ _ _ (address_view c.args.fresh) c.requires.kept.1 c.forget_cached_pair.ensures c.in_ok-fresh_pair.ensures.device.only.others) c.take_cached_pair-held.ensures.gone c.commit.ensures.device.only.others;
+  current = search rules;
   order = refl;
 }
 
 pub returns-in_err-outcome-clause-errors : goal.returns-in_err-outcome-clause-errors
 returns-in_err-outcome-clause-errors g c =
     let p = err_from_is_err_and c.from_residual-in_err-outcome.result c.from_residual-in_err-outcome.ensures.1 in
-    let t = subst (λ r. ReportsWritingNothing g.D.BlockDevice c.fresh.new.dev c.commit.new.dev r) (sym (p.1 ∙ ap Err p.2)) (reports_of c.index.result.now c.commit.new.pair {result = Err c.in_err-outcome.field-0.0} c.in_err-outcome.ensures.error c.in_err-outcome.ensures.faults) in
+    let t = subst (λ r. ReportsWritingNothing g.D.BlockDevice c.fresh.new.dev c.commit_cached.new.dev r) (sym (p.1 ∙ ap Err p.2)) (reports_of c.index.result.now c.commit_cached.new.pair {result = Err c.in_err-outcome.field-0.0} c.in_err-outcome.ensures.error c.in_err-outcome.ensures.faults) in
     let so_far = fault_count-since c.in_ok-fresh_pair.ensures.device.only.at_worst in
     record {
       errors = t.errors;
@@ -95,7 +95,7 @@ returns-in-Full-clause-parts g c = record {
       let commit = c.in_ok-outcome.ensures.device in
       let same = cached_beside disk history c.args.parts.now.pairs.items c.args.parts.now.map c.args.index c.index.result.now a c.requires.kept.0 (address_view c.args.fresh) c.requires.can.held c.args.parts.now.cache c.forget_cached_pair.new.cache c.forget_cached_pair.ensures in
       reading_there disk history c.args.parts.now.pairs.items c.args.parts.now.map c.args.index c.index.result.now a c.requires.kept.0
-      g.D.BlockDevice c.args.parts.now.device c.commit.new.dev (λ at. addresses_blocks at (address_view c.args.fresh)) 3 c.args.parts.now.cache (c.take_cached_pair-held.ensures.bytes ∙ same)
+      g.D.BlockDevice c.args.parts.now.device c.commit_cached.new.dev (λ at. addresses_blocks at (address_view c.args.fresh)) 3 c.args.parts.now.cache same
       (record {
         only = changes_by_both g.D.BlockDevice (header_address c.index.result.now) (address_view c.args.fresh) fresh.only commit.only;
         few = let first = fresh.few in let second = commit.few in omega (arith, first, second);
@@ -106,9 +106,9 @@ returns-in-Full-clause-parts g c = record {
       let e = c.in_ok-fresh_pair.ensures in
       let full = (c.in_ok-outcome.ensures.ends.full (ap Ok c.in-Full.is)).device in
       let items = c.remove.ensures.items ∙ ap (λ (z : List PairHeader). remove z (c.args.index + 1)) c.in_ok-insert.ensures.items ∙ unplaced _ _ _ _ a in
-      subst (λ (z : List PairHeader). IsKeptOnDisk (disk_of_device g.D.BlockDevice c.commit.new.dev) (g.D.BlockDevice.history c.commit.new.dev) z c.args.parts.now.map) (sym items)
+      subst (λ (z : List PairHeader). IsKeptOnDisk (disk_of_device g.D.BlockDevice c.commit_cached.new.dev) (g.D.BlockDevice.history c.commit_cached.new.dev) z c.args.parts.now.map) (sym items)
       (beside_read _ _ _ _ _ _ c.args.parts.now.pairs.items c.args.parts.now.map c.args.index c.index.result.now (address_view c.args.fresh) _ e.device.only.geometry a c.requires.kept.0 c.requires.can e.device.only.others e.device.only.elsewhere _ _ (ap₂ disk_of_blocks full.geometry full.same) full.reads);
-  current = current_taken _ c.index.result.now.active (header_address c.index.result.now) (current_but_two _ _ _ _ (address_view c.args.fresh) c.requires.kept.1 c.forget_cached_pair.ensures c.in_ok-fresh_pair.ensures.device.only.others) c.take_cached_pair-held.ensures.gone c.commit.ensures.device.only.others;
+  current = c.in_ok-outcome.ensures.ends.current;
   order = refl;
 }
 
@@ -121,8 +121,8 @@ returns-in-Full-clause-ends g c = record {
       let e = c.in_ok-fresh_pair.ensures in
       let full = (c.in_ok-outcome.ensures.ends.full (ap Ok c.in-Full.is)).device in
       let items = c.remove.ensures.items ∙ ap (λ (z : List PairHeader). remove z (c.args.index + 1)) c.in_ok-insert.ensures.items ∙ unplaced _ _ _ _ a in
-      subst (λ (z : List PairHeader). RefusesThreading (kept_of_device g.D.BlockDevice c.args.parts.now.device c.args.parts.now.pairs.items c.args.parts.now.map) c.args.index (address_view c.args.fresh) (changes_view c.args.changes.now) (kept_view (disk_of_device g.D.BlockDevice c.commit.new.dev) (g.D.BlockDevice.history c.commit.new.dev) z c.args.parts.now.map)) (sym items)
-      (is_beside _ _ _ _ _ _ c.args.parts.now.pairs.items c.args.parts.now.map c.args.index c.index.result.now (address_view c.args.fresh) _ e.device.only.geometry a c.requires.kept.0 c.requires.can e.device.only.others e.device.only.elsewhere _ (g.D.BlockDevice.history c.commit.new.dev) (ap₂ disk_of_blocks full.geometry full.same) (c.in_ok-outcome.ensures.ends.full (ap Ok c.in-Full.is)).completed);
+      subst (λ (z : List PairHeader). RefusesThreading (kept_of_device g.D.BlockDevice c.args.parts.now.device c.args.parts.now.pairs.items c.args.parts.now.map) c.args.index (address_view c.args.fresh) (changes_view c.args.changes.now) (kept_view (disk_of_device g.D.BlockDevice c.commit_cached.new.dev) (g.D.BlockDevice.history c.commit_cached.new.dev) z c.args.parts.now.map)) (sym items)
+      (is_beside _ _ _ _ _ _ c.args.parts.now.pairs.items c.args.parts.now.map c.args.index c.index.result.now (address_view c.args.fresh) _ e.device.only.geometry a c.requires.kept.0 c.requires.can e.device.only.others e.device.only.elsewhere _ (g.D.BlockDevice.history c.commit_cached.new.dev) (ap₂ disk_of_blocks full.geometry full.same) (c.in_ok-outcome.ensures.ends.full (ap Ok c.in-Full.is)).completed);
 }
 
 pub returns-in-Full-clause-stops : goal.returns-in-Full-clause-stops
@@ -148,7 +148,7 @@ returns-clause-parts g c = record {
       let commit = c.in_ok-outcome.ensures.device in
       let same = cached_beside disk history c.args.parts.now.pairs.items c.args.parts.now.map c.args.index c.index.result.now a c.requires.kept.0 (address_view c.args.fresh) c.requires.can.held c.args.parts.now.cache c.forget_cached_pair.new.cache c.forget_cached_pair.ensures in
       reading_there disk history c.args.parts.now.pairs.items c.args.parts.now.map c.args.index c.index.result.now a c.requires.kept.0
-      g.D.BlockDevice c.args.parts.now.device c.commit.new.dev (λ at. addresses_blocks at (address_view c.args.fresh)) 3 c.args.parts.now.cache (c.take_cached_pair-held.ensures.bytes ∙ same)
+      g.D.BlockDevice c.args.parts.now.device c.commit_cached.new.dev (λ at. addresses_blocks at (address_view c.args.fresh)) 3 c.args.parts.now.cache same
       (record {
         only = changes_by_both g.D.BlockDevice (header_address c.index.result.now) (address_view c.args.fresh) fresh.only commit.only;
         few = let first = fresh.few in let second = commit.few in omega (arith, first, second);
@@ -160,9 +160,9 @@ returns-clause-parts g c = record {
       let k = c.in_ok-outcome.ensures in
       device_joined _ _ _ _ _ _ c.args.parts.now.pairs.items c.args.parts.now.map c.args.index c.index.result.now (address_view c.args.fresh) _ e.device.only.geometry a c.requires.kept.0 c.requires.can e.device.only.others e.device.only.elsewhere _ _ e.fresh c.change_setting_tail-tail.ensures few
       _ _ _ _ k.device.only.geometry (k.ends.done (ap Ok c.in_default.is)) k.device.only.others k.device.only.elsewhere
-      _ (ap (λ (z : List PairHeader). set (set z c.args.index c.commit.new.pair) (c.args.index + 1) c.in_ok-fresh_pair.fresh_pair) c.in_ok-insert.ensures.items ∙ placed _ _ _ _ _ c.in_ok-fresh_pair.fresh_pair a)
+      _ (ap (λ (z : List PairHeader). set (set z c.args.index c.commit_cached.new.pair) (c.args.index + 1) c.in_ok-fresh_pair.fresh_pair) c.in_ok-insert.ensures.items ∙ placed _ _ _ _ _ c.in_ok-fresh_pair.fresh_pair a)
       _ (c.settle-2.ensures ∙ ap (λ (s : BlockStates). set s (address_view c.args.fresh).1 Used) c.settle.ensures);
-  current = current_taken _ c.index.result.now.active (header_address c.index.result.now) (current_but_two _ _ _ _ (address_view c.args.fresh) c.requires.kept.1 c.forget_cached_pair.ensures c.in_ok-fresh_pair.ensures.device.only.others) c.take_cached_pair-held.ensures.gone c.commit.ensures.device.only.others;
+  current = c.in_ok-outcome.ensures.ends.current;
   order = refl;
 }
 
@@ -175,7 +175,7 @@ returns-clause-ends g c = record {
       let k = c.in_ok-outcome.ensures in
       device_is_joined _ _ _ _ _ _ c.args.parts.now.pairs.items c.args.parts.now.map c.args.index c.index.result.now (address_view c.args.fresh) _ e.device.only.geometry a c.requires.kept.0 c.requires.can e.device.only.others e.device.only.elsewhere _ _ e.fresh c.change_setting_tail-tail.ensures few
       _ _ _ _ k.device.only.geometry (k.ends.done (ap Ok c.in_default.is)) k.device.only.others k.device.only.elsewhere
-      _ (ap (λ (z : List PairHeader). set (set z c.args.index c.commit.new.pair) (c.args.index + 1) c.in_ok-fresh_pair.fresh_pair) c.in_ok-insert.ensures.items ∙ placed _ _ _ _ _ c.in_ok-fresh_pair.fresh_pair a)
+      _ (ap (λ (z : List PairHeader). set (set z c.args.index c.commit_cached.new.pair) (c.args.index + 1) c.in_ok-fresh_pair.fresh_pair) c.in_ok-insert.ensures.items ∙ placed _ _ _ _ _ c.in_ok-fresh_pair.fresh_pair a)
       _ (c.settle-2.ensures ∙ ap (λ (s : BlockStates). set s (address_view c.args.fresh).1 Used) c.settle.ensures);
   full = λ gives. absurd (cc);
 }

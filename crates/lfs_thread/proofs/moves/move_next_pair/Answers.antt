@@ -1,6 +1,6 @@
 use Rattle.std.proofs.Common.{[], ◌≤◌, ◌<◌, ◌∙◌, Err, Ok, ap, arith, refl, subst, sym, set, length, rules}
 use Rattle.lfs_thread.proofs.Common.{length-set, err_from_is_err_and, SameExceptBlocks, address_view, address_blocks, addresses_blocks, BlockStates, Free, IsInFlight, Used, fault_count-since, CanCopyPair, header_address, PairHeader, disk_of_device, map_freeing, map_using}
-use Rattle.lfs_thread.proofs.CachedLogs.{current_but_two, current_taken, given_current}
+use Rattle.lfs_thread.proofs.CachedLogs.{current_but_two}
 use Rattle.lfs_thread.proofs.CachedPair.{cached_beside, reading_there}
 use Rattle.lfs_thread.proofs.Coming.{second_held}
 use Rattle.lfs_thread.proofs.Dropped.{here_at, next_there, next_used}
@@ -22,7 +22,7 @@ returns-in_err-moved-clause-parts g c = record {
       let e = c.in_err-moved.ensures in
       record { only = changes_by_fresh g.D.BlockDevice _ (address_view c.args.fresh) e.device.only; few = let first = e.device.few in omega (arith, first) };
   kept = search rules;
-  current = current_but_two _ _ _ _ (address_view c.args.fresh) c.requires.kept.1 c.forget_cached_pair.ensures c.in_err-moved.ensures.device.only.others;
+  current = search rules;
   order = refl;
 }
 
@@ -34,15 +34,15 @@ returns-in_err-moved-clause-stops g c cleanly =
     let e = c.in_err-moved.ensures in
     device_left_by_copy _ _ _ _ _ _ c.args.parts.now.pairs.items c.args.parts.now.map c.args.index c.index.result.now (address_view c.args.fresh) few e.device.only.geometry n c.requires.kept.0 c.requires.can e.device.only.others e.device.only.elsewhere e.device.only.at_worst
 
-pub commit-requires : goal.commit-requires
-commit-requires g c = record {
+pub commit_cached-requires : goal.commit_cached-requires
+commit_cached-requires g c = record {
   can =
       let disk = disk_of_device g.D.BlockDevice c.args.parts.now.device in
       let n = next_there disk c.args.parts.now.pairs.items c.args.index c.index.result.now c.requires.can.below c.index.ensures in
       let few : length (g.D.BlockDevice.blocks c.args.parts.now.device) ≤ 65536 = let s = (g.met.D.BlockDevice.shape c.args.parts.now.device).count in let m = (g.D.BlockDevice.geometry c.args.parts.now.device).valid.no_more in omega arith in
       let e = c.in_ok-moved.ensures in
       device_lead_can _ _ _ _ _ _ c.args.parts.now.pairs.items c.args.parts.now.map c.args.index c.index.result.now (address_view c.args.fresh) few e.device.only.geometry n c.requires.kept.0 c.requires.can e.device.only.others e.device.only.elsewhere;
-  block = given_current _ _ c.index.result.now.active c.take_cached_pair-held.ensures.bytes (current_but_two _ _ _ _ (address_view c.args.fresh) c.requires.kept.1 c.forget_cached_pair.ensures c.in_ok-moved.ensures.device.only.others);
+  current = current_but_two _ _ _ _ (address_view c.args.fresh) c.requires.kept.1 c.forget_cached_pair.ensures c.in_ok-moved.ensures.device.only.others;
 }
 
 pub returns-in_err-outcome-clause-parts : goal.returns-in_err-outcome-clause-parts
@@ -56,20 +56,20 @@ returns-in_err-outcome-clause-parts g c = record {
       let commit = c.in_err-outcome.ensures.device in
       let same = cached_beside disk history c.args.parts.now.pairs.items c.args.parts.now.map c.args.index c.index.result.now a c.requires.kept.0 (address_view c.args.fresh) c.requires.can.held c.args.parts.now.cache c.forget_cached_pair.new.cache c.forget_cached_pair.ensures in
       reading_there disk history c.args.parts.now.pairs.items c.args.parts.now.map c.args.index c.index.result.now a c.requires.kept.0
-      g.D.BlockDevice c.args.parts.now.device c.commit.new.dev (λ at. addresses_blocks at (address_view c.args.fresh)) 4 c.args.parts.now.cache (c.take_cached_pair-held.ensures.bytes ∙ same)
+      g.D.BlockDevice c.args.parts.now.device c.commit_cached.new.dev (λ at. addresses_blocks at (address_view c.args.fresh)) 4 c.args.parts.now.cache same
       (record {
         only = changes_by_both g.D.BlockDevice (header_address c.index.result.now) (address_view c.args.fresh) copy.only commit.only;
         few = let first = copy.few in let second = commit.few in omega (arith, first, second);
       });
   kept = search rules;
-  current = current_taken _ c.index.result.now.active (header_address c.index.result.now) (current_but_two _ _ _ _ (address_view c.args.fresh) c.requires.kept.1 c.forget_cached_pair.ensures c.in_ok-moved.ensures.device.only.others) c.take_cached_pair-held.ensures.gone c.commit.ensures.device.only.others;
+  current = search rules;
   order = refl;
 }
 
 pub returns-in_err-outcome-clause-errors : goal.returns-in_err-outcome-clause-errors
 returns-in_err-outcome-clause-errors g c =
     let p = err_from_is_err_and c.from_residual-in_err-outcome.result c.from_residual-in_err-outcome.ensures.1 in
-    let t = errors_again c.in_err-outcome.field-0.0 _ c.from_residual-in_err-outcome.result c.in_err-outcome.was (p.1 ∙ ap Err p.2) (reports_of c.index.result.now c.commit.new.pair c.commit.ensures.error c.commit.ensures.faults) in
+    let t = errors_again c.in_err-outcome.field-0.0 _ c.from_residual-in_err-outcome.result c.in_err-outcome.was (p.1 ∙ ap Err p.2) (reports_of c.index.result.now c.commit_cached.new.pair c.commit_cached.ensures.error c.commit_cached.ensures.faults) in
     let so_far = fault_count-since c.in_ok-moved.ensures.device.only.at_worst in
     record {
       errors = t.errors;
@@ -133,7 +133,7 @@ returns-clause-parts g c = record {
       let commit = c.in_ok-outcome.ensures.device in
       let same = cached_beside disk history c.args.parts.now.pairs.items c.args.parts.now.map c.args.index c.index.result.now a c.requires.kept.0 (address_view c.args.fresh) c.requires.can.held c.args.parts.now.cache c.forget_cached_pair.new.cache c.forget_cached_pair.ensures in
       reading_there disk history c.args.parts.now.pairs.items c.args.parts.now.map c.args.index c.index.result.now a c.requires.kept.0
-      g.D.BlockDevice c.args.parts.now.device c.commit.new.dev (λ at. addresses_blocks at (address_view c.args.fresh)) 4 c.args.parts.now.cache (c.take_cached_pair-held.ensures.bytes ∙ same)
+      g.D.BlockDevice c.args.parts.now.device c.commit_cached.new.dev (λ at. addresses_blocks at (address_view c.args.fresh)) 4 c.args.parts.now.cache same
       (record {
         only = changes_by_both g.D.BlockDevice (header_address c.index.result.now) (address_view c.args.fresh) copy.only commit.only;
         few = let first = copy.few in let second = commit.few in omega (arith, first, second);
@@ -150,7 +150,7 @@ returns-clause-parts g c = record {
       (c.release-2.ensures ∙ ap (λ (s : BlockStates). set s (header_address c.index-2.result.now).1 Free) c.release.ensures
       ∙ ap (λ (s : BlockStates). map_freeing s (header_address c.index-2.result.now)) (c.settle-2.ensures ∙ ap (λ (s : BlockStates). set s (address_view c.args.fresh).1 Used) c.settle.ensures)
       ∙ ap (λ (x : PairHeader). map_freeing (map_using c.args.parts.now.map (address_view c.args.fresh)) (header_address x)) is);
-  current = current_taken _ c.index.result.now.active (header_address c.index.result.now) (current_but_two _ _ _ _ (address_view c.args.fresh) c.requires.kept.1 c.forget_cached_pair.ensures c.in_ok-moved.ensures.device.only.others) c.take_cached_pair-held.ensures.gone c.commit.ensures.device.only.others;
+  current = c.in_ok-outcome.ensures.ends.current;
   order = refl;
 }
 

@@ -1,19 +1,23 @@
 use Rattle.std.proofs.Common.{◌+◌, ◌∙◌, Err, List, ap, refl, subst, sym, set, rules}
-use Rattle.lfs_thread.proofs.Common.{err_from_is_err_and, BlockStates, IsInFlight, Used, address_view, HoldsAtLosses-weaker, PairHeader, disk_of_device, addresses_blocks, header_address}
+use Rattle.lfs_thread.proofs.Common.{err_from_is_err_and, BlockStates, IsInFlight, Used, address_view, HoldsAtLosses-weaker, PairHeader, disk_of_device, addresses_blocks}
 use Rattle.lfs_thread.proofs.Changing.{at_there}
 use Rattle.lfs_thread.proofs.Coming.{second_held}
-use Rattle.lfs_thread.proofs.CachedPair.{reading_there}
+use Rattle.lfs_thread.proofs.CachedPair.{cached_beside, reading_there}
 use Rattle.lfs_thread.proofs.Parting.{can_split, device_split, device_is_split, left_by_split, placed}
 use Rattle.lfs_thread.proofs.Reported.{errors_again, reports_of}
 use Rattle.lfs_thread.proofs.splits.split_pair.Goals as goal
-use Rattle.lfs_thread.proofs.CachedLogs.{current_but_four, current_without, given_current}
+use Rattle.lfs_thread.proofs.CachedLogs.{current_without, first_gone}
+use Rattle.lfs_model.proofs.Cache.{cached_bytes-without_same}
+use Rattle.lfs_model.specs.layers.Cache.{cache_without}
 
-pub split-requires : goal.split-requires
-split-requires g c = record {
+pub split_cached-requires : goal.split_cached-requires
+split_cached-requires g c = record {
   can =
       let a = at_there (disk_of_device g.D.BlockDevice c.args.parts.now.device) c.args.parts.now.pairs.items c.args.index c.index.result.now c.requires.can.can.below c.index.ensures in
       can_split _ _ _ c.args.parts.now.map c.args.index _ (address_view c.args.fresh) _ a c.requires.kept.0 c.requires.can;
-  block = given_current _ _ c.index.result.now.active c.take_cached_pair-held.ensures.bytes c.requires.kept.1;
+  current = rw c.forget_cached_pair.ensures (current_without _ _ _ (current_without _ _ _ c.requires.kept.1));
+  first = rw c.forget_cached_pair.ensures (first_gone c.args.parts.now.cache _ _);
+  second = rw c.forget_cached_pair.ensures (cached_bytes-without_same (cache_without c.args.parts.now.cache (address_view c.args.fresh).0) (address_view c.args.fresh).1);
 }
 
 pub returns-in_err-fresh_pair-clause-stops : goal.returns-in_err-fresh_pair-clause-stops
@@ -30,16 +34,15 @@ returns-clause-parts g c = record {
   device =
       let disk = disk_of_device g.D.BlockDevice c.args.parts.now.device in
       let a = at_there disk c.args.parts.now.pairs.items c.args.index c.index.result.now c.requires.can.can.below c.index.ensures in
+      let same = cached_beside disk (g.D.BlockDevice.history c.args.parts.now.device) c.args.parts.now.pairs.items c.args.parts.now.map c.args.index c.index.result.now a c.requires.kept.0 (address_view c.args.fresh) c.requires.can.held c.args.parts.now.cache c.forget_cached_pair.new.cache c.forget_cached_pair.ensures in
       reading_there disk (g.D.BlockDevice.history c.args.parts.now.device) c.args.parts.now.pairs.items c.args.parts.now.map c.args.index c.index.result.now a c.requires.kept.0
-      g.D.BlockDevice c.args.parts.now.device c.split.new.dev (λ at. addresses_blocks at (address_view c.args.fresh)) 3 c.args.parts.now.cache c.take_cached_pair-held.ensures.bytes c.in_ok-fresh_pair.ensures.device;
+      g.D.BlockDevice c.args.parts.now.device c.split_cached.new.dev (λ at. addresses_blocks at (address_view c.args.fresh)) 3 c.args.parts.now.cache same c.in_ok-fresh_pair.ensures.device;
   kept =
       let a = at_there (disk_of_device g.D.BlockDevice c.args.parts.now.device) c.args.parts.now.pairs.items c.args.index c.index.result.now c.requires.can.can.below c.index.ensures in
       let e = c.in_ok-fresh_pair.ensures in
-      device_split _ _ _ _ _ _ _ _ _ _ _ _ (address_view c.args.fresh) _ e.device.only.geometry a c.requires.kept.0 c.requires.can e.splits e.device.only.others e.device.only.elsewhere _
-      (ap (λ (z : List PairHeader). set (set z c.args.index c.split.new.pair) (c.args.index + 1) c.in_ok-fresh_pair.fresh_pair) c.in_ok-insert.ensures.items ∙ placed _ _ _ _ _ c.in_ok-fresh_pair.fresh_pair a) _ (c.settle-2.ensures ∙ ap (λ (s : BlockStates). set s (address_view c.args.fresh).1 Used) c.settle.ensures);
-  current =
-      current_but_four _ _ _ _ _ (header_address c.index.result.now) (address_view c.args.fresh) (current_without _ _ c.index.result.now.active c.requires.kept.1)
-      c.take_cached_pair-held.ensures.gone c.forget_cached_pair.ensures c.split.ensures.device.only.others;
+      device_split _ _ _ _ _ _ _ _ _ _ _ _ (address_view c.args.fresh) _ e.device.only.geometry a c.requires.kept.0 c.requires.can e.splits.splits e.device.only.others e.device.only.elsewhere _
+      (ap (λ (z : List PairHeader). set (set z c.args.index c.split_cached.new.pair) (c.args.index + 1) c.in_ok-fresh_pair.fresh_pair) c.in_ok-insert.ensures.items ∙ placed _ _ _ _ _ c.in_ok-fresh_pair.fresh_pair a) _ (c.settle-2.ensures ∙ ap (λ (s : BlockStates). set s (address_view c.args.fresh).1 Used) c.settle.ensures);
+  current = c.in_ok-fresh_pair.ensures.splits.current;
   order = refl;
 }
 
@@ -47,8 +50,8 @@ pub returns-clause-is_split : goal.returns-clause-is_split
 returns-clause-is_split g c =
     let a = at_there (disk_of_device g.D.BlockDevice c.args.parts.now.device) c.args.parts.now.pairs.items c.args.index c.index.result.now c.requires.can.can.below c.index.ensures in
     let e = c.in_ok-fresh_pair.ensures in
-    device_is_split _ _ _ _ _ _ _ _ _ _ _ _ (address_view c.args.fresh) _ e.device.only.geometry a c.requires.kept.0 c.requires.can e.splits e.device.only.others e.device.only.elsewhere _
-    (ap (λ (z : List PairHeader). set (set z c.args.index c.split.new.pair) (c.args.index + 1) c.in_ok-fresh_pair.fresh_pair) c.in_ok-insert.ensures.items ∙ placed _ _ _ _ _ c.in_ok-fresh_pair.fresh_pair a) _ (c.settle-2.ensures ∙ ap (λ (s : BlockStates). set s (address_view c.args.fresh).1 Used) c.settle.ensures)
+    device_is_split _ _ _ _ _ _ _ _ _ _ _ _ (address_view c.args.fresh) _ e.device.only.geometry a c.requires.kept.0 c.requires.can e.splits.splits e.device.only.others e.device.only.elsewhere _
+    (ap (λ (z : List PairHeader). set (set z c.args.index c.split_cached.new.pair) (c.args.index + 1) c.in_ok-fresh_pair.fresh_pair) c.in_ok-insert.ensures.items ∙ placed _ _ _ _ _ c.in_ok-fresh_pair.fresh_pair a) _ (c.settle-2.ensures ∙ ap (λ (s : BlockStates). set s (address_view c.args.fresh).1 Used) c.settle.ensures)
 
 pub returns-clause-stops : goal.returns-clause-stops
 returns-clause-stops g c cleanly =
@@ -58,7 +61,7 @@ returns-clause-stops g c cleanly =
 pub returns-in_err-fresh_pair-clause-errors : goal.returns-in_err-fresh_pair-clause-errors
 returns-in_err-fresh_pair-clause-errors g c =
     let p = err_from_is_err_and c.from_residual-in_err-fresh_pair.result c.from_residual-in_err-fresh_pair.ensures.1 in
-    errors_again c.in_err-fresh_pair.field-0.0 (Err c.in_err-fresh_pair.field-0.0) c.from_residual-in_err-fresh_pair.result refl (p.1 ∙ ap Err p.2) (reports_of c.index.result.now c.split.new.pair {result = Err c.in_err-fresh_pair.field-0.0} c.in_err-fresh_pair.ensures.error c.in_err-fresh_pair.ensures.faults)
+    errors_again c.in_err-fresh_pair.field-0.0 (Err c.in_err-fresh_pair.field-0.0) c.from_residual-in_err-fresh_pair.result refl (p.1 ∙ ap Err p.2) (reports_of c.index.result.now c.split_cached.new.pair {result = Err c.in_err-fresh_pair.field-0.0} c.in_err-fresh_pair.ensures.error c.in_err-fresh_pair.ensures.faults)
 
 pub returns-clause-errors : goal.returns-clause-errors
 returns-clause-errors g c = record {
@@ -72,11 +75,10 @@ returns-in_err-fresh_pair-clause-parts g c = record {
   device =
       let disk = disk_of_device g.D.BlockDevice c.args.parts.now.device in
       let a = at_there disk c.args.parts.now.pairs.items c.args.index c.index.result.now c.requires.can.can.below c.index.ensures in
+      let same = cached_beside disk (g.D.BlockDevice.history c.args.parts.now.device) c.args.parts.now.pairs.items c.args.parts.now.map c.args.index c.index.result.now a c.requires.kept.0 (address_view c.args.fresh) c.requires.can.held c.args.parts.now.cache c.forget_cached_pair.new.cache c.forget_cached_pair.ensures in
       reading_there disk (g.D.BlockDevice.history c.args.parts.now.device) c.args.parts.now.pairs.items c.args.parts.now.map c.args.index c.index.result.now a c.requires.kept.0
-      g.D.BlockDevice c.args.parts.now.device c.split.new.dev (λ at. addresses_blocks at (address_view c.args.fresh)) 3 c.args.parts.now.cache c.take_cached_pair-held.ensures.bytes c.in_err-fresh_pair.ensures.device;
+      g.D.BlockDevice c.args.parts.now.device c.split_cached.new.dev (λ at. addresses_blocks at (address_view c.args.fresh)) 3 c.args.parts.now.cache same c.in_err-fresh_pair.ensures.device;
   kept = search rules;
-  current =
-      current_but_four _ _ _ _ _ (header_address c.index.result.now) (address_view c.args.fresh) (current_without _ _ c.index.result.now.active c.requires.kept.1)
-      c.take_cached_pair-held.ensures.gone c.forget_cached_pair.ensures c.split.ensures.device.only.others;
+  current = search rules;
   order = refl;
 }

@@ -1,7 +1,7 @@
-use Rattle.std.proofs.Common.{subst₂, ◌+◌, subst, sym}
+use Rattle.std.proofs.Common.{subst₂, ◌+◌, ◌∙◌, subst, sym}
 use Rattle.lfs_model.specs.declared.order.NameOrder.{NameOrder}
 use Rattle.lfs_thread.proofs.Common.{changes_view, CleanLossLeaves, ThreadView, kept_in_order, kept_of_device, cached_log, reads_unless_cached, ThreadReportsErrors, LossLeavesPair, ChangesWithinReads, thread_pair, CanDropNext, IsNextDropped, RefusesChanges, address_blocks}
-use Rattle.lfs_thread.proofs.InOrder.{can_drop, dropped_in, left_changed_in, refused_in, stops_in}
+use Rattle.lfs_thread.proofs.InOrder.{at_ok, can_drop, dropped_in, left_changed_in, refused_in, stops_in}
 use Rattle.lfs_thread.proofs.Reported.{reported_from, reading_from}
 use Rattle.lfs_thread.proofs.thread.Thread.drop_next.Goals as goal
 
@@ -9,6 +9,11 @@ pub drop_next_pair-outcome-requires-clause-can : goal.drop_next_pair-outcome-req
 drop_next_pair-outcome-requires-clause-can g c =
     can_drop c.self.inside.parts.order (kept_of_device g.D.BlockDevice c.self.inside.parts.device c.self.inside.parts.pairs.items c.self.inside.parts.map) c.args.index (changes_view c.args.changes.now)
     (subst (λ (v : ThreadView). CanDropNext v.kept c.args.index (changes_view c.args.changes.now)) (sym c.self.view_is) c.requires.can)
+
+pub invariant_of-self : goal.invariant_of-self
+invariant_of-self g c ok =
+    let e = c.drop_next_pair-outcome.ensures in
+    (at_ok c.drop_next_pair-outcome.result e.parts.kept (sym c.is_err-self-inside.ensures.value ∙ ok), at_ok c.drop_next_pair-outcome.result e.parts.current (sym c.is_err-self-inside.ensures.value ∙ ok))
 
 pub returns-clause-done : goal.returns-clause-done
 returns-clause-done g c done =

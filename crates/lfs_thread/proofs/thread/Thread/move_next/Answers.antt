@@ -14,7 +14,7 @@ move_next_pair-result-requires-clause-can g c =
 pub invariant_of-self : goal.invariant_of-self
 invariant_of-self g c ok =
     let e = c.move_next_pair-result.ensures in
-    (at_ok c.move_next_pair-result.result e.parts.kept (sym c.is_err-self-inside.ensures.value ∙ ok), e.parts.current)
+    (at_ok c.move_next_pair-result.result e.parts.kept (sym c.is_err-self-inside.ensures.value ∙ ok), at_ok c.move_next_pair-result.result e.parts.current (sym c.is_err-self-inside.ensures.value ∙ ok))
 
 pub returns-clause-done : goal.returns-clause-done
 returns-clause-done g c =

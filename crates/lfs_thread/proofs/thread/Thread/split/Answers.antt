@@ -1,8 +1,8 @@
-use Rattle.std.proofs.Common.{subst₂, ◌+◌, subst, sym}
+use Rattle.std.proofs.Common.{subst₂, ◌+◌, ◌∙◌, subst, sym}
 use Rattle.lfs_model.specs.declared.order.NameOrder.{NameOrder}
 use Rattle.lfs_thread.proofs.Common.{address_view, ThreadView, kept_in_order, kept_of_device, cached_log, reads_unless_cached, ThreadReportsErrors, ChangesWithinReads, thread_pair, CanSplitAt, HasSplit, LossLeavesThreadSplit, changes_view, CleanLossLeaves, addresses_blocks}
 use Rattle.std.specs.Prelude.{OnOk}
-use Rattle.lfs_thread.proofs.InOrder.{can_split, left_split_in, on_ok, split_in, stops_in}
+use Rattle.lfs_thread.proofs.InOrder.{at_ok, can_split, left_split_in, on_ok, split_in, stops_in}
 use Rattle.lfs_thread.proofs.Reported.{reported_from, reading_from}
 use Rattle.lfs_thread.proofs.thread.Thread.split.Goals as goal
 
@@ -10,6 +10,11 @@ pub split_pair-result-requires-clause-can : goal.split_pair-result-requires-clau
 split_pair-result-requires-clause-can g c =
     can_split c.self.inside.parts.order (kept_of_device g.D.BlockDevice c.self.inside.parts.device c.self.inside.parts.pairs.items c.self.inside.parts.map) c.args.index (address_view c.args.fresh) (changes_view c.args.changes.now)
     (subst (λ (v : ThreadView). CanSplitAt v.kept c.args.index (address_view c.args.fresh) (changes_view c.args.changes.now)) (sym c.self.view_is) c.requires.can)
+
+pub invariant_of-self : goal.invariant_of-self
+invariant_of-self g c ok =
+    let e = c.split_pair-result.ensures in
+    (at_ok c.split_pair-result.result e.parts.kept (sym c.is_err-self-inside.ensures.value ∙ ok), at_ok c.split_pair-result.result e.parts.current (sym c.is_err-self-inside.ensures.value ∙ ok))
 
 pub returns-clause-done : goal.returns-clause-done
 returns-clause-done g c =

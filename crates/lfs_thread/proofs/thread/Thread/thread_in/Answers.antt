@@ -1,7 +1,7 @@
-use Rattle.std.proofs.Common.{subst₂, ◌+◌, subst, sym}
+use Rattle.std.proofs.Common.{subst₂, ◌+◌, ◌∙◌, subst, sym}
 use Rattle.lfs_model.specs.declared.order.NameOrder.{NameOrder}
 use Rattle.lfs_thread.proofs.Common.{address_view, ThreadView, kept_in_order, kept_of_device, cached_log, reads_unless_cached, ThreadReportsKeepingOthers, ChangesWithinReads, thread_pair, CanThreadIn, IsThreadedIn, RefusesThreading, LossLeavesThreaded, changes_view, CleanLossLeaves, address_blocks, addresses_blocks}
-use Rattle.lfs_thread.proofs.InOrder.{can_thread_in, left_threaded_in, stops_in, threaded_in, threading_refused_in}
+use Rattle.lfs_thread.proofs.InOrder.{at_ok, can_thread_in, left_threaded_in, stops_in, threaded_in, threading_refused_in}
 use Rattle.lfs_thread.proofs.Reported.{reported_beside_from, reading_from}
 use Rattle.lfs_thread.proofs.thread.Thread.thread_in.Goals as goal
 
@@ -9,6 +9,11 @@ pub thread_fresh_pair-outcome-requires-clause-can : goal.thread_fresh_pair-outco
 thread_fresh_pair-outcome-requires-clause-can g c =
     can_thread_in c.self.inside.parts.order (kept_of_device g.D.BlockDevice c.self.inside.parts.device c.self.inside.parts.pairs.items c.self.inside.parts.map) c.args.index (address_view c.args.fresh) (changes_view c.args.changes.now)
     (subst (λ (v : ThreadView). CanThreadIn v.kept c.args.index (address_view c.args.fresh) (changes_view c.args.changes.now)) (sym c.self.view_is) c.requires.can)
+
+pub invariant_of-self : goal.invariant_of-self
+invariant_of-self g c ok =
+    let e = c.thread_fresh_pair-outcome.ensures in
+    (at_ok c.thread_fresh_pair-outcome.result e.parts.kept (sym c.is_err-self-inside.ensures.value ∙ ok), at_ok c.thread_fresh_pair-outcome.result e.parts.current (sym c.is_err-self-inside.ensures.value ∙ ok))
 
 pub returns-clause-done : goal.returns-clause-done
 returns-clause-done g c done =

@@ -1,8 +1,8 @@
-use Rattle.std.proofs.Common.{subst₂, ◌+◌, subst, sym}
+use Rattle.std.proofs.Common.{subst₂, ◌+◌, ◌∙◌, subst, sym}
 use Rattle.std.specs.Prelude.{OnOk}
 use Rattle.lfs_model.specs.declared.order.NameOrder.{NameOrder}
 use Rattle.lfs_thread.proofs.Common.{address_view, address_blocks, addresses_blocks, cached_log, reads_unless_cached, ThreadView, kept_in_order, kept_of_device, CanUnload, IsUnloaded, LossLeavesUnloaded, CleanLossLeaves, ThreadReportsKeepingOthers, ChangesWithinReads, thread_pair}
-use Rattle.lfs_thread.proofs.InOrder.{can_unload, left_unloaded_in, on_ok, stops_in, unloaded_in}
+use Rattle.lfs_thread.proofs.InOrder.{at_ok, can_unload, left_unloaded_in, on_ok, stops_in, unloaded_in}
 use Rattle.lfs_thread.proofs.Reported.{reported_beside_from, reading_from}
 use Rattle.lfs_thread.proofs.thread.Thread.unload.Goals as goal
 
@@ -10,6 +10,11 @@ pub unload_pair-result-requires-clause-can : goal.unload_pair-result-requires-cl
 unload_pair-result-requires-clause-can g c =
     can_unload c.self.inside.parts.order (kept_of_device g.D.BlockDevice c.self.inside.parts.device c.self.inside.parts.pairs.items c.self.inside.parts.map) c.args.index (address_view c.args.fresh)
     c.args.keep (subst (λ (v : ThreadView). CanUnload v.kept c.args.index (address_view c.args.fresh) c.args.keep) (sym c.self.view_is) c.requires.can)
+
+pub invariant_of-self : goal.invariant_of-self
+invariant_of-self g c ok =
+    let e = c.unload_pair-result.ensures in
+    (at_ok c.unload_pair-result.result e.parts.kept (sym c.is_err-self-inside.ensures.value ∙ ok), at_ok c.unload_pair-result.result e.parts.current (sym c.is_err-self-inside.ensures.value ∙ ok))
 
 pub returns-clause-done : goal.returns-clause-done
 returns-clause-done g c =

@@ -1,7 +1,7 @@
 -- The turns of a sync and of a close.
-use Rattle.std.proofs.Common.{arith, ◌≡◌, ◌<◌, ◌≤◌, ◌||◌, map, true, false, cond, not, set, List, [], ◌∷◌, ◌++◌, length, Option, Some, None, is_some, nat_lt, Result, Ok, Err, ℕ, suc, zero, refl, sym, ap, ap₂, subst, ◌∙◌}
-use Rattle.lfs_fs.proofs.Common.{AllByRecursion, list_any, option_flatten, option_map, map-set, tree_with_change, same_path, CallEvent, Operation, IsStep, opens_there, writes_or_truncates, is_dirty, needs_no_device, is_read_only, renames_itself, OpenFilesByNumber, Session, DiskSummary, Reading, Writing, file_numbered, files_with_file, file_reader, synced_writer, Healthy, is_remount, tree_after_storing, operation_effect, node_with_bytes, Path, spread_step, AreBytesStored, error_refusal, TreeState, IsFailedTree, HasErrorCause, IsSoundState, tree_summary, shown_tree, CanSaveWriter, IsSavedWriter, RuntimeFiles, unsaved_or_tree, open_file_at, file_view, files_view, is_unsaved_writer, readers_among, writer_view, writers_among, StepsOrFails, AreCurrentReaders, HasKnownBlocks, IsCurrentReader, SessionView, IsReady, IsWriterReady, session_view, view_with_files, system_state, refusal_by_checks, viewed_session, reply_from, KeepsWriters}
-use Rattle.std.proofs.lemmas.List.{length-map, length-set, set-set}
+use Rattle.std.proofs.Common.{arith, ◌≡◌, ◌≤◌, ◌||◌, map, true, false, cond, not, set, List, [], ◌∷◌, length, Option, Some, None, is_some, Result, Ok, Err, ℕ, suc, zero, refl, sym, ap, ap₂, subst, ◌∙◌}
+use Rattle.lfs_fs.proofs.Common.{AllByRecursion, list_any, option_flatten, option_map, tree_with_change, same_path, CallEvent, Operation, IsStep, opens_there, writes_or_truncates, is_dirty, needs_no_device, is_read_only, renames_itself, OpenFilesByNumber, Session, DiskSummary, Writing, file_numbered, files_with_file, file_reader, synced_writer, Healthy, is_remount, tree_after_storing, operation_effect, node_with_bytes, Path, spread_step, AreBytesStored, error_refusal, TreeState, IsFailedTree, HasErrorCause, IsSoundState, tree_summary, shown_tree, CanSaveWriter, IsSavedWriter, RuntimeFiles, unsaved_or_tree, open_file_at, file_view, files_view, is_unsaved_writer, readers_among, writer_view, writers_among, StepsOrFails, AreCurrentReaders, HasKnownBlocks, IsCurrentReader, SessionView, IsReady, IsWriterReady, session_view, view_with_files, system_state, refusal_by_checks, viewed_session, reply_from, KeepsWriters}
+use Rattle.std.proofs.lemmas.List.{set-set}
 use Rattle.lfs_device.specs.declared.error.Error.{Error}
 use Rattle.lfs_model.specs.session.Moved.{IsLayoutMoved}
 use Rattle.lfs_model.specs.session.Operations as ops
@@ -14,11 +14,12 @@ use Rattle.lfs_fs.specs.declared.files.OpenFile.TheVariants as file
 use Rattle.lfs_fs.specs.declared.files.Writer.{Writer}
 use Rattle.lfs_fs.proofs.Answered.{error_answers, is_over, kept_answer, kept_files, not_failed, not_refused, nothing_asked, sound_by}
 use Rattle.lfs_fs.proofs.Failing.{broken_fails, healthy_system}
-use Rattle.lfs_fs.proofs.OpenFiles.{IsOnly, file_is, inside, inside_is, is_saved, only, saved_is, set_is}
+use Rattle.lfs_fs.proofs.OpenFiles.{IsOnly, file_is, inside_is, is_saved, only, saved_is, set_is}
 use Rattle.lfs_fs.proofs.Remounting.{no_tree_change, not_dirty}
 use Rattle.lfs_fs.proofs.Calls.{still_called}
 use Rattle.lfs_fs.proofs.OpenReaders.{read_saved}
 use Rattle.lfs_fs.proofs.ReadersKnow.{known_closed, known_stored, known_written}
+use Rattle.lfs_fs.proofs.Truncating.{inside_put, other_tree}
 use Rattle.lfs_fs.proofs.WriterPaths.{sync_path}
 
 -- ---- the writer that has changes
@@ -36,26 +37,24 @@ can_save t fs fd w works ready e is = record {
   changed = unsaved_writer (open_file_at fs fd) w e is;
 }
 
--- the entry that was taken out
-pub taken : (o p : Option OpenFile) (f : OpenFile) (w : Writer) → o ≡ Some f → f ≡ file.Writing w → o ≡ p → Some (file.Writing w) ≡ p
-taken o p f w is writing from = sym (is ∙ ap (λ z. Some z) writing) ∙ from
+-- it is a writer's
+pub unsaved_there : (o : Option OpenFile) → is_unsaved_writer o ≡ true → (w : Writer) × (Some (file.Writing w) ≡ o)
+unsaved_there None e = absurd (cc)
+unsaved_there (Some (file.Reading r)) e = absurd (cc)
+unsaved_there (Some (file.Writing w)) e = (w, refl)
 
 -- ---- the files after it
-
-pub left_inside : (fs mid : RuntimeFiles) (fd : ℕ) → is_some (open_file_at fs fd) ≡ true → mid ≡ set fs fd None → fd < length mid
-left_inside fs mid fd there left = subst (λ n. fd < n) (sym (ap (λ xs. length xs) left ∙ length-set fs fd None)) (inside_is fs fd there)
-
-pub left_free : (fs mid : RuntimeFiles) (fd : ℕ) → is_some (open_file_at fs fd) ≡ true → mid ≡ set fs fd None → open_file_at mid fd ≡ None
-left_free fs mid fd there left = ap (λ xs. open_file_at xs fd) left ∙ ap option_flatten (slice_get-set_same fs fd None (inside_is fs fd there))
-
-pub left_none : (t : TreeState) (fs mid : RuntimeFiles) (fd : ℕ) (w : Writer) → IsReady t fs → Some (file.Writing w) ≡ open_file_at fs fd → mid ≡ set fs fd None → writers_among mid ≡ []
-left_none t fs mid fd w ready is left = ap (λ xs. writers_among xs) left ∙ (only fs fd w (sym is) ready.one).without
 
 no_writers_same : (t s : TreeState) (fs : RuntimeFiles) → writers_among fs ≡ [] → files_view t fs ≡ files_view s fs
 no_writers_same t s fs none = kept_files t s fs (ap (list_any (λ w. is_some w.unsaved)) none) (subst (KeepsWriters t s) (sym none) tt)
 
-put_inside : (t : TreeState) (fs : RuntimeFiles) (fd : ℕ) (x : Option session.OpenFile) → is_some (open_file_at fs fd) ≡ true → files_with_file (files_view t fs) fd x ≡ set (files_view t fs) fd x
-put_inside t fs fd x e = ap (λ b. cond b (set (files_view t fs) fd x) (files_view t fs ++ x ∷ [])) (ap (nat_lt fd) (length-map fs (option_map (file_view t))) ∙ inside fs fd e)
+-- another entry was put under the number, which is inside
+pub still_there : (fs gs : RuntimeFiles) (fd : ℕ) (x y : OpenFile) → Some x ≡ open_file_at fs fd → gs ≡ set fs fd (Some y) → is_some (open_file_at gs fd) ≡ true
+still_there fs gs fd x y is put = ap (λ xs. is_some (open_file_at xs fd)) put ∙ ap (λ o. is_some (option_flatten o)) (slice_get-set_same fs fd (Some y) (inside_is fs fd (sym (ap is_some is))))
+
+-- what was put there is let go
+pub closed_behind : (fs gs hs : RuntimeFiles) (fd : ℕ) (x : Option OpenFile) → gs ≡ set fs fd x → hs ≡ set gs fd None → hs ≡ set fs fd None
+closed_behind fs gs hs fd x put left = left ∙ ap (λ xs. set xs fd None) put ∙ set-set fs fd x None
 
 -- without the writer
 pub left_is : (t s : TreeState) (fs : RuntimeFiles) (fd : ℕ) (w : Writer) → Some (file.Writing w) ≡ open_file_at fs fd → IsOnly fs fd w → files_view s (set fs fd None) ≡ files_with_file (files_view t fs) fd None
@@ -63,12 +62,8 @@ left_is t s fs fd w is o = no_writers_same s t (set fs fd None) o.without ∙ se
 
 -- with another one in its place
 pub back_is : (t s : TreeState) (fs : RuntimeFiles) (fd : ℕ) (w v : Writer) → Some (file.Writing w) ≡ open_file_at fs fd → IsOnly fs fd w →
-    files_view s (set (set fs fd None) fd (Some (file.Writing v))) ≡ files_with_file (files_view t fs) fd (Some (Writing (writer_view s v)))
-back_is t s fs fd w v is o =
-    map-set (option_map (file_view s)) (set fs fd None) fd (Some (file.Writing v))
-    ∙ ap (λ (z : OpenFilesByNumber). set z fd (Some (Writing (writer_view s v)))) (no_writers_same s t (set fs fd None) o.without ∙ map-set (option_map (file_view t)) fs fd None)
-    ∙ set-set (files_view t fs) fd None (Some (Writing (writer_view s v)))
-    ∙ sym (put_inside t fs fd (Some (Writing (writer_view s v))) (sym (ap is_some is)))
+    files_view s (set fs fd (Some (file.Writing v))) ≡ files_with_file (files_view t fs) fd (Some (Writing (writer_view s v)))
+back_is t s fs fd w v is o = other_tree t s fs fd w v o ∙ sym (inside_put t fs fd (Writing (writer_view s v)) (sym (ap is_some is)))
 
 -- ---- the turn
 
@@ -119,34 +114,29 @@ writer_at t fs fd w is dirty = (file_at t fs fd w is, (dirty, (refl, refl)))
 
 sync_step : (t new : TreeState) (fs : RuntimeFiles) (fd : ℕ) (w v : Writer) → IsReady t fs → refusal_by_checks (session_view t fs) (ops.Sync fd) ≡ None → Some (file.Writing w) ≡ open_file_at fs fd → is_some w.unsaved ≡ true →
     AreBytesStored t w.path (unsaved_or_tree t w.path w.unsaved) new → IsSavedWriter new (synced_writer (writer_view t w)) v →
-    IsStep (system_state (session_view t fs)) (ops.Sync fd) ops.Done (system_state (session_view new (set (set fs fd None) fd (Some (file.Writing v)))))
+    IsStep (system_state (session_view t fs)) (ops.Sync fd) ops.Done (system_state (session_view new (set fs fd (Some (file.Writing v)))))
 sync_step t new fs fd w v ready e is dirty stored saved =
-    stored_step t new fs (files_view new (set (set fs fd None) fd (Some (file.Writing v)))) (ops.Sync fd) w.path (unsaved_or_tree t w.path w.unsaved) ready.sound (not_failed (session_view t fs) (ops.Sync fd) e) e stored
+    stored_step t new fs (files_view new (set fs fd (Some (file.Writing v)))) (ops.Sync fd) w.path (unsaved_or_tree t w.path w.unsaved) ready.sound (not_failed (session_view t fs) (ops.Sync fd) e) e stored
     refl refl refl refl (dirty_at t fs fd w is dirty) refl refl (λ around. committed_is t new fs fd w is dirty stored) (stored.synced ready.called (files_view t fs) fd (writer_view t w) (writer_at t fs fd w is dirty))
     (ap (λ f. files_with_file (files_view t fs) fd (synced_file f)) (file_at t fs fd w is)
     ∙ ap (λ x. files_with_file (files_view t fs) fd (Some (Writing x))) (sym saved.seen)
     ∙ sym (back_is t new fs fd w v is (only fs fd w (sym is) ready.one)))
 
-pub sync_answers : (t new : TreeState) (fs mid gs : RuntimeFiles) (now : SessionView) (fd : ℕ) (w v : Writer) → session_view t fs ≡ now → (t.failed ≡ false → IsReady t fs) → refusal_by_checks (session_view t fs) (ops.Sync fd) ≡ None →
+pub sync_answers : (t new : TreeState) (fs gs : RuntimeFiles) (now : SessionView) (fd : ℕ) (w v : Writer) → session_view t fs ≡ now → (t.failed ≡ false → IsReady t fs) → refusal_by_checks (session_view t fs) (ops.Sync fd) ≡ None →
     is_unsaved_writer (open_file_at fs fd) ≡ true → Some (file.Writing w) ≡ open_file_at fs fd → AreBytesStored t w.path (unsaved_or_tree t w.path w.unsaved) new → IsSavedWriter new (synced_writer (writer_view t w)) v →
-    mid ≡ set fs fd None → gs ≡ set mid fd (Some (file.Writing v)) → StepsOrFails now (ops.Sync fd) (Ok ops.Done) (session_view new gs)
-sync_answers t new fs mid gs now fd w v same ready e unsaved is stored saved left back =
+    gs ≡ set fs fd (Some (file.Writing v)) → StepsOrFails now (ops.Sync fd) (Ok ops.Done) (session_view new gs)
+sync_answers t new fs gs now fd w v same ready e unsaved is stored saved put =
     subst (λ z. IsStep (system_state z) (ops.Sync fd) ops.Done (system_state (session_view new gs))) same
-    (subst (λ z. IsStep (system_state (session_view t fs)) (ops.Sync fd) ops.Done (system_state (session_view new z))) (sym (back ∙ ap (λ z. set z fd (Some (file.Writing v))) left))
+    (subst (λ z. IsStep (system_state (session_view t fs)) (ops.Sync fd) ops.Done (system_state (session_view new z))) (sym put)
     (sync_step t new fs fd w v (ready (not_failed (session_view t fs) (ops.Sync fd) e)) e is (unsaved_writer (open_file_at fs fd) w unsaved is) stored saved))
 
-sync_writers : (t : TreeState) (fs mid gs : RuntimeFiles) (fd : ℕ) (w v : Writer) → IsReady t fs → Some (file.Writing w) ≡ open_file_at fs fd → mid ≡ set fs fd None → gs ≡ set mid fd (Some (file.Writing v)) → writers_among gs ≡ v ∷ []
-sync_writers t fs mid gs fd w v ready is left back =
-    ap (λ xs. writers_among xs) (back ∙ ap (λ z. set z fd (Some (file.Writing v))) left ∙ set-set fs fd None (Some (file.Writing v))) ∙ (only fs fd w (sym is) ready.one).with_other v
-
-pub sync_ready : (t new : TreeState) (fs mid gs : RuntimeFiles) (fd : ℕ) (w v : Writer) (bytes : List ℕ) → (t.failed ≡ false → IsReady t fs) → refusal_by_checks (session_view t fs) (ops.Sync fd) ≡ None →
-    Some (file.Writing w) ≡ open_file_at fs fd → AreBytesStored t w.path bytes new → IsSavedWriter new (synced_writer (writer_view t w)) v → mid ≡ set fs fd None → gs ≡ set mid fd (Some (file.Writing v)) → IsReady new gs
-sync_ready t new fs mid gs fd w v bytes ready e is stored saved left back =
+pub sync_ready : (t new : TreeState) (fs gs : RuntimeFiles) (fd : ℕ) (w v : Writer) (bytes : List ℕ) → (t.failed ≡ false → IsReady t fs) → refusal_by_checks (session_view t fs) (ops.Sync fd) ≡ None →
+    Some (file.Writing w) ≡ open_file_at fs fd → AreBytesStored t w.path bytes new → IsSavedWriter new (synced_writer (writer_view t w)) v → gs ≡ set fs fd (Some (file.Writing v)) → IsReady new gs
+sync_ready t new fs gs fd w v bytes ready e is stored saved put =
     let was = ready (not_failed (session_view t fs) (ops.Sync fd) e) in
-    let are = sync_writers t fs mid gs fd w v was is left back in
     let o = only fs fd w (sym is) was.one in
+    let are : writers_among gs ≡ v ∷ [] = ap (λ xs. writers_among xs) put ∙ o.with_other v in
     let path : v.path ≡ w.path = ap (λ (z : session.FileWriter). z.path) saved.seen ∙ sync_path (writer_view t w) in
-    let put : gs ≡ set fs fd (Some (file.Writing v)) = back ∙ ap (λ z. set z fd (Some (file.Writing v))) left ∙ set-set fs fd None (Some (file.Writing v)) in
     record {
       sound = stored.sound;
       called = still_called t.history new.history stored.calls stored.called (ready (not_failed (session_view t fs) (ops.Sync fd) e)).called;

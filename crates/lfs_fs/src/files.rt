@@ -3,21 +3,22 @@
 ghost use Rattle.std.specs.Prelude.{◌==◌, ℕ, if◌then◌else◌, nat_lt, ◌≡◌, ◌<◌, ◌≤◌, ◌^◌, ◌||◌, [], ◌∷◌, false, nat_le, length, None, Some, IfOk, IfErr, OnOk, OnErr, true, is_none, is_some, slice_get, slice_set, vec_len};
 ghost use Rattle.std.specs.List.{list_any};
 ghost use Rattle.std.specs.Option.{option_flatten, option_map};
-ghost use Rattle.lfs_model.specs.session.TreeEdits.{same_path};
+ghost use Rattle.lfs_model.specs.session.TreeEdits.{same_path, tree_with_change};
 ghost use Rattle.lfs_model.specs.session.Operations.{parse_path};
 ghost use Rattle.lfs_model.specs.session.Session.{has_open_file};
-ghost use Rattle.lfs_model.specs.session.Writers.{turns_writer, written_writer};
+ghost use Rattle.lfs_model.specs.session.Effects.{node_with_bytes};
+ghost use Rattle.lfs_model.specs.session.Writers.{synced_writer, turns_writer, written_writer};
 ghost use Rattle.lfs_model.specs.session.Refusals.{path_or_root, path_unusable};
 ghost use Rattle.lfs_file.specs.Known.{no_known_blocks};
 ghost use Rattle.lfs_fs.specs.RenamePaths.{prevents_rename};
-ghost use Rattle.lfs_tree.specs.OpenContents.{KeepsImage};
+ghost use Rattle.lfs_tree.specs.OpenContents.{AreBytesStored, KeepsImage};
 ghost use Rattle.lfs_tree.specs.TreeState.{HasErrorCause, IsFailedTree, IsSoundState, SurvivesStops, TreeState, shown_tree};
-ghost use Rattle.lfs_fs.specs.WriterChanges.{CanWriteBy, ChangesWriterAt, IsChangedWriter};
+ghost use Rattle.lfs_fs.specs.WriterChanges.{CanSaveWriter, CanWriteBy, ChangesWriterAt, IsChangedWriter, IsSavedWriter};
 ghost use Rattle.lfs_fs.specs.declared.files.Writer.{Writer as WriterSeen};
-ghost use Rattle.lfs_fs.specs.FileView.{last_change_end, open_file_at, files_view, is_open_where, is_unsaved_writer, lowest_free, writers_reserve, writer_reserve, contents_reserve, file_with_known, file_with_position, runtime_files_with, reader_if_any, readers_among, is_unsaved_turned, writer_if_any, writer_view, writers_among, own_position};
+ghost use Rattle.lfs_fs.specs.FileView.{last_change_end, open_file_at, files_view, unsaved_or_tree, is_open_where, is_unsaved_writer, lowest_free, writers_reserve, writer_reserve, contents_reserve, file_with_known, file_with_position, runtime_files_with, reader_if_any, readers_among, is_unsaved_turned, writer_if_any, writer_view, writers_among, own_position};
 
 use crate::owned_path::OwnedPath;
-use crate::writers::write_by_writer;
+use crate::writers::{save_writer, write_by_writer};
 use lfs_device::{BlockDevice, Error, Geometry};
 use lfs_file::{KnownBlocks, WriterContents, blocks_for};
 use lfs_lookup::FileContents;
@@ -311,6 +312,26 @@ impl Files {
         write_in_table(alloc, tree, &mut self.entries, fd as usize, bytes)
     }
 
+    // Commits the changes of the writer of that number to the tree.
+    //
+    // Errors: `Io` where a call of the device failed. `NoMemory` where memory isn't granted. The
+    // tree has failed after either, and the writer is of no use.
+    pub(crate) fn save<D: BlockDevice>(
+        &mut self,
+        alloc: Global,
+        tree: &mut Tree<D>,
+        fd: u32,
+    ) -> Result<(), Error>
+        requires { (w : WriterSeen) × (open_file_at self.old fd ≡ Some (OpenFile.Writing w)) × CanSaveWriter tree.old w }
+        ensures stored { (w : WriterSeen) → open_file_at self.old fd ≡ Some (OpenFile.Writing w) → OnOk result (AreBytesStored tree.old w.path (unsaved_or_tree tree.old w.path w.unsaved) tree.new) }
+        ensures saved { (w : WriterSeen) → open_file_at self.old fd ≡ Some (OpenFile.Writing w) → ChangesWriterAt self.old fd (λ v. OnOk result (IsSavedWriter tree.new (synced_writer (writer_view tree.old w)) v)) self.new }
+        ensures broken { OnErr result (IsFailedTree tree.old tree.new) }
+        ensures errors { IfErr result (HasErrorCause tree.old tree.new) }
+        ensures survives { (w : WriterSeen) → open_file_at self.old fd ≡ Some (OpenFile.Writing w) → SurvivesStops tree.old tree.new (tree_with_change w.path (node_with_bytes (unsaved_or_tree tree.old w.path w.unsaved)) (shown_tree tree.old)) }
+    {
+        save_in_table(alloc, tree, &mut self.entries, fd as usize)
+    }
+
     pub(crate) fn is_open(&self, fd: u32) -> bool
         ensures { result ≡ is_some (open_file_at self.now fd) }
     {
@@ -431,6 +452,27 @@ fn write_in_table<D: BlockDevice>(
 {
     match &mut entries[index] {
         Some(OpenFile::Writing(writer)) => write_by_writer(alloc, tree, writer, bytes),
+        _ => unreachable!(),
+    }
+}
+
+// Commits the changes of the writer in an entry to the tree. The writer stays where it is.
+fn save_in_table<D: BlockDevice>(
+    alloc: Global,
+    tree: &mut Tree<D>,
+    entries: &mut Vec<Option<OpenFile>>,
+    index: usize,
+) -> Result<(), Error>
+    requires { (w : WriterSeen) × (open_file_at entries.old.items index ≡ Some (OpenFile.Writing w)) × CanSaveWriter tree.old w }
+    ensures stored { (w : WriterSeen) → open_file_at entries.old.items index ≡ Some (OpenFile.Writing w) → OnOk result (AreBytesStored tree.old w.path (unsaved_or_tree tree.old w.path w.unsaved) tree.new) }
+    ensures saved { (w : WriterSeen) → open_file_at entries.old.items index ≡ Some (OpenFile.Writing w) → ChangesWriterAt entries.old.items index (λ v. OnOk result (IsSavedWriter tree.new (synced_writer (writer_view tree.old w)) v)) entries.new.items }
+    ensures len { vec_len entries.new ≡ vec_len entries.old }
+    ensures broken { OnErr result (IsFailedTree tree.old tree.new) }
+    ensures errors { IfErr result (HasErrorCause tree.old tree.new) }
+    ensures survives { (w : WriterSeen) → open_file_at entries.old.items index ≡ Some (OpenFile.Writing w) → SurvivesStops tree.old tree.new (tree_with_change w.path (node_with_bytes (unsaved_or_tree tree.old w.path w.unsaved)) (shown_tree tree.old)) }
+{
+    match &mut entries[index] {
+        Some(OpenFile::Writing(writer)) => save_writer(alloc, tree, writer),
         _ => unreachable!(),
     }
 }

@@ -50,9 +50,7 @@ use crate::run::{
     Op, Reply, reply_of_bool, reply_of_bytes, reply_of_count, reply_of_fd, reply_of_gstate,
     reply_of_items, reply_of_stat, reply_of_unit,
 };
-use crate::writers::{
-    create_and_open, open_existing_file, writer_after_saving, writer_after_truncating,
-};
+use crate::writers::{create_and_open, open_existing_file, writer_after_truncating};
 use bitflags::Flags;
 use lfs_device::{BlockDevice, Error};
 use lfs_lookup::{ListItem as Item, Stat};
@@ -429,14 +427,9 @@ impl<D: BlockDevice> Session<D> {
         if !self.files.is_unsaved_at(fd) {
             return Ok(());
         }
-        let Some(OpenFile::Writing(writer)) = self.files.take(fd) else {
-            unreachable!()
-        };
-        let answer = writer_after_saving(alloc, &mut self.tree, writer);
+        let answer = self.files.save(alloc, &mut self.tree, fd);
         lemma_calls_conform(&self.tree);
-        let writer = answer?;
-        self.files.put_back_writer(fd, writer);
-        Ok(())
+        answer
     }
 
     /// Returns the bytes of an open file from its position on, at most `count`. There are fewer
@@ -565,12 +558,10 @@ impl<D: BlockDevice> Session<D> {
             self.files.close(fd);
             return Ok(());
         }
-        let Some(OpenFile::Writing(writer)) = self.files.take(fd) else {
-            unreachable!()
-        };
-        let answer = writer_after_saving(alloc, &mut self.tree, writer);
+        let answer = self.files.save(alloc, &mut self.tree, fd);
         lemma_calls_conform(&self.tree);
         answer?;
+        self.files.close(fd);
         Ok(())
     }
 

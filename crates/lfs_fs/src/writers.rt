@@ -125,38 +125,25 @@ pub(crate) fn writer_after_truncating<D: BlockDevice>(
     })
 }
 
-// Returns the writer after its changes were committed to the tree.
-pub(crate) fn writer_after_saving<D: BlockDevice>(
+// Commits the changes of a writer to the tree. After an error the writer is of no use.
+pub(crate) fn save_writer<D: BlockDevice>(
     alloc: Global,
     tree: &mut Tree<D>,
-    writer: Writer,
-) -> Result<Writer, Error>
-    requires { CanSaveWriter tree.old writer }
-    ensures stored { OnOk result (AreBytesStored tree.old writer.path (unsaved_or_tree tree.old writer.path writer.unsaved) tree.new) }
-    ensures saved { IfOk result (IsSavedWriter tree.new (synced_writer (writer_view tree.old writer))) }
+    writer: &mut Writer,
+) -> Result<(), Error>
+    requires { CanSaveWriter tree.old writer.old }
+    ensures stored { OnOk result (AreBytesStored tree.old writer.old.path (unsaved_or_tree tree.old writer.old.path writer.old.unsaved) tree.new) }
+    ensures saved { OnOk result (IsSavedWriter tree.new (synced_writer (writer_view tree.old writer.old)) writer.new) }
     ensures broken { OnErr result (IsFailedTree tree.old tree.new) }
     ensures errors { IfErr result (HasErrorCause tree.old tree.new) }
-    ensures survives { SurvivesStops tree.old tree.new (tree_with_change writer.path (node_with_bytes (unsaved_or_tree tree.old writer.path writer.unsaved)) (shown_tree tree.old)) }
+    ensures survives { SurvivesStops tree.old tree.new (tree_with_change writer.old.path (node_with_bytes (unsaved_or_tree tree.old writer.old.path writer.old.unsaved)) (shown_tree tree.old)) }
 {
     lemma_reserve_suffices();
-    let Writer {
-        path,
-        position,
-        size,
-        appends,
-        unsaved,
-    } = writer;
-    let Some(unsaved) = unsaved else {
+    let Some(unsaved) = writer.unsaved.take() else {
         unreachable!()
     };
-    tree.commit_writer_contents(alloc, &path.lend(), unsaved.contents)?;
-    Ok(Writer {
-        path,
-        position,
-        size,
-        appends,
-        unsaved: None,
-    })
+    tree.commit_writer_contents(alloc, &writer.path.lend(), unsaved.contents)?;
+    Ok(())
 }
 
 // Opens a writer of a file that is there, at its beginning. A recovery comes first.

@@ -1,9 +1,14 @@
-use Rattle.std.proofs.Common.{refl, sym, Ok, ap}
+use Rattle.std.proofs.Common.{◌≡◌, ℕ, false, true, None, Some, Result, Ok, Err, ◌∙◌, refl, sym, ap}
+use Rattle.std.specs.Prelude.{IfErr, OnErr, OnOk}
+use Rattle.lfs_device.specs.declared.error.Error.{Error}
 use Rattle.lfs_model.specs.session.Operations as ops
-use Rattle.lfs_fs.proofs.Common.{files_view, open_file_at, SessionView, session_view}
+use Rattle.lfs_fs.proofs.Common.{AreBytesStored, DeviceConforms, HasErrorCause, HasSessionInvariant, IsCall, IsFailedTree, IsReady, IsSavedWriter, RuntimeFiles, SessionView, SurvivesStops, TreeState, files_view, is_unsaved_writer, node_with_bytes, open_file_at, refusal_by_checks, reply_from, session_view, shown_tree, synced_writer, tree_with_change, unsaved_or_tree, writer_view}
+use Rattle.lfs_fs.specs.WriterChanges.{ChangesWriterAt}
+use Rattle.lfs_fs.specs.declared.files.OpenFile.TheVariants as file
+use Rattle.lfs_fs.specs.declared.files.Writer.{Writer}
 use Rattle.lfs_fs.proofs.Answered.{not_failed, sound_by}
 use Rattle.lfs_fs.proofs.Errors.{given_on}
-use Rattle.lfs_fs.proofs.SavedSteps.{can_save, left_free, left_inside, left_none, sync_answers, sync_idle, sync_ready, taken, dirty_at, unsaved_writer}
+use Rattle.lfs_fs.proofs.SavedSteps.{can_save, dirty_at, sync_answers, sync_idle, sync_ready, unsaved_there, unsaved_writer}
 use Rattle.lfs_fs.proofs.Stopping.{kept_call, tree_changed}
 use Rattle.lfs_fs.proofs.StoppedCalls.{saved_tree}
 use Rattle.lfs_fs.proofs.Sparing.{stored_others}
@@ -11,22 +16,11 @@ use Rattle.lfs_fs.proofs.Called.{changed_call, saving_call, still_call, unread_c
 use Rattle.lfs_fs.proofs.Ending.{answer_ends, kept_ends}
 use Rattle.lfs_fs.proofs.session.Session.sync.Goals as goal
 
-pub writer_after_saving-answer-requires : goal.writer_after_saving-answer-requires
-writer_after_saving-answer-requires g c =
-    let e = c.in_ok-check_sync_file.ensures.0 in
-    can_save c.self.inside.tree c.self.inside.files c.args.fd c.in-Some-Writing.writer (not_failed (session_view c.self.inside.tree c.self.inside.files) (ops.Sync c.args.fd) e) (c.self.invariant.ready (not_failed (session_view c.self.inside.tree c.self.inside.files) (ops.Sync c.args.fd) e))
-    (sym c.if-not-is_unsaved_at.ensures) (taken _ _ _ _ c.in-Some-Writing.is c.in-Some-Writing.field-0-is c.take.ensures.file)
-
-pub put_back_writer-requires-clause-inside : goal.put_back_writer-requires-clause-inside
-put_back_writer-requires-clause-inside g c = left_inside c.self.inside.files c.take.new.self c.args.fd c.in_ok-check_sync_file.ensures.1 c.take.ensures.left
-
-pub put_back_writer-requires-clause-free : goal.put_back_writer-requires-clause-free
-put_back_writer-requires-clause-free g c = left_free c.self.inside.files c.take.new.self c.args.fd c.in_ok-check_sync_file.ensures.1 c.take.ensures.left
-
-pub put_back_writer-requires-clause-none : goal.put_back_writer-requires-clause-none
-put_back_writer-requires-clause-none g c =
-    left_none c.self.inside.tree c.self.inside.files c.take.new.self c.args.fd c.in-Some-Writing.writer (c.self.invariant.ready (not_failed (session_view c.self.inside.tree c.self.inside.files) (ops.Sync c.args.fd) c.in_ok-check_sync_file.ensures.0))
-    (taken _ _ _ _ c.in-Some-Writing.is c.in-Some-Writing.field-0-is c.take.ensures.file) c.take.ensures.left
+pub save-answer-requires : goal.save-answer-requires
+save-answer-requires g c =
+    let works = not_failed (session_view c.self.inside.tree c.self.inside.files) (ops.Sync c.args.fd) c.in_ok-check_sync_file.ensures.0 in
+    let w = unsaved_there (open_file_at c.self.inside.files c.args.fd) (sym c.if-not-is_unsaved_at.ensures) in
+    (w.0, sym w.1, can_save c.self.inside.tree c.self.inside.files c.args.fd w.0 works (c.self.invariant.ready works) (sym c.if-not-is_unsaved_at.ensures) w.1)
 
 -- a check ends it
 pub returns-in_err-check_sync_file : goal.returns-in_err-check_sync_file
@@ -42,29 +36,36 @@ returns-then-not-is_unsaved_at g c =
     (kept_call (session_view c.self.inside.tree c.self.inside.files) _ (ops.Sync c.args.fd) c.self.view_is (sound_by c.self.inside.tree c.self.inside.files c.self.invariant.ready))
 
 -- the tree's call ends it
-pub invariant_of-self-2 : goal.invariant_of-self-2
-invariant_of-self-2 g c = record {
-  ready = λ works. sync_ready c.self.inside.tree c.writer_after_saving-answer.new.tree c.self.inside.files c.take.new.self c.put_back_writer.new.self c.args.fd c.in-Some-Writing.writer c.in_ok-writer.writer _ c.self.invariant.ready c.in_ok-check_sync_file.ensures.0
-      (taken _ _ _ _ c.in-Some-Writing.is c.in-Some-Writing.field-0-is c.take.ensures.file) c.in_ok-writer.ensures.stored c.in_ok-writer.ensures.saved c.take.ensures.left c.put_back_writer.ensures;
-  reported = λ works. c.lemma_calls_conform.ensures;
-}
+module _ (t new : TreeState) (fs gs : RuntimeFiles) (fd : ℕ) (w : Writer) (between : HasSessionInvariant t fs) (e : refusal_by_checks (session_view t fs) (ops.Sync fd) ≡ None) (is : Some (file.Writing w) ≡ open_file_at fs fd) where
+  ready_after : (r : Result (Unit {0}) Error) → OnOk r (AreBytesStored t w.path (unsaved_or_tree t w.path w.unsaved) new) → ChangesWriterAt fs fd (λ v. OnOk r (IsSavedWriter new (synced_writer (writer_view t w)) v)) gs → OnErr r (IsFailedTree t new) → new.failed ≡ false → IsReady new gs
+  ready_after (Ok u) stored saved broken works = sync_ready t new fs gs fd w saved.writer _ between.ready e is stored saved.holds saved.only
+  ready_after (Err x) stored saved broken works = absurd (let k = sym works ∙ broken.failed in cc)
 
-pub returns-in_err-writer : goal.returns-in_err-writer
-returns-in_err-writer g c =
-    let works = not_failed (session_view c.self.inside.tree c.self.inside.files) (ops.Sync c.args.fd) c.in_ok-check_sync_file.ensures.0 in
-    let can = can_save c.self.inside.tree c.self.inside.files c.args.fd c.in-Some-Writing.writer works (c.self.invariant.ready works) (sym c.if-not-is_unsaved_at.ensures) (taken _ _ _ _ c.in-Some-Writing.is c.in-Some-Writing.field-0-is c.take.ensures.file) in
-    let is = taken _ _ _ _ c.in-Some-Writing.is c.in-Some-Writing.field-0-is c.take.ensures.file in
-    saving_call c.self.inside.tree c.writer_after_saving-answer.new.tree c.self.inside.files (files_view c.writer_after_saving-answer.new.tree c.take.new.self) _ (ops.Sync c.args.fd) (λ u. ops.Done) _ c.from_residual-in_err-writer.result _ c.self.view_is c.self.invariant c.in_ok-check_sync_file.ensures.0 refl refl refl refl refl
-    (dirty_at c.self.inside.tree c.self.inside.files c.args.fd c.in-Some-Writing.writer is (unsaved_writer (open_file_at c.self.inside.files c.args.fd) c.in-Some-Writing.writer (sym c.if-not-is_unsaved_at.ensures) is)) can.written.writable c.lemma_calls_conform.ensures c.in_err-writer.ensures.broken c.in_err-writer.ensures.errors (given_on _ c.from_residual-in_err-writer.result c.from_residual-in_err-writer.ensures.1)
-    c.writer_after_saving-answer.ensures.survives (saved_tree c.self.inside.tree c.self.inside.files c.args.fd c.in-Some-Writing.writer (sym c.if-not-is_unsaved_at.ensures) (taken _ _ _ _ c.in-Some-Writing.is c.in-Some-Writing.field-0-is c.take.ensures.file))
+  ended : (now : SessionView) (r : Result (Unit {0}) Error) → session_view t fs ≡ now → is_unsaved_writer (open_file_at fs fd) ≡ true → DeviceConforms new →
+      OnOk r (AreBytesStored t w.path (unsaved_or_tree t w.path w.unsaved) new) → ChangesWriterAt fs fd (λ v. OnOk r (IsSavedWriter new (synced_writer (writer_view t w)) v)) gs → OnErr r (IsFailedTree t new) → IfErr r (HasErrorCause t new) →
+      SurvivesStops t new (tree_with_change w.path (node_with_bytes (unsaved_or_tree t w.path w.unsaved)) (shown_tree t)) → IsCall now (ops.Sync fd) (reply_from (λ u. ops.Done) r) (session_view new gs)
+  ended now (Ok u) same unsaved reported stored saved broken errors survives =
+      changed_call t fs now (ops.Sync fd) (λ u. ops.Done) (Ok u) (session_view new gs) same between reported refl refl refl
+      (stored_others t new fs now (ops.Sync fd) fd w _ same between.ready is (λ s. refl) stored)
+      (answer_ends (session_view t fs) now (ops.Sync fd) ops.Done (session_view new gs) same e stored.no_fault)
+      (sync_answers t new fs gs now fd w saved.writer same between.ready e unsaved is stored saved.holds saved.only)
+      (tree_changed (session_view t fs) now (ops.Sync fd) new _ same (sound_by t fs between.ready) e survives (saved_tree t fs fd w unsaved is))
+  ended now (Err x) same unsaved reported stored saved broken errors survives =
+      let works = not_failed (session_view t fs) (ops.Sync fd) e in
+      saving_call {B = Unit {0}} t new fs (files_view new gs) now (ops.Sync fd) (λ u. ops.Done) x (Err x) _ same between e refl refl refl refl refl
+      (dirty_at t fs fd w is (unsaved_writer (open_file_at fs fd) w unsaved is)) (can_save t fs fd w works (between.ready works) unsaved is).written.writable reported broken errors refl
+      survives (saved_tree t fs fd w unsaved is)
+
+pub invariant_of-self : goal.invariant_of-self
+invariant_of-self g c =
+    let w = unsaved_there (open_file_at c.self.inside.files c.args.fd) (sym c.if-not-is_unsaved_at.ensures) in
+    record {
+      ready = ready_after c.self.inside.tree c.save-answer.new.tree c.self.inside.files c.save-answer.new.self c.args.fd w.0 c.self.invariant c.in_ok-check_sync_file.ensures.0 w.1 c.save-answer.result (c.save-answer.ensures.stored w.0 (sym w.1)) (c.save-answer.ensures.saved w.0 (sym w.1)) c.save-answer.ensures.broken;
+      reported = λ works. c.lemma_calls_conform.ensures;
+    }
 
 pub returns : goal.returns
 returns g c =
-    changed_call {A = Unit {0}} c.self.inside.tree c.self.inside.files _ (ops.Sync c.args.fd) (λ u. ops.Done) (Ok tt) _ c.self.view_is c.self.invariant c.lemma_calls_conform.ensures refl refl refl
-    (stored_others c.self.inside.tree c.writer_after_saving-answer.new.tree c.self.inside.files _ (ops.Sync c.args.fd) c.args.fd c.in-Some-Writing.writer _ c.self.view_is c.self.invariant.ready
-    (taken _ _ _ _ c.in-Some-Writing.is c.in-Some-Writing.field-0-is c.take.ensures.file) (λ s. refl) c.in_ok-writer.ensures.stored)
-    (answer_ends (session_view c.self.inside.tree c.self.inside.files) _ (ops.Sync c.args.fd) ops.Done _ c.self.view_is c.in_ok-check_sync_file.ensures.0 c.in_ok-writer.ensures.stored.no_fault)
-    (sync_answers c.self.inside.tree c.writer_after_saving-answer.new.tree c.self.inside.files c.take.new.self c.put_back_writer.new.self _ c.args.fd c.in-Some-Writing.writer c.in_ok-writer.writer c.self.view_is c.self.invariant.ready c.in_ok-check_sync_file.ensures.0
-    (sym c.if-not-is_unsaved_at.ensures) (taken _ _ _ _ c.in-Some-Writing.is c.in-Some-Writing.field-0-is c.take.ensures.file) c.in_ok-writer.ensures.stored c.in_ok-writer.ensures.saved c.take.ensures.left c.put_back_writer.ensures)
-    (tree_changed (session_view c.self.inside.tree c.self.inside.files) _ (ops.Sync c.args.fd) c.writer_after_saving-answer.new.tree _ c.self.view_is (sound_by c.self.inside.tree c.self.inside.files c.self.invariant.ready) c.in_ok-check_sync_file.ensures.0 c.writer_after_saving-answer.ensures.survives
-    (saved_tree c.self.inside.tree c.self.inside.files c.args.fd c.in-Some-Writing.writer (sym c.if-not-is_unsaved_at.ensures) (taken _ _ _ _ c.in-Some-Writing.is c.in-Some-Writing.field-0-is c.take.ensures.file)))
+    let w = unsaved_there (open_file_at c.self.inside.files c.args.fd) (sym c.if-not-is_unsaved_at.ensures) in
+    ended c.self.inside.tree c.save-answer.new.tree c.self.inside.files c.save-answer.new.self c.args.fd w.0 c.self.invariant c.in_ok-check_sync_file.ensures.0 w.1 _ c.save-answer.result c.self.view_is (sym c.if-not-is_unsaved_at.ensures) c.lemma_calls_conform.ensures
+    (c.save-answer.ensures.stored w.0 (sym w.1)) (c.save-answer.ensures.saved w.0 (sym w.1)) c.save-answer.ensures.broken c.save-answer.ensures.errors (c.save-answer.ensures.survives w.0 (sym w.1))

@@ -1,5 +1,5 @@
 -- A truncation of an open writer, and its turn.
-use Rattle.std.proofs.Common.{ℕ, zero, suc, ◌≡◌, ◌==◌, ◌<◌, ◌&&◌, ◌||◌, ◌++◌, Bool, true, false, not, cond, List, [], ◌∷◌, length, length-set, set, nat_lt, Option, Some, None, Ok, is_some, refl, sym, ap, ap₂, subst, ◌∙◌, arith}
+use Rattle.std.proofs.Common.{ℕ, zero, suc, ◌≡◌, ◌==◌, ◌<◌, ◌&&◌, ◌||◌, ◌++◌, Bool, true, false, not, cond, List, [], ◌∷◌, length, set, nat_lt, Option, Some, None, Ok, is_some, refl, sym, ap, ap₂, subst, ◌∙◌, arith}
 use Rattle.std.specs.Prelude.{◌==◌}
 use Rattle.lfs_fs.proofs.Common.{AllByRecursion, list_any, option_map, eq-eqb, lt-ltb, ltb-false, map-set, profile_file_max, Operation, needs_session_alone, IsStep, Session, DiskSummary, Writing, file_numbered, first_refusal, overfills_disk, files_with_file, refuse_if, file_writer, truncated_writer, Healthy, operation_effect, Tree, DiskView, recovered_from, filled_step, KeepsImage, TreeState, tree_summary, shown_tree, CanTruncateBy, IsChangedWriter, RuntimeFiles, unsaved_or_tree, open_file_at, file_view, files_view, writers_paths, reader_view, readers_among, writer_if_any, writer_view, writers_among, StepsOrFails, SessionView, IsReady, IsWriterReady, session_view, system_state, refusal_by_checks, viewed_session}
 use Rattle.lfs_model.specs.session.Operations as ops
@@ -23,7 +23,7 @@ module _ (t : TreeState) (fs : RuntimeFiles) (fd size : ℕ) (w : Writer) (e : o
   pub is_writer : Some w ≡ writer_if_any (open_file_at fs fd)
   is_writer = sym (ap writer_if_any e)
 
-  pub works_now : t.failed ≡ false
+  works_now : t.failed ≡ false
   works_now = not_failed (session_view t fs) (ops.Truncate fd size) accepted
 
   seen_there : file_writer (file_numbered (files_view t fs) fd) ≡ Some (writer_view t w)
@@ -165,18 +165,6 @@ ready_with t new fs fd w v is alone made b named was = record {
   read = read_rewritten t.pairs new.pairs fs fd w v alone.writers (alone.with_other v) (ap (λ (x : session.FileWriter). x.path) made.seen ∙ named) b.pairs was.read;
   known = known_written new.disk fs fd v (known_beside t new (writers_paths fs) (readers_among fs) b.pairs b.lists was.read was.known);
 }
-
--- nothing is open under a number that was let go
-pub let_go : (fs : RuntimeFiles) (fd : ℕ) → open_file_at (set fs fd None) fd ≡ None
-let_go [] fd = refl
-let_go (f ∷ fs) zero = refl
-let_go (f ∷ fs) (suc fd) = let_go fs fd
-
-pub length_left : (fs : RuntimeFiles) (fd : ℕ) → is_some (open_file_at fs fd) ≡ true → fd < length (set fs fd None)
-length_left fs fd e = let k = inside_is fs fd e in let l = length-set fs fd None in omega (arith, k, l)
-
-pub put_again : (fs gs hs : RuntimeFiles) (fd : ℕ) (v : Writer) → gs ≡ set fs fd None → hs ≡ set gs fd (Some (file.Writing v)) → hs ≡ set fs fd (Some (file.Writing v))
-put_again fs gs hs fd v e f = f ∙ ap (λ xs. set xs fd (Some (file.Writing v))) e ∙ set_twice fs fd None (Some (file.Writing v))
 
 pub some_writer : (fs : RuntimeFiles) (fd : ℕ) → is_some (writer_if_any (open_file_at fs fd)) ≡ true → (w : Writer) × (open_file_at fs fd ≡ Some (file.Writing w))
 some_writer fs fd h = go (open_file_at fs fd) h

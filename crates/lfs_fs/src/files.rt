@@ -7,18 +7,18 @@ ghost use Rattle.lfs_model.specs.session.TreeEdits.{same_path, tree_with_change}
 ghost use Rattle.lfs_model.specs.session.Operations.{parse_path};
 ghost use Rattle.lfs_model.specs.session.Session.{has_open_file};
 ghost use Rattle.lfs_model.specs.session.Effects.{node_with_bytes};
-ghost use Rattle.lfs_model.specs.session.Writers.{synced_writer, turns_writer, written_writer};
+ghost use Rattle.lfs_model.specs.session.Writers.{synced_writer, truncated_writer, turns_writer, written_writer};
 ghost use Rattle.lfs_model.specs.session.Refusals.{path_or_root, path_unusable};
 ghost use Rattle.lfs_file.specs.Known.{no_known_blocks};
 ghost use Rattle.lfs_fs.specs.RenamePaths.{prevents_rename};
 ghost use Rattle.lfs_tree.specs.OpenContents.{AreBytesStored, KeepsImage};
 ghost use Rattle.lfs_tree.specs.TreeState.{HasErrorCause, IsFailedTree, IsSoundState, SurvivesStops, TreeState, shown_tree};
-ghost use Rattle.lfs_fs.specs.WriterChanges.{CanSaveWriter, CanWriteBy, ChangesWriterAt, IsChangedWriter, IsSavedWriter};
+ghost use Rattle.lfs_fs.specs.WriterChanges.{CanSaveWriter, CanTruncateBy, CanWriteBy, ChangesWriterAt, IsChangedWriter, IsSavedWriter};
 ghost use Rattle.lfs_fs.specs.declared.files.Writer.{Writer as WriterSeen};
 ghost use Rattle.lfs_fs.specs.FileView.{last_change_end, open_file_at, files_view, unsaved_or_tree, is_open_where, is_unsaved_writer, lowest_free, writers_reserve, writer_reserve, contents_reserve, file_with_known, file_with_position, runtime_files_with, reader_if_any, readers_among, is_unsaved_turned, writer_if_any, writer_view, writers_among, own_position};
 
 use crate::owned_path::OwnedPath;
-use crate::writers::{save_writer, write_by_writer};
+use crate::writers::{save_writer, truncate_writer, write_by_writer};
 use lfs_device::{BlockDevice, Error, Geometry};
 use lfs_file::{KnownBlocks, WriterContents, blocks_for};
 use lfs_lookup::FileContents;
@@ -272,17 +272,8 @@ impl Files {
         Ok(number as u32)
     }
 
-    /// Takes an open file out of the table. Its number is free afterwards.
-    pub fn take(&mut self, fd: u32) -> Option<OpenFile>
-        requires { is_some (open_file_at self.old fd) ≡ true }
-        ensures file { result ≡ open_file_at self.old fd }
-        ensures left { self.new ≡ slice_set self.old fd None }
-    {
-        take_from_table(&mut self.entries, fd as usize)
-    }
-
-    /// Puts a writer back under the number that it had.
-    pub fn put_back_writer(&mut self, fd: u32, writer: Writer)
+    /// Puts a writer under a number that is reserved for it.
+    pub fn add_writer(&mut self, fd: u32, writer: Writer)
         requires inside { fd < length self.old }
         requires free { open_file_at self.old fd ≡ None }
         requires none { writers_among self.old ≡ [] }
@@ -310,6 +301,27 @@ impl Files {
         ensures survives { IsSoundState tree.old → SurvivesStops tree.old tree.new (shown_tree tree.old) }
     {
         write_in_table(alloc, tree, &mut self.entries, fd as usize, bytes)
+    }
+
+    // Gives the contents of the writer of that number another size.
+    //
+    // Errors: `Io` where a call of the device failed. `NoMemory` where memory isn't granted. The
+    // tree has failed after either, and the writer is of no use.
+    pub(crate) fn truncate<D: BlockDevice>(
+        &mut self,
+        alloc: Global,
+        tree: &mut Tree<D>,
+        fd: u32,
+        new_size: u32,
+    ) -> Result<(), Error>
+        requires { (w : WriterSeen) × (open_file_at self.old fd ≡ Some (OpenFile.Writing w)) × CanTruncateBy tree.old w new_size }
+        ensures written { (w : WriterSeen) → open_file_at self.old fd ≡ Some (OpenFile.Writing w) → ChangesWriterAt self.old fd (λ v. OnOk result (IsChangedWriter tree.new (truncated_writer (writer_view tree.old w) new_size) v)) self.new }
+        ensures beside { OnOk result (KeepsImage tree.old tree.new) }
+        ensures broken { OnErr result (IsFailedTree tree.old tree.new) }
+        ensures errors { IfErr result (HasErrorCause tree.old tree.new) }
+        ensures survives { IsSoundState tree.old → SurvivesStops tree.old tree.new (shown_tree tree.old) }
+    {
+        truncate_in_table(alloc, tree, &mut self.entries, fd as usize, new_size)
     }
 
     // Commits the changes of the writer of that number to the tree.
@@ -456,6 +468,28 @@ fn write_in_table<D: BlockDevice>(
     }
 }
 
+// Gives the contents of the writer in an entry another size. The writer stays where it is.
+fn truncate_in_table<D: BlockDevice>(
+    alloc: Global,
+    tree: &mut Tree<D>,
+    entries: &mut Vec<Option<OpenFile>>,
+    index: usize,
+    new_size: u32,
+) -> Result<(), Error>
+    requires { (w : WriterSeen) × (open_file_at entries.old.items index ≡ Some (OpenFile.Writing w)) × CanTruncateBy tree.old w new_size }
+    ensures written { (w : WriterSeen) → open_file_at entries.old.items index ≡ Some (OpenFile.Writing w) → ChangesWriterAt entries.old.items index (λ v. OnOk result (IsChangedWriter tree.new (truncated_writer (writer_view tree.old w) new_size) v)) entries.new.items }
+    ensures len { vec_len entries.new ≡ vec_len entries.old }
+    ensures beside { OnOk result (KeepsImage tree.old tree.new) }
+    ensures broken { OnErr result (IsFailedTree tree.old tree.new) }
+    ensures errors { IfErr result (HasErrorCause tree.old tree.new) }
+    ensures survives { IsSoundState tree.old → SurvivesStops tree.old tree.new (shown_tree tree.old) }
+{
+    match &mut entries[index] {
+        Some(OpenFile::Writing(writer)) => truncate_writer(alloc, tree, writer, new_size),
+        _ => unreachable!(),
+    }
+}
+
 // Commits the changes of the writer in an entry to the tree. The writer stays where it is.
 fn save_in_table<D: BlockDevice>(
     alloc: Global,
@@ -475,15 +509,6 @@ fn save_in_table<D: BlockDevice>(
         Some(OpenFile::Writing(writer)) => save_writer(alloc, tree, writer),
         _ => unreachable!(),
     }
-}
-
-fn take_from_table(entries: &mut Vec<Option<OpenFile>>, index: usize) -> Option<OpenFile>
-    requires { index < vec_len entries.old }
-    ensures file { result ≡ option_flatten (slice_get entries.old.items index) }
-    ensures files { entries.new.items ≡ slice_set entries.old.items index None }
-    ensures len { vec_len entries.new ≡ vec_len entries.old }
-{
-    entries[index].take()
 }
 
 fn set_in_table(entries: &mut Vec<Option<OpenFile>>, index: usize, file: OpenFile)

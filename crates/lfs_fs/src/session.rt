@@ -39,7 +39,7 @@ use crate::checks::{
     check_sync_file, check_truncate, check_write,
 };
 use crate::device_laws::lemma_calls_conform;
-use crate::files::{Fd, Files, OpenFile};
+use crate::files::{Fd, Files};
 use crate::flags::OpenFlags;
 use crate::gstate::{Gstate, gstate_from_move};
 use crate::open_files::lemma_files_stay;
@@ -50,7 +50,7 @@ use crate::run::{
     Op, Reply, reply_of_bool, reply_of_bytes, reply_of_count, reply_of_fd, reply_of_gstate,
     reply_of_items, reply_of_stat, reply_of_unit,
 };
-use crate::writers::{create_and_open, open_existing_file, writer_after_truncating};
+use crate::writers::{create_and_open, open_existing_file};
 use bitflags::Flags;
 use lfs_device::{BlockDevice, Error};
 use lfs_lookup::{ListItem as Item, Stat};
@@ -338,7 +338,7 @@ impl<D: BlockDevice> Session<D> {
                 answer?
             }
         };
-        self.files.put_back_writer(number, writer);
+        self.files.add_writer(number, writer);
         Ok(number)
     }
 
@@ -405,14 +405,9 @@ impl<D: BlockDevice> Session<D> {
         if self.files.writer_has_size(fd, size) {
             return Ok(());
         }
-        let Some(OpenFile::Writing(writer)) = self.files.take(fd) else {
-            unreachable!()
-        };
-        let answer = writer_after_truncating(alloc, &mut self.tree, writer, size);
+        let answer = self.files.truncate(alloc, &mut self.tree, fd, size);
         lemma_calls_conform(&self.tree);
-        let writer = answer?;
-        self.files.put_back_writer(fd, writer);
-        Ok(())
+        answer
     }
 
     /// Commits the changes of an open file to the tree. Other files stay as they are.

@@ -85,15 +85,15 @@ pub(crate) fn write_by_writer<D: BlockDevice>(
     Ok(())
 }
 
-// Returns the writer after its contents got another size.
-pub(crate) fn writer_after_truncating<D: BlockDevice>(
+// Gives the contents of a writer another size. After an error the writer is of no use.
+pub(crate) fn truncate_writer<D: BlockDevice>(
     alloc: Global,
     tree: &mut Tree<D>,
-    writer: Writer,
+    writer: &mut Writer,
     new_size: u32,
-) -> Result<Writer, Error>
-    requires { CanTruncateBy tree.old writer new_size }
-    ensures written { IfOk result (IsChangedWriter tree.new (truncated_writer (writer_view tree.old writer) new_size)) }
+) -> Result<(), Error>
+    requires { CanTruncateBy tree.old writer.old new_size }
+    ensures written { OnOk result (IsChangedWriter tree.new (truncated_writer (writer_view tree.old writer.old) new_size) writer.new) }
     ensures beside { OnOk result (KeepsImage tree.old tree.new) }
     ensures broken { OnErr result (IsFailedTree tree.old tree.new) }
     ensures errors { IfErr result (HasErrorCause tree.old tree.new) }
@@ -103,26 +103,16 @@ pub(crate) fn writer_after_truncating<D: BlockDevice>(
     lemma_reserve_suffices();
     let has_turned = writer.turns_by_resize();
     let last_end = writer.change_end_resized(new_size);
-    let Writer {
-        path,
-        position,
-        size,
-        appends,
-        unsaved,
-    } = writer;
-    let contents = contents_of_writer(alloc, tree, &path, size, unsaved)?;
+    let unsaved = writer.unsaved.take();
+    let contents = contents_of_writer(alloc, tree, &writer.path, writer.size, unsaved)?;
     let contents = tree.truncate(alloc, contents, new_size)?;
-    Ok(Writer {
-        path,
-        position,
-        size: new_size,
-        appends,
-        unsaved: Some(UnsavedContents {
-            contents,
-            has_turned,
-            last_end,
-        }),
-    })
+    writer.unsaved = Some(UnsavedContents {
+        contents,
+        has_turned,
+        last_end,
+    });
+    writer.size = new_size;
+    Ok(())
 }
 
 // Commits the changes of a writer to the tree. After an error the writer is of no use.

@@ -45,18 +45,18 @@ create_and_open-answer-requires-clause-can g c =
     let h = c.in_ok-found.ensures in
     can_create c.self.inside.tree c.check_open_writer.new.tree c.self.inside.files c.args.path.now (flags_view c.args.flags) c.in-Ok.owned c.self.invariant.ready h.0 h.1 c.requires c.in-Ok.ensures.path (ap (λ p. node_file_size (shown_tree c.self.inside.tree p)) (c.in-Ok.ensures.path ∙ sym h.2.path) ∙ h.2.size ∙ c.in-None.is)
 
-pub put_back_writer-requires-clause-inside : goal.put_back_writer-requires-clause-inside
-put_back_writer-requires-clause-inside g c =
+pub add_writer-requires-clause-inside : goal.add_writer-requires-clause-inside
+add_writer-requires-clause-inside g c =
     let stay : c.match-found.self-inside.files ≡ c.reserve_number.new.self = elim c.match-found.branch [ in-Some+in_ok-writer-in-Some w ↦ ap (λ i. i.files) w.self-inside-is | in-None+in_ok-writer-in-None w ↦ ap (λ i. i.files) w.self-inside-is ] in
     subst (λ xs. c.in-Ok-reserve_number.number < length xs) (sym stay) (room_made c.self.inside.files c.reserve_number.new.self c.in-Ok-reserve_number.number (no_writer c.self.inside.tree c.self.inside.files c.args.path.now (flags_view c.args.flags) c.requires c.in_ok-found.ensures.1) c.in-Ok-reserve_number.ensures.number c.in-Ok-reserve_number.ensures.room).inside
 
-pub put_back_writer-requires-clause-free : goal.put_back_writer-requires-clause-free
-put_back_writer-requires-clause-free g c =
+pub add_writer-requires-clause-free : goal.add_writer-requires-clause-free
+add_writer-requires-clause-free g c =
     let stay : c.match-found.self-inside.files ≡ c.reserve_number.new.self = elim c.match-found.branch [ in-Some+in_ok-writer-in-Some w ↦ ap (λ i. i.files) w.self-inside-is | in-None+in_ok-writer-in-None w ↦ ap (λ i. i.files) w.self-inside-is ] in
     subst (λ xs. open_file_at xs c.in-Ok-reserve_number.number ≡ None) (sym stay) (room_made c.self.inside.files c.reserve_number.new.self c.in-Ok-reserve_number.number (no_writer c.self.inside.tree c.self.inside.files c.args.path.now (flags_view c.args.flags) c.requires c.in_ok-found.ensures.1) c.in-Ok-reserve_number.ensures.number c.in-Ok-reserve_number.ensures.room).free
 
-pub put_back_writer-requires-clause-none : goal.put_back_writer-requires-clause-none
-put_back_writer-requires-clause-none g c =
+pub add_writer-requires-clause-none : goal.add_writer-requires-clause-none
+add_writer-requires-clause-none g c =
     let stay : c.match-found.self-inside.files ≡ c.reserve_number.new.self = elim c.match-found.branch [ in-Some+in_ok-writer-in-Some w ↦ ap (λ i. i.files) w.self-inside-is | in-None+in_ok-writer-in-None w ↦ ap (λ i. i.files) w.self-inside-is ] in
     subst (λ xs. writers_among xs ≡ []) (sym stay) (room_made c.self.inside.files c.reserve_number.new.self c.in-Ok-reserve_number.number (no_writer c.self.inside.tree c.self.inside.files c.args.path.now (flags_view c.args.flags) c.requires c.in_ok-found.ensures.1) c.in-Ok-reserve_number.ensures.number c.in-Ok-reserve_number.ensures.room).none
 
@@ -120,8 +120,8 @@ invariant_of-self-2 g c =
       | in-None+in_ok-writer-in-None w ↦ subst (λ i. DeviceConforms i.tree) (sym w.self-inside-is) w.lemma_calls_conform-in-None.ensures
     ] in
     record {
-      ready = λ works. writer_ready c.self.inside.tree c.match-found.self-inside.tree c.self.inside.files c.put_back_writer.new.self c.args.path.now (flags_view c.args.flags) c.match-found.writer opened (no_writer c.self.inside.tree c.self.inside.files c.args.path.now (flags_view c.args.flags) c.requires c.in_ok-found.ensures.1) (room.alone c.match-found.writer)
-          (c.put_back_writer.ensures ∙ ap (λ xs. set xs c.in-Ok-reserve_number.number (Some (file.Writing c.match-found.writer))) stay ∙ room.filled c.match-found.writer);
+      ready = λ works. writer_ready c.self.inside.tree c.match-found.self-inside.tree c.self.inside.files c.add_writer.new.self c.args.path.now (flags_view c.args.flags) c.match-found.writer opened (no_writer c.self.inside.tree c.self.inside.files c.args.path.now (flags_view c.args.flags) c.requires c.in_ok-found.ensures.1) (room.alone c.match-found.writer)
+          (c.add_writer.ensures ∙ ap (λ xs. set xs c.in-Ok-reserve_number.number (Some (file.Writing c.match-found.writer))) stay ∙ room.filled c.match-found.writer);
       reported = λ works. reported;
     }
 
@@ -155,8 +155,8 @@ returns g c =
           rest_others c.self.inside.tree c.check_open_writer.new.tree w.create_and_open-answer.new.tree c.self.inside.files _ (ops.Open c.args.path.now (flags_view c.args.flags)) c.self.view_is c.self.invariant.ready h.0 made.0.sound made.1)
     ])
     (answer_ends (session_view c.self.inside.tree c.self.inside.files) _ (ops.Open c.args.path.now (flags_view c.args.flags)) (ops.Opened c.in-Ok-reserve_number.number) _ c.self.view_is h.1 calm)
-    (writer_opened c.self.inside.tree c.match-found.self-inside.tree c.self.inside.files c.put_back_writer.new.self _ c.args.path.now (flags_view c.args.flags) c.match-found.writer c.in-Ok-reserve_number.number c.self.view_is opened c.requires (no_writer c.self.inside.tree c.self.inside.files c.args.path.now (flags_view c.args.flags) c.requires c.in_ok-found.ensures.1) c.in-Ok-reserve_number.ensures.number
-    (c.put_back_writer.ensures ∙ ap (λ xs. set xs c.in-Ok-reserve_number.number (Some (file.Writing c.match-found.writer))) stay ∙ room.filled c.match-found.writer))
+    (writer_opened c.self.inside.tree c.match-found.self-inside.tree c.self.inside.files c.add_writer.new.self _ c.args.path.now (flags_view c.args.flags) c.match-found.writer c.in-Ok-reserve_number.number c.self.view_is opened c.requires (no_writer c.self.inside.tree c.self.inside.files c.args.path.now (flags_view c.args.flags) c.requires c.in_ok-found.ensures.1) c.in-Ok-reserve_number.ensures.number
+    (c.add_writer.ensures ∙ ap (λ xs. set xs c.in-Ok-reserve_number.number (Some (file.Writing c.match-found.writer))) stay ∙ room.filled c.match-found.writer))
     (elim c.match-found.branch [
       | in-Some+in_ok-writer-in-Some w ↦ subst (λ i. SurvivesStoppedCalls (system_state c.args.self.now) (ops.Open c.args.path.now (flags_view c.args.flags)) (system_state (view_with_files i.tree []))) (sym w.self-inside-is)
           (opened_left c.self.inside.tree c.check_open_writer.new.tree w.open_existing_file-answer.new.tree c.self.inside.files _ c.args.path.now (flags_view c.args.flags) c.in-Ok.owned _ c.self.view_is c.self.invariant.ready

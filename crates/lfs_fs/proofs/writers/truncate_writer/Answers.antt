@@ -2,15 +2,23 @@ use Rattle.std.proofs.Common.{◌∙◌, Err, ap, refl, subst, sym}
 use Rattle.std.specs.Prelude.{IfErr}
 use Rattle.lfs_fs.proofs.Common.{err_from_is_err_and, HasErrorCause}
 use Rattle.lfs_fs.proofs.Questions.{error_either}
+use Rattle.lfs_fs.proofs.WritersInPlace.{has_contents, has_size, same_bytes, same_form}
 use Rattle.lfs_fs.proofs.Writing.{beside_later, broken_after, can_truncate, has_truncated}
 use Rattle.lfs_fs.proofs.Stopping.{nothing_yet, then_reads}
 use Rattle.lfs_fs.proofs.StoppedCalls.{beside_left}
-use Rattle.lfs_fs.proofs.writers.writer_after_truncating.Goals as goal
+use Rattle.lfs_fs.proofs.writers.truncate_writer.Goals as goal
+
+pub contents_of_writer-requires-clause-file : goal.contents_of_writer-requires-clause-file
+contents_of_writer-requires-clause-file g c = has_contents c.args.tree.now c.args.writer.now c.take-unsaved.result c.requires.can c.take-unsaved.ensures.value
+
+pub contents_of_writer-requires-clause-size : goal.contents_of_writer-requires-clause-size
+contents_of_writer-requires-clause-size g c = has_size c.args.tree.now c.args.writer.now c.take-unsaved.result c.requires.can c.take-unsaved.ensures.value
 
 pub truncate-requires : goal.truncate-requires
 truncate-requires g c =
     let k = c.in_ok-contents.ensures in
-    can_truncate c.args.tree.now c.contents_of_writer.new.tree c.args.writer c.args.new_size c.in_ok-contents.contents _ c.requires k.asked k.over refl k.form
+    can_truncate c.args.tree.now c.contents_of_writer.new.tree c.args.writer.now c.args.new_size c.in_ok-contents.contents _ c.requires k.asked k.over refl
+    (same_form c.args.tree.now c.args.writer.now c.take-unsaved.result c.in_ok-contents.contents c.take-unsaved.ensures.value k.form)
     c.lemma_reserve_suffices.ensures.large c.lemma_reserve_suffices.ensures.truncate
 
 pub returns-in_err-contents-2-clause-broken : goal.returns-in_err-contents-2-clause-broken
@@ -27,8 +35,11 @@ pub returns-clause-written : goal.returns-clause-written
 returns-clause-written g c =
     let k = c.in_ok-contents.ensures in
     let l = c.in_ok-contents-2.ensures in
-    has_truncated c.args.tree.now c.contents_of_writer.new.tree c.truncate.new.self c.args.writer c.args.new_size c.turns_by_resize-has_turned.result c.change_end_resized-last_end.result c.in_ok-contents.contents c.in_ok-contents-2.contents _
-    c.requires k.asked k.over refl k.form k.bytes c.lemma_forms_fit.ensures.truncated l.writes.beside l.over l.truncated.bytes l.truncated.form c.turns_by_resize-has_turned.ensures c.change_end_resized-last_end.ensures
+    has_truncated c.args.tree.now c.contents_of_writer.new.tree c.truncate.new.self c.args.writer.now c.args.new_size c.turns_by_resize-has_turned.result c.change_end_resized-last_end.result c.in_ok-contents.contents c.in_ok-contents-2.contents _
+    c.requires k.asked k.over refl
+    (same_form c.args.tree.now c.args.writer.now c.take-unsaved.result c.in_ok-contents.contents c.take-unsaved.ensures.value k.form)
+    (same_bytes c.args.tree.now c.args.writer.now c.take-unsaved.result _ c.take-unsaved.ensures.value k.bytes)
+    c.lemma_forms_fit.ensures.truncated l.writes.beside l.over l.truncated.bytes l.truncated.form c.turns_by_resize-has_turned.ensures c.change_end_resized-last_end.ensures
 
 pub returns-clause-beside : goal.returns-clause-beside
 returns-clause-beside g c = beside_later c.args.tree.now c.contents_of_writer.new.tree c.truncate.new.self c.in_ok-contents.ensures.asked c.in_ok-contents-2.ensures.writes.beside

@@ -2,7 +2,7 @@ use Rattle.std.proofs.Common.{◌≡◌, ◌<◌, ◌≤◌, Some, [], length, a
 use Rattle.lfs_fs.proofs.Common.{selected_files, reader_if_any, writer_if_any, writers_among}
 use Rattle.lfs_fs.specs.declared.files.OpenFile.TheVariants as file
 use Rattle.lfs_fs.proofs.OpenFiles.{count_set, few_set}
-use Rattle.lfs_fs.proofs.files.Files.put_back_writer.Goals as goal
+use Rattle.lfs_fs.proofs.files.Files.add_writer.Goals as goal
 
 pub invariant_of-self : goal.invariant_of-self
 invariant_of-self c =

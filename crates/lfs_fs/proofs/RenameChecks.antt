@@ -98,7 +98,7 @@ refused_at_once t files op e P r refused is =
     subst (λ z. IsChecksResult (session_view t files) op P z t) (sym is)
     (subst (λ b. FailsChecks b (session_view t files) op e t) (sym (refused files).0) (nothing_asked t, (refused files).1, λ once. refl))
 
-alone : (o : Option Refusal) → first_refusal (o ∷ []) ≡ o
+pub alone : (o : Option Refusal) → first_refusal (o ∷ []) ≡ o
 alone None = refl
 alone (Some x) = refl
 

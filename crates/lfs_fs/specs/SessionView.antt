@@ -8,11 +8,11 @@ use Rattle.lfs_model.specs.session.History.{CallEvent, OnlyReadsSince, fault_cou
 use Rattle.lfs_model.specs.format.Disk.{Disk, block_count, inline_limit}
 use Rattle.lfs_model.specs.tree.View.{IsAccepted}
 use Rattle.lfs_model.specs.session.Operations as ops
-use Rattle.lfs_model.specs.session.Operations.{Operation, Refusal, Reply, Failed, parse_path}
+use Rattle.lfs_model.specs.session.Operations.{FlagsOfOpen, Operation, Refusal, Reply, Failed, parse_path}
 use Rattle.lfs_model.specs.format.Slots.{zero_gstate}
 use Rattle.lfs_model.specs.format.Thread.{Pair, pairs_gstate}
 use Rattle.lfs_model.specs.tree.Tree.{Path, Tree}
-use Rattle.lfs_model.specs.session.Session.{OpenFilesByNumber, Session, all_readers, all_writers}
+use Rattle.lfs_model.specs.session.Session.{OpenFilesByNumber, Session, all_readers, all_writers, flags_allowed, parents_refusal}
 use Rattle.lfs_fs.specs.FileView.{RuntimeFiles, unsaved_or_tree, files_view, has_unsaved, contents_reserve, readers_among, writer_view, writers_among, writers_paths}
 use Rattle.lfs_fs.specs.declared.files.Reader.{Reader}
 use Rattle.lfs_fs.specs.declared.files.Writer.{Writer}
@@ -160,6 +160,15 @@ pub record CanOpenReader (t : Tree) (files : OpenFilesByNumber) (bytes : List �
 pub record IsReadableFile (t : TreeState) (files : OpenFilesByNumber) (bytes : List ℕ) (kept : FileContents) : Type 0 where
   pub readable : CanOpenReader (shown_tree t) files bytes
   pub contents : IsStorageAt t.pairs (path_or_root bytes) kept
+
+-- An open for writing that passes the checks before those of its entry.
+pub record PassesFirstChecks (t : TreeState) (bytes : List ℕ) (flags : FlagsOfOpen) : Type 0 where
+  pub works : t.failed ≡ false
+  pub writable : t.writable ≡ true
+  pub given : is_some (parse_path bytes) ≡ true
+  pub write : flags.write ≡ true
+  pub allowed : flags_allowed flags ≡ true
+  pub parents : parents_refusal (shown_tree t) [] (path_or_root bytes) ≡ None
 
 -- a file that may be opened for writing, and where its path leads to, if nothing is to recover
 pub record IsFoundWritable (t : Tree) (now : TreeState) (bytes : List ℕ) (found : WritableFile) : Type 0 where

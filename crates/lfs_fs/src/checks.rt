@@ -1,6 +1,6 @@
 // The checks of each operation, in order.
 
-ghost use Rattle.std.specs.Prelude.{if◌then◌else◌, nat_lt, ◌+◌, ◌≡◌, ◌<◌, ◌^◌, ℕ, List, [], length, map, true, false, is_some, unwrap_or};
+ghost use Rattle.std.specs.Prelude.{if◌then◌else◌, nat_lt, ◌+◌, ◌≡◌, ◌<◌, ◌^◌, ℕ, List, [], length, map, true, false, is_none, is_some, unwrap_or};
 ghost use Rattle.lfs_model.specs.session.Operations as ops;
 ghost use Rattle.lfs_model.specs.session.Session.{exceeds_charge};
 ghost use Rattle.lfs_model.specs.format.Disk.{block_count, profile_attr_max, profile_file_max, profile_name_max};
@@ -8,22 +8,24 @@ ghost use Rattle.lfs_fs.specs.FileView.{open_file_at, files_view, writers_reserv
 ghost use Rattle.lfs_model.specs.session.Refusals.{path_or_root};
 ghost use Rattle.lfs_model.specs.session.Effects.{items_at, node_file_size};
 ghost use Rattle.lfs_fs.specs.FlagsView.{flags_view};
-ghost use Rattle.lfs_model.specs.session.TreeEdits.{node_attributes_of};
+ghost use Rattle.lfs_model.specs.session.TreeEdits.{is_directory, last_name, node_attributes_of};
 ghost use Rattle.lfs_model.specs.format.Content.{attribute_bytes};
 ghost use Rattle.lfs_fs.specs.EntryPaths.{entry_path};
-ghost use Rattle.lfs_fs.specs.SessionView.{IsChecksResult, IsReadlessResult, IsFoundWritable, IsReadableFile, IsReady, session_view};
+ghost use Rattle.lfs_fs.specs.SessionView.{IsChecksResult, IsReadlessResult, IsFoundWritable, IsReadableFile, IsReady, PassesFirstChecks, refusal_by_checks, session_view};
 ghost use Rattle.lfs_fs.specs.LookUps.{ReadsSearched, AddsNoReads, CachesSearched};
-ghost use Rattle.lfs_lookup.specs.Finds.{listed_item_view, stat_view};
+ghost use Rattle.lfs_lookup.specs.Finds.{is_directory_node, listed_item_view, node_size_if_file, stat_view};
 ghost use Rattle.lfs_tree.specs.TreeState.{tree_summary, shown_tree};
 ghost use Rattle.lfs_model.specs.format.Slots.{Attributes, attributes_size};
 ghost use Rattle.lfs_fs.specs.Replacements.{IncludesReplaced, replaced_size};
 
-use crate::check_order::{are_both_true, value_or_refusal};
+use crate::check_order::{are_both_true, find_first_refusal, value_or_refusal};
 use crate::files::{Files, reserved_for_bytes};
 use crate::flags::OpenFlags;
 use bitflags::Flags;
 use lfs_device::{BlockDevice, Error};
-use lfs_lookup::{FileContents, FoundFile, ListItem, Path, PathLookup, Stat, refuse_if};
+use lfs_lookup::{
+    FileContents, FoundFile, ListItem, Node, Path, PathLookup, Refusal, Stat, refuse_if,
+};
 use lfs_tree::Tree;
 use std::alloc::Global;
 
@@ -211,6 +213,60 @@ fn lacks_truncate_room<D: BlockDevice>(tree: &Tree<D>, size: Option<u32>) -> boo
     (tree.geometry().block_count as u64) < tree.used_count() as u64 + need
 }
 
+// Returns the refusal of an open that may make a file, where no entry is.
+fn creation_refusal<D: BlockDevice>(
+    tree: &Tree<D>,
+    files: &Files,
+    bytes: &[u8],
+    name_len: usize,
+    flags: OpenFlags,
+) -> Option<Refusal>
+    requires ready { IsReady tree.now files.now }
+    requires passes { PassesFirstChecks tree.now bytes.now (flags_view flags) }
+    requires absent { is_none (shown_tree tree.now (path_or_root bytes.now)) ≡ true }
+    requires len { length (last_name (path_or_root bytes.now)) ≡ name_len }
+    requires bound { name_len < 2 ^ 63 }
+    ensures { result ≡ refusal_by_checks (session_view tree.now files.now) (ops.Open bytes.now (flags_view flags)) }
+{
+    if !flags.contains(OpenFlags::CREATE) {
+        return refuse_if(true, Error::NoEnt);
+    }
+    let checks = [
+        refuse_if(name_is_long(tree, name_len), Error::NameTooLong),
+        refuse_if(files.prevents_writer_at(bytes), Error::Busy),
+        refuse_if(new_entry_overflows(tree, name_len), Error::EntryFull),
+        refuse_if(lacks_blocks(tree, files, 2), Error::NoSpace),
+    ];
+    find_first_refusal(&checks)
+}
+
+// Returns the refusal of an open for writing, by the entry that is there.
+fn reopening_refusal<D: BlockDevice>(
+    tree: &Tree<D>,
+    files: &Files,
+    bytes: &[u8],
+    node: Node,
+    flags: OpenFlags,
+) -> Option<Refusal>
+    requires passes { PassesFirstChecks tree.now bytes.now (flags_view flags) }
+    requires there { is_none (shown_tree tree.now (path_or_root bytes.now)) ≡ false }
+    requires directories { is_directory (shown_tree tree.now (path_or_root bytes.now)) ≡ is_directory_node node }
+    requires sizes { node_file_size (shown_tree tree.now (path_or_root bytes.now)) ≡ node_size_if_file node }
+    ensures { result ≡ refusal_by_checks (session_view tree.now files.now) (ops.Open bytes.now (flags_view flags)) }
+{
+    let truncates = flags.contains(OpenFlags::TRUNCATE);
+    let checks = [
+        refuse_if(flags.contains(OpenFlags::EXCLUSIVE), Error::Exist),
+        refuse_if(node.is_directory(), Error::IsDir),
+        refuse_if(files.prevents_writer_at(bytes), Error::Busy),
+        refuse_if(
+            are_both_true(truncates, lacks_truncate_room(tree, node.size())),
+            Error::NoSpace,
+        ),
+    ];
+    find_first_refusal(&checks)
+}
+
 /// Checks whether a file may be opened for writing, and returns where its path leads to.
 pub fn check_open_writer<'a, D: BlockDevice>(
     alloc: Global,
@@ -236,43 +292,21 @@ pub fn check_open_writer<'a, D: BlockDevice>(
         return Err(Error::Invalid);
     }
     let found = tree.look_up_creation(alloc, &path)?;
-    let is_absent = found.entry.node.is_nothing();
-    let size = found.entry.node.size();
-    let creates = flags.contains(OpenFlags::CREATE);
-    let is_exclusive = flags.contains(OpenFlags::EXCLUSIVE);
-    let truncates = flags.contains(OpenFlags::TRUNCATE);
-    let checks = [
-        found.entry.fault,
-        refuse_if(
-            are_both_true(
-                are_both_true(is_absent, creates),
-                name_is_long(tree, path.name_len()),
-            ),
-            Error::NameTooLong,
-        ),
-        refuse_if(are_both_true(is_absent, !creates), Error::NoEnt),
-        refuse_if(are_both_true(!is_absent, is_exclusive), Error::Exist),
-        refuse_if(found.entry.node.is_directory(), Error::IsDir),
-        refuse_if(files.prevents_writer_at(bytes), Error::Busy),
-        refuse_if(
-            are_both_true(is_absent, new_entry_overflows(tree, path.name_len())),
-            Error::EntryFull,
-        ),
-        refuse_if(
-            are_both_true(is_absent, lacks_blocks(tree, files, 2)),
-            Error::NoSpace,
-        ),
-        refuse_if(
-            are_both_true(truncates, lacks_truncate_room(tree, size)),
-            Error::NoSpace,
-        ),
-    ];
+    if let Some(fault) = found.entry.fault {
+        return Err(fault.error());
+    }
+    let node = found.entry.node;
+    let refusal = if node.is_nothing() {
+        creation_refusal(tree, files, bytes, path.name_len(), flags)
+    } else {
+        reopening_refusal(tree, files, bytes, node, flags)
+    };
     let file = WritableFile {
         path,
-        size,
+        size: node.size(),
         target: found.target,
     };
-    value_or_refusal(&checks, file)
+    value_or_refusal(&[refusal], file)
 }
 
 // Returns the path of these bytes, if it is well formed and isn't the root's.

@@ -1,6 +1,9 @@
 #!/usr/bin/env python3
 """Runs the gate and prints the first part of docs/TIMES.md: the processor seconds of each crate, for its code, its tests and its edits.
 
+Each figure is also printed in yardsticks, so that machines compare. One is what the code of lfs_model and lfs_device takes on the same
+machine. The page names the kit that ran.
+
 usage: bench/times.py [--anew] [LOG [CRATE..]]     at the top of the repository; what the gate prints goes to LOG (gate.log)
 
 What it prints takes the place of docs/TIMES.md up to that page's first heading of the second level.
@@ -8,8 +11,11 @@ What it prints takes the place of docs/TIMES.md up to that page's first heading 
 With names of crates the gate runs in a copy that has only these and what they stand on, which is proved too and counts.
 `taskset -c 0,1 bench/times.py ..` shows what it takes on two processors.
 
-With --anew the gate proves and tries all in this one run. Without it the figures stay in LOG.json: a part that the gate has kept from
-an earlier run takes no time, and its figure of then is printed. So a run after a change gives the table of the whole.
+With --anew the gate proves and tries all in this one run. If the kit's `rt ci` doesn't know that word, the gate runs without it. Without --anew
+the figures stay in LOG.json: a part that the gate has kept from an earlier run takes no time, and its figure of then is printed. So a
+run after a change gives the table of the whole.
+
+The exit status is that of the gate, and 1 if the gate proved nothing and no figure was kept: then no table is printed.
 
 A check of the prover is a process, with one beside it for each further job. Twice a second their time so far is read from /proc, so
 each counts half a second too little at most. An edit's check runs in a folder of its own, and a check of tests has the word --test; so
@@ -28,9 +34,10 @@ import time
 
 TICK = os.sysconf("SC_CLK_TCK")
 PERIOD = 0.5
-LEAST = 1000
+# in yardsticks
+LEAST = 5
 PARTS = ("code", "tests", "edits")
-# what these two take alone tells how fast a machine is
+# what the code of these two takes tells how fast a machine is
 YARDSTICK = ("lfs_model", "lfs_device")
 
 
@@ -70,7 +77,7 @@ def seen(process):
 
 
 def measured(log, folder, anew):
-    """The gate's last line, its wall time, the processor seconds of all its processes, and each crate's by part."""
+    """The gate's exit status and last line, its wall time, the processor seconds of all its processes, and each crate's by part."""
     spent, began, before = {}, time.monotonic(), taken_by_children()
     with open(log, "w") as out:
         gate = subprocess.Popen(["rt", "ci"] + ["--anew"] * anew, cwd=folder, stdout=out, stderr=subprocess.STDOUT, stdin=subprocess.DEVNULL)
@@ -83,7 +90,8 @@ def measured(log, folder, anew):
     for (_, crate, part), seconds in spent.items():
         totals[crate][part] += seconds
     with open(log) as it:
-        return it.read().strip().rpartition("\n")[2], time.monotonic() - began, taken_by_children() - before, totals
+        last = it.read().strip().rpartition("\n")[2]
+    return gate.returncode, last, time.monotonic() - began, taken_by_children() - before, totals
 
 
 def taken_by_children():
@@ -129,38 +137,63 @@ def edits_of(crate):
     return len([it for it in os.listdir(folder) if it.endswith(".edit")]) if os.path.isdir(folder) else 0
 
 
-def table(totals):
-    """The lines of the table, the crate that takes longest first. Those that take less than LEAST seconds are one line."""
-    yield "| Crate | Code | Tests | Wrong bodies (their number) |"
-    yield "|---|---|---|---|"
-    small = [crate for crate, spent in totals.items() if sum(spent.values()) < LEAST]
+def shown(amount, seconds, yardstick):
+    """An amount of time, and in brackets how many yardsticks its seconds are, if the yardstick was measured."""
+    return f"{amount:.0f}" + (f" ({seconds / yardstick:.1f})" if yardstick else "")
+
+
+def table(totals, yardstick):
+    """The lines of the table, the crate that takes longest first. Those that take less than LEAST yardsticks are one line."""
+    yield "| Crate | Code | Tests | Wrong bodies | Their number |"
+    yield "|---|---|---|---|---|"
+    small = [crate for crate, spent in totals.items() if sum(spent.values()) < LEAST * yardstick]
     for crate, spent in sorted(totals.items(), key=lambda it: -sum(it[1].values())):
         if crate not in small:
-            yield row(f"`{crate}`", spent, edits_of(crate))
+            yield row(f"`{crate}`", spent, edits_of(crate), yardstick)
     if small:
         spent = {part: sum(totals[crate][part] for crate in small) for part in PARTS}
-        yield row(f"{len(small)} others", spent, sum(map(edits_of, small)))
+        yield row(f"{len(small)} others", spent, sum(map(edits_of, small)), yardstick)
 
 
-def row(crates, spent, edits):
+def row(crates, spent, edits, yardstick):
     """A line of the table."""
-    return f"| {crates} | {spent['code']:.0f} | {spent['tests']:.0f} | {spent['edits']:.0f}{f' ({edits})' if edits else ''} |"
+    return f"| {crates} | {' | '.join(shown(spent[part], spent[part], yardstick) for part in PARTS)} | {edits} |"
+
+
+def page(totals, yardstick, kit):
+    """The lines of the page but the last, which is of one run."""
+    sums = {part: sum(it[part] for it in totals.values()) for part in PARTS}
+    whole, names = sum(sums.values()), " and ".join(f"`{it}`" for it in YARDSTICK)
+    all_of, code, tests, edits = (shown(it / 60, it, yardstick) for it in (whole, *sums.values()))
+    yield "# Times\n"
+    yield f"`bench/times.py` runs the gate, and prints the processor seconds of each crate's checks, from nothing. It ran `{kit}`.\n"
+    if yardstick:
+        yield f"Figures in brackets are in yardsticks, so that machines compare. One is what the code of {names} takes: {yardstick:.0f} processor seconds on this machine.\n"
+    yield from table(totals, yardstick)
+    yield f"\nIn all {all_of} processor minutes: {code} for the code, {tests} for tests, {edits} for wrong bodies."
+    if sums["code"]:
+        yield f"That is {whole / sums['code']:.2f} times as much as the code's proofs alone."
 
 
 def main():
     anew = sys.argv[1:2] == ["--anew"]
     log, *crates = sys.argv[1 + anew:] or ["gate.log"]
     with tempfile.TemporaryDirectory() as room:
-        last, wall, whole, totals = measured(log, copy_with(crates, room) if crates else ".", anew)
+        folder = copy_with(crates, room) if crates else "."
+        status, last, wall, whole, totals = measured(log, folder, anew)
+        if anew and not totals:
+            # (the kit may not know the word)
+            status, last, wall, whole, totals = measured(log, folder, False)
     totals = totals if anew else remembered(totals, f"{log}.json")
-    sums = {part: sum(it[part] for it in totals.values()) / 60 for part in PARTS}
-    print("# Times\n")
-    print("Printed by `bench/times.py`, which runs the gate: the processor seconds of each crate's checks, from nothing.\n")
-    print(*table(totals), sep="\n")
-    print(f"\nIn all {sum(sums.values()):.0f} processor minutes: {sums['code']:.0f} for the code, {sums['tests']:.0f} for tests, {sums['edits']:.0f} for wrong bodies. That is {sum(sums.values()) / sums['code']:.2f} times as much as the code's proofs alone.")
-    print(f"\nThe machine's yardstick: {' and '.join(f'`{it}`' for it in YARDSTICK)} alone take {sum(totals[it]['code'] for it in YARDSTICK):.0f} processor seconds on it.")
-    print(f"\nThe last run took {wall / 60:.0f} minutes on {len(os.sched_getaffinity(0))} processors, and all its processes {whole / 60:.0f} processor minutes. The gate's last line: `{last}`.")
+    if not totals:
+        print(f"the gate proved nothing: {last}", file=sys.stderr)
+        return status or 1
+    yardstick = sum(totals[it]["code"] for it in YARDSTICK if it in totals)
+    kit = subprocess.run(["rt", "version"], stdout=subprocess.PIPE, text=True, check=True).stdout.partition("\n")[0]
+    print(*page(totals, yardstick, kit), sep="\n")
+    print(f"\nThe last run took {shown(wall / 60, wall, yardstick)} minutes on {len(os.sched_getaffinity(0))} processors, {wall / whole:.2f} of the {shown(whole / 60, whole, yardstick)} processor minutes of all its processes. The gate's last line: `{last}`.")
+    return status
 
 
 if __name__ == "__main__":
-    main()
+    sys.exit(main())

@@ -18,7 +18,7 @@
  *
  * Link out/liblittlefs_c.a of crates/littlefs_c, and the kit's c/liblibc_c.a, by which it calls malloc, realloc and free.
  *
- * What a call answers: 0 or more, or minus one of the numbers below. After a refusal nothing has changed: no file, no position,
+ * A call returns 0 or more, or minus one of the numbers below. After a refusal nothing has changed: no file, no position,
  * no byte of the image, and no buffer. A buffer is written only where what it is to hold fits.
  *
  * What the calls rely on, and can't check:
@@ -63,7 +63,7 @@ extern "C" {
 #define LFS_C_ENTRY_FULL 201   /* a name and its attributes would take more than a half of their metadata pair */
 #define LFS_C_NOT_KEPT 202     /* the change isn't kept */
 
-/* What lfs_c_stat answers for a directory. */
+/* What lfs_c_stat returns for a directory. */
 #define LFS_C_DIRECTORY INT64_C(4294967296)
 
 /* Which comes first of a name and a longer one that begins with it. littlefs's own code has the longer ones first. */
@@ -92,7 +92,8 @@ typedef struct lfs_c_config {
     uint32_t file_max;   /* bytes of a file, 1 to 2,147,483,647 */
     uint32_t attr_max;   /* bytes of an attribute, 1 to 1,022 */
     uint32_t inline_max; /* bytes of a file that is kept beside its name, 1 to 1,022; never more than an eighth of a block */
-    uint32_t pair_cycles; /* after how many compactions a metadata pair moves to other blocks; 0: never. With it pairs that wear move, but not blocks 0 and 1, nor the first pair of a directory below the root */
+    uint32_t pair_cycles; /* compactions until a metadata pair moves to other blocks; 0: never. Blocks 0 and 1 and the first pair
+                             of a directory below the root never move */
 } lfs_c_config;
 
 /* The on-disk versions that are accepted. littlefs writes 2.1 since its release 2.6. New images are of version 2.0. */
@@ -102,7 +103,7 @@ typedef struct lfs_c_config {
 #define LFS_C_CONFIG(block_size, page) \
     { (block_size), (page), LFS_C_LONGER_FIRST, LFS_C_ONLY_2_0, 255, 2147483647, 1022, 1022, 0 }
 
-/* Begins a session over a copy of an image, and answers 0. Where both orders of names fit, the longer names come first.
+/* Begins a session over a copy of an image and returns 0. Where both orders of names fit, the longer names come first.
  * Refused: BUSY where there is a session; INVALID for a number out of range, or bytes that are no image of that geometry;
  * CORRUPT; NO_MEMORY. */
 int64_t lfs_c_mount(lfs_c_session *session, const lfs_c_config *config, const uint8_t *image, size_t image_len);
@@ -111,67 +112,67 @@ int64_t lfs_c_mount(lfs_c_session *session, const lfs_c_config *config, const ui
  * with lower limits may be changed, and stays within them. Refused as lfs_c_mount. */
 int64_t lfs_c_mount_with_limits(lfs_c_session *session, const lfs_c_config *config, const uint8_t *image, size_t image_len);
 
-/* Makes an empty file system of so many blocks, begins a session over it, and answers 0. All bytes but those of the first two
+/* Makes an empty file system of so many blocks, begins a session over it and returns 0. All bytes but those of the first two
  * blocks are 255. Refused: BUSY where there is a session; INVALID for a number out of range; NO_MEMORY. */
 int64_t lfs_c_mkfs(lfs_c_session *session, const lfs_c_config *config, uint32_t block_count);
 
-/* Ends a session, frees its memory, and answers 0, also where there is none. What an open file hasn't synced is lost. */
+/* Ends a session and frees its memory. Returns 0, even if there is none. What an open file hasn't synced is lost. */
 int64_t lfs_c_unmount(lfs_c_session *session);
 
-/* Each call below is refused by NO_SESSION where there is none. Where memory isn't granted it answers NO_MEMORY, and the session
- * has failed: it answers FAILED to all but lfs_c_remount, lfs_c_image, lfs_c_image_part, lfs_c_note_changes, lfs_c_fetch_change and
+/* Each call below returns NO_SESSION if there is none. If memory isn't granted it returns NO_MEMORY, and the session
+ * has failed: it returns FAILED to all but lfs_c_remount, lfs_c_image, lfs_c_image_part, lfs_c_note_changes, lfs_c_fetch_change and
  * lfs_c_unmount. */
 
-/* Closes all files, reads the image anew, and answers 0. What an open file hasn't synced is lost. */
+/* Closes all files, reads the image again and returns 0. What an open file hasn't synced is lost. */
 int64_t lfs_c_remount(lfs_c_session *session);
 
-/* Ends what a loss of power left in the image, and answers 0. Each call that changes the image does so first.
+/* Ends what a loss of power left in the image and returns 0. Each call that changes the image does so first.
  * Refused: READ_ONLY. */
 int64_t lfs_c_recover(lfs_c_session *session);
 
-/* Answers how many blocks the image uses. */
+/* Returns how many blocks the image uses. */
 int64_t lfs_c_used_blocks(lfs_c_session *session);
 
-/* Answers how many bytes the image has, and writes them to the buffer if they fit. */
+/* Returns how many bytes the image has, and writes them to the buffer if they fit. */
 int64_t lfs_c_image(lfs_c_session *session, uint8_t *buffer, size_t buffer_len);
 
-/* Writes the bytes of the image from an offset on to the buffer, as many as it has room for, and answers how many they are. */
+/* Writes the bytes of the image from an offset on to the buffer, as many as it has room for, and returns how many they are. */
 int64_t lfs_c_image_part(lfs_c_session *session, size_t offset, uint8_t *buffer, size_t buffer_len);
 
 /* ---- what is at a path of a session */
 
-/* Answers a file's size in bytes, at most 2,147,483,647, or LFS_C_DIRECTORY. A file that is being written has the size that it had
+/* Returns a file's size in bytes, at most 2,147,483,647, or LFS_C_DIRECTORY. A file that is being written has the size that it had
  * at its last sync. Refused: INVALID for a path that isn't well formed; NO_ENT, NOT_DIR. */
 int64_t lfs_c_stat_at(lfs_c_session *session, const uint8_t *path, size_t path_len);
 
-/* Answers the room that a directory's lines want, and writes them to the buffer if they fit. The lines are as those of lfs_c_list.
+/* Returns the size of a directory's lines, and writes them to the buffer if they fit. The lines are as those of lfs_c_list.
  * Refused: INVALID for a path that isn't well formed; NO_ENT, NOT_DIR. */
 int64_t lfs_c_list_at(lfs_c_session *session, const uint8_t *path, size_t path_len, uint8_t *buffer, size_t buffer_len);
 
-/* Makes an empty directory, and answers 0.
+/* Makes an empty directory and returns 0.
  * Refused: READ_ONLY, INVALID, NO_ENT, NOT_DIR, NAME_TOO_LONG, EXIST, ENTRY_FULL, NO_SPACE. */
 int64_t lfs_c_mkdir_at(lfs_c_session *session, const uint8_t *path, size_t path_len);
 
-/* Takes a file, or a directory without entries, and answers 0.
+/* Removes a file or an empty directory and returns 0.
  * Refused: READ_ONLY, INVALID (also for the root), NO_ENT, NOT_DIR, NOT_EMPTY, BUSY for an open file. */
 int64_t lfs_c_remove_at(lfs_c_session *session, const uint8_t *path, size_t path_len);
 
-/* Gives an entry another path, in place of a file or an empty directory there, and answers 0. What is beneath it goes with it.
+/* Renames or moves an entry, with all beneath it; replaces a file or an empty directory at the new path. Returns 0.
  * Refused: READ_ONLY, INVALID (also for the root, or a new path beneath the old one), NO_ENT, NOT_DIR, NAME_TOO_LONG,
  * IS_DIR, NOT_EMPTY, BUSY for an open file, ENTRY_FULL, NO_SPACE. */
 int64_t lfs_c_rename_at(lfs_c_session *session, const uint8_t *from, size_t from_len, const uint8_t *to, size_t to_len);
 
-/* Answers the room that the bytes of an entry's attribute want, and writes them to the buffer if they fit.
+/* Returns the size of an entry's attribute, and writes its bytes to the buffer if they fit.
  * Refused: INVALID (also for the root), NO_ENT, NOT_DIR, NO_ATTR. */
 int64_t lfs_c_get_attr_at(lfs_c_session *session, const uint8_t *path, size_t path_len, uint8_t kind,
                           uint8_t *buffer, size_t buffer_len);
 
-/* Gives an entry an attribute of at most attr_max bytes, in place of the one of that type, and answers 0.
+/* Sets an attribute of an entry, at most attr_max bytes, in place of the one of that type. Returns 0.
  * Refused: READ_ONLY, INVALID (also for the root), NO_ENT, NOT_DIR, TOO_BIG, ENTRY_FULL, NO_SPACE. */
 int64_t lfs_c_set_attr_at(lfs_c_session *session, const uint8_t *path, size_t path_len, uint8_t kind,
                           const uint8_t *bytes, size_t bytes_len);
 
-/* Takes an attribute from an entry, and answers 0.
+/* Removes an attribute from an entry. Returns 0.
  * Refused: READ_ONLY, INVALID (also for the root), NO_ENT, NOT_DIR, NO_ATTR. */
 int64_t lfs_c_remove_attr_at(lfs_c_session *session, const uint8_t *path, size_t path_len, uint8_t kind);
 
@@ -184,36 +185,36 @@ int64_t lfs_c_remove_attr_at(lfs_c_session *session, const uint8_t *path, size_t
 #define LFS_C_TRUNCATE 0x400  /* the file is empty at first */
 #define LFS_C_APPEND 0x800    /* each write is at the end */
 
-/* Opens a file, and answers its number: the least that isn't open. Flags are READ alone, or WRITE with any of the others.
+/* Opens a file, and returns its number: the least that isn't open. Flags are READ alone, or WRITE with any of the others.
  * Refused: INVALID, NO_ENT, NOT_DIR, IS_DIR; BUSY for reading where the file is open for writing or 16 files are open for
  * reading; BUSY for writing where a file is open for writing or this one is open; and for writing as lfs_c_write. */
 int64_t lfs_c_open(lfs_c_session *session, const uint8_t *path, size_t path_len, uint32_t flags);
 
-/* Reads a file from its position on, and answers how many bytes it wrote to the buffer: as many as it has room for, and fewer
+/* Reads a file from its position on, and returns how many bytes it wrote to the buffer: as many as it has room for, and fewer
  * where the file ends. The position is after them then. Refused: BAD_FILE. */
 int64_t lfs_c_file_read(lfs_c_session *session, uint32_t file, uint8_t *buffer, size_t buffer_len);
 
-/* Writes bytes at the position of a file, or at its end with APPEND, and answers how many they are. Zeros fill a gap before them.
+/* Writes bytes at the position of a file, or at its end with APPEND, and returns how many they are. Zeros fill a gap before them.
  * The position is after them then. They are in the tree after a sync or a close. Refused: BAD_FILE, TOO_BIG, NO_SPACE. */
 int64_t lfs_c_file_write(lfs_c_session *session, uint32_t file, const uint8_t *bytes, size_t bytes_len);
 
-/* Sets the position of a file, and answers 0. It may be after the end. Refused: BAD_FILE; INVALID above file_max. */
+/* Sets the position of a file and returns 0. It may be after the end. Refused: BAD_FILE; INVALID above file_max. */
 int64_t lfs_c_file_seek(lfs_c_session *session, uint32_t file, uint32_t position);
 
-/* Answers the position of a file. Refused: BAD_FILE. */
+/* Returns the position of a file. Refused: BAD_FILE. */
 int64_t lfs_c_file_tell(lfs_c_session *session, uint32_t file);
 
-/* Answers the size of a file in bytes; of a file that is being written, with what isn't synced. Refused: BAD_FILE. */
+/* Returns the size of a file in bytes; of a file that is being written, with what isn't synced. Refused: BAD_FILE. */
 int64_t lfs_c_file_size(lfs_c_session *session, uint32_t file);
 
-/* Gives a file so many bytes, and answers 0: it is cut, or zeros fill it up. The position stays.
+/* Sets the size of a file: truncates it, or extends it with zeros. The position stays. Returns 0.
  * Refused: BAD_FILE, TOO_BIG, NO_SPACE. */
 int64_t lfs_c_file_truncate(lfs_c_session *session, uint32_t file, uint32_t size);
 
-/* Commits what was written to a file, and answers 0. Refused: BAD_FILE. */
+/* Commits what was written to a file and returns 0. Refused: BAD_FILE. */
 int64_t lfs_c_file_sync(lfs_c_session *session, uint32_t file);
 
-/* Commits what was written to a file, closes it, and answers 0. Its number is free then. Refused: BAD_FILE. */
+/* Commits what was written to a file, closes it and returns 0. Its number is free then. Refused: BAD_FILE. */
 int64_t lfs_c_file_close(lfs_c_session *session, uint32_t file);
 
 /* ---- a flash of C's own. A session changes its image by programs and erases, as on flash. C fetches them and makes them on its flash:
@@ -230,8 +231,11 @@ int64_t lfs_c_file_close(lfs_c_session *session, uint32_t file);
  *
  * The changes are fetched complete and in order, each by its number. So the flash has at each moment what the image had after some
  * of its changes, with the next one done in part. Where power is lost then, the flash has the tree from before the call or the one
- * from after it. C owes three things: it makes the changes in order and each one whole, it makes those of a call before it relies
- * on that call, and an erase of its flash leaves bytes of 255. docs/C_PYTHON.md has more. */
+ * from after it. C must keep four rules, as docs/C_PYTHON.md has them:
+ *   - at lfs_c_note_changes the flash has the image's bytes: those that were mounted, or the whole image after lfs_c_mkfs;
+ *   - C makes the changes in order, each one whole, also those of a refused or failed call, before it relies on that call;
+ *   - an erase leaves bytes of 255, and a stopped program or erase what docs/PROVED.md, "Power loss", supposes of any device;
+ *   - after a failed program or erase of the flash C ends the session, and mounts what the flash has. */
 
 #define LFS_C_PROGRAM 1
 #define LFS_C_ERASE 2
@@ -244,82 +248,82 @@ typedef struct lfs_c_change {
     size_t len;
 } lfs_c_change;
 
-/* Keeps the changes of the image from now on, where none are kept yet, and answers the number of the next one. Changes are numbered
+/* Keeps the changes of the image from now on, where none are kept yet, and returns the number of the next one. Changes are numbered
  * from 0 on since the session began. They take memory until they are fetched. Refused: NOT_KEPT after 2 to the 62nd changes. */
 int64_t lfs_c_note_changes(lfs_c_session *session);
 
-/* Answers 1, shows the change of that number, and writes the bytes of a program to the buffer if they fit; or answers 0 where there
- * is no change of that number yet. The changes before it may be let go.
- * Refused: NOT_KEPT where none were kept then, a later one was fetched, or memory wasn't granted for it or a later one. The flash
- * then wants the whole image, and lfs_c_note_changes says how to go on. */
+/* Returns 1, shows the change of that number, and writes the bytes of a program to the buffer if they fit; or returns 0 if there
+ * is no change of that number yet. The changes before it may be discarded.
+ * Refused: NOT_KEPT where none were kept then, a later one was fetched, or memory wasn't granted for it or a later one. Write the
+ * whole image to the flash then; lfs_c_note_changes returns the number to go on with. */
 int64_t lfs_c_fetch_change(lfs_c_session *session, uint64_t number, lfs_c_change *change, uint8_t *buffer, size_t buffer_len);
 
-/* ---- one call on an image. Version 2.0 alone is accepted, with the limits of LFS_C_CONFIG. An image is changed only where the
- * answer isn't negative. BAD_FILE, BUSY, NO_SESSION and FAILED never come */
+/* ---- one call on an image. Version 2.0 alone is accepted, with the limits of LFS_C_CONFIG. An image is changed only if the
+ * result isn't negative. BAD_FILE, BUSY, NO_SESSION and FAILED never come */
 
-/* Makes an image an empty file system, and answers 0. All blocks but the first two stay as they are.
+/* Formats an image in place and returns 0. All blocks but the first two stay as they are.
  * Refused: INVALID, NO_MEMORY. */
 int64_t lfs_c_format(uint8_t *image, size_t image_len, uint32_t block_size, uint32_t page, uint32_t order);
 
-/* Answers 0 where the bytes hold an image that is accepted. Each call below but for lfs_c_format begins with this check.
+/* Returns 0 if the bytes hold an image that is accepted. Each call below but for lfs_c_format begins with this check.
  * Refused: INVALID, CORRUPT, NO_MEMORY; so is each call below, beside what it names itself. */
 int64_t lfs_c_check(const uint8_t *image, size_t image_len, uint32_t block_size, uint32_t page);
 
-/* Answers the room that a directory's lines want, and writes them to the buffer if they fit: a line for each entry, in name
+/* Returns the size of a directory's lines, and writes them to the buffer if they fit: a line for each entry, in name
  * order, the shorter names first. It is `f SIZE NAME` for a file and `d 0 NAME` for a directory, with a newline at its end. The
  * bytes of a name from the space to `~` stand for themselves; the backslash and all others are `\xNN`, in lower case.
  * Refused: INVALID for a path that isn't well formed; NO_ENT, NOT_DIR. */
 int64_t lfs_c_list(const uint8_t *image, size_t image_len, uint32_t block_size, uint32_t page,
                    const uint8_t *path, size_t path_len, uint8_t *buffer, size_t buffer_len);
 
-/* Answers a file's size in bytes, at most 2,147,483,647, or LFS_C_DIRECTORY.
+/* Returns a file's size in bytes, at most 2,147,483,647, or LFS_C_DIRECTORY.
  * Refused: INVALID for a path that isn't well formed; NO_ENT, NOT_DIR. */
 int64_t lfs_c_stat(const uint8_t *image, size_t image_len, uint32_t block_size, uint32_t page,
                    const uint8_t *path, size_t path_len);
 
-/* Reads a file from a position on, and answers how many bytes it wrote to the buffer: as many as it has room for, and fewer
+/* Reads a file from a position on, and returns how many bytes it wrote to the buffer: as many as it has room for, and fewer
  * where the file ends. A position behind the end gives 0.
  * Refused: INVALID for a path that isn't well formed, or a position above 2,147,483,647; NO_ENT, NOT_DIR, IS_DIR. */
 int64_t lfs_c_read(const uint8_t *image, size_t image_len, uint32_t block_size, uint32_t page,
                    const uint8_t *path, size_t path_len, uint32_t position, uint8_t *buffer, size_t buffer_len);
 
-/* Makes a file with these bytes, or gives the one at the path these bytes in place of its own, and answers 0. Its attributes stay.
+/* Writes a whole file: makes it, or replaces the bytes of the one at the path, whose attributes stay. Returns 0.
  * Refused: READ_ONLY, INVALID, NO_ENT, NOT_DIR, NAME_TOO_LONG, IS_DIR, ENTRY_FULL, NO_SPACE, TOO_BIG. */
 int64_t lfs_c_write(uint8_t *image, size_t image_len, uint32_t block_size, uint32_t page,
                     const uint8_t *path, size_t path_len, const uint8_t *bytes, size_t bytes_len);
 
-/* Makes an empty directory, and answers 0.
+/* Makes an empty directory and returns 0.
  * Refused: READ_ONLY, INVALID, NO_ENT, NOT_DIR, NAME_TOO_LONG, EXIST, ENTRY_FULL, NO_SPACE. */
 int64_t lfs_c_mkdir(uint8_t *image, size_t image_len, uint32_t block_size, uint32_t page,
                     const uint8_t *path, size_t path_len);
 
-/* Takes a file, or a directory without entries, and answers 0.
+/* Removes a file or an empty directory and returns 0.
  * Refused: READ_ONLY, INVALID (also for the root), NO_ENT, NOT_DIR, NOT_EMPTY. */
 int64_t lfs_c_remove(uint8_t *image, size_t image_len, uint32_t block_size, uint32_t page,
                      const uint8_t *path, size_t path_len);
 
-/* Gives an entry another path, in place of a file or an empty directory there, and answers 0. What is beneath it goes with it.
+/* Renames or moves an entry, with all beneath it; replaces a file or an empty directory at the new path. Returns 0.
  * Refused: READ_ONLY, INVALID (also for the root, or a new path beneath the old one), NO_ENT, NOT_DIR, NAME_TOO_LONG,
  * IS_DIR, NOT_EMPTY, ENTRY_FULL, NO_SPACE. */
 int64_t lfs_c_rename(uint8_t *image, size_t image_len, uint32_t block_size, uint32_t page,
                      const uint8_t *from, size_t from_len, const uint8_t *to, size_t to_len);
 
-/* Answers the room that the bytes of an entry's attribute want, and writes them to the buffer if they fit.
+/* Returns the size of an entry's attribute, and writes its bytes to the buffer if they fit.
  * Refused: INVALID (also for the root), NO_ENT, NOT_DIR, NO_ATTR. */
 int64_t lfs_c_get_attr(const uint8_t *image, size_t image_len, uint32_t block_size, uint32_t page,
                        const uint8_t *path, size_t path_len, uint8_t kind, uint8_t *buffer, size_t buffer_len);
 
-/* Gives an entry an attribute of at most 1,022 bytes, in place of the one of that type, and answers 0.
+/* Sets an attribute of an entry, at most 1,022 bytes, in place of the one of that type. Returns 0.
  * Refused: READ_ONLY, INVALID (also for the root), NO_ENT, NOT_DIR, TOO_BIG, ENTRY_FULL, NO_SPACE. */
 int64_t lfs_c_set_attr(uint8_t *image, size_t image_len, uint32_t block_size, uint32_t page,
                        const uint8_t *path, size_t path_len, uint8_t kind, const uint8_t *bytes, size_t bytes_len);
 
-/* Takes an attribute from an entry, and answers 0.
+/* Removes an attribute from an entry. Returns 0.
  * Refused: READ_ONLY, INVALID (also for the root), NO_ENT, NOT_DIR, NO_ATTR. */
 int64_t lfs_c_remove_attr(uint8_t *image, size_t image_len, uint32_t block_size, uint32_t page,
                           const uint8_t *path, size_t path_len, uint8_t kind);
 
-/* Answers how many blocks the image uses. */
+/* Returns how many blocks the image uses. */
 int64_t lfs_c_used(const uint8_t *image, size_t image_len, uint32_t block_size, uint32_t page);
 
 #ifdef __cplusplus

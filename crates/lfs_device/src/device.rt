@@ -68,10 +68,10 @@ pub trait BlockDevice {
         ensures history { history self.new ≡ call_event (Erase block) (blocks self.old) (blocks self.new) (is_err result) ∷ history self.old }
         ensures error { IfErr result (λ e. e ≡ Error.Io) };
 
-    /// Tells whether `len` bytes of a block from the offset `off` on are unprogrammed since the last
-    /// erase of the block, as far as the device knows. A driver answers yes only where it is sure:
-    /// the bytes read as erased ones, and no program of them was cut short. By default a device
-    /// answers no, without a call.
+    /// Returns whether the device knows that the `len` bytes at `off` have not been programmed since
+    /// the block was last erased. A driver returns true only if it is sure: the bytes read as erased,
+    /// and no program of them was cut short. The default implementation returns false, without a
+    /// call.
     ///
     /// Errors: `Io` where the device failed.
     fn is_unprogrammed(&mut self, block: u32, off: u32, len: u32) -> Result<bool, Error>

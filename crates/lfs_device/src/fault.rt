@@ -26,7 +26,7 @@ pub enum CountedCalls {
 pub enum FaultExtent {
     /// Nothing: the bytes stay as they were.
     Nothing,
-    /// Of a program the first `k` bytes, and all where it has fewer. Of another call nothing.
+    /// A program stores its first `k` bytes, or all if it has fewer; any other call does nothing.
     FirstBytes(u32),
     /// All of the call.
     Whole,

@@ -26,7 +26,7 @@ use lfs_tree::Tree;
 use std::alloc::Global;
 use std::marker::Model;
 
-/// An open file's number. An operation may name one that no open has answered.
+/// The number of an open file. An operation may carry a number that no `open` returned.
 pub type Fd = u32;
 
 /// A file that is open for reading.

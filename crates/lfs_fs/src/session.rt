@@ -129,8 +129,7 @@ impl<D: BlockDevice> Session<D> {
         check_get_attr(alloc, &mut self.tree, &self.files, path, kind)
     }
 
-    /// Returns the global state. The call makes no call of the device, and is never refused but in
-    /// a failed session.
+    /// Returns the global state. Does not access the device; refused only in a failed session.
     pub fn gstate(&self) -> Result<Gstate, Error>
         ensures { IsCall self.now ops.AskGstate (reply_from returned_gstate_reply result) self.now }
     {
@@ -140,7 +139,7 @@ impl<D: BlockDevice> Session<D> {
         Ok(gstate_from_move(&self.tree.gstate()))
     }
 
-    /// Returns whether the image uses a block. The call makes no call of the device.
+    /// Returns whether the image uses a block. Does not access the device.
     ///
     /// # Errors
     ///
@@ -157,8 +156,8 @@ impl<D: BlockDevice> Session<D> {
         Ok(self.tree.is_used(block))
     }
 
-    /// Returns how many blocks the image uses. The call makes no call of the device, and is never
-    /// refused but in a failed session.
+    /// Returns how many blocks the image uses. Does not access the device; refused only in a failed
+    /// session.
     pub fn used_count(&self) -> Result<u32, Error>
         ensures { IsCall self.now ops.UsedCount (reply_from ops.Count result) self.now }
     {
@@ -205,9 +204,9 @@ impl<D: BlockDevice> Session<D> {
         answer
     }
 
-    /// Gives an entry another path. A file or a directory without entries at that path is replaced.
-    /// The entries beneath a directory move with it. A recovery comes first. Nothing is done where
-    /// both paths are the same.
+    /// Renames or moves an entry. Replaces a file or an empty directory at the new path. The entries
+    /// beneath a directory move with it. A recovery comes first. Does nothing if both paths are the
+    /// same.
     ///
     /// # Errors
     ///
@@ -390,8 +389,8 @@ impl<D: BlockDevice> Session<D> {
         Ok(bytes.len() as u32)
     }
 
-    /// Gives a file that is open for writing that many bytes: the file is cut, or zeros fill it up.
-    /// The position stays.
+    /// Sets the size of a file open for writing: truncates it, or extends it with zeros. The position
+    /// stays.
     ///
     /// # Errors
     ///
@@ -519,8 +518,8 @@ impl<D: BlockDevice> Session<D> {
         }
     }
 
-    /// Returns the size of an open file in bytes. Of a file that is open for writing it is the size
-    /// with what isn't synced. The call makes no call of the device.
+    /// Returns the size of an open file in bytes. The size of a file open for writing includes what
+    /// isn't synced. Does not access the device.
     ///
     /// # Errors
     ///

@@ -36,15 +36,15 @@ use lfs_tag::MoveState;
 use lfs_thread::{MountError, Thread};
 use std::alloc::Global;
 
-/// Reads the image of a device, and keeps its thread where the image is accepted: what littlefs
-/// allows (SPEC.md of littlefs), with every file's list well formed, no block owned twice, and each
-/// directory reached once, or not at all where the sync bit is set. Its version is one of those of
-/// the device's profile. Only reads are made. The map's used blocks are then those of the image's
-/// pairs and files, and none is in flight.
+/// Mounts a device if its image is accepted: it follows littlefs's SPEC.md, every file's block list
+/// is well formed, no block has two owners, and every directory is reached exactly once (or not at
+/// all, if the sync bit is set). Its version is one that the device's profile accepts. Only reads
+/// the device. The returned thread's block map marks the blocks of the image's pairs and files as
+/// used, and none as in flight.
 ///
-/// The mount finds the order in which the directories have their names. In littlefs's own code the
-/// longer name comes first where one is the beginning of the other (`lfs_dir_find_match`). Where
-/// both orders fit, the call takes that one.
+/// Finds the order of the names in the directories. In littlefs's own code the longer name comes
+/// first if the other one is a prefix of it (`lfs_dir_find_match`). If both orders fit, the thread
+/// has that one.
 ///
 /// Errors: `Corrupt` exactly where the image is accepted in neither order, with a rule that it
 /// breaks. The rules of names are then those of the order of littlefs's own code. `Io` where a read

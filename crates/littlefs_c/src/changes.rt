@@ -143,9 +143,9 @@ pub extern "C" fn lfs_c_note_changes(alloc: Global, session: &mut Handle) -> i64
 ///
 /// # Errors
 ///
-/// 77 where there is no session. 202 where the change isn't kept: none were kept then, a later one
-/// was wanted, or memory wasn't granted for it or for a later one. What was given is as it was
-/// then.
+/// 77 if there is no session. 202 if the change isn't kept: none were kept then, a later one was
+/// wanted, or memory wasn't granted for it or for a later one. The arguments are then left
+/// untouched.
 #[unsafe(no_mangle)]
 pub extern "C" fn lfs_c_fetch_change(
     alloc: Global,

@@ -135,8 +135,8 @@ pub extern "C" fn lfs_c_file_size(alloc: Global, session: &mut Handle, file: u32
     count_code(answer)
 }
 
-/// Gives a file that is open for writing that many bytes: it is cut, or zeros fill it up. The
-/// position stays. Returns 0.
+/// Sets the size of a file open for writing: truncates it, or extends it with zeros. The position
+/// stays. Returns 0.
 ///
 /// # Errors
 ///

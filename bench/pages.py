@@ -1,10 +1,10 @@
 #!/usr/bin/env python3
 """Names in the pages that aren't there: files, crates, functions, definitions and options between backticks.
 
-usage: pages.py [PAGE..]
+usage: pages.py [--run [--program PROGRAM] [--proofs]] [PAGE..]
 
-Without PAGE it takes README.md, CONTRIBUTING.md, what is in docs, bench/README.md, bindings/README.md, and the pages of the crates. What
-names the past, CHANGELOG.md, is passed over, and so is what names other tools. It looks at what stands between backticks:
+Without PAGE it takes the pages at the top, those in docs and .github, bench/README.md, bindings/README.md, and the pages of the crates.
+What names the past, CHANGELOG.md, is passed over, and so is what names other tools. It looks at what stands between backticks:
 
 - a path is one of the repository's: from the top, from `crates`, or from a crate. Its ending may be left out;
 - of a wrong body `CRATE/NAME` is its file;
@@ -22,19 +22,26 @@ The README.md of a crate names each module of its `src`, and says what is proved
 
 A clause that a CALLING.md quotes stands in the crate's `src`, whatever spaces and line ends it has there.
 
-Beside backticks it looks at links, `[..](docs/FORMAT.md#tags)`, and at names of pages, as docs/FORMAT.md.
+Beside backticks it looks at links, `[..](docs/FORMAT.md#tags)`, and at names of pages, as docs/FORMAT.md. It counts the wrong bodies of
+the gate where a page says "The gate tries the 40" or "at most 40", and the lines of code where README.md says "some 44,600 lines".
+
+With --run it also runs the commands that README.md and docs/TOOL.md print, and compares the options of the help with those of
+docs/TOOL.md (page_commands.py): some minutes, by `rt try`. PROGRAM is a built mklittlefs. With --proofs the commands that prove are run too.
 
 Prints a line for each that isn't there, and fails then.
 """
 
+import argparse
 import glob
 import os
 import re
 import subprocess
 import sys
 
+import page_commands
+
 TOP = os.path.dirname(os.path.dirname(os.path.abspath(__file__)))
-PAGES = ["README.md", "CONTRIBUTING.md", "docs/*.md", "bench/README.md", "bindings/README.md", "crates/*/*.md"]
+PAGES = ["README.md", "CONTRIBUTING.md", "SECURITY.md", "THIRD_PARTY.md", ".github/*.md", "docs/*.md", "bench/README.md", "bindings/README.md", "crates/*/*.md"]
 ENDINGS = ["", ".rt", ".antt", ".py", ".c", ".h", ".md", ".edit"]
 WORD = r"[A-Za-z_][A-Za-z0-9_]*(?:[-'][A-Za-z0-9_]+)*"
 LONG_OPTION, SHORT_OPTION = r"(?<![\w-])--[a-z][a-z0-9.-]*", r"(?<![\w-])-[a-z](?![\w-])"
@@ -50,7 +57,7 @@ rt antt KIT RT_* rattle-kit-* search grind omega simp subst cc rw refl ap elim a
 Vec Option Result Ok Err None Some String Box RefCell Cell Send Sync Drop Copy Model Iterator Read Write Error Debug u8 u16 u32 u64 usize bool
 std core alloc libc byteorder arrayvec lru bitflags clap itoa thiserror anyhow std_alloc std_heap
 objdump perf cat cksum cp mkfs genext2fs zlib echo sync gzip exec
-allow_other
+allow_other LICENSE-MIT LICENSE-APACHE strsim
 extern unsafe safe ensures requires ghost impl fn let match mod use
 """.split())
 COMMANDS_FROM_OUTSIDE = ("rt ", "gcc", "cp ", "fs.", "pio ", "sync ", "cat ", "grep ")
@@ -319,17 +326,45 @@ def missing_of_crate(repository, page):
             yield f'{page}: no heading "{heading}"'
 
 
+def wrong_counts(repository, page):
+    """Counts that a page states and that aren't so: of the gate's wrong bodies, and in README.md of lines, to a hundred."""
+    text, edits = text_of(page), sum(bool(re.fullmatch(r"crates/\w+/must-fail/\w+\.edit", path)) for path in repository.files)
+    for limit, count in re.findall(r"The gate tries (at most|the) (\d+)", text):
+        if int(count) < edits or limit == "the" and int(count) != edits:
+            yield f"{page}: the gate tries {edits} wrong bodies, not {limit} {count}"
+    if page != "README.md":
+        return
+    forms = {
+        r"some ([\d,]+) lines of code": r"crates/\w+/src/.*\.rt",
+        r"([\d,]+) of definitions of littlefs": DEFINITIONS + r".*\.antt",
+        r"([\d,]+) of other definitions": r"crates/(?!lfs_model/)\w+/specs/.*\.antt",
+        r"([\d,]+) of proofs": r"crates/\w+/proofs/.*\.antt",
+    }
+    for form, paths in forms.items():
+        lines = sum(text_of(path).count("\n") for path in repository.files if re.fullmatch(paths, path))
+        told = re.search(form, text)
+        if told is None or abs(int(told[1].replace(",", "")) - lines) > 50:
+            yield f"{page}: {lines:,} lines, and not {told[0] if told else form}"
+
+
 def count_of_words(pages):
     """As `wc -w README.md docs/*.md` counts them, of these pages."""
     return sum(len(text_of(page).split()) for page in pages if page == "README.md" or page.startswith("docs/"))
 
 
 def main():
+    parser = argparse.ArgumentParser(usage=__doc__.splitlines()[2].removeprefix("usage: "))
+    parser.add_argument("pages", nargs="*")
+    parser.add_argument("--run", action="store_true")
+    parser.add_argument("--program")
+    parser.add_argument("--proofs", action="store_true")
+    options = parser.parse_args()
     repository = Repository()
-    pages = sys.argv[1:] or sorted(os.path.relpath(path, TOP) for form in PAGES for path in glob.glob(f"{TOP}/{form}"))
+    pages = options.pages or sorted(os.path.relpath(path, TOP) for form in PAGES for path in glob.glob(f"{TOP}/{form}"))
     missing = [f"{page}:{number}: {what}" for page in pages for number, *line in lines_of(page)
                for what in dict.fromkeys(missing_of_line(repository, page, *line))]
-    missing += [what for page in pages for find in (missing_in_code, missing_of_crate, missing_quotes) for what in find(repository, page)]
+    missing += [what for page in pages for find in (missing_in_code, missing_of_crate, missing_quotes, wrong_counts) for what in find(repository, page)]
+    missing += page_commands.missing_runs(TOP, options.program, options.proofs) if options.run else []
     print("\n".join(missing) or f"{len(pages)} pages, {count_of_words(pages)} words in README.md and docs, nothing is missing")
     return bool(missing)
 

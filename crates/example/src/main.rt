@@ -1,6 +1,6 @@
 // SPDX-License-Identifier: BSD-3-Clause
-//! File systems in memory. First a directory is made, a file is written, the device is mounted again, and the file is read. Then
-//! come a device of one's own, a loss of power and its recovery, and a list of operations.
+//! File systems in memory. First it makes a directory, writes a file, mounts the device again, and reads the file. Then come a
+//! device of your own, a power loss and its recovery, and a list of operations.
 #![tactic(auto)]
 
 mod operations;
@@ -12,13 +12,13 @@ use lfs_fs::{OpenFlags, Session, format};
 use std::alloc::Global;
 use std::{io, str};
 
-// A session over a device of 16 blocks of 4,096 bytes in pages of 256, made an empty file system.
+// Formats a device of 8 blocks of 1,024 bytes in pages of 128: so small that the interpreter of `rt try` ends soon.
 fn new_session(alloc: Global) -> Result<Session<RamDevice>, Error> {
-    let device = RamDevice::blank(alloc, Geometry::new(4096, 256, 16)?)?;
+    let device = RamDevice::blank(alloc, Geometry::new(1024, 128, 8)?)?;
     format(alloc, device).map_err(|(_, error)| error)
 }
 
-// What is read of a file that was written before the device was mounted again.
+// Writes a file, mounts the device again, and returns what it reads of the file.
 fn write_and_read(alloc: Global) -> Result<Vec<u8>, Error> {
     let mut session = new_session(alloc)?;
     session.mkdir(alloc, b"/log")?;

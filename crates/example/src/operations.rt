@@ -1,13 +1,13 @@
-// A list of operations, which a session carries out in turn.
+// A list of operations, which a session performs in turn.
 
 use lfs_device::{Error, Geometry, RamDevice};
 use lfs_fs::{Op, OpenFlags, Reply, format};
 use std::alloc::Global;
 use std::io;
 
-// The replies to operations on a new file system, a refusal among them.
+// Performs operations on a new file system, and returns their replies, a refusal among them.
 fn replies_to_example_operations(alloc: Global) -> Result<Vec<Reply>, Error> {
-    let device = RamDevice::blank(alloc, Geometry::new(4096, 256, 16)?)?;
+    let device = RamDevice::blank(alloc, Geometry::new(1024, 128, 8)?)?;
     let mut session = format(alloc, device).map_err(|(_, error)| error)?;
     let operations = [
         Op::Mkdir(b"/log"),
@@ -31,7 +31,7 @@ fn show_reply(rt: &HostRuntime, reply: &Reply) -> io::Result<()> {
     }
 }
 
-/// Shows each reply in a line.
+/// Prints a line for each reply.
 pub fn print_example_replies(rt: &HostRuntime) -> io::Result<()> {
     match replies_to_example_operations(rt.alloc()) {
         Ok(replies) => {

@@ -1,4 +1,4 @@
-// A device of one's own, from nothing: a chip in memory, whose erases fill a block with 0xff.
+// A device of your own, from nothing: a chip in memory, whose erases fill a block with 0xff.
 
 ghost use Rattle.std.specs.Prelude.{◌≡◌, ◌≤◌, ◌<◌, ◌+◌, ◌*◌, length, replicate};
 ghost use Rattle.lfs_model.specs.format.Blocks.{cut, overwritten_at};
@@ -11,7 +11,7 @@ use lfs_fs::format;
 use std::alloc::Global;
 use std::io;
 
-// A chip: its bytes, block after block, and the calls that it had, which only proofs see.
+// A chip: its bytes, block after block, and its history of calls, which only proofs see.
 #[derive(Drop)]
 struct Chip {
     geometry: Geometry,
@@ -35,7 +35,7 @@ impl Chip {
         })
     }
 
-    // Where a byte is.
+    // Returns the offset of a byte in `bytes`.
     fn position(&self, block: u32, off: u32) -> usize
         requires in_device { block < self.now.geometry.block_count }
         requires in_block { off ≤ self.now.geometry.block_size }
@@ -45,7 +45,7 @@ impl Chip {
     }
 }
 
-// Writes bytes over those from an offset on.
+// Overwrites bytes from an offset on.
 fn overwrite_chip_bytes_at_offset(all: &mut Vec<u8>, at: usize, bytes: &[u8])
     requires { at + length bytes.now ≤ length all.old.items }
     ensures { all.new.items ≡ overwritten_at all.old.items at bytes.now }
@@ -53,7 +53,7 @@ fn overwrite_chip_bytes_at_offset(all: &mut Vec<u8>, at: usize, bytes: &[u8])
     all[at..at + bytes.len()].copy_from_slice(bytes);
 }
 
-// Leaves 0xff in so many bytes from an offset on.
+// Fills bytes from an offset on with 0xff.
 fn fill_with_erased_bytes(all: &mut Vec<u8>, at: usize, len: usize)
     requires { at + len ≤ length all.old.items }
     ensures filled { all.new.items ≡ overwritten_at all.old.items at (replicate len 255) }
@@ -107,7 +107,7 @@ impl BlockDevice for Chip {
         Ok(())
     }
 
-    // The chip's own check: bytes are blank where each is 0xff.
+    // The chip's own check: bytes are blank if each is 0xff.
     fn is_unprogrammed(&mut self, block: u32, off: u32, len: u32) -> Result<bool, Error> {
         let start = self.position(block, off);
         if self.bytes[start..start + len as usize]
@@ -121,18 +121,18 @@ impl BlockDevice for Chip {
     }
 }
 
-// How many blocks are used on a chip with a directory.
+// Returns how many blocks are used on a chip with one directory.
 fn used_block_count_on_chip(alloc: Global) -> Result<u32, Error> {
-    let chip = Chip::new(alloc, Geometry::new(4096, 256, 16)?)?;
+    let chip = Chip::new(alloc, Geometry::new(1024, 128, 8)?)?;
     let mut session = format(alloc, chip).map_err(|(_, error)| error)?;
     session.mkdir(alloc, b"/log")?;
     session.used_count()
 }
 
-/// Shows how many there are.
+/// Prints how many there are.
 pub fn print_used_blocks_on_chip(rt: &HostRuntime) -> io::Result<()> {
     match used_block_count_on_chip(rt.alloc()) {
-        Ok(count) => println!(rt; "a device of one's own: {count} blocks used"),
+        Ok(count) => println!(rt; "a device of your own: {count} blocks used"),
         Err(error) => println!(rt; "error {error:?}"),
     }
 }

@@ -1,23 +1,23 @@
-// A loss of power in a rename, and the recovery.
+// A power loss in a rename, and the recovery.
 
 use lfs_device::{CountedCalls, Error, FaultDevice, Geometry, RamDevice};
 use lfs_fs::{format, mount};
 use std::alloc::Global;
 use std::io;
 
-// What a device holds that stopped at a program of a rename, the how manieth `nth` says.
+// Returns a device that lost power at the `nth` program of a rename.
 fn device_stopped_in_rename(alloc: Global, nth: u64) -> Result<RamDevice, Error> {
-    let device = RamDevice::blank(alloc, Geometry::new(4096, 256, 16)?)?;
+    let device = RamDevice::blank(alloc, Geometry::new(1024, 128, 8)?)?;
     let mut session = format(alloc, device).map_err(|(_, error)| error)?;
     session.mkdir(alloc, b"/draft")?;
     let device = FaultDevice::new(session.unmount(), CountedCalls::Program, nth, true);
     let mut session = mount(alloc, device).map_err(|(_, error)| error)?;
-    // It answers `Io` where the device stops, and that is no error of this function.
+    // `rename` returns `Io` if the device stops; that is no error of this function.
     let _ = session.rename(alloc, b"/draft", b"/final");
     Ok(session.unmount().into_inner())
 }
 
-// The path that is there after the stop, a mount and a recovery: the old one or the new one.
+// Returns the path that exists after the power loss, a mount and a recovery: the old one or the new one.
 fn path_after_rename_recovery(alloc: Global, nth: u64) -> Result<&'static str, Error> {
     let device = device_stopped_in_rename(alloc, nth)?;
     let mut session = mount(alloc, device).map_err(|(_, error)| error)?;
@@ -26,9 +26,9 @@ fn path_after_rename_recovery(alloc: Global, nth: u64) -> Result<&'static str, E
     Ok(if is_old { "/draft" } else { "/final" })
 }
 
-/// Shows it for stops at the first programs.
+/// Prints it for a power loss at each of the first two programs.
 pub fn print_paths_after_rename_stops(rt: &HostRuntime) -> io::Result<()> {
-    for nth in 1..4u64 {
+    for nth in 1..3u64 {
         match path_after_rename_recovery(rt.alloc(), nth) {
             Ok(path) => println!(rt; "power lost at program {nth}: {path}")?,
             Err(error) => println!(rt; "error {error:?}")?,

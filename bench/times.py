@@ -77,7 +77,7 @@ def seen(process):
 
 
 def measured(log, folder, anew):
-    """The gate's exit status and last line, its wall time, the processor seconds of all its processes, and each crate's by part."""
+    """Runs the gate, and returns its exit status and last line, its wall time, the processor seconds of all its processes, and each crate's by part."""
     spent, began, before = {}, time.monotonic(), taken_by_children()
     with open(log, "w") as out:
         gate = subprocess.Popen(["rt", "ci"] + ["--anew"] * anew, cwd=folder, stdout=out, stderr=subprocess.STDOUT, stdin=subprocess.DEVNULL)
@@ -138,12 +138,12 @@ def edits_of(crate):
 
 
 def shown(amount, seconds, yardstick):
-    """An amount of time, and in brackets how many yardsticks its seconds are, if the yardstick was measured."""
+    """Returns an amount of time, and in brackets how many yardsticks its seconds are, if the yardstick was measured."""
     return f"{amount:.0f}" + (f" ({seconds / yardstick:.1f})" if yardstick else "")
 
 
 def table(totals, yardstick):
-    """The lines of the table, the crate that takes longest first. Those that take less than LEAST yardsticks are one line."""
+    """Yields the lines of the table, the crate that takes longest first. Those that take less than LEAST yardsticks are one line."""
     yield "| Crate | Code | Tests | Wrong bodies | Their number |"
     yield "|---|---|---|---|---|"
     small = [crate for crate, spent in totals.items() if sum(spent.values()) < LEAST * yardstick]
@@ -161,7 +161,7 @@ def row(crates, spent, edits, yardstick):
 
 
 def page(totals, yardstick, kit):
-    """The lines of the page but the last, which is of one run."""
+    """Yields the lines of the page but the last, which is of one run."""
     sums = {part: sum(it[part] for it in totals.values()) for part in PARTS}
     whole, names = sum(sums.values()), " and ".join(f"`{it}`" for it in YARDSTICK)
     all_of, code, tests, edits = (shown(it / 60, it, yardstick) for it in (whole, *sums.values()))

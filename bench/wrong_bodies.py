@@ -34,29 +34,29 @@ ENDED = re.compile(rf"rt: must-fail \S+/(\S+\.edit): ({'|'.join(ENDS)})\b")
 
 
 def files_of(crate):
-    """The files of a crate's wrong bodies, the gate's first."""
+    """Returns the files of a crate's wrong bodies, the gate's first."""
     return sorted(glob.glob(f"crates/{crate}/must-fail/*.edit")) + sorted(glob.glob(f"bench/wrong_bodies/{crate}/*.edit"))
 
 
 def all_crates():
-    """The crates that have wrong bodies."""
+    """Returns the crates that have wrong bodies."""
     return sorted({file.split("/")[-2 if file.startswith("bench") else 1] for file in files_of("*")})
 
 
 def git(*words):
-    """What git prints, or None if it fails."""
+    """Returns what git prints, or None if it fails."""
     ran = subprocess.run(["git", *words], stdout=subprocess.PIPE, stderr=subprocess.DEVNULL, text=True)
     return ran.stdout.strip() if ran.returncode == 0 else None
 
 
 def default_commit():
-    """Where the branch left its upstream, or else the commit before the last one."""
+    """Returns where the branch left its upstream, or else the commit before the last one."""
     left = git("merge-base", "HEAD", "@{upstream}")
     return left if left and left != git("rev-parse", "HEAD") else "HEAD~1"
 
 
 def changed_since(commit):
-    """The crates with wrong bodies that changed since a commit, or None if there is no such commit. Pages don't count."""
+    """Returns the crates with wrong bodies that changed since a commit, or None if there is no such commit. Pages don't count."""
     if git("rev-parse", "--verify", "--quiet", f"{commit}^{{commit}}") is None:
         return None
     paths = git("diff", "--name-only", commit, "HEAD", "--", "crates", "bench/wrong_bodies").split("\n")
@@ -65,7 +65,7 @@ def changed_since(commit):
 
 
 def fault_of(crate, file):
-    """Why a wrong body can't be applied, or None. The prover's own rules are these: each old text is there once, after the pairs before it."""
+    """Returns why a wrong body can't be applied, or None. Each old text must be there once, after the pairs before it are applied."""
     texts, path, old, changes = {}, None, None, False
     with open(file, encoding="utf-8") as it:
         lines = it.read().split("\n")

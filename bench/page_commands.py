@@ -114,17 +114,6 @@ def check_tool(top_page, commands, repository, program):
             yield f"{top_page}: {command}: printed {first!r}"
 
 
-def check_help(text, repository, program):
-    """Options of the help that docs/TOOL.md doesn't name, and long ones of its table that the help lacks."""
-    told = next(run_tool([["--help"]], repository, program))
-    options = set(re.findall(r"(?m)^ +(?:-\w, |    )(--[a-z0-9.-]+)", told))
-    if not options:
-        yield "docs/TOOL.md: no help was printed"
-    yield from (f"docs/TOOL.md: no option {option} of the help" for option in sorted(options - set(re.findall(r"--[a-z][a-z0-9.-]+", text))))
-    named = re.findall(r"(?m)^\| `(--[a-z0-9.-]+)", text)
-    yield from (f"docs/TOOL.md: {option} is not in the help" for option in named if option not in options)
-
-
 def check_snippet(text, repository):
     """Builds and runs the block of Rust in README.md."""
     os.makedirs(f"{repository}/crates/snippet/src")
@@ -151,5 +140,3 @@ def missing_runs(top, program, proves):
                 yield from (f"{page}: {line}: {what}" for what in differences(*run_shell(line, repository), output))
             if page == "README.md":
                 yield from check_snippet(text, repository)
-            else:
-                yield from check_help(text, repository, program)

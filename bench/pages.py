@@ -23,10 +23,11 @@ The README.md of a crate names each module of its `src`, and says what is proved
 A clause that a CALLING.md quotes stands in the crate's `src`, whatever spaces and line ends it has there.
 
 Beside backticks it looks at links, `[..](docs/FORMAT.md#tags)`, and at names of pages, as docs/FORMAT.md. It counts the wrong bodies of
-the gate where a page says "The gate tries the 40" or "at most 40", and the lines of code where README.md says "some 44,600 lines".
+the gate where a page says "The gate tries the 40" or "at most 40", and the lines of code where README.md says "some 44,600 lines". It
+compares the options of the table in docs/TOOL.md with those of the help, as a test of the gate has it.
 
-With --run it also runs the commands that README.md and docs/TOOL.md print, and compares the options of the help with those of
-docs/TOOL.md (page_commands.py): some minutes, by `rt try`. PROGRAM is a built mklittlefs. With --proofs the commands that prove are run too.
+With --run it also runs the commands that README.md and docs/TOOL.md print (page_commands.py): some minutes, by `rt try`. PROGRAM is a
+built mklittlefs. With --proofs the commands that prove are run as well.
 
 Prints a line for each that isn't there, and fails then.
 """
@@ -347,6 +348,18 @@ def wrong_counts(repository, page):
             yield f"{page}: {lines:,} lines, and not {told[0] if told else form}"
 
 
+def wrong_help(repository, page):
+    """Options of the help that docs/TOOL.md doesn't name, and options of its table that the help lacks."""
+    if page != "docs/TOOL.md":
+        return
+    tests = "".join(text_of(path) for path in repository.files if re.fullmatch(r"crates/lfs_tool_tests/src/\w+\.rt", path))
+    helped = set(re.findall(r"(?m)^ +(?:-\w, |    )(--[a-z0-9.-]+) .*[a-z]", tests)) - {"--help", "--version"}
+    text = text_of(page)
+    named, rows = set(re.findall(LONG_OPTION, text)), set(re.findall(r"(?m)^\| `(--[a-z0-9.-]+)", text))
+    yield from (f"{page}: {option} of the help isn't named" for option in sorted(helped - named))
+    yield from (f"{page}: {option} isn't in the help" for option in sorted(rows - helped))
+
+
 def count_of_words(pages):
     """As `wc -w README.md docs/*.md` counts them, of these pages."""
     return sum(len(text_of(page).split()) for page in pages if page == "README.md" or page.startswith("docs/"))
@@ -363,7 +376,7 @@ def main():
     pages = options.pages or sorted(os.path.relpath(path, TOP) for form in PAGES for path in glob.glob(f"{TOP}/{form}"))
     missing = [f"{page}:{number}: {what}" for page in pages for number, *line in lines_of(page)
                for what in dict.fromkeys(missing_of_line(repository, page, *line))]
-    missing += [what for page in pages for find in (missing_in_code, missing_of_crate, missing_quotes, wrong_counts) for what in find(repository, page)]
+    missing += [what for page in pages for find in (missing_in_code, missing_of_crate, missing_quotes, wrong_counts, wrong_help) for what in find(repository, page)]
     missing += page_commands.missing_runs(TOP, options.program, options.proofs) if options.run else []
     print("\n".join(missing) or f"{len(pages)} pages, {count_of_words(pages)} words in README.md and docs, nothing is missing")
     return bool(missing)

@@ -23,7 +23,7 @@ The README.md of a crate names each module of its `src`, and says what is proved
 A clause that a CALLING.md quotes stands in the crate's `src`, whatever spaces and line ends it has there.
 
 Beside backticks it looks at links, `[..](docs/FORMAT.md#tags)`, and at names of pages, as docs/FORMAT.md. It counts the wrong bodies of
-the gate where a page says "The gate tries the 40" or "at most 40", and the lines of code where README.md says "some 44,600 lines". It
+the gate where a page says "The gate tries .. at most 40" or "the 40", and the lines of code where README.md says "some 44,600 lines". It
 compares the options of the table in docs/TOOL.md with those of the help, as a test of the gate has it.
 
 With --run it also runs the commands that README.md and docs/TOOL.md print (page_commands.py): some minutes, by `rt try`. PROGRAM is a
@@ -330,7 +330,7 @@ def missing_of_crate(repository, page):
 def wrong_counts(repository, page):
     """Counts that a page states and that aren't so: of the gate's wrong bodies, and in README.md of lines, to a hundred."""
     text, edits = text_of(page), sum(bool(re.fullmatch(r"crates/\w+/must-fail/\w+\.edit", path)) for path in repository.files)
-    for limit, count in re.findall(r"The gate tries (at most|the) (\d+)", text):
+    for limit, count in re.findall(r"The gate tries[^.]*?\b(at most|the) (\d+)", text):
         if int(count) < edits or limit == "the" and int(count) != edits:
             yield f"{page}: the gate tries {edits} wrong bodies, not {limit} {count}"
     if page != "README.md":

@@ -68,8 +68,8 @@ def run_shell(line, repository):
     return run.stdout, run.stderr, run.returncode
 
 
-def room_with_files():
-    room = tempfile.mkdtemp()
+def fill(room):
+    """Puts the files there, for any user."""
     for path, data in FILES.items():
         os.makedirs(os.path.dirname(f"{room}/{path}"), exist_ok=True)
         with open(f"{room}/{path}", "wb") as it:
@@ -77,7 +77,6 @@ def room_with_files():
     for folder, _, names in os.walk(room):
         for path in [folder] + [f"{folder}/{name}" for name in names]:
             os.chmod(path, 0o777)
-    return room
 
 
 def run_tool(lines, repository, program):
@@ -94,7 +93,7 @@ def run_tool(lines, repository, program):
                 it.write("\n".join(words) + "\n")
         told = run_shell(f"rt try --cases {cases} 2>&1", f"{repository}/crates/mklittlefs")[0]
     for number in range(1000, 1000 + len(lines)):
-        found = re.search(rf"(?ms)^== {number}\n(.*?)^?case={number} run=ended", told)
+        found = re.search(rf"(?ms)^== {number}\n(.*?)\n?case={number} run=ended", told)
         yield found[1] if found else "not run"
 
 
@@ -104,14 +103,13 @@ def tool_words(line, room):
     return [f"{room}/{word}" if re.match(r"[a-z]", word) and word != "auto" else word for word in shlex.split(line)[1:]], int(head or 10**9)
 
 
-def check_tool(top_page, commands, repository, program):
+def check_tool(page, commands, room, repository, program):
     """Runs all lines of `mklittlefs` of a page, one after another in one folder."""
-    room = room_with_files()
     lines = [(command, output, *tool_words(command, room)) for command, output in commands]
     for (command, output, _, head), told in zip(lines, run_tool([words for _, _, words, _ in lines], repository, program)):
         first = "".join(told.splitlines(keepends=True)[:head])
         if first.rstrip("\n") != output.rstrip("\n"):
-            yield f"{top_page}: {command}: printed {first!r}"
+            yield f"{page}: {command}: printed {first!r}"
 
 
 def check_snippet(text, repository):
@@ -133,7 +131,9 @@ def missing_runs(top, program, proves):
             with open(f"{top}/{page}", encoding="utf-8") as it:
                 text = it.read()
             commands = list(dict.fromkeys(commands_of(text)))
-            yield from check_tool(page, [it for it in commands if it[0].startswith("mklittlefs ")], repository, program)
+            with tempfile.TemporaryDirectory(ignore_cleanup_errors=True) as files:
+                fill(files)
+                yield from check_tool(page, [it for it in commands if it[0].startswith("mklittlefs ")], files, repository, program)
             for line, output in commands:
                 if line.startswith("mklittlefs ") or GATE in line or (any(word in line for word in PROVES) and not proves):
                     continue

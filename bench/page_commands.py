@@ -126,6 +126,7 @@ def check_snippet(text, repository):
 
 def missing_runs(top, program, proves):
     with tempfile.TemporaryDirectory() as room:
+        os.chmod(room, 0o755)
         repository = copy_of(top, room)
         for page in PAGES:
             with open(f"{top}/{page}", encoding="utf-8") as it:

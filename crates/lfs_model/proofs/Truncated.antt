@@ -2,6 +2,7 @@
 use Rattle.std.proofs.Common.{ℕ, ◌≡◌, ◌==◌, ◌⊎◌, inl, inr, Bool, true, false, List, [], ◌∷◌, Option, Some, None, refl, ap, ◌∙◌, eqb-true, eq-eqb}
 use Rattle.std.proofs.Math.Logic.{∥∥₁_map, ∥∥₁_elim}
 use Rattle.lfs_model.proofs.Common.{Blocks, SameExcept, block_bytes, overwritten_at, LogEntry, BlockLog, block_log, DeviceCall, Read, Program, Erase, Blank, CallEvent, AllCalls, MayEraseLeave, MayProgramLeave, may_stop_leave, ErasesCleanly, erases_cleanly, FailsLikeLoss, MeetsPremises}
+use Rattle.lfs_model.specs.crash.Stops.{log_revision}
 
 abbrev Decided : Type 0 → Type 0
 Decided A = A ⊎ (A → ⊥)
@@ -63,8 +64,17 @@ same_logs (Some x) (Some y) = elim (same_log x y) [
   | inr differs ↦ inr (λ is. let logs : x ≡ y = cc in differs logs)
 ]
 
+same_revisions : (x y : Option ℕ) → Decided (x ≡ y)
+same_revisions None None = inl refl
+same_revisions None (Some y) = inr (λ is. absurd (cc))
+same_revisions (Some x) None = inr (λ is. absurd (cc))
+same_revisions (Some x) (Some y) = elim (same_number x y) [
+  | inl is ↦ inl (ap Some is)
+  | inr differs ↦ inr (λ is. let revisions : x ≡ y = cc in differs revisions)
+]
+
 by_erase : (old new : List ℕ) → Decided (MayEraseLeave old new)
-by_erase old new = either (same_logs (block_log new) (block_log old)) (same_logs (block_log new) None)
+by_erase old new = either (same_revisions (log_revision new) (log_revision old)) (same_logs (block_log new) None)
 
 by_program : (off : ℕ) (bytes old new : List ℕ) → Decided (MayProgramLeave off bytes old new)
 by_program off bytes old new =

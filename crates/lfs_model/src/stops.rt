@@ -7,8 +7,8 @@ ghost use Rattle.lfs_model.specs.crash.Conformance.{CallsConform};
 ghost use Rattle.lfs_model.specs.crash.Stops.{may_stop_leave, LeftByLoss, ErasesCleanly, HasNoLog};
 ghost use Rattle.lfs_model.specs.crash.PowerLoss.{FailsLikeLoss};
 ghost use Rattle.lfs_model.specs.crash.Premises.{MeetsPremises};
-ghost use Rattle.lfs_model.specs.layers.BlockBytes.{unwritten_bytes, block_padded};
-ghost use Rattle.lfs_model.specs.examples.Images.{small_commit, appending_commit, small_block};
+ghost use Rattle.lfs_model.specs.layers.BlockBytes.{unwritten_bytes};
+ghost use Rattle.lfs_model.specs.examples.Images.{small_commit, appending_commit, small_block, two_commit_block, later_block};
 
 /// A stop may leave the disk before the call, or what the whole call makes, or a torn commit that isn't one.
 pub fn power_loss_in_call_leaves_log_before_or_after()
@@ -21,18 +21,20 @@ pub fn power_loss_in_call_leaves_log_before_or_after()
         ((small_commit ++ take 10 appending_commit ++ unwritten_bytes 886) ∷ []) }
 {}
 
-/// A stopped erase leaves the log that was there or none, and no other.
-pub fn stopped_erase_leaves_no_other_log()
-    ensures none { (after : Blocks) → LeftByLoss (call_event (Erase 0) (small_block ∷ []) after true) (unwritten_bytes 1024 ∷ []) }
-    ensures other { (after : Blocks) → LeftByLoss (call_event (Erase 0) (small_block ∷ []) after true) (block_padded 1024 (small_commit ++ appending_commit) ∷ []) → ⊥ }
+/// A stopped erase leaves no log, or a log with the revision that was there, such as the beginning of the old log. It leaves no
+/// later log.
+pub fn stopped_erase_leaves_no_later_log()
+    ensures none { (after : Blocks) → LeftByLoss (call_event (Erase 0) (two_commit_block ∷ []) after true) (unwritten_bytes 1024 ∷ []) }
+    ensures beginning { (after : Blocks) → LeftByLoss (call_event (Erase 0) (two_commit_block ∷ []) after true) (small_block ∷ []) }
+    ensures later { (after : Blocks) → LeftByLoss (call_event (Erase 0) (two_commit_block ∷ []) after true) (later_block ∷ []) → ⊥ }
 
-    // The promises about stops suppose that an erase which succeeds leaves no other log, either.
-    ensures clean { ErasesCleanly (call_event (Erase 0) (small_block ∷ []) (unwritten_bytes 1024 ∷ []) false) }
-    ensures not_clean { ErasesCleanly (call_event (Erase 0) (small_block ∷ []) (block_padded 1024 (small_commit ++ appending_commit) ∷ []) false) → ⊥ }
+    // The promises about stops suppose that an erase which succeeds leaves no later log, either.
+    ensures clean { ErasesCleanly (call_event (Erase 0) (two_commit_block ∷ []) (small_block ∷ []) false) }
+    ensures not_clean { ErasesCleanly (call_event (Erase 0) (two_commit_block ∷ []) (later_block ∷ []) false) → ⊥ }
 
     // A call that fails may leave what a stop in it leaves, or more.
-    ensures as_stopped { FailsLikeLoss (call_event (Erase 0) (small_block ∷ []) (unwritten_bytes 1024 ∷ []) true) }
-    ensures not_stopped { FailsLikeLoss (call_event (Erase 0) (small_block ∷ []) (block_padded 1024 (small_commit ++ appending_commit) ∷ []) true) → ⊥ }
+    ensures failed { FailsLikeLoss (call_event (Erase 0) (two_commit_block ∷ []) (small_block ∷ []) true)
+        × (FailsLikeLoss (call_event (Erase 0) (two_commit_block ∷ []) (later_block ∷ []) true) → ⊥) }
 {}
 
 /// A call that conforms left what a stop in it may leave.

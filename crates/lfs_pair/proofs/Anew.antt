@@ -1,8 +1,9 @@
 -- A content written into an erased block, as its first commit.
-use Rattle.std.proofs.Common.{ℕ, ◌≡◌, ◌+◌, ◌≤◌, Bool, false, List, [], ◌∷◌, Some, inl, inr, refl, sym, ap, ◌∙◌, subst, arith}
+use Rattle.std.proofs.Common.{ℕ, ◌≡◌, ◌+◌, ◌≤◌, Bool, false, List, [], ◌∷◌, Some, inl, inr, refl, sym, ap, ◌∙◌, subst, arith, option_map}
 use Rattle.lfs_pair.proofs.Common.{Blocks, block_bytes, SameExcept, IsValidGeometry, RawContent, empty_raw_content, encoded_size, aligned_end, RawContentFits, content_entries, AreNamed, IsWellFormed, CallEvent, call_event, Erase, AllCallsSince, HoldsAtLosses, ErasesCleanly, LeftByLoss, appended_content, began, goes_on, goes_on_by, HoldsAtLosses-weaker, AllCallsSince-until, AllCallsSince-only, SameExcept-trans, PartialCommit, padded_commit_end, commit_with_entries, LogGetsCommit, HasOneCommit, LossLeavesCommit, LossLeavesRewritten, DiffersInBlock}
 use Rattle.lfs_model.specs.layers.LoggedContent.{IsStorable}
 use Rattle.lfs_model.specs.crash.Stops.{MayEraseLeave}
+use Rattle.lfs_model.specs.format.Log.{BlockLog}
 use Rattle.lfs_model.proofs.Pages.{page_positive, aligned_end-below}
 use Rattle.lfs_model.proofs.WrittenAnew.{entries_of-reads}
 use Rattle.lfs_model.proofs.WrittenSizes.{written_size}
@@ -65,14 +66,14 @@ leaves_erase is = goes_on began is left_by_erase
 left_anew : {b : PartialCommit} {size page revision : ℕ} {c : RawContent} (old mid left : List ℕ) → b ≡ anew size page revision c → IsStorable c → MayEraseLeave old mid
     → LossLeavesCommit b 0 mid left → LossLeavesRewritten revision c old left
 left_anew old mid left is sound erased stopped = elim stopped [
-  | inl same ↦ elim erased [ inl was ↦ inl (same ∙ was) | inr none ↦ inr (inl (same ∙ none)) ]
+  | inl same ↦ elim erased [ inl was ↦ inl (ap (option_map (λ (log : BlockLog). log.revision)) same ∙ was) | inr none ↦ inr (inl (same ∙ none)) ]
   | inr more ↦ elim more [
     | inl none ↦ inr (inl none.1)
     | inr gets ↦ inr (inr (anew_holds left is sound gets))
   ]
 ]
 
--- of an erase that leaves the old log or none, and of the commit behind it
+-- of an erase that leaves a log with the old one's revision or none, and of the commit behind it
 pub leaves_anew : {b : PartialCommit} {size page revision block : ℕ} {c : RawContent} {old mid : Blocks} {before erased after : List CallEvent} → b ≡ anew size page revision c → IsStorable c
     → SameExcept block old mid → erased ≡ call_event (Erase block) old mid false ∷ before → HoldsAtLosses LeftByLoss erased after (DiffersInBlock block (LossLeavesCommit b 0) mid) → AllCallsSince ErasesCleanly before after
     → HoldsAtLosses LeftByLoss before after (DiffersInBlock block (LossLeavesRewritten revision c) old)

@@ -1,5 +1,5 @@
 -- A commit or a split behind reads.
-use Rattle.std.proofs.Common.{ℕ, ◌≡◌, ◌+◌, inl, inr, refl, sym, ap, ap₂, ◌∙◌, subst, List, Some, None, arith, ◌≤◌, Option, Ok}
+use Rattle.std.proofs.Common.{ℕ, ◌≡◌, ◌+◌, inl, inr, refl, sym, ap, ap₂, ◌∙◌, subst, List, Some, None, arith, ◌≤◌, Option}
 use Rattle.lfs_device.specs.declared.device.BlockDevice.{Ghosts}
 use Rattle.lfs_device.specs.declared.geometry.Geometry.{Geometry}
 use Rattle.lfs_pair.proofs.Common.{ReadsOnly, disk_of_blocks, Blocks, Disk, RawContentFits, CallEvent, AllCallsSince, OnlyReadsSince, ContentChange, AllCallsSince-behind, blank_count-read_count, erase_count-read_count, program_count-read_count, header_address, AppendFits, IsEndUnprogrammed, changed_pair_content, ErasedOneMore, IsWellFormed, RawContent, ChangesTheseBlocks, ChangesReadingFew, block_bytes, HoldsAtLosses, HoldsAtLosses-read_count, HoldsAtLosses-weaker, LeftByLoss, LeftByLoss-read, ErasesCleanly, goes_on_by, fault_count, read_count, AreNamed, LossLeavesChanged, LossLeavesNew, changed_log_content}
@@ -13,7 +13,6 @@ use Rattle.lfs_model.specs.format.Content.{complete_content}
 use Rattle.std.specs.Prelude.{IfSome, IfNone}
 use Rattle.lfs_pair.specs.declared.programs.WrittenCommit.{WrittenCommit}
 use Rattle.lfs_pair.specs.Pair.{IsHeaderWith, IsWrittenHeader}
-use Rattle.lfs_device.specs.DeviceCalls.{ReadsOrNoMemory}
 use Rattle.lfs_pair.proofs.Asking.{appends_until}
 
 -- ---- reads

@@ -10,7 +10,7 @@ use Rattle.lfs_pair.specs.Pair.{HeaderHasEnd, IsContentHeader, header_inactive_b
 use Rattle.lfs_pair.specs.Writing.{EndsBeforeUnprogrammed}
 use Rattle.lfs_pair.specs.Commits.{HasChangedContent, OutsideStaysUnprogrammed, content_after_changes}
 use Rattle.lfs_pair.proofs.SameLogs.{entries_same}
-use Rattle.lfs_pair.proofs.TwoBlocks.{active_block, Sides, Stays, sides, raw_is, still_active, other_active, stays_same, stays_log, weaker_same, weaker_log, weaker_none, active_is, other_is, outside_one, sides_apart, below_count}
+use Rattle.lfs_pair.proofs.TwoBlocks.{active_block, Sides, Stays, sides, raw_is, still_active, other_active, stays_same, stays_log, weaker_same, weaker_revision, weaker_none, active_is, other_is, outside_one, sides_apart, below_count}
 
 -- ---- what changes make
 
@@ -184,7 +184,7 @@ left_by_compaction disk at active other revision new left k (same, which) = reco
 
     go : LossLeavesRewritten revision new (disk_block disk other) (block_bytes left other) → HasOldContent disk at (record disk { blocks = left }) ⊎ HasNewContent disk at new (record disk { blocks = left })
     go (inl log) =
-        inl (before (still_active disk at active other left k.sides (stays_same (disk_block disk active) (block_bytes left active) k.had stays) (weaker_log (disk_block disk other) (block_bytes left other) log)))
+        inl (before (still_active disk at active other left k.sides (stays_same (disk_block disk active) (block_bytes left active) k.had stays) (weaker_revision (disk_block disk other) (block_bytes left other) log)))
     go (inr (inl none)) =
         inl (before (still_active disk at active other left k.sides (stays_same (disk_block disk active) (block_bytes left active) k.had stays) (weaker_none (disk_block disk other) (block_bytes left other) none)))
     go (inr (inr holds)) = inr (record {

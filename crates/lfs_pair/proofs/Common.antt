@@ -6,7 +6,7 @@ pub use Rattle.lfs_model.proofs.Histories.{AllCallsSince-behind, AllCallsSince-o
 pub use Rattle.lfs_model.proofs.Logged.{logged, nothing_logged}
 pub use Rattle.lfs_model.proofs.Overwrites.{SameExcept-refl, SameExcept-trans, SameExceptBlocks-refl, SameExceptBlocks-trans, SameExceptBlocks-wider}
 pub use Rattle.lfs_model.proofs.Staying.{AreElsewhere, current_block-stays, raw_content-stays}
-pub use Rattle.lfs_model.specs.crash.Stops.{ErasesCleanly, HasNoLog, LeftByLoss, SameLog}
+pub use Rattle.lfs_model.specs.crash.Stops.{ErasesCleanly, HasNoLog, LeftByLoss, SameLog, SameRevision, log_revision}
 pub use Rattle.lfs_model.specs.format.Blocks.{Blocks, SameExcept, SameExceptBlocks, block_bytes, overwritten_at}
 pub use Rattle.lfs_model.specs.format.Content.{RawContent, RawSlot, content_after, current_block, empty_raw_content, has_commit, is_later, raw_content}
 pub use Rattle.lfs_model.specs.format.Disk.{Disk, disk_block, pair_capacity, slots_limit}

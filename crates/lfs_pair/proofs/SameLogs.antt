@@ -1,7 +1,7 @@
 -- What blocks of the same log share.
-use Rattle.std.proofs.Common.{ℕ, ◌≡◌, true, false, List, [], ◌∷◌, length, Option, Some, None, refl, sym, ap, ◌∙◌, flat_map}
+use Rattle.std.proofs.Common.{ℕ, ◌≡◌, Bool, true, false, cond, List, [], ◌∷◌, length, Option, Some, None, refl, sym, ap, ◌∙◌, flat_map, option_map, arith}
 use Rattle.std.specs.Prelude.{nat_lt}
-use Rattle.lfs_pair.proofs.Common.{LogEntry, block_revision, block_entries, has_commit, SameLog, HasNoLog}
+use Rattle.lfs_pair.proofs.Common.{lt-ltb, LogEntry, block_revision, block_entries, has_commit, SameLog, SameRevision, HasNoLog, log_revision}
 use Rattle.lfs_model.specs.format.Log.{BlockLog, chain_of, committed_log}
 
 abbrev commits_in : Option BlockLog → List (List LogEntry)
@@ -42,3 +42,29 @@ no_commits x none = sym (commits_reported (block_revision x) (chain_of x).commit
 
 pub has_no_commit : (x : List ℕ) → HasNoLog x → has_commit x ≡ false
 has_no_commit x none = ap (λ (cs : List (List LogEntry)). nat_lt 0 (length cs)) (no_commits x none)
+
+-- ---- logs with the same revision
+
+told : (x : List ℕ) (h : Bool) → has_commit x ≡ h → log_revision x ≡ cond h (Some (block_revision x)) None
+told x h = go (chain_of x).commits refl h
+  where
+    go : (cs : List (List LogEntry)) → (chain_of x).commits ≡ cs → (h : Bool) → has_commit x ≡ h → log_revision x ≡ cond h (Some (block_revision x)) None
+    go cs is h has = ap (λ k. option_map (λ (log : BlockLog). log.revision) (committed_log (block_revision x) k)) is ∙ by_commits cs h (sym (ap (λ (k : List (List LogEntry)). nat_lt 0 (length k)) is) ∙ has)
+      where
+        by_commits : (cs : List (List LogEntry)) (h : Bool) → nat_lt 0 (length cs) ≡ h → option_map (λ (log : BlockLog). log.revision) (committed_log (block_revision x) cs) ≡ cond h (Some (block_revision x)) None
+        by_commits [] true is = absurd (cc)
+        by_commits [] false is = refl
+        by_commits (c ∷ cs) true is = refl
+        by_commits (c ∷ cs) false is = let some : nat_lt 0 (length (c ∷ cs)) ≡ true = lt-ltb 0 (length (c ∷ cs)) (omega arith) in absurd (cc)
+
+-- where the new block has a log, the old one has
+pub has_commit_told : (new old : List ℕ) → SameRevision new old → has_commit new ≡ true → has_commit old ≡ true
+has_commit_told new old same has = go (has_commit old) refl
+  where
+    go : (h : Bool) → has_commit old ≡ h → h ≡ true
+    go true is = refl
+    go false is = let e : Some (block_revision new) ≡ None = sym (told new true has) ∙ same ∙ told old false is in absurd (cc)
+
+pub revision_told : (new old : List ℕ) → SameRevision new old → has_commit new ≡ true → block_revision new ≡ block_revision old
+revision_told new old same has =
+    let e : Some (block_revision new) ≡ Some (block_revision old) = sym (told new true has) ∙ same ∙ told old true (has_commit_told new old same has) in cc

@@ -1,12 +1,12 @@
 -- What a pair holds, by which of its two blocks was written.
 use Rattle.std.proofs.Common.{ℕ, ◌≡◌, ◌≢◌, ◌⊎◌, ◌+◌, ◌%◌, ◌^◌, ◌<◌, ◌==◌, Bool, true, false, cond, List, [], ◌∷◌, refl, sym, ap, ◌∙◌, subst, arith, eq-eqb, inl, inr}
 use Rattle.std.specs.Prelude.{All}
-use Rattle.lfs_pair.proofs.Common.{ne_eqb, option_and_then, Blocks, SameExcept, block_bytes, Disk, disk_block, block_revision, block_entries, SameLog, HasNoLog, has_commit, is_later, raw_content, content_after, empty_raw_content, is_second_active, active_block_at, IsPairAddress, KeepsOutsidePair, SameExceptBlocks-refl}
+use Rattle.lfs_pair.proofs.Common.{ne_eqb, option_and_then, Blocks, SameExcept, block_bytes, Disk, disk_block, block_revision, block_entries, SameLog, SameRevision, HasNoLog, has_commit, is_later, raw_content, content_after, empty_raw_content, is_second_active, active_block_at, IsPairAddress, KeepsOutsidePair, SameExceptBlocks-refl}
 use Rattle.lfs_model.specs.format.Disk.{block_count}
 use Rattle.lfs_pair.specs.Pair.{opposite_block}
 use Rattle.lfs_model.proofs.Overwrites.{SameExceptBlocks-one}
 use Rattle.lfs_pair.proofs.Holders.{holder_is, is_second_active-written, first_holds-written}
-use Rattle.lfs_pair.proofs.SameLogs.{has_commit_same, revision_same, has_no_commit}
+use Rattle.lfs_pair.proofs.SameLogs.{has_commit_same, has_commit_told, revision_same, revision_told, has_no_commit}
 
 -- ---- the block that holds
 
@@ -53,8 +53,8 @@ pub record Weaker (old new : List ℕ) : Type 0 where
 pub weaker_same : (old new : List ℕ) → new ≡ old → Weaker old new
 weaker_same old new same = record { had = λ h. sym (ap has_commit same) ∙ h; revision_is = λ h. ap block_revision same }
 
-pub weaker_log : (old new : List ℕ) → SameLog new old → Weaker old new
-weaker_log old new same = record { had = λ h. sym (has_commit_same new old same) ∙ h; revision_is = λ h. revision_same new old same (sym (has_commit_same new old same) ∙ h) }
+pub weaker_revision : (old new : List ℕ) → SameRevision new old → Weaker old new
+weaker_revision old new same = record { had = has_commit_told new old same; revision_is = revision_told new old same }
 
 pub weaker_none : (old new : List ℕ) → HasNoLog new → Weaker old new
 weaker_none old new none = record { had = λ h. absurd (let no = has_no_commit new none in cc); revision_is = λ h. absurd (let no = has_no_commit new none in cc) }

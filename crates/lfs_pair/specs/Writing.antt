@@ -13,7 +13,7 @@ use Rattle.lfs_model.specs.format.Log.{LogEntry, chain_of, block_revision, block
 use Rattle.lfs_model.specs.format.Content.{RawContent, has_commit, content_after, empty_raw_content}
 use Rattle.lfs_model.specs.layers.WrittenContent.{RawContentFits, content_entries}
 use Rattle.lfs_model.specs.layers.LoggedContent.{AreNamed, IsWellFormed}
-use Rattle.lfs_model.specs.crash.Stops.{SameLog, HasNoLog}
+use Rattle.lfs_model.specs.crash.Stops.{SameLog, SameRevision, HasNoLog}
 use Rattle.lfs_tag.specs.Builder.{IsCommitOffset, PartialCommit, earlier_commits, padded_commit_end}
 
 -- a commit that is built, with more entries
@@ -110,9 +110,9 @@ pub record IsWrittenAnew (revision : ℕ) (c : RawContent) (block : List ℕ) (b
   pub programs : program_count after ≡ program_count before + 1
   pub blanks : blank_count after ≡ blank_count before
 
--- What a stop leaves where a block is erased and a content is written into it: the old log, none, or the content.
+-- What a stop leaves if a block is erased and a content is written into it: a log with the old one's revision, none, or the content.
 abbrev pub LossLeavesRewritten : ℕ → RawContent → List ℕ → List ℕ → Type 0
-LossLeavesRewritten revision c old left = SameLog left old ⊎ (HasNoLog left ⊎ HasOneCommit revision c left)
+LossLeavesRewritten revision c old left = SameRevision left old ⊎ (HasNoLog left ⊎ HasOneCommit revision c left)
 
 -- in these blocks only one has changed, and its bytes are as P allows
 abbrev pub DiffersInBlock : ℕ → (List ℕ → List ℕ → Type 0) → Blocks → Blocks → Type 0

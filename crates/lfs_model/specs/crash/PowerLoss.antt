@@ -27,7 +27,7 @@ pub record HasEitherTree (disk : Disk) (before after : Tree) : Type 0 where
 abbrev pub with_blocks : Blocks → Disk → Disk
 with_blocks blocks disk = record disk { blocks = blocks }
 
--- Each erase leaves no log, or the one that was there. Then a stop at any time since the old history leaves such a disk.
+-- Each erase leaves no log, or one with the revision that was there. Then a stop at any time since the old history leaves such a disk.
 abbrev pub SurvivesLossSince : Disk → List CallEvent → List CallEvent → Tree → Tree → Type 0
 SurvivesLossSince disk old new before after =
     AllCallsSince ErasesCleanly old new → HoldsAtLosses LeftByLoss old new (λ blocks. HasEitherTree (with_blocks blocks disk) before after)

@@ -132,7 +132,7 @@ abbrev pub SurvivesLosses : (disk : Disk) (lefts : List Disk) → LeftByLosses d
 SurvivesLosses disk [] losses = Unit {0}
 SurvivesLosses disk (left ∷ others) losses = SurvivesLoss losses.0.begin losses.0.operations losses.0.to losses.0.run left × SurvivesLosses left others losses.1
 
--- a session with its disk's tree, on an image in the writing profile, where each erase leaves no log, or the one that was there
+-- a session with its disk's tree, on an image in the writing profile, whose erases leave no log, or one with the revision that was there
 pub record MeetsRunPremises (from to : SystemState) : Type 0 where
   pub agrees : HasDiskTree from
   pub profile : IsWritableDisk from.disk

@@ -1,5 +1,5 @@
 -- Images in bytes.
-use Rattle.std.specs.Prelude.{ℕ, ◌-◌, List, [], ◌∷◌, ◌++◌, length, take, find, replicate, slice_index, slice_set, bit_xor, ◌/◌, ◌%◌, ◌^◌, ◌+◌, Some, None, codes}
+use Rattle.std.specs.Prelude.{ℕ, ◌-◌, List, [], ◌∷◌, ◌++◌, length, take, drop, find, replicate, slice_index, slice_set, bit_xor, ◌/◌, ◌%◌, ◌^◌, ◌+◌, Some, None, codes}
 use Rattle.std.specs.List.{flat_map}
 use Rattle.std.specs.Option.{option_map}
 use Rattle.byteorder.specs.Endian.{little_bytes}
@@ -105,8 +105,15 @@ appending_commit =
     0x70 ∷ 0x1f ∷ 0xf8 ∷ 0x6f ∷  -- a checksum entry of 111 bytes
     0x6a ∷ 0xa8 ∷ 0x34 ∷ 0x70 ∷ unwritten_bytes 107
 
+abbrev pub two_commit_block : List ℕ
+two_commit_block = block_padded 1024 (small_commit ++ appending_commit)
+
 abbrev pub two_commit_image : Disk
-two_commit_image = small_disk_with (block_padded 1024 (small_commit ++ appending_commit))
+two_commit_image = small_disk_with two_commit_block
+
+-- the small image's only commit with revision 2, and the checksum of that
+abbrev pub later_block : List ℕ
+later_block = block_padded 1024 (2 ∷ take 47 (drop 1 small_commit) ++ 0x78 ∷ 0x33 ∷ 0x6b ∷ 0x73 ∷ [])
 
 -- bit k of the checksum is inverted
 abbrev pub bad_checksum_block : ℕ → List ℕ

@@ -9,8 +9,9 @@ the mount on:
 
 - each call of the device fails once: that operation answers Io, all later ones Failed, without a call of the device; a remount
   finds the tree from before the operation or from behind it;
-- the device stops at each call, before it, with one byte, 20 or 100 bytes of a program stored, and behind it: a mount finds one
-  of these trees, a recovery keeps it, and nothing is left to recover; the blocks used are those of that tree;
+- the device stops at each call, before it, with one byte, 20 or 100 bytes of a program stored, and behind it; and at each erase
+  with 1, 4 or 100 bytes of the old block left, or all but one: a mount finds one of these trees, a recovery keeps it, and nothing
+  is left to recover; the blocks used are those of that tree;
 - and the recovery of what that left is itself stopped at each of its calls, in the same way;
 - each allocation is refused: all answers are right, or one is NoMemory and the later ones Failed, and a remount finds one of
   these trees.
@@ -39,7 +40,9 @@ from fail_alloc import Refusing
 from session_model import Model, Node, looks, seen
 
 EXTENTS = ["", " torn 1", " torn 20", " torn 100", " whole"]
+KEPT = [1, 4, 100]  # and all bytes of a block but one
 MOST_CALLS = 2000
+TOLD = ("failed calls", "stops", "stops in a recovery", "erases", "erases in a recovery", "refused allocations", "wrong")
 IO, FAILED, NO_SESSION, NO_MEMORY = "error Io 5", "refused Failed 200", "error none", "error NoMemory 12"
 top = os.path.dirname(os.path.dirname(os.path.abspath(__file__)))
 
@@ -80,6 +83,7 @@ class Story:
             self.trees[-1] = before
             self.answers.append(model.answer(op))
             self.trees.append(model.tree)
+        self.stops = [("any", extent) for extent in EXTENTS] + [("erase", f" kept {kept}") for kept in KEPT + [self.sizes[0] - 1]]
         self.looks = looks(self.trees)
         self.behind = self.looks + ["recover"] + self.looks + ["gstate", "compare" if cycles else "used-count"]
 
@@ -212,8 +216,9 @@ def judge_once(story, answers):
     return op is not None
 
 
-def stopping(story, nth, extent):
-    return [story.begin, f"mount any {nth} stop{extent}"] + story.ops + ["unmount", "mount"] + story.behind
+def stopping(story, nth, stop):
+    kind, extent = stop
+    return [story.begin, f"mount {kind} {nth} stop{extent}"] + story.ops + ["unmount", "mount"] + story.behind
 
 
 def judge_stop(story, answers):
@@ -224,9 +229,10 @@ def judge_stop(story, answers):
     return op is not None
 
 
-def stopping_twice(story, nth, extent, second):
-    again = ["unmount", f"mount any {second} stop{extent}", "recover", "unmount", "mount"]
-    return [story.begin, f"mount any {nth} stop{extent}"] + story.ops + again + story.behind
+def stopping_twice(story, nth, stop, second):
+    kind, extent = stop
+    again = ["unmount", f"mount {kind} {second} stop{extent}", "recover", "unmount", "mount"]
+    return [story.begin, f"mount {kind} {nth} stop{extent}"] + story.ops + again + story.behind
 
 
 def judge_twice(story, answers):
@@ -267,14 +273,16 @@ def sweep(options, story, cases, judge, batch=40):
 def sweeps(options, story):
     turns = range(1, MOST_CALLS)
     calls, wrong = sweep(options, story, (failing_once(story, nth) for nth in turns), judge_once)
-    stops, twice = 0, 0
-    for extent in EXTENTS:
-        count, more = sweep(options, story, (stopping(story, nth, extent) for nth in turns), judge_stop)
-        stops, wrong = stops + count, wrong + more
-        for nth in range(1, calls + 2):
-            count, more = sweep(options, story, (stopping_twice(story, nth, extent, second) for second in turns), judge_twice, 12)
-            twice, wrong = twice + count, wrong + more
-    return collections.Counter({"failed calls": calls, "stops": stops, "stops in a recovery": twice, "wrong": wrong})
+    counts = collections.Counter({"failed calls": calls})
+    for stop in story.stops:
+        kind = "erases" if stop[0] == "erase" else "stops"
+        stops, more = sweep(options, story, (stopping(story, nth, stop) for nth in turns), judge_stop)
+        counts[kind], wrong = counts[kind] + stops, wrong + more
+        for nth in range(1, stops + 2):
+            twice, more = sweep(options, story, (stopping_twice(story, nth, stop, second) for second in turns), judge_twice, 12)
+            counts[f"{kind} in a recovery"], wrong = counts[f"{kind} in a recovery"] + twice, wrong + more
+    counts["wrong"] = wrong
+    return counts
 
 
 def has_moved(options, story, room):
@@ -317,7 +325,8 @@ def random_turn(seed, number):
     blocks, ops = made(seed, number)
     begin = f"fresh 1024 128 {blocks}" + rnd.choice(["", " keep", " fill 00"])
     story = Story("at random", begin, [op for op in ops if op != "remount"])
-    return story, stopping_twice(story, rnd.randrange(1, 150), rnd.choice(EXTENTS), rnd.randrange(1, 12))
+    stop = rnd.choice(story.stops)
+    return story, stopping_twice(story, rnd.randrange(1, 150 if stop[0] == "any" else 40), stop, rnd.randrange(1, 12))
 
 
 # Refused allocations
@@ -387,7 +396,7 @@ def main():
             counts["refused allocations"], more = refusals(options, story, refusing)
             counts["wrong"] += more
             wrong += counts["wrong"]
-            told = ", ".join(f"{counts[what]} {what}" for what in ("failed calls", "stops", "stops in a recovery", "refused allocations", "wrong"))
+            told = ", ".join(f"{counts[what]} {what}" for what in TOLD)
             print(f"{story.name} ({story.begin}): {told}", flush=True)
     counts = at_random(options) if options.only in "at random" else collections.Counter()
     print(f"at random: {counts['stops']} stops, {counts['stops in a recovery']} stops in a recovery, {counts['wrong']} wrong")

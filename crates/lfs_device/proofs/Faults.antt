@@ -4,35 +4,27 @@ use Rattle.std.specs.Prelude.{is_some, is_err, OnOk, Result, Ok, Err}
 use Rattle.lfs_device.specs.declared.device.BlockDevice.{Ghosts}
 use Rattle.lfs_device.specs.declared.error.Error.{Error}
 use Rattle.lfs_device.specs.declared.fault.FaultExtent.{FaultExtent}
-use Rattle.lfs_device.specs.declared.fault.FaultExtent.TheVariants.{Nothing, FirstBytes, Whole}
+use Rattle.lfs_device.specs.declared.fault.FaultExtent.TheVariants.{Nothing, FirstBytes, AllButFirst, Whole}
 use Rattle.lfs_device.specs.declared.fault.PlannedFault.{PlannedFault}
 use Rattle.lfs_model.specs.format.Blocks.{Blocks}
 use Rattle.lfs_model.specs.session.History.{DeviceCall, Read, Program, Erase, Blank, CallEvent, call_event, fault_count, is_unprogrammed_byte, unprogrammed_after}
-use Rattle.lfs_device.specs.Fault.{is_counted, is_nth_call, has_stopped, is_to_fail, extent_if_due, have_due_failed, unplanned_faults}
+use Rattle.lfs_device.specs.Fault.{is_to_fail, extent_if_due, have_due_failed, unplanned_faults}
 use Rattle.lfs_device.specs.CallsBelow.{PassesUnlessDue}
-
--- the two ways to say that a call is to fail
-is_to_fail-is_some : (fault : PlannedFault) (call : DeviceCall) (older : List CallEvent) → is_to_fail fault.which fault.nth fault.stops call older ≡ is_some (extent_if_due fault call older)
-is_to_fail-is_some fault call older = either (is_nth_call (is_counted fault.which call) fault.which fault.nth older) (has_stopped fault.which fault.nth fault.stops older)
-  where
-    either : (a b : Bool) → (a || b) ≡ is_some (cond a (Some fault.extent) (cond b (Some Nothing) None))
-    either true b = refl
-    either false true = refl
-    either false false = refl
 
 fails_if_due : {D : Type 0} (g : Ghosts D) (o : Option FaultExtent) (call : DeviceCall) (failed : Bool) (old new : D) → PassesUnlessDue g o call failed old new → is_some o ≡ true → failed ≡ true
 fails_if_due g None call failed old new carried is = absurd (cc)
 fails_if_due g (Some Nothing) call failed old new carried is = carried.0
 fails_if_due g (Some (FirstBytes k)) call failed old new carried is = carried.0
+fails_if_due g (Some (AllButFirst k)) call failed old new carried is = carried.0
 fails_if_due g (Some Whole) call failed old new carried is = carried.0
 
 pub have_due_failed-call : {D : Type 0} {call : DeviceCall} {failed : Bool} {before after : Blocks} {older later : List CallEvent} (g : Ghosts D) (fault : PlannedFault) (old new : D)
     → PassesUnlessDue g (extent_if_due fault call older) call failed old new → later ≡ call_event call before after failed ∷ older
-    → have_due_failed fault.which fault.nth fault.stops older ≡ true → have_due_failed fault.which fault.nth fault.stops later ≡ true
+    → have_due_failed fault older ≡ true → have_due_failed fault later ≡ true
 have_due_failed-call {call = call} {failed = failed} {older = older} g fault old new carried is so_far =
-    ap (have_due_failed fault.which fault.nth fault.stops) is
-    ∙ ap (λ rest. (not (is_to_fail fault.which fault.nth fault.stops call older) || failed) && rest) so_far
-    ∙ here (is_to_fail fault.which fault.nth fault.stops call older) failed (λ to_fail. fails_if_due g (extent_if_due fault call older) call failed old new carried (sym (is_to_fail-is_some fault call older) ∙ to_fail))
+    ap (have_due_failed fault) is
+    ∙ ap (λ rest. (not (is_to_fail fault call older) || failed) && rest) so_far
+    ∙ here (is_to_fail fault call older) failed (λ to_fail. fails_if_due g (extent_if_due fault call older) call failed old new carried to_fail)
   where
     here : (to_fail failed : Bool) → (to_fail ≡ true → failed ≡ true) → ((not to_fail || failed) && true) ≡ true
     here true true of = refl
@@ -49,11 +41,10 @@ adds_undue g (Some extent) call false old new carried grow = omega (arith, grow)
 
 pub unplanned_faults-call : {D : Type 0} {call : DeviceCall} {failed : Bool} {before after : Blocks} {older later : List CallEvent} (g : Ghosts D) (fault : PlannedFault) (old new : D)
     → PassesUnlessDue g (extent_if_due fault call older) call failed old new → later ≡ call_event call before after failed ∷ older → fault_count (g.history old) ≤ fault_count (g.history new)
-    → unplanned_faults fault.which fault.nth fault.stops older ≤ fault_count (g.history old) → unplanned_faults fault.which fault.nth fault.stops later ≤ fault_count (g.history new)
+    → unplanned_faults fault older ≤ fault_count (g.history old) → unplanned_faults fault later ≤ fault_count (g.history new)
 unplanned_faults-call {call = call} {failed = failed} {older = older} {later = later} g fault old new carried is grow so_far =
-    let u = unplanned_faults fault.which fault.nth fault.stops in
-    let adds : u later ≡ u older + cond (failed && not (is_some (extent_if_due fault call older))) 1 0 =
-    ap u is ∙ ap (λ d. u older + cond (failed && not d) 1 0) (is_to_fail-is_some fault call older) in
+    let u = unplanned_faults fault in
+    let adds : u later ≡ u older + cond (failed && not (is_some (extent_if_due fault call older))) 1 0 = ap u is in
     let more = adds_undue g (extent_if_due fault call older) call failed old new carried grow in
     omega (arith, adds, more, so_far)
 

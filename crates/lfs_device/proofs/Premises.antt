@@ -1,5 +1,5 @@
 -- One more call meets what is supposed of a device's calls.
-use Rattle.std.proofs.Common.{◌≡◌, ℕ, Bool, true, false, cond, length, Option, Some, None, List, [], ◌∷◌, inl, inr, refl, sym, subst, ◌∙◌}
+use Rattle.std.proofs.Common.{◌≡◌, ℕ, Bool, true, false, cond, length, Option, Some, None, List, ◌∷◌, inl, inr, refl, sym, subst, ◌∙◌}
 use Rattle.std.proofs.Math.Logic.{∥∥₁_map}
 use Rattle.lfs_model.specs.format.Blocks.{Blocks, block_bytes}
 use Rattle.lfs_model.specs.session.History.{DeviceCall, Read, Program, Erase, Blank, CallEvent, call_event}
@@ -10,13 +10,13 @@ use Rattle.lfs_model.proofs.Premises.{Meets, meets_nothing, meets_whole, premise
 use Rattle.lfs_model.proofs.RepeatedBytes.{no_log-repeated}
 use Rattle.lfs_device.specs.declared.device.BlockDevice.{Ghosts}
 use Rattle.lfs_device.specs.declared.fault.FaultExtent.{FaultExtent}
-use Rattle.lfs_device.specs.declared.fault.FaultExtent.TheVariants.{Nothing, FirstBytes, Whole}
+use Rattle.lfs_device.specs.declared.fault.FaultExtent.TheVariants.{Nothing, FirstBytes, AllButFirst, Whole}
 use Rattle.lfs_device.specs.declared.fault.PlannedFault.{PlannedFault}
 use Rattle.lfs_device.specs.declared.ram.Erased.{Erased}
 use Rattle.lfs_device.specs.declared.ram.Erased.TheVariants.{Fill, Keep}
 use Rattle.lfs_device.specs.CallsBelow.{PassesUnlessDue}
 use Rattle.lfs_device.specs.Erased.{FillIsByte, erased_bytes}
-use Rattle.lfs_device.specs.Fault.{is_counted, extent_if_due, is_partial, is_nth_call, has_stopped}
+use Rattle.lfs_device.specs.Fault.{is_counted, is_bad_call, extent_if_due, extent_with_bad, is_partial, is_nth_call, has_stopped}
 use Rattle.lfs_device.specs.DevicePremises.{DevicesMeetPremisesFaultless}
 
 -- ---- a history
@@ -53,18 +53,21 @@ tears None = false
 tears (Some extent) = is_partial extent
 
 tears_none : (fault : PlannedFault) (call : DeviceCall) (older : List CallEvent) → is_partial fault.extent ≡ false → tears (extent_if_due fault call older) ≡ false
-tears_none fault call older untorn = either (is_nth_call (is_counted fault.which call) fault.which fault.nth older) (has_stopped fault.which fault.nth fault.stops older)
+tears_none fault call older untorn =
+    either (is_nth_call (is_counted fault.which call) fault.which fault.nth older) (has_stopped fault.which fault.nth fault.stops older) (is_bad_call fault.bad_block call)
   where
-    either : (a b : Bool) → tears (cond a (Some fault.extent) (cond b (Some Nothing) None)) ≡ false
-    either true b = untorn
-    either false true = refl
-    either false false = refl
+    either : (a b bad : Bool) → tears (extent_with_bad bad (cond a (Some fault.extent) (cond b (Some Nothing) None))) ≡ false
+    either true b bad = untorn
+    either false true bad = refl
+    either false false true = refl
+    either false false false = refl
 
 meets_carried : {D : Type 0} (g : Ghosts D) (o : Option FaultExtent) (call : DeviceCall) (failed : Bool) (old new : D) → tears o ≡ false → PassesUnlessDue g o call failed old new
     → CallsConform (g.history new) → DevicesMeetPremisesFaultless g → Meets call failed (g.blocks old) (g.blocks new)
 meets_carried g None call failed old new untorn carried conforms reliable = premises_newest carried (reliable new).premises
 meets_carried g (Some Nothing) call failed old new untorn carried conforms reliable = rw (carried.0, carried.1) (meets_nothing call (g.blocks old))
 meets_carried g (Some (FirstBytes k)) call failed old new untorn carried conforms reliable = absurd (cc)
+meets_carried g (Some (AllButFirst k)) call failed old new untorn carried conforms reliable = absurd (cc)
 meets_carried g (Some Whole) call failed old new untorn carried conforms reliable =
     rw carried.0 (meets_whole (carried.1 ((reliable new).no_fault ∙ sym (reliable old).no_fault)) conforms (reliable new).premises)
 

@@ -3,7 +3,8 @@ use Rattle.std.specs.Prelude.{◌≡◌, ℕ, Bool, true, false, Option, Some, N
 use Rattle.lfs_device.specs.declared.device.BlockDevice.{Ghosts}
 use Rattle.lfs_device.specs.declared.error.Error.{Error}
 use Rattle.lfs_device.specs.declared.fault.FaultExtent.{FaultExtent}
-use Rattle.lfs_device.specs.declared.fault.FaultExtent.TheVariants.{Nothing, FirstBytes, Whole}
+use Rattle.lfs_device.specs.declared.fault.FaultExtent.TheVariants.{Nothing, FirstBytes, AllButFirst, Whole}
+use Rattle.lfs_model.specs.format.Blocks.{block_bytes}
 use Rattle.lfs_model.specs.session.History.{DeviceCall, call_event, fault_count}
 use Rattle.lfs_model.specs.session.History.DeviceCall.{Read, Program, Erase, Blank}
 
@@ -22,12 +23,20 @@ PassesProgramPart g (Read b off len) old new = new ≡ old
 PassesProgramPart g (Erase b) old new = new ≡ old
 PassesProgramPart g (Blank b off len) old new = new ≡ old
 
+-- Of an erase some is done (`KeepsFirstBytes` says how much). Another call does nothing.
+abbrev pub PassesErasePart : {D : Type 0} → Ghosts D → DeviceCall → D → D → Type 0
+PassesErasePart g (Erase b) old new = Unit {0}
+PassesErasePart g (Read b off len) old new = new ≡ old
+PassesErasePart g (Program b off bytes) old new = new ≡ old
+PassesErasePart g (Blank b off len) old new = new ≡ old
+
 -- A call that isn't due to fail is passed on, and fails only as the device below does. A call that is due fails, after the given
 -- part of it was done.
 abbrev pub PassesUnlessDue : {D : Type 0} → Ghosts D → Option FaultExtent → DeviceCall → Bool → D → D → Type 0
 PassesUnlessDue g None call failed old new = PassesCall g call failed old new
 PassesUnlessDue g (Some Nothing) call failed old new = (failed ≡ true) × (new ≡ old)
 PassesUnlessDue g (Some (FirstBytes k)) call failed old new = (failed ≡ true) × PassesProgramPart g call old new
+PassesUnlessDue g (Some (AllButFirst k)) call failed old new = (failed ≡ true) × PassesErasePart g call old new
 PassesUnlessDue g (Some Whole) call failed old new = (failed ≡ true) × (AddsNoFault g old new → PassesCall g call false old new)
 
 -- the fact holds where the call is Ok, and where it failed after all of it was done below without a fault
@@ -39,4 +48,9 @@ pub record IfDone {D X : Type 0} (g : Ghosts D) (due : Option FaultExtent) (old 
 abbrev pub programmed_bytes : FaultExtent → List ℕ → List ℕ
 programmed_bytes Nothing bytes = []
 programmed_bytes (FirstBytes k) bytes = take k bytes
+programmed_bytes (AllButFirst k) bytes = []
 programmed_bytes Whole bytes = bytes
+
+-- An erase that is cut short so leaves the block's first bytes as they were.
+abbrev pub KeepsFirstBytes : {D : Type 0} → Ghosts D → Option FaultExtent → ℕ → D → D → Type 0
+KeepsFirstBytes g due b old new = (k : ℕ) → due ≡ Some (AllButFirst k) → AddsNoFault g old new → take k (block_bytes (g.blocks new) b) ≡ take k (block_bytes (g.blocks old) b)

@@ -1,9 +1,9 @@
 -- Which calls of a device are to fail, and how much of them is done first.
-use Rattle.std.specs.Prelude.{ℕ, ◌+◌, Bool, true, false, not, ◌&&◌, ◌||◌, ◌==◌, nat_le, nat_lt, if◌then◌else◌, Option, Some, None, List, [], ◌∷◌}
+use Rattle.std.specs.Prelude.{ℕ, ◌+◌, Bool, true, false, not, ◌&&◌, ◌||◌, ◌==◌, nat_le, nat_lt, if◌then◌else◌, Option, Some, None, is_some, List, [], ◌∷◌}
 use Rattle.lfs_device.specs.declared.fault.CountedCalls.{CountedCalls}
 use Rattle.lfs_device.specs.declared.fault.CountedCalls.TheVariants.{Any, Read, Program, Erase}
 use Rattle.lfs_device.specs.declared.fault.FaultExtent.{FaultExtent}
-use Rattle.lfs_device.specs.declared.fault.FaultExtent.TheVariants.{Nothing, FirstBytes, Whole}
+use Rattle.lfs_device.specs.declared.fault.FaultExtent.TheVariants.{Nothing, FirstBytes, AllButFirst, Whole}
 use Rattle.lfs_device.specs.declared.fault.PlannedFault.{PlannedFault}
 use Rattle.lfs_model.specs.session.History.DeviceCall.{Read as Read', Program as Program', Erase as Erase'}
 use Rattle.lfs_model.specs.session.History.{DeviceCall, CallEvent, read_count, program_count, erase_count}
@@ -21,6 +21,17 @@ is_counted Program (Program' block off bytes) = true
 is_counted Erase (Erase' block) = true
 is_counted which call = false
 
+-- the block is the one that can't be written
+abbrev pub is_bad_block : Option ℕ → ℕ → Bool
+is_bad_block None b = false
+is_bad_block (Some bad) b = bad == b
+
+-- an erase or a program of the block that can't be written
+abbrev pub is_bad_call : Option ℕ → DeviceCall → Bool
+is_bad_call bad (Program' block off bytes) = is_bad_block bad block
+is_bad_call bad (Erase' block) = is_bad_block bad block
+is_bad_call bad call = false
+
 -- a call that counts is the one at which the device fails
 abbrev pub is_nth_call : Bool → CountedCalls → ℕ → List CallEvent → Bool
 is_nth_call counted which nth older = counted && call_count which older + 1 == nth
@@ -29,31 +40,38 @@ is_nth_call counted which nth older = counted && call_count which older + 1 == n
 abbrev pub has_stopped : CountedCalls → ℕ → Bool → List CallEvent → Bool
 has_stopped which nth stops older = stops && nat_lt 0 nth && nat_le nth (call_count which older)
 
--- the next call is to fail
-abbrev pub is_to_fail : CountedCalls → ℕ → Bool → DeviceCall → List CallEvent → Bool
-is_to_fail which nth stops call older = is_nth_call (is_counted which call) which nth older || has_stopped which nth stops older
-
--- how much of the call is done; none where it isn't due to fail
-abbrev pub failing_extent : PlannedFault → Bool → List CallEvent → Option FaultExtent
-failing_extent fault counted older =
+-- how much of a call is done at which the device fails by its number; none if it doesn't
+abbrev pub numbered_extent : PlannedFault → Bool → List CallEvent → Option FaultExtent
+numbered_extent fault counted older =
     if is_nth_call counted fault.which fault.nth older then Some fault.extent else
     (if has_stopped fault.which fault.nth fault.stops older then Some Nothing else None)
 
-abbrev pub extent_if_due : PlannedFault → DeviceCall → List CallEvent → Option FaultExtent
-extent_if_due fault call older = failing_extent fault (is_counted fault.which call) older
+-- the same, and none of a call that writes the block that can't be written
+abbrev pub extent_with_bad : Bool → Option FaultExtent → Option FaultExtent
+extent_with_bad bad (Some extent) = Some extent
+extent_with_bad bad None = if bad then Some Nothing else None
 
--- of a program the first bytes alone are stored
+-- how much of the call is done; none if it isn't due to fail
+abbrev pub extent_if_due : PlannedFault → DeviceCall → List CallEvent → Option FaultExtent
+extent_if_due fault call older = extent_with_bad (is_bad_call fault.bad_block call) (numbered_extent fault (is_counted fault.which call) older)
+
+-- the next call is to fail
+abbrev pub is_to_fail : PlannedFault → DeviceCall → List CallEvent → Bool
+is_to_fail fault call older = is_some (extent_if_due fault call older)
+
+-- a part of the call alone is done
 abbrev pub is_partial : FaultExtent → Bool
 is_partial Nothing = false
 is_partial (FirstBytes k) = true
+is_partial (AllButFirst k) = true
 is_partial Whole = false
 
 -- each call failed that was to fail
-abbrev pub have_due_failed : CountedCalls → ℕ → Bool → List CallEvent → Bool
-have_due_failed which nth stops [] = true
-have_due_failed which nth stops (e ∷ older) = (not (is_to_fail which nth stops e.call older) || e.failed) && have_due_failed which nth stops older
+abbrev pub have_due_failed : PlannedFault → List CallEvent → Bool
+have_due_failed fault [] = true
+have_due_failed fault (e ∷ older) = (not (is_to_fail fault e.call older) || e.failed) && have_due_failed fault older
 
 -- how many calls failed that weren't to fail
-abbrev pub unplanned_faults : CountedCalls → ℕ → Bool → List CallEvent → ℕ
-unplanned_faults which nth stops [] = 0
-unplanned_faults which nth stops (e ∷ older) = unplanned_faults which nth stops older + (if e.failed && not (is_to_fail which nth stops e.call older) then 1 else 0)
+abbrev pub unplanned_faults : PlannedFault → List CallEvent → ℕ
+unplanned_faults fault [] = 0
+unplanned_faults fault (e ∷ older) = unplanned_faults fault older + (if e.failed && not (is_to_fail fault e.call older) then 1 else 0)

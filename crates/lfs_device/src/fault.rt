@@ -1,13 +1,13 @@
-ghost use Rattle.std.specs.Prelude.{◌≡◌, ◌≤◌, ◌<◌, ◌+◌, ◌-◌, ◌^◌, ◌||◌, ℕ, true, false, min, [], length, slice_range, is_err, IfSome, OnOk, Some};
+ghost use Rattle.std.specs.Prelude.{◌≡◌, ◌≤◌, ◌<◌, ◌+◌, ◌-◌, ◌^◌, ◌||◌, ℕ, true, false, min, [], length, slice_range, is_err, IfSome, OnOk, Ok, None, Some};
 ghost use Rattle.lfs_model.specs.format.Blocks.{SameExcept, block_bytes, programmed};
 ghost use Rattle.lfs_model.specs.session.History.{read_count, program_count, erase_count, fault_count, is_unprogrammed_byte, LeftByLatest};
 ghost use Rattle.lfs_model.specs.session.History.DeviceCall.{Read, Program, Erase};
 ghost use Rattle.lfs_model.specs.crash.Conformance.{CallsConform};
 ghost use Rattle.lfs_model.specs.crash.Premises.{MeetsPremises};
 ghost use Rattle.lfs_device.specs.BlockCalls.{CanProgram, IsWithinBlock, Programs};
-ghost use Rattle.lfs_device.specs.Fault.{call_count, extent_if_due, failing_extent, have_due_failed, is_partial, unplanned_faults};
+ghost use Rattle.lfs_device.specs.Fault.{call_count, extent_if_due, extent_with_bad, have_due_failed, is_bad_block, is_partial, numbered_extent, unplanned_faults};
 ghost use Rattle.lfs_device.specs.DevicePremises.{DevicesMeetPremisesFaultless};
-ghost use Rattle.lfs_device.specs.CallsBelow.{AddsNoFault, PassesUnlessDue, programmed_bytes};
+ghost use Rattle.lfs_device.specs.CallsBelow.{AddsNoFault, KeepsFirstBytes, PassesUnlessDue, programmed_bytes};
 
 use crate::partial::{erase_as_planned, program_as_planned, read_as_planned};
 use crate::{BlockDevice, Error, Geometry, Trace};
@@ -28,6 +28,8 @@ pub enum FaultExtent {
     Nothing,
     /// A program stores its first `k` bytes, or all if it has fewer; any other call does nothing.
     FirstBytes(u32),
+    /// Of an erase all but the block's first `k` bytes, which stay. Of another call nothing.
+    AllButFirst(u32),
     /// All of the call.
     Whole,
 }
@@ -44,6 +46,8 @@ pub struct PlannedFault {
     pub stops: bool,
     /// How much of the failing call is done.
     pub extent: FaultExtent,
+    /// A block whose erases and programs all fail too, without an effect.
+    pub bad_block: Option<u32>,
 }
 
 /// A device over another device. One of its calls fails, for tests of faults.
@@ -55,12 +59,14 @@ pub struct FaultDevice<D: BlockDevice> {
     inner: D,
     fault: PlannedFault,
     tears: bool,
+    // Holds a block's bytes while an erase of it is cut short. Without it such an erase does nothing.
+    buffer: Option<Vec<u8>>,
     read_calls: u64,
     program_calls: u64,
     erase_calls: u64,
     trace: Trace,
-    pub ghost due_failed: { have_due_failed fault.which fault.nth fault.stops trace.events ≡ true },
-    pub ghost undue_faults: { unplanned_faults fault.which fault.nth fault.stops trace.events ≤ fault_count (D.history inner) },
+    pub ghost due_failed: { have_due_failed fault trace.events ≡ true },
+    pub ghost undue_faults: { unplanned_faults fault trace.events ≤ fault_count (D.history inner) },
     ghost reads_counted: { read_calls ≡ min (read_count trace.events) (2 ^ 64 - 1) },
     ghost programs_counted: { program_calls ≡ min (program_count trace.events) (2 ^ 64 - 1) },
     ghost erases_counted: { erase_calls ≡ min (erase_count trace.events) (2 ^ 64 - 1) },
@@ -79,21 +85,56 @@ impl<D: BlockDevice> FaultDevice<D> {
     /// as programmed.
     pub fn new(inner: D, which: CountedCalls, n: u64, stop: bool) -> FaultDevice<D>
         ensures inner { inner_device result ≡ inner }
-        ensures fault { planned_fault result ≡ record { which = which; nth = n; stops = stop; extent = FaultExtent.Nothing } }
+        ensures fault { planned_fault result ≡ record { which = which; nth = n; stops = stop; extent = FaultExtent.Nothing; bad_block = None } }
+        ensures tears { can_tear result ≡ false }
+        ensures no_call { fault_history result ≡ [] }
+    {
+        FaultDevice::with_fault(
+            inner,
+            PlannedFault {
+                which,
+                nth: n,
+                stops: stop,
+                extent: FaultExtent::Nothing,
+                bad_block: None,
+            },
+        )
+    }
+
+    /// Makes a device that can't write one block: each erase and program of it fails without an
+    /// effect. Every byte counts as programmed.
+    pub fn with_bad_block(inner: D, block: u32) -> FaultDevice<D>
+        ensures inner { inner_device result ≡ inner }
+        ensures fault { planned_fault result ≡ record { which = CountedCalls.Any; nth = 0; stops = false; extent = FaultExtent.Nothing; bad_block = Some block } }
+        ensures tears { can_tear result ≡ false }
+        ensures no_call { fault_history result ≡ [] }
+    {
+        FaultDevice::with_fault(
+            inner,
+            PlannedFault {
+                which: CountedCalls::Any,
+                nth: 0,
+                stops: false,
+                extent: FaultExtent::Nothing,
+                bad_block: Some(block),
+            },
+        )
+    }
+
+    // Makes a device with a fault that does no part of a call alone.
+    fn with_fault(inner: D, fault: PlannedFault) -> FaultDevice<D>
+        requires { is_partial fault.extent ≡ false }
+        ensures inner { inner_device result ≡ inner }
+        ensures fault { planned_fault result ≡ fault }
         ensures tears { can_tear result ≡ false }
         ensures no_call { fault_history result ≡ [] }
     {
         let trace = Trace::with_ghost_history(&inner, &());
-        let fault = PlannedFault {
-            which,
-            nth: n,
-            stops: stop,
-            extent: FaultExtent::Nothing,
-        };
         FaultDevice {
             inner,
             fault,
             tears: false,
+            buffer: None,
             read_calls: 0,
             program_calls: 0,
             erase_calls: 0,
@@ -112,6 +153,19 @@ impl<D: BlockDevice> FaultDevice<D> {
         self.with_fault_extent(FaultExtent::FirstBytes(k))
     }
 
+    /// Returns the same device, whose failing call, if it is an erase, leaves the block's first `k`
+    /// bytes as they were. The buffer is as long as a block. With another one such an erase does
+    /// nothing.
+    pub fn torn_erase(mut self, k: u32, buffer: Vec<u8>) -> FaultDevice<D>
+        ensures inner { inner_device result ≡ inner_device self }
+        ensures fault { planned_fault result ≡ record (planned_fault self) { extent = FaultExtent.AllButFirst k } }
+        ensures tears { can_tear result ≡ true }
+        ensures history { fault_history result ≡ fault_history self }
+    {
+        self.buffer = Some(buffer);
+        self.with_fault_extent(FaultExtent::AllButFirst(k))
+    }
+
     /// Returns the same device, whose failing call is done whole and then fails.
     pub fn whole(self) -> FaultDevice<D>
         ensures inner { inner_device result ≡ inner_device self }
@@ -128,7 +182,7 @@ impl<D: BlockDevice> FaultDevice<D> {
         ensures tears { can_tear result ≡ (can_tear self || is_partial extent) }
         ensures history { fault_history result ≡ fault_history self }
     {
-        self.tears = self.tears || matches!(extent, FaultExtent::FirstBytes(_));
+        self.tears = self.tears || is_part(extent);
         self.fault.extent = extent;
         self
     }
@@ -141,6 +195,7 @@ impl<D: BlockDevice> FaultDevice<D> {
             inner,
             fault: _,
             tears: _,
+            buffer: _,
             read_calls: _,
             program_calls: _,
             erase_calls: _,
@@ -172,8 +227,8 @@ impl<D: BlockDevice> FaultDevice<D> {
         }
     }
 
-    /// Returns whether [`torn`](FaultDevice::torn) was ever called: then a program may store its
-    /// first bytes alone.
+    /// Returns whether [`torn`](FaultDevice::torn) or [`torn_erase`](FaultDevice::torn_erase) was
+    /// ever called: then a part of a program or of an erase alone may be done.
     pub fn may_tear_program(&self) -> bool
         ensures { result ≡ can_tear self.now }
     {
@@ -181,15 +236,16 @@ impl<D: BlockDevice> FaultDevice<D> {
     }
 
     /// Shows a proof the premises of contracts about a loss of power. The device meets them where
-    /// no program is torn and the devices below are reliable. The call does nothing at run time.
+    /// no program and no erase is torn and the devices below are reliable. The call does nothing at
+    /// run time.
     pub fn lemma_premises_hold(&self)
         ensures { can_tear self.now ≡ false → DevicesMeetPremisesFaultless ⟦<D as BlockDevice>⟧ → MeetsPremises (fault_history self.now) }
     {}
 
     // Returns how much of the next call is done before it fails, if it is due to fail. `counts`
     // says whether the call is counted.
-    fn next_fault_extent(&self, counts: bool) -> Option<FaultExtent>
-        ensures { result ≡ failing_extent self.now.fault counts self.now.trace.events }
+    fn numbered_extent(&self, counts: bool) -> Option<FaultExtent>
+        ensures { result ≡ numbered_extent self.now.fault counts self.now.trace.events }
     {
         let so_far = self.calls(self.fault.which);
         if self.fault.nth == 0 {
@@ -203,6 +259,36 @@ impl<D: BlockDevice> FaultDevice<D> {
         }
         None
     }
+
+    // Returns the same of a call that writes a block.
+    fn extent_at_block(&self, counts: bool, block: u32) -> Option<FaultExtent>
+        ensures { result ≡ extent_with_bad (is_bad_block self.now.fault.bad_block block) (numbered_extent self.now.fault counts self.now.trace.events) }
+    {
+        match self.numbered_extent(counts) {
+            Some(extent) => Some(extent),
+            None if self.is_bad(block) => Some(FaultExtent::Nothing),
+            None => None,
+        }
+    }
+
+    fn is_bad(&self, block: u32) -> bool
+        ensures { result ≡ is_bad_block self.now.fault.bad_block block }
+    {
+        match self.fault.bad_block {
+            Some(bad) => bad == block,
+            None => false,
+        }
+    }
+}
+
+// Whether such a fault does a part of a call alone.
+fn is_part(extent: FaultExtent) -> bool
+    ensures { result ≡ is_partial extent }
+{
+    matches!(
+        extent,
+        FaultExtent::FirstBytes(_) | FaultExtent::AllButFirst(_)
+    )
 }
 
 impl<D: BlockDevice> BlockDevice for FaultDevice<D> {
@@ -238,7 +324,7 @@ impl<D: BlockDevice> BlockDevice for FaultDevice<D> {
         ensures noted { AddsCall (Read block off (length buf.old)) self.old self.new result }
     {
         let counts = matches!(self.fault.which, CountedCalls::Any | CountedCalls::Read);
-        let due = self.next_fault_extent(counts);
+        let due = self.numbered_extent(counts);
         let begun = Trace::with_ghost_history(self, &(block, off, buf.len()));
         self.read_calls = self.read_calls.saturating_add(1);
         let outcome = read_as_planned(&mut self.inner, due, block, off, buf);
@@ -257,7 +343,7 @@ impl<D: BlockDevice> BlockDevice for FaultDevice<D> {
         ensures noted { AddsCall (Program block off bytes.now) self.old self.new result }
     {
         let counts = matches!(self.fault.which, CountedCalls::Any | CountedCalls::Program);
-        let due = self.next_fault_extent(counts);
+        let due = self.extent_at_block(counts, block);
         let begun = Trace::with_ghost_history(self, &(block, off, bytes));
         self.program_calls = self.program_calls.saturating_add(1);
         let outcome = program_as_planned(&mut self.inner, due, block, off, bytes);
@@ -269,15 +355,25 @@ impl<D: BlockDevice> BlockDevice for FaultDevice<D> {
         requires { block < (D.geometry (inner_device self.old)).block_count }
         ensures carried { PassesUnlessDue ⟦<D as BlockDevice>⟧ (extent_if_due (planned_fault self.old) (Erase block) (fault_history self.old))
             (Erase block) (is_err result) (inner_device self.old) (inner_device self.new) }
+        ensures kept { KeepsFirstBytes ⟦<D as BlockDevice>⟧ (extent_if_due (planned_fault self.old) (Erase block) (fault_history self.old)) block (inner_device self.old) (inner_device self.new) }
         ensures others { SameExcept block (inner_blocks self.old) (inner_blocks self.new) }
         ensures noted { AddsCall (Erase block) self.old self.new result }
     {
         let counts = matches!(self.fault.which, CountedCalls::Any | CountedCalls::Erase);
-        let due = self.next_fault_extent(counts);
+        let due = self.extent_at_block(counts, block);
         let begun = Trace::with_ghost_history(self, &block);
         self.erase_calls = self.erase_calls.saturating_add(1);
-        let outcome = erase_as_planned(&mut self.inner, due, block);
+        let outcome = erase_as_planned(&mut self.inner, due, block, &mut self.buffer);
         self.trace = Trace::with_ghost_history(&self.inner, &(begun, outcome.is_err()));
         outcome
+    }
+    /// Answers no, without a call.
+    fn is_unprogrammed(&mut self, block: u32, off: u32, len: u32) -> Result<bool, Error>
+        requires within { IsWithinBlock (D.geometry (inner_device self.old)) block off len }
+        ensures no { result ≡ Ok false }
+        ensures same { self.new ≡ self.old }
+    {
+        let _ = (block, off, len);
+        Ok(false)
     }
 }

@@ -1,10 +1,10 @@
-ghost use Rattle.std.specs.Prelude.{◌≡◌, ◌≤◌, ◌<◌, ◌+◌, length, take, slice_range, is_err, IfSome, IfErr, OnOk, OnErr};
+ghost use Rattle.std.specs.Prelude.{◌≡◌, ◌≤◌, ◌<◌, ◌+◌, length, take, slice_range, is_err, Err, IfSome, IfErr, OnOk, OnErr};
 ghost use Rattle.lfs_model.specs.format.Blocks.{block_bytes, programmed};
 ghost use Rattle.lfs_model.specs.session.History.{fault_count};
 ghost use Rattle.lfs_model.specs.session.History.DeviceCall.{Read, Program, Erase};
 ghost use Rattle.lfs_device.specs.DeviceCalls.{ReadsOnly};
 ghost use Rattle.lfs_device.specs.BlockCalls.{CanProgram, IsWithinBlock};
-ghost use Rattle.lfs_device.specs.CallsBelow.{AddsNoFault, IfDone, PassesUnlessDue, programmed_bytes};
+ghost use Rattle.lfs_device.specs.CallsBelow.{AddsNoFault, IfDone, KeepsFirstBytes, PassesUnlessDue, programmed_bytes};
 ghost use Rattle.lfs_device.specs.Partial.{ChangesOnlyErasedBlock, ChangesOnlyRange, IsUnprogrammedPage};
 
 use crate::fault::FaultExtent;
@@ -54,6 +54,7 @@ pub(crate) fn program_as_planned<D: BlockDevice>(
     match due {
         None => device.prog(block, off, bytes),
         Some(FaultExtent::Nothing) => Err(Error::Io),
+        Some(FaultExtent::AllButFirst(_)) => Err(Error::Io),
         Some(FaultExtent::FirstBytes(k)) => {
             let _ = program_first_bytes(device, block, off, bytes, k);
             Err(Error::Io)
@@ -70,20 +71,64 @@ pub(crate) fn erase_as_planned<D: BlockDevice>(
     device: &mut D,
     due: Option<FaultExtent>,
     block: u32,
+    buffer: &mut Option<Vec<u8>>,
 ) -> Result<(), Error>
     requires { block < (D.geometry device.old).block_count }
     ensures carried { PassesUnlessDue ⟦<D as BlockDevice>⟧ due (Erase block) (is_err result) device.old device.new }
+    ensures kept { KeepsFirstBytes ⟦<D as BlockDevice>⟧ due block device.old device.new }
     ensures block { ChangesOnlyErasedBlock D.BlockDevice block device.old device.new result }
     ensures error { IfErr result (λ e. e ≡ Error.Io) }
 {
     match due {
         None => device.erase(block),
+        Some(FaultExtent::AllButFirst(k)) => {
+            erase_all_but_first(device, block, k, buffer);
+            Err(Error::Io)
+        }
         Some(FaultExtent::Whole) => {
             let _ = device.erase(block);
             Err(Error::Io)
         }
         Some(_) => Err(Error::Io),
     }
+}
+
+// Erases a block, and then programs the first `k` bytes that it had. Does nothing without a buffer
+// as long as a block.
+fn erase_all_but_first<D: BlockDevice>(
+    device: &mut D,
+    block: u32,
+    k: u32,
+    buffer: &mut Option<Vec<u8>>,
+)
+    requires { block < (D.geometry device.old).block_count }
+    ensures kept { AddsNoFault ⟦<D as BlockDevice>⟧ device.old device.new → take k (block_bytes (D.blocks device.new) block) ≡ take k (block_bytes (D.blocks device.old) block) }
+    ensures block { ChangesOnlyErasedBlock D.BlockDevice block device.old device.new (Err Error.Io) }
+{
+    let block_size = device.geometry().block_size as usize;
+    if let Some(bytes) = buffer {
+        if bytes.len() == block_size {
+            let _ = erase_behind_first(device, block, k, bytes);
+        }
+    }
+}
+
+// The same with a buffer as long as a block.
+fn erase_behind_first<D: BlockDevice>(
+    device: &mut D,
+    block: u32,
+    k: u32,
+    bytes: &mut [u8],
+) -> Result<(), Error>
+    requires in_device { block < (D.geometry device.old).block_count }
+    requires long { length bytes.old ≡ (D.geometry device.old).block_size }
+    ensures kept { OnOk result (take k (block_bytes (D.blocks device.new) block) ≡ take k (block_bytes (D.blocks device.old) block)) }
+    ensures block { ChangesOnlyErasedBlock D.BlockDevice block device.old device.new (Err Error.Io) }
+    ensures err { OnErr result (fault_count (D.history device.old) < fault_count (D.history device.new)) }
+{
+    device.read(block, 0, bytes)?;
+    device.erase(block)?;
+    program_first_bytes(device, block, 0, bytes, k)
 }
 
 /// Programs the first `k` of these bytes, all where there are fewer. The bytes after them stay as

@@ -38,7 +38,7 @@ pub struct RamDevice {
 }
 
 impl RamDevice {
-    ghost use Rattle.lfs_device.specs.RamDevice.{ram_geometry, ram_bytes, ram_blocks, erase_setting, ram_history};
+    ghost use Rattle.lfs_device.specs.RamDevice.{ram_geometry, ram_bytes, ram_blocks, erase_setting, checks_blanks, ram_history};
 
     /// Makes a device that holds 0xff in every byte. An erase fills a block with 0xff. Every byte
     /// counts as programmed.
@@ -47,7 +47,7 @@ impl RamDevice {
     pub fn blank(alloc: Global, geometry: Geometry) -> Result<RamDevice, Error>
         ensures geometry { IfOk result (λ d. ram_geometry d ≡ geometry) }
         ensures bytes { IfOk result (λ d. ram_bytes d ≡ replicate (geometry.block_size * geometry.block_count) 255) }
-        ensures erased { IfOk result (λ d. erase_setting d ≡ Erased.Fill 255) }
+        ensures settings { IfOk result (λ d. (erase_setting d ≡ Erased.Fill 255) × (checks_blanks d ≡ false)) }
         ensures no_call { IfOk result (λ d. ram_history d ≡ []) }
         ensures err { OnErr result (result ≡ Err Error.NoMemory) }
     {
@@ -68,7 +68,7 @@ impl RamDevice {
     /// Errors: `Invalid` exactly where the number of bytes isn't that of the geometry.
     pub fn from_bytes(geometry: Geometry, bytes: Vec<u8>) -> Result<RamDevice, Error>
         ensures made { MatchResult result
-            (λ d. (ram_geometry d ≡ geometry) × (ram_bytes d ≡ bytes.items) × (erase_setting d ≡ Erased.Fill 255))
+            (λ d. (ram_geometry d ≡ geometry) × (ram_bytes d ≡ bytes.items) × (erase_setting d ≡ Erased.Fill 255) × (checks_blanks d ≡ false))
             (λ e. (e ≡ Error.Invalid) × (¬ (length bytes.items ≡ geometry.block_size * geometry.block_count))) }
         ensures no_call { IfOk result (λ d. ram_history d ≡ []) }
     {
@@ -89,6 +89,7 @@ impl RamDevice {
         ensures geometry { ram_geometry result ≡ ram_geometry self }
         ensures bytes { ram_bytes result ≡ ram_bytes self }
         ensures erased { erase_setting result ≡ erased }
+        ensures checks { checks_blanks result ≡ checks_blanks self }
         ensures history { ram_history result ≡ ram_history self }
     {
         let RamDevice {
@@ -113,6 +114,7 @@ impl RamDevice {
         ensures geometry { ram_geometry result ≡ ram_geometry self }
         ensures bytes { ram_bytes result ≡ ram_bytes self }
         ensures erased { erase_setting result ≡ erase_setting self }
+        ensures checks { checks_blanks result ≡ true }
         ensures history { ram_history result ≡ ram_history self }
     {
         let RamDevice {
@@ -189,7 +191,7 @@ impl BlockDevice for RamDevice {
     ghost use Rattle.lfs_model.proofs.Cuts.{HasBlockSizes-cut};
     ghost use Rattle.lfs_device.specs.ByteLists.{HasBytes-cut};
     ghost use Rattle.lfs_device.specs.BlockCalls.{CanProgram, IsWithinBlock};
-    ghost use Rattle.lfs_device.specs.RamDevice.{KeepsSettings, ram_geometry, ram_bytes, ram_blocks, erase_setting, ram_history};
+    ghost use Rattle.lfs_device.specs.RamDevice.{KeepsSettings, ram_geometry, ram_bytes, ram_blocks, erase_setting, checks_blanks, ram_history};
 
     ghost geometry = { ram_geometry };
 
@@ -257,6 +259,7 @@ impl BlockDevice for RamDevice {
     fn is_unprogrammed(&mut self, block: u32, off: u32, len: u32) -> Result<bool, Error>
         requires within { IsWithinBlock (ram_geometry self.old) block off len }
         ensures ok { IsOk result }
+        ensures unasked { checks_blanks self.old ≡ false → result ≡ Ok false }
         ensures same { ram_blocks self.new ≡ ram_blocks self.old }
         ensures settings { KeepsSettings self.old self.new }
         ensures yes { result ≡ Ok true → ram_history self.new ≡ call_event (Blank block off len) (ram_blocks self.old) (ram_blocks self.new) false ∷ ram_history self.old }

@@ -186,7 +186,7 @@ const LINES: [(&str, &str); 81] = [
     ("mount any 1 stop torn 1", "a command"),
     (
         "mount any 1 stop torn 1 2",
-        "too many words: mount [KIND N [stop] [torn K | whole]]",
+        "too many words: mount [KIND N [stop] [torn K | kept K | whole]]",
     ),
     // Bytes of the device in hand.
     ("put 0 0 \\x00", "a command"),

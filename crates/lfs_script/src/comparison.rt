@@ -1,6 +1,6 @@
 // Comparisons of sessions with others on bytes like those of their devices.
 
-use crate::hand::{Device, NO_FAULT, device_with_planned_fault};
+use crate::hand::{Device, device_without_fault};
 use lfs_device::{BlockDevice, Error, Geometry, RamDevice};
 use lfs_fs::{Item, Kind, OpenFlags, Reply, Session, mount};
 use lfs_script_lines::{Answer, ComparisonScope, SessionDifference};
@@ -13,7 +13,7 @@ fn mount_image_bytes_in_memory(
     bytes: Vec<u8>,
 ) -> Result<Session<Device>, Error> {
     let device = RamDevice::from_bytes(geometry, bytes)?;
-    match mount(alloc, device_with_planned_fault(device, NO_FAULT)) {
+    match mount(alloc, device_without_fault(device)) {
         Ok(session) => Ok(session),
         Err((_, error)) => Err(error),
     }

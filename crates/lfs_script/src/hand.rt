@@ -1,9 +1,12 @@
 // The device in hand, and the session over it.
 
 use crate::counted_device::DeviceWithCountedFaults;
-use lfs_device::{CountedCalls, FaultDevice, FaultExtent, PlannedFault, RamDevice};
+use lfs_device::{
+    BlockDevice, CountedCalls, Error, FaultDevice, FaultExtent, PlannedFault, RamDevice,
+};
 use lfs_fs::Session;
 use lfs_script_lines::DeviceCallCounts;
+use std::alloc::Global;
 
 /// A device in memory, one of whose calls may fail.
 pub type Device = DeviceWithCountedFaults<FaultDevice<RamDevice>>;
@@ -14,17 +17,32 @@ pub const NO_FAULT: PlannedFault = PlannedFault {
     nth: 0,
     stops: false,
     extent: FaultExtent::Nothing,
+    bad_block: None,
 };
 
-/// Counts the calls of the device from now on. One of them may fail.
-pub fn device_with_planned_fault(device: RamDevice, fault: PlannedFault) -> Device {
+/// Counts the calls of the device from now on. One of them may fail. `NoMemory` comes if an erase
+/// that is cut short has no memory for the bytes of a block.
+pub fn device_with_planned_fault(
+    alloc: Global,
+    device: RamDevice,
+    fault: PlannedFault,
+) -> Result<Device, Error> {
+    let block_size = device.geometry().block_size as usize;
     let device = FaultDevice::new(device, fault.which, fault.nth, fault.stops);
     let device = match fault.extent {
         FaultExtent::Nothing => device,
         FaultExtent::FirstBytes(count) => device.torn(count),
+        FaultExtent::AllButFirst(count) => {
+            device.torn_erase(count, Vec::from_elem(alloc, 0u8, block_size)?)
+        }
         FaultExtent::Whole => device.whole(),
     };
-    DeviceWithCountedFaults::new(device)
+    Ok(DeviceWithCountedFaults::new(device))
+}
+
+/// Counts the calls of the device from now on. None fails.
+pub fn device_without_fault(device: RamDevice) -> Device {
+    DeviceWithCountedFaults::new(FaultDevice::new(device, CountedCalls::Any, 0, false))
 }
 
 /// The device that a script works with, and its session.

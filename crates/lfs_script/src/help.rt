@@ -18,9 +18,11 @@ Devices:
                             without options version 2.0, the format's own
                             limits, and pairs that stay at their places
   unmount                   ends the session
-  mount [KIND N [stop] [torn K | whole]]  mounts the device; its N-th call of
-                            KIND (any, read, program, erase) fails
-  format [KIND N [stop] [torn K | whole]]  makes the device empty, likewise
+  mount [KIND N [stop] [torn K | kept K | whole]]
+                            mounts the device; its N-th call of KIND (any, read,
+                            program, erase) fails
+  format [KIND N [stop] [torn K | kept K | whole]]
+                            makes the device empty, likewise
   put BLOCK OFFSET BYTES [fill XX | keep]  ends the session, and puts bytes
                             over those of the device
   bytes BLOCK OFFSET N      shows N bytes of the device

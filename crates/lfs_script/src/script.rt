@@ -4,6 +4,7 @@ use crate::comparison::{compare_session_with_copy, compare_session_with_image};
 use crate::files::{read_file, write_file};
 use crate::hand::{
     Device, NO_FAULT, ScriptDevice, call_counts_of_device, device_with_planned_fault,
+    device_without_fault,
 };
 use crate::operation_calls::perform_script_operation;
 use lfs_device::{BlockDevice, Erased, Error, Geometry, PlannedFault, RamDevice};
@@ -75,13 +76,19 @@ impl<'a, R: Files + AllocGlobal> Script<'a, R> {
     }
 
     fn mount(&mut self, device: RamDevice, fault: PlannedFault) -> Answer {
-        let device = device_with_planned_fault(device, fault);
+        let device = match device_with_planned_fault(self.rt.alloc(), device, fault) {
+            Ok(device) => device,
+            Err(error) => return Answer::Error(error),
+        };
         let begun = mount(self.rt.alloc(), device);
         self.take_session_or_device(begun)
     }
 
     fn format(&mut self, device: RamDevice, order: NameOrder, fault: PlannedFault) -> Answer {
-        let device = device_with_planned_fault(device, fault);
+        let device = match device_with_planned_fault(self.rt.alloc(), device, fault) {
+            Ok(device) => device,
+            Err(error) => return Answer::Error(error),
+        };
         let begun = format_ordered(self.rt.alloc(), device, order);
         self.take_session_or_device(begun)
     }
@@ -152,7 +159,7 @@ impl<'a, R: Files + AllocGlobal> Script<'a, R> {
         match RamDevice::from_bytes(geometry, bytes) {
             Ok(device) => {
                 let device = device.with_erased(erased);
-                self.hand = ScriptDevice::Device(device_with_planned_fault(device, NO_FAULT));
+                self.hand = ScriptDevice::Device(device_without_fault(device));
                 answer
             }
             Err(error) => Answer::Error(error),

@@ -82,8 +82,8 @@ impl CommandName {
                 "profile [also-2.1] [name-max N] [file-max N] [attr-max N] [inline-max N] [pair-cycles N]"
             }
             CommandName::Unmount => "unmount",
-            CommandName::Mount => "mount [KIND N [stop] [torn K | whole]]",
-            CommandName::Format => "format [KIND N [stop] [torn K | whole]]",
+            CommandName::Mount => "mount [KIND N [stop] [torn K | kept K | whole]]",
+            CommandName::Format => "format [KIND N [stop] [torn K | kept K | whole]]",
             CommandName::Put => "put BLOCK OFFSET BYTES [fill XX | keep]",
             CommandName::Bytes => "bytes BLOCK OFFSET N",
             CommandName::Save => "save FILE",

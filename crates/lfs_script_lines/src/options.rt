@@ -69,6 +69,10 @@ fn extent_at(words: &[&[u8]], place: usize) -> Result<FaultExtent, LineError> {
             words,
             place.saturating_add(1),
         )?)),
+        2 if is_keyword(word, b"kept") => Ok(FaultExtent::AllButFirst(number_at(
+            words,
+            place.saturating_add(1),
+        )?)),
         _ => Err(no_options(place)),
     }
 }
@@ -101,6 +105,7 @@ fn given_fault(words: &[&[u8]]) -> Result<PlannedFault, LineError> {
         nth: u64::from(nth),
         stops,
         extent,
+        bad_block: None,
     })
 }
 
@@ -112,6 +117,7 @@ pub(crate) fn fault_of_words(words: &[&[u8]]) -> Result<PlannedFault, LineError>
             nth: 0,
             stops: false,
             extent: FaultExtent::Nothing,
+            bad_block: None,
         }),
         2 => Err(no_options(1)),
         _ => given_fault(words),

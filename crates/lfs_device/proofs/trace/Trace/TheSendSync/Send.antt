@@ -1,5 +1,4 @@
 -- A trace owns nothing, so it may go to another thread.
-use denote.RattleType.{RattleType}
 use denote.Param.Send.{IsSend, owning_send}
 use Rattle.lfs_device.specs.contracts.trace.Trace.{the_row, the_type}
 

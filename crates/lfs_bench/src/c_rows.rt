@@ -142,8 +142,28 @@ fn make_files_for_benchmark_row(
     }
 }
 
-// Performs the operations of a row, which alone are timed.
+// Performs the operations of a row, which alone are timed. Returns the last session.
 fn perform_benchmark_row(
+    alloc: Global,
+    session: Measured,
+    row: Row,
+    bytes: &mut Buffer,
+    count: u32,
+) -> Result<Measured, Error> {
+    let mut session = session;
+    match row {
+        Row::Wear => wear::perform_pseudorandom_operations(alloc, session, count),
+        Row::BootLog => wear::append_log_after_each_mount(alloc, session, count),
+        Row::BootCount => wear::write_counter_after_each_mount(alloc, session, count),
+        _ => {
+            perform_row_in_session(alloc, &mut session, row, bytes, count)?;
+            Ok(session)
+        }
+    }
+}
+
+// Performs the operations of a row that is no row about wear.
+fn perform_row_in_session(
     alloc: Global,
     session: &mut Measured,
     row: Row,
@@ -180,9 +200,7 @@ fn perform_benchmark_row(
         Row::StatDeep => files::stat_deeply_nested_file(alloc, session, count),
         Row::TinyWrite => contents::write_ten_bytes_repeatedly(alloc, session, count),
         Row::Mount => session.remount(alloc),
-        Row::Wear => wear::perform_pseudorandom_operations(alloc, session, count),
-        Row::BootLog => wear::append_log_after_each_mount(alloc, session, count),
-        Row::BootCount => wear::write_counter_after_each_mount(alloc, session, count),
+        Row::Wear | Row::BootLog | Row::BootCount => Ok(()),
     }
 }
 
@@ -212,27 +230,34 @@ fn show_erases(rt: &HostRuntime, session: &Measured) -> io::Result<()> {
     Ok(())
 }
 
-// Prepares a session, performs the row, and prints its costs after its name.
+// Prepares a session, performs the row, and prints its costs after its name. Of a row about wear it
+// also prints how often each block was erased.
 fn measure_benchmark_row(
     rt: &HostRuntime,
-    session: &mut Measured,
+    session: Measured,
     row: Row,
     name: &str,
     count: u32,
 ) -> io::Result<()> {
+    let mut session = session;
     let mut bytes = [b'x'; BLOCK as usize];
-    if let Err(error) = make_files_for_benchmark_row(rt.alloc(), session, row, &bytes, count) {
+    if let Err(error) = make_files_for_benchmark_row(rt.alloc(), &mut session, row, &bytes, count) {
         return println!(rt; "{error:?}");
     }
     let before = session.device().counts();
     let start = Instant::now(rt)?;
     let outcome = perform_benchmark_row(rt.alloc(), session, row, &mut bytes, count);
     let time = start.elapsed(rt)?;
-    if let Err(error) = outcome {
-        return println!(rt; "{error:?}");
-    }
+    let session = match outcome {
+        Ok(session) => session,
+        Err(error) => return println!(rt; "{error:?}"),
+    };
     let counts = session.device().counts().since(&before);
-    print_device_call_counts(rt, name, &counts, time.as_nanos())
+    print_device_call_counts(rt, name, &counts, time.as_nanos())?;
+    match row {
+        Row::Wear | Row::BootLog | Row::BootCount => show_erases(rt, &session),
+        _ => Ok(()),
+    }
 }
 
 /// Performs a row on a device, with so many operations. Prints the row, its reads, bytes read,
@@ -247,13 +272,8 @@ pub fn run_benchmark_row(
     let Some(row) = row_of_name(name) else {
         return eprintln!(rt; "there is no such row");
     };
-    let mut session = match formatted_session(rt.alloc(), device) {
-        Ok(session) => session,
-        Err(error) => return println!(rt; "{error:?}"),
-    };
-    measure_benchmark_row(rt, &mut session, row, name, count)?;
-    match row {
-        Row::Wear | Row::BootLog | Row::BootCount => show_erases(rt, &session),
-        _ => Ok(()),
+    match formatted_session(rt.alloc(), device) {
+        Ok(session) => measure_benchmark_row(rt, session, row, name, count),
+        Err(error) => println!(rt; "{error:?}"),
     }
 }

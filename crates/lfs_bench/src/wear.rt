@@ -3,6 +3,7 @@
 use crate::contents::{append_bytes_to_file, replace_file_contents};
 use crate::files::{Measured, file_path, make_directories};
 use lfs_device::Error;
+use lfs_fs::mount;
 use std::alloc::Global;
 
 const FILE: [u8; 700] = [b'x'; 700];
@@ -38,46 +39,57 @@ fn perform_pseudorandom_operation(
     }
 }
 
-/// Performs so many operations, with a mount after each 20.
+// Ends a session and mounts its device, as after a boot.
+fn mount_again(alloc: Global, session: Measured) -> Result<Measured, Error> {
+    match mount(alloc, session.unmount()) {
+        Ok(session) => Ok(session),
+        Err((_, error)) => Err(error),
+    }
+}
+
+/// Performs so many operations, with a mount after each 20. Returns the last session.
 pub fn perform_pseudorandom_operations(
     alloc: Global,
-    session: &mut Measured,
+    session: Measured,
     count: u32,
-) -> Result<(), Error> {
-    make_directories(alloc, session, 3)?;
+) -> Result<Measured, Error> {
+    let mut session = session;
+    make_directories(alloc, &mut session, 3)?;
     let mut state = 1u32;
     for number in 0..count {
         state = state.wrapping_mul(1_103_515_245).wrapping_add(12345);
-        perform_pseudorandom_operation(alloc, session, state)?;
+        perform_pseudorandom_operation(alloc, &mut session, state)?;
         if number % 20 == 19 {
-            session.remount(alloc)?;
+            session = mount_again(alloc, session)?;
         }
     }
-    Ok(())
+    Ok(session)
 }
 
-/// Mounts so often, each time with 100 bytes appended to a log.
+/// Mounts so often, each time with 100 bytes appended to a log. Returns the last session.
 pub fn append_log_after_each_mount(
     alloc: Global,
-    session: &mut Measured,
+    session: Measured,
     count: u32,
-) -> Result<(), Error> {
+) -> Result<Measured, Error> {
+    let mut session = session;
     for _ in 0..count {
-        session.remount(alloc)?;
-        append_log(alloc, session, &FILE[..100])?;
+        session = mount_again(alloc, session)?;
+        append_log(alloc, &mut session, &FILE[..100])?;
     }
-    Ok(())
+    Ok(session)
 }
 
-/// Mounts so often, each time with a counter that is written anew.
+/// Mounts so often, each time with a counter that is written again. Returns the last session.
 pub fn write_counter_after_each_mount(
     alloc: Global,
-    session: &mut Measured,
+    session: Measured,
     count: u32,
-) -> Result<(), Error> {
+) -> Result<Measured, Error> {
+    let mut session = session;
     for _ in 0..count {
-        session.remount(alloc)?;
-        replace_file_contents(alloc, session, b"/count", b"1234")?;
+        session = mount_again(alloc, session)?;
+        replace_file_contents(alloc, &mut session, b"/count", b"1234")?;
     }
-    Ok(())
+    Ok(session)
 }

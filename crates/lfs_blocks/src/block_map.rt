@@ -140,15 +140,22 @@ impl BlockMap {
 
     /// Sets where the search of [`take`](BlockMap::take) begins: at the first free block from
     /// `number` on. Returns that block, which [`take_from`](BlockMap::take_from) would take. The
-    /// states of the blocks stay. Returns None exactly where no block is free.
+    /// states of the blocks stay. Returns None exactly if no block is free; the search then begins at
+    /// `number`.
     pub fn start_search_at(&mut self, number: u32) -> Option<u32>
         ensures next { IfSome result (IsNextFree self.old (number % length self.old)) }
         ensures none { IfNone result ((block : ℕ) → ¬ (IsFree self.old block)) }
         ensures same { self.new ≡ self.old }
     {
-        let block = self.next_free(number)?;
-        self.next = block;
-        Some(block)
+        let block = self.next_free(number);
+        self.next = block.unwrap_or(number);
+        block
+    }
+
+    /// Returns where the search of [`take`](BlockMap::take) goes on: after the block that was taken
+    /// last.
+    pub fn next_start(&self) -> u32 {
+        self.next
     }
 
     /// Takes a given block, which is free. It is in flight then. The search of

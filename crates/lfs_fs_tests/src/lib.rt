@@ -10,6 +10,8 @@ pub use recovery::{recover_from_stop, rename_despite_stop};
 #[cfg(test)]
 mod answers;
 #[cfg(test)]
+mod bad_blocks;
+#[cfg(test)]
 mod blank_appends;
 #[cfg(test)]
 mod failed_sessions;

@@ -35,6 +35,9 @@ pub struct Profile {
     pub inline_max: u32,
     /// How many compactions a metadata pair stays at its place for. At 0 it stays for good.
     pub pair_cycles: u32,
+    /// A number that is mixed into where a mount begins to search for free blocks. At 0 the image
+    /// alone determines it.
+    pub search_seed: u32,
 }
 
 impl Profile {
@@ -49,6 +52,7 @@ impl Profile {
             attr_max: 1022,
             inline_max: 1022,
             pair_cycles: 0,
+            search_seed: 0,
         }
     }
 

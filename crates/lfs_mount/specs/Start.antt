@@ -15,5 +15,6 @@ mixed_seed number = folded 16 (folded 13 (folded 16 number * 0x85ebca6b % 2 ^ 32
     folded : ℕ → ℕ → ℕ
     folded bits n = bit_xor n (n / 2 ^ bits)
 
-abbrev pub allocation_seed : BlockStates → List PairHeader → ℕ
-allocation_seed sets headers = mixed_seed (image_seed sets headers)
+-- the same, with the number of a profile, which is mostly 0
+abbrev pub allocation_seed : ℕ → BlockStates → List PairHeader → ℕ
+allocation_seed own sets headers = mixed_seed ((image_seed sets headers + own) % 2 ^ 32)

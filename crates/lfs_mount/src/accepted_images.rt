@@ -139,7 +139,7 @@ fn check_image<D: BlockDevice>(
     let directories = pairs_from_index(pairs, count);
     check_move(state, directories)?;
     let found = check_directories(alloc, device, map, directories, state)?;
-    start_allocation_elsewhere(map, pairs);
+    start_allocation_elsewhere(map, pairs, device.geometry().profile.search_seed);
     Ok(found)
 }
 
@@ -166,13 +166,13 @@ fn mixed_seed(number: u32) -> u32
 }
 
 // Lets the map hand out blocks from another one on after each mount, so that wear spreads, and
-// answers that block.
-fn start_allocation_elsewhere(map: &mut BlockMap, pairs: &[Pair]) -> Option<u32>
-    ensures next { IfSome result (IsNextFree map.old (allocation_seed map.old pairs.now % length map.old)) }
+// answers that block. The profile's number is mixed in.
+fn start_allocation_elsewhere(map: &mut BlockMap, pairs: &[Pair], own: u32) -> Option<u32>
+    ensures next { IfSome result (IsNextFree map.old (allocation_seed own map.old pairs.now % length map.old)) }
     ensures none { IfNone result ((block : ℕ) → ¬ (IsFree map.old block)) }
     ensures same { map.new ≡ map.old }
 {
-    let seed = mixed_seed(image_seed(map, pairs));
+    let seed = mixed_seed(image_seed(map, pairs).wrapping_add(own));
     map.start_search_at(seed)
 }
 

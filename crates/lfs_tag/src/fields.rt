@@ -113,6 +113,7 @@ impl Superblock {
             attr_max: self.attr_max,
             inline_max: profile.inline_max,
             pair_cycles: profile.pair_cycles,
+            search_seed: profile.search_seed,
         }
     }
 

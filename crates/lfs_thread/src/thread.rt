@@ -13,6 +13,7 @@ ghost use Rattle.lfs_model.specs.format.Thread.{pairs_gstate, is_hard_tail, addr
 ghost use Rattle.lfs_tag.specs.ContentView.{tail_view};
 ghost use Rattle.lfs_tag.specs.FieldsView.{move_view};
 ghost use Rattle.lfs_pair.specs.ChangeView.{changes_view};
+ghost use Rattle.lfs_blocks.specs.Next.{BeginsAt};
 ghost use Rattle.lfs_blocks.specs.UsedBlocks.{KeepsUsed};
 ghost use Rattle.lfs_thread.specs.Beside.{CanRunWork, HasRunWork, HasGeometry, KeepsPairBlocks, WorkMayReturn, BelongToThread};
 ghost use Rattle.lfs_thread.specs.ThreadDevice.{GivesDeviceBack, CleanLossLeaves};
@@ -599,6 +600,21 @@ impl<D: BlockDevice> Thread<D> {
         ensures { result ≡ used_count self.now.kept.map }
     {
         self.parts.map.used_count()
+    }
+
+    /// Sets where the search of [`take`](Thread::take) begins: at the first free block from `number`
+    /// on. Returns that block. Returns None exactly if no block is free.
+    pub fn start_search_at(&mut self, number: u32) -> Option<u32>
+        ensures begins { BeginsAt self.old.kept.map number result }
+        ensures same { self.new ≡ self.old }
+    {
+        self.parts.map.start_search_at(number)
+    }
+
+    /// Returns where the search of [`take`](Thread::take) goes on: after the block that was taken
+    /// last.
+    pub fn next_start(&self) -> u32 {
+        self.parts.map.next_start()
     }
 
     /// Returns whether a block is free: neither used nor in flight.

@@ -32,6 +32,7 @@ fn firmware_profile(name_max: u32, inline_max: u32) -> Profile
         attr_max: other.attr_max,
         inline_max,
         pair_cycles: other.pair_cycles,
+        search_seed: other.search_seed,
     }
 }
 

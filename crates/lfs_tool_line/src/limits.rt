@@ -90,5 +90,6 @@ pub(crate) fn profile_given_or(matches: &ArgMatches<'_>, other: Profile) -> Prof
         attr_max: number_given_or(matches, "attr_max", other.attr_max),
         inline_max: number_given_or(matches, "inline_max", other.inline_max),
         pair_cycles: number_given_or(matches, "pair_cycles", other.pair_cycles),
+        search_seed: other.search_seed,
     }
 }

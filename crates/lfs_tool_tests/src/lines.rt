@@ -15,6 +15,7 @@ const DEFAULT: Profile = Profile {
     attr_max: 1022,
     inline_max: 1022,
     pair_cycles: 0,
+    search_seed: 0,
 };
 
 // The words of command lines, and what they say.

@@ -1,6 +1,7 @@
 // A device that is mounted again.
 
-ghost use Rattle.std.specs.Prelude.{◌≡◌, IfErr, OnErr, OnOk};
+ghost use Rattle.std.specs.Prelude.{◌≡◌, IfErr, IfOk, OnErr, OnOk};
+ghost use Rattle.lfs_blocks.specs.Next.{BeginsAt};
 ghost use Rattle.lfs_tree.specs.TreeState.{FailedByReading, HasMountCause, IsRemountedTree};
 
 use crate::tree::Tree;
@@ -15,33 +16,53 @@ pub(crate) struct SpareThreadParts {
     alloc: Global,
     cache: Cache,
     map: BlockMap,
+    // Where the search for free blocks goes on.
+    start: u32,
 }
 
 impl SpareThreadParts {
     // Takes the memory for it.
-    pub(crate) fn new(alloc: Global) -> Result<SpareThreadParts, Error>
-        ensures { IfErr result (λ e. e ≡ Error.NoMemory) }
+    pub(crate) fn new(alloc: Global, start: u32) -> Result<SpareThreadParts, Error>
+        ensures start { IfOk result (λ spare. spare.start ≡ start) }
+        ensures error { IfErr result (λ e. e ≡ Error.NoMemory) }
     {
         let cache = Cache::new(alloc)?;
-        let map = BlockMap::new(alloc, 0)?;
-        Ok(SpareThreadParts { alloc, cache, map })
+        let mut map = BlockMap::new(alloc, 0)?;
+        map.start_search_at(start);
+        Ok(SpareThreadParts {
+            alloc,
+            cache,
+            map,
+            start,
+        })
     }
 }
 
-// Mounts the same device again. A tree that fails keeps its order of names.
+// Mounts the same device again, and searches on for free blocks, from the block that it returns. So
+// a block whose erase or program failed isn't the first one again. A tree that fails keeps its order
+// of names.
 pub(crate) fn mount_again<D: BlockDevice>(
     tree: Tree<D>,
     spare: SpareThreadParts,
-) -> (Tree<D>, Result<(), Error>)
+) -> (Tree<D>, Result<Option<u32>, Error>)
     ensures mounted { OnOk result.1 (IsRemountedTree tree result.0) }
     ensures broken { OnErr result.1 (FailedByReading tree result.0) }
     ensures errors { IfErr result.1 (HasMountCause tree result.0) }
+    ensures goes_on { IfOk result.1 (BeginsAt result.0.map spare.start) }
 {
     let is_writable = tree.is_writable;
     let order = tree.order();
-    let SpareThreadParts { alloc, cache, map } = spare;
+    let SpareThreadParts {
+        alloc,
+        cache,
+        map,
+        start,
+    } = spare;
     match Tree::mount(alloc, tree.into_device()) {
-        Ok(tree) => (tree, Ok(())),
+        Ok(mut tree) => {
+            let first = tree.thread.start_search_at(start);
+            (tree, Ok(first))
+        }
         Err((device, error)) => {
             let thread = Thread::failed_thread(ThreadParts {
                 device,

@@ -123,8 +123,9 @@ impl<D: BlockDevice> Tree<D> {
         }
     }
 
-    /// Reads the device anew, after an error too, and finds the order of its names again. No block
-    /// is in flight afterwards.
+    /// Reads the device again, after an error too, and finds the order of its names again. No block
+    /// is in flight afterwards. The search for free blocks goes on after the block that was taken
+    /// last, so after an `Io` the operation can be tried again on another block.
     ///
     /// Errors are those of [`mount`](Tree::mount). The tree has failed after any.
     pub fn remount(&mut self, alloc: Global) -> Result<(), Error>
@@ -132,8 +133,11 @@ impl<D: BlockDevice> Tree<D> {
         ensures broken { OnErr result (FailedByReading self.old self.new) }
         ensures errors { IfErr result (HasMountCause self.old self.new) }
     {
-        match SpareThreadParts::new(alloc) {
-            Ok(spare) => replace_with(self, spare, mount_again),
+        match SpareThreadParts::new(alloc, self.thread.next_start()) {
+            Ok(spare) => {
+                replace_with(self, spare, mount_again)?;
+                Ok(())
+            }
             Err(error) => {
                 self.thread.fail();
                 Err(error)

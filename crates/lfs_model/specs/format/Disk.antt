@@ -90,7 +90,7 @@ profile_attr_max profile = min profile.attr_max attribute_limit
 
 -- Version 2.0 and littlefs's own limits. No metadata pair moves.
 abbrev pub default_profile : Profile
-default_profile = record { versions = OnlyTwoZero; name_max = 255; file_max = 2147483647; attr_max = 1022; inline_max = 1022; pair_cycles = 0 }
+default_profile = record { versions = OnlyTwoZero; name_max = 255; file_max = 2147483647; attr_max = 1022; inline_max = 1022; pair_cycles = 0; search_seed = 0 }
 
 -- no limit is 0, or above what an image may have
 pub record AreValidLimits (profile : Profile) : Type 0 where

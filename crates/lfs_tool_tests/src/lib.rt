@@ -21,9 +21,12 @@ mod loaded_images;
 #[cfg(test)]
 mod profiles;
 #[cfg(test)]
+mod program_runs;
+#[cfg(test)]
 mod progress;
 #[cfg(test)]
 mod progress_lines;
+#[cfg(test)]
 mod runs;
 #[cfg(test)]
 mod sources;
@@ -31,5 +34,3 @@ mod sources;
 mod texts;
 #[cfg(test)]
 mod whole_images;
-
-pub use runs::{RUNS, make_files, program_words, seconds_at, set_seconds, time_in_image};

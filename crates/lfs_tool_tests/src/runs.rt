@@ -1,4 +1,4 @@
-// Runs of the program over real files. `mklittlefs` carries them out; `bench/program_lines.py` has more.
+// Rows of runs of the program over real files, and their files; `bench/program_lines.py` has more.
 
 use lfs_device::{Geometry, RamDevice};
 use lfs_fs::mount;
@@ -10,7 +10,7 @@ use std::{fs, io};
 
 /// Rows of runs: behind each its lines, its status where that isn't 0, and at the end how long the image is. An image of
 /// 14 bytes is there before each row. `%` ends a line without an end.
-pub const RUNS: &str = r#"$ -c runs/files -s 16384 runs/image
+pub(crate) const RUNS: &str = r#"$ -c runs/files -s 16384 runs/image
 $ -l runs/image
 f 5 /a
 f 0 /b
@@ -164,7 +164,7 @@ image: 14
 "#;
 
 /// Makes the files of a row.
-pub fn make_files(rt: &HostRuntime) -> io::Result<()> {
+pub(crate) fn make_files(rt: &HostRuntime) -> io::Result<()> {
     let _ = fs::remove_dir_all(rt, "runs");
     fs::create_dir_all(rt, "runs/files")?;
     fs::create_dir(rt, "runs/empty")?;
@@ -182,7 +182,7 @@ pub fn make_files(rt: &HostRuntime) -> io::Result<()> {
 }
 
 /// The words of a command line, which have a space between them.
-pub fn program_words(alloc: Global, line: &str) -> Result<Vec<String>, AllocError> {
+pub(crate) fn program_words(alloc: Global, line: &str) -> Result<Vec<String>, AllocError> {
     let mut words = vec![in alloc; String::from_str(alloc, "mklittlefs")?]?;
     for word in line.split(' ') {
         words.push(String::from_str(alloc, word)?)?;
@@ -191,7 +191,7 @@ pub fn program_words(alloc: Global, line: &str) -> Result<Vec<String>, AllocErro
 }
 
 /// Sets the time of what is at a path, in seconds since 1970.
-pub fn set_seconds(rt: &HostRuntime, path: &str, seconds: u64) -> io::Result<()> {
+pub(crate) fn set_seconds(rt: &HostRuntime, path: &str, seconds: u64) -> io::Result<()> {
     let time = UNIX_EPOCH
         .checked_add(Duration::from_secs(seconds))
         .unwrap_or(UNIX_EPOCH);
@@ -200,7 +200,7 @@ pub fn set_seconds(rt: &HostRuntime, path: &str, seconds: u64) -> io::Result<()>
 }
 
 /// The time of what is at a path.
-pub fn seconds_at(rt: &HostRuntime, path: &str) -> io::Result<u64> {
+pub(crate) fn seconds_at(rt: &HostRuntime, path: &str) -> io::Result<u64> {
     let since = fs::metadata(rt, path)?
         .modified()?
         .duration_since(UNIX_EPOCH);
@@ -208,7 +208,7 @@ pub fn seconds_at(rt: &HostRuntime, path: &str) -> io::Result<u64> {
 }
 
 /// The attribute of type `t` at a path of an image.
-pub fn time_in_image(alloc: Global, image: &[u8], path: &[u8]) -> Option<Vec<u8>> {
+pub(crate) fn time_in_image(alloc: Global, image: &[u8], path: &[u8]) -> Option<Vec<u8>> {
     let count = u32::try_from(image.len() / 4096).ok()?;
     let geometry = Geometry::new(4096, 256, count).ok()?;
     let device = RamDevice::from_bytes(geometry, image.to_vec(alloc).ok()?).ok()?;

@@ -2,23 +2,9 @@
 //! mklittlefs: makes an image of a littlefs file system from a folder, unpacks one into a folder, lists one, or checks one.
 #![tactic(auto)]
 
-mod blocks;
-mod explain;
-mod files;
-mod json;
-mod leftovers;
-mod lists;
-mod parts;
-mod run;
-#[cfg(test)]
-mod run_tests;
-mod session;
-mod times;
-
-use crate::files::{Host, Lines};
-use crate::run::run_words;
 use lfs_tool::WatchedStream;
 use lfs_tool_folders::FaultLog;
+use lfs_tool_run::{Host, Lines, run_words};
 use std::cell::Cell;
 use std::process::ExitCode;
 use std::{env, io};

@@ -15,23 +15,24 @@ const READ_AHEAD: usize = 65_536;
 
 /// The system, and what is noted of it.
 #[derive(Clone, Copy)]
-pub(crate) struct Host<'a> {
-    pub(crate) rt: &'a HostRuntime,
+pub struct Host<'a> {
+    /// The system's files, streams and memory.
+    pub rt: &'a HostRuntime,
     /// What files, folders and streams meet.
-    pub(crate) log: &'a FaultLog,
+    pub log: &'a FaultLog,
     /// Whether the environment wants each error with its cause.
-    pub(crate) explains: bool,
+    pub explains: bool,
     /// How the folder of an image that is made is read.
-    pub(crate) rules: FolderRules<'a>,
+    pub rules: FolderRules<'a>,
     /// Whether the times of files and folders are kept in an image that is made, or set where one is unpacked.
-    pub(crate) times: bool,
+    pub times: bool,
     /// Why standard output didn't take the lines.
-    pub(crate) fault_of_lines: &'a Cell<Option<ErrorKind>>,
+    pub fault_of_lines: &'a Cell<Option<ErrorKind>>,
 }
 
 impl<'a> Host<'a> {
     /// The system, of which nothing is requested yet.
-    pub(crate) fn new(
+    pub fn new(
         rt: &'a HostRuntime,
         log: &'a FaultLog,
         fault_of_lines: &'a Cell<Option<ErrorKind>>,
@@ -73,9 +74,11 @@ impl<'a> Host<'a> {
 
 /// Standard output. It notes why it fails.
 #[derive(Drop)]
-pub(crate) struct Lines<'a> {
-    pub(crate) stream: Stdout,
-    pub(crate) fault: &'a Cell<Option<ErrorKind>>,
+pub struct Lines<'a> {
+    /// The stream.
+    pub stream: Stdout,
+    /// Why it failed last.
+    pub fault: &'a Cell<Option<ErrorKind>>,
 }
 
 impl Lines<'_> {

@@ -229,7 +229,7 @@ fn run_request<O: ToolOutput, E: ToolOutput>(
 
 /// Runs the program on the words of its command line, or on the cause for which there are none: memory ran out, or a
 /// word is no text. Returns the status with which it ends.
-pub(crate) fn run_words<O: ToolOutput, E: ToolOutput>(
+pub fn run_words<O: ToolOutput, E: ToolOutput>(
     host: Host<'_>,
     words: io::Result<Vec<String>>,
     out: &mut O,

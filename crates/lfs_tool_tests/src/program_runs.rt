@@ -1,10 +1,9 @@
-// Runs over real files: the rows of `lfs_tool_tests`, and of what no row says.
+// Runs of the program over real files: the rows, and what no row says.
 
-use crate::files::Host;
-use crate::run::run_words;
+use crate::runs::{RUNS, make_files, program_words, seconds_at, set_seconds, time_in_image};
 use lfs_tool::WatchedStream;
 use lfs_tool_folders::FaultLog;
-use lfs_tool_tests::{RUNS, make_files, program_words, seconds_at, set_seconds, time_in_image};
+use lfs_tool_run::{Host, run_words};
 use std::cell::Cell;
 use std::io::Write;
 use std::test::Fail;

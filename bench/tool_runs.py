@@ -8,6 +8,7 @@ import resource
 import shutil
 import signal
 import subprocess
+import threading
 
 from image_maker import folder, inline, simple_plan, superblock, tail
 
@@ -266,6 +267,27 @@ def little_memory():
     resource.setrlimit(resource.RLIMIT_AS, (1 << 28, 1 << 28))
 
 
+class Changing:
+    """A file that becomes shorter and longer all the time."""
+
+    def __init__(self, path):
+        self.path, self.ended = path, threading.Event()
+        self.thread = threading.Thread(target=self.change)
+
+    def change(self):
+        size = os.path.getsize(self.path)
+        while not self.ended.wait(0.001):
+            os.truncate(self.path, size - 1)
+            os.truncate(self.path, size)
+
+    def __enter__(self):
+        self.thread.start()
+
+    def __exit__(self, *error):
+        self.ended.set()
+        self.thread.join()
+
+
 def rows(tool, folder):
     """What was run, what came, and what has to come."""
     top = os.path.join(folder, "runs")
@@ -300,6 +322,10 @@ def rows(tool, folder):
         os.close(closed)
     put(top, "long/c", long(3 << 30))
     yield "a file that is too big, in little memory", run(tool, "-c long i", top, preexec_fn=little_memory), (1, b"", b"error: TooBig (27)\n")
+    put(top, "changing", long(200 << 20))
+    with Changing(os.path.join(top, "changing")):
+        came = run(tool, "-l --explain changing", top)
+    yield "a file that changes as it is read", came, (3, b"", b"error: input\nchanging: the file has changed as it was read\n")
     put(top, ".mklittlefs-0", b"another run's")
     with open(os.path.join(top, ".mklittlefs-0"), "rb") as another:
         fcntl.flock(another, fcntl.LOCK_EX)

@@ -10,8 +10,7 @@ use Rattle.lfs_device.specs.declared.error.Error.TheVariants.{Corrupt, Invalid, 
 use Rattle.lfs_device.specs.declared.error.Error.{Error}
 use Rattle.lfs_tool.specs.declared.errors.ToolError.{ToolError}
 use Rattle.lfs_tool.specs.declared.errors.ToolError.TheVariants.{Fs, Output}
-use Rattle.lfs_tool.specs.Unpackings.{FailsUnpackingDisk, FailsUnpackingImage, FailsUnpackingKnown, DiskPartlyUnpacked, ImagePartlyUnpacked, HasUnpackedDisk, HasUnpackedImage, UnpackDisk, ReportsTargetFaults, UnpackImage, struct_action}
-use Rattle.lfs_tool.proofs.Images.{all_read, most, refuses_read}
+use Rattle.lfs_tool.specs.Unpackings.{FailsUnpackingDisk, FailsUnpackingImage, DiskPartlyUnpacked, ImagePartlyUnpacked, HasUnpackedDisk, HasUnpackedImage, UnpackDisk, ReportsTargetFaults, UnpackImage, struct_action}
 
 -- ---- what was found of a tree unpacks it
 
@@ -88,45 +87,3 @@ fails_image layout image disk old new (Fs NoMemory) is same (inl undone) = inl u
 fails_image layout image disk old new (Fs NoMemory) is same (inr begun) = inr (begun_image layout image disk old new is same begun)
 fails_image layout image disk old new Output is same begun = begun_image layout image disk old new is same begun
 fails_image layout image disk old new e is same h = absurd h
-
--- ---- of what was read
-
-pub done_read : (known : Option (List ℕ)) (layout : ImageLayout) (items : List ℕ) (old new : Option (List UnpackingAction)) → IfSome known (λ bytes. items ≡ take most bytes)
-    → HasUnpackedImage layout items old new → IfSome known (λ bytes. HasUnpackedImage layout bytes old new)
-done_read None layout items old new read h = tt
-done_read (Some bytes) layout items old new read h = subst (λ (i : List ℕ). HasUnpackedImage layout i old new) (all_read layout.block_size layout.page bytes items read h.1.0.0) h
-
-begun_read : (known : Option (List ℕ)) (layout : ImageLayout) (items : List ℕ) (old new : Option (List UnpackingAction)) → IfSome known (λ bytes. items ≡ take most bytes)
-    → ImagePartlyUnpacked layout items old new → IfSome known (λ bytes. ImagePartlyUnpacked layout bytes old new)
-begun_read None layout items old new read h = tt
-begun_read (Some bytes) layout items old new read h = subst (λ (i : List ℕ). ImagePartlyUnpacked layout i old new) (all_read layout.block_size layout.page bytes items read h.1.0.0) h
-
-begun_at_error : (known : Option (List ℕ)) (layout : ImageLayout) (items : List ℕ) (old new : Option (List UnpackingAction)) (e : ToolError) → IfSome known (λ bytes. items ≡ take most bytes)
-    → FailsUnpackingImage layout items old new e → (new ≡ old) ⊎ IfSome known (λ bytes. ImagePartlyUnpacked layout bytes old new)
-begun_at_error known layout items old new (Fs Corrupt) read h = inl h.1
-begun_at_error known layout items old new (Fs Invalid) read h = inl h.1
-begun_at_error known layout items old new (Fs NoMemory) read (inl undone) = inl undone
-begun_at_error known layout items old new (Fs NoMemory) read (inr begun) = inr (begun_read known layout items old new read begun)
-begun_at_error known layout items old new Output read h = inr (begun_read known layout items old new read h)
-begun_at_error known layout items old new e read h = absurd h
-
-refused_at : (layout : ImageLayout) (items : List ℕ) (old new : Option (List UnpackingAction)) (e : Error) → FailsUnpackingImage layout items old new (Fs e) → RefusesToList layout items e
-refused_at layout items old new Corrupt h = h.0
-refused_at layout items old new Invalid h = h.0
-refused_at layout items old new NoMemory h = tt
-refused_at layout items old new e h = absurd h
-
-undone_at_error : (layout : ImageLayout) (items : List ℕ) (old new : Option (List UnpackingAction)) (e : ToolError) → FailsUnpackingImage layout items old new e → e ≢ Output → e ≢ Fs NoMemory → new ≡ old
-undone_at_error layout items old new (Fs Corrupt) h target memory = h.1
-undone_at_error layout items old new (Fs Invalid) h target memory = h.1
-undone_at_error layout items old new (Fs NoMemory) h target memory = absurd (memory refl)
-undone_at_error layout items old new Output h target memory = absurd (target refl)
-undone_at_error layout items old new e h target memory = absurd h
-
-pub fails_known : (known : Option (List ℕ)) (layout : ImageLayout) (items : List ℕ) (old new : Option (List UnpackingAction)) (e : ToolError) → IfSome known (λ bytes. items ≡ take most bytes)
-    → FailsUnpackingImage layout items old new e → FailsUnpackingKnown layout known old new e
-fails_known known layout items old new e read h = record {
-  refused = λ f is. refuses_read known layout items f read (refused_at layout items old new f (subst (FailsUnpackingImage layout items old new) is h));
-  undone = undone_at_error layout items old new e h;
-  begun = begun_at_error known layout items old new e read h;
-}

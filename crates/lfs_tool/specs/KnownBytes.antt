@@ -1,8 +1,8 @@
 -- What a failed call of a reader or a writer leaves.
-use Rattle.std.specs.Prelude.{◌≡◌, ◌≤◌, ◌⊎◌, ℕ, suc, List, Option, length, take}
+use Rattle.std.specs.Prelude.{◌≡◌, ◌≤◌, ℕ, suc, List, Option, length, take}
 use Rattle.std.specs.Io.KnownBytes.{Appends}
 use Rattle.lfs_device.specs.declared.error.Error.{Error}
-use Rattle.lfs_device.specs.declared.error.Error.TheVariants.{Corrupt, Invalid, NoMemory}
+use Rattle.lfs_device.specs.declared.error.Error.TheVariants.{NoMemory}
 use Rattle.lfs_tool.specs.declared.errors.ToolError.{ToolError}
 use Rattle.lfs_tool.specs.declared.errors.ToolError.TheVariants.{Fs, Input, Output}
 
@@ -15,13 +15,3 @@ abbrev pub IsReaderError : ToolError → ℕ → ℕ → Type 0
 IsReaderError Input old new = new ≡ suc old
 IsReaderError Output old new = ⊥
 IsReaderError (Fs e) old new = (e ≡ NoMemory) × (new ≡ old)
-
--- why an image isn't listed
-abbrev pub IsListingRefusal : Error → Type 0
-IsListingRefusal e = (e ≡ NoMemory) ⊎ (e ≡ Invalid) ⊎ (e ≡ Corrupt)
-
--- either the reader failed, or it did not and an image is refused
-abbrev pub IsListingError : ToolError → ℕ → ℕ → Type 0
-IsListingError Input old new = new ≡ suc old
-IsListingError Output old new = ⊥
-IsListingError (Fs e) old new = IsListingRefusal e × (new ≡ old)

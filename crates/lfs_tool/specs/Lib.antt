@@ -2,9 +2,6 @@ pub mod WrongNumbers
 pub mod ImageSummaries
 pub mod Verdict
 pub mod RunEnds
-pub mod LoadedBlocks
-pub mod SparseView
-pub mod LoadedShape
 pub mod WatchedStreams
 pub mod Reports
 pub mod KnownBytes
@@ -13,8 +10,6 @@ pub mod Errors
 pub mod ExitStatus
 pub mod Listings
 pub mod Unpackings
-pub mod AppliedOperations
-pub mod MadeImages
 pub mod CheckResults
 pub mod CheckedLines
 pub mod NumberTexts

@@ -3,7 +3,7 @@ use Rattle.std.specs.Prelude.{ℕ, ◌≡◌, false, List, ◌++◌, Option, Som
 use Rattle.std.specs.List.{flat_map}
 use Rattle.std.specs.Fmt.{decimal}
 use Rattle.lfs_tool.specs.declared.image_layout.ImageLayout.{ImageLayout}
-use Rattle.lfs_model.specs.format.Disk.{ordered_disk, Disk, IsWholeImage}
+use Rattle.lfs_model.specs.format.Disk.{ordered_disk, disk_of_image, Disk, IsWholeImage}
 use Rattle.lfs_model.specs.format.Thread.{Pair}
 use Rattle.lfs_model.specs.tree.View.{IsAccepted, DiskView}
 use Rattle.lfs_model.specs.declared.order.NameOrder.{NameOrder}
@@ -46,6 +46,11 @@ place_lines places = flat_map place_line places
 -- the disk is accepted, and the text has a line for each place of its tree's walk
 abbrev pub IsDiskListing : Disk → List ℕ → Type 0
 IsDiskListing disk text = (ps : List Pair) × (IsAccepted disk ps × ((places : List PathStruct) × (AreWalkItems disk ps places × (text ≡ place_lines places))))
+
+-- the bytes are an image that is accepted in an order of names, and these are the places of its tree's walk
+abbrev pub IsImageWalk : ImageLayout → List ℕ → List PathStruct → Type 0
+IsImageWalk layout image places = IsWholeImage layout.block_size layout.page image × ((order : NameOrder) × ((ps : List Pair)
+    × (IsAccepted (disk_of_image layout.block_size layout.page layout.profile order image) ps × AreWalkItems (disk_of_image layout.block_size layout.page layout.profile order image) ps places)))
 
 -- the thread is that of the disk, accepted in the thread's order of names, and these are the places of its tree's walk
 pub record IsWalkedThread (disk : Disk) (t : ThreadView) (places : List PathStruct) : Type 0 where

@@ -1,5 +1,5 @@
 -- What an unpacking returns.
-use Rattle.std.specs.Prelude.{ℕ, ◌≡◌, ◌≢◌, ◌⊎◌, ◌++◌, suc, List, Option, Some, None, IfSome, Result, Ok, Err, map, take}
+use Rattle.std.specs.Prelude.{ℕ, ◌≡◌, ◌⊎◌, ◌++◌, suc, List, Option, Some, None, Result, Ok, Err, map, take}
 use Rattle.std.specs.List.{AllByRecursion}
 use Rattle.lfs_tool.specs.declared.image_layout.ImageLayout.{ImageLayout}
 use Rattle.lfs_model.specs.format.Disk.{Disk, IsWholeImage}
@@ -10,7 +10,7 @@ use Rattle.lfs_device.specs.declared.error.Error.{Error}
 use Rattle.lfs_device.specs.declared.error.Error.TheVariants.{Corrupt, Invalid, NoMemory}
 use Rattle.lfs_tool.specs.declared.errors.ToolError.{ToolError}
 use Rattle.lfs_tool.specs.declared.errors.ToolError.TheVariants.{Fs, Output}
-use Rattle.lfs_tool.specs.Listings.{ImageAcceptedInNeither, IsMountError, RefusesToList}
+use Rattle.lfs_tool.specs.Listings.{ImageAcceptedInNeither, IsMountError}
 use Rattle.lfs_tool.specs.EitherOrder.{IsImageView, IsEitherView}
 use Rattle.lfs_lookup.specs.FileBytes.{struct_file_bytes}
 use Rattle.lfs_lookup.specs.TreeWalk.{PathStruct}
@@ -91,10 +91,3 @@ FailsUnpackingImage layout image old new (Fs Invalid) = (¬ IsWholeImage layout.
 FailsUnpackingImage layout image old new (Fs NoMemory) = (new ≡ old) ⊎ ImagePartlyUnpacked layout image old new
 FailsUnpackingImage layout image old new Output = ImagePartlyUnpacked layout image old new
 FailsUnpackingImage layout image old new other = ⊥
-
--- Why the bytes aren't unpacked, where they are known, and what was done then: nothing more, or a beginning of what unpacks them,
--- where the target failed or memory ran out.
-pub record FailsUnpackingKnown (layout : ImageLayout) (image : Option (List ℕ)) (old new : Option (List UnpackingAction)) (e : ToolError) : Type 0 where
-  pub refused : (f : Error) → e ≡ Fs f → IfSome image (λ bytes. RefusesToList layout bytes f)
-  pub undone : e ≢ Output → e ≢ Fs NoMemory → new ≡ old
-  pub begun : (new ≡ old) ⊎ IfSome image (λ bytes. ImagePartlyUnpacked layout bytes old new)

@@ -210,6 +210,36 @@ fn push_check_result(text: &mut Vec<u8>, checked: &CheckResult) -> io::Result<()
     }
 }
 
+/// Returns the rule of the writing profile that an image breaks, and where, as `check` writes it behind `writable no: `.
+pub fn breach_line(
+    alloc: Global,
+    inline_max: Option<u32>,
+    breach: ProfileBreach,
+) -> Result<Vec<u8>, AllocError>
+    ensures { IfOk result (λ text. text.items ≡ breach_text inline_max breach) }
+{
+    let mut text = Vec::new(alloc);
+    match push_profile_breach(&mut text, inline_max, breach) {
+        Ok(()) => Ok(text),
+        Err(_) => Err(AllocError),
+    }
+}
+
+/// Returns why an image isn't accepted, as `check` writes it behind `corrupt`.
+pub fn reason_line(
+    alloc: Global,
+    given: &GivenSizes,
+    reason: &RefusalReason,
+) -> Result<Vec<u8>, AllocError>
+    ensures { IfOk result (λ text. text.items ≡ reason_text given.now reason.now) }
+{
+    let mut text = Vec::new(alloc);
+    match push_refusal_reason(&mut text, given, reason) {
+        Ok(()) => Ok(text),
+        Err(_) => Err(AllocError),
+    }
+}
+
 /// Returns the lines of a check's result, as `check` writes them.
 pub fn check_result_lines(alloc: Global, checked: &CheckResult) -> Result<Vec<u8>, AllocError>
     ensures { IfOk result (λ text. text.items ≡ result_text checked.now) }

@@ -1,16 +1,14 @@
 // Whether the bytes of an image are accepted, and with what, or why not.
 
-ghost use Rattle.std.specs.Prelude.{◌≡◌, ◌<◌, ◌≤◌, ◌^◌, List, ℕ, IfErr, IfOk, IfSome, IsErrOf, None, OnOk, length};
+ghost use Rattle.std.specs.Prelude.{◌≡◌, ◌≤◌, List, ℕ, IfErr, IfOk, None, length};
 ghost use Rattle.lfs_tool.specs.CheckResults.{AreRefusedBytes, IsCheckResult, AreGivenSizes, IsRefusalReason, IsBytesVerdict, IsWrongNumber};
-ghost use Rattle.lfs_tool.specs.KnownBytes.{IsReaderError};
-ghost use Rattle.lfs_tool.specs.Reports.{IsReadToEnd};
 
+use crate::ImageLayout;
 use crate::image_devices::ram_device_of;
-use crate::input::{IMAGE_MAX, read_image};
+use crate::input::IMAGE_MAX;
 use crate::judgement::judge_device;
 use crate::superblocks::image_wrong_number;
 use crate::verdict::{CheckResult, GivenSizes, ImageVerdict, RefusalReason, WrongNumber};
-use crate::{ImageInput, ImageLayout, ToolError};
 use lfs_device::Error;
 use std::alloc::Global;
 
@@ -20,7 +18,6 @@ fn judge_image(
     image: Vec<u8>,
     layout: ImageLayout,
 ) -> Result<Option<ImageVerdict>, Error>
-    requires { length image.items < 2 ^ 32 }
     ensures judged { IfOk result (IsBytesVerdict layout image.items) }
     ensures err { IfErr result (λ e. e ≡ Error.NoMemory) }
 {
@@ -83,31 +80,24 @@ fn result_of_bytes(alloc: Global, image: Vec<u8>, layout: ImageLayout) -> Result
 }
 
 /// Returns whether an image is accepted, and with what, or why not. The result is `Accepted`
-/// exactly where a mount takes the image, in whichever order its names are. Each cause is true of
+/// exactly if a mount takes the image, in whichever order its names are. Each cause is true of
 /// its bytes. Of an image that isn't accepted, a wrong number in the superblock of block 0 or 1
 /// comes first. Then comes the rule at which a mount stops.
 ///
-/// The image is read first, to its end, or past the largest image's size of 268,435,456 bytes. So many
-/// bytes are no image, whatever its superblock says.
+/// More bytes than the largest image has, 268,435,456, are no image, whatever its superblock says.
 ///
-/// # Errors
-/// - `Input` where the reader failed.
-/// - `Fs(NoMemory)` where memory isn't granted.
-pub fn result_of_image<R: ImageInput>(
+/// Errors: `NoMemory` if memory isn't granted.
+pub fn result_of_image(
     alloc: Global,
-    image: &mut R,
+    image: Vec<u8>,
     layout: ImageLayout,
-) -> Result<CheckResult, ToolError>
-    ensures checked { IfOk result (λ checked. IfSome (R.remaining image.old) (λ bytes. IsCheckResult layout bytes checked)) }
-    ensures kept { OnOk result (R.faults image.new ≡ R.faults image.old) }
-    ensures err { IfErr result (λ e. IsReaderError e (R.faults image.old) (R.faults image.new)) }
-    ensures read { ¬ IsErrOf result ToolError.Input → ¬ IsErrOf result (ToolError.Fs Error.NoMemory) → IsReadToEnd (R.remaining image.old) (R.remaining image.new) }
+) -> Result<CheckResult, Error>
+    ensures checked { IfOk result (IsCheckResult layout image.items) }
+    ensures err { IfErr result (λ e. e ≡ Error.NoMemory) }
 {
-    let bytes = read_image(alloc, image)?;
-    if bytes.len() > IMAGE_MAX {
-        let given = GivenSizes::of(bytes.len(), layout);
+    if image.len() > IMAGE_MAX {
+        let given = GivenSizes::of(image.len(), layout);
         return Ok(refused_check_result(None, RefusalReason::NoImage, given));
     }
-    let checked = result_of_bytes(alloc, bytes, layout)?;
-    Ok(checked)
+    result_of_bytes(alloc, image, layout)
 }

@@ -1,9 +1,9 @@
 // Checks of images.
 
-ghost use Rattle.std.specs.Prelude.{◌≡◌, IfOk, IfSome, IsErrOf};
+ghost use Rattle.std.specs.Prelude.{◌≡◌, IfOk, IsErrOf};
 ghost use Rattle.std.specs.Io.KnownBytes.{Appends};
 ghost use Rattle.lfs_tool.specs.KnownBytes.{AppendsBeginning};
-ghost use Rattle.lfs_tool.specs.Reports.{IsReadToEnd, ReportsOneFault, ReportsWriterFaults};
+ghost use Rattle.lfs_tool.specs.Reports.{ReportsWriterFaults};
 ghost use Rattle.lfs_tool.specs.CheckResults.{IsCheckResult, is_accepted_result};
 ghost use Rattle.lfs_tool.specs.CheckedLines.{result_text};
 
@@ -11,7 +11,7 @@ use crate::checked_lines::check_result_lines;
 use crate::examination::result_of_image;
 use crate::output::write_and_flush;
 use crate::verdict::CheckResult;
-use crate::{ImageInput, ImageLayout, ToolError, ToolOutput};
+use crate::{ImageLayout, ToolError, ToolOutput};
 use lfs_device::Error;
 use std::alloc::Global;
 
@@ -33,27 +33,25 @@ fn is_result_accepted(checked: &CheckResult) -> bool
 /// stand behind the order. Of another image the lines are `corrupt`, and one that says why.
 ///
 /// # Errors
-/// - `Input` where the reader failed.
-/// - `Fs(NoMemory)` where memory isn't granted.
-/// - `Output` where the writer failed. What was written is then a beginning of the lines.
-pub fn check<R: ImageInput, W: ToolOutput>(
+/// - `Fs(NoMemory)` if memory isn't granted.
+/// - `Output` if the writer failed. It has then got a beginning of the lines.
+pub fn check<W: ToolOutput>(
     alloc: Global,
-    image: &mut R,
+    image: Vec<u8>,
     layout: ImageLayout,
     out: &mut W,
 ) -> Result<bool, ToolError>
-    ensures ok { IfOk result (λ accepted. IfSome (R.remaining image.old) (λ bytes.
-        (checked : _) × (IsCheckResult layout bytes checked × (accepted ≡ is_accepted_result checked) × Appends (W.contents out.old) (W.contents out.new) (result_text checked)))) }
+    ensures ok { IfOk result (λ accepted.
+        (checked : _) × (IsCheckResult layout image.items checked × (accepted ≡ is_accepted_result checked) × Appends (W.contents out.old) (W.contents out.new) (result_text checked))) }
 
     // Where the writer fails, a beginning of the lines may be written.
     ensures writer { ReportsWriterFaults W.ToolOutput out.old out.new result }
-    ensures beginning { IsErrOf result ToolError.Output → IfSome (R.remaining image.old) (λ bytes.
-        (checked : _) × (IsCheckResult layout bytes checked × AppendsBeginning (W.contents out.old) (W.contents out.new) (result_text checked))) }
+    ensures beginning { IsErrOf result ToolError.Output →
+        (checked : _) × (IsCheckResult layout image.items checked × AppendsBeginning (W.contents out.old) (W.contents out.new) (result_text checked)) }
 
     // When each other error comes.
     ensures refused { (e : _) → IsErrOf result (ToolError.Fs e) → e ≡ Error.NoMemory }
-    ensures input { ReportsOneFault ToolError.Input (R.faults image.old) (R.faults image.new) result }
-    ensures read { ¬ IsErrOf result ToolError.Input → ¬ IsErrOf result (ToolError.Fs Error.NoMemory) → IsReadToEnd (R.remaining image.old) (R.remaining image.new) }
+    ensures never { ¬ IsErrOf result ToolError.Input }
 {
     let checked = result_of_image(alloc, image, layout)?;
     let text = check_result_lines(alloc, &checked)?;

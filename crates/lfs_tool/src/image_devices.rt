@@ -1,6 +1,6 @@
 // Images as devices.
 
-ghost use Rattle.std.specs.Prelude.{◌≡◌, ◌⊎◌, ◌<◌, ◌/◌, ◌%◌, ◌^◌, [], Err, List, IfErr, IfOk, OnOk, length};
+ghost use Rattle.std.specs.Prelude.{◌≡◌, ◌<◌, ◌/◌, ◌%◌, ◌^◌, [], List, IfErr, IfOk, OnOk, length};
 ghost use Rattle.lfs_device.specs.RamDevice.{ram_blocks, ram_geometry, ram_history};
 ghost use Rattle.lfs_device.specs.DeviceDisk.{disk_of_blocks as shown};
 ghost use Rattle.lfs_model.specs.format.Disk.{ordered_disk, IsWholeImage, disk_of_image};
@@ -13,11 +13,11 @@ ghost use Rattle.lfs_mount.specs.Accepted.{IsMountedOn};
 ghost use Rattle.lfs_mount.specs.MountFaults.{MountMayReport};
 ghost use Rattle.lfs_thread.specs.ThreadDevice.{GivesDeviceBack};
 ghost use Rattle.lfs_thread.specs.Kept.{disk_of_device};
-ghost use Rattle.lfs_tool.specs.SparseView.{sparse_geometry};
 ghost use Rattle.lfs_tool.specs.Listings.{IsWalkedThread, IsMountError};
 ghost use Rattle.lfs_lookup.specs.TreeWalk.{tree_items_view};
 
-use crate::{ImageLayout, SparseDevice, geometry_of_sizes};
+use crate::input::IMAGE_MAX;
+use crate::{ImageLayout, geometry_of_sizes};
 use lfs_device::{BlockDevice, Error, Geometry, RamDevice};
 use lfs_lookup::{TreeItem, walk_tree};
 use lfs_mount::mount;
@@ -37,34 +37,21 @@ fn geometry_of_length(len: usize, layout: ImageLayout) -> Result<Geometry, Error
 /// Makes a device that holds an image.
 ///
 /// # Errors
-/// `Invalid` exactly where no image has so many bytes.
+/// `Invalid` exactly if no image has so many bytes.
 pub fn ram_device_of(image: Vec<u8>, layout: ImageLayout) -> Result<RamDevice, Error>
-    requires { length image.items < 2 ^ 32 }
     ensures image { OnOk result (IsWholeImage layout.block_size layout.page image.items) }
     ensures disk { IfOk result (λ d. shown (ram_geometry d) (ram_blocks d) ≡ disk_of_image layout.block_size layout.page layout.profile LongerFirst image.items) }
     ensures no_call { IfOk result (λ d. ram_history d ≡ []) }
     ensures err { IfErr result (λ e. (e ≡ Error.Invalid) × (¬ IsWholeImage layout.block_size layout.page image.items)) }
 {
+    if image.len() > IMAGE_MAX {
+        return Err(Error::Invalid);
+    }
     let geometry = geometry_of_length(image.len(), layout)?;
     RamDevice::from_bytes(geometry, image)
 }
 
-/// Makes a device of an image of so many bytes, of which nothing is loaded.
-///
-/// # Errors
-/// - `Invalid` where no image has so many bytes.
-/// - `NoMemory` where memory for a word a block isn't granted.
-pub fn sparse_device_of(alloc: Global, len: u32, layout: ImageLayout) -> Result<SparseDevice, Error>
-    ensures sizes { IfOk result (λ d. let g = sparse_geometry d in (g.block_size ≡ layout.block_size) × (g.page ≡ layout.page) × (g.profile ≡ layout.profile)) }
-    ensures count { IfOk result (λ d. ((sparse_geometry d).block_count ≡ len / layout.block_size) × (len % layout.block_size ≡ 0)) }
-    ensures invalid { result ≡ Err Error.Invalid → len % layout.block_size ≡ 0 → ¬ IsValidGeometry layout.block_size layout.page (len / layout.block_size) }
-    ensures errors { IfErr result (λ e. (e ≡ Error.Invalid) ⊎ (e ≡ Error.NoMemory)) }
-{
-    let geometry = geometry_of_length(len as usize, layout)?;
-    SparseDevice::new(alloc, geometry)
-}
-
-// Mounts the image of a device. Which rule it breaks isn't handed on.
+// Mounts the image of a device. Drops the rule that it breaks: callers need only `Corrupt`.
 fn mount_thread<D: BlockDevice>(alloc: Global, device: D) -> Result<Thread<D>, (D, Error)>
     ensures mounted { IfOk result (λ t. IsMountedOn (ordered_disk t.kept.disk.order (disk_of_device D.BlockDevice device)) (D.history device) t) }
     ensures corrupt { IfErr result (λ e. e.1 ≡ Error.Corrupt → (order : NameOrder) (ps : List Pair) → ¬ IsAccepted (ordered_disk order (disk_of_device D.BlockDevice device)) ps) }

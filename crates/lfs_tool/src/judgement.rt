@@ -1,6 +1,6 @@
 // Whether an image is accepted, and with what, or why not.
 
-ghost use Rattle.std.specs.Prelude.{◌≡◌, ◌≢◌, ◌↔◌, ◌⊎◌, IfErr, IfOk, IfSome, IsTrue, false};
+ghost use Rattle.std.specs.Prelude.{◌≡◌, ◌≢◌, ◌↔◌, ◌⊎◌, IfErr, IfOk, IsTrue, false};
 ghost use Rattle.lfs_device.specs.RamDevice.{ram_blocks, ram_geometry};
 ghost use Rattle.lfs_device.specs.DeviceDisk.{disk_of_blocks};
 ghost use Rattle.lfs_model.specs.format.Disk.{ordered_disk};
@@ -106,20 +106,6 @@ fn judge_thread<D: BlockDevice + Drop>(
     let order = thread.order();
     let orders = accepted_name_orders(alloc, thread.into_device(), order)?;
     Ok((summary, orders))
-}
-
-/// Returns what the image of a device has, and in which orders of names it is accepted. Of a device that is a part of an
-/// image only what was read counts. Returns None where it isn't accepted, memory isn't granted, or a read failed.
-pub fn accepted_summary<D: BlockDevice + Drop>(
-    alloc: Global,
-    device: D,
-) -> Option<(ImageSummary, AcceptedOrders)>
-    ensures { IfSome result (λ has. IsSummarized (disk_of_device D.BlockDevice device) has.0 has.1) }
-{
-    match mount(alloc, device) {
-        Ok(thread) => judge_thread(alloc, thread).ok(),
-        Err(_) => None,
-    }
 }
 
 /// Returns whether the image of a device in memory is accepted, and with what, or why not. The

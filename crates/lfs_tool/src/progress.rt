@@ -12,12 +12,13 @@ pub struct FilesAndBytes {
 }
 
 impl FilesAndBytes {
-    pub(crate) fn one_file(bytes: usize) -> FilesAndBytes {
+    /// Returns one file of so many bytes.
+    pub fn one_file(bytes: usize) -> FilesAndBytes {
         FilesAndBytes { files: 1, bytes }
     }
 
-    // Returns both together, up to the greatest `usize`.
-    pub(crate) fn plus(self, more: FilesAndBytes) -> FilesAndBytes {
+    /// Returns both together, up to the greatest `usize`.
+    pub fn plus(self, more: FilesAndBytes) -> FilesAndBytes {
         FilesAndBytes {
             files: self.files.saturating_add(more.files),
             bytes: self.bytes.saturating_add(more.bytes),

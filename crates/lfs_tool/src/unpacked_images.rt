@@ -1,25 +1,21 @@
 // Images that are unpacked.
 
-ghost use Rattle.std.specs.Prelude.{◌≡◌, ◌⊎◌, ◌<◌, ◌^◌, IfErr, IfOk, IfSome, IsErrOf, OnErr, OnOk, false, length};
+ghost use Rattle.std.specs.Prelude.{◌≡◌, ◌⊎◌, ◌<◌, ◌^◌, IfErr, IfOk, OnErr, OnOk, false, length};
 ghost use Rattle.lfs_device.specs.RamDevice.{ram_blocks, ram_geometry};
 ghost use Rattle.lfs_device.specs.DeviceDisk.{disk_of_blocks as shown};
 ghost use Rattle.lfs_model.specs.tree.View.{IsFormedList};
 ghost use Rattle.lfs_tool_folders.specs.Actions.{AddsAction};
-ghost use Rattle.lfs_tool.specs.Unpackings.{HaveFormedLists, FailsUnpackingDisk, FailsUnpackingImage, ActionsPartlyDone, HasDoneActions, FailsUnpackingKnown, HasUnpackedDisk, HasUnpackedImage, ReportsTargetFaults, place_action, place_actions};
+ghost use Rattle.lfs_tool.specs.Unpackings.{HaveFormedLists, FailsUnpackingDisk, FailsUnpackingImage, ActionsPartlyDone, HasDoneActions, HasUnpackedDisk, HasUnpackedImage, ReportsTargetFaults, place_action, place_actions};
 ghost use Rattle.lfs_thread.specs.ThreadSteps.{OnlyReadsThread};
 ghost use Rattle.lfs_lookup.specs.FileBytes.{struct_file_bytes};
 ghost use Rattle.lfs_lookup.specs.Items.{owned_view};
 ghost use Rattle.lfs_lookup.specs.TreeWalk.{tree_item_view, tree_items_view};
-ghost use Rattle.lfs_tool.specs.Reports.{IsReadToEnd, ReportsOneFault};
-ghost use Rattle.lfs_tool.specs.Listings.{IsWalkedThread};
+ghost use Rattle.lfs_tool.specs.Reports.{ReportsOneFault};
 ghost use Rattle.lfs_model.specs.format.Disk.{Disk};
-ghost use Rattle.lfs_thread.specs.Kept.{ThreadView, disk_of_device};
 
-use crate::image_devices::{ram_device_of, ram_tree_items, tree_items_of};
-use crate::input::read_image;
-use crate::{FilesAndBytes, FollowsProgress, ImageInput, ImageLayout, ToolError};
-use lfs_device::{BlockDevice, Error, RamDevice};
-use lfs_file::{read_at, walk};
+use crate::image_devices::{ram_device_of, ram_tree_items};
+use crate::{FilesAndBytes, FollowsProgress, ImageLayout, ToolError};
+use lfs_device::{Error, RamDevice};
 use lfs_lookup::{OwnedStruct, TreeItem, read_struct_bytes};
 use lfs_thread::Thread;
 use lfs_tool_folders::{Target, TargetError};
@@ -104,8 +100,7 @@ fn counts_of_item(item: &TreeItem) -> FilesAndBytes {
     }
 }
 
-/// Returns how many files there are among the items, and how many bytes they have.
-pub fn counts_of_items(items: &[TreeItem]) -> FilesAndBytes {
+fn counts_of_items(items: &[TreeItem]) -> FilesAndBytes {
     let mut whole = FilesAndBytes::default();
     for item in items {
         whole = whole.plus(counts_of_item(item));
@@ -150,15 +145,24 @@ fn unpack_ram_device<T: Target, F: FollowsProgress>(
     }
 }
 
-fn unpack_image<T: Target, F: FollowsProgress>(
+/// Unpacks an image into a target: one action for each file and directory, in the order of `items_of_image`. A directory
+/// is made, and a file is put with its bytes. Nothing is done before the image is known to be good. After an error the
+/// actions that were done are a beginning of those that the image wants. `progress` is told the files and bytes of the
+/// whole, and of each entry that is done.
+///
+/// # Errors
+/// - `Fs` with each error of `items_of_image`.
+/// - `Output` if the target failed.
+pub fn unpack<T: Target, F: FollowsProgress>(
     alloc: Global,
     image: Vec<u8>,
     layout: ImageLayout,
     target: &mut T,
     progress: &mut F,
 ) -> Result<(), ToolError>
-    requires { length image.items < 2 ^ 32 }
     ensures done { OnOk result (HasUnpackedImage layout image.items (T.done target.old) (T.done target.new)) }
+
+    // Nothing is done, or a beginning of the actions, if the target failed or memory ran out.
     ensures failed { IfErr result (FailsUnpackingImage layout image.items (T.done target.old) (T.done target.new)) }
     ensures output { ReportsOneFault ToolError.Output (T.faults target.old) (T.faults target.new) result }
 {
@@ -166,96 +170,4 @@ fn unpack_image<T: Target, F: FollowsProgress>(
         Ok(device) => unpack_ram_device(alloc, device, target, progress),
         Err(error) => Err(ToolError::Fs(error)),
     }
-}
-
-/// Unpacks an image into a target: one action for each file and directory, depth first and in name
-/// order. A directory is made before its entries, and a file is put with its bytes.
-///
-/// The image may have its names in either order. Of two names of which one begins the other, the
-/// shorter comes first here.
-///
-/// The image is read to its end, or to the byte past the largest image's size of 268,435,456 bytes.
-/// Nothing is done before the image is known to be good.
-/// After an error the actions that were done are a beginning of those that the image wants. `progress` is
-/// told the files and bytes of the whole, and of each entry that is done.
-///
-/// # Errors
-/// - `Input` where the reader failed.
-/// - `Fs(NoMemory)` where memory isn't granted.
-/// - `Fs(Invalid)` where the image isn't a whole number of blocks, or its geometry is out of range.
-/// - `Fs(Corrupt)` where the image is accepted in neither order of names.
-/// - `Output` where the target failed.
-pub fn unpack<R: ImageInput, T: Target, F: FollowsProgress>(
-    alloc: Global,
-    image: &mut R,
-    layout: ImageLayout,
-    target: &mut T,
-    progress: &mut F,
-) -> Result<(), ToolError>
-    ensures done { OnOk result (IfSome (R.remaining image.old) (λ bytes. HasUnpackedImage layout bytes (T.done target.old) (T.done target.new))) }
-
-    // Nothing is done, or a beginning of the actions, where the target failed or memory ran out.
-    ensures failed { IfErr result (FailsUnpackingKnown layout (R.remaining image.old) (T.done target.old) (T.done target.new)) }
-
-    // When each error comes.
-    ensures input { ReportsOneFault ToolError.Input (R.faults image.old) (R.faults image.new) result }
-    ensures read { ¬ IsErrOf result ToolError.Input → ¬ IsErrOf result (ToolError.Fs Error.NoMemory) → IsReadToEnd (R.remaining image.old) (R.remaining image.new) }
-    ensures output { ReportsOneFault ToolError.Output (T.faults target.old) (T.faults target.new) result }
-{
-    let bytes = read_image(alloc, image)?;
-    unpack_image(alloc, bytes, layout, target, progress)
-}
-
-/// Returns the entries of a device's image, depth first and in name order. Of a device that is a part of an image only what
-/// was read counts. Returns None where it isn't accepted, memory isn't granted, or a read failed.
-pub fn entries_of_device<D: BlockDevice + Drop>(alloc: Global, device: D) -> Option<Vec<TreeItem>>
-    ensures { IfSome result (λ items. (t : ThreadView) × IsWalkedThread (disk_of_device D.BlockDevice device) t (tree_items_view items.items)) }
-{
-    match tree_items_of(alloc, device) {
-        Ok((_thread, items)) => Some(items),
-        Err(_) => None,
-    }
-}
-
-// Returns the bytes of a file, whose list is checked.
-fn checked_file_bytes<D: BlockDevice>(
-    alloc: Global,
-    device: &mut D,
-    structure: &OwnedStruct,
-) -> Result<Vec<u8>, Error>
-    ensures { IfOk result (λ bytes. bytes.items ≡ struct_file_bytes (disk_of_device D.BlockDevice device.old) (owned_view structure.now)) }
-{
-    match structure {
-        OwnedStruct::Inline(bytes) => Ok(Vec::from_slice(alloc, bytes)?),
-        OwnedStruct::Ctz { head, size } => {
-            walk(device, *head, *size, &mut |_block: u32| {})?;
-            let mut bytes = Vec::from_elem(alloc, 0u8, *size as usize)?;
-            read_at(device, *head, *size, 0, &mut bytes)?;
-            Ok(bytes)
-        }
-        OwnedStruct::Branch(_) => Ok(Vec::new(alloc)),
-    }
-}
-
-/// Unpacks an entry of a device's image into a target: makes a folder, or puts a file of the bytes that its list has. Of a
-/// device that is a part of an image only what is read counts. `progress` is told the files and bytes that are done.
-///
-/// # Errors
-/// - `Fs(Corrupt)` where the list isn't well formed, and `Fs(Io)` where a read failed.
-/// - `Fs(NoMemory)` where memory isn't granted.
-/// - `Output` where the target failed.
-pub fn unpack_entry<D: BlockDevice, T: Target, F: FollowsProgress>(
-    alloc: Global,
-    device: &mut D,
-    entry: &TreeItem,
-    target: &mut T,
-    progress: &mut F,
-) -> Result<(), ToolError>
-    ensures done { OnOk result (AddsAction (T.done target.old) (T.done target.new) (place_action (disk_of_device D.BlockDevice device.old) (tree_item_view entry.now))) }
-    ensures undone { OnErr result (T.done target.new ≡ T.done target.old) }
-{
-    let bytes = checked_file_bytes(alloc, device, &entry.structure)?;
-    put_item_bytes(alloc, entry, &bytes, target)?;
-    progress.add(counts_of_item(entry));
-    Ok(())
 }

@@ -19,14 +19,13 @@ mod target;
 mod target_folder;
 mod target_memory;
 mod temporary_files;
-mod zeros;
 
 pub use entries::{SourceEntry, read_tree};
 pub use fault_log::{FaultLog, PathFault};
 pub use folder_rules::{FolderRules, Links};
 pub use new_image::NewImage;
 pub use source::{ListedName, Source, SourceError, SourceKind};
-pub use source_folder::Folder;
+pub use source_folder::{Folder, LongFile};
 pub use source_memory::{MemorySource, MemorySourceEntry};
 pub use tally::Tally;
 pub use target::{Target, TargetError};

@@ -4,7 +4,6 @@ ghost use Rattle.lfs_tool_folders.specs.Roots.{source_image_size, source_root};
 
 use crate::file_bytes::read_at_most;
 use crate::full_path::{full_path, joined_path};
-use crate::zeros::zeros_of_file;
 use crate::{FaultLog, FolderRules, Links, ListedName, Source, SourceError, SourceKind, Tally};
 use std::alloc::{AllocError, Global};
 use std::fs::{File, FileType, Metadata, OpenFile};
@@ -13,12 +12,21 @@ use std::os::unix::fs::MetadataExt;
 use std::rt::Files;
 use std::{fs, io};
 
+/// A file that is longer than the image that its folder is read for.
+#[derive(Debug, Drop)]
+pub struct LongFile {
+    /// The path, `/` before each name.
+    pub path: Vec<u8>,
+    /// Its length in bytes.
+    pub len: u64,
+}
+
 /// A folder of the real file system. A name that isn't UTF-8 is a fault, and so is anything else but a file or a
 /// folder. So is a symbolic link, unless the folder's rules say otherwise, and a folder to which one leads that is above
 /// it. A fault is noted in a log, with the path that it comes from.
 ///
 /// It can be made for an image of so many bytes. Then a file that is longer than that isn't read, since
-/// no such image holds it. Zeros stand for its bytes, one more than the image has.
+/// no such image holds it: it counts as empty, and `first_long_file` names the first one.
 #[derive(Drop)]
 pub struct Folder<'a, R> {
     rt: &'a R,
@@ -26,8 +34,8 @@ pub struct Folder<'a, R> {
     log: &'a FaultLog,
     // How many bytes the image has.
     image: u64,
-    // The length of the first file that was longer.
-    too_long: Option<u64>,
+    // The first file that was longer.
+    too_long: Option<LongFile>,
     rules: FolderRules<'a>,
     faults: Tally,
 }
@@ -140,9 +148,9 @@ impl<'a, R: Files + AllocGlobal + Clone + Drop> Folder<'a, R> {
         Ok(false)
     }
 
-    /// Returns the length of the first file that was longer than the image, of those that were read.
-    pub fn first_long_file(&self) -> Option<u64> {
-        self.too_long
+    /// Returns the first file that was longer than the image, of those that were read.
+    pub fn first_long_file(&self) -> Option<&LongFile> {
+        self.too_long.as_ref()
     }
 
     fn list_names(&self, alloc: Global, path: &[u8]) -> io::Result<Vec<ListedName>> {
@@ -200,9 +208,12 @@ impl<'a, R: Files + AllocGlobal + Clone + Drop> Folder<'a, R> {
         } else {
             listed_len
         };
-        if let Some(zeros) = zeros_of_file(self.rt.alloc(), len, self.image)? {
-            self.too_long = self.too_long.or(Some(len));
-            return Ok(zeros);
+        if len > self.image {
+            if self.too_long.is_none() {
+                let path = path.to_vec(self.rt.alloc())?;
+                self.too_long = Some(LongFile { path, len });
+            }
+            return Ok(Vec::new(self.rt.alloc()));
         }
         // A file that has become longer since is too long, too.
         let most = self.image.saturating_add(1);

@@ -1,10 +1,11 @@
 // How many blocks are enough for what a folder has.
 
+use crate::creation::{read_source_entries, session_of_entries};
 use crate::files::Host;
-use crate::run::{folder_of_line, geometry_of_line, refusing_file_limit};
-use crate::times::keep_times;
+use crate::run::{folder_of_line, geometry_of_line};
+use crate::times::{keep_times, times_of_entries};
 use lfs_device::{Error, Geometry, RamDevice};
-use lfs_tool::{Extras, FollowsProgress, Line, Mode, ToolError, new_image, read_source_entries};
+use lfs_tool::{Extras, FollowsProgress, Line, Mode, ToolError};
 use lfs_tool_folders::SourceEntry;
 
 /// The most bytes that an image has.
@@ -15,43 +16,65 @@ const BLOCKS_MAX: u32 = 65_536;
 // No longer file is in its folder's entry.
 const INLINE_MAX: usize = 1022;
 
-/// Reads all that the folder of a line has, for an image of any size. The line comes with the limit of files by which
-/// such an image is refused.
-pub(crate) fn read_line_folder<'a>(
-    host: Host<'_>,
-    line: &Line<'a>,
-    folder: &str,
-) -> Result<(Vec<SourceEntry>, Line<'a>), ToolError> {
-    let mut source = folder_of_line(host, folder, IMAGE_MAX)?;
-    let entries = read_source_entries(host.alloc(), &mut source)?;
-    let mut line = *line;
-    line.profile.file_max = refusing_file_limit(&source, IMAGE_MAX, line.profile.file_max);
-    Ok((entries, line))
+/// What a folder has, read once: its entries, and their times if these are kept.
+#[derive(Drop)]
+pub(crate) struct FolderContents {
+    pub(crate) entries: Vec<SourceEntry>,
+    pub(crate) times: Vec<Option<[u8; 4]>>,
 }
 
-/// Makes the image of a folder's entries in memory, with their times where these are kept.
-pub(crate) fn image_of_entries<F: FollowsProgress>(
+/// Reads all that the folder of a line has, for an image of at most so many bytes.
+///
+/// # Errors
+/// - `Input` if it couldn't be read.
+/// - `TooBig` if a file is longer than the image and the line's limit, and `NoSpace` if it is longer than the image alone.
+pub(crate) fn read_line_folder(
+    host: Host<'_>,
+    line: &Line<'_>,
+    folder: &str,
+    size: u32,
+) -> Result<FolderContents, ToolError> {
+    let mut source = folder_of_line(host, folder, size)?;
+    let entries = read_source_entries(host.alloc(), &mut source)?;
+    if let Some(file) = source.first_long_file() {
+        let is_past_limit = file.len > u64::from(line.profile.file_max);
+        let error = if is_past_limit {
+            Error::TooBig
+        } else {
+            Error::NoSpace
+        };
+        return Err(ToolError::Fs(error));
+    }
+    let times = if host.times {
+        times_of_entries(host, folder, entries.as_slice())?
+    } else {
+        Vec::new(host.alloc())
+    };
+    Ok(FolderContents { entries, times })
+}
+
+/// Makes the image of a folder's contents in memory, with the times that were read.
+pub(crate) fn image_of_contents<F: FollowsProgress>(
     host: Host<'_>,
     line: &Line<'_>,
     geometry: Geometry,
-    entries: &[SourceEntry],
+    contents: &FolderContents,
     progress: &mut F,
 ) -> Result<RamDevice, ToolError> {
-    let image = new_image(host.alloc(), geometry, line.order, entries, progress)?;
-    match line.mode {
-        Mode::Create(folder) if host.times => keep_times(host, folder, image),
-        _ => Ok(image),
-    }
+    let entries = contents.entries.as_slice();
+    let mut session = session_of_entries(host.alloc(), geometry, line.order, entries, progress)?;
+    keep_times(host, &mut session, entries, contents.times.as_slice())?;
+    Ok(session.unmount())
 }
 
 fn are_blocks_enough(
     host: Host<'_>,
     line: &Line<'_>,
-    entries: &[SourceEntry],
+    contents: &FolderContents,
     count: u32,
 ) -> Result<bool, ToolError> {
     let geometry = Geometry::new(line.block_size, line.page, count)?.with_profile(line.profile);
-    match image_of_entries(host, line, geometry, entries, &mut ()) {
+    match image_of_contents(host, line, geometry, contents, &mut ()) {
         Ok(_image) => Ok(true),
         Err(ToolError::Fs(Error::NoSpace)) => Ok(false),
         Err(error) => Err(error),
@@ -83,13 +106,13 @@ fn blocks_of_bytes(entries: &[SourceEntry], block_size: u32) -> u32 {
 pub(crate) fn enough_blocks(
     host: Host<'_>,
     line: &Line<'_>,
-    entries: &[SourceEntry],
+    contents: &FolderContents,
     given: u32,
 ) -> Result<Option<u32>, ToolError> {
     let most = most_blocks(line.block_size);
     // One block less than `next` is too few, or fewer aren't wanted; so many are enough where that is known.
     let mut few = given
-        .max(blocks_of_bytes(entries, line.block_size).min(most))
+        .max(blocks_of_bytes(contents.entries.as_slice(), line.block_size).min(most))
         .saturating_sub(1);
     let mut enough: Option<u32> = None;
     let mut step = 1u32;
@@ -100,7 +123,7 @@ pub(crate) fn enough_blocks(
             None if few >= most => break,
             None => few.saturating_add(step).min(most.max(given)),
         };
-        if are_blocks_enough(host, line, entries, next)? {
+        if are_blocks_enough(host, line, contents, next)? {
             enough = Some(next);
         } else {
             few = next;
@@ -110,23 +133,37 @@ pub(crate) fn enough_blocks(
     Ok(enough)
 }
 
-/// Gives the line of a new image the size that is enough for the folder, and for the blocks to spare, where that is
-/// requested. Where none is enough, it has the largest one.
+/// Returns how many blocks are enough for a folder, as `enough_blocks` does.
+pub(crate) fn enough_for_folder(
+    host: Host<'_>,
+    line: &Line<'_>,
+    folder: &str,
+    given: u32,
+) -> Result<Option<u32>, ToolError> {
+    match read_line_folder(host, line, folder, IMAGE_MAX) {
+        Ok(contents) => enough_blocks(host, line, &contents, given),
+        Err(ToolError::Fs(Error::NoSpace)) => Ok(None),
+        Err(error) => Err(error),
+    }
+}
+
+/// Gives the line of a new image the size that is enough for the folder, and for the blocks to spare, if that is
+/// requested. Returns what the folder has then. If none is enough, the line has the largest size.
 pub(crate) fn fit_size(
     host: Host<'_>,
     line: &mut Line<'_>,
     extras: &Extras<'_>,
-) -> Result<(), ToolError> {
+) -> Result<Option<FolderContents>, ToolError> {
     let (Mode::Create(folder), true) = (line.mode, extras.is_size_auto) else {
-        return Ok(());
+        return Ok(None);
     };
     line.size = most_blocks(line.block_size).saturating_mul(line.block_size);
     geometry_of_line(line)?;
-    let (entries, refusing) = read_line_folder(host, line, folder)?;
-    let Some(count) = enough_blocks(host, &refusing, entries.as_slice(), 2)? else {
+    let contents = read_line_folder(host, line, folder, IMAGE_MAX)?;
+    let Some(count) = enough_blocks(host, line, &contents, 2)? else {
         return Err(ToolError::Fs(Error::NoSpace));
     };
     let count = count.saturating_add(extras.spare);
     line.size = count.saturating_mul(line.block_size);
-    Ok(())
+    Ok(Some(contents))
 }

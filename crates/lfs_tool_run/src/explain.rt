@@ -1,24 +1,25 @@
 // Why a command line wasn't carried out: the lines of --explain.
 
-use crate::blocks::{IMAGE_MAX, enough_blocks, read_line_folder};
+use crate::blocks::{IMAGE_MAX, enough_for_folder};
+use crate::creation::read_source_entries;
 use crate::files::{Host, is_standard_stream};
-use crate::parts::{ImagePart, open_part, skip_bytes};
+use crate::parts::{ImagePart, read_part};
 use crate::run::{folder_of_line, geometry_of_line};
 use lfs_device::Error;
 use lfs_tool::{
-    Fault, Line, Mode, ToolError, ToolOutput, check_result_lines, push_escaped_path,
-    read_source_entries, report, result_of_image, write_and_flush,
+    Fault, Line, Mode, ToolError, ToolOutput, check_result_lines, push_escaped_path, report,
+    result_of_image, write_and_flush,
 };
 use lfs_tool_folders::{Folder, SourceEntry};
 use lfs_tool_line::Sizes;
 use std::alloc::AllocError;
 
-// Opens the line's image once more. Standard input can't be read twice.
-fn open_part_again<'a>(host: Host<'a>, line: &Line<'a>) -> Result<ImagePart<'a>, ToolError> {
+// Reads the line's image once more. Standard input can't be read twice.
+fn read_part_again(host: Host<'_>, line: &Line<'_>) -> Result<ImagePart, ToolError> {
     if is_standard_stream(line.image) {
         return Err(ToolError::Input);
     }
-    open_part(host, line)
+    read_part(host, line)
 }
 
 // Adds a line of a path, whose parts stand behind one another, and of words.
@@ -69,20 +70,18 @@ fn sizes_of_image(host: Host<'_>, line: &Line<'_>) -> Result<Sizes, ToolError> {
             page: line.page,
         });
     }
-    let ImagePart { stream, layout } = open_part_again(host, line)?;
-    // One byte more than an image may have is enough to know.
-    let size = skip_bytes(&mut stream.into_inner(), u64::from(IMAGE_MAX) + 1)?;
+    let part = read_part_again(host, line)?;
     Ok(Sizes {
-        size: size as usize,
-        block_size: layout.block_size,
-        page: layout.page,
+        size: part.bytes.len(),
+        block_size: part.layout.block_size,
+        page: part.layout.page,
     })
 }
 
 // Adds what a check says of the image. For version 2.1 it says which option reads it.
 fn push_check(host: Host<'_>, line: &Line<'_>, text: &mut Vec<u8>) -> Result<(), ToolError> {
-    let ImagePart { mut stream, layout } = open_part_again(host, line)?;
-    let checked = result_of_image(host.alloc(), &mut stream, layout)?;
+    let part = read_part_again(host, line)?;
+    let checked = result_of_image(host.alloc(), part.bytes, part.layout)?;
     text.extend_from_slice(check_result_lines(host.alloc(), &checked)?.as_slice())?;
     if text.ends_with(b"superblock: version 2.1\n") {
         let _end = text.pop();
@@ -91,12 +90,11 @@ fn push_check(host: Host<'_>, line: &Line<'_>, text: &mut Vec<u8>) -> Result<(),
     Ok(())
 }
 
-// How many bytes a file of a folder has. Zeros stand for one that is longer than each image.
+// Returns how many bytes a file of a folder has. One that is longer than each image wasn't read.
 fn length_of_file(entry: &SourceEntry, source: &Folder<'_, HostRuntime>) -> usize {
-    let len = entry.bytes.as_ref().map_or(0, |bytes| bytes.len());
     match source.first_long_file() {
-        Some(long) if len > IMAGE_MAX as usize => long as usize,
-        _ => len,
+        Some(file) if file.path.as_slice() == entry.path.as_slice() => file.len as usize,
+        _ => entry.bytes.as_ref().map_or(0, |bytes| bytes.len()),
     }
 }
 
@@ -134,9 +132,8 @@ fn push_passed_limit(
 // How many blocks the image of a folder takes, as a line.
 fn needed_blocks_line(host: Host<'_>, line: &Line<'_>, folder: &str) -> Result<String, ToolError> {
     let blocks = geometry_of_line(line)?.block_count;
-    let (entries, line) = read_line_folder(host, line, folder)?;
     let alloc = host.alloc();
-    let text = match enough_blocks(host, &line, entries.as_slice(), blocks) {
+    let text = match enough_for_folder(host, line, folder, blocks) {
         Ok(Some(count)) if count > blocks => {
             format!(in alloc; "{blocks} blocks are too few, it takes {count}\n")
         }

@@ -1,17 +1,14 @@
 // The image at a path of the command line: a file, or for `-` a standard stream.
 
 use crate::leftovers::{begin_new_image, remove_leftovers};
-use lfs_device::Error;
 use lfs_tool::ToolError;
 use lfs_tool_folders::{FaultLog, FolderRules, NewImage};
 use std::alloc::Global;
 use std::cell::Cell;
 use std::fs::File;
 use std::io;
-use std::io::{BufReader, ErrorKind, Read, Stdin, Stdout, Write};
-
-// How many bytes of an image are read at once.
-const READ_AHEAD: usize = 65_536;
+use std::io::{ErrorKind, Read, Stdin, Stdout, Write};
+use std::os::unix::fs::MetadataExt;
 
 /// The system, and what is noted of it.
 #[derive(Clone, Copy)]
@@ -107,7 +104,25 @@ pub(crate) fn is_standard_stream(path: &str) -> bool {
     path == "-"
 }
 
-// ---- an image that is read
+// ---- a file that is read
+
+// The length of a file and the time of its last change, by which a change is known.
+#[derive(Clone, Copy, PartialEq, Eq, Drop)]
+struct FileState {
+    len: u64,
+    changed: (i64, i64),
+}
+
+fn state_of_file(file: &File) -> io::Result<Option<FileState>> {
+    let metadata = file.metadata()?;
+    if !metadata.is_file() {
+        return Ok(None);
+    }
+    Ok(Some(FileState {
+        len: metadata.len(),
+        changed: (metadata.mtime(), metadata.mtime_nsec()),
+    }))
+}
 
 #[derive(Drop)]
 enum ReadStream {
@@ -118,6 +133,8 @@ enum ReadStream {
 #[derive(Drop)]
 pub(crate) struct NotedReader<'a> {
     stream: ReadStream,
+    // As it was when it was opened. Pipes and devices have no such state.
+    state: Option<FileState>,
     path: &'a str,
     host: Host<'a>,
 }
@@ -133,19 +150,46 @@ impl Read for NotedReader<'_> {
     }
 }
 
-pub(crate) type OpenFile<'a> = BufReader<NotedReader<'a>>;
+impl NotedReader<'_> {
+    /// Returns how many bytes are behind an offset, or none if no length is known.
+    pub(crate) fn stated_len(&self, offset: u32) -> u64 {
+        let len = self.state.map_or(0, |state| state.len);
+        len.saturating_sub(u64::from(offset))
+    }
+
+    /// Fails if the file has changed since it was opened. What was read may then be of no moment.
+    pub(crate) fn confirm_unchanged(&self) -> Result<(), ToolError> {
+        let ReadStream::File(file) = &self.stream else {
+            return Ok(());
+        };
+        let confirmed = match state_of_file(file) {
+            Ok(state) if state == self.state => Ok(()),
+            Ok(_) => Err(io::Error::new(ErrorKind::Other, "the file has changed as it was read")),
+            Err(error) => Err(error),
+        };
+        self.host
+            .note_and_map(self.path, confirmed, ToolError::Input)
+    }
+}
 
 /// Opens the file at a path, to read it.
-pub(crate) fn open_file<'a>(host: Host<'a>, path: &'a str) -> Result<OpenFile<'a>, ToolError> {
-    let stream = if is_standard_stream(path) {
-        ReadStream::Standard(host.rt.stdin())
-    } else {
-        let file = File::open(host.rt, path);
-        ReadStream::File(host.note_and_map(path, file, ToolError::Input)?)
-    };
-    let reader = NotedReader { stream, path, host };
-    let opened = BufReader::with_capacity(host.alloc(), READ_AHEAD, reader);
-    opened.map_err(|_| ToolError::Fs(Error::NoMemory))
+pub(crate) fn open_file<'a>(host: Host<'a>, path: &'a str) -> Result<NotedReader<'a>, ToolError> {
+    if is_standard_stream(path) {
+        return Ok(NotedReader {
+            stream: ReadStream::Standard(host.rt.stdin()),
+            state: None,
+            path,
+            host,
+        });
+    }
+    let file = host.note_and_map(path, File::open(host.rt, path), ToolError::Input)?;
+    let state = host.note_and_map(path, state_of_file(&file), ToolError::Input)?;
+    Ok(NotedReader {
+        stream: ReadStream::File(file),
+        state,
+        path,
+        host,
+    })
 }
 
 // ---- an image that is made

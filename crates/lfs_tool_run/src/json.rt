@@ -1,9 +1,10 @@
-// The lines of a list and of a check as JSON.
+// A list and the result of a check as JSON.
 
-use crate::files::Host;
-use crate::run::check_image;
-use lfs_device::Error;
-use lfs_tool::{Line, ToolError, ToolOutput, WatchedStream, write_and_flush};
+use lfs_device::Profile;
+use lfs_tag::Superblock;
+use lfs_tool::{
+    AcceptedOrders, CheckResult, ImageSummary, OwnedStruct, TreeItem, breach_line, reason_line,
+};
 use std::alloc::{AllocError, Global};
 use std::io;
 use std::io::Write;
@@ -26,118 +27,121 @@ fn push_string(text: &mut Vec<u8>, bytes: &[u8]) -> io::Result<()> {
     write!(text, "\"")
 }
 
-// Returns the bytes of a path that a list shows escaped.
-fn bytes_of_shown_path(alloc: Global, shown: &str) -> Result<Vec<u8>, AllocError> {
-    let mut bytes = Vec::new(alloc);
-    let mut pieces = shown.split('\\');
-    bytes.extend_from_slice(pieces.next().unwrap_or("").as_bytes())?;
-    for piece in pieces {
-        let digits = piece.get(1..3).unwrap_or("");
-        bytes.push(u8::from_str_radix(digits, 16).unwrap_or(0))?;
-        bytes.extend_from_slice(piece.get(3..).unwrap_or("").as_bytes())?;
-    }
-    Ok(bytes)
-}
-
-// Returns the parts of a line before and behind its first space.
-fn split_at_space(line: &str) -> (&str, &str) {
-    line.split_once(' ').unwrap_or((line, ""))
-}
-
-// Adds the object of a line of a list.
-fn push_entry(alloc: Global, text: &mut Vec<u8>, line: &str) -> io::Result<()> {
-    let (kind, rest) = split_at_space(line);
-    let (size, path) = split_at_space(rest);
-    if kind == "f" {
-        write!(text, "{{\"type\": \"file\", \"size\": {size}")?;
-    } else {
-        write!(text, "{{\"type\": \"directory\"")?;
+fn push_item(text: &mut Vec<u8>, item: &TreeItem) -> io::Result<()> {
+    match &item.structure {
+        OwnedStruct::Inline(bytes) => {
+            write!(text, "{{\"type\": \"file\", \"size\": {}", bytes.len())?
+        }
+        OwnedStruct::Ctz { size, .. } => write!(text, "{{\"type\": \"file\", \"size\": {size}")?,
+        OwnedStruct::Branch(_) => write!(text, "{{\"type\": \"directory\"")?,
     }
     write!(text, ", \"path\": ")?;
-    push_string(text, bytes_of_shown_path(alloc, path)?.as_slice())?;
+    push_string(text, &item.path)?;
     write!(text, "}}\n")
 }
 
-// Returns lines of the tool's own as text, which they are.
-fn text_of_lines(lines: &[u8]) -> &str {
-    str::from_utf8(lines).unwrap_or("")
-}
-
-fn memory_error(_error: io::Error) -> ToolError {
-    ToolError::Fs(Error::NoMemory)
-}
-
-/// Returns an object for each line of a list, a line each.
-pub(crate) fn json_of_list(alloc: Global, lines: &[u8]) -> Result<Vec<u8>, ToolError> {
+/// Returns an object for each item, a line each.
+pub(crate) fn json_of_items(alloc: Global, items: &[TreeItem]) -> Result<Vec<u8>, AllocError> {
     let mut text = Vec::new(alloc);
-    for line in text_of_lines(lines).lines() {
-        push_entry(alloc, &mut text, line).map_err(memory_error)?;
+    for item in items {
+        if push_item(&mut text, item).is_err() {
+            return Err(AllocError);
+        }
     }
     Ok(text)
 }
 
-fn push_text_member(text: &mut Vec<u8>, key: &str, value: &str) -> io::Result<()> {
-    write!(text, ", \"{key}\": ")?;
-    push_string(text, value.as_bytes())
+fn push_reason(text: &mut Vec<u8>, reason: &[u8]) -> io::Result<()> {
+    write!(text, ", \"reason\": ")?;
+    push_string(text, reason)
 }
 
-fn push_number_member(text: &mut Vec<u8>, key: &str, digits: &str) -> io::Result<()> {
-    write!(text, ", \"{key}\": {digits}")
+fn push_limit(text: &mut Vec<u8>, key: &str, default: u32, limit: u32) -> io::Result<()> {
+    if limit != default {
+        write!(text, ", \"{key}\": {limit}")?;
+    }
+    Ok(())
 }
 
-fn push_members(text: &mut Vec<u8>, line: &str) -> io::Result<()> {
-    let (key, value) = split_at_space(line);
-    let (first, rest) = split_at_space(value);
-    match key {
-        "order" | "version" => push_text_member(text, key, value),
-        "recover" | "writable" => {
-            write!(text, ", \"{key}\": {}", first == "yes")?;
-            if rest.is_empty() {
-                return Ok(());
-            }
-            push_text_member(text, "reason", rest)
-        }
-        "used" => {
-            push_number_member(text, key, first)?;
-            push_number_member(text, "blocks", rest.split(' ').nth(1).unwrap_or(""))
-        }
-        _ => push_number_member(text, key, first),
+// Adds the version unless it is 2.0, and each limit that isn't the default one.
+fn push_superblock(text: &mut Vec<u8>, superblock: &Superblock) -> io::Result<()> {
+    let version = superblock.version;
+    if version != Superblock::VERSION {
+        write!(
+            text,
+            ", \"version\": \"{}.{}\"",
+            version / 65536,
+            version % 65536
+        )?;
+    }
+    let default = Profile::new();
+    push_limit(text, "name_max", default.name_max, superblock.name_max)?;
+    push_limit(text, "file_max", default.file_max, superblock.file_max)?;
+    push_limit(text, "attr_max", default.attr_max, superblock.attr_max)
+}
+
+fn push_counts(text: &mut Vec<u8>, summary: &ImageSummary) -> io::Result<()> {
+    let (files, directories) = (summary.files, summary.directories);
+    write!(text, ", \"files\": {files}, \"directories\": {directories}")?;
+    let (used, blocks) = (summary.used, summary.blocks);
+    let free = blocks.saturating_sub(used);
+    write!(
+        text,
+        ", \"used\": {used}, \"blocks\": {blocks}, \"free\": {free}"
+    )
+}
+
+fn push_summary(
+    alloc: Global,
+    text: &mut Vec<u8>,
+    summary: &ImageSummary,
+    orders: AcceptedOrders,
+) -> io::Result<()> {
+    push_counts(text, summary)?;
+    write!(text, ", \"order\": \"{orders}\"")?;
+    if let Some(superblock) = &summary.superblock {
+        push_superblock(text, superblock)?;
+    }
+    write!(text, ", \"recover\": {}", summary.recover)?;
+    write!(text, ", \"writable\": {}", summary.breach.is_none())?;
+    match summary.breach {
+        Some(breach) => push_reason(
+            text,
+            breach_line(alloc, summary.inline_max, breach)?.as_slice(),
+        ),
+        None => Ok(()),
     }
 }
 
-fn json_of_check(alloc: Global, lines: &str) -> io::Result<Vec<u8>> {
-    let mut text = Vec::new(alloc);
-    let is_ok = lines.starts_with("ok\n");
+fn push_check(
+    alloc: Global,
+    text: &mut Vec<u8>,
+    checked: &CheckResult,
+    behind: Option<u64>,
+) -> io::Result<()> {
+    let is_ok = matches!(checked, CheckResult::Accepted { .. });
     write!(text, "{{\"ok\": {is_ok}")?;
-    for line in lines.lines().skip(1) {
-        if is_ok || line.starts_with("behind ") {
-            push_members(&mut text, line)?;
-        } else if !line.is_empty() {
-            push_text_member(&mut text, "reason", line)?;
+    match checked {
+        CheckResult::Accepted { summary, orders } => push_summary(alloc, text, summary, *orders)?,
+        CheckResult::Refused { reason, given } => {
+            push_reason(text, reason_line(alloc, given, reason)?.as_slice())?
         }
     }
-    write!(text, "}}\n")?;
-    Ok(text)
-}
-
-/// Returns the answer of a work that writes lines to memory, where only memory can fail.
-pub(crate) fn memory_answer<T>(answer: Result<T, ToolError>) -> Result<T, ToolError> {
-    match answer {
-        Err(ToolError::Output) => Err(ToolError::Fs(Error::NoMemory)),
-        other => other,
+    if let Some(count) = behind {
+        write!(text, ", \"behind\": {count}")?;
     }
+    write!(text, "}}\n")
 }
 
-/// Checks an image, and writes one object. Returns whether the image is accepted.
-pub(crate) fn check_as_json<W: ToolOutput>(
-    host: Host<'_>,
-    line: &Line<'_>,
-    out: &mut W,
-) -> Result<bool, ToolError> {
-    let mut lines = WatchedStream::new(Vec::new(host.alloc()));
-    let accepted = memory_answer(check_image(host, line, &mut lines))?;
-    let lines = text_of_lines(lines.inner().as_slice());
-    let text = json_of_check(host.alloc(), lines).map_err(memory_error)?;
-    write_and_flush(out, text.as_slice())?;
-    Ok(accepted)
+/// Returns one object: the result of a check, and how many bytes are behind the image if that is known.
+pub(crate) fn json_of_check(
+    alloc: Global,
+    checked: &CheckResult,
+    behind: Option<u64>,
+) -> Result<Vec<u8>, AllocError> {
+    let mut text = Vec::new(alloc);
+    match push_check(alloc, &mut text, checked, behind) {
+        Ok(()) => Ok(text),
+        Err(_) => Err(AllocError),
+    }
 }

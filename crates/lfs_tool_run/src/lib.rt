@@ -1,8 +1,10 @@
 // SPDX-License-Identifier: BSD-3-Clause
-//! Runs of mklittlefs over the system's files, folders and streams: from the words of a command line to the status.
+//! Images that the tool mklittlefs makes, and its runs over the system's files, folders and streams: from the words of a
+//! command line to the status.
 #![tactic(auto)]
 
 mod blocks;
+mod creation;
 mod explain;
 mod files;
 mod json;
@@ -11,7 +13,9 @@ mod lists;
 mod parts;
 mod run;
 mod session;
+mod source_entries;
 mod times;
 
+pub use creation::{create, new_image, read_source_entries};
 pub use files::{Host, Lines};
 pub use run::run_words;

@@ -1,19 +1,18 @@
 // What a command line requests.
 
-use crate::blocks::{fit_size, image_of_entries};
+use crate::blocks::{FolderContents, fit_size, image_of_contents, read_line_folder};
+use crate::creation::create;
 use crate::explain::write_explanation;
 use crate::files::{Host, NotedWriter};
-use crate::json::{check_as_json, json_of_list};
-use crate::lists::{ImageFile, accepted_lines, list_lines, open_image_file, unpack_parts};
-use crate::parts::{ImagePart, open_part, skip_bytes};
-use crate::session::{cat_file, change_image};
-use crate::times::set_times;
+use crate::lists::{check_image, list_image};
+use crate::parts::{ImagePart, read_part};
+use crate::session::{cat_file, change_image, mount_image};
+use crate::times::{set_times, times_in_image};
 use lfs_device::{Error, Geometry};
 use lfs_tool::{
-    Extras, Fault, ImageInput, ImageLayout, Line, LineError, Mode, ProgressLine, Request,
-    ToolError, ToolOutput, WatchedStream, check, create, geometry_of_sizes, ram_device_of,
-    read_image, read_request, read_source_entries, report, target_tool_error, unpack,
-    write_and_flush,
+    Extras, Fault, ImageLayout, Line, LineError, Mode, ProgressLine, Request, ToolError,
+    ToolOutput, WatchedStream, geometry_of_sizes, ram_device_of, read_request, report,
+    target_tool_error, unpack, write_and_flush,
 };
 use lfs_tool_folders::{Folder, FolderRules, Links, Target, TargetFolder};
 use std::io;
@@ -40,114 +39,63 @@ pub(crate) fn folder_of_line<'a>(
     Ok(folder.with_rules(host.rules))
 }
 
-/// The limit of files by which a folder is refused as by the given one. It was read for an image of at most so many
-/// bytes, and one zero more stands for a file that is longer.
-pub(crate) fn refusing_file_limit(folder: &Folder<'_, HostRuntime>, size: u32, limit: u32) -> u32 {
-    match folder.first_long_file() {
-        Some(len) if len > u64::from(limit) => size.min(limit),
-        _ => limit,
-    }
-}
-
 // The line of a work that begins now, where standard error is a terminal.
 fn progress_at_terminal(rt: &HostRuntime) -> ProgressLine<Stderr, HostRuntime> {
     ProgressLine::new(rt.stderr(), *rt, rt.stderr().is_terminal())
 }
 
-fn write_image(
+// Makes the image of a folder's contents, and puts it in its place once it is whole. Sizes that no image has are refused
+// before the folder is read.
+fn create_image(
     host: Host<'_>,
     line: &Line<'_>,
-    source: &mut Folder<'_, HostRuntime>,
-    geometry: Geometry,
-    image: &mut WatchedStream<NotedWriter<'_>>,
+    folder: &str,
+    read: Option<FolderContents>,
 ) -> Result<(), ToolError> {
-    let alloc = host.alloc();
+    let geometry = geometry_of_line(line)?;
+    let contents = match read {
+        Some(contents) => contents,
+        None => read_line_folder(host, line, folder, line.size)?,
+    };
+    let mut image = WatchedStream::new(NotedWriter::new(host, line.image)?);
     let mut progress = progress_at_terminal(host.rt);
     if host.times {
-        let entries = read_source_entries(alloc, source)?;
-        let made = image_of_entries(host, line, geometry, entries.as_slice(), &mut progress)?;
-        return write_and_flush(image, made.bytes());
+        let made = image_of_contents(host, line, geometry, &contents, &mut progress)?;
+        write_and_flush(&mut image, made.bytes())?;
+    } else {
+        let entries = contents.entries.as_slice();
+        create(
+            host.alloc(),
+            entries,
+            geometry,
+            line.order,
+            &mut image,
+            &mut progress,
+        )?;
     }
-    create(alloc, source, geometry, line.order, image, &mut progress)
-}
-
-// Makes the image of a folder, and puts it in its place once it is whole. Sizes that no image has are refused before
-// the folder is read.
-fn create_image(host: Host<'_>, line: &Line<'_>, folder: &str) -> Result<(), ToolError> {
-    let geometry = geometry_of_line(line)?;
-    let mut source = folder_of_line(host, folder, line.size)?;
-    let mut image = WatchedStream::new(NotedWriter::new(host, line.image)?);
-    let mut created = write_image(host, line, &mut source, geometry, &mut image);
-    let file_max = refusing_file_limit(&source, line.size, line.profile.file_max);
-    if created == Err(ToolError::Fs(Error::NoSpace)) && file_max < line.profile.file_max {
-        let mut profile = line.profile;
-        profile.file_max = file_max;
-        let geometry = geometry.with_profile(profile);
-        created = write_image(host, line, &mut source, geometry, &mut image);
-    }
-    created?;
     image.into_inner().place()
 }
 
-// Unpacks an image into a folder. It is read as a whole where no parts of a file are enough.
-fn unpack_into<R: ImageInput>(
-    host: Host<'_>,
-    parts: Option<ImageFile<'_>>,
-    image: &mut R,
-    layout: ImageLayout,
-    folder: &str,
-) -> Result<(), ToolError> {
+// Unpacks the line's image into a folder, and sets the times there if these are wanted.
+fn unpack_image(host: Host<'_>, line: &Line<'_>, folder: &str) -> Result<(), ToolError> {
+    let alloc = host.alloc();
+    let ImagePart {
+        mut bytes,
+        layout,
+        behind: _,
+    } = read_part(host, line)?;
+    let mut times = Vec::new(alloc);
+    if host.times {
+        let mut session = mount_image(host, ram_device_of(bytes, layout)?)?;
+        times = times_in_image(host, &mut session)?;
+        bytes = session.unmount().to_bytes();
+    }
     let mut target = TargetFolder::new(host.rt, host.log, folder)?;
     let mut progress = progress_at_terminal(host.rt);
-    let is_unpacked = match parts {
-        Some(parts) => unpack_parts(&parts, &mut target, &mut progress)?,
-        None => false,
-    };
-    if !is_unpacked {
-        unpack(host.alloc(), image, layout, &mut target, &mut progress)?;
-    }
+    unpack(alloc, bytes, layout, &mut target, &mut progress)?;
     // An empty image has no action that makes the folder.
-    match target.make_folder(host.alloc(), b"") {
-        Ok(()) => Ok(()),
-        Err(error) => Err(target_tool_error(error)),
-    }
-}
-
-// Unpacks the line's image into a folder, and sets the times there where these are wanted.
-fn unpack_image<'a>(host: Host<'a>, line: &Line<'a>, folder: &str) -> Result<(), ToolError> {
-    let ImagePart { mut stream, layout } = open_part(host, line)?;
-    if !host.times {
-        let parts = open_image_file(host, line, layout, stream.inner().limit());
-        return unpack_into(host, parts, &mut stream, layout, folder);
-    }
-    let bytes = read_image(host.alloc(), &mut stream)?;
-    let mut image = WatchedStream::new(bytes.as_slice());
-    unpack_into(host, None, &mut image, layout, folder)?;
-    set_times(host, folder, ram_device_of(bytes, layout)?)
-}
-
-/// Checks the image. With `-b auto` it is said how many bytes are behind it.
-pub(crate) fn check_image<'a, W: ToolOutput>(
-    host: Host<'a>,
-    line: &Line<'a>,
-    out: &mut W,
-) -> Result<bool, ToolError> {
-    let ImagePart { mut stream, layout } = open_part(host, line)?;
-    let is_accepted = match accepted_lines(host, line, layout, stream.inner().limit()) {
-        Some(lines) => {
-            write_and_flush(out, lines.as_slice())?;
-            true
-        }
-        None => check(host.alloc(), &mut stream, layout, out)?,
-    };
-    if line.is_auto {
-        let mut image = stream.into_inner();
-        let _image = skip_bytes(&mut image, u64::MAX)?;
-        let count = skip_bytes(&mut image.into_inner(), u64::MAX)?;
-        let behind = format!(in host.alloc(); "behind {count} bytes\n")?;
-        write_and_flush(out, behind.as_bytes())?;
-    }
-    Ok(is_accepted)
+    target.make_folder(alloc, b"").map_err(target_tool_error)?;
+    set_times(host, folder, times.as_slice())
 }
 
 // Does what a line requests. Returns false where an image was checked that isn't accepted, and else true.
@@ -155,19 +103,13 @@ fn run_mode<W: ToolOutput>(
     host: Host<'_>,
     line: &Line<'_>,
     json: bool,
+    read: Option<FolderContents>,
     out: &mut W,
 ) -> Result<bool, ToolError> {
     match line.mode {
-        Mode::List => {
-            let mut lines = list_lines(host, line)?;
-            if json {
-                lines = json_of_list(host.alloc(), lines.as_slice())?;
-            }
-            write_and_flush(out, lines.as_slice())?;
-        }
-        Mode::Check if json => return check_as_json(host, line, out),
-        Mode::Check => return check_image(host, line, out),
-        Mode::Create(folder) => create_image(host, line, folder)?,
+        Mode::List => list_image(host, line, json, out)?,
+        Mode::Check => return check_image(host, line, json, out),
+        Mode::Create(folder) => create_image(host, line, folder, read)?,
         Mode::Unpack(folder) => unpack_image(host, line, folder)?,
         Mode::Cat(path) => cat_file(host, line, path, out)?,
         Mode::Put(..) | Mode::Remove(_) | Mode::Mkdir(_) => change_image(host, line)?,
@@ -210,7 +152,7 @@ fn run_request<O: ToolOutput, E: ToolOutput>(
     };
     let mut line = request.line;
     let done = match fit_size(host, &mut line, &request.extras) {
-        Ok(()) => run_mode(host, &line, request.extras.json, out),
+        Ok(read) => run_mode(host, &line, request.extras.json, read, out),
         Err(error) => Err(error),
     };
     match done {

@@ -1,12 +1,10 @@
 // A session over an image in memory: a file's bytes, and changes that take the image's place whole or not at all.
 
-use crate::files::{Host, NotedWriter, open_file};
-use crate::parts::{ImagePart, open_part};
+use crate::files::{Host, NotedWriter};
+use crate::parts::{read_file, read_part};
 use lfs_device::RamDevice;
 use lfs_fs::{OpenFlags, Session, mount};
-use lfs_tool::{
-    Line, Mode, ToolError, ToolOutput, WatchedStream, ram_device_of, read_image, write_and_flush,
-};
+use lfs_tool::{Line, Mode, ToolError, ToolOutput, WatchedStream, ram_device_of, write_and_flush};
 
 /// A session over an image in memory.
 pub(crate) type RamSession = Session<RamDevice>;
@@ -17,9 +15,8 @@ pub(crate) fn mount_image(host: Host<'_>, image: RamDevice) -> Result<RamSession
 
 // Mounts the image of a line, all of it in memory.
 fn session_of_line(host: Host<'_>, line: &Line<'_>) -> Result<RamSession, ToolError> {
-    let ImagePart { mut stream, layout } = open_part(host, line)?;
-    let bytes = read_image(host.alloc(), &mut stream)?;
-    mount_image(host, ram_device_of(bytes, layout)?)
+    let part = read_part(host, line)?;
+    mount_image(host, ram_device_of(part.bytes, part.layout)?)
 }
 
 /// Writes the bytes of the file at a path in the line's image.
@@ -42,8 +39,7 @@ pub(crate) fn change_image(host: Host<'_>, line: &Line<'_>) -> Result<(), ToolEr
     let mut session = session_of_line(host, line)?;
     match line.mode {
         Mode::Put(file, path) => {
-            let mut file = WatchedStream::new(open_file(host, file)?);
-            let bytes = read_image(host.alloc(), &mut file)?;
+            let bytes = read_file(host, file)?;
             let flags = OpenFlags::WRITE | OpenFlags::CREATE | OpenFlags::TRUNCATE;
             let file = session.open(host.alloc(), path.as_bytes(), flags)?;
             session.write(host.alloc(), file, bytes.as_slice())?;

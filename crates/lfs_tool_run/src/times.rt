@@ -1,10 +1,11 @@
 // The times at which files and folders were modified, kept as attributes in an image.
 
 use crate::files::Host;
-use crate::session::{RamSession, mount_image};
-use lfs_device::{Error, RamDevice};
+use crate::session::RamSession;
+use lfs_device::Error;
 use lfs_fs::Kind;
 use lfs_tool::ToolError;
+use lfs_tool_folders::SourceEntry;
 use std::alloc::AllocError;
 use std::fs::{File, Metadata};
 use std::time::{Duration, UNIX_EPOCH};
@@ -28,8 +29,9 @@ fn paths_in_image(host: Host<'_>, session: &mut RamSession) -> Result<Vec<String
             folder.as_str()
         };
         for item in session.list(alloc, shown.as_bytes())? {
+            // A folder has no such name. Unpacking it fails.
             let Ok(name) = str::from_utf8(item.name.as_slice()) else {
-                return Err(ToolError::Output);
+                continue;
             };
             let path = format!(in alloc; "{folder}/{name}")?;
             if item.kind == Kind::Dir {
@@ -48,22 +50,36 @@ fn bytes_of_time(found: &Metadata) -> Option<[u8; 4]> {
     Some(seconds.to_le_bytes())
 }
 
-/// Gives all that is in an image of a folder the times of the folder's files and folders.
-pub(crate) fn keep_times(
+/// Reads the times of a folder's entries. One from before 1970 or after 2106 counts as none.
+pub(crate) fn times_of_entries(
     host: Host<'_>,
     folder: &str,
-    image: RamDevice,
-) -> Result<RamDevice, ToolError> {
-    let mut session = mount_image(host, image)?;
-    for path in paths_in_image(host, &mut session)? {
+    entries: &[SourceEntry],
+) -> Result<Vec<Option<[u8; 4]>>, ToolError> {
+    let mut times = Vec::new(host.alloc());
+    for entry in entries {
+        let path = str::from_utf8(entry.path.as_slice()).unwrap_or("");
         let full = format!(in host.alloc(); "{folder}{path}")?;
         let found = fs::metadata(host.rt, full.as_str());
         let found = host.note_and_map(full.as_str(), found, ToolError::Input)?;
-        if let Some(bytes) = bytes_of_time(&found) {
-            session.set_attr(host.alloc(), path.as_bytes(), TIME, &bytes)?;
+        times.push(bytes_of_time(&found)).map_err(AllocError::from)?;
+    }
+    Ok(times)
+}
+
+/// Sets the times of entries that were copied, in order.
+pub(crate) fn keep_times(
+    host: Host<'_>,
+    session: &mut RamSession,
+    entries: &[SourceEntry],
+    times: &[Option<[u8; 4]>],
+) -> Result<(), ToolError> {
+    for (entry, time) in entries.iter().zip(times.iter()) {
+        if let Some(bytes) = time {
+            session.set_attr(host.alloc(), entry.path.as_slice(), TIME, bytes)?;
         }
     }
-    Ok(session.unmount())
+    Ok(())
 }
 
 fn set_time(host: Host<'_>, path: &str, bytes: [u8; 4]) -> io::Result<()> {
@@ -74,20 +90,39 @@ fn set_time(host: Host<'_>, path: &str, bytes: [u8; 4]) -> io::Result<()> {
     }
 }
 
-/// Sets the times of a folder into which an image was unpacked, where the image has them.
-pub(crate) fn set_times(host: Host<'_>, folder: &str, image: RamDevice) -> Result<(), ToolError> {
-    let mut session = mount_image(host, image)?;
-    for path in paths_in_image(host, &mut session)? {
-        let bytes = match session.get_attr(host.alloc(), path.as_bytes(), TIME) {
-            Ok(bytes) => bytes,
-            Err(Error::NoAttr) => continue,
+/// Returns the paths in an image that have times, with these.
+pub(crate) fn times_in_image(
+    host: Host<'_>,
+    session: &mut RamSession,
+) -> Result<Vec<(String, [u8; 4])>, ToolError> {
+    let alloc = host.alloc();
+    let mut times = Vec::new(alloc);
+    for path in paths_in_image(host, session)? {
+        match session.get_attr(alloc, path.as_bytes(), TIME) {
+            Ok(bytes) => {
+                if let [a, b, c, d] = bytes.as_slice() {
+                    times
+                        .push((path, [*a, *b, *c, *d]))
+                        .map_err(AllocError::from)?;
+                }
+            }
+            Err(Error::NoAttr) => {}
             Err(error) => return Err(ToolError::Fs(error)),
-        };
-        if let [a, b, c, d] = bytes.as_slice() {
-            let full = format!(in host.alloc(); "{folder}{path}")?;
-            let set = set_time(host, full.as_str(), [*a, *b, *c, *d]);
-            host.note_and_map(full.as_str(), set, ToolError::Output)?;
         }
+    }
+    Ok(times)
+}
+
+/// Sets these times of paths in a folder.
+pub(crate) fn set_times(
+    host: Host<'_>,
+    folder: &str,
+    times: &[(String, [u8; 4])],
+) -> Result<(), ToolError> {
+    for (path, bytes) in times.iter() {
+        let full = format!(in host.alloc(); "{folder}{path}")?;
+        let set = set_time(host, full.as_str(), *bytes);
+        host.note_and_map(full.as_str(), set, ToolError::Output)?;
     }
     Ok(())
 }

@@ -1,10 +1,9 @@
 // Sources, the images that are made of them, and what comes back.
 
 use crate::sources::{Items, memory_source_of_items};
-use crate::texts::{list_text, unpack_text, with_error_line};
+use crate::texts::{create_of_source, list_text, unpack_text, with_error_line};
 use lfs_device::{Error, Geometry};
-use lfs_model::NameOrder;
-use lfs_tool::{ImageLayout, WatchedStream, create};
+use lfs_tool::{ImageLayout, WatchedStream};
 use lfs_tool_folders::MemorySource;
 use std::alloc::Global;
 use std::test::Fail;
@@ -24,14 +23,7 @@ fn is_made_image_as_expected(
 ) -> Result<bool, Error> {
     let mut source = source;
     let mut out = WatchedStream::new(Vec::new(alloc));
-    let result = create(
-        alloc,
-        &mut source,
-        geometry,
-        NameOrder::LongerFirst,
-        &mut out,
-        &mut (),
-    );
+    let result = create_of_source(alloc, &mut source, geometry, &mut out, &mut ());
     let image = out.into_inner();
     if result.is_err() {
         return Ok(with_error_line(alloc, image, result)?.as_slice() == lines);
@@ -181,14 +173,8 @@ const FRESH: [u8; 52] = [
 fn an_image_has_these_bytes(rt: HostRuntime) -> Result<(), Fail> {
     let mut source = memory_source_of_items(rt.alloc(), &[])?;
     let mut out = WatchedStream::new(Vec::new(rt.alloc()));
-    let result = create(
-        rt.alloc(),
-        &mut source,
-        Geometry::new(4096, 256, 16)?,
-        NameOrder::LongerFirst,
-        &mut out,
-        &mut (),
-    );
+    let geometry = Geometry::new(4096, 256, 16)?;
+    let result = create_of_source(rt.alloc(), &mut source, geometry, &mut out, &mut ());
     let mut wanted = Vec::from_slice(rt.alloc(), &FRESH)?;
     wanted.resize(65536, 0xff)?;
     assert!(rt; result == Ok(()) && out.inner().as_slice() == wanted.as_slice());

@@ -2,11 +2,10 @@
 
 use crate::images::shifting_block;
 use crate::sources::memory_source_of_items;
-use crate::texts::{list_text, unpack_text, with_error_line};
+use crate::texts::{create_of_source, list_text, unpack_text, with_error_line};
 use lfs_device::{Error, Geometry};
 use lfs_fixtures::image_with_pair;
-use lfs_model::NameOrder;
-use lfs_tool::{ImageLayout, WatchedStream, create, list};
+use lfs_tool::{ImageLayout, WatchedStream, list};
 use std::alloc::{AllocError, Global};
 use std::io;
 use std::io::{ErrorKind, Read, Write};
@@ -173,18 +172,12 @@ fn text_from_failing_writer(
     let mut writer = writer;
     let result = if is_made {
         let mut source = memory_source_of_items(alloc, &[])?;
-        create(
-            alloc,
-            &mut source,
-            Geometry::new(4096, 256, 16)?,
-            NameOrder::LongerFirst,
-            &mut writer,
-            &mut (),
-        )
+        let geometry = Geometry::new(4096, 256, 16)?;
+        create_of_source(alloc, &mut source, geometry, &mut writer, &mut ())
     } else {
         list(
             alloc,
-            &mut WatchedStream::new(image),
+            image.to_vec(alloc)?,
             ImageLayout::new(4096, 256),
             &mut writer,
         )

@@ -435,7 +435,7 @@ pub(crate) const BELOW: BlockFilling<'static> = BlockFilling::Commit(&[
 ]);
 
 // Images, and what unpacking them does.
-pub(crate) const UNPACKED: [Row<'static>; 4] = [
+const UNPACKED: [Row<'static>; 4] = [
     (ENTRIES, &[(2, BELOW)], "f /a hello\nd /d\nf /d/x \n"),
     (&[], &[], ""),
     // a list of one block

@@ -17,8 +17,6 @@ mod images;
 #[cfg(test)]
 mod lines;
 #[cfg(test)]
-mod loaded_images;
-#[cfg(test)]
 mod profiles;
 #[cfg(test)]
 mod program_runs;

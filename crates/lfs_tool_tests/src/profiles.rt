@@ -3,11 +3,10 @@
 use crate::checks::{FRESH, LATER_VERSION};
 use crate::images::{FIELDS, HARD_TAIL, PAIR, SHORT_NAMES};
 use crate::sources::{Items, memory_source_of_items};
-use crate::texts::{check_text, list_text, unpack_text, with_error_line};
+use crate::texts::{check_text, create_of_source, list_text, unpack_text, with_error_line};
 use lfs_device::{AcceptedVersions, Error, Geometry, Profile};
 use lfs_fixtures::{BlockFilling, FixtureEntries, image_with_commit};
-use lfs_model::NameOrder;
-use lfs_tool::{ImageLayout, WatchedStream, create};
+use lfs_tool::{ImageLayout, WatchedStream};
 use std::alloc::{AllocError, Global};
 use std::test::Fail;
 
@@ -366,14 +365,7 @@ fn text_of_made_image(alloc: Global, items: Items<'_>, profile: Profile) -> Resu
     let mut source = memory_source_of_items(alloc, items)?;
     let geometry = Geometry::new(4096, 256, 16)?.with_profile(profile);
     let mut out = WatchedStream::new(Vec::new(alloc));
-    let result = create(
-        alloc,
-        &mut source,
-        geometry,
-        NameOrder::LongerFirst,
-        &mut out,
-        &mut (),
-    );
+    let result = create_of_source(alloc, &mut source, geometry, &mut out, &mut ());
     let image = out.into_inner();
     if result.is_err() {
         let text = with_error_line(alloc, image, result)?;

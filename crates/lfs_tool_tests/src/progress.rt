@@ -2,10 +2,10 @@
 
 use crate::images::{BELOW, ENTRIES};
 use crate::sources::memory_source_of_items;
+use crate::texts::create_of_source;
 use lfs_device::{Error, Geometry};
 use lfs_fixtures::image_with_commit;
-use lfs_model::NameOrder;
-use lfs_tool::{FilesAndBytes, FollowsProgress, ImageLayout, WatchedStream, create, unpack};
+use lfs_tool::{FilesAndBytes, FollowsProgress, ImageLayout, WatchedStream, unpack};
 use lfs_tool_folders::MemoryTarget;
 use std::alloc::{AllocError, Global};
 use std::test::Fail;
@@ -55,14 +55,7 @@ fn progress_of_making_image(alloc: Global) -> Result<RecordedProgress, Error> {
     let mut out = WatchedStream::new(Vec::new(alloc));
     let mut told = no_progress_told(alloc);
     let geometry = Geometry::new(4096, 256, 16)?;
-    let _ = create(
-        alloc,
-        &mut source,
-        geometry,
-        NameOrder::LongerFirst,
-        &mut out,
-        &mut told,
-    );
+    let _ = create_of_source(alloc, &mut source, geometry, &mut out, &mut told);
     Ok(told)
 }
 
@@ -73,9 +66,8 @@ fn progress_of_unpacking_image(alloc: Global) -> Result<RecordedProgress, AllocE
         done: Vec::new(alloc),
     };
     let mut told = no_progress_told(alloc);
-    let mut image = WatchedStream::new(image.as_slice());
     let layout = ImageLayout::new(4096, 256);
-    let _ = unpack(alloc, &mut image, layout, &mut target, &mut told);
+    let _ = unpack(alloc, image, layout, &mut target, &mut told);
     Ok(told)
 }
 

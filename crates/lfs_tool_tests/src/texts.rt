@@ -1,9 +1,13 @@
 // What the tool shows, as text.
 
+use lfs_device::Geometry;
+use lfs_model::NameOrder;
 use lfs_tool::{
-    Fault, ImageInput, ImageLayout, ToolError, WatchedStream, check, list, report, unpack,
+    Fault, FollowsProgress, ImageInput, ImageLayout, ToolError, ToolOutput, WatchedStream, check,
+    list, read_image, report, unpack,
 };
-use lfs_tool_folders::{MemoryTarget, TargetAction};
+use lfs_tool_folders::{MemoryTarget, Source, TargetAction};
+use lfs_tool_run::{create, read_source_entries};
 use std::alloc::{AllocError, Global};
 
 // What is shown of a fault: the status, and what goes to `out` and to `err`.
@@ -46,7 +50,10 @@ pub(crate) fn list_text<R: ImageInput>(
     layout: ImageLayout,
 ) -> Result<Vec<u8>, AllocError> {
     let mut out = WatchedStream::new(Vec::new(alloc));
-    let result = list(alloc, image, layout, &mut out);
+    let result = match read_image(alloc, image, 0) {
+        Ok(bytes) => list(alloc, bytes, layout, &mut out),
+        Err(error) => Err(error),
+    };
     with_error_line(alloc, out.into_inner(), result)
 }
 
@@ -57,8 +64,8 @@ pub(crate) fn check_text<R: ImageInput>(
     layout: ImageLayout,
 ) -> Result<Vec<u8>, AllocError> {
     let mut out = WatchedStream::new(Vec::new(alloc));
-    let answer = match check(alloc, image, layout, &mut out) {
-        Ok(_) => Ok(()),
+    let answer = match read_image(alloc, image, 0) {
+        Ok(bytes) => check(alloc, bytes, layout, &mut out).map(|_accepted| ()),
         Err(error) => Err(error),
     };
     with_error_line(alloc, out.into_inner(), answer)
@@ -103,6 +110,22 @@ pub(crate) fn unpack_text<R: ImageInput>(
     let mut target = MemoryTarget {
         done: Vec::new(alloc),
     };
-    let answer = unpack(alloc, image, layout, &mut target, &mut ());
+    let answer = match read_image(alloc, image, 0) {
+        Ok(bytes) => unpack(alloc, bytes, layout, &mut target, &mut ()),
+        Err(error) => Err(error),
+    };
     target_text(alloc, &target, answer)
+}
+
+// Writes the image of all that a source has.
+pub(crate) fn create_of_source<S: Source, W: ToolOutput, F: FollowsProgress>(
+    alloc: Global,
+    source: &mut S,
+    geometry: Geometry,
+    out: &mut W,
+    progress: &mut F,
+) -> Result<(), ToolError> {
+    let entries = read_source_entries(alloc, source)?;
+    let order = NameOrder::LongerFirst;
+    create(alloc, entries.as_slice(), geometry, order, out, progress)
 }

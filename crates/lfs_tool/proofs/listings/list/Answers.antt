@@ -1,19 +1,23 @@
-use Rattle.std.proofs.Common.{List, ℕ, subst}
-use Rattle.lfs_tool.proofs.Common.{on_ok_weaker, Appends, AppendsBeginning}
-use Rattle.lfs_tool.proofs.Images.{with_lines}
+use Rattle.std.proofs.Common.{List, ℕ, subst, sym, ap, ◌∙◌}
+use Rattle.lfs_tool.proofs.Common.{on_ok_weaker, Appends, AppendsBeginning, place_lines, tree_items_view}
+use Rattle.lfs_tool.specs.Listings.{IsImageListing}
+use Rattle.lfs_tool.proofs.Images.{walk_lists}
 use Rattle.lfs_tool.proofs.Writers.{reports_written}
 use Rattle.lfs_tool.proofs.listings.list.Goals as goal
 
 pub returns-clause-ok : goal.returns-clause-ok
 returns-clause-ok g c =
     let P : List ℕ → Type 0 = Appends (g.W.ToolOutput.contents c.args.out.now) (g.W.ToolOutput.contents c.write_and_flush.new.out) in
-    on_ok_weaker c.write_and_flush.result (λ written.
-    with_lines (g.R.ImageInput.remaining c.args.image.now) c.args.layout c.in_ok-text.text.items P c.in_ok-text.ensures.ok (subst P c.as_slice.ensures.value written)) c.write_and_flush.ensures.ok
+    let lists = subst (IsImageListing c.args.layout c.args.image.items) (sym (c.in_ok-text.ensures ∙ ap (λ found. place_lines (tree_items_view found)) c.deref.ensures.value))
+    (walk_lists c.args.layout c.args.image.items (tree_items_view c.in_ok-items.items.items) c.in_ok-items.ensures.ok) in
+    on_ok_weaker c.write_and_flush.result (λ written. (c.in_ok-text.text.items, (lists, subst P c.as_slice.ensures.value written))) c.write_and_flush.ensures.ok
 
 pub returns-clause-beginning : goal.returns-clause-beginning
 returns-clause-beginning g c = λ failed.
     let P : List ℕ → Type 0 = AppendsBeginning (g.W.ToolOutput.contents c.args.out.now) (g.W.ToolOutput.contents c.write_and_flush.new.out) in
-    with_lines (g.R.ImageInput.remaining c.args.image.now) c.args.layout c.in_ok-text.text.items P c.in_ok-text.ensures.ok (subst P c.as_slice.ensures.value c.write_and_flush.ensures.beginning)
+    let lists = subst (IsImageListing c.args.layout c.args.image.items) (sym (c.in_ok-text.ensures ∙ ap (λ found. place_lines (tree_items_view found)) c.deref.ensures.value))
+    (walk_lists c.args.layout c.args.image.items (tree_items_view c.in_ok-items.items.items) c.in_ok-items.ensures.ok) in
+    (c.in_ok-text.text.items, (lists, subst P c.as_slice.ensures.value c.write_and_flush.ensures.beginning))
 
 pub returns-clause-writer : goal.returns-clause-writer
 returns-clause-writer g c = reports_written g.W.ToolOutput _ _ c.write_and_flush.result c.write_and_flush.ensures.kept c.write_and_flush.ensures.failed

@@ -1,0 +1,2 @@
+pub mod AppliedOperations
+pub mod MadeImages

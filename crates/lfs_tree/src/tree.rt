@@ -8,6 +8,7 @@ ghost use Rattle.lfs_model.specs.crash.Frame.{directory_pair_count, ancestor_pat
 ghost use Rattle.lfs_model.specs.session.TreeEdits.{node_attributes_of};
 ghost use Rattle.lfs_model.specs.format.Content.{attribute_bytes};
 ghost use Rattle.lfs_model.specs.tree.Profile.{image_fields};
+ghost use Rattle.lfs_model.specs.layers.ProfileBreaches.{IsBreachIfAny};
 ghost use Rattle.lfs_model.specs.format.Slots.{zero_gstate};
 ghost use Rattle.lfs_model.specs.format.Thread.{Pair, anchor_address, pairs_gstate, address_blocks};
 ghost use Rattle.lfs_model.specs.tree.View.{IsAccepted};
@@ -43,9 +44,9 @@ use core::mem::replace_with;
 use lfs_device::{BlockDevice, Error, Geometry};
 use lfs_lookup::{
     FoundAttribute, FoundNode, Listing, NodeAndEmptiness, Path, PathLookup, attributes_size_at,
-    find_attribute, find_node, list_directory, path_has_entries,
+    find_attribute, find_node, find_profile_breach, list_directory, path_has_entries,
 };
-use lfs_model::NameOrder;
+use lfs_model::{NameOrder, ProfileBreach};
 use lfs_tag::{MoveState, Superblock};
 use lfs_thread::Thread;
 use std::alloc::Global;
@@ -237,6 +238,21 @@ impl<D: BlockDevice> Tree<D> {
         let superblock = lfs_lookup::superblock(alloc, &mut self.thread, self.root);
         mark_failed(&mut self.thread, &superblock);
         superblock
+    }
+
+    /// Returns which rule of the writing profile the image breaks, and where. Returns None exactly
+    /// if the image may be written. The call only reads.
+    ///
+    /// Errors: `Io` if a read failed. `NoMemory` if memory isn't granted. The tree has failed after
+    /// either.
+    pub fn profile_breach(&mut self, alloc: Global) -> Result<Option<ProfileBreach>, Error>
+        requires { self.old.failed ≡ false }
+        ensures asks { ReadsTreeOrFails self.old result self.new }
+        ensures is { IfOk result (IsBreachIfAny self.old.disk self.old.pairs) }
+    {
+        let breach = find_profile_breach(alloc, &mut self.thread, self.root);
+        mark_failed(&mut self.thread, &breach);
+        breach
     }
 
     /// Looks up a path. Each pair of the directories above it is read at most once, and none where

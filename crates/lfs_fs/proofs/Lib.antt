@@ -51,5 +51,6 @@ pub mod DeviceLaws
 pub mod Called
 pub mod WritersInPlace
 pub mod ImageLimits
+pub mod ReadOnly
 mod FileAnswers
 pub mod Common

@@ -25,4 +25,5 @@ pub mod DeviceLaws
 pub mod CallEnds
 pub mod CallEffects
 pub mod ImageLimits
+pub mod ReadOnly
 pub mod FileAnswers

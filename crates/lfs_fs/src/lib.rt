@@ -23,7 +23,7 @@ pub use gstate::Gstate;
 pub use image_limits::mount_with_limits;
 pub use lfs_device::{AcceptedVersions, Profile, Profiled};
 pub use lfs_lookup::{Kind, ListItem as Item, Stat};
-pub use lfs_model::NameOrder;
+pub use lfs_model::{NameOrder, OtherLimit, ProfileBreach};
 pub use lfs_tag::Superblock;
 pub use run::{Op, Reply};
 pub use session::{Session, format, format_ordered, mount};

@@ -1,7 +1,7 @@
 ghost use Rattle.lfs_model.specs.session.Operations as ops;
 ghost use Rattle.lfs_model.specs.session.Operations.{Operation, Reply as Answer};
 ghost use Rattle.lfs_fs.specs.Replies.{reply_from};
-ghost use Rattle.std.specs.Prelude.{◌≡◌, ◌⊎◌, ◌++◌, ◌+◌, ◌≤◌, None, Some, false, true, List, [], drop, length, map, take, All, IfOk, IfErr, MatchResult, OnOk};
+ghost use Rattle.std.specs.Prelude.{◌≡◌, ◌⊎◌, ◌↔◌, ◌++◌, ◌+◌, ◌≤◌, None, Some, false, true, List, [], drop, length, map, take, All, IfOk, IfErr, IsTrue, MatchResult, OnOk};
 ghost use Rattle.lfs_model.specs.format.Disk.{SameGeometry, ordered_disk};
 ghost use Rattle.lfs_model.specs.format.Thread.{Pair, address_blocks};
 ghost use Rattle.lfs_model.specs.tree.Fresh.{empty_tree};
@@ -26,6 +26,7 @@ ghost use Rattle.lfs_tree.specs.Formats.{IsFormatError, IsFormatted, WritesFirst
 ghost use Rattle.lfs_tree.specs.TreeState.{kept_thread};
 ghost use Rattle.lfs_fs.specs.GstateView.{returned_gstate_reply};
 ghost use Rattle.lfs_fs.specs.ImageLimits.{FailedByRead, OnlyReadsSession};
+ghost use Rattle.lfs_fs.specs.ReadOnly.{IsReadOnlyReason, MayWrite};
 ghost use Rattle.lfs_fs.specs.SessionView.{BeginsByMount, FailsRun, system_state};
 ghost use Rattle.lfs_fs.specs.FlagsView.{flags_view};
 ghost use Rattle.lfs_fs.specs.OpView.{HasRefusalError, op_view, result_view, reply_view};
@@ -54,7 +55,7 @@ use crate::writers::{create_and_open, open_existing_file};
 use bitflags::Flags;
 use lfs_device::{BlockDevice, Error};
 use lfs_lookup::{ListItem as Item, Stat};
-use lfs_model::NameOrder;
+use lfs_model::{NameOrder, ProfileBreach};
 use lfs_tag::Superblock;
 use lfs_tree::Tree;
 use std::alloc::Global;
@@ -620,6 +621,46 @@ impl<D: BlockDevice> Session<D> {
         let superblock = self.tree.superblock(alloc);
         lemma_calls_conform(&self.tree);
         superblock
+    }
+
+    /// Returns whether the session may write: it hasn't failed, and its image is in the writing
+    /// profile. Then no operation is refused as `ReadOnly`, and [`run`](Session::run) survives a
+    /// loss of power. The call makes no call of the device.
+    pub fn is_writable(&self) -> bool
+        ensures { IsTrue result ↔ MayWrite self.now }
+    {
+        if self.tree.has_failed() {
+            return false;
+        }
+        self.tree.is_writable()
+    }
+
+    /// Returns why the image is read only: a rule of the writing profile that the image breaks, and
+    /// where. Returns None exactly if the session may write, and then makes no call of the device.
+    /// Otherwise the call reads the metadata pairs, and writes nothing.
+    ///
+    /// Of several rules another limit is told first, then long inline contents, an empty pair, and
+    /// what is too large.
+    ///
+    /// # Errors
+    ///
+    /// `Io` if a read failed, and `NoMemory` if memory isn't granted. After either the session has
+    /// failed.
+    pub fn read_only_reason(&mut self, alloc: Global) -> Result<Option<ProfileBreach>, Error>
+        ensures is { IfOk result (IsReadOnlyReason self.old) }
+        ensures read { OnOk result (OnlyReadsSession self.old self.new) }
+        ensures failed { IfErr result (FailedByRead self.old self.new) }
+        ensures silent { MayWrite self.old → self.new ≡ self.old }
+    {
+        if self.tree.has_failed() {
+            return Err(Error::Failed);
+        }
+        if self.tree.is_writable() {
+            return Ok(None);
+        }
+        let breach = self.tree.profile_breach(alloc);
+        lemma_calls_conform(&self.tree);
+        breach
     }
 
     // Performs one operation. A refusal is a reply; after an error the session has failed.

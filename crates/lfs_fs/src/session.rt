@@ -625,7 +625,7 @@ impl<D: BlockDevice> Session<D> {
 
     /// Returns whether the session may write: it hasn't failed, and its image is in the writing
     /// profile. Then no operation is refused as `ReadOnly`, and [`run`](Session::run) survives a
-    /// loss of power. The call makes no call of the device.
+    /// power loss. Does not access the device.
     pub fn is_writable(&self) -> bool
         ensures { IsTrue result ↔ MayWrite self.now }
     {
@@ -639,13 +639,13 @@ impl<D: BlockDevice> Session<D> {
     /// where. Returns None exactly if the session may write, and then makes no call of the device.
     /// Otherwise the call reads the metadata pairs, and writes nothing.
     ///
-    /// Of several rules another limit is told first, then long inline contents, an empty pair, and
-    /// what is too large.
+    /// If the image breaks several rules, it names another limit first, then long inline contents, an
+    /// empty pair, and what is too large.
     ///
     /// # Errors
     ///
-    /// `Io` if a read failed, and `NoMemory` if memory isn't granted. After either the session has
-    /// failed.
+    /// `Failed` in a failed session. `Io` if a read failed, and `NoMemory` if memory isn't granted; the
+    /// session has failed after either.
     pub fn read_only_reason(&mut self, alloc: Global) -> Result<Option<ProfileBreach>, Error>
         ensures is { IfOk result (IsReadOnlyReason self.old) }
         ensures read { OnOk result (OnlyReadsSession self.old self.new) }

@@ -1,7 +1,7 @@
 #!/usr/bin/env python3
 """What sessions answer and leave where a call of the device fails, where the device stops, and where memory is refused.
 
-usage: stops.py PROGRAM [--only WORD] [--count N] [--seed WORD] [--keep FOLDER]
+usage: stops.py PROGRAM [--only WORD] [--stops WORD] [--count N] [--seed WORD] [--keep FOLDER]
 
 PROGRAM is a built lfs_script. Each story is a device or an image and some operations; what they answer and which tree stands
 before and behind each is worked out by session_model.py, which shares nothing with the crates. In turn, from the first call of
@@ -21,6 +21,9 @@ these. Which moved is read from the images behind each operation (image_reader.p
 that is compared with a mount.
 
 Last come N stories made at random (contents.py), each stopped at one call, and its recovery at one.
+
+With `--stops` only the stops that have the word are tried, and no failed calls and refused allocations: `--stops kept` tries erases that
+leave a part of the old block.
 
 Prints for each story how many there were of each. Fails where anything else came; the script of it is left in FOLDER.
 """
@@ -270,11 +273,16 @@ def sweep(options, story, cases, judge, batch=40):
             count += 1
 
 
+def chosen_stops(options, story):
+    return [stop for stop in story.stops if options.stops in " ".join(stop)]
+
+
 def sweeps(options, story):
     turns = range(1, MOST_CALLS)
-    calls, wrong = sweep(options, story, (failing_once(story, nth) for nth in turns), judge_once)
-    counts = collections.Counter({"failed calls": calls})
-    for stop in story.stops:
+    counts, wrong = collections.Counter(), 0
+    if not options.stops:
+        counts["failed calls"], wrong = sweep(options, story, (failing_once(story, nth) for nth in turns), judge_once)
+    for stop in chosen_stops(options, story):
         kind = "erases" if stop[0] == "erase" else "stops"
         stops, more = sweep(options, story, (stopping(story, nth, stop) for nth in turns), judge_stop)
         counts[kind], wrong = counts[kind] + stops, wrong + more
@@ -309,7 +317,7 @@ def at_random(options):
     """How many stories were stopped, in an operation and in a recovery, and how many were wrong."""
     counts = collections.Counter()
     for first in range(0, options.count, 40):
-        turns = [random_turn(options.seed, number) for number in range(first, min(first + 40, options.count))]
+        turns = [random_turn(options, number) for number in range(first, min(first + 40, options.count))]
         for (story, case), answers in zip(turns, played(options.program, options.data, [case for _, case in turns])):
             try:
                 counts["stops in a recovery"] += judge_twice(story, answers)
@@ -320,12 +328,12 @@ def at_random(options):
     return counts
 
 
-def random_turn(seed, number):
-    rnd = random.Random(f"{seed}/{number}")
-    blocks, ops = made(seed, number)
+def random_turn(options, number):
+    rnd = random.Random(f"{options.seed}/{number}")
+    blocks, ops = made(options.seed, number)
     begin = f"fresh 1024 128 {blocks}" + rnd.choice(["", " keep", " fill 00"])
     story = Story("at random", begin, [op for op in ops if op != "remount"])
-    stop = rnd.choice(story.stops)
+    stop = rnd.choice(chosen_stops(options, story))
     return story, stopping_twice(story, rnd.randrange(1, 150 if stop[0] == "any" else 40), stop, rnd.randrange(1, 12))
 
 
@@ -380,6 +388,7 @@ def main():
     parser = argparse.ArgumentParser(description=__doc__.split("\n")[0])
     parser.add_argument("program", type=os.path.abspath)
     parser.add_argument("--only", default="")
+    parser.add_argument("--stops", default="")
     parser.add_argument("--count", type=int, default=5000)
     parser.add_argument("--seed", default="stops")
     parser.add_argument("--keep")
@@ -393,8 +402,9 @@ def main():
                 continue
             counts = sweeps(options, story)
             counts["wrong"] += not has_moved(options, story, room)
-            counts["refused allocations"], more = refusals(options, story, refusing)
-            counts["wrong"] += more
+            if not options.stops:
+                counts["refused allocations"], more = refusals(options, story, refusing)
+                counts["wrong"] += more
             wrong += counts["wrong"]
             told = ", ".join(f"{counts[what]} {what}" for what in TOLD)
             print(f"{story.name} ({story.begin}): {told}", flush=True)

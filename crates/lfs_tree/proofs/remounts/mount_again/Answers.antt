@@ -4,13 +4,25 @@ use Rattle.lfs_tree.proofs.Common.{Disk, ordered_disk, CallEvent, fault_count, P
 use Rattle.lfs_model.specs.declared.order.NameOrder.{NameOrder}
 use Rattle.lfs_model.specs.declared.order.NameOrder.TheVariants.{LongerFirst}
 use Rattle.lfs_mount.specs.MountFaults.{MountMayReport}
+use Rattle.lfs_blocks.specs.Next.{BeginsAt}
+use Rattle.lfs_thread.specs.Kept.{ThreadView}
+use Rattle.lfs_tree.specs.RootedThreads.{thread_state}
+use Rattle.lfs_tree.specs.TreeState.{IsRemountedTree}
 use Rattle.lfs_tree.proofs.remounts.mount_again.Goals as goal
 
+-- the search is no part of what contracts see of a tree
+same_tree : (g : _) (c : goal.After-drop-cache-inside g) → thread_state c.start_search_at-first.new.self c.tree-in-Ok.inside.is_writable ≡ c.in-Ok.tree
+same_tree g c = ap (λ (t : ThreadView). thread_state t c.tree-in-Ok.inside.is_writable) c.start_search_at-first.ensures.same ∙ c.tree-in-Ok.view_is
+
 pub returns-in-Ok-clause-mounted : goal.returns-in-Ok-clause-mounted
-returns-in-Ok-clause-mounted g c = record {
+returns-in-Ok-clause-mounted g c = subst (IsRemountedTree c.args.tree) (sym (same_tree g c)) (record {
   mounted = subst₂ (λ (disk : Disk) (history : List CallEvent). IsMountedTree disk history c.in-Ok.tree) (ap (ordered_disk c.in-Ok.tree.disk.order) c.into_device.ensures.disk) c.into_device.ensures.history c.in-Ok.ensures.mounted;
   longer = λ shorter ps a. c.in-Ok.ensures.longer shorter ps (subst (λ (disk : Disk). IsAccepted disk ps) (sym (ap (ordered_disk LongerFirst) c.into_device.ensures.disk)) a);
-}
+})
+
+pub returns-in-Ok-clause-goes_on : goal.returns-in-Ok-clause-goes_on
+returns-in-Ok-clause-goes_on g c =
+    subst (λ (t : ThreadView). BeginsAt t.kept.map c.args.spare.start c.start_search_at-first.result) (sym c.start_search_at-first.ensures.same) c.start_search_at-first.ensures.begins
 
 pub returns-in-Err-clause-errors : goal.returns-in-Err-clause-errors
 returns-in-Err-clause-errors g c = record {

@@ -10,8 +10,8 @@ use Rattle.lfs_tool_line.specs.declared.board.Board.TheVariants.{Unnamed}
 use Rattle.lfs_tool_line.specs.declared.limits.Limit.{Limit}
 
 pub block_size_with_board : (rows : List Row) (board : Board) → board_in_rows rows ≡ Some board
-    → given_block_size rows ≡ number_or (board_block_size board) (codes "block_size") rows
-block_size_with_board rows board is = ap (λ (o : Option Board). number_or (board_block_size (unwrap_or o Unnamed)) (codes "block_size") rows) is
+    → given_block_size rows ≡ number_or (board_block_size board) (codes "block") rows
+block_size_with_board rows board is = ap (λ (o : Option Board). number_or (board_block_size (unwrap_or o Unnamed)) (codes "block") rows) is
 
 pub profile_with_board : (rows : List Row) (board : Board) → board_in_rows rows ≡ Some board
     → given_profile rows ≡ profile_given_or (board_profile board) rows

@@ -1,5 +1,5 @@
 -- A parse by the command of mklittlefs has the image.
-use Rattle.std.proofs.Common.{◌≡◌, lit<, refl}
+use Rattle.std.proofs.Common.{◌≡◌, codes, lit<, refl}
 use Rattle.std.proofs.lemmas.Result.{IfOk-weaker}
 use Rattle.std.specs.Prelude.{IfOk, Result}
 use Rattle.clap.specs.Words.{IsParsedFrom, app_of, found_of}
@@ -8,18 +8,18 @@ use Rattle.clap.specs.declared.builder.arg.Arg.{Arg}
 use Rattle.clap.specs.declared.builder.command.Command.{Command}
 use Rattle.clap.specs.declared.error.Error.{Error}
 use Rattle.clap.specs.declared.parser.matches.ArgMatches.{ArgMatches}
-use Rattle.lfs_tool_line.specs.Command.{image_argument, mklittlefs, with_board_options, with_extra_options, with_limit_options, with_mode_options, with_common_options, with_path_modes, with_size_options}
+use Rattle.lfs_tool_line.specs.Command.{needed, mklittlefs}
 use Rattle.lfs_tool_line.specs.Matches.{HasImage}
 use Rattle.lfs_tool_line.proofs.Given.{IsPlainApp, an_arg, args_there, required_reads}
 
 plain_app : IsPlainApp mklittlefs
-unfolding mklittlefs with_common_options with_mode_options with_path_modes with_size_options with_limit_options with_board_options with_extra_options
+unfolding mklittlefs
 plain_app = record { ready = refl; leaves = refl; free = refl; negates = refl }
 
 with_image : (c : Command) (m : ArgMatches) (d : Arg) → app_of c ≡ mklittlefs → IsParsedFrom c m → HasImage (found_of m)
-unfolding mklittlefs with_common_options with_mode_options with_path_modes with_size_options with_limit_options with_board_options with_extra_options
-with_image c m d same p = required_reads c m mklittlefs same plain_app p 27 d image_argument (lit< tt) refl refl refl refl refl refl
+unfolding mklittlefs
+with_image c m d same p = required_reads c m mklittlefs same plain_app p 0 d (needed (codes "image")) (lit< tt) refl refl refl refl refl refl
 
 pub parsed_image : (c : Command) (r : Result ArgMatches Error) → app_of c ≡ mklittlefs → IfOk r (λ m. IsParsedFrom c m) → IfOk r (λ m. HasImage (found_of m))
-unfolding mklittlefs with_common_options with_mode_options with_path_modes with_size_options with_limit_options with_board_options with_extra_options
+unfolding mklittlefs
 parsed_image c r same h = IfOk-weaker r _ _ (λ m p. with_image c m (an_arg (args_of c) (args_there c mklittlefs same (lit< tt))) same p) h

@@ -7,16 +7,16 @@ use Rattle.clap.specs.Kinds.{or_else}
 use Rattle.clap.specs.declared.error.ErrorKind.TheVariants.{ValueValidation}
 use Rattle.clap.specs.declared.error.Error.{Error}
 use Rattle.clap.specs.declared.parser.ArgMatches.{ArgMatches}
-use Rattle.lfs_tool_line.specs.Command.{mklittlefs, with_board_options, with_extra_options, with_limit_options, with_mode_options, with_common_options, with_path_modes, with_size_options}
+use Rattle.lfs_tool_line.specs.Command.{mklittlefs}
 use Rattle.lfs_tool_line.specs.Matches.{faults, rows}
 use Rattle.lfs_tool_line.specs.Values.{first_bad_text, number_errors}
 
 is_simple_command : is_simple mklittlefs ≡ true
-unfolding mklittlefs with_common_options with_mode_options with_path_modes with_size_options with_limit_options with_board_options with_extra_options
+unfolding mklittlefs
 is_simple_command = refl
 
 is_free_command : is_simple_and_free mklittlefs ≡ true
-unfolding mklittlefs with_common_options with_mode_options with_path_modes with_size_options with_limit_options with_board_options with_extra_options
+unfolding mklittlefs
 is_free_command = refl
 
 matches_along : (a b : App) (words : List Text) (m : ArgMatches) → a ≡ b → is_simple b ≡ true → HasMatchesOf a words m

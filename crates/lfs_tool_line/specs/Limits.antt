@@ -16,10 +16,10 @@ is_limit_within most (Some n) = nat_le 1 n && nat_le n most
 -- the first limit that breaks its rule, with blocks of this size
 abbrev pub first_broken_limit : ℕ → List Row → Option Limit
 first_broken_limit block_size rows =
-    if is_limit_within name_limit (number_in_rows (codes "name_max") rows) then
-    (if is_limit_within size_limit (number_in_rows (codes "file_max") rows) then
-    (if is_limit_within attribute_limit (number_in_rows (codes "attr_max") rows) then
-    (if is_limit_within (min (block_size / 8) data_limit) (number_in_rows (codes "inline_max") rows) then None
+    if is_limit_within name_limit (number_in_rows (codes "name-max") rows) then
+    (if is_limit_within size_limit (number_in_rows (codes "file-max") rows) then
+    (if is_limit_within attribute_limit (number_in_rows (codes "attr-max") rows) then
+    (if is_limit_within (min (block_size / 8) data_limit) (number_in_rows (codes "inline-max") rows) then None
     else Some limit.Inline) else Some limit.Attr) else Some limit.File) else Some limit.Name
 
 -- what the limit's rule says

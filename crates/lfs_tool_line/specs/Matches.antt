@@ -1,5 +1,5 @@
 -- The values of a line of words.
-use Rattle.std.specs.Prelude.{◌≡◌, ◌≤◌, ◌+◌, ◌∷◌, ◌||◌, if◌then◌else◌, ℕ, [], Bool, List, Option, Some, None, false, true, codes, is_some, nat_eq, not, unwrap_or, count_by}
+use Rattle.std.specs.Prelude.{◌≡◌, ◌≤◌, ◌+◌, ◌∷◌, ◌||◌, ◌&&◌, if◌then◌else◌, ℕ, [], Bool, List, Option, Some, None, false, true, codes, is_some, nat_eq, not, unwrap_or, count_by}
 use Rattle.std.specs.Str.{bytes_eq}
 use Rattle.clap.specs.Words.{Kinds, Row, Text, all_of, fault_of, first_of, matches_of}
 use Rattle.clap.specs.Kinds.{or_else}
@@ -127,21 +127,21 @@ board_or_none rows = unwrap_or (board_in_rows rows) Unnamed
 
 -- the size of a block, which is the board's where none is given
 abbrev pub given_block_size : List Row → ℕ
-given_block_size rows = number_or (board_block_size (board_or_none rows)) (codes "block_size") rows
+given_block_size rows = number_or (board_block_size (board_or_none rows)) (codes "block") rows
 
 -- the versions that are accepted
 abbrev pub versions_given_or : AcceptedVersions → List Row → AcceptedVersions
-versions_given_or other rows = if flag_in_rows (codes "later") rows then AlsoTwoOne else other
+versions_given_or other rows = if flag_in_rows (codes "also-2.1") rows then AlsoTwoOne else other
 
 -- a profile with the limits and versions that are given
 abbrev pub profile_given_or : Profile → List Row → Profile
 profile_given_or other rows = record other {
   versions = versions_given_or other.versions rows;
-  name_max = number_or other.name_max (codes "name_max") rows;
-  file_max = number_or other.file_max (codes "file_max") rows;
-  attr_max = number_or other.attr_max (codes "attr_max") rows;
-  inline_max = number_or other.inline_max (codes "inline_max") rows;
-  pair_cycles = number_or other.pair_cycles (codes "pair_cycles") rows;
+  name_max = number_or other.name_max (codes "name-max") rows;
+  file_max = number_or other.file_max (codes "file-max") rows;
+  attr_max = number_or other.attr_max (codes "attr-max") rows;
+  inline_max = number_or other.inline_max (codes "inline-max") rows;
+  pair_cycles = number_or other.pair_cycles (codes "pair-cycles") rows;
 }
 
 -- the profile, which is the board's where no limit and no version is given
@@ -152,13 +152,18 @@ given_profile rows = profile_given_or (board_profile (board_or_none rows)) rows
 abbrev pub broken_limit : List Row → Option Limit
 broken_limit rows = first_broken_limit (given_block_size rows) rows
 
+-- the superblock decides the size and the number of blocks
+abbrev pub has_auto_blocks : List Row → Bool
+has_auto_blocks rows = is_option_auto (codes "block") rows || flag_in_rows (codes "auto") rows
+
 -- each part of the line is the value that the words give it, or its default
 pub record IsLineOf (rows : List Row) (line : Line) : Type 0 where
   pub one_mode : OneMode rows
   pub mode : IsModeOf rows line.mode
   pub known_board : KnownBoard rows
   pub block_size : given_block_size rows ≡ line.block_size
-  pub is_auto : is_option_auto (codes "block_size") rows ≡ line.is_auto
+  pub is_auto : has_auto_blocks rows ≡ line.is_auto
+  pub has_own_limits : flag_in_rows (codes "auto") rows ≡ line.has_own_limits
   pub offset : number_or 0 (codes "offset") rows ≡ line.offset
   pub page : number_or 256 (codes "page") rows ≡ line.page
   pub size : number_or 65536 (codes "size") rows ≡ line.size
@@ -168,9 +173,9 @@ pub record IsLineOf (rows : List Row) (line : Line) : Type 0 where
   pub profile : given_profile rows ≡ line.profile
   pub image : first_of (codes "image") rows ≡ Some line.image.now
 
--- a part of a file is given
+-- a part of a file is given, and what is behind it isn't known to stay
 abbrev pub gives_part : Line → Bool
-gives_part line = line.is_auto || not (nat_eq line.offset 0)
+gives_part line = not (nat_eq line.offset 0) || (line.is_auto && not line.has_own_limits)
 
 abbrev pub makes_part_with : Mode → Bool → Bool
 makes_part_with (mode.Create dir) part = part

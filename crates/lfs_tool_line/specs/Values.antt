@@ -47,11 +47,11 @@ bad_option_size id rows = if is_option_auto id rows then None else bad_option_nu
 
 -- the options that take a number alone, behind those for sizes
 abbrev pub other_numbers : List Text
-other_numbers = codes "offset" ∷ codes "name_max" ∷ codes "file_max" ∷ codes "attr_max" ∷ codes "inline_max" ∷ codes "pair_cycles" ∷ codes "spare" ∷ []
+other_numbers = codes "offset" ∷ codes "name-max" ∷ codes "file-max" ∷ codes "attr-max" ∷ codes "inline-max" ∷ codes "pair-cycles" ∷ codes "spare" ∷ []
 
 -- the first option's text that names no number, where it takes one
 abbrev pub first_bad_text : List Row → Option Text
-first_bad_text rows = first_text (bad_option_size (codes "block_size") rows)
+first_bad_text rows = first_text (bad_option_size (codes "block") rows)
     (first_text (bad_option_number (codes "page") rows)
     (first_text (bad_option_size (codes "size") rows) (first_bad_number other_numbers rows)))
 

@@ -2,7 +2,7 @@
 
 ghost use Rattle.std.specs.Prelude.{◌≡◌, IfOk};
 ghost use Rattle.clap.specs.Words.{found_of, rows_of};
-ghost use Rattle.lfs_tool_line.specs.Extras.{AreExtrasOf, changes_image, is_given, is_standard_stream, misused_option, misused_extra, misuse_rule};
+ghost use Rattle.lfs_tool_line.specs.Extras.{AreExtrasOf, ArePatternsOf, changes_image, gives_decided, is_given, is_standard_stream, misused_auto, misused_option, misused_extra, misuse_rule};
 
 use crate::values::{argument_text, flag_value, is_auto, number_given_or};
 use clap::ArgMatches;
@@ -46,6 +46,10 @@ pub enum Misuse {
     Cycles,
     /// A file and an image that are both standard input.
     Streams,
+    /// What the image decides, of an image that is made.
+    Auto,
+    /// What the image decides, and what it would decide.
+    Decided,
 }
 
 impl Misuse {
@@ -62,6 +66,10 @@ impl Misuse {
             Misuse::Times => "--times is for -c and -u",
             Misuse::Cycles => "--pair-cycles is for --put, --remove and --mkdir",
             Misuse::Streams => "--put takes - as FILE or as IMAGE, not as both",
+            Misuse::Auto => "--auto is for all modes but -c",
+            Misuse::Decided => {
+                "--auto takes the place of -b, --board, --also-2.1, --name-max, --file-max and --attr-max"
+            }
         }
     }
 }
@@ -105,16 +113,42 @@ fn misused_extra(matches: &ArgMatches<'_>) -> Option<Misuse>
     if flag_value(matches, "times") && !(creates || is_given(matches, "unpack")) {
         return Some(Misuse::Times);
     }
-    if is_given(matches, "pair_cycles") && !changes_image(matches) {
+    if is_given(matches, "pair-cycles") && !changes_image(matches) {
         return Some(Misuse::Cycles);
     }
     if is_standard_stream(matches, "put") && is_standard_stream(matches, "image") {
         return Some(Misuse::Streams);
     }
+    misused_auto(matches)
+}
+
+// Returns whether an option is given that `--auto` decides.
+fn gives_decided(matches: &ArgMatches<'_>) -> bool
+    ensures { result ≡ gives_decided (rows_of (found_of matches.now)) }
+{
+    let gives_sizes = is_given(matches, "block") || is_given(matches, "board");
+    let gives_names = is_given(matches, "name-max") || is_given(matches, "file-max");
+    let gives_others = is_given(matches, "attr-max") || flag_value(matches, "also-2.1");
+    gives_sizes || gives_names || gives_others
+}
+
+// Returns why `--auto` has no meaning where it is given.
+fn misused_auto(matches: &ArgMatches<'_>) -> Option<Misuse>
+    ensures { result ≡ misused_auto (rows_of (found_of matches.now)) }
+{
+    if !flag_value(matches, "auto") {
+        return None;
+    }
+    if is_given(matches, "create") {
+        return Some(Misuse::Auto);
+    }
+    if gives_decided(matches) {
+        return Some(Misuse::Decided);
+    }
     None
 }
 
-// Returns the first option that has no meaning where it is given.
+/// Returns the first option that has no meaning where it is given.
 pub(crate) fn misused_option(matches: &ArgMatches<'_>) -> Option<Misuse>
     ensures { result ≡ misused_option (rows_of (found_of matches.now)) }
 {
@@ -134,17 +168,27 @@ pub(crate) fn misused_option(matches: &ArgMatches<'_>) -> Option<Misuse>
     misused_extra(matches)
 }
 
-// Returns what the matches request beside the image.
+// Returns the patterns of the names that are left out.
+fn patterns_of_matches<'a>(
+    alloc: Global,
+    matches: &ArgMatches<'a>,
+) -> Result<Vec<&'a str>, AllocError>
+    ensures { IfOk result (ArePatternsOf (rows_of (found_of matches.now))) }
+{
+    match matches.get_strs("exclude") {
+        Some(patterns) => Ok(Vec::from_slice(alloc, patterns)?),
+        None => Ok(Vec::new(alloc)),
+    }
+}
+
+/// Returns what the matches request beside the image.
 pub(crate) fn extras_of_matches<'a>(
     alloc: Global,
     matches: &ArgMatches<'a>,
 ) -> Result<Extras<'a>, AllocError>
     ensures { IfOk result (AreExtrasOf (rows_of (found_of matches.now))) }
 {
-    let exclude = match matches.get_strs("exclude") {
-        Some(patterns) => Vec::from_slice(alloc, patterns)?,
-        None => Vec::new(alloc),
-    };
+    let exclude = patterns_of_matches(alloc, matches)?;
     Ok(Extras {
         is_size_auto: is_auto(matches, "size"),
         spare: number_given_or(matches, "spare", 0),

@@ -50,17 +50,17 @@ fn is_within(limit: Option<u32>, most: u32) -> bool
 pub(crate) fn first_broken_limit(matches: &ArgMatches<'_>, block_size: u32) -> Option<Limit>
     ensures { result ≡ first_broken_limit block_size (rows_of (found_of matches.now)) }
 {
-    if !is_within(given_number(matches, "name_max"), 255) {
+    if !is_within(given_number(matches, "name-max"), 255) {
         return Some(Limit::Name);
     }
-    if !is_within(given_number(matches, "file_max"), 2_147_483_647) {
+    if !is_within(given_number(matches, "file-max"), 2_147_483_647) {
         return Some(Limit::File);
     }
-    if !is_within(given_number(matches, "attr_max"), 1022) {
+    if !is_within(given_number(matches, "attr-max"), 1022) {
         return Some(Limit::Attr);
     }
     if !is_within(
-        given_number(matches, "inline_max"),
+        given_number(matches, "inline-max"),
         (block_size / 8).min(1022),
     ) {
         return Some(Limit::Inline);
@@ -72,7 +72,7 @@ pub(crate) fn first_broken_limit(matches: &ArgMatches<'_>, block_size: u32) -> O
 fn versions_given_or(matches: &ArgMatches<'_>, other: AcceptedVersions) -> AcceptedVersions
     ensures { result ≡ versions_given_or other (rows_of (found_of matches.now)) }
 {
-    if flag_value(matches, "later") {
+    if flag_value(matches, "also-2.1") {
         AcceptedVersions::AlsoTwoOne
     } else {
         other
@@ -85,11 +85,11 @@ pub(crate) fn profile_given_or(matches: &ArgMatches<'_>, other: Profile) -> Prof
 {
     Profile {
         versions: versions_given_or(matches, other.versions),
-        name_max: number_given_or(matches, "name_max", other.name_max),
-        file_max: number_given_or(matches, "file_max", other.file_max),
-        attr_max: number_given_or(matches, "attr_max", other.attr_max),
-        inline_max: number_given_or(matches, "inline_max", other.inline_max),
-        pair_cycles: number_given_or(matches, "pair_cycles", other.pair_cycles),
+        name_max: number_given_or(matches, "name-max", other.name_max),
+        file_max: number_given_or(matches, "file-max", other.file_max),
+        attr_max: number_given_or(matches, "attr-max", other.attr_max),
+        inline_max: number_given_or(matches, "inline-max", other.inline_max),
+        pair_cycles: number_given_or(matches, "pair-cycles", other.pair_cycles),
         search_seed: other.search_seed,
     }
 }

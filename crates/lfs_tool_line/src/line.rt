@@ -1,13 +1,13 @@
 ghost use Rattle.std.specs.Prelude.{◌≡◌, List, IfErr, IfOk, Some, false, map};
 ghost use Rattle.clap.specs.Words.{Text, found_of, rows_of};
 ghost use Rattle.lfs_tool_line.specs.Choices.{AreChoicesOf};
-ghost use Rattle.lfs_tool_line.specs.Matches.{HasImage, IsLineError, IsLineOf, IsRequestOf, ParserAccepts, makes_part, broken_limit, board_in_rows, order_in_rows, order_named, rows};
+ghost use Rattle.lfs_tool_line.specs.Matches.{HasImage, IsLineError, IsLineOf, IsRequestOf, ParserAccepts, has_auto_blocks, makes_part, broken_limit, board_in_rows, order_in_rows, order_named, rows};
 
 use crate::board::Board;
-use crate::command::parse_words;
 use crate::extras::{Extras, Misuse, extras_of_matches, misused_option};
 use crate::limits::{Limit, first_broken_limit, profile_given_or};
 use crate::modes::mode_of_matches;
+use crate::options::parse_words;
 use crate::values::{argument_text, flag_value, is_auto, number_given_or};
 use clap::ArgMatches;
 use lfs_model::{NameOrder, Profile};
@@ -42,17 +42,19 @@ pub struct Line<'a> {
     pub mode: Mode<'a>,
     /// The size of a block in bytes.
     pub block_size: u32,
-    /// Whether the size and the number of blocks are those of the superblock.
+    /// Whether the size and the number of blocks are those of the superblock: `-b auto` or `--auto`.
     pub is_auto: bool,
+    /// Whether the versions and the limits are those of the superblock too: `--auto`.
+    pub has_own_limits: bool,
     /// How many bytes are before the image.
     pub offset: u32,
     /// The size of a page in bytes, the unit that a device programs.
     pub page: u32,
-    /// The size of the image in bytes, for `Mode::Create`: 65536 where it is none that is given.
+    /// The size of the image in bytes, for `Mode::Create`.
     pub size: u32,
     /// The order of the names in the image, for `Mode::Create`.
     pub order: NameOrder,
-    /// Whether further lines are to say why, after the line of an error.
+    /// Whether each error is explained by further lines: `--explain`.
     pub explain: bool,
     /// What is accepted of the image, and the limits of the one to be made.
     pub profile: Profile,
@@ -161,10 +163,17 @@ fn makes_part(line: &Line<'_>) -> bool
 {
     match line.mode {
         Mode::Create(_) | Mode::Put(..) | Mode::Remove(_) | Mode::Mkdir(_) => {
-            line.is_auto || line.offset != 0
+            line.offset != 0 || (line.is_auto && !line.has_own_limits)
         }
         _ => false,
     }
+}
+
+// Returns whether the superblock decides the size and the number of blocks.
+fn has_auto_blocks(matches: &ArgMatches<'_>) -> bool
+    ensures { result ≡ has_auto_blocks (rows_of (found_of matches.now)) }
+{
+    is_auto(matches, "block") || flag_value(matches, "auto")
 }
 
 // Returns the line of the matches, or the first limit that breaks its rule.
@@ -175,14 +184,15 @@ fn line_of_matches<'a>(matches: &ArgMatches<'a>, choices: Choices<'a>) -> Result
     ensures err { IfErr result (λ limit. broken_limit (rows_of (found_of matches.now)) ≡ Some limit) }
 {
     let board = choices.board;
-    let block_size = number_given_or(matches, "block_size", board.block_size());
+    let block_size = number_given_or(matches, "block", board.block_size());
     if let Some(limit) = first_broken_limit(matches, block_size) {
         return Err(limit);
     }
     Ok(Line {
         mode: choices.mode,
         block_size,
-        is_auto: is_auto(matches, "block_size"),
+        is_auto: has_auto_blocks(matches),
+        has_own_limits: flag_value(matches, "auto"),
         offset: number_given_or(matches, "offset", 0),
         page: number_given_or(matches, "page", 256),
         size: number_given_or(matches, "size", 65536),
@@ -193,26 +203,18 @@ fn line_of_matches<'a>(matches: &ArgMatches<'a>, choices: Choices<'a>) -> Result
     })
 }
 
-/// Reads the words of a command line, the program's name first:
-/// `mklittlefs (-c DIR | -u DIR | -l | --check | --cat PATH | --put FILE PATH | --remove PATH | --mkdir PATH) [-b N] [-p N] [-s N]
-/// [--spare N] [--offset N] [--order ORDER] [--name-max N] [--file-max N] [--attr-max N] [--inline-max N] [--pair-cycles N] [--board NAME]
-/// [--also-2.1] [--exclude PATTERN] [--follow-links] [--skip-links] [--times] [--json] [--explain] IMAGE`. The long names are `--create`, `--unpack`,
-/// `--list`, `--block`, `--page` and `--size`. `-b auto` and `--offset` go with the modes that write no image, and
-/// `-s auto` and `--spare` with `-c`, `--pair-cycles` with `--put`, `--remove` and `--mkdir`.
+/// Reads the words of a command line, the program's name first. `--help` and docs/TOOL.md have the options.
 ///
-/// A number is from 0 to 4294967295, as `4096`, `0x1000`, `4k` and `1.5M` are: decimal, hexadecimal, or in units of 1024
-/// or 1048576 bytes, where it may have a point. Where an option isn't given, a block has 4096 bytes, a
-/// page 256 and the image 65536, the longer names come first, and the limits are the format's own. With a board its
-/// block size, its limits and both versions hold in place of these. ORDER is `longer-first` or `shorter-first`, and NAME
-/// `esp8266`, `esp32`, `rp2040` or `micropython`. ORDER and the limits are read with each mode, and an image is made by
-/// them. `--also-2.1` is read with each mode, too, and matters without `-c` alone.
+/// An option that isn't given has its default: blocks of 4096 bytes, pages of 256, an image of 65536, the longer names
+/// first, and the format's own limits. A board replaces the block size, the limits and the versions among these.
+/// ORDER and the limits are read in each mode.
 ///
 /// # Errors
-/// `LineError::Parser` where the parser refuses the words or a number is none, where they ask for help or for the
-/// version, or where memory isn't granted. `LineError::Modes` where it takes them and not exactly one mode is given.
-/// `LineError::Order` where ORDER is neither, and `LineError::Board` where NAME is none of the four.
-/// `LineError::Limit` where a limit that is given is 0 or too large. `LineError::Part` where the mode writes an image, and
-/// `-b auto` or an offset other than 0 is given. `LineError::Misuse` where another option is given with a mode for which it has no meaning.
+/// `LineError::Parser` if the parser refuses the words, an option has no number, the words ask for help or for the
+/// version, or memory isn't granted. Else the first of these that applies: `LineError::Modes` unless exactly one mode is
+/// given, `LineError::Order` and `LineError::Board` for a name that is none, `LineError::Limit` for a limit that is 0 or
+/// too large, `LineError::Part` for `-b auto` or an offset if the mode writes an image, `LineError::Misuse` for another
+/// option that has no meaning where it is given.
 pub fn read_request<'a, S: AsStr>(alloc: Global, words: &'a [S]) -> Result<Request<'a>, LineError>
     ensures ok { IfOk result (λ request. ParserAccepts (map S.text words.entry.now)
         × IsRequestOf (rows (map S.text words.entry.now)) request) }

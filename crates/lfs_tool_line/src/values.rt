@@ -1,8 +1,8 @@
 // The values of a command line's options.
 
-ghost use Rattle.std.specs.Prelude.{◌≡◌, option_map};
+ghost use Rattle.std.specs.Prelude.{◌≡◌, map, option_map};
 ghost use Rattle.clap.specs.Words.{first_of, found_of, rows_of};
-ghost use Rattle.lfs_tool_line.specs.Values.{bad_option_number, bad_option_size, first_bad_number, first_bad_text, flag_in_rows, is_option_auto, number_or, number_in_rows, other_numbers};
+ghost use Rattle.lfs_tool_line.specs.Values.{bad_option_number, bad_option_size, first_bad_number, first_bad_text, flag_in_rows, is_option_auto, number_or, number_in_rows};
 
 use crate::numbers::number_in_text;
 use clap::ArgMatches;
@@ -71,11 +71,38 @@ fn bad_size<'a>(matches: &ArgMatches<'a>, id: &str) -> Option<&'a str>
     bad_number(matches, id)
 }
 
-// Returns the first option whose text names no number, and the text.
+// Returns the first of these options whose text names no number, and the text.
+#[tactic(auto, using(crate::proofs::Table::bad_found, crate::proofs::Table::good_passed, crate::proofs::Table::none_bad))]
+fn bad_number_among<'a>(
+    matches: &ArgMatches<'a>,
+    ids: &[&'static str],
+) -> Option<(&'static str, &'a str)>
+    ensures { option_map (λ bad. bad.1.now) result ≡ first_bad_number (map (λ id. id.now) ids.now) (rows_of (found_of matches.now)) }
+{
+    for id in ids {
+        if let Some(text) = bad_number(matches, id) {
+            return Some((id, text));
+        }
+    }
+    None
+}
+
+// The options that take a number alone, but for the size of a page.
+const NUMBERS: [&str; 7] = [
+    "offset",
+    "name-max",
+    "file-max",
+    "attr-max",
+    "inline-max",
+    "pair-cycles",
+    "spare",
+];
+
+/// Returns the first option whose text names no number, and the text.
 pub(crate) fn first_bad_number<'a>(matches: &ArgMatches<'a>) -> Option<(&'static str, &'a str)>
     ensures { option_map (λ bad. bad.1.now) result ≡ first_bad_text (rows_of (found_of matches.now)) }
 {
-    if let Some(text) = bad_size(matches, "block_size") {
+    if let Some(text) = bad_size(matches, "block") {
         return Some(("block", text));
     }
     if let Some(text) = bad_number(matches, "page") {
@@ -84,33 +111,5 @@ pub(crate) fn first_bad_number<'a>(matches: &ArgMatches<'a>) -> Option<(&'static
     if let Some(text) = bad_size(matches, "size") {
         return Some(("size", text));
     }
-    other_bad_number(matches)
-}
-
-// Returns the same of the options behind those for sizes.
-fn other_bad_number<'a>(matches: &ArgMatches<'a>) -> Option<(&'static str, &'a str)>
-    ensures { option_map (λ bad. bad.1.now) result ≡ first_bad_number other_numbers (rows_of (found_of matches.now)) }
-{
-    if let Some(text) = bad_number(matches, "offset") {
-        return Some(("offset", text));
-    }
-    if let Some(text) = bad_number(matches, "name_max") {
-        return Some(("name-max", text));
-    }
-    if let Some(text) = bad_number(matches, "file_max") {
-        return Some(("file-max", text));
-    }
-    if let Some(text) = bad_number(matches, "attr_max") {
-        return Some(("attr-max", text));
-    }
-    if let Some(text) = bad_number(matches, "inline_max") {
-        return Some(("inline-max", text));
-    }
-    if let Some(text) = bad_number(matches, "pair_cycles") {
-        return Some(("pair-cycles", text));
-    }
-    if let Some(text) = bad_number(matches, "spare") {
-        return Some(("spare", text));
-    }
-    None
+    bad_number_among(matches, &NUMBERS)
 }

@@ -8,7 +8,7 @@ use std::alloc::{AllocError, Global};
 use std::test::Fail;
 
 // What is accepted and written where no option says otherwise.
-const DEFAULT: Profile = Profile {
+const PROFILE: Profile = Profile {
     versions: AcceptedVersions::OnlyTwoZero,
     name_max: 255,
     file_max: 2_147_483_647,
@@ -18,54 +18,82 @@ const DEFAULT: Profile = Profile {
     search_seed: 0,
 };
 
+// The line of a list with no option.
+const DEFAULT: Line<'static> = Line {
+    mode: Mode::List,
+    block_size: 4096,
+    is_auto: false,
+    has_own_limits: false,
+    offset: 0,
+    page: 256,
+    size: 65536,
+    order: NameOrder::LongerFirst,
+    explain: false,
+    profile: PROFILE,
+    image: "i",
+};
+
 // The words of command lines, and what they say.
-const LINES: [(&[&str], Line<'static>); 11] = [
+const LINES: [(&[&str], Line<'static>); 13] = [
+    // what the image's own superblock decides
+    (
+        &["mklittlefs", "--auto", "-l", "--offset", "1M", "i"],
+        Line {
+            is_auto: true,
+            has_own_limits: true,
+            offset: 1_048_576,
+            ..DEFAULT
+        },
+    ),
+    (
+        &[
+            "mklittlefs",
+            "--put",
+            "f",
+            "/a",
+            "--auto",
+            "-p128",
+            "--inline-max=64",
+            "--pair-cycles=3",
+            "i",
+        ],
+        Line {
+            mode: Mode::Put("f", "/a"),
+            is_auto: true,
+            has_own_limits: true,
+            page: 128,
+            profile: Profile {
+                inline_max: 64,
+                pair_cycles: 3,
+                ..PROFILE
+            },
+            ..DEFAULT
+        },
+    ),
     (
         &["mklittlefs", "--mkdir=/d", "--pair-cycles", "101", "i"],
         Line {
             mode: Mode::Mkdir("/d"),
-            block_size: 4096,
-            is_auto: false,
-            offset: 0,
-            page: 256,
-            size: 65536,
-            order: NameOrder::LongerFirst,
-            explain: false,
             profile: Profile {
                 pair_cycles: 101,
-                ..DEFAULT
+                ..PROFILE
             },
-            image: "i",
+            ..DEFAULT
         },
     ),
     (
         &["mklittlefs", "--list", "disk.img"],
         Line {
-            mode: Mode::List,
-            block_size: 4096,
-            is_auto: false,
-            offset: 0,
-            page: 256,
-            size: 65536,
-            order: NameOrder::LongerFirst,
-            explain: false,
-            profile: DEFAULT,
             image: "disk.img",
+            ..DEFAULT
         },
     ),
     (
         &["mklittlefs", "--unpack", "dir", "-"],
         Line {
             mode: Mode::Unpack("dir"),
-            block_size: 4096,
-            is_auto: false,
-            offset: 0,
-            page: 256,
-            size: 65536,
-            order: NameOrder::LongerFirst,
-            explain: false,
-            profile: DEFAULT,
             image: "-",
+            ..DEFAULT
         },
     ),
     (
@@ -73,14 +101,8 @@ const LINES: [(&[&str], Line<'static>); 11] = [
         Line {
             mode: Mode::Check,
             block_size: 1024,
-            is_auto: false,
-            offset: 0,
-            page: 256,
-            size: 65536,
-            order: NameOrder::LongerFirst,
-            explain: false,
-            profile: DEFAULT,
             image: "disk.img",
+            ..DEFAULT
         },
     ),
     // a standard stream's name is no option
@@ -88,30 +110,16 @@ const LINES: [(&[&str], Line<'static>); 11] = [
         &["mklittlefs", "-c", "dir", "-", "-s", "8192"],
         Line {
             mode: Mode::Create("dir"),
-            block_size: 4096,
-            is_auto: false,
-            offset: 0,
-            page: 256,
             size: 8192,
-            order: NameOrder::LongerFirst,
-            explain: false,
-            profile: DEFAULT,
             image: "-",
+            ..DEFAULT
         },
     ),
     (
         &["mklittlefs", "-l", "disk.img"],
         Line {
-            mode: Mode::List,
-            block_size: 4096,
-            is_auto: false,
-            offset: 0,
-            page: 256,
-            size: 65536,
-            order: NameOrder::LongerFirst,
-            explain: false,
-            profile: DEFAULT,
             image: "disk.img",
+            ..DEFAULT
         },
     ),
     (
@@ -130,14 +138,10 @@ const LINES: [(&[&str], Line<'static>); 11] = [
         Line {
             mode: Mode::Create("dir"),
             block_size: 512,
-            is_auto: false,
-            offset: 0,
             page: 16,
             size: 1024,
             order: NameOrder::ShorterFirst,
-            explain: false,
-            profile: DEFAULT,
-            image: "i",
+            ..DEFAULT
         },
     ),
     (
@@ -152,15 +156,8 @@ const LINES: [(&[&str], Line<'static>); 11] = [
         ],
         Line {
             mode: Mode::Unpack("out"),
-            block_size: 4096,
-            is_auto: false,
-            offset: 0,
-            page: 256,
             size: 4_294_967_295,
-            order: NameOrder::LongerFirst,
-            explain: false,
-            profile: DEFAULT,
-            image: "i",
+            ..DEFAULT
         },
     ),
     (
@@ -178,44 +175,24 @@ const LINES: [(&[&str], Line<'static>); 11] = [
         Line {
             mode: Mode::Create("dir"),
             block_size: 1024,
-            is_auto: false,
-            offset: 0,
             page: 128,
             size: 262_144,
-            order: NameOrder::LongerFirst,
-            explain: false,
-            profile: DEFAULT,
-            image: "i",
+            ..DEFAULT
         },
     ),
     (
         &["mklittlefs", "--explain", "-l", "i"],
         Line {
-            mode: Mode::List,
-            block_size: 4096,
-            is_auto: false,
-            offset: 0,
-            page: 256,
-            size: 65536,
-            order: NameOrder::LongerFirst,
             explain: true,
-            profile: DEFAULT,
-            image: "i",
+            ..DEFAULT
         },
     ),
     (
         &["mklittlefs", "-bauto", "--offset", "2M", "-l", "i"],
         Line {
-            mode: Mode::List,
-            block_size: 4096,
             is_auto: true,
             offset: 2_097_152,
-            page: 256,
-            size: 65536,
-            order: NameOrder::LongerFirst,
-            explain: false,
-            profile: DEFAULT,
-            image: "i",
+            ..DEFAULT
         },
     ),
 ];
@@ -225,19 +202,11 @@ const PROFILES: [(&[&str], Line<'static>); 8] = [
     (
         &["mklittlefs", "-l", "--also-2.1", "i"],
         Line {
-            mode: Mode::List,
-            block_size: 4096,
-            is_auto: false,
-            offset: 0,
-            page: 256,
-            size: 65536,
-            order: NameOrder::LongerFirst,
-            explain: false,
             profile: Profile {
                 versions: AcceptedVersions::AlsoTwoOne,
-                ..DEFAULT
+                ..PROFILE
             },
-            image: "i",
+            ..DEFAULT
         },
     ),
     // the least of each limit, and the largest
@@ -253,21 +222,14 @@ const PROFILES: [(&[&str], Line<'static>); 8] = [
         ],
         Line {
             mode: Mode::Create("d"),
-            block_size: 4096,
-            is_auto: false,
-            offset: 0,
-            page: 256,
-            size: 65536,
-            order: NameOrder::LongerFirst,
-            explain: false,
             profile: Profile {
                 name_max: 1,
                 file_max: 1,
                 attr_max: 1,
                 inline_max: 1,
-                ..DEFAULT
+                ..PROFILE
             },
-            image: "i",
+            ..DEFAULT
         },
     ),
     (
@@ -286,18 +248,11 @@ const PROFILES: [(&[&str], Line<'static>); 8] = [
         ],
         Line {
             mode: Mode::Create("d"),
-            block_size: 4096,
-            is_auto: false,
-            offset: 0,
-            page: 256,
-            size: 65536,
-            order: NameOrder::LongerFirst,
-            explain: false,
             profile: Profile {
                 inline_max: 512,
-                ..DEFAULT
+                ..PROFILE
             },
-            image: "i",
+            ..DEFAULT
         },
     ),
     // numbers in each form
@@ -320,21 +275,16 @@ const PROFILES: [(&[&str], Line<'static>); 8] = [
         ],
         Line {
             mode: Mode::Create("d"),
-            block_size: 4096,
-            is_auto: false,
-            offset: 0,
             page: 128,
             size: 1_441_792,
-            order: NameOrder::LongerFirst,
-            explain: false,
             profile: Profile {
                 name_max: 31,
                 file_max: 1_572_864,
                 attr_max: 512,
                 inline_max: 256,
-                ..DEFAULT
+                ..PROFILE
             },
-            image: "i",
+            ..DEFAULT
         },
     ),
     // each board, and what is given beside it
@@ -343,19 +293,13 @@ const PROFILES: [(&[&str], Line<'static>); 8] = [
         Line {
             mode: Mode::Create("d"),
             block_size: 8192,
-            is_auto: false,
-            offset: 0,
-            page: 256,
-            size: 65536,
-            order: NameOrder::LongerFirst,
-            explain: false,
             profile: Profile {
                 versions: AcceptedVersions::AlsoTwoOne,
                 name_max: 32,
                 inline_max: 64,
-                ..DEFAULT
+                ..PROFILE
             },
-            image: "i",
+            ..DEFAULT
         },
     ),
     (
@@ -363,19 +307,13 @@ const PROFILES: [(&[&str], Line<'static>); 8] = [
         Line {
             mode: Mode::Check,
             block_size: 1024,
-            is_auto: false,
-            offset: 0,
-            page: 256,
-            size: 65536,
-            order: NameOrder::LongerFirst,
-            explain: false,
             profile: Profile {
                 versions: AcceptedVersions::AlsoTwoOne,
                 name_max: 64,
                 inline_max: 512,
-                ..DEFAULT
+                ..PROFILE
             },
-            image: "i",
+            ..DEFAULT
         },
     ),
     (
@@ -390,20 +328,13 @@ const PROFILES: [(&[&str], Line<'static>); 8] = [
         ],
         Line {
             mode: Mode::Create("d"),
-            block_size: 4096,
-            is_auto: false,
-            offset: 0,
-            page: 256,
-            size: 65536,
-            order: NameOrder::LongerFirst,
-            explain: false,
             profile: Profile {
                 versions: AcceptedVersions::AlsoTwoOne,
                 name_max: 40,
                 inline_max: 256,
-                ..DEFAULT
+                ..PROFILE
             },
-            image: "i",
+            ..DEFAULT
         },
     ),
     (
@@ -419,18 +350,12 @@ const PROFILES: [(&[&str], Line<'static>); 8] = [
         Line {
             mode: Mode::Create("d"),
             block_size: 8192,
-            is_auto: false,
-            offset: 0,
-            page: 256,
-            size: 65536,
-            order: NameOrder::LongerFirst,
-            explain: false,
             profile: Profile {
                 versions: AcceptedVersions::AlsoTwoOne,
                 inline_max: 128,
-                ..DEFAULT
+                ..PROFILE
             },
-            image: "i",
+            ..DEFAULT
         },
     ),
 ];
@@ -491,130 +416,56 @@ Usage: mklittlefs (-c DIR | -u DIR | -l | --check | --cat PATH | --put FILE PATH
 For more information, try '--help'.
 ";
 
-const VERSION: &str =
-    "mklittlefs 1.0.0 (littlefs on-disk version 2.0, rattle-kit-13f logic dac8208d650f15bf)\n";
+const VERSION: &str = "mklittlefs 1.0.0 (littlefs on-disk version 2.0)\n";
 
-const HELP: &str = "\
-Creates, unpacks, lists, checks or changes an image of a littlefs file system.
-With --explain, or MKLITTLEFS_EXPLAIN=1 in the environment, it says why it fails.
+// How options are shown, first those of `-h`.
+const SHORT_HELP: [&str; 20] = [
+    "Usage: mklittlefs (-c DIR | -u DIR | -l |",
+    "-c, --create <DIR> ",
+    "-u, --unpack <DIR> ",
+    "-l, --list ",
+    "    --check ",
+    "    --cat <PATH> ",
+    "    --put <FILE> <PATH> ",
+    "    --remove <PATH> ",
+    "    --mkdir <PATH> ",
+    "    --auto ",
+    "    --board <NAME> ",
+    "-b, --block <N> ",
+    "-p, --page <N> ",
+    "-s, --size <N> ",
+    "    --also-2.1 ",
+    "    --json ",
+    "    --explain ",
+    "mklittlefs --auto -l flash.bin ",
+    "mklittlefs --auto -u copy flash.bin ",
+    "--help prints all options and their rules.\n",
+];
 
-Usage: mklittlefs (-c DIR | -u DIR | -l | --check | --cat PATH | --put FILE PATH | --remove PATH | --mkdir PATH) [OPTIONS] IMAGE
-
-Arguments:
-  <IMAGE>  The file with the image, or - for standard input or output
-
-Options:
-  -c, --create <DIR>       Create IMAGE from the folder DIR
-  -u, --unpack <DIR>       Unpack IMAGE into the folder DIR
-  -l, --list               List the files and folders of IMAGE
-      --check              Say what is wrong with IMAGE, or what is in it
-      --cat <PATH>         Write the bytes of the file at PATH in IMAGE to standard output
-      --put <FILE> <PATH>  Put the bytes of FILE at PATH in IMAGE
-      --remove <PATH>      Remove the file or the empty folder at PATH in IMAGE
-      --mkdir <PATH>       Make a folder at PATH in IMAGE
-  -b, --block <N>          Size of a block in bytes, or auto [default: 4096]
-  -p, --page <N>           Size of a page in bytes [default: 256]
-  -s, --size <N>           Size of the image in bytes, or auto, with -c [default: 65536]
-      --spare <N>          Blocks beside those that are enough, with -c -s auto [default: 0]
-      --offset <N>         Bytes before the image, with -l, -u, --check and --cat [default: 0]
-      --order <ORDER>      Order of names in the image that -c makes [default: longer-first]
-      --name-max <N>       Longest name in bytes, with -c [default: 255]
-      --file-max <N>       Longest file in bytes, with -c [default: 2147483647]
-      --attr-max <N>       Longest attribute in bytes, with -c [default: 1022]
-      --inline-max <N>     Longest inline file in bytes, with -c [default: an eighth of -b]
-      --pair-cycles <N>    Compactions until a metadata pair moves, or 0 [default: 0]
-      --board <NAME>       Take the numbers of a board where they aren't given
-      --also-2.1           Read images of version 2.1, too
-      --exclude <PATTERN>  Leave out the names that PATTERN fits, with -c
-      --follow-links       Read what symbolic links lead to, with -c
-      --skip-links         Leave out symbolic links, with -c
-      --times              Keep or set the times of files and folders, with -c and -u
-      --json               Print JSON, with -l and --check
-      --explain            Say why after the line of an error
-  -h, --help               Print help
-  -V, --version            Print version
-
-Examples:
-  mklittlefs -c settings disk.img        makes an image of the folder settings
-  mklittlefs -l disk.img                 lists what is in it, a line for each
-  mklittlefs -u copy disk.img            puts what is in it into the folder copy
-  mklittlefs --check disk.img            says what is wrong with it, or what is in it
-  mklittlefs --cat /log/today disk.img   writes the bytes of a file in it
-  mklittlefs --put wifi.txt /keys/wifi disk.img
-  mklittlefs -c settings -b 1024 -p 128 -s 262144 disk.img
-  mklittlefs -l -b 1024 -p 128 disk.img  one of 256 KiB with other blocks
-  mklittlefs -l -b auto flash.bin        one whose blocks its superblock tells
-  mklittlefs -l -b auto --offset 2M flash.bin
-  mklittlefs -c settings --order shorter-first disk.img
-  mklittlefs -c settings --board esp32 -s 0x160000 disk.img
-  mklittlefs -c settings -s auto --spare 4 disk.img
-  mklittlefs -l --also-2.1 disk.img      lists one that firmware has changed
-  mklittlefs --explain -l disk.img       says why where it isn't listed
-  mklittlefs -c settings - > disk.img    writes the image to standard output
-  mklittlefs -l - < disk.img             reads the image from standard input
-
-Numbers:
-  N is decimal, as 4096, or hexadecimal, as 0x1000. It may have a unit, as 4k
-  and 1.5M do: k stands for 1024 bytes, and M for 1048576. Letters may be large
-  or small. What makes no whole number of bytes, as 1.3k, is refused.
-
-Sizes:
-  -b  from 1024 to 65536, a multiple of -p
-  -p  8, 16, 32, 64, 128, 256 or 512, and at most an eighth of -b
-  -s  a multiple of -b: from 2 to 65536 blocks, and at most 268435456
-  -s auto takes the fewest blocks that hold DIR, and --spare N adds N blocks.
-  With -l, -u and --check the size is that of IMAGE, and -b is the one that it
-  was made with. -b auto takes the size and number of blocks from its
-  superblock, and leaves alone what is behind them. --offset N skips N bytes.
-
-Limits:
-  --name-max    from 1 to 255
-  --file-max    from 1 to 2147483647
-  --attr-max    from 1 to 1022
-  --inline-max  from 1 to 1022, and at most an eighth of -b
-  The first three are in the image: littlefs mounts one only where none of them
-  is larger than its own. A file of at most --inline-max bytes is kept in its
-  folder: littlefs changes it only where its cache_size is no smaller. --check
-  says by all four whether IMAGE may be changed.
-
-Wear:
-  --pair-cycles is for --put, --remove and --mkdir. With N above 0 a metadata
-  pair that has been compacted N times moves to other blocks, as littlefs's
-  block_cycles has it. With 0 each pair stays where it is.
-
-Boards:
-  NAME stands for these numbers, and for --also-2.1. A number that is given
-  comes before them.
-  esp8266      -b 8192 --name-max 32 --inline-max 64
-  esp32        -b 4096 --name-max 64 --inline-max 512
-  rp2040       -b 4096 --inline-max 256
-  micropython  -b 4096 --inline-max 128
-
-Versions:
-  -c makes images of version 2.0. Since its release 2.6 littlefs makes them
-  images of version 2.1 when it changes them. With --also-2.1 -l, -u and --check
-  read these, too.
-
-Order:
-  Names stand by their bytes. Where one begins another, as a and ab, either the
-  longer or the shorter comes first: ORDER is longer-first, as in images of
-  littlefs itself, or shorter-first. -l, -u and --check read both.
-
-Files:
-  -c writes an image beside IMAGE and puts it in its place once it is whole, so
-  that an old one stays where that fails. A file longer than the image isn't
-  read. -u makes the folders above DIR. With --explain both say where they
-  stopped. --times keeps when each file and folder was modified, as seconds
-  since 1970 in four bytes: its attribute t. With -u it sets these times.
-
-Paths:
-  PATH is a path in IMAGE, as /log/today. --put, --remove and --mkdir change
-  IMAGE in its place, whole or not at all. The folder above PATH has to be there.
-  - as FILE is standard input.
-
-Progress:
-  At a terminal -c and -u show how much is done, once a second has gone by.
-";
+const LONG_HELP: [&str; 22] = [
+    "Usage: mklittlefs (-c DIR | -u DIR | -l |",
+    "--create <DIR>\n",
+    "--put <FILE> <PATH>\n",
+    "--auto\n",
+    "--spare <N>\n",
+    "--offset <N>\n",
+    "--order <ORDER>\n",
+    "[default: longer-first]\n",
+    "--name-max <N>\n",
+    "--file-max <N>\n",
+    "--attr-max <N>\n",
+    "--inline-max <N>\n",
+    "--pair-cycles <N>\n",
+    "--exclude <PATTERN>\n",
+    "--follow-links\n",
+    "--skip-links\n",
+    "--times\n",
+    "upper or lower case",
+    "MKLITTLEFS_EXPLAIN=1",
+    "esp8266      -b 8192 --name-max 32 --inline-max 64 ",
+    "esp32        -b 4096 --name-max 64 --inline-max 512 ",
+    "from memory\n",
+];
 
 // Words that are no line, which end with status 2, and what goes to `err`, if that isn't the parser's own
 // text.
@@ -630,7 +481,47 @@ const STREAMS: &str = "error: --put takes - as FILE or as IMAGE, not as both\n";
 
 const CYCLES: &str = "error: --pair-cycles is for --put, --remove and --mkdir\n";
 
-const REFUSED: [(&[&str], Option<&str>); 48] = [
+const AUTO: &str = "error: --auto is for all modes but -c\n";
+
+const DECIDED: &str =
+    "error: --auto takes the place of -b, --board, --also-2.1, --name-max, --file-max and --attr-max\n";
+
+const REFUSED: [(&[&str], Option<&str>); 58] = [
+    // what the image decides, with what it would decide
+    (&["mklittlefs", "--auto", "-cd", "i"], Some(AUTO)),
+    (&["mklittlefs", "--auto", "-cd", "-b512", "i"], Some(AUTO)),
+    (
+        &["mklittlefs", "--auto", "-l", "-b4096", "i"],
+        Some(DECIDED),
+    ),
+    (
+        &["mklittlefs", "--auto", "-l", "-bauto", "i"],
+        Some(DECIDED),
+    ),
+    (
+        &["mklittlefs", "--auto", "--check", "--board=esp32", "i"],
+        Some(DECIDED),
+    ),
+    (
+        &["mklittlefs", "--auto", "-ud", "--also-2.1", "i"],
+        Some(DECIDED),
+    ),
+    (
+        &["mklittlefs", "--auto", "--cat=/a", "--name-max=9", "i"],
+        Some(DECIDED),
+    ),
+    (
+        &["mklittlefs", "--auto", "--remove=/a", "--file-max=9", "i"],
+        Some(DECIDED),
+    ),
+    (
+        &["mklittlefs", "--auto", "--mkdir=/a", "--attr-max=9", "i"],
+        Some(DECIDED),
+    ),
+    (
+        &["mklittlefs", "--auto", "--mkdir=/a", "--offset=9", "i"],
+        Some(PART),
+    ),
     // options that are for other modes
     (&["mklittlefs", "-l", "-sauto", "i"], Some(SIZE)),
     (&["mklittlefs", "-cd", "--spare=1", "i"], Some(SPARE)),
@@ -739,10 +630,8 @@ const REFUSED: [(&[&str], Option<&str>); 48] = [
     (&["mklittlefs", "-l", "-b", "1.5", "i"], None),
 ];
 
-// What shows a text and ends with status 0: requests for help and for the version.
-const SHOWN: [(&[&str], &str); 4] = [
-    (&["mklittlefs", "--help"], HELP),
-    (&["mklittlefs", "-l", "-h"], HELP),
+// What shows the version.
+const SHOWN: [(&[&str], &str); 2] = [
     (&["mklittlefs", "--version"], VERSION),
     (&["mklittlefs", "-V"], VERSION),
 ];
@@ -781,7 +670,7 @@ fn faults_of_lines_are_shown(rt: HostRuntime) -> Result<(), Fail> {
 }
 
 #[test]
-fn help_and_version_are_shown(rt: HostRuntime) -> Result<(), Fail> {
+fn versions_are_shown(rt: HostRuntime) -> Result<(), Fail> {
     for (words, out) in SHOWN {
         let is_reported = match read_line(rt.alloc(), words) {
             Ok(_) => false,
@@ -789,6 +678,46 @@ fn help_and_version_are_shown(rt: HostRuntime) -> Result<(), Fail> {
         };
         assert!(rt; is_reported, "{words:?}");
     }
+    Ok(())
+}
+
+// Whether words show a help that has these texts and not that one, in so many lines at most.
+fn is_help(
+    alloc: Global,
+    words: &[&str],
+    texts: &[&str],
+    other: &str,
+    most: usize,
+) -> Result<bool, AllocError> {
+    let Err(error) = read_line(alloc, words) else {
+        return Ok(false);
+    };
+    let report = report_of(alloc, &Fault::Line(error));
+    let Ok(out) = str::from_utf8(report.out.as_slice()) else {
+        return Ok(false);
+    };
+    for text in texts {
+        if !out.contains(*text) {
+            return Ok(false);
+        }
+    }
+    let is_short = out.lines().count() <= most && !out.contains(other);
+    Ok(report.status == 0 && report.err.is_empty() && is_short)
+}
+
+#[test]
+fn helps_are_shown(rt: HostRuntime) -> Result<(), Fail> {
+    let alloc = rt.alloc();
+    assert!(rt;
+        is_help(
+            alloc,
+            &["mklittlefs", "-l", "-h"],
+            &SHORT_HELP,
+            "--name-max",
+            34
+        )?
+    );
+    assert!(rt; is_help(alloc, &["mklittlefs", "--help"], &LONG_HELP, "as 4k", 250)?);
     Ok(())
 }
 

@@ -14,14 +14,14 @@ unwrap-requires c = text_there _ c.argument_text.result (λ s. s.now) (found_of 
 pub returns-in-Some-clause-err : goal.returns-in-Some-clause-err
 returns-in-Some-clause-err c =
     let rows = rows_of (found_of c.args.matches.now) in
-    let other = ap (λ (n : ℕ). number_or n (codes "block_size") rows) c.block_size.ensures in
+    let other = ap (λ (n : ℕ). number_or n (codes "block") rows) c.block_size.ensures in
     let size = block_size_with_board rows c.args.choices.board c.requires.choices.board ∙ sym (c.number_given_or-block_size.ensures ∙ other) in
     broken_limit_with_block_size rows c.number_given_or-block_size.result c.first_broken_limit.result size c.first_broken_limit.ensures ∙ c.in-Some.is
 
 pub returns-clause-ok : goal.returns-clause-ok
 returns-clause-ok c =
     let rows = rows_of (found_of c.args.matches.now) in
-    let other = ap (λ (n : ℕ). number_or n (codes "block_size") rows) c.block_size.ensures in
+    let other = ap (λ (n : ℕ). number_or n (codes "block") rows) c.block_size.ensures in
     let size = block_size_with_board rows c.args.choices.board c.requires.choices.board ∙ sym (c.number_given_or-block_size.ensures ∙ other) in
     let profile = ap (λ (p : Profile). profile_given_or p rows) c.profile.ensures in
     record {
@@ -29,12 +29,13 @@ returns-clause-ok c =
       mode = c.requires.choices.mode;
       known_board = rw c.requires.choices.board refl;
       block_size = size;
-      is_auto = sym c.is_auto.ensures;
+      is_auto = sym c.has_auto_blocks.ensures;
+      has_own_limits = sym c.flag_value.ensures;
       offset = sym c.number_given_or.ensures;
       page = sym c.number_given_or-2.ensures;
       size = sym c.number_given_or-3.ensures;
       order = c.requires.choices.order;
-      explain = sym c.flag_value.ensures;
+      explain = sym c.flag_value-2.ensures;
       limits = broken_limit_with_block_size rows c.number_given_or-block_size.result c.first_broken_limit.result size c.first_broken_limit.ensures ∙ c.in_default.is;
       profile = profile_with_board rows c.args.choices.board c.requires.choices.board ∙ sym (c.profile_given_or.ensures ∙ profile);
       image = sym c.argument_text.ensures ∙ ap (λ o. option_map (λ s. s.now) o) c.unwrap.ensures;

@@ -1,7 +1,7 @@
 use Rattle.std.proofs.Common.{map}
 use Rattle.clap.specs.Words.{found_of, rows_of}
 use Rattle.lfs_tool_line.proofs.Simple.{bad_number_refused, good_numbers_taken, refused_words}
-use Rattle.lfs_tool_line.proofs.command.parse_words.Goals as goal
+use Rattle.lfs_tool_line.proofs.options.parse_words.Goals as goal
 
 pub returns-in-Err-clause-kinds : goal.returns-in-Err-clause-kinds
 returns-in-Err-clause-kinds g c = refused_words (map g.S.AsStr.text c.args.words.now) c.in-Err.error c.in-Err.ensures.kinds

@@ -1,3 +1,4 @@
+pub mod OwnLayouts
 pub mod WrongNumbers
 pub mod ImageSummaries
 pub mod Verdict

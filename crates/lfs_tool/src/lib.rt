@@ -15,6 +15,7 @@ mod lines;
 mod listings;
 mod number_text;
 mod output;
+mod own_layouts;
 mod progress;
 mod reader;
 mod summaries;
@@ -39,6 +40,7 @@ pub use lfs_tool_line::{
 };
 pub use listings::{items_of_image, list};
 pub use output::write_and_flush;
+pub use own_layouts::{OwnLayout, layout_by_blocks, layout_by_superblock};
 pub use progress::{FilesAndBytes, FollowsProgress, ProgressLine};
 pub use reader::ImageInput;
 pub use superblocks::{image_superblock_at, image_wrong_number};

@@ -1,0 +1,49 @@
+-- The layout of an image as its own superblock gives it.
+use Rattle.std.specs.Prelude.{◌≡◌, ◌*◌, ◌/◌, ℕ, List, min}
+use Rattle.lfs_device.specs.declared.error.Error.{Error}
+use Rattle.lfs_device.specs.declared.error.Error.TheVariants as error
+use Rattle.lfs_model.specs.declared.limits.AcceptedVersions.TheVariants.{AlsoTwoOne}
+use Rattle.lfs_model.specs.declared.limits.Profile.{Profile}
+use Rattle.lfs_model.specs.format.EntryTypes.{SuperblockFields}
+use Rattle.lfs_model.specs.tree.Profile.{profile_with_limits}
+use Rattle.lfs_tag.specs.FieldsView.{superblock_view}
+use Rattle.lfs_tag.specs.declared.fields.Superblock.{Superblock}
+use Rattle.lfs_tool.specs.WrongNumbers.{IsFirstSuperblock, IsSuperblockAt}
+use Rattle.lfs_tool.specs.declared.image_layout.ImageLayout.{ImageLayout}
+use Rattle.lfs_tool.specs.declared.own_layouts.OwnLayout.{OwnLayout}
+use Rattle.lfs_tool_line.specs.Sizes.{AreImageSizes, IsFirstBroken}
+use Rattle.lfs_tool_line.specs.declared.sizes.Sizes.{Sizes}
+use Rattle.lfs_tool_line.specs.declared.sizes.SizeRule.{SizeRule}
+
+-- a layout with the blocks of the superblock, in which a page is at most an eighth of a block
+abbrev pub own_layout : ImageLayout → Superblock → OwnLayout
+own_layout layout s = record {
+  layout = record layout { block_size = s.block_size; page = min layout.page (s.block_size / 8) };
+  size = s.block_size * s.block_count;
+}
+
+-- a profile with the limits of the superblock, if an image may have them; it accepts both versions
+abbrev pub own_profile : Profile → Superblock → Profile
+own_profile profile s = record (profile_with_limits (superblock_view s) profile) { versions = AlsoTwoOne }
+
+abbrev pub own_sizes : OwnLayout → Sizes
+own_sizes own = record { size = own.size; block_size = own.layout.block_size; page = own.layout.page }
+
+-- the layout that `--auto` takes from this superblock
+abbrev pub whole_own_layout : ImageLayout → Superblock → OwnLayout
+whole_own_layout layout s = own_layout (record layout { profile = own_profile layout.profile s }) s
+
+-- the layout has the blocks of the superblock with which the image begins
+abbrev pub HasOwnBlocks : List ℕ → ImageLayout → OwnLayout → Type 0
+HasOwnBlocks head layout own = (s : Superblock) × (IsFirstSuperblock head s × (own ≡ own_layout layout s))
+
+-- the layout is that of the superblock with which the image begins, and there are images of its sizes
+abbrev pub IsOwnLayout : List ℕ → ImageLayout → OwnLayout → Type 0
+IsOwnLayout head layout own = (s : Superblock) × (IsFirstSuperblock head s × (own ≡ whole_own_layout layout s) × AreImageSizes (own_sizes own))
+
+-- block 0 begins with no superblock; or the sizes in the one with which the image begins break a rule
+abbrev pub IsOwnLayoutError : List ℕ → ImageLayout → Error → Type 0
+IsOwnLayoutError head layout error.Corrupt = (fields : SuperblockFields) → ¬ IsSuperblockAt head 0 fields
+IsOwnLayoutError head layout error.Invalid =
+    (s : Superblock) × (IsFirstSuperblock head s × ((rule : SizeRule) × IsFirstBroken (own_sizes (whole_own_layout layout s)) rule))
+IsOwnLayoutError head layout other = ⊥

@@ -1,0 +1,91 @@
+// The layout of an image as its own superblock gives it.
+
+ghost use Rattle.std.specs.Prelude.{◌≡◌, ◌*◌, None, IfErr, IfOk, IfSome};
+ghost use Rattle.lfs_model.specs.format.EntryTypes.{SuperblockFields};
+ghost use Rattle.lfs_tool.specs.OwnLayouts.{HasOwnBlocks, IsOwnLayout, IsOwnLayoutError, own_layout, own_profile, own_sizes};
+ghost use Rattle.lfs_tool.specs.WrongNumbers.{IsSuperblockAt};
+
+use crate::image_layout::ImageLayout;
+use crate::superblocks::image_superblock_at;
+use lfs_device::{AcceptedVersions, Error, Profile};
+use lfs_tag::Superblock;
+use lfs_tool_line::Sizes;
+
+/// The layout of an image that its superblock decides, and the length of the image in bytes.
+#[derive(Clone, Copy, Debug, PartialEq, Eq)]
+pub struct OwnLayout {
+    /// How the image is laid out, and what of it is accepted.
+    pub layout: ImageLayout,
+    /// The length of the image in bytes.
+    pub size: usize,
+}
+
+impl OwnLayout {
+    /// Returns the sizes of the image, for a check by the rules for sizes.
+    pub fn sizes(self) -> Sizes
+        ensures { result ≡ own_sizes self }
+    {
+        Sizes {
+            size: self.size,
+            block_size: self.layout.block_size,
+            page: self.layout.page,
+        }
+    }
+}
+
+// Returns a layout with the blocks of a superblock. A page is at most an eighth of a block.
+fn with_blocks(layout: ImageLayout, superblock: &Superblock) -> OwnLayout
+    ensures { result ≡ own_layout layout superblock.now }
+{
+    OwnLayout {
+        layout: ImageLayout {
+            block_size: superblock.block_size,
+            page: layout.page.min(superblock.block_size / 8),
+            profile: layout.profile,
+        },
+        size: superblock.block_size as usize * superblock.block_count as usize,
+    }
+}
+
+// Returns a profile with the limits of a superblock, if an image may have them. It accepts both versions.
+fn with_limits(profile: Profile, superblock: &Superblock) -> Profile
+    ensures { result ≡ own_profile profile superblock.now }
+{
+    Profile {
+        versions: AcceptedVersions::AlsoTwoOne,
+        ..superblock.limit_profile(profile)
+    }
+}
+
+/// Returns the layout with the blocks that the superblock of an image gives, and the image's length. The bytes are those
+/// with which the image begins. Returns None if there is no superblock in block 0 or 1.
+pub fn layout_by_blocks(head: &[u8], layout: ImageLayout) -> Option<OwnLayout>
+    ensures found { IfSome result (HasOwnBlocks head.now layout) }
+    ensures none { result ≡ None → (fields : SuperblockFields) → ¬ IsSuperblockAt head.now 0 fields }
+{
+    match image_superblock_at(head) {
+        Some(superblock) => Some(with_blocks(layout, &superblock)),
+        None => None,
+    }
+}
+
+/// Returns the layout that the superblock of an image gives, with its version and its limits, and the image's length. The
+/// bytes are those with which the image begins.
+///
+/// # Errors
+/// `Corrupt` if there is no superblock in block 0 or 1. `Invalid` if no image has the sizes that it gives.
+pub fn layout_by_superblock(head: &[u8], layout: ImageLayout) -> Result<OwnLayout, Error>
+    ensures ok { IfOk result (IsOwnLayout head.now layout) }
+    ensures err { IfErr result (IsOwnLayoutError head.now layout) }
+{
+    let superblock = match image_superblock_at(head) {
+        Some(superblock) => superblock,
+        None => return Err(Error::Corrupt),
+    };
+    let profile = with_limits(layout.profile, &superblock);
+    let own = with_blocks(layout.with_profile(profile), &superblock);
+    match own.sizes().broken_rule() {
+        Some(_) => Err(Error::Invalid),
+        None => Ok(own),
+    }
+}

@@ -35,6 +35,7 @@ pub(crate) fn check_image<W: ToolOutput>(
         bytes,
         layout,
         behind,
+        rest: _,
     } = read_part(host, line)?;
     let behind = line.is_auto.then_some(behind);
     if json {

@@ -1,10 +1,11 @@
 // The bytes of a command line's image and files, each read once.
 
-use crate::files::{Host, open_file};
+use crate::files::{Host, NotedReader, open_file};
 use crate::run::layout_of_line;
 use lfs_device::Error;
 use lfs_tool::{
-    ImageLayout, Line, Mode, ToolError, WatchedStream, image_superblock_at, read_image,
+    ImageLayout, Line, Mode, ToolError, WatchedStream, layout_by_blocks, layout_by_superblock,
+    read_image,
 };
 use std::io;
 use std::io::{Cursor, ErrorKind, Read};
@@ -17,8 +18,10 @@ const HEAD: u64 = 65_580;
 pub(crate) struct ImagePart {
     pub(crate) bytes: Vec<u8>,
     pub(crate) layout: ImageLayout,
-    /// How many bytes are behind the image. A check alone reads them.
+    /// How many bytes are behind the image. A check alone counts them.
     pub(crate) behind: u64,
+    /// The bytes behind an image that is changed.
+    pub(crate) rest: Vec<u8>,
 }
 
 fn tool_error_of_read(error: io::Error) -> ToolError {
@@ -34,43 +37,67 @@ fn skip_bytes<R: Read>(reader: &mut R, most: u64) -> Result<u64, ToolError> {
     io::copy(&mut reader.by_ref().take(most), &mut io::sink()).map_err(tool_error_of_read)
 }
 
-// Returns the layout of an image that begins with these bytes, and its length. Both are its superblock's. Without one the
-// image is the whole file.
-fn layout_of_superblock(head: &[u8], layout: ImageLayout) -> (ImageLayout, u64) {
-    let Some(superblock) = image_superblock_at(head) else {
-        return (layout, u64::MAX);
+// Returns the layout of an image that begins with these bytes, and its length: with `-b auto` and `--auto` as its
+// superblock gives them. With `-b auto` an image without a superblock is the whole file.
+fn layout_of_head(line: &Line<'_>, head: &[u8]) -> Result<(ImageLayout, u64), ToolError> {
+    let layout = layout_of_line(line);
+    if !line.is_auto {
+        return Ok((layout, u64::MAX));
+    }
+    let own = if line.has_own_limits {
+        Some(layout_by_superblock(head, layout)?)
+    } else {
+        layout_by_blocks(head, layout)
     };
-    let count = u64::from(superblock.block_count);
-    let found = ImageLayout {
-        block_size: superblock.block_size,
-        page: layout.page.min(superblock.block_size / 8),
-        profile: layout.profile,
-    };
-    (
-        found,
-        u64::from(superblock.block_size).saturating_mul(count),
-    )
+    match own {
+        Some(own) => Ok((own.layout, own.size as u64)),
+        None => Ok((layout, u64::MAX)),
+    }
 }
 
-/// Reads the image of a line: the whole file behind the offset. With `-b auto` it is as long as its superblock says, and has
-/// the blocks and pages of that.
-pub(crate) fn read_part(host: Host<'_>, line: &Line<'_>) -> Result<ImagePart, ToolError> {
+/// Opens the file of a line's image. If the superblock decides something, reads the bytes with which the image begins,
+/// as far as a superblock may be.
+pub(crate) fn open_part<'a>(
+    host: Host<'a>,
+    line: &Line<'a>,
+) -> Result<(NotedReader<'a>, Vec<u8>), ToolError> {
     let mut file = open_file(host, line.image)?;
     let _before = skip_bytes(&mut file, u64::from(line.offset))?;
     let mut head = Vec::new(host.alloc());
-    let mut layout = layout_of_line(line);
-    let mut size = u64::MAX;
     if line.is_auto {
         let read = file.by_ref().take(HEAD).read_to_end(&mut head);
         let _count = read.map_err(tool_error_of_read)?;
-        (layout, size) = layout_of_superblock(head.as_slice(), layout);
     }
+    Ok((file, head))
+}
+
+// Reads what is behind an image, if that is to stay there when the image is changed.
+fn read_rest<R: Read>(
+    host: Host<'_>,
+    line: &Line<'_>,
+    reader: &mut R,
+) -> Result<Vec<u8>, ToolError> {
+    let mut rest = Vec::new(host.alloc());
+    let is_changed = matches!(line.mode, Mode::Put(..) | Mode::Remove(_) | Mode::Mkdir(_));
+    if line.is_auto && is_changed {
+        let read = reader.read_to_end(&mut rest);
+        let _count = read.map_err(tool_error_of_read)?;
+    }
+    Ok(rest)
+}
+
+/// Reads the image of a line: the whole file behind the offset. With `-b auto` and `--auto` it is as long as its superblock
+/// says, and has the blocks and pages of that.
+pub(crate) fn read_part(host: Host<'_>, line: &Line<'_>) -> Result<ImagePart, ToolError> {
+    let (file, head) = open_part(host, line)?;
+    let (layout, size) = layout_of_head(line, head.as_slice())?;
     let expected = file.stated_len(line.offset).min(size);
     let mut stream = WatchedStream::new(Cursor::new(head).chain(file).take(size));
     let bytes = read_image(host.alloc(), &mut stream, expected as usize)?;
     let mut rest = stream.into_inner();
     let _image = skip_bytes(&mut rest, u64::MAX)?;
     let mut rest = rest.into_inner();
+    let kept = read_rest(host, line, &mut rest)?;
     let behind = if line.is_auto && line.mode == Mode::Check {
         skip_bytes(&mut rest, u64::MAX)?
     } else {
@@ -82,6 +109,7 @@ pub(crate) fn read_part(host: Host<'_>, line: &Line<'_>) -> Result<ImagePart, To
         bytes,
         layout,
         behind,
+        rest: kept,
     })
 }
 

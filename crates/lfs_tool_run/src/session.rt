@@ -33,10 +33,11 @@ pub(crate) fn cat_file<W: ToolOutput>(
     write_and_flush(out, bytes.as_slice())
 }
 
-/// Changes the line's image as its mode says, and puts it in its place. A file is put in place of one that is there. The
+/// Changes the line's image as its mode says, and puts it in its place, with what is behind it. A file is put in place of one that is there. The
 /// other modes change nothing. A refusal leaves the image as it is.
 pub(crate) fn change_image(host: Host<'_>, line: &Line<'_>) -> Result<(), ToolError> {
-    let mut session = session_of_line(host, line)?;
+    let part = read_part(host, line)?;
+    let mut session = mount_image(host, ram_device_of(part.bytes, part.layout)?)?;
     match line.mode {
         Mode::Put(file, path) => {
             let bytes = read_file(host, file)?;
@@ -52,5 +53,6 @@ pub(crate) fn change_image(host: Host<'_>, line: &Line<'_>) -> Result<(), ToolEr
     let bytes = session.unmount().to_bytes();
     let mut image = WatchedStream::new(NotedWriter::new(host, line.image)?);
     write_and_flush(&mut image, bytes.as_slice())?;
+    write_and_flush(&mut image, part.rest.as_slice())?;
     image.into_inner().place()
 }

@@ -3,16 +3,25 @@
 use crate::blocks::{IMAGE_MAX, enough_for_folder};
 use crate::creation::read_source_entries;
 use crate::files::{Host, is_standard_stream};
-use crate::parts::{ImagePart, read_part};
-use crate::run::{folder_of_line, geometry_of_line};
-use lfs_device::Error;
+use crate::parts::{ImagePart, open_part, read_part};
+use crate::run::{folder_of_line, geometry_of_line, layout_of_line};
+use lfs_device::{AcceptedVersions, Error};
+use lfs_tag::Superblock;
 use lfs_tool::{
-    Fault, Line, Mode, ToolError, ToolOutput, check_result_lines, push_escaped_path, report,
+    CheckResult, Fault, ImageLayout, Line, LineError, Mode, RefusalReason, ToolError, ToolOutput,
+    check_result_lines, image_superblock_at, layout_by_blocks, push_escaped_path, report,
     result_of_image, write_and_flush,
 };
 use lfs_tool_folders::{Folder, SourceEntry};
 use lfs_tool_line::Sizes;
 use std::alloc::AllocError;
+
+// The modes, for words that don't give exactly one.
+const MODES: &str =
+    "the modes are -c DIR, -u DIR, -l, --check, --cat PATH, --put FILE PATH, --remove PATH and --mkdir PATH\n";
+
+// Version 2.1, as a superblock has it.
+const LATER_VERSION: u32 = 0x0002_0001;
 
 // Reads the line's image once more. Standard input can't be read twice.
 fn read_part_again(host: Host<'_>, line: &Line<'_>) -> Result<ImagePart, ToolError> {
@@ -42,7 +51,6 @@ fn words_of_refusal(error: Error) -> Option<&'static str> {
         Error::Invalid => Some("a path in the image begins with /, as /log/today"),
         Error::TooBig => Some("the file is longer than the image's limit"),
         Error::NoSpace => Some("too few blocks are free"),
-        Error::ReadOnly => Some("the image isn't one that is changed here; --check says why"),
         Error::NameTooLong => Some("a name is longer than the image's limit"),
         Error::NotEmpty => Some("the folder has entries"),
         Error::EntryFull => Some("the name takes too much of a block"),
@@ -50,19 +58,88 @@ fn words_of_refusal(error: Error) -> Option<&'static str> {
     }
 }
 
+// Returns the limits of an image that aren't the given ones, as options.
+fn other_limits(host: Host<'_>, line: &Line<'_>) -> Result<String, ToolError> {
+    let part = read_part_again(host, line)?;
+    let mut options = String::new(host.alloc());
+    let Some(superblock) = image_superblock_at(part.bytes.as_slice()) else {
+        return Ok(options);
+    };
+    let given = part.layout.profile;
+    let limits = [
+        ("--name-max", superblock.name_max, given.name_max, 255),
+        (
+            "--file-max",
+            superblock.file_max,
+            given.file_max,
+            2_147_483_647,
+        ),
+        ("--attr-max", superblock.attr_max, given.attr_max, 1022),
+    ];
+    for (option, stated, given, most) in limits {
+        if stated != given && 1 <= stated && stated <= most {
+            let words = format!(in host.alloc(); "{option} {stated} ")?;
+            options.push_str(words.as_str())?;
+        }
+    }
+    Ok(options)
+}
+
+// Adds which options open an image for changes that has other limits than the given ones.
+fn push_read_only(
+    host: Host<'_>,
+    line: &Line<'_>,
+    path: &str,
+    text: &mut Vec<u8>,
+) -> Result<(), ToolError> {
+    let options = other_limits(host, line)?;
+    if options.is_empty() {
+        let words = "the image isn't one that is changed here; --check says why";
+        return Ok(push_path_line(text, &[path.as_bytes()], words.as_bytes())?);
+    }
+    let words = format!(in host.alloc();
+        "the image has limits of its own: {options}or --auto opens it"
+    )?;
+    Ok(push_path_line(text, &[path.as_bytes()], words.as_bytes())?)
+}
+
 // Adds what is wrong with the path in the image of the line's mode.
-fn push_path_in_image(line: &Line<'_>, error: Error, text: &mut Vec<u8>) -> Result<(), AllocError> {
+fn push_path_in_image(
+    host: Host<'_>,
+    line: &Line<'_>,
+    error: Error,
+    text: &mut Vec<u8>,
+) -> Result<(), ToolError> {
     let path = match line.mode {
         Mode::Cat(path) | Mode::Put(_, path) | Mode::Remove(path) | Mode::Mkdir(path) => path,
         Mode::Create(_) | Mode::Unpack(_) | Mode::List | Mode::Check => return Ok(()),
     };
+    if error == Error::ReadOnly {
+        return push_read_only(host, line, path, text);
+    }
     match words_of_refusal(error) {
-        Some(words) => push_path_line(text, &[path.as_bytes()], words.as_bytes()),
+        Some(words) => Ok(push_path_line(text, &[path.as_bytes()], words.as_bytes())?),
         None => Ok(()),
     }
 }
 
+// Returns the sizes that the superblock of the line's image gives, if no image has them.
+fn wrong_own_sizes(host: Host<'_>, line: &Line<'_>) -> Result<Option<Sizes>, ToolError> {
+    if !line.has_own_limits || is_standard_stream(line.image) {
+        return Ok(None);
+    }
+    let (_file, head) = open_part(host, line)?;
+    let Some(own) = layout_by_blocks(head.as_slice(), layout_of_line(line)) else {
+        return Ok(None);
+    };
+    let sizes = own.sizes();
+    Ok(sizes.broken_rule().map(|_| sizes))
+}
+
 fn sizes_of_image(host: Host<'_>, line: &Line<'_>) -> Result<Sizes, ToolError> {
+    if let Some(sizes) = wrong_own_sizes(host, line)? {
+        return Ok(sizes);
+    }
     if let Mode::Create(_) = line.mode {
         return Ok(Sizes {
             size: line.size as usize,
@@ -78,14 +155,50 @@ fn sizes_of_image(host: Host<'_>, line: &Line<'_>) -> Result<Sizes, ToolError> {
     })
 }
 
-// Adds what a check says of the image. For version 2.1 it says which option reads it.
+// Adds which options are missing for an image with this superblock, in a file of so many blocks.
+fn push_missing_options(
+    host: Host<'_>,
+    superblock: &Superblock,
+    layout: ImageLayout,
+    blocks: usize,
+    text: &mut Vec<u8>,
+) -> Result<(), ToolError> {
+    let (size, count) = (superblock.block_size, superblock.block_count);
+    if size != layout.block_size && 1024 <= size && size <= 65536 {
+        let words = format!(in host.alloc(); "blocks of {size} bytes: -b {size}\n")?;
+        text.extend_from_slice(words.as_bytes())?;
+    } else if size == layout.block_size && (count as usize) < blocks {
+        let words = format!(in host.alloc(); "{count} blocks, and more behind them: -b auto\n")?;
+        text.extend_from_slice(words.as_bytes())?;
+    }
+    let accepts_later = layout.profile.versions == AcceptedVersions::AlsoTwoOne;
+    if superblock.version == LATER_VERSION && !accepts_later {
+        text.extend_from_slice(b"version 2.1: --also-2.1\n")?;
+    }
+    Ok(())
+}
+
+// Adds what a check says of the image, and which options are missing.
 fn push_check(host: Host<'_>, line: &Line<'_>, text: &mut Vec<u8>) -> Result<(), ToolError> {
-    let part = read_part_again(host, line)?;
-    let checked = result_of_image(host.alloc(), part.bytes, part.layout)?;
+    let part = match read_part_again(host, line) {
+        Err(ToolError::Fs(Error::Corrupt)) => {
+            let words = b"no superblock: neither block 0 nor block 1 begins with one\n";
+            return Ok(text.extend_from_slice(words)?);
+        }
+        part => part?,
+    };
+    let superblock = image_superblock_at(part.bytes.as_slice());
+    let layout = part.layout;
+    let checked = result_of_image(host.alloc(), part.bytes, layout)?;
     text.extend_from_slice(check_result_lines(host.alloc(), &checked)?.as_slice())?;
-    if text.ends_with(b"superblock: version 2.1\n") {
-        let _end = text.pop();
-        text.extend_from_slice(b"; --also-2.1 reads it\n")?;
+    if let CheckResult::Refused {
+        reason: RefusalReason::WrongNumber(_),
+        given,
+    } = &checked
+    {
+        if let Some(superblock) = superblock {
+            return push_missing_options(host, &superblock, layout, given.blocks, text);
+        }
     }
     Ok(())
 }
@@ -185,14 +298,21 @@ fn push_explanation(
             let sizes = sizes_of_image(host, line)?;
             match sizes.broken_rule() {
                 Some(rule) => Ok(sizes.push_rule_line(text, rule)?),
-                None => Ok(push_path_in_image(line, Error::Invalid, text)?),
+                None => push_path_in_image(host, line, Error::Invalid, text),
             }
         }
         ToolError::Fs(Error::Corrupt) => push_check(host, line, text),
         ToolError::Fs(error) => match line.mode {
             Mode::Create(folder) => push_new_image(host, line, folder, error, text),
-            _ => Ok(push_path_in_image(line, error, text)?),
+            _ => push_path_in_image(host, line, error, text),
         },
+    }
+}
+
+/// Writes which modes there are, after the error of words that don't give exactly one. A failed write is ignored.
+pub(crate) fn write_modes<E: ToolOutput>(fault: &Fault, err: &mut E) {
+    if let Fault::Line(LineError::Modes) = fault {
+        let _ = write_and_flush(err, MODES.as_bytes());
     }
 }
 

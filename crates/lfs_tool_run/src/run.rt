@@ -2,7 +2,7 @@
 
 use crate::blocks::{FolderContents, fit_size, image_of_contents, read_line_folder};
 use crate::creation::create;
-use crate::explain::write_explanation;
+use crate::explain::{write_explanation, write_modes};
 use crate::files::{Host, NotedWriter};
 use crate::lists::{check_image, list_image};
 use crate::parts::{ImagePart, read_part};
@@ -83,6 +83,7 @@ fn unpack_image(host: Host<'_>, line: &Line<'_>, folder: &str) -> Result<(), Too
         mut bytes,
         layout,
         behind: _,
+        rest: _,
     } = read_part(host, line)?;
     let mut times = Vec::new(alloc);
     if host.times {
@@ -169,6 +170,11 @@ fn run_request<O: ToolOutput, E: ToolOutput>(
     }
 }
 
+// Returns whether words that are no line ask for explanations.
+fn are_explanations_asked(words: &[String]) -> bool {
+    words.iter().any(|word| word.as_str() == "--explain")
+}
+
 /// Runs the program on the words of its command line, or on the cause for which there are none: memory ran out, or a
 /// word is no text. Returns the status with which it ends.
 pub fn run_words<O: ToolOutput, E: ToolOutput>(
@@ -186,9 +192,17 @@ pub fn run_words<O: ToolOutput, E: ToolOutput>(
     };
     match read_request(host.alloc(), words.as_slice()) {
         Ok(request) => run_request(host, &request, out, err),
-        Err(error) => match report(&Fault::Line(error), out, err) {
-            0 if host.fault_of_lines.get().is_some() => report_unwritten(host, out, err),
-            status => status,
-        },
+        Err(error) => {
+            let fault = Fault::Line(error);
+            match report(&fault, out, err) {
+                0 if host.fault_of_lines.get().is_some() => report_unwritten(host, out, err),
+                status => {
+                    if host.explains || are_explanations_asked(words.as_slice()) {
+                        write_modes(&fault, err);
+                    }
+                    status
+                }
+            }
+        }
     }
 }

@@ -6,6 +6,7 @@ use lfs_tool::WatchedStream;
 use lfs_tool_folders::FaultLog;
 use lfs_tool_run::{Host, Lines, run_words};
 use std::cell::Cell;
+use std::io::IsTerminal;
 use std::process::ExitCode;
 use std::{env, io};
 
@@ -14,8 +15,13 @@ fn read_command_line_words(rt: &HostRuntime) -> io::Result<Vec<String>> {
     Ok(env::args(rt)?.collect(rt.alloc())?)
 }
 
+// Returns whether errors are explained: as the environment says, and else if standard error is a terminal.
 fn is_explanation_wanted(rt: &HostRuntime) -> bool {
-    env::var(rt, "MKLITTLEFS_EXPLAIN").is_ok_and(|value| value.as_str() == "1")
+    match env::var(rt, "MKLITTLEFS_EXPLAIN") {
+        Ok(value) if value.as_str() == "1" => true,
+        Ok(value) if value.as_str() == "0" => false,
+        _ => rt.stderr().is_terminal(),
+    }
 }
 
 fn main(rt: HostRuntime) -> ExitCode {

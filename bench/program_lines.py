@@ -9,6 +9,8 @@ rows of mklittlefs, with the files that have to be there then. Run as root, a ro
 with a file that can't be read is run as another user. Prints each row that differs, and how many didn't. Fails where one does.
 """
 import os
+import pty
+import re
 import shutil
 import subprocess
 import sys
@@ -91,7 +93,11 @@ def tool_rows(tool, folder):
     os.makedirs(folder + "/links")
     os.symlink("nowhere", folder + "/links/l")
     yield "a symbolic link", run(tool, ["-c", "links", "--explain", *sizes, "x.img"], "", folder), (
-        3, "", "error: input\nlinks/l: neither a file nor a folder\n")
+        3, "", "error: input\nlinks/l: a symbolic link; --follow-links reads what it leads to, --skip-links leaves it out\n")
+    os.makedirs(folder + "/pipes")
+    os.mkfifo(folder + "/pipes/p")
+    yield "a pipe", run(tool, ["-c", "pipes", "--explain", *sizes, "x.img"], "", folder), (
+        3, "", "error: input\npipes/p: neither a file nor a folder\n")
     yield "no image", run(tool, ["-l", "--explain", "none.img"], "", folder), (
         3, "", "error: input\nnone.img: No such file or directory (os error 2)\n")
     yield "no folder above", run(tool, ["-c", "some", "--explain", *sizes, "no/x.img"], "", folder), (
@@ -122,6 +128,8 @@ def tool_rows(tool, folder):
     yield "the old image stays", (run(tool, ["-c", "both", *sizes, "x.img"], "", folder)[0], os.stat(folder + "/x.img").st_ino), (1, before)
     yield "a check", run(tool, ["--check", "x.img"], "", folder)[1].splitlines()[:3], ["ok", "files 1", "directories 0"]
     yield from limit_rows(tool, folder)
+    yield from auto_rows(tool, folder)
+    yield from terminal_rows(tool, folder)
     yield from tool_runs.rows(tool, folder)
 
 
@@ -144,6 +152,97 @@ def limit_rows(tool, folder):
     for words, told, line in of_options:
         shown = run(tool, ["--check", "-b", "8192", *words, "n.img"], "", folder)
         yield " ".join(["a check", *words]), (shown[0], shown[1].splitlines()[6:]), (0, [*told, "recover no", line])
+
+
+LISTED = (0, "f 2 /a\n", "")
+CORRUPT = "error: Corrupt (84)\n"
+SIZE_DIFFERS = CORRUPT + "corrupt\nsuperblock: block size 8192, given 4096\nblocks of 8192 bytes: -b 8192\n"
+MODES = ("the modes are -c DIR, -u DIR, -l, --check, --cat PATH, --put FILE PATH, --remove PATH and --mkdir PATH\n")
+DECIDED = "error: --auto takes the place of -b, --board, --also-2.1, --name-max, --file-max and --attr-max\n"
+
+
+def auto_rows(tool, folder):
+    """The same of --auto, and of options that are missing."""
+    def tried(*words):
+        return run(tool, list(words), "", folder)
+    yield "an image for a board", tried("-c", "some", "--board", "esp8266", "-s", "128k", "e.img"), (0, "", "")
+    with open(folder + "/e.img", "rb") as file:
+        image = file.read()
+    yield "its block size", tried("-l", "--explain", "e.img"), (1, "", SIZE_DIFFERS)
+    yield "its limits", tried("--put", "some/a", "/c", "-b", "8192", "--explain", "e.img"), (
+        1, "", "error: ReadOnly (30)\n/c: the image has limits of its own: --name-max 32 or --auto opens it\n")
+    yield "--auto -l", tried("--auto", "-l", "e.img"), LISTED
+    yield "--auto --cat", tried("--auto", "--cat", "/a", "e.img"), (0, "hi", "")
+    yield "--auto -u", (tried("--auto", "-u", "e.out", "e.img"), os.listdir(folder + "/e.out")), ((0, "", ""), ["a"])
+    shown = tried("--auto", "--check", "e.img")
+    yield "--auto --check", (shown[0], shown[1].splitlines()[6:]), (0, ["name_max 32", "recover no", "writable yes", "behind 0 bytes"])
+    write(folder, "part.img", bytes(3000) + image + b"\x11" * 5000)
+    yield "--auto --offset", tried("--auto", "-l", "--offset", "3000", "part.img"), LISTED
+    write(folder, "flash.img", image + b"\x11" * 5000)
+    for words in ["--put", "some/a", "/c"], ["--mkdir", "/d"], ["--remove", "/c"]:
+        done = tried("--auto", *words, "flash.img")
+        with open(folder + "/flash.img", "rb") as file:
+            after = file.read()
+        yield f"--auto {words[0]} keeps what is behind", (done, len(after), after[len(image) :]), ((0, "", ""), len(image) + 5000, b"\x11" * 5000)
+    yield "what was changed", tried("--auto", "-l", "flash.img"), (0, "f 2 /a\nd 0 /d\n", "")
+    piped = subprocess.run([tool, "--auto", "-l", "-"], input=image, capture_output=True)
+    yield "--auto of standard input", (piped.returncode, piped.stdout, piped.stderr), (0, b"f 2 /a\n", b"")
+    write(folder, "zeros.img", bytes(8192))
+    yield "no superblock", tried("--auto", "-l", "zeros.img"), (1, "", CORRUPT)
+    yield "no superblock, and why", tried("--auto", "--explain", "--mkdir", "/d", "zeros.img"), (
+        1, "", CORRUPT + "no superblock: neither block 0 nor block 1 begins with one\n")
+    for field, number, rule in [(24, 512, "block 512, page 64: a block has from 1024 to 65536 bytes"),
+                                (28, 1, "size 8192, block 8192: an image has from 2 to 65536 blocks"),
+                                (28, 65536, "an image has at most 268435456 bytes")]:
+        write(folder, "sizes.img", image[:field] + number.to_bytes(4, "little") + image[field + 4 :])
+        yield f"{number} at {field}", tried("--auto", "-l", "sizes.img"), (1, "", "error: Invalid (22)\n")
+        yield f"{number} at {field}, and why", tried("--auto", "-l", "--explain", "sizes.img"), (1, "", f"error: Invalid (22)\n{rule}\n")
+    yield "--auto -c", tried("--auto", "-c", "some", "x.img"), (2, "", "error: --auto is for all modes but -c\n")
+    for words in ["-b", "8192"], ["--board", "esp32"], ["--also-2.1"], ["--name-max", "32"], ["--file-max", "9"], ["--attr-max", "9"]:
+        yield "--auto " + words[0], tried("--auto", "-l", *words, "e.img"), (2, "", DECIDED)
+    yield "--auto --inline-max", tried("--auto", "--mkdir", "/d", "--inline-max", "64", "e.img"), (0, "", "")
+    write(folder, "blocks.img", image + bytes(8192))
+    yield "more behind the image", tried("-l", "-b", "8192", "--explain", "blocks.img"), (
+        1, "", CORRUPT + "corrupt\nsuperblock: block count 16, given 17\n16 blocks, and more behind them: -b auto\n")
+
+
+def run_on_terminal(tool, words, folder, **env):
+    """Status, and what standard error, a terminal, shows."""
+    ours, theirs = pty.openpty()
+    done = subprocess.run([tool, *words], stdin=subprocess.DEVNULL, stdout=subprocess.DEVNULL, stderr=theirs, cwd=folder, env=env, timeout=60)
+    os.close(theirs)
+    shown = b""
+    while True:
+        try:
+            more = os.read(ours, 4096)
+        except OSError:
+            break
+        if not more:
+            break
+        shown += more
+    os.close(ours)
+    return done.returncode, shown.decode("latin-1").replace("\r\n", "\n")
+
+
+def terminal_rows(tool, folder):
+    """The same where standard error is a terminal, and in a pipe."""
+    cases = [(["-l", "none.img"], 3, "error: input\n", "none.img: No such file or directory (os error 2)\n"),
+             (["-l", "e.img"], 1, CORRUPT, SIZE_DIFFERS[len(CORRUPT) :]),
+             (["e.img"], 2, "error: give exactly one of -c, -u, -l\n", MODES),
+             (["-l", "--check", "e.img"], 2, "error: give exactly one of -c, -u, -l\n", MODES),
+             (["-l", "--auto", "-b", "4k", "e.img"], 2, DECIDED, "")]
+    for words, status, line, why in cases:
+        name = " ".join(words)
+        yield f"{name} on a terminal", run_on_terminal(tool, words, folder), (status, line + why)
+        yield f"{name} on a terminal, 0", run_on_terminal(tool, words, folder, MKLITTLEFS_EXPLAIN="0"), (status, line)
+        yield f"{name} on a terminal, 0 and the option", run_on_terminal(tool, ["--explain", *words], folder, MKLITTLEFS_EXPLAIN="0"), (status, line + why)
+        yield f"{name} in a pipe", run(tool, words, "", folder), (status, "", line)
+        yield f"{name} in a pipe, and why", run(tool, ["--explain", *words], "", folder), (status, "", line + why)
+    short, long = run(tool, ["-h"]), run(tool, ["--help"])
+    yield "-h is a screen", (short[0], short[2], short[1].count("\n") <= 32, max(map(len, short[1].splitlines())) <= 130), (0, "", True, True)
+    named = set(re.findall(r"(?<![\w-])--[a-z][-a-z0-9.]*", long[1]))
+    yield "-h has options of --help", set(re.findall(r"(?<![\w-])--[a-z][-a-z0-9.]*", short[1])) <= named, True
+    yield "--version", run(tool, ["--version"]), (0, "mklittlefs 1.0.0 (littlefs on-disk version 2.0)\n", "")
 
 
 def limits_in(image):

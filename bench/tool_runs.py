@@ -76,7 +76,7 @@ RUNS = [
     ({"files/c": long(65536)}, ["-c files -s8192 -b1024 -p128 --file-max=65536 image"], (1, "", "error: NoSpace (28)\n"), KEPT),
     ({"image": LATER}, ["--check image"], (1, "corrupt\nsuperblock: version 2.1\n", ""), {"image": LATER}),
     ({"image": LATER}, ["-u o --explain image"],
-     (1, "", "error: Corrupt (84)\ncorrupt\nsuperblock: version 2.1; --also-2.1 reads it\n"), {"o": NOTHING}),
+     (1, "", "error: Corrupt (84)\ncorrupt\nsuperblock: version 2.1\nversion 2.1: --also-2.1\n"), {"o": NOTHING}),
     ({"image": LATER}, ["--check --board micropython image"],
      (0, "ok\nfiles 1\ndirectories 0\n" + CHECKED.replace("either\n", "either\nversion 2.1\n"), ""), {}),
     ({"image": LATER}, ["-u o --board rp2040 image"], (0, "", ""), {"o": {"a": b"hello"}}),

@@ -239,7 +239,7 @@ def terminal_rows(tool, folder):
         yield f"{name} in a pipe", run(tool, words, "", folder), (status, "", line)
         yield f"{name} in a pipe, and why", run(tool, ["--explain", *words], "", folder), (status, "", line + why)
     short, long = run(tool, ["-h"]), run(tool, ["--help"])
-    yield "-h is a screen", (short[0], short[2], short[1].count("\n") <= 32, max(map(len, short[1].splitlines())) <= 130), (0, "", True, True)
+    yield "-h is a screen", (short[0], short[2], short[1].count("\n") <= 34, max(map(len, short[1].splitlines())) <= 130), (0, "", True, True)
     named = set(re.findall(r"(?<![\w-])--[a-z][-a-z0-9.]*", long[1]))
     yield "-h has options of --help", set(re.findall(r"(?<![\w-])--[a-z][-a-z0-9.]*", short[1])) <= named, True
     yield "--version", run(tool, ["--version"]), (0, "mklittlefs 1.0.0 (littlefs on-disk version 2.0)\n", "")

@@ -24,7 +24,7 @@ A clause that a CALLING.md quotes stands in the crate's `src`, whatever spaces a
 
 Beside backticks it looks at links, `[..](docs/FORMAT.md#tags)`, and at names of pages, as docs/FORMAT.md. It counts the wrong bodies of
 the gate where a page says "The gate tries .. at most 40" or "the 40", and the lines of code where README.md says "some 44,600 lines". It
-compares the options of the table in docs/TOOL.md with those of the help, as a test of the gate has it.
+compares the options of the table in docs/TOOL.md with those of the help, by the table of `lfs_tool_line`.
 
 With --run it also runs the commands that README.md and docs/TOOL.md print (page_commands.py): some minutes, by `rt try`. PROGRAM is a
 built mklittlefs. With --proofs the commands that prove are run as well.
@@ -352,8 +352,8 @@ def wrong_help(repository, page):
     """Options of the help that docs/TOOL.md doesn't name, and options of its table that the help lacks."""
     if page != "docs/TOOL.md":
         return
-    tests = "".join(text_of(path) for path in repository.files if re.fullmatch(r"crates/lfs_tool_tests/src/\w+\.rt", path))
-    helped = set(re.findall(r"(?m)^ +(?:-\w, |    )(--[a-z0-9.-]+) .*[a-z]", tests)) - {"--help", "--version"}
+    table = text_of("crates/lfs_tool_line/src/options.rt")
+    helped = {"--" + name for name in re.findall(r'(?m)^    "([a-z0-9.-]+)", \w.*, Value::', table)} - {"--image"}
     text = text_of(page)
     named, rows = set(re.findall(LONG_OPTION, text)), set(re.findall(r"(?m)^\| `(--[a-z0-9.-]+)", text))
     yield from (f"{page}: {option} of the help isn't named" for option in sorted(helped - named))

@@ -1,4 +1,5 @@
-use Rattle.lfs_tool.proofs.Common.{IfErr-weaker, IfOk-weaker, tree_items_view}
+use Rattle.std.proofs.lemmas.Result.{IfOk-weaker}
+use Rattle.lfs_tool.proofs.Common.{IfErr-weaker, tree_items_view}
 use Rattle.lfs_tool.proofs.Images.{refuses_image, walked_image}
 use Rattle.lfs_tool.proofs.listings.items_of_image.Goals as goal
 

@@ -95,7 +95,9 @@ fn unpack_image(host: Host<'_>, line: &Line<'_>, folder: &str) -> Result<(), Too
     let mut progress = progress_at_terminal(host.rt);
     unpack(alloc, bytes, layout, &mut target, &mut progress)?;
     // An empty image has no action that makes the folder.
-    target.make_folder(alloc, b"").map_err(target_tool_error)?;
+    if let Err(error) = target.make_folder(alloc, b"") {
+        return Err(target_tool_error(error));
+    }
     set_times(host, folder, times.as_slice())
 }
 

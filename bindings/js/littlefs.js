@@ -1,0 +1,520 @@
+// littlefs over images in memory: the calls of littlefs_c.h, from the module littlefs.wasm.
+
+/** The names of errors, by the numbers of littlefs_c.h, and what is said of each. */
+const ERRORS = {
+  2: ["NoEnt", "nothing is there, or a folder above it is missing"],
+  9: ["BadFile", "no such file is open"],
+  12: ["NoMemory", "memory was wanted and not granted"],
+  16: ["Busy", "an open file prevents it"],
+  17: ["Exist", "something is there already"],
+  20: ["NotDir", "a file stands where a folder is needed"],
+  21: ["IsDir", "a folder stands where a file is needed"],
+  22: ["Invalid", "no image of that geometry, or a path, a position or a number is out of range"],
+  27: ["TooBig", "a file or an attribute would pass its limit"],
+  28: ["NoSpace", "too few blocks are free"],
+  30: ["ReadOnly", "the image can be read, and images like it aren't written"],
+  36: ["NameTooLong", "a name is longer than it may be"],
+  39: ["NotEmpty", "the folder has entries"],
+  61: ["NoAttr", "the attribute isn't there"],
+  77: ["Closed", "the image is closed"],
+  84: ["Corrupt", "no image is accepted in these bytes; one of version 2.1 is with also21"],
+  200: ["Failed", "an earlier call had no memory, and remount() mends it"],
+  201: ["EntryFull", "a name and its attributes would take more than half of a metadata pair"],
+};
+const NO_ENT = 2, NO_MEMORY = 12, NOT_DIR = 20, INVALID = 22, NO_ATTR = 61, CLOSED = 77, CORRUPT = 84;
+
+const DIRECTORY = 2 ** 32;
+const READ = 0x1, WRITE = 0x2, CREATE = 0x100, TRUNCATE = 0x400, APPEND = 0x800;
+const AT_ONCE = 1 << 20;
+const LARGEST = { nameMax: 255, fileMax: 2147483647, attrMax: 1022, inlineMax: 1022 };
+
+/** What a refused call throws. Its `name` is the error's, as "NoEnt", and `number` that of littlefs_c.h. */
+export class LittlefsError extends Error {
+  constructor(number, path) {
+    const [name, meaning] = ERRORS[number] ?? ["Unknown", `error ${number}`];
+    super(path === undefined ? meaning : `${shown(path)}: ${meaning}`);
+    this.name = name;
+    this.number = number;
+    if (path !== undefined) this.path = path;
+  }
+}
+
+const shown = (path) => (typeof path === "string" ? path : nameOf(path));
+
+// ---- names: bytes of UTF-8; a byte that is none is a code from U+DC80 to U+DCFF, as in Python
+
+const utf8 = new TextDecoder("utf-8", { fatal: true, ignoreBOM: true });
+
+/** A name's bytes as text. */
+export function nameOf(bytes) {
+  try {
+    return utf8.decode(bytes);
+  } catch {
+    let text = "";
+    for (let at = 0; at < bytes.length; ) {
+      let length = bytes[at] < 0x80 ? 1 : bytes[at] < 0xe0 ? 2 : bytes[at] < 0xf0 ? 3 : 4, part;
+      try {
+        part = utf8.decode(bytes.subarray(at, at + length));
+      } catch {
+        [part, length] = [String.fromCharCode(0xdc00 + bytes[at]), 1];
+      }
+      text += part;
+      at += length;
+    }
+    return text;
+  }
+}
+
+/** The bytes of a name or a path that is text, or bytes already. */
+export function bytesOf(path) {
+  if (typeof path !== "string") return bytesIn(path);
+  if (!/[\ud800-\udfff]/.test(path)) return new TextEncoder().encode(path);
+  const found = [];
+  for (const letter of path) {
+    const code = letter.codePointAt(0);
+    if (code >= 0xdc80 && code <= 0xdcff) found.push(code - 0xdc00);
+    else if (code >= 0xd800 && code <= 0xdfff) throw new LittlefsError(INVALID, path);
+    else found.push(...new TextEncoder().encode(letter));
+  }
+  return Uint8Array.from(found);
+}
+
+/** The bytes that a caller gives: of a buffer, a view, or a text as UTF-8. */
+function bytesIn(data) {
+  if (typeof data === "string") return new TextEncoder().encode(data);
+  if (data instanceof Uint8Array) return data;
+  if (ArrayBuffer.isView(data)) return new Uint8Array(data.buffer, data.byteOffset, data.byteLength);
+  if (data instanceof ArrayBuffer || Object.prototype.toString.call(data) === "[object SharedArrayBuffer]") return new Uint8Array(data);
+  throw new TypeError("bytes are an ArrayBuffer, a view of one, or text");
+}
+
+// ---- the module
+
+const LENT = 1 << 14;
+
+/** A module's instance, and its memory. */
+class Library {
+  #bytes = new Uint8Array(0);
+  #lent = 0;
+
+  constructor(instance) {
+    this.calls = instance.exports;
+    this.failure = null;
+  }
+
+  /** The memory as bytes: another object after each growth. */
+  get bytes() {
+    const { buffer } = this.calls.memory;
+    if (this.#bytes.buffer !== buffer) this.#bytes = new Uint8Array(buffer);
+    return this.#bytes;
+  }
+
+  /** Makes a call, and returns its answer. A trap ends the instance, since what it was doing is left halfway. */
+  call(name, ...values) {
+    if (this.failure) throw this.failure;
+    try {
+      return Number(this.calls[name](...values));
+    } catch (error) {
+      if (error instanceof WebAssembly.RuntimeError || error instanceof RangeError) this.failure = error;
+      throw error;
+    }
+  }
+
+  /** Returns the address of memory of its own. */
+  take(size) {
+    const at = this.call("malloc", BigInt(size));
+    if (!at) throw new LittlefsError(NO_MEMORY);
+    return at;
+  }
+
+  /** Runs a function with memory: a part that is lent again and again, and more that is let go behind it. No call is within another. */
+  with(run) {
+    const held = [];
+    let used = 0;
+    const room = (size) => {
+      this.#lent ||= this.take(LENT);
+      if (used + size <= LENT) {
+        const at = this.#lent + used;
+        used += (size + 15) & ~15;
+        return at;
+      }
+      held.push(this.take(size));
+      return held.at(-1);
+    };
+    const put = (bytes) => {
+      const at = room(bytes.length || 1);
+      this.bytes.set(bytes, at);
+      return [BigInt(at), BigInt(bytes.length)];
+    };
+    try {
+      return run({ room, put });
+    } finally {
+      if (!this.failure) for (const at of held) this.call("free", BigInt(at));
+    }
+  }
+}
+
+let library = null;
+
+/** Loads the library: from a module's bytes, a compiled module, or a response that has it. `index.js` has done so. */
+export async function load(source) {
+  const given = await source;
+  const isResponse = typeof Response !== "undefined" && given instanceof Response;
+  const module = given instanceof WebAssembly.Module ? given : await WebAssembly.compile(isResponse ? await given.arrayBuffer() : given);
+  library = new Library(await WebAssembly.instantiate(module, {}));
+}
+
+const forgotten = typeof FinalizationRegistry === "undefined" ? null : new FinalizationRegistry(({ library, session }) => end(library, session));
+
+function end(library, session) {
+  if (library.failure) return;
+  library.call("lfs_c_unmount", BigInt(session));
+  library.call("free", BigInt(session));
+}
+
+// ---- images
+
+/** What a superblock says of its image, found by its place in block 0 or 1, or null. Nothing of it is checked. */
+export function superblock(data) {
+  const bytes = bytesIn(data), view = new DataView(bytes.buffer, bytes.byteOffset, bytes.byteLength);
+  const magic = [...new TextEncoder().encode("littlefs")];
+  for (let at = 8; at + 36 <= bytes.length && at <= 65536 + 8; at++) {
+    if (!magic.every((letter, n) => bytes[at + n] === letter)) continue;
+    const [version, blockSize, blockCount, nameMax, fileMax, attrMax] = Array.from({ length: 6 }, (_, n) => view.getUint32(at + 12 + 4 * n, true));
+    if (version >>> 16 === 2 && (at === 8 || at - 8 === blockSize)) return { version, blockSize, blockCount, nameMax, fileMax, attrMax };
+  }
+  return null;
+}
+
+/** The largest page up to 256 that goes with blocks of that size. */
+export function usualPage(blockSize) {
+  return [256, 128, 64, 32, 16, 8].find((page) => blockSize % page === 0 && 8 * page <= blockSize) ?? 8;
+}
+
+/** A littlefs image in memory, mounted. `Image.mount` and `Image.format` make one. A refused call leaves it as it was. */
+export class Image {
+  #library;
+  #session;
+  #config;
+  #size;
+
+  /** Mounts a copy of an image. Without a block size the superblock's sizes and limits are taken, and bytes behind the image left out. */
+  static mount(data, options = {}) {
+    let bytes = bytesIn(data), given = { ...options };
+    if (given.blockSize === undefined) {
+      const found = superblock(bytes);
+      if (!found) throw new LittlefsError(CORRUPT);
+      const least = (name) => Math.min(found[name], LARGEST[name]);
+      given = { blockSize: found.blockSize, nameMax: least("nameMax"), fileMax: least("fileMax"), attrMax: least("attrMax"), ...options };
+      given.blockSize = found.blockSize;
+      bytes = bytes.subarray(0, found.blockCount * found.blockSize);
+    }
+    const image = new Image();
+    image.#begin(given, bytes.length, (lib, { put }, session, config) => lib.call("lfs_c_mount", session, config, ...put(bytes)));
+    return image;
+  }
+
+  /** Makes an empty image of so many blocks. */
+  static format(options) {
+    const { blockCount, blockSize = 4096 } = options;
+    const image = new Image();
+    image.#begin({ ...options, blockSize }, blockSize * blockCount, (lib, _, session, config) => lib.call("lfs_c_mkfs", session, config, number32(blockCount)));
+    return image;
+  }
+
+  #begin(given, size, start) {
+    if (!library) throw new Error("the library isn't loaded: import index.js, or call load()");
+    const { blockSize, page = usualPage(blockSize), order = "longer-first", also21 = false, pairCycles = 0 } = given;
+    const { nameMax, fileMax, attrMax, inlineMax } = { ...LARGEST, ...Object.fromEntries(Object.entries(given).filter(([, value]) => value !== undefined)) };
+    const lib = (this.#library = library);
+    this.#config = { blockSize, page, order, also21, nameMax, fileMax, attrMax, inlineMax, pairCycles };
+    this.#size = size;
+    const numbers = [blockSize, page, order === "shorter-first" ? 1 : 0, also21 ? 1 : 0, nameMax, fileMax, attrMax, inlineMax, pairCycles];
+    const session = lib.take(16);
+    try {
+      lib.bytes.fill(0, session, session + 16);
+      lib.with((memory) => {
+        const [config] = memory.put(new Uint8Array(Uint32Array.from(numbers, number32).buffer));
+        const answer = start(lib, memory, BigInt(session), config);
+        if (answer < 0) throw new LittlefsError(-answer);
+      });
+    } catch (error) {
+      if (!lib.failure) lib.call("free", BigInt(session));
+      throw error;
+    }
+    this.#session = session;
+    forgotten?.register(this, { library: lib, session }, this);
+  }
+
+  /** What a call of the session answers: an error as minus its number. */
+  #ask(name, ...values) {
+    if (!this.#session) throw new LittlefsError(CLOSED);
+    return this.#library.call("lfs_c_" + name, BigInt(this.#session), ...values);
+  }
+
+  #call(name, path, ...values) {
+    const answer = this.#ask(name, ...values);
+    if (answer < 0) throw new LittlefsError(-answer, path);
+    return answer;
+  }
+
+  #with(run) {
+    if (!this.#session) throw new LittlefsError(CLOSED);
+    return this.#library.with(run);
+  }
+
+  #at(name, path, ...values) {
+    const bytes = bytesOf(path);
+    return this.#with(({ put }) => this.#call(name + "_at", path, ...put(bytes), ...values));
+  }
+
+  /** What a call puts into a buffer, once it is told how much room that wants. */
+  #whole(name, path, ...values) {
+    const bytes = bytesOf(path);
+    for (let size = 4096; ; ) {
+      const found = this.#with(({ put, room }) => {
+        const at = room(size);
+        const answer = this.#call(name, path, ...put(bytes), ...values, BigInt(at), BigInt(size));
+        if (answer <= size) return this.#library.bytes.slice(at, at + answer);
+        size = answer;
+      });
+      if (found) return found;
+    }
+  }
+
+  // ---- the image
+
+  get blockSize() {
+    return this.#config.blockSize;
+  }
+
+  get blockCount() {
+    return this.#size / this.#config.blockSize;
+  }
+
+  get page() {
+    return this.#config.page;
+  }
+
+  /** The longest name, file, attribute and inline file that are written, in bytes. */
+  get limits() {
+    const { nameMax, fileMax, attrMax, inlineMax } = this.#config;
+    return { nameMax, fileMax, attrMax, inlineMax };
+  }
+
+  get closed() {
+    return !this.#session;
+  }
+
+  /** Lets the image's memory go. */
+  close() {
+    if (!this.#session) return;
+    forgotten?.unregister(this);
+    const session = this.#session;
+    this.#session = 0;
+    end(this.#library, session);
+  }
+
+  /** A copy of the image's bytes. */
+  bytes() {
+    const found = new Uint8Array(this.#size), size = Math.min(this.#size, AT_ONCE);
+    this.#with(({ room }) => {
+      const at = room(size);
+      for (let from = 0; from < found.length; ) {
+        const count = this.#call("image_part", undefined, BigInt(from), BigInt(at), BigInt(Math.min(size, found.length - from)));
+        if (!count) throw new LittlefsError(INVALID);
+        found.set(this.#library.bytes.subarray(at, at + count), from);
+        from += count;
+      }
+    });
+    return found;
+  }
+
+  /** How many blocks the image uses. */
+  usedBlocks() {
+    return this.#call("used_blocks", undefined);
+  }
+
+  /** Ends what a loss of power left. Each call that changes the image does so first. */
+  recover() {
+    this.#call("recover", undefined);
+  }
+
+  /** Reads the image anew: what mends it after NoMemory. */
+  remount() {
+    this.#call("remount", undefined);
+  }
+
+  // ---- folders
+
+  /** The entries of a folder, in name order. */
+  list(path = "/") {
+    const above = shown(path).replace(/\/$/, "");
+    const lines = new TextDecoder("latin1").decode(this.#whole("list_at", path)).split("\n").slice(0, -1);
+    return lines.map((line) => {
+      const [, kind, size, escaped] = line.match(/^([fd]) (\d+) (.*)$/s);
+      const name = nameOf(Uint8Array.from(unescaped(escaped)));
+      return { name, path: `${above}/${name}`, isDirectory: kind === "d", size: kind === "d" ? null : Number(size) };
+    });
+  }
+
+  /** All entries below a folder, each folder before what is in it. */
+  *walk(path = "/") {
+    for (const entry of this.list(path)) {
+      yield entry;
+      if (entry.isDirectory) yield* this.walk(entry.path);
+    }
+  }
+
+  /** Makes an empty folder; with `recursive` also those above it, and none where one is there. */
+  mkdir(path, { recursive = false } = {}) {
+    if (recursive) {
+      const text = shown(path);
+      for (let at = text.indexOf("/", 1); at > 0; at = text.indexOf("/", at + 1)) if (!this.exists(text.slice(0, at))) this.#at("mkdir", text.slice(0, at));
+      if (this.stat(path)?.isDirectory) return;
+    }
+    this.#at("mkdir", path);
+  }
+
+  // ---- entries
+
+  /** What is at a path, or null. */
+  stat(path) {
+    const bytes = bytesOf(path), answer = this.#with(({ put }) => this.#ask("stat_at", ...put(bytes)));
+    if (answer === -NO_ENT || answer === -NOT_DIR) return null;
+    if (answer < 0) throw new LittlefsError(-answer, path);
+    return { isDirectory: answer === DIRECTORY, size: answer === DIRECTORY ? null : answer };
+  }
+
+  /** Whether something is at a path. */
+  exists(path) {
+    return this.stat(path) !== null;
+  }
+
+  /** Removes a file or an empty folder; with `recursive` a folder with all that is in it. */
+  remove(path, { recursive = false } = {}) {
+    if (recursive && this.stat(path)?.isDirectory) for (const entry of this.list(path)) this.remove(entry.path, { recursive });
+    this.#at("remove", path);
+  }
+
+  /** Gives an entry another path, in place of a file or an empty folder there. */
+  rename(from, to) {
+    const [old, next] = [bytesOf(from), bytesOf(to)];
+    this.#with(({ put }) => this.#call("rename_at", from, ...put(old), ...put(next)));
+  }
+
+  /** The bytes of an entry's attribute, whose type is from 0 to 255. */
+  getAttribute(path, type) {
+    return this.#whole("get_attr_at", path, number8(type));
+  }
+
+  /** Gives an entry an attribute. */
+  setAttribute(path, type, data) {
+    const [name, bytes] = [bytesOf(path), bytesIn(data)];
+    this.#with(({ put }) => this.#call("set_attr_at", path, ...put(name), number8(type), ...put(bytes)));
+  }
+
+  /** Takes an attribute from an entry. */
+  removeAttribute(path, type) {
+    this.#at("remove_attr", path, number8(type));
+  }
+
+  /** All attributes of an entry, by their types. */
+  attributes(path) {
+    const found = new Map(), bytes = bytesOf(path), size = 1024;
+    this.#with(({ put, room }) => {
+      const name = put(bytes), at = room(size);
+      for (let type = 0; type < 256; type++) {
+        const answer = this.#ask("get_attr_at", ...name, type, BigInt(at), BigInt(size));
+        if (answer >= 0) found.set(type, this.#library.bytes.slice(at, at + answer));
+        else if (answer !== -NO_ATTR) throw new LittlefsError(-answer, path);
+      }
+    });
+    return found;
+  }
+
+  // ---- files
+
+  #open(path, flags) {
+    const bytes = bytesOf(path);
+    return this.#with(({ put }) => this.#call("open", path, ...put(bytes), flags));
+  }
+
+  /** A file's bytes from a position on, at most `length` of them where that is given. */
+  read(path, { position = 0, length = Infinity } = {}) {
+    const file = this.#open(path, READ);
+    try {
+      this.#call("file_seek", path, file, number32(position));
+      const found = new Uint8Array(Math.max(0, Math.min(this.#call("file_size", path, file) - position, length)));
+      const size = Math.min(found.length, AT_ONCE);
+      this.#with(({ room }) => {
+        const at = room(size || 1);
+        for (let from = 0; from < found.length; ) {
+          const count = this.#call("file_read", path, file, BigInt(at), BigInt(Math.min(size, found.length - from)));
+          found.set(this.#library.bytes.subarray(at, at + count), from);
+          from += count;
+        }
+      });
+      return found;
+    } finally {
+      if (!this.#library.failure) this.#ask("file_close", file);
+    }
+  }
+
+  /** A file's bytes as text of UTF-8. */
+  readText(path) {
+    return new TextDecoder().decode(this.read(path));
+  }
+
+  /** Makes a file with these bytes, or gives the one there these in place of its own. A refusal leaves the tree as it was. */
+  write(path, data) {
+    this.#put(path, WRITE | CREATE | TRUNCATE, data);
+  }
+
+  /** Writes these bytes at the end of a file, which is made where none is there. A refusal leaves the tree as it was. */
+  append(path, data) {
+    this.#put(path, WRITE | CREATE | APPEND, data);
+  }
+
+  #put(path, flags, data) {
+    const bytes = bytesIn(data), isNew = !this.exists(path), file = this.#open(path, flags);
+    try {
+      this.#with(({ put }) => this.#call("file_write", path, file, ...put(bytes)));
+      this.#call("file_close", path, file);
+    } catch (error) {
+      this.#forget(path, file, isNew);
+      throw error;
+    }
+  }
+
+  /** Takes a file back that couldn't be written: one that is new is removed, and else a remount forgets what isn't saved. */
+  #forget(path, file, isNew) {
+    if (this.#library.failure) return;
+    if (isNew && this.#ask("file_close", file) >= 0) {
+      const bytes = bytesOf(path);
+      this.#with(({ put }) => this.#ask("remove_at", ...put(bytes)));
+    } else {
+      this.#ask("remount");
+    }
+  }
+}
+
+if (Symbol.dispose) Image.prototype[Symbol.dispose] = Image.prototype.close;
+
+function* unescaped(text) {
+  for (let at = 0; at < text.length; at++) {
+    if (text[at] !== "\\") yield text.charCodeAt(at);
+    else {
+      yield parseInt(text.slice(at + 2, at + 4), 16);
+      at += 3;
+    }
+  }
+}
+
+function whole(value, most) {
+  if (!Number.isInteger(value) || value < 0 || value > most) throw new RangeError(`a whole number from 0 to ${most} is wanted, and not ${value}`);
+  return value;
+}
+
+const number32 = (value) => whole(value, 0xffffffff);
+const number8 = (value) => whole(value, 0xff);
